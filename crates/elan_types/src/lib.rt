@@ -1,0 +1,14 @@
+//! Types of ELAN, and what a text means: its core.
+#![tactic(auto)]
+
+mod core_phrase;
+mod elan_type;
+mod env;
+mod operation;
+mod why;
+
+pub use core_phrase::{Action, Arm, Core, PlacePhrase, ValueArm, ValuePhrase, Way};
+pub use elan_type::ElanType;
+pub use env::Env;
+pub use operation::{Change, Operation};
+pub use why::Why;
