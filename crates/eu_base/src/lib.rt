@@ -12,3 +12,6 @@ pub use bytes::Bytes;
 pub use list::List;
 pub use memory::NoMemory;
 pub use number::decimal;
+
+#[cfg(test)]
+mod tests;

@@ -1,0 +1,4 @@
+pub mod Faults
+pub mod Piece
+pub mod Memory
+pub mod Told

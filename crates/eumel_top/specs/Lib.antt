@@ -1,0 +1,12 @@
+pub mod Words
+pub mod Tokens
+pub mod Part
+pub mod Machine
+pub mod Grammar
+pub mod Value
+pub mod View
+pub mod Repeats
+pub mod Line
+pub mod Streams
+pub mod Status
+pub mod Answer
