@@ -16,7 +16,9 @@ pub struct FileDisk<'a, R: Files> {
 
 impl<'a, R: Files> FileDisk<'a, R> {
     /// The disk in the file of that path.
-    pub fn new(rt: &'a R, path: Bytes) -> FileDisk<'a, R> {
+    pub fn new(rt: &'a R, path: Bytes) -> FileDisk<'a, R>
+        ensures { result.faults ≡ 0 }
+    {
         FileDisk {
             rt,
             path,
