@@ -1,6 +1,6 @@
 -- The objects in memory.
 use Rattle.std.specs.Prelude.{ℕ, Bool, List, Contains}
-use Rattle.edge.specs.Faults.{next_count}
+use Rattle.eu_base.specs.Faults.{next_count}
 
 -- a source: the bytes left, how many it gives at most, the numbers of the calls that fail, how many calls were made and failed
 pub record SourceState : Type 0 where

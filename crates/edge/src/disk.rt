@@ -1,6 +1,7 @@
 //! Where blocks are kept.
 ghost use Rattle.std.specs.Prelude.{◌≡◌, ℕ, ◌<◌, IsErr};
-ghost use Rattle.edge.specs.Faults.{HasCause, next_count};
+ghost use Rattle.edge.specs.Faults.{HasCause};
+ghost use Rattle.eu_base.specs.Faults.{next_count};
 
 use crate::Failed;
 

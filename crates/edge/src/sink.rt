@@ -3,7 +3,8 @@ ghost use Rattle.std.specs.Prelude.{◌≡◌, ◌<◌, ℕ, List, [], false, tr
 ghost use Rattle.std.specs.declared.option.Option.{Option};
 ghost use Rattle.std.specs.Io.{WritesAtMost};
 ghost use Rattle.std.specs.Io.KnownBytes.{WriteAppends};
-ghost use Rattle.edge.specs.Faults.{HasCause, next_count};
+ghost use Rattle.edge.specs.Faults.{HasCause};
+ghost use Rattle.eu_base.specs.Faults.{next_count};
 ghost use Rattle.edge.specs.Memory.{IsListed};
 ghost use Rattle.edge.specs.Piece.{TakesSome};
 

@@ -3,7 +3,8 @@ ghost use Rattle.std.specs.Prelude.{◌≡◌, ◌↔◌, ◌<◌, ◌≤◌, �
 ghost use Rattle.std.specs.declared.option.Option.{Option};
 ghost use Rattle.std.specs.Io.{ReadsAtMost};
 ghost use Rattle.std.specs.Io.KnownBytes.{ReadConsumes};
-ghost use Rattle.edge.specs.Faults.{HasCause, next_count};
+ghost use Rattle.edge.specs.Faults.{HasCause};
+ghost use Rattle.eu_base.specs.Faults.{next_count};
 ghost use Rattle.edge.specs.Memory.{IsListed};
 
 use crate::Failed;

@@ -1,6 +1,7 @@
 //! A disk in a file.
 ghost use Rattle.std.specs.Prelude.{◌≡◌, IsErr};
-ghost use Rattle.edge.specs.Faults.{HasCause, next_count};
+ghost use Rattle.edge.specs.Faults.{HasCause};
+ghost use Rattle.eu_base.specs.Faults.{next_count};
 
 use edge::{Disk, Failed};
 use eu_base::Bytes;

@@ -2,8 +2,7 @@
 //! making of code go by structure alone.
 
 use crate::elan_type::ElanType;
-use crate::operation::{Change, Operation};
-use eu_base::{Boxed, List};
+use eu_base::{Boxed, Change, List, Operation, Way};
 
 /// The meaning of a program.
 #[derive(Debug, Drop)]
@@ -50,13 +49,6 @@ pub struct ValueArm {
 pub enum PlacePhrase {
     /// A variable or constant of the level, by its number in `Core::variables`.
     Variable(u16),
-}
-
-/// The direction of a counted loop.
-#[derive(Clone, Copy, PartialEq, Eq, Debug)]
-pub enum Way {
-    Up,
-    Down,
 }
 
 /// A phrase that delivers nothing.

@@ -4,11 +4,10 @@
 mod core_phrase;
 mod elan_type;
 mod env;
-mod operation;
 mod why;
 
-pub use core_phrase::{Action, Arm, Core, PlacePhrase, ValueArm, ValuePhrase, Way};
+pub use core_phrase::{Action, Arm, Core, PlacePhrase, ValueArm, ValuePhrase};
 pub use elan_type::ElanType;
 pub use env::Env;
-pub use operation::{Change, Operation};
+pub use eu_base::{Change, Operation, Way};
 pub use why::Why;

@@ -1,17 +1,30 @@
-//! Values that every layer shares: want of memory, byte lists, lists, boxes, numbers as text.
+//! Values that every layer shares: want of memory, byte lists, lists, boxes, numbers as text; what a program
+//! computes with, why it stops, what it asks for, and the memory that it runs over.
 #![tactic(auto)]
 
+mod address;
 mod boxed;
 mod bytes;
+mod cells;
 mod list;
 mod memory;
 mod number;
+mod operation;
+mod request;
+mod stop;
+mod value;
 
+pub use address::{Addr, Area, CELLS};
 pub use boxed::Boxed;
 pub use bytes::Bytes;
+pub use cells::{MemFault, Memory};
 pub use list::List;
 pub use memory::NoMemory;
 pub use number::decimal;
+pub use operation::{Change, Operation, Way};
+pub use request::{Reply, Request};
+pub use stop::Stop;
+pub use value::{Kind, Value};
 
 #[cfg(test)]
 mod tests;

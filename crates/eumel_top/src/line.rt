@@ -1,6 +1,6 @@
 //! The command `line`.
 ghost use Rattle.std.specs.Prelude.{◌≡◌, ◌≤◌, IfOk, MatchOption};
-ghost use Rattle.edge.specs.Faults.{Rose};
+ghost use Rattle.eu_base.specs.Faults.{Rose};
 ghost use Rattle.eumel_top.specs.View.{IsReading};
 ghost use Rattle.eumel_top.specs.Line.{Means, Writes};
 ghost use Rattle.eumel_top.specs.Answer.{LineAnswers, HasRisen};

@@ -1,6 +1,6 @@
 //! One line from a source.
 ghost use Rattle.std.specs.Prelude.{◌≡◌, ◌≤◌, IfOk, MatchOption};
-ghost use Rattle.edge.specs.Faults.{Rose};
+ghost use Rattle.eu_base.specs.Faults.{Rose};
 ghost use Rattle.eumel_top.specs.Streams.{HasNoLineEnd, EndsLineAt, IsLine, OnFault, whole_line};
 
 use edge::Source;

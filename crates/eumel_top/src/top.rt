@@ -1,7 +1,7 @@
 //! The top call.
 ghost use Rattle.std.specs.Prelude.{◌≡◌, ◌≤◌, ◌↔◌, map};
 ghost use Rattle.std.specs.String.{string_bytes};
-ghost use Rattle.edge.specs.Faults.{Rose};
+ghost use Rattle.eu_base.specs.Faults.{Rose};
 ghost use Rattle.eumel_top.specs.Words.{Names, NamesNone};
 ghost use Rattle.eumel_top.specs.Answer.{LineAnswers, HasRisen, LineSettles};
 ghost use Rattle.eumel_top.specs.declared.command.Command.{Command};

@@ -57,3 +57,10 @@ pub enum Change {
     /// `a DECR b`
     Decrease,
 }
+
+/// The direction of a counted loop.
+#[derive(Clone, Copy, PartialEq, Eq, Debug)]
+pub enum Way {
+    Up,
+    Down,
+}

@@ -1,0 +1,54 @@
+//! A memory of cells.
+ghost use Rattle.std.specs.Prelude.{◌≡◌, ℕ, IfOk, OnOk};
+ghost use Rattle.eu_base.specs.declared.address.Addr.{Addr};
+ghost use Rattle.eu_base.specs.Cells.{IsCell, IsSame, IsWritten, HasFaultCause};
+
+use crate::NoMemory;
+use crate::address::Addr;
+
+/// Why a memory did not do what it was asked for. Afterwards it is spent, and can only be dropped.
+#[derive(Clone, Copy, PartialEq, Eq, Debug)]
+pub enum MemFault {
+    NoMemory,
+    /// What lies behind it failed, and its count of faults rose.
+    Failed,
+}
+
+impl From<NoMemory> for MemFault {
+    ghost use Rattle.eu_base.specs.declared.cells.MemFault.TheVariants.{NoMemory};
+
+    ghost from_gives = { λ _ fault. fault ≡ NoMemory };
+
+    fn from(_refusal: NoMemory) -> MemFault {
+        MemFault::NoMemory
+    }
+}
+
+/// A memory of cells, each of which holds a number.
+pub trait Memory {
+    /// The number in each cell of an area.
+    ghost cells: { Self → Addr → ℕ };
+
+    /// How often it failed.
+    ghost faults: { Self → ℕ };
+
+    /// What a later value of the same memory keeps of an earlier one.
+    ghost follows: { Self → Self → Type 0 };
+
+    fn cell(&mut self, at: Addr) -> Result<u64, MemFault>
+        requires { IsCell at }
+        ensures number { IfOk result (λ number. number ≡ cells self.old at) }
+        ensures kept { OnOk result (IsSame (cells self.old) (cells self.new)) }
+        ensures cause { HasFaultCause (faults self.old) (faults self.new) result }
+        ensures follows { follows self.old self.new };
+
+    fn set_cell(&mut self, at: Addr, number: u64) -> Result<(), MemFault>
+        requires { IsCell at }
+        ensures written { OnOk result (IsWritten (cells self.old) (cells self.new) at number) }
+        ensures cause { HasFaultCause (faults self.old) (faults self.new) result }
+        ensures follows { follows self.old self.new };
+
+    ghost reflexive: { (memory : Self) → follows memory memory };
+
+    ghost transitive: { (first second third : Self) → follows first second → follows second third → follows first third };
+}
