@@ -1,8 +1,23 @@
 //! Types.
 
+ghost use Rattle.std.specs.Prelude.{◌≡◌};
+ghost use Rattle.elan_types.specs.Typing.{same_type};
+
 /// A type, with its names resolved.
 #[derive(Clone, Copy, PartialEq, Eq, Debug)]
 pub enum ElanType {
     Int,
     Bool,
+}
+
+impl ElanType {
+    /// Whether two types are the same.
+    pub fn is_same(self, other: ElanType) -> bool
+        ensures { result ≡ same_type self other }
+    {
+        match (self, other) {
+            (ElanType::Int, ElanType::Int) | (ElanType::Bool, ElanType::Bool) => true,
+            (ElanType::Int, ElanType::Bool) | (ElanType::Bool, ElanType::Int) => false,
+        }
+    }
 }

@@ -1,0 +1,5 @@
+pub mod Program
+pub mod Machine
+pub mod Valid
+pub mod Listing
+pub mod Runs

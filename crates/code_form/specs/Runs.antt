@@ -1,0 +1,49 @@
+-- Runs of code: how they come to rest, go on, and end.
+use Rattle.std.specs.Prelude.{◌≡◌, ℕ, ◌+◌, ◌-◌, ◌*◌, Bool, cond, List, ◌∷◌, ◌++◌, length, Option, Some, slice_get}
+use Rattle.eu_base.specs.declared.request.Request.{Request}
+use Rattle.eu_base.specs.declared.request.Reply.{Reply}
+use Rattle.eu_base.specs.Cells.{Cells}
+use Rattle.code_form.specs.declared.code.Line.{Line}
+use Rattle.code_form.specs.Program.{Program, instr_of}
+use Rattle.code_form.specs.Machine.{Control, Move, Goes, Spends, Awaits, Halts, Stuck, Scene, Rest, step, exec, answered}
+use Rattle.code_form.specs.Valid.{IsValid, Fits, is_mark}
+
+-- the machine comes to rest so
+abbrev pub Rests : List Line → Control → Scene → Rest → Type 0
+Rests lines c s r = (n : ℕ) × (exec lines n c s ≡ Some r)
+
+-- more marks and more replies
+abbrev pub wider : Scene → ℕ → List Reply → Scene
+wider s marks replies = record s { marks = s.marks + marks; replies = s.replies ++ replies }
+
+-- what has come to rest for want of marks or replies goes on as if it had had them from the start
+abbrev pub Resumes : Type 0
+Resumes = (lines : List Line) (c : Control) (s : Scene) (r last : Rest) (marks : ℕ) (replies : List Reply) → Rests lines c s r → Rests lines r.control (wider r.scene marks replies) last → Rests lines c (wider s marks replies) last
+
+-- a reply given is the next of the replies
+abbrev pub Replies : Type 0
+Replies = (lines : List Line) (c : Control) (s : Scene) (q : Request) (reply : Reply) (last : Rest) → c.waits ≡ Some q → Rests lines (answered q reply c) s last → Rests lines c (record s { replies = reply ∷ s.replies }) last
+
+-- there is one way to come to rest
+abbrev pub IsOne : Type 0
+IsOne = (lines : List Line) (c : Control) (s : Scene) (r r' : Rest) → Rests lines c s r → Rests lines c s r' → r ≡ r'
+
+-- a step can be made, and leads to a state that fits
+abbrev pub IsSafe : Program → Control → Move → Type 0
+IsSafe p c (Goes c' cells) = Fits p c'
+IsSafe p c (Spends c') = Fits p c'
+IsSafe p c (Awaits q) = (r : Reply) → Fits p (answered q r c)
+IsSafe p c (Halts h) = Unit {0}
+IsSafe p c Stuck = ⊥
+
+-- each state that code reaches fits, and the machine is never stuck
+abbrev pub StaysFit : Type 0
+StaysFit = (p : Program) (c : Control) (cells : Cells) → IsValid p → Fits p c → IsSafe p c (step p.lines c cells)
+
+-- how far the next mark, or else the end, can be
+abbrev pub ahead : List Line → ℕ → ℕ
+ahead lines pc = cond (is_mark (instr_of (slice_get lines pc))) 0 (length lines - pc)
+
+-- a bound on the steps that are left
+abbrev pub steps_left : List Line → ℕ → ℕ → ℕ
+steps_left lines marks pc = marks * (length lines + 1) + ahead lines pc

@@ -1,0 +1,14 @@
+//! Why a run comes to rest.
+
+use eu_base::{Request, Stop};
+
+/// Why a run comes to rest.
+#[derive(Debug, Drop)]
+pub enum Halt {
+    /// A mark is due, and none is left.
+    Marked,
+    /// It waits for the answer to a request.
+    Asks(Request),
+    Ended,
+    Stopped(Stop),
+}

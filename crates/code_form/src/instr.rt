@@ -1,0 +1,51 @@
+//! Instructions.
+
+use eu_base::{Change, Kind, Operation, Way};
+
+/// What one step of the machine does. A jump names the number of the instruction that it goes to.
+#[derive(Clone, Copy, PartialEq, Eq, Debug)]
+pub enum Instr {
+    /// Spends a mark.
+    Mark,
+    /// Pushes a number.
+    Number(i16),
+    /// Pushes a truth value.
+    Truth(bool),
+    /// Pushes the place of a variable of the level.
+    Outer(u16),
+    /// Takes a place, and pushes the value there.
+    Load(Kind),
+    /// Takes a value and the place below it, and stores the value there.
+    Store(Kind),
+    /// Takes operands, and pushes the result.
+    Do(Operation),
+    /// Takes a number and the place below it, and changes the number there. It is listed as `DO`.
+    Modify(Change),
+    Jump(usize),
+    /// Takes a truth value, and jumps where it is FALSE.
+    False(usize),
+    /// Where the number on top is this one, takes it and jumps.
+    When(i16, usize),
+    /// Takes the value on top.
+    Drop,
+    /// Takes a number and the place below it, keeps the number as limit of a loop, and jumps where the
+    /// number at the place is past it.
+    Limit(Way, usize),
+    /// Drops the innermost limit.
+    Unlimit,
+    /// Takes a place, and jumps where the number there has reached the innermost limit; else steps it.
+    Step(Way, usize),
+    /// Spends a mark, and makes a request.
+    Ask(Call),
+    /// Ends the command.
+    End,
+}
+
+/// The call that makes a request.
+#[derive(Clone, Copy, PartialEq, Eq, Debug)]
+pub enum Call {
+    /// `put` of a number, which it takes.
+    PutNumber,
+    /// `line`
+    Line,
+}

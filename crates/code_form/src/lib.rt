@@ -1,0 +1,14 @@
+//! The instructions of the machine, code, and what code does.
+#![tactic(auto)]
+
+mod code;
+mod halt;
+mod instr;
+mod operand;
+mod text;
+
+pub use code::{Code, Line};
+pub use halt::Halt;
+pub use instr::{Call, Instr};
+pub use operand::{Operand, OperandKind};
+pub use text::listing;

@@ -1,0 +1,179 @@
+//! Code as text.
+ghost use Rattle.std.specs.Prelude.{◌≡◌, ◌++◌, IfOk, OnOk};
+ghost use Rattle.std.specs.Fmt.{decimal, signed_decimal};
+ghost use Rattle.code_form.specs.Listing.{truth_word, kind_word, way_word, operation_name, change_name, call_name, instr_text, line_text, listing_text};
+
+use crate::code::Code;
+use crate::instr::{Call, Instr};
+use eu_base::{Bytes, Change, Kind, NoMemory, Operation, Way};
+use itoa::Buffer;
+use std::alloc::Global;
+
+/// A line for each instruction: its number, its word, and each argument, with blanks between them.
+pub fn listing(alloc: Global, code: &Code) -> Result<Bytes, NoMemory>
+    ensures { IfOk result (λ text. text ≡ listing_text code.now.lines) }
+{
+    let mut out = Bytes::new(alloc);
+    for (number, line) in code.lines().iter().enumerate() {
+        append_line(&mut out, number, line.instr)?;
+    }
+    Ok(out)
+}
+
+fn append_line(out: &mut Bytes, number: usize, instr: Instr) -> Result<(), NoMemory>
+    ensures { OnOk result (out.new ≡ out.old ++ line_text number instr) }
+{
+    append_number(out, number)?;
+    out.append(b" ")?;
+    append_instr(out, instr)?;
+    out.append(b"\n")?;
+    Ok(())
+}
+
+fn append_instr(out: &mut Bytes, instr: Instr) -> Result<(), NoMemory>
+    ensures { OnOk result (out.new ≡ out.old ++ instr_text instr) }
+{
+    match instr {
+        Instr::Mark => out.append(b"MARK"),
+        Instr::Number(value) => {
+            out.append(b"INT ")?;
+            append_signed(out, value)
+        }
+        Instr::Truth(value) => {
+            out.append(b"BOOL ")?;
+            out.append(truth_word(value))
+        }
+        Instr::Outer(cell) => append_with(out, b"OUTER ", usize::from(cell)),
+        Instr::Load(kind) => {
+            out.append(b"LOAD ")?;
+            out.append(kind_word(kind))
+        }
+        Instr::Store(kind) => {
+            out.append(b"STORE ")?;
+            out.append(kind_word(kind))
+        }
+        Instr::Do(operation) => {
+            out.append(b"DO ")?;
+            out.append(operation_name(operation))
+        }
+        Instr::Modify(change) => {
+            out.append(b"DO ")?;
+            out.append(change_name(change))
+        }
+        Instr::Jump(to) => append_with(out, b"JUMP ", to),
+        Instr::False(to) => append_with(out, b"FALSE ", to),
+        Instr::When(label, to) => {
+            out.append(b"WHEN ")?;
+            append_signed(out, label)?;
+            append_with(out, b" ", to)
+        }
+        Instr::Drop => out.append(b"DROP"),
+        Instr::Limit(way, to) => {
+            out.append(b"LIMIT ")?;
+            out.append(way_word(way))?;
+            append_with(out, b" ", to)
+        }
+        Instr::Unlimit => out.append(b"UNLIMIT"),
+        Instr::Step(way, to) => {
+            out.append(way_word(way))?;
+            append_with(out, b" ", to)
+        }
+        Instr::Ask(call) => {
+            out.append(b"ASK ")?;
+            out.append(call_name(call))
+        }
+        Instr::End => out.append(b"END"),
+    }
+}
+
+// A word and a number.
+fn append_with(out: &mut Bytes, word: &[u8], number: usize) -> Result<(), NoMemory>
+    ensures { OnOk result (out.new ≡ out.old ++ (word.now ++ decimal number)) }
+{
+    out.append(word)?;
+    append_number(out, number)?;
+    Ok(())
+}
+
+fn append_number(out: &mut Bytes, number: usize) -> Result<(), NoMemory>
+    ensures { OnOk result (out.new ≡ out.old ++ decimal number) }
+{
+    let mut buffer = Buffer::new();
+    out.append(buffer.format(number).as_bytes())?;
+    Ok(())
+}
+
+fn append_signed(out: &mut Bytes, number: i16) -> Result<(), NoMemory>
+    ensures { OnOk result (out.new ≡ out.old ++ signed_decimal number) }
+{
+    let mut buffer = Buffer::new();
+    out.append(buffer.format(number).as_bytes())?;
+    Ok(())
+}
+
+fn truth_word(value: bool) -> &'static [u8]
+    ensures { result.now ≡ truth_word value }
+{
+    if value { b"TRUE" } else { b"FALSE" }
+}
+
+fn kind_word(kind: Kind) -> &'static [u8]
+    ensures { result.now ≡ kind_word kind }
+{
+    match kind {
+        Kind::Int => b"INT",
+        Kind::Truth => b"BOOL",
+    }
+}
+
+fn way_word(way: Way) -> &'static [u8]
+    ensures { result.now ≡ way_word way }
+{
+    match way {
+        Way::Up => b"UP",
+        Way::Down => b"DOWN",
+    }
+}
+
+fn operation_name(operation: Operation) -> &'static [u8]
+    ensures { result.now ≡ operation_name operation }
+{
+    match operation {
+        Operation::Plus | Operation::Add => b"+",
+        Operation::Negate | Operation::Subtract => b"-",
+        Operation::Multiply => b"*",
+        Operation::Divide => b"DIV",
+        Operation::Modulo => b"MOD",
+        Operation::Equal | Operation::Same => b"=",
+        Operation::Unequal | Operation::Different => b"<>",
+        Operation::Less => b"<",
+        Operation::LessEqual => b"<=",
+        Operation::Greater => b">",
+        Operation::GreaterEqual => b">=",
+        Operation::And => b"AND",
+        Operation::Or => b"OR",
+        Operation::Not => b"NOT",
+        Operation::Absolute => b"abs",
+        Operation::Minimum => b"min",
+        Operation::Maximum => b"max",
+        Operation::Largest => b"maxint",
+    }
+}
+
+fn change_name(change: Change) -> &'static [u8]
+    ensures { result.now ≡ change_name change }
+{
+    match change {
+        Change::Increase => b"INCR",
+        Change::Decrease => b"DECR",
+    }
+}
+
+fn call_name(call: Call) -> &'static [u8]
+    ensures { result.now ≡ call_name call }
+{
+    match call {
+        Call::PutNumber => b"put(INT)",
+        Call::Line => b"line",
+    }
+}

@@ -1,0 +1,29 @@
+-- The code of a counted loop, with its optional parts.
+use Rattle.std.proofs.Common.{◌≡◌, List, map, Option, Some, None, refl}
+use Rattle.std.specs.Prelude.{option_map}
+use Rattle.eu_base.specs.declared.value.Kind.TheVariants as kinds
+use Rattle.eu_base.specs.declared.operation.Way.{Way}
+use Rattle.elan_types.specs.declared.core_phrase.PlacePhrase.{PlacePhrase}
+use Rattle.elan_types.specs.declared.core_phrase.ValuePhrase.{ValuePhrase}
+use Rattle.elan_types.specs.declared.core_phrase.Action.{Action, roll-Action}
+use Rattle.elan_types.specs.declared.core_phrase.Action.TheOpen as t
+use Rattle.elan_types.specs.declared.core_phrase.Action.TheFolds.{map-Action, fold-roll-Action}
+use Rattle.elan_types.specs.Eval.{place_of}
+use Rattle.code_gen.specs.Stretch.{Stretch, join, all_code, store_code, turn_code, counted_code, action_code_step, value_code, action_code, value_arm_code, arm_code_of}
+
+abbrev pub count_code : PlacePhrase → ValuePhrase → Way → Option ValuePhrase → Option ValuePhrase → List Action → Option ValuePhrase → Stretch
+count_code q from way limit w us u =
+    join (store_code (place_of q) kinds.Int (value_code from)) (counted_code (place_of q) way (option_map value_code limit) (turn_code (option_map value_code w) (all_code (map action_code us)) (option_map value_code u)))
+
+layer : (q : PlacePhrase) (from : ValuePhrase) (way : Way) (limit w : Option ValuePhrase) (us : List Action) (u : Option ValuePhrase) → action_code_step (map-Action _ _ _ _ _ _ _ _ action_code value_code arm_code_of value_arm_code (t.Count q from way limit w us u)) ≡ count_code q from way limit w us u
+layer q from way None None us None = refl
+layer q from way None None us (Some u) = refl
+layer q from way None (Some w) us None = refl
+layer q from way None (Some w) us (Some u) = refl
+layer q from way (Some l) None us None = refl
+layer q from way (Some l) None us (Some u) = refl
+layer q from way (Some l) (Some w) us None = refl
+layer q from way (Some l) (Some w) us (Some u) = refl
+
+pub count_is : (q : PlacePhrase) (from : ValuePhrase) (way : Way) (limit w : Option ValuePhrase) (us : List Action) (u : Option ValuePhrase) → action_code (roll-Action (t.Count q from way limit w us u)) ≡ count_code q from way limit w us u
+count_is q from way limit w us u = rw fold-roll-Action (layer q from way limit w us u)

@@ -1,0 +1,12 @@
+pub mod Cells
+pub mod Carry
+pub mod Forms
+pub mod Choices
+pub mod Loops
+pub mod Tree
+pub mod Tables
+pub mod LoopTables
+pub mod Whole
+pub mod Select
+pub mod Adds
+pub mod Count

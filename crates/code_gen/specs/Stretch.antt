@@ -1,0 +1,241 @@
+-- The instructions of a phrase.
+use Rattle.std.specs.Prelude.{ℕ, suc, ◌+◌, Bool, true, false, List, [], ◌∷◌, ◌++◌, map, length, drop, option_map, Option, Some, None, ℤ, pos}
+use Rattle.eu_base.specs.declared.value.Kind.{Kind}
+use Rattle.eu_base.specs.declared.value.Kind.TheVariants as kinds
+use Rattle.eu_base.specs.declared.operation.Change.TheVariants.{Increase}
+use Rattle.eu_base.specs.declared.operation.Way.{Way}
+use Rattle.eu_base.specs.Operations.{operand_kinds, result_kind}
+use Rattle.code_form.specs.declared.operand.OperandKind.{OperandKind}
+use Rattle.code_form.specs.declared.operand.OperandKind.TheVariants.{Value, Place}
+use Rattle.code_form.specs.declared.instr.Call.TheVariants as calls
+use Rattle.code_form.specs.declared.instr.Instr.{Instr}
+use Rattle.code_form.specs.declared.instr.Instr.TheVariants.{Mark, Number, Truth, Outer, Load, Store, Do, Modify, Jump, False, When, Drop, Limit, Unlimit, Step, Ask, End}
+use Rattle.code_form.specs.declared.code.Line.{Line}
+use Rattle.code_form.specs.Program.{Program, line_of}
+use Rattle.elan_types.specs.declared.core_phrase.Core.{Core}
+use Rattle.elan_types.specs.declared.core_phrase.ValuePhrase.{ValuePhrase, out-ValuePhrase}
+use Rattle.elan_types.specs.declared.core_phrase.Arm.{Arm}
+use Rattle.elan_types.specs.declared.core_phrase.ValueArm.{ValueArm}
+use Rattle.elan_types.specs.declared.core_phrase.Action.{Action, out-Action}
+use Rattle.elan_types.specs.declared.core_phrase.Action.TheOpen as t
+use Rattle.elan_types.specs.declared.core_phrase.Action.TheOpen.{Action-F, ValuePhrase-F, Arm-F, ValueArm-F}
+use Rattle.elan_types.specs.declared.core_phrase.Action.TheFolds.{fold-Action, fold-ValuePhrase, fold-Arm, fold-ValueArm}
+use Rattle.elan_types.specs.Typing.{kind_in}
+use Rattle.elan_types.specs.Eval.{Labelled, place_of}
+
+-- lines that know what is pending before them, how many limits are kept, and where they stand; how many they are; and what is
+-- pending after them
+pub record Stretch : Type 0 where
+  pub size : ℕ
+  pub leaves : List OperandKind → List OperandKind
+  pub lines : List OperandKind → ℕ → ℕ → List Line
+
+abbrev pub none : Stretch
+none = record { size = 0; leaves = λ ks. ks; lines = λ ks m at. [] }
+
+abbrev pub one : Instr → (List OperandKind → List OperandKind) → Stretch
+one i leaves = record { size = 1; leaves = leaves; lines = λ ks m at. line_of i ks m ∷ [] }
+
+abbrev pub keeps : List OperandKind → List OperandKind
+keeps ks = ks
+
+abbrev pub pushes : OperandKind → List OperandKind → List OperandKind
+pushes k ks = k ∷ ks
+
+abbrev pub join : Stretch → Stretch → Stretch
+join f g = record {
+  size = f.size + g.size;
+  leaves = λ ks. g.leaves (f.leaves ks);
+  lines = λ ks m at. f.lines ks m at ++ g.lines (f.leaves ks) m (at + f.size);
+}
+
+abbrev pub all_code : List Stretch → Stretch
+all_code [] = none
+all_code (f ∷ fs) = join f (all_code fs)
+
+-- a test, what is done where it is TRUE, a jump to the end, and what is done where it is FALSE
+abbrev pub if_code : Stretch → Stretch → Stretch → Stretch
+if_code c a b = record {
+  size = c.size + (1 + (a.size + (1 + b.size)));
+  leaves = b.leaves;
+  lines = λ ks m at.
+      c.lines ks m at
+      ++ (line_of (False (at + c.size + 1 + a.size + 1)) (c.leaves ks) m
+      ∷ (a.lines ks m (at + c.size + 1)
+      ++ (line_of (Jump (at + c.size + 1 + a.size + 1 + b.size)) (a.leaves ks) m
+      ∷ b.lines ks m (at + c.size + 1 + a.size + 1))));
+}
+
+abbrev pub whens : List ℤ → ℕ → List OperandKind → ℕ → List Line
+whens [] a ks m = []
+whens (z ∷ zs) a ks m = line_of (When z a) ks m ∷ whens zs a ks m
+
+-- a part of a SELECT whose number is on top: a test for each label, a jump past the part, the part, a jump to the end, and the rest
+abbrev pub arm_code : List ℤ → Stretch → Stretch → Stretch
+arm_code zs a rest = record {
+  size = length zs + (1 + (a.size + (1 + rest.size)));
+  leaves = rest.leaves;
+  lines = λ ks m at.
+      whens zs (at + length zs + 1) ks m
+      ++ (line_of (Jump (at + length zs + 1 + a.size + 1)) ks m
+      ∷ (a.lines (drop 1 ks) m (at + length zs + 1)
+      ++ (line_of (Jump (at + length zs + 1 + a.size + 1 + rest.size)) (a.leaves (drop 1 ks)) m
+      ∷ rest.lines ks m (at + length zs + 1 + a.size + 1))));
+}
+
+abbrev pub select_code : List (Labelled Stretch) → Stretch → Stretch
+select_code [] other = join (one Drop (drop 1)) other
+select_code (arm ∷ arms) other = arm_code arm.labels arm.part (select_code arms other)
+
+-- a part of a loop's turn, which may leave the loop: its lines know the place where the loop ends. It leaves what was pending
+pub record Exit : Type 0 where
+  pub size : ℕ
+  pub lines : ℕ → List OperandKind → ℕ → ℕ → List Line
+
+abbrev pub stays : Stretch → Exit
+stays f = record { size = f.size; lines = λ end. f.lines }
+
+abbrev pub exit_join : Exit → Exit → Exit
+exit_join f g = record { size = f.size + g.size; lines = λ end ks m at. f.lines end ks m at ++ g.lines end ks m (at + f.size) }
+
+abbrev pub while_code : Option Stretch → Exit
+while_code None = stays none
+while_code (Some c) = record { size = c.size + 1; lines = λ end ks m at. c.lines ks m at ++ line_of (False end) (c.leaves ks) m ∷ [] }
+
+abbrev pub until_code : Option Stretch → Exit
+until_code None = stays none
+until_code (Some c) = record {
+  size = c.size + (1 + 1);
+  lines = λ end ks m at. c.lines ks m at ++ (line_of (False (at + c.size + 1 + 1)) (c.leaves ks) m ∷ (line_of (Jump end) ks m ∷ []));
+}
+
+-- the step of a counter without limit, and with one
+abbrev pub step_code : ℕ → Exit
+step_code x = stays (join (one (Outer x) (pushes (Place kinds.Int))) (join (one (Number (pos 1)) (pushes (Value kinds.Int))) (one (Modify Increase) (drop 2))))
+
+abbrev pub step_to_code : ℕ → Way → Exit
+step_to_code x way = record {
+  size = 1 + 1;
+  lines = λ end ks m at. line_of (Outer x) ks m ∷ (line_of (Step way end) (Place kinds.Int ∷ ks) m ∷ []);
+}
+
+abbrev pub turn_code : Option Stretch → Stretch → Option Stretch → Exit → Exit
+turn_code while' units until step = exit_join (while_code while') (exit_join (stays units) (exit_join (until_code until) step))
+
+-- a mark, the turn, and back
+abbrev pub turns_code : Exit → Stretch
+turns_code turn = record {
+  size = 1 + (turn.size + 1);
+  leaves = keeps;
+  lines = λ ks m at. line_of Mark ks m ∷ (turn.lines (at + 1 + turn.size + 1) ks m (at + 1) ++ line_of (Jump at) ks m ∷ []);
+}
+
+-- the turns under a limit, which is on top, with the counter's place below it
+abbrev pub limit_code : Way → Stretch → Stretch
+limit_code way turns = record {
+  size = 1 + (turns.size + 1);
+  leaves = drop 2;
+  lines = λ ks m at.
+      line_of (Limit way (at + 1 + turns.size)) ks m ∷ (turns.lines (drop 2 ks) (suc m) (at + 1) ++ line_of Unlimit (drop 2 ks) (suc m) ∷ []);
+}
+
+abbrev pub store_code : ℕ → Kind → Stretch → Stretch
+store_code x k f = join (one (Outer x) (pushes (Place k))) (join f (one (Store k) (drop 2)))
+
+abbrev pub counted_code : ℕ → Way → Option Stretch → (Exit → Exit) → Stretch
+counted_code x way None turn = turns_code (turn (step_code x))
+counted_code x way (Some f) turn =
+    join (one (Outer x) (pushes (Place kinds.Int))) (join f (limit_code way (turns_code (turn (step_to_code x way)))))
+
+abbrev pub value_code_step : ValuePhrase-F Stretch Stretch (Labelled Stretch) (Labelled Stretch) → Stretch
+value_code_step (t.Number z) = one (Number z) (pushes (Value kinds.Int))
+value_code_step (t.Truth b) = one (Truth b) (pushes (Value kinds.Truth))
+value_code_step (t.Load p u) = join (one (Outer (place_of p)) (pushes (Place (kind_in u)))) (one (Load (kind_in u)) (λ ks. Value (kind_in u) ∷ drop 1 ks))
+value_code_step (t.Apply op as') = join (all_code as') (one (Do op) (λ ks. Value (result_kind op) ∷ drop (length (operand_kinds op)) ks))
+value_code_step (t.Cand a b) = if_code a b (one (Truth false) (pushes (Value kinds.Truth)))
+value_code_step (t.Cor a b) = if_code a (one (Truth true) (pushes (Value kinds.Truth))) b
+value_code_step (t.ValuePhrase::If c a b) = if_code c a b
+value_code_step (t.ValuePhrase::Select a arms other) = join a (select_code arms other)
+value_code_step (t.ValuePhrase::Unit a) = join (one Mark keeps) a
+value_code_step (t.After us a) = join (all_code us) a
+
+abbrev pub value_arm_code_step : ValueArm-F Stretch Stretch (Labelled Stretch) (Labelled Stretch) → Labelled Stretch
+value_arm_code_step arm = record { labels = arm.labels; part = arm.value }
+
+abbrev pub action_code_step : Action-F Stretch Stretch (Labelled Stretch) (Labelled Stretch) → Stretch
+action_code_step (t.Action::Unit us) = join (one Mark keeps) (all_code us)
+action_code_step (t.Store p u a) = store_code (place_of p) (kind_in u) a
+action_code_step (t.Modify change p a) = join (one (Outer (place_of p)) (pushes (Place kinds.Int))) (join a (one (Modify change) (drop 2)))
+action_code_step (t.Action::If c us vs) = if_code c (all_code us) (all_code vs)
+action_code_step (t.Action::Select a arms us) = join a (select_code arms (all_code us))
+action_code_step (t.Loop while' us until) = turns_code (turn_code while' (all_code us) until (stays none))
+action_code_step (t.Count p from way limit while' us until) =
+    join (store_code (place_of p) kinds.Int from) (counted_code (place_of p) way limit (turn_code while' (all_code us) until))
+action_code_step (t.Put a) = join a (one (Ask calls.PutNumber) (drop 1))
+action_code_step t.Line = one (Ask calls.Line) keeps
+
+abbrev pub arm_code_step : Arm-F Stretch Stretch (Labelled Stretch) (Labelled Stretch) → Labelled Stretch
+arm_code_step arm = record { labels = arm.labels; part = all_code arm.units }
+
+abbrev pub value_code : ValuePhrase → Stretch
+value_code = fold-ValuePhrase Stretch Stretch (Labelled Stretch) (Labelled Stretch) action_code_step value_code_step arm_code_step value_arm_code_step
+
+abbrev pub action_code : Action → Stretch
+action_code = fold-Action Stretch Stretch (Labelled Stretch) (Labelled Stretch) action_code_step value_code_step arm_code_step value_arm_code_step
+
+-- a whole command
+abbrev pub command_code : Core → Stretch
+command_code core = join (all_code (map action_code core.units)) (one End keeps)
+
+abbrev pub program_of : Core → Program
+program_of core = record { variables = map kind_in core.variables; lines = (command_code core).lines [] 0 0 }
+
+-- the code of a part of a SELECT, with its labels
+abbrev pub value_arm_code : ValueArm → Labelled Stretch
+value_arm_code = fold-ValueArm Stretch Stretch (Labelled Stretch) (Labelled Stretch) action_code_step value_code_step arm_code_step value_arm_code_step
+
+abbrev pub arm_code_of : Arm → Labelled Stretch
+arm_code_of = fold-Arm Stretch Stretch (Labelled Stretch) (Labelled Stretch) action_code_step value_code_step arm_code_step value_arm_code_step
+
+-- how many lines the parts of a SELECT have, without the last
+abbrev pub arms_length : List (Labelled Stretch) → ℕ
+arms_length [] = 0
+arms_length (arm ∷ arms) = length arm.labels + (arm.part.size + 2) + arms_length arms
+
+-- a test for each label
+abbrev pub whens_code : List ℤ → ℕ → Stretch
+whens_code zs a = record { size = length zs; leaves = keeps; lines = λ ks m at. whens zs a ks m }
+
+-- IF, CAND and COR; nothing for another phrase
+abbrev pub choice_step : ValuePhrase-F Action ValuePhrase Arm ValueArm → Stretch
+choice_step (t.Cand a b) = if_code (value_code a) (value_code b) (one (Truth false) (pushes (Value kinds.Truth)))
+choice_step (t.Cor a b) = if_code (value_code a) (one (Truth true) (pushes (Value kinds.Truth))) (value_code b)
+choice_step (t.ValuePhrase::If c a b) = if_code (value_code c) (value_code a) (value_code b)
+choice_step _ = none
+
+abbrev pub choice_code : ValuePhrase → Stretch
+choice_code v = choice_step (out-ValuePhrase v)
+
+-- the turns of a loop with such a step; nothing for another action
+abbrev pub loop_step : Action-F Action ValuePhrase Arm ValueArm → Exit → Stretch
+loop_step (t.Loop w us u) step = turns_code (turn_code (option_map value_code w) (all_code (map action_code us)) (option_map value_code u) step)
+loop_step (t.Count p from way limit w us u) step = turns_code (turn_code (option_map value_code w) (all_code (map action_code us)) (option_map value_code u) step)
+loop_step _ step = none
+
+abbrev pub loop_code : Action → Exit → Stretch
+loop_code a = loop_step (out-Action a)
+
+-- the parts of a SELECT; nothing for another phrase
+abbrev pub value_parts_step : ValuePhrase-F Action ValuePhrase Arm ValueArm → Stretch
+value_parts_step (t.ValuePhrase::Select v arms other) = select_code (map value_arm_code arms) (value_code other)
+value_parts_step _ = none
+
+abbrev pub value_parts : ValuePhrase → Stretch
+value_parts v = value_parts_step (out-ValuePhrase v)
+
+abbrev pub action_parts_step : Action-F Action ValuePhrase Arm ValueArm → Stretch
+action_parts_step (t.Action::Select v arms us) = select_code (map arm_code_of arms) (all_code (map action_code us))
+action_parts_step _ = none
+
+abbrev pub action_parts : Action → Stretch
+action_parts a = action_parts_step (out-Action a)

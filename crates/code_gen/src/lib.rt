@@ -1,0 +1,9 @@
+//! From the core of a text to the instructions of the machine.
+#![tactic(auto)]
+
+mod code;
+mod draft;
+mod emit;
+mod size;
+
+pub use code::generate;

@@ -1,0 +1,10 @@
+//! The rules of meaning, one function for each.
+
+pub mod choice;
+pub mod list;
+pub mod name;
+pub mod part;
+pub mod repetition;
+pub mod selection;
+pub mod store;
+pub mod value;

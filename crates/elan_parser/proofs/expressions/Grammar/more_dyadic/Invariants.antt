@@ -1,0 +1,16 @@
+use Rattle.std.proofs.Common.{◌≡◌, ◌≤◌, ◌<◌, ◌-◌, ◌+◌, length}
+use Rattle.elan_tree.specs.declared.token.Sign.TheVariants as sign
+use Rattle.elan_tree.specs.declared.token.Key.TheVariants as key
+use Rattle.elan_parser.specs.Rule.{steps_run, further, nothing}
+use Rattle.elan_parser.specs.Kinds.{is_comma, is_key, is_sign, is_level, lengthens}
+use Rattle.elan_parser.specs.Terminals.{mark, keyword}
+use Rattle.elan_parser.specs.Expressions as expressions
+use Rattle.elan_parser.specs.Units as units
+use Rattle.elan_parser.specs.Depth.{expr_depth}
+use Rattle.elan_parser.proofs.expressions.Grammar.more_dyadic.Given as goal
+
+abbrev pub invariant-loop-turn : goal.invariant-loop-turn
+invariant-loop-turn g l =
+    (steps_run (expressions.dyadic (units.phrases l.self.depth) l.self.depth l.level) (is_level (l.level + 1)) (length l.fn.cursor.rest.now) l.fn.left.tree l.fn.cursor.rest.now
+    ≡ steps_run (expressions.dyadic (units.phrases l.self.depth) l.self.depth l.level) (is_level (l.level + 1)) (l._turn-end - l._turn) l.left.tree l.cursor.rest.now)
+    × (l.left.height ≡ expr_depth l.left.tree) × (l.left.height ≤ l.self.depth)

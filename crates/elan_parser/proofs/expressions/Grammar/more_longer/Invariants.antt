@@ -1,0 +1,16 @@
+use Rattle.std.proofs.Common.{◌≡◌, ◌≤◌, ◌<◌, ◌-◌, ◌+◌, length}
+use Rattle.elan_tree.specs.declared.token.Sign.TheVariants as sign
+use Rattle.elan_tree.specs.declared.token.Key.TheVariants as key
+use Rattle.elan_parser.specs.Rule.{steps_run, further, nothing}
+use Rattle.elan_parser.specs.Kinds.{is_comma, is_key, is_sign, is_level, lengthens}
+use Rattle.elan_parser.specs.Terminals.{mark, keyword}
+use Rattle.elan_parser.specs.Expressions as expressions
+use Rattle.elan_parser.specs.Units as units
+use Rattle.elan_parser.specs.Depth.{expr_depth}
+use Rattle.elan_parser.proofs.expressions.Grammar.more_longer.Given as goal
+
+abbrev pub invariant-loop-turn : goal.invariant-loop-turn
+invariant-loop-turn g l =
+    (steps_run (expressions.longer (units.phrases l.self.depth) l.self.depth) (lengthens) (length l.fn.cursor.rest.now) l.fn.of.tree l.fn.cursor.rest.now
+    ≡ steps_run (expressions.longer (units.phrases l.self.depth) l.self.depth) (lengthens) (l._turn-end - l._turn) l.of.tree l.cursor.rest.now)
+    × (l.of.height ≡ expr_depth l.of.tree) × (l.of.height ≤ l.self.depth)

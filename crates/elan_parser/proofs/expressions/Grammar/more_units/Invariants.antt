@@ -1,0 +1,16 @@
+use Rattle.std.proofs.Common.{◌≡◌, ◌≤◌, ◌<◌, ◌-◌, ◌+◌, length}
+use Rattle.elan_tree.specs.declared.token.Sign.TheVariants as sign
+use Rattle.elan_tree.specs.declared.token.Key.TheVariants as key
+use Rattle.elan_parser.specs.Rule.{steps_run, further, nothing}
+use Rattle.elan_parser.specs.Kinds.{is_comma, is_key, is_sign, is_level, lengthens}
+use Rattle.elan_parser.specs.Terminals.{mark, keyword}
+use Rattle.elan_parser.specs.Expressions as expressions
+use Rattle.elan_parser.specs.Units as units
+use Rattle.elan_parser.specs.Depth.{units_depth}
+use Rattle.elan_parser.proofs.expressions.Grammar.more_units.Given as goal
+
+abbrev pub invariant-loop-turn : goal.invariant-loop-turn
+invariant-loop-turn g l =
+    (steps_run (further (mark sign.Semicolon) (units.unit (units.phrases l.self.depth) l.self.depth)) (is_sign sign.Semicolon) (length l.fn.cursor.rest.now) l.fn.row.tree l.fn.cursor.rest.now
+    ≡ steps_run (further (mark sign.Semicolon) (units.unit (units.phrases l.self.depth) l.self.depth)) (is_sign sign.Semicolon) (l._turn-end - l._turn) l.row.tree l.cursor.rest.now)
+    × (l.row.height ≡ units_depth l.row.tree) × (l.row.height ≤ l.self.depth)

@@ -1,0 +1,14 @@
+use Rattle.std.proofs.Common.{◌≡◌, ◌≤◌, ◌-◌, length}
+use Rattle.elan_tree.specs.declared.token.Sign.TheVariants as sign
+use Rattle.elan_parser.specs.Rule.{steps_run, further, terminal}
+use Rattle.elan_parser.specs.Kinds.{is_comma, is_sign, leads}
+use Rattle.elan_parser.specs.Terminals.{mark, export_at}
+use Rattle.elan_parser.specs.Grammar as grammar
+use Rattle.elan_parser.specs.Depth.{refinements_depth, level_units_depth}
+use Rattle.elan_parser.proofs.texts.more_level_units.Given as goal
+
+abbrev pub invariant-loop-turn : goal.invariant-loop-turn
+invariant-loop-turn l =
+    (steps_run (further (mark sign.Semicolon) grammar.level_unit) (is_sign sign.Semicolon) (length l.fn.cursor.rest.now) l.fn.row.tree l.fn.cursor.rest.now
+    ≡ steps_run (further (mark sign.Semicolon) grammar.level_unit) (is_sign sign.Semicolon) (l._turn-end - l._turn) l.row.tree l.cursor.rest.now)
+    × (l.row.height ≡ level_units_depth l.row.tree) × (l.row.height ≤ 400)

@@ -1,0 +1,10 @@
+pub mod Kinds
+pub mod Rule
+pub mod Terminals
+pub mod Depth
+pub mod Types
+pub mod Expressions
+pub mod Units
+pub mod Grammar
+pub mod Place
+pub mod Nests

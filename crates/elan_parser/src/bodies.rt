@@ -1,0 +1,418 @@
+//! Bodies with their refinements, PROC and OP.
+
+ghost use Rattle.std.specs.Prelude.{◌≡◌, ◌≤◌, ◌<◌, ◌+◌, IfOk};
+ghost use Rattle.elan_parser.specs.Rule as rule;
+ghost use Rattle.elan_parser.specs.Rule.{Gives, GivesTall};
+ghost use Rattle.elan_parser.specs.Kinds as kinds;
+ghost use Rattle.elan_parser.specs.Terminals as terminals;
+ghost use Rattle.elan_parser.specs.Grammar as spec;
+ghost use Rattle.elan_parser.specs.Depth.{type_depth, units_depth, formal_depth, formals_depth, option_type_depth, refinement_depth, refinements_depth, body_depth, level_unit_depth};
+
+use crate::cursor::Cursor;
+use crate::error::ParseError;
+use crate::kind::{goes_on, is_ident, is_operator, is_point, is_sign, leads};
+use crate::knot::units;
+use crate::parts::formals;
+use crate::tall::{Tall, single, with_last};
+use crate::types::{type_place, types};
+use elan_tree::{
+    Access, Body, Formal, Key, LevelUnit, Name, Operator, OperatorName, Refinement, Sign,
+    TypePhrase,
+};
+use eu_base::{List, NoMemory};
+use std::alloc::Global;
+
+/// A tree is at most so deep.
+pub const MOST: u16 = 400;
+
+/// What stands in a body is at most so deep.
+const MOST_IN_BODY: u16 = 399;
+
+#[tactic(auto, unfolding(crate::specs::Grammar::refinement))]
+fn refinement(
+    alloc: Global,
+    cursor: &mut Cursor<'_>,
+    depth: u16,
+) -> Result<Tall<Refinement>, ParseError>
+    ensures reads { GivesTall ((spec.refinement depth).run cursor.old.rest.now) result cursor.new.rest.now }
+    ensures tall { IfOk result (λ a. a.height ≡ refinement_depth a.tree) }
+    ensures low { IfOk result (λ a. a.height ≤ depth) }
+{
+    let name = cursor.ident(alloc)?;
+    cursor.mark(Sign::Colon)?;
+    let units = units(alloc, cursor, depth)?;
+    let tree = Refinement {
+        name,
+        units: units.tree,
+    };
+    Ok(Tall {
+        tree,
+        height: units.height + 1,
+    })
+}
+
+#[tactic(auto, unfolding(crate::specs::Grammar::last_point))]
+pub fn last_point(cursor: &mut Cursor<'_>) -> Result<Option<u32>, ParseError>
+    ensures { Gives ((spec.last_point).run cursor.old.rest.now) result cursor.new.rest.now }
+{
+    if !cursor.sees_sign(Sign::Point) {
+        return Ok(None);
+    }
+    Ok(Some(cursor.mark(Sign::Point)?))
+}
+
+#[tactic(auto, using(crate::proofs::Turns::turn_on, crate::proofs::Turns::turn_off, crate::proofs::Turns::turn_end, crate::proofs::Deepest::deepest_push))]
+fn more_refinements(
+    alloc: Global,
+    cursor: &mut Cursor<'_>,
+    depth: u16,
+    mut row: Tall<List<Refinement>>,
+) -> Result<Tall<List<Refinement>>, ParseError>
+    requires tall { row.height ≡ refinements_depth row.tree }
+    requires low { row.height ≤ depth }
+    ensures reads { GivesTall ((rule.iterate (rule.further (terminals.mark Sign.Point) (spec.refinement depth)) kinds.leads row.tree).run cursor.old.rest.now) result cursor.new.rest.now }
+    ensures tall { IfOk result (λ a. a.height ≡ refinements_depth a.tree) }
+    ensures low { IfOk result (λ a. a.height ≤ depth) }
+{
+    for _turn in 0..cursor.rest.len() {
+        if !leads(cursor.ahead()) {
+            return Ok(row);
+        }
+        cursor.mark(Sign::Point)?;
+        row = with_last(row, refinement(alloc, cursor, depth)?)?;
+    }
+    Ok(row)
+}
+
+#[tactic(auto, unfolding(crate::specs::Grammar::refinement_list), using(crate::proofs::Deepest::deepest_one))]
+fn refinement_list(
+    alloc: Global,
+    cursor: &mut Cursor<'_>,
+    depth: u16,
+) -> Result<Tall<List<Refinement>>, ParseError>
+    ensures reads { GivesTall ((spec.refinement_list depth).run cursor.old.rest.now) result cursor.new.rest.now }
+    ensures tall { IfOk result (λ a. a.height ≡ refinements_depth a.tree) }
+    ensures low { IfOk result (λ a. a.height ≤ depth) }
+{
+    let first = refinement(alloc, cursor, depth)?;
+    more_refinements(alloc, cursor, depth, single(alloc, first)?)
+}
+
+#[tactic(auto, unfolding(crate::specs::Grammar::refinements))]
+fn refinements(
+    alloc: Global,
+    cursor: &mut Cursor<'_>,
+    depth: u16,
+) -> Result<Tall<List<Refinement>>, ParseError>
+    ensures reads { GivesTall ((spec.refinements depth).run cursor.old.rest.now) result cursor.new.rest.now }
+    ensures tall { IfOk result (λ a. a.height ≡ refinements_depth a.tree) }
+    ensures low { IfOk result (λ a. a.height ≤ depth) }
+{
+    let row = refinement_list(alloc, cursor, depth)?;
+    last_point(cursor)?;
+    Ok(row)
+}
+
+#[tactic(auto, unfolding(crate::specs::Grammar::point_tail))]
+fn point_tail(
+    alloc: Global,
+    cursor: &mut Cursor<'_>,
+    depth: u16,
+) -> Result<Tall<List<Refinement>>, ParseError>
+    ensures reads { GivesTall ((spec.point_tail depth).run cursor.old.rest.now) result cursor.new.rest.now }
+    ensures tall { IfOk result (λ a. a.height ≡ refinements_depth a.tree) }
+    ensures low { IfOk result (λ a. a.height ≤ depth) }
+{
+    cursor.mark(Sign::Point)?;
+    if is_ident(cursor.ahead()) {
+        return refinements(alloc, cursor, depth);
+    }
+    Ok(Tall {
+        tree: List::new(alloc),
+        height: 0,
+    })
+}
+
+/// What may end a list of units: its refinements.
+#[tactic(auto, unfolding(crate::specs::Grammar::tail))]
+pub fn tail(
+    alloc: Global,
+    cursor: &mut Cursor<'_>,
+    depth: u16,
+) -> Result<Tall<List<Refinement>>, ParseError>
+    ensures reads { GivesTall ((spec.tail depth).run cursor.old.rest.now) result cursor.new.rest.now }
+    ensures tall { IfOk result (λ a. a.height ≡ refinements_depth a.tree) }
+    ensures low { IfOk result (λ a. a.height ≤ depth) }
+{
+    if is_point(cursor.ahead()) {
+        return point_tail(alloc, cursor, depth);
+    }
+    Ok(Tall {
+        tree: List::new(alloc),
+        height: 0,
+    })
+}
+
+#[tactic(auto, unfolding(crate::specs::Grammar::body))]
+fn body(alloc: Global, cursor: &mut Cursor<'_>) -> Result<Tall<Body>, ParseError>
+    ensures reads { GivesTall ((spec.body).run cursor.old.rest.now) result cursor.new.rest.now }
+    ensures tall { IfOk result (λ a. a.height ≡ body_depth a.tree) }
+    ensures low { IfOk result (λ a. a.height ≤ 399) }
+{
+    let units = units(alloc, cursor, MOST)?;
+    let refinements = tail(alloc, cursor, MOST_IN_BODY)?;
+    let height = units.height.max(refinements.height);
+    let tree = Body {
+        units: units.tree,
+        refinements: refinements.tree,
+    };
+    Ok(Tall { tree, height })
+}
+
+/// The name of what ends, where it is written.
+#[tactic(auto, unfolding(crate::specs::Grammar::end_name))]
+pub fn end_name(cursor: &mut Cursor<'_>, name: &Name) -> Result<Option<()>, ParseError>
+    ensures { Gives ((spec.end_name name.now).run cursor.old.rest.now) result cursor.new.rest.now }
+{
+    if !is_ident(cursor.ahead()) {
+        return Ok(None);
+    }
+    cursor.same(name)?;
+    Ok(Some(()))
+}
+
+#[tactic(auto, unfolding(crate::specs::Grammar::end_operator))]
+fn end_operator(cursor: &mut Cursor<'_>, name: &OperatorName) -> Result<Option<()>, ParseError>
+    ensures { Gives ((spec.end_operator name.now).run cursor.old.rest.now) result cursor.new.rest.now }
+{
+    if !is_operator(cursor.ahead()) {
+        return Ok(None);
+    }
+    cursor.same_operator(name)?;
+    Ok(Some(()))
+}
+
+#[tactic(auto, unfolding(crate::specs::Grammar::formal_list))]
+fn formal_list(alloc: Global, cursor: &mut Cursor<'_>) -> Result<Tall<List<Formal>>, ParseError>
+    ensures reads { GivesTall ((spec.formal_list).run cursor.old.rest.now) result cursor.new.rest.now }
+    ensures tall { IfOk result (λ a. a.height ≡ formals_depth a.tree) }
+    ensures low { IfOk result (λ a. a.height ≤ 399) }
+{
+    cursor.mark(Sign::LeftRound)?;
+    let row = formals(alloc, cursor, MOST_IN_BODY)?;
+    cursor.mark(Sign::RightRound)?;
+    Ok(row)
+}
+
+#[tactic(auto, unfolding(crate::specs::Grammar::optional_formals))]
+fn optional_formals(
+    alloc: Global,
+    cursor: &mut Cursor<'_>,
+) -> Result<Tall<List<Formal>>, ParseError>
+    ensures reads { GivesTall ((spec.optional_formals).run cursor.old.rest.now) result cursor.new.rest.now }
+    ensures tall { IfOk result (λ a. a.height ≡ formals_depth a.tree) }
+    ensures low { IfOk result (λ a. a.height ≤ 399) }
+{
+    if cursor.sees_sign(Sign::LeftRound) {
+        return formal_list(alloc, cursor);
+    }
+    Ok(Tall {
+        tree: List::new(alloc),
+        height: 0,
+    })
+}
+
+/// Where a PROC or OP begins: at the type of its result, or at its keyword.
+fn start(of: &Option<TypePhrase>, at: u32) -> u32
+    ensures { result ≡ spec.start of.now at }
+{
+    match of {
+        Some(of) => type_place(of),
+        None => at,
+    }
+}
+
+/// A PROC behind the type of its result.
+#[tactic(auto, unfolding(crate::specs::Grammar::proc))]
+pub fn proc(
+    alloc: Global,
+    cursor: &mut Cursor<'_>,
+    of: Tall<Option<TypePhrase>>,
+) -> Result<Tall<LevelUnit>, ParseError>
+    requires tall { of.height ≡ option_type_depth of.tree }
+    requires low { of.height ≤ 400 }
+    ensures reads { GivesTall ((spec.proc of.tree).run cursor.old.rest.now) result cursor.new.rest.now }
+    ensures tall { IfOk result (λ a. a.height ≡ level_unit_depth a.tree) }
+    ensures low { IfOk result (λ a. a.height ≤ 400) }
+{
+    let at = start(&of.tree, cursor.keyword(Key::Proc)?);
+    let name = cursor.ident(alloc)?;
+    let formals = optional_formals(alloc, cursor)?;
+    cursor.mark(Sign::Colon)?;
+    let body = body(alloc, cursor)?;
+    cursor.keyword(Key::End)?;
+    cursor.keyword(Key::Proc)?;
+    end_name(cursor, &name)?;
+    let inner = formals.height.max(body.height) + 1;
+    let height = of.height.max(inner);
+    let tree = LevelUnit::Proc {
+        at,
+        result: of.tree,
+        name,
+        formals: formals.tree,
+        body: body.tree,
+    };
+    Ok(Tall { tree, height })
+}
+
+/// Whether an operator may have one operand.
+fn takes_one(operator: &Operator) -> bool
+    ensures { result ≡ spec.takes_one operator.now }
+{
+    matches!(
+        operator,
+        Operator::Named(_) | Operator::Sign(Sign::Plus | Sign::Minus)
+    )
+}
+
+fn operand(alloc: Global, of: TypePhrase, access: Access, name: Name) -> Result<Formal, NoMemory>
+    ensures { IfOk result (λ f. f ≡ spec.operand of access name) }
+{
+    let mut names = List::new(alloc);
+    names.push(name)?;
+    Ok(Formal { of, access, names })
+}
+
+#[tactic(auto, unfolding(crate::specs::Grammar::same_typed), using(crate::proofs::Deepest::deepest_one))]
+fn same_typed(
+    alloc: Global,
+    cursor: &mut Cursor<'_>,
+    of: Tall<TypePhrase>,
+    access: Access,
+    first: Name,
+) -> Result<Tall<List<Formal>>, ParseError>
+    requires tall { of.height ≡ type_depth of.tree }
+    requires low { of.height ≤ 399 }
+    ensures reads { GivesTall ((spec.same_typed of.tree access first).run cursor.old.rest.now) result cursor.new.rest.now }
+    ensures tall { IfOk result (λ a. a.height ≡ formals_depth a.tree) }
+    ensures low { IfOk result (λ a. a.height ≤ 399) }
+{
+    cursor.mark(Sign::Comma)?;
+    let second = cursor.ident(alloc)?;
+    let mut formal = operand(alloc, of.tree, access, first)?;
+    formal.names.push(second)?;
+    let height = of.height;
+    Ok(single(
+        alloc,
+        Tall {
+            tree: formal,
+            height,
+        },
+    )?)
+}
+
+#[tactic(auto, unfolding(crate::specs::Grammar::other_typed), using(crate::proofs::Deepest::deepest_one, crate::proofs::Deepest::deepest_push))]
+fn other_typed(
+    alloc: Global,
+    cursor: &mut Cursor<'_>,
+    first: Tall<Formal>,
+) -> Result<Tall<List<Formal>>, ParseError>
+    requires tall { first.height ≡ formal_depth first.tree }
+    requires low { first.height ≤ 399 }
+    ensures reads { GivesTall ((spec.other_typed first.tree).run cursor.old.rest.now) result cursor.new.rest.now }
+    ensures tall { IfOk result (λ a. a.height ≡ formals_depth a.tree) }
+    ensures low { IfOk result (λ a. a.height ≤ 399) }
+{
+    cursor.mark(Sign::Comma)?;
+    let of = types(alloc, cursor, MOST_IN_BODY)?;
+    let access = cursor.access()?;
+    let name = cursor.ident(alloc)?;
+    let second = Tall {
+        tree: operand(alloc, of.tree, access, name)?,
+        height: of.height,
+    };
+    Ok(with_last(single(alloc, first)?, second)?)
+}
+
+#[tactic(auto, unfolding(crate::specs::Grammar::one_operand), using(crate::proofs::Deepest::deepest_one))]
+fn one_operand(
+    alloc: Global,
+    cursor: &mut Cursor<'_>,
+    operator: &Operator,
+    first: Tall<Formal>,
+) -> Result<Tall<List<Formal>>, ParseError>
+    requires tall { first.height ≡ formal_depth first.tree }
+    requires low { first.height ≤ 399 }
+    ensures reads { GivesTall ((spec.one_operand operator.now first.tree).run cursor.old.rest.now) result cursor.new.rest.now }
+    ensures tall { IfOk result (λ a. a.height ≡ formals_depth a.tree) }
+    ensures low { IfOk result (λ a. a.height ≤ 399) }
+{
+    if !takes_one(operator) {
+        return Err(cursor.refuse());
+    }
+    Ok(single(alloc, first)?)
+}
+
+/// As many operands as an operator takes.
+#[tactic(auto, unfolding(crate::specs::Grammar::operands))]
+fn operands(
+    alloc: Global,
+    cursor: &mut Cursor<'_>,
+    operator: &Operator,
+) -> Result<Tall<List<Formal>>, ParseError>
+    ensures reads { GivesTall ((spec.operands operator.now).run cursor.old.rest.now) result cursor.new.rest.now }
+    ensures tall { IfOk result (λ a. a.height ≡ formals_depth a.tree) }
+    ensures low { IfOk result (λ a. a.height ≤ 399) }
+{
+    let of = types(alloc, cursor, MOST_IN_BODY)?;
+    let access = cursor.access()?;
+    let name = cursor.ident(alloc)?;
+    let kind = cursor.ahead();
+    if goes_on(kind) {
+        return same_typed(alloc, cursor, of, access, name);
+    }
+    let first = Tall {
+        tree: operand(alloc, of.tree, access, name)?,
+        height: of.height,
+    };
+    if is_sign(Sign::Comma, kind) {
+        other_typed(alloc, cursor, first)
+    } else {
+        one_operand(alloc, cursor, operator, first)
+    }
+}
+
+/// An OP behind the type of its result.
+#[tactic(auto, unfolding(crate::specs::Grammar::operator))]
+pub fn operator(
+    alloc: Global,
+    cursor: &mut Cursor<'_>,
+    of: Tall<Option<TypePhrase>>,
+) -> Result<Tall<LevelUnit>, ParseError>
+    requires tall { of.height ≡ option_type_depth of.tree }
+    requires low { of.height ≤ 400 }
+    ensures reads { GivesTall ((spec.operator of.tree).run cursor.old.rest.now) result cursor.new.rest.now }
+    ensures tall { IfOk result (λ a. a.height ≡ level_unit_depth a.tree) }
+    ensures low { IfOk result (λ a. a.height ≤ 400) }
+{
+    let at = start(&of.tree, cursor.keyword(Key::Op)?);
+    let name = cursor.operator(alloc)?;
+    cursor.mark(Sign::LeftRound)?;
+    let formals = operands(alloc, cursor, &name.operator)?;
+    cursor.mark(Sign::RightRound)?;
+    cursor.mark(Sign::Colon)?;
+    let body = body(alloc, cursor)?;
+    cursor.keyword(Key::End)?;
+    cursor.keyword(Key::Op)?;
+    end_operator(cursor, &name)?;
+    let inner = formals.height.max(body.height) + 1;
+    let height = of.height.max(inner);
+    let tree = LevelUnit::Op {
+        at,
+        result: of.tree,
+        name,
+        formals: formals.tree,
+        body: body.tree,
+    };
+    Ok(Tall { tree, height })
+}

@@ -1,0 +1,475 @@
+//! Expressions: each rule for what is at most `depth` deep, over what stands in it and is less deep.
+
+ghost use Rattle.std.specs.Prelude.{◌≡◌, ◌<◌, ◌≤◌, ◌+◌, ◌-◌, ◌==◌, nat_lt, max, IfOk};
+ghost use Rattle.elan_parser.specs.Rule as rule;
+ghost use Rattle.elan_parser.specs.Rule.{Gives, GivesTall};
+ghost use Rattle.elan_parser.specs.Kinds as kinds;
+ghost use Rattle.elan_parser.specs.Terminals as terminals;
+ghost use Rattle.elan_parser.specs.Expressions as spec;
+ghost use Rattle.elan_parser.specs.Units as units;
+ghost use Rattle.elan_parser.specs.Nests.{Nests};
+ghost use Rattle.elan_parser.specs.Depth.{expr_depth, exprs_depth, units_depth, expr_place};
+
+use crate::cursor::Cursor;
+use crate::error::ParseError;
+use crate::joint::Joint;
+use crate::kind::{is_comma, is_key, is_level, is_literal, is_monadic, is_sign, lengthens};
+use crate::tall::{Tall, single, with_last};
+use elan_tree::{Expr, Key, Name, Sign, Unit};
+use eu_base::{Boxed, List, NoMemory};
+use std::alloc::Global;
+
+/// The rules of phrases whose parts are less than `depth` deep, which the two functions parse.
+#[derive(Clone, Copy)]
+pub struct Grammar<E, U> {
+    pub alloc: Global,
+    pub depth: u16,
+    pub expression: E,
+    pub units: U,
+}
+
+/// The place where an expression begins.
+pub fn expr_place(expr: &Expr) -> u32
+    ensures { result ≡ expr_place expr.now }
+{
+    match expr {
+        Expr::Number(at, _)
+        | Expr::Text(at, _)
+        | Expr::Truth(at, _)
+        | Expr::Procedure(at, _)
+        | Expr::Concr(at, _)
+        | Expr::Bracket(at, _)
+        | Expr::If { at, .. }
+        | Expr::Select { at, .. }
+        | Expr::Index { at, .. }
+        | Expr::Field { at, .. }
+        | Expr::Monadic { at, .. }
+        | Expr::Dyadic { at, .. }
+        | Expr::Cand { at, .. }
+        | Expr::Cor { at, .. } => *at,
+        Expr::Named(name) | Expr::Call(name, _) => name.at,
+    }
+}
+
+fn joined(alloc: Global, joint: Joint, left: Expr, right: Expr) -> Result<Expr, NoMemory>
+    ensures tree { IfOk result (λ e. e ≡ spec.joined joint left right) }
+    ensures depth { IfOk result (λ e. expr_depth e ≡ max (expr_depth left) (expr_depth right) + 1) }
+{
+    let at = expr_place(&left);
+    let left = Boxed::new(alloc, left)?;
+    let right = Boxed::new(alloc, right)?;
+    Ok(match joint {
+        Joint::Cand => Expr::Cand { at, left, right },
+        Joint::Cor => Expr::Cor { at, left, right },
+        Joint::Operator(operator) => Expr::Dyadic {
+            at,
+            operator,
+            left,
+            right,
+        },
+    })
+}
+
+/// `of [index]`
+fn indexed(alloc: Global, of: Expr, index: Expr) -> Result<Expr, NoMemory>
+    ensures { IfOk result (λ e. e ≡ Expr.Index (expr_place of) of index) }
+{
+    let at = expr_place(&of);
+    let of = Boxed::new(alloc, of)?;
+    let index = Boxed::new(alloc, index)?;
+    Ok(Expr::Index { at, of, index })
+}
+
+/// `of.field`
+fn selected(alloc: Global, of: Expr, field: Name) -> Result<Expr, NoMemory>
+    ensures { IfOk result (λ e. e ≡ Expr.Field (expr_place of) of field) }
+{
+    let at = expr_place(&of);
+    let of = Boxed::new(alloc, of)?;
+    Ok(Expr::Field { at, of, field })
+}
+
+impl<
+    E: Fn(Global, &mut Cursor<'_>, u16, u8) -> Result<Tall<Expr>, ParseError>,
+    U: Fn(Global, &mut Cursor<'_>, u16) -> Result<Tall<List<Unit>>, ParseError>,
+> Grammar<E, U> {
+    /// An expression in another phrase.
+    pub fn inner(&self, cursor: &mut Cursor<'_>, level: u8) -> Result<Tall<Expr>, ParseError>
+        requires nests { Nests self.now.depth (E.pre self.now.expression) (E.post self.now.expression) (U.pre self.now.units) (U.post self.now.units) }
+        requires level { level ≤ 6 }
+        ensures reads { GivesTall (((units.phrases self.now.depth).level level).run cursor.old.rest.now) result cursor.new.rest.now }
+        ensures tall { IfOk result (λ a. a.height ≡ expr_depth a.tree) }
+        ensures low { IfOk result (λ a. a.height < self.now.depth) }
+    {
+        (self.expression)(self.alloc, cursor, self.depth, level)
+    }
+
+    /// Units in another phrase.
+    pub fn inner_units(&self, cursor: &mut Cursor<'_>) -> Result<Tall<List<Unit>>, ParseError>
+        requires { Nests self.now.depth (E.pre self.now.expression) (E.post self.now.expression) (U.pre self.now.units) (U.post self.now.units) }
+        ensures reads { GivesTall (((units.phrases self.now.depth).units).run cursor.old.rest.now) result cursor.new.rest.now }
+        ensures tall { IfOk result (λ a. a.height ≡ units_depth a.tree) }
+        ensures low { IfOk result (λ a. a.height < self.now.depth) }
+    {
+        (self.units)(self.alloc, cursor, self.depth)
+    }
+
+    /// There is room for a phrase above one of this height.
+    pub fn below(&self, cursor: &Cursor<'_>, height: u32) -> Result<(), ParseError>
+        ensures reads { Gives ((rule.only (nat_lt height self.now.depth)).run cursor.now.rest.now) result cursor.now.rest.now }
+        ensures low { IfOk result (λ _. height < self.now.depth) }
+    {
+        if height < u32::from(self.depth) {
+            Ok(())
+        } else {
+            Err(cursor.refuse())
+        }
+    }
+
+    #[tactic(auto, unfolding(crate::specs::Expressions::bracket))]
+    fn bracket(&self, cursor: &mut Cursor<'_>) -> Result<Tall<Expr>, ParseError>
+        requires { Nests self.now.depth (E.pre self.now.expression) (E.post self.now.expression) (U.pre self.now.units) (U.post self.now.units) }
+        ensures reads { GivesTall ((spec.bracket (units.phrases self.now.depth) self.now.depth).run cursor.old.rest.now) result cursor.new.rest.now }
+        ensures tall { IfOk result (λ a. a.height ≡ expr_depth a.tree) }
+        ensures low { IfOk result (λ a. a.height ≤ self.now.depth) }
+    {
+        self.below(cursor, 0)?;
+        let at = cursor.mark(Sign::LeftRound)?;
+        let a = self.inner(cursor, 6)?;
+        cursor.mark(Sign::RightRound)?;
+        let tree = Expr::Bracket(at, Boxed::new(self.alloc, a.tree)?);
+        Ok(Tall {
+            tree,
+            height: a.height + 1,
+        })
+    }
+
+    #[tactic(auto, unfolding(crate::specs::Expressions::concr))]
+    fn concr(&self, cursor: &mut Cursor<'_>) -> Result<Tall<Expr>, ParseError>
+        requires { Nests self.now.depth (E.pre self.now.expression) (E.post self.now.expression) (U.pre self.now.units) (U.post self.now.units) }
+        ensures reads { GivesTall ((spec.concr (units.phrases self.now.depth) self.now.depth).run cursor.old.rest.now) result cursor.new.rest.now }
+        ensures tall { IfOk result (λ a. a.height ≡ expr_depth a.tree) }
+        ensures low { IfOk result (λ a. a.height ≤ self.now.depth) }
+    {
+        self.below(cursor, 0)?;
+        let at = cursor.keyword(Key::Concr)?;
+        cursor.mark(Sign::LeftRound)?;
+        let a = self.inner(cursor, 6)?;
+        cursor.mark(Sign::RightRound)?;
+        let tree = Expr::Concr(at, Boxed::new(self.alloc, a.tree)?);
+        Ok(Tall {
+            tree,
+            height: a.height + 1,
+        })
+    }
+
+    #[tactic(auto, unfolding(crate::specs::Expressions::procedure))]
+    fn procedure(&self, cursor: &mut Cursor<'_>) -> Result<Expr, ParseError>
+        ensures { Gives ((spec.procedure (units.phrases self.now.depth) self.now.depth).run cursor.old.rest.now) result cursor.new.rest.now }
+    {
+        let at = cursor.keyword(Key::Proc)?;
+        let name = cursor.ident(self.alloc)?;
+        Ok(Expr::Procedure(at, name))
+    }
+
+    #[tactic(auto, unfolding(crate::specs::Expressions::actual, crate::specs::Expressions::procedure))]
+    fn actual(&self, cursor: &mut Cursor<'_>) -> Result<Tall<Expr>, ParseError>
+        requires nests { Nests self.now.depth (E.pre self.now.expression) (E.post self.now.expression) (U.pre self.now.units) (U.post self.now.units) }
+        requires room { 0 < self.now.depth }
+        ensures reads { GivesTall ((spec.actual (units.phrases self.now.depth) self.now.depth).run cursor.old.rest.now) result cursor.new.rest.now }
+        ensures tall { IfOk result (λ a. a.height ≡ expr_depth a.tree) }
+        ensures low { IfOk result (λ a. a.height < self.now.depth) }
+    {
+        if cursor.sees_key(Key::Proc) {
+            let tree = self.procedure(cursor)?;
+            return Ok(Tall { tree, height: 0 });
+        }
+        self.inner(cursor, 6)
+    }
+
+    #[tactic(auto, using(crate::proofs::Turns::turn_on, crate::proofs::Turns::turn_off, crate::proofs::Turns::turn_end, crate::proofs::Deepest::deepest_push))]
+    fn more_actuals(
+        &self,
+        cursor: &mut Cursor<'_>,
+        mut row: Tall<List<Expr>>,
+    ) -> Result<Tall<List<Expr>>, ParseError>
+        requires nests { Nests self.now.depth (E.pre self.now.expression) (E.post self.now.expression) (U.pre self.now.units) (U.post self.now.units) }
+        requires tall { row.height ≡ exprs_depth row.tree }
+        requires low { row.height < self.now.depth }
+        ensures reads { GivesTall ((rule.iterate (rule.further (terminals.mark Sign.Comma) (spec.actual (units.phrases self.now.depth) self.now.depth)) (kinds.is_comma) row.tree).run cursor.old.rest.now) result cursor.new.rest.now }
+        ensures tall { IfOk result (λ a. a.height ≡ exprs_depth a.tree) }
+        ensures low { IfOk result (λ a. a.height < self.now.depth) }
+    {
+        for _turn in 0..cursor.rest.len() {
+            if !is_comma(cursor.ahead()) {
+                return Ok(row);
+            }
+            cursor.mark(Sign::Comma)?;
+            row = with_last(row, self.actual(cursor)?)?;
+        }
+        Ok(row)
+    }
+
+    #[tactic(auto, unfolding(crate::specs::Expressions::actuals), using(crate::proofs::Deepest::deepest_one))]
+    fn actuals(&self, cursor: &mut Cursor<'_>) -> Result<Tall<List<Expr>>, ParseError>
+        requires nests { Nests self.now.depth (E.pre self.now.expression) (E.post self.now.expression) (U.pre self.now.units) (U.post self.now.units) }
+        requires room { 0 < self.now.depth }
+        ensures reads { GivesTall ((spec.actuals (units.phrases self.now.depth) self.now.depth).run cursor.old.rest.now) result cursor.new.rest.now }
+        ensures tall { IfOk result (λ a. a.height ≡ exprs_depth a.tree) }
+        ensures low { IfOk result (λ a. a.height < self.now.depth) }
+    {
+        let first = self.actual(cursor)?;
+        self.more_actuals(cursor, single(self.alloc, first)?)
+    }
+
+    #[tactic(auto, unfolding(crate::specs::Expressions::call))]
+    fn call(&self, cursor: &mut Cursor<'_>, name: Name) -> Result<Tall<Expr>, ParseError>
+        requires { Nests self.now.depth (E.pre self.now.expression) (E.post self.now.expression) (U.pre self.now.units) (U.post self.now.units) }
+        ensures reads { GivesTall ((spec.call (units.phrases self.now.depth) self.now.depth name).run cursor.old.rest.now) result cursor.new.rest.now }
+        ensures tall { IfOk result (λ a. a.height ≡ expr_depth a.tree) }
+        ensures low { IfOk result (λ a. a.height ≤ self.now.depth) }
+    {
+        self.below(cursor, 0)?;
+        cursor.mark(Sign::LeftRound)?;
+        let row = self.actuals(cursor)?;
+        cursor.mark(Sign::RightRound)?;
+        let tree = Expr::Call(name, row.tree);
+        Ok(Tall {
+            tree,
+            height: row.height + 1,
+        })
+    }
+
+    #[tactic(auto, unfolding(crate::specs::Expressions::named))]
+    fn named(&self, cursor: &mut Cursor<'_>) -> Result<Tall<Expr>, ParseError>
+        requires { Nests self.now.depth (E.pre self.now.expression) (E.post self.now.expression) (U.pre self.now.units) (U.post self.now.units) }
+        ensures reads { GivesTall ((spec.named (units.phrases self.now.depth) self.now.depth).run cursor.old.rest.now) result cursor.new.rest.now }
+        ensures tall { IfOk result (λ a. a.height ≡ expr_depth a.tree) }
+        ensures low { IfOk result (λ a. a.height ≤ self.now.depth) }
+    {
+        let name = cursor.ident(self.alloc)?;
+        if cursor.sees_sign(Sign::LeftRound) {
+            return self.call(cursor, name);
+        }
+        Ok(Tall {
+            tree: Expr::Named(name),
+            height: 0,
+        })
+    }
+
+    fn literal(&self, cursor: &mut Cursor<'_>) -> Result<Tall<Expr>, ParseError>
+        ensures reads { GivesTall ((rule.terminal terminals.literal_at).run cursor.old.rest.now) result cursor.new.rest.now }
+        ensures tall { IfOk result (λ a. a.height ≡ expr_depth a.tree) }
+        ensures low { IfOk result (λ a. a.height ≤ self.now.depth) }
+    {
+        let tree = cursor.literal(self.alloc)?;
+        Ok(Tall { tree, height: 0 })
+    }
+
+    #[tactic(auto, unfolding(crate::specs::Expressions::head))]
+    fn head(&self, cursor: &mut Cursor<'_>) -> Result<Tall<Expr>, ParseError>
+        requires { Nests self.now.depth (E.pre self.now.expression) (E.post self.now.expression) (U.pre self.now.units) (U.post self.now.units) }
+        ensures reads { GivesTall ((spec.head (units.phrases self.now.depth) self.now.depth).run cursor.old.rest.now) result cursor.new.rest.now }
+        ensures tall { IfOk result (λ a. a.height ≡ expr_depth a.tree) }
+        ensures low { IfOk result (λ a. a.height ≤ self.now.depth) }
+    {
+        let kind = cursor.ahead();
+        if is_literal(kind) {
+            self.literal(cursor)
+        } else if is_sign(Sign::LeftRound, kind) {
+            self.bracket(cursor)
+        } else if is_key(Key::Concr, kind) {
+            self.concr(cursor)
+        } else if is_key(Key::If, kind) {
+            self.choice(cursor)
+        } else if is_key(Key::Select, kind) {
+            self.selection(cursor)
+        } else {
+            self.named(cursor)
+        }
+    }
+
+    #[tactic(auto, unfolding(crate::specs::Expressions::index))]
+    fn index(&self, cursor: &mut Cursor<'_>, of: Tall<Expr>) -> Result<Tall<Expr>, ParseError>
+        requires nests { Nests self.now.depth (E.pre self.now.expression) (E.post self.now.expression) (U.pre self.now.units) (U.post self.now.units) }
+        requires tall { of.height ≡ expr_depth of.tree }
+        ensures reads { GivesTall ((spec.index (units.phrases self.now.depth) self.now.depth of.tree).run cursor.old.rest.now) result cursor.new.rest.now }
+        ensures tall { IfOk result (λ a. a.height ≡ expr_depth a.tree) }
+        ensures low { IfOk result (λ a. a.height ≤ self.now.depth) }
+    {
+        self.below(cursor, of.height)?;
+        cursor.mark(Sign::LeftSquare)?;
+        let index = self.inner(cursor, 6)?;
+        cursor.mark(Sign::RightSquare)?;
+        let height = of.height.max(index.height);
+        let tree = indexed(self.alloc, of.tree, index.tree)?;
+        Ok(Tall {
+            tree,
+            height: height + 1,
+        })
+    }
+
+    #[tactic(auto, unfolding(crate::specs::Expressions::field_of))]
+    fn field_of(&self, cursor: &mut Cursor<'_>, of: Tall<Expr>) -> Result<Tall<Expr>, ParseError>
+        requires nests { Nests self.now.depth (E.pre self.now.expression) (E.post self.now.expression) (U.pre self.now.units) (U.post self.now.units) }
+        requires tall { of.height ≡ expr_depth of.tree }
+        ensures reads { GivesTall ((spec.field_of (units.phrases self.now.depth) self.now.depth of.tree).run cursor.old.rest.now) result cursor.new.rest.now }
+        ensures tall { IfOk result (λ a. a.height ≡ expr_depth a.tree) }
+        ensures low { IfOk result (λ a. a.height ≤ self.now.depth) }
+    {
+        self.below(cursor, of.height)?;
+        cursor.mark(Sign::Point)?;
+        let field = cursor.ident(self.alloc)?;
+        let tree = selected(self.alloc, of.tree, field)?;
+        Ok(Tall {
+            tree,
+            height: of.height + 1,
+        })
+    }
+
+    #[tactic(auto, unfolding(crate::specs::Expressions::longer))]
+    fn longer(&self, cursor: &mut Cursor<'_>, of: Tall<Expr>) -> Result<Tall<Expr>, ParseError>
+        requires nests { Nests self.now.depth (E.pre self.now.expression) (E.post self.now.expression) (U.pre self.now.units) (U.post self.now.units) }
+        requires tall { of.height ≡ expr_depth of.tree }
+        ensures reads { GivesTall ((spec.longer (units.phrases self.now.depth) self.now.depth of.tree).run cursor.old.rest.now) result cursor.new.rest.now }
+        ensures tall { IfOk result (λ a. a.height ≡ expr_depth a.tree) }
+        ensures low { IfOk result (λ a. a.height ≤ self.now.depth) }
+    {
+        if cursor.sees_sign(Sign::LeftSquare) {
+            self.index(cursor, of)
+        } else {
+            self.field_of(cursor, of)
+        }
+    }
+
+    #[tactic(auto, using(crate::proofs::Turns::turn_on, crate::proofs::Turns::turn_off, crate::proofs::Turns::turn_end))]
+    fn more_longer(
+        &self,
+        cursor: &mut Cursor<'_>,
+        mut of: Tall<Expr>,
+    ) -> Result<Tall<Expr>, ParseError>
+        requires nests { Nests self.now.depth (E.pre self.now.expression) (E.post self.now.expression) (U.pre self.now.units) (U.post self.now.units) }
+        requires tall { of.height ≡ expr_depth of.tree }
+        requires low { of.height ≤ self.now.depth }
+        ensures reads { GivesTall ((rule.iterate (spec.longer (units.phrases self.now.depth) self.now.depth) (kinds.lengthens) of.tree).run cursor.old.rest.now) result cursor.new.rest.now }
+        ensures tall { IfOk result (λ a. a.height ≡ expr_depth a.tree) }
+        ensures low { IfOk result (λ a. a.height ≤ self.now.depth) }
+    {
+        for _turn in 0..cursor.rest.len() {
+            if !lengthens(cursor.ahead()) {
+                return Ok(of);
+            }
+            of = self.longer(cursor, of)?;
+        }
+        Ok(of)
+    }
+
+    #[tactic(auto, unfolding(crate::specs::Expressions::prim))]
+    fn prim(&self, cursor: &mut Cursor<'_>) -> Result<Tall<Expr>, ParseError>
+        requires { Nests self.now.depth (E.pre self.now.expression) (E.post self.now.expression) (U.pre self.now.units) (U.post self.now.units) }
+        ensures reads { GivesTall ((spec.prim (units.phrases self.now.depth) self.now.depth).run cursor.old.rest.now) result cursor.new.rest.now }
+        ensures tall { IfOk result (λ a. a.height ≡ expr_depth a.tree) }
+        ensures low { IfOk result (λ a. a.height ≤ self.now.depth) }
+    {
+        let head = self.head(cursor)?;
+        self.more_longer(cursor, head)
+    }
+
+    #[tactic(auto, unfolding(crate::specs::Expressions::applied))]
+    fn applied(&self, cursor: &mut Cursor<'_>) -> Result<Tall<Expr>, ParseError>
+        requires { Nests self.now.depth (E.pre self.now.expression) (E.post self.now.expression) (U.pre self.now.units) (U.post self.now.units) }
+        ensures reads { GivesTall ((spec.applied (units.phrases self.now.depth) self.now.depth).run cursor.old.rest.now) result cursor.new.rest.now }
+        ensures tall { IfOk result (λ a. a.height ≡ expr_depth a.tree) }
+        ensures low { IfOk result (λ a. a.height ≤ self.now.depth) }
+    {
+        self.below(cursor, 0)?;
+        let (at, operator) = cursor.monadic(self.alloc)?;
+        let a = self.inner(cursor, 0)?;
+        let tree = Expr::Monadic {
+            at,
+            operator,
+            operand: Boxed::new(self.alloc, a.tree)?,
+        };
+        Ok(Tall {
+            tree,
+            height: a.height + 1,
+        })
+    }
+
+    #[tactic(auto, unfolding(crate::specs::Expressions::operand))]
+    fn operand(&self, cursor: &mut Cursor<'_>) -> Result<Tall<Expr>, ParseError>
+        requires { Nests self.now.depth (E.pre self.now.expression) (E.post self.now.expression) (U.pre self.now.units) (U.post self.now.units) }
+        ensures reads { GivesTall ((spec.operand (units.phrases self.now.depth) self.now.depth).run cursor.old.rest.now) result cursor.new.rest.now }
+        ensures tall { IfOk result (λ a. a.height ≡ expr_depth a.tree) }
+        ensures low { IfOk result (λ a. a.height ≤ self.now.depth) }
+    {
+        if is_monadic(cursor.ahead()) {
+            self.applied(cursor)
+        } else {
+            self.prim(cursor)
+        }
+    }
+
+    #[tactic(auto, unfolding(crate::specs::Expressions::dyadic))]
+    fn dyadic(
+        &self,
+        cursor: &mut Cursor<'_>,
+        level: u8,
+        left: Tall<Expr>,
+    ) -> Result<Tall<Expr>, ParseError>
+        requires nests { Nests self.now.depth (E.pre self.now.expression) (E.post self.now.expression) (U.pre self.now.units) (U.post self.now.units) }
+        requires level { level < 6 }
+        requires tall { left.height ≡ expr_depth left.tree }
+        ensures reads { GivesTall ((spec.dyadic (units.phrases self.now.depth) self.now.depth level left.tree).run cursor.old.rest.now) result cursor.new.rest.now }
+        ensures tall { IfOk result (λ a. a.height ≡ expr_depth a.tree) }
+        ensures low { IfOk result (λ a. a.height ≤ self.now.depth) }
+    {
+        self.below(cursor, left.height)?;
+        let joint = cursor.joint(self.alloc, level + 1)?;
+        let right = self.inner(cursor, level)?;
+        let height = left.height.max(right.height);
+        let tree = joined(self.alloc, joint, left.tree, right.tree)?;
+        Ok(Tall {
+            tree,
+            height: height + 1,
+        })
+    }
+
+    #[tactic(auto, using(crate::proofs::Turns::turn_on, crate::proofs::Turns::turn_off, crate::proofs::Turns::turn_end))]
+    fn more_dyadic(
+        &self,
+        cursor: &mut Cursor<'_>,
+        level: u8,
+        mut left: Tall<Expr>,
+    ) -> Result<Tall<Expr>, ParseError>
+        requires nests { Nests self.now.depth (E.pre self.now.expression) (E.post self.now.expression) (U.pre self.now.units) (U.post self.now.units) }
+        requires tall { left.height ≡ expr_depth left.tree }
+        requires low { left.height ≤ self.now.depth }
+        requires level { level < 6 }
+        ensures reads { GivesTall ((rule.iterate (spec.dyadic (units.phrases self.now.depth) self.now.depth level) (kinds.is_level (level + 1)) left.tree).run cursor.old.rest.now) result cursor.new.rest.now }
+        ensures tall { IfOk result (λ a. a.height ≡ expr_depth a.tree) }
+        ensures low { IfOk result (λ a. a.height ≤ self.now.depth) }
+    {
+        for _turn in 0..cursor.rest.len() {
+            if !is_level(level + 1, cursor.ahead()) {
+                return Ok(left);
+            }
+            left = self.dyadic(cursor, level, left)?;
+        }
+        Ok(left)
+    }
+
+    pub fn level(&self, cursor: &mut Cursor<'_>, level: u8) -> Result<Tall<Expr>, ParseError>
+        requires nests { Nests self.now.depth (E.pre self.now.expression) (E.post self.now.expression) (U.pre self.now.units) (U.post self.now.units) }
+        requires level { level ≤ 6 }
+        ensures reads { GivesTall ((spec.level (units.phrases self.now.depth) self.now.depth level).run cursor.old.rest.now) result cursor.new.rest.now }
+        ensures tall { IfOk result (λ a. a.height ≡ expr_depth a.tree) }
+        ensures low { IfOk result (λ a. a.height ≤ self.now.depth) }
+    {
+        if level == 0 {
+            return self.operand(cursor);
+        }
+        let left = self.level(cursor, level - 1)?;
+        self.more_dyadic(cursor, level - 1, left)
+    }
+}

@@ -1,0 +1,306 @@
+//! Whole texts: programs and packets.
+
+ghost use Rattle.std.specs.Prelude.{◌≡◌, ℕ, List, Err, Bool, ◌≤◌, ◌<◌, ◌+◌, IfOk};
+ghost use Rattle.elan_parser.specs.Rule as rule;
+ghost use Rattle.elan_parser.specs.Rule.{Gives, GivesTall};
+ghost use Rattle.elan_parser.specs.Kinds as kinds;
+ghost use Rattle.elan_parser.specs.Terminals as terminals;
+ghost use Rattle.elan_parser.specs.Grammar as spec;
+ghost use Rattle.elan_parser.specs.Grammar.{Reads};
+ghost use Rattle.elan_parser.specs.Place.{left};
+ghost use Rattle.elan_parser.specs.Depth.{type_depth, level_unit_depth, level_units_depth, level_depth, tree_depth};
+
+use crate::bodies::{MOST, end_name, last_point, operator, proc, tail};
+use crate::cursor::Cursor;
+use crate::error::ParseError;
+use crate::expressions::Grammar;
+use crate::kind::{begins_typed, is_comma, is_key};
+use crate::knot::{expression, units};
+use crate::tall::{Tall, single, with_last};
+use crate::types::types;
+use elan_tree::{Export, Key, Level, LevelUnit, Sign, Token, Tree, TypePhrase};
+use eu_base::List;
+use std::alloc::Global;
+
+#[tactic(auto, unfolding(crate::specs::Grammar::new_type))]
+fn new_type(alloc: Global, cursor: &mut Cursor<'_>) -> Result<Tall<LevelUnit>, ParseError>
+    ensures reads { GivesTall ((spec.new_type).run cursor.old.rest.now) result cursor.new.rest.now }
+    ensures tall { IfOk result (λ a. a.height ≡ level_unit_depth a.tree) }
+    ensures low { IfOk result (λ a. a.height ≤ 400) }
+{
+    let at = cursor.keyword(Key::TypeWord)?;
+    let name = cursor.bold(alloc)?;
+    cursor.mark(Sign::Equal)?;
+    let of = types(alloc, cursor, MOST)?;
+    let tree = LevelUnit::NewType {
+        at,
+        name,
+        of: of.tree,
+    };
+    Ok(Tall {
+        tree,
+        height: of.height,
+    })
+}
+
+#[tactic(auto, unfolding(crate::specs::Grammar::declared_unit))]
+fn declared_unit(
+    alloc: Global,
+    cursor: &mut Cursor<'_>,
+    of: Tall<TypePhrase>,
+) -> Result<Tall<LevelUnit>, ParseError>
+    requires tall { of.height ≡ type_depth of.tree }
+    requires low { of.height ≤ 400 }
+    ensures reads { GivesTall ((spec.declared_unit of.tree).run cursor.old.rest.now) result cursor.new.rest.now }
+    ensures tall { IfOk result (λ a. a.height ≡ level_unit_depth a.tree) }
+    ensures low { IfOk result (λ a. a.height ≤ 400) }
+{
+    let grammar = Grammar {
+        alloc,
+        depth: MOST,
+        expression,
+        units,
+    };
+    let unit = grammar.declared(cursor, of)?;
+    Ok(Tall {
+        tree: LevelUnit::Plain(unit.tree),
+        height: unit.height,
+    })
+}
+
+#[tactic(auto, unfolding(crate::specs::Grammar::typed_unit))]
+fn typed_unit(alloc: Global, cursor: &mut Cursor<'_>) -> Result<Tall<LevelUnit>, ParseError>
+    ensures reads { GivesTall ((spec.typed_unit).run cursor.old.rest.now) result cursor.new.rest.now }
+    ensures tall { IfOk result (λ a. a.height ≡ level_unit_depth a.tree) }
+    ensures low { IfOk result (λ a. a.height ≤ 400) }
+{
+    let of = types(alloc, cursor, MOST)?;
+    let kind = cursor.ahead();
+    if !is_key(Key::Proc, kind) && !is_key(Key::Op, kind) {
+        return declared_unit(alloc, cursor, of);
+    }
+    let result = Tall {
+        tree: Some(of.tree),
+        height: of.height,
+    };
+    if is_key(Key::Proc, kind) {
+        proc(alloc, cursor, result)
+    } else {
+        operator(alloc, cursor, result)
+    }
+}
+
+#[tactic(auto, unfolding(crate::specs::Grammar::plain_unit))]
+fn plain_unit(alloc: Global, cursor: &mut Cursor<'_>) -> Result<Tall<LevelUnit>, ParseError>
+    ensures reads { GivesTall ((spec.plain_unit).run cursor.old.rest.now) result cursor.new.rest.now }
+    ensures tall { IfOk result (λ a. a.height ≡ level_unit_depth a.tree) }
+    ensures low { IfOk result (λ a. a.height ≤ 400) }
+{
+    let grammar = Grammar {
+        alloc,
+        depth: MOST,
+        expression,
+        units,
+    };
+    let unit = grammar.plain(cursor)?;
+    Ok(Tall {
+        tree: LevelUnit::Plain(unit.tree),
+        height: unit.height,
+    })
+}
+
+#[tactic(auto, unfolding(crate::specs::Grammar::level_unit))]
+fn level_unit(alloc: Global, cursor: &mut Cursor<'_>) -> Result<Tall<LevelUnit>, ParseError>
+    ensures reads { GivesTall ((spec.level_unit).run cursor.old.rest.now) result cursor.new.rest.now }
+    ensures tall { IfOk result (λ a. a.height ≡ level_unit_depth a.tree) }
+    ensures low { IfOk result (λ a. a.height ≤ 400) }
+{
+    let kind = cursor.ahead();
+    let none = Tall {
+        tree: None,
+        height: 0,
+    };
+    if begins_typed(kind) {
+        typed_unit(alloc, cursor)
+    } else if is_key(Key::TypeWord, kind) {
+        new_type(alloc, cursor)
+    } else if is_key(Key::Proc, kind) {
+        proc(alloc, cursor, none)
+    } else if is_key(Key::Op, kind) {
+        operator(alloc, cursor, none)
+    } else {
+        plain_unit(alloc, cursor)
+    }
+}
+
+#[tactic(auto, using(crate::proofs::Turns::turn_on, crate::proofs::Turns::turn_off, crate::proofs::Turns::turn_end, crate::proofs::Deepest::deepest_push))]
+fn more_level_units(
+    alloc: Global,
+    cursor: &mut Cursor<'_>,
+    mut row: Tall<List<LevelUnit>>,
+) -> Result<Tall<List<LevelUnit>>, ParseError>
+    requires tall { row.height ≡ level_units_depth row.tree }
+    requires low { row.height ≤ 400 }
+    ensures reads { GivesTall ((rule.iterate (rule.further (terminals.mark Sign.Semicolon) spec.level_unit) (kinds.is_sign Sign.Semicolon) row.tree).run cursor.old.rest.now) result cursor.new.rest.now }
+    ensures tall { IfOk result (λ a. a.height ≡ level_units_depth a.tree) }
+    ensures low { IfOk result (λ a. a.height ≤ 400) }
+{
+    for _turn in 0..cursor.rest.len() {
+        if !cursor.sees_sign(Sign::Semicolon) {
+            return Ok(row);
+        }
+        cursor.mark(Sign::Semicolon)?;
+        row = with_last(row, level_unit(alloc, cursor)?)?;
+    }
+    Ok(row)
+}
+
+#[tactic(auto, unfolding(crate::specs::Grammar::level_units), using(crate::proofs::Deepest::deepest_one))]
+fn level_units(alloc: Global, cursor: &mut Cursor<'_>) -> Result<Tall<List<LevelUnit>>, ParseError>
+    ensures reads { GivesTall ((spec.level_units).run cursor.old.rest.now) result cursor.new.rest.now }
+    ensures tall { IfOk result (λ a. a.height ≡ level_units_depth a.tree) }
+    ensures low { IfOk result (λ a. a.height ≤ 400) }
+{
+    let first = level_unit(alloc, cursor)?;
+    more_level_units(alloc, cursor, single(alloc, first)?)
+}
+
+#[tactic(auto, unfolding(crate::specs::Grammar::a_level))]
+fn a_level(alloc: Global, cursor: &mut Cursor<'_>) -> Result<Tall<Level>, ParseError>
+    ensures reads { GivesTall ((spec.a_level).run cursor.old.rest.now) result cursor.new.rest.now }
+    ensures tall { IfOk result (λ a. a.height ≡ level_depth a.tree) }
+    ensures low { IfOk result (λ a. a.height ≤ 400) }
+{
+    let units = level_units(alloc, cursor)?;
+    let refinements = tail(alloc, cursor, MOST)?;
+    let height = units.height.max(refinements.height);
+    let tree = Level {
+        units: units.tree,
+        refinements: refinements.tree,
+    };
+    Ok(Tall { tree, height })
+}
+
+#[tactic(auto, unfolding(crate::specs::Grammar::program))]
+fn program(alloc: Global, cursor: &mut Cursor<'_>) -> Result<Tall<Tree>, ParseError>
+    ensures reads { GivesTall ((spec.program).run cursor.old.rest.now) result cursor.new.rest.now }
+    ensures tall { IfOk result (λ a. a.height ≡ tree_depth a.tree) }
+    ensures low { IfOk result (λ a. a.height ≤ 400) }
+{
+    let level = a_level(alloc, cursor)?;
+    Ok(Tall {
+        tree: Tree::Program(level.tree),
+        height: level.height,
+    })
+}
+
+#[tactic(auto, using(crate::proofs::Turns::turn_on, crate::proofs::Turns::turn_off, crate::proofs::Turns::turn_end))]
+fn more_exports(
+    alloc: Global,
+    cursor: &mut Cursor<'_>,
+    mut exports: List<Export>,
+) -> Result<List<Export>, ParseError>
+    ensures { Gives ((rule.iterate (rule.further (terminals.mark Sign.Comma) (rule.terminal terminals.export_at)) kinds.is_comma exports).run cursor.old.rest.now) result cursor.new.rest.now }
+{
+    for _turn in 0..cursor.rest.len() {
+        if !is_comma(cursor.ahead()) {
+            return Ok(exports);
+        }
+        cursor.mark(Sign::Comma)?;
+        exports.push(cursor.export(alloc)?)?;
+    }
+    Ok(exports)
+}
+
+#[tactic(auto, unfolding(crate::specs::Grammar::export_list))]
+fn export_list(alloc: Global, cursor: &mut Cursor<'_>) -> Result<List<Export>, ParseError>
+    ensures { Gives ((spec.export_list).run cursor.old.rest.now) result cursor.new.rest.now }
+{
+    let mut exports = List::new(alloc);
+    exports.push(cursor.export(alloc)?)?;
+    more_exports(alloc, cursor, exports)
+}
+
+#[tactic(auto, unfolding(crate::specs::Grammar::exports))]
+fn exports(alloc: Global, cursor: &mut Cursor<'_>) -> Result<List<Export>, ParseError>
+    ensures { Gives ((spec.exports).run cursor.old.rest.now) result cursor.new.rest.now }
+{
+    if !cursor.sees_key(Key::Defines) {
+        return Ok(List::new(alloc));
+    }
+    cursor.keyword(Key::Defines)?;
+    export_list(alloc, cursor)
+}
+
+#[tactic(auto, unfolding(crate::specs::Grammar::last_mark))]
+fn last_mark(cursor: &mut Cursor<'_>) -> Result<Option<u32>, ParseError>
+    ensures { Gives ((spec.last_mark).run cursor.old.rest.now) result cursor.new.rest.now }
+{
+    if cursor.sees_sign(Sign::Semicolon) {
+        return Ok(Some(cursor.mark(Sign::Semicolon)?));
+    }
+    last_point(cursor)
+}
+
+#[tactic(auto, unfolding(crate::specs::Grammar::packet))]
+fn packet(alloc: Global, cursor: &mut Cursor<'_>) -> Result<Tall<Tree>, ParseError>
+    ensures reads { GivesTall ((spec.packet).run cursor.old.rest.now) result cursor.new.rest.now }
+    ensures tall { IfOk result (λ a. a.height ≡ tree_depth a.tree) }
+    ensures low { IfOk result (λ a. a.height ≤ 400) }
+{
+    let at = cursor.keyword(Key::Packet)?;
+    let name = cursor.ident(alloc)?;
+    let exports = exports(alloc, cursor)?;
+    cursor.mark(Sign::Colon)?;
+    let level = a_level(alloc, cursor)?;
+    cursor.keyword(Key::End)?;
+    cursor.keyword(Key::Packet)?;
+    end_name(cursor, &name)?;
+    last_mark(cursor)?;
+    let tree = Tree::Packet {
+        at,
+        name,
+        exports,
+        level: level.tree,
+    };
+    Ok(Tall {
+        tree,
+        height: level.height,
+    })
+}
+
+fn text(alloc: Global, cursor: &mut Cursor<'_>, is_packet: bool) -> Result<Tall<Tree>, ParseError>
+    ensures reads { GivesTall ((spec.text is_packet).run cursor.old.rest.now) result cursor.new.rest.now }
+    ensures tall { IfOk result (λ a. a.height ≡ tree_depth a.tree) }
+    ensures low { IfOk result (λ a. a.height ≤ 400) }
+{
+    if is_packet {
+        packet(alloc, cursor)
+    } else {
+        program(alloc, cursor)
+    }
+}
+
+/// The tree that the tokens spell, as a packet or as a program.
+#[tactic(auto, using(crate::proofs::GrammarLaws::is_read, crate::proofs::GrammarLaws::refused_run, crate::proofs::GrammarLaws::left_empty, crate::proofs::GrammarLaws::left_err, crate::proofs::GrammarLaws::left_ok))]
+pub fn parse(alloc: Global, tokens: &[Token], packet: bool) -> Result<Tree, ParseError>
+    ensures ok { IfOk result (λ t. Reads packet tokens.now t) }
+    ensures deep { IfOk result (λ t. tree_depth t ≤ 400) }
+    ensures refused { (n : ℕ) → result ≡ Err (ParseError.NotElan n) → (t : Tree) → Reads packet tokens.now t → ⊥ }
+    ensures place { (n : ℕ) → result ≡ Err (ParseError.NotElan n) → n ≡ left packet tokens.now }
+{
+    if tokens.is_empty() {
+        return Err(ParseError::NotElan(0));
+    }
+    let mut cursor = Cursor { rest: tokens };
+    let found = text(alloc, &mut cursor, packet)?;
+    if !cursor.rest.is_empty() {
+        return Err(cursor.refuse());
+    }
+    Ok(found.tree)
+}
+
+/// A list of tokens has at most one tree.
+pub fn one_tree()
+    ensures { (packet : Bool) (tokens : List Token) (t u : Tree) → Reads packet tokens t → Reads packet tokens u → t ≡ u }
+{}
