@@ -1,10 +1,12 @@
 -- Runs that come to rest and go on.
-use Rattle.std.proofs.Common.{◌≡◌, ℕ, zero, suc, ◌+◌, ◌≤◌, List, [], ◌∷◌, ◌++◌, Option, Some, None, refl, sym, ap, ◌∙◌, subst, arith, ⊎_elim}
+use Rattle.std.proofs.Common.{◌≡◌, ℕ, zero, suc, ◌+◌, ◌≤◌, List, [], ◌∷◌, ◌++◌, Some, refl, sym, ap, ◌∙◌, subst, arith, append_assoc, ⊎_elim}
 use Rattle.std.proofs.lemmas.Bool.{cases_lt}
+use Rattle.eu_base.specs.declared.request.Request.{Request}
 use Rattle.eu_base.specs.declared.request.Reply.{Reply}
+use Rattle.eu_base.specs.Cells.{Cells}
 use Rattle.code_form.specs.declared.code.Line.{Line}
-use Rattle.code_form.specs.Machine.{Control, Move, Goes, Spends, Awaits, Halts, Stuck, Scene, Rest, step, step_at, Stage, On, Over, Lost, mark_stage, reply_stage, stage, carry_on, exec}
-use Rattle.code_form.specs.Runs.{Rests, wider, Resumes, Replies, IsOne}
+use Rattle.code_form.specs.Machine.{Control, Move, Goes, Spends, Awaits, Halts, Stuck, Scene, Rest, step, step_at, Stage, On, Over, Lost, mark_stage, reply_stage, stage, carry_on, exec, answered}
+use Rattle.code_form.specs.Runs.{Rests, wider, Resumes, Replies, IsOne, Continues}
 
 the_some : {A : Type 0} (a b : A) → Some a ≡ Some b → a ≡ b
 the_some a b e = cc
@@ -70,3 +72,32 @@ resumed lines c s r last marks replies a h = resume lines marks replies last a.0
 
 pub replied : Replies
 replied lines c s q reply last e h = (suc h.0, ap (λ o. carry_on (stage (step_at o lines c s.cells) c (record s { replies = reply ∷ s.replies })) (exec lines h.0)) e ∙ h.1)
+
+module _ (lines : List Line) (first : Control) (cells : Cells) where
+  -- at the first place
+  pub continues_here : (given : ℕ) → Continues lines first cells given [] first cells given
+  continues_here given = record { goes = λ marks more last h. h }
+
+  -- after a run without replies
+  pub continues_run : (given left : ℕ) (replies : List Reply) (c : Control) (now : Cells) (r : Rest) → Continues lines first cells given replies c now left → Rests lines c (record { cells = now; marks = left; replies = [] }) r → r.scene.replies ≡ [] → Continues lines first cells given replies r.control r.scene.cells r.scene.marks
+  continues_run given left replies c now r k h e = record {
+    goes = λ marks more last g. k.goes marks more last (resumed lines c (record { cells = now; marks = left; replies = [] }) r last marks more h (subst (λ rs. Rests lines r.control (record { cells = r.scene.cells; marks = r.scene.marks + marks; replies = rs ++ more }) last) (sym e) g));
+  }
+
+  -- after a reply
+  pub continues_reply : (given left : ℕ) (replies : List Reply) (c : Control) (now : Cells) (q : Request) (reply : Reply) → c.waits ≡ Some q → Continues lines first cells given replies c now left → Continues lines first cells given (replies ++ reply ∷ []) (answered q reply c) now left
+  continues_reply given left replies c now q reply e k = record {
+    goes = λ marks more last g.
+        let same : replies ++ reply ∷ more ≡ (replies ++ reply ∷ []) ++ more = sym (append_assoc replies (reply ∷ []) more) in
+        subst (λ rs. Rests lines first (record { cells = cells; marks = given + marks; replies = rs }) last) same (k.goes marks (reply ∷ more) last (replied lines c (record { cells = now; marks = left + marks; replies = more }) q reply last e g));
+  }
+
+  -- with more marks
+  pub continues_more : (given left n : ℕ) (replies : List Reply) (c : Control) (now : Cells) → Continues lines first cells given replies c now left → Continues lines first cells (given + n) replies c now (left + n)
+  continues_more given left n replies c now k = record {
+    goes = λ marks more last g.
+        let e : left + n + marks ≡ left + (n + marks) = omega arith in
+        let f : given + (n + marks) ≡ given + n + marks = omega arith in
+        subst (λ m. Rests lines first (record { cells = cells; marks = m; replies = replies ++ more }) last) f
+        (k.goes (n + marks) more last (subst (λ m. Rests lines c (record { cells = now; marks = m; replies = more }) last) e g));
+  }

@@ -1,5 +1,5 @@
 -- A step from a state that fits can be made, and leads to one that fits.
-use Rattle.std.proofs.Common.{◌≡◌, ℕ, zero, suc, ◌+◌, List, [], ◌∷◌, length, Option, Some, None, Bool, true, false, cond, refl, sym, ap, ◌∙◌, subst, arith}
+use Rattle.std.proofs.Common.{◌≡◌, ℕ, suc, ◌+◌, List, [], ◌∷◌, length, Option, Some, None, Bool, true, false, cond, refl, sym, ap, subst, arith}
 use Rattle.std.specs.Prelude.{slice_get, Ok, Err, ℤ}
 use Rattle.std.specs.Ordering.{int_eq}
 use Rattle.eu_base.specs.declared.address.Addr.{Addr}
@@ -7,25 +7,21 @@ use Rattle.eu_base.specs.declared.value.Kind.{Kind}
 use Rattle.eu_base.specs.declared.value.Kind.TheVariants as kinds
 use Rattle.eu_base.specs.declared.value.Value.{Value}
 use Rattle.eu_base.specs.declared.value.Value.TheVariants as item
-use Rattle.eu_base.specs.declared.operation.Operation.{Operation}
-use Rattle.eu_base.specs.declared.operation.Operation.TheVariants.{Plus, Negate, Add, Subtract, Multiply, Divide, Modulo, Equal, Unequal, Less, LessEqual, Greater, GreaterEqual, Same, Different, And, Or, Not, Absolute, Minimum, Maximum, Largest}
 use Rattle.eu_base.specs.declared.request.Request.{Request}
-use Rattle.eu_base.specs.Values.{kind_of, number_of, truth_of, cell_of, value_in}
-use Rattle.eu_base.specs.Operations.{Given, operand_kinds, result_kind, result_of, changed, is_past, has_reached, next_number}
-use Rattle.eu_base.specs.Cells.{Cells, run_cell, written}
+use Rattle.eu_base.specs.Values.{kind_of, number_of, truth_of, value_in}
+use Rattle.eu_base.specs.Operations.{Given, operand_kinds, result_kind, result_of, changed, is_past, has_reached}
+use Rattle.eu_base.specs.Cells.{Cells, run_cell}
 use Rattle.code_form.specs.declared.operand.Operand.{Operand}
 use Rattle.code_form.specs.declared.operand.Operand.TheVariants.{Value as Of, Place as At}
 use Rattle.code_form.specs.declared.operand.OperandKind.{OperandKind}
 use Rattle.code_form.specs.declared.operand.OperandKind.TheVariants.{Value as OfKind, Place as AtKind}
-use Rattle.code_form.specs.declared.halt.Halt.TheVariants as halts
-use Rattle.code_form.specs.declared.instr.Call.{Call}
 use Rattle.code_form.specs.declared.instr.Call.TheVariants as calls
 use Rattle.code_form.specs.declared.instr.Instr.{Instr}
 use Rattle.code_form.specs.declared.instr.Instr.TheVariants.{Mark, Number, Truth, Outer, Load, Store, Do, Modify, Jump, False, When, Drop, Limit, Unlimit, Step, Ask, End}
 use Rattle.code_form.specs.declared.code.Line.{Line}
 use Rattle.code_form.specs.Program.{Program, line_of, instr_of}
-use Rattle.code_form.specs.Machine.{Control, Move, Goes, Spends, Awaits, Halts, at, goes, on_value, on_place, on_values, on_limit, on_call, or_halt, number_in, instruction, step, step_at, answered}
-use Rattle.code_form.specs.Valid.{Next, Lands, pushed_kinds, call_kinds, IsFine, IsValid, FitsKind, FitsKinds, Fits}
+use Rattle.code_form.specs.Machine.{Control, Move, goes, on_value, on_place, on_values, on_limit, or_halt, number_in, instruction, step_at}
+use Rattle.code_form.specs.Valid.{Next, pushed_kinds, IsFine, FitsKinds, Fits}
 use Rattle.code_form.specs.Runs.{IsSafe, StaysFit}
 use Rattle.eu_base.proofs.Results.{result_gives, kind_is}
 

@@ -6,10 +6,8 @@ use Rattle.std.proofs.lemmas.Option.{slice_get_within}
 use Rattle.std.proofs.lemmas.Bool.{cases_lt}
 use Rattle.eu_base.specs.declared.address.Addr.{Addr}
 use Rattle.eu_base.specs.declared.value.Value.{Value}
-use Rattle.eu_base.specs.declared.request.Request.{Request}
 use Rattle.eu_base.specs.Values.{number_of, truth_of}
 use Rattle.eu_base.specs.Operations.{Given, operand_kinds, result_of, changed, is_past, has_reached}
-use Rattle.eu_base.specs.Cells.{Cells}
 use Rattle.code_form.specs.declared.operand.Operand.{Operand}
 use Rattle.code_form.specs.declared.operand.Operand.TheVariants.{Value as Of, Place as At}
 use Rattle.code_form.specs.declared.instr.Call.TheVariants as calls
@@ -17,7 +15,7 @@ use Rattle.code_form.specs.declared.instr.Instr.{Instr}
 use Rattle.code_form.specs.declared.instr.Instr.TheVariants.{Mark, Number, Truth, Outer, Load, Store, Do, Modify, Jump, False, When, Drop, Limit, Unlimit, Step, Ask, End}
 use Rattle.code_form.specs.declared.code.Line.{Line}
 use Rattle.code_form.specs.Program.{Program, instr_of}
-use Rattle.code_form.specs.Machine.{Control, Move, Goes, Scene, Stage, On, Over, Lost, Rest, on_value, on_place, on_values, on_limit, or_halt, number_in, instruction, step, step_at, mark_stage, stage, carry_on, exec}
+use Rattle.code_form.specs.Machine.{Control, Move, Scene, Stage, On, Over, Lost, Rest, on_value, on_place, on_values, on_limit, or_halt, number_in, instruction, step, step_at, mark_stage, stage, carry_on, exec}
 use Rattle.code_form.specs.Valid.{is_mark, IsFine, IsValid}
 use Rattle.code_form.specs.Runs.{Rests, ahead, steps_left}
 

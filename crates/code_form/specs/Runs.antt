@@ -1,5 +1,5 @@
 -- Runs of code: how they come to rest, go on, and end.
-use Rattle.std.specs.Prelude.{◌≡◌, ℕ, ◌+◌, ◌-◌, ◌*◌, Bool, cond, List, ◌∷◌, ◌++◌, length, Option, Some, slice_get}
+use Rattle.std.specs.Prelude.{◌≡◌, ℕ, ◌+◌, ◌-◌, ◌*◌, cond, List, ◌∷◌, ◌++◌, length, Some, slice_get}
 use Rattle.eu_base.specs.declared.request.Request.{Request}
 use Rattle.eu_base.specs.declared.request.Reply.{Reply}
 use Rattle.eu_base.specs.Cells.{Cells}
@@ -47,3 +47,7 @@ ahead lines pc = cond (is_mark (instr_of (slice_get lines pc))) 0 (length lines 
 -- a bound on the steps that are left
 abbrev pub steps_left : List Line → ℕ → ℕ → ℕ
 steps_left lines marks pc = marks * (length lines + 1) + ahead lines pc
+
+-- with more marks and replies, the machine goes on from here as it would from the first place with all of them
+pub record Continues (lines : List Line) (first : Control) (cells : Cells) (given : ℕ) (replies : List Reply) (c : Control) (now : Cells) (left : ℕ) : Type 0 where
+  pub goes : (marks : ℕ) (more : List Reply) (last : Rest) → Rests lines c (record { cells = now; marks = left + marks; replies = more }) last → Rests lines first (record { cells = cells; marks = given + marks; replies = replies ++ more }) last

@@ -1,5 +1,5 @@
 //! Code.
-ghost use Rattle.std.specs.Prelude.{◌≡◌, ◌<◌, length, map, slice_get, Some};
+ghost use Rattle.std.specs.Prelude.{◌≡◌, ◌<◌, ◌≤◌, length, map, slice_get, Some};
 ghost use Rattle.code_form.specs.Program.{instr_of};
 ghost use Rattle.code_form.specs.Valid.{IsValid};
 
@@ -48,7 +48,8 @@ impl Code {
 
     /// The kinds of the level's variables.
     pub fn variables(&self) -> &[Kind]
-        ensures { result.now ≡ self.now.variables }
+        ensures kinds { result.now ≡ self.now.variables }
+        ensures few { length result.now ≤ 16384 }
     {
         self.variables.as_slice()
     }

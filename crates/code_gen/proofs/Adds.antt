@@ -1,8 +1,7 @@
 -- What several steps of the making of code add together.
-use Rattle.std.proofs.Common.{◌≡◌, ℕ, suc, ◌+◌, List, [], ◌∷◌, ◌++◌, length, drop, Option, Some, None, refl, sym, ap, ◌∙◌, subst, arith, append_assoc, length-append}
+use Rattle.std.proofs.Common.{◌≡◌, ℕ, ◌+◌, List, [], ◌∷◌, ◌++◌, length, drop, ap, ◌∙◌, arith, append_assoc}
 use Rattle.code_form.specs.declared.operand.OperandKind.{OperandKind}
-use Rattle.code_form.specs.declared.instr.Instr.TheVariants.{Mark, Jump, False}
-use Rattle.code_form.specs.declared.code.Line.{Line}
+use Rattle.code_form.specs.declared.instr.Instr.TheVariants.{Jump, False}
 use Rattle.code_form.specs.Program.{line_of}
 use Rattle.code_gen.specs.declared.draft.Draft.{Draft}
 use Rattle.code_gen.specs.Stretch.{Stretch, one, keeps, join, if_code}

@@ -1,6 +1,6 @@
 -- How the machine follows a run, whatever phrase the run comes from.
-use Rattle.std.proofs.Common.{◌≡◌, ℕ, zero, suc, ◌+◌, ◌<◌, ◌≤◌, List, [], ◌∷◌, ◌++◌, length, Option, Some, None, Bool, true, false, cond, refl, sym, ap, ◌∙◌, subst, arith, append_assoc, length-append}
-use Rattle.std.specs.Prelude.{slice_get, slice_set, not, Result, Ok, Err}
+use Rattle.std.proofs.Common.{◌≡◌, ℕ, zero, suc, ◌+◌, ◌<◌, ◌≤◌, List, [], ◌∷◌, ◌++◌, length, Some, Bool, true, false, cond, refl, sym, ap, ◌∙◌, subst, arith, append_assoc, length-append}
+use Rattle.std.specs.Prelude.{slice_get, Ok, Err}
 use Rattle.std.proofs.Math.Seq.{get_or-append_seam}
 use Rattle.std.proofs.lemmas.Option.{slice_get-get_or}
 use Rattle.eu_base.specs.declared.value.Kind.{Kind}
@@ -13,12 +13,11 @@ use Rattle.eu_base.specs.Operations.{Given}
 use Rattle.eu_base.specs.Cells.{Cells, run_cell, written}
 use Rattle.code_form.specs.declared.operand.Operand.{Operand}
 use Rattle.code_form.specs.declared.operand.OperandKind.{OperandKind}
-use Rattle.code_form.specs.declared.halt.Halt.{Halt}
 use Rattle.code_form.specs.declared.halt.Halt.TheVariants as halts
 use Rattle.code_form.specs.declared.instr.Instr.{Instr}
 use Rattle.code_form.specs.declared.code.Line.{Line}
 use Rattle.code_form.specs.Program.{Program, line_of, instr_of}
-use Rattle.code_form.specs.Machine.{Control, Move, Goes, Spends, Awaits, Halts, at, or_halt, instruction, step, Scene, Rest, answered, Stage, On, Over, mark_stage, reply_stage, stage, carry_on, exec}
+use Rattle.code_form.specs.Machine.{Control, Move, Goes, Spends, Awaits, Halts, at, instruction, step, Scene, Rest, answered, Stage, mark_stage, reply_stage, stage, carry_on, exec}
 use Rattle.elan_types.specs.Eval.{World, Outcome, Gives, Left, Stopped, OutOfMarks, Asks, bind, spend_at, spend, ask_at, ask, branch, or_stop, assign, turns}
 use Rattle.elan_types.specs.Command as endings
 use Rattle.elan_types.specs.Command.{Ending}

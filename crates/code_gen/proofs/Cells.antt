@@ -1,6 +1,6 @@
 -- What the cells hold when a variable is read or written.
-use Rattle.std.proofs.Common.{◌≡◌, ◌≢◌, ℕ, ◌+◌, ◌<◌, ◌^◌, ◌%◌, ◌==◌, nat_eq, List, [], ◌∷◌, length, Option, Some, None, Bool, true, false, cond, ◌&&◌, refl, sym, ap, ◌∙◌, subst, arith, rules, get_or-set_other, get_or-set_same, length-set, ⊎_elim, eqb}
-use Rattle.std.specs.Prelude.{slice_get, slice_set, slice_index_or, ℤ, pos}
+use Rattle.std.proofs.Common.{◌≡◌, ℕ, ◌<◌, ◌%◌, List, length, Some, true, false, cond, refl, sym, ap, ◌∙◌, subst, arith, get_or-set_other, get_or-set_same, length-set, ⊎_elim}
+use Rattle.std.specs.Prelude.{slice_get, slice_set, ℤ}
 use Rattle.std.proofs.lemmas.Option.{slice_get_within}
 use Rattle.std.proofs.lemmas.Int.{ints, to_z-of_z}
 use Rattle.std.proofs.lemmas.Bool.Decides.{eqb_tells}
@@ -10,9 +10,8 @@ use Rattle.eu_base.specs.declared.value.Kind.{Kind}
 use Rattle.eu_base.specs.declared.value.Kind.TheVariants as kinds
 use Rattle.eu_base.specs.declared.value.Value.{Value}
 use Rattle.eu_base.specs.declared.value.Value.TheVariants.{Int, Truth}
-use Rattle.eu_base.specs.declared.address.Addr.{Addr}
-use Rattle.eu_base.specs.Values.{IsOf, cell_of, value_in, bit_of}
-use Rattle.eu_base.specs.Cells.{Cells, run_cell, same_cell, written}
+use Rattle.eu_base.specs.Values.{IsOf, cell_of, value_in}
+use Rattle.eu_base.specs.Cells.{Cells, run_cell, written}
 use Rattle.code_gen.specs.Correct.{value_at, Holds}
 
 bits : (z : ℤ) → FitsSigned w16 z → cast_unsigned w16 z < 65536

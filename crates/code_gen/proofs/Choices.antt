@@ -1,32 +1,30 @@
 -- What choices, units and stores do, whatever their parts are.
-use Rattle.std.proofs.Common.{◌≡◌, ℕ, zero, suc, ◌+◌, ◌≤◌, List, [], ◌∷◌, ◌++◌, length, drop, Option, Some, None, Bool, true, false, cond, ◌||◌, refl, sym, ap, ◌∙◌, subst, arith, length-append}
-use Rattle.std.specs.Prelude.{slice_get, slice_set, Ok, Err, ℤ, pos}
+use Rattle.std.proofs.Common.{◌≡◌, ℕ, suc, ◌+◌, ◌≤◌, List, [], ◌∷◌, ◌++◌, length, drop, Some, Bool, true, false, cond, ◌||◌, refl, ap, ◌∙◌, subst, arith, length-append}
+use Rattle.std.specs.Prelude.{slice_get, Ok, Err, ℤ}
 use Rattle.std.specs.Ordering.{int_eq}
 use Rattle.eu_base.specs.declared.value.Kind.{Kind}
 use Rattle.eu_base.specs.declared.value.Kind.TheVariants as kinds
 use Rattle.eu_base.specs.declared.value.Value.{Value}
-use Rattle.eu_base.specs.declared.value.Value.TheVariants as item
 use Rattle.eu_base.specs.declared.operation.Change.{Change}
-use Rattle.eu_base.specs.Values.{IsOf, number_of, truth_of, cell_of, value_in}
+use Rattle.eu_base.specs.Values.{IsOf, number_of, truth_of, cell_of}
 use Rattle.eu_base.specs.Operations.{Given, changed, put_request, line_request}
 use Rattle.eu_base.specs.Cells.{Cells, run_cell, written}
 use Rattle.code_form.specs.declared.operand.Operand.{Operand}
 use Rattle.code_form.specs.declared.operand.Operand.TheVariants.{Value as Of, Place as At}
 use Rattle.code_form.specs.declared.operand.OperandKind.{OperandKind}
-use Rattle.code_form.specs.declared.operand.OperandKind.TheVariants.{Value as OfKind, Place as AtKind}
-use Rattle.code_form.specs.declared.halt.Halt.TheVariants as halts
+use Rattle.code_form.specs.declared.operand.OperandKind.TheVariants.{Place as AtKind}
 use Rattle.code_form.specs.declared.instr.Instr.TheVariants.{Mark, Outer, Store, Modify, Jump, False, When, Drop, Ask}
 use Rattle.code_form.specs.declared.instr.Call.TheVariants as calls
 use Rattle.code_form.specs.Program.{Program, line_of}
-use Rattle.code_form.specs.Machine.{Control, Goes, at, goes, or_halt, number_in, step}
-use Rattle.elan_types.specs.Eval.{World, Outcome, Gives, bind, spend, ask, branch, or_stop, fetch, assign, modify, Reach, Run, holds, Labelled}
+use Rattle.code_form.specs.Machine.{Control, Goes, at, or_halt, step}
+use Rattle.elan_types.specs.Eval.{World, Outcome, Gives, bind, spend, ask, branch, or_stop, fetch, assign, modify, Reach, Run, holds}
 use Rattle.elan_types.specs.Command.{Ending}
-use Rattle.code_gen.specs.Stretch.{Stretch, none, one, keeps, pushes, join, if_code, whens, arm_code, store_code}
+use Rattle.code_gen.specs.Stretch.{Stretch, one, keeps, pushes, join, if_code, whens, arm_code, store_code}
 use Rattle.code_gen.specs.Correct.{Holds, Comes, scene_of, Ends}
 use Rattle.code_gen.proofs.Cells.{reads}
 use Rattle.eu_base.proofs.Results.{changed_gives}
 use Rattle.code_gen.proofs.Carry.{HasAt, has_front, has_rest, finish, Any, Carries, stop_comes, then_carries, lead_carries, carries_lead, write_ends, branch_carries, spend_carries, ask_carries, none_carries, here, ends_at, join_carries}
-use Rattle.code_gen.proofs.Forms.{keep, no_more, Is, IsValue, IsAction, join_sized, outer_carries}
+use Rattle.code_gen.proofs.Forms.{Is, IsValue, IsAction, join_sized, outer_carries}
 
 module _ (p : Program) where
   pub if_is : {A : Type 0} {Good : A → Type 0} {push : A → List Operand → List Operand} {t : Run Value} {x y : Run A} {f g h : Stretch} → IsValue p kinds.Truth t f → Is p Good push x g → Is p Good push y h → Is p Good push (λ r w. bind (t r w) (λ v. branch (truth_of v) (x r) (y r))) (if_code f g h)

@@ -1,35 +1,26 @@
 -- What each form of phrase does, whatever its parts are.
-use Rattle.std.proofs.Common.{◌≡◌, ℕ, zero, suc, ◌+◌, ◌≤◌, List, [], ◌∷◌, ◌++◌, length, drop, Option, Some, None, Bool, true, false, cond, ◌&&◌, refl, sym, ap, ◌∙◌, subst, arith, map, length-append}
-use Rattle.std.specs.Prelude.{slice_get, slice_set, not, Ok, Err, ℤ, pos}
+use Rattle.std.proofs.Common.{◌≡◌, ℕ, suc, ◌+◌, ◌≤◌, List, [], ◌∷◌, ◌++◌, length, drop, Some, Bool, refl, ap, ◌∙◌, arith, length-append}
+use Rattle.std.specs.Prelude.{slice_get, ℤ}
 use Rattle.eu_base.specs.declared.value.Kind.{Kind}
 use Rattle.eu_base.specs.declared.value.Kind.TheVariants as kinds
 use Rattle.eu_base.specs.declared.value.Value.{Value}
 use Rattle.eu_base.specs.declared.value.Value.TheVariants as item
-use Rattle.eu_base.specs.declared.stop.Stop.{Stop}
 use Rattle.eu_base.specs.declared.operation.Operation.{Operation}
-use Rattle.eu_base.specs.declared.operation.Change.{Change}
-use Rattle.eu_base.specs.declared.request.Request.{Request}
-use Rattle.eu_base.specs.Values.{IsOf, number_of, truth_of, cell_of, value_in}
-use Rattle.eu_base.specs.Operations.{Given, operand_kinds, result_kind, result_of, changed, put_request, line_request}
-use Rattle.eu_base.specs.Cells.{Cells, run_cell, written}
+use Rattle.eu_base.specs.Values.{IsOf}
+use Rattle.eu_base.specs.Operations.{operand_kinds, result_kind, result_of}
+use Rattle.eu_base.specs.Cells.{Cells, run_cell}
 use Rattle.code_form.specs.declared.operand.Operand.{Operand}
 use Rattle.code_form.specs.declared.operand.Operand.TheVariants.{Value as Of, Place as At}
 use Rattle.code_form.specs.declared.operand.OperandKind.{OperandKind}
 use Rattle.code_form.specs.declared.operand.OperandKind.TheVariants.{Value as OfKind, Place as AtKind}
-use Rattle.code_form.specs.declared.halt.Halt.TheVariants as halts
-use Rattle.code_form.specs.declared.instr.Instr.{Instr}
-use Rattle.code_form.specs.declared.instr.Instr.TheVariants.{Mark, Number, Truth, Outer, Load, Store, Do, Modify, Jump, False, When, Drop, Ask}
-use Rattle.code_form.specs.declared.instr.Call.TheVariants as calls
-use Rattle.code_form.specs.Program.{Program, line_of}
-use Rattle.code_form.specs.Machine.{Control, Move, Goes, Halts, at, goes, or_halt, on_values, number_in, step, Rest}
-use Rattle.elan_types.specs.Eval.{World, Outcome, Gives, bind, spend, ask, branch, or_stop, fetch, assign, modify, Reach, Run, all, values}
-use Rattle.elan_types.specs.Command as endings
-use Rattle.elan_types.specs.Command.{Ending}
-use Rattle.code_gen.specs.Stretch.{Stretch, none, one, keeps, pushes, join, all_code, if_code, store_code}
-use Rattle.code_gen.specs.Correct.{Holds, Comes, scene_of, Ends}
+use Rattle.code_form.specs.declared.instr.Instr.TheVariants.{Number, Truth, Outer, Load, Do}
+use Rattle.code_form.specs.Program.{Program}
+use Rattle.code_form.specs.Machine.{Control, Move, Goes, at, goes, or_halt, on_values}
+use Rattle.elan_types.specs.Eval.{World, Outcome, Gives, bind, or_stop, fetch, Reach, Run, all, values}
+use Rattle.code_gen.specs.Stretch.{Stretch, none, one, pushes, join}
 use Rattle.code_gen.proofs.Cells.{reads}
-use Rattle.eu_base.proofs.Results.{result_gives, changed_gives}
-use Rattle.code_gen.proofs.Carry.{HasAt, has_front, has_rest, finish, Any, Carries, Leads, stop_ends, then_carries, lead_carries, carries_lead, none_carries, read_carries, write_ends, branch_carries, spend_carries, ask_carries, or_carries, here, ends_at, join_carries}
+use Rattle.eu_base.proofs.Results.{result_gives}
+use Rattle.code_gen.proofs.Carry.{HasAt, Any, Carries, stop_ends, then_carries, lead_carries, none_carries, read_carries, or_carries, here, ends_at, join_carries}
 
 abbrev pub keep : Value → List Operand → List Operand
 keep v ops = Of v ∷ ops

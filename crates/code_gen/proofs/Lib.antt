@@ -10,3 +10,4 @@ pub mod Whole
 pub mod Select
 pub mod Adds
 pub mod Count
+pub mod Plays

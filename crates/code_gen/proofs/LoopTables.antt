@@ -1,16 +1,15 @@
 -- The tables of choices and loops agree along each step, whatever their parts are.
-use Rattle.std.proofs.Common.{◌≡◌, ℕ, zero, suc, ◌+◌, ◌<◌, ◌≤◌, List, [], ◌∷◌, ◌++◌, length, drop, Option, Some, None, Bool, true, false, refl, sym, ap, ◌∙◌, subst, arith, length-append}
+use Rattle.std.proofs.Common.{◌≡◌, ℕ, suc, ◌+◌, ◌<◌, List, [], ◌∷◌, ◌++◌, length, drop, Option, Some, None, refl, sym, ap, subst, arith, length-append}
 use Rattle.std.specs.Prelude.{slice_get, ℤ, pos}
 use Rattle.eu_base.specs.declared.value.Kind.TheVariants as kinds
 use Rattle.eu_base.specs.declared.operation.Change.TheVariants.{Increase}
 use Rattle.eu_base.specs.declared.operation.Way.{Way}
 use Rattle.code_form.specs.declared.operand.OperandKind.{OperandKind}
 use Rattle.code_form.specs.declared.operand.OperandKind.TheVariants.{Value as OfKind, Place as AtKind}
-use Rattle.code_form.specs.declared.instr.Instr.TheVariants.{Mark, Number, Outer, Modify, Jump, False, When, Drop, Limit, Unlimit, Step}
-use Rattle.code_form.specs.declared.code.Line.{Line}
+use Rattle.code_form.specs.declared.instr.Instr.TheVariants.{Mark, Outer, Modify, Jump, False, When, Drop, Limit, Unlimit, Step}
 use Rattle.code_form.specs.Program.{Program, line_of, instr_of}
 use Rattle.code_form.specs.Valid.{Next, is_mark, Lands, IsFine}
-use Rattle.code_gen.specs.Stretch.{Stretch, none, one, keeps, pushes, join, if_code, whens, arm_code, Exit, stays, exit_join, while_code, until_code, step_code, step_to_code, turn_code, turns_code, limit_code, counted_code}
+use Rattle.code_gen.specs.Stretch.{Stretch, one, keeps, pushes, join, if_code, whens, arm_code, Exit, stays, exit_join, while_code, until_code, step_code, step_to_code, turn_code, turns_code, limit_code, counted_code}
 use Rattle.code_gen.proofs.Carry.{HasAt, has_front, has_rest}
 use Rattle.code_gen.proofs.Tables.{IsSized, Each, each_rest, moved, forth, Table, ValueTable, ActionTable, above, join_table, one_table, number_table, outer_table}
 

@@ -1,6 +1,6 @@
 -- What loops do, whatever their parts are.
-use Rattle.std.proofs.Common.{◌≡◌, ℕ, zero, suc, ◌+◌, ◌≤◌, List, [], ◌∷◌, ◌++◌, length, drop, Option, Some, None, Bool, true, false, cond, refl, sym, ap, ◌∙◌, subst, arith, length-append}
-use Rattle.std.specs.Prelude.{slice_get, slice_set, not, ℤ, pos}
+use Rattle.std.proofs.Common.{◌≡◌, ℕ, suc, ◌+◌, ◌≤◌, List, [], ◌∷◌, length, drop, Option, Some, None, Bool, true, false, cond, refl, ap, ◌∙◌, subst, arith, length-append}
+use Rattle.std.specs.Prelude.{slice_get, not, ℤ, pos}
 use Rattle.std.specs.Int.{w16}
 use Rattle.std.specs.Int.RustNames.{FitsSigned}
 use Rattle.eu_base.specs.declared.value.Kind.TheVariants as kinds
@@ -15,18 +15,17 @@ use Rattle.code_form.specs.declared.operand.Operand.{Operand}
 use Rattle.code_form.specs.declared.operand.Operand.TheVariants.{Value as Of, Place as At}
 use Rattle.code_form.specs.declared.operand.OperandKind.{OperandKind}
 use Rattle.code_form.specs.declared.operand.OperandKind.TheVariants.{Value as OfKind, Place as AtKind}
-use Rattle.code_form.specs.declared.code.Line.{Line}
-use Rattle.code_form.specs.declared.instr.Instr.TheVariants.{Mark, Number, Outer, Modify, Jump, False, Limit, Unlimit, Step}
+use Rattle.code_form.specs.declared.instr.Instr.TheVariants.{Mark, Number, Outer, Jump, False, Limit, Unlimit, Step}
 use Rattle.code_form.specs.Program.{Program, line_of}
-use Rattle.code_form.specs.Machine.{Control, Goes, at, goes, number_in, on_limit, step}
-use Rattle.elan_types.specs.Eval.{World, Outcome, Gives, Left, Stopped, OutOfMarks, Asks, bind, branch, fetch, assign, modify, Reach, Run, turns, while_true, until_true, then_on, done, turn, go_on, step as step_on, step_to, counted}
+use Rattle.code_form.specs.Machine.{Control, Goes, at, on_limit, step}
+use Rattle.elan_types.specs.Eval.{World, Outcome, Gives, Left, Stopped, OutOfMarks, Asks, bind, branch, fetch, assign, Reach, Run, turns, while_true, until_true, then_on, done, turn, go_on, step as step_on, step_to, counted}
 use Rattle.elan_types.specs.Command.{Ending}
-use Rattle.code_gen.specs.Stretch.{Stretch, none, one, keeps, pushes, join, Exit, stays, exit_join, while_code, until_code, store_code, step_code, step_to_code, turn_code, turns_code, limit_code, counted_code}
+use Rattle.code_gen.specs.Stretch.{Stretch, none, one, pushes, join, Exit, stays, exit_join, while_code, until_code, store_code, step_code, step_to_code, turn_code, turns_code, limit_code, counted_code}
 use Rattle.code_gen.specs.Correct.{Holds, Comes, scene_of, Ends}
 use Rattle.code_gen.proofs.Cells.{reads}
 use Rattle.eu_base.proofs.Results.{next_fits, fits_in_range}
 use Rattle.code_gen.proofs.Carry.{HasAt, has_front, has_rest, finish, Any, Carries, on_step, lead_ends, then_carries, lead_carries, carries_lead, write_ends, read_carries, branch_carries, none_carries, turns_carries, here, ends_at, join_carries}
-use Rattle.code_gen.proofs.Forms.{Is, IsValue, IsAction, join_sized, outer_carries, then_is}
+use Rattle.code_gen.proofs.Forms.{IsValue, IsAction, join_sized, outer_carries, then_is}
 use Rattle.code_gen.proofs.Choices.{modify_carries, store_is}
 
 module _ (p : Program) where

@@ -1,5 +1,5 @@
 -- How long the code of a SELECT is.
-use Rattle.std.proofs.Common.{◌≡◌, ◌+◌, List, [], ◌∷◌, length, refl, arith}
+use Rattle.std.proofs.Common.{◌≡◌, ◌+◌, List, [], ◌∷◌, arith}
 use Rattle.elan_types.specs.Eval.{Labelled}
 use Rattle.code_gen.specs.Stretch.{Stretch, select_code, arms_length}
 

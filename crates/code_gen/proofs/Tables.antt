@@ -1,22 +1,20 @@
 -- The tables of each form of phrase agree along each step, whatever its parts are.
-use Rattle.std.proofs.Common.{◌≡◌, ℕ, zero, suc, ◌+◌, ◌<◌, ◌≤◌, List, [], ◌∷◌, ◌++◌, length, drop, Option, Some, None, Bool, true, false, refl, sym, ap, ◌∙◌, subst, arith, length-append}
-use Rattle.std.specs.Prelude.{slice_get, ℤ, pos}
+use Rattle.std.proofs.Common.{◌≡◌, ℕ, suc, ◌+◌, ◌<◌, List, [], ◌∷◌, ◌++◌, length, drop, Some, Bool, refl, sym, ap, ◌∙◌, subst, arith}
+use Rattle.std.specs.Prelude.{slice_get, ℤ}
 use Rattle.eu_base.specs.declared.value.Kind.{Kind}
 use Rattle.eu_base.specs.declared.value.Kind.TheVariants as kinds
 use Rattle.eu_base.specs.declared.operation.Operation.{Operation}
 use Rattle.eu_base.specs.declared.operation.Change.{Change}
-use Rattle.eu_base.specs.declared.operation.Change.TheVariants.{Increase}
-use Rattle.eu_base.specs.declared.operation.Way.{Way}
 use Rattle.eu_base.specs.Operations.{operand_kinds, result_kind}
 use Rattle.code_form.specs.declared.operand.OperandKind.{OperandKind}
 use Rattle.code_form.specs.declared.operand.OperandKind.TheVariants.{Value as OfKind, Place as AtKind}
 use Rattle.code_form.specs.declared.instr.Call.TheVariants as calls
 use Rattle.code_form.specs.declared.instr.Instr.{Instr}
-use Rattle.code_form.specs.declared.instr.Instr.TheVariants.{Mark, Number, Truth, Outer, Load, Store, Do, Modify, Jump, False, When, Drop, Limit, Unlimit, Step, Ask, End}
+use Rattle.code_form.specs.declared.instr.Instr.TheVariants.{Mark, Number, Truth, Outer, Load, Store, Do, Modify, Ask}
 use Rattle.code_form.specs.declared.code.Line.{Line}
-use Rattle.code_form.specs.Program.{Program, line_of, instr_of}
-use Rattle.code_form.specs.Valid.{Next, is_mark, Lands, pushed_kinds, call_kinds, IsFine}
-use Rattle.code_gen.specs.Stretch.{Stretch, none, one, keeps, pushes, join, all_code, if_code, whens, arm_code, select_code, Exit, stays, exit_join, while_code, until_code, step_code, step_to_code, turn_code, turns_code, limit_code, store_code, counted_code}
+use Rattle.code_form.specs.Program.{Program}
+use Rattle.code_form.specs.Valid.{Next, Lands, pushed_kinds, IsFine}
+use Rattle.code_gen.specs.Stretch.{Stretch, none, one, keeps, pushes, join, store_code}
 use Rattle.code_gen.proofs.Carry.{HasAt, has_front, has_rest}
 use Rattle.code_gen.proofs.Forms.{join_sized}
 

@@ -1,5 +1,5 @@
 -- The code of a well typed core does what the core does.
-use Rattle.std.proofs.Common.{◌≡◌, ℕ, zero, suc, ◌+◌, ◌≤◌, List, [], ◌∷◌, map, length, drop, Option, Some, None, Bool, true, false, ◌&&◌, refl, sym, ap, ◌∙◌, subst, arith}
+use Rattle.std.proofs.Common.{◌≡◌, ℕ, List, [], ◌∷◌, map, drop, Option, Some, None, Bool, true, false, ◌&&◌, refl, sym, ap, ◌∙◌, subst}
 use Rattle.std.specs.Prelude.{slice_get, ℤ, pos}
 use Rattle.std.specs.Prelude.{option_map}
 use Rattle.std.proofs.lemmas.Option.{slice_get-map}
@@ -11,7 +11,7 @@ use Rattle.eu_base.specs.declared.value.Value.TheVariants as item
 use Rattle.eu_base.specs.Values.{IsOf, number_of, truth_of}
 use Rattle.std.specs.Int.{w16}
 use Rattle.std.specs.Int.RustNames.{FitsSigned}
-use Rattle.eu_base.specs.Operations.{operand_kinds, result_kind, in_range}
+use Rattle.eu_base.specs.Operations.{operand_kinds, result_kind}
 use Rattle.code_form.specs.declared.operand.Operand.{Operand}
 use Rattle.code_form.specs.declared.operand.OperandKind.{OperandKind}
 use Rattle.code_form.specs.declared.operand.OperandKind.TheVariants.{Value as OfKind}
@@ -29,12 +29,12 @@ use Rattle.elan_types.specs.declared.core_phrase.ValueArm.{ValueArm}
 use Rattle.elan_types.specs.declared.core_phrase.Action.TheOpen as t
 use Rattle.elan_types.specs.declared.core_phrase.Action.TheOpen.{Action-F, ValuePhrase-F, Arm-F, ValueArm-F}
 use Rattle.elan_types.specs.declared.core_phrase.Action.TheFolds.{fold-Arm, fold-ValueArm, ind-Action, map-Action, map-ValuePhrase, map-Arm, map-ValueArm, fold-roll-Action, fold-roll-ValuePhrase, fold-roll-Arm, fold-roll-ValueArm}
-use Rattle.elan_types.specs.Typing.{Typed, same_type, has, agree, only_if, has_if_written, have, all_agree, all_true, type_in, kind_in, place_type, type_of, is_typed, value_type_step, value_arm_type_step, action_typed_step, arm_typed_step}
-use Rattle.elan_types.specs.Eval.{Run, Labelled, Gives, spend, bind, assign, turns, holds, branch, counted, place_of, all, values, selected, while_true, until_true, turn, go_on, step_to, step, act, value, action_step, value_step, arm_step, value_arm_step}
-use Rattle.code_gen.specs.Stretch.{Stretch, Exit, none, one, keeps, pushes, if_code, join, stays, turns_code, store_code, all_code, arm_code, select_code, while_code, until_code, turn_code, counted_code, step_code, step_to_code, action_code, value_code, action_code_step, value_code_step, arm_code_step, value_arm_code_step}
+use Rattle.elan_types.specs.Typing.{Typed, has, agree, only_if, has_if_written, have, all_agree, all_true, type_in, kind_in, place_type, type_of, is_typed, value_type_step, value_arm_type_step, action_typed_step, arm_typed_step}
+use Rattle.elan_types.specs.Eval.{Run, Labelled, Gives, spend, bind, assign, turns, holds, branch, counted, place_of, all, values, selected, while_true, until_true, turn, go_on, act, value, action_step, value_step, arm_step, value_arm_step}
+use Rattle.code_gen.specs.Stretch.{Stretch, Exit, none, one, keeps, pushes, if_code, join, stays, turns_code, store_code, all_code, arm_code, select_code, while_code, until_code, turn_code, counted_code, action_code, value_code, action_code_step, value_code_step, arm_code_step, value_arm_code_step}
 use Rattle.eu_base.proofs.Results.{fits_in_range}
 use Rattle.code_gen.proofs.Carry.{Any}
-use Rattle.code_gen.proofs.Forms.{Is, IsValue, IsAction, AreOf, pushed, keep, no_more, nothing_is, then_is, number_is, truth_is, load_is, no_values_are, more_values_are, apply_is}
+use Rattle.code_gen.proofs.Forms.{Is, AreOf, pushed, keep, no_more, nothing_is, then_is, number_is, truth_is, load_is, no_values_are, more_values_are, apply_is}
 use Rattle.code_gen.proofs.Choices.{if_is, IsChoice, otherwise_is, arm_is, select_is, unit_is, store_is, modify_is, put_is, line_is}
 use Rattle.code_gen.proofs.Tables.{Table, above, none_table, join_table, mark_table, number_table, truth_table, load_table, store_table, modify_table, put_table, line_table, apply_table}
 use Rattle.code_gen.proofs.LoopTables.{if_table, otherwise_table, arm_table, ExitTable, stays_table, while_table, until_table, step_table, AtLeastOne, step_to_table, turn_table, loop_table, counted_none_table, counted_some_table}

@@ -1,13 +1,11 @@
 -- The code of a whole command.
-use Rattle.std.proofs.Common.{◌≡◌, ℕ, zero, suc, ◌+◌, ◌≤◌, List, [], ◌∷◌, ◌++◌, map, length, Option, Some, None, refl, sym, ap, ◌∙◌, subst, arith, length-append}
+use Rattle.std.proofs.Common.{◌≡◌, ℕ, zero, suc, ◌+◌, List, [], ◌∷◌, map, Some, refl, subst, arith}
 use Rattle.std.specs.Prelude.{slice_get}
 use Rattle.std.proofs.lemmas.List.{length-map}
-use Rattle.eu_base.specs.Cells.{Cells}
-use Rattle.code_form.specs.declared.halt.Halt.TheVariants as halts
 use Rattle.code_form.specs.declared.instr.Instr.TheVariants.{End}
 use Rattle.code_form.specs.declared.code.Line.{Line}
 use Rattle.code_form.specs.Program.{Program, line_of}
-use Rattle.code_form.specs.Machine.{Scene, Rest, at, start, exec}
+use Rattle.code_form.specs.Machine.{at, start}
 use Rattle.code_form.specs.Valid.{Next, IsFine, IsValid}
 use Rattle.code_form.proofs.Resume.{one_rest}
 use Rattle.elan_types.specs.declared.core_phrase.Core.{Core}
@@ -15,8 +13,8 @@ use Rattle.elan_types.specs.Typing.{kind_in, IsWellTyped}
 use Rattle.elan_types.specs.Eval.{World, Outcome, Gives, Left, Stopped, OutOfMarks, Asks, all, act}
 use Rattle.elan_types.specs.Command as endings
 use Rattle.elan_types.specs.Command.{Ending, ending, evaluate_from}
-use Rattle.code_gen.specs.Stretch.{Stretch, all_code, action_code, one, keeps, command_code, program_of}
-use Rattle.code_gen.specs.Correct.{Holds, Shows, scene_of, Ends, Behaves}
+use Rattle.code_gen.specs.Stretch.{Stretch, all_code, action_code, program_of}
+use Rattle.code_gen.specs.Correct.{Shows, scene_of, Ends, Behaves}
 use Rattle.code_gen.proofs.Carry.{has_front, has_rest, has_all, finish, end_ends, here}
 use Rattle.code_gen.proofs.Tables.{Each, each_rest}
 use Rattle.code_gen.proofs.Tree.{ActionOk, all_are}

@@ -1,9 +1,8 @@
 -- Code does what a command does.
-use Rattle.std.specs.Prelude.{◌≡◌, ℕ, List, length, Option, Some, None, slice_get, slice_index_or, pos}
+use Rattle.std.specs.Prelude.{◌≡◌, ℕ, List, length, Some, slice_get, slice_index_or, pos}
 use Rattle.eu_base.specs.declared.value.Kind.{Kind}
 use Rattle.eu_base.specs.declared.value.Value.{Value}
 use Rattle.eu_base.specs.declared.value.Value.TheVariants.{Int}
-use Rattle.eu_base.specs.declared.request.Reply.{Reply}
 use Rattle.eu_base.specs.Values.{IsOf, cell_of}
 use Rattle.eu_base.specs.Cells.{Cells, run_cell}
 use Rattle.code_form.specs.declared.halt.Halt.{Halt}

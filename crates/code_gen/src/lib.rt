@@ -5,5 +5,7 @@ mod code;
 mod draft;
 mod emit;
 mod size;
+#[cfg(test)]
+mod tests;
 
 pub use code::generate;

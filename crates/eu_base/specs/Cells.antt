@@ -1,5 +1,7 @@
 -- Memories of cells.
-use Rattle.std.specs.Prelude.{◌≡◌, ℕ, ◌<◌, ◌≤◌, Bool, true, cond, ◌==◌, ◌&&◌, Result, Err}
+use Rattle.std.specs.Prelude.{◌≡◌, ℕ, ◌<◌, ◌≤◌, Bool, true, cond, ◌==◌, ◌&&◌, List, Some, slice_get, Result, Err}
+use Rattle.eu_base.specs.declared.value.Kind.{Kind}
+use Rattle.eu_base.specs.Values.{blank_of, cell_of}
 use Rattle.eu_base.specs.declared.address.Area.{Area}
 use Rattle.eu_base.specs.declared.address.Area.TheVariants.{Run}
 use Rattle.eu_base.specs.declared.address.Addr.{Addr}
@@ -29,6 +31,10 @@ same_cell a b = same_area a.area b.area && a.cell == b.cell
 -- the cells after a number was written to one
 abbrev pub written : Cells → Addr → ℕ → Cells
 written cells at number = λ a. cond (same_cell a at) number (cells a)
+
+-- the variables of these kinds hold what they hold before anything was stored
+abbrev pub IsBlank : List Kind → Cells → Type 0
+IsBlank kinds cells = (x : ℕ) (k : Kind) → slice_get kinds x ≡ Some k → cells (run_cell x) ≡ cell_of (blank_of k)
 
 -- no cell changed
 abbrev pub IsSame : Cells → Cells → Type 0

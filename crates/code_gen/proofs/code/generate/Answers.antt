@@ -1,4 +1,4 @@
-use Rattle.std.proofs.Common.{◌≡◌, rules, sym, ◌∙◌, subst}
+use Rattle.std.proofs.Common.{◌≡◌, rules, sym, subst}
 use Rattle.code_form.specs.Program.{Program}
 use Rattle.code_form.specs.Valid.{IsValid}
 use Rattle.code_gen.specs.Stretch.{program_of}

@@ -1,4 +1,4 @@
-use Rattle.std.proofs.Common.{rules, ◌≡◌, ◌+◌, List, [], ◌∷◌, map, drop, length, subst, ap, sym, ◌∙◌, refl, arith}
+use Rattle.std.proofs.Common.{rules, ◌≡◌, ◌+◌, [], ◌∷◌, map, drop, length, subst, ap, sym, ◌∙◌, refl, arith}
 use Rattle.std.specs.Prelude.{OnOk, option_map}
 use Rattle.std.proofs.lemmas.List.{drop_all}
 use Rattle.elan_types.specs.declared.core_phrase.Action.{roll-Action}

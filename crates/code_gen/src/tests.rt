@@ -1,0 +1,43 @@
+//! The code of a small command.
+ghost use Rattle.std.specs.Prelude.{◌≡◌, ◌∷◌, [], IfOk};
+
+use crate::generate;
+use code_form::listing;
+use elan_types::{Action, Core, ValuePhrase};
+use eu_base::{List, NoMemory};
+use std::alloc::Global;
+use std::test::Fail;
+
+fn one(alloc: Global, action: Action) -> Result<List<Action>, NoMemory>
+    ensures { IfOk result (λ list. list ≡ action ∷ []) }
+{
+    let mut list = List::new(alloc);
+    list.push(action)?;
+    Ok(list)
+}
+
+#[test]
+fn an_endless_loop_is_listed(rt: HostRuntime) -> Result<(), Fail> {
+    let alloc = rt.alloc();
+    let put = one(alloc, Action::Put(ValuePhrase::Number(1)))?;
+    let units = one(alloc, Action::Unit(put))?;
+    let turns = one(
+        alloc,
+        Action::Loop {
+            condition: None,
+            units,
+            until: None,
+        },
+    )?;
+    let core = Core {
+        variables: List::new(alloc),
+        units: one(alloc, Action::Unit(turns))?,
+    };
+    let code = generate(alloc, &core)?;
+    let text = listing(alloc, &code)?;
+    assert_eq!(rt;
+        text.as_slice(),
+        b"0 MARK\n1 MARK\n2 MARK\n3 INT 1\n4 ASK put(INT)\n5 JUMP 1\n6 END\n".as_slice()
+    );
+    Ok(())
+}

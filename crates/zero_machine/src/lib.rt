@@ -1,0 +1,19 @@
+//! The machine: it runs code over a memory of cells, and can be stopped and resumed at each mark.
+#![tactic(auto)]
+
+mod ask;
+mod cells;
+mod execute;
+mod machine;
+mod operate;
+mod operations;
+mod plain;
+mod state;
+mod step;
+#[cfg(test)]
+mod tests;
+
+pub use code_form::Halt;
+pub use machine::{laws, reply, run, start};
+pub use plain::PlainMemory;
+pub use state::State;
