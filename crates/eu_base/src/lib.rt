@@ -1,5 +1,5 @@
 //! Values that every layer shares: want of memory, byte lists, lists, boxes, numbers as text; what a program
-//! computes with, why it stops, what it asks for, and the memory that it runs over.
+//! computes with, why it stops, what it asks for, and the memory and the data spaces that it runs over.
 #![tactic(auto)]
 
 mod address;
@@ -11,6 +11,8 @@ mod memory;
 mod number;
 mod operation;
 mod request;
+mod shape;
+mod space;
 mod stop;
 mod value;
 
@@ -23,6 +25,8 @@ pub use memory::NoMemory;
 pub use number::decimal;
 pub use operation::{Change, Operation, Way};
 pub use request::{Reply, Request};
+pub use shape::Shape;
+pub use space::{SPACE_BYTES, Space};
 pub use stop::Stop;
 pub use value::{Kind, Value};
 

@@ -1,4 +1,6 @@
-use crate::{LexError, tokens};
+//! The tokens of texts.
+
+use elan_lexer::{LexError, tokens};
 use elan_tree::{Token, Word};
 use eu_base::{Bytes, List};
 use std::alloc::{AllocError, Global};
