@@ -1,8 +1,8 @@
 //! Which texts have trees.
 
+use crate::shown::unit;
 use elan_lexer::tokens;
 use elan_parser::{ParseError, parse};
-use crate::shown::unit;
 use elan_tree::{LevelUnit, Tree};
 use std::alloc::{AllocError, Global};
 use std::test::Fail;

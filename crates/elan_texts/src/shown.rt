@@ -19,21 +19,16 @@ fn operator(out: &mut String, operator: &Operator) -> Result<(), AllocError> {
     }
 }
 
+// The front and the end of an application. Each takes one operand alone, so that a measure is found.
 #[cycle(shown)]
-fn applied(out: &mut String, left: &Expr, by: &str, right: &Expr) -> Result<(), AllocError> {
+fn opened(out: &mut String, left: &Expr) -> Result<(), AllocError> {
     out.push('{')?;
     expr(out, left)?;
-    write!(out, " {by} ")?;
-    expr(out, right)?;
-    out.push('}')
+    out.push(' ')
 }
 
 #[cycle(shown)]
-fn dyadic(out: &mut String, left: &Expr, by: &Operator, right: &Expr) -> Result<(), AllocError> {
-    out.push('{')?;
-    expr(out, left)?;
-    out.push(' ')?;
-    operator(out, by)?;
+fn closed(out: &mut String, right: &Expr) -> Result<(), AllocError> {
     out.push(' ')?;
     expr(out, right)?;
     out.push('}')
@@ -83,7 +78,11 @@ fn expr(out: &mut String, e: &Expr) -> Result<(), AllocError> {
             }
             out.push_str("FI")
         }
-        Expr::Index { of, index, .. } => applied(out, of.get(), "at", index.get()),
+        Expr::Index { of, index, .. } => {
+            opened(out, of.get())?;
+            out.push_str("at")?;
+            closed(out, index.get())
+        }
         Expr::Field { of, field, .. } => {
             out.push('{')?;
             expr(out, of.get())?;
@@ -107,9 +106,21 @@ fn expr(out: &mut String, e: &Expr) -> Result<(), AllocError> {
             left,
             right,
             ..
-        } => dyadic(out, left.get(), by, right.get()),
-        Expr::Cand { left, right, .. } => applied(out, left.get(), "CAND", right.get()),
-        Expr::Cor { left, right, .. } => applied(out, left.get(), "COR", right.get()),
+        } => {
+            opened(out, left.get())?;
+            operator(out, by)?;
+            closed(out, right.get())
+        }
+        Expr::Cand { left, right, .. } => {
+            opened(out, left.get())?;
+            out.push_str("CAND")?;
+            closed(out, right.get())
+        }
+        Expr::Cor { left, right, .. } => {
+            opened(out, left.get())?;
+            out.push_str("COR")?;
+            closed(out, right.get())
+        }
         Expr::Procedure(..) | Expr::Concr(..) | Expr::Select { .. } => out.push('?'),
     }
 }
@@ -119,7 +130,11 @@ pub fn unit(out: &mut String, unit: &Unit) -> Result<(), AllocError> {
     match unit {
         Unit::Empty => Ok(()),
         Unit::Value(value) => expr(out, value),
-        Unit::Becomes { left, right, .. } => applied(out, left, ":=", right),
+        Unit::Becomes { left, right, .. } => {
+            opened(out, left)?;
+            out.push_str(":=")?;
+            closed(out, right)
+        }
         _ => out.push('?'),
     }
 }
