@@ -1,0 +1,15 @@
+mod Counting
+mod Few
+mod Frees
+mod Grows
+mod Lets
+pub mod Merely
+pub mod Nodal
+mod Nodes
+pub mod Order
+mod Owned
+pub mod Replaced
+mod Spelled
+mod Tables
+pub mod Writes
+mod Views
