@@ -1,0 +1,67 @@
+//! A command that runs.
+ghost use Rattle.std.specs.Prelude.{◌≡◌, IfOk, OnOk, IfSome, IsSome};
+ghost use Rattle.eu_base.specs.Cells.{HasFaultCause, IsBlank};
+ghost use Rattle.code_form.specs.Machine.{start, rest_at, answered};
+ghost use Rattle.code_form.specs.Valid.{Fits};
+ghost use Rattle.code_form.specs.Runs.{Rests};
+ghost use Rattle.zero_machine.specs.Running.{scene_of};
+
+use code_form::{Code, Halt};
+use eu_base::{MemFault, Memory, Reply};
+use std::alloc::Global;
+use std::marker::Model;
+use zero_machine::State;
+
+/// Where a command stands, which contracts see as the place of the machine.
+#[derive(Drop)]
+pub struct TaskRun {
+    state: State,
+}
+
+impl Model for TaskRun {
+    ghost use Rattle.code_form.specs.Machine.{Control};
+    ghost use Rattle.zero_machine.specs.Running.{control_of};
+
+    ghost Value = { Control };
+
+    ghost view = { λ command. control_of command.state };
+}
+
+impl TaskRun {
+    /// Starts a command: its variables are made, and nothing is pending.
+    pub fn start<M: Memory>(alloc: Global, c: &Code, m: &mut M) -> Result<TaskRun, MemFault>
+        ensures control { IfOk result (λ command. command ≡ start) }
+        ensures fits { IfOk result (λ command. Fits c.now command) }
+        ensures blank { OnOk result (IsBlank c.now.variables (M.cells m.new)) }
+        ensures cause { HasFaultCause (M.faults m.old) (M.faults m.new) result }
+        ensures follows { M.follows m.old m.new }
+    {
+        let state = zero_machine::start(alloc, c, m)?;
+        Ok(TaskRun { state })
+    }
+
+    /// Goes on until a mark is due and none is left, something is asked, or the command ends or stops.
+    pub fn go<M: Memory>(&mut self, c: &Code, m: &mut M, marks: &mut u32) -> Result<Halt, MemFault>
+        requires { Fits c.now self.old }
+        ensures rests { IfOk result (λ halt. Rests c.now.lines self.old (scene_of (M.cells m.old) marks.old)
+            (rest_at halt self.new (scene_of (M.cells m.new) marks.new))) }
+        ensures fits { OnOk result (Fits c.now self.new) }
+        ensures cause { HasFaultCause (M.faults m.old) (M.faults m.new) result }
+        ensures follows { M.follows m.old m.new }
+    {
+        zero_machine::run(c, &mut self.state, m, marks)
+    }
+
+    /// Answers the request that the command waits for.
+    pub fn answer<M: Memory>(&mut self, c: &Code, m: &mut M, r: Reply) -> Result<(), MemFault>
+        requires fits { Fits c.now self.old }
+        requires asks { IsSome self.old.waits }
+        ensures answered { OnOk result (IfSome self.old.waits (λ request. self.new ≡ answered request r self.old)) }
+        ensures fits { OnOk result (Fits c.now self.new) }
+        ensures kept { M.cells m.new ≡ M.cells m.old }
+        ensures cause { HasFaultCause (M.faults m.old) (M.faults m.new) result }
+        ensures follows { M.follows m.old m.new }
+    {
+        zero_machine::reply(c, &mut self.state, m, r)
+    }
+}
