@@ -11,6 +11,3 @@ mod tables;
 
 pub use error::LexError;
 pub use lexer::{longest_match, tokens};
-
-#[cfg(test)]
-mod tests;

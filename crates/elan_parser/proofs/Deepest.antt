@@ -1,5 +1,5 @@
 -- How deep lists are.
-use Rattle.std.proofs.Common.{◌≡◌, ℕ, max, List, [], ◌∷◌, ◌++◌, map, refl, arith}
+use Rattle.std.proofs.Common.{◌≡◌, ℕ, max, List, [], ◌∷◌, ◌++◌, map, arith}
 use Rattle.elan_parser.specs.Depth.{deepest}
 
 pub deepest_one : {A : Type 0} (d : A → ℕ) (x : A) → deepest (map d (x ∷ [])) ≡ d x

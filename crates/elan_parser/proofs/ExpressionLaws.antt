@@ -1,24 +1,24 @@
 -- What holds of the productions of expressions.
-use Rattle.std.proofs.Common.{◌≡◌, ℕ, zero, suc, ◌+◌, ◌<◌, ◌≤◌, Bool, true, false, List, [], ◌∷◌, Option, Some, None, refl, sym, ap, subst, ◌∙◌, arith}
+use Rattle.std.proofs.Common.{◌≡◌, ℕ, zero, suc, ◌<◌, ◌≤◌, true, false, List, ◌∷◌, refl, sym, subst, ◌∙◌, arith}
 use Rattle.std.specs.Prelude.{◌||◌, nat_lt, ◌==◌}
-use Rattle.std.proofs.lemmas.Bool.{eqb-true, ltb-true, lt-ltb, ltb-false}
+use Rattle.std.proofs.lemmas.Bool.{eqb-true, ltb-true, lt-ltb}
 use Rattle.std.proofs.lemmas.Bool.Decides.{nat_tests}
 use Rattle.elan_tree.specs.declared.token.Key.TheVariants as key
 use Rattle.elan_tree.specs.declared.token.Sign.TheVariants as sign
 use Rattle.elan_tree.specs.declared.written_type.Name.{Name}
 use Rattle.elan_tree.specs.declared.phrase.Expr.{Expr}
-use Rattle.elan_parser.specs.declared.kind.Kind.{Kind}
 use Rattle.elan_parser.specs.declared.kind.Kind.TheVariants as k
-use Rattle.elan_parser.specs.Kinds.{ahead, kind, second, kind_of, is_key, is_sign, is_ident, is_number, is_bold, is_comma, is_point, is_literal, is_monadic, is_level, lengthens, begins, loose}
-use Rattle.elan_parser.specs.Rule.{Tokens, Rule, pure, nothing, ◌>>=◌, ◌>>◌, terminal, only, choose, iterate, optional, further, listed}
+use Rattle.elan_parser.specs.Kinds.{ahead, kind, kind_of, is_key, is_sign, is_ident, is_comma, is_point, is_literal, is_monadic, is_level, lengthens, begins, loose}
+use Rattle.elan_parser.specs.Rule.{Tokens, nothing, further}
+use Rattle.elan_parser.specs.Depth.{expr_depth}
 use Rattle.elan_parser.specs.Expressions as g
 use Rattle.elan_parser.specs.Expressions.{Language}
-use Rattle.elan_parser.proofs.Laws.{Set, Within, Apart, Laws, pure_law, bind_law, only_law, choose_law}
+use Rattle.elan_parser.proofs.Laws.{Set, Laws, pure_law, bind_law, only_law, choose_law}
 use Rattle.elan_parser.proofs.Repeats.{iterate_law}
 use Rattle.elan_parser.proofs.Every.{within, apart}
-use Rattle.elan_parser.proofs.Seen.{is_colon, ident_ahead, colon_ahead, ahead-point, selecting}
+use Rattle.elan_parser.proofs.Seen.{is_colon, colon_ahead, ahead-point, selecting}
 use Rattle.elan_parser.proofs.Tokens.{given, keyword_law, mark_law, point_law, comma_law, ident_law, ident_shows, literal_law, monadic_law, applies, joint_law}
-use Rattle.elan_parser.proofs.Forms.{bind_same, wider, narrower, Eats, eats_terminal, eats_only, eats_pure, eats_then, eats_choose, eats_refirst, optional_law, listed_law, listed_by}
+use Rattle.elan_parser.proofs.Forms.{bind_same, narrower, Eats, eats_terminal, eats_only, eats_pure, eats_then, eats_choose, eats_refirst, optional_law, listed_law, listed_by}
 use Rattle.elan_parser.proofs.TypeLaws.{labels_law, begins_label}
 use Rattle.elan_parser.proofs.Follows.{ends_level, after_head, after_name, ends_units, begins_unit}
 
@@ -219,31 +219,36 @@ module _ (inner : Language) (n : ℕ) (laws : LanguageLaws inner) where
       (λ x h. h) (apart head2 (is_sign sign.LeftRound) refl) (within (is_sign sign.LeftRound) head1 refl) (within head2 head1 refl))
       (λ x h. h) (apart head1 is_literal refl) (within is_literal head0 refl) (within head1 head0 refl)
 
-  index_law : (a : Expr) (stop : Set) → Eats (g.index inner n a) (is_sign sign.LeftSquare) stop
-  unfolding g.index
-  index_law a stop =
+  index_part_law : (depth : ℕ) (stop : Set) → Eats (g.index_part inner n depth) (is_sign sign.LeftSquare) stop
+  unfolding g.index_part
+  index_part_law depth stop =
       eats_only _ _ _ _ (
       eats_terminal _ _ _ _ _ (mark_law sign.LeftSquare begins refl) (λ _.
       bind_law _ _ _ _ (is_sign sign.RightSquare) stop e1_law (λ b.
       bind_same _ _ _ _ _ (mark_law sign.RightSquare stop refl) (λ _.
       pure_law _ stop)) (within (is_sign sign.RightSquare) (ends_level 6) refl)))
 
+  index_law : (a : Expr) (stop : Set) → Eats (g.index inner n a) (is_sign sign.LeftSquare) stop
+  unfolding g.index
+  index_law a stop = eats_then _ _ _ _ _ (index_part_law (expr_depth a) stop) (λ b. pure_law _ stop)
+
   -- A point and an identifier select where no colon follows.
-  field_of_law : (a : Expr) → Eats (g.field_of inner n a) is_selecting after_head
-  unfolding g.field_of
-  field_of_law a =
+  field_part_law : (depth : ℕ) → Eats (g.field_part inner n depth) is_selecting after_head
+  unfolding g.field_part
+  field_part_law depth =
       eats_only _ _ _ _ (
       eats_refirst _ is_point is_selecting after_head
-      (eats_terminal _ _ _ _ _ (point_law is_ident) (λ _.
-      bind_same _ _ _ _ _ (ident_law after_head) (λ x.
-      pure_law _ after_head)))
+      (eats_terminal _ _ _ _ _ (point_law is_ident) (λ _. ident_law after_head))
       (λ xs ys b h s.
       let f = h.3 in
       let p : is_sign sign.Point (kind_of h.2.0.what) ≡ true = given (is_sign sign.Point (kind_of h.2.0.what)) h.2.0.at h.0 h.2.2 in
-      let i : is_ident (kind_of f.2.0.what) ≡ true = ident_shows f.2.0.at f.2.0.what f.0 f.2.2 in
+      let i : is_ident (kind_of f.0.what) ≡ true = ident_shows f.0.at f.0.what b f.2 in
       let c : is_colon (kind ys) ≡ false = sym (colon_ahead ys) ∙ apart after_head is_colon refl (ahead ys) s in
-      let d : is_colon (kind f.1) ≡ false = subst (λ (z : Tokens). is_colon (kind z) ≡ false) (sym f.3.1) c in
-      rw (h.2.1, f.2.1, ahead-point h.2.0 (f.2.0 ∷ f.1) p, selecting (kind_of f.2.0.what) (kind f.1) i d) refl))
+      rw (h.2.1, f.1, ahead-point h.2.0 (f.0 ∷ ys) p, selecting (kind_of f.0.what) (kind ys) i c) refl))
+
+  field_of_law : (a : Expr) → Eats (g.field_of inner n a) is_selecting after_head
+  unfolding g.field_of
+  field_of_law a = eats_then _ _ _ _ _ (field_part_law (expr_depth a)) (λ x. pure_law _ after_head)
 
   longer_law : (a : Expr) → Eats (g.longer inner n a) lengthens after_head
   unfolding g.longer
@@ -273,13 +278,17 @@ module _ (inner : Language) (n : ℕ) (laws : LanguageLaws inner) where
       choose_law is_monadic _ _ applies head0 begins (ends_level 0) applied_law prim_law
       (within applies is_monadic refl) (apart head0 is_monadic refl) (within applies begins refl) (within head0 begins refl)
 
-  dyadic_law : (i : ℕ) → i < 6 → (a : Expr) → Eats (g.dyadic inner n i a) (is_level (suc i)) (ends_level i)
-  unfolding g.dyadic
-  dyadic_law i lt a =
+  right_part_law : (i : ℕ) → i < 6 → (depth : ℕ) → Eats (g.right_part inner n i depth) (is_level (suc i)) (ends_level i)
+  unfolding g.right_part
+  right_part_law i lt depth =
       eats_only _ _ _ _ (
       eats_terminal _ _ _ _ _ (joint_law (suc i) begins (omega arith)) (λ o.
       bind_same _ _ _ _ _ (laws.levels i (omega arith)) (λ b.
       pure_law _ (ends_level i))))
+
+  dyadic_law : (i : ℕ) → i < 6 → (a : Expr) → Eats (g.dyadic inner n i a) (is_level (suc i)) (ends_level i)
+  unfolding g.dyadic
+  dyadic_law i lt a = eats_then _ _ _ _ _ (right_part_law i lt (expr_depth a)) (λ r. pure_law _ (ends_level i))
 
   pub level_law : (i : ℕ) → i ≤ 6 → Laws (g.level inner n i) begins (ends_level i)
   unfolding g.level

@@ -1,11 +1,10 @@
 -- What may begin and what may follow phrases.
-use Rattle.std.proofs.Common.{◌≡◌, ℕ, Bool, true, false}
+use Rattle.std.proofs.Common.{ℕ, true, false}
 use Rattle.std.specs.Prelude.{◌||◌, nat_lt}
 use Rattle.elan_tree.specs.declared.token.Key.TheVariants as key
 use Rattle.elan_tree.specs.declared.token.Sign.TheVariants as sign
-use Rattle.elan_parser.specs.declared.kind.Kind.{Kind}
 use Rattle.elan_parser.specs.declared.kind.Kind.TheVariants as k
-use Rattle.elan_parser.specs.Kinds.{is_key, is_sign, is_ident, is_comma, is_literal, is_rep, begins, begins_typed, lengthens, loose}
+use Rattle.elan_parser.specs.Kinds.{is_key, is_sign, is_rep, begins, begins_typed, lengthens, loose}
 use Rattle.elan_parser.proofs.Laws.{Set}
 
 abbrev pub ends_level : ℕ → Set

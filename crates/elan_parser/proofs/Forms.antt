@@ -1,10 +1,10 @@
 -- What holds of the forms that productions are made of.
-use Rattle.std.proofs.Common.{◌≡◌, ℕ, ◌<◌, ◌≤◌, Bool, true, false, List, [], ◌∷◌, ◌++◌, length, Option, Some, None, inl, inr, refl, ap, arith}
+use Rattle.std.proofs.Common.{◌≡◌, ◌<◌, Bool, true, false, List, length, Option, inl, inr, ap, arith}
 use Rattle.elan_tree.specs.declared.token.Token.{Token}
 use Rattle.elan_parser.specs.declared.kind.Kind.{Kind}
 use Rattle.elan_parser.specs.declared.kind.Kind.TheVariants as k
 use Rattle.elan_parser.specs.Kinds.{ahead}
-use Rattle.elan_parser.specs.Rule.{Tokens, Rule, pure, ◌>>=◌, ◌>>◌, terminal, only, choose, iterate, optional, further, listed}
+use Rattle.elan_parser.specs.Rule.{Tokens, Rule, pure, ◌>>=◌, terminal, only, choose, optional, further, listed}
 use Rattle.elan_parser.proofs.Laws.{Set, Within, Apart, Laws, keeps, pure_law, bind_law, terminal_eats, only_law, choose_law}
 use Rattle.elan_parser.proofs.Repeats.{iterate_law}
 

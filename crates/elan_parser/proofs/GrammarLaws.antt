@@ -1,5 +1,5 @@
 -- What holds of whole texts.
-use Rattle.std.proofs.Common.{◌≡◌, ◌≢◌, ℕ, zero, suc, ◌<◌, ◌≤◌, ◌⊎◌, inl, inr, Bool, true, false, not, cond, List, [], ◌∷◌, length, Option, Some, None, Result, Ok, Err, refl, sym, ap, subst, ◌∙◌, arith}
+use Rattle.std.proofs.Common.{◌≡◌, ◌≢◌, ℕ, ◌≤◌, inl, inr, Bool, true, false, cond, List, [], ◌∷◌, length, Option, Some, None, Ok, Err, refl, sym, ap, subst, ◌∙◌, arith}
 use Rattle.std.specs.Prelude.{◌||◌}
 use Rattle.std.proofs.lemmas.List.{length-append}
 use Rattle.elan_tree.specs.declared.token.Token.{Token}
@@ -15,19 +15,18 @@ use Rattle.elan_tree.specs.declared.tree.Refinement.{Refinement}
 use Rattle.elan_tree.specs.declared.tree.Tree.{Tree}
 use Rattle.elan_parser.specs.declared.error.ParseError.{ParseError}
 use Rattle.elan_parser.specs.declared.error.ParseError.TheVariants.{NoMemory, NotElan}
-use Rattle.elan_parser.specs.declared.kind.Kind.{Kind}
 use Rattle.elan_parser.specs.declared.kind.Kind.TheVariants as k
 use Rattle.elan_parser.specs.Kinds.{kind, second, kind_of, point_by, ahead, is_key, is_sign, is_ident, is_bold, is_comma, goes_on, is_point, leads, is_operator, begins_typed}
-use Rattle.elan_parser.specs.Rule.{Tokens, Outcome, Rule, pure, ◌>>=◌, ◌>>◌, terminal, only, choose, iterate, optional, further, listed}
+use Rattle.elan_parser.specs.Rule.{Tokens, Outcome, further}
 use Rattle.elan_parser.specs.Terminals.{mark}
 use Rattle.elan_parser.specs.Units.{phrases}
 use Rattle.elan_parser.specs.Grammar as g
 use Rattle.elan_parser.specs.Place.{left, left_by}
-use Rattle.elan_parser.proofs.Laws.{Set, Within, Apart, Laws, Stuck, keeps, same, done, failed, left_is, same_value, pure_law, bind_law, only_law, choose_law}
+use Rattle.elan_parser.proofs.Laws.{Set, Within, Apart, Laws, keeps, done, failed, left_is, same_value, pure_law, bind_law, only_law, choose_law}
 use Rattle.elan_parser.proofs.Every.{within, apart}
 use Rattle.elan_parser.proofs.Seen.{is_colon, is_refines, declares, ident_ahead, ahead-point, refining, alone}
 use Rattle.elan_parser.proofs.Tokens.{given, keyword_law, mark_law, point_law, leading_law, alone_law, comma_law, going_law, parting_law, ident_law, ident_shows, bold_law, same_law, access_law, is_access, operator_law, same_operator_law, export_law, is_export}
-use Rattle.elan_parser.proofs.Forms.{bind_same, wider, narrower, refirst, Eats, eats_terminal, eats_refirst, optional_law, listed_law, listed_by}
+use Rattle.elan_parser.proofs.Forms.{bind_same, refirst, Eats, eats_terminal, eats_refirst, optional_law, listed_law, listed_by}
 use Rattle.elan_parser.proofs.TypeLaws.{type_law, typed_law, any_type, formals_law}
 use Rattle.elan_parser.proofs.Follows.{ends_units, ends_unit, begins_plain, begins_unit}
 use Rattle.elan_parser.proofs.UnitLaws.{declared_law, plain_law, phrases_law, begins_declared}
@@ -173,9 +172,9 @@ unfolding g.optional_formals
 optional_formals_law = choose_law (is_sign sign.LeftRound) _ _ (is_sign sign.LeftRound) is_colon after_proc_name is_colon (formal_list_law is_colon) (pure_law _ is_colon)
     (λ y h. h) (apart is_colon (is_sign sign.LeftRound) refl) (within (is_sign sign.LeftRound) after_proc_name refl) (within is_colon after_proc_name refl)
 
-proc_law : (t : Option TypePhrase) → Laws (g.proc t) (is_key key.Proc) after_level_unit
-unfolding g.proc
-proc_law t =
+proc_parts_law : Laws g.proc_parts (is_key key.Proc) after_level_unit
+unfolding g.proc_parts
+proc_parts_law =
     bind_same _ _ _ _ _ (keyword_law key.Proc is_ident) (λ at.
     bind_same _ _ _ _ _ (ident_law after_proc_name) (λ x.
     bind_same _ _ _ _ _ optional_formals_law (λ fs.
@@ -186,12 +185,24 @@ proc_law t =
     bind_same _ _ _ _ _ (end_name_law x after_level_unit after_end_proc (apart after_level_unit is_ident refl) (within is_ident after_end_proc refl) (within after_level_unit after_end_proc refl)) (λ _.
     pure_law _ after_level_unit)))) (within (is_key key.End) ends_text refl)))))
 
+proc_law : (t : Option TypePhrase) → Laws (g.proc t) (is_key key.Proc) after_level_unit
+unfolding g.proc
+proc_law t = bind_same _ _ _ _ _ proc_parts_law (λ p. pure_law _ after_level_unit)
+
 abbrev is_right : Set
 is_right x = is_sign sign.RightRound x
 
-same_typed_law : (t : TypePhrase) (a : Access) (x : Name) → Laws (g.same_typed t a x) goes_on is_right
+operand_law : (stop : Set) → Laws g.operand any_type stop
+unfolding g.operand
+operand_law stop =
+    bind_same _ _ _ _ _ (type_law 399 is_access) (λ t.
+    bind_same _ _ _ _ _ (access_law is_ident) (λ a.
+    bind_same _ _ _ _ _ (ident_law stop) (λ x.
+    pure_law _ stop)))
+
+same_typed_law : (f : Formal) → Laws (g.same_typed f) goes_on is_right
 unfolding g.same_typed
-same_typed_law t a x =
+same_typed_law f =
     bind_same _ _ _ _ _ going_law (λ _.
     bind_same _ _ _ _ _ (ident_law is_right) (λ y.
     pure_law _ is_right))
@@ -200,10 +211,8 @@ other_typed_law : (f : Formal) → Laws (g.other_typed f) (is_sign sign.Comma) i
 unfolding g.other_typed
 other_typed_law f =
     bind_same _ _ _ _ _ (parting_law any_type (apart any_type is_ident refl)) (λ _.
-    bind_same _ _ _ _ _ (type_law 399 is_access) (λ t.
-    bind_same _ _ _ _ _ (access_law is_ident) (λ a.
-    bind_same _ _ _ _ _ (ident_law is_right) (λ x.
-    pure_law _ is_right))))
+    bind_same _ _ _ _ _ (operand_law is_right) (λ g.
+    pure_law _ is_right))
 
 one_operand_law : (o : Operator) (f : Formal) → Laws (g.one_operand o f) is_right is_right
 unfolding g.one_operand
@@ -220,17 +229,15 @@ after_operand x = goes_on x || after_operand2 x
 operands_law : (o : Operator) → Laws (g.operands o) any_type is_right
 unfolding g.operands
 operands_law o =
-    bind_same _ _ _ _ _ (type_law 399 is_access) (λ t.
-    bind_same _ _ _ _ _ (access_law is_ident) (λ a.
-    bind_same _ _ _ _ _ (ident_law after_operand) (λ x.
-    choose_law goes_on _ _ goes_on after_operand2 after_operand is_right (same_typed_law t a x)
-    (choose_law (is_sign sign.Comma) _ _ (is_sign sign.Comma) is_right after_operand2 is_right (other_typed_law _) (one_operand_law o _)
+    bind_same _ _ _ _ _ (operand_law after_operand) (λ f.
+    choose_law goes_on _ _ goes_on after_operand2 after_operand is_right (same_typed_law f)
+    (choose_law (is_sign sign.Comma) _ _ (is_sign sign.Comma) is_right after_operand2 is_right (other_typed_law f) (one_operand_law o f)
     (λ y h. h) (apart is_right (is_sign sign.Comma) refl) (within (is_sign sign.Comma) after_operand2 refl) (within is_right after_operand2 refl))
-    (λ y h. h) (apart after_operand2 goes_on refl) (within goes_on after_operand refl) (within after_operand2 after_operand refl))))
+    (λ y h. h) (apart after_operand2 goes_on refl) (within goes_on after_operand refl) (within after_operand2 after_operand refl))
 
-operator_rule_law : (t : Option TypePhrase) → Laws (g.operator t) (is_key key.Op) after_level_unit
-unfolding g.operator
-operator_rule_law t =
+operator_parts_law : Laws g.operator_parts (is_key key.Op) after_level_unit
+unfolding g.operator_parts
+operator_parts_law =
     bind_same _ _ _ _ _ (keyword_law key.Op is_operator) (λ at.
     bind_same _ _ _ _ _ (operator_law (is_sign sign.LeftRound)) (λ o.
     bind_same _ _ _ _ _ (mark_law sign.LeftRound any_type refl) (λ _.
@@ -242,6 +249,10 @@ operator_rule_law t =
     bind_same _ _ _ _ _ (keyword_law key.Op after_end_op) (λ _.
     bind_same _ _ _ _ _ (end_operator_law o) (λ _.
     pure_law _ after_level_unit)))) (within (is_key key.End) ends_text refl)))))))
+
+operator_rule_law : (t : Option TypePhrase) → Laws (g.operator t) (is_key key.Op) after_level_unit
+unfolding g.operator
+operator_rule_law t = bind_same _ _ _ _ _ operator_parts_law (λ p. pure_law _ after_level_unit)
 
 new_type_law : Laws g.new_type (is_key key.TypeWord) after_level_unit
 unfolding g.new_type
@@ -393,7 +404,7 @@ is_read p tokens t some e = (some, (text_law p).sound tokens [] t e)
 pub one_tree : (p : Bool) (tokens : Tokens) (t u : Tree) → g.Reads p tokens t → g.Reads p tokens u → t ≡ u
 one_tree p tokens t u h i = sym (same_value t u [] [] (sym (reads_is p tokens t h) ∙ reads_is p tokens u i)).0
 
-not_empty : (x : Token) (rest : Tokens) → x ∷ rest ≡ [] → ⊥
+pub not_empty : (x : Token) (rest : Tokens) → x ∷ rest ≡ [] → ⊥
 not_empty x rest h = cc
 
 more_left : (t u : Tree) (x : Token) (rest : Tokens) → done t (x ∷ rest) ≡ done u [] → ⊥

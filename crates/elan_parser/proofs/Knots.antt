@@ -1,5 +1,5 @@
 -- One depth above another.
-use Rattle.std.proofs.Common.{◌≡◌, ℕ, suc, ◌+◌, Result, Ok, Err, refl, add-one}
+use Rattle.std.proofs.Common.{◌≡◌, ℕ, suc, ◌+◌, Ok, Err, refl, add-one}
 use Rattle.elan_tree.specs.declared.phrase.Expr.{Expr}
 use Rattle.elan_parser.specs.declared.error.ParseError.{ParseError}
 use Rattle.elan_parser.specs.Kinds.{is_level}

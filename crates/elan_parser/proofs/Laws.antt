@@ -1,11 +1,12 @@
 -- What holds of each rule of a grammar.
-use Rattle.std.proofs.Common.{◌≡◌, ℕ, zero, suc, ◌+◌, ◌<◌, ◌≤◌, ◌⊎◌, inl, inr, Bool, true, false, cond, List, [], ◌∷◌, ◌++◌, length, drop, Option, Some, None, Result, Ok, Err, refl, sym, ap, subst, ◌∙◌, arith, append_assoc}
+use Rattle.std.proofs.Common.{◌≡◌, ℕ, ◌<◌, ◌≤◌, ◌⊎◌, inl, inr, Bool, true, false, cond, [], ◌∷◌, ◌++◌, length, drop, Option, Some, None, Result, Ok, Err, refl, sym, ap, subst, ◌∙◌, arith, append_assoc}
 use Rattle.std.proofs.lemmas.List.{append_cancel_right, length-append}
 use Rattle.std.proofs.Math.Seq.{drop-append_seam}
 use Rattle.elan_tree.specs.declared.token.Token.{Token}
 use Rattle.elan_parser.specs.declared.kind.Kind.{Kind}
 use Rattle.elan_parser.specs.declared.error.ParseError.{ParseError}
 use Rattle.elan_parser.specs.Kinds.{ahead}
+use Rattle.elan_parser.specs.Looks.{LooksSame}
 use Rattle.elan_parser.specs.Rule.{Tokens, Outcome, and_then, refusal, Rule, pure, fail, ◌>>=◌, taken, terminal_run, terminal, only, choose}
 
 abbrev pub Set : Type 0
@@ -30,11 +31,6 @@ pub record Stuck (xs : Tokens) (e : ParseError) : Type 0 where
   pub whole : xs ≡ front ++ rest
   pub place : e ≡ refusal rest
 
--- From each token of the front on, and behind it, the parser sees the same ahead.
-abbrev pub same : Tokens → Tokens → Tokens → Type 0
-same [] us vs = ahead us ≡ ahead vs
-same (x ∷ front) us vs = (ahead (x ∷ (front ++ us)) ≡ ahead (x ∷ (front ++ vs))) × same front us vs
-
 pub record Laws {A : Type 0} (r : Rule A) (first stop : Kind → Bool) : Type 0 where
   -- the parser reads what the rule reads, where the token after it is one that may follow
   pub sound : (xs ys : Tokens) (a : A) → r.run xs ≡ Ok (a, ys) → r.reads a xs ys
@@ -44,8 +40,8 @@ pub record Laws {A : Type 0} (r : Rule A) (first stop : Kind → Bool) : Type 0 
   -- the parser names the place where it is stuck
   pub stuck : (xs : Tokens) (e : ParseError) → r.run xs ≡ Err e → Stuck xs e
   -- what comes behind the place where the parser stops doesn't matter to it
-  pub reads_on : (front us vs : Tokens) (a : A) → r.run (front ++ us) ≡ Ok (a, us) → same front us vs → r.run (front ++ vs) ≡ Ok (a, vs)
-  pub stops : (front us vs : Tokens) (t : Token) → r.run (front ++ (t ∷ us)) ≡ Err (refusal (t ∷ us)) → same front (t ∷ us) (t ∷ vs) → r.run (front ++ (t ∷ vs)) ≡ Err (refusal (t ∷ vs))
+  pub reads_on : (front us vs : Tokens) (a : A) → r.run (front ++ us) ≡ Ok (a, us) → LooksSame front us vs → r.run (front ++ vs) ≡ Ok (a, vs)
+  pub stops : (front us vs : Tokens) (t : Token) → r.run (front ++ (t ∷ us)) ≡ Err (refusal (t ∷ us)) → LooksSame front (t ∷ us) (t ∷ vs) → r.run (front ++ (t ∷ vs)) ≡ Err (refusal (t ∷ vs))
 
 -- ---- outcomes
 
@@ -97,15 +93,15 @@ pub no_front_by : (front us vs : Tokens) → length (front ++ us) ≡ length us 
 no_front_by [] us vs e = refl
 no_front_by (x ∷ front) us vs e = absurd (omega (arith, length-append front us))
 
-pub same_here : (front us vs : Tokens) → same front us vs → ahead (front ++ us) ≡ ahead (front ++ vs)
+pub same_here : (front us vs : Tokens) → LooksSame front us vs → ahead (front ++ us) ≡ ahead (front ++ vs)
 same_here [] us vs h = h
 same_here (x ∷ front) us vs h = h.0
 
-pub same_first : (a b us vs : Tokens) → same (a ++ b) us vs → same a (b ++ us) (b ++ vs)
+pub same_first : (a b us vs : Tokens) → LooksSame (a ++ b) us vs → LooksSame a (b ++ us) (b ++ vs)
 same_first [] b us vs h = same_here b us vs h
 same_first (x ∷ a) b us vs h = (ap (λ (z : Tokens). ahead (x ∷ z)) (sym (append_assoc a b us)) ∙ h.0 ∙ ap (λ (z : Tokens). ahead (x ∷ z)) (append_assoc a b vs), same_first a b us vs h.1)
 
-pub same_second : (a b us vs : Tokens) → same (a ++ b) us vs → same b us vs
+pub same_second : (a b us vs : Tokens) → LooksSame (a ++ b) us vs → LooksSame b us vs
 same_second [] b us vs h = h
 same_second (x ∷ a) b us vs h = same_second a b us vs h.1
 
@@ -248,18 +244,18 @@ bind_splits r f xs ys b sr sf h =
       free = λ zs. (h.0, t.front ++ zs, subst (λ (z : Tokens). r.reads h.0 z (t.front ++ zs)) (sym (append_assoc s.front t.front zs)) (s.free (t.front ++ zs)), t.free zs);
     }
 
-same_end : (a b x y : Tokens) → a ++ x ≡ b ++ y → length x ≡ length y → x ≡ y
+pub same_end : (a b x y : Tokens) → a ++ x ≡ b ++ y → length x ≡ length y → x ≡ y
 same_end a b x y e l =
     let k : length a ≡ length b = omega (arith, length-append a x, length-append b y, ap length e) in
     sym (drop-append_seam a x) ∙ ap (λ (z : Tokens). drop (length a) z) e ∙ ap (λ (m : ℕ). drop m (b ++ y)) k ∙ drop-append_seam b y
 
 -- A first part reads on before another second part.
-pub first_part : {A : Type 0} (r : Rule A) (first stop : Set) → Laws r first stop → (front second us vs mid : Tokens) (a : A) → r.run (front ++ us) ≡ Ok (a, mid) → mid ≡ second ++ us → same front us vs
-    → (r.run (front ++ vs) ≡ Ok (a, second ++ vs)) × same second us vs
+pub first_part : {A : Type 0} (r : Rule A) (first stop : Set) → Laws r first stop → (front second us vs mid : Tokens) (a : A) → r.run (front ++ us) ≡ Ok (a, mid) → mid ≡ second ++ us → LooksSame front us vs
+    → (r.run (front ++ vs) ≡ Ok (a, second ++ vs)) × LooksSame second us vs
 first_part r first stop l front second us vs mid a run is h =
     let s = l.splits (front ++ us) mid a (l.sound (front ++ us) mid a run) in
     let eq : front ≡ s.front ++ second = append_cancel_right front (s.front ++ second) us (s.whole ∙ ap (λ (z : Tokens). s.front ++ z) is ∙ sym (append_assoc s.front second us)) in
-    let k : same (s.front ++ second) us vs = subst (λ (z : Tokens). same z us vs) eq h in
+    let k : LooksSame (s.front ++ second) us vs = subst (λ (z : Tokens). LooksSame z us vs) eq h in
     let here : r.run (s.front ++ (second ++ us)) ≡ Ok (a, second ++ us) = ap (λ (z : Tokens). r.run (s.front ++ z)) (sym is) ∙ ap (λ (z : Tokens). r.run z) (sym s.whole) ∙ run ∙ ap (λ (z : Tokens). Ok (a, z)) is in
     let there = l.reads_on s.front (second ++ us) (second ++ vs) a here (same_first s.front second us vs k) in
     (ap (λ (z : Tokens). r.run z) (ap (λ (z : Tokens). z ++ vs) eq ∙ append_assoc s.front second vs) ∙ there, same_second s.front second us vs k)
@@ -283,7 +279,7 @@ module _ {A B : Type 0} (r : Rule A) (f : A → Rule B) (r1 r2 f1 f2 : Set) (lr 
         record { front = p.front ++ s.front; rest = s.rest; whole = p.whole ∙ ap (λ (z : Tokens). p.front ++ z) s.whole ∙ sym (append_assoc p.front s.front s.rest); place = s.place }
   ]
 
-  bind_reads_on : (front us vs : Tokens) (b : B) → (r >>= f).run (front ++ us) ≡ Ok (b, us) → same front us vs → (r >>= f).run (front ++ vs) ≡ Ok (b, vs)
+  bind_reads_on : (front us vs : Tokens) (b : B) → (r >>= f).run (front ++ us) ≡ Ok (b, us) → LooksSame front us vs → (r >>= f).run (front ++ vs) ≡ Ok (b, vs)
   bind_reads_on front us vs b e h =
       let o = and_then_ok (r.run (front ++ us)) (λ a zs. (f a).run zs) (b, us) e in
       let a = o.0.0 in
@@ -293,7 +289,7 @@ module _ {A B : Type 0} (r : Rule A) (f : A → Rule B) (r1 r2 f1 f2 : Set) (lr 
       let later = (lf a).reads_on t.front us vs b (ap (λ (z : Tokens). (f a).run z) (sym t.whole) ∙ o.2) p.1 in
       rw p.0 later
 
-  bind_stops : (front us vs : Tokens) (t : Token) → (r >>= f).run (front ++ (t ∷ us)) ≡ Err (refusal (t ∷ us)) → same front (t ∷ us) (t ∷ vs) → (r >>= f).run (front ++ (t ∷ vs)) ≡ Err (refusal (t ∷ vs))
+  bind_stops : (front us vs : Tokens) (t : Token) → (r >>= f).run (front ++ (t ∷ us)) ≡ Err (refusal (t ∷ us)) → LooksSame front (t ∷ us) (t ∷ vs) → (r >>= f).run (front ++ (t ∷ vs)) ≡ Err (refusal (t ∷ vs))
   bind_stops front us vs t e h =
       elim (and_then_err (r.run (front ++ (t ∷ us))) (λ a zs. (f a).run zs) (refusal (t ∷ us)) e) [
         | inl x ↦ rw (lr.stops front us vs t x h) refl

@@ -12,3 +12,4 @@ pub mod TypeLaws
 pub mod ExpressionLaws
 pub mod UnitLaws
 pub mod GrammarLaws
+pub mod PlaceLaws

@@ -1,13 +1,13 @@
 -- What holds of a rule that is repeated.
-use Rattle.std.proofs.Common.{◌≡◌, ℕ, zero, suc, ◌+◌, ◌<◌, ◌≤◌, ◌⊎◌, inl, inr, Bool, true, false, cond, List, [], ◌∷◌, ◌++◌, length, Option, Some, None, Result, Ok, Err, refl, sym, ap, subst, ◌∙◌, arith, append_assoc}
+use Rattle.std.proofs.Common.{◌≡◌, ℕ, zero, suc, ◌<◌, ◌≤◌, inl, inr, true, false, [], ◌∷◌, ◌++◌, length, Ok, Err, refl, sym, ap, subst, ◌∙◌, arith, append_assoc}
 use Rattle.std.proofs.lemmas.List.{length-append}
 use Rattle.elan_tree.specs.declared.token.Token.{Token}
-use Rattle.elan_parser.specs.declared.kind.Kind.{Kind}
 use Rattle.elan_parser.specs.declared.kind.Kind.TheVariants as k
 use Rattle.elan_parser.specs.declared.error.ParseError.{ParseError}
 use Rattle.elan_parser.specs.Kinds.{ahead}
-use Rattle.elan_parser.specs.Rule.{Tokens, Outcome, and_then, refusal, Rule, pure, ◌>>=◌, ◌>>◌, terminal, only, choose, steps, steps_run, iterate, further, listed, optional}
-use Rattle.elan_parser.proofs.Laws.{Set, Within, Apart, Laws, Splits, Stuck, same, same_here, same_value, and_then_ok, and_then_err, chosen, no_front, no_front_by, first_part, place_behind, keeps, pure_law, bind_law, terminal_eats, only_law, choose_law}
+use Rattle.elan_parser.specs.Looks.{LooksSame}
+use Rattle.elan_parser.specs.Rule.{Tokens, and_then, refusal, Rule, steps, steps_run, iterate}
+use Rattle.elan_parser.proofs.Laws.{Set, Within, Apart, Laws, Stuck, same_here, same_value, and_then_ok, and_then_err, chosen, no_front, first_part, place_behind}
 
 empty_by : (xs : Tokens) → length xs ≤ 0 → xs ≡ []
 empty_by [] e = refl
@@ -86,8 +86,8 @@ module _ {S : Type 0} (body : S → Rule S) (b b1 b2 stop : Set) (laws : (s : S)
   steps_end (suc m) s xs h = rw h refl
 
   -- one step, and how the rest reads on
-  step_on : (n m : ℕ) (s e : S) (front us vs : Tokens) → ((t : S) (second : Tokens) → steps_run body b n t (second ++ us) ≡ Ok (e, us) → same second us vs → length (second ++ us) ≤ n → length (second ++ vs) ≤ m → steps_run body b m t (second ++ vs) ≡ Ok (e, vs))
-      → b (ahead (front ++ vs)) ≡ true → and_then ((body s).run (front ++ us)) (steps_run body b n) ≡ Ok (e, us) → same front us vs → length (front ++ us) ≤ suc n → length (front ++ vs) ≤ suc m
+  step_on : (n m : ℕ) (s e : S) (front us vs : Tokens) → ((t : S) (second : Tokens) → steps_run body b n t (second ++ us) ≡ Ok (e, us) → LooksSame second us vs → length (second ++ us) ≤ n → length (second ++ vs) ≤ m → steps_run body b m t (second ++ vs) ≡ Ok (e, vs))
+      → b (ahead (front ++ vs)) ≡ true → and_then ((body s).run (front ++ us)) (steps_run body b n) ≡ Ok (e, us) → LooksSame front us vs → length (front ++ us) ≤ suc n → length (front ++ vs) ≤ suc m
       → steps_run body b (suc m) s (front ++ vs) ≡ Ok (e, vs)
   step_on n m s e front us vs more on h w le lm =
       let o = and_then_ok ((body s).run (front ++ us)) (steps_run body b n) (e, us) h in
@@ -101,11 +101,11 @@ module _ {S : Type 0} (body : S → Rule S) (b b1 b2 stop : Set) (laws : (s : S)
       let later = more t q.0 (ap (λ (z : Tokens). steps_run body b n t z) (sym q.1) ∙ o.2) p.1 (omega arith) (omega arith) in
       rw (on, p.0) later
 
-  steps_on : (n m : ℕ) (s e : S) (front us vs : Tokens) → steps_run body b n s (front ++ us) ≡ Ok (e, us) → same front us vs → length (front ++ us) ≤ n → length (front ++ vs) ≤ m → steps_run body b m s (front ++ vs) ≡ Ok (e, vs)
+  steps_on : (n m : ℕ) (s e : S) (front us vs : Tokens) → steps_run body b n s (front ++ us) ≡ Ok (e, us) → LooksSame front us vs → length (front ++ us) ≤ n → length (front ++ vs) ≤ m → steps_run body b m s (front ++ vs) ≡ Ok (e, vs)
   steps_on zero m s e front us vs h w le lm =
       let none = both_empty front us le in
       let v = same_value s e (front ++ us) us h in
-      let here : ahead us ≡ ahead vs = subst (λ (z : Tokens). same z us vs) none.0 w in
+      let here : ahead us ≡ ahead vs = subst (λ (z : Tokens). LooksSame z us vs) none.0 w in
       let off : b (ahead vs) ≡ false = ap b (sym here ∙ ap ahead none.1 ∙ nothing_ahead) ∙ nothing in
       rw (none.0, v.0) (steps_end m s vs off)
   steps_on (suc n) zero s e front us vs h w le lm =
@@ -125,8 +125,8 @@ module _ {S : Type 0} (body : S → Rule S) (b b1 b2 stop : Set) (laws : (s : S)
             rw (none, v.0) (steps_end (suc m) s vs off)
       ]
 
-  step_stop : (n m : ℕ) (s : S) (front us vs : Tokens) (u : Token) → ((t : S) (second : Tokens) → steps_run body b n t (second ++ (u ∷ us)) ≡ Err (refusal (u ∷ us)) → same second (u ∷ us) (u ∷ vs) → length (second ++ (u ∷ vs)) ≤ m → steps_run body b m t (second ++ (u ∷ vs)) ≡ Err (refusal (u ∷ vs)))
-      → b (ahead (front ++ (u ∷ vs))) ≡ true → and_then ((body s).run (front ++ (u ∷ us))) (steps_run body b n) ≡ Err (refusal (u ∷ us)) → same front (u ∷ us) (u ∷ vs) → length (front ++ (u ∷ vs)) ≤ suc m
+  step_stop : (n m : ℕ) (s : S) (front us vs : Tokens) (u : Token) → ((t : S) (second : Tokens) → steps_run body b n t (second ++ (u ∷ us)) ≡ Err (refusal (u ∷ us)) → LooksSame second (u ∷ us) (u ∷ vs) → length (second ++ (u ∷ vs)) ≤ m → steps_run body b m t (second ++ (u ∷ vs)) ≡ Err (refusal (u ∷ vs)))
+      → b (ahead (front ++ (u ∷ vs))) ≡ true → and_then ((body s).run (front ++ (u ∷ us))) (steps_run body b n) ≡ Err (refusal (u ∷ us)) → LooksSame front (u ∷ us) (u ∷ vs) → length (front ++ (u ∷ vs)) ≤ suc m
       → steps_run body b (suc m) s (front ++ (u ∷ vs)) ≡ Err (refusal (u ∷ vs))
   step_stop n m s front us vs u more on h w lm =
       elim (and_then_err ((body s).run (front ++ (u ∷ us))) (steps_run body b n) (refusal (u ∷ us)) h) [
@@ -141,7 +141,7 @@ module _ {S : Type 0} (body : S → Rule S) (b b1 b2 stop : Set) (laws : (s : S)
             rw (on, p.0) later
       ]
 
-  steps_stop : (n m : ℕ) (s : S) (front us vs : Tokens) (u : Token) → steps_run body b n s (front ++ (u ∷ us)) ≡ Err (refusal (u ∷ us)) → same front (u ∷ us) (u ∷ vs) → length (front ++ (u ∷ vs)) ≤ m
+  steps_stop : (n m : ℕ) (s : S) (front us vs : Tokens) (u : Token) → steps_run body b n s (front ++ (u ∷ us)) ≡ Err (refusal (u ∷ us)) → LooksSame front (u ∷ us) (u ∷ vs) → length (front ++ (u ∷ vs)) ≤ m
       → steps_run body b m s (front ++ (u ∷ vs)) ≡ Err (refusal (u ∷ vs))
   steps_stop zero m s front us vs u h w lm = absurd cc
   steps_stop (suc n) zero s front us vs u h w lm = absurd (omega (arith, length-append front (u ∷ vs)))

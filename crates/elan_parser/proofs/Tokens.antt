@@ -1,5 +1,5 @@
 -- What holds of the rules of one token.
-use Rattle.std.proofs.Common.{◌≡◌, ℕ, ◌<◌, Bool, true, false, cond, List, [], ◌∷◌, Option, Some, None, refl, sym, ap, subst, ◌∙◌, arith}
+use Rattle.std.proofs.Common.{◌≡◌, ℕ, ◌<◌, Bool, true, false, cond, List, Option, Some, None, refl, sym, ◌∙◌, arith}
 use Rattle.std.specs.Prelude.{not, ◌==◌, ◌&&◌, ℤ}
 use Rattle.std.proofs.lemmas.Bool.{eqb-true}
 use Rattle.elan_tree.specs.declared.token.Token.{Token}
@@ -22,15 +22,14 @@ use Rattle.elan_tree.specs.declared.tree.OperatorName.{OperatorName}
 use Rattle.elan_tree.specs.declared.tree.Export.{Export}
 use Rattle.elan_tree.specs.declared.tree.Export.TheVariants as export
 use Rattle.elan_parser.specs.declared.kind.Tier.{Tier}
-use Rattle.elan_parser.specs.declared.kind.Kind.{Kind}
 use Rattle.elan_parser.specs.declared.kind.Kind.TheVariants as k
 use Rattle.elan_parser.specs.declared.joint.Joint.{Joint}
 use Rattle.elan_parser.specs.declared.joint.Joint.TheVariants as joint
-use Rattle.elan_parser.specs.Kinds.{ahead, kind, second, kind_of, is_key, is_sign, is_ident, is_number, is_bold, is_comma, goes_on, is_point, leads, is_init, is_rep, is_symbol, is_operator, is_monadic, is_literal, begins, is_level, loose, tier_of, tier_level, same_sign}
-use Rattle.elan_parser.specs.Rule.{Tokens, terminal}
+use Rattle.elan_parser.specs.Kinds.{ahead, kind, second, kind_of, is_key, is_sign, is_ident, is_number, is_bold, is_comma, goes_on, is_point, leads, is_init, is_rep, is_symbol, is_operator, is_literal, begins, is_level, loose, tier_of, tier_level, same_sign}
+use Rattle.elan_parser.specs.Rule.{terminal}
 use Rattle.elan_parser.specs.Terminals as terminals
 use Rattle.elan_parser.proofs.Laws.{Set, Within, Apart, Laws, terminal_law}
-use Rattle.elan_parser.proofs.Every.{every, implies, within, apart}
+use Rattle.elan_parser.proofs.Every.{every, implies, apart}
 use Rattle.elan_parser.proofs.Seen.{is_special, is_mark, is_type_name, declares, ahead-is, stays, ident_ahead, declares_ahead, ahead-point, pointed, leading, alone, ahead-comma, commaed, going_on, parting, type_named, ahead-plain}
 
 -- what a test accepts

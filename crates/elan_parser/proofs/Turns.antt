@@ -1,8 +1,8 @@
 -- The turns of a loop that reads steps.
-use Rattle.std.proofs.Common.{◌≡◌, ℕ, zero, suc, ◌+◌, ◌-◌, ◌<◌, ◌≤◌, Bool, true, false, cond, List, length, Result, Ok, Err, refl, ap, ◌∙◌, arith}
+use Rattle.std.proofs.Common.{◌≡◌, ℕ, suc, ◌+◌, ◌-◌, ◌<◌, ◌≤◌, Bool, true, false, Ok, refl, arith}
 use Rattle.elan_parser.specs.declared.kind.Kind.{Kind}
 use Rattle.elan_parser.specs.Kinds.{ahead}
-use Rattle.elan_parser.specs.Rule.{Tokens, Outcome, and_then, Rule, steps_run}
+use Rattle.elan_parser.specs.Rule.{Tokens, and_then, Rule, steps_run}
 
 pub turn_on : {S : Type 0} (body : S → Rule S) (b : Kind → Bool) (n at : ℕ) (s : S) (xs : Tokens) → at < n → b (ahead xs) ≡ true
     → steps_run body b (n - at) s xs ≡ and_then ((body s).run xs) (steps_run body b (n - (at + 1)))

@@ -1,20 +1,18 @@
 -- What holds of the productions without expressions.
-use Rattle.std.proofs.Common.{◌≡◌, ℕ, zero, suc, ◌<◌, ◌≤◌, Bool, true, false, List, [], ◌∷◌, Option, Some, None, refl, arith}
+use Rattle.std.proofs.Common.{◌≡◌, ℕ, zero, suc, Bool, true, false, refl}
 use Rattle.std.specs.Prelude.{◌||◌}
 use Rattle.elan_tree.specs.declared.token.Key.TheVariants as key
 use Rattle.elan_tree.specs.declared.token.Sign.TheVariants as sign
 use Rattle.elan_tree.specs.declared.written_type.TypePhrase.{TypePhrase}
-use Rattle.elan_parser.specs.declared.kind.Kind.{Kind}
-use Rattle.elan_parser.specs.declared.kind.Kind.TheVariants as k
 use Rattle.elan_parser.specs.Kinds.{is_key, is_sign, is_ident, is_number, is_bold, is_comma, goes_on, is_literal, begins_typed}
-use Rattle.elan_parser.specs.Rule.{Rule, pure, fail, ◌>>=◌, ◌>>◌, terminal, choose, listed}
+use Rattle.elan_parser.specs.Rule.{Rule}
 use Rattle.elan_parser.specs.Terminals.{bold}
 use Rattle.elan_parser.specs.Types as g
 use Rattle.elan_parser.proofs.Laws.{Set, Within, Apart, Laws, pure_law, fail_law, choose_law}
 use Rattle.elan_parser.proofs.Every.{within, apart}
 use Rattle.elan_parser.proofs.Seen.{declares, is_type_name}
 use Rattle.elan_parser.proofs.Tokens.{keyword_law, mark_law, comma_law, going_law, parting_law, ident_law, bold_law, type_name_law, simple_law, size_law, access_law, constant_law, label_law, negated_law, is_simple, is_size, is_access}
-use Rattle.elan_parser.proofs.Forms.{bind_same, wider, narrower, listed_law}
+use Rattle.elan_parser.proofs.Forms.{bind_same, wider, listed_law}
 
 abbrev pub always : Set
 always x = true

@@ -1,15 +1,13 @@
 -- What holds of the productions of units.
-use Rattle.std.proofs.Common.{◌≡◌, ℕ, zero, suc, ◌<◌, ◌≤◌, Bool, true, false, List, [], ◌∷◌, Option, Some, None, refl, arith}
+use Rattle.std.proofs.Common.{ℕ, zero, suc, Option, Some, None, refl, arith}
 use Rattle.std.specs.Prelude.{◌||◌, nat_lt}
 use Rattle.elan_tree.specs.declared.token.Key.TheVariants as key
 use Rattle.elan_tree.specs.declared.token.Sign.TheVariants as sign
 use Rattle.elan_tree.specs.declared.written_type.TypePhrase.{TypePhrase}
 use Rattle.elan_tree.specs.declared.phrase.Expr.{Expr}
 use Rattle.elan_tree.specs.declared.phrase.Counter.{Counter}
-use Rattle.elan_parser.specs.declared.kind.Kind.{Kind}
-use Rattle.elan_parser.specs.declared.kind.Kind.TheVariants as k
 use Rattle.elan_parser.specs.Kinds.{is_key, is_sign, is_ident, is_comma, is_init, is_rep, begins, begins_typed}
-use Rattle.elan_parser.specs.Rule.{Rule, pure, ◌>>=◌, ◌>>◌, terminal, only, choose, iterate, optional, further, listed}
+use Rattle.elan_parser.specs.Rule.{◌>>◌, optional}
 use Rattle.elan_parser.specs.Terminals.{keyword}
 use Rattle.elan_parser.specs.Expressions.{Language, level}
 use Rattle.elan_parser.specs.Units as g
@@ -17,7 +15,7 @@ use Rattle.elan_parser.proofs.Laws.{Set, Within, Apart, Laws, pure_law, fail_law
 use Rattle.elan_parser.proofs.Every.{within, apart}
 use Rattle.elan_parser.proofs.Seen.{declares}
 use Rattle.elan_parser.proofs.Tokens.{keyword_law, mark_law, comma_law, ident_law, init_law, rep_law, leaving_law, is_leaving}
-use Rattle.elan_parser.proofs.Forms.{bind_same, wider, narrower, optional_law, listed_law}
+use Rattle.elan_parser.proofs.Forms.{bind_same, narrower, optional_law, listed_law}
 use Rattle.elan_parser.proofs.TypeLaws.{let_items_law, begins_let_item, type_law, typed_law, any_type}
 use Rattle.elan_parser.proofs.Follows.{ends_level, ends_units, ends_unit, begins_plain, begins_unit}
 use Rattle.elan_parser.proofs.ExpressionLaws.{LanguageLaws, level_law}
@@ -213,13 +211,14 @@ module _ (inner : Language) (n : ℕ) (laws : LanguageLaws inner) where
   unfolding g.until_part
   until_part_law = part_law key.Until is_loop_end after_turns (within is_loop_end (ends_level 6) refl) (apart is_loop_end (is_key key.Until) refl) (within (is_key key.Until) after_turns refl) (within is_loop_end after_turns refl)
 
-  turns_law : (at : ℕ) (c : Option Counter) (w : Option Expr) (stop : Set) → Laws (g.turns inner n at c w) begins_unit stop
+  turns_law : (at : Option ℕ) (c : Option Counter) (w : Option Expr) (stop : Set) → Laws (g.turns inner n at c w) is_rep stop
   unfolding g.turns
   turns_law at c w stop =
+      bind_same _ _ _ _ _ (rep_law begins_unit) (λ r.
       bind_law _ _ _ _ after_turns stop laws.bodies (λ us.
       bind_same _ _ _ _ _ until_part_law (λ a.
       bind_same _ _ _ _ _ (loop_end_law stop) (λ _.
-      pure_law _ stop))) (within after_turns ends_units refl)
+      pure_law _ stop))) (within after_turns ends_units refl))
 
   while_part_law : Laws (g.while_part inner n) after_limit is_rep
   unfolding g.while_part
@@ -232,8 +231,7 @@ module _ (inner : Language) (n : ℕ) (laws : LanguageLaws inner) where
       bind_same _ _ _ _ _ (keyword_law key.For is_ident) (λ at.
       bind_same _ _ _ _ _ counter_law (λ c.
       bind_same _ _ _ _ _ while_part_law (λ w.
-      bind_same _ _ _ _ _ (rep_law begins_unit) (λ _.
-      turns_law at c w stop)))))
+      turns_law (Some at) c w stop))))
 
   guarded_law : (stop : Set) → Laws (g.guarded inner n) (is_key key.While) stop
   unfolding g.guarded
@@ -241,15 +239,13 @@ module _ (inner : Language) (n : ℕ) (laws : LanguageLaws inner) where
       bind_same _ _ _ _ _ (only_law (nat_lt 0 n) (is_key key.While)) (λ _.
       bind_same _ _ _ _ _ (keyword_law key.While begins) (λ at.
       bind_law _ _ _ _ is_rep stop inner_law (λ w.
-      bind_same _ _ _ _ _ (rep_law begins_unit) (λ _.
-      turns_law at None (Some w) stop)) (within is_rep (ends_level 6) refl)))
+      turns_law (Some at) None (Some w) stop) (within is_rep (ends_level 6) refl)))
 
   repeated_law : (stop : Set) → Laws (g.repeated inner n) is_rep stop
   unfolding g.repeated
   repeated_law stop =
       bind_same _ _ _ _ _ (only_law (nat_lt 0 n) is_rep) (λ _.
-      bind_same _ _ _ _ _ (rep_law begins_unit) (λ at.
-      turns_law at None None stop))
+      turns_law None None None stop)
 
   abbrev plain6 : Set
   plain6 x = begins x || ends_unit x

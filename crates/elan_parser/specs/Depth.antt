@@ -1,6 +1,5 @@
 -- How deep a tree is, and where a phrase begins.
-use Rattle.std.specs.Prelude.{ℕ, suc, ◌+◌, max, List, [], ◌∷◌, map, Option, Some, None}
-use Rattle.elan_tree.specs.declared.written_type.Name.{Name}
+use Rattle.std.specs.Prelude.{ℕ, ◌+◌, max, List, [], ◌∷◌, map, Option, Some, None}
 use Rattle.elan_tree.specs.declared.written_type.TypePhrase.{TypePhrase}
 use Rattle.elan_tree.specs.declared.written_type.Field.{Field}
 use Rattle.elan_tree.specs.declared.written_type.TypePhrase.TheOpen as ty

@@ -1,5 +1,5 @@
 -- Expressions.
-use Rattle.std.specs.Prelude.{ℕ, zero, suc, nat_lt, List, [], ◌∷◌, ◌++◌, Option, Some, None}
+use Rattle.std.specs.Prelude.{ℕ, zero, suc, nat_lt, List, Option}
 use Rattle.elan_tree.specs.declared.token.Key.TheVariants as key
 use Rattle.elan_tree.specs.declared.token.Sign.TheVariants as sign
 use Rattle.elan_tree.specs.declared.written_type.Name.{Name}
@@ -10,8 +10,9 @@ use Rattle.elan_tree.specs.declared.phrase.Case.{Case}
 use Rattle.elan_tree.specs.declared.phrase.Unit.{Unit as Phrase}
 use Rattle.elan_parser.specs.declared.joint.Joint.{Joint}
 use Rattle.elan_parser.specs.declared.joint.Joint.TheVariants as joint
+use Rattle.elan_parser.specs.declared.joint.Right.{Right}
 use Rattle.elan_parser.specs.Kinds.{is_key, is_sign, is_comma, is_literal, is_monadic, is_level, lengthens}
-use Rattle.elan_parser.specs.Rule.{Rule, pure, nothing, fail, ◌>>=◌, ◌>>◌, terminal, only, choose, iterate, optional, further, listed}
+use Rattle.elan_parser.specs.Rule.{Rule, pure, nothing, ◌>>=◌, ◌>>◌, terminal, only, choose, iterate, optional, listed}
 use Rattle.elan_parser.specs.Terminals.{keyword, mark, ident, literal_at, monadic_at, joint_at}
 use Rattle.elan_parser.specs.Types.{labels}
 use Rattle.elan_parser.specs.Depth.{expr_depth, expr_place}
@@ -21,10 +22,13 @@ pub record Language : Type 1 where
   pub level : ℕ → Rule Expr
   pub units : Rule (List Phrase)
 
-abbrev pub joined : Joint → Expr → Expr → Expr
-joined joint.Cand a b = e.Cand (expr_place a) a b
-joined joint.Cor a b = e.Cor (expr_place a) a b
-joined (joint.Operator o) a b = e.Dyadic (expr_place a) o a b
+abbrev pub joined_by : Joint → Expr → Expr → Expr
+joined_by joint.Cand a b = e.Cand (expr_place a) a b
+joined_by joint.Cor a b = e.Cor (expr_place a) a b
+joined_by (joint.Operator o) a b = e.Dyadic (expr_place a) o a b
+
+abbrev pub joined : Expr → Right → Expr
+joined a r = joined_by r.joint a r.operand
 
 -- FI | END IF
 unfoldable pub choice_end : Rule ℕ
@@ -36,8 +40,9 @@ module _ (inner : Language) (n : ℕ) where
   abbrev room : Rule (Unit {0})
   room = only (nat_lt 0 n)
 
-  abbrev above : Expr → Rule (Unit {0})
-  above a = only (nat_lt (expr_depth a) n)
+  -- there is a depth above this one
+  abbrev below : ℕ → Rule (Unit {0})
+  below depth = only (nat_lt depth n)
 
   abbrev e1 : Rule Expr
   e1 = inner.level 6
@@ -154,21 +159,30 @@ module _ (inner : Language) (n : ℕ) where
   unfoldable pub head : Rule Expr
   head = choose is_literal (terminal literal_at) (choose (is_sign sign.LeftRound) bracket (choose (is_key key.Concr) concr (choose (is_key key.If) choice (choose (is_key key.Select) selection named))))
 
-  -- "[" e1 "]"
-  unfoldable pub index : Expr → Rule Expr
-  index a = do
-    above a
+  -- "[" e1 "]", behind an expression of this depth
+  unfoldable pub index_part : ℕ → Rule Expr
+  index_part depth = do
+    below depth
     mark sign.LeftSquare
     b ← e1
     mark sign.RightSquare
+    pure b
+
+  unfoldable pub index : Expr → Rule Expr
+  index a = do
+    b ← index_part (expr_depth a)
     pure (e.Index (expr_place a) a b)
 
-  -- "." ident
+  -- "." ident, behind an expression of this depth
+  unfoldable pub field_part : ℕ → Rule Name
+  field_part depth = do
+    below depth
+    mark sign.Point
+    ident
+
   unfoldable pub field_of : Expr → Rule Expr
   field_of a = do
-    above a
-    mark sign.Point
-    x ← ident
+    x ← field_part (expr_depth a)
     pure (e.Field (expr_place a) a x)
 
   unfoldable pub longer : Expr → Rule Expr
@@ -192,13 +206,18 @@ module _ (inner : Language) (n : ℕ) where
   unfoldable pub operand : Rule Expr
   operand = choose is_monadic applied prim
 
-  -- an operator of level i + 1, and what stands right of it
-  unfoldable pub dyadic : ℕ → Expr → Rule Expr
-  dyadic i a = do
-    above a
+  -- an operator of level i + 1 and its right operand, behind an expression of this depth
+  unfoldable pub right_part : ℕ → ℕ → Rule Right
+  right_part i depth = do
+    below depth
     o ← terminal (joint_at (suc i))
     b ← inner.level i
-    pure (joined o a b)
+    pure (record { joint = o; operand = b })
+
+  unfoldable pub dyadic : ℕ → Expr → Rule Expr
+  dyadic i a = do
+    r ← right_part i (expr_depth a)
+    pure (joined a r)
 
   -- m, e6, e5, e4, e3, e2 and e1 are the levels 0 to 6: e6 is m { ( "*" | DIV | MOD ) m }, and so on
   unfoldable pub level : ℕ → Rule Expr

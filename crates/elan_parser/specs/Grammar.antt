@@ -1,7 +1,6 @@
 -- The grammar of ELAN: whole texts.
-use Rattle.std.specs.Prelude.{◌≡◌, ◌≢◌, ℕ, zero, suc, Bool, true, false, List, [], ◌∷◌, ◌++◌, Option, Some, None}
+use Rattle.std.specs.Prelude.{◌≢◌, ℕ, Bool, true, false, List, [], ◌∷◌, ◌++◌, Option, Some, None}
 use Rattle.elan_tree.specs.declared.token.Key.TheVariants as key
-use Rattle.elan_tree.specs.declared.token.Sign.{Sign}
 use Rattle.elan_tree.specs.declared.token.Sign.TheVariants as sign
 use Rattle.elan_tree.specs.declared.written_type.Name.{Name}
 use Rattle.elan_tree.specs.declared.written_type.TypePhrase.{TypePhrase}
@@ -9,7 +8,6 @@ use Rattle.elan_tree.specs.declared.written_type.Access.{Access}
 use Rattle.elan_tree.specs.declared.written_type.Formal.{Formal}
 use Rattle.elan_tree.specs.declared.phrase.Operator.{Operator}
 use Rattle.elan_tree.specs.declared.phrase.Operator.TheVariants as op
-use Rattle.elan_tree.specs.declared.phrase.Unit.{Unit as Phrase}
 use Rattle.elan_tree.specs.declared.tree.Refinement.{Refinement}
 use Rattle.elan_tree.specs.declared.tree.Body.{Body}
 use Rattle.elan_tree.specs.declared.tree.OperatorName.{OperatorName}
@@ -19,8 +17,10 @@ use Rattle.elan_tree.specs.declared.tree.Level.{Level}
 use Rattle.elan_tree.specs.declared.tree.Export.{Export}
 use Rattle.elan_tree.specs.declared.tree.Tree.{Tree}
 use Rattle.elan_tree.specs.declared.tree.Tree.TheVariants as tree
+use Rattle.elan_parser.specs.declared.heading.ProcParts.{ProcParts}
+use Rattle.elan_parser.specs.declared.heading.OperatorParts.{OperatorParts}
 use Rattle.elan_parser.specs.Kinds.{is_key, is_sign, is_ident, is_comma, goes_on, is_point, leads, is_operator, begins_typed}
-use Rattle.elan_parser.specs.Rule.{Tokens, Rule, pure, ◌>>=◌, ◌>>◌, terminal, only, choose, iterate, optional, further, listed}
+use Rattle.elan_parser.specs.Rule.{Tokens, Rule, pure, ◌>>=◌, ◌>>◌, terminal, only, choose, optional, listed}
 use Rattle.elan_parser.specs.Terminals.{keyword, mark, ident, bold, same_at, access_at, operator_at, same_operator_at, export_at}
 use Rattle.elan_parser.specs.Types.{types, formals}
 use Rattle.elan_parser.specs.Units.{declared, plain, phrases}
@@ -100,9 +100,9 @@ abbrev pub start : Option TypePhrase → ℕ → ℕ
 start (Some t) at = type_place t
 start None at = at
 
--- PROC ident [ "(" formals ")" ] ":" units tail END PROC [ ident ], behind the type of its result
-unfoldable pub proc : Option TypePhrase → Rule LevelUnit
-proc t = do
+-- PROC ident [ "(" formals ")" ] ":" units tail END PROC [ ident ]
+unfoldable pub proc_parts : Rule ProcParts
+proc_parts = do
   at ← keyword key.Proc
   x ← ident
   fs ← optional_formals
@@ -111,7 +111,13 @@ proc t = do
   keyword key.End
   keyword key.Proc
   end_name x
-  pure (lu.Proc (start t at) t x fs b)
+  pure (record { at = at; name = x; formals = fs; body = b })
+
+-- the same behind the type of its result
+unfoldable pub proc : Option TypePhrase → Rule LevelUnit
+proc t = do
+  p ← proc_parts
+  pure (lu.Proc (start t p.at) t p.name p.formals p.body)
 
 -- Signs other than "+" and "-" take two operands; these and bold words take one or two.
 abbrev pub takes_one : Operator → Bool
@@ -120,24 +126,33 @@ takes_one (op.Sign sign.Plus) = true
 takes_one (op.Sign sign.Minus) = true
 takes_one (op.Sign _) = false
 
-abbrev pub operand : TypePhrase → Access → Name → Formal
-operand t a x = record { of = t; access = a; names = x ∷ [] }
+abbrev pub operand_of : TypePhrase → Access → Name → Formal
+operand_of t a x = record { of = t; access = a; names = x ∷ [] }
+
+-- type ( CONST | VAR ) ident
+unfoldable pub operand : Rule Formal
+operand = do
+  t ← types most_in_body
+  a ← terminal access_at
+  x ← ident
+  pure (operand_of t a x)
+
+abbrev pub with_name : Formal → Name → Formal
+with_name f x = record { of = f.of; access = f.access; names = f.names ++ x ∷ [] }
 
 -- the second operand, with the type of the first
-unfoldable pub same_typed : TypePhrase → Access → Name → Rule (List Formal)
-same_typed t a x = do
+unfoldable pub same_typed : Formal → Rule (List Formal)
+same_typed f = do
   mark sign.Comma
-  y ← ident
-  pure (record { of = t; access = a; names = x ∷ y ∷ [] } ∷ [])
+  x ← ident
+  pure (with_name f x ∷ [])
 
 -- the second operand, with a type of its own
 unfoldable pub other_typed : Formal → Rule (List Formal)
 other_typed f = do
   mark sign.Comma
-  t ← types most_in_body
-  a ← terminal access_at
-  x ← ident
-  pure (f ∷ operand t a x ∷ [])
+  g ← operand
+  pure (f ∷ g ∷ [])
 
 -- no second operand
 unfoldable pub one_operand : Operator → Formal → Rule (List Formal)
@@ -145,17 +160,15 @@ one_operand o f = do
   only (takes_one o)
   pure (f ∷ [])
 
--- type ( CONST | VAR ) ident [ "," ident | "," type ( CONST | VAR ) ident ]: as many as the operator takes
+-- operand [ "," ident | "," operand ]: as many as the operator takes
 unfoldable pub operands : Operator → Rule (List Formal)
 operands o = do
-  t ← types most_in_body
-  a ← terminal access_at
-  x ← ident
-  choose goes_on (same_typed t a x) (choose (is_sign sign.Comma) (other_typed (operand t a x)) (one_operand o (operand t a x)))
+  f ← operand
+  choose goes_on (same_typed f) (choose (is_sign sign.Comma) (other_typed f) (one_operand o f))
 
--- OP opname "(" operands ")" ":" units tail END OP [ opname ], behind the type of its result
-unfoldable pub operator : Option TypePhrase → Rule LevelUnit
-operator t = do
+-- OP opname "(" operands ")" ":" units tail END OP [ opname ]
+unfoldable pub operator_parts : Rule OperatorParts
+operator_parts = do
   at ← keyword key.Op
   o ← terminal operator_at
   mark sign.LeftRound
@@ -166,7 +179,13 @@ operator t = do
   keyword key.End
   keyword key.Op
   end_operator o
-  pure (lu.Op (start t at) t o fs b)
+  pure (record { at = at; name = o; formals = fs; body = b })
+
+-- the same behind the type of its result
+unfoldable pub operator : Option TypePhrase → Rule LevelUnit
+operator t = do
+  p ← operator_parts
+  pure (lu.Op (start t p.at) t p.name p.formals p.body)
 
 -- TYPE BOLD "=" type
 unfoldable pub new_type : Rule LevelUnit

@@ -1,3 +1,4 @@
+pub mod Pairs
 pub mod Kinds
 pub mod Rule
 pub mod Terminals
@@ -6,5 +7,6 @@ pub mod Types
 pub mod Expressions
 pub mod Units
 pub mod Grammar
+pub mod Looks
 pub mod Place
 pub mod Nests

@@ -25,7 +25,6 @@ use Rattle.elan_tree.specs.declared.phrase.Operator.TheVariants as op
 use Rattle.elan_tree.specs.declared.tree.OperatorName.{OperatorName}
 use Rattle.elan_tree.specs.declared.tree.Export.{Export}
 use Rattle.elan_tree.specs.declared.tree.Export.TheVariants as export
-use Rattle.elan_parser.specs.declared.kind.Kind.{Kind}
 use Rattle.elan_parser.specs.declared.kind.Kind.TheVariants as k
 use Rattle.elan_parser.specs.declared.joint.Joint.{Joint}
 use Rattle.elan_parser.specs.declared.joint.Joint.TheVariants as joint

@@ -1,5 +1,5 @@
 -- What holds no expression: types, parameters, constants, labels, LET.
-use Rattle.std.specs.Prelude.{ℕ, zero, suc, List, [], ◌∷◌, Option, Some, None}
+use Rattle.std.specs.Prelude.{ℕ, zero, suc, List}
 use Rattle.elan_tree.specs.declared.token.Key.TheVariants as key
 use Rattle.elan_tree.specs.declared.token.Sign.TheVariants as sign
 use Rattle.elan_tree.specs.declared.written_type.Name.{Name}

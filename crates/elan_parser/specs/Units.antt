@@ -1,5 +1,6 @@
 -- Units: what stands in every list of units.
-use Rattle.std.specs.Prelude.{ℕ, zero, suc, nat_lt, List, [], ◌∷◌, ◌++◌, Option, Some, None}
+use Rattle.std.specs.Prelude.{ℕ, zero, suc, nat_lt, List, Option, Some, None}
+use Rattle.std.specs.Option.{unwrap_or}
 use Rattle.elan_tree.specs.declared.token.Key.TheVariants as key
 use Rattle.elan_tree.specs.declared.token.Sign.TheVariants as sign
 use Rattle.elan_tree.specs.declared.written_type.Name.{Name}
@@ -12,7 +13,7 @@ use Rattle.elan_tree.specs.declared.phrase.Limit.TheVariants as limit
 use Rattle.elan_tree.specs.declared.phrase.Unit.{Unit as Phrase}
 use Rattle.elan_tree.specs.declared.phrase.Unit.TheVariants as u
 use Rattle.elan_parser.specs.Kinds.{is_key, is_sign, is_comma, is_init, is_rep, begins, begins_typed}
-use Rattle.elan_parser.specs.Rule.{Rule, pure, fail, ◌>>=◌, ◌>>◌, terminal, only, choose, iterate, optional, further, listed}
+use Rattle.elan_parser.specs.Rule.{Rule, pure, fail, ◌>>=◌, ◌>>◌, terminal, only, choose, optional, listed}
 use Rattle.elan_parser.specs.Terminals.{keyword, mark, ident, init_mark, rep, leaving_at}
 use Rattle.elan_parser.specs.Types.{types, let_items}
 use Rattle.elan_parser.specs.Expressions.{Language, level}
@@ -170,43 +171,41 @@ module _ (inner : Language) (n : ℕ) where
   unfoldable pub until_part : Rule (Option Expr)
   until_part = optional (is_key key.Until) (do keyword key.Until; inner_e1)
 
-  -- units [ UNTIL e1 ] ( PER | END REP | END REPEAT )
-  unfoldable pub turns : ℕ → Option Counter → Option Expr → Rule Phrase
+  -- ( REP | REPEAT ) units [ UNTIL e1 ] ( PER | END REP | END REPEAT ), behind what stands before it
+  unfoldable pub turns : Option ℕ → Option Counter → Option Expr → Rule Phrase
   turns at c w = do
+    r ← rep
     us ← inner.units
     a ← until_part
     loop_end
-    pure (u.Loop at c w us a)
+    pure (u.Loop (unwrap_or at r) c w us a)
 
   -- [ WHILE e1 ]
   unfoldable pub while_part : Rule (Option Expr)
   while_part = optional (is_key key.While) (do keyword key.While; inner_e1)
 
-  -- FOR counter [ WHILE e1 ] ( REP | REPEAT ) turns
+  -- FOR counter [ WHILE e1 ] turns
   unfoldable pub counted : Rule Phrase
   counted = do
     room
     at ← keyword key.For
     c ← counter
     w ← while_part
-    rep
-    turns at c w
+    turns (Some at) c w
 
-  -- WHILE e1 ( REP | REPEAT ) turns
+  -- WHILE e1 turns
   unfoldable pub guarded : Rule Phrase
   guarded = do
     room
     at ← keyword key.While
     w ← inner_e1
-    rep
-    turns at None (Some w)
+    turns (Some at) None (Some w)
 
-  -- ( REP | REPEAT ) turns
+  -- turns, with nothing before them
   unfoldable pub repeated : Rule Phrase
   repeated = do
     room
-    at ← rep
-    turns at None None
+    turns None None None
 
   -- [ let | BOUND type VAR items | LEAVE .. | loop | e1 [ ":=" e1 ] ]
   unfoldable pub plain : Rule Phrase

@@ -1,19 +1,20 @@
 //! Bodies with their refinements, PROC and OP.
 
-ghost use Rattle.std.specs.Prelude.{◌≡◌, ◌≤◌, ◌<◌, ◌+◌, IfOk};
+ghost use Rattle.std.specs.Prelude.{◌≡◌, ◌≤◌, ◌<◌, ◌+◌, max, IfOk};
 ghost use Rattle.elan_parser.specs.Rule as rule;
 ghost use Rattle.elan_parser.specs.Rule.{Gives, GivesTall};
 ghost use Rattle.elan_parser.specs.Kinds as kinds;
 ghost use Rattle.elan_parser.specs.Terminals as terminals;
 ghost use Rattle.elan_parser.specs.Grammar as spec;
-ghost use Rattle.elan_parser.specs.Depth.{type_depth, units_depth, formal_depth, formals_depth, option_type_depth, refinement_depth, refinements_depth, body_depth, level_unit_depth};
+ghost use Rattle.elan_parser.specs.Depth.{units_depth, formal_depth, formals_depth, option_type_depth, refinement_depth, refinements_depth, body_depth, level_unit_depth};
 
 use crate::cursor::Cursor;
 use crate::error::ParseError;
+use crate::heading::{OperatorParts, ProcParts};
 use crate::kind::{goes_on, is_ident, is_operator, is_point, is_sign, leads};
 use crate::knot::units;
 use crate::parts::formals;
-use crate::tall::{Tall, single, with_last};
+use crate::tall::{Tall, and, single, with_last};
 use crate::types::{type_place, types};
 use elan_tree::{
     Access, Body, Formal, Key, LevelUnit, Name, Operator, OperatorName, Refinement, Sign,
@@ -232,6 +233,30 @@ fn start(of: &Option<TypePhrase>, at: u32) -> u32
     }
 }
 
+#[tactic(auto, unfolding(crate::specs::Grammar::proc_parts))]
+fn proc_parts(alloc: Global, cursor: &mut Cursor<'_>) -> Result<Tall<ProcParts>, ParseError>
+    ensures reads { GivesTall ((spec.proc_parts).run cursor.old.rest.now) result cursor.new.rest.now }
+    ensures tall { IfOk result (λ a. a.height ≡ max (formals_depth a.tree.formals) (body_depth a.tree.body) + 1) }
+    ensures low { IfOk result (λ a. a.height ≤ 400) }
+{
+    let at = cursor.keyword(Key::Proc)?;
+    let name = cursor.ident(alloc)?;
+    let formals = optional_formals(alloc, cursor)?;
+    cursor.mark(Sign::Colon)?;
+    let body = body(alloc, cursor)?;
+    cursor.keyword(Key::End)?;
+    cursor.keyword(Key::Proc)?;
+    end_name(cursor, &name)?;
+    let height = formals.height.max(body.height) + 1;
+    let tree = ProcParts {
+        at,
+        name,
+        formals: formals.tree,
+        body: body.tree,
+    };
+    Ok(Tall { tree, height })
+}
+
 /// A PROC behind the type of its result.
 #[tactic(auto, unfolding(crate::specs::Grammar::proc))]
 pub fn proc(
@@ -245,22 +270,20 @@ pub fn proc(
     ensures tall { IfOk result (λ a. a.height ≡ level_unit_depth a.tree) }
     ensures low { IfOk result (λ a. a.height ≤ 400) }
 {
-    let at = start(&of.tree, cursor.keyword(Key::Proc)?);
-    let name = cursor.ident(alloc)?;
-    let formals = optional_formals(alloc, cursor)?;
-    cursor.mark(Sign::Colon)?;
-    let body = body(alloc, cursor)?;
-    cursor.keyword(Key::End)?;
-    cursor.keyword(Key::Proc)?;
-    end_name(cursor, &name)?;
-    let inner = formals.height.max(body.height) + 1;
-    let height = of.height.max(inner);
-    let tree = LevelUnit::Proc {
+    let (of, parts) = and(of, proc_parts(alloc, cursor))?;
+    let height = of.height.max(parts.height);
+    let ProcParts {
         at,
+        name,
+        formals,
+        body,
+    } = parts.tree;
+    let tree = LevelUnit::Proc {
+        at: start(&of.tree, at),
         result: of.tree,
         name,
-        formals: formals.tree,
-        body: body.tree,
+        formals,
+        body,
     };
     Ok(Tall { tree, height })
 }
@@ -275,40 +298,45 @@ fn takes_one(operator: &Operator) -> bool
     )
 }
 
-fn operand(alloc: Global, of: TypePhrase, access: Access, name: Name) -> Result<Formal, NoMemory>
-    ensures { IfOk result (λ f. f ≡ spec.operand of access name) }
+fn operand_of(alloc: Global, of: TypePhrase, access: Access, name: Name) -> Result<Formal, NoMemory>
+    ensures { IfOk result (λ f. f ≡ spec.operand_of of access name) }
 {
     let mut names = List::new(alloc);
     names.push(name)?;
     Ok(Formal { of, access, names })
 }
 
+#[tactic(auto, unfolding(crate::specs::Grammar::operand))]
+fn operand(alloc: Global, cursor: &mut Cursor<'_>) -> Result<Tall<Formal>, ParseError>
+    ensures reads { GivesTall ((spec.operand).run cursor.old.rest.now) result cursor.new.rest.now }
+    ensures tall { IfOk result (λ a. a.height ≡ formal_depth a.tree) }
+    ensures low { IfOk result (λ a. a.height ≤ 399) }
+{
+    let of = types(alloc, cursor, MOST_IN_BODY)?;
+    let (of, access) = and(of, cursor.access())?;
+    let (of, name) = and(of, cursor.ident(alloc))?;
+    let Tall { tree, height } = of;
+    let tree = operand_of(alloc, tree, access, name)?;
+    Ok(Tall { tree, height })
+}
+
 #[tactic(auto, unfolding(crate::specs::Grammar::same_typed), using(crate::proofs::Deepest::deepest_one))]
 fn same_typed(
     alloc: Global,
     cursor: &mut Cursor<'_>,
-    of: Tall<TypePhrase>,
-    access: Access,
-    first: Name,
+    first: Tall<Formal>,
 ) -> Result<Tall<List<Formal>>, ParseError>
-    requires tall { of.height ≡ type_depth of.tree }
-    requires low { of.height ≤ 399 }
-    ensures reads { GivesTall ((spec.same_typed of.tree access first).run cursor.old.rest.now) result cursor.new.rest.now }
+    requires tall { first.height ≡ formal_depth first.tree }
+    requires low { first.height ≤ 399 }
+    ensures reads { GivesTall ((spec.same_typed first.tree).run cursor.old.rest.now) result cursor.new.rest.now }
     ensures tall { IfOk result (λ a. a.height ≡ formals_depth a.tree) }
     ensures low { IfOk result (λ a. a.height ≤ 399) }
 {
-    cursor.mark(Sign::Comma)?;
-    let second = cursor.ident(alloc)?;
-    let mut formal = operand(alloc, of.tree, access, first)?;
-    formal.names.push(second)?;
-    let height = of.height;
-    Ok(single(
-        alloc,
-        Tall {
-            tree: formal,
-            height,
-        },
-    )?)
+    let (first, _) = and(first, cursor.mark(Sign::Comma))?;
+    let (first, second) = and(first, cursor.ident(alloc))?;
+    let Tall { mut tree, height } = first;
+    tree.names.push(second)?;
+    Ok(single(alloc, Tall { tree, height })?)
 }
 
 #[tactic(auto, unfolding(crate::specs::Grammar::other_typed), using(crate::proofs::Deepest::deepest_one, crate::proofs::Deepest::deepest_push))]
@@ -323,14 +351,8 @@ fn other_typed(
     ensures tall { IfOk result (λ a. a.height ≡ formals_depth a.tree) }
     ensures low { IfOk result (λ a. a.height ≤ 399) }
 {
-    cursor.mark(Sign::Comma)?;
-    let of = types(alloc, cursor, MOST_IN_BODY)?;
-    let access = cursor.access()?;
-    let name = cursor.ident(alloc)?;
-    let second = Tall {
-        tree: operand(alloc, of.tree, access, name)?,
-        height: of.height,
-    };
+    let (first, _) = and(first, cursor.mark(Sign::Comma))?;
+    let (first, second) = and(first, operand(alloc, cursor))?;
     Ok(with_last(single(alloc, first)?, second)?)
 }
 
@@ -364,22 +386,41 @@ fn operands(
     ensures tall { IfOk result (λ a. a.height ≡ formals_depth a.tree) }
     ensures low { IfOk result (λ a. a.height ≤ 399) }
 {
-    let of = types(alloc, cursor, MOST_IN_BODY)?;
-    let access = cursor.access()?;
-    let name = cursor.ident(alloc)?;
+    let first = operand(alloc, cursor)?;
     let kind = cursor.ahead();
     if goes_on(kind) {
-        return same_typed(alloc, cursor, of, access, name);
-    }
-    let first = Tall {
-        tree: operand(alloc, of.tree, access, name)?,
-        height: of.height,
-    };
-    if is_sign(Sign::Comma, kind) {
+        same_typed(alloc, cursor, first)
+    } else if is_sign(Sign::Comma, kind) {
         other_typed(alloc, cursor, first)
     } else {
         one_operand(alloc, cursor, operator, first)
     }
+}
+
+#[tactic(auto, unfolding(crate::specs::Grammar::operator_parts))]
+fn operator_parts(alloc: Global, cursor: &mut Cursor<'_>) -> Result<Tall<OperatorParts>, ParseError>
+    ensures reads { GivesTall ((spec.operator_parts).run cursor.old.rest.now) result cursor.new.rest.now }
+    ensures tall { IfOk result (λ a. a.height ≡ max (formals_depth a.tree.formals) (body_depth a.tree.body) + 1) }
+    ensures low { IfOk result (λ a. a.height ≤ 400) }
+{
+    let at = cursor.keyword(Key::Op)?;
+    let name = cursor.operator(alloc)?;
+    cursor.mark(Sign::LeftRound)?;
+    let formals = operands(alloc, cursor, &name.operator)?;
+    cursor.mark(Sign::RightRound)?;
+    cursor.mark(Sign::Colon)?;
+    let body = body(alloc, cursor)?;
+    cursor.keyword(Key::End)?;
+    cursor.keyword(Key::Op)?;
+    end_operator(cursor, &name)?;
+    let height = formals.height.max(body.height) + 1;
+    let tree = OperatorParts {
+        at,
+        name,
+        formals: formals.tree,
+        body: body.tree,
+    };
+    Ok(Tall { tree, height })
 }
 
 /// An OP behind the type of its result.
@@ -395,24 +436,20 @@ pub fn operator(
     ensures tall { IfOk result (λ a. a.height ≡ level_unit_depth a.tree) }
     ensures low { IfOk result (λ a. a.height ≤ 400) }
 {
-    let at = start(&of.tree, cursor.keyword(Key::Op)?);
-    let name = cursor.operator(alloc)?;
-    cursor.mark(Sign::LeftRound)?;
-    let formals = operands(alloc, cursor, &name.operator)?;
-    cursor.mark(Sign::RightRound)?;
-    cursor.mark(Sign::Colon)?;
-    let body = body(alloc, cursor)?;
-    cursor.keyword(Key::End)?;
-    cursor.keyword(Key::Op)?;
-    end_operator(cursor, &name)?;
-    let inner = formals.height.max(body.height) + 1;
-    let height = of.height.max(inner);
-    let tree = LevelUnit::Op {
+    let (of, parts) = and(of, operator_parts(alloc, cursor))?;
+    let height = of.height.max(parts.height);
+    let OperatorParts {
         at,
+        name,
+        formals,
+        body,
+    } = parts.tree;
+    let tree = LevelUnit::Op {
+        at: start(&of.tree, at),
         result: of.tree,
         name,
-        formals: formals.tree,
-        body: body.tree,
+        formals,
+        body,
     };
     Ok(Tall { tree, height })
 }

@@ -14,7 +14,7 @@ use crate::cursor::Cursor;
 use crate::error::ParseError;
 use crate::expressions::Grammar;
 use crate::parts::labels;
-use crate::tall::{Tall, single, with_last};
+use crate::tall::{Tall, and, single, with_last};
 use elan_tree::{Branch, Case, Expr, Key, Sign, Unit};
 use eu_base::{Boxed, List};
 use std::alloc::Global;
@@ -31,8 +31,8 @@ impl<
         ensures low { IfOk result (λ a. a.height < self.now.depth) }
     {
         let condition = self.inner(cursor, 6)?;
-        cursor.keyword(Key::Then)?;
-        let units = self.inner_units(cursor)?;
+        let (condition, _) = and(condition, cursor.keyword(Key::Then))?;
+        let (condition, units) = and(condition, self.inner_units(cursor))?;
         let height = condition.height.max(units.height);
         let tree = Branch {
             condition: condition.tree,
@@ -224,16 +224,17 @@ impl<
     {
         self.below(cursor, 0)?;
         let at = cursor.keyword(Key::Select)?;
-        let of = self.inner(cursor, 6)?;
+        let Tall { tree, height } = self.inner(cursor, 6)?;
+        let of = Boxed::new(self.alloc, tree)?;
         cursor.keyword(Key::Of)?;
         let cases = self.cases(cursor)?;
         let otherwise = self.otherwise_part(cursor)?;
         cursor.keyword(Key::End)?;
         cursor.keyword(Key::Select)?;
-        let height = of.height.max(cases.height.max(otherwise.height));
+        let height = height.max(cases.height.max(otherwise.height));
         let tree = Expr::Select {
             at,
-            of: Boxed::new(self.alloc, of.tree)?,
+            of,
             cases: cases.tree,
             otherwise: otherwise.tree,
         };

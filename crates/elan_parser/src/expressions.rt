@@ -12,9 +12,9 @@ ghost use Rattle.elan_parser.specs.Depth.{expr_depth, exprs_depth, units_depth, 
 
 use crate::cursor::Cursor;
 use crate::error::ParseError;
-use crate::joint::Joint;
+use crate::joint::{Joint, Right};
 use crate::kind::{is_comma, is_key, is_level, is_literal, is_monadic, is_sign, lengthens};
-use crate::tall::{Tall, single, with_last};
+use crate::tall::{Tall, and, single, with_last};
 use elan_tree::{Expr, Key, Name, Sign, Unit};
 use eu_base::{Boxed, List, NoMemory};
 use std::alloc::Global;
@@ -51,13 +51,14 @@ pub fn expr_place(expr: &Expr) -> u32
     }
 }
 
-fn joined(alloc: Global, joint: Joint, left: Expr, right: Expr) -> Result<Expr, NoMemory>
-    ensures tree { IfOk result (λ e. e ≡ spec.joined joint left right) }
-    ensures depth { IfOk result (λ e. expr_depth e ≡ max (expr_depth left) (expr_depth right) + 1) }
+fn joined(alloc: Global, left: Expr, right: Right) -> Result<Expr, NoMemory>
+    ensures tree { IfOk result (λ e. e ≡ spec.joined left right) }
+    ensures depth { IfOk result (λ e. expr_depth e ≡ max (expr_depth left) (expr_depth right.operand) + 1) }
 {
+    let Right { joint, operand } = right;
     let at = expr_place(&left);
     let left = Boxed::new(alloc, left)?;
-    let right = Boxed::new(alloc, right)?;
+    let right = Boxed::new(alloc, operand)?;
     Ok(match joint {
         Joint::Cand => Expr::Cand { at, left, right },
         Joint::Cor => Expr::Cor { at, left, right },
@@ -78,15 +79,6 @@ fn indexed(alloc: Global, of: Expr, index: Expr) -> Result<Expr, NoMemory>
     let of = Boxed::new(alloc, of)?;
     let index = Boxed::new(alloc, index)?;
     Ok(Expr::Index { at, of, index })
-}
-
-/// `of.field`
-fn selected(alloc: Global, of: Expr, field: Name) -> Result<Expr, NoMemory>
-    ensures { IfOk result (λ e. e ≡ Expr.Field (expr_place of) of field) }
-{
-    let at = expr_place(&of);
-    let of = Boxed::new(alloc, of)?;
-    Ok(Expr::Field { at, of, field })
 }
 
 impl<
@@ -135,12 +127,12 @@ impl<
     {
         self.below(cursor, 0)?;
         let at = cursor.mark(Sign::LeftRound)?;
-        let a = self.inner(cursor, 6)?;
+        let Tall { tree, height } = self.inner(cursor, 6)?;
+        let inner = Boxed::new(self.alloc, tree)?;
         cursor.mark(Sign::RightRound)?;
-        let tree = Expr::Bracket(at, Boxed::new(self.alloc, a.tree)?);
         Ok(Tall {
-            tree,
-            height: a.height + 1,
+            tree: Expr::Bracket(at, inner),
+            height: height + 1,
         })
     }
 
@@ -154,12 +146,12 @@ impl<
         self.below(cursor, 0)?;
         let at = cursor.keyword(Key::Concr)?;
         cursor.mark(Sign::LeftRound)?;
-        let a = self.inner(cursor, 6)?;
+        let Tall { tree, height } = self.inner(cursor, 6)?;
+        let inner = Boxed::new(self.alloc, tree)?;
         cursor.mark(Sign::RightRound)?;
-        let tree = Expr::Concr(at, Boxed::new(self.alloc, a.tree)?);
         Ok(Tall {
-            tree,
-            height: a.height + 1,
+            tree: Expr::Concr(at, inner),
+            height: height + 1,
         })
     }
 
@@ -289,6 +281,21 @@ impl<
         }
     }
 
+    #[tactic(auto, unfolding(crate::specs::Expressions::index_part))]
+    fn index_part(&self, cursor: &mut Cursor<'_>, height: u32) -> Result<Tall<Expr>, ParseError>
+        requires { Nests self.now.depth (E.pre self.now.expression) (E.post self.now.expression) (U.pre self.now.units) (U.post self.now.units) }
+        ensures reads { GivesTall ((spec.index_part (units.phrases self.now.depth) self.now.depth height).run cursor.old.rest.now) result cursor.new.rest.now }
+        ensures tall { IfOk result (λ a. a.height ≡ expr_depth a.tree) }
+        ensures low { IfOk result (λ a. a.height < self.now.depth) }
+        ensures below { IfOk result (λ _. height < self.now.depth) }
+    {
+        self.below(cursor, height)?;
+        cursor.mark(Sign::LeftSquare)?;
+        let index = self.inner(cursor, 6)?;
+        let (index, _) = and(index, cursor.mark(Sign::RightSquare))?;
+        Ok(index)
+    }
+
     #[tactic(auto, unfolding(crate::specs::Expressions::index))]
     fn index(&self, cursor: &mut Cursor<'_>, of: Tall<Expr>) -> Result<Tall<Expr>, ParseError>
         requires nests { Nests self.now.depth (E.pre self.now.expression) (E.post self.now.expression) (U.pre self.now.units) (U.post self.now.units) }
@@ -297,16 +304,25 @@ impl<
         ensures tall { IfOk result (λ a. a.height ≡ expr_depth a.tree) }
         ensures low { IfOk result (λ a. a.height ≤ self.now.depth) }
     {
-        self.below(cursor, of.height)?;
-        cursor.mark(Sign::LeftSquare)?;
-        let index = self.inner(cursor, 6)?;
-        cursor.mark(Sign::RightSquare)?;
-        let height = of.height.max(index.height);
-        let tree = indexed(self.alloc, of.tree, index.tree)?;
-        Ok(Tall {
-            tree,
-            height: height + 1,
-        })
+        let Tall { tree: of, height } = of;
+        let (of, index) = and(of, self.index_part(cursor, height))?;
+        let Tall {
+            tree: index,
+            height: below,
+        } = index;
+        let height = height.max(below) + 1;
+        let tree = indexed(self.alloc, of, index)?;
+        Ok(Tall { tree, height })
+    }
+
+    #[tactic(auto, unfolding(crate::specs::Expressions::field_part))]
+    fn field_part(&self, cursor: &mut Cursor<'_>, height: u32) -> Result<Name, ParseError>
+        ensures reads { Gives ((spec.field_part (units.phrases self.now.depth) self.now.depth height).run cursor.old.rest.now) result cursor.new.rest.now }
+        ensures below { IfOk result (λ _. height < self.now.depth) }
+    {
+        self.below(cursor, height)?;
+        cursor.mark(Sign::Point)?;
+        cursor.ident(self.alloc)
     }
 
     #[tactic(auto, unfolding(crate::specs::Expressions::field_of))]
@@ -317,13 +333,14 @@ impl<
         ensures tall { IfOk result (λ a. a.height ≡ expr_depth a.tree) }
         ensures low { IfOk result (λ a. a.height ≤ self.now.depth) }
     {
-        self.below(cursor, of.height)?;
-        cursor.mark(Sign::Point)?;
-        let field = cursor.ident(self.alloc)?;
-        let tree = selected(self.alloc, of.tree, field)?;
+        let height = of.height;
+        let at = expr_place(&of.tree);
+        let of = Boxed::new(self.alloc, of.tree)?;
+        let field = self.field_part(cursor, height)?;
+        let tree = Expr::Field { at, of, field };
         Ok(Tall {
             tree,
-            height: of.height + 1,
+            height: height + 1,
         })
     }
 
@@ -410,6 +427,33 @@ impl<
         }
     }
 
+    #[tactic(auto, unfolding(crate::specs::Expressions::right_part))]
+    fn right_part(
+        &self,
+        cursor: &mut Cursor<'_>,
+        level: u8,
+        height: u32,
+    ) -> Result<Tall<Right>, ParseError>
+        requires nests { Nests self.now.depth (E.pre self.now.expression) (E.post self.now.expression) (U.pre self.now.units) (U.post self.now.units) }
+        requires level { level < 6 }
+        ensures reads { GivesTall ((spec.right_part (units.phrases self.now.depth) self.now.depth level height).run cursor.old.rest.now) result cursor.new.rest.now }
+        ensures tall { IfOk result (λ a. a.height ≡ expr_depth a.tree.operand) }
+        ensures low { IfOk result (λ a. a.height < self.now.depth) }
+        ensures below { IfOk result (λ _. height < self.now.depth) }
+    {
+        self.below(cursor, height)?;
+        let joint = cursor.joint(self.alloc, level + 1)?;
+        let right = self.inner(cursor, level)?;
+        let Tall {
+            tree: operand,
+            height,
+        } = right;
+        Ok(Tall {
+            tree: Right { joint, operand },
+            height,
+        })
+    }
+
     #[tactic(auto, unfolding(crate::specs::Expressions::dyadic))]
     fn dyadic(
         &self,
@@ -424,15 +468,15 @@ impl<
         ensures tall { IfOk result (λ a. a.height ≡ expr_depth a.tree) }
         ensures low { IfOk result (λ a. a.height ≤ self.now.depth) }
     {
-        self.below(cursor, left.height)?;
-        let joint = cursor.joint(self.alloc, level + 1)?;
-        let right = self.inner(cursor, level)?;
-        let height = left.height.max(right.height);
-        let tree = joined(self.alloc, joint, left.tree, right.tree)?;
-        Ok(Tall {
-            tree,
-            height: height + 1,
-        })
+        let Tall { tree: left, height } = left;
+        let (left, right) = and(left, self.right_part(cursor, level, height))?;
+        let Tall {
+            tree: right,
+            height: below,
+        } = right;
+        let height = height.max(below) + 1;
+        let tree = joined(self.alloc, left, right)?;
+        Ok(Tall { tree, height })
     }
 
     #[tactic(auto, using(crate::proofs::Turns::turn_on, crate::proofs::Turns::turn_off, crate::proofs::Turns::turn_end))]

@@ -1,10 +1,17 @@
 //! What joins two operands.
 
-use elan_tree::Operator;
+use elan_tree::{Expr, Operator};
 
 #[derive(Drop)]
 pub enum Joint {
     Cand,
     Cor,
     Operator(Operator),
+}
+
+/// What joins an operand to the right, and that operand.
+#[derive(Drop)]
+pub struct Right {
+    pub joint: Joint,
+    pub operand: Expr,
 }

@@ -6,6 +6,7 @@ mod choices;
 mod cursor;
 mod error;
 mod expressions;
+mod heading;
 mod joint;
 mod kind;
 mod knot;
@@ -17,7 +18,4 @@ mod types;
 mod units;
 
 pub use error::ParseError;
-pub use texts::{one_tree, parse};
-
-#[cfg(test)]
-mod tests;
+pub use texts::{one_tree, parse, reads_on, stays_stuck};

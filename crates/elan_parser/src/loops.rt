@@ -13,7 +13,7 @@ use crate::cursor::Cursor;
 use crate::error::ParseError;
 use crate::expressions::Grammar;
 use crate::kind::is_key;
-use crate::tall::Tall;
+use crate::tall::{Tall, and};
 use elan_tree::{Counter, Expr, Key, Limit, Name, Unit};
 use eu_base::{Boxed, List, NoMemory};
 use std::alloc::Global;
@@ -161,7 +161,7 @@ impl<
     {
         let name = cursor.ident(self.alloc)?;
         let from = self.from_part(cursor)?;
-        let limit = self.a_limit(cursor)?;
+        let (from, limit) = and(from, self.a_limit(cursor))?;
         let height = from.height.max(limit.height);
         let tree = boxed(self.alloc, name, from.tree, limit.tree)?;
         Ok(Tall {
@@ -186,7 +186,7 @@ impl<
     fn turns(
         &self,
         cursor: &mut Cursor<'_>,
-        at: u32,
+        at: Option<u32>,
         counter: Tall<Option<Boxed<Counter>>>,
         condition: Tall<Option<Expr>>,
     ) -> Result<Tall<Unit>, ParseError>
@@ -200,13 +200,14 @@ impl<
         ensures tall { IfOk result (λ a. a.height ≡ unit_depth a.tree) }
         ensures low { IfOk result (λ a. a.height ≤ self.now.depth) }
     {
-        let units = self.inner_units(cursor)?;
-        let until = self.until_part(cursor)?;
-        self.loop_end(cursor)?;
+        let (condition, start) = and(condition, cursor.rep())?;
+        let (condition, units) = and(condition, self.inner_units(cursor))?;
+        let (condition, until) = and(condition, self.until_part(cursor))?;
         let guards = condition.height.max(units.height.max(until.height));
         let height = counter.height.max(guards);
+        self.loop_end(cursor)?;
         let tree = Unit::Loop {
-            at,
+            at: at.unwrap_or(start),
             counter: counter.tree,
             condition: condition.tree,
             units: units.tree,
@@ -229,8 +230,7 @@ impl<
         let at = cursor.keyword(Key::For)?;
         let counter = self.counter(cursor)?;
         let condition = self.while_part(cursor)?;
-        cursor.rep()?;
-        self.turns(cursor, at, counter, condition)
+        self.turns(cursor, Some(at), counter, condition)
     }
 
     #[tactic(auto, unfolding(crate::specs::Units::guarded))]
@@ -243,7 +243,6 @@ impl<
         self.below(cursor, 0)?;
         let at = cursor.keyword(Key::While)?;
         let a = self.inner(cursor, 6)?;
-        cursor.rep()?;
         let counter = Tall {
             tree: None,
             height: 0,
@@ -252,7 +251,7 @@ impl<
             tree: Some(a.tree),
             height: a.height,
         };
-        self.turns(cursor, at, counter, condition)
+        self.turns(cursor, Some(at), counter, condition)
     }
 
     #[tactic(auto, unfolding(crate::specs::Units::repeated))]
@@ -263,7 +262,6 @@ impl<
         ensures low { IfOk result (λ a. a.height ≤ self.now.depth) }
     {
         self.below(cursor, 0)?;
-        let at = cursor.rep()?;
         let counter = Tall {
             tree: None,
             height: 0,
@@ -272,6 +270,6 @@ impl<
             tree: None,
             height: 0,
         };
-        self.turns(cursor, at, counter, condition)
+        self.turns(cursor, None, counter, condition)
     }
 }

@@ -1,7 +1,9 @@
 //! What was read, and how deep it is.
 
 ghost use Rattle.std.specs.Prelude.{◌≡◌, [], ◌∷◌, ◌++◌, max, IfOk};
+ghost use Rattle.elan_parser.specs.Pairs.{second_of};
 
+use crate::error::ParseError;
 use eu_base::{List, NoMemory};
 use std::alloc::Global;
 
@@ -35,4 +37,16 @@ pub fn with_last<T: Drop>(row: Tall<List<T>>, last: Tall<T>) -> Result<Tall<List
         tree,
         height: row.height.max(last.height),
     })
+}
+
+/// A value, and what was read behind it. Where that fails the value is let go here and not in the caller, whose proof would be
+/// long with an exit at which a tree is let go.
+pub fn and<A: Drop, B: Drop>(value: A, behind: Result<B, ParseError>) -> Result<(A, B), ParseError>
+    ensures value { IfOk result (λ p. p.0 ≡ value) }
+    ensures behind { behind ≡ second_of result }
+{
+    match behind {
+        Ok(behind) => Ok((value, behind)),
+        Err(error) => Err(error),
+    }
 }

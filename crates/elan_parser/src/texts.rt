@@ -7,7 +7,7 @@ ghost use Rattle.elan_parser.specs.Kinds as kinds;
 ghost use Rattle.elan_parser.specs.Terminals as terminals;
 ghost use Rattle.elan_parser.specs.Grammar as spec;
 ghost use Rattle.elan_parser.specs.Grammar.{Reads};
-ghost use Rattle.elan_parser.specs.Place.{left};
+ghost use Rattle.elan_parser.specs.Place.{left, ReadsOn, StaysStuck};
 ghost use Rattle.elan_parser.specs.Depth.{type_depth, level_unit_depth, level_units_depth, level_depth, tree_depth};
 
 use crate::bodies::{MOST, end_name, last_point, operator, proc, tail};
@@ -303,4 +303,14 @@ pub fn parse(alloc: Global, tokens: &[Token], packet: bool) -> Result<Tree, Pars
 /// A list of tokens has at most one tree.
 pub fn one_tree()
     ensures { (packet : Bool) (tokens : List Token) (t u : Tree) → Reads packet tokens t → Reads packet tokens u → t ≡ u }
+{}
+
+/// Law: tokens that spell a tree spell it whatever follows them.
+pub fn reads_on()
+    ensures { (packet : Bool) → ReadsOn packet }
+{}
+
+/// Law: what stands behind the place where the parser is stuck does not matter to it.
+pub fn stays_stuck()
+    ensures { (packet : Bool) → StaysStuck packet }
 {}

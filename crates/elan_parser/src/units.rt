@@ -14,7 +14,7 @@ use crate::error::ParseError;
 use crate::expressions::{Grammar, expr_place};
 use crate::kind::{begins, begins_typed, is_comma, is_init, is_key, is_rep};
 use crate::parts::let_items;
-use crate::tall::{Tall, single, with_last};
+use crate::tall::{Tall, and, single, with_last};
 use crate::types::{type_place, types};
 use elan_tree::{Expr, Item, Key, Sign, TypePhrase, Unit};
 use eu_base::List;
@@ -175,8 +175,8 @@ impl<
         ensures low { IfOk result (λ a. a.height ≤ self.now.depth) }
     {
         let at = type_place(&of.tree);
-        cursor.keyword(Key::Var)?;
-        let row = self.items(cursor)?;
+        let (of, _) = and(of, cursor.keyword(Key::Var))?;
+        let (of, row) = and(of, self.items(cursor))?;
         let height = of.height.max(row.height);
         Ok(Tall {
             tree: Unit::Variables(at, of.tree, row.tree),
@@ -198,8 +198,8 @@ impl<
         ensures low { IfOk result (λ a. a.height ≤ self.now.depth) }
     {
         let at = type_place(&of.tree);
-        cursor.keyword(Key::Const)?;
-        let row = self.constant_items(cursor)?;
+        let (of, _) = and(of, cursor.keyword(Key::Const))?;
+        let (of, row) = and(of, self.constant_items(cursor))?;
         let height = of.height.max(row.height);
         Ok(Tall {
             tree: Unit::Constants(at, of.tree, row.tree),
@@ -248,8 +248,8 @@ impl<
     {
         let at = cursor.keyword(Key::Bound)?;
         let of = types(self.alloc, cursor, self.depth)?;
-        cursor.keyword(Key::Var)?;
-        let row = self.items(cursor)?;
+        let (of, _) = and(of, cursor.keyword(Key::Var))?;
+        let (of, row) = and(of, self.items(cursor))?;
         let height = of.height.max(row.height);
         Ok(Tall {
             tree: Unit::Bound(at, of.tree, row.tree),
@@ -265,9 +265,10 @@ impl<
         ensures tall { IfOk result (λ a. a.height ≡ unit_depth a.tree) }
         ensures low { IfOk result (λ a. a.height ≤ self.now.depth) }
     {
-        self.below(cursor, left.height)?;
-        cursor.mark(Sign::Becomes)?;
-        let right = self.inner(cursor, 6)?;
+        let height = left.height;
+        let (left, _) = and(left, self.below(cursor, height))?;
+        let (left, _) = and(left, cursor.mark(Sign::Becomes))?;
+        let (left, right) = and(left, self.inner(cursor, 6))?;
         let height = left.height.max(right.height);
         let tree = Unit::Becomes {
             at: expr_place(&left.tree),

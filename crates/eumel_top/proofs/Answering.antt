@@ -1,15 +1,13 @@
 -- From what the parts of `line` ensure to what the command answers.
-use Rattle.std.proofs.Common.{◌≡◌, ℕ, ℤ, ◌<◌, ◌≤◌, List, [], ◌∷◌, ◌++◌, length, get_or, map, Option, Some, None, Bool, true, false, if◌then◌else◌, nat_le, codes, refl, sym, ap, ◌∙◌, arith}
+use Rattle.std.proofs.Common.{◌≡◌, ℕ, ◌<◌, ◌≤◌, List, [], ◌∷◌, length, get_or, map, Option, Bool, true, false, if◌then◌else◌, nat_le, refl, sym, ap, ◌∙◌, arith}
 use Rattle.std.proofs.lemmas.Bool.Decides.{nat_tests}
 use mathlib.Core.Logic.{inl, inr}
 use Rattle.eumel_top.specs.declared.status.Status.{Status}
 use Rattle.eumel_top.specs.declared.status.Status.TheVariants.{Done, BadWords, NoMemory, SourceFault, SinkFault, DiskFault, Foreign, BadLine, SessionFull}
 use Rattle.edge.specs.Told.{OnTold}
-use Rattle.std.specs.Fmt.{signed_decimal}
 use Rattle.std.specs.Io.KnownBytes.{Appends}
-use Rattle.eumel_top.specs.declared.expr.Expr.{Expr}
-use Rattle.eumel_top.specs.Value.{value_of}
-use Rattle.eumel_top.specs.Line.{first_line, Means, outcome, Writes, evaluated, IsTooLong, LineWrites, program, too_long, too_long_text}
+use Rattle.eumel_top.specs.Meaning.{TextWrites}
+use Rattle.eumel_top.specs.Line.{first_line, IsTooLong, LineWrites, program, too_long, too_long_text}
 use Rattle.edge.specs.Piece.{AppendsFront}
 use Rattle.eumel_top.specs.Answer.{PutsOutput, PutsFront, LineAnswers, HasRisen, line_status, LineSettles}
 
@@ -19,23 +17,17 @@ only_word f [] x bytes some few is read = absurd (omega (arith, some))
 only_word f (y ∷ []) x bytes some few is read = ap (λ b. b ∷ []) (ap f (sym is) ∙ read)
 only_word f (y ∷ z ∷ xs) x bytes some few is read = absurd (omega (arith, few))
 
-pub writes_value : (text : List ℕ) (e : Expr) (v : ℤ) (out : List ℕ) → Means text e → Some v ≡ value_of e → out ≡ signed_decimal v ++ codes " \n" → Writes text out
-writes_value text e v out means is out_is = rw (out_is ∙ ap outcome is) (evaluated e means)
-
-pub writes_overflow : (text : List ℕ) (e : Expr) (out : List ℕ) → Means text e → None ≡ value_of e → out ≡ codes "FEHLER : INT-Ueberlauf\n" → Writes text out
-writes_overflow text e out means is out_is = rw (out_is ∙ ap outcome is) (evaluated e means)
-
 pub puts_too_long : (left taken taken' : Option (List ℕ)) → OnTold left IsTooLong → AppendsFront taken taken' too_long_text → OnTold left (λ bytes. PutsFront bytes taken taken')
 puts_too_long left taken taken' long put = (long.0, long.1, (too_long_text, too_long long.2, put))
 
-line_writes : (text out bytes : List ℕ) → length text ≤ 250 → first_line bytes ≡ text → Writes text out → LineWrites bytes out
+line_writes : (text out bytes : List ℕ) → length text ≤ 250 → first_line bytes ≡ text → TextWrites text out → LineWrites bytes out
 line_writes text out bytes short is writes = program (rw is short) (rw is writes)
 
-pub puts_line : (left taken taken' : Option (List ℕ)) (text out : List ℕ) → length text ≤ 250 → OnTold left (λ bytes. first_line bytes ≡ text) → Writes text out → Appends taken taken' out → OnTold left (λ bytes. (IsTooLong bytes → ⊥) × PutsOutput bytes taken taken')
+pub puts_line : (left taken taken' : Option (List ℕ)) (text out : List ℕ) → length text ≤ 250 → OnTold left (λ bytes. first_line bytes ≡ text) → TextWrites text out → Appends taken taken' out → OnTold left (λ bytes. (IsTooLong bytes → ⊥) × PutsOutput bytes taken taken')
 puts_line left taken taken' text out short is writes put =
     (is.0, is.1, (λ long. let far : 250 < length text = rw is.2 at long in omega (arith, far, short), (out, line_writes text out is.0 short is.2 writes, put)))
 
-pub puts_front : (left taken taken' : Option (List ℕ)) (text out : List ℕ) → length text ≤ 250 → OnTold left (λ bytes. first_line bytes ≡ text) → Writes text out → AppendsFront taken taken' out → OnTold left (λ bytes. PutsFront bytes taken taken')
+pub puts_front : (left taken taken' : Option (List ℕ)) (text out : List ℕ) → length text ≤ 250 → OnTold left (λ bytes. first_line bytes ≡ text) → TextWrites text out → AppendsFront taken taken' out → OnTold left (λ bytes. PutsFront bytes taken taken')
 puts_front left taken taken' text out short is writes put = (is.0, is.1, (out, line_writes text out is.0 short is.2 writes, put))
 
 -- what the bytes say of the status

@@ -1,11 +1,9 @@
 pub mod Words
-pub mod Tokens
-pub mod Part
-pub mod Machine
-pub mod Grammar
-pub mod Value
-pub mod View
-pub mod Repeats
+pub mod Screen
+pub mod Refusal
+pub mod Program
+pub mod Serving
+pub mod Meaning
 pub mod Line
 pub mod Streams
 pub mod Status

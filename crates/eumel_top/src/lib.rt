@@ -1,17 +1,15 @@
 //! The top call: the words of the command line and the outside objects in, a status out.
-//!
-//! The reader of expressions, their code and its machine are private parts.
 #![tactic(auto)]
 
 mod command;
-mod expr;
 mod law;
 mod line;
-mod machine;
-mod parser;
+mod meaning;
+mod program;
+mod refusal;
+mod screen;
 mod status;
 mod stream;
-mod token;
 mod top;
 
 pub use law::one_output;

@@ -1,19 +1,17 @@
 //! The command `line`.
-ghost use Rattle.std.specs.Prelude.{◌≡◌, ◌≤◌, IfOk, MatchOption};
+ghost use Rattle.std.specs.Prelude.{◌≡◌, ◌≤◌, ◌<◌, ◌^◌, length, IfOk, MatchOption};
 ghost use Rattle.eu_base.specs.Faults.{Rose};
-ghost use Rattle.eumel_top.specs.View.{IsReading};
-ghost use Rattle.eumel_top.specs.Line.{Means, Writes};
+ghost use Rattle.eumel_top.specs.Meaning.{TextWrites};
 ghost use Rattle.eumel_top.specs.Answer.{LineAnswers, HasRisen};
 
-use crate::expr::Expr;
-use crate::machine::evaluate;
-use crate::parser;
+use crate::meaning::{TextError, meaning};
+use crate::program::shown;
 use crate::status::Status;
 use crate::stream::{Line, read_line};
-use crate::token::tokens;
 use edge::{Sink, Source, put_all};
-use eu_base::{Bytes, NoMemory, decimal};
+use eu_base::{Bytes, MemFault, NoMemory};
 use std::alloc::Global;
+use zero_machine::PlainMemory;
 
 /// Runs the line at the front of the input.
 pub(crate) fn run_line<S: Source, K: Sink>(alloc: Global, source: &mut S, sink: &mut K) -> Status
@@ -43,27 +41,20 @@ pub(crate) fn run_line<S: Source, K: Sink>(alloc: Global, source: &mut S, sink: 
 
 /// What the text of a program writes.
 fn respond(alloc: Global, text: &[u8]) -> Result<Bytes, NoMemory>
-    ensures { IfOk result (Writes text.now) }
+    requires { length text.now < 2 ^ 32 }
+    ensures { IfOk result (TextWrites text.now) }
 {
-    let Some(e) = read(alloc, text)? else {
-        return Bytes::from(alloc, b"FEHLER : kein ELAN-Text\n");
-    };
-    match evaluate(alloc, &e)? {
-        Some(value) => {
-            let mut out = decimal(alloc, i64::from(value))?;
-            out.append(b" \n")?;
-            Ok(out)
+    match meaning(alloc, text) {
+        Ok(core) => {
+            let mut memory = PlainMemory::new(alloc);
+            match shown(alloc, &core, &mut memory) {
+                Ok(out) => Ok(out),
+                Err(MemFault::NoMemory) => Err(NoMemory),
+                // Such a memory has no faults.
+                Err(MemFault::Failed) => unreachable!(),
+            }
         }
-        None => Bytes::from(alloc, b"FEHLER : INT-Ueberlauf\n"),
-    }
-}
-
-/// The expression of a text, or none where the text has none.
-fn read(alloc: Global, text: &[u8]) -> Result<Option<Expr>, NoMemory>
-    ensures { IfOk result (λ e. IsReading (Means text.now) e) }
-{
-    match tokens(alloc, text)? {
-        Some(tokens) => parser::text(alloc, tokens.as_slice()),
-        None => Ok(None),
+        Err(TextError::Refused(refusal)) => refusal.line(alloc, text),
+        Err(TextError::NoMemory) => Err(NoMemory),
     }
 }

@@ -1,6 +1,9 @@
 //! What no clause says: the printed bytes, and that memory suffices.
 
+use crate::meaning::meaning;
 use crate::{Status, eumel, one_output};
+use code_form::listing;
+use code_gen::generate;
 use edge::{MemDisk, MemSink, MemSource};
 use eu_base::{Bytes, List};
 use std::alloc::Global;
@@ -29,8 +32,6 @@ fn outcome(
 
 #[test]
 fn the_table_of_lines(rt: HostRuntime) -> Result<(), Fail> {
-    let refused = "FEHLER : kein ELAN-Text\n";
-    let overflow = "FEHLER : INT-Ueberlauf\n";
     let longest =
         "put (                                                                                                                                                                                                                                                   1)";
     let too_long =
@@ -39,29 +40,85 @@ fn the_table_of_lines(rt: HostRuntime) -> Result<(), Fail> {
         "put (((((((((((((((((((((((((((((((((((((((((((((((((((((((((((((((((((((((((((((((((((((((((((((((((((((5)))))))))))))))))))))))))))))))))))))))))))))))))))))))))))))))))))))))))))))))))))))))))))))))))))))";
     let open =
         "((((((((((((((((((((((((((((((((((((((((((((((((((((((((((((((((((((((((((((((((((((((((((((((((((((((((((((((((((((((((((((((((((((((((((((((((((((((((((((((((((((((((((((((((((((((((((((((((((((((((((((((((((((((((((((((((((((((((((((((((((((((((((";
-    let line = Status::Done;
-    let cases: [(&[&str], &str, Status, &str); 25] = [
-        (&["line"], "put (1 + 2 * 3)\n", line, "7 \n"),
-        (&["line"], "put (1 + 2 * 3)", line, "7 \n"),
-        (&["line"], "put (32767 + 1)\nput (1)", line, overflow),
-        (&["line"], "put (- (- 32767 - 1))", line, overflow),
-        (&["line"], "put (0 * (32767 + 1))", line, overflow),
-        (&["line"], "put (- 32767 - 1)", line, "-32768 \n"),
-        (&["line"], "put (32768)", line, refused),
-        (&["line"], "put (1 2)", line, refused),
-        (&["line"], "putput (1)", line, refused),
-        (&["line"], "pu t (1)", line, refused),
-        (&["line"], "put (1) put (1)", line, refused),
-        (&["line"], "put (32767 + 1", line, refused),
-        (&["line"], "put (1\0)", line, refused),
-        (&["line"], "", line, refused),
-        (&["line"], "\nput (1)\n", line, refused),
-        (&["line"], "put (10 - 2 - 3)", line, "5 \n"),
-        (&["line"], "put ((1 + 2) * (3 - +4) * --2)", line, "-6 \n"),
-        (&["line"], "\t put(\r0007 )  ", line, "7 \n"),
-        (&["line"], nested, line, "5 \n"),
-        (&["line"], open, line, refused),
-        (&["line"], longest, line, "1 \n"),
+    let done = Status::Done;
+    let cases: [(&[&str], &str, Status, &str); 26] = [
+        (&["line"], "put (1 + 2 * 3)\n", done, "7 \n"),
+        (&["line"], "put (1 + 2 * 3)", done, "7 \n"),
+        (
+            &["line"],
+            "put (32767 + 1)\nput (1)",
+            done,
+            "FEHLER : INT-Ueberlauf\n",
+        ),
+        (&["line"], "put (-7 DIV 2); put (-7 MOD 2)", done, "-3 1 \n"),
+        (
+            &["line"],
+            "put (- 32767 - 1); line; put (2); line",
+            done,
+            "-32768 \n2 \n",
+        ),
+        (
+            &["line"],
+            "put (4); put (1 DIV 0)",
+            done,
+            "4 \nFEHLER : Division durch 0\n",
+        ),
+        (
+            &["line"],
+            "INT VAR i; FOR i FROM 32767 UPTO 32767 REP put (i) PER; put (i)",
+            done,
+            "32767 32767 \n",
+        ),
+        (
+            &["line"],
+            "IF FALSE CAND 1 DIV 0 = 1 THEN put (1) ELSE put (2) FI",
+            done,
+            "2 \n",
+        ),
+        (
+            &["line"],
+            "SELECT 3 OF CASE 1, 2: put (1) CASE 3: put (2) OTHERWISE: put (0) END SELECT",
+            done,
+            "2 \n",
+        ),
+        (&["line"], "REP PER", done, "FEHLER : Zeitgrenze\n"),
+        (
+            &["line"],
+            "put (32768)",
+            done,
+            "FEHLER : kein Symbol (Zeile 1, Stelle 6)\n",
+        ),
+        (
+            &["line"],
+            "put (a + 1)",
+            done,
+            "FEHLER : unbekannt (Zeile 1, Stelle 6)\n",
+        ),
+        (
+            &["line"],
+            "put (TRUE + 1)",
+            done,
+            "FEHLER : falscher Typ (Zeile 1, Stelle 6)\n",
+        ),
+        (
+            &["line"],
+            "INT VAR a; INT CONST a :: 1",
+            done,
+            "FEHLER : doppelt (Zeile 1, Stelle 22)\n",
+        ),
+        (
+            &["line"],
+            "INT CONST a :: 1; a := 2",
+            done,
+            "FEHLER : keine Variable (Zeile 1, Stelle 19)\n",
+        ),
+        (&["line"], "put (1 2)", done, "FEHLER : kein ELAN-Text\n"),
+        (&["line"], "TEXT VAR t", done, "FEHLER : kein ELAN-Text\n"),
+        (&["line"], "", done, "FEHLER : kein ELAN-Text\n"),
+        (&["line"], "\nput (1)\n", done, "FEHLER : kein ELAN-Text\n"),
+        (&["line"], nested, done, "5 \n"),
+        (&["line"], open, done, "FEHLER : kein ELAN-Text\n"),
+        (&["line"], longest, done, "1 \n"),
         (&["line"], too_long, Status::BadLine(1), "! Zeile 1\n"),
         (&[], "put (1)", Status::BadWords, ""),
         (&["line", "x"], "put (1)", Status::BadWords, ""),
@@ -77,6 +134,34 @@ fn the_table_of_lines(rt: HostRuntime) -> Result<(), Fail> {
         }
     }
     one_output();
+    Ok(())
+}
+
+#[test]
+fn an_endless_loop_writes_until_its_marks_are_spent(rt: HostRuntime) -> Result<(), Fail> {
+    let alloc = rt.alloc();
+    let (none, no) = (List::new(alloc), List::new(alloc));
+    let (status, sink) = outcome(alloc, &["line"], b"REP put (1) PER", 64, none, no)?;
+    let mut output = Bytes::new(alloc);
+    for _ in 0..33_333 {
+        output.append(b"1 ")?;
+    }
+    output.append(b"\nFEHLER : Zeitgrenze\n")?;
+    assert_eq!(rt; status, Status::Done);
+    assert_eq!(rt; sink.bytes(), output.as_slice());
+    Ok(())
+}
+
+#[test]
+fn an_endless_loop_is_listed(rt: HostRuntime) -> Result<(), Fail> {
+    let alloc = rt.alloc();
+    let core = meaning(alloc, b"REP put (1) PER")?;
+    let code = generate(alloc, &core)?;
+    let text = listing(alloc, &code)?;
+    assert_eq!(rt;
+        text.as_slice(),
+        b"0 MARK\n1 MARK\n2 MARK\n3 INT 1\n4 ASK put(INT)\n5 JUMP 1\n6 END\n".as_slice()
+    );
     Ok(())
 }
 

@@ -9,7 +9,7 @@ mod Nodes
 pub mod Order
 mod Owned
 pub mod Replaced
-mod Spelled
+pub mod Spelled
 mod Tables
 pub mod Writes
 mod Views

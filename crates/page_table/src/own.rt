@@ -24,8 +24,8 @@ pub(crate) fn own_root(pool: &mut Pool, was: Option<u32>) -> Result<u32, NoMemor
     if pool.count(p) == 1 {
         return Ok(p);
     }
-    let q = copy_node(pool, Some(p))?;
-    Ok(q)
+    let root = copy_node(pool, Some(p))?;
+    Ok(root)
 }
 
 /// Table page `i` of a root page that is one's own, with count 1.
@@ -44,8 +44,8 @@ pub(crate) fn own_table(pool: &mut Pool, r: u32, i: u16) -> Result<u32, NoMemory
     if pool.count(p) == 1 {
         return Ok(p);
     }
-    let q = put_node(pool, r, i, Some(p))?;
-    Ok(q)
+    let table = put_node(pool, r, i, Some(p))?;
+    Ok(table)
 }
 
 /// Content page `j` of a table page that is one's own, with count 1.
@@ -64,6 +64,6 @@ pub(crate) fn own_content(pool: &mut Pool, t: u32, j: u16) -> Result<u32, NoMemo
     if pool.count(p) == 1 {
         return Ok(p);
     }
-    let q = put_copy(pool, t, j, Some(p))?;
-    Ok(q)
+    let content = put_copy(pool, t, j, Some(p))?;
+    Ok(content)
 }

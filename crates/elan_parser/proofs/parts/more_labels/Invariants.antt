@@ -1,4 +1,4 @@
-use Rattle.std.proofs.Common.{◌≡◌, ◌≤◌, ◌-◌, length}
+use Rattle.std.proofs.Common.{◌≡◌, ◌-◌, length}
 use Rattle.elan_tree.specs.declared.token.Sign.TheVariants as sign
 use Rattle.elan_parser.specs.Rule.{steps_run, further}
 use Rattle.elan_parser.specs.Kinds.{is_comma}

@@ -1,4 +1,4 @@
-use Rattle.std.proofs.Common.{◌≡◌, ℕ, suc, ◌-◌, ap, sym, ◌∙◌, arith, Result, Ok, Err}
+use Rattle.std.proofs.Common.{◌-◌, ap, sym, ◌∙◌, arith, Err}
 use Rattle.elan_parser.specs.declared.error.ParseError.{ParseError}
 use Rattle.elan_parser.proofs.Knots.{types_zero, types_more}
 use Rattle.elan_parser.proofs.types.+types.Goals as goal

@@ -48,5 +48,5 @@ returns-clause-ok c = λ r i roots o.
     let live = lives c.args.pool.now c.in-Some.p c.requires.table (λ t. named_live _ _ _ _ _ _ _ t.3 path) in
     let counts = count_told c.args.pool.now c.in-Some.p c.count.result c.count.ensures live in
     let more : 2 ≤ count_of c.args.pool.now c.in-Some.p = omega (arith, counts, alive, c.if-count-eq1.false) in
-    owns_copy c.args.pool.now c.put_copy-2.new.pool r i c.args.t c.args.j c.in_ok-q-2.q roots (Some c.in-Some.p) o c.in_ok-q-2.ensures.ok path
-    (λ p is. subst (λ (n : ℕ). 2 ≤ count_of c.args.pool.now n) (same_Some c.in-Some.p p is) more) c.in_ok-q-2.ensures.sound
+    owns_copy c.args.pool.now c.put_copy-2.new.pool r i c.args.t c.args.j c.in_ok-content.content roots (Some c.in-Some.p) o c.in_ok-content.ensures.ok path
+    (λ p is. subst (λ (n : ℕ). 2 ≤ count_of c.args.pool.now n) (same_Some c.in-Some.p p is) more) c.in_ok-content.ensures.sound

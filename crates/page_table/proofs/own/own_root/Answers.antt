@@ -49,9 +49,9 @@ copy_node-requires-2-clause-few c = λ p. at_least _ _ c.requires.agree (λ t. f
 
 pub returns-clause-ok : goal.returns-clause-ok
 returns-clause-ok c = λ roots a.
-    takes_root_copy c.args.pool.now c.copy_node-2.new.pool c.in_ok-q-2.q c.args.was roots a
-    (subst (CopiesNode c.args.pool.now c.copy_node-2.new.pool c.in_ok-q-2.q) (sym c.in-Some.is) c.in_ok-q-2.ensures.ok)
-    c.in_ok-q-2.ensures.sound (λ p is.
+    takes_root_copy c.args.pool.now c.copy_node-2.new.pool c.in_ok-root.root c.args.was roots a
+    (subst (CopiesNode c.args.pool.now c.copy_node-2.new.pool c.in_ok-root.root) (sym c.in-Some.is) c.in_ok-root.ensures.ok)
+    c.in_ok-root.ensures.sound (λ p is.
     let some : IsAmong c.args.pool.now (Some c.in-Some.p) 0 = subst (λ (o : Option ℕ). IsAmong c.args.pool.now o 0) c.in-Some.is c.requires.agree in
     let alive : 1 ≤ count_of c.args.pool.now c.in-Some.p = at_least _ _ some (λ t. root_live _ _ _ t.1) in
     let live = lives c.args.pool.now c.in-Some.p some (λ t. root_live _ _ _ t.1) in

@@ -69,5 +69,5 @@ returns-clause-ok c = λ roots o.
     let live = lives c.args.pool.now c.in-Some.p c.requires.root (λ t. table_live_of _ _ _ t.1.agrees c.args.i c.in-Some.p path) in
     let counts = count_told c.args.pool.now c.in-Some.p c.count.result c.count.ensures live in
     let more : 2 ≤ count_of c.args.pool.now c.in-Some.p = omega (arith, counts, alive, c.if-count-eq1.false) in
-    takes_table_copy c.args.pool.now c.put_node-2.new.pool c.args.r c.args.i c.in_ok-q-2.q roots (Some c.in-Some.p) o c.in_ok-q-2.ensures.ok c.in_ok-q-2.ensures.sound path
+    takes_table_copy c.args.pool.now c.put_node-2.new.pool c.args.r c.args.i c.in_ok-table.table roots (Some c.in-Some.p) o c.in_ok-table.ensures.ok c.in_ok-table.ensures.sound path
     (λ p is. subst (λ (n : ℕ). 2 ≤ count_of c.args.pool.now n) (same_Some c.in-Some.p p is) more)

@@ -1,4 +1,4 @@
-use Rattle.std.proofs.Common.{◌≡◌, ℕ, suc, ◌-◌, ◌+◌, ap, sym, ◌∙◌, refl, rules, arith, add-one, Result, Ok, Err}
+use Rattle.std.proofs.Common.{◌≡◌, suc, ◌-◌, rules, arith, Err}
 use Rattle.std.proofs.lemmas.Grind.{common_steps}
 use Rattle.elan_parser.specs.declared.error.ParseError.{ParseError}
 use Rattle.elan_parser.specs.Expressions.{level}

@@ -1,9 +1,8 @@
-use Rattle.std.proofs.Common.{◌≡◌, ◌≤◌, ◌<◌, ◌-◌, ◌+◌, length}
-use Rattle.elan_tree.specs.declared.token.Sign.TheVariants as sign
+use Rattle.std.proofs.Common.{◌≡◌, ◌<◌, ◌-◌, length}
 use Rattle.elan_tree.specs.declared.token.Key.TheVariants as key
-use Rattle.elan_parser.specs.Rule.{steps_run, further, nothing}
-use Rattle.elan_parser.specs.Kinds.{is_comma, is_key, is_sign, is_level, lengthens}
-use Rattle.elan_parser.specs.Terminals.{mark, keyword}
+use Rattle.elan_parser.specs.Rule.{steps_run, further}
+use Rattle.elan_parser.specs.Kinds.{is_key}
+use Rattle.elan_parser.specs.Terminals.{keyword}
 use Rattle.elan_parser.specs.Expressions as expressions
 use Rattle.elan_parser.specs.Units as units
 use Rattle.elan_parser.specs.Depth.{branches_depth}

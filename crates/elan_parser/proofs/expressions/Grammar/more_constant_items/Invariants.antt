@@ -1,10 +1,8 @@
-use Rattle.std.proofs.Common.{◌≡◌, ◌≤◌, ◌<◌, ◌-◌, ◌+◌, length}
+use Rattle.std.proofs.Common.{◌≡◌, ◌≤◌, ◌-◌, length}
 use Rattle.elan_tree.specs.declared.token.Sign.TheVariants as sign
-use Rattle.elan_tree.specs.declared.token.Key.TheVariants as key
-use Rattle.elan_parser.specs.Rule.{steps_run, further, nothing}
-use Rattle.elan_parser.specs.Kinds.{is_comma, is_key, is_sign, is_level, lengthens}
-use Rattle.elan_parser.specs.Terminals.{mark, keyword}
-use Rattle.elan_parser.specs.Expressions as expressions
+use Rattle.elan_parser.specs.Rule.{steps_run, further}
+use Rattle.elan_parser.specs.Kinds.{is_comma}
+use Rattle.elan_parser.specs.Terminals.{mark}
 use Rattle.elan_parser.specs.Units as units
 use Rattle.elan_parser.specs.Depth.{items_depth}
 use Rattle.elan_parser.proofs.expressions.Grammar.more_constant_items.Given as goal

@@ -1,9 +1,6 @@
-use Rattle.std.proofs.Common.{◌≡◌, ◌≤◌, ◌<◌, ◌-◌, ◌+◌, length}
-use Rattle.elan_tree.specs.declared.token.Sign.TheVariants as sign
-use Rattle.elan_tree.specs.declared.token.Key.TheVariants as key
-use Rattle.elan_parser.specs.Rule.{steps_run, further, nothing}
-use Rattle.elan_parser.specs.Kinds.{is_comma, is_key, is_sign, is_level, lengthens}
-use Rattle.elan_parser.specs.Terminals.{mark, keyword}
+use Rattle.std.proofs.Common.{◌≡◌, ◌≤◌, ◌-◌, length}
+use Rattle.elan_parser.specs.Rule.{steps_run}
+use Rattle.elan_parser.specs.Kinds.{lengthens}
 use Rattle.elan_parser.specs.Expressions as expressions
 use Rattle.elan_parser.specs.Units as units
 use Rattle.elan_parser.specs.Depth.{expr_depth}

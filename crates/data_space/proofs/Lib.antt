@@ -1,0 +1,4 @@
+pub mod Pasting
+pub mod Read
+pub mod Threes
+pub mod Written

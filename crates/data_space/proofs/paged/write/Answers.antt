@@ -1,0 +1,27 @@
+use Rattle.std.proofs.Common.{◌≡◌, ◌+◌, length, take, arith, length-take}
+use Rattle.std.proofs.Math.Logic.{∥∥₁_map}
+use Rattle.data_space.proofs.Pasting.{then_pasted, next_chunk}
+use Rattle.data_space.proofs.Written.{others_both}
+use Rattle.data_space.proofs.paged.write.Goals as goal
+
+pub write_page-requires-clause-agree : goal.write_page-requires-clause-agree
+write_page-requires-clause-agree c = ∥∥₁_map c.requires.agree (λ t. let kept = c.loop-done.invariant.kept t.0 t.1 in (t.0, kept.agrees, omega (arith, kept.agrees.few)))
+
+pub loop-done-preserved : goal.loop-done-preserved
+loop-done-preserved c =
+    let least = c.min-len.ensures in
+    let front : length (take c.loop-done.done c.args.from.now) ≡ c.loop-done.done = simp length-take (omega (arith, c.loop-done.invariant.within)) in
+    let page = c.loop-done.invariant.page c.loop-done-test.true in
+    record {
+      within = omega (arith, least, c.loop-done-test.true);
+      written = λ roots a.
+          let kept = c.loop-done.invariant.kept roots a in
+          then_pasted _ _ _ c.args.at _ (take c.loop-done.done c.args.from.now) _ (take (c.loop-done.done + c.min-len.result) c.args.from.now)
+          (c.loop-done.invariant.written roots a) (omega (arith, front)) (c.in_ok-write_page.ensures.written roots kept.agrees)
+          (next_chunk c.loop-done.done c.min-len.result c.args.from.now);
+      kept = λ roots a.
+          let kept = c.loop-done.invariant.kept roots a in
+          others_both _ _ _ _ _ roots kept (c.in_ok-write_page.ensures.kept roots kept.agrees);
+      used = omega (arith, least, page, c.in_ok-write_page.ensures.used, c.loop-done-test.true);
+      page = λ more. omega (arith, least, page, c.in_ok-write_page.ensures.used, more);
+    }

@@ -1,0 +1,30 @@
+use Rattle.std.proofs.Common.{◌≡◌, ◌∙◌, sym, ap, arith}
+use Rattle.page_pool.specs.Pool.{page_at}
+use Rattle.page_table.specs.Entries.{count_of, counted}
+use Rattle.page_table.proofs.Merely.{lives, equal}
+use Rattle.page_table.proofs.Replaced.{has_page}
+use Rattle.data_space.proofs.Written.{others_keep, page_pasted, page_others}
+use Rattle.data_space.proofs.paged.write_page.Goals as goal
+
+pub returns-in_err-p-clause-kept : goal.returns-in_err-p-clause-kept
+returns-in_err-p-clause-kept c = λ roots a. others_keep _ _ _ _ roots (c.in_err-p.ensures.kept roots a)
+
+pub write_own-requires-clause-live : goal.write_own-requires-clause-live
+write_own-requires-clause-live c = lives c.own.new.pool c.in_ok-p.p c.requires.agree (λ t. let single = (c.in_ok-p.ensures.own t.0 t.1).own.own in omega (arith, single))
+
+pub write_own-requires-clause-own : goal.write_own-requires-clause-own
+write_own-requires-clause-own c = λ page is. sym (ap counted is) ∙ equal _ _ c.requires.agree (λ t. (c.in_ok-p.ensures.own t.0 t.1).own.own)
+
+pub returns-clause-written : goal.returns-clause-written
+returns-clause-written c = λ roots a.
+    let takes = c.in_ok-p.ensures.own roots a in
+    let single : count_of c.own.new.pool c.in_ok-p.p ≡ 1 = takes.own.own in
+    let live = has_page (page_at c.own.new.pool c.in_ok-p.p) (omega (arith, single)) in
+    page_pasted c.args.pool.now c.own.new.pool c.write_own.new.self _ _ c.args.k c.in_ok-p.p c.args.at c.args.from.now roots takes live.0 live.1 (c.write_own.ensures.page live.0 live.1) c.write_own.ensures.sound c.requires.within
+
+pub returns-clause-kept : goal.returns-clause-kept
+returns-clause-kept c = λ roots a.
+    let takes = c.in_ok-p.ensures.own roots a in
+    let single : count_of c.own.new.pool c.in_ok-p.p ≡ 1 = takes.own.own in
+    let live = has_page (page_at c.own.new.pool c.in_ok-p.p) (omega (arith, single)) in
+    page_others c.args.pool.now c.own.new.pool c.write_own.new.self _ _ c.args.k c.in_ok-p.p c.args.at c.args.from.now roots takes live.0 live.1 (c.write_own.ensures.page live.0 live.1) c.write_own.ensures.sound c.requires.within

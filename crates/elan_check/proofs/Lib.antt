@@ -1,0 +1,11 @@
+pub mod First
+pub mod Lists
+pub mod Rows
+pub mod Loops
+pub mod Deliveries
+pub mod Firm
+pub mod InScope
+pub mod TypeEquations
+pub mod Numbers
+pub mod WellTyped
+pub mod OneAnswer

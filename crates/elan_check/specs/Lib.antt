@@ -1,0 +1,11 @@
+pub mod Names
+pub mod NotBuilt
+pub mod Scope
+pub mod Phrase
+pub mod Ruled
+pub mod Predefined
+pub mod Rules
+pub mod Shape
+pub mod Meaning
+pub mod Text
+pub mod Answer

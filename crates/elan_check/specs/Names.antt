@@ -1,0 +1,16 @@
+-- The predefined names that are not built yet.
+use Rattle.std.specs.Prelude.{ℕ, Bool, true, false, ◌||◌, List, [], ◌∷◌, codes}
+use Rattle.std.specs.Str.{bytes_eq}
+
+abbrev pub is_among : List (List ℕ) → List ℕ → Bool
+is_among [] name = false
+is_among (n ∷ ns) name = bytes_eq n name || is_among ns name
+
+unfoldable pub names_not_built : List (List ℕ)
+names_not_built =
+    codes "CAT" ∷ codes "SUB" ∷ codes "LENGTH" ∷ codes "length" ∷ codes "pos" ∷ codes "subtext" ∷ codes "code" ∷ codes "text" ∷ codes "int"
+    ∷ codes "errorstop" ∷ codes "write" ∷ codes "putline" ∷ codes "get" ∷ codes "getline"
+    ∷ codes "niltask" ∷ codes "begin" ∷ codes "end" ∷ codes "myself" ∷ codes "father" ∷ codes "son" ∷ codes "brother" ∷ codes "task"
+    ∷ codes "name" ∷ codes "exists" ∷ codes "break"
+    ∷ codes "nilspace" ∷ codes "type" ∷ codes "forget" ∷ codes "new" ∷ codes "old" ∷ codes "rename" ∷ codes "copy" ∷ codes "send"
+    ∷ codes "wait" ∷ codes "call" ∷ []

@@ -1,0 +1,41 @@
+//! The meaning of a text.
+
+ghost use Rattle.std.specs.Prelude.{◌≡◌, ◌↔◌, IfOk, Err};
+ghost use Rattle.elan_types.specs.Typing.{IsWellTyped};
+ghost use Rattle.elan_types.specs.declared.env.Env.{Env};
+ghost use Rattle.elan_types.specs.declared.core_phrase.Core.{Core};
+ghost use Rattle.elan_tree.specs.declared.tree.Tree.{Tree};
+ghost use Rattle.elan_check.specs.declared.error.CheckError.TheVariants as errors;
+ghost use Rattle.elan_check.specs.Ruled.{Fault};
+ghost use Rattle.elan_check.specs.Text as text;
+
+use crate::error::CheckError;
+use crate::level::core_of;
+use crate::not_built::has_unbuilt;
+use elan_tree::Tree;
+use elan_types::{Core, Env};
+use std::alloc::Global;
+
+/// The one core of a text, or the first phrase in text order that breaks a rule though all its parts have meaning, and the
+/// rule. A text that declares more names than a command has cells, 16,384, is answered with `NoMemory`; no text of at most
+/// 8,000 tokens does.
+pub fn check(alloc: Global, tree: &Tree, env: &Env) -> Result<Core, CheckError>
+    // What it gives is the meaning.
+    ensures meaning { IfOk result (λ core. text.Means env.now tree.now core) }
+    // A text that has a meaning is not refused.
+    ensures only { (core : Core) → text.Means env.now tree.now core → text.IsCore core result }
+    // The refusal is the first one.
+    ensures refused { text.IsRefusal (text.Refused env.now tree.now) result }
+    // A text with a phrase or a name that is not built has no other answer, and no other text has this one.
+    ensures not_built { (result ≡ Err errors.NotBuilt) ↔ text.IsNotBuilt tree.now }
+    // A core is well typed, so code can be made of it.
+    ensures typed { IfOk result (λ core. IsWellTyped core) }
+{
+    if has_unbuilt(tree) {
+        return Err(CheckError::NotBuilt);
+    }
+    match tree {
+        Tree::Program(level) => core_of(alloc, level.units.as_slice()),
+        Tree::Packet { .. } => Err(CheckError::NotBuilt),
+    }
+}

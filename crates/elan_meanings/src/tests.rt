@@ -1,0 +1,266 @@
+use elan_check::check;
+use elan_lexer::tokens;
+use elan_parser::parse;
+use elan_types::Env;
+use std::alloc::{AllocError, Global};
+use std::test::Fail;
+
+/// Texts, and whether they have a core, or at which place and for which reason they have none.
+const TEXTS: [(&str, &str); 133] = [
+    ("put (1)", "a core"),
+    ("line; put (maxint)", "a core"),
+    ("INT VAR a; INT CONST a :: 1", "NoMeaning(22, Doubled)"),
+    ("INT VAR a, b, a", "NoMeaning(15, Doubled)"),
+    (
+        "INT VAR a; BOOL VAR b; INT VAR b; INT VAR a",
+        "NoMeaning(32, Doubled)",
+    ),
+    ("INT VAR a :: 1; a := 2; put (a)", "a core"),
+    ("put (a); INT VAR a", "a core"),
+    ("put (b); INT VAR a", "NoMeaning(6, Unknown)"),
+    ("a := 1", "NoMeaning(1, Unknown)"),
+    ("x", "NoMeaning(1, Unknown)"),
+    ("x + y", "NoMeaning(1, Unknown)"),
+    ("put (x)", "NoMeaning(6, Unknown)"),
+    ("put (TRUE)", "NoMeaning(1, WrongType)"),
+    ("put (1, 2)", "NoMeaning(1, Unknown)"),
+    ("put", "NoMeaning(1, Unknown)"),
+    ("line (1)", "NoMeaning(1, Unknown)"),
+    ("maxint (1)", "NoMeaning(1, Unknown)"),
+    ("f (1)", "NoMeaning(1, Unknown)"),
+    ("INT VAR f; f (1)", "NoMeaning(12, Unknown)"),
+    ("TRUE + 1", "NoMeaning(1, WrongType)"),
+    ("1 + TRUE", "NoMeaning(1, WrongType)"),
+    ("put (1 FOO 2)", "NoMeaning(6, Unknown)"),
+    ("put (FOO 2)", "NoMeaning(6, Unknown)"),
+    ("put (1 AND 2)", "NoMeaning(6, WrongType)"),
+    ("put (NOT 1)", "NoMeaning(6, WrongType)"),
+    ("put (- TRUE)", "NoMeaning(6, WrongType)"),
+    ("put (1 = TRUE)", "NoMeaning(6, WrongType)"),
+    ("BOOL VAR b :: TRUE = FALSE; b := 1 < 2", "a core"),
+    ("BOOL VAR b :: TRUE < FALSE", "NoMeaning(15, WrongType)"),
+    ("INT CONST c :: 1; c := 2", "NoMeaning(19, NoVariable)"),
+    ("INT CONST c :: 1; c INCR 1", "NoMeaning(19, NoVariable)"),
+    (
+        "INT VAR v; v INCR 2; v DECR TRUE",
+        "NoMeaning(22, WrongType)",
+    ),
+    ("1 := 2", "NoMeaning(1, NoVariable)"),
+    ("1 INCR 2", "NoMeaning(1, NoVariable)"),
+    ("INT VAR x; (x) := 1", "NoMeaning(12, NoVariable)"),
+    ("INT VAR x; x + 1 := 2", "NoMeaning(12, NoVariable)"),
+    ("INT VAR x :: TRUE", "NoMeaning(9, WrongType)"),
+    (
+        "BOOL VAR x :: 1, y :: TRUE, z :: 2",
+        "NoMeaning(10, WrongType)",
+    ),
+    ("INT VAR x :: line", "NoMeaning(9, WrongType)"),
+    ("INT VAR x; x := TRUE", "NoMeaning(12, WrongType)"),
+    ("INT VAR x; x := line", "NoMeaning(12, WrongType)"),
+    ("INT VAR x; TRUE := x", "NoMeaning(12, WrongType)"),
+    ("1", "NoMeaning(1, WrongType)"),
+    ("INT VAR x; x; put (x)", "NoMeaning(12, WrongType)"),
+    ("put (1); 1;", "NoMeaning(10, WrongType)"),
+    ("IF TRUE THEN 1 FI", "NoMeaning(1, WrongType)"),
+    ("IF TRUE THEN 1 ELSE 2 FI", "NoMeaning(1, WrongType)"),
+    ("put (IF TRUE THEN 1 ELSE 2 FI)", "a core"),
+    ("put (IF TRUE THEN 1 ELIF FALSE THEN 2 ELSE 3 FI)", "a core"),
+    (
+        "put (IF TRUE THEN 1 ELIF FALSE THEN TRUE ELSE 3 FI)",
+        "NoMeaning(6, WrongType)",
+    ),
+    ("put (IF TRUE THEN 1 FI)", "NoMeaning(6, WrongType)"),
+    (
+        "put (IF TRUE THEN 1 ELIF FALSE THEN 2 FI)",
+        "NoMeaning(6, WrongType)",
+    ),
+    (
+        "put (IF TRUE THEN 1 ELSE TRUE FI)",
+        "NoMeaning(6, WrongType)",
+    ),
+    (
+        "put (IF TRUE THEN line ELSE line FI)",
+        "NoMeaning(1, WrongType)",
+    ),
+    ("IF TRUE THEN line ELSE 1 FI", "NoMeaning(1, WrongType)"),
+    ("IF 1 THEN line FI", "NoMeaning(1, WrongType)"),
+    (
+        "IF TRUE THEN line ELIF 2 THEN line FI",
+        "NoMeaning(1, WrongType)",
+    ),
+    ("IF line THEN line FI", "NoMeaning(1, WrongType)"),
+    ("IF TRUE THEN 1; line FI", "NoMeaning(14, WrongType)"),
+    ("IF x THEN y FI", "NoMeaning(4, Unknown)"),
+    ("IF TRUE THEN ELSE FI", "a core"),
+    ("SELECT 1 OF CASE 1: line END SELECT", "a core"),
+    (
+        "SELECT 1 OF CASE 1, 2: line CASE 3, 1: line END SELECT",
+        "NoMeaning(37, Doubled)",
+    ),
+    (
+        "SELECT 1 OF CASE -1: line CASE 2, -1: line OTHERWISE line END SELECT",
+        "NoMeaning(35, Doubled)",
+    ),
+    (
+        "SELECT TRUE OF CASE 1: line END SELECT",
+        "NoMeaning(1, WrongType)",
+    ),
+    (
+        "put (SELECT 1 OF CASE 1: 2 OTHERWISE 3 END SELECT)",
+        "a core",
+    ),
+    (
+        "put (SELECT 1 OF CASE 1: 2 END SELECT)",
+        "NoMeaning(6, WrongType)",
+    ),
+    (
+        "put (SELECT 1 OF CASE 1: 2 OTHERWISE TRUE END SELECT)",
+        "NoMeaning(6, WrongType)",
+    ),
+    (
+        "put (SELECT 1 OF CASE 1: 2 CASE 2: line OTHERWISE 3 END SELECT)",
+        "NoMeaning(6, WrongType)",
+    ),
+    (
+        "SELECT 1 OF CASE a: line END SELECT",
+        "NoMeaning(18, Unknown)",
+    ),
+    (
+        "INT VAR a; SELECT 1 OF CASE a: line END SELECT",
+        "NoMeaning(29, WrongType)",
+    ),
+    (
+        "SELECT 1 OF CASE maxint: line END SELECT",
+        "NoMeaning(18, WrongType)",
+    ),
+    (
+        "SELECT 1 OF CASE put: line END SELECT",
+        "NoMeaning(18, Unknown)",
+    ),
+    (
+        "SELECT line OF CASE 1: line END SELECT",
+        "NoMeaning(1, WrongType)",
+    ),
+    ("REP line UNTIL TRUE PER", "a core"),
+    ("REP 1 UNTIL TRUE PER", "NoMeaning(5, WrongType)"),
+    ("REP line UNTIL 1 PER", "NoMeaning(1, WrongType)"),
+    ("WHILE 1 REP line PER", "NoMeaning(1, WrongType)"),
+    ("WHILE FALSE REP line; 2 PER", "NoMeaning(23, WrongType)"),
+    ("WHILE x REP y PER", "NoMeaning(7, Unknown)"),
+    ("INT VAR i; FOR i FROM 1 UPTO 3 REP put (i) PER", "a core"),
+    (
+        "INT VAR i; FOR i FROM TRUE UPTO 3 REP put (i) PER",
+        "NoMeaning(12, WrongType)",
+    ),
+    (
+        "INT VAR i; FOR i UPTO TRUE REP put (i) PER",
+        "NoMeaning(12, WrongType)",
+    ),
+    ("INT VAR i; FOR i DOWNTO 0 REP put (i) PER", "a core"),
+    (
+        "FOR i FROM 1 UPTO 3 REP put (1) PER",
+        "NoMeaning(5, Unknown)",
+    ),
+    (
+        "INT CONST i :: 1; FOR i FROM 1 UPTO 3 REP put (i) PER",
+        "NoMeaning(23, NoVariable)",
+    ),
+    (
+        "BOOL VAR i; FOR i FROM 1 UPTO 3 REP line PER",
+        "NoMeaning(13, WrongType)",
+    ),
+    (
+        "FOR maxint FROM 1 UPTO 3 REP line PER",
+        "NoMeaning(5, NoVariable)",
+    ),
+    ("FOR line UPTO 3 REP line PER", "NoMeaning(1, WrongType)"),
+    (
+        "INT CONST i :: 1; FOR i WHILE 1 REP line PER",
+        "NoMeaning(19, WrongType)",
+    ),
+    (
+        "INT CONST i :: 1; FOR i FROM TRUE REP line PER",
+        "NoMeaning(19, WrongType)",
+    ),
+    (
+        "REP INT VAR x :: 1; put (x) UNTIL TRUE PER; put (x)",
+        "a core",
+    ),
+    (
+        "IF TRUE THEN INT VAR x FI; IF TRUE THEN INT VAR x FI",
+        "NoMeaning(49, Doubled)",
+    ),
+    ("put (1 CAND TRUE)", "NoMeaning(6, WrongType)"),
+    ("BOOL VAR b :: TRUE CAND 1 = 1; b := b COR FALSE", "a core"),
+    ("BOOL VAR b :: TRUE COR 1", "NoMeaning(15, WrongType)"),
+    ("put ((1))", "a core"),
+    ("put ((line))", "NoMeaning(1, WrongType)"),
+    ("(line); (1 + 2)", "NoMeaning(9, WrongType)"),
+    (
+        "put (min (1, 2)); put (max (1)); put (abs (- 1))",
+        "NoMeaning(24, Unknown)",
+    ),
+    ("put (min (TRUE, 2))", "NoMeaning(6, WrongType)"),
+    ("put (abs (1, 2))", "NoMeaning(6, Unknown)"),
+    ("INT VAR min; put (min); put (min (min, 2))", "a core"),
+    (
+        "INT VAR maxint :: 3; put (maxint); INT VAR line; line := 1",
+        "a core",
+    ),
+    ("INT VAR x :: x", "a core"),
+    ("INT VAR x :: y; put (z)", "NoMeaning(14, Unknown)"),
+    ("put (u); INT VAR a, a", "NoMeaning(6, Unknown)"),
+    ("INT VAR a, a; put (u)", "NoMeaning(12, Doubled)"),
+    ("INT VAR v, v :: TRUE", "NoMeaning(12, Doubled)"),
+    ("put (1 + (2 * (3 DIV x)))", "NoMeaning(22, Unknown)"),
+    ("TEXT VAR t", "NotBuilt"),
+    ("put (\"a\")", "NotBuilt"),
+    ("INT VAR text", "NotBuilt"),
+    ("put (code (1))", "NotBuilt"),
+    ("a CAT b", "NotBuilt"),
+    ("LET n = 3", "NotBuilt"),
+    ("ROW 3 INT VAR a", "NotBuilt"),
+    ("PROC p: END PROC p", "NotBuilt"),
+    ("r. r: line.", "NotBuilt"),
+    ("REP LEAVE r PER", "NotBuilt"),
+    ("INT VAR a; a [1] := 2", "NotBuilt"),
+    ("INT VAR a; a.f := 2", "NotBuilt"),
+    ("TASK VAR t", "NotBuilt"),
+    ("put (x); TEXT VAR t", "NotBuilt"),
+    ("INT VAR copy :: TRUE", "NotBuilt"),
+    ("LENGTH 1", "NotBuilt"),
+    ("INT VAR a; a := LENGTH 1; put (b)", "NotBuilt"),
+    ("SELECT 1 OF CASE pos: line END SELECT", "NotBuilt"),
+    ("BOUND INT VAR b", "NotBuilt"),
+    ("T VAR x", "NotBuilt"),
+    ("put (CONCR (1))", "NotBuilt"),
+    ("begin", "NotBuilt"),
+    ("FOR type REP line PER", "NotBuilt"),
+];
+
+fn answer(alloc: Global, text: &str) -> Result<String, AllocError> {
+    if text.len() > 1000 {
+        return format!(in alloc; "too long");
+    }
+    let tokens = match tokens(alloc, text.as_bytes()) {
+        Ok(tokens) => tokens,
+        Err(error) => return format!(in alloc; "{error:?}"),
+    };
+    let tree = match parse(alloc, tokens.as_slice(), false) {
+        Ok(tree) => tree,
+        Err(error) => return format!(in alloc; "{error:?}"),
+    };
+    match check(alloc, &tree, &Env) {
+        Ok(_core) => format!(in alloc; "a core"),
+        Err(error) => format!(in alloc; "{error:?}"),
+    }
+}
+
+#[test]
+fn texts_have_these_meanings(rt: HostRuntime) -> Result<(), Fail> {
+    for (text, want) in TEXTS {
+        let found = answer(rt.alloc(), text)?;
+        assert_eq!(rt; found.as_str(), want, "at {text}");
+    }
+    Ok(())
+}

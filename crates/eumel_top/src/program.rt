@@ -1,0 +1,64 @@
+//! Programs that run.
+ghost use Rattle.std.specs.Prelude.{◌≡◌, IfOk};
+ghost use Rattle.eu_base.specs.Cells.{HasFaultCause};
+ghost use Rattle.code_form.specs.Machine.{start};
+ghost use Rattle.code_form.specs.Valid.{Fits};
+ghost use Rattle.code_gen.specs.Correct.{Behaves, Holds};
+ghost use Rattle.elan_types.specs.declared.core_phrase.Core.{Core};
+ghost use Rattle.elan_types.specs.Command.{blank_store};
+ghost use Rattle.elan_types.specs.Typing.{IsWellTyped};
+ghost use Rattle.zero_machine.specs.Running.{control_of};
+ghost use Rattle.eumel_top.specs.Program.{Shows};
+
+use crate::screen::Screen;
+use code_form::{Code, Halt};
+use code_gen::generate;
+use elan_types::Core;
+use eu_base::{Bytes, MemFault, Memory, Reply, Stop};
+use std::alloc::Global;
+use zero_machine::{State, reply, run, start};
+
+/// How many marks a line may spend.
+const MARKS: u32 = 100_000;
+
+/// What a program shows with the marks of a line, its variables in this memory.
+pub(crate) fn shown<M: Memory>(
+    alloc: Global,
+    core: &Core,
+    memory: &mut M,
+) -> Result<Bytes, MemFault>
+    requires { IsWellTyped core.now }
+    ensures shows { IfOk result (Shows core.now) }
+    ensures cause { HasFaultCause (M.faults memory.old) (M.faults memory.new) result }
+{
+    let code = generate(alloc, core)?;
+    let mut state = start(alloc, &code, memory)?;
+    serve(alloc, &code, &mut state, memory)
+}
+
+/// Runs a program from its start, and puts on the screen what it asks for.
+fn serve<M: Memory>(
+    alloc: Global,
+    code: &Code,
+    state: &mut State,
+    memory: &mut M,
+) -> Result<Bytes, MemFault>
+    requires starts { control_of state.old ≡ start }
+    requires fits { Fits code.now (control_of state.old) }
+    ensures shows { (core : Core) → Behaves core code.now → Holds code.now.variables (blank_store core) (M.cells memory.old) → IfOk result (Shows core) }
+    ensures cause { HasFaultCause (M.faults memory.old) (M.faults memory.new) result }
+{
+    let mut marks = MARKS;
+    let mut screen = Screen::new(alloc);
+    loop {
+        match run(code, state, memory, &mut marks)? {
+            Halt::Ended => return Ok(screen.finish(alloc, None)?),
+            Halt::Stopped(stop) => return Ok(screen.finish(alloc, Some(stop))?),
+            Halt::Marked => return Ok(screen.finish(alloc, Some(Stop::LineMarks))?),
+            Halt::Asks(request) => {
+                screen.show(alloc, &request)?;
+                reply(code, state, memory, Reply::Done)?;
+            }
+        }
+    }
+}

@@ -1,0 +1,54 @@
+//! A memory that is lent with its pool.
+ghost use Rattle.std.specs.Prelude.{◌≡◌};
+ghost use Rattle.page_table.specs.Sharing.{IsAmong};
+
+use crate::space_memory::SpaceMemory;
+use eu_base::{Addr, MemFault, Memory};
+use page_pool::Pool;
+
+/// The cells of a memory, over its pool.
+#[derive(Drop)]
+pub struct Lent<'a> {
+    pub memory: &'a mut SpaceMemory,
+    pub pool: &'a mut Pool,
+    ghost agree: { IsAmong pool.now memory.now.run.root 0 },
+}
+
+impl SpaceMemory {
+    /// Its cells, over its pool.
+    pub fn over<'a>(&'a mut self, pool: &'a mut Pool) -> Lent<'a>
+        requires agree { IsAmong pool.old self.old.run.root 0 }
+        ensures memory_name { result.memory.ghost_name ≡ self.entry.ghost_name }
+        ensures pool_name { result.pool.ghost_name ≡ pool.entry.ghost_name }
+        ensures memory_same { result.memory.now ≡ self.old }
+        ensures pool_same { result.pool.now ≡ pool.old }
+    {
+        Lent { memory: self, pool }
+    }
+}
+
+impl<'a> Memory for Lent<'a> {
+    ghost use Rattle.data_space.specs.Spaces.{content_at};
+    ghost use Rattle.cell_layout.specs.Layout.{cell_in};
+    ghost use Rattle.space_memory.specs.Lent.{LentFollows, lent_reflexive, lent_transitive};
+
+    ghost cells = { λ lent at. cell_in (content_at lent.pool.now lent.memory.now.run.root) at.cell };
+
+    ghost faults = { λ _. 0 };
+
+    ghost follows = { LentFollows };
+
+    ghost reflexive = { lent_reflexive };
+
+    ghost transitive = { lent_transitive };
+
+    fn cell(&mut self, at: Addr) -> Result<u64, MemFault> {
+        let number = self.memory.run_cell(self.pool, at.cell)?;
+        Ok(number)
+    }
+
+    fn set_cell(&mut self, at: Addr, number: u64) -> Result<(), MemFault> {
+        self.memory.set_run_cell(self.pool, at.cell, number)?;
+        Ok(())
+    }
+}
