@@ -1,9 +1,10 @@
 //! A command that runs.
-ghost use Rattle.std.specs.Prelude.{◌≡◌, IfOk, OnOk, IfSome, IsSome};
-ghost use Rattle.eu_base.specs.Cells.{HasFaultCause, IsBlank};
-ghost use Rattle.code_form.specs.Machine.{start, rest_at, answered};
+ghost use Rattle.std.specs.Prelude.{◌≡◌, ◌++◌, ◌∷◌, [], ℕ, List, IfOk, OnOk, IfSome, IsSome};
+ghost use Rattle.eu_base.specs.declared.request.Reply.{Reply};
+ghost use Rattle.eu_base.specs.Cells.{Cells, HasFaultCause, IsBlank};
+ghost use Rattle.code_form.specs.Machine.{Control, start, rest_at, answered};
 ghost use Rattle.code_form.specs.Valid.{Fits};
-ghost use Rattle.code_form.specs.Runs.{Rests};
+ghost use Rattle.code_form.specs.Runs.{Rests, Continues};
 ghost use Rattle.zero_machine.specs.Running.{scene_of};
 
 use code_form::{Code, Halt};
@@ -40,16 +41,21 @@ impl TaskRun {
         Ok(TaskRun { state })
     }
 
-    /// Goes on until a mark is due and none is left, something is asked, or the command ends or stops.
+    /// Goes on until a mark is due and none is left, something is asked, or the command ends or stops. However the
+    /// marks are divided over the calls, they make one run.
     pub fn go<M: Memory>(&mut self, c: &Code, m: &mut M, marks: &mut u32) -> Result<Halt, MemFault>
         requires { Fits c.now self.old }
         ensures rests { IfOk result (λ halt. Rests c.now.lines self.old (scene_of (M.cells m.old) marks.old)
             (rest_at halt self.new (scene_of (M.cells m.new) marks.new))) }
+        ensures goes_on { OnOk result ((first : Control) (cells : Cells) (given : ℕ) (replies : List Reply) →
+            Continues c.now.lines first cells given replies self.old (M.cells m.old) marks.old →
+            Continues c.now.lines first cells given replies self.new (M.cells m.new) marks.new) }
         ensures fits { OnOk result (Fits c.now self.new) }
         ensures cause { HasFaultCause (M.faults m.old) (M.faults m.new) result }
         ensures follows { M.follows m.old m.new }
     {
-        zero_machine::run(c, &mut self.state, m, marks)
+        let halt = zero_machine::run(c, &mut self.state, m, marks)?;
+        Ok(halt)
     }
 
     /// Answers the request that the command waits for.
@@ -57,11 +63,15 @@ impl TaskRun {
         requires fits { Fits c.now self.old }
         requires asks { IsSome self.old.waits }
         ensures answered { OnOk result (IfSome self.old.waits (λ request. self.new ≡ answered request r self.old)) }
+        ensures goes_on { OnOk result ((first : Control) (cells : Cells) (given left : ℕ) (replies : List Reply) →
+            Continues c.now.lines first cells given replies self.old (M.cells m.old) left →
+            Continues c.now.lines first cells given (replies ++ r ∷ []) self.new (M.cells m.new) left) }
         ensures fits { OnOk result (Fits c.now self.new) }
         ensures kept { M.cells m.new ≡ M.cells m.old }
         ensures cause { HasFaultCause (M.faults m.old) (M.faults m.new) result }
         ensures follows { M.follows m.old m.new }
     {
-        zero_machine::reply(c, &mut self.state, m, r)
+        zero_machine::reply(c, &mut self.state, m, r)?;
+        Ok(())
     }
 }
