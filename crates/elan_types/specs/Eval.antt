@@ -1,27 +1,51 @@
--- What a program does. Evaluation knows the values of variables, the marks and the replies that are left, and neither code nor cells.
-use Rattle.std.specs.Prelude.{ℕ, zero, suc, Bool, true, false, not, ◌||◌, List, [], ◌∷◌, Option, Some, None, Ok, Err, slice_index_or, slice_set, ℤ, pos}
+-- What a program does. Evaluation knows the values of variables, the marks and the replies that are left, and no code.
+use Rattle.std.specs.Prelude.{ℕ, zero, suc, ◌+◌, ◌-◌, Bool, true, false, not, ◌||◌, List, [], ◌∷◌, ◌++◌, map, length, take, Option, Some, None, Ok, Err, slice_get, slice_index_or, slice_set, ℤ, pos}
 use Rattle.std.specs.Ordering.{int_eq}
 use Rattle.eu_base.specs.declared.value.Value.{Value}
 use Rattle.eu_base.specs.declared.value.Value.TheVariants.{Int, Truth}
 use Rattle.eu_base.specs.declared.stop.Stop.{Stop}
+use Rattle.eu_base.specs.declared.stop.Stop.TheVariants.{CellRoom, OperandRoom}
 use Rattle.eu_base.specs.declared.request.Request.{Request}
 use Rattle.eu_base.specs.declared.request.Reply.{Reply}
 use Rattle.eu_base.specs.declared.operation.Change.{Change}
 use Rattle.eu_base.specs.declared.operation.Change.TheVariants.{Increase}
 use Rattle.eu_base.specs.declared.operation.Way.{Way}
-use Rattle.eu_base.specs.Values.{number_of, truth_of}
+use Rattle.eu_base.specs.Values.{number_of, truth_of, blank_of}
+use Rattle.eu_base.specs.Room.{value_bytes, place_bytes, cells_fit, bytes_fit}
 use Rattle.eu_base.specs.Operations.{Given, result_of, changed, is_past, has_reached, next_number, put_request, line_request}
 use Rattle.elan_types.specs.declared.core_phrase.PlacePhrase.{PlacePhrase}
-use Rattle.elan_types.specs.declared.core_phrase.PlacePhrase.TheVariants.{Variable}
+use Rattle.elan_types.specs.declared.core_phrase.PlacePhrase.TheVariants.{Variable, Local, Parameter}
+use Rattle.elan_types.specs.declared.core_phrase.Exit.{Exit}
+use Rattle.elan_types.specs.declared.core_phrase.Exit.TheVariants as exits
+use Rattle.elan_types.specs.declared.core_phrase.Scope.{Scope}
+use Rattle.elan_types.specs.declared.core_phrase.Scope.TheVariants.{Own}
+use Rattle.elan_types.specs.declared.core_phrase.Content.{Content}
+use Rattle.elan_types.specs.declared.core_phrase.Content.TheVariants as contents
+use Rattle.elan_types.specs.declared.core_phrase.Body.{Body}
 use Rattle.elan_types.specs.declared.core_phrase.ValuePhrase.{ValuePhrase}
 use Rattle.elan_types.specs.declared.core_phrase.Action.{Action}
 use Rattle.elan_types.specs.declared.core_phrase.Action.TheOpen as t
-use Rattle.elan_types.specs.declared.core_phrase.Action.TheOpen.{Action-F, ValuePhrase-F, Arm-F, ValueArm-F}
+use Rattle.elan_types.specs.declared.core_phrase.Action.TheOpen.{Action-F, Actual-F, ValuePhrase-F, Arm-F, ValueArm-F}
 use Rattle.elan_types.specs.declared.core_phrase.Action.TheFolds.{fold-Action, fold-ValuePhrase}
+use Rattle.elan_types.specs.declared.elan_type.ElanType.{ElanType}
+use Rattle.elan_types.specs.Typing.{kind_in}
 
--- the values of the variables, the marks that are left, and the replies that are left
+-- where a value stands: a variable, by its number in the store
+pub record Place : Type 0 where
+  pub variable : ℕ
+
+-- what a store has, one after another in order of making. Each has one cell
+pub data Slot : Type 0 where
+  -- the value of a variable, a constant or a CONST parameter
+  Holds : Value → Slot
+  -- the place that a VAR parameter holds
+  Refers : Place → Slot
+  -- a cell that only counts: a call and a refinement have two, a FOR with a limit has one
+  Taken : Slot
+
+-- the variables, the marks that are left, and the replies that are left
 pub record World : Type 0 where
-  pub store : List Value
+  pub store : List Slot
   pub marks : ℕ
   pub replies : List Reply
 
@@ -29,8 +53,8 @@ pub record World : Type 0 where
 pub data Outcome (A : Type 0) : Type 0 where
   -- it delivers this
   Gives : A → World → Outcome A
-  -- what holds it is left
-  Left : World → Outcome A
+  -- a body is left, and delivers this
+  Left : Exit → Option Value → World → Outcome A
   Stopped : Stop → World → Outcome A
   -- a mark is due, and none is left
   OutOfMarks : World → Outcome A
@@ -40,7 +64,7 @@ pub data Outcome (A : Type 0) : Type 0 where
 -- goes on with what a phrase gives
 abbrev pub bind : {A B : Type 0} → Outcome A → (A → World → Outcome B) → Outcome B
 bind (Gives a w) go = go a w
-bind (Left w) go = Left w
+bind (Left e v w) go = Left e v w
 bind (Stopped s w) go = Stopped s w
 bind (OutOfMarks w) go = OutOfMarks w
 bind (Asks q w) go = Asks q w
@@ -69,22 +93,74 @@ abbrev pub or_stop : {A : Type 0} → Given → (Value → World → Outcome A) 
 or_stop (Ok v) go w = go v w
 or_stop (Err s) go w = Stopped s w
 
-abbrev pub place_of : PlacePhrase → ℕ
-place_of (Variable k) = k
+abbrev pub slot_at : List Slot → ℕ → Slot
+slot_at store x = slice_index_or store x Taken
 
-abbrev pub fetch : ℕ → World → Value
-fetch x w = slice_index_or w.store x (Int (pos 0))
+-- the value and the place in a slot. A slot that has none has 0; no well typed phrase asks for it
+abbrev pub value_of : Slot → Value
+value_of (Holds v) = v
+value_of _ = Int (pos 0)
 
-abbrev pub assign : ℕ → Value → World → World
-assign x v w = record w { store = slice_set w.store x v }
+abbrev pub place_of : Slot → Place
+place_of (Refers x) = x
+place_of _ = record { variable = 0 }
 
--- how far a phrase can go: the turns that a loop can make
+abbrev pub fetch : Place → World → Value
+fetch x w = value_of (slot_at w.store x.variable)
+
+abbrev pub assign : Place → Value → World → World
+assign x v w = record w { store = slice_set w.store x.variable (Holds v) }
+
+-- what calls of bodies do: of a PROC with what its parameters hold, and of a refinement from a body whose variables begin at a
+-- number in the store; each with so many bytes of operands pending. They deliver a value or nothing
+pub record Calls : Type 0 where
+  pub call : ℕ → List Slot → ℕ → World → Outcome (Option Value)
+  pub refer : ℕ → ℕ → ℕ → World → Outcome (Option Value)
+
+-- how far a phrase can go, and from where: what calls do, the turns that a loop can make, the number in the store at which
+-- the variables of the body begin, and the bytes of pending operands
 pub record Reach : Type 0 where
+  pub calls : Calls
   pub turns : ℕ
+  pub base : ℕ
+  pub held : ℕ
 
 -- what a phrase does
 abbrev pub Run : Type 0 → Type 0
 Run A = Reach → World → Outcome A
+
+-- with a value or a place pending besides
+abbrev pub holding : Value → Reach → Reach
+holding v r = record r { held = value_bytes v + r.held }
+
+abbrev pub holding_place : Reach → Reach
+holding_place r = record r { held = place_bytes + r.held }
+
+abbrev pub holding_slot : Slot → Reach → Reach
+holding_slot (Holds v) r = holding v r
+holding_slot (Refers x) r = holding_place r
+holding_slot Taken r = r
+
+-- a value is delivered, where its bytes have room
+abbrev pub deliver : Value → Run Value
+deliver v r = branch (bytes_fit (value_bytes v + r.held)) (Gives v) (Stopped OperandRoom)
+
+abbrev pub deliver_place : Place → Run Place
+deliver_place x r = branch (bytes_fit (place_bytes + r.held)) (Gives x) (Stopped OperandRoom)
+
+-- the place that a phrase names
+abbrev pub place : PlacePhrase → Run Place
+place (Variable k) r w = deliver_place (record { variable = k }) r w
+place (Local k) r w = deliver_place (record { variable = r.base + k }) r w
+place (Parameter k) r w = deliver_place (place_of (slot_at w.store (r.base + k))) r w
+
+-- goes on with more slots, where these have room
+abbrev pub with_room : {A : Type 0} → List Slot → (World → Outcome A) → World → Outcome A
+with_room more go w = branch (cells_fit (length w.store + length more)) (λ w. go (record w { store = w.store ++ more })) (Stopped CellRoom) w
+
+-- without the slots from n on
+abbrev pub cut : ℕ → World → World
+cut n w = record w { store = take n w.store }
 
 -- one after another
 abbrev pub all : List (Run (Unit {0})) → Run (Unit {0})
@@ -93,7 +169,12 @@ all (a ∷ as') n w = bind (a n w) (λ _. all as' n)
 
 abbrev pub values : List (Run Value) → Run (List Value)
 values [] n w = Gives [] w
-values (a ∷ as') n w = bind (a n w) (λ v w. bind (values as' n w) (λ vs. Gives (v ∷ vs)))
+values (a ∷ as') n w = bind (a n w) (λ v w. bind (values as' (holding v n) w) (λ vs. Gives (v ∷ vs)))
+
+-- what parameters are given
+abbrev pub actuals : List (Run Slot) → Run (List Slot)
+actuals [] n w = Gives [] w
+actuals (a ∷ as') n w = bind (a n w) (λ x w. bind (actuals as' (holding_slot x n) w) (λ xs. Gives (x ∷ xs)))
 
 -- a part of a SELECT, with its labels
 pub record Labelled (A : Type 0) : Type 0 where
@@ -140,60 +221,148 @@ abbrev pub go_on : Run Bool
 go_on n w = Gives true w
 
 -- INCR and DECR
-abbrev pub modify : {A : Type 0} → Change → ℕ → ℤ → A → World → Outcome A
+abbrev pub modify : {A : Type 0} → Change → Place → ℤ → A → World → Outcome A
 modify change x z a w = or_stop (changed change (number_of (fetch x w)) z) (λ v w. Gives a (assign x v w)) w
 
--- the step of a counter without limit
-abbrev pub step : ℕ → Run Bool
-step x n w = modify Increase x (pos 1) true w
+-- the step of a counter without limit: it delivers the place and the number 1
+abbrev pub step : PlacePhrase → Run Bool
+step p n w = bind (place p n w) (λ x w. bind (deliver (Int (pos 1)) (holding_place n) w) (λ v. modify Increase x (number_of v) true))
 
 -- the step of a counter with a limit, at the number z: it ends at the limit, and no number past it is made
-abbrev pub step_from : ℕ → Way → ℤ → ℤ → World → Outcome Bool
+abbrev pub step_from : Place → Way → ℤ → ℤ → World → Outcome Bool
 step_from x way limit z w = branch (has_reached way limit z) (Gives false) (λ w. Gives true (assign x (Int (next_number way z)) w)) w
 
-abbrev pub step_to : ℕ → Way → ℤ → Run Bool
-step_to x way limit n w = step_from x way limit (number_of (fetch x w)) w
+-- it delivers the place
+abbrev pub step_to : PlacePhrase → Way → ℤ → Run Bool
+step_to p way limit n w = bind (place p n w) (λ x w. step_from x way limit (number_of (fetch x w)) w)
+
+-- the turns under a limit, which has a cell meanwhile; x is the place at which the counter is tested first
+abbrev pub limited : Place → Way → ℤ → Run Bool → Run (Unit {0})
+limited x way limit turn' n =
+    with_room (Taken ∷ []) (λ w. bind (branch (is_past way limit (number_of (fetch x w))) (Gives tt) (turns n.turns (turn' n)) w) (λ _ w. Gives tt (cut (length w.store - 1) w)))
 
 -- the turns of a counted loop, whose counter has its first value. The limit is evaluated once
-abbrev pub counted : ℕ → Way → Option (Run Value) → (Run Bool → Run Bool) → Run (Unit {0})
-counted x way None turn' n w = turns n.turns (turn' (step x) n) w
-counted x way (Some a) turn' n w =
-    bind (a n w) (λ limit w. branch (is_past way (number_of limit) (number_of (fetch x w))) (Gives tt) (turns n.turns (turn' (step_to x way (number_of limit)) n)) w)
+abbrev pub counted : PlacePhrase → Way → Option (Run Value) → (Run Bool → Run Bool) → Run (Unit {0})
+counted p way None turn' n w = turns n.turns (turn' (step p) n) w
+counted p way (Some a) turn' n w =
+    bind (place p n w) (λ x w. bind (a (holding_place n) w) (λ limit. limited x way (number_of limit) (turn' (step_to p way (number_of limit))) n))
 
-abbrev pub value_step : ValuePhrase-F (Run (Unit {0})) (Run Value) (Labelled (Run (Unit {0}))) (Labelled (Run Value)) → Run Value
-value_step (t.Number z) n w = Gives (Int z) w
-value_step (t.Truth b) n w = Gives (Truth b) w
-value_step (t.Load p u) n w = Gives (fetch (place_of p) w) w
-value_step (t.Apply op as') n w = bind (values as' n w) (λ vs. or_stop (result_of op vs) Gives)
-value_step (t.Cand a b) n w = bind (a n w) (λ v. branch (truth_of v) (b n) (Gives (Truth false)))
-value_step (t.Cor a b) n w = bind (a n w) (λ v. branch (truth_of v) (Gives (Truth true)) (b n))
+-- a value is stored at a place, which is evaluated first
+abbrev pub stored : PlacePhrase → Run Value → Run (Unit {0})
+stored p a n w = bind (place p n w) (λ x w. bind (a (holding_place n) w) (λ v w. Gives tt (assign x v w)))
+
+-- the value that a body delivers. Where it delivers none it is 0; no well typed phrase asks for it
+abbrev pub delivered : Option Value → Value
+delivered (Some v) = v
+delivered None = Int (pos 0)
+
+-- a body is left with a value, or without one
+abbrev pub leave : {A : Type 0} → Exit → Option (Run Value) → Run A
+leave e None n w = Left e None w
+leave e (Some a) n w = bind (a n w) (λ v. Left e (Some v))
+
+abbrev pub Layer : (Type 0 → Type 0 → Type 0 → Type 0 → Type 0 → Type 0) → Type 0
+Layer F = F (Run (Unit {0})) (Run Slot) (Run Value) (Labelled (Run (Unit {0}))) (Labelled (Run Value))
+
+abbrev pub value_step : Layer ValuePhrase-F → Run Value
+value_step (t.Number z) n w = deliver (Int z) n w
+value_step (t.Truth b) n w = deliver (Truth b) n w
+value_step (t.Load p u) n w = bind (place p n w) (λ x w. deliver (fetch x w) n w)
+value_step (t.Apply op as') n w = bind (values as' n w) (λ vs. or_stop (result_of op vs) (λ v. deliver v n))
+value_step (t.Cand a b) n w = bind (a n w) (λ v. branch (truth_of v) (b n) (deliver (Truth false) n))
+value_step (t.Cor a b) n w = bind (a n w) (λ v. branch (truth_of v) (deliver (Truth true) n) (b n))
 value_step (t.ValuePhrase::If c a b) n w = bind (c n w) (λ v. branch (truth_of v) (a n) (b n))
 value_step (t.ValuePhrase::Select a arms other) n w = bind (a n w) (λ v. selected (number_of v) arms other n)
 value_step (t.ValuePhrase::Unit a) n w = spend (a n) w
 value_step (t.After us a) n w = bind (all us n w) (λ _. a n)
+value_step (t.ValuePhrase::Call p as') n w = bind (actuals as' n w) (λ xs w. bind (n.calls.call p xs n.held w) (λ v. Gives (delivered v)))
+value_step (t.ValuePhrase::Refer p) n w = bind (n.calls.refer p n.base n.held w) (λ v. Gives (delivered v))
+value_step (t.ValuePhrase::Leave e a u) n w = leave e a n w
 
-abbrev pub value_arm_step : ValueArm-F (Run (Unit {0})) (Run Value) (Labelled (Run (Unit {0}))) (Labelled (Run Value)) → Labelled (Run Value)
+-- what a parameter is given: a value, or a place
+abbrev pub actual_step : Layer Actual-F → Run Slot
+actual_step (t.Value a) n w = bind (a n w) (λ v. Gives (Holds v))
+actual_step (t.Place p u) n w = bind (place p n w) (λ x. Gives (Refers x))
+
+abbrev pub value_arm_step : Layer ValueArm-F → Labelled (Run Value)
 value_arm_step arm = record { labels = arm.labels; part = arm.value }
 
-abbrev pub action_step : Action-F (Run (Unit {0})) (Run Value) (Labelled (Run (Unit {0}))) (Labelled (Run Value)) → Run (Unit {0})
+abbrev pub action_step : Layer Action-F → Run (Unit {0})
 action_step (t.Action::Unit us) n w = spend (all us n) w
-action_step (t.Store p u a) n w = bind (a n w) (λ v w. Gives tt (assign (place_of p) v w))
-action_step (t.Modify change p a) n w = bind (a n w) (λ v. modify change (place_of p) (number_of v) tt)
+action_step (t.Store p u a) n w = stored p a n w
+action_step (t.Modify change p a) n w = bind (place p n w) (λ x w. bind (a (holding_place n) w) (λ v. modify change x (number_of v) tt))
 action_step (t.Action::If c us vs) n w = bind (c n w) (λ v. branch (truth_of v) (all us n) (all vs n))
 action_step (t.Action::Select a arms us) n w = bind (a n w) (λ v. selected (number_of v) arms (all us) n)
 action_step (t.Loop while' us until) n w = turns n.turns (turn while' (all us) until go_on n) w
 action_step (t.Count p from way limit while' us until) n w =
-    bind (from n w) (λ v w. counted (place_of p) way limit (turn while' (all us) until) n (assign (place_of p) v w))
+    bind (stored p from n w) (λ _. counted p way limit (turn while' (all us) until) n)
 action_step (t.Put a) n w = bind (a n w) (λ v. ask (put_request (number_of v)) (λ _. Gives tt))
 action_step t.Line n w = ask line_request (λ _. Gives tt) w
+action_step (t.Action::Call p as') n w = bind (actuals as' n w) (λ xs w. bind (n.calls.call p xs n.held w) (λ _. Gives tt))
+action_step (t.Action::Refer p) n w = bind (n.calls.refer p n.base n.held w) (λ _. Gives tt)
+action_step (t.Action::Leave e a) n w = leave e a n w
 
-abbrev pub arm_step : Arm-F (Run (Unit {0})) (Run Value) (Labelled (Run (Unit {0}))) (Labelled (Run Value)) → Labelled (Run (Unit {0}))
+abbrev pub arm_step : Layer Arm-F → Labelled (Run (Unit {0}))
 arm_step arm = record { labels = arm.labels; part = all arm.units }
 
 -- what a phrase that delivers a value does
 abbrev pub value : ValuePhrase → Run Value
-value = fold-ValuePhrase (Run (Unit {0})) (Run Value) (Labelled (Run (Unit {0}))) (Labelled (Run Value)) action_step value_step arm_step value_arm_step
+value = fold-ValuePhrase (Run (Unit {0})) (Run Slot) (Run Value) (Labelled (Run (Unit {0}))) (Labelled (Run Value)) action_step actual_step value_step arm_step value_arm_step
 
 -- what an action does
 abbrev pub act : Action → Run (Unit {0})
-act = fold-Action (Run (Unit {0})) (Run Value) (Labelled (Run (Unit {0}))) (Labelled (Run Value)) action_step value_step arm_step value_arm_step
+act = fold-Action (Run (Unit {0})) (Run Slot) (Run Value) (Labelled (Run (Unit {0}))) (Labelled (Run Value)) action_step actual_step value_step arm_step value_arm_step
+
+-- what a body does when it is entered
+abbrev pub content : Content → Run (Option Value)
+content (contents.Units us) n w = bind (all (map act us) n w) (λ _. Gives None)
+content (contents.Value u a) n w = bind (value a n w) (λ v. Gives (Some v))
+
+-- the slots of a call: two, what the parameters hold, and the variables
+abbrev pub frame : List Slot → List ElanType → List Slot
+frame xs variables = Taken ∷ Taken ∷ (xs ++ map (λ u. Holds (blank_of (kind_in u))) variables)
+
+-- the slots of a refinement
+abbrev pub link : List Slot
+link = Taken ∷ Taken ∷ []
+
+-- a PROC has come to its end, or is left from itself or from a refinement of it; its slots, those from n on, are given back
+abbrev pub called : ℕ → Outcome (Option Value) → Outcome (Option Value)
+called n (Gives v w) = Gives v (cut n w)
+called n (Left e v w) = Gives v (cut n w)
+called n (Stopped s w) = Stopped s w
+called n (OutOfMarks w) = OutOfMarks w
+called n (Asks q w) = Asks q w
+
+-- a refinement has come to its end or is left, or it leaves the PROC
+abbrev pub referred : ℕ → Outcome (Option Value) → Outcome (Option Value)
+referred n (Gives v w) = Gives v (cut n w)
+referred n (Left exits.Body v w) = Gives v (cut n w)
+referred n (Left exits.Around v w) = Left exits.Around v w
+referred n (Stopped s w) = Stopped s w
+referred n (OutOfMarks w) = OutOfMarks w
+referred n (Asks q w) = Asks q w
+
+-- the types of a PROC's own variables
+abbrev pub own_variables : Scope → List ElanType
+own_variables (Own parameters variables) = variables
+own_variables _ = []
+
+-- a body that is called, and one that is referred to. There is always one; no well typed phrase names another
+abbrev pub run_called : Calls → ℕ → Option Body → List Slot → ℕ → World → Outcome (Option Value)
+run_called calls n None xs held w = OutOfMarks w
+run_called calls n (Some b) xs held w =
+    with_room (frame xs (own_variables b.scope)) (λ w'. called (length w.store) (content b.content (record { calls = calls; turns = n; base = length w.store + 2; held = held }) w')) w
+
+abbrev pub run_referred : Calls → ℕ → Option Body → ℕ → ℕ → World → Outcome (Option Value)
+run_referred calls n None base held w = OutOfMarks w
+run_referred calls n (Some b) base held w =
+    with_room link (λ w'. referred (length w.store) (content b.content (record { calls = calls; turns = n; base = base; held = held }) w')) w
+
+-- calls of these bodies, each for a mark, at most n deep; where n is at least the marks that are left it is no bound
+abbrev pub level : List Body → ℕ → Calls
+level bodies zero = record { call = λ p xs held. OutOfMarks; refer = λ p base held. OutOfMarks }
+level bodies (suc n) = record {
+  call = λ p xs held. spend (run_called (level bodies n) n (slice_get bodies p) xs held);
+  refer = λ p base held. spend (run_referred (level bodies n) n (slice_get bodies p) base held);
+}

@@ -1,17 +1,27 @@
 -- The types of phrases, and which cores are well typed.
-use Rattle.std.specs.Prelude.{◌≡◌, ◌≤◌, Bool, true, false, ◌&&◌, List, [], ◌∷◌, map, length, Option, Some, None, slice_get}
+use Rattle.std.specs.Prelude.{◌≡◌, ℕ, Bool, true, false, ◌&&◌, ◌==◌, List, [], ◌∷◌, ◌++◌, map, Option, Some, None, slice_get}
 use Rattle.elan_types.specs.declared.elan_type.ElanType.{ElanType}
 use Rattle.elan_types.specs.declared.elan_type.ElanType.TheVariants as types
 use Rattle.eu_base.specs.declared.value.Kind.{Kind}
 use Rattle.eu_base.specs.declared.value.Kind.TheVariants as kinds
 use Rattle.eu_base.specs.Operations.{operand_kinds, result_kind, in_range}
 use Rattle.elan_types.specs.declared.core_phrase.PlacePhrase.{PlacePhrase}
-use Rattle.elan_types.specs.declared.core_phrase.PlacePhrase.TheVariants.{Variable}
+use Rattle.elan_types.specs.declared.core_phrase.PlacePhrase.TheVariants.{Variable, Local, Parameter}
+use Rattle.elan_types.specs.declared.core_phrase.Access.{Access}
+use Rattle.elan_types.specs.declared.core_phrase.Access.TheVariants.{Const, Var}
+use Rattle.elan_types.specs.declared.core_phrase.Exit.{Exit}
+use Rattle.elan_types.specs.declared.core_phrase.Exit.TheVariants as exits
+use Rattle.elan_types.specs.declared.core_phrase.Scope.{Scope}
+use Rattle.elan_types.specs.declared.core_phrase.Scope.TheVariants.{Own, Of, Level}
+use Rattle.elan_types.specs.declared.core_phrase.Content.{Content}
+use Rattle.elan_types.specs.declared.core_phrase.Content.TheVariants as contents
+use Rattle.elan_types.specs.declared.core_phrase.Parameter.{Parameter as Formal}
+use Rattle.elan_types.specs.declared.core_phrase.Body.{Body}
 use Rattle.elan_types.specs.declared.core_phrase.Core.{Core}
 use Rattle.elan_types.specs.declared.core_phrase.ValuePhrase.{ValuePhrase}
 use Rattle.elan_types.specs.declared.core_phrase.Action.{Action}
 use Rattle.elan_types.specs.declared.core_phrase.Action.TheOpen as t
-use Rattle.elan_types.specs.declared.core_phrase.Action.TheOpen.{Action-F, ValuePhrase-F, Arm-F, ValueArm-F}
+use Rattle.elan_types.specs.declared.core_phrase.Action.TheOpen.{Action-F, Actual-F, ValuePhrase-F, Arm-F, ValueArm-F}
 use Rattle.elan_types.specs.declared.core_phrase.Action.TheFolds.{fold-Action, fold-ValuePhrase}
 
 -- the type of a phrase, none where it is not well typed
@@ -66,12 +76,146 @@ abbrev pub kind_in : ElanType → Kind
 kind_in types.Int = kinds.Int
 kind_in types.Bool = kinds.Truth
 
-module _ (variables : List ElanType) where
+abbrev pub same_access : Access → Access → Bool
+same_access Const Const = true
+same_access Var Var = true
+same_access _ _ = false
+
+-- the type of what is held with an access: a variable, constant and CONST parameter hold a value, a VAR parameter the place of one
+abbrev pub type_as : Access → Option Formal → Typed
+type_as access None = None
+type_as access (Some f) = only_if (same_access access f.access) (Some f.of)
+
+abbrev pub held_const : ElanType → Formal
+held_const u = record { of = u; access = Const }
+
+-- what a parameter is given, none where it is not well typed
+abbrev pub Taken : Type 0
+Taken = Option Formal
+
+abbrev pub takes : Formal → Taken → Bool
+takes f None = false
+takes f (Some g) = same_type f.of g.of && same_access f.access g.access
+
+-- parameters are given what they take, one each
+abbrev pub take_all : List Formal → List Taken → Bool
+take_all [] [] = true
+take_all (f ∷ fs) (a ∷ as') = takes f a && take_all fs as'
+take_all _ _ = false
+
+-- with an access, where there is a type
+abbrev pub given_as : Access → Typed → Taken
+given_as access None = None
+given_as access (Some u) = Some (record { of = u; access = access })
+
+abbrev pub result_of_content : Content → Typed
+result_of_content (contents.Units us) = None
+result_of_content (contents.Value u a) = Some u
+
+abbrev pub is_none : Typed → Bool
+is_none None = true
+is_none (Some u) = false
+
+-- what a LEAVE delivers: nothing, or a value of the type
+abbrev pub leaves_with : Typed → Option Typed → Bool
+leaves_with None None = true
+leaves_with (Some u) (Some a) = has u a
+leaves_with _ _ = false
+
+-- where a phrase stands: in the units of the level, or in the body with this number
+abbrev pub Home : Type 0
+Home = Option ℕ
+
+-- the PROC whose parameters and variables a phrase can use; none where it stands in the level or in a refinement of it
+abbrev pub owner_in : ℕ → Scope → Home
+owner_in n (Own parameters variables) = Some n
+owner_in n (Of p) = Some p
+owner_in n Level = None
+
+abbrev pub same_home : Home → Home → Bool
+same_home None None = true
+same_home (Some a) (Some b) = a == b
+same_home _ _ = false
+
+-- the parameters and variables of a PROC
+abbrev pub frame_of : Scope → List Formal
+frame_of (Own parameters variables) = parameters ++ map held_const variables
+frame_of _ = []
+
+abbrev pub scope_of : Option Body → Option Scope
+scope_of None = None
+scope_of (Some b) = Some b.scope
+
+-- what a body delivers; none where there is no body
+abbrev pub result_of : Option Body → Option Typed
+result_of None = None
+result_of (Some b) = Some (result_of_content b.content)
+
+abbrev pub delivered_by : Option Body → Typed
+delivered_by None = None
+delivered_by (Some b) = result_of_content b.content
+
+-- whether a PROC takes what it is given
+abbrev pub taken_by : Option Scope → List Taken → Bool
+taken_by (Some (Own parameters variables)) as' = take_all parameters as'
+taken_by _ as' = false
+
+-- whether it is a refinement of the PROC with this number, or of the level
+abbrev pub refines : Home → Option Scope → Bool
+refines None (Some Level) = true
+refines (Some p) (Some (Of q)) = p == q
+refines _ _ = false
+
+abbrev pub owner_at : ℕ → Option Scope → Home
+owner_at n (Some scope) = owner_in n scope
+owner_at n None = None
+
+abbrev pub frame_at : Option Scope → List Formal
+frame_at (Some scope) = frame_of scope
+frame_at None = []
+
+module _ (bodies : List Body) where
+  abbrev pub body_at : ℕ → Option Body
+  body_at = slice_get bodies
+
+  abbrev pub owner : Home → Home
+  owner None = None
+  owner (Some n) = owner_at n (scope_of (body_at n))
+
+  -- the parameters and variables of a PROC
+  abbrev pub frame_in : Home → List Formal
+  frame_in None = []
+  frame_in (Some n) = frame_at (scope_of (body_at n))
+
+  -- what the PROC delivers that a refinement leaves
+  abbrev pub around : Option Scope → Option Typed
+  around (Some (Of p)) = result_of (body_at p)
+  around _ = None
+
+  -- what a LEAVE has to deliver; none where there is nothing to leave
+  abbrev pub left_from : Exit → Home → Option Typed
+  left_from e None = None
+  left_from exits.Body (Some n) = result_of (body_at n)
+  left_from exits.Around (Some n) = around (scope_of (body_at n))
+
+abbrev pub may_leave : Option Typed → Option Typed → Bool
+may_leave None a = false
+may_leave (Some u) a = leaves_with u a
+
+module _ (variables : List ElanType) (bodies : List Body) (home : Home) where
+  abbrev pub frame_here : List Formal
+  frame_here = frame_in bodies (owner bodies home)
+
   abbrev pub place_type : PlacePhrase → Typed
   place_type (Variable k) = slice_get variables k
+  place_type (Local k) = type_as Const (slice_get frame_here k)
+  place_type (Parameter k) = type_as Var (slice_get frame_here k)
+
+  abbrev pub Layer : (Type 0 → Type 0 → Type 0 → Type 0 → Type 0 → Type 0) → Type 0
+  Layer F = F Bool Taken Typed Bool Typed
 
   -- the type of a phrase from those of its parts
-  abbrev pub value_type_step : ValuePhrase-F Bool Typed Bool Typed → Typed
+  abbrev pub value_type_step : Layer ValuePhrase-F → Typed
   value_type_step (t.Number z) = only_if (in_range z) (Some types.Int)
   value_type_step (t.Truth b) = Some types.Bool
   value_type_step (t.Load p u) = only_if (has u (place_type p)) (Some u)
@@ -82,12 +226,19 @@ module _ (variables : List ElanType) where
   value_type_step (t.ValuePhrase::Select v arms other) = only_if (has types.Int v && all_agree other arms) other
   value_type_step (t.ValuePhrase::Unit a) = a
   value_type_step (t.After us a) = only_if (all_true us) a
+  value_type_step (t.ValuePhrase::Call p as') = only_if (taken_by (scope_of (slice_get bodies p)) as') (delivered_by (slice_get bodies p))
+  value_type_step (t.ValuePhrase::Refer p) = only_if (refines (owner bodies home) (scope_of (slice_get bodies p))) (delivered_by (slice_get bodies p))
+  value_type_step (t.ValuePhrase::Leave e a u) = only_if (may_leave (left_from bodies e home) a) (Some u)
 
-  abbrev pub value_arm_type_step : ValueArm-F Bool Typed Bool Typed → Typed
+  abbrev pub actual_type_step : Layer Actual-F → Taken
+  actual_type_step (t.Value a) = given_as Const a
+  actual_type_step (t.Place p u) = given_as Var (only_if (has u (place_type p)) (Some u))
+
+  abbrev pub value_arm_type_step : Layer ValueArm-F → Typed
   value_arm_type_step arm = arm.value
 
   -- whether an action's parts have the types that it asks for
-  abbrev pub action_typed_step : Action-F Bool Typed Bool Typed → Bool
+  abbrev pub action_typed_step : Layer Action-F → Bool
   action_typed_step (t.Action::Unit us) = all_true us
   action_typed_step (t.Store p u a) = has u (place_type p) && has u a
   action_typed_step (t.Modify change p a) = has types.Int (place_type p) && has types.Int a
@@ -98,18 +249,32 @@ module _ (variables : List ElanType) where
       has types.Int (place_type p) && (has types.Int from && (has_if_written types.Int limit && (has_if_written types.Bool c && (all_true us && has_if_written types.Bool u))))
   action_typed_step (t.Put a) = has types.Int a
   action_typed_step t.Line = true
+  action_typed_step (t.Action::Call p as') = taken_by (scope_of (slice_get bodies p)) as' && is_none (delivered_by (slice_get bodies p))
+  action_typed_step (t.Action::Refer p) = refines (owner bodies home) (scope_of (slice_get bodies p)) && is_none (delivered_by (slice_get bodies p))
+  action_typed_step (t.Action::Leave e a) = may_leave (left_from bodies e home) a
 
-  abbrev pub arm_typed_step : Arm-F Bool Typed Bool Typed → Bool
+  abbrev pub arm_typed_step : Layer Arm-F → Bool
   arm_typed_step arm = all_true arm.units
 
   -- the type of a phrase
   abbrev pub type_of : ValuePhrase → Typed
-  type_of = fold-ValuePhrase Bool Typed Bool Typed action_typed_step value_type_step arm_typed_step value_arm_type_step
+  type_of = fold-ValuePhrase Bool Taken Typed Bool Typed action_typed_step actual_type_step value_type_step arm_typed_step value_arm_type_step
 
   abbrev pub is_typed : Action → Bool
-  is_typed = fold-Action Bool Typed Bool Typed action_typed_step value_type_step arm_typed_step value_arm_type_step
+  is_typed = fold-Action Bool Taken Typed Bool Typed action_typed_step actual_type_step value_type_step arm_typed_step value_arm_type_step
 
--- the core of a text: each phrase has the types that it asks for, and the variables have cells
+  -- what a body does has the types that it asks for
+  abbrev pub is_content_typed : Content → Bool
+  is_content_typed (contents.Units us) = all_true (map is_typed us)
+  is_content_typed (contents.Value u a) = has u (type_of a)
+
+-- a refinement is one of a PROC, or of the level
+abbrev pub IsScope : List Body → Scope → Type 0
+IsScope bodies (Of p) = (b : Body) × ((parameters : List Formal) × ((variables : List ElanType) × (slice_get bodies p ≡ Some b) × (b.scope ≡ Own parameters variables)))
+IsScope bodies _ = Unit {0}
+
+-- the core of a text: each phrase has the types that it asks for
 pub record IsWellTyped (core : Core) : Type 0 where
-  pub few : length core.variables ≤ 16384
-  pub typed : all_true (map (is_typed core.variables) core.units) ≡ true
+  pub typed : all_true (map (is_typed core.variables core.bodies None) core.units) ≡ true
+  pub scopes : (n : ℕ) (b : Body) → slice_get core.bodies n ≡ Some b → IsScope core.bodies b.scope
+  pub bodies : (n : ℕ) (b : Body) → slice_get core.bodies n ≡ Some b → is_content_typed core.variables core.bodies (Some n) b.content ≡ true

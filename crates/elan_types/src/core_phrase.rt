@@ -9,7 +9,62 @@ use eu_base::{Boxed, Change, List, Operation, Way};
 pub struct Core {
     /// The types of the level's variables and constants, in the order of their declarations.
     pub variables: List<ElanType>,
+    /// The PROCs and refinements. Phrases name them by their numbers here.
+    pub bodies: List<Body>,
     pub units: List<Action>,
+}
+
+/// A PROC, or a refinement.
+#[derive(Debug, Drop)]
+pub struct Body {
+    pub scope: Scope,
+    pub content: Content,
+}
+
+/// What variables a body has.
+#[derive(Debug, Drop)]
+pub enum Scope {
+    /// Those of a PROC: its parameters, and behind them the types of its own variables and constants.
+    Own {
+        parameters: List<Parameter>,
+        variables: List<ElanType>,
+    },
+    /// Those of the PROC with this number, whose refinement it is.
+    Of(u16),
+    /// Those of the level alone, whose refinement it is.
+    Level,
+}
+
+/// A parameter.
+#[derive(Clone, Copy, PartialEq, Eq, Debug)]
+pub struct Parameter {
+    pub of: ElanType,
+    pub access: Access,
+}
+
+/// What a parameter holds: a value, or the place of a variable.
+#[derive(Clone, Copy, PartialEq, Eq, Debug)]
+pub enum Access {
+    Const,
+    Var,
+}
+
+/// What a body does.
+#[derive(Debug, Drop)]
+pub enum Content {
+    /// It delivers nothing.
+    Units(List<Action>),
+    /// It delivers a value of a type.
+    Value(ElanType, ValuePhrase),
+}
+
+/// What a LEAVE leaves.
+#[derive(Clone, Copy, PartialEq, Eq, Debug)]
+pub enum Exit {
+    /// The body in which it stands.
+    Body,
+    /// The PROC in whose refinement it stands.
+    Around,
 }
 
 /// A phrase that delivers a value.
@@ -34,6 +89,20 @@ pub enum ValuePhrase {
     Unit(Boxed<ValuePhrase>),
     /// Actions, and then a value.
     After(List<Action>, Boxed<ValuePhrase>),
+    /// What the call of a PROC delivers, its actuals from left to right.
+    Call(u16, List<Actual>),
+    /// What a refinement delivers.
+    Refer(u16),
+    /// A LEAVE, with the value that is delivered, where a value of this type is asked for: it gives none.
+    Leave(Exit, Option<Boxed<ValuePhrase>>, ElanType),
+}
+
+/// What a parameter is given.
+#[cycle(phrases)]
+#[derive(Debug, Drop)]
+pub enum Actual {
+    Value(ValuePhrase),
+    Place(PlacePhrase, ElanType),
 }
 
 /// Labels, and the value that they choose.
@@ -49,6 +118,10 @@ pub struct ValueArm {
 pub enum PlacePhrase {
     /// A variable or constant of the level, by its number in `Core::variables`.
     Variable(u16),
+    /// A CONST parameter, variable or constant of the PROC, by its number among parameters and variables.
+    Local(u16),
+    /// What a VAR parameter of the PROC holds, by its number among the parameters.
+    Parameter(u16),
 }
 
 /// A phrase that delivers nothing.
@@ -85,6 +158,12 @@ pub enum Action {
     Put(ValuePhrase),
     /// `line`
     Line,
+    /// A call of a PROC that delivers nothing, its actuals from left to right.
+    Call(u16, List<Actual>),
+    /// A refinement that delivers nothing.
+    Refer(u16),
+    /// A LEAVE, with the value that is delivered.
+    Leave(Exit, Option<ValuePhrase>),
 }
 
 /// Labels, and what they choose.

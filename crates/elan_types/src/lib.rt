@@ -6,7 +6,10 @@ mod elan_type;
 mod env;
 mod why;
 
-pub use core_phrase::{Action, Arm, Core, PlacePhrase, ValueArm, ValuePhrase};
+pub use core_phrase::{
+    Access, Action, Actual, Arm, Body, Content, Core, Exit, Parameter, PlacePhrase, Scope,
+    ValueArm, ValuePhrase,
+};
 pub use elan_type::ElanType;
 pub use env::Env;
 pub use eu_base::{Change, Operation, Way};

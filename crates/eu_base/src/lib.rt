@@ -28,7 +28,7 @@ pub use request::{Reply, Request};
 pub use shape::Shape;
 pub use space::{SPACE_BYTES, Space};
 pub use stop::Stop;
-pub use value::{Kind, Value};
+pub use value::{Kind, OPERAND_BYTES, Value};
 
 #[cfg(test)]
 mod tests;
