@@ -1,4 +1,4 @@
 pub mod Resume
-pub mod Safe
 pub mod Steps
 pub mod Paid
+pub mod Safe

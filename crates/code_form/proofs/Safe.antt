@@ -1,134 +1,404 @@
 -- A step from a state that fits can be made, and leads to one that fits.
-use Rattle.std.proofs.Common.{◌≡◌, ℕ, suc, ◌+◌, List, [], ◌∷◌, length, Option, Some, None, Bool, true, false, cond, refl, sym, ap, subst, arith}
-use Rattle.std.specs.Prelude.{slice_get, Ok, Err, ℤ}
+use Rattle.std.proofs.Common.{◌≡◌, ℕ, suc, ◌+◌, ◌-◌, ◌<◌, ◌≤◌, ◌%◌, List, [], ◌∷◌, ◌++◌, map, length, Option, Some, None, Bool, true, false, cond, refl, sym, ap, ◌∙◌, subst, arith, length-append}
+use Rattle.std.specs.Prelude.{slice_get, Ok, Err}
 use Rattle.std.specs.Ordering.{int_eq}
+use Rattle.std.proofs.lemmas.List.{length-map}
+use Rattle.std.proofs.lemmas.Option.{slice_get_within}
+use Rattle.std.proofs.lemmas.Bool.{le-leb, leb-true}
 use Rattle.eu_base.specs.declared.address.Addr.{Addr}
+use Rattle.eu_base.specs.declared.address.TheConstants.{CELLS}
+use Rattle.eu_base.specs.declared.value.TheConstants.{OPERAND_BYTES}
 use Rattle.eu_base.specs.declared.value.Kind.{Kind}
 use Rattle.eu_base.specs.declared.value.Kind.TheVariants as kinds
 use Rattle.eu_base.specs.declared.value.Value.{Value}
 use Rattle.eu_base.specs.declared.value.Value.TheVariants as item
+use Rattle.eu_base.specs.declared.operation.Way.{Way}
 use Rattle.eu_base.specs.declared.request.Request.{Request}
-use Rattle.eu_base.specs.Values.{kind_of, number_of, truth_of, value_in}
+use Rattle.eu_base.specs.declared.stop.Stop.TheVariants.{CellRoom}
+use Rattle.eu_base.specs.Values.{kind_of, number_of, truth_of, blank_of, cell_of, value_in}
+use Rattle.eu_base.specs.Room.{cells_fit, bytes_fit}
 use Rattle.eu_base.specs.Operations.{Given, operand_kinds, result_kind, result_of, changed, is_past, has_reached}
-use Rattle.eu_base.specs.Cells.{Cells, run_cell}
+use Rattle.eu_base.specs.Cells.{Cells, IsCell, run_cell, place_in}
 use Rattle.code_form.specs.declared.operand.Operand.{Operand}
 use Rattle.code_form.specs.declared.operand.Operand.TheVariants.{Value as Of, Place as At}
 use Rattle.code_form.specs.declared.operand.OperandKind.{OperandKind}
 use Rattle.code_form.specs.declared.operand.OperandKind.TheVariants.{Value as OfKind, Place as AtKind}
 use Rattle.code_form.specs.declared.instr.Call.TheVariants as calls
 use Rattle.code_form.specs.declared.instr.Instr.{Instr}
-use Rattle.code_form.specs.declared.instr.Instr.TheVariants.{Mark, Number, Truth, Outer, Load, Store, Do, Modify, Jump, False, When, Drop, Limit, Unlimit, Step, Ask, End}
+use Rattle.code_form.specs.declared.instr.Instr.TheVariants.{Mark, Number, Truth, Outer, Local, Param, Load, Store, Do, Modify, Jump, False, When, Drop, Limit, Unlimit, Step, Ask, Call, Refer, Back, Out, End}
 use Rattle.code_form.specs.declared.code.Line.{Line}
-use Rattle.code_form.specs.Program.{Program, line_of, instr_of}
-use Rattle.code_form.specs.Machine.{Control, Move, goes, on_value, on_place, on_values, on_limit, or_halt, number_in, instruction, step_at}
-use Rattle.code_form.specs.Valid.{Next, pushed_kinds, IsFine, FitsKinds, Fits}
+use Rattle.code_form.specs.declared.code.Spot.{Spot}
+use Rattle.code_form.specs.declared.code.Entry.{Entry}
+use Rattle.code_form.specs.declared.code.Layout.{Layout}
+use Rattle.code_form.specs.declared.code.Layout.TheVariants as layouts
+use Rattle.code_form.specs.Program.{Program, line_of, instr_of, in_body, deeper, owner, owner_in, owner_at, layout_of, cells_of, cells_in, cells_at, frame_cells}
+use Rattle.code_form.specs.Machine.{Frame, Control, To, Stops, Move, Goes, Spends, operand_bytes, bytes_on, bytes_of, base_of, at, using, goes, pushes, on_value, on_place, on_values, on_operands, on_result, or_halt, number_in, limit_in, number_of_operand, frame_numbers, link_numbers, written_from, enters, calls_to, call_move, refer_move, back_into, back_to, out_to, limit_to, instruction, free_step, step_at}
+use Rattle.code_form.specs.Valid.{Next, pushed_kinds, pushed_operands, with_result, HasResult, IsRefinement, IsCalled, IsReferred, IsFine, IsValid, FitsKind, FitsKinds, MadeSo, IsMade, FitsFrames, Fits}
 use Rattle.code_form.specs.Runs.{IsSafe, StaysFit}
 use Rattle.eu_base.proofs.Results.{result_gives, kind_is}
 
-module _ (p : Program) (c : Control) where
-  abbrev FK : List Operand → List OperandKind → Type 0
-  FK = FitsKinds p.variables
+some_is : {A : Type 0} (a b : A) → Some a ≡ Some b → a ≡ b
+some_is a b e = cc
+
+-- room for more is room for less
+cells_fewer : (m n : ℕ) → m ≤ n → cells_fit n ≡ true → cells_fit m ≡ true
+cells_fewer m n le e = le-leb m CELLS (omega (arith, le, leb-true n CELLS e))
+
+bytes_fewer : (m n : ℕ) → m ≤ n → bytes_fit n ≡ true → bytes_fit m ≡ true
+bytes_fewer m n le e = le-leb m OPERAND_BYTES (omega (arith, le, leb-true n OPERAND_BYTES e))
+
+operand_eight : (o : Operand) → operand_bytes o ≡ 8
+operand_eight (Of v) = refl
+operand_eight (At a) = refl
+
+-- what is pending below is not more than what is pending in all
+bytes_below : (ops : List Operand) (held : ℕ) → held ≤ bytes_on ops held
+bytes_below [] held = omega arith
+bytes_below (o ∷ ops) held = omega (arith, bytes_below ops held)
+
+operands_inj : (ps : List OperandKind) (a b : List OperandKind) → pushed_operands ps a ≡ pushed_operands ps b → a ≡ b
+operands_inj [] a b e = e
+operands_inj (k ∷ ps) a b e = let f = operands_inj ps (k ∷ a) (k ∷ b) e in cc
+
+module _ (p : Program) (valid : IsValid p) where
+  -- where bodies stand
+  owner_is : (n : ℕ) (e : Entry) → slice_get p.bodies n ≡ Some e → owner p (Some n) ≡ owner_in n e.layout
+  owner_is n e has = ap (λ o. owner_at n (layout_of o)) has
+
+  own_cells : (n : ℕ) (e : Entry) (ps : List OperandKind) (vs : List Kind) → slice_get p.bodies n ≡ Some e → e.layout ≡ layouts.Own ps vs → length (frame_cells p (Some n)) ≡ length ps + length vs
+  own_cells n e ps vs has own =
+      let o : owner p (Some n) ≡ Some n = owner_is n e has ∙ ap (owner_in n) own in
+      let c : cells_in p (Some n) ≡ cells_of (layouts.Own ps vs) = ap (λ o. cells_at (layout_of o)) has ∙ ap cells_of own in
+      ap (λ o. length (cells_in p o)) o ∙ ap length c ∙ length-append ps (map OfKind vs) ∙ ap (λ n. length ps + n) (length-map vs OfKind)
+
+  -- the instruction that made a frame is the call of its body, or a reference to it
+  made_line : (pc : ℕ) (i : Instr) (ks : List OperandKind) (m : Spot) → slice_get p.lines pc ≡ Some (line_of i ks m) → IsFine p pc i ks m
+  made_line pc i ks m e = valid.each pc (line_of i ks m) e
+
+  module _ (f : Frame) (body : Option ℕ) (floor below : ℕ) (m : Spot) (floor_below : ℕ) (made : IsMade p f body floor below m floor_below) where
+    -- what is so of a frame of a PROC and of one of a refinement
+    by_layout : (P : Layout → Type 0) → ((ps : List OperandKind) (vs : List Kind) → made.entry.layout ≡ layouts.Own ps vs → P (layouts.Own ps vs)) → ((l : Layout) → made.entry.layout ≡ l → IsRefinement l → P l) → (l : Layout) → made.entry.layout ≡ l → P l
+    by_layout P a b (layouts.Own ps vs) e = a ps vs e
+    by_layout P a b (layouts.Of q) e = b (layouts.Of q) e tt
+    by_layout P a b layouts.Level e = b layouts.Level e tt
+
+    abbrev Proc : List OperandKind → List Kind → Type 0
+    Proc ps vs = MadeSo p (layouts.Own ps vs) made.number made.pc made.rest m f floor below
+
+    as_proc : (ps : List OperandKind) (vs : List Kind) → made.entry.layout ≡ layouts.Own ps vs → Proc ps vs
+    as_proc ps vs e = subst (λ l. MadeSo p l made.number made.pc made.rest m f floor below) e made.made
+
+    abbrev Refined : Type 0
+    Refined = (slice_get p.lines made.pc ≡ Some (line_of (Refer made.number) made.rest m)) × (f.refines ≡ true) × (f.base ≡ below) × (floor ≡ f.used + 2)
+
+    refined : (l : Layout) → IsRefinement l → MadeSo p l made.number made.pc made.rest m f floor below → Refined
+    refined (layouts.Own ps vs) r h = absurd r
+    refined (layouts.Of q) r h = h
+    refined layouts.Level r h = h
+
+    as_refined : (l : Layout) → made.entry.layout ≡ l → IsRefinement l → Refined
+    as_refined l e r = refined l r (subst (λ l. MadeSo p l made.number made.pc made.rest m f floor below) e made.made)
+
+    -- the cells that were in use before a frame are fewer than those behind it
+    used_below : f.used ≤ floor
+    used_below = by_layout (λ _. f.used ≤ floor) (λ ps vs e. let h = as_proc ps vs e in omega (arith, h.2, h.3)) (λ l e r. let h = as_refined l e r in omega (arith, h.3)) made.entry.layout refl
+
+    -- where it returns to, its result is pending
+    returns : Next p.lines f.back (with_result made.entry.delivers made.rest) m
+    returns = subst (λ n. Next p.lines n (with_result made.entry.delivers made.rest) m) (sym made.back) (by_layout (λ _. Next p.lines (made.pc + 1) (with_result made.entry.delivers made.rest) m) proc refinement made.entry.layout refl)
+      where
+        proc : (ps : List OperandKind) (vs : List Kind) → made.entry.layout ≡ layouts.Own ps vs → Next p.lines (made.pc + 1) (with_result made.entry.delivers made.rest) m
+        proc ps vs e =
+            let c : IsCalled p made.pc made.number (pushed_operands ps made.rest) m = made_line made.pc (Call made.number) (pushed_operands ps made.rest) m (as_proc ps vs e).0 in
+            let same : c.entry ≡ made.entry = some_is c.entry made.entry (sym c.has ∙ made.has) in
+            let l : layouts.Own c.parameters c.variables ≡ layouts.Own ps vs = sym c.own ∙ ap (λ (x : Entry). x.layout) same ∙ e in
+            let q : c.parameters ≡ ps = cc in
+            let rest : c.rest ≡ made.rest = operands_inj ps c.rest made.rest (ap (λ ps. pushed_operands ps c.rest) (sym q) ∙ sym c.taken) in
+            subst (λ rest. Next p.lines (made.pc + 1) (with_result made.entry.delivers rest) m) rest (subst (λ (x : Entry). Next p.lines (made.pc + 1) (with_result x.delivers c.rest) m) same c.next)
+
+        refinement : (l : Layout) → made.entry.layout ≡ l → IsRefinement l → Next p.lines (made.pc + 1) (with_result made.entry.delivers made.rest) m
+        refinement l e r =
+            let c : IsReferred p made.pc made.number made.rest m = made_line made.pc (Refer made.number) made.rest m (as_refined l e r).0 in
+            let same : c.entry ≡ made.entry = some_is c.entry made.entry (sym c.has ∙ made.has) in
+            subst (λ (x : Entry). Next p.lines (made.pc + 1) (with_result x.delivers made.rest) m) same c.next
+
+    -- a refinement uses the cells of the frame below
+    same_owner : (l : Layout) → made.entry.layout ≡ l → IsRefinement l → owner p (Some made.number) ≡ owner p m.body
+    same_owner l e r =
+        let c : IsReferred p made.pc made.number made.rest m = made_line made.pc (Refer made.number) made.rest m (as_refined l e r).0 in
+        owner_is made.number c.entry c.has ∙ c.owned
+
+  -- the cells of the level and of the innermost PROC lie below the FOR limits
+  level_below : (fs : List Frame) (body : Option ℕ) (floor : ℕ) → FitsFrames p fs body floor → length p.variables ≤ floor
+  level_below [] body floor h = omega (arith, h.1)
+  level_below (f ∷ fs) body floor h =
+      let below = level_below fs h.0.body h.1.0 h.1.1.1 in
+      omega (arith, below, h.1.1.0.used, used_below f body floor (base_of fs) h.0 h.1.0 h.1.1.0)
+
+  frame_below : (fs : List Frame) (body : Option ℕ) (floor : ℕ) → FitsFrames p fs body floor → base_of fs + length (frame_cells p body) ≤ floor
+  frame_below [] body floor h = let e : length (frame_cells p body) ≡ 0 = ap (λ b. length (frame_cells p b)) h.0 in omega (arith, e)
+  frame_below (f ∷ fs) body floor h =
+      let made = h.1.1.0 in
+      let below = frame_below fs h.0.body h.1.0 h.1.1.1 in
+      let e : length (frame_cells p body) ≡ length (frame_cells p (Some made.number)) = ap (λ b. length (frame_cells p b)) made.is in
+      by_layout f body floor (base_of fs) h.0 h.1.0 made (λ _. f.base + length (frame_cells p body) ≤ floor)
+      (λ ps vs l. let x = as_proc f body floor (base_of fs) h.0 h.1.0 made ps vs l in omega (arith, e, own_cells made.number made.entry ps vs made.has l, x.3))
+      (λ l q r.
+      let x = as_refined f body floor (base_of fs) h.0 h.1.0 made l q r in
+      let o : length (frame_cells p (Some made.number)) ≡ length (frame_cells p h.0.body) = ap (λ o. length (cells_in p o)) (same_owner f body floor (base_of fs) h.0 h.1.0 made l q r) in
+      omega (arith, e, o, below, x.2, x.3, made.used))
+      made.entry.layout refl
+
+module _ (p : Program) (valid : IsValid p) (pc : ℕ) (ops : List Operand) (used : ℕ) (frames : List Frame) (cells : Cells) where
+  abbrev now : Control
+  now = record { pc = pc; ops = ops; used = used; frames = frames; full = false; waits = None }
 
   abbrev Safe : Move → Type 0
-  Safe = IsSafe p c
+  Safe = IsSafe p now
 
-  one_value : (ops : List Operand) (k : Kind) (rest : List OperandKind) (go : Value → List Operand → Move) → FK ops (OfKind k ∷ rest) → ((v : Value) (r : List Operand) → kind_of v ≡ k → FK r rest → Safe (go v r)) → Safe (on_value ops go)
-  one_value [] k rest go f h = absurd f
-  one_value (Of v ∷ ops) k rest go f h = h v ops f.0 f.1
-  one_value (At a ∷ ops) k rest go f h = absurd f.0
+  -- these operands are of these kinds, and have room
+  abbrev Has : List Operand → List OperandKind → Type 0
+  Has ops ks = FitsKinds ops ks × (bytes_fit (bytes_on ops (bytes_of frames)) ≡ true)
 
-  one_place : (ops : List Operand) (k : Kind) (rest : List OperandKind) (go : Addr → List Operand → Move) → FK ops (AtKind k ∷ rest) → ((a : Addr) (r : List Operand) → FK r rest → Safe (go a r)) → Safe (on_place ops go)
-  one_place [] k rest go f h = absurd f
-  one_place (Of v ∷ ops) k rest go f h = absurd f.0
-  one_place (At a ∷ ops) k rest go f h = h a ops f.1
+  fewer : (o : Operand) (r : List Operand) → bytes_fit (bytes_on (o ∷ r) (bytes_of frames)) ≡ true → bytes_fit (bytes_on r (bytes_of frames)) ≡ true
+  fewer o r e = bytes_fewer (bytes_on r (bytes_of frames)) (operand_bytes o + bytes_on r (bytes_of frames)) (omega arith) e
 
-  value_place : (ops : List Operand) (k j : Kind) (rest : List OperandKind) (go : Value → Addr → List Operand → Move) → FK ops (OfKind k ∷ AtKind j ∷ rest) → ((v : Value) (a : Addr) (r : List Operand) → FK r rest → Safe (go v a r)) → Safe (on_value ops (λ v ops. on_place ops (go v)))
+  one_value : (ops : List Operand) (k : Kind) (rest : List OperandKind) (go : Value → List Operand → Move) → Has ops (OfKind k ∷ rest) → ((v : Value) (r : List Operand) → kind_of v ≡ k → Has r rest → Safe (go v r)) → Safe (on_value ops go)
+  one_value [] k rest go f h = absurd f.0
+  one_value (Of v ∷ ops) k rest go f h = h v ops f.0.0 (f.0.1, fewer (Of v) ops f.1)
+  one_value (At a ∷ ops) k rest go f h = absurd f.0.0
+
+  one_place : (ops : List Operand) (k : Kind) (rest : List OperandKind) (go : Addr → List Operand → Move) → Has ops (AtKind k ∷ rest) → ((a : Addr) (r : List Operand) → Has r rest → Safe (go a r)) → Safe (on_place ops go)
+  one_place [] k rest go f h = absurd f.0
+  one_place (Of v ∷ ops) k rest go f h = absurd f.0.0
+  one_place (At a ∷ ops) k rest go f h = h a ops (f.0.1, fewer (At a) ops f.1)
+
+  value_place : (ops : List Operand) (k j : Kind) (rest : List OperandKind) (go : Value → Addr → List Operand → Move) → Has ops (OfKind k ∷ AtKind j ∷ rest) → ((v : Value) (a : Addr) (r : List Operand) → Has r rest → Safe (go v a r)) → Safe (on_value ops (λ v ops. on_place ops (go v)))
   value_place ops k j rest go f h = one_value ops k (AtKind j ∷ rest) _ f (λ v r e g. one_place r j rest (go v) g (h v))
 
-  some_values : (more : List Kind) (n : ℕ) (rest : List OperandKind) (acc : List Value) (ops : List Operand) (go : List Value → List Operand → Move) → FK ops (pushed_kinds more rest) → ((acc : List Value) (ops : List Operand) → FK ops rest → Safe (on_values n acc ops go)) → Safe (on_values (length more + n) acc ops go)
+  some_values : (more : List Kind) (n : ℕ) (rest : List OperandKind) (acc : List Value) (ops : List Operand) (go : List Value → List Operand → Move) → Has ops (pushed_kinds more rest) → ((acc : List Value) (ops : List Operand) → Has ops rest → Safe (on_values n acc ops go)) → Safe (on_values (length more + n) acc ops go)
   some_values [] n rest acc ops go f h = let e : 0 + n ≡ n = omega arith in subst (λ n. Safe (on_values n acc ops go)) (sym e) (h acc ops f)
   some_values (k ∷ more) n rest acc ops go f h =
       let e : suc (length more) + n ≡ length more + suc n = omega arith in
       subst (λ n. Safe (on_values n acc ops go)) (sym e) (some_values more (suc n) (OfKind k ∷ rest) acc ops go f by)
     where
-      by : (acc : List Value) (ops : List Operand) → FK ops (OfKind k ∷ rest) → Safe (on_values (suc n) acc ops go)
-      by acc [] f = absurd f
-      by acc (Of v ∷ ops) f = h (v ∷ acc) ops f.1
-      by acc (At a ∷ ops) f = absurd f.0
+      by : (acc : List Value) (ops : List Operand) → Has ops (OfKind k ∷ rest) → Safe (on_values (suc n) acc ops go)
+      by acc [] f = absurd f.0
+      by acc (Of v ∷ ops) f = h (v ∷ acc) ops (f.0.1, fewer (Of v) ops f.1)
+      by acc (At a ∷ ops) f = absurd f.0.0
+
+  some_operands : (more : List OperandKind) (n : ℕ) (rest : List OperandKind) (acc ops : List Operand) (go : List Operand → List Operand → Move) → Has ops (pushed_operands more rest) → ((acc' ops : List Operand) → length acc' ≡ length more + length acc → Has ops rest → Safe (on_operands n acc' ops go)) → Safe (on_operands (length more + n) acc ops go)
+  some_operands [] n rest acc ops go f h = let e : 0 + n ≡ n = omega arith in subst (λ n. Safe (on_operands n acc ops go)) (sym e) (h acc ops (omega arith) f)
+  some_operands (k ∷ more) n rest acc ops go f h =
+      let e : suc (length more) + n ≡ length more + suc n = omega arith in
+      subst (λ n. Safe (on_operands n acc ops go)) (sym e) (some_operands more (suc n) (k ∷ rest) acc ops go f by)
+    where
+      by : (acc' ops : List Operand) → length acc' ≡ length more + length acc → Has ops (k ∷ rest) → Safe (on_operands (suc n) acc' ops go)
+      by acc' [] e f = absurd f.0
+      by acc' (o ∷ ops) e f = h (o ∷ acc') ops (omega (arith, e)) (f.0.1, fewer o ops f.1)
 
   or_safe : (g : Given) (go : Value → Move) → ((v : Value) → g ≡ Ok v → Safe (go v)) → Safe (or_halt g go)
   or_safe (Ok v) go h = h v refl
   or_safe (Err s) go h = tt
 
-  one_limit : (limits : List ℤ) (n : ℕ) (go : ℤ → List ℤ → Move) → length limits ≡ suc n → ((l : ℤ) (rest : List ℤ) → length rest ≡ n → Safe (go l rest)) → Safe (on_limit limits go)
-  one_limit [] n go e h = absurd (omega arith)
-  one_limit (l ∷ rest) n go e h = h l rest (omega arith)
-
-  cond_safe : (t : Bool) (m m' : Move) → Safe m → Safe m' → Safe (cond t m m')
-  cond_safe true m m' a b = a
+  cond_safe : (t : Bool) (m m' : Move) → (t ≡ true → Safe m) → Safe m' → Safe (cond t m m')
+  cond_safe true m m' a b = a refl
   cond_safe false m m' a b = b
 
-  pub fits_at : (pc : ℕ) (ks : List OperandKind) (n : ℕ) (ops : List Operand) (limits : List ℤ) (w : Option Request) → Next p.lines pc ks n → FK ops ks → length limits ≡ n → Fits p (record { pc = pc; ops = ops; limits = limits; waits = w })
-  fits_at pc ks n ops limits w next f e = record { kinds = ks; next = subst (Next p.lines pc ks) (sym e) next; operands = f }
+  module _ (m : Spot) (floor : ℕ) (made : FitsFrames p frames m.body floor) (used_is : used ≡ floor + m.limits) (room : cells_fit used ≡ true) where
+    fits_at : (pc : ℕ) (ks : List OperandKind) (ops : List Operand) (w : Option Request) → Next p.lines pc ks m → Has ops ks → Fits p (record { pc = pc; ops = ops; used = used; frames = frames; full = false; waits = w })
+    fits_at pc ks ops w next f = record { kinds = ks; spot = m; floor = floor; next = next; operands = f.0; frames = made; used = used_is; cells = λ _. room; bytes = f.1 }
 
-  chosen : (t : Bool) (a b : ℕ) (ks : List OperandKind) (n : ℕ) → Next p.lines a ks n → Next p.lines b ks n → Next p.lines (cond t a b) ks n
-  chosen true a b ks n x y = x
-  chosen false a b ks n x y = y
+    fit : (pc : ℕ) (ks : List OperandKind) (ops : List Operand) → Next p.lines pc ks m → Has ops ks → Fits p (record { pc = pc; ops = ops; used = used; frames = frames; full = false; waits = None })
+    fit pc ks ops next f = fits_at pc ks ops None next f
 
-module _ (p : Program) (pc : ℕ) (ops : List Operand) (limits : List ℤ) (cells : Cells) where
-  abbrev now : Control
-  now = record { pc = pc; ops = ops; limits = limits; waits = None }
+    push_safe : (o : Operand) (k : OperandKind) (r : List Operand) (ks : List OperandKind) → FitsKind o k → Next p.lines (pc + 1) (k ∷ ks) m → FitsKinds r ks → Safe (pushes now o r cells)
+    push_safe o k r ks is next f = cond_safe (bytes_fit (operand_bytes o + bytes_on r (bytes_of frames))) _ _ (λ e. fit (pc + 1) (k ∷ ks) (o ∷ r) next ((is, f), e)) tt
 
-  abbrev m : ℕ
-  m = length limits
+    chosen : (t : Bool) (a b : ℕ) (ks : List OperandKind) (m : Spot) → Next p.lines a ks m → Next p.lines b ks m → Next p.lines (cond t a b) ks m
+    chosen true a b ks m x y = x
+    chosen false a b ks m x y = y
 
-  fit : (pc : ℕ) (ks : List OperandKind) (ops : List Operand) → Next p.lines pc ks m → FitsKinds p.variables ops ks → Fits p (record { pc = pc; ops = ops; limits = limits; waits = None })
-  fit pc ks ops next f = fits_at p now pc ks m ops limits None next f refl
+    within : used ≤ CELLS
+    within = leb-true used CELLS room
 
-  safe : (i : Instr) (ks : List OperandKind) → IsFine p pc i ks m → FitsKinds p.variables ops ks → IsSafe p now (instruction (Some i) now cells)
-  safe Mark ks f k = fit (pc + 1) ks ops f k
-  safe (Number z) ks f k = fit (pc + 1) _ (Of (item.Int z) ∷ ops) f (refl, k)
-  safe (Truth b) ks f k = fit (pc + 1) _ (Of (item.Truth b) ∷ ops) f (refl, k)
-  safe (Outer x) ks f k = fit (pc + 1) (AtKind f.0 ∷ ks) (At (run_cell x) ∷ ops) f.2 ((x, refl, f.1), k)
-  safe (Load kind) ks f k = one_place p now ops kind f.0 _ (subst (FitsKinds p.variables ops) f.1 k) (λ a r g. fit (pc + 1) (OfKind kind ∷ f.0) (Of (value_in kind (cells a)) ∷ r) f.2 (read_kind kind (cells a), g))
-    where
-      read_kind : (k : Kind) (n : ℕ) → kind_of (value_in k n) ≡ k
-      read_kind kinds.Int n = refl
-      read_kind kinds.Truth n = refl
-  safe (Store kind) ks f k = value_place p now ops kind kind f.0 _ (subst (FitsKinds p.variables ops) f.1 k) (λ v a r g. fit (pc + 1) f.0 r f.2 g)
-  safe (Do op) ks f k =
-      let e : length (operand_kinds op) ≡ length (operand_kinds op) + 0 = omega arith in
-      subst (λ n. IsSafe p now (on_values n [] ops (λ vs ops. or_halt (result_of op vs) (λ v. goes now (Of v ∷ ops) cells)))) (sym e)
-      (some_values p now (operand_kinds op) 0 f.0 [] ops _ (subst (FitsKinds p.variables ops) f.1 k) (λ vs r g.
-      or_safe p now (result_of op vs) _ (λ v is. fit (pc + 1) (OfKind (result_kind op) ∷ f.0) (Of v ∷ r) f.2 (kind_is _ v (result_gives op vs v is), g))))
-  safe (Modify change) ks f k = value_place p now ops kinds.Int kinds.Int f.0 _ (subst (FitsKinds p.variables ops) f.1 k) (λ v a r g. or_safe p now (changed change (number_in cells a) (number_of v)) _ (λ x _. fit (pc + 1) f.0 r f.2 g))
-  safe (Jump a) ks f k = fit a ks ops f.next k
-  safe (False a) ks f k = one_value p now ops kinds.Truth f.0 _ (subst (FitsKinds p.variables ops) f.1 k) (λ v r e g. fit (cond (truth_of v) (pc + 1) a) f.0 r (chosen p now (truth_of v) (pc + 1) a f.0 m f.2 f.3.next) g)
-  safe (When z a) ks f k =
-      let k' = subst (FitsKinds p.variables ops) f.1 k in
-      one_value p now ops kinds.Int f.0 _ k' (λ v r e g. cond_safe p now (int_eq (number_of v) z) _ _ (fit a f.0 r f.3.next g) (fit (pc + 1) ks (Of v ∷ r) f.2 (subst (FitsKinds p.variables (Of v ∷ r)) (sym f.1) (e, g))))
-  safe Drop ks f k = one_value p now ops f.0 f.1.0 _ (subst (FitsKinds p.variables ops) f.1.1 k) (λ v r e g. fit (pc + 1) f.1.0 r f.1.2 g)
-  safe (Limit way a) ks f k =
-      value_place p now ops kinds.Int kinds.Int f.0 _ (subst (FitsKinds p.variables ops) f.1 k) (λ v q r g.
-      let t = is_past way (number_of v) (number_in cells q) in
-      fits_at p now (cond t a (pc + 1)) f.0 (suc m) r (number_of v ∷ limits) None (chosen p now t a (pc + 1) f.0 (suc m) f.3.next f.2) g (omega arith))
-  safe Unlimit ks f k = one_limit p now limits f.0 _ f.1 (λ l rest e. fits_at p now (pc + 1) ks f.0 ops rest None f.2 k e)
-  safe (Step way a) ks f k =
-      one_place p now ops kinds.Int f.2.0 _ (subst (FitsKinds p.variables ops) f.2.1 k) (λ q r g. one_limit p now limits f.0 _ f.1 (λ l rest e.
-      cond_safe p now (has_reached way l (number_in cells q)) _ _ (fit a f.2.0 r f.2.3.next g) (fit (pc + 1) f.2.0 r f.2.2 g)))
-  safe (Ask calls.PutNumber) ks f k = one_value p now ops kinds.Int f.0 _ (subst (FitsKinds p.variables ops) f.1 k) (λ v r e g. fits_at p now (pc + 1) f.0 m r limits _ f.2 g refl)
-  safe (Ask calls.Line) ks f k = fits_at p now (pc + 1) f.0 m ops limits _ f.2 (subst (FitsKinds p.variables ops) f.1 k) refl
-  safe End ks f k = tt
+    outer_cell : (x : ℕ) (k : Kind) → slice_get p.variables x ≡ Some k → IsCell (run_cell x)
+    outer_cell x k e = omega (arith, slice_get_within p.variables x k e, level_below p valid frames m.body floor made, used_is, within)
+
+    local_cell : (x : ℕ) (k : OperandKind) → slice_get (frame_cells p m.body) x ≡ Some k → IsCell (run_cell (base_of frames + x))
+    local_cell x k e = omega (arith, slice_get_within (frame_cells p m.body) x k e, frame_below p valid frames m.body floor made, used_is, within)
+
+    read_kind : (k : Kind) (n : ℕ) → kind_of (value_in k n) ≡ k
+    read_kind kinds.Int n = refl
+    read_kind kinds.Truth n = refl
+
+    -- more and fewer limits
+    limit_safe : (way : Way) (a : ℕ) (v : Value) (x : Addr) (r : List Operand) (ks : List OperandKind) → Next p.lines (pc + 1) ks (deeper m) → Next p.lines a ks (deeper m) → Has r ks → Safe (limit_to now way a (number_of v) x r cells)
+    limit_safe way a v x r ks next lands f =
+        let t = is_past way (number_of v) (number_in cells x) in
+        cond_safe (cells_fit (used + 1)) _ _ (λ e. record { kinds = ks; spot = deeper m; floor = floor; next = chosen t a (pc + 1) ks (deeper m) lands next; operands = f.0; frames = made; used = omega (arith, used_is); cells = λ _. e; bytes = f.1 }) tt
+
+    unlimit_safe : (outer : Spot) (ks : List OperandKind) → m ≡ deeper outer → Next p.lines (pc + 1) ks outer → Has ops ks → Fits p (using (at now (pc + 1) ops) (used - 1))
+    unlimit_safe outer ks e next f =
+        let limits : m.limits ≡ suc outer.limits = ap (λ (s : Spot). s.limits) e in
+        record {
+          kinds = ks;
+          spot = outer;
+          floor = floor;
+          next = next;
+          operands = f.0;
+          frames = subst (λ b. FitsFrames p frames b floor) (ap (λ (s : Spot). s.body) e) made;
+          used = omega (arith, used_is, limits);
+          cells = λ _. cells_fewer (used - 1) used (omega arith) room;
+          bytes = f.1;
+        }
+
+    -- a body is entered
+    enters_safe : (n : ℕ) (e : Entry) (base floor' : ℕ) (refines : Bool) (r : List Operand) (rest : List OperandKind) (ns : List ℕ) → slice_get p.bodies n ≡ Some e → Has r rest → floor' ≡ used + length ns
+        → MadeSo p e.layout n pc rest m (record { back = pc + 1; base = base; used = used; refines = refines; ops = r }) floor' (base_of frames) → (t : Bool) → cells_fit (used + length ns) ≡ t
+        → IsSafe p now (Spends (cond t (To (record { pc = e.first; ops = []; used = used + length ns; frames = record { back = pc + 1; base = base; used = used; refines = refines; ops = r } ∷ frames; full = false; waits = None }) (written_from used ns cells)) (Stops CellRoom)))
+    enters_safe n e base floor' refines r rest ns has f is so false fit = tt
+    enters_safe n e base floor' refines r rest ns has f is so true fit = record {
+      kinds = [];
+      spot = in_body n;
+      floor = floor';
+      next = valid.bodies n e has;
+      operands = tt;
+      frames = (m, (floor, (record { number = n; is = refl; entry = e; has = has; pc = pc; rest = rest; back = refl; used = used_is; operands = f.0; made = so }, made)));
+      used = omega (arith, is);
+      cells = λ _. fit;
+      bytes = f.1;
+    }
+
+    call_safe : (n : ℕ) (ks : List OperandKind) → slice_get p.lines pc ≡ Some (line_of (Call n) ks m) → IsCalled p pc n ks m → Has ops ks → Safe (call_move now (slice_get p.bodies n) cells)
+    call_safe n ks line c f =
+        subst (λ o. Safe (call_move now o cells)) (sym c.has)
+        (subst (λ l. Safe (calls_to now c.entry.first l cells)) (sym c.own)
+        (let e : length c.parameters ≡ length c.parameters + 0 = omega arith in
+        subst (λ k. Safe (on_operands k [] ops (λ args ops. Spends (enters now c.entry.first (used + 2) false ops (frame_numbers args c.variables) cells)))) (sym e)
+        (some_operands c.parameters 0 c.rest [] ops _ (subst (Has ops) c.taken f) (λ args r many g.
+        let numbers : length (frame_numbers args c.variables) ≡ 2 + length c.parameters + length c.variables = omega (arith, length-append (map number_of_operand args) (map (λ k. cell_of (blank_of k)) c.variables), length-map args number_of_operand, length-map c.variables (λ k. cell_of (blank_of k)), many) in
+        let so : MadeSo p (layouts.Own c.parameters c.variables) n pc c.rest m (record { back = pc + 1; base = used + 2; used = used; refines = false; ops = r }) (used + 2 + length c.parameters + length c.variables) (base_of frames) = (subst (λ ks. slice_get p.lines pc ≡ Some (line_of (Call n) ks m)) c.taken line, refl, refl, refl) in
+        enters_safe n c.entry (used + 2) (used + 2 + length c.parameters + length c.variables) false r c.rest (frame_numbers args c.variables) c.has g (omega (arith, numbers))
+        (subst (λ l. MadeSo p l n pc c.rest m (record { back = pc + 1; base = used + 2; used = used; refines = false; ops = r }) (used + 2 + length c.parameters + length c.variables) (base_of frames)) (sym c.own) so) (cells_fit (used + length (frame_numbers args c.variables))) refl))))
+
+    refer_safe : (n : ℕ) (ks : List OperandKind) → slice_get p.lines pc ≡ Some (line_of (Refer n) ks m) → IsReferred p pc n ks m → Has ops ks → Safe (refer_move now (slice_get p.bodies n) cells)
+    refer_safe n ks line c f =
+        subst (λ o. Safe (refer_move now o cells)) (sym c.has)
+        (enters_safe n c.entry (base_of frames) (used + 2) true ops ks link_numbers c.has f refl (so c.entry.layout c.refinement) (cells_fit (used + length link_numbers)) refl)
+      where
+        so : (l : Layout) → IsRefinement l → MadeSo p l n pc ks m (record { back = pc + 1; base = base_of frames; used = used; refines = true; ops = ops }) (used + 2) (base_of frames)
+        so (layouts.Own ps vs) r = absurd r
+        so (layouts.Of q) r = (line, refl, refl, refl)
+        so layouts.Level r = (line, refl, refl, refl)
+
+    -- a result is taken with the machine, and has room where it was
+    result_safe : (k : Option Kind) (ks : List OperandKind) (go : List Operand → Move) → HasResult k ks → Has ops ks → ((os : List Operand) → ((r : List Operand) (rest : List OperandKind) → FitsKinds r rest → FitsKinds (os ++ r) (with_result k rest)) → ((r : List Operand) (held : ℕ) → bytes_on r held ≤ bytes_of frames → bytes_fit (bytes_on (os ++ r) held) ≡ true) → Safe (go os)) → Safe (on_result k ops go)
+    result_safe None ks go t f h = h [] (λ r rest g. g) (λ r held le. bytes_fewer (bytes_on r held) (bytes_on ops (bytes_of frames)) (omega (arith, le, bytes_below ops (bytes_of frames))) f.1)
+    result_safe (Some k) ks go t f h = by ops (subst (Has ops) t.1 f)
+      where
+        by : (ops' : List Operand) → Has ops' (OfKind k ∷ t.0) → Safe (on_value ops' (λ v rest. go (Of v ∷ [])))
+        by [] f = absurd f.0
+        by (At a ∷ r) f = absurd f.0.0
+        by (Of v ∷ r) f = h (Of v ∷ []) (λ r' rest g. (f.0.0, g)) (λ r' held le. bytes_fewer (operand_bytes (Of v) + bytes_on r' held) (operand_bytes (Of v) + bytes_on r (bytes_of frames)) (omega (arith, le, bytes_below r (bytes_of frames))) f.1)
+
+    -- a frame is left for the one below
+    into_safe : (f : Frame) (fs : List Frame) (body : Option ℕ) (floor' : ℕ) (k : Option Kind) (os : List Operand) (h : FitsFrames p (f ∷ fs) body floor') → floor' ≤ used → bytes_of (f ∷ fs) ≤ bytes_of frames → h.1.1.0.entry.delivers ≡ k
+        → ((r : List Operand) (rest : List OperandKind) → FitsKinds r rest → FitsKinds (os ++ r) (with_result k rest)) → ((r : List Operand) (held : ℕ) → bytes_on r held ≤ bytes_of frames → bytes_fit (bytes_on (os ++ r) held) ≡ true) → Safe (back_into os f fs cells)
+    into_safe f fs body floor' k os h le bytes is fits room' =
+        let made' = h.1.1.0 in record {
+          kinds = with_result k made'.rest;
+          spot = h.0;
+          floor = h.1.0;
+          next = subst (λ k. Next p.lines f.back (with_result k made'.rest) h.0) is (returns p valid f body floor' (base_of fs) h.0 h.1.0 made');
+          operands = fits f.ops made'.rest made'.operands;
+          frames = h.1.1.1;
+          used = made'.used;
+          cells = λ _. cells_fewer f.used used (omega (arith, le, used_below p valid f body floor' (base_of fs) h.0 h.1.0 made')) room;
+          bytes = room' f.ops (bytes_of fs) bytes;
+        }
+
+    back_safe : (fs : List Frame) (k : Option Kind) (os : List Operand) (n : ℕ) (e : Entry) (floor' : ℕ) (body : Option ℕ) → FitsFrames p fs body floor' → body ≡ Some n → slice_get p.bodies n ≡ Some e → e.delivers ≡ k → floor' ≤ used → bytes_of fs ≤ bytes_of frames
+        → ((r : List Operand) (rest : List OperandKind) → FitsKinds r rest → FitsKinds (os ++ r) (with_result k rest)) → ((r : List Operand) (held : ℕ) → bytes_on r held ≤ bytes_of frames → bytes_fit (bytes_on (os ++ r) held) ≡ true) → Safe (back_to os fs cells)
+    back_safe [] k os n e floor' body h b has is le bytes fits room' = let f : ⊥ = cc (b, h.0) in absurd f
+    back_safe (f ∷ fs) k os n e floor' body h b has is le bytes fits room' =
+        let made' = h.1.1.0 in
+        let same : made'.number ≡ n = some_is made'.number n (sym made'.is ∙ b) in
+        let entry : made'.entry ≡ e = some_is made'.entry e (sym made'.has ∙ ap (slice_get p.bodies) same ∙ has) in
+        into_safe f fs body floor' k os h le bytes (ap (λ (x : Entry). x.delivers) entry ∙ is) fits room'
+
+    out_safe : (fs : List Frame) (k : Option Kind) (os : List Operand) (n : ℕ) (e : Entry) (floor' : ℕ) (body : Option ℕ) → FitsFrames p fs body floor' → owner p body ≡ Some n → slice_get p.bodies n ≡ Some e → e.delivers ≡ k → floor' ≤ used → bytes_of fs ≤ bytes_of frames
+        → ((r : List Operand) (rest : List OperandKind) → FitsKinds r rest → FitsKinds (os ++ r) (with_result k rest)) → ((r : List Operand) (held : ℕ) → bytes_on r held ≤ bytes_of frames → bytes_fit (bytes_on (os ++ r) held) ≡ true) → Safe (out_to os fs cells)
+    out_safe [] k os n e floor' body h o has is le bytes fits room' = let f : None ≡ Some n = sym (ap (owner p) h.0) ∙ o in let g : ⊥ = cc in absurd g
+    out_safe (f ∷ fs) k os n e floor' body h o has is le bytes fits room' =
+        let made' = h.1.1.0 in
+        let number : owner p (Some made'.number) ≡ Some n = ap (owner p) (sym made'.is) ∙ o in
+        let under = used_below p valid f body floor' (base_of fs) h.0 h.1.0 made' in
+        by_layout p valid f body floor' (base_of fs) h.0 h.1.0 made' (λ _. Safe (out_to os (f ∷ fs) cells))
+        (λ ps vs l.
+        let own : Some made'.number ≡ Some n = sym (owner_is p valid made'.number made'.entry made'.has ∙ ap (owner_in made'.number) l) ∙ number in
+        let same : made'.number ≡ n = some_is made'.number n own in
+        let entry : made'.entry ≡ e = some_is made'.entry e (sym made'.has ∙ ap (slice_get p.bodies) same ∙ has) in
+        subst (λ t. Safe (cond t (out_to os fs cells) (back_into os f fs cells))) (sym (as_proc p valid f body floor' (base_of fs) h.0 h.1.0 made' ps vs l).1)
+        (into_safe f fs body floor' k os h le bytes (ap (λ (x : Entry). x.delivers) entry ∙ is) fits room'))
+        (λ l q r.
+        subst (λ t. Safe (cond t (out_to os fs cells) (back_into os f fs cells))) (sym (as_refined p valid f body floor' (base_of fs) h.0 h.1.0 made' l q r).1)
+        (out_safe fs k os n e h.1.0 h.0.body h.1.1.1 (sym (same_owner p valid f body floor' (base_of fs) h.0 h.1.0 made' l q r) ∙ number) has is (omega (arith, le, under, made'.used)) (omega (arith, bytes, bytes_below f.ops (bytes_of fs))) fits room'))
+        made'.entry.layout refl
+
+    safe : (i : Instr) (ks : List OperandKind) → slice_get p.lines pc ≡ Some (line_of i ks m) → IsFine p pc i ks m → Has ops ks → Safe (instruction p.bodies (Some i) now cells)
+    safe Mark ks line f k = fit (pc + 1) ks ops f k
+    safe (Number z) ks line f k = push_safe (Of (item.Int z)) (OfKind kinds.Int) ops ks refl f k.0
+    safe (Truth b) ks line f k = push_safe (Of (item.Truth b)) (OfKind kinds.Truth) ops ks refl f k.0
+    safe (Outer x) ks line f k = push_safe (At (run_cell x)) (AtKind f.0) ops ks (outer_cell x f.0 f.1) f.2 k.0
+    safe (Local x) ks line f k = push_safe (At (run_cell (base_of frames + x))) (AtKind f.0) ops ks (local_cell x (OfKind f.0) f.1) f.2 k.0
+    safe (Param x) ks line f k =
+        let n = cells (run_cell (base_of frames + x)) in
+        let small : n % CELLS < CELLS = omega arith in
+        push_safe (At (place_in n)) (AtKind f.0) ops ks small f.2 k.0
+    safe (Load kind) ks line f k = one_place ops kind f.0 _ (subst (Has ops) f.1 k) (λ a r g. push_safe (Of (value_in kind (cells a))) (OfKind kind) r f.0 (read_kind kind (cells a)) f.2 g.0)
+    safe (Store kind) ks line f k = value_place ops kind kind f.0 _ (subst (Has ops) f.1 k) (λ v a r g. fit (pc + 1) f.0 r f.2 g)
+    safe (Do op) ks line f k =
+        let e : length (operand_kinds op) ≡ length (operand_kinds op) + 0 = omega arith in
+        subst (λ n. Safe (on_values n [] ops (λ vs ops. or_halt (result_of op vs) (λ v. pushes now (Of v) ops cells)))) (sym e)
+        (some_values (operand_kinds op) 0 f.0 [] ops _ (subst (Has ops) f.1 k) (λ vs r g.
+        or_safe (result_of op vs) _ (λ v is. push_safe (Of v) (OfKind (result_kind op)) r f.0 (kind_is _ v (result_gives op vs v is)) f.2 g.0)))
+    safe (Modify change) ks line f k = value_place ops kinds.Int kinds.Int f.0 _ (subst (Has ops) f.1 k) (λ v a r g. or_safe (changed change (number_in cells a) (number_of v)) _ (λ x _. fit (pc + 1) f.0 r f.2 g))
+    safe (Jump a) ks line f k = fit a ks ops f.next k
+    safe (False a) ks line f k = one_value ops kinds.Truth f.0 _ (subst (Has ops) f.1 k) (λ v r e g. fit (cond (truth_of v) (pc + 1) a) f.0 r (chosen (truth_of v) (pc + 1) a f.0 m f.2 f.3.next) g)
+    safe (When z a) ks line f k = by ops (subst (Has ops) f.1 k)
+      where
+        by : (ops' : List Operand) → Has ops' (OfKind kinds.Int ∷ f.0) → Safe (on_value ops' (λ v ops. cond (int_eq (number_of v) z) (Goes (at now a ops) cells) (goes now (Of v ∷ ops) cells)))
+        by [] g = absurd g.0
+        by (At x ∷ r) g = absurd g.0.0
+        by (Of v ∷ r) g = cond_safe (int_eq (number_of v) z) _ _ (λ _. fit a f.0 r f.3.next (g.0.1, fewer (Of v) r g.1)) (fit (pc + 1) ks (Of v ∷ r) f.2 (subst (Has (Of v ∷ r)) (sym f.1) g))
+    safe Drop ks line f k = one_value ops f.0 f.1.0 _ (subst (Has ops) f.1.1 k) (λ v r e g. fit (pc + 1) f.1.0 r f.1.2 g)
+    safe (Limit way a) ks line f k = value_place ops kinds.Int kinds.Int f.0 _ (subst (Has ops) f.1 k) (λ v q r g. limit_safe way a v q r f.0 f.2 f.3.next g)
+    safe Unlimit ks line f k = unlimit_safe f.0 ks f.1 f.2 k
+    safe (Step way a) ks line f k =
+        one_place ops kinds.Int f.2.0 _ (subst (Has ops) f.2.1 k) (λ q r g.
+        cond_safe (has_reached way (limit_in now cells) (number_in cells q)) _ _ (λ _. fit a f.2.0 r f.2.3.next g) (fit (pc + 1) f.2.0 r f.2.2 g))
+    safe (Ask calls.PutNumber) ks line f k = one_value ops kinds.Int f.0 _ (subst (Has ops) f.1 k) (λ v r e g. fits_at (pc + 1) f.0 r _ f.2 g)
+    safe (Ask calls.Line) ks line f k = fits_at (pc + 1) f.0 ops _ f.2 (subst (Has ops) f.1 k)
+    safe (Call n) ks line f k = call_safe n ks line f k
+    safe (Refer n) ks line f k = refer_safe n ks line f k
+    safe (Back r) ks line f k = result_safe r ks _ f.top k (λ os fits room'. back_safe frames r os f.number f.entry floor m.body made f.here f.has f.delivers (omega (arith, used_is)) (omega arith) fits room')
+    safe (Out r) ks line f k = result_safe r ks _ f.top k (λ os fits room'. out_safe frames r os f.number f.entry floor m.body made f.proc f.has f.delivers (omega (arith, used_is)) (omega arith) fits room')
+    safe End ks line f k = tt
 
 pub stays_fit : StaysFit
 stays_fit p c cells valid fits = by c.waits refl
   where
-    by : (w : Option Request) → c.waits ≡ w → IsSafe p c (step_at w p.lines c cells)
-    by (Some q) e = λ r. fits_at p c c.pc fits.kinds (length c.limits) c.ops c.limits None fits.next fits.operands refl
-    by None e =
+    free : (full : Bool) → c.full ≡ full → c.waits ≡ None → IsSafe p c (free_step full p c cells)
+    free true e w = tt
+    free false e w =
         let i = fits.next.0 in
-        let fine = valid.each c.pc (line_of i fits.kinds (length c.limits)) fits.next.1 in
-        let free : Control = record c { waits = None } in
-        let same : free ≡ c = sym (ap (λ w. record c { waits = w }) e) in
-        let made = safe p c.pc c.ops c.limits cells i fits.kinds fine fits.operands in
-        subst (λ (d : Control). IsSafe p d (instruction (instr_of (slice_get p.lines c.pc)) d cells)) same (subst (λ (o : Option Line). IsSafe p free (instruction (instr_of o) free cells)) (sym fits.next.1) made)
+        let fine = valid.each c.pc (line_of i fits.kinds fits.spot) fits.next.1 in
+        let same : record c { full = false; waits = None } ≡ c = ap (λ f. record c { full = f; waits = None }) (sym e) ∙ ap (λ w. record c { waits = w }) (sym w) in
+        let made = safe p valid c.pc c.ops c.used c.frames cells fits.spot fits.floor fits.frames fits.used (fits.cells e) i fits.kinds fits.next.1 fine (fits.operands, fits.bytes) in
+        subst (λ (d : Control). IsSafe p d (instruction p.bodies (instr_of (slice_get p.lines c.pc)) d cells)) same
+        (subst (λ (o : Option Line). IsSafe p (record c { full = false; waits = None }) (instruction p.bodies (instr_of o) (record c { full = false; waits = None }) cells)) (sym fits.next.1) made)
+
+    by : (w : Option Request) → c.waits ≡ w → IsSafe p c (step_at w p c cells)
+    by (Some q) e = λ r. record { kinds = fits.kinds; spot = fits.spot; floor = fits.floor; next = fits.next; operands = fits.operands; frames = fits.frames; used = fits.used; cells = fits.cells; bytes = fits.bytes }
+    by None e = free c.full refl e

@@ -1,29 +1,38 @@
 -- Each step brings the end nearer.
-use Rattle.std.proofs.Common.{◌≡◌, ℕ, zero, suc, ◌+◌, ◌-◌, ◌<◌, ◌≤◌, List, [], ◌∷◌, length, Option, Some, None, Bool, true, false, cond, refl, sym, ap, ◌∙◌, subst, arith, ⊎_elim}
-use Rattle.std.specs.Prelude.{slice_get, Ok, Err, ℤ}
+use Rattle.std.proofs.Common.{◌≡◌, ℕ, zero, suc, ◌+◌, ◌-◌, ◌*◌, ◌<◌, ◌≤◌, List, [], ◌∷◌, length, Option, Some, None, Bool, true, false, cond, refl, sym, ap, ◌∙◌, subst, arith, ⊎_elim}
+use Rattle.std.specs.Prelude.{slice_get, Ok, Err}
 use Rattle.std.specs.Ordering.{int_eq}
 use Rattle.std.proofs.lemmas.Option.{slice_get_within}
 use Rattle.std.proofs.lemmas.Bool.{cases_lt}
 use Rattle.eu_base.specs.declared.address.Addr.{Addr}
+use Rattle.eu_base.specs.declared.value.Kind.{Kind}
+use Rattle.eu_base.specs.declared.stop.Stop.TheVariants.{CellRoom}
+use Rattle.eu_base.specs.Cells.{run_cell, place_in}
+use Rattle.eu_base.specs.Room.{cells_fit, bytes_fit}
 use Rattle.eu_base.specs.declared.value.Value.{Value}
-use Rattle.eu_base.specs.Values.{number_of, truth_of}
+use Rattle.eu_base.specs.declared.value.Value.TheVariants as item
+use Rattle.eu_base.specs.Values.{number_of, truth_of, value_in}
 use Rattle.eu_base.specs.Operations.{Given, operand_kinds, result_of, changed, is_past, has_reached}
 use Rattle.code_form.specs.declared.operand.Operand.{Operand}
 use Rattle.code_form.specs.declared.operand.Operand.TheVariants.{Value as Of, Place as At}
 use Rattle.code_form.specs.declared.instr.Call.TheVariants as calls
 use Rattle.code_form.specs.declared.instr.Instr.{Instr}
-use Rattle.code_form.specs.declared.instr.Instr.TheVariants.{Mark, Number, Truth, Outer, Load, Store, Do, Modify, Jump, False, When, Drop, Limit, Unlimit, Step, Ask, End}
+use Rattle.code_form.specs.declared.instr.Instr.TheVariants.{Mark, Number, Truth, Outer, Local, Param, Load, Store, Do, Modify, Jump, False, When, Drop, Limit, Unlimit, Step, Ask, Call, Refer, Back, Out, End}
 use Rattle.code_form.specs.declared.code.Line.{Line}
+use Rattle.code_form.specs.declared.code.Entry.{Entry}
+use Rattle.code_form.specs.declared.code.Layout.{Layout}
+use Rattle.code_form.specs.declared.code.Layout.TheVariants.{Own}
+use Rattle.code_form.specs.declared.code.Layout.TheVariants as layouts
 use Rattle.code_form.specs.Program.{Program, instr_of}
-use Rattle.code_form.specs.Machine.{Control, Move, Scene, Stage, On, Over, Lost, Rest, on_value, on_place, on_values, on_limit, or_halt, number_in, instruction, step, step_at, mark_stage, stage, carry_on, exec}
+use Rattle.code_form.specs.Machine.{Frame, Control, After, To, Stops, Move, Scene, Stage, On, Over, Lost, Rest, operand_bytes, bytes_on, bytes_of, base_of, pushes, on_value, on_place, on_values, on_operands, on_result, or_halt, number_in, limit_in, frame_numbers, link_numbers, written_from, enters, calls_to, call_move, refer_move, back_to, out_to, instruction, free_step, step, step_at, mark_stage, stage, carry_on, exec}
 use Rattle.code_form.specs.Valid.{is_mark, IsFine, IsValid}
 use Rattle.code_form.specs.Runs.{Rests, ahead, steps_left}
 
 -- a step that goes on leaves less to do
-abbrev Nearer : List Line → ℕ → ℕ → Stage → Type 0
-Nearer lines marks pc (On c s) = steps_left lines s.marks c.pc < steps_left lines marks pc
-Nearer lines marks pc (Over r) = Unit {0}
-Nearer lines marks pc Lost = Unit {0}
+abbrev Nearer : List Line → ℕ → ℕ → ℕ → Stage → Type 0
+Nearer lines marks frames pc (On c s) = steps_left lines s.marks (length c.frames) c.pc < steps_left lines marks frames pc
+Nearer lines marks frames pc (Over r) = Unit {0}
+Nearer lines marks frames pc Lost = Unit {0}
 
 module _ (p : Program) (valid : IsValid p) where
   ahead_le : (pc : ℕ) → ahead p.lines pc ≤ length p.lines
@@ -55,22 +64,60 @@ module _ (p : Program) (valid : IsValid p) where
       (cases_lt pc a)
 
   module _ (c : Control) (s : Scene) where
+    abbrev depth : ℕ
+    depth = length c.frames
+
     abbrev Near : Move → Type 0
-    Near m = Nearer p.lines s.marks c.pc (stage m c s)
+    Near m = Nearer p.lines s.marks depth c.pc (stage m c s)
 
-    spent_less : (m pc : ℕ) → steps_left p.lines m pc < steps_left p.lines (suc m) c.pc
-    spent_less m pc = omega (arith, ahead_le pc)
+    spent_less : (m frames pc : ℕ) → frames ≤ suc depth → steps_left p.lines m frames pc < steps_left p.lines (suc m) depth c.pc
+    spent_less m frames pc le = by (⊎_elim (λ lt. omega arith) (λ le. le) (cases_lt (suc depth) frames))
+      where
+        by : frames ≤ suc depth → steps_left p.lines m frames pc < steps_left p.lines (suc m) depth c.pc
+        by le = fewer (suc depth - frames) (omega arith)
+          where
+            fewer : (d : ℕ) → frames + d ≡ suc depth → steps_left p.lines m frames pc < steps_left p.lines (suc m) depth c.pc
+            fewer d e =
+                let f : (frames + d) * (length p.lines + 1) ≡ suc depth * (length p.lines + 1) = ap (λ n. n * (length p.lines + 1)) e in
+                omega (arith, ahead_le pc, f)
 
-    marked : (m : ℕ) (c' : Control) → Nearer p.lines m c.pc (mark_stage m c' c s)
-    marked zero c' = tt
-    marked (suc m) c' = spent_less m c'.pc
+    -- what follows a spent mark has at most one frame more
+    abbrev Deeper : After → Type 0
+    Deeper (To c' cells) = length c'.frames ≤ suc depth
+    Deeper (Stops stop) = Unit {0}
 
-    go : (pc : ℕ) → ahead p.lines pc < ahead p.lines c.pc → steps_left p.lines s.marks pc < steps_left p.lines s.marks c.pc
+    marked : (m : ℕ) (a : After) → Deeper a → Nearer p.lines m depth c.pc (mark_stage m a c s)
+    marked zero a d = tt
+    marked (suc m) (To c' cells) d = spent_less m (length c'.frames) c'.pc d
+    marked (suc m) (Stops stop) d = tt
+
+    go : (pc : ℕ) → ahead p.lines pc < ahead p.lines c.pc → steps_left p.lines s.marks depth pc < steps_left p.lines s.marks depth c.pc
     go pc lt = omega arith
 
-    go_if : (b : Bool) (x y : ℕ) → ahead p.lines x < ahead p.lines c.pc → ahead p.lines y < ahead p.lines c.pc → steps_left p.lines s.marks (cond b x y) < steps_left p.lines s.marks c.pc
+    go_if : (b : Bool) (x y : ℕ) → ahead p.lines x < ahead p.lines c.pc → ahead p.lines y < ahead p.lines c.pc → steps_left p.lines s.marks depth (cond b x y) < steps_left p.lines s.marks depth c.pc
     go_if true x y f g = go x f
     go_if false x y f g = go y g
+
+    -- a frame less
+    back : (frames pc : ℕ) → suc frames ≤ depth → steps_left p.lines s.marks frames pc < steps_left p.lines s.marks depth c.pc
+    back frames pc le = fewer (depth - suc frames) (omega arith)
+      where
+        fewer : (d : ℕ) → suc frames + d ≡ depth → steps_left p.lines s.marks frames pc < steps_left p.lines s.marks depth c.pc
+        fewer d e =
+            let f : (suc frames + d) * (length p.lines + 1) ≡ depth * (length p.lines + 1) = ap (λ n. n * (length p.lines + 1)) e in
+            omega (arith, ahead_le pc, f)
+
+    back_near : (result : List Operand) (fs : List Frame) → length fs ≤ depth → Near (back_to result fs s.cells)
+    back_near result [] le = tt
+    back_near result (f ∷ fs) le = back (length fs) f.back le
+
+    out_near : (result : List Operand) (fs : List Frame) → length fs ≤ depth → Near (out_to result fs s.cells)
+    out_near result [] le = tt
+    out_near result (f ∷ fs) le = near_cond f.refines _ _ (out_near result fs (omega arith)) (back (length fs) f.back le)
+      where
+        near_cond : (b : Bool) (m m' : Move) → Near m → Near m' → Near (cond b m m')
+        near_cond true m m' x y = x
+        near_cond false m m' x y = y
 
     near_if : (b : Bool) (m m' : Move) → Near m → Near m' → Near (cond b m m')
     near_if true m m' x y = x
@@ -92,22 +139,54 @@ module _ (p : Program) (valid : IsValid p) where
     near_values (suc n) f h acc (Of v ∷ r) = near_values n f h (v ∷ acc) r
     near_values (suc n) f h acc (At a ∷ r) = tt
 
-    near_limit : (f : ℤ → List ℤ → Move) → ((l : ℤ) (r : List ℤ) → Near (f l r)) → (limits : List ℤ) → Near (on_limit limits f)
-    near_limit f h [] = tt
-    near_limit f h (l ∷ r) = h l r
+    near_operands : (n : ℕ) (f : List Operand → List Operand → Move) → ((os r : List Operand) → Near (f os r)) → (acc ops : List Operand) → Near (on_operands n acc ops f)
+    near_operands zero f h acc ops = h acc ops
+    near_operands (suc n) f h acc [] = tt
+    near_operands (suc n) f h acc (o ∷ r) = near_operands n f h (o ∷ acc) r
+
+    near_result : (k : Option Kind) (f : List Operand → Move) → ((os : List Operand) → Near (f os)) → (ops : List Operand) → Near (on_result k ops f)
+    near_result None f h ops = h []
+    near_result (Some k) f h ops = near_value (λ v r. f (Of v ∷ [])) (λ v r. h (Of v ∷ [])) ops
+
+    -- a CALL and a REFER
+    enters_deeper : (first base : ℕ) (refines : Bool) (ops : List Operand) (ns : List ℕ) → Deeper (enters c first base refines ops ns s.cells)
+    enters_deeper first base refines ops ns = by (cells_fit (c.used + length ns))
+      where
+        by : (b : Bool) → Deeper (cond b (To (record { pc = first; ops = []; used = c.used + length ns; frames = record { back = c.pc + 1; base = base; used = c.used; refines = refines; ops = ops } ∷ c.frames; full = false; waits = None }) (written_from c.used ns s.cells)) (Stops CellRoom))
+        by true = omega arith
+        by false = tt
+
+    call_near : (e : Option Entry) → Near (call_move c e s.cells)
+    call_near None = tt
+    call_near (Some e) = by e.layout
+      where
+        by : (l : Layout) → Near (calls_to c e.first l s.cells)
+        by (Own parameters variables) = near_operands (length parameters) _ (λ os r. marked s.marks _ (enters_deeper e.first (c.used + 2) false r (frame_numbers os variables))) [] c.ops
+        by (layouts.Of q) = tt
+        by layouts.Level = tt
+
+    refer_near : (e : Option Entry) → Near (refer_move c e s.cells)
+    refer_near None = tt
+    refer_near (Some e) = marked s.marks _ (enters_deeper e.first (base_of c.frames) true c.ops link_numbers)
+
+    -- one operand more
+    push_near : (l : Line) → slice_get p.lines c.pc ≡ Some l → is_mark (Some l.instr) ≡ false → (o : Operand) (ops : List Operand) → Near (pushes c o ops s.cells)
+    push_near l e is o ops = near_if (bytes_fit (operand_bytes o + bytes_on ops (bytes_of c.frames))) _ _ (go (c.pc + 1) (on_next c.pc l e is)) tt
 
     near_or : (f : Value → Move) → ((v : Value) → Near (f v)) → (g : Given) → Near (or_halt g f)
     near_or f h (Ok v) = h v
     near_or f h (Err e) = tt
 
-    at_instr : (l : Line) → slice_get p.lines c.pc ≡ Some l → (i : Instr) → l.instr ≡ i → IsFine p c.pc i l.operands l.limits → Near (instruction (Some i) c s.cells)
-    at_instr l e Mark is f = marked s.marks _
-    at_instr l e (Number z) is f = go (c.pc + 1) (on_next c.pc l e (ap (λ i. is_mark (Some i)) is))
-    at_instr l e (Truth b) is f = go (c.pc + 1) (on_next c.pc l e (ap (λ i. is_mark (Some i)) is))
-    at_instr l e (Outer x) is f = go (c.pc + 1) (on_next c.pc l e (ap (λ i. is_mark (Some i)) is))
-    at_instr l e (Load k) is f = near_place _ (λ a r. go (c.pc + 1) (on_next c.pc l e (ap (λ i. is_mark (Some i)) is))) c.ops
+    at_instr : (l : Line) → slice_get p.lines c.pc ≡ Some l → (i : Instr) → l.instr ≡ i → IsFine p c.pc i l.operands l.spot → Near (instruction p.bodies (Some i) c s.cells)
+    at_instr l e Mark is f = marked s.marks _ (omega arith)
+    at_instr l e (Number z) is f = push_near l e (ap (λ i. is_mark (Some i)) is) (Of (item.Int z)) c.ops
+    at_instr l e (Truth b) is f = push_near l e (ap (λ i. is_mark (Some i)) is) (Of (item.Truth b)) c.ops
+    at_instr l e (Outer x) is f = push_near l e (ap (λ i. is_mark (Some i)) is) (At (run_cell x)) c.ops
+    at_instr l e (Local x) is f = push_near l e (ap (λ i. is_mark (Some i)) is) (At (run_cell (base_of c.frames + x))) c.ops
+    at_instr l e (Param x) is f = push_near l e (ap (λ i. is_mark (Some i)) is) (At (place_in (s.cells (run_cell (base_of c.frames + x))))) c.ops
+    at_instr l e (Load k) is f = near_place _ (λ a r. push_near l e (ap (λ i. is_mark (Some i)) is) (Of (value_in k (s.cells a))) r) c.ops
     at_instr l e (Store k) is f = near_value _ (λ v r. near_place _ (λ a r. go (c.pc + 1) (on_next c.pc l e (ap (λ i. is_mark (Some i)) is))) r) c.ops
-    at_instr l e (Do op) is f = near_values (length (operand_kinds op)) _ (λ vs r. near_or _ (λ v. go (c.pc + 1) (on_next c.pc l e (ap (λ i. is_mark (Some i)) is))) (result_of op vs)) [] c.ops
+    at_instr l e (Do op) is f = near_values (length (operand_kinds op)) _ (λ vs r. near_or _ (λ v. push_near l e (ap (λ i. is_mark (Some i)) is) (Of v) r) (result_of op vs)) [] c.ops
     at_instr l e (Modify ch) is f = near_value _ (λ v r. near_place _ (λ a r. near_or _ (λ x. go (c.pc + 1) (on_next c.pc l e (ap (λ i. is_mark (Some i)) is))) (changed ch (number_in s.cells a) (number_of v))) r) c.ops
     at_instr l e (Jump a) is f = go a (on_jump c.pc a l e (ap (λ i. is_mark (Some i)) is) f.spaced)
     at_instr l e (False a) is f = near_value _ (λ v r. go_if (truth_of v) (c.pc + 1) a (on_next c.pc l e (ap (λ i. is_mark (Some i)) is)) (on_jump c.pc a l e (ap (λ i. is_mark (Some i)) is) f.3.spaced)) c.ops
@@ -115,27 +194,35 @@ module _ (p : Program) (valid : IsValid p) where
         near_value _ (λ v r. near_if (int_eq (number_of v) z) _ _ (go a (on_jump c.pc a l e (ap (λ i. is_mark (Some i)) is) f.3.spaced)) (go (c.pc + 1) (on_next c.pc l e (ap (λ i. is_mark (Some i)) is)))) c.ops
     at_instr l e Drop is f = near_value _ (λ v r. go (c.pc + 1) (on_next c.pc l e (ap (λ i. is_mark (Some i)) is))) c.ops
     at_instr l e (Limit way a) is f =
-        near_value _ (λ v r. near_place _ (λ q r. go_if (is_past way (number_of v) (number_in s.cells q)) a (c.pc + 1) (on_jump c.pc a l e (ap (λ i. is_mark (Some i)) is) f.3.spaced) (on_next c.pc l e (ap (λ i. is_mark (Some i)) is))) r) c.ops
-    at_instr l e Unlimit is f = near_limit _ (λ x r. go (c.pc + 1) (on_next c.pc l e (ap (λ i. is_mark (Some i)) is))) c.limits
+        near_value _ (λ v r. near_place _ (λ q r. near_if (cells_fit (c.used + 1)) _ _ (go_if (is_past way (number_of v) (number_in s.cells q)) a (c.pc + 1) (on_jump c.pc a l e (ap (λ i. is_mark (Some i)) is) f.3.spaced) (on_next c.pc l e (ap (λ i. is_mark (Some i)) is))) tt) r) c.ops
+    at_instr l e Unlimit is f = go (c.pc + 1) (on_next c.pc l e (ap (λ i. is_mark (Some i)) is))
     at_instr l e (Step way a) is f =
-        near_place _ (λ q r. near_limit _ (λ x y. near_if (has_reached way x (number_in s.cells q)) _ _ (go a (on_jump c.pc a l e (ap (λ i. is_mark (Some i)) is) f.2.3.spaced)) (go (c.pc + 1) (on_next c.pc l e (ap (λ i. is_mark (Some i)) is)))) c.limits) c.ops
-    at_instr l e (Ask calls.PutNumber) is f = near_value _ (λ v r. marked s.marks _) c.ops
-    at_instr l e (Ask calls.Line) is f = marked s.marks _
+        near_place _ (λ q r. near_if (has_reached way (limit_in c s.cells) (number_in s.cells q)) _ _ (go a (on_jump c.pc a l e (ap (λ i. is_mark (Some i)) is) f.2.3.spaced)) (go (c.pc + 1) (on_next c.pc l e (ap (λ i. is_mark (Some i)) is)))) c.ops
+    at_instr l e (Ask calls.PutNumber) is f = near_value _ (λ v r. marked s.marks _ (omega arith)) c.ops
+    at_instr l e (Ask calls.Line) is f = marked s.marks _ (omega arith)
+    at_instr l e (Call n) is f = call_near (slice_get p.bodies n)
+    at_instr l e (Refer n) is f = refer_near (slice_get p.bodies n)
+    at_instr l e (Back k) is f = near_result k _ (λ os. back_near os c.frames (omega arith)) c.ops
+    at_instr l e (Out k) is f = near_result k _ (λ os. out_near os c.frames (omega arith)) c.ops
     at_instr l e End is f = tt
 
-    at_line : (o : Option Line) → slice_get p.lines c.pc ≡ o → Near (instruction (instr_of o) c s.cells)
+    at_line : (o : Option Line) → slice_get p.lines c.pc ≡ o → Near (instruction p.bodies (instr_of o) c s.cells)
     at_line None e = tt
     at_line (Some l) e = at_instr l e l.instr refl (valid.each c.pc l e)
 
+    near_free : (full : Bool) → Near (free_step full p c s.cells)
+    near_free true = tt
+    near_free false = at_line (slice_get p.lines c.pc) refl
+
   -- where a step goes on without a reply, the end is nearer
-  pub nearer : (c c' : Control) (s s' : Scene) → c.waits ≡ None → On c' s' ≡ stage (step p.lines c s.cells) c s → steps_left p.lines s'.marks c'.pc < steps_left p.lines s.marks c.pc
+  pub nearer : (c c' : Control) (s s' : Scene) → c.waits ≡ None → On c' s' ≡ stage (step p c s.cells) c s → steps_left p.lines s'.marks (length c'.frames) c'.pc < steps_left p.lines s.marks (length c.frames) c.pc
   nearer c c' s s' w e =
-      let f : On c' s' ≡ stage (instruction (instr_of (slice_get p.lines c.pc)) c s.cells) c s = e ∙ ap (λ o. stage (step_at o p.lines c s.cells) c s) w in
-      subst (Nearer p.lines s.marks c.pc) (sym f) (at_line c s (slice_get p.lines c.pc) refl)
+      let f : On c' s' ≡ stage (free_step c.full p c s.cells) c s = e ∙ ap (λ o. stage (step_at o p c s.cells) c s) w in
+      subst (Nearer p.lines s.marks (length c.frames) c.pc) (sym f) (near_free c s c.full)
 
 -- a step, and then the rest
-pub one_step : (lines : List Line) (c c' : Control) (s s' : Scene) (r : Rest) → On c' s' ≡ stage (step lines c s.cells) c s → Rests lines c' s' r → Rests lines c s r
-one_step lines c c' s s' r e h = (suc h.0, ap (λ st. carry_on st (exec lines h.0)) (sym e) ∙ h.1)
+pub one_step : (p : Program) (c c' : Control) (s s' : Scene) (r : Rest) → On c' s' ≡ stage (step p c s.cells) c s → Rests p c' s' r → Rests p c s r
+one_step p c c' s s' r e h = (suc h.0, ap (λ st. carry_on st (exec p h.0)) (sym e) ∙ h.1)
 
-pub last_step : (lines : List Line) (c : Control) (s : Scene) (r : Rest) → Over r ≡ stage (step lines c s.cells) c s → Rests lines c s r
-last_step lines c s r e = (1, ap (λ st. carry_on st (exec lines 0)) (sym e))
+pub last_step : (p : Program) (c : Control) (s : Scene) (r : Rest) → Over r ≡ stage (step p c s.cells) c s → Rests p c s r
+last_step p c s r e = (1, ap (λ st. carry_on st (exec p 0)) (sym e))

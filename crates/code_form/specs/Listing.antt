@@ -1,5 +1,5 @@
 -- The listing of code: a line for each instruction.
-use Rattle.std.specs.Prelude.{ℕ, suc, Bool, true, false, List, [], ◌∷◌, ◌++◌, codes}
+use Rattle.std.specs.Prelude.{ℕ, suc, Bool, true, false, List, [], ◌∷◌, ◌++◌, length, codes, Option, Some, None, slice_get}
 use Rattle.std.specs.Fmt.{decimal, signed_decimal}
 use Rattle.eu_base.specs.declared.value.Kind.{Kind}
 use Rattle.eu_base.specs.declared.value.Kind.TheVariants as kinds
@@ -9,11 +9,13 @@ use Rattle.eu_base.specs.declared.operation.Change.{Change}
 use Rattle.eu_base.specs.declared.operation.Change.TheVariants.{Increase, Decrease}
 use Rattle.eu_base.specs.declared.operation.Way.{Way}
 use Rattle.eu_base.specs.declared.operation.Way.TheVariants as ways
-use Rattle.code_form.specs.declared.instr.Call.{Call}
+use Rattle.code_form.specs.declared.instr.Call.{Call as Requested}
 use Rattle.code_form.specs.declared.instr.Call.TheVariants as calls
 use Rattle.code_form.specs.declared.instr.Instr.{Instr}
-use Rattle.code_form.specs.declared.instr.Instr.TheVariants.{Mark, Number, Truth, Outer, Load, Store, Do, Modify, Jump, False, When, Drop, Limit, Unlimit, Step, Ask, End}
+use Rattle.code_form.specs.declared.instr.Instr.TheVariants.{Mark, Number, Truth, Outer, Local, Param, Load, Store, Do, Modify, Jump, False, When, Drop, Limit, Unlimit, Step, Ask, Call, Refer, Back, Out, End}
 use Rattle.code_form.specs.declared.code.Line.{Line}
+use Rattle.code_form.specs.declared.code.Entry.{Entry}
+use Rattle.code_form.specs.Program.{Program, layout_of, cells_at}
 
 abbrev pub truth_word : Bool → List ℕ
 truth_word true = codes "TRUE"
@@ -55,37 +57,51 @@ abbrev pub change_name : Change → List ℕ
 change_name Increase = codes "INCR"
 change_name Decrease = codes "DECR"
 
-abbrev pub call_name : Call → List ℕ
+abbrev pub call_name : Requested → List ℕ
 call_name calls.PutNumber = codes "put(INT)"
 call_name calls.Line = codes "line"
 
+-- where a body begins, and how many cells its frame has for its parameters and variables
+abbrev pub first_of : Option Entry → ℕ
+first_of None = 0
+first_of (Some e) = e.first
+
+abbrev pub cells_of_frame : Option Entry → ℕ
+cells_of_frame e = length (cells_at (layout_of e))
+
 -- the word of an instruction, and each argument after a blank
-abbrev pub instr_text : Instr → List ℕ
-instr_text Mark = codes "MARK"
-instr_text (Number z) = codes "INT " ++ signed_decimal z
-instr_text (Truth b) = codes "BOOL " ++ truth_word b
-instr_text (Outer k) = codes "OUTER " ++ decimal k
-instr_text (Load kind) = codes "LOAD " ++ kind_word kind
-instr_text (Store kind) = codes "STORE " ++ kind_word kind
-instr_text (Do op) = codes "DO " ++ operation_name op
-instr_text (Modify change) = codes "DO " ++ change_name change
-instr_text (Jump a) = codes "JUMP " ++ decimal a
-instr_text (False a) = codes "FALSE " ++ decimal a
-instr_text (When z a) = codes "WHEN " ++ signed_decimal z ++ codes " " ++ decimal a
-instr_text Drop = codes "DROP"
-instr_text (Limit way a) = codes "LIMIT " ++ way_word way ++ codes " " ++ decimal a
-instr_text Unlimit = codes "UNLIMIT"
-instr_text (Step way a) = way_word way ++ codes " " ++ decimal a
-instr_text (Ask call) = codes "ASK " ++ call_name call
-instr_text End = codes "END"
+abbrev pub instr_text : List Entry → Instr → List ℕ
+instr_text bodies Mark = codes "MARK"
+instr_text bodies (Number z) = codes "INT " ++ signed_decimal z
+instr_text bodies (Truth b) = codes "BOOL " ++ truth_word b
+instr_text bodies (Outer k) = codes "OUTER " ++ decimal k
+instr_text bodies (Local k) = codes "LOCAL " ++ decimal k
+instr_text bodies (Param k) = codes "PARAM " ++ decimal k
+instr_text bodies (Load kind) = codes "LOAD " ++ kind_word kind
+instr_text bodies (Store kind) = codes "STORE " ++ kind_word kind
+instr_text bodies (Do op) = codes "DO " ++ operation_name op
+instr_text bodies (Modify change) = codes "DO " ++ change_name change
+instr_text bodies (Jump a) = codes "JUMP " ++ decimal a
+instr_text bodies (False a) = codes "FALSE " ++ decimal a
+instr_text bodies (When z a) = codes "WHEN " ++ signed_decimal z ++ codes " " ++ decimal a
+instr_text bodies Drop = codes "DROP"
+instr_text bodies (Limit way a) = codes "LIMIT " ++ way_word way ++ codes " " ++ decimal a
+instr_text bodies Unlimit = codes "UNLIMIT"
+instr_text bodies (Step way a) = way_word way ++ codes " " ++ decimal a
+instr_text bodies (Ask call) = codes "ASK " ++ call_name call
+instr_text bodies (Call n) = codes "CALL " ++ decimal (first_of (slice_get bodies n)) ++ codes " " ++ decimal (cells_of_frame (slice_get bodies n))
+instr_text bodies (Refer n) = codes "REFER " ++ decimal (first_of (slice_get bodies n))
+instr_text bodies (Back kind) = codes "BACK"
+instr_text bodies (Out kind) = codes "OUT"
+instr_text bodies End = codes "END"
 
 -- its number, a blank, and its text
-abbrev pub line_text : ℕ → Instr → List ℕ
-line_text k i = decimal k ++ codes " " ++ instr_text i ++ 10 ∷ []
+abbrev pub line_text : List Entry → ℕ → Instr → List ℕ
+line_text bodies k i = decimal k ++ codes " " ++ instr_text bodies i ++ 10 ∷ []
 
-abbrev pub listing_from : ℕ → List Line → List ℕ
-listing_from k [] = []
-listing_from k (l ∷ ls) = line_text k l.instr ++ listing_from (suc k) ls
+abbrev pub listing_from : List Entry → ℕ → List Line → List ℕ
+listing_from bodies k [] = []
+listing_from bodies k (l ∷ ls) = line_text bodies k l.instr ++ listing_from bodies (suc k) ls
 
-abbrev pub listing_text : List Line → List ℕ
-listing_text = listing_from 0
+abbrev pub listing_text : Program → List ℕ
+listing_text p = listing_from p.bodies 0 p.lines

@@ -1,48 +1,97 @@
--- What the machine does with a list of instructions, one by one. It looks at the instructions alone, not at the tables.
-use Rattle.std.specs.Prelude.{ℕ, zero, suc, ◌+◌, cond, List, [], ◌∷◌, length, Option, Some, None, Ok, Err, slice_get, ℤ}
+-- What the machine does with a list of instructions, one by one.
+use Rattle.std.specs.Prelude.{ℕ, zero, suc, ◌+◌, ◌-◌, Bool, true, false, not, cond, List, [], ◌∷◌, ◌++◌, map, length, Option, Some, None, Ok, Err, slice_get, ℤ}
 use Rattle.std.specs.Ordering.{int_eq}
 use Rattle.eu_base.specs.declared.address.Addr.{Addr}
+use Rattle.eu_base.specs.declared.value.Kind.{Kind}
 use Rattle.eu_base.specs.declared.value.Kind.TheVariants as kinds
 use Rattle.eu_base.specs.declared.value.Value.{Value}
 use Rattle.eu_base.specs.declared.value.Value.TheVariants as item
+use Rattle.eu_base.specs.declared.stop.Stop.{Stop}
+use Rattle.eu_base.specs.declared.stop.Stop.TheVariants.{CellRoom, OperandRoom}
+use Rattle.eu_base.specs.declared.operation.Way.{Way}
 use Rattle.eu_base.specs.declared.request.Request.{Request}
 use Rattle.eu_base.specs.declared.request.Reply.{Reply}
-use Rattle.eu_base.specs.Values.{number_of, truth_of, cell_of, value_in}
+use Rattle.eu_base.specs.Values.{number_of, truth_of, blank_of, cell_of, value_in}
+use Rattle.eu_base.specs.Room.{value_bytes, place_bytes, cells_fit, bytes_fit}
 use Rattle.eu_base.specs.Operations.{Given, operand_kinds, result_of, changed, is_past, has_reached, next_number, put_request, line_request}
-use Rattle.eu_base.specs.Cells.{Cells, run_cell, written}
+use Rattle.eu_base.specs.Cells.{Cells, run_cell, place_number, place_in, written}
 use Rattle.code_form.specs.declared.operand.Operand.{Operand}
 use Rattle.code_form.specs.declared.operand.Operand.TheVariants.{Value as Of, Place as At}
 use Rattle.code_form.specs.declared.halt.Halt.{Halt}
 use Rattle.code_form.specs.declared.halt.Halt.TheVariants as halts
-use Rattle.code_form.specs.declared.instr.Call.{Call}
+use Rattle.code_form.specs.declared.instr.Call.{Call as Requested}
 use Rattle.code_form.specs.declared.instr.Call.TheVariants as calls
 use Rattle.code_form.specs.declared.instr.Instr.{Instr}
-use Rattle.code_form.specs.declared.instr.Instr.TheVariants.{Mark, Number, Truth, Outer, Load, Store, Do, Modify, Jump, False, When, Drop, Limit, Unlimit, Step, Ask, End}
-use Rattle.code_form.specs.declared.code.Line.{Line}
-use Rattle.code_form.specs.Program.{instr_of}
+use Rattle.code_form.specs.declared.instr.Instr.TheVariants.{Mark, Number, Truth, Outer, Local, Param, Load, Store, Do, Modify, Jump, False, When, Drop, Limit, Unlimit, Step, Ask, Call, Refer, Back, Out, End}
+use Rattle.code_form.specs.declared.code.Entry.{Entry}
+use Rattle.code_form.specs.declared.code.Layout.{Layout}
+use Rattle.code_form.specs.declared.code.Layout.TheVariants.{Own}
+use Rattle.code_form.specs.Program.{Program, instr_of}
 
--- where the machine stands: its instruction, the pending operands and the limits of loops, the newest first, and the request
--- whose answer it waits for
+-- a live call or refinement: the instruction to which it returns, its first cell, which is that of the frame below for a refinement,
+-- the cells that were in use before it, and what is pending in the frame below
+pub record Frame : Type 0 where
+  pub back : ℕ
+  pub base : ℕ
+  pub used : ℕ
+  pub refines : Bool
+  pub ops : List Operand
+
+-- where the machine stands: its instruction, the pending operands, the newest first, the cells in use, the live frames, the innermost
+-- first, whether the variables had no room at the start, and the request whose answer it waits for
 pub record Control : Type 0 where
   pub pc : ℕ
   pub ops : List Operand
-  pub limits : List ℤ
+  pub used : ℕ
+  pub frames : List Frame
+  pub full : Bool
   pub waits : Option Request
 
--- what a step does: it goes on, spends a mark and goes on, waits for an answer, comes to rest, or cannot be made
+-- where an instruction leads once its mark is spent
+pub data After : Type 0 where
+  To : Control → Cells → After
+  Stops : Stop → After
+
+-- what a step does: it goes on, spends a mark and then does more, waits for an answer, comes to rest, or cannot be made
 pub data Move : Type 0 where
   Goes : Control → Cells → Move
-  Spends : Control → Move
+  Spends : After → Move
   Awaits : Request → Move
   Halts : Halt → Move
   Stuck : Move
 
 -- another place and other operands
 abbrev pub at : Control → ℕ → List Operand → Control
-at c pc ops = record c { pc = pc; ops = ops; waits = None }
+at c pc ops = record c { pc = pc; ops = ops; full = false; waits = None }
+
+-- more or fewer cells in use
+abbrev pub using : Control → ℕ → Control
+using c n = record c { used = n }
 
 abbrev pub goes : Control → List Operand → Cells → Move
 goes c ops cells = Goes (at c (c.pc + 1) ops) cells
+
+-- the bytes of pending operands
+abbrev pub operand_bytes : Operand → ℕ
+operand_bytes (Of v) = value_bytes v
+operand_bytes (At a) = place_bytes
+
+abbrev pub bytes_on : List Operand → ℕ → ℕ
+bytes_on [] held = held
+bytes_on (o ∷ ops) held = operand_bytes o + bytes_on ops held
+
+abbrev pub bytes_of : List Frame → ℕ
+bytes_of [] = 0
+bytes_of (f ∷ fs) = bytes_on f.ops (bytes_of fs)
+
+-- the first cell of the innermost frame
+abbrev pub base_of : List Frame → ℕ
+base_of [] = 0
+base_of (f ∷ fs) = f.base
+
+-- the next instruction, with one operand more, where it has room
+abbrev pub pushes : Control → Operand → List Operand → Cells → Move
+pushes c o ops cells = cond (bytes_fit (operand_bytes o + bytes_on ops (bytes_of c.frames))) (goes c (o ∷ ops) cells) (Halts (halts.Stopped OperandRoom))
 
 -- takes what is on top
 abbrev pub on_value : List Operand → (Value → List Operand → Move) → Move
@@ -59,9 +108,11 @@ on_values zero vs ops go = go vs ops
 on_values (suc n) vs (Of v ∷ ops) go = on_values n (v ∷ vs) ops go
 on_values (suc n) vs _ go = Stuck
 
-abbrev pub on_limit : List ℤ → (ℤ → List ℤ → Move) → Move
-on_limit [] go = Stuck
-on_limit (l ∷ limits) go = go l limits
+-- takes so many operands, and puts them before those that were taken
+abbrev pub on_operands : ℕ → List Operand → List Operand → (List Operand → List Operand → Move) → Move
+on_operands zero os ops go = go os ops
+on_operands (suc n) os (o ∷ ops) go = on_operands n (o ∷ os) ops go
+on_operands (suc n) os [] go = Stuck
 
 abbrev pub or_halt : Given → (Value → Move) → Move
 or_halt (Ok v) go = go v
@@ -71,45 +122,117 @@ abbrev pub number_in : Cells → Addr → ℤ
 number_in cells a = number_of (value_in kinds.Int (cells a))
 
 -- the request that a call makes of its operands
-abbrev pub on_call : Call → List Operand → (Request → List Operand → Move) → Move
+abbrev pub on_call : Requested → List Operand → (Request → List Operand → Move) → Move
 on_call calls.PutNumber ops go = on_value ops (λ v. go (put_request (number_of v)))
 on_call calls.Line ops go = go line_request ops
 
+-- the number of an operand in a cell
+abbrev pub number_of_operand : Operand → ℕ
+number_of_operand (Of v) = cell_of v
+number_of_operand (At a) = place_number a
+
+-- the numbers in the cells of a frame: two for the call, what the parameters hold, and the variables
+abbrev pub frame_numbers : List Operand → List Kind → List ℕ
+frame_numbers args variables = 0 ∷ 0 ∷ (map number_of_operand args ++ map (λ k. cell_of (blank_of k)) variables)
+
+abbrev pub link_numbers : List ℕ
+link_numbers = 0 ∷ 0 ∷ []
+
+-- numbers in cells, one after another
+abbrev pub written_from : ℕ → List ℕ → Cells → Cells
+written_from at [] cells = cells
+written_from at (n ∷ ns) cells = written_from (suc at) ns (written cells (run_cell at) n)
+
+-- goes to a body, with a frame that has these numbers in its cells
+abbrev pub enters : Control → ℕ → ℕ → Bool → List Operand → List ℕ → Cells → After
+enters c first base refines ops numbers cells =
+    cond (cells_fit (c.used + length numbers))
+    (To (record { pc = first; ops = []; used = c.used + length numbers; frames = record { back = c.pc + 1; base = base; used = c.used; refines = refines; ops = ops } ∷ c.frames; full = false; waits = None }) (written_from c.used numbers cells))
+    (Stops CellRoom)
+
+abbrev pub calls_to : Control → ℕ → Layout → Cells → Move
+calls_to c first (Own parameters variables) cells = on_operands (length parameters) [] c.ops (λ args ops. Spends (enters c first (c.used + 2) false ops (frame_numbers args variables) cells))
+calls_to c first _ cells = Stuck
+
+abbrev pub call_move : Control → Option Entry → Cells → Move
+call_move c (Some e) cells = calls_to c e.first e.layout cells
+call_move c None cells = Stuck
+
+abbrev pub refer_move : Control → Option Entry → Cells → Move
+refer_move c (Some e) cells = Spends (enters c e.first (base_of c.frames) true c.ops link_numbers cells)
+refer_move c None cells = Stuck
+
+-- the result, where there is one
+abbrev pub on_result : Option Kind → List Operand → (List Operand → Move) → Move
+on_result None ops go = go []
+on_result (Some k) ops go = on_value ops (λ v rest. go (Of v ∷ []))
+
+-- leaves a frame, and leaves those of refinements and that of their PROC
+abbrev pub back_into : List Operand → Frame → List Frame → Cells → Move
+back_into result f fs cells = Goes (record { pc = f.back; ops = result ++ f.ops; used = f.used; frames = fs; full = false; waits = None }) cells
+
+abbrev pub back_to : List Operand → List Frame → Cells → Move
+back_to result [] cells = Stuck
+back_to result (f ∷ fs) cells = back_into result f fs cells
+
+abbrev pub out_to : List Operand → List Frame → Cells → Move
+out_to result [] cells = Stuck
+out_to result (f ∷ fs) cells = cond f.refines (out_to result fs cells) (back_into result f fs cells)
+
+-- keeps a limit in a cell, and looks whether the counter is past it
+abbrev pub limit_to : Control → Way → ℕ → ℤ → Addr → List Operand → Cells → Move
+limit_to c way a limit x ops cells =
+    cond (cells_fit (c.used + 1))
+    (Goes (using (at c (cond (is_past way limit (number_in cells x)) a (c.pc + 1)) ops) (c.used + 1)) (written cells (run_cell c.used) (cell_of (item.Int limit))))
+    (Halts (halts.Stopped CellRoom))
+
+-- the innermost limit
+abbrev pub limit_in : Control → Cells → ℤ
+limit_in c cells = number_in cells (run_cell (c.used - 1))
+
 -- what an instruction does
-abbrev pub instruction : Option Instr → Control → Cells → Move
-instruction None c cells = Stuck
-instruction (Some Mark) c cells = Spends (at c (c.pc + 1) c.ops)
-instruction (Some (Number z)) c cells = goes c (Of (item.Int z) ∷ c.ops) cells
-instruction (Some (Truth b)) c cells = goes c (Of (item.Truth b) ∷ c.ops) cells
-instruction (Some (Outer k)) c cells = goes c (At (run_cell k) ∷ c.ops) cells
-instruction (Some (Load kind)) c cells = on_place c.ops (λ a ops. goes c (Of (value_in kind (cells a)) ∷ ops) cells)
-instruction (Some (Store kind)) c cells = on_value c.ops (λ v ops. on_place ops (λ a ops. goes c ops (written cells a (cell_of v))))
-instruction (Some (Do op)) c cells =
-    on_values (length (operand_kinds op)) [] c.ops (λ vs ops. or_halt (result_of op vs) (λ v. goes c (Of v ∷ ops) cells))
-instruction (Some (Modify change)) c cells =
+abbrev pub instruction : List Entry → Option Instr → Control → Cells → Move
+instruction bodies None c cells = Stuck
+instruction bodies (Some Mark) c cells = Spends (To (at c (c.pc + 1) c.ops) cells)
+instruction bodies (Some (Number z)) c cells = pushes c (Of (item.Int z)) c.ops cells
+instruction bodies (Some (Truth b)) c cells = pushes c (Of (item.Truth b)) c.ops cells
+instruction bodies (Some (Outer k)) c cells = pushes c (At (run_cell k)) c.ops cells
+instruction bodies (Some (Local k)) c cells = pushes c (At (run_cell (base_of c.frames + k))) c.ops cells
+instruction bodies (Some (Param k)) c cells = pushes c (At (place_in (cells (run_cell (base_of c.frames + k))))) c.ops cells
+instruction bodies (Some (Load kind)) c cells = on_place c.ops (λ a ops. pushes c (Of (value_in kind (cells a))) ops cells)
+instruction bodies (Some (Store kind)) c cells = on_value c.ops (λ v ops. on_place ops (λ a ops. goes c ops (written cells a (cell_of v))))
+instruction bodies (Some (Do op)) c cells =
+    on_values (length (operand_kinds op)) [] c.ops (λ vs ops. or_halt (result_of op vs) (λ v. pushes c (Of v) ops cells))
+instruction bodies (Some (Modify change)) c cells =
     on_value c.ops (λ v ops. on_place ops (λ a ops. or_halt (changed change (number_in cells a) (number_of v)) (λ x. goes c ops (written cells a (cell_of x)))))
-instruction (Some (Jump a)) c cells = Goes (at c a c.ops) cells
-instruction (Some (False a)) c cells = on_value c.ops (λ v ops. Goes (at c (cond (truth_of v) (c.pc + 1) a) ops) cells)
-instruction (Some (When z a)) c cells =
+instruction bodies (Some (Jump a)) c cells = Goes (at c a c.ops) cells
+instruction bodies (Some (False a)) c cells = on_value c.ops (λ v ops. Goes (at c (cond (truth_of v) (c.pc + 1) a) ops) cells)
+instruction bodies (Some (When z a)) c cells =
     on_value c.ops (λ v ops. cond (int_eq (number_of v) z) (Goes (at c a ops) cells) (goes c (Of v ∷ ops) cells))
-instruction (Some Drop) c cells = on_value c.ops (λ v ops. goes c ops cells)
-instruction (Some (Limit way a)) c cells =
-    on_value c.ops (λ v ops. on_place ops (λ p ops.
-    Goes (record c { pc = cond (is_past way (number_of v) (number_in cells p)) a (c.pc + 1); ops = ops; limits = number_of v ∷ c.limits; waits = None }) cells))
-instruction (Some Unlimit) c cells = on_limit c.limits (λ l limits. Goes (record c { pc = c.pc + 1; limits = limits; waits = None }) cells)
-instruction (Some (Step way a)) c cells =
-    on_place c.ops (λ p ops. on_limit c.limits (λ l limits.
-    cond (has_reached way l (number_in cells p)) (Goes (at c a ops) cells) (goes c ops (written cells p (cell_of (item.Int (next_number way (number_in cells p))))))))
-instruction (Some (Ask call)) c cells = on_call call c.ops (λ q ops. Spends (record c { pc = c.pc + 1; ops = ops; waits = Some q }))
-instruction (Some End) c cells = Halts halts.Ended
+instruction bodies (Some Drop) c cells = on_value c.ops (λ v ops. goes c ops cells)
+instruction bodies (Some (Limit way a)) c cells = on_value c.ops (λ v ops. on_place ops (λ x ops. limit_to c way a (number_of v) x ops cells))
+instruction bodies (Some Unlimit) c cells = Goes (using (at c (c.pc + 1) c.ops) (c.used - 1)) cells
+instruction bodies (Some (Step way a)) c cells =
+    on_place c.ops (λ x ops.
+    cond (has_reached way (limit_in c cells) (number_in cells x)) (Goes (at c a ops) cells) (goes c ops (written cells x (cell_of (item.Int (next_number way (number_in cells x)))))))
+instruction bodies (Some (Ask call)) c cells = on_call call c.ops (λ q ops. Spends (To (record (at c (c.pc + 1) ops) { waits = Some q }) cells))
+instruction bodies (Some (Call n)) c cells = call_move c (slice_get bodies n) cells
+instruction bodies (Some (Refer n)) c cells = refer_move c (slice_get bodies n) cells
+instruction bodies (Some (Back kind)) c cells = on_result kind c.ops (λ result. back_to result c.frames cells)
+instruction bodies (Some (Out kind)) c cells = on_result kind c.ops (λ result. out_to result c.frames cells)
+instruction bodies (Some End) c cells = Halts halts.Ended
 
-abbrev pub step_at : Option Request → List Line → Control → Cells → Move
-step_at (Some q) lines c cells = Awaits q
-step_at None lines c cells = instruction (instr_of (slice_get lines c.pc)) c cells
+abbrev pub free_step : Bool → Program → Control → Cells → Move
+free_step true p c cells = Halts (halts.Stopped CellRoom)
+free_step false p c cells = instruction p.bodies (instr_of (slice_get p.lines c.pc)) c cells
 
--- one step
-abbrev pub step : List Line → Control → Cells → Move
-step lines c cells = step_at c.waits lines c cells
+abbrev pub step_at : Option Request → Program → Control → Cells → Move
+step_at (Some q) p c cells = Awaits q
+step_at None p c cells = free_step c.full p c cells
+
+-- one step. It looks at the instructions and at where bodies begin and what frames they have, not at the other tables
+abbrev pub step : Program → Control → Cells → Move
+step p c cells = step_at c.waits p c cells
 
 -- what the machine runs on: a number in each cell, the marks that are left, and the replies that are left
 pub record Scene : Type 0 where
@@ -136,9 +259,13 @@ pub data Stage : Type 0 where
 abbrev pub rest_at : Halt → Control → Scene → Rest
 rest_at h c s = record { how = h; control = c; scene = s }
 
-abbrev pub mark_stage : ℕ → Control → Control → Scene → Stage
-mark_stage zero c' c s = Over (rest_at halts.Marked c s)
-mark_stage (suc m) c' c s = On c' (record s { marks = m })
+abbrev pub after_stage : After → Control → Scene → Stage
+after_stage (To c' cells) c s = On c' (record s { cells = cells })
+after_stage (Stops stop) c s = Over (rest_at (halts.Stopped stop) c s)
+
+abbrev pub mark_stage : ℕ → After → Control → Scene → Stage
+mark_stage zero a c s = Over (rest_at halts.Marked c s)
+mark_stage (suc m) a c s = after_stage a c (record s { marks = m })
 
 abbrev pub reply_stage : List Reply → Request → Control → Scene → Stage
 reply_stage [] q c s = Over (rest_at (halts.Asks q) c s)
@@ -146,7 +273,7 @@ reply_stage (r ∷ rs) q c s = On (answered q r c) (record s { replies = rs })
 
 abbrev pub stage : Move → Control → Scene → Stage
 stage (Goes c' cells) c s = On c' (record s { cells = cells })
-stage (Spends c') c s = mark_stage s.marks c' c s
+stage (Spends a) c s = mark_stage s.marks a c s
 stage (Awaits q) c s = reply_stage s.replies q c s
 stage (Halts h) c s = Over (rest_at h c s)
 stage Stuck c s = Lost
@@ -157,10 +284,10 @@ carry_on (Over r) next = Some r
 carry_on Lost next = None
 
 -- at most n steps, and none where these are too few
-abbrev pub exec : List Line → ℕ → Control → Scene → Option Rest
-exec lines zero c s = None
-exec lines (suc n) c s = carry_on (stage (step lines c s.cells) c s) (exec lines n)
+abbrev pub exec : Program → ℕ → Control → Scene → Option Rest
+exec p zero c s = None
+exec p (suc n) c s = carry_on (stage (step p c s.cells) c s) (exec p n)
 
--- where a command starts
-abbrev pub start : Control
-start = record { pc = 0; ops = []; limits = []; waits = None }
+-- where a command starts, with so many variables
+abbrev pub start : ℕ → Control
+start n = record { pc = 0; ops = []; used = n; frames = []; full = not (cells_fit n); waits = None }

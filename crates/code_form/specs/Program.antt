@@ -1,18 +1,72 @@
 -- Code as a list of instructions with its tables.
-use Rattle.std.specs.Prelude.{ℕ, List, Option, Some, None}
+use Rattle.std.specs.Prelude.{ℕ, suc, List, [], ◌++◌, map, Option, Some, None, slice_get}
 use Rattle.eu_base.specs.declared.value.Kind.{Kind}
 use Rattle.code_form.specs.declared.instr.Instr.{Instr}
 use Rattle.code_form.specs.declared.operand.OperandKind.{OperandKind}
+use Rattle.code_form.specs.declared.operand.OperandKind.TheVariants.{Value}
 use Rattle.code_form.specs.declared.code.Line.{Line}
+use Rattle.code_form.specs.declared.code.Spot.{Spot}
+use Rattle.code_form.specs.declared.code.Layout.{Layout}
+use Rattle.code_form.specs.declared.code.Layout.TheVariants.{Own, Of, Level}
+use Rattle.code_form.specs.declared.code.Entry.{Entry}
 
--- the kinds of the level's variables, and the instructions with what is pending at each
+-- the kinds of the level's variables, the bodies, and the instructions with what is pending at each
 pub record Program : Type 0 where
   pub variables : List Kind
+  pub bodies : List Entry
   pub lines : List Line
 
-abbrev pub line_of : Instr → List OperandKind → ℕ → Line
-line_of i kinds limits = record { instr = i; operands = kinds; limits = limits }
+abbrev pub line_of : Instr → List OperandKind → Spot → Line
+line_of i kinds spot = record { instr = i; operands = kinds; spot = spot }
 
 abbrev pub instr_of : Option Line → Option Instr
 instr_of None = None
 instr_of (Some l) = Some l.instr
+
+-- the first instruction of the command, and of a body
+abbrev pub at_level : Spot
+at_level = record { body = None; limits = 0 }
+
+abbrev pub in_body : ℕ → Spot
+in_body n = record { body = Some n; limits = 0 }
+
+-- under one limit more
+abbrev pub deeper : Spot → Spot
+deeper spot = record { body = spot.body; limits = suc spot.limits }
+
+-- the cells of a PROC's frame: what its parameters hold, and its variables
+abbrev pub cells_of : Layout → List OperandKind
+cells_of (Own parameters variables) = parameters ++ map Value variables
+cells_of _ = []
+
+-- the PROC whose cells a body uses; none where it is a refinement of the level
+abbrev pub owner_in : ℕ → Layout → Option ℕ
+owner_in n (Own parameters variables) = Some n
+owner_in n (Of p) = Some p
+owner_in n Level = None
+
+abbrev pub layout_of : Option Entry → Option Layout
+layout_of None = None
+layout_of (Some e) = Some e.layout
+
+abbrev pub owner_at : ℕ → Option Layout → Option ℕ
+owner_at n None = None
+owner_at n (Some l) = owner_in n l
+
+abbrev pub cells_at : Option Layout → List OperandKind
+cells_at None = []
+cells_at (Some l) = cells_of l
+
+module _ (p : Program) where
+  -- the PROC whose cells the instructions of a body use
+  abbrev pub owner : Option ℕ → Option ℕ
+  owner None = None
+  owner (Some n) = owner_at n (layout_of (slice_get p.bodies n))
+
+  abbrev pub cells_in : Option ℕ → List OperandKind
+  cells_in None = []
+  cells_in (Some n) = cells_at (layout_of (slice_get p.bodies n))
+
+  -- the cells that they use
+  abbrev pub frame_cells : Option ℕ → List OperandKind
+  frame_cells body = cells_in (owner body)

@@ -1,5 +1,5 @@
 //! Code.
-ghost use Rattle.std.specs.Prelude.{◌≡◌, ◌<◌, ◌≤◌, length, map, slice_get, Some};
+ghost use Rattle.std.specs.Prelude.{◌≡◌, ◌<◌, length, slice_get, Some};
 ghost use Rattle.code_form.specs.Program.{instr_of};
 ghost use Rattle.code_form.specs.Valid.{IsValid};
 
@@ -14,8 +14,40 @@ pub struct Line {
     pub instr: Instr,
     /// The kinds of the pending operands, the newest first.
     pub operands: List<OperandKind>,
-    /// How many limits of loops are kept.
+    pub spot: Spot,
+}
+
+/// Where an instruction stands.
+#[derive(Clone, Copy, PartialEq, Eq, Debug)]
+pub struct Spot {
+    /// The body that it is of; none where it is of the command itself.
+    pub body: Option<u16>,
+    /// How many limits of loops its frame keeps.
     pub limits: usize,
+}
+
+/// A PROC or a refinement.
+#[derive(Debug, Drop)]
+pub struct Entry {
+    /// The number of its first instruction.
+    pub first: usize,
+    pub layout: Layout,
+    /// The kind of the value that it delivers, where it delivers one.
+    pub delivers: Option<Kind>,
+}
+
+/// The cells of a body's frame.
+#[derive(Debug, Drop)]
+pub enum Layout {
+    /// Those of a PROC: what its parameters hold, and behind them its variables.
+    Own {
+        parameters: List<OperandKind>,
+        variables: List<Kind>,
+    },
+    /// Those of the PROC with this number, whose refinement it is.
+    Of(u16),
+    /// None: it is a refinement of the command itself.
+    Level,
 }
 
 /// A list of instructions with its tables. Along each step the tables agree, and a jump back goes to an
@@ -23,6 +55,7 @@ pub struct Line {
 #[derive(Debug, Drop)]
 pub struct Code {
     variables: List<Kind>,
+    bodies: List<Entry>,
     lines: List<Line>,
 }
 
@@ -33,25 +66,35 @@ impl Model for Code {
 
     ghost use Rattle.code_form.specs.Valid.{IsValid};
 
-    ghost view = { λ c. record { variables = c.variables; lines = c.lines } };
+    ghost view = { λ c. record { variables = c.variables; bodies = c.bodies; lines = c.lines } };
 
-    ghost invariant = { λ c. IsValid (record { variables = c.variables; lines = c.lines }) };
+    ghost invariant = { λ c. IsValid (record { variables = c.variables; bodies = c.bodies; lines = c.lines }) };
 }
 
 impl Code {
-    pub fn new(variables: List<Kind>, lines: List<Line>) -> Code
-        requires { IsValid (record { variables = variables; lines = lines }) }
-        ensures { result ≡ record { variables = variables; lines = lines } }
+    pub fn new(variables: List<Kind>, bodies: List<Entry>, lines: List<Line>) -> Code
+        requires { IsValid (record { variables = variables; bodies = bodies; lines = lines }) }
+        ensures { result ≡ record { variables = variables; bodies = bodies; lines = lines } }
     {
-        Code { variables, lines }
+        Code {
+            variables,
+            bodies,
+            lines,
+        }
     }
 
     /// The kinds of the level's variables.
     pub fn variables(&self) -> &[Kind]
-        ensures kinds { result.now ≡ self.now.variables }
-        ensures few { length result.now ≤ 16384 }
+        ensures { result.now ≡ self.now.variables }
     {
         self.variables.as_slice()
+    }
+
+    /// The PROCs and refinements.
+    pub fn bodies(&self) -> &[Entry]
+        ensures { result.now ≡ self.now.bodies }
+    {
+        self.bodies.as_slice()
     }
 
     /// The number of instructions.

@@ -7,7 +7,7 @@ mod instr;
 mod operand;
 mod text;
 
-pub use code::{Code, Line};
+pub use code::{Code, Entry, Layout, Line, Spot};
 pub use halt::Halt;
 pub use instr::{Call, Instr};
 pub use operand::{Operand, OperandKind};

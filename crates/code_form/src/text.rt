@@ -1,9 +1,10 @@
 //! Code as text.
-ghost use Rattle.std.specs.Prelude.{◌≡◌, ◌++◌, IfOk, OnOk};
+ghost use Rattle.std.specs.Prelude.{◌≡◌, ◌++◌, IfOk, OnOk, length, slice_get, codes};
 ghost use Rattle.std.specs.Fmt.{decimal, signed_decimal};
-ghost use Rattle.code_form.specs.Listing.{truth_word, kind_word, way_word, operation_name, change_name, call_name, instr_text, line_text, listing_text};
+ghost use Rattle.code_form.specs.Listing.{truth_word, kind_word, way_word, operation_name, change_name, call_name, first_of, cells_of_frame, instr_text, line_text, listing_text};
+ghost use Rattle.code_form.specs.Program.{cells_of};
 
-use crate::code::Code;
+use crate::code::{Code, Entry, Layout};
 use crate::instr::{Call, Instr};
 use eu_base::{Bytes, Change, Kind, NoMemory, Operation, Way};
 use itoa::Buffer;
@@ -11,27 +12,32 @@ use std::alloc::Global;
 
 /// A line for each instruction: its number, its word, and each argument, with blanks between them.
 pub fn listing(alloc: Global, code: &Code) -> Result<Bytes, NoMemory>
-    ensures { IfOk result (λ text. text ≡ listing_text code.now.lines) }
+    ensures { IfOk result (λ text. text ≡ listing_text code.now) }
 {
     let mut out = Bytes::new(alloc);
     for (number, line) in code.lines().iter().enumerate() {
-        append_line(&mut out, number, line.instr)?;
+        append_line(&mut out, code.bodies(), number, line.instr)?;
     }
     Ok(out)
 }
 
-fn append_line(out: &mut Bytes, number: usize, instr: Instr) -> Result<(), NoMemory>
-    ensures { OnOk result (out.new ≡ out.old ++ line_text number instr) }
+fn append_line(
+    out: &mut Bytes,
+    bodies: &[Entry],
+    number: usize,
+    instr: Instr,
+) -> Result<(), NoMemory>
+    ensures { OnOk result (out.new ≡ out.old ++ line_text bodies.now number instr) }
 {
     append_number(out, number)?;
     out.append(b" ")?;
-    append_instr(out, instr)?;
+    append_instr(out, bodies, instr)?;
     out.append(b"\n")?;
     Ok(())
 }
 
-fn append_instr(out: &mut Bytes, instr: Instr) -> Result<(), NoMemory>
-    ensures { OnOk result (out.new ≡ out.old ++ instr_text instr) }
+fn append_instr(out: &mut Bytes, bodies: &[Entry], instr: Instr) -> Result<(), NoMemory>
+    ensures { OnOk result (out.new ≡ out.old ++ instr_text bodies.now instr) }
 {
     match instr {
         Instr::Mark => out.append(b"MARK"),
@@ -44,6 +50,8 @@ fn append_instr(out: &mut Bytes, instr: Instr) -> Result<(), NoMemory>
             out.append(truth_word(value))
         }
         Instr::Outer(cell) => append_with(out, b"OUTER ", usize::from(cell)),
+        Instr::Local(cell) => append_with(out, b"LOCAL ", usize::from(cell)),
+        Instr::Param(cell) => append_with(out, b"PARAM ", usize::from(cell)),
         Instr::Load(kind) => {
             out.append(b"LOAD ")?;
             out.append(kind_word(kind))
@@ -82,7 +90,49 @@ fn append_instr(out: &mut Bytes, instr: Instr) -> Result<(), NoMemory>
             out.append(b"ASK ")?;
             out.append(call_name(call))
         }
+        Instr::Call(body) => {
+            append_with(out, b"CALL ", first_of(bodies, body))?;
+            append_with(out, b" ", cells_of_frame(bodies, body)?)
+        }
+        Instr::Refer(body) => append_with(out, b"REFER ", first_of(bodies, body)),
+        Instr::Back(_) => out.append(b"BACK"),
+        Instr::Out(_) => out.append(b"OUT"),
         Instr::End => out.append(b"END"),
+    }
+}
+
+// Where a body begins.
+fn first_of(bodies: &[Entry], body: u16) -> usize
+    ensures { result ≡ first_of (slice_get bodies.now body) }
+{
+    match bodies.get(usize::from(body)) {
+        Some(entry) => entry.first,
+        None => 0,
+    }
+}
+
+// How many cells a body's frame has for its parameters and variables.
+fn cells_of_frame(bodies: &[Entry], body: u16) -> Result<usize, NoMemory>
+    ensures { IfOk result (λ cells. cells ≡ cells_of_frame (slice_get bodies.now body)) }
+{
+    match bodies.get(usize::from(body)) {
+        Some(entry) => cells_of(&entry.layout),
+        None => Ok(0),
+    }
+}
+
+fn cells_of(layout: &Layout) -> Result<usize, NoMemory>
+    ensures { IfOk result (λ cells. cells ≡ length (cells_of layout.now)) }
+{
+    match layout {
+        Layout::Own {
+            parameters,
+            variables,
+        } => parameters
+            .len()
+            .checked_add(variables.len())
+            .ok_or(NoMemory),
+        Layout::Of(_) | Layout::Level => Ok(0),
     }
 }
 
