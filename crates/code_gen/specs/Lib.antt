@@ -1,4 +1,2 @@
-pub mod Stretch
+pub mod Program
 pub mod Correct
-pub mod Adds
-pub mod Steps

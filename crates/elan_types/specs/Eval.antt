@@ -256,11 +256,6 @@ abbrev pub delivered : Option Value → Value
 delivered (Some v) = v
 delivered None = Int (pos 0)
 
--- a body is left with a value, or without one
-abbrev pub leave : {A : Type 0} → Exit → Option (Run Value) → Run A
-leave e None n w = Left e None w
-leave e (Some a) n w = bind (a n w) (λ v. Left e (Some v))
-
 abbrev pub Layer : (Type 0 → Type 0 → Type 0 → Type 0 → Type 0 → Type 0) → Type 0
 Layer F = F (Run (Unit {0})) (Run Slot) (Run Value) (Labelled (Run (Unit {0}))) (Labelled (Run Value))
 
@@ -275,9 +270,8 @@ value_step (t.ValuePhrase::If c a b) n w = bind (c n w) (λ v. branch (truth_of 
 value_step (t.ValuePhrase::Select a arms other) n w = bind (a n w) (λ v. selected (number_of v) arms other n)
 value_step (t.ValuePhrase::Unit a) n w = spend (a n) w
 value_step (t.After us a) n w = bind (all us n w) (λ _. a n)
-value_step (t.ValuePhrase::Call p as') n w = bind (actuals as' n w) (λ xs w. bind (n.calls.call p xs n.held w) (λ v. Gives (delivered v)))
-value_step (t.ValuePhrase::Refer p) n w = bind (n.calls.refer p n.base n.held w) (λ v. Gives (delivered v))
-value_step (t.ValuePhrase::Leave e a u) n w = leave e a n w
+value_step (t.ValuePhrase::Call p as' u) n w = bind (actuals as' n w) (λ xs w. bind (n.calls.call p xs n.held w) (λ v. Gives (delivered v)))
+value_step (t.ValuePhrase::Refer p u) n w = bind (n.calls.refer p n.base n.held w) (λ v. Gives (delivered v))
 
 -- what a parameter is given: a value, or a place
 abbrev pub actual_step : Layer Actual-F → Run Slot
@@ -300,7 +294,8 @@ action_step (t.Put a) n w = bind (a n w) (λ v. ask (put_request (number_of v)) 
 action_step t.Line n w = ask line_request (λ _. Gives tt) w
 action_step (t.Action::Call p as') n w = bind (actuals as' n w) (λ xs w. bind (n.calls.call p xs n.held w) (λ _. Gives tt))
 action_step (t.Action::Refer p) n w = bind (n.calls.refer p n.base n.held w) (λ _. Gives tt)
-action_step (t.Action::Leave e a) n w = leave e a n w
+action_step (t.Leave e) n w = Left e None w
+action_step (t.LeaveWith e u a) n w = bind (a n w) (λ v. Left e (Some v))
 
 abbrev pub arm_step : Layer Arm-F → Labelled (Run (Unit {0}))
 arm_step arm = record { labels = arm.labels; part = all arm.units }

@@ -116,11 +116,14 @@ abbrev pub is_none : Typed → Bool
 is_none None = true
 is_none (Some u) = false
 
--- what a LEAVE delivers: nothing, or a value of the type
-abbrev pub leaves_with : Typed → Option Typed → Bool
-leaves_with None None = true
-leaves_with (Some u) (Some a) = has u a
-leaves_with _ _ = false
+-- a LEAVE can be there, without and with a value of this type
+abbrev pub leaves_without : Option Typed → Bool
+leaves_without None = false
+leaves_without (Some u) = is_none u
+
+abbrev pub leaves_with : ElanType → Option Typed → Bool
+leaves_with u None = false
+leaves_with u (Some v) = has u v
 
 -- where a phrase stands: in the units of the level, or in the body with this number
 abbrev pub Home : Type 0
@@ -198,10 +201,6 @@ module _ (bodies : List Body) where
   left_from exits.Body (Some n) = result_of (body_at n)
   left_from exits.Around (Some n) = around (scope_of (body_at n))
 
-abbrev pub may_leave : Option Typed → Option Typed → Bool
-may_leave None a = false
-may_leave (Some u) a = leaves_with u a
-
 module _ (variables : List ElanType) (bodies : List Body) (home : Home) where
   abbrev pub frame_here : List Formal
   frame_here = frame_in bodies (owner bodies home)
@@ -226,9 +225,8 @@ module _ (variables : List ElanType) (bodies : List Body) (home : Home) where
   value_type_step (t.ValuePhrase::Select v arms other) = only_if (has types.Int v && all_agree other arms) other
   value_type_step (t.ValuePhrase::Unit a) = a
   value_type_step (t.After us a) = only_if (all_true us) a
-  value_type_step (t.ValuePhrase::Call p as') = only_if (taken_by (scope_of (slice_get bodies p)) as') (delivered_by (slice_get bodies p))
-  value_type_step (t.ValuePhrase::Refer p) = only_if (refines (owner bodies home) (scope_of (slice_get bodies p))) (delivered_by (slice_get bodies p))
-  value_type_step (t.ValuePhrase::Leave e a u) = only_if (may_leave (left_from bodies e home) a) (Some u)
+  value_type_step (t.ValuePhrase::Call p as' u) = only_if (taken_by (scope_of (slice_get bodies p)) as' && has u (delivered_by (slice_get bodies p))) (Some u)
+  value_type_step (t.ValuePhrase::Refer p u) = only_if (refines (owner bodies home) (scope_of (slice_get bodies p)) && has u (delivered_by (slice_get bodies p))) (Some u)
 
   abbrev pub actual_type_step : Layer Actual-F → Taken
   actual_type_step (t.Value a) = given_as Const a
@@ -251,7 +249,8 @@ module _ (variables : List ElanType) (bodies : List Body) (home : Home) where
   action_typed_step t.Line = true
   action_typed_step (t.Action::Call p as') = taken_by (scope_of (slice_get bodies p)) as' && is_none (delivered_by (slice_get bodies p))
   action_typed_step (t.Action::Refer p) = refines (owner bodies home) (scope_of (slice_get bodies p)) && is_none (delivered_by (slice_get bodies p))
-  action_typed_step (t.Action::Leave e a) = may_leave (left_from bodies e home) a
+  action_typed_step (t.Leave e) = leaves_without (left_from bodies e home)
+  action_typed_step (t.LeaveWith e u a) = has u a && leaves_with u (left_from bodies e home)
 
   abbrev pub arm_typed_step : Layer Arm-F → Bool
   arm_typed_step arm = all_true arm.units

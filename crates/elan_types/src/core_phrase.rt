@@ -87,14 +87,12 @@ pub enum ValuePhrase {
     Select(Boxed<ValuePhrase>, List<ValueArm>, Boxed<ValuePhrase>),
     /// A value that is a unit: it spends a mark first.
     Unit(Boxed<ValuePhrase>),
-    /// Actions, and then a value.
+    /// Actions, and then a value. Behind a LEAVE stands any value of the type that is asked for; it is never reached.
     After(List<Action>, Boxed<ValuePhrase>),
     /// What the call of a PROC delivers, its actuals from left to right.
-    Call(u16, List<Actual>),
+    Call(u16, List<Actual>, ElanType),
     /// What a refinement delivers.
-    Refer(u16),
-    /// A LEAVE, with the value that is delivered, where a value of this type is asked for: it gives none.
-    Leave(Exit, Option<Boxed<ValuePhrase>>, ElanType),
+    Refer(u16, ElanType),
 }
 
 /// What a parameter is given.
@@ -162,8 +160,9 @@ pub enum Action {
     Call(u16, List<Actual>),
     /// A refinement that delivers nothing.
     Refer(u16),
-    /// A LEAVE, with the value that is delivered.
-    Leave(Exit, Option<ValuePhrase>),
+    Leave(Exit),
+    /// A LEAVE WITH, and the value that is delivered.
+    LeaveWith(Exit, ElanType, ValuePhrase),
 }
 
 /// Labels, and what they choose.

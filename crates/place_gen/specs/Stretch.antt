@@ -2,6 +2,7 @@
 use Rattle.std.specs.Prelude.{ℕ, suc, ◌+◌, true, false, List, [], ◌∷◌, ◌++◌, map, length, drop, option_map, Option, Some, None, ℤ, pos}
 use Rattle.eu_base.specs.declared.value.Kind.{Kind}
 use Rattle.eu_base.specs.declared.value.Kind.TheVariants as kinds
+use Rattle.eu_base.specs.declared.operation.Change.{Change}
 use Rattle.eu_base.specs.declared.operation.Change.TheVariants.{Increase}
 use Rattle.eu_base.specs.declared.operation.Way.{Way}
 use Rattle.eu_base.specs.Operations.{operand_kinds, result_kind}
@@ -9,26 +10,35 @@ use Rattle.code_form.specs.declared.operand.OperandKind.{OperandKind}
 use Rattle.code_form.specs.declared.operand.OperandKind.TheVariants.{Value, Place}
 use Rattle.code_form.specs.declared.instr.Call.TheVariants as calls
 use Rattle.code_form.specs.declared.instr.Instr.{Instr}
-use Rattle.code_form.specs.declared.instr.Instr.TheVariants.{Mark, Number, Truth, Outer, Load, Store, Do, Modify, Jump, False, When, Drop, Limit, Unlimit, Step, Ask, End}
+use Rattle.code_form.specs.declared.instr.Instr.TheVariants.{Mark, Number, Truth, Outer, Local, Param, Load, Store, Do, Modify, Jump, False, When, Drop, Limit, Unlimit, Step, Ask, Call, Refer, Back, Out}
 use Rattle.code_form.specs.declared.code.Line.{Line}
-use Rattle.code_form.specs.Program.{Program, line_of}
-use Rattle.elan_types.specs.declared.core_phrase.Core.{Core}
+use Rattle.code_form.specs.declared.code.Spot.{Spot}
+use Rattle.code_form.specs.Program.{line_of, deeper}
+use Rattle.code_form.specs.Valid.{with_result}
+use Rattle.elan_types.specs.declared.core_phrase.PlacePhrase.{PlacePhrase}
+use Rattle.elan_types.specs.declared.core_phrase.PlacePhrase.TheVariants.{Variable}
+use Rattle.elan_types.specs.declared.core_phrase.PlacePhrase.TheVariants as places
+use Rattle.elan_types.specs.declared.core_phrase.Exit.{Exit as Exit'}
+use Rattle.elan_types.specs.declared.core_phrase.Exit.TheVariants as exits
+use Rattle.elan_types.specs.declared.core_phrase.Content.{Content}
+use Rattle.elan_types.specs.declared.core_phrase.Content.TheVariants as contents
+use Rattle.elan_types.specs.declared.core_phrase.Actual.{Actual}
 use Rattle.elan_types.specs.declared.core_phrase.ValuePhrase.{ValuePhrase, out-ValuePhrase}
 use Rattle.elan_types.specs.declared.core_phrase.Arm.{Arm}
 use Rattle.elan_types.specs.declared.core_phrase.ValueArm.{ValueArm}
 use Rattle.elan_types.specs.declared.core_phrase.Action.{Action, out-Action}
 use Rattle.elan_types.specs.declared.core_phrase.Action.TheOpen as t
-use Rattle.elan_types.specs.declared.core_phrase.Action.TheOpen.{Action-F, ValuePhrase-F, Arm-F, ValueArm-F}
-use Rattle.elan_types.specs.declared.core_phrase.Action.TheFolds.{fold-Action, fold-ValuePhrase, fold-Arm, fold-ValueArm}
+use Rattle.elan_types.specs.declared.core_phrase.Action.TheOpen.{Action-F, Actual-F, ValuePhrase-F, Arm-F, ValueArm-F}
+use Rattle.elan_types.specs.declared.core_phrase.Action.TheFolds.{fold-Action, fold-Actual, fold-ValuePhrase, fold-Arm, fold-ValueArm}
 use Rattle.elan_types.specs.Typing.{kind_in}
-use Rattle.elan_types.specs.Eval.{Labelled, place_of}
+use Rattle.elan_types.specs.Eval.{Labelled}
 
--- lines that know what is pending before them, how many limits are kept, and where they stand; how many they are; and what is
--- pending after them
+-- lines that know what is pending before them, in which body and under how many limits they are, and where they stand; how many
+-- they are; and what is pending after them
 pub record Stretch : Type 0 where
   pub size : ℕ
   pub leaves : List OperandKind → List OperandKind
-  pub lines : List OperandKind → ℕ → ℕ → List Line
+  pub lines : List OperandKind → Spot → ℕ → List Line
 
 abbrev pub none : Stretch
 none = record { size = 0; leaves = λ ks. ks; lines = λ ks m at. [] }
@@ -66,7 +76,7 @@ if_code c a b = record {
       ∷ b.lines ks m (at + c.size + 1 + a.size + 1))));
 }
 
-abbrev pub whens : List ℤ → ℕ → List OperandKind → ℕ → List Line
+abbrev pub whens : List ℤ → ℕ → List OperandKind → Spot → List Line
 whens [] a ks m = []
 whens (z ∷ zs) a ks m = line_of (When z a) ks m ∷ whens zs a ks m
 
@@ -90,7 +100,7 @@ select_code (arm ∷ arms) other = arm_code arm.labels arm.part (select_code arm
 -- a part of a loop's turn, which may leave the loop: its lines know the place where the loop ends. It leaves what was pending
 pub record Exit : Type 0 where
   pub size : ℕ
-  pub lines : ℕ → List OperandKind → ℕ → ℕ → List Line
+  pub lines : ℕ → List OperandKind → Spot → ℕ → List Line
 
 abbrev pub stays : Stretch → Exit
 stays f = record { size = f.size; lines = λ end. f.lines }
@@ -109,14 +119,23 @@ until_code (Some c) = record {
   lines = λ end ks m at. c.lines ks m at ++ (line_of (False (at + c.size + 1 + 1)) (c.leaves ks) m ∷ (line_of (Jump end) ks m ∷ []));
 }
 
--- the step of a counter without limit, and with one
-abbrev pub step_code : ℕ → Exit
-step_code x = stays (join (one (Outer x) (pushes (Place kinds.Int))) (join (one (Number (pos 1)) (pushes (Value kinds.Int))) (one (Modify Increase) (drop 2))))
+-- the place that a phrase names, of a variable of this kind
+abbrev pub place_instr : PlacePhrase → Instr
+place_instr (Variable k) = Outer k
+place_instr (places.Local k) = Local k
+place_instr (places.Parameter k) = Param k
 
-abbrev pub step_to_code : ℕ → Way → Exit
+abbrev pub place_code : PlacePhrase → Kind → Stretch
+place_code x k = one (place_instr x) (pushes (Place k))
+
+-- the step of a counter without limit, and with one
+abbrev pub step_code : PlacePhrase → Exit
+step_code x = stays (join (place_code x kinds.Int) (join (one (Number (pos 1)) (pushes (Value kinds.Int))) (one (Modify Increase) (drop 2))))
+
+abbrev pub step_to_code : PlacePhrase → Way → Exit
 step_to_code x way = record {
   size = 1 + 1;
-  lines = λ end ks m at. line_of (Outer x) ks m ∷ (line_of (Step way end) (Place kinds.Int ∷ ks) m ∷ []);
+  lines = λ end ks m at. line_of (place_instr x) ks m ∷ (line_of (Step way end) (Place kinds.Int ∷ ks) m ∷ []);
 }
 
 abbrev pub turn_code : Option Stretch → Stretch → Option Stretch → Exit → Exit
@@ -136,21 +155,39 @@ limit_code way turns = record {
   size = 1 + (turns.size + 1);
   leaves = drop 2;
   lines = λ ks m at.
-      line_of (Limit way (at + 1 + turns.size)) ks m ∷ (turns.lines (drop 2 ks) (suc m) (at + 1) ++ line_of Unlimit (drop 2 ks) (suc m) ∷ []);
+      line_of (Limit way (at + 1 + turns.size)) ks m ∷ (turns.lines (drop 2 ks) (deeper m) (at + 1) ++ line_of Unlimit (drop 2 ks) (deeper m) ∷ []);
 }
 
-abbrev pub store_code : ℕ → Kind → Stretch → Stretch
-store_code x k f = join (one (Outer x) (pushes (Place k))) (join f (one (Store k) (drop 2)))
+abbrev pub store_code : PlacePhrase → Kind → Stretch → Stretch
+store_code x k f = join (place_code x k) (join f (one (Store k) (drop 2)))
 
-abbrev pub counted_code : ℕ → Way → Option Stretch → (Exit → Exit) → Stretch
+abbrev pub modify_code : PlacePhrase → Change → Stretch → Stretch
+modify_code x change f = join (place_code x kinds.Int) (join f (one (Modify change) (drop 2)))
+
+abbrev pub counted_code : PlacePhrase → Way → Option Stretch → (Exit → Exit) → Stretch
 counted_code x way None turn = turns_code (turn (step_code x))
 counted_code x way (Some f) turn =
-    join (one (Outer x) (pushes (Place kinds.Int))) (join f (limit_code way (turns_code (turn (step_to_code x way)))))
+    join (place_code x kinds.Int) (join f (limit_code way (turns_code (turn (step_to_code x way)))))
 
-abbrev pub value_code_step : ValuePhrase-F Stretch Stretch (Labelled Stretch) (Labelled Stretch) → Stretch
+-- a call takes as many operands as it has actuals, and leaves what it delivers
+abbrev pub call_code : ℕ → Option Kind → List Stretch → Stretch
+call_code n delivers fs = join (all_code fs) (one (Call n) (λ ks. with_result delivers (drop (length fs) ks)))
+
+abbrev pub refer_code : ℕ → Option Kind → Stretch
+refer_code n delivers = one (Refer n) (with_result delivers)
+
+-- the instruction that leaves a body, and the PROC of a refinement
+abbrev pub leave_instr : Exit' → Option Kind → Instr
+leave_instr exits.Body k = Back k
+leave_instr exits.Around k = Out k
+
+abbrev pub Layer : (Type 0 → Type 0 → Type 0 → Type 0 → Type 0 → Type 0) → Type 0
+Layer F = F Stretch Stretch Stretch (Labelled Stretch) (Labelled Stretch)
+
+abbrev pub value_code_step : Layer ValuePhrase-F → Stretch
 value_code_step (t.Number z) = one (Number z) (pushes (Value kinds.Int))
 value_code_step (t.Truth b) = one (Truth b) (pushes (Value kinds.Truth))
-value_code_step (t.Load p u) = join (one (Outer (place_of p)) (pushes (Place (kind_in u)))) (one (Load (kind_in u)) (λ ks. Value (kind_in u) ∷ drop 1 ks))
+value_code_step (t.Load p u) = join (place_code p (kind_in u)) (one (Load (kind_in u)) (λ ks. Value (kind_in u) ∷ drop 1 ks))
 value_code_step (t.Apply op as') = join (all_code as') (one (Do op) (λ ks. Value (result_kind op) ∷ drop (length (operand_kinds op)) ks))
 value_code_step (t.Cand a b) = if_code a b (one (Truth false) (pushes (Value kinds.Truth)))
 value_code_step (t.Cor a b) = if_code a (one (Truth true) (pushes (Value kinds.Truth))) b
@@ -158,44 +195,55 @@ value_code_step (t.ValuePhrase::If c a b) = if_code c a b
 value_code_step (t.ValuePhrase::Select a arms other) = join a (select_code arms other)
 value_code_step (t.ValuePhrase::Unit a) = join (one Mark keeps) a
 value_code_step (t.After us a) = join (all_code us) a
+value_code_step (t.ValuePhrase::Call n as' u) = call_code n (Some (kind_in u)) as'
+value_code_step (t.ValuePhrase::Refer n u) = refer_code n (Some (kind_in u))
 
-abbrev pub value_arm_code_step : ValueArm-F Stretch Stretch (Labelled Stretch) (Labelled Stretch) → Labelled Stretch
+abbrev pub actual_code_step : Layer Actual-F → Stretch
+actual_code_step (t.Value a) = a
+actual_code_step (t.Place p u) = place_code p (kind_in u)
+
+abbrev pub value_arm_code_step : Layer ValueArm-F → Labelled Stretch
 value_arm_code_step arm = record { labels = arm.labels; part = arm.value }
 
-abbrev pub action_code_step : Action-F Stretch Stretch (Labelled Stretch) (Labelled Stretch) → Stretch
+abbrev pub action_code_step : Layer Action-F → Stretch
 action_code_step (t.Action::Unit us) = join (one Mark keeps) (all_code us)
-action_code_step (t.Store p u a) = store_code (place_of p) (kind_in u) a
-action_code_step (t.Modify change p a) = join (one (Outer (place_of p)) (pushes (Place kinds.Int))) (join a (one (Modify change) (drop 2)))
+action_code_step (t.Store p u a) = store_code p (kind_in u) a
+action_code_step (t.Modify change p a) = modify_code p change a
 action_code_step (t.Action::If c us vs) = if_code c (all_code us) (all_code vs)
 action_code_step (t.Action::Select a arms us) = join a (select_code arms (all_code us))
 action_code_step (t.Loop while' us until) = turns_code (turn_code while' (all_code us) until (stays none))
 action_code_step (t.Count p from way limit while' us until) =
-    join (store_code (place_of p) kinds.Int from) (counted_code (place_of p) way limit (turn_code while' (all_code us) until))
+    join (store_code p kinds.Int from) (counted_code p way limit (turn_code while' (all_code us) until))
 action_code_step (t.Put a) = join a (one (Ask calls.PutNumber) (drop 1))
 action_code_step t.Line = one (Ask calls.Line) keeps
+action_code_step (t.Action::Call n as') = call_code n None as'
+action_code_step (t.Action::Refer n) = refer_code n None
+action_code_step (t.Leave e) = one (leave_instr e None) keeps
+action_code_step (t.LeaveWith e u a) = join a (one (leave_instr e (Some (kind_in u))) (drop 1))
 
-abbrev pub arm_code_step : Arm-F Stretch Stretch (Labelled Stretch) (Labelled Stretch) → Labelled Stretch
+abbrev pub arm_code_step : Layer Arm-F → Labelled Stretch
 arm_code_step arm = record { labels = arm.labels; part = all_code arm.units }
 
 abbrev pub value_code : ValuePhrase → Stretch
-value_code = fold-ValuePhrase Stretch Stretch (Labelled Stretch) (Labelled Stretch) action_code_step value_code_step arm_code_step value_arm_code_step
+value_code = fold-ValuePhrase Stretch Stretch Stretch (Labelled Stretch) (Labelled Stretch) action_code_step actual_code_step value_code_step arm_code_step value_arm_code_step
 
 abbrev pub action_code : Action → Stretch
-action_code = fold-Action Stretch Stretch (Labelled Stretch) (Labelled Stretch) action_code_step value_code_step arm_code_step value_arm_code_step
+action_code = fold-Action Stretch Stretch Stretch (Labelled Stretch) (Labelled Stretch) action_code_step actual_code_step value_code_step arm_code_step value_arm_code_step
 
--- a whole command
-abbrev pub command_code : Core → Stretch
-command_code core = join (all_code (map action_code core.units)) (one End keeps)
+abbrev pub actual_code : Actual → Stretch
+actual_code = fold-Actual Stretch Stretch Stretch (Labelled Stretch) (Labelled Stretch) action_code_step actual_code_step value_code_step arm_code_step value_arm_code_step
 
-abbrev pub program_of : Core → Program
-program_of core = record { variables = map kind_in core.variables; lines = (command_code core).lines [] 0 0 }
+-- what a body does, and the instruction that leaves it with its result
+abbrev pub content_code : Content → Stretch
+content_code (contents.Units us) = join (all_code (map action_code us)) (one (Back None) keeps)
+content_code (contents.Value u a) = join (value_code a) (one (Back (Some (kind_in u))) (drop 1))
 
 -- the code of a part of a SELECT, with its labels
 abbrev pub value_arm_code : ValueArm → Labelled Stretch
-value_arm_code = fold-ValueArm Stretch Stretch (Labelled Stretch) (Labelled Stretch) action_code_step value_code_step arm_code_step value_arm_code_step
+value_arm_code = fold-ValueArm Stretch Stretch Stretch (Labelled Stretch) (Labelled Stretch) action_code_step actual_code_step value_code_step arm_code_step value_arm_code_step
 
 abbrev pub arm_code_of : Arm → Labelled Stretch
-arm_code_of = fold-Arm Stretch Stretch (Labelled Stretch) (Labelled Stretch) action_code_step value_code_step arm_code_step value_arm_code_step
+arm_code_of = fold-Arm Stretch Stretch Stretch (Labelled Stretch) (Labelled Stretch) action_code_step actual_code_step value_code_step arm_code_step value_arm_code_step
 
 -- how many lines the parts of a SELECT have, without the last
 abbrev pub arms_length : List (Labelled Stretch) → ℕ
@@ -207,7 +255,7 @@ abbrev pub whens_code : List ℤ → ℕ → Stretch
 whens_code zs a = record { size = length zs; leaves = keeps; lines = λ ks m at. whens zs a ks m }
 
 -- IF, CAND and COR; nothing for another phrase
-abbrev pub choice_step : ValuePhrase-F Action ValuePhrase Arm ValueArm → Stretch
+abbrev pub choice_step : ValuePhrase-F Action Actual ValuePhrase Arm ValueArm → Stretch
 choice_step (t.Cand a b) = if_code (value_code a) (value_code b) (one (Truth false) (pushes (Value kinds.Truth)))
 choice_step (t.Cor a b) = if_code (value_code a) (one (Truth true) (pushes (Value kinds.Truth))) (value_code b)
 choice_step (t.ValuePhrase::If c a b) = if_code (value_code c) (value_code a) (value_code b)
@@ -217,7 +265,7 @@ abbrev pub choice_code : ValuePhrase → Stretch
 choice_code v = choice_step (out-ValuePhrase v)
 
 -- the turns of a loop with such a step; nothing for another action
-abbrev pub loop_step : Action-F Action ValuePhrase Arm ValueArm → Exit → Stretch
+abbrev pub loop_step : Action-F Action Actual ValuePhrase Arm ValueArm → Exit → Stretch
 loop_step (t.Loop w us u) step = turns_code (turn_code (option_map value_code w) (all_code (map action_code us)) (option_map value_code u) step)
 loop_step (t.Count p from way limit w us u) step = turns_code (turn_code (option_map value_code w) (all_code (map action_code us)) (option_map value_code u) step)
 loop_step _ step = none
@@ -226,14 +274,14 @@ abbrev pub loop_code : Action → Exit → Stretch
 loop_code a = loop_step (out-Action a)
 
 -- the parts of a SELECT; nothing for another phrase
-abbrev pub value_parts_step : ValuePhrase-F Action ValuePhrase Arm ValueArm → Stretch
+abbrev pub value_parts_step : ValuePhrase-F Action Actual ValuePhrase Arm ValueArm → Stretch
 value_parts_step (t.ValuePhrase::Select v arms other) = select_code (map value_arm_code arms) (value_code other)
 value_parts_step _ = none
 
 abbrev pub value_parts : ValuePhrase → Stretch
 value_parts v = value_parts_step (out-ValuePhrase v)
 
-abbrev pub action_parts_step : Action-F Action ValuePhrase Arm ValueArm → Stretch
+abbrev pub action_parts_step : Action-F Action Actual ValuePhrase Arm ValueArm → Stretch
 action_parts_step (t.Action::Select v arms us) = select_code (map arm_code_of arms) (all_code (map action_code us))
 action_parts_step _ = none
 

@@ -1,5 +1,0 @@
-use Rattle.std.proofs.lemmas.Int.{to_z-of_z}
-use Rattle.code_gen.proofs.emit.put_number.Goals as goal
-
-pub returns : goal.returns
-returns c = let fits = c.ranges.number in simp to_z-of_z at c.put.ensures

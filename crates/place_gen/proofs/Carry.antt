@@ -1,0 +1,350 @@
+-- How the machine follows a run, whatever phrase the run comes from.
+use Rattle.std.proofs.Common.{◌≡◌, ℕ, zero, suc, ◌+◌, ◌<◌, ◌≤◌, List, [], ◌∷◌, ◌++◌, length, Option, Some, None, Bool, true, false, cond, refl, sym, ap, ◌∙◌, subst, arith, append_assoc, length-append}
+use Rattle.std.specs.Prelude.{slice_get, Ok, Err}
+use Rattle.std.proofs.Math.Seq.{get_or-append_seam}
+use Rattle.std.proofs.lemmas.Option.{slice_get-get_or}
+use Rattle.eu_base.specs.declared.address.TheConstants.{CELLS}
+use Rattle.eu_base.specs.declared.value.Kind.{Kind}
+use Rattle.eu_base.specs.declared.value.Value.{Value}
+use Rattle.eu_base.specs.declared.stop.Stop.{Stop}
+use Rattle.eu_base.specs.declared.stop.Stop.TheVariants.{OperandRoom}
+use Rattle.eu_base.specs.declared.request.Request.{Request}
+use Rattle.eu_base.specs.declared.request.Reply.{Reply}
+use Rattle.eu_base.specs.Values.{IsOf, cell_of}
+use Rattle.eu_base.specs.Room.{value_bytes, place_bytes, bytes_fit}
+use Rattle.eu_base.specs.Operations.{Given}
+use Rattle.eu_base.specs.Cells.{Cells, run_cell, written}
+use Rattle.code_form.specs.declared.operand.Operand.{Operand}
+use Rattle.code_form.specs.declared.operand.Operand.TheVariants.{Value as Of, Place as At}
+use Rattle.code_form.specs.declared.operand.OperandKind.{OperandKind}
+use Rattle.code_form.specs.declared.operand.OperandKind.TheVariants as operand
+use Rattle.code_form.specs.declared.halt.Halt.TheVariants as halts
+use Rattle.code_form.specs.declared.instr.Instr.{Instr}
+use Rattle.code_form.specs.declared.instr.Instr.TheVariants.{Call, Refer}
+use Rattle.code_form.specs.declared.code.Line.{Line}
+use Rattle.code_form.specs.declared.code.Spot.{Spot}
+use Rattle.code_form.specs.declared.code.Entry.{Entry}
+use Rattle.code_form.specs.declared.code.Layout.{Layout}
+use Rattle.code_form.specs.declared.code.Layout.TheVariants as layouts
+use Rattle.code_form.specs.Program.{Program, line_of, instr_of, owner, frame_cells}
+use Rattle.code_form.specs.Machine.{Frame, Control, After as AfterMark, To, Stops, Move, Goes, Spends, Awaits, Halts, at, operand_bytes, bytes_on, bytes_of, base_of, pushes, back_to, out_to, instruction, step, Scene, Rest, answered, Stage, after_stage, mark_stage, reply_stage, stage, carry_on, exec}
+use Rattle.elan_types.specs.declared.core_phrase.Exit.{Exit}
+use Rattle.elan_types.specs.declared.core_phrase.Exit.TheVariants as exits
+use Rattle.elan_types.specs.Eval.{Place, Slot, Holds, Refers, Taken, World, Outcome, Gives, Left, Stopped, OutOfMarks, Asks, bind, spend_at, spend, ask_at, ask, branch, or_stop, assign, turns, Calls, Reach}
+use Rattle.elan_types.specs.Command as endings
+use Rattle.elan_types.specs.Command.{Ending}
+use Rattle.place_gen.specs.Stretch.{Stretch, join}
+use Rattle.place_gen.specs.Correct.{Shows, Comes, scene_of}
+use Rattle.place_gen.proofs.Cells.{Use, OfValue, OfPlace, OfLimit, OfNothing, Uses, Keeps, image, writes}
+
+-- these lines stand in the code at this place
+abbrev pub HasAt : List Line → ℕ → List Line → Type 0
+HasAt code pc [] = Unit {0}
+HasAt code pc (l ∷ ls) = (slice_get code pc ≡ Some l) × HasAt code (pc + 1) ls
+
+pub has_front : (code : List Line) (pc : ℕ) (a b : List Line) → HasAt code pc (a ++ b) → HasAt code pc a
+has_front code pc [] b h = tt
+has_front code pc (l ∷ a) b h = (h.0, has_front code (pc + 1) a b h.1)
+
+has_back : (code : List Line) (pc : ℕ) (a b : List Line) → HasAt code pc (a ++ b) → HasAt code (pc + length a) b
+has_back code pc [] b h = let e : pc ≡ pc + 0 = omega arith in subst (λ n. HasAt code n b) e h
+has_back code pc (l ∷ a) b h =
+    let e : pc + 1 + length a ≡ pc + length (l ∷ a) = omega arith in
+    subst (λ n. HasAt code n b) e (has_back code (pc + 1) a b h.1)
+
+-- what stands behind so many lines
+pub has_rest : (code : List Line) (pc n : ℕ) (a b : List Line) → length a ≡ n → HasAt code pc (a ++ b) → HasAt code (pc + n) b
+has_rest code pc n a b e h = subst (λ n. HasAt code (pc + n) b) e (has_back code pc a b h)
+
+pub has_all : (is pre : List Line) → HasAt (pre ++ is) (length pre) is
+has_all [] pre = tt
+has_all (i ∷ is) pre =
+    let within : length pre < length (pre ++ i ∷ is) = omega (arith, length-append pre (i ∷ is)) in
+    let here = slice_get-get_or (pre ++ i ∷ is) (length pre) i within ∙ ap Some (get_or-append_seam pre i is i) in
+    let n : length (pre ++ i ∷ []) ≡ length pre + 1 = omega (arith, length-append pre (i ∷ [])) in
+    let rest = has_all is (pre ++ i ∷ []) in
+    let rest' = subst (λ l. HasAt l (length (pre ++ i ∷ [])) is) (append_assoc pre (i ∷ []) is) rest in
+    (here, subst (λ m. HasAt (pre ++ i ∷ is) m is) n rest')
+
+-- what an outcome goes on to, after a result and by an exit
+abbrev pub finish : {A : Type 0} → Outcome A → (A → World → Ending) → (Exit → Option Value → World → Ending) → Ending
+finish (Gives a w) k l = k a w
+finish (Left e v w) k l = l e v w
+finish (Stopped s w) k l = endings.Stopped s w
+finish (OutOfMarks w) k l = endings.OutOfMarks w
+finish (Asks q w) k l = endings.Asks q w
+
+finish_bind : {A B : Type 0} (o : Outcome A) (f : A → World → Outcome B) (k : B → World → Ending) (l : Exit → Option Value → World → Ending) → finish (bind o f) k l ≡ finish o (λ a w. finish (f a w) k l) l
+finish_bind (Gives a w) f k l = refl
+finish_bind (Left e v w) f k l = refl
+finish_bind (Stopped s w) f k l = refl
+finish_bind (OutOfMarks w) f k l = refl
+finish_bind (Asks q w) f k l = refl
+
+-- any result
+abbrev pub Any : {A : Type 0} → Uses → A → Type 0
+Any L a = Unit {0}
+
+-- a value of a kind, and the place of a variable of a kind
+abbrev pub OfKind : Kind → Uses → Value → Type 0
+OfKind k L v = IsOf k v
+
+abbrev pub AtKind : Kind → Uses → Place → Type 0
+AtKind k L x = slice_get L x.variable ≡ Some (OfValue k)
+
+-- what a body delivers
+abbrev pub Result : Option Kind → Option Value → Type 0
+Result None None = Unit {0}
+Result (Some k) (Some v) = IsOf k v
+Result _ _ = ⊥
+
+abbrev pub result_ops : Option Value → List Operand
+result_ops None = []
+result_ops (Some v) = Of v ∷ []
+
+-- the phrase's bytes pending and the frame's first cell are those of the machine
+abbrev pub reach : Calls → ℕ → Control → List Operand → Reach
+reach calls n c ops = record { calls = calls; turns = n; base = base_of c.frames; held = bytes_on ops (bytes_of c.frames) }
+
+-- what a cell of a frame is for
+abbrev pub use_of : OperandKind → Use
+use_of (operand.Value k) = OfValue k
+use_of (operand.Place k) = OfPlace k
+
+module _ (p : Program) where
+  -- the machine comes so to rest from any cells that keep the store
+  abbrev pub Ends : Uses → Control → World → Ending → Type 0
+  Ends L c w e = (cells : Cells) → Keeps L w.store cells → Comes p c (scene_of w cells) e
+
+  -- what a step leads to comes to rest so
+  pub record After (st : Stage) (e : Ending) : Type 0 where
+    pub steps : ℕ
+    pub rest : Rest
+    pub comes : carry_on st (exec p steps) ≡ Some rest
+    pub shows : Shows e rest
+
+  -- a step, and what it leads to
+  pub on_move : (c : Control) (s : Scene) (m : Move) (e : Ending) → step p c s.cells ≡ m → After (stage m c s) e → Comes p c s e
+  on_move c s m e h a = record { steps = suc a.steps; rest = a.rest; comes = ap (λ m. carry_on (stage m c s) (exec p a.steps)) h ∙ a.comes; shows = a.shows }
+
+  pub on_step : (c c' : Control) (s : Scene) (cells : Cells) (e : Ending) → step p c s.cells ≡ Goes c' cells → Comes p c' (record s { cells = cells }) e → Comes p c s e
+  on_step c c' s cells e h a = on_move c s (Goes c' cells) e h (record { steps = a.steps; rest = a.rest; comes = a.comes; shows = a.shows })
+
+  -- the machine goes from one place to another and changes nothing else
+  abbrev pub Leads : Control → Control → Type 0
+  Leads c c' = (cells : Cells) → step p c cells ≡ Goes c' cells
+
+  pub lead_ends : (L : Uses) (c c' : Control) (w : World) (e : Ending) → Leads c c' → Ends L c' w e → Ends L c w e
+  lead_ends L c c' w e l a = λ cells h. on_step c c' (scene_of w cells) cells e (l cells) (a cells h)
+
+  pub stop_comes : (L : Uses) (c : Control) (w : World) (s : Stop) (cells : Cells) → Keeps L w.store cells → step p c cells ≡ Halts (halts.Stopped s) → Comes p c (scene_of w cells) (endings.Stopped s w)
+  stop_comes L c w s cells keeps h = on_move c (scene_of w cells) (Halts (halts.Stopped s)) (endings.Stopped s w) h (record {
+    steps = 0;
+    rest = record { how = halts.Stopped s; control = c; scene = scene_of w cells };
+    comes = refl;
+    shows = record { how = refl; marks = refl; replies = refl; cells = image L w.store cells keeps };
+  })
+
+  pub stop_ends : (L : Uses) (c : Control) (w : World) (s : Stop) → ((cells : Cells) → step p c cells ≡ Halts (halts.Stopped s)) → Ends L c w (endings.Stopped s w)
+  stop_ends L c w s h = λ cells keeps. stop_comes L c w s cells keeps (h cells)
+
+  pub end_ends : (L : Uses) (c : Control) (w : World) → ((cells : Cells) → step p c cells ≡ Halts halts.Ended) → Ends L c w (endings.Ended w)
+  end_ends L c w h = λ cells keeps. on_move c (scene_of w cells) (Halts halts.Ended) (endings.Ended w) (h cells) (record {
+    steps = 0;
+    rest = record { how = halts.Ended; control = c; scene = scene_of w cells };
+    comes = refl;
+    shows = record { how = refl; marks = refl; replies = refl; cells = image L w.store cells keeps };
+  })
+
+  -- what is delivered by the body of this number, and by the PROC whose cells it uses
+  abbrev pub Delivers : Option ℕ → Option Kind → Type 0
+  Delivers None k = ⊥
+  Delivers (Some n) k = (e : Entry) × (slice_get p.bodies n ≡ Some e) × (e.delivers ≡ k)
+
+  -- where a body is left, the machine goes to the frame below, and on as the exit says, whatever cells were taken meanwhile
+  pub record Exits (L : Uses) (b : ℕ) (body : Option ℕ) (fs : List Frame) (l : Exit → Option Value → World → Ending) : Type 0 where
+    pub self : (k : Option Kind) → Delivers body k → (more : Uses) (v : Option Value) (w : World) → Result k v → w.marks ≤ b → (c' : Control) × ((cells : Cells) → back_to (result_ops v) fs cells ≡ Goes c' cells) × Ends (L ++ more) c' w (l exits.Body v w)
+    pub around : (k : Option Kind) → Delivers (owner p body) k → (more : Uses) (v : Option Value) (w : World) → Result k v → w.marks ≤ b → (c' : Control) × ((cells : Cells) → out_to (result_ops v) fs cells ≡ Goes c' cells) × Ends (L ++ more) c' w (l exits.Around v w)
+
+  pub fewer : {L : Uses} {b b' : ℕ} {body : Option ℕ} {fs : List Frame} {l : Exit → Option Value → World → Ending} → b' ≤ b → Exits L b body fs l → Exits L b' body fs l
+  fewer le h = record { self = λ k d more v w r m. h.self k d more v w r (omega (arith, le, m)); around = λ k d more v w r m. h.around k d more v w r (omega (arith, le, m)) }
+
+  -- with more cells in use
+  pub wider : {b : ℕ} {body : Option ℕ} {fs : List Frame} {l : Exit → Option Value → World → Ending} (L M : Uses) → Exits L b body fs l → Exits (L ++ M) b body fs l
+  wider {b} {body} {fs} {l} L M h = record {
+    self = λ k d more v w r m. let x = h.self k d (M ++ more) v w r m in (x.0, x.1, subst (λ U. Ends U x.0 w (l exits.Body v w)) (sym (append_assoc L M more)) x.2);
+    around = λ k d more v w r m. let x = h.around k d (M ++ more) v w r m in (x.0, x.1, subst (λ U. Ends U x.0 w (l exits.Around v w)) (sym (append_assoc L M more)) x.2);
+  }
+
+  -- where the cells are in use so, with at most b marks and in a body over these frames, the machine goes from a place as the phrase
+  -- says, and on with the good results that it gives, or by an exit
+  pub record Carries {A : Type 0} (L : Uses) (body : Option ℕ) (fs : List Frame) (Good : Uses → A → Type 0) (b : ℕ) (c : Control) (run : World → Outcome A) (to : A → Control) : Type 0 where
+    pub by : (k : A → World → Ending) (l : Exit → Option Value → World → Ending) → ((a : A) (w : World) → Good L a → w.marks ≤ b → Ends L (to a) w (k a w)) → Exits L b body fs l → (w : World) → w.marks ≤ b → Ends L c w (finish (run w) k l)
+
+  module _ {L : Uses} {body : Option ℕ} {fs : List Frame} where
+    -- what follows a phrase
+    pub then_carries : {A B : Type 0} {Good : Uses → A → Type 0} {Fine : Uses → B → Type 0} (b : ℕ) (c : Control) (run : World → Outcome A) (mid : A → Control) (f : A → World → Outcome B) (to : B → Control) → Carries L body fs Good b c run mid → ((a : A) → Good L a → Carries L body fs Fine b (mid a) (f a) to) → Carries L body fs Fine b c (λ w. bind (run w) f) to
+    then_carries b c run mid f to r s = record {
+      by = λ k l hk hl w le. subst (Ends L c w) (sym (finish_bind (run w) f k l)) (r.by (λ a w. finish (f a w) k l) l (λ a w good le. (s a good).by k l hk hl w le) hl w le);
+    }
+
+    -- an instruction before a phrase
+    pub lead_carries : {A : Type 0} {Good : Uses → A → Type 0} (b : ℕ) (c c' : Control) (run : World → Outcome A) (to : A → Control) → Leads c c' → Carries L body fs Good b c' run to → Carries L body fs Good b c run to
+    lead_carries b c c' run to e r = record { by = λ k l hk hl w le. lead_ends L c c' w _ e (r.by k l hk hl w le) }
+
+    -- an instruction after a phrase
+    pub carries_lead : {A : Type 0} {Good : Uses → A → Type 0} (b : ℕ) (c : Control) (run : World → Outcome A) (mid to : A → Control) → ((a : A) → Leads (mid a) (to a)) → Carries L body fs Good b c run mid → Carries L body fs Good b c run to
+    carries_lead b c run mid to e r = record { by = λ k l hk hl w le. r.by k l (λ a w good le. lead_ends L (mid a) (to a) w _ (e a) (hk a w good le)) hl w le }
+
+    -- no instruction
+    pub none_carries : {A : Type 0} {Good : Uses → A → Type 0} (b : ℕ) (a : A) (to : A → Control) → Good L a → Carries L body fs Good b (to a) (Gives a) to
+    none_carries b a to good = record { by = λ k l hk hl w le. hk a w good le }
+
+    -- an instruction that delivers what it reads in the cells, where it has room
+    read_ends : {A : Type 0} {Good : Uses → A → Type 0} (b : ℕ) (c : Control) (a : A) (t : Bool) (to : A → Control) (k : A → World → Ending) (l : Exit → Option Value → World → Ending) → ((a : A) (w : World) → Good L a → w.marks ≤ b → Ends L (to a) w (k a w)) → (w : World) → w.marks ≤ b → (cells : Cells) → Keeps L w.store cells → Good L a → step p c cells ≡ cond t (Goes (to a) cells) (Halts (halts.Stopped OperandRoom)) → Comes p c (scene_of w cells) (finish (branch t (Gives a) (Stopped OperandRoom) w) k l)
+    read_ends b c a true to k l hk w le cells h good e = on_step c (to a) (scene_of w cells) cells _ e (hk a w good le cells h)
+    read_ends b c a false to k l hk w le cells h good e = stop_comes L c w OperandRoom cells h e
+
+    pub reads_carries : {A : Type 0} {Good : Uses → A → Type 0} (b : ℕ) (c : Control) (give : World → A) (fits : World → Bool) (to : A → Control) → ((w : World) (cells : Cells) → Keeps L w.store cells → Good L (give w) × (step p c cells ≡ cond (fits w) (Goes (to (give w)) cells) (Halts (halts.Stopped OperandRoom)))) → Carries L body fs Good b c (λ w. branch (fits w) (Gives (give w)) (Stopped OperandRoom) w) to
+    reads_carries b c give fits to e = record { by = λ k l hk hl w le cells h. let x = e w cells h in read_ends b c (give w) (fits w) to k l hk w le cells h x.0 x.1 }
+
+    -- an instruction that writes to the cell of a variable
+    pub write_ends : (c c' : Control) (w : World) (x : Place) (k : Kind) (v : Value) (e : Ending) (cells : Cells) → AtKind k L x → IsOf k v → Keeps L w.store cells → step p c cells ≡ Goes c' (written cells (run_cell x.variable) (cell_of v)) → Ends L c' (assign x v w) e → Comes p c (scene_of w cells) e
+    write_ends c c' w x k v e cells is ok h m a = on_step c c' (scene_of w cells) (written cells (run_cell x.variable) (cell_of v)) e m (a _ (writes L w.store cells x.variable k v h is ok))
+
+    pub branch_carries : {A : Type 0} {Good : Uses → A → Type 0} (b : ℕ) (t : Bool) (c : Bool → Control) (f g : World → Outcome A) (to : A → Control) → Carries L body fs Good b (c true) f to → Carries L body fs Good b (c false) g to → Carries L body fs Good b (c t) (branch t f g) to
+    branch_carries b true c f g to r s = r
+    branch_carries b false c f g to r s = s
+
+    -- a mark, and what follows it: it goes on so, or stops
+    pub record Goes' {A : Type 0} (Good : Uses → A → Type 0) (b : ℕ) (c : Control) (a : Cells → AfterMark) (run : World → Outcome A) (to : A → Control) : Type 0 where
+      pub by : (k : A → World → Ending) (l : Exit → Option Value → World → Ending) → ((a : A) (w : World) → Good L a → w.marks ≤ b → Ends L (to a) w (k a w)) → Exits L b body fs l → (w : World) → w.marks ≤ b → (cells : Cells) → Keeps L w.store cells → After (after_stage (a cells) c (scene_of w cells)) (finish (run w) k l)
+
+    pub to_goes : {A : Type 0} {Good : Uses → A → Type 0} (b : ℕ) (c c' : Control) (run : World → Outcome A) (to : A → Control) → Carries L body fs Good b c' run to → Goes' Good b c (λ cells. To c' cells) run to
+    to_goes b c c' run to r = record { by = λ k l hk hl w le cells h. let a = r.by k l hk hl w le cells h in record { steps = a.steps; rest = a.rest; comes = a.comes; shows = a.shows } }
+
+    spent : {A : Type 0} {Good : Uses → A → Type 0} (b m : ℕ) (c : Control) (a : Cells → AfterMark) (run : World → Outcome A) (to : A → Control) → ((b' : ℕ) → b' < b → Goes' Good b' c a run to) → (k : A → World → Ending) (l : Exit → Option Value → World → Ending) → ((a : A) (w : World) → Good L a → w.marks ≤ b → Ends L (to a) w (k a w)) → Exits L b body fs l → (w : World) → m ≤ b → (cells : Cells) → Keeps L w.store cells → m ≡ w.marks → After (mark_stage m (a cells) c (scene_of w cells)) (finish (spend_at m w run) k l)
+    spent b zero c a run to r k l hk hl w le cells h is = record {
+      steps = 0;
+      rest = record { how = halts.Marked; control = c; scene = scene_of w cells };
+      comes = refl;
+      shows = record { how = refl; marks = refl; replies = refl; cells = image L w.store cells h };
+    }
+    spent b (suc m) c a run to r k l hk hl w le cells h is =
+        (r m (omega arith)).by k l (λ a w good le'. hk a w good (omega (arith, le, le'))) (fewer (omega (arith, le)) hl) (record w { marks = m }) (omega arith) cells h
+
+    pub spend_carries : {A : Type 0} {Good : Uses → A → Type 0} (b : ℕ) (c : Control) (a : Cells → AfterMark) (run : World → Outcome A) (to : A → Control) → ((cells : Cells) → step p c cells ≡ Spends (a cells)) → ((b' : ℕ) → b' < b → Goes' Good b' c a run to) → Carries L body fs Good b c (spend run) to
+    spend_carries b c a run to e r = record {
+      by = λ k l hk hl w le cells h. on_move c (scene_of w cells) (Spends (a cells)) _ (e cells) (spent b w.marks c a run to r k l hk hl w le cells h refl);
+    }
+
+    -- a mark, and then a phrase
+    pub mark_carries : {A : Type 0} {Good : Uses → A → Type 0} (b : ℕ) (c c' : Control) (run : World → Outcome A) (to : A → Control) → ((cells : Cells) → step p c cells ≡ Spends (To c' cells)) → ((b' : ℕ) → b' < b → Carries L body fs Good b' c' run to) → Carries L body fs Good b c (spend run) to
+    mark_carries b c c' run to e r = spend_carries b c (λ cells. To c' cells) run to e (λ b' lt. to_goes b' c c' run to (r b' lt))
+
+    replied : {A : Type 0} {Good : Uses → A → Type 0} (b : ℕ) (rs : List Reply) (q : Request) (c : Control) (run : Reply → World → Outcome A) (to : A → Control) → ((r : Reply) → Carries L body fs Good b (answered q r c) (run r) to) → (k : A → World → Ending) (l : Exit → Option Value → World → Ending) → ((a : A) (w : World) → Good L a → w.marks ≤ b → Ends L (to a) w (k a w)) → Exits L b body fs l → (w : World) → w.marks ≤ b → (cells : Cells) → Keeps L w.store cells → After (reply_stage rs q c (scene_of w cells)) (finish (ask_at rs q w run) k l)
+    replied b [] q c run to h k l hk hl w le cells keeps = record {
+      steps = 0;
+      rest = record { how = halts.Asks q; control = c; scene = scene_of w cells };
+      comes = refl;
+      shows = record { how = refl; marks = refl; replies = refl; cells = image L w.store cells keeps };
+    }
+    replied b (r ∷ rs) q c run to h k l hk hl w le cells keeps =
+        let a = (h r).by k l hk hl (record w { replies = rs }) le cells keeps in
+        record { steps = a.steps; rest = a.rest; comes = a.comes; shows = a.shows }
+
+    -- a request
+    pub ask_carries : {A : Type 0} {Good : Uses → A → Type 0} (b : ℕ) (q : Request) (c c' : Control) (run : Reply → World → Outcome A) (to : A → Control) → ((cells : Cells) → step p c cells ≡ Spends (To c' cells)) → ((cells : Cells) → step p c' cells ≡ Awaits q) → ((b' : ℕ) (r : Reply) → b' < b → Carries L body fs Good b' (answered q r c') (run r) to) → Carries L body fs Good b c (ask q run) to
+    ask_carries b q c c' run to e e' r = mark_carries b c c' (λ w. ask_at w.replies q w run) to e (λ b' lt. record {
+      by = λ k l hk hl w le cells h. on_move c' (scene_of w cells) (Awaits q) _ (e' cells) (replied b' w.replies q c' run to (λ x. r b' x lt) k l hk hl w le cells h);
+    })
+
+    no_turns : (m : ℕ) (a : AfterMark) (c : Control) (w : World) (cells : Cells) → m ≤ 0 → Keeps L w.store cells → After (mark_stage m a c (scene_of w cells)) (endings.OutOfMarks w)
+    no_turns zero a c w cells le h = record {
+      steps = 0;
+      rest = record { how = halts.Marked; control = c; scene = scene_of w cells };
+      comes = refl;
+      shows = record { how = refl; marks = refl; replies = refl; cells = image L w.store cells h };
+    }
+    no_turns (suc m) a c w cells le h = absurd (omega arith)
+
+    -- no marks, and so no turns and no calls
+    pub out_carries : {A : Type 0} {Good : Uses → A → Type 0} (b : ℕ) (c : Control) (a : Cells → AfterMark) (to : A → Control) → b ≤ 0 → ((cells : Cells) → step p c cells ≡ Spends (a cells)) → Carries L body fs Good b c OutOfMarks to
+    out_carries b c a to le e = record {
+      by = λ k l hk hl w le' cells h. on_move c (scene_of w cells) (Spends (a cells)) _ (e cells) (no_turns w.marks (a cells) c w cells (omega arith) h);
+    }
+
+    -- a loop
+    pub turns_carries : (m b : ℕ) (turn : World → Outcome Bool) (top body' exit : Control) → ((cells : Cells) → step p top cells ≡ Spends (To body' cells)) → ((b' : ℕ) → b' ≤ b → Carries L body fs Any b' body' turn (λ on. cond on top exit)) → b ≤ m → Carries L body fs Any b top (turns m turn) (λ _. exit)
+    turns_carries zero b turn top body' exit e r le = out_carries b top (λ cells. To body' cells) (λ _. exit) le e
+    turns_carries (suc m) b turn top body' exit e r le =
+        mark_carries b top body' (λ w. bind (turn w) (λ on. branch on (turns m turn) (Gives (tt {0})))) (λ _. exit) e (λ b' lt.
+        then_carries b' body' turn (λ on. cond on top exit) (λ on. branch on (turns m turn) (Gives (tt {0}))) (λ _. exit) (r b' (omega arith)) (λ on _.
+        branch_carries b' on (λ t. cond t top exit) (turns m turn) (Gives (tt {0})) (λ _. exit) (turns_carries m b' turn top body' exit e (λ b'' le''. r b'' (omega arith)) (omega arith)) (none_carries b' tt (λ _. exit) tt)))
+
+    -- the place behind, under another name
+    pub ends_at : {A : Type 0} {Good : Uses → A → Type 0} (b : ℕ) (from c : Control) (run : World → Outcome A) (m n : ℕ) (push : A → List Operand) → m ≡ n → Carries L body fs Good b from run (λ a. at c m (push a)) → Carries L body fs Good b from run (λ a. at c n (push a))
+    ends_at {A} {Good} b from c run m n push e r = subst (λ n. Carries L body fs Good b from run (λ a. at c n (push a))) e r
+
+    -- a result of an operation, or a stop
+    pub or_carries : {A : Type 0} {Good : Uses → A → Type 0} (b : ℕ) (c : Control) (g : Given) (go : Value → World → Outcome A) (to : A → Control) → ((s : Stop) → g ≡ Err s → (w : World) → Ends L c w (endings.Stopped s w)) → ((v : Value) → g ≡ Ok v → Carries L body fs Good b c (go v) to) → Carries L body fs Good b c (or_stop g go) to
+    or_carries b c (Ok v) go to bad good = good v refl
+    or_carries b c (Err s) go to bad good = record { by = λ k l hk hl w le. bad s refl w }
+
+  -- the instruction at a place
+  pub here : (pc : ℕ) (i : Instr) (ks : List OperandKind) (m : Spot) → slice_get p.lines pc ≡ Some (line_of i ks m) → (c : Control) (ops : List Operand) (cells : Cells) → step p (at c pc ops) cells ≡ instruction p.bodies (Some i) (at c pc ops) cells
+  here pc i ks m h c ops cells = ap (λ o. instruction p.bodies (instr_of o) (at c pc ops) cells) h
+
+  -- two stretches, one after the other
+  pub join_carries : {L : Uses} {A B : Type 0} {Good : Uses → A → Type 0} {Fine : Uses → B → Type 0} (f g : Stretch) (b pc : ℕ) (ks : List OperandKind) (m : Spot) (c : Control) (ops : List Operand) (run : World → Outcome A) (more : A → World → Outcome B) (mid : A → List Operand) (push : B → List Operand) → ((ks : List OperandKind) (m : Spot) (at' : ℕ) → length (f.lines ks m at') ≡ f.size) → HasAt p.lines pc ((join f g).lines ks m pc)
+      → (HasAt p.lines pc (f.lines ks m pc) → Carries L m.body c.frames Good b (at c pc ops) run (λ a. at c (pc + f.size) (mid a)))
+      → (HasAt p.lines (pc + f.size) (g.lines (f.leaves ks) m (pc + f.size)) → (a : A) → Good L a → Carries L m.body c.frames Fine b (at c (pc + f.size) (mid a)) (more a) (λ x. at c (pc + f.size + g.size) (push x)))
+      → Carries L m.body c.frames Fine b (at c pc ops) (λ w. bind (run w) more) (λ x. at c (pc + (f.size + g.size)) (push x))
+  join_carries f g b pc ks m c ops run more mid push sized has r s =
+      ends_at b (at c pc ops) c (λ w. bind (run w) more) (pc + f.size + g.size) (pc + (f.size + g.size)) push (omega arith)
+      (then_carries b (at c pc ops) run (λ a. at c (pc + f.size) (mid a)) more (λ x. at c (pc + f.size + g.size) (push x))
+      (r (has_front p.lines pc (f.lines ks m pc) _ has))
+      (s (has_rest p.lines pc f.size (f.lines ks m pc) _ (sized ks m pc) has)))
+
+  -- operands of slots, pushed from left to right
+  abbrev pub operand_of : Slot → List Operand → List Operand
+  operand_of (Holds v) ops = Of v ∷ ops
+  operand_of (Refers x) ops = At (run_cell x.variable) ∷ ops
+  operand_of Taken ops = ops
+
+  abbrev pub pushed_slots : List Slot → List Operand → List Operand
+  pushed_slots [] ops = ops
+  pushed_slots (s ∷ ss) ops = pushed_slots ss (operand_of s ops)
+
+  -- what a parameter takes
+  abbrev pub Takes : OperandKind → Uses → Slot → Type 0
+  Takes (operand.Value k) L s = (v : Value) × (s ≡ Holds v) × IsOf k v
+  Takes (operand.Place k) L s = (x : Place) × (s ≡ Refers x) × AtKind k L x
+
+  abbrev pub TakeAll : List OperandKind → Uses → List Slot → Type 0
+  TakeAll [] L [] = Unit {0}
+  TakeAll (k ∷ ks) L (s ∷ ss) = Takes k L s × TakeAll ks L ss
+  TakeAll _ L _ = ⊥
+
+  -- the cells in use are those of the level and of the frames, with the variables of the level and of the innermost PROC at their places
+  pub record Stands (L : Uses) (m : Spot) (c : Control) : Type 0 where
+    pub used : c.used ≡ length L
+    pub room : length L ≤ CELLS
+    pub level : (x : ℕ) (k : Kind) → slice_get p.variables x ≡ Some k → slice_get L x ≡ Some (OfValue k)
+    pub frame : (x : ℕ) (k : OperandKind) → slice_get (frame_cells p m.body) x ≡ Some k → slice_get L (base_of c.frames + x) ≡ Some (use_of k)
+
+  -- calls do in the code what they do
+  pub record CallsCarry (calls : Calls) (n : ℕ) : Type 0 where
+    pub call : (L : Uses) (b pc q : ℕ) (ks : List OperandKind) (m : Spot) (c : Control) (ops : List Operand) (e : Entry) (parameters : List OperandKind) (variables : List Kind) (args : List Slot) → b ≤ n → Stands L m c → slice_get p.lines pc ≡ Some (line_of (Call q) ks m) → slice_get p.bodies q ≡ Some e → e.layout ≡ layouts.Own parameters variables → TakeAll parameters L args
+        → Carries L m.body c.frames (λ _. Result e.delivers) b (at c pc (pushed_slots args ops)) (calls.call q args (bytes_on ops (bytes_of c.frames))) (λ v. at c (pc + 1) (result_ops v ++ ops))
+    pub refer : (L : Uses) (b pc q : ℕ) (ks : List OperandKind) (m : Spot) (c : Control) (ops : List Operand) (e : Entry) → b ≤ n → Stands L m c → slice_get p.lines pc ≡ Some (line_of (Refer q) ks m) → slice_get p.bodies q ≡ Some e → owner p (Some q) ≡ owner p m.body
+        → Carries L m.body c.frames (λ _. Result e.delivers) b (at c pc ops) (calls.refer q (base_of c.frames) (bytes_on ops (bytes_of c.frames))) (λ v. at c (pc + 1) (result_ops v ++ ops))
+
+  -- a phrase with at most b marks is within the reach of calls and turns
+  pub record Within (calls : Calls) (n b : ℕ) (L : Uses) (m : Spot) (c : Control) : Type 0 where
+    pub turns : b ≤ n
+    pub stands : Stands L m c
+    pub carry : CallsCarry calls n
+
+  pub less : {calls : Calls} {n b b' : ℕ} {L : Uses} {m : Spot} {c : Control} → Within calls n b L m c → b' ≤ b → Within calls n b' L m c
+  less h le = record { turns = omega (arith, h.turns, le); stands = h.stands; carry = h.carry }

@@ -1,0 +1,146 @@
+-- What the cells in use hold, and how it changes when a variable is written and when cells are taken and given back.
+use Rattle.std.proofs.Common.{◌≡◌, ℕ, zero, suc, ◌+◌, ◌<◌, ◌≤◌, ◌%◌, List, [], ◌∷◌, ◌++◌, length, take, Some, None, true, false, cond, refl, sym, ap, ◌∙◌, subst, arith, append_assoc, get_or-set_other, get_or-set_same, length-set, length-append,  ⊎_elim}
+use Rattle.std.specs.Prelude.{slice_get, slice_set, slice_index_or, ℤ}
+use Rattle.std.proofs.lemmas.List.{length-take-le, get_or-take}
+use Rattle.std.proofs.lemmas.Option.{slice_get_within, slice_get-get_or}
+use Rattle.std.proofs.lemmas.Int.{ints, to_z-of_z}
+use Rattle.std.proofs.lemmas.Bool.Decides.{eqb_tells}
+use Rattle.std.specs.Int.{cast_signed, cast_unsigned, w16}
+use Rattle.std.specs.Int.RustNames.{FitsSigned}
+use Rattle.eu_base.specs.declared.address.TheConstants.{CELLS}
+use Rattle.eu_base.specs.declared.value.Kind.{Kind}
+use Rattle.eu_base.specs.declared.value.Kind.TheVariants as kinds
+use Rattle.eu_base.specs.declared.value.Value.{Value}
+use Rattle.eu_base.specs.declared.value.Value.TheVariants.{Int, Truth}
+use Rattle.eu_base.specs.Values.{IsOf, cell_of, value_in}
+use Rattle.eu_base.specs.Cells.{Cells, run_cell, written, place_in}
+use Rattle.elan_types.specs.Eval.{Place, Slot, Holds, Refers, Taken, slot_at, value_of, place_of}
+use Rattle.place_gen.specs.Correct.{StandsFor, Image}
+
+bits : (z : ℤ) → FitsSigned w16 z → cast_unsigned w16 z < 65536
+bits z f = omega (arith, ints)
+
+-- a value comes back out of its cell
+pub value_in-cell_of : (k : Kind) (v : Value) → IsOf k v → value_in k (cell_of v) ≡ v
+value_in-cell_of kinds.Int (Int z) f =
+    let small = bits z f in
+    let e : cast_unsigned w16 z % 65536 ≡ cast_unsigned w16 z = omega arith in
+    ap (λ n. Int (cast_signed w16 n)) e ∙ ap Int (to_z-of_z w16 z f)
+value_in-cell_of kinds.Int (Truth b) f = absurd f
+value_in-cell_of kinds.Truth (Int z) f = absurd f
+value_in-cell_of kinds.Truth (Truth true) f = refl
+value_in-cell_of kinds.Truth (Truth false) f = refl
+
+-- what a cell in use holds: a variable, constant or CONST parameter of a kind, the place of a variable, a limit, or nothing
+pub data Use : Type 0 where
+  OfValue : Kind → Use
+  OfPlace : Kind → Use
+  OfLimit : ℤ → Use
+  OfNothing : Use
+
+abbrev pub Uses : Type 0
+Uses = List Use
+
+-- a slot with this number, and the number in its cell. A VAR parameter refers to a variable before it
+abbrev pub Kept : Uses → ℕ → Use → Slot → ℕ → Type 0
+Kept L at (OfValue k) s n = (v : Value) × (s ≡ Holds v) × IsOf k v × (n ≡ cell_of v)
+Kept L at (OfPlace k) s n = (x : Place) × (s ≡ Refers x) × (x.variable < at) × (slice_get L x.variable ≡ Some (OfValue k)) × (n ≡ x.variable)
+Kept L at (OfLimit l) s n = (s ≡ Taken) × FitsSigned w16 l × (n ≡ cell_of (Int l))
+Kept L at OfNothing s n = s ≡ Taken
+
+-- the store has what the cells in use are for, and the cells hold it
+pub record Keeps (L : Uses) (store : List Slot) (cells : Cells) : Type 0 where
+  pub as_many : length store ≡ length L
+  pub each : (x : ℕ) (k : Use) → slice_get L x ≡ Some k → Kept L x k (slot_at store x) (cells (run_cell x))
+
+pub get_left : {A : Type 0} (xs ys : List A) (i : ℕ) (x : A) → slice_get xs i ≡ Some x → slice_get (xs ++ ys) i ≡ Some x
+get_left [] ys i x e = let f : ⊥ = cc in absurd f
+get_left (y ∷ xs) ys zero x e = e
+get_left (y ∷ xs) ys (suc i) x e = get_left xs ys i x e
+
+pub get_back : {A : Type 0} (xs ys : List A) (i : ℕ) → i < length xs → slice_get (xs ++ ys) i ≡ slice_get xs i
+get_back [] ys i lt = absurd (omega arith)
+get_back (y ∷ xs) ys zero lt = refl
+get_back (y ∷ xs) ys (suc i) lt = get_back xs ys i (omega arith)
+
+pub get_right : {A : Type 0} (xs ys : List A) (j : ℕ) → slice_get (xs ++ ys) (length xs + j) ≡ slice_get ys j
+get_right [] ys j = let e : 0 + j ≡ j = omega arith in ap (slice_get ys) e
+get_right (x ∷ xs) ys j = let e : length (x ∷ xs) + j ≡ suc (length xs + j) = omega arith in ap (slice_get (x ∷ (xs ++ ys))) e ∙ get_right xs ys j
+
+some_is : {A : Type 0} (a b : A) → Some a ≡ Some b → a ≡ b
+some_is a b e = cc
+
+-- so the cells hold the store
+pub image : (L : Uses) (store : List Slot) (cells : Cells) → Keeps L store cells → Image store cells
+image L store cells h x s e =
+    let within : x < length L = omega (arith, slice_get_within store x s e, h.as_many) in
+    let k = slice_index_or L x OfNothing in
+    let same : slot_at store x ≡ s = some_is _ s (sym (slice_get-get_or store x Taken (slice_get_within store x s e)) ∙ e) in
+    by k (subst (λ s. Kept L x k s (cells (run_cell x))) same (h.each x k (slice_get-get_or L x OfNothing within)))
+  where
+    by : (k : Use) → Kept L x k s (cells (run_cell x)) → StandsFor (cells (run_cell x)) s
+    by (OfValue k) g = subst (StandsFor (cells (run_cell x))) (sym g.1) g.3
+    by (OfPlace k) g = subst (StandsFor (cells (run_cell x))) (sym g.1) g.4
+    by (OfLimit l) g = subst (StandsFor (cells (run_cell x))) (sym g.0) tt
+    by OfNothing g = subst (StandsFor (cells (run_cell x))) (sym g) tt
+
+-- what a variable holds is read out of its cell
+pub reads : (L : Uses) (store : List Slot) (cells : Cells) (x : ℕ) (k : Kind) → Keeps L store cells → slice_get L x ≡ Some (OfValue k) → IsOf k (value_of (slot_at store x)) × (value_in k (cells (run_cell x)) ≡ value_of (slot_at store x))
+reads L store cells x k h e =
+    let g = h.each x (OfValue k) e in
+    let same : value_of (slot_at store x) ≡ g.0 = ap value_of g.1 in
+    (subst (IsOf k) (sym same) g.2, ap (value_in k) g.3 ∙ value_in-cell_of k g.0 g.2 ∙ sym same)
+
+-- and the place that a VAR parameter holds
+pub refers : (L : Uses) (store : List Slot) (cells : Cells) (x : ℕ) (k : Kind) → length L ≤ CELLS → Keeps L store cells → slice_get L x ≡ Some (OfPlace k) → (slice_get L (place_of (slot_at store x)).variable ≡ Some (OfValue k)) × (place_in (cells (run_cell x)) ≡ run_cell (place_of (slot_at store x)).variable)
+refers L store cells x k room h e =
+    let g = h.each x (OfPlace k) e in
+    let same : place_of (slot_at store x) ≡ g.0 = ap place_of g.1 in
+    let is : slice_get L (place_of (slot_at store x)).variable ≡ Some (OfValue k) = ap (λ (y : Place). slice_get L y.variable) same ∙ g.3 in
+    let small : (place_of (slot_at store x)).variable < CELLS = omega (arith, slice_get_within L (place_of (slot_at store x)).variable (OfValue k) is, room) in
+    let n : cells (run_cell x) ≡ (place_of (slot_at store x)).variable = g.4 ∙ ap (λ (y : Place). y.variable) (sym same) in
+    let m : (place_of (slot_at store x)).variable % CELLS ≡ (place_of (slot_at store x)).variable = omega arith in
+    (is, ap place_in n ∙ ap run_cell m)
+
+-- a value of its kind is written to a variable
+pub writes : (L : Uses) (store : List Slot) (cells : Cells) (x : ℕ) (k : Kind) (v : Value) → Keeps L store cells → slice_get L x ≡ Some (OfValue k) → IsOf k v → Keeps L (slice_set store x (Holds v)) (written cells (run_cell x) (cell_of v))
+writes L store cells x k v h e ok =
+    let within : x < length store = omega (arith, slice_get_within L x (OfValue k) e, h.as_many) in
+    record {
+      as_many = length-set store x (Holds v) ∙ h.as_many;
+      each = λ y k' e'. ⊎_elim
+          (λ t.
+              let use : OfValue k ≡ k' = some_is (OfValue k) k' (sym e ∙ ap (slice_get L) (sym t.1) ∙ e') in
+              let slot : slot_at (slice_set store x (Holds v)) y ≡ Holds v = ap (slot_at (slice_set store x (Holds v))) t.1 ∙ get_or-set_same store x (Holds v) Taken within in
+              let number : written cells (run_cell x) (cell_of v) (run_cell y) ≡ cell_of v = ap (λ b. cond b (cell_of v) (cells (run_cell y))) t.0 in
+              subst (λ k'. Kept L y k' (slot_at (slice_set store x (Holds v)) y) (written cells (run_cell x) (cell_of v) (run_cell y))) use (v, slot, ok, number))
+          (λ t.
+              let slot : slot_at (slice_set store x (Holds v)) y ≡ slot_at store y = get_or-set_other store x y (Holds v) Taken t.1 in
+              let number : written cells (run_cell x) (cell_of v) (run_cell y) ≡ cells (run_cell y) = ap (λ b. cond b (cell_of v) (cells (run_cell y))) t.0 in
+              subst (λ n. Kept L y k' (slot_at (slice_set store x (Holds v)) y) n) (sym number) (subst (λ s. Kept L y k' s (cells (run_cell y))) (sym slot) (h.each y k' e')))
+          (eqb_tells y x);
+    }
+
+-- the cells behind some are given back
+pub cuts : (L M : Uses) (store : List Slot) (cells : Cells) (n : ℕ) → n ≡ length L → Keeps (L ++ M) store cells → Keeps L (take n store) cells
+cuts L M store cells n is h =
+    let long : length L ≤ length store = omega (arith, h.as_many, length-append L M) in
+    record {
+      as_many = length-take-le n store (omega arith) ∙ is;
+      each = λ x k e.
+          let within = slice_get_within L x k e in
+          let slot : slot_at (take n store) x ≡ slot_at store x = get_or-take n store x Taken (omega arith) in
+          subst (λ s. Kept L x k s (cells (run_cell x))) (sym slot) (by x k within (h.each x k (get_left L M x k e)));
+    }
+  where
+    by : (x : ℕ) (k : Use) → x < length L → Kept (L ++ M) x k (slot_at store x) (cells (run_cell x)) → Kept L x k (slot_at store x) (cells (run_cell x))
+    by x (OfValue k) lt g = g
+    by x (OfPlace k) lt g = (g.0, g.1, g.2, sym (get_back L M g.0.variable (omega (arith, g.2))) ∙ g.3, g.4)
+    by x (OfLimit l) lt g = g
+    by x OfNothing lt g = g
+
+-- more cells are taken, and hold what is for them
+abbrev pub AllKept : Uses → ℕ → Uses → List Slot → List ℕ → Type 0
+AllKept L at [] [] [] = Unit {0}
+AllKept L at (k ∷ M) (s ∷ more) (n ∷ numbers) = Kept L at k s n × AllKept L (suc at) M more numbers
+AllKept L at _ _ _ = ⊥

@@ -1,0 +1,5 @@
+pub mod Cells
+pub mod Carry
+pub mod Forms
+pub mod Choices
+pub mod Calls

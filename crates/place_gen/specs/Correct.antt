@@ -1,0 +1,50 @@
+-- What it means that cells hold a store, and that the machine comes to rest as an ending says.
+use Rattle.std.specs.Prelude.{◌≡◌, ℕ, List, length, Option, Some, None, slice_get}
+use Rattle.eu_base.specs.declared.value.Kind.{Kind}
+use Rattle.eu_base.specs.Values.{IsOf, cell_of}
+use Rattle.eu_base.specs.declared.value.Value.{Value}
+use Rattle.eu_base.specs.Cells.{Cells, run_cell}
+use Rattle.code_form.specs.declared.halt.Halt.{Halt}
+use Rattle.code_form.specs.declared.halt.Halt.TheVariants as halts
+use Rattle.code_form.specs.Program.{Program}
+use Rattle.code_form.specs.Machine.{Control, Scene, Rest, exec}
+use Rattle.elan_types.specs.Eval.{Place, Slot, Holds, Refers, Taken, World}
+use Rattle.elan_types.specs.Command.{Ending, Ended, Stopped, OutOfMarks, Asks}
+
+-- the number in a cell stands for what a slot has
+abbrev pub StandsFor : ℕ → Slot → Type 0
+StandsFor n (Holds v) = n ≡ cell_of v
+StandsFor n (Refers x) = n ≡ x.variable
+StandsFor n Taken = Unit {0}
+
+-- the cells hold the store
+abbrev pub Image : List Slot → Cells → Type 0
+Image store cells = (x : ℕ) (s : Slot) → slice_get store x ≡ Some s → StandsFor (cells (run_cell x)) s
+
+-- a store has a value of its kind for each variable
+pub record HasVariables (variables : List Kind) (store : List Slot) : Type 0 where
+  pub as_many : length store ≡ length variables
+  pub each : (x : ℕ) (k : Kind) → slice_get variables x ≡ Some k → (v : Value) × (slice_get store x ≡ Some (Holds v)) × IsOf k v
+
+-- a run rests so, with the same marks and replies left, and with the store in the cells
+pub record RestsAs (h : Halt) (w : World) (r : Rest) : Type 0 where
+  pub how : r.how ≡ h
+  pub marks : r.scene.marks ≡ w.marks
+  pub replies : r.scene.replies ≡ w.replies
+  pub cells : Image w.store r.scene.cells
+
+abbrev pub Shows : Ending → Rest → Type 0
+Shows (Ended w) r = RestsAs halts.Ended w r
+Shows (Stopped s w) r = RestsAs (halts.Stopped s) w r
+Shows (OutOfMarks w) r = RestsAs halts.Marked w r
+Shows (Asks q w) r = RestsAs (halts.Asks q) w r
+
+-- the machine comes to rest, and its rest shows this ending
+pub record Comes (p : Program) (c : Control) (s : Scene) (e : Ending) : Type 0 where
+  pub steps : ℕ
+  pub rest : Rest
+  pub comes : exec p steps c s ≡ Some rest
+  pub shows : Shows e rest
+
+abbrev pub scene_of : World → Cells → Scene
+scene_of w cells = record { cells = cells; marks = w.marks; replies = w.replies }

@@ -1,0 +1,2 @@
+//! The instructions of places, values and statements.
+#![tactic(auto)]
