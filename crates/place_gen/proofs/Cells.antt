@@ -1,7 +1,9 @@
 -- What the cells in use hold, and how it changes when a variable is written and when cells are taken and given back.
 use Rattle.std.proofs.Common.{◌≡◌, ℕ, zero, suc, ◌+◌, ◌<◌, ◌≤◌, ◌%◌, List, [], ◌∷◌, ◌++◌, length, take, Some, None, true, false, cond, refl, sym, ap, ◌∙◌, subst, arith, append_assoc, get_or-set_other, get_or-set_same, length-set, length-append,  ⊎_elim}
 use Rattle.std.specs.Prelude.{slice_get, slice_set, slice_index_or, ℤ}
-use Rattle.std.proofs.lemmas.List.{length-take-le, get_or-take}
+use Rattle.std.proofs.lemmas.List.{length-take-le, get_or-take, get_or_append_left}
+use Rattle.std.proofs.lemmas.Bool.{cases_lt}
+use Rattle.std.proofs.Math.Seq.{get_or-append_seam}
 use Rattle.std.proofs.lemmas.Option.{slice_get_within, slice_get-get_or}
 use Rattle.std.proofs.lemmas.Int.{ints, to_z-of_z}
 use Rattle.std.proofs.lemmas.Bool.Decides.{eqb_tells}
@@ -14,6 +16,7 @@ use Rattle.eu_base.specs.declared.value.Value.{Value}
 use Rattle.eu_base.specs.declared.value.Value.TheVariants.{Int, Truth}
 use Rattle.eu_base.specs.Values.{IsOf, cell_of, value_in}
 use Rattle.eu_base.specs.Cells.{Cells, run_cell, written, place_in}
+use Rattle.code_form.specs.Machine.{written_from}
 use Rattle.elan_types.specs.Eval.{Place, Slot, Holds, Refers, Taken, slot_at, value_of, place_of}
 use Rattle.place_gen.specs.Correct.{StandsFor, Image}
 
@@ -121,6 +124,10 @@ writes L store cells x k v h e ok =
           (eqb_tells y x);
     }
 
+append-[] : {A : Type 0} (l : List A) → l ++ [] ≡ l
+append-[] [] = refl
+append-[] (x ∷ l) = ap (λ l. x ∷ l) (append-[] l)
+
 -- the cells behind some are given back
 pub cuts : (L M : Uses) (store : List Slot) (cells : Cells) (n : ℕ) → n ≡ length L → Keeps (L ++ M) store cells → Keeps L (take n store) cells
 cuts L M store cells n is h =
@@ -144,3 +151,58 @@ abbrev pub AllKept : Uses → ℕ → Uses → List Slot → List ℕ → Type 0
 AllKept L at [] [] [] = Unit {0}
 AllKept L at (k ∷ M) (s ∷ more) (n ∷ numbers) = Kept L at k s n × AllKept L (suc at) M more numbers
 AllKept L at _ _ _ = ⊥
+
+kept_wider : (L M : Uses) (at : ℕ) (k : Use) (s : Slot) (n : ℕ) → Kept L at k s n → Kept (L ++ M) at k s n
+kept_wider L M at (OfValue k) s n g = g
+kept_wider L M at (OfPlace k) s n g = (g.0, g.1, g.2, get_left L M g.0.variable (OfValue k) g.3, g.4)
+kept_wider L M at (OfLimit l) s n g = g
+kept_wider L M at OfNothing s n g = g
+
+pub extends_one : (L : Uses) (store : List Slot) (cells : Cells) (k : Use) (s : Slot) (n : ℕ) → Keeps L store cells → Kept L (length L) k s n → Keeps (L ++ k ∷ []) (store ++ s ∷ []) (written cells (run_cell (length L)) n)
+extends_one L store cells k s n h g = record {
+  as_many = omega (arith, h.as_many, length-append store (s ∷ []), length-append L (k ∷ []));
+  each = λ x k' e. ⊎_elim
+      (λ t.
+          let use : k ≡ k' = some_is k k' (sym (ap (slice_get (L ++ k ∷ [])) t.1 ∙ last L k) ∙ e) in
+          let slot : slot_at (store ++ s ∷ []) x ≡ s = ap (slot_at (store ++ s ∷ [])) (t.1 ∙ sym h.as_many) ∙ get_or-append_seam store s [] Taken in
+          let number : written cells (run_cell (length L)) n (run_cell x) ≡ n = ap (λ b. cond b n (cells (run_cell x))) t.0 in
+          let kept = kept_wider L (k ∷ []) (length L) k s n g in
+          subst (λ k'. Kept (L ++ k ∷ []) x k' (slot_at (store ++ s ∷ []) x) (written cells (run_cell (length L)) n (run_cell x))) use
+          (subst (λ m. Kept (L ++ k ∷ []) x k (slot_at (store ++ s ∷ []) x) m) (sym number) (subst (λ s'. Kept (L ++ k ∷ []) x k s' n) (sym slot) (subst (λ at. Kept (L ++ k ∷ []) at k s n) (sym t.1) kept))))
+      (λ t.
+          let most : x < length L + 1 = omega (arith, slice_get_within (L ++ k ∷ []) x k' e, length-append L (k ∷ [])) in
+          let within : x < length L = less x (length L) t.1 most in
+          let old : slice_get L x ≡ Some k' = sym (get_back L (k ∷ []) x within) ∙ e in
+          let slot : slot_at (store ++ s ∷ []) x ≡ slot_at store x = get_or_append_left store (s ∷ []) Taken x (omega (arith, within, h.as_many)) in
+          let number : written cells (run_cell (length L)) n (run_cell x) ≡ cells (run_cell x) = ap (λ b. cond b n (cells (run_cell x))) t.0 in
+          subst (λ m. Kept (L ++ k ∷ []) x k' (slot_at (store ++ s ∷ []) x) m) (sym number) (subst (λ s'. Kept (L ++ k ∷ []) x k' s' (cells (run_cell x))) (sym slot) (kept_wider L (k ∷ []) x k' (slot_at store x) (cells (run_cell x)) (h.each x k' old))))
+      (eqb_tells x (length L));
+}
+  where
+    last : (L : Uses) (k : Use) → slice_get (L ++ k ∷ []) (length L) ≡ Some k
+    last L k = let e : length L ≡ length L + 0 = omega arith in ap (slice_get (L ++ k ∷ [])) e ∙ get_right L (k ∷ []) 0
+
+    less : (a b : ℕ) → (a ≡ b → ⊥) → a < b + 1 → a < b
+    less a b ne lt = ⊎_elim (λ l. l) (λ le. let e : a ≡ b = omega (arith, lt, le) in absurd (ne e)) (cases_lt a b)
+
+pub extends : (M : Uses) (L : Uses) (store more : List Slot) (cells : Cells) (numbers : List ℕ) → Keeps L store cells → AllKept L (length L) M more numbers → Keeps (L ++ M) (store ++ more) (written_from (length L) numbers cells)
+extends [] L store [] cells [] h g = subst (λ U. Keeps U (store ++ []) cells) (sym (append-[] L)) (subst (λ t. Keeps L t cells) (sym (append-[] store)) h)
+extends [] L store (s ∷ more) cells ns h g = absurd g
+extends [] L store [] cells (n ∷ ns) h g = absurd g
+extends (k ∷ M) L store [] cells ns h g = absurd g
+extends (k ∷ M) L store (s ∷ more) cells [] h g = absurd g
+extends (k ∷ M) L store (s ∷ more) cells (n ∷ ns) h g =
+    let one = extends_one L store cells k s n h g.0 in
+    let size : length (L ++ k ∷ []) ≡ suc (length L) = omega (arith, length-append L (k ∷ [])) in
+    let rest = extends M (L ++ k ∷ []) (store ++ s ∷ []) more (written cells (run_cell (length L)) n) ns one (subst (λ at. AllKept (L ++ k ∷ []) at M more ns) (sym size) (wider M (suc (length L)) more ns g.1)) in
+    let rest' = subst (λ at. Keeps ((L ++ k ∷ []) ++ M) ((store ++ s ∷ []) ++ more) (written_from at ns (written cells (run_cell (length L)) n))) size rest in
+    subst (λ U. Keeps U (store ++ s ∷ more) (written_from (suc (length L)) ns (written cells (run_cell (length L)) n))) (append_assoc L (k ∷ []) M)
+    (subst (λ t. Keeps ((L ++ k ∷ []) ++ M) t (written_from (suc (length L)) ns (written cells (run_cell (length L)) n))) (append_assoc store (s ∷ []) more) rest')
+  where
+    wider : (M : Uses) (at : ℕ) (more : List Slot) (ns : List ℕ) → AllKept L at M more ns → AllKept (L ++ k ∷ []) at M more ns
+    wider [] at [] [] g = tt
+    wider [] at (s ∷ more) ns g = absurd g
+    wider [] at [] (n ∷ ns) g = absurd g
+    wider (j ∷ M) at [] ns g = absurd g
+    wider (j ∷ M) at (s ∷ more) [] g = absurd g
+    wider (j ∷ M) at (s ∷ more) (n ∷ ns) g = (kept_wider L (k ∷ []) at j s n g.0, wider M (suc at) more ns g.1)

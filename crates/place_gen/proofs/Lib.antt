@@ -3,3 +3,4 @@ pub mod Carry
 pub mod Forms
 pub mod Choices
 pub mod Calls
+pub mod Loops
