@@ -1,11 +1,25 @@
 //! Where the machine stands.
 ghost use Rattle.std.specs.Prelude.{◌≡◌, ◌∷◌, OnOk, reverse};
 ghost use Rattle.code_form.specs.declared.operand.Operand.TheVariants as operand;
-ghost use Rattle.zero_machine.specs.Finds.{TopValue, TopPlace, TopLimit};
+ghost use Rattle.zero_machine.specs.Finds.{TopValue, TopPlace};
 
 use code_form::Operand;
 use eu_base::{Addr, List, NoMemory, Request, Value};
 use std::alloc::Global;
+
+/// A live call or refinement.
+#[derive(Debug, Drop)]
+pub struct Frame {
+    /// The instruction to which it returns.
+    pub back: usize,
+    /// Its first cell; that of the frame below for a refinement.
+    pub base: usize,
+    /// The cells that were in use before it.
+    pub used: usize,
+    pub refines: bool,
+    /// What is pending in the frame below, the newest last.
+    pub operands: List<Operand>,
+}
 
 /// Where the machine stands in its code.
 #[derive(Debug, Drop)]
@@ -13,12 +27,18 @@ pub struct State {
     pub alloc: Global,
     /// The number of the next instruction.
     pub pc: usize,
-    /// The pending operands, the newest last.
+    /// The pending operands of the innermost frame, the newest last.
     pub operands: List<Operand>,
-    /// The limits of loops, the innermost last.
-    pub limits: List<i16>,
+    /// The cells in use. Limits of loops stand in the last ones.
+    pub used: usize,
+    /// The live calls and refinements, the innermost last.
+    pub frames: List<Frame>,
+    /// Whether the variables had no room at the start.
+    pub full: bool,
     /// The request whose answer it waits for.
     pub waiting: Option<Request>,
+    /// The bytes of all pending operands.
+    pub pending: usize,
 }
 
 /// Pushes an operand.
@@ -48,22 +68,4 @@ pub fn pop_place(operands: &mut List<Operand>) -> Addr
         Some(Operand::Place(place)) => place,
         _ => unreachable!(),
     }
-}
-
-/// Takes the innermost limit.
-pub fn pop_limit(limits: &mut List<i16>) -> i16
-    requires { TopLimit (reverse limits.old) }
-    ensures { reverse limits.old ≡ result ∷ reverse limits.new }
-{
-    match limits.pop() {
-        Some(limit) => limit,
-        None => unreachable!(),
-    }
-}
-
-/// Keeps a limit.
-pub fn push_limit(limits: &mut List<i16>, limit: i16) -> Result<(), NoMemory>
-    ensures { OnOk result (reverse limits.new ≡ limit ∷ reverse limits.old) }
-{
-    limits.push(limit)
 }
