@@ -4,3 +4,8 @@ pub mod Forms
 pub mod Choices
 pub mod Calls
 pub mod Loops
+pub mod Lines
+pub mod Homes
+pub mod Tables
+pub mod LoopTables
+pub mod TableTree

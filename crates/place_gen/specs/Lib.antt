@@ -1,2 +1,4 @@
 pub mod Stretch
 pub mod Correct
+pub mod Adds
+pub mod Steps
