@@ -2,6 +2,7 @@
 use Rattle.std.proofs.Common.{◌≡◌, ℕ, List, [], ◌∷◌, ◌++◌, map, Option, Some, None, Bool, true, false, ◌&&◌, ◌==◌, refl, sym, ap, ◌∙◌, subst}
 use Rattle.std.specs.Prelude.{slice_get, option_map}
 use Rattle.std.proofs.lemmas.Option.{slice_get-map}
+use Rattle.std.proofs.lemmas.Bool.{eqb-true}
 use Rattle.eu_base.specs.declared.value.Kind.{Kind}
 use Rattle.eu_base.specs.declared.value.Kind.TheVariants as kinds
 use Rattle.code_form.specs.declared.operand.OperandKind.{OperandKind}
@@ -100,6 +101,9 @@ access_is Const Var e = let f : ⊥ = cc in absurd f
 access_is Var Const e = let f : ⊥ = cc in absurd f
 access_is Var Var e = refl
 
+some_same : (u v : ElanType) → Some u ≡ Some v → u ≡ v
+some_same u v e = cc
+
 cells_are : (ps : List Formal) (vs : List ElanType) → cells_of (layout_in (scopes.Own ps vs)) ≡ map kind_taken (frame_of (scopes.Own ps vs))
 cells_are [] [] = refl
 cells_are [] (v ∷ vs) = ap (λ l. operand.Value (kind_in v) ∷ l) (cells_are [] vs)
@@ -139,7 +143,7 @@ module _ (p : Program) (variables : List ElanType) (bodies : List Body) (agrees 
   as_is access u None e = let g : ⊥ = cc in absurd g
   as_is access u (Some f) e =
       let g = only_if_is _ _ u e in
-      let h : f.of ≡ u = cc in
+      let h = some_same f.of u g.1 in
       (f, refl, ap (λ a. taken_as a (kind_in f.of)) (sym (access_is access f.access g.0)) ∙ ap (λ u. taken_as access (kind_in u)) h)
 
   held : (home : Home) → IsHome bodies home → (access : Access) (x : ℕ) (u : ElanType) → type_as access (slice_get (frame_in bodies (typing.owner bodies home)) x) ≡ Some u → slice_get (frame_cells p home) x ≡ Some (taken_as access (kind_in u))
@@ -157,15 +161,15 @@ module _ (p : Program) (variables : List ElanType) (bodies : List Body) (agrees 
     pub entry : Entry
     pub has : slice_get p.bodies q ≡ Some entry
     pub parameters : List Formal
-    pub variables : List Kind
-    pub own : entry.layout ≡ layouts.Own (map kind_taken parameters) variables
+    pub cells : List Kind
+    pub own : entry.layout ≡ layouts.Own (map kind_taken parameters) cells
     pub takes : take_all parameters given ≡ true
     pub delivers : entry.delivers ≡ d
 
   own_proc : (q : ℕ) (given : List Taken) (b : Body) (d : Typed) (s : Scope) → slice_get bodies q ≡ Some b → b.scope ≡ s → taken_by (Some s) given ≡ true → result_of_content b.content ≡ d → IsProc q given (option_map kind_in d)
   own_proc q given b d (scopes.Own ps vs) is s e r =
       let t = agrees.each q b is in
-      record { entry = t.entry; has = t.has; parameters = ps; variables = map kind_in vs; own = t.layout ∙ ap layout_in s; takes = e; delivers = t.delivers ∙ ap (option_map kind_in) r }
+      record { entry = t.entry; has = t.has; parameters = ps; cells = map kind_in vs; own = t.layout ∙ ap layout_in s; takes = e; delivers = t.delivers ∙ ap (option_map kind_in) r }
   own_proc q given b d (scopes.Of n) is s e r = let g : ⊥ = cc in absurd g
   own_proc q given b d scopes.Level is s e r = let g : ⊥ = cc in absurd g
 
@@ -189,7 +193,7 @@ module _ (p : Program) (variables : List ElanType) (bodies : List Body) (agrees 
   refined q None (scopes.Of r) e = let g : ⊥ = cc in absurd g
   refined q None scopes.Level e = (tt, refl)
   refined q (Some n) (scopes.Own ps vs) e = let g : ⊥ = cc in absurd g
-  refined q (Some n) (scopes.Of r) e = let g : n ≡ r = search in (tt, ap Some (sym g))
+  refined q (Some n) (scopes.Of r) e = let g : n ≡ r = eqb-true n r e in (tt, ap Some (sym g))
   refined q (Some n) scopes.Level e = let g : ⊥ = cc in absurd g
 
   none_refined : (owner : Home) → refines owner None ≡ true → ⊥

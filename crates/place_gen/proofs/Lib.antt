@@ -9,3 +9,6 @@ pub mod Homes
 pub mod Tables
 pub mod LoopTables
 pub mod TableTree
+pub mod Adds
+pub mod Select
+pub mod Count

@@ -7,12 +7,14 @@ use Rattle.eu_base.specs.declared.operation.Way.{Way}
 use Rattle.eu_base.specs.Operations.{operand_kinds, result_kind}
 use Rattle.code_form.specs.declared.operand.OperandKind.{OperandKind}
 use Rattle.code_form.specs.declared.operand.OperandKind.TheVariants.{Value as OfKind}
-use Rattle.code_form.specs.declared.instr.Instr.TheVariants.{Drop}
+use Rattle.code_form.specs.declared.instr.Instr.TheVariants.{Drop, Back}
+use Rattle.code_form.specs.declared.code.Spot.{Spot}
 use Rattle.code_form.specs.Program.{Program}
-use Rattle.code_form.specs.Valid.{pushed_kinds, pushed_operands, with_result}
+use Rattle.code_form.specs.Valid.{Next, pushed_kinds, pushed_operands, with_result}
 use Rattle.elan_types.specs.declared.elan_type.ElanType.{ElanType}
 use Rattle.elan_types.specs.declared.elan_type.ElanType.TheVariants as types
 use Rattle.elan_types.specs.declared.core_phrase.Access.TheVariants.{Const, Var}
+use Rattle.elan_types.specs.declared.core_phrase.Exit.TheVariants as exits
 use Rattle.elan_types.specs.declared.core_phrase.Parameter.{Parameter as Formal}
 use Rattle.elan_types.specs.declared.core_phrase.Body.{Body}
 use Rattle.elan_types.specs.declared.core_phrase.Content.{Content}
@@ -26,11 +28,12 @@ use Rattle.elan_types.specs.declared.core_phrase.ValueArm.{ValueArm}
 use Rattle.elan_types.specs.declared.core_phrase.Action.TheOpen as t
 use Rattle.elan_types.specs.declared.core_phrase.Action.TheOpen.{Action-F, Actual-F, ValuePhrase-F, Arm-F, ValueArm-F}
 use Rattle.elan_types.specs.declared.core_phrase.Action.TheFolds.{fold-Actual, fold-Arm, fold-ValueArm, ind-Action, ind-ValuePhrase, map-Action, map-Actual, map-ValuePhrase, map-Arm, map-ValueArm, fold-roll-Action, fold-roll-Actual, fold-roll-ValuePhrase, fold-roll-Arm, fold-roll-ValueArm}
-use Rattle.elan_types.specs.Typing.{Typed, Taken, Home, has, agree, only_if, place_type, has_if_written, have, all_agree, all_true, takes, take_all, given_as, type_in, kind_in, type_of, is_typed, value_type_step, actual_type_step, value_arm_type_step, action_typed_step, arm_typed_step, left_from}
+use Rattle.elan_types.specs.Typing.{Typed, Taken, Home, has, agree, only_if, place_type, has_if_written, have, all_agree, all_true, takes, take_all, given_as, type_in, kind_in, type_of, is_typed, value_type_step, actual_type_step, value_arm_type_step, action_typed_step, arm_typed_step, is_content_typed, result_of_content}
 use Rattle.elan_types.specs.Eval.{Labelled}
-use Rattle.place_gen.specs.Stretch.{Stretch, Exit, none, one, place_code, keeps, pushes, join, stays, all_code, select_code, while_code, until_code, turn_code, turns_code, store_code, counted_code, action_code, actual_code, value_code, action_code_step, actual_code_step, value_code_step, arm_code_step, value_arm_code_step, arm_code_of, value_arm_code}
-use Rattle.place_gen.proofs.Homes.{Agrees, IsHome, kind_taken, taken_as, place_is, proc_is, part_is, left_is, only_if_is, both, same_is, has_is, access_is, without_is, with_is, none_is}
-use Rattle.place_gen.proofs.Tables.{Table, ValueTable, ActionTable, above, none_table, join_table, mark_table, number_table, truth_table, place_table, load_table, store_table, modify_table, put_table, line_table, apply_table, call_table, refer_table, leave_table, leave_with_table}
+use Rattle.place_gen.specs.Stretch.{Stretch, Exit, none, one, place_code, keeps, pushes, join, stays, all_code, select_code, while_code, until_code, turn_code, turns_code, store_code, counted_code, action_code, actual_code, value_code, content_code, action_code_step, actual_code_step, value_code_step, arm_code_step, value_arm_code_step, arm_code_of, value_arm_code}
+use Rattle.place_gen.proofs.Homes.{Delivers, Agrees, IsHome, kind_taken, taken_as, place_is, proc_is, part_is, left_is, only_if_is, both, same_is, has_is, access_is, without_is, with_is, none_is}
+use Rattle.place_gen.proofs.Lines.{HasAt}
+use Rattle.place_gen.proofs.Tables.{IsSized, join_sized, Each, ends_good, leave_fine, Table, ValueTable, ActionTable, above, none_table, join_table, mark_table, number_table, truth_table, place_table, load_table, store_table, modify_table, put_table, line_table, apply_table, call_table, refer_table, leave_table, leave_with_table}
 use Rattle.place_gen.proofs.LoopTables.{if_table, otherwise_table, arm_table, ExitTable, stays_table, while_table, until_table, step_table, AtLeastOne, step_to_table, turn_table, loop_table, counted_none_table, counted_some_table}
 
 agree_is : (a b : Typed) (u : ElanType) → agree a b ≡ true → a ≡ Some u → b ≡ Some u
@@ -229,7 +232,7 @@ module _ (p : Program) (variables : List ElanType) (bodies : List Body) (agrees 
       let g = both _ _ f.0 in
       let i = proc_is p variables bodies agrees q _ (Some v) g.0 (has_is v _ g.1) in
       let j = actuals_are i.parameters as' i.takes in
-      of_type v u f.1 (call_table p home q i.entry (map kind_taken i.parameters) i.variables (Some (kind_in v)) (map actual_code (map fst as')) i.has i.own i.delivers j.as_many j.table)
+      of_type v u f.1 (call_table p home q i.entry (map kind_taken i.parameters) i.cells (Some (kind_in v)) (map actual_code (map fst as')) i.has i.own i.delivers j.as_many j.table)
   value_parts (t.ValuePhrase::Refer q v) u e =
       let f = only_if_is _ _ u e in
       let g = both _ _ f.0 in
@@ -294,7 +297,7 @@ module _ (p : Program) (variables : List ElanType) (bodies : List Body) (agrees 
       let g = both _ _ e in
       let i = proc_is p variables bodies agrees q _ None g.0 (none_is _ g.1) in
       let j = actuals_are i.parameters as' i.takes in
-      call_table p home q i.entry (map kind_taken i.parameters) i.variables None (map actual_code (map fst as')) i.has i.own i.delivers j.as_many j.table
+      call_table p home q i.entry (map kind_taken i.parameters) i.cells None (map actual_code (map fst as')) i.has i.own i.delivers j.as_many j.table
   action_parts (t.Action::Refer q) e =
       let g = both _ _ e in
       let i = part_is p variables bodies agrees q home is_home None g.0 (none_is _ g.1) in
@@ -343,3 +346,23 @@ module _ (p : Program) (variables : List ElanType) (bodies : List Body) (agrees 
   all_are us e =
       let same = firsts us in
       subst (λ us. AT (all_code (map action_code us))) same (actions_are (map with_proof us) (subst (λ us. all_true (map typed us) ≡ true) (sym same) e))
+
+  -- what a body does, and the instruction that leaves it
+  pub record IsGood (f : Stretch) : Type 0 where
+    pub sized : IsSized f
+    pub good : (pc : ℕ) (m : Spot) → m.body ≡ home → HasAt p.lines pc (f.lines [] m pc) → Next p.lines pc [] m × Each p pc (f.lines [] m pc)
+
+  pub content_is : (c : Content) → is_content_typed variables bodies home c ≡ true → Delivers p home (option_map kind_in (result_of_content c)) → IsGood (content_code c)
+  content_is (contents.Units us) e left =
+      let i = all_are us e in
+      record {
+        sized = join_sized (all_code (map action_code us)) (one (Back None) keeps) i.sized (λ ks m pc. refl);
+        good = λ pc m is has. ends_good p home (Back None) keeps i pc [] m is (λ q. leave_fine p home exits.Body None left q [] m is tt) has;
+      }
+  content_is (contents.Value u a) e left =
+      let i = value_is a u (has_is u _ e) in
+      let k = kind_in u in
+      record {
+        sized = join_sized (value_code a) (one (Back (Some k)) (drop 1)) i.sized (λ ks m pc. refl);
+        good = λ pc m is has. ends_good p home (Back (Some k)) (drop 1) i pc [] m is (λ q. leave_fine p home exits.Body (Some k) left q (OfKind k ∷ []) m is ([], refl)) has;
+      }

@@ -15,7 +15,7 @@ use Rattle.code_form.specs.declared.code.Line.{Line}
 use Rattle.code_form.specs.declared.code.Spot.{Spot}
 use Rattle.code_form.specs.declared.code.Entry.{Entry}
 use Rattle.code_form.specs.declared.code.Layout.TheVariants as layouts
-use Rattle.code_form.specs.Program.{Program, owner, owner_at, layout_of}
+use Rattle.code_form.specs.Program.{Program, line_of, owner, owner_at, layout_of}
 use Rattle.code_form.specs.Valid.{Next, Lands, pushed_kinds, pushed_operands, with_result, IsRefinement, HasResult, IsFine}
 use Rattle.elan_types.specs.declared.core_phrase.PlacePhrase.{PlacePhrase}
 use Rattle.elan_types.specs.declared.core_phrase.PlacePhrase.TheVariants as places
@@ -29,7 +29,7 @@ use Rattle.place_gen.proofs.Homes.{Delivers, HasPlace, LeftBy}
 abbrev pub IsSized : Stretch → Type 0
 IsSized f = (ks : List OperandKind) (m : Spot) (pc : ℕ) → length (f.lines ks m pc) ≡ f.size
 
-join_sized : (f g : Stretch) → IsSized f → IsSized g → IsSized (join f g)
+pub join_sized : (f g : Stretch) → IsSized f → IsSized g → IsSized (join f g)
 join_sized f g x y ks m pc = omega (arith, length-append (f.lines ks m pc) (g.lines (f.leaves ks) m (pc + f.size)), x ks m pc, y (f.leaves ks) m (pc + f.size))
 
 -- so many operands are taken off again
@@ -167,7 +167,7 @@ module _ (p : Program) (body : Option ℕ) where
   })
 
   -- LEAVE finds what it delivers
-  leave_fine : (e : Exit) (d : Option Kind) → LeftBy p body e d → (pc : ℕ) (ks : List OperandKind) (m : Spot) → m.body ≡ body → HasResult d ks → IsFine p pc (leave_instr e d) ks m
+  pub leave_fine : (e : Exit) (d : Option Kind) → LeftBy p body e d → (pc : ℕ) (ks : List OperandKind) (m : Spot) → m.body ≡ body → HasResult d ks → IsFine p pc (leave_instr e d) ks m
   leave_fine exits.Body d left pc ks m home top = back body left home
     where
       back : (o : Option ℕ) → Delivers p o d → m.body ≡ o → IsFine p pc (Back d) ks m
@@ -184,3 +184,12 @@ module _ (p : Program) (body : Option ℕ) where
 
   pub leave_with_table : {f : Stretch} (e : Exit) (k : Kind) → LeftBy p body e (Some k) → ValueTable k f → ActionTable (join f (one (leave_instr e (Some k)) (drop 1)))
   leave_with_table e k left i = join_table i (one_table (leave_instr e (Some k)) (drop 1) (pushes (OfKind k)) keeps (λ ks. refl) (λ pc ks m home n. leave_fine e (Some k) left pc (OfKind k ∷ ks) m home (ks, refl)))
+
+  -- a stretch, and behind it an instruction from which nothing goes on to the next
+  pub ends_good : {mid : List OperandKind → List OperandKind} {f : Stretch} (i : Instr) (leaves : List OperandKind → List OperandKind) → Table keeps mid f → (pc : ℕ) (ks : List OperandKind) (m : Spot) → m.body ≡ body → ((pc : ℕ) → IsFine p pc i (mid ks) m) → HasAt p.lines pc ((join f (one i leaves)).lines ks m pc) → Next p.lines pc ks m × Each p pc ((join f (one i leaves)).lines ks m pc)
+  ends_good {mid} {f} i leaves t pc ks m home fine has =
+      let q = pc + f.size in
+      let e = t.leaves ks in
+      let h = has_rest p.lines pc f.size (f.lines ks m pc) _ (t.sized ks m pc) has in
+      let r = t.good pc ks m home (has_front p.lines pc (f.lines ks m pc) _ has) (i, subst (λ l. slice_get p.lines q ≡ Some (line_of i l m)) e h.0) in
+      (r.0, each_rest p pc f.size (f.lines ks m pc) (line_of i (f.leaves ks) m ∷ []) (t.sized ks m pc) r.1 (subst (λ l. IsFine p q i l m) (sym e) (fine q), tt))

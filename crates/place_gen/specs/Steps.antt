@@ -1,5 +1,5 @@
 -- The code of a counter's step, of a counted loop, and of what leads into other bodies and out of them.
-use Rattle.std.specs.Prelude.{◌∷◌, [], map, drop, option_map, None, Some, pos}
+use Rattle.std.specs.Prelude.{◌+◌, ◌∷◌, [], map, drop, option_map, None, Some, pos}
 use Rattle.eu_base.specs.declared.value.Kind.TheVariants as kinds
 use Rattle.eu_base.specs.declared.operation.Change.TheVariants.{Increase}
 use Rattle.code_form.specs.declared.operand.OperandKind.TheVariants as operand
