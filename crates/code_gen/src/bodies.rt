@@ -15,8 +15,8 @@ pub fn emit_bodies(out: &mut Draft, bodies: &[Body]) -> Result<List<Entry>, NoMe
     ensures lines { IfOk result (λ _. out.new.lines ≡ out.old.lines ++ body_lines bodies.now 0 (length out.old.lines)) }
 {
     let mut entries = List::new(out.alloc);
-    for (number, body) in bodies.iter().enumerate() {
-        let number = u16::try_from(number).map_err(|_| NoMemory)?;
+    for (index, body) in bodies.iter().enumerate() {
+        let number = u16::try_from(index).map_err(|_| NoMemory)?;
         entries.push(entry_of(out.alloc, body, out.lines.len())?)?;
         out.begin_body(number);
         emit_content(out, &body.content)?;

@@ -1,6 +1,7 @@
 //! How many instructions a phrase has, so that a jump forward knows where it goes.
 ghost use Rattle.std.specs.Prelude.{◌≡◌, ◌+◌, IfOk, map, option_map};
 ghost use Rattle.place_gen.specs.Stretch.{all_code, while_code, until_code, select_code, value_code, action_code, actual_code, value_arm_code, arm_code_of, arms_length, Exit, loop_code};
+ghost use Rattle.place_gen.specs.Steps.{count_code};
 
 use elan_types::{Action, Actual, Arm, ValueArm, ValuePhrase};
 use eu_base::NoMemory;
@@ -118,34 +119,44 @@ fn action_size(action: &Action) -> Result<usize, NoMemory>
             let end = until_size(until)?;
             turns_size(test, body, end, 0)
         }
-        Action::Count {
-            counter: _,
-            from,
-            way: _,
-            limit,
-            condition,
-            units,
-            until,
-        } => {
-            let first = plus(1, plus(value_size(from)?, 1)?)?;
-            let test = while_size(condition)?;
-            let body = actions_size(units.as_slice())?;
-            let end = until_size(until)?;
-            match limit {
-                None => plus(first, turns_size(test, body, end, 3)?),
-                Some(limit) => {
-                    let turns = turns_size(test, body, end, 2)?;
-                    let kept = plus(1, plus(turns, 1)?)?;
-                    plus(first, plus(1, plus(value_size(limit)?, kept)?)?)
-                }
-            }
-        }
+        Action::Count { .. } => count_size(action),
         Action::Put(value) => plus(value_size(value)?, 1),
         Action::Line => Ok(1),
         Action::Call(_, actuals) => plus(actuals_size(actuals.as_slice())?, 1),
         Action::Refer(_) => Ok(1),
         Action::Leave(_) => Ok(1),
         Action::LeaveWith(_, _, value) => plus(value_size(value)?, 1),
+    }
+}
+
+// A counted loop; nothing for another action.
+#[cycle(size)]
+fn count_size(action: &Action) -> Result<usize, NoMemory>
+    ensures { IfOk result (λ size. size ≡ (count_code action.now).size) }
+{
+    let Action::Count {
+        counter: _,
+        from,
+        way: _,
+        limit,
+        condition,
+        units,
+        until,
+    } = action
+    else {
+        return Ok(0);
+    };
+    let body = actions_size(units.as_slice())?;
+    let test = while_size(condition)?;
+    let end = until_size(until)?;
+    let first = plus(1, plus(value_size(from)?, 1)?)?;
+    match limit {
+        None => plus(first, turns_size(test, body, end, 3)?),
+        Some(limit) => {
+            let turns = turns_size(test, body, end, 2)?;
+            let kept = plus(1, plus(turns, 1)?)?;
+            plus(first, plus(1, plus(value_size(limit)?, kept)?)?)
+        }
     }
 }
 
