@@ -77,7 +77,7 @@ module _ (core : Core) (typed : IsWellTyped core) where
     each = λ n b is. let e = entry_at core.bodies behind n b is in record { entry = entry_of b e.0; has = e.1; layout = layout_same b.scope; delivers = delivers_same b.content };
   }
 
-  content_good : (n : ℕ) (b : Body) → slice_get core.bodies n ≡ Some b → IsGood p core.variables core.bodies agrees (Some n) (b, is) (content_code b.content)
+  content_good : (n : ℕ) (b : Body) (is : slice_get core.bodies n ≡ Some b) → IsGood p core.variables core.bodies agrees (Some n) (b, is) (content_code b.content)
   content_good n b is = let e = agrees.each n b is in content_is p core.variables core.bodies agrees (Some n) (b, is) b.content (typed.bodies n b is) (e.entry, e.has, e.delivers)
 
   -- the bodies from one on
@@ -124,11 +124,13 @@ module _ (core : Core) (typed : IsWellTyped core) where
       let has = has_all p.lines [] in
       let level_sized = join_sized units (one End keeps) i.sized (λ ks m pc. refl) in
       let level = ends_good p None End keeps i 0 [] at_level refl (λ q. tt) (has_front p.lines 0 ((level_code core).lines [] at_level 0) _ has) in
-      let more = bodies_are core.bodies 0 behind (λ j b h. h) (has_rest p.lines 0 behind ((level_code core).lines [] at_level 0) _ (level_sized [] at_level 0) has) in
-      let each = each_rest p 0 behind ((level_code core).lines [] at_level 0) (body_lines core.bodies 0 behind) (level_sized [] at_level 0) level.1 more.each in
+      let from : 0 + behind ≡ behind = omega arith in
+      let rest = subst (λ n. HasAt p.lines n (body_lines core.bodies 0 behind)) from (has_rest p.lines 0 behind ((level_code core).lines [] at_level 0) _ (level_sized [] at_level 0) has) in
+      let more = bodies_are core.bodies 0 behind (λ j b h. let z : 0 + j ≡ j = omega arith in ap (slice_get core.bodies) z ∙ h) rest in
+      let each = each_rest p 0 behind ((level_code core).lines [] at_level 0) (body_lines core.bodies 0 behind) (level_sized [] at_level 0) level.1 (subst (λ n. Each p n (body_lines core.bodies 0 behind)) (sym from) more.each) in
       record {
         first = level.0;
-        bodies = λ n e h. more.first n e h;
+        bodies = λ n e h. let z : 0 + n ≡ n = omega arith in subst (λ n. Next p.lines e.first [] (in_body n)) z (more.first n e h);
         owned = λ n e h. let b = entry_from core.bodies behind n e h in owned_by e.layout b.0.scope (ap (λ (e : Entry). e.layout) b.1.2) (typed.scopes n b.0 b.1.1);
-        each = λ pc l e. each_get p 0 p.lines each pc l e;
+        each = λ pc l e. let z : 0 + pc ≡ pc = omega arith in subst (λ n. IsFine p n l.instr l.operands l.spot) z (each_get p 0 p.lines each pc l e);
       }

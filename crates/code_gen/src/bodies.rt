@@ -1,5 +1,5 @@
 //! The bodies of a command: their code, and their entries in its tables.
-ghost use Rattle.std.specs.Prelude.{◌≡◌, ◌++◌, ◌×◌, IfOk, length, map};
+ghost use Rattle.std.specs.Prelude.{◌≡◌, ◌++◌, IfOk, length, map};
 ghost use Rattle.elan_types.specs.Typing.{kind_in};
 ghost use Rattle.code_gen.specs.Program.{body_lines, delivered_kind, entries, entry_of, layout_of, parameter_kind};
 
