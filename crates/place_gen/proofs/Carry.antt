@@ -74,7 +74,7 @@ finish (Stopped s w) k l = endings.Stopped s w
 finish (OutOfMarks w) k l = endings.OutOfMarks w
 finish (Asks q w) k l = endings.Asks q w
 
-finish_bind : {A B : Type 0} (o : Outcome A) (f : A → World → Outcome B) (k : B → World → Ending) (l : Exit → Option Value → World → Ending) → finish (bind o f) k l ≡ finish o (λ a w. finish (f a w) k l) l
+pub finish_bind : {A B : Type 0} (o : Outcome A) (f : A → World → Outcome B) (k : B → World → Ending) (l : Exit → Option Value → World → Ending) → finish (bind o f) k l ≡ finish o (λ a w. finish (f a w) k l) l
 finish_bind (Gives a w) f k l = refl
 finish_bind (Left e v w) f k l = refl
 finish_bind (Stopped s w) f k l = refl
@@ -156,6 +156,10 @@ module _ (p : Program) where
     shows = record { how = refl; marks = refl; replies = refl; cells = image L w.store cells keeps };
   })
 
+  -- an instruction that writes to the cell of a variable
+  pub write_ends : {L : Uses} (c c' : Control) (w : World) (x : Place) (k : Kind) (v : Value) (e : Ending) (cells : Cells) → AtKind k L x → IsOf k v → Keeps L w.store cells → step p c cells ≡ Goes c' (written cells (run_cell x.variable) (cell_of v)) → Ends L c' (assign x v w) e → Comes p c (scene_of w cells) e
+  write_ends {L} c c' w x k v e cells is ok h m a = on_step c c' (scene_of w cells) (written cells (run_cell x.variable) (cell_of v)) e m (a _ (writes L w.store cells x.variable k v h is ok))
+
   -- what is delivered by the body of this number, and by the PROC whose cells it uses
   abbrev pub Delivers : Option ℕ → Option Kind → Type 0
   Delivers None k = ⊥
@@ -207,10 +211,6 @@ module _ (p : Program) where
 
     pub reads_carries : {A : Type 0} {Good : Uses → A → Type 0} (b : ℕ) (c : Control) (give : World → A) (fits : World → Bool) (to : A → Control) → ((w : World) (cells : Cells) → Keeps L w.store cells → Good L (give w) × (step p c cells ≡ cond (fits w) (Goes (to (give w)) cells) (Halts (halts.Stopped OperandRoom)))) → Carries L body fs Good b c (λ w. branch (fits w) (Gives (give w)) (Stopped OperandRoom) w) to
     reads_carries b c give fits to e = record { by = λ k l hk hl w le cells h. let x = e w cells h in read_ends b c (give w) (fits w) to k l hk w le cells h x.0 x.1 }
-
-    -- an instruction that writes to the cell of a variable
-    pub write_ends : (c c' : Control) (w : World) (x : Place) (k : Kind) (v : Value) (e : Ending) (cells : Cells) → AtKind k L x → IsOf k v → Keeps L w.store cells → step p c cells ≡ Goes c' (written cells (run_cell x.variable) (cell_of v)) → Ends L c' (assign x v w) e → Comes p c (scene_of w cells) e
-    write_ends c c' w x k v e cells is ok h m a = on_step c c' (scene_of w cells) (written cells (run_cell x.variable) (cell_of v)) e m (a _ (writes L w.store cells x.variable k v h is ok))
 
     pub branch_carries : {A : Type 0} {Good : Uses → A → Type 0} (b : ℕ) (t : Bool) (c : Bool → Control) (f g : World → Outcome A) (to : A → Control) → Carries L body fs Good b (c true) f to → Carries L body fs Good b (c false) g to → Carries L body fs Good b (c t) (branch t f g) to
     branch_carries b true c f g to r s = r

@@ -117,7 +117,7 @@ module _ (p : Program) (body : Option ℕ) where
 
   -- INCR and DECR, at the instruction
   modified : {A : Type 0} {L : Uses} (g : Given) (x : Place) (a : A) (c c' : Control) (w : World) (cells : Cells) (k : A → World → Ending) (l : Exit → Option Value → World → Ending) → AtKind kinds.Int L x → ((v : Value) → g ≡ Ok v → IsOf kinds.Int v) → Keeps L w.store cells → step p c cells ≡ or_halt g (λ v. Goes c' (written cells (run_cell x.variable) (cell_of v))) → ((v : Value) → Ends p L c' (assign x v w) (k a (assign x v w))) → Comes p c (scene_of w cells) (finish (or_stop g (λ v w. Gives a (assign x v w)) w) k l)
-  modified {A} {L} (Ok v) x a c c' w cells k l is gives keeps e hk = write_ends p {L} {body} {c.frames} c c' w x kinds.Int v _ cells is (gives v refl) keeps e (hk v)
+  modified {A} {L} (Ok v) x a c c' w cells k l is gives keeps e hk = write_ends p {L} c c' w x kinds.Int v _ cells is (gives v refl) keeps e (hk v)
   modified {A} {L} (Err s) x a c c' w cells k l is gives keeps e hk = stop_comes p L c w s cells keeps e
 
   -- INCR and DECR where number and place are on top

@@ -87,7 +87,7 @@ module _ (p : Program) (body : Option ℕ) where
         lead_carries p b (at c q (Of v ∷ ops)) (at c (cond (truth_of v) (q + 1) (q + 1 + 1)) ops) (Gives (not (truth_of v))) to (λ cells. here p q (False (q + 1 + 1)) (f.leaves ks) m h.0 c (Of v ∷ ops) cells) (by (truth_of v) b c ops q end (λ cells. here p (q + 1) (Jump end) ks m h.1.0 c ops cells))));
   }
     where
-      by : {U : Uses} {home : Option ℕ} (t : Bool) (b : ℕ) (c : Control) (ops : List Operand) (q end : ℕ) → ((cells : Cells) → step p.lines (at c (q + 1) ops) cells ≡ Goes (at c end ops) cells) → Parts U home b c (q + 1 + 1) ops end (Gives (not t)) (at c (cond t (q + 1) (q + 1 + 1)) ops)
+      by : {U : Uses} {home : Option ℕ} (t : Bool) (b : ℕ) (c : Control) (ops : List Operand) (q end : ℕ) → ((cells : Cells) → step p (at c (q + 1) ops) cells ≡ Goes (at c end ops) cells) → Parts U home b c (q + 1 + 1) ops end (Gives (not t)) (at c (cond t (q + 1) (q + 1 + 1)) ops)
       by true b c ops q end e = lead_carries p b (at c (q + 1) ops) (at c end ops) (Gives false) (λ on. cond on (at c (q + 1 + 1) ops) (at c end ops)) e (none_carries p b false (λ on. cond on (at c (q + 1 + 1) ops) (at c end ops)) tt)
       by false b c ops q end e = none_carries p b true (λ on. cond on (at c (q + 1 + 1) ops) (at c end ops)) tt
 
@@ -179,10 +179,10 @@ module _ (p : Program) (body : Option ℕ) where
       let g = h.each (length l.0) (OfLimit limit) is in
       ap (λ n. number_of (value_in kinds.Int (cells (run_cell n)))) n ∙ ap (λ n. number_of (value_in kinds.Int n)) g.2 ∙ ap number_of (value_in-cell_of kinds.Int (item.Int limit) g.1)
 
-  stepped : {U : Uses} {home : Option ℕ} {fs : List Frame} (t : Bool) (way : Way) (limit z : ℤ) (x : Place) (b : ℕ) (c next exit : Control) (k : Bool → World → Ending) (l : Exit' → Option Value → World → Ending) → ((a : Bool) (w : World) → Any U a → w.marks ≤ b → Ends p U (cond a next exit) w (k a w)) → (w : World) → w.marks ≤ b → (cells : Cells) → Keeps U w.store cells → AtKind kinds.Int U x → FitsSigned w16 limit → FitsSigned w16 z → has_reached way limit z ≡ t → step p c cells ≡ cond t (Goes exit cells) (Goes next (written cells (run_cell x.variable) (cell_of (item.Int (next_number way z))))) → Comes p c (scene_of w cells) (finish (branch t (Gives false) (λ w. Gives true (assign x (item.Int (next_number way z)) w)) w) k l)
+  stepped : {U : Uses} (t : Bool) (way : Way) (limit z : ℤ) (x : Place) (b : ℕ) (c next exit : Control) (k : Bool → World → Ending) (l : Exit' → Option Value → World → Ending) → ((a : Bool) (w : World) → Any U a → w.marks ≤ b → Ends p U (cond a next exit) w (k a w)) → (w : World) → w.marks ≤ b → (cells : Cells) → Keeps U w.store cells → AtKind kinds.Int U x → FitsSigned w16 limit → FitsSigned w16 z → has_reached way limit z ≡ t → step p c cells ≡ cond t (Goes exit cells) (Goes next (written cells (run_cell x.variable) (cell_of (item.Int (next_number way z))))) → Comes p c (scene_of w cells) (finish (branch t (Gives false) (λ w. Gives true (assign x (item.Int (next_number way z)) w)) w) k l)
   stepped true way limit z x b c next exit k l hk w le cells h is f g t e = on_step p c exit (scene_of w cells) cells _ e (hk false w tt le cells h)
-  stepped {U} {home} {fs} false way limit z x b c next exit k l hk w le cells h is f g t e =
-      write_ends p {U} {home} {fs} c next w x kinds.Int (item.Int (next_number way z)) _ cells is (next_fits way limit z f g t) h e (hk true (assign x (item.Int (next_number way z)) w) tt le)
+  stepped {U} false way limit z x b c next exit k l hk w le cells h is f g t e =
+      write_ends p {U} c next w x kinds.Int (item.Int (next_number way z)) _ cells is (next_fits way limit z f g t) h e (hk true (assign x (item.Int (next_number way z)) w) tt le)
 
   pub step_to_is : (q : PlacePhrase) (way : Way) (limit : ℤ) → HasPlace p body q kinds.Int → FitsSigned w16 limit → IsExit (Under limit) (step_to q way limit) (step_to_code q way)
   step_to_is q way limit is fits =
@@ -199,7 +199,7 @@ module _ (p : Program) (body : Option ℕ) where
                   let z = number_of (fetch x w) in
                   let read = reads U w.store cells x.variable kinds.Int h at_x in
                   let go = λ (v : Value) (lim : ℤ). cond (has_reached way lim (number_of v)) (Goes exit cells) (Goes next (written cells (run_cell x.variable) (cell_of (item.Int (next_number way (number_of v)))))) in
-                  stepped {U} {m.body} {c.frames} (has_reached way limit z) way limit z x b now next exit k e hk w le' cells h at_x fits (number_fits (fetch x w) read.0) refl
+                  stepped {U} (has_reached way limit z) way limit z x b now next exit k e hk w le' cells h at_x fits (number_fits (fetch x w) read.0) refl
                   (here p (pc + 1) (Step way end) (operand.Place kinds.Int ∷ ks) m has.1.0 c (keep_place x ops) cells
                   ∙ ap (go (value_in kinds.Int (cells (run_cell x.variable)))) (limit_read limit U now w.store cells l le.stands.used h)
                   ∙ ap (λ v. go v limit) read.1);
