@@ -72,11 +72,11 @@ module _ (p : Program) (body : Option ℕ) where
   }
 
   -- the result of a body that delivers a value, and of one that delivers none
-  value_result : {L : Uses} {m : Spot} (k : Kind) (d : Option Kind) (b z : ℕ) (c : Control) (ops : List Operand) (v : Option Value) → d ≡ Some k → Result d v → Carries p L m.body c.frames (OfKind k) b (at c z (result_ops v ++ ops)) (Gives (delivered v)) (λ v. at c z (Of v ∷ ops))
+  value_result : {L : Uses} {home : Option ℕ} (k : Kind) (d : Option Kind) (b z : ℕ) (c : Control) (ops : List Operand) (v : Option Value) → d ≡ Some k → Result d v → Carries p L home c.frames (OfKind k) b (at c z (result_ops v ++ ops)) (Gives (delivered v)) (λ v. at c z (Of v ∷ ops))
   value_result k d b z c ops None e ok = absurd (subst (λ d. Result d None) e ok)
   value_result k d b z c ops (Some v) e ok = none_carries p b v (λ v. at c z (Of v ∷ ops)) (subst (λ d. Result d (Some v)) e ok)
 
-  no_result : {L : Uses} {m : Spot} (d : Option Kind) (b z : ℕ) (c : Control) (ops : List Operand) (v : Option Value) → d ≡ None → Result d v → Carries p L m.body c.frames Any b (at c z (result_ops v ++ ops)) (Gives (tt {0})) (λ _. at c z ops)
+  no_result : {L : Uses} {home : Option ℕ} (d : Option Kind) (b z : ℕ) (c : Control) (ops : List Operand) (v : Option Value) → d ≡ None → Result d v → Carries p L home c.frames Any b (at c z (result_ops v ++ ops)) (Gives (tt {0})) (λ _. at c z ops)
   no_result d b z c ops None e ok = none_carries p b tt (λ _. at c z ops) tt
   no_result d b z c ops (Some v) e ok = absurd (subst (λ d. Result d (Some v)) e ok)
 
@@ -90,7 +90,7 @@ module _ (p : Program) (body : Option ℕ) where
             join_carries p (all_code fs) g b pc ks m c ops (actuals xs (reach calls n c ops)) (λ ss w. bind (calls.call q ss held w) (λ v. Gives (delivered v))) (λ ss. pushed_slots p ss ops) (λ v. Of v ∷ ops) i.sized has (λ h. i.goes calls n b pc L ks m c ops home le h) (λ h ss oks.
             let z = pc + (all_code fs).size in
             then_carries p b (at c z (pushed_slots p ss ops)) (calls.call q ss held) (λ v. at c (z + 1) (result_ops v ++ ops)) (λ v. Gives (delivered v)) (λ v. at c (z + 1) (Of v ∷ ops)) (le.carry.call L b z q ((all_code fs).leaves ks) m c ops e ks' vs ss le.turns le.stands h.0 has_body own oks) (λ v ok.
-            value_result {L} {m} k e.delivers b (z + 1) c ops v gives ok));
+            value_result k e.delivers b (z + 1) c ops v gives ok));
       }
 
   pub call_action_is : (q : ℕ) (e : Entry) (ks' : List OperandKind) (vs : List Kind) (xs : List (Run Slot)) (fs : List Stretch) → slice_get p.bodies q ≡ Some e → e.layout ≡ layouts.Own ks' vs → e.delivers ≡ None → AreActuals ks' xs (all_code fs)
@@ -103,7 +103,7 @@ module _ (p : Program) (body : Option ℕ) where
             join_carries p (all_code fs) g b pc ks m c ops (actuals xs (reach calls n c ops)) (λ ss w. bind (calls.call q ss held w) (λ _. Gives (tt {0}))) (λ ss. pushed_slots p ss ops) (λ _. ops) i.sized has (λ h. i.goes calls n b pc L ks m c ops home le h) (λ h ss oks.
             let z = pc + (all_code fs).size in
             then_carries p b (at c z (pushed_slots p ss ops)) (calls.call q ss held) (λ v. at c (z + 1) (result_ops v ++ ops)) (λ _. Gives (tt {0})) (λ _. at c (z + 1) ops) (le.carry.call L b z q ((all_code fs).leaves ks) m c ops e ks' vs ss le.turns le.stands h.0 has_body own oks) (λ v ok.
-            no_result {L} {m} e.delivers b (z + 1) c ops v gives ok));
+            no_result e.delivers b (z + 1) c ops v gives ok));
       }
 
   pub refer_value_is : (q : ℕ) (e : Entry) (k : Kind) → slice_get p.bodies q ≡ Some e → owner p (Some q) ≡ owner p body → e.delivers ≡ Some k → IsValue p body k (λ r w. bind (r.calls.refer q r.base r.held w) (λ v. Gives (delivered v))) (refer_code q (Some k))
@@ -111,7 +111,7 @@ module _ (p : Program) (body : Option ℕ) where
     sized = λ ks m pc. refl;
     goes = λ calls n b pc L ks m c ops home le has.
         then_carries p b (at c pc ops) (calls.refer q (base_of c.frames) (bytes_on ops (bytes_of c.frames))) (λ v. at c (pc + 1) (result_ops v ++ ops)) (λ v. Gives (delivered v)) (λ v. at c (pc + 1) (Of v ∷ ops)) (le.carry.refer L b pc q ks m c ops e le.turns le.stands has.0 has_body (owned ∙ ap (owner p) (sym home))) (λ v ok.
-        value_result {L} {m} k e.delivers b (pc + 1) c ops v gives ok);
+        value_result k e.delivers b (pc + 1) c ops v gives ok);
   }
 
   pub refer_action_is : (q : ℕ) (e : Entry) → slice_get p.bodies q ≡ Some e → owner p (Some q) ≡ owner p body → e.delivers ≡ None → IsAction p body (λ r w. bind (r.calls.refer q r.base r.held w) (λ _. Gives tt)) (refer_code q None)
@@ -119,7 +119,7 @@ module _ (p : Program) (body : Option ℕ) where
     sized = λ ks m pc. refl;
     goes = λ calls n b pc L ks m c ops home le has.
         then_carries p b (at c pc ops) (calls.refer q (base_of c.frames) (bytes_on ops (bytes_of c.frames))) (λ v. at c (pc + 1) (result_ops v ++ ops)) (λ _. Gives (tt {0})) (λ _. at c (pc + 1) ops) (le.carry.refer L b pc q ks m c ops e le.turns le.stands has.0 has_body (owned ∙ ap (owner p) (sym home))) (λ v ok.
-        no_result {L} {m} e.delivers b (pc + 1) c ops v gives ok);
+        no_result e.delivers b (pc + 1) c ops v gives ok);
   }
 
   -- what an exit from this body delivers

@@ -156,6 +156,10 @@ module _ (p : Program) where
     shows = record { how = refl; marks = refl; replies = refl; cells = image L w.store cells keeps };
   })
 
+  read_ends : {L : Uses} {A : Type 0} (c : Control) (a : A) (t : Bool) (to : A → Control) (k : A → World → Ending) (l : Exit → Option Value → World → Ending) (w : World) (cells : Cells) → Keeps L w.store cells → Ends L (to a) w (k a w) → step p c cells ≡ cond t (Goes (to a) cells) (Halts (halts.Stopped OperandRoom)) → Comes p c (scene_of w cells) (finish (branch t (Gives a) (Stopped OperandRoom) w) k l)
+  read_ends c a true to k l w cells h next e = on_step c (to a) (scene_of w cells) cells _ e (next cells h)
+  read_ends {L} c a false to k l w cells h next e = stop_comes L c w OperandRoom cells h e
+
   -- an instruction that writes to the cell of a variable
   pub write_ends : {L : Uses} (c c' : Control) (w : World) (x : Place) (k : Kind) (v : Value) (e : Ending) (cells : Cells) → AtKind k L x → IsOf k v → Keeps L w.store cells → step p c cells ≡ Goes c' (written cells (run_cell x.variable) (cell_of v)) → Ends L c' (assign x v w) e → Comes p c (scene_of w cells) e
   write_ends {L} c c' w x k v e cells is ok h m a = on_step c c' (scene_of w cells) (written cells (run_cell x.variable) (cell_of v)) e m (a _ (writes L w.store cells x.variable k v h is ok))
@@ -185,6 +189,19 @@ module _ (p : Program) where
   pub record Carries {A : Type 0} (L : Uses) (body : Option ℕ) (fs : List Frame) (Good : Uses → A → Type 0) (b : ℕ) (c : Control) (run : World → Outcome A) (to : A → Control) : Type 0 where
     pub by : (k : A → World → Ending) (l : Exit → Option Value → World → Ending) → ((a : A) (w : World) → Good L a → w.marks ≤ b → Ends L (to a) w (k a w)) → Exits L b body fs l → (w : World) → w.marks ≤ b → Ends L c w (finish (run w) k l)
 
+  -- a mark, and what follows it: it goes on so, or stops
+  pub record Goes' {A : Type 0} (L : Uses) (body : Option ℕ) (fs : List Frame) (Good : Uses → A → Type 0) (b : ℕ) (c : Control) (a : Cells → AfterMark) (run : World → Outcome A) (to : A → Control) : Type 0 where
+    pub by : (k : A → World → Ending) (l : Exit → Option Value → World → Ending) → ((a : A) (w : World) → Good L a → w.marks ≤ b → Ends L (to a) w (k a w)) → Exits L b body fs l → (w : World) → w.marks ≤ b → (cells : Cells) → Keeps L w.store cells → After (after_stage (a cells) c (scene_of w cells)) (finish (run w) k l)
+
+  no_turns : {L : Uses} (m : ℕ) (a : AfterMark) (c : Control) (w : World) (cells : Cells) → m ≤ 0 → Keeps L w.store cells → After (mark_stage m a c (scene_of w cells)) (endings.OutOfMarks w)
+  no_turns {L} zero a c w cells le h = record {
+    steps = 0;
+    rest = record { how = halts.Marked; control = c; scene = scene_of w cells };
+    comes = refl;
+    shows = record { how = refl; marks = refl; replies = refl; cells = image L w.store cells h };
+  }
+  no_turns (suc m) a c w cells le h = absurd (omega arith)
+
   module _ {L : Uses} {body : Option ℕ} {fs : List Frame} where
     -- what follows a phrase
     pub then_carries : {A B : Type 0} {Good : Uses → A → Type 0} {Fine : Uses → B → Type 0} (b : ℕ) (c : Control) (run : World → Outcome A) (mid : A → Control) (f : A → World → Outcome B) (to : B → Control) → Carries L body fs Good b c run mid → ((a : A) → Good L a → Carries L body fs Fine b (mid a) (f a) to) → Carries L body fs Fine b c (λ w. bind (run w) f) to
@@ -205,25 +222,17 @@ module _ (p : Program) where
     none_carries b a to good = record { by = λ k l hk hl w le. hk a w good le }
 
     -- an instruction that delivers what it reads in the cells, where it has room
-    read_ends : {A : Type 0} {Good : Uses → A → Type 0} (b : ℕ) (c : Control) (a : A) (t : Bool) (to : A → Control) (k : A → World → Ending) (l : Exit → Option Value → World → Ending) → ((a : A) (w : World) → Good L a → w.marks ≤ b → Ends L (to a) w (k a w)) → (w : World) → w.marks ≤ b → (cells : Cells) → Keeps L w.store cells → Good L a → step p c cells ≡ cond t (Goes (to a) cells) (Halts (halts.Stopped OperandRoom)) → Comes p c (scene_of w cells) (finish (branch t (Gives a) (Stopped OperandRoom) w) k l)
-    read_ends b c a true to k l hk w le cells h good e = on_step c (to a) (scene_of w cells) cells _ e (hk a w good le cells h)
-    read_ends b c a false to k l hk w le cells h good e = stop_comes L c w OperandRoom cells h e
-
     pub reads_carries : {A : Type 0} {Good : Uses → A → Type 0} (b : ℕ) (c : Control) (give : World → A) (fits : World → Bool) (to : A → Control) → ((w : World) (cells : Cells) → Keeps L w.store cells → Good L (give w) × (step p c cells ≡ cond (fits w) (Goes (to (give w)) cells) (Halts (halts.Stopped OperandRoom)))) → Carries L body fs Good b c (λ w. branch (fits w) (Gives (give w)) (Stopped OperandRoom) w) to
-    reads_carries b c give fits to e = record { by = λ k l hk hl w le cells h. let x = e w cells h in read_ends b c (give w) (fits w) to k l hk w le cells h x.0 x.1 }
+    reads_carries b c give fits to e = record { by = λ k l hk hl w le cells h. let x = e w cells h in read_ends c (give w) (fits w) to k l w cells h (hk (give w) w x.0 le) x.1 }
 
     pub branch_carries : {A : Type 0} {Good : Uses → A → Type 0} (b : ℕ) (t : Bool) (c : Bool → Control) (f g : World → Outcome A) (to : A → Control) → Carries L body fs Good b (c true) f to → Carries L body fs Good b (c false) g to → Carries L body fs Good b (c t) (branch t f g) to
     branch_carries b true c f g to r s = r
     branch_carries b false c f g to r s = s
 
-    -- a mark, and what follows it: it goes on so, or stops
-    pub record Goes' {A : Type 0} (Good : Uses → A → Type 0) (b : ℕ) (c : Control) (a : Cells → AfterMark) (run : World → Outcome A) (to : A → Control) : Type 0 where
-      pub by : (k : A → World → Ending) (l : Exit → Option Value → World → Ending) → ((a : A) (w : World) → Good L a → w.marks ≤ b → Ends L (to a) w (k a w)) → Exits L b body fs l → (w : World) → w.marks ≤ b → (cells : Cells) → Keeps L w.store cells → After (after_stage (a cells) c (scene_of w cells)) (finish (run w) k l)
-
-    pub to_goes : {A : Type 0} {Good : Uses → A → Type 0} (b : ℕ) (c c' : Control) (run : World → Outcome A) (to : A → Control) → Carries L body fs Good b c' run to → Goes' Good b c (λ cells. To c' cells) run to
+    pub to_goes : {A : Type 0} {Good : Uses → A → Type 0} (b : ℕ) (c c' : Control) (run : World → Outcome A) (to : A → Control) → Carries L body fs Good b c' run to → Goes' L body fs Good b c (λ cells. To c' cells) run to
     to_goes b c c' run to r = record { by = λ k l hk hl w le cells h. let a = r.by k l hk hl w le cells h in record { steps = a.steps; rest = a.rest; comes = a.comes; shows = a.shows } }
 
-    spent : {A : Type 0} {Good : Uses → A → Type 0} (b m : ℕ) (c : Control) (a : Cells → AfterMark) (run : World → Outcome A) (to : A → Control) → ((b' : ℕ) → b' < b → Goes' Good b' c a run to) → (k : A → World → Ending) (l : Exit → Option Value → World → Ending) → ((a : A) (w : World) → Good L a → w.marks ≤ b → Ends L (to a) w (k a w)) → Exits L b body fs l → (w : World) → m ≤ b → (cells : Cells) → Keeps L w.store cells → m ≡ w.marks → After (mark_stage m (a cells) c (scene_of w cells)) (finish (spend_at m w run) k l)
+    spent : {A : Type 0} {Good : Uses → A → Type 0} (b m : ℕ) (c : Control) (a : Cells → AfterMark) (run : World → Outcome A) (to : A → Control) → ((b' : ℕ) → b' < b → Goes' L body fs Good b' c a run to) → (k : A → World → Ending) (l : Exit → Option Value → World → Ending) → ((a : A) (w : World) → Good L a → w.marks ≤ b → Ends L (to a) w (k a w)) → Exits L b body fs l → (w : World) → m ≤ b → (cells : Cells) → Keeps L w.store cells → m ≡ w.marks → After (mark_stage m (a cells) c (scene_of w cells)) (finish (spend_at m w run) k l)
     spent b zero c a run to r k l hk hl w le cells h is = record {
       steps = 0;
       rest = record { how = halts.Marked; control = c; scene = scene_of w cells };
@@ -233,7 +242,7 @@ module _ (p : Program) where
     spent b (suc m) c a run to r k l hk hl w le cells h is =
         (r m (omega arith)).by k l (λ a w good le'. hk a w good (omega (arith, le, le'))) (fewer (omega (arith, le)) hl) (record w { marks = m }) (omega arith) cells h
 
-    pub spend_carries : {A : Type 0} {Good : Uses → A → Type 0} (b : ℕ) (c : Control) (a : Cells → AfterMark) (run : World → Outcome A) (to : A → Control) → ((cells : Cells) → step p c cells ≡ Spends (a cells)) → ((b' : ℕ) → b' < b → Goes' Good b' c a run to) → Carries L body fs Good b c (spend run) to
+    pub spend_carries : {A : Type 0} {Good : Uses → A → Type 0} (b : ℕ) (c : Control) (a : Cells → AfterMark) (run : World → Outcome A) (to : A → Control) → ((cells : Cells) → step p c cells ≡ Spends (a cells)) → ((b' : ℕ) → b' < b → Goes' L body fs Good b' c a run to) → Carries L body fs Good b c (spend run) to
     spend_carries b c a run to e r = record {
       by = λ k l hk hl w le cells h. on_move c (scene_of w cells) (Spends (a cells)) _ (e cells) (spent b w.marks c a run to r k l hk hl w le cells h refl);
     }
@@ -258,15 +267,6 @@ module _ (p : Program) where
     ask_carries b q c c' run to e e' r = mark_carries b c c' (λ w. ask_at w.replies q w run) to e (λ b' lt. record {
       by = λ k l hk hl w le cells h. on_move c' (scene_of w cells) (Awaits q) _ (e' cells) (replied b' w.replies q c' run to (λ x. r b' x lt) k l hk hl w le cells h);
     })
-
-    no_turns : (m : ℕ) (a : AfterMark) (c : Control) (w : World) (cells : Cells) → m ≤ 0 → Keeps L w.store cells → After (mark_stage m a c (scene_of w cells)) (endings.OutOfMarks w)
-    no_turns zero a c w cells le h = record {
-      steps = 0;
-      rest = record { how = halts.Marked; control = c; scene = scene_of w cells };
-      comes = refl;
-      shows = record { how = refl; marks = refl; replies = refl; cells = image L w.store cells h };
-    }
-    no_turns (suc m) a c w cells le h = absurd (omega arith)
 
     -- no marks, and so no turns and no calls
     pub out_carries : {A : Type 0} {Good : Uses → A → Type 0} (b : ℕ) (c : Control) (a : Cells → AfterMark) (to : A → Control) → b ≤ 0 → ((cells : Cells) → step p c cells ≡ Spends (a cells)) → Carries L body fs Good b c OutOfMarks to

@@ -113,10 +113,10 @@ writes L store cells x k v h e ok =
       as_many = length-set store x (Holds v) ∙ h.as_many;
       each = λ y k' e'. ⊎_elim
           (λ t.
-              let use : OfValue k ≡ k' = some_is (OfValue k) k' (sym e ∙ ap (slice_get L) (sym t.1) ∙ e') in
+              let used_for : OfValue k ≡ k' = some_is (OfValue k) k' (sym e ∙ ap (slice_get L) (sym t.1) ∙ e') in
               let slot : slot_at (slice_set store x (Holds v)) y ≡ Holds v = ap (slot_at (slice_set store x (Holds v))) t.1 ∙ get_or-set_same store x (Holds v) Taken within in
               let number : written cells (run_cell x) (cell_of v) (run_cell y) ≡ cell_of v = ap (λ b. cond b (cell_of v) (cells (run_cell y))) t.0 in
-              subst (λ k'. Kept L y k' (slot_at (slice_set store x (Holds v)) y) (written cells (run_cell x) (cell_of v) (run_cell y))) use (v, slot, ok, number))
+              subst (λ k'. Kept L y k' (slot_at (slice_set store x (Holds v)) y) (written cells (run_cell x) (cell_of v) (run_cell y))) used_for (v, slot, ok, number))
           (λ t.
               let slot : slot_at (slice_set store x (Holds v)) y ≡ slot_at store y = get_or-set_other store x y (Holds v) Taken t.1 in
               let number : written cells (run_cell x) (cell_of v) (run_cell y) ≡ cells (run_cell y) = ap (λ b. cond b (cell_of v) (cells (run_cell y))) t.0 in
@@ -163,11 +163,11 @@ extends_one L store cells k s n h g = record {
   as_many = omega (arith, h.as_many, length-append store (s ∷ []), length-append L (k ∷ []));
   each = λ x k' e. ⊎_elim
       (λ t.
-          let use : k ≡ k' = some_is k k' (sym (ap (slice_get (L ++ k ∷ [])) t.1 ∙ last L k) ∙ e) in
+          let used_for : k ≡ k' = some_is k k' (sym (ap (slice_get (L ++ k ∷ [])) t.1 ∙ last L k) ∙ e) in
           let slot : slot_at (store ++ s ∷ []) x ≡ s = ap (slot_at (store ++ s ∷ [])) (t.1 ∙ sym h.as_many) ∙ get_or-append_seam store s [] Taken in
           let number : written cells (run_cell (length L)) n (run_cell x) ≡ n = ap (λ b. cond b n (cells (run_cell x))) t.0 in
           let kept = kept_wider L (k ∷ []) (length L) k s n g in
-          subst (λ k'. Kept (L ++ k ∷ []) x k' (slot_at (store ++ s ∷ []) x) (written cells (run_cell (length L)) n (run_cell x))) use
+          subst (λ k'. Kept (L ++ k ∷ []) x k' (slot_at (store ++ s ∷ []) x) (written cells (run_cell (length L)) n (run_cell x))) used_for
           (subst (λ m. Kept (L ++ k ∷ []) x k (slot_at (store ++ s ∷ []) x) m) (sym number) (subst (λ s'. Kept (L ++ k ∷ []) x k s' n) (sym slot) (subst (λ at. Kept (L ++ k ∷ []) at k s n) (sym t.1) kept))))
       (λ t.
           let most : x < length L + 1 = omega (arith, slice_get_within (L ++ k ∷ []) x k' e, length-append L (k ∷ [])) in

@@ -117,8 +117,8 @@ module _ (p : Program) (body : Option ℕ) where
 
   -- INCR and DECR, at the instruction
   modified : {A : Type 0} {L : Uses} (g : Given) (x : Place) (a : A) (c c' : Control) (w : World) (cells : Cells) (k : A → World → Ending) (l : Exit → Option Value → World → Ending) → AtKind kinds.Int L x → ((v : Value) → g ≡ Ok v → IsOf kinds.Int v) → Keeps L w.store cells → step p c cells ≡ or_halt g (λ v. Goes c' (written cells (run_cell x.variable) (cell_of v))) → ((v : Value) → Ends p L c' (assign x v w) (k a (assign x v w))) → Comes p c (scene_of w cells) (finish (or_stop g (λ v w. Gives a (assign x v w)) w) k l)
-  modified {A} {L} (Ok v) x a c c' w cells k l is gives keeps e hk = write_ends p {L} c c' w x kinds.Int v _ cells is (gives v refl) keeps e (hk v)
-  modified {A} {L} (Err s) x a c c' w cells k l is gives keeps e hk = stop_comes p L c w s cells keeps e
+  modified {A} {L} (Ok v) x a c c' w cells k l is gives kept e hk = write_ends p c c' w x kinds.Int v _ cells is (gives v refl) kept e (hk v)
+  modified {A} {L} (Err s) x a c c' w cells k l is gives kept e hk = stop_comes p L c w s cells kept e
 
   -- INCR and DECR where number and place are on top
   pub modify_carries : {A : Type 0} {L : Uses} (change : Change) (x : Place) (v : Value) (a : A) (b q : ℕ) (ks : List OperandKind) (m : Spot) (c : Control) (ops : List Operand) (to : A → Control) → to a ≡ at c (q + 1) ops → AtKind kinds.Int L x → HasAt p.lines q ((one (Modify change) (drop 2)).lines ks m q) → Carries p L m.body c.frames Any b (at c q (Of v ∷ keep_place x ops)) (modify change x (number_of v) a) to

@@ -1,1 +1,9 @@
 pub mod Cells
+pub mod Carry
+pub mod Forms
+pub mod Choices
+pub mod Calls
+pub mod Loops
+pub mod Limits
+pub mod Typed
+pub mod Tree

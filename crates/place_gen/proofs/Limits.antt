@@ -1,5 +1,5 @@
 -- What loops with a counter do, whatever their parts are. A limit has a cell meanwhile.
-use Rattle.std.proofs.Common.{◌≡◌, ℕ, suc, ◌+◌, ◌-◌, ◌≤◌, List, [], ◌∷◌, ◌++◌, length, drop, Option, Some, None, Bool, true, false, cond, refl, sym, ap, ◌∙◌, subst, arith, length-append}
+use Rattle.std.proofs.Common.{◌≡◌, ℕ, suc, ◌+◌, ◌-◌, ◌<◌, ◌≤◌, List, [], ◌∷◌, ◌++◌, length, drop, Option, Some, None, Bool, true, false, cond, refl, sym, ap, ◌∙◌, subst, arith, length-append}
 use Rattle.std.specs.Prelude.{slice_get, ℤ, pos, nat_le}
 use Rattle.std.proofs.lemmas.Bool.{leb-true}
 use Rattle.std.proofs.lemmas.List.{get_or_append_left}
@@ -89,7 +89,7 @@ module _ (p : Program) (body : Option ℕ) where
             let same_x : fetch x w' ≡ fetch x w = ap value_of (get_or_append_left w.store (Taken ∷ []) Taken x.variable within) in
             let fuller = λ (e : cells_fit (c.used + 1) ≡ true).
             let le' : Within p calls n b M (deeper m) c1 = record { turns = le.turns; stands = stands_wider L (OfLimit z) m c e le.stands; carry = le.carry } in
-            let inner = branch_carries p {M} {m.body} {c.frames} b past (λ (t : Bool). at c1 (cond t end (pc + 1)) ops) (Gives (tt {0})) (turns n (t r)) (λ _. at c1 end ops) (none_carries p b tt (λ _. at c1 end ops) tt) (turns_are p body i calls n b (pc + 1) M (drop 2 ks) (deeper m) c1 ops home le' (L, refl) (has_front p.lines (pc + 1) (ts.lines (drop 2 ks) (deeper m) (pc + 1)) _ has.1)) in
+            let inner = branch_carries p {L = M} {body = m.body} {fs = c.frames} b past (λ (t : Bool). at c1 (cond t end (pc + 1)) ops) (Gives (tt {0})) (turns n (t r)) (λ _. at c1 end ops) (none_carries p b tt (λ _. at c1 end ops) tt) (turns_are p body i calls n b (pc + 1) M (drop 2 ks) (deeper m) c1 ops home le' (L, refl) (has_front p.lines (pc + 1) (ts.lines (drop 2 ks) (deeper m) (pc + 1)) _ has.1)) in
             let drops = λ (cells : Cells).
             let n : c.used + 1 - 1 ≡ c.used = omega arith in
             here p end Unlimit (drop 2 ks) (deeper m) h1.0 c1 ops cells ∙ ap (λ n. Goes (using (at c (end + 1) ops) n) cells) n in

@@ -42,7 +42,7 @@ module _ (p : Program) (body : Option ℕ) where
     pub goes : (calls : Calls) (n b pc end : ℕ) (U : Uses) (ks : List OperandKind) (m : Spot) (c : Control) (ops : List Operand) → m.body ≡ body → Within p calls n b U m c → L U → HasAt p.lines pc (f.lines end ks m pc) → Parts U m.body b c (pc + f.size) ops end (run (reach calls n c ops)) (at c pc ops)
 
   exits_at : {U : Uses} {home : Option ℕ} (b : ℕ) (c : Control) (m n : ℕ) (ops : List Operand) (end : ℕ) (run : World → Outcome Bool) (from : Control) → m ≡ n → Parts U home b c m ops end run from → Parts U home b c n ops end run from
-  exits_at b c m n ops end run from e i = subst (λ n. Parts U home b c n ops end run from) e i
+  exits_at {U} {home} b c m n ops end run from e i = subst (λ n. Parts U home b c n ops end run from) e i
 
   gives_truth : {U : Uses} {home : Option ℕ} (b : ℕ) (t : Bool) (c : Control) (q : ℕ) (ops : List Operand) (end : ℕ) → Parts U home b c q ops end (Gives t) (at c (cond t q end) ops)
   gives_truth b true c q ops end = none_carries p b true (λ on. cond on (at c q ops) (at c end ops)) tt
@@ -126,7 +126,7 @@ module _ (p : Program) (body : Option ℕ) where
       let r = reach calls n c ops in
       ends_at p b top c (turns n (t r)) end (pc + (1 + (f.size + 1))) (λ _. ops) (omega arith)
       (turns_carries p n b (t r) top (at c (pc + 1) ops) exit (λ cells. here p pc Mark ks m has.0 c ops cells) (λ b' lb.
-      jumps_back {U} {m.body} {c.frames} b' (at c (pc + 1) ops) (at c q ops) top exit (t r) (λ cells. here p q (Jump pc) ks m h.0 c ops cells) (i.goes calls n b' (pc + 1) end U ks m c ops home (less p le lb) l (has_front p.lines (pc + 1) (f.lines end ks m (pc + 1)) _ has.1))) le.turns)
+      jumps_back {U = U} {home = m.body} {fs = c.frames} b' (at c (pc + 1) ops) (at c q ops) top exit (t r) (λ cells. here p q (Jump pc) ks m h.0 c ops cells) (i.goes calls n b' (pc + 1) end U ks m c ops home (less p le lb) l (has_front p.lines (pc + 1) (f.lines end ks m (pc + 1)) _ has.1))) le.turns)
     where
       back : {U : Uses} (b : ℕ) (mid top exit : Control) (k : Bool → World → Ending) → ((cells : Cells) → step p mid cells ≡ Goes top cells) → ((a : Bool) (w : World) → Any U a → w.marks ≤ b → Ends p U (cond a top exit) w (k a w)) → (a : Bool) (w : World) → w.marks ≤ b → Ends p U (cond a mid exit) w (k a w)
       back {U} b mid top exit k e hk true w le = lead_ends p U mid top w _ e (hk true w tt le)
@@ -167,7 +167,7 @@ module _ (p : Program) (body : Option ℕ) where
   abbrev pub Under : ℤ → Uses → Type 0
   Under limit U = (below : Uses) × (U ≡ below ++ OfLimit limit ∷ [])
 
-  number_fits : (v : Value) → IsOf kinds.Int v → FitsSigned w16 (number_of v)
+  pub number_fits : (v : Value) → IsOf kinds.Int v → FitsSigned w16 (number_of v)
   number_fits (item.Int z) h = h
   number_fits (item.Truth b) h = absurd h
 
@@ -182,7 +182,7 @@ module _ (p : Program) (body : Option ℕ) where
   stepped : {U : Uses} (t : Bool) (way : Way) (limit z : ℤ) (x : Place) (b : ℕ) (c next exit : Control) (k : Bool → World → Ending) (l : Exit' → Option Value → World → Ending) → ((a : Bool) (w : World) → Any U a → w.marks ≤ b → Ends p U (cond a next exit) w (k a w)) → (w : World) → w.marks ≤ b → (cells : Cells) → Keeps U w.store cells → AtKind kinds.Int U x → FitsSigned w16 limit → FitsSigned w16 z → has_reached way limit z ≡ t → step p c cells ≡ cond t (Goes exit cells) (Goes next (written cells (run_cell x.variable) (cell_of (item.Int (next_number way z))))) → Comes p c (scene_of w cells) (finish (branch t (Gives false) (λ w. Gives true (assign x (item.Int (next_number way z)) w)) w) k l)
   stepped true way limit z x b c next exit k l hk w le cells h is f g t e = on_step p c exit (scene_of w cells) cells _ e (hk false w tt le cells h)
   stepped {U} false way limit z x b c next exit k l hk w le cells h is f g t e =
-      write_ends p {U} c next w x kinds.Int (item.Int (next_number way z)) _ cells is (next_fits way limit z f g t) h e (hk true (assign x (item.Int (next_number way z)) w) tt le)
+      write_ends p c next w x kinds.Int (item.Int (next_number way z)) _ cells is (next_fits way limit z f g t) h e (hk true (assign x (item.Int (next_number way z)) w) tt le)
 
   pub step_to_is : (q : PlacePhrase) (way : Way) (limit : ℤ) → HasPlace p body q kinds.Int → FitsSigned w16 limit → IsExit (Under limit) (step_to q way limit) (step_to_code q way)
   step_to_is q way limit is fits =
@@ -199,7 +199,7 @@ module _ (p : Program) (body : Option ℕ) where
                   let z = number_of (fetch x w) in
                   let read = reads U w.store cells x.variable kinds.Int h at_x in
                   let go = λ (v : Value) (lim : ℤ). cond (has_reached way lim (number_of v)) (Goes exit cells) (Goes next (written cells (run_cell x.variable) (cell_of (item.Int (next_number way (number_of v)))))) in
-                  stepped {U} (has_reached way limit z) way limit z x b now next exit k e hk w le' cells h at_x fits (number_fits (fetch x w) read.0) refl
+                  stepped (has_reached way limit z) way limit z x b now next exit k e hk w le' cells h at_x fits (number_fits (fetch x w) read.0) refl
                   (here p (pc + 1) (Step way end) (operand.Place kinds.Int ∷ ks) m has.1.0 c (keep_place x ops) cells
                   ∙ ap (go (value_in kinds.Int (cells (run_cell x.variable)))) (limit_read limit U now w.store cells l le.stands.used h)
                   ∙ ap (λ v. go v limit) read.1);
