@@ -23,7 +23,7 @@ use Rattle.elan_types.specs.Typing.{kind_in, IsWellTyped}
 use Rattle.elan_types.specs.Eval.{Slot, Holds, Taken, slot_at, World, Outcome, Gives, Left, Stopped, OutOfMarks, Asks, branch, all, act, level}
 use Rattle.elan_types.specs.Command as endings
 use Rattle.elan_types.specs.Command.{Ending, ending, from_level, evaluate_from}
-use Rattle.place_gen.specs.Stretch.{Stretch, all_code, action_code, content_code}
+use Rattle.place_gen.specs.Stretch.{Stretch, one, keeps, all_code, action_code, content_code}
 use Rattle.place_gen.specs.Correct.{Image, HasVariables, Shows, Comes, scene_of}
 use Rattle.place_gen.specs.Layouts.{delivered_kind}
 use Rattle.place_gen.proofs.Cells.{Use, OfValue, Uses, Kept, Keeps}
@@ -80,7 +80,7 @@ module _ (core : Core) (typed : IsWellTyped core) where
   level_is = all_are core.variables core.bodies p made None core.units typed.typed
 
   level_sized : length ((level_code core).lines [] at_level 0) ≡ (level_code core).size
-  level_sized = join_sized p None units _ level_is.sized (λ ks m pc. refl) [] at_level 0
+  level_sized = join_sized p None units (one End keeps) level_is.sized (λ ks m pc. refl) [] at_level 0
 
   has_level : HasAt p.lines 0 ((level_code core).lines [] at_level 0)
   has_level = has_front p.lines 0 ((level_code core).lines [] at_level 0) _ (has_all p.lines [])

@@ -1,0 +1,5 @@
+pub mod Entered
+pub mod Level
+pub mod Bodies
+pub mod Whole
+pub mod Plays
