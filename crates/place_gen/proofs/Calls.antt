@@ -8,7 +8,7 @@ use Rattle.code_form.specs.declared.operand.Operand.{Operand}
 use Rattle.code_form.specs.declared.operand.Operand.TheVariants.{Value as Of}
 use Rattle.code_form.specs.declared.operand.OperandKind.{OperandKind}
 use Rattle.code_form.specs.declared.operand.OperandKind.TheVariants as operand
-use Rattle.code_form.specs.declared.instr.Instr.TheVariants.{Call, Refer, Back, Out}
+use Rattle.code_form.specs.declared.instr.Instr.TheVariants.{Call, Back, Out}
 use Rattle.code_form.specs.declared.code.Spot.{Spot}
 use Rattle.code_form.specs.declared.code.Entry.{Entry}
 use Rattle.code_form.specs.declared.code.Layout.TheVariants as layouts
@@ -17,12 +17,12 @@ use Rattle.code_form.specs.Machine.{Control, at, base_of, bytes_on, bytes_of}
 use Rattle.code_form.specs.Valid.{with_result}
 use Rattle.elan_types.specs.declared.core_phrase.Exit.{Exit}
 use Rattle.elan_types.specs.declared.core_phrase.Exit.TheVariants as exits
-use Rattle.elan_types.specs.Eval.{Place, Slot, Holds, Refers, Taken, World, Outcome, Gives, Left, bind, holding_slot, actuals, delivered, Calls, Reach, Run}
+use Rattle.elan_types.specs.Eval.{Place, Slot, Holds, Refers, Taken, Gives, Left, bind, holding_slot, actuals, delivered, Calls, Run}
 use Rattle.place_gen.specs.Stretch.{Stretch, none, one, keeps, join, all_code, call_code, refer_code, leave_instr}
 use Rattle.place_gen.specs.Correct.{scene_of}
 use Rattle.place_gen.proofs.Cells.{Uses}
-use Rattle.place_gen.proofs.Carry.{HasAt, Any, OfKind, AtKind, Result, result_ops, reach, Delivers, Ends, Carries, Within, Takes, TakeAll, operand_of, pushed_slots, on_step, then_carries, none_carries, here, ends_at, join_carries}
-use Rattle.place_gen.proofs.Forms.{keep, keep_place, no_more, Is, IsValue, IsPlace, IsAction, join_sized}
+use Rattle.place_gen.proofs.Carry.{HasAt, Any, OfKind, Result, result_ops, reach, Delivers, Ends, Carries, Takes, TakeAll, operand_of, pushed_slots, on_step, then_carries, none_carries, here, ends_at, join_carries}
+use Rattle.place_gen.proofs.Forms.{keep, keep_place, Is, IsValue, IsPlace, IsAction, join_sized}
 
 append-[] : {A : Type 0} (l : List A) → l ++ [] ≡ l
 append-[] [] = refl

@@ -11,7 +11,6 @@ use Rattle.eu_base.specs.declared.stop.Stop.TheVariants.{OperandRoom}
 use Rattle.eu_base.specs.declared.request.Request.{Request}
 use Rattle.eu_base.specs.declared.request.Reply.{Reply}
 use Rattle.eu_base.specs.Values.{IsOf, cell_of}
-use Rattle.eu_base.specs.Room.{value_bytes, place_bytes, bytes_fit}
 use Rattle.eu_base.specs.Operations.{Given}
 use Rattle.eu_base.specs.Cells.{Cells, run_cell, written}
 use Rattle.code_form.specs.declared.operand.Operand.{Operand}
@@ -24,10 +23,9 @@ use Rattle.code_form.specs.declared.instr.Instr.TheVariants.{Call, Refer}
 use Rattle.code_form.specs.declared.code.Line.{Line}
 use Rattle.code_form.specs.declared.code.Spot.{Spot}
 use Rattle.code_form.specs.declared.code.Entry.{Entry}
-use Rattle.code_form.specs.declared.code.Layout.{Layout}
 use Rattle.code_form.specs.declared.code.Layout.TheVariants as layouts
 use Rattle.code_form.specs.Program.{Program, line_of, instr_of, owner, frame_cells}
-use Rattle.code_form.specs.Machine.{Frame, Control, After as AfterMark, To, Stops, Move, Goes, Spends, Awaits, Halts, at, operand_bytes, bytes_on, bytes_of, base_of, pushes, back_to, out_to, instruction, step, Scene, Rest, answered, Stage, after_stage, mark_stage, reply_stage, stage, carry_on, exec}
+use Rattle.code_form.specs.Machine.{Frame, Control, After as AfterMark, To, Move, Goes, Spends, Awaits, Halts, at, bytes_on, bytes_of, base_of, back_to, out_to, instruction, step, Scene, Rest, answered, Stage, after_stage, mark_stage, reply_stage, stage, carry_on, exec}
 use Rattle.elan_types.specs.declared.core_phrase.Exit.{Exit}
 use Rattle.elan_types.specs.declared.core_phrase.Exit.TheVariants as exits
 use Rattle.elan_types.specs.Eval.{Place, Slot, Holds, Refers, Taken, World, Outcome, Gives, Left, Stopped, OutOfMarks, Asks, bind, spend_at, spend, ask_at, ask, branch, or_stop, assign, turns, Calls, Reach}
@@ -35,7 +33,7 @@ use Rattle.elan_types.specs.Command as endings
 use Rattle.elan_types.specs.Command.{Ending}
 use Rattle.place_gen.specs.Stretch.{Stretch, join}
 use Rattle.place_gen.specs.Correct.{Shows, Comes, scene_of}
-use Rattle.place_gen.proofs.Cells.{Use, OfValue, OfPlace, OfLimit, OfNothing, Uses, Keeps, image, writes}
+use Rattle.place_gen.proofs.Cells.{Use, OfValue, OfPlace, Uses, Keeps, image, writes}
 
 -- these lines stand in the code at this place
 abbrev pub HasAt : List Line → ℕ → List Line → Type 0

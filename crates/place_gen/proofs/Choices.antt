@@ -1,8 +1,7 @@
 -- What choices, units and stores do, whatever their parts are.
-use Rattle.std.proofs.Common.{◌≡◌, ℕ, suc, ◌+◌, ◌<◌, ◌≤◌, List, [], ◌∷◌, ◌++◌, length, drop, Option, Some, None, Bool, true, false, cond, ◌||◌, refl, ap, ◌∙◌, subst, arith, length-append}
-use Rattle.std.specs.Prelude.{slice_get, Ok, Err, ℤ}
+use Rattle.std.proofs.Common.{◌≡◌, ℕ, suc, ◌+◌, List, [], ◌∷◌, ◌++◌, length, drop, Option, Some, Bool, true, false, cond, ◌||◌, refl, ap, ◌∙◌, subst, arith, length-append}
+use Rattle.std.specs.Prelude.{Ok, Err, ℤ}
 use Rattle.std.specs.Ordering.{int_eq}
-use Rattle.eu_base.specs.declared.value.Kind.{Kind}
 use Rattle.eu_base.specs.declared.value.Kind.TheVariants as kinds
 use Rattle.eu_base.specs.declared.value.Value.{Value}
 use Rattle.eu_base.specs.declared.operation.Change.{Change}
@@ -10,7 +9,7 @@ use Rattle.eu_base.specs.Values.{IsOf, number_of, truth_of, cell_of}
 use Rattle.eu_base.specs.Operations.{Given, changed, put_request, line_request}
 use Rattle.eu_base.specs.Cells.{Cells, run_cell, written}
 use Rattle.code_form.specs.declared.operand.Operand.{Operand}
-use Rattle.code_form.specs.declared.operand.Operand.TheVariants.{Value as Of, Place as At}
+use Rattle.code_form.specs.declared.operand.Operand.TheVariants.{Value as Of}
 use Rattle.code_form.specs.declared.operand.OperandKind.{OperandKind}
 use Rattle.code_form.specs.declared.operand.OperandKind.TheVariants as operand
 use Rattle.code_form.specs.declared.instr.Instr.TheVariants.{Mark, Modify, Jump, False, When, Drop, Ask}
@@ -20,9 +19,9 @@ use Rattle.code_form.specs.Program.{Program, line_of}
 use Rattle.code_form.specs.Machine.{Control, Goes, at, or_halt, step}
 use Rattle.elan_types.specs.declared.core_phrase.Exit.{Exit}
 use Rattle.elan_types.specs.declared.core_phrase.PlacePhrase.{PlacePhrase}
-use Rattle.elan_types.specs.Eval.{Place, World, Outcome, Gives, bind, spend, ask, branch, or_stop, fetch, assign, modify, place, holding_place, Calls, Reach, Run, holds}
+use Rattle.elan_types.specs.Eval.{Place, World, Outcome, Gives, bind, spend, ask, branch, or_stop, fetch, assign, modify, place, holding_place, Calls, Run, holds}
 use Rattle.elan_types.specs.Command.{Ending}
-use Rattle.place_gen.specs.Stretch.{Stretch, one, keeps, pushes, join, if_code, whens, arm_code, place_code, modify_code}
+use Rattle.place_gen.specs.Stretch.{Stretch, one, keeps, join, if_code, whens, arm_code, place_code, modify_code}
 use Rattle.place_gen.specs.Correct.{Comes, scene_of}
 use Rattle.place_gen.proofs.Cells.{Uses, Keeps, reads}
 use Rattle.eu_base.proofs.Results.{changed_gives}

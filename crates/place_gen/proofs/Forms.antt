@@ -1,17 +1,15 @@
 -- What each form of phrase does, whatever its parts are.
-use Rattle.std.proofs.Common.{◌≡◌, ℕ, suc, ◌+◌, ◌≤◌, List, [], ◌∷◌, ◌++◌, length, drop, Option, Some, Bool, true, false, cond, refl, sym, ap, ◌∙◌, subst, arith, length-append}
-use Rattle.std.specs.Prelude.{slice_get, Ok, Err, ℤ}
+use Rattle.std.proofs.Common.{◌≡◌, ℕ, suc, ◌+◌, List, [], ◌∷◌, ◌++◌, length, drop, Option, Some, Bool, refl, ap, ◌∙◌, arith, length-append}
+use Rattle.std.specs.Prelude.{slice_get, ℤ}
 use Rattle.eu_base.specs.declared.value.Kind.{Kind}
 use Rattle.eu_base.specs.declared.value.Kind.TheVariants as kinds
 use Rattle.eu_base.specs.declared.value.Value.{Value}
 use Rattle.eu_base.specs.declared.value.Value.TheVariants as item
-use Rattle.eu_base.specs.declared.stop.Stop.TheVariants.{OperandRoom}
 use Rattle.eu_base.specs.declared.operation.Operation.{Operation}
-use Rattle.eu_base.specs.Values.{IsOf, cell_of, value_in}
+use Rattle.eu_base.specs.Values.{IsOf}
 use Rattle.eu_base.specs.Room.{value_bytes, place_bytes, bytes_fit}
 use Rattle.eu_base.specs.Operations.{operand_kinds, result_kind, result_of}
-use Rattle.eu_base.specs.Cells.{Cells, run_cell, place_in, written}
-use Rattle.code_form.specs.declared.halt.Halt.TheVariants as halts
+use Rattle.eu_base.specs.Cells.{Cells, run_cell}
 use Rattle.code_form.specs.declared.operand.Operand.{Operand}
 use Rattle.code_form.specs.declared.operand.Operand.TheVariants.{Value as Of, Place as At}
 use Rattle.code_form.specs.declared.operand.OperandKind.{OperandKind}
@@ -20,12 +18,12 @@ use Rattle.code_form.specs.declared.instr.Instr.{Instr}
 use Rattle.code_form.specs.declared.instr.Instr.TheVariants.{Number, Truth, Outer, Local, Param, Load, Store, Do}
 use Rattle.code_form.specs.declared.code.Spot.{Spot}
 use Rattle.code_form.specs.Program.{Program, frame_cells}
-use Rattle.code_form.specs.Machine.{Control, Move, Goes, Halts, at, goes, pushes as push_move, or_halt, on_values, base_of, bytes_on, bytes_of, operand_bytes, instruction, step}
+use Rattle.code_form.specs.Machine.{Control, Move, at, pushes as push_move, or_halt, on_values, base_of, bytes_on, bytes_of, instruction}
 use Rattle.elan_types.specs.declared.core_phrase.PlacePhrase.{PlacePhrase}
 use Rattle.elan_types.specs.declared.core_phrase.PlacePhrase.TheVariants as places
-use Rattle.elan_types.specs.Eval.{Place, Slot, slot_at, place_of, value_of, World, Outcome, Gives, Stopped, bind, branch, or_stop, fetch, assign, deliver, deliver_place, place, holding, holding_place, stored, Calls, Reach, Run, all, values}
-use Rattle.place_gen.specs.Stretch.{Stretch, none, one, pushes, join, place_instr, place_code, store_code}
-use Rattle.place_gen.proofs.Cells.{OfValue, OfPlace, Uses, Keeps, reads, refers}
+use Rattle.elan_types.specs.Eval.{Place, slot_at, place_of, Gives, bind, or_stop, fetch, assign, deliver, place, holding, holding_place, stored, Calls, Run, all, values}
+use Rattle.place_gen.specs.Stretch.{Stretch, none, one, pushes, join, place_code, store_code}
+use Rattle.place_gen.proofs.Cells.{Uses, reads, refers}
 use Rattle.eu_base.proofs.Results.{result_gives}
 use Rattle.place_gen.proofs.Carry.{HasAt, Any, OfKind, AtKind, use_of, reach, Carries, Stands, Within, stop_ends, then_carries, none_carries, reads_carries, write_ends, or_carries, here, ends_at, join_carries}
 

@@ -1,6 +1,6 @@
 -- What loops with a counter do, whatever their parts are. A limit has a cell meanwhile.
-use Rattle.std.proofs.Common.{◌≡◌, ℕ, suc, ◌+◌, ◌-◌, ◌<◌, ◌≤◌, List, [], ◌∷◌, ◌++◌, length, drop, Option, Some, None, Bool, true, false, cond, refl, sym, ap, ◌∙◌, subst, arith, length-append}
-use Rattle.std.specs.Prelude.{slice_get, ℤ, pos, nat_le}
+use Rattle.std.proofs.Common.{◌≡◌, ℕ, ◌+◌, ◌-◌, ◌<◌, ◌≤◌, List, [], ◌∷◌, ◌++◌, length, drop, Option, Some, None, Bool, true, false, cond, refl, sym, ap, ◌∙◌, subst, arith, length-append}
+use Rattle.std.specs.Prelude.{ℤ, pos}
 use Rattle.std.proofs.lemmas.Bool.{leb-true}
 use Rattle.std.proofs.lemmas.List.{get_or_append_left}
 use Rattle.std.proofs.lemmas.Option.{slice_get_within}
@@ -13,12 +13,12 @@ use Rattle.eu_base.specs.declared.value.Value.TheVariants as item
 use Rattle.eu_base.specs.declared.stop.Stop.TheVariants.{CellRoom}
 use Rattle.eu_base.specs.declared.operation.Way.{Way}
 use Rattle.eu_base.specs.Room.{cells_fit}
-use Rattle.eu_base.specs.Values.{IsOf, number_of, cell_of, value_in}
+use Rattle.eu_base.specs.Values.{IsOf, number_of, cell_of}
 use Rattle.eu_base.specs.Operations.{is_past}
 use Rattle.eu_base.specs.Cells.{Cells, run_cell, written}
 use Rattle.code_form.specs.declared.halt.Halt.TheVariants as halts
 use Rattle.code_form.specs.declared.operand.Operand.{Operand}
-use Rattle.code_form.specs.declared.operand.Operand.TheVariants.{Value as Of, Place as At}
+use Rattle.code_form.specs.declared.operand.Operand.TheVariants.{Value as Of}
 use Rattle.code_form.specs.declared.operand.OperandKind.{OperandKind}
 use Rattle.code_form.specs.declared.operand.OperandKind.TheVariants as operand
 use Rattle.code_form.specs.declared.instr.Instr.TheVariants.{Limit, Unlimit}
@@ -27,13 +27,13 @@ use Rattle.code_form.specs.Program.{Program, line_of, deeper}
 use Rattle.code_form.specs.Machine.{Control, Goes, Halts, at, using, base_of, step}
 use Rattle.elan_types.specs.declared.core_phrase.Exit.{Exit as Exit'}
 use Rattle.elan_types.specs.declared.core_phrase.PlacePhrase.{PlacePhrase}
-use Rattle.elan_types.specs.Eval.{Place, Slot, Taken, slot_at, value_of, World, Outcome, Gives, Stopped, bind, branch, fetch, place, holding_place, cut, Calls, Reach, Run, turns, step as step_on, step_to, limited, counted}
+use Rattle.elan_types.specs.Eval.{Place, Taken, value_of, World, Outcome, Gives, Stopped, bind, branch, fetch, place, holding_place, cut, Calls, Run, turns, step as step_on, step_to, limited, counted}
 use Rattle.elan_types.specs.Command.{Ending}
 use Rattle.place_gen.specs.Stretch.{Stretch, join, Exit, step_code, step_to_code, place_code, turns_code, limit_code, counted_code}
 use Rattle.place_gen.specs.Correct.{Comes, scene_of}
 use Rattle.place_gen.proofs.Cells.{Use, OfValue, OfLimit, Uses, Keeps, get_left, reads, cuts, extends_one}
 use Rattle.eu_base.proofs.Results.{fits_in_range}
-use Rattle.place_gen.proofs.Carry.{HasAt, has_front, has_rest, finish, finish_bind, Any, AtKind, use_of, reach, Ends, Exits, wider, Carries, Stands, Within, on_step, stop_comes, branch_carries, none_carries, here, ends_at, join_carries}
+use Rattle.place_gen.proofs.Carry.{HasAt, has_front, has_rest, finish, finish_bind, Any, AtKind, use_of, reach, Ends, wider, Carries, Stands, Within, on_step, stop_comes, branch_carries, none_carries, here, ends_at, join_carries}
 use Rattle.place_gen.proofs.Forms.{keep_place, IsValue, IsAction, HasPlace, join_sized, place_is}
 use Rattle.place_gen.proofs.Loops.{IsExit, Under, number_fits, turns_are, turns_sized}
 

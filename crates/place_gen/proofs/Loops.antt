@@ -1,5 +1,5 @@
 -- What loops do, whatever their parts are.
-use Rattle.std.proofs.Common.{◌≡◌, ℕ, suc, ◌+◌, ◌-◌, ◌≤◌, List, [], ◌∷◌, ◌++◌, length, drop, Option, Some, None, Bool, true, false, cond, refl, sym, ap, ◌∙◌, subst, arith, length-append}
+use Rattle.std.proofs.Common.{◌≡◌, ℕ, ◌+◌, ◌-◌, ◌≤◌, List, [], ◌∷◌, ◌++◌, length, drop, Option, Some, None, Bool, true, false, cond, refl, ap, ◌∙◌, subst, arith, length-append}
 use Rattle.std.specs.Prelude.{slice_get, not, ℤ, pos}
 use Rattle.std.specs.Int.{w16}
 use Rattle.std.specs.Int.RustNames.{FitsSigned}
@@ -12,7 +12,7 @@ use Rattle.eu_base.specs.Values.{IsOf, number_of, truth_of, cell_of, value_in}
 use Rattle.eu_base.specs.Operations.{has_reached, next_number}
 use Rattle.eu_base.specs.Cells.{Cells, run_cell, written}
 use Rattle.code_form.specs.declared.operand.Operand.{Operand}
-use Rattle.code_form.specs.declared.operand.Operand.TheVariants.{Value as Of, Place as At}
+use Rattle.code_form.specs.declared.operand.Operand.TheVariants.{Value as Of}
 use Rattle.code_form.specs.declared.operand.OperandKind.{OperandKind}
 use Rattle.code_form.specs.declared.operand.OperandKind.TheVariants as operand
 use Rattle.code_form.specs.declared.instr.Instr.TheVariants.{Mark, Number, Modify, Jump, False, Step}
@@ -21,14 +21,14 @@ use Rattle.code_form.specs.Program.{Program, line_of}
 use Rattle.code_form.specs.Machine.{Frame, Control, Goes, at, limit_in, step}
 use Rattle.elan_types.specs.declared.core_phrase.Exit.{Exit as Exit'}
 use Rattle.elan_types.specs.declared.core_phrase.PlacePhrase.{PlacePhrase}
-use Rattle.elan_types.specs.Eval.{Place, Slot, World, Outcome, Gives, bind, branch, fetch, assign, deliver, place, holding_place, modify, Calls, Reach, Run, turns, while_true, until_true, then_on, done, turn, go_on, step as step_on, step_to, step_from}
+use Rattle.elan_types.specs.Eval.{Place, Slot, World, Outcome, Gives, bind, branch, fetch, assign, deliver, place, holding_place, modify, Calls, Run, turns, while_true, until_true, then_on, done, turn, go_on, step as step_on, step_to, step_from}
 use Rattle.elan_types.specs.Command.{Ending}
-use Rattle.place_gen.specs.Stretch.{Stretch, none, one, pushes, join, Exit, stays, exit_join, while_code, until_code, step_code, step_to_code, turn_code, turns_code}
+use Rattle.place_gen.specs.Stretch.{Stretch, none, one, pushes, Exit, stays, exit_join, while_code, until_code, step_code, step_to_code, turn_code, turns_code}
 use Rattle.place_gen.specs.Correct.{Comes, scene_of}
 use Rattle.place_gen.proofs.Cells.{OfLimit, Uses, Keeps, reads, get_right, value_in-cell_of}
 use Rattle.eu_base.proofs.Results.{next_fits, fits_in_range}
-use Rattle.place_gen.proofs.Carry.{HasAt, has_front, has_rest, finish, Any, AtKind, reach, Ends, Carries, Within, less, on_step, lead_ends, then_carries, lead_carries, carries_lead, write_ends, branch_carries, none_carries, turns_carries, here, ends_at, join_carries}
-use Rattle.place_gen.proofs.Forms.{keep_place, IsValue, IsAction, HasPlace, join_sized, then_is, place_is, number_is}
+use Rattle.place_gen.proofs.Carry.{HasAt, has_front, has_rest, finish, Any, AtKind, reach, Ends, Carries, Within, less, on_step, lead_ends, then_carries, lead_carries, write_ends, branch_carries, none_carries, turns_carries, here, ends_at}
+use Rattle.place_gen.proofs.Forms.{keep_place, IsValue, IsAction, HasPlace, place_is, number_is}
 use Rattle.place_gen.proofs.Choices.{modify_carries}
 
 module _ (p : Program) (body : Option ℕ) where

@@ -1,19 +1,15 @@
 -- The code of a well typed phrase does what the phrase does.
-use Rattle.std.proofs.Common.{◌≡◌, ℕ, List, [], ◌∷◌, map, drop, Option, Some, None, Bool, true, false, ◌&&◌, refl, sym, ap, ◌∙◌, subst}
-use Rattle.std.specs.Prelude.{ℤ, pos, option_map}
+use Rattle.std.proofs.Common.{◌≡◌, List, [], ◌∷◌, map, Option, Some, None, Bool, true, false, ◌&&◌, refl, sym, ap, ◌∙◌, subst}
+use Rattle.std.specs.Prelude.{ℤ, option_map}
 use Rattle.eu_base.specs.declared.value.Kind.{Kind}
 use Rattle.eu_base.specs.declared.value.Kind.TheVariants as kinds
 use Rattle.eu_base.specs.declared.value.Value.{Value}
 use Rattle.eu_base.specs.declared.operation.Way.{Way}
-use Rattle.eu_base.specs.declared.value.Value.TheVariants as item
-use Rattle.eu_base.specs.Values.{number_of, truth_of}
 use Rattle.std.specs.Int.{w16}
 use Rattle.std.specs.Int.RustNames.{FitsSigned}
 use Rattle.eu_base.specs.Operations.{operand_kinds, result_kind}
 use Rattle.eu_base.proofs.Results.{fits_in_range}
 use Rattle.code_form.specs.declared.operand.Operand.{Operand}
-use Rattle.code_form.specs.declared.operand.OperandKind.{OperandKind}
-use Rattle.code_form.specs.declared.instr.Instr.TheVariants.{Mark, Truth, Drop}
 use Rattle.code_form.specs.Program.{Program}
 use Rattle.elan_types.specs.declared.elan_type.ElanType.{ElanType}
 use Rattle.elan_types.specs.declared.elan_type.ElanType.TheVariants as types
@@ -30,10 +26,10 @@ use Rattle.elan_types.specs.declared.core_phrase.ValueArm.{ValueArm}
 use Rattle.elan_types.specs.declared.core_phrase.Action.TheOpen as t
 use Rattle.elan_types.specs.declared.core_phrase.Action.TheOpen.{Action-F, Actual-F, ValuePhrase-F, Arm-F, ValueArm-F}
 use Rattle.elan_types.specs.declared.core_phrase.Action.TheFolds.{fold-Actual, fold-Arm, fold-ValueArm, ind-Action, ind-ValuePhrase, map-Action, map-Actual, map-ValuePhrase, map-Arm, map-ValueArm, fold-roll-Action, fold-roll-Actual, fold-roll-ValuePhrase, fold-roll-Arm, fold-roll-ValueArm}
-use Rattle.elan_types.specs.Typing.{Typed, Home, has, only_if, has_if_written, have, all_agree, all_true, type_in, kind_in, Taken, takes, take_all, given_as, is_none, place_type, type_of, is_typed, value_type_step, value_arm_type_step, actual_type_step, action_typed_step, arm_typed_step}
-use Rattle.elan_types.specs.Eval.{Run, Slot, Holds, Refers, Labelled, Gives, spend, bind, stored, turns, holds, branch, counted, place, all, values, actuals, selected, deliver, while_true, until_true, turn, go_on, act, value, action_step, actual_step, value_step, arm_step, value_arm_step}
-use Rattle.place_gen.specs.Stretch.{Stretch, Exit, none, one, keeps, pushes, if_code, join, stays, turns_code, store_code, all_code, arm_code, select_code, while_code, until_code, turn_code, counted_code, action_code, actual_code, value_code, action_code_step, actual_code_step, value_code_step, arm_code_step, value_arm_code_step, arm_code_of, value_arm_code}
-use Rattle.place_gen.specs.Layouts.{taken_as, parameter_kind}
+use Rattle.elan_types.specs.Typing.{Typed, Home, has, has_if_written, have, all_agree, all_true, type_in, kind_in, Taken, take_all, given_as, is_none, place_type, type_of, is_typed, value_type_step, value_arm_type_step, actual_type_step, action_typed_step, arm_typed_step}
+use Rattle.elan_types.specs.Eval.{Run, Slot, Labelled, bind, stored, turns, holds, branch, counted, all, values, selected, while_true, until_true, turn, go_on, act, value, action_step, actual_step, value_step, arm_step, value_arm_step}
+use Rattle.place_gen.specs.Stretch.{Stretch, none, join, stays, turns_code, store_code, all_code, arm_code, select_code, while_code, until_code, turn_code, counted_code, action_code, actual_code, value_code, action_code_step, actual_code_step, value_code_step, arm_code_step, value_arm_code_step, arm_code_of, value_arm_code}
+use Rattle.place_gen.specs.Layouts.{parameter_kind}
 use Rattle.place_gen.proofs.Cells.{Uses}
 use Rattle.place_gen.proofs.Carry.{Any, OfKind}
 use Rattle.place_gen.proofs.Forms.{Is, IsValue, IsAction, AllOf, pushed, keep, no_more, nothing_is, then_is, number_is, truth_is, place_is, load_is, store_is, no_values_are, more_values_are, apply_is}

@@ -1,5 +1,5 @@
 -- What it means that cells hold a store, and that the machine comes to rest as an ending says.
-use Rattle.std.specs.Prelude.{◌≡◌, ℕ, List, length, Option, Some, None, slice_get}
+use Rattle.std.specs.Prelude.{◌≡◌, ℕ, List, length, Some, slice_get}
 use Rattle.eu_base.specs.declared.value.Kind.{Kind}
 use Rattle.eu_base.specs.Values.{IsOf, cell_of}
 use Rattle.eu_base.specs.declared.value.Value.{Value}
@@ -8,7 +8,7 @@ use Rattle.code_form.specs.declared.halt.Halt.{Halt}
 use Rattle.code_form.specs.declared.halt.Halt.TheVariants as halts
 use Rattle.code_form.specs.Program.{Program}
 use Rattle.code_form.specs.Machine.{Control, Scene, Rest, exec}
-use Rattle.elan_types.specs.Eval.{Place, Slot, Holds, Refers, Taken, World}
+use Rattle.elan_types.specs.Eval.{Slot, Holds, Refers, Taken, World}
 use Rattle.elan_types.specs.Command.{Ending, Ended, Stopped, OutOfMarks, Asks}
 
 -- the number in a cell stands for what a slot has

@@ -1,5 +1,5 @@
 -- The cells of a body's frame, and what it delivers, as the tables of code have them.
-use Rattle.std.specs.Prelude.{List, map, Option, Some, None}
+use Rattle.std.specs.Prelude.{map, Option, Some, None}
 use Rattle.eu_base.specs.declared.value.Kind.{Kind}
 use Rattle.code_form.specs.declared.operand.OperandKind.{OperandKind}
 use Rattle.code_form.specs.declared.operand.OperandKind.TheVariants as operand
