@@ -1,10 +1,9 @@
 -- The code of bodies stands where the tables say, and does what the bodies do.
-use Rattle.std.proofs.Common.{◌≡◌, ℕ, zero, suc, ◌+◌, ◌≤◌, List, [], ◌∷◌, ◌++◌, map, length, drop, Option, Some, None, true, refl, sym, ap, ◌∙◌, subst, arith, length-append}
+use Rattle.std.proofs.Common.{◌≡◌, ℕ, zero, suc, ◌+◌, ◌≤◌, List, [], ◌∷◌, ◌++◌, map, length, drop, Option, Some, None, true, refl, sym, ap, ◌∙◌, subst, arith}
 use Rattle.std.specs.Prelude.{slice_get}
 use Rattle.eu_base.specs.declared.value.Kind.{Kind}
 use Rattle.eu_base.specs.declared.value.Value.{Value}
 use Rattle.eu_base.specs.Cells.{Cells}
-use Rattle.code_form.specs.declared.operand.Operand.TheVariants.{Value as Of}
 use Rattle.code_form.specs.declared.operand.OperandKind.{OperandKind}
 use Rattle.code_form.specs.declared.instr.Instr.{Instr}
 use Rattle.code_form.specs.declared.instr.Instr.TheVariants.{Back}
@@ -12,21 +11,21 @@ use Rattle.code_form.specs.declared.code.Line.{Line}
 use Rattle.code_form.specs.declared.code.Spot.{Spot}
 use Rattle.code_form.specs.declared.code.Entry.{Entry}
 use Rattle.code_form.specs.Program.{Program, line_of, in_body}
-use Rattle.code_form.specs.Machine.{Control, at, on_result, back_to, step}
+use Rattle.code_form.specs.Machine.{Control, at, on_result, back_to}
 use Rattle.elan_types.specs.declared.elan_type.ElanType.{ElanType}
 use Rattle.elan_types.specs.declared.core_phrase.Exit.{Exit}
 use Rattle.elan_types.specs.declared.core_phrase.Exit.TheVariants as exits
 use Rattle.elan_types.specs.declared.core_phrase.Content.{Content}
 use Rattle.elan_types.specs.declared.core_phrase.Content.TheVariants as contents
 use Rattle.elan_types.specs.declared.core_phrase.Body.{Body}
-use Rattle.elan_types.specs.Typing.{kind_in, type_of, has, is_content_typed}
-use Rattle.elan_types.specs.Eval.{World, Gives, all, act, value, content, Calls}
+use Rattle.elan_types.specs.Typing.{kind_in, has, is_content_typed}
+use Rattle.elan_types.specs.Eval.{World, Gives, all, act, value}
 use Rattle.elan_types.specs.Command.{Ending}
-use Rattle.place_gen.specs.Stretch.{Stretch, one, keeps, all_code, action_code, value_code, content_code}
+use Rattle.place_gen.specs.Stretch.{one, keeps, all_code, action_code, value_code, content_code}
 use Rattle.place_gen.specs.Correct.{scene_of}
 use Rattle.place_gen.specs.Layouts.{delivered_kind}
 use Rattle.place_gen.proofs.Cells.{Uses}
-use Rattle.place_gen.proofs.Carry.{HasAt, has_front, has_rest, finish, finish_bind, Result, result_ops, reach, Ends, Exits, Within, Delivers, on_step, here}
+use Rattle.place_gen.proofs.Carry.{HasAt, has_front, has_rest, finish_bind, Result, result_ops, reach, Ends, Exits, Delivers, on_step, here}
 use Rattle.place_gen.proofs.Forms.{IsSized, join_sized}
 use Rattle.place_gen.proofs.Typed.{HasTables, Matches, has_is}
 use Rattle.place_gen.proofs.Tree.{all_are, value_is}

@@ -1,25 +1,23 @@
 -- What the cells of a frame are for when a body is entered.
-use Rattle.std.proofs.Common.{◌≡◌, ℕ, suc, ◌+◌, ◌≤◌, List, [], ◌∷◌, ◌++◌, map, length, Some, refl, sym, ap, ◌∙◌, subst, arith, length-append}
-use Rattle.std.specs.Prelude.{slice_get, option_map, pos}
-use Rattle.std.proofs.lemmas.List.{length-map}
-use Rattle.std.proofs.lemmas.Option.{slice_get_within, slice_get-map}
+use Rattle.std.proofs.Common.{◌≡◌, ℕ, suc, ◌+◌, ◌≤◌, List, [], ◌∷◌, ◌++◌, map, length, refl, sym, ap, ◌∙◌, subst, arith}
+use Rattle.std.specs.Prelude.{pos}
+use Rattle.std.proofs.lemmas.Option.{slice_get_within}
 use Rattle.eu_base.specs.declared.value.Kind.{Kind}
 use Rattle.eu_base.specs.declared.value.Kind.TheVariants as kinds
-use Rattle.eu_base.specs.declared.value.Value.{Value}
 use Rattle.eu_base.specs.declared.value.Value.TheVariants as item
 use Rattle.eu_base.specs.Values.{IsOf, blank_of, cell_of}
-use Rattle.eu_base.specs.Cells.{Cells, run_cell}
+use Rattle.eu_base.specs.Cells.{run_cell}
 use Rattle.eu_base.proofs.Results.{fits_in_range}
 use Rattle.code_form.specs.declared.operand.Operand.{Operand}
 use Rattle.code_form.specs.declared.operand.Operand.TheVariants.{Value as Of, Place as At}
 use Rattle.code_form.specs.declared.operand.OperandKind.{OperandKind}
 use Rattle.code_form.specs.declared.operand.OperandKind.TheVariants as operand
 use Rattle.code_form.specs.Program.{Program}
-use Rattle.code_form.specs.Machine.{Control, Move, on_operands, number_of_operand, frame_numbers}
+use Rattle.code_form.specs.Machine.{Move, on_operands, number_of_operand, frame_numbers}
 use Rattle.elan_types.specs.declared.elan_type.ElanType.{ElanType}
 use Rattle.elan_types.specs.Typing.{kind_in}
-use Rattle.elan_types.specs.Eval.{Place, Slot, Holds, Refers, Taken, frame}
-use Rattle.place_gen.proofs.Cells.{Use, OfValue, OfPlace, OfNothing, Uses, Kept, AllKept}
+use Rattle.elan_types.specs.Eval.{Slot, Holds, Refers, Taken, frame}
+use Rattle.place_gen.proofs.Cells.{OfValue, OfNothing, Uses, Kept, AllKept}
 use Rattle.place_gen.proofs.Carry.{use_of, Takes, TakeAll, operand_of, pushed_slots}
 
 -- the operand of a slot; a cell that only counts has none, and no parameter takes it

@@ -1,7 +1,6 @@
 -- Calls of bodies do in the code what they do, since each costs a mark.
-use Rattle.std.proofs.Common.{◌≡◌, ℕ, zero, suc, ◌+◌, ◌<◌, ◌≤◌, List, [], ◌∷◌, ◌++◌, map, length, take, Option, Some, None, Bool, true, false, cond, refl, sym, ap, ◌∙◌, subst, arith, append_assoc, length-append}
+use Rattle.std.proofs.Common.{◌≡◌, ℕ, zero, suc, ◌+◌, ◌≤◌, List, [], ◌∷◌, ◌++◌, map, length, Option, Some, None, Bool, true, false, cond, refl, sym, ap, ◌∙◌, subst, arith, append_assoc, length-append}
 use Rattle.std.specs.Prelude.{slice_get, option_map}
-use Rattle.std.proofs.lemmas.List.{length-map}
 use Rattle.std.proofs.lemmas.Option.{slice_get-map}
 use Rattle.std.proofs.lemmas.Bool.{leb-true}
 use Rattle.eu_base.specs.declared.address.TheConstants.{CELLS}
@@ -16,12 +15,11 @@ use Rattle.code_form.specs.declared.operand.OperandKind.{OperandKind}
 use Rattle.code_form.specs.declared.operand.OperandKind.TheVariants as operand
 use Rattle.code_form.specs.declared.code.Spot.{Spot}
 use Rattle.code_form.specs.declared.code.Entry.{Entry}
-use Rattle.code_form.specs.declared.code.Layout.{Layout}
 use Rattle.code_form.specs.declared.code.Layout.TheVariants as layouts
 use Rattle.code_form.specs.declared.instr.Instr.TheVariants.{Call, Refer}
 use Rattle.code_form.specs.Program as tables
 use Rattle.code_form.specs.Program.{Program, line_of, in_body, owner, cells_in, frame_cells}
-use Rattle.code_form.specs.Machine.{Frame, Control, After as AfterMark, To, Stops, Spends, at, base_of, bytes_on, bytes_of, enters, calls_to, call_move, refer_move, on_operands, frame_numbers, link_numbers, after_stage, written_from, step}
+use Rattle.code_form.specs.Machine.{Control, To, Stops, Spends, at, base_of, bytes_on, bytes_of, enters, calls_to, call_move, refer_move, frame_numbers, link_numbers, after_stage, written_from, step}
 use Rattle.elan_types.specs.declared.core_phrase.Exit.{Exit}
 use Rattle.elan_types.specs.declared.core_phrase.Exit.TheVariants as exits
 use Rattle.elan_types.specs.declared.core_phrase.Scope.{Scope}
@@ -30,13 +28,12 @@ use Rattle.elan_types.specs.declared.core_phrase.Content.{Content}
 use Rattle.elan_types.specs.declared.core_phrase.Body.{Body}
 use Rattle.elan_types.specs.declared.elan_type.ElanType.{ElanType}
 use Rattle.elan_types.specs.Typing.{kind_in}
-use Rattle.elan_types.specs.Eval.{Slot, World, Outcome, Gives, Left, Stopped, OutOfMarks, Asks, branch, spend, with_room, cut, called, referred, content, frame, link, own_variables, run_called, run_referred, level, Calls, Reach}
-use Rattle.elan_types.specs.Command as endings
+use Rattle.elan_types.specs.Eval.{Slot, World, Outcome, Gives, Left, Stopped, OutOfMarks, Asks, branch, with_room, cut, called, referred, content, frame, link, own_variables, run_called, run_referred, level, Calls}
 use Rattle.elan_types.specs.Command.{Ending}
-use Rattle.place_gen.specs.Correct.{Comes, scene_of}
-use Rattle.place_gen.specs.Layouts.{parameter_kind, layout_of}
-use Rattle.place_gen.proofs.Cells.{Use, OfValue, OfNothing, Uses, Keeps, AllKept, image, get_left, get_right, cuts, extends}
-use Rattle.place_gen.proofs.Carry.{use_of, finish, Result, result_ops, reach, After, Ends, Exits, Carries, CallsCarry, Stands, Within, TakeAll, pushed_slots, Delivers, here, out_carries, spend_carries}
+use Rattle.place_gen.specs.Correct.{scene_of}
+use Rattle.place_gen.specs.Layouts.{layout_of}
+use Rattle.place_gen.proofs.Cells.{OfValue, Uses, Keeps, AllKept, image, get_left, get_right, cuts, extends}
+use Rattle.place_gen.proofs.Carry.{use_of, finish, Result, result_ops, reach, After, Ends, Exits, CallsCarry, Stands, Within, TakeAll, pushed_slots, Delivers, here, out_carries, spend_carries}
 use Rattle.place_gen.proofs.Typed.{HasTables, IsEntry, Matches}
 use Rattle.code_gen.proofs.Entered.{slot_operand, frame_uses, link_uses, all_taken, frame_kept, kept_lengths}
 

@@ -1,12 +1,12 @@
 -- A command that is run in pieces shows what it does.
-use Rattle.std.proofs.Common.{◌≡◌, ℕ, zero, suc, ◌+◌, List, [], ◌∷◌, ◌++◌, map, length, Option, Some, None, refl, sym, ap, ◌∙◌, subst, arith}
+use Rattle.std.proofs.Common.{◌≡◌, ℕ, zero, suc, ◌+◌, List, [], ◌∷◌, ◌++◌, map, length, Some, refl, sym, ap, ◌∙◌, subst, arith}
 use Rattle.std.specs.Prelude.{slice_get}
 use Rattle.std.proofs.lemmas.List.{length-map}
 use Rattle.eu_base.specs.declared.value.Kind.{Kind}
 use Rattle.eu_base.specs.declared.value.Kind.TheVariants as kinds
 use Rattle.eu_base.specs.declared.value.Value.{Value}
 use Rattle.eu_base.specs.declared.request.Reply.{Reply}
-use Rattle.eu_base.specs.Values.{IsOf, blank_of, cell_of}
+use Rattle.eu_base.specs.Values.{IsOf, blank_of}
 use Rattle.eu_base.specs.Cells.{Cells, IsBlank, run_cell}
 use Rattle.eu_base.proofs.Results.{fits_in_range}
 use Rattle.code_form.specs.Program.{Program}

@@ -1,6 +1,6 @@
 -- The code of a whole command does what the command does.
-use Rattle.std.proofs.Common.{◌≡◌, ℕ, zero, suc, ◌+◌, ◌≤◌, List, [], ◌∷◌, ◌++◌, map, length, Option, Some, None, Bool, true, false, not, refl, sym, ap, ◌∙◌, subst, arith}
-use Rattle.std.specs.Prelude.{slice_get, slice_index_or, option_map}
+use Rattle.std.proofs.Common.{◌≡◌, ℕ, ◌+◌, ◌≤◌, List, [], map, length, Option, Some, None, Bool, true, false, not, refl, sym, ap, ◌∙◌, subst, arith}
+use Rattle.std.specs.Prelude.{slice_get, option_map}
 use Rattle.std.proofs.lemmas.List.{length-map}
 use Rattle.std.proofs.lemmas.Bool.{leb-true}
 use Rattle.std.proofs.lemmas.Option.{slice_get-map, slice_get_within, slice_get-get_or}
@@ -9,12 +9,11 @@ use Rattle.eu_base.specs.declared.stop.Stop.TheVariants.{CellRoom}
 use Rattle.eu_base.specs.declared.value.Kind.{Kind}
 use Rattle.eu_base.specs.declared.value.Value.{Value}
 use Rattle.eu_base.specs.Room.{cells_fit}
-use Rattle.eu_base.specs.Values.{IsOf, cell_of}
 use Rattle.eu_base.specs.Cells.{Cells, run_cell}
 use Rattle.code_form.specs.declared.instr.Instr.TheVariants.{End}
 use Rattle.code_form.specs.declared.code.Entry.{Entry}
 use Rattle.code_form.specs.Program.{Program, at_level, in_body}
-use Rattle.code_form.specs.Machine.{Control, Rest, at, start}
+use Rattle.code_form.specs.Machine.{Control, at, start}
 use Rattle.code_form.proofs.Resume.{one_rest}
 use Rattle.elan_types.specs.declared.core_phrase.Body.{Body}
 use Rattle.elan_types.specs.declared.core_phrase.Core.{Core}
@@ -31,7 +30,7 @@ use Rattle.place_gen.proofs.Carry.{HasAt, has_front, has_rest, has_all, finish, 
 use Rattle.place_gen.proofs.Forms.{IsAction, join_sized}
 use Rattle.place_gen.proofs.Typed.{HasTables, IsEntry, Matches}
 use Rattle.place_gen.proofs.Tree.{all_are}
-use Rattle.code_gen.specs.Program.{level_code, entries, body_lines, program_of}
+use Rattle.code_gen.specs.Program.{level_code, body_lines, program_of}
 use Rattle.code_gen.specs.Correct.{Behaves}
 use Rattle.code_gen.proofs.Level.{ContentCarries, level_carries}
 use Rattle.code_gen.proofs.Bodies.{entries_match, body_has, content_sized, content_carries}
