@@ -24,10 +24,11 @@ use Rattle.elan_types.specs.Command.{Ending}
 use Rattle.place_gen.specs.Stretch.{one, keeps, all_code, action_code, value_code, content_code}
 use Rattle.place_gen.specs.Correct.{scene_of}
 use Rattle.place_gen.specs.Layouts.{delivered_kind}
+use Rattle.place_gen.proofs.Lines.{HasAt, has_front, has_rest, IsSized, join_sized}
+use Rattle.place_gen.proofs.Homes.{Delivers, Agrees, IsHome, has_is}
 use Rattle.place_gen.proofs.Cells.{Uses}
-use Rattle.place_gen.proofs.Carry.{HasAt, has_front, has_rest, finish_bind, Result, result_ops, reach, Ends, Exits, Delivers, on_step, here}
-use Rattle.place_gen.proofs.Forms.{IsSized, join_sized}
-use Rattle.place_gen.proofs.Typed.{HasTables, Matches, has_is}
+use Rattle.place_gen.proofs.Carry.{finish_bind, Result, result_ops, reach, Ends, Exits, on_step, here}
+
 use Rattle.place_gen.proofs.Tree.{all_are, value_is}
 use Rattle.code_gen.specs.Program.{entry_of, entries, body_lines}
 use Rattle.code_gen.proofs.Level.{ContentCarries}
@@ -35,12 +36,6 @@ use Rattle.code_gen.proofs.Level.{ContentCarries}
 append-[] : {A : Type 0} (l : List A) → l ++ [] ≡ l
 append-[] [] = refl
 append-[] (x ∷ l) = ap (λ l. x ∷ l) (append-[] l)
-
--- the entries of bodies are theirs
-pub entries_match : (bs : List Body) (at n : ℕ) → Matches (slice_get bs n) (slice_get (entries bs at) n)
-entries_match [] at n = tt
-entries_match (b ∷ bs) at zero = record { layout = refl; delivers = refl }
-entries_match (b ∷ bs) at (suc n) = entries_match bs (at + (content_code b.content).size) n
 
 abbrev pub IsContentSized : Content → Type 0
 IsContentSized con = (m : Spot) (at : ℕ) → length ((content_code con).lines [] m at) ≡ (content_code con).size
@@ -62,13 +57,13 @@ body_has lines (x ∷ bs) k at (suc n) b e sized has is entry =
     let h = has_rest lines at (content_code x.content).size ((content_code x.content).lines [] (in_body k) at) _ (sized 0 x refl (in_body k) at) has in
     subst (λ n. HasAt lines e.first ((content_code b.content).lines [] (in_body n) e.first)) n' (body_has lines bs (suc k) (at + (content_code x.content).size) n b e (λ n b. sized (suc n) b) h is entry)
 
-module _ (variables : List ElanType) (bodies : List Body) (p : Program) (made : HasTables variables bodies p) (q : ℕ) where
-  one_sized : (i : Instr) (f : List OperandKind → List OperandKind) → IsSized p (Some q) (one i f)
+module _ (p : Program) (variables : List ElanType) (bodies : List Body) (agrees : Agrees p variables bodies) (q : ℕ) (home : IsHome bodies (Some q)) where
+  one_sized : (i : Instr) (f : List OperandKind → List OperandKind) → IsSized (one i f)
   one_sized i f ks m pc = refl
 
   pub content_sized : (con : Content) → is_content_typed variables bodies (Some q) con ≡ true → IsContentSized con
-  content_sized (contents.Units us) e m at = join_sized p (Some q) (all_code (map action_code us)) (one (Back None) keeps) (all_are variables bodies p made (Some q) us e).sized (one_sized (Back None) keeps) [] m at
-  content_sized (contents.Value u a) e m at = join_sized p (Some q) (value_code a) (one (Back (Some (kind_in u))) (drop 1)) (value_is variables bodies p made (Some q) a u (has_is u _ e)).sized (one_sized (Back (Some (kind_in u))) (drop 1)) [] m at
+  content_sized (contents.Units us) e m at = join_sized (all_code (map action_code us)) (one (Back None) keeps) (all_are p variables bodies agrees (Some q) home us e).sized (one_sized (Back None) keeps) [] m at
+  content_sized (contents.Value u a) e m at = join_sized (value_code a) (one (Back (Some (kind_in u))) (drop 1)) (value_is p variables bodies agrees (Some q) home a u (has_is u _ e)).sized (one_sized (Back (Some (kind_in u))) (drop 1)) [] m at
 
   -- the end of a body is an exit from it
   back_ends : (b z : ℕ) (k : Option Kind) (v : Option Value) (ks : List OperandKind) (m : Spot) (L : Uses) (c : Control) (l : Exit → Option Value → World → Ending) → slice_get p.lines z ≡ Some (line_of (Back k) ks m) → Delivers p (Some q) k → Result k v → Exits p L b (Some q) c.frames l → (w : World) → w.marks ≤ b → Ends p L (at c z (result_ops v)) w (l exits.Body v w)
@@ -85,7 +80,7 @@ module _ (variables : List ElanType) (bodies : List Body) (p : Program) (made : 
   pub content_carries : (first : ℕ) (con : Content) → is_content_typed variables bodies (Some q) con ≡ true → HasAt p.lines first ((content_code con).lines [] (in_body q) first) → Delivers p (Some q) (delivered_kind con) → ContentCarries p q first con
   content_carries first (contents.Units us) e has gives =
       let f = all_code (map action_code us) in
-      let i = all_are variables bodies p made (Some q) us e in
+      let i = all_are p variables bodies agrees (Some q) home us e in
       let h = has_rest p.lines first f.size (f.lines [] (in_body q) first) _ (i.sized [] (in_body q) first) has in record {
         ends = λ calls n b L c le l hl w lw.
             subst (Ends p L (at c first []) w) (sym (finish_bind (all (map act us) (reach calls n c []) w) (λ _. Gives None) (l exits.Body) l))
@@ -93,7 +88,7 @@ module _ (variables : List ElanType) (bodies : List Body) (p : Program) (made : 
       }
   content_carries first (contents.Value u a) e has gives =
       let f = value_code a in
-      let i = value_is variables bodies p made (Some q) a u (has_is u _ e) in
+      let i = value_is p variables bodies agrees (Some q) home a u (has_is u _ e) in
       let h = has_rest p.lines first f.size (f.lines [] (in_body q) first) _ (i.sized [] (in_body q) first) has in record {
         ends = λ calls n b L c le l hl w lw.
             subst (Ends p L (at c first []) w) (sym (finish_bind (value a (reach calls n c []) w) (λ v. Gives (Some v)) (l exits.Body) l))

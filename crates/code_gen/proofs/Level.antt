@@ -32,9 +32,9 @@ use Rattle.elan_types.specs.Eval.{Slot, World, Outcome, Gives, Left, Stopped, Ou
 use Rattle.elan_types.specs.Command.{Ending}
 use Rattle.place_gen.specs.Correct.{scene_of}
 use Rattle.place_gen.specs.Layouts.{layout_of}
+use Rattle.place_gen.proofs.Homes.{Delivers}
 use Rattle.place_gen.proofs.Cells.{OfValue, Uses, Keeps, AllKept, image, get_left, get_right, cuts, extends}
-use Rattle.place_gen.proofs.Carry.{use_of, finish, Result, result_ops, reach, After, Ends, Exits, CallsCarry, Stands, Within, TakeAll, pushed_slots, Delivers, here, out_carries, spend_carries}
-use Rattle.place_gen.proofs.Typed.{HasTables, IsEntry, Matches}
+use Rattle.place_gen.proofs.Carry.{use_of, finish, Result, result_ops, reach, After, Ends, Exits, CallsCarry, Stands, Within, TakeAll, pushed_slots, here, out_carries, spend_carries}
 use Rattle.code_gen.proofs.Entered.{slot_operand, frame_uses, link_uses, all_taken, frame_kept, kept_lengths}
 
 -- what comes of a call, and of a reference, as what comes of the body
@@ -97,14 +97,14 @@ module _ (p : Program) where
   cut_ends : (L M more : Uses) (n : ℕ) (c : Control) (v : Option Value) (w : World) (k : Option Value → World → Ending) → n ≡ length L → Ends p L c (cut n w) (k v (cut n w)) → Ends p ((L ++ M) ++ more) c w (k v (cut n w))
   cut_ends L M more n c v w k is e cells keeps = e cells (cuts L (M ++ more) w.store cells n is (subst (λ U. Keeps U w.store cells) (append_assoc L M more) keeps))
 
-module _ (variables : List ElanType) (bodies : List Body) (p : Program) (made : HasTables variables bodies p) where
-  body_of : (q : ℕ) (e : Entry) → slice_get p.bodies q ≡ Some e → (b : Body) × (slice_get bodies q ≡ Some b) × IsEntry b e
-  body_of q e is = by (slice_get bodies q) refl (subst (λ o. Matches (slice_get bodies q) o) is (made.entries q))
-    where
-      by : (o : Option Body) → slice_get bodies q ≡ o → Matches (slice_get bodies q) (Some e) → (b : Body) × (slice_get bodies q ≡ Some b) × IsEntry b e
-      by None is' h = absurd (subst (λ o. Matches o (Some e)) is' h)
-      by (Some b) is' h = (b, is', subst (λ o. Matches o (Some e)) is' h)
+-- an entry of the tables is that of a body, whose code does what the body does
+pub record IsMade (p : Program) (bodies : List Body) (q : ℕ) (e : Entry) : Type 0 where
+  pub body : Body
+  pub is : slice_get bodies q ≡ Some body
+  pub layout : e.layout ≡ layout_of body.scope
+  pub carry : ContentCarries p q e.first body.content
 
+module _ (bodies : List Body) (p : Program) where
   own_is : (s : Scope) (ks : List OperandKind) (vs : List Kind) → layout_of s ≡ layouts.Own ks vs → map kind_in (own_variables s) ≡ vs
   own_is (scopes.Own ps us) ks vs e = cc
   own_is (scopes.Of q) ks vs e = let f : ⊥ = cc in absurd f
@@ -144,7 +144,7 @@ module _ (variables : List ElanType) (bodies : List Body) (p : Program) (made : 
         ap (λ z. slice_get (L ++ link_uses) (z + x)) base ∙ get_left L link_uses (base_of c.frames + x) (use_of k) (h.frame x k (ap (λ o. slice_get (cells_in p o) x) (sym owned) ∙ e));
   }
 
-  module _ (carry : (q : ℕ) (b : Body) (e : Entry) → slice_get bodies q ≡ Some b → slice_get p.bodies q ≡ Some e → ContentCarries p q e.first b.content) where
+  module _ (made : (q : ℕ) (e : Entry) → slice_get p.bodies q ≡ Some e → IsMade p bodies q e) where
     -- a PROC that is called, where calls in it do what they do
     call_ends : (n b pc q : ℕ) (L : Uses) (m : Spot) (c : Control) (ops : List Operand) (e : Entry) (ks : List OperandKind) (us : List ElanType) (args : List Slot) (con : Content) → CallsCarry p (level bodies n) n → b ≤ n → Stands p L m c → slice_get p.bodies q ≡ Some e → e.layout ≡ layouts.Own ks (map kind_in us) → TakeAll p ks L args → ContentCarries p q e.first con
         → (k : Option Value → World → Ending) (l : Exit → Option Value → World → Ending) → ((v : Option Value) (w : World) → Result e.delivers v → w.marks ≤ b → Ends p L (at c (pc + 1) (result_ops v ++ ops)) w (k v w)) → (w : World) → w.marks ≤ b → (cells : Cells) → Keeps L w.store cells
@@ -219,24 +219,24 @@ module _ (variables : List ElanType) (bodies : List Body) (p : Program) (made : 
     }
     level_carries (suc n) = record {
       call = λ L b pc q ks m c ops e parameters vs args le h has is own takes.
-          let x = body_of q e is in
-          let us = own_variables x.0.scope in
-          let vs_are : map kind_in us ≡ vs = own_is x.0.scope parameters vs (sym x.2.layout ∙ own) in
+          let x = made q e is in
+          let us = own_variables x.body.scope in
+          let vs_are : map kind_in us ≡ vs = own_is x.body.scope parameters vs (sym x.layout ∙ own) in
           let own' : e.layout ≡ layouts.Own parameters (map kind_in us) = own ∙ ap (layouts.Own parameters) (sym vs_are) in
           let held = bytes_on ops (bytes_of c.frames) in
           let now = at c pc (pushed_slots p args ops) in
           spend_carries p b now (λ cells. enters now e.first (c.used + 2) false ops (frame_numbers (map slot_operand args) (map kind_in us)) cells) (run_called (level bodies n) n (slice_get bodies q) args held) (λ v. at c (pc + 1) (result_ops v ++ ops)) (call_step pc q L ks m c ops e parameters (map kind_in us) args has is own' takes) (λ b' lt. record {
             by = λ k l hk hl w lw cells keeps.
-                subst (λ o. After p (after_stage (enters now e.first (c.used + 2) false ops (frame_numbers (map slot_operand args) (map kind_in us)) cells) now (scene_of w cells)) (finish (run_called (level bodies n) n o args held w) k l)) (sym x.1)
-                (call_ends n b' pc q L m c ops e parameters us args x.0.content (level_carries n) (omega (arith, le, lt)) h is own' takes (carry q x.0 e x.1 is) k l hk w lw cells keeps);
+                subst (λ o. After p (after_stage (enters now e.first (c.used + 2) false ops (frame_numbers (map slot_operand args) (map kind_in us)) cells) now (scene_of w cells)) (finish (run_called (level bodies n) n o args held w) k l)) (sym x.is)
+                (call_ends n b' pc q L m c ops e parameters us args x.body.content (level_carries n) (omega (arith, le, lt)) h is own' takes x.carry k l hk w lw cells keeps);
           });
       refer = λ L b pc q ks m c ops e le h has is owned.
-          let x = body_of q e is in
+          let x = made q e is in
           let held = bytes_on ops (bytes_of c.frames) in
           let now = at c pc ops in
           spend_carries p b now (λ cells. enters now e.first (base_of c.frames) true ops link_numbers cells) (run_referred (level bodies n) n (slice_get bodies q) (base_of c.frames) held) (λ v. at c (pc + 1) (result_ops v ++ ops)) (refer_step pc q ks m c ops e has is) (λ b' lt. record {
             by = λ k l hk hl w lw cells keeps.
-                subst (λ o. After p (after_stage (enters now e.first (base_of c.frames) true ops link_numbers cells) now (scene_of w cells)) (finish (run_referred (level bodies n) n o (base_of c.frames) held w) k l)) (sym x.1)
-                (refer_ends n b' pc q L m c ops e x.0.content (level_carries n) (omega (arith, le, lt)) h is owned (carry q x.0 e x.1 is) k l hk hl w lw cells keeps);
+                subst (λ o. After p (after_stage (enters now e.first (base_of c.frames) true ops link_numbers cells) now (scene_of w cells)) (finish (run_referred (level bodies n) n o (base_of c.frames) held w) k l)) (sym x.is)
+                (refer_ends n b' pc q L m c ops e x.body.content (level_carries n) (omega (arith, le, lt)) h is owned x.carry k l hk hl w lw cells keeps);
           });
     }

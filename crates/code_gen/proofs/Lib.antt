@@ -1,3 +1,4 @@
+pub mod Tables
 pub mod Entered
 pub mod Level
 pub mod Bodies

@@ -25,15 +25,17 @@ use Rattle.elan_types.specs.Command.{Ending, ending, from_level, evaluate_from}
 use Rattle.place_gen.specs.Stretch.{Stretch, one, keeps, all_code, action_code, content_code}
 use Rattle.place_gen.specs.Correct.{Image, HasVariables, Shows, Comes, scene_of}
 use Rattle.place_gen.specs.Layouts.{delivered_kind}
+use Rattle.place_gen.proofs.Lines.{HasAt, has_front, has_rest, has_all, join_sized}
+use Rattle.place_gen.proofs.Homes.{Delivers}
 use Rattle.place_gen.proofs.Cells.{Use, OfValue, Uses, Kept, Keeps}
-use Rattle.place_gen.proofs.Carry.{HasAt, has_front, has_rest, has_all, finish, Exits, Delivers, Stands, Within, stop_comes, end_ends, here}
-use Rattle.place_gen.proofs.Forms.{IsAction, join_sized}
-use Rattle.place_gen.proofs.Typed.{HasTables, IsEntry, Matches}
+use Rattle.place_gen.proofs.Carry.{finish, Exits, Stands, Within, stop_comes, end_ends, here}
+use Rattle.place_gen.proofs.Forms.{IsAction}
 use Rattle.place_gen.proofs.Tree.{all_are}
 use Rattle.code_gen.specs.Program.{level_code, body_lines, program_of}
 use Rattle.code_gen.specs.Correct.{Behaves}
-use Rattle.code_gen.proofs.Level.{ContentCarries, level_carries}
-use Rattle.code_gen.proofs.Bodies.{entries_match, body_has, content_sized, content_carries}
+use Rattle.code_gen.proofs.Tables.{agrees, entry_from, has_level, has_bodies}
+use Rattle.code_gen.proofs.Level.{IsMade, level_carries}
+use Rattle.code_gen.proofs.Bodies.{body_has, content_sized, content_carries}
 
 finish_ending : (o : Outcome (Unit {0})) → finish o (λ _ w. endings.Ended w) (λ e v w. endings.Ended w) ≡ ending o
 finish_ending (Gives a w) = refl
@@ -71,35 +73,23 @@ module _ (core : Core) (typed : IsWellTyped core) where
   abbrev units : Stretch
   units = all_code (map action_code core.units)
 
-  made : HasTables core.variables core.bodies p
-  made = record { same = refl; entries = λ n. entries_match core.bodies (level_code core).size n }
-
   -- the units of the level
   level_is : IsAction p None (all (map act core.units)) units
-  level_is = all_are core.variables core.bodies p made None core.units typed.typed
+  level_is = all_are p core.variables core.bodies (agrees core typed) None tt core.units typed.typed
 
-  level_sized : length ((level_code core).lines [] at_level 0) ≡ (level_code core).size
-  level_sized = join_sized p None units (one End keeps) level_is.sized (λ ks m pc. refl) [] at_level 0
-
-  has_level : HasAt p.lines 0 ((level_code core).lines [] at_level 0)
-  has_level = has_front p.lines 0 ((level_code core).lines [] at_level 0) _ (has_all p.lines [])
-
-  has_bodies : HasAt p.lines (level_code core).size (body_lines core.bodies 0 (level_code core).size)
-  has_bodies =
-      let n : 0 + (level_code core).size ≡ (level_code core).size = omega arith in
-      subst (λ n. HasAt p.lines n (body_lines core.bodies 0 (level_code core).size)) n (has_rest p.lines 0 (level_code core).size ((level_code core).lines [] at_level 0) _ level_sized (has_all p.lines []))
-
-  gives : (q : ℕ) (b : Body) (e : Entry) → slice_get core.bodies q ≡ Some b → slice_get p.bodies q ≡ Some e → Delivers p (Some q) (delivered_kind b.content)
-  gives q b e is entry =
-      let h : IsEntry b e = subst (λ o. Matches o (Some e)) is (subst (Matches (slice_get core.bodies q)) entry (made.entries q)) in
-      (e, entry, h.delivers)
-
-  carry : (q : ℕ) (b : Body) (e : Entry) → slice_get core.bodies q ≡ Some b → slice_get p.bodies q ≡ Some e → ContentCarries p q e.first b.content
-  carry q b e is entry =
-      let sized = λ (n : ℕ) (b : Body) (is : slice_get core.bodies n ≡ Some b). content_sized core.variables core.bodies p made n b.content (typed.bodies n b is) in
+  made : (q : ℕ) (e : Entry) → slice_get p.bodies q ≡ Some e → IsMade p core.bodies q e
+  made q e entry =
+      let x = entry_from core.bodies (level_code core).size q e entry in
+      let sized = λ (n : ℕ) (b : Body) (is : slice_get core.bodies n ≡ Some b). content_sized p core.variables core.bodies (agrees core typed) n (b, is) b.content (typed.bodies n b is) in
       let n : 0 + q ≡ q = omega arith in
-      let has = subst (λ n. HasAt p.lines e.first ((content_code b.content).lines [] (in_body n) e.first)) n (body_has p.lines core.bodies 0 (level_code core).size q b e sized has_bodies is entry) in
-      content_carries core.variables core.bodies p made q e.first b.content (typed.bodies q b is) has (gives q b e is entry)
+      let has = subst (λ n. HasAt p.lines e.first ((content_code x.0.content).lines [] (in_body n) e.first)) n (body_has p.lines core.bodies 0 (level_code core).size q x.0 e sized (has_bodies core typed) x.1.1 entry) in
+      let gives : Delivers p (Some q) (delivered_kind x.0.content) = (e, entry, ap (λ (e : Entry). e.delivers) x.1.2) in
+      record {
+        body = x.0;
+        is = x.1.1;
+        layout = ap (λ (e : Entry). e.layout) x.1.2;
+        carry = content_carries p core.variables core.bodies (agrees core typed) q (x.0, x.1.1) e.first x.0.content (typed.bodies q x.0 x.1.1) has gives;
+      }
 
   abbrev number : ℕ
   number = length p.variables
@@ -123,10 +113,10 @@ module _ (core : Core) (typed : IsWellTyped core) where
   runs w cells room keeps =
       let l = λ (e : Exit) (v : Option Value) (w : World). endings.Ended w in
       let q = 0 + units.size in
-      let within : Within p (level core.bodies w.marks) w.marks w.marks (level_uses p.variables) at_level free = record { turns = omega arith; stands = stands room; carry = level_carries core.variables core.bodies p made carry w.marks } in
-      let h = has_rest p.lines 0 units.size (units.lines [] at_level 0) _ (level_is.sized [] at_level 0) has_level in
+      let within : Within p (level core.bodies w.marks) w.marks w.marks (level_uses p.variables) at_level free = record { turns = omega arith; stands = stands room; carry = level_carries core.bodies p made w.marks } in
+      let h = has_rest p.lines 0 units.size (units.lines [] at_level 0) _ (level_is.sized [] at_level 0) (has_level core typed) in
       subst (Comes p free (scene_of w cells)) (finish_ending (all (map act core.units) (from_level core w.marks) w))
-      ((level_is.goes (level core.bodies w.marks) w.marks w.marks 0 (level_uses p.variables) [] at_level free [] refl within (has_front p.lines 0 (units.lines [] at_level 0) _ has_level)).by
+      ((level_is.goes (level core.bodies w.marks) w.marks w.marks 0 (level_uses p.variables) [] at_level free [] refl within (has_front p.lines 0 (units.lines [] at_level 0) _ (has_level core typed))).by
       (λ _ w. endings.Ended w) l
       (λ _ w' _ le. end_ends p (level_uses p.variables) (at free q []) w' (λ cells. here p q End (units.leaves []) at_level h.0 free [] cells))
       (no_exits w.marks l) w (omega arith) cells keeps)

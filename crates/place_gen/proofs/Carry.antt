@@ -33,36 +33,9 @@ use Rattle.elan_types.specs.Command as endings
 use Rattle.elan_types.specs.Command.{Ending}
 use Rattle.place_gen.specs.Stretch.{Stretch, join}
 use Rattle.place_gen.specs.Correct.{Shows, Comes, scene_of}
+use Rattle.place_gen.proofs.Lines.{HasAt, has_front, has_rest}
+use Rattle.place_gen.proofs.Homes.{Delivers}
 use Rattle.place_gen.proofs.Cells.{Use, OfValue, OfPlace, Uses, Keeps, image, writes}
-
--- these lines stand in the code at this place
-abbrev pub HasAt : List Line → ℕ → List Line → Type 0
-HasAt code pc [] = Unit {0}
-HasAt code pc (l ∷ ls) = (slice_get code pc ≡ Some l) × HasAt code (pc + 1) ls
-
-pub has_front : (code : List Line) (pc : ℕ) (a b : List Line) → HasAt code pc (a ++ b) → HasAt code pc a
-has_front code pc [] b h = tt
-has_front code pc (l ∷ a) b h = (h.0, has_front code (pc + 1) a b h.1)
-
-has_back : (code : List Line) (pc : ℕ) (a b : List Line) → HasAt code pc (a ++ b) → HasAt code (pc + length a) b
-has_back code pc [] b h = let e : pc ≡ pc + 0 = omega arith in subst (λ n. HasAt code n b) e h
-has_back code pc (l ∷ a) b h =
-    let e : pc + 1 + length a ≡ pc + length (l ∷ a) = omega arith in
-    subst (λ n. HasAt code n b) e (has_back code (pc + 1) a b h.1)
-
--- what stands behind so many lines
-pub has_rest : (code : List Line) (pc n : ℕ) (a b : List Line) → length a ≡ n → HasAt code pc (a ++ b) → HasAt code (pc + n) b
-has_rest code pc n a b e h = subst (λ n. HasAt code (pc + n) b) e (has_back code pc a b h)
-
-pub has_all : (is pre : List Line) → HasAt (pre ++ is) (length pre) is
-has_all [] pre = tt
-has_all (i ∷ is) pre =
-    let within : length pre < length (pre ++ i ∷ is) = omega (arith, length-append pre (i ∷ is)) in
-    let here = slice_get-get_or (pre ++ i ∷ is) (length pre) i within ∙ ap Some (get_or-append_seam pre i is i) in
-    let n : length (pre ++ i ∷ []) ≡ length pre + 1 = omega (arith, length-append pre (i ∷ [])) in
-    let rest = has_all is (pre ++ i ∷ []) in
-    let rest' = subst (λ l. HasAt l (length (pre ++ i ∷ [])) is) (append_assoc pre (i ∷ []) is) rest in
-    (here, subst (λ m. HasAt (pre ++ i ∷ is) m is) n rest')
 
 -- what an outcome goes on to, after a result and by an exit
 abbrev pub finish : {A : Type 0} → Outcome A → (A → World → Ending) → (Exit → Option Value → World → Ending) → Ending
@@ -162,15 +135,10 @@ module _ (p : Program) where
   pub write_ends : {L : Uses} (c c' : Control) (w : World) (x : Place) (k : Kind) (v : Value) (e : Ending) (cells : Cells) → AtKind k L x → IsOf k v → Keeps L w.store cells → step p c cells ≡ Goes c' (written cells (run_cell x.variable) (cell_of v)) → Ends L c' (assign x v w) e → Comes p c (scene_of w cells) e
   write_ends {L} c c' w x k v e cells is ok h m a = on_step c c' (scene_of w cells) (written cells (run_cell x.variable) (cell_of v)) e m (a _ (writes L w.store cells x.variable k v h is ok))
 
-  -- what is delivered by the body of this number, and by the PROC whose cells it uses
-  abbrev pub Delivers : Option ℕ → Option Kind → Type 0
-  Delivers None k = ⊥
-  Delivers (Some n) k = (e : Entry) × (slice_get p.bodies n ≡ Some e) × (e.delivers ≡ k)
-
   -- where a body is left, the machine goes to the frame below, and on as the exit says, whatever cells were taken meanwhile
   pub record Exits (L : Uses) (b : ℕ) (body : Option ℕ) (fs : List Frame) (l : Exit → Option Value → World → Ending) : Type 0 where
-    pub self : (k : Option Kind) → Delivers body k → (more : Uses) (v : Option Value) (w : World) → Result k v → w.marks ≤ b → (c' : Control) × ((cells : Cells) → back_to (result_ops v) fs cells ≡ Goes c' cells) × Ends (L ++ more) c' w (l exits.Body v w)
-    pub around : (k : Option Kind) → Delivers (owner p body) k → (more : Uses) (v : Option Value) (w : World) → Result k v → w.marks ≤ b → (c' : Control) × ((cells : Cells) → out_to (result_ops v) fs cells ≡ Goes c' cells) × Ends (L ++ more) c' w (l exits.Around v w)
+    pub self : (k : Option Kind) → Delivers p body k → (more : Uses) (v : Option Value) (w : World) → Result k v → w.marks ≤ b → (c' : Control) × ((cells : Cells) → back_to (result_ops v) fs cells ≡ Goes c' cells) × Ends (L ++ more) c' w (l exits.Body v w)
+    pub around : (k : Option Kind) → Delivers p (owner p body) k → (more : Uses) (v : Option Value) (w : World) → Result k v → w.marks ≤ b → (c' : Control) × ((cells : Cells) → out_to (result_ops v) fs cells ≡ Goes c' cells) × Ends (L ++ more) c' w (l exits.Around v w)
 
   pub fewer : {L : Uses} {b b' : ℕ} {body : Option ℕ} {fs : List Frame} {l : Exit → Option Value → World → Ending} → b' ≤ b → Exits L b body fs l → Exits L b' body fs l
   fewer le h = record { self = λ k d more v w r m. h.self k d more v w r (omega (arith, le, m)); around = λ k d more v w r m. h.around k d more v w r (omega (arith, le, m)) }

@@ -23,10 +23,12 @@ use Rattle.elan_types.specs.Eval.{Place, World, Outcome, Gives, bind, spend, ask
 use Rattle.elan_types.specs.Command.{Ending}
 use Rattle.place_gen.specs.Stretch.{Stretch, one, keeps, join, if_code, whens, arm_code, place_code, modify_code}
 use Rattle.place_gen.specs.Correct.{Comes, scene_of}
+use Rattle.place_gen.proofs.Lines.{HasAt, has_front, has_rest, join_sized}
+use Rattle.place_gen.proofs.Homes.{HasPlace}
 use Rattle.place_gen.proofs.Cells.{Uses, Keeps, reads}
 use Rattle.eu_base.proofs.Results.{changed_gives}
-use Rattle.place_gen.proofs.Carry.{HasAt, has_front, has_rest, finish, Any, AtKind, reach, Ends, Carries, Within, less, stop_comes, then_carries, lead_carries, carries_lead, write_ends, branch_carries, mark_carries, ask_carries, none_carries, here, ends_at, join_carries}
-use Rattle.place_gen.proofs.Forms.{keep_place, Is, IsValue, IsAction, HasPlace, join_sized, place_is}
+use Rattle.place_gen.proofs.Carry.{finish, Any, AtKind, reach, Ends, Carries, Within, less, stop_comes, then_carries, lead_carries, carries_lead, write_ends, branch_carries, mark_carries, ask_carries, none_carries, here, ends_at, join_carries}
+use Rattle.place_gen.proofs.Forms.{keep_place, Is, IsValue, IsAction, place_is}
 
 module _ (p : Program) (body : Option ℕ) where
   pub if_is : {A : Type 0} {Good : Uses → A → Type 0} {push : A → List Operand → List Operand} {t : Run Value} {x y : Run A} {f g h : Stretch} → IsValue p body kinds.Truth t f → Is p body Good push x g → Is p body Good push y h → Is p body Good push (λ r w. bind (t r w) (λ v. branch (truth_of v) (x r) (y r))) (if_code f g h)
@@ -59,7 +61,7 @@ module _ (p : Program) (body : Option ℕ) where
 
   pub otherwise_is : {A : Type 0} {Good : Uses → A → Type 0} {push : A → List Operand → List Operand} {x : Run A} {f : Stretch} → Is p body Good push x f → IsChoice Good push (λ z. x) (join (one Drop (drop 1)) f)
   otherwise_is {A} {Good} {push} {x} {f} i = record {
-    sized = join_sized p body (one Drop (drop 1)) f (λ ks m pc. refl) i.sized;
+    sized = join_sized (one Drop (drop 1)) f (λ ks m pc. refl) i.sized;
     goes = λ calls n b pc L ks m c v ops home le has. let r = reach calls n c ops in
         ends_at p b (at c pc (Of v ∷ ops)) c (x r) (pc + 1 + f.size) (pc + (1 + f.size)) (λ a. push a ops) (omega arith)
         (lead_carries p b (at c pc (Of v ∷ ops)) (at c (pc + 1) ops) (x r) (λ a. at c (pc + 1 + f.size) (push a ops)) (λ cells. here p pc Drop ks m has.0 c (Of v ∷ ops) cells) (i.goes calls n b (pc + 1) L (drop 1 ks) m c ops home le has.1));
@@ -101,14 +103,14 @@ module _ (p : Program) (body : Option ℕ) where
 
   pub select_is : {A : Type 0} {Good : Uses → A → Type 0} {push : A → List Operand → List Operand} {t : Run Value} {y : ℤ → Run A} {f g : Stretch} → IsValue p body kinds.Int t f → IsChoice Good push y g → Is p body Good push (λ r w. bind (t r w) (λ v. y (number_of v) r)) (join f g)
   select_is {A} {Good} {push} {t} {y} {f} {g} i j = record {
-    sized = join_sized p body f g i.sized j.sized;
+    sized = join_sized f g i.sized j.sized;
     goes = λ calls n b pc L ks m c ops home le has. let r = reach calls n c ops in join_carries p f g b pc ks m c ops (t r) (λ v. y (number_of v) r) (λ v. Of v ∷ ops) (λ a. push a ops) i.sized has (λ h. i.goes calls n b pc L ks m c ops home le h) (λ h v ok. j.goes calls n b (pc + f.size) L (f.leaves ks) m c v ops home le h);
   }
 
   -- a mark before a phrase
   pub unit_is : {A : Type 0} {Good : Uses → A → Type 0} {push : A → List Operand → List Operand} {x : Run A} {f : Stretch} → Is p body Good push x f → Is p body Good push (λ r. spend (x r)) (join (one Mark keeps) f)
   unit_is {A} {Good} {push} {x} {f} i = record {
-    sized = join_sized p body (one Mark keeps) f (λ ks m pc. refl) i.sized;
+    sized = join_sized (one Mark keeps) f (λ ks m pc. refl) i.sized;
     goes = λ calls n b pc L ks m c ops home le has. let r = reach calls n c ops in
         ends_at p b (at c pc ops) c (spend (x r)) (pc + 1 + f.size) (pc + (1 + f.size)) (λ a. push a ops) (omega arith)
         (mark_carries p b (at c pc ops) (at c (pc + 1) ops) (x r) (λ a. at c (pc + 1 + f.size) (push a ops)) (λ cells. here p pc Mark ks m has.0 c ops cells) (λ b' lt. i.goes calls n b' (pc + 1) L ks m c ops home (less p le (omega arith)) has.1));
@@ -135,7 +137,7 @@ module _ (p : Program) (body : Option ℕ) where
   modify_is {t} {f} change q is i =
       let g = one (Modify change) (drop 2) in
       let j = place_is p body q kinds.Int is in record {
-        sized = join_sized p body (place_code q kinds.Int) (join f g) j.sized (join_sized p body f g i.sized (λ ks m pc. refl));
+        sized = join_sized (place_code q kinds.Int) (join f g) j.sized (join_sized f g i.sized (λ ks m pc. refl));
         goes = λ calls n b pc L ks m c ops home le has. join_carries p (place_code q kinds.Int) (join f g) b pc ks m c ops (place q (reach calls n c ops)) (λ x w. bind (t (holding_place (reach calls n c ops)) w) (λ v. modify change x (number_of v) (tt {0}))) (λ x. keep_place x ops) (λ _. ops) j.sized has (λ h. j.goes calls n b pc L ks m c ops home le h) (λ h x at_x.
             join_carries p f g b (pc + 1) (operand.Place kinds.Int ∷ ks) m c (keep_place x ops) (t (reach calls n c (keep_place x ops))) (λ v. modify change x (number_of v) (tt {0})) (λ v. Of v ∷ keep_place x ops) (λ _. ops) i.sized h (λ h. i.goes calls n b (pc + 1) L (operand.Place kinds.Int ∷ ks) m c (keep_place x ops) home le h) (λ h v ok.
             modify_carries change x v (tt {0}) b (pc + 1 + f.size) (f.leaves (operand.Place kinds.Int ∷ ks)) m c ops (λ _. at c (pc + 1 + f.size + 1) ops) refl at_x h));
@@ -150,7 +152,7 @@ module _ (p : Program) (body : Option ℕ) where
   pub put_is : {t : Run Value} {f : Stretch} → IsValue p body kinds.Int t f → IsAction p body (λ r w. bind (t r w) (λ v. ask (put_request (number_of v)) (λ _. Gives tt))) (join f (one (Ask requests.PutNumber) (drop 1)))
   put_is {t} {f} i =
       let g = one (Ask requests.PutNumber) (drop 1) in record {
-        sized = join_sized p body f g i.sized (λ ks m pc. refl);
+        sized = join_sized f g i.sized (λ ks m pc. refl);
         goes = λ calls n b pc L ks m c ops home le has. join_carries p f g b pc ks m c ops (t (reach calls n c ops)) (λ v. ask (put_request (number_of v)) (λ _. Gives (tt {0}))) (λ v. Of v ∷ ops) (λ _. ops) i.sized has (λ h. i.goes calls n b pc L ks m c ops home le h) (λ h v ok.
             let q = pc + f.size in
             ask_carries p b (put_request (number_of v)) (at c q (Of v ∷ ops)) (record (at c (q + 1) ops) { waits = Some (put_request (number_of v)) }) (λ _. Gives (tt {0})) (λ _. at c (q + 1) ops) (λ cells. here p q (Ask requests.PutNumber) (f.leaves ks) m h.0 c (Of v ∷ ops) cells) (λ cells. refl) (λ b' r lt. none_carries p b' tt (λ _. at c (q + 1) ops) tt));

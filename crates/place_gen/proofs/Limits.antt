@@ -31,10 +31,12 @@ use Rattle.elan_types.specs.Eval.{Place, Taken, value_of, World, Outcome, Gives,
 use Rattle.elan_types.specs.Command.{Ending}
 use Rattle.place_gen.specs.Stretch.{Stretch, join, Exit, step_code, step_to_code, place_code, turns_code, limit_code, counted_code}
 use Rattle.place_gen.specs.Correct.{Comes, scene_of}
+use Rattle.place_gen.proofs.Lines.{HasAt, has_front, has_rest, join_sized}
+use Rattle.place_gen.proofs.Homes.{HasPlace}
 use Rattle.place_gen.proofs.Cells.{Use, OfValue, OfLimit, Uses, Keeps, get_left, reads, cuts, extends_one}
 use Rattle.eu_base.proofs.Results.{fits_in_range}
-use Rattle.place_gen.proofs.Carry.{HasAt, has_front, has_rest, finish, finish_bind, Any, AtKind, use_of, reach, Ends, wider, Carries, Stands, Within, on_step, stop_comes, branch_carries, none_carries, here, ends_at, join_carries}
-use Rattle.place_gen.proofs.Forms.{keep_place, IsValue, IsAction, HasPlace, join_sized, place_is}
+use Rattle.place_gen.proofs.Carry.{finish, finish_bind, Any, AtKind, use_of, reach, Ends, wider, Carries, Stands, Within, on_step, stop_comes, branch_carries, none_carries, here, ends_at, join_carries}
+use Rattle.place_gen.proofs.Forms.{keep_place, IsValue, IsAction, place_is}
 use Rattle.place_gen.proofs.Loops.{IsExit, Under, number_fits, turns_are, turns_sized}
 
 module _ (p : Program) (body : Option ℕ) where
@@ -113,7 +115,7 @@ module _ (p : Program) (body : Option ℕ) where
       let y = place_is p body q kinds.Int is in
       let zero_fits : FitsSigned w16 (pos 0) = fits_in_range (pos 0) refl in
       let g_sized = limit_sized way ts (turns_sized p body (j (pos 0) zero_fits)) in record {
-        sized = join_sized p body (place_code q kinds.Int) (join f g) y.sized (join_sized p body f g i.sized g_sized);
+        sized = join_sized (place_code q kinds.Int) (join f g) y.sized (join_sized f g i.sized g_sized);
         goes = λ calls n b pc L ks m c ops home le has.
             let r = reach calls n c ops in
             let rest = λ (x : Place) (v : Value). limited x way (number_of v) (turn' (step_to q way (number_of v))) r in

@@ -25,10 +25,12 @@ use Rattle.elan_types.specs.Eval.{Place, Slot, World, Outcome, Gives, bind, bran
 use Rattle.elan_types.specs.Command.{Ending}
 use Rattle.place_gen.specs.Stretch.{Stretch, none, one, pushes, Exit, stays, exit_join, while_code, until_code, step_code, step_to_code, turn_code, turns_code}
 use Rattle.place_gen.specs.Correct.{Comes, scene_of}
+use Rattle.place_gen.proofs.Lines.{HasAt, has_front, has_rest}
+use Rattle.place_gen.proofs.Homes.{HasPlace}
 use Rattle.place_gen.proofs.Cells.{OfLimit, Uses, Keeps, reads, get_right, value_in-cell_of}
 use Rattle.eu_base.proofs.Results.{next_fits, fits_in_range}
-use Rattle.place_gen.proofs.Carry.{HasAt, has_front, has_rest, finish, Any, AtKind, reach, Ends, Carries, Within, less, on_step, lead_ends, then_carries, lead_carries, write_ends, branch_carries, none_carries, turns_carries, here, ends_at}
-use Rattle.place_gen.proofs.Forms.{keep_place, IsValue, IsAction, HasPlace, place_is, number_is}
+use Rattle.place_gen.proofs.Carry.{finish, Any, AtKind, reach, Ends, Carries, Within, less, on_step, lead_ends, then_carries, lead_carries, write_ends, branch_carries, none_carries, turns_carries, here, ends_at}
+use Rattle.place_gen.proofs.Forms.{keep_place, IsValue, IsAction, place_is, number_is}
 use Rattle.place_gen.proofs.Choices.{modify_carries}
 
 module _ (p : Program) (body : Option ℕ) where

@@ -37,12 +37,12 @@ use Rattle.place_gen.proofs.Choices.{if_is, IsChoice, otherwise_is, arm_is, sele
 use Rattle.place_gen.proofs.Calls.{IsActual, AreActuals, value_actual, place_actual, no_actuals_are, more_actuals_are, call_value_is, call_action_is, refer_value_is, refer_action_is, leave_is, leave_with_is}
 use Rattle.place_gen.proofs.Loops.{IsExit, Under, while_none, while_some, until_none, until_some, go_on_is, turn_is, loop_is, step_is, step_to_is}
 use Rattle.place_gen.proofs.Limits.{counted_none_is, counted_some_is}
-use Rattle.place_gen.proofs.Typed.{HasTables, only_if_is, both, has_is, agree_is, kind_type, takes_is, has_place, proc_is, refined_is, left_without, left_with}
+use Rattle.place_gen.proofs.Homes.{Agrees, IsHome, place_is as has_place, proc_is, part_is, left_is, only_if_is, both, has_is, agree_is, kind_type, takes_is, without_is, with_is, none_is}
 
 abbrev fst : {A : Type 0} {B : A → Type 0} → (a : A) × B a → A
 fst x = x.0
 
-module _ (variables : List ElanType) (bodies : List Body) (p : Program) (made : HasTables variables bodies p) (home : Home) where
+module _ (p : Program) (variables : List ElanType) (bodies : List Body) (agrees : Agrees p variables bodies) (home : Home) (is_home : IsHome bodies home) where
   abbrev typed : Action → Bool
   typed = is_typed variables bodies home
 
@@ -178,9 +178,9 @@ module _ (variables : List ElanType) (bodies : List Body) (p : Program) (made : 
       → ActionOk (counted q way (run_if limit) (turn (run_if w) (runs us) (run_if u))) (counted_code q way (code_if limit) (turn_code (code_if w) (codes us) (code_if u)))
   counted_is q way None w us u is e ew eus eu =
       counted_none_is p home (turn (run_if w) (runs us) (run_if u)) (turn_code (code_if w) (codes us) (code_if u)) q way
-      (turn_is p home (run_if w) (run_if u) (code_if w) (code_if u) (while_is (λ _. Unit {0}) w ew) (actions_are us eus) (until_is (λ _. Unit {0}) u eu) (step_is p home (λ _. Unit {0}) q (has_place variables bodies p made home q types.Int is)))
+      (turn_is p home (run_if w) (run_if u) (code_if w) (code_if u) (while_is (λ _. Unit {0}) w ew) (actions_are us eus) (until_is (λ _. Unit {0}) u eu) (step_is p home (λ _. Unit {0}) q (has_place p variables bodies agrees home is_home q types.Int is)))
   counted_is q way (Some a) w us u is e ew eus eu =
-      let at' = has_place variables bodies p made home q types.Int is in
+      let at' = has_place p variables bodies agrees home is_home q types.Int is in
       counted_some_is p home (turn (run_if w) (runs us) (run_if u)) (turn_code (code_if w) (codes us) (code_if u)) q way at' (a.1 types.Int (has_is types.Int _ e)) (λ (limit : ℤ) (fits : FitsSigned w16 limit).
       turn_is p home (run_if w) (run_if u) (code_if w) (code_if u) (while_is (Under p home limit) w ew) (actions_are us eus) (until_is (Under p home limit) u eu) (step_to_is p home q way limit at' fits))
 
@@ -194,7 +194,7 @@ module _ (variables : List ElanType) (bodies : List Body) (p : Program) (made : 
       let f3 = both _ _ f2.1 in
       let f4 = both _ _ f3.1 in
       let is = has_is types.Int _ f0.0 in
-      then_is p home (store_is p home q kinds.Int (has_place variables bodies p made home q types.Int is) (from.1 types.Int (has_is types.Int _ f1.0))) (counted_is q way limit w us u is f2.0 f3.0 f4.0 f4.1)
+      then_is p home (store_is p home q kinds.Int (has_place p variables bodies agrees home is_home q types.Int is) (from.1 types.Int (has_is types.Int _ f1.0))) (counted_is q way limit w us u is f2.0 f3.0 f4.0 f4.1)
 
   -- what is known of the layer of a phrase, where its parts are known
   abbrev Known : (Type 0 → Type 0 → Type 0 → Type 0 → Type 0 → Type 0) → Type 0
@@ -213,7 +213,7 @@ module _ (variables : List ElanType) (bodies : List Body) (p : Program) (made : 
   value_parts (t.Truth b) u e = of_type types.Bool u e (truth_is p home b)
   value_parts (t.Load q v) u e =
       let f = only_if_is _ _ u e in
-      of_type v u f.1 (load_is p home q (kind_in v) (has_place variables bodies p made home q v (has_is v _ f.0)))
+      of_type v u f.1 (load_is p home q (kind_in v) (has_place p variables bodies agrees home is_home q v (has_is v _ f.0)))
   value_parts (t.Apply op es) u e =
       let f = only_if_is _ _ u e in
       of_type (type_in (result_kind op)) u f.1 (of_kind (sym (kind_type (result_kind op))) (apply_is p home (map value (map fst es)) op (values_are (operand_kinds op) es f.0)))
@@ -238,13 +238,13 @@ module _ (variables : List ElanType) (bodies : List Body) (p : Program) (made : 
   value_parts (t.ValuePhrase::Call q as' v) u e =
       let f = only_if_is _ _ u e in
       let g = both _ _ f.0 in
-      let x = proc_is variables bodies p made q _ g.0 in
-      of_type v u f.1 (call_value_is p home q x.entry (map parameter_kind x.formals) (map kind_in x.own_variables) (kind_in v) (map actual_run (map fst as')) (map actual_code (map fst as')) x.is x.layout (x.delivers ∙ ap (option_map kind_in) (has_is v _ g.1)) (actuals_are x.formals as' x.taken))
+      let x = proc_is p variables bodies agrees q _ (Some v) g.0 (has_is v _ g.1) in
+      of_type v u f.1 (call_value_is p home q x.entry (map parameter_kind x.parameters) x.cells (kind_in v) (map actual_run (map fst as')) (map actual_code (map fst as')) x.has x.own x.delivers (actuals_are x.parameters as' x.takes))
   value_parts (t.ValuePhrase::Refer q v) u e =
       let f = only_if_is _ _ u e in
       let g = both _ _ f.0 in
-      let x = refined_is variables bodies p made home q g.0 in
-      of_type v u f.1 (refer_value_is p home q x.entry (kind_in v) x.is x.owned (x.delivers ∙ ap (option_map kind_in) (has_is v _ g.1)))
+      let x = part_is p variables bodies agrees q home is_home (Some v) g.0 (has_is v _ g.1) in
+      of_type v u f.1 (refer_value_is p home q x.entry (kind_in v) x.has x.owned x.delivers)
 
   given_is : (access : Access) (a : Typed) (f : Formal) → given_as access a ≡ Some f → (u : ElanType) × (a ≡ Some u) × (record { of = u; access = access } ≡ f)
   given_is access None f e = let g : ⊥ = cc in absurd g
@@ -263,15 +263,11 @@ module _ (variables : List ElanType) (bodies : List Body) (p : Program) (made : 
       let g = given_is Var _ f e in
       let h = only_if_is _ _ g.0 g.1 in
       let same : v ≡ g.0 = type_is v g.0 h.1 in
-      let is = place_actual p home (kind_in v) (place_is p home q (kind_in v) (has_place variables bodies p made home q v (has_is v _ h.0))) in
+      let is = place_actual p home (kind_in v) (place_is p home q (kind_in v) (has_place p variables bodies agrees home is_home q v (has_is v _ h.0))) in
       subst (λ (f : Formal). IsActual p home (parameter_kind f) (actual_step (t.Place q v)) (actual_code_step (t.Place q v))) (ap (λ (u : ElanType). record { of = u; access = Var }) same ∙ g.2) is
     where
       type_is : (u v : ElanType) → Some u ≡ Some v → u ≡ v
       type_is u v e = cc
-
-  none_is : (a : Typed) → is_none a ≡ true → a ≡ None
-  none_is None e = refl
-  none_is (Some u) e = let f : ⊥ = cc in absurd f
 
   action_parts : (y : Known Action-F)
       → action_typed_step variables bodies home (map-Action _ _ _ _ _ _ _ _ _ _ typed actual_type type arm_typed arm_type (bare_action y)) ≡ true
@@ -279,10 +275,10 @@ module _ (variables : List ElanType) (bodies : List Body) (p : Program) (made : 
   action_parts (t.Action::Unit us) e = unit_is p home (actions_are us e)
   action_parts (t.Store q u a) e =
       let f = both _ _ e in
-      store_is p home q (kind_in u) (has_place variables bodies p made home q u (has_is u _ f.0)) (a.1 u (has_is u _ f.1))
+      store_is p home q (kind_in u) (has_place p variables bodies agrees home is_home q u (has_is u _ f.0)) (a.1 u (has_is u _ f.1))
   action_parts (t.Modify change q a) e =
       let f = both _ _ e in
-      modify_is p home change q (has_place variables bodies p made home q types.Int (has_is types.Int _ f.0)) (a.1 types.Int (has_is types.Int _ f.1))
+      modify_is p home change q (has_place p variables bodies agrees home is_home q types.Int (has_is types.Int _ f.0)) (a.1 types.Int (has_is types.Int _ f.1))
   action_parts (t.Action::If c us vs) e =
       let f = both _ _ e in
       let g = both _ _ f.1 in
@@ -307,16 +303,16 @@ module _ (variables : List ElanType) (bodies : List Body) (p : Program) (made : 
   action_parts t.Line e = line_is p home
   action_parts (t.Action::Call q as') e =
       let g = both _ _ e in
-      let x = proc_is variables bodies p made q _ g.0 in
-      call_action_is p home q x.entry (map parameter_kind x.formals) (map kind_in x.own_variables) (map actual_run (map fst as')) (map actual_code (map fst as')) x.is x.layout (x.delivers ∙ ap (option_map kind_in) (none_is _ g.1)) (actuals_are x.formals as' x.taken)
+      let x = proc_is p variables bodies agrees q _ None g.0 (none_is _ g.1) in
+      call_action_is p home q x.entry (map parameter_kind x.parameters) x.cells (map actual_run (map fst as')) (map actual_code (map fst as')) x.has x.own x.delivers (actuals_are x.parameters as' x.takes)
   action_parts (t.Action::Refer q) e =
       let g = both _ _ e in
-      let x = refined_is variables bodies p made home q g.0 in
-      refer_action_is p home q x.entry x.is x.owned (x.delivers ∙ ap (option_map kind_in) (none_is _ g.1))
-  action_parts (t.Leave x) e = leave_is p home x (left_without variables bodies p made home x e)
+      let x = part_is p variables bodies agrees q home is_home None g.0 (none_is _ g.1) in
+      refer_action_is p home q x.entry x.has x.owned x.delivers
+  action_parts (t.Leave x) e = leave_is p home x (left_is p variables bodies agrees x home None is_home (without_is _ e))
   action_parts (t.LeaveWith x u a) e =
       let f = both _ _ e in
-      leave_with_is p home x (kind_in u) (left_with variables bodies p made home x u f.1) (a.1 u (has_is u _ f.0))
+      leave_with_is p home x (kind_in u) (left_is p variables bodies agrees x home (Some u) is_home (with_is u _ f.1)) (a.1 u (has_is u _ f.0))
 
   arm_parts : (y : Known Arm-F)
       → arm_typed_step variables bodies home (map-Arm _ _ _ _ _ _ _ _ _ _ typed actual_type type arm_typed arm_type (map-Arm _ _ _ _ _ _ _ _ _ _ fst fst fst fst fst y)) ≡ true
