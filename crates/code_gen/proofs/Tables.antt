@@ -1,8 +1,6 @@
 -- The tables of a whole program agree.
-use Rattle.std.proofs.Common.{◌≡◌, ℕ, zero, suc, ◌+◌, List, [], ◌∷◌, ◌++◌, map, length, Option, Some, None, refl, sym, ap, ◌∙◌, subst, arith, length-append}
+use Rattle.std.proofs.Common.{◌≡◌, ℕ, zero, suc, ◌+◌, List, [], ◌∷◌, map, length, Some, None, refl, sym, ap, ◌∙◌, subst, arith}
 use Rattle.std.specs.Prelude.{slice_get, option_map}
-use Rattle.eu_base.specs.declared.value.Kind.{Kind}
-use Rattle.code_form.specs.declared.operand.OperandKind.{OperandKind}
 use Rattle.code_form.specs.declared.instr.Instr.TheVariants.{End}
 use Rattle.code_form.specs.declared.code.Line.{Line}
 use Rattle.code_form.specs.declared.code.Entry.{Entry}
@@ -10,9 +8,6 @@ use Rattle.code_form.specs.declared.code.Layout.{Layout}
 use Rattle.code_form.specs.declared.code.Layout.TheVariants as layouts
 use Rattle.code_form.specs.Program.{Program, at_level, in_body}
 use Rattle.code_form.specs.Valid.{Next, IsFine, IsOwned, IsValid}
-use Rattle.elan_types.specs.declared.core_phrase.Access.{Access}
-use Rattle.elan_types.specs.declared.core_phrase.Access.TheVariants.{Const, Var}
-use Rattle.elan_types.specs.declared.core_phrase.Parameter.{Parameter}
 use Rattle.elan_types.specs.declared.core_phrase.Scope.{Scope}
 use Rattle.elan_types.specs.declared.core_phrase.Scope.TheVariants as scopes
 use Rattle.elan_types.specs.declared.core_phrase.Content.{Content}
@@ -20,7 +15,7 @@ use Rattle.elan_types.specs.declared.core_phrase.Content.TheVariants as contents
 use Rattle.elan_types.specs.declared.core_phrase.Body.{Body}
 use Rattle.elan_types.specs.declared.core_phrase.Core.{Core}
 use Rattle.elan_types.specs.Typing.{kind_in, result_of_content, IsScope, IsWellTyped}
-use Rattle.place_gen.specs.Stretch.{Stretch, one, keeps, join, all_code, action_code, content_code}
+use Rattle.place_gen.specs.Stretch.{Stretch, one, keeps, all_code, action_code, content_code}
 use Rattle.place_gen.proofs.Lines.{HasAt, has_front, has_rest, has_all, join_sized}
 use Rattle.place_gen.specs.Layouts.{parameter_kind, layout_of, delivered_kind}
 use Rattle.place_gen.proofs.Homes.{Agrees}

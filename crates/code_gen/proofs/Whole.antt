@@ -22,16 +22,16 @@ use Rattle.elan_types.specs.Typing.{kind_in, IsWellTyped}
 use Rattle.elan_types.specs.Eval.{Slot, Holds, Taken, slot_at, World, Outcome, Gives, Left, Stopped, OutOfMarks, Asks, branch, all, act, level}
 use Rattle.elan_types.specs.Command as endings
 use Rattle.elan_types.specs.Command.{Ending, ending, from_level, evaluate_from}
-use Rattle.place_gen.specs.Stretch.{Stretch, one, keeps, all_code, action_code, content_code}
+use Rattle.place_gen.specs.Stretch.{Stretch, keeps, all_code, action_code, content_code}
 use Rattle.place_gen.specs.Correct.{Image, HasVariables, Shows, Comes, scene_of}
 use Rattle.place_gen.specs.Layouts.{delivered_kind}
-use Rattle.place_gen.proofs.Lines.{HasAt, has_front, has_rest, has_all, join_sized}
+use Rattle.place_gen.proofs.Lines.{HasAt, has_front, has_rest}
 use Rattle.place_gen.proofs.Homes.{Delivers}
 use Rattle.place_gen.proofs.Cells.{Use, OfValue, Uses, Kept, Keeps}
 use Rattle.place_gen.proofs.Carry.{finish, Exits, Stands, Within, stop_comes, end_ends, here}
 use Rattle.place_gen.proofs.Forms.{IsAction}
 use Rattle.place_gen.proofs.Tree.{all_are}
-use Rattle.code_gen.specs.Program.{level_code, body_lines, program_of}
+use Rattle.code_gen.specs.Program.{level_code, program_of}
 use Rattle.code_gen.specs.Correct.{Behaves}
 use Rattle.code_gen.proofs.Tables.{agrees, entry_from, has_level, has_bodies}
 use Rattle.code_gen.proofs.Level.{IsMade, level_carries}

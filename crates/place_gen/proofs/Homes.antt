@@ -1,14 +1,12 @@
 -- What the tables of a program say of places, bodies and exits, where they agree with the types.
-use Rattle.std.proofs.Common.{◌≡◌, ℕ, List, [], ◌∷◌, ◌++◌, map, Option, Some, None, Bool, true, false, ◌&&◌, ◌==◌, refl, sym, ap, ◌∙◌, subst}
+use Rattle.std.proofs.Common.{◌≡◌, ℕ, List, [], ◌∷◌, map, Option, Some, None, Bool, true, false, ◌&&◌, refl, sym, ap, ◌∙◌, subst}
 use Rattle.std.specs.Prelude.{slice_get, option_map}
 use Rattle.std.proofs.lemmas.Option.{slice_get-map}
 use Rattle.std.proofs.lemmas.Bool.{eqb-true}
 use Rattle.eu_base.specs.declared.value.Kind.{Kind}
 use Rattle.eu_base.specs.declared.value.Kind.TheVariants as kinds
-use Rattle.code_form.specs.declared.operand.OperandKind.{OperandKind}
 use Rattle.code_form.specs.declared.operand.OperandKind.TheVariants as operand
 use Rattle.code_form.specs.declared.code.Entry.{Entry}
-use Rattle.code_form.specs.declared.code.Layout.{Layout}
 use Rattle.code_form.specs.declared.code.Layout.TheVariants as layouts
 use Rattle.code_form.specs.Program as program
 use Rattle.code_form.specs.Program.{Program, cells_of, cells_in, frame_cells}

@@ -7,10 +7,10 @@ use Rattle.eu_base.specs.declared.operation.Way.{Way}
 use Rattle.eu_base.specs.Operations.{operand_kinds, result_kind}
 use Rattle.code_form.specs.declared.operand.OperandKind.{OperandKind}
 use Rattle.code_form.specs.declared.operand.OperandKind.TheVariants.{Value as OfKind}
-use Rattle.code_form.specs.declared.instr.Instr.TheVariants.{Drop, Back}
+use Rattle.code_form.specs.declared.instr.Instr.TheVariants.{Back}
 use Rattle.code_form.specs.declared.code.Spot.{Spot}
 use Rattle.code_form.specs.Program.{Program}
-use Rattle.code_form.specs.Valid.{Next, pushed_kinds, pushed_operands, with_result}
+use Rattle.code_form.specs.Valid.{Next, pushed_kinds, pushed_operands}
 use Rattle.elan_types.specs.declared.elan_type.ElanType.{ElanType}
 use Rattle.elan_types.specs.declared.elan_type.ElanType.TheVariants as types
 use Rattle.elan_types.specs.declared.core_phrase.Access.TheVariants.{Const, Var}
@@ -28,8 +28,7 @@ use Rattle.elan_types.specs.declared.core_phrase.ValueArm.{ValueArm}
 use Rattle.elan_types.specs.declared.core_phrase.Action.TheOpen as t
 use Rattle.elan_types.specs.declared.core_phrase.Action.TheOpen.{Action-F, Actual-F, ValuePhrase-F, Arm-F, ValueArm-F}
 use Rattle.elan_types.specs.declared.core_phrase.Action.TheFolds.{fold-Actual, fold-Arm, fold-ValueArm, ind-Action, ind-ValuePhrase, map-Action, map-Actual, map-ValuePhrase, map-Arm, map-ValueArm, fold-roll-Action, fold-roll-Actual, fold-roll-ValuePhrase, fold-roll-Arm, fold-roll-ValueArm}
-use Rattle.elan_types.specs.Typing.{Typed, Taken, Home, has, agree, only_if, place_type, has_if_written, have, all_agree, all_true, takes, take_all, given_as, type_in, kind_in, type_of, is_typed, value_type_step, actual_type_step, value_arm_type_step, action_typed_step, arm_typed_step, is_content_typed, result_of_content}
-use Rattle.elan_types.specs.Eval.{Labelled}
+use Rattle.elan_types.specs.Typing.{Typed, Taken, Home, has, only_if, place_type, has_if_written, have, all_agree, all_true, takes, take_all, given_as, type_in, kind_in, type_of, is_typed, value_type_step, actual_type_step, value_arm_type_step, action_typed_step, arm_typed_step, is_content_typed, result_of_content}
 use Rattle.place_gen.specs.Stretch.{Stretch, Exit, none, one, place_code, keeps, pushes, join, stays, all_code, select_code, while_code, until_code, turn_code, turns_code, store_code, counted_code, action_code, actual_code, value_code, content_code, action_code_step, actual_code_step, value_code_step, arm_code_step, value_arm_code_step, arm_code_of, value_arm_code}
 use Rattle.place_gen.specs.Layouts.{taken_as, parameter_kind}
 use Rattle.place_gen.proofs.Homes.{Delivers, Agrees, IsHome, agree_is, kind_type, place_is, proc_is, part_is, left_is, only_if_is, both, same_is, has_is, access_is, without_is, with_is, none_is}

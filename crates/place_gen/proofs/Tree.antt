@@ -26,7 +26,7 @@ use Rattle.elan_types.specs.declared.core_phrase.ValueArm.{ValueArm}
 use Rattle.elan_types.specs.declared.core_phrase.Action.TheOpen as t
 use Rattle.elan_types.specs.declared.core_phrase.Action.TheOpen.{Action-F, Actual-F, ValuePhrase-F, Arm-F, ValueArm-F}
 use Rattle.elan_types.specs.declared.core_phrase.Action.TheFolds.{fold-Actual, fold-Arm, fold-ValueArm, ind-Action, ind-ValuePhrase, map-Action, map-Actual, map-ValuePhrase, map-Arm, map-ValueArm, fold-roll-Action, fold-roll-Actual, fold-roll-ValuePhrase, fold-roll-Arm, fold-roll-ValueArm}
-use Rattle.elan_types.specs.Typing.{Typed, Home, has, has_if_written, have, all_agree, all_true, type_in, kind_in, Taken, take_all, given_as, is_none, place_type, type_of, is_typed, value_type_step, value_arm_type_step, actual_type_step, action_typed_step, arm_typed_step}
+use Rattle.elan_types.specs.Typing.{Typed, Home, has, has_if_written, have, all_agree, all_true, type_in, kind_in, Taken, take_all, given_as, place_type, type_of, is_typed, value_type_step, value_arm_type_step, actual_type_step, action_typed_step, arm_typed_step}
 use Rattle.elan_types.specs.Eval.{Run, Slot, Labelled, bind, stored, turns, holds, branch, counted, all, values, selected, while_true, until_true, turn, go_on, act, value, action_step, actual_step, value_step, arm_step, value_arm_step}
 use Rattle.place_gen.specs.Stretch.{Stretch, none, join, stays, turns_code, store_code, all_code, arm_code, select_code, while_code, until_code, turn_code, counted_code, action_code, actual_code, value_code, action_code_step, actual_code_step, value_code_step, arm_code_step, value_arm_code_step, arm_code_of, value_arm_code}
 use Rattle.place_gen.specs.Layouts.{parameter_kind}
