@@ -28,7 +28,6 @@ use Rattle.place_gen.proofs.Lines.{HasAt, has_front, has_rest, IsSized, join_siz
 use Rattle.place_gen.proofs.Homes.{Delivers, Agrees, IsHome, has_is}
 use Rattle.place_gen.proofs.Cells.{Uses}
 use Rattle.place_gen.proofs.Carry.{finish_bind, Result, result_ops, reach, Ends, Exits, on_step, here}
-
 use Rattle.place_gen.proofs.Tree.{all_are, value_is}
 use Rattle.code_gen.specs.Program.{entry_of, entries, body_lines}
 use Rattle.code_gen.proofs.Level.{ContentCarries}
