@@ -10,6 +10,7 @@ use Rattle.eu_base.specs.declared.value.Kind.{Kind}
 use Rattle.eu_base.specs.declared.value.Value.{Value}
 use Rattle.eu_base.specs.Room.{cells_fit}
 use Rattle.eu_base.specs.Cells.{Cells, run_cell}
+use Rattle.code_form.specs.declared.halt.Halt.TheVariants as halts
 use Rattle.code_form.specs.declared.instr.Instr.TheVariants.{End}
 use Rattle.code_form.specs.declared.code.Entry.{Entry}
 use Rattle.code_form.specs.Program.{Program, at_level, in_body}
@@ -23,12 +24,12 @@ use Rattle.elan_types.specs.Eval.{Slot, Holds, Taken, slot_at, World, Outcome, G
 use Rattle.elan_types.specs.Command as endings
 use Rattle.elan_types.specs.Command.{Ending, ending, from_level, evaluate_from}
 use Rattle.place_gen.specs.Stretch.{Stretch, keeps, all_code, action_code, content_code}
-use Rattle.place_gen.specs.Correct.{Image, HasVariables, Shows, Comes, scene_of}
+use Rattle.place_gen.specs.Correct.{HasVariables, Shows, Comes, scene_of}
 use Rattle.place_gen.specs.Layouts.{delivered_kind}
 use Rattle.place_gen.proofs.Lines.{HasAt, has_front, has_rest}
 use Rattle.place_gen.proofs.Homes.{Delivers}
 use Rattle.place_gen.proofs.Cells.{Use, OfValue, Uses, Kept, Keeps}
-use Rattle.place_gen.proofs.Carry.{finish, Exits, Stands, Within, stop_comes, end_ends, here}
+use Rattle.place_gen.proofs.Carry.{finish, Exits, Stands, Within, end_ends, here}
 use Rattle.place_gen.proofs.Forms.{IsAction}
 use Rattle.place_gen.proofs.Tree.{all_are}
 use Rattle.code_gen.specs.Program.{level_code, program_of}
@@ -52,8 +53,8 @@ some_is : {A : Type 0} (a b : A) → Some a ≡ Some b → a ≡ b
 some_is a b e = cc
 
 -- cells that hold a store with a value for each variable keep it
-level_kept : (kinds : List Kind) (store : List Slot) (cells : Cells) → HasVariables kinds store → Image store cells → Keeps (level_uses kinds) store cells
-level_kept kinds store cells h image = record {
+level_kept : (kinds : List Kind) (store : List Slot) (cells : Cells) → HasVariables kinds store cells → cells_fit (length kinds) ≡ true → Keeps (level_uses kinds) store cells
+level_kept kinds store cells h room = record {
   as_many = h.as_many ∙ sym (length-map kinds OfValue);
   each = λ x u e. by x u (slice_get kinds x) refl (sym (slice_get-map OfValue kinds x) ∙ e);
 }
@@ -64,7 +65,7 @@ level_kept kinds store cells h image = record {
         let v = h.each x k is in
         let within = slice_get_within store x (Holds v.0) v.1 in
         let slot : slot_at store x ≡ Holds v.0 = some_is _ _ (sym (slice_get-get_or store x Taken within) ∙ v.1) in
-        subst (λ u. Kept (level_uses kinds) x u (slot_at store x) (cells (run_cell x))) (some_is (OfValue k) u e) (v.0, slot, v.2, image x (Holds v.0) v.1)
+        subst (λ u. Kept (level_uses kinds) x u (slot_at store x) (cells (run_cell x))) (some_is (OfValue k) u e) (v.0, slot, v.2, h.image (subst (λ n. cells_fit n ≡ true) (sym h.as_many) room) x (Holds v.0) v.1)
 
 module _ (core : Core) (typed : IsWellTyped core) where
   abbrev p : Program
@@ -121,19 +122,24 @@ module _ (core : Core) (typed : IsWellTyped core) where
       (λ _ w' _ le. end_ends p (level_uses p.variables) (at free q []) w' (λ cells. here p q End (units.leaves []) at_level h.0 free [] cells))
       (no_exits w.marks l) w (omega arith) cells keeps)
 
-  by_room : (w : World) (cells : Cells) → Keeps (level_uses p.variables) w.store cells → (t : Bool) → cells_fit number ≡ t → Comes p (record { pc = 0; ops = []; used = number; frames = []; full = not t; waits = None }) (scene_of w cells) (ending (branch t (all (map act core.units) (from_level core w.marks)) (Stopped CellRoom) w))
-  by_room w cells keeps true e = runs w cells (leb-true number CELLS e) keeps
-  by_room w cells keeps false e = stop_comes p (level_uses p.variables) (record { pc = 0; ops = []; used = number; frames = []; full = true; waits = None }) w CellRoom cells keeps refl
+  by_room : (w : World) (cells : Cells) → HasVariables p.variables w.store cells → (t : Bool) → cells_fit number ≡ t → Comes p (record { pc = 0; ops = []; used = number; frames = []; full = not t; waits = None }) (scene_of w cells) (ending (branch t (all (map act core.units) (from_level core w.marks)) (Stopped CellRoom) w))
+  by_room w cells h true e = runs w cells (leb-true number CELLS e) (level_kept p.variables w.store cells h e)
+  by_room w cells h false e = record {
+    steps = 1;
+    rest = record { how = halts.Stopped CellRoom; control = record { pc = 0; ops = []; used = number; frames = []; full = true; waits = None }; scene = scene_of w cells };
+    comes = refl;
+    shows = record { how = refl; marks = refl; replies = refl; cells = h.image };
+  }
 
-  pub ends : (w : World) (cells : Cells) → HasVariables p.variables w.store → Image w.store cells → Comes p (start number) (scene_of w cells) (evaluate_from core w)
-  ends w cells h image =
+  pub ends : (w : World) (cells : Cells) → HasVariables p.variables w.store cells → Comes p (start number) (scene_of w cells) (evaluate_from core w)
+  ends w cells h =
       subst (λ n. Comes p (start number) (scene_of w cells) (ending (branch (cells_fit n) (all (map act core.units) (from_level core w.marks)) (Stopped CellRoom) w))) (length-map core.variables kind_in)
-      (by_room w cells (level_kept p.variables w.store cells h image) (cells_fit number) refl)
+      (by_room w cells h (cells_fit number) refl)
 
   pub behaves : Behaves core p
   behaves = record {
     ends = ends;
-    only = λ w cells n r h image e.
-        let a = ends w cells h image in
+    only = λ w cells n r h e.
+        let a = ends w cells h in
         subst (Shows (evaluate_from core w)) (one_rest p (start number) (scene_of w cells) a.rest r (a.steps, a.comes) (n, e)) a.shows;
   }

@@ -75,7 +75,7 @@ some_is a b e = cc
 
 -- so the cells hold the store
 pub image : (L : Uses) (store : List Slot) (cells : Cells) → Keeps L store cells → Image store cells
-image L store cells h x s e =
+image L store cells h room x s e =
     let within : x < length L = omega (arith, slice_get_within store x s e, h.as_many) in
     let k = slice_index_or L x OfNothing in
     let same : slot_at store x ≡ s = some_is _ s (sym (slice_get-get_or store x Taken (slice_get_within store x s e)) ∙ e) in
