@@ -1,8 +1,6 @@
 -- The tables of a whole program agree.
-use Rattle.std.proofs.Common.{◌≡◌, ℕ, zero, suc, ◌+◌, List, [], ◌∷◌, ◌++◌, map, length, Option, Some, None, refl, sym, ap, ◌∙◌, subst, arith, length-append}
+use Rattle.std.proofs.Common.{◌≡◌, ℕ, zero, suc, ◌+◌, List, [], ◌∷◌, map, length, Some, None, refl, sym, ap, ◌∙◌, subst, arith}
 use Rattle.std.specs.Prelude.{slice_get, option_map}
-use Rattle.eu_base.specs.declared.value.Kind.{Kind}
-use Rattle.code_form.specs.declared.operand.OperandKind.{OperandKind}
 use Rattle.code_form.specs.declared.instr.Instr.TheVariants.{End}
 use Rattle.code_form.specs.declared.code.Line.{Line}
 use Rattle.code_form.specs.declared.code.Entry.{Entry}
@@ -10,9 +8,6 @@ use Rattle.code_form.specs.declared.code.Layout.{Layout}
 use Rattle.code_form.specs.declared.code.Layout.TheVariants as layouts
 use Rattle.code_form.specs.Program.{Program, at_level, in_body}
 use Rattle.code_form.specs.Valid.{Next, IsFine, IsOwned, IsValid}
-use Rattle.elan_types.specs.declared.core_phrase.Access.{Access}
-use Rattle.elan_types.specs.declared.core_phrase.Access.TheVariants.{Const, Var}
-use Rattle.elan_types.specs.declared.core_phrase.Parameter.{Parameter}
 use Rattle.elan_types.specs.declared.core_phrase.Scope.{Scope}
 use Rattle.elan_types.specs.declared.core_phrase.Scope.TheVariants as scopes
 use Rattle.elan_types.specs.declared.core_phrase.Content.{Content}
@@ -20,28 +15,15 @@ use Rattle.elan_types.specs.declared.core_phrase.Content.TheVariants as contents
 use Rattle.elan_types.specs.declared.core_phrase.Body.{Body}
 use Rattle.elan_types.specs.declared.core_phrase.Core.{Core}
 use Rattle.elan_types.specs.Typing.{kind_in, result_of_content, IsScope, IsWellTyped}
-use Rattle.place_gen.specs.Stretch.{Stretch, one, keeps, join, all_code, action_code, content_code}
-use Rattle.place_gen.proofs.Lines.{HasAt, has_front, has_rest, has_all}
-use Rattle.place_gen.proofs.Homes.{kind_taken, layout_in, taken_as as taken_in, Agrees}
-use Rattle.place_gen.proofs.Tables.{Each, each_rest, join_sized, ends_good, ActionTable}
+use Rattle.place_gen.specs.Stretch.{Stretch, one, keeps, all_code, action_code, content_code}
+use Rattle.place_gen.proofs.Lines.{HasAt, has_front, has_rest, has_all, join_sized}
+use Rattle.place_gen.specs.Layouts.{parameter_kind, layout_of, delivered_kind}
+use Rattle.place_gen.proofs.Homes.{Agrees}
+use Rattle.place_gen.proofs.Tables.{Each, each_rest, ends_good, ActionTable}
 use Rattle.place_gen.proofs.TableTree.{IsGood, all_are, content_is}
-use Rattle.code_gen.specs.Program.{level_code, taken_as, parameter_kind, layout_of, delivered_kind, entry_of, entries, body_lines, program_of}
+use Rattle.code_gen.specs.Program.{level_code, entry_of, entries, body_lines, program_of}
 
--- entries say of bodies what is said of them elsewhere
-kind_same : (a : Access) (k : Kind) → taken_as a k ≡ taken_in a k
-kind_same Const k = refl
-kind_same Var k = refl
-
-kinds_same : (ps : List Parameter) → map parameter_kind ps ≡ map kind_taken ps
-kinds_same [] = refl
-kinds_same (f ∷ ps) = ap (λ k. k ∷ map parameter_kind ps) (kind_same f.access (kind_in f.of)) ∙ ap (λ l. kind_taken f ∷ l) (kinds_same ps)
-
-layout_same : (s : Scope) → layout_of s ≡ layout_in s
-layout_same (scopes.Own ps vs) = ap (λ l. layouts.Own l (map kind_in vs)) (kinds_same ps)
-layout_same (scopes.Of q) = refl
-layout_same scopes.Level = refl
-
-pub delivers_same : (c : Content) → delivered_kind c ≡ option_map kind_in (result_of_content c)
+delivers_same : (c : Content) → delivered_kind c ≡ option_map kind_in (result_of_content c)
 delivers_same (contents.Units us) = refl
 delivers_same (contents.Value u a) = refl
 
@@ -74,7 +56,7 @@ module _ (core : Core) (typed : IsWellTyped core) where
   pub agrees : Agrees p core.variables core.bodies
   agrees = record {
     level = refl;
-    each = λ n b is. let e = entry_at core.bodies behind n b is in record { entry = entry_of b e.0; has = e.1; layout = layout_same b.scope; delivers = delivers_same b.content };
+    each = λ n b is. let e = entry_at core.bodies behind n b is in record { entry = entry_of b e.0; has = e.1; layout = refl; delivers = delivers_same b.content };
   }
 
   content_good : (n : ℕ) (b : Body) (is : slice_get core.bodies n ≡ Some b) → IsGood p core.variables core.bodies agrees (Some n) (b, is) (content_code b.content)
@@ -118,16 +100,26 @@ module _ (core : Core) (typed : IsWellTyped core) where
   abbrev units : Stretch
   units = all_code (map action_code core.units)
 
+  units_are : ActionTable p None units
+  units_are = all_are p core.variables core.bodies agrees None tt core.units typed.typed
+
+  level_sized : length ((level_code core).lines [] at_level 0) ≡ behind
+  level_sized = join_sized units (one End keeps) units_are.sized (λ ks m pc. refl) [] at_level 0
+
+  -- where the units and the bodies stand
+  pub has_level : HasAt p.lines 0 ((level_code core).lines [] at_level 0)
+  has_level = has_front p.lines 0 ((level_code core).lines [] at_level 0) _ (has_all p.lines [])
+
+  pub has_bodies : HasAt p.lines behind (body_lines core.bodies 0 behind)
+  has_bodies =
+      let n : 0 + behind ≡ behind = omega arith in
+      subst (λ n. HasAt p.lines n (body_lines core.bodies 0 behind)) n (has_rest p.lines 0 behind ((level_code core).lines [] at_level 0) _ level_sized (has_all p.lines []))
+
   pub valid : IsValid p
   valid =
-      let i : ActionTable p None units = all_are p core.variables core.bodies agrees None tt core.units typed.typed in
-      let has = has_all p.lines [] in
-      let level_sized = join_sized units (one End keeps) i.sized (λ ks m pc. refl) in
-      let level = ends_good p None End keeps i 0 [] at_level refl (λ q. tt) (has_front p.lines 0 ((level_code core).lines [] at_level 0) _ has) in
-      let from : 0 + behind ≡ behind = omega arith in
-      let rest = subst (λ n. HasAt p.lines n (body_lines core.bodies 0 behind)) from (has_rest p.lines 0 behind ((level_code core).lines [] at_level 0) _ (level_sized [] at_level 0) has) in
-      let more = bodies_are core.bodies 0 behind (λ j b h. let z : 0 + j ≡ j = omega arith in ap (slice_get core.bodies) z ∙ h) rest in
-      let each = each_rest p 0 behind ((level_code core).lines [] at_level 0) (body_lines core.bodies 0 behind) (level_sized [] at_level 0) level.1 (subst (λ n. Each p n (body_lines core.bodies 0 behind)) (sym from) more.each) in
+      let level = ends_good p None End keeps units_are 0 [] at_level refl (λ q. tt) has_level in
+      let more = bodies_are core.bodies 0 behind (λ j b h. let s : 0 + j ≡ j = omega arith in ap (slice_get core.bodies) s ∙ h) has_bodies in
+      let each = each_rest p 0 behind ((level_code core).lines [] at_level 0) (body_lines core.bodies 0 behind) level_sized level.1 (let n : behind ≡ 0 + behind = omega arith in subst (λ n. Each p n (body_lines core.bodies 0 behind)) n more.each) in
       record {
         first = level.0;
         bodies = λ n e h. let z : 0 + n ≡ n = omega arith in subst (λ n. Next p.lines e.first [] (in_body n)) z (more.first n e h);

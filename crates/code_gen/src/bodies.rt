@@ -1,7 +1,8 @@
 //! The bodies of a command: their code, and their entries in its tables.
 ghost use Rattle.std.specs.Prelude.{◌≡◌, ◌++◌, IfOk, length, map};
 ghost use Rattle.elan_types.specs.Typing.{kind_in};
-ghost use Rattle.code_gen.specs.Program.{body_lines, delivered_kind, entries, entry_of, layout_of, parameter_kind};
+ghost use Rattle.place_gen.specs.Layouts.{delivered_kind, layout_of, parameter_kind};
+ghost use Rattle.code_gen.specs.Program.{body_lines, entries, entry_of};
 
 use code_form::{Entry, Layout, OperandKind};
 use elan_types::{Access, Body, Content, ElanType, Parameter, Scope};

@@ -1,6 +1,7 @@
 //! The code of a command.
 ghost use Rattle.std.specs.Prelude.{◌≡◌, IfOk};
 ghost use Rattle.elan_types.specs.Typing.{IsWellTyped};
+ghost use Rattle.code_gen.specs.Correct.{Behaves};
 ghost use Rattle.code_gen.specs.Program.{program_of};
 
 use crate::bodies::{emit_bodies, kinds};
@@ -14,6 +15,7 @@ use std::alloc::Global;
 pub fn generate(alloc: Global, core: &Core) -> Result<Code, NoMemory>
     requires { IsWellTyped core.now }
     ensures code { IfOk result (λ code. code ≡ program_of core.now) }
+    ensures behaves { IfOk result (λ code. Behaves core.now code) }
 {
     let variables = kinds(alloc, core.variables.as_slice())?;
     let mut out = Draft::new(alloc);

@@ -1,14 +1,12 @@
 -- What the tables of a program say of places, bodies and exits, where they agree with the types.
-use Rattle.std.proofs.Common.{◌≡◌, ℕ, List, [], ◌∷◌, ◌++◌, map, Option, Some, None, Bool, true, false, ◌&&◌, ◌==◌, refl, sym, ap, ◌∙◌, subst}
+use Rattle.std.proofs.Common.{◌≡◌, ℕ, List, [], ◌∷◌, map, Option, Some, None, Bool, true, false, ◌&&◌, refl, sym, ap, ◌∙◌, subst}
 use Rattle.std.specs.Prelude.{slice_get, option_map}
 use Rattle.std.proofs.lemmas.Option.{slice_get-map}
 use Rattle.std.proofs.lemmas.Bool.{eqb-true}
 use Rattle.eu_base.specs.declared.value.Kind.{Kind}
 use Rattle.eu_base.specs.declared.value.Kind.TheVariants as kinds
-use Rattle.code_form.specs.declared.operand.OperandKind.{OperandKind}
 use Rattle.code_form.specs.declared.operand.OperandKind.TheVariants as operand
 use Rattle.code_form.specs.declared.code.Entry.{Entry}
-use Rattle.code_form.specs.declared.code.Layout.{Layout}
 use Rattle.code_form.specs.declared.code.Layout.TheVariants as layouts
 use Rattle.code_form.specs.Program as program
 use Rattle.code_form.specs.Program.{Program, cells_of, cells_in, frame_cells}
@@ -25,8 +23,9 @@ use Rattle.elan_types.specs.declared.core_phrase.Parameter.{Parameter as Formal}
 use Rattle.elan_types.specs.declared.core_phrase.Body.{Body}
 use Rattle.elan_types.specs.declared.core_phrase.PlacePhrase.{PlacePhrase}
 use Rattle.elan_types.specs.declared.core_phrase.PlacePhrase.TheVariants as places
+use Rattle.place_gen.specs.Layouts.{taken_as, parameter_kind, layout_of}
 use Rattle.elan_types.specs.Typing as typing
-use Rattle.elan_types.specs.Typing.{Typed, has, only_if, same_type, same_access, kind_in, held_const, type_as, frame_of, frame_at, frame_in, scope_of, result_of, result_of_content, delivered_by, taken_by, take_all, Taken, refines, around, left_from, leaves_without, leaves_with, is_none, place_type, Home}
+use Rattle.elan_types.specs.Typing.{Typed, has, agree, takes, type_in, only_if, same_type, same_access, kind_in, held_const, type_as, frame_of, frame_at, frame_in, scope_of, result_of, result_of_content, delivered_by, taken_by, take_all, Taken, refines, around, left_from, leaves_without, leaves_with, is_none, place_type, Home}
 
 module _ (p : Program) where
   -- what a body delivers
@@ -46,24 +45,11 @@ module _ (p : Program) (body : Option ℕ) where
   LeftBy exits.Body k = Delivers p body k
   LeftBy exits.Around k = Delivers p (program.owner p body) k
 
--- what a parameter takes
-abbrev pub taken_as : Access → Kind → OperandKind
-taken_as Const k = operand.Value k
-taken_as Var k = operand.Place k
-
-abbrev pub kind_taken : Formal → OperandKind
-kind_taken f = taken_as f.access (kind_in f.of)
-
-abbrev pub layout_in : Scope → Layout
-layout_in (scopes.Own parameters variables) = layouts.Own (map kind_taken parameters) (map kind_in variables)
-layout_in (scopes.Of q) = layouts.Of q
-layout_in scopes.Level = layouts.Level
-
 -- the entry of a body in the tables
 pub record HasEntry (p : Program) (n : ℕ) (b : Body) : Type 0 where
   pub entry : Entry
   pub has : slice_get p.bodies n ≡ Some entry
-  pub layout : entry.layout ≡ layout_in b.scope
+  pub layout : entry.layout ≡ layout_of b.scope
   pub delivers : entry.delivers ≡ option_map kind_in (result_of_content b.content)
 
 -- the tables have a cell for each variable, and an entry for each body
@@ -101,20 +87,36 @@ access_is Const Var e = let f : ⊥ = cc in absurd f
 access_is Var Const e = let f : ⊥ = cc in absurd f
 access_is Var Var e = refl
 
+pub agree_is : (a b : Typed) (u : ElanType) → agree a b ≡ true → a ≡ Some u → b ≡ Some u
+agree_is None b u e f = let g : ⊥ = cc in absurd g
+agree_is (Some v) b u e f = let g : v ≡ u = cc in has_is u b (subst (λ v. has v b ≡ true) g e)
+
+pub kind_type : (k : Kind) → kind_in (type_in k) ≡ k
+kind_type kinds.Int = refl
+kind_type kinds.Truth = refl
+
+formal_is : (f g : Formal) → f.of ≡ g.of → f.access ≡ g.access → g ≡ f
+formal_is f g a b = ap (λ (u : ElanType). record { of = u; access = g.access }) (sym a) ∙ ap (λ (x : Access). record { of = f.of; access = x }) (sym b)
+
+-- a parameter is given what it takes
+pub takes_is : (f : Formal) (a : Taken) → takes f a ≡ true → a ≡ Some f
+takes_is f None e = let g : ⊥ = cc in absurd g
+takes_is f (Some g) e = let h = both _ _ e in ap Some (formal_is f g (same_is f.of g.of h.0) (access_is f.access g.access h.1))
+
 some_same : (u v : ElanType) → Some u ≡ Some v → u ≡ v
 some_same u v e = cc
 
-cells_are : (ps : List Formal) (vs : List ElanType) → cells_of (layout_in (scopes.Own ps vs)) ≡ map kind_taken (frame_of (scopes.Own ps vs))
+cells_are : (ps : List Formal) (vs : List ElanType) → cells_of (layout_of (scopes.Own ps vs)) ≡ map parameter_kind (frame_of (scopes.Own ps vs))
 cells_are [] [] = refl
 cells_are [] (v ∷ vs) = ap (λ l. operand.Value (kind_in v) ∷ l) (cells_are [] vs)
-cells_are (f ∷ ps) vs = ap (λ l. kind_taken f ∷ l) (cells_are ps vs)
+cells_are (f ∷ ps) vs = ap (λ l. parameter_kind f ∷ l) (cells_are ps vs)
 
-scope_cells : (s : Scope) → cells_of (layout_in s) ≡ map kind_taken (frame_of s)
+scope_cells : (s : Scope) → cells_of (layout_of s) ≡ map parameter_kind (frame_of s)
 scope_cells (scopes.Own ps vs) = cells_are ps vs
 scope_cells (scopes.Of q) = refl
 scope_cells scopes.Level = refl
 
-owner_same : (n : ℕ) (s : Scope) → program.owner_in n (layout_in s) ≡ typing.owner_in n s
+owner_same : (n : ℕ) (s : Scope) → program.owner_in n (layout_of s) ≡ typing.owner_in n s
 owner_same n (scopes.Own ps vs) = refl
 owner_same n (scopes.Of q) = refl
 owner_same n scopes.Level = refl
@@ -128,18 +130,18 @@ module _ (p : Program) (variables : List ElanType) (bodies : List Body) (agrees 
       ap (λ o. program.owner_at n (program.layout_of o)) e.has ∙ ap (program.owner_in n) e.layout ∙ owner_same n is.0.scope ∙ sym (ap (λ o. typing.owner_at n (scope_of o)) is.1)
 
   -- what stands in a cell of a frame
-  frame_cell : (n : ℕ) (x : ℕ) (f : Formal) (o : Option Body) → slice_get bodies n ≡ o → slice_get (frame_at (scope_of o)) x ≡ Some f → slice_get (cells_in p (Some n)) x ≡ Some (kind_taken f)
+  frame_cell : (n : ℕ) (x : ℕ) (f : Formal) (o : Option Body) → slice_get bodies n ≡ o → slice_get (frame_at (scope_of o)) x ≡ Some f → slice_get (cells_in p (Some n)) x ≡ Some (parameter_kind f)
   frame_cell n x f None is e = let g : ⊥ = cc in absurd g
   frame_cell n x f (Some b) is e =
       let t = agrees.each n b is in
-      ap (λ o. slice_get (program.cells_at (program.layout_of o)) x) t.has ∙ ap (λ l. slice_get (cells_of l) x) t.layout ∙ ap (λ l. slice_get l x) (scope_cells b.scope) ∙ slice_get-map kind_taken (frame_of b.scope) x ∙ ap (option_map kind_taken) e
+      ap (λ o. slice_get (program.cells_at (program.layout_of o)) x) t.has ∙ ap (λ l. slice_get (cells_of l) x) t.layout ∙ ap (λ l. slice_get l x) (scope_cells b.scope) ∙ slice_get-map parameter_kind (frame_of b.scope) x ∙ ap (option_map parameter_kind) e
 
-  cell_in : (owner : Home) (x : ℕ) (f : Formal) → slice_get (frame_in bodies owner) x ≡ Some f → slice_get (cells_in p owner) x ≡ Some (kind_taken f)
+  cell_in : (owner : Home) (x : ℕ) (f : Formal) → slice_get (frame_in bodies owner) x ≡ Some f → slice_get (cells_in p owner) x ≡ Some (parameter_kind f)
   cell_in None x f e = let g : ⊥ = cc in absurd g
   cell_in (Some n) x f e = frame_cell n x f (slice_get bodies n) refl e
 
   -- a place with an access
-  as_is : (access : Access) (u : ElanType) (o : Option Formal) → type_as access o ≡ Some u → (f : Formal) × (o ≡ Some f) × (kind_taken f ≡ taken_as access (kind_in u))
+  as_is : (access : Access) (u : ElanType) (o : Option Formal) → type_as access o ≡ Some u → (f : Formal) × (o ≡ Some f) × (parameter_kind f ≡ taken_as access (kind_in u))
   as_is access u None e = let g : ⊥ = cc in absurd g
   as_is access u (Some f) e =
       let g = only_if_is _ _ u e in
@@ -162,14 +164,14 @@ module _ (p : Program) (variables : List ElanType) (bodies : List Body) (agrees 
     pub has : slice_get p.bodies q ≡ Some entry
     pub parameters : List Formal
     pub cells : List Kind
-    pub own : entry.layout ≡ layouts.Own (map kind_taken parameters) cells
+    pub own : entry.layout ≡ layouts.Own (map parameter_kind parameters) cells
     pub takes : take_all parameters given ≡ true
     pub delivers : entry.delivers ≡ d
 
   own_proc : (q : ℕ) (given : List Taken) (b : Body) (d : Typed) (s : Scope) → slice_get bodies q ≡ Some b → b.scope ≡ s → taken_by (Some s) given ≡ true → result_of_content b.content ≡ d → IsProc q given (option_map kind_in d)
   own_proc q given b d (scopes.Own ps vs) is s e r =
       let t = agrees.each q b is in
-      record { entry = t.entry; has = t.has; parameters = ps; cells = map kind_in vs; own = t.layout ∙ ap layout_in s; takes = e; delivers = t.delivers ∙ ap (option_map kind_in) r }
+      record { entry = t.entry; has = t.has; parameters = ps; cells = map kind_in vs; own = t.layout ∙ ap layout_of s; takes = e; delivers = t.delivers ∙ ap (option_map kind_in) r }
   own_proc q given b d (scopes.Of n) is s e r = let g : ⊥ = cc in absurd g
   own_proc q given b d scopes.Level is s e r = let g : ⊥ = cc in absurd g
 
@@ -188,7 +190,7 @@ module _ (p : Program) (variables : List ElanType) (bodies : List Body) (agrees 
     pub owned : program.owner p (Some q) ≡ program.owner p home
     pub delivers : entry.delivers ≡ d
 
-  refined : (q : ℕ) (owner : Home) (s : Scope) → refines owner (Some s) ≡ true → IsRefinement (layout_in s) × (typing.owner_in q s ≡ owner)
+  refined : (q : ℕ) (owner : Home) (s : Scope) → refines owner (Some s) ≡ true → IsRefinement (layout_of s) × (typing.owner_in q s ≡ owner)
   refined q None (scopes.Own ps vs) e = let g : ⊥ = cc in absurd g
   refined q None (scopes.Of r) e = let g : ⊥ = cc in absurd g
   refined q None scopes.Level e = (tt, refl)

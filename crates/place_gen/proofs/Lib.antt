@@ -1,9 +1,3 @@
-pub mod Cells
-pub mod Carry
-pub mod Forms
-pub mod Choices
-pub mod Calls
-pub mod Loops
 pub mod Lines
 pub mod Homes
 pub mod Tables
@@ -12,3 +6,11 @@ pub mod TableTree
 pub mod Adds
 pub mod Select
 pub mod Count
+pub mod Cells
+pub mod Carry
+pub mod Forms
+pub mod Choices
+pub mod Calls
+pub mod Loops
+pub mod Limits
+pub mod Tree

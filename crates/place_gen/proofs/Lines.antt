@@ -3,7 +3,10 @@ use Rattle.std.proofs.Common.{◌≡◌, ℕ, ◌+◌, ◌<◌, List, [], ◌∷
 use Rattle.std.specs.Prelude.{slice_get}
 use Rattle.std.proofs.lemmas.Option.{slice_get-get_or}
 use Rattle.std.proofs.Math.Seq.{get_or-append_seam}
+use Rattle.code_form.specs.declared.operand.OperandKind.{OperandKind}
 use Rattle.code_form.specs.declared.code.Line.{Line}
+use Rattle.code_form.specs.declared.code.Spot.{Spot}
+use Rattle.place_gen.specs.Stretch.{Stretch, join}
 
 -- these lines stand in the code at this place
 abbrev pub HasAt : List Line → ℕ → List Line → Type 0
@@ -33,3 +36,10 @@ has_all (i ∷ is) pre =
     let rest = has_all is (pre ++ i ∷ []) in
     let rest' = subst (λ l. HasAt l (length (pre ++ i ∷ [])) is) (append_assoc pre (i ∷ []) is) rest in
     (here, subst (λ m. HasAt (pre ++ i ∷ is) m is) n rest')
+
+-- so many lines, wherever they stand
+abbrev pub IsSized : Stretch → Type 0
+IsSized f = (ks : List OperandKind) (m : Spot) (pc : ℕ) → length (f.lines ks m pc) ≡ f.size
+
+pub join_sized : (f g : Stretch) → IsSized f → IsSized g → IsSized (join f g)
+join_sized f g x y ks m pc = omega (arith, length-append (f.lines ks m pc) (g.lines (f.leaves ks) m (pc + f.size)), x ks m pc, y (f.leaves ks) m (pc + f.size))

@@ -7,10 +7,10 @@ use Rattle.eu_base.specs.declared.operation.Way.{Way}
 use Rattle.eu_base.specs.Operations.{operand_kinds, result_kind}
 use Rattle.code_form.specs.declared.operand.OperandKind.{OperandKind}
 use Rattle.code_form.specs.declared.operand.OperandKind.TheVariants.{Value as OfKind}
-use Rattle.code_form.specs.declared.instr.Instr.TheVariants.{Drop, Back}
+use Rattle.code_form.specs.declared.instr.Instr.TheVariants.{Back}
 use Rattle.code_form.specs.declared.code.Spot.{Spot}
 use Rattle.code_form.specs.Program.{Program}
-use Rattle.code_form.specs.Valid.{Next, pushed_kinds, pushed_operands, with_result}
+use Rattle.code_form.specs.Valid.{Next, pushed_kinds, pushed_operands}
 use Rattle.elan_types.specs.declared.elan_type.ElanType.{ElanType}
 use Rattle.elan_types.specs.declared.elan_type.ElanType.TheVariants as types
 use Rattle.elan_types.specs.declared.core_phrase.Access.TheVariants.{Const, Var}
@@ -28,27 +28,19 @@ use Rattle.elan_types.specs.declared.core_phrase.ValueArm.{ValueArm}
 use Rattle.elan_types.specs.declared.core_phrase.Action.TheOpen as t
 use Rattle.elan_types.specs.declared.core_phrase.Action.TheOpen.{Action-F, Actual-F, ValuePhrase-F, Arm-F, ValueArm-F}
 use Rattle.elan_types.specs.declared.core_phrase.Action.TheFolds.{fold-Actual, fold-Arm, fold-ValueArm, ind-Action, ind-ValuePhrase, map-Action, map-Actual, map-ValuePhrase, map-Arm, map-ValueArm, fold-roll-Action, fold-roll-Actual, fold-roll-ValuePhrase, fold-roll-Arm, fold-roll-ValueArm}
-use Rattle.elan_types.specs.Typing.{Typed, Taken, Home, has, agree, only_if, place_type, has_if_written, have, all_agree, all_true, takes, take_all, given_as, type_in, kind_in, type_of, is_typed, value_type_step, actual_type_step, value_arm_type_step, action_typed_step, arm_typed_step, is_content_typed, result_of_content}
-use Rattle.elan_types.specs.Eval.{Labelled}
+use Rattle.elan_types.specs.Typing.{Typed, Taken, Home, has, only_if, place_type, has_if_written, have, all_agree, all_true, takes, take_all, given_as, type_in, kind_in, type_of, is_typed, value_type_step, actual_type_step, value_arm_type_step, action_typed_step, arm_typed_step, is_content_typed, result_of_content}
 use Rattle.place_gen.specs.Stretch.{Stretch, Exit, none, one, place_code, keeps, pushes, join, stays, all_code, select_code, while_code, until_code, turn_code, turns_code, store_code, counted_code, action_code, actual_code, value_code, content_code, action_code_step, actual_code_step, value_code_step, arm_code_step, value_arm_code_step, arm_code_of, value_arm_code}
-use Rattle.place_gen.proofs.Homes.{Delivers, Agrees, IsHome, kind_taken, taken_as, place_is, proc_is, part_is, left_is, only_if_is, both, same_is, has_is, access_is, without_is, with_is, none_is}
-use Rattle.place_gen.proofs.Lines.{HasAt}
-use Rattle.place_gen.proofs.Tables.{IsSized, join_sized, Each, ends_good, leave_fine, Table, ValueTable, ActionTable, above, none_table, join_table, mark_table, number_table, truth_table, place_table, load_table, store_table, modify_table, put_table, line_table, apply_table, call_table, refer_table, leave_table, leave_with_table}
+use Rattle.place_gen.specs.Layouts.{taken_as, parameter_kind}
+use Rattle.place_gen.proofs.Homes.{Delivers, Agrees, IsHome, agree_is, kind_type, place_is, proc_is, part_is, left_is, only_if_is, both, same_is, has_is, access_is, without_is, with_is, none_is}
+use Rattle.place_gen.proofs.Lines.{HasAt, IsSized, join_sized}
+use Rattle.place_gen.proofs.Tables.{Each, ends_good, leave_fine, Table, ValueTable, ActionTable, above, none_table, join_table, mark_table, number_table, truth_table, place_table, load_table, store_table, modify_table, put_table, line_table, apply_table, call_table, refer_table, leave_table, leave_with_table}
 use Rattle.place_gen.proofs.LoopTables.{if_table, otherwise_table, arm_table, ExitTable, stays_table, while_table, until_table, step_table, AtLeastOne, step_to_table, turn_table, loop_table, counted_none_table, counted_some_table}
-
-agree_is : (a b : Typed) (u : ElanType) → agree a b ≡ true → a ≡ Some u → b ≡ Some u
-agree_is None b u e f = let g : ⊥ = cc in absurd g
-agree_is (Some v) b u e f = let g : v ≡ u = cc in has_is u b (subst (λ v. has v b ≡ true) g e)
-
-kind_type : (k : Kind) → kind_in (type_in k) ≡ k
-kind_type kinds.Int = refl
-kind_type kinds.Truth = refl
 
 abbrev fst : {A : Type 0} {B : A → Type 0} → (a : A) × B a → A
 fst x = x.0
 
 -- what a parameter is given is of the kind that it takes
-takes_is : (f : Formal) (a : Taken) → takes f a ≡ true → (g : Formal) × (a ≡ Some g) × (kind_taken g ≡ kind_taken f)
+takes_is : (f : Formal) (a : Taken) → takes f a ≡ true → (g : Formal) × (a ≡ Some g) × (parameter_kind g ≡ parameter_kind f)
 takes_is f None e = let h : ⊥ = cc in absurd h
 takes_is f (Some g) e =
     let h = both _ _ e in
@@ -83,7 +75,7 @@ module _ (p : Program) (variables : List ElanType) (bodies : List Body) (agrees 
   Q a = typed a ≡ true → AT (action_code a)
 
   abbrev N : Actual → Type 0
-  N a = (f : Formal) → given a ≡ Some f → T keeps (pushes (kind_taken f)) (actual_code a)
+  N a = (f : Formal) → given a ≡ Some f → T keeps (pushes (parameter_kind f)) (actual_code a)
 
   abbrev P : ValuePhrase → Type 0
   P e = (u : ElanType) → typ e ≡ Some u → VT (kind_in u) (value_code e)
@@ -118,7 +110,7 @@ module _ (p : Program) (variables : List ElanType) (bodies : List Body) (agrees 
     pub as_many : length fs ≡ length taken
     pub table : T keeps (pushed_operands taken) (all_code fs)
 
-  actuals_are : (fs : List Formal) (xs : List ((a : Actual) × N a)) → take_all fs (map given (map fst xs)) ≡ true → Actuals (map kind_taken fs) (map actual_code (map fst xs))
+  actuals_are : (fs : List Formal) (xs : List ((a : Actual) × N a)) → take_all fs (map given (map fst xs)) ≡ true → Actuals (map parameter_kind fs) (map actual_code (map fst xs))
   actuals_are [] [] e = record { as_many = refl; table = none_table p home keeps }
   actuals_are [] (x ∷ xs) e = let f : ⊥ = cc in absurd f
   actuals_are (k ∷ ks) [] e = let f : ⊥ = cc in absurd f
@@ -127,7 +119,7 @@ module _ (p : Program) (variables : List ElanType) (bodies : List Body) (agrees 
       let g = takes_is k _ f.0 in
       let i = subst (λ o. T keeps (pushes o) (actual_code x.0)) g.2 (x.1 g.0 g.1) in
       let j = actuals_are ks xs f.1 in
-      record { as_many = omega (arith, j.as_many); table = join_table p home i (above p home (pushes (kind_taken k)) j.table) }
+      record { as_many = omega (arith, j.as_many); table = join_table p home i (above p home (pushes (parameter_kind k)) j.table) }
 
   arms_are : (xs : List ((a : Arm) × R a)) (g : Stretch) → all_true (map arm_typed (map fst xs)) ≡ true → AT g → T (pushes (OfKind kinds.Int)) keeps (select_code (map arm_code_of (map fst xs)) g)
   arms_are [] g e i = otherwise_table p home i
@@ -232,7 +224,7 @@ module _ (p : Program) (variables : List ElanType) (bodies : List Body) (agrees 
       let g = both _ _ f.0 in
       let i = proc_is p variables bodies agrees q _ (Some v) g.0 (has_is v _ g.1) in
       let j = actuals_are i.parameters as' i.takes in
-      of_type v u f.1 (call_table p home q i.entry (map kind_taken i.parameters) i.cells (Some (kind_in v)) (map actual_code (map fst as')) i.has i.own i.delivers j.as_many j.table)
+      of_type v u f.1 (call_table p home q i.entry (map parameter_kind i.parameters) i.cells (Some (kind_in v)) (map actual_code (map fst as')) i.has i.own i.delivers j.as_many j.table)
   value_parts (t.ValuePhrase::Refer q v) u e =
       let f = only_if_is _ _ u e in
       let g = both _ _ f.0 in
@@ -244,19 +236,19 @@ module _ (p : Program) (variables : List ElanType) (bodies : List Body) (agrees 
 
   actual_parts : (y : NLayer) (f : Formal)
       → actual_type_step variables bodies home (map-Actual _ _ _ _ _ _ _ _ _ _ typed given typ arm_typed arm_type (map-Actual _ _ _ _ _ _ _ _ _ _ fst fst fst fst fst y)) ≡ Some f
-      → T keeps (pushes (kind_taken f)) (actual_code_step (map-Actual _ _ _ _ _ _ _ _ _ _ action_code actual_code value_code arm_code_of value_arm_code (map-Actual _ _ _ _ _ _ _ _ _ _ fst fst fst fst fst y)))
+      → T keeps (pushes (parameter_kind f)) (actual_code_step (map-Actual _ _ _ _ _ _ _ _ _ _ action_code actual_code value_code arm_code_of value_arm_code (map-Actual _ _ _ _ _ _ _ _ _ _ fst fst fst fst fst y)))
   actual_parts (t.Value a) f e = value_given a (typ a.0) refl f e
     where
-      value_given : (a : (e : ValuePhrase) × P e) (o : Typed) → typ a.0 ≡ o → (f : Formal) → given_as Const o ≡ Some f → T keeps (pushes (kind_taken f)) (value_code a.0)
+      value_given : (a : (e : ValuePhrase) × P e) (o : Typed) → typ a.0 ≡ o → (f : Formal) → given_as Const o ≡ Some f → T keeps (pushes (parameter_kind f)) (value_code a.0)
       value_given a None is f e = let g : ⊥ = cc in absurd g
-      value_given a (Some u) is f e = let g : record { of = u; access = Const } ≡ f = cc in subst (λ f. T keeps (pushes (kind_taken f)) (value_code a.0)) g (a.1 u is)
+      value_given a (Some u) is f e = let g : record { of = u; access = Const } ≡ f = cc in subst (λ f. T keeps (pushes (parameter_kind f)) (value_code a.0)) g (a.1 u is)
   actual_parts (t.Place q u) f e = place_given (has u (place_type variables bodies home q)) refl f e
     where
-      place_given : (b : Bool) → has u (place_type variables bodies home q) ≡ b → (f : Formal) → given_as Var (only_if b (Some u)) ≡ Some f → T keeps (pushes (kind_taken f)) (place_code q (kind_in u))
+      place_given : (b : Bool) → has u (place_type variables bodies home q) ≡ b → (f : Formal) → given_as Var (only_if b (Some u)) ≡ Some f → T keeps (pushes (parameter_kind f)) (place_code q (kind_in u))
       place_given false is f e = let g : ⊥ = cc in absurd g
       place_given true is f e =
           let g : record { of = u; access = Var } ≡ f = cc in
-          subst (λ f. T keeps (pushes (kind_taken f)) (place_code q (kind_in u))) g (place_table p home q (kind_in u) (place_is p variables bodies agrees home is_home q u (has_is u _ is)))
+          subst (λ f. T keeps (pushes (parameter_kind f)) (place_code q (kind_in u))) g (place_table p home q (kind_in u) (place_is p variables bodies agrees home is_home q u (has_is u _ is)))
 
   abbrev ALayer : Type 0
   ALayer = Action-F ((a : Action) × Q a) ((a : Actual) × N a) ((e : ValuePhrase) × P e) ((a : Arm) × R a) ((a : ValueArm) × S a)
@@ -297,7 +289,7 @@ module _ (p : Program) (variables : List ElanType) (bodies : List Body) (agrees 
       let g = both _ _ e in
       let i = proc_is p variables bodies agrees q _ None g.0 (none_is _ g.1) in
       let j = actuals_are i.parameters as' i.takes in
-      call_table p home q i.entry (map kind_taken i.parameters) i.cells None (map actual_code (map fst as')) i.has i.own i.delivers j.as_many j.table
+      call_table p home q i.entry (map parameter_kind i.parameters) i.cells None (map actual_code (map fst as')) i.has i.own i.delivers j.as_many j.table
   action_parts (t.Action::Refer q) e =
       let g = both _ _ e in
       let i = part_is p variables bodies agrees q home is_home None g.0 (none_is _ g.1) in

@@ -1,5 +1,5 @@
 -- The tables of each form of phrase agree along each step, whatever its parts are.
-use Rattle.std.proofs.Common.{◌≡◌, ℕ, suc, ◌+◌, ◌<◌, List, [], ◌∷◌, ◌++◌, map, length, drop, Option, Some, None, Bool, refl, sym, ap, ◌∙◌, subst, arith, length-append}
+use Rattle.std.proofs.Common.{◌≡◌, ℕ, suc, ◌+◌, ◌<◌, List, [], ◌∷◌, ◌++◌, length, drop, Option, Some, None, Bool, refl, sym, ap, ◌∙◌, subst, arith}
 use Rattle.std.specs.Prelude.{slice_get, ℤ}
 use Rattle.eu_base.specs.declared.value.Kind.{Kind}
 use Rattle.eu_base.specs.declared.value.Kind.TheVariants as kinds
@@ -22,15 +22,8 @@ use Rattle.elan_types.specs.declared.core_phrase.PlacePhrase.TheVariants as plac
 use Rattle.elan_types.specs.declared.core_phrase.Exit.{Exit}
 use Rattle.elan_types.specs.declared.core_phrase.Exit.TheVariants as exits
 use Rattle.place_gen.specs.Stretch.{Stretch, none, one, keeps, pushes, join, all_code, place_instr, place_code, store_code, modify_code, call_code, refer_code, leave_instr}
-use Rattle.place_gen.proofs.Lines.{HasAt, has_front, has_rest}
+use Rattle.place_gen.proofs.Lines.{HasAt, has_front, has_rest, IsSized, join_sized}
 use Rattle.place_gen.proofs.Homes.{Delivers, HasPlace, LeftBy}
-
--- so many lines, wherever they stand
-abbrev pub IsSized : Stretch → Type 0
-IsSized f = (ks : List OperandKind) (m : Spot) (pc : ℕ) → length (f.lines ks m pc) ≡ f.size
-
-pub join_sized : (f g : Stretch) → IsSized f → IsSized g → IsSized (join f g)
-join_sized f g x y ks m pc = omega (arith, length-append (f.lines ks m pc) (g.lines (f.leaves ks) m (pc + f.size)), x ks m pc, y (f.leaves ks) m (pc + f.size))
 
 -- so many operands are taken off again
 drop_kinds : (more : List Kind) (ks : List OperandKind) (n : ℕ) → drop (length more + n) (pushed_kinds more ks) ≡ drop n ks
