@@ -4,7 +4,7 @@ ghost use Rattle.elan_types.specs.Typing.{IsWellTyped};
 ghost use Rattle.code_gen.specs.Correct.{Behaves};
 ghost use Rattle.code_gen.specs.Program.{program_of};
 
-use crate::bodies::{emit_bodies, kinds};
+use crate::entries::{emit_bodies, kinds};
 use code_form::{Code, Instr};
 use elan_types::Core;
 use eu_base::NoMemory;

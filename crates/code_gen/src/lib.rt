@@ -1,8 +1,8 @@
 //! From the core of a text to the instructions of the machine.
 #![tactic(auto)]
 
-mod bodies;
 mod code;
+mod entries;
 #[cfg(test)]
 mod tests;
 

@@ -1,6 +1,6 @@
 use Rattle.std.proofs.Common.{◌≡◌, ◌++◌, length, drop}
 use Rattle.code_gen.specs.Program.{entries, body_lines}
-use Rattle.code_gen.proofs.bodies.emit_bodies.Given as goal
+use Rattle.code_gen.proofs.entries.emit_bodies.Given as goal
 
 -- what was made for the bodies before, and what there is for those that are left, is all
 abbrev pub invariant-loop-index : goal.invariant-loop-index
