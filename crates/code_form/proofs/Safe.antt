@@ -129,13 +129,13 @@ module _ (p : Program) (valid : IsValid p) where
         owner_is made.number c.entry c.has ∙ c.owned
 
   -- the cells of the level and of the innermost PROC lie below the FOR limits
-  level_below : (fs : List Frame) (body : Option ℕ) (floor : ℕ) → FitsFrames p fs body floor → length p.variables ≤ floor
+  pub level_below : (fs : List Frame) (body : Option ℕ) (floor : ℕ) → FitsFrames p fs body floor → length p.variables ≤ floor
   level_below [] body floor h = omega (arith, h.1)
   level_below (f ∷ fs) body floor h =
       let below = level_below fs h.0.body h.1.0 h.1.1.1 in
       omega (arith, below, h.1.1.0.used, used_below f body floor (base_of fs) h.0 h.1.0 h.1.1.0)
 
-  frame_below : (fs : List Frame) (body : Option ℕ) (floor : ℕ) → FitsFrames p fs body floor → base_of fs + length (frame_cells p body) ≤ floor
+  pub frame_below : (fs : List Frame) (body : Option ℕ) (floor : ℕ) → FitsFrames p fs body floor → base_of fs + length (frame_cells p body) ≤ floor
   frame_below [] body floor h = let e : length (frame_cells p body) ≡ 0 = ap (λ b. length (frame_cells p b)) h.0 in omega (arith, e)
   frame_below (f ∷ fs) body floor h =
       let made = h.1.1.0 in

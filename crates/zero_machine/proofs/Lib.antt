@@ -1,3 +1,2 @@
-pub mod Finds
-pub mod Fitting
-pub mod Small
+pub mod Stacks
+pub mod Counts

@@ -2,18 +2,19 @@
 #![tactic(auto)]
 
 mod ask;
+mod calls;
 mod cells;
 mod execute;
 mod machine;
 mod operate;
 mod operations;
 mod plain;
+mod stack;
 mod state;
 mod step;
-#[cfg(test)]
-mod tests;
 
 pub use code_form::Halt;
 pub use machine::{laws, reply, run, start};
 pub use plain::PlainMemory;
+pub use stack::Stack;
 pub use state::State;
