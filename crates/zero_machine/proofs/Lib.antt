@@ -1,2 +1,6 @@
 pub mod Stacks
 pub mod Counts
+pub mod Finds
+pub mod Fitting
+pub mod Blanks
+pub mod Calling
