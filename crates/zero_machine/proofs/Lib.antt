@@ -4,3 +4,4 @@ pub mod Finds
 pub mod Fitting
 pub mod Blanks
 pub mod Calling
+pub mod Executing
