@@ -30,4 +30,6 @@ made (j ∷ kinds) at (suc x) k cells is =
     ap (λ y. written_from (suc at) (map (λ k. cell_of (blank_of k)) kinds) (written cells (run_cell at) (cell_of (blank_of j))) (run_cell y)) here ∙ made kinds (suc at) x k (written cells (run_cell at) (cell_of (blank_of j))) is
 
 pub blanks_made : (kinds : List Kind) (cells now : Cells) → now ≡ written_from 0 (map (λ k. cell_of (blank_of k)) kinds) cells → IsBlank kinds now
-blanks_made kinds cells now e = λ x k is. ap (λ (c : Cells). c (run_cell x)) e ∙ made kinds 0 x k cells is
+blanks_made kinds cells now e = λ x k is.
+    let here : x ≡ 0 + x = omega arith in
+    ap (λ (c : Cells). c (run_cell x)) e ∙ ap (λ y. written_from 0 (map (λ k. cell_of (blank_of k)) kinds) cells (run_cell y)) here ∙ made kinds 0 x k cells is

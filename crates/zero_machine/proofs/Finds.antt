@@ -112,10 +112,10 @@ module _ (p : Program) (valid : IsValid p) where
       record { entry = f.entry; has = f.has; callable = record { parameters = f.parameters; variables = f.variables; own = f.own; taken = omega (arith, a, b) } }
 
   module _ (c : Control) (fits : Fits p c) (room : c.full ≡ false) where
-    ks : List OperandKind
+    abbrev ks : List OperandKind
     ks = fits.kinds
 
-    m : Spot
+    abbrev m : Spot
     m = fits.spot
 
     limited : (outer : Spot) → m ≡ record { body = outer.body; limits = suc outer.limits } → 1 ≤ c.used

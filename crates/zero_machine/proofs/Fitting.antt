@@ -6,6 +6,7 @@ use Rattle.eu_base.specs.declared.request.Reply.{Reply}
 use Rattle.eu_base.specs.declared.stop.Stop.TheVariants.{CellRoom}
 use Rattle.eu_base.specs.Cells.{Cells}
 use Rattle.code_form.specs.declared.instr.Instr.{Instr}
+use Rattle.code_form.specs.declared.code.Entry.{Entry}
 use Rattle.code_form.specs.declared.halt.Halt.{Halt}
 use Rattle.code_form.specs.declared.halt.Halt.TheVariants as halts
 use Rattle.code_form.specs.Program.{Program, instr_of}
@@ -54,12 +55,12 @@ module _ (p : Program) where
   step_full c cells free full = ap (λ w. step_at w p c cells) free ∙ ap (λ full. free_step full p c cells) full
 
 -- the same, of the instruction that the machine executes
-pub step_fits : {E : Type 0} (p : Program) (c : Control) (result : Result (Option Halt) E) (c' : Control) (cells : Cells) (marks : ℕ) (s' : Scene) → IsValid p → Fits p c → c.waits ≡ None → c.full ≡ false → (i : Instr) → Some i ≡ instr_of (slice_get p.lines c.pc)
-    → IfOk result (λ h. stage_of h c' s' ≡ stage (instruction p.bodies (Some i) c cells) c (scene_of cells marks)) → OnOk result (Fits p c')
-step_fits p c (Ok h) c' cells marks s' valid f free roomy i e goes =
-    let m : step p c cells ≡ instruction p.bodies (Some i) c cells = step_is p c cells i free roomy e in
+pub step_fits : {E : Type 0} (p : Program) (c : Control) (result : Result (Option Halt) E) (c' : Control) (cells : Cells) (marks : ℕ) (s' : Scene) → IsValid p → Fits p c → c.waits ≡ None → c.full ≡ false → (i : Instr) → Some i ≡ instr_of (slice_get p.lines c.pc) → (bodies : List Entry) → bodies ≡ p.bodies
+    → IfOk result (λ h. stage_of h c' s' ≡ stage (instruction bodies (Some i) c cells) c (scene_of cells marks)) → OnOk result (Fits p c')
+step_fits p c (Ok h) c' cells marks s' valid f free roomy i e bodies same goes =
+    let m : step p c cells ≡ instruction bodies (Some i) c cells = step_is p c cells i free roomy e ∙ ap (λ b. instruction b (Some i) c cells) (sym same) in
     stage_fits p c (scene_of cells marks) (step p c cells) (stays_fit p c cells valid f) f h c' s' (goes ∙ ap (λ m. stage m c (scene_of cells marks)) (sym m))
-step_fits p c (Err x) c' cells marks s' valid f free roomy i e goes = tt
+step_fits p c (Err x) c' cells marks s' valid f free roomy i e bodies same goes = tt
 
 -- where a step goes on, the end is nearer
 pub nearer_here : (p : Program) (c c' : Control) (s' : Scene) (cells : Cells) (marks : ℕ) → IsValid p → On c' s' ≡ stage (step p c cells) c (scene_of cells marks) → steps_left p.lines s'.marks (length c'.frames) c'.pc < steps_left p.lines marks (length c.frames) c.pc

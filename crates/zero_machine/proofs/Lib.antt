@@ -5,3 +5,4 @@ pub mod Fitting
 pub mod Blanks
 pub mod Calling
 pub mod Executing
+pub mod Starting

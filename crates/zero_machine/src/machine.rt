@@ -1,5 +1,5 @@
 //! Runs of code.
-ghost use Rattle.std.specs.Prelude.{◌≡◌, ◌≤◌, ◌<◌, ℕ, List, [], length, true, IfOk, OnOk, IsSome, IfSome, Some};
+ghost use Rattle.std.specs.Prelude.{◌≡◌, ◌≤◌, ◌<◌, ℕ, List, [], length, true, not, IfOk, OnOk, IsSome, IfSome, Some};
 ghost use Rattle.eu_base.specs.Room.{cells_fit};
 ghost use Rattle.eu_base.specs.Cells.{HasFaultCause, IsBlank};
 ghost use Rattle.code_form.specs.Machine.{start, step, stage, rest_at, answered};
@@ -13,7 +13,7 @@ use crate::execute::execute;
 use crate::stack::Stack;
 use crate::state::State;
 use code_form::{Code, Halt};
-use eu_base::{CELLS, MemFault, Memory, Reply, Stop};
+use eu_base::{CELLS, Kind, MemFault, Memory, Reply, Stop};
 use std::alloc::Global;
 
 // One step, or why the machine rests.
@@ -51,19 +51,29 @@ pub fn start<M: Memory>(alloc: Global, code: &Code, m: &mut M) -> Result<State, 
     ensures follows { M.follows m.old m.new }
 {
     let _size = code.len();
-    let used = code.variables().len();
-    let full = used > usize::from(CELLS);
-    if !full {
-        write_blanks(m, 0, code.variables())?;
-    }
+    let full = make_variables(m, code.variables())?;
     Ok(State {
         alloc,
         pc: 0,
         stack: Stack::new(alloc),
-        used,
+        used: code.variables().len(),
         full,
         waiting: None,
     })
+}
+
+// Makes the variables, or answers that they have no room.
+fn make_variables<M: Memory>(m: &mut M, variables: &[Kind]) -> Result<bool, MemFault>
+    ensures full { IfOk result (λ full. full ≡ not (cells_fit (length variables.now))) }
+    ensures blank { OnOk result (cells_fit (length variables.now) ≡ true → IsBlank variables.now (M.cells m.new)) }
+    ensures cause { HasFaultCause (M.faults m.old) (M.faults m.new) result }
+    ensures follows { M.follows m.old m.new }
+{
+    if variables.len() > usize::from(CELLS) {
+        return Ok(true);
+    }
+    write_blanks(m, 0, variables)?;
+    Ok(false)
 }
 
 /// Answers the request that the machine waits for.
