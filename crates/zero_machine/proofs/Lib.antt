@@ -6,3 +6,4 @@ pub mod Blanks
 pub mod Calling
 pub mod Executing
 pub mod Starting
+pub mod Samples

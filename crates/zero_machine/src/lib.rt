@@ -12,6 +12,8 @@ mod plain;
 mod stack;
 mod state;
 mod step;
+#[cfg(test)]
+mod tests;
 
 pub use code_form::Halt;
 pub use machine::{laws, reply, run, start};

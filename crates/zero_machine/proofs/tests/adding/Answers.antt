@@ -1,0 +1,5 @@
+use Rattle.zero_machine.proofs.Samples.{adding_valid}
+use Rattle.zero_machine.proofs.tests.adding.Goals as goal
+
+pub new-code-requires : goal.new-code-requires
+new-code-requires c = rw (c.in_ok-add-17.ensures, c.in_ok-add-16.ensures, c.in_ok-add-15.ensures, c.in_ok-add-14.ensures, c.in_ok-add-13.ensures, c.in_ok-add-12.ensures, c.in_ok-add-11.ensures, c.in_ok-add-10.ensures, c.in_ok-add-9.ensures, c.in_ok-add-8.ensures, c.in_ok-add-7.ensures, c.in_ok-add-6.ensures, c.in_ok-add-5.ensures, c.in_ok-add-4.ensures, c.in_ok-add-3.ensures, c.in_ok-add-2.ensures, c.in_ok-add.ensures, c.new-lines.ensures, c.in_ok-add_body-2.ensures, c.in_ok-add_body.ensures, c.new-bodies.ensures) adding_valid
