@@ -1,7 +1,8 @@
 -- Calls of bodies do in the code what they do, since each costs a mark.
-use Rattle.std.proofs.Common.{◌≡◌, ℕ, zero, suc, ◌+◌, ◌<◌, ◌≤◌, List, [], ◌∷◌, ◌++◌, map, length, take, Option, Some, None, Bool, true, false, cond, refl, sym, ap, ◌∙◌, subst, arith, append_assoc, length-append}
-use Rattle.std.specs.Prelude.{slice_get}
-use Rattle.std.proofs.lemmas.List.{length-map}
+use Rattle.std.proofs.Common.{◌≡◌, ℕ, zero, suc, ◌+◌, ◌≤◌, List, [], ◌∷◌, ◌++◌, map, length, Option, Some, None, Bool, true, false, cond, refl, sym, ap, ◌∙◌, subst, arith, append_assoc, length-append}
+use Rattle.std.specs.Prelude.{slice_get, option_map}
+use Rattle.std.proofs.lemmas.Option.{slice_get-map}
+use Rattle.std.proofs.lemmas.Bool.{leb-true}
 use Rattle.eu_base.specs.declared.address.TheConstants.{CELLS}
 use Rattle.eu_base.specs.declared.stop.Stop.TheVariants.{CellRoom}
 use Rattle.eu_base.specs.declared.value.Kind.{Kind}
@@ -11,21 +12,30 @@ use Rattle.eu_base.specs.Cells.{Cells}
 use Rattle.code_form.specs.declared.halt.Halt.TheVariants as halts
 use Rattle.code_form.specs.declared.operand.Operand.{Operand}
 use Rattle.code_form.specs.declared.operand.OperandKind.{OperandKind}
+use Rattle.code_form.specs.declared.operand.OperandKind.TheVariants as operand
 use Rattle.code_form.specs.declared.code.Spot.{Spot}
 use Rattle.code_form.specs.declared.code.Entry.{Entry}
-use Rattle.code_form.specs.Program.{Program, in_body, owner}
-use Rattle.code_form.specs.Machine.{Frame, Control, After as AfterMark, To, Stops, at, base_of, bytes_on, bytes_of, enters, after_stage, written_from}
+use Rattle.code_form.specs.declared.code.Layout.TheVariants as layouts
+use Rattle.code_form.specs.declared.instr.Instr.TheVariants.{Call, Refer}
+use Rattle.code_form.specs.Program as tables
+use Rattle.code_form.specs.Program.{Program, line_of, in_body, owner, cells_in, frame_cells}
+use Rattle.code_form.specs.Machine.{Control, To, Stops, Spends, at, base_of, bytes_on, bytes_of, enters, calls_to, call_move, refer_move, frame_numbers, link_numbers, after_stage, written_from, step}
 use Rattle.elan_types.specs.declared.core_phrase.Exit.{Exit}
 use Rattle.elan_types.specs.declared.core_phrase.Exit.TheVariants as exits
+use Rattle.elan_types.specs.declared.core_phrase.Scope.{Scope}
+use Rattle.elan_types.specs.declared.core_phrase.Scope.TheVariants as scopes
 use Rattle.elan_types.specs.declared.core_phrase.Content.{Content}
-use Rattle.elan_types.specs.Eval.{Slot, World, Outcome, Gives, Left, Stopped, OutOfMarks, Asks, branch, with_room, cut, called, referred, content, Calls, Reach}
-use Rattle.elan_types.specs.Command as endings
+use Rattle.elan_types.specs.declared.core_phrase.Body.{Body}
+use Rattle.elan_types.specs.declared.elan_type.ElanType.{ElanType}
+use Rattle.elan_types.specs.Typing.{kind_in}
+use Rattle.elan_types.specs.Eval.{Slot, World, Outcome, Gives, Left, Stopped, OutOfMarks, Asks, branch, with_room, cut, called, referred, content, frame, link, own_variables, run_called, run_referred, level, Calls}
 use Rattle.elan_types.specs.Command.{Ending}
-use Rattle.place_gen.specs.Stretch.{content_code}
 use Rattle.place_gen.specs.Correct.{scene_of}
-use Rattle.place_gen.proofs.Cells.{Use, OfNothing, Uses, Keeps, AllKept, image, cuts, extends}
-use Rattle.place_gen.proofs.Carry.{HasAt, finish, Result, result_ops, reach, After, Ends, Exits, Carries, CallsCarry, Stands, Within}
-use Rattle.code_gen.specs.Program.{delivered_kind}
+use Rattle.place_gen.specs.Layouts.{layout_of}
+use Rattle.place_gen.proofs.Homes.{Delivers}
+use Rattle.place_gen.proofs.Cells.{OfValue, Uses, Keeps, AllKept, image, get_left, get_right, cuts, extends}
+use Rattle.place_gen.proofs.Carry.{use_of, finish, Result, result_ops, reach, After, Ends, Exits, CallsCarry, Stands, Within, TakeAll, pushed_slots, here, out_carries, spend_carries}
+use Rattle.code_gen.proofs.Entered.{slot_operand, frame_uses, link_uses, all_taken, frame_kept, kept_lengths}
 
 -- what comes of a call, and of a reference, as what comes of the body
 finish_called : (n : ℕ) (o : Outcome (Option Value)) (k : Option Value → World → Ending) (l : Exit → Option Value → World → Ending) → finish (called n o) k l ≡ finish o (λ v w. k v (cut n w)) (λ e v w. k v (cut n w))
@@ -50,20 +60,183 @@ finish_referred n (Asks q w) k l = refl
 
 module _ (p : Program) where
   -- the code of a body does what the body does: it ends as it is left from itself
-  pub record ContentCarries (body : Option ℕ) (d : Option Kind) (first : ℕ) (con : Content) : Type 0 where
-    pub ends : (calls : Calls) (n b : ℕ) (L : Uses) (m : Spot) (c : Control) → m.body ≡ body → Within p calls n b L m c → (l : Exit → Option Value → World → Ending) → Exits p L b body c.frames l → (w : World) → w.marks ≤ b → Ends p L (at c first []) w (finish (content con (reach calls n c []) w) (l exits.Body) l)
+  pub record ContentCarries (q first : ℕ) (con : Content) : Type 0 where
+    pub ends : (calls : Calls) (n b : ℕ) (L : Uses) (c : Control) → Within p calls n b L (in_body q) c → (l : Exit → Option Value → World → Ending) → Exits p L b (Some q) c.frames l → (w : World) → w.marks ≤ b → Ends p L (at c first []) w (finish (content con (reach calls n c []) w) (l exits.Body) l)
 
   -- cells are taken for a frame where there is room, and the machine goes into the body
-  room_ends : (L M : Uses) (more : List Slot) (ns : List ℕ) (c inner : Control) (go : World → Outcome (Option Value)) (k : Option Value → World → Ending) (l : Exit → Option Value → World → Ending) (w : World) (cells : Cells) → c.used ≡ length L → length more ≡ length M → length ns ≡ length M → Keeps L w.store cells → AllKept L (length L) M more ns
-      → ((w' : World) → w'.marks ≡ w.marks → w'.store ≡ w.store ++ more → Ends p (L ++ M) inner w' (finish (go w') k l))
-      → (t : Bool) → cells_fit (length w.store + length more) ≡ t → After p (after_stage (cond t (To inner (written_from c.used ns cells)) (Stops CellRoom)) c (scene_of w cells)) (finish (branch t (λ w. go (record w { store = w.store ++ more })) (Stopped CellRoom) w) k l)
-  room_ends L M more ns c inner go k l w cells used a b h kept e false fits = record {
+  room_ends : (L M : Uses) (more : List Slot) (ns : List ℕ) (c inner : Control) (go : World → Outcome (Option Value)) (k : Option Value → World → Ending) (l : Exit → Option Value → World → Ending) (w : World) (cells : Cells) → c.used ≡ length L → AllKept L (length L) M more ns → Keeps L w.store cells
+      → (t : Bool) → (t ≡ true → Ends p (L ++ M) inner (record w { store = w.store ++ more }) (finish (go (record w { store = w.store ++ more })) k l))
+      → After p (after_stage (cond t (To inner (written_from c.used ns cells)) (Stops CellRoom)) c (scene_of w cells)) (finish (branch t (λ w. go (record w { store = w.store ++ more })) (Stopped CellRoom) w) k l)
+  room_ends L M more ns c inner go k l w cells used kept h false e = record {
     steps = 0;
     rest = record { how = halts.Stopped CellRoom; control = c; scene = scene_of w cells };
     comes = refl;
     shows = record { how = refl; marks = refl; replies = refl; cells = image L w.store cells h };
   }
-  room_ends L M more ns c inner go k l w cells used a b h kept e true fits =
-      let w' : World = record w { store = w.store ++ more } in
-      let x = e w' refl refl (written_from c.used ns cells) (subst (λ n. Keeps (L ++ M) (w.store ++ more) (written_from n ns cells)) (sym used) (extends M L w.store more cells ns h kept)) in
+  room_ends L M more ns c inner go k l w cells used kept h true e =
+      let x = e refl (written_from c.used ns cells) (subst (λ n. Keeps (L ++ M) (w.store ++ more) (written_from n ns cells)) (sym used) (extends M L w.store more cells ns h kept)) in
       record { steps = x.steps; rest = x.rest; comes = x.comes; shows = x.shows }
+
+  -- a body is entered with these cells
+  abbrev entered : Control → ℕ → ℕ → Bool → List Operand → List ℕ → Control
+  entered c first base refines ops ns = record { pc = first; ops = []; used = c.used + length ns; frames = record { back = c.pc + 1; base = base; used = c.used; refines = refines; ops = ops } ∷ c.frames; full = false; waits = None }
+
+  -- with the cells of a frame in use, that those of the frame below are where they were
+  enter_ends : (L M : Uses) (more : List Slot) (ns : List ℕ) (c : Control) (first base : ℕ) (refines : Bool) (ops : List Operand) (go : World → Outcome (Option Value)) (k : Option Value → World → Ending) (l : Exit → Option Value → World → Ending) (w : World) (cells : Cells) → c.used ≡ length L → AllKept L (length L) M more ns → Keeps L w.store cells
+      → (length (L ++ M) ≤ CELLS → Ends p (L ++ M) (entered c first base refines ops ns) (record w { store = w.store ++ more }) (finish (go (record w { store = w.store ++ more })) k l))
+      → After p (after_stage (enters c first base refines ops ns cells) c (scene_of w cells)) (finish (with_room more go w) k l)
+  enter_ends L M more ns c first base refines ops go k l w cells used kept h e =
+      let lengths = kept_lengths L M (length L) more ns kept in
+      let same : c.used + length ns ≡ length w.store + length more = omega (arith, used, h.as_many, lengths.0, lengths.1) in
+      let all : length (L ++ M) ≡ c.used + length ns = omega (arith, used, lengths.1, length-append L M) in
+      let inner = entered c first base refines ops ns in
+      subst (λ n. After p (after_stage (enters c first base refines ops ns cells) c (scene_of w cells)) (finish (branch (cells_fit n) (λ w. go (record w { store = w.store ++ more })) (Stopped CellRoom) w) k l)) same
+      (room_ends L M more ns c inner go k l w cells used kept h (cells_fit (c.used + length ns)) (λ t. e (subst (λ n. n ≤ CELLS) (sym all) (leb-true (c.used + length ns) CELLS t))))
+
+  -- what comes after a body, with its cells given back
+  cut_ends : (L M more : Uses) (n : ℕ) (c : Control) (v : Option Value) (w : World) (k : Option Value → World → Ending) → n ≡ length L → Ends p L c (cut n w) (k v (cut n w)) → Ends p ((L ++ M) ++ more) c w (k v (cut n w))
+  cut_ends L M more n c v w k is e cells keeps = e cells (cuts L (M ++ more) w.store cells n is (subst (λ U. Keeps U w.store cells) (append_assoc L M more) keeps))
+
+-- an entry of the tables is that of a body, whose code does what the body does
+pub record IsMade (p : Program) (bodies : List Body) (q : ℕ) (e : Entry) : Type 0 where
+  pub body : Body
+  pub is : slice_get bodies q ≡ Some body
+  pub layout : e.layout ≡ layout_of body.scope
+  pub carry : ContentCarries p q e.first body.content
+
+module _ (bodies : List Body) (p : Program) where
+  own_is : (s : Scope) (ks : List OperandKind) (vs : List Kind) → layout_of s ≡ layouts.Own ks vs → map kind_in (own_variables s) ≡ vs
+  own_is (scopes.Own ps us) ks vs e = cc
+  own_is (scopes.Of q) ks vs e = let f : ⊥ = cc in absurd f
+  own_is scopes.Level ks vs e = let f : ⊥ = cc in absurd f
+
+  delivers_is : (q : ℕ) (e : Entry) (k : Option Kind) → slice_get p.bodies q ≡ Some e → Delivers p (Some q) k → e.delivers ≡ k
+  delivers_is q e k is d =
+      let same : d.0 ≡ e = entry_is d.0 e (sym d.1 ∙ is) in
+      ap (λ (e : Entry). e.delivers) (sym same) ∙ d.2
+    where
+      entry_is : (a b : Entry) → Some a ≡ Some b → a ≡ b
+      entry_is a b e = cc
+
+  owner_own : (q : ℕ) (e : Entry) (ks : List OperandKind) (vs : List Kind) → slice_get p.bodies q ≡ Some e → e.layout ≡ layouts.Own ks vs → owner p (Some q) ≡ Some q
+  owner_own q e ks vs is own = ap (λ o. tables.owner_at q (tables.layout_of o)) is ∙ ap (tables.owner_in q) own
+
+  frame_own : (q : ℕ) (e : Entry) (ks : List OperandKind) (vs : List Kind) → slice_get p.bodies q ≡ Some e → e.layout ≡ layouts.Own ks vs → frame_cells p (Some q) ≡ ks ++ map operand.Value vs
+  frame_own q e ks vs is own = ap (cells_in p) (owner_own q e ks vs is own) ∙ ap (λ o. tables.cells_at (tables.layout_of o)) is ∙ ap tables.cells_of own
+
+  -- the cells in use behind the frame below are those of the call
+  stands_called : (L : Uses) (m : Spot) (c c' : Control) (q : ℕ) (cells : List OperandKind) → Stands p L m c → length (L ++ frame_uses cells) ≤ CELLS → c'.used ≡ length (L ++ frame_uses cells) → base_of c'.frames ≡ length L + 2 → frame_cells p (Some q) ≡ cells → Stands p (L ++ frame_uses cells) (in_body q) c'
+  stands_called L m c c' q cells h room used base is = record {
+    used = used;
+    room = room;
+    level = λ x k e. get_left L (frame_uses cells) x (OfValue k) (h.level x k e);
+    frame = λ x k e.
+        let n : base_of c'.frames + x ≡ length L + suc (suc x) = omega (arith, base) in
+        ap (slice_get (L ++ frame_uses cells)) n ∙ get_right L (frame_uses cells) (suc (suc x)) ∙ slice_get-map use_of cells x ∙ ap (option_map use_of) (ap (λ l. slice_get l x) (sym is) ∙ e);
+  }
+
+  stands_referred : (L : Uses) (m : Spot) (c c' : Control) (q : ℕ) → Stands p L m c → length (L ++ link_uses) ≤ CELLS → c'.used ≡ length (L ++ link_uses) → base_of c'.frames ≡ base_of c.frames → owner p (Some q) ≡ owner p m.body → Stands p (L ++ link_uses) (in_body q) c'
+  stands_referred L m c c' q h room used base owned = record {
+    used = used;
+    room = room;
+    level = λ x k e. get_left L link_uses x (OfValue k) (h.level x k e);
+    frame = λ x k e.
+        ap (λ z. slice_get (L ++ link_uses) (z + x)) base ∙ get_left L link_uses (base_of c.frames + x) (use_of k) (h.frame x k (ap (λ o. slice_get (cells_in p o) x) (sym owned) ∙ e));
+  }
+
+  module _ (made : (q : ℕ) (e : Entry) → slice_get p.bodies q ≡ Some e → IsMade p bodies q e) where
+    -- a PROC that is called, where calls in it do what they do
+    call_ends : (n b pc q : ℕ) (L : Uses) (m : Spot) (c : Control) (ops : List Operand) (e : Entry) (ks : List OperandKind) (us : List ElanType) (args : List Slot) (con : Content) → CallsCarry p (level bodies n) n → b ≤ n → Stands p L m c → slice_get p.bodies q ≡ Some e → e.layout ≡ layouts.Own ks (map kind_in us) → TakeAll p ks L args → ContentCarries p q e.first con
+        → (k : Option Value → World → Ending) (l : Exit → Option Value → World → Ending) → ((v : Option Value) (w : World) → Result e.delivers v → w.marks ≤ b → Ends p L (at c (pc + 1) (result_ops v ++ ops)) w (k v w)) → (w : World) → w.marks ≤ b → (cells : Cells) → Keeps L w.store cells
+        → After p (after_stage (enters (at c pc (pushed_slots p args ops)) e.first (c.used + 2) false ops (frame_numbers (map slot_operand args) (map kind_in us)) cells) (at c pc (pushed_slots p args ops)) (scene_of w cells)) (finish (with_room (frame args us) (λ w'. called (length w.store) (content con (record { calls = level bodies n; turns = n; base = length w.store + 2; held = bytes_on ops (bytes_of c.frames) }) w')) w) k l)
+    call_ends n b pc q L m c ops e ks us args con calls le h is own takes body k l hk w lw cells keeps =
+        let now = at c pc (pushed_slots p args ops) in
+        let N = length w.store in
+        let same : c.used ≡ N = omega (arith, h.used, keeps.as_many) in
+        let long : N ≡ length L = keeps.as_many in
+        let frame' = ks ++ map operand.Value (map kind_in us) in
+        let M = frame_uses frame' in
+        let ns = frame_numbers (map slot_operand args) (map kind_in us) in
+        let kept = frame_kept p L ks args us takes in
+        let w' : World = record w { store = w.store ++ frame args us } in
+        let inner = entered p now e.first (c.used + 2) false ops ns in
+        let l' = λ (x : Exit) (v : Option Value) (w : World). k v (cut N w) in
+        let to = λ (v : Option Value). at c (pc + 1) (result_ops v ++ ops) in
+        let go = λ (z : ℕ) (w : World). content con (record { calls = level bodies n; turns = n; base = z + 2; held = bytes_on ops (bytes_of c.frames) }) w in
+        let back = λ (d : Option Kind) (gives : Delivers p (Some q) d) (more : Uses) (v : Option Value) (w : World) (r : Result d v) (lw : w.marks ≤ b).
+        cut_ends p L M more N (to v) v w k long (hk v (cut N w) (subst (λ d. Result d v) (sym (delivers_is q e d is gives)) r) lw) in
+        enter_ends p L M (frame args us) ns now e.first (c.used + 2) false ops (λ w. called N (go N w)) k l w cells h.used kept keeps (λ room.
+        let base : c.used + 2 ≡ length L + 2 = omega (arith, h.used) in
+        let used : c.used + length ns ≡ length (L ++ M) = omega (arith, h.used, length-append L M, (kept_lengths L M (length L) (frame args us) ns kept).1) in
+        let within : Within p (level bodies n) n b (L ++ M) (in_body q) inner = record { turns = le; stands = stands_called L m c inner q frame' h room used base (frame_own q e ks (map kind_in us) is own); carry = calls } in
+        let exits' : Exits p (L ++ M) b (Some q) inner.frames l' = record {
+          self = λ d gives more v w r lw. (to v, λ cells. refl, back d gives more v w r lw);
+          around = λ d gives more v w r lw. (to v, λ cells. refl, back d (subst (λ o. Delivers p o d) (owner_own q e ks (map kind_in us) is own) gives) more v w r lw);
+        } in
+        subst (λ o. Ends p (L ++ M) inner w' o) (sym (finish_called N (go N w') k l))
+        (subst (λ z. Ends p (L ++ M) inner w' (finish (go z w') (λ v w. k v (cut N w)) l')) same (body.ends (level bodies n) n b (L ++ M) inner within l' exits' w' lw)))
+
+    -- a refinement, which goes on over the cells of the frame below
+    refer_ends : (n b pc q : ℕ) (L : Uses) (m : Spot) (c : Control) (ops : List Operand) (e : Entry) (con : Content) → CallsCarry p (level bodies n) n → b ≤ n → Stands p L m c → slice_get p.bodies q ≡ Some e → owner p (Some q) ≡ owner p m.body → ContentCarries p q e.first con
+        → (k : Option Value → World → Ending) (l : Exit → Option Value → World → Ending) → ((v : Option Value) (w : World) → Result e.delivers v → w.marks ≤ b → Ends p L (at c (pc + 1) (result_ops v ++ ops)) w (k v w)) → Exits p L b m.body c.frames l → (w : World) → w.marks ≤ b → (cells : Cells) → Keeps L w.store cells
+        → After p (after_stage (enters (at c pc ops) e.first (base_of c.frames) true ops link_numbers cells) (at c pc ops) (scene_of w cells)) (finish (with_room link (λ w'. referred (length w.store) (content con (record { calls = level bodies n; turns = n; base = base_of c.frames; held = bytes_on ops (bytes_of c.frames) }) w')) w) k l)
+    refer_ends n b pc q L m c ops e con calls le h is owned body k l hk hl w lw cells keeps =
+        let now = at c pc ops in
+        let N = length w.store in
+        let M = link_uses in
+        let w' : World = record w { store = w.store ++ link } in
+        let inner = entered p now e.first (base_of c.frames) true ops link_numbers in
+        let l' = from_refinement N k l in
+        let to = λ (v : Option Value). at c (pc + 1) (result_ops v ++ ops) in
+        let go = λ (w : World). content con (record { calls = level bodies n; turns = n; base = base_of c.frames; held = bytes_on ops (bytes_of c.frames) }) w in
+        enter_ends p L M link link_numbers now e.first (base_of c.frames) true ops (λ w. referred N (go w)) k l w cells h.used (refl, (refl, tt)) keeps (λ room.
+        let used : c.used + length link_numbers ≡ length (L ++ M) = omega (arith, h.used, length-append L M) in
+        let within : Within p (level bodies n) n b (L ++ M) (in_body q) inner = record { turns = le; stands = stands_referred L m c inner q h room used refl owned; carry = calls } in
+        let exits' : Exits p (L ++ M) b (Some q) inner.frames l' = record {
+          self = λ d gives more v w r lw. (to v, λ cells. refl, cut_ends p L M more N (to v) v w k keeps.as_many (hk v (cut N w) (subst (λ d. Result d v) (sym (delivers_is q e d is gives)) r) lw));
+          around = λ d gives more v w r lw.
+              let x = hl.around d (subst (λ o. Delivers p o d) owned gives) (M ++ more) v w r lw in
+              (x.0, x.1, subst (λ U. Ends p U x.0 w (l exits.Around v w)) (sym (append_assoc L M more)) x.2);
+        } in
+        subst (λ o. Ends p (L ++ M) inner w' o) (sym (finish_referred N (go w') k l)) (body.ends (level bodies n) n b (L ++ M) inner within l' exits' w' lw))
+
+    call_step : (pc q : ℕ) (L : Uses) (ks : List OperandKind) (m : Spot) (c : Control) (ops : List Operand) (e : Entry) (parameters : List OperandKind) (vs : List Kind) (args : List Slot) → slice_get p.lines pc ≡ Some (line_of (Call q) ks m) → slice_get p.bodies q ≡ Some e → e.layout ≡ layouts.Own parameters vs → TakeAll p parameters L args → (cells : Cells) → step p (at c pc (pushed_slots p args ops)) cells ≡ Spends (enters (at c pc (pushed_slots p args ops)) e.first (c.used + 2) false ops (frame_numbers (map slot_operand args) vs) cells)
+    call_step pc q L ks m c ops e parameters vs args has is own takes cells =
+        let now = at c pc (pushed_slots p args ops) in
+        here p pc (Call q) ks m has c (pushed_slots p args ops) cells ∙ ap (λ o. call_move now o cells) is ∙ ap (λ x. calls_to now e.first x cells) own
+        ∙ all_taken p L parameters args ops (λ args ops. Spends (enters now e.first (c.used + 2) false ops (frame_numbers args vs) cells)) takes
+
+    refer_step : (pc q : ℕ) (ks : List OperandKind) (m : Spot) (c : Control) (ops : List Operand) (e : Entry) → slice_get p.lines pc ≡ Some (line_of (Refer q) ks m) → slice_get p.bodies q ≡ Some e → (cells : Cells) → step p (at c pc ops) cells ≡ Spends (enters (at c pc ops) e.first (base_of c.frames) true ops link_numbers cells)
+    refer_step pc q ks m c ops e has is cells = here p pc (Refer q) ks m has c ops cells ∙ ap (λ o. refer_move (at c pc ops) o cells) is
+
+    -- so calls are carried, however many marks there are
+    pub level_carries : (n : ℕ) → CallsCarry p (level bodies n) n
+    level_carries zero = record {
+      call = λ L b pc q ks m c ops e parameters vs args le h has is own takes.
+          out_carries p b (at c pc (pushed_slots p args ops)) (λ cells. enters (at c pc (pushed_slots p args ops)) e.first (c.used + 2) false ops (frame_numbers (map slot_operand args) vs) cells) (λ v. at c (pc + 1) (result_ops v ++ ops)) le (call_step pc q L ks m c ops e parameters vs args has is own takes);
+      refer = λ L b pc q ks m c ops e le h has is owned.
+          out_carries p b (at c pc ops) (λ cells. enters (at c pc ops) e.first (base_of c.frames) true ops link_numbers cells) (λ v. at c (pc + 1) (result_ops v ++ ops)) le (refer_step pc q ks m c ops e has is);
+    }
+    level_carries (suc n) = record {
+      call = λ L b pc q ks m c ops e parameters vs args le h has is own takes.
+          let x = made q e is in
+          let us = own_variables x.body.scope in
+          let vs_are : map kind_in us ≡ vs = own_is x.body.scope parameters vs (sym x.layout ∙ own) in
+          let own' : e.layout ≡ layouts.Own parameters (map kind_in us) = own ∙ ap (layouts.Own parameters) (sym vs_are) in
+          let held = bytes_on ops (bytes_of c.frames) in
+          let now = at c pc (pushed_slots p args ops) in
+          spend_carries p b now (λ cells. enters now e.first (c.used + 2) false ops (frame_numbers (map slot_operand args) (map kind_in us)) cells) (run_called (level bodies n) n (slice_get bodies q) args held) (λ v. at c (pc + 1) (result_ops v ++ ops)) (call_step pc q L ks m c ops e parameters (map kind_in us) args has is own' takes) (λ b' lt. record {
+            by = λ k l hk hl w lw cells keeps.
+                subst (λ o. After p (after_stage (enters now e.first (c.used + 2) false ops (frame_numbers (map slot_operand args) (map kind_in us)) cells) now (scene_of w cells)) (finish (run_called (level bodies n) n o args held w) k l)) (sym x.is)
+                (call_ends n b' pc q L m c ops e parameters us args x.body.content (level_carries n) (omega (arith, le, lt)) h is own' takes x.carry k l hk w lw cells keeps);
+          });
+      refer = λ L b pc q ks m c ops e le h has is owned.
+          let x = made q e is in
+          let held = bytes_on ops (bytes_of c.frames) in
+          let now = at c pc ops in
+          spend_carries p b now (λ cells. enters now e.first (base_of c.frames) true ops link_numbers cells) (run_referred (level bodies n) n (slice_get bodies q) (base_of c.frames) held) (λ v. at c (pc + 1) (result_ops v ++ ops)) (refer_step pc q ks m c ops e has is) (λ b' lt. record {
+            by = λ k l hk hl w lw cells keeps.
+                subst (λ o. After p (after_stage (enters now e.first (base_of c.frames) true ops link_numbers cells) now (scene_of w cells)) (finish (run_referred (level bodies n) n o (base_of c.frames) held w) k l)) (sym x.is)
+                (refer_ends n b' pc q L m c ops e x.body.content (level_carries n) (omega (arith, le, lt)) h is owned x.carry k l hk hl w lw cells keeps);
+          });
+    }

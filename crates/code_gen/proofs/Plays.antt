@@ -1,12 +1,14 @@
 -- A command that is run in pieces shows what it does.
-use Rattle.std.proofs.Common.{◌≡◌, ℕ, zero, suc, ◌+◌, List, [], ◌∷◌, ◌++◌, map, Some, refl, sym, ap, ◌∙◌, subst, arith}
+use Rattle.std.proofs.Common.{◌≡◌, ℕ, zero, suc, ◌+◌, List, [], ◌∷◌, ◌++◌, map, length, Some, true, refl, sym, ap, ◌∙◌, subst, arith}
 use Rattle.std.specs.Prelude.{slice_get}
 use Rattle.std.proofs.lemmas.List.{length-map}
 use Rattle.eu_base.specs.declared.value.Kind.{Kind}
 use Rattle.eu_base.specs.declared.value.Kind.TheVariants as kinds
+use Rattle.eu_base.specs.declared.value.Value.{Value}
 use Rattle.eu_base.specs.declared.request.Reply.{Reply}
-use Rattle.eu_base.specs.Values.{IsOf, blank_of, cell_of}
-use Rattle.eu_base.specs.Cells.{Cells, IsBlank}
+use Rattle.eu_base.specs.Values.{IsOf, blank_of}
+use Rattle.eu_base.specs.Room.{cells_fit}
+use Rattle.eu_base.specs.Cells.{Cells, IsBlank, run_cell}
 use Rattle.eu_base.proofs.Results.{fits_in_range}
 use Rattle.code_form.specs.Program.{Program}
 use Rattle.code_form.specs.Machine.{Control, Rest, start}
@@ -14,35 +16,49 @@ use Rattle.code_form.specs.Runs.{Rests, Continues}
 use Rattle.elan_types.specs.declared.elan_type.ElanType.{ElanType}
 use Rattle.elan_types.specs.declared.core_phrase.Core.{Core}
 use Rattle.elan_types.specs.Typing.{kind_in}
+use Rattle.elan_types.specs.Eval.{Slot, Holds}
 use Rattle.elan_types.specs.Command.{blank_store, at_start, evaluate}
-use Rattle.code_gen.specs.Correct.{value_at, Holds, Shows, Behaves}
+use Rattle.place_gen.specs.Correct.{StandsFor, HasVariables, Shows}
+use Rattle.code_gen.specs.Correct.{Behaves}
 
 blank_is : (k : Kind) → IsOf k (blank_of k)
 blank_is kinds.Int = fits_in_range _ refl
 blank_is kinds.Truth = tt
 
-blank_at : (us : List ElanType) (x : ℕ) (k : Kind) → slice_get (map kind_in us) x ≡ Some k → value_at (map (λ t. blank_of (kind_in t)) us) x ≡ blank_of k
-blank_at [] x k e = let f : ⊥ = cc in absurd f
-blank_at (u ∷ us) zero k e = let f : kind_in u ≡ k = cc in ap blank_of f
-blank_at (u ∷ us) (suc x) k e = blank_at us x k e
+abbrev blanks : List ElanType → List Slot
+blanks us = map (λ u. Holds (blank_of (kind_in u))) us
+
+blank_each : (us : List ElanType) (x : ℕ) (k : Kind) → slice_get (map kind_in us) x ≡ Some k → (v : Value) × (slice_get (blanks us) x ≡ Some (Holds v)) × IsOf k v
+blank_each [] x k e = let f : ⊥ = cc in absurd f
+blank_each (u ∷ us) zero k e = let f : kind_in u ≡ k = cc in (blank_of (kind_in u), refl, subst (λ k. IsOf k (blank_of (kind_in u))) f (blank_is (kind_in u)))
+blank_each (u ∷ us) (suc x) k e = blank_each us x k e
+
+blank_slot : (us : List ElanType) (x : ℕ) (s : Slot) → slice_get (blanks us) x ≡ Some s → (k : Kind) × (slice_get (map kind_in us) x ≡ Some k) × (s ≡ Holds (blank_of k))
+blank_slot [] x s e = let f : ⊥ = cc in absurd f
+blank_slot (u ∷ us) zero s e = let f : s ≡ Holds (blank_of (kind_in u)) = cc in (kind_in u, refl, f)
+blank_slot (u ∷ us) (suc x) s e = blank_slot us x s e
 
 -- variables that were made hold the values that a command starts with
-pub holds_blank : (core : Core) (cells : Cells) → IsBlank (map kind_in core.variables) cells → Holds (map kind_in core.variables) (blank_store core) cells
-holds_blank core cells blank = record {
-  as_many = length-map core.variables (λ t. blank_of (kind_in t)) ∙ sym (length-map core.variables kind_in);
-  kind = λ x k e. subst (IsOf k) (sym (blank_at core.variables x k e)) (blank_is k);
-  cell = λ x k e. blank x k e ∙ ap cell_of (sym (blank_at core.variables x k e));
-}
+pub has_blank : (core : Core) (cells : Cells) → (cells_fit (length (map kind_in core.variables)) ≡ true → IsBlank (map kind_in core.variables) cells) → HasVariables (map kind_in core.variables) (blank_store core) cells
+has_blank core cells blank =
+    let as_many : length (blank_store core) ≡ length (map kind_in core.variables) = length-map core.variables (λ (u : ElanType). Holds (blank_of (kind_in u))) ∙ sym (length-map core.variables kind_in) in record {
+      as_many = as_many;
+      each = blank_each core.variables;
+      image = λ room x s e.
+          let f = blank_slot core.variables x s e in
+          subst (StandsFor (cells (run_cell x))) (sym f.2) (blank (subst (λ n. cells_fit n ≡ true) as_many room) x f.0 f.1);
+    }
 
 -- where a command came to rest that was run in pieces, with so many marks given and with these replies, it shows what evaluation gives
-pub plays : (core : Core) (p : Program) (cells now : Cells) (given left : ℕ) (replies : List Reply) (c : Control) (last : Rest) → Behaves core p → Holds p.variables (blank_store core) cells → Continues p.lines start cells given replies c now left → Rests p.lines c (record { cells = now; marks = left; replies = [] }) last → Shows p.variables (evaluate core given replies) last
-plays core p cells now given left replies c last b holds k h =
+pub plays : (core : Core) (p : Program) (cells now : Cells) (given left : ℕ) (replies : List Reply) (c : Control) (last : Rest) → Behaves core p → HasVariables p.variables (blank_store core) cells → Continues p (start (length p.variables)) cells given replies c now left → Rests p c (record { cells = now; marks = left; replies = [] }) last → Shows (evaluate core given replies) last
+plays core p cells now given left replies c last b has k h =
     let e : left ≡ left + 0 = omega arith in
     let f : given + 0 ≡ given = omega arith in
-    let g = k.goes 0 [] last (subst (λ m. Rests p.lines c (record { cells = now; marks = m; replies = [] }) last) e h) in
-    let r = subst (λ m. Rests p.lines start (record { cells = cells; marks = m; replies = replies ++ [] }) last) f g in
-    let r' = subst (λ rs. Rests p.lines start (record { cells = cells; marks = given; replies = rs }) last) (append-[] replies) r in
-    b.only (at_start core given replies) cells r'.0 last holds r'.1
+    let first = start (length p.variables) in
+    let g = k.goes 0 [] last (subst (λ m. Rests p c (record { cells = now; marks = m; replies = [] }) last) e h) in
+    let r = subst (λ m. Rests p first (record { cells = cells; marks = m; replies = replies ++ [] }) last) f g in
+    let r' = subst (λ rs. Rests p first (record { cells = cells; marks = given; replies = rs }) last) (append-[] replies) r in
+    b.only (at_start core given replies) cells r'.0 last has r'.1
   where
     append-[] : (l : List Reply) → l ++ [] ≡ l
     append-[] [] = refl

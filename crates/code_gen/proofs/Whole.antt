@@ -1,30 +1,71 @@
--- The code of a whole command.
-use Rattle.std.proofs.Common.{◌≡◌, ℕ, zero, suc, ◌+◌, List, [], ◌∷◌, map, Some, refl, subst, arith}
-use Rattle.std.specs.Prelude.{slice_get}
+-- The code of a whole command does what the command does.
+use Rattle.std.proofs.Common.{◌≡◌, ℕ, ◌+◌, ◌≤◌, List, [], map, length, Option, Some, None, Bool, true, false, not, refl, sym, ap, ◌∙◌, subst, arith}
+use Rattle.std.specs.Prelude.{slice_get, option_map}
 use Rattle.std.proofs.lemmas.List.{length-map}
+use Rattle.std.proofs.lemmas.Bool.{leb-true}
+use Rattle.std.proofs.lemmas.Option.{slice_get-map, slice_get_within, slice_get-get_or}
+use Rattle.eu_base.specs.declared.address.TheConstants.{CELLS}
+use Rattle.eu_base.specs.declared.stop.Stop.TheVariants.{CellRoom}
+use Rattle.eu_base.specs.declared.value.Kind.{Kind}
+use Rattle.eu_base.specs.declared.value.Value.{Value}
+use Rattle.eu_base.specs.Room.{cells_fit}
+use Rattle.eu_base.specs.Cells.{Cells, run_cell}
+use Rattle.code_form.specs.declared.halt.Halt.TheVariants as halts
 use Rattle.code_form.specs.declared.instr.Instr.TheVariants.{End}
-use Rattle.code_form.specs.declared.code.Line.{Line}
-use Rattle.code_form.specs.Program.{Program, line_of}
-use Rattle.code_form.specs.Machine.{at, start}
-use Rattle.code_form.specs.Valid.{Next, IsFine, IsValid}
+use Rattle.code_form.specs.declared.code.Entry.{Entry}
+use Rattle.code_form.specs.Program.{Program, at_level, in_body}
+use Rattle.code_form.specs.Machine.{Control, at, start}
 use Rattle.code_form.proofs.Resume.{one_rest}
+use Rattle.elan_types.specs.declared.core_phrase.Body.{Body}
 use Rattle.elan_types.specs.declared.core_phrase.Core.{Core}
+use Rattle.elan_types.specs.declared.core_phrase.Exit.{Exit}
 use Rattle.elan_types.specs.Typing.{kind_in, IsWellTyped}
-use Rattle.elan_types.specs.Eval.{World, Outcome, Gives, Left, Stopped, OutOfMarks, Asks, all, act}
+use Rattle.elan_types.specs.Eval.{Slot, Holds, Taken, slot_at, World, Outcome, Gives, Left, Stopped, OutOfMarks, Asks, branch, all, act, level}
 use Rattle.elan_types.specs.Command as endings
-use Rattle.elan_types.specs.Command.{Ending, ending, evaluate_from}
-use Rattle.code_gen.specs.Stretch.{Stretch, all_code, action_code, program_of}
-use Rattle.code_gen.specs.Correct.{Shows, scene_of, Ends, Behaves}
-use Rattle.code_gen.proofs.Carry.{has_front, has_rest, has_all, finish, end_ends, here}
-use Rattle.code_gen.proofs.Tables.{Each, each_rest}
-use Rattle.code_gen.proofs.Tree.{ActionOk, all_are}
+use Rattle.elan_types.specs.Command.{Ending, ending, from_level, evaluate_from}
+use Rattle.place_gen.specs.Stretch.{Stretch, keeps, all_code, action_code, content_code}
+use Rattle.place_gen.specs.Correct.{HasVariables, Shows, Comes, scene_of}
+use Rattle.place_gen.specs.Layouts.{delivered_kind}
+use Rattle.place_gen.proofs.Lines.{HasAt, has_front, has_rest}
+use Rattle.place_gen.proofs.Homes.{Delivers}
+use Rattle.place_gen.proofs.Cells.{Use, OfValue, Uses, Kept, Keeps}
+use Rattle.place_gen.proofs.Carry.{finish, Exits, Stands, Within, end_ends, here}
+use Rattle.place_gen.proofs.Forms.{IsAction}
+use Rattle.place_gen.proofs.Tree.{all_are}
+use Rattle.code_gen.specs.Program.{level_code, program_of}
+use Rattle.code_gen.specs.Correct.{Behaves}
+use Rattle.code_gen.proofs.Tables.{agrees, entry_from, has_level, has_bodies}
+use Rattle.code_gen.proofs.Level.{IsMade, level_carries}
+use Rattle.code_gen.proofs.Bodies.{body_has, content_sized, content_carries}
 
-finish_ending : (o : Outcome (Unit {0})) → finish o (λ _ w. endings.Ended w) ≡ ending o
+finish_ending : (o : Outcome (Unit {0})) → finish o (λ _ w. endings.Ended w) (λ e v w. endings.Ended w) ≡ ending o
 finish_ending (Gives a w) = refl
-finish_ending (Left w) = refl
+finish_ending (Left e v w) = refl
 finish_ending (Stopped s w) = refl
 finish_ending (OutOfMarks w) = refl
 finish_ending (Asks q w) = refl
+
+-- the variables of the level alone are in use
+abbrev level_uses : List Kind → Uses
+level_uses kinds = map OfValue kinds
+
+some_is : {A : Type 0} (a b : A) → Some a ≡ Some b → a ≡ b
+some_is a b e = cc
+
+-- cells that hold a store with a value for each variable keep it
+level_kept : (kinds : List Kind) (store : List Slot) (cells : Cells) → HasVariables kinds store cells → cells_fit (length kinds) ≡ true → Keeps (level_uses kinds) store cells
+level_kept kinds store cells h room = record {
+  as_many = h.as_many ∙ sym (length-map kinds OfValue);
+  each = λ x u e. by x u (slice_get kinds x) refl (sym (slice_get-map OfValue kinds x) ∙ e);
+}
+  where
+    by : (x : ℕ) (u : Use) (k : Option Kind) → slice_get kinds x ≡ k → option_map OfValue k ≡ Some u → Kept (level_uses kinds) x u (slot_at store x) (cells (run_cell x))
+    by x u None is e = let f : ⊥ = cc in absurd f
+    by x u (Some k) is e =
+        let v = h.each x k is in
+        let within = slice_get_within store x (Holds v.0) v.1 in
+        let slot : slot_at store x ≡ Holds v.0 = some_is _ _ (sym (slice_get-get_or store x Taken within) ∙ v.1) in
+        subst (λ u. Kept (level_uses kinds) x u (slot_at store x) (cells (run_cell x))) (some_is (OfValue k) u e) (v.0, slot, v.2, h.image (subst (λ n. cells_fit n ≡ true) (sym h.as_many) room) x (Holds v.0) v.1)
 
 module _ (core : Core) (typed : IsWellTyped core) where
   abbrev p : Program
@@ -33,46 +74,72 @@ module _ (core : Core) (typed : IsWellTyped core) where
   abbrev units : Stretch
   units = all_code (map action_code core.units)
 
-  ok : ActionOk core.variables p refl (all (map act core.units)) units
-  ok = all_are core.variables p refl core.units typed.typed
+  -- the units of the level
+  level_is : IsAction p None (all (map act core.units)) units
+  level_is = all_are p core.variables core.bodies (agrees core typed) None tt core.units typed.typed
 
-  pub ends : (w : World) → Ends p start w (evaluate_from core w)
-  ends w =
-      let has = has_all p.lines [] in
-      let q = 0 + units.size in
-      let h = has_rest p.lines 0 units.size (units.lines [] 0 0) _ (ok.does.sized [] 0 0) has in
-      subst (Ends p start w) (finish_ending (all (map act core.units) (record { turns = w.marks }) w))
-      ((ok.does.goes (record { turns = w.marks }) w.marks 0 [] 0 start [] (omega arith) (has_front p.lines 0 (units.lines [] 0 0) _ has)).by
-      (λ _ w. endings.Ended w)
-      (λ _ w' _ le. end_ends p (at start q []) w' (λ cells. here p q End (units.leaves []) 0 h.0 start [] cells))
-      w (omega arith))
-
-  each_get : (at' : ℕ) (ls : List Line) → Each p at' ls → (j : ℕ) (l : Line) → slice_get ls j ≡ Some l → IsFine p (at' + j) l.instr l.operands l.limits
-  each_get at' [] e j l h = let f : ⊥ = cc in absurd f
-  each_get at' (x ∷ ls) e zero l h =
-      let f : x ≡ l = cc in
-      let z : at' ≡ at' + 0 = omega arith in
-      subst (λ n. IsFine p n l.instr l.operands l.limits) z (subst (λ (x : Line). IsFine p at' x.instr x.operands x.limits) f e.0)
-  each_get at' (x ∷ ls) e (suc j) l h = let z : at' + 1 + j ≡ at' + suc j = omega arith in subst (λ n. IsFine p n l.instr l.operands l.limits) z (each_get (at' + 1) ls e.1 j l h)
-
-  pub valid : IsValid p
-  valid =
-      let has = has_all p.lines [] in
-      let q = 0 + units.size in
-      let h = has_rest p.lines 0 units.size (units.lines [] 0 0) _ (ok.does.sized [] 0 0) has in
-      let last : Next p.lines q [] 0 = (End, subst (λ ks. slice_get p.lines q ≡ Some (line_of End ks 0)) (ok.table.leaves []) h.0) in
-      let good = ok.table.good 0 [] 0 (has_front p.lines 0 (units.lines [] 0 0) _ has) last in
-      let each = each_rest p 0 units.size (units.lines [] 0 0) (line_of End (units.leaves []) 0 ∷ []) (ok.does.sized [] 0 0) good.1 (tt, tt) in
+  made : (q : ℕ) (e : Entry) → slice_get p.bodies q ≡ Some e → IsMade p core.bodies q e
+  made q e entry =
+      let x = entry_from core.bodies (level_code core).size q e entry in
+      let sized = λ (n : ℕ) (b : Body) (is : slice_get core.bodies n ≡ Some b). content_sized p core.variables core.bodies (agrees core typed) n (b, is) b.content (typed.bodies n b is) in
+      let n : 0 + q ≡ q = omega arith in
+      let has = subst (λ n. HasAt p.lines e.first ((content_code x.0.content).lines [] (in_body n) e.first)) n (body_has p.lines core.bodies 0 (level_code core).size q x.0 e sized (has_bodies core typed) x.1.1 entry) in
+      let gives : Delivers p (Some q) (delivered_kind x.0.content) = (e, entry, ap (λ (e : Entry). e.delivers) x.1.2) in
       record {
-        few = omega (arith, length-map core.variables kind_in, typed.few);
-        first = good.0;
-        each = λ pc l e. let z : 0 + pc ≡ pc = omega arith in subst (λ n. IsFine p n l.instr l.operands l.limits) z (each_get 0 p.lines each pc l e);
+        body = x.0;
+        is = x.1.1;
+        layout = ap (λ (e : Entry). e.layout) x.1.2;
+        carry = content_carries p core.variables core.bodies (agrees core typed) q (x.0, x.1.1) e.first x.0.content (typed.bodies q x.0 x.1.1) has gives;
       }
+
+  abbrev number : ℕ
+  number = length p.variables
+
+  -- where the variables have room
+  abbrev free : Control
+  free = record { pc = 0; ops = []; used = number; frames = []; full = false; waits = None }
+
+  no_exits : (b : ℕ) (l : Exit → Option Value → World → Ending) → Exits p (level_uses p.variables) b None [] l
+  no_exits b l = record { self = λ k d more v w r le. absurd d; around = λ k d more v w r le. absurd d }
+
+  stands : number ≤ CELLS → Stands p (level_uses p.variables) at_level free
+  stands room = record {
+    used = sym (length-map p.variables OfValue);
+    room = omega (arith, room, length-map p.variables OfValue);
+    level = λ x k e. slice_get-map OfValue p.variables x ∙ ap (option_map OfValue) e;
+    frame = λ x k e. let f : ⊥ = cc in absurd f;
+  }
+
+  runs : (w : World) (cells : Cells) → number ≤ CELLS → Keeps (level_uses p.variables) w.store cells → Comes p free (scene_of w cells) (ending (all (map act core.units) (from_level core w.marks) w))
+  runs w cells room keeps =
+      let l = λ (e : Exit) (v : Option Value) (w : World). endings.Ended w in
+      let q = 0 + units.size in
+      let within : Within p (level core.bodies w.marks) w.marks w.marks (level_uses p.variables) at_level free = record { turns = omega arith; stands = stands room; carry = level_carries core.bodies p made w.marks } in
+      let h = has_rest p.lines 0 units.size (units.lines [] at_level 0) _ (level_is.sized [] at_level 0) (has_level core typed) in
+      subst (Comes p free (scene_of w cells)) (finish_ending (all (map act core.units) (from_level core w.marks) w))
+      ((level_is.goes (level core.bodies w.marks) w.marks w.marks 0 (level_uses p.variables) [] at_level free [] refl within (has_front p.lines 0 (units.lines [] at_level 0) _ (has_level core typed))).by
+      (λ _ w. endings.Ended w) l
+      (λ _ w' _ le. end_ends p (level_uses p.variables) (at free q []) w' (λ cells. here p q End (units.leaves []) at_level h.0 free [] cells))
+      (no_exits w.marks l) w (omega arith) cells keeps)
+
+  by_room : (w : World) (cells : Cells) → HasVariables p.variables w.store cells → (t : Bool) → cells_fit number ≡ t → Comes p (record { pc = 0; ops = []; used = number; frames = []; full = not t; waits = None }) (scene_of w cells) (ending (branch t (all (map act core.units) (from_level core w.marks)) (Stopped CellRoom) w))
+  by_room w cells h true e = runs w cells (leb-true number CELLS e) (level_kept p.variables w.store cells h e)
+  by_room w cells h false e = record {
+    steps = 1;
+    rest = record { how = halts.Stopped CellRoom; control = record { pc = 0; ops = []; used = number; frames = []; full = true; waits = None }; scene = scene_of w cells };
+    comes = refl;
+    shows = record { how = refl; marks = refl; replies = refl; cells = h.image };
+  }
+
+  pub ends : (w : World) (cells : Cells) → HasVariables p.variables w.store cells → Comes p (start number) (scene_of w cells) (evaluate_from core w)
+  ends w cells h =
+      subst (λ n. Comes p (start number) (scene_of w cells) (ending (branch (cells_fit n) (all (map act core.units) (from_level core w.marks)) (Stopped CellRoom) w))) (length-map core.variables kind_in)
+      (by_room w cells h (cells_fit number) refl)
 
   pub behaves : Behaves core p
   behaves = record {
     ends = ends;
     only = λ w cells n r h e.
         let a = ends w cells h in
-        subst (Shows p.variables (evaluate_from core w)) (one_rest p.lines start (scene_of w cells) a.rest r (a.steps, a.comes) (n, e)) a.shows;
+        subst (Shows (evaluate_from core w)) (one_rest p (start number) (scene_of w cells) a.rest r (a.steps, a.comes) (n, e)) a.shows;
   }

@@ -1,14 +1,14 @@
 //! The code of a command.
-ghost use Rattle.std.specs.Prelude.{◌≡◌, IfOk, map};
-ghost use Rattle.elan_types.specs.Typing.{kind_in, IsWellTyped};
-ghost use Rattle.code_gen.specs.Stretch.{program_of};
+ghost use Rattle.std.specs.Prelude.{◌≡◌, IfOk};
+ghost use Rattle.elan_types.specs.Typing.{IsWellTyped};
 ghost use Rattle.code_gen.specs.Correct.{Behaves};
+ghost use Rattle.code_gen.specs.Program.{program_of};
 
-use crate::draft::Draft;
-use crate::emit::{emit_actions, kind_in};
+use crate::bodies::{emit_bodies, kinds};
 use code_form::{Code, Instr};
-use elan_types::{Core, ElanType};
-use eu_base::{Kind, List, NoMemory};
+use elan_types::Core;
+use eu_base::NoMemory;
+use place_gen::{Draft, emit_actions};
 use std::alloc::Global;
 
 /// The code of a command. It does what the command does, with any marks and replies.
@@ -21,21 +21,12 @@ pub fn generate(alloc: Global, core: &Core) -> Result<Code, NoMemory>
     let mut out = Draft::new(alloc);
     emit_actions(&mut out, core.units.as_slice())?;
     out.put(Instr::End, 0, None)?;
+    let bodies = emit_bodies(&mut out, core.bodies.as_slice())?;
     let Draft {
         alloc: _,
         lines,
         pending: _,
-        limits: _,
+        spot: _,
     } = out;
-    Ok(Code::new(variables, lines))
-}
-
-fn kinds(alloc: Global, types: &[ElanType]) -> Result<List<Kind>, NoMemory>
-    ensures { IfOk result (λ kinds. kinds ≡ map kind_in types.now) }
-{
-    let mut kinds = List::new(alloc);
-    for of in types {
-        kinds.push(kind_in(*of))?;
-    }
-    Ok(kinds)
+    Ok(Code::new(variables, bodies, lines))
 }

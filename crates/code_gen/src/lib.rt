@@ -1,10 +1,8 @@
 //! From the core of a text to the instructions of the machine.
 #![tactic(auto)]
 
+mod bodies;
 mod code;
-mod draft;
-mod emit;
-mod size;
 #[cfg(test)]
 mod tests;
 

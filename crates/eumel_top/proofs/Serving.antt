@@ -1,7 +1,6 @@
 -- A program that is served writes what its evaluation says.
-use Rattle.std.proofs.Common.{◌≡◌, ℕ, ◌+◌, ◌<◌, ◌≤◌, List, [], ◌∷◌, ◌++◌, Option, Some, None, refl, sym, ap, ◌∙◌, subst, append_assoc, append-nil, arith}
+use Rattle.std.proofs.Common.{◌≡◌, ℕ, ◌+◌, ◌<◌, ◌≤◌, List, [], ◌∷◌, ◌++◌, Option, Some, None, refl, sym, ap, ◌∙◌, subst, append_assoc, append-nil, length, arith}
 use Rattle.std.specs.Prelude.{IsSome, IfSome}
-use Rattle.eu_base.specs.declared.value.Kind.{Kind}
 use Rattle.eu_base.specs.declared.stop.Stop.{Stop}
 use Rattle.eu_base.specs.declared.stop.Stop.TheVariants.{LineMarks}
 use Rattle.eu_base.specs.declared.request.Request.{Request}
@@ -12,10 +11,11 @@ use Rattle.code_form.specs.declared.halt.Halt.{Halt}
 use Rattle.code_form.specs.declared.halt.Halt.TheVariants as halts
 use Rattle.code_form.specs.Program.{Program}
 use Rattle.code_form.specs.Machine.{Control, Rest, rest_at, start, answered}
-use Rattle.code_form.specs.Runs.{Rests, Continues}
+use Rattle.code_form.specs.Runs.{Rests, IsPaused, Continues}
 use Rattle.code_form.proofs.Resume.{continues_here, continues_run, continues_reply}
 use Rattle.code_form.proofs.Paid.{asks_spends}
-use Rattle.code_gen.specs.Correct.{Shows, Behaves, Holds}
+use Rattle.place_gen.specs.Correct.{HasVariables, Shows}
+use Rattle.code_gen.specs.Correct.{Behaves}
 use Rattle.code_gen.proofs.Plays.{plays}
 use Rattle.zero_machine.specs.Running.{scene_of}
 use Rattle.elan_types.specs.declared.core_phrase.Core.{Core}
@@ -29,29 +29,29 @@ use Rattle.eumel_top.specs.Program.{Writes, ends, stops, spent, writes, shows}
 use Rattle.eumel_top.proofs.Waiting.{waits}
 
 -- how a run came to rest tells how the evaluation stands
-shows_ended : (variables : List Kind) (e : Ending) (r : Rest) → Shows variables e r → r.how ≡ halts.Ended → (w : World) × (e ≡ Ended w)
-shows_ended variables (Ended w) r h how = (w, refl)
-shows_ended variables (Stopped s w) r h how = absurd (cc (h.how, how))
-shows_ended variables (OutOfMarks w) r h how = absurd (cc (h.how, how))
-shows_ended variables (Asks q w) r h how = absurd (cc (h.how, how))
+shows_ended : (e : Ending) (r : Rest) → Shows e r → r.how ≡ halts.Ended → (w : World) × (e ≡ Ended w)
+shows_ended (Ended w) r h how = (w, refl)
+shows_ended (Stopped s w) r h how = absurd (cc (h.how, how))
+shows_ended (OutOfMarks w) r h how = absurd (cc (h.how, how))
+shows_ended (Asks q w) r h how = absurd (cc (h.how, how))
 
-shows_marked : (variables : List Kind) (e : Ending) (r : Rest) → Shows variables e r → r.how ≡ halts.Marked → (w : World) × (e ≡ OutOfMarks w)
-shows_marked variables (Ended w) r h how = absurd (cc (h.how, how))
-shows_marked variables (Stopped s w) r h how = absurd (cc (h.how, how))
-shows_marked variables (OutOfMarks w) r h how = (w, refl)
-shows_marked variables (Asks q w) r h how = absurd (cc (h.how, how))
+shows_marked : (e : Ending) (r : Rest) → Shows e r → r.how ≡ halts.Marked → (w : World) × (e ≡ OutOfMarks w)
+shows_marked (Ended w) r h how = absurd (cc (h.how, how))
+shows_marked (Stopped s w) r h how = absurd (cc (h.how, how))
+shows_marked (OutOfMarks w) r h how = (w, refl)
+shows_marked (Asks q w) r h how = absurd (cc (h.how, how))
 
-shows_stopped : (variables : List Kind) (s : Stop) (e : Ending) (r : Rest) → Shows variables e r → r.how ≡ halts.Stopped s → (w : World) × (e ≡ Stopped s w)
-shows_stopped variables s (Ended w) r h how = absurd (cc (h.how, how))
-shows_stopped variables s (Stopped s' w) r h how = let same : s' ≡ s = cc (h.how, how) in (w, ap (λ t. Stopped t w) same)
-shows_stopped variables s (OutOfMarks w) r h how = absurd (cc (h.how, how))
-shows_stopped variables s (Asks q w) r h how = absurd (cc (h.how, how))
+shows_stopped : (s : Stop) (e : Ending) (r : Rest) → Shows e r → r.how ≡ halts.Stopped s → (w : World) × (e ≡ Stopped s w)
+shows_stopped s (Ended w) r h how = absurd (cc (h.how, how))
+shows_stopped s (Stopped s' w) r h how = let same : s' ≡ s = cc (h.how, how) in (w, ap (λ t. Stopped t w) same)
+shows_stopped s (OutOfMarks w) r h how = absurd (cc (h.how, how))
+shows_stopped s (Asks q w) r h how = absurd (cc (h.how, how))
 
-shows_asks : (variables : List Kind) (q : Request) (e : Ending) (r : Rest) → Shows variables e r → r.how ≡ halts.Asks q → (w : World) × (e ≡ Asks q w)
-shows_asks variables q (Ended w) r h how = absurd (cc (h.how, how))
-shows_asks variables q (Stopped s w) r h how = absurd (cc (h.how, how))
-shows_asks variables q (OutOfMarks w) r h how = absurd (cc (h.how, how))
-shows_asks variables q (Asks q' w) r h how = let same : q' ≡ q = cc (h.how, how) in (w, ap (λ t. Asks t w) same)
+shows_asks : (q : Request) (e : Ending) (r : Rest) → Shows e r → r.how ≡ halts.Asks q → (w : World) × (e ≡ Asks q w)
+shows_asks q (Ended w) r h how = absurd (cc (h.how, how))
+shows_asks q (Stopped s w) r h how = absurd (cc (h.how, how))
+shows_asks q (OutOfMarks w) r h how = absurd (cc (h.how, how))
+shows_asks q (Asks q' w) r h how = let same : q' ≡ q = cc (h.how, how) in (w, ap (λ t. Asks t w) same)
 
 -- one after another
 put_all-append : (s : Screen) (ws more : List Written) → screen.put_all s (ws ++ more) ≡ screen.put_all (screen.put_all s ws) more
@@ -59,47 +59,47 @@ put_all-append s [] more = refl
 put_all-append s (w ∷ ws) more = put_all-append (put s w) ws more
 
 -- at the start nothing was answered
-pub served_first : (p : Program) (first : Cells) (control : Control) → control ≡ start → IsServed p first control first 100000 blank
+pub served_first : (p : Program) (first : Cells) (control : Control) → control ≡ start (length p.variables) → IsServed p first control first 100000 blank
 served_first p first control is = record {
   replies = [];
   written = [];
-  run = subst (λ c. Continues p.lines start first 100000 [] c first 100000) (sym is) (continues_here p.lines start first 100000);
+  run = subst (λ c. Continues p (start (length p.variables)) first 100000 [] c first 100000) (sym is) (continues_here p (start (length p.variables)) first 100000);
   shown = refl;
   before = λ core b h ws stop w. w;
 }
 
 module _ (p : Program) (first : Cells) (control : Control) (cells : Cells) (marks : ℕ) (s : Screen) (served : IsServed p first control cells marks s) where
   -- the evaluation with the replies so far, where the run comes to rest next
-  module _ (h : Halt) (control' : Control) (cells' : Cells) (marks' : ℕ) (rests : Rests p.lines control (scene_of cells marks) (rest_at h control' (scene_of cells' marks'))) where
+  module _ (h : Halt) (control' : Control) (cells' : Cells) (marks' : ℕ) (rests : Rests p control (scene_of cells marks) (rest_at h control' (scene_of cells' marks'))) where
     abbrev now : Rest
     now = rest_at h control' (scene_of cells' marks')
 
-    shown_so : (core : Core) → Behaves core p → Holds p.variables (blank_store core) first → Shows p.variables (evaluate core 100000 served.replies) now
+    shown_so : (core : Core) → Behaves core p → HasVariables p.variables (blank_store core) first → Shows (evaluate core 100000 served.replies) now
     shown_so core b holds = plays core p first cells 100000 marks served.replies control now b holds served.run rests
 
     -- a rest that ends the program
-    whole : (core : Core) → Behaves core p → Holds p.variables (blank_store core) first → (stop : Option Stop) (out : List ℕ) → Writes core 100000 served.replies [] stop → out ≡ final s stop → text.Shows core out
+    whole : (core : Core) → Behaves core p → HasVariables p.variables (blank_store core) first → (stop : Option Stop) (out : List ℕ) → Writes core 100000 served.replies [] stop → out ≡ final s stop → text.Shows core out
     whole core b holds stop out w is =
         let all : Writes core 100000 [] served.written stop = subst (λ ws. Writes core 100000 [] ws stop) (append-nil served.written) (served.before core b holds [] stop w) in
         rw (is, served.shown) (shows all)
 
-    pub served_ended : h ≡ halts.Ended → (out : List ℕ) → out ≡ final s None → (core : Core) → Behaves core p → Holds p.variables (blank_store core) first → text.Shows core out
+    pub served_ended : h ≡ halts.Ended → (out : List ℕ) → out ≡ final s None → (core : Core) → Behaves core p → HasVariables p.variables (blank_store core) first → text.Shows core out
     served_ended is out out_is core b holds =
-        let e = shows_ended p.variables (evaluate core 100000 served.replies) now (shown_so core b holds) is in
+        let e = shows_ended (evaluate core 100000 served.replies) now (shown_so core b holds) is in
         whole core b holds None out (ends e.1) out_is
 
-    pub served_stopped : (stop : Stop) → h ≡ halts.Stopped stop → (out : List ℕ) → out ≡ final s (Some stop) → (core : Core) → Behaves core p → Holds p.variables (blank_store core) first → text.Shows core out
+    pub served_stopped : (stop : Stop) → h ≡ halts.Stopped stop → (out : List ℕ) → out ≡ final s (Some stop) → (core : Core) → Behaves core p → HasVariables p.variables (blank_store core) first → text.Shows core out
     served_stopped stop is out out_is core b holds =
-        let e = shows_stopped p.variables stop (evaluate core 100000 served.replies) now (shown_so core b holds) is in
+        let e = shows_stopped stop (evaluate core 100000 served.replies) now (shown_so core b holds) is in
         whole core b holds (Some stop) out (stops e.1) out_is
 
-    pub served_marked : h ≡ halts.Marked → (out : List ℕ) → out ≡ final s (Some LineMarks) → (core : Core) → Behaves core p → Holds p.variables (blank_store core) first → text.Shows core out
+    pub served_marked : h ≡ halts.Marked → (out : List ℕ) → out ≡ final s (Some LineMarks) → (core : Core) → Behaves core p → HasVariables p.variables (blank_store core) first → text.Shows core out
     served_marked is out out_is core b holds =
-        let e = shows_marked p.variables (evaluate core 100000 served.replies) now (shown_so core b holds) is in
+        let e = shows_marked (evaluate core 100000 served.replies) now (shown_so core b holds) is in
         whole core b holds (Some LineMarks) out (spent e.1) out_is
 
     asked : (q : Request) → h ≡ halts.Asks q → control'.waits ≡ Some q
-    asked q is = waits p.lines rests.0 control (scene_of cells marks) now q rests.1 is
+    asked q is = waits p rests.0 control (scene_of cells marks) now q rests.1 is
 
     pub has_asked : (q : Request) → h ≡ halts.Asks q → IsSome control'.waits
     has_asked q is = by control'.waits (asked q is)
@@ -111,7 +111,7 @@ module _ (p : Program) (first : Cells) (control : Control) (cells : Cells) (mark
     -- a request costs a mark
     pub has_paid : (q : Request) → h ≡ halts.Asks q → control.waits ≡ None → marks' < marks
     has_paid q is free =
-        let most : marks' + 1 ≤ marks = asks_spends p.lines control (scene_of cells marks) now q rests.0 free rests.1 is in
+        let most : marks' + 1 ≤ marks = asks_spends p control (scene_of cells marks) now q rests.0 free rests.1 is in
         omega (arith, most)
 
     -- the answer that is given
@@ -130,10 +130,10 @@ module _ (p : Program) (first : Cells) (control : Control) (cells : Cells) (mark
     served_on (Out bytes line_ends) s' control'' cells'' is put_is answer cells_is = record {
       replies = served.replies ++ Done ∷ [];
       written = served.written ++ w ∷ [];
-      run = rw (answer_is, cells_is) (continues_reply p.lines start first 100000 marks' served.replies control' cells' q Done (asked q is) (continues_run p.lines start first 100000 marks served.replies control cells now served.run rests refl));
+      run = rw (answer_is, cells_is) (continues_reply p (start (length p.variables)) first 100000 marks' served.replies control' cells' q Done (asked q is) (continues_run p (start (length p.variables)) first 100000 marks served.replies control cells now (subst IsPaused (sym is) tt) served.run rests refl));
       shown = put_is ∙ (ap (λ x. put x w) served.shown ∙ sym (put_all-append blank served.written (w ∷ [])));
       before = λ core b holds ws stop more.
-          let e = shows_asks p.variables q (evaluate core 100000 served.replies) now (shown_so core b holds) is in
+          let e = shows_asks q (evaluate core 100000 served.replies) now (shown_so core b holds) is in
           rw (append_assoc served.written (w ∷ []) ws) (served.before core b holds (w ∷ ws) stop (writes e.1 more));
     }
       where

@@ -1,8 +1,6 @@
 -- How the machine follows a run, whatever phrase the run comes from.
-use Rattle.std.proofs.Common.{◌≡◌, ℕ, zero, suc, ◌+◌, ◌<◌, ◌≤◌, List, [], ◌∷◌, ◌++◌, length, Option, Some, None, Bool, true, false, cond, refl, sym, ap, ◌∙◌, subst, arith, append_assoc, length-append}
+use Rattle.std.proofs.Common.{◌≡◌, ℕ, zero, suc, ◌+◌, ◌<◌, ◌≤◌, List, [], ◌∷◌, ◌++◌, length, Option, Some, None, Bool, true, false, cond, refl, sym, ap, ◌∙◌, subst, arith, append_assoc}
 use Rattle.std.specs.Prelude.{slice_get, Ok, Err}
-use Rattle.std.proofs.Math.Seq.{get_or-append_seam}
-use Rattle.std.proofs.lemmas.Option.{slice_get-get_or}
 use Rattle.eu_base.specs.declared.address.TheConstants.{CELLS}
 use Rattle.eu_base.specs.declared.value.Kind.{Kind}
 use Rattle.eu_base.specs.declared.value.Value.{Value}
@@ -11,7 +9,6 @@ use Rattle.eu_base.specs.declared.stop.Stop.TheVariants.{OperandRoom}
 use Rattle.eu_base.specs.declared.request.Request.{Request}
 use Rattle.eu_base.specs.declared.request.Reply.{Reply}
 use Rattle.eu_base.specs.Values.{IsOf, cell_of}
-use Rattle.eu_base.specs.Room.{value_bytes, place_bytes, bytes_fit}
 use Rattle.eu_base.specs.Operations.{Given}
 use Rattle.eu_base.specs.Cells.{Cells, run_cell, written}
 use Rattle.code_form.specs.declared.operand.Operand.{Operand}
@@ -21,13 +18,11 @@ use Rattle.code_form.specs.declared.operand.OperandKind.TheVariants as operand
 use Rattle.code_form.specs.declared.halt.Halt.TheVariants as halts
 use Rattle.code_form.specs.declared.instr.Instr.{Instr}
 use Rattle.code_form.specs.declared.instr.Instr.TheVariants.{Call, Refer}
-use Rattle.code_form.specs.declared.code.Line.{Line}
 use Rattle.code_form.specs.declared.code.Spot.{Spot}
 use Rattle.code_form.specs.declared.code.Entry.{Entry}
-use Rattle.code_form.specs.declared.code.Layout.{Layout}
 use Rattle.code_form.specs.declared.code.Layout.TheVariants as layouts
 use Rattle.code_form.specs.Program.{Program, line_of, instr_of, owner, frame_cells}
-use Rattle.code_form.specs.Machine.{Frame, Control, After as AfterMark, To, Stops, Move, Goes, Spends, Awaits, Halts, at, operand_bytes, bytes_on, bytes_of, base_of, pushes, back_to, out_to, instruction, step, Scene, Rest, answered, Stage, after_stage, mark_stage, reply_stage, stage, carry_on, exec}
+use Rattle.code_form.specs.Machine.{Frame, Control, After as AfterMark, To, Move, Goes, Spends, Awaits, Halts, at, bytes_on, bytes_of, base_of, back_to, out_to, instruction, step, Scene, Rest, answered, Stage, after_stage, mark_stage, reply_stage, stage, carry_on, exec}
 use Rattle.elan_types.specs.declared.core_phrase.Exit.{Exit}
 use Rattle.elan_types.specs.declared.core_phrase.Exit.TheVariants as exits
 use Rattle.elan_types.specs.Eval.{Place, Slot, Holds, Refers, Taken, World, Outcome, Gives, Left, Stopped, OutOfMarks, Asks, bind, spend_at, spend, ask_at, ask, branch, or_stop, assign, turns, Calls, Reach}
@@ -35,36 +30,9 @@ use Rattle.elan_types.specs.Command as endings
 use Rattle.elan_types.specs.Command.{Ending}
 use Rattle.place_gen.specs.Stretch.{Stretch, join}
 use Rattle.place_gen.specs.Correct.{Shows, Comes, scene_of}
-use Rattle.place_gen.proofs.Cells.{Use, OfValue, OfPlace, OfLimit, OfNothing, Uses, Keeps, image, writes}
-
--- these lines stand in the code at this place
-abbrev pub HasAt : List Line → ℕ → List Line → Type 0
-HasAt code pc [] = Unit {0}
-HasAt code pc (l ∷ ls) = (slice_get code pc ≡ Some l) × HasAt code (pc + 1) ls
-
-pub has_front : (code : List Line) (pc : ℕ) (a b : List Line) → HasAt code pc (a ++ b) → HasAt code pc a
-has_front code pc [] b h = tt
-has_front code pc (l ∷ a) b h = (h.0, has_front code (pc + 1) a b h.1)
-
-has_back : (code : List Line) (pc : ℕ) (a b : List Line) → HasAt code pc (a ++ b) → HasAt code (pc + length a) b
-has_back code pc [] b h = let e : pc ≡ pc + 0 = omega arith in subst (λ n. HasAt code n b) e h
-has_back code pc (l ∷ a) b h =
-    let e : pc + 1 + length a ≡ pc + length (l ∷ a) = omega arith in
-    subst (λ n. HasAt code n b) e (has_back code (pc + 1) a b h.1)
-
--- what stands behind so many lines
-pub has_rest : (code : List Line) (pc n : ℕ) (a b : List Line) → length a ≡ n → HasAt code pc (a ++ b) → HasAt code (pc + n) b
-has_rest code pc n a b e h = subst (λ n. HasAt code (pc + n) b) e (has_back code pc a b h)
-
-pub has_all : (is pre : List Line) → HasAt (pre ++ is) (length pre) is
-has_all [] pre = tt
-has_all (i ∷ is) pre =
-    let within : length pre < length (pre ++ i ∷ is) = omega (arith, length-append pre (i ∷ is)) in
-    let here = slice_get-get_or (pre ++ i ∷ is) (length pre) i within ∙ ap Some (get_or-append_seam pre i is i) in
-    let n : length (pre ++ i ∷ []) ≡ length pre + 1 = omega (arith, length-append pre (i ∷ [])) in
-    let rest = has_all is (pre ++ i ∷ []) in
-    let rest' = subst (λ l. HasAt l (length (pre ++ i ∷ [])) is) (append_assoc pre (i ∷ []) is) rest in
-    (here, subst (λ m. HasAt (pre ++ i ∷ is) m is) n rest')
+use Rattle.place_gen.proofs.Lines.{HasAt, has_front, has_rest}
+use Rattle.place_gen.proofs.Homes.{Delivers}
+use Rattle.place_gen.proofs.Cells.{Use, OfValue, OfPlace, Uses, Keeps, image, writes}
 
 -- what an outcome goes on to, after a result and by an exit
 abbrev pub finish : {A : Type 0} → Outcome A → (A → World → Ending) → (Exit → Option Value → World → Ending) → Ending
@@ -74,7 +42,7 @@ finish (Stopped s w) k l = endings.Stopped s w
 finish (OutOfMarks w) k l = endings.OutOfMarks w
 finish (Asks q w) k l = endings.Asks q w
 
-finish_bind : {A B : Type 0} (o : Outcome A) (f : A → World → Outcome B) (k : B → World → Ending) (l : Exit → Option Value → World → Ending) → finish (bind o f) k l ≡ finish o (λ a w. finish (f a w) k l) l
+pub finish_bind : {A B : Type 0} (o : Outcome A) (f : A → World → Outcome B) (k : B → World → Ending) (l : Exit → Option Value → World → Ending) → finish (bind o f) k l ≡ finish o (λ a w. finish (f a w) k l) l
 finish_bind (Gives a w) f k l = refl
 finish_bind (Left e v w) f k l = refl
 finish_bind (Stopped s w) f k l = refl
@@ -156,15 +124,18 @@ module _ (p : Program) where
     shows = record { how = refl; marks = refl; replies = refl; cells = image L w.store cells keeps };
   })
 
-  -- what is delivered by the body of this number, and by the PROC whose cells it uses
-  abbrev pub Delivers : Option ℕ → Option Kind → Type 0
-  Delivers None k = ⊥
-  Delivers (Some n) k = (e : Entry) × (slice_get p.bodies n ≡ Some e) × (e.delivers ≡ k)
+  read_ends : {L : Uses} {A : Type 0} (c : Control) (a : A) (t : Bool) (to : A → Control) (k : A → World → Ending) (l : Exit → Option Value → World → Ending) (w : World) (cells : Cells) → Keeps L w.store cells → Ends L (to a) w (k a w) → step p c cells ≡ cond t (Goes (to a) cells) (Halts (halts.Stopped OperandRoom)) → Comes p c (scene_of w cells) (finish (branch t (Gives a) (Stopped OperandRoom) w) k l)
+  read_ends c a true to k l w cells h next e = on_step c (to a) (scene_of w cells) cells _ e (next cells h)
+  read_ends {L} c a false to k l w cells h next e = stop_comes L c w OperandRoom cells h e
+
+  -- an instruction that writes to the cell of a variable
+  pub write_ends : {L : Uses} (c c' : Control) (w : World) (x : Place) (k : Kind) (v : Value) (e : Ending) (cells : Cells) → AtKind k L x → IsOf k v → Keeps L w.store cells → step p c cells ≡ Goes c' (written cells (run_cell x.variable) (cell_of v)) → Ends L c' (assign x v w) e → Comes p c (scene_of w cells) e
+  write_ends {L} c c' w x k v e cells is ok h m a = on_step c c' (scene_of w cells) (written cells (run_cell x.variable) (cell_of v)) e m (a _ (writes L w.store cells x.variable k v h is ok))
 
   -- where a body is left, the machine goes to the frame below, and on as the exit says, whatever cells were taken meanwhile
   pub record Exits (L : Uses) (b : ℕ) (body : Option ℕ) (fs : List Frame) (l : Exit → Option Value → World → Ending) : Type 0 where
-    pub self : (k : Option Kind) → Delivers body k → (more : Uses) (v : Option Value) (w : World) → Result k v → w.marks ≤ b → (c' : Control) × ((cells : Cells) → back_to (result_ops v) fs cells ≡ Goes c' cells) × Ends (L ++ more) c' w (l exits.Body v w)
-    pub around : (k : Option Kind) → Delivers (owner p body) k → (more : Uses) (v : Option Value) (w : World) → Result k v → w.marks ≤ b → (c' : Control) × ((cells : Cells) → out_to (result_ops v) fs cells ≡ Goes c' cells) × Ends (L ++ more) c' w (l exits.Around v w)
+    pub self : (k : Option Kind) → Delivers p body k → (more : Uses) (v : Option Value) (w : World) → Result k v → w.marks ≤ b → (c' : Control) × ((cells : Cells) → back_to (result_ops v) fs cells ≡ Goes c' cells) × Ends (L ++ more) c' w (l exits.Body v w)
+    pub around : (k : Option Kind) → Delivers p (owner p body) k → (more : Uses) (v : Option Value) (w : World) → Result k v → w.marks ≤ b → (c' : Control) × ((cells : Cells) → out_to (result_ops v) fs cells ≡ Goes c' cells) × Ends (L ++ more) c' w (l exits.Around v w)
 
   pub fewer : {L : Uses} {b b' : ℕ} {body : Option ℕ} {fs : List Frame} {l : Exit → Option Value → World → Ending} → b' ≤ b → Exits L b body fs l → Exits L b' body fs l
   fewer le h = record { self = λ k d more v w r m. h.self k d more v w r (omega (arith, le, m)); around = λ k d more v w r m. h.around k d more v w r (omega (arith, le, m)) }
@@ -180,6 +151,19 @@ module _ (p : Program) where
   -- says, and on with the good results that it gives, or by an exit
   pub record Carries {A : Type 0} (L : Uses) (body : Option ℕ) (fs : List Frame) (Good : Uses → A → Type 0) (b : ℕ) (c : Control) (run : World → Outcome A) (to : A → Control) : Type 0 where
     pub by : (k : A → World → Ending) (l : Exit → Option Value → World → Ending) → ((a : A) (w : World) → Good L a → w.marks ≤ b → Ends L (to a) w (k a w)) → Exits L b body fs l → (w : World) → w.marks ≤ b → Ends L c w (finish (run w) k l)
+
+  -- a mark, and what follows it: it goes on so, or stops
+  pub record Goes' {A : Type 0} (L : Uses) (body : Option ℕ) (fs : List Frame) (Good : Uses → A → Type 0) (b : ℕ) (c : Control) (a : Cells → AfterMark) (run : World → Outcome A) (to : A → Control) : Type 0 where
+    pub by : (k : A → World → Ending) (l : Exit → Option Value → World → Ending) → ((a : A) (w : World) → Good L a → w.marks ≤ b → Ends L (to a) w (k a w)) → Exits L b body fs l → (w : World) → w.marks ≤ b → (cells : Cells) → Keeps L w.store cells → After (after_stage (a cells) c (scene_of w cells)) (finish (run w) k l)
+
+  no_turns : {L : Uses} (m : ℕ) (a : AfterMark) (c : Control) (w : World) (cells : Cells) → m ≤ 0 → Keeps L w.store cells → After (mark_stage m a c (scene_of w cells)) (endings.OutOfMarks w)
+  no_turns {L} zero a c w cells le h = record {
+    steps = 0;
+    rest = record { how = halts.Marked; control = c; scene = scene_of w cells };
+    comes = refl;
+    shows = record { how = refl; marks = refl; replies = refl; cells = image L w.store cells h };
+  }
+  no_turns (suc m) a c w cells le h = absurd (omega arith)
 
   module _ {L : Uses} {body : Option ℕ} {fs : List Frame} where
     -- what follows a phrase
@@ -201,29 +185,17 @@ module _ (p : Program) where
     none_carries b a to good = record { by = λ k l hk hl w le. hk a w good le }
 
     -- an instruction that delivers what it reads in the cells, where it has room
-    read_ends : {A : Type 0} {Good : Uses → A → Type 0} (b : ℕ) (c : Control) (a : A) (t : Bool) (to : A → Control) (k : A → World → Ending) (l : Exit → Option Value → World → Ending) → ((a : A) (w : World) → Good L a → w.marks ≤ b → Ends L (to a) w (k a w)) → (w : World) → w.marks ≤ b → (cells : Cells) → Keeps L w.store cells → Good L a → step p c cells ≡ cond t (Goes (to a) cells) (Halts (halts.Stopped OperandRoom)) → Comes p c (scene_of w cells) (finish (branch t (Gives a) (Stopped OperandRoom) w) k l)
-    read_ends b c a true to k l hk w le cells h good e = on_step c (to a) (scene_of w cells) cells _ e (hk a w good le cells h)
-    read_ends b c a false to k l hk w le cells h good e = stop_comes L c w OperandRoom cells h e
-
     pub reads_carries : {A : Type 0} {Good : Uses → A → Type 0} (b : ℕ) (c : Control) (give : World → A) (fits : World → Bool) (to : A → Control) → ((w : World) (cells : Cells) → Keeps L w.store cells → Good L (give w) × (step p c cells ≡ cond (fits w) (Goes (to (give w)) cells) (Halts (halts.Stopped OperandRoom)))) → Carries L body fs Good b c (λ w. branch (fits w) (Gives (give w)) (Stopped OperandRoom) w) to
-    reads_carries b c give fits to e = record { by = λ k l hk hl w le cells h. let x = e w cells h in read_ends b c (give w) (fits w) to k l hk w le cells h x.0 x.1 }
-
-    -- an instruction that writes to the cell of a variable
-    pub write_ends : (c c' : Control) (w : World) (x : Place) (k : Kind) (v : Value) (e : Ending) (cells : Cells) → AtKind k L x → IsOf k v → Keeps L w.store cells → step p c cells ≡ Goes c' (written cells (run_cell x.variable) (cell_of v)) → Ends L c' (assign x v w) e → Comes p c (scene_of w cells) e
-    write_ends c c' w x k v e cells is ok h m a = on_step c c' (scene_of w cells) (written cells (run_cell x.variable) (cell_of v)) e m (a _ (writes L w.store cells x.variable k v h is ok))
+    reads_carries b c give fits to e = record { by = λ k l hk hl w le cells h. let x = e w cells h in read_ends c (give w) (fits w) to k l w cells h (hk (give w) w x.0 le) x.1 }
 
     pub branch_carries : {A : Type 0} {Good : Uses → A → Type 0} (b : ℕ) (t : Bool) (c : Bool → Control) (f g : World → Outcome A) (to : A → Control) → Carries L body fs Good b (c true) f to → Carries L body fs Good b (c false) g to → Carries L body fs Good b (c t) (branch t f g) to
     branch_carries b true c f g to r s = r
     branch_carries b false c f g to r s = s
 
-    -- a mark, and what follows it: it goes on so, or stops
-    pub record Goes' {A : Type 0} (Good : Uses → A → Type 0) (b : ℕ) (c : Control) (a : Cells → AfterMark) (run : World → Outcome A) (to : A → Control) : Type 0 where
-      pub by : (k : A → World → Ending) (l : Exit → Option Value → World → Ending) → ((a : A) (w : World) → Good L a → w.marks ≤ b → Ends L (to a) w (k a w)) → Exits L b body fs l → (w : World) → w.marks ≤ b → (cells : Cells) → Keeps L w.store cells → After (after_stage (a cells) c (scene_of w cells)) (finish (run w) k l)
-
-    pub to_goes : {A : Type 0} {Good : Uses → A → Type 0} (b : ℕ) (c c' : Control) (run : World → Outcome A) (to : A → Control) → Carries L body fs Good b c' run to → Goes' Good b c (λ cells. To c' cells) run to
+    pub to_goes : {A : Type 0} {Good : Uses → A → Type 0} (b : ℕ) (c c' : Control) (run : World → Outcome A) (to : A → Control) → Carries L body fs Good b c' run to → Goes' L body fs Good b c (λ cells. To c' cells) run to
     to_goes b c c' run to r = record { by = λ k l hk hl w le cells h. let a = r.by k l hk hl w le cells h in record { steps = a.steps; rest = a.rest; comes = a.comes; shows = a.shows } }
 
-    spent : {A : Type 0} {Good : Uses → A → Type 0} (b m : ℕ) (c : Control) (a : Cells → AfterMark) (run : World → Outcome A) (to : A → Control) → ((b' : ℕ) → b' < b → Goes' Good b' c a run to) → (k : A → World → Ending) (l : Exit → Option Value → World → Ending) → ((a : A) (w : World) → Good L a → w.marks ≤ b → Ends L (to a) w (k a w)) → Exits L b body fs l → (w : World) → m ≤ b → (cells : Cells) → Keeps L w.store cells → m ≡ w.marks → After (mark_stage m (a cells) c (scene_of w cells)) (finish (spend_at m w run) k l)
+    spent : {A : Type 0} {Good : Uses → A → Type 0} (b m : ℕ) (c : Control) (a : Cells → AfterMark) (run : World → Outcome A) (to : A → Control) → ((b' : ℕ) → b' < b → Goes' L body fs Good b' c a run to) → (k : A → World → Ending) (l : Exit → Option Value → World → Ending) → ((a : A) (w : World) → Good L a → w.marks ≤ b → Ends L (to a) w (k a w)) → Exits L b body fs l → (w : World) → m ≤ b → (cells : Cells) → Keeps L w.store cells → m ≡ w.marks → After (mark_stage m (a cells) c (scene_of w cells)) (finish (spend_at m w run) k l)
     spent b zero c a run to r k l hk hl w le cells h is = record {
       steps = 0;
       rest = record { how = halts.Marked; control = c; scene = scene_of w cells };
@@ -233,7 +205,7 @@ module _ (p : Program) where
     spent b (suc m) c a run to r k l hk hl w le cells h is =
         (r m (omega arith)).by k l (λ a w good le'. hk a w good (omega (arith, le, le'))) (fewer (omega (arith, le)) hl) (record w { marks = m }) (omega arith) cells h
 
-    pub spend_carries : {A : Type 0} {Good : Uses → A → Type 0} (b : ℕ) (c : Control) (a : Cells → AfterMark) (run : World → Outcome A) (to : A → Control) → ((cells : Cells) → step p c cells ≡ Spends (a cells)) → ((b' : ℕ) → b' < b → Goes' Good b' c a run to) → Carries L body fs Good b c (spend run) to
+    pub spend_carries : {A : Type 0} {Good : Uses → A → Type 0} (b : ℕ) (c : Control) (a : Cells → AfterMark) (run : World → Outcome A) (to : A → Control) → ((cells : Cells) → step p c cells ≡ Spends (a cells)) → ((b' : ℕ) → b' < b → Goes' L body fs Good b' c a run to) → Carries L body fs Good b c (spend run) to
     spend_carries b c a run to e r = record {
       by = λ k l hk hl w le cells h. on_move c (scene_of w cells) (Spends (a cells)) _ (e cells) (spent b w.marks c a run to r k l hk hl w le cells h refl);
     }
@@ -258,15 +230,6 @@ module _ (p : Program) where
     ask_carries b q c c' run to e e' r = mark_carries b c c' (λ w. ask_at w.replies q w run) to e (λ b' lt. record {
       by = λ k l hk hl w le cells h. on_move c' (scene_of w cells) (Awaits q) _ (e' cells) (replied b' w.replies q c' run to (λ x. r b' x lt) k l hk hl w le cells h);
     })
-
-    no_turns : (m : ℕ) (a : AfterMark) (c : Control) (w : World) (cells : Cells) → m ≤ 0 → Keeps L w.store cells → After (mark_stage m a c (scene_of w cells)) (endings.OutOfMarks w)
-    no_turns zero a c w cells le h = record {
-      steps = 0;
-      rest = record { how = halts.Marked; control = c; scene = scene_of w cells };
-      comes = refl;
-      shows = record { how = refl; marks = refl; replies = refl; cells = image L w.store cells h };
-    }
-    no_turns (suc m) a c w cells le h = absurd (omega arith)
 
     -- no marks, and so no turns and no calls
     pub out_carries : {A : Type 0} {Good : Uses → A → Type 0} (b : ℕ) (c : Control) (a : Cells → AfterMark) (to : A → Control) → b ≤ 0 → ((cells : Cells) → step p c cells ≡ Spends (a cells)) → Carries L body fs Good b c OutOfMarks to

@@ -1,5 +1,5 @@
 -- What the cells in use hold, and how it changes when a variable is written and when cells are taken and given back.
-use Rattle.std.proofs.Common.{◌≡◌, ℕ, zero, suc, ◌+◌, ◌<◌, ◌≤◌, ◌%◌, List, [], ◌∷◌, ◌++◌, length, take, Some, None, true, false, cond, refl, sym, ap, ◌∙◌, subst, arith, append_assoc, get_or-set_other, get_or-set_same, length-set, length-append,  ⊎_elim}
+use Rattle.std.proofs.Common.{◌≡◌, ℕ, zero, suc, ◌+◌, ◌<◌, ◌≤◌, ◌%◌, List, [], ◌∷◌, ◌++◌, length, take, Some, true, false, cond, refl, sym, ap, ◌∙◌, subst, arith, append_assoc, get_or-set_other, get_or-set_same, length-set, length-append, ⊎_elim}
 use Rattle.std.specs.Prelude.{slice_get, slice_set, slice_index_or, ℤ}
 use Rattle.std.proofs.lemmas.List.{length-take-le, get_or-take, get_or_append_left}
 use Rattle.std.proofs.lemmas.Bool.{cases_lt}
@@ -75,7 +75,7 @@ some_is a b e = cc
 
 -- so the cells hold the store
 pub image : (L : Uses) (store : List Slot) (cells : Cells) → Keeps L store cells → Image store cells
-image L store cells h x s e =
+image L store cells h room x s e =
     let within : x < length L = omega (arith, slice_get_within store x s e, h.as_many) in
     let k = slice_index_or L x OfNothing in
     let same : slot_at store x ≡ s = some_is _ s (sym (slice_get-get_or store x Taken (slice_get_within store x s e)) ∙ e) in
@@ -113,14 +113,14 @@ writes L store cells x k v h e ok =
       as_many = length-set store x (Holds v) ∙ h.as_many;
       each = λ y k' e'. ⊎_elim
           (λ t.
-              let use : OfValue k ≡ k' = some_is (OfValue k) k' (sym e ∙ ap (slice_get L) (sym t.1) ∙ e') in
-              let slot : slot_at (slice_set store x (Holds v)) y ≡ Holds v = ap (slot_at (slice_set store x (Holds v))) t.1 ∙ get_or-set_same store x (Holds v) Taken within in
-              let number : written cells (run_cell x) (cell_of v) (run_cell y) ≡ cell_of v = ap (λ b. cond b (cell_of v) (cells (run_cell y))) t.0 in
-              subst (λ k'. Kept L y k' (slot_at (slice_set store x (Holds v)) y) (written cells (run_cell x) (cell_of v) (run_cell y))) use (v, slot, ok, number))
+          let used_for : OfValue k ≡ k' = some_is (OfValue k) k' (sym e ∙ ap (slice_get L) (sym t.1) ∙ e') in
+          let slot : slot_at (slice_set store x (Holds v)) y ≡ Holds v = ap (slot_at (slice_set store x (Holds v))) t.1 ∙ get_or-set_same store x (Holds v) Taken within in
+          let number : written cells (run_cell x) (cell_of v) (run_cell y) ≡ cell_of v = ap (λ b. cond b (cell_of v) (cells (run_cell y))) t.0 in
+          subst (λ k'. Kept L y k' (slot_at (slice_set store x (Holds v)) y) (written cells (run_cell x) (cell_of v) (run_cell y))) used_for (v, slot, ok, number))
           (λ t.
-              let slot : slot_at (slice_set store x (Holds v)) y ≡ slot_at store y = get_or-set_other store x y (Holds v) Taken t.1 in
-              let number : written cells (run_cell x) (cell_of v) (run_cell y) ≡ cells (run_cell y) = ap (λ b. cond b (cell_of v) (cells (run_cell y))) t.0 in
-              subst (λ n. Kept L y k' (slot_at (slice_set store x (Holds v)) y) n) (sym number) (subst (λ s. Kept L y k' s (cells (run_cell y))) (sym slot) (h.each y k' e')))
+          let slot : slot_at (slice_set store x (Holds v)) y ≡ slot_at store y = get_or-set_other store x y (Holds v) Taken t.1 in
+          let number : written cells (run_cell x) (cell_of v) (run_cell y) ≡ cells (run_cell y) = ap (λ b. cond b (cell_of v) (cells (run_cell y))) t.0 in
+          subst (λ n. Kept L y k' (slot_at (slice_set store x (Holds v)) y) n) (sym number) (subst (λ s. Kept L y k' s (cells (run_cell y))) (sym slot) (h.each y k' e')))
           (eqb_tells y x);
     }
 
@@ -163,19 +163,19 @@ extends_one L store cells k s n h g = record {
   as_many = omega (arith, h.as_many, length-append store (s ∷ []), length-append L (k ∷ []));
   each = λ x k' e. ⊎_elim
       (λ t.
-          let use : k ≡ k' = some_is k k' (sym (ap (slice_get (L ++ k ∷ [])) t.1 ∙ last L k) ∙ e) in
-          let slot : slot_at (store ++ s ∷ []) x ≡ s = ap (slot_at (store ++ s ∷ [])) (t.1 ∙ sym h.as_many) ∙ get_or-append_seam store s [] Taken in
-          let number : written cells (run_cell (length L)) n (run_cell x) ≡ n = ap (λ b. cond b n (cells (run_cell x))) t.0 in
-          let kept = kept_wider L (k ∷ []) (length L) k s n g in
-          subst (λ k'. Kept (L ++ k ∷ []) x k' (slot_at (store ++ s ∷ []) x) (written cells (run_cell (length L)) n (run_cell x))) use
-          (subst (λ m. Kept (L ++ k ∷ []) x k (slot_at (store ++ s ∷ []) x) m) (sym number) (subst (λ s'. Kept (L ++ k ∷ []) x k s' n) (sym slot) (subst (λ at. Kept (L ++ k ∷ []) at k s n) (sym t.1) kept))))
+      let used_for : k ≡ k' = some_is k k' (sym (ap (slice_get (L ++ k ∷ [])) t.1 ∙ last L k) ∙ e) in
+      let slot : slot_at (store ++ s ∷ []) x ≡ s = ap (slot_at (store ++ s ∷ [])) (t.1 ∙ sym h.as_many) ∙ get_or-append_seam store s [] Taken in
+      let number : written cells (run_cell (length L)) n (run_cell x) ≡ n = ap (λ b. cond b n (cells (run_cell x))) t.0 in
+      let kept = kept_wider L (k ∷ []) (length L) k s n g in
+      subst (λ k'. Kept (L ++ k ∷ []) x k' (slot_at (store ++ s ∷ []) x) (written cells (run_cell (length L)) n (run_cell x))) used_for
+      (subst (λ m. Kept (L ++ k ∷ []) x k (slot_at (store ++ s ∷ []) x) m) (sym number) (subst (λ s'. Kept (L ++ k ∷ []) x k s' n) (sym slot) (subst (λ at. Kept (L ++ k ∷ []) at k s n) (sym t.1) kept))))
       (λ t.
-          let most : x < length L + 1 = omega (arith, slice_get_within (L ++ k ∷ []) x k' e, length-append L (k ∷ [])) in
-          let within : x < length L = less x (length L) t.1 most in
-          let old : slice_get L x ≡ Some k' = sym (get_back L (k ∷ []) x within) ∙ e in
-          let slot : slot_at (store ++ s ∷ []) x ≡ slot_at store x = get_or_append_left store (s ∷ []) Taken x (omega (arith, within, h.as_many)) in
-          let number : written cells (run_cell (length L)) n (run_cell x) ≡ cells (run_cell x) = ap (λ b. cond b n (cells (run_cell x))) t.0 in
-          subst (λ m. Kept (L ++ k ∷ []) x k' (slot_at (store ++ s ∷ []) x) m) (sym number) (subst (λ s'. Kept (L ++ k ∷ []) x k' s' (cells (run_cell x))) (sym slot) (kept_wider L (k ∷ []) x k' (slot_at store x) (cells (run_cell x)) (h.each x k' old))))
+      let most : x < length L + 1 = omega (arith, slice_get_within (L ++ k ∷ []) x k' e, length-append L (k ∷ [])) in
+      let within : x < length L = less x (length L) t.1 most in
+      let old : slice_get L x ≡ Some k' = sym (get_back L (k ∷ []) x within) ∙ e in
+      let slot : slot_at (store ++ s ∷ []) x ≡ slot_at store x = get_or_append_left store (s ∷ []) Taken x (omega (arith, within, h.as_many)) in
+      let number : written cells (run_cell (length L)) n (run_cell x) ≡ cells (run_cell x) = ap (λ b. cond b n (cells (run_cell x))) t.0 in
+      subst (λ m. Kept (L ++ k ∷ []) x k' (slot_at (store ++ s ∷ []) x) m) (sym number) (subst (λ s'. Kept (L ++ k ∷ []) x k' s' (cells (run_cell x))) (sym slot) (kept_wider L (k ∷ []) x k' (slot_at store x) (cells (run_cell x)) (h.each x k' old))))
       (eqb_tells x (length L));
 }
   where

@@ -1,8 +1,7 @@
 -- What choices, units and stores do, whatever their parts are.
-use Rattle.std.proofs.Common.{◌≡◌, ℕ, suc, ◌+◌, ◌<◌, ◌≤◌, List, [], ◌∷◌, ◌++◌, length, drop, Option, Some, None, Bool, true, false, cond, ◌||◌, refl, ap, ◌∙◌, subst, arith, length-append}
-use Rattle.std.specs.Prelude.{slice_get, Ok, Err, ℤ}
+use Rattle.std.proofs.Common.{◌≡◌, ℕ, suc, ◌+◌, List, [], ◌∷◌, ◌++◌, length, drop, Option, Some, Bool, true, false, cond, ◌||◌, refl, ap, ◌∙◌, subst, arith, length-append}
+use Rattle.std.specs.Prelude.{Ok, Err, ℤ}
 use Rattle.std.specs.Ordering.{int_eq}
-use Rattle.eu_base.specs.declared.value.Kind.{Kind}
 use Rattle.eu_base.specs.declared.value.Kind.TheVariants as kinds
 use Rattle.eu_base.specs.declared.value.Value.{Value}
 use Rattle.eu_base.specs.declared.operation.Change.{Change}
@@ -10,7 +9,7 @@ use Rattle.eu_base.specs.Values.{IsOf, number_of, truth_of, cell_of}
 use Rattle.eu_base.specs.Operations.{Given, changed, put_request, line_request}
 use Rattle.eu_base.specs.Cells.{Cells, run_cell, written}
 use Rattle.code_form.specs.declared.operand.Operand.{Operand}
-use Rattle.code_form.specs.declared.operand.Operand.TheVariants.{Value as Of, Place as At}
+use Rattle.code_form.specs.declared.operand.Operand.TheVariants.{Value as Of}
 use Rattle.code_form.specs.declared.operand.OperandKind.{OperandKind}
 use Rattle.code_form.specs.declared.operand.OperandKind.TheVariants as operand
 use Rattle.code_form.specs.declared.instr.Instr.TheVariants.{Mark, Modify, Jump, False, When, Drop, Ask}
@@ -20,14 +19,16 @@ use Rattle.code_form.specs.Program.{Program, line_of}
 use Rattle.code_form.specs.Machine.{Control, Goes, at, or_halt, step}
 use Rattle.elan_types.specs.declared.core_phrase.Exit.{Exit}
 use Rattle.elan_types.specs.declared.core_phrase.PlacePhrase.{PlacePhrase}
-use Rattle.elan_types.specs.Eval.{Place, World, Outcome, Gives, bind, spend, ask, branch, or_stop, fetch, assign, modify, place, holding_place, Calls, Reach, Run, holds}
+use Rattle.elan_types.specs.Eval.{Place, World, Outcome, Gives, bind, spend, ask, branch, or_stop, fetch, assign, modify, place, holding_place, Calls, Run, holds}
 use Rattle.elan_types.specs.Command.{Ending}
-use Rattle.place_gen.specs.Stretch.{Stretch, one, keeps, pushes, join, if_code, whens, arm_code, place_code, modify_code}
+use Rattle.place_gen.specs.Stretch.{Stretch, one, keeps, join, if_code, whens, arm_code, place_code, modify_code}
 use Rattle.place_gen.specs.Correct.{Comes, scene_of}
+use Rattle.place_gen.proofs.Lines.{HasAt, has_front, has_rest, join_sized}
+use Rattle.place_gen.proofs.Homes.{HasPlace}
 use Rattle.place_gen.proofs.Cells.{Uses, Keeps, reads}
 use Rattle.eu_base.proofs.Results.{changed_gives}
-use Rattle.place_gen.proofs.Carry.{HasAt, has_front, has_rest, finish, Any, AtKind, reach, Ends, Carries, Within, less, stop_comes, then_carries, lead_carries, carries_lead, write_ends, branch_carries, mark_carries, ask_carries, none_carries, here, ends_at, join_carries}
-use Rattle.place_gen.proofs.Forms.{keep_place, Is, IsValue, IsAction, HasPlace, join_sized, place_is}
+use Rattle.place_gen.proofs.Carry.{finish, Any, AtKind, reach, Ends, Carries, Within, less, stop_comes, then_carries, lead_carries, carries_lead, write_ends, branch_carries, mark_carries, ask_carries, none_carries, here, ends_at, join_carries}
+use Rattle.place_gen.proofs.Forms.{keep_place, Is, IsValue, IsAction, place_is}
 
 module _ (p : Program) (body : Option ℕ) where
   pub if_is : {A : Type 0} {Good : Uses → A → Type 0} {push : A → List Operand → List Operand} {t : Run Value} {x y : Run A} {f g h : Stretch} → IsValue p body kinds.Truth t f → Is p body Good push x g → Is p body Good push y h → Is p body Good push (λ r w. bind (t r w) (λ v. branch (truth_of v) (x r) (y r))) (if_code f g h)
@@ -60,7 +61,7 @@ module _ (p : Program) (body : Option ℕ) where
 
   pub otherwise_is : {A : Type 0} {Good : Uses → A → Type 0} {push : A → List Operand → List Operand} {x : Run A} {f : Stretch} → Is p body Good push x f → IsChoice Good push (λ z. x) (join (one Drop (drop 1)) f)
   otherwise_is {A} {Good} {push} {x} {f} i = record {
-    sized = join_sized p body (one Drop (drop 1)) f (λ ks m pc. refl) i.sized;
+    sized = join_sized (one Drop (drop 1)) f (λ ks m pc. refl) i.sized;
     goes = λ calls n b pc L ks m c v ops home le has. let r = reach calls n c ops in
         ends_at p b (at c pc (Of v ∷ ops)) c (x r) (pc + 1 + f.size) (pc + (1 + f.size)) (λ a. push a ops) (omega arith)
         (lead_carries p b (at c pc (Of v ∷ ops)) (at c (pc + 1) ops) (x r) (λ a. at c (pc + 1 + f.size) (push a ops)) (λ cells. here p pc Drop ks m has.0 c (Of v ∷ ops) cells) (i.goes calls n b (pc + 1) L (drop 1 ks) m c ops home le has.1));
@@ -102,14 +103,14 @@ module _ (p : Program) (body : Option ℕ) where
 
   pub select_is : {A : Type 0} {Good : Uses → A → Type 0} {push : A → List Operand → List Operand} {t : Run Value} {y : ℤ → Run A} {f g : Stretch} → IsValue p body kinds.Int t f → IsChoice Good push y g → Is p body Good push (λ r w. bind (t r w) (λ v. y (number_of v) r)) (join f g)
   select_is {A} {Good} {push} {t} {y} {f} {g} i j = record {
-    sized = join_sized p body f g i.sized j.sized;
+    sized = join_sized f g i.sized j.sized;
     goes = λ calls n b pc L ks m c ops home le has. let r = reach calls n c ops in join_carries p f g b pc ks m c ops (t r) (λ v. y (number_of v) r) (λ v. Of v ∷ ops) (λ a. push a ops) i.sized has (λ h. i.goes calls n b pc L ks m c ops home le h) (λ h v ok. j.goes calls n b (pc + f.size) L (f.leaves ks) m c v ops home le h);
   }
 
   -- a mark before a phrase
   pub unit_is : {A : Type 0} {Good : Uses → A → Type 0} {push : A → List Operand → List Operand} {x : Run A} {f : Stretch} → Is p body Good push x f → Is p body Good push (λ r. spend (x r)) (join (one Mark keeps) f)
   unit_is {A} {Good} {push} {x} {f} i = record {
-    sized = join_sized p body (one Mark keeps) f (λ ks m pc. refl) i.sized;
+    sized = join_sized (one Mark keeps) f (λ ks m pc. refl) i.sized;
     goes = λ calls n b pc L ks m c ops home le has. let r = reach calls n c ops in
         ends_at p b (at c pc ops) c (spend (x r)) (pc + 1 + f.size) (pc + (1 + f.size)) (λ a. push a ops) (omega arith)
         (mark_carries p b (at c pc ops) (at c (pc + 1) ops) (x r) (λ a. at c (pc + 1 + f.size) (push a ops)) (λ cells. here p pc Mark ks m has.0 c ops cells) (λ b' lt. i.goes calls n b' (pc + 1) L ks m c ops home (less p le (omega arith)) has.1));
@@ -117,8 +118,8 @@ module _ (p : Program) (body : Option ℕ) where
 
   -- INCR and DECR, at the instruction
   modified : {A : Type 0} {L : Uses} (g : Given) (x : Place) (a : A) (c c' : Control) (w : World) (cells : Cells) (k : A → World → Ending) (l : Exit → Option Value → World → Ending) → AtKind kinds.Int L x → ((v : Value) → g ≡ Ok v → IsOf kinds.Int v) → Keeps L w.store cells → step p c cells ≡ or_halt g (λ v. Goes c' (written cells (run_cell x.variable) (cell_of v))) → ((v : Value) → Ends p L c' (assign x v w) (k a (assign x v w))) → Comes p c (scene_of w cells) (finish (or_stop g (λ v w. Gives a (assign x v w)) w) k l)
-  modified {A} {L} (Ok v) x a c c' w cells k l is gives keeps e hk = write_ends p {L} {body} {c.frames} c c' w x kinds.Int v _ cells is (gives v refl) keeps e (hk v)
-  modified {A} {L} (Err s) x a c c' w cells k l is gives keeps e hk = stop_comes p L c w s cells keeps e
+  modified {A} {L} (Ok v) x a c c' w cells k l is gives kept e hk = write_ends p c c' w x kinds.Int v _ cells is (gives v refl) kept e (hk v)
+  modified {A} {L} (Err s) x a c c' w cells k l is gives kept e hk = stop_comes p L c w s cells kept e
 
   -- INCR and DECR where number and place are on top
   pub modify_carries : {A : Type 0} {L : Uses} (change : Change) (x : Place) (v : Value) (a : A) (b q : ℕ) (ks : List OperandKind) (m : Spot) (c : Control) (ops : List Operand) (to : A → Control) → to a ≡ at c (q + 1) ops → AtKind kinds.Int L x → HasAt p.lines q ((one (Modify change) (drop 2)).lines ks m q) → Carries p L m.body c.frames Any b (at c q (Of v ∷ keep_place x ops)) (modify change x (number_of v) a) to
@@ -136,7 +137,7 @@ module _ (p : Program) (body : Option ℕ) where
   modify_is {t} {f} change q is i =
       let g = one (Modify change) (drop 2) in
       let j = place_is p body q kinds.Int is in record {
-        sized = join_sized p body (place_code q kinds.Int) (join f g) j.sized (join_sized p body f g i.sized (λ ks m pc. refl));
+        sized = join_sized (place_code q kinds.Int) (join f g) j.sized (join_sized f g i.sized (λ ks m pc. refl));
         goes = λ calls n b pc L ks m c ops home le has. join_carries p (place_code q kinds.Int) (join f g) b pc ks m c ops (place q (reach calls n c ops)) (λ x w. bind (t (holding_place (reach calls n c ops)) w) (λ v. modify change x (number_of v) (tt {0}))) (λ x. keep_place x ops) (λ _. ops) j.sized has (λ h. j.goes calls n b pc L ks m c ops home le h) (λ h x at_x.
             join_carries p f g b (pc + 1) (operand.Place kinds.Int ∷ ks) m c (keep_place x ops) (t (reach calls n c (keep_place x ops))) (λ v. modify change x (number_of v) (tt {0})) (λ v. Of v ∷ keep_place x ops) (λ _. ops) i.sized h (λ h. i.goes calls n b (pc + 1) L (operand.Place kinds.Int ∷ ks) m c (keep_place x ops) home le h) (λ h v ok.
             modify_carries change x v (tt {0}) b (pc + 1 + f.size) (f.leaves (operand.Place kinds.Int ∷ ks)) m c ops (λ _. at c (pc + 1 + f.size + 1) ops) refl at_x h));
@@ -151,7 +152,7 @@ module _ (p : Program) (body : Option ℕ) where
   pub put_is : {t : Run Value} {f : Stretch} → IsValue p body kinds.Int t f → IsAction p body (λ r w. bind (t r w) (λ v. ask (put_request (number_of v)) (λ _. Gives tt))) (join f (one (Ask requests.PutNumber) (drop 1)))
   put_is {t} {f} i =
       let g = one (Ask requests.PutNumber) (drop 1) in record {
-        sized = join_sized p body f g i.sized (λ ks m pc. refl);
+        sized = join_sized f g i.sized (λ ks m pc. refl);
         goes = λ calls n b pc L ks m c ops home le has. join_carries p f g b pc ks m c ops (t (reach calls n c ops)) (λ v. ask (put_request (number_of v)) (λ _. Gives (tt {0}))) (λ v. Of v ∷ ops) (λ _. ops) i.sized has (λ h. i.goes calls n b pc L ks m c ops home le h) (λ h v ok.
             let q = pc + f.size in
             ask_carries p b (put_request (number_of v)) (at c q (Of v ∷ ops)) (record (at c (q + 1) ops) { waits = Some (put_request (number_of v)) }) (λ _. Gives (tt {0})) (λ _. at c (q + 1) ops) (λ cells. here p q (Ask requests.PutNumber) (f.leaves ks) m h.0 c (Of v ∷ ops) cells) (λ cells. refl) (λ b' r lt. none_carries p b' tt (λ _. at c (q + 1) ops) tt));

@@ -1,17 +1,15 @@
 -- What each form of phrase does, whatever its parts are.
-use Rattle.std.proofs.Common.{◌≡◌, ℕ, suc, ◌+◌, ◌≤◌, List, [], ◌∷◌, ◌++◌, length, drop, Option, Some, Bool, true, false, cond, refl, sym, ap, ◌∙◌, subst, arith, length-append}
-use Rattle.std.specs.Prelude.{slice_get, Ok, Err, ℤ}
+use Rattle.std.proofs.Common.{◌≡◌, ℕ, suc, ◌+◌, List, [], ◌∷◌, ◌++◌, length, drop, Option, Some, Bool, refl, ap, ◌∙◌, arith}
+use Rattle.std.specs.Prelude.{slice_get, ℤ}
 use Rattle.eu_base.specs.declared.value.Kind.{Kind}
 use Rattle.eu_base.specs.declared.value.Kind.TheVariants as kinds
 use Rattle.eu_base.specs.declared.value.Value.{Value}
 use Rattle.eu_base.specs.declared.value.Value.TheVariants as item
-use Rattle.eu_base.specs.declared.stop.Stop.TheVariants.{OperandRoom}
 use Rattle.eu_base.specs.declared.operation.Operation.{Operation}
-use Rattle.eu_base.specs.Values.{IsOf, cell_of, value_in}
+use Rattle.eu_base.specs.Values.{IsOf}
 use Rattle.eu_base.specs.Room.{value_bytes, place_bytes, bytes_fit}
 use Rattle.eu_base.specs.Operations.{operand_kinds, result_kind, result_of}
-use Rattle.eu_base.specs.Cells.{Cells, run_cell, place_in, written}
-use Rattle.code_form.specs.declared.halt.Halt.TheVariants as halts
+use Rattle.eu_base.specs.Cells.{Cells, run_cell}
 use Rattle.code_form.specs.declared.operand.Operand.{Operand}
 use Rattle.code_form.specs.declared.operand.Operand.TheVariants.{Value as Of, Place as At}
 use Rattle.code_form.specs.declared.operand.OperandKind.{OperandKind}
@@ -20,14 +18,16 @@ use Rattle.code_form.specs.declared.instr.Instr.{Instr}
 use Rattle.code_form.specs.declared.instr.Instr.TheVariants.{Number, Truth, Outer, Local, Param, Load, Store, Do}
 use Rattle.code_form.specs.declared.code.Spot.{Spot}
 use Rattle.code_form.specs.Program.{Program, frame_cells}
-use Rattle.code_form.specs.Machine.{Control, Move, Goes, Halts, at, goes, pushes as push_move, or_halt, on_values, base_of, bytes_on, bytes_of, operand_bytes, instruction, step}
+use Rattle.code_form.specs.Machine.{Control, Move, at, pushes as push_move, or_halt, on_values, base_of, bytes_on, bytes_of, instruction}
 use Rattle.elan_types.specs.declared.core_phrase.PlacePhrase.{PlacePhrase}
 use Rattle.elan_types.specs.declared.core_phrase.PlacePhrase.TheVariants as places
-use Rattle.elan_types.specs.Eval.{Place, Slot, slot_at, place_of, value_of, World, Outcome, Gives, Stopped, bind, branch, or_stop, fetch, assign, deliver, deliver_place, place, holding, holding_place, stored, Calls, Reach, Run, all, values}
-use Rattle.place_gen.specs.Stretch.{Stretch, none, one, pushes, join, place_instr, place_code, store_code}
-use Rattle.place_gen.proofs.Cells.{OfValue, OfPlace, Uses, Keeps, reads, refers}
+use Rattle.elan_types.specs.Eval.{Place, slot_at, place_of, Gives, bind, or_stop, fetch, assign, deliver, place, holding, holding_place, stored, Calls, Run, all, values}
+use Rattle.place_gen.specs.Stretch.{Stretch, none, one, pushes, join, place_code, store_code}
+use Rattle.place_gen.proofs.Lines.{HasAt, join_sized}
+use Rattle.place_gen.proofs.Homes.{HasPlace}
+use Rattle.place_gen.proofs.Cells.{Uses, reads, refers}
 use Rattle.eu_base.proofs.Results.{result_gives}
-use Rattle.place_gen.proofs.Carry.{HasAt, Any, OfKind, AtKind, use_of, reach, Carries, Stands, Within, stop_ends, then_carries, none_carries, reads_carries, write_ends, or_carries, here, ends_at, join_carries}
+use Rattle.place_gen.proofs.Carry.{Any, OfKind, AtKind, use_of, reach, Carries, Stands, Within, stop_ends, then_carries, none_carries, reads_carries, write_ends, or_carries, here, ends_at, join_carries}
 
 abbrev pub keep : Value → List Operand → List Operand
 keep v ops = Of v ∷ ops
@@ -90,12 +90,6 @@ module _ (p : Program) (body : Option ℕ) where
   abbrev pub IsAction : Run (Unit {0}) → Stretch → Type 0
   IsAction = Is Any no_more
 
-  abbrev pub IsSized : Stretch → Type 0
-  IsSized f = (ks : List OperandKind) (m : Spot) (pc : ℕ) → length (f.lines ks m pc) ≡ f.size
-
-  pub join_sized : (f g : Stretch) → IsSized f → IsSized g → IsSized (join f g)
-  join_sized f g x y ks m pc = omega (arith, length-append (f.lines ks m pc) (g.lines (f.leaves ks) m (pc + f.size)), x ks m pc, y (f.leaves ks) m (pc + f.size))
-
   -- a list of actions
   pub nothing_is : IsAction (all []) none
   nothing_is = record {
@@ -122,17 +116,11 @@ module _ (p : Program) (body : Option ℕ) where
   pub truth_is : (t : Bool) → IsValue kinds.Truth (deliver (item.Truth t)) (one (Truth t) (pushes (operand.Value kinds.Truth)))
   truth_is t = deliver_is (Truth t) kinds.Truth (item.Truth t) tt (λ c cells. refl)
 
-  -- what a place is in the tables
-  abbrev pub HasPlace : PlacePhrase → Kind → Type 0
-  HasPlace (places.Variable x) k = slice_get p.variables x ≡ Some k
-  HasPlace (places.Local x) k = slice_get (frame_cells p body) x ≡ Some (operand.Value k)
-  HasPlace (places.Parameter x) k = slice_get (frame_cells p body) x ≡ Some (operand.Place k)
-
   in_frame : (m : Spot) (c : Control) (L : Uses) (x : ℕ) (k : OperandKind) → m.body ≡ body → Stands p L m c → slice_get (frame_cells p body) x ≡ Some k → slice_get L (base_of c.frames + x) ≡ Some (use_of k)
   in_frame m c L x k home stands is = stands.frame x k (ap (λ b. slice_get (frame_cells p b) x) home ∙ is)
 
   -- a place is delivered
-  pub place_carries : (q : PlacePhrase) (k : Kind) (calls : Calls) (n b pc : ℕ) (L : Uses) (ks : List OperandKind) (m : Spot) (c : Control) (ops : List Operand) → m.body ≡ body → HasPlace q k → Within p calls n b L m c → HasAt p.lines pc ((place_code q k).lines ks m pc) → Carries p L m.body c.frames (AtKind k) b (at c pc ops) (place q (reach calls n c ops)) (λ x. at c (pc + 1) (keep_place x ops))
+  pub place_carries : (q : PlacePhrase) (k : Kind) (calls : Calls) (n b pc : ℕ) (L : Uses) (ks : List OperandKind) (m : Spot) (c : Control) (ops : List Operand) → m.body ≡ body → HasPlace p body q k → Within p calls n b L m c → HasAt p.lines pc ((place_code q k).lines ks m pc) → Carries p L m.body c.frames (AtKind k) b (at c pc ops) (place q (reach calls n c ops)) (λ x. at c (pc + 1) (keep_place x ops))
   place_carries (places.Variable x) k calls n b pc L ks m c ops home is le has =
       reads_carries p b (at c pc ops) (λ w. record { variable = x }) (λ w. bytes_fit (place_bytes + bytes_on ops (bytes_of c.frames))) (λ x. at c (pc + 1) (keep_place x ops)) (λ w cells h. (le.stands.level x k is, here p pc (Outer x) ks m has.0 c ops cells))
   place_carries (places.Local x) k calls n b pc L ks m c ops home is le has =
@@ -142,10 +130,10 @@ module _ (p : Program) (body : Option ℕ) where
       let r = refers L w.store cells (base_of c.frames + x) k le.stands.room h (in_frame m c L x (operand.Place k) home le.stands is) in
       (r.0, here p pc (Param x) ks m has.0 c ops cells ∙ ap (λ a. push_move (at c pc ops) (At a) ops cells) r.1))
 
-  pub place_is : (q : PlacePhrase) (k : Kind) → HasPlace q k → IsPlace k (place q) (place_code q k)
+  pub place_is : (q : PlacePhrase) (k : Kind) → HasPlace p body q k → IsPlace k (place q) (place_code q k)
   place_is q k is = record { sized = λ ks m pc. refl; goes = λ calls n b pc L ks m c ops home le has. place_carries q k calls n b pc L ks m c ops home is le has }
 
-  pub load_is : (q : PlacePhrase) (k : Kind) → HasPlace q k → IsValue k (λ r w. bind (place q r w) (λ x w. deliver (fetch x w) r w)) (join (place_code q k) (one (Load k) (λ ks. operand.Value k ∷ drop 1 ks)))
+  pub load_is : (q : PlacePhrase) (k : Kind) → HasPlace p body q k → IsValue k (λ r w. bind (place q r w) (λ x w. deliver (fetch x w) r w)) (join (place_code q k) (one (Load k) (λ ks. operand.Value k ∷ drop 1 ks)))
   load_is q k is =
       let g = one (Load k) (λ (ks : List OperandKind). operand.Value k ∷ drop 1 ks) in
       let i = place_is q k is in record {
@@ -157,7 +145,7 @@ module _ (p : Program) (body : Option ℕ) where
             (r.0, here p (pc + 1) (Load k) (operand.Place k ∷ ks) m h.0 c (keep_place x ops) cells ∙ ap (λ v. push_move now (Of v) ops cells) r.1)));
       }
 
-  pub store_is : {t : Run Value} {f : Stretch} (q : PlacePhrase) (k : Kind) → HasPlace q k → IsValue k t f → IsAction (stored q t) (store_code q k f)
+  pub store_is : {t : Run Value} {f : Stretch} (q : PlacePhrase) (k : Kind) → HasPlace p body q k → IsValue k t f → IsAction (stored q t) (store_code q k f)
   store_is {t} {f} q k is i =
       let g = one (Store k) (drop 2) in
       let j = place_is q k is in record {

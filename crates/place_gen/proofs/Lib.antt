@@ -1,6 +1,16 @@
+pub mod Lines
+pub mod Homes
+pub mod Tables
+pub mod LoopTables
+pub mod TableTree
+pub mod Adds
+pub mod Select
+pub mod Count
 pub mod Cells
 pub mod Carry
 pub mod Forms
 pub mod Choices
 pub mod Calls
 pub mod Loops
+pub mod Limits
+pub mod Tree

@@ -1,5 +1,5 @@
 -- What loops do, whatever their parts are.
-use Rattle.std.proofs.Common.{◌≡◌, ℕ, suc, ◌+◌, ◌-◌, ◌≤◌, List, [], ◌∷◌, ◌++◌, length, drop, Option, Some, None, Bool, true, false, cond, refl, sym, ap, ◌∙◌, subst, arith, length-append}
+use Rattle.std.proofs.Common.{◌≡◌, ℕ, ◌+◌, ◌-◌, ◌≤◌, List, [], ◌∷◌, ◌++◌, length, drop, Option, Some, None, Bool, true, false, cond, refl, ap, ◌∙◌, subst, arith, length-append}
 use Rattle.std.specs.Prelude.{slice_get, not, ℤ, pos}
 use Rattle.std.specs.Int.{w16}
 use Rattle.std.specs.Int.RustNames.{FitsSigned}
@@ -12,7 +12,7 @@ use Rattle.eu_base.specs.Values.{IsOf, number_of, truth_of, cell_of, value_in}
 use Rattle.eu_base.specs.Operations.{has_reached, next_number}
 use Rattle.eu_base.specs.Cells.{Cells, run_cell, written}
 use Rattle.code_form.specs.declared.operand.Operand.{Operand}
-use Rattle.code_form.specs.declared.operand.Operand.TheVariants.{Value as Of, Place as At}
+use Rattle.code_form.specs.declared.operand.Operand.TheVariants.{Value as Of}
 use Rattle.code_form.specs.declared.operand.OperandKind.{OperandKind}
 use Rattle.code_form.specs.declared.operand.OperandKind.TheVariants as operand
 use Rattle.code_form.specs.declared.instr.Instr.TheVariants.{Mark, Number, Modify, Jump, False, Step}
@@ -21,14 +21,16 @@ use Rattle.code_form.specs.Program.{Program, line_of}
 use Rattle.code_form.specs.Machine.{Frame, Control, Goes, at, limit_in, step}
 use Rattle.elan_types.specs.declared.core_phrase.Exit.{Exit as Exit'}
 use Rattle.elan_types.specs.declared.core_phrase.PlacePhrase.{PlacePhrase}
-use Rattle.elan_types.specs.Eval.{Place, Slot, World, Outcome, Gives, bind, branch, fetch, assign, deliver, place, holding_place, modify, Calls, Reach, Run, turns, while_true, until_true, then_on, done, turn, go_on, step as step_on, step_to, step_from}
+use Rattle.elan_types.specs.Eval.{Place, Slot, World, Outcome, Gives, bind, branch, fetch, assign, deliver, place, holding_place, modify, Calls, Run, turns, while_true, until_true, then_on, done, turn, go_on, step as step_on, step_to, step_from}
 use Rattle.elan_types.specs.Command.{Ending}
-use Rattle.place_gen.specs.Stretch.{Stretch, none, one, pushes, join, Exit, stays, exit_join, while_code, until_code, step_code, step_to_code, turn_code, turns_code}
+use Rattle.place_gen.specs.Stretch.{Stretch, none, one, pushes, Exit, stays, exit_join, while_code, until_code, step_code, step_to_code, turn_code, turns_code}
 use Rattle.place_gen.specs.Correct.{Comes, scene_of}
+use Rattle.place_gen.proofs.Lines.{HasAt, has_front, has_rest}
+use Rattle.place_gen.proofs.Homes.{HasPlace}
 use Rattle.place_gen.proofs.Cells.{OfLimit, Uses, Keeps, reads, get_right, value_in-cell_of}
 use Rattle.eu_base.proofs.Results.{next_fits, fits_in_range}
-use Rattle.place_gen.proofs.Carry.{HasAt, has_front, has_rest, finish, Any, AtKind, reach, Ends, Carries, Within, less, on_step, lead_ends, then_carries, lead_carries, carries_lead, write_ends, branch_carries, none_carries, turns_carries, here, ends_at, join_carries}
-use Rattle.place_gen.proofs.Forms.{keep_place, IsValue, IsAction, HasPlace, join_sized, then_is, place_is, number_is}
+use Rattle.place_gen.proofs.Carry.{finish, Any, AtKind, reach, Ends, Carries, Within, less, on_step, lead_ends, then_carries, lead_carries, write_ends, branch_carries, none_carries, turns_carries, here, ends_at}
+use Rattle.place_gen.proofs.Forms.{keep_place, IsValue, IsAction, place_is, number_is}
 use Rattle.place_gen.proofs.Choices.{modify_carries}
 
 module _ (p : Program) (body : Option ℕ) where
@@ -42,7 +44,7 @@ module _ (p : Program) (body : Option ℕ) where
     pub goes : (calls : Calls) (n b pc end : ℕ) (U : Uses) (ks : List OperandKind) (m : Spot) (c : Control) (ops : List Operand) → m.body ≡ body → Within p calls n b U m c → L U → HasAt p.lines pc (f.lines end ks m pc) → Parts U m.body b c (pc + f.size) ops end (run (reach calls n c ops)) (at c pc ops)
 
   exits_at : {U : Uses} {home : Option ℕ} (b : ℕ) (c : Control) (m n : ℕ) (ops : List Operand) (end : ℕ) (run : World → Outcome Bool) (from : Control) → m ≡ n → Parts U home b c m ops end run from → Parts U home b c n ops end run from
-  exits_at b c m n ops end run from e i = subst (λ n. Parts U home b c n ops end run from) e i
+  exits_at {U} {home} b c m n ops end run from e i = subst (λ n. Parts U home b c n ops end run from) e i
 
   gives_truth : {U : Uses} {home : Option ℕ} (b : ℕ) (t : Bool) (c : Control) (q : ℕ) (ops : List Operand) (end : ℕ) → Parts U home b c q ops end (Gives t) (at c (cond t q end) ops)
   gives_truth b true c q ops end = none_carries p b true (λ on. cond on (at c q ops) (at c end ops)) tt
@@ -87,7 +89,7 @@ module _ (p : Program) (body : Option ℕ) where
         lead_carries p b (at c q (Of v ∷ ops)) (at c (cond (truth_of v) (q + 1) (q + 1 + 1)) ops) (Gives (not (truth_of v))) to (λ cells. here p q (False (q + 1 + 1)) (f.leaves ks) m h.0 c (Of v ∷ ops) cells) (by (truth_of v) b c ops q end (λ cells. here p (q + 1) (Jump end) ks m h.1.0 c ops cells))));
   }
     where
-      by : {U : Uses} {home : Option ℕ} (t : Bool) (b : ℕ) (c : Control) (ops : List Operand) (q end : ℕ) → ((cells : Cells) → step p.lines (at c (q + 1) ops) cells ≡ Goes (at c end ops) cells) → Parts U home b c (q + 1 + 1) ops end (Gives (not t)) (at c (cond t (q + 1) (q + 1 + 1)) ops)
+      by : {U : Uses} {home : Option ℕ} (t : Bool) (b : ℕ) (c : Control) (ops : List Operand) (q end : ℕ) → ((cells : Cells) → step p (at c (q + 1) ops) cells ≡ Goes (at c end ops) cells) → Parts U home b c (q + 1 + 1) ops end (Gives (not t)) (at c (cond t (q + 1) (q + 1 + 1)) ops)
       by true b c ops q end e = lead_carries p b (at c (q + 1) ops) (at c end ops) (Gives false) (λ on. cond on (at c (q + 1 + 1) ops) (at c end ops)) e (none_carries p b false (λ on. cond on (at c (q + 1 + 1) ops) (at c end ops)) tt)
       by false b c ops q end e = none_carries p b true (λ on. cond on (at c (q + 1 + 1) ops) (at c end ops)) tt
 
@@ -126,7 +128,7 @@ module _ (p : Program) (body : Option ℕ) where
       let r = reach calls n c ops in
       ends_at p b top c (turns n (t r)) end (pc + (1 + (f.size + 1))) (λ _. ops) (omega arith)
       (turns_carries p n b (t r) top (at c (pc + 1) ops) exit (λ cells. here p pc Mark ks m has.0 c ops cells) (λ b' lb.
-      jumps_back {U} {m.body} {c.frames} b' (at c (pc + 1) ops) (at c q ops) top exit (t r) (λ cells. here p q (Jump pc) ks m h.0 c ops cells) (i.goes calls n b' (pc + 1) end U ks m c ops home (less p le lb) l (has_front p.lines (pc + 1) (f.lines end ks m (pc + 1)) _ has.1))) le.turns)
+      jumps_back {U = U} {home = m.body} {fs = c.frames} b' (at c (pc + 1) ops) (at c q ops) top exit (t r) (λ cells. here p q (Jump pc) ks m h.0 c ops cells) (i.goes calls n b' (pc + 1) end U ks m c ops home (less p le lb) l (has_front p.lines (pc + 1) (f.lines end ks m (pc + 1)) _ has.1))) le.turns)
     where
       back : {U : Uses} (b : ℕ) (mid top exit : Control) (k : Bool → World → Ending) → ((cells : Cells) → step p mid cells ≡ Goes top cells) → ((a : Bool) (w : World) → Any U a → w.marks ≤ b → Ends p U (cond a top exit) w (k a w)) → (a : Bool) (w : World) → w.marks ≤ b → Ends p U (cond a mid exit) w (k a w)
       back {U} b mid top exit k e hk true w le = lead_ends p U mid top w _ e (hk true w tt le)
@@ -167,7 +169,7 @@ module _ (p : Program) (body : Option ℕ) where
   abbrev pub Under : ℤ → Uses → Type 0
   Under limit U = (below : Uses) × (U ≡ below ++ OfLimit limit ∷ [])
 
-  number_fits : (v : Value) → IsOf kinds.Int v → FitsSigned w16 (number_of v)
+  pub number_fits : (v : Value) → IsOf kinds.Int v → FitsSigned w16 (number_of v)
   number_fits (item.Int z) h = h
   number_fits (item.Truth b) h = absurd h
 
@@ -179,10 +181,10 @@ module _ (p : Program) (body : Option ℕ) where
       let g = h.each (length l.0) (OfLimit limit) is in
       ap (λ n. number_of (value_in kinds.Int (cells (run_cell n)))) n ∙ ap (λ n. number_of (value_in kinds.Int n)) g.2 ∙ ap number_of (value_in-cell_of kinds.Int (item.Int limit) g.1)
 
-  stepped : {U : Uses} {home : Option ℕ} {fs : List Frame} (t : Bool) (way : Way) (limit z : ℤ) (x : Place) (b : ℕ) (c next exit : Control) (k : Bool → World → Ending) (l : Exit' → Option Value → World → Ending) → ((a : Bool) (w : World) → Any U a → w.marks ≤ b → Ends p U (cond a next exit) w (k a w)) → (w : World) → w.marks ≤ b → (cells : Cells) → Keeps U w.store cells → AtKind kinds.Int U x → FitsSigned w16 limit → FitsSigned w16 z → has_reached way limit z ≡ t → step p c cells ≡ cond t (Goes exit cells) (Goes next (written cells (run_cell x.variable) (cell_of (item.Int (next_number way z))))) → Comes p c (scene_of w cells) (finish (branch t (Gives false) (λ w. Gives true (assign x (item.Int (next_number way z)) w)) w) k l)
+  stepped : {U : Uses} (t : Bool) (way : Way) (limit z : ℤ) (x : Place) (b : ℕ) (c next exit : Control) (k : Bool → World → Ending) (l : Exit' → Option Value → World → Ending) → ((a : Bool) (w : World) → Any U a → w.marks ≤ b → Ends p U (cond a next exit) w (k a w)) → (w : World) → w.marks ≤ b → (cells : Cells) → Keeps U w.store cells → AtKind kinds.Int U x → FitsSigned w16 limit → FitsSigned w16 z → has_reached way limit z ≡ t → step p c cells ≡ cond t (Goes exit cells) (Goes next (written cells (run_cell x.variable) (cell_of (item.Int (next_number way z))))) → Comes p c (scene_of w cells) (finish (branch t (Gives false) (λ w. Gives true (assign x (item.Int (next_number way z)) w)) w) k l)
   stepped true way limit z x b c next exit k l hk w le cells h is f g t e = on_step p c exit (scene_of w cells) cells _ e (hk false w tt le cells h)
-  stepped {U} {home} {fs} false way limit z x b c next exit k l hk w le cells h is f g t e =
-      write_ends p {U} {home} {fs} c next w x kinds.Int (item.Int (next_number way z)) _ cells is (next_fits way limit z f g t) h e (hk true (assign x (item.Int (next_number way z)) w) tt le)
+  stepped {U} false way limit z x b c next exit k l hk w le cells h is f g t e =
+      write_ends p c next w x kinds.Int (item.Int (next_number way z)) _ cells is (next_fits way limit z f g t) h e (hk true (assign x (item.Int (next_number way z)) w) tt le)
 
   pub step_to_is : (q : PlacePhrase) (way : Way) (limit : ℤ) → HasPlace p body q kinds.Int → FitsSigned w16 limit → IsExit (Under limit) (step_to q way limit) (step_to_code q way)
   step_to_is q way limit is fits =
@@ -199,7 +201,7 @@ module _ (p : Program) (body : Option ℕ) where
                   let z = number_of (fetch x w) in
                   let read = reads U w.store cells x.variable kinds.Int h at_x in
                   let go = λ (v : Value) (lim : ℤ). cond (has_reached way lim (number_of v)) (Goes exit cells) (Goes next (written cells (run_cell x.variable) (cell_of (item.Int (next_number way (number_of v)))))) in
-                  stepped {U} {m.body} {c.frames} (has_reached way limit z) way limit z x b now next exit k e hk w le' cells h at_x fits (number_fits (fetch x w) read.0) refl
+                  stepped (has_reached way limit z) way limit z x b now next exit k e hk w le' cells h at_x fits (number_fits (fetch x w) read.0) refl
                   (here p (pc + 1) (Step way end) (operand.Place kinds.Int ∷ ks) m has.1.0 c (keep_place x ops) cells
                   ∙ ap (go (value_in kinds.Int (cells (run_cell x.variable)))) (limit_read limit U now w.store cells l le.stands.used h)
                   ∙ ap (λ v. go v limit) read.1);

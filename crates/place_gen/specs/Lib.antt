@@ -1,2 +1,5 @@
 pub mod Stretch
+pub mod Layouts
 pub mod Correct
+pub mod Adds
+pub mod Steps

@@ -1,2 +1,11 @@
 //! The instructions of places, values and statements.
 #![tactic(auto)]
+
+mod draft;
+mod emit;
+mod put;
+mod size;
+
+pub use draft::Draft;
+pub use emit::{emit_actions, emit_content};
+pub use put::kind_in;

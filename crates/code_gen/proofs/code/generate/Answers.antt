@@ -1,14 +1,15 @@
 use Rattle.std.proofs.Common.{◌≡◌, rules, sym, subst}
 use Rattle.code_form.specs.Program.{Program}
 use Rattle.code_form.specs.Valid.{IsValid}
-use Rattle.code_gen.specs.Stretch.{program_of}
+use Rattle.code_gen.specs.Program.{program_of}
 use Rattle.code_gen.specs.Correct.{Behaves}
-use Rattle.code_gen.proofs.Whole.{valid, behaves}
+use Rattle.code_gen.proofs.Tables.{valid}
+use Rattle.code_gen.proofs.Whole.{behaves}
 use Rattle.code_gen.proofs.code.generate.Goals as goal
 
 pub new-requires : goal.new-requires
 new-requires c =
-    let made : Program = record { variables = c.in_ok-variables.variables; lines = c.put.new.self.lines } in
+    let made : Program = record { variables = c.in_ok-variables.variables; bodies = c.in_ok-bodies.bodies; lines = c.emit_bodies-bodies.new.out.lines } in
     let e : made ≡ program_of c.args.core.now = search rules in
     subst IsValid (sym e) (valid c.args.core.now c.requires)
 

@@ -1,0 +1,6 @@
+pub mod Tables
+pub mod Entered
+pub mod Level
+pub mod Bodies
+pub mod Whole
+pub mod Plays

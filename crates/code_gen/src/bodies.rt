@@ -1,0 +1,92 @@
+//! The bodies of a command: their code, and their entries in its tables.
+ghost use Rattle.std.specs.Prelude.{◌≡◌, ◌++◌, ◌×◌, IfOk, length, map};
+ghost use Rattle.elan_types.specs.Typing.{kind_in};
+ghost use Rattle.place_gen.specs.Layouts.{delivered_kind, layout_of, parameter_kind};
+ghost use Rattle.code_gen.specs.Program.{body_lines, entries, entry_of};
+
+use code_form::{Entry, Layout, OperandKind};
+use elan_types::{Access, Body, Content, ElanType, Parameter, Scope};
+use eu_base::{Kind, List, NoMemory};
+use place_gen::{Draft, emit_content, kind_in};
+use std::alloc::Global;
+
+/// Adds the code of bodies, one behind another, and gives their entries.
+pub fn emit_bodies(out: &mut Draft, bodies: &[Body]) -> Result<List<Entry>, NoMemory>
+    ensures entries { IfOk result (λ made. made ≡ entries bodies.now (length out.old.lines)) }
+    ensures lines { IfOk result (λ _. out.new.lines ≡ out.old.lines ++ body_lines bodies.now 0 (length out.old.lines)) }
+{
+    let mut entries = List::new(out.alloc);
+    for (number, body) in bodies.iter().enumerate() {
+        let number = u16::try_from(number).map_err(|_| NoMemory)?;
+        entries.push(entry_of(out.alloc, body, out.lines.len())?)?;
+        out.begin_body(number);
+        emit_content(out, &body.content)?;
+    }
+    Ok(entries)
+}
+
+fn entry_of(alloc: Global, body: &Body, first: usize) -> Result<Entry, NoMemory>
+    ensures { IfOk result (λ entry. entry ≡ entry_of body.now first) }
+{
+    Ok(Entry {
+        first,
+        layout: layout_of(alloc, &body.scope)?,
+        delivers: delivered_kind(&body.content),
+    })
+}
+
+fn layout_of(alloc: Global, scope: &Scope) -> Result<Layout, NoMemory>
+    ensures { IfOk result (λ layout. layout ≡ layout_of scope.now) }
+{
+    match scope {
+        Scope::Own {
+            parameters,
+            variables,
+        } => Ok(Layout::Own {
+            parameters: parameter_kinds(alloc, parameters.as_slice())?,
+            variables: kinds(alloc, variables.as_slice())?,
+        }),
+        Scope::Of(body) => Ok(Layout::Of(*body)),
+        Scope::Level => Ok(Layout::Level),
+    }
+}
+
+fn delivered_kind(content: &Content) -> Option<Kind>
+    ensures { result ≡ delivered_kind content.now }
+{
+    match content {
+        Content::Units(_) => None,
+        Content::Value(of, _) => Some(kind_in(*of)),
+    }
+}
+
+fn parameter_kind(parameter: Parameter) -> OperandKind
+    ensures { result ≡ parameter_kind parameter }
+{
+    let kind = kind_in(parameter.of);
+    match parameter.access {
+        Access::Const => OperandKind::Value(kind),
+        Access::Var => OperandKind::Place(kind),
+    }
+}
+
+fn parameter_kinds(alloc: Global, parameters: &[Parameter]) -> Result<List<OperandKind>, NoMemory>
+    ensures { IfOk result (λ kinds. kinds ≡ map parameter_kind parameters.now) }
+{
+    let mut kinds = List::new(alloc);
+    for parameter in parameters {
+        kinds.push(parameter_kind(*parameter))?;
+    }
+    Ok(kinds)
+}
+
+/// The kinds of the values of types.
+pub fn kinds(alloc: Global, types: &[ElanType]) -> Result<List<Kind>, NoMemory>
+    ensures { IfOk result (λ kinds. kinds ≡ map kind_in types.now) }
+{
+    let mut kinds = List::new(alloc);
+    for of in types {
+        kinds.push(kind_in(*of))?;
+    }
+    Ok(kinds)
+}

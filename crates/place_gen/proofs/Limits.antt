@@ -1,0 +1,128 @@
+-- What loops with a counter do, whatever their parts are. A limit has a cell meanwhile.
+use Rattle.std.proofs.Common.{◌≡◌, ℕ, ◌+◌, ◌-◌, ◌<◌, ◌≤◌, List, [], ◌∷◌, ◌++◌, length, drop, Option, Some, None, Bool, true, false, cond, refl, sym, ap, ◌∙◌, subst, arith, length-append}
+use Rattle.std.specs.Prelude.{ℤ, pos}
+use Rattle.std.proofs.lemmas.Bool.{leb-true}
+use Rattle.std.proofs.lemmas.List.{get_or_append_left}
+use Rattle.std.proofs.lemmas.Option.{slice_get_within}
+use Rattle.std.specs.Int.{w16}
+use Rattle.std.specs.Int.RustNames.{FitsSigned}
+use Rattle.eu_base.specs.declared.address.TheConstants.{CELLS}
+use Rattle.eu_base.specs.declared.value.Kind.TheVariants as kinds
+use Rattle.eu_base.specs.declared.value.Value.{Value}
+use Rattle.eu_base.specs.declared.value.Value.TheVariants as item
+use Rattle.eu_base.specs.declared.stop.Stop.TheVariants.{CellRoom}
+use Rattle.eu_base.specs.declared.operation.Way.{Way}
+use Rattle.eu_base.specs.Room.{cells_fit}
+use Rattle.eu_base.specs.Values.{IsOf, number_of, cell_of}
+use Rattle.eu_base.specs.Operations.{is_past}
+use Rattle.eu_base.specs.Cells.{Cells, run_cell, written}
+use Rattle.code_form.specs.declared.halt.Halt.TheVariants as halts
+use Rattle.code_form.specs.declared.operand.Operand.{Operand}
+use Rattle.code_form.specs.declared.operand.Operand.TheVariants.{Value as Of}
+use Rattle.code_form.specs.declared.operand.OperandKind.{OperandKind}
+use Rattle.code_form.specs.declared.operand.OperandKind.TheVariants as operand
+use Rattle.code_form.specs.declared.instr.Instr.TheVariants.{Limit, Unlimit}
+use Rattle.code_form.specs.declared.code.Spot.{Spot}
+use Rattle.code_form.specs.Program.{Program, line_of, deeper}
+use Rattle.code_form.specs.Machine.{Control, Goes, Halts, at, using, base_of, step}
+use Rattle.elan_types.specs.declared.core_phrase.Exit.{Exit as Exit'}
+use Rattle.elan_types.specs.declared.core_phrase.PlacePhrase.{PlacePhrase}
+use Rattle.elan_types.specs.Eval.{Place, Taken, value_of, World, Outcome, Gives, Stopped, bind, branch, fetch, place, holding_place, cut, Calls, Run, turns, step as step_on, step_to, limited, counted}
+use Rattle.elan_types.specs.Command.{Ending}
+use Rattle.place_gen.specs.Stretch.{Stretch, join, Exit, step_code, step_to_code, place_code, turns_code, limit_code, counted_code}
+use Rattle.place_gen.specs.Correct.{Comes, scene_of}
+use Rattle.place_gen.proofs.Lines.{HasAt, has_front, has_rest, join_sized}
+use Rattle.place_gen.proofs.Homes.{HasPlace}
+use Rattle.place_gen.proofs.Cells.{Use, OfValue, OfLimit, Uses, Keeps, get_left, reads, cuts, extends_one}
+use Rattle.eu_base.proofs.Results.{fits_in_range}
+use Rattle.place_gen.proofs.Carry.{finish, finish_bind, Any, AtKind, use_of, reach, Ends, wider, Carries, Stands, Within, on_step, stop_comes, branch_carries, none_carries, here, ends_at, join_carries}
+use Rattle.place_gen.proofs.Forms.{keep_place, IsValue, IsAction, place_is}
+use Rattle.place_gen.proofs.Loops.{IsExit, Under, number_fits, turns_are, turns_sized}
+
+module _ (p : Program) (body : Option ℕ) where
+  -- with one cell more in use
+  stands_wider : (L : Uses) (k : Use) (m : Spot) (c : Control) → cells_fit (c.used + 1) ≡ true → Stands p L m c → Stands p (L ++ k ∷ []) (deeper m) (using c (c.used + 1))
+  stands_wider L k m c fits h =
+      let most : c.used + 1 ≤ CELLS = leb-true (c.used + 1) CELLS fits in record {
+        used = omega (arith, h.used, length-append L (k ∷ []));
+        room = omega (arith, h.used, length-append L (k ∷ []), most);
+        level = λ x k' e. get_left L (k ∷ []) x (OfValue k') (h.level x k' e);
+        frame = λ x k' e. get_left L (k ∷ []) (base_of c.frames + x) (use_of k') (h.frame x k' e);
+      }
+
+  -- a cell is taken for the limit, where it has room
+  taken : {L : Uses} (t : Bool) (c c' : Control) (w : World) (cells now : Cells) (go : World → Outcome (Unit {0})) (k : Unit {0} → World → Ending) (l : Exit' → Option Value → World → Ending) → Keeps L w.store cells → step p c cells ≡ cond t (Goes c' now) (Halts (halts.Stopped CellRoom)) → (t ≡ true → Comes p c' (scene_of w now) (finish (go (record w { store = w.store ++ Taken ∷ [] })) k l)) → Comes p c (scene_of w cells) (finish (branch t (λ w. go (record w { store = w.store ++ Taken ∷ [] })) (Stopped CellRoom) w) k l)
+  taken {L} true c c' w cells now go k l keeps e h = on_step p c c' (scene_of w cells) now _ e (h refl)
+  taken {L} false c c' w cells now go k l keeps e h = stop_comes p L c w CellRoom cells keeps e
+
+  -- the cell is given back
+  given_back : (L : Uses) (limit : ℤ) (b end : ℕ) (c c1 : Control) (ops : List Operand) (k : Unit {0} → World → Ending) → c1.used ≡ c.used + 1 → c1.frames ≡ c.frames → ((cells : Cells) → step p (at c1 end ops) cells ≡ Goes (at c (end + 1) ops) cells) → ((a : Unit {0}) (w : World) → Any L a → w.marks ≤ b → Ends p L (at c (end + 1) ops) w (k a w)) → (a : Unit {0}) (w : World) → Any (L ++ OfLimit limit ∷ []) a → w.marks ≤ b → Ends p (L ++ OfLimit limit ∷ []) (at c1 end ops) w (k tt (cut (length w.store - 1) w))
+  given_back L limit b end c c1 ops k e e' s hk a w good le cells keeps =
+      let n : length w.store - 1 ≡ length L = omega (arith, keeps.as_many, length-append L (OfLimit limit ∷ [])) in
+      on_step p (at c1 end ops) (at c (end + 1) ops) (scene_of w cells) cells _ (s cells) (hk tt (cut (length w.store - 1) w) tt le cells (cuts L (OfLimit limit ∷ []) w.store cells (length w.store - 1) n keeps))
+
+  limit_sized : (way : Way) (ts : Stretch) → ((ks : List OperandKind) (m : Spot) (pc : ℕ) → length (ts.lines ks m pc) ≡ ts.size) → (ks : List OperandKind) (m : Spot) (pc : ℕ) → length ((limit_code way ts).lines ks m pc) ≡ (limit_code way ts).size
+  limit_sized way ts e ks m pc = omega (arith, length-append (ts.lines (drop 2 ks) (deeper m) (pc + 1)) (line_of Unlimit (drop 2 ks) (deeper m) ∷ []), e (drop 2 ks) (deeper m) (pc + 1))
+
+  -- the turns under a limit
+  limited_carries : {t : Run Bool} {f : Exit} (way : Way) (v : Value) (x : Place) → IsOf kinds.Int v → IsExit p body (Under p body (number_of v)) t f → (calls : Calls) (n b pc : ℕ) (L : Uses) (ks : List OperandKind) (m : Spot) (c : Control) (ops : List Operand) → m.body ≡ body → Within p calls n b L m c → AtKind kinds.Int L x → HasAt p.lines pc ((limit_code way (turns_code f)).lines ks m pc) → Carries p L m.body c.frames Any b (at c pc (Of v ∷ keep_place x ops)) (limited x way (number_of v) t (reach calls n c ops)) (λ _. at c (pc + 1 + (turns_code f).size + 1) ops)
+  limited_carries {t} {f} way v x ok i calls n b pc L ks m c ops home le at_x has =
+      let z = number_of v in
+      let ts = turns_code f in
+      let end = pc + 1 + ts.size in
+      let M = L ++ OfLimit z ∷ [] in
+      let r = reach calls n c ops in
+      let now = at c pc (Of v ∷ keep_place x ops) in
+      let c1 = using c (c.used + 1) in
+      let h1 = has_rest p.lines (pc + 1) ts.size (ts.lines (drop 2 ks) (deeper m) (pc + 1)) _ (turns_sized p body i (drop 2 ks) (deeper m) (pc + 1)) has.1 in
+      record {
+        by = λ k l hk hl w lw cells keeps.
+            let used : c.used ≡ length L = le.stands.used in
+            let same : length w.store + 1 ≡ c.used + 1 = omega (arith, used, keeps.as_many) in
+            let past = is_past way z (number_of (fetch x w)) in
+            let now_cells = written cells (run_cell c.used) (cell_of (item.Int z)) in
+            let w' : World = record w { store = w.store ++ Taken ∷ [] } in
+            let read = reads L w.store cells x.variable kinds.Int keeps at_x in
+            let go = λ (u : Value). cond (cells_fit (c.used + 1)) (Goes (using (at c (cond (is_past way z (number_of u)) end (pc + 1)) ops) (c.used + 1)) now_cells) (Halts (halts.Stopped CellRoom)) in
+            let does : step p now cells ≡ go (fetch x w) = here p pc (Limit way end) ks m has.0 c (Of v ∷ keep_place x ops) cells ∙ ap go read.1 in
+            let run = λ (w : World). bind (branch (is_past way z (number_of (fetch x w))) (Gives (tt {0})) (turns n (t r)) w) (λ _ w. Gives (tt {0}) (cut (length w.store - 1) w)) in
+            let within : x.variable < length w.store = omega (arith, slice_get_within L x.variable (OfValue kinds.Int) at_x, keeps.as_many) in
+            let kept : Keeps M w'.store now_cells = subst (λ n. Keeps M w'.store (written cells (run_cell n) (cell_of (item.Int z)))) (sym used) (extends_one L w.store cells (OfLimit z) Taken (cell_of (item.Int z)) keeps (refl, number_fits p body v ok, refl)) in
+            let same_x : fetch x w' ≡ fetch x w = ap value_of (get_or_append_left w.store (Taken ∷ []) Taken x.variable within) in
+            let fuller = λ (e : cells_fit (c.used + 1) ≡ true).
+            let le' : Within p calls n b M (deeper m) c1 = record { turns = le.turns; stands = stands_wider L (OfLimit z) m c e le.stands; carry = le.carry } in
+            let inner = branch_carries p {L = M} {body = m.body} {fs = c.frames} b past (λ (t : Bool). at c1 (cond t end (pc + 1)) ops) (Gives (tt {0})) (turns n (t r)) (λ _. at c1 end ops) (none_carries p b tt (λ _. at c1 end ops) tt) (turns_are p body i calls n b (pc + 1) M (drop 2 ks) (deeper m) c1 ops home le' (L, refl) (has_front p.lines (pc + 1) (ts.lines (drop 2 ks) (deeper m) (pc + 1)) _ has.1)) in
+            let drops = λ (cells : Cells).
+            let n : c.used + 1 - 1 ≡ c.used = omega arith in
+            here p end Unlimit (drop 2 ks) (deeper m) h1.0 c1 ops cells ∙ ap (λ n. Goes (using (at c (end + 1) ops) n) cells) n in
+            let ends = inner.by (λ _ w. k tt (cut (length w.store - 1) w)) l (given_back L z b end c c1 ops k refl refl drops hk) (wider p L (OfLimit z ∷ []) hl) w' lw now_cells kept in
+            subst (Comes p (at c1 (cond past end (pc + 1)) ops) (scene_of w now_cells)) (sym (finish_bind (branch past (Gives (tt {0})) (turns n (t r)) w') (λ _ w. Gives (tt {0}) (cut (length w.store - 1) w)) k l) ∙ ap (λ (u : Value). finish (bind (branch (is_past way z (number_of u)) (Gives (tt {0})) (turns n (t r)) w') (λ _ w. Gives (tt {0}) (cut (length w.store - 1) w))) k l) (sym same_x)) ends in
+            subst (λ (n : ℕ). Comes p now (scene_of w cells) (finish (branch (cells_fit n) (λ w. run (record w { store = w.store ++ Taken ∷ [] })) (Stopped CellRoom) w) k l)) (sym same)
+            (taken (cells_fit (c.used + 1)) now (at c1 (cond past end (pc + 1)) ops) w cells now_cells run k l keeps does fuller);
+      }
+
+  -- a loop whose counter has its first value, without a limit and with one
+  pub counted_none_is : (turn' : Run Bool → Run Bool) (tf : Exit → Exit) (q : PlacePhrase) (way : Way) → IsExit p body (λ _. Unit {0}) (turn' (step_on q)) (tf (step_code q)) → IsAction p body (counted q way None turn') (counted_code q way None tf)
+  counted_none_is turn' tf q way i = record {
+    sized = λ ks m pc. turns_sized p body i ks m pc;
+    goes = λ calls n b pc L ks m c ops home le has. turns_are p body i calls n b pc L ks m c ops home le tt has;
+  }
+
+  pub counted_some_is : {t : Run Value} {f : Stretch} (turn' : Run Bool → Run Bool) (tf : Exit → Exit) (q : PlacePhrase) (way : Way) → HasPlace p body q kinds.Int → IsValue p body kinds.Int t f → ((limit : ℤ) → FitsSigned w16 limit → IsExit p body (Under p body limit) (turn' (step_to q way limit)) (tf (step_to_code q way))) → IsAction p body (counted q way (Some t) turn') (counted_code q way (Some f) tf)
+  counted_some_is {t} {f} turn' tf q way is i j =
+      let ts = turns_code (tf (step_to_code q way)) in
+      let g = limit_code way ts in
+      let y = place_is p body q kinds.Int is in
+      let zero_fits : FitsSigned w16 (pos 0) = fits_in_range (pos 0) refl in
+      let g_sized = limit_sized way ts (turns_sized p body (j (pos 0) zero_fits)) in record {
+        sized = join_sized (place_code q kinds.Int) (join f g) y.sized (join_sized f g i.sized g_sized);
+        goes = λ calls n b pc L ks m c ops home le has.
+            let r = reach calls n c ops in
+            let rest = λ (x : Place) (v : Value). limited x way (number_of v) (turn' (step_to q way (number_of v))) r in
+            join_carries p (place_code q kinds.Int) (join f g) b pc ks m c ops (place q r) (λ x w. bind (t (holding_place r) w) (rest x)) (λ x. keep_place x ops) (λ _. ops) y.sized has (λ h. y.goes calls n b pc L ks m c ops home le h) (λ h x at_x.
+            let kp = operand.Place kinds.Int ∷ ks in
+            join_carries p f g b (pc + 1) kp m c (keep_place x ops) (t (reach calls n c (keep_place x ops))) (rest x) (λ v. Of v ∷ keep_place x ops) (λ _. ops) i.sized h (λ h. i.goes calls n b (pc + 1) L kp m c (keep_place x ops) home le h) (λ h v ok.
+            let z = pc + 1 + f.size in
+            ends_at p b (at c z (Of v ∷ keep_place x ops)) c (rest x v) (z + 1 + ts.size + 1) (z + (1 + (ts.size + 1))) (λ _. ops) (omega arith)
+            (limited_carries way v x ok (j (number_of v) (number_fits p body v ok)) calls n b z L (f.leaves kp) m c ops home le at_x h)));
+      }

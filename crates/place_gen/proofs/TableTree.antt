@@ -1,0 +1,360 @@
+-- The tables of each well typed phrase agree along each step.
+use Rattle.std.proofs.Common.{◌≡◌, ℕ, List, [], ◌∷◌, map, length, drop, Option, Some, None, Bool, true, false, ◌&&◌, refl, sym, ap, ◌∙◌, subst, arith}
+use Rattle.std.specs.Prelude.{option_map}
+use Rattle.eu_base.specs.declared.value.Kind.{Kind}
+use Rattle.eu_base.specs.declared.value.Kind.TheVariants as kinds
+use Rattle.eu_base.specs.declared.operation.Way.{Way}
+use Rattle.eu_base.specs.Operations.{operand_kinds, result_kind}
+use Rattle.code_form.specs.declared.operand.OperandKind.{OperandKind}
+use Rattle.code_form.specs.declared.operand.OperandKind.TheVariants.{Value as OfKind}
+use Rattle.code_form.specs.declared.instr.Instr.TheVariants.{Back}
+use Rattle.code_form.specs.declared.code.Spot.{Spot}
+use Rattle.code_form.specs.Program.{Program}
+use Rattle.code_form.specs.Valid.{Next, pushed_kinds, pushed_operands}
+use Rattle.elan_types.specs.declared.elan_type.ElanType.{ElanType}
+use Rattle.elan_types.specs.declared.elan_type.ElanType.TheVariants as types
+use Rattle.elan_types.specs.declared.core_phrase.Access.TheVariants.{Const, Var}
+use Rattle.elan_types.specs.declared.core_phrase.Exit.TheVariants as exits
+use Rattle.elan_types.specs.declared.core_phrase.Parameter.{Parameter as Formal}
+use Rattle.elan_types.specs.declared.core_phrase.Body.{Body}
+use Rattle.elan_types.specs.declared.core_phrase.Content.{Content}
+use Rattle.elan_types.specs.declared.core_phrase.Content.TheVariants as contents
+use Rattle.elan_types.specs.declared.core_phrase.PlacePhrase.{PlacePhrase}
+use Rattle.elan_types.specs.declared.core_phrase.Action.{Action}
+use Rattle.elan_types.specs.declared.core_phrase.Actual.{Actual}
+use Rattle.elan_types.specs.declared.core_phrase.ValuePhrase.{ValuePhrase}
+use Rattle.elan_types.specs.declared.core_phrase.Arm.{Arm}
+use Rattle.elan_types.specs.declared.core_phrase.ValueArm.{ValueArm}
+use Rattle.elan_types.specs.declared.core_phrase.Action.TheOpen as t
+use Rattle.elan_types.specs.declared.core_phrase.Action.TheOpen.{Action-F, Actual-F, ValuePhrase-F, Arm-F, ValueArm-F}
+use Rattle.elan_types.specs.declared.core_phrase.Action.TheFolds.{fold-Actual, fold-Arm, fold-ValueArm, ind-Action, ind-ValuePhrase, map-Action, map-Actual, map-ValuePhrase, map-Arm, map-ValueArm, fold-roll-Action, fold-roll-Actual, fold-roll-ValuePhrase, fold-roll-Arm, fold-roll-ValueArm}
+use Rattle.elan_types.specs.Typing.{Typed, Taken, Home, has, only_if, place_type, has_if_written, have, all_agree, all_true, takes, take_all, given_as, type_in, kind_in, type_of, is_typed, value_type_step, actual_type_step, value_arm_type_step, action_typed_step, arm_typed_step, is_content_typed, result_of_content}
+use Rattle.place_gen.specs.Stretch.{Stretch, Exit, none, one, place_code, keeps, pushes, join, stays, all_code, select_code, while_code, until_code, turn_code, turns_code, store_code, counted_code, action_code, actual_code, value_code, content_code, action_code_step, actual_code_step, value_code_step, arm_code_step, value_arm_code_step, arm_code_of, value_arm_code}
+use Rattle.place_gen.specs.Layouts.{taken_as, parameter_kind}
+use Rattle.place_gen.proofs.Homes.{Delivers, Agrees, IsHome, agree_is, kind_type, place_is, proc_is, part_is, left_is, only_if_is, both, same_is, has_is, access_is, without_is, with_is, none_is}
+use Rattle.place_gen.proofs.Lines.{HasAt, IsSized, join_sized}
+use Rattle.place_gen.proofs.Tables.{Each, ends_good, leave_fine, Table, ValueTable, ActionTable, above, none_table, join_table, mark_table, number_table, truth_table, place_table, load_table, store_table, modify_table, put_table, line_table, apply_table, call_table, refer_table, leave_table, leave_with_table}
+use Rattle.place_gen.proofs.LoopTables.{if_table, otherwise_table, arm_table, ExitTable, stays_table, while_table, until_table, step_table, AtLeastOne, step_to_table, turn_table, loop_table, counted_none_table, counted_some_table}
+
+abbrev fst : {A : Type 0} {B : A → Type 0} → (a : A) × B a → A
+fst x = x.0
+
+-- what a parameter is given is of the kind that it takes
+takes_is : (f : Formal) (a : Taken) → takes f a ≡ true → (g : Formal) × (a ≡ Some g) × (parameter_kind g ≡ parameter_kind f)
+takes_is f None e = let h : ⊥ = cc in absurd h
+takes_is f (Some g) e =
+    let h = both _ _ e in
+    (g, refl, ap (λ a. taken_as a (kind_in g.of)) (sym (access_is f.access g.access h.1)) ∙ ap (λ u. taken_as f.access (kind_in u)) (sym (same_is f.of g.of h.0)))
+
+module _ (p : Program) (variables : List ElanType) (bodies : List Body) (agrees : Agrees p variables bodies) (home : Home) (is_home : IsHome bodies home) where
+  abbrev T : (List OperandKind → List OperandKind) → (List OperandKind → List OperandKind) → Stretch → Type 0
+  T = Table p home
+
+  abbrev VT : Kind → Stretch → Type 0
+  VT = ValueTable p home
+
+  abbrev AT : Stretch → Type 0
+  AT = ActionTable p home
+
+  abbrev typed : Action → Bool
+  typed = is_typed variables bodies home
+
+  abbrev typ : ValuePhrase → Typed
+  typ = type_of variables bodies home
+
+  abbrev given : Actual → Taken
+  given = fold-Actual Bool Taken Typed Bool Typed (action_typed_step variables bodies home) (actual_type_step variables bodies home) (value_type_step variables bodies home) (arm_typed_step variables bodies home) (value_arm_type_step variables bodies home)
+
+  abbrev arm_typed : Arm → Bool
+  arm_typed = fold-Arm Bool Taken Typed Bool Typed (action_typed_step variables bodies home) (actual_type_step variables bodies home) (value_type_step variables bodies home) (arm_typed_step variables bodies home) (value_arm_type_step variables bodies home)
+
+  abbrev arm_type : ValueArm → Typed
+  arm_type = fold-ValueArm Bool Taken Typed Bool Typed (action_typed_step variables bodies home) (actual_type_step variables bodies home) (value_type_step variables bodies home) (arm_typed_step variables bodies home) (value_arm_type_step variables bodies home)
+
+  abbrev Q : Action → Type 0
+  Q a = typed a ≡ true → AT (action_code a)
+
+  abbrev N : Actual → Type 0
+  N a = (f : Formal) → given a ≡ Some f → T keeps (pushes (parameter_kind f)) (actual_code a)
+
+  abbrev P : ValuePhrase → Type 0
+  P e = (u : ElanType) → typ e ≡ Some u → VT (kind_in u) (value_code e)
+
+  abbrev R : Arm → Type 0
+  R a = arm_typed a ≡ true → AT (arm_code_of a).part
+
+  abbrev S : ValueArm → Type 0
+  S a = (u : ElanType) → arm_type a ≡ Some u → VT (kind_in u) (value_arm_code a).part
+
+  of_kind : {f : Stretch} {k k' : Kind} → k ≡ k' → VT k f → VT k' f
+  of_kind {f} e i = subst (λ k. VT k f) e i
+
+  of_type : {f : Stretch} (v u : ElanType) → Some v ≡ Some u → VT (kind_in v) f → VT (kind_in u) f
+  of_type {f} v u e i = let g : v ≡ u = cc in of_kind (ap kind_in g) i
+
+  -- lists of parts
+  actions_are : (xs : List ((a : Action) × Q a)) → all_true (map typed (map fst xs)) ≡ true → AT (all_code (map action_code (map fst xs)))
+  actions_are [] e = none_table p home keeps
+  actions_are (x ∷ xs) e = let f = both _ _ e in join_table p home (x.1 f.0) (actions_are xs f.1)
+
+  values_are : (ks : List Kind) (xs : List ((e : ValuePhrase) × P e)) → have (map type_in ks) (map typ (map fst xs)) ≡ true → T keeps (pushed_kinds ks) (all_code (map value_code (map fst xs)))
+  values_are [] [] e = none_table p home keeps
+  values_are [] (x ∷ xs) e = let f : ⊥ = cc in absurd f
+  values_are (k ∷ ks) [] e = let f : ⊥ = cc in absurd f
+  values_are (k ∷ ks) (x ∷ xs) e =
+      let f = both _ _ e in
+      let i = of_kind (kind_type k) (x.1 (type_in k) (has_is (type_in k) _ f.0)) in
+      join_table p home i (above p home (pushes (OfKind k)) (values_are ks xs f.1))
+
+  record Actuals (taken : List OperandKind) (fs : List Stretch) : Type 0 where
+    pub as_many : length fs ≡ length taken
+    pub table : T keeps (pushed_operands taken) (all_code fs)
+
+  actuals_are : (fs : List Formal) (xs : List ((a : Actual) × N a)) → take_all fs (map given (map fst xs)) ≡ true → Actuals (map parameter_kind fs) (map actual_code (map fst xs))
+  actuals_are [] [] e = record { as_many = refl; table = none_table p home keeps }
+  actuals_are [] (x ∷ xs) e = let f : ⊥ = cc in absurd f
+  actuals_are (k ∷ ks) [] e = let f : ⊥ = cc in absurd f
+  actuals_are (k ∷ ks) (x ∷ xs) e =
+      let f = both _ _ e in
+      let g = takes_is k _ f.0 in
+      let i = subst (λ o. T keeps (pushes o) (actual_code x.0)) g.2 (x.1 g.0 g.1) in
+      let j = actuals_are ks xs f.1 in
+      record { as_many = omega (arith, j.as_many); table = join_table p home i (above p home (pushes (parameter_kind k)) j.table) }
+
+  arms_are : (xs : List ((a : Arm) × R a)) (g : Stretch) → all_true (map arm_typed (map fst xs)) ≡ true → AT g → T (pushes (OfKind kinds.Int)) keeps (select_code (map arm_code_of (map fst xs)) g)
+  arms_are [] g e i = otherwise_table p home i
+  arms_are (x ∷ xs) g e i = let f = both _ _ e in arm_table p home (arm_code_of x.0).labels (x.1 f.0) (arms_are xs g f.1 i)
+
+  value_arms_are : (u : ElanType) (xs : List ((a : ValueArm) × S a)) (g : Stretch) (a : Typed) → a ≡ Some u → all_agree a (map arm_type (map fst xs)) ≡ true → VT (kind_in u) g → T (pushes (OfKind kinds.Int)) (pushes (OfKind (kind_in u))) (select_code (map value_arm_code (map fst xs)) g)
+  value_arms_are u [] g a h e i = otherwise_table p home i
+  value_arms_are u (x ∷ xs) g a h e i =
+      let f = both _ _ e in
+      arm_table p home (value_arm_code x.0).labels (x.1 u (agree_is a _ u f.0 h)) (value_arms_are u xs g a h f.1 i)
+
+  abbrev MaybeValue : Type 0
+  MaybeValue = Option ((e : ValuePhrase) × P e)
+
+  abbrev Actions : Type 0
+  Actions = List ((a : Action) × Q a)
+
+  abbrev typed_if : ElanType → MaybeValue → Bool
+  typed_if u a = has_if_written u (option_map typ (option_map fst a))
+
+  abbrev all_typed : Actions → Bool
+  all_typed us = all_true (map typed (map fst us))
+
+  abbrev code_if : MaybeValue → Option Stretch
+  code_if a = option_map value_code (option_map fst a)
+
+  abbrev codes : Actions → Stretch
+  codes us = all_code (map action_code (map fst us))
+
+  while_is : (M : _) (w : MaybeValue) → typed_if types.Bool w ≡ true → ExitTable p home M (while_code (code_if w))
+  while_is M None e = stays_table p home M (none_table p home keeps)
+  while_is M (Some x) e = while_table p home M (x.1 types.Bool (has_is types.Bool _ e))
+
+  until_is : (M : _) (w : MaybeValue) → typed_if types.Bool w ≡ true → ExitTable p home M (until_code (code_if w))
+  until_is M None e = stays_table p home M (none_table p home keeps)
+  until_is M (Some x) e = until_table p home M (x.1 types.Bool (has_is types.Bool _ e))
+
+  turn_is' : (M : _) (w : MaybeValue) (us : Actions) (u : MaybeValue) (s : Exit) → typed_if types.Bool w ≡ true → all_typed us ≡ true → typed_if types.Bool u ≡ true → ExitTable p home M s → ExitTable p home M (turn_code (code_if w) (codes us) (code_if u) s)
+  turn_is' M w us u s ew eus eu step = turn_table p home (code_if w) (code_if u) (while_is M w ew) (actions_are us eus) (until_is M u eu) step
+
+  looped_is : (w : MaybeValue) (us : Actions) (u : MaybeValue) → (typed_if types.Bool w && (all_typed us && typed_if types.Bool u)) ≡ true → AT (turns_code (turn_code (code_if w) (codes us) (code_if u) (stays none)))
+  looped_is w us u e =
+      let f = both _ _ e in
+      let g = both _ _ f.1 in
+      loop_table p home (turn_is' (λ _. Unit {0}) w us u (stays none) f.0 g.0 g.1 (stays_table p home (λ _. Unit {0}) (none_table p home keeps)))
+
+  counted_is : (q : PlacePhrase) (way : Way) (limit w : MaybeValue) (us : Actions) (u : MaybeValue) → has types.Int (place_type variables bodies home q) ≡ true → typed_if types.Int limit ≡ true → typed_if types.Bool w ≡ true → all_typed us ≡ true → typed_if types.Bool u ≡ true
+      → AT (counted_code q way (code_if limit) (turn_code (code_if w) (codes us) (code_if u)))
+  counted_is q way None w us u is e ew eus eu =
+      let place = place_is p variables bodies agrees home is_home q types.Int (has_is types.Int _ is) in
+      counted_none_table p home (turn_code (code_if w) (codes us) (code_if u)) q way (turn_is' (λ _. Unit {0}) w us u _ ew eus eu (step_table p home (λ _. Unit {0}) q place))
+  counted_is q way (Some a) w us u is e ew eus eu =
+      let place = place_is p variables bodies agrees home is_home q types.Int (has_is types.Int _ is) in
+      counted_some_table p home (turn_code (code_if w) (codes us) (code_if u)) q way place (a.1 types.Int (has_is types.Int _ e)) (turn_is' (AtLeastOne p home) w us u _ ew eus eu (step_to_table p home q way place))
+
+  counts_is : (q : PlacePhrase) (from : (e : ValuePhrase) × P e) (way : Way) (limit w : MaybeValue) (us : Actions) (u : MaybeValue)
+      → (has types.Int (place_type variables bodies home q) && (has types.Int (typ from.0) && (typed_if types.Int limit && (typed_if types.Bool w && (all_typed us && typed_if types.Bool u))))) ≡ true
+      → AT (join (store_code q kinds.Int (value_code from.0)) (counted_code q way (code_if limit) (turn_code (code_if w) (codes us) (code_if u))))
+  counts_is q from way limit w us u e =
+      let f0 = both _ _ e in
+      let f1 = both _ _ f0.1 in
+      let f2 = both _ _ f1.1 in
+      let f3 = both _ _ f2.1 in
+      let f4 = both _ _ f3.1 in
+      let place = place_is p variables bodies agrees home is_home q types.Int (has_is types.Int _ f0.0) in
+      join_table p home (store_table p home q kinds.Int place (from.1 types.Int (has_is types.Int _ f1.0))) (counted_is q way limit w us u f0.0 f2.0 f3.0 f4.0 f4.1)
+
+  abbrev VLayer : Type 0
+  VLayer = ValuePhrase-F ((a : Action) × Q a) ((a : Actual) × N a) ((e : ValuePhrase) × P e) ((a : Arm) × R a) ((a : ValueArm) × S a)
+
+  value_parts : (y : VLayer) (u : ElanType)
+      → value_type_step variables bodies home (map-ValuePhrase _ _ _ _ _ _ _ _ _ _ typed given typ arm_typed arm_type (map-ValuePhrase _ _ _ _ _ _ _ _ _ _ fst fst fst fst fst y)) ≡ Some u
+      → VT (kind_in u) (value_code_step (map-ValuePhrase _ _ _ _ _ _ _ _ _ _ action_code actual_code value_code arm_code_of value_arm_code (map-ValuePhrase _ _ _ _ _ _ _ _ _ _ fst fst fst fst fst y)))
+  value_parts (t.Number z) u e = let f = only_if_is _ _ u e in of_type types.Int u f.1 (number_table p home z)
+  value_parts (t.Truth b) u e = of_type types.Bool u e (truth_table p home b)
+  value_parts (t.Load q v) u e =
+      let f = only_if_is _ _ u e in
+      of_type v u f.1 (load_table p home q (kind_in v) (place_is p variables bodies agrees home is_home q v (has_is v _ f.0)))
+  value_parts (t.Apply op es) u e =
+      let f = only_if_is _ _ u e in
+      of_type (type_in (result_kind op)) u f.1 (of_kind (sym (kind_type (result_kind op))) (apply_table p home op (values_are (operand_kinds op) es f.0)))
+  value_parts (t.Cand a b) u e =
+      let f = only_if_is _ _ u e in
+      let g = both _ _ f.0 in
+      of_type types.Bool u f.1 (if_table p home (a.1 types.Bool (has_is types.Bool _ g.0)) (b.1 types.Bool (has_is types.Bool _ g.1)) (truth_table p home false))
+  value_parts (t.Cor a b) u e =
+      let f = only_if_is _ _ u e in
+      let g = both _ _ f.0 in
+      of_type types.Bool u f.1 (if_table p home (a.1 types.Bool (has_is types.Bool _ g.0)) (truth_table p home true) (b.1 types.Bool (has_is types.Bool _ g.1)))
+  value_parts (t.ValuePhrase::If c a b) u e =
+      let f = only_if_is _ _ u e in
+      let g = both _ _ f.0 in
+      if_table p home (c.1 types.Bool (has_is types.Bool _ g.0)) (a.1 u f.1) (b.1 u (agree_is _ _ u g.1 f.1))
+  value_parts (t.ValuePhrase::Select v arms other) u e =
+      let f = only_if_is _ _ u e in
+      let g = both _ _ f.0 in
+      join_table p home (v.1 types.Int (has_is types.Int _ g.0)) (value_arms_are u arms (value_code other.0) _ f.1 g.1 (other.1 u f.1))
+  value_parts (t.ValuePhrase::Unit a) u e = join_table p home (mark_table p home) (a.1 u e)
+  value_parts (t.After us a) u e = let f = only_if_is _ _ u e in join_table p home (actions_are us f.0) (a.1 u f.1)
+  value_parts (t.ValuePhrase::Call q as' v) u e =
+      let f = only_if_is _ _ u e in
+      let g = both _ _ f.0 in
+      let i = proc_is p variables bodies agrees q _ (Some v) g.0 (has_is v _ g.1) in
+      let j = actuals_are i.parameters as' i.takes in
+      of_type v u f.1 (call_table p home q i.entry (map parameter_kind i.parameters) i.cells (Some (kind_in v)) (map actual_code (map fst as')) i.has i.own i.delivers j.as_many j.table)
+  value_parts (t.ValuePhrase::Refer q v) u e =
+      let f = only_if_is _ _ u e in
+      let g = both _ _ f.0 in
+      let i = part_is p variables bodies agrees q home is_home (Some v) g.0 (has_is v _ g.1) in
+      of_type v u f.1 (refer_table p home q i.entry (Some (kind_in v)) i.has i.refinement i.owned i.delivers)
+
+  abbrev NLayer : Type 0
+  NLayer = Actual-F ((a : Action) × Q a) ((a : Actual) × N a) ((e : ValuePhrase) × P e) ((a : Arm) × R a) ((a : ValueArm) × S a)
+
+  actual_parts : (y : NLayer) (f : Formal)
+      → actual_type_step variables bodies home (map-Actual _ _ _ _ _ _ _ _ _ _ typed given typ arm_typed arm_type (map-Actual _ _ _ _ _ _ _ _ _ _ fst fst fst fst fst y)) ≡ Some f
+      → T keeps (pushes (parameter_kind f)) (actual_code_step (map-Actual _ _ _ _ _ _ _ _ _ _ action_code actual_code value_code arm_code_of value_arm_code (map-Actual _ _ _ _ _ _ _ _ _ _ fst fst fst fst fst y)))
+  actual_parts (t.Value a) f e = value_given a (typ a.0) refl f e
+    where
+      value_given : (a : (e : ValuePhrase) × P e) (o : Typed) → typ a.0 ≡ o → (f : Formal) → given_as Const o ≡ Some f → T keeps (pushes (parameter_kind f)) (value_code a.0)
+      value_given a None is f e = let g : ⊥ = cc in absurd g
+      value_given a (Some u) is f e = let g : record { of = u; access = Const } ≡ f = cc in subst (λ f. T keeps (pushes (parameter_kind f)) (value_code a.0)) g (a.1 u is)
+  actual_parts (t.Place q u) f e = place_given (has u (place_type variables bodies home q)) refl f e
+    where
+      place_given : (b : Bool) → has u (place_type variables bodies home q) ≡ b → (f : Formal) → given_as Var (only_if b (Some u)) ≡ Some f → T keeps (pushes (parameter_kind f)) (place_code q (kind_in u))
+      place_given false is f e = let g : ⊥ = cc in absurd g
+      place_given true is f e =
+          let g : record { of = u; access = Var } ≡ f = cc in
+          subst (λ f. T keeps (pushes (parameter_kind f)) (place_code q (kind_in u))) g (place_table p home q (kind_in u) (place_is p variables bodies agrees home is_home q u (has_is u _ is)))
+
+  abbrev ALayer : Type 0
+  ALayer = Action-F ((a : Action) × Q a) ((a : Actual) × N a) ((e : ValuePhrase) × P e) ((a : Arm) × R a) ((a : ValueArm) × S a)
+
+  action_parts : (y : ALayer)
+      → action_typed_step variables bodies home (map-Action _ _ _ _ _ _ _ _ _ _ typed given typ arm_typed arm_type (map-Action _ _ _ _ _ _ _ _ _ _ fst fst fst fst fst y)) ≡ true
+      → AT (action_code_step (map-Action _ _ _ _ _ _ _ _ _ _ action_code actual_code value_code arm_code_of value_arm_code (map-Action _ _ _ _ _ _ _ _ _ _ fst fst fst fst fst y)))
+  action_parts (t.Action::Unit us) e = join_table p home (mark_table p home) (actions_are us e)
+  action_parts (t.Store q u a) e =
+      let f = both _ _ e in
+      store_table p home q (kind_in u) (place_is p variables bodies agrees home is_home q u (has_is u _ f.0)) (a.1 u (has_is u _ f.1))
+  action_parts (t.Modify change q a) e =
+      let f = both _ _ e in
+      modify_table p home change q (place_is p variables bodies agrees home is_home q types.Int (has_is types.Int _ f.0)) (a.1 types.Int (has_is types.Int _ f.1))
+  action_parts (t.Action::If c us vs) e =
+      let f = both _ _ e in
+      let g = both _ _ f.1 in
+      if_table p home (c.1 types.Bool (has_is types.Bool _ f.0)) (actions_are us g.0) (actions_are vs g.1)
+  action_parts (t.Action::Select v arms us) e =
+      let f = both _ _ e in
+      let g = both _ _ f.1 in
+      join_table p home (v.1 types.Int (has_is types.Int _ f.0)) (arms_are arms (all_code (map action_code (map fst us))) g.0 (actions_are us g.1))
+  action_parts (t.Loop None us None) e = looped_is None us None e
+  action_parts (t.Loop None us (Some u)) e = looped_is None us (Some u) e
+  action_parts (t.Loop (Some w) us None) e = looped_is (Some w) us None e
+  action_parts (t.Loop (Some w) us (Some u)) e = looped_is (Some w) us (Some u) e
+  action_parts (t.Count q from way None None us None) e = counts_is q from way None None us None e
+  action_parts (t.Count q from way None None us (Some u)) e = counts_is q from way None None us (Some u) e
+  action_parts (t.Count q from way None (Some w) us None) e = counts_is q from way None (Some w) us None e
+  action_parts (t.Count q from way None (Some w) us (Some u)) e = counts_is q from way None (Some w) us (Some u) e
+  action_parts (t.Count q from way (Some a) None us None) e = counts_is q from way (Some a) None us None e
+  action_parts (t.Count q from way (Some a) None us (Some u)) e = counts_is q from way (Some a) None us (Some u) e
+  action_parts (t.Count q from way (Some a) (Some w) us None) e = counts_is q from way (Some a) (Some w) us None e
+  action_parts (t.Count q from way (Some a) (Some w) us (Some u)) e = counts_is q from way (Some a) (Some w) us (Some u) e
+  action_parts (t.Put a) e = put_table p home (a.1 types.Int (has_is types.Int _ e))
+  action_parts t.Line e = line_table p home
+  action_parts (t.Action::Call q as') e =
+      let g = both _ _ e in
+      let i = proc_is p variables bodies agrees q _ None g.0 (none_is _ g.1) in
+      let j = actuals_are i.parameters as' i.takes in
+      call_table p home q i.entry (map parameter_kind i.parameters) i.cells None (map actual_code (map fst as')) i.has i.own i.delivers j.as_many j.table
+  action_parts (t.Action::Refer q) e =
+      let g = both _ _ e in
+      let i = part_is p variables bodies agrees q home is_home None g.0 (none_is _ g.1) in
+      refer_table p home q i.entry None i.has i.refinement i.owned i.delivers
+  action_parts (t.Leave x) e = leave_table p home x (left_is p variables bodies agrees x home None is_home (without_is _ e))
+  action_parts (t.LeaveWith x u a) e =
+      let f = both _ _ e in
+      leave_with_table p home x (kind_in u) (left_is p variables bodies agrees x home (Some u) is_home (with_is u _ f.1)) (a.1 u (has_is u _ f.0))
+
+  arm_parts : (y : Arm-F ((a : Action) × Q a) ((a : Actual) × N a) ((e : ValuePhrase) × P e) ((a : Arm) × R a) ((a : ValueArm) × S a))
+      → arm_typed_step variables bodies home (map-Arm _ _ _ _ _ _ _ _ _ _ typed given typ arm_typed arm_type (map-Arm _ _ _ _ _ _ _ _ _ _ fst fst fst fst fst y)) ≡ true
+      → AT (arm_code_step (map-Arm _ _ _ _ _ _ _ _ _ _ action_code actual_code value_code arm_code_of value_arm_code (map-Arm _ _ _ _ _ _ _ _ _ _ fst fst fst fst fst y))).part
+  arm_parts y e = actions_are y.units e
+
+  value_arm_parts : (y : ValueArm-F ((a : Action) × Q a) ((a : Actual) × N a) ((e : ValuePhrase) × P e) ((a : Arm) × R a) ((a : ValueArm) × S a)) (u : ElanType)
+      → value_arm_type_step variables bodies home (map-ValueArm _ _ _ _ _ _ _ _ _ _ typed given typ arm_typed arm_type (map-ValueArm _ _ _ _ _ _ _ _ _ _ fst fst fst fst fst y)) ≡ Some u
+      → VT (kind_in u) (value_arm_code_step (map-ValueArm _ _ _ _ _ _ _ _ _ _ action_code actual_code value_code arm_code_of value_arm_code (map-ValueArm _ _ _ _ _ _ _ _ _ _ fst fst fst fst fst y))).part
+  value_arm_parts y u e = y.value.1 u e
+
+  -- each action and each value, by induction
+  pub action_is : (a : Action) → Q a
+  action_is = ind-Action Q N P R S
+      (λ x y is. rw (fold-roll-Action, fold-roll-Action, ← is) (action_parts y))
+      (λ x y is. rw (fold-roll-Actual, fold-roll-Actual, ← is) (actual_parts y))
+      (λ x y is. rw (fold-roll-ValuePhrase, fold-roll-ValuePhrase, ← is) (value_parts y))
+      (λ x y is. rw (fold-roll-Arm, fold-roll-Arm, ← is) (arm_parts y))
+      (λ x y is. rw (fold-roll-ValueArm, fold-roll-ValueArm, ← is) (value_arm_parts y))
+
+  pub value_is : (e : ValuePhrase) → P e
+  value_is = ind-ValuePhrase Q N P R S
+      (λ x y is. rw (fold-roll-Action, fold-roll-Action, ← is) (action_parts y))
+      (λ x y is. rw (fold-roll-Actual, fold-roll-Actual, ← is) (actual_parts y))
+      (λ x y is. rw (fold-roll-ValuePhrase, fold-roll-ValuePhrase, ← is) (value_parts y))
+      (λ x y is. rw (fold-roll-Arm, fold-roll-Arm, ← is) (arm_parts y))
+      (λ x y is. rw (fold-roll-ValueArm, fold-roll-ValueArm, ← is) (value_arm_parts y))
+
+  abbrev with_proof : Action → (a : Action) × Q a
+  with_proof a = (a, action_is a)
+
+  firsts : (us : List Action) → map fst (map with_proof us) ≡ us
+  firsts [] = refl
+  firsts (u ∷ us) = ap (λ l. u ∷ l) (firsts us)
+
+  -- a list of actions as they stand
+  pub all_are : (us : List Action) → all_true (map typed us) ≡ true → AT (all_code (map action_code us))
+  all_are us e =
+      let same = firsts us in
+      subst (λ us. AT (all_code (map action_code us))) same (actions_are (map with_proof us) (subst (λ us. all_true (map typed us) ≡ true) (sym same) e))
+
+  -- what a body does, and the instruction that leaves it
+  pub record IsGood (f : Stretch) : Type 0 where
+    pub sized : IsSized f
+    pub good : (pc : ℕ) (m : Spot) → m.body ≡ home → HasAt p.lines pc (f.lines [] m pc) → Next p.lines pc [] m × Each p pc (f.lines [] m pc)
+
+  pub content_is : (c : Content) → is_content_typed variables bodies home c ≡ true → Delivers p home (option_map kind_in (result_of_content c)) → IsGood (content_code c)
+  content_is (contents.Units us) e left =
+      let i = all_are us e in
+      record {
+        sized = join_sized (all_code (map action_code us)) (one (Back None) keeps) i.sized (λ ks m pc. refl);
+        good = λ pc m is has. ends_good p home (Back None) keeps i pc [] m is (λ q. leave_fine p home exits.Body None left q [] m is tt) has;
+      }
+  content_is (contents.Value u a) e left =
+      let i = value_is a u (has_is u _ e) in
+      let k = kind_in u in
+      record {
+        sized = join_sized (value_code a) (one (Back (Some k)) (drop 1)) i.sized (λ ks m pc. refl);
+        good = λ pc m is has. ends_good p home (Back (Some k)) (drop 1) i pc [] m is (λ q. leave_fine p home exits.Body (Some k) left q (OfKind k ∷ []) m is ([], refl)) has;
+      }
