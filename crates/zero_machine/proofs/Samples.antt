@@ -1,5 +1,5 @@
 -- Small programs whose tables agree.
-use Rattle.std.proofs.Common.{◌≡◌, ℕ, zero, suc, ◌+◌, List, [], ◌∷◌, Option, Some, None, refl, sym, subst, arith}
+use Rattle.std.proofs.Common.{◌≡◌, ℕ, zero, suc, ◌+◌, List, [], ◌∷◌, ◌++◌, Option, Some, None, refl, sym, ap, ◌∙◌, subst, arith}
 use Rattle.std.specs.Prelude.{pos, slice_get}
 use Rattle.eu_base.specs.declared.value.Kind.{Kind}
 use Rattle.eu_base.specs.declared.value.Kind.TheVariants.{Int}
@@ -54,10 +54,20 @@ module _ (p : Program) where
     each = λ pc l is. let here : 0 + pc ≡ pc = omega arith in subst (λ k. IsFine p k l.instr l.operands l.spot) here (fine 0 p.lines f pc l is);
   }
 
+-- one more at the end
+pub more : {A : Type 0} (before now all : List A) (x : A) → now ≡ before ++ x ∷ [] → before ≡ all → now ≡ all ++ x ∷ []
+more before now all x e f = e ∙ ap (λ l. l ++ x ∷ []) f
+
+pub valid_as : (p : Program) (variables : List Kind) (bodies : List Entry) (lines : List Line) → IsValid p → variables ≡ p.variables → bodies ≡ p.bodies → lines ≡ p.lines → IsValid (record { variables = variables; bodies = bodies; lines = lines })
+valid_as p variables bodies lines valid e f g =
+    subst (λ l. IsValid (record { variables = l; bodies = bodies; lines = lines })) (sym e)
+    (subst (λ l. IsValid (record { variables = p.variables; bodies = l; lines = lines })) (sym f)
+    (subst (λ l. IsValid (record { variables = p.variables; bodies = p.bodies; lines = l })) (sym g) valid))
+
 abbrev line : Option ℕ → Instr → List OperandKind → Line
 line body i kinds = line_of i kinds (record { body = body; limits = 0 })
 
-abbrev body_at : ℕ → Layout → Option Kind → Entry
+abbrev pub body_at : ℕ → Layout → Option Kind → Entry
 body_at first layout delivers = record { first = first; layout = layout; delivers = delivers }
 
 -- what is pending, the newest first
@@ -85,11 +95,16 @@ endless = record {
 
 pub endless_valid : IsValid endless
 endless_valid =
-    valid_so endless (Call 0, refl) ((Call 0, refl), tt, tt)
-    (record { entry = endless_proc; has = refl; parameters = []; variables = []; own = refl; rest = []; taken = refl; next = (End, refl) },
-    (tt,
-    (record { entry = endless_proc; has = refl; parameters = []; variables = []; own = refl; rest = []; taken = refl; next = (Back None, refl) },
-    (record { number = 0; here = refl; entry = endless_proc; has = refl; delivers = refl; top = tt }, tt))))
+    valid_so endless (Call 0, refl) ((Call 0, refl), tt, tt) (
+      record { entry = endless_proc; has = refl; parameters = []; variables = []; own = refl; rest = []; taken = refl; next = (End, refl) },
+      (
+        tt,
+        (
+          record { entry = endless_proc; has = refl; parameters = []; variables = []; own = refl; rest = []; taken = refl; next = (Back None, refl) },
+          (record { number = 0; here = refl; entry = endless_proc; has = refl; delivers = refl; top = tt }, tt),
+        ),
+      ),
+    )
 
 abbrev endless_sum_proc : Entry
 endless_sum_proc = body_at 3 (Own [] []) (Some Int)
@@ -105,20 +120,43 @@ endless_sum = record {
 
 pub endless_sum_valid : IsValid endless_sum
 endless_sum_valid =
-    valid_so endless_sum (Call 0, refl) ((Number (pos 1), refl), tt, tt)
-    (record { entry = endless_sum_proc; has = refl; parameters = []; variables = []; own = refl; rest = []; taken = refl; next = (Drop, refl) },
-    ((Int, ([], refl, (End, refl))),
-    (tt,
-    ((Number (pos 1), refl),
-    ((Number (pos 1), refl),
-    ((Number (pos 1), refl),
-    ((Call 0, refl),
-    (record { entry = endless_sum_proc; has = refl; parameters = []; variables = []; own = refl; rest = int ∷ int ∷ int ∷ int ∷ []; taken = refl; next = (Do Add, refl) },
-    ((int ∷ int ∷ int ∷ [], refl, (Do Add, refl)),
-    ((int ∷ int ∷ [], refl, (Do Add, refl)),
-    ((int ∷ [], refl, (Do Add, refl)),
-    (([], refl, (Back (Some Int), refl)),
-    (record { number = 0; here = refl; entry = endless_sum_proc; has = refl; delivers = refl; top = ([], refl) }, tt)))))))))))))
+    valid_so endless_sum (Call 0, refl) ((Number (pos 1), refl), tt, tt) (
+      record { entry = endless_sum_proc; has = refl; parameters = []; variables = []; own = refl; rest = []; taken = refl; next = (Drop, refl) },
+      (
+        (Int, ([], refl, (End, refl))),
+        (
+          tt,
+          (
+            (Number (pos 1), refl),
+            (
+              (Number (pos 1), refl),
+              (
+                (Number (pos 1), refl),
+                (
+                  (Call 0, refl),
+                  (
+                    record { entry = endless_sum_proc; has = refl; parameters = []; variables = []; own = refl; rest = int ∷ int ∷ int ∷ int ∷ []; taken = refl; next = (Do Add, refl) },
+                    (
+                      (int ∷ int ∷ int ∷ [], refl, (Do Add, refl)),
+                      (
+                        (int ∷ int ∷ [], refl, (Do Add, refl)),
+                        (
+                          (int ∷ [], refl, (Do Add, refl)),
+                          (
+                            ([], refl, (Back (Some Int), refl)),
+                            (record { number = 0; here = refl; entry = endless_sum_proc; has = refl; delivers = refl; top = ([], refl) }, tt),
+                          ),
+                        ),
+                      ),
+                    ),
+                  ),
+                ),
+              ),
+            ),
+          ),
+        ),
+      ),
+    )
 
 abbrev adding_proc : Entry
 adding_proc = body_at 6 (Own (place ∷ int ∷ []) []) None
@@ -137,24 +175,55 @@ adding = record {
 
 pub adding_valid : IsValid adding
 adding_valid =
-    valid_so adding (Outer 0, refl) ((Param 0, refl), tt, ((Outer 0, refl), tt, tt))
-    ((Int, refl, (Number (pos 5), refl)),
-    ((Call 0, refl),
-    (record { entry = adding_proc; has = refl; parameters = place ∷ int ∷ []; variables = []; own = refl; rest = []; taken = refl; next = (Refer 1, refl) },
-    (record { entry = adding_refinement; has = refl; refinement = tt; owned = refl; next = (Ask calls.PutNumber, refl) },
-    (([], refl, (End, refl)),
-    (tt,
-    ((Int, refl, (Param 0, refl)),
-    ((Int, refl, (Load Int, refl)),
-    ((place ∷ [], refl, (Local 1, refl)),
-    ((Int, refl, (Load Int, refl)),
-    ((int ∷ place ∷ [], refl, (Do Add, refl)),
-    ((place ∷ [], refl, (Store Int, refl)),
-    (([], refl, (Back None, refl)),
-    (record { number = 0; here = refl; entry = adding_proc; has = refl; delivers = refl; top = tt },
-    ((Int, refl, (Load Int, refl)),
-    (([], refl, (Back (Some Int), refl)),
-    (record { number = 1; here = refl; entry = adding_refinement; has = refl; delivers = refl; top = ([], refl) }, tt)))))))))))))))))
+    valid_so adding (Outer 0, refl) ((Param 0, refl), tt, ((Outer 0, refl), tt, tt)) (
+      (Int, refl, (Number (pos 5), refl)),
+      (
+        (Call 0, refl),
+        (
+          record { entry = adding_proc; has = refl; parameters = place ∷ int ∷ []; variables = []; own = refl; rest = []; taken = refl; next = (Refer 1, refl) },
+          (
+            record { entry = adding_refinement; has = refl; refinement = tt; owned = refl; next = (Ask calls.PutNumber, refl) },
+            (
+              ([], refl, (End, refl)),
+              (
+                tt,
+                (
+                  (Int, refl, (Param 0, refl)),
+                  (
+                    (Int, refl, (Load Int, refl)),
+                    (
+                      (place ∷ [], refl, (Local 1, refl)),
+                      (
+                        (Int, refl, (Load Int, refl)),
+                        (
+                          (int ∷ place ∷ [], refl, (Do Add, refl)),
+                          (
+                            (place ∷ [], refl, (Store Int, refl)),
+                            (
+                              ([], refl, (Back None, refl)),
+                              (
+                                record { number = 0; here = refl; entry = adding_proc; has = refl; delivers = refl; top = tt },
+                                (
+                                  (Int, refl, (Load Int, refl)),
+                                  (
+                                    ([], refl, (Back (Some Int), refl)),
+                                    (record { number = 1; here = refl; entry = adding_refinement; has = refl; delivers = refl; top = ([], refl) }, tt),
+                                  ),
+                                ),
+                              ),
+                            ),
+                          ),
+                        ),
+                      ),
+                    ),
+                  ),
+                ),
+              ),
+            ),
+          ),
+        ),
+      ),
+    )
 
 abbrev leaving_proc : Entry
 leaving_proc = body_at 3 (Own [] []) (Some Int)
@@ -175,16 +244,37 @@ leaving = record {
 
 pub leaving_valid : IsValid leaving
 leaving_valid =
-    valid_so leaving (Call 0, refl) ((Refer 1, refl), tt, ((Number (pos 1), refl), (leaving_proc, ([], ([], refl, refl))), ((Number (pos 7), refl), (leaving_proc, ([], ([], refl, refl))), tt)))
-    (record { entry = leaving_proc; has = refl; parameters = []; variables = []; own = refl; rest = []; taken = refl; next = (Ask calls.PutNumber, refl) },
-    (([], refl, (End, refl)),
-    (tt,
-    (record { entry = leaving_outer; has = refl; refinement = tt; owned = refl; next = (Number (pos 0), refl) },
-    ((Back (Some Int), refl),
-    (record { number = 0; here = refl; entry = leaving_proc; has = refl; delivers = refl; top = ([], refl) },
-    ((Refer 2, refl),
-    (record { entry = leaving_inner; has = refl; refinement = tt; owned = refl; next = (Drop, refl) },
-    ((Int, ([], refl, (Back None, refl))),
-    (record { number = 1; here = refl; entry = leaving_outer; has = refl; delivers = refl; top = tt },
-    ((Out (Some Int), refl),
-    (record { number = 0; proc = refl; entry = leaving_proc; has = refl; delivers = refl; top = ([], refl) }, tt))))))))))))
+    valid_so leaving (Call 0, refl) ((Refer 1, refl), tt, ((Number (pos 1), refl), (leaving_proc, ([], ([], refl, refl))), ((Number (pos 7), refl), (leaving_proc, ([], ([], refl, refl))), tt))) (
+      record { entry = leaving_proc; has = refl; parameters = []; variables = []; own = refl; rest = []; taken = refl; next = (Ask calls.PutNumber, refl) },
+      (
+        ([], refl, (End, refl)),
+        (
+          tt,
+          (
+            record { entry = leaving_outer; has = refl; refinement = tt; owned = refl; next = (Number (pos 0), refl) },
+            (
+              (Back (Some Int), refl),
+              (
+                record { number = 0; here = refl; entry = leaving_proc; has = refl; delivers = refl; top = ([], refl) },
+                (
+                  (Refer 2, refl),
+                  (
+                    record { entry = leaving_inner; has = refl; refinement = tt; owned = refl; next = (Drop, refl) },
+                    (
+                      (Int, ([], refl, (Back None, refl))),
+                      (
+                        record { number = 1; here = refl; entry = leaving_outer; has = refl; delivers = refl; top = tt },
+                        (
+                          (Out (Some Int), refl),
+                          (record { number = 0; proc = refl; entry = leaving_proc; has = refl; delivers = refl; top = ([], refl) }, tt),
+                        ),
+                      ),
+                    ),
+                  ),
+                ),
+              ),
+            ),
+          ),
+        ),
+      ),
+    )

@@ -38,7 +38,15 @@ pub fn call<M: Memory>(
             variables,
         } => {
             let base = s.used + 2;
-            enter(s, m, entry.first, base, false, parameters.len(), variables.as_slice())
+            enter(
+                s,
+                m,
+                entry.first,
+                base,
+                false,
+                parameters.len(),
+                variables.as_slice(),
+            )
         }
         _ => unreachable!(),
     }

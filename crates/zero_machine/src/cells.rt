@@ -93,11 +93,7 @@ fn write_link<M: Memory>(m: &mut M, at: usize) -> Result<(), MemFault>
     write_number(m, at + 1, 0)
 }
 
-fn write_operands<M: Memory>(
-    m: &mut M,
-    at: usize,
-    operands: &[Operand],
-) -> Result<(), MemFault>
+fn write_operands<M: Memory>(m: &mut M, at: usize, operands: &[Operand]) -> Result<(), MemFault>
     requires { at + length operands.now ≤ CELLS }
     ensures written { OnOk result (M.cells m.new ≡ written_from at (map number_of_operand operands.now) (M.cells m.old)) }
     ensures cause { HasFaultCause (M.faults m.old) (M.faults m.new) result }
@@ -110,11 +106,7 @@ fn write_operands<M: Memory>(
 }
 
 /// Writes what variables hold before anything was stored.
-pub fn write_blanks<M: Memory>(
-    m: &mut M,
-    at: usize,
-    variables: &[Kind],
-) -> Result<(), MemFault>
+pub fn write_blanks<M: Memory>(m: &mut M, at: usize, variables: &[Kind]) -> Result<(), MemFault>
     requires { at + length variables.now ≤ CELLS }
     ensures written { OnOk result (M.cells m.new ≡ written_from at (map (λ k. cell_of (blank_of k)) variables.now) (M.cells m.old)) }
     ensures cause { HasFaultCause (M.faults m.old) (M.faults m.new) result }

@@ -10,6 +10,7 @@ use std::alloc::Global;
 use std::test::Fail;
 
 const INT: OperandKind = OperandKind::Value(Kind::Int);
+
 const PLACE: OperandKind = OperandKind::Place(Kind::Int);
 
 // Adds an instruction of a body, with what is pending there.
@@ -44,14 +45,14 @@ fn add_body(
     })
 }
 
-// A PROC without parameters and variables.
-fn proc_alone(alloc: Global) -> Layout
-    ensures { result ≡ layouts.Own [] [] }
+// The cells of a PROC without variables.
+fn proc(alloc: Global, parameters: &[OperandKind]) -> Result<Layout, NoMemory>
+    ensures { IfOk result (λ layout. layout ≡ layouts.Own parameters.now []) }
 {
-    Layout::Own {
-        parameters: List::new(alloc),
+    Ok(Layout::Own {
+        parameters: List::from_slice(alloc, parameters)?,
         variables: List::new(alloc),
-    }
+    })
 }
 
 fn asking(alloc: Global) -> Result<Code, NoMemory> {
@@ -67,7 +68,8 @@ fn asking(alloc: Global) -> Result<Code, NoMemory> {
 // A PROC that calls itself for ever.
 fn endless(alloc: Global) -> Result<Code, NoMemory> {
     let mut bodies = List::new(alloc);
-    add_body(&mut bodies, 2, proc_alone(alloc), None)?;
+    let layout = proc(alloc, &[])?;
+    add_body(&mut bodies, 2, layout, None)?;
     let mut lines = List::new(alloc);
     add(&mut lines, alloc, None, Instr::Call(0), &[])?;
     add(&mut lines, alloc, None, Instr::End, &[])?;
@@ -81,7 +83,8 @@ fn endless(alloc: Global) -> Result<Code, NoMemory> {
 // A PROC that calls itself for ever, each time with four numbers pending.
 fn endless_sum(alloc: Global) -> Result<Code, NoMemory> {
     let mut bodies = List::new(alloc);
-    add_body(&mut bodies, 3, proc_alone(alloc), Some(Kind::Int))?;
+    let layout = proc(alloc, &[])?;
+    add_body(&mut bodies, 3, layout, Some(Kind::Int))?;
     let mut lines = List::new(alloc);
     add(&mut lines, alloc, None, Instr::Call(0), &[])?;
     add(&mut lines, alloc, None, Instr::Drop, &[INT])?;
@@ -89,13 +92,55 @@ fn endless_sum(alloc: Global) -> Result<Code, NoMemory> {
     add(&mut lines, alloc, Some(0), Instr::Number(1), &[])?;
     add(&mut lines, alloc, Some(0), Instr::Number(1), &[INT])?;
     add(&mut lines, alloc, Some(0), Instr::Number(1), &[INT, INT])?;
-    add(&mut lines, alloc, Some(0), Instr::Number(1), &[INT, INT, INT])?;
-    add(&mut lines, alloc, Some(0), Instr::Call(0), &[INT, INT, INT, INT])?;
-    add(&mut lines, alloc, Some(0), Instr::Do(Operation::Add), &[INT, INT, INT, INT, INT])?;
-    add(&mut lines, alloc, Some(0), Instr::Do(Operation::Add), &[INT, INT, INT, INT])?;
-    add(&mut lines, alloc, Some(0), Instr::Do(Operation::Add), &[INT, INT, INT])?;
-    add(&mut lines, alloc, Some(0), Instr::Do(Operation::Add), &[INT, INT])?;
-    add(&mut lines, alloc, Some(0), Instr::Back(Some(Kind::Int)), &[INT])?;
+    add(
+        &mut lines,
+        alloc,
+        Some(0),
+        Instr::Number(1),
+        &[INT, INT, INT],
+    )?;
+    add(
+        &mut lines,
+        alloc,
+        Some(0),
+        Instr::Call(0),
+        &[INT, INT, INT, INT],
+    )?;
+    add(
+        &mut lines,
+        alloc,
+        Some(0),
+        Instr::Do(Operation::Add),
+        &[INT, INT, INT, INT, INT],
+    )?;
+    add(
+        &mut lines,
+        alloc,
+        Some(0),
+        Instr::Do(Operation::Add),
+        &[INT, INT, INT, INT],
+    )?;
+    add(
+        &mut lines,
+        alloc,
+        Some(0),
+        Instr::Do(Operation::Add),
+        &[INT, INT, INT],
+    )?;
+    add(
+        &mut lines,
+        alloc,
+        Some(0),
+        Instr::Do(Operation::Add),
+        &[INT, INT],
+    )?;
+    add(
+        &mut lines,
+        alloc,
+        Some(0),
+        Instr::Back(Some(Kind::Int)),
+        &[INT],
+    )?;
     let variables = List::new(alloc);
     let code = Code::new(variables, bodies, lines);
     Ok(code)
@@ -105,10 +150,7 @@ fn endless_sum(alloc: Global) -> Result<Code, NoMemory> {
 fn adding(alloc: Global) -> Result<Code, NoMemory> {
     let variables = List::from_slice(alloc, &[Kind::Int])?;
     let mut bodies = List::new(alloc);
-    let layout = Layout::Own {
-        parameters: List::from_slice(alloc, &[PLACE, INT])?,
-        variables: List::new(alloc),
-    };
+    let layout = proc(alloc, &[PLACE, INT])?;
     add_body(&mut bodies, 6, layout, None)?;
     add_body(&mut bodies, 14, Layout::Level, Some(Kind::Int))?;
     let mut lines = List::new(alloc);
@@ -120,15 +162,45 @@ fn adding(alloc: Global) -> Result<Code, NoMemory> {
     add(&mut lines, alloc, None, Instr::End, &[])?;
     add(&mut lines, alloc, Some(0), Instr::Param(0), &[])?;
     add(&mut lines, alloc, Some(0), Instr::Param(0), &[PLACE])?;
-    add(&mut lines, alloc, Some(0), Instr::Load(Kind::Int), &[PLACE, PLACE])?;
+    add(
+        &mut lines,
+        alloc,
+        Some(0),
+        Instr::Load(Kind::Int),
+        &[PLACE, PLACE],
+    )?;
     add(&mut lines, alloc, Some(0), Instr::Local(1), &[INT, PLACE])?;
-    add(&mut lines, alloc, Some(0), Instr::Load(Kind::Int), &[PLACE, INT, PLACE])?;
-    add(&mut lines, alloc, Some(0), Instr::Do(Operation::Add), &[INT, INT, PLACE])?;
-    add(&mut lines, alloc, Some(0), Instr::Store(Kind::Int), &[INT, PLACE])?;
+    add(
+        &mut lines,
+        alloc,
+        Some(0),
+        Instr::Load(Kind::Int),
+        &[PLACE, INT, PLACE],
+    )?;
+    add(
+        &mut lines,
+        alloc,
+        Some(0),
+        Instr::Do(Operation::Add),
+        &[INT, INT, PLACE],
+    )?;
+    add(
+        &mut lines,
+        alloc,
+        Some(0),
+        Instr::Store(Kind::Int),
+        &[INT, PLACE],
+    )?;
     add(&mut lines, alloc, Some(0), Instr::Back(None), &[])?;
     add(&mut lines, alloc, Some(1), Instr::Outer(0), &[])?;
     add(&mut lines, alloc, Some(1), Instr::Load(Kind::Int), &[PLACE])?;
-    add(&mut lines, alloc, Some(1), Instr::Back(Some(Kind::Int)), &[INT])?;
+    add(
+        &mut lines,
+        alloc,
+        Some(1),
+        Instr::Back(Some(Kind::Int)),
+        &[INT],
+    )?;
     let code = Code::new(variables, bodies, lines);
     Ok(code)
 }
@@ -136,7 +208,8 @@ fn adding(alloc: Global) -> Result<Code, NoMemory> {
 // A PROC that is left with 7 in the second of two refinements, one called in the other.
 fn leaving(alloc: Global) -> Result<Code, NoMemory> {
     let mut bodies = List::new(alloc);
-    add_body(&mut bodies, 3, proc_alone(alloc), Some(Kind::Int))?;
+    let layout = proc(alloc, &[])?;
+    add_body(&mut bodies, 3, layout, Some(Kind::Int))?;
     add_body(&mut bodies, 6, Layout::Of(0), None)?;
     add_body(&mut bodies, 10, Layout::Of(0), None)?;
     let mut lines = List::new(alloc);
@@ -145,13 +218,25 @@ fn leaving(alloc: Global) -> Result<Code, NoMemory> {
     add(&mut lines, alloc, None, Instr::End, &[])?;
     add(&mut lines, alloc, Some(0), Instr::Refer(1), &[])?;
     add(&mut lines, alloc, Some(0), Instr::Number(0), &[])?;
-    add(&mut lines, alloc, Some(0), Instr::Back(Some(Kind::Int)), &[INT])?;
+    add(
+        &mut lines,
+        alloc,
+        Some(0),
+        Instr::Back(Some(Kind::Int)),
+        &[INT],
+    )?;
     add(&mut lines, alloc, Some(1), Instr::Number(1), &[])?;
     add(&mut lines, alloc, Some(1), Instr::Refer(2), &[INT])?;
     add(&mut lines, alloc, Some(1), Instr::Drop, &[INT])?;
     add(&mut lines, alloc, Some(1), Instr::Back(None), &[])?;
     add(&mut lines, alloc, Some(2), Instr::Number(7), &[])?;
-    add(&mut lines, alloc, Some(2), Instr::Out(Some(Kind::Int)), &[INT])?;
+    add(
+        &mut lines,
+        alloc,
+        Some(2),
+        Instr::Out(Some(Kind::Int)),
+        &[INT],
+    )?;
     let variables = List::new(alloc);
     let code = Code::new(variables, bodies, lines);
     Ok(code)
@@ -204,11 +289,21 @@ fn calls_have_room_for_cells_and_operands(rt: HostRuntime) -> Result<(), Fail> {
     let code = endless(alloc)?;
     // Two cells a call: 8192 calls fill all 16384, and the next has no room.
     assert!(rt; matches!(rests(alloc, &code, 8192)?, (Halt::Marked, 16384)));
-    assert!(rt; matches!(rests(alloc, &code, 8193)?, (Halt::Stopped(Stop::CellRoom), 16384)));
+    assert!(rt;
+        matches!(
+            rests(alloc, &code, 8193)?,
+            (Halt::Stopped(Stop::CellRoom), 16384)
+        )
+    );
     let code = endless_sum(alloc)?;
     // 32 bytes a call: 2048 calls fill all 65536, and the next number has no room.
     assert!(rt; matches!(rests(alloc, &code, 2048)?, (Halt::Marked, 4096)));
-    assert!(rt; matches!(rests(alloc, &code, 2049)?, (Halt::Stopped(Stop::OperandRoom), 4098)));
+    assert!(rt;
+        matches!(
+            rests(alloc, &code, 2049)?,
+            (Halt::Stopped(Stop::OperandRoom), 4098)
+        )
+    );
     Ok(())
 }
 
