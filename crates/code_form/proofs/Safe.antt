@@ -62,7 +62,7 @@ operands_inj (k ∷ ps) a b e = let f = operands_inj ps (k ∷ a) (k ∷ b) e in
 
 module _ (p : Program) (valid : IsValid p) where
   -- where bodies stand
-  owner_is : (n : ℕ) (e : Entry) → slice_get p.bodies n ≡ Some e → owner p (Some n) ≡ owner_in n e.layout
+  pub owner_is : (n : ℕ) (e : Entry) → slice_get p.bodies n ≡ Some e → owner p (Some n) ≡ owner_in n e.layout
   owner_is n e has = ap (λ o. owner_at n (layout_of o)) has
 
   own_cells : (n : ℕ) (e : Entry) (ps : List OperandKind) (vs : List Kind) → slice_get p.bodies n ≡ Some e → e.layout ≡ layouts.Own ps vs → length (frame_cells p (Some n)) ≡ length ps + length vs
@@ -77,18 +77,18 @@ module _ (p : Program) (valid : IsValid p) where
 
   module _ (f : Frame) (body : Option ℕ) (floor below : ℕ) (m : Spot) (floor_below : ℕ) (made : IsMade p f body floor below m floor_below) where
     -- what is so of a frame of a PROC and of one of a refinement
-    by_layout : (P : Layout → Type 0) → ((ps : List OperandKind) (vs : List Kind) → made.entry.layout ≡ layouts.Own ps vs → P (layouts.Own ps vs)) → ((l : Layout) → made.entry.layout ≡ l → IsRefinement l → P l) → (l : Layout) → made.entry.layout ≡ l → P l
+    pub by_layout : (P : Layout → Type 0) → ((ps : List OperandKind) (vs : List Kind) → made.entry.layout ≡ layouts.Own ps vs → P (layouts.Own ps vs)) → ((l : Layout) → made.entry.layout ≡ l → IsRefinement l → P l) → (l : Layout) → made.entry.layout ≡ l → P l
     by_layout P a b (layouts.Own ps vs) e = a ps vs e
     by_layout P a b (layouts.Of q) e = b (layouts.Of q) e tt
     by_layout P a b layouts.Level e = b layouts.Level e tt
 
-    abbrev Proc : List OperandKind → List Kind → Type 0
+    abbrev pub Proc : List OperandKind → List Kind → Type 0
     Proc ps vs = MadeSo p (layouts.Own ps vs) made.number made.pc made.rest m f floor below
 
-    as_proc : (ps : List OperandKind) (vs : List Kind) → made.entry.layout ≡ layouts.Own ps vs → Proc ps vs
+    pub as_proc : (ps : List OperandKind) (vs : List Kind) → made.entry.layout ≡ layouts.Own ps vs → Proc ps vs
     as_proc ps vs e = subst (λ l. MadeSo p l made.number made.pc made.rest m f floor below) e made.made
 
-    abbrev Refined : Type 0
+    abbrev pub Refined : Type 0
     Refined = (slice_get p.lines made.pc ≡ Some (line_of (Refer made.number) made.rest m)) × (f.refines ≡ true) × (f.base ≡ below) × (floor ≡ f.used + 2)
 
     refined : (l : Layout) → IsRefinement l → MadeSo p l made.number made.pc made.rest m f floor below → Refined
@@ -96,7 +96,7 @@ module _ (p : Program) (valid : IsValid p) where
     refined (layouts.Of q) r h = h
     refined layouts.Level r h = h
 
-    as_refined : (l : Layout) → made.entry.layout ≡ l → IsRefinement l → Refined
+    pub as_refined : (l : Layout) → made.entry.layout ≡ l → IsRefinement l → Refined
     as_refined l e r = refined l r (subst (λ l. MadeSo p l made.number made.pc made.rest m f floor below) e made.made)
 
     -- the cells that were in use before a frame are fewer than those behind it
@@ -123,19 +123,19 @@ module _ (p : Program) (valid : IsValid p) where
             subst (λ (x : Entry). Next p.lines (made.pc + 1) (with_result x.delivers made.rest) m) same c.next
 
     -- a refinement uses the cells of the frame below
-    same_owner : (l : Layout) → made.entry.layout ≡ l → IsRefinement l → owner p (Some made.number) ≡ owner p m.body
+    pub same_owner : (l : Layout) → made.entry.layout ≡ l → IsRefinement l → owner p (Some made.number) ≡ owner p m.body
     same_owner l e r =
         let c : IsReferred p made.pc made.number made.rest m = made_line made.pc (Refer made.number) made.rest m (as_refined l e r).0 in
         owner_is made.number c.entry c.has ∙ c.owned
 
   -- the cells of the level and of the innermost PROC lie below the FOR limits
-  level_below : (fs : List Frame) (body : Option ℕ) (floor : ℕ) → FitsFrames p fs body floor → length p.variables ≤ floor
+  pub level_below : (fs : List Frame) (body : Option ℕ) (floor : ℕ) → FitsFrames p fs body floor → length p.variables ≤ floor
   level_below [] body floor h = omega (arith, h.1)
   level_below (f ∷ fs) body floor h =
       let below = level_below fs h.0.body h.1.0 h.1.1.1 in
       omega (arith, below, h.1.1.0.used, used_below f body floor (base_of fs) h.0 h.1.0 h.1.1.0)
 
-  frame_below : (fs : List Frame) (body : Option ℕ) (floor : ℕ) → FitsFrames p fs body floor → base_of fs + length (frame_cells p body) ≤ floor
+  pub frame_below : (fs : List Frame) (body : Option ℕ) (floor : ℕ) → FitsFrames p fs body floor → base_of fs + length (frame_cells p body) ≤ floor
   frame_below [] body floor h = let e : length (frame_cells p body) ≡ 0 = ap (λ b. length (frame_cells p b)) h.0 in omega (arith, e)
   frame_below (f ∷ fs) body floor h =
       let made = h.1.1.0 in

@@ -1,9 +1,10 @@
 //! Programs that run.
-ghost use Rattle.std.specs.Prelude.{◌≡◌, IfOk};
+ghost use Rattle.std.specs.Prelude.{◌≡◌, length, IfOk};
 ghost use Rattle.eu_base.specs.Cells.{HasFaultCause};
 ghost use Rattle.code_form.specs.Machine.{start};
 ghost use Rattle.code_form.specs.Valid.{Fits};
-ghost use Rattle.code_gen.specs.Correct.{Behaves, Holds};
+ghost use Rattle.place_gen.specs.Correct.{HasVariables};
+ghost use Rattle.code_gen.specs.Correct.{Behaves};
 ghost use Rattle.elan_types.specs.declared.core_phrase.Core.{Core};
 ghost use Rattle.elan_types.specs.Command.{blank_store};
 ghost use Rattle.elan_types.specs.Typing.{IsWellTyped};
@@ -43,9 +44,9 @@ fn serve<M: Memory>(
     state: &mut State,
     memory: &mut M,
 ) -> Result<Bytes, MemFault>
-    requires starts { control_of state.old ≡ start }
+    requires starts { control_of state.old ≡ start (length code.now.variables) }
     requires fits { Fits code.now (control_of state.old) }
-    ensures shows { (core : Core) → Behaves core code.now → Holds code.now.variables (blank_store core) (M.cells memory.old) → IfOk result (Shows core) }
+    ensures shows { (core : Core) → Behaves core code.now → HasVariables code.now.variables (blank_store core) (M.cells memory.old) → IfOk result (Shows core) }
     ensures cause { HasFaultCause (M.faults memory.old) (M.faults memory.new) result }
 {
     let mut marks = MARKS;

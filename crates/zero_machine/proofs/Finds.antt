@@ -1,7 +1,9 @@
 -- Where a state fits its code, its instruction finds what it takes.
-use Rattle.std.proofs.Common.{◌≡◌, ℕ, suc, ◌+◌, ◌<◌, List, [], ◌∷◌, length, Some, refl, sym, ap, ◌∙◌, subst, arith}
-use Rattle.std.specs.Prelude.{slice_get, ℤ}
+use Rattle.std.proofs.Common.{◌≡◌, ℕ, zero, suc, ◌+◌, ◌<◌, ◌≤◌, ◌%◌, Bool, true, false, cond, List, [], ◌∷◌, length, Option, Some, None, refl, sym, ap, ◌∙◌, subst, arith}
+use Rattle.std.specs.Prelude.{slice_get}
+use Rattle.std.proofs.lemmas.Bool.{leb-true}
 use Rattle.std.proofs.lemmas.Option.{slice_get_within}
+use Rattle.eu_base.specs.declared.address.TheConstants.{CELLS}
 use Rattle.eu_base.specs.declared.value.Kind.{Kind}
 use Rattle.eu_base.specs.declared.value.Kind.TheVariants as kinds
 use Rattle.eu_base.specs.Operations.{operand_kinds}
@@ -12,77 +14,146 @@ use Rattle.code_form.specs.declared.operand.OperandKind.{OperandKind}
 use Rattle.code_form.specs.declared.operand.OperandKind.TheVariants.{Value as OfKind, Place as AtKind}
 use Rattle.code_form.specs.declared.instr.Call.TheVariants as calls
 use Rattle.code_form.specs.declared.instr.Instr.{Instr}
-use Rattle.code_form.specs.declared.instr.Instr.TheVariants.{Mark, Number, Truth, Outer, Load, Store, Do, Modify, Jump, False, When, Drop, Limit, Unlimit, Step, Ask, End}
-use Rattle.code_form.specs.Program.{Program, line_of, instr_of}
-use Rattle.code_form.specs.Machine.{Control}
-use Rattle.code_form.specs.Valid.{pushed_kinds, IsFine, IsValid, FitsKinds, Fits}
-use Rattle.zero_machine.specs.Finds.{TopValue, TopPlace, TopLimit, TopBoth, TopValues, Finds}
+use Rattle.code_form.specs.declared.instr.Instr.TheVariants.{Mark, Number, Truth, Outer, Local, Param, Load, Store, Do, Modify, Jump, False, When, Drop, Limit, Unlimit, Step, Ask, Call, Refer, Back, Out, End}
+use Rattle.code_form.specs.declared.code.Spot.{Spot}
+use Rattle.code_form.specs.declared.code.Layout.{Layout}
+use Rattle.code_form.specs.declared.code.Layout.TheVariants.{Own}
+use Rattle.code_form.specs.Program.{Program, line_of, instr_of, owner, owner_in, frame_cells}
+use Rattle.code_form.specs.Machine.{Frame, Control, base_of}
+use Rattle.code_form.specs.Valid.{pushed_kinds, pushed_operands, HasResult, IsLeft, IsLeftAround, IsCalled, IsReferred, IsRefinement, IsFine, IsValid, FitsKinds, IsMade, FitsFrames, Fits}
+use Rattle.code_form.proofs.Safe.{level_below, frame_below, owner_is, by_layout, as_proc, as_refined, same_owner}
+use Rattle.zero_machine.specs.Finds.{TopValue, TopPlace, TopBoth, TopValues, TopResult, IsCallable, HasBody, HasProc, IsInside, is_in_proc, Finds}
 
 -- the instruction of a state that fits is the one that stands in the code
 pub the_instr : (p : Program) (c : Control) (fits : Fits p c) (i : Instr) → Some i ≡ instr_of (slice_get p.lines c.pc) → fits.next.0 ≡ i
 the_instr p c fits i e = let f : Some i ≡ Some fits.next.0 = e ∙ ap instr_of fits.next.1 in cc
 
+top_value : (ops : List Operand) (k : Kind) (rest : List OperandKind) → FitsKinds ops (OfKind k ∷ rest) → TopValue ops
+top_value [] k rest f = absurd f
+top_value (Of v ∷ ops) k rest f = record { value = v; rest = ops; top = refl }
+top_value (At a ∷ ops) k rest f = absurd f.0
+
+top_place : (ops : List Operand) (k : Kind) (rest : List OperandKind) → FitsKinds ops (AtKind k ∷ rest) → TopPlace ops
+top_place [] k rest f = absurd f
+top_place (Of v ∷ ops) k rest f = absurd f.0
+top_place (At a ∷ ops) k rest f = record { place = a; rest = ops; top = refl; cell = f.0 }
+
+top_both : (ops : List Operand) (k j : Kind) (rest : List OperandKind) → FitsKinds ops (OfKind k ∷ AtKind j ∷ rest) → TopBoth ops
+top_both [] k j rest f = absurd f
+top_both (At a ∷ ops) k j rest f = absurd f.0
+top_both (Of v ∷ ops) k j rest f =
+    let b = top_place ops j rest f.1 in
+    record { value = v; place = b.place; rest = b.rest; top = ap (λ l. Of v ∷ l) b.top; cell = b.cell }
+
+top_values : (more : List Kind) (n : ℕ) (rest : List OperandKind) (ops : List Operand) → FitsKinds ops (pushed_kinds more rest) → ((ops : List Operand) → FitsKinds ops rest → TopValues n ops) → TopValues (length more + n) ops
+top_values [] n rest ops f h = let e : 0 + n ≡ n = omega arith in subst (λ n. TopValues n ops) (sym e) (h ops f)
+top_values (k ∷ more) n rest ops f h =
+    let e : suc (length more) + n ≡ length more + suc n = omega arith in
+    subst (λ n. TopValues n ops) (sym e) (top_values more (suc n) (OfKind k ∷ rest) ops f by)
+  where
+    by : (ops : List Operand) → FitsKinds ops (OfKind k ∷ rest) → TopValues (suc n) ops
+    by [] f = absurd f
+    by (Of v ∷ ops) f = (v, (ops, refl, h ops f.1))
+    by (At a ∷ ops) f = absurd f.0
+
+top_result : (kind : Option Kind) (ks : List OperandKind) (ops : List Operand) → HasResult kind ks → FitsKinds ops ks → TopResult kind ops
+top_result None ks ops h f = tt
+top_result (Some k) ks ops h f = top_value ops k h.0 (subst (FitsKinds ops) h.1 f)
+
+-- there are as many operands as kinds
+as_many : (ops : List Operand) (ks : List OperandKind) → FitsKinds ops ks → length ops ≡ length ks
+as_many [] [] f = refl
+as_many (o ∷ ops) (k ∷ ks) f = ap suc (as_many ops ks f.1)
+as_many [] (k ∷ ks) f = absurd f
+as_many (o ∷ ops) [] f = absurd f
+
+pushed_many : (ps ks : List OperandKind) → length (pushed_operands ps ks) ≡ length ps + length ks
+pushed_many [] ks = omega arith
+pushed_many (k ∷ ps) ks = omega (arith, pushed_many ps (k ∷ ks))
+
 module _ (p : Program) (valid : IsValid p) where
-  top_value : (ops : List Operand) (k : Kind) (rest : List OperandKind) → FitsKinds p.variables ops (OfKind k ∷ rest) → TopValue ops
-  top_value [] k rest f = absurd f
-  top_value (Of v ∷ ops) k rest f = record { value = v; rest = ops; top = refl }
-  top_value (At a ∷ ops) k rest f = absurd f.0
+  -- the places of a frame lie among the cells in use
+  module _ (c : Control) (fits : Fits p c) (room : c.full ≡ false) where
+    in_use : c.used ≤ CELLS
+    in_use = leb-true c.used CELLS (fits.cells room)
 
-  a_cell : (x : ℕ) (k : Kind) → slice_get p.variables x ≡ Some k → IsCell (run_cell x)
-  a_cell x k e = omega (arith, slice_get_within p.variables x k e, valid.few)
+    outer_cell : (x : ℕ) (k : Kind) → slice_get p.variables x ≡ Some k → IsCell (run_cell x)
+    outer_cell x k e =
+        let a = slice_get_within p.variables x k e in
+        let b = level_below p valid c.frames fits.spot.body fits.floor fits.frames in
+        omega (arith, a, b, fits.used, in_use)
 
-  top_place : (ops : List Operand) (k : Kind) (rest : List OperandKind) → FitsKinds p.variables ops (AtKind k ∷ rest) → TopPlace ops
-  top_place [] k rest f = absurd f
-  top_place (Of v ∷ ops) k rest f = absurd f.0
-  top_place (At a ∷ ops) k rest f = record { place = a; rest = ops; top = refl; cell = subst IsCell (sym f.0.1) (a_cell f.0.0 k f.0.2) }
+    local_cell : (x : ℕ) (k : OperandKind) → slice_get (frame_cells p fits.spot.body) x ≡ Some k → IsCell (run_cell (base_of c.frames + x))
+    local_cell x k e =
+        let a = slice_get_within (frame_cells p fits.spot.body) x k e in
+        let b = frame_below p valid c.frames fits.spot.body fits.floor fits.frames in
+        omega (arith, a, b, fits.used, in_use)
 
-  top_both : (ops : List Operand) (k j : Kind) (rest : List OperandKind) → FitsKinds p.variables ops (OfKind k ∷ AtKind j ∷ rest) → TopBoth ops
-  top_both [] k j rest f = absurd f
-  top_both (At a ∷ ops) k j rest f = absurd f.0
-  top_both (Of v ∷ ops) k j rest f =
-      let b = top_place ops j rest f.1 in
-      record { value = v; place = b.place; rest = b.rest; top = ap (λ l. Of v ∷ l) b.top; cell = b.cell }
+  inside : (fs : List Frame) (body : Option ℕ) (n floor : ℕ) → body ≡ Some n → FitsFrames p fs body floor → IsInside fs
+  inside [] body n floor e h = absurd (cc (e, h.0))
+  inside (f ∷ fs) body n floor e h = record { frame = f; below = fs; inside = refl }
 
-  top_values : (more : List Kind) (n : ℕ) (rest : List OperandKind) (ops : List Operand) → FitsKinds p.variables ops (pushed_kinds more rest) → ((ops : List Operand) → FitsKinds p.variables ops rest → TopValues n ops) → TopValues (length more + n) ops
-  top_values [] n rest ops f h = let e : 0 + n ≡ n = omega arith in subst (λ n. TopValues n ops) (sym e) (h ops f)
-  top_values (k ∷ more) n rest ops f h =
-      let e : suc (length more) + n ≡ length more + suc n = omega arith in
-      subst (λ n. TopValues n ops) (sym e) (top_values more (suc n) (OfKind k ∷ rest) ops f by)
-    where
-      by : (ops : List Operand) → FitsKinds p.variables ops (OfKind k ∷ rest) → TopValues (suc n) ops
-      by [] f = absurd f
-      by (Of v ∷ ops) f = (v, (ops, refl, h ops f.1))
-      by (At a ∷ ops) f = absurd f.0
+  in_proc : (fs : List Frame) (body : Option ℕ) (n floor : ℕ) → owner p body ≡ Some n → FitsFrames p fs body floor → is_in_proc fs ≡ true
+  in_proc [] body n floor e h = let f : None ≡ Some n = sym (ap (owner p) h.0) ∙ e in absurd (cc f)
+  in_proc (f ∷ fs) body n floor e h =
+      let made = h.1.1.0 in
+      let number : owner p (Some made.number) ≡ Some n = ap (owner p) (sym made.is) ∙ e in
+      by_layout p valid f body floor (base_of fs) h.0 h.1.0 made (λ _. is_in_proc (f ∷ fs) ≡ true)
+      (λ ps vs l. ap (λ t. cond t (is_in_proc fs) true) (as_proc p valid f body floor (base_of fs) h.0 h.1.0 made ps vs l).1)
+      (λ l q r.
+      ap (λ t. cond t (is_in_proc fs) true) (as_refined p valid f body floor (base_of fs) h.0 h.1.0 made l q r).1
+      ∙ in_proc fs h.0.body n h.1.0 (sym (same_owner p valid f body floor (base_of fs) h.0 h.1.0 made l q r) ∙ number) h.1.1.1)
+      made.entry.layout refl
 
-  top_limit : (limits : List ℤ) (n : ℕ) → length limits ≡ suc n → TopLimit limits
-  top_limit [] n e = absurd (omega arith)
-  top_limit (l ∷ limits) n e = record { limit = l; rest = limits; top = refl }
+  has_proc : (n pc : ℕ) (ks : List OperandKind) (m : Spot) (ops : List Operand) → IsCalled p pc n ks m → FitsKinds ops ks → HasProc p.bodies n ops
+  has_proc n pc ks m ops f k =
+      let a = as_many ops ks k in
+      let b : length ks ≡ length f.parameters + length f.rest = ap length f.taken ∙ pushed_many f.parameters f.rest in
+      record { entry = f.entry; has = f.has; callable = record { parameters = f.parameters; variables = f.variables; own = f.own; taken = omega (arith, a, b) } }
 
-  finds_at : (i : Instr) (pc : ℕ) (ks : List OperandKind) (ops : List Operand) (limits : List ℤ) → IsFine p pc i ks (length limits) → FitsKinds p.variables ops ks → Finds i ops limits
-  finds_at Mark pc ks ops limits f k = tt
-  finds_at (Number z) pc ks ops limits f k = tt
-  finds_at (Truth b) pc ks ops limits f k = tt
-  finds_at (Outer x) pc ks ops limits f k = tt
-  finds_at (Load kind) pc ks ops limits f k = top_place ops kind f.0 (subst (FitsKinds p.variables ops) f.1 k)
-  finds_at (Store kind) pc ks ops limits f k = top_both ops kind kind f.0 (subst (FitsKinds p.variables ops) f.1 k)
-  finds_at (Do op) pc ks ops limits f k =
-      let e : length (operand_kinds op) + 0 ≡ length (operand_kinds op) = omega arith in
-      subst (λ n. TopValues n ops) e (top_values (operand_kinds op) 0 f.0 ops (subst (FitsKinds p.variables ops) f.1 k) (λ ops f. tt))
-  finds_at (Modify change) pc ks ops limits f k = top_both ops kinds.Int kinds.Int f.0 (subst (FitsKinds p.variables ops) f.1 k)
-  finds_at (Jump a) pc ks ops limits f k = tt
-  finds_at (False a) pc ks ops limits f k = top_value ops kinds.Truth f.0 (subst (FitsKinds p.variables ops) f.1 k)
-  finds_at (When z a) pc ks ops limits f k = top_value ops kinds.Int f.0 (subst (FitsKinds p.variables ops) f.1 k)
-  finds_at Drop pc ks ops limits f k = top_value ops f.0 f.1.0 (subst (FitsKinds p.variables ops) f.1.1 k)
-  finds_at (Limit way a) pc ks ops limits f k = top_both ops kinds.Int kinds.Int f.0 (subst (FitsKinds p.variables ops) f.1 k)
-  finds_at Unlimit pc ks ops limits f k = top_limit limits f.0 f.1
-  finds_at (Step way a) pc ks ops limits f k = (top_place ops kinds.Int f.2.0 (subst (FitsKinds p.variables ops) f.2.1 k), top_limit limits f.0 f.1)
-  finds_at (Ask calls.PutNumber) pc ks ops limits f k = top_value ops kinds.Int f.0 (subst (FitsKinds p.variables ops) f.1 k)
-  finds_at (Ask calls.Line) pc ks ops limits f k = tt
-  finds_at End pc ks ops limits f k = tt
+  module _ (c : Control) (fits : Fits p c) (room : c.full ≡ false) where
+    abbrev ks : List OperandKind
+    ks = fits.kinds
 
-  -- the instruction of a state that fits
-  pub finds : (c : Control) (fits : Fits p c) → Finds fits.next.0 c.ops c.limits
-  finds c fits = finds_at fits.next.0 c.pc fits.kinds c.ops c.limits (valid.each c.pc (line_of fits.next.0 fits.kinds (length c.limits)) fits.next.1) fits.operands
+    abbrev m : Spot
+    m = fits.spot
+
+    limited : (outer : Spot) → m ≡ record { body = outer.body; limits = suc outer.limits } → 1 ≤ c.used
+    limited outer e =
+        let n : m.limits ≡ suc outer.limits = ap (λ (s : Spot). s.limits) e in
+        omega (arith, n, fits.used)
+
+    finds_at : (i : Instr) → IsFine p c.pc i ks m → Finds p.bodies i c
+    finds_at Mark f = tt
+    finds_at (Number z) f = tt
+    finds_at (Truth b) f = tt
+    finds_at (Outer x) f = outer_cell c fits room x f.0 f.1
+    finds_at (Local x) f = local_cell c fits room x (OfKind f.0) f.1
+    finds_at (Param x) f = local_cell c fits room x (AtKind f.0) f.1
+    finds_at (Load kind) f = top_place c.ops kind f.0 (subst (FitsKinds c.ops) f.1 fits.operands)
+    finds_at (Store kind) f = top_both c.ops kind kind f.0 (subst (FitsKinds c.ops) f.1 fits.operands)
+    finds_at (Do op) f =
+        let e : length (operand_kinds op) + 0 ≡ length (operand_kinds op) = omega arith in
+        subst (λ n. TopValues n c.ops) e (top_values (operand_kinds op) 0 f.0 c.ops (subst (FitsKinds c.ops) f.1 fits.operands) (λ ops f. tt))
+    finds_at (Modify change) f = top_both c.ops kinds.Int kinds.Int f.0 (subst (FitsKinds c.ops) f.1 fits.operands)
+    finds_at (Jump a) f = tt
+    finds_at (False a) f = top_value c.ops kinds.Truth f.0 (subst (FitsKinds c.ops) f.1 fits.operands)
+    finds_at (When z a) f = top_value c.ops kinds.Int f.0 (subst (FitsKinds c.ops) f.1 fits.operands)
+    finds_at Drop f = top_value c.ops f.0 f.1.0 (subst (FitsKinds c.ops) f.1.1 fits.operands)
+    finds_at (Limit way a) f = top_both c.ops kinds.Int kinds.Int f.0 (subst (FitsKinds c.ops) f.1 fits.operands)
+    finds_at Unlimit f = limited f.0 f.1
+    finds_at (Step way a) f = (top_place c.ops kinds.Int f.2.0 (subst (FitsKinds c.ops) f.2.1 fits.operands), limited f.0 f.1)
+    finds_at (Ask calls.PutNumber) f = top_value c.ops kinds.Int f.0 (subst (FitsKinds c.ops) f.1 fits.operands)
+    finds_at (Ask calls.Line) f = tt
+    finds_at (Call n) f = has_proc n c.pc ks m c.ops f fits.operands
+    finds_at (Refer n) f = record { entry = f.entry; has = f.has }
+    finds_at (Back kind) f = (top_result kind ks c.ops f.top fits.operands, inside c.frames m.body f.number fits.floor f.here fits.frames)
+    finds_at (Out kind) f = (top_result kind ks c.ops f.top fits.operands, in_proc c.frames m.body f.number fits.floor f.proc fits.frames)
+    finds_at End f = tt
+
+    -- the instruction of a state that fits
+    pub finds : Finds p.bodies fits.next.0 c
+    finds = finds_at fits.next.0 (valid.each c.pc (line_of fits.next.0 fits.kinds fits.spot) fits.next.1)
 
   pub within : (c : Control) → Fits p c → c.pc < length p.lines
   within c fits = slice_get_within p.lines c.pc _ fits.next.1

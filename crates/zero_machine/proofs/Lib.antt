@@ -1,3 +1,9 @@
+pub mod Stacks
+pub mod Counts
 pub mod Finds
 pub mod Fitting
-pub mod Small
+pub mod Blanks
+pub mod Calling
+pub mod Executing
+pub mod Starting
+pub mod Samples

@@ -1,28 +1,18 @@
 -- What the machine's state stands for.
-use Rattle.std.specs.Prelude.{◌≡◌, ℕ, ◌+◌, ◌^◌, ◌<◌, Bool, true, false, List, [], map, reverse, Option, Some, None}
+use Rattle.std.specs.Prelude.{◌≡◌, ℕ, ◌+◌, ◌^◌, ◌<◌, true, false, List, [], ◌∷◌, Option, Some, None}
 use Rattle.eu_base.specs.Room.{cells_fit, bytes_fit}
+use Rattle.eu_base.specs.declared.value.Value.{Value}
 use Rattle.eu_base.specs.Cells.{Cells}
-use Rattle.eu_base.specs.declared.operation.Operation.{Operation}
 use Rattle.code_form.specs.declared.halt.Halt.{Halt}
 use Rattle.code_form.specs.declared.instr.Instr.{Instr}
-use Rattle.code_form.specs.declared.instr.Instr.TheVariants.{Do}
+use Rattle.code_form.specs.declared.operand.Operand.{Operand}
+use Rattle.code_form.specs.declared.operand.Operand.TheVariants.{Value as Of}
 use Rattle.code_form.specs.declared.code.Entry.{Entry}
-use Rattle.code_form.specs.Machine.{Frame, Control, Move, Scene, Stage, On, Over, rest_at, bytes_on, bytes_of, instruction, stage}
-use Rattle.zero_machine.specs.declared.state.Frame.{Frame as Kept}
+use Rattle.code_form.specs.Machine.{Control, Goes, After, Scene, Stage, On, Over, rest_at, bytes_on, bytes_of, instruction, after_stage, stage}
 use Rattle.zero_machine.specs.declared.state.State.{State}
 
-abbrev pub frame_of : Kept → Frame
-frame_of f = record { back = f.back; base = f.base; used = f.used; refines = f.refines; ops = reverse f.operands }
-
-abbrev pub frames_of : List Kept → List Frame
-frames_of fs = map frame_of (reverse fs)
-
 abbrev pub control_of : State → Control
-control_of s = record { pc = s.pc; ops = reverse s.operands; used = s.used; frames = frames_of s.frames; full = s.full; waits = s.waiting }
-
--- the bytes of pending operands are counted
-abbrev pub IsCounted : State → Type 0
-IsCounted s = s.pending ≡ bytes_on (reverse s.operands) (bytes_of (frames_of s.frames))
+control_of s = record { pc = s.pc; ops = s.stack.ops; used = s.used; frames = s.stack.frames; full = s.full; waits = s.waiting }
 
 -- cells and marks, with no replies
 abbrev pub scene_of : Cells → ℕ → Scene
@@ -38,10 +28,22 @@ pub record IsReady (s : State) : Type 0 where
   pub free : s.waiting ≡ None
   pub roomy : s.full ≡ false
   pub next : s.pc + 1 < 2 ^ 64
-  pub counted : IsCounted s
-  pub bytes : bytes_fit s.pending ≡ true
+  pub bytes : bytes_fit (bytes_on s.stack.ops (bytes_of s.stack.frames)) ≡ true
   pub cells : cells_fit s.used ≡ true
 
--- a move leads so on, or comes so to rest
-abbrev pub LeadsSo : (Cells → Move) → Control → Control → Option Halt → Type 0
-LeadsSo move c c' halt = (cells : Cells) (marks : ℕ) → stage_of halt c' (scene_of cells marks) ≡ stage (move cells) c (scene_of cells marks)
+-- an instruction goes on so
+abbrev pub GoesOn : Instr → Control → Cells → Control → Cells → Type 0
+GoesOn i c cells c' cells' = (bodies : List Entry) → instruction bodies (Some i) c cells ≡ Goes c' cells'
+
+-- an instruction that spends no mark leads so on, or comes so to rest
+abbrev pub StepsSo : Instr → Control → Cells → Control → Cells → Option Halt → Type 0
+StepsSo i c cells c' cells' halt = (bodies : List Entry) (marks : ℕ) → stage_of halt c' (scene_of cells' marks) ≡ stage (instruction bodies (Some i) c cells) c (scene_of cells marks)
+
+-- a body is entered so, or has no room
+abbrev pub EntersSo : After → Control → Cells → Control → Cells → Option Halt → Type 0
+EntersSo after c cells c' cells' halt = (marks : ℕ) → stage_of halt c' (scene_of cells' marks) ≡ after_stage after c (scene_of cells marks)
+
+-- what comes back with a result
+abbrev pub result_ops : Option Value → List Operand
+result_ops None = []
+result_ops (Some v) = Of v ∷ []

@@ -1,12 +1,13 @@
 //! Requests.
-ghost use Rattle.std.specs.Prelude.{◌≡◌, ◌+◌, IfOk, Some, reverse};
+ghost use Rattle.std.specs.Prelude.{◌≡◌, ◌+◌, IfOk, Some, [], List};
 ghost use Rattle.eu_base.specs.Cells.{Cells};
+ghost use Rattle.code_form.specs.declared.code.Entry.{Entry};
 ghost use Rattle.code_form.specs.declared.instr.Instr.TheVariants as instrs;
 ghost use Rattle.code_form.specs.Machine.{instruction, stage};
 ghost use Rattle.zero_machine.specs.Finds.{Finds};
 ghost use Rattle.zero_machine.specs.Running.{control_of, scene_of, stage_of, IsReady};
 
-use crate::state::{State, pop_value};
+use crate::state::State;
 use code_form::{Call, Halt};
 use eu_base::{Bytes, NoMemory, Request, decimal};
 use std::alloc::Global;
@@ -14,15 +15,15 @@ use std::alloc::Global;
 /// Spends a mark, and makes a request.
 pub fn ask(s: &mut State, call: Call, marks: &mut u32) -> Result<Option<Halt>, NoMemory>
     requires ready { IsReady s.old }
-    requires finds { Finds (instrs.Ask call) (reverse s.old.operands) (reverse s.old.limits) }
-    ensures { IfOk result (λ halt. (cells : Cells) → stage_of halt (control_of s.new) (scene_of cells marks.new) ≡ stage (instruction (Some (instrs.Ask call)) (control_of s.old) cells) (control_of s.old) (scene_of cells marks.old)) }
+    requires finds { Finds [] (instrs.Ask call) (control_of s.old) }
+    ensures { IfOk result (λ halt. (bodies : List Entry) (cells : Cells) → stage_of halt (control_of s.new) (scene_of cells marks.new) ≡ stage (instruction bodies (Some (instrs.Ask call)) (control_of s.old) cells) (control_of s.old) (scene_of cells marks.old)) }
 {
     if *marks == 0 {
         return Ok(Some(Halt::Marked));
     }
     let request = match call {
         Call::PutNumber => {
-            let number = pop_value(&mut s.operands).number();
+            let number = s.stack.pop_value().number();
             let mut bytes = decimal(s.alloc, i64::from(number))?;
             bytes.append(b" ")?;
             Request::Out { bytes, ends: false }

@@ -1,9 +1,32 @@
-//! Variables in cells.
-ghost use Rattle.std.specs.Prelude.{◌≡◌, IfOk, OnOk};
-ghost use Rattle.eu_base.specs.Values.{cell_of, value_in};
-ghost use Rattle.eu_base.specs.Cells.{IsCell, written, HasFaultCause};
+//! Numbers in cells.
+ghost use Rattle.std.specs.Prelude.{◌≡◌, ◌+◌, ◌≤◌, ◌<◌, ◌++◌, map, length, true, IfOk, OnOk};
+ghost use Rattle.eu_base.specs.declared.address.TheConstants.{CELLS};
+ghost use Rattle.eu_base.specs.Room.{cells_fit};
+ghost use Rattle.eu_base.specs.Values.{blank_of, cell_of, value_in};
+ghost use Rattle.eu_base.specs.Cells.{IsCell, run_cell, place_in, written, HasFaultCause};
+ghost use Rattle.code_form.specs.Machine.{number_of_operand, link_numbers, frame_numbers, written_from};
 
-use eu_base::{Addr, Kind, MemFault, Memory, Value};
+use code_form::Operand;
+use eu_base::{Addr, Area, CELLS, Kind, MemFault, Memory, Value};
+
+/// The place of a cell by its number.
+pub fn run_cell(cell: usize) -> Addr
+    requires { cell < CELLS }
+    ensures { result ≡ run_cell cell }
+{
+    Addr {
+        area: Area::Run,
+        cell: cell as u16,
+    }
+}
+
+/// Whether more cells have room beside those in use.
+pub fn have_room(used: usize, more: usize) -> bool
+    requires { cells_fit used ≡ true }
+    ensures { result ≡ cells_fit (used + more) }
+{
+    more <= usize::from(CELLS) - used
+}
 
 /// The value in a cell.
 pub fn read<M: Memory>(m: &mut M, at: Addr, kind: Kind) -> Result<Value, MemFault>
@@ -17,6 +40,21 @@ pub fn read<M: Memory>(m: &mut M, at: Addr, kind: Kind) -> Result<Value, MemFaul
     Ok(kind.value_in(number))
 }
 
+/// The place that a cell holds.
+pub fn read_place<M: Memory>(m: &mut M, at: Addr) -> Result<Addr, MemFault>
+    requires { IsCell at }
+    ensures place { IfOk result (λ place. place ≡ place_in (M.cells m.old at)) }
+    ensures kept { OnOk result (M.cells m.new ≡ M.cells m.old) }
+    ensures cause { HasFaultCause (M.faults m.old) (M.faults m.new) result }
+    ensures follows { M.follows m.old m.new }
+{
+    let number = m.cell(at)?;
+    Ok(Addr {
+        area: Area::Run,
+        cell: (number % u64::from(CELLS)) as u16,
+    })
+}
+
 /// Writes a value to a cell.
 pub fn write<M: Memory>(m: &mut M, at: Addr, value: Value) -> Result<(), MemFault>
     requires { IsCell at }
@@ -25,4 +63,76 @@ pub fn write<M: Memory>(m: &mut M, at: Addr, value: Value) -> Result<(), MemFaul
     ensures follows { M.follows m.old m.new }
 {
     m.set_cell(at, value.cell())
+}
+
+/// Writes the cells of a new frame: two for the call, what its parameters hold, and its variables.
+pub fn write_frame<M: Memory>(
+    m: &mut M,
+    at: usize,
+    operands: &[Operand],
+    variables: &[Kind],
+) -> Result<(), MemFault>
+    requires { at + (2 + length operands.now + length variables.now) ≤ CELLS }
+    ensures written { OnOk result (M.cells m.new ≡ written_from at (frame_numbers operands.now variables.now) (M.cells m.old)) }
+    ensures cause { HasFaultCause (M.faults m.old) (M.faults m.new) result }
+    ensures follows { M.follows m.old m.new }
+{
+    write_link(m, at)?;
+    write_operands(m, at + 2, operands)?;
+    write_blanks(m, at + 2 + operands.len(), variables)
+}
+
+// The cells of the call.
+fn write_link<M: Memory>(m: &mut M, at: usize) -> Result<(), MemFault>
+    requires { at + 2 ≤ CELLS }
+    ensures written { OnOk result (M.cells m.new ≡ written_from at link_numbers (M.cells m.old)) }
+    ensures cause { HasFaultCause (M.faults m.old) (M.faults m.new) result }
+    ensures follows { M.follows m.old m.new }
+{
+    write_number(m, at, 0)?;
+    write_number(m, at + 1, 0)
+}
+
+fn write_operands<M: Memory>(m: &mut M, at: usize, operands: &[Operand]) -> Result<(), MemFault>
+    requires { at + length operands.now ≤ CELLS }
+    ensures written { OnOk result (M.cells m.new ≡ written_from at (map number_of_operand operands.now) (M.cells m.old)) }
+    ensures cause { HasFaultCause (M.faults m.old) (M.faults m.new) result }
+    ensures follows { M.follows m.old m.new }
+{
+    for (index, operand) in operands.iter().enumerate() {
+        write_number(m, at + index, number_of(*operand))?;
+    }
+    Ok(())
+}
+
+/// Writes what variables hold before anything was stored.
+pub fn write_blanks<M: Memory>(m: &mut M, at: usize, variables: &[Kind]) -> Result<(), MemFault>
+    requires { at + length variables.now ≤ CELLS }
+    ensures written { OnOk result (M.cells m.new ≡ written_from at (map (λ k. cell_of (blank_of k)) variables.now) (M.cells m.old)) }
+    ensures cause { HasFaultCause (M.faults m.old) (M.faults m.new) result }
+    ensures follows { M.follows m.old m.new }
+{
+    for (index, kind) in variables.iter().enumerate() {
+        write_number(m, at + index, kind.blank().cell())?;
+    }
+    Ok(())
+}
+
+fn write_number<M: Memory>(m: &mut M, cell: usize, number: u64) -> Result<(), MemFault>
+    requires { cell < CELLS }
+    ensures written { OnOk result (M.cells m.new ≡ written (M.cells m.old) (run_cell cell) number) }
+    ensures cause { HasFaultCause (M.faults m.old) (M.faults m.new) result }
+    ensures follows { M.follows m.old m.new }
+{
+    m.set_cell(run_cell(cell), number)
+}
+
+// The number that stands for an operand in a cell.
+fn number_of(operand: Operand) -> u64
+    ensures { result ≡ number_of_operand operand }
+{
+    match operand {
+        Operand::Value(value) => value.cell(),
+        Operand::Place(place) => u64::from(place.cell),
+    }
 }

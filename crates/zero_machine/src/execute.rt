@@ -1,33 +1,33 @@
 //! One step of the machine.
-ghost use Rattle.std.specs.Prelude.{◌≡◌, ◌+◌, ◌∷◌, IfOk, OnOk, Some, None, true, reverse};
+ghost use Rattle.std.specs.Prelude.{◌≡◌, ◌+◌, ◌∷◌, [], IfOk, OnOk, Some, None, true};
 ghost use Rattle.eu_base.specs.Cells.{Cells, HasFaultCause};
-ghost use Rattle.code_form.specs.declared.instr.Instr.TheVariants as instrs;
 ghost use Rattle.code_form.specs.declared.operand.Operand.TheVariants as operand;
-ghost use Rattle.code_form.specs.Machine.{instruction, step, stage};
-ghost use Rattle.code_form.specs.Valid.{Fits};
-ghost use Rattle.zero_machine.specs.Finds.{Finds, is_plain};
-ghost use Rattle.zero_machine.specs.Running.{control_of, scene_of, stage_of, IsReady, GoesOn};
+ghost use Rattle.code_form.specs.Machine.{instruction, stage};
+ghost use Rattle.zero_machine.specs.Finds.{Finds, is_plain, is_push, is_access};
+ghost use Rattle.zero_machine.specs.Running.{control_of, scene_of, stage_of, IsReady, GoesOn, StepsSo};
 
 use crate::ask::ask;
+use crate::calls::{back, call, out, refer};
 use crate::operate::operate;
 use crate::state::State;
 use crate::step::{
-    drop_value, jump_false, limit, load, modify, push_on, step, store, unlimit, when,
+    drop_value, jump_false, limit, load, local, modify, param, push_on, step, store, unlimit, when,
 };
-use code_form::{Halt, Instr, Operand};
+use code_form::{Entry, Halt, Instr, Operand};
 use eu_base::{Addr, Area, MemFault, Memory, NoMemory, Value};
 
 /// What one instruction does, or why the machine rests at it.
 pub fn execute<M: Memory>(
+    bodies: &[Entry],
     instr: Instr,
     s: &mut State,
     m: &mut M,
     marks: &mut u32,
 ) -> Result<Option<Halt>, MemFault>
     requires ready { IsReady s.old }
-    requires finds { Finds instr (reverse s.old.operands) (reverse s.old.limits) }
+    requires finds { Finds bodies.now instr (control_of s.old) }
     ensures goes { IfOk result (λ halt. stage_of halt (control_of s.new) (scene_of (M.cells m.new) marks.new)
-        ≡ stage (instruction (Some instr) (control_of s.old) (M.cells m.old)) (control_of s.old) (scene_of (M.cells m.old) marks.old)) }
+        ≡ stage (instruction bodies.now (Some instr) (control_of s.old) (M.cells m.old)) (control_of s.old) (scene_of (M.cells m.old) marks.old)) }
     ensures cause { HasFaultCause (M.faults m.old) (M.faults m.new) result }
     ensures follows { M.follows m.old m.new }
 {
@@ -40,25 +40,20 @@ pub fn execute<M: Memory>(
             s.pc += 1;
             Ok(None)
         }
-        Instr::Load(kind) => {
-            load(s, m, kind)?;
-            Ok(None)
+        Instr::Ask(request) => Ok(ask(s, request, marks)?),
+        Instr::Call(body) => call(&bodies[usize::from(body)], s, m, marks),
+        Instr::Refer(body) => refer(&bodies[usize::from(body)], s, m, marks),
+        Instr::Number(_) | Instr::Truth(_) | Instr::Outer(_) | Instr::Local(_) => {
+            Ok(push_constant(instr, s)?)
         }
-        Instr::Store(kind) => {
-            store(s, m, kind)?;
-            Ok(None)
-        }
-        Instr::Limit(way, to) => {
-            limit(s, m, way, to)?;
-            Ok(None)
-        }
-        Instr::Step(way, to) => {
-            step(s, m, way, to)?;
-            Ok(None)
-        }
-        Instr::Modify(by) => modify(s, m, by),
         Instr::Do(operation) => Ok(operate(s, operation)?),
-        Instr::Ask(call) => Ok(ask(s, call, marks)?),
+        Instr::Param(cell) => param(s, m, cell),
+        Instr::Modify(by) => modify(s, m, by),
+        Instr::Limit(way, to) => limit(s, m, way, to),
+        Instr::Load(_) | Instr::Store(_) | Instr::Step(_, _) => {
+            access(instr, s, m)?;
+            Ok(None)
+        }
         Instr::End => Ok(Some(Halt::Ended)),
         _ => {
             go_on(instr, s)?;
@@ -67,12 +62,12 @@ pub fn execute<M: Memory>(
     }
 }
 
-// What an instruction does that only goes on, and looks at no cell.
-fn go_on(instr: Instr, s: &mut State) -> Result<(), NoMemory>
+// Pushes what stands in the instruction.
+fn push_constant(instr: Instr, s: &mut State) -> Result<Option<Halt>, NoMemory>
     requires ready { IsReady s.old }
-    requires plain { is_plain instr ≡ true }
-    requires finds { Finds instr (reverse s.old.operands) (reverse s.old.limits) }
-    ensures { OnOk result ((cells : Cells) → GoesOn instr (control_of s.old) cells (control_of s.new) cells) }
+    requires pushes { is_push instr ≡ true }
+    requires finds { Finds [] instr (control_of s.old) }
+    ensures { IfOk result (λ halt. (cells : Cells) → StepsSo instr (control_of s.old) cells (control_of s.new) cells halt) }
 {
     match instr {
         Instr::Number(number) => push_on(s, Operand::Value(Value::Int(number))),
@@ -84,6 +79,36 @@ fn go_on(instr: Instr, s: &mut State) -> Result<(), NoMemory>
                 cell,
             }),
         ),
+        Instr::Local(cell) => local(s, cell),
+        _ => unreachable!(),
+    }
+}
+
+// What an instruction does that looks at cells, and goes on.
+fn access<M: Memory>(instr: Instr, s: &mut State, m: &mut M) -> Result<(), MemFault>
+    requires ready { IsReady s.old }
+    requires accesses { is_access instr ≡ true }
+    requires finds { Finds [] instr (control_of s.old) }
+    ensures goes { OnOk result (GoesOn instr (control_of s.old) (M.cells m.old) (control_of s.new) (M.cells m.new)) }
+    ensures cause { HasFaultCause (M.faults m.old) (M.faults m.new) result }
+    ensures follows { M.follows m.old m.new }
+{
+    match instr {
+        Instr::Load(kind) => load(s, m, kind),
+        Instr::Store(kind) => store(s, m, kind),
+        Instr::Step(way, to) => step(s, m, way, to),
+        _ => unreachable!(),
+    }
+}
+
+// What an instruction does that looks at no cell, and goes on.
+fn go_on(instr: Instr, s: &mut State) -> Result<(), NoMemory>
+    requires ready { IsReady s.old }
+    requires plain { is_plain instr ≡ true }
+    requires finds { Finds [] instr (control_of s.old) }
+    ensures { OnOk result ((cells : Cells) → GoesOn instr (control_of s.old) cells (control_of s.new) cells) }
+{
+    match instr {
         Instr::Jump(to) => {
             s.pc = to;
             Ok(())
@@ -101,6 +126,8 @@ fn go_on(instr: Instr, s: &mut State) -> Result<(), NoMemory>
             unlimit(s);
             Ok(())
         }
+        Instr::Back(kind) => back(s, kind),
+        Instr::Out(kind) => out(s, kind),
         _ => unreachable!(),
     }
 }

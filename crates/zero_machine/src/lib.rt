@@ -2,12 +2,14 @@
 #![tactic(auto)]
 
 mod ask;
+mod calls;
 mod cells;
 mod execute;
 mod machine;
 mod operate;
 mod operations;
 mod plain;
+mod stack;
 mod state;
 mod step;
 #[cfg(test)]
@@ -16,4 +18,5 @@ mod tests;
 pub use code_form::Halt;
 pub use machine::{laws, reply, run, start};
 pub use plain::PlainMemory;
+pub use stack::Stack;
 pub use state::State;

@@ -1,5 +1,6 @@
 //! Runs of code.
-ghost use Rattle.std.specs.Prelude.{◌≡◌, ◌≤◌, ◌<◌, ℕ, List, [], length, IfOk, OnOk, IsSome, IfSome, Some};
+ghost use Rattle.std.specs.Prelude.{◌≡◌, ◌≤◌, ◌<◌, ℕ, List, [], length, true, not, IfOk, OnOk, IsSome, IfSome, Some};
+ghost use Rattle.eu_base.specs.Room.{cells_fit};
 ghost use Rattle.eu_base.specs.Cells.{HasFaultCause, IsBlank};
 ghost use Rattle.code_form.specs.Machine.{start, step, stage, rest_at, answered};
 ghost use Rattle.code_form.specs.Valid.{Fits, IsValid};
@@ -7,11 +8,12 @@ ghost use Rattle.code_form.specs.Runs.{Rests, Resumes, Replies, IsOne, StaysFit}
 ghost use Rattle.zero_machine.specs.Running.{control_of, scene_of, stage_of};
 
 use crate::ask::copy;
-use crate::cells::write;
+use crate::cells::write_blanks;
 use crate::execute::execute;
+use crate::stack::Stack;
 use crate::state::State;
 use code_form::{Code, Halt};
-use eu_base::{Addr, Area, List, MemFault, Memory, Reply};
+use eu_base::{CELLS, Kind, MemFault, Memory, Reply, Stop};
 use std::alloc::Global;
 
 // One step, or why the machine rests.
@@ -23,7 +25,7 @@ fn advance<M: Memory>(
 ) -> Result<Option<Halt>, MemFault>
     requires { Fits code.now (control_of s.old) }
     ensures goes { IfOk result (λ halt. stage_of halt (control_of s.new) (scene_of (M.cells m.new) marks.new)
-        ≡ stage (step code.now.lines (control_of s.old) (M.cells m.old)) (control_of s.old) (scene_of (M.cells m.old) marks.old)) }
+        ≡ stage (step code.now (control_of s.old) (M.cells m.old)) (control_of s.old) (scene_of (M.cells m.old) marks.old)) }
     ensures fits { OnOk result (Fits code.now (control_of s.new)) }
     ensures valid { IsValid code.now }
     ensures cause { HasFaultCause (M.faults m.old) (M.faults m.new) result }
@@ -33,33 +35,45 @@ fn advance<M: Memory>(
     if let Some(request) = &s.waiting {
         return Ok(Some(Halt::Asks(copy(s.alloc, request)?)));
     }
+    if s.full {
+        return Ok(Some(Halt::Stopped(Stop::CellRoom)));
+    }
     prove!(s.pc < size);
-    execute(code.instr(s.pc), s, m, marks)
+    execute(code.bodies(), code.instr(s.pc), s, m, marks)
 }
 
-/// Starts a command: its variables are made, and nothing is pending.
+/// Starts a command: its variables are made, where they have room, and nothing is pending.
 pub fn start<M: Memory>(alloc: Global, code: &Code, m: &mut M) -> Result<State, MemFault>
-    ensures control { IfOk result (λ s. control_of s ≡ start) }
+    ensures control { IfOk result (λ s. control_of s ≡ start (length code.now.variables)) }
     ensures fits { IfOk result (λ s. Fits code.now (control_of s)) }
-    ensures blank { OnOk result (IsBlank code.now.variables (M.cells m.new)) }
+    ensures blank { OnOk result (cells_fit (length code.now.variables) ≡ true → IsBlank code.now.variables (M.cells m.new)) }
     ensures cause { HasFaultCause (M.faults m.old) (M.faults m.new) result }
     ensures follows { M.follows m.old m.new }
 {
     let _size = code.len();
-    for (cell, kind) in code.variables().iter().enumerate() {
-        let at = Addr {
-            area: Area::Run,
-            cell: cell as u16,
-        };
-        write(m, at, kind.blank())?;
-    }
+    let full = make_variables(m, code.variables())?;
     Ok(State {
         alloc,
         pc: 0,
-        operands: List::new(alloc),
-        limits: List::new(alloc),
+        stack: Stack::new(alloc),
+        used: code.variables().len(),
+        full,
         waiting: None,
     })
+}
+
+// Makes the variables, or answers that they have no room.
+fn make_variables<M: Memory>(m: &mut M, variables: &[Kind]) -> Result<bool, MemFault>
+    ensures full { IfOk result (λ full. full ≡ not (cells_fit (length variables.now))) }
+    ensures blank { OnOk result (cells_fit (length variables.now) ≡ true → IsBlank variables.now (M.cells m.new)) }
+    ensures cause { HasFaultCause (M.faults m.old) (M.faults m.new) result }
+    ensures follows { M.follows m.old m.new }
+{
+    if variables.len() > usize::from(CELLS) {
+        return Ok(true);
+    }
+    write_blanks(m, 0, variables)?;
+    Ok(false)
 }
 
 /// Answers the request that the machine waits for.
@@ -95,7 +109,7 @@ pub fn run<M: Memory>(
     marks: &mut u32,
 ) -> Result<Halt, MemFault>
     requires { Fits code.now (control_of s.old) }
-    ensures rests { IfOk result (λ halt. Rests code.now.lines (control_of s.old) (scene_of (M.cells m.old) marks.old)
+    ensures rests { IfOk result (λ halt. Rests code.now (control_of s.old) (scene_of (M.cells m.old) marks.old)
         (rest_at halt (control_of s.new) (scene_of (M.cells m.new) marks.new))) }
     ensures fits { OnOk result (Fits code.now (control_of s.new)) }
     ensures cause { HasFaultCause (M.faults m.old) (M.faults m.new) result }

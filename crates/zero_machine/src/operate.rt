@@ -1,22 +1,24 @@
 //! Operations on what is pending.
-ghost use Rattle.std.specs.Prelude.{◌≡◌, ℕ, ◌+◌, IfOk, Some, length, reverse};
+ghost use Rattle.std.specs.Prelude.{◌≡◌, ℕ, ◌+◌, ◌^◌, ◌<◌, ◌∷◌, IfOk, Some, None, length};
 ghost use Rattle.eu_base.specs.Cells.{Cells};
 ghost use Rattle.eu_base.specs.Operations.{operand_kinds, result_of};
 ghost use Rattle.code_form.specs.declared.instr.Instr.TheVariants as instrs;
+ghost use Rattle.code_form.specs.declared.operand.Operand.TheVariants as operand;
 ghost use Rattle.code_form.specs.Machine.{instruction, stage};
 ghost use Rattle.zero_machine.specs.Finds.{TopValue, TopValues};
-ghost use Rattle.zero_machine.specs.Running.{control_of, scene_of, stage_of, IsReady, OperatesSo};
+ghost use Rattle.zero_machine.specs.Running.{control_of, scene_of, stage_of, IsReady, StepsSo};
 
 use crate::operations::apply;
-use crate::state::{State, pop_value, push};
+use crate::state::State;
+use crate::step::push_on;
 use code_form::{Halt, Operand};
-use eu_base::{NoMemory, Operation};
+use eu_base::{NoMemory, Operation, Value};
 
 /// Takes the operands of an operation, and pushes its result. A stop leaves them pending.
 pub fn operate(s: &mut State, operation: Operation) -> Result<Option<Halt>, NoMemory>
     requires ready { IsReady s.old }
-    requires finds { TopValues (length (operand_kinds operation)) (reverse s.old.operands) }
-    ensures { IfOk result (OperatesSo operation (control_of s.old) (control_of s.new)) }
+    requires finds { TopValues (length (operand_kinds operation)) s.old.stack.ops }
+    ensures { IfOk result (λ halt. (cells : Cells) → StepsSo (instrs.Do operation) (control_of s.old) cells (control_of s.new) cells halt) }
 {
     match operation.operand_kinds().len() {
         0 => operate_on_none(s, operation),
@@ -28,14 +30,10 @@ pub fn operate(s: &mut State, operation: Operation) -> Result<Option<Halt>, NoMe
 fn operate_on_none(s: &mut State, operation: Operation) -> Result<Option<Halt>, NoMemory>
     requires ready { IsReady s.old }
     requires arity { length (operand_kinds operation) ≡ 0 }
-    ensures { IfOk result (OperatesSo operation (control_of s.old) (control_of s.new)) }
+    ensures { IfOk result (λ halt. (cells : Cells) → StepsSo (instrs.Do operation) (control_of s.old) cells (control_of s.new) cells halt) }
 {
     match apply(operation, &[]) {
-        Ok(value) => {
-            push(&mut s.operands, Operand::Value(value))?;
-            s.pc += 1;
-            Ok(None)
-        }
+        Ok(value) => push_on(s, Operand::Value(value)),
         Err(stop) => Ok(Some(Halt::Stopped(stop))),
     }
 }
@@ -43,18 +41,14 @@ fn operate_on_none(s: &mut State, operation: Operation) -> Result<Option<Halt>, 
 fn operate_on_one(s: &mut State, operation: Operation) -> Result<Option<Halt>, NoMemory>
     requires ready { IsReady s.old }
     requires arity { length (operand_kinds operation) ≡ 1 }
-    requires finds { TopValue (reverse s.old.operands) }
-    ensures { IfOk result (OperatesSo operation (control_of s.old) (control_of s.new)) }
+    requires finds { TopValue s.old.stack.ops }
+    ensures { IfOk result (λ halt. (cells : Cells) → StepsSo (instrs.Do operation) (control_of s.old) cells (control_of s.new) cells halt) }
 {
-    let a = pop_value(&mut s.operands);
+    let a = s.stack.pop_value();
     match apply(operation, &[a]) {
-        Ok(value) => {
-            push(&mut s.operands, Operand::Value(value))?;
-            s.pc += 1;
-            Ok(None)
-        }
+        Ok(value) => push_result(s, value),
         Err(stop) => {
-            push(&mut s.operands, Operand::Value(a))?;
+            s.stack.push(Operand::Value(a))?;
             Ok(Some(Halt::Stopped(stop)))
         }
     }
@@ -63,21 +57,27 @@ fn operate_on_one(s: &mut State, operation: Operation) -> Result<Option<Halt>, N
 fn operate_on_two(s: &mut State, operation: Operation) -> Result<Option<Halt>, NoMemory>
     requires ready { IsReady s.old }
     requires arity { length (operand_kinds operation) ≡ 2 }
-    requires finds { TopValues 2 (reverse s.old.operands) }
-    ensures { IfOk result (OperatesSo operation (control_of s.old) (control_of s.new)) }
+    requires finds { TopValues 2 s.old.stack.ops }
+    ensures { IfOk result (λ halt. (cells : Cells) → StepsSo (instrs.Do operation) (control_of s.old) cells (control_of s.new) cells halt) }
 {
-    let b = pop_value(&mut s.operands);
-    let a = pop_value(&mut s.operands);
+    let b = s.stack.pop_value();
+    let a = s.stack.pop_value();
     match apply(operation, &[a, b]) {
-        Ok(value) => {
-            push(&mut s.operands, Operand::Value(value))?;
-            s.pc += 1;
-            Ok(None)
-        }
+        Ok(value) => push_result(s, value),
         Err(stop) => {
-            push(&mut s.operands, Operand::Value(a))?;
-            push(&mut s.operands, Operand::Value(b))?;
+            s.stack.push(Operand::Value(a))?;
+            s.stack.push(Operand::Value(b))?;
             Ok(Some(Halt::Stopped(stop)))
         }
     }
+}
+
+// Pushes a result, which has the room of the operands that were taken.
+fn push_result(s: &mut State, value: Value) -> Result<Option<Halt>, NoMemory>
+    requires { s.old.pc + 1 < 2 ^ 64 }
+    ensures { IfOk result (λ halt. (halt ≡ None) × (control_of s.new ≡ record (control_of s.old) { pc = s.old.pc + 1; ops = operand.Value value ∷ s.old.stack.ops })) }
+{
+    s.stack.push(Operand::Value(value))?;
+    s.pc += 1;
+    Ok(None)
 }

@@ -1,40 +1,67 @@
 //! What single instructions do.
-ghost use Rattle.std.specs.Prelude.{◌≡◌, ℕ, ◌+◌, ◌∷◌, OnOk, IfOk, Some, None, false, reverse};
-ghost use Rattle.eu_base.specs.Cells.{Cells, HasFaultCause};
+ghost use Rattle.std.specs.Prelude.{◌≡◌, ℕ, ◌+◌, ◌≤◌, ◌∷◌, OnOk, IfOk, Some, None, false};
+ghost use Rattle.eu_base.specs.Cells.{Cells, IsCell, run_cell, HasFaultCause};
 ghost use Rattle.eu_base.specs.Operations.{operand_kinds, has_reached, next_number};
 ghost use Rattle.code_form.specs.declared.operand.Operand.TheVariants as operand;
 ghost use Rattle.code_form.specs.declared.instr.Instr.TheVariants as instrs;
-ghost use Rattle.code_form.specs.Machine.{instruction, stage};
-ghost use Rattle.zero_machine.specs.Finds.{TopValue, TopPlace, TopLimit, TopBoth};
-ghost use Rattle.zero_machine.specs.Running.{control_of, scene_of, stage_of, IsReady, GoesOn};
+ghost use Rattle.code_form.specs.Machine.{base_of, pushes, instruction, stage};
+ghost use Rattle.zero_machine.specs.Finds.{TopValue, TopPlace, TopBoth};
+ghost use Rattle.zero_machine.specs.Running.{control_of, scene_of, stage_of, IsReady, GoesOn, StepsSo};
 
-use crate::cells::{read, write};
-use crate::operations::{apply, change, has_reached, is_past};
-use crate::state::{State, pop_limit, pop_place, pop_value, push, push_limit};
+use crate::cells::{have_room, read, read_place, run_cell, write};
+use crate::operations::{change, has_reached, is_past};
+use crate::state::State;
 use code_form::{Halt, Operand};
-use eu_base::{Change, Kind, MemFault, Memory, NoMemory, Operation, Value, Way};
+use eu_base::{Change, Kind, MemFault, Memory, NoMemory, Stop, Value, Way};
 
-/// Pushes an operand.
-pub fn push_on(s: &mut State, operand: Operand) -> Result<(), NoMemory>
+/// Pushes an operand where it has room.
+pub fn push_on(s: &mut State, operand: Operand) -> Result<Option<Halt>, NoMemory>
     requires { IsReady s.old }
-    ensures { OnOk result (control_of s.new ≡ record (control_of s.old) { pc = s.old.pc + 1; ops = operand ∷ reverse s.old.operands; waits = None }) }
+    ensures { IfOk result (λ halt. (cells : Cells) (marks : ℕ) → stage_of halt (control_of s.new) (scene_of cells marks) ≡ stage (pushes (control_of s.old) operand s.old.stack.ops cells) (control_of s.old) (scene_of cells marks)) }
 {
-    push(&mut s.operands, operand)?;
+    if !s.stack.has_room(operand) {
+        return Ok(Some(Halt::Stopped(Stop::OperandRoom)));
+    }
+    s.stack.push(operand)?;
     s.pc += 1;
-    Ok(())
+    Ok(None)
 }
 
-/// LOAD
+/// LOCAL
+pub fn local(s: &mut State, cell: u16) -> Result<Option<Halt>, NoMemory>
+    requires ready { IsReady s.old }
+    requires finds { IsCell (run_cell (base_of s.old.stack.frames + cell)) }
+    ensures { IfOk result (λ halt. (cells : Cells) → StepsSo (instrs.Local cell) (control_of s.old) cells (control_of s.new) cells halt) }
+{
+    let at = run_cell(s.stack.base() + usize::from(cell));
+    push_on(s, Operand::Place(at))
+}
+
+/// PARAM
+pub fn param<M: Memory>(s: &mut State, m: &mut M, cell: u16) -> Result<Option<Halt>, MemFault>
+    requires ready { IsReady s.old }
+    requires finds { IsCell (run_cell (base_of s.old.stack.frames + cell)) }
+    ensures goes { IfOk result (StepsSo (instrs.Param cell) (control_of s.old) (M.cells m.old) (control_of s.new) (M.cells m.new)) }
+    ensures cause { HasFaultCause (M.faults m.old) (M.faults m.new) result }
+    ensures follows { M.follows m.old m.new }
+{
+    let at = run_cell(s.stack.base() + usize::from(cell));
+    let place = read_place(m, at)?;
+    let halt = push_on(s, Operand::Place(place))?;
+    Ok(halt)
+}
+
+/// LOAD. The value has the room of the place.
 pub fn load<M: Memory>(s: &mut State, m: &mut M, kind: Kind) -> Result<(), MemFault>
     requires ready { IsReady s.old }
-    requires finds { TopPlace (reverse s.old.operands) }
+    requires finds { TopPlace s.old.stack.ops }
     ensures goes { OnOk result (GoesOn (instrs.Load kind) (control_of s.old) (M.cells m.old) (control_of s.new) (M.cells m.new)) }
     ensures cause { HasFaultCause (M.faults m.old) (M.faults m.new) result }
     ensures follows { M.follows m.old m.new }
 {
-    let at = pop_place(&mut s.operands);
+    let at = s.stack.pop_place();
     let value = read(m, at, kind)?;
-    push(&mut s.operands, Operand::Value(value))?;
+    s.stack.push(Operand::Value(value))?;
     s.pc += 1;
     Ok(())
 }
@@ -42,13 +69,13 @@ pub fn load<M: Memory>(s: &mut State, m: &mut M, kind: Kind) -> Result<(), MemFa
 /// STORE
 pub fn store<M: Memory>(s: &mut State, m: &mut M, kind: Kind) -> Result<(), MemFault>
     requires ready { IsReady s.old }
-    requires finds { TopBoth (reverse s.old.operands) }
+    requires finds { TopBoth s.old.stack.ops }
     ensures goes { OnOk result (GoesOn (instrs.Store kind) (control_of s.old) (M.cells m.old) (control_of s.new) (M.cells m.new)) }
     ensures cause { HasFaultCause (M.faults m.old) (M.faults m.new) result }
     ensures follows { M.follows m.old m.new }
 {
-    let value = pop_value(&mut s.operands);
-    let at = pop_place(&mut s.operands);
+    let value = s.stack.pop_value();
+    let at = s.stack.pop_place();
     write(m, at, value)?;
     s.pc += 1;
     Ok(())
@@ -57,10 +84,10 @@ pub fn store<M: Memory>(s: &mut State, m: &mut M, kind: Kind) -> Result<(), MemF
 /// Jumps where FALSE is on top.
 pub fn jump_false(s: &mut State, to: usize)
     requires ready { IsReady s.old }
-    requires finds { TopValue (reverse s.old.operands) }
+    requires finds { TopValue s.old.stack.ops }
     ensures { (cells : Cells) → GoesOn (instrs.False to) (control_of s.old) cells (control_of s.new) cells }
 {
-    if pop_value(&mut s.operands).truth() {
+    if s.stack.pop_value().truth() {
         s.pc += 1;
     } else {
         s.pc = to;
@@ -70,14 +97,14 @@ pub fn jump_false(s: &mut State, to: usize)
 /// WHEN
 pub fn when(s: &mut State, label: i16, to: usize) -> Result<(), NoMemory>
     requires ready { IsReady s.old }
-    requires finds { TopValue (reverse s.old.operands) }
+    requires finds { TopValue s.old.stack.ops }
     ensures { OnOk result ((cells : Cells) → GoesOn (instrs.When label to) (control_of s.old) cells (control_of s.new) cells) }
 {
-    let value = pop_value(&mut s.operands);
+    let value = s.stack.pop_value();
     if value.number() == label {
         s.pc = to;
     } else {
-        push(&mut s.operands, Operand::Value(value))?;
+        s.stack.push(Operand::Value(value))?;
         s.pc += 1;
     }
     Ok(())
@@ -86,56 +113,64 @@ pub fn when(s: &mut State, label: i16, to: usize) -> Result<(), NoMemory>
 /// DROP
 pub fn drop_value(s: &mut State)
     requires ready { IsReady s.old }
-    requires finds { TopValue (reverse s.old.operands) }
+    requires finds { TopValue s.old.stack.ops }
     ensures { (cells : Cells) → GoesOn instrs.Drop (control_of s.old) cells (control_of s.new) cells }
 {
-    let _value = pop_value(&mut s.operands);
+    let _value = s.stack.pop_value();
     s.pc += 1;
 }
 
-/// LIMIT
-pub fn limit<M: Memory>(s: &mut State, m: &mut M, way: Way, to: usize) -> Result<(), MemFault>
+/// LIMIT. The limit is kept in the next cell.
+pub fn limit<M: Memory>(
+    s: &mut State,
+    m: &mut M,
+    way: Way,
+    to: usize,
+) -> Result<Option<Halt>, MemFault>
     requires ready { IsReady s.old }
-    requires finds { TopBoth (reverse s.old.operands) }
-    ensures goes { OnOk result (GoesOn (instrs.Limit way to) (control_of s.old) (M.cells m.old) (control_of s.new) (M.cells m.new)) }
+    requires finds { TopBoth s.old.stack.ops }
+    ensures goes { IfOk result (StepsSo (instrs.Limit way to) (control_of s.old) (M.cells m.old) (control_of s.new) (M.cells m.new)) }
     ensures cause { HasFaultCause (M.faults m.old) (M.faults m.new) result }
     ensures follows { M.follows m.old m.new }
 {
-    let limit = pop_value(&mut s.operands).number();
-    let at = pop_place(&mut s.operands);
+    if !have_room(s.used, 1) {
+        return Ok(Some(Halt::Stopped(Stop::CellRoom)));
+    }
+    let limit = s.stack.pop_value().number();
+    let at = s.stack.pop_place();
     let number = read(m, at, Kind::Int)?.number();
-    push_limit(&mut s.limits, limit)?;
+    write(m, run_cell(s.used), Value::Int(limit))?;
+    s.used += 1;
     if is_past(way, limit, number) {
         s.pc = to;
     } else {
         s.pc += 1;
     }
-    Ok(())
+    Ok(None)
 }
 
 /// UNLIMIT
 pub fn unlimit(s: &mut State)
     requires ready { IsReady s.old }
-    requires finds { TopLimit (reverse s.old.limits) }
+    requires finds { 1 ≤ s.old.used }
     ensures { (cells : Cells) → GoesOn instrs.Unlimit (control_of s.old) cells (control_of s.new) cells }
 {
-    let _limit = pop_limit(&mut s.limits);
+    s.used -= 1;
     s.pc += 1;
 }
 
 /// UP and DOWN
 pub fn step<M: Memory>(s: &mut State, m: &mut M, way: Way, to: usize) -> Result<(), MemFault>
     requires ready { IsReady s.old }
-    requires finds { TopPlace (reverse s.old.operands) }
-    requires limit { TopLimit (reverse s.old.limits) }
+    requires finds { TopPlace s.old.stack.ops }
+    requires limit { 1 ≤ s.old.used }
     ensures goes { OnOk result (GoesOn (instrs.Step way to) (control_of s.old) (M.cells m.old) (control_of s.new) (M.cells m.new)) }
     ensures cause { HasFaultCause (M.faults m.old) (M.faults m.new) result }
     ensures follows { M.follows m.old m.new }
 {
-    let at = pop_place(&mut s.operands);
+    let at = s.stack.pop_place();
     let number = read(m, at, Kind::Int)?.number();
-    let limit = pop_limit(&mut s.limits);
-    push_limit(&mut s.limits, limit)?;
+    let limit = read(m, run_cell(s.used - 1), Kind::Int)?.number();
     if has_reached(way, limit, number) {
         s.pc = to;
         return Ok(());
@@ -158,13 +193,13 @@ fn next(way: Way, limit: i16, number: i16) -> i16
 /// DO of INCR and DECR.
 pub fn modify<M: Memory>(s: &mut State, m: &mut M, by: Change) -> Result<Option<Halt>, MemFault>
     requires ready { IsReady s.old }
-    requires finds { TopBoth (reverse s.old.operands) }
-    ensures goes { IfOk result (λ halt. (marks : ℕ) → stage_of halt (control_of s.new) (scene_of (M.cells m.new) marks) ≡ stage (instruction (Some (instrs.Modify by)) (control_of s.old) (M.cells m.old)) (control_of s.old) (scene_of (M.cells m.old) marks)) }
+    requires finds { TopBoth s.old.stack.ops }
+    ensures goes { IfOk result (StepsSo (instrs.Modify by) (control_of s.old) (M.cells m.old) (control_of s.new) (M.cells m.new)) }
     ensures cause { HasFaultCause (M.faults m.old) (M.faults m.new) result }
     ensures follows { M.follows m.old m.new }
 {
-    let operand = pop_value(&mut s.operands);
-    let at = pop_place(&mut s.operands);
+    let operand = s.stack.pop_value();
+    let at = s.stack.pop_place();
     let number = read(m, at, Kind::Int)?.number();
     match change(by, number, operand.number()) {
         Ok(value) => {
@@ -173,8 +208,8 @@ pub fn modify<M: Memory>(s: &mut State, m: &mut M, by: Change) -> Result<Option<
             Ok(None)
         }
         Err(stop) => {
-            push(&mut s.operands, Operand::Place(at))?;
-            push(&mut s.operands, Operand::Value(operand))?;
+            s.stack.push(Operand::Place(at))?;
+            s.stack.push(Operand::Value(operand))?;
             Ok(Some(Halt::Stopped(stop)))
         }
     }

@@ -9,9 +9,9 @@ pub returns-in-Some-clause-rests : goal.returns-in-Some-clause-rests
 returns-in-Some-clause-rests g c =
     let d = control_of c.advance.new.s in
     let t = scene_of (g.M.Memory.cells c.advance.new.m) c.advance.new.marks in
-    let e : Over (rest_at c.in-Some.halt d t) ≡ stage (step c.args.code.now.lines (control_of c.loop-halt.s) (g.M.Memory.cells c.loop-halt.m)) (control_of c.loop-halt.s) (scene_of (g.M.Memory.cells c.loop-halt.m) c.loop-halt.marks) =
+    let e : Over (rest_at c.in-Some.halt d t) ≡ stage (step c.args.code.now (control_of c.loop-halt.s) (g.M.Memory.cells c.loop-halt.m)) (control_of c.loop-halt.s) (scene_of (g.M.Memory.cells c.loop-halt.m) c.loop-halt.marks) =
     ap (λ o. stage_of o d t) (sym c.in-Some.is) ∙ c.in_ok-halt.ensures.goes in
-    c.loop-halt.invariant.rests (rest_at c.in-Some.halt d t) (last_step c.args.code.now.lines (control_of c.loop-halt.s) (scene_of (g.M.Memory.cells c.loop-halt.m) c.loop-halt.marks) (rest_at c.in-Some.halt d t) e)
+    c.loop-halt.invariant.rests (rest_at c.in-Some.halt d t) (last_step c.args.code.now (control_of c.loop-halt.s) (scene_of (g.M.Memory.cells c.loop-halt.m) c.loop-halt.marks) (rest_at c.in-Some.halt d t) e)
 
 pub loop-halt-smaller : goal.loop-halt-smaller
 loop-halt-smaller g c =
@@ -23,10 +23,10 @@ pub loop-halt-preserved : goal.loop-halt-preserved
 loop-halt-preserved g c =
     let d = control_of c.advance.new.s in
     let t = scene_of (g.M.Memory.cells c.advance.new.m) c.advance.new.marks in
-    let e : On d t ≡ stage (step c.args.code.now.lines (control_of c.loop-halt.s) (g.M.Memory.cells c.loop-halt.m)) (control_of c.loop-halt.s) (scene_of (g.M.Memory.cells c.loop-halt.m) c.loop-halt.marks) =
+    let e : On d t ≡ stage (step c.args.code.now (control_of c.loop-halt.s) (g.M.Memory.cells c.loop-halt.m)) (control_of c.loop-halt.s) (scene_of (g.M.Memory.cells c.loop-halt.m) c.loop-halt.marks) =
     ap (λ o. stage_of o d t) (sym c.in_default.is) ∙ c.in_ok-halt.ensures.goes in
     record {
-      rests = λ r h. c.loop-halt.invariant.rests r (one_step c.args.code.now.lines (control_of c.loop-halt.s) d (scene_of (g.M.Memory.cells c.loop-halt.m) c.loop-halt.marks) t r e h);
+      rests = λ r h. c.loop-halt.invariant.rests r (one_step c.args.code.now (control_of c.loop-halt.s) d (scene_of (g.M.Memory.cells c.loop-halt.m) c.loop-halt.marks) t r e h);
       fits = c.in_ok-halt.ensures.fits;
       later = omega (arith, c.loop-halt.invariant.later, c.advance.ensures.cause.later);
       follows = g.met.M.Memory.transitive _ _ _ c.loop-halt.invariant.follows c.advance.ensures.follows;

@@ -8,9 +8,9 @@ use Rattle.task_run.proofs.task_run.TaskRun.answer.Goals as goal
 
 pub returns-clause-goes_on : goal.returns-clause-goes_on
 returns-clause-goes_on g c first cells given left replies k =
-    let lines = c.args.c.now.lines in
+    let p = c.args.c.now in
     let now = g.M.Memory.cells c.args.m.now in
-    continues_answered lines first cells given left replies c.args.r c.self.inside.state.waiting (control_of c.self.inside.state) (control_of c.reply.new.s) now (g.M.Memory.cells c.reply.new._m) refl
+    continues_answered p first cells given left replies c.args.r c.self.inside.state.waiting (control_of c.self.inside.state) (control_of c.reply.new.s) now (g.M.Memory.cells c.reply.new._m) refl
     (subst (λ (d : Control). IsSome d.waits) (sym c.self.view_is) c.requires.asks)
     c.in_ok-reply.ensures.answered c.in_ok-reply.ensures.kept
-    (subst (λ (d : Control). Continues lines first cells given replies d now left) (sym c.self.view_is) k)
+    (subst (λ (d : Control). Continues p first cells given replies d now left) (sym c.self.view_is) k)

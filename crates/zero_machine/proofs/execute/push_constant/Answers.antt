@@ -1,0 +1,4 @@
+use Rattle.zero_machine.proofs.execute.push_constant.Goals as goal
+
+pub returns-in-Local : goal.returns-in-Local
+returns-in-Local c = rw c.in-Local.is c.local.ensures

@@ -1,0 +1,187 @@
+//! Calls, refinements, and how they are left.
+ghost use Rattle.std.specs.Prelude.{◌≡◌, ℕ, ◌+◌, ◌-◌, ◌^◌, min, ◌≤◌, ◌∷◌, ◌++◌, [], List, take, drop, length, reverse, true, false, Some, OnOk, IfOk};
+ghost use Rattle.eu_base.specs.Cells.{Cells, HasFaultCause};
+ghost use Rattle.code_form.specs.declared.instr.Instr.TheVariants as instrs;
+ghost use Rattle.code_form.specs.declared.operand.Operand.{Operand};
+ghost use Rattle.code_form.specs.Machine.{Move, enters, frame_numbers, call_move, refer_move, on_result, back_into, out_to, stage};
+ghost use Rattle.zero_machine.specs.Finds.{TopResult, IsCallable, IsInside, is_in_proc};
+ghost use Rattle.zero_machine.specs.Stacked.{linked};
+ghost use Rattle.zero_machine.specs.Running.{control_of, scene_of, stage_of, result_ops, IsReady, GoesOn, EntersSo};
+
+use crate::cells::{have_room, write_frame};
+use crate::stack::{Link, Stack};
+use crate::state::State;
+use code_form::{Entry, Halt, Layout, Operand};
+use eu_base::{Kind, MemFault, Memory, NoMemory, Stop, Value};
+
+/// CALL
+pub fn call<M: Memory>(
+    entry: &Entry,
+    s: &mut State,
+    m: &mut M,
+    marks: &mut u32,
+) -> Result<Option<Halt>, MemFault>
+    requires ready { IsReady s.old }
+    requires finds { IsCallable entry.now.layout s.old.stack.ops }
+    ensures goes { IfOk result (λ halt. stage_of halt (control_of s.new) (scene_of (M.cells m.new) marks.new)
+        ≡ stage (call_move (control_of s.old) (Some entry.now) (M.cells m.old)) (control_of s.old) (scene_of (M.cells m.old) marks.old)) }
+    ensures cause { HasFaultCause (M.faults m.old) (M.faults m.new) result }
+    ensures follows { M.follows m.old m.new }
+{
+    if *marks == 0 {
+        return Ok(Some(Halt::Marked));
+    }
+    *marks -= 1;
+    match &entry.layout {
+        Layout::Own {
+            parameters,
+            variables,
+        } => {
+            let base = s.used + 2;
+            enter(
+                s,
+                m,
+                entry.first,
+                base,
+                false,
+                parameters.len(),
+                variables.as_slice(),
+            )
+        }
+        _ => unreachable!(),
+    }
+}
+
+/// REFER
+pub fn refer<M: Memory>(
+    entry: &Entry,
+    s: &mut State,
+    m: &mut M,
+    marks: &mut u32,
+) -> Result<Option<Halt>, MemFault>
+    requires ready { IsReady s.old }
+    ensures goes { IfOk result (λ halt. stage_of halt (control_of s.new) (scene_of (M.cells m.new) marks.new)
+        ≡ stage (refer_move (control_of s.old) (Some entry.now) (M.cells m.old)) (control_of s.old) (scene_of (M.cells m.old) marks.old)) }
+    ensures cause { HasFaultCause (M.faults m.old) (M.faults m.new) result }
+    ensures follows { M.follows m.old m.new }
+{
+    if *marks == 0 {
+        return Ok(Some(Halt::Marked));
+    }
+    *marks -= 1;
+    let base = s.stack.base();
+    enter(s, m, entry.first, base, true, 0, &[])
+}
+
+// Goes to a body with a new frame, which takes the newest operands, where its cells have room.
+fn enter<M: Memory>(
+    s: &mut State,
+    m: &mut M,
+    first: usize,
+    base: usize,
+    refines: bool,
+    count: usize,
+    variables: &[Kind],
+) -> Result<Option<Halt>, MemFault>
+    requires ready { IsReady s.old }
+    requires many { count ≤ length s.old.stack.ops }
+    ensures goes { IfOk result (EntersSo (enters (control_of s.old) first base refines (drop count s.old.stack.ops) (frame_numbers (reverse (take count s.old.stack.ops)) variables.now) (M.cells m.old))
+        (control_of s.old) (M.cells m.old) (control_of s.new) (M.cells m.new)) }
+    ensures cause { HasFaultCause (M.faults m.old) (M.faults m.new) result }
+    ensures follows { M.follows m.old m.new }
+{
+    let more = frame_size(count, variables.len());
+    if !have_room(s.used, more) {
+        return Ok(Some(Halt::Stopped(Stop::CellRoom)));
+    }
+    write_frame(m, s.used, s.stack.top(count), variables)?;
+    let link = Link {
+        back: s.pc + 1,
+        base,
+        used: s.used,
+        refines,
+    };
+    s.stack.enter(s.alloc, link, count)?;
+    s.used += more;
+    s.pc = first;
+    Ok(None)
+}
+
+// The cells of a frame. More than can be counted have no room anyway.
+fn frame_size(parameters: usize, variables: usize) -> usize
+    ensures { result ≡ min (2 + parameters + variables) (2 ^ 64 - 1) }
+{
+    parameters.saturating_add(variables).saturating_add(2)
+}
+
+/// BACK
+pub fn back(s: &mut State, kind: Option<Kind>) -> Result<(), NoMemory>
+    requires ready { IsReady s.old }
+    requires result { TopResult kind s.old.stack.ops }
+    requires inside { IsInside s.old.stack.frames }
+    ensures { OnOk result ((cells : Cells) → GoesOn (instrs.Back kind) (control_of s.old) cells (control_of s.new) cells) }
+{
+    let result = take_result(&mut s.stack, kind);
+    let link = leave(&mut s.stack);
+    return_with(s, link, result)
+}
+
+/// OUT
+pub fn out(s: &mut State, kind: Option<Kind>) -> Result<(), NoMemory>
+    requires ready { IsReady s.old }
+    requires result { TopResult kind s.old.stack.ops }
+    requires inside { is_in_proc s.old.stack.frames ≡ true }
+    ensures { OnOk result ((cells : Cells) → GoesOn (instrs.Out kind) (control_of s.old) cells (control_of s.new) cells) }
+{
+    let result = take_result(&mut s.stack, kind);
+    let link = leave_proc(&mut s.stack);
+    return_with(s, link, result)
+}
+
+// Takes the result, where there is one.
+fn take_result(stack: &mut Stack, kind: Option<Kind>) -> Option<Value>
+    requires { TopResult kind stack.old.ops }
+    ensures taken { (go : List Operand → Move) → on_result kind stack.old.ops go ≡ go (result_ops result) }
+    ensures frames { stack.new.frames ≡ stack.old.frames }
+{
+    match kind {
+        Some(_) => Some(stack.pop_value()),
+        None => None,
+    }
+}
+
+// Leaves the innermost frame.
+fn leave(stack: &mut Stack) -> Link
+    requires { IsInside stack.old.frames }
+    ensures { stack.old.frames ≡ linked result stack.new.ops ∷ stack.new.frames }
+{
+    match stack.leave() {
+        Some(link) => link,
+        None => unreachable!(),
+    }
+}
+
+// Leaves the frames of refinements and that of their PROC.
+fn leave_proc(stack: &mut Stack) -> Link
+    requires { is_in_proc stack.old.frames ≡ true }
+    ensures { (ops : List Operand) (cells : Cells) → out_to ops stack.old.frames cells ≡ back_into ops (linked result stack.new.ops) stack.new.frames cells }
+{
+    loop {
+        let link = leave(stack);
+        if !link.refines {
+            return link;
+        }
+    }
+}
+
+// Goes on where a frame was made, with the result.
+fn return_with(s: &mut State, link: Link, value: Option<Value>) -> Result<(), NoMemory>
+    ensures { OnOk result (control_of s.new ≡ record (control_of s.old) { pc = link.back; ops = result_ops value ++ s.old.stack.ops; used = link.used }) }
+{
+    s.pc = link.back;
+    s.used = link.used;
+    if let Some(value) = value {
+        s.stack.push(Operand::Value(value))?;
+    }
+    Ok(())
+}
