@@ -7,6 +7,7 @@ mod execute;
 mod machine;
 mod operate;
 mod operations;
+#[cfg(test)]
 mod plain;
 mod state;
 mod step;
@@ -15,5 +16,4 @@ mod tests;
 
 pub use code_form::Halt;
 pub use machine::{laws, reply, run, start};
-pub use plain::PlainMemory;
 pub use state::State;

@@ -4,7 +4,8 @@ ghost use Rattle.code_form.specs.declared.instr.Call.TheVariants as calls;
 ghost use Rattle.code_form.specs.declared.instr.Instr.TheVariants as instrs;
 ghost use Rattle.code_form.specs.Program.{line_of};
 
-use crate::{PlainMemory, reply, run, start};
+use crate::plain::PlainMemory;
+use crate::{reply, run, start};
 use code_form::{Call, Code, Halt, Instr, Line};
 use eu_base::{List, NoMemory, Reply, Request};
 use std::alloc::Global;
