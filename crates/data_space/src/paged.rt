@@ -2,6 +2,7 @@
 ghost use Rattle.std.specs.Prelude.{◌≡◌, ◌+◌, ◌*◌, ◌<◌, ◌≤◌, ℕ, List, ◌∷◌, Option, length, OnOk};
 ghost use Rattle.eu_base.specs.Spaces.{IsRead, IsPasted};
 ghost use Rattle.page_pool.specs.Pool.{used_of};
+ghost use Rattle.page_table.specs.Changes.{ChangesAtMost};
 ghost use Rattle.page_table.specs.Sharing.{Agree, IsAmong};
 ghost use Rattle.data_space.specs.Spaces.{content_at, pages_met, OthersKeep};
 
@@ -58,6 +59,7 @@ fn write_page(
         IsPasted (content_at pool.old table.old) (content_at pool.new table.new) (512 * k + at) from.now) }
     ensures kept { (roots : List (Option ℕ)) → Agree pool.old (table.old ∷ roots) →
         OthersKeep pool.old pool.new table.new roots }
+    ensures changes { ChangesAtMost 3 pool.old pool.new }
     ensures used { used_of pool.new ≤ used_of pool.old + 3 }
 {
     let p = table.own(pool, k)?;
@@ -78,6 +80,7 @@ pub(crate) fn write(
         IsPasted (content_at pool.old table.old) (content_at pool.new table.new) at from.now) }
     ensures kept { (roots : List (Option ℕ)) → Agree pool.old (table.old ∷ roots) →
         OthersKeep pool.old pool.new table.new roots }
+    ensures changes { ChangesAtMost (3 * pages_met at (length from.now)) pool.old pool.new }
     ensures used { used_of pool.new ≤ used_of pool.old + 3 * pages_met at (length from.now) }
 {
     let mut done = 0;

@@ -3,6 +3,7 @@ ghost use Rattle.std.specs.Prelude.{◌≡◌, ◌≢◌, ◌+◌, ◌*◌, ◌�
 ghost use Rattle.eu_base.specs.Spaces.{IsRead, IsPasted};
 ghost use Rattle.eu_base.specs.declared.cells.MemFault.TheVariants.{Failed};
 ghost use Rattle.page_pool.specs.Pool.{used_of};
+ghost use Rattle.page_table.specs.Changes.{ChangesOnly, ChangesAtMost};
 ghost use Rattle.page_table.specs.Sharing.{Agree, IsAmong, SharesRoot};
 ghost use Rattle.data_space.specs.Spaces.{content_at, pages_met, OthersKeep, LosesSpace};
 
@@ -97,6 +98,7 @@ impl DataSpace {
         ensures same { IfOk result (λ copy. copy ≡ self.now) }
         ensures shared { OnOk result ((roots : List (Option ℕ)) → Agree pool.old (self.now.root ∷ roots) →
             length roots + 2 ≤ 2000 → SharesRoot pool.old pool.new self.now.root roots) }
+        ensures changes { ChangesOnly pool.old pool.new [] }
         ensures used { used_of pool.new ≤ used_of pool.old + 1 }
         ensures err { OnErr result (pool.new ≡ pool.old) }
     {
@@ -136,7 +138,7 @@ impl DataSpace {
     }
 
     /// Puts bytes over those from a place on. After a refusal some of them may be written. No byte of another space
-    /// changes, and at most three pages are made for each page of the range.
+    /// changes, and at most three pages are made or written for each page of the range.
     pub fn write(&mut self, pool: &mut Pool, at: u32, from: &[u8]) -> Result<(), MemFault>
         requires within { at + length from.now ≤ SPACE_BYTES }
         requires agree { IsAmong pool.old self.old.root 0 }
@@ -146,6 +148,7 @@ impl DataSpace {
             OthersKeep pool.old pool.new self.new.root roots }
         ensures kind { self.new.kind ≡ self.old.kind }
         ensures shape { self.new.shape ≡ self.old.shape }
+        ensures changes { ChangesAtMost (3 * pages_met at (length from.now)) pool.old pool.new }
         ensures used { used_of pool.new ≤ used_of pool.old + 3 * pages_met at (length from.now) }
         ensures cause { result ≢ Err Failed }
     {

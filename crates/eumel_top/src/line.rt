@@ -10,8 +10,9 @@ use crate::status::Status;
 use crate::stream::{Line, read_line};
 use edge::{Sink, Source, put_all};
 use eu_base::{Bytes, MemFault, NoMemory};
+use page_pool::Pool;
+use space_memory::SpaceMemory;
 use std::alloc::Global;
-use zero_machine::PlainMemory;
 
 /// Runs the line at the front of the input.
 pub(crate) fn run_line<S: Source, K: Sink>(alloc: Global, source: &mut S, sink: &mut K) -> Status
@@ -46,11 +47,13 @@ fn respond(alloc: Global, text: &[u8]) -> Result<Bytes, NoMemory>
 {
     match meaning(alloc, text) {
         Ok(core) => {
-            let mut memory = PlainMemory::new(alloc);
-            match shown(alloc, &core, &mut memory) {
+            let mut pool = Pool::new(alloc);
+            let mut memory = SpaceMemory::new();
+            let mut lent = memory.over(&mut pool);
+            match shown(alloc, &core, &mut lent) {
                 Ok(out) => Ok(out),
                 Err(MemFault::NoMemory) => Err(NoMemory),
-                // Such a memory has no faults.
+                // Pages in memory have no faults.
                 Err(MemFault::Failed) => unreachable!(),
             }
         }

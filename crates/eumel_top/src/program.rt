@@ -8,7 +8,6 @@ ghost use Rattle.code_gen.specs.Correct.{Behaves};
 ghost use Rattle.elan_types.specs.declared.core_phrase.Core.{Core};
 ghost use Rattle.elan_types.specs.Command.{blank_store};
 ghost use Rattle.elan_types.specs.Typing.{IsWellTyped};
-ghost use Rattle.zero_machine.specs.Running.{control_of};
 ghost use Rattle.eumel_top.specs.Program.{Shows};
 
 use crate::screen::Screen;
@@ -17,7 +16,7 @@ use code_gen::generate;
 use elan_types::Core;
 use eu_base::{Bytes, MemFault, Memory, Reply, Stop};
 use std::alloc::Global;
-use zero_machine::{State, reply, run, start};
+use task_run::TaskRun;
 
 /// How many marks a line may spend.
 const MARKS: u32 = 100_000;
@@ -33,32 +32,32 @@ pub(crate) fn shown<M: Memory>(
     ensures cause { HasFaultCause (M.faults memory.old) (M.faults memory.new) result }
 {
     let code = generate(alloc, core)?;
-    let mut state = start(alloc, &code, memory)?;
-    serve(alloc, &code, &mut state, memory)
+    let mut command = TaskRun::start(alloc, &code, memory)?;
+    serve(alloc, &code, &mut command, memory)
 }
 
-/// Runs a program from its start, and puts on the screen what it asks for.
+/// Runs a command from its start, and puts on the screen what it asks for.
 fn serve<M: Memory>(
     alloc: Global,
     code: &Code,
-    state: &mut State,
+    command: &mut TaskRun,
     memory: &mut M,
 ) -> Result<Bytes, MemFault>
-    requires starts { control_of state.old ≡ start (length code.now.variables) }
-    requires fits { Fits code.now (control_of state.old) }
+    requires starts { command.old ≡ start (length code.now.variables) }
+    requires fits { Fits code.now command.old }
     ensures shows { (core : Core) → Behaves core code.now → HasVariables code.now.variables (blank_store core) (M.cells memory.old) → IfOk result (Shows core) }
     ensures cause { HasFaultCause (M.faults memory.old) (M.faults memory.new) result }
 {
     let mut marks = MARKS;
     let mut screen = Screen::new(alloc);
     loop {
-        match run(code, state, memory, &mut marks)? {
+        match command.go(code, memory, &mut marks)? {
             Halt::Ended => return Ok(screen.finish(alloc, None)?),
             Halt::Stopped(stop) => return Ok(screen.finish(alloc, Some(stop))?),
             Halt::Marked => return Ok(screen.finish(alloc, Some(Stop::LineMarks))?),
             Halt::Asks(request) => {
                 screen.show(alloc, &request)?;
-                reply(code, state, memory, Reply::Done)?;
+                command.answer(code, memory, Reply::Done)?;
             }
         }
     }

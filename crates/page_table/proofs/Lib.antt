@@ -1,3 +1,4 @@
+pub mod Changing
 mod Counting
 mod Few
 mod Frees

@@ -1,5 +1,5 @@
 -- What follows where pool and some spaces agree.
-use Rattle.std.proofs.Common.{◌≡◌, ◌≤◌, ℕ, Some, IsSome, sym}
+use Rattle.std.proofs.Common.{◌≡◌, ◌≤◌, ℕ, Option, Some, IsSome, sym}
 use Rattle.std.proofs.Math.Logic.{∥∥₁_elim}
 use Rattle.std.proofs.Props.{props}
 use Rattle.page_pool.specs.declared.page.Page.{Page}
@@ -12,6 +12,9 @@ at_least m n some f = ∥∥₁_elim some (search props) f
 
 pub equal : {A : Type 0} (m n : ℕ) → ∥ A ∥₁ → (A → m ≡ n) → m ≡ n
 equal m n some f = ∥∥₁_elim some (search props) f
+
+pub names : {A : Type 0} (a b : Option ℕ) → ∥ A ∥₁ → (A → a ≡ b) → a ≡ b
+names a b some f = ∥∥₁_elim some (search props) f
 
 pub lives : {A : Type 0} (pages : Pages) (p : ℕ) → ∥ A ∥₁ → (A → 1 ≤ count_of pages p) → IsSome (page_at pages p)
 lives pages p some f = alive (page_at pages p) (at_least 1 (count_of pages p) some f)

@@ -2,6 +2,7 @@
 use Rattle.std.specs.Prelude.{◌≡◌, ◌≢◌, ◌+◌, ◌/◌, ◌%◌, ◌≤◌, ◌<◌, ℕ, List, ◌∷◌, length, take, Option, Some, None, slice_set}
 use Rattle.page_pool.specs.Pool.{Pages, page_at, fresh_page, pasted}
 use Rattle.page_table.specs.Entries.{count_of, bytes_of, kids_of}
+use Rattle.page_table.specs.Changes.{standing}
 use Rattle.page_table.specs.Sharing.{one, hit, occ, Agree, child, content_of, page_of_space}
 
 -- a fresh page with these bytes
@@ -37,6 +38,7 @@ IsNode pages (Some p) = (1 ≤ count_of pages p) × NamesLive pages p
 -- what the first entries of a page name has one name more for each of them, and else nothing changed
 pub record SharesEntries (old new : Pages) (q k : ℕ) : Type 0 where
   pub bytes : (x : ℕ) → bytes_of new x ≡ bytes_of old x
+  pub stands : (x : ℕ) → standing (page_at new x) ≡ standing (page_at old x)
   pub counts : (x : ℕ) → count_of new x ≡ count_of old x + occ x (take k (kids_of old q))
 
 -- how often the entries of a page, or none, name x

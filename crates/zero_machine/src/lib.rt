@@ -8,6 +8,7 @@ mod execute;
 mod machine;
 mod operate;
 mod operations;
+#[cfg(test)]
 mod plain;
 mod stack;
 mod state;
@@ -17,6 +18,5 @@ mod tests;
 
 pub use code_form::Halt;
 pub use machine::{laws, reply, run, start};
-pub use plain::PlainMemory;
 pub use stack::Stack;
 pub use state::State;

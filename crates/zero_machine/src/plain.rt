@@ -1,4 +1,4 @@
-//! Cells in memory.
+//! Cells in memory, for tests.
 ghost use Rattle.std.specs.Prelude.{unwrap_or};
 ghost use Rattle.std.specs.Ordering.{nat_cmp};
 ghost use Rattle.std.specs.BTreeMap.{get};

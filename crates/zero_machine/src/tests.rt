@@ -3,7 +3,8 @@ ghost use Rattle.std.specs.Prelude.{◌≡◌, ◌∷◌, ◌++◌, [], IfOk, On
 ghost use Rattle.code_form.specs.declared.code.Layout.TheVariants as layouts;
 ghost use Rattle.code_form.specs.Program.{line_of};
 
-use crate::{PlainMemory, reply, run, start};
+use crate::plain::PlainMemory;
+use crate::{reply, run, start};
 use code_form::{Call, Code, Entry, Halt, Instr, Layout, Line, OperandKind, Spot};
 use eu_base::{Kind, List, MemFault, NoMemory, Operation, Reply, Request, Stop};
 use std::alloc::Global;

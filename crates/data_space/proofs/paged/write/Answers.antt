@@ -1,5 +1,6 @@
 use Rattle.std.proofs.Common.{◌≡◌, ◌+◌, length, take, arith, length-take}
 use Rattle.std.proofs.Math.Logic.{∥∥₁_map}
+use Rattle.data_space.proofs.Changed.{at_most_then}
 use Rattle.data_space.proofs.Pasting.{then_pasted, next_chunk}
 use Rattle.data_space.proofs.Written.{others_both}
 use Rattle.data_space.proofs.paged.write.Goals as goal
@@ -11,6 +12,7 @@ pub loop-done-preserved : goal.loop-done-preserved
 loop-done-preserved c =
     let least = c.min-len.ensures in
     let front : length (take c.loop-done.done c.args.from.now) ≡ c.loop-done.done = simp length-take (omega (arith, c.loop-done.invariant.within)) in
+    let changed = c.loop-done.invariant.changed_page c.loop-done-test.true in
     let page = c.loop-done.invariant.page c.loop-done-test.true in
     record {
       within = omega (arith, least, c.loop-done-test.true);
@@ -22,6 +24,12 @@ loop-done-preserved c =
       kept = λ roots a.
           let kept = c.loop-done.invariant.kept roots a in
           others_both _ _ _ _ _ roots kept (c.in_ok-write_page.ensures.kept roots kept.agrees);
+      changes = at_most_then _ _ _ _ 3 _ changed c.in_ok-write_page.ensures.changes (omega (arith, least, c.loop-done-test.true));
+      changed_page = λ more. at_most_then _ _ _ _ 3 _ changed c.in_ok-write_page.ensures.changes (omega (arith, least, more));
       used = omega (arith, least, page, c.in_ok-write_page.ensures.used, c.loop-done-test.true);
       page = λ more. omega (arith, least, page, c.in_ok-write_page.ensures.used, more);
     }
+
+pub returns-in_err-write_page-clause-changes : goal.returns-in_err-write_page-clause-changes
+returns-in_err-write_page-clause-changes c =
+    at_most_then _ _ _ _ 3 _ (c.loop-done.invariant.changed_page c.loop-done-test.true) c.write_page.ensures.changes (omega (arith, c.loop-done-test.true))

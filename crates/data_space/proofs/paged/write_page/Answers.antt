@@ -1,9 +1,10 @@
 use Rattle.std.proofs.Common.{◌≡◌, ◌∙◌, sym, ap, arith}
 use Rattle.page_pool.specs.Pool.{page_at}
 use Rattle.page_table.specs.Entries.{count_of, counted}
-use Rattle.page_table.proofs.Merely.{lives, equal}
+use Rattle.page_table.proofs.Merely.{lives, equal, names}
 use Rattle.page_table.proofs.Replaced.{has_page}
 use Rattle.data_space.proofs.Written.{others_keep, page_pasted, page_others}
+use Rattle.data_space.proofs.Changed.{at_most_path, named_taken, path_written}
 use Rattle.data_space.proofs.paged.write_page.Goals as goal
 
 pub returns-in_err-p-clause-kept : goal.returns-in_err-p-clause-kept
@@ -28,3 +29,13 @@ returns-clause-kept c = λ roots a.
     let single : count_of c.own.new.pool c.in_ok-p.p ≡ 1 = takes.own.own in
     let live = has_page (page_at c.own.new.pool c.in_ok-p.p) (omega (arith, single)) in
     page_others c.args.pool.now c.own.new.pool c.write_own.new.self _ _ c.args.k c.in_ok-p.p c.args.at c.args.from.now roots takes live.0 live.1 (c.write_own.ensures.page live.0 live.1) c.write_own.ensures.sound c.requires.within
+
+pub returns-in_err-p-clause-changes : goal.returns-in_err-p-clause-changes
+returns-in_err-p-clause-changes c = at_most_path _ _ _ _ c.args.k c.in_err-p.ensures.changes
+
+pub returns-clause-changes : goal.returns-clause-changes
+returns-clause-changes c =
+    let single : count_of c.own.new.pool c.in_ok-p.p ≡ 1 = equal _ _ c.requires.agree (λ t. (c.in_ok-p.ensures.own t.0 t.1).own.own) in
+    let live = has_page (page_at c.own.new.pool c.in_ok-p.p) (omega (arith, single)) in
+    let named = names _ _ c.requires.agree (λ t. named_taken _ _ _ _ c.args.k c.in_ok-p.p t.0 (c.in_ok-p.ensures.own t.0 t.1)) in
+    at_most_path _ _ _ _ c.args.k (path_written _ _ _ _ c.args.k c.in_ok-p.p _ c.in_ok-p.ensures.changes named (c.write_own.ensures.page live.0 live.1))

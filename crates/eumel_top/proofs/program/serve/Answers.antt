@@ -1,12 +1,11 @@
 use Rattle.std.proofs.Common.{◌≡◌, ap, arith}
 use Rattle.code_form.specs.Machine.{Control}
-use Rattle.zero_machine.specs.Running.{control_of}
 use Rattle.eumel_top.proofs.Serving.{served_first, served_ended, served_stopped, served_marked, has_asked, has_paid, is_free, served_on}
 use Rattle.eumel_top.proofs.program.serve.Goals as goal
 
 pub loop-screen-init : goal.loop-screen-init
 loop-screen-init g c = record {
-  served = rw c.new-screen.ensures (served_first c.args.code.now (g.M.Memory.cells c.args.memory.now) (control_of c.args.state.now) c.requires.starts);
+  served = rw c.new-screen.ensures (served_first c.args.code.now (g.M.Memory.cells c.args.memory.now) c.args.command.now c.requires.starts);
   free = ap (λ (d : Control). d.waits) c.requires.starts;
   fits = c.requires.fits;
   later = omega arith;
@@ -14,47 +13,47 @@ loop-screen-init g c = record {
 
 pub returns-in-Ended-clause-shows : goal.returns-in-Ended-clause-shows
 returns-in-Ended-clause-shows g c =
-    served_ended c.args.code.now (g.M.Memory.cells c.args.memory.now) (control_of c.loop-screen.state) (g.M.Memory.cells c.loop-screen.memory) c.loop-screen.marks c.loop-screen.screen c.loop-screen.invariant.served
-    c.in_ok-run.field-0 (control_of c.run.new.s) (g.M.Memory.cells c.run.new.m) c.run.new.marks c.in_ok-run.ensures.rests
+    served_ended c.args.code.now (g.M.Memory.cells c.args.memory.now) c.loop-screen.command (g.M.Memory.cells c.loop-screen.memory) c.loop-screen.marks c.loop-screen.screen c.loop-screen.invariant.served
+    c.in_ok-go.field-0 c.go.new.self (g.M.Memory.cells c.go.new.m) c.go.new.marks c.in_ok-go.ensures.rests
     c.in-Ended.is c.in_ok-finish-in-Ended.field-0 c.in_ok-finish-in-Ended.ensures
 
 pub returns-in-Stopped-clause-shows : goal.returns-in-Stopped-clause-shows
 returns-in-Stopped-clause-shows g c =
-    served_stopped c.args.code.now (g.M.Memory.cells c.args.memory.now) (control_of c.loop-screen.state) (g.M.Memory.cells c.loop-screen.memory) c.loop-screen.marks c.loop-screen.screen c.loop-screen.invariant.served
-    c.in_ok-run.field-0 (control_of c.run.new.s) (g.M.Memory.cells c.run.new.m) c.run.new.marks c.in_ok-run.ensures.rests
+    served_stopped c.args.code.now (g.M.Memory.cells c.args.memory.now) c.loop-screen.command (g.M.Memory.cells c.loop-screen.memory) c.loop-screen.marks c.loop-screen.screen c.loop-screen.invariant.served
+    c.in_ok-go.field-0 c.go.new.self (g.M.Memory.cells c.go.new.m) c.go.new.marks c.in_ok-go.ensures.rests
     c.in-Stopped.stop c.in-Stopped.is c.in_ok-finish-in-Stopped.field-0 c.in_ok-finish-in-Stopped.ensures
 
 pub returns-in-Marked-clause-shows : goal.returns-in-Marked-clause-shows
 returns-in-Marked-clause-shows g c =
-    served_marked c.args.code.now (g.M.Memory.cells c.args.memory.now) (control_of c.loop-screen.state) (g.M.Memory.cells c.loop-screen.memory) c.loop-screen.marks c.loop-screen.screen c.loop-screen.invariant.served
-    c.in_ok-run.field-0 (control_of c.run.new.s) (g.M.Memory.cells c.run.new.m) c.run.new.marks c.in_ok-run.ensures.rests
+    served_marked c.args.code.now (g.M.Memory.cells c.args.memory.now) c.loop-screen.command (g.M.Memory.cells c.loop-screen.memory) c.loop-screen.marks c.loop-screen.screen c.loop-screen.invariant.served
+    c.in_ok-go.field-0 c.go.new.self (g.M.Memory.cells c.go.new.m) c.go.new.marks c.in_ok-go.ensures.rests
     c.in-Marked.is c.in_ok-finish-in-Marked.field-0 c.in_ok-finish-in-Marked.ensures
 
-pub reply-requires-clause-asks : goal.reply-requires-clause-asks
-reply-requires-clause-asks g c =
-    has_asked c.args.code.now (g.M.Memory.cells c.args.memory.now) (control_of c.loop-screen.state) (g.M.Memory.cells c.loop-screen.memory) c.loop-screen.marks c.loop-screen.screen c.loop-screen.invariant.served
-    c.in_ok-run.field-0 (control_of c.run.new.s) (g.M.Memory.cells c.run.new.m) c.run.new.marks c.in_ok-run.ensures.rests
+pub answer-requires-clause-asks : goal.answer-requires-clause-asks
+answer-requires-clause-asks g c =
+    has_asked c.args.code.now (g.M.Memory.cells c.args.memory.now) c.loop-screen.command (g.M.Memory.cells c.loop-screen.memory) c.loop-screen.marks c.loop-screen.screen c.loop-screen.invariant.served
+    c.in_ok-go.field-0 c.go.new.self (g.M.Memory.cells c.go.new.m) c.go.new.marks c.in_ok-go.ensures.rests
     c.in-Asks.request c.in-Asks.is
 
 pub loop-screen-smaller : goal.loop-screen-smaller
 loop-screen-smaller g c =
-    has_paid c.args.code.now (g.M.Memory.cells c.args.memory.now) (control_of c.loop-screen.state) (g.M.Memory.cells c.loop-screen.memory) c.loop-screen.marks c.loop-screen.screen c.loop-screen.invariant.served
-    c.in_ok-run.field-0 (control_of c.run.new.s) (g.M.Memory.cells c.run.new.m) c.run.new.marks c.in_ok-run.ensures.rests
+    has_paid c.args.code.now (g.M.Memory.cells c.args.memory.now) c.loop-screen.command (g.M.Memory.cells c.loop-screen.memory) c.loop-screen.marks c.loop-screen.screen c.loop-screen.invariant.served
+    c.in_ok-go.field-0 c.go.new.self (g.M.Memory.cells c.go.new.m) c.go.new.marks c.in_ok-go.ensures.rests
     c.in-Asks.request c.in-Asks.is c.loop-screen.invariant.free
 
 pub loop-screen-preserved : goal.loop-screen-preserved
 loop-screen-preserved g c =
-    let kept : g.M.Memory.cells c.reply.new._m ≡ g.M.Memory.cells c.run.new.m = c.in_ok-reply-in-Asks.ensures.kept in
+    let kept : g.M.Memory.cells c.answer.new.m ≡ g.M.Memory.cells c.go.new.m = c.in_ok-answer-in-Asks.ensures.kept in
     record {
       served =
-          served_on c.args.code.now (g.M.Memory.cells c.args.memory.now) (control_of c.loop-screen.state) (g.M.Memory.cells c.loop-screen.memory) c.loop-screen.marks c.loop-screen.screen c.loop-screen.invariant.served
-          c.in_ok-run.field-0 (control_of c.run.new.s) (g.M.Memory.cells c.run.new.m) c.run.new.marks c.in_ok-run.ensures.rests
-          c.in-Asks.request c.show.new.self (control_of c.reply.new.s) (g.M.Memory.cells c.reply.new._m)
-          c.in-Asks.is c.in_ok-show-in-Asks.ensures c.in_ok-reply-in-Asks.ensures.answered kept;
+          served_on c.args.code.now (g.M.Memory.cells c.args.memory.now) c.loop-screen.command (g.M.Memory.cells c.loop-screen.memory) c.loop-screen.marks c.loop-screen.screen c.loop-screen.invariant.served
+          c.in_ok-go.field-0 c.go.new.self (g.M.Memory.cells c.go.new.m) c.go.new.marks c.in_ok-go.ensures.rests
+          c.in-Asks.request c.show.new.self c.answer.new.self (g.M.Memory.cells c.answer.new.m)
+          c.in-Asks.is c.in_ok-show-in-Asks.ensures c.in_ok-answer-in-Asks.ensures.answered kept;
       free =
-          is_free c.args.code.now (g.M.Memory.cells c.args.memory.now) (control_of c.loop-screen.state) (g.M.Memory.cells c.loop-screen.memory) c.loop-screen.marks c.loop-screen.screen c.loop-screen.invariant.served
-          c.in_ok-run.field-0 (control_of c.run.new.s) (g.M.Memory.cells c.run.new.m) c.run.new.marks c.in_ok-run.ensures.rests
-          c.in-Asks.request (control_of c.reply.new.s) c.in-Asks.is c.in_ok-reply-in-Asks.ensures.answered;
-      fits = c.in_ok-reply-in-Asks.ensures.fits;
-      later = omega (arith, c.loop-screen.invariant.later, c.run.ensures.cause.later, c.reply.ensures.cause.later);
+          is_free c.args.code.now (g.M.Memory.cells c.args.memory.now) c.loop-screen.command (g.M.Memory.cells c.loop-screen.memory) c.loop-screen.marks c.loop-screen.screen c.loop-screen.invariant.served
+          c.in_ok-go.field-0 c.go.new.self (g.M.Memory.cells c.go.new.m) c.go.new.marks c.in_ok-go.ensures.rests
+          c.in-Asks.request c.answer.new.self c.in-Asks.is c.in_ok-answer-in-Asks.ensures.answered;
+      fits = c.in_ok-answer-in-Asks.ensures.fits;
+      later = omega (arith, c.loop-screen.invariant.later, c.go.ensures.cause.later, c.answer.ensures.cause.later);
     }

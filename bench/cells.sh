@@ -1,0 +1,120 @@
+#!/usr/bin/env bash
+# What a read and a write of a cell cost over pages, through all layers, and in a plain map of cells: instructions of one call, as
+# callgrind counts them, and their ratio. 1,000 cells are in use. No test, and no part of the gate.
+# It proves and builds a small program in a folder of its own, over copies of the crates of pages.
+set -euo pipefail
+top="$(cd "$(dirname "${BASH_SOURCE[0]}")/.." && pwd)"
+work="$(mktemp -d)"
+trap 'rm -rf "$work"' EXIT
+crates="eu_base page_pool page_table data_space cell_layout space_memory"
+
+mkdir -p "$work/crates/cells/src" "$work/crates/cells/proofs/run"
+for crate in $crates; do
+    cp -r "$top/crates/$crate" "$work/crates/"
+    grep "^$crate:" "$top/crates.txt" >>"$work/crates.txt"
+done
+echo "cells: space_memory page_table page_pool eu_base" >>"$work/crates.txt"
+cp "$top/HANDLES" "$work/"
+cp "$top/crates/zero_machine/src/plain.rt" "$work/crates/cells/src/"
+cp "$top/crates/eumel_top/proofs/Paging.antt" "$work/crates/cells/proofs/"
+echo "pub mod Paging" >"$work/crates/cells/proofs/Lib.antt"
+
+cat >"$work/crates/cells/proofs/run/Answers.antt" <<'END'
+use Rattle.cells.proofs.Paging.{none_among}
+use Rattle.cells.proofs.run.Goals as goal
+
+pub over-lent-requires : goal.over-lent-requires
+over-lent-requires c = rw (c.new-pool.ensures, c.new-memory.ensures) (record { agree = none_among })
+END
+
+cat >"$work/crates/cells/src/main.rt" <<'END'
+//! Cells that are written, and read or written again.
+#![tactic(auto)]
+
+mod plain;
+
+use crate::plain::PlainMemory;
+use eu_base::{Addr, Area, MemFault, Memory};
+use page_pool::Pool;
+use space_memory::SpaceMemory;
+use std::env;
+use std::process::ExitCode;
+
+fn at(turn: u32) -> Addr
+    ensures { result.cell < 16384 }
+{
+    Addr {
+        area: Area::Run,
+        cell: (turn % 1_000) as u16,
+    }
+}
+
+fn write<M: Memory>(memory: &mut M, turns: u32) -> Result<(), MemFault> {
+    for turn in 0..turns {
+        memory.set_cell(at(turn), u64::from(turn))?;
+    }
+    Ok(())
+}
+
+fn read<M: Memory>(memory: &mut M, turns: u32) -> Result<u64, MemFault> {
+    let mut sum = 0;
+    for turn in 0..turns {
+        sum ^= memory.cell(at(turn))?;
+    }
+    Ok(sum)
+}
+
+// Fills the cells, and then writes or reads them so often.
+fn exercise<M: Memory>(memory: &mut M, writes: bool, turns: u32) -> Result<u64, MemFault> {
+    write(memory, 1_000)?;
+    if writes {
+        write(memory, turns)?;
+        return Ok(0);
+    }
+    let sum = read(memory, turns)?;
+    Ok(sum)
+}
+
+// The words: `pages` or `plain`, `read` or `write`, and a third one for 100,000 calls more.
+fn run(rt: &HostRuntime) -> Option<u64> {
+    let mut words = Vec::new(rt.alloc());
+    for word in env::args(rt).ok()?.skip(1) {
+        words.push(word).ok()?;
+    }
+    let turns = if words.len() > 2 { 110_000 } else { 10_000 };
+    let writes = words.get(1)?.as_str() == "write";
+    if words.get(0)?.as_str() == "plain" {
+        let mut plain = PlainMemory::new(rt.alloc());
+        return exercise(&mut plain, writes, turns).ok();
+    }
+    let mut pool = Pool::new(rt.alloc());
+    let mut memory = SpaceMemory::new();
+    let mut lent = memory.over(&mut pool);
+    exercise(&mut lent, writes, turns).ok()
+}
+
+fn main(rt: HostRuntime) -> ExitCode {
+    match run(&rt) {
+        Some(sum) => ExitCode::from((sum % 2) as u8),
+        None => ExitCode::from(9),
+    }
+}
+END
+
+(cd "$work/crates/cells" && rt run -- plain write) >"$work/log" 2>&1 || {
+    cat "$work/log" >&2
+    exit 1
+}
+
+# instructions that the program executes with these words
+instructions() {
+    valgrind --tool=callgrind --callgrind-out-file=/dev/null "$work/crates/cells/out/cells" "$@" 2>&1 >/dev/null |
+        sed -n 's/.*Collected : \([0-9]*\).*/\1/p'
+}
+
+for call in read write; do
+    pages=$((($(instructions pages $call more) - $(instructions pages $call)) / 100000))
+    plain=$((($(instructions plain $call more) - $(instructions plain $call)) / 100000))
+    printf '%s: %s instructions over pages, %s in a plain map, ratio %s\n' \
+        "$call" "$pages" "$plain" "$(echo "scale=1; $pages / $plain" | bc -l)"
+done
