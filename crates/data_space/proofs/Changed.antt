@@ -29,28 +29,38 @@ paths_same old new mine later first (suc n) keep =
     ∙ ap (λ (es : List (Option ℕ)). paths_to old mine first n ++ es) (keep (first + n) (omega arith) (omega arith)).same
 
 paths_more : (pages : Pages) (root : Option ℕ) (first n more p : ℕ) → occ p (paths_to pages root first n) ≤ occ p (paths_to pages root first (n + more))
-paths_more pages root first n zero p = omega (arith, ap (λ (m : ℕ). occ p (paths_to pages root first m)) (omega arith : n + 0 ≡ n))
+paths_more pages root first n zero p =
+    let same : n + 0 ≡ n = omega arith in
+    let none : occ p (paths_to pages root first (n + 0)) ≡ occ p (paths_to pages root first n) = ap (λ (m : ℕ). occ p (paths_to pages root first m)) same in
+    omega (arith, none)
 paths_more pages root first n (suc more) p =
-    let next : occ p (paths_to pages root first (n + suc more)) ≡ occ p (paths_to pages root first (suc (n + more))) = ap (λ (m : ℕ). occ p (paths_to pages root first m)) (omega arith) in
+    let is : n + suc more ≡ suc (n + more) = omega arith in
+    let next : occ p (paths_to pages root first (n + suc more)) ≡ occ p (paths_to pages root first (suc (n + more))) = ap (λ (m : ℕ). occ p (paths_to pages root first m)) is in
     omega (arith, next, paths_more pages root first n more p, occ-append p (paths_to pages root first (n + more)) (path_to pages root (first + (n + more))))
 
-pub paths_among : (old new : Pages) (root : Option ℕ) (first n l : ℕ) → n ≤ l → ChangesOnly old new (paths_to new root first n) → ChangesOnly old new (paths_to new root first l)
+paths_among : (old new : Pages) (root : Option ℕ) (first n l : ℕ) → n ≤ l → ChangesOnly old new (paths_to new root first n) → ChangesOnly old new (paths_to new root first l)
 paths_among old new root first n l room only =
     let whole : n + (l - n) ≡ l = omega (arith, room) in
     subst (λ (m : ℕ). ChangesOnly old new (paths_to new root first m)) whole (changes_among old new _ _ (paths_more new root first n (l - n)) only)
 
 -- one path more
-pub path_then : (p0 p1 p2 : Pages) (mine later : Option ℕ) (first n k : ℕ) → ChangesOnly p0 p1 (paths_to p1 mine first n) → k ≡ first + n
+pub path_then : (p0 p1 p2 : Pages) (mine later : Option ℕ) (first k l : ℕ) → ChangesOnly p0 p1 (paths_to p1 mine first (k - first))
     → ((j : ℕ) → first ≤ j → j < k → OwnsPath p1 mine j) → ((j : ℕ) → OwnsPath p1 mine j → KeepsPath p1 p2 mine later j)
-    → ChangesOnly p1 p2 (path_to p2 later k) → ChangesOnly p0 p2 (paths_to p2 later first (suc n))
-path_then p0 p1 p2 mine later first n k before is owned keep now = record {
-  others = λ p out.
-      let parts = occ-append p (paths_to p2 later first n) (path_to p2 later (first + n)) in
-      let same = paths_same p1 p2 mine later first n (λ j from low. keep j (owned j from (omega (arith, low, is)))) in
-      let front : occ p (paths_to p2 later first n) ≡ occ p (paths_to p1 mine first n) = ap (occ p) same in
-      let next : occ p (path_to p2 later k) ≡ occ p (path_to p2 later (first + n)) = ap (λ (m : ℕ). occ p (path_to p2 later m)) is in
-      now.others p (omega (arith, parts, out, next)) ∙ before.others p (omega (arith, parts, out, front));
-}
+    → ChangesOnly p1 p2 (path_to p2 later k) → first ≤ k → k < first + l → ChangesOnly p0 p2 (paths_to p2 later first l)
+path_then p0 p1 p2 mine later first k l before owned keep now from low = paths_among p0 p2 later first (suc (k - first)) l (omega (arith, from, low)) both
+  where
+    is : k ≡ first + (k - first)
+    is = omega (arith, from)
+
+    both : ChangesOnly p0 p2 (paths_to p2 later first (suc (k - first)))
+    both = record {
+      others = λ p out.
+          let parts = occ-append p (paths_to p2 later first (k - first)) (path_to p2 later (first + (k - first))) in
+          let same = paths_same p1 p2 mine later first (k - first) (λ j from low. keep j (owned j from (omega (arith, low, is)))) in
+          let front : occ p (paths_to p2 later first (k - first)) ≡ occ p (paths_to p1 mine first (k - first)) = ap (occ p) same in
+          let next : occ p (path_to p2 later k) ≡ occ p (path_to p2 later (first + (k - first))) = ap (λ (m : ℕ). occ p (path_to p2 later m)) is in
+          now.others p (omega (arith, parts, out, next)) ∙ before.others p (omega (arith, parts, out, front));
+    }
 
 -- the page that a table has at the end of a path
 pub named_taken : (old mid : Pages) (mine later : Option ℕ) (k p : ℕ) (roots : List (Option ℕ)) → Takes old mid mine later k p roots → named_page mid later k ≡ Some p

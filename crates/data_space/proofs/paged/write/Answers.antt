@@ -1,9 +1,9 @@
 use Rattle.std.proofs.Common.{◌≡◌, inl, inr, ℕ, ◌+◌, ◌-◌, ◌/◌, length, take, sym, subst, arith, length-take}
 use Rattle.std.proofs.lemmas.Bool.{cases_eq}
 use Rattle.std.proofs.Math.Logic.{∥∥₁_map}
-use Rattle.page_table.specs.Changes.{ChangesOnly, paths_to}
 use Rattle.page_table.specs.Own.{OwnsPath}
-use Rattle.data_space.proofs.Changed.{path_then, paths_among}
+use Rattle.data_space.specs.Spaces.{pages_met}
+use Rattle.data_space.proofs.Changed.{path_then}
 use Rattle.data_space.proofs.Pasting.{then_pasted, next_chunk}
 use Rattle.data_space.proofs.Written.{others_both}
 use Rattle.data_space.proofs.paged.write.Goals as goal
@@ -16,9 +16,8 @@ loop-done-preserved c =
     let least = c.min-len.ensures in
     let front : length (take c.loop-done.done c.args.from.now) ≡ c.loop-done.done = simp length-take (omega (arith, c.loop-done.invariant.within)) in
     let changed = c.loop-done.invariant.changed_page c.loop-done-test.true in
+    let owned = c.loop-done.invariant.owned c.loop-done-test.true in
     let page = c.loop-done.invariant.page c.loop-done-test.true in
-    let next = path_then _ _ _ _ _ (c.args.at / 512) ((c.args.at + c.loop-done.done) / 512 - c.args.at / 512) ((c.args.at + c.loop-done.done) / 512) changed (omega arith)
-        (c.loop-done.invariant.owned c.loop-done-test.true) c.in_ok-write_page.ensures.paths c.in_ok-write_page.ensures.changes in
     record {
       within = omega (arith, least, c.loop-done-test.true);
       written = λ roots a.
@@ -29,11 +28,13 @@ loop-done-preserved c =
       kept = λ roots a.
           let kept = c.loop-done.invariant.kept roots a in
           others_both _ _ _ _ _ roots kept (c.in_ok-write_page.ensures.kept roots kept.agrees);
-      changes = subst (λ (n : ℕ). ChangesOnly c.args.pool.now c.write_page.new.pool (paths_to c.write_page.new.pool c.write_page.new.table (c.args.at / 512) n)) (omega (arith, least, c.loop-done-test.true)) next;
-      changed_page = λ more. subst (λ (n : ℕ). ChangesOnly c.args.pool.now c.write_page.new.pool (paths_to c.write_page.new.pool c.write_page.new.table (c.args.at / 512) n)) (omega (arith, least, more, c.loop-done-test.true)) next;
+      changes = path_then _ _ _ _ _ (c.args.at / 512) ((c.args.at + c.loop-done.done) / 512) (pages_met c.args.at (c.loop-done.done + c.min-len.result)) changed owned
+          c.in_ok-write_page.ensures.paths c.in_ok-write_page.ensures.changes (omega arith) (omega (arith, least, c.loop-done-test.true));
+      changed_page = λ more. path_then _ _ _ _ _ (c.args.at / 512) ((c.args.at + c.loop-done.done) / 512) ((c.args.at + (c.loop-done.done + c.min-len.result)) / 512 - c.args.at / 512) changed owned
+          c.in_ok-write_page.ensures.paths c.in_ok-write_page.ensures.changes (omega arith) (omega (arith, least, more, c.loop-done-test.true));
       owned = λ more k from low. elim (cases_eq k ((c.args.at + c.loop-done.done) / 512)) [
         | inl e ↦ subst (OwnsPath c.write_page.new.pool c.write_page.new.table) (sym e) c.in_ok-write_page.ensures.owned
-        | inr ne ↦ (c.in_ok-write_page.ensures.paths k (c.loop-done.invariant.owned c.loop-done-test.true k from (omega (arith, least, more, low, ne)))).own
+        | inr ne ↦ (c.in_ok-write_page.ensures.paths k (owned k from (omega (arith, least, more, low, ne)))).own
       ];
       used = omega (arith, least, page, c.in_ok-write_page.ensures.used, c.loop-done-test.true);
       page = λ more. omega (arith, least, page, c.in_ok-write_page.ensures.used, more);
@@ -41,6 +42,6 @@ loop-done-preserved c =
 
 pub returns-in_err-write_page-clause-changes : goal.returns-in_err-write_page-clause-changes
 returns-in_err-write_page-clause-changes c =
-    let next = path_then _ _ _ _ _ (c.args.at / 512) ((c.args.at + c.loop-done.done) / 512 - c.args.at / 512) ((c.args.at + c.loop-done.done) / 512) (c.loop-done.invariant.changed_page c.loop-done-test.true) (omega arith)
-        (c.loop-done.invariant.owned c.loop-done-test.true) c.write_page.ensures.paths c.write_page.ensures.changes in
-    paths_among _ _ _ (c.args.at / 512) _ _ (omega (arith, c.loop-done-test.true)) next
+    path_then _ _ _ _ _ (c.args.at / 512) ((c.args.at + c.loop-done.done) / 512) (pages_met c.args.at (length c.args.from.now))
+    (c.loop-done.invariant.changed_page c.loop-done-test.true) (c.loop-done.invariant.owned c.loop-done-test.true)
+    c.write_page.ensures.paths c.write_page.ensures.changes (omega arith) (omega (arith, c.loop-done-test.true))
