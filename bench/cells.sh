@@ -1,6 +1,7 @@
 #!/usr/bin/env bash
 # What a read and a write of a cell cost over pages, through all layers, and in a plain map of cells: instructions of one call, as
-# callgrind counts them, and their ratio. 1,000 cells are in use. No test, and no part of the gate.
+# callgrind counts them, and their ratio. 1,000 cells are in use. A read is counted between writes, so that no look-up is shared by
+# several reads. No test, and no part of the gate.
 # It proves and builds a small program in a folder of its own, over copies of the crates of pages.
 set -euo pipefail
 top="$(cd "$(dirname "${BASH_SOURCE[0]}")/.." && pwd)"
@@ -30,6 +31,7 @@ END
 cat >"$work/crates/cells/src/main.rt" <<'END'
 //! Cells that are written, and read or written again.
 #![tactic(auto)]
+ghost use Rattle.std.specs.Prelude.{◌<◌};
 
 mod plain;
 
@@ -56,41 +58,42 @@ fn write<M: Memory>(memory: &mut M, turns: u32) -> Result<(), MemFault> {
     Ok(())
 }
 
-fn read<M: Memory>(memory: &mut M, turns: u32) -> Result<u64, MemFault> {
+fn write_and_read<M: Memory>(memory: &mut M, turns: u32) -> Result<u64, MemFault> {
     let mut sum = 0;
     for turn in 0..turns {
-        sum ^= memory.cell(at(turn))?;
+        memory.set_cell(at(turn), u64::from(turn))?;
+        sum ^= memory.cell(at(turn / 2))?;
     }
     Ok(sum)
 }
 
-// Fills the cells, and then writes or reads them so often.
-fn exercise<M: Memory>(memory: &mut M, writes: bool, turns: u32) -> Result<u64, MemFault> {
+// Fills the cells, and then writes them so often, or writes and reads them.
+fn exercise<M: Memory>(memory: &mut M, reads: bool, turns: u32) -> Result<u64, MemFault> {
     write(memory, 1_000)?;
-    if writes {
+    if !reads {
         write(memory, turns)?;
         return Ok(0);
     }
-    let sum = read(memory, turns)?;
+    let sum = write_and_read(memory, turns)?;
     Ok(sum)
 }
 
-// The words: `pages` or `plain`, `read` or `write`, and a third one for 100,000 calls more.
+// The words: `pages` or `plain`, `write` or `both`, and a third one for 100,000 turns more.
 fn run(rt: &HostRuntime) -> Option<u64> {
     let mut words = Vec::new(rt.alloc());
     for word in env::args(rt).ok()?.skip(1) {
         words.push(word).ok()?;
     }
     let turns = if words.len() > 2 { 110_000 } else { 10_000 };
-    let writes = words.get(1)?.as_str() == "write";
+    let reads = words.get(1)?.as_str() == "both";
     if words.get(0)?.as_str() == "plain" {
         let mut plain = PlainMemory::new(rt.alloc());
-        return exercise(&mut plain, writes, turns).ok();
+        return exercise(&mut plain, reads, turns).ok();
     }
     let mut pool = Pool::new(rt.alloc());
     let mut memory = SpaceMemory::new();
     let mut lent = memory.over(&mut pool);
-    exercise(&mut lent, writes, turns).ok()
+    exercise(&mut lent, reads, turns).ok()
 }
 
 fn main(rt: HostRuntime) -> ExitCode {
@@ -106,15 +109,25 @@ END
     exit 1
 }
 
+# instructions that the program executes for a turn
+turn() {
+    local few many
+    few=$(instructions "$@")
+    many=$(instructions "$@" more)
+    echo $(((many - few) / 100000))
+}
+
 # instructions that the program executes with these words
 instructions() {
     valgrind --tool=callgrind --callgrind-out-file=/dev/null "$work/crates/cells/out/cells" "$@" 2>&1 >/dev/null |
         sed -n 's/.*Collected : \([0-9]*\).*/\1/p'
 }
 
-for call in read write; do
-    pages=$((($(instructions pages $call more) - $(instructions pages $call)) / 100000))
-    plain=$((($(instructions plain $call more) - $(instructions plain $call)) / 100000))
-    printf '%s: %s instructions over pages, %s in a plain map, ratio %s\n' \
-        "$call" "$pages" "$plain" "$(echo "scale=1; $pages / $plain" | bc -l)"
-done
+report() {
+    printf '%s: %s instructions over pages, %s in a plain map, ratio %s\n' "$1" "$2" "$3" "$(echo "scale=2; $2 / $3" | bc -l)"
+}
+
+pages=$(turn pages write)
+plain=$(turn plain write)
+report write "$pages" "$plain"
+report read $(($(turn pages both) - pages)) $(($(turn plain both) - plain))
