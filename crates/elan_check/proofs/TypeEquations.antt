@@ -22,13 +22,13 @@ use Rattle.elan_types.specs.Typing.{Typed, Taken, Home, Layer, has, agree, only_
 
 module _ (vs : List ElanType) (bodies : List Body) (home : Home) where
   abbrev pub typing : ValuePhrase → Typed
-  typing = typing bodies home
+  typing = type_of vs bodies home
 
   abbrev pub typed : Action → Bool
-  typed = typed bodies home
+  typed = is_typed vs bodies home
 
   abbrev pub lies : PlacePhrase → Typed
-  lies = lies bodies home
+  lies = place_type vs bodies home
 
   abbrev action_step : Layer vs bodies home Action-F → Bool
   action_step = action_typed_step vs bodies home
