@@ -20,10 +20,6 @@ types_step es i e ts lt is h =
     (append_assoc ts (type_of e.denotes ∷ []) (types_of (drop (suc i) es))
     ∙ ap (λ (d : Scope). ts ++ types_of d) (ap (λ (d : Entry). d ∷ drop (suc i) es) is ∙ sym (drop-cons es i e lt)) ∙ h)
 
-pub types_count : (es : List Entry) → length (types_of es) ≡ length es
-types_count [] = refl
-types_count (e ∷ es) = ap suc (types_count es)
-
 kept : (k m n : Meant) → without_value k ≡ gives m → or_last n m ≡ n
 kept Absent m n e = ap (or_last n) (sym (gives_is Absent m e))
 kept (Value at t v x) m n e = absurd cc

@@ -1,7 +1,8 @@
 -- A text has one answer.
-use Rattle.std.proofs.Common.{◌≡◌, ◌↔◌, List, map, Bool, true, false, Result, Ok, Err, IfOk, refl, sym, ap, subst, ◌∙◌}
+use Rattle.std.proofs.Common.{◌≡◌, ◌↔◌, List, [], map, Bool, true, false, Result, Ok, Err, IfOk, refl, sym, ap, subst, ◌∙◌}
 use Rattle.elan_types.specs.declared.elan_type.ElanType.{ElanType}
 use Rattle.elan_types.specs.declared.env.Env.{Env}
+use Rattle.elan_types.specs.declared.core_phrase.Body.{Body}
 use Rattle.elan_types.specs.declared.core_phrase.Core.{Core}
 use Rattle.elan_types.specs.declared.core_phrase.Action.{Action}
 use Rattle.elan_tree.specs.declared.tree.Tree.{Tree}
@@ -31,17 +32,18 @@ use Rattle.elan_check.proofs.Deliveries.{level_means}
 done_is : (as' bs : List Action) → Done as' ≡ Done bs → as' ≡ bs
 done_is as' bs e = cc
 
-abbrev core_with : List ElanType → List Action → Core
-core_with v u = record { variables = v; units = u }
+abbrev core_with : List ElanType → List Body → List Action → Core
+core_with v b u = record { variables = v; bodies = b; units = u }
 
-core_is : (c d : Core) → c.variables ≡ d.variables → c.units ≡ d.units → c ≡ d
-core_is c d e h =
-    ap (λ (v : List ElanType). core_with v c.units) e
-    ∙ ap (λ (u : List Action). core_with d.variables u) h
+core_is : (c d : Core) → c.variables ≡ d.variables → c.bodies ≡ d.bodies → c.units ≡ d.units → c ≡ d
+core_is c d e b h =
+    ap (λ (v : List ElanType). core_with v c.bodies c.units) e
+    ∙ ap (λ (n : List Body). core_with d.variables n c.units) b
+    ∙ ap (λ (u : List Action). core_with d.variables d.bodies u) h
 
 pub one_core : (env : Env) (t : Tree) (c d : Core) → Means env t c → Means env t d → c ≡ d
 one_core env t c d h k =
-    core_is c d (h.variables ∙ sym k.variables) (done_is c.units d.units (first.one_meaning (text t) (Done c.units) (Done d.units) h.units k.units))
+    core_is c d (h.variables ∙ sym k.variables) (h.bodies ∙ sym k.bodies) (done_is c.units d.units (first.one_meaning (text t) (Done c.units) (Done d.units) h.units k.units))
 
 pub one_refusal : (env : Env) (t : Tree) (f g : Fault) → Refused env t f → Refused env t g → f ≡ g
 one_refusal env t f g h k = first.one_first (phrase.phrases (text t)) f g h.first k.first
@@ -62,8 +64,8 @@ module _ (env : Env) (t : Tree) where
   judged_answer : not_built t ≡ false → (q : Ruled Meant) → judged (text t) ≡ q → HasAnswer env t
   judged_answer h (gives m) e =
       let d = text_done t m e in
-      core (record { variables = types_of (declared t); units = d.0 })
-      (record { is_built = h; variables = refl; units = first.means_of (text t) (Done d.0) (e ∙ ap (λ (k : Meant). gives k) d.1) })
+      core (record { variables = types_of (declared t); bodies = []; units = d.0 })
+      (record { is_built = h; variables = refl; bodies = refl; units = first.means_of (text t) (Done d.0) (e ∙ ap (λ (k : Meant). gives k) d.1) })
   judged_answer h (breaks f) e = refusal f (record { is_built = h; first = first.refused_of (text t) f e })
   judged_answer h hangs e = absurd (not_firm (sym (ap (λ (q : Ruled Meant). firm q) e) ∙ judged_firm (text t)))
     where
@@ -90,18 +92,18 @@ module _ (env : Env) (t : Tree) where
   abbrev units_done : Core → Meant
   units_done c = Done c.units
 
-  pub meaning_of : (q : Result Core CheckError) → not_built t ≡ false → Gives units_done q (judged (text t)) → IfOk q (λ c. c.variables ≡ types_of (declared t)) → IfOk q (λ c. Means env t c)
-  meaning_of (Ok c) h e v = record { is_built = h; variables = v; units = first.means_of (text t) (Done c.units) e }
-  meaning_of (Err d) h e v = tt
+  pub meaning_of : (q : Result Core CheckError) → not_built t ≡ false → Gives units_done q (judged (text t)) → IfOk q (λ c. c.variables ≡ types_of (declared t)) → IfOk q (λ c. c.bodies ≡ []) → IfOk q (λ c. Means env t c)
+  meaning_of (Ok c) h e v b = record { is_built = h; variables = v; bodies = b; units = first.means_of (text t) (Done c.units) e }
+  meaning_of (Err d) h e v b = tt
 
-  pub only_of : (q : Result Core CheckError) → not_built t ≡ false → Gives units_done q (judged (text t)) → IfOk q (λ c. c.variables ≡ types_of (declared t)) → (c : Core) → Means env t c → IsCore c q
-  only_of (Ok d) h e v c m = one_core env t d c (record { is_built = h; variables = v; units = first.means_of (text t) (Done d.units) e }) m
-  only_of (Err NoMemory) h e v c m = tt
-  only_of (Err (NoMeaning at why)) h e v c m = no_fault (judged (text t)) (Done c.units) (at, why) (first.judged_of (text t) (Done c.units) m.units) e
+  pub only_of : (q : Result Core CheckError) → not_built t ≡ false → Gives units_done q (judged (text t)) → IfOk q (λ c. c.variables ≡ types_of (declared t)) → IfOk q (λ c. c.bodies ≡ []) → (c : Core) → Means env t c → IsCore c q
+  only_of (Ok d) h e v b c m = one_core env t d c (record { is_built = h; variables = v; bodies = b; units = first.means_of (text t) (Done d.units) e }) m
+  only_of (Err NoMemory) h e v b c m = tt
+  only_of (Err (NoMeaning at why)) h e v b c m = no_fault (judged (text t)) (Done c.units) (at, why) (first.judged_of (text t) (Done c.units) m.units) e
     where
       no_fault : (q : Ruled Meant) (k : Meant) (f : Fault) → q ≡ gives k → q ≡ breaks f → ⊥
       no_fault q k f a b = cc
-  only_of (Err NotBuilt) h e v c m = e
+  only_of (Err NotBuilt) h e v b c m = e
 
   pub refused_by : (q : Result Core CheckError) → not_built t ≡ false → Gives units_done q (judged (text t)) → IsRefusal (Refused env t) q
   refused_by (Ok d) h e = tt
@@ -120,13 +122,13 @@ pub record Checked (env : Env) (t : Tree) (q : Result Core CheckError) : Type 0 
   pub refused : IsRefusal (Refused env t) q
 
 pub program_checked : (env : Env) (t : Tree) (l : Level) (us : List LevelUnit) (q : Result Core CheckError) → t ≡ tree.Program l → us ≡ l.units → false ≡ not_built t →
-    Gives (λ (c : Core). Done c.units) q (judged (units false (map (level_unit (scope.declared us)) us))) → IfOk q (λ c. c.variables ≡ types_of (scope.declared us)) → Checked env t q
-program_checked env t l us q is ue nb g v =
+    Gives (λ (c : Core). Done c.units) q (judged (units false (map (level_unit (scope.declared us)) us))) → IfOk q (λ c. c.variables ≡ types_of (scope.declared us)) → IfOk q (λ c. c.bodies ≡ []) → Checked env t q
+program_checked env t l us q is ue nb g v b =
     let g' = subst (λ (ws : List LevelUnit). Gives (λ (c : Core). Done c.units) q (judged (units false (map (level_unit (scope.declared ws)) ws)))) ue g in
     let v' = subst (λ (ws : List LevelUnit). IfOk q (λ (c : Core). c.variables ≡ types_of (scope.declared ws))) ue v in
     let h = sym (subst (λ (s : Tree). false ≡ not_built s) is nb) in
     subst (λ (s : Tree). Checked env s q) (sym is) (record {
-      meaning = meaning_of env (tree.Program l) q h g' v';
-      only = only_of env (tree.Program l) q h g' v';
+      meaning = meaning_of env (tree.Program l) q h g' v' b;
+      only = only_of env (tree.Program l) q h g' v' b;
       refused = refused_by env (tree.Program l) q h g';
     })

@@ -15,6 +15,7 @@ use Rattle.elan_types.specs.declared.core_phrase.ValuePhrase.TheVariants as valu
 use Rattle.elan_types.specs.declared.core_phrase.Action.{Action}
 use Rattle.elan_types.specs.declared.core_phrase.Action.TheVariants as action
 use Rattle.elan_types.specs.declared.core_phrase.Arm.{Arm}
+use Rattle.elan_types.specs.declared.core_phrase.Body.{Body}
 use Rattle.elan_types.specs.declared.core_phrase.ValueArm.{ValueArm}
 use Rattle.elan_types.specs.declared.core_phrase.Core.{Core}
 use Rattle.elan_check.proofs.TypeEquations.{arm_typed, arm_type, number_is, truth_is, load_is, apply_is, cand_is, cor_is, value_if_is, value_select_is, value_unit_is, after_is, value_arm_is, unit_is, store_is, modify_is, if_is, select_is, put_is, line_is, arm_is, has_written, loop_is, count_is}
@@ -40,7 +41,6 @@ use Rattle.elan_check.specs.Ruled.{Ruled, gives, breaks, hangs, ◌>>=◌, befor
 use Rattle.elan_check.specs.Rules as r
 use Rattle.elan_check.specs.Rules.{rule}
 use Rattle.elan_check.specs.Meaning.{judged, judged_all}
-use Rattle.elan_check.proofs.Deliveries.{types_count}
 use Rattle.elan_check.proofs.First.{bind_gives, before_gives, gives_is}
 use Rattle.elan_check.specs.Shape as shape
 use Rattle.elan_tree.specs.declared.tree.LevelUnit.{LevelUnit}
@@ -97,7 +97,7 @@ module _ (s : Scope) where
   -- ---- what is known of a meaning
 
   abbrev pub Has : ElanType → ValuePhrase → Type 0
-  Has t v = type_of vs v ≡ Some t
+  Has t v = type_of vs [] None v ≡ Some t
 
   abbrev pub MayHave : ElanType → Option ValuePhrase → Type 0
   MayHave t None = Unit {0}
@@ -105,10 +105,10 @@ module _ (s : Scope) where
 
   abbrev pub MayLie : ElanType → Option PlacePhrase → Type 0
   MayLie t None = Unit {0}
-  MayLie t (Some p) = place_type vs p ≡ Some t
+  MayLie t (Some p) = place_type vs [] None p ≡ Some t
 
   abbrev pub AllTyped : List Action → Type 0
-  AllTyped as' = all_true (map (is_typed vs) as') ≡ true
+  AllTyped as' = all_true (map (is_typed vs [] None) as') ≡ true
 
   abbrev pub PartGood : Part → Type 0
   PartGood (piece.Done as') = AllTyped as'
@@ -236,7 +236,7 @@ module _ (s : Scope) where
   append_typed [] bs h k = k
   append_typed (a ∷ as') bs h k = let b = both _ _ h in and_true _ _ b.0 (append_typed as' bs b.1 k)
 
-  single_typed : (a : Action) → is_typed vs a ≡ true → AllTyped (a ∷ [])
+  single_typed : (a : Action) → is_typed vs [] None a ≡ true → AllTyped (a ∷ [])
   single_typed a h = and_true _ _ h refl
 
   actions_of_typed : (ms : List Meant) → AllGood ms → AllTyped (r.actions_of ms)
@@ -244,13 +244,13 @@ module _ (s : Scope) where
   actions_of_typed (m ∷ ms) g = append_typed (r.actions m) (r.actions_of ms) (actions_typed m g.0) (actions_of_typed ms g.1)
 
   unit_typed : (as' : List Action) → AllTyped as' → AllTyped (action.Unit as' ∷ [])
-  unit_typed as' h = single_typed (action.Unit as') (unit_is vs as' ∙ h)
+  unit_typed as' h = single_typed (action.Unit as') (unit_is vs [] None as' ∙ h)
 
   -- ---- names and operators
 
   object_good : (at k : ℕ) (d : Denotes) → slice_get vs k ≡ Some (scope.type_of d) → Good (r.object at k d)
-  object_good at k (Variable t) e = (load_is vs (place.Variable k) t ∙ only_if_holds _ _ t (has_self t _ e) refl, e)
-  object_good at k (Constant t) e = (load_is vs (place.Variable k) t ∙ only_if_holds _ _ t (has_self t _ e) refl, tt)
+  object_good at k (Variable t) e = (load_is vs [] None (place.Variable k) t ∙ only_if_holds _ _ t (has_self t _ e) refl, e)
+  object_good at k (Constant t) e = (load_is vs [] None (place.Variable k) t ∙ only_if_holds _ _ t (has_self t _ e) refl, tt)
 
   abbrev Fits : Does → List Meant → Type 0
   Fits (Delivers op t) ms = (fit (map type_in (operand_kinds op)) ms ≡ true) × (t ≡ type_in (result_kind op))
@@ -282,7 +282,7 @@ module _ (s : Scope) where
       by_test rest true t h = let i : l.2 ≡ d = cc in subst (λ (k : Does). Fits k ms) i (row_fits l.1 l.2 ms g.0 (both _ _ t).1)
       by_test rest false t h = rest h
 
-  values_typed : (ts : List ElanType) (ms : List Meant) → AllGood ms → fit ts ms ≡ true → have ts (map (type_of vs) (r.values_of ms)) ≡ true
+  values_typed : (ts : List ElanType) (ms : List Meant) → AllGood ms → fit ts ms ≡ true → have ts (map (type_of vs [] None) (r.values_of ms)) ≡ true
   values_typed [] [] g e = refl
   values_typed [] (m ∷ ms) g e = absurd cc
   values_typed (t ∷ ts) [] g e = absurd cc
@@ -290,7 +290,7 @@ module _ (s : Scope) where
 
   changed_good : (c : Change) (at : ℕ) (x : Option PlacePhrase) (v : ValuePhrase) → MayLie Int x → Has Int v → Gives Good (r.changed_at c at x v)
   changed_good c at None v l h = tt
-  changed_good c at (Some x) v l h = single_typed (action.Modify c x v) (modify_is vs c x v ∙ and_true _ _ (has_self Int _ l) (has_self Int _ h))
+  changed_good c at (Some x) v l h = single_typed (action.Modify c x v) (modify_is vs [] None c x v ∙ and_true _ _ (has_self Int _ l) (has_self Int _ h))
 
   changes_good : (c : Change) (ms : List Meant) → AllGood ms → fit (Int ∷ Int ∷ []) ms ≡ true → Gives Good (r.on_two (r.two_of ms) (r.changed c))
   changes_good c [] g e = tt
@@ -303,14 +303,14 @@ module _ (s : Scope) where
 
   puts_good : (ms : List Meant) → AllGood ms → fit (Int ∷ []) ms ≡ true → Gives Good (r.on_one (r.one_of ms) r.put)
   puts_good [] g e = tt
-  puts_good (m ∷ []) g e = single_typed (action.Put (r.value_of m)) (put_is vs (r.value_of m) ∙ has_self Int _ (value_typed Int m g.0 (both _ _ e).0))
+  puts_good (m ∷ []) g e = single_typed (action.Put (r.value_of m)) (put_is vs [] None (r.value_of m) ∙ has_self Int _ (value_typed Int m g.0 (both _ _ e).0))
   puts_good (m ∷ n ∷ ms) g e = tt
 
   done_good : (at : ℕ) (d : Does) (ms : List Meant) → AllGood ms → Fits d ms → Gives Good (r.done at d ms)
-  done_good at (Delivers op t) ms g e = (apply_is vs op (r.values_of ms) ∙ only_if_holds _ _ t (values_typed _ ms g e.0) (ap (λ (u : ElanType). Some u) (sym e.1)), tt)
+  done_good at (Delivers op t) ms g e = (apply_is vs [] None op (r.values_of ms) ∙ only_if_holds _ _ t (values_typed _ ms g e.0) (ap (λ (u : ElanType). Some u) (sym e.1)), tt)
   done_good at (Changes c) ms g e = changes_good c ms g e
   done_good at Puts ms g e = puts_good ms g e
-  done_good at EndsLine ms g e = single_typed action.Line (line_is vs)
+  done_good at EndsLine ms g e = single_typed action.Line (line_is vs [] None)
 
   applied_as_good : (at : ℕ) (x : List ℕ) (ms : List Meant) (o : Option Does) → AllGood ms → ((d : Does) → o ≡ Some d → Fits d ms) → Gives Good (r.applied_as at x ms o)
   applied_as_good at x ms (Some d) g h = done_good at d ms g (h d refl)
@@ -333,7 +333,7 @@ module _ (s : Scope) where
 
   declared_good : (at : ℕ) (o : Option (ℕ × Entry)) → Found o → Gives Good (r.declared at o)
   declared_good at None h = tt
-  declared_good at (Some f) h = on_if Good (nat_eq f.1.at at) _ _ (λ e. (load_is vs (place.Variable f.0) (scope.type_of f.1.denotes) ∙ only_if_holds _ _ _ (has_self _ _ (h f refl)) refl, h f refl)) (λ e. tt)
+  declared_good at (Some f) h = on_if Good (nat_eq f.1.at at) _ _ (λ e. (load_is vs [] None (place.Variable f.0) (scope.type_of f.1.denotes) ∙ only_if_holds _ _ _ (has_self _ _ (h f refl)) refl, h f refl)) (λ e. tt)
 
   label_named_good : (at : ℕ) (x : List ℕ) (o : Option (ℕ × Entry)) → Gives Good (r.label_named at x o)
   label_named_good at x (Some f) = tt
@@ -342,7 +342,7 @@ module _ (s : Scope) where
   -- ---- values
 
   number_good : (at : ℕ) (n : ℤ) → Gives Good (r.number at n)
-  number_good at n = on_if Good (in_range n) _ _ (λ e. (number_is vs n ∙ only_if_holds (in_range n) _ Int e refl, tt)) (λ e. tt)
+  number_good at n = on_if Good (in_range n) _ _ (λ e. (number_is vs [] None n ∙ only_if_holds (in_range n) _ Int e refl, tt)) (λ e. tt)
 
   bracketed_good : (at : ℕ) (m : Meant) → Good m → Gives Good (r.bracketed at m)
   bracketed_good at Absent g = tt
@@ -353,14 +353,14 @@ module _ (s : Scope) where
   bracketed_good at (Arms ls) g = tt
   bracketed_good at (Counter k) g = tt
 
-  truths_typed : (l m : Meant) → Good l → Good m → r.are_truths l m ≡ true → (has Truths (type_of vs (r.value_of l)) && has Truths (type_of vs (r.value_of m))) ≡ true
+  truths_typed : (l m : Meant) → Good l → Good m → r.are_truths l m ≡ true → (has Truths (type_of vs [] None (r.value_of l)) && has Truths (type_of vs [] None (r.value_of m))) ≡ true
   truths_typed l m g h e = let b = both _ _ e in and_true _ _ (has_self Truths _ (value_typed Truths l g b.0)) (has_self Truths _ (value_typed Truths m h b.1))
 
   cand_good : (at : ℕ) (l m : Meant) → Good l → Good m → Gives Good (r.cand at l m)
-  cand_good at l m g h = on_if Good (r.are_truths l m) _ _ (λ e. (cand_is vs (r.value_of l) (r.value_of m) ∙ only_if_holds _ _ Truths (truths_typed l m g h e) refl, tt)) (λ e. tt)
+  cand_good at l m g h = on_if Good (r.are_truths l m) _ _ (λ e. (cand_is vs [] None (r.value_of l) (r.value_of m) ∙ only_if_holds _ _ Truths (truths_typed l m g h e) refl, tt)) (λ e. tt)
 
   cor_good : (at : ℕ) (l m : Meant) → Good l → Good m → Gives Good (r.cor at l m)
-  cor_good at l m g h = on_if Good (r.are_truths l m) _ _ (λ e. (cor_is vs (r.value_of l) (r.value_of m) ∙ only_if_holds _ _ Truths (truths_typed l m g h e) refl, tt)) (λ e. tt)
+  cor_good at l m g h = on_if Good (r.are_truths l m) _ _ (λ e. (cor_is vs [] None (r.value_of l) (r.value_of m) ∙ only_if_holds _ _ Truths (truths_typed l m g h e) refl, tt)) (λ e. tt)
 
   -- ---- stores
 
@@ -377,7 +377,7 @@ module _ (s : Scope) where
   agreed_good at (Counter k) m g h = tt
 
   store_typed : (x : PlacePhrase) (t : ElanType) (v : ValuePhrase) → MayLie t (Some x) → Has t v → AllTyped (action.Store x t v ∷ [])
-  store_typed x t v l h = single_typed (action.Store x t v) (store_is vs x t v ∙ and_true _ _ (has_self t _ l) (has_self t _ h))
+  store_typed x t v l h = single_typed (action.Store x t v) (store_is vs [] None x t v ∙ and_true _ _ (has_self t _ l) (has_self t _ h))
 
   assigned_to_good : (x : Option PlacePhrase) (p : ℕ) (t : ElanType) (v : ValuePhrase) → MayLie t x → Has t v → Gives Good (r.assigned_to x p t v)
   assigned_to_good None p t v l h = tt
@@ -410,7 +410,7 @@ module _ (s : Scope) where
 
   ended_good : (as' : List Action) (m : Meant) → AllTyped as' → Good m → Good (r.ended as' m)
   ended_good as' Absent h g = h
-  ended_good as' (Value at t v x) h g = (after_is vs as' v ∙ only_if_holds _ _ t h g.0, tt)
+  ended_good as' (Value at t v x) h g = (after_is vs [] None as' v ∙ only_if_holds _ _ t h g.0, tt)
   ended_good as' (Done bs) h g = h
   ended_good as' (Labels ns) h g = h
   ended_good as' (Branches gs) h g = h
@@ -422,7 +422,7 @@ module _ (s : Scope) where
 
   alone_good : (m : Meant) → Good m → Gives Good (r.alone m)
   alone_good Absent g = tt
-  alone_good (Value at t v x) g = (value_unit_is vs v ∙ g.0, tt)
+  alone_good (Value at t v x) g = (value_unit_is vs [] None v ∙ g.0, tt)
   alone_good (Done as') g = unit_typed as' g
   alone_good (Labels ns) g = tt
   alone_good (Branches gs) g = tt
@@ -480,12 +480,12 @@ module _ (s : Scope) where
       by_test : (b : Bool) → same_type t u ≡ b → MayBe (if b then Some (r.if_value t c v w) else None)
       by_test true e =
           let l = subst (λ (z : ElanType). Has z w) (sym (same_is t u e)) k in
-          value_if_is vs c v w ∙ only_if_holds _ _ t (and_true _ _ (has_self Truths _ h) (agree_self t _ _ g l)) g
+          value_if_is vs [] None c v w ∙ only_if_holds _ _ t (and_true _ _ (has_self Truths _ h) (agree_self t _ _ g l)) g
       by_test false e = tt
 
   where_good : (c : Option ValuePhrase) (a b : Part) → MayHave Truths c → PartGood a → PartGood b → MayBe (r.where_truth c a b)
   where_good None a b h g k = tt
-  where_good (Some c) (piece.Done as') (piece.Done bs) h g k = single_typed (action.If c as' bs) (if_is vs c as' bs ∙ and_true _ _ (has_self Truths _ h) (and_true _ _ g k))
+  where_good (Some c) (piece.Done as') (piece.Done bs) h g k = single_typed (action.If c as' bs) (if_is vs [] None c as' bs ∙ and_true _ _ (has_self Truths _ h) (and_true _ _ g k))
   where_good (Some c) (piece.Done as') (piece.Value u w) h g k = tt
   where_good (Some c) (piece.Value t v) (piece.Done bs) h g k = tt
   where_good (Some c) (piece.Value t v) (piece.Value u w) h g k = value_if_good c t v u w h g k
@@ -535,23 +535,23 @@ module _ (s : Scope) where
   part_actions_typed (piece.Done as') g = g
   part_actions_typed (piece.Value t v) g = refl
 
-  action_arms_typed : (ls : List Labelled) → ArmsGood ls → all_true (map (arm_typed vs) (r.action_arms ls)) ≡ true
+  action_arms_typed : (ls : List Labelled) → ArmsGood ls → all_true (map (arm_typed vs [] None) (r.action_arms ls)) ≡ true
   action_arms_typed [] g = refl
-  action_arms_typed (l ∷ ls) g = and_true _ _ (arm_is vs l.labels (r.part_actions l.part) ∙ part_actions_typed l.part g.0) (action_arms_typed ls g.1)
+  action_arms_typed (l ∷ ls) g = and_true _ _ (arm_is vs [] None l.labels (r.part_actions l.part) ∙ part_actions_typed l.part g.0) (action_arms_typed ls g.1)
 
   part_value_typed : (t : ElanType) (p : Part) → PartGood p → r.is_value t p ≡ true → Has t (r.part_value p)
   part_value_typed t (piece.Done as') g e = absurd cc
   part_value_typed t (piece.Value u v) g e = subst (λ (w : ElanType). Has w v) (sym (same_is t u e)) g
 
-  value_arms_agree : (t : ElanType) (a : Typed) → a ≡ Some t → (ls : List Labelled) → ArmsGood ls → r.all_values t ls ≡ true → all_agree a (map (arm_type vs) (r.value_arms ls)) ≡ true
+  value_arms_agree : (t : ElanType) (a : Typed) → a ≡ Some t → (ls : List Labelled) → ArmsGood ls → r.all_values t ls ≡ true → all_agree a (map (arm_type vs [] None) (r.value_arms ls)) ≡ true
   value_arms_agree t a h [] g e = refl
-  value_arms_agree t a h (l ∷ ls) g e = let b = both _ _ e in and_true _ _ (agree_self t _ _ h (value_arm_is vs l.labels (r.part_value l.part) ∙ part_value_typed t l.part g.0 b.0)) (value_arms_agree t a h ls g.1 b.1)
+  value_arms_agree t a h (l ∷ ls) g e = let b = both _ _ e in and_true _ _ (agree_self t _ _ h (value_arm_is vs [] None l.labels (r.part_value l.part) ∙ part_value_typed t l.part g.0 b.0)) (value_arms_agree t a h ls g.1 b.1)
 
   selected_by_good : (at : ℕ) (v : ValuePhrase) (ls : List Labelled) (p : Part) → Has Int v → ArmsGood ls → PartGood p → Gives Good (r.selected_by at v ls p)
   selected_by_good at v ls (piece.Done bs) h g k =
-      on_if Good (r.all_done ls) _ _ (λ e. single_typed (action.Select v (r.action_arms ls) bs) (select_is vs v (r.action_arms ls) bs ∙ and_true _ _ (has_self Int _ h) (and_true _ _ (action_arms_typed ls g) k))) (λ e. tt)
+      on_if Good (r.all_done ls) _ _ (λ e. single_typed (action.Select v (r.action_arms ls) bs) (select_is vs [] None v (r.action_arms ls) bs ∙ and_true _ _ (has_self Int _ h) (and_true _ _ (action_arms_typed ls g) k))) (λ e. tt)
   selected_by_good at v ls (piece.Value t w) h g k =
-      on_if Good (r.all_values t ls) _ _ (λ e. (value_select_is vs v (r.value_arms ls) w ∙ only_if_holds _ _ t (and_true _ _ (has_self Int _ h) (value_arms_agree t _ k ls g e)) k, tt)) (λ e. tt)
+      on_if Good (r.all_values t ls) _ _ (λ e. (value_select_is vs [] None v (r.value_arms ls) w ∙ only_if_holds _ _ t (and_true _ _ (has_self Int _ h) (value_arms_agree t _ k ls g e)) k, tt)) (λ e. tt)
 
   selected_good : (at : ℕ) (m n k : Meant) → Good m → Good n → Good k → Gives Good (r.selected at m n k)
   selected_good at m n k g h i = on_if Good (delivers Int m) _ _ (λ e. selected_by_good at (r.value_of m) (r.arms_in n) (r.part_of k) (value_typed Int m g e) (arms_in_good n h) (part_good k i)) (λ e. tt)
@@ -559,7 +559,7 @@ module _ (s : Scope) where
   -- ---- loops
 
   first_typed : (o : Option ValuePhrase) → MayHave Int o → Has Int (r.first_value o)
-  first_typed None h = number_is vs (pos 1)
+  first_typed None h = number_is vs [] None (pos 1)
   first_typed (Some v) h = h
 
   counted_good : (w : Way) (n f l : Meant) → Good n → Good f → Good l → Good (Counter (r.counted w n f l))
@@ -568,18 +568,18 @@ module _ (s : Scope) where
       let d = both _ _ b.1 in
       record { lies = lies_typed Int n g b.0; from = first_typed (r.written f) (may_typed Int f h d.0); limit = may_typed Int l i d.1 }
 
-  written_typed : (t : ElanType) (o : Option ValuePhrase) → MayHave t o → has_written vs t o ≡ true
+  written_typed : (t : ElanType) (o : Option ValuePhrase) → MayHave t o → has_written vs [] None t o ≡ true
   written_typed t None h = refl
   written_typed t (Some v) h = has_self t _ h
 
   loop_typed : (c : Option ValuePhrase) (us : List Action) (u : Option ValuePhrase) → MayHave Truths c → AllTyped us → MayHave Truths u → AllTyped (action.Unit (action.Loop c us u ∷ []) ∷ [])
   loop_typed c us u hc hs hu =
-      unit_typed _ (single_typed (action.Loop c us u) (loop_is vs c us u ∙ and_true _ _ (written_typed Truths c hc) (and_true _ _ hs (written_typed Truths u hu))))
+      unit_typed _ (single_typed (action.Loop c us u) (loop_is vs [] None c us u ∙ and_true _ _ (written_typed Truths c hc) (and_true _ _ hs (written_typed Truths u hu))))
 
   counting_good : (k : Counted) → CountedGood k → (x : Option PlacePhrase) → MayLie Int x → (c : Option ValuePhrase) (us : List Action) (u : Option ValuePhrase) → MayHave Truths c → AllTyped us → MayHave Truths u → Gives Good (r.counting k x c us u)
   counting_good k g None l c us u hc hs hu = tt
   counting_good k g (Some x) l c us u hc hs hu =
-      unit_typed _ (single_typed (action.Count x k.from k.way k.limit c us u) (count_is vs x k.from k.way k.limit c us u
+      unit_typed _ (single_typed (action.Count x k.from k.way k.limit c us u) (count_is vs [] None x k.from k.way k.limit c us u
       ∙ (and_true _ _ (has_self Int _ l) (and_true _ _ (has_self Int _ g.from) (and_true _ _ (written_typed Int k.limit g.limit)
       (and_true _ _ (written_typed Truths c hc) (and_true _ _ hs (written_typed Truths u hu))))))))
 
@@ -614,7 +614,7 @@ module _ (s : Scope) where
   rules form.absent ms i g = tt
   rules form.not_built ms i g = tt
   rules (form.number at n) ms i g = number_good at n
-  rules (form.truth at b) ms i g = (truth_is vs b, tt)
+  rules (form.truth at b) ms i g = (truth_is vs [] None b, tt)
   rules (form.named at z x) ms i g = named_good at x (find z x) (found z x i)
   rules (form.applied at x) ms i g = applied_good at x ms g
   rules (form.bracket at) ms i g = one ms (r.bracketed at) g (bracketed_good at)
@@ -656,15 +656,21 @@ module _ (s : Scope) where
         subst AllGood (sym b.4) (good p b.0 i.0 b.2, all_good ps b.1 i.1 b.3)
 
 -- what the units of a level do
-pub level_typed : (us : List LevelUnit) (as' : List Action) → judged (shape.units false (map (shape.level_unit (scope.declared us)) us)) ≡ gives (Done as') → all_true (map (is_typed (types_of (scope.declared us))) as') ≡ true
+pub level_typed : (us : List LevelUnit) (as' : List Action) → judged (shape.units false (map (shape.level_unit (scope.declared us)) us)) ≡ gives (Done as') → all_true (map (is_typed (types_of (scope.declared us)) [] None) as') ≡ true
 level_typed us as' e = good (scope.declared us) (shape.units false (map (shape.level_unit (scope.declared us)) us)) (Done as') (level_units_in (scope.declared us) us) e
 
+-- no body is out of its scope or wrongly typed where there is none
+no_body : (n : ℕ) (b : Body) → slice_get [] n ≡ Some b → ⊥
+no_body n b e = cc
+
 -- the core of a level
-pub well_typed : (us : List LevelUnit) (s : Scope) (vars : List ElanType) (as' : List Action) → s ≡ scope.declared us → length s ≤ 16384 → vars ≡ types_of s → judged (shape.units false (map (shape.level_unit s) us)) ≡ gives (Done as') → IsWellTyped (record { variables = vars; units = as' })
-well_typed us s vars as' d f v e =
+pub well_typed : (us : List LevelUnit) (s : Scope) (vars : List ElanType) (bodies : List Body) (as' : List Action) → s ≡ scope.declared us → vars ≡ types_of s → bodies ≡ [] → judged (shape.units false (map (shape.level_unit s) us)) ≡ gives (Done as') → IsWellTyped (record { variables = vars; bodies = bodies; units = as' })
+well_typed us s vars bodies as' d v n e =
     let h = subst (λ (z : Scope). judged (shape.units false (map (shape.level_unit z) us)) ≡ gives (Done as')) d e in
     let k : types_of (scope.declared us) ≡ vars = ap types_of (sym d) ∙ sym v in
-    record {
-      few = subst (λ (n : ℕ). n ≤ 16384) (sym (ap length v ∙ types_count s)) f;
-      typed = subst (λ (ts : List ElanType). all_true (map (is_typed ts) as') ≡ true) k (level_typed us as' h);
-    }
+    subst (λ (bs : List Body). IsWellTyped (record { variables = vars; bodies = bs; units = as' })) (sym n)
+    (record {
+      typed = subst (λ (ts : List ElanType). all_true (map (is_typed ts [] None) as') ≡ true) k (level_typed us as' h);
+      scopes = λ i b g. absurd (no_body i b g);
+      bodies = λ i b g. absurd (no_body i b g);
+    })

@@ -1,5 +1,5 @@
 -- The meaning of a text, and why it has none.
-use Rattle.std.specs.Prelude.{◌≡◌, true, false, Result, Ok, Err}
+use Rattle.std.specs.Prelude.{◌≡◌, [], true, false, Result, Ok, Err}
 use Rattle.elan_types.specs.declared.env.Env.{Env}
 use Rattle.elan_types.specs.declared.core_phrase.Core.{Core}
 use Rattle.elan_tree.specs.declared.tree.Tree.{Tree}
@@ -20,6 +20,7 @@ IsNotBuilt t = not_built t ≡ true
 pub record Means (env : Env) (t : Tree) (core : Core) : Type 0 where
   pub is_built : not_built t ≡ false
   pub variables : core.variables ≡ types_of (declared t)
+  pub bodies : core.bodies ≡ []
   pub units : phrase.Means (text t) (Done core.units)
 
 -- This is the place of the first phrase that breaks a rule though all its parts have meaning, and its reason.

@@ -1,6 +1,6 @@
 //! The meaning of a level: its declarations, and its units.
 
-ghost use Rattle.std.specs.Prelude.{◌≡◌, map, true, false, IfOk};
+ghost use Rattle.std.specs.Prelude.{◌≡◌, [], map, true, false, IfOk};
 ghost use Rattle.elan_types.specs.Typing.{IsWellTyped};
 ghost use Rattle.elan_check.specs.declared.meant.Meant.TheVariants as means;
 ghost use Rattle.elan_check.specs.Phrase.{all_of};
@@ -20,9 +20,6 @@ use elan_tree::LevelUnit;
 use elan_types::{Action, Core, Why};
 use eu_base::List;
 use std::alloc::Global;
-
-/// The most variables that a text may have. They fill all cells that a command has.
-const MOST_VARIABLES: usize = 16_384;
 
 fn judge_unit(alloc: Global, scope: &[Entry], unit: &LevelUnit) -> Result<Meant, CheckError>
     ensures { Is result (judged (shape.role false (shape.level_unit scope.now unit.now))) }
@@ -68,14 +65,16 @@ fn judge_level(
 pub fn core_of(alloc: Global, units: &[LevelUnit]) -> Result<Core, CheckError>
     ensures units { Gives (λ core. means.Done core.units) result (judged (shape.units false (map (shape.level_unit (scopes.declared units.now)) units.now))) }
     ensures variables { IfOk result (λ core. core.variables ≡ scopes.types_of (scopes.declared units.now)) }
+    ensures bodies { IfOk result (λ core. core.bodies ≡ []) }
     ensures typed { IfOk result (λ core. IsWellTyped core) }
 {
     let declarations = declared(alloc, units)?;
     let scope = declarations.as_slice();
-    if scope.len() > MOST_VARIABLES {
-        return Err(CheckError::NoMemory);
-    }
     let variables = types_of(alloc, scope)?;
     let units = judge_level(alloc, scope, units)?;
-    Ok(Core { variables, units })
+    Ok(Core {
+        variables,
+        bodies: List::new(alloc),
+        units,
+    })
 }

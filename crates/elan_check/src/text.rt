@@ -17,8 +17,7 @@ use elan_types::{Core, Env};
 use std::alloc::Global;
 
 /// The one core of a text, or the first phrase in text order that breaks a rule though all its parts have meaning, and the
-/// rule. A text that declares more names than a command has cells, 16,384, is answered with `NoMemory`; no text of at most
-/// 8,000 tokens does.
+/// rule. A text that declares more than 65,536 names may be answered with `NoMemory`; no text of at most 8,000 tokens does.
 pub fn check(alloc: Global, tree: &Tree, env: &Env) -> Result<Core, CheckError>
     // What it gives is the meaning.
     ensures meaning { IfOk result (λ core. text.Means env.now tree.now core) }
