@@ -1,7 +1,6 @@
 -- When a core with one body is well typed, and that one is which is listed in a test.
 use Rattle.std.proofs.Common.{◌≡◌, ℕ, zero, suc, List, [], ◌∷◌, map, Some, None, true, refl, subst, ap, sym, ◌∙◌}
-use Rattle.std.specs.Prelude.{slice_get, pos}
-use Rattle.eu_base.specs.declared.operation.Change.TheVariants.{Increase}
+use Rattle.std.specs.Prelude.{slice_get}
 use Rattle.elan_types.specs.declared.elan_type.ElanType.TheVariants as types
 use Rattle.elan_types.specs.declared.core_phrase.Access.TheVariants.{Var}
 use Rattle.elan_types.specs.declared.core_phrase.PlacePhrase.TheVariants as places
@@ -27,24 +26,24 @@ one_body core b e typed scope content = record {
   bodies = λ n x h. let f = only b x n (ap (λ l. slice_get l n) (sym e) ∙ h) in subst (λ n. is_content_typed core.variables core.bodies (Some n) x.content ≡ true) (sym f.0) (subst (λ (x : Body). is_content_typed core.variables core.bodies (Some 0) x.content ≡ true) f.1 content);
 }
 
--- a variable, a PROC that increases its parameter, and a call of it
-abbrev pub increase : Action
-increase = roll-Action (t.Modify Increase (places.Parameter 0) (roll-ValuePhrase (t.Number (pos 1))))
+-- a variable, a PROC that puts its parameter, and a call of it
+abbrev pub put : Action
+put = roll-Action (t.Put (roll-ValuePhrase (t.Load (places.Parameter 0) types.Int)))
 
-abbrev pub increasing : Body
-increasing = record { scope = scopes.Own (record { of = types.Int; access = Var } ∷ []) []; content = contents.Units (increase ∷ []) }
+abbrev pub putting : Body
+putting = record { scope = scopes.Own (record { of = types.Int; access = Var } ∷ []) []; content = contents.Units (put ∷ []) }
 
 abbrev pub call : Action
 call = roll-Action (t.Action::Call 0 (roll-Actual (t.Place (places.Variable 0) types.Int) ∷ []))
 
 abbrev pub calling : Core
-calling = record { variables = types.Int ∷ []; bodies = increasing ∷ []; units = call ∷ [] }
+calling = record { variables = types.Int ∷ []; bodies = putting ∷ []; units = call ∷ [] }
 
 call_typed : all_true (map (is_typed calling.variables calling.bodies None) (call ∷ [])) ≡ true
 call_typed = rw (fold-roll-Action, fold-roll-Actual) refl
 
-increase_typed : is_content_typed calling.variables calling.bodies (Some 0) increasing.content ≡ true
-increase_typed = rw (fold-roll-Action, fold-roll-ValuePhrase) refl
+put_typed : is_content_typed calling.variables calling.bodies (Some 0) putting.content ≡ true
+put_typed = rw (fold-roll-Action, fold-roll-ValuePhrase) refl
 
 pub calling_typed : IsWellTyped calling
-calling_typed = one_body calling increasing refl call_typed tt increase_typed
+calling_typed = one_body calling putting refl call_typed tt put_typed

@@ -4,7 +4,7 @@ ghost use Rattle.std.specs.Prelude.{◌≡◌, ◌∷◌, [], IfOk};
 use crate::generate;
 use code_form::listing;
 use elan_types::{
-    Access, Action, Actual, Body, Change, Content, Core, ElanType, Parameter, PlacePhrase, Scope,
+    Access, Action, Actual, Body, Content, Core, ElanType, Parameter, PlacePhrase, Scope,
     ValuePhrase,
 };
 use eu_base::{List, NoMemory};
@@ -53,19 +53,15 @@ fn a_call_is_listed(rt: HostRuntime) -> Result<(), Fail> {
         of: ElanType::Int,
         access: Access::Var,
     };
-    let increase = Action::Modify(
-        Change::Increase,
-        PlacePhrase::Parameter(0),
-        ValuePhrase::Number(1),
-    );
+    let load = ValuePhrase::Load(PlacePhrase::Parameter(0), ElanType::Int);
     let parameters = one(alloc, parameter)?;
-    let increases = one(alloc, increase)?;
+    let puts = one(alloc, Action::Put(load))?;
     let body = Body {
         scope: Scope::Own {
             parameters,
             variables: List::new(alloc),
         },
-        content: Content::Units(increases),
+        content: Content::Units(puts),
     };
     let actual = Actual::Place(PlacePhrase::Variable(0), ElanType::Int);
     let actuals = one(alloc, actual)?;
@@ -81,7 +77,7 @@ fn a_call_is_listed(rt: HostRuntime) -> Result<(), Fail> {
     let text = listing(alloc, &code)?;
     assert_eq!(rt;
         text.as_slice(),
-        b"0 OUTER 0\n1 CALL 3 1\n2 END\n3 PARAM 0\n4 INT 1\n5 DO INCR\n6 BACK\n".as_slice()
+        b"0 OUTER 0\n1 CALL 3 1\n2 END\n3 PARAM 0\n4 LOAD INT\n5 ASK put(INT)\n6 BACK\n".as_slice()
     );
     Ok(())
 }
