@@ -2,23 +2,28 @@
 use Rattle.std.proofs.Common.{◌≡◌, ℕ, suc, ◌+◌, ◌<◌, List, [], ◌∷◌, ◌++◌, false, map, refl, sym, ap, subst, ◌∙◌, append_assoc, length, get_or, drop, drop-cons, add-one}
 use Rattle.elan_types.specs.declared.elan_type.ElanType.{ElanType}
 use Rattle.elan_types.specs.declared.core_phrase.Action.{Action}
-use Rattle.elan_check.specs.declared.scope.Entry.{Entry}
-use Rattle.elan_check.specs.declared.meant.Meant.{Meant}
-use Rattle.elan_check.specs.declared.meant.Meant.TheVariants.{Absent, Value, Done, Labels, Branches, Arms, Counter}
-use Rattle.elan_check.specs.Scope.{Scope, types_of, type_of}
-use Rattle.elan_check.specs.Phrase as form
-use Rattle.elan_check.specs.Phrase.{Phrase, around, all_of}
-use Rattle.elan_check.specs.Ruled.{Ruled, gives, ◌>>=◌, before}
-use Rattle.elan_check.specs.Rules.{rule, without_value, actions_of, last_value, or_last, ended}
+use Rattle.elan_rules.specs.declared.scope.Entry.{Entry}
+use Rattle.elan_rules.specs.declared.meant.Meant.{Meant}
+use Rattle.elan_rules.specs.declared.meant.Meant.TheVariants.{Absent, Value, Done, Labels, Branches, Arms, Counter}
+use Rattle.elan_rules.specs.Scope.{types_of, type_of}
+use Rattle.elan_rules.specs.declared.scope.Scope.{Scope}
+use Rattle.elan_rules.specs.Phrase as form
+use Rattle.elan_rules.specs.Phrase.{Phrase, around, all_of}
+use Rattle.elan_rules.specs.Ruled.{Ruled, gives, ◌>>=◌, before}
+use Rattle.elan_rules.specs.Rules.{rule, without_value, actions_of, last_value, or_last, ended}
 use Rattle.elan_check.specs.Shape.{roles, units}
-use Rattle.elan_check.specs.Meaning.{judged, judged_all}
-use Rattle.elan_check.proofs.First.{bind_gives, before_gives, gives_is}
+use Rattle.elan_rules.specs.Meaning.{judged, judged_all}
+use Rattle.elan_rules.proofs.First.{bind_gives, before_gives, gives_is}
 
 pub types_step : (es : List Entry) (i : ℕ) (e : Entry) (ts : List ElanType) → i < length es → e ≡ get_or es i e → ts ++ types_of (drop i es) ≡ types_of es → (ts ++ type_of e.denotes ∷ []) ++ types_of (drop (i + 1) es) ≡ types_of es
 types_step es i e ts lt is h =
     rw (add-one)
     (append_assoc ts (type_of e.denotes ∷ []) (types_of (drop (suc i) es))
     ∙ ap (λ (d : Scope). ts ++ types_of d) (ap (λ (d : Entry). d ∷ drop (suc i) es) is ∙ sym (drop-cons es i e lt)) ∙ h)
+
+pub types_count : (es : List Entry) → length (types_of es) ≡ length es
+types_count [] = refl
+types_count (e ∷ es) = ap suc (types_count es)
 
 kept : (k m n : Meant) → without_value k ≡ gives m → or_last n m ≡ n
 kept Absent m n e = ap (or_last n) (sym (gives_is Absent m e))

@@ -1,4 +1,4 @@
--- All names of a text are looked up in the one scope of the text.
+-- All names in the units of a body are looked up in the scope of the body.
 use Rattle.std.proofs.Common.{◌≡◌, ℤ, ℕ, Bool, true, false, ◌&&◌, List, [], ◌∷◌, ◌++◌, map, Option, Some, None, refl}
 use Rattle.std.specs.Prelude.{option_map}
 use Rattle.eu_base.specs.declared.operation.Way.{Way}
@@ -15,11 +15,9 @@ use Rattle.elan_tree.specs.declared.phrase.Unit.{Unit as Statement}
 use Rattle.elan_tree.specs.declared.phrase.Expr.TheOpen as t
 use Rattle.elan_tree.specs.declared.phrase.Expr.TheOpen.{Expr-F, Limit-F, Unit-F, Branch-F, Case-F, Counter-F, Item-F}
 use Rattle.elan_tree.specs.declared.phrase.Expr.TheFolds.{ind-Unit, map-Expr, map-Limit, map-Unit, map-Branch, map-Case, map-Counter, map-Item, fold-roll-Expr, fold-roll-Limit, fold-roll-Unit, fold-roll-Branch, fold-roll-Case, fold-roll-Counter, fold-roll-Item}
-use Rattle.elan_tree.specs.declared.tree.LevelUnit.{LevelUnit}
-use Rattle.elan_tree.specs.declared.tree.LevelUnit.TheVariants as level
-use Rattle.elan_check.specs.Scope.{Scope}
-use Rattle.elan_check.specs.Phrase as form
-use Rattle.elan_check.specs.Phrase.{Form, Phrase, phrase, Parts, none, part, all_of}
+use Rattle.elan_rules.specs.declared.scope.Scope.{Scope}
+use Rattle.elan_rules.specs.Phrase as form
+use Rattle.elan_rules.specs.Phrase.{Form, Phrase, phrase, Parts, none, part, all_of}
 use Rattle.elan_check.specs.Shape as shape
 
 abbrev fst : {A : Type 0} {B : A → Type 0} → (a : A) × B a → A
@@ -28,7 +26,14 @@ fst x = x.0
 module _ (s : Scope) where
   abbrev pub Names : Form → Type 0
   Names (form.named at z x) = z ≡ s
+  Names (form.applied at z sort x) = z ≡ s
   Names (form.declares at z x) = z ≡ s
+  Names (form.leave at z x) = z ≡ s
+  Names (form.heading at z sort x ps missing) = ⊥
+  Names (form.body at o r) = ⊥
+  Names form.routine = ⊥
+  Names (form.refinement o) = ⊥
+  Names form.level = ⊥
   Names _ = Unit {0}
 
   abbrev mutual
@@ -80,7 +85,7 @@ module _ (s : Scope) where
 
   roles_in : (may : Bool) (us : List ((u : Statement) × U u)) → AllIn (all_of (shape.roles may (map (shape.unit s) (map fst us))))
   roles_in may [] = tt
-  roles_in may (u ∷ us) = (role_in (may && shape.all_empty (map (shape.unit s) (map fst us))) (shape.unit s u.0) u.1, roles_in may us)
+  roles_in may (u ∷ us) = (role_in (may && form.all_empty (map (shape.unit s) (map fst us))) (shape.unit s u.0) u.1, roles_in may us)
 
   units_in : (may : Bool) (us : List ((u : Statement) × U u)) → InScope (shape.units may (map (shape.unit s) (map fst us)))
   units_in may us = (tt, roles_in may us)
@@ -106,7 +111,7 @@ module _ (s : Scope) where
   expr_in (t.Text at x) = (tt, tt)
   expr_in (t.Truth at b) = (tt, tt)
   expr_in (t.Named n) = (refl, tt)
-  expr_in (t.Call n actuals) = (tt, exprs_in actuals)
+  expr_in (t.Call n actuals) = (refl, exprs_in actuals)
   expr_in (t.Procedure at n) = (tt, tt)
   expr_in (t.Concr at a) = (tt, tt)
   expr_in (t.Bracket at a) = (tt, (a.1, tt))
@@ -116,8 +121,8 @@ module _ (s : Scope) where
   expr_in (t.Select at of cases (Some us)) = (tt, (of.1, ((tt, arms_in [] cases), (units_in true us, tt))))
   expr_in (t.Index at of index) = (tt, tt)
   expr_in (t.Field at of field) = (tt, tt)
-  expr_in (t.Monadic at o a) = (tt, (a.1, tt))
-  expr_in (t.Dyadic at o a b) = (tt, (a.1, (b.1, tt)))
+  expr_in (t.Monadic at o a) = (refl, (a.1, tt))
+  expr_in (t.Dyadic at o a b) = (refl, (a.1, (b.1, tt)))
   expr_in (t.Cand at a b) = (tt, (a.1, (b.1, tt)))
   expr_in (t.Cor at a b) = (tt, (a.1, (b.1, tt)))
 
@@ -148,8 +153,8 @@ module _ (s : Scope) where
   unit_in_layer (t.Loop at (Some k) None us (Some v)) = loop_in at (shape.counter s k.0) absent us (shape.expr s v.0) k.1 (tt, tt) v.1
   unit_in_layer (t.Loop at (Some k) (Some c) us None) = loop_in at (shape.counter s k.0) (shape.expr s c.0) us absent k.1 c.1 (tt, tt)
   unit_in_layer (t.Loop at (Some k) (Some c) us (Some v)) = loop_in at (shape.counter s k.0) (shape.expr s c.0) us (shape.expr s v.0) k.1 c.1 v.1
-  unit_in_layer (t.Leave at n None) = (tt, tt)
-  unit_in_layer (t.Leave at n (Some v)) = (tt, tt)
+  unit_in_layer (t.Leave at n None) = (refl, ((tt, tt), tt))
+  unit_in_layer (t.Leave at n (Some v)) = (refl, (v.1, tt))
 
   branch_in : (y : Below Branch-F) → InScope (shape.branch_step s (map-Branch _ _ _ _ _ _ _ _ _ _ _ _ _ _ (shape.expr s) (shape.limit s) (shape.unit s) (shape.branch s) (shape.case s) (shape.counter s) (shape.item s) (map-Branch _ _ _ _ _ _ _ _ _ _ _ _ _ _ fst fst fst fst fst fst fst y)))
   branch_in y = (tt, (y.condition.1, (units_in true y.units, tt)))
@@ -189,12 +194,13 @@ module _ (s : Scope) where
       (λ x y is. rw (fold-roll-Counter, ← is) (counter_in y))
       (λ x y is. rw (fold-roll-Item, ← is) (item_in y))
 
-  level_in : (us : List LevelUnit) → AllIn (all_of (shape.roles false (map (shape.level_unit s) us)))
-  level_in [] = tt
-  level_in (level.Plain u ∷ us) = ((tt, (unit_in u, tt)), level_in us)
-  level_in (level.NewType at n of ∷ us) = ((tt, ((tt, tt), tt)), level_in us)
-  level_in (level.Proc at result n formals body ∷ us) = ((tt, ((tt, tt), tt)), level_in us)
-  level_in (level.Op at result n formals body ∷ us) = ((tt, ((tt, tt), tt)), level_in us)
+  pub statement_in : (may : Bool) (u : Statement) → InScope (shape.role may (shape.unit s u))
+  statement_in may u = role_in may (shape.unit s u) (unit_in u)
 
-  pub level_units_in : (us : List LevelUnit) → InScope (shape.units false (map (shape.level_unit s) us))
-  level_units_in us = (tt, level_in us)
+  statements_in : (may : Bool) (us : List Statement) → AllIn (all_of (shape.roles may (map (shape.unit s) us)))
+  statements_in may [] = tt
+  statements_in may (u ∷ us) = (statement_in (may && form.all_empty (map (shape.unit s) us)) u, statements_in may us)
+
+  -- the units of a body
+  pub body_units_in : (may : Bool) (us : List Statement) → InScope (shape.units may (map (shape.unit s) us))
+  body_units_in may us = (tt, statements_in may us)

@@ -7,16 +7,16 @@ use Rattle.elan_tree.specs.declared.phrase.Unit.TheVariants as statement
 use Rattle.elan_tree.specs.declared.phrase.Expr.TheOpen as t
 use Rattle.elan_tree.specs.declared.phrase.Expr.TheFolds.{fold-roll-Unit}
 use Rattle.elan_check.specs.declared.error.CheckError.{CheckError}
-use Rattle.elan_check.specs.declared.meant.Meant.{Meant}
-use Rattle.elan_check.specs.declared.meant.Meant.TheVariants.{Absent}
-use Rattle.elan_check.specs.Scope.{Scope}
-use Rattle.elan_check.specs.Phrase as form
-use Rattle.elan_check.specs.Phrase.{Form, Phrase, phrase, Parts, none, part}
-use Rattle.elan_check.specs.Ruled.{Ruled, gives, ◌>>=◌, before}
-use Rattle.elan_check.specs.Rules.{rule}
+use Rattle.elan_rules.specs.declared.meant.Meant.{Meant}
+use Rattle.elan_rules.specs.declared.meant.Meant.TheVariants.{Absent}
+use Rattle.elan_rules.specs.declared.scope.Scope.{Scope}
+use Rattle.elan_rules.specs.Phrase as form
+use Rattle.elan_rules.specs.Phrase.{Form, Phrase, phrase, Parts, none, part}
+use Rattle.elan_rules.specs.Ruled.{Ruled, gives, ◌>>=◌, before}
+use Rattle.elan_rules.specs.Rules.{rule}
 use Rattle.elan_check.specs.Shape as shape
-use Rattle.elan_check.specs.Meaning.{judged, judged_all}
-use Rattle.elan_check.specs.Answer.{Is, Fails, after}
+use Rattle.elan_rules.specs.Meaning.{judged, judged_all}
+use Rattle.elan_rules.specs.Answer.{Is, Fails, after}
 use Rattle.elan_check.specs.declared.error.CheckError.TheVariants.{NoMemory, NoMeaning, NotBuilt}
 
 abbrev four : Form → Phrase → Phrase → Phrase → Phrase → Phrase

@@ -2,24 +2,24 @@
 use Rattle.std.proofs.Common.{◌≡◌, ℤ, List, [], ◌∷◌, ◌++◌, map, refl, ap, sym, ◌∙◌, append_assoc, ℕ, ◌+◌, ◌<◌, suc, Bool, true, false, ◌&&◌, length, get_or, drop, drop-cons, add-one, ◌-◌, take, subst, arith, length-drop}
 use Rattle.std.proofs.lemmas.List.{append-nil, take_all}
 use Rattle.elan_tree.specs.declared.phrase.Unit.{Unit as Statement}
-use Rattle.elan_check.specs.Scope.{Scope}
+use Rattle.elan_rules.specs.declared.scope.Scope.{Scope}
 use Rattle.elan_check.specs.Shape.{unit, is_empty, all_empty, role, roles}
-use Rattle.elan_check.specs.Answer.{afters, after, Is, Fails}
-use Rattle.elan_check.specs.Phrase as form
-use Rattle.elan_check.specs.Phrase.{Form}
-use Rattle.elan_check.specs.Rules.{rule}
+use Rattle.elan_rules.specs.Answer.{afters, after, Is, Fails}
+use Rattle.elan_rules.specs.Phrase as form
+use Rattle.elan_rules.specs.Phrase.{Form}
+use Rattle.elan_rules.specs.Rules.{rule}
 use Rattle.eu_base.specs.declared.operation.Way.{Way}
 use Rattle.std.proofs.Common.{Result}
 use Rattle.elan_check.specs.declared.error.CheckError.{CheckError}
 use Rattle.elan_check.specs.declared.error.CheckError.TheVariants.{NoMemory, NoMeaning, NotBuilt}
-use Rattle.elan_check.specs.declared.meant.Guarded.{Guarded}
-use Rattle.elan_check.specs.declared.meant.Labelled.{Labelled}
-use Rattle.elan_check.specs.declared.meant.Meant.{Meant}
-use Rattle.elan_check.specs.declared.meant.Meant.TheVariants.{Labels, Branches, Arms}
-use Rattle.elan_check.specs.Rules.{labels_of, branches_of, arms_of}
-use Rattle.elan_check.specs.Phrase.{Phrase, Parts, part, all_of}
-use Rattle.elan_check.specs.Ruled.{Fault, Ruled, gives, breaks, hangs, ◌>>=◌, before}
-use Rattle.elan_check.specs.Meaning.{judged, judged_all}
+use Rattle.elan_rules.specs.declared.meant.Guarded.{Guarded}
+use Rattle.elan_rules.specs.declared.meant.Labelled.{Labelled}
+use Rattle.elan_rules.specs.declared.meant.Meant.{Meant}
+use Rattle.elan_rules.specs.declared.meant.Meant.TheVariants.{Labels, Branches, Arms}
+use Rattle.elan_rules.specs.Rules.{labels_of, branches_of, arms_of}
+use Rattle.elan_rules.specs.Phrase.{Phrase, Parts, part, all_of}
+use Rattle.elan_rules.specs.Ruled.{Fault, Ruled, gives, breaks, hangs, ◌>>=◌, before}
+use Rattle.elan_rules.specs.Meaning.{judged, judged_all}
 
 cut : {X : Type 0} (xs : List X) (i : ℕ) (x : X) → i < length xs → x ≡ get_or xs i x → drop i xs ≡ x ∷ drop (suc i) xs
 cut xs i x lt e = drop-cons xs i x lt ∙ ap (λ y. y ∷ drop (suc i) xs) (sym e)

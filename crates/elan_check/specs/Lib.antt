@@ -1,11 +1,10 @@
 pub mod Names
+pub mod Operators
 pub mod NotBuilt
-pub mod Scope
-pub mod Phrase
-pub mod Ruled
-pub mod Predefined
-pub mod Rules
+pub mod Declarations
+pub mod Bodies
 pub mod Shape
-pub mod Meaning
+pub mod Level
+pub mod Uses
+pub mod Refinements
 pub mod Text
-pub mod Answer

@@ -20,6 +20,8 @@ use Rattle.elan_tree.specs.declared.phrase.Expr.TheOpen.{Expr-F, Limit-F, Unit-F
 use Rattle.elan_tree.specs.declared.phrase.Expr.TheFolds.{fold-Expr, fold-Limit, fold-Unit, fold-Branch, fold-Case, fold-Counter, fold-Item}
 use Rattle.elan_tree.specs.declared.tree.LevelUnit.{LevelUnit}
 use Rattle.elan_tree.specs.declared.tree.LevelUnit.TheVariants as level
+use Rattle.elan_tree.specs.declared.written_type.Formal.{Formal}
+use Rattle.elan_tree.specs.declared.tree.Body.{Body}
 use Rattle.elan_tree.specs.declared.tree.Refinement.{Refinement}
 use Rattle.elan_tree.specs.declared.tree.Tree.{Tree}
 use Rattle.elan_tree.specs.declared.tree.Tree.TheVariants as tree
@@ -86,7 +88,7 @@ unit_step (t.Bound at of items) = true
 unit_step (t.Value a) = a
 unit_step (t.Becomes at a b) = a || b
 unit_step (t.Loop at counter condition units until) = written counter || (written condition || (any units || written until))
-unit_step (t.Leave at n value) = true
+unit_step (t.Leave at n value) = name n || written value
 
 abbrev pub branch_step : Branch-F Bool Bool Bool Bool Bool Bool Bool → Bool
 branch_step b = b.condition || any b.units
@@ -125,15 +127,29 @@ abbrev pub optional_expr : Option Expr → Bool
 optional_expr None = false
 optional_expr (Some a) = in_expr a
 
+-- ---- bodies
+
+abbrev pub optional_type : Option TypePhrase → Bool
+optional_type None = false
+optional_type (Some of) = written_type of
+
+abbrev pub formal : Formal → Bool
+formal f = written_type f.of || any (map name f.names)
+
+abbrev pub refinement : Refinement → Bool
+refinement r = name r.name || any (map in_unit r.units)
+
+abbrev pub body : Body → Bool
+body b = any (map in_unit b.units) || any (map refinement b.refinements)
+
+-- Types are not built.
 abbrev pub in_level_unit : LevelUnit → Bool
 in_level_unit (level.Plain u) = in_unit u
-in_level_unit _ = true
+in_level_unit (level.Proc at r n fs b) = optional_type r || (name n || (any (map formal fs) || body b))
+in_level_unit (level.NewType at n of) = true
+in_level_unit (level.Op at r n fs b) = optional_type r || (operator n.operator || (any (map formal fs) || body b))
 
-abbrev pub is_refined : List Refinement → Bool
-is_refined [] = false
-is_refined (r ∷ rs) = true
-
--- Packets, types, procedures, operators and refinements are not built.
+-- Packets are not built.
 abbrev pub not_built : Tree → Bool
-not_built (tree.Program l) = any (map in_level_unit l.units) || is_refined l.refinements
+not_built (tree.Program l) = any (map in_level_unit l.units) || any (map refinement l.refinements)
 not_built (tree.Packet at n exports l) = true

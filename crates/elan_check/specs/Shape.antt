@@ -1,4 +1,4 @@
--- The phrases of a tree.
+-- The phrases of expressions and units.
 use Rattle.std.specs.Prelude.{ℕ, ℤ, Bool, true, false, ◌&&◌, List, [], ◌∷◌, ◌++◌, map, Option, Some, None, if◌then◌else◌}
 use Rattle.eu_base.specs.declared.operation.Way.{Way}
 use Rattle.eu_base.specs.declared.operation.Way.TheVariants.{Up, Down}
@@ -15,15 +15,11 @@ use Rattle.elan_tree.specs.declared.phrase.Unit.{Unit as Statement}
 use Rattle.elan_tree.specs.declared.phrase.Expr.TheOpen as t
 use Rattle.elan_tree.specs.declared.phrase.Expr.TheOpen.{Expr-F, Limit-F, Unit-F, Branch-F, Case-F, Counter-F, Item-F}
 use Rattle.elan_tree.specs.declared.phrase.Expr.TheFolds.{fold-Expr, fold-Limit, fold-Unit, fold-Branch, fold-Case, fold-Counter, fold-Item}
-use Rattle.elan_tree.specs.declared.tree.LevelUnit.{LevelUnit}
-use Rattle.elan_tree.specs.declared.tree.LevelUnit.TheVariants as level
-use Rattle.elan_tree.specs.declared.tree.Tree.{Tree}
-use Rattle.elan_tree.specs.declared.tree.Tree.TheVariants as tree
-use Rattle.elan_check.specs.Scope as scope
-use Rattle.elan_check.specs.Scope.{Scope}
-use Rattle.elan_check.specs.Predefined.{operator_text}
-use Rattle.elan_check.specs.Phrase as form
-use Rattle.elan_check.specs.Phrase.{Phrase, phrase, Parts, none, part, leaf, around, pair, three, all_of}
+use Rattle.elan_rules.specs.declared.heading.Sort.TheVariants.{Procedure, Operator}
+use Rattle.elan_rules.specs.declared.scope.Scope.{Scope}
+use Rattle.elan_check.specs.Operators.{operator_text}
+use Rattle.elan_rules.specs.Phrase as form
+use Rattle.elan_rules.specs.Phrase.{Phrase, phrase, Parts, none, part, leaf, around, pair, three, all_of, all_empty}
 
 -- a part that may be left out
 abbrev pub written : Option Phrase → Phrase
@@ -31,14 +27,6 @@ written None = leaf form.absent
 written (Some p) = p
 
 -- ---- lists of units
-
-abbrev pub is_empty : Phrase → Bool
-is_empty (phrase form.empty ps) = true
-is_empty p = false
-
-abbrev pub all_empty : List Phrase → Bool
-all_empty [] = true
-all_empty (p ∷ ps) = is_empty p && all_empty ps
 
 abbrev pub role : Bool → Phrase → Phrase
 role true p = p
@@ -90,12 +78,12 @@ module _ (s : Scope) where
   expr_step (t.Number at n) = leaf (form.number at n)
   expr_step (t.Truth at b) = leaf (form.truth at b)
   expr_step (t.Named n) = leaf (form.named n.at s n.text)
-  expr_step (t.Call n actuals) = phrase (form.applied n.at n.text) (all_of actuals)
+  expr_step (t.Call n actuals) = phrase (form.applied n.at s Procedure n.text) (all_of actuals)
   expr_step (t.Bracket at a) = around (form.bracket at) a
   expr_step (t.If at branches other) = pair (form.choice at) (phrase form.branches (all_of branches)) (otherwise other)
   expr_step (t.Select at of cases other) = three (form.selection at) of (phrase form.arms (all_of (arm_phrases [] cases))) (otherwise other)
-  expr_step (t.Monadic at o a) = around (form.applied at (operator_text o)) a
-  expr_step (t.Dyadic at o a b) = pair (form.applied at (operator_text o)) a b
+  expr_step (t.Monadic at o a) = around (form.applied at s Operator (operator_text o)) a
+  expr_step (t.Dyadic at o a b) = pair (form.applied at s Operator (operator_text o)) a b
   expr_step (t.Cand at a b) = pair (form.cand at) a b
   expr_step (t.Cor at a b) = pair (form.cor at) a b
   expr_step (t.Text at x) = leaf form.not_built
@@ -112,15 +100,15 @@ module _ (s : Scope) where
 
   abbrev pub unit_step : Unit-F Phrase (Way × Phrase) Phrase Phrase (List Label × Phrase) Phrase Phrase → Phrase
   unit_step t.Empty = leaf form.empty
-  unit_step (t.Variables at of items) = phrase form.declaration (all_of items)
-  unit_step (t.Constants at of items) = phrase form.declaration (all_of items)
+  unit_step (t.Variables at of items) = phrase (form.declaration at) (all_of items)
+  unit_step (t.Constants at of items) = phrase (form.declaration at) (all_of items)
   unit_step (t.Value a) = around form.statement a
-  unit_step (t.Becomes at a b) = pair (form.assignment at) a b
+  unit_step (t.Becomes at a b) = pair (form.assignment at s) a b
   unit_step (t.Loop at counter condition us until) =
       phrase (form.loop at) (part (written counter) (part (written condition) (part (units false us) (part (written until) none))))
   unit_step (t.Let at items) = leaf form.not_built
   unit_step (t.Bound at of items) = leaf form.not_built
-  unit_step (t.Leave at n value) = leaf form.not_built
+  unit_step (t.Leave at n value) = around (form.leave at s n.text) (written value)
 
   abbrev pub branch_step : Branch-F Phrase (Way × Phrase) Phrase Phrase (List Label × Phrase) Phrase Phrase → Phrase
   branch_step b = pair form.branch b.condition (units true b.units)
@@ -166,20 +154,3 @@ module _ (s : Scope) where
   abbrev pub optional_counter : Option Counter → Phrase
   optional_counter None = leaf form.absent
   optional_counter (Some k) = counter k
-
-  abbrev pub level_unit : LevelUnit → Phrase
-  level_unit (level.Plain u) = unit u
-  level_unit _ = leaf form.not_built
-
--- the declarations of a text
-abbrev pub declared : Tree → Scope
-declared (tree.Program l) = scope.declared l.units
-declared (tree.Packet at n exports l) = []
-
--- A text is a list of units that deliver nothing.
-abbrev pub text_in : Scope → Tree → Phrase
-text_in s (tree.Program l) = units false (map (level_unit s) l.units)
-text_in s (tree.Packet at n exports l) = leaf form.not_built
-
-abbrev pub text : Tree → Phrase
-text t = text_in (declared t) t

@@ -1,32 +1,40 @@
 -- The meaning of a text, and why it has none.
-use Rattle.std.specs.Prelude.{◌≡◌, [], true, false, Result, Ok, Err}
+use Rattle.std.specs.Prelude.{◌≡◌, true, false, Result, Ok, Err}
 use Rattle.elan_types.specs.declared.env.Env.{Env}
 use Rattle.elan_types.specs.declared.core_phrase.Core.{Core}
 use Rattle.elan_tree.specs.declared.tree.Tree.{Tree}
 use Rattle.elan_check.specs.declared.error.CheckError.{CheckError}
 use Rattle.elan_check.specs.declared.error.CheckError.TheVariants.{NoMemory, NoMeaning, NotBuilt}
-use Rattle.elan_check.specs.declared.meant.Meant.TheVariants.{Done}
+use Rattle.elan_types.specs.Typing.{IsWellTyped}
+use Rattle.elan_tree.specs.declared.tree.Level.{Level}
+use Rattle.elan_rules.specs.declared.meant.Meant.TheVariants as means
 use Rattle.elan_check.specs.NotBuilt.{not_built}
-use Rattle.elan_check.specs.Scope.{types_of}
-use Rattle.elan_check.specs.Ruled.{Fault}
-use Rattle.elan_check.specs.Shape.{declared, text}
-use Rattle.elan_check.specs.Meaning as phrase
+use Rattle.elan_rules.specs.Scope.{variables_of}
+use Rattle.elan_check.specs.Bodies.{level_names, headings}
+use Rattle.elan_rules.specs.Ruled.{Fault, gives, breaks}
+use Rattle.elan_check.specs.Level.{level_in, level_phrase, level_bodies, text}
+use Rattle.elan_rules.specs.declared.known.Known.{Known}
+use Rattle.elan_check.specs.Refinements.{known_of}
+use Rattle.elan_rules.specs.Meaning as phrase
 
 -- The text has a phrase or a name that is not built yet.
 abbrev pub IsNotBuilt : Tree → Type 0
 IsNotBuilt t = not_built t ≡ true
 
+-- what is known of the bodies of a text
+abbrev pub known : Tree → Known
+known t = known_of (headings (level_in t)) (level_bodies (level_in t))
+
 -- The text has this core.
 pub record Means (env : Env) (t : Tree) (core : Core) : Type 0 where
   pub is_built : not_built t ≡ false
-  pub variables : core.variables ≡ types_of (declared t)
-  pub bodies : core.bodies ≡ []
-  pub units : phrase.Means (text t) (Done core.units)
+  pub variables : core.variables ≡ variables_of (level_names (level_in t))
+  pub phrases : phrase.Means (known t) (text t) (means.Level core.units core.bodies)
 
 -- This is the place of the first phrase that breaks a rule though all its parts have meaning, and its reason.
 pub record Refused (env : Env) (t : Tree) (fault : Fault) : Type 0 where
   pub is_built : not_built t ≡ false
-  pub first : phrase.IsFirst (phrase.phrases (text t)) fault
+  pub first : phrase.IsFirst (known t) (phrase.phrases (text t)) fault
 
 abbrev pub IsCore : Core → Result Core CheckError → Type 0
 IsCore core (Ok c) = c ≡ core
@@ -40,6 +48,16 @@ IsRefusal P (Ok c) = Unit {0}
 IsRefusal P (Err NoMemory) = Unit {0}
 IsRefusal P (Err (NoMeaning at why)) = P (at, why)
 IsRefusal P (Err NotBuilt) = Unit {0}
+
+-- the meaning of a level, or its first fault
+abbrev pub Answers : Level → Result Core CheckError → Type 0
+Answers l (Ok core) =
+    (core.variables ≡ variables_of (level_names l))
+    × (phrase.judged (known_of (headings l) (level_bodies l)) (level_phrase l) ≡ gives (means.Level core.units core.bodies))
+    × IsWellTyped core
+Answers l (Err NoMemory) = Unit {0}
+Answers l (Err (NoMeaning at why)) = phrase.judged (known_of (headings l) (level_bodies l)) (level_phrase l) ≡ breaks (at, why)
+Answers l (Err NotBuilt) = ⊥
 
 -- A text has a core, or is refused, or has what is not built yet.
 pub data HasAnswer (env : Env) (t : Tree) : Type 0 where

@@ -1,16 +1,16 @@
 //! The declarations of a text, in text order.
 
 ghost use Rattle.std.specs.Prelude.{◌≡◌, ◌++◌, map, IfOk, OnOk};
-ghost use Rattle.elan_check.specs.Scope as spec;
+ghost use Rattle.elan_check.specs.Declarations as spec;
 
-use crate::scope::{Denotes, Entry};
-use elan_tree::{Branch, Case, Counter, Expr, Item, LevelUnit, Limit, Name, TypePhrase, Unit};
+use elan_rules::scope::{Denotes, Entry};
+use elan_tree::{Branch, Case, Counter, Expr, Item, Limit, Name, TypePhrase, Unit};
 use elan_types::ElanType;
 use eu_base::{Bytes, List, NoMemory};
 use std::alloc::Global;
 
-// The type that is written; the other types are not built.
-fn written_type(of: &TypePhrase) -> Option<ElanType>
+/// The type that is written; the other types are not built.
+pub fn written_type(of: &TypePhrase) -> Option<ElanType>
     ensures { result ≡ spec.written_type of.now }
 {
     match of {
@@ -38,7 +38,8 @@ fn constants(of: &TypePhrase) -> Option<Denotes>
     }
 }
 
-fn add(
+/// Adds the declaration of a name.
+pub fn add(
     alloc: Global,
     out: &mut List<Entry>,
     name: &Name,
@@ -179,8 +180,9 @@ fn in_counter(alloc: Global, out: &mut List<Entry>, counter: &Counter) -> Result
     in_limit(alloc, out, &counter.limit)
 }
 
+/// Adds what a unit declares.
 #[cycle(declare)]
-fn in_unit(alloc: Global, out: &mut List<Entry>, unit: &Unit) -> Result<(), NoMemory>
+pub fn in_unit(alloc: Global, out: &mut List<Entry>, unit: &Unit) -> Result<(), NoMemory>
     ensures { OnOk result (out.new ≡ out.old ++ spec.in_unit unit.now) }
 {
     match unit {
@@ -214,30 +216,19 @@ fn in_unit(alloc: Global, out: &mut List<Entry>, unit: &Unit) -> Result<(), NoMe
             in_units(alloc, out, units.as_slice())?;
             in_optional(alloc, out, until)?;
         }
+        Unit::Leave { value, .. } => in_optional(alloc, out, value)?,
         _ => {}
     }
     Ok(())
 }
 
+/// Adds what units declare.
 #[cycle(declare)]
-fn in_units(alloc: Global, out: &mut List<Entry>, units: &[Unit]) -> Result<(), NoMemory>
+pub fn in_units(alloc: Global, out: &mut List<Entry>, units: &[Unit]) -> Result<(), NoMemory>
     ensures { OnOk result (out.new ≡ out.old ++ spec.all (map spec.in_unit units.now)) }
 {
     for unit in units {
         in_unit(alloc, out, unit)?;
     }
     Ok(())
-}
-
-/// The declarations of a level.
-pub fn declared(alloc: Global, units: &[LevelUnit]) -> Result<List<Entry>, NoMemory>
-    ensures { IfOk result (λ scope. scope ≡ spec.declared units.now) }
-{
-    let mut scope = List::new(alloc);
-    for unit in units {
-        if let LevelUnit::Plain(unit) = unit {
-            in_unit(alloc, &mut scope, unit)?;
-        }
-    }
-    Ok(scope)
 }

@@ -1,35 +1,42 @@
-//! The meaning of phrases, from left to right, up to the first that breaks a rule.
+//! The meaning of expressions and units, from left to right.
 
-ghost use Rattle.std.specs.Prelude.{◌≡◌, ◌++◌, ◌∷◌, [], map, true, false, IfOk, ◌&&◌};
-ghost use Rattle.elan_check.specs.declared.meant.Meant.TheVariants as means;
-ghost use Rattle.elan_check.specs.Scope.{Scope};
-ghost use Rattle.elan_check.specs.Phrase as form;
-ghost use Rattle.elan_check.specs.Phrase.{phrase, all_of};
-ghost use Rattle.elan_check.specs.Rules as rules;
+ghost use Rattle.std.specs.Prelude.{ℕ, ◌≡◌, [], map, option_map, true, false, ◌&&◌};
+ghost use Rattle.elan_rules.specs.declared.scope.Scope.{Scope};
+ghost use Rattle.elan_rules.specs.Phrase as form;
+ghost use Rattle.elan_rules.specs.Phrase.{phrase, all_of};
+ghost use Rattle.elan_rules.specs.Meaning.{judged, judged_all};
+ghost use Rattle.elan_rules.specs.Answer.{Is};
 ghost use Rattle.elan_check.specs.Shape as shape;
-ghost use Rattle.elan_check.specs.Meaning.{judged, judged_all};
-ghost use Rattle.elan_check.specs.Answer.{Is, Gives, after};
 
-use crate::error::CheckError;
 use crate::label::{add_numbers, judge_labels};
-use crate::meant::{Guarded, Labelled, Meant};
-use crate::predefined::operator_text;
-use crate::rules::list::{alone, declaration, in_order, without_value};
-use crate::rules::name::{applied, declared, named};
-use crate::rules::part::valued;
-use crate::rules::value::{bracketed, number};
-use crate::rules::whole::{
-    assigned_parts, cand_parts, choice_parts, cor_parts, counted_parts, guarded_parts,
-    initial_parts, labelled_parts, repeated_parts, selected_parts,
+use crate::operators::operator_text;
+use elan_rules::heading::Sort;
+use elan_rules::known::Known;
+use elan_rules::meant::Meant;
+use elan_rules::row::{Judged, Row, and, four, one, pair, three};
+use elan_rules::rules::assignment::assignment;
+use elan_rules::rules::call::applied;
+use elan_rules::rules::choice::branches_of;
+use elan_rules::rules::leave::leaving;
+use elan_rules::rules::list::{alone, declaration, in_order, without_value};
+use elan_rules::rules::name::{declared, named};
+use elan_rules::rules::part::valued;
+use elan_rules::rules::selection::arms_of;
+use elan_rules::rules::value::{bracketed, number};
+use elan_rules::rules::whole::{
+    arm_parts, branch_parts, cand_parts, choice_parts, cor_parts, counter_parts, initial_parts,
+    loop_parts, selection_parts,
 };
-use crate::scope::{Entry, find};
+use elan_rules::scope::Scope;
+use elan_rules::trouble::Trouble;
 use elan_tree::{Branch, Case, Counter, Expr, Item, Limit, Unit};
 use elan_types::{ElanType, ValuePhrase, Way, Why};
-use eu_base::{Boxed, List, NoMemory};
+use eu_base::{Boxed, List};
 use std::alloc::Global;
 
-fn is_empty(unit: &Unit) -> bool
-    ensures { (s : Scope) → result ≡ shape.is_empty (shape.unit s unit.now) }
+/// Whether a unit is empty.
+pub fn is_empty(unit: &Unit) -> bool
+    ensures { (s : Scope) → result ≡ form.is_empty (shape.unit s unit.now) }
 {
     match unit {
         Unit::Empty => true,
@@ -37,8 +44,9 @@ fn is_empty(unit: &Unit) -> bool
     }
 }
 
-fn all_empty(units: &[Unit]) -> bool
-    ensures { (s : Scope) → result ≡ shape.all_empty (map (shape.unit s) units.now) }
+/// Whether all units are empty.
+pub fn all_empty(units: &[Unit]) -> bool
+    ensures { (s : Scope) → result ≡ form.all_empty (map (shape.unit s) units.now) }
 {
     for unit in units {
         if !is_empty(unit) {
@@ -50,7 +58,7 @@ fn all_empty(units: &[Unit]) -> bool
 
 // Whether a unit before these may deliver a value, where their list may.
 fn is_last(may: bool, rest: &[Unit]) -> bool
-    ensures { (s : Scope) → result ≡ (may && shape.all_empty (map (shape.unit s) rest.now)) }
+    ensures { (s : Scope) → result ≡ (may && form.all_empty (map (shape.unit s) rest.now)) }
 {
     if may { all_empty(rest) } else { false }
 }
@@ -65,114 +73,54 @@ fn way(limit: &Limit) -> Way
     }
 }
 
-fn one_part(alloc: Global, part: Meant) -> Result<List<Meant>, NoMemory>
-    ensures { IfOk result (λ list. list ≡ part ∷ []) }
-{
-    let mut parts = List::new(alloc);
-    parts.push(part)?;
-    Ok(parts)
-}
-
-fn two_parts(alloc: Global, first: Meant, second: Meant) -> Result<List<Meant>, NoMemory>
-    ensures { IfOk result (λ list. list ≡ first ∷ second ∷ []) }
-{
-    let mut parts = one_part(alloc, first)?;
-    parts.push(second)?;
-    Ok(parts)
-}
-
-fn monadic(alloc: Global, at: u32, name: &[u8], operand: Meant) -> Result<Meant, CheckError>
-    ensures { Is result (rules.applied at name.now (operand ∷ [])) }
-{
-    let operands = one_part(alloc, operand)?;
-    applied(alloc, at, name, operands)
-}
-
-fn selected_of(
-    alloc: Global,
-    at: u32,
-    of: Meant,
-    arms: List<Labelled>,
-    otherwise: Meant,
-) -> Result<Meant, CheckError>
-    ensures { Is result (rules.rule (form.selection at) (of ∷ means.Arms arms ∷ otherwise ∷ [])) }
-{
-    let mut parts = two_parts(alloc, of, Meant::Arms(arms))?;
-    parts.push(otherwise)?;
-    selected_parts(alloc, at, parts)
-}
-
 /// The meaning of an expression.
 #[cycle(judge)]
-pub fn judge(alloc: Global, scope: &[Entry], expr: &Expr) -> Result<Meant, CheckError>
-    ensures { Is result (judged (shape.expr scope.now expr.now)) }
+fn judge(alloc: Global, known: &Known, scope: &Scope, expr: &Expr) -> Judged
+    ensures { Is result (judged known.now (shape.expr scope.now expr.now)) }
 {
     match expr {
         Expr::Number(at, written) => Ok(number(*at, *written)),
         Expr::Truth(at, truth) => Ok(valued(*at, ElanType::Bool, ValuePhrase::Truth(*truth))),
-        Expr::Named(name) => named(
-            alloc,
-            name.at,
-            name.text.as_slice(),
-            find(scope, name.text.as_slice()),
-        ),
+        Expr::Named(name) => named(alloc, known, name.at, scope, name.text.as_slice()),
         Expr::Call(name, actuals) => {
-            let actuals = judge_exprs(alloc, scope, actuals.as_slice())?;
-            applied(alloc, name.at, name.text.as_slice(), actuals)
+            let actuals = judge_exprs(alloc, known, scope, actuals.as_slice())?;
+            let text = name.text.as_slice();
+            applied(alloc, name.at, scope, Sort::Procedure, text, actuals)
         }
         Expr::Bracket(at, inner) => {
-            let inner = judge(alloc, scope, inner.get())?;
+            let inner = judge(alloc, known, scope, inner.get())?;
             bracketed(*at, inner)
         }
         Expr::If {
             at,
             branches,
-            otherwise: None,
+            otherwise,
         } => {
-            let branches = judge_branches(alloc, scope, branches.as_slice())?;
-            let parts = two_parts(alloc, Meant::Branches(branches), Meant::Absent)?;
-            choice_parts(alloc, *at, parts)
-        }
-        Expr::If {
-            at,
-            branches,
-            otherwise: Some(units),
-        } => {
-            let branches = judge_branches(alloc, scope, branches.as_slice())?;
-            let mut parts = one_part(alloc, Meant::Branches(branches))?;
-            let otherwise = judge_units(alloc, scope, true, units.as_slice())?;
-            parts.push(otherwise)?;
+            let branches = judge_branches(alloc, known, scope, branches.as_slice());
+            let otherwise = judge_otherwise(alloc, known, scope, otherwise);
+            let parts = pair(alloc, branches, otherwise)?;
             choice_parts(alloc, *at, parts)
         }
         Expr::Select {
             at,
             of,
             cases,
-            otherwise: None,
+            otherwise,
         } => {
-            let arms = judge_cases(alloc, scope, cases.as_slice());
-            let of = judge(alloc, scope, of.get())?;
-            selected_of(alloc, *at, of, arms?, Meant::Absent)
-        }
-        Expr::Select {
-            at,
-            of,
-            cases,
-            otherwise: Some(units),
-        } => {
-            let otherwise = judge_units(alloc, scope, true, units.as_slice());
-            let arms = judge_cases(alloc, scope, cases.as_slice());
-            let of = judge(alloc, scope, of.get())?;
-            let arms = arms?;
-            selected_of(alloc, *at, of, arms, otherwise?)
+            let of = judge(alloc, known, scope, of.get());
+            let arms = judge_cases(alloc, known, scope, cases.as_slice());
+            let otherwise = judge_otherwise(alloc, known, scope, otherwise);
+            let parts = three(alloc, of, arms, otherwise)?;
+            selection_parts(alloc, *at, parts)
         }
         Expr::Monadic {
             at,
             operator,
             operand,
         } => {
-            let operand = judge(alloc, scope, operand.get())?;
-            monadic(alloc, *at, operator_text(operator), operand)
+            let operand = judge(alloc, known, scope, operand.get());
+            let parts = one(alloc, operand)?;
+            applied(alloc, *at, scope, Sort::Operator, operator_text(operator), parts)
         }
         Expr::Dyadic {
             at,
@@ -180,244 +128,233 @@ pub fn judge(alloc: Global, scope: &[Entry], expr: &Expr) -> Result<Meant, Check
             left,
             right,
         } => {
-            let left = judge(alloc, scope, left.get())?;
-            let mut parts = one_part(alloc, left)?;
-            let right = judge(alloc, scope, right.get())?;
-            parts.push(right)?;
-            applied(alloc, *at, operator_text(operator), parts)
+            let left = judge(alloc, known, scope, left.get());
+            let right = judge(alloc, known, scope, right.get());
+            let parts = pair(alloc, left, right)?;
+            applied(alloc, *at, scope, Sort::Operator, operator_text(operator), parts)
         }
         Expr::Cand { at, left, right } => {
-            let left = judge(alloc, scope, left.get())?;
-            let mut parts = one_part(alloc, left)?;
-            let right = judge(alloc, scope, right.get())?;
-            parts.push(right)?;
+            let left = judge(alloc, known, scope, left.get());
+            let right = judge(alloc, known, scope, right.get());
+            let parts = pair(alloc, left, right)?;
             cand_parts(alloc, *at, parts)
         }
         Expr::Cor { at, left, right } => {
-            let left = judge(alloc, scope, left.get())?;
-            let mut parts = one_part(alloc, left)?;
-            let right = judge(alloc, scope, right.get())?;
-            parts.push(right)?;
+            let left = judge(alloc, known, scope, left.get());
+            let right = judge(alloc, known, scope, right.get());
+            let parts = pair(alloc, left, right)?;
             cor_parts(alloc, *at, parts)
         }
-        Expr::Text(_, _) => Err(CheckError::NoMeaning(0, Why::Unknown)),
-        Expr::Procedure(_, _) => Err(CheckError::NoMeaning(0, Why::Unknown)),
-        Expr::Concr(_, _) => Err(CheckError::NoMeaning(0, Why::Unknown)),
-        Expr::Index { .. } => Err(CheckError::NoMeaning(0, Why::Unknown)),
-        Expr::Field { .. } => Err(CheckError::NoMeaning(0, Why::Unknown)),
+        Expr::Text(_, _) => Err(Trouble::Breaks(0, Why::Unknown)),
+        Expr::Procedure(_, _) => Err(Trouble::Breaks(0, Why::Unknown)),
+        Expr::Concr(_, _) => Err(Trouble::Breaks(0, Why::Unknown)),
+        Expr::Index { .. } => Err(Trouble::Breaks(0, Why::Unknown)),
+        Expr::Field { .. } => Err(Trouble::Breaks(0, Why::Unknown)),
     }
 }
 
-/// The operands of a call.
+// The operands of a call.
 #[cycle(judge)]
-#[tactic(auto, using(crate::proofs::Rows::prefixed_push))]
-fn judge_exprs(alloc: Global, scope: &[Entry], exprs: &[Expr]) -> Result<List<Meant>, CheckError>
-    ensures { Is result (judged_all (all_of (map (shape.expr scope.now) exprs.now))) }
+fn judge_exprs(alloc: Global, known: &Known, scope: &Scope, exprs: &[Expr]) -> Row
+    ensures { Is result (judged_all known.now (all_of (map (shape.expr scope.now) exprs.now))) }
 {
-    let mut parts = List::new(alloc);
+    let mut row = Ok(List::new(alloc));
     for expr in exprs {
-        let part = judge(alloc, scope, expr)?;
-        parts.push(part)?;
+        row = and(row, judge(alloc, known, scope, expr));
     }
-    Ok(parts)
+    row
 }
 
 #[cycle(judge)]
-fn judge_optional(alloc: Global, scope: &[Entry], expr: &Option<Expr>) -> Result<Meant, CheckError>
-    ensures { Is result (judged (shape.optional_expr scope.now expr.now)) }
+fn judge_optional(alloc: Global, known: &Known, scope: &Scope, expr: &Option<Expr>) -> Judged
+    ensures { Is result (judged known.now (shape.optional_expr scope.now expr.now)) }
 {
     match expr {
         None => Ok(Meant::Absent),
-        Some(expr) => judge(alloc, scope, expr),
+        Some(expr) => judge(alloc, known, scope, expr),
     }
 }
 
+// The units of ELSE or OTHERWISE.
 #[cycle(judge)]
-fn judge_branch(alloc: Global, scope: &[Entry], branch: &Branch) -> Result<Guarded, CheckError>
-    ensures { Gives (λ g. means.Branches (g ∷ [])) result (judged (shape.branch scope.now branch.now)) }
-{
-    let units = judge_units(alloc, scope, true, branch.units.as_slice());
-    let condition = judge(alloc, scope, &branch.condition)?;
-    let mut parts = one_part(alloc, condition)?;
-    parts.push(units?)?;
-    guarded_parts(alloc, parts)
-}
-
-#[cycle(judge)]
-#[tactic(auto, using(crate::proofs::Rows::prefixed_push, crate::proofs::Rows::branches_single))]
-fn judge_branches(
+fn judge_otherwise(
     alloc: Global,
-    scope: &[Entry],
-    branches: &[Branch],
-) -> Result<List<Guarded>, CheckError>
-    ensures { Gives means.Branches result (judged (phrase form.branches (all_of (map (shape.branch scope.now) branches.now)))) }
+    known: &Known,
+    scope: &Scope,
+    units: &Option<List<Unit>>,
+) -> Judged
+    ensures { Is result (judged known.now (shape.otherwise (option_map (λ us. map (shape.unit scope.now) us) units.now))) }
 {
-    let mut list = List::new(alloc);
-    for branch in branches {
-        let guarded = judge_branch(alloc, scope, branch)?;
-        list.push(guarded)?;
+    match units {
+        None => Ok(Meant::Absent),
+        Some(units) => judge_units(alloc, known, scope, true, units.as_slice()),
     }
-    Ok(list)
+}
+
+#[cycle(judge)]
+fn judge_branch(alloc: Global, known: &Known, scope: &Scope, branch: &Branch) -> Judged
+    ensures { Is result (judged known.now (shape.branch scope.now branch.now)) }
+{
+    let condition = judge(alloc, known, scope, &branch.condition);
+    let units = judge_units(alloc, known, scope, true, branch.units.as_slice());
+    let parts = pair(alloc, condition, units)?;
+    branch_parts(alloc, parts)
+}
+
+#[cycle(judge)]
+fn branch_row(alloc: Global, known: &Known, scope: &Scope, branches: &[Branch]) -> Row
+    ensures { Is result (judged_all known.now (all_of (map (shape.branch scope.now) branches.now))) }
+{
+    let mut row = Ok(List::new(alloc));
+    for branch in branches {
+        row = and(row, judge_branch(alloc, known, scope, branch));
+    }
+    row
+}
+
+#[cycle(judge)]
+fn judge_branches(alloc: Global, known: &Known, scope: &Scope, branches: &[Branch]) -> Judged
+    ensures { Is result (judged known.now (phrase form.branches (all_of (map (shape.branch scope.now) branches.now)))) }
+{
+    let row = branch_row(alloc, known, scope, branches)?;
+    let branches = branches_of(alloc, row)?;
+    Ok(Meant::Branches(branches))
 }
 
 #[cycle(judge)]
 fn judge_case(
     alloc: Global,
-    scope: &[Entry],
+    known: &Known,
+    scope: &Scope,
     earlier: &[i16],
     case: &Case,
-) -> Result<Labelled, CheckError>
-    ensures { Gives (λ l. means.Arms (l ∷ [])) result (judged (shape.arm_phrase scope.now earlier.now (shape.case scope.now case.now))) }
+) -> Judged
+    ensures { Is result (judged known.now (shape.arm_phrase scope.now earlier.now (shape.case scope.now case.now))) }
 {
-    let labels = judge_labels(alloc, scope, earlier, case.labels.as_slice())?;
-    let mut parts = one_part(alloc, Meant::Labels(labels))?;
-    let units = judge_units(alloc, scope, true, case.units.as_slice())?;
-    parts.push(units)?;
-    labelled_parts(alloc, parts)
+    let labels = judge_labels(alloc, known, scope, earlier, case.labels.as_slice());
+    let units = judge_units(alloc, known, scope, true, case.units.as_slice());
+    let parts = pair(alloc, labels, units)?;
+    arm_parts(alloc, parts)
 }
 
+// Each label is compared with all before it.
 #[cycle(judge)]
-#[tactic(auto, using(crate::proofs::Rows::prefixed_push, crate::proofs::Rows::arms_single))]
-fn judge_cases(alloc: Global, scope: &[Entry], cases: &[Case]) -> Result<List<Labelled>, CheckError>
-    ensures { Gives means.Arms result (judged (phrase form.arms (all_of (shape.arm_phrases scope.now [] (map (shape.case scope.now) cases.now))))) }
+fn case_row(alloc: Global, known: &Known, scope: &Scope, cases: &[Case]) -> Row
+    ensures { Is result (judged_all known.now (all_of (shape.arm_phrases scope.now [] (map (shape.case scope.now) cases.now)))) }
 {
-    let mut list = List::new(alloc);
+    let mut row = Ok(List::new(alloc));
     let mut earlier = List::new(alloc);
     for case in cases {
-        let arm = judge_case(alloc, scope, earlier.as_slice(), case)?;
-        list.push(arm)?;
+        row = and(row, judge_case(alloc, known, scope, earlier.as_slice(), case));
         add_numbers(&mut earlier, case.labels.as_slice())?;
     }
-    Ok(list)
+    row
 }
 
 #[cycle(judge)]
-fn judge_item(alloc: Global, scope: &[Entry], item: &Item) -> Result<Meant, CheckError>
-    ensures { Is result (judged (shape.item scope.now item.now)) }
+fn judge_cases(alloc: Global, known: &Known, scope: &Scope, cases: &[Case]) -> Judged
+    ensures { Is result (judged known.now (phrase form.arms (all_of (shape.arm_phrases scope.now [] (map (shape.case scope.now) cases.now))))) }
 {
-    let name = declared(item.name.at, find(scope, item.name.text.as_slice()))?;
-    let mut parts = one_part(alloc, name)?;
+    let row = case_row(alloc, known, scope, cases)?;
+    let arms = arms_of(alloc, row)?;
+    Ok(Meant::Arms(arms))
+}
+
+#[cycle(judge)]
+fn judge_item(alloc: Global, known: &Known, scope: &Scope, item: &Item) -> Judged
+    ensures { Is result (judged known.now (shape.item scope.now item.now)) }
+{
+    let at = item.name.at;
+    let name = declared(alloc, at, scope, item.name.text.as_slice());
     match &item.init {
-        None => Ok(Meant::Done(List::new(alloc))),
+        None => {
+            let _name = name?;
+            Ok(Meant::Done(List::new(alloc)))
+        }
         Some(expr) => {
-            let init = judge(alloc, scope, expr)?;
-            parts.push(init)?;
-            initial_parts(alloc, item.name.at, parts)
+            let value = judge(alloc, known, scope, expr);
+            let parts = pair(alloc, name, value)?;
+            initial_parts(alloc, at, parts)
         }
     }
 }
 
 #[cycle(judge)]
-#[tactic(auto, using(crate::proofs::Rows::prefixed_push))]
-fn judge_items(alloc: Global, scope: &[Entry], items: &[Item]) -> Result<List<Meant>, CheckError>
-    ensures { Is result (judged_all (all_of (map (shape.item scope.now) items.now))) }
+fn judge_items(alloc: Global, known: &Known, scope: &Scope, items: &[Item]) -> Row
+    ensures { Is result (judged_all known.now (all_of (map (shape.item scope.now) items.now))) }
 {
-    let mut parts = List::new(alloc);
+    let mut row = Ok(List::new(alloc));
     for item in items {
-        let part = judge_item(alloc, scope, item)?;
-        parts.push(part)?;
+        row = and(row, judge_item(alloc, known, scope, item));
     }
-    Ok(parts)
+    row
 }
 
 #[cycle(judge)]
-fn judge_limit(alloc: Global, scope: &[Entry], limit: &Limit) -> Result<Meant, CheckError>
-    ensures { Is result (judged (shape.limit scope.now limit.now).1) }
+fn judge_declaration(alloc: Global, known: &Known, scope: &Scope, items: &[Item]) -> Judged
+    ensures { (at : ℕ) → Is result (judged known.now (phrase (form.declaration at) (all_of (map (shape.item scope.now) items.now)))) }
+{
+    let items = judge_items(alloc, known, scope, items)?;
+    let meant = declaration(alloc, items)?;
+    Ok(meant)
+}
+
+#[cycle(judge)]
+fn judge_limit(alloc: Global, known: &Known, scope: &Scope, limit: &Limit) -> Judged
+    ensures { Is result (judged known.now (shape.limit scope.now limit.now).1) }
 {
     match limit {
         Limit::Without => Ok(Meant::Absent),
-        Limit::Upto(expr) => judge(alloc, scope, expr),
-        Limit::Downto(expr) => judge(alloc, scope, expr),
+        Limit::Upto(expr) => judge(alloc, known, scope, expr),
+        Limit::Downto(expr) => judge(alloc, known, scope, expr),
     }
 }
 
 #[cycle(judge)]
-fn judge_counter(alloc: Global, scope: &[Entry], counter: &Counter) -> Result<Meant, CheckError>
-    ensures { Is result (judged (shape.counter scope.now counter.now)) }
+fn judge_counter(alloc: Global, known: &Known, scope: &Scope, counter: &Counter) -> Judged
+    ensures { Is result (judged known.now (shape.counter scope.now counter.now)) }
 {
     let text = counter.name.text.as_slice();
-    let name = named(alloc, counter.name.at, text, find(scope, text))?;
-    let mut parts = one_part(alloc, name)?;
-    let from = judge_optional(alloc, scope, &counter.from)?;
-    parts.push(from)?;
-    counted_to(alloc, scope, parts, &counter.limit)
+    let name = named(alloc, known, counter.name.at, scope, text);
+    let from = judge_optional(alloc, known, scope, &counter.from);
+    let limit = judge_limit(alloc, known, scope, &counter.limit);
+    let parts = three(alloc, name, from, limit)?;
+    counter_parts(way(&counter.limit), parts)
 }
 
 #[cycle(judge)]
 fn judge_optional_counter(
     alloc: Global,
-    scope: &[Entry],
+    known: &Known,
+    scope: &Scope,
     counter: &Option<Boxed<Counter>>,
-) -> Result<Meant, CheckError>
-    ensures { Is result (judged (shape.optional_counter scope.now counter.now)) }
+) -> Judged
+    ensures { Is result (judged known.now (shape.optional_counter scope.now counter.now)) }
 {
     match counter {
         None => Ok(Meant::Absent),
-        Some(counter) => judge_counter(alloc, scope, counter.get()),
+        Some(counter) => judge_counter(alloc, known, scope, counter.get()),
     }
-}
-
-// A counter with its limit, after its name and first value.
-#[cycle(judge)]
-#[tactic(auto, using(crate::proofs::Rows::afters_gives, crate::proofs::Rows::afters_breaks))]
-fn counted_to(
-    alloc: Global,
-    scope: &[Entry],
-    mut parts: List<Meant>,
-    limit: &Limit,
-) -> Result<Meant, CheckError>
-    ensures { Is result (after (form.counter (shape.limit scope.now limit.now).0) parts (shape.limit scope.now limit.now).1) }
-{
-    let way = way(limit);
-    let limit = judge_limit(alloc, scope, limit)?;
-    parts.push(limit)?;
-    counted_parts(way, parts)
-}
-
-// A loop with the condition of UNTIL, after its other parts.
-#[cycle(judge)]
-#[tactic(auto, using(crate::proofs::Rows::afters_gives, crate::proofs::Rows::afters_breaks))]
-fn repeated_until(
-    alloc: Global,
-    scope: &[Entry],
-    at: u32,
-    mut parts: List<Meant>,
-    until: &Option<Expr>,
-) -> Result<Meant, CheckError>
-    ensures { Is result (after (form.loop at) parts (shape.optional_expr scope.now until.now)) }
-{
-    let until = judge_optional(alloc, scope, until)?;
-    parts.push(until)?;
-    repeated_parts(alloc, at, parts)
 }
 
 /// The meaning of a unit.
 #[cycle(judge)]
-pub fn judge_unit(alloc: Global, scope: &[Entry], unit: &Unit) -> Result<Meant, CheckError>
-    ensures { Is result (judged (shape.unit scope.now unit.now)) }
+pub fn judge_unit(alloc: Global, known: &Known, scope: &Scope, unit: &Unit) -> Judged
+    ensures { Is result (judged known.now (shape.unit scope.now unit.now)) }
 {
     match unit {
         Unit::Empty => Ok(Meant::Done(List::new(alloc))),
-        Unit::Variables(_, _, items) => {
-            let items = judge_items(alloc, scope, items.as_slice())?;
-            let meant = declaration(alloc, items)?;
-            Ok(meant)
-        }
-        Unit::Constants(_, _, items) => {
-            let items = judge_items(alloc, scope, items.as_slice())?;
-            let meant = declaration(alloc, items)?;
-            Ok(meant)
-        }
+        Unit::Variables(_, _, items) => judge_declaration(alloc, known, scope, items.as_slice()),
+        Unit::Constants(_, _, items) => judge_declaration(alloc, known, scope, items.as_slice()),
         Unit::Value(expr) => {
-            let value = judge(alloc, scope, expr)?;
+            let value = judge(alloc, known, scope, expr)?;
             alone(alloc, value)
         }
         Unit::Becomes { at, left, right } => {
-            let left = judge(alloc, scope, left)?;
-            let mut parts = one_part(alloc, left)?;
-            let right = judge(alloc, scope, right)?;
-            parts.push(right)?;
-            assigned_parts(alloc, *at, parts)
+            let left = judge(alloc, known, scope, left);
+            let right = judge(alloc, known, scope, right);
+            let parts = pair(alloc, left, right)?;
+            assignment(alloc, *at, scope, parts)
         }
         Unit::Loop {
             at,
@@ -426,66 +363,49 @@ pub fn judge_unit(alloc: Global, scope: &[Entry], unit: &Unit) -> Result<Meant, 
             units,
             until,
         } => {
-            let counter = judge_optional_counter(alloc, scope, counter)?;
-            let mut parts = one_part(alloc, counter)?;
-            let condition = judge_optional(alloc, scope, condition)?;
-            parts.push(condition)?;
-            let units = judge_units(alloc, scope, false, units.as_slice())?;
-            parts.push(units)?;
-            repeated_until(alloc, scope, *at, parts, until)
+            let counter = judge_optional_counter(alloc, known, scope, counter);
+            let condition = judge_optional(alloc, known, scope, condition);
+            let units = judge_units(alloc, known, scope, false, units.as_slice());
+            let until = judge_optional(alloc, known, scope, until);
+            let parts = four(alloc, counter, condition, units, until)?;
+            loop_parts(alloc, *at, parts)
         }
-        Unit::Let(_, _) => Err(CheckError::NoMeaning(0, Why::Unknown)),
-        Unit::Bound(_, _, _) => Err(CheckError::NoMeaning(0, Why::Unknown)),
-        Unit::Leave { .. } => Err(CheckError::NoMeaning(0, Why::Unknown)),
+        Unit::Let(_, _) => Err(Trouble::Breaks(0, Why::Unknown)),
+        Unit::Bound(_, _, _) => Err(Trouble::Breaks(0, Why::Unknown)),
+        Unit::Leave { at, name, value } => {
+            let value = judge_optional(alloc, known, scope, value)?;
+            leaving(alloc, known, *at, scope.left(name.text.as_slice()), value)
+        }
     }
 }
 
 /// A unit that may deliver a value, or may not.
 #[cycle(judge)]
-pub fn judge_role(
-    alloc: Global,
-    scope: &[Entry],
-    may: bool,
-    unit: &Unit,
-) -> Result<Meant, CheckError>
-    ensures { Is result (judged (shape.role may (shape.unit scope.now unit.now))) }
+pub fn judge_role(alloc: Global, known: &Known, scope: &Scope, may: bool, unit: &Unit) -> Judged
+    ensures { Is result (judged known.now (shape.role may (shape.unit scope.now unit.now))) }
 {
-    let meant = judge_unit(alloc, scope, unit)?;
+    let meant = judge_unit(alloc, known, scope, unit)?;
     if may { Ok(meant) } else { without_value(meant) }
 }
 
 #[cycle(judge)]
-#[tactic(auto, using(crate::proofs::Rows::prefixed_push))]
-fn judge_roles(
-    alloc: Global,
-    scope: &[Entry],
-    may: bool,
-    units: &[Unit],
-) -> Result<List<Meant>, CheckError>
-    ensures { Is result (judged_all (all_of (shape.roles may (map (shape.unit scope.now) units.now)))) }
+fn judge_roles(alloc: Global, known: &Known, scope: &Scope, may: bool, units: &[Unit]) -> Row
+    ensures { Is result (judged_all known.now (all_of (shape.roles may (map (shape.unit scope.now) units.now)))) }
 {
-    let mut parts = List::new(alloc);
+    let mut row = Ok(List::new(alloc));
     for (i, unit) in units.iter().enumerate() {
         let last = is_last(may, &units[i + 1..]);
-        match judge_role(alloc, scope, last, unit) {
-            Ok(part) => parts.push(part)?,
-            Err(error) => return Err(error),
-        }
+        row = and(row, judge_role(alloc, known, scope, last, unit));
     }
-    Ok(parts)
+    row
 }
 
 /// A list of units, whose last one may deliver a value, or may not.
 #[cycle(judge)]
-pub fn judge_units(
-    alloc: Global,
-    scope: &[Entry],
-    may: bool,
-    units: &[Unit],
-) -> Result<Meant, CheckError>
-    ensures { Is result (judged (shape.units may (map (shape.unit scope.now) units.now))) }
+pub fn judge_units(alloc: Global, known: &Known, scope: &Scope, may: bool, units: &[Unit]) -> Judged
+    ensures { Is result (judged known.now (shape.units may (map (shape.unit scope.now) units.now))) }
 {
-    let parts = judge_roles(alloc, scope, may, units)?;
-    let meant = in_order(alloc, parts)?;
+    let row = judge_roles(alloc, known, scope, may, units)?;
+    let meant = in_order(alloc, row)?;
     Ok(meant)
 }

@@ -1,12 +1,12 @@
 //! The labels of SELECT.
 
 ghost use Rattle.std.specs.Prelude.{◌≡◌, ◌++◌, ◌∷◌, [], OnOk, IfOk};
-ghost use Rattle.elan_check.specs.declared.meant.Meant.TheVariants as means;
-ghost use Rattle.elan_check.specs.Phrase as form;
-ghost use Rattle.elan_check.specs.Phrase.{phrase, all_of};
+ghost use Rattle.elan_rules.specs.declared.meant.Meant.TheVariants as means;
+ghost use Rattle.elan_rules.specs.Phrase as form;
+ghost use Rattle.elan_rules.specs.Phrase.{phrase, all_of};
 ghost use Rattle.elan_check.specs.Shape as shape;
-ghost use Rattle.elan_check.specs.Meaning.{judged};
-ghost use Rattle.elan_check.specs.Answer.{Gives};
+ghost use Rattle.elan_rules.specs.Meaning.{judged};
+ghost use Rattle.elan_rules.specs.Answer.{Gives};
 
 use crate::error::CheckError;
 use crate::rules::selection::{label_is, label_named};

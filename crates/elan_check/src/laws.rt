@@ -4,7 +4,8 @@ ghost use Rattle.std.specs.Prelude.{◌≡◌, ◌⊎◌};
 ghost use Rattle.elan_types.specs.declared.env.Env.{Env};
 ghost use Rattle.elan_types.specs.declared.core_phrase.Core.{Core};
 ghost use Rattle.elan_tree.specs.declared.tree.Tree.{Tree};
-ghost use Rattle.elan_check.specs.Ruled.{Fault};
+ghost use Rattle.elan_types.specs.Typing.{IsWellTyped};
+ghost use Rattle.elan_rules.specs.Ruled.{Fault};
 ghost use Rattle.elan_check.specs.Text.{Means, Refused, IsNotBuilt, HasOneAnswer};
 
 /// A text has at most one core.
@@ -25,4 +26,9 @@ pub fn meant_is_not_refused()
 /// Each text has a core, or is refused, or has what is not built yet, and only one of these.
 pub fn each_text_has_one_answer()
     ensures { (env : Env) → (t : Tree) → HasOneAnswer env t }
+{}
+
+/// A core that a text means is well typed.
+pub fn what_a_text_means_is_well_typed()
+    ensures { (env : Env) → (t : Tree) → (c : Core) → Means env t c → IsWellTyped c }
 {}

@@ -1,80 +1,165 @@
-//! The meaning of a level: its declarations, and its units.
+//! The meaning of a level: its units, its PROCs and OPs, and its refinements.
 
-ghost use Rattle.std.specs.Prelude.{◌≡◌, [], map, true, false, IfOk};
+ghost use Rattle.std.specs.Prelude.{◌≡◌, ◌++◌, None, IfOk};
 ghost use Rattle.elan_types.specs.Typing.{IsWellTyped};
-ghost use Rattle.elan_check.specs.declared.meant.Meant.TheVariants as means;
-ghost use Rattle.elan_check.specs.Phrase.{all_of};
-ghost use Rattle.elan_check.specs.Rules as rules;
-ghost use Rattle.elan_check.specs.Scope as scopes;
-ghost use Rattle.elan_check.specs.Shape as shape;
-ghost use Rattle.elan_check.specs.Meaning.{judged, judged_all};
-ghost use Rattle.elan_check.specs.Answer.{Is, Gives};
+ghost use Rattle.elan_types.specs.declared.core_phrase.Core.{Core};
+ghost use Rattle.elan_types.specs.declared.env.Env.{Env};
+ghost use Rattle.elan_rules.specs.declared.known.Known.{Known};
+ghost use Rattle.elan_rules.specs.Phrase.{all_of};
+ghost use Rattle.elan_rules.specs.Meaning.{judged, judged_all};
+ghost use Rattle.elan_rules.specs.Answer.{Is};
+ghost use Rattle.elan_check.specs.Bodies as bodies;
+ghost use Rattle.elan_check.specs.Level as spec;
+ghost use Rattle.elan_check.specs.Refinements.{known_of};
+ghost use Rattle.elan_check.specs.Text as text;
 
-use crate::declare::declared;
+use crate::bodies::{held_types, level_names};
+use crate::deliveries::known_of;
 use crate::error::CheckError;
+use crate::heading::{first_refinement, headings, number_behind};
 use crate::judge::judge_role;
-use crate::meant::Meant;
-use crate::rules::list::done_in_order;
-use crate::scope::{Entry, types_of};
-use elan_tree::LevelUnit;
-use elan_types::{Action, Core, Why};
-use eu_base::List;
+use crate::operators::operator_text;
+use crate::routine::{Routine, judge_refinements, judge_routine};
+use elan_rules::heading::Sort;
+use elan_rules::known::Known;
+use elan_rules::row::{Judged, Row, and, one};
+use elan_rules::rules::body::level;
+use elan_rules::rules::name::declared;
+use elan_rules::scope::Scope;
+use elan_rules::trouble::Trouble;
+use elan_tree::{Formal, Level, LevelUnit, Name};
+use elan_types::{Core, Why};
+use eu_base::{List, NoMemory};
 use std::alloc::Global;
 
-fn judge_unit(alloc: Global, scope: &[Entry], unit: &LevelUnit) -> Result<Meant, CheckError>
-    ensures { Is result (judged (shape.role false (shape.level_unit scope.now unit.now))) }
+// The name of a PROC: one without parameters is a name of the level.
+fn procedure_name(alloc: Global, scope: &Scope, name: &Name, formals: &[Formal]) -> Row
+    ensures { (k : Known) → Is result (judged_all k (all_of (spec.procedure_name scope.now name.now formals.now))) }
+{
+    match formals {
+        [] => one(
+            alloc,
+            declared(alloc, name.at, scope, name.text.as_slice()),
+        ),
+        [_first, _others @ ..] => Ok(List::new(alloc)),
+    }
+}
+
+// A unit whose first body has this number.
+fn judge_level_unit(
+    alloc: Global,
+    known: &Known,
+    scope: &mut Scope,
+    number: u16,
+    unit: &LevelUnit,
+) -> Judged
+    requires level { scope.old.routine ≡ None }
+    requires unit { scope.old.refinement ≡ None }
+    ensures meaning { Is result (judged known.now (spec.level_unit scope.old number unit.now)) }
+    ensures kept { scope.new ≡ scope.old }
 {
     match unit {
-        LevelUnit::Plain(unit) => judge_role(alloc, scope, false, unit),
-        LevelUnit::NewType { .. } => Err(CheckError::NoMeaning(0, Why::Unknown)),
-        LevelUnit::Proc { .. } => Err(CheckError::NoMeaning(0, Why::Unknown)),
-        LevelUnit::Op { .. } => Err(CheckError::NoMeaning(0, Why::Unknown)),
+        LevelUnit::Plain(unit) => judge_role(alloc, known, scope, false, unit),
+        LevelUnit::NewType { .. } => Err(Trouble::Breaks(0, Why::Unknown)),
+        LevelUnit::Proc {
+            result,
+            name,
+            formals,
+            body,
+            ..
+        } => {
+            let formals = formals.as_slice();
+            let names = procedure_name(alloc, scope, name, formals);
+            let routine = Routine {
+                sort: Sort::Procedure,
+                number,
+                at: name.at,
+                name: name.text.as_slice(),
+                result,
+                formals,
+                body,
+            };
+            judge_routine(alloc, known, scope, routine, names)
+        }
+        LevelUnit::Op {
+            result,
+            name,
+            formals,
+            body,
+            ..
+        } => {
+            let routine = Routine {
+                sort: Sort::Operator,
+                number,
+                at: name.at,
+                name: operator_text(&name.operator),
+                result,
+                formals: formals.as_slice(),
+                body,
+            };
+            judge_routine(alloc, known, scope, routine, Ok(List::new(alloc)))
+        }
     }
 }
 
-#[tactic(auto, using(crate::proofs::Rows::prefixed_push))]
-fn judge_units(
-    alloc: Global,
-    scope: &[Entry],
-    units: &[LevelUnit],
-) -> Result<List<Meant>, CheckError>
-    ensures { Is result (judged_all (all_of (shape.roles false (map (shape.level_unit scope.now) units.now)))) }
+fn judge_level_units(alloc: Global, known: &Known, scope: &mut Scope, units: &[LevelUnit]) -> Row
+    requires level { scope.old.routine ≡ None }
+    requires unit { scope.old.refinement ≡ None }
+    ensures meaning { Is result (judged_all known.now (all_of (spec.level_units scope.old 0 units.now))) }
+    ensures kept { scope.new ≡ scope.old }
 {
-    let mut parts = List::new(alloc);
+    let mut row = Ok(List::new(alloc));
+    let mut number = 0;
     for unit in units {
-        let part = judge_unit(alloc, scope, unit)?;
-        parts.push(part)?;
+        let next = judge_level_unit(alloc, known, scope, number, unit);
+        row = and(row, next);
+        number = number_behind(number, unit)?;
     }
-    Ok(parts)
+    row
 }
 
-// What the units of a level do.
-fn judge_level(
-    alloc: Global,
-    scope: &[Entry],
-    units: &[LevelUnit],
-) -> Result<List<Action>, CheckError>
-    ensures { Gives means.Done result (judged (shape.units false (map (shape.level_unit scope.now) units.now))) }
+// The parts of a level, in its scope.
+fn judge_level(alloc: Global, known: &Known, scope: &mut Scope, level: &Level) -> Row
+    requires { scope.old ≡ spec.level_scope level.now }
+    ensures { Is result (judged_all known.now (all_of (spec.level_parts level.now))) }
 {
-    let parts = judge_units(alloc, scope, units)?;
-    let actions = done_in_order(alloc, parts)?;
-    Ok(actions)
+    let units = level.units.as_slice();
+    let row = judge_level_units(alloc, known, scope, units);
+    let first = first_refinement(units)?;
+    let refinements = level.refinements.as_slice();
+    judge_refinements(alloc, known, scope, row, first, refinements)
+}
+
+fn level_scope(alloc: Global, level: &Level) -> Result<Scope, NoMemory>
+    ensures { IfOk result (λ scope. scope ≡ spec.level_scope level.now) }
+{
+    Ok(Scope {
+        headings: headings(alloc, level)?,
+        level: level_names(alloc, level)?,
+        routine: None,
+        refinement: None,
+    })
 }
 
 /// The core of a level.
-pub fn core_of(alloc: Global, units: &[LevelUnit]) -> Result<Core, CheckError>
-    ensures units { Gives (λ core. means.Done core.units) result (judged (shape.units false (map (shape.level_unit (scopes.declared units.now)) units.now))) }
-    ensures variables { IfOk result (λ core. core.variables ≡ scopes.types_of (scopes.declared units.now)) }
-    ensures bodies { IfOk result (λ core. core.bodies ≡ []) }
-    ensures typed { IfOk result (λ core. IsWellTyped core) }
+pub fn core_of(alloc: Global, written: &Level) -> Result<Core, CheckError>
+    ensures answer { text.Answers written.now result }
 {
-    let declarations = declared(alloc, units)?;
-    let scope = declarations.as_slice();
-    let variables = types_of(alloc, scope)?;
-    let units = judge_level(alloc, scope, units)?;
-    Ok(Core {
-        variables,
-        bodies: List::new(alloc),
-        units,
-    })
+    let mut scope = level_scope(alloc, written)?;
+    let known = known_of(alloc, &mut scope, written)?;
+    let variables = held_types(alloc, scope.level.as_slice())?;
+    match judge_level(alloc, &known, &mut scope, written) {
+        Ok(parts) => {
+            let (units, bodies) = level(alloc, parts)?;
+            Ok(Core {
+                variables,
+                bodies,
+                units,
+            })
+        }
+        Err(Trouble::NoMemory) => Err(CheckError::NoMemory),
+        Err(Trouble::Breaks(at, why)) => Err(CheckError::NoMeaning(at, why)),
+        // Where nothing breaks a rule, nothing hangs.
+        Err(Trouble::Hangs) => unreachable!(),
+    }
 }

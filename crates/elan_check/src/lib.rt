@@ -1,20 +1,25 @@
 //! What a text means: its names and types, and the first phrase that breaks a rule.
 #![tactic(auto)]
 
+mod bodies;
 mod declare;
+mod deliveries;
 mod error;
+mod heading;
 mod judge;
 mod label;
 mod laws;
 mod level;
-mod meant;
 mod names;
 mod not_built;
-mod predefined;
-mod rules;
-mod scope;
+mod operators;
+mod routine;
 mod text;
+mod uses;
 
 pub use error::CheckError;
-pub use laws::{each_text_has_one_answer, meant_is_not_refused, one_core, one_refusal};
+pub use laws::{
+    each_text_has_one_answer, meant_is_not_refused, one_core, one_refusal,
+    what_a_text_means_is_well_typed,
+};
 pub use text::check;

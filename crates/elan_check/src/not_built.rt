@@ -5,8 +5,8 @@ ghost use Rattle.elan_check.specs.NotBuilt as spec;
 
 use crate::names::is_not_built;
 use elan_tree::{
-    Branch, Case, Counter, Expr, Item, Label, LevelUnit, Limit, Name, Operator, Tree, TypePhrase,
-    Unit,
+    Body, Branch, Case, Counter, Expr, Formal, Item, Label, LevelUnit, Limit, Name, Operator,
+    Refinement, Tree, TypePhrase, Unit,
 };
 
 fn name(name: &Name) -> bool
@@ -211,7 +211,11 @@ fn in_unit(unit: &Unit) -> bool
         }
         Unit::Let(_, _) => true,
         Unit::Bound(_, _, _) => true,
-        Unit::Leave { .. } => true,
+        Unit::Leave {
+            name: left,
+            value,
+            ..
+        } => name(left) || in_optional(value),
     }
 }
 
@@ -227,15 +231,87 @@ fn in_units(units: &[Unit]) -> bool
     false
 }
 
+fn optional_type(of: &Option<TypePhrase>) -> bool
+    ensures { result ≡ spec.optional_type of.now }
+{
+    match of {
+        None => false,
+        Some(of) => written_type(of),
+    }
+}
+
+fn names(names: &[Name]) -> bool
+    ensures { result ≡ spec.any (map spec.name names.now) }
+{
+    for written in names {
+        if name(written) {
+            return true;
+        }
+    }
+    false
+}
+
+fn formals(formals: &[Formal]) -> bool
+    ensures { result ≡ spec.any (map spec.formal formals.now) }
+{
+    for formal in formals {
+        if written_type(&formal.of) || names(formal.names.as_slice()) {
+            return true;
+        }
+    }
+    false
+}
+
+fn refinements(refinements: &[Refinement]) -> bool
+    ensures { result ≡ spec.any (map spec.refinement refinements.now) }
+{
+    for refinement in refinements {
+        if name(&refinement.name) || in_units(refinement.units.as_slice()) {
+            return true;
+        }
+    }
+    false
+}
+
+fn in_body(body: &Body) -> bool
+    ensures { result ≡ spec.body body.now }
+{
+    in_units(body.units.as_slice()) || refinements(body.refinements.as_slice())
+}
+
+fn in_level_unit(unit: &LevelUnit) -> bool
+    ensures { result ≡ spec.in_level_unit unit.now }
+{
+    match unit {
+        LevelUnit::Plain(unit) => in_unit(unit),
+        LevelUnit::Proc {
+            result,
+            name: named,
+            formals: given,
+            body,
+            ..
+        } => { optional_type(result) || name(named) || formals(given.as_slice()) || in_body(body) }
+        LevelUnit::NewType { .. } => true,
+        LevelUnit::Op {
+            result,
+            name: named,
+            formals: given,
+            body,
+            ..
+        } => {
+            optional_type(result)
+                || operator(&named.operator)
+                || formals(given.as_slice())
+                || in_body(body)
+        }
+    }
+}
+
 fn in_level_units(units: &[LevelUnit]) -> bool
     ensures { result ≡ spec.any (map spec.in_level_unit units.now) }
 {
     for unit in units {
-        let found = match unit {
-            LevelUnit::Plain(unit) => in_unit(unit),
-            _ => true,
-        };
-        if found {
+        if in_level_unit(unit) {
             return true;
         }
     }
@@ -248,7 +324,7 @@ pub fn has_unbuilt(tree: &Tree) -> bool
 {
     match tree {
         Tree::Program(level) => in_level_units(level.units.as_slice())
-            || !level.refinements.is_empty(),
+            || refinements(level.refinements.as_slice()),
         Tree::Packet { .. } => true,
     }
 }

@@ -6,7 +6,7 @@ ghost use Rattle.elan_types.specs.declared.env.Env.{Env};
 ghost use Rattle.elan_types.specs.declared.core_phrase.Core.{Core};
 ghost use Rattle.elan_tree.specs.declared.tree.Tree.{Tree};
 ghost use Rattle.elan_check.specs.declared.error.CheckError.TheVariants as errors;
-ghost use Rattle.elan_check.specs.Ruled.{Fault};
+ghost use Rattle.elan_rules.specs.Ruled.{Fault};
 ghost use Rattle.elan_check.specs.Text as text;
 
 use crate::error::CheckError;
@@ -17,7 +17,7 @@ use elan_types::{Core, Env};
 use std::alloc::Global;
 
 /// The one core of a text, or the first phrase in text order that breaks a rule though all its parts have meaning, and the
-/// rule. A text that declares more than 65,536 names may be answered with `NoMemory`; no text of at most 8,000 tokens does.
+/// rule. A text with 65,536 names or bodies and more may be answered with `NoMemory`; no text of at most 8,000 tokens has them.
 pub fn check(alloc: Global, tree: &Tree, env: &Env) -> Result<Core, CheckError>
     // What it gives is the meaning.
     ensures meaning { IfOk result (λ core. text.Means env.now tree.now core) }
@@ -34,7 +34,7 @@ pub fn check(alloc: Global, tree: &Tree, env: &Env) -> Result<Core, CheckError>
         return Err(CheckError::NotBuilt);
     }
     match tree {
-        Tree::Program(level) => core_of(alloc, level.units.as_slice()),
+        Tree::Program(level) => core_of(alloc, level),
         Tree::Packet { .. } => Err(CheckError::NotBuilt),
     }
 }

@@ -227,7 +227,60 @@ const LOOPS: [(&str, &str); 36] = [
 ];
 
 /// What is not built yet.
-const UNBUILT: [(&str, &str); 23] = [
+const PROCEDURES: [(&str, &str); 44] = [
+    ("PROC p: END PROC p; p", "a core"),
+    ("INT PROC f (INT CONST a): a + 1 END PROC f; put (f (2))", "a core"),
+    ("PROC p (INT VAR a): a := 3 END PROC p; INT VAR v; p (v)", "a core"),
+    ("PROC p (INT VAR a): a := 3 END PROC p; p (1)", "NoMeaning(43, NoVariable)"),
+    ("PROC p (INT VAR a): a := 3 END PROC p; p (TRUE)", "NoMeaning(40, WrongType)"),
+    ("PROC p (INT VAR a): a := 3 END PROC p; p (1, 2)", "NoMeaning(40, Unknown)"),
+    ("PROC p (INT CONST a): a := 3 END PROC p", "NoMeaning(23, NoVariable)"),
+    ("PROC p (INT CONST a, BOOL CONST a): END PROC p", "NoMeaning(33, Doubled)"),
+    (
+        "PROC p (INT CONST a): END PROC p; PROC p (INT CONST b): END PROC p",
+        "NoMeaning(40, Doubled)",
+    ),
+    (
+        "PROC p (INT CONST a): END PROC p; PROC p (BOOL CONST b): END PROC p; p (1); p (TRUE)",
+        "a core",
+    ),
+    ("PROC p: END PROC p; INT VAR p", "NoMeaning(29, Doubled)"),
+    ("INT VAR p; INT PROC p: END PROC p", "NoMeaning(21, Doubled)"),
+    ("INT PROC f: END PROC f", "NoMeaning(10, WrongType)"),
+    ("INT PROC f: put (1) END PROC f", "NoMeaning(13, WrongType)"),
+    ("PROC f: 1 END PROC f", "NoMeaning(9, WrongType)"),
+    ("INT PROC f: put (1); TRUE; END PROC f", "NoMeaning(22, WrongType)"),
+    ("INT PROC f: LEAVE f WITH 3 END PROC f; put (f)", "a core"),
+    ("INT PROC f: LEAVE f END PROC f", "NoMeaning(13, WrongType)"),
+    ("PROC f: LEAVE f WITH 1 END PROC f", "NoMeaning(9, WrongType)"),
+    ("INT PROC f: LEAVE f WITH TRUE END PROC f", "NoMeaning(13, WrongType)"),
+    ("PROC f: LEAVE g END PROC f", "NoMeaning(9, WrongPlace)"),
+    ("LEAVE f", "NoMeaning(1, WrongPlace)"),
+    ("PROC f: LEAVE F END PROC f", "NoMeaning(9, WrongPlace)"),
+    ("INT PROC f: IF TRUE THEN LEAVE f WITH 1 ELSE 2 FI END PROC f; put (f)", "a core"),
+    ("put (r). r: 3.", "a core"),
+    ("r; put (r). r: 3.", "NoMeaning(1, WrongType)"),
+    ("put (r). r: put (1).", "NoMeaning(1, WrongType)"),
+    ("r. r: LEAVE r.", "a core"),
+    ("put (r). r: IF TRUE THEN LEAVE r WITH 3 ELSE 4 FI.", "a core"),
+    ("r. r: LEAVE r WITH 1.", "NoMeaning(7, WrongType)"),
+    ("r. r: r.", "NoMeaning(7, WrongPlace)"),
+    ("a. a: b. b: a.", "NoMeaning(7, WrongPlace)"),
+    ("put (a). a: b. b: 3; a.", "NoMeaning(13, WrongPlace)"),
+    ("a. a: put (1); b. b: put (2).", "a core"),
+    ("put (r + TRUE). r: unknown; 3.", "NoMeaning(6, WrongType)"),
+    ("put (r). r: unknown.", "NoMeaning(13, Unknown)"),
+    ("PROC p: r END PROC p. r: put (1).", "NoMeaning(9, Unknown)"),
+    ("PROC p: r. r: put (1) END PROC p; r", "NoMeaning(35, Unknown)"),
+    ("INT PROC p: r. r: LEAVE p WITH 3 END PROC p", "NoMeaning(13, WrongType)"),
+    ("INT PROC p: r; 4. r: LEAVE p WITH 3 END PROC p; put (p)", "a core"),
+    ("r. r: 1. r: 2.", "NoMeaning(1, WrongType)"),
+    ("PROC put (INT CONST a): line END PROC put; put (1); put (TRUE)", "NoMeaning(53, WrongType)"),
+    ("PROC p: put (x) END PROC p. x: 3; INT VAR x.", "NoMeaning(14, Unknown)"),
+    ("PROC p: v := 1; INT VAR v END PROC p; v := 2", "NoMeaning(39, Unknown)"),
+];
+
+const UNBUILT: [(&str, &str); 21] = [
     ("TEXT VAR t", "NotBuilt"),
     ("put (\"a\")", "NotBuilt"),
     ("INT VAR text", "NotBuilt"),
@@ -235,9 +288,6 @@ const UNBUILT: [(&str, &str); 23] = [
     ("a CAT b", "NotBuilt"),
     ("LET n = 3", "NotBuilt"),
     ("ROW 3 INT VAR a", "NotBuilt"),
-    ("PROC p: END PROC p", "NotBuilt"),
-    ("r. r: line.", "NotBuilt"),
-    ("REP LEAVE r PER", "NotBuilt"),
     ("INT VAR a; a [1] := 2", "NotBuilt"),
     ("INT VAR a; a.f := 2", "NotBuilt"),
     ("TASK VAR t", "NotBuilt"),
@@ -251,6 +301,7 @@ const UNBUILT: [(&str, &str); 23] = [
     ("put (CONCR (1))", "NotBuilt"),
     ("begin", "NotBuilt"),
     ("FOR type REP line PER", "NotBuilt"),
+    ("OP F (INT CONST a): END OP F", "NotBuilt"),
 ];
 
 fn answer(alloc: Global, text: &str) -> Result<String, AllocError> {
@@ -301,6 +352,15 @@ fn loops_and_calls_have_these_meanings(rt: HostRuntime) -> Result<(), Fail> {
 #[test]
 fn what_is_not_built_is_refused_first(rt: HostRuntime) -> Result<(), Fail> {
     for (text, want) in UNBUILT {
+        let found = answer(rt.alloc(), text)?;
+        assert_eq!(rt; found.as_str(), want, "at {text}");
+    }
+    Ok(())
+}
+
+#[test]
+fn procedures_have_these_meanings(rt: HostRuntime) -> Result<(), Fail> {
+    for (text, want) in PROCEDURES {
         let found = answer(rt.alloc(), text)?;
         assert_eq!(rt; found.as_str(), want, "at {text}");
     }

@@ -11,4 +11,6 @@ pub enum Why {
     WrongType,
     /// A variable is needed.
     NoVariable,
+    /// A phrase stands where it cannot: a LEAVE of another name, or a refinement that calls itself.
+    WrongPlace,
 }

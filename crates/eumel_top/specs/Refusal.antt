@@ -4,7 +4,7 @@ use Rattle.std.specs.Fmt.{decimal}
 use Rattle.eumel_top.specs.declared.refusal.Refusal.{Refusal}
 use Rattle.eumel_top.specs.declared.refusal.Refusal.TheVariants.{NoToken, TooMany, NotElan, NoMeaning}
 use Rattle.elan_types.specs.declared.why.Why.{Why}
-use Rattle.elan_types.specs.declared.why.Why.TheVariants.{Unknown, Doubled, WrongType, NoVariable}
+use Rattle.elan_types.specs.declared.why.Why.TheVariants.{Unknown, Doubled, WrongType, NoVariable, WrongPlace}
 
 -- a line and a place in it, both from 1
 pub record Position : Type 0 where
@@ -28,6 +28,7 @@ why_text Unknown = codes "unbekannt"
 why_text Doubled = codes "doppelt"
 why_text WrongType = codes "falscher Typ"
 why_text NoVariable = codes "keine Variable"
+why_text WrongPlace = codes "falsche Stelle"
 
 abbrev pub position_text : Position → List ℕ
 position_text p = codes " (Zeile " ++ (decimal p.line ++ (codes ", Stelle " ++ (decimal p.column ++ codes ")\n")))

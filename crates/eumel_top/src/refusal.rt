@@ -93,5 +93,6 @@ fn why_text(why: Why) -> &'static [u8]
         Why::Doubled => b"doppelt",
         Why::WrongType => b"falscher Typ",
         Why::NoVariable => b"keine Variable",
+        Why::WrongPlace => b"falsche Stelle",
     }
 }

@@ -1,5 +1,5 @@
 use Rattle.std.proofs.Common.{◌≡◌, ◌++◌, map, drop}
-use Rattle.elan_check.specs.Scope.{all, all_of, in_expr, in_branch, in_case, in_item, in_unit}
+use Rattle.elan_check.specs.Declarations.{all, all_of, in_expr, in_branch, in_case, in_item, in_unit}
 use Rattle.elan_check.proofs.declare.+declare.Given as goal
 
 abbrev pub invariant-in_exprs-loop-expr : goal.invariant-in_exprs-loop-expr

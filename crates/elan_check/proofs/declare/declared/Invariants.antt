@@ -1,5 +1,5 @@
 use Rattle.std.proofs.Common.{◌≡◌, ◌++◌, drop}
-use Rattle.elan_check.specs.Scope.{declared}
+use Rattle.elan_rules.specs.Scope.{declared}
 use Rattle.elan_check.proofs.declare.declared.Given as goal
 
 abbrev pub invariant-loop-unit : goal.invariant-loop-unit

@@ -1,15 +1,15 @@
 use Rattle.std.proofs.Common.{rules, [], ◌∷◌, List, map, ap, subst, ◌∙◌}
 use Rattle.std.proofs.lemmas.List.{at_drop_all}
-use Rattle.elan_check.specs.declared.meant.Guarded.{Guarded}
-use Rattle.elan_check.specs.declared.meant.Labelled.{Labelled}
-use Rattle.elan_check.specs.declared.meant.Meant.{Meant}
-use Rattle.elan_check.specs.declared.meant.Meant.TheVariants.{Branches, Arms}
-use Rattle.elan_check.specs.Phrase as form
-use Rattle.elan_check.specs.Phrase.{all_of}
-use Rattle.elan_check.specs.Ruled.{Ruled, gives, ◌>>=◌}
-use Rattle.elan_check.specs.Rules.{rule}
+use Rattle.elan_rules.specs.declared.meant.Guarded.{Guarded}
+use Rattle.elan_rules.specs.declared.meant.Labelled.{Labelled}
+use Rattle.elan_rules.specs.declared.meant.Meant.{Meant}
+use Rattle.elan_rules.specs.declared.meant.Meant.TheVariants.{Branches, Arms}
+use Rattle.elan_rules.specs.Phrase as form
+use Rattle.elan_rules.specs.Phrase.{all_of}
+use Rattle.elan_rules.specs.Ruled.{Ruled, gives, ◌>>=◌}
+use Rattle.elan_rules.specs.Rules.{rule}
 use Rattle.elan_check.specs.Shape.{branch, case, arm_phrases}
-use Rattle.elan_check.specs.Meaning.{judged_all}
+use Rattle.elan_rules.specs.Meaning.{judged_all}
 use Rattle.elan_check.proofs.Rows.{list_done, branches_single, arms_single, role_step, role_fault, counted_is}
 use Rattle.elan_check.proofs.Loops.{loop_is, loop_fault}
 use Rattle.elan_check.specs.Shape.{limit}

@@ -1,8 +1,8 @@
 use Rattle.std.proofs.Common.{◌≡◌, ◌∷◌, [], map, drop}
-use Rattle.elan_check.specs.declared.meant.Meant.TheVariants.{Branches, Arms}
-use Rattle.elan_check.specs.Phrase.{all_of}
+use Rattle.elan_rules.specs.declared.meant.Meant.TheVariants.{Branches, Arms}
+use Rattle.elan_rules.specs.Phrase.{all_of}
 use Rattle.elan_check.specs.Shape.{expr, unit, branch, case, item, roles, arm_phrases}
-use Rattle.elan_check.specs.Meaning.{judged_all}
+use Rattle.elan_rules.specs.Meaning.{judged_all}
 use Rattle.elan_check.proofs.Rows.{prefixed}
 use Rattle.elan_check.proofs.judge.+judge.Given as goal
 

@@ -1,5 +1,5 @@
 use Rattle.std.proofs.Common.{◌≡◌, map, drop}
-use Rattle.elan_check.specs.Scope.{Scope}
+use Rattle.elan_rules.specs.declared.scope.Scope.{Scope}
 use Rattle.elan_check.specs.Shape.{all_empty, unit}
 use Rattle.elan_check.proofs.judge.all_empty.Given as goal
 

@@ -1,13 +1,13 @@
 use Rattle.std.proofs.Common.{[], ◌∷◌, List, ℤ, ap, sym, ◌∙◌}
 use Rattle.std.proofs.lemmas.List.{at_drop_all}
-use Rattle.elan_check.specs.declared.meant.Meant.{Meant}
-use Rattle.elan_check.specs.declared.meant.Meant.TheVariants.{Labels}
-use Rattle.elan_check.specs.Phrase as form
-use Rattle.elan_check.specs.Phrase.{all_of}
-use Rattle.elan_check.specs.Ruled.{Ruled, gives, ◌>>=◌}
-use Rattle.elan_check.specs.Rules.{rule}
+use Rattle.elan_rules.specs.declared.meant.Meant.{Meant}
+use Rattle.elan_rules.specs.declared.meant.Meant.TheVariants.{Labels}
+use Rattle.elan_rules.specs.Phrase as form
+use Rattle.elan_rules.specs.Phrase.{all_of}
+use Rattle.elan_rules.specs.Ruled.{Ruled, gives, ◌>>=◌}
+use Rattle.elan_rules.specs.Rules.{rule}
 use Rattle.elan_check.specs.Shape.{label_phrases}
-use Rattle.elan_check.specs.Meaning.{judged_all}
+use Rattle.elan_rules.specs.Meaning.{judged_all}
 use Rattle.elan_check.proofs.Rows.{list_done, labels_single}
 use Rattle.elan_check.proofs.label.judge_labels.Goals as goal
 

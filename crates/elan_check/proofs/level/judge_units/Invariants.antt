@@ -1,7 +1,7 @@
 use Rattle.std.proofs.Common.{◌≡◌, map, drop, false}
-use Rattle.elan_check.specs.Phrase.{all_of}
+use Rattle.elan_rules.specs.Phrase.{all_of}
 use Rattle.elan_check.specs.Shape.{roles, level_unit}
-use Rattle.elan_check.specs.Meaning.{judged_all}
+use Rattle.elan_rules.specs.Meaning.{judged_all}
 use Rattle.elan_check.proofs.Rows.{prefixed}
 use Rattle.elan_check.proofs.level.judge_units.Given as goal
 

@@ -2,7 +2,7 @@ use Rattle.elan_check.proofs.OneAnswer.{Checked, program_checked}
 use Rattle.elan_check.proofs.text.check.Goals as goal
 
 checked : (c : goal.After-core_of) → Checked c.args.env.now c.args.tree.now c.core_of.result
-checked c = program_checked c.args.env.now c.args.tree.now c.in-Program.level c.as_slice.result.now c.core_of.result c.in-Program.is c.as_slice.ensures c.if-has_unbuilt.ensures c.core_of.ensures.units c.core_of.ensures.variables c.core_of.ensures.bodies
+checked c = program_checked c.args.env.now c.args.tree.now c.in-Program.level c.as_slice.result.now c.core_of.result c.in-Program.is c.as_slice.ensures c.if-has_unbuilt.ensures c.core_of.ensures.units c.core_of.ensures.variables
 
 pub returns-in-Program-clause-meaning : goal.returns-in-Program-clause-meaning
 returns-in-Program-clause-meaning c = (checked c).meaning

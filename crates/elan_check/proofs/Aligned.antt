@@ -1,0 +1,287 @@
+-- The headings of a level, the units of its bodies, and the bodies of its meaning stand side by side.
+use Rattle.std.proofs.Common.{◌≡◌, ℕ, zero, suc, ◌+◌, Bool, true, false, if◌then◌else◌, List, [], ◌∷◌, ◌++◌, map, length, Option, Some, None, refl, sym, ap, subst, ◌∙◌, arith}
+use Rattle.std.specs.Prelude.{slice_get, nat_eq}
+use Rattle.elan_types.specs.declared.elan_type.ElanType.{ElanType}
+use Rattle.elan_types.specs.declared.core_phrase.Parameter.{Parameter}
+use Rattle.elan_types.specs.declared.core_phrase.Content.{Content}
+use Rattle.elan_types.specs.declared.core_phrase.Scope.{Scope as Owner}
+use Rattle.elan_types.specs.declared.core_phrase.Scope.TheVariants as owner
+use Rattle.elan_types.specs.declared.core_phrase.Body.{Body}
+use Rattle.elan_types.specs.declared.why.Why.TheVariants.{Doubled, WrongType}
+use Rattle.elan_types.specs.Typing.{held_const, frame_of, scope_of}
+use Rattle.elan_tree.specs.declared.written_type.Name.{Name}
+use Rattle.elan_tree.specs.declared.written_type.TypePhrase.{TypePhrase}
+use Rattle.elan_tree.specs.declared.written_type.Formal.{Formal}
+use Rattle.elan_tree.specs.declared.tree.Body.{Body as Written}
+use Rattle.elan_tree.specs.declared.tree.Refinement.{Refinement as Refined}
+use Rattle.elan_tree.specs.declared.tree.LevelUnit.{LevelUnit}
+use Rattle.elan_tree.specs.declared.tree.LevelUnit.TheVariants as level
+use Rattle.elan_rules.specs.declared.scope.Denotes.{Denotes}
+use Rattle.elan_rules.specs.declared.scope.Denotes.TheVariants as denotes
+use Rattle.elan_rules.specs.declared.scope.Entry.{Entry}
+use Rattle.elan_rules.specs.declared.heading.Sort.{Sort}
+use Rattle.elan_rules.specs.declared.heading.Sort.TheVariants.{Procedure, Operator}
+use Rattle.elan_rules.specs.declared.heading.What.{What}
+use Rattle.elan_rules.specs.declared.heading.What.TheVariants.{Routine, Refinement}
+use Rattle.elan_rules.specs.declared.heading.Heading.{Heading}
+use Rattle.elan_rules.specs.declared.meant.Meant.{Meant}
+use Rattle.elan_rules.specs.declared.meant.Meant.TheVariants.{Absent, Value, Done, Left, Labels, Branches, Arms, Counter, Bodies, Level}
+use Rattle.elan_rules.specs.Scope as scope
+use Rattle.elan_rules.specs.Scope.{number_of, all_held, held}
+use Rattle.elan_rules.specs.declared.scope.Scope.{Scope}
+use Rattle.elan_rules.specs.declared.scope.Within.{Within}
+use Rattle.elan_rules.specs.declared.scope.Home.{Home}
+use Rattle.elan_rules.specs.declared.scope.Found.{Found}
+use Rattle.elan_check.specs.Bodies as b
+use Rattle.elan_check.specs.Bodies.{parameters, result, parameter_names, own_names, body_names, refinement_headings, bodies_in, unit_headings, all_headings}
+use Rattle.elan_check.specs.Operators.{operator_text}
+use Rattle.elan_rules.specs.Phrase as form
+use Rattle.elan_rules.specs.Phrase.{Phrase, phrase, Parts, none, part, all_of, leaf, around, all_empty, last_place}
+use Rattle.elan_rules.specs.Ruled.{Ruled, gives, breaks, hangs, ◌>>=◌, before}
+use Rattle.elan_rules.specs.declared.known.Known.{Known}
+use Rattle.elan_rules.specs.Calls as calls
+use Rattle.elan_rules.specs.Units as u
+use Rattle.elan_rules.specs.Rules.{rule}
+use Rattle.elan_check.specs.Shape as shape
+use Rattle.elan_check.specs.Level as l
+use Rattle.elan_rules.specs.Meaning.{judged, judged_all}
+use Rattle.elan_rules.proofs.First.{bind_gives, before_gives, gives_is}
+use Rattle.elan_check.proofs.InScope.{InScope, body_units_in}
+use Rattle.elan_check.proofs.OwnNames.{own_held}
+use Rattle.elan_rules.proofs.TypedCalls.{owner_with}
+
+-- ---- lists
+
+pub split : (kn : Known) (xs ys : List Phrase) (ms : List Meant) → judged_all kn (all_of (xs ++ ys)) ≡ gives ms → (as' : List Meant) × (bs : List Meant) × (judged_all kn (all_of xs) ≡ gives as') × (judged_all kn (all_of ys) ≡ gives bs) × (ms ≡ as' ++ bs)
+split kn [] ys ms e = ([], ms, refl, e, refl)
+split kn (x ∷ xs) ys ms e =
+    let q = before_gives (judged kn x) (judged_all kn (all_of (xs ++ ys))) ms e in
+    let r = split kn xs ys q.1 q.3 in
+    (q.0 ∷ r.0, r.1, ap (λ (c : Ruled Meant). before c (judged_all kn (all_of xs))) q.2 ∙ ap (λ (c : Ruled (List Meant)). before (gives q.0) c) r.2, r.3, q.4 ∙ ap (λ (ns : List Meant). q.0 ∷ ns) r.4)
+
+append_assoc' : {A : Type 0} (xs ys zs : List A) → xs ++ ys ++ zs ≡ xs ++ (ys ++ zs)
+append_assoc' [] ys zs = refl
+append_assoc' (x ∷ xs) ys zs = ap (λ l. x ∷ l) (append_assoc' xs ys zs)
+
+pub bodies_append : (ms ns : List Meant) → u.bodies_of (ms ++ ns) ≡ u.bodies_of ms ++ u.bodies_of ns
+bodies_append [] ns = refl
+bodies_append (m ∷ ms) ns = ap (λ (bs : List Body). u.bodies_in m ++ bs) (bodies_append ms ns) ∙ sym (append_assoc' (u.bodies_in m) (u.bodies_of ms) (u.bodies_of ns))
+
+held_append : (xs ys : List Entry) → all_held (xs ++ ys) ≡ all_held xs ++ all_held ys
+held_append [] ys = refl
+held_append (x ∷ xs) ys = ap (λ (l : List Parameter). held x.denotes ++ l) (held_append xs ys) ∙ sym (append_assoc' (held x.denotes) (all_held xs) (all_held ys))
+
+-- ---- parameters
+
+each_held : (ns : List Name) (o : Option Parameter) → all_held (b.named_as ns (b.as_parameter o)) ≡ b.for_each ns o
+each_held [] None = refl
+each_held [] (Some p) = refl
+each_held (n ∷ ns) None = each_held ns None
+each_held (n ∷ ns) (Some p) = ap (λ (l : List Parameter). p ∷ l) (each_held ns (Some p))
+
+parameters_held : (fs : List Formal) → all_held (parameter_names fs) ≡ parameters fs
+parameters_held [] = refl
+parameters_held (f ∷ fs) =
+    held_append (b.named_as f.names (b.as_parameter (b.parameter f))) (parameter_names fs)
+    ∙ ap (λ (l : List Parameter). l ++ all_held (parameter_names fs)) (each_held f.names (b.parameter f))
+    ∙ ap (λ (l : List Parameter). b.for_each f.names (b.parameter f) ++ l) (parameters_held fs)
+
+-- the frame of a body has what its names hold
+frame_held : (fs : List Formal) (w : Written) → parameters fs ++ map held_const (l.own_types w) ≡ all_held (body_names fs w)
+frame_held fs w =
+    ap (λ (ps : List Parameter). parameters fs ++ ps) (sym (own_held w.units w.refinements))
+    ∙ ap (λ (ps : List Parameter). ps ++ all_held (own_names w)) (sym (parameters_held fs))
+    ∙ sym (held_append (parameter_names fs) (own_names w))
+
+-- ---- rows
+
+-- what the units of a body mean is its content
+abbrev pub Made : What → Meant → Body → Type 0
+Made (Routine sort ps r) m b = (vs : List ElanType) × (b.scope ≡ owner.Own ps vs) × (u.content_as r m ≡ Some b.content)
+Made (Refinement home) m b = (b.scope ≡ owner_with home) × (b.content ≡ u.content_of m)
+
+abbrev pub Inside : ℕ → List Body → List Body → Type 0
+Inside k bs all = (i : ℕ) (b : Body) → slice_get bs i ≡ Some b → slice_get all (k + i) ≡ Some b
+
+-- the PROC or OP has what its names hold
+abbrev pub Frames : List Body → Option Within → Type 0
+Frames all None = Unit {0}
+Frames all (Some v) = (ps : List Parameter) × (vs : List ElanType) × (scope_of (slice_get all v.number) ≡ Some (owner.Own ps vs)) × (ps ++ map held_const vs ≡ all_held v.names)
+
+abbrev pub within : ℕ → List Entry → Option Within
+within n names = Some (record { number = n; names = names })
+
+abbrev pub Stands : List Body → ℕ → What → Scope → Body → Type 0
+Stands all n (Routine sort ps r) z b = (names : List Entry) × (z.routine ≡ within n names) × (z.refinement ≡ None) × (frame_of b.scope ≡ all_held names)
+Stands all n (Refinement home) z b = (z.refinement ≡ Some n) × (number_of z.routine ≡ home) × Frames all z.routine
+
+module _ (kn : Known) (s : Scope) (all : List Body) where
+  pub record Row (n : ℕ) (h : Heading) (p : Phrase) (b : Body) : Type 0 where
+    pub meant : Meant
+    pub means : judged kn p ≡ gives meant
+    pub list : List Phrase
+    pub is_list : p ≡ shape.units true list
+    pub made : Made h.what meant b
+    pub scope : Scope
+    pub in_scope : InScope scope p
+    pub headings : scope.headings ≡ s.headings
+    pub level : scope.level ≡ s.level
+    pub stands : Stands all n h.what scope b
+
+  abbrev pub Rows : ℕ → List Heading → List Phrase → List Body → Type 0
+  Rows n [] [] [] = Unit {0}
+  Rows n (h ∷ hs) (p ∷ ps) (b ∷ bs) = Row n h p b × Rows (suc n) hs ps bs
+  Rows n [] [] (b ∷ bs) = ⊥
+  Rows n [] (p ∷ ps) bs = ⊥
+  Rows n (h ∷ hs) [] bs = ⊥
+  Rows n (h ∷ hs) (p ∷ ps) [] = ⊥
+
+  pub rows_append : (n m : ℕ) (hs gs : List Heading) (ps qs : List Phrase) (bs cs : List Body) → m ≡ n + length bs → Rows n hs ps bs → Rows m gs qs cs → Rows n (hs ++ gs) (ps ++ qs) (bs ++ cs)
+  rows_append n m [] gs [] qs [] cs e h k = subst (λ (i : ℕ). Rows i gs qs cs) (let z : n + 0 ≡ n = omega arith in e ∙ z) k
+  rows_append n m (g ∷ hs) gs (p ∷ ps) qs (b ∷ bs) cs e h k = (h.0, rows_append (suc n) m hs gs ps qs bs cs (let z : n + suc (length bs) ≡ suc n + length bs = omega arith in e ∙ z) h.1 k)
+  rows_append n m [] gs [] qs (b ∷ bs) cs e h k = absurd h
+  rows_append n m [] gs (p ∷ ps) qs bs cs e h k = absurd h
+  rows_append n m (g ∷ hs) gs [] qs bs cs e h k = absurd h
+  rows_append n m (g ∷ hs) gs (p ∷ ps) qs [] cs e h k = absurd h
+
+  -- ---- refinements
+
+  owner_is : (o : Option Within) → l.owner_of o ≡ owner_with (number_of o)
+  owner_is None = refl
+  owner_is (Some v) = refl
+
+  two_bodies : (o : Owner) (ms : List Meant) (m n v : Meant) → ms ≡ n ∷ v ∷ [] → rule kn (form.refinement o) ms ≡ gives m → m ≡ u.body_with o (u.content_of v)
+  two_bodies o ms m n v e h = sym (gives_is (u.body_with o (u.content_of v)) m (ap (rule kn (form.refinement o)) (sym e) ∙ h))
+
+  pub refinement_rows : (z : Scope) (k : ℕ) (rs : List Refined) (ms : List Meant) → z.headings ≡ s.headings → z.level ≡ s.level → Frames all z.routine →
+      judged_all kn (all_of (l.refinements z k rs)) ≡ gives ms → Rows k (refinement_headings (number_of z.routine) rs) (l.all_refined_units z k rs) (u.bodies_of ms)
+  refinement_rows z k [] ms hh hl fr e = subst (λ (ns : List Meant). Rows k [] [] (u.bodies_of ns)) (gives_is [] ms e) tt
+  refinement_rows z k (r ∷ rs) ms hh hl fr e =
+      let q = before_gives (judged kn (l.refinement z k r)) (judged_all kn (all_of (l.refinements z (suc k) rs))) ms e in
+      let a = bind_gives (judged_all kn (part (l.declares z r.name) (part (l.refined_units z k r) none))) (rule kn (form.refinement (l.owner_of z.routine))) q.0 q.2 in
+      let c = before_gives (judged kn (l.declares z r.name)) (judged_all kn (part (l.refined_units z k r) none)) a.0 a.1 in
+      let d = before_gives (judged kn (l.refined_units z k r)) (gives []) c.1 c.3 in
+      let two : a.0 ≡ c.0 ∷ d.0 ∷ [] = c.4 ∙ ap (λ (ns : List Meant). c.0 ∷ ns) (d.4 ∙ ap (λ (ns : List Meant). d.0 ∷ ns) (sym (gives_is [] d.1 d.3))) in
+      let made : q.0 ≡ u.body_with (l.owner_of z.routine) (u.content_of d.0) = two_bodies (l.owner_of z.routine) a.0 q.0 c.0 d.0 two a.2 in
+      subst (λ (ns : List Meant). Rows k (refinement_headings (number_of z.routine) (r ∷ rs)) (l.all_refined_units z k (r ∷ rs)) (u.bodies_of ns)) (sym q.4)
+      (subst (λ (m : Meant). Rows k (refinement_headings (number_of z.routine) (r ∷ rs)) (l.all_refined_units z k (r ∷ rs)) (u.bodies_in m ++ u.bodies_of q.1)) (sym made) (
+        record {
+          meant = d.0;
+          means = d.2;
+          list = map (shape.unit (l.refinement_scope z k)) r.units;
+          is_list = refl;
+          made = (owner_is z.routine, refl);
+          scope = l.refinement_scope z k;
+          in_scope = body_units_in (l.refinement_scope z k) true r.units;
+          headings = hh;
+          level = hl;
+          stands = (refl, refl, fr);
+        },
+        refinement_rows z (suc k) rs q.1 hh hl fr q.3,
+      ))
+
+  -- ---- phrases without bodies
+
+  abbrev Quiet : Phrase → Type 0
+  Quiet p = (m : Meant) → judged kn p ≡ gives m → u.bodies_in m ≡ []
+
+  abbrev AllQuiet : List Phrase → Type 0
+  AllQuiet [] = Unit {0}
+  AllQuiet (p ∷ ps) = Quiet p × AllQuiet ps
+
+  quiet_append : (ps qs : List Phrase) → AllQuiet ps → AllQuiet qs → AllQuiet (ps ++ qs)
+  quiet_append [] qs h k = k
+  quiet_append (p ∷ ps) qs h k = (h.0, quiet_append ps qs h.1 k)
+
+  quiet_bodies : (ps : List Phrase) (ms : List Meant) → AllQuiet ps → judged_all kn (all_of ps) ≡ gives ms → u.bodies_of ms ≡ []
+  quiet_bodies [] ms h e = ap u.bodies_of (sym (gives_is [] ms e))
+  quiet_bodies (p ∷ ps) ms h e =
+      let q = before_gives (judged kn p) (judged_all kn (all_of ps)) ms e in
+      ap u.bodies_of q.4 ∙ ap (λ (bs : List Body). bs ++ u.bodies_of q.1) (h.0 q.0 q.2) ∙ quiet_bodies ps q.1 h.1 q.3
+
+  declared_as_quiet : (at : ℕ) (home : Home) (n : ℕ) (d : Denotes) → u.bodies_in (calls.declared_as at home n d) ≡ []
+  declared_as_quiet at home n (denotes.Variable t) = refl
+  declared_as_quiet at home n (denotes.Constant t) = refl
+  declared_as_quiet at home n (denotes.Parameter p) = refl
+  declared_as_quiet at home n denotes.Procedure = refl
+  declared_as_quiet at home n denotes.Refinement = refl
+
+  declared_quiet : (at : ℕ) (o : Option Found) (m : Meant) → calls.declared at o ≡ gives m → u.bodies_in m ≡ []
+  declared_quiet at None m e = absurd cc
+  declared_quiet at (Some f) m e = by_test (nat_eq f.at at) e
+    where
+      by_test : (c : Bool) → (if c then gives (calls.declared_as at f.home f.number f.denotes) else breaks (at, Doubled)) ≡ gives m → u.bodies_in m ≡ []
+      by_test true h = ap u.bodies_in (sym (gives_is (calls.declared_as at f.home f.number f.denotes) m h)) ∙ declared_as_quiet at f.home f.number f.denotes
+      by_test false h = absurd cc
+
+  declares_quiet : (z : Scope) (n : Name) → Quiet (l.declares z n)
+  declares_quiet z n m e = declared_quiet n.at (scope.find_own z n.text) m e
+
+  all_declare_quiet : (z : Scope) (ns : List Name) → AllQuiet (l.declare_all z ns)
+  all_declare_quiet z [] = tt
+  all_declare_quiet z (n ∷ ns) = (declares_quiet z n, all_declare_quiet z ns)
+
+  parameters_quiet : (z : Scope) (fs : List Formal) → AllQuiet (l.declare_parameters z fs)
+  parameters_quiet z [] = tt
+  parameters_quiet z (f ∷ fs) = quiet_append (l.declare_all z f.names) (l.declare_parameters z fs) (all_declare_quiet z f.names) (parameters_quiet z fs)
+
+  headed_quiet : (at : ℕ) (missing : Bool) (o : Option (ℕ × Heading)) (m : Meant) → calls.headed at missing o ≡ gives m → u.bodies_in m ≡ []
+  headed_quiet at missing None m e = absurd cc
+  headed_quiet at missing (Some h) m e = by_tests (nat_eq h.1.at at) missing e
+    where
+      by_tests : (c d : Bool) → (if c then (if d then breaks (at, WrongType) else gives (Done [])) else breaks (at, Doubled)) ≡ gives m → u.bodies_in m ≡ []
+      by_tests true true h = absurd cc
+      by_tests true false h = ap u.bodies_in (sym (gives_is (Done []) m h))
+      by_tests false d h = absurd cc
+
+  pub procedure_quiet : (n : Name) (fs : List Formal) → AllQuiet (l.procedure_name s n fs)
+  procedure_quiet n [] = (declares_quiet s n, tt)
+  procedure_quiet n (f ∷ fs) = tt
+
+  -- ---- PROCs and OPs
+
+  module _ (k : ℕ) (at : ℕ) (x : List ℕ) (t : Option TypePhrase) (fs : List Formal) (w : Written) where
+    abbrev own : Owner
+    own = owner.Own (parameters fs) (l.own_types w)
+
+    abbrev inner : Scope
+    inner = l.inner s k at x t fs w
+
+    body_made : (a : ℕ) (r : Option ElanType) (m v : Meant) (o : Option Content) → u.content_as r v ≡ o → u.body_as a own o ≡ gives m → (c : Content) × (u.content_as r v ≡ Some c) × (m ≡ u.body_with own c)
+    body_made a r m v None i e = absurd cc
+    body_made a r m v (Some c) i e = (c, i, sym (gives_is (u.body_with own c) m e))
+
+    one_body : (a : ℕ) (r : Option ElanType) (ms : List Meant) (m v : Meant) → ms ≡ v ∷ [] → rule kn (form.body a own r) ms ≡ gives m → (c : Content) × (u.content_as r v ≡ Some c) × (m ≡ u.body_with own c)
+    one_body a r ms m v e h = body_made a r m v (u.content_as r v) refl (ap (rule kn (form.body a own r)) (sym e) ∙ h)
+
+    pub routine_rows : (sort : Sort) (names : List Phrase) (m : Meant) → AllQuiet names → judged kn (l.routine s k at x t fs w sort names) ≡ gives m → Inside k (u.bodies_in m) all →
+        Rows k (b.routine_heading sort at x fs t ∷ refinement_headings (Some k) w.refinements) (l.routine_units s k at x t fs w) (u.bodies_in m)
+    routine_rows sort names m quiet e inside =
+        let q = bind_gives (judged_all kn (all_of (l.heading_phrases s k at x t fs w sort names ++ l.body_phrases s k at x t fs w))) (rule kn form.routine) m e in
+        let p = split kn (l.heading_phrases s k at x t fs w sort names) (l.body_phrases s k at x t fs w) q.0 q.1 in
+        let silent : u.bodies_of p.0 ≡ [] = quiet_bodies (l.heading_phrases s k at x t fs w sort names) p.0 (quiet_append names (leaf (form.heading at s sort x (parameters fs) (l.is_missing (result t) (l.body_units s k at x t fs w))) ∷ l.declare_parameters inner fs) quiet (headed_quiet at (l.is_missing (result t) (l.body_units s k at x t fs w)) (scope.first_heading (scope.is_alike sort x (scope.types_of (parameters fs))) s.headings), parameters_quiet inner fs)) p.2 in
+        let a = before_gives (judged kn (l.own_body s k at x t fs w)) (judged_all kn (all_of (l.refinements inner (suc k) w.refinements))) p.1 p.3 in
+        let c = bind_gives (judged_all kn (part (l.own_units s k at x t fs w) none)) (rule kn (form.body (last_place at (l.body_units s k at x t fs w)) own (result t))) a.0 a.2 in
+        let d = before_gives (judged kn (l.own_units s k at x t fs w)) (gives []) c.0 c.1 in
+        let one : c.0 ≡ d.0 ∷ [] = d.4 ∙ ap (λ (ns : List Meant). d.0 ∷ ns) (sym (gives_is [] d.1 d.3)) in
+        let made = one_body (last_place at (l.body_units s k at x t fs w)) (result t) c.0 a.0 d.0 one c.2 in
+        let body : Body = record { scope = own; content = made.0 } in
+        let is : u.bodies_in m ≡ body ∷ u.bodies_of a.1 =
+        ap u.bodies_in (sym (gives_is (Bodies (u.bodies_of q.0)) m q.2)) ∙ ap u.bodies_of p.4 ∙ bodies_append p.0 p.1
+        ∙ ap (λ (bs : List Body). bs ++ u.bodies_of p.1) silent ∙ ap u.bodies_of a.4 ∙ ap (λ (n : Meant). u.bodies_in n ++ u.bodies_of a.1) made.2 in
+        let here : slice_get all k ≡ Some body = (let z : k + 0 ≡ k = omega arith in ap (slice_get all) (sym z) ∙ inside 0 body (ap (λ (bs : List Body). slice_get bs 0) is)) in
+        subst (λ (bs : List Body). Rows k (b.routine_heading sort at x fs t ∷ refinement_headings (Some k) w.refinements) (l.routine_units s k at x t fs w) bs) (sym is) (
+          record {
+            meant = d.0;
+            means = d.2;
+            list = l.body_units s k at x t fs w;
+            is_list = refl;
+            made = (l.own_types w, refl, made.1);
+            scope = inner;
+            in_scope = body_units_in inner true w.units;
+            headings = refl;
+            level = refl;
+            stands = (body_names fs w, refl, refl, frame_held fs w);
+          },
+          refinement_rows inner (suc k) w.refinements a.1 refl refl (parameters fs, l.own_types w, ap scope_of here, frame_held fs w) a.3,
+        )

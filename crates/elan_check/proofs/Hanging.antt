@@ -1,0 +1,219 @@
+-- A text of which no phrase breaks a rule has a meaning: no phrase hangs on another one.
+use Rattle.std.proofs.Common.{◌≡◌, ℕ, zero, suc, ◌+◌, Bool, true, false, ◌&&◌, if◌then◌else◌, List, [], ◌∷◌, ◌++◌, map, length, Option, Some, None, refl, sym, ap, subst, ◌∙◌, ◌⊎◌, inl, inr, arith}
+use Rattle.std.specs.Prelude.{slice_get, slice_index_or}
+use Rattle.elan_tree.specs.declared.written_type.Name.{Name}
+use Rattle.elan_tree.specs.declared.written_type.TypePhrase.{TypePhrase}
+use Rattle.elan_tree.specs.declared.written_type.Formal.{Formal}
+use Rattle.elan_tree.specs.declared.tree.Body.{Body as Written}
+use Rattle.elan_tree.specs.declared.tree.Refinement.{Refinement as Refined}
+use Rattle.elan_tree.specs.declared.tree.Level.{Level}
+use Rattle.elan_tree.specs.declared.tree.LevelUnit.{LevelUnit}
+use Rattle.elan_tree.specs.declared.tree.LevelUnit.TheVariants as level
+use Rattle.elan_rules.specs.declared.delivery.Delivery.{Delivery}
+use Rattle.elan_rules.specs.declared.delivery.Delivery.TheVariants.{Open, Nothing, Of}
+use Rattle.elan_rules.specs.declared.heading.Sort.{Sort}
+use Rattle.elan_rules.specs.declared.heading.Sort.TheVariants.{Procedure, Operator}
+use Rattle.elan_rules.specs.declared.heading.What.{What}
+use Rattle.elan_rules.specs.declared.heading.What.TheVariants.{Routine, Refinement}
+use Rattle.elan_rules.specs.declared.heading.Heading.{Heading}
+use Rattle.elan_rules.specs.declared.meant.Meant.{Meant}
+use Rattle.elan_rules.specs.Scope as scope
+use Rattle.elan_rules.specs.Scope.{number_of, refinement_named}
+use Rattle.elan_rules.specs.declared.scope.Scope.{Scope}
+use Rattle.elan_rules.specs.declared.scope.Found.{Found}
+use Rattle.elan_check.specs.Bodies as b
+use Rattle.elan_check.specs.Bodies.{headings}
+use Rattle.elan_check.specs.Operators.{operator_text}
+use Rattle.elan_rules.specs.Phrase as form
+use Rattle.elan_rules.specs.Phrase.{Form, Phrase, phrase, Parts, none, part, all_of, around, leaf, is_empty, last_place}
+use Rattle.elan_rules.specs.Ruled.{Fault, Ruled, gives, breaks, hangs, ◌>>=◌, before}
+use Rattle.elan_rules.specs.Known.{delivery_at, leads_back, leads}
+use Rattle.elan_rules.specs.declared.known.Known.{Known}
+use Rattle.elan_rules.specs.Calls as c
+use Rattle.elan_rules.specs.Rules.{rule}
+use Rattle.elan_check.specs.Shape as shape
+use Rattle.elan_check.specs.Level as l
+use Rattle.elan_rules.specs.Meaning.{judged, judged_all, phrases, phrases_of}
+use Rattle.elan_check.specs.Refinements.{told, last_unit, last_unit_in, unit_delivery, outcome, called_by, called_by_all, called_in, number_list, known_of}
+use Rattle.elan_rules.proofs.First.{Faultless, whole, open_one, bind_faultless, before_faultless, breaks_has_fault}
+use Rattle.elan_check.proofs.InScope.{Names, InScope, AllIn, body_units_in, statement_in}
+use Rattle.elan_rules.proofs.Firm.{IsFirm, IsOpen, rules, not_hung, named_open}
+use Rattle.elan_check.proofs.Walks.{In, Call, no_walk}
+use Rattle.elan_check.proofs.Settled.{open_last, not_open}
+use Rattle.elan_rules.proofs.TypedCalls.{first_at}
+
+-- ---- what hangs
+
+pub bind_hangs : {A B : Type 0} (q : Ruled A) (f : A → Ruled B) → (q >>= f) ≡ hangs → (q ≡ hangs) ⊎ ((x : A) × (f x ≡ hangs))
+bind_hangs (gives x) f e = inr (x, e)
+bind_hangs (breaks d) f e = absurd cc
+bind_hangs hangs f e = inl refl
+
+pub before_hangs : {A : Type 0} (q : Ruled A) (qs : Ruled (List A)) → before q qs ≡ hangs → (q ≡ hangs) ⊎ (qs ≡ hangs)
+before_hangs (gives x) (gives xs) e = absurd cc
+before_hangs (gives x) (breaks d) e = absurd cc
+before_hangs (gives x) hangs e = inr refl
+before_hangs (breaks d) qs e = absurd cc
+before_hangs hangs qs e = inl refl
+
+pub before_both : {A : Type 0} (q : Ruled A) (qs : Ruled (List A)) → Faultless q → Faultless qs → Faultless (before q qs)
+before_both (gives x) (gives xs) h k = whole (x ∷ xs)
+before_both (gives x) (breaks d) h k = absurd (breaks_has_fault d k)
+before_both (gives x) hangs h k = open_one
+before_both (breaks d) qs h k = absurd (breaks_has_fault d h)
+before_both hangs (gives xs) h k = open_one
+before_both hangs (breaks d) h k = absurd (breaks_has_fault d k)
+before_both hangs hangs h k = open_one
+
+in_first : (n : ℕ) (xs ys : List ℕ) → In n xs → In n (xs ++ ys)
+in_first n [] ys h = absurd h
+in_first n (x ∷ xs) ys h =
+    elim h [
+      | inl e ↦ inl e
+      | inr e ↦ inr (in_first n xs ys e)
+    ]
+
+in_rest : (n : ℕ) (xs ys : List ℕ) → In n ys → In n (xs ++ ys)
+in_rest n [] ys h = h
+in_rest n (x ∷ xs) ys h = inr (in_rest n xs ys h)
+
+called_append : (ps qs : List Phrase) → called_by_all (ps ++ qs) ≡ called_by_all ps ++ called_by_all qs
+called_append [] qs = refl
+called_append (p ∷ ps) qs = ap (λ (ns : List ℕ). called_by p ++ ns) (called_append ps qs) ∙ sym (assoc (called_by p) (called_by_all ps) (called_by_all qs))
+  where
+    assoc : (xs ys zs : List ℕ) → xs ++ ys ++ zs ≡ xs ++ (ys ++ zs)
+    assoc [] ys zs = refl
+    assoc (x ∷ xs) ys zs = ap (λ (ns : List ℕ). x ∷ ns) (assoc xs ys zs)
+
+in_left : (n : ℕ) (ps qs : List Phrase) → In n (called_by_all ps) → In n (called_by_all (ps ++ qs))
+in_left n ps qs h = subst (In n) (sym (called_append ps qs)) (in_first n (called_by_all ps) (called_by_all qs) h)
+
+in_right : (n : ℕ) (ps qs : List Phrase) → In n (called_by_all qs) → In n (called_by_all (ps ++ qs))
+in_right n ps qs h = subst (In n) (sym (called_append ps qs)) (in_rest n (called_by_all ps) (called_by_all qs) h)
+
+-- the number of a refinement in a scope
+abbrev pub IsHeaded : List Heading → ℕ → Type 0
+IsHeaded hs n = (h : Heading) × (slice_get hs n ≡ Some h) × (told h.what ≡ Open)
+
+told_refinement : (home : Option ℕ) (w : What) → scope.is_refinement_of home w ≡ true → told w ≡ Open
+told_refinement home (Routine sort ps r) e = absurd cc
+told_refinement home (Refinement other) e = refl
+
+and_right : (a b : Bool) → (a && b) ≡ true → b ≡ true
+and_right true b e = e
+and_right false b e = absurd cc
+
+number_headed : (z : Scope) (x : List ℕ) (o : Option (ℕ × Heading)) (n : ℕ) → scope.first_heading (scope.is_refined (number_of z.routine) x) z.headings ≡ o → scope.number_in o ≡ Some n → IsHeaded z.headings n
+number_headed z x None n e f = absurd cc
+number_headed z x (Some m) n e f =
+    let h = first_at (scope.is_refined (number_of z.routine) x) z.headings m e in
+    let i : m.0 ≡ n = cc in
+    (m.1, ap (slice_get z.headings) (sym i) ∙ h.0, told_refinement (number_of z.routine) m.1.what (and_right _ _ h.1))
+
+named_headed : (z : Scope) (x : List ℕ) (o : Option Found) (n : ℕ) → scope.refinement_in z x o ≡ Some n → IsHeaded z.headings n
+named_headed z x None n e = absurd cc
+named_headed z x (Some f) n e = by_test (scope.is_refinement f.denotes) e
+  where
+    by_test : (d : Bool) → (if d then scope.number_in (scope.first_heading (scope.is_refined (number_of z.routine) x) z.headings) else None) ≡ Some n → IsHeaded z.headings n
+    by_test true g = number_headed z x (scope.first_heading (scope.is_refined (number_of z.routine) x) z.headings) n refl g
+    by_test false g = absurd cc
+
+module _ (kn : Known) where
+  -- a phrase in it calls a refinement of which nothing is known
+  abbrev pub Leaf : Scope → List ℕ → Type 0
+  Leaf z ns = (n : ℕ) × In n ns × (delivery_at kn n ≡ Open) × (leads_back kn n z.refinement ≡ false) × IsHeaded z.headings n
+
+  named_leaf : (z : Scope) (at : ℕ) (s : Scope) (x : List ℕ) (ps : Parts) → s ≡ z → c.named kn at s x (scope.find s x) ≡ hangs → Leaf z (called_by_all (phrase (form.named at s x) ps ∷ []))
+  named_leaf z at s x ps i e =
+      let o = named_open kn at s x (scope.find s x) e in
+      let here : In o.0 (called_by (phrase (form.named at s x) ps)) = subst (λ (q : Option ℕ). In o.0 (number_list q)) (sym o.1) (inl refl) in
+      subst (λ (y : Scope). Leaf y (called_by_all (phrase (form.named at s x) ps ∷ []))) i
+      (o.0, in_first o.0 (called_by (phrase (form.named at s x) ps)) [] here, o.2, o.3, named_headed s x (scope.find s x) o.0 o.1)
+
+  form_leaf : (z : Scope) (f : Form) (ps : Parts) → Names z f → (ms : List Meant) → rule kn f ms ≡ hangs → Leaf z (called_by_all (phrase f ps ∷ []))
+  form_leaf z form.absent ps i ms e = absurd (not_hung (rule kn form.absent ms) e (rules kn form.absent ms tt))
+  form_leaf z form.not_built ps i ms e = absurd (not_hung (rule kn form.not_built ms) e (rules kn form.not_built ms tt))
+  form_leaf z (form.number a0 a1) ps i ms e = absurd (not_hung (rule kn (form.number a0 a1) ms) e (rules kn (form.number a0 a1) ms tt))
+  form_leaf z (form.truth a0 a1) ps i ms e = absurd (not_hung (rule kn (form.truth a0 a1) ms) e (rules kn (form.truth a0 a1) ms tt))
+  form_leaf z (form.named a0 a1 a2) ps i ms e = named_leaf z a0 a1 a2 ps i e
+  form_leaf z (form.applied a0 a1 a2 a3) ps i ms e = absurd (not_hung (rule kn (form.applied a0 a1 a2 a3) ms) e (rules kn (form.applied a0 a1 a2 a3) ms tt))
+  form_leaf z (form.bracket a0) ps i ms e = absurd (not_hung (rule kn (form.bracket a0) ms) e (rules kn (form.bracket a0) ms tt))
+  form_leaf z (form.cand a0) ps i ms e = absurd (not_hung (rule kn (form.cand a0) ms) e (rules kn (form.cand a0) ms tt))
+  form_leaf z (form.cor a0) ps i ms e = absurd (not_hung (rule kn (form.cor a0) ms) e (rules kn (form.cor a0) ms tt))
+  form_leaf z form.branch ps i ms e = absurd (not_hung (rule kn form.branch ms) e (rules kn form.branch ms tt))
+  form_leaf z form.branches ps i ms e = absurd (not_hung (rule kn form.branches ms) e (rules kn form.branches ms tt))
+  form_leaf z (form.choice a0) ps i ms e = absurd (not_hung (rule kn (form.choice a0) ms) e (rules kn (form.choice a0) ms tt))
+  form_leaf z (form.label a0 a1 a2) ps i ms e = absurd (not_hung (rule kn (form.label a0 a1 a2) ms) e (rules kn (form.label a0 a1 a2) ms tt))
+  form_leaf z (form.label_name a0 a1 a2) ps i ms e = absurd (not_hung (rule kn (form.label_name a0 a1 a2) ms) e (rules kn (form.label_name a0 a1 a2) ms tt))
+  form_leaf z form.labels ps i ms e = absurd (not_hung (rule kn form.labels ms) e (rules kn form.labels ms tt))
+  form_leaf z form.arm ps i ms e = absurd (not_hung (rule kn form.arm ms) e (rules kn form.arm ms tt))
+  form_leaf z form.arms ps i ms e = absurd (not_hung (rule kn form.arms ms) e (rules kn form.arms ms tt))
+  form_leaf z (form.selection a0) ps i ms e = absurd (not_hung (rule kn (form.selection a0) ms) e (rules kn (form.selection a0) ms tt))
+  form_leaf z (form.declares a0 a1 a2) ps i ms e = absurd (not_hung (rule kn (form.declares a0 a1 a2) ms) e (rules kn (form.declares a0 a1 a2) ms tt))
+  form_leaf z form.item ps i ms e = absurd (not_hung (rule kn form.item ms) e (rules kn form.item ms tt))
+  form_leaf z (form.initial a0) ps i ms e = absurd (not_hung (rule kn (form.initial a0) ms) e (rules kn (form.initial a0) ms tt))
+  form_leaf z (form.declaration a0) ps i ms e = absurd (not_hung (rule kn (form.declaration a0) ms) e (rules kn (form.declaration a0) ms tt))
+  form_leaf z form.statement ps i ms e = absurd (not_hung (rule kn form.statement ms) e (rules kn form.statement ms tt))
+  form_leaf z (form.assignment a0 s0) ps i ms e = absurd (not_hung (rule kn (form.assignment a0 s0) ms) e (rules kn (form.assignment a0 s0) ms tt))
+  form_leaf z (form.counter a0) ps i ms e = absurd (not_hung (rule kn (form.counter a0) ms) e (rules kn (form.counter a0) ms tt))
+  form_leaf z (form.loop a0) ps i ms e = absurd (not_hung (rule kn (form.loop a0) ms) e (rules kn (form.loop a0) ms tt))
+  form_leaf z form.empty ps i ms e = absurd (not_hung (rule kn form.empty ms) e (rules kn form.empty ms tt))
+  form_leaf z (form.leave a0 a1 a2) ps i ms e = absurd (not_hung (rule kn (form.leave a0 a1 a2) ms) e (rules kn (form.leave a0 a1 a2) ms tt))
+  form_leaf z form.without_value ps i ms e = absurd (not_hung (rule kn form.without_value ms) e (rules kn form.without_value ms tt))
+  form_leaf z form.units ps i ms e = absurd (not_hung (rule kn form.units ms) e (rules kn form.units ms tt))
+  form_leaf z (form.heading a0 a1 a2 a3 a4 a5) ps i ms e = absurd (not_hung (rule kn (form.heading a0 a1 a2 a3 a4 a5) ms) e (rules kn (form.heading a0 a1 a2 a3 a4 a5) ms tt))
+  form_leaf z (form.body a0 a1 a2) ps i ms e = absurd (not_hung (rule kn (form.body a0 a1 a2) ms) e (rules kn (form.body a0 a1 a2) ms tt))
+  form_leaf z form.routine ps i ms e = absurd (not_hung (rule kn form.routine ms) e (rules kn form.routine ms tt))
+  form_leaf z (form.refinement a0) ps i ms e = absurd (not_hung (rule kn (form.refinement a0) ms) e (rules kn (form.refinement a0) ms tt))
+  form_leaf z form.level ps i ms e = absurd (not_hung (rule kn form.level ms) e (rules kn form.level ms tt))
+
+  wider : (z : Scope) (ns ms : List ℕ) → ((n : ℕ) → In n ns → In n ms) → Leaf z ns → Leaf z ms
+  wider z ns ms h g = (g.0, h g.0 g.1, g.2, g.3, g.4)
+
+  mutual
+    pub leaf_of : (z : Scope) (p : Phrase) → InScope z p → judged kn p ≡ hangs → Leaf z (called_in p)
+    leaf_of z (phrase f ps) i e =
+        elim (bind_hangs (judged_all kn ps) (rule kn f) e) [
+          | inl h ↦ wider z (called_by_all (phrases_of ps)) (called_in (phrase f ps)) (λ n g. in_left n (phrases_of ps) (phrase f ps ∷ []) g) (leaf_all z ps i.1 h)
+          | inr h ↦ wider z (called_by_all (phrase f ps ∷ [])) (called_in (phrase f ps)) (λ n g. in_right n (phrases_of ps) (phrase f ps ∷ []) g) (form_leaf z f ps i.0 h.0 h.1)
+        ]
+
+    leaf_all : (z : Scope) (ps : Parts) → AllIn z ps → judged_all kn ps ≡ hangs → Leaf z (called_by_all (phrases_of ps))
+    leaf_all z none i e = absurd cc
+    leaf_all z (part p ps) i e =
+        elim (before_hangs (judged kn p) (judged_all kn ps) e) [
+          | inl h ↦ wider z (called_in p) (called_by_all (phrases_of (part p ps))) (λ n g. in_left n (phrases p) (phrases_of ps) g) (leaf_of z p i.0 h)
+          | inr h ↦ wider z (called_by_all (phrases_of ps)) (called_by_all (phrases_of (part p ps))) (λ n g. in_right n (phrases p) (phrases_of ps) g) (leaf_all z ps i.1 h)
+        ]
+
+  -- ---- the last unit
+
+  -- a phrase without fault in a scope, whose calls are among these
+  abbrev Fine : Scope → List ℕ → Phrase → Type 0
+  Fine z ns p = InScope z p × Faultless (judged kn p) × ((n : ℕ) → In n (called_in p) → In n ns)
+
+  abbrev MayFine : Scope → List ℕ → Option Phrase → Type 0
+  MayFine z ns None = Unit {0}
+  MayFine z ns (Some p) = Fine z ns p
+
+  last_fine : (z : Scope) (ns : List ℕ) (ps : Parts) (o : Option Phrase) → AllIn z ps → Faultless (judged_all kn ps) → ((n : ℕ) → In n (called_by_all (phrases_of ps)) → In n ns) → MayFine z ns o → MayFine z ns (last_unit_in o ps)
+  last_fine z ns none o i f h m = m
+  last_fine z ns (part p ps) o i f h m =
+      let g = before_faultless kn (judged kn p) (judged_all kn ps) f in
+      last_fine z ns ps (if is_empty p then o else Some p) i.1 g.1 (λ n k. h n (in_right n (phrases p) (phrases_of ps) k)) (by_test (is_empty p) (i.0, g.0, λ n k. h n (in_left n (phrases p) (phrases_of ps) k)))
+    where
+      by_test : (d : Bool) → Fine z ns p → MayFine z ns (if d then o else Some p)
+      by_test true k = m
+      by_test false k = k
+
+  unit_leaf : (z : Scope) (ns : List ℕ) (o : Option Phrase) → MayFine z ns o → unit_delivery kn o ≡ Open → Leaf z ns
+  unit_leaf z ns None m e = absurd cc
+  unit_leaf z ns (Some p) m e = by_outcome (judged kn p) refl
+    where
+      by_outcome : (q : Ruled Meant) → judged kn p ≡ q → Leaf z ns
+      by_outcome (gives x) i = absurd (not_open x (sym (ap outcome i) ∙ e))
+      by_outcome (breaks d) i = absurd (breaks_has_fault d (subst (λ (r : Ruled Meant). Faultless r) i m.1))
+      by_outcome hangs i = wider z (called_in p) ns m.2 (leaf_of z p m.0 i)
+
+  pub body_leaf : (z : Scope) (p : Phrase) → InScope z p → Faultless (judged kn p) → unit_delivery kn (last_unit p) ≡ Open → Leaf z (called_in p)
+  body_leaf z (phrase f ps) i g e = unit_leaf z (called_in (phrase f ps)) (last_unit (phrase f ps)) (last_fine z (called_in (phrase f ps)) ps None i.1 (bind_faultless kn (judged_all kn ps) (rule kn f) g) (λ n k. in_left n (phrases_of ps) (phrase f ps ∷ []) k) tt) e

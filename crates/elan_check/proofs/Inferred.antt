@@ -1,0 +1,288 @@
+-- What is found out about refinements: it is what their last units deliver, and in the end nothing more can be found.
+use Rattle.std.proofs.Common.{◌≡◌, ℕ, zero, suc, ◌+◌, ◌≤◌, ◌<◌, Bool, true, false, ◌&&◌, if◌then◌else◌, List, [], ◌∷◌, ◌++◌, map, length, Option, Some, None, refl, sym, ap, subst, ◌∙◌, ◌⊎◌, inl, inr, arith}
+use Rattle.std.specs.Prelude.{slice_get, slice_index_or}
+use Rattle.elan_types.specs.declared.elan_type.ElanType.{ElanType}
+use Rattle.elan_types.specs.declared.core_phrase.Exit.{Exit}
+use Rattle.elan_types.specs.declared.why.Why.TheVariants.{WrongType, WrongPlace}
+use Rattle.elan_types.specs.declared.core_phrase.Action.{Action}
+use Rattle.elan_types.specs.declared.core_phrase.Action.TheVariants as action
+use Rattle.elan_rules.specs.declared.delivery.Delivery.{Delivery}
+use Rattle.elan_rules.specs.declared.delivery.Delivery.TheVariants.{Open, Nothing, Of}
+use Rattle.elan_rules.specs.declared.scope.Denotes.{Denotes}
+use Rattle.elan_rules.specs.declared.scope.Denotes.TheVariants as denotes
+use Rattle.elan_rules.specs.declared.heading.What.{What}
+use Rattle.elan_rules.specs.declared.heading.What.TheVariants.{Routine, Refinement}
+use Rattle.elan_rules.specs.declared.heading.Heading.{Heading}
+use Rattle.elan_rules.specs.declared.meant.Meant.{Meant}
+use Rattle.elan_rules.specs.declared.meant.Meant.TheVariants.{Absent, Value, Done, Left, Labels, Branches, Arms, Counter, Bodies, Level}
+use Rattle.elan_rules.specs.Scope.{find, left, refinement_named}
+use Rattle.elan_rules.specs.declared.scope.Scope.{Scope}
+use Rattle.elan_rules.specs.declared.scope.Home.{Home}
+use Rattle.elan_rules.specs.declared.scope.Found.{Found}
+use Rattle.elan_rules.specs.Phrase as form
+use Rattle.elan_rules.specs.Phrase.{Form, Phrase, phrase, Parts, none, part, all_of, around, is_empty, all_empty}
+use Rattle.elan_rules.specs.Ruled.{Fault, Ruled, gives, breaks, hangs, ◌>>=◌, before}
+use Rattle.elan_rules.specs.Known.{delivery_at, leads, leads_back}
+use Rattle.elan_rules.specs.declared.known.Known.{Known}
+use Rattle.elan_rules.specs.Parts.{one_of, on_one, actions_of}
+use Rattle.elan_rules.specs.Calls as r
+use Rattle.elan_rules.specs.Units.{or_last, last_value, ended, without_value}
+use Rattle.elan_rules.specs.Rules.{rule}
+use Rattle.elan_check.specs.Shape.{role, roles, units}
+use Rattle.elan_rules.specs.Meaning.{judged, judged_all}
+use Rattle.elan_check.specs.Refinements.{told, told_by, last_unit, last_unit_in, delivery_of, outcome, unit_delivery, next, next_all, known_after, known_of}
+use Rattle.elan_rules.proofs.First.{bind_gives, before_gives, gives_is}
+
+-- ---- the last unit
+
+module _ (kn : Known) where
+  empty_done : (p : Phrase) (m : Meant) → is_empty p ≡ true → judged kn p ≡ gives m → Done [] ≡ m
+  empty_done (phrase form.absent ps) m e h = absurd cc
+  empty_done (phrase form.not_built ps) m e h = absurd cc
+  empty_done (phrase (form.number a0 a1) ps) m e h = absurd cc
+  empty_done (phrase (form.truth a0 a1) ps) m e h = absurd cc
+  empty_done (phrase (form.named a0 a1 a2) ps) m e h = absurd cc
+  empty_done (phrase (form.applied a0 a1 a2 a3) ps) m e h = absurd cc
+  empty_done (phrase (form.bracket a0) ps) m e h = absurd cc
+  empty_done (phrase (form.cand a0) ps) m e h = absurd cc
+  empty_done (phrase (form.cor a0) ps) m e h = absurd cc
+  empty_done (phrase form.branch ps) m e h = absurd cc
+  empty_done (phrase form.branches ps) m e h = absurd cc
+  empty_done (phrase (form.choice a0) ps) m e h = absurd cc
+  empty_done (phrase (form.label a0 a1 a2) ps) m e h = absurd cc
+  empty_done (phrase (form.label_name a0 a1 a2) ps) m e h = absurd cc
+  empty_done (phrase form.labels ps) m e h = absurd cc
+  empty_done (phrase form.arm ps) m e h = absurd cc
+  empty_done (phrase form.arms ps) m e h = absurd cc
+  empty_done (phrase (form.selection a0) ps) m e h = absurd cc
+  empty_done (phrase (form.declares a0 a1 a2) ps) m e h = absurd cc
+  empty_done (phrase form.item ps) m e h = absurd cc
+  empty_done (phrase (form.initial a0) ps) m e h = absurd cc
+  empty_done (phrase (form.declaration a0) ps) m e h = absurd cc
+  empty_done (phrase form.statement ps) m e h = absurd cc
+  empty_done (phrase (form.assignment a0 s0) ps) m e h = absurd cc
+  empty_done (phrase (form.counter a0) ps) m e h = absurd cc
+  empty_done (phrase (form.loop a0) ps) m e h = absurd cc
+  empty_done (phrase form.empty ps) m e h = let b = bind_gives (judged_all kn ps) (rule kn form.empty) m h in gives_is (Done []) m b.2
+  empty_done (phrase (form.leave a0 a1 a2) ps) m e h = absurd cc
+  empty_done (phrase form.without_value ps) m e h = absurd cc
+  empty_done (phrase form.units ps) m e h = absurd cc
+  empty_done (phrase (form.heading a0 a1 a2 a3 a4 a5) ps) m e h = absurd cc
+  empty_done (phrase (form.body a0 a1 a2) ps) m e h = absurd cc
+  empty_done (phrase form.routine ps) m e h = absurd cc
+  empty_done (phrase (form.refinement a0) ps) m e h = absurd cc
+  empty_done (phrase form.level ps) m e h = absurd cc
+
+  kept : (k m : Meant) → without_value k ≡ gives m → or_last Absent m ≡ Absent
+  kept Absent m e = ap (or_last Absent) (sym (gives_is Absent m e))
+  kept (Value at t v x) m e = absurd cc
+  kept (Done as') m e = ap (or_last Absent) (sym (gives_is (Done as') m e))
+  kept (Left as') m e = ap (or_last Absent) (sym (gives_is (Done as') m e))
+  kept (Labels ns) m e = ap (or_last Absent) (sym (gives_is (Labels ns) m e))
+  kept (Branches gs) m e = ap (or_last Absent) (sym (gives_is (Branches gs) m e))
+  kept (Arms ls) m e = ap (or_last Absent) (sym (gives_is (Arms ls) m e))
+  kept (Counter k) m e = ap (or_last Absent) (sym (gives_is (Counter k) m e))
+  kept (Bodies bs) m e = absurd cc
+  kept (Level us bs) m e = ap (or_last Absent) (sym (gives_is (Level us bs) m e))
+
+  kept_row : (ms : List Meant) (m : Meant) → rule kn form.without_value ms ≡ gives m → or_last Absent m ≡ Absent
+  kept_row [] m e = absurd cc
+  kept_row (k ∷ []) m e = kept k m e
+  kept_row (k ∷ l ∷ ms) m e = absurd cc
+
+  no_value : (p : Phrase) (m : Meant) → judged kn (around form.without_value p) ≡ gives m → or_last Absent m ≡ Absent
+  no_value p m e = let b = bind_gives (before (judged kn p) (gives [])) (rule kn form.without_value) m e in kept_row b.0 m b.2
+
+  -- the last unit is this one, or there is none, and delivers what is delivered
+  abbrev pub Last : Option Phrase → Meant → Type 0
+  Last None n = Nothing ≡ delivery_of n
+  Last (Some p) n = (m : Meant) × (judged kn p ≡ gives m) × (delivery_of m ≡ delivery_of n)
+
+  or_last_done : (n m : Meant) → Done [] ≡ m → or_last n m ≡ n
+  or_last_done n m e = ap (or_last n) (sym e)
+
+  empties : (ps : List Phrase) (o : Option Phrase) (n : Meant) (ms : List Meant) → all_empty ps ≡ true → judged_all kn (all_of (roles true ps)) ≡ gives ms → Last o n → Last (last_unit_in o (all_of (roles true ps))) (last_value n ms)
+  empties [] o n ms e h l = subst (λ (ks : List Meant). Last o (last_value n ks)) (gives_is [] ms h) l
+  empties (p ∷ ps) o n ms e h l = by_tests (empties ps) (is_empty p) (all_empty ps) refl refl
+    where
+      by_tests : ((o' : Option Phrase) (n' : Meant) (ks : List Meant) → all_empty ps ≡ true → judged_all kn (all_of (roles true ps)) ≡ gives ks → Last o' n' → Last (last_unit_in o' (all_of (roles true ps))) (last_value n' ks)) → (a b : Bool) → is_empty p ≡ a → all_empty ps ≡ b → Last (last_unit_in o (all_of (roles true (p ∷ ps)))) (last_value n ms)
+      by_tests rest false b i j = absurd cc
+      by_tests rest true false i j = absurd cc
+      by_tests rest true true i j =
+          let q = before_gives (judged kn (role (all_empty ps) p)) (judged_all kn (all_of (roles true ps))) ms h in
+          let g : judged kn p ≡ gives q.0 = subst (λ (c : Bool). judged kn (role c p) ≡ gives q.0) j q.2 in
+          let z = or_last_done n q.0 (empty_done p q.0 i g) in
+          subst (λ (c : Bool). Last (last_unit_in (if is_empty (role c p) then o else Some (role c p)) (all_of (roles true ps))) (last_value n ms)) (sym j)
+          (subst (λ (c : Bool). Last (last_unit_in (if c then o else Some p) (all_of (roles true ps))) (last_value n ms)) (sym i)
+          (subst (λ (ks : List Meant). Last (last_unit_in o (all_of (roles true ps))) (last_value n ks)) (sym q.4)
+          (subst (λ (w : Meant). Last (last_unit_in o (all_of (roles true ps))) (last_value w q.1)) (sym z)
+          (rest o n q.1 j q.3 l))))
+
+  first_delivers : (m : Meant) → delivery_of m ≡ delivery_of (or_last Absent m)
+  first_delivers Absent = refl
+  first_delivers (Value at t v x) = refl
+  first_delivers (Done as') = refl
+  first_delivers (Left as') = refl
+  first_delivers (Labels ns) = refl
+  first_delivers (Branches gs) = refl
+  first_delivers (Arms ls) = refl
+  first_delivers (Counter k) = refl
+  first_delivers (Bodies bs) = refl
+  first_delivers (Level us bs) = refl
+
+  last_of_all : (ps : List Phrase) (o : Option Phrase) (ms : List Meant) → all_empty ps ≡ false → judged_all kn (all_of (roles true ps)) ≡ gives ms → Last (last_unit_in o (all_of (roles true ps))) (last_value Absent ms)
+  last_of_all [] o ms e h = absurd cc
+  last_of_all (p ∷ ps) o ms e h = by_tests (last_of_all ps) (is_empty p) (all_empty ps) refl refl
+    where
+      q : (x : Meant) × (xs : List Meant) × (judged kn (role (all_empty ps) p) ≡ gives x) × (judged_all kn (all_of (roles true ps)) ≡ gives xs) × (ms ≡ x ∷ xs)
+      q = before_gives (judged kn (role (all_empty ps) p)) (judged_all kn (all_of (roles true ps))) ms h
+
+      earlier : ((o' : Option Phrase) (ks : List Meant) → all_empty ps ≡ false → judged_all kn (all_of (roles true ps)) ≡ gives ks → Last (last_unit_in o' (all_of (roles true ps))) (last_value Absent ks)) → (o' : Option Phrase) → all_empty ps ≡ false → Last (last_unit_in o' (all_of (roles true ps))) (last_value Absent ms)
+      earlier rest o' j =
+          let g : judged kn (around form.without_value p) ≡ gives q.0 = subst (λ (c : Bool). judged kn (role c p) ≡ gives q.0) j q.2 in
+          subst (λ (ks : List Meant). Last (last_unit_in o' (all_of (roles true ps))) (last_value Absent ks)) (sym q.4)
+          (subst (λ (w : Meant). Last (last_unit_in o' (all_of (roles true ps))) (last_value w q.1)) (sym (no_value p q.0 g))
+          (rest o' q.1 j q.3))
+
+      by_tests : ((o' : Option Phrase) (ks : List Meant) → all_empty ps ≡ false → judged_all kn (all_of (roles true ps)) ≡ gives ks → Last (last_unit_in o' (all_of (roles true ps))) (last_value Absent ks)) → (a b : Bool) → is_empty p ≡ a → all_empty ps ≡ b → Last (last_unit_in o (all_of (roles true (p ∷ ps)))) (last_value Absent ms)
+      by_tests rest true true i j = absurd cc
+      by_tests rest a false i j = earlier rest (if is_empty (role (all_empty ps) p) then o else Some (role (all_empty ps) p)) j
+      by_tests rest false true i j =
+          let g : judged kn p ≡ gives q.0 = subst (λ (c : Bool). judged kn (role c p) ≡ gives q.0) j q.2 in
+          subst (λ (c : Bool). Last (last_unit_in (if is_empty (role c p) then o else Some (role c p)) (all_of (roles true ps))) (last_value Absent ms)) (sym j)
+          (subst (λ (c : Bool). Last (last_unit_in (if c then o else Some p) (all_of (roles true ps))) (last_value Absent ms)) (sym i)
+          (subst (λ (ks : List Meant). Last (last_unit_in (Some p) (all_of (roles true ps))) (last_value Absent ks)) (sym q.4)
+          (empties ps (Some p) (or_last Absent q.0) q.1 j q.3 (q.0, g, first_delivers q.0))))
+
+  ended_delivers : (as' : List Action) (n : Meant) → delivery_of (ended as' n) ≡ delivery_of n
+  ended_delivers as' Absent = refl
+  ended_delivers as' (Value at t v x) = refl
+  ended_delivers as' (Done bs) = refl
+  ended_delivers as' (Left bs) = refl
+  ended_delivers as' (Labels ns) = refl
+  ended_delivers as' (Branches gs) = refl
+  ended_delivers as' (Arms ls) = refl
+  ended_delivers as' (Counter k) = refl
+  ended_delivers as' (Bodies bs) = refl
+  ended_delivers as' (Level us bs) = refl
+
+  last_as : (o : Option Phrase) (n m : Meant) → delivery_of m ≡ delivery_of n → Last o n → Last o m
+  last_as None n m e h = h ∙ sym e
+  last_as (Some p) n m e h = (h.0, h.1, h.2 ∙ sym e)
+
+  -- the units of a body deliver what the last of them delivers
+  pub last_delivers : (ps : List Phrase) (m : Meant) → judged kn (units true ps) ≡ gives m → Last (last_unit (units true ps)) m
+  last_delivers ps m e =
+      let b = bind_gives (judged_all kn (all_of (roles true ps))) (rule kn form.units) m e in
+      last_as (last_unit (units true ps)) (last_value Absent b.0) m (ap delivery_of (sym (gives_is (ended (actions_of b.0) (last_value Absent b.0)) m b.2)) ∙ ended_delivers (actions_of b.0) (last_value Absent b.0)) (by_test (all_empty ps) refl b.0 b.1)
+    where
+      by_test : (c : Bool) → all_empty ps ≡ c → (ms : List Meant) → judged_all kn (all_of (roles true ps)) ≡ gives ms → Last (last_unit (units true ps)) (last_value Absent ms)
+      by_test true i ms h = empties ps None Absent ms i h refl
+      by_test false i ms h = last_of_all ps None ms i h
+
+-- ---- what is known of more
+
+abbrev pub Below : Known → Known → Type 0
+Below j k = (j.calls ≡ k.calls) × ((n : ℕ) → (delivery_at j n ≡ Open) ⊎ (delivery_at j n ≡ delivery_at k n))
+
+-- A phrase that has a meaning keeps it where more is known, if it has one.
+module _ (j k : Known) (below : Below j k) where
+  lead_same : (n : ℕ) (o : Option ℕ) → leads_back j n o ≡ leads_back k n o
+  lead_same n None = refl
+  lead_same n (Some z) = ap (λ (calls : List (List ℕ)). leads (length calls) calls n z) below.0
+
+  open_hangs : (at n : ℕ) (d : Delivery) (m : Meant) → d ≡ Open → r.referred at n d ≡ gives m → ⊥
+  open_hangs at n Open m e h = absurd cc
+  open_hangs at n Nothing m e h = absurd cc
+  open_hangs at n (Of t) m e h = absurd cc
+
+  referred_same : (at i : ℕ) (m n : Meant) → r.referred at i (delivery_at j i) ≡ gives m → r.referred at i (delivery_at k i) ≡ gives n → m ≡ n
+  referred_same at i m n h g =
+      elim (below.1 i) [
+        | inl e ↦ absurd (open_hangs at i (delivery_at j i) m e h)
+        | inr e ↦ gives_is m n (sym h ∙ ap (r.referred at i) e ∙ g)
+      ]
+
+  refined_by : (at i : ℕ) (a b : Bool) (m n : Meant) → (if a then breaks (at, WrongPlace) else r.referred at i (delivery_at j i)) ≡ gives m → (if b then breaks (at, WrongPlace) else r.referred at i (delivery_at k i)) ≡ gives n → m ≡ n
+  refined_by at i true b m n h g = absurd cc
+  refined_by at i false true m n h g = absurd cc
+  refined_by at i false false m n h g = referred_same at i m n h g
+
+  refined_same : (at : ℕ) (s : Scope) (o : Option ℕ) (m n : Meant) → r.refined j at s o ≡ gives m → r.refined k at s o ≡ gives n → m ≡ n
+  refined_same at s None m n h g = absurd cc
+  refined_same at s (Some i) m n h g = refined_by at i (leads_back j i s.refinement) (leads_back k i s.refinement) m n h g
+
+  denoted_same : (at : ℕ) (s : Scope) (x : List ℕ) (home : Home) (i : ℕ) (d : Denotes) (m n : Meant) → r.denoted j at s x home i d ≡ gives m → r.denoted k at s x home i d ≡ gives n → m ≡ n
+  denoted_same at s x home i (denotes.Variable t) m n h g = gives_is m n (sym h ∙ g)
+  denoted_same at s x home i (denotes.Constant t) m n h g = gives_is m n (sym h ∙ g)
+  denoted_same at s x home i (denotes.Parameter p) m n h g = gives_is m n (sym h ∙ g)
+  denoted_same at s x home i denotes.Procedure m n h g = gives_is m n (sym h ∙ g)
+  denoted_same at s x home i denotes.Refinement m n h g = refined_same at s (refinement_named s x) m n h g
+
+  named_same : (at : ℕ) (s : Scope) (x : List ℕ) (o : Option Found) (m n : Meant) → r.named j at s x o ≡ gives m → r.named k at s x o ≡ gives n → m ≡ n
+  named_same at s x None m n h g = gives_is m n (sym h ∙ g)
+  named_same at s x (Some f) m n h g = denoted_same at s x f.home f.number f.denotes m n h g
+
+  left_by : (at : ℕ) (e : Exit) (v : Meant) (a b : Bool) (m n : Meant) → (if a then gives (Left (action.Unit (r.leave_of e v ∷ []) ∷ [])) else breaks (at, WrongType)) ≡ gives m → (if b then gives (Left (action.Unit (r.leave_of e v ∷ []) ∷ [])) else breaks (at, WrongType)) ≡ gives n → m ≡ n
+  left_by at e v true true m n h g = gives_is m n (sym h ∙ g)
+  left_by at e v true false m n h g = absurd cc
+  left_by at e v false b m n h g = absurd cc
+
+  leaving_same : (at : ℕ) (o : Option (Exit × ℕ)) (v m n : Meant) → r.leaving j at o v ≡ gives m → r.leaving k at o v ≡ gives n → m ≡ n
+  leaving_same at None v m n h g = absurd cc
+  leaving_same at (Some e) v m n h g = left_by at e.0 v (r.agrees (delivery_at j e.1) v) (r.agrees (delivery_at k e.1) v) m n h g
+
+  leave_same : (at : ℕ) (o : Option (Exit × ℕ)) (q : Option Meant) (m n : Meant) → on_one q (r.leaving j at o) ≡ gives m → on_one q (r.leaving k at o) ≡ gives n → m ≡ n
+  leave_same at o None m n h g = absurd cc
+  leave_same at o (Some v) m n h g = leaving_same at o v m n h g
+
+  rule_same : (f : Form) (ms : List Meant) (m n : Meant) → rule j f ms ≡ gives m → rule k f ms ≡ gives n → m ≡ n
+  rule_same form.absent ms m n h i = gives_is m n (sym h ∙ i)
+  rule_same form.not_built ms m n h i = absurd cc
+  rule_same (form.number a0 a1) ms m n h i = gives_is m n (sym h ∙ i)
+  rule_same (form.truth a0 a1) ms m n h i = gives_is m n (sym h ∙ i)
+  rule_same (form.named a0 a1 a2) ms m n h i = named_same a0 a1 a2 (find a1 a2) m n h i
+  rule_same (form.applied a0 a1 a2 a3) ms m n h i = gives_is m n (sym h ∙ i)
+  rule_same (form.bracket a0) ms m n h i = gives_is m n (sym h ∙ i)
+  rule_same (form.cand a0) ms m n h i = gives_is m n (sym h ∙ i)
+  rule_same (form.cor a0) ms m n h i = gives_is m n (sym h ∙ i)
+  rule_same form.branch ms m n h i = gives_is m n (sym h ∙ i)
+  rule_same form.branches ms m n h i = gives_is m n (sym h ∙ i)
+  rule_same (form.choice a0) ms m n h i = gives_is m n (sym h ∙ i)
+  rule_same (form.label a0 a1 a2) ms m n h i = gives_is m n (sym h ∙ i)
+  rule_same (form.label_name a0 a1 a2) ms m n h i = gives_is m n (sym h ∙ i)
+  rule_same form.labels ms m n h i = gives_is m n (sym h ∙ i)
+  rule_same form.arm ms m n h i = gives_is m n (sym h ∙ i)
+  rule_same form.arms ms m n h i = gives_is m n (sym h ∙ i)
+  rule_same (form.selection a0) ms m n h i = gives_is m n (sym h ∙ i)
+  rule_same (form.declares a0 a1 a2) ms m n h i = gives_is m n (sym h ∙ i)
+  rule_same form.item ms m n h i = gives_is m n (sym h ∙ i)
+  rule_same (form.initial a0) ms m n h i = gives_is m n (sym h ∙ i)
+  rule_same (form.declaration a0) ms m n h i = gives_is m n (sym h ∙ i)
+  rule_same form.statement ms m n h i = gives_is m n (sym h ∙ i)
+  rule_same (form.assignment a0 s0) ms m n h i = gives_is m n (sym h ∙ i)
+  rule_same (form.counter a0) ms m n h i = gives_is m n (sym h ∙ i)
+  rule_same (form.loop a0) ms m n h i = gives_is m n (sym h ∙ i)
+  rule_same form.empty ms m n h i = gives_is m n (sym h ∙ i)
+  rule_same (form.leave a0 a1 a2) ms m n h i = leave_same a0 (left a1 a2) (one_of ms) m n h i
+  rule_same form.without_value ms m n h i = gives_is m n (sym h ∙ i)
+  rule_same form.units ms m n h i = gives_is m n (sym h ∙ i)
+  rule_same (form.heading a0 a1 a2 a3 a4 a5) ms m n h i = gives_is m n (sym h ∙ i)
+  rule_same (form.body a0 a1 a2) ms m n h i = gives_is m n (sym h ∙ i)
+  rule_same form.routine ms m n h i = gives_is m n (sym h ∙ i)
+  rule_same (form.refinement a0) ms m n h i = gives_is m n (sym h ∙ i)
+  rule_same form.level ms m n h i = gives_is m n (sym h ∙ i)
+
+  mutual
+    pub same_meaning : (p : Phrase) (m n : Meant) → judged j p ≡ gives m → judged k p ≡ gives n → m ≡ n
+    same_meaning (phrase f ps) m n h g =
+        let a = bind_gives (judged_all j ps) (rule j f) m h in
+        let b = bind_gives (judged_all k ps) (rule k f) n g in
+        rule_same f b.0 m n (subst (λ (ms : List Meant). rule j f ms ≡ gives m) (same_all ps a.0 b.0 a.1 b.1) a.2) b.2
+
+    same_all : (ps : Parts) (ms ns : List Meant) → judged_all j ps ≡ gives ms → judged_all k ps ≡ gives ns → ms ≡ ns
+    same_all none ms ns h g = gives_is ms ns (sym h ∙ g)
+    same_all (part p ps) ms ns h g =
+        let a = before_gives (judged j p) (judged_all j ps) ms h in
+        let b = before_gives (judged k p) (judged_all k ps) ns g in
+        a.4 ∙ ap (λ (x : Meant). x ∷ a.1) (same_meaning p a.0 b.0 a.2 b.2) ∙ ap (λ (xs : List Meant). b.0 ∷ xs) (same_all ps a.1 b.1 a.3 b.3) ∙ sym b.4

@@ -1,0 +1,163 @@
+-- The core of a text is well typed.
+use Rattle.std.proofs.Common.{◌≡◌, ℕ, zero, suc, ◌+◌, Bool, true, false, ◌&&◌, List, [], ◌∷◌, ◌++◌, map, length, Option, Some, None, refl, sym, ap, subst, ◌∙◌, arith}
+use Rattle.std.specs.Prelude.{slice_get}
+use Rattle.elan_types.specs.declared.elan_type.ElanType.{ElanType}
+use Rattle.elan_types.specs.declared.core_phrase.Parameter.{Parameter}
+use Rattle.elan_types.specs.declared.core_phrase.Action.{Action}
+use Rattle.elan_types.specs.declared.core_phrase.Content.{Content}
+use Rattle.elan_types.specs.declared.core_phrase.Scope.{Scope as Owner}
+use Rattle.elan_types.specs.declared.core_phrase.Scope.TheVariants as owner
+use Rattle.elan_types.specs.declared.core_phrase.Body.{Body}
+use Rattle.elan_types.specs.declared.core_phrase.Core.{Core}
+use Rattle.elan_types.specs.Typing.{Home, same_type, held_const, frame_of, frame_at, frame_in, scope_of, owner_at, owner as owner_in, result_of_content, is_content_typed, all_true, IsScope, IsWellTyped}
+use Rattle.elan_tree.specs.declared.tree.Refinement.{Refinement as Refined}
+use Rattle.elan_tree.specs.declared.tree.Level.{Level as Written}
+use Rattle.elan_tree.specs.declared.tree.LevelUnit.{LevelUnit}
+use Rattle.elan_tree.specs.declared.tree.LevelUnit.TheVariants as level
+use Rattle.elan_tree.specs.declared.phrase.Unit.{Unit as Statement}
+use Rattle.elan_tree.specs.declared.tree.Tree.{Tree}
+use Rattle.elan_types.specs.declared.env.Env.{Env}
+use Rattle.elan_rules.specs.declared.delivery.Delivery.{Delivery}
+use Rattle.elan_rules.specs.declared.delivery.Delivery.TheVariants.{Open, Nothing, Of}
+use Rattle.elan_rules.specs.declared.scope.Entry.{Entry}
+use Rattle.elan_rules.specs.declared.heading.Sort.TheVariants.{Procedure, Operator}
+use Rattle.elan_rules.specs.declared.heading.What.{What}
+use Rattle.elan_rules.specs.declared.heading.What.TheVariants.{Routine, Refinement}
+use Rattle.elan_rules.specs.declared.heading.Heading.{Heading}
+use Rattle.elan_rules.specs.declared.meant.Meant.{Meant}
+use Rattle.elan_rules.specs.declared.meant.Meant.TheVariants.{Absent, Value, Done, Left, Labels, Branches, Arms, Counter, Bodies, Level}
+use Rattle.elan_rules.specs.Scope as scope
+use Rattle.elan_rules.specs.Scope.{number_of, all_held, or_else, variables_of}
+use Rattle.elan_rules.specs.declared.scope.Scope.{Scope}
+use Rattle.elan_rules.specs.declared.scope.Within.{Within}
+use Rattle.elan_check.specs.Bodies as b
+use Rattle.elan_check.specs.Bodies.{headings, level_names}
+use Rattle.elan_rules.specs.Phrase as form
+use Rattle.elan_rules.specs.Phrase.{Phrase, phrase, Parts, none, part, all_of, around}
+use Rattle.elan_rules.specs.Ruled.{Ruled, gives, ◌>>=◌, before}
+use Rattle.elan_rules.specs.Known.{delivery_at}
+use Rattle.elan_rules.specs.declared.known.Known.{Known}
+use Rattle.elan_check.specs.Operators.{operator_text}
+use Rattle.elan_rules.specs.Parts as p
+use Rattle.elan_rules.specs.Units as u
+use Rattle.elan_rules.specs.Rules.{rule}
+use Rattle.elan_check.specs.Shape as shape
+use Rattle.elan_check.specs.Level as l
+use Rattle.elan_rules.specs.Meaning.{judged, judged_all}
+use Rattle.elan_check.specs.Refinements.{told, delivery_of, known_of}
+use Rattle.elan_check.specs.Text.{Means, known}
+use Rattle.elan_rules.proofs.First.{bind_gives, before_gives, gives_is, judged_of}
+use Rattle.elan_check.proofs.InScope.{InScope, statement_in}
+use Rattle.elan_rules.proofs.TypeEquations.{Stand, typed}
+use Rattle.elan_rules.proofs.Typed as ty
+use Rattle.elan_rules.proofs.TypedUnits.{content_as_good, content_of_good}
+use Rattle.elan_rules.proofs.TypedCalls.{owner_with, Headed, Delivering, BodyFits, FrameIs, Fits}
+use Rattle.elan_check.proofs.TypedRules.{good}
+use Rattle.elan_check.proofs.Settled.{told_found, refinement_found}
+use Rattle.elan_check.proofs.Aligned.{Made, Inside, Frames, within, Stands, Row, Rows, rows_append, refinement_rows, routine_rows, procedure_quiet, split, bodies_append}
+
+-- ---- the rows of a level
+
+behind : {A : Type 0} (ys xs : List A) (i : ℕ) → slice_get (ys ++ xs) (length ys + i) ≡ slice_get xs i
+behind {A = A} [] xs i = let z : 0 + i ≡ i = omega arith in ap (λ (n : ℕ). slice_get xs n) z
+behind {A = A} (y ∷ ys) xs i = let z : suc (length ys) + i ≡ suc (length ys + i) = omega arith in ap (λ (n : ℕ). slice_get (y ∷ ys ++ xs) n) z ∙ behind ys xs i
+
+before_rest : {A : Type 0} (ys xs : List A) (i : ℕ) (y : A) → slice_get ys i ≡ Some y → slice_get (ys ++ xs) i ≡ Some y
+before_rest [] xs i y e = absurd cc
+before_rest (z ∷ ys) xs zero y e = e
+before_rest (z ∷ ys) xs (suc i) y e = before_rest ys xs i y e
+
+pub inside_first : (k : ℕ) (bs cs all : List Body) → Inside k (bs ++ cs) all → Inside k bs all
+inside_first k bs cs all h i b e = h i b (before_rest bs cs i b e)
+
+pub inside_rest : (k : ℕ) (bs cs all : List Body) → Inside k (bs ++ cs) all → Inside (k + length bs) cs all
+inside_rest k bs cs all h i b e =
+    let z : k + length bs + i ≡ k + (length bs + i) = omega arith in
+    ap (slice_get all) z ∙ h (length bs + i) b (behind bs cs i ∙ e)
+
+refinements_count : (o : Option ℕ) (rs : List Refined) → length (b.refinement_headings o rs) ≡ length rs
+refinements_count o [] = refl
+refinements_count o (r ∷ rs) = ap suc (refinements_count o rs)
+
+headings_count : (k : ℕ) (v : LevelUnit) → length (b.unit_headings k v) ≡ b.bodies_in v
+headings_count k (level.Plain v) = refl
+headings_count k (level.Proc at r n fs w) = ap suc (refinements_count (Some k) w.refinements)
+headings_count k (level.Op at r n fs w) = ap suc (refinements_count (Some k) w.refinements)
+headings_count k (level.NewType at n of) = refl
+
+module _ (kn : Known) (s : Scope) (all : List Body) where
+  pub rows_count : (n : ℕ) (hs : List Heading) (ps : List Phrase) (bs : List Body) → Rows kn s all n hs ps bs → length bs ≡ length hs
+  rows_count n [] [] [] h = refl
+  rows_count n (g ∷ hs) (q ∷ ps) (b ∷ bs) h = ap suc (rows_count (suc n) hs ps bs h.1)
+  rows_count n [] [] (b ∷ bs) h = absurd h
+  rows_count n [] (q ∷ ps) bs h = absurd h
+  rows_count n (g ∷ hs) [] bs h = absurd h
+  rows_count n (g ∷ hs) (q ∷ ps) [] h = absurd h
+
+  no_bodies : (v m : Meant) → u.without_value v ≡ gives m → u.bodies_in m ≡ []
+  no_bodies Absent m e = ap u.bodies_in (sym (gives_is Absent m e))
+  no_bodies (Value at t w x) m e = absurd cc
+  no_bodies (Done as') m e = ap u.bodies_in (sym (gives_is (Done as') m e))
+  no_bodies (Left as') m e = ap u.bodies_in (sym (gives_is (Done as') m e))
+  no_bodies (Labels ns) m e = ap u.bodies_in (sym (gives_is (Labels ns) m e))
+  no_bodies (Branches gs) m e = ap u.bodies_in (sym (gives_is (Branches gs) m e))
+  no_bodies (Arms ls) m e = ap u.bodies_in (sym (gives_is (Arms ls) m e))
+  no_bodies (Counter c) m e = ap u.bodies_in (sym (gives_is (Counter c) m e))
+  no_bodies (Bodies bs) m e = absurd cc
+  no_bodies (Level us bs) m e = ap u.bodies_in (sym (gives_is (Level us bs) m e))
+
+  no_bodies_in : (ms : List Meant) (m : Meant) → rule kn form.without_value ms ≡ gives m → u.bodies_in m ≡ []
+  no_bodies_in [] m e = absurd cc
+  no_bodies_in (v ∷ []) m e = no_bodies v m e
+  no_bodies_in (v ∷ w ∷ ms) m e = absurd cc
+
+  plain_quiet : (q : Phrase) (m : Meant) → judged kn (around form.without_value q) ≡ gives m → u.bodies_in m ≡ []
+  plain_quiet q m e = let r = bind_gives (judged_all kn (part q none)) (rule kn form.without_value) m e in no_bodies_in r.0 m r.2
+
+  unit_rows : (k : ℕ) (v : LevelUnit) (m : Meant) → judged kn (l.level_unit s k v) ≡ gives m → Inside k (u.bodies_in m) all → Rows kn s all k (b.unit_headings k v) (l.unit_bodies s k v) (u.bodies_in m)
+  unit_rows k (level.Plain v) m e h = subst (λ (bs : List Body). Rows kn s all k [] [] bs) (sym (plain_quiet (shape.unit s v) m e)) tt
+  unit_rows k (level.Proc at r n fs w) m e h = routine_rows kn s all k n.at n.text r fs w Procedure (l.procedure_name s n fs) m (procedure_quiet kn s all n fs) e h
+  unit_rows k (level.Op at r n fs w) m e h = routine_rows kn s all k n.at (operator_text n.operator) r fs w Operator [] m tt e h
+  unit_rows k (level.NewType at n of) m e h = absurd cc
+
+  pub units_rows : (k : ℕ) (vs : List LevelUnit) (ms : List Meant) → judged_all kn (all_of (l.level_units s k vs)) ≡ gives ms → Inside k (u.bodies_of ms) all → Rows kn s all k (b.all_headings k vs) (l.all_unit_bodies s k vs) (u.bodies_of ms)
+  units_rows k [] ms e h = subst (λ (ns : List Meant). Rows kn s all k [] [] (u.bodies_of ns)) (gives_is [] ms e) tt
+  units_rows k (v ∷ vs) ms e h =
+      let q = before_gives (judged kn (l.level_unit s k v)) (judged_all kn (all_of (l.level_units s (k + b.bodies_in v) vs))) ms e in
+      let h' : Inside k (u.bodies_in q.0 ++ u.bodies_of q.1) all = subst (λ (ns : List Meant). Inside k (u.bodies_of ns) all) q.4 h in
+      let first = unit_rows k v q.0 q.2 (inside_first k (u.bodies_in q.0) (u.bodies_of q.1) all h') in
+      let count : length (u.bodies_in q.0) ≡ b.bodies_in v = rows_count k (b.unit_headings k v) (l.unit_bodies s k v) (u.bodies_in q.0) first ∙ headings_count k v in
+      let rest = units_rows (k + b.bodies_in v) vs q.1 q.3 (subst (λ (n : ℕ). Inside (k + n) (u.bodies_of q.1) all) count (inside_rest k (u.bodies_in q.0) (u.bodies_of q.1) all h')) in
+      subst (λ (ns : List Meant). Rows kn s all k (b.all_headings k (v ∷ vs)) (l.all_unit_bodies s k (v ∷ vs)) (u.bodies_of ns)) (sym q.4)
+      (rows_append kn s all k (k + b.bodies_in v) (b.unit_headings k v) (b.all_headings (k + b.bodies_in v) vs) (l.unit_bodies s k v) (l.all_unit_bodies s (k + b.bodies_in v) vs) (u.bodies_in q.0) (u.bodies_of q.1) (ap (λ (n : ℕ). k + n) (sym count)) first rest)
+
+  pub all_count : (k : ℕ) (vs : List LevelUnit) → length (b.all_headings k vs) ≡ l.bodies_of_units vs
+  all_count k [] = refl
+  all_count k (v ∷ vs) = both (b.unit_headings k v) (b.all_headings (k + b.bodies_in v) vs) ∙ ap (λ (n : ℕ). n + length (b.all_headings (k + b.bodies_in v) vs)) (headings_count k v) ∙ ap (λ (n : ℕ). b.bodies_in v + n) (all_count (k + b.bodies_in v) vs)
+    where
+      both : (xs ys : List Heading) → length (xs ++ ys) ≡ length xs + length ys
+      both [] ys = let z : 0 + length ys ≡ length ys = omega arith in sym z
+      both (x ∷ xs) ys = let z : suc (length xs) + length ys ≡ suc (length xs + length ys) = omega arith in ap suc (both xs ys) ∙ sym z
+
+  -- ---- rows by their numbers
+
+  pub row_of_heading : (n : ℕ) (hs : List Heading) (ps : List Phrase) (bs : List Body) (i : ℕ) (h : Heading) → Rows kn s all n hs ps bs → slice_get hs i ≡ Some h → (q : Phrase) × (c : Body) × (slice_get ps i ≡ Some q) × (slice_get bs i ≡ Some c) × Row kn s all (n + i) h q c
+  row_of_heading n [] ps bs i h r e = absurd cc
+  row_of_heading n (g ∷ hs) [] bs i h r e = absurd r
+  row_of_heading n (g ∷ hs) (q ∷ ps) [] i h r e = absurd r
+  row_of_heading n (g ∷ hs) (q ∷ ps) (c ∷ bs) zero h r e =
+      let j : g ≡ h = cc in
+      let z : n + 0 ≡ n = omega arith in
+      (q, c, refl, refl, subst (λ (m : ℕ). Row kn s all m h q c) (sym z) (subst (λ (y : Heading). Row kn s all n y q c) j r.0))
+  row_of_heading n (g ∷ hs) (q ∷ ps) (c ∷ bs) (suc i) h r e =
+      let k = row_of_heading (suc n) hs ps bs i h r.1 e in
+      let z : n + suc i ≡ suc n + i = omega arith in
+      (k.0, k.1, k.2, k.3, subst (λ (m : ℕ). Row kn s all m h k.0 k.1) (sym z) k.4)
+
+  pub heading_of_body : (n : ℕ) (hs : List Heading) (ps : List Phrase) (bs : List Body) (i : ℕ) (c : Body) → Rows kn s all n hs ps bs → slice_get bs i ≡ Some c → (h : Heading) × (slice_get hs i ≡ Some h)
+  heading_of_body n hs ps [] i c r e = absurd cc
+  heading_of_body n [] [] (d ∷ bs) i c r e = absurd r
+  heading_of_body n [] (q ∷ ps) (d ∷ bs) i c r e = absurd r
+  heading_of_body n (g ∷ hs) [] (d ∷ bs) i c r e = absurd r
+  heading_of_body n (g ∷ hs) (q ∷ ps) (d ∷ bs) zero c r e = (g, refl)
+  heading_of_body n (g ∷ hs) (q ∷ ps) (d ∷ bs) (suc i) c r e = heading_of_body (suc n) hs ps bs i c r.1 e

@@ -1,0 +1,330 @@
+-- Where no phrase of a level breaks a rule, none hangs on another one.
+use Rattle.std.proofs.Common.{◌≡◌, ℕ, zero, suc, ◌+◌, Bool, true, false, List, [], ◌∷◌, ◌++◌, map, length, Option, Some, None, refl, sym, ap, subst, ◌∙◌, ◌⊎◌, inl, inr, arith}
+use Rattle.std.specs.Prelude.{slice_get, slice_index_or}
+use Rattle.elan_types.specs.declared.elan_type.ElanType.{ElanType}
+use Rattle.elan_types.specs.declared.core_phrase.Parameter.{Parameter}
+use Rattle.elan_types.specs.declared.core_phrase.Scope.{Scope as Owner}
+use Rattle.elan_types.specs.declared.core_phrase.Scope.TheVariants as owner
+use Rattle.elan_rules.specs.declared.meant.Meant.{Meant}
+use Rattle.elan_tree.specs.declared.written_type.Name.{Name}
+use Rattle.elan_tree.specs.declared.written_type.TypePhrase.{TypePhrase}
+use Rattle.elan_tree.specs.declared.written_type.Formal.{Formal}
+use Rattle.elan_tree.specs.declared.tree.Body.{Body as Written}
+use Rattle.elan_tree.specs.declared.tree.Refinement.{Refinement as Refined}
+use Rattle.elan_tree.specs.declared.tree.Level.{Level}
+use Rattle.elan_tree.specs.declared.tree.LevelUnit.{LevelUnit}
+use Rattle.elan_tree.specs.declared.tree.LevelUnit.TheVariants as level
+use Rattle.elan_rules.specs.declared.delivery.Delivery.{Delivery}
+use Rattle.elan_rules.specs.declared.delivery.Delivery.TheVariants.{Open}
+use Rattle.elan_rules.specs.declared.heading.Sort.{Sort}
+use Rattle.elan_rules.specs.declared.heading.Sort.TheVariants.{Procedure, Operator}
+use Rattle.elan_rules.specs.declared.heading.What.{What}
+use Rattle.elan_rules.specs.declared.heading.What.TheVariants.{Routine, Refinement}
+use Rattle.elan_rules.specs.declared.heading.Heading.{Heading}
+use Rattle.elan_rules.specs.Scope.{number_of}
+use Rattle.elan_rules.specs.declared.scope.Scope.{Scope}
+use Rattle.elan_check.specs.Bodies as b
+use Rattle.elan_check.specs.Bodies.{headings, parameters, result}
+use Rattle.elan_check.specs.Operators.{operator_text}
+use Rattle.elan_rules.specs.Phrase as form
+use Rattle.elan_rules.specs.Phrase.{Form, Phrase, phrase, Parts, none, part, all_of, around, leaf, last_place}
+use Rattle.elan_rules.specs.Ruled.{Ruled, gives, breaks, hangs, ◌>>=◌, before}
+use Rattle.elan_rules.specs.Known.{delivery_at, leads_back}
+use Rattle.elan_rules.specs.declared.known.Known.{Known}
+use Rattle.elan_rules.specs.Rules.{rule}
+use Rattle.elan_check.specs.Shape as shape
+use Rattle.elan_check.specs.Level as l
+use Rattle.elan_rules.specs.Meaning.{judged, judged_all}
+use Rattle.elan_check.specs.Refinements.{told, last_unit, unit_delivery, called_in, known_of}
+use Rattle.elan_rules.proofs.First.{Faultless, whole, open_one, bind_faultless, before_faultless}
+use Rattle.elan_check.proofs.InScope.{InScope, body_units_in, statement_in}
+use Rattle.elan_rules.proofs.Firm.{Firm, rules, not_hung}
+use Rattle.elan_check.proofs.Walks.{In, Call, no_walk}
+use Rattle.elan_check.proofs.Settled.{open_last, calls_are}
+use Rattle.elan_check.proofs.Hanging.{before_both, bind_hangs, before_hangs, IsHeaded, Leaf, leaf_of, body_leaf}
+
+module _ (kn : Known) (s : Scope) where
+  -- the units of a body without fault, in their scope
+  pub record Spot (n : ℕ) (h : Heading) (p : Phrase) : Type 0 where
+    pub scope : Scope
+    pub in_scope : InScope scope p
+    pub headings : scope.headings ≡ s.headings
+    pub stands : told h.what ≡ Open → scope.refinement ≡ Some n
+    pub faultless : Faultless (judged kn p)
+
+  abbrev pub Spots : ℕ → List Heading → List Phrase → Type 0
+  Spots n [] [] = Unit {0}
+  Spots n (h ∷ hs) (p ∷ ps) = Spot n h p × Spots (suc n) hs ps
+  Spots n [] (p ∷ ps) = ⊥
+  Spots n (h ∷ hs) [] = ⊥
+
+  spots_append : (n m : ℕ) (hs gs : List Heading) (ps qs : List Phrase) → m ≡ n + length hs → Spots n hs ps → Spots m gs qs → Spots n (hs ++ gs) (ps ++ qs)
+  spots_append n m [] gs [] qs e h k = subst (λ (i : ℕ). Spots i gs qs) (let z : n + 0 ≡ n = omega arith in e ∙ z) k
+  spots_append n m (g ∷ hs) gs (p ∷ ps) qs e h k = (h.0, spots_append (suc n) m hs gs ps qs (let z : n + suc (length hs) ≡ suc n + length hs = omega arith in e ∙ z) h.1 k)
+  spots_append n m [] gs (p ∷ ps) qs e h k = absurd h
+  spots_append n m (g ∷ hs) gs [] qs e h k = absurd h
+
+  pub spots_count : (n : ℕ) (hs : List Heading) (ps : List Phrase) → Spots n hs ps → length ps ≡ length hs
+  spots_count n [] [] h = refl
+  spots_count n (g ∷ hs) (p ∷ ps) h = ap suc (spots_count (suc n) hs ps h.1)
+  spots_count n [] (p ∷ ps) h = absurd h
+  spots_count n (g ∷ hs) [] h = absurd h
+
+  pub spot_at : (n : ℕ) (hs : List Heading) (ps : List Phrase) (i : ℕ) (h : Heading) → Spots n hs ps → slice_get hs i ≡ Some h → (p : Phrase) × (slice_get ps i ≡ Some p) × Spot (n + i) h p
+  spot_at n [] ps i h r e = absurd cc
+  spot_at n (g ∷ hs) [] i h r e = absurd r
+  spot_at n (g ∷ hs) (p ∷ ps) zero h r e =
+      let j : g ≡ h = cc in
+      let z : n + 0 ≡ n = omega arith in
+      (p, refl, subst (λ (m : ℕ). Spot m h p) (sym z) (subst (λ (y : Heading). Spot n y p) j r.0))
+  spot_at n (g ∷ hs) (p ∷ ps) (suc i) h r e =
+      let k = spot_at (suc n) hs ps i h r.1 e in
+      let z : n + suc i ≡ suc n + i = omega arith in
+      (k.0, k.1, subst (λ (m : ℕ). Spot m h k.0) (sym z) k.2)
+
+  split : (xs ys : List Phrase) → Faultless (judged_all kn (all_of (xs ++ ys))) → Faultless (judged_all kn (all_of xs)) × Faultless (judged_all kn (all_of ys))
+  split [] ys f = (whole_one, f)
+    where
+      whole_one : Faultless (judged_all kn none)
+      whole_one = whole []
+  split (x ∷ xs) ys f =
+      let g = before_faultless kn (judged kn x) (judged_all kn (all_of (xs ++ ys))) f in
+      let h = split xs ys g.1 in
+      (before_both (judged kn x) (judged_all kn (all_of xs)) g.0 h.0, h.1)
+
+  -- ---- refinements
+
+  refinement_spots : (z : Scope) (k : ℕ) (home : Option ℕ) (rs : List Refined) → z.headings ≡ s.headings → Faultless (judged_all kn (all_of (l.refinements z k rs))) → Spots k (b.refinement_headings home rs) (l.all_refined_units z k rs)
+  refinement_spots z k home [] hh f = tt
+  refinement_spots z k home (r ∷ rs) hh f =
+      let g = before_faultless kn (judged kn (l.refinement z k r)) (judged_all kn (all_of (l.refinements z (suc k) rs))) f in
+      let a = bind_faultless kn (judged_all kn (part (l.declares z r.name) (part (l.refined_units z k r) none))) (rule kn (form.refinement (l.owner_of z.routine))) g.0 in
+      let c = before_faultless kn (judged kn (l.declares z r.name)) (judged_all kn (part (l.refined_units z k r) none)) a in
+      let d = before_faultless kn (judged kn (l.refined_units z k r)) (judged_all kn none) c.1 in (
+        record {
+          scope = l.refinement_scope z k;
+          in_scope = body_units_in (l.refinement_scope z k) true r.units;
+          headings = hh;
+          stands = λ e. refl;
+          faultless = d.0;
+        },
+        refinement_spots z (suc k) home rs hh g.1,
+      )
+
+  told_never : (sort : Sort) (o : Option ElanType) (params : List Parameter) (n : ℕ) (z : Scope) → told (Routine sort params o) ≡ Open → z.refinement ≡ Some n
+  told_never sort None params n z e = absurd cc
+  told_never sort (Some t) params n z e = absurd cc
+
+  -- ---- what hangs in a level
+
+  -- a phrase in it, in a scope with these headings, hangs
+  abbrev HangsIn : Type 0
+  HangsIn = (z : Scope) × (p : Phrase) × InScope z p × (z.headings ≡ s.headings) × (judged kn p ≡ hangs)
+
+  abbrev AllLead : List Phrase → Type 0
+  AllLead [] = Unit {0}
+  AllLead (p ∷ ps) = (judged kn p ≡ hangs → HangsIn) × AllLead ps
+
+  lead_append : (ps qs : List Phrase) → AllLead ps → AllLead qs → AllLead (ps ++ qs)
+  lead_append [] qs h k = k
+  lead_append (p ∷ ps) qs h k = (h.0, lead_append ps qs h.1 k)
+
+  list_hangs : (ps : List Phrase) → AllLead ps → judged_all kn (all_of ps) ≡ hangs → HangsIn
+  list_hangs [] h e = absurd cc
+  list_hangs (p ∷ ps) h e =
+      elim (before_hangs (judged kn p) (judged_all kn (all_of ps)) e) [
+        | inl i ↦ h.0 i
+        | inr i ↦ list_hangs ps h.1 i
+      ]
+
+  phrase_hangs : (f : Form) (ps : List Phrase) → Firm f → AllLead ps → judged kn (phrase f (all_of ps)) ≡ hangs → HangsIn
+  phrase_hangs f ps i h e =
+      elim (bind_hangs (judged_all kn (all_of ps)) (rule kn f) e) [
+        | inl g ↦ list_hangs ps h g
+        | inr g ↦ absurd (not_hung (rule kn f g.0) g.1 (rules kn f g.0 i))
+      ]
+
+  declares_lead : (z : Scope) (n : Name) → judged kn (l.declares z n) ≡ hangs → HangsIn
+  declares_lead z n e = phrase_hangs (form.declares n.at z n.text) [] tt tt e
+
+  all_declare_lead : (z : Scope) (ns : List Name) → AllLead (l.declare_all z ns)
+  all_declare_lead z [] = tt
+  all_declare_lead z (n ∷ ns) = (declares_lead z n, all_declare_lead z ns)
+
+  parameters_lead : (z : Scope) (fs : List Formal) → AllLead (l.declare_parameters z fs)
+  parameters_lead z [] = tt
+  parameters_lead z (f ∷ fs) = lead_append (l.declare_all z f.names) (l.declare_parameters z fs) (all_declare_lead z f.names) (parameters_lead z fs)
+
+  procedure_lead : (n : Name) (fs : List Formal) → AllLead (l.procedure_name s n fs)
+  procedure_lead n [] = (declares_lead s n, tt)
+  procedure_lead n (f ∷ fs) = tt
+
+  refinements_lead : (z : Scope) (k : ℕ) (rs : List Refined) → z.headings ≡ s.headings → AllLead (l.refinements z k rs)
+  refinements_lead z k [] hh = tt
+  refinements_lead z k (r ∷ rs) hh = (
+    λ e. phrase_hangs (form.refinement (l.owner_of z.routine)) (l.declares z r.name ∷ l.refined_units z k r ∷ []) tt
+        (declares_lead z r.name, ((λ i. (l.refinement_scope z k, l.refined_units z k r, body_units_in (l.refinement_scope z k) true r.units, hh, i)), tt)) e,
+    refinements_lead z (suc k) rs hh,
+  )
+
+  -- ---- PROCs and OPs
+
+  module _ (k : ℕ) (at : ℕ) (x : List ℕ) (t : Option TypePhrase) (fs : List Formal) (w : Written) where
+    abbrev inner : Scope
+    inner = l.inner s k at x t fs w
+
+    routine_spots : (sort : Sort) (names : List Phrase) → Faultless (judged kn (l.routine s k at x t fs w sort names)) → Spots k (b.routine_heading sort at x fs t ∷ b.refinement_headings (Some k) w.refinements) (l.routine_units s k at x t fs w)
+    routine_spots sort names f =
+        let g = bind_faultless kn (judged_all kn (all_of (l.heading_phrases s k at x t fs w sort names ++ l.body_phrases s k at x t fs w))) (rule kn form.routine) f in
+        let h = split (l.heading_phrases s k at x t fs w sort names) (l.body_phrases s k at x t fs w) g in
+        let a = before_faultless kn (judged kn (l.own_body s k at x t fs w)) (judged_all kn (all_of (l.refinements inner (suc k) w.refinements))) h.1 in
+        let c = bind_faultless kn (judged_all kn (part (l.own_units s k at x t fs w) none)) (rule kn (form.body (last_place at (l.body_units s k at x t fs w)) (own_owner) (result t))) a.0 in
+        let d = before_faultless kn (judged kn (l.own_units s k at x t fs w)) (judged_all kn none) c in (
+          record {
+            scope = inner;
+            in_scope = body_units_in inner true w.units;
+            headings = refl;
+            stands = told_never sort (result t) (parameters fs) k inner;
+            faultless = d.0;
+          },
+          refinement_spots inner (suc k) (Some k) w.refinements refl a.1,
+        )
+      where
+        own_owner : Owner
+        own_owner = owner.Own (parameters fs) (l.own_types w)
+
+    routine_lead : (sort : Sort) (names : List Phrase) → AllLead names → judged kn (l.routine s k at x t fs w sort names) ≡ hangs → HangsIn
+    routine_lead sort names h e =
+        phrase_hangs form.routine (l.heading_phrases s k at x t fs w sort names ++ l.body_phrases s k at x t fs w) tt
+        (lead_append (l.heading_phrases s k at x t fs w sort names) (l.body_phrases s k at x t fs w)
+        (lead_append names (heading_leaf ∷ l.declare_parameters inner fs) h ((λ i. phrase_hangs heading_form [] tt tt i), parameters_lead inner fs))
+        ((λ i. phrase_hangs body_form (l.own_units s k at x t fs w ∷ []) tt ((λ j. (inner, l.own_units s k at x t fs w, body_units_in inner true w.units, refl, j)), tt) i), refinements_lead inner (suc k) w.refinements refl)) e
+      where
+        heading_form : Form
+        heading_form = form.heading at s sort x (parameters fs) (l.is_missing (result t) (l.body_units s k at x t fs w))
+
+        heading_leaf : Phrase
+        heading_leaf = leaf heading_form
+
+        body_form : Form
+        body_form = form.body (last_place at (l.body_units s k at x t fs w)) (owner.Own (parameters fs) (l.own_types w)) (result t)
+
+  -- ---- units
+
+  refinements_count : (o : Option ℕ) (rs : List Refined) → length (b.refinement_headings o rs) ≡ length rs
+  refinements_count o [] = refl
+  refinements_count o (r ∷ rs) = ap suc (refinements_count o rs)
+
+  headings_count : (k : ℕ) (v : LevelUnit) → length (b.unit_headings k v) ≡ b.bodies_in v
+  headings_count k (level.Plain v) = refl
+  headings_count k (level.Proc at r n fs w) = ap suc (refinements_count (Some k) w.refinements)
+  headings_count k (level.Op at r n fs w) = ap suc (refinements_count (Some k) w.refinements)
+  headings_count k (level.NewType at n of) = refl
+
+  unit_spots : (k : ℕ) (v : LevelUnit) → Faultless (judged kn (l.level_unit s k v)) → Spots k (b.unit_headings k v) (l.unit_bodies s k v)
+  unit_spots k (level.Plain v) f = tt
+  unit_spots k (level.Proc at r n fs w) f = routine_spots k n.at n.text r fs w Procedure (l.procedure_name s n fs) f
+  unit_spots k (level.Op at r n fs w) f = routine_spots k n.at (operator_text n.operator) r fs w Operator [] f
+  unit_spots k (level.NewType at n of) f = tt
+
+  units_spots : (k : ℕ) (vs : List LevelUnit) → Faultless (judged_all kn (all_of (l.level_units s k vs))) → Spots k (b.all_headings k vs) (l.all_unit_bodies s k vs)
+  units_spots k [] f = tt
+  units_spots k (v ∷ vs) f =
+      let g = before_faultless kn (judged kn (l.level_unit s k v)) (judged_all kn (all_of (l.level_units s (k + b.bodies_in v) vs))) f in
+      spots_append k (k + b.bodies_in v) (b.unit_headings k v) (b.all_headings (k + b.bodies_in v) vs) (l.unit_bodies s k v) (l.all_unit_bodies s (k + b.bodies_in v) vs) (ap (λ (n : ℕ). k + n) (sym (headings_count k v))) (unit_spots k v g.0) (units_spots (k + b.bodies_in v) vs g.1)
+
+  unit_lead : (k : ℕ) (v : LevelUnit) → judged kn (l.level_unit s k v) ≡ hangs → HangsIn
+  unit_lead k (level.Plain v) e = (s, around form.without_value (shape.unit s v), statement_in s false v, refl, e)
+  unit_lead k (level.Proc at r n fs w) e = routine_lead k n.at n.text r fs w Procedure (l.procedure_name s n fs) (procedure_lead n fs) e
+  unit_lead k (level.Op at r n fs w) e = routine_lead k n.at (operator_text n.operator) r fs w Operator [] tt e
+  unit_lead k (level.NewType at n of) e = absurd cc
+
+  units_lead : (k : ℕ) (vs : List LevelUnit) → AllLead (l.level_units s k vs)
+  units_lead k [] = tt
+  units_lead k (v ∷ vs) = (unit_lead k v, units_lead (k + b.bodies_in v) vs)
+
+  pub level_lead : (w : Level) → judged kn (phrase form.level (all_of (l.level_units s 0 w.units ++ l.refinements s (l.bodies_of_units w.units) w.refinements))) ≡ hangs → HangsIn
+  level_lead w e = phrase_hangs form.level (l.level_units s 0 w.units ++ l.refinements s (l.bodies_of_units w.units) w.refinements) tt (lead_append (l.level_units s 0 w.units) (l.refinements s (l.bodies_of_units w.units) w.refinements) (units_lead 0 w.units) (refinements_lead s (l.bodies_of_units w.units) w.refinements refl)) e
+
+  count_append : (xs ys : List Heading) → length (xs ++ ys) ≡ length xs + length ys
+  count_append [] ys = let z : 0 + length ys ≡ length ys = omega arith in sym z
+  count_append (x ∷ xs) ys = let z : suc (length xs) + length ys ≡ suc (length xs + length ys) = omega arith in ap suc (count_append xs ys) ∙ sym z
+
+  all_count : (k : ℕ) (vs : List LevelUnit) → length (b.all_headings k vs) ≡ l.bodies_of_units vs
+  all_count k [] = refl
+  all_count k (v ∷ vs) = count_append (b.unit_headings k v) (b.all_headings (k + b.bodies_in v) vs) ∙ ap (λ (n : ℕ). n + length (b.all_headings (k + b.bodies_in v) vs)) (headings_count k v) ∙ ap (λ (n : ℕ). b.bodies_in v + n) (all_count (k + b.bodies_in v) vs)
+
+  pub level_spots : (w : Level) → Faultless (judged kn (phrase form.level (all_of (l.level_units s 0 w.units ++ l.refinements s (l.bodies_of_units w.units) w.refinements)))) → Spots 0 (b.all_headings 0 w.units ++ b.refinement_headings None w.refinements) (l.all_unit_bodies s 0 w.units ++ l.all_refined_units s (l.bodies_of_units w.units) w.refinements)
+  level_spots w f =
+      let g = bind_faultless kn (judged_all kn (all_of (l.level_units s 0 w.units ++ l.refinements s (l.bodies_of_units w.units) w.refinements))) (rule kn form.level) f in
+      let h = split (l.level_units s 0 w.units) (l.refinements s (l.bodies_of_units w.units) w.refinements) g in
+      let z : 0 + length (b.all_headings 0 w.units) ≡ length (b.all_headings 0 w.units) = omega arith in
+      spots_append 0 (l.bodies_of_units w.units) (b.all_headings 0 w.units) (b.refinement_headings None w.refinements) (l.all_unit_bodies s 0 w.units) (l.all_refined_units s (l.bodies_of_units w.units) w.refinements) (sym (all_count 0 w.units) ∙ sym z) (units_spots 0 w.units h.0) (refinement_spots s (l.bodies_of_units w.units) None w.refinements refl h.1)
+
+-- ---- a level
+
+same_length : {A B : Type 0} (xs : List A) (ys : List B) (i : ℕ) (x : A) → slice_get xs i ≡ Some x → length ys ≡ length xs → (y : B) × (slice_get ys i ≡ Some y)
+same_length [] ys i x e h = absurd cc
+same_length (a ∷ xs) [] i x e h = absurd (let z : 0 ≡ suc (length xs) = h in omega (arith, z))
+same_length (a ∷ xs) (c ∷ ys) zero x e h = (c, refl)
+same_length (a ∷ xs) (c ∷ ys) (suc i) x e h = same_length xs ys i x e (let z : suc (length ys) ≡ suc (length xs) = h in omega (arith, z))
+
+map_length : (ps : List Phrase) → length (map called_in ps) ≡ length ps
+map_length [] = refl
+map_length (p ∷ ps) = ap suc (map_length ps)
+
+called_at : (ps : List Phrase) (i : ℕ) (p : Phrase) → slice_get ps i ≡ Some p → slice_index_or (map called_in ps) i [] ≡ called_in p
+called_at [] i p e = absurd cc
+called_at (q ∷ ps) zero p e = let h : q ≡ p = cc in ap called_in h
+called_at (q ∷ ps) (suc i) p e = called_at ps i p e
+
+module _ (w : Level) where
+  abbrev hs : List Heading
+  hs = headings w
+
+  abbrev ps : List Phrase
+  ps = l.level_bodies w
+
+  abbrev kn : Known
+  kn = known_of hs ps
+
+  abbrev s : Scope
+  s = l.level_scope w
+
+  abbrev calls : List (List ℕ)
+  calls = kn.calls
+
+  abbrev Goes : ℕ → Type 0
+  Goes c = IsHeaded hs c × (delivery_at kn c ≡ Open)
+
+  leaf_goes : (z : Scope) (ns : List ℕ) → z.headings ≡ s.headings → (g : Leaf kn z ns) → Goes g.0
+  leaf_goes z ns e g = (subst (λ (gs : List Heading). IsHeaded gs g.0) e g.4, g.2)
+
+  counted : Spots kn s 0 hs ps → length calls ≡ length hs
+  counted sp = ap length (calls_are hs ps (length hs)) ∙ map_length ps ∙ spots_count kn s 0 hs ps sp
+
+  step : Spots kn s 0 hs ps → (c : ℕ) → Goes c → Call calls (length calls) Goes c
+  step sp c g =
+      let h = g.0 in
+      let t = spot_at kn s 0 hs ps c h.0 sp h.1 in
+      let z : 0 + c ≡ c = omega arith in
+      let spot = subst (λ (m : ℕ). Spot kn s m h.0 t.0) z t.2 in
+      let f = body_leaf kn spot.scope t.0 spot.in_scope spot.faultless (open_last hs ps c h.0 t.0 h.1 t.1 g.1) in
+      let back = ap (λ (o : Option ℕ). leads_back kn f.0 o) (sym (spot.stands h.2)) ∙ f.3 in
+      record {
+        to = f.0;
+        called = subst (In f.0) (sym (ap (λ (cs : List (List ℕ)). slice_index_or cs c []) (calls_are hs ps (length hs)) ∙ called_at ps c t.0 t.1)) f.1;
+        away = back;
+        goes = leaf_goes spot.scope (called_in t.0) spot.headings f;
+      }
+
+  small : Spots kn s 0 hs ps → (c : ℕ) → Goes c → (marks : List Bool) → length marks ≡ length calls → (m : Bool) × (slice_get marks c ≡ Some m)
+  small sp c g marks e = same_length hs marks c g.0.0 g.0.1 (e ∙ counted sp)
+
+  pub never_hangs : judged kn (l.level_phrase w) ≡ hangs → ⊥
+  never_hangs e =
+      let f : Faultless (judged kn (l.level_phrase w)) = subst (λ (q : Ruled Meant). Faultless q) (sym e) open_one in
+      let sp : Spots kn s 0 hs ps = level_spots kn s w f in
+      let h = level_lead kn s w e in
+      let g = leaf_of kn h.0 h.1 h.2 h.4 in
+      no_walk calls (length calls) Goes (step sp) (small sp) hs (sym (counted sp)) g.0 (leaf_goes h.0 (called_in h.1) h.3 g)

@@ -1,6 +1,0 @@
-use Rattle.std.proofs.Common.{◌≡◌, drop}
-use Rattle.elan_check.specs.Rules.{is_in}
-use Rattle.elan_check.proofs.rules.selection.is_in.Given as goal
-
-abbrev pub invariant-loop-label : goal.invariant-loop-label
-invariant-loop-label l = is_in (drop l.label-index l.labels) l.number ≡ is_in l.labels l.number

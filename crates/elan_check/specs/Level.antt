@@ -1,0 +1,183 @@
+-- The phrases of a text: of its units, PROCs, OPs and refinements.
+use Rattle.std.specs.Prelude.{ℕ, suc, ◌+◌, Bool, true, false, ◌&&◌, List, [], ◌∷◌, ◌++◌, map, length, Option, Some, None}
+use Rattle.elan_types.specs.declared.elan_type.ElanType.{ElanType}
+use Rattle.elan_types.specs.declared.core_phrase.Parameter.{Parameter}
+use Rattle.elan_types.specs.declared.core_phrase.Scope.{Scope as Owner}
+use Rattle.elan_types.specs.declared.core_phrase.Scope.TheVariants as owner
+use Rattle.elan_tree.specs.declared.written_type.Name.{Name}
+use Rattle.elan_tree.specs.declared.written_type.TypePhrase.{TypePhrase}
+use Rattle.elan_tree.specs.declared.written_type.Formal.{Formal}
+use Rattle.elan_tree.specs.declared.phrase.Unit.{Unit as Statement}
+use Rattle.elan_tree.specs.declared.tree.Body.{Body}
+use Rattle.elan_tree.specs.declared.tree.Refinement.{Refinement}
+use Rattle.elan_tree.specs.declared.tree.Level.{Level}
+use Rattle.elan_tree.specs.declared.tree.LevelUnit.{LevelUnit}
+use Rattle.elan_tree.specs.declared.tree.LevelUnit.TheVariants as level
+use Rattle.elan_tree.specs.declared.tree.Tree.{Tree}
+use Rattle.elan_tree.specs.declared.tree.Tree.TheVariants as tree
+use Rattle.elan_rules.specs.declared.scope.Entry.{Entry}
+use Rattle.elan_rules.specs.declared.heading.Sort.{Sort}
+use Rattle.elan_rules.specs.declared.heading.Sort.TheVariants.{Procedure, Operator}
+use Rattle.elan_rules.specs.declared.heading.Heading.{Heading}
+use Rattle.elan_rules.specs.Scope.{types_of, all_held}
+use Rattle.elan_rules.specs.declared.scope.Scope.{Scope}
+use Rattle.elan_rules.specs.declared.scope.Within.{Within}
+use Rattle.elan_check.specs.Bodies.{parameters, result, own_names, body_names, level_names, headings, bodies_in}
+use Rattle.elan_check.specs.Operators.{operator_text}
+use Rattle.elan_rules.specs.Phrase as form
+use Rattle.elan_rules.specs.Phrase.{Phrase, phrase, Parts, none, part, leaf, around, pair, all_of, all_empty, last_place}
+use Rattle.elan_check.specs.Shape.{unit, units}
+
+-- ---- scopes
+
+-- in the units of a level
+abbrev pub level_scope : Level → Scope
+level_scope l = record { headings = headings l; level = level_names l; routine = None; refinement = None }
+
+-- in the PROC or OP with this number
+abbrev pub routine_scope : Scope → ℕ → List Entry → Scope
+routine_scope s k names = record { headings = s.headings; level = s.level; routine = Some (record { number = k; names = names }); refinement = None }
+
+-- in the refinement with this number
+abbrev pub refinement_scope : Scope → ℕ → Scope
+refinement_scope s k = record { headings = s.headings; level = s.level; routine = s.routine; refinement = Some k }
+
+abbrev pub owner_of : Option Within → Owner
+owner_of None = owner.Level
+owner_of (Some w) = owner.Of w.number
+
+-- ---- refinements
+
+module _ (s : Scope) where
+  -- a name in its declaration
+  abbrev pub declares : Name → Phrase
+  declares n = leaf (form.declares n.at s n.text)
+
+  abbrev pub declare_all : List Name → List Phrase
+  declare_all [] = []
+  declare_all (n ∷ ns) = declares n ∷ declare_all ns
+
+  abbrev pub declare_parameters : List Formal → List Phrase
+  declare_parameters [] = []
+  declare_parameters (f ∷ fs) = declare_all f.names ++ declare_parameters fs
+
+  -- the units of the refinement with this number
+  abbrev pub refined_units : ℕ → Refinement → Phrase
+  refined_units k r = units true (map (unit (refinement_scope s k)) r.units)
+
+  abbrev pub refinement : ℕ → Refinement → Phrase
+  refinement k r = pair (form.refinement (owner_of s.routine)) (declares r.name) (refined_units k r)
+
+  abbrev pub refinements : ℕ → List Refinement → List Phrase
+  refinements k [] = []
+  refinements k (r ∷ rs) = refinement k r ∷ refinements (suc k) rs
+
+  abbrev pub all_refined_units : ℕ → List Refinement → List Phrase
+  all_refined_units k [] = []
+  all_refined_units k (r ∷ rs) = refined_units k r ∷ all_refined_units (suc k) rs
+
+-- ---- PROCs and OPs
+
+-- the types of what a body declares
+abbrev pub own_types : Body → List ElanType
+own_types b = types_of (all_held (own_names b))
+
+-- A PROC without parameters is a name of the level.
+abbrev pub procedure_name : Scope → Name → List Formal → List Phrase
+procedure_name s n [] = declares s n ∷ []
+procedure_name s n (f ∷ fs) = []
+
+abbrev pub is_missing : Option ElanType → List Phrase → Bool
+is_missing None us = false
+is_missing (Some t) us = all_empty us
+
+module _ (s : Scope) (k : ℕ) (at : ℕ) (x : List ℕ) (r : Option TypePhrase) (fs : List Formal) (b : Body) where
+  abbrev pub inner : Scope
+  inner = routine_scope s k (body_names fs b)
+
+  abbrev pub body_units : List Phrase
+  body_units = map (unit inner) b.units
+
+  abbrev pub own_units : Phrase
+  own_units = units true body_units
+
+  abbrev pub own_body : Phrase
+  own_body = around (form.body (last_place at body_units) (owner.Own (parameters fs) (own_types b)) (result r)) own_units
+
+  -- its heading, and its parameters
+  abbrev pub heading_phrases : Sort → List Phrase → List Phrase
+  heading_phrases sort names = names ++ (leaf (form.heading at s sort x (parameters fs) (is_missing (result r) body_units)) ∷ declare_parameters inner fs)
+
+  -- its body, and its refinements
+  abbrev pub body_phrases : List Phrase
+  body_phrases = own_body ∷ refinements inner (suc k) b.refinements
+
+  -- the PROC or OP with this number, whose name is declared by these phrases
+  abbrev pub routine : Sort → List Phrase → Phrase
+  routine sort names = phrase form.routine (all_of (heading_phrases sort names ++ body_phrases))
+
+  -- the units of its body, and of its refinements
+  abbrev pub routine_units : List Phrase
+  routine_units = own_units ∷ all_refined_units inner (suc k) b.refinements
+
+-- what stands in the scope of a PROC or OP: its parameters, its body, and its refinements
+abbrev pub inside : Scope → ℕ → ℕ → Option TypePhrase → List Formal → Body → List Phrase
+inside s k at r fs b =
+    declare_parameters s fs
+    ++ around (form.body (last_place at (map (unit s) b.units)) (owner.Own (parameters fs) (own_types b)) (result r)) (units true (map (unit s) b.units))
+    ∷ refinements s (suc k) b.refinements
+
+-- the units of its body, and of its refinements
+abbrev pub inside_units : Scope → ℕ → List Formal → Body → List Phrase
+inside_units s k fs b =
+    units true (map (unit (routine_scope s k (body_names fs b))) b.units) ∷ all_refined_units (routine_scope s k (body_names fs b)) (suc k) b.refinements
+
+-- ---- the level
+
+module _ (s : Scope) where
+  -- a unit whose first body has this number
+  abbrev pub level_unit : ℕ → LevelUnit → Phrase
+  level_unit k (level.Plain u) = around form.without_value (unit s u)
+  level_unit k (level.Proc at r n fs b) = routine s k n.at n.text r fs b Procedure (procedure_name s n fs)
+  level_unit k (level.Op at r n fs b) = routine s k n.at (operator_text n.operator) r fs b Operator []
+  level_unit k (level.NewType at n of) = leaf form.not_built
+
+  abbrev pub level_units : ℕ → List LevelUnit → List Phrase
+  level_units k [] = []
+  level_units k (u ∷ us) = level_unit k u ∷ level_units (k + bodies_in u) us
+
+  -- the units of bodies, in the order of their numbers
+  abbrev pub unit_bodies : ℕ → LevelUnit → List Phrase
+  unit_bodies k (level.Plain u) = []
+  unit_bodies k (level.Proc at r n fs b) = routine_units s k n.at n.text r fs b
+  unit_bodies k (level.Op at r n fs b) = routine_units s k n.at (operator_text n.operator) r fs b
+  unit_bodies k (level.NewType at n of) = []
+
+  abbrev pub all_unit_bodies : ℕ → List LevelUnit → List Phrase
+  all_unit_bodies k [] = []
+  all_unit_bodies k (u ∷ us) = unit_bodies k u ++ all_unit_bodies (k + bodies_in u) us
+
+abbrev pub bodies_of_units : List LevelUnit → ℕ
+bodies_of_units [] = 0
+bodies_of_units (u ∷ us) = bodies_in u + bodies_of_units us
+
+-- The units of a text deliver nothing. Its refinements are numbered behind its PROCs and OPs.
+abbrev pub level_parts : Level → List Phrase
+level_parts l = level_units (level_scope l) 0 l.units ++ refinements (level_scope l) (bodies_of_units l.units) l.refinements
+
+abbrev pub level_phrase : Level → Phrase
+level_phrase l = phrase form.level (all_of (level_parts l))
+
+abbrev pub level_bodies : Level → List Phrase
+level_bodies l = all_unit_bodies (level_scope l) 0 l.units ++ all_refined_units (level_scope l) (bodies_of_units l.units) l.refinements
+
+abbrev pub no_level : Level
+no_level = record { units = []; refinements = [] }
+
+-- the level of a program; packets are not built
+abbrev pub level_in : Tree → Level
+level_in (tree.Program l) = l
+level_in (tree.Packet at n exports l) = no_level
+
+abbrev pub text : Tree → Phrase
+text t = level_phrase (level_in t)

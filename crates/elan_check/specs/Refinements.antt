@@ -1,0 +1,103 @@
+-- What bodies deliver. A refinement delivers what its last unit delivers.
+use Rattle.std.specs.Prelude.{ℕ, zero, suc, List, [], ◌∷◌, ◌++◌, map, length, Option, Some, None, if◌then◌else◌}
+use Rattle.elan_types.specs.declared.elan_type.ElanType.{ElanType}
+use Rattle.elan_rules.specs.declared.delivery.Delivery.{Delivery}
+use Rattle.elan_rules.specs.declared.delivery.Delivery.TheVariants.{Open, Nothing, Of}
+use Rattle.elan_rules.specs.declared.heading.What.{What}
+use Rattle.elan_rules.specs.declared.heading.What.TheVariants.{Routine, Refinement}
+use Rattle.elan_rules.specs.declared.heading.Heading.{Heading}
+use Rattle.elan_rules.specs.declared.meant.Meant.{Meant}
+use Rattle.elan_rules.specs.declared.meant.Meant.TheVariants.{Value}
+use Rattle.elan_rules.specs.Known.{delivery_at}
+use Rattle.elan_rules.specs.Scope.{refinement_named}
+use Rattle.elan_check.specs.Uses.{number_list}
+use Rattle.elan_rules.specs.Phrase as form
+use Rattle.elan_rules.specs.Phrase.{Form, Phrase, phrase, Parts, none, part, is_empty}
+use Rattle.elan_rules.specs.Ruled.{Ruled, gives, breaks, hangs}
+use Rattle.elan_rules.specs.declared.known.Known.{Known}
+use Rattle.elan_rules.specs.Meaning.{judged, phrases}
+
+-- ---- calls
+
+-- the refinement that a phrase calls
+abbrev pub called_by : Phrase → List ℕ
+called_by (phrase (form.named at s x) ps) = number_list (refinement_named s x)
+called_by p = []
+
+abbrev pub called_by_all : List Phrase → List ℕ
+called_by_all [] = []
+called_by_all (p ∷ ps) = called_by p ++ called_by_all ps
+
+-- the refinements that the phrases in a body call
+abbrev pub called_in : Phrase → List ℕ
+called_in p = called_by_all (phrases p)
+
+-- ---- deliveries
+
+-- what a heading tells
+abbrev pub told : What → Delivery
+told (Routine sort ps None) = Nothing
+told (Routine sort ps (Some t)) = Of t
+told (Refinement home) = Open
+
+abbrev pub told_by : List Heading → List Delivery
+told_by [] = []
+told_by (h ∷ hs) = told h.what ∷ told_by hs
+
+abbrev pub last_unit_in : Option Phrase → Parts → Option Phrase
+last_unit_in o none = o
+last_unit_in o (part p ps) = last_unit_in (if is_empty p then o else Some p) ps
+
+-- the last unit that is not empty
+abbrev pub last_unit : Phrase → Option Phrase
+last_unit (phrase form ps) = last_unit_in None ps
+
+-- what a phrase delivers, as far as it has a meaning
+abbrev pub delivery_of : Meant → Delivery
+delivery_of (Value at t v x) = Of t
+delivery_of m = Nothing
+
+abbrev pub outcome : Ruled Meant → Delivery
+outcome (gives m) = delivery_of m
+outcome (breaks f) = Open
+outcome hangs = Open
+
+abbrev pub unit_delivery : Known → Option Phrase → Delivery
+unit_delivery k None = Nothing
+unit_delivery k (Some p) = outcome (judged k p)
+
+-- What is known stays. What is not is looked for in the last unit.
+abbrev pub next : Known → Delivery → Phrase → Delivery
+next k Open units = unit_delivery k (last_unit units)
+next k Nothing units = Nothing
+next k (Of t) units = Of t
+
+abbrev pub next_all : Known → List Delivery → List Phrase → List Delivery
+next_all k [] us = []
+next_all k (d ∷ ds) [] = d ∷ ds
+next_all k (d ∷ ds) (u ∷ us) = next k d u ∷ next_all k ds us
+
+-- what is known after so many steps of the headings and the units of bodies
+abbrev pub known_after : ℕ → List Heading → List Phrase → Known
+known_after zero hs us = record { deliveries = told_by hs; calls = map called_in us }
+known_after (suc n) hs us = record {
+  deliveries = next_all (known_after n hs us) (known_after n hs us).deliveries us;
+  calls = map called_in us;
+}
+
+-- Each step finds what a further refinement delivers, or all that can be found is known.
+abbrev pub known_of : List Heading → List Phrase → Known
+known_of hs us = known_after (length hs) hs us
+
+-- ---- one body after another
+
+-- what is found out of the body with this number, from what is known, behind what was found out of the bodies before it
+abbrev pub more_known : Known → Known → ℕ → Phrase → Known
+more_known k out n units = record { deliveries = out.deliveries ++ next k (delivery_at k n) units ∷ []; calls = out.calls ++ called_in units ∷ [] }
+
+abbrev pub all_known : Known → Known → ℕ → List Phrase → Known
+all_known k out n [] = out
+all_known k out n (u ∷ us) = all_known k (more_known k out n u) (suc n) us
+
+abbrev pub nothing_known : Known
+nothing_known = record { deliveries = []; calls = [] }

@@ -1,0 +1,278 @@
+//! What bodies deliver: a refinement delivers what its last unit delivers, which is found out in steps.
+
+ghost use Rattle.std.specs.Prelude.{◌≡◌, ◌++◌, map, option_map, None, true, IfOk, OnOk};
+ghost use Rattle.elan_rules.specs.declared.scope.Scope.{Scope};
+ghost use Rattle.elan_rules.specs.Known as knowledge;
+ghost use Rattle.elan_check.specs.Bodies as bodies;
+ghost use Rattle.elan_check.specs.Level as level_spec;
+ghost use Rattle.elan_check.specs.Refinements as spec;
+ghost use Rattle.elan_check.specs.Shape as shape;
+
+use crate::bodies::body_names;
+use crate::heading::{first_refinement, next_number, number_behind};
+use crate::judge::{is_empty, judge_unit};
+use crate::uses::in_units;
+use elan_rules::delivery::Delivery;
+use elan_rules::heading::{Heading, What};
+use elan_rules::known::Known;
+use elan_rules::meant::Meant;
+use elan_rules::scope::{Scope, Within};
+use elan_rules::trouble::Trouble;
+use elan_tree::{Body, Formal, Level, LevelUnit, Refinement, Unit};
+use eu_base::{List, NoMemory};
+use std::alloc::Global;
+
+fn told(what: &What) -> Delivery
+    ensures { result ≡ spec.told what.now }
+{
+    match what {
+        What::Routine(_, _, None) => Delivery::Nothing,
+        What::Routine(_, _, Some(of)) => Delivery::Of(*of),
+        What::Refinement(_) => Delivery::Open,
+    }
+}
+
+// What the headings tell.
+fn told_by(alloc: Global, headings: &[Heading]) -> Result<List<Delivery>, NoMemory>
+    ensures { IfOk result (λ deliveries. deliveries ≡ spec.told_by headings.now) }
+{
+    let mut deliveries = List::new(alloc);
+    for heading in headings {
+        deliveries.push(told(&heading.what))?;
+    }
+    Ok(deliveries)
+}
+
+// The last unit that is not empty.
+fn last_unit(units: &[Unit]) -> Option<&Unit>
+    ensures { (s : Scope) → option_map (λ u. shape.unit s u.now) result ≡ spec.last_unit (shape.units true (map (shape.unit s) units.now)) }
+{
+    let mut last = None;
+    for unit in units {
+        if !is_empty(unit) {
+            last = Some(unit);
+        }
+    }
+    last
+}
+
+fn delivery_of(meant: &Meant) -> Delivery
+    ensures { result ≡ spec.delivery_of meant.now }
+{
+    match meant {
+        Meant::Value { of, .. } => Delivery::Of(*of),
+        _ => Delivery::Nothing,
+    }
+}
+
+// What the last unit delivers, as far as it has a meaning.
+fn units_delivery(
+    alloc: Global,
+    known: &Known,
+    scope: &Scope,
+    units: &[Unit],
+) -> Result<Delivery, NoMemory>
+    ensures { IfOk result (λ d. d ≡ spec.unit_delivery known.now (spec.last_unit (shape.units true (map (shape.unit scope.now) units.now)))) }
+{
+    match last_unit(units) {
+        None => Ok(Delivery::Nothing),
+        Some(unit) => match judge_unit(alloc, known, scope, unit) {
+            Ok(meant) => Ok(delivery_of(&meant)),
+            Err(Trouble::NoMemory) => Err(NoMemory),
+            Err(Trouble::Breaks(_, _)) => Ok(Delivery::Open),
+            Err(Trouble::Hangs) => Ok(Delivery::Open),
+        },
+    }
+}
+
+// What is known stays. What is not is looked for in the last unit.
+fn next(
+    alloc: Global,
+    known: &Known,
+    scope: &Scope,
+    number: u16,
+    units: &[Unit],
+) -> Result<Delivery, NoMemory>
+    ensures { IfOk result (λ d. d ≡ spec.next known.now (knowledge.delivery_at known.now number) (shape.units true (map (shape.unit scope.now) units.now))) }
+{
+    match known.delivery_at(usize::from(number)) {
+        Delivery::Open => units_delivery(alloc, known, scope, units),
+        found => Ok(found),
+    }
+}
+
+// Adds what is found out of the body with this number, and the refinements that its units call.
+fn add_body(
+    alloc: Global,
+    known: &Known,
+    scope: &Scope,
+    out: &mut Known,
+    number: u16,
+    units: &[Unit],
+) -> Result<(), NoMemory>
+    ensures { OnOk result (out.new ≡ spec.more_known known.now out.old number (shape.units true (map (shape.unit scope.now) units.now))) }
+{
+    let delivery = next(alloc, known, scope, number, units)?;
+    let mut calls = List::new(alloc);
+    in_units(scope, &mut calls, units)?;
+    out.deliveries.push(delivery)?;
+    out.calls.push(calls)
+}
+
+fn add_refinements(
+    alloc: Global,
+    known: &Known,
+    scope: &mut Scope,
+    out: &mut Known,
+    first: u16,
+    refinements: &[Refinement],
+) -> Result<(), NoMemory>
+    requires { scope.old.refinement ≡ None }
+    ensures found { OnOk result (out.new ≡ spec.all_known known.now out.old first (level_spec.all_refined_units scope.old first refinements.now)) }
+    ensures kept { OnOk result (scope.new ≡ scope.old) }
+{
+    let mut number = first;
+    for refinement in refinements {
+        scope.refinement = Some(number);
+        add_body(alloc, known, scope, out, number, refinement.units.as_slice())?;
+        scope.refinement = None;
+        number = next_number(number)?;
+    }
+    Ok(())
+}
+
+// Adds what is found out of a PROC or OP, and of its refinements.
+fn add_routine(
+    alloc: Global,
+    known: &Known,
+    scope: &mut Scope,
+    out: &mut Known,
+    number: u16,
+    formals: &[Formal],
+    body: &Body,
+) -> Result<(), NoMemory>
+    requires level { scope.old.routine ≡ None }
+    requires unit { scope.old.refinement ≡ None }
+    ensures found { OnOk result (out.new ≡ spec.all_known known.now out.old number (level_spec.inside_units scope.old number formals.now body.now)) }
+    ensures kept { OnOk result (scope.new ≡ scope.old) }
+{
+    let first = next_number(number)?;
+    let names = body_names(alloc, formals, body)?;
+    scope.routine = Some(Within { number, names });
+    add_body(alloc, known, scope, out, number, body.units.as_slice())?;
+    add_refinements(alloc, known, scope, out, first, body.refinements.as_slice())?;
+    scope.routine = None;
+    Ok(())
+}
+
+fn add_unit(
+    alloc: Global,
+    known: &Known,
+    scope: &mut Scope,
+    out: &mut Known,
+    number: u16,
+    unit: &LevelUnit,
+) -> Result<(), NoMemory>
+    requires level { scope.old.routine ≡ None }
+    requires unit { scope.old.refinement ≡ None }
+    ensures found { OnOk result (out.new ≡ spec.all_known known.now out.old number (level_spec.unit_bodies scope.old number unit.now)) }
+    ensures kept { OnOk result (scope.new ≡ scope.old) }
+{
+    match unit {
+        LevelUnit::Plain(_) => Ok(()),
+        LevelUnit::NewType { .. } => Ok(()),
+        LevelUnit::Proc { formals, body, .. } => add_routine(
+            alloc,
+            known,
+            scope,
+            out,
+            number,
+            formals.as_slice(),
+            body,
+        ),
+        LevelUnit::Op { formals, body, .. } => add_routine(
+            alloc,
+            known,
+            scope,
+            out,
+            number,
+            formals.as_slice(),
+            body,
+        ),
+    }
+}
+
+fn add_units(
+    alloc: Global,
+    known: &Known,
+    scope: &mut Scope,
+    out: &mut Known,
+    units: &[LevelUnit],
+) -> Result<(), NoMemory>
+    requires level { scope.old.routine ≡ None }
+    requires unit { scope.old.refinement ≡ None }
+    ensures found { OnOk result (out.new ≡ spec.all_known known.now out.old 0 (level_spec.all_unit_bodies scope.old 0 units.now)) }
+    ensures kept { OnOk result (scope.new ≡ scope.old) }
+{
+    let mut number = 0;
+    for unit in units {
+        add_unit(alloc, known, scope, out, number, unit)?;
+        number = number_behind(number, unit)?;
+    }
+    Ok(())
+}
+
+// One step further.
+fn next_known(
+    alloc: Global,
+    known: &Known,
+    scope: &mut Scope,
+    level: &Level,
+) -> Result<Known, NoMemory>
+    requires { scope.old ≡ level_spec.level_scope level.now }
+    ensures found { IfOk result (λ next. next ≡ spec.all_known known.now spec.nothing_known 0 (level_spec.level_bodies level.now)) }
+    ensures kept { IfOk result (λ next. scope.new ≡ scope.old) }
+{
+    let mut next = Known {
+        deliveries: List::new(alloc),
+        calls: List::new(alloc),
+    };
+    let units = level.units.as_slice();
+    add_units(alloc, known, scope, &mut next, units)?;
+    let first = first_refinement(units)?;
+    let refinements = level.refinements.as_slice();
+    add_refinements(alloc, known, scope, &mut next, first, refinements)?;
+    Ok(next)
+}
+
+// What the headings tell, and which refinements the units of bodies call.
+fn first_known(alloc: Global, scope: &mut Scope, level: &Level) -> Result<Known, NoMemory>
+    requires { scope.old ≡ level_spec.level_scope level.now }
+    ensures found { IfOk result (λ known. known ≡ spec.known_after 0 (bodies.headings level.now) (level_spec.level_bodies level.now)) }
+    ensures kept { IfOk result (λ known. scope.new ≡ scope.old) }
+{
+    let told = Known {
+        deliveries: told_by(alloc, scope.headings.as_slice())?,
+        calls: List::new(alloc),
+    };
+    let Known { calls, .. } = next_known(alloc, &told, scope, level)?;
+    let Known { deliveries, .. } = told;
+    Ok(Known { deliveries, calls })
+}
+
+/// What is known of the bodies of a level, step by step until no step finds more.
+pub fn known_of(alloc: Global, scope: &mut Scope, level: &Level) -> Result<Known, NoMemory>
+    requires { scope.old ≡ level_spec.level_scope level.now }
+    ensures found { IfOk result (λ known. known ≡ spec.known_of (bodies.headings level.now) (level_spec.level_bodies level.now)) }
+    ensures kept { IfOk result (λ known. scope.new ≡ scope.old) }
+{
+    let mut known = first_known(alloc, scope, level)?;
+    for _ in 0..scope.headings.len() {
+        let next = next_known(alloc, &known, scope, level)?;
+        if next.deliveries.as_slice() == known.deliveries.as_slice() {
+            break;
+        }
+        known = next;
+    }
+    Ok(known)
+}

@@ -1,0 +1,268 @@
+//! The meaning of PROCs, OPs and refinements.
+
+ghost use Rattle.std.specs.Prelude.{◌≡◌, ◌++◌, List, map, None, true, IfOk};
+ghost use Rattle.elan_types.specs.declared.core_phrase.Scope.TheVariants as owner;
+ghost use Rattle.elan_rules.specs.declared.known.Known.{Known};
+ghost use Rattle.elan_rules.specs.declared.scope.Scope.{Scope};
+ghost use Rattle.elan_rules.specs.Phrase as form;
+ghost use Rattle.elan_rules.specs.Phrase.{Phrase, around, all_of};
+ghost use Rattle.elan_rules.specs.Meaning.{judged, judged_all};
+ghost use Rattle.elan_rules.specs.Answer.{Is};
+ghost use Rattle.elan_check.specs.Bodies as bodies;
+ghost use Rattle.elan_check.specs.Level as spec;
+ghost use Rattle.elan_check.specs.Shape as shape;
+
+use crate::bodies::{body_names, held_types, own_names, parameters};
+use crate::heading::{next_number, result_type};
+use crate::judge::{all_empty, is_empty, judge_units};
+use elan_rules::heading::Sort;
+use elan_rules::known::Known;
+use elan_rules::meant::Meant;
+use elan_rules::row::{Judged, Row, and, pair};
+use elan_rules::rules::body::{bodies_of, body};
+use elan_rules::rules::name::{declared, headed};
+use elan_rules::rules::whole::refinement_parts;
+use elan_rules::scope::{Scope, Within};
+use elan_tree::{Body, Expr, Formal, Name, Refinement, TypePhrase, Unit};
+use elan_types::Scope as Owner;
+use eu_base::NoMemory;
+use std::alloc::Global;
+
+/// A PROC or OP as it is written, with its number among the bodies of the level.
+#[derive(Clone, Copy)]
+pub struct Routine<'a> {
+    pub sort: Sort,
+    pub number: u16,
+    /// The place of its name.
+    pub at: u32,
+    pub name: &'a [u8],
+    pub result: &'a Option<TypePhrase>,
+    pub formals: &'a [Formal],
+    pub body: &'a Body,
+}
+
+// ---- refinements
+
+fn owner_of(scope: &Scope) -> Owner
+    ensures { result ≡ spec.owner_of scope.now.routine }
+{
+    match &scope.routine {
+        None => Owner::Level,
+        Some(within) => Owner::Of(within.number),
+    }
+}
+
+fn judge_refinement(
+    alloc: Global,
+    known: &Known,
+    scope: &mut Scope,
+    number: u16,
+    refinement: &Refinement,
+) -> Judged
+    requires { scope.old.refinement ≡ None }
+    ensures meaning { Is result (judged known.now (spec.refinement scope.old number refinement.now)) }
+    ensures kept { scope.new ≡ scope.old }
+{
+    let name = declared(
+        alloc,
+        refinement.name.at,
+        scope,
+        refinement.name.text.as_slice(),
+    );
+    scope.refinement = Some(number);
+    let units = judge_units(alloc, known, scope, true, refinement.units.as_slice());
+    scope.refinement = None;
+    let parts = pair(alloc, name, units)?;
+    refinement_parts(alloc, owner_of(scope), parts)
+}
+
+/// What phrases mean, and behind them refinements, the first of which has this number.
+pub fn judge_refinements(
+    alloc: Global,
+    known: &Known,
+    scope: &mut Scope,
+    before: Row,
+    first: u16,
+    refinements: &[Refinement],
+) -> Row
+    requires { scope.old.refinement ≡ None }
+    ensures meaning { (ps : List Phrase) → Is before (judged_all known.now (all_of ps)) → Is result (judged_all known.now (all_of (ps ++ spec.refinements scope.old first refinements.now))) }
+    ensures kept { scope.new ≡ scope.old }
+{
+    let mut row = before;
+    let mut number = first;
+    for refinement in refinements {
+        let next = judge_refinement(alloc, known, scope, number, refinement);
+        row = and(row, next);
+        number = next_number(number)?;
+    }
+    row
+}
+
+// ---- PROCs and OPs
+
+fn declare_all(alloc: Global, scope: &Scope, before: Row, names: &[Name]) -> Row
+    ensures { (k : Known) → (ps : List Phrase) → Is before (judged_all k (all_of ps)) → Is result (judged_all k (all_of (ps ++ spec.declare_all scope.now names.now))) }
+{
+    let mut row = before;
+    for name in names {
+        row = and(row, declared(alloc, name.at, scope, name.text.as_slice()));
+    }
+    row
+}
+
+fn declare_parameters(alloc: Global, scope: &Scope, before: Row, formals: &[Formal]) -> Row
+    ensures { (k : Known) → (ps : List Phrase) → Is before (judged_all k (all_of ps)) → Is result (judged_all k (all_of (ps ++ spec.declare_parameters scope.now formals.now))) }
+{
+    let mut row = before;
+    for formal in formals {
+        row = declare_all(alloc, scope, row, formal.names.as_slice());
+    }
+    row
+}
+
+fn expr_place(expr: &Expr) -> u32
+    ensures { (s : Scope) → result ≡ form.place (shape.expr s expr.now) }
+{
+    match expr {
+        Expr::Number(at, _) => *at,
+        Expr::Truth(at, _) => *at,
+        Expr::Named(name) => name.at,
+        Expr::Call(name, _) => name.at,
+        Expr::Bracket(at, _) => *at,
+        Expr::If { at, .. } => *at,
+        Expr::Select { at, .. } => *at,
+        Expr::Monadic { at, .. } => *at,
+        Expr::Dyadic { at, .. } => *at,
+        Expr::Cand { at, .. } => *at,
+        Expr::Cor { at, .. } => *at,
+        Expr::Text(_, _) => 0,
+        Expr::Procedure(_, _) => 0,
+        Expr::Concr(_, _) => 0,
+        Expr::Index { .. } => 0,
+        Expr::Field { .. } => 0,
+    }
+}
+
+fn unit_place(unit: &Unit) -> u32
+    ensures { (s : Scope) → result ≡ form.place (shape.unit s unit.now) }
+{
+    match unit {
+        Unit::Variables(at, _, _) => *at,
+        Unit::Constants(at, _, _) => *at,
+        Unit::Value(expr) => expr_place(expr),
+        Unit::Becomes { at, .. } => *at,
+        Unit::Loop { at, .. } => *at,
+        Unit::Leave { at, .. } => *at,
+        Unit::Empty => 0,
+        Unit::Let(_, _) => 0,
+        Unit::Bound(_, _, _) => 0,
+    }
+}
+
+// The place of the last unit that is not empty, or this one.
+fn last_place(at: u32, units: &[Unit]) -> u32
+    ensures { (s : Scope) → result ≡ form.last_place at (map (shape.unit s) units.now) }
+{
+    let mut last = at;
+    for unit in units {
+        if !is_empty(unit) {
+            last = unit_place(unit);
+        }
+    }
+    last
+}
+
+// The scope of its variables: its parameters, and what its body declares.
+fn frame(alloc: Global, of: Routine<'_>) -> Result<Owner, NoMemory>
+    ensures { IfOk result (λ frame. frame ≡ owner.Own (bodies.parameters of.formals.now) (spec.own_types of.body.now)) }
+{
+    let parameters = parameters(alloc, of.formals)?;
+    let names = own_names(alloc, of.body)?;
+    let variables = held_types(alloc, names.as_slice())?;
+    Ok(Owner::Own {
+        parameters,
+        variables,
+    })
+}
+
+// Its body, in its own scope.
+fn judge_body(alloc: Global, known: &Known, scope: &Scope, of: Routine<'_>) -> Judged
+    ensures { Is result (judged known.now (around (form.body (form.last_place of.at (map (shape.unit scope.now) of.body.now.units)) (owner.Own (bodies.parameters of.formals.now) (spec.own_types of.body.now)) (bodies.result of.result.now)) (shape.units true (map (shape.unit scope.now) of.body.now.units)))) }
+{
+    let units = of.body.units.as_slice();
+    let meant = judge_units(alloc, known, scope, true, units)?;
+    let owner = frame(alloc, of)?;
+    body(alloc, last_place(of.at, units), owner, result_type(of.result), meant)
+}
+
+fn is_missing(of: &Option<TypePhrase>, units: &[Unit]) -> bool
+    ensures { (s : Scope) → result ≡ spec.is_missing (bodies.result of.now) (map (shape.unit s) units.now) }
+{
+    match result_type(of) {
+        None => false,
+        Some(_) => all_empty(units),
+    }
+}
+
+// Its heading, in the scope of the level.
+fn judge_heading(alloc: Global, scope: &Scope, of: Routine<'_>) -> Judged
+    ensures { (k : Known) → (s : Scope) → Is result (judged k (form.leaf (form.heading of.at scope.now of.sort of.name.now (bodies.parameters of.formals.now) (spec.is_missing (bodies.result of.result.now) (map (shape.unit s) of.body.now.units))))) }
+{
+    let parameters = parameters(alloc, of.formals)?;
+    let missing = is_missing(of.result, of.body.units.as_slice());
+    headed(
+        alloc,
+        of.at,
+        scope,
+        of.sort,
+        of.name,
+        parameters.as_slice(),
+        missing,
+    )
+}
+
+// What phrases mean, and behind them its parameters, its body and its refinements, in its own scope.
+fn judge_inside(
+    alloc: Global,
+    known: &Known,
+    scope: &mut Scope,
+    of: Routine<'_>,
+    before: Row,
+) -> Row
+    requires { scope.old.refinement ≡ None }
+    ensures meaning { (ps : List Phrase) → Is before (judged_all known.now (all_of ps)) → Is result (judged_all known.now (all_of (ps ++ spec.inside scope.old of.number of.at of.result.now of.formals.now of.body.now))) }
+    ensures kept { scope.new ≡ scope.old }
+{
+    let first = next_number(of.number)?;
+    let row = declare_parameters(alloc, scope, before, of.formals);
+    let row = and(row, judge_body(alloc, known, scope, of));
+    let refinements = of.body.refinements.as_slice();
+    judge_refinements(alloc, known, scope, row, first, refinements)
+}
+
+/// A PROC or OP, whose name is declared by the phrases before it.
+pub fn judge_routine(
+    alloc: Global,
+    known: &Known,
+    scope: &mut Scope,
+    of: Routine<'_>,
+    names: Row,
+) -> Judged
+    requires level { scope.old.routine ≡ None }
+    requires unit { scope.old.refinement ≡ None }
+    ensures meaning { (ps : List Phrase) → Is names (judged_all known.now (all_of ps)) → Is result (judged known.now (spec.routine scope.old of.number of.at of.name.now of.result.now of.formals.now of.body.now of.sort ps)) }
+    ensures kept { scope.new ≡ scope.old }
+{
+    let own = body_names(alloc, of.formals, of.body)?;
+    let row = and(names, judge_heading(alloc, scope, of));
+    scope.routine = Some(Within {
+        number: of.number,
+        names: own,
+    });
+    let row = judge_inside(alloc, known, scope, of, row);
+    scope.routine = None;
+    let parts = row?;
+    let bodies = bodies_of(alloc, parts)?;
+    Ok(Meant::Bodies(bodies))
+}

@@ -1,0 +1,295 @@
+-- Only an identifier hangs on a phrase elsewhere: one that denotes a refinement of which nothing is known.
+use Rattle.std.specs.Prelude.{nat_eq}
+use Rattle.eu_base.specs.Operations.{in_range}
+use Rattle.std.proofs.Common.{◌≡◌, ℕ, Bool, true, false, if◌then◌else◌, List, [], ◌∷◌, Option, Some, None, length, refl}
+use Rattle.elan_types.specs.declared.elan_type.ElanType.{ElanType}
+use Rattle.elan_types.specs.declared.elan_type.ElanType.TheVariants.{Int}
+use Rattle.elan_types.specs.declared.why.Why.TheVariants.{WrongPlace}
+use Rattle.elan_types.specs.declared.core_phrase.PlacePhrase.{PlacePhrase}
+use Rattle.elan_types.specs.declared.core_phrase.ValuePhrase.{ValuePhrase}
+use Rattle.elan_types.specs.declared.core_phrase.Action.{Action}
+use Rattle.elan_types.specs.declared.core_phrase.Access.{Access}
+use Rattle.elan_types.specs.declared.core_phrase.Access.TheVariants.{Const, Var}
+use Rattle.elan_types.specs.declared.core_phrase.Parameter.{Parameter}
+use Rattle.elan_types.specs.declared.core_phrase.Exit.{Exit}
+use Rattle.elan_types.specs.declared.core_phrase.Content.{Content}
+use Rattle.elan_types.specs.declared.core_phrase.Scope.{Scope as Owner}
+use Rattle.eu_base.specs.declared.operation.Change.{Change}
+use Rattle.elan_rules.specs.declared.delivery.Delivery.{Delivery}
+use Rattle.elan_rules.specs.declared.delivery.Delivery.TheVariants.{Open, Nothing, Of}
+use Rattle.elan_rules.specs.declared.scope.Denotes.{Denotes}
+use Rattle.elan_rules.specs.declared.scope.Denotes.TheVariants as denotes
+use Rattle.elan_rules.specs.declared.heading.Sort.{Sort}
+use Rattle.elan_rules.specs.declared.heading.Sort.TheVariants.{Procedure}
+use Rattle.elan_rules.specs.declared.heading.What.{What}
+use Rattle.elan_rules.specs.declared.heading.What.TheVariants.{Routine, Refinement}
+use Rattle.elan_rules.specs.declared.heading.Heading.{Heading}
+use Rattle.elan_rules.specs.declared.meant.Does.{Does}
+use Rattle.elan_rules.specs.declared.meant.Does.TheVariants.{Delivers, Changes, Puts, EndsLine}
+use Rattle.elan_rules.specs.declared.meant.Part.{Part}
+use Rattle.elan_rules.specs.declared.meant.Part.TheVariants as part
+use Rattle.elan_rules.specs.declared.meant.Counted.{Counted}
+use Rattle.elan_rules.specs.declared.meant.Labelled.{Labelled}
+use Rattle.elan_rules.specs.declared.meant.Meant.{Meant}
+use Rattle.elan_rules.specs.declared.meant.Meant.TheVariants.{Absent, Value, Done, Left, Labels, Branches, Arms, Counter, Bodies, Level}
+use Rattle.elan_rules.specs.Scope.{find, find_own, left, first_heading, types_of, is_alike, refinement_named}
+use Rattle.elan_rules.specs.declared.scope.Scope.{Scope}
+use Rattle.elan_rules.specs.declared.scope.Home.{Home}
+use Rattle.elan_rules.specs.declared.scope.Found.{Found}
+use Rattle.elan_rules.specs.Predefined.{predefined, chosen, exists, delivers}
+use Rattle.elan_rules.specs.Phrase as form
+use Rattle.elan_rules.specs.Phrase.{Form}
+use Rattle.elan_rules.specs.Ruled.{Ruled, gives, breaks, hangs, ◌>>=◌, before}
+use Rattle.elan_rules.specs.Known.{delivery_at, leads_back}
+use Rattle.elan_rules.specs.declared.known.Known.{Known}
+use Rattle.elan_rules.specs.Parts as p
+use Rattle.elan_rules.specs.Calls as c
+use Rattle.elan_rules.specs.Units as u
+use Rattle.elan_rules.specs.Choices as h
+use Rattle.elan_rules.specs.Loops as l
+use Rattle.elan_rules.specs.Rules as r
+use Rattle.elan_rules.specs.Rules.{rule}
+
+abbrev pub firm : {A : Type 0} → Ruled A → Bool
+firm (gives x) = true
+firm (breaks f) = true
+firm hangs = false
+
+abbrev pub IsFirm : {A : Type 0} → Ruled A → Type 0
+IsFirm q = firm q ≡ true
+
+on_if : {A : Type 0} (b : Bool) (x y : Ruled A) → IsFirm x → IsFirm y → IsFirm (if b then x else y)
+on_if true x y h k = h
+on_if false x y h k = k
+
+on_bind : {A B : Type 0} (q : Ruled A) (f : A → Ruled B) → IsFirm q → ((x : A) → IsFirm (f x)) → IsFirm (q >>= f)
+on_bind (gives x) f h k = k x
+on_bind (breaks d) f h k = refl
+on_bind hangs f h k = absurd cc
+
+on_before : {A : Type 0} (q : Ruled A) (qs : Ruled (List A)) → IsFirm q → IsFirm qs → IsFirm (before q qs)
+on_before (gives x) qs h k = on_bind qs (λ xs. gives (x ∷ xs)) k (λ xs. refl)
+on_before (breaks d) qs h k = refl
+on_before hangs qs h k = absurd cc
+
+one : (o : Option Meant) (f : Meant → Ruled Meant) → ((m : Meant) → IsFirm (f m)) → IsFirm (p.on_one o f)
+one None f h = refl
+one (Some m) f h = h m
+
+two : (o : Option (Meant × Meant)) (f : Meant → Meant → Ruled Meant) → ((m n : Meant) → IsFirm (f m n)) → IsFirm (p.on_two o f)
+two None f h = refl
+two (Some p) f h = h p.0 p.1
+
+three : (o : Option (Meant × Meant × Meant)) (f : Meant → Meant → Meant → Ruled Meant) → ((m n k : Meant) → IsFirm (f m n k)) → IsFirm (p.on_three o f)
+three None f h = refl
+three (Some p) f h = h p.0 p.1 p.2
+
+four : (o : Option (Meant × Meant × Meant × Meant)) (f : Meant → Meant → Meant → Meant → Ruled Meant) → ((m n k l : Meant) → IsFirm (f m n k l)) → IsFirm (p.on_four o f)
+four None f h = refl
+four (Some p) f h = h p.0 p.1 p.2 p.3
+
+changed_at : (ch : Change) (at : ℕ) (x : Option PlacePhrase) (v : ValuePhrase) → IsFirm (c.changed_at ch at x v)
+changed_at ch at None v = refl
+changed_at ch at (Some x) v = refl
+
+done : (at : ℕ) (d : Does) (ms : List Meant) → IsFirm (c.done at d ms)
+done at (Delivers op t) ms = refl
+done at (Changes ch) ms = two (p.two_of ms) (c.changed ch) (λ m n. changed_at ch (p.place_of m) (p.variable_of m) (p.value_of n))
+done at Puts ms = one (p.one_of ms) c.put (λ m. refl)
+done at EndsLine ms = refl
+
+predefined_as : (at : ℕ) (known : Bool) (ms : List Meant) (o : Option Does) → IsFirm (c.predefined_as at known ms o)
+predefined_as at known ms (Some d) = done at d ms
+predefined_as at known ms None = on_if known _ _ refl refl
+
+given_place : (t : ElanType) (at : ℕ) (x : Option PlacePhrase) → IsFirm (c.given_place t at x)
+given_place t at None = refl
+given_place t at (Some x) = refl
+
+given_as : (a : Access) (t : ElanType) (m : Meant) → IsFirm (c.given_as a t m)
+given_as Const t m = refl
+given_as Var t m = given_place t (p.place_of m) (p.variable_of m)
+
+given : (ps : List Parameter) (ms : List Meant) → IsFirm (c.given ps ms)
+given [] ms = refl
+given (q ∷ ps) [] = refl
+given (q ∷ ps) (m ∷ ms) = on_before (c.given_as q.access q.of m) (c.given ps ms) (given_as q.access q.of m) (given ps ms)
+
+called : (at n : ℕ) (w : What) (ms : List Meant) → IsFirm (c.called at n w ms)
+called at n (Routine sort ps o) ms = on_bind (c.given ps ms) _ (given ps ms) (λ as'. refl)
+called at n (Refinement home) ms = refl
+
+applied_as : (at : ℕ) (s : Scope) (sort : Sort) (x : List ℕ) (ms : List Meant) (o : Option (ℕ × Heading)) → IsFirm (c.applied_as at s sort x ms o)
+applied_as at s sort x ms (Some b) = called at b.0 b.1.what ms
+applied_as at s sort x ms None = predefined_as at (c.is_known s.headings sort x (length ms)) ms (chosen predefined x ms)
+
+applied : (at : ℕ) (s : Scope) (sort : Sort) (x : List ℕ) (ms : List Meant) → IsFirm (c.applied at s sort x ms)
+applied at s sort x ms = applied_as at s sort x ms (first_heading (c.takes sort x ms) s.headings)
+
+declared : (at : ℕ) (o : Option Found) → IsFirm (c.declared at o)
+declared at None = refl
+declared at (Some f) = on_if (nat_eq f.at at) _ _ refl refl
+
+headed : (at : ℕ) (missing : Bool) (o : Option (ℕ × Heading)) → IsFirm (c.headed at missing o)
+headed at missing None = refl
+headed at missing (Some b) = on_if (nat_eq b.1.at at) _ _ (on_if missing _ _ refl refl) refl
+
+leave_as : (at : ℕ) (e : Exit) (d : Delivery) (m : Meant) → IsFirm (c.leave_as at e d m)
+leave_as at e d m = on_if (c.agrees d m) _ _ refl refl
+
+leaving : (kn : Known) (at : ℕ) (o : Option (Exit × ℕ)) (m : Meant) → IsFirm (c.leaving kn at o m)
+leaving kn at None m = refl
+leaving kn at (Some e) m = leave_as at e.0 (delivery_at kn e.1) m
+
+body_as : (at : ℕ) (o : Owner) (q : Option Content) → IsFirm (u.body_as at o q)
+body_as at o None = refl
+body_as at o (Some d) = refl
+
+bracketed : (at : ℕ) (m : Meant) → IsFirm (r.bracketed at m)
+bracketed at Absent = refl
+bracketed at (Value p t v x) = refl
+bracketed at (Done as') = refl
+bracketed at (Left as') = refl
+bracketed at (Labels ns) = refl
+bracketed at (Branches gs) = refl
+bracketed at (Arms ls) = refl
+bracketed at (Counter k) = refl
+bracketed at (Bodies bs) = refl
+bracketed at (Level us bs) = refl
+
+agreed_as : (at : ℕ) (o : Option ElanType) (m : Meant) → IsFirm (u.agreed_as at o m)
+agreed_as at None m = refl
+agreed_as at (Some t) m = on_if (delivers t m) _ _ refl refl
+
+assigned_to : (x : Option PlacePhrase) (p : ℕ) (t : ElanType) (v : ValuePhrase) → IsFirm (u.assigned_to x p t v)
+assigned_to None p t v = refl
+assigned_to (Some x) p t v = refl
+
+initial_to : (x : Option PlacePhrase) (t : ElanType) (v : ValuePhrase) → IsFirm (u.initial_to x t v)
+initial_to None t v = refl
+initial_to (Some x) t v = refl
+
+alone : (m : Meant) → IsFirm (u.alone m)
+alone Absent = refl
+alone (Value p t v x) = refl
+alone (Done as') = refl
+alone (Left as') = refl
+alone (Labels ns) = refl
+alone (Branches gs) = refl
+alone (Arms ls) = refl
+alone (Counter k) = refl
+alone (Bodies bs) = refl
+alone (Level us bs) = refl
+
+without_value : (m : Meant) → IsFirm (u.without_value m)
+without_value Absent = refl
+without_value (Value p t v x) = refl
+without_value (Done as') = refl
+without_value (Left as') = refl
+without_value (Labels ns) = refl
+without_value (Branches gs) = refl
+without_value (Arms ls) = refl
+without_value (Counter k) = refl
+without_value (Bodies bs) = refl
+without_value (Level us bs) = refl
+
+delivered : (at : ℕ) (o : Option Part) → IsFirm (h.delivered at o)
+delivered at None = refl
+delivered at (Some (part.Done as')) = refl
+delivered at (Some (part.Value t v)) = refl
+delivered at (Some (part.Left as')) = refl
+
+label_named : (at : ℕ) (x : List ℕ) (o : Option Found) → IsFirm (h.label_named at x o)
+label_named at x (Some f) = refl
+label_named at x None = on_if (exists predefined x 0) _ _ refl refl
+
+selected_as : (at : ℕ) (v : ValuePhrase) (ls : List Labelled) (a : Part) (o : Option Delivery) → IsFirm (h.selected_as at v ls a o)
+selected_as at v ls a None = refl
+selected_as at v ls a (Some Open) = refl
+selected_as at v ls a (Some Nothing) = refl
+selected_as at v ls a (Some (Of t)) = refl
+
+counting : (k : Counted) (x : Option PlacePhrase) (c : Option ValuePhrase) (us : List Action) (u : Option ValuePhrase) → IsFirm (l.counting k x c us u)
+counting k None c us u = refl
+counting k (Some x) c us u = refl
+
+looped : (at : ℕ) (k : Option Counted) (c : Option ValuePhrase) (us : List Action) (u : Option ValuePhrase) → IsFirm (l.looped at k c us u)
+looped at None c us u = refl
+looped at (Some k) c us u = on_bind (l.in_numbers at k) _ (on_if k.are_numbers _ _ refl refl) (λ n. counting n n.place c us u)
+
+-- the rules but that of identifiers
+abbrev pub Firm : Form → Type 0
+Firm (form.named at s x) = ⊥
+Firm _ = Unit {0}
+
+pub rules : (kn : Known) (f : Form) (ms : List Meant) → Firm f → IsFirm (rule kn f ms)
+rules kn form.absent ms i = refl
+rules kn form.not_built ms i = refl
+rules kn (form.number at n) ms i = on_if (in_range n) _ _ refl refl
+rules kn (form.truth at b) ms i = refl
+rules kn (form.named at s x) ms i = absurd i
+rules kn (form.applied at s sort x) ms i = applied at s sort x ms
+rules kn (form.bracket at) ms i = one (p.one_of ms) (r.bracketed at) (bracketed at)
+rules kn (form.cand at) ms i = two (p.two_of ms) (r.cand at) (λ m n. on_if (r.are_truths m n) _ _ refl refl)
+rules kn (form.cor at) ms i = two (p.two_of ms) (r.cor at) (λ m n. on_if (r.are_truths m n) _ _ refl refl)
+rules kn form.branch ms i = two (p.two_of ms) _ (λ m n. refl)
+rules kn form.branches ms i = refl
+rules kn (form.choice at) ms i = two (p.two_of ms) (h.choice at) (λ m n. delivered at (h.chain (h.branches_in m) (Some (h.part_of n))))
+rules kn (form.label at earlier n) ms i = on_if (h.is_in earlier n) _ _ refl refl
+rules kn (form.label_name at s x) ms i = label_named at x (find s x)
+rules kn form.labels ms i = refl
+rules kn form.arm ms i = two (p.two_of ms) h.labelled (λ m n. refl)
+rules kn form.arms ms i = refl
+rules kn (form.selection at) ms i = three (p.three_of ms) (h.selected at) (λ m n k. on_if (delivers Int m) _ _ (selected_as at (p.value_of m) (h.arms_in n) (h.part_of k) (h.agreed (Some (h.delivery_in (h.part_of k))) (h.arms_in n))) refl)
+rules kn (form.declares at s x) ms i = declared at (find_own s x)
+rules kn form.item ms i = refl
+rules kn (form.initial at) ms i = two (p.two_of ms) (u.initial at) (λ m n. on_bind (u.agreed at m n) _ (agreed_as at (p.type_in m) n) (λ t. initial_to (p.variable_of m) t (p.value_of n)))
+rules kn (form.declaration at) ms i = refl
+rules kn form.statement ms i = one (p.one_of ms) u.alone alone
+rules kn (form.assignment at) ms i = two (p.two_of ms) (u.assigned at) (λ m n. on_bind (u.agreed at m n) _ (agreed_as at (p.type_in m) n) (λ t. assigned_to (p.variable_of m) (p.place_of m) t (p.value_of n)))
+rules kn (form.counter w) ms i = three (p.three_of ms) _ (λ m n k. refl)
+rules kn (form.loop at) ms i = four (p.four_of ms) (l.loop at) (λ m n k j. on_if (l.conditions n j) _ _ (looped at (l.counter_in m) (p.written n) (p.actions k) (p.written j)) refl)
+rules kn form.empty ms i = refl
+rules kn form.without_value ms i = one (p.one_of ms) u.without_value without_value
+rules kn form.units ms i = refl
+rules kn (form.leave at s x) ms i = one (p.one_of ms) (c.leaving kn at (left s x)) (leaving kn at (left s x))
+rules kn (form.heading at s sort x ps missing) ms i = headed at missing (first_heading (is_alike sort x (types_of ps)) s.headings)
+rules kn (form.body at o q) ms i = one (p.one_of ms) (u.body at o q) (λ m. body_as at o (u.content_as q m))
+rules kn form.routine ms i = refl
+rules kn (form.refinement o) ms i = two (p.two_of ms) _ (λ m n. refl)
+rules kn form.level ms i = refl
+
+-- ---- identifiers
+
+abbrev pub IsOpen : Known → Scope → List ℕ → Type 0
+IsOpen kn s x = (n : ℕ) × (refinement_named s x ≡ Some n) × (delivery_at kn n ≡ Open) × (leads_back kn n s.refinement ≡ false)
+
+pub not_hung : {A : Type 0} (q : Ruled A) → q ≡ hangs → IsFirm q → ⊥
+not_hung (gives x) e f = cc
+not_hung (breaks d) e f = cc
+not_hung hangs e f = cc
+
+module _ (kn : Known) (at : ℕ) (s : Scope) (x : List ℕ) where
+  referred_open : (n : ℕ) (d : Delivery) → c.referred at n d ≡ hangs → d ≡ Open
+  referred_open n Open e = refl
+  referred_open n Nothing e = absurd cc
+  referred_open n (Of t) e = absurd cc
+
+  refined_open : (o : Option ℕ) → refinement_named s x ≡ o → c.refined kn at s o ≡ hangs → IsOpen kn s x
+  refined_open None i e = absurd cc
+  refined_open (Some n) i e = by_test (leads_back kn n s.refinement) refl e
+    where
+      by_test : (b : Bool) → leads_back kn n s.refinement ≡ b → (if b then breaks (at, WrongPlace) else c.referred at n (delivery_at kn n)) ≡ hangs → IsOpen kn s x
+      by_test true j g = absurd cc
+      by_test false j g = (n, i, referred_open n (delivery_at kn n) g, j)
+
+  denoted_open : (home : Home) (n : ℕ) (d : Denotes) → c.denoted kn at s x home n d ≡ hangs → IsOpen kn s x
+  denoted_open home n (denotes.Variable t) e = absurd cc
+  denoted_open home n (denotes.Constant t) e = absurd cc
+  denoted_open home n (denotes.Parameter q) e = absurd cc
+  denoted_open home n denotes.Procedure e = absurd (not_hung (c.applied at s Procedure x []) e (applied at s Procedure x []))
+  denoted_open home n denotes.Refinement e = refined_open (refinement_named s x) refl e
+
+  pub named_open : (o : Option Found) → c.named kn at s x o ≡ hangs → IsOpen kn s x
+  named_open None e = absurd (not_hung (c.applied at s Procedure x []) e (applied at s Procedure x []))
+  named_open (Some f) e = denoted_open f.home f.number f.denotes e

@@ -1,0 +1,235 @@
+-- What is known of a meaning: it has the types that it asks for.
+use Rattle.std.proofs.Common.{◌≡◌, ℤ, ℕ, Bool, true, false, ◌&&◌, if◌then◌else◌, List, [], ◌∷◌, ◌++◌, map, Option, Some, None, refl, sym, ap, subst, ◌∙◌}
+use Rattle.elan_types.specs.declared.elan_type.ElanType.{ElanType}
+use Rattle.elan_types.specs.declared.elan_type.ElanType.TheVariants.{Int, Bool as Truths}
+use Rattle.elan_types.specs.declared.core_phrase.PlacePhrase.{PlacePhrase}
+use Rattle.elan_types.specs.declared.core_phrase.PlacePhrase.TheVariants as place
+use Rattle.elan_types.specs.declared.core_phrase.ValuePhrase.{ValuePhrase}
+use Rattle.elan_types.specs.declared.core_phrase.ValuePhrase.TheVariants as value
+use Rattle.elan_types.specs.declared.core_phrase.Action.{Action}
+use Rattle.elan_types.specs.declared.core_phrase.Action.TheVariants as action
+use Rattle.elan_rules.specs.declared.meant.Part.{Part}
+use Rattle.elan_rules.specs.declared.meant.Part.TheVariants as piece
+use Rattle.elan_rules.specs.declared.meant.Guarded.{Guarded}
+use Rattle.elan_rules.specs.declared.meant.Labelled.{Labelled}
+use Rattle.elan_rules.specs.declared.meant.Counted.{Counted}
+use Rattle.elan_rules.specs.declared.meant.Meant.{Meant}
+use Rattle.elan_rules.specs.declared.meant.Meant.TheVariants.{Absent, Value, Done, Left, Labels, Branches, Arms, Counter, Bodies, Level}
+use Rattle.elan_rules.specs.Ruled.{Ruled, gives, breaks, hangs, ◌>>=◌, before}
+use Rattle.elan_types.specs.Typing.{Typed, same_type, has, agree, only_if, have, all_true}
+use Rattle.elan_rules.specs.Predefined.{delivers, fit}
+use Rattle.elan_rules.specs.Parts as r
+use Rattle.elan_rules.specs.Choices.{part_of}
+use Rattle.elan_rules.proofs.TypeEquations.{Stand, type, typed, lies, unit_is, has_written}
+
+-- ---- types
+
+pub same_is : (t u : ElanType) → same_type t u ≡ true → t ≡ u
+same_is Int Int e = refl
+same_is Int Truths e = absurd cc
+same_is Truths Int e = absurd cc
+same_is Truths Truths e = refl
+
+pub same_self : (t : ElanType) → same_type t t ≡ true
+same_self Int = refl
+same_self Truths = refl
+
+pub has_self : (t : ElanType) (a : Typed) → a ≡ Some t → has t a ≡ true
+has_self t a e = subst (λ (b : Typed). has t b ≡ true) (sym e) (same_self t)
+
+pub agree_self : (t : ElanType) (a b : Typed) → a ≡ Some t → b ≡ Some t → agree a b ≡ true
+agree_self t a b e f = subst (λ (c : Typed). agree c b ≡ true) (sym e) (has_self t b f)
+
+pub only_if_holds : (b : Bool) (a : Typed) (t : ElanType) → b ≡ true → a ≡ Some t → only_if b a ≡ Some t
+only_if_holds b a t e f = subst (λ (c : Bool). only_if c a ≡ Some t) (sym e) f
+
+pub both : (a b : Bool) → (a && b) ≡ true → (a ≡ true) × (b ≡ true)
+both true b e = (refl, e)
+both false b e = absurd cc
+
+pub and_true : (a b : Bool) → a ≡ true → b ≡ true → (a && b) ≡ true
+and_true a b e f = subst (λ (c : Bool). (c && b) ≡ true) (sym e) f
+
+-- ---- what a rule gives
+
+abbrev pub Gives : {A : Type 0} → (A → Type 0) → Ruled A → Type 0
+Gives P (gives x) = P x
+Gives P (breaks f) = Unit {0}
+Gives P hangs = Unit {0}
+
+pub on_if : {A : Type 0} (P : A → Type 0) (b : Bool) (x y : Ruled A) → (b ≡ true → Gives P x) → (b ≡ false → Gives P y) → Gives P (if b then x else y)
+on_if P true x y h k = h refl
+on_if P false x y h k = k refl
+
+pub on_bind : {A B : Type 0} (P : A → Type 0) (Q : B → Type 0) (q : Ruled A) (f : A → Ruled B) → Gives P q → ((x : A) → P x → Gives Q (f x)) → Gives Q (q >>= f)
+on_bind P Q (gives x) f h k = k x h
+on_bind P Q (breaks d) f h k = tt
+on_bind P Q hangs f h k = tt
+
+module _ (here : Stand) where
+  -- ---- what is known of a meaning
+
+  abbrev pub Has : ElanType → ValuePhrase → Type 0
+  Has t v = type here v ≡ Some t
+
+  abbrev pub MayHave : ElanType → Option ValuePhrase → Type 0
+  MayHave t None = Unit {0}
+  MayHave t (Some v) = Has t v
+
+  abbrev pub MayLie : ElanType → Option PlacePhrase → Type 0
+  MayLie t None = Unit {0}
+  MayLie t (Some p) = lies here p ≡ Some t
+
+  abbrev pub AllTyped : List Action → Type 0
+  AllTyped as' = all_true (map (typed here) as') ≡ true
+
+  abbrev pub PartGood : Part → Type 0
+  PartGood (piece.Done as') = AllTyped as'
+  PartGood (piece.Value t v) = Has t v
+  PartGood (piece.Left as') = AllTyped as'
+
+  abbrev pub GuardedGood : Guarded → Type 0
+  GuardedGood g = MayHave Truths g.condition × PartGood g.part
+
+  abbrev pub GuardsGood : List Guarded → Type 0
+  GuardsGood [] = Unit {0}
+  GuardsGood (g ∷ gs) = GuardedGood g × GuardsGood gs
+
+  abbrev pub ArmsGood : List Labelled → Type 0
+  ArmsGood [] = Unit {0}
+  ArmsGood (l ∷ ls) = PartGood l.part × ArmsGood ls
+
+  pub record CountedGood (k : Counted) : Type 0 where
+    pub lies : MayLie Int k.place
+    pub from : Has Int k.from
+    pub limit : MayHave Int k.limit
+
+  abbrev pub Good : Meant → Type 0
+  Good Absent = Unit {0}
+  Good (Value at t v x) = Has t v × MayLie t x
+  Good (Done as') = AllTyped as'
+  Good (Left as') = AllTyped as'
+  Good (Labels ns) = Unit {0}
+  Good (Branches gs) = GuardsGood gs
+  Good (Arms ls) = ArmsGood ls
+  Good (Counter k) = k.are_numbers ≡ true → CountedGood k
+  Good (Bodies bs) = Unit {0}
+  Good (Level us bs) = Unit {0}
+
+  abbrev pub AllGood : List Meant → Type 0
+  AllGood [] = Unit {0}
+  AllGood (m ∷ ms) = Good m × AllGood ms
+
+  pub one : (ms : List Meant) (f : Meant → Ruled Meant) → AllGood ms → ((m : Meant) → Good m → Gives Good (f m)) → Gives Good (r.on_one (r.one_of ms) f)
+  one [] f g h = tt
+  one (m ∷ []) f g h = h m g.0
+  one (m ∷ n ∷ ms) f g h = tt
+
+  pub two : (ms : List Meant) (f : Meant → Meant → Ruled Meant) → AllGood ms → ((m n : Meant) → Good m → Good n → Gives Good (f m n)) → Gives Good (r.on_two (r.two_of ms) f)
+  two [] f g h = tt
+  two (m ∷ []) f g h = tt
+  two (m ∷ n ∷ []) f g h = h m n g.0 g.1.0
+  two (m ∷ n ∷ k ∷ ms) f g h = tt
+
+  pub three : (ms : List Meant) (f : Meant → Meant → Meant → Ruled Meant) → AllGood ms → ((m n k : Meant) → Good m → Good n → Good k → Gives Good (f m n k)) → Gives Good (r.on_three (r.three_of ms) f)
+  three [] f g h = tt
+  three (m ∷ []) f g h = tt
+  three (m ∷ n ∷ []) f g h = tt
+  three (m ∷ n ∷ k ∷ []) f g h = h m n k g.0 g.1.0 g.1.1.0
+  three (m ∷ n ∷ k ∷ l ∷ ms) f g h = tt
+
+  pub four : (ms : List Meant) (f : Meant → Meant → Meant → Meant → Ruled Meant) → AllGood ms → ((m n k l : Meant) → Good m → Good n → Good k → Good l → Gives Good (f m n k l)) → Gives Good (r.on_four (r.four_of ms) f)
+  four [] f g h = tt
+  four (m ∷ []) f g h = tt
+  four (m ∷ n ∷ []) f g h = tt
+  four (m ∷ n ∷ k ∷ []) f g h = tt
+  four (m ∷ n ∷ k ∷ l ∷ []) f g h = h m n k l g.0 g.1.0 g.1.1.0 g.1.1.1.0
+  four (m ∷ n ∷ k ∷ l ∷ p ∷ ms) f g h = tt
+
+  -- ---- what parts deliver
+
+  pub value_typed : (t : ElanType) (m : Meant) → Good m → delivers t m ≡ true → Has t (r.value_of m)
+  value_typed t Absent g e = absurd cc
+  value_typed t (Value at u v x) g e = subst (λ (w : ElanType). Has w v) (sym (same_is t u e)) g.0
+  value_typed t (Done as') g e = absurd cc
+  value_typed t (Left as') g e = absurd cc
+  value_typed t (Labels ns) g e = absurd cc
+  value_typed t (Branches gs) g e = absurd cc
+  value_typed t (Arms ls) g e = absurd cc
+  value_typed t (Counter k) g e = absurd cc
+  value_typed t (Bodies bs) g e = absurd cc
+  value_typed t (Level us bs) g e = absurd cc
+
+  pub lies_typed : (t : ElanType) (m : Meant) → Good m → delivers t m ≡ true → MayLie t (r.variable_of m)
+  lies_typed t Absent g e = absurd cc
+  lies_typed t (Value at u v x) g e = subst (λ (w : ElanType). MayLie w x) (sym (same_is t u e)) g.1
+  lies_typed t (Done as') g e = absurd cc
+  lies_typed t (Left as') g e = absurd cc
+  lies_typed t (Labels ns) g e = absurd cc
+  lies_typed t (Branches gs) g e = absurd cc
+  lies_typed t (Arms ls) g e = absurd cc
+  lies_typed t (Counter k) g e = absurd cc
+  lies_typed t (Bodies bs) g e = absurd cc
+  lies_typed t (Level us bs) g e = absurd cc
+
+  pub may_typed : (t : ElanType) (m : Meant) → Good m → r.may_deliver t m ≡ true → MayHave t (r.written m)
+  may_typed t Absent g e = tt
+  may_typed t (Value at u v x) g e = subst (λ (w : ElanType). Has w v) (sym (same_is t u e)) g.0
+  may_typed t (Done as') g e = absurd cc
+  may_typed t (Left as') g e = absurd cc
+  may_typed t (Labels ns) g e = absurd cc
+  may_typed t (Branches gs) g e = absurd cc
+  may_typed t (Arms ls) g e = absurd cc
+  may_typed t (Counter k) g e = absurd cc
+  may_typed t (Bodies bs) g e = absurd cc
+  may_typed t (Level us bs) g e = absurd cc
+
+  pub actions_typed : (m : Meant) → Good m → AllTyped (r.actions m)
+  actions_typed Absent g = refl
+  actions_typed (Value at t v x) g = refl
+  actions_typed (Done as') g = g
+  actions_typed (Left as') g = g
+  actions_typed (Labels ns) g = refl
+  actions_typed (Branches gs) g = refl
+  actions_typed (Arms ls) g = refl
+  actions_typed (Counter k) g = refl
+  actions_typed (Bodies bs) g = refl
+  actions_typed (Level us bs) g = refl
+
+  pub part_good : (m : Meant) → Good m → PartGood (part_of m)
+  part_good Absent g = refl
+  part_good (Value at t v x) g = g.0
+  part_good (Done as') g = g
+  part_good (Left as') g = g
+  part_good (Labels ns) g = refl
+  part_good (Branches gs) g = refl
+  part_good (Arms ls) g = refl
+  part_good (Counter k) g = refl
+  part_good (Bodies bs) g = refl
+  part_good (Level us bs) g = refl
+
+  -- ---- lists of actions
+
+  pub append_typed : (as' bs : List Action) → AllTyped as' → AllTyped bs → AllTyped (as' ++ bs)
+  append_typed [] bs h k = k
+  append_typed (a ∷ as') bs h k = let b = both _ _ h in and_true _ _ b.0 (append_typed as' bs b.1 k)
+
+  pub single_typed : (a : Action) → typed here a ≡ true → AllTyped (a ∷ [])
+  single_typed a h = and_true _ _ h refl
+
+  pub actions_of_typed : (ms : List Meant) → AllGood ms → AllTyped (r.actions_of ms)
+  actions_of_typed [] g = refl
+  actions_of_typed (m ∷ ms) g = append_typed (r.actions m) (r.actions_of ms) (actions_typed m g.0) (actions_of_typed ms g.1)
+
+  pub unit_typed : (as' : List Action) → AllTyped as' → AllTyped (action.Unit as' ∷ [])
+  unit_typed as' h = single_typed (action.Unit as') (unit_is here as' ∙ h)
+
+  pub values_typed : (ts : List ElanType) (ms : List Meant) → AllGood ms → fit ts ms ≡ true → have ts (map (type here) (r.values_of ms)) ≡ true
+  values_typed [] [] g e = refl
+  values_typed [] (m ∷ ms) g e = absurd cc
+  values_typed (t ∷ ts) [] g e = absurd cc
+  values_typed (t ∷ ts) (m ∷ ms) g e = let b = both _ _ e in and_true _ _ (has_self t _ (value_typed t m g.0 b.0)) (values_typed ts ms g.1 b.1)
+
+  pub written_typed : (t : ElanType) (o : Option ValuePhrase) → MayHave t o → has_written here t o ≡ true
+  written_typed t None h = refl
+  written_typed t (Some v) h = has_self t _ h

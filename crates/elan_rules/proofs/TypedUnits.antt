@@ -1,0 +1,226 @@
+-- Values, stores, lists of units and bodies have the types that they ask for.
+use Rattle.std.proofs.Common.{◌≡◌, ℤ, ℕ, Bool, true, false, ◌&&◌, if◌then◌else◌, List, [], ◌∷◌, ◌++◌, map, Option, Some, None, refl, sym, ap, subst, ◌∙◌}
+use Rattle.elan_types.specs.declared.elan_type.ElanType.{ElanType}
+use Rattle.elan_types.specs.declared.elan_type.ElanType.TheVariants.{Int, Bool as Truths}
+use Rattle.elan_types.specs.declared.core_phrase.PlacePhrase.{PlacePhrase}
+use Rattle.elan_types.specs.declared.core_phrase.PlacePhrase.TheVariants as place
+use Rattle.elan_types.specs.declared.core_phrase.ValuePhrase.{ValuePhrase}
+use Rattle.elan_types.specs.declared.core_phrase.ValuePhrase.TheVariants as value
+use Rattle.elan_types.specs.declared.core_phrase.Action.{Action}
+use Rattle.elan_types.specs.declared.core_phrase.Action.TheVariants as action
+use Rattle.elan_rules.specs.declared.meant.Part.{Part}
+use Rattle.elan_rules.specs.declared.meant.Part.TheVariants as piece
+use Rattle.elan_rules.specs.declared.meant.Guarded.{Guarded}
+use Rattle.elan_rules.specs.declared.meant.Labelled.{Labelled}
+use Rattle.elan_rules.specs.declared.meant.Counted.{Counted}
+use Rattle.elan_rules.specs.declared.meant.Meant.{Meant}
+use Rattle.elan_rules.specs.declared.meant.Meant.TheVariants.{Absent, Value, Done, Left, Labels, Branches, Arms, Counter, Bodies, Level}
+use Rattle.elan_rules.specs.Ruled.{Ruled, gives, breaks, hangs, ◌>>=◌, before}
+use Rattle.elan_types.specs.Typing.{Typed, same_type, has, agree, only_if, have, all_agree, all_true, is_content_typed}
+use Rattle.std.specs.Prelude.{pos}
+use Rattle.eu_base.specs.Operations.{in_range}
+use Rattle.elan_types.specs.declared.core_phrase.Content.{Content}
+use Rattle.elan_rules.specs.Predefined.{delivers, fit}
+use Rattle.elan_rules.proofs.Typed as ty
+use Rattle.elan_rules.proofs.Typed.{same_is, same_self, has_self, agree_self, only_if_holds, both, and_true, Gives, on_if, on_bind}
+use Rattle.elan_rules.specs.Parts as p
+use Rattle.elan_rules.specs.Units as r
+use Rattle.elan_rules.specs.Rules as rules
+use Rattle.elan_rules.proofs.TypeEquations.{Stand, type, typed, lies, number_is, truth_is, cand_is, cor_is, value_unit_is, after_is, unit_is, store_is}
+
+module _ (here : Stand) where
+  abbrev Has : ElanType → ValuePhrase → Type 0
+  Has = ty.Has here
+
+  abbrev MayHave : ElanType → Option ValuePhrase → Type 0
+  MayHave = ty.MayHave here
+
+  abbrev MayLie : ElanType → Option PlacePhrase → Type 0
+  MayLie = ty.MayLie here
+
+  abbrev AllTyped : List Action → Type 0
+  AllTyped = ty.AllTyped here
+
+  abbrev Good : Meant → Type 0
+  Good = ty.Good here
+
+  abbrev AllGood : List Meant → Type 0
+  AllGood = ty.AllGood here
+
+  -- ---- values
+
+  pub number_good : (at : ℕ) (n : ℤ) → Gives Good (rules.number at n)
+  number_good at n = on_if Good (in_range n) _ _ (λ e. (number_is here n ∙ only_if_holds (in_range n) _ Int e refl, tt)) (λ e. tt)
+
+  pub bracketed_good : (at : ℕ) (m : Meant) → Good m → Gives Good (rules.bracketed at m)
+  bracketed_good at Absent g = tt
+  bracketed_good at (Value p t v x) g = (g.0, tt)
+  bracketed_good at (Done as') g = g
+  bracketed_good at (Left as') g = g
+  bracketed_good at (Labels ns) g = tt
+  bracketed_good at (Branches gs) g = tt
+  bracketed_good at (Arms ls) g = tt
+  bracketed_good at (Counter k) g = tt
+  bracketed_good at (Bodies bs) g = tt
+  bracketed_good at (Level us bs) g = tt
+
+  pub truths_typed : (l m : Meant) → Good l → Good m → rules.are_truths l m ≡ true → (has Truths (type here (p.value_of l)) && has Truths (type here (p.value_of m))) ≡ true
+  truths_typed l m g h e = let b = both _ _ e in and_true _ _ (has_self Truths _ (ty.value_typed here Truths l g b.0)) (has_self Truths _ (ty.value_typed here Truths m h b.1))
+
+  pub cand_good : (at : ℕ) (l m : Meant) → Good l → Good m → Gives Good (rules.cand at l m)
+  cand_good at l m g h = on_if Good (rules.are_truths l m) _ _ (λ e. (cand_is here (p.value_of l) (p.value_of m) ∙ only_if_holds _ _ Truths (truths_typed l m g h e) refl, tt)) (λ e. tt)
+
+  pub cor_good : (at : ℕ) (l m : Meant) → Good l → Good m → Gives Good (rules.cor at l m)
+  cor_good at l m g h = on_if Good (rules.are_truths l m) _ _ (λ e. (cor_is here (p.value_of l) (p.value_of m) ∙ only_if_holds _ _ Truths (truths_typed l m g h e) refl, tt)) (λ e. tt)
+
+  -- ---- stores
+
+  abbrev Agreed : Meant → Meant → ElanType → Type 0
+  Agreed l m t = MayLie t (p.variable_of l) × Has t (p.value_of m)
+
+  pub agreed_good : (at : ℕ) (l m : Meant) → Good l → Good m → Gives (Agreed l m) (r.agreed at l m)
+  agreed_good at Absent m g h = tt
+  agreed_good at (Value p t v x) m g h = on_if (Agreed (Value p t v x) m) (delivers t m) _ _ (λ e. (g.1, ty.value_typed here t m h e)) (λ e. tt)
+  agreed_good at (Done as') m g h = tt
+  agreed_good at (Left as') m g h = tt
+  agreed_good at (Labels ns) m g h = tt
+  agreed_good at (Branches gs) m g h = tt
+  agreed_good at (Arms ls) m g h = tt
+  agreed_good at (Counter k) m g h = tt
+  agreed_good at (Bodies bs) m g h = tt
+  agreed_good at (Level us bs) m g h = tt
+
+  pub store_typed : (x : PlacePhrase) (t : ElanType) (v : ValuePhrase) → MayLie t (Some x) → Has t v → AllTyped (action.Store x t v ∷ [])
+  store_typed x t v l h = ty.single_typed here (action.Store x t v) (store_is here x t v ∙ and_true _ _ (has_self t _ l) (has_self t _ h))
+
+  pub assigned_to_good : (x : Option PlacePhrase) (p : ℕ) (t : ElanType) (v : ValuePhrase) → MayLie t x → Has t v → Gives Good (r.assigned_to x p t v)
+  assigned_to_good None p t v l h = tt
+  assigned_to_good (Some x) p t v l h = ty.unit_typed here (action.Store x t v ∷ []) (store_typed x t v l h)
+
+  pub assigned_good : (at : ℕ) (l m : Meant) → Good l → Good m → Gives Good (r.assigned at l m)
+  assigned_good at l m g h = on_bind (Agreed l m) Good (r.agreed at l m) _ (agreed_good at l m g h) (λ t a. assigned_to_good (p.variable_of l) (p.place_of l) t (p.value_of m) a.0 a.1)
+
+  pub initial_to_good : (x : Option PlacePhrase) (t : ElanType) (v : ValuePhrase) → MayLie t x → Has t v → Gives Good (r.initial_to x t v)
+  initial_to_good None t v l h = tt
+  initial_to_good (Some x) t v l h = store_typed x t v l h
+
+  pub initial_good : (at : ℕ) (l m : Meant) → Good l → Good m → Gives Good (r.initial at l m)
+  initial_good at l m g h = on_bind (Agreed l m) Good (r.agreed at l m) _ (agreed_good at l m g h) (λ t a. initial_to_good (p.variable_of l) t (p.value_of m) a.0 a.1)
+
+  -- ---- lists of units
+
+  pub or_last_good : (n m : Meant) → Good n → Good m → Good (r.or_last n m)
+  or_last_good n Absent g h = g
+  or_last_good n (Value at t v x) g h = h
+  or_last_good n (Done as') g h = g
+  or_last_good n (Left as') g h = h
+  or_last_good n (Labels ns) g h = g
+  or_last_good n (Branches gs) g h = g
+  or_last_good n (Arms ls) g h = g
+  or_last_good n (Counter k) g h = g
+  or_last_good n (Bodies bs) g h = g
+  or_last_good n (Level us bs) g h = g
+
+  pub last_good : (n : Meant) (ms : List Meant) → Good n → AllGood ms → Good (r.last_value n ms)
+  last_good n [] g h = g
+  last_good n (m ∷ ms) g h = last_good (r.or_last n m) ms (or_last_good n m g h.0) h.1
+
+  pub ended_good : (as' : List Action) (m : Meant) → AllTyped as' → Good m → Good (r.ended as' m)
+  ended_good as' Absent h g = h
+  ended_good as' (Value at t v x) h g = (after_is here as' v ∙ only_if_holds _ _ t h g.0, tt)
+  ended_good as' (Done bs) h g = h
+  ended_good as' (Left bs) h g = h
+  ended_good as' (Labels ns) h g = h
+  ended_good as' (Branches gs) h g = h
+  ended_good as' (Arms ls) h g = h
+  ended_good as' (Counter k) h g = h
+  ended_good as' (Bodies bs) h g = h
+  ended_good as' (Level us bs) h g = h
+
+  pub in_order_good : (ms : List Meant) → AllGood ms → Good (r.in_order ms)
+  in_order_good ms g = ended_good (p.actions_of ms) (r.last_value Absent ms) (ty.actions_of_typed here ms g) (last_good Absent ms tt g)
+
+  pub alone_good : (m : Meant) → Good m → Gives Good (r.alone m)
+  alone_good Absent g = tt
+  alone_good (Value at t v x) g = (value_unit_is here v ∙ g.0, tt)
+  alone_good (Done as') g = ty.unit_typed here as' g
+  alone_good (Left as') g = ty.unit_typed here as' g
+  alone_good (Labels ns) g = tt
+  alone_good (Branches gs) g = tt
+  alone_good (Arms ls) g = tt
+  alone_good (Counter k) g = tt
+  alone_good (Bodies bs) g = tt
+  alone_good (Level us bs) g = tt
+
+  pub without_value_good : (m : Meant) → Good m → Gives Good (r.without_value m)
+  without_value_good Absent g = g
+  without_value_good (Value at t v x) g = tt
+  without_value_good (Done as') g = g
+  without_value_good (Left as') g = g
+  without_value_good (Labels ns) g = g
+  without_value_good (Branches gs) g = g
+  without_value_good (Arms ls) g = g
+  without_value_good (Counter k) g = g
+  without_value_good (Bodies bs) g = tt
+  without_value_good (Level us bs) g = g
+
+  -- ---- bodies
+
+  abbrev ContentGood : Option Content → Type 0
+  ContentGood None = Unit {0}
+  ContentGood (Some c) = is_content_typed here.variables here.bodies here.home c ≡ true
+
+  blank_typed : (t : ElanType) → Has t (p.blank t)
+  blank_typed Int = number_is here (pos 0)
+  blank_typed Truths = truth_is here false
+
+  pub unreached_typed : (t : ElanType) (as' : List Action) → AllTyped as' → Has t (value.After as' (p.blank t))
+  unreached_typed t as' h = after_is here as' (p.blank t) ∙ only_if_holds _ _ t h (blank_typed t)
+
+  without_good : (m : Meant) → Good m → ContentGood (r.without m)
+  without_good Absent g = refl
+  without_good (Value at t v x) g = tt
+  without_good (Done as') g = g
+  without_good (Left as') g = g
+  without_good (Labels ns) g = refl
+  without_good (Branches gs) g = refl
+  without_good (Arms ls) g = refl
+  without_good (Counter k) g = refl
+  without_good (Bodies bs) g = refl
+  without_good (Level us bs) g = refl
+
+  value_as_good : (t u : ElanType) (v : ValuePhrase) → Has u v → ContentGood (r.with_value t (if same_type t u then Some v else None))
+  value_as_good t u v g = by_test (same_type t u) refl
+    where
+      by_test : (b : Bool) → same_type t u ≡ b → ContentGood (r.with_value t (if b then Some v else None))
+      by_test true e = has_self t _ (subst (λ (z : ElanType). Has z v) (sym (same_is t u e)) g)
+      by_test false e = tt
+
+  with_good : (t : ElanType) (m : Meant) → Good m → ContentGood (r.content_as (Some t) m)
+  with_good t Absent g = tt
+  with_good t (Value at u v x) g = value_as_good t u v g.0
+  with_good t (Done as') g = tt
+  with_good t (Left as') g = has_self t _ (unreached_typed t as' g)
+  with_good t (Labels ns) g = tt
+  with_good t (Branches gs) g = tt
+  with_good t (Arms ls) g = tt
+  with_good t (Counter k) g = tt
+  with_good t (Bodies bs) g = tt
+  with_good t (Level us bs) g = tt
+
+  -- the units of a body have the types that they ask for
+  pub content_as_good : (o : Option ElanType) (m : Meant) → Good m → ContentGood (r.content_as o m)
+  content_as_good None m g = without_good m g
+  content_as_good (Some t) m g = with_good t m g
+
+  pub content_of_good : (m : Meant) → Good m → is_content_typed here.variables here.bodies here.home (r.content_of m) ≡ true
+  content_of_good Absent g = refl
+  content_of_good (Value at t v x) g = has_self t _ g.0
+  content_of_good (Done as') g = g
+  content_of_good (Left as') g = g
+  content_of_good (Labels ns) g = refl
+  content_of_good (Branches gs) g = refl
+  content_of_good (Arms ls) g = refl
+  content_of_good (Counter k) g = refl
+  content_of_good (Bodies bs) g = refl
+  content_of_good (Level us bs) g = refl

@@ -1,0 +1,13 @@
+pub mod Scope
+pub mod Predefined
+pub mod Phrase
+pub mod Ruled
+pub mod Known
+pub mod Parts
+pub mod Calls
+pub mod Units
+pub mod Choices
+pub mod Loops
+pub mod Rules
+pub mod Meaning
+pub mod Answer

@@ -1,0 +1,100 @@
+-- The rules of meaning, one for each form of phrase: what it means where its parts mean these, or which rule it breaks.
+use Rattle.std.specs.Prelude.{ℕ, ℤ, Bool, true, false, ◌&&◌, List, [], ◌∷◌, Option, Some, None, if◌then◌else◌}
+use Rattle.elan_types.specs.declared.elan_type.ElanType.{ElanType}
+use Rattle.elan_types.specs.declared.elan_type.ElanType.TheVariants.{Int, Bool as Truths}
+use Rattle.elan_types.specs.declared.core_phrase.ValuePhrase.{ValuePhrase}
+use Rattle.elan_types.specs.declared.core_phrase.ValuePhrase.TheVariants as value
+use Rattle.elan_types.specs.declared.why.Why.TheVariants.{WrongType}
+use Rattle.eu_base.specs.Operations.{in_range}
+use Rattle.elan_rules.specs.declared.meant.Meant.{Meant}
+use Rattle.elan_rules.specs.declared.meant.Meant.TheVariants.{Absent, Value, Done, Left, Labels, Branches, Arms, Counter, Bodies, Level}
+use Rattle.elan_rules.specs.Scope.{find, find_own, left, first_heading, is_alike, types_of}
+use Rattle.elan_rules.specs.Predefined.{becomes, delivers}
+use Rattle.elan_rules.specs.declared.known.Known.{Known}
+use Rattle.elan_rules.specs.Parts.{unasked, value_of, valued, unit_of, actions_of, one_of, two_of, three_of, four_of, on_one, on_two, on_three, on_four}
+use Rattle.elan_rules.specs.declared.scope.Scope.{Scope}
+use Rattle.elan_rules.specs.declared.heading.Sort.TheVariants.{Operator}
+use Rattle.elan_rules.specs.declared.heading.Heading.{Heading}
+use Rattle.elan_rules.specs.Calls.{named, applied, takes, called, declared, headed, leaving}
+use Rattle.elan_rules.specs.Units.{assigned, initial, in_order, alone, without_value, body, body_with, content_of, bodies_of}
+use Rattle.elan_rules.specs.Choices.{guarded, branches_of, choice, label_is, label_named, labels_of, labelled, arms_of, selected}
+use Rattle.elan_rules.specs.Loops.{counted, loop}
+use Rattle.elan_rules.specs.Phrase as form
+use Rattle.elan_rules.specs.Phrase.{Form}
+use Rattle.elan_rules.specs.Ruled.{Ruled, gives, breaks, ◌>>=◌}
+
+-- ---- values
+
+-- No text has a number of more than 16 bits.
+abbrev pub number : ℕ → ℤ → Ruled Meant
+number at n = if in_range n then gives (valued at Int (value.Number n)) else unasked
+
+abbrev pub bracketed : ℕ → Meant → Ruled Meant
+bracketed at (Value p t v x) = gives (valued at t v)
+bracketed at (Done as') = gives (Done as')
+bracketed at (Left as') = gives (Left as')
+bracketed at m = unasked
+
+abbrev pub are_truths : Meant → Meant → Bool
+are_truths l r = delivers Truths l && delivers Truths r
+
+abbrev pub cand_of : ℕ → ValuePhrase → ValuePhrase → Meant
+cand_of at v w = valued at Truths (value.Cand v w)
+
+abbrev pub cor_of : ℕ → ValuePhrase → ValuePhrase → Meant
+cor_of at v w = valued at Truths (value.Cor v w)
+
+abbrev pub cand : ℕ → Meant → Meant → Ruled Meant
+cand at l r = if are_truths l r then gives (cand_of at (value_of l) (value_of r)) else breaks (at, WrongType)
+
+abbrev pub cor : ℕ → Meant → Meant → Ruled Meant
+cor at l r = if are_truths l r then gives (cor_of at (value_of l) (value_of r)) else breaks (at, WrongType)
+
+-- ---- assignments
+
+-- An own operator `:=` is looked at first. It is called, and the assignment delivers what it delivers.
+abbrev pub assignment_as : ℕ → List Meant → Option (ℕ × Heading) → Ruled Meant
+assignment_as at ms (Some b) = called at b.0 b.1.what ms >>= alone
+assignment_as at ms None = on_two (two_of ms) (assigned at)
+
+abbrev pub assignment : ℕ → Scope → List Meant → Ruled Meant
+assignment at s ms = assignment_as at ms (first_heading (takes Operator becomes ms) s.headings)
+
+-- ---- the rules
+
+abbrev pub rule : Known → Form → List Meant → Ruled Meant
+rule k form.absent ms = gives Absent
+rule k form.not_built ms = unasked
+rule k (form.number at n) ms = number at n
+rule k (form.truth at b) ms = gives (valued at Truths (value.Truth b))
+rule k (form.named at s x) ms = named k at s x (find s x)
+rule k (form.applied at s sort x) ms = applied at s sort x ms
+rule k (form.bracket at) ms = on_one (one_of ms) (bracketed at)
+rule k (form.cand at) ms = on_two (two_of ms) (cand at)
+rule k (form.cor at) ms = on_two (two_of ms) (cor at)
+rule k form.branch ms = on_two (two_of ms) (λ c m. gives (Branches (guarded c m ∷ [])))
+rule k form.branches ms = gives (Branches (branches_of ms))
+rule k (form.choice at) ms = on_two (two_of ms) (choice at)
+rule k (form.label at earlier n) ms = label_is at earlier n
+rule k (form.label_name at s x) ms = label_named at x (find s x)
+rule k form.labels ms = gives (Labels (labels_of ms))
+rule k form.arm ms = on_two (two_of ms) labelled
+rule k form.arms ms = gives (Arms (arms_of ms))
+rule k (form.selection at) ms = on_three (three_of ms) (selected at)
+rule k (form.declares at s x) ms = declared at (find_own s x)
+rule k form.item ms = gives (Done [])
+rule k (form.initial at) ms = on_two (two_of ms) (initial at)
+rule k (form.declaration at) ms = gives (unit_of (actions_of ms))
+rule k form.statement ms = on_one (one_of ms) alone
+rule k (form.assignment at s) ms = assignment at s ms
+rule k (form.counter w) ms = on_three (three_of ms) (λ n f l. gives (Counter (counted w n f l)))
+rule k (form.loop at) ms = on_four (four_of ms) (loop at)
+rule k form.empty ms = gives (Done [])
+rule k (form.leave at s x) ms = on_one (one_of ms) (leaving k at (left s x))
+rule k form.without_value ms = on_one (one_of ms) without_value
+rule k form.units ms = gives (in_order ms)
+rule k (form.heading at s sort x ps missing) ms = headed at missing (first_heading (is_alike sort x (types_of ps)) s.headings)
+rule k (form.body at o r) ms = on_one (one_of ms) (body at o r)
+rule k form.routine ms = gives (Bodies (bodies_of ms))
+rule k (form.refinement o) ms = on_two (two_of ms) (λ n m. gives (body_with o (content_of m)))
+rule k form.level ms = gives (Level (actions_of ms) (bodies_of ms))

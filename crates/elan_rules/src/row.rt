@@ -1,0 +1,85 @@
+//! What several phrases mean together. Where one has no meaning the others are let go here and not in the caller, whose proof
+//! would be long with exits at which trees are let go.
+
+ghost use Rattle.std.specs.Prelude.{[]};
+ghost use Rattle.elan_rules.specs.declared.meant.Meant.{Meant};
+ghost use Rattle.elan_rules.specs.Ruled.{Ruled, gives, before};
+ghost use Rattle.elan_rules.specs.Answer.{Is, beside, joined};
+
+use crate::meant::Meant;
+use crate::trouble::Trouble;
+use eu_base::List;
+use std::alloc::Global;
+
+/// What a phrase means, or why it has no meaning.
+pub type Judged = Result<Meant, Trouble>;
+
+/// What phrases mean, one after another.
+pub type Row = Result<List<Meant>, Trouble>;
+
+/// What two phrases mean. A fault to the right of a phrase that hangs is still a fault.
+pub fn two<A: Drop, B: Drop>(
+    first: Result<A, Trouble>,
+    second: Result<B, Trouble>,
+) -> Result<(A, B), Trouble>
+    ensures { (r : Ruled A) → (q : Ruled B) → Is first r → Is second q → Is result (beside r q) }
+{
+    match first {
+        Ok(first) => match second {
+            Err(trouble) => Err(trouble),
+            Ok(second) => Ok((first, second)),
+        },
+        Err(Trouble::Hangs) => match second {
+            Err(trouble) => Err(trouble),
+            Ok(_second) => Err(Trouble::Hangs),
+        },
+        Err(trouble) => Err(trouble),
+    }
+}
+
+/// What phrases mean, and one more.
+pub fn and<T: Drop>(
+    row: Result<List<T>, Trouble>,
+    next: Result<T, Trouble>,
+) -> Result<List<T>, Trouble>
+    ensures { (rs : Ruled (List T)) → (r : Ruled T) → Is row rs → Is next r → Is result (joined rs r) }
+{
+    match two(row, next) {
+        Err(trouble) => Err(trouble),
+        Ok((mut parts, part)) => match parts.push(part) {
+            Err(_) => Err(Trouble::NoMemory),
+            Ok(()) => Ok(parts),
+        },
+    }
+}
+
+/// What one phrase means.
+pub fn one(alloc: Global, part: Judged) -> Row
+    ensures { (r : Ruled Meant) → Is part r → Is result (before r (gives [])) }
+{
+    let part = part?;
+    let mut parts = List::new(alloc);
+    parts.push(part)?;
+    Ok(parts)
+}
+
+/// What two phrases mean, one after the other.
+pub fn pair(alloc: Global, first: Judged, second: Judged) -> Row
+    ensures { (r : Ruled Meant) → (q : Ruled Meant) → Is first r → Is second q → Is result (before r (before q (gives []))) }
+{
+    and(one(alloc, first), second)
+}
+
+/// What three phrases mean, one after another.
+pub fn three(alloc: Global, first: Judged, second: Judged, third: Judged) -> Row
+    ensures { (r : Ruled Meant) → (q : Ruled Meant) → (s : Ruled Meant) → Is first r → Is second q → Is third s → Is result (before r (before q (before s (gives [])))) }
+{
+    and(pair(alloc, first, second), third)
+}
+
+/// What four phrases mean, one after another.
+pub fn four(alloc: Global, first: Judged, second: Judged, third: Judged, fourth: Judged) -> Row
+    ensures { (r : Ruled Meant) → (q : Ruled Meant) → (s : Ruled Meant) → (u : Ruled Meant) → Is first r → Is second q → Is third s → Is fourth u → Is result (before r (before q (before s (before u (gives []))))) }
+{
+    and(three(alloc, first, second, third), fourth)
+}

@@ -1,0 +1,235 @@
+//! Calls: operators with their operands, and procedures with their actuals.
+
+ghost use Rattle.std.specs.Prelude.{◌≡◌, IfOk, None};
+ghost use Rattle.elan_rules.specs.declared.meant.Does.TheVariants as does_what;
+ghost use Rattle.elan_rules.specs.Calls as spec;
+ghost use Rattle.elan_rules.specs.Parts as parts;
+ghost use Rattle.elan_rules.specs.Answer.{Is};
+
+use crate::heading::{Sort, What, any_with_as_many, first_taking};
+use crate::meant::{Does, Meant};
+use crate::predefined::{chosen, exists};
+use crate::row::{Judged, and};
+use crate::rules::arity::{one_of, two_of};
+use crate::rules::part::{done, place_of, value_of, valued, variable_of};
+use crate::scope::Scope;
+use crate::trouble::Trouble;
+use elan_types::{
+    Access, Action, Actual, Change, ElanType, Operation, Parameter, PlacePhrase, ValuePhrase, Why,
+};
+use eu_base::{List, NoMemory};
+use std::alloc::Global;
+
+/// A number of a body or variable as cores have it. A text of 8,000 tokens has far fewer than 65,536.
+pub fn number_of(position: usize) -> Result<u16, NoMemory>
+    ensures { IfOk result (λ number. number ≡ position) }
+{
+    match u16::try_from(position) {
+        Ok(number) => Ok(number),
+        Err(_) => Err(NoMemory),
+    }
+}
+
+// ---- predefined operators and procedures
+
+// The values of parts.
+#[tactic(auto, using(crate::proofs::Lists::values_push))]
+fn values_of(alloc: Global, operands: List<Meant>) -> Result<List<ValuePhrase>, NoMemory>
+    ensures { IfOk result (λ values. values ≡ parts.values_of operands) }
+{
+    let mut values = List::new(alloc);
+    for operand in operands.into_vec() {
+        values.push(value_of(operand))?;
+    }
+    Ok(values)
+}
+
+// A variable is needed at the left.
+fn changed_at(
+    alloc: Global,
+    change: Change,
+    at: u32,
+    place: Option<PlacePhrase>,
+    value: ValuePhrase,
+) -> Judged
+    ensures { Is result (spec.changed_at change at place value) }
+{
+    match place {
+        None => Err(Trouble::Breaks(at, Why::NoVariable)),
+        Some(place) => {
+            let meant = done(alloc, Action::Modify(change, place, value))?;
+            Ok(meant)
+        }
+    }
+}
+
+fn changed(alloc: Global, change: Change, operands: List<Meant>) -> Judged
+    ensures { Is result (parts.on_two (parts.two_of operands) (spec.changed change)) }
+{
+    match two_of(operands) {
+        None => Err(Trouble::Breaks(0, Why::Unknown)),
+        Some((left, right)) => {
+            let at = place_of(&left);
+            changed_at(alloc, change, at, variable_of(left), value_of(right))
+        }
+    }
+}
+
+fn delivered(
+    alloc: Global,
+    at: u32,
+    operation: Operation,
+    of: ElanType,
+    operands: List<Meant>,
+) -> Judged
+    ensures { Is result (spec.done at (does_what.Delivers operation of) operands) }
+{
+    let values = values_of(alloc, operands)?;
+    Ok(valued(at, of, ValuePhrase::Apply(operation, values)))
+}
+
+fn put(alloc: Global, operands: List<Meant>) -> Judged
+    ensures { Is result (parts.on_one (parts.one_of operands) spec.put) }
+{
+    match one_of(operands) {
+        None => Err(Trouble::Breaks(0, Why::Unknown)),
+        Some(operand) => {
+            let meant = done(alloc, Action::Put(value_of(operand)))?;
+            Ok(meant)
+        }
+    }
+}
+
+fn performed(alloc: Global, at: u32, does: Does, operands: List<Meant>) -> Judged
+    ensures { Is result (spec.done at does operands) }
+{
+    match does {
+        Does::Delivers(operation, of) => delivered(alloc, at, operation, of, operands),
+        Does::Changes(change) => changed(alloc, change, operands),
+        Does::Puts => put(alloc, operands),
+        Does::EndsLine => {
+            let meant = done(alloc, Action::Line)?;
+            Ok(meant)
+        }
+    }
+}
+
+// ---- own PROCs and OPs
+
+// A VAR parameter needs a variable.
+fn given_as(parameter: Parameter, operand: Meant) -> Result<Actual, Trouble>
+    ensures { Is result (spec.given_as parameter.access parameter.of operand) }
+{
+    match parameter.access {
+        Access::Const => Ok(Actual::Value(value_of(operand))),
+        Access::Var => {
+            let at = place_of(&operand);
+            match variable_of(operand) {
+                None => Err(Trouble::Breaks(at, Why::NoVariable)),
+                Some(place) => Ok(Actual::Place(place, parameter.of)),
+            }
+        }
+    }
+}
+
+// What parameters are given, from left to right.
+fn given(
+    alloc: Global,
+    parameters: &[Parameter],
+    operands: List<Meant>,
+) -> Result<List<Actual>, Trouble>
+    ensures { Is result (spec.given parameters.now operands) }
+{
+    let mut actuals = Ok(List::new(alloc));
+    let mut rest = parameters;
+    for operand in operands.into_vec() {
+        match rest {
+            [] => return actuals,
+            [parameter, others @ ..] => {
+                actuals = and(actuals, given_as(*parameter, operand));
+                rest = others;
+            }
+        }
+    }
+    actuals
+}
+
+fn call(
+    alloc: Global,
+    at: u32,
+    number: u16,
+    result_type: Option<ElanType>,
+    actuals: List<Actual>,
+) -> Result<Meant, NoMemory>
+    ensures { IfOk result (λ m. m ≡ spec.call at number result_type actuals) }
+{
+    match result_type {
+        None => done(alloc, Action::Call(number, actuals)),
+        Some(of) => Ok(valued(at, of, ValuePhrase::Call(number, actuals, of))),
+    }
+}
+
+/// A call of the body with this number.
+pub fn called(alloc: Global, at: u32, number: usize, what: &What, operands: List<Meant>) -> Judged
+    ensures { Is result (spec.called at number what.now operands) }
+{
+    match what {
+        What::Routine(_, parameters, delivered) => {
+            let actuals = given(alloc, parameters.as_slice(), operands)?;
+            let number = number_of(number)?;
+            let meant = call(alloc, at, number, *delivered, actuals)?;
+            Ok(meant)
+        }
+        What::Refinement(_) => Err(Trouble::Breaks(0, Why::Unknown)),
+    }
+}
+
+// ---- operators, and identifiers with actuals
+
+// Whether a name exists with that number of operands.
+fn is_known(scope: &Scope, sort: Sort, name: &[u8], count: usize) -> bool
+    ensures { result ≡ spec.is_known scope.now.headings sort name.now count }
+{
+    any_with_as_many(scope.headings.as_slice(), sort, name, count) || exists(name, count)
+}
+
+// A predefined name. One that exists with that number of operands, but not for these types, has the wrong type.
+fn predefined_as(
+    alloc: Global,
+    at: u32,
+    scope: &Scope,
+    sort: Sort,
+    name: &[u8],
+    operands: List<Meant>,
+) -> Judged
+    ensures { Is result (spec.applied_as at scope.now sort name.now operands None) }
+{
+    match chosen(name, operands.as_slice()) {
+        Some(does) => performed(alloc, at, does, operands),
+        None => {
+            if is_known(scope, sort, name, operands.len()) {
+                Err(Trouble::Breaks(at, Why::WrongType))
+            } else {
+                Err(Trouble::Breaks(at, Why::Unknown))
+            }
+        }
+    }
+}
+
+/// An operator with its operands, or an identifier with its actuals. The PROCs and OPs of the level are looked at first, and
+/// then the predefined ones.
+pub fn applied(
+    alloc: Global,
+    at: u32,
+    scope: &Scope,
+    sort: Sort,
+    name: &[u8],
+    operands: List<Meant>,
+) -> Judged
+    ensures { Is result (spec.applied at scope.now sort name.now operands) }
+{
+    match first_taking(scope.headings.as_slice(), sort, name, operands.as_slice()) {
+        Some((number, heading)) => called(alloc, at, number, &heading.what, operands),
+        None => predefined_as(alloc, at, scope, sort, name, operands),
+    }
+}

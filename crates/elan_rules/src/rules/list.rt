@@ -1,0 +1,151 @@
+//! Lists of units, and units that stand alone.
+
+ghost use Rattle.std.specs.Prelude.{◌≡◌, ◌++◌, OnOk, IfOk};
+ghost use Rattle.elan_rules.specs.declared.meant.Meant.TheVariants as means;
+ghost use Rattle.elan_rules.specs.Parts as part_specs;
+ghost use Rattle.elan_rules.specs.Units as spec;
+ghost use Rattle.elan_rules.specs.Answer.{Is};
+
+use crate::meant::Meant;
+use crate::row::Judged;
+use crate::rules::part::{one, unit_of, valued};
+use crate::trouble::Trouble;
+use elan_types::{Action, ElanType, ValuePhrase, Why};
+use eu_base::{Boxed, List, NoMemory};
+use std::alloc::Global;
+
+/// Adds the items of another list.
+pub fn append<T: Drop>(out: &mut List<T>, more: List<T>) -> Result<(), NoMemory>
+    ensures { OnOk result (out.new ≡ out.old ++ more) }
+{
+    for item in more.into_vec() {
+        out.push(item)?;
+    }
+    Ok(())
+}
+
+// One more part. The actions of one that ends with a LEAVE stand among the others.
+fn add(
+    alloc: Global,
+    actions: &mut List<Action>,
+    last: &mut Meant,
+    part: Meant,
+) -> Result<(), NoMemory>
+    ensures actions { OnOk result (actions.new ≡ actions.old ++ part_specs.actions part) }
+    ensures last { OnOk result (last.new ≡ spec.or_last last.old part) }
+{
+    match part {
+        Meant::Done(more) => append(actions, more),
+        Meant::Left(more) => {
+            *last = Meant::Left(List::new(alloc));
+            append(actions, more)
+        }
+        Meant::Value {
+            at,
+            of,
+            value,
+            variable,
+        } => {
+            *last = Meant::Value {
+                at,
+                of,
+                value,
+                variable,
+            };
+            Ok(())
+        }
+        Meant::Absent => Ok(()),
+        Meant::Labels(_labels) => Ok(()),
+        Meant::Branches(_branches) => Ok(()),
+        Meant::Arms(_arms) => Ok(()),
+        Meant::Counter(_counter) => Ok(()),
+        Meant::Bodies(_bodies) => Ok(()),
+        Meant::Level {
+            units: _units,
+            bodies: _bodies,
+        } => Ok(()),
+    }
+}
+
+// What parts do that deliver nothing, and the last part that delivers a value or ends with a LEAVE.
+#[tactic(auto, using(crate::proofs::Lists::actions_push, crate::proofs::Lists::last_push))]
+fn gathered(alloc: Global, parts: List<Meant>) -> Result<(List<Action>, Meant), NoMemory>
+    ensures { IfOk result (λ g. (g.0 ≡ part_specs.actions_of parts) × (g.1 ≡ spec.last_value means.Absent parts)) }
+{
+    let mut actions = List::new(alloc);
+    let mut last = Meant::Absent;
+    for part in parts.into_vec() {
+        add(alloc, &mut actions, &mut last, part)?;
+    }
+    Ok((actions, last))
+}
+
+// Actions, and then a value, if the last phrase delivers one.
+fn ended(alloc: Global, actions: List<Action>, last: Meant) -> Result<Meant, NoMemory>
+    ensures { IfOk result (λ m. m ≡ spec.ended actions last) }
+{
+    match last {
+        Meant::Value { at, of, value, .. } => {
+            let value = Boxed::new(alloc, value)?;
+            Ok(valued(at, of, ValuePhrase::After(actions, value)))
+        }
+        Meant::Left(_) => Ok(Meant::Left(actions)),
+        _ => Ok(Meant::Done(actions)),
+    }
+}
+
+/// A list of units, of which at most the last non-empty one delivers.
+pub fn in_order(alloc: Global, parts: List<Meant>) -> Result<Meant, NoMemory>
+    ensures { IfOk result (λ m. m ≡ spec.in_order parts) }
+{
+    let (actions, last) = gathered(alloc, parts)?;
+    ended(alloc, actions, last)
+}
+
+/// The items of a declaration.
+pub fn declaration(alloc: Global, parts: List<Meant>) -> Result<Meant, NoMemory>
+    ensures { IfOk result (λ m. m ≡ part_specs.unit_of (part_specs.actions_of parts)) }
+{
+    let (actions, _) = gathered(alloc, parts)?;
+    unit_of(alloc, actions)
+}
+
+fn value_unit(alloc: Global, at: u32, of: ElanType, value: ValuePhrase) -> Result<Meant, NoMemory>
+    ensures { IfOk result (λ m. m ≡ spec.value_unit at of value) }
+{
+    let value = Boxed::new(alloc, value)?;
+    Ok(valued(at, of, ValuePhrase::Unit(value)))
+}
+
+/// An expression that stands alone.
+pub fn alone(alloc: Global, meant: Meant) -> Judged
+    ensures { Is result (spec.alone meant) }
+{
+    match meant {
+        Meant::Value { at, of, value, .. } => {
+            let unit = value_unit(alloc, at, of, value)?;
+            Ok(unit)
+        }
+        Meant::Done(actions) => {
+            let unit = unit_of(alloc, actions)?;
+            Ok(unit)
+        }
+        Meant::Left(actions) => {
+            let units = one(alloc, Action::Unit(actions))?;
+            Ok(Meant::Left(units))
+        }
+        _ => Err(Trouble::Breaks(0, Why::Unknown)),
+    }
+}
+
+/// A unit that may deliver nothing.
+pub fn without_value(meant: Meant) -> Judged
+    ensures { Is result (spec.without_value meant) }
+{
+    match meant {
+        Meant::Value { at, .. } => Err(Trouble::Breaks(at, Why::WrongType)),
+        Meant::Left(actions) => Ok(Meant::Done(actions)),
+        Meant::Bodies(_) => Err(Trouble::Breaks(0, Why::Unknown)),
+        _ => Ok(meant),
+    }
+}

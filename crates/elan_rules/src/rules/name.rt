@@ -1,0 +1,220 @@
+//! Identifiers without actuals, and names in their declarations.
+
+ghost use Rattle.std.specs.Prelude.{◌≡◌, IfOk};
+ghost use Rattle.elan_types.specs.declared.core_phrase.Access.TheVariants as accesses;
+ghost use Rattle.elan_rules.specs.Calls as spec;
+ghost use Rattle.elan_rules.specs.Scope as scopes;
+ghost use Rattle.elan_rules.specs.Answer.{Is};
+
+use crate::delivery::Delivery;
+use crate::heading::{Sort, first_alike};
+use crate::known::Known;
+use crate::meant::Meant;
+use crate::row::Judged;
+use crate::rules::call::{applied, number_of};
+use crate::rules::part::{done, valued};
+use crate::scope::{Denotes, Found, Home, Scope};
+use crate::trouble::Trouble;
+use elan_types::{Access, Action, ElanType, Parameter, PlacePhrase, ValuePhrase, Why};
+use eu_base::{List, NoMemory};
+use std::alloc::Global;
+
+// The place of what is held with this access; only PROCs and OPs have parameters.
+fn place_in(home: Home, number: u16, access: Access) -> PlacePhrase
+    ensures { result ≡ spec.place_in home number access }
+{
+    match (home, access) {
+        (Home::Level, _) => PlacePhrase::Variable(number),
+        (Home::Routine, Access::Const) => PlacePhrase::Local(number),
+        (Home::Routine, Access::Var) => PlacePhrase::Parameter(number),
+    }
+}
+
+// Where a variable, constant or parameter is held.
+#[derive(Clone, Copy)]
+struct Held {
+    home: Home,
+    number: u16,
+    access: Access,
+}
+
+impl Held {
+    fn place(self) -> PlacePhrase
+        ensures { result ≡ spec.place_in self.home self.number self.access }
+    {
+        place_in(self.home, self.number, self.access)
+    }
+}
+
+fn variable(at: u32, of: ElanType, held: Held) -> Meant
+    ensures { result ≡ spec.variable at of (spec.place_in held.home held.number held.access) }
+{
+    Meant::Value {
+        at,
+        of,
+        value: ValuePhrase::Load(held.place(), of),
+        variable: Some(held.place()),
+    }
+}
+
+fn constant(at: u32, of: ElanType, held: Held) -> Meant
+    ensures { result ≡ spec.constant at of (spec.place_in held.home held.number held.access) }
+{
+    valued(at, of, ValuePhrase::Load(held.place(), of))
+}
+
+// A CONST parameter is a constant, a VAR parameter a variable.
+fn parameter(at: u32, home: Home, number: u16, parameter: Parameter) -> Meant
+    ensures { result ≡ spec.parameter at parameter.of parameter.access (spec.place_in home number parameter.access) }
+{
+    let held = Held {
+        home,
+        number,
+        access: parameter.access,
+    };
+    match parameter.access {
+        Access::Const => constant(at, parameter.of, held),
+        Access::Var => variable(at, parameter.of, held),
+    }
+}
+
+// ---- refinements
+
+// Where it is not known what a refinement delivers, a call of it hangs on that.
+fn referred(alloc: Global, at: u32, number: usize, delivery: Delivery) -> Judged
+    ensures { Is result (spec.referred at number delivery) }
+{
+    match delivery {
+        Delivery::Open => Err(Trouble::Hangs),
+        Delivery::Nothing => {
+            let meant = done(alloc, Action::Refer(number_of(number)?))?;
+            Ok(meant)
+        }
+        Delivery::Of(of) => Ok(valued(at, of, ValuePhrase::Refer(number_of(number)?, of))),
+    }
+}
+
+// A refinement does not call itself through any chain.
+fn refined(alloc: Global, known: &Known, at: u32, scope: &Scope, number: Option<usize>) -> Judged
+    ensures { Is result (spec.refined known.now at scope.now number) }
+{
+    match number {
+        None => Err(Trouble::Breaks(0, Why::Unknown)),
+        Some(number) => {
+            if known.leads_back(alloc, number, scope.refinement)? {
+                return Err(Trouble::Breaks(at, Why::WrongPlace));
+            }
+            referred(alloc, at, number, known.delivery_at(number))
+        }
+    }
+}
+
+// ---- identifiers without actuals
+
+fn denoted(
+    alloc: Global,
+    known: &Known,
+    at: u32,
+    scope: &Scope,
+    name: &[u8],
+    found: Found,
+) -> Judged
+    ensures { Is result (spec.denoted known.now at scope.now name.now found.home found.number found.denotes) }
+{
+    match found.denotes {
+        Denotes::Variable(of) => Ok(variable(at, of, plainly_held(found)?)),
+        Denotes::Constant(of) => Ok(constant(at, of, plainly_held(found)?)),
+        Denotes::Parameter(given) => {
+            let number = number_of(found.number)?;
+            Ok(parameter(at, found.home, number, given))
+        }
+        Denotes::Procedure => {
+            let actuals = List::new(alloc);
+            applied(alloc, at, scope, Sort::Procedure, name, actuals)
+        }
+        Denotes::Refinement => refined(alloc, known, at, scope, scope.refinement_named(name)),
+    }
+}
+
+// Where a variable or constant is held.
+fn plainly_held(found: Found) -> Result<Held, NoMemory>
+    ensures home { IfOk result (λ held. held.home ≡ found.home) }
+    ensures number { IfOk result (λ held. held.number ≡ found.number) }
+    ensures access { IfOk result (λ held. held.access ≡ accesses.Const) }
+{
+    let number = number_of(found.number)?;
+    Ok(Held {
+        home: found.home,
+        number,
+        access: Access::Const,
+    })
+}
+
+/// An identifier without actuals.
+pub fn named(alloc: Global, known: &Known, at: u32, scope: &Scope, name: &[u8]) -> Judged
+    ensures { Is result (spec.named known.now at scope.now name.now (scopes.find scope.now name.now)) }
+{
+    match scope.find(name) {
+        Some(found) => denoted(alloc, known, at, scope, name, found),
+        None => applied(alloc, at, scope, Sort::Procedure, name, List::new(alloc)),
+    }
+}
+
+// ---- declarations
+
+// A variable or constant can be given its initial value; nothing else has to be done.
+fn declared_as(alloc: Global, at: u32, found: Found) -> Result<Meant, NoMemory>
+    ensures { IfOk result (λ m. m ≡ spec.declared_as at found.home found.number found.denotes) }
+{
+    match found.denotes {
+        Denotes::Variable(of) => Ok(variable(at, of, plainly_held(found)?)),
+        Denotes::Constant(of) => Ok(variable(at, of, plainly_held(found)?)),
+        Denotes::Parameter(_) => Ok(Meant::Done(List::new(alloc))),
+        Denotes::Procedure => Ok(Meant::Done(List::new(alloc))),
+        Denotes::Refinement => Ok(Meant::Done(List::new(alloc))),
+    }
+}
+
+/// A name in its declaration. It is declared where the first declaration of that name is this one.
+pub fn declared(alloc: Global, at: u32, scope: &Scope, name: &[u8]) -> Judged
+    ensures { Is result (spec.declared at (scopes.find_own scope.now name.now)) }
+{
+    match scope.find_own(name) {
+        None => Err(Trouble::Breaks(0, Why::Unknown)),
+        Some(found) => {
+            if found.at == at {
+                let meant = declared_as(alloc, at, found)?;
+                Ok(meant)
+            } else {
+                Err(Trouble::Breaks(at, Why::Doubled))
+            }
+        }
+    }
+}
+
+/// The heading of a PROC or OP, of which the first with equal name and types of parameters is this one. A value is missing
+/// where it delivers one and its body has no unit.
+pub fn headed(
+    alloc: Global,
+    at: u32,
+    scope: &Scope,
+    sort: Sort,
+    name: &[u8],
+    parameters: &[Parameter],
+    missing: bool,
+) -> Judged
+    ensures { Is result (spec.headed at missing (scopes.first_heading (scopes.is_alike sort name.now (scopes.types_of parameters.now)) scope.now.headings)) }
+{
+    match first_alike(scope.headings.as_slice(), sort, name, parameters) {
+        None => Err(Trouble::Breaks(0, Why::Unknown)),
+        Some((_, heading)) => {
+            if heading.at != at {
+                Err(Trouble::Breaks(at, Why::Doubled))
+            } else if missing {
+                Err(Trouble::Breaks(at, Why::WrongType))
+            } else {
+                Ok(Meant::Done(List::new(alloc)))
+            }
+        }
+    }
+}

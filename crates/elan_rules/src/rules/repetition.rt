@@ -1,0 +1,196 @@
+//! Loops.
+
+ghost use Rattle.std.specs.Prelude.{◌≡◌, IfOk};
+ghost use Rattle.elan_rules.specs.Loops as spec;
+ghost use Rattle.elan_rules.specs.Parts as parts;
+ghost use Rattle.elan_rules.specs.Answer.{Is};
+
+use crate::meant::{Counted, Meant};
+use crate::predefined::delivers;
+use crate::row::Judged;
+use crate::rules::part::{actions, may_deliver, place_of, unit_doing, variable_of, written};
+use crate::trouble::Trouble;
+use elan_types::{Action, ElanType, PlacePhrase, ValuePhrase, Way, Why};
+use eu_base::{List, NoMemory};
+use std::alloc::Global;
+
+fn are_numbers(name: &Meant, from: &Meant, limit: &Meant) -> bool
+    ensures { result ≡ spec.are_numbers name.now from.now limit.now }
+{
+    delivers(ElanType::Int, name)
+        && may_deliver(ElanType::Int, from)
+        && may_deliver(ElanType::Int, limit)
+}
+
+fn first_value(from: Option<ValuePhrase>) -> ValuePhrase
+    ensures { result ≡ spec.first_value from }
+{
+    match from {
+        None => ValuePhrase::Number(1),
+        Some(value) => value,
+    }
+}
+
+/// A counter, its first value, and its limit.
+pub fn counted(way: Way, name: Meant, from: Meant, limit: Meant) -> Counted
+    ensures { result ≡ spec.counted way name from limit }
+{
+    Counted {
+        are_numbers: are_numbers(&name, &from, &limit),
+        at: place_of(&name),
+        place: variable_of(name),
+        from: first_value(written(from)),
+        way,
+        limit: written(limit),
+    }
+}
+
+// What a loop does in its turns.
+#[derive(Drop)]
+struct Turns {
+    condition: Option<ValuePhrase>,
+    units: List<Action>,
+    until: Option<ValuePhrase>,
+}
+
+fn in_turns(alloc: Global, condition: Meant, units: Meant, until: Meant) -> Turns
+    ensures condition { result.condition ≡ parts.written condition }
+    ensures units { result.units ≡ parts.actions units }
+    ensures until { result.until ≡ parts.written until }
+{
+    Turns {
+        condition: written(condition),
+        units: actions(alloc, units),
+        until: written(until),
+    }
+}
+
+fn count(
+    alloc: Global,
+    counter: PlacePhrase,
+    from: ValuePhrase,
+    way: Way,
+    limit: Option<ValuePhrase>,
+    turns: Turns,
+) -> Result<Meant, NoMemory>
+    ensures { IfOk result (λ m. m ≡ spec.count counter from way limit turns.condition turns.units turns.until) }
+{
+    let Turns {
+        condition,
+        units,
+        until,
+    } = turns;
+    unit_doing(
+        alloc,
+        Action::Count {
+            counter,
+            from,
+            way,
+            limit,
+            condition,
+            units,
+            until,
+        },
+    )
+}
+
+fn uncounted(alloc: Global, turns: Turns) -> Result<Meant, NoMemory>
+    ensures { IfOk result (λ m. m ≡ spec.uncounted turns.condition turns.units turns.until) }
+{
+    let Turns {
+        condition,
+        units,
+        until,
+    } = turns;
+    unit_doing(
+        alloc,
+        Action::Loop {
+            condition,
+            units,
+            until,
+        },
+    )
+}
+
+// A variable is needed as a counter.
+fn counting(alloc: Global, counter: Counted, turns: Turns) -> Judged
+    ensures { Is result (spec.counting counter counter.place turns.condition turns.units turns.until) }
+{
+    let Counted {
+        at,
+        place,
+        from,
+        way,
+        limit,
+        ..
+    } = counter;
+    match place {
+        None => Err(Trouble::Breaks(at, Why::NoVariable)),
+        Some(place) => {
+            let meant = count(alloc, place, from, way, limit, turns)?;
+            Ok(meant)
+        }
+    }
+}
+
+// The counter, if it and its bounds are numbers.
+fn in_numbers(at: u32, counter: Counted) -> Result<Counted, Trouble>
+    ensures { Is result (spec.in_numbers at counter) }
+{
+    if counter.are_numbers {
+        Ok(counter)
+    } else {
+        Err(Trouble::Breaks(at, Why::WrongType))
+    }
+}
+
+fn looped(alloc: Global, at: u32, counter: Option<Counted>, turns: Turns) -> Judged
+    ensures { Is result (spec.looped at counter turns.condition turns.units turns.until) }
+{
+    match counter {
+        None => {
+            let meant = uncounted(alloc, turns)?;
+            Ok(meant)
+        }
+        Some(counter) => {
+            let counter = in_numbers(at, counter)?;
+            counting(alloc, counter, turns)
+        }
+    }
+}
+
+fn conditions(condition: &Meant, until: &Meant) -> bool
+    ensures { result ≡ spec.conditions condition.now until.now }
+{
+    may_deliver(ElanType::Bool, condition) && may_deliver(ElanType::Bool, until)
+}
+
+fn counter_in(meant: Meant) -> Option<Counted>
+    ensures { result ≡ spec.counter_in meant }
+{
+    match meant {
+        Meant::Counter(counter) => Some(counter),
+        _ => None,
+    }
+}
+
+/// A loop: its counter, the condition of WHILE, its units, and the condition of UNTIL.
+pub fn repeated(
+    alloc: Global,
+    at: u32,
+    counter: Meant,
+    condition: Meant,
+    units: Meant,
+    until: Meant,
+) -> Judged
+    ensures { Is result (spec.loop at counter condition units until) }
+{
+    let fit = conditions(&condition, &until);
+    let turns = in_turns(alloc, condition, units, until);
+    let counter = counter_in(counter);
+    if fit {
+        looped(alloc, at, counter, turns)
+    } else {
+        Err(Trouble::Breaks(at, Why::WrongType))
+    }
+}

@@ -1,0 +1,283 @@
+//! SELECT: labels, and parts that deliver the same.
+
+ghost use Rattle.std.specs.Prelude.{◌≡◌, ◌++◌, ◌∷◌, [], IfOk, OnOk, Some};
+ghost use Rattle.elan_rules.specs.declared.meant.Meant.TheVariants as means;
+ghost use Rattle.elan_rules.specs.Choices as spec;
+ghost use Rattle.elan_rules.specs.Answer.{Is, Gives};
+
+use crate::delivery::Delivery;
+use crate::meant::{Labelled, Meant, Part};
+use crate::predefined::{delivers, exists};
+use crate::row::Judged;
+use crate::rules::part::{blank, one, part_of, unreached, value_of, valued};
+use crate::scope::Found;
+use crate::trouble::Trouble;
+use elan_types::{Action, Arm, ElanType, ValueArm, ValuePhrase, Why};
+use eu_base::{Boxed, List, NoMemory};
+use std::alloc::Global;
+
+fn is_in(labels: &[i16], number: i16) -> bool
+    ensures { result ≡ spec.is_in labels.now number }
+{
+    for label in labels {
+        if *label == number {
+            return true;
+        }
+    }
+    false
+}
+
+/// A label after others.
+pub fn label_is(at: u32, earlier: &[i16], number: i16) -> Result<i16, Trouble>
+    ensures { Gives (λ n. means.Labels (n ∷ [])) result (spec.label_is at earlier.now number) }
+{
+    if is_in(earlier, number) {
+        Err(Trouble::Breaks(at, Why::Doubled))
+    } else {
+        Ok(number)
+    }
+}
+
+/// An identifier as a label, and the declaration that it denotes.
+pub fn label_named(at: u32, name: &[u8], found: Option<Found>) -> Result<i16, Trouble>
+    ensures { Gives (λ n. means.Labels (n ∷ [])) result (spec.label_named at name.now found) }
+{
+    match found {
+        Some(_) => Err(Trouble::Breaks(at, Why::WrongType)),
+        None => {
+            if exists(name, 0) {
+                Err(Trouble::Breaks(at, Why::WrongType))
+            } else {
+                Err(Trouble::Breaks(at, Why::Unknown))
+            }
+        }
+    }
+}
+
+fn labels_in(alloc: Global, meant: Meant) -> List<i16>
+    ensures { result ≡ spec.labels_in meant }
+{
+    match meant {
+        Meant::Labels(labels) => labels,
+        _ => List::new(alloc),
+    }
+}
+
+/// Labels, and the units that they choose.
+pub fn labelled(alloc: Global, labels: Meant, units: Meant) -> Labelled
+    ensures { result ≡ spec.arm_of (spec.labels_in labels) units }
+{
+    Labelled {
+        labels: labels_in(alloc, labels),
+        part: part_of(alloc, units),
+    }
+}
+
+// Adds the arms of a part.
+fn add_arms(out: &mut List<Labelled>, part: Meant) -> Result<(), NoMemory>
+    ensures { OnOk result (out.new ≡ out.old ++ spec.arms_in part) }
+{
+    if let Meant::Arms(arms) = part {
+        for arm in arms.into_vec() {
+            out.push(arm)?;
+        }
+    }
+    Ok(())
+}
+
+/// The arms of parts, one after another.
+#[tactic(auto, using(crate::proofs::Lists::arms_push))]
+pub fn arms_of(alloc: Global, parts: List<Meant>) -> Result<List<Labelled>, NoMemory>
+    ensures { IfOk result (λ arms. arms ≡ spec.arms_of parts) }
+{
+    let mut arms = List::new(alloc);
+    for part in parts.into_vec() {
+        add_arms(&mut arms, part)?;
+    }
+    Ok(arms)
+}
+
+// What a part delivers. One that ends with a LEAVE agrees with every type.
+fn delivery_in(part: &Part) -> Delivery
+    ensures { result ≡ spec.delivery_in part.now }
+{
+    match part {
+        Part::Done(_) => Delivery::Nothing,
+        Part::Value(of, _) => Delivery::Of(*of),
+        Part::Left(_) => Delivery::Open,
+    }
+}
+
+fn joined(delivery: Delivery, other: Delivery) -> Option<Delivery>
+    ensures { result ≡ spec.joined delivery other }
+{
+    match (delivery, other) {
+        (Delivery::Open, other) => Some(other),
+        (Delivery::Nothing, Delivery::Open) => Some(Delivery::Nothing),
+        (Delivery::Nothing, Delivery::Nothing) => Some(Delivery::Nothing),
+        (Delivery::Nothing, Delivery::Of(_)) => None,
+        (Delivery::Of(of), Delivery::Open) => Some(Delivery::Of(of)),
+        (Delivery::Of(_), Delivery::Nothing) => None,
+        (Delivery::Of(of), Delivery::Of(other)) => {
+            if of.is_same(other) {
+                Some(Delivery::Of(of))
+            } else {
+                None
+            }
+        }
+    }
+}
+
+// What all parts deliver, if they agree.
+fn agreed(delivery: Delivery, arms: &[Labelled]) -> Option<Delivery>
+    ensures { result ≡ spec.agreed (Some delivery) arms.now }
+{
+    let mut agreed = Some(delivery);
+    for arm in arms {
+        agreed = match agreed {
+            None => None,
+            Some(delivery) => joined(delivery, delivery_in(&arm.part)),
+        };
+    }
+    agreed
+}
+
+fn part_actions(alloc: Global, part: Part) -> List<Action>
+    ensures { result ≡ spec.part_actions part }
+{
+    match part {
+        Part::Done(actions) => actions,
+        Part::Left(actions) => actions,
+        Part::Value(_, _) => List::new(alloc),
+    }
+}
+
+fn part_value(alloc: Global, of: ElanType, part: Part) -> Result<ValuePhrase, NoMemory>
+    ensures { IfOk result (λ value. value ≡ spec.part_value of part) }
+{
+    match part {
+        Part::Done(_actions) => Ok(blank(of)),
+        Part::Left(actions) => unreached(alloc, actions, of),
+        Part::Value(_, value) => Ok(value),
+    }
+}
+
+fn action_arm(alloc: Global, arm: Labelled) -> Arm
+    ensures { result ≡ spec.action_arm arm }
+{
+    let Labelled { labels, part } = arm;
+    Arm {
+        labels,
+        units: part_actions(alloc, part),
+    }
+}
+
+fn value_arm(alloc: Global, of: ElanType, arm: Labelled) -> Result<ValueArm, NoMemory>
+    ensures { IfOk result (λ a. a ≡ spec.value_arm of arm) }
+{
+    let Labelled { labels, part } = arm;
+    let value = part_value(alloc, of, part)?;
+    Ok(ValueArm { labels, value })
+}
+
+#[tactic(auto, using(crate::proofs::Lists::action_arms_push))]
+fn action_arms(alloc: Global, arms: List<Labelled>) -> Result<List<Arm>, NoMemory>
+    ensures { IfOk result (λ list. list ≡ spec.action_arms arms) }
+{
+    let mut list = List::new(alloc);
+    for arm in arms.into_vec() {
+        list.push(action_arm(alloc, arm))?;
+    }
+    Ok(list)
+}
+
+#[tactic(auto, using(crate::proofs::Lists::value_arms_push))]
+fn value_arms(alloc: Global, of: ElanType, arms: List<Labelled>) -> Result<List<ValueArm>, NoMemory>
+    ensures { IfOk result (λ list. list ≡ spec.value_arms of arms) }
+{
+    let mut list = List::new(alloc);
+    for arm in arms.into_vec() {
+        let arm = value_arm(alloc, of, arm)?;
+        list.push(arm)?;
+    }
+    Ok(list)
+}
+
+fn select_actions(
+    alloc: Global,
+    value: ValuePhrase,
+    arms: List<Labelled>,
+    otherwise: Part,
+) -> Result<List<Action>, NoMemory>
+    ensures { IfOk result (λ actions. actions ≡ spec.select_actions value arms otherwise) }
+{
+    let arms = action_arms(alloc, arms)?;
+    let units = part_actions(alloc, otherwise);
+    one(alloc, Action::Select(value, arms, units))
+}
+
+fn select_value(
+    alloc: Global,
+    of: ElanType,
+    value: ValuePhrase,
+    arms: List<Labelled>,
+    otherwise: Part,
+) -> Result<ValuePhrase, NoMemory>
+    ensures { IfOk result (λ v. v ≡ spec.select_value of value arms otherwise) }
+{
+    let arms = value_arms(alloc, of, arms)?;
+    let last = part_value(alloc, of, otherwise)?;
+    let value = Boxed::new(alloc, value)?;
+    let last = Boxed::new(alloc, last)?;
+    Ok(ValuePhrase::Select(value, arms, last))
+}
+
+fn selected_by(
+    alloc: Global,
+    at: u32,
+    value: ValuePhrase,
+    arms: List<Labelled>,
+    otherwise: Part,
+) -> Judged
+    ensures { Is result (spec.selected_by at value arms otherwise) }
+{
+    match agreed(delivery_in(&otherwise), arms.as_slice()) {
+        None => Err(Trouble::Breaks(at, Why::WrongType)),
+        Some(Delivery::Nothing) => {
+            let actions = select_actions(alloc, value, arms, otherwise)?;
+            Ok(Meant::Done(actions))
+        }
+        Some(Delivery::Open) => {
+            let actions = select_actions(alloc, value, arms, otherwise)?;
+            Ok(Meant::Left(actions))
+        }
+        Some(Delivery::Of(of)) => {
+            let value = select_value(alloc, of, value, arms, otherwise)?;
+            Ok(valued(at, of, value))
+        }
+    }
+}
+
+fn arms_in(alloc: Global, meant: Meant) -> List<Labelled>
+    ensures { result ≡ spec.arms_in meant }
+{
+    match meant {
+        Meant::Arms(arms) => arms,
+        _ => List::new(alloc),
+    }
+}
+
+/// The value to choose by, arms, and the units of OTHERWISE.
+pub fn selected(alloc: Global, at: u32, value: Meant, arms: Meant, otherwise: Meant) -> Judged
+    ensures { Is result (spec.selected at value arms otherwise) }
+{
+    let is_number = delivers(ElanType::Int, &value);
+    let value = value_of(value);
+    let arms = arms_in(alloc, arms);
+    let otherwise = part_of(alloc, otherwise);
+    if is_number {
+        selected_by(alloc, at, value, arms, otherwise)
+    } else {
+        Err(Trouble::Breaks(at, Why::WrongType))
+    }
+}

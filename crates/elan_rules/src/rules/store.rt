@@ -1,0 +1,77 @@
+//! Assignments and initial values.
+
+ghost use Rattle.std.specs.Prelude.{◌≡◌};
+ghost use Rattle.elan_rules.specs.Units as spec;
+ghost use Rattle.elan_rules.specs.Answer.{Is};
+
+use crate::meant::Meant;
+use crate::predefined::delivers;
+use crate::row::Judged;
+use crate::rules::part::{done, place_of, type_in, unit_doing, value_of, variable_of};
+use crate::trouble::Trouble;
+use elan_types::{Action, ElanType, PlacePhrase, ValuePhrase, Why};
+use std::alloc::Global;
+
+// A variable is needed at the left.
+fn assigned_to(
+    alloc: Global,
+    place: Option<PlacePhrase>,
+    at: u32,
+    of: ElanType,
+    value: ValuePhrase,
+) -> Judged
+    ensures { Is result (spec.assigned_to place at of value) }
+{
+    match place {
+        None => Err(Trouble::Breaks(at, Why::NoVariable)),
+        Some(place) => {
+            let meant = unit_doing(alloc, Action::Store(place, of, value))?;
+            Ok(meant)
+        }
+    }
+}
+
+// The type that both deliver.
+fn agreed(at: u32, left: &Meant, right: &Meant) -> Result<ElanType, Trouble>
+    ensures { Is result (spec.agreed at left.now right.now) }
+{
+    match type_in(left) {
+        None => Err(Trouble::Breaks(at, Why::WrongType)),
+        Some(of) => {
+            if delivers(of, right) {
+                Ok(of)
+            } else {
+                Err(Trouble::Breaks(at, Why::WrongType))
+            }
+        }
+    }
+}
+
+/// An assignment.
+pub fn assigned(alloc: Global, at: u32, left: Meant, right: Meant) -> Judged
+    ensures { Is result (spec.assigned at left right) }
+{
+    let of = agreed(at, &left, &right)?;
+    let place = place_of(&left);
+    assigned_to(alloc, variable_of(left), place, of, value_of(right))
+}
+
+fn initial_to(alloc: Global, place: Option<PlacePhrase>, of: ElanType, value: ValuePhrase) -> Judged
+    ensures { Is result (spec.initial_to place of value) }
+{
+    match place {
+        None => Err(Trouble::Breaks(0, Why::Unknown)),
+        Some(place) => {
+            let meant = done(alloc, Action::Store(place, of, value))?;
+            Ok(meant)
+        }
+    }
+}
+
+/// A name in its declaration, and its initial value.
+pub fn initial(alloc: Global, at: u32, name: Meant, init: Meant) -> Judged
+    ensures { Is result (spec.initial at name init) }
+{
+    let of = agreed(at, &name, &init)?;
+    initial_to(alloc, variable_of(name), of, value_of(init))
+}

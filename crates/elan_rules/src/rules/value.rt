@@ -1,0 +1,78 @@
+//! Numbers, brackets, CAND and COR.
+
+ghost use Rattle.std.specs.Prelude.{◌≡◌, IfOk};
+ghost use Rattle.elan_rules.specs.Rules as spec;
+ghost use Rattle.elan_rules.specs.Ruled.{gives};
+ghost use Rattle.elan_rules.specs.Answer.{Is};
+
+use crate::meant::Meant;
+use crate::predefined::delivers;
+use crate::row::Judged;
+use crate::rules::part::{value_of, valued};
+use crate::trouble::Trouble;
+use elan_types::{ElanType, ValuePhrase, Why};
+use eu_base::{Boxed, NoMemory};
+use std::alloc::Global;
+
+/// A number that is written.
+#[tactic(auto, using(crate::proofs::Numbers::number_gives))]
+pub fn number(at: u32, number: i16) -> Meant
+    ensures { spec.number at number ≡ gives result }
+{
+    valued(at, ElanType::Int, ValuePhrase::Number(number))
+}
+
+pub fn bracketed(at: u32, meant: Meant) -> Judged
+    ensures { Is result (spec.bracketed at meant) }
+{
+    match meant {
+        Meant::Value { of, value, .. } => Ok(valued(at, of, value)),
+        Meant::Done(actions) => Ok(Meant::Done(actions)),
+        Meant::Left(actions) => Ok(Meant::Left(actions)),
+        _ => Err(Trouble::Breaks(0, Why::Unknown)),
+    }
+}
+
+fn are_truths(left: &Meant, right: &Meant) -> bool
+    ensures { result ≡ spec.are_truths left.now right.now }
+{
+    delivers(ElanType::Bool, left) && delivers(ElanType::Bool, right)
+}
+
+fn cand_of(alloc: Global, at: u32, left: ValuePhrase, right: ValuePhrase) -> Result<Meant, NoMemory>
+    ensures { IfOk result (λ m. m ≡ spec.cand_of at left right) }
+{
+    let left = Boxed::new(alloc, left)?;
+    let right = Boxed::new(alloc, right)?;
+    Ok(valued(at, ElanType::Bool, ValuePhrase::Cand(left, right)))
+}
+
+fn cor_of(alloc: Global, at: u32, left: ValuePhrase, right: ValuePhrase) -> Result<Meant, NoMemory>
+    ensures { IfOk result (λ m. m ≡ spec.cor_of at left right) }
+{
+    let left = Boxed::new(alloc, left)?;
+    let right = Boxed::new(alloc, right)?;
+    Ok(valued(at, ElanType::Bool, ValuePhrase::Cor(left, right)))
+}
+
+pub fn cand(alloc: Global, at: u32, left: Meant, right: Meant) -> Judged
+    ensures { Is result (spec.cand at left right) }
+{
+    if are_truths(&left, &right) {
+        let meant = cand_of(alloc, at, value_of(left), value_of(right))?;
+        Ok(meant)
+    } else {
+        Err(Trouble::Breaks(at, Why::WrongType))
+    }
+}
+
+pub fn cor(alloc: Global, at: u32, left: Meant, right: Meant) -> Judged
+    ensures { Is result (spec.cor at left right) }
+{
+    if are_truths(&left, &right) {
+        let meant = cor_of(alloc, at, value_of(left), value_of(right))?;
+        Ok(meant)
+    } else {
+        Err(Trouble::Breaks(at, Why::WrongType))
+    }
+}
