@@ -18,3 +18,5 @@ pub mod Walks
 pub mod Firm
 pub mod Hanging
 pub mod Spots
+pub mod Rows
+pub mod Shapes

@@ -1,28 +1,163 @@
--- What was judged, before what is left.
-use Rattle.std.proofs.Common.{◌≡◌, ℤ, List, [], ◌∷◌, ◌++◌, map, refl, ap, sym, ◌∙◌, append_assoc, ℕ, ◌+◌, ◌<◌, suc, Bool, true, false, ◌&&◌, length, get_or, drop, drop-cons, add-one, ◌-◌, take, subst, arith, length-drop}
-use Rattle.std.proofs.lemmas.List.{append-nil, take_all}
+-- Rows of phrases: what their parts mean together.
+use Rattle.std.proofs.Common.{◌≡◌, ℤ, List, [], ◌∷◌, ◌++◌, map, Result, refl, ap, sym, ◌∙◌, append_assoc, ℕ, ◌+◌, ◌<◌, suc, Bool, true, false, ◌&&◌, length, get_or, drop, take, drop-cons, add-one, ◌-◌, ◌≤◌, zero, subst, arith, length-drop}
+use Rattle.std.proofs.lemmas.List.{append-nil, take_all, map_more}
 use Rattle.elan_tree.specs.declared.phrase.Unit.{Unit as Statement}
-use Rattle.elan_rules.specs.declared.scope.Scope.{Scope}
-use Rattle.elan_check.specs.Shape.{unit, is_empty, all_empty, role, roles}
-use Rattle.elan_rules.specs.Answer.{afters, after, Is, Fails}
-use Rattle.elan_rules.specs.Phrase as form
-use Rattle.elan_rules.specs.Phrase.{Form}
-use Rattle.elan_rules.specs.Rules.{rule}
-use Rattle.eu_base.specs.declared.operation.Way.{Way}
-use Rattle.std.proofs.Common.{Result}
-use Rattle.elan_check.specs.declared.error.CheckError.{CheckError}
-use Rattle.elan_check.specs.declared.error.CheckError.TheVariants.{NoMemory, NoMeaning, NotBuilt}
-use Rattle.elan_rules.specs.declared.meant.Guarded.{Guarded}
-use Rattle.elan_rules.specs.declared.meant.Labelled.{Labelled}
+use Rattle.elan_tree.specs.declared.phrase.Case.{Case, rolls-Case'}
+use Rattle.elan_tree.specs.declared.phrase.Expr.TheFolds.{fold-roll-Case}
+use Rattle.elan_tree.specs.declared.written_type.Label.{Label}
+use Rattle.elan_rules.specs.declared.known.Known.{Known}
 use Rattle.elan_rules.specs.declared.meant.Meant.{Meant}
-use Rattle.elan_rules.specs.declared.meant.Meant.TheVariants.{Labels, Branches, Arms}
-use Rattle.elan_rules.specs.Rules.{labels_of, branches_of, arms_of}
-use Rattle.elan_rules.specs.Phrase.{Phrase, Parts, part, all_of}
-use Rattle.elan_rules.specs.Ruled.{Fault, Ruled, gives, breaks, hangs, ◌>>=◌, before}
+use Rattle.elan_rules.specs.declared.meant.Meant.TheVariants.{Labels}
+use Rattle.elan_rules.specs.declared.scope.Scope.{Scope}
+use Rattle.elan_rules.specs.declared.trouble.Trouble.{Trouble}
+use Rattle.elan_rules.specs.declared.trouble.Trouble.TheVariants.{NoMemory, Breaks, Hangs}
+use Rattle.elan_rules.specs.Answer.{Is, Fails, beside, joined}
+use Rattle.elan_rules.specs.Choices.{labels_of}
 use Rattle.elan_rules.specs.Meaning.{judged, judged_all}
+use Rattle.elan_rules.specs.Phrase.{Form, Phrase, phrase, Parts, all_of, is_empty, all_empty}
+use Rattle.elan_rules.specs.Ruled.{Ruled, gives, breaks, hangs, ◌>>=◌, before, hung}
+use Rattle.elan_rules.specs.Rules.{rule}
+use Rattle.elan_check.specs.Shape.{unit, case, role, roles, numbers, arm_phrase, arm_phrases}
 
-cut : {X : Type 0} (xs : List X) (i : ℕ) (x : X) → i < length xs → x ≡ get_or xs i x → drop i xs ≡ x ∷ drop (suc i) xs
-cut xs i x lt e = drop-cons xs i x lt ∙ ap (λ y. y ∷ drop (suc i) xs) (sym e)
+-- ---- a phrase, by what its parts mean
+
+pub bind_fails : {A B : Type 0} (d : Trouble) (r : Ruled A) (f : A → Ruled B) → Fails d r → Fails d (r >>= f)
+bind_fails NoMemory r f h = tt
+bind_fails (Breaks at why) r f h = ap (λ z. z >>= f) h
+bind_fails Hangs r f h = ap (λ z. z >>= f) h
+
+module _ (k : Known) (f : Form) (ps : Parts) where
+  pub whole_fails : (d : Trouble) → Fails d (judged_all k ps) → Fails d (judged k (phrase f ps))
+  whole_fails d h = bind_fails d (judged_all k ps) (rule k f) h
+
+  pub whole_is : (out : Result Meant Trouble) (ms : List Meant) → judged_all k ps ≡ gives ms → Is out (rule k f ms) → Is out (judged k (phrase f ps))
+  whole_is out ms e h = subst (λ (z : Ruled (List Meant)). Is out (z >>= rule k f)) (sym e) h
+
+-- ---- a row with one more phrase
+
+before_joined : (q : Ruled Meant) (rs : Ruled (List Meant)) (r : Ruled Meant) → before q (joined rs r) ≡ joined (before q rs) r
+before_joined (gives m) (gives ms) (gives n) = refl
+before_joined (gives m) (gives ms) (breaks f) = refl
+before_joined (gives m) (gives ms) hangs = refl
+before_joined (gives m) (breaks f) r = refl
+before_joined (gives m) hangs (gives n) = refl
+before_joined (gives m) hangs (breaks f) = refl
+before_joined (gives m) hangs hangs = refl
+before_joined (breaks f) rs r = refl
+before_joined hangs (gives ms) (gives n) = refl
+before_joined hangs (gives ms) (breaks f) = refl
+before_joined hangs (gives ms) hangs = refl
+before_joined hangs (breaks f) r = refl
+before_joined hangs hangs (gives n) = refl
+before_joined hangs hangs (breaks f) = refl
+before_joined hangs hangs hangs = refl
+
+single_joined : (r : Ruled Meant) → before r (gives []) ≡ joined (gives []) r
+single_joined (gives m) = refl
+single_joined (breaks f) = refl
+single_joined hangs = refl
+
+module _ (k : Known) where
+  pub row_push : (ps : List Phrase) (p : Phrase) → judged_all k (all_of (ps ++ p ∷ [])) ≡ joined (judged_all k (all_of ps)) (judged k p)
+  row_push [] p = single_joined (judged k p)
+  row_push (q ∷ ps) p = ap (before (judged k q)) (row_push ps p) ∙ before_joined (judged k q) (judged_all k (all_of ps)) (judged k p)
+
+  pub row_is : (q : Result (List Meant) Trouble) (ps : List Phrase) (p : Phrase) → Is q (joined (judged_all k (all_of ps)) (judged k p)) → Is q (judged_all k (all_of (ps ++ p ∷ [])))
+  row_is q ps p h = subst (λ (z : Ruled (List Meant)). Is q z) (sym (row_push ps p)) h
+
+  -- ---- a row of phrases, one for each element
+
+  pub row_goes : {X : Type 0} (f : X → Phrase) (xs : List X) (i : ℕ) (x : X) (q : Result (List Meant) Trouble) → i < length xs → x ≡ get_or xs i x → Is q (joined (judged_all k (all_of (map f (take i xs)))) (judged k (f x))) → Is q (judged_all k (all_of (map f (take (i + 1) xs))))
+  row_goes f xs i x q lt e h =
+      subst (λ (ps : List Phrase). Is q (judged_all k (all_of ps))) (sym (map_more f xs i x lt ∙ ap (λ y. map f (take i xs) ++ f y ∷ []) (sym e))) (row_is q (map f (take i xs)) (f x) h)
+
+  pub row_ends : {X : Type 0} (f : X → Phrase) (xs : List X) (i : ℕ) (q : Result (List Meant) Trouble) → length xs ≤ i → Is q (judged_all k (all_of (map f (take i xs)))) → Is q (judged_all k (all_of (map f xs)))
+  row_ends f xs i q le h = subst (λ ys. Is q (judged_all k (all_of (map f ys)))) (take_all i xs le) h
+
+  -- ---- a row of units that deliver nothing
+
+  roles_push : (ps : List Phrase) (p : Phrase) → roles false (ps ++ p ∷ []) ≡ roles false ps ++ role false p ∷ []
+  roles_push [] p = refl
+  roles_push (q ∷ ps) p = ap (λ (l : List Phrase). role false q ∷ l) (roles_push ps p)
+
+  pub plain_goes : {X : Type 0} (f : X → Phrase) (xs : List X) (i : ℕ) (x : X) (q : Result (List Meant) Trouble) → i < length xs → x ≡ get_or xs i x → Is q (joined (judged_all k (all_of (roles false (map f (take i xs))))) (judged k (role false (f x)))) → Is q (judged_all k (all_of (roles false (map f (take (i + 1) xs)))))
+  plain_goes f xs i x q lt e h =
+      subst (λ (ps : List Phrase). Is q (judged_all k (all_of ps)))
+      (sym (ap (roles false) (map_more f xs i x lt ∙ ap (λ y. map f (take i xs) ++ f y ∷ []) (sym e)) ∙ roles_push (map f (take i xs)) (f x)))
+      (row_is q (roles false (map f (take i xs))) (role false (f x)) h)
+
+  pub plain_ends : {X : Type 0} (f : X → Phrase) (xs : List X) (i : ℕ) (q : Result (List Meant) Trouble) → length xs ≤ i → Is q (judged_all k (all_of (roles false (map f (take i xs))))) → Is q (judged_all k (all_of (roles false (map f xs))))
+  plain_ends f xs i q le h = subst (λ ys. Is q (judged_all k (all_of (roles false (map f ys))))) (take_all i xs le) h
+
+-- ---- a row of units, of which the last may deliver
+
+module _ (k : Known) (s : Scope) (may : Bool) where
+  roles_suc : (us : List Statement) (i : ℕ) (u : Statement) → i < length us → u ≡ get_or us i u →
+      take (suc i) (roles may (map (unit s) us)) ≡ take i (roles may (map (unit s) us)) ++ role (may && all_empty (map (unit s) (drop (suc i) us))) (unit s u) ∷ []
+  roles_suc [] i u lt e = absurd (omega arith)
+  roles_suc (v ∷ us) zero u lt e = ap (λ (w : Statement). role (may && all_empty (map (unit s) us)) (unit s w) ∷ []) (sym e)
+  roles_suc (v ∷ us) (suc i) u lt e = ap (λ (l : List Phrase). role (may && all_empty (map (unit s) us)) (unit s v) ∷ l) (roles_suc us i u (omega arith) e)
+
+  roles_length : (us : List Statement) → length (roles may (map (unit s) us)) ≡ length us
+  roles_length [] = refl
+  roles_length (u ∷ us) = ap suc (roles_length us)
+
+  pub roles_goes : (us : List Statement) (i : ℕ) (u : Statement) (last : Bool) (q : Result (List Meant) Trouble) → i < length us → u ≡ get_or us i u →
+      last ≡ (may && all_empty (map (unit s) (take (length us - (i + 1)) (drop (i + 1) us)))) →
+      Is q (joined (judged_all k (all_of (take i (roles may (map (unit s) us))))) (judged k (role last (unit s u)))) →
+      Is q (judged_all k (all_of (take (i + 1) (roles may (map (unit s) us)))))
+  roles_goes us i u last q lt e le h =
+      let rest = drop (i + 1) us in
+      let whole : take (length us - (i + 1)) rest ≡ rest = take_all (length us - (i + 1)) rest (omega (arith, length-drop (i + 1) us)) in
+      let split : take (i + 1) (roles may (map (unit s) us)) ≡ take i (roles may (map (unit s) us)) ++ role (may && all_empty (map (unit s) rest)) (unit s u) ∷ [] = rw (add-one) (roles_suc us i u lt e) in
+      let same : last ≡ (may && all_empty (map (unit s) rest)) = le ∙ ap (λ (l : List Statement). may && all_empty (map (unit s) l)) whole in
+      subst (λ (ps : List Phrase). Is q (judged_all k (all_of ps))) (ap (λ (b : Bool). take i (roles may (map (unit s) us)) ++ role b (unit s u) ∷ []) same ∙ sym split) (row_is k q (take i (roles may (map (unit s) us))) (role last (unit s u)) h)
+
+  pub roles_end : (us : List Statement) (i : ℕ) (q : Result (List Meant) Trouble) → length us ≤ i →
+      Is q (judged_all k (all_of (take i (roles may (map (unit s) us))))) → Is q (judged_all k (all_of (roles may (map (unit s) us))))
+  roles_end us i q le h =
+      subst (λ (ps : List Phrase). Is q (judged_all k (all_of ps))) (take_all i (roles may (map (unit s) us)) (subst (λ n. n ≤ i) (sym (roles_length us)) le)) h
+
+-- ---- a row of arms, each with the labels before it
+
+abbrev pub all_numbers : List (List Label × Phrase) → List ℤ
+all_numbers [] = []
+all_numbers (c ∷ cs) = numbers c.0 ++ all_numbers cs
+
+numbers_push : (cs : List (List Label × Phrase)) (c : List Label × Phrase) → all_numbers (cs ++ c ∷ []) ≡ all_numbers cs ++ numbers c.0
+numbers_push [] c = append-nil (numbers c.0)
+numbers_push (d ∷ cs) c = ap (λ (ns : List ℤ). numbers d.0 ++ ns) (numbers_push cs c) ∙ sym (append_assoc (numbers d.0) (all_numbers cs) (numbers c.0))
+
+module _ (s : Scope) where
+  arms_push : (e : List ℤ) (cs : List (List Label × Phrase)) (c : List Label × Phrase) → arm_phrases s e (cs ++ c ∷ []) ≡ arm_phrases s e cs ++ arm_phrase s (e ++ all_numbers cs) c ∷ []
+  arms_push e [] c = ap (λ (ns : List ℤ). arm_phrase s ns c ∷ []) (sym (append-nil e))
+  arms_push e (d ∷ cs) c =
+      ap (λ (l : List Phrase). arm_phrase s e d ∷ l)
+      (arms_push (e ++ numbers d.0) cs c
+      ∙ ap (λ (ns : List ℤ). arm_phrases s (e ++ numbers d.0) cs ++ arm_phrase s ns c ∷ []) (append_assoc e (numbers d.0) (all_numbers cs)))
+
+  case_labels : (c : Case) → (case s c).0 ≡ c.labels
+  case_labels c = ap (λ (d : Case). (case s d).0) (sym (rolls-Case' (record { labels = c.labels; units = c.units }))) ∙ rw fold-roll-Case refl
+
+  cases_more : (cs : List Case) (i : ℕ) (c : Case) → i < length cs → c ≡ get_or cs i c → map (case s) (take (i + 1) cs) ≡ map (case s) (take i cs) ++ case s c ∷ []
+  cases_more cs i c lt e = map_more (case s) cs i c lt ∙ ap (λ (d : Case). map (case s) (take i cs) ++ case s d ∷ []) (sym e)
+
+  pub numbers_go : (cs : List Case) (i : ℕ) (c : Case) (earlier later : List ℤ) → i < length cs → c ≡ get_or cs i c → earlier ≡ all_numbers (map (case s) (take i cs)) →
+      later ≡ earlier ++ numbers c.labels → later ≡ all_numbers (map (case s) (take (i + 1) cs))
+  numbers_go cs i c earlier later lt e he h =
+      h ∙ ap (λ (ns : List ℤ). ns ++ numbers c.labels) he
+      ∙ sym (ap all_numbers (cases_more cs i c lt e) ∙ numbers_push (map (case s) (take i cs)) (case s c) ∙ ap (λ (ls : List Label). all_numbers (map (case s) (take i cs)) ++ numbers ls) (case_labels c))
+
+module _ (k : Known) (s : Scope) where
+  pub cases_go : (cs : List Case) (i : ℕ) (c : Case) (earlier : List ℤ) (q : Result (List Meant) Trouble) → i < length cs → c ≡ get_or cs i c → earlier ≡ all_numbers (map (case s) (take i cs)) →
+      Is q (joined (judged_all k (all_of (arm_phrases s [] (map (case s) (take i cs))))) (judged k (arm_phrase s earlier (case s c)))) →
+      Is q (judged_all k (all_of (arm_phrases s [] (map (case s) (take (i + 1) cs)))))
+  cases_go cs i c earlier q lt e he h =
+      let before_it = map (case s) (take i cs) in
+      subst (λ (ps : List Phrase). Is q (judged_all k (all_of ps)))
+      (ap (λ (ns : List ℤ). arm_phrases s [] before_it ++ arm_phrase s ns (case s c) ∷ []) he ∙ sym (ap (arm_phrases s []) (cases_more s cs i c lt e) ∙ arms_push s [] before_it (case s c))) (row_is k q (arm_phrases s [] before_it) (arm_phrase s earlier (case s c)) h)
+
+-- ---- labels, before those that are left
 
 abbrev pub prefixed : List Meant → Ruled (List Meant) → Ruled (List Meant)
 prefixed ms r = r >>= (λ rest. gives (ms ++ rest))
@@ -37,72 +172,19 @@ prefixed_none (gives rest) = refl
 prefixed_none (breaks f) = refl
 prefixed_none hangs = refl
 
--- ---- after the first parts
-
-pub afters_gives : (ms ns : List Meant) → afters ms (gives ns) ≡ gives (ms ++ ns)
-afters_gives [] ns = refl
-afters_gives (m ∷ ms) ns = ap (λ (r : Ruled (List Meant)). before (gives m) r) (afters_gives ms ns)
-
-pub afters_breaks : (ms : List Meant) (f : Fault) → afters ms (breaks f) ≡ breaks f
-afters_breaks [] f = refl
-afters_breaks (m ∷ ms) f = ap (λ (r : Ruled (List Meant)). before (gives m) r) (afters_breaks ms f)
-
-pub after_last : (f : Form) (ms : List Meant) (p : Phrase) (m : Meant) → judged p ≡ gives m → after f ms p ≡ rule f (ms ++ m ∷ [])
-after_last f ms p m e =
-    ap (λ (r : Ruled Meant). afters ms (before r (gives [])) >>= rule f) e
-    ∙ ap (λ (r : Ruled (List Meant)). r >>= rule f) (afters_gives ms (m ∷ []))
-
-pub counted_is : (q : Result Meant CheckError) (w : Way) (l : Way × Phrase) (ms ms' : List Meant) (m : Meant) → w ≡ l.0 → judged l.1 ≡ gives m → ms' ≡ ms ++ m ∷ [] → Is q (rule (form.counter w) ms') → Is q (after (form.counter l.0) ms l.1)
-counted_is q w l ms ms' m we je me h =
-    subst (λ (r : Ruled Meant). Is q r)
-    (ap (λ (v : Way). rule (form.counter v) ms') we ∙ ap (rule (form.counter l.0)) me ∙ sym (after_last (form.counter l.0) ms l.1 m je)) h
-
--- ---- a turn over units
-
-module _ (s : Scope) (may : Bool) where
-  open_row : (us : List Statement) (i : ℕ) (u : Statement) (last : Bool) → i < length us → u ≡ get_or us i u →
-      last ≡ (may && all_empty (map (unit s) (take (length us - (i + 1)) (drop (i + 1) us)))) →
-      judged_all (all_of (roles may (map (unit s) (drop i us)))) ≡ before (judged (role last (unit s u))) (judged_all (all_of (roles may (map (unit s) (drop (i + 1) us)))))
-  open_row us i u last lt e le =
-      let rest = drop (i + 1) us in
-      let whole : take (length us - (i + 1)) rest ≡ rest = take_all (length us - (i + 1)) rest (omega (arith, length-drop (i + 1) us)) in
-      let split : drop i us ≡ u ∷ rest = rw (add-one) (cut us i u lt e) in
-      ap (λ (l : List Statement). judged_all (all_of (roles may (map (unit s) l)))) split
-      ∙ ap (λ (b : Bool). before (judged (role b (unit s u))) (judged_all (all_of (roles may (map (unit s) rest)))))
-      (ap (λ (l : List Statement). may && all_empty (map (unit s) l)) (sym whole) ∙ sym le)
-
-  pub role_step : (us : List Statement) (i : ℕ) (u : Statement) (last : Bool) (ps ps' : List Meant) (m : Meant) (all : Ruled (List Meant)) → i < length us → u ≡ get_or us i u →
-      last ≡ (may && all_empty (map (unit s) (take (length us - (i + 1)) (drop (i + 1) us)))) →
-      judged (role last (unit s u)) ≡ gives m → ps' ≡ ps ++ m ∷ [] →
-      prefixed ps (judged_all (all_of (roles may (map (unit s) (drop i us))))) ≡ all →
-      prefixed ps' (judged_all (all_of (roles may (map (unit s) (drop (i + 1) us))))) ≡ all
-  role_step us i u last ps ps' m all lt e le je pe h =
-      ap (λ (l : List Meant). prefixed l (judged_all (all_of (roles may (map (unit s) (drop (i + 1) us)))))) pe
-      ∙ prefixed_push ps m (judged_all (all_of (roles may (map (unit s) (drop (i + 1) us)))))
-      ∙ ap (λ (r : Ruled Meant). prefixed ps (before r (judged_all (all_of (roles may (map (unit s) (drop (i + 1) us))))))) (sym je)
-      ∙ ap (prefixed ps) (sym (open_row us i u last lt e le)) ∙ h
-
-  fault_of : (ps : List Meant) (d : CheckError) (r : Ruled Meant) (rs : Ruled (List Meant)) → Fails d r → Fails d (prefixed ps (before r rs))
-  fault_of ps NoMemory r rs f = tt
-  fault_of ps (NoMeaning at why) r rs f = ap (λ (q : Ruled Meant). prefixed ps (before q rs)) f
-  fault_of ps NotBuilt r rs f = f
-
-  pub role_fault : (us : List Statement) (i : ℕ) (u : Statement) (last : Bool) (ps : List Meant) (d : CheckError) (all : Ruled (List Meant)) → i < length us → u ≡ get_or us i u →
-      last ≡ (may && all_empty (map (unit s) (take (length us - (i + 1)) (drop (i + 1) us)))) →
-      Fails d (judged (role last (unit s u))) →
-      prefixed ps (judged_all (all_of (roles may (map (unit s) (drop i us))))) ≡ all → Fails d all
-  role_fault us i u last ps d all lt e le f h =
-      subst (λ (r : Ruled (List Meant)). Fails d r) (ap (prefixed ps) (sym (open_row us i u last lt e le)) ∙ h)
-      (fault_of ps d (judged (role last (unit s u))) (judged_all (all_of (roles may (map (unit s) (drop (i + 1) us))))) f)
-
--- ---- one part each
-
 -- when nothing is left
 pub list_done : {X : Type 0} (single : X → Meant) (xs : List X) (rest r : Ruled (List Meant)) → rest ≡ gives [] → prefixed (map single xs) rest ≡ r → r ≡ gives (map single xs)
 list_done single xs rest r e h =
     sym h ∙ ap (λ (q : Ruled (List Meant)). prefixed (map single xs) q) e ∙ ap (λ (l : List Meant). gives l) (append-nil (map single xs))
 
+pub labels_single : (ns : List ℤ) → labels_of (map (λ n. Labels (n ∷ [])) ns) ≡ ns
+labels_single [] = refl
+labels_single (n ∷ ns) = ap (λ l. n ∷ l) (labels_single ns)
+
 -- ---- units that are all empty
+
+cut : {X : Type 0} (xs : List X) (i : ℕ) (x : X) → i < length xs → x ≡ get_or xs i x → drop i xs ≡ x ∷ drop (suc i) xs
+cut xs i x lt e = drop-cons xs i x lt ∙ ap (λ y. y ∷ drop (suc i) xs) (sym e)
 
 module _ (s : Scope) where
   pub stops : (us : List Statement) (i : ℕ) (u : Statement) → i < length us → u ≡ get_or us i u → false ≡ is_empty (unit s u) → all_empty (map (unit s) (drop i us)) ≡ all_empty (map (unit s) us) → false ≡ all_empty (map (unit s) us)
@@ -115,15 +197,3 @@ module _ (s : Scope) where
       rw (add-one)
       (ap (λ (b : Bool). b && all_empty (map (unit s) (drop (suc i) us))) f
       ∙ ap (λ (l : List Statement). all_empty (map (unit s) l)) (sym (cut us i u lt e)) ∙ h)
-
-pub labels_single : (ns : List ℤ) → labels_of (map (λ n. Labels (n ∷ [])) ns) ≡ ns
-labels_single [] = refl
-labels_single (n ∷ ns) = ap (λ l. n ∷ l) (labels_single ns)
-
-pub branches_single : (gs : List Guarded) → branches_of (map (λ g. Branches (g ∷ [])) gs) ≡ gs
-branches_single [] = refl
-branches_single (g ∷ gs) = ap (λ l. g ∷ l) (branches_single gs)
-
-pub arms_single : (ls : List Labelled) → arms_of (map (λ a. Arms (a ∷ [])) ls) ≡ ls
-arms_single [] = refl
-arms_single (a ∷ ls) = ap (λ l. a ∷ l) (arms_single ls)
