@@ -36,6 +36,7 @@ use Rattle.elan_check.specs.Level as l
 use Rattle.elan_rules.specs.Meaning.{judged, judged_all, phrases, phrases_of}
 use Rattle.elan_check.specs.Refinements.{told, last_unit, last_unit_in, unit_delivery, outcome, called_by, called_by_all, called_in, number_list, known_of}
 use Rattle.elan_rules.proofs.First.{Faultless, whole, open_one, bind_faultless, before_faultless, breaks_has_fault}
+use Rattle.elan_check.proofs.Calls.{called_append}
 use Rattle.elan_check.proofs.InScope.{Names, InScope, AllIn, body_units_in, statement_in}
 use Rattle.elan_rules.proofs.Firm.{IsFirm, IsOpen, rules, not_hung, named_open}
 use Rattle.elan_check.proofs.Walks.{In, Call, no_walk}
@@ -76,14 +77,6 @@ in_first n (x ∷ xs) ys h =
 in_rest : (n : ℕ) (xs ys : List ℕ) → In n ys → In n (xs ++ ys)
 in_rest n [] ys h = h
 in_rest n (x ∷ xs) ys h = inr (in_rest n xs ys h)
-
-called_append : (ps qs : List Phrase) → called_by_all (ps ++ qs) ≡ called_by_all ps ++ called_by_all qs
-called_append [] qs = refl
-called_append (p ∷ ps) qs = ap (λ (ns : List ℕ). called_by p ++ ns) (called_append ps qs) ∙ sym (assoc (called_by p) (called_by_all ps) (called_by_all qs))
-  where
-    assoc : (xs ys zs : List ℕ) → xs ++ ys ++ zs ≡ xs ++ (ys ++ zs)
-    assoc [] ys zs = refl
-    assoc (x ∷ xs) ys zs = ap (λ (ns : List ℕ). x ∷ ns) (assoc xs ys zs)
 
 in_left : (n : ℕ) (ps qs : List Phrase) → In n (called_by_all ps) → In n (called_by_all (ps ++ qs))
 in_left n ps qs h = subst (In n) (sym (called_append ps qs)) (in_first n (called_by_all ps) (called_by_all qs) h)

@@ -28,6 +28,7 @@ module _ (s : Scope) where
   Names (form.named at z x) = z ≡ s
   Names (form.applied at z sort x) = z ≡ s
   Names (form.declares at z x) = z ≡ s
+  Names (form.assignment at z) = z ≡ s
   Names (form.leave at z x) = z ≡ s
   Names (form.heading at z sort x ps missing) = ⊥
   Names (form.body at o r) = ⊥
@@ -144,7 +145,7 @@ module _ (s : Scope) where
   unit_in_layer (t.Constants at of items) = (tt, items_in items)
   unit_in_layer (t.Bound at of items) = (tt, tt)
   unit_in_layer (t.Value a) = (tt, (a.1, tt))
-  unit_in_layer (t.Becomes at a b) = (tt, (a.1, (b.1, tt)))
+  unit_in_layer (t.Becomes at a b) = (refl, (a.1, (b.1, tt)))
   unit_in_layer (t.Loop at None None us None) = loop_in at absent absent us absent (tt, tt) (tt, tt) (tt, tt)
   unit_in_layer (t.Loop at None None us (Some v)) = loop_in at absent absent us (shape.expr s v.0) (tt, tt) (tt, tt) v.1
   unit_in_layer (t.Loop at None (Some c) us None) = loop_in at absent (shape.expr s c.0) us absent (tt, tt) c.1 (tt, tt)

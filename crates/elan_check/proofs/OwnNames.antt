@@ -25,6 +25,7 @@ use Rattle.elan_rules.specs.declared.scope.Entry.{Entry}
 use Rattle.elan_rules.specs.Scope.{held, all_held, types_of}
 use Rattle.elan_check.specs.Declarations as d
 use Rattle.elan_check.specs.Bodies.{refinement_names}
+use Rattle.elan_check.proofs.Held.{types_append}
 
 abbrev fst : {A : Type 0} {B : A → Type 0} → (a : A) × B a → A
 fst x = x.0
@@ -202,10 +203,6 @@ held_plain (denotes.Constant t) h = refl
 held_plain (denotes.Parameter p) h = absurd h
 held_plain denotes.Procedure h = refl
 held_plain denotes.Refinement h = refl
-
-types_append : (xs ys : List Parameter) → types_of (xs ++ ys) ≡ types_of xs ++ types_of ys
-types_append [] ys = refl
-types_append (x ∷ xs) ys = ap (λ (l : List ElanType). x.of ∷ l) (types_append xs ys)
 
 map_append : (xs ys : List ElanType) → map held_const (xs ++ ys) ≡ map held_const xs ++ map held_const ys
 map_append [] ys = refl

@@ -21,7 +21,9 @@ use Rattle.elan_types.specs.declared.core_phrase.Body.{Body}
 use Rattle.elan_rules.specs.Scope as scope
 use Rattle.elan_rules.specs.declared.scope.Scope.{Scope}
 use Rattle.elan_rules.specs.declared.known.Known.{Known}
-use Rattle.elan_rules.specs.Predefined.{delivers, fit}
+use Rattle.elan_rules.specs.declared.heading.Sort.TheVariants.{Operator}
+use Rattle.elan_rules.specs.declared.heading.Heading.{Heading}
+use Rattle.elan_rules.specs.Predefined.{delivers, fit, becomes}
 use Rattle.elan_rules.specs.Phrase as form
 use Rattle.elan_rules.specs.Phrase.{Form, Phrase, phrase, Parts, none, part}
 use Rattle.elan_rules.specs.Parts as p
@@ -52,6 +54,14 @@ module _ (here : Stand) (s : Scope) (k : Known) (fits : Fits here s k) where
   in_scope : (f : Scope → Ruled Meant) (z : Scope) → z ≡ s → Gives Good (f s) → Gives Good (f z)
   in_scope f z e h = subst (λ (y : Scope). Gives Good (f y)) (sym e) h
 
+  assignment_by : (at : ℕ) (ms : List Meant) (o : Option (ℕ × Heading)) → AllGood ms → Gives Good (r.applied_as at s Operator becomes ms o) → Gives Good (all.assignment_as at ms o)
+  assignment_by at ms (Some b) g h = on_bind Good Good (r.called at b.0 b.1.what ms) u.alone h (alone_good here)
+  assignment_by at ms None g h = ty.two here ms (u.assigned at) g (assigned_good here at)
+
+  -- An own operator is called as operators are.
+  assignment_good : (at : ℕ) (ms : List Meant) → AllGood ms → Gives Good (all.assignment at s ms)
+  assignment_good at ms g = assignment_by at ms (scope.first_heading (r.takes Operator becomes ms) s.headings) g (applied_good here s k fits at Operator becomes ms g)
+
   rules : (f : Form) (ms : List Meant) → Names s f → AllGood ms → Gives Good (rule k f ms)
   rules form.absent ms i g = tt
   rules form.not_built ms i g = tt
@@ -76,7 +86,7 @@ module _ (here : Stand) (s : Scope) (k : Known) (fits : Fits here s k) where
   rules (form.initial at) ms i g = ty.two here ms (u.initial at) g (initial_good here at)
   rules (form.declaration at) ms i g = ty.unit_typed here (p.actions_of ms) (ty.actions_of_typed here ms g)
   rules form.statement ms i g = ty.one here ms u.alone g (alone_good here)
-  rules (form.assignment at) ms i g = ty.two here ms (u.assigned at) g (assigned_good here at)
+  rules (form.assignment at z) ms i g = in_scope (λ y. all.assignment at y ms) z i (assignment_good at ms g)
   rules (form.counter w) ms i g = ty.three here ms _ g (counted_good here w)
   rules (form.loop at) ms i g = ty.four here ms (l.loop at) g (loop_good here at)
   rules form.empty ms i g = refl

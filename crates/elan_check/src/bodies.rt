@@ -179,6 +179,7 @@ fn add_held(out: &mut List<ElanType>, denotes: Denotes) -> Result<(), NoMemory>
 }
 
 /// The types of the variables, constants and parameters among names.
+#[tactic(auto, using(crate::proofs::Held::types_append))]
 pub fn held_types(alloc: Global, names: &[Entry]) -> Result<List<ElanType>, NoMemory>
     ensures { IfOk result (λ types. types ≡ scopes.types_of (scopes.all_held names.now)) }
 {

@@ -1,0 +1,262 @@
+-- The refinements that phrases call, as they are found in the tree.
+use Rattle.std.proofs.Common.{◌≡◌, ℤ, ℕ, Bool, true, false, ◌&&◌, List, [], ◌∷◌, ◌++◌, map, Option, Some, None, refl, sym, ap, ◌∙◌}
+use Rattle.elan_tree.specs.declared.written_type.Name.{Name}
+use Rattle.elan_tree.specs.declared.written_type.Label.{Label}
+use Rattle.elan_tree.specs.declared.written_type.Label.TheVariants as label
+use Rattle.elan_tree.specs.declared.phrase.Expr.{Expr}
+use Rattle.elan_tree.specs.declared.phrase.Limit.{Limit}
+use Rattle.elan_tree.specs.declared.phrase.Branch.{Branch}
+use Rattle.elan_tree.specs.declared.phrase.Case.{Case}
+use Rattle.elan_tree.specs.declared.phrase.Counter.{Counter}
+use Rattle.elan_tree.specs.declared.phrase.Item.{Item}
+use Rattle.elan_tree.specs.declared.phrase.Unit.{Unit as Statement}
+use Rattle.elan_tree.specs.declared.phrase.Expr.TheOpen as t
+use Rattle.elan_tree.specs.declared.phrase.Expr.TheOpen.{Expr-F, Limit-F, Unit-F, Branch-F, Case-F, Counter-F, Item-F}
+use Rattle.elan_tree.specs.declared.phrase.Expr.TheFolds.{ind-Unit, map-Expr, map-Limit, map-Unit, map-Branch, map-Case, map-Counter, map-Item, fold-roll-Expr, fold-roll-Limit, fold-roll-Unit, fold-roll-Branch, fold-roll-Case, fold-roll-Counter, fold-roll-Item}
+use Rattle.elan_rules.specs.declared.scope.Scope.{Scope}
+use Rattle.elan_rules.specs.Phrase as form
+use Rattle.elan_rules.specs.Phrase.{Form, Phrase, phrase, Parts, none, part, all_of, around}
+use Rattle.elan_rules.specs.Meaning.{phrases, phrases_of}
+use Rattle.elan_check.specs.Shape as shape
+use Rattle.elan_check.specs.Uses as uses
+use Rattle.elan_check.specs.Refinements.{called_by, called_by_all, called_in}
+
+-- ---- lists
+
+abbrev fst : {A : Type 0} {B : A → Type 0} → (a : A) × B a → A
+fst x = x.0
+
+assoc : (xs ys zs : List ℕ) → xs ++ ys ++ zs ≡ xs ++ (ys ++ zs)
+assoc [] ys zs = refl
+assoc (x ∷ xs) ys zs = ap (λ (ns : List ℕ). x ∷ ns) (assoc xs ys zs)
+
+nil : (xs : List ℕ) → xs ++ [] ≡ xs
+nil [] = refl
+nil (x ∷ xs) = ap (λ (ns : List ℕ). x ∷ ns) (nil xs)
+
+both : (xs ys zs ws : List ℕ) → xs ≡ ys → zs ≡ ws → xs ++ zs ≡ ys ++ ws
+both xs ys zs ws e g = ap (λ (l : List ℕ). l ++ zs) e ∙ ap (λ (l : List ℕ). ys ++ l) g
+
+-- ---- phrases
+
+pub called_append : (ps qs : List Phrase) → called_by_all (ps ++ qs) ≡ called_by_all ps ++ called_by_all qs
+called_append [] qs = refl
+called_append (p ∷ ps) qs = ap (λ (ns : List ℕ). called_by p ++ ns) (called_append ps qs) ∙ sym (assoc (called_by p) (called_by_all ps) (called_by_all qs))
+
+abbrev calls : Parts → List ℕ
+calls ps = called_by_all (phrases_of ps)
+
+-- a phrase that is no call itself
+whole : (f : Form) (ps : Parts) → called_by (phrase f ps) ≡ [] → called_in (phrase f ps) ≡ calls ps
+whole f ps h = called_append (phrases_of ps) (phrase f ps ∷ []) ∙ ap (λ (ns : List ℕ). calls ps ++ (ns ++ [])) h ∙ nil (calls ps)
+
+first_part : (p : Phrase) (ps : Parts) → calls (part p ps) ≡ called_in p ++ calls ps
+first_part p ps = called_append (phrases p) (phrases_of ps)
+
+one_part : (p : Phrase) → calls (part p none) ≡ called_in p
+one_part p = first_part p none ∙ nil (called_in p)
+
+two_parts : (p q : Phrase) → calls (part p (part q none)) ≡ called_in p ++ called_in q
+two_parts p q = first_part p (part q none) ∙ ap (λ (ns : List ℕ). called_in p ++ ns) (one_part q)
+
+three_parts : (p q r : Phrase) → calls (part p (part q (part r none))) ≡ called_in p ++ called_in q ++ called_in r
+three_parts p q r = first_part p (part q (part r none)) ∙ ap (λ (ns : List ℕ). called_in p ++ ns) (two_parts q r) ∙ sym (assoc (called_in p) (called_in q) (called_in r))
+
+four_parts : (p q r v : Phrase) → calls (part p (part q (part r (part v none)))) ≡ called_in p ++ called_in q ++ called_in r ++ called_in v
+four_parts p q r v =
+    first_part p (part q (part r (part v none))) ∙ ap (λ (ns : List ℕ). called_in p ++ ns) (three_parts q r v)
+    ∙ sym (assoc (called_in p) (called_in q ++ called_in r) (called_in v)) ∙ ap (λ (ns : List ℕ). ns ++ called_in v) (sym (assoc (called_in p) (called_in q) (called_in r)))
+
+one_calls : (f : Form) (p : Phrase) → called_by (around f p) ≡ [] → called_in (around f p) ≡ called_in p
+one_calls f p h = whole f (part p none) h ∙ one_part p
+
+two_call : (f : Form) (p q : Phrase) (xs ys : List ℕ) → called_by (phrase f (part p (part q none))) ≡ [] → called_in p ≡ xs → called_in q ≡ ys → called_in (phrase f (part p (part q none))) ≡ xs ++ ys
+two_call f p q xs ys h e g = whole f (part p (part q none)) h ∙ two_parts p q ∙ both (called_in p) xs (called_in q) ys e g
+
+three_call : (f : Form) (p q r : Phrase) (xs ys zs : List ℕ) → called_by (phrase f (part p (part q (part r none)))) ≡ [] → called_in p ≡ xs → called_in q ≡ ys → called_in r ≡ zs → called_in (phrase f (part p (part q (part r none)))) ≡ xs ++ ys ++ zs
+three_call f p q r xs ys zs h e g i =
+    whole f (part p (part q (part r none))) h ∙ three_parts p q r
+    ∙ both (called_in p ++ called_in q) (xs ++ ys) (called_in r) zs (both (called_in p) xs (called_in q) ys e g) i
+
+module _ (s : Scope) where
+  abbrev E : Expr → Type 0
+  E e = called_in (shape.expr s e) ≡ uses.in_expr s e
+
+  abbrev L : Limit → Type 0
+  L l = called_in (shape.limit s l).1 ≡ uses.in_limit s l
+
+  abbrev U : Statement → Type 0
+  U u = called_in (shape.unit s u) ≡ uses.in_unit s u
+
+  abbrev B : Branch → Type 0
+  B b = called_in (shape.branch s b) ≡ uses.in_branch s b
+
+  abbrev C : Case → Type 0
+  C c = called_in (shape.case s c).1 ≡ uses.in_case s c
+
+  abbrev K : Counter → Type 0
+  K k = called_in (shape.counter s k) ≡ uses.in_counter s k
+
+  abbrev I : Item → Type 0
+  I i = called_in (shape.item s i) ≡ uses.in_item s i
+
+  -- ---- rows
+
+  exprs_call : (es : List ((e : Expr) × E e)) → calls (all_of (map (shape.expr s) (map fst es))) ≡ uses.all (map (uses.in_expr s) (map fst es))
+  exprs_call [] = refl
+  exprs_call (e ∷ es) = first_part (shape.expr s e.0) (all_of (map (shape.expr s) (map fst es))) ∙ both (called_in (shape.expr s e.0)) (uses.in_expr s e.0) (calls (all_of (map (shape.expr s) (map fst es)))) _ e.1 (exprs_call es)
+
+  branch_row : (bs : List ((b : Branch) × B b)) → calls (all_of (map (shape.branch s) (map fst bs))) ≡ uses.all (map (uses.in_branch s) (map fst bs))
+  branch_row [] = refl
+  branch_row (b ∷ bs) = first_part (shape.branch s b.0) (all_of (map (shape.branch s) (map fst bs))) ∙ both (called_in (shape.branch s b.0)) (uses.in_branch s b.0) (calls (all_of (map (shape.branch s) (map fst bs)))) _ b.1 (branch_row bs)
+
+  branches_call : (bs : List ((b : Branch) × B b)) → called_in (phrase form.branches (all_of (map (shape.branch s) (map fst bs)))) ≡ uses.all (map (uses.in_branch s) (map fst bs))
+  branches_call bs = whole form.branches (all_of (map (shape.branch s) (map fst bs))) refl ∙ branch_row bs
+
+  items_call : (is : List ((i : Item) × I i)) → calls (all_of (map (shape.item s) (map fst is))) ≡ uses.all (map (uses.in_item s) (map fst is))
+  items_call [] = refl
+  items_call (i ∷ is) = first_part (shape.item s i.0) (all_of (map (shape.item s) (map fst is))) ∙ both (called_in (shape.item s i.0)) (uses.in_item s i.0) (calls (all_of (map (shape.item s) (map fst is)))) _ i.1 (items_call is)
+
+  role_calls : (may : Bool) (p : Phrase) → called_in (shape.role may p) ≡ called_in p
+  role_calls true p = refl
+  role_calls false p = one_calls form.without_value p refl
+
+  roles_call : (may : Bool) (us : List ((u : Statement) × U u)) → calls (all_of (shape.roles may (map (shape.unit s) (map fst us)))) ≡ uses.all (map (uses.in_unit s) (map fst us))
+  roles_call may [] = refl
+  roles_call may (u ∷ us) =
+      let last = may && form.all_empty (map (shape.unit s) (map fst us)) in
+      let rest = all_of (shape.roles may (map (shape.unit s) (map fst us))) in
+      first_part (shape.role last (shape.unit s u.0)) rest
+      ∙ both (called_in (shape.role last (shape.unit s u.0))) (uses.in_unit s u.0) (calls rest) _ (role_calls last (shape.unit s u.0) ∙ u.1) (roles_call may us)
+
+  units_call : (may : Bool) (us : List ((u : Statement) × U u)) → called_in (shape.units may (map (shape.unit s) (map fst us))) ≡ uses.all (map (uses.in_unit s) (map fst us))
+  units_call may us = whole form.units (all_of (shape.roles may (map (shape.unit s) (map fst us)))) refl ∙ roles_call may us
+
+  labels_call : (ns : List ℤ) (ls : List Label) → calls (all_of (shape.label_phrases s ns ls)) ≡ []
+  labels_call ns [] = refl
+  labels_call ns (label.Number at n ∷ ls) = labels_call (ns ++ n ∷ []) ls
+  labels_call ns (label.Named n ∷ ls) = labels_call (ns ++ []) ls
+
+  arm_calls : (ns : List ℤ) (ls : List Label) (p : Phrase) (xs : List ℕ) → called_in p ≡ xs → called_in (shape.arm_phrase s ns (ls, p)) ≡ xs
+  arm_calls ns ls p xs e = two_call form.arm (phrase form.labels (all_of (shape.label_phrases s ns ls))) p [] xs refl (whole form.labels (all_of (shape.label_phrases s ns ls)) refl ∙ labels_call ns ls) e
+
+  arm_row : (ns : List ℤ) (cs : List ((c : Case) × C c)) → calls (all_of (shape.arm_phrases s ns (map (shape.case s) (map fst cs)))) ≡ uses.all (map (uses.in_case s) (map fst cs))
+  arm_row ns [] = refl
+  arm_row ns (c ∷ cs) =
+      let ls = (shape.case s c.0).0 in
+      let rest = all_of (shape.arm_phrases s (ns ++ shape.numbers ls) (map (shape.case s) (map fst cs))) in
+      first_part (shape.arm_phrase s ns (shape.case s c.0)) rest
+      ∙ both (called_in (shape.arm_phrase s ns (shape.case s c.0))) (uses.in_case s c.0) (calls rest) _ (arm_calls ns ls (shape.case s c.0).1 (uses.in_case s c.0) c.1) (arm_row (ns ++ shape.numbers ls) cs)
+
+  arms_call : (cs : List ((c : Case) × C c)) → called_in (phrase form.arms (all_of (shape.arm_phrases s [] (map (shape.case s) (map fst cs))))) ≡ uses.all (map (uses.in_case s) (map fst cs))
+  arms_call cs = whole form.arms (all_of (shape.arm_phrases s [] (map (shape.case s) (map fst cs)))) refl ∙ arm_row [] cs
+
+  -- ---- one layer
+
+  abbrev Below : (Type 0 → Type 0 → Type 0 → Type 0 → Type 0 → Type 0 → Type 0 → Type 0) → Type 0
+  Below F = F ((e : Expr) × E e) ((l : Limit) × L l) ((u : Statement) × U u) ((b : Branch) × B b) ((c : Case) × C c) ((k : Counter) × K k) ((i : Item) × I i)
+
+  abbrev absent : Phrase
+  absent = form.leaf form.absent
+
+  expr_calls : (y : Below Expr-F) → called_in (shape.expr_step s (map-Expr _ _ _ _ _ _ _ _ _ _ _ _ _ _ (shape.expr s) (shape.limit s) (shape.unit s) (shape.branch s) (shape.case s) (shape.counter s) (shape.item s) (map-Expr _ _ _ _ _ _ _ _ _ _ _ _ _ _ fst fst fst fst fst fst fst y))) ≡ uses.expr_step s (map-Expr _ _ _ _ _ _ _ _ _ _ _ _ _ _ (uses.in_expr s) (uses.in_limit s) (uses.in_unit s) (uses.in_branch s) (uses.in_case s) (uses.in_counter s) (uses.in_item s) (map-Expr _ _ _ _ _ _ _ _ _ _ _ _ _ _ fst fst fst fst fst fst fst y))
+  expr_calls (t.Number at n) = refl
+  expr_calls (t.Text at x) = refl
+  expr_calls (t.Truth at b) = refl
+  expr_calls (t.Named n) = nil (uses.in_name s n)
+  expr_calls (t.Call n actuals) = whole _ (all_of (map (shape.expr s) (map fst actuals))) refl ∙ exprs_call actuals
+  expr_calls (t.Procedure at n) = refl
+  expr_calls (t.Concr at a) = refl
+  expr_calls (t.Bracket at a) = one_calls (form.bracket at) (shape.expr s a.0) refl ∙ a.1
+  expr_calls (t.If at branches None) = two_call (form.choice at) (phrase form.branches (all_of (map (shape.branch s) (map fst branches)))) absent _ [] refl (branches_call branches) refl
+  expr_calls (t.If at branches (Some us)) = two_call (form.choice at) (phrase form.branches (all_of (map (shape.branch s) (map fst branches)))) (shape.units true (map (shape.unit s) (map fst us))) _ _ refl (branches_call branches) (units_call true us)
+  expr_calls (t.Select at of cases None) = three_call (form.selection at) (shape.expr s of.0) (phrase form.arms (all_of (shape.arm_phrases s [] (map (shape.case s) (map fst cases))))) absent (uses.in_expr s of.0) _ [] refl of.1 (arms_call cases) refl
+  expr_calls (t.Select at of cases (Some us)) = three_call (form.selection at) (shape.expr s of.0) (phrase form.arms (all_of (shape.arm_phrases s [] (map (shape.case s) (map fst cases))))) (shape.units true (map (shape.unit s) (map fst us))) (uses.in_expr s of.0) _ _ refl of.1 (arms_call cases) (units_call true us)
+  expr_calls (t.Index at of index) = refl
+  expr_calls (t.Field at of field) = refl
+  expr_calls (t.Monadic at o a) = one_calls _ (shape.expr s a.0) refl ∙ a.1
+  expr_calls (t.Dyadic at o a b) = two_call _ (shape.expr s a.0) (shape.expr s b.0) (uses.in_expr s a.0) (uses.in_expr s b.0) refl a.1 b.1
+  expr_calls (t.Cand at a b) = two_call (form.cand at) (shape.expr s a.0) (shape.expr s b.0) (uses.in_expr s a.0) (uses.in_expr s b.0) refl a.1 b.1
+  expr_calls (t.Cor at a b) = two_call (form.cor at) (shape.expr s a.0) (shape.expr s b.0) (uses.in_expr s a.0) (uses.in_expr s b.0) refl a.1 b.1
+
+  limit_calls : (y : Below Limit-F) → called_in (shape.limit_step s (map-Limit _ _ _ _ _ _ _ _ _ _ _ _ _ _ (shape.expr s) (shape.limit s) (shape.unit s) (shape.branch s) (shape.case s) (shape.counter s) (shape.item s) (map-Limit _ _ _ _ _ _ _ _ _ _ _ _ _ _ fst fst fst fst fst fst fst y))).1 ≡ uses.limit_step s (map-Limit _ _ _ _ _ _ _ _ _ _ _ _ _ _ (uses.in_expr s) (uses.in_limit s) (uses.in_unit s) (uses.in_branch s) (uses.in_case s) (uses.in_counter s) (uses.in_item s) (map-Limit _ _ _ _ _ _ _ _ _ _ _ _ _ _ fst fst fst fst fst fst fst y))
+  limit_calls t.Without = refl
+  limit_calls (t.Upto a) = a.1
+  limit_calls (t.Downto a) = a.1
+
+  loop_calls : (at : ℕ) (k c v : Phrase) (us : List ((u : Statement) × U u)) (xs ys zs : List ℕ) → called_in k ≡ xs → called_in c ≡ ys → called_in v ≡ zs →
+      called_in (phrase (form.loop at) (part k (part c (part (shape.units false (map (shape.unit s) (map fst us))) (part v none))))) ≡ xs ++ ys ++ uses.all (map (uses.in_unit s) (map fst us)) ++ zs
+  loop_calls at k c v us xs ys zs e g h =
+      let body = shape.units false (map (shape.unit s) (map fst us)) in
+      let inside = uses.all (map (uses.in_unit s) (map fst us)) in
+      whole (form.loop at) (part k (part c (part body (part v none)))) refl ∙ four_parts k c body v
+      ∙ both (called_in k ++ called_in c ++ called_in body) (xs ++ ys ++ inside) (called_in v) zs (both (called_in k ++ called_in c) (xs ++ ys) (called_in body) inside (both (called_in k) xs (called_in c) ys e g) (units_call false us)) h
+
+  unit_calls : (y : Below Unit-F) → called_in (shape.unit_step s (map-Unit _ _ _ _ _ _ _ _ _ _ _ _ _ _ (shape.expr s) (shape.limit s) (shape.unit s) (shape.branch s) (shape.case s) (shape.counter s) (shape.item s) (map-Unit _ _ _ _ _ _ _ _ _ _ _ _ _ _ fst fst fst fst fst fst fst y))) ≡ uses.unit_step s (map-Unit _ _ _ _ _ _ _ _ _ _ _ _ _ _ (uses.in_expr s) (uses.in_limit s) (uses.in_unit s) (uses.in_branch s) (uses.in_case s) (uses.in_counter s) (uses.in_item s) (map-Unit _ _ _ _ _ _ _ _ _ _ _ _ _ _ fst fst fst fst fst fst fst y))
+  unit_calls t.Empty = refl
+  unit_calls (t.Let at items) = refl
+  unit_calls (t.Variables at of items) = whole (form.declaration at) (all_of (map (shape.item s) (map fst items))) refl ∙ items_call items
+  unit_calls (t.Constants at of items) = whole (form.declaration at) (all_of (map (shape.item s) (map fst items))) refl ∙ items_call items
+  unit_calls (t.Bound at of items) = refl
+  unit_calls (t.Value a) = one_calls form.statement (shape.expr s a.0) refl ∙ a.1
+  unit_calls (t.Becomes at a b) = two_call (form.assignment at s) (shape.expr s a.0) (shape.expr s b.0) (uses.in_expr s a.0) (uses.in_expr s b.0) refl a.1 b.1
+  unit_calls (t.Loop at None None us None) = loop_calls at absent absent absent us [] [] [] refl refl refl
+  unit_calls (t.Loop at None None us (Some v)) = loop_calls at absent absent (shape.expr s v.0) us [] [] (uses.in_expr s v.0) refl refl v.1
+  unit_calls (t.Loop at None (Some c) us None) = loop_calls at absent (shape.expr s c.0) absent us [] (uses.in_expr s c.0) [] refl c.1 refl
+  unit_calls (t.Loop at None (Some c) us (Some v)) = loop_calls at absent (shape.expr s c.0) (shape.expr s v.0) us [] (uses.in_expr s c.0) (uses.in_expr s v.0) refl c.1 v.1
+  unit_calls (t.Loop at (Some k) None us None) = loop_calls at (shape.counter s k.0) absent absent us (uses.in_counter s k.0) [] [] k.1 refl refl
+  unit_calls (t.Loop at (Some k) None us (Some v)) = loop_calls at (shape.counter s k.0) absent (shape.expr s v.0) us (uses.in_counter s k.0) [] (uses.in_expr s v.0) k.1 refl v.1
+  unit_calls (t.Loop at (Some k) (Some c) us None) = loop_calls at (shape.counter s k.0) (shape.expr s c.0) absent us (uses.in_counter s k.0) (uses.in_expr s c.0) [] k.1 c.1 refl
+  unit_calls (t.Loop at (Some k) (Some c) us (Some v)) = loop_calls at (shape.counter s k.0) (shape.expr s c.0) (shape.expr s v.0) us (uses.in_counter s k.0) (uses.in_expr s c.0) (uses.in_expr s v.0) k.1 c.1 v.1
+  unit_calls (t.Leave at n None) = refl
+  unit_calls (t.Leave at n (Some v)) = one_calls _ (shape.expr s v.0) refl ∙ v.1
+
+  branch_calls : (y : Below Branch-F) → called_in (shape.branch_step s (map-Branch _ _ _ _ _ _ _ _ _ _ _ _ _ _ (shape.expr s) (shape.limit s) (shape.unit s) (shape.branch s) (shape.case s) (shape.counter s) (shape.item s) (map-Branch _ _ _ _ _ _ _ _ _ _ _ _ _ _ fst fst fst fst fst fst fst y))) ≡ uses.branch_step s (map-Branch _ _ _ _ _ _ _ _ _ _ _ _ _ _ (uses.in_expr s) (uses.in_limit s) (uses.in_unit s) (uses.in_branch s) (uses.in_case s) (uses.in_counter s) (uses.in_item s) (map-Branch _ _ _ _ _ _ _ _ _ _ _ _ _ _ fst fst fst fst fst fst fst y))
+  branch_calls y = two_call form.branch (shape.expr s y.condition.0) (shape.units true (map (shape.unit s) (map fst y.units))) (uses.in_expr s y.condition.0) _ refl y.condition.1 (units_call true y.units)
+
+  case_calls : (y : Below Case-F) → called_in (shape.case_step s (map-Case _ _ _ _ _ _ _ _ _ _ _ _ _ _ (shape.expr s) (shape.limit s) (shape.unit s) (shape.branch s) (shape.case s) (shape.counter s) (shape.item s) (map-Case _ _ _ _ _ _ _ _ _ _ _ _ _ _ fst fst fst fst fst fst fst y))).1 ≡ uses.case_step s (map-Case _ _ _ _ _ _ _ _ _ _ _ _ _ _ (uses.in_expr s) (uses.in_limit s) (uses.in_unit s) (uses.in_branch s) (uses.in_case s) (uses.in_counter s) (uses.in_item s) (map-Case _ _ _ _ _ _ _ _ _ _ _ _ _ _ fst fst fst fst fst fst fst y))
+  case_calls y = units_call true y.units
+
+  abbrev counter_with : Name → Option ((e : Expr) × E e) → (l : Limit) × L l → Below Counter-F
+  counter_with n from l = record { name = n; from = from; limit = l }
+
+  counter_of : (n : Name) (from : Option ((e : Expr) × E e)) (l : (l : Limit) × L l) → called_in (shape.counter_step s (map-Counter _ _ _ _ _ _ _ _ _ _ _ _ _ _ (shape.expr s) (shape.limit s) (shape.unit s) (shape.branch s) (shape.case s) (shape.counter s) (shape.item s) (map-Counter _ _ _ _ _ _ _ _ _ _ _ _ _ _ fst fst fst fst fst fst fst (counter_with n from l)))) ≡ uses.counter_step s (map-Counter _ _ _ _ _ _ _ _ _ _ _ _ _ _ (uses.in_expr s) (uses.in_limit s) (uses.in_unit s) (uses.in_branch s) (uses.in_case s) (uses.in_counter s) (uses.in_item s) (map-Counter _ _ _ _ _ _ _ _ _ _ _ _ _ _ fst fst fst fst fst fst fst (counter_with n from l)))
+  counter_of n None l = three_call _ (form.leaf (form.named n.at s n.text)) absent (shape.limit s l.0).1 (uses.in_name s n) [] (uses.in_limit s l.0) refl (nil (uses.in_name s n)) refl l.1
+  counter_of n (Some e) l = three_call _ (form.leaf (form.named n.at s n.text)) (shape.expr s e.0) (shape.limit s l.0).1 (uses.in_name s n) (uses.in_expr s e.0) (uses.in_limit s l.0) refl (nil (uses.in_name s n)) e.1 l.1
+
+  counter_calls : (y : Below Counter-F) → called_in (shape.counter_step s (map-Counter _ _ _ _ _ _ _ _ _ _ _ _ _ _ (shape.expr s) (shape.limit s) (shape.unit s) (shape.branch s) (shape.case s) (shape.counter s) (shape.item s) (map-Counter _ _ _ _ _ _ _ _ _ _ _ _ _ _ fst fst fst fst fst fst fst y))) ≡ uses.counter_step s (map-Counter _ _ _ _ _ _ _ _ _ _ _ _ _ _ (uses.in_expr s) (uses.in_limit s) (uses.in_unit s) (uses.in_branch s) (uses.in_case s) (uses.in_counter s) (uses.in_item s) (map-Counter _ _ _ _ _ _ _ _ _ _ _ _ _ _ fst fst fst fst fst fst fst y))
+  counter_calls y = counter_of y.name y.from y.limit
+
+  abbrev item_with : Name → Option ((e : Expr) × E e) → Below Item-F
+  item_with n init = record { name = n; init = init }
+
+  item_of : (n : Name) (init : Option ((e : Expr) × E e)) → called_in (shape.item_step s (map-Item _ _ _ _ _ _ _ _ _ _ _ _ _ _ (shape.expr s) (shape.limit s) (shape.unit s) (shape.branch s) (shape.case s) (shape.counter s) (shape.item s) (map-Item _ _ _ _ _ _ _ _ _ _ _ _ _ _ fst fst fst fst fst fst fst (item_with n init)))) ≡ uses.item_step s (map-Item _ _ _ _ _ _ _ _ _ _ _ _ _ _ (uses.in_expr s) (uses.in_limit s) (uses.in_unit s) (uses.in_branch s) (uses.in_case s) (uses.in_counter s) (uses.in_item s) (map-Item _ _ _ _ _ _ _ _ _ _ _ _ _ _ fst fst fst fst fst fst fst (item_with n init)))
+  item_of n None = refl
+  item_of n (Some e) = two_call (form.initial n.at) (form.leaf (form.declares n.at s n.text)) (shape.expr s e.0) [] (uses.in_expr s e.0) refl refl e.1
+
+  item_calls : (y : Below Item-F) → called_in (shape.item_step s (map-Item _ _ _ _ _ _ _ _ _ _ _ _ _ _ (shape.expr s) (shape.limit s) (shape.unit s) (shape.branch s) (shape.case s) (shape.counter s) (shape.item s) (map-Item _ _ _ _ _ _ _ _ _ _ _ _ _ _ fst fst fst fst fst fst fst y))) ≡ uses.item_step s (map-Item _ _ _ _ _ _ _ _ _ _ _ _ _ _ (uses.in_expr s) (uses.in_limit s) (uses.in_unit s) (uses.in_branch s) (uses.in_case s) (uses.in_counter s) (uses.in_item s) (map-Item _ _ _ _ _ _ _ _ _ _ _ _ _ _ fst fst fst fst fst fst fst y))
+  item_calls y = item_of y.name y.init
+
+  -- ---- all of them
+
+  unit_called : (u : Statement) → U u
+  unit_called = ind-Unit E L U B C K I
+      (λ x y is. rw (fold-roll-Expr, fold-roll-Expr, ← is) (expr_calls y))
+      (λ x y is. rw (fold-roll-Limit, fold-roll-Limit, ← is) (limit_calls y))
+      (λ x y is. rw (fold-roll-Unit, fold-roll-Unit, ← is) (unit_calls y))
+      (λ x y is. rw (fold-roll-Branch, fold-roll-Branch, ← is) (branch_calls y))
+      (λ x y is. rw (fold-roll-Case, fold-roll-Case, ← is) (case_calls y))
+      (λ x y is. rw (fold-roll-Counter, fold-roll-Counter, ← is) (counter_calls y))
+      (λ x y is. rw (fold-roll-Item, fold-roll-Item, ← is) (item_calls y))
+
+  row_called : (may : Bool) (us : List Statement) → calls (all_of (shape.roles may (map (shape.unit s) us))) ≡ uses.in_units s us
+  row_called may [] = refl
+  row_called may (u ∷ us) =
+      let last = may && form.all_empty (map (shape.unit s) us) in
+      let rest = all_of (shape.roles may (map (shape.unit s) us)) in
+      first_part (shape.role last (shape.unit s u)) rest
+      ∙ both (called_in (shape.role last (shape.unit s u))) (uses.in_unit s u) (calls rest) (uses.in_units s us) (role_calls last (shape.unit s u) ∙ unit_called u) (row_called may us)
+
+  -- the units of a body
+  pub units_called : (may : Bool) (us : List Statement) → called_in (shape.units may (map (shape.unit s) us)) ≡ uses.in_units s us
+  units_called may us = whole form.units (all_of (shape.roles may (map (shape.unit s) us))) refl ∙ row_called may us

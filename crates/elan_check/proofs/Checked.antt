@@ -1,0 +1,65 @@
+-- The answer of a level, as it is promised of a text.
+use Rattle.std.proofs.Common.{◌≡◌, Result, Ok, Err, Bool, true, false, sym, subst}
+use Rattle.std.specs.Prelude.{IfOk, ◌↔◌}
+use Rattle.elan_types.specs.declared.env.Env.{Env}
+use Rattle.elan_types.specs.declared.core_phrase.Core.{Core}
+use Rattle.elan_types.specs.Typing.{IsWellTyped}
+use Rattle.elan_tree.specs.declared.tree.Level.{Level}
+use Rattle.elan_tree.specs.declared.tree.Tree.{Tree}
+use Rattle.elan_tree.specs.declared.tree.Tree.TheVariants as tree
+use Rattle.elan_rules.specs.declared.meant.Meant.TheVariants as means
+use Rattle.elan_rules.specs.Ruled.{Fault}
+use Rattle.elan_check.specs.declared.error.CheckError.{CheckError}
+use Rattle.elan_check.specs.declared.error.CheckError.TheVariants.{NoMemory, NoMeaning, NotBuilt}
+use Rattle.elan_check.specs.NotBuilt.{not_built}
+use Rattle.elan_check.specs.Level.{text}
+use Rattle.elan_check.specs.Text.{Means, Refused, IsNotBuilt, IsCore, IsRefusal, Answers, known}
+use Rattle.elan_rules.proofs.First as first
+use Rattle.elan_check.proofs.OneAnswer.{one_core, meant_is_not_refused}
+
+pub record Checked (env : Env) (t : Tree) (q : Result Core CheckError) : Type 0 where
+  pub meaning : IfOk q (λ core. Means env t core)
+  pub only : (core : Core) → Means env t core → IsCore core q
+  pub refused : IsRefusal (Refused env t) q
+  pub not_built : (q ≡ Err NotBuilt) ↔ IsNotBuilt t
+  pub typed : IfOk q (λ core. IsWellTyped core)
+
+both_ways : (b : Bool) → b ≡ false → b ≡ true → ⊥
+both_ways b h k = cc
+
+module _ (env : Env) (w : Level) where
+  abbrev t : Tree
+  t = tree.Program w
+
+  core_means : (core : Core) → not_built t ≡ false → Answers w (Ok core) → Means env t core
+  core_means core h a = record { is_built = h; variables = a.0; phrases = first.means_of (known t) (text t) (means.Level core.units core.bodies) a.1 }
+
+  is_refused : (fault : Fault) → not_built t ≡ false → Answers w (Err (NoMeaning fault.0 fault.1)) → Refused env t fault
+  is_refused fault h a = record { is_built = h; first = first.refused_of (known t) (text t) fault a }
+
+  level_checked : (q : Result Core CheckError) → not_built t ≡ false → Answers w q → Checked env t q
+  level_checked (Ok core) h a = record {
+    meaning = core_means core h a;
+    only = λ other m. one_core env t core other (core_means core h a) m;
+    refused = tt;
+    not_built = (λ e. absurd cc, λ i. absurd (both_ways (not_built t) h i));
+    typed = a.2;
+  }
+  level_checked (Err NoMemory) h a = record {
+    meaning = tt;
+    only = λ other m. tt;
+    refused = tt;
+    not_built = (λ e. absurd cc, λ i. absurd (both_ways (not_built t) h i));
+    typed = tt;
+  }
+  level_checked (Err (NoMeaning at why)) h a = record {
+    meaning = tt;
+    only = λ other m. absurd (meant_is_not_refused env t other (at, why) m (is_refused (at, why) h a));
+    refused = is_refused (at, why) h a;
+    not_built = (λ e. absurd cc, λ i. absurd (both_ways (not_built t) h i));
+    typed = tt;
+  }
+  level_checked (Err NotBuilt) h a = absurd a
+
+pub program_checked : (env : Env) (t : Tree) (w : Level) (q : Result Core CheckError) → t ≡ tree.Program w → not_built t ≡ false → Answers w q → Checked env t q
+program_checked env t w q e h a = subst (λ (z : Tree). Checked env z q) (sym e) (level_checked env w q (subst (λ (z : Tree). not_built z ≡ false) e h) a)

@@ -1,0 +1,14 @@
+use Rattle.std.proofs.Common.{◌≡◌, ◌≤◌, length}
+use Rattle.elan_check.specs.Bodies.{headings}
+use Rattle.elan_check.specs.Level.{level_bodies}
+use Rattle.elan_check.specs.Refinements.{known_after}
+use Rattle.elan_check.proofs.deliveries.known_of.Given as goal
+
+pub record Kept (P Q : Type 0) : Type 0 where
+  pub scope : P
+  pub found : Q
+
+abbrev pub invariant-loop-_ : goal.invariant-loop-_
+invariant-loop-_ l =
+    Kept (l.scope ≡ l.fn.scope)
+    (l.known ≡ known_after l._-index (headings l.level) (level_bodies l.level))

@@ -1,0 +1,12 @@
+use Rattle.std.proofs.Common.{◌++◌, List, drop}
+use Rattle.elan_rules.specs.declared.known.Known.{Known}
+use Rattle.elan_rules.specs.Phrase.{Phrase, all_of}
+use Rattle.elan_rules.specs.Meaning.{judged_all}
+use Rattle.elan_rules.specs.Answer.{Is}
+use Rattle.elan_check.specs.Level.{declare_all}
+use Rattle.elan_check.proofs.Routines.{Grown}
+use Rattle.elan_check.proofs.routine.declare_all.Given as goal
+
+abbrev pub invariant-loop-name : goal.invariant-loop-name
+invariant-loop-name l =
+    (k : Known) → (ps : List Phrase) → Is l.before (judged_all k (all_of ps)) → Grown k l.row (declare_all l.scope (drop l.name-index l.names)) (ps ++ declare_all l.scope l.names)
