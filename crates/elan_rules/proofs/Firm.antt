@@ -20,7 +20,7 @@ use Rattle.elan_rules.specs.declared.delivery.Delivery.TheVariants.{Open, Nothin
 use Rattle.elan_rules.specs.declared.scope.Denotes.{Denotes}
 use Rattle.elan_rules.specs.declared.scope.Denotes.TheVariants as denotes
 use Rattle.elan_rules.specs.declared.heading.Sort.{Sort}
-use Rattle.elan_rules.specs.declared.heading.Sort.TheVariants.{Procedure}
+use Rattle.elan_rules.specs.declared.heading.Sort.TheVariants.{Procedure, Operator}
 use Rattle.elan_rules.specs.declared.heading.What.{What}
 use Rattle.elan_rules.specs.declared.heading.What.TheVariants.{Routine, Refinement}
 use Rattle.elan_rules.specs.declared.heading.Heading.{Heading}
@@ -36,7 +36,7 @@ use Rattle.elan_rules.specs.Scope.{find, find_own, left, first_heading, types_of
 use Rattle.elan_rules.specs.declared.scope.Scope.{Scope}
 use Rattle.elan_rules.specs.declared.scope.Home.{Home}
 use Rattle.elan_rules.specs.declared.scope.Found.{Found}
-use Rattle.elan_rules.specs.Predefined.{predefined, chosen, exists, delivers}
+use Rattle.elan_rules.specs.Predefined.{predefined, chosen, exists, delivers, becomes}
 use Rattle.elan_rules.specs.Phrase as form
 use Rattle.elan_rules.specs.Phrase.{Form}
 use Rattle.elan_rules.specs.Ruled.{Ruled, gives, breaks, hangs, ◌>>=◌, before}
@@ -217,6 +217,10 @@ looped : (at : ℕ) (k : Option Counted) (c : Option ValuePhrase) (us : List Act
 looped at None c us u = refl
 looped at (Some k) c us u = on_bind (l.in_numbers at k) _ (on_if k.are_numbers _ _ refl refl) (λ n. counting n n.place c us u)
 
+assignment_as : (at : ℕ) (ms : List Meant) (o : Option (ℕ × Heading)) → IsFirm (r.assignment_as at ms o)
+assignment_as at ms (Some b) = on_bind (c.called at b.0 b.1.what ms) _ (called at b.0 b.1.what ms) (λ m. alone m)
+assignment_as at ms None = two (p.two_of ms) (u.assigned at) (λ m n. on_bind (u.agreed at m n) _ (agreed_as at (p.type_in m) n) (λ t. assigned_to (p.variable_of m) (p.place_of m) t (p.value_of n)))
+
 -- the rules but that of identifiers
 abbrev pub Firm : Form → Type 0
 Firm (form.named at s x) = ⊥
@@ -246,7 +250,7 @@ rules kn form.item ms i = refl
 rules kn (form.initial at) ms i = two (p.two_of ms) (u.initial at) (λ m n. on_bind (u.agreed at m n) _ (agreed_as at (p.type_in m) n) (λ t. initial_to (p.variable_of m) t (p.value_of n)))
 rules kn (form.declaration at) ms i = refl
 rules kn form.statement ms i = one (p.one_of ms) u.alone alone
-rules kn (form.assignment at) ms i = two (p.two_of ms) (u.assigned at) (λ m n. on_bind (u.agreed at m n) _ (agreed_as at (p.type_in m) n) (λ t. assigned_to (p.variable_of m) (p.place_of m) t (p.value_of n)))
+rules kn (form.assignment at s) ms i = assignment_as at ms (first_heading (c.takes Operator becomes ms) s.headings)
 rules kn (form.counter w) ms i = three (p.three_of ms) _ (λ m n k. refl)
 rules kn (form.loop at) ms i = four (p.four_of ms) (l.loop at) (λ m n k j. on_if (l.conditions n j) _ _ (looped at (l.counter_in m) (p.written n) (p.actions k) (p.written j)) refl)
 rules kn form.empty ms i = refl

@@ -8,3 +8,5 @@ pub mod TypedCalls
 pub mod Firm
 pub mod Lists
 pub mod Numbers
+pub mod Marks
+pub mod Beside

@@ -113,7 +113,7 @@ module _ (here : Stand) where
   or_last_good n Absent g h = g
   or_last_good n (Value at t v x) g h = h
   or_last_good n (Done as') g h = g
-  or_last_good n (Left as') g h = h
+  or_last_good n (Left as') g h = refl
   or_last_good n (Labels ns) g h = g
   or_last_good n (Branches gs) g h = g
   or_last_good n (Arms ls) g h = g

@@ -1,8 +1,8 @@
 -- What a function answers, beside what the rules say.
-use Rattle.std.specs.Prelude.{◌≡◌, List, [], ◌∷◌, ◌++◌, Result, Ok, Err}
+use Rattle.std.specs.Prelude.{◌≡◌, Result, Ok, Err}
 use Rattle.elan_rules.specs.declared.trouble.Trouble.{Trouble}
 use Rattle.elan_rules.specs.declared.trouble.Trouble.TheVariants.{NoMemory, Breaks, Hangs}
-use Rattle.elan_rules.specs.Ruled.{Ruled, gives, breaks, hangs, ◌>>=◌}
+use Rattle.elan_rules.specs.Ruled.{Ruled, gives, breaks, hangs}
 
 abbrev pub Fails : {A : Type 0} → Trouble → Ruled A → Type 0
 Fails NoMemory ruled = Unit {0}
@@ -17,15 +17,3 @@ Gives look (Err e) ruled = Fails e ruled
 abbrev pub Is : {A : Type 0} → Result A Trouble → Ruled A → Type 0
 Is (Ok x) ruled = ruled ≡ gives x
 Is (Err e) ruled = Fails e ruled
-
--- ---- phrases beside each other
-
-abbrev pub beside : {A B : Type 0} → Ruled A → Ruled B → Ruled (A × B)
-beside (gives x) r = r >>= (λ y. gives (x, y))
-beside (breaks f) r = breaks f
-beside hangs (gives y) = hangs
-beside hangs (breaks f) = breaks f
-beside hangs hangs = hangs
-
-abbrev pub joined : {A : Type 0} → Ruled (List A) → Ruled A → Ruled (List A)
-joined rs r = beside rs r >>= (λ p. gives (p.0 ++ p.1 ∷ []))

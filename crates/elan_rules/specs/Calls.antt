@@ -40,7 +40,7 @@ use Rattle.elan_rules.specs.Predefined.{predefined, chosen, exists, delivers, fi
 use Rattle.elan_rules.specs.Known.{leads_back, delivery_at}
 use Rattle.elan_rules.specs.declared.known.Known.{Known}
 use Rattle.elan_rules.specs.Parts.{unasked, value_of, values_of, variable_of, place_of, valued, two_of, one_of, on_two, on_one}
-use Rattle.elan_rules.specs.Ruled.{Ruled, gives, breaks, hangs, ◌>>=◌, before}
+use Rattle.elan_rules.specs.Ruled.{Ruled, gives, breaks, hangs, ◌>>=◌, before, joined}
 
 -- ---- variables, constants and parameters
 
@@ -100,6 +100,11 @@ abbrev pub given : List Parameter → List Meant → Ruled (List Actual)
 given [] ms = gives []
 given (p ∷ ps) [] = gives []
 given (p ∷ ps) (m ∷ ms) = before (given_as p.access p.of m) (given ps ms)
+
+-- what was given, and behind it what the first of these parameters is given, if there is one
+abbrev pub given_next : List Parameter → Meant → Ruled (List Actual) → Ruled (List Actual)
+given_next [] m r = r
+given_next (p ∷ ps) m r = joined r (given_as p.access p.of m)
 
 abbrev pub call : ℕ → ℕ → Option ElanType → List Actual → Meant
 call at n None as' = Done (action.Call n as' ∷ [])

@@ -1,5 +1,5 @@
 -- What a rule says of a phrase whose parts have meaning.
-use Rattle.std.specs.Prelude.{ℕ, List, [], ◌∷◌}
+use Rattle.std.specs.Prelude.{ℕ, List, [], ◌∷◌, ◌++◌}
 use Rattle.elan_types.specs.declared.why.Why.{Why}
 
 -- a place and a reason
@@ -28,3 +28,15 @@ abbrev pub before : {A : Type 0} → Ruled A → Ruled (List A) → Ruled (List 
 before (gives x) r = r >>= (λ xs. gives (x ∷ xs))
 before (breaks e) r = breaks e
 before hangs r = hung r
+
+-- ---- phrases beside each other
+
+abbrev pub beside : {A B : Type 0} → Ruled A → Ruled B → Ruled (A × B)
+beside (gives x) r = r >>= (λ y. gives (x, y))
+beside (breaks f) r = breaks f
+beside hangs (gives y) = hangs
+beside hangs (breaks f) = breaks f
+beside hangs hangs = hangs
+
+abbrev pub joined : {A : Type 0} → Ruled (List A) → Ruled A → Ruled (List A)
+joined rs r = beside rs r >>= (λ p. gives (p.0 ++ p.1 ∷ []))

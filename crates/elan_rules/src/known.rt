@@ -19,7 +19,7 @@ impl Known {
     pub fn delivery_at(&self, number: usize) -> Delivery
         ensures { result ≡ spec.delivery_at self.now number }
     {
-        match self.deliveries.get(number) {
+        match self.deliveries.as_slice().get(number) {
             None => Delivery::Open,
             Some(delivery) => *delivery,
         }
@@ -93,10 +93,10 @@ fn leads(alloc: Global, calls: &[List<u16>], from: usize, to: usize) -> Result<b
     ensures { IfOk result (λ back. back ≡ spec.leads (length calls.now) calls.now from to) }
 {
     let mut marks = first_marks(alloc, calls.len(), to)?;
-    for _ in 0..calls.len() {
+    for _turn in 0..calls.len() {
         let next = next_marks(alloc, calls, marks.as_slice(), to)?;
         if next.as_slice() == marks.as_slice() {
-            break;
+            return Ok(is_marked(marks.as_slice(), from, to));
         }
         marks = next;
     }

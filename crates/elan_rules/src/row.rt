@@ -4,7 +4,8 @@
 ghost use Rattle.std.specs.Prelude.{[]};
 ghost use Rattle.elan_rules.specs.declared.meant.Meant.{Meant};
 ghost use Rattle.elan_rules.specs.Ruled.{Ruled, gives, before};
-ghost use Rattle.elan_rules.specs.Answer.{Is, beside, joined};
+ghost use Rattle.elan_rules.specs.Answer.{Is};
+ghost use Rattle.elan_rules.specs.Ruled.{beside, joined};
 
 use crate::meant::Meant;
 use crate::trouble::Trouble;

@@ -1,6 +1,8 @@
 //! Calls: operators with their operands, and procedures with their actuals.
 
-ghost use Rattle.std.specs.Prelude.{◌≡◌, IfOk, None};
+ghost use Rattle.std.specs.Prelude.{◌≡◌, IfOk, None, List, drop};
+ghost use Rattle.elan_types.specs.declared.core_phrase.Actual.{Actual as ActualPhrase};
+ghost use Rattle.elan_rules.specs.Ruled.{Ruled};
 ghost use Rattle.elan_rules.specs.declared.meant.Does.TheVariants as does_what;
 ghost use Rattle.elan_rules.specs.Calls as spec;
 ghost use Rattle.elan_rules.specs.Parts as parts;
@@ -132,6 +134,29 @@ fn given_as(parameter: Parameter, operand: Meant) -> Result<Actual, Trouble>
     }
 }
 
+// What parameters were given, and the first of those that are left, if one is.
+fn give(
+    actuals: Result<List<Actual>, Trouble>,
+    rest: &[Parameter],
+    operand: Meant,
+) -> Result<List<Actual>, Trouble>
+    ensures { (given : Ruled (List ActualPhrase)) → Is actuals given → Is result (spec.given_next rest.now operand given) }
+{
+    match rest {
+        [] => actuals,
+        [parameter, _others @ ..] => and(actuals, given_as(*parameter, operand)),
+    }
+}
+
+fn behind_first(parameters: &[Parameter]) -> &[Parameter]
+    ensures { result.now ≡ drop 1 parameters.now }
+{
+    match parameters {
+        [] => parameters,
+        [_first, others @ ..] => others,
+    }
+}
+
 // What parameters are given, from left to right.
 fn given(
     alloc: Global,
@@ -143,13 +168,8 @@ fn given(
     let mut actuals = Ok(List::new(alloc));
     let mut rest = parameters;
     for operand in operands.into_vec() {
-        match rest {
-            [] => return actuals,
-            [parameter, others @ ..] => {
-                actuals = and(actuals, given_as(*parameter, operand));
-                rest = others;
-            }
-        }
+        actuals = give(actuals, rest, operand);
+        rest = behind_first(rest);
     }
     actuals
 }

@@ -7,6 +7,7 @@ ghost use Rattle.elan_rules.specs.Answer.{Is};
 use crate::meant::{Guarded, Meant, Part};
 use crate::predefined::delivers;
 use crate::row::Judged;
+use crate::rules::list::append;
 use crate::rules::part::{one, part_of, unreached, value_of, valued};
 use crate::trouble::Trouble;
 use elan_types::{Action, ElanType, ValuePhrase, Why};
@@ -203,12 +204,10 @@ fn branches_in(alloc: Global, meant: Meant) -> List<Guarded>
 fn add_branches(out: &mut List<Guarded>, part: Meant) -> Result<(), NoMemory>
     ensures { OnOk result (out.new ≡ out.old ++ spec.branches_in part) }
 {
-    if let Meant::Branches(branches) = part {
-        for branch in branches.into_vec() {
-            out.push(branch)?;
-        }
+    match part {
+        Meant::Branches(branches) => append(out, branches),
+        _ => Ok(()),
     }
-    Ok(())
 }
 
 /// The branches of parts, one after another.

@@ -9,6 +9,7 @@ use crate::delivery::Delivery;
 use crate::meant::{Labelled, Meant, Part};
 use crate::predefined::{delivers, exists};
 use crate::row::Judged;
+use crate::rules::list::append;
 use crate::rules::part::{blank, one, part_of, unreached, value_of, valued};
 use crate::scope::Found;
 use crate::trouble::Trouble;
@@ -77,12 +78,10 @@ pub fn labelled(alloc: Global, labels: Meant, units: Meant) -> Labelled
 fn add_arms(out: &mut List<Labelled>, part: Meant) -> Result<(), NoMemory>
     ensures { OnOk result (out.new ≡ out.old ++ spec.arms_in part) }
 {
-    if let Meant::Arms(arms) = part {
-        for arm in arms.into_vec() {
-            out.push(arm)?;
-        }
+    match part {
+        Meant::Arms(arms) => append(out, arms),
+        _ => Ok(()),
     }
-    Ok(())
 }
 
 /// The arms of parts, one after another.
