@@ -14,7 +14,8 @@ use Rattle.elan_rules.specs.declared.trouble.Trouble.TheVariants.{NoMemory, Brea
 use Rattle.elan_rules.specs.Answer.{Is, Fails, beside, joined}
 use Rattle.elan_rules.specs.Choices.{labels_of}
 use Rattle.elan_rules.specs.Meaning.{judged, judged_all}
-use Rattle.elan_rules.specs.Phrase.{Form, Phrase, phrase, Parts, all_of, is_empty, all_empty}
+use Rattle.elan_rules.specs.Phrase as form
+use Rattle.elan_rules.specs.Phrase.{Form, Phrase, phrase, Parts, none, part, around, all_of, is_empty, all_empty}
 use Rattle.elan_rules.specs.Ruled.{Ruled, gives, breaks, hangs, ◌>>=◌, before, hung}
 use Rattle.elan_rules.specs.Rules.{rule}
 use Rattle.elan_check.specs.Shape.{unit, case, role, roles, numbers, arm_phrase, arm_phrases}
@@ -32,6 +33,29 @@ module _ (k : Known) (f : Form) (ps : Parts) where
 
   pub whole_is : (out : Result Meant Trouble) (ms : List Meant) → judged_all k ps ≡ gives ms → Is out (rule k f ms) → Is out (judged k (phrase f ps))
   whole_is out ms e h = subst (λ (z : Ruled (List Meant)). Is out (z >>= rule k f)) (sym e) h
+
+alone_fails : (d : Trouble) (r : Ruled Meant) → Fails d r → Fails d (before r (gives []))
+alone_fails NoMemory r h = tt
+alone_fails (Breaks at why) r h = ap (λ z. before z (gives [])) h
+alone_fails Hangs r h = ap (λ z. before z (gives [])) h
+
+module _ (k : Known) (f : Form) (p : Phrase) where
+  pub one_fails : (d : Trouble) → Fails d (judged k p) → Fails d (judged k (around f p))
+  one_fails d h = whole_fails k f (part p none) d (alone_fails d (judged k p) h)
+
+  pub one_is : (out : Result Meant Trouble) (m : Meant) → judged k p ≡ gives m → Is out (rule k f (m ∷ [])) → Is out (judged k (around f p))
+  one_is out m e h = subst (λ (z : Ruled Meant). Is out (before z (gives []) >>= rule k f)) (sym e) h
+
+module _ (k : Known) (p : Phrase) where
+  pub role_fails : (may : Bool) (d : Trouble) → Fails d (judged k p) → Fails d (judged k (role may p))
+  role_fails true d h = h
+  role_fails false d h = one_fails k form.without_value p d h
+
+  pub role_kept : (may : Bool) (m : Meant) → true ≡ may → judged k p ≡ gives m → judged k (role may p) ≡ gives m
+  role_kept may m e h = subst (λ (b : Bool). judged k (role b p) ≡ gives m) e h
+
+  pub role_without : (may : Bool) (out : Result Meant Trouble) (m : Meant) → false ≡ may → judged k p ≡ gives m → Is out (rule k form.without_value (m ∷ [])) → Is out (judged k (role may p))
+  role_without may out m e h i = subst (λ (b : Bool). Is out (judged k (role b p))) e (one_is k form.without_value p out m h i)
 
 -- ---- a row with one more phrase
 

@@ -23,7 +23,7 @@ use Rattle.elan_rules.specs.Answer.{Is}
 use Rattle.elan_rules.specs.Meaning.{judged}
 use Rattle.elan_rules.specs.declared.known.Known.{Known}
 use Rattle.elan_rules.specs.declared.scope.Scope.{Scope}
-use Rattle.elan_rules.specs.declared.heading.Sort.TheVariants.{Operator as for_operators}
+use Rattle.elan_rules.specs.declared.heading.Sort.TheVariants.{Operator as for_operators, Procedure as for_procedures}
 use Rattle.elan_rules.specs.Phrase as form
 use Rattle.elan_rules.specs.Phrase.{Form, Phrase, phrase, none, part, leaf, around, pair, three, all_of}
 use Rattle.elan_check.specs.Shape as shape
@@ -160,3 +160,28 @@ module _ (s : Scope) where
     pub leave_is : (w : Statement) (at : ℕ) (n : Name) (v : Option Expr) → w ≡ statement.Leave at n v → Is q (judged known (around (form.leave at s n.text) (shape.optional_expr s v))) → Is q (judged known (shape.unit s w))
     leave_is w at n v i h =
         subst (λ (p : Phrase). Is q (judged known p)) (sym (ap (shape.unit s) (i ∙ sym (statement.rolls-Leave at n v)) ∙ leave_rolled at n v)) h
+
+    pub monadic_is : (w : Expr) (at : ℕ) (o : Operator) (x : List ℕ) (a a' : Expr) → w ≡ expression.Monadic at o a → x ≡ operator_text o → a' ≡ a → Is q (judged known (around (form.applied at s for_operators x) (shape.expr s a'))) → Is q (judged known (shape.expr s w))
+    monadic_is w at o x a a' i n e h =
+        subst (λ (p : Phrase). Is q (judged known p))
+        (ap (λ (y : List ℕ). around (form.applied at s for_operators y) (shape.expr s a')) n
+        ∙ ap (λ (y : Expr). around (form.applied at s for_operators (operator_text o)) (shape.expr s y)) e
+        ∙ sym (ap (shape.expr s) (i ∙ sym (expression.rolls-Monadic at o a)) ∙ rw fold-roll-Expr refl)) h
+
+    pub call_is : (w : Expr) (n : Name) (x : List ℕ) (es es' : List Expr) → w ≡ expression.Call n es → x ≡ n.text → es' ≡ es → Is q (judged known (phrase (form.applied n.at s for_procedures x) (all_of (map (shape.expr s) es')))) → Is q (judged known (shape.expr s w))
+    call_is w n x es es' i t e h =
+        subst (λ (p : Phrase). Is q (judged known p))
+        (ap (λ (y : List ℕ). phrase (form.applied n.at s for_procedures y) (all_of (map (shape.expr s) es'))) t
+        ∙ ap (λ (l : List Expr). phrase (form.applied n.at s for_procedures n.text) (all_of (map (shape.expr s) l))) e
+        ∙ sym (ap (shape.expr s) (i ∙ sym (expression.rolls-Call n es)) ∙ rw fold-roll-Expr refl)) h
+
+    pub bracket_is : (w : Expr) (at : ℕ) (a a' : Expr) → w ≡ expression.Bracket at a → a' ≡ a → Is q (judged known (around (form.bracket at) (shape.expr s a'))) → Is q (judged known (shape.expr s w))
+    bracket_is w at a a' i e h =
+        subst (λ (p : Phrase). Is q (judged known p))
+        (ap (λ (y : Expr). around (form.bracket at) (shape.expr s y)) e
+        ∙ sym (ap (shape.expr s) (i ∙ sym (expression.rolls-Bracket at a)) ∙ rw fold-roll-Expr refl)) h
+
+    pub statement_is : (w : Statement) (a : Expr) → w ≡ statement.Value a → Is q (judged known (around form.statement (shape.expr s a))) → Is q (judged known (shape.unit s w))
+    statement_is w a i h =
+        let e : shape.unit s w ≡ around form.statement (shape.expr s a) = ap (shape.unit s) (i ∙ sym (statement.rolls-Value a)) ∙ rw fold-roll-Unit refl in
+        subst (λ (p : Phrase). Is q (judged known p)) (sym e) h
