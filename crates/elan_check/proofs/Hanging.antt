@@ -34,7 +34,8 @@ use Rattle.elan_rules.specs.Rules.{rule}
 use Rattle.elan_check.specs.Shape as shape
 use Rattle.elan_check.specs.Level as l
 use Rattle.elan_rules.specs.Meaning.{judged, judged_all, phrases, phrases_of}
-use Rattle.elan_check.specs.Refinements.{told, last_unit, last_unit_in, unit_delivery, outcome, called_by, called_by_all, called_in, number_list, known_of}
+use Rattle.elan_check.specs.Refinements.{told, last_unit, last_unit_in, unit_delivery, outcome, called_by, called_by_all, called_in, known_of}
+use Rattle.elan_check.specs.Uses.{number_list}
 use Rattle.elan_rules.proofs.First.{Faultless, whole, open_one, bind_faultless, before_faultless, breaks_has_fault}
 use Rattle.elan_check.proofs.Calls.{called_append}
 use Rattle.elan_check.proofs.InScope.{Names, InScope, AllIn, body_units_in, statement_in}

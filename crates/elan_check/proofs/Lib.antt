@@ -10,7 +10,9 @@ pub mod LevelRows
 pub mod WellTyped
 pub mod Checked
 pub mod Cores
+pub mod Scopes
 pub mod Routines
+pub mod Lasts
 pub mod Walks
 pub mod Calls
 pub mod Steps

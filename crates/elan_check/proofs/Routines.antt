@@ -1,8 +1,11 @@
 -- What PROCs, OPs and refinements mean, from what their parts mean.
-use Rattle.std.proofs.Common.{◌≡◌, ℕ, suc, ◌+◌, ◌<◌, ◌≤◌, List, [], ◌∷◌, ◌++◌, map, length, get_or, drop, take, drop-cons, add-one, Result, Option, Some, None, arith, Bool, true, false, refl, sym, ap, subst, ◌∙◌, append_assoc}
+use Rattle.std.proofs.Common.{◌≡◌, ℕ, suc, ◌+◌, ◌<◌, ◌≤◌, List, [], ◌∷◌, ◌++◌, map, length, get_or, drop, take, drop-cons, add-one, Result, Ok, Option, Some, None, arith, Bool, true, false, refl, sym, ap, subst, ◌∙◌, append_assoc}
 use Rattle.std.proofs.lemmas.List.{append-nil, at_drop_all}
 use Rattle.elan_types.specs.declared.elan_type.ElanType.{ElanType}
+use Rattle.elan_types.specs.declared.core_phrase.Parameter.{Parameter}
+use Rattle.elan_types.specs.declared.core_phrase.Scope.{Scope as Owner}
 use Rattle.elan_types.specs.declared.core_phrase.Scope.TheVariants as owner
+use Rattle.elan_tree.specs.declared.phrase.Unit.{Unit as Statement}
 use Rattle.elan_tree.specs.declared.written_type.Name.{Name}
 use Rattle.elan_tree.specs.declared.written_type.TypePhrase.{TypePhrase}
 use Rattle.elan_tree.specs.declared.written_type.Formal.{Formal}
@@ -10,39 +13,23 @@ use Rattle.elan_tree.specs.declared.tree.Body.{Body}
 use Rattle.elan_tree.specs.declared.tree.Refinement.{Refinement}
 use Rattle.elan_tree.specs.declared.tree.LevelUnit.{LevelUnit}
 use Rattle.elan_rules.specs.declared.heading.Sort.{Sort}
-use Rattle.elan_rules.specs.declared.scope.Entry.{Entry}
-use Rattle.elan_rules.specs.declared.scope.Within.{Within}
+use Rattle.elan_rules.specs.declared.heading.Sort.TheVariants.{Procedure}
 use Rattle.elan_rules.specs.declared.scope.Scope.{Scope}
 use Rattle.elan_rules.specs.declared.known.Known.{Known}
 use Rattle.elan_rules.specs.declared.meant.Meant.{Meant}
 use Rattle.elan_rules.specs.declared.trouble.Trouble.{Trouble}
 use Rattle.elan_rules.specs.Phrase as form
-use Rattle.elan_rules.specs.Phrase.{Phrase, all_of}
-use Rattle.elan_rules.specs.Answer.{Is, joined}
+use Rattle.elan_rules.specs.Phrase.{Phrase, all_of, around, leaf, last_place}
+use Rattle.elan_rules.specs.Answer.{Is}
 use Rattle.elan_rules.specs.Meaning.{judged, judged_all}
-use Rattle.elan_rules.specs.Ruled.{Ruled}
+use Rattle.elan_rules.specs.Ruled.{Ruled, gives, joined}
+use Rattle.elan_rules.specs.Scope.{first_heading, is_alike, types_of}
+use Rattle.elan_rules.specs.Calls as calls
+use Rattle.elan_rules.specs.Units as u
+use Rattle.elan_check.specs.Shape as shape
 use Rattle.elan_check.specs.Bodies.{parameters, result, body_names, bodies_in}
 use Rattle.elan_check.specs.Level as l
-use Rattle.elan_check.proofs.Rows.{row_is}
-
--- ---- scopes
-
-abbrev scope_with : Scope → Option Within → Option ℕ → Scope
-scope_with s o r = record { headings = s.headings; level = s.level; routine = o; refinement = r }
-
-abbrev within : ℕ → List Entry → Option Within
-within n names = Some (record { number = n; names = names })
-
--- in a PROC or OP
-pub entered : (s : Scope) (n : ℕ) (names own : List Entry) → s.refinement ≡ None → names ≡ own → scope_with s (within n names) s.refinement ≡ l.routine_scope s n own
-entered s n names own e h = ap (λ (o : Option ℕ). scope_with s (within n names) o) e ∙ ap (λ (es : List Entry). scope_with s (within n es) None) h
-
--- behind it
-pub left_routine : (s : Scope) → s.routine ≡ None → scope_with s None s.refinement ≡ s
-left_routine s e = ap (λ (o : Option Within). scope_with s o s.refinement) (sym e)
-
-pub left_refinement : (s : Scope) → s.refinement ≡ None → scope_with s s.routine None ≡ s
-left_refinement s e = ap (λ (o : Option ℕ). scope_with s s.routine o) (sym e)
+use Rattle.elan_check.proofs.Rows.{row_is, one_is}
 
 -- ---- a row that grows behind phrases: those that are judged, and those that are left
 
@@ -53,6 +40,9 @@ pub record Grown (k : Known) (row : Result (List Meant) Trouble) (left whole : L
 
 pub starts : (k : Known) (row : Result (List Meant) Trouble) (ps left : List Phrase) → Is row (judged_all k (all_of ps)) → Grown k row left (ps ++ left)
 starts k row ps left h = record { done = ps; means = h; rest = refl }
+
+pub no_phrases : (k : Known) (ms : List Meant) → ms ≡ [] → Is {A = List Meant} (Ok ms) (judged_all k (all_of []))
+no_phrases k ms e = ap (λ (ns : List Meant). gives ns) (sym e)
 
 -- one phrase further
 pub grows : (k : Known) (row next : Result (List Meant) Trouble) (p : Phrase) (left whole : List Phrase) → (g : Grown k row (p ∷ left) whole) → Is next (joined (judged_all k (all_of g.done)) (judged k p)) → Grown k next left whole
@@ -124,12 +114,51 @@ formals_go k row next s fs i f whole lt e g h =
 
 -- ---- PROCs and OPs
 
+-- the body of a PROC or OP, in its scope
+abbrev pub body_in : Scope → ℕ → Option TypePhrase → List Formal → Body → Phrase
+body_in s at r fs b = around (form.body (last_place at (map (shape.unit s) b.units)) (owner.Own (parameters fs) (l.own_types b)) (result r)) (shape.units true (map (shape.unit s) b.units))
+
 regroup : (ps qs : List Phrase) (p q : Phrase) (rs : List Phrase) → (ps ++ p ∷ []) ++ (qs ++ q ∷ rs) ≡ (ps ++ p ∷ qs) ++ q ∷ rs
 regroup ps qs p q rs = append_assoc ps (p ∷ []) (qs ++ q ∷ rs) ∙ sym (append_assoc ps (p ∷ qs) (q ∷ rs))
 
--- behind phrases, its parameters, its body, and its refinements
-pub inside_is : (k : Known) (row : Result (List Meant) Trouble) (ps qs : List Phrase) (q : Phrase) (rs : List Phrase) → Is row (judged_all k (all_of ((ps ++ qs) ++ q ∷ [] ++ rs))) → Is row (judged_all k (all_of (ps ++ (qs ++ q ∷ rs))))
-inside_is k row ps qs q rs h = subst (λ (l : List Phrase). Is row (judged_all k (all_of l))) (append_assoc (ps ++ qs) (q ∷ []) rs ∙ append_assoc ps qs (q ∷ rs)) h
+-- what stands in its scope, behind phrases
+pub inside_goes : (k : Known) (row : Result (List Meant) Trouble) (ps : List Phrase) (s : Scope) (n m at : ℕ) (r : Option TypePhrase) (fs : List Formal) (b : Body) (rs : List Refinement) → m ≡ n + 1 → rs ≡ b.refinements →
+    Is row (judged_all k (all_of (((ps ++ l.declare_parameters s fs) ++ body_in s at r fs b ∷ []) ++ l.refinements s m rs))) → Is row (judged_all k (all_of (ps ++ l.inside s n at r fs b)))
+inside_goes k row ps s n m at r fs b rs em er h =
+    let qs = l.declare_parameters s fs in
+    let q = body_in s at r fs b in
+    let number : m ≡ suc n = omega (arith, em) in
+    let left : l.refinements s m rs ≡ l.refinements s (suc n) b.refinements = ap (λ (j : ℕ). l.refinements s j rs) number ∙ ap (λ (vs : List Refinement). l.refinements s (suc n) vs) er in
+    subst (λ (all : List Phrase). Is row (judged_all k (all_of all)))
+    (ap (λ (vs : List Phrase). ((ps ++ qs) ++ q ∷ []) ++ vs) left
+    ∙ append_assoc (ps ++ qs) (q ∷ []) (l.refinements s (suc n) b.refinements) ∙ append_assoc ps qs (q ∷ l.refinements s (suc n) b.refinements)) h
+
+pub body_is : (k : Known) (s : Scope) (at a : ℕ) (o o' : Owner) (r r' : Option ElanType) (us us' : List Statement) (m : Meant) (out : Result Meant Trouble) → us' ≡ us → judged k (shape.units true (map (shape.unit s) us')) ≡ gives m →
+    a ≡ last_place at (map (shape.unit s) us') → o' ≡ o → r' ≡ r → Is out (u.body a o' r' m) → Is out (judged k (around (form.body (last_place at (map (shape.unit s) us)) o r) (shape.units true (map (shape.unit s) us))))
+body_is k s at a o o' r r' us us' m out eu e ea eo er h =
+    let place = last_place at (map (shape.unit s) us) in
+    one_is k (form.body place o r) (shape.units true (map (shape.unit s) us)) out m (subst (λ (vs : List Statement). judged k (shape.units true (map (shape.unit s) vs)) ≡ gives m) eu e)
+    (subst (λ (x : Option ElanType). Is out (u.body place o x m)) er
+    (subst (λ (x : Owner). Is out (u.body place x r' m)) eo
+    (subst (λ (x : ℕ). Is out (u.body x o' r' m)) (ea ∙ ap (λ (vs : List Statement). last_place at (map (shape.unit s) vs)) eu) h)))
+
+pub heading_is : (k : Known) (s : Scope) (at : ℕ) (sort : Sort) (x : List ℕ) (ps ps' : List Parameter) (b b' : Bool) (out : Result Meant Trouble) → ps' ≡ ps → b' ≡ b →
+    Is out (calls.headed at b' (first_heading (is_alike sort x (types_of ps')) s.headings)) → Is out (judged k (leaf (form.heading at s sort x ps b)))
+heading_is k s at sort x ps ps' b b' out ep eb h =
+    subst (λ (qs : List Parameter). Is out (calls.headed at b (first_heading (is_alike sort x (types_of qs)) s.headings))) ep
+    (subst (λ (c : Bool). Is out (calls.headed at c (first_heading (is_alike sort x (types_of ps')) s.headings))) eb h)
+
+pub procedure_at : (k : Known) (s : Scope) (n : ℕ) (name : Name) (x : List ℕ) (r : Option TypePhrase) (fs fs' : List Formal) (b : Body) (out : Result Meant Trouble) → x ≡ name.text → fs' ≡ fs →
+    Is out (judged k (l.routine s n name.at x r fs' b Procedure (l.procedure_name s name fs'))) → Is out (judged k (l.routine s n name.at name.text r fs b Procedure (l.procedure_name s name fs)))
+procedure_at k s n name x r fs fs' b out ex ef h =
+    subst (λ (gs : List Formal). Is out (judged k (l.routine s n name.at name.text r gs b Procedure (l.procedure_name s name gs)))) ef
+    (subst (λ (y : List ℕ). Is out (judged k (l.routine s n name.at y r fs' b Procedure (l.procedure_name s name fs')))) ex h)
+
+pub operator_at : (k : Known) (s : Scope) (n at : ℕ) (x x' : List ℕ) (r : Option TypePhrase) (fs fs' : List Formal) (b : Body) (sort : Sort) (out : Result Meant Trouble) → x' ≡ x → fs' ≡ fs →
+    Is out (judged k (l.routine s n at x' r fs' b sort [])) → Is out (judged k (l.routine s n at x r fs b sort []))
+operator_at k s n at x x' r fs fs' b sort out ex ef h =
+    subst (λ (gs : List Formal). Is out (judged k (l.routine s n at x r gs b sort []))) ef
+    (subst (λ (y : List ℕ). Is out (judged k (l.routine s n at y r fs' b sort []))) ex h)
 
 module _ (k : Known) (row : Result (List Meant) Trouble) (s : Scope) (n at : ℕ) (x : List ℕ) (r : Option TypePhrase) (fs : List Formal) (b : Body) (sort : Sort) (ps : List Phrase) where
   abbrev pub headed : Phrase

@@ -1,6 +1,6 @@
 -- What is found out of one body after another is what a step finds out of all of them.
-use Rattle.std.proofs.Common.{◌≡◌, ℕ, zero, suc, ◌+◌, ◌-◌, ◌≤◌, ◌<◌, get_or, drop, List, [], ◌∷◌, ◌++◌, map, length, Option, Some, None, refl, sym, ap, subst, ◌∙◌, arith, append_assoc}
-use Rattle.std.specs.Prelude.{slice_index_or}
+use Rattle.std.proofs.Common.{◌≡◌, ℕ, zero, suc, ◌+◌, ◌-◌, ◌≤◌, ◌<◌, get_or, drop, List, [], ◌∷◌, ◌++◌, map, length, true, Option, Some, None, Result, Ok, Err, refl, sym, ap, subst, ◌∙◌, arith, append_assoc}
+use Rattle.std.specs.Prelude.{slice_index_or, OnOk}
 use Rattle.std.proofs.lemmas.List.{append-nil, at_drop_more, at_drop_all}
 use Rattle.elan_tree.specs.declared.written_type.Formal.{Formal}
 use Rattle.elan_tree.specs.declared.tree.Body.{Body}
@@ -20,7 +20,7 @@ use Rattle.elan_check.specs.Level as l
 use Rattle.elan_check.specs.Shape.{unit, units}
 use Rattle.elan_check.specs.Refinements.{told_by, next, next_all, called_in, known_after, known_of, more_known, all_known, nothing_known}
 
-abbrev known_with : List Delivery → List (List ℕ) → Known
+abbrev pub known_with : List Delivery → List (List ℕ) → Known
 known_with ds cs = record { deliveries = ds; calls = cs }
 
 -- ---- one after another
@@ -96,8 +96,8 @@ refinements_count o (r ∷ rs) = ap suc (refinements_count o rs)
 
 pub unit_count : (s : Scope) (k : ℕ) (v : LevelUnit) → length (l.unit_bodies s k v) ≡ b.bodies_in v
 unit_count s k (level.Plain v) = refl
-unit_count s k (level.Proc at r n fs w) = ap suc (refined_count _ (suc k) w.refinements)
-unit_count s k (level.Op at r n fs w) = ap suc (refined_count _ (suc k) w.refinements)
+unit_count s k (level.Proc at r n fs w) = ap suc (refined_count (l.routine_scope s k (b.body_names fs w)) (suc k) w.refinements)
+unit_count s k (level.Op at r n fs w) = ap suc (refined_count (l.routine_scope s k (b.body_names fs w)) (suc k) w.refinements)
 unit_count s k (level.NewType at n of) = refl
 
 pub units_count : (s : Scope) (k : ℕ) (vs : List LevelUnit) → length (l.all_unit_bodies s k vs) ≡ l.bodies_of_units vs
@@ -168,7 +168,25 @@ module _ (w : Level) where
       by_rest : (d : ℕ) → m ≡ d + n → known_after n hs us ≡ known_after m hs us
       by_rest d i = sym (ap (λ (j : ℕ). known_after j hs us) i ∙ stays d n (known_same (suc n) n e))
 
+-- What a step does not change is all that can be known.
+pub found_all : (w : Level) (n : ℕ) (known next : Known) → known ≡ known_after n (b.headings w) (l.level_bodies w) → next ≡ all_known known nothing_known 0 (l.level_bodies w) → next.deliveries ≡ known.deliveries → n ≤ length (b.headings w) → known ≡ known_of (b.headings w) (l.level_bodies w)
+found_all w n known next ek en ed h =
+    let e : next ≡ known_after (suc n) (b.headings w) (l.level_bodies w) = en ∙ ap (λ (k : Known). all_known k nothing_known 0 (l.level_bodies w)) ek ∙ step_is w n in
+    ek ∙ stops w n (length (b.headings w)) (sym (ap (λ (k : Known). k.deliveries) e) ∙ ed ∙ ap (λ (k : Known). k.deliveries) ek) h
+
+pub found_next : (w : Level) (n : ℕ) (known next : Known) → known ≡ known_after n (b.headings w) (l.level_bodies w) → next ≡ all_known known nothing_known 0 (l.level_bodies w) → next ≡ known_after (n + 1) (b.headings w) (l.level_bodies w)
+found_next w n known next ek en =
+    let z : suc n ≡ n + 1 = omega arith in
+    en ∙ ap (λ (k : Known). all_known k nothing_known 0 (l.level_bodies w)) ek ∙ step_is w n ∙ ap (λ (i : ℕ). known_after i (b.headings w) (l.level_bodies w)) z
+
 -- ---- the walk over a level
+
+pub body_found : {E : Type 0} (q : Result (Unit {0}) E) (k out : Known) (n : ℕ) (v : Phrase) (d : Delivery) (c : List ℕ) (ds : List Delivery) (cs : List (List ℕ)) → d ≡ next k (delivery_at k n) v → c ≡ called_in v → ds ≡ out.deliveries ++ d ∷ [] →
+    OnOk q (cs ≡ out.calls ++ c ∷ []) → OnOk q (known_with ds cs ≡ more_known k out n v)
+body_found (Err e) k out n v d c ds cs ed ec es h = tt
+body_found (Ok x) k out n v d c ds cs ed ec es h =
+    ap (λ (l : List Delivery). known_with l cs) (es ∙ ap (λ (y : Delivery). out.deliveries ++ y ∷ []) ed)
+    ∙ ap (λ (l : List (List ℕ)). known_with (out.deliveries ++ next k (delivery_at k n) v ∷ []) l) (h ∙ ap (λ (y : List ℕ). out.calls ++ y ∷ []) ec)
 
 module _ (k : Known) where
   pub refinement_found : (s z : Scope) (rs : List Refined) (i : ℕ) (r : Refined) (n m : ℕ) (out new whole : Known) → i < length rs → r ≡ get_or rs i r → m ≡ n + 1 → z ≡ s → new ≡ more_known k out n (l.refined_units z n r) →

@@ -2,6 +2,9 @@
 
 ghost use Rattle.std.specs.Prelude.{◌≡◌, ◌++◌, map, option_map, None, true, IfOk, OnOk};
 ghost use Rattle.elan_rules.specs.declared.scope.Scope.{Scope};
+ghost use Rattle.elan_rules.specs.declared.meant.Meant.{Meant};
+ghost use Rattle.elan_rules.specs.Ruled.{Ruled};
+ghost use Rattle.elan_rules.specs.Answer.{Is};
 ghost use Rattle.elan_rules.specs.Known as knowledge;
 ghost use Rattle.elan_check.specs.Bodies as bodies;
 ghost use Rattle.elan_check.specs.Level as level_spec;
@@ -16,6 +19,7 @@ use elan_rules::delivery::Delivery;
 use elan_rules::heading::{Heading, What};
 use elan_rules::known::Known;
 use elan_rules::meant::Meant;
+use elan_rules::row::Judged;
 use elan_rules::scope::{Scope, Within};
 use elan_rules::trouble::Trouble;
 use elan_tree::{Body, Formal, Level, LevelUnit, Refinement, Unit};
@@ -65,7 +69,19 @@ fn delivery_of(meant: &Meant) -> Delivery
     }
 }
 
-// What the last unit delivers, as far as it has a meaning.
+// What a phrase delivers; nothing is known of one without a meaning.
+fn outcome(judged: Judged) -> Result<Delivery, NoMemory>
+    ensures { (r : Ruled Meant) → Is judged r → IfOk result (λ d. d ≡ spec.outcome r) }
+{
+    match judged {
+        Ok(meant) => Ok(delivery_of(&meant)),
+        Err(Trouble::NoMemory) => Err(NoMemory),
+        Err(Trouble::Breaks(_, _)) => Ok(Delivery::Open),
+        Err(Trouble::Hangs) => Ok(Delivery::Open),
+    }
+}
+
+// What the last unit delivers.
 fn units_delivery(
     alloc: Global,
     known: &Known,
@@ -76,12 +92,7 @@ fn units_delivery(
 {
     match last_unit(units) {
         None => Ok(Delivery::Nothing),
-        Some(unit) => match judge_unit(alloc, known, scope, unit) {
-            Ok(meant) => Ok(delivery_of(&meant)),
-            Err(Trouble::NoMemory) => Err(NoMemory),
-            Err(Trouble::Breaks(_, _)) => Ok(Delivery::Open),
-            Err(Trouble::Hangs) => Ok(Delivery::Open),
-        },
+        Some(unit) => outcome(judge_unit(alloc, known, scope, unit)),
     }
 }
 
@@ -270,7 +281,7 @@ pub fn known_of(alloc: Global, scope: &mut Scope, level: &Level) -> Result<Known
     for _ in 0..scope.headings.len() {
         let next = next_known(alloc, &known, scope, level)?;
         if next.deliveries.as_slice() == known.deliveries.as_slice() {
-            break;
+            return Ok(known);
         }
         known = next;
     }

@@ -143,7 +143,7 @@ fn level_scope(alloc: Global, level: &Level) -> Result<Scope, NoMemory>
 
 /// The core of a level.
 pub fn core_of(alloc: Global, written: &Level) -> Result<Core, CheckError>
-    ensures answer { text.Answers written.now result }
+    ensures { text.Answers written.now result }
 {
     let mut scope = level_scope(alloc, written)?;
     let known = known_of(alloc, &mut scope, written)?;

@@ -5,7 +5,7 @@ ghost use Rattle.elan_types.specs.declared.core_phrase.Scope.TheVariants as owne
 ghost use Rattle.elan_rules.specs.declared.known.Known.{Known};
 ghost use Rattle.elan_rules.specs.declared.scope.Scope.{Scope};
 ghost use Rattle.elan_rules.specs.Phrase as form;
-ghost use Rattle.elan_rules.specs.Phrase.{Phrase, around, all_of};
+ghost use Rattle.elan_rules.specs.Phrase.{Phrase, phrase, around, all_of};
 ghost use Rattle.elan_rules.specs.Meaning.{judged, judged_all};
 ghost use Rattle.elan_rules.specs.Answer.{Is};
 ghost use Rattle.elan_check.specs.Bodies as bodies;
@@ -175,7 +175,7 @@ fn last_place(at: u32, units: &[Unit]) -> u32
 
 // The scope of its variables: its parameters, and what its body declares.
 fn frame(alloc: Global, of: Routine<'_>) -> Result<Owner, NoMemory>
-    ensures { IfOk result (λ frame. frame ≡ owner.Own (bodies.parameters of.formals.now) (spec.own_types of.body.now)) }
+    ensures { IfOk result (λ frame. frame ≡ owner.Own (bodies.parameters of.entry.formals.now) (spec.own_types of.entry.body.now)) }
 {
     let parameters = parameters(alloc, of.formals)?;
     let names = own_names(alloc, of.body)?;
@@ -188,7 +188,7 @@ fn frame(alloc: Global, of: Routine<'_>) -> Result<Owner, NoMemory>
 
 // Its body, in its own scope.
 fn judge_body(alloc: Global, known: &Known, scope: &Scope, of: Routine<'_>) -> Judged
-    ensures { Is result (judged known.now (around (form.body (form.last_place of.at (map (shape.unit scope.now) of.body.now.units)) (owner.Own (bodies.parameters of.formals.now) (spec.own_types of.body.now)) (bodies.result of.result.now)) (shape.units true (map (shape.unit scope.now) of.body.now.units)))) }
+    ensures { Is result (judged known.now (around (form.body (form.last_place of.entry.at (map (shape.unit scope.now) of.entry.body.now.units)) (owner.Own (bodies.parameters of.entry.formals.now) (spec.own_types of.entry.body.now)) (bodies.result of.entry.result.now)) (shape.units true (map (shape.unit scope.now) of.entry.body.now.units)))) }
 {
     let units = of.body.units.as_slice();
     let meant = judge_units(alloc, known, scope, true, units)?;
@@ -207,7 +207,7 @@ fn is_missing(of: &Option<TypePhrase>, units: &[Unit]) -> bool
 
 // Its heading, in the scope of the level.
 fn judge_heading(alloc: Global, scope: &Scope, of: Routine<'_>) -> Judged
-    ensures { (k : Known) → (s : Scope) → Is result (judged k (form.leaf (form.heading of.at scope.now of.sort of.name.now (bodies.parameters of.formals.now) (spec.is_missing (bodies.result of.result.now) (map (shape.unit s) of.body.now.units))))) }
+    ensures { (k : Known) → (s : Scope) → Is result (judged k (form.leaf (form.heading of.entry.at scope.now of.entry.sort of.entry.name.now (bodies.parameters of.entry.formals.now) (spec.is_missing (bodies.result of.entry.result.now) (map (shape.unit s) of.entry.body.now.units))))) }
 {
     let parameters = parameters(alloc, of.formals)?;
     let missing = is_missing(of.result, of.body.units.as_slice());
@@ -231,7 +231,7 @@ fn judge_inside(
     before: Row,
 ) -> Row
     requires { scope.old.refinement ≡ None }
-    ensures meaning { (ps : List Phrase) → Is before (judged_all known.now (all_of ps)) → Is result (judged_all known.now (all_of (ps ++ spec.inside scope.old of.number of.at of.result.now of.formals.now of.body.now))) }
+    ensures meaning { (ps : List Phrase) → Is before (judged_all known.now (all_of ps)) → Is result (judged_all known.now (all_of (ps ++ spec.inside scope.old of.entry.number of.entry.at of.entry.result.now of.entry.formals.now of.entry.body.now))) }
     ensures kept { scope.new ≡ scope.old }
 {
     let first = next_number(of.number)?;
@@ -239,6 +239,15 @@ fn judge_inside(
     let row = and(row, judge_body(alloc, known, scope, of));
     let refinements = of.body.refinements.as_slice();
     judge_refinements(alloc, known, scope, row, first, refinements)
+}
+
+// A PROC or OP, from its parts.
+fn routine_of(alloc: Global, parts: Row) -> Judged
+    ensures { (k : Known) → (ps : List Phrase) → Is parts (judged_all k (all_of ps)) → Is result (judged k (phrase form.routine (all_of ps))) }
+{
+    let parts = parts?;
+    let bodies = bodies_of(alloc, parts)?;
+    Ok(Meant::Bodies(bodies))
 }
 
 /// A PROC or OP, whose name is declared by the phrases before it.
@@ -251,7 +260,7 @@ pub fn judge_routine(
 ) -> Judged
     requires level { scope.old.routine ≡ None }
     requires unit { scope.old.refinement ≡ None }
-    ensures meaning { (ps : List Phrase) → Is names (judged_all known.now (all_of ps)) → Is result (judged known.now (spec.routine scope.old of.number of.at of.name.now of.result.now of.formals.now of.body.now of.sort ps)) }
+    ensures meaning { (ps : List Phrase) → Is names (judged_all known.now (all_of ps)) → Is result (judged known.now (spec.routine scope.old of.entry.number of.entry.at of.entry.name.now of.entry.result.now of.entry.formals.now of.entry.body.now of.entry.sort ps)) }
     ensures kept { scope.new ≡ scope.old }
 {
     let own = body_names(alloc, of.formals, of.body)?;
@@ -262,7 +271,5 @@ pub fn judge_routine(
     });
     let row = judge_inside(alloc, known, scope, of, row);
     scope.routine = None;
-    let parts = row?;
-    let bodies = bodies_of(alloc, parts)?;
-    Ok(Meant::Bodies(bodies))
+    routine_of(alloc, row)
 }

@@ -8,7 +8,7 @@ pub record Kept (P Q : Type 0) : Type 0 where
   pub scope : P
   pub found : Q
 
-abbrev pub invariant-loop-_ : goal.invariant-loop-_
-invariant-loop-_ l =
+abbrev pub invariant-loop : goal.invariant-loop
+invariant-loop l =
     Kept (l.scope ≡ l.fn.scope)
-    (l.known ≡ known_after l._-index (headings l.level) (level_bodies l.level))
+    (l.known ≡ known_after l.counter (headings l.level) (level_bodies l.level))

@@ -1,0 +1,21 @@
+use Rattle.std.proofs.Common.{List, true, map, ap, ◌∙◌}
+use Rattle.elan_tree.specs.declared.phrase.Unit.{Unit as Statement}
+use Rattle.elan_rules.specs.declared.scope.Scope.{Scope}
+use Rattle.elan_check.specs.Shape as shape
+use Rattle.elan_check.specs.Level.{refinement_scope}
+use Rattle.elan_check.specs.Refinements.{more_known}
+use Rattle.elan_check.proofs.Scopes.{left_refinement}
+use Rattle.elan_check.proofs.Steps.{refinement_found}
+use Rattle.elan_check.proofs.deliveries.add_refinements.Goals as goal
+
+pub loop-refinement-preserved : goal.loop-refinement-preserved
+loop-refinement-preserved c =
+    let z = c.loop-refinement.scope in
+    let n = c.loop-refinement.number in
+    let k = c.args.known.now in record {
+      scope = left_refinement z (ap (λ (y : Scope). y.refinement) c.loop-refinement.invariant.scope ∙ c.requires) ∙ c.loop-refinement.invariant.scope;
+      found = refinement_found k c.args.scope.now z c.args.refinements.now c.loop-refinement.refinement-index c.refinement-item.result n c.in_ok-number.number c.loop-refinement.out c.add_body.new.out _
+      c.loop-refinement-test.true c.refinement-item.is c.in_ok-number.ensures c.loop-refinement.invariant.scope
+      (c.in_ok-add_body.ensures ∙ ap (λ (us : List Statement). more_known k c.loop-refinement.out n (shape.units true (map (shape.unit (refinement_scope z n)) us))) c.as_slice.ensures)
+      c.loop-refinement.invariant.found;
+    }

@@ -1,0 +1,19 @@
+use Rattle.std.proofs.Common.{◌≡◌, List, sym, subst}
+use Rattle.std.specs.Prelude.{OnOk}
+use Rattle.elan_tree.specs.declared.written_type.Formal.{Formal}
+use Rattle.elan_tree.specs.declared.tree.LevelUnit.{LevelUnit}
+use Rattle.elan_check.specs.Level.{unit_bodies, inside_units}
+use Rattle.elan_check.specs.Refinements.{all_known}
+use Rattle.elan_check.proofs.deliveries.add_unit.Goals as goal
+
+pub returns-in-Proc-clause-found : goal.returns-in-Proc-clause-found
+returns-in-Proc-clause-found c =
+    let s = c.args.scope.now in
+    subst (λ (v : LevelUnit). OnOk c.add_routine.result (c.add_routine.new.out ≡ all_known c.args.known.now c.args.out.now c.args.number (unit_bodies s c.args.number v))) (sym c.in-Proc.is)
+    (subst (λ (fs : List Formal). OnOk c.add_routine.result (c.add_routine.new.out ≡ all_known c.args.known.now c.args.out.now c.args.number (inside_units s c.args.number fs c.in-Proc.body))) c.as_slice.ensures c.add_routine.ensures.found)
+
+pub returns-in-Op-clause-found : goal.returns-in-Op-clause-found
+returns-in-Op-clause-found c =
+    let s = c.args.scope.now in
+    subst (λ (v : LevelUnit). OnOk c.add_routine-in-Op.result (c.add_routine-in-Op.new.out ≡ all_known c.args.known.now c.args.out.now c.args.number (unit_bodies s c.args.number v))) (sym c.in-Op.is)
+    (subst (λ (fs : List Formal). OnOk c.add_routine-in-Op.result (c.add_routine-in-Op.new.out ≡ all_known c.args.known.now c.args.out.now c.args.number (inside_units s c.args.number fs c.in-Op.body))) c.as_slice-in-Op.ensures c.add_routine-in-Op.ensures.found)
