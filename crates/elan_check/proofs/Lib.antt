@@ -13,6 +13,7 @@ pub mod Cores
 pub mod Scopes
 pub mod Routines
 pub mod Lasts
+pub mod Same
 pub mod Walks
 pub mod Calls
 pub mod Steps

@@ -1,6 +1,8 @@
-use Rattle.std.proofs.Common.{◌≡◌, ◌≤◌, length, arith, ap, ◌∙◌}
+use Rattle.std.proofs.Common.{◌≡◌, ◌≤◌, length, true, refl, sym, arith, ap, ◌∙◌}
+use Rattle.std.proofs.lemmas.Slice.Eq.{slice_eq-Decides}
 use Rattle.elan_rules.specs.declared.scope.Scope.{Scope}
 use Rattle.elan_check.specs.Bodies.{headings}
+use Rattle.elan_check.proofs.Same.{delivery_Decides}
 use Rattle.elan_check.proofs.Steps.{found_all, found_next}
 use Rattle.elan_check.proofs.deliveries.known_of.Goals as goal
 
@@ -8,7 +10,8 @@ pub returns-then-eq-clause-found : goal.returns-then-eq-clause-found
 returns-then-eq-clause-found c =
     let count : c.len-end.result ≡ length (headings c.args.level.now) = c.len-end.ensures ∙ ap (λ (z : Scope). length z.headings) (c.in_ok-known.ensures.kept ∙ c.requires) in
     let few : c.loop.counter ≤ length (headings c.args.level.now) = omega (arith, count) in
-    found_all c.args.level.now c.loop.counter c.loop.known c.in_ok-next.next c.loop.invariant.found c.in_ok-next.ensures.found ? few
+    let same : c.as_slice.result.now ≡ c.as_slice-in-loop.result.now = (slice_eq-Decides delivery_Decides c.as_slice.result.now c.as_slice-in-loop.result.now true c.if-eq.ensures).0 refl in
+    found_all c.args.level.now c.loop.counter c.loop.known c.in_ok-next.next c.loop.invariant.found c.in_ok-next.ensures.found (sym c.as_slice.ensures ∙ same ∙ c.as_slice-in-loop.ensures) few
 
 pub loop-preserved : goal.loop-preserved
 loop-preserved c = record {
