@@ -226,7 +226,7 @@ const LOOPS: [(&str, &str); 36] = [
     ("put (1 + (2 * (3 DIV x)))", "NoMeaning(22, Unknown)"),
 ];
 
-/// What is not built yet.
+/// PROCs, OPs, refinements and LEAVE.
 const PROCEDURES: [(&str, &str); 44] = [
     ("PROC p: END PROC p; p", "a core"),
     ("INT PROC f (INT CONST a): a + 1 END PROC f; put (f (2))", "a core"),
@@ -280,6 +280,7 @@ const PROCEDURES: [(&str, &str); 44] = [
     ("PROC p: v := 1; INT VAR v END PROC p; v := 2", "NoMeaning(39, Unknown)"),
 ];
 
+/// What is not built yet.
 const UNBUILT: [(&str, &str); 21] = [
     ("TEXT VAR t", "NotBuilt"),
     ("put (\"a\")", "NotBuilt"),
@@ -301,7 +302,23 @@ const UNBUILT: [(&str, &str); 21] = [
     ("put (CONCR (1))", "NotBuilt"),
     ("begin", "NotBuilt"),
     ("FOR type REP line PER", "NotBuilt"),
-    ("OP F (INT CONST a): END OP F", "NotBuilt"),
+    ("OP SUB (INT CONST a): END OP SUB", "NotBuilt"),
+];
+
+/// Own operators.
+const OPERATORS: [(&str, &str); 12] = [
+    ("INT OP + (INT CONST a, b): a * b END OP +; put (3 + 4)", "a core"),
+    ("OP X (INT CONST a): END OP X; X 3", "a core"),
+    ("OP X (INT CONST a): END OP X; X TRUE", "NoMeaning(31, WrongType)"),
+    ("OP X (INT CONST a): END OP X; 3 X 4", "NoMeaning(31, Unknown)"),
+    ("OP X (INT VAR a): a := 1 END OP X; X 3", "NoMeaning(38, NoVariable)"),
+    ("OP X (INT CONST a): END OP X; OP X (INT CONST b): END OP X", "NoMeaning(34, Doubled)"),
+    ("INT OP X (INT CONST a): LEAVE X WITH a + 1 END OP X; put (X 3)", "a core"),
+    ("OP := (INT VAR a, INT CONST b): END OP :=; INT VAR x; x := 3", "a core"),
+    ("OP := (INT VAR a, INT CONST b): END OP :=; 1 := 3", "NoMeaning(44, NoVariable)"),
+    ("OP := (INT CONST a, BOOL CONST b): END OP :=; 1 := TRUE", "a core"),
+    ("INT OP := (INT CONST a, BOOL CONST b): 1 END OP :=; 1 := TRUE", "NoMeaning(53, WrongType)"),
+    ("BOOL OP < (BOOL CONST a, b): b END OP <; IF TRUE < FALSE THEN line FI", "a core"),
 ];
 
 fn answer(alloc: Global, text: &str) -> Result<String, AllocError> {
@@ -361,6 +378,15 @@ fn what_is_not_built_is_refused_first(rt: HostRuntime) -> Result<(), Fail> {
 #[test]
 fn procedures_have_these_meanings(rt: HostRuntime) -> Result<(), Fail> {
     for (text, want) in PROCEDURES {
+        let found = answer(rt.alloc(), text)?;
+        assert_eq!(rt; found.as_str(), want, "at {text}");
+    }
+    Ok(())
+}
+
+#[test]
+fn operators_have_these_meanings(rt: HostRuntime) -> Result<(), Fail> {
+    for (text, want) in OPERATORS {
         let found = answer(rt.alloc(), text)?;
         assert_eq!(rt; found.as_str(), want, "at {text}");
     }

@@ -137,6 +137,95 @@ fn the_table_of_lines(rt: HostRuntime) -> Result<(), Fail> {
     Ok(())
 }
 
+/// Procedures, refinements and LEAVE, with the last depth that has room and the first that has none.
+const PROCEDURES: [(&str, &str); 22] = [
+    (
+        "PROC p (INT VAR a, b): a INCR 1; b INCR 1 END PROC p; INT VAR x :: 5; p (x, x); put (x)",
+        "7 \n",
+    ),
+    ("PROC p: p END PROC p; p", "FEHLER : Stapelueberlauf\n"),
+    (
+        "INT PROC f (INT CONST n): IF n = 0 THEN 0 ELSE 1 + (1 + (1 + f (n - 1))) FI END PROC f; put (f (30000))",
+        "FEHLER : Operandenspeicher voll\n",
+    ),
+    (
+        "INT PROC f (INT CONST n): IF n = 0 THEN 0 ELSE 1 + (1 + (1 + f (n - 1))) FI END PROC f; put (f (2730))",
+        "8190 \n",
+    ),
+    (
+        "INT PROC f (INT CONST n): IF n = 0 THEN 0 ELSE 1 + (1 + (1 + f (n - 1))) FI END PROC f; put (f (2731))",
+        "FEHLER : Operandenspeicher voll\n",
+    ),
+    (
+        "PROC p (INT CONST n): IF n > 0 THEN p (n - 1) FI END PROC p; p (5460); put (1)",
+        "1 \n",
+    ),
+    (
+        "PROC p (INT CONST n): IF n > 0 THEN p (n - 1) FI END PROC p; p (5461); put (1)",
+        "FEHLER : Stapelueberlauf\n",
+    ),
+    (
+        "put (summe). summe: INT VAR i, s; FOR i UPTO 4 REP s INCR i PER; s.",
+        "10 \n",
+    ),
+    (
+        "INT PROC f (INT CONST n): IF n > 3 THEN LEAVE f WITH 1 FI; 2 END PROC f; put (f (4)); put (f (3))",
+        "1 2 \n",
+    ),
+    (
+        "r; put (9). r: INT VAR i; FOR i REP IF i > 3 THEN LEAVE r FI; put (i) PER.",
+        "1 2 3 9 \n",
+    ),
+    (
+        "INT PROC p: q; 1. q: LEAVE p WITH 7 END PROC p; put (p)",
+        "7 \n",
+    ),
+    (
+        "INT PROC p: q; 1. q: r; put (5). r: LEAVE p WITH 7 END PROC p; put (p)",
+        "7 \n",
+    ),
+    ("put (a). a: b + c. b: 2. c: b * 3.", "8 \n"),
+    (
+        "BOOL PROC g (INT CONST n): IF n = 0 THEN TRUE ELSE u (n - 1) FI END PROC g; BOOL PROC u (INT CONST n): IF n = 0 THEN FALSE ELSE g (n - 1) FI END PROC u; IF g (10) THEN put (1) FI; IF g (9) THEN put (2) FI",
+        "1 \n",
+    ),
+    (
+        "PROC w (INT CONST a): put (1) END PROC w; PROC w (BOOL CONST a): put (2) END PROC w; w (3); w (TRUE)",
+        "1 2 \n",
+    ),
+    (
+        "INT OP + (INT CONST a, b): a * b END OP +; put (3 + 4)",
+        "12 \n",
+    ),
+    (
+        "OP := (INT VAR a, INT CONST b): a INCR b END OP :=; INT VAR x :: 2; x := 3; put (x)",
+        "5 \n",
+    ),
+    ("PROC p: END PROC p; REP p PER", "FEHLER : Zeitgrenze\n"),
+    ("LEAVE f", "FEHLER : falsche Stelle (Zeile 1, Stelle 1)\n"),
+    ("r. r: r.", "FEHLER : falsche Stelle (Zeile 1, Stelle 7)\n"),
+    (
+        "PROC p (INT VAR a): a := 3 END PROC p; p (1)",
+        "FEHLER : keine Variable (Zeile 1, Stelle 43)\n",
+    ),
+    (
+        "PROC s (INT VAR a, b): INT CONST c :: a; a := b; b := c END PROC s; INT VAR x :: 1, y :: 2; s (x, y); put (x); put (y)",
+        "2 1 \n",
+    ),
+];
+
+#[test]
+fn the_table_of_procedures(rt: HostRuntime) -> Result<(), Fail> {
+    for (input, output) in PROCEDURES {
+        let none = List::new(rt.alloc());
+        let no = List::new(rt.alloc());
+        let (got, sink) = outcome(rt.alloc(), &["line"], input.as_bytes(), 64, none, no)?;
+        assert_eq!(rt; got, Status::Done, "{input}");
+        assert_eq!(rt; sink.bytes(), output.as_bytes(), "{input}");
+    }
+    Ok(())
+}
+
 #[test]
 fn an_endless_loop_writes_until_its_marks_are_spent(rt: HostRuntime) -> Result<(), Fail> {
     let alloc = rt.alloc();
