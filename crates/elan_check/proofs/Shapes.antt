@@ -11,6 +11,7 @@ use Rattle.elan_tree.specs.declared.phrase.Item.{Item, roll-Item, rolls-Item'}
 use Rattle.elan_tree.specs.declared.phrase.Limit.{Limit}
 use Rattle.elan_tree.specs.declared.written_type.Name.{Name}
 use Rattle.elan_tree.specs.declared.written_type.Label.{Label}
+use Rattle.elan_tree.specs.declared.written_type.TypePhrase.{TypePhrase}
 use Rattle.elan_tree.specs.declared.phrase.Unit.{Unit as Statement, roll-Unit}
 use Rattle.elan_tree.specs.declared.phrase.Unit.TheVariants as statement
 use Rattle.elan_tree.specs.declared.phrase.Expr.TheOpen as t
@@ -185,3 +186,15 @@ module _ (s : Scope) where
     statement_is w a i h =
         let e : shape.unit s w ≡ around form.statement (shape.expr s a) = ap (shape.unit s) (i ∙ sym (statement.rolls-Value a)) ∙ rw fold-roll-Unit refl in
         subst (λ (p : Phrase). Is q (judged known p)) (sym e) h
+
+    pub variables_is : (w : Statement) (at : ℕ) (of : TypePhrase) (xs xs' : List Item) → w ≡ statement.Variables at of xs → xs' ≡ xs → Is q (judged known (phrase (form.declaration at) (all_of (map (shape.item s) xs')))) → Is q (judged known (shape.unit s w))
+    variables_is w at of xs xs' i e h =
+        subst (λ (p : Phrase). Is q (judged known p))
+        (ap (λ (l : List Item). phrase (form.declaration at) (all_of (map (shape.item s) l))) e
+        ∙ sym (ap (shape.unit s) (i ∙ sym (statement.rolls-Variables at of xs)) ∙ rw fold-roll-Unit refl)) h
+
+    pub constants_is : (w : Statement) (at : ℕ) (of : TypePhrase) (xs xs' : List Item) → w ≡ statement.Constants at of xs → xs' ≡ xs → Is q (judged known (phrase (form.declaration at) (all_of (map (shape.item s) xs')))) → Is q (judged known (shape.unit s w))
+    constants_is w at of xs xs' i e h =
+        subst (λ (p : Phrase). Is q (judged known p))
+        (ap (λ (l : List Item). phrase (form.declaration at) (all_of (map (shape.item s) l))) e
+        ∙ sym (ap (shape.unit s) (i ∙ sym (statement.rolls-Constants at of xs)) ∙ rw fold-roll-Unit refl)) h
