@@ -1,43 +1,69 @@
-use Rattle.std.proofs.Common.{rules, arith, ℕ, ◌≡◌, ◌++◌, ◌∙◌, List, [], map, take, true, false, Some, refl, subst}
+use Rattle.std.proofs.Common.{rules, arith, ℕ, ◌≡◌, ◌++◌, ◌∙◌, List, [], map, take, true, false, Some, refl, ap, subst}
+use Rattle.elan_tree.specs.declared.phrase.Expr.TheViews.{size-Expr, size-Unit, size_is-Branch, sized-Select, sized-Loop, weight-Expr-If-2}
 use Rattle.elan_rules.specs.Answer.{Is}
 use Rattle.elan_rules.specs.Meaning.{judged, judged_all}
 use Rattle.elan_rules.specs.Phrase as form
 use Rattle.elan_rules.specs.Phrase.{leaf, phrase, all_of, part, none}
 use Rattle.elan_check.specs.Shape as shape
 use Rattle.elan_check.proofs.Rows.{all_numbers, row_goes, roles_goes, roles_end, cases_go, numbers_go, whole_ends, whole_is}
-use Rattle.elan_check.proofs.Shapes.{units_of, branches_of, arms_of, choice_is, selection_is, cand_is, cor_is, loop_is, branch_is, case_is, counter_is, item_is, variables_is, constants_is}
+use Rattle.elan_check.proofs.Shapes.{units_of, units_absent, units_written, branches_of, arms_of, choice_is, selection_is, cand_is, cor_is, loop_is, branch_is, case_is, counter_is, item_is, variables_is, constants_is}
 use Rattle.elan_check.proofs.judge.+judge.Goals as goal
+use Rattle.elan_check.proofs.judge.+judge.Goals.{judge-in-None, judge-in-Some, judge-in-None-otherwise, judge-in-Some-otherwise}
 
 -- ---- IF, SELECT, CAND and COR
 
+pub judge-judge_units-otherwise-requires-in-Some-otherwise : goal.judge-judge_units-otherwise-requires-in-Some-otherwise
+judge-judge_units-otherwise-requires-in-Some-otherwise t c =
+    let deep = ap size-Expr c.in-Select.is ∙ sized-Select c.in-Select.at c.in-Select.of c.in-Select.cases c.in-Select.otherwise in
+    let written = ap weight-Expr-If-2 c.in-Some-otherwise.is in
+    rw c.as_slice-in-Some-otherwise.ensures (omega (arith, deep, written))
+
 pub judge-returns-in_err-parts-in-If : goal.judge-returns-in_err-parts-in-If
 judge-returns-in_err-parts-in-If t c =
+    let other : Is c.match-otherwise.otherwise (judged c.args.known.now (units_of c.args.scope.now c.in-If.otherwise)) = elim c.match-otherwise.branch [
+      | judge-in-None w ↦ units_absent c.args.scope.now c.args.known.now c.match-otherwise.otherwise c.in-If.otherwise w.in-None.is w.otherwise-is
+      | judge-in-Some w ↦ units_written c.args.scope.now c.args.known.now c.match-otherwise.otherwise w.judge_units-otherwise.result c.in-If.otherwise w.in-Some.units w.as_slice-in-Some.result.now w.in-Some.is w.as_slice-in-Some.ensures w.otherwise-is w.judge_units-otherwise.ensures
+    ] in
     choice_is c.args.scope.now c.args.known.now c.from_residual-in_err-parts-in-If.result c.args.expr.now c.in-If.at c.in-If.branches c.as_slice-in-If.result.now c.in-If.otherwise c.in-If.is c.as_slice-in-If.ensures
     (whole_ends c.args.known.now (form.choice c.in-If.at) (part (branches_of c.args.scope.now c.as_slice-in-If.result.now) (part (units_of c.args.scope.now c.in-If.otherwise) none)) c.from_residual-in_err-parts-in-If.result c.in_err-parts-in-If.field-0.0 c.from_residual-in_err-parts-in-If.ensures
-    (c.in_err-parts-in-If.ensures (judged c.args.known.now (branches_of c.args.scope.now c.as_slice-in-If.result.now)) (judged c.args.known.now (units_of c.args.scope.now c.in-If.otherwise)) c.judge_branches-branches.ensures c.judge_otherwise-otherwise.ensures))
+    (c.in_err-parts-in-If.ensures (judged c.args.known.now (branches_of c.args.scope.now c.as_slice-in-If.result.now)) (judged c.args.known.now (units_of c.args.scope.now c.in-If.otherwise)) c.judge_branches-branches.ensures other))
 
 pub judge-returns-in_ok-parts-in-If : goal.judge-returns-in_ok-parts-in-If
 judge-returns-in_ok-parts-in-If t c =
+    let other : Is c.match-otherwise.otherwise (judged c.args.known.now (units_of c.args.scope.now c.in-If.otherwise)) = elim c.match-otherwise.branch [
+      | judge-in-None w ↦ units_absent c.args.scope.now c.args.known.now c.match-otherwise.otherwise c.in-If.otherwise w.in-None.is w.otherwise-is
+      | judge-in-Some w ↦ units_written c.args.scope.now c.args.known.now c.match-otherwise.otherwise w.judge_units-otherwise.result c.in-If.otherwise w.in-Some.units w.as_slice-in-Some.result.now w.in-Some.is w.as_slice-in-Some.ensures w.otherwise-is w.judge_units-otherwise.ensures
+    ] in
     choice_is c.args.scope.now c.args.known.now c.choice_parts.result c.args.expr.now c.in-If.at c.in-If.branches c.as_slice-in-If.result.now c.in-If.otherwise c.in-If.is c.as_slice-in-If.ensures
     (whole_is c.args.known.now (form.choice c.in-If.at) (part (branches_of c.args.scope.now c.as_slice-in-If.result.now) (part (units_of c.args.scope.now c.in-If.otherwise) none)) c.choice_parts.result c.in_ok-parts-in-If.parts
-    (c.in_ok-parts-in-If.ensures (judged c.args.known.now (branches_of c.args.scope.now c.as_slice-in-If.result.now)) (judged c.args.known.now (units_of c.args.scope.now c.in-If.otherwise)) c.judge_branches-branches.ensures c.judge_otherwise-otherwise.ensures)
+    (c.in_ok-parts-in-If.ensures (judged c.args.known.now (branches_of c.args.scope.now c.as_slice-in-If.result.now)) (judged c.args.known.now (units_of c.args.scope.now c.in-If.otherwise)) c.judge_branches-branches.ensures other)
     (c.choice_parts.ensures c.args.known.now))
-
-pub judge-judge_cases-arms-requires : goal.judge-judge_cases-arms-requires
-judge-judge_cases-arms-requires t c = (c.decreases, tt)
 
 pub judge-returns-in_err-parts-in-Select : goal.judge-returns-in_err-parts-in-Select
 judge-returns-in_err-parts-in-Select t c =
+    let other : Is c.match-otherwise-2.otherwise (judged c.args.known.now (units_of c.args.scope.now c.in-Select.otherwise)) = elim c.match-otherwise-2.branch [
+      | judge-in-None-otherwise w ↦ units_absent c.args.scope.now c.args.known.now c.match-otherwise-2.otherwise c.in-Select.otherwise w.in-None-otherwise.is w.otherwise-is
+      | judge-in-Some-otherwise w ↦ units_written c.args.scope.now c.args.known.now c.match-otherwise-2.otherwise w.judge_units-otherwise-in-Some-otherwise.result c.in-Select.otherwise w.in-Some-otherwise.units w.as_slice-in-Some-otherwise.result.now w.in-Some-otherwise.is w.as_slice-in-Some-otherwise.ensures w.otherwise-is w.judge_units-otherwise-in-Some-otherwise.ensures
+    ] in
     selection_is c.args.scope.now c.args.known.now c.from_residual-in_err-parts-in-Select.result c.args.expr.now c.in-Select.at c.in-Select.of c.get-in-Select.result.now c.in-Select.cases c.as_slice-in-Select.result.now c.in-Select.otherwise c.in-Select.is c.get-in-Select.ensures c.as_slice-in-Select.ensures
     (whole_ends c.args.known.now (form.selection c.in-Select.at) (part (shape.expr c.args.scope.now c.get-in-Select.result.now) (part (arms_of c.args.scope.now c.as_slice-in-Select.result.now) (part (units_of c.args.scope.now c.in-Select.otherwise) none))) c.from_residual-in_err-parts-in-Select.result c.in_err-parts-in-Select.field-0.0 c.from_residual-in_err-parts-in-Select.ensures
-    (c.in_err-parts-in-Select.ensures (judged c.args.known.now (shape.expr c.args.scope.now c.get-in-Select.result.now)) (judged c.args.known.now (arms_of c.args.scope.now c.as_slice-in-Select.result.now)) (judged c.args.known.now (units_of c.args.scope.now c.in-Select.otherwise)) c.judge-of.ensures c.judge_cases-arms.ensures c.judge_otherwise-otherwise-in-Select.ensures))
+    (c.in_err-parts-in-Select.ensures (judged c.args.known.now (shape.expr c.args.scope.now c.get-in-Select.result.now)) (judged c.args.known.now (arms_of c.args.scope.now c.as_slice-in-Select.result.now)) (judged c.args.known.now (units_of c.args.scope.now c.in-Select.otherwise)) c.judge-of.ensures c.judge_cases-arms.ensures other))
 
 pub judge-returns-in_ok-parts-in-Select : goal.judge-returns-in_ok-parts-in-Select
 judge-returns-in_ok-parts-in-Select t c =
+    let other : Is c.match-otherwise-2.otherwise (judged c.args.known.now (units_of c.args.scope.now c.in-Select.otherwise)) = elim c.match-otherwise-2.branch [
+      | judge-in-None-otherwise w ↦ units_absent c.args.scope.now c.args.known.now c.match-otherwise-2.otherwise c.in-Select.otherwise w.in-None-otherwise.is w.otherwise-is
+      | judge-in-Some-otherwise w ↦ units_written c.args.scope.now c.args.known.now c.match-otherwise-2.otherwise w.judge_units-otherwise-in-Some-otherwise.result c.in-Select.otherwise w.in-Some-otherwise.units w.as_slice-in-Some-otherwise.result.now w.in-Some-otherwise.is w.as_slice-in-Some-otherwise.ensures w.otherwise-is w.judge_units-otherwise-in-Some-otherwise.ensures
+    ] in
     selection_is c.args.scope.now c.args.known.now c.selection_parts.result c.args.expr.now c.in-Select.at c.in-Select.of c.get-in-Select.result.now c.in-Select.cases c.as_slice-in-Select.result.now c.in-Select.otherwise c.in-Select.is c.get-in-Select.ensures c.as_slice-in-Select.ensures
     (whole_is c.args.known.now (form.selection c.in-Select.at) (part (shape.expr c.args.scope.now c.get-in-Select.result.now) (part (arms_of c.args.scope.now c.as_slice-in-Select.result.now) (part (units_of c.args.scope.now c.in-Select.otherwise) none))) c.selection_parts.result c.in_ok-parts-in-Select.parts
-    (c.in_ok-parts-in-Select.ensures (judged c.args.known.now (shape.expr c.args.scope.now c.get-in-Select.result.now)) (judged c.args.known.now (arms_of c.args.scope.now c.as_slice-in-Select.result.now)) (judged c.args.known.now (units_of c.args.scope.now c.in-Select.otherwise)) c.judge-of.ensures c.judge_cases-arms.ensures c.judge_otherwise-otherwise-in-Select.ensures)
+    (c.in_ok-parts-in-Select.ensures (judged c.args.known.now (shape.expr c.args.scope.now c.get-in-Select.result.now)) (judged c.args.known.now (arms_of c.args.scope.now c.as_slice-in-Select.result.now)) (judged c.args.known.now (units_of c.args.scope.now c.in-Select.otherwise)) c.judge-of.ensures c.judge_cases-arms.ensures other)
     (c.selection_parts.ensures c.args.known.now))
+
+pub judge-judge_cases-arms-requires : goal.judge-judge_cases-arms-requires
+judge-judge_cases-arms-requires t c =
+    let deep = ap size-Expr c.in-Select.is ∙ sized-Select c.in-Select.at c.in-Select.of c.in-Select.cases c.in-Select.otherwise in
+    rw c.as_slice-in-Select.ensures (omega (arith, deep))
 
 pub judge-returns-in_ok-parts-in-Cand : goal.judge-returns-in_ok-parts-in-Cand
 judge-returns-in_ok-parts-in-Cand t c =
@@ -58,13 +84,10 @@ judge_exprs-loop-expr-preserved t c =
     row_goes c.args.known.now (shape.expr c.args.scope.now) c.args.exprs.now c.loop-expr.expr-index c.expr-item.result c.and-row.result c.loop-expr-test.true c.expr-item.is
     (c.and-row.ensures (judged_all c.args.known.now (all_of (map (shape.expr c.args.scope.now) (take c.loop-expr.expr-index c.args.exprs.now)))) (judged c.args.known.now (shape.expr c.args.scope.now c.expr-item.result)) c.loop-expr.invariant c.judge.ensures)
 
-pub judge_otherwise-judge_units-requires : goal.judge_otherwise-judge_units-requires
-judge_otherwise-judge_units-requires t c = (c.decreases, tt)
-
 -- ---- branches and cases
 
 pub judge_branch-judge_units-units-requires : goal.judge_branch-judge_units-units-requires
-judge_branch-judge_units-units-requires t c = (c.decreases, tt)
+judge_branch-judge_units-units-requires t c = rw c.as_slice.ensures (omega (arith, size_is-Branch c.args.branch.now))
 
 pub judge_branch-returns : goal.judge_branch-returns
 judge_branch-returns t c =
@@ -88,8 +111,7 @@ judge_case-returns t c =
 pub case_row-loop-case-preserved : goal.case_row-loop-case-preserved
 case_row-loop-case-preserved t c =
     let all_before : c.as_slice.result.now ≡ all_numbers (map (shape.case c.args.scope.now) (take c.loop-case.case-index c.args.cases.now)) = c.as_slice.ensures ∙ c.loop-case.invariant.0 in
-    let all_after : c.add_numbers.new.out ≡ c.loop-case.earlier ++ shape.numbers c.case-item.result.labels = search rules in
-    (
+    let all_after : c.add_numbers.new.out ≡ c.loop-case.earlier ++ shape.numbers c.case-item.result.labels = search rules in (
       numbers_go c.args.scope.now c.args.cases.now c.loop-case.case-index c.case-item.result c.loop-case.earlier c.add_numbers.new.out c.loop-case-test.true c.case-item.is c.loop-case.invariant.0 all_after,
       cases_go c.args.known.now c.args.scope.now c.args.cases.now c.loop-case.case-index c.case-item.result c.as_slice.result.now c.and-row.result c.loop-case-test.true c.case-item.is all_before
           (c.and-row.ensures (judged_all c.args.known.now (all_of (shape.arm_phrases c.args.scope.now [] (map (shape.case c.args.scope.now) (take c.loop-case.case-index c.args.cases.now))))) (judged c.args.known.now (shape.arm_phrase c.args.scope.now c.as_slice.result.now (shape.case c.args.scope.now c.case-item.result))) c.loop-case.invariant.1 c.judge_case.ensures),
@@ -135,7 +157,9 @@ judge_unit-returns-in-Constants t c =
     constants_is c.args.scope.now c.args.known.now c.judge_declaration-in-Constants.result c.args.unit.now c.in-Constants.field-0 c.in-Constants.field-1 c.in-Constants.items c.as_slice-in-Constants.result.now c.in-Constants.is c.as_slice-in-Constants.ensures (c.judge_declaration-in-Constants.ensures c.in-Constants.field-0)
 
 pub judge_unit-judge_units-units-requires : goal.judge_unit-judge_units-units-requires
-judge_unit-judge_units-units-requires t c = (c.decreases, tt)
+judge_unit-judge_units-units-requires t c =
+    let deep = ap size-Unit c.in-Loop.is ∙ sized-Loop c.in-Loop.at c.in-Loop.counter c.in-Loop.condition c.in-Loop.units c.in-Loop.until in
+    rw c.as_slice-in-Loop.ensures (omega (arith, deep))
 
 pub judge_unit-returns-in_err-parts-in-Loop : goal.judge_unit-returns-in_err-parts-in-Loop
 judge_unit-returns-in_err-parts-in-Loop t c =
