@@ -1,6 +1,7 @@
 -- Rows of phrases: what their parts mean together.
-use Rattle.std.proofs.Common.{◌≡◌, ℤ, List, [], ◌∷◌, ◌++◌, map, Result, refl, ap, sym, ◌∙◌, append_assoc, ℕ, ◌+◌, ◌<◌, suc, Bool, true, false, ◌&&◌, length, get_or, drop, take, drop-cons, add-one, ◌-◌, ◌≤◌, zero, subst, arith, length-drop}
+use Rattle.std.proofs.Common.{◌≡◌, ℤ, List, [], ◌∷◌, ◌++◌, map, Result, IsErr, IsErrAnd, refl, ap, sym, ◌∙◌, append_assoc, ℕ, ◌+◌, ◌<◌, suc, Bool, true, false, ◌&&◌, length, get_or, drop, take, drop-cons, add-one, ◌-◌, ◌≤◌, zero, subst, arith, length-drop}
 use Rattle.std.proofs.lemmas.List.{append-nil, take_all, map_more}
+use Rattle.std.proofs.lemmas.Result.{err_from_is_err_and}
 use Rattle.elan_tree.specs.declared.phrase.Unit.{Unit as Statement}
 use Rattle.elan_tree.specs.declared.phrase.Case.{Case, rolls-Case'}
 use Rattle.elan_tree.specs.declared.phrase.Expr.TheFolds.{fold-roll-Case}
@@ -11,14 +12,21 @@ use Rattle.elan_rules.specs.declared.meant.Meant.TheVariants.{Labels}
 use Rattle.elan_rules.specs.declared.scope.Scope.{Scope}
 use Rattle.elan_rules.specs.declared.trouble.Trouble.{Trouble}
 use Rattle.elan_rules.specs.declared.trouble.Trouble.TheVariants.{NoMemory, Breaks, Hangs}
-use Rattle.elan_rules.specs.Answer.{Is, Fails, beside, joined}
+use Rattle.elan_rules.specs.Answer.{Is, Fails}
 use Rattle.elan_rules.specs.Choices.{labels_of}
 use Rattle.elan_rules.specs.Meaning.{judged, judged_all}
 use Rattle.elan_rules.specs.Phrase as form
 use Rattle.elan_rules.specs.Phrase.{Form, Phrase, phrase, Parts, none, part, around, all_of, is_empty, all_empty}
-use Rattle.elan_rules.specs.Ruled.{Ruled, gives, breaks, hangs, ◌>>=◌, before, hung}
+use Rattle.elan_rules.specs.Ruled.{Ruled, gives, breaks, hangs, ◌>>=◌, before, joined}
 use Rattle.elan_rules.specs.Rules.{rule}
 use Rattle.elan_check.specs.Shape.{unit, case, role, roles, numbers, arm_phrase, arm_phrases}
+
+-- ---- what a function hands on
+
+pub fails_is : {A : Type 0} (out : Result A Trouble) (d : Trouble) (r : Ruled A) → IsErr out × IsErrAnd out (λ e. e ≡ d) → Fails d r → Is out r
+fails_is {A} out d r e h =
+    let given = err_from_is_err_and out e.1 in
+    subst (λ (o : Result A Trouble). Is o r) (sym given.1) (subst (λ (b : Trouble). Fails b r) (sym given.2) h)
 
 -- ---- a phrase, by what its parts mean
 
@@ -30,6 +38,9 @@ bind_fails Hangs r f h = ap (λ z. z >>= f) h
 module _ (k : Known) (f : Form) (ps : Parts) where
   pub whole_fails : (d : Trouble) → Fails d (judged_all k ps) → Fails d (judged k (phrase f ps))
   whole_fails d h = bind_fails d (judged_all k ps) (rule k f) h
+
+  pub whole_ends : (out : Result Meant Trouble) (d : Trouble) → IsErr out × IsErrAnd out (λ e. e ≡ d) → Fails d (judged_all k ps) → Is out (judged k (phrase f ps))
+  whole_ends out d e h = fails_is out d (judged k (phrase f ps)) e (whole_fails d h)
 
   pub whole_is : (out : Result Meant Trouble) (ms : List Meant) → judged_all k ps ≡ gives ms → Is out (rule k f ms) → Is out (judged k (phrase f ps))
   whole_is out ms e h = subst (λ (z : Ruled (List Meant)). Is out (z >>= rule k f)) (sym e) h

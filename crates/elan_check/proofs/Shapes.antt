@@ -1,5 +1,5 @@
 -- The phrases of forms some of whose parts may be left out.
-use Rattle.std.proofs.Common.{◌≡◌, ℕ, ℤ, List, [], map, Option, Some, None, Result, true, false, refl, sym, ap, subst, ◌∙◌}
+use Rattle.std.proofs.Common.{◌≡◌, ℕ, ℤ, List, [], map, Option, Some, None, Result, Ok, true, false, refl, sym, ap, subst, ◌∙◌}
 use Rattle.std.specs.Prelude.{option_map}
 use Rattle.elan_tree.specs.declared.phrase.Expr.{Expr, roll-Expr}
 use Rattle.elan_tree.specs.declared.phrase.Expr.TheVariants as expression
@@ -11,6 +11,7 @@ use Rattle.elan_tree.specs.declared.phrase.Item.{Item, roll-Item, rolls-Item'}
 use Rattle.elan_tree.specs.declared.phrase.Limit.{Limit}
 use Rattle.elan_tree.specs.declared.written_type.Name.{Name}
 use Rattle.elan_tree.specs.declared.written_type.Label.{Label}
+use Rattle.elan_tree.specs.declared.written_type.TypePhrase.{TypePhrase}
 use Rattle.elan_tree.specs.declared.phrase.Unit.{Unit as Statement, roll-Unit}
 use Rattle.elan_tree.specs.declared.phrase.Unit.TheVariants as statement
 use Rattle.elan_tree.specs.declared.phrase.Expr.TheOpen as t
@@ -18,6 +19,7 @@ use Rattle.elan_tree.specs.declared.phrase.Expr.TheFolds.{fold-roll-Expr, fold-r
 use Rattle.eu_base.specs.declared.operation.Way.{Way}
 use Rattle.elan_rules.specs.declared.trouble.Trouble.{Trouble}
 use Rattle.elan_rules.specs.declared.meant.Meant.{Meant}
+use Rattle.elan_rules.specs.declared.meant.Meant.TheVariants.{Absent}
 use Rattle.elan_check.specs.Operators.{operator_text}
 use Rattle.elan_rules.specs.Answer.{Is}
 use Rattle.elan_rules.specs.Meaning.{judged}
@@ -69,6 +71,16 @@ module _ (s : Scope) where
   loop_shape at k c us u = ap (shape.unit s) (sym (statement.rolls-Loop at k c us u)) ∙ loop_rolled at k c us u
 
   -- ---- what is said of the parts, said of the whole
+
+  module _ (known : Known) where
+    pub units_absent : (r : Result Meant Trouble) (o : Option (List Statement)) → o ≡ None → r ≡ Ok Absent → Is r (judged known (units_of o))
+    units_absent r o i e = subst (λ (w : Option (List Statement)). Is r (judged known (units_of w))) (sym i) (subst (λ (z : Result Meant Trouble). Is z (judged known (leaf form.absent))) (sym e) refl)
+
+    pub units_written : (r r' : Result Meant Trouble) (o : Option (List Statement)) (us us' : List Statement) → o ≡ Some us → us' ≡ us → r ≡ r' → Is r' (judged known (shape.units true (map (shape.unit s) us'))) → Is r (judged known (units_of o))
+    units_written r r' o us us' i e f h =
+        subst (λ (w : Option (List Statement)). Is r (judged known (units_of w))) (sym i)
+        (subst (λ (l : List Statement). Is r (judged known (shape.units true (map (shape.unit s) l)))) e
+        (subst (λ (z : Result Meant Trouble). Is z (judged known (shape.units true (map (shape.unit s) us')))) (sym f) h))
 
   module _ (known : Known) (q : Result Meant Trouble) where
     choice_goes : (at : ℕ) (bs bs' : List Branch) (o : Option (List Statement)) → bs' ≡ bs → Is q (judged known (pair (form.choice at) (branches_of bs') (units_of o))) → Is q (judged known (shape.expr s (expression.If at bs o)))
@@ -185,3 +197,15 @@ module _ (s : Scope) where
     statement_is w a i h =
         let e : shape.unit s w ≡ around form.statement (shape.expr s a) = ap (shape.unit s) (i ∙ sym (statement.rolls-Value a)) ∙ rw fold-roll-Unit refl in
         subst (λ (p : Phrase). Is q (judged known p)) (sym e) h
+
+    pub variables_is : (w : Statement) (at : ℕ) (of : TypePhrase) (xs xs' : List Item) → w ≡ statement.Variables at of xs → xs' ≡ xs → Is q (judged known (phrase (form.declaration at) (all_of (map (shape.item s) xs')))) → Is q (judged known (shape.unit s w))
+    variables_is w at of xs xs' i e h =
+        subst (λ (p : Phrase). Is q (judged known p))
+        (ap (λ (l : List Item). phrase (form.declaration at) (all_of (map (shape.item s) l))) e
+        ∙ sym (ap (shape.unit s) (i ∙ sym (statement.rolls-Variables at of xs)) ∙ rw fold-roll-Unit refl)) h
+
+    pub constants_is : (w : Statement) (at : ℕ) (of : TypePhrase) (xs xs' : List Item) → w ≡ statement.Constants at of xs → xs' ≡ xs → Is q (judged known (phrase (form.declaration at) (all_of (map (shape.item s) xs')))) → Is q (judged known (shape.unit s w))
+    constants_is w at of xs xs' i e h =
+        subst (λ (p : Phrase). Is q (judged known p))
+        (ap (λ (l : List Item). phrase (form.declaration at) (all_of (map (shape.item s) l))) e
+        ∙ sym (ap (shape.unit s) (i ∙ sym (statement.rolls-Constants at of xs)) ∙ rw fold-roll-Unit refl)) h

@@ -1,6 +1,6 @@
 //! The meaning of expressions and units, from left to right.
 
-ghost use Rattle.std.specs.Prelude.{ℕ, ◌≡◌, [], map, option_map, true, false, ◌&&◌};
+ghost use Rattle.std.specs.Prelude.{ℕ, ◌≡◌, [], map, true, false, ◌&&◌};
 ghost use Rattle.elan_rules.specs.declared.scope.Scope.{Scope};
 ghost use Rattle.elan_rules.specs.Phrase as form;
 ghost use Rattle.elan_rules.specs.Phrase.{phrase, all_of};
@@ -97,7 +97,10 @@ fn judge(alloc: Global, known: &Known, scope: &Scope, expr: &Expr) -> Judged
             otherwise,
         } => {
             let branches = judge_branches(alloc, known, scope, branches.as_slice());
-            let otherwise = judge_otherwise(alloc, known, scope, otherwise);
+            let otherwise = match otherwise {
+                None => Ok(Meant::Absent),
+                Some(units) => judge_units(alloc, known, scope, true, units.as_slice()),
+            };
             let parts = pair(alloc, branches, otherwise)?;
             choice_parts(alloc, *at, parts)
         }
@@ -109,7 +112,10 @@ fn judge(alloc: Global, known: &Known, scope: &Scope, expr: &Expr) -> Judged
         } => {
             let of = judge(alloc, known, scope, of.get());
             let arms = judge_cases(alloc, known, scope, cases.as_slice());
-            let otherwise = judge_otherwise(alloc, known, scope, otherwise);
+            let otherwise = match otherwise {
+                None => Ok(Meant::Absent),
+                Some(units) => judge_units(alloc, known, scope, true, units.as_slice()),
+            };
             let parts = three(alloc, of, arms, otherwise)?;
             selection_parts(alloc, *at, parts)
         }
@@ -120,7 +126,14 @@ fn judge(alloc: Global, known: &Known, scope: &Scope, expr: &Expr) -> Judged
         } => {
             let operand = judge(alloc, known, scope, operand.get());
             let parts = one(alloc, operand)?;
-            applied(alloc, *at, scope, Sort::Operator, operator_text(operator), parts)
+            applied(
+                alloc,
+                *at,
+                scope,
+                Sort::Operator,
+                operator_text(operator),
+                parts,
+            )
         }
         Expr::Dyadic {
             at,
@@ -131,7 +144,14 @@ fn judge(alloc: Global, known: &Known, scope: &Scope, expr: &Expr) -> Judged
             let left = judge(alloc, known, scope, left.get());
             let right = judge(alloc, known, scope, right.get());
             let parts = pair(alloc, left, right)?;
-            applied(alloc, *at, scope, Sort::Operator, operator_text(operator), parts)
+            applied(
+                alloc,
+                *at,
+                scope,
+                Sort::Operator,
+                operator_text(operator),
+                parts,
+            )
         }
         Expr::Cand { at, left, right } => {
             let left = judge(alloc, known, scope, left.get());
@@ -175,22 +195,6 @@ fn judge_optional(alloc: Global, known: &Known, scope: &Scope, expr: &Option<Exp
     }
 }
 
-// The units of ELSE or OTHERWISE.
-#[cycle(judge)]
-fn judge_otherwise(
-    alloc: Global,
-    known: &Known,
-    scope: &Scope,
-    units: &Option<List<Unit>>,
-) -> Judged
-    ensures { Is result (judged known.now (shape.otherwise (option_map (λ us. map (shape.unit scope.now) us) units.now))) }
-{
-    match units {
-        None => Ok(Meant::Absent),
-        Some(units) => judge_units(alloc, known, scope, true, units.as_slice()),
-    }
-}
-
 #[cycle(judge)]
 fn judge_branch(alloc: Global, known: &Known, scope: &Scope, branch: &Branch) -> Judged
     ensures { Is result (judged known.now (shape.branch scope.now branch.now)) }
@@ -222,13 +226,7 @@ fn judge_branches(alloc: Global, known: &Known, scope: &Scope, branches: &[Branc
 }
 
 #[cycle(judge)]
-fn judge_case(
-    alloc: Global,
-    known: &Known,
-    scope: &Scope,
-    earlier: &[i16],
-    case: &Case,
-) -> Judged
+fn judge_case(alloc: Global, known: &Known, scope: &Scope, earlier: &[i16], case: &Case) -> Judged
     ensures { Is result (judged known.now (shape.arm_phrase scope.now earlier.now (shape.case scope.now case.now))) }
 {
     let labels = judge_labels(alloc, known, scope, earlier, case.labels.as_slice());
@@ -245,7 +243,10 @@ fn case_row(alloc: Global, known: &Known, scope: &Scope, cases: &[Case]) -> Row
     let mut row = Ok(List::new(alloc));
     let mut earlier = List::new(alloc);
     for case in cases {
-        row = and(row, judge_case(alloc, known, scope, earlier.as_slice(), case));
+        row = and(
+            row,
+            judge_case(alloc, known, scope, earlier.as_slice(), case),
+        );
         add_numbers(&mut earlier, case.labels.as_slice())?;
     }
     row

@@ -37,12 +37,7 @@ pub fn add_numbers(out: &mut List<i16>, labels: &[Label]) -> Result<(), NoMemory
     Ok(())
 }
 
-fn judge_label(
-    known: &Known,
-    scope: &Scope,
-    earlier: &[i16],
-    label: &Label,
-) -> Result<i16, Trouble>
+fn judge_label(known: &Known, scope: &Scope, earlier: &[i16], label: &Label) -> Result<i16, Trouble>
     ensures { Gives (λ n. means.Labels (n ∷ [])) result (judged known.now (shape.label_phrase scope.now earlier.now label.now)) }
 {
     match label {
