@@ -74,11 +74,15 @@ fn chosen_of(
             let part = if_actions(alloc, condition, first, second)?;
             Ok(Some(part))
         }
-        (Part::Value(of, first), Part::Value(other, second)) if of.is_same(other) => {
+        (Part::Value(of, first), Part::Value(other, second)) => {
+            if !of.is_same(other) {
+                return Ok(None);
+            }
             let part = if_value(alloc, of, condition, first, second)?;
             Ok(Some(part))
         }
-        _ => Ok(None),
+        (Part::Done(_), Part::Value(_, _)) => Ok(None),
+        (Part::Value(_, _), Part::Done(_)) => Ok(None),
     }
 }
 
