@@ -145,7 +145,14 @@ fn add_refinements(
     let mut number = first;
     for refinement in refinements {
         scope.refinement = Some(number);
-        add_body(alloc, known, scope, out, number, refinement.units.as_slice())?;
+        add_body(
+            alloc,
+            known,
+            scope,
+            out,
+            number,
+            refinement.units.as_slice(),
+        )?;
         scope.refinement = None;
         number = next_number(number)?;
     }

@@ -152,11 +152,7 @@ fn unit_headings(
     }
 }
 
-fn all_headings(
-    alloc: Global,
-    out: &mut List<Heading>,
-    units: &[LevelUnit],
-) -> Result<(), NoMemory>
+fn all_headings(alloc: Global, out: &mut List<Heading>, units: &[LevelUnit]) -> Result<(), NoMemory>
     ensures { OnOk result (out.new ≡ out.old ++ spec.all_headings 0 units.now) }
 {
     let mut number = 0;

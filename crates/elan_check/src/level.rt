@@ -37,10 +37,7 @@ fn procedure_name(alloc: Global, scope: &Scope, name: &Name, formals: &[Formal])
     ensures { (k : Known) → Is result (judged_all k (all_of (spec.procedure_name scope.now name.now formals.now))) }
 {
     match formals {
-        [] => one(
-            alloc,
-            declared(alloc, name.at, scope, name.text.as_slice()),
-        ),
+        [] => one(alloc, declared(alloc, name.at, scope, name.text.as_slice())),
         [_first, _others @ ..] => Ok(List::new(alloc)),
     }
 }

@@ -193,7 +193,13 @@ fn judge_body(alloc: Global, known: &Known, scope: &Scope, of: Routine<'_>) -> J
     let units = of.body.units.as_slice();
     let meant = judge_units(alloc, known, scope, true, units)?;
     let owner = frame(alloc, of)?;
-    body(alloc, last_place(of.at, units), owner, result_type(of.result), meant)
+    body(
+        alloc,
+        last_place(of.at, units),
+        owner,
+        result_type(of.result),
+        meant,
+    )
 }
 
 fn is_missing(of: &Option<TypePhrase>, units: &[Unit]) -> bool
