@@ -15,7 +15,6 @@ use Rattle.elan_rules.specs.declared.trouble.Trouble.TheVariants.{NoMemory, Brea
 use Rattle.elan_rules.specs.Answer.{Is, Fails}
 use Rattle.elan_rules.specs.Choices.{labels_of}
 use Rattle.elan_rules.specs.Meaning.{judged, judged_all}
-use Rattle.elan_rules.specs.Phrase as form
 use Rattle.elan_rules.specs.Phrase.{Form, Phrase, phrase, Parts, none, part, around, all_of, is_empty, all_empty}
 use Rattle.elan_rules.specs.Ruled.{Ruled, gives, breaks, hangs, ◌>>=◌, before, joined}
 use Rattle.elan_rules.specs.Rules.{rule}
@@ -57,17 +56,6 @@ module _ (k : Known) (f : Form) (p : Phrase) where
   pub one_is : (out : Result Meant Trouble) (m : Meant) → judged k p ≡ gives m → Is out (rule k f (m ∷ [])) → Is out (judged k (around f p))
   one_is out m e h = subst (λ (z : Ruled Meant). Is out (before z (gives []) >>= rule k f)) (sym e) h
 
-module _ (k : Known) (p : Phrase) where
-  pub role_fails : (may : Bool) (d : Trouble) → Fails d (judged k p) → Fails d (judged k (role may p))
-  role_fails true d h = h
-  role_fails false d h = one_fails k form.without_value p d h
-
-  pub role_kept : (may : Bool) (m : Meant) → true ≡ may → judged k p ≡ gives m → judged k (role may p) ≡ gives m
-  role_kept may m e h = subst (λ (b : Bool). judged k (role b p) ≡ gives m) e h
-
-  pub role_without : (may : Bool) (out : Result Meant Trouble) (m : Meant) → false ≡ may → judged k p ≡ gives m → Is out (rule k form.without_value (m ∷ [])) → Is out (judged k (role may p))
-  role_without may out m e h i = subst (λ (b : Bool). Is out (judged k (role b p))) e (one_is k form.without_value p out m h i)
-
 -- ---- a row with one more phrase
 
 before_joined : (q : Ruled Meant) (rs : Ruled (List Meant)) (r : Ruled Meant) → before q (joined rs r) ≡ joined (before q rs) r
@@ -105,24 +93,6 @@ module _ (k : Known) where
   pub row_goes : {X : Type 0} (f : X → Phrase) (xs : List X) (i : ℕ) (x : X) (q : Result (List Meant) Trouble) → i < length xs → x ≡ get_or xs i x → Is q (joined (judged_all k (all_of (map f (take i xs)))) (judged k (f x))) → Is q (judged_all k (all_of (map f (take (i + 1) xs))))
   row_goes f xs i x q lt e h =
       subst (λ (ps : List Phrase). Is q (judged_all k (all_of ps))) (sym (map_more f xs i x lt ∙ ap (λ y. map f (take i xs) ++ f y ∷ []) (sym e))) (row_is q (map f (take i xs)) (f x) h)
-
-  pub row_ends : {X : Type 0} (f : X → Phrase) (xs : List X) (i : ℕ) (q : Result (List Meant) Trouble) → length xs ≤ i → Is q (judged_all k (all_of (map f (take i xs)))) → Is q (judged_all k (all_of (map f xs)))
-  row_ends f xs i q le h = subst (λ ys. Is q (judged_all k (all_of (map f ys)))) (take_all i xs le) h
-
-  -- ---- a row of units that deliver nothing
-
-  roles_push : (ps : List Phrase) (p : Phrase) → roles false (ps ++ p ∷ []) ≡ roles false ps ++ role false p ∷ []
-  roles_push [] p = refl
-  roles_push (q ∷ ps) p = ap (λ (l : List Phrase). role false q ∷ l) (roles_push ps p)
-
-  pub plain_goes : {X : Type 0} (f : X → Phrase) (xs : List X) (i : ℕ) (x : X) (q : Result (List Meant) Trouble) → i < length xs → x ≡ get_or xs i x → Is q (joined (judged_all k (all_of (roles false (map f (take i xs))))) (judged k (role false (f x)))) → Is q (judged_all k (all_of (roles false (map f (take (i + 1) xs)))))
-  plain_goes f xs i x q lt e h =
-      subst (λ (ps : List Phrase). Is q (judged_all k (all_of ps)))
-      (sym (ap (roles false) (map_more f xs i x lt ∙ ap (λ y. map f (take i xs) ++ f y ∷ []) (sym e)) ∙ roles_push (map f (take i xs)) (f x)))
-      (row_is q (roles false (map f (take i xs))) (role false (f x)) h)
-
-  pub plain_ends : {X : Type 0} (f : X → Phrase) (xs : List X) (i : ℕ) (q : Result (List Meant) Trouble) → length xs ≤ i → Is q (judged_all k (all_of (roles false (map f (take i xs))))) → Is q (judged_all k (all_of (roles false (map f xs))))
-  plain_ends f xs i q le h = subst (λ ys. Is q (judged_all k (all_of (roles false (map f ys))))) (take_all i xs le) h
 
 -- ---- a row of units, of which the last may deliver
 

@@ -3,7 +3,6 @@ use Rattle.std.proofs.Common.{◌≡◌, ℕ, ℤ, List, [], map, Option, Some, 
 use Rattle.std.specs.Prelude.{option_map}
 use Rattle.elan_tree.specs.declared.phrase.Expr.{Expr, roll-Expr}
 use Rattle.elan_tree.specs.declared.phrase.Expr.TheVariants as expression
-use Rattle.elan_tree.specs.declared.phrase.Operator.{Operator}
 use Rattle.elan_tree.specs.declared.phrase.Branch.{Branch, rolls-Branch'}
 use Rattle.elan_tree.specs.declared.phrase.Case.{Case, rolls-Case'}
 use Rattle.elan_tree.specs.declared.phrase.Counter.{Counter, roll-Counter, rolls-Counter'}
@@ -20,14 +19,12 @@ use Rattle.eu_base.specs.declared.operation.Way.{Way}
 use Rattle.elan_rules.specs.declared.trouble.Trouble.{Trouble}
 use Rattle.elan_rules.specs.declared.meant.Meant.{Meant}
 use Rattle.elan_rules.specs.declared.meant.Meant.TheVariants.{Absent}
-use Rattle.elan_check.specs.Operators.{operator_text}
 use Rattle.elan_rules.specs.Answer.{Is}
 use Rattle.elan_rules.specs.Meaning.{judged}
 use Rattle.elan_rules.specs.declared.known.Known.{Known}
 use Rattle.elan_rules.specs.declared.scope.Scope.{Scope}
-use Rattle.elan_rules.specs.declared.heading.Sort.TheVariants.{Operator as for_operators, Procedure as for_procedures}
 use Rattle.elan_rules.specs.Phrase as form
-use Rattle.elan_rules.specs.Phrase.{Form, Phrase, phrase, none, part, leaf, around, pair, three, all_of}
+use Rattle.elan_rules.specs.Phrase.{Form, Phrase, phrase, none, part, leaf, pair, three, all_of}
 use Rattle.elan_check.specs.Shape as shape
 
 abbrev pub four : Form → Phrase → Phrase → Phrase → Phrase → Phrase
@@ -97,14 +94,6 @@ module _ (s : Scope) where
         ∙ ap (λ (l : List Case). three (form.selection at) (shape.expr s v) (arms_of l) (units_of o)) f
         ∙ sym (ap (shape.expr s) i ∙ selection_shape at v cs o)) h
 
-    pub dyadic_is : (w : Expr) (at : ℕ) (o : Operator) (x : List ℕ) (l l' r r' : Expr) → w ≡ expression.Dyadic at o l r → x ≡ operator_text o → l' ≡ l → r' ≡ r → Is q (judged known (pair (form.applied at s for_operators x) (shape.expr s l') (shape.expr s r'))) → Is q (judged known (shape.expr s w))
-    dyadic_is w at o x l l' r r' i n e f h =
-        subst (λ (p : Phrase). Is q (judged known p))
-        (ap (λ (y : List ℕ). pair (form.applied at s for_operators y) (shape.expr s l') (shape.expr s r')) n
-        ∙ ap (λ (y : Expr). pair (form.applied at s for_operators (operator_text o)) (shape.expr s y) (shape.expr s r')) e
-        ∙ ap (λ (y : Expr). pair (form.applied at s for_operators (operator_text o)) (shape.expr s l) (shape.expr s y)) f
-        ∙ sym (ap (shape.expr s) (i ∙ sym (expression.rolls-Dyadic at o l r)) ∙ rw fold-roll-Expr refl)) h
-
     pub cand_is : (w : Expr) (at : ℕ) (l l' r r' : Expr) → w ≡ expression.Cand at l r → l' ≡ l → r' ≡ r → Is q (judged known (pair (form.cand at) (shape.expr s l') (shape.expr s r'))) → Is q (judged known (shape.expr s w))
     cand_is w at l l' r r' i e f h =
         subst (λ (p : Phrase). Is q (judged known p))
@@ -118,11 +107,6 @@ module _ (s : Scope) where
         (ap (λ (y : Expr). pair (form.cor at) (shape.expr s y) (shape.expr s r')) e
         ∙ ap (λ (y : Expr). pair (form.cor at) (shape.expr s l) (shape.expr s y)) f
         ∙ sym (ap (shape.expr s) (i ∙ sym (expression.rolls-Cor at l r)) ∙ rw fold-roll-Expr refl)) h
-
-    pub assignment_is : (w : Statement) (at : ℕ) (l r : Expr) → w ≡ statement.Becomes at l r → Is q (judged known (pair (form.assignment at s) (shape.expr s l) (shape.expr s r))) → Is q (judged known (shape.unit s w))
-    assignment_is w at l r i h =
-        let e : shape.unit s w ≡ pair (form.assignment at s) (shape.expr s l) (shape.expr s r) = ap (shape.unit s) (i ∙ sym (statement.rolls-Becomes at l r)) ∙ rw fold-roll-Unit refl in
-        subst (λ (p : Phrase). Is q (judged known p)) (sym e) h
 
     pub loop_is : (w : Statement) (at : ℕ) (k : Option Counter) (c : Option Expr) (us us' : List Statement) (u : Option Expr) → w ≡ statement.Loop at k c us u → us' ≡ us
         → Is q (judged known (four (form.loop at) (shape.optional_counter s k) (shape.optional_expr s c) (shape.units false (map (shape.unit s) us')) (shape.optional_expr s u))) → Is q (judged known (shape.unit s w))
@@ -164,39 +148,6 @@ module _ (s : Scope) where
         subst (λ (p : Phrase). Is q (judged known p))
         (ap (λ (z : Option Expr). shape.item_with s i.name (leaf (form.declares i.name.at s i.name.text)) (option_map (shape.expr s) z)) (sym e)
         ∙ sym (ap (shape.item s) (sym (rolls-Item' (record { name = i.name; init = i.init }))) ∙ item_rolled i.name i.init)) h
-
-    leave_rolled : (at : ℕ) (n : Name) (v : Option Expr) → shape.unit s (roll-Unit (t.Leave at n v)) ≡ around (form.leave at s n.text) (shape.optional_expr s v)
-    leave_rolled at n None = rw fold-roll-Unit refl
-    leave_rolled at n (Some a) = rw fold-roll-Unit refl
-
-    pub leave_is : (w : Statement) (at : ℕ) (n : Name) (v : Option Expr) → w ≡ statement.Leave at n v → Is q (judged known (around (form.leave at s n.text) (shape.optional_expr s v))) → Is q (judged known (shape.unit s w))
-    leave_is w at n v i h =
-        subst (λ (p : Phrase). Is q (judged known p)) (sym (ap (shape.unit s) (i ∙ sym (statement.rolls-Leave at n v)) ∙ leave_rolled at n v)) h
-
-    pub monadic_is : (w : Expr) (at : ℕ) (o : Operator) (x : List ℕ) (a a' : Expr) → w ≡ expression.Monadic at o a → x ≡ operator_text o → a' ≡ a → Is q (judged known (around (form.applied at s for_operators x) (shape.expr s a'))) → Is q (judged known (shape.expr s w))
-    monadic_is w at o x a a' i n e h =
-        subst (λ (p : Phrase). Is q (judged known p))
-        (ap (λ (y : List ℕ). around (form.applied at s for_operators y) (shape.expr s a')) n
-        ∙ ap (λ (y : Expr). around (form.applied at s for_operators (operator_text o)) (shape.expr s y)) e
-        ∙ sym (ap (shape.expr s) (i ∙ sym (expression.rolls-Monadic at o a)) ∙ rw fold-roll-Expr refl)) h
-
-    pub call_is : (w : Expr) (n : Name) (x : List ℕ) (es es' : List Expr) → w ≡ expression.Call n es → x ≡ n.text → es' ≡ es → Is q (judged known (phrase (form.applied n.at s for_procedures x) (all_of (map (shape.expr s) es')))) → Is q (judged known (shape.expr s w))
-    call_is w n x es es' i t e h =
-        subst (λ (p : Phrase). Is q (judged known p))
-        (ap (λ (y : List ℕ). phrase (form.applied n.at s for_procedures y) (all_of (map (shape.expr s) es'))) t
-        ∙ ap (λ (l : List Expr). phrase (form.applied n.at s for_procedures n.text) (all_of (map (shape.expr s) l))) e
-        ∙ sym (ap (shape.expr s) (i ∙ sym (expression.rolls-Call n es)) ∙ rw fold-roll-Expr refl)) h
-
-    pub bracket_is : (w : Expr) (at : ℕ) (a a' : Expr) → w ≡ expression.Bracket at a → a' ≡ a → Is q (judged known (around (form.bracket at) (shape.expr s a'))) → Is q (judged known (shape.expr s w))
-    bracket_is w at a a' i e h =
-        subst (λ (p : Phrase). Is q (judged known p))
-        (ap (λ (y : Expr). around (form.bracket at) (shape.expr s y)) e
-        ∙ sym (ap (shape.expr s) (i ∙ sym (expression.rolls-Bracket at a)) ∙ rw fold-roll-Expr refl)) h
-
-    pub statement_is : (w : Statement) (a : Expr) → w ≡ statement.Value a → Is q (judged known (around form.statement (shape.expr s a))) → Is q (judged known (shape.unit s w))
-    statement_is w a i h =
-        let e : shape.unit s w ≡ around form.statement (shape.expr s a) = ap (shape.unit s) (i ∙ sym (statement.rolls-Value a)) ∙ rw fold-roll-Unit refl in
-        subst (λ (p : Phrase). Is q (judged known p)) (sym e) h
 
     pub variables_is : (w : Statement) (at : ℕ) (of : TypePhrase) (xs xs' : List Item) → w ≡ statement.Variables at of xs → xs' ≡ xs → Is q (judged known (phrase (form.declaration at) (all_of (map (shape.item s) xs')))) → Is q (judged known (shape.unit s w))
     variables_is w at of xs xs' i e h =
