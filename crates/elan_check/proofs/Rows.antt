@@ -18,6 +18,7 @@ use Rattle.elan_rules.specs.Meaning.{judged, judged_all}
 use Rattle.elan_rules.specs.Phrase.{Form, Phrase, phrase, Parts, none, part, around, all_of, is_empty, all_empty}
 use Rattle.elan_rules.specs.Ruled.{Ruled, gives, breaks, hangs, ◌>>=◌, before, joined}
 use Rattle.elan_rules.specs.Rules.{rule}
+use Rattle.elan_rules.proofs.Beside.{before_joined, single_joined}
 use Rattle.elan_check.specs.Shape.{unit, case, role, roles, numbers, arm_phrase, arm_phrases}
 
 -- ---- what a function hands on
@@ -57,28 +58,6 @@ module _ (k : Known) (f : Form) (p : Phrase) where
   one_is out m e h = subst (λ (z : Ruled Meant). Is out (before z (gives []) >>= rule k f)) (sym e) h
 
 -- ---- a row with one more phrase
-
-before_joined : (q : Ruled Meant) (rs : Ruled (List Meant)) (r : Ruled Meant) → before q (joined rs r) ≡ joined (before q rs) r
-before_joined (gives m) (gives ms) (gives n) = refl
-before_joined (gives m) (gives ms) (breaks f) = refl
-before_joined (gives m) (gives ms) hangs = refl
-before_joined (gives m) (breaks f) r = refl
-before_joined (gives m) hangs (gives n) = refl
-before_joined (gives m) hangs (breaks f) = refl
-before_joined (gives m) hangs hangs = refl
-before_joined (breaks f) rs r = refl
-before_joined hangs (gives ms) (gives n) = refl
-before_joined hangs (gives ms) (breaks f) = refl
-before_joined hangs (gives ms) hangs = refl
-before_joined hangs (breaks f) r = refl
-before_joined hangs hangs (gives n) = refl
-before_joined hangs hangs (breaks f) = refl
-before_joined hangs hangs hangs = refl
-
-single_joined : (r : Ruled Meant) → before r (gives []) ≡ joined (gives []) r
-single_joined (gives m) = refl
-single_joined (breaks f) = refl
-single_joined hangs = refl
 
 module _ (k : Known) where
   pub row_push : (ps : List Phrase) (p : Phrase) → judged_all k (all_of (ps ++ p ∷ [])) ≡ joined (judged_all k (all_of ps)) (judged k p)
