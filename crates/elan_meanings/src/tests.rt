@@ -229,13 +229,34 @@ const LOOPS: [(&str, &str); 36] = [
 /// PROCs, OPs, refinements and LEAVE.
 const PROCEDURES: [(&str, &str); 44] = [
     ("PROC p: END PROC p; p", "a core"),
-    ("INT PROC f (INT CONST a): a + 1 END PROC f; put (f (2))", "a core"),
-    ("PROC p (INT VAR a): a := 3 END PROC p; INT VAR v; p (v)", "a core"),
-    ("PROC p (INT VAR a): a := 3 END PROC p; p (1)", "NoMeaning(43, NoVariable)"),
-    ("PROC p (INT VAR a): a := 3 END PROC p; p (TRUE)", "NoMeaning(40, WrongType)"),
-    ("PROC p (INT VAR a): a := 3 END PROC p; p (1, 2)", "NoMeaning(40, Unknown)"),
-    ("PROC p (INT CONST a): a := 3 END PROC p", "NoMeaning(23, NoVariable)"),
-    ("PROC p (INT CONST a, BOOL CONST a): END PROC p", "NoMeaning(33, Doubled)"),
+    (
+        "INT PROC f (INT CONST a): a + 1 END PROC f; put (f (2))",
+        "a core",
+    ),
+    (
+        "PROC p (INT VAR a): a := 3 END PROC p; INT VAR v; p (v)",
+        "a core",
+    ),
+    (
+        "PROC p (INT VAR a): a := 3 END PROC p; p (1)",
+        "NoMeaning(43, NoVariable)",
+    ),
+    (
+        "PROC p (INT VAR a): a := 3 END PROC p; p (TRUE)",
+        "NoMeaning(40, WrongType)",
+    ),
+    (
+        "PROC p (INT VAR a): a := 3 END PROC p; p (1, 2)",
+        "NoMeaning(40, Unknown)",
+    ),
+    (
+        "PROC p (INT CONST a): a := 3 END PROC p",
+        "NoMeaning(23, NoVariable)",
+    ),
+    (
+        "PROC p (INT CONST a, BOOL CONST a): END PROC p",
+        "NoMeaning(33, Doubled)",
+    ),
     (
         "PROC p (INT CONST a): END PROC p; PROC p (INT CONST b): END PROC p",
         "NoMeaning(40, Doubled)",
@@ -245,24 +266,42 @@ const PROCEDURES: [(&str, &str); 44] = [
         "a core",
     ),
     ("PROC p: END PROC p; INT VAR p", "NoMeaning(29, Doubled)"),
-    ("INT VAR p; INT PROC p: END PROC p", "NoMeaning(21, Doubled)"),
+    (
+        "INT VAR p; INT PROC p: END PROC p",
+        "NoMeaning(21, Doubled)",
+    ),
     ("INT PROC f: END PROC f", "NoMeaning(10, WrongType)"),
     ("INT PROC f: put (1) END PROC f", "NoMeaning(13, WrongType)"),
     ("PROC f: 1 END PROC f", "NoMeaning(9, WrongType)"),
-    ("INT PROC f: put (1); TRUE; END PROC f", "NoMeaning(22, WrongType)"),
+    (
+        "INT PROC f: put (1); TRUE; END PROC f",
+        "NoMeaning(22, WrongType)",
+    ),
     ("INT PROC f: LEAVE f WITH 3 END PROC f; put (f)", "a core"),
     ("INT PROC f: LEAVE f END PROC f", "NoMeaning(13, WrongType)"),
-    ("PROC f: LEAVE f WITH 1 END PROC f", "NoMeaning(9, WrongType)"),
-    ("INT PROC f: LEAVE f WITH TRUE END PROC f", "NoMeaning(13, WrongType)"),
+    (
+        "PROC f: LEAVE f WITH 1 END PROC f",
+        "NoMeaning(9, WrongType)",
+    ),
+    (
+        "INT PROC f: LEAVE f WITH TRUE END PROC f",
+        "NoMeaning(13, WrongType)",
+    ),
     ("PROC f: LEAVE g END PROC f", "NoMeaning(9, WrongPlace)"),
     ("LEAVE f", "NoMeaning(1, WrongPlace)"),
     ("PROC f: LEAVE F END PROC f", "NoMeaning(9, WrongPlace)"),
-    ("INT PROC f: IF TRUE THEN LEAVE f WITH 1 ELSE 2 FI END PROC f; put (f)", "a core"),
+    (
+        "INT PROC f: IF TRUE THEN LEAVE f WITH 1 ELSE 2 FI END PROC f; put (f)",
+        "a core",
+    ),
     ("put (r). r: 3.", "a core"),
     ("r; put (r). r: 3.", "NoMeaning(1, WrongType)"),
     ("put (r). r: put (1).", "NoMeaning(1, WrongType)"),
     ("r. r: LEAVE r.", "a core"),
-    ("put (r). r: IF TRUE THEN LEAVE r WITH 3 ELSE 4 FI.", "a core"),
+    (
+        "put (r). r: IF TRUE THEN LEAVE r WITH 3 ELSE 4 FI.",
+        "a core",
+    ),
     ("r. r: LEAVE r WITH 1.", "NoMeaning(7, WrongType)"),
     ("r. r: r.", "NoMeaning(7, WrongPlace)"),
     ("a. a: b. b: a.", "NoMeaning(7, WrongPlace)"),
@@ -271,13 +310,31 @@ const PROCEDURES: [(&str, &str); 44] = [
     ("put (r + TRUE). r: unknown; 3.", "NoMeaning(6, WrongType)"),
     ("put (r). r: unknown.", "NoMeaning(13, Unknown)"),
     ("PROC p: r END PROC p. r: put (1).", "NoMeaning(9, Unknown)"),
-    ("PROC p: r. r: put (1) END PROC p; r", "NoMeaning(35, Unknown)"),
-    ("INT PROC p: r. r: LEAVE p WITH 3 END PROC p", "NoMeaning(13, WrongType)"),
-    ("INT PROC p: r; 4. r: LEAVE p WITH 3 END PROC p; put (p)", "a core"),
+    (
+        "PROC p: r. r: put (1) END PROC p; r",
+        "NoMeaning(35, Unknown)",
+    ),
+    (
+        "INT PROC p: r. r: LEAVE p WITH 3 END PROC p",
+        "NoMeaning(13, WrongType)",
+    ),
+    (
+        "INT PROC p: r; 4. r: LEAVE p WITH 3 END PROC p; put (p)",
+        "a core",
+    ),
     ("r. r: 1. r: 2.", "NoMeaning(1, WrongType)"),
-    ("PROC put (INT CONST a): line END PROC put; put (1); put (TRUE)", "NoMeaning(53, WrongType)"),
-    ("PROC p: put (x) END PROC p. x: 3; INT VAR x.", "NoMeaning(14, Unknown)"),
-    ("PROC p: v := 1; INT VAR v END PROC p; v := 2", "NoMeaning(39, Unknown)"),
+    (
+        "PROC put (INT CONST a): line END PROC put; put (1); put (TRUE)",
+        "NoMeaning(53, WrongType)",
+    ),
+    (
+        "PROC p: put (x) END PROC p. x: 3; INT VAR x.",
+        "NoMeaning(14, Unknown)",
+    ),
+    (
+        "PROC p: v := 1; INT VAR v END PROC p; v := 2",
+        "NoMeaning(39, Unknown)",
+    ),
 ];
 
 /// What is not built yet.
@@ -307,18 +364,51 @@ const UNBUILT: [(&str, &str); 21] = [
 
 /// Own operators.
 const OPERATORS: [(&str, &str); 12] = [
-    ("INT OP + (INT CONST a, b): a * b END OP +; put (3 + 4)", "a core"),
+    (
+        "INT OP + (INT CONST a, b): a * b END OP +; put (3 + 4)",
+        "a core",
+    ),
     ("OP X (INT CONST a): END OP X; X 3", "a core"),
-    ("OP X (INT CONST a): END OP X; X TRUE", "NoMeaning(31, WrongType)"),
-    ("OP X (INT CONST a): END OP X; 3 X 4", "NoMeaning(31, Unknown)"),
-    ("OP X (INT VAR a): a := 1 END OP X; X 3", "NoMeaning(38, NoVariable)"),
-    ("OP X (INT CONST a): END OP X; OP X (INT CONST b): END OP X", "NoMeaning(34, Doubled)"),
-    ("INT OP X (INT CONST a): LEAVE X WITH a + 1 END OP X; put (X 3)", "a core"),
-    ("OP := (INT VAR a, INT CONST b): END OP :=; INT VAR x; x := 3", "a core"),
-    ("OP := (INT VAR a, INT CONST b): END OP :=; 1 := 3", "NoMeaning(44, NoVariable)"),
-    ("OP := (INT CONST a, BOOL CONST b): END OP :=; 1 := TRUE", "a core"),
-    ("INT OP := (INT CONST a, BOOL CONST b): 1 END OP :=; 1 := TRUE", "NoMeaning(53, WrongType)"),
-    ("BOOL OP < (BOOL CONST a, b): b END OP <; IF TRUE < FALSE THEN line FI", "a core"),
+    (
+        "OP X (INT CONST a): END OP X; X TRUE",
+        "NoMeaning(31, WrongType)",
+    ),
+    (
+        "OP X (INT CONST a): END OP X; 3 X 4",
+        "NoMeaning(31, Unknown)",
+    ),
+    (
+        "OP X (INT VAR a): a := 1 END OP X; X 3",
+        "NoMeaning(38, NoVariable)",
+    ),
+    (
+        "OP X (INT CONST a): END OP X; OP X (INT CONST b): END OP X",
+        "NoMeaning(34, Doubled)",
+    ),
+    (
+        "INT OP X (INT CONST a): LEAVE X WITH a + 1 END OP X; put (X 3)",
+        "a core",
+    ),
+    (
+        "OP := (INT VAR a, INT CONST b): END OP :=; INT VAR x; x := 3",
+        "a core",
+    ),
+    (
+        "OP := (INT VAR a, INT CONST b): END OP :=; 1 := 3",
+        "NoMeaning(44, NoVariable)",
+    ),
+    (
+        "OP := (INT CONST a, BOOL CONST b): END OP :=; 1 := TRUE",
+        "a core",
+    ),
+    (
+        "INT OP := (INT CONST a, BOOL CONST b): 1 END OP :=; 1 := TRUE",
+        "NoMeaning(53, WrongType)",
+    ),
+    (
+        "BOOL OP < (BOOL CONST a, b): b END OP <; IF TRUE < FALSE THEN line FI",
+        "a core",
+    ),
 ];
 
 fn answer(alloc: Global, text: &str) -> Result<String, AllocError> {

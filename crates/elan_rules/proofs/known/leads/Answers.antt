@@ -11,10 +11,10 @@ loop-turn-init c = λ n. ap (λ (m : List Bool). mark_at m c.args.to n) c.in_ok-
 pub returns-then-eq : goal.returns-then-eq
 returns-then-eq c =
     let same : c.as_slice-in-loop-turn.result.now ≡ c.as_slice-in-loop-turn-2.result.now =
-        (slice_eq-Decides booleans_Decides c.as_slice-in-loop-turn.result.now c.as_slice-in-loop-turn-2.result.now true c.if-eq.ensures).0 refl in
+    (slice_eq-Decides booleans_Decides c.as_slice-in-loop-turn.result.now c.as_slice-in-loop-turn-2.result.now true c.if-eq.ensures).0 refl in
     let settled : next_marks c.loop-turn.marks c.args.to c.args.calls.now ≡ c.loop-turn.marks =
-        ap (λ (m : List Bool). next_marks m c.args.to c.args.calls.now) (sym c.as_slice.ensures) ∙ sym c.in_ok-next.ensures
-        ∙ sym c.as_slice-in-loop-turn.ensures ∙ same ∙ c.as_slice-in-loop-turn-2.ensures in
+    ap (λ (m : List Bool). next_marks m c.args.to c.args.calls.now) (sym c.as_slice.ensures) ∙ sym c.in_ok-next.ensures
+    ∙ sym c.as_slice-in-loop-turn.ensures ∙ same ∙ c.as_slice-in-loop-turn-2.ensures in
     c.is_marked.ensures ∙ ap (λ (m : List Bool). mark_at m c.args.to c.args.from) c.as_slice-then-eq.ensures
     ∙ stays c.args.calls.now c.args.to c.loop-turn._turn c.loop-turn.marks c.loop-turn.invariant settled
     (length c.args.calls.now - c.loop-turn._turn) (length c.args.calls.now) (omega (arith, c.loop-turn-test.true)) c.args.from
