@@ -6,4 +6,3 @@ pub mod Blanks
 pub mod Calling
 pub mod Executing
 pub mod Starting
-pub mod Samples

@@ -8,13 +8,9 @@ mod execute;
 mod machine;
 mod operate;
 mod operations;
-#[cfg(test)]
-mod plain;
 mod stack;
 mod state;
 mod step;
-#[cfg(test)]
-mod tests;
 
 pub use code_form::Halt;
 pub use machine::{laws, reply, run, start};
