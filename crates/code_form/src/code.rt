@@ -21,7 +21,7 @@ pub struct Line {
 #[derive(Clone, Copy, PartialEq, Eq, Debug)]
 pub struct Spot {
     /// The body that it is of; none where it is of the command itself.
-    pub body: Option<u16>,
+    pub body: Option<usize>,
     /// How many limits of loops its frame keeps.
     pub limits: usize,
 }
@@ -45,7 +45,7 @@ pub enum Layout {
         variables: List<Kind>,
     },
     /// Those of the PROC with this number, whose refinement it is.
-    Of(u16),
+    Of(usize),
     /// None: it is a refinement of the command itself.
     Level,
 }

@@ -12,11 +12,11 @@ pub enum Instr {
     /// Pushes a truth value.
     Truth(bool),
     /// Pushes the place of a variable of the level.
-    Outer(u16),
+    Outer(usize),
     /// Pushes the place of a cell of the frame, by its number there.
-    Local(u16),
+    Local(usize),
     /// Pushes the place that a cell of the frame holds, by its number there.
-    Param(u16),
+    Param(usize),
     /// Takes a place, and pushes the value there.
     Load(Kind),
     /// Takes a value and the place below it, and stores the value there.
@@ -42,9 +42,9 @@ pub enum Instr {
     /// Spends a mark, and makes a request.
     Ask(Call),
     /// Spends a mark, and goes to the PROC with this number, whose parameters it takes, with a new frame.
-    Call(u16),
+    Call(usize),
     /// Spends a mark, and goes to the refinement with this number, with a new frame over the same cells.
-    Refer(u16),
+    Refer(usize),
     /// Leaves the frame, and takes the value on top with it where there is one of a kind.
     Back(Option<Kind>),
     /// Leaves the frames of refinements and that of their PROC, as `Back` does.

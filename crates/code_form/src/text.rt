@@ -49,9 +49,9 @@ fn append_instr(out: &mut Bytes, bodies: &[Entry], instr: Instr) -> Result<(), N
             out.append(b"BOOL ")?;
             out.append(truth_word(value))
         }
-        Instr::Outer(cell) => append_with(out, b"OUTER ", usize::from(cell)),
-        Instr::Local(cell) => append_with(out, b"LOCAL ", usize::from(cell)),
-        Instr::Param(cell) => append_with(out, b"PARAM ", usize::from(cell)),
+        Instr::Outer(cell) => append_with(out, b"OUTER ", cell),
+        Instr::Local(cell) => append_with(out, b"LOCAL ", cell),
+        Instr::Param(cell) => append_with(out, b"PARAM ", cell),
         Instr::Load(kind) => {
             out.append(b"LOAD ")?;
             out.append(kind_word(kind))
@@ -102,20 +102,20 @@ fn append_instr(out: &mut Bytes, bodies: &[Entry], instr: Instr) -> Result<(), N
 }
 
 // Where a body begins.
-fn first_of(bodies: &[Entry], body: u16) -> usize
+fn first_of(bodies: &[Entry], body: usize) -> usize
     ensures { result ≡ first_of (slice_get bodies.now body) }
 {
-    match bodies.get(usize::from(body)) {
+    match bodies.get(body) {
         Some(entry) => entry.first,
         None => 0,
     }
 }
 
 // How many cells a body's frame has for its parameters and variables.
-fn cells_of_frame(bodies: &[Entry], body: u16) -> Result<usize, NoMemory>
+fn cells_of_frame(bodies: &[Entry], body: usize) -> Result<usize, NoMemory>
     ensures { IfOk result (λ cells. cells ≡ cells_of_frame (slice_get bodies.now body)) }
 {
-    match bodies.get(usize::from(body)) {
+    match bodies.get(body) {
         Some(entry) => cells_of(&entry.layout),
         None => Ok(0),
     }

@@ -17,9 +17,8 @@ pub fn emit_bodies(out: &mut Draft, bodies: &[Body]) -> Result<List<Entry>, NoMe
 {
     let mut entries = List::new(out.alloc);
     for (index, body) in bodies.iter().enumerate() {
-        let number = u16::try_from(index).map_err(|_| NoMemory)?;
         entries.push(entry_of(out.alloc, body, out.lines.len())?)?;
-        out.begin_body(number);
+        out.begin_body(index);
         emit_content(out, &body.content)?;
     }
     Ok(entries)

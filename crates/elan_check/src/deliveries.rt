@@ -101,12 +101,12 @@ fn next(
     alloc: Global,
     known: &Known,
     scope: &Scope,
-    number: u16,
+    number: usize,
     units: &[Unit],
 ) -> Result<Delivery, NoMemory>
     ensures { IfOk result (λ d. d ≡ spec.next known.now (knowledge.delivery_at known.now number) (shape.units true (map (shape.unit scope.now) units.now))) }
 {
-    match known.delivery_at(usize::from(number)) {
+    match known.delivery_at(number) {
         Delivery::Open => units_delivery(alloc, known, scope, units),
         found => Ok(found),
     }
@@ -118,7 +118,7 @@ fn add_body(
     known: &Known,
     scope: &Scope,
     out: &mut Known,
-    number: u16,
+    number: usize,
     units: &[Unit],
 ) -> Result<(), NoMemory>
     ensures { OnOk result (out.new ≡ spec.more_known known.now out.old number (shape.units true (map (shape.unit scope.now) units.now))) }
@@ -135,7 +135,7 @@ fn add_refinements(
     known: &Known,
     scope: &mut Scope,
     out: &mut Known,
-    first: u16,
+    first: usize,
     refinements: &[Refinement],
 ) -> Result<(), NoMemory>
     requires { scope.old.refinement ≡ None }
@@ -165,7 +165,7 @@ fn add_routine(
     known: &Known,
     scope: &mut Scope,
     out: &mut Known,
-    number: u16,
+    number: usize,
     formals: &[Formal],
     body: &Body,
 ) -> Result<(), NoMemory>
@@ -188,7 +188,7 @@ fn add_unit(
     known: &Known,
     scope: &mut Scope,
     out: &mut Known,
-    number: u16,
+    number: usize,
     unit: &LevelUnit,
 ) -> Result<(), NoMemory>
     requires level { scope.old.routine ≡ None }

@@ -27,7 +27,7 @@ pub fn result_type(of: &Option<TypePhrase>) -> Option<ElanType>
 fn refinement_headings(
     alloc: Global,
     out: &mut List<Heading>,
-    home: Option<u16>,
+    home: Option<usize>,
     refinements: &[Refinement],
 ) -> Result<(), NoMemory>
     ensures { OnOk result (out.new ≡ out.old ++ spec.refinement_headings home refinements.now) }
@@ -61,21 +61,15 @@ fn routine_heading(
     })
 }
 
-// A number behind some bodies. A text of 8,000 tokens has far fewer than 65,536.
-fn behind(number: u16, count: usize) -> Result<u16, NoMemory>
+// A number behind some bodies. No memory has as many bodies as a number here can count.
+fn behind(number: usize, count: usize) -> Result<usize, NoMemory>
     ensures { IfOk result (λ next. next ≡ number + count) }
 {
-    match u16::try_from(count) {
-        Ok(count) => match number.checked_add(count) {
-            Some(next) => Ok(next),
-            None => Err(NoMemory),
-        },
-        Err(_) => Err(NoMemory),
-    }
+    number.checked_add(count).ok_or(NoMemory)
 }
 
 /// The number behind the bodies of a unit whose first body has this number.
-pub fn number_behind(number: u16, unit: &LevelUnit) -> Result<u16, NoMemory>
+pub fn number_behind(number: usize, unit: &LevelUnit) -> Result<usize, NoMemory>
     ensures { IfOk result (λ next. next ≡ number + spec.bodies_in unit.now) }
 {
     match unit {
@@ -93,7 +87,7 @@ pub fn number_behind(number: u16, unit: &LevelUnit) -> Result<u16, NoMemory>
 }
 
 /// The next number.
-pub fn next_number(number: u16) -> Result<u16, NoMemory>
+pub fn next_number(number: usize) -> Result<usize, NoMemory>
     ensures { IfOk result (λ next. next ≡ number + 1) }
 {
     behind(number, 1)
@@ -103,7 +97,7 @@ pub fn next_number(number: u16) -> Result<u16, NoMemory>
 fn unit_headings(
     alloc: Global,
     out: &mut List<Heading>,
-    number: u16,
+    number: usize,
     unit: &LevelUnit,
 ) -> Result<(), NoMemory>
     ensures { OnOk result (out.new ≡ out.old ++ spec.unit_headings number unit.now) }
@@ -174,7 +168,7 @@ pub fn headings(alloc: Global, level: &Level) -> Result<List<Heading>, NoMemory>
 }
 
 /// The number of the first refinement of a level.
-pub fn first_refinement(units: &[LevelUnit]) -> Result<u16, NoMemory>
+pub fn first_refinement(units: &[LevelUnit]) -> Result<usize, NoMemory>
     ensures { IfOk result (λ number. number ≡ level_spec.bodies_of_units units.now) }
 {
     let mut number = 0;

@@ -47,7 +47,7 @@ fn judge_level_unit(
     alloc: Global,
     known: &Known,
     scope: &mut Scope,
-    number: u16,
+    number: usize,
     unit: &LevelUnit,
 ) -> Judged
     requires level { scope.old.routine ≡ None }

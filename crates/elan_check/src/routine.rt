@@ -32,7 +32,7 @@ use std::alloc::Global;
 #[derive(Clone, Copy)]
 pub struct Routine<'a> {
     pub sort: Sort,
-    pub number: u16,
+    pub number: usize,
     /// The place of its name.
     pub at: u32,
     pub name: &'a [u8],
@@ -56,7 +56,7 @@ fn judge_refinement(
     alloc: Global,
     known: &Known,
     scope: &mut Scope,
-    number: u16,
+    number: usize,
     refinement: &Refinement,
 ) -> Judged
     requires { scope.old.refinement ≡ None }
@@ -82,7 +82,7 @@ pub fn judge_refinements(
     known: &Known,
     scope: &mut Scope,
     before: Row,
-    first: u16,
+    first: usize,
     refinements: &[Refinement],
 ) -> Row
     requires { scope.old.refinement ≡ None }

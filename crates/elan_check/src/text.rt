@@ -17,7 +17,7 @@ use elan_types::{Core, Env};
 use std::alloc::Global;
 
 /// The one core of a text, or the first phrase in text order that breaks a rule though all its parts have meaning, and the
-/// rule. A text with 65,536 names or bodies and more may be answered with `NoMemory`; no text of at most 8,000 tokens has them.
+/// rule.
 pub fn check(alloc: Global, tree: &Tree, env: &Env) -> Result<Core, CheckError>
     // What it gives is the meaning.
     ensures meaning { IfOk result (λ core. text.Means env.now tree.now core) }

@@ -3,26 +3,22 @@
 ghost use Rattle.std.specs.Prelude.{◌≡◌, ◌++◌, map, OnOk};
 ghost use Rattle.elan_check.specs.Uses as spec;
 
-use elan_rules::rules::call::number_of;
 use elan_rules::scope::Scope;
 use elan_tree::{Branch, Case, Counter, Expr, Item, Limit, Name, Unit};
 use eu_base::{List, NoMemory};
 
 // Adds the refinement that a name denotes, if it denotes one.
-fn in_name(scope: &Scope, out: &mut List<u16>, name: &Name) -> Result<(), NoMemory>
+fn in_name(scope: &Scope, out: &mut List<usize>, name: &Name) -> Result<(), NoMemory>
     ensures { OnOk result (out.new ≡ out.old ++ spec.in_name scope.now name.now) }
 {
     match scope.refinement_named(name.text.as_slice()) {
         None => Ok(()),
-        Some(number) => {
-            let number = number_of(number)?;
-            out.push(number)
-        }
+        Some(number) => out.push(number),
     }
 }
 
 #[cycle(uses)]
-fn in_expr(scope: &Scope, out: &mut List<u16>, expr: &Expr) -> Result<(), NoMemory>
+fn in_expr(scope: &Scope, out: &mut List<usize>, expr: &Expr) -> Result<(), NoMemory>
     ensures { OnOk result (out.new ≡ out.old ++ spec.in_expr scope.now expr.now) }
 {
     match expr {
@@ -70,7 +66,7 @@ fn in_expr(scope: &Scope, out: &mut List<u16>, expr: &Expr) -> Result<(), NoMemo
 }
 
 #[cycle(uses)]
-fn in_exprs(scope: &Scope, out: &mut List<u16>, exprs: &[Expr]) -> Result<(), NoMemory>
+fn in_exprs(scope: &Scope, out: &mut List<usize>, exprs: &[Expr]) -> Result<(), NoMemory>
     ensures { OnOk result (out.new ≡ out.old ++ spec.all (map (spec.in_expr scope.now) exprs.now)) }
 {
     for expr in exprs {
@@ -80,7 +76,7 @@ fn in_exprs(scope: &Scope, out: &mut List<u16>, exprs: &[Expr]) -> Result<(), No
 }
 
 #[cycle(uses)]
-fn in_optional(scope: &Scope, out: &mut List<u16>, expr: &Option<Expr>) -> Result<(), NoMemory>
+fn in_optional(scope: &Scope, out: &mut List<usize>, expr: &Option<Expr>) -> Result<(), NoMemory>
     ensures { OnOk result (out.new ≡ out.old ++ spec.in_optional scope.now expr.now) }
 {
     match expr {
@@ -90,7 +86,7 @@ fn in_optional(scope: &Scope, out: &mut List<u16>, expr: &Option<Expr>) -> Resul
 }
 
 #[cycle(uses)]
-fn in_branches(scope: &Scope, out: &mut List<u16>, branches: &[Branch]) -> Result<(), NoMemory>
+fn in_branches(scope: &Scope, out: &mut List<usize>, branches: &[Branch]) -> Result<(), NoMemory>
     ensures { OnOk result (out.new ≡ out.old ++ spec.all (map (spec.in_branch scope.now) branches.now)) }
 {
     for branch in branches {
@@ -101,7 +97,7 @@ fn in_branches(scope: &Scope, out: &mut List<u16>, branches: &[Branch]) -> Resul
 }
 
 #[cycle(uses)]
-fn in_cases(scope: &Scope, out: &mut List<u16>, cases: &[Case]) -> Result<(), NoMemory>
+fn in_cases(scope: &Scope, out: &mut List<usize>, cases: &[Case]) -> Result<(), NoMemory>
     ensures { OnOk result (out.new ≡ out.old ++ spec.all (map (spec.in_case scope.now) cases.now)) }
 {
     for case in cases {
@@ -111,7 +107,7 @@ fn in_cases(scope: &Scope, out: &mut List<u16>, cases: &[Case]) -> Result<(), No
 }
 
 #[cycle(uses)]
-fn in_items(scope: &Scope, out: &mut List<u16>, items: &[Item]) -> Result<(), NoMemory>
+fn in_items(scope: &Scope, out: &mut List<usize>, items: &[Item]) -> Result<(), NoMemory>
     ensures { OnOk result (out.new ≡ out.old ++ spec.all (map (spec.in_item scope.now) items.now)) }
 {
     for item in items {
@@ -121,7 +117,7 @@ fn in_items(scope: &Scope, out: &mut List<u16>, items: &[Item]) -> Result<(), No
 }
 
 #[cycle(uses)]
-fn in_limit(scope: &Scope, out: &mut List<u16>, limit: &Limit) -> Result<(), NoMemory>
+fn in_limit(scope: &Scope, out: &mut List<usize>, limit: &Limit) -> Result<(), NoMemory>
     ensures { OnOk result (out.new ≡ out.old ++ spec.in_limit scope.now limit.now) }
 {
     match limit {
@@ -132,7 +128,7 @@ fn in_limit(scope: &Scope, out: &mut List<u16>, limit: &Limit) -> Result<(), NoM
 }
 
 #[cycle(uses)]
-fn in_counter(scope: &Scope, out: &mut List<u16>, counter: &Counter) -> Result<(), NoMemory>
+fn in_counter(scope: &Scope, out: &mut List<usize>, counter: &Counter) -> Result<(), NoMemory>
     ensures { OnOk result (out.new ≡ out.old ++ spec.in_counter scope.now counter.now) }
 {
     in_name(scope, out, &counter.name)?;
@@ -141,7 +137,7 @@ fn in_counter(scope: &Scope, out: &mut List<u16>, counter: &Counter) -> Result<(
 }
 
 #[cycle(uses)]
-fn in_unit(scope: &Scope, out: &mut List<u16>, unit: &Unit) -> Result<(), NoMemory>
+fn in_unit(scope: &Scope, out: &mut List<usize>, unit: &Unit) -> Result<(), NoMemory>
     ensures { OnOk result (out.new ≡ out.old ++ spec.in_unit scope.now unit.now) }
 {
     match unit {
@@ -183,7 +179,7 @@ fn in_unit(scope: &Scope, out: &mut List<u16>, unit: &Unit) -> Result<(), NoMemo
 
 /// Adds the refinements that units call.
 #[cycle(uses)]
-pub fn in_units(scope: &Scope, out: &mut List<u16>, units: &[Unit]) -> Result<(), NoMemory>
+pub fn in_units(scope: &Scope, out: &mut List<usize>, units: &[Unit]) -> Result<(), NoMemory>
     ensures { OnOk result (out.new ≡ out.old ++ spec.in_units scope.now units.now) }
 {
     for unit in units {

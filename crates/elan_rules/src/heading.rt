@@ -34,7 +34,7 @@ pub enum What {
     /// A PROC or OP, with its parameters and the type that it delivers.
     Routine(Sort, List<Parameter>, Option<ElanType>),
     /// A refinement of the PROC or OP with this number, or of the level.
-    Refinement(Option<u16>),
+    Refinement(Option<usize>),
 }
 
 /// The heading of a body: the place of its name, the name, and what it is.
@@ -70,7 +70,7 @@ fn same_types(parameters: &[Parameter], others: &[Parameter]) -> bool
     }
 }
 
-fn same_home(home: Option<u16>, other: Option<u16>) -> bool
+fn same_home(home: Option<usize>, other: Option<usize>) -> bool
     ensures { result ≡ spec.same_number home other }
 {
     match (home, other) {
@@ -113,7 +113,7 @@ fn has_as_many(heading: &Heading, sort: Sort, name: &[u8], count: usize) -> bool
         }
 }
 
-fn is_refined(heading: &Heading, home: Option<u16>, name: &[u8]) -> bool
+fn is_refined(heading: &Heading, home: Option<usize>, name: &[u8]) -> bool
     ensures { result ≡ spec.is_refined home name.now heading.now }
 {
     heading.name.as_slice() == name
@@ -181,7 +181,7 @@ pub fn any_with_as_many(headings: &[Heading], sort: Sort, name: &[u8], count: us
 
 /// The number of the refinement of this name, of the PROC or OP with this number or of the level; `None` exactly where
 /// there is none.
-pub fn first_refined(headings: &[Heading], home: Option<u16>, name: &[u8]) -> Option<usize>
+pub fn first_refined(headings: &[Heading], home: Option<usize>, name: &[u8]) -> Option<usize>
     ensures { result ≡ spec.number_in (spec.first_heading (spec.is_refined home name.now) headings.now) }
 {
     let mut position = 0;

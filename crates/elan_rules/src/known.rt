@@ -11,7 +11,7 @@ use std::alloc::Global;
 #[derive(Drop)]
 pub struct Known {
     pub deliveries: List<Delivery>,
-    pub calls: List<List<u16>>,
+    pub calls: List<List<usize>>,
 }
 
 impl Known {
@@ -30,13 +30,13 @@ impl Known {
         &self,
         alloc: Global,
         number: usize,
-        refinement: Option<u16>,
+        refinement: Option<usize>,
     ) -> Result<bool, NoMemory>
         ensures { IfOk result (λ back. back ≡ spec.leads_back self.now number refinement) }
     {
         match refinement {
             None => Ok(false),
-            Some(to) => leads(alloc, self.calls.as_slice(), number, usize::from(to)),
+            Some(to) => leads(alloc, self.calls.as_slice(), number, to),
         }
     }
 }
@@ -51,11 +51,11 @@ fn is_marked(marks: &[bool], number: usize, to: usize) -> bool
     }
 }
 
-fn any_marked(marks: &[bool], called: &[u16], to: usize) -> bool
+fn any_marked(marks: &[bool], called: &[usize], to: usize) -> bool
     ensures { result ≡ spec.any_marked marks.now to called.now }
 {
     for number in called {
-        if is_marked(marks, usize::from(*number), to) {
+        if is_marked(marks, *number, to) {
             return true;
         }
     }
@@ -65,7 +65,7 @@ fn any_marked(marks: &[bool], called: &[u16], to: usize) -> bool
 // The marks of those that call one that is marked.
 fn next_marks(
     alloc: Global,
-    calls: &[List<u16>],
+    calls: &[List<usize>],
     marks: &[bool],
     to: usize,
 ) -> Result<List<bool>, NoMemory>
@@ -89,7 +89,7 @@ fn first_marks(alloc: Global, count: usize, to: usize) -> Result<List<bool>, NoM
 }
 
 // Those that lead to a refinement are marked, one call further in each turn, until nothing changes.
-fn leads(alloc: Global, calls: &[List<u16>], from: usize, to: usize) -> Result<bool, NoMemory>
+fn leads(alloc: Global, calls: &[List<usize>], from: usize, to: usize) -> Result<bool, NoMemory>
     ensures { IfOk result (λ back. back ≡ spec.leads (length calls.now) calls.now from to) }
 {
     let mut marks = first_marks(alloc, calls.len(), to)?;

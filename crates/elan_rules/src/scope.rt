@@ -55,7 +55,7 @@ pub struct Entry {
 /// A PROC or OP, by its number among the bodies of the level, with the names that it declares in text order.
 #[derive(Drop)]
 pub struct Within {
-    pub number: u16,
+    pub number: usize,
     pub names: List<Entry>,
 }
 
@@ -69,7 +69,7 @@ pub struct Scope {
     /// The PROC or OP in which the phrase stands.
     pub routine: Option<Within>,
     /// The number of the refinement in which it stands.
-    pub refinement: Option<u16>,
+    pub refinement: Option<usize>,
 }
 
 /// Where a name was declared: in the level, or in the PROC or OP.
@@ -164,7 +164,7 @@ impl Scope {
         }
     }
 
-    fn routine_number(&self) -> Option<u16>
+    fn routine_number(&self) -> Option<usize>
         ensures { result ≡ spec.number_of self.now.routine }
     {
         match &self.routine {
@@ -190,11 +190,11 @@ impl Scope {
     }
 
     // The body with this number, where it has that name.
-    fn body_named(&self, number: Option<u16>, name: &[u8]) -> Option<u16>
+    fn body_named(&self, number: Option<usize>, name: &[u8]) -> Option<usize>
         ensures { result ≡ spec.body_named self.now.headings number name.now }
     {
         let number = number?;
-        match self.headings.get(usize::from(number)) {
+        match self.headings.get(number) {
             None => None,
             Some(heading) => {
                 if heading.name.as_slice() == name {
@@ -218,7 +218,7 @@ impl Scope {
 
     /// The body that a LEAVE of a name leaves: the refinement in which it stands, or the PROC or OP. `None` exactly where
     /// it stands in none of that name.
-    pub fn left(&self, name: &[u8]) -> Option<(Exit, u16)>
+    pub fn left(&self, name: &[u8]) -> Option<(Exit, usize)>
         ensures { result ≡ spec.left self.now name.now }
     {
         match self.body_named(self.refinement, name) {

@@ -30,7 +30,7 @@ pub enum Scope {
         variables: List<ElanType>,
     },
     /// Those of the PROC with this number, whose refinement it is.
-    Of(u16),
+    Of(usize),
     /// Those of the level alone, whose refinement it is.
     Level,
 }
@@ -90,9 +90,9 @@ pub enum ValuePhrase {
     /// Actions, and then a value. Behind a LEAVE stands any value of the type that is asked for; it is never reached.
     After(List<Action>, Boxed<ValuePhrase>),
     /// What the call of a PROC delivers, its actuals from left to right.
-    Call(u16, List<Actual>, ElanType),
+    Call(usize, List<Actual>, ElanType),
     /// What a refinement delivers.
-    Refer(u16, ElanType),
+    Refer(usize, ElanType),
 }
 
 /// What a parameter is given.
@@ -115,11 +115,11 @@ pub struct ValueArm {
 #[derive(Debug, Drop)]
 pub enum PlacePhrase {
     /// A variable or constant of the level, by its number in `Core::variables`.
-    Variable(u16),
+    Variable(usize),
     /// A CONST parameter, variable or constant of the PROC, by its number among parameters and variables.
-    Local(u16),
+    Local(usize),
     /// What a VAR parameter of the PROC holds, by its number among the parameters.
-    Parameter(u16),
+    Parameter(usize),
 }
 
 /// A phrase that delivers nothing.
@@ -157,9 +157,9 @@ pub enum Action {
     /// `line`
     Line,
     /// A call of a PROC that delivers nothing, its actuals from left to right.
-    Call(u16, List<Actual>),
+    Call(usize, List<Actual>),
     /// A refinement that delivers nothing.
-    Refer(u16),
+    Refer(usize),
     Leave(Exit),
     /// A LEAVE WITH, and the value that is delivered.
     LeaveWith(Exit, ElanType, ValuePhrase),

@@ -38,7 +38,7 @@ impl Draft {
     }
 
     /// Goes on with the code of the body with this number.
-    pub fn begin_body(&mut self, number: u16)
+    pub fn begin_body(&mut self, number: usize)
         ensures { Begins number self.old self.new }
     {
         self.pending = List::new(self.alloc);

@@ -79,7 +79,7 @@ fn emit_value(out: &mut Draft, phrase: &ValuePhrase) -> Result<(), NoMemory>
 #[cycle(emit)]
 fn emit_call(
     out: &mut Draft,
-    body: u16,
+    body: usize,
     actuals: &[Actual],
     delivers: Option<Kind>,
 ) -> Result<(), NoMemory>

@@ -136,7 +136,7 @@ pub fn put_operation(out: &mut Draft, operation: Operation) -> Result<(), NoMemo
 /// A call of the PROC with this number, which takes so many operands.
 pub fn put_call(
     out: &mut Draft,
-    body: u16,
+    body: usize,
     taken: usize,
     delivers: Option<Kind>,
 ) -> Result<(), NoMemory>
@@ -149,7 +149,7 @@ pub fn put_call(
 }
 
 /// A reference to the refinement with this number.
-pub fn put_refer(out: &mut Draft, body: u16, delivers: Option<Kind>) -> Result<(), NoMemory>
+pub fn put_refer(out: &mut Draft, body: usize, delivers: Option<Kind>) -> Result<(), NoMemory>
     ensures { OnOk result (Adds (refer_code body delivers) out.old out.new) }
 {
     match delivers {

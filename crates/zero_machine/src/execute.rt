@@ -11,10 +11,11 @@ use crate::calls::{back, call, out, refer};
 use crate::operate::operate;
 use crate::state::State;
 use crate::step::{
-    drop_value, jump_false, limit, load, local, modify, param, push_on, step, store, unlimit, when,
+    drop_value, jump_false, limit, load, local, modify, outer, param, push_on, step, store, unlimit,
+    when,
 };
 use code_form::{Entry, Halt, Instr, Operand};
-use eu_base::{Addr, Area, MemFault, Memory, NoMemory, Value};
+use eu_base::{MemFault, Memory, NoMemory, Value};
 
 /// What one instruction does, or why the machine rests at it.
 pub fn execute<M: Memory>(
@@ -41,8 +42,8 @@ pub fn execute<M: Memory>(
             Ok(None)
         }
         Instr::Ask(request) => Ok(ask(s, request, marks)?),
-        Instr::Call(body) => call(&bodies[usize::from(body)], s, m, marks),
-        Instr::Refer(body) => refer(&bodies[usize::from(body)], s, m, marks),
+        Instr::Call(body) => call(&bodies[body], s, m, marks),
+        Instr::Refer(body) => refer(&bodies[body], s, m, marks),
         Instr::Number(_) | Instr::Truth(_) | Instr::Outer(_) | Instr::Local(_) => {
             Ok(push_constant(instr, s)?)
         }
@@ -72,13 +73,7 @@ fn push_constant(instr: Instr, s: &mut State) -> Result<Option<Halt>, NoMemory>
     match instr {
         Instr::Number(number) => push_on(s, Operand::Value(Value::Int(number))),
         Instr::Truth(truth) => push_on(s, Operand::Value(Value::Truth(truth))),
-        Instr::Outer(cell) => push_on(
-            s,
-            Operand::Place(Addr {
-                area: Area::Run,
-                cell,
-            }),
-        ),
+        Instr::Outer(cell) => outer(s, cell),
         Instr::Local(cell) => local(s, cell),
         _ => unreachable!(),
     }

@@ -27,25 +27,34 @@ pub fn push_on(s: &mut State, operand: Operand) -> Result<Option<Halt>, NoMemory
     Ok(None)
 }
 
+/// OUTER
+pub fn outer(s: &mut State, cell: usize) -> Result<Option<Halt>, NoMemory>
+    requires ready { IsReady s.old }
+    requires finds { IsCell (run_cell cell) }
+    ensures { IfOk result (λ halt. (cells : Cells) → StepsSo (instrs.Outer cell) (control_of s.old) cells (control_of s.new) cells halt) }
+{
+    push_on(s, Operand::Place(run_cell(cell)))
+}
+
 /// LOCAL
-pub fn local(s: &mut State, cell: u16) -> Result<Option<Halt>, NoMemory>
+pub fn local(s: &mut State, cell: usize) -> Result<Option<Halt>, NoMemory>
     requires ready { IsReady s.old }
     requires finds { IsCell (run_cell (base_of s.old.stack.frames + cell)) }
     ensures { IfOk result (λ halt. (cells : Cells) → StepsSo (instrs.Local cell) (control_of s.old) cells (control_of s.new) cells halt) }
 {
-    let at = run_cell(s.stack.base() + usize::from(cell));
+    let at = run_cell(s.stack.base() + cell);
     push_on(s, Operand::Place(at))
 }
 
 /// PARAM
-pub fn param<M: Memory>(s: &mut State, m: &mut M, cell: u16) -> Result<Option<Halt>, MemFault>
+pub fn param<M: Memory>(s: &mut State, m: &mut M, cell: usize) -> Result<Option<Halt>, MemFault>
     requires ready { IsReady s.old }
     requires finds { IsCell (run_cell (base_of s.old.stack.frames + cell)) }
     ensures goes { IfOk result (StepsSo (instrs.Param cell) (control_of s.old) (M.cells m.old) (control_of s.new) (M.cells m.new)) }
     ensures cause { HasFaultCause (M.faults m.old) (M.faults m.new) result }
     ensures follows { M.follows m.old m.new }
 {
-    let at = run_cell(s.stack.base() + usize::from(cell));
+    let at = run_cell(s.stack.base() + cell);
     let place = read_place(m, at)?;
     let halt = push_on(s, Operand::Place(place))?;
     Ok(halt)

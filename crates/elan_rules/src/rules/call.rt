@@ -22,16 +22,6 @@ use elan_types::{
 use eu_base::{List, NoMemory};
 use std::alloc::Global;
 
-/// A number of a body or variable as cores have it. A text of 8,000 tokens has far fewer than 65,536.
-pub fn number_of(position: usize) -> Result<u16, NoMemory>
-    ensures { IfOk result (λ number. number ≡ position) }
-{
-    match u16::try_from(position) {
-        Ok(number) => Ok(number),
-        Err(_) => Err(NoMemory),
-    }
-}
-
 // ---- predefined operators and procedures
 
 // The values of parts.
@@ -177,7 +167,7 @@ fn given(
 fn call(
     alloc: Global,
     at: u32,
-    number: u16,
+    number: usize,
     result_type: Option<ElanType>,
     actuals: List<Actual>,
 ) -> Result<Meant, NoMemory>
@@ -196,7 +186,6 @@ pub fn called(alloc: Global, at: u32, number: usize, what: &What, operands: List
     match what {
         What::Routine(_, parameters, delivered) => {
             let actuals = given(alloc, parameters.as_slice(), operands)?;
-            let number = number_of(number)?;
             let meant = call(alloc, at, number, *delivered, actuals)?;
             Ok(meant)
         }

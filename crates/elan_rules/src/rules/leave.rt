@@ -63,7 +63,7 @@ pub fn leaving(
     alloc: Global,
     known: &Known,
     at: u32,
-    left: Option<(Exit, u16)>,
+    left: Option<(Exit, usize)>,
     value: Meant,
 ) -> Judged
     ensures { Is result (spec.leaving known.now at left value) }
@@ -71,7 +71,7 @@ pub fn leaving(
     match left {
         None => Err(Trouble::Breaks(at, Why::WrongPlace)),
         Some((exit, number)) => {
-            let delivery = known.delivery_at(usize::from(number));
+            let delivery = known.delivery_at(number);
             leave_as(alloc, at, exit, delivery, value)
         }
     }

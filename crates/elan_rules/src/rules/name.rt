@@ -1,6 +1,6 @@
 //! Identifiers without actuals, and names in their declarations.
 
-ghost use Rattle.std.specs.Prelude.{◌≡◌, IfOk};
+ghost use Rattle.std.specs.Prelude.{◌≡◌};
 ghost use Rattle.elan_types.specs.declared.core_phrase.Access.TheVariants as accesses;
 ghost use Rattle.elan_rules.specs.Calls as spec;
 ghost use Rattle.elan_rules.specs.Scope as scopes;
@@ -11,16 +11,16 @@ use crate::heading::{Sort, first_alike};
 use crate::known::Known;
 use crate::meant::Meant;
 use crate::row::Judged;
-use crate::rules::call::{applied, number_of};
+use crate::rules::call::applied;
 use crate::rules::part::{done, valued};
 use crate::scope::{Denotes, Found, Home, Scope};
 use crate::trouble::Trouble;
 use elan_types::{Access, Action, ElanType, Parameter, PlacePhrase, ValuePhrase, Why};
-use eu_base::{List, NoMemory};
+use eu_base::List;
 use std::alloc::Global;
 
 // The place of what is held with this access; only PROCs and OPs have parameters.
-fn place_in(home: Home, number: u16, access: Access) -> PlacePhrase
+fn place_in(home: Home, number: usize, access: Access) -> PlacePhrase
     ensures { result ≡ spec.place_in home number access }
 {
     match (home, access) {
@@ -34,7 +34,7 @@ fn place_in(home: Home, number: u16, access: Access) -> PlacePhrase
 #[derive(Clone, Copy)]
 struct Held {
     home: Home,
-    number: u16,
+    number: usize,
     access: Access,
 }
 
@@ -64,7 +64,7 @@ fn constant(at: u32, of: ElanType, held: Held) -> Meant
 }
 
 // A CONST parameter is a constant, a VAR parameter a variable.
-fn parameter(at: u32, home: Home, number: u16, parameter: Parameter) -> Meant
+fn parameter(at: u32, home: Home, number: usize, parameter: Parameter) -> Meant
     ensures { result ≡ spec.parameter at parameter.of parameter.access (spec.place_in home number parameter.access) }
 {
     let held = Held {
@@ -87,10 +87,10 @@ fn referred(alloc: Global, at: u32, number: usize, delivery: Delivery) -> Judged
     match delivery {
         Delivery::Open => Err(Trouble::Hangs),
         Delivery::Nothing => {
-            let meant = done(alloc, Action::Refer(number_of(number)?))?;
+            let meant = done(alloc, Action::Refer(number))?;
             Ok(meant)
         }
-        Delivery::Of(of) => Ok(valued(at, of, ValuePhrase::Refer(number_of(number)?, of))),
+        Delivery::Of(of) => Ok(valued(at, of, ValuePhrase::Refer(number, of))),
     }
 }
 
@@ -122,12 +122,9 @@ fn denoted(
     ensures { Is result (spec.denoted known.now at scope.now name.now found.home found.number found.denotes) }
 {
     match found.denotes {
-        Denotes::Variable(of) => Ok(variable(at, of, plainly_held(found)?)),
-        Denotes::Constant(of) => Ok(constant(at, of, plainly_held(found)?)),
-        Denotes::Parameter(given) => {
-            let number = number_of(found.number)?;
-            Ok(parameter(at, found.home, number, given))
-        }
+        Denotes::Variable(of) => Ok(variable(at, of, plainly_held(found))),
+        Denotes::Constant(of) => Ok(constant(at, of, plainly_held(found))),
+        Denotes::Parameter(given) => Ok(parameter(at, found.home, found.number, given)),
         Denotes::Procedure => {
             let actuals = List::new(alloc);
             applied(alloc, at, scope, Sort::Procedure, name, actuals)
@@ -137,17 +134,16 @@ fn denoted(
 }
 
 // Where a variable or constant is held.
-fn plainly_held(found: Found) -> Result<Held, NoMemory>
-    ensures home { IfOk result (λ held. held.home ≡ found.home) }
-    ensures number { IfOk result (λ held. held.number ≡ found.number) }
-    ensures access { IfOk result (λ held. held.access ≡ accesses.Const) }
+fn plainly_held(found: Found) -> Held
+    ensures home { result.home ≡ found.home }
+    ensures number { result.number ≡ found.number }
+    ensures access { result.access ≡ accesses.Const }
 {
-    let number = number_of(found.number)?;
-    Ok(Held {
+    Held {
         home: found.home,
-        number,
+        number: found.number,
         access: Access::Const,
-    })
+    }
 }
 
 /// An identifier without actuals.
@@ -163,15 +159,15 @@ pub fn named(alloc: Global, known: &Known, at: u32, scope: &Scope, name: &[u8]) 
 // ---- declarations
 
 // A variable or constant can be given its initial value; nothing else has to be done.
-fn declared_as(alloc: Global, at: u32, found: Found) -> Result<Meant, NoMemory>
-    ensures { IfOk result (λ m. m ≡ spec.declared_as at found.home found.number found.denotes) }
+fn declared_as(alloc: Global, at: u32, found: Found) -> Meant
+    ensures { result ≡ spec.declared_as at found.home found.number found.denotes }
 {
     match found.denotes {
-        Denotes::Variable(of) => Ok(variable(at, of, plainly_held(found)?)),
-        Denotes::Constant(of) => Ok(variable(at, of, plainly_held(found)?)),
-        Denotes::Parameter(_) => Ok(Meant::Done(List::new(alloc))),
-        Denotes::Procedure => Ok(Meant::Done(List::new(alloc))),
-        Denotes::Refinement => Ok(Meant::Done(List::new(alloc))),
+        Denotes::Variable(of) => variable(at, of, plainly_held(found)),
+        Denotes::Constant(of) => variable(at, of, plainly_held(found)),
+        Denotes::Parameter(_) => Meant::Done(List::new(alloc)),
+        Denotes::Procedure => Meant::Done(List::new(alloc)),
+        Denotes::Refinement => Meant::Done(List::new(alloc)),
     }
 }
 
@@ -183,8 +179,7 @@ pub fn declared(alloc: Global, at: u32, scope: &Scope, name: &[u8]) -> Judged
         None => Err(Trouble::Breaks(0, Why::Unknown)),
         Some(found) => {
             if found.at == at {
-                let meant = declared_as(alloc, at, found)?;
-                Ok(meant)
+                Ok(declared_as(alloc, at, found))
             } else {
                 Err(Trouble::Breaks(at, Why::Doubled))
             }
