@@ -12,9 +12,9 @@ use Rattle.zero_machine.specs.Finds.{Finds, HasProc, HasBody}
 use Rattle.zero_machine.specs.Running.{stage_of, scene_of, StepsSo}
 
 -- the body that is read is the one that stands there
-found : (bodies : List Entry) (n i : ℕ) (entry d : Entry) → slice_get bodies n ≡ Some entry → i ≡ n → d ≡ get_or bodies i d → slice_get bodies n ≡ Some d
-found bodies n i entry d has same is =
-    let e : d ≡ entry = is ∙ ap (λ i. get_or bodies i d) same ∙ get_or_from_slice_get bodies n entry d has in
+found : (bodies : List Entry) (n : ℕ) (entry d : Entry) → slice_get bodies n ≡ Some entry → d ≡ get_or bodies n d → slice_get bodies n ≡ Some d
+found bodies n entry d has is =
+    let e : d ≡ entry = is ∙ get_or_from_slice_get bodies n entry d has in
     has ∙ ap (λ (x : Entry). Some x) (sym e)
 
 module _ {E : Type 0} (result : Result (Option Halt) E) (c c' : Control) (cells : Cells) (s s' : Scene) (bodies : List Entry) (instr : Instr) where
@@ -22,15 +22,15 @@ module _ {E : Type 0} (result : Result (Option Halt) E) (c c' : Control) (cells 
   abbrev Leads : Move → Type 0
   Leads m = IfOk result (λ halt. stage_of halt c' s' ≡ stage m c s)
 
-  pub call_so : (n i : ℕ) (d : Entry) → instr ≡ Call n → Finds bodies instr c → i ≡ n → d ≡ get_or bodies i d → Leads (call_move c (Some d) cells) → Leads (instruction bodies (Some instr) c cells)
-  call_so n i d is finds same read h =
+  pub call_so : (n : ℕ) (d : Entry) → instr ≡ Call n → Finds bodies instr c → d ≡ get_or bodies n d → Leads (call_move c (Some d) cells) → Leads (instruction bodies (Some instr) c cells)
+  call_so n d is finds read h =
       let proc : HasProc bodies n c.ops = subst (λ i. Finds bodies i c) is finds in
-      subst (λ i. Leads (instruction bodies (Some i) c cells)) (sym is) (subst (λ o. Leads (call_move c o cells)) (sym (found bodies n i proc.entry d proc.has same read)) h)
+      subst (λ i. Leads (instruction bodies (Some i) c cells)) (sym is) (subst (λ o. Leads (call_move c o cells)) (sym (found bodies n proc.entry d proc.has read)) h)
 
-  pub refer_so : (n i : ℕ) (d : Entry) → instr ≡ Refer n → Finds bodies instr c → i ≡ n → d ≡ get_or bodies i d → Leads (refer_move c (Some d) cells) → Leads (instruction bodies (Some instr) c cells)
-  refer_so n i d is finds same read h =
+  pub refer_so : (n : ℕ) (d : Entry) → instr ≡ Refer n → Finds bodies instr c → d ≡ get_or bodies n d → Leads (refer_move c (Some d) cells) → Leads (instruction bodies (Some instr) c cells)
+  refer_so n d is finds read h =
       let body : HasBody bodies n = subst (λ i. Finds bodies i c) is finds in
-      subst (λ i. Leads (instruction bodies (Some i) c cells)) (sym is) (subst (λ o. Leads (refer_move c o cells)) (sym (found bodies n i body.entry d body.has same read)) h)
+      subst (λ i. Leads (instruction bodies (Some i) c cells)) (sym is) (subst (λ o. Leads (refer_move c o cells)) (sym (found bodies n body.entry d body.has read)) h)
 
 pub steps_so : {E : Type 0} (result : Result (Option Halt) E) (c c' : Control) (cells cells' : Cells) (marks : ℕ) (bodies : List Entry) (instr i : Instr) → instr ≡ i → IfOk result (StepsSo i c cells c' cells')
     → IfOk result (λ halt. stage_of halt c' (scene_of cells' marks) ≡ stage (instruction bodies (Some instr) c cells) c (scene_of cells marks))

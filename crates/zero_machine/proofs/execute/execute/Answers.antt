@@ -9,12 +9,12 @@ returns-in_ok-ask-in-Ask-clause-goes g c = rw c.in-Ask.is (c.in_ok-ask-in-Ask.en
 pub returns-in-Call-clause-goes : goal.returns-in-Call-clause-goes
 returns-in-Call-clause-goes g c =
     call_so c.call.result (control_of c.args.s.now) (control_of c.call.new.s) (g.M.Memory.cells c.args.m.now) (scene_of (g.M.Memory.cells c.args.m.now) c.args.marks.now) (scene_of (g.M.Memory.cells c.call.new.m) c.call.new.marks)
-    c.args.bodies.now c.args.instr c.in-Call.body c.from.result c.index-bodies-from.result c.in-Call.is c.requires.finds c.from.ensures c.index-bodies-from.is c.call.ensures.goes
+    c.args.bodies.now c.args.instr c.in-Call.body c.index-bodies-body.result c.in-Call.is c.requires.finds c.index-bodies-body.is c.call.ensures.goes
 
 pub returns-in-Refer-clause-goes : goal.returns-in-Refer-clause-goes
 returns-in-Refer-clause-goes g c =
     refer_so c.refer.result (control_of c.args.s.now) (control_of c.refer.new.s) (g.M.Memory.cells c.args.m.now) (scene_of (g.M.Memory.cells c.args.m.now) c.args.marks.now) (scene_of (g.M.Memory.cells c.refer.new.m) c.refer.new.marks)
-    c.args.bodies.now c.args.instr c.in-Refer.body c.from-in-Refer.result c.index-bodies-from-in-Refer.result c.in-Refer.is c.requires.finds c.from-in-Refer.ensures c.index-bodies-from-in-Refer.is c.refer.ensures.goes
+    c.args.bodies.now c.args.instr c.in-Refer.body c.index-bodies-body-in-Refer.result c.in-Refer.is c.requires.finds c.index-bodies-body-in-Refer.is c.refer.ensures.goes
 
 pub returns-in_ok-operate-in-Do-clause-goes : goal.returns-in_ok-operate-in-Do-clause-goes
 returns-in_ok-operate-in-Do-clause-goes g c = rw c.in-Do.is (c.in_ok-operate-in-Do.ensures (g.M.Memory.cells c.args.m.now) c.args.bodies.now c.args.marks.now)
