@@ -3,7 +3,5 @@
 
 mod code;
 mod entries;
-#[cfg(test)]
-mod tests;
 
 pub use code::generate;

@@ -20,9 +20,8 @@ use elan_rules::rules::choice::branches_of;
 use elan_rules::rules::leave::leaving;
 use elan_rules::rules::list::{alone, declaration, in_order, without_value};
 use elan_rules::rules::name::{declared, named};
-use elan_rules::rules::part::valued;
 use elan_rules::rules::selection::arms_of;
-use elan_rules::rules::value::{bracketed, number};
+use elan_rules::rules::value::{bracketed, number, truth};
 use elan_rules::rules::whole::{
     arm_parts, branch_parts, cand_parts, choice_parts, cor_parts, counter_parts, initial_parts,
     loop_parts, selection_parts,
@@ -30,7 +29,7 @@ use elan_rules::rules::whole::{
 use elan_rules::scope::Scope;
 use elan_rules::trouble::Trouble;
 use elan_tree::{Branch, Case, Counter, Expr, Item, Limit, Unit};
-use elan_types::{ElanType, ValuePhrase, Way, Why};
+use elan_types::{Way, Why};
 use eu_base::{Boxed, List};
 use std::alloc::Global;
 
@@ -79,8 +78,8 @@ fn judge(alloc: Global, known: &Known, scope: &Scope, expr: &Expr) -> Judged
     ensures { Is result (judged known.now (shape.expr scope.now expr.now)) }
 {
     match expr {
-        Expr::Number(at, written) => Ok(number(*at, *written)),
-        Expr::Truth(at, truth) => Ok(valued(*at, ElanType::Bool, ValuePhrase::Truth(*truth))),
+        Expr::Number(at, written) => number(alloc, *at, *written),
+        Expr::Truth(at, written) => truth(alloc, *at, *written),
         Expr::Named(name) => named(alloc, known, name.at, scope, name.text.as_slice()),
         Expr::Call(name, actuals) => {
             let actuals = judge_exprs(alloc, known, scope, actuals.as_slice())?;
@@ -320,7 +319,7 @@ fn judge_counter(alloc: Global, known: &Known, scope: &Scope, counter: &Counter)
     let from = judge_optional(alloc, known, scope, &counter.from);
     let limit = judge_limit(alloc, known, scope, &counter.limit);
     let parts = three(alloc, name, from, limit)?;
-    counter_parts(way(&counter.limit), parts)
+    counter_parts(alloc, way(&counter.limit), parts)
 }
 
 #[cycle(judge)]

@@ -1,7 +1,7 @@
 //! What is known of a phrase that has meaning.
 
 use elan_types::{Action, Body, Change, ElanType, Operation, PlacePhrase, ValuePhrase, Way};
-use eu_base::List;
+use eu_base::{Boxed, List};
 
 /// What a predefined operator or procedure does.
 #[derive(Clone, Copy, PartialEq, Eq, Debug)]
@@ -20,7 +20,7 @@ pub enum Does {
 #[derive(Drop)]
 pub enum Part {
     Done(List<Action>),
-    Value(ElanType, ValuePhrase),
+    Value(ElanType, Boxed<ValuePhrase>),
     /// It ends with a LEAVE.
     Left(List<Action>),
 }
@@ -28,7 +28,7 @@ pub enum Part {
 /// A condition, if it is a truth value, and the units that it guards.
 #[derive(Drop)]
 pub struct Guarded {
-    pub condition: Option<ValuePhrase>,
+    pub condition: Option<Boxed<ValuePhrase>>,
     pub part: Part,
 }
 
@@ -45,9 +45,9 @@ pub struct Counted {
     pub at: u32,
     /// Its place, if it is a variable.
     pub place: Option<PlacePhrase>,
-    pub from: ValuePhrase,
+    pub from: Boxed<ValuePhrase>,
     pub way: Way,
-    pub limit: Option<ValuePhrase>,
+    pub limit: Option<Boxed<ValuePhrase>>,
     /// Counter, first value and limit are numbers.
     pub are_numbers: bool,
 }
@@ -61,7 +61,7 @@ pub enum Meant {
     Value {
         at: u32,
         of: ElanType,
-        value: ValuePhrase,
+        value: Boxed<ValuePhrase>,
         variable: Option<PlacePhrase>,
     },
     /// A phrase that delivers nothing.
@@ -71,7 +71,7 @@ pub enum Meant {
     Labels(List<i16>),
     Branches(List<Guarded>),
     Arms(List<Labelled>),
-    Counter(Counted),
+    Counter(Boxed<Counted>),
     /// PROCs, OPs and refinements.
     Bodies(List<Body>),
     /// The units of a level, and its bodies.

@@ -241,16 +241,27 @@ fn an_endless_loop_writes_until_its_marks_are_spent(rt: HostRuntime) -> Result<(
     Ok(())
 }
 
+/// Texts, and the listings of their code.
+const LISTINGS: [(&str, &str); 2] = [
+    (
+        "REP put (1) PER",
+        "0 MARK\n1 MARK\n2 MARK\n3 INT 1\n4 ASK put(INT)\n5 JUMP 1\n6 END\n",
+    ),
+    (
+        "PROC p (INT VAR a): put (a) END PROC p; INT VAR x; p (x)",
+        "0 MARK\n1 MARK\n2 OUTER 0\n3 CALL 5 1\n4 END\n5 MARK\n6 PARAM 0\n7 LOAD INT\n8 ASK put(INT)\n9 BACK\n",
+    ),
+];
+
 #[test]
-fn an_endless_loop_is_listed(rt: HostRuntime) -> Result<(), Fail> {
+fn the_table_of_listings(rt: HostRuntime) -> Result<(), Fail> {
     let alloc = rt.alloc();
-    let core = meaning(alloc, b"REP put (1) PER")?;
-    let code = generate(alloc, &core)?;
-    let text = listing(alloc, &code)?;
-    assert_eq!(rt;
-        text.as_slice(),
-        b"0 MARK\n1 MARK\n2 MARK\n3 INT 1\n4 ASK put(INT)\n5 JUMP 1\n6 END\n".as_slice()
-    );
+    for (text, lines) in LISTINGS {
+        let core = meaning(alloc, text.as_bytes())?;
+        let code = generate(alloc, &core)?;
+        let listed = listing(alloc, &code)?;
+        assert_eq!(rt; listed.as_slice(), lines.as_bytes(), "{text}");
+    }
     Ok(())
 }
 

@@ -11,11 +11,15 @@ use crate::rules::list::append;
 use crate::rules::part::{actions, unreached};
 use crate::trouble::Trouble;
 use elan_types::{Action, Body, Content, ElanType, Scope, ValuePhrase, Why};
-use eu_base::{List, NoMemory};
+use eu_base::{Boxed, List, NoMemory};
 use std::alloc::Global;
 
 // The value that the units of a body deliver that delivers this type.
-fn value_as(alloc: Global, of: ElanType, units: Meant) -> Result<Option<ValuePhrase>, NoMemory>
+fn value_as(
+    alloc: Global,
+    of: ElanType,
+    units: Meant,
+) -> Result<Option<Boxed<ValuePhrase>>, NoMemory>
     ensures { IfOk result (λ v. v ≡ spec.value_as of units) }
 {
     match units {
@@ -59,7 +63,7 @@ fn content_as(
         None => Ok(without(alloc, units)),
         Some(of) => match value_as(alloc, of, units)? {
             None => Ok(None),
-            Some(value) => Ok(Some(Content::Value(of, value))),
+            Some(value) => Ok(Some(Content::Value(of, value.into_inner()))),
         },
     }
 }
@@ -98,7 +102,7 @@ fn content_of(alloc: Global, units: Meant) -> Content
     ensures { result ≡ spec.content_of units }
 {
     match units {
-        Meant::Value { of, value, .. } => Content::Value(of, value),
+        Meant::Value { of, value, .. } => Content::Value(of, value.into_inner()),
         _ => Content::Units(actions(alloc, units)),
     }
 }

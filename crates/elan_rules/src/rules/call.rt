@@ -13,13 +13,13 @@ use crate::meant::{Does, Meant};
 use crate::predefined::{chosen, exists};
 use crate::row::{Judged, and};
 use crate::rules::arity::{one_of, two_of};
-use crate::rules::part::{done, place_of, value_of, valued, variable_of};
+use crate::rules::part::{delivering, done, place_of, value_of, variable_of};
 use crate::scope::Scope;
 use crate::trouble::Trouble;
 use elan_types::{
     Access, Action, Actual, Change, ElanType, Operation, Parameter, PlacePhrase, ValuePhrase, Why,
 };
-use eu_base::{List, NoMemory};
+use eu_base::{Boxed, List, NoMemory};
 use std::alloc::Global;
 
 // ---- predefined operators and procedures
@@ -31,7 +31,8 @@ fn values_of(alloc: Global, operands: List<Meant>) -> Result<List<ValuePhrase>, 
 {
     let mut values = List::new(alloc);
     for operand in operands.into_vec() {
-        values.push(value_of(operand))?;
+        let value = value_of(alloc, operand)?;
+        values.push(value.into_inner())?;
     }
     Ok(values)
 }
@@ -42,14 +43,14 @@ fn changed_at(
     change: Change,
     at: u32,
     place: Option<PlacePhrase>,
-    value: ValuePhrase,
+    value: Boxed<ValuePhrase>,
 ) -> Judged
     ensures { Is result (spec.changed_at change at place value) }
 {
     match place {
         None => Err(Trouble::Breaks(at, Why::NoVariable)),
         Some(place) => {
-            let meant = done(alloc, Action::Modify(change, place, value))?;
+            let meant = done(alloc, Action::Modify(change, place, value.into_inner()))?;
             Ok(meant)
         }
     }
@@ -62,7 +63,8 @@ fn changed(alloc: Global, change: Change, operands: List<Meant>) -> Judged
         None => Err(Trouble::Breaks(0, Why::Unknown)),
         Some((left, right)) => {
             let at = place_of(&left);
-            changed_at(alloc, change, at, variable_of(left), value_of(right))
+            let value = value_of(alloc, right)?;
+            changed_at(alloc, change, at, variable_of(left), value)
         }
     }
 }
@@ -77,7 +79,9 @@ fn delivered(
     ensures { Is result (spec.done at (does_what.Delivers operation of) operands) }
 {
     let values = values_of(alloc, operands)?;
-    Ok(valued(at, of, ValuePhrase::Apply(operation, values)))
+    let value = ValuePhrase::Apply(operation, values);
+    let meant = delivering(alloc, at, of, value)?;
+    Ok(meant)
 }
 
 fn put(alloc: Global, operands: List<Meant>) -> Judged
@@ -86,7 +90,8 @@ fn put(alloc: Global, operands: List<Meant>) -> Judged
     match one_of(operands) {
         None => Err(Trouble::Breaks(0, Why::Unknown)),
         Some(operand) => {
-            let meant = done(alloc, Action::Put(value_of(operand)))?;
+            let value = value_of(alloc, operand)?;
+            let meant = done(alloc, Action::Put(value.into_inner()))?;
             Ok(meant)
         }
     }
@@ -109,11 +114,14 @@ fn performed(alloc: Global, at: u32, does: Does, operands: List<Meant>) -> Judge
 // ---- own PROCs and OPs
 
 // A VAR parameter needs a variable.
-fn given_as(parameter: Parameter, operand: Meant) -> Result<Actual, Trouble>
+fn given_as(alloc: Global, parameter: Parameter, operand: Meant) -> Result<Actual, Trouble>
     ensures { Is result (spec.given_as parameter.access parameter.of operand) }
 {
     match parameter.access {
-        Access::Const => Ok(Actual::Value(value_of(operand))),
+        Access::Const => {
+            let value = value_of(alloc, operand)?;
+            Ok(Actual::Value(value.into_inner()))
+        }
         Access::Var => {
             let at = place_of(&operand);
             match variable_of(operand) {
@@ -126,6 +134,7 @@ fn given_as(parameter: Parameter, operand: Meant) -> Result<Actual, Trouble>
 
 // What parameters were given, and the first of those that are left, if one is.
 fn give(
+    alloc: Global,
     actuals: Result<List<Actual>, Trouble>,
     rest: &[Parameter],
     operand: Meant,
@@ -134,7 +143,7 @@ fn give(
 {
     match rest {
         [] => actuals,
-        [parameter, _others @ ..] => and(actuals, given_as(*parameter, operand)),
+        [parameter, _others @ ..] => and(actuals, given_as(alloc, *parameter, operand)),
     }
 }
 
@@ -158,7 +167,7 @@ fn given(
     let mut actuals = Ok(List::new(alloc));
     let mut rest = parameters;
     for operand in operands.into_vec() {
-        actuals = give(actuals, rest, operand);
+        actuals = give(alloc, actuals, rest, operand);
         rest = behind_first(rest);
     }
     actuals
@@ -175,7 +184,7 @@ fn call(
 {
     match result_type {
         None => done(alloc, Action::Call(number, actuals)),
-        Some(of) => Ok(valued(at, of, ValuePhrase::Call(number, actuals, of))),
+        Some(of) => delivering(alloc, at, of, ValuePhrase::Call(number, actuals, of)),
     }
 }
 

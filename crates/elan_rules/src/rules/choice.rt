@@ -14,58 +14,58 @@ use elan_types::{Action, ElanType, ValuePhrase, Why};
 use eu_base::{Boxed, List, NoMemory};
 use std::alloc::Global;
 
-fn truth(condition: Meant) -> Option<ValuePhrase>
-    ensures { result ≡ spec.truth condition }
+fn truth(alloc: Global, condition: Meant) -> Result<Option<Boxed<ValuePhrase>>, NoMemory>
+    ensures { IfOk result (λ value. value ≡ spec.truth condition) }
 {
     if delivers(ElanType::Bool, &condition) {
-        Some(value_of(condition))
+        let value = value_of(alloc, condition)?;
+        Ok(Some(value))
     } else {
-        None
+        Ok(None)
     }
 }
 
 /// A condition, and the units that it guards.
-pub fn guarded(alloc: Global, condition: Meant, units: Meant) -> Guarded
-    ensures { result ≡ spec.guarded condition units }
+pub fn guarded(alloc: Global, condition: Meant, units: Meant) -> Result<Guarded, NoMemory>
+    ensures { IfOk result (λ branch. branch ≡ spec.guarded condition units) }
 {
-    Guarded {
-        condition: truth(condition),
+    let condition = truth(alloc, condition)?;
+    Ok(Guarded {
+        condition,
         part: part_of(alloc, units),
-    }
+    })
 }
 
 fn if_actions(
     alloc: Global,
-    condition: ValuePhrase,
+    condition: Boxed<ValuePhrase>,
     first: List<Action>,
     second: List<Action>,
 ) -> Result<List<Action>, NoMemory>
     ensures { IfOk result (λ actions. actions ≡ spec.if_actions condition first second) }
 {
-    one(alloc, Action::If(condition, first, second))
+    one(alloc, Action::If(condition.into_inner(), first, second))
 }
 
 fn if_value(
     alloc: Global,
     of: ElanType,
-    condition: ValuePhrase,
-    first: ValuePhrase,
-    second: ValuePhrase,
+    condition: Boxed<ValuePhrase>,
+    first: Boxed<ValuePhrase>,
+    second: Boxed<ValuePhrase>,
 ) -> Result<Part, NoMemory>
     ensures { IfOk result (λ p. p ≡ spec.if_value of condition first second) }
 {
-    let condition = Boxed::new(alloc, condition)?;
-    let first = Boxed::new(alloc, first)?;
-    let second = Boxed::new(alloc, second)?;
-    Ok(Part::Value(of, ValuePhrase::If(condition, first, second)))
+    let value = Boxed::new(alloc, ValuePhrase::If(condition, first, second))?;
+    Ok(Part::Value(of, value))
 }
 
 // One of two parts, of which the first delivers a value.
 fn value_or(
     alloc: Global,
-    condition: ValuePhrase,
+    condition: Boxed<ValuePhrase>,
     of: ElanType,
-    first: ValuePhrase,
+    first: Boxed<ValuePhrase>,
     second: Part,
 ) -> Result<Option<Part>, NoMemory>
     ensures { IfOk result (λ p. p ≡ spec.chosen_of condition (Part.Value of first) second) }
@@ -90,7 +90,7 @@ fn value_or(
 // One of two parts, of which the first ends with a LEAVE.
 fn left_or(
     alloc: Global,
-    condition: ValuePhrase,
+    condition: Boxed<ValuePhrase>,
     first: List<Action>,
     second: Part,
 ) -> Result<Option<Part>, NoMemory>
@@ -116,7 +116,7 @@ fn left_or(
 // One of two parts, of which the first delivers nothing.
 fn done_or(
     alloc: Global,
-    condition: ValuePhrase,
+    condition: Boxed<ValuePhrase>,
     first: List<Action>,
     second: Part,
 ) -> Result<Option<Part>, NoMemory>
@@ -138,7 +138,7 @@ fn done_or(
 // One of two parts, which deliver the same. One that ends with a LEAVE agrees with every type.
 fn chosen_of(
     alloc: Global,
-    condition: ValuePhrase,
+    condition: Boxed<ValuePhrase>,
     first: Part,
     second: Part,
 ) -> Result<Option<Part>, NoMemory>

@@ -34,7 +34,7 @@ fn leave_of(exit: Exit, value: Meant) -> Action
     ensures { result ≡ spec.leave_of exit value }
 {
     match value {
-        Meant::Value { of, value, .. } => Action::LeaveWith(exit, of, value),
+        Meant::Value { of, value, .. } => Action::LeaveWith(exit, of, value.into_inner()),
         _ => Action::Leave(exit),
     }
 }

@@ -8,7 +8,7 @@ ghost use Rattle.elan_rules.specs.Answer.{Is};
 
 use crate::meant::Meant;
 use crate::row::Judged;
-use crate::rules::part::{one, unit_of, valued};
+use crate::rules::part::{delivering, one, unit_of};
 use crate::trouble::Trouble;
 use elan_types::{Action, ElanType, ValuePhrase, Why};
 use eu_base::{Boxed, List, NoMemory};
@@ -86,8 +86,7 @@ fn ended(alloc: Global, actions: List<Action>, last: Meant) -> Result<Meant, NoM
 {
     match last {
         Meant::Value { at, of, value, .. } => {
-            let value = Boxed::new(alloc, value)?;
-            Ok(valued(at, of, ValuePhrase::After(actions, value)))
+            delivering(alloc, at, of, ValuePhrase::After(actions, value))
         }
         Meant::Left(_) => Ok(Meant::Left(actions)),
         _ => Ok(Meant::Done(actions)),
@@ -110,11 +109,15 @@ pub fn declaration(alloc: Global, parts: List<Meant>) -> Result<Meant, NoMemory>
     unit_of(alloc, actions)
 }
 
-fn value_unit(alloc: Global, at: u32, of: ElanType, value: ValuePhrase) -> Result<Meant, NoMemory>
+fn value_unit(
+    alloc: Global,
+    at: u32,
+    of: ElanType,
+    value: Boxed<ValuePhrase>,
+) -> Result<Meant, NoMemory>
     ensures { IfOk result (λ m. m ≡ spec.value_unit at of value) }
 {
-    let value = Boxed::new(alloc, value)?;
-    Ok(valued(at, of, ValuePhrase::Unit(value)))
+    delivering(alloc, at, of, ValuePhrase::Unit(value))
 }
 
 /// An expression that stands alone.

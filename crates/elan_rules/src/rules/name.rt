@@ -1,6 +1,6 @@
 //! Identifiers without actuals, and names in their declarations.
 
-ghost use Rattle.std.specs.Prelude.{◌≡◌};
+ghost use Rattle.std.specs.Prelude.{◌≡◌, IfOk};
 ghost use Rattle.elan_types.specs.declared.core_phrase.Access.TheVariants as accesses;
 ghost use Rattle.elan_rules.specs.Calls as spec;
 ghost use Rattle.elan_rules.specs.Scope as scopes;
@@ -12,11 +12,11 @@ use crate::known::Known;
 use crate::meant::Meant;
 use crate::row::Judged;
 use crate::rules::call::applied;
-use crate::rules::part::{done, valued};
+use crate::rules::part::{delivering, done};
 use crate::scope::{Denotes, Found, Home, Scope};
 use crate::trouble::Trouble;
 use elan_types::{Access, Action, ElanType, Parameter, PlacePhrase, ValuePhrase, Why};
-use eu_base::List;
+use eu_base::{Boxed, List, NoMemory};
 use std::alloc::Global;
 
 // The place of what is held with this access; only PROCs and OPs have parameters.
@@ -46,26 +46,33 @@ impl Held {
     }
 }
 
-fn variable(at: u32, of: ElanType, held: Held) -> Meant
-    ensures { result ≡ spec.variable at of (spec.place_in held.home held.number held.access) }
+fn variable(alloc: Global, at: u32, of: ElanType, held: Held) -> Result<Meant, NoMemory>
+    ensures { IfOk result (λ m. m ≡ spec.variable at of (spec.place_in held.home held.number held.access)) }
 {
-    Meant::Value {
+    let value = Boxed::new(alloc, ValuePhrase::Load(held.place(), of))?;
+    Ok(Meant::Value {
         at,
         of,
-        value: ValuePhrase::Load(held.place(), of),
+        value,
         variable: Some(held.place()),
-    }
+    })
 }
 
-fn constant(at: u32, of: ElanType, held: Held) -> Meant
-    ensures { result ≡ spec.constant at of (spec.place_in held.home held.number held.access) }
+fn constant(alloc: Global, at: u32, of: ElanType, held: Held) -> Result<Meant, NoMemory>
+    ensures { IfOk result (λ m. m ≡ spec.constant at of (spec.place_in held.home held.number held.access)) }
 {
-    valued(at, of, ValuePhrase::Load(held.place(), of))
+    delivering(alloc, at, of, ValuePhrase::Load(held.place(), of))
 }
 
 // A CONST parameter is a constant, a VAR parameter a variable.
-fn parameter(at: u32, home: Home, number: usize, parameter: Parameter) -> Meant
-    ensures { result ≡ spec.parameter at parameter.of parameter.access (spec.place_in home number parameter.access) }
+fn parameter(
+    alloc: Global,
+    at: u32,
+    home: Home,
+    number: usize,
+    parameter: Parameter,
+) -> Result<Meant, NoMemory>
+    ensures { IfOk result (λ m. m ≡ spec.parameter at parameter.of parameter.access (spec.place_in home number parameter.access)) }
 {
     let held = Held {
         home,
@@ -73,8 +80,8 @@ fn parameter(at: u32, home: Home, number: usize, parameter: Parameter) -> Meant
         access: parameter.access,
     };
     match parameter.access {
-        Access::Const => constant(at, parameter.of, held),
-        Access::Var => variable(at, parameter.of, held),
+        Access::Const => constant(alloc, at, parameter.of, held),
+        Access::Var => variable(alloc, at, parameter.of, held),
     }
 }
 
@@ -90,7 +97,10 @@ fn referred(alloc: Global, at: u32, number: usize, delivery: Delivery) -> Judged
             let meant = done(alloc, Action::Refer(number))?;
             Ok(meant)
         }
-        Delivery::Of(of) => Ok(valued(at, of, ValuePhrase::Refer(number, of))),
+        Delivery::Of(of) => {
+            let meant = delivering(alloc, at, of, ValuePhrase::Refer(number, of))?;
+            Ok(meant)
+        }
     }
 }
 
@@ -122,9 +132,18 @@ fn denoted(
     ensures { Is result (spec.denoted known.now at scope.now name.now found.home found.number found.denotes) }
 {
     match found.denotes {
-        Denotes::Variable(of) => Ok(variable(at, of, plainly_held(found))),
-        Denotes::Constant(of) => Ok(constant(at, of, plainly_held(found))),
-        Denotes::Parameter(given) => Ok(parameter(at, found.home, found.number, given)),
+        Denotes::Variable(of) => {
+            let meant = variable(alloc, at, of, plainly_held(found))?;
+            Ok(meant)
+        }
+        Denotes::Constant(of) => {
+            let meant = constant(alloc, at, of, plainly_held(found))?;
+            Ok(meant)
+        }
+        Denotes::Parameter(given) => {
+            let meant = parameter(alloc, at, found.home, found.number, given)?;
+            Ok(meant)
+        }
         Denotes::Procedure => {
             let actuals = List::new(alloc);
             applied(alloc, at, scope, Sort::Procedure, name, actuals)
@@ -159,15 +178,15 @@ pub fn named(alloc: Global, known: &Known, at: u32, scope: &Scope, name: &[u8]) 
 // ---- declarations
 
 // A variable or constant can be given its initial value; nothing else has to be done.
-fn declared_as(alloc: Global, at: u32, found: Found) -> Meant
-    ensures { result ≡ spec.declared_as at found.home found.number found.denotes }
+fn declared_as(alloc: Global, at: u32, found: Found) -> Result<Meant, NoMemory>
+    ensures { IfOk result (λ m. m ≡ spec.declared_as at found.home found.number found.denotes) }
 {
     match found.denotes {
-        Denotes::Variable(of) => variable(at, of, plainly_held(found)),
-        Denotes::Constant(of) => variable(at, of, plainly_held(found)),
-        Denotes::Parameter(_) => Meant::Done(List::new(alloc)),
-        Denotes::Procedure => Meant::Done(List::new(alloc)),
-        Denotes::Refinement => Meant::Done(List::new(alloc)),
+        Denotes::Variable(of) => variable(alloc, at, of, plainly_held(found)),
+        Denotes::Constant(of) => variable(alloc, at, of, plainly_held(found)),
+        Denotes::Parameter(_) => Ok(Meant::Done(List::new(alloc))),
+        Denotes::Procedure => Ok(Meant::Done(List::new(alloc))),
+        Denotes::Refinement => Ok(Meant::Done(List::new(alloc))),
     }
 }
 
@@ -179,7 +198,8 @@ pub fn declared(alloc: Global, at: u32, scope: &Scope, name: &[u8]) -> Judged
         None => Err(Trouble::Breaks(0, Why::Unknown)),
         Some(found) => {
             if found.at == at {
-                Ok(declared_as(alloc, at, found))
+                let meant = declared_as(alloc, at, found)?;
+                Ok(meant)
             } else {
                 Err(Trouble::Breaks(at, Why::Doubled))
             }

@@ -11,12 +11,12 @@ use eu_base::{Boxed, List, NoMemory};
 use std::alloc::Global;
 
 /// The value of a part that delivers one.
-pub fn value_of(meant: Meant) -> ValuePhrase
-    ensures { result ≡ spec.value_of meant }
+pub fn value_of(alloc: Global, meant: Meant) -> Result<Boxed<ValuePhrase>, NoMemory>
+    ensures { IfOk result (λ value. value ≡ spec.value_of meant) }
 {
     match meant {
-        Meant::Value { value, .. } => value,
-        _ => ValuePhrase::Truth(false),
+        Meant::Value { value, .. } => Ok(value),
+        _ => Boxed::new(alloc, ValuePhrase::Truth(false)),
     }
 }
 
@@ -84,7 +84,7 @@ pub fn may_deliver(of: ElanType, meant: &Meant) -> bool
 }
 
 /// The value of a part, if it is written.
-pub fn written(meant: Meant) -> Option<ValuePhrase>
+pub fn written(meant: Meant) -> Option<Boxed<ValuePhrase>>
     ensures { result ≡ spec.written meant }
 {
     match meant {
@@ -94,7 +94,7 @@ pub fn written(meant: Meant) -> Option<ValuePhrase>
 }
 
 /// A phrase that delivers this value, and is no variable.
-pub fn valued(at: u32, of: ElanType, value: ValuePhrase) -> Meant
+pub fn valued(at: u32, of: ElanType, value: Boxed<ValuePhrase>) -> Meant
     ensures { result ≡ spec.valued at of value }
 {
     Meant::Value {
@@ -103,6 +103,19 @@ pub fn valued(at: u32, of: ElanType, value: ValuePhrase) -> Meant
         value,
         variable: None,
     }
+}
+
+/// The same of a value that has no box yet.
+pub fn delivering(
+    alloc: Global,
+    at: u32,
+    of: ElanType,
+    value: ValuePhrase,
+) -> Result<Meant, NoMemory>
+    ensures { IfOk result (λ m. m ≡ spec.valued at of value) }
+{
+    let value = Boxed::new(alloc, value)?;
+    Ok(valued(at, of, value))
 }
 
 /// One action.
@@ -153,9 +166,9 @@ pub fn unreached(
     alloc: Global,
     actions: List<Action>,
     of: ElanType,
-) -> Result<ValuePhrase, NoMemory>
+) -> Result<Boxed<ValuePhrase>, NoMemory>
     ensures { IfOk result (λ v. v ≡ choices.unreached actions of) }
 {
     let value = Boxed::new(alloc, blank(of))?;
-    Ok(ValuePhrase::After(actions, value))
+    Boxed::new(alloc, ValuePhrase::After(actions, value))
 }

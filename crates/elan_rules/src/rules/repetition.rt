@@ -11,7 +11,7 @@ use crate::row::Judged;
 use crate::rules::part::{actions, may_deliver, place_of, unit_doing, variable_of, written};
 use crate::trouble::Trouble;
 use elan_types::{Action, ElanType, PlacePhrase, ValuePhrase, Way, Why};
-use eu_base::{List, NoMemory};
+use eu_base::{Boxed, List, NoMemory};
 use std::alloc::Global;
 
 fn are_numbers(name: &Meant, from: &Meant, limit: &Meant) -> bool
@@ -22,35 +22,50 @@ fn are_numbers(name: &Meant, from: &Meant, limit: &Meant) -> bool
         && may_deliver(ElanType::Int, limit)
 }
 
-fn first_value(from: Option<ValuePhrase>) -> ValuePhrase
-    ensures { result ≡ spec.first_value from }
+fn first_value(
+    alloc: Global,
+    from: Option<Boxed<ValuePhrase>>,
+) -> Result<Boxed<ValuePhrase>, NoMemory>
+    ensures { IfOk result (λ value. value ≡ spec.first_value from) }
 {
     match from {
-        None => ValuePhrase::Number(1),
-        Some(value) => value,
+        None => Boxed::new(alloc, ValuePhrase::Number(1)),
+        Some(value) => Ok(value),
     }
 }
 
 /// A counter, its first value, and its limit.
-pub fn counted(way: Way, name: Meant, from: Meant, limit: Meant) -> Counted
-    ensures { result ≡ spec.counted way name from limit }
+pub fn counted(
+    alloc: Global,
+    way: Way,
+    name: Meant,
+    from: Meant,
+    limit: Meant,
+) -> Result<Boxed<Counted>, NoMemory>
+    ensures { IfOk result (λ counter. counter ≡ spec.counted way name from limit) }
 {
-    Counted {
-        are_numbers: are_numbers(&name, &from, &limit),
-        at: place_of(&name),
-        place: variable_of(name),
-        from: first_value(written(from)),
-        way,
-        limit: written(limit),
-    }
+    let are_numbers = are_numbers(&name, &from, &limit);
+    let at = place_of(&name);
+    let from = first_value(alloc, written(from))?;
+    Boxed::new(
+        alloc,
+        Counted {
+            are_numbers,
+            at,
+            place: variable_of(name),
+            from,
+            way,
+            limit: written(limit),
+        },
+    )
 }
 
 // What a loop does in its turns.
 #[derive(Drop)]
 struct Turns {
-    condition: Option<ValuePhrase>,
+    condition: Option<Boxed<ValuePhrase>>,
     units: List<Action>,
-    until: Option<ValuePhrase>,
+    until: Option<Boxed<ValuePhrase>>,
 }
 
 fn in_turns(alloc: Global, condition: Meant, units: Meant, until: Meant) -> Turns
@@ -65,12 +80,21 @@ fn in_turns(alloc: Global, condition: Meant, units: Meant, until: Meant) -> Turn
     }
 }
 
+fn unboxed(value: Option<Boxed<ValuePhrase>>) -> Option<ValuePhrase>
+    ensures { result ≡ value }
+{
+    match value {
+        None => None,
+        Some(value) => Some(value.into_inner()),
+    }
+}
+
 fn count(
     alloc: Global,
     counter: PlacePhrase,
-    from: ValuePhrase,
+    from: Boxed<ValuePhrase>,
     way: Way,
-    limit: Option<ValuePhrase>,
+    limit: Option<Boxed<ValuePhrase>>,
     turns: Turns,
 ) -> Result<Meant, NoMemory>
     ensures { IfOk result (λ m. m ≡ spec.count counter from way limit turns.condition turns.units turns.until) }
@@ -84,12 +108,12 @@ fn count(
         alloc,
         Action::Count {
             counter,
-            from,
+            from: from.into_inner(),
             way,
-            limit,
-            condition,
+            limit: unboxed(limit),
+            condition: unboxed(condition),
             units,
-            until,
+            until: unboxed(until),
         },
     )
 }
@@ -105,15 +129,15 @@ fn uncounted(alloc: Global, turns: Turns) -> Result<Meant, NoMemory>
     unit_doing(
         alloc,
         Action::Loop {
-            condition,
+            condition: unboxed(condition),
             units,
-            until,
+            until: unboxed(until),
         },
     )
 }
 
 // A variable is needed as a counter.
-fn counting(alloc: Global, counter: Counted, turns: Turns) -> Judged
+fn counting(alloc: Global, counter: Boxed<Counted>, turns: Turns) -> Judged
     ensures { Is result (spec.counting counter counter.place turns.condition turns.units turns.until) }
 {
     let Counted {
@@ -123,7 +147,7 @@ fn counting(alloc: Global, counter: Counted, turns: Turns) -> Judged
         way,
         limit,
         ..
-    } = counter;
+    } = counter.into_inner();
     match place {
         None => Err(Trouble::Breaks(at, Why::NoVariable)),
         Some(place) => {
@@ -134,17 +158,17 @@ fn counting(alloc: Global, counter: Counted, turns: Turns) -> Judged
 }
 
 // The counter, if it and its bounds are numbers.
-fn in_numbers(at: u32, counter: Counted) -> Result<Counted, Trouble>
+fn in_numbers(at: u32, counter: Boxed<Counted>) -> Result<Boxed<Counted>, Trouble>
     ensures { Is result (spec.in_numbers at counter) }
 {
-    if counter.are_numbers {
+    if counter.get().are_numbers {
         Ok(counter)
     } else {
         Err(Trouble::Breaks(at, Why::WrongType))
     }
 }
 
-fn looped(alloc: Global, at: u32, counter: Option<Counted>, turns: Turns) -> Judged
+fn looped(alloc: Global, at: u32, counter: Option<Boxed<Counted>>, turns: Turns) -> Judged
     ensures { Is result (spec.looped at counter turns.condition turns.units turns.until) }
 {
     match counter {
@@ -165,7 +189,7 @@ fn conditions(condition: &Meant, until: &Meant) -> bool
     may_deliver(ElanType::Bool, condition) && may_deliver(ElanType::Bool, until)
 }
 
-fn counter_in(meant: Meant) -> Option<Counted>
+fn counter_in(meant: Meant) -> Option<Boxed<Counted>>
     ensures { result ≡ spec.counter_in meant }
 {
     match meant {

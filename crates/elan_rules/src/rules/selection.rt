@@ -151,11 +151,11 @@ fn part_actions(alloc: Global, part: Part) -> List<Action>
     }
 }
 
-fn part_value(alloc: Global, of: ElanType, part: Part) -> Result<ValuePhrase, NoMemory>
+fn part_value(alloc: Global, of: ElanType, part: Part) -> Result<Boxed<ValuePhrase>, NoMemory>
     ensures { IfOk result (λ value. value ≡ spec.part_value of part) }
 {
     match part {
-        Part::Done(_actions) => Ok(blank(of)),
+        Part::Done(_actions) => Boxed::new(alloc, blank(of)),
         Part::Left(actions) => unreached(alloc, actions, of),
         Part::Value(_, value) => Ok(value),
     }
@@ -176,7 +176,10 @@ fn value_arm(alloc: Global, of: ElanType, arm: Labelled) -> Result<ValueArm, NoM
 {
     let Labelled { labels, part } = arm;
     let value = part_value(alloc, of, part)?;
-    Ok(ValueArm { labels, value })
+    Ok(ValueArm {
+        labels,
+        value: value.into_inner(),
+    })
 }
 
 #[tactic(auto, using(crate::proofs::Lists::action_arms_push))]
@@ -204,7 +207,7 @@ fn value_arms(alloc: Global, of: ElanType, arms: List<Labelled>) -> Result<List<
 
 fn select_actions(
     alloc: Global,
-    value: ValuePhrase,
+    value: Boxed<ValuePhrase>,
     arms: List<Labelled>,
     otherwise: Part,
 ) -> Result<List<Action>, NoMemory>
@@ -212,29 +215,27 @@ fn select_actions(
 {
     let arms = action_arms(alloc, arms)?;
     let units = part_actions(alloc, otherwise);
-    one(alloc, Action::Select(value, arms, units))
+    one(alloc, Action::Select(value.into_inner(), arms, units))
 }
 
 fn select_value(
     alloc: Global,
     of: ElanType,
-    value: ValuePhrase,
+    value: Boxed<ValuePhrase>,
     arms: List<Labelled>,
     otherwise: Part,
-) -> Result<ValuePhrase, NoMemory>
+) -> Result<Boxed<ValuePhrase>, NoMemory>
     ensures { IfOk result (λ v. v ≡ spec.select_value of value arms otherwise) }
 {
     let arms = value_arms(alloc, of, arms)?;
     let last = part_value(alloc, of, otherwise)?;
-    let value = Boxed::new(alloc, value)?;
-    let last = Boxed::new(alloc, last)?;
-    Ok(ValuePhrase::Select(value, arms, last))
+    Boxed::new(alloc, ValuePhrase::Select(value, arms, last))
 }
 
 fn selected_by(
     alloc: Global,
     at: u32,
-    value: ValuePhrase,
+    value: Boxed<ValuePhrase>,
     arms: List<Labelled>,
     otherwise: Part,
 ) -> Judged
@@ -271,7 +272,7 @@ pub fn selected(alloc: Global, at: u32, value: Meant, arms: Meant, otherwise: Me
     ensures { Is result (spec.selected at value arms otherwise) }
 {
     let is_number = delivers(ElanType::Int, &value);
-    let value = value_of(value);
+    let value = value_of(alloc, value)?;
     let arms = arms_in(alloc, arms);
     let otherwise = part_of(alloc, otherwise);
     if is_number {

@@ -10,6 +10,7 @@ use crate::row::Judged;
 use crate::rules::part::{done, place_of, type_in, unit_doing, value_of, variable_of};
 use crate::trouble::Trouble;
 use elan_types::{Action, ElanType, PlacePhrase, ValuePhrase, Why};
+use eu_base::Boxed;
 use std::alloc::Global;
 
 // A variable is needed at the left.
@@ -18,14 +19,14 @@ fn assigned_to(
     place: Option<PlacePhrase>,
     at: u32,
     of: ElanType,
-    value: ValuePhrase,
+    value: Boxed<ValuePhrase>,
 ) -> Judged
     ensures { Is result (spec.assigned_to place at of value) }
 {
     match place {
         None => Err(Trouble::Breaks(at, Why::NoVariable)),
         Some(place) => {
-            let meant = unit_doing(alloc, Action::Store(place, of, value))?;
+            let meant = unit_doing(alloc, Action::Store(place, of, value.into_inner()))?;
             Ok(meant)
         }
     }
@@ -53,16 +54,22 @@ pub fn assigned(alloc: Global, at: u32, left: Meant, right: Meant) -> Judged
 {
     let of = agreed(at, &left, &right)?;
     let place = place_of(&left);
-    assigned_to(alloc, variable_of(left), place, of, value_of(right))
+    let value = value_of(alloc, right)?;
+    assigned_to(alloc, variable_of(left), place, of, value)
 }
 
-fn initial_to(alloc: Global, place: Option<PlacePhrase>, of: ElanType, value: ValuePhrase) -> Judged
+fn initial_to(
+    alloc: Global,
+    place: Option<PlacePhrase>,
+    of: ElanType,
+    value: Boxed<ValuePhrase>,
+) -> Judged
     ensures { Is result (spec.initial_to place of value) }
 {
     match place {
         None => Err(Trouble::Breaks(0, Why::Unknown)),
         Some(place) => {
-            let meant = done(alloc, Action::Store(place, of, value))?;
+            let meant = done(alloc, Action::Store(place, of, value.into_inner()))?;
             Ok(meant)
         }
     }
@@ -73,5 +80,6 @@ pub fn initial(alloc: Global, at: u32, name: Meant, init: Meant) -> Judged
     ensures { Is result (spec.initial at name init) }
 {
     let of = agreed(at, &name, &init)?;
-    initial_to(alloc, variable_of(name), of, value_of(init))
+    let value = value_of(alloc, init)?;
+    initial_to(alloc, variable_of(name), of, value)
 }

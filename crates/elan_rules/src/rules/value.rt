@@ -1,6 +1,9 @@
 //! Numbers, brackets, CAND and COR.
 
 ghost use Rattle.std.specs.Prelude.{◌≡◌, IfOk};
+ghost use Rattle.elan_types.specs.declared.elan_type.ElanType.TheVariants as types;
+ghost use Rattle.elan_types.specs.declared.core_phrase.ValuePhrase.TheVariants as values;
+ghost use Rattle.elan_rules.specs.Parts as parts;
 ghost use Rattle.elan_rules.specs.Rules as spec;
 ghost use Rattle.elan_rules.specs.Ruled.{gives};
 ghost use Rattle.elan_rules.specs.Answer.{Is};
@@ -8,18 +11,27 @@ ghost use Rattle.elan_rules.specs.Answer.{Is};
 use crate::meant::Meant;
 use crate::predefined::delivers;
 use crate::row::Judged;
-use crate::rules::part::{value_of, valued};
+use crate::rules::part::{delivering, value_of, valued};
 use crate::trouble::Trouble;
 use elan_types::{ElanType, ValuePhrase, Why};
-use eu_base::{Boxed, NoMemory};
+use eu_base::NoMemory;
 use std::alloc::Global;
 
 /// A number that is written.
 #[tactic(auto, using(crate::proofs::Numbers::number_gives))]
-pub fn number(at: u32, number: i16) -> Meant
-    ensures { spec.number at number ≡ gives result }
+pub fn number(alloc: Global, at: u32, number: i16) -> Judged
+    ensures { Is result (spec.number at number) }
 {
-    valued(at, ElanType::Int, ValuePhrase::Number(number))
+    let meant = delivering(alloc, at, ElanType::Int, ValuePhrase::Number(number))?;
+    Ok(meant)
+}
+
+/// TRUE or FALSE.
+pub fn truth(alloc: Global, at: u32, truth: bool) -> Judged
+    ensures { Is result (gives (parts.valued at types.Bool (values.Truth truth))) }
+{
+    let meant = delivering(alloc, at, ElanType::Bool, ValuePhrase::Truth(truth))?;
+    Ok(meant)
 }
 
 pub fn bracketed(at: u32, meant: Meant) -> Judged
@@ -39,27 +51,27 @@ fn are_truths(left: &Meant, right: &Meant) -> bool
     delivers(ElanType::Bool, left) && delivers(ElanType::Bool, right)
 }
 
-fn cand_of(alloc: Global, at: u32, left: ValuePhrase, right: ValuePhrase) -> Result<Meant, NoMemory>
-    ensures { IfOk result (λ m. m ≡ spec.cand_of at left right) }
+fn cand_of(alloc: Global, at: u32, left: Meant, right: Meant) -> Result<Meant, NoMemory>
+    ensures { IfOk result (λ m. m ≡ spec.cand_of at (parts.value_of left) (parts.value_of right)) }
 {
-    let left = Boxed::new(alloc, left)?;
-    let right = Boxed::new(alloc, right)?;
-    Ok(valued(at, ElanType::Bool, ValuePhrase::Cand(left, right)))
+    let left = value_of(alloc, left)?;
+    let right = value_of(alloc, right)?;
+    delivering(alloc, at, ElanType::Bool, ValuePhrase::Cand(left, right))
 }
 
-fn cor_of(alloc: Global, at: u32, left: ValuePhrase, right: ValuePhrase) -> Result<Meant, NoMemory>
-    ensures { IfOk result (λ m. m ≡ spec.cor_of at left right) }
+fn cor_of(alloc: Global, at: u32, left: Meant, right: Meant) -> Result<Meant, NoMemory>
+    ensures { IfOk result (λ m. m ≡ spec.cor_of at (parts.value_of left) (parts.value_of right)) }
 {
-    let left = Boxed::new(alloc, left)?;
-    let right = Boxed::new(alloc, right)?;
-    Ok(valued(at, ElanType::Bool, ValuePhrase::Cor(left, right)))
+    let left = value_of(alloc, left)?;
+    let right = value_of(alloc, right)?;
+    delivering(alloc, at, ElanType::Bool, ValuePhrase::Cor(left, right))
 }
 
 pub fn cand(alloc: Global, at: u32, left: Meant, right: Meant) -> Judged
     ensures { Is result (spec.cand at left right) }
 {
     if are_truths(&left, &right) {
-        let meant = cand_of(alloc, at, value_of(left), value_of(right))?;
+        let meant = cand_of(alloc, at, left, right)?;
         Ok(meant)
     } else {
         Err(Trouble::Breaks(at, Why::WrongType))
@@ -70,7 +82,7 @@ pub fn cor(alloc: Global, at: u32, left: Meant, right: Meant) -> Judged
     ensures { Is result (spec.cor at left right) }
 {
     if are_truths(&left, &right) {
-        let meant = cor_of(alloc, at, value_of(left), value_of(right))?;
+        let meant = cor_of(alloc, at, left, right)?;
         Ok(meant)
     } else {
         Err(Trouble::Breaks(at, Why::WrongType))

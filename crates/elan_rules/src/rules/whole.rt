@@ -28,7 +28,7 @@ fn branch(alloc: Global, condition: Meant, units: Meant) -> Judged
     ensures { Is result (gives (means.Branches (choices.guarded condition units ∷ []))) }
 {
     let mut branches = List::new(alloc);
-    branches.push(guarded(alloc, condition, units))?;
+    branches.push(guarded(alloc, condition, units)?)?;
     Ok(Meant::Branches(branches))
 }
 
@@ -118,12 +118,15 @@ pub fn selection_parts(alloc: Global, at: u32, parts: List<Meant>) -> Judged
 }
 
 /// A counter, its first value, and its limit.
-pub fn counter_parts(way: Way, parts: List<Meant>) -> Judged
+pub fn counter_parts(alloc: Global, way: Way, parts: List<Meant>) -> Judged
     ensures { (k : Known) → Is result (rule k (form.counter way) parts) }
 {
     match three_of(parts) {
         None => Err(Trouble::Breaks(0, Why::Unknown)),
-        Some((name, from, limit)) => Ok(Meant::Counter(counted(way, name, from, limit))),
+        Some((name, from, limit)) => {
+            let counter = counted(alloc, way, name, from, limit)?;
+            Ok(Meant::Counter(counter))
+        }
     }
 }
 
