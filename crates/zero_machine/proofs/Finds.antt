@@ -1,5 +1,5 @@
 -- Where a state fits its code, its instruction finds what it takes.
-use Rattle.std.proofs.Common.{◌≡◌, ℕ, zero, suc, ◌+◌, ◌<◌, ◌≤◌, ◌%◌, Bool, true, false, cond, List, [], ◌∷◌, length, Option, Some, None, refl, sym, ap, ◌∙◌, subst, arith}
+use Rattle.std.proofs.Common.{◌≡◌, ℕ, suc, ◌+◌, ◌<◌, ◌≤◌, true, false, cond, List, [], ◌∷◌, length, Option, Some, None, refl, sym, ap, ◌∙◌, subst, arith}
 use Rattle.std.specs.Prelude.{slice_get}
 use Rattle.std.proofs.lemmas.Bool.{leb-true}
 use Rattle.std.proofs.lemmas.Option.{slice_get_within}
@@ -16,13 +16,11 @@ use Rattle.code_form.specs.declared.instr.Call.TheVariants as calls
 use Rattle.code_form.specs.declared.instr.Instr.{Instr}
 use Rattle.code_form.specs.declared.instr.Instr.TheVariants.{Mark, Number, Truth, Outer, Local, Param, Load, Store, Do, Modify, Jump, False, When, Drop, Limit, Unlimit, Step, Ask, Call, Refer, Back, Out, End}
 use Rattle.code_form.specs.declared.code.Spot.{Spot}
-use Rattle.code_form.specs.declared.code.Layout.{Layout}
-use Rattle.code_form.specs.declared.code.Layout.TheVariants.{Own}
-use Rattle.code_form.specs.Program.{Program, line_of, instr_of, owner, owner_in, frame_cells}
+use Rattle.code_form.specs.Program.{Program, line_of, instr_of, owner, frame_cells}
 use Rattle.code_form.specs.Machine.{Frame, Control, base_of}
-use Rattle.code_form.specs.Valid.{pushed_kinds, pushed_operands, HasResult, IsLeft, IsLeftAround, IsCalled, IsReferred, IsRefinement, IsFine, IsValid, FitsKinds, IsMade, FitsFrames, Fits}
-use Rattle.code_form.proofs.Safe.{level_below, frame_below, owner_is, by_layout, as_proc, as_refined, same_owner}
-use Rattle.zero_machine.specs.Finds.{TopValue, TopPlace, TopBoth, TopValues, TopResult, IsCallable, HasBody, HasProc, IsInside, is_in_proc, Finds}
+use Rattle.code_form.specs.Valid.{pushed_kinds, pushed_operands, HasResult, IsCalled, IsFine, IsValid, FitsKinds, FitsFrames, Fits}
+use Rattle.code_form.proofs.Safe.{level_below, frame_below, by_layout, as_proc, as_refined, same_owner}
+use Rattle.zero_machine.specs.Finds.{TopValue, TopPlace, TopBoth, TopValues, TopResult, HasProc, IsInside, is_in_proc, Finds}
 
 -- the instruction of a state that fits is the one that stands in the code
 pub the_instr : (p : Program) (c : Control) (fits : Fits p c) (i : Instr) → Some i ≡ instr_of (slice_get p.lines c.pc) → fits.next.0 ≡ i

@@ -2,9 +2,9 @@
 use Rattle.std.proofs.Common.{◌≡◌, ℕ, Bool, true, false, List, [], None, length, refl, sym, ap, ◌∙◌, subst, arith}
 use Rattle.std.specs.Prelude.{not}
 use Rattle.eu_base.specs.declared.value.Kind.{Kind}
-use Rattle.eu_base.specs.Room.{cells_fit, bytes_fit}
+use Rattle.eu_base.specs.Room.{cells_fit}
 use Rattle.code_form.specs.Program.{Program, at_level}
-use Rattle.code_form.specs.Machine.{Control, start}
+use Rattle.code_form.specs.Machine.{start}
 use Rattle.code_form.specs.Valid.{IsValid, Fits}
 use Rattle.zero_machine.specs.Stacked.{Stacked}
 

@@ -11,8 +11,8 @@ use crate::calls::{back, call, out, refer};
 use crate::operate::operate;
 use crate::state::State;
 use crate::step::{
-    drop_value, jump_false, limit, load, local, modify, outer, param, push_on, step, store, unlimit,
-    when,
+    drop_value, jump_false, limit, load, local, modify, outer, param, push_on, step, store,
+    unlimit, when,
 };
 use code_form::{Entry, Halt, Instr, Operand};
 use eu_base::{MemFault, Memory, NoMemory, Value};

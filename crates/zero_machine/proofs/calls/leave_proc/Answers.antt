@@ -1,6 +1,4 @@
-use Rattle.std.proofs.Common.{◌∙◌}
-use Rattle.zero_machine.specs.Stacked.{linked}
-use Rattle.zero_machine.proofs.Calling.{proc_inside, leaves_more, leaves_last, still_inside}
+use Rattle.zero_machine.proofs.Calling.{proc_inside}
 use Rattle.zero_machine.proofs.calls.leave_proc.Goals as goal
 
 pub leave-link-requires : goal.leave-link-requires

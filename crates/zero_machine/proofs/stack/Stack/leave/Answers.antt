@@ -1,4 +1,4 @@
-use Rattle.std.proofs.Common.{◌≡◌, arith}
+use Rattle.std.proofs.Common.{arith}
 use Rattle.zero_machine.proofs.Counts.{held_is}
 use Rattle.zero_machine.proofs.stack.Stack.leave.Goals as goal
 
