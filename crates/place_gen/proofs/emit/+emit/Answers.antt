@@ -1,8 +1,6 @@
-use Rattle.std.proofs.Common.{rules, ◌≡◌, ◌+◌, [], ◌∷◌, map, drop, length, subst, ap, sym, ◌∙◌, refl, arith}
-use Rattle.std.specs.Prelude.{OnOk, option_map}
+use Rattle.std.proofs.Common.{rules, ◌≡◌, ◌+◌, [], ◌∷◌, map, drop, length, subst, ap, sym, refl, arith}
+use Rattle.std.specs.Prelude.{OnOk}
 use Rattle.std.proofs.lemmas.List.{drop_all}
-use Rattle.elan_types.specs.declared.core_phrase.Action.{roll-Action}
-use Rattle.elan_types.specs.declared.core_phrase.Action.TheOpen as layers
 use Rattle.std.proofs.lemmas.Int.{to_z-of_z}
 use Rattle.std.specs.Int.{w16}
 use Rattle.std.specs.Int.RustNames.{FitsSigned}
@@ -10,10 +8,8 @@ use Rattle.elan_types.specs.declared.core_phrase.Action.TheFolds.{the_lemmas}
 use Rattle.eu_base.specs.declared.value.Kind.TheVariants as kinds
 use Rattle.eu_base.specs.Operations.{operand_kinds, result_kind}
 use Rattle.code_form.specs.declared.operand.OperandKind.TheVariants as operand
-use Rattle.code_form.specs.declared.instr.Instr.TheVariants.{Mark, Number, Do, Outer, Drop}
-use Rattle.place_gen.specs.declared.put.Step.TheVariants as steps
-use Rattle.place_gen.specs.Steps.{step_exit}
-use Rattle.place_gen.specs.Stretch.{one, keeps, pushes, join, all_code, select_code, store_code, turn_code, turns_code, step_code, limit_code, step_to_code, loop_code, value_parts, action_parts, value_code, action_code, value_arm_code, arm_code_of}
+use Rattle.code_form.specs.declared.instr.Instr.TheVariants.{Mark, Number, Do, Drop}
+use Rattle.place_gen.specs.Stretch.{one, keeps, pushes, join, all_code, select_code, value_parts, action_parts, value_code, action_code, value_arm_code, arm_code_of}
 use Rattle.place_gen.specs.Adds.{Adds}
 use Rattle.place_gen.proofs.Select.{select_size}
 use Rattle.place_gen.proofs.Adds.{join_adds, rest_adds}
