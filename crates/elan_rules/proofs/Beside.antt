@@ -1,14 +1,11 @@
 -- What phrases mean beside each other, and one more behind them.
-use Rattle.std.proofs.Common.{◌≡◌, ℕ, zero, suc, ◌+◌, ◌<◌, List, [], ◌∷◌, ◌++◌, length, take, drop, get_or, Result, Ok, Err, refl, sym, ap, subst, ◌∙◌, arith, append_assoc, length-append}
-use Rattle.std.proofs.lemmas.List.{append-nil, take_all, take_more, length-take-le, take-append-drop}
+use Rattle.std.proofs.Common.{◌≡◌, List, [], ◌∷◌, ◌++◌, length, drop, refl, sym, ap, ◌∙◌}
 use Rattle.elan_types.specs.declared.core_phrase.Parameter.{Parameter}
 use Rattle.elan_types.specs.declared.core_phrase.Actual.{Actual}
 use Rattle.elan_rules.specs.declared.meant.Meant.{Meant}
-use Rattle.elan_rules.specs.declared.trouble.Trouble.{Trouble}
-use Rattle.elan_rules.specs.Answer.{Is}
-use Rattle.elan_rules.specs.Ruled.{beside, joined}
+use Rattle.elan_rules.specs.Ruled.{joined}
 use Rattle.elan_rules.specs.Calls.{given, given_as, given_next}
-use Rattle.elan_rules.specs.Ruled.{Ruled, gives, breaks, hangs, ◌>>=◌, before, hung}
+use Rattle.elan_rules.specs.Ruled.{Ruled, gives, breaks, hangs, before}
 
 pub before_joined : {A : Type 0} (q : Ruled A) (rs : Ruled (List A)) (r : Ruled A) → before q (joined rs r) ≡ joined (before q rs) r
 before_joined (gives m) (gives ms) (gives n) = refl

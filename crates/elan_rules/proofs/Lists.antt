@@ -1,8 +1,6 @@
 -- One more part of a list.
 use Rattle.std.proofs.Common.{◌≡◌, List, [], ◌∷◌, ◌++◌, refl, ap, sym, ◌∙◌, append_assoc, Option}
 use Rattle.std.proofs.lemmas.List.{append-nil}
-use Rattle.elan_types.specs.declared.core_phrase.ValuePhrase.{ValuePhrase}
-use Rattle.elan_types.specs.declared.core_phrase.Action.{Action}
 use Rattle.elan_rules.specs.declared.meant.Part.{Part}
 use Rattle.elan_rules.specs.declared.meant.Guarded.{Guarded}
 use Rattle.elan_rules.specs.declared.meant.Labelled.{Labelled}

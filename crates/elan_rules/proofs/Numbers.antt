@@ -1,5 +1,5 @@
 -- A number of 16 bits is a phrase with a meaning.
-use Rattle.std.proofs.Common.{◌≡◌, ℕ, ℤ, Bool, true, false, if◌then◌else◌, sym, ap}
+use Rattle.std.proofs.Common.{◌≡◌, ℕ, ℤ, Bool, true, if◌then◌else◌, ap}
 use Rattle.std.proofs.lemmas.Int.{ints}
 use Rattle.std.specs.Int.{w16}
 use Rattle.std.specs.Int.RustNames.{FitsSigned}
@@ -7,8 +7,7 @@ use Rattle.std.proofs.Common.{arith}
 use Rattle.eu_base.specs.Operations.{in_range}
 use Rattle.elan_types.specs.declared.elan_type.ElanType.TheVariants.{Int}
 use Rattle.elan_types.specs.declared.core_phrase.ValuePhrase.TheVariants as value
-use Rattle.elan_rules.specs.declared.meant.Meant.{Meant}
-use Rattle.elan_rules.specs.Ruled.{Ruled, gives}
+use Rattle.elan_rules.specs.Ruled.{gives}
 use Rattle.elan_rules.specs.Rules as r
 use Rattle.elan_rules.specs.Parts.{valued, unasked}
 

@@ -1,5 +1,5 @@
 -- The type of each form of core, from those of its parts.
-use Rattle.std.proofs.Common.{◌≡◌, ℕ, ℤ, Bool, true, false, ◌&&◌, List, [], ◌∷◌, map, Option, Some, None, refl, sym, ap, ◌∙◌}
+use Rattle.std.proofs.Common.{◌≡◌, ℕ, ℤ, Bool, true, ◌&&◌, List, map, Option, Some, None, refl, sym, ap, ◌∙◌}
 use Rattle.eu_base.specs.Operations.{operand_kinds, result_kind, in_range}
 use Rattle.eu_base.specs.declared.operation.Operation.{Operation}
 use Rattle.eu_base.specs.declared.operation.Change.{Change}
@@ -17,11 +17,11 @@ use Rattle.elan_types.specs.declared.core_phrase.Exit.{Exit}
 use Rattle.elan_types.specs.declared.core_phrase.Body.{Body}
 use Rattle.elan_types.specs.declared.core_phrase.Access.TheVariants.{Const, Var}
 use Rattle.std.specs.Prelude.{slice_get}
-use Rattle.elan_types.specs.declared.core_phrase.Arm.{Arm, roll-Arm, rolls-Arm'}
-use Rattle.elan_types.specs.declared.core_phrase.ValueArm.{ValueArm, roll-ValueArm, rolls-ValueArm'}
+use Rattle.elan_types.specs.declared.core_phrase.Arm.{Arm, rolls-Arm'}
+use Rattle.elan_types.specs.declared.core_phrase.ValueArm.{ValueArm, rolls-ValueArm'}
 use Rattle.elan_types.specs.declared.core_phrase.Action.TheOpen as t
 use Rattle.elan_types.specs.declared.core_phrase.Action.TheOpen.{Action-F, Actual-F, ValuePhrase-F, Arm-F, ValueArm-F}
-use Rattle.elan_types.specs.declared.core_phrase.Action.TheFolds.{fold-Actual, fold-Arm, fold-ValueArm, map-Action, map-Actual, map-ValuePhrase, map-Arm, map-ValueArm, fold-roll-Action, fold-roll-Actual, fold-roll-ValuePhrase, fold-roll-Arm, fold-roll-ValueArm}
+use Rattle.elan_types.specs.declared.core_phrase.Action.TheFolds.{fold-Actual, fold-Arm, fold-ValueArm, map-Action, map-Actual, map-ValuePhrase, fold-roll-Action, fold-roll-Actual, fold-roll-ValuePhrase, fold-roll-Arm, fold-roll-ValueArm}
 use Rattle.elan_types.specs.Typing.{Typed, Taken, Home, given_as, taken_by, scope_of, delivered_by, refines, owner, is_none, leaves_without, leaves_with, left_from, actual_type_step, has, agree, only_if, have, all_agree, all_true, type_in, place_type, type_of, is_typed, action_typed_step, value_type_step, arm_typed_step, value_arm_type_step}
 
 -- where a phrase stands: the variables of the level, all bodies, and the body

@@ -1,37 +1,28 @@
 -- Names, calls and LEAVE have the types that they ask for.
-use Rattle.std.proofs.Common.{◌≡◌, ℤ, ℕ, Bool, true, false, ◌&&◌, if◌then◌else◌, List, [], ◌∷◌, ◌++◌, ◌+◌, zero, suc, length, arith, map, Option, Some, None, refl, sym, ap, subst, ◌∙◌}
+use Rattle.std.proofs.Common.{◌≡◌, ℕ, Bool, true, false, ◌&&◌, if◌then◌else◌, List, [], ◌∷◌, ◌++◌, ◌+◌, zero, suc, length, arith, map, Option, Some, None, refl, sym, ap, subst, ◌∙◌}
 use Rattle.elan_types.specs.declared.elan_type.ElanType.{ElanType}
-use Rattle.elan_types.specs.declared.elan_type.ElanType.TheVariants.{Int, Bool as Truths}
+use Rattle.elan_types.specs.declared.elan_type.ElanType.TheVariants.{Int}
 use Rattle.elan_types.specs.declared.core_phrase.PlacePhrase.{PlacePhrase}
-use Rattle.elan_types.specs.declared.core_phrase.PlacePhrase.TheVariants as place
 use Rattle.elan_types.specs.declared.core_phrase.ValuePhrase.{ValuePhrase}
-use Rattle.elan_types.specs.declared.core_phrase.ValuePhrase.TheVariants as value
 use Rattle.elan_types.specs.declared.core_phrase.Action.{Action}
 use Rattle.elan_types.specs.declared.core_phrase.Action.TheVariants as action
-use Rattle.elan_rules.specs.declared.meant.Part.{Part}
-use Rattle.elan_rules.specs.declared.meant.Part.TheVariants as piece
-use Rattle.elan_rules.specs.declared.meant.Guarded.{Guarded}
-use Rattle.elan_rules.specs.declared.meant.Labelled.{Labelled}
-use Rattle.elan_rules.specs.declared.meant.Counted.{Counted}
 use Rattle.elan_rules.specs.declared.meant.Meant.{Meant}
 use Rattle.elan_rules.specs.declared.meant.Meant.TheVariants.{Absent, Value, Done, Left, Labels, Branches, Arms, Counter, Bodies, Level}
-use Rattle.elan_rules.specs.Ruled.{Ruled, gives, breaks, hangs, ◌>>=◌, before}
-use Rattle.std.specs.Prelude.{slice_get, nat_eq, ◌==◌, ◌||◌, codes}
+use Rattle.elan_rules.specs.Ruled.{Ruled, gives, breaks, hangs, before}
+use Rattle.std.specs.Prelude.{slice_get, nat_eq}
 use Rattle.std.specs.Str.{bytes_eq}
-use Rattle.eu_base.specs.declared.operation.Operation.{Operation}
 use Rattle.eu_base.specs.declared.operation.Change.{Change}
 use Rattle.eu_base.specs.Operations.{operand_kinds, result_kind}
 use Rattle.elan_types.specs.declared.core_phrase.Access.{Access}
 use Rattle.elan_types.specs.declared.core_phrase.Access.TheVariants.{Const, Var}
 use Rattle.elan_types.specs.declared.core_phrase.Parameter.{Parameter}
 use Rattle.elan_types.specs.declared.core_phrase.Actual.{Actual}
-use Rattle.elan_types.specs.declared.core_phrase.Actual.TheVariants as actual
 use Rattle.elan_types.specs.declared.core_phrase.Exit.{Exit}
 use Rattle.elan_types.specs.declared.core_phrase.Exit.TheVariants as exits
 use Rattle.elan_types.specs.declared.core_phrase.Scope.{Scope as Owner}
 use Rattle.elan_types.specs.declared.core_phrase.Scope.TheVariants as owner
 use Rattle.elan_types.specs.declared.core_phrase.Body.{Body}
-use Rattle.elan_types.specs.Typing.{Typed, Taken, Home as InBody, same_type, same_access, has, agree, only_if, have, all_true, type_in, type_as, held_const, takes, take_all, taken_by, given_as, result_of_content, result_of, delivered_by, scope_of, refines, is_none, leaves_without, leaves_with, left_from, around, frame_in, owner as owner_in}
+use Rattle.elan_types.specs.Typing.{Typed, Taken, Home as InBody, same_access, has, type_in, type_as, takes, take_all, taken_by, given_as, result_of_content, result_of, delivered_by, scope_of, refines, is_none, leaves_without, leaves_with, left_from, around, frame_in, owner as owner_in}
 use Rattle.elan_rules.specs.declared.meant.Does.{Does}
 use Rattle.elan_rules.specs.declared.meant.Does.TheVariants.{Delivers, Changes, Puts, EndsLine}
 use Rattle.elan_rules.specs.declared.delivery.Delivery.{Delivery}
@@ -40,7 +31,7 @@ use Rattle.elan_rules.specs.declared.scope.Denotes.{Denotes}
 use Rattle.elan_rules.specs.declared.scope.Denotes.TheVariants as denotes
 use Rattle.elan_rules.specs.declared.scope.Entry.{Entry}
 use Rattle.elan_rules.specs.declared.heading.Sort.{Sort}
-use Rattle.elan_rules.specs.declared.heading.Sort.TheVariants.{Procedure, Operator}
+use Rattle.elan_rules.specs.declared.heading.Sort.TheVariants.{Procedure}
 use Rattle.elan_rules.specs.declared.heading.What.{What}
 use Rattle.elan_rules.specs.declared.heading.What.TheVariants.{Routine, Refinement}
 use Rattle.elan_rules.specs.declared.heading.Heading.{Heading}
@@ -59,7 +50,7 @@ use Rattle.elan_rules.proofs.Typed as ty
 use Rattle.elan_rules.proofs.Typed.{same_is, same_self, has_self, agree_self, only_if_holds, both, and_true, Gives, on_if, on_bind}
 use Rattle.elan_rules.specs.Parts as p
 use Rattle.elan_rules.specs.Calls as r
-use Rattle.elan_rules.proofs.TypeEquations.{Stand, type, typed, lies, actual_type, load_is, apply_is, modify_is, put_is, line_is, call_is, refer_is, action_call_is, action_refer_is, leave_is, leave_with_is, given_value_is, given_place_is}
+use Rattle.elan_rules.proofs.TypeEquations.{Stand, typed, lies, actual_type, load_is, apply_is, modify_is, put_is, line_is, call_is, refer_is, action_call_is, action_refer_is, leave_is, leave_with_is, given_value_is, given_place_is}
 
 -- ---- look-ups
 

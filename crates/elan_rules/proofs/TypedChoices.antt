@@ -1,9 +1,8 @@
 -- IF and SELECT have the types that they ask for.
-use Rattle.std.proofs.Common.{◌≡◌, ℤ, ℕ, Bool, true, false, ◌&&◌, if◌then◌else◌, List, [], ◌∷◌, ◌++◌, map, Option, Some, None, refl, sym, ap, subst, ◌∙◌}
+use Rattle.std.proofs.Common.{◌≡◌, ℕ, Bool, true, false, if◌then◌else◌, List, [], ◌∷◌, ◌++◌, map, Option, Some, None, refl, sym, subst, ◌∙◌}
 use Rattle.elan_types.specs.declared.elan_type.ElanType.{ElanType}
 use Rattle.elan_types.specs.declared.elan_type.ElanType.TheVariants.{Int, Bool as Truths}
 use Rattle.elan_types.specs.declared.core_phrase.PlacePhrase.{PlacePhrase}
-use Rattle.elan_types.specs.declared.core_phrase.PlacePhrase.TheVariants as place
 use Rattle.elan_types.specs.declared.core_phrase.ValuePhrase.{ValuePhrase}
 use Rattle.elan_types.specs.declared.core_phrase.ValuePhrase.TheVariants as value
 use Rattle.elan_types.specs.declared.core_phrase.Action.{Action}
@@ -12,24 +11,20 @@ use Rattle.elan_rules.specs.declared.meant.Part.{Part}
 use Rattle.elan_rules.specs.declared.meant.Part.TheVariants as piece
 use Rattle.elan_rules.specs.declared.meant.Guarded.{Guarded}
 use Rattle.elan_rules.specs.declared.meant.Labelled.{Labelled}
-use Rattle.elan_rules.specs.declared.meant.Counted.{Counted}
 use Rattle.elan_rules.specs.declared.meant.Meant.{Meant}
 use Rattle.elan_rules.specs.declared.meant.Meant.TheVariants.{Absent, Value, Done, Left, Labels, Branches, Arms, Counter, Bodies, Level}
-use Rattle.elan_rules.specs.Ruled.{Ruled, gives, breaks, hangs, ◌>>=◌, before}
-use Rattle.elan_types.specs.Typing.{Typed, same_type, has, agree, only_if, have, all_agree, all_true}
-use Rattle.elan_types.specs.declared.core_phrase.Arm.{Arm}
-use Rattle.elan_types.specs.declared.core_phrase.ValueArm.{ValueArm}
+use Rattle.elan_types.specs.Typing.{Typed, same_type, all_agree, all_true}
 use Rattle.elan_rules.specs.declared.delivery.Delivery.{Delivery}
 use Rattle.elan_rules.specs.declared.delivery.Delivery.TheVariants.{Open, Nothing, Of}
 use Rattle.elan_rules.specs.declared.scope.Found.{Found}
 use Rattle.elan_rules.specs.Predefined.{predefined, exists}
-use Rattle.elan_rules.specs.Predefined.{delivers, fit}
+use Rattle.elan_rules.specs.Predefined.{delivers}
 use Rattle.elan_rules.proofs.Typed as ty
 use Rattle.elan_rules.proofs.Typed.{same_is, same_self, has_self, agree_self, only_if_holds, both, and_true, Gives, on_if, on_bind}
 use Rattle.elan_rules.specs.Parts as p
 use Rattle.elan_rules.specs.Choices as r
 use Rattle.elan_rules.proofs.TypedUnits.{unreached_typed}
-use Rattle.elan_rules.proofs.TypeEquations.{Stand, type, typed, lies, arm_typed, arm_type, if_is, select_is, value_if_is, value_select_is, value_arm_is, arm_is}
+use Rattle.elan_rules.proofs.TypeEquations.{Stand, arm_typed, arm_type, if_is, select_is, value_if_is, value_select_is, value_arm_is, arm_is}
 
 module _ (here : Stand) where
   abbrev Has : ElanType → ValuePhrase → Type 0

@@ -1,30 +1,21 @@
 -- Loops have the types that they ask for.
-use Rattle.std.proofs.Common.{◌≡◌, ℤ, ℕ, Bool, true, false, ◌&&◌, if◌then◌else◌, List, [], ◌∷◌, ◌++◌, map, Option, Some, None, refl, sym, ap, subst, ◌∙◌}
+use Rattle.std.proofs.Common.{◌≡◌, ℕ, true, List, [], ◌∷◌, Option, Some, None, ◌∙◌}
 use Rattle.elan_types.specs.declared.elan_type.ElanType.{ElanType}
 use Rattle.elan_types.specs.declared.elan_type.ElanType.TheVariants.{Int, Bool as Truths}
 use Rattle.elan_types.specs.declared.core_phrase.PlacePhrase.{PlacePhrase}
-use Rattle.elan_types.specs.declared.core_phrase.PlacePhrase.TheVariants as place
 use Rattle.elan_types.specs.declared.core_phrase.ValuePhrase.{ValuePhrase}
-use Rattle.elan_types.specs.declared.core_phrase.ValuePhrase.TheVariants as value
 use Rattle.elan_types.specs.declared.core_phrase.Action.{Action}
 use Rattle.elan_types.specs.declared.core_phrase.Action.TheVariants as action
-use Rattle.elan_rules.specs.declared.meant.Part.{Part}
-use Rattle.elan_rules.specs.declared.meant.Part.TheVariants as piece
-use Rattle.elan_rules.specs.declared.meant.Guarded.{Guarded}
-use Rattle.elan_rules.specs.declared.meant.Labelled.{Labelled}
 use Rattle.elan_rules.specs.declared.meant.Counted.{Counted}
 use Rattle.elan_rules.specs.declared.meant.Meant.{Meant}
 use Rattle.elan_rules.specs.declared.meant.Meant.TheVariants.{Absent, Value, Done, Left, Labels, Branches, Arms, Counter, Bodies, Level}
-use Rattle.elan_rules.specs.Ruled.{Ruled, gives, breaks, hangs, ◌>>=◌, before}
-use Rattle.elan_types.specs.Typing.{Typed, same_type, has, agree, only_if, have, all_agree, all_true}
 use Rattle.std.specs.Prelude.{pos}
 use Rattle.eu_base.specs.declared.operation.Way.{Way}
-use Rattle.elan_rules.specs.Predefined.{delivers, fit}
 use Rattle.elan_rules.proofs.Typed as ty
 use Rattle.elan_rules.proofs.Typed.{same_is, same_self, has_self, agree_self, only_if_holds, both, and_true, Gives, on_if, on_bind}
 use Rattle.elan_rules.specs.Parts as p
 use Rattle.elan_rules.specs.Loops as r
-use Rattle.elan_rules.proofs.TypeEquations.{Stand, type, typed, lies, number_is, has_written, loop_is, count_is}
+use Rattle.elan_rules.proofs.TypeEquations.{Stand, number_is, loop_is, count_is}
 
 module _ (here : Stand) where
   abbrev Has : ElanType → ValuePhrase → Type 0

@@ -1,8 +1,7 @@
 -- Names, calls of PROCs, OPs and refinements, and LEAVE.
 use Rattle.std.specs.Str.{bytes_eq}
-use Rattle.std.specs.Prelude.{ℕ, Bool, true, false, ◌&&◌, List, [], ◌∷◌, ◌++◌, length, Option, Some, None, if◌then◌else◌, nat_eq, ◌||◌, slice_index_or, map}
+use Rattle.std.specs.Prelude.{ℕ, Bool, true, false, ◌&&◌, List, [], ◌∷◌, length, Option, Some, None, if◌then◌else◌, nat_eq, ◌||◌}
 use Rattle.elan_types.specs.declared.elan_type.ElanType.{ElanType}
-use Rattle.elan_types.specs.declared.elan_type.ElanType.TheVariants.{Int, Bool as Truths}
 use Rattle.elan_types.specs.declared.core_phrase.PlacePhrase.{PlacePhrase}
 use Rattle.elan_types.specs.declared.core_phrase.PlacePhrase.TheVariants as place
 use Rattle.elan_types.specs.declared.core_phrase.ValuePhrase.{ValuePhrase}
@@ -16,7 +15,6 @@ use Rattle.elan_types.specs.declared.core_phrase.Actual.{Actual}
 use Rattle.elan_types.specs.declared.core_phrase.Actual.TheVariants as actual
 use Rattle.elan_types.specs.declared.core_phrase.Exit.{Exit}
 use Rattle.elan_types.specs.declared.why.Why.TheVariants.{Unknown, Doubled, WrongType, NoVariable, WrongPlace}
-use Rattle.elan_types.specs.Typing.{same_type}
 use Rattle.eu_base.specs.declared.operation.Change.{Change}
 use Rattle.elan_rules.specs.declared.scope.Denotes.{Denotes}
 use Rattle.elan_rules.specs.declared.scope.Denotes.TheVariants as denotes
@@ -30,8 +28,8 @@ use Rattle.elan_rules.specs.declared.heading.Heading.{Heading}
 use Rattle.elan_rules.specs.declared.meant.Does.{Does}
 use Rattle.elan_rules.specs.declared.meant.Does.TheVariants.{Delivers, Changes, Puts, EndsLine}
 use Rattle.elan_rules.specs.declared.meant.Meant.{Meant}
-use Rattle.elan_rules.specs.declared.meant.Meant.TheVariants.{Absent, Value, Done, Left, Labels, Branches, Arms, Counter, Bodies, Level}
-use Rattle.elan_rules.specs.Scope.{find, first_heading, any_heading, is_routine, is_alike, has_as_many, types_of, refinement_named}
+use Rattle.elan_rules.specs.declared.meant.Meant.TheVariants.{Absent, Value, Done, Left}
+use Rattle.elan_rules.specs.Scope.{first_heading, any_heading, is_routine, has_as_many, types_of, refinement_named}
 use Rattle.elan_rules.specs.declared.scope.Scope.{Scope}
 use Rattle.elan_rules.specs.declared.scope.Found.{Found}
 use Rattle.elan_rules.specs.declared.scope.Home.{Home}

@@ -1,5 +1,5 @@
 -- IF and SELECT.
-use Rattle.std.specs.Prelude.{ℕ, ℤ, Bool, true, false, ◌&&◌, ◌||◌, List, [], ◌∷◌, ◌++◌, Option, Some, None, if◌then◌else◌}
+use Rattle.std.specs.Prelude.{ℕ, ℤ, Bool, false, ◌||◌, List, [], ◌∷◌, ◌++◌, Option, Some, None, if◌then◌else◌}
 use Rattle.std.specs.Ordering.{int_eq}
 use Rattle.elan_types.specs.declared.elan_type.ElanType.{ElanType}
 use Rattle.elan_types.specs.declared.elan_type.ElanType.TheVariants.{Int, Bool as Truths}
@@ -18,7 +18,7 @@ use Rattle.elan_rules.specs.declared.meant.Part.TheVariants as part
 use Rattle.elan_rules.specs.declared.meant.Guarded.{Guarded}
 use Rattle.elan_rules.specs.declared.meant.Labelled.{Labelled}
 use Rattle.elan_rules.specs.declared.meant.Meant.{Meant}
-use Rattle.elan_rules.specs.declared.meant.Meant.TheVariants.{Absent, Value, Done, Left, Labels, Branches, Arms, Counter, Bodies, Level}
+use Rattle.elan_rules.specs.declared.meant.Meant.TheVariants.{Value, Done, Left, Labels, Branches, Arms}
 use Rattle.elan_rules.specs.declared.scope.Found.{Found}
 use Rattle.elan_rules.specs.Predefined.{predefined, exists, delivers}
 use Rattle.elan_rules.specs.Parts.{value_of, actions, valued, blank}

@@ -1,5 +1,5 @@
 -- What is known of bodies beside their headings.
-use Rattle.std.specs.Prelude.{ℕ, zero, suc, Bool, true, false, ◌||◌, ◌==◌, ◌+◌, List, [], ◌∷◌, map, length, Option, Some, None, slice_index_or}
+use Rattle.std.specs.Prelude.{ℕ, zero, suc, Bool, false, ◌||◌, ◌==◌, ◌+◌, List, [], ◌∷◌, map, length, Option, Some, None, slice_index_or}
 use Rattle.elan_rules.specs.declared.delivery.Delivery.{Delivery}
 use Rattle.elan_rules.specs.declared.delivery.Delivery.TheVariants.{Open}
 use Rattle.elan_rules.specs.declared.known.Known.{Known}

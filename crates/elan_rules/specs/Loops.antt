@@ -1,9 +1,7 @@
 -- Loops.
-use Rattle.std.specs.Prelude.{ℕ, pos, Bool, true, false, ◌&&◌, List, [], ◌∷◌, Option, Some, None, if◌then◌else◌}
-use Rattle.elan_types.specs.declared.elan_type.ElanType.{ElanType}
+use Rattle.std.specs.Prelude.{ℕ, pos, Bool, ◌&&◌, List, [], ◌∷◌, Option, Some, None, if◌then◌else◌}
 use Rattle.elan_types.specs.declared.elan_type.ElanType.TheVariants.{Int, Bool as Truths}
 use Rattle.elan_types.specs.declared.core_phrase.PlacePhrase.{PlacePhrase}
-use Rattle.elan_types.specs.declared.core_phrase.PlacePhrase.TheVariants as place
 use Rattle.elan_types.specs.declared.core_phrase.ValuePhrase.{ValuePhrase}
 use Rattle.elan_types.specs.declared.core_phrase.ValuePhrase.TheVariants as value
 use Rattle.elan_types.specs.declared.core_phrase.Action.{Action}
@@ -12,9 +10,9 @@ use Rattle.elan_types.specs.declared.why.Why.TheVariants.{WrongType, NoVariable}
 use Rattle.eu_base.specs.declared.operation.Way.{Way}
 use Rattle.elan_rules.specs.declared.meant.Counted.{Counted}
 use Rattle.elan_rules.specs.declared.meant.Meant.{Meant}
-use Rattle.elan_rules.specs.declared.meant.Meant.TheVariants.{Absent, Value, Done, Left, Labels, Branches, Arms, Counter, Bodies, Level}
+use Rattle.elan_rules.specs.declared.meant.Meant.TheVariants.{Counter}
 use Rattle.elan_rules.specs.Predefined.{delivers}
-use Rattle.elan_rules.specs.Parts.{value_of, variable_of, place_of, actions, may_deliver, written, unit_of}
+use Rattle.elan_rules.specs.Parts.{variable_of, place_of, actions, may_deliver, written, unit_of}
 use Rattle.elan_rules.specs.Ruled.{Ruled, gives, breaks, ◌>>=◌}
 
 abbrev pub first_value : Option ValuePhrase → ValuePhrase

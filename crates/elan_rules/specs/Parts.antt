@@ -3,16 +3,15 @@ use Rattle.std.specs.Prelude.{ℕ, pos, Bool, true, false, List, [], ◌∷◌, 
 use Rattle.elan_types.specs.declared.elan_type.ElanType.{ElanType}
 use Rattle.elan_types.specs.declared.elan_type.ElanType.TheVariants.{Int, Bool as Truths}
 use Rattle.elan_types.specs.declared.core_phrase.PlacePhrase.{PlacePhrase}
-use Rattle.elan_types.specs.declared.core_phrase.PlacePhrase.TheVariants as place
 use Rattle.elan_types.specs.declared.core_phrase.ValuePhrase.{ValuePhrase}
 use Rattle.elan_types.specs.declared.core_phrase.ValuePhrase.TheVariants as value
 use Rattle.elan_types.specs.declared.core_phrase.Action.{Action}
 use Rattle.elan_types.specs.declared.core_phrase.Action.TheVariants as action
 use Rattle.elan_types.specs.declared.why.Why.TheVariants.{Unknown}
 use Rattle.elan_rules.specs.declared.meant.Meant.{Meant}
-use Rattle.elan_rules.specs.declared.meant.Meant.TheVariants.{Absent, Value, Done, Left, Labels, Branches, Arms, Counter, Bodies, Level}
+use Rattle.elan_rules.specs.declared.meant.Meant.TheVariants.{Absent, Value, Done, Left}
 use Rattle.elan_rules.specs.Predefined.{delivers}
-use Rattle.elan_rules.specs.Ruled.{Ruled, gives, breaks}
+use Rattle.elan_rules.specs.Ruled.{Ruled, breaks}
 
 -- what no text asks for
 abbrev pub unasked : {A : Type 0} → Ruled A

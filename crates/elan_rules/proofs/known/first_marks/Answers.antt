@@ -1,5 +1,5 @@
 use Rattle.std.proofs.Common.{refl}
-use Rattle.elan_rules.proofs.Marks.{first_step, first_end}
+use Rattle.elan_rules.proofs.Marks.{first_step}
 use Rattle.elan_rules.proofs.known.first_marks.Goals as goal
 
 pub loop-number-preserved : goal.loop-number-preserved
