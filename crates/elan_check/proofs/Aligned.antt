@@ -1,5 +1,5 @@
 -- The headings of a level, the units of its bodies, and the bodies of its meaning stand side by side.
-use Rattle.std.proofs.Common.{◌≡◌, ℕ, zero, suc, ◌+◌, Bool, true, false, if◌then◌else◌, List, [], ◌∷◌, ◌++◌, map, length, Option, Some, None, refl, sym, ap, subst, ◌∙◌, arith}
+use Rattle.std.proofs.Common.{◌≡◌, ℕ, suc, ◌+◌, Bool, true, false, if◌then◌else◌, List, [], ◌∷◌, ◌++◌, map, length, Option, Some, None, refl, sym, ap, subst, ◌∙◌, arith}
 use Rattle.std.specs.Prelude.{slice_get, nat_eq}
 use Rattle.elan_types.specs.declared.elan_type.ElanType.{ElanType}
 use Rattle.elan_types.specs.declared.core_phrase.Parameter.{Parameter}
@@ -14,18 +14,15 @@ use Rattle.elan_tree.specs.declared.written_type.TypePhrase.{TypePhrase}
 use Rattle.elan_tree.specs.declared.written_type.Formal.{Formal}
 use Rattle.elan_tree.specs.declared.tree.Body.{Body as Written}
 use Rattle.elan_tree.specs.declared.tree.Refinement.{Refinement as Refined}
-use Rattle.elan_tree.specs.declared.tree.LevelUnit.{LevelUnit}
-use Rattle.elan_tree.specs.declared.tree.LevelUnit.TheVariants as level
 use Rattle.elan_rules.specs.declared.scope.Denotes.{Denotes}
 use Rattle.elan_rules.specs.declared.scope.Denotes.TheVariants as denotes
 use Rattle.elan_rules.specs.declared.scope.Entry.{Entry}
 use Rattle.elan_rules.specs.declared.heading.Sort.{Sort}
-use Rattle.elan_rules.specs.declared.heading.Sort.TheVariants.{Procedure, Operator}
 use Rattle.elan_rules.specs.declared.heading.What.{What}
 use Rattle.elan_rules.specs.declared.heading.What.TheVariants.{Routine, Refinement}
 use Rattle.elan_rules.specs.declared.heading.Heading.{Heading}
 use Rattle.elan_rules.specs.declared.meant.Meant.{Meant}
-use Rattle.elan_rules.specs.declared.meant.Meant.TheVariants.{Absent, Value, Done, Left, Labels, Branches, Arms, Counter, Bodies, Level}
+use Rattle.elan_rules.specs.declared.meant.Meant.TheVariants.{Done, Bodies}
 use Rattle.elan_rules.specs.Scope as scope
 use Rattle.elan_rules.specs.Scope.{number_of, all_held, held}
 use Rattle.elan_rules.specs.declared.scope.Scope.{Scope}
@@ -34,10 +31,9 @@ use Rattle.elan_rules.specs.declared.scope.Home.{Home}
 use Rattle.elan_rules.specs.declared.scope.Found.{Found}
 use Rattle.elan_check.specs.Bodies as b
 use Rattle.elan_check.specs.Bodies.{parameters, result, parameter_names, own_names, body_names, refinement_headings, bodies_in, unit_headings, all_headings}
-use Rattle.elan_check.specs.Operators.{operator_text}
 use Rattle.elan_rules.specs.Phrase as form
 use Rattle.elan_rules.specs.Phrase.{Phrase, phrase, Parts, none, part, all_of, leaf, around, all_empty, last_place}
-use Rattle.elan_rules.specs.Ruled.{Ruled, gives, breaks, hangs, ◌>>=◌, before}
+use Rattle.elan_rules.specs.Ruled.{Ruled, gives, breaks, before}
 use Rattle.elan_rules.specs.declared.known.Known.{Known}
 use Rattle.elan_rules.specs.Calls as calls
 use Rattle.elan_rules.specs.Units as u

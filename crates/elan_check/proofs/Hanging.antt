@@ -1,18 +1,7 @@
 -- A text of which no phrase breaks a rule has a meaning: no phrase hangs on another one.
-use Rattle.std.proofs.Common.{◌≡◌, ℕ, zero, suc, ◌+◌, Bool, true, false, ◌&&◌, if◌then◌else◌, List, [], ◌∷◌, ◌++◌, map, length, Option, Some, None, refl, sym, ap, subst, ◌∙◌, ◌⊎◌, inl, inr, arith}
-use Rattle.std.specs.Prelude.{slice_get, slice_index_or}
-use Rattle.elan_tree.specs.declared.written_type.Name.{Name}
-use Rattle.elan_tree.specs.declared.written_type.TypePhrase.{TypePhrase}
-use Rattle.elan_tree.specs.declared.written_type.Formal.{Formal}
-use Rattle.elan_tree.specs.declared.tree.Body.{Body as Written}
-use Rattle.elan_tree.specs.declared.tree.Refinement.{Refinement as Refined}
-use Rattle.elan_tree.specs.declared.tree.Level.{Level}
-use Rattle.elan_tree.specs.declared.tree.LevelUnit.{LevelUnit}
-use Rattle.elan_tree.specs.declared.tree.LevelUnit.TheVariants as level
-use Rattle.elan_rules.specs.declared.delivery.Delivery.{Delivery}
-use Rattle.elan_rules.specs.declared.delivery.Delivery.TheVariants.{Open, Nothing, Of}
-use Rattle.elan_rules.specs.declared.heading.Sort.{Sort}
-use Rattle.elan_rules.specs.declared.heading.Sort.TheVariants.{Procedure, Operator}
+use Rattle.std.proofs.Common.{◌≡◌, ℕ, Bool, true, false, ◌&&◌, if◌then◌else◌, List, [], ◌∷◌, ◌++◌, Option, Some, None, refl, sym, ap, subst, ◌∙◌, ◌⊎◌, inl, inr}
+use Rattle.std.specs.Prelude.{slice_get}
+use Rattle.elan_rules.specs.declared.delivery.Delivery.TheVariants.{Open}
 use Rattle.elan_rules.specs.declared.heading.What.{What}
 use Rattle.elan_rules.specs.declared.heading.What.TheVariants.{Routine, Refinement}
 use Rattle.elan_rules.specs.declared.heading.Heading.{Heading}
@@ -21,27 +10,22 @@ use Rattle.elan_rules.specs.Scope as scope
 use Rattle.elan_rules.specs.Scope.{number_of, refinement_named}
 use Rattle.elan_rules.specs.declared.scope.Scope.{Scope}
 use Rattle.elan_rules.specs.declared.scope.Found.{Found}
-use Rattle.elan_check.specs.Bodies as b
-use Rattle.elan_check.specs.Bodies.{headings}
-use Rattle.elan_check.specs.Operators.{operator_text}
 use Rattle.elan_rules.specs.Phrase as form
 use Rattle.elan_rules.specs.Phrase.{Form, Phrase, phrase, Parts, none, part, all_of, around, leaf, is_empty, last_place}
-use Rattle.elan_rules.specs.Ruled.{Fault, Ruled, gives, breaks, hangs, ◌>>=◌, before}
-use Rattle.elan_rules.specs.Known.{delivery_at, leads_back, leads}
+use Rattle.elan_rules.specs.Ruled.{Ruled, gives, breaks, hangs, ◌>>=◌, before}
+use Rattle.elan_rules.specs.Known.{delivery_at, leads_back}
 use Rattle.elan_rules.specs.declared.known.Known.{Known}
 use Rattle.elan_rules.specs.Calls as c
 use Rattle.elan_rules.specs.Rules.{rule}
-use Rattle.elan_check.specs.Shape as shape
-use Rattle.elan_check.specs.Level as l
 use Rattle.elan_rules.specs.Meaning.{judged, judged_all, phrases, phrases_of}
-use Rattle.elan_check.specs.Refinements.{told, last_unit, last_unit_in, unit_delivery, outcome, called_by, called_by_all, called_in, known_of}
+use Rattle.elan_check.specs.Refinements.{told, last_unit, last_unit_in, unit_delivery, outcome, called_by, called_by_all, called_in}
 use Rattle.elan_check.specs.Uses.{number_list}
 use Rattle.elan_rules.proofs.First.{Faultless, whole, open_one, bind_faultless, before_faultless, breaks_has_fault}
 use Rattle.elan_check.proofs.Calls.{called_append}
-use Rattle.elan_check.proofs.InScope.{Names, InScope, AllIn, body_units_in, statement_in}
-use Rattle.elan_rules.proofs.Firm.{IsFirm, IsOpen, rules, not_hung, named_open}
-use Rattle.elan_check.proofs.Walks.{In, Call, no_walk}
-use Rattle.elan_check.proofs.Settled.{open_last, not_open}
+use Rattle.elan_check.proofs.InScope.{Names, InScope, AllIn}
+use Rattle.elan_rules.proofs.Firm.{rules, not_hung, named_open}
+use Rattle.elan_check.proofs.Walks.{In}
+use Rattle.elan_check.proofs.Settled.{not_open}
 use Rattle.elan_rules.proofs.TypedCalls.{first_at}
 
 -- ---- what hangs

@@ -1,7 +1,5 @@
 -- What is found out about refinements: it is what their last units deliver, and in the end nothing more can be found.
-use Rattle.std.proofs.Common.{◌≡◌, ℕ, zero, suc, ◌+◌, ◌≤◌, ◌<◌, Bool, true, false, ◌&&◌, if◌then◌else◌, List, [], ◌∷◌, ◌++◌, map, length, Option, Some, None, refl, sym, ap, subst, ◌∙◌, ◌⊎◌, inl, inr, arith}
-use Rattle.std.specs.Prelude.{slice_get, slice_index_or}
-use Rattle.elan_types.specs.declared.elan_type.ElanType.{ElanType}
+use Rattle.std.proofs.Common.{◌≡◌, ℕ, Bool, true, false, if◌then◌else◌, List, [], ◌∷◌, length, Option, Some, None, refl, sym, ap, subst, ◌∙◌, ◌⊎◌, inl, inr}
 use Rattle.elan_types.specs.declared.core_phrase.Exit.{Exit}
 use Rattle.elan_types.specs.declared.why.Why.TheVariants.{WrongType, WrongPlace}
 use Rattle.elan_types.specs.declared.core_phrase.Action.{Action}
@@ -10,9 +8,6 @@ use Rattle.elan_rules.specs.declared.delivery.Delivery.{Delivery}
 use Rattle.elan_rules.specs.declared.delivery.Delivery.TheVariants.{Open, Nothing, Of}
 use Rattle.elan_rules.specs.declared.scope.Denotes.{Denotes}
 use Rattle.elan_rules.specs.declared.scope.Denotes.TheVariants as denotes
-use Rattle.elan_rules.specs.declared.heading.What.{What}
-use Rattle.elan_rules.specs.declared.heading.What.TheVariants.{Routine, Refinement}
-use Rattle.elan_rules.specs.declared.heading.Heading.{Heading}
 use Rattle.elan_rules.specs.declared.meant.Meant.{Meant}
 use Rattle.elan_rules.specs.declared.meant.Meant.TheVariants.{Absent, Value, Done, Left, Labels, Branches, Arms, Counter, Bodies, Level}
 use Rattle.elan_rules.specs.Scope.{find, left, refinement_named}
@@ -21,7 +16,7 @@ use Rattle.elan_rules.specs.declared.scope.Home.{Home}
 use Rattle.elan_rules.specs.declared.scope.Found.{Found}
 use Rattle.elan_rules.specs.Phrase as form
 use Rattle.elan_rules.specs.Phrase.{Form, Phrase, phrase, Parts, none, part, all_of, around, is_empty, all_empty}
-use Rattle.elan_rules.specs.Ruled.{Fault, Ruled, gives, breaks, hangs, ◌>>=◌, before}
+use Rattle.elan_rules.specs.Ruled.{gives, breaks, before}
 use Rattle.elan_rules.specs.Known.{delivery_at, leads, leads_back}
 use Rattle.elan_rules.specs.declared.known.Known.{Known}
 use Rattle.elan_rules.specs.Parts.{one_of, on_one, actions_of}
@@ -30,7 +25,7 @@ use Rattle.elan_rules.specs.Units.{or_last, last_value, ended, without_value}
 use Rattle.elan_rules.specs.Rules.{rule}
 use Rattle.elan_check.specs.Shape.{role, roles, units}
 use Rattle.elan_rules.specs.Meaning.{judged, judged_all}
-use Rattle.elan_check.specs.Refinements.{told, told_by, last_unit, last_unit_in, delivery_of, outcome, unit_delivery, next, next_all, known_after, known_of}
+use Rattle.elan_check.specs.Refinements.{last_unit, last_unit_in, delivery_of}
 use Rattle.elan_rules.proofs.First.{bind_gives, before_gives, gives_is}
 
 -- ---- the last unit

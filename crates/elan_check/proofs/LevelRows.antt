@@ -1,60 +1,29 @@
 -- The core of a text is well typed.
-use Rattle.std.proofs.Common.{◌≡◌, ℕ, zero, suc, ◌+◌, Bool, true, false, ◌&&◌, List, [], ◌∷◌, ◌++◌, map, length, Option, Some, None, refl, sym, ap, subst, ◌∙◌, arith}
+use Rattle.std.proofs.Common.{◌≡◌, ℕ, zero, suc, ◌+◌, List, [], ◌∷◌, ◌++◌, length, Option, Some, refl, sym, ap, subst, ◌∙◌, arith}
 use Rattle.std.specs.Prelude.{slice_get}
-use Rattle.elan_types.specs.declared.elan_type.ElanType.{ElanType}
-use Rattle.elan_types.specs.declared.core_phrase.Parameter.{Parameter}
-use Rattle.elan_types.specs.declared.core_phrase.Action.{Action}
-use Rattle.elan_types.specs.declared.core_phrase.Content.{Content}
-use Rattle.elan_types.specs.declared.core_phrase.Scope.{Scope as Owner}
-use Rattle.elan_types.specs.declared.core_phrase.Scope.TheVariants as owner
 use Rattle.elan_types.specs.declared.core_phrase.Body.{Body}
-use Rattle.elan_types.specs.declared.core_phrase.Core.{Core}
-use Rattle.elan_types.specs.Typing.{Home, same_type, held_const, frame_of, frame_at, frame_in, scope_of, owner_at, owner as owner_in, result_of_content, is_content_typed, all_true, IsScope, IsWellTyped}
 use Rattle.elan_tree.specs.declared.tree.Refinement.{Refinement as Refined}
-use Rattle.elan_tree.specs.declared.tree.Level.{Level as Written}
 use Rattle.elan_tree.specs.declared.tree.LevelUnit.{LevelUnit}
 use Rattle.elan_tree.specs.declared.tree.LevelUnit.TheVariants as level
-use Rattle.elan_tree.specs.declared.phrase.Unit.{Unit as Statement}
-use Rattle.elan_tree.specs.declared.tree.Tree.{Tree}
-use Rattle.elan_types.specs.declared.env.Env.{Env}
-use Rattle.elan_rules.specs.declared.delivery.Delivery.{Delivery}
-use Rattle.elan_rules.specs.declared.delivery.Delivery.TheVariants.{Open, Nothing, Of}
-use Rattle.elan_rules.specs.declared.scope.Entry.{Entry}
 use Rattle.elan_rules.specs.declared.heading.Sort.TheVariants.{Procedure, Operator}
-use Rattle.elan_rules.specs.declared.heading.What.{What}
-use Rattle.elan_rules.specs.declared.heading.What.TheVariants.{Routine, Refinement}
 use Rattle.elan_rules.specs.declared.heading.Heading.{Heading}
 use Rattle.elan_rules.specs.declared.meant.Meant.{Meant}
 use Rattle.elan_rules.specs.declared.meant.Meant.TheVariants.{Absent, Value, Done, Left, Labels, Branches, Arms, Counter, Bodies, Level}
-use Rattle.elan_rules.specs.Scope as scope
-use Rattle.elan_rules.specs.Scope.{number_of, all_held, or_else, variables_of}
 use Rattle.elan_rules.specs.declared.scope.Scope.{Scope}
-use Rattle.elan_rules.specs.declared.scope.Within.{Within}
 use Rattle.elan_check.specs.Bodies as b
 use Rattle.elan_check.specs.Bodies.{headings, level_names}
 use Rattle.elan_rules.specs.Phrase as form
 use Rattle.elan_rules.specs.Phrase.{Phrase, phrase, Parts, none, part, all_of, around}
-use Rattle.elan_rules.specs.Ruled.{Ruled, gives, ◌>>=◌, before}
-use Rattle.elan_rules.specs.Known.{delivery_at}
+use Rattle.elan_rules.specs.Ruled.{gives}
 use Rattle.elan_rules.specs.declared.known.Known.{Known}
 use Rattle.elan_check.specs.Operators.{operator_text}
-use Rattle.elan_rules.specs.Parts as p
 use Rattle.elan_rules.specs.Units as u
 use Rattle.elan_rules.specs.Rules.{rule}
 use Rattle.elan_check.specs.Shape as shape
 use Rattle.elan_check.specs.Level as l
 use Rattle.elan_rules.specs.Meaning.{judged, judged_all}
-use Rattle.elan_check.specs.Refinements.{told, delivery_of, known_of}
-use Rattle.elan_check.specs.Text.{Means, known}
-use Rattle.elan_rules.proofs.First.{bind_gives, before_gives, gives_is, judged_of}
-use Rattle.elan_check.proofs.InScope.{InScope, statement_in}
-use Rattle.elan_rules.proofs.TypeEquations.{Stand, typed}
-use Rattle.elan_rules.proofs.Typed as ty
-use Rattle.elan_rules.proofs.TypedUnits.{content_as_good, content_of_good}
-use Rattle.elan_rules.proofs.TypedCalls.{owner_with, Headed, Delivering, BodyFits, FrameIs, Fits}
-use Rattle.elan_check.proofs.TypedRules.{good}
-use Rattle.elan_check.proofs.Settled.{told_found, refinement_found}
-use Rattle.elan_check.proofs.Aligned.{Made, Inside, Frames, within, Stands, Row, Rows, rows_append, refinement_rows, routine_rows, procedure_quiet, split, bodies_append}
+use Rattle.elan_rules.proofs.First.{bind_gives, before_gives, gives_is}
+use Rattle.elan_check.proofs.Aligned.{Inside, Row, Rows, rows_append, routine_rows, procedure_quiet}
 
 -- ---- the rows of a level
 

@@ -1,5 +1,5 @@
 -- A text has one answer: a core, or a refusal, or it has what is not built yet.
-use Rattle.std.proofs.Common.{◌≡◌, Bool, List, ◌++◌, true, false, refl, sym, ap, ◌∙◌}
+use Rattle.std.proofs.Common.{◌≡◌, Bool, List, true, false, refl, sym, ap, ◌∙◌}
 use Rattle.elan_types.specs.declared.elan_type.ElanType.{ElanType}
 use Rattle.elan_types.specs.declared.env.Env.{Env}
 use Rattle.elan_types.specs.declared.core_phrase.Core.{Core}
@@ -22,7 +22,7 @@ use Rattle.elan_check.proofs.Spots.{never_hangs}
 use Rattle.elan_check.specs.NotBuilt.{not_built}
 use Rattle.elan_check.specs.Level.{text, level_in, level_parts}
 use Rattle.elan_rules.specs.Meaning as phrase
-use Rattle.elan_check.specs.Text.{Means, Refused, IsNotBuilt, known, HasAnswer, core, refusal, not_yet, HasOneAnswer}
+use Rattle.elan_check.specs.Text.{Means, Refused, known, HasAnswer, core, refusal, not_yet, HasOneAnswer}
 use Rattle.elan_rules.proofs.First as first
 
 units_are : (as' bs : List Action) (ps qs : List Body) → Level as' ps ≡ Level bs qs → as' ≡ bs

@@ -1,10 +1,6 @@
 -- Units declare variables and constants, and no parameters.
-use Rattle.std.proofs.Common.{◌≡◌, ℤ, ℕ, Bool, true, false, ◌&&◌, List, [], ◌∷◌, ◌++◌, map, Option, Some, None, refl, sym, ap, ◌∙◌}
-use Rattle.std.specs.Prelude.{option_map}
-use Rattle.eu_base.specs.declared.operation.Way.{Way}
+use Rattle.std.proofs.Common.{◌≡◌, List, [], ◌∷◌, ◌++◌, map, Option, Some, None, refl, sym, ap, ◌∙◌}
 use Rattle.elan_tree.specs.declared.written_type.Name.{Name}
-use Rattle.elan_tree.specs.declared.written_type.Label.{Label}
-use Rattle.elan_tree.specs.declared.written_type.Label.TheVariants as label
 use Rattle.elan_tree.specs.declared.phrase.Expr.{Expr}
 use Rattle.elan_tree.specs.declared.phrase.Limit.{Limit}
 use Rattle.elan_tree.specs.declared.phrase.Branch.{Branch}

@@ -1,11 +1,9 @@
 -- As many steps as there are bodies find out what all refinements deliver whose last units have a meaning.
-use Rattle.std.proofs.Common.{◌≡◌, ℕ, zero, suc, ◌+◌, ◌≤◌, Bool, true, false, List, [], ◌∷◌, map, length, Option, Some, None, refl, sym, ap, subst, ◌∙◌, ◌⊎◌, inl, inr, arith}
+use Rattle.std.proofs.Common.{◌≡◌, ℕ, zero, suc, ◌+◌, ◌≤◌, true, List, [], ◌∷◌, map, length, Option, Some, None, refl, sym, ap, subst, ◌∙◌, ◌⊎◌, inl, inr, arith}
 use Rattle.std.specs.Prelude.{slice_get, slice_index_or}
 use Rattle.elan_types.specs.declared.elan_type.ElanType.{ElanType}
 use Rattle.elan_rules.specs.declared.delivery.Delivery.{Delivery}
 use Rattle.elan_rules.specs.declared.delivery.Delivery.TheVariants.{Open, Nothing, Of}
-use Rattle.elan_rules.specs.declared.heading.What.{What}
-use Rattle.elan_rules.specs.declared.heading.What.TheVariants.{Routine, Refinement}
 use Rattle.elan_rules.specs.declared.heading.Heading.{Heading}
 use Rattle.elan_rules.specs.declared.meant.Meant.{Meant}
 use Rattle.elan_rules.specs.declared.meant.Meant.TheVariants.{Absent, Value, Done, Left, Labels, Branches, Arms, Counter, Bodies, Level}
@@ -15,9 +13,8 @@ use Rattle.elan_rules.specs.Known.{delivery_at}
 use Rattle.elan_rules.specs.declared.known.Known.{Known}
 use Rattle.elan_check.specs.Shape.{units}
 use Rattle.elan_rules.specs.Meaning.{judged}
-use Rattle.elan_check.specs.Refinements.{told, told_by, last_unit, delivery_of, outcome, unit_delivery, next, next_all, called_in, known_after, known_of}
+use Rattle.elan_check.specs.Refinements.{told, told_by, last_unit, delivery_of, outcome, unit_delivery, next, next_all, called_in, known_after}
 use Rattle.elan_check.proofs.Inferred.{Below, Last, same_meaning, last_delivers}
-use Rattle.elan_rules.proofs.First.{gives_is}
 
 -- What a phrase with a meaning delivers is known.
 pub not_open : (m : Meant) → delivery_of m ≡ Open → ⊥

@@ -1,5 +1,5 @@
 -- What is found out of one body after another is what a step finds out of all of them.
-use Rattle.std.proofs.Common.{◌≡◌, ℕ, zero, suc, ◌+◌, ◌-◌, ◌≤◌, ◌<◌, get_or, drop, List, [], ◌∷◌, ◌++◌, map, length, true, Option, Some, None, Result, Ok, Err, refl, sym, ap, subst, ◌∙◌, arith, append_assoc}
+use Rattle.std.proofs.Common.{◌≡◌, ℕ, zero, suc, ◌+◌, ◌-◌, ◌≤◌, ◌<◌, get_or, drop, List, [], ◌∷◌, ◌++◌, map, length, true, Option, Some, None, Result, Ok, Err, refl, sym, ap, ◌∙◌, arith, append_assoc}
 use Rattle.std.specs.Prelude.{slice_index_or, OnOk}
 use Rattle.std.proofs.lemmas.List.{append-nil, at_drop_more, at_drop_all}
 use Rattle.elan_tree.specs.declared.written_type.Formal.{Formal}
@@ -9,7 +9,7 @@ use Rattle.elan_tree.specs.declared.tree.Level.{Level}
 use Rattle.elan_tree.specs.declared.tree.LevelUnit.{LevelUnit}
 use Rattle.elan_tree.specs.declared.tree.LevelUnit.TheVariants as level
 use Rattle.elan_rules.specs.declared.delivery.Delivery.{Delivery}
-use Rattle.elan_rules.specs.declared.delivery.Delivery.TheVariants.{Open, Nothing, Of}
+use Rattle.elan_rules.specs.declared.delivery.Delivery.TheVariants.{Open}
 use Rattle.elan_rules.specs.declared.heading.Heading.{Heading}
 use Rattle.elan_rules.specs.declared.known.Known.{Known}
 use Rattle.elan_rules.specs.declared.scope.Scope.{Scope}

@@ -1,29 +1,13 @@
 -- What a phrase means has the types that it asks for.
-use Rattle.std.proofs.Common.{◌≡◌, ℤ, ℕ, Bool, true, false, ◌&&◌, if◌then◌else◌, List, [], ◌∷◌, ◌++◌, ◌+◌, zero, suc, length, arith, map, Option, Some, None, refl, sym, ap, subst, ◌∙◌}
-use Rattle.elan_types.specs.declared.elan_type.ElanType.{ElanType}
-use Rattle.elan_types.specs.declared.elan_type.ElanType.TheVariants.{Int, Bool as Truths}
-use Rattle.elan_types.specs.declared.core_phrase.PlacePhrase.{PlacePhrase}
-use Rattle.elan_types.specs.declared.core_phrase.PlacePhrase.TheVariants as place
-use Rattle.elan_types.specs.declared.core_phrase.ValuePhrase.{ValuePhrase}
-use Rattle.elan_types.specs.declared.core_phrase.ValuePhrase.TheVariants as value
-use Rattle.elan_types.specs.declared.core_phrase.Action.{Action}
-use Rattle.elan_types.specs.declared.core_phrase.Action.TheVariants as action
-use Rattle.elan_rules.specs.declared.meant.Part.{Part}
-use Rattle.elan_rules.specs.declared.meant.Part.TheVariants as piece
-use Rattle.elan_rules.specs.declared.meant.Guarded.{Guarded}
-use Rattle.elan_rules.specs.declared.meant.Labelled.{Labelled}
-use Rattle.elan_rules.specs.declared.meant.Counted.{Counted}
+use Rattle.std.proofs.Common.{◌≡◌, ℕ, List, [], Option, Some, None, refl, sym, subst}
 use Rattle.elan_rules.specs.declared.meant.Meant.{Meant}
-use Rattle.elan_rules.specs.declared.meant.Meant.TheVariants.{Absent, Value, Done, Left, Labels, Branches, Arms, Counter, Bodies, Level}
-use Rattle.elan_rules.specs.Ruled.{Ruled, gives, breaks, hangs, ◌>>=◌, before}
-use Rattle.eu_base.specs.Operations.{in_range}
-use Rattle.elan_types.specs.declared.core_phrase.Body.{Body}
+use Rattle.elan_rules.specs.Ruled.{Ruled, gives}
 use Rattle.elan_rules.specs.Scope as scope
 use Rattle.elan_rules.specs.declared.scope.Scope.{Scope}
 use Rattle.elan_rules.specs.declared.known.Known.{Known}
 use Rattle.elan_rules.specs.declared.heading.Sort.TheVariants.{Operator}
 use Rattle.elan_rules.specs.declared.heading.Heading.{Heading}
-use Rattle.elan_rules.specs.Predefined.{delivers, fit, becomes}
+use Rattle.elan_rules.specs.Predefined.{becomes}
 use Rattle.elan_rules.specs.Phrase as form
 use Rattle.elan_rules.specs.Phrase.{Form, Phrase, phrase, Parts, none, part}
 use Rattle.elan_rules.specs.Parts as p

@@ -1,13 +1,11 @@
 -- The phrases of a text: of its units, PROCs, OPs and refinements.
-use Rattle.std.specs.Prelude.{ℕ, suc, ◌+◌, Bool, true, false, ◌&&◌, List, [], ◌∷◌, ◌++◌, map, length, Option, Some, None}
+use Rattle.std.specs.Prelude.{ℕ, suc, ◌+◌, Bool, true, false, List, [], ◌∷◌, ◌++◌, map, Option, Some, None}
 use Rattle.elan_types.specs.declared.elan_type.ElanType.{ElanType}
-use Rattle.elan_types.specs.declared.core_phrase.Parameter.{Parameter}
 use Rattle.elan_types.specs.declared.core_phrase.Scope.{Scope as Owner}
 use Rattle.elan_types.specs.declared.core_phrase.Scope.TheVariants as owner
 use Rattle.elan_tree.specs.declared.written_type.Name.{Name}
 use Rattle.elan_tree.specs.declared.written_type.TypePhrase.{TypePhrase}
 use Rattle.elan_tree.specs.declared.written_type.Formal.{Formal}
-use Rattle.elan_tree.specs.declared.phrase.Unit.{Unit as Statement}
 use Rattle.elan_tree.specs.declared.tree.Body.{Body}
 use Rattle.elan_tree.specs.declared.tree.Refinement.{Refinement}
 use Rattle.elan_tree.specs.declared.tree.Level.{Level}
@@ -18,7 +16,6 @@ use Rattle.elan_tree.specs.declared.tree.Tree.TheVariants as tree
 use Rattle.elan_rules.specs.declared.scope.Entry.{Entry}
 use Rattle.elan_rules.specs.declared.heading.Sort.{Sort}
 use Rattle.elan_rules.specs.declared.heading.Sort.TheVariants.{Procedure, Operator}
-use Rattle.elan_rules.specs.declared.heading.Heading.{Heading}
 use Rattle.elan_rules.specs.Scope.{types_of, all_held}
 use Rattle.elan_rules.specs.declared.scope.Scope.{Scope}
 use Rattle.elan_rules.specs.declared.scope.Within.{Within}

@@ -1,5 +1,5 @@
 -- The predefined names that are not built yet.
-use Rattle.std.specs.Prelude.{ℕ, Bool, true, false, ◌||◌, List, [], ◌∷◌, codes}
+use Rattle.std.specs.Prelude.{ℕ, Bool, false, ◌||◌, List, [], ◌∷◌, codes}
 use Rattle.std.specs.Str.{bytes_eq}
 
 abbrev pub is_among : List (List ℕ) → List ℕ → Bool

@@ -1,6 +1,5 @@
 -- What bodies deliver. A refinement delivers what its last unit delivers.
 use Rattle.std.specs.Prelude.{ℕ, zero, suc, List, [], ◌∷◌, ◌++◌, map, length, Option, Some, None, if◌then◌else◌}
-use Rattle.elan_types.specs.declared.elan_type.ElanType.{ElanType}
 use Rattle.elan_rules.specs.declared.delivery.Delivery.{Delivery}
 use Rattle.elan_rules.specs.declared.delivery.Delivery.TheVariants.{Open, Nothing, Of}
 use Rattle.elan_rules.specs.declared.heading.What.{What}

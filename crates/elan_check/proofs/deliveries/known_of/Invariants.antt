@@ -1,4 +1,4 @@
-use Rattle.std.proofs.Common.{◌≡◌, ◌≤◌, length}
+use Rattle.std.proofs.Common.{◌≡◌}
 use Rattle.elan_check.specs.Bodies.{headings}
 use Rattle.elan_check.specs.Level.{level_bodies}
 use Rattle.elan_check.specs.Refinements.{known_after}
