@@ -14,6 +14,7 @@ use Rattle.elan_tree.specs.declared.phrase.Expr.TheOpen as t
 use Rattle.elan_tree.specs.declared.phrase.Expr.TheOpen.{Expr-F, Limit-F, Unit-F, Branch-F, Case-F, Counter-F, Item-F}
 use Rattle.elan_tree.specs.declared.phrase.Expr.TheFolds.{ind-Unit, map-Expr, map-Limit, map-Unit, map-Branch, map-Case, map-Counter, map-Item, fold-roll-Expr, fold-roll-Limit, fold-roll-Unit, fold-roll-Branch, fold-roll-Case, fold-roll-Counter, fold-roll-Item}
 use Rattle.elan_rules.specs.declared.scope.Scope.{Scope}
+use Rattle.elan_rules.specs.declared.meant.Usage.TheVariants.{Counter as Counts}
 use Rattle.elan_rules.specs.Phrase as form
 use Rattle.elan_rules.specs.Phrase.{Form, Phrase, phrase, Parts, none, part, all_of, around}
 use Rattle.elan_rules.specs.Meaning.{phrases, phrases_of}
@@ -221,8 +222,8 @@ module _ (s : Scope) where
   counter_with n from l = record { name = n; from = from; limit = l }
 
   counter_of : (n : Name) (from : Option ((e : Expr) × E e)) (l : (l : Limit) × L l) → called_in (shape.counter_step s (map-Counter _ _ _ _ _ _ _ _ _ _ _ _ _ _ (shape.expr s) (shape.limit s) (shape.unit s) (shape.branch s) (shape.case s) (shape.counter s) (shape.item s) (map-Counter _ _ _ _ _ _ _ _ _ _ _ _ _ _ fst fst fst fst fst fst fst (counter_with n from l)))) ≡ uses.counter_step s (map-Counter _ _ _ _ _ _ _ _ _ _ _ _ _ _ (uses.in_expr s) (uses.in_limit s) (uses.in_unit s) (uses.in_branch s) (uses.in_case s) (uses.in_counter s) (uses.in_item s) (map-Counter _ _ _ _ _ _ _ _ _ _ _ _ _ _ fst fst fst fst fst fst fst (counter_with n from l)))
-  counter_of n None l = three_call _ (form.leaf (form.named n.at s n.text)) absent (shape.limit s l.0).1 (uses.in_name s n) [] (uses.in_limit s l.0) refl (nil (uses.in_name s n)) refl l.1
-  counter_of n (Some e) l = three_call _ (form.leaf (form.named n.at s n.text)) (shape.expr s e.0) (shape.limit s l.0).1 (uses.in_name s n) (uses.in_expr s e.0) (uses.in_limit s l.0) refl (nil (uses.in_name s n)) e.1 l.1
+  counter_of n None l = three_call _ (form.leaf (form.named Counts n.at s n.text)) absent (shape.limit s l.0).1 (uses.in_name s n) [] (uses.in_limit s l.0) refl (nil (uses.in_name s n)) refl l.1
+  counter_of n (Some e) l = three_call _ (form.leaf (form.named Counts n.at s n.text)) (shape.expr s e.0) (shape.limit s l.0).1 (uses.in_name s n) (uses.in_expr s e.0) (uses.in_limit s l.0) refl (nil (uses.in_name s n)) e.1 l.1
 
   counter_calls : (y : Below Counter-F) → called_in (shape.counter_step s (map-Counter _ _ _ _ _ _ _ _ _ _ _ _ _ _ (shape.expr s) (shape.limit s) (shape.unit s) (shape.branch s) (shape.case s) (shape.counter s) (shape.item s) (map-Counter _ _ _ _ _ _ _ _ _ _ _ _ _ _ fst fst fst fst fst fst fst y))) ≡ uses.counter_step s (map-Counter _ _ _ _ _ _ _ _ _ _ _ _ _ _ (uses.in_expr s) (uses.in_limit s) (uses.in_unit s) (uses.in_branch s) (uses.in_case s) (uses.in_counter s) (uses.in_item s) (map-Counter _ _ _ _ _ _ _ _ _ _ _ _ _ _ fst fst fst fst fst fst fst y))
   counter_calls y = counter_of y.name y.from y.limit

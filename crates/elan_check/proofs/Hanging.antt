@@ -6,6 +6,7 @@ use Rattle.elan_rules.specs.declared.heading.What.{What}
 use Rattle.elan_rules.specs.declared.heading.What.TheVariants.{Routine, Refinement}
 use Rattle.elan_rules.specs.declared.heading.Heading.{Heading}
 use Rattle.elan_rules.specs.declared.meant.Meant.{Meant}
+use Rattle.elan_rules.specs.declared.meant.Usage.{Usage}
 use Rattle.elan_rules.specs.Scope as scope
 use Rattle.elan_rules.specs.Scope.{number_of, refinement_named}
 use Rattle.elan_rules.specs.declared.scope.Scope.{Scope}
@@ -101,19 +102,19 @@ module _ (kn : Known) where
   abbrev pub Leaf : Scope → List ℕ → Type 0
   Leaf z ns = (n : ℕ) × In n ns × (delivery_at kn n ≡ Open) × (leads_back kn n z.refinement ≡ false) × IsHeaded z.headings n
 
-  named_leaf : (z : Scope) (at : ℕ) (s : Scope) (x : List ℕ) (ps : Parts) → s ≡ z → c.named kn at s x (scope.find s x) ≡ hangs → Leaf z (called_by_all (phrase (form.named at s x) ps ∷ []))
-  named_leaf z at s x ps i e =
-      let o = named_open kn at s x (scope.find s x) e in
-      let here : In o.0 (called_by (phrase (form.named at s x) ps)) = subst (λ (q : Option ℕ). In o.0 (number_list q)) (sym o.1) (inl refl) in
-      subst (λ (y : Scope). Leaf y (called_by_all (phrase (form.named at s x) ps ∷ []))) i
-      (o.0, in_first o.0 (called_by (phrase (form.named at s x) ps)) [] here, o.2, o.3, named_headed s x (scope.find s x) o.0 o.1)
+  named_leaf : (z : Scope) (u : Usage) (at : ℕ) (s : Scope) (x : List ℕ) (ps : Parts) → s ≡ z → c.named kn u at s x (scope.find s x) ≡ hangs → Leaf z (called_by_all (phrase (form.named u at s x) ps ∷ []))
+  named_leaf z u at s x ps i e =
+      let o = named_open kn u at s x (scope.find s x) e in
+      let here : In o.0 (called_by (phrase (form.named u at s x) ps)) = subst (λ (q : Option ℕ). In o.0 (number_list q)) (sym o.1) (inl refl) in
+      subst (λ (y : Scope). Leaf y (called_by_all (phrase (form.named u at s x) ps ∷ []))) i
+      (o.0, in_first o.0 (called_by (phrase (form.named u at s x) ps)) [] here, o.2, o.3, named_headed s x (scope.find s x) o.0 o.1)
 
   form_leaf : (z : Scope) (f : Form) (ps : Parts) → Names z f → (ms : List Meant) → rule kn f ms ≡ hangs → Leaf z (called_by_all (phrase f ps ∷ []))
   form_leaf z form.absent ps i ms e = absurd (not_hung (rule kn form.absent ms) e (rules kn form.absent ms tt))
   form_leaf z form.not_built ps i ms e = absurd (not_hung (rule kn form.not_built ms) e (rules kn form.not_built ms tt))
   form_leaf z (form.number a0 a1) ps i ms e = absurd (not_hung (rule kn (form.number a0 a1) ms) e (rules kn (form.number a0 a1) ms tt))
   form_leaf z (form.truth a0 a1) ps i ms e = absurd (not_hung (rule kn (form.truth a0 a1) ms) e (rules kn (form.truth a0 a1) ms tt))
-  form_leaf z (form.named a0 a1 a2) ps i ms e = named_leaf z a0 a1 a2 ps i e
+  form_leaf z (form.named u a0 a1 a2) ps i ms e = named_leaf z u a0 a1 a2 ps i e
   form_leaf z (form.applied a0 a1 a2 a3) ps i ms e = absurd (not_hung (rule kn (form.applied a0 a1 a2 a3) ms) e (rules kn (form.applied a0 a1 a2 a3) ms tt))
   form_leaf z (form.bracket a0) ps i ms e = absurd (not_hung (rule kn (form.bracket a0) ms) e (rules kn (form.bracket a0) ms tt))
   form_leaf z (form.cand a0) ps i ms e = absurd (not_hung (rule kn (form.cand a0) ms) e (rules kn (form.cand a0) ms tt))

@@ -23,7 +23,7 @@ fst x = x.0
 
 module _ (s : Scope) where
   abbrev pub Names : Form → Type 0
-  Names (form.named at z x) = z ≡ s
+  Names (form.named u at z x) = z ≡ s
   Names (form.applied at z sort x) = z ≡ s
   Names (form.declares at z x) = z ≡ s
   Names (form.assignment at z) = z ≡ s

@@ -1,7 +1,7 @@
 -- What is found out about refinements: it is what their last units deliver, and in the end nothing more can be found.
 use Rattle.std.proofs.Common.{◌≡◌, ℕ, Bool, true, false, if◌then◌else◌, List, [], ◌∷◌, length, Option, Some, None, refl, sym, ap, subst, ◌∙◌, ◌⊎◌, inl, inr}
 use Rattle.elan_types.specs.declared.core_phrase.Exit.{Exit}
-use Rattle.elan_types.specs.declared.why.Why.TheVariants.{WrongType, WrongPlace}
+use Rattle.elan_types.specs.declared.why.Why.TheVariants.{WrongType}
 use Rattle.elan_types.specs.declared.core_phrase.Action.{Action}
 use Rattle.elan_types.specs.declared.core_phrase.Action.TheVariants as action
 use Rattle.elan_rules.specs.declared.delivery.Delivery.{Delivery}
@@ -10,6 +10,8 @@ use Rattle.elan_rules.specs.declared.scope.Denotes.{Denotes}
 use Rattle.elan_rules.specs.declared.scope.Denotes.TheVariants as denotes
 use Rattle.elan_rules.specs.declared.meant.Meant.{Meant}
 use Rattle.elan_rules.specs.declared.meant.Meant.TheVariants.{Absent, Value, Done, Left, Labels, Branches, Arms, Counter, Bodies, Level}
+use Rattle.elan_rules.specs.declared.meant.Usage.{Usage}
+use Rattle.elan_rules.specs.declared.meant.Usage.TheVariants as usage
 use Rattle.elan_rules.specs.Scope.{find, left, refinement_named}
 use Rattle.elan_rules.specs.declared.scope.Scope.{Scope}
 use Rattle.elan_rules.specs.declared.scope.Home.{Home}
@@ -36,7 +38,7 @@ module _ (kn : Known) where
   empty_done (phrase form.not_built ps) m e h = absurd cc
   empty_done (phrase (form.number a0 a1) ps) m e h = absurd cc
   empty_done (phrase (form.truth a0 a1) ps) m e h = absurd cc
-  empty_done (phrase (form.named a0 a1 a2) ps) m e h = absurd cc
+  empty_done (phrase (form.named u a0 a1 a2) ps) m e h = absurd cc
   empty_done (phrase (form.applied a0 a1 a2 a3) ps) m e h = absurd cc
   empty_done (phrase (form.bracket a0) ps) m e h = absurd cc
   empty_done (phrase (form.cand a0) ps) m e h = absurd cc
@@ -198,25 +200,31 @@ module _ (j k : Known) (below : Below j k) where
         | inr e ↦ gives_is m n (sym h ∙ ap (r.referred at i) e ∙ g)
       ]
 
-  refined_by : (at i : ℕ) (a b : Bool) (m n : Meant) → (if a then breaks (at, WrongPlace) else r.referred at i (delivery_at j i)) ≡ gives m → (if b then breaks (at, WrongPlace) else r.referred at i (delivery_at k i)) ≡ gives n → m ≡ n
-  refined_by at i true b m n h g = absurd cc
-  refined_by at i false true m n h g = absurd cc
-  refined_by at i false false m n h g = referred_same at i m n h g
+  -- where a call that leads back gives a meaning, it is that of one that does not
+  led_gives : (u : Usage) (at i : ℕ) (d : Delivery) (m : Meant) → r.led_back u at i d ≡ gives m → r.referred at i d ≡ gives m
+  led_gives usage.Expression at i d m h = absurd cc
+  led_gives usage.Counter at i Open m h = absurd cc
+  led_gives usage.Counter at i Nothing m h = h
+  led_gives usage.Counter at i (Of t) m h = h
 
-  refined_same : (at : ℕ) (s : Scope) (o : Option ℕ) (m n : Meant) → r.refined j at s o ≡ gives m → r.refined k at s o ≡ gives n → m ≡ n
-  refined_same at s None m n h g = absurd cc
-  refined_same at s (Some i) m n h g = refined_by at i (leads_back j i s.refinement) (leads_back k i s.refinement) m n h g
+  as_referred : (u : Usage) (at i : ℕ) (d : Delivery) (a : Bool) (m : Meant) → (if a then r.led_back u at i d else r.referred at i d) ≡ gives m → r.referred at i d ≡ gives m
+  as_referred u at i d true m h = led_gives u at i d m h
+  as_referred u at i d false m h = h
 
-  denoted_same : (at : ℕ) (s : Scope) (x : List ℕ) (home : Home) (i : ℕ) (d : Denotes) (m n : Meant) → r.denoted j at s x home i d ≡ gives m → r.denoted k at s x home i d ≡ gives n → m ≡ n
-  denoted_same at s x home i (denotes.Variable t) m n h g = gives_is m n (sym h ∙ g)
-  denoted_same at s x home i (denotes.Constant t) m n h g = gives_is m n (sym h ∙ g)
-  denoted_same at s x home i (denotes.Parameter p) m n h g = gives_is m n (sym h ∙ g)
-  denoted_same at s x home i denotes.Procedure m n h g = gives_is m n (sym h ∙ g)
-  denoted_same at s x home i denotes.Refinement m n h g = refined_same at s (refinement_named s x) m n h g
+  refined_same : (u : Usage) (at : ℕ) (s : Scope) (o : Option ℕ) (m n : Meant) → r.refined j u at s o ≡ gives m → r.refined k u at s o ≡ gives n → m ≡ n
+  refined_same u at s None m n h g = absurd cc
+  refined_same u at s (Some i) m n h g = referred_same at i m n (as_referred u at i (delivery_at j i) (leads_back j i s.refinement) m h) (as_referred u at i (delivery_at k i) (leads_back k i s.refinement) n g)
 
-  named_same : (at : ℕ) (s : Scope) (x : List ℕ) (o : Option Found) (m n : Meant) → r.named j at s x o ≡ gives m → r.named k at s x o ≡ gives n → m ≡ n
-  named_same at s x None m n h g = gives_is m n (sym h ∙ g)
-  named_same at s x (Some f) m n h g = denoted_same at s x f.home f.number f.denotes m n h g
+  denoted_same : (u : Usage) (at : ℕ) (s : Scope) (x : List ℕ) (home : Home) (i : ℕ) (d : Denotes) (m n : Meant) → r.denoted j u at s x home i d ≡ gives m → r.denoted k u at s x home i d ≡ gives n → m ≡ n
+  denoted_same u at s x home i (denotes.Variable t) m n h g = gives_is m n (sym h ∙ g)
+  denoted_same u at s x home i (denotes.Constant t) m n h g = gives_is m n (sym h ∙ g)
+  denoted_same u at s x home i (denotes.Parameter p) m n h g = gives_is m n (sym h ∙ g)
+  denoted_same u at s x home i denotes.Procedure m n h g = gives_is m n (sym h ∙ g)
+  denoted_same u at s x home i denotes.Refinement m n h g = refined_same u at s (refinement_named s x) m n h g
+
+  named_same : (u : Usage) (at : ℕ) (s : Scope) (x : List ℕ) (o : Option Found) (m n : Meant) → r.named j u at s x o ≡ gives m → r.named k u at s x o ≡ gives n → m ≡ n
+  named_same u at s x None m n h g = gives_is m n (sym h ∙ g)
+  named_same u at s x (Some f) m n h g = denoted_same u at s x f.home f.number f.denotes m n h g
 
   left_by : (at : ℕ) (e : Exit) (v : Meant) (a b : Bool) (m n : Meant) → (if a then gives (Left (action.Unit (r.leave_of e v ∷ []) ∷ [])) else breaks (at, WrongType)) ≡ gives m → (if b then gives (Left (action.Unit (r.leave_of e v ∷ []) ∷ [])) else breaks (at, WrongType)) ≡ gives n → m ≡ n
   left_by at e v true true m n h g = gives_is m n (sym h ∙ g)
@@ -236,7 +244,7 @@ module _ (j k : Known) (below : Below j k) where
   rule_same form.not_built ms m n h i = absurd cc
   rule_same (form.number a0 a1) ms m n h i = gives_is m n (sym h ∙ i)
   rule_same (form.truth a0 a1) ms m n h i = gives_is m n (sym h ∙ i)
-  rule_same (form.named a0 a1 a2) ms m n h i = named_same a0 a1 a2 (find a1 a2) m n h i
+  rule_same (form.named u a0 a1 a2) ms m n h i = named_same u a0 a1 a2 (find a1 a2) m n h i
   rule_same (form.applied a0 a1 a2 a3) ms m n h i = gives_is m n (sym h ∙ i)
   rule_same (form.bracket a0) ms m n h i = gives_is m n (sym h ∙ i)
   rule_same (form.cand a0) ms m n h i = gives_is m n (sym h ∙ i)

@@ -23,6 +23,7 @@ use Rattle.elan_rules.specs.Answer.{Is}
 use Rattle.elan_rules.specs.Meaning.{judged}
 use Rattle.elan_rules.specs.declared.known.Known.{Known}
 use Rattle.elan_rules.specs.declared.scope.Scope.{Scope}
+use Rattle.elan_rules.specs.declared.meant.Usage.TheVariants.{Counter as Counts}
 use Rattle.elan_rules.specs.Phrase as form
 use Rattle.elan_rules.specs.Phrase.{Form, Phrase, phrase, none, part, leaf, pair, three, all_of}
 use Rattle.elan_check.specs.Shape as shape
@@ -129,14 +130,14 @@ module _ (s : Scope) where
         ∙ ap (λ (l : List Statement). pair form.arm (phrase form.labels (all_of (shape.label_phrases s earlier c.labels))) (shape.units true (map (shape.unit s) l))) e
         ∙ sym (ap (λ (d : Case). shape.arm_phrase s earlier (shape.case s d)) (sym (rolls-Case' (record { labels = c.labels; units = c.units }))) ∙ rw fold-roll-Case refl)) h
 
-    counter_rolled : (n : Name) (from : Option Expr) (l : Limit) → shape.counter s (roll-Counter (record { name = n; from = from; limit = l })) ≡ three (form.counter (shape.limit s l).0) (leaf (form.named n.at s n.text)) (shape.optional_expr s from) (shape.limit s l).1
+    counter_rolled : (n : Name) (from : Option Expr) (l : Limit) → shape.counter s (roll-Counter (record { name = n; from = from; limit = l })) ≡ three (form.counter (shape.limit s l).0) (leaf (form.named Counts n.at s n.text)) (shape.optional_expr s from) (shape.limit s l).1
     counter_rolled n None l = rw fold-roll-Counter refl
     counter_rolled n (Some a) l = rw fold-roll-Counter refl
 
-    pub counter_is : (k : Counter) (w : Way) → w ≡ (shape.limit s k.limit).0 → Is q (judged known (three (form.counter w) (leaf (form.named k.name.at s k.name.text)) (shape.optional_expr s k.from) (shape.limit s k.limit).1)) → Is q (judged known (shape.counter s k))
+    pub counter_is : (k : Counter) (w : Way) → w ≡ (shape.limit s k.limit).0 → Is q (judged known (three (form.counter w) (leaf (form.named Counts k.name.at s k.name.text)) (shape.optional_expr s k.from) (shape.limit s k.limit).1)) → Is q (judged known (shape.counter s k))
     counter_is k w e h =
         subst (λ (p : Phrase). Is q (judged known p))
-        (ap (λ (v : Way). three (form.counter v) (leaf (form.named k.name.at s k.name.text)) (shape.optional_expr s k.from) (shape.limit s k.limit).1) e
+        (ap (λ (v : Way). three (form.counter v) (leaf (form.named Counts k.name.at s k.name.text)) (shape.optional_expr s k.from) (shape.limit s k.limit).1) e
         ∙ sym (ap (shape.counter s) (sym (rolls-Counter' (record { name = k.name; from = k.from; limit = k.limit }))) ∙ counter_rolled k.name k.from k.limit)) h
 
     item_rolled : (n : Name) (i : Option Expr) → shape.item s (roll-Item (record { name = n; init = i })) ≡ shape.item_with s n (leaf (form.declares n.at s n.text)) (option_map (shape.expr s) i)

@@ -18,9 +18,9 @@ use Rattle.elan_rules.specs.Meaning.{judged, phrases}
 
 -- ---- calls
 
--- the refinement that a phrase calls
+-- the refinement that a phrase calls, or that it names as a counter
 abbrev pub called_by : Phrase → List ℕ
-called_by (phrase (form.named at s x) ps) = number_list (refinement_named s x)
+called_by (phrase (form.named u at s x) ps) = number_list (refinement_named s x)
 called_by p = []
 
 abbrev pub called_by_all : List Phrase → List ℕ

@@ -18,6 +18,7 @@ use Rattle.elan_tree.specs.declared.phrase.Expr.TheFolds.{fold-Expr, fold-Limit,
 use Rattle.elan_rules.specs.declared.heading.Sort.TheVariants.{Procedure, Operator}
 use Rattle.elan_rules.specs.declared.scope.Scope.{Scope}
 use Rattle.elan_check.specs.Operators.{operator_text}
+use Rattle.elan_rules.specs.declared.meant.Usage.TheVariants.{Expression, Counter as Counts}
 use Rattle.elan_rules.specs.Phrase as form
 use Rattle.elan_rules.specs.Phrase.{Phrase, phrase, Parts, none, part, leaf, around, pair, three, all_of, all_empty}
 
@@ -77,7 +78,7 @@ module _ (s : Scope) where
   abbrev pub expr_step : Expr-F Phrase (Way × Phrase) Phrase Phrase (List Label × Phrase) Phrase Phrase → Phrase
   expr_step (t.Number at n) = leaf (form.number at n)
   expr_step (t.Truth at b) = leaf (form.truth at b)
-  expr_step (t.Named n) = leaf (form.named n.at s n.text)
+  expr_step (t.Named n) = leaf (form.named Expression n.at s n.text)
   expr_step (t.Call n actuals) = phrase (form.applied n.at s Procedure n.text) (all_of actuals)
   expr_step (t.Bracket at a) = around (form.bracket at) a
   expr_step (t.If at branches other) = pair (form.choice at) (phrase form.branches (all_of branches)) (otherwise other)
@@ -117,7 +118,7 @@ module _ (s : Scope) where
   case_step c = (c.labels, units true c.units)
 
   abbrev pub counter_step : Counter-F Phrase (Way × Phrase) Phrase Phrase (List Label × Phrase) Phrase Phrase → Phrase
-  counter_step c = three (form.counter c.limit.0) (leaf (form.named c.name.at s c.name.text)) (written c.from) c.limit.1
+  counter_step c = three (form.counter c.limit.0) (leaf (form.named Counts c.name.at s c.name.text)) (written c.from) c.limit.1
 
   abbrev pub item_with : Name → Phrase → Option Phrase → Phrase
   item_with n p None = around form.item p

@@ -75,7 +75,7 @@ module _ (s : Scope) where
   abbrev pub case_step : Case-F (List ℕ) (List ℕ) (List ℕ) (List ℕ) (List ℕ) (List ℕ) (List ℕ) → List ℕ
   case_step c = all c.units
 
-  -- the identifier after FOR counts as a call too
+  -- what the identifier after FOR denotes counts too
   abbrev pub counter_step : Counter-F (List ℕ) (List ℕ) (List ℕ) (List ℕ) (List ℕ) (List ℕ) (List ℕ) → List ℕ
   counter_step c = in_name c.name ++ written c.from ++ c.limit
 

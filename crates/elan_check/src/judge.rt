@@ -12,7 +12,7 @@ use crate::label::{add_numbers, judge_labels};
 use crate::operators::operator_text;
 use elan_rules::heading::Sort;
 use elan_rules::known::Known;
-use elan_rules::meant::Meant;
+use elan_rules::meant::{Meant, Usage};
 use elan_rules::row::{Judged, Row, and, four, one, pair, three};
 use elan_rules::rules::assignment::assignment;
 use elan_rules::rules::call::applied;
@@ -80,7 +80,10 @@ fn judge(alloc: Global, known: &Known, scope: &Scope, expr: &Expr) -> Judged
     match expr {
         Expr::Number(at, written) => number(alloc, *at, *written),
         Expr::Truth(at, written) => truth(alloc, *at, *written),
-        Expr::Named(name) => named(alloc, known, name.at, scope, name.text.as_slice()),
+        Expr::Named(name) => {
+            let text = name.text.as_slice();
+            named(alloc, known, Usage::Expression, name.at, scope, text)
+        },
         Expr::Call(name, actuals) => {
             let actuals = judge_exprs(alloc, known, scope, actuals.as_slice())?;
             let text = name.text.as_slice();
@@ -315,7 +318,7 @@ fn judge_counter(alloc: Global, known: &Known, scope: &Scope, counter: &Counter)
     ensures { Is result (judged known.now (shape.counter scope.now counter.now)) }
 {
     let text = counter.name.text.as_slice();
-    let name = named(alloc, known, counter.name.at, scope, text);
+    let name = named(alloc, known, Usage::Counter, counter.name.at, scope, text);
     let from = judge_optional(alloc, known, scope, &counter.from);
     let limit = judge_limit(alloc, known, scope, &counter.limit);
     let parts = three(alloc, name, from, limit)?;

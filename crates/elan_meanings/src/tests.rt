@@ -227,7 +227,7 @@ const LOOPS: [(&str, &str); 36] = [
 ];
 
 /// PROCs, OPs, refinements and LEAVE.
-const PROCEDURES: [(&str, &str); 44] = [
+const PROCEDURES: [(&str, &str); 47] = [
     ("PROC p: END PROC p; p", "a core"),
     (
         "INT PROC f (INT CONST a): a + 1 END PROC f; put (f (2))",
@@ -323,6 +323,15 @@ const PROCEDURES: [(&str, &str); 44] = [
         "a core",
     ),
     ("r. r: 1. r: 2.", "NoMeaning(1, WrongType)"),
+    ("put (r). r: FOR r REP PER; 1.", "NoMeaning(17, NoVariable)"),
+    (
+        "IF r THEN FI. r: FOR r REP PER; TRUE.",
+        "NoMeaning(18, WrongType)",
+    ),
+    (
+        "r. r: FOR s REP PER; line. s: FOR r REP PER; 3.",
+        "NoMeaning(11, NoVariable)",
+    ),
     (
         "PROC put (INT CONST a): line END PROC put; put (1); put (TRUE)",
         "NoMeaning(53, WrongType)",

@@ -4,7 +4,6 @@ use Rattle.eu_base.specs.Operations.{in_range}
 use Rattle.std.proofs.Common.{◌≡◌, ℕ, Bool, true, false, if◌then◌else◌, List, [], ◌∷◌, Option, Some, None, length, refl}
 use Rattle.elan_types.specs.declared.elan_type.ElanType.{ElanType}
 use Rattle.elan_types.specs.declared.elan_type.ElanType.TheVariants.{Int}
-use Rattle.elan_types.specs.declared.why.Why.TheVariants.{WrongPlace}
 use Rattle.elan_types.specs.declared.core_phrase.PlacePhrase.{PlacePhrase}
 use Rattle.elan_types.specs.declared.core_phrase.ValuePhrase.{ValuePhrase}
 use Rattle.elan_types.specs.declared.core_phrase.Action.{Action}
@@ -26,6 +25,8 @@ use Rattle.elan_rules.specs.declared.heading.What.TheVariants.{Routine, Refineme
 use Rattle.elan_rules.specs.declared.heading.Heading.{Heading}
 use Rattle.elan_rules.specs.declared.meant.Does.{Does}
 use Rattle.elan_rules.specs.declared.meant.Does.TheVariants.{Delivers, Changes, Puts, EndsLine}
+use Rattle.elan_rules.specs.declared.meant.Usage.{Usage}
+use Rattle.elan_rules.specs.declared.meant.Usage.TheVariants as usage
 use Rattle.elan_rules.specs.declared.meant.Part.{Part}
 use Rattle.elan_rules.specs.declared.meant.Part.TheVariants as part
 use Rattle.elan_rules.specs.declared.meant.Counted.{Counted}
@@ -223,7 +224,7 @@ assignment_as at ms None = two (p.two_of ms) (u.assigned at) (λ m n. on_bind (u
 
 -- the rules but that of identifiers
 abbrev pub Firm : Form → Type 0
-Firm (form.named at s x) = ⊥
+Firm (form.named u at s x) = ⊥
 Firm _ = Unit {0}
 
 pub rules : (kn : Known) (f : Form) (ms : List Meant) → Firm f → IsFirm (rule kn f ms)
@@ -231,7 +232,7 @@ rules kn form.absent ms i = refl
 rules kn form.not_built ms i = refl
 rules kn (form.number at n) ms i = on_if (in_range n) _ _ refl refl
 rules kn (form.truth at b) ms i = refl
-rules kn (form.named at s x) ms i = absurd i
+rules kn (form.named u at s x) ms i = absurd i
 rules kn (form.applied at s sort x) ms i = applied at s sort x ms
 rules kn (form.bracket at) ms i = one (p.one_of ms) (r.bracketed at) (bracketed at)
 rules kn (form.cand at) ms i = two (p.two_of ms) (r.cand at) (λ m n. on_if (r.are_truths m n) _ _ refl refl)
@@ -273,27 +274,33 @@ not_hung (gives x) e f = cc
 not_hung (breaks d) e f = cc
 not_hung hangs e f = cc
 
-module _ (kn : Known) (at : ℕ) (s : Scope) (x : List ℕ) where
+module _ (kn : Known) (u : Usage) (at : ℕ) (s : Scope) (x : List ℕ) where
   referred_open : (n : ℕ) (d : Delivery) → c.referred at n d ≡ hangs → d ≡ Open
   referred_open n Open e = refl
   referred_open n Nothing e = absurd cc
   referred_open n (Of t) e = absurd cc
 
-  refined_open : (o : Option ℕ) → refinement_named s x ≡ o → c.refined kn at s o ≡ hangs → IsOpen kn s x
+  led_firm : (v : Usage) (n : ℕ) (d : Delivery) → IsFirm (c.led_back v at n d)
+  led_firm usage.Expression n d = refl
+  led_firm usage.Counter n Open = refl
+  led_firm usage.Counter n Nothing = refl
+  led_firm usage.Counter n (Of t) = refl
+
+  refined_open : (o : Option ℕ) → refinement_named s x ≡ o → c.refined kn u at s o ≡ hangs → IsOpen kn s x
   refined_open None i e = absurd cc
   refined_open (Some n) i e = by_test (leads_back kn n s.refinement) refl e
     where
-      by_test : (b : Bool) → leads_back kn n s.refinement ≡ b → (if b then breaks (at, WrongPlace) else c.referred at n (delivery_at kn n)) ≡ hangs → IsOpen kn s x
-      by_test true j g = absurd cc
+      by_test : (b : Bool) → leads_back kn n s.refinement ≡ b → (if b then c.led_back u at n (delivery_at kn n) else c.referred at n (delivery_at kn n)) ≡ hangs → IsOpen kn s x
+      by_test true j g = absurd (not_hung (c.led_back u at n (delivery_at kn n)) g (led_firm u n (delivery_at kn n)))
       by_test false j g = (n, i, referred_open n (delivery_at kn n) g, j)
 
-  denoted_open : (home : Home) (n : ℕ) (d : Denotes) → c.denoted kn at s x home n d ≡ hangs → IsOpen kn s x
+  denoted_open : (home : Home) (n : ℕ) (d : Denotes) → c.denoted kn u at s x home n d ≡ hangs → IsOpen kn s x
   denoted_open home n (denotes.Variable t) e = absurd cc
   denoted_open home n (denotes.Constant t) e = absurd cc
   denoted_open home n (denotes.Parameter q) e = absurd cc
   denoted_open home n denotes.Procedure e = absurd (not_hung (c.applied at s Procedure x []) e (applied at s Procedure x []))
   denoted_open home n denotes.Refinement e = refined_open (refinement_named s x) refl e
 
-  pub named_open : (o : Option Found) → c.named kn at s x o ≡ hangs → IsOpen kn s x
+  pub named_open : (o : Option Found) → c.named kn u at s x o ≡ hangs → IsOpen kn s x
   named_open None e = absurd (not_hung (c.applied at s Procedure x []) e (applied at s Procedure x []))
   named_open (Some f) e = denoted_open f.home f.number f.denotes e

@@ -37,6 +37,8 @@ use Rattle.elan_rules.specs.declared.scope.Home.TheVariants.{Level as of_level, 
 use Rattle.elan_rules.specs.Predefined.{predefined, chosen, exists, delivers, fit}
 use Rattle.elan_rules.specs.Known.{leads_back, delivery_at}
 use Rattle.elan_rules.specs.declared.known.Known.{Known}
+use Rattle.elan_rules.specs.declared.meant.Usage.{Usage}
+use Rattle.elan_rules.specs.declared.meant.Usage.TheVariants.{Expression, Counter}
 use Rattle.elan_rules.specs.Parts.{unasked, value_of, values_of, variable_of, place_of, valued, two_of, one_of, on_two, on_one}
 use Rattle.elan_rules.specs.Ruled.{Ruled, gives, breaks, hangs, ◌>>=◌, before, joined}
 
@@ -144,23 +146,30 @@ referred at n Open = hangs
 referred at n Nothing = gives (Done (action.Refer n ∷ []))
 referred at n (Of t) = gives (valued at t (value.Refer n t))
 
+-- It leads back to the refinement in which it stands. A counter calls nothing, and is not a variable, whatever it delivers.
+abbrev pub led_back : Usage → ℕ → ℕ → Delivery → Ruled Meant
+led_back Expression at n d = breaks (at, WrongPlace)
+led_back Counter at n Open = breaks (at, NoVariable)
+led_back Counter at n Nothing = referred at n Nothing
+led_back Counter at n (Of t) = referred at n (Of t)
+
 -- A refinement does not call itself through any chain.
-abbrev pub refined : Known → ℕ → Scope → Option ℕ → Ruled Meant
-refined k at s None = unasked
-refined k at s (Some n) = if leads_back k n s.refinement then breaks (at, WrongPlace) else referred at n (delivery_at k n)
+abbrev pub refined : Known → Usage → ℕ → Scope → Option ℕ → Ruled Meant
+refined k u at s None = unasked
+refined k u at s (Some n) = if leads_back k n s.refinement then led_back u at n (delivery_at k n) else referred at n (delivery_at k n)
 
 -- ---- identifiers without actuals
 
-abbrev pub denoted : Known → ℕ → Scope → List ℕ → Home → ℕ → Denotes → Ruled Meant
-denoted k at s x home n (denotes.Variable t) = gives (variable at t (place_in home n Const))
-denoted k at s x home n (denotes.Constant t) = gives (constant at t (place_in home n Const))
-denoted k at s x home n (denotes.Parameter p) = gives (parameter at p.of p.access (place_in home n p.access))
-denoted k at s x home n denotes.Procedure = applied at s Procedure x []
-denoted k at s x home n denotes.Refinement = refined k at s (refinement_named s x)
+abbrev pub denoted : Known → Usage → ℕ → Scope → List ℕ → Home → ℕ → Denotes → Ruled Meant
+denoted k u at s x home n (denotes.Variable t) = gives (variable at t (place_in home n Const))
+denoted k u at s x home n (denotes.Constant t) = gives (constant at t (place_in home n Const))
+denoted k u at s x home n (denotes.Parameter p) = gives (parameter at p.of p.access (place_in home n p.access))
+denoted k u at s x home n denotes.Procedure = applied at s Procedure x []
+denoted k u at s x home n denotes.Refinement = refined k u at s (refinement_named s x)
 
-abbrev pub named : Known → ℕ → Scope → List ℕ → Option Found → Ruled Meant
-named k at s x (Some f) = denoted k at s x f.home f.number f.denotes
-named k at s x None = applied at s Procedure x []
+abbrev pub named : Known → Usage → ℕ → Scope → List ℕ → Option Found → Ruled Meant
+named k u at s x (Some f) = denoted k u at s x f.home f.number f.denotes
+named k u at s x None = applied at s Procedure x []
 
 -- ---- declarations
 

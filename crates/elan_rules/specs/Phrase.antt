@@ -6,6 +6,7 @@ use Rattle.elan_types.specs.declared.core_phrase.Parameter.{Parameter}
 use Rattle.elan_types.specs.declared.core_phrase.Scope.{Scope as Owner}
 use Rattle.elan_rules.specs.declared.heading.Sort.{Sort}
 use Rattle.elan_rules.specs.declared.scope.Scope.{Scope}
+use Rattle.elan_rules.specs.declared.meant.Usage.{Usage}
 
 -- The forms, each with its place where a fault may be placed at it; a form is also the role that a phrase plays in another.
 pub data Form : Type 0 where
@@ -15,8 +16,8 @@ pub data Form : Type 0 where
   not_built : Form
   number : ℕ → ℤ → Form
   truth : ℕ → Bool → Form
-  -- an identifier without actuals
-  named : ℕ → Scope → List ℕ → Form
+  -- an identifier without actuals, as an expression or as the counter of a loop
+  named : Usage → ℕ → Scope → List ℕ → Form
   -- an operator with its operands, or a procedure with its actuals
   applied : ℕ → Scope → Sort → List ℕ → Form
   bracket : ℕ → Form
@@ -105,7 +106,7 @@ abbrev mutual
   pub place : Phrase → ℕ
   place (phrase (number at n) ps) = at
   place (phrase (truth at b) ps) = at
-  place (phrase (named at s x) ps) = at
+  place (phrase (named u at s x) ps) = at
   place (phrase (applied at s sort x) ps) = at
   place (phrase (bracket at) ps) = at
   place (phrase (cand at) ps) = at

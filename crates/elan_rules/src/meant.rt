@@ -3,6 +3,14 @@
 use elan_types::{Action, Body, Change, ElanType, Operation, PlacePhrase, ValuePhrase, Way};
 use eu_base::{Boxed, List};
 
+/// What an identifier without actuals is used as.
+#[derive(Clone, Copy)]
+pub enum Usage {
+    Expression,
+    /// The counter of a loop, which calls nothing.
+    Counter,
+}
+
 /// What a predefined operator or procedure does.
 #[derive(Clone, Copy, PartialEq, Eq, Debug)]
 pub enum Does {

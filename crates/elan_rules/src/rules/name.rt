@@ -9,7 +9,7 @@ ghost use Rattle.elan_rules.specs.Answer.{Is};
 use crate::delivery::Delivery;
 use crate::heading::{Sort, first_alike};
 use crate::known::Known;
-use crate::meant::Meant;
+use crate::meant::{Meant, Usage};
 use crate::row::Judged;
 use crate::rules::call::applied;
 use crate::rules::part::{delivering, done};
@@ -104,17 +104,38 @@ fn referred(alloc: Global, at: u32, number: usize, delivery: Delivery) -> Judged
     }
 }
 
+// It leads back to the refinement in which it stands.
+fn led_back(alloc: Global, usage: Usage, at: u32, number: usize, delivery: Delivery) -> Judged
+    ensures { Is result (spec.led_back usage at number delivery) }
+{
+    match (usage, delivery) {
+        (Usage::Expression, _) => Err(Trouble::Breaks(at, Why::WrongPlace)),
+        (Usage::Counter, Delivery::Open) => Err(Trouble::Breaks(at, Why::NoVariable)),
+        (Usage::Counter, Delivery::Nothing) => referred(alloc, at, number, Delivery::Nothing),
+        (Usage::Counter, Delivery::Of(of)) => referred(alloc, at, number, Delivery::Of(of)),
+    }
+}
+
 // A refinement does not call itself through any chain.
-fn refined(alloc: Global, known: &Known, at: u32, scope: &Scope, number: Option<usize>) -> Judged
-    ensures { Is result (spec.refined known.now at scope.now number) }
+fn refined(
+    alloc: Global,
+    known: &Known,
+    usage: Usage,
+    at: u32,
+    scope: &Scope,
+    number: Option<usize>,
+) -> Judged
+    ensures { Is result (spec.refined known.now usage at scope.now number) }
 {
     match number {
         None => Err(Trouble::Breaks(0, Why::Unknown)),
         Some(number) => {
+            let delivery = known.delivery_at(number);
             if known.leads_back(alloc, number, scope.refinement)? {
-                return Err(Trouble::Breaks(at, Why::WrongPlace));
+                led_back(alloc, usage, at, number, delivery)
+            } else {
+                referred(alloc, at, number, delivery)
             }
-            referred(alloc, at, number, known.delivery_at(number))
         }
     }
 }
@@ -124,12 +145,13 @@ fn refined(alloc: Global, known: &Known, at: u32, scope: &Scope, number: Option<
 fn denoted(
     alloc: Global,
     known: &Known,
+    usage: Usage,
     at: u32,
     scope: &Scope,
     name: &[u8],
     found: Found,
 ) -> Judged
-    ensures { Is result (spec.denoted known.now at scope.now name.now found.home found.number found.denotes) }
+    ensures { Is result (spec.denoted known.now usage at scope.now name.now found.home found.number found.denotes) }
 {
     match found.denotes {
         Denotes::Variable(of) => {
@@ -148,7 +170,10 @@ fn denoted(
             let actuals = List::new(alloc);
             applied(alloc, at, scope, Sort::Procedure, name, actuals)
         }
-        Denotes::Refinement => refined(alloc, known, at, scope, scope.refinement_named(name)),
+        Denotes::Refinement => {
+            let number = scope.refinement_named(name);
+            refined(alloc, known, usage, at, scope, number)
+        }
     }
 }
 
@@ -166,11 +191,18 @@ fn plainly_held(found: Found) -> Held
 }
 
 /// An identifier without actuals.
-pub fn named(alloc: Global, known: &Known, at: u32, scope: &Scope, name: &[u8]) -> Judged
-    ensures { Is result (spec.named known.now at scope.now name.now (scopes.find scope.now name.now)) }
+pub fn named(
+    alloc: Global,
+    known: &Known,
+    usage: Usage,
+    at: u32,
+    scope: &Scope,
+    name: &[u8],
+) -> Judged
+    ensures { Is result (spec.named known.now usage at scope.now name.now (scopes.find scope.now name.now)) }
 {
     match scope.find(name) {
-        Some(found) => denoted(alloc, known, at, scope, name, found),
+        Some(found) => denoted(alloc, known, usage, at, scope, name, found),
         None => applied(alloc, at, scope, Sort::Procedure, name, List::new(alloc)),
     }
 }

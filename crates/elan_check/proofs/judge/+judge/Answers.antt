@@ -2,6 +2,7 @@ use Rattle.std.proofs.Common.{rules, arith, ℕ, ◌≡◌, ◌++◌, ◌∙◌,
 use Rattle.elan_tree.specs.declared.phrase.Expr.TheViews.{size-Expr, size-Unit, size_is-Branch, sized-Select, sized-Loop, weight-Expr-If-2}
 use Rattle.elan_rules.specs.Answer.{Is}
 use Rattle.elan_rules.specs.Meaning.{judged, judged_all}
+use Rattle.elan_rules.specs.declared.meant.Usage.TheVariants.{Counter as Counts}
 use Rattle.elan_rules.specs.Phrase as form
 use Rattle.elan_rules.specs.Phrase.{leaf, phrase, all_of, part, none}
 use Rattle.elan_check.specs.Shape as shape
@@ -134,17 +135,17 @@ judge_items-loop-item-preserved t c =
 
 pub judge_counter-returns-in_err-parts : goal.judge_counter-returns-in_err-parts
 judge_counter-returns-in_err-parts t c =
-    let name : Is c.named-name.result (judged c.args.known.now (leaf (form.named c.args.counter.now.name.at c.args.scope.now c.args.counter.now.name.text))) = subst (λ (x : List ℕ). Is c.named-name.result (judged c.args.known.now (leaf (form.named c.args.counter.now.name.at c.args.scope.now x)))) c.as_slice-text.ensures c.named-name.ensures in
+    let name : Is c.named-name.result (judged c.args.known.now (leaf (form.named Counts c.args.counter.now.name.at c.args.scope.now c.args.counter.now.name.text))) = subst (λ (x : List ℕ). Is c.named-name.result (judged c.args.known.now (leaf (form.named Counts c.args.counter.now.name.at c.args.scope.now x)))) c.as_slice-text.ensures c.named-name.ensures in
     counter_is c.args.scope.now c.args.known.now c.from_residual.result c.args.counter.now (shape.limit c.args.scope.now c.args.counter.now.limit).0 refl
-    (whole_ends c.args.known.now (form.counter (shape.limit c.args.scope.now c.args.counter.now.limit).0) (part (leaf (form.named c.args.counter.now.name.at c.args.scope.now c.args.counter.now.name.text)) (part (shape.optional_expr c.args.scope.now c.args.counter.now.from) (part (shape.limit c.args.scope.now c.args.counter.now.limit).1 none))) c.from_residual.result c.in_err-parts.field-0.0 c.from_residual.ensures
-    (c.in_err-parts.ensures (judged c.args.known.now (leaf (form.named c.args.counter.now.name.at c.args.scope.now c.args.counter.now.name.text))) (judged c.args.known.now (shape.optional_expr c.args.scope.now c.args.counter.now.from)) (judged c.args.known.now (shape.limit c.args.scope.now c.args.counter.now.limit).1) name c.judge_optional-from.ensures c.judge_limit-limit.ensures))
+    (whole_ends c.args.known.now (form.counter (shape.limit c.args.scope.now c.args.counter.now.limit).0) (part (leaf (form.named Counts c.args.counter.now.name.at c.args.scope.now c.args.counter.now.name.text)) (part (shape.optional_expr c.args.scope.now c.args.counter.now.from) (part (shape.limit c.args.scope.now c.args.counter.now.limit).1 none))) c.from_residual.result c.in_err-parts.field-0.0 c.from_residual.ensures
+    (c.in_err-parts.ensures (judged c.args.known.now (leaf (form.named Counts c.args.counter.now.name.at c.args.scope.now c.args.counter.now.name.text))) (judged c.args.known.now (shape.optional_expr c.args.scope.now c.args.counter.now.from)) (judged c.args.known.now (shape.limit c.args.scope.now c.args.counter.now.limit).1) name c.judge_optional-from.ensures c.judge_limit-limit.ensures))
 
 pub judge_counter-returns : goal.judge_counter-returns
 judge_counter-returns t c =
-    let name : Is c.named-name.result (judged c.args.known.now (leaf (form.named c.args.counter.now.name.at c.args.scope.now c.args.counter.now.name.text))) = subst (λ (x : List ℕ). Is c.named-name.result (judged c.args.known.now (leaf (form.named c.args.counter.now.name.at c.args.scope.now x)))) c.as_slice-text.ensures c.named-name.ensures in
+    let name : Is c.named-name.result (judged c.args.known.now (leaf (form.named Counts c.args.counter.now.name.at c.args.scope.now c.args.counter.now.name.text))) = subst (λ (x : List ℕ). Is c.named-name.result (judged c.args.known.now (leaf (form.named Counts c.args.counter.now.name.at c.args.scope.now x)))) c.as_slice-text.ensures c.named-name.ensures in
     counter_is c.args.scope.now c.args.known.now c.counter_parts.result c.args.counter.now c.way.result (c.way.ensures c.args.scope.now)
-    (whole_is c.args.known.now (form.counter c.way.result) (part (leaf (form.named c.args.counter.now.name.at c.args.scope.now c.args.counter.now.name.text)) (part (shape.optional_expr c.args.scope.now c.args.counter.now.from) (part (shape.limit c.args.scope.now c.args.counter.now.limit).1 none))) c.counter_parts.result c.in_ok-parts.parts
-    (c.in_ok-parts.ensures (judged c.args.known.now (leaf (form.named c.args.counter.now.name.at c.args.scope.now c.args.counter.now.name.text))) (judged c.args.known.now (shape.optional_expr c.args.scope.now c.args.counter.now.from)) (judged c.args.known.now (shape.limit c.args.scope.now c.args.counter.now.limit).1) name c.judge_optional-from.ensures c.judge_limit-limit.ensures)
+    (whole_is c.args.known.now (form.counter c.way.result) (part (leaf (form.named Counts c.args.counter.now.name.at c.args.scope.now c.args.counter.now.name.text)) (part (shape.optional_expr c.args.scope.now c.args.counter.now.from) (part (shape.limit c.args.scope.now c.args.counter.now.limit).1 none))) c.counter_parts.result c.in_ok-parts.parts
+    (c.in_ok-parts.ensures (judged c.args.known.now (leaf (form.named Counts c.args.counter.now.name.at c.args.scope.now c.args.counter.now.name.text))) (judged c.args.known.now (shape.optional_expr c.args.scope.now c.args.counter.now.from)) (judged c.args.known.now (shape.limit c.args.scope.now c.args.counter.now.limit).1) name c.judge_optional-from.ensures c.judge_limit-limit.ensures)
     (c.counter_parts.ensures c.args.known.now))
 
 -- ---- units
