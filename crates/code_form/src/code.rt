@@ -9,7 +9,7 @@ use eu_base::{Kind, List};
 use std::marker::Model;
 
 /// An instruction, with what is pending when it is reached.
-#[derive(Debug, Drop)]
+#[derive(Drop)]
 pub struct Line {
     pub instr: Instr,
     /// The kinds of the pending operands, the newest first.
@@ -18,7 +18,7 @@ pub struct Line {
 }
 
 /// Where an instruction stands.
-#[derive(Clone, Copy, PartialEq, Eq, Debug)]
+#[derive(Clone, Copy, PartialEq, Eq)]
 pub struct Spot {
     /// The body that it is of; none where it is of the command itself.
     pub body: Option<usize>,
@@ -27,7 +27,7 @@ pub struct Spot {
 }
 
 /// A PROC or a refinement.
-#[derive(Debug, Drop)]
+#[derive(Drop)]
 pub struct Entry {
     /// The number of its first instruction.
     pub first: usize,
@@ -37,7 +37,7 @@ pub struct Entry {
 }
 
 /// The cells of a body's frame.
-#[derive(Debug, Drop)]
+#[derive(Drop)]
 pub enum Layout {
     /// Those of a PROC: what its parameters hold, and behind them its variables.
     Own {
@@ -52,7 +52,7 @@ pub enum Layout {
 
 /// A list of instructions with its tables. Along each step the tables agree, and a jump back goes to an
 /// instruction that spends a mark.
-#[derive(Debug, Drop)]
+#[derive(Drop)]
 pub struct Code {
     variables: List<Kind>,
     bodies: List<Entry>,

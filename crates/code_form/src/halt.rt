@@ -3,7 +3,7 @@
 use eu_base::{Request, Stop};
 
 /// Why a run comes to rest.
-#[derive(Debug, Drop)]
+#[derive(Drop)]
 pub enum Halt {
     /// A mark is due, and none is left.
     Marked,

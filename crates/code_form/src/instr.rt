@@ -3,7 +3,7 @@
 use eu_base::{Change, Kind, Operation, Way};
 
 /// What one step of the machine does. A jump names the number of the instruction that it goes to.
-#[derive(Clone, Copy, PartialEq, Eq, Debug)]
+#[derive(Clone, Copy, PartialEq, Eq)]
 pub enum Instr {
     /// Spends a mark.
     Mark,
@@ -54,7 +54,7 @@ pub enum Instr {
 }
 
 /// The call that makes a request.
-#[derive(Clone, Copy, PartialEq, Eq, Debug)]
+#[derive(Clone, Copy, PartialEq, Eq)]
 pub enum Call {
     /// `put` of a number, which it takes.
     PutNumber,

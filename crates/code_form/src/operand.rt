@@ -3,14 +3,14 @@
 use eu_base::{Addr, Kind, Value};
 
 /// A pending operand.
-#[derive(Clone, Copy, PartialEq, Eq, Debug)]
+#[derive(Clone, Copy, PartialEq, Eq)]
 pub enum Operand {
     Value(Value),
     Place(Addr),
 }
 
 /// The kind of a pending operand.
-#[derive(Clone, Copy, PartialEq, Eq, Debug)]
+#[derive(Clone, Copy, PartialEq, Eq)]
 pub enum OperandKind {
     Value(Kind),
     /// A place where values of a kind stand.

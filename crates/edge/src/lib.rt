@@ -13,7 +13,7 @@ pub use sink::{MemSink, Sink};
 pub use source::{MemSource, Source};
 
 /// An outside object failed, and its count of faults rose.
-#[derive(Clone, Copy, Debug, PartialEq, Eq)]
+#[derive(Clone, Copy, PartialEq, Eq)]
 pub struct Failed;
 
 #[cfg(test)]

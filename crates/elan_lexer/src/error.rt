@@ -1,7 +1,7 @@
 //! Why a text has no list of tokens.
-use eu_base::NoMemory;
+use containers::NoMemory;
 
-#[derive(Clone, Copy, PartialEq, Eq, Debug)]
+#[derive(Clone, Copy, PartialEq, Eq)]
 pub enum LexError {
     /// Memory was refused.
     NoMemory,

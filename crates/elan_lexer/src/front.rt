@@ -1,7 +1,7 @@
 //! What stands at the front of a text.
 use elan_tree::{Key, Word};
 
-#[derive(Debug, Drop)]
+#[derive(Drop)]
 pub enum Front {
     /// This many bytes of a blank or a comment.
     Skips(usize),

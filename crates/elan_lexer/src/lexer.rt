@@ -8,8 +8,8 @@ ghost use Rattle.elan_lexer.specs.Tokens as spec;
 use crate::error::LexError;
 use crate::front::Front;
 use crate::scan::scan;
+use containers::{List, NoMemory};
 use elan_tree::{Key, Token, Word};
-use eu_base::{List, NoMemory};
 use std::alloc::Global;
 
 /// The most tokens that a text may have.

@@ -6,7 +6,7 @@ ghost use Rattle.elan_lexer.specs.Scan as scan;
 ghost use Rattle.std.specs.List.{prefix_len, suffix_len};
 
 use crate::class::{is_digit, is_inner, is_space, is_upper};
-use eu_base::{Bytes, NoMemory};
+use containers::{Bytes, NoMemory};
 use std::alloc::Global;
 
 pub fn digits_len(text: &[u8]) -> usize

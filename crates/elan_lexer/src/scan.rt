@@ -9,8 +9,8 @@ use crate::reading::{
     capitals_len, characters, comment_end, digits_len, opens, rest_len, value, without_spaces,
 };
 use crate::tables::{end_word, keyword, sign_spelled};
+use containers::{Bytes, NoMemory};
 use elan_tree::Word;
-use eu_base::{Bytes, NoMemory};
 use std::alloc::Global;
 
 fn comment(curly: bool, rest: &[u8]) -> Front

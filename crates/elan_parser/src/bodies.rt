@@ -16,11 +16,11 @@ use crate::knot::units;
 use crate::parts::formals;
 use crate::tall::{Tall, and, single, with_last};
 use crate::types::{type_place, types};
+use containers::{List, NoMemory};
 use elan_tree::{
     Access, Body, Formal, Key, LevelUnit, Name, Operator, OperatorName, Refinement, Sign,
     TypePhrase,
 };
-use eu_base::{List, NoMemory};
 use std::alloc::Global;
 
 /// A tree is at most so deep.

@@ -15,8 +15,8 @@ use crate::error::ParseError;
 use crate::expressions::Grammar;
 use crate::parts::labels;
 use crate::tall::{Tall, and, single, with_last};
+use containers::{Boxed, List};
 use elan_tree::{Branch, Case, Expr, Key, Sign, Unit};
-use eu_base::{Boxed, List};
 use std::alloc::Global;
 
 impl<

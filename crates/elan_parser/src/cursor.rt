@@ -11,11 +11,11 @@ use crate::joint::Joint;
 use crate::kind::{
     Kind, ahead, is_init, is_key, is_level, is_rep, is_sign, is_symbol, kind_of, same_sign,
 };
+use containers::{Bytes, NoMemory};
 use elan_tree::{
     Access, Constant, Export, Expr, Key, Label, Name, Operator, OperatorName, Sign, Size, Token,
     TypePhrase, Word,
 };
-use eu_base::{Bytes, NoMemory};
 use std::alloc::Global;
 
 fn copied(alloc: Global, text: &Bytes) -> Result<Bytes, NoMemory>

@@ -1,8 +1,8 @@
 //! Why there is no tree.
 
-use eu_base::NoMemory;
+use containers::NoMemory;
 
-#[derive(Clone, Copy, Debug, PartialEq, Eq)]
+#[derive(Clone, Copy, PartialEq, Eq)]
 pub enum ParseError {
     NoMemory,
     /// The tokens have no tree. With the number of tokens from the place on where the parser is stuck.

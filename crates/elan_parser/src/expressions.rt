@@ -15,8 +15,8 @@ use crate::error::ParseError;
 use crate::joint::{Joint, Right};
 use crate::kind::{is_comma, is_key, is_level, is_literal, is_monadic, is_sign, lengthens};
 use crate::tall::{Tall, and, single, with_last};
+use containers::{Boxed, List, NoMemory};
 use elan_tree::{Expr, Key, Name, Sign, Unit};
-use eu_base::{Boxed, List, NoMemory};
 use std::alloc::Global;
 
 /// The rules of phrases whose parts are less than `depth` deep, which the two functions parse.

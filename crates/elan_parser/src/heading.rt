@@ -1,7 +1,7 @@
 //! What stands in a PROC or OP behind the type of its result.
 
+use containers::List;
 use elan_tree::{Body, Formal, Name, OperatorName};
-use eu_base::List;
 
 #[derive(Drop)]
 pub struct ProcParts {

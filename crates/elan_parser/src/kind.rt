@@ -6,7 +6,7 @@ ghost use Rattle.elan_parser.specs.Kinds as kinds;
 use elan_tree::{Key, Sign, Token, Word};
 
 /// How tightly a bold word holds its operands.
-#[derive(Clone, Copy, Debug)]
+#[derive(Clone, Copy)]
 pub enum Tier {
     /// DIV, MOD
     Times,
@@ -15,7 +15,7 @@ pub enum Tier {
     Other,
 }
 
-#[derive(Clone, Copy, Debug)]
+#[derive(Clone, Copy)]
 pub enum Kind {
     Ident,
     Number,

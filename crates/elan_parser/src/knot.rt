@@ -9,8 +9,8 @@ use crate::cursor::Cursor;
 use crate::error::ParseError;
 use crate::expressions::Grammar;
 use crate::tall::Tall;
+use containers::List;
 use elan_tree::{Expr, Unit};
-use eu_base::List;
 use std::alloc::Global;
 
 /// An expression less than `depth` deep.

@@ -14,8 +14,8 @@ use crate::error::ParseError;
 use crate::expressions::Grammar;
 use crate::kind::is_key;
 use crate::tall::{Tall, and};
+use containers::{Boxed, List, NoMemory};
 use elan_tree::{Counter, Expr, Key, Limit, Name, Unit};
-use eu_base::{Boxed, List, NoMemory};
 use std::alloc::Global;
 
 fn boxed(

@@ -13,8 +13,8 @@ use crate::error::ParseError;
 use crate::kind::{is_comma, is_ident};
 use crate::tall::{Tall, single, with_last};
 use crate::types::{names, types};
+use containers::List;
 use elan_tree::{Constant, Formal, Label, LetItem, Sign};
-use eu_base::List;
 use std::alloc::Global;
 
 #[tactic(auto, unfolding(crate::specs::Types::formal))]

@@ -4,7 +4,7 @@ ghost use Rattle.std.specs.Prelude.{◌≡◌, [], ◌∷◌, ◌++◌, max, IfO
 ghost use Rattle.elan_parser.specs.Pairs.{second_of};
 
 use crate::error::ParseError;
-use eu_base::{List, NoMemory};
+use containers::{List, NoMemory};
 use std::alloc::Global;
 
 #[derive(Drop)]

@@ -18,8 +18,8 @@ use crate::kind::{begins_typed, is_comma, is_key};
 use crate::knot::{expression, units};
 use crate::tall::{Tall, single, with_last};
 use crate::types::types;
+use containers::List;
 use elan_tree::{Export, Key, Level, LevelUnit, Sign, Token, Tree, TypePhrase};
-use eu_base::List;
 use std::alloc::Global;
 
 #[tactic(auto, unfolding(crate::specs::Grammar::new_type))]

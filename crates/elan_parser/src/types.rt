@@ -13,8 +13,8 @@ use crate::cursor::Cursor;
 use crate::error::ParseError;
 use crate::kind::{goes_on, is_bold, is_comma, is_key};
 use crate::tall::{Tall, single, with_last};
+use containers::{Boxed, List};
 use elan_tree::{Field, Key, Name, Sign, TypePhrase};
-use eu_base::{Boxed, List};
 use std::alloc::Global;
 
 #[tactic(auto, using(crate::proofs::Turns::turn_on, crate::proofs::Turns::turn_off, crate::proofs::Turns::turn_end))]

@@ -16,8 +16,8 @@ use crate::kind::{begins, begins_typed, is_comma, is_init, is_key, is_rep};
 use crate::parts::let_items;
 use crate::tall::{Tall, and, single, with_last};
 use crate::types::{type_place, types};
+use containers::List;
 use elan_tree::{Expr, Item, Key, Sign, TypePhrase, Unit};
-use eu_base::List;
 use std::alloc::Global;
 
 impl<

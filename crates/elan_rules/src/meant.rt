@@ -12,7 +12,7 @@ pub enum Usage {
 }
 
 /// What a predefined operator or procedure does.
-#[derive(Clone, Copy, PartialEq, Eq, Debug)]
+#[derive(Clone, Copy, PartialEq, Eq)]
 pub enum Does {
     /// Delivers the result of an operation, of this type.
     Delivers(Operation, ElanType),

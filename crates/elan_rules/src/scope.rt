@@ -9,7 +9,7 @@ use elan_types::{ElanType, Exit, Parameter};
 use eu_base::{Bytes, List};
 
 /// What an identifier without actuals denotes.
-#[derive(Clone, Copy, PartialEq, Eq, Debug)]
+#[derive(Clone, Copy, PartialEq, Eq)]
 pub enum Denotes {
     Variable(ElanType),
     Constant(ElanType),
@@ -73,7 +73,7 @@ pub struct Scope {
 }
 
 /// Where a name was declared: in the level, or in the PROC or OP.
-#[derive(Clone, Copy, PartialEq, Eq, Debug)]
+#[derive(Clone, Copy, PartialEq, Eq)]
 pub enum Home {
     Level,
     Routine,

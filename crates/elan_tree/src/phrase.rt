@@ -2,10 +2,10 @@
 
 use crate::token::Sign;
 use crate::written_type::{Label, LetItem, Name, TypePhrase};
-use eu_base::{Boxed, Bytes, List};
+use containers::{Boxed, Bytes, List};
 
 /// An operator that a program may define.
-#[derive(Debug, Drop)]
+#[derive(Drop)]
 pub enum Operator {
     Sign(Sign),
     Named(Bytes),
@@ -13,7 +13,7 @@ pub enum Operator {
 
 /// An expression. Its place, `at`, is that of its first byte.
 #[cycle(phrases)]
-#[derive(Debug, Drop)]
+#[derive(Drop)]
 pub enum Expr {
     Number(u32, i16),
     Text(u32, Bytes),
@@ -73,7 +73,7 @@ pub enum Expr {
 
 /// A condition, and the units that it guards.
 #[cycle(phrases)]
-#[derive(Debug, Drop)]
+#[derive(Drop)]
 pub struct Branch {
     pub condition: Expr,
     pub units: List<Unit>,
@@ -81,7 +81,7 @@ pub struct Branch {
 
 /// Labels, and the units that they choose.
 #[cycle(phrases)]
-#[derive(Debug, Drop)]
+#[derive(Drop)]
 pub struct Case {
     pub labels: List<Label>,
     pub units: List<Unit>,
@@ -89,7 +89,7 @@ pub struct Case {
 
 /// A name that is declared, with its initial value.
 #[cycle(phrases)]
-#[derive(Debug, Drop)]
+#[derive(Drop)]
 pub struct Item {
     pub name: Name,
     pub init: Option<Expr>,
@@ -97,7 +97,7 @@ pub struct Item {
 
 /// The counter of a loop.
 #[cycle(phrases)]
-#[derive(Debug, Drop)]
+#[derive(Drop)]
 pub struct Counter {
     pub name: Name,
     pub from: Option<Expr>,
@@ -106,7 +106,7 @@ pub struct Counter {
 
 /// Where a counter ends.
 #[cycle(phrases)]
-#[derive(Debug, Drop)]
+#[derive(Drop)]
 pub enum Limit {
     Without,
     Upto(Expr),
@@ -115,7 +115,7 @@ pub enum Limit {
 
 /// A unit that may stand in any list of units. Its place, `at`, is that of its first byte.
 #[cycle(phrases)]
-#[derive(Debug, Drop)]
+#[derive(Drop)]
 pub enum Unit {
     /// Nothing between two semicolons.
     Empty,

@@ -1,9 +1,9 @@
 //! Tokens.
 
-use eu_base::Bytes;
+use containers::Bytes;
 
 /// A token, and where it stands in its text.
-#[derive(Debug, Drop)]
+#[derive(Drop)]
 pub struct Token {
     pub what: Word,
     /// The place of its first byte; the text's first byte has place 1.
@@ -13,7 +13,7 @@ pub struct Token {
 }
 
 /// What a token says.
-#[derive(Debug, Drop)]
+#[derive(Drop)]
 pub enum Word {
     /// An identifier, without the spaces that may stand in it.
     Ident(Bytes),
@@ -28,7 +28,7 @@ pub enum Word {
 }
 
 /// A keyword.
-#[derive(Clone, Copy, PartialEq, Eq, Debug)]
+#[derive(Clone, Copy, PartialEq, Eq)]
 pub enum Key {
     Packet,
     Defines,
@@ -75,7 +75,7 @@ pub enum Key {
 }
 
 /// A sign.
-#[derive(Clone, Copy, PartialEq, Eq, Debug)]
+#[derive(Clone, Copy, PartialEq, Eq)]
 pub enum Sign {
     /// `(`
     LeftRound,

@@ -3,10 +3,10 @@
 use crate::phrase::{Operator, Unit};
 use crate::token::Sign;
 use crate::written_type::{Formal, Name, TypePhrase};
-use eu_base::List;
+use containers::List;
 
 /// A text as it is written.
-#[derive(Debug, Drop)]
+#[derive(Drop)]
 pub enum Tree {
     Program(Level),
     /// A packet, with the names that it offers.
@@ -19,7 +19,7 @@ pub enum Tree {
 }
 
 /// A name that a packet offers.
-#[derive(Debug, Drop)]
+#[derive(Drop)]
 pub enum Export {
     Ident(Name),
     Bold(Name),
@@ -27,14 +27,14 @@ pub enum Export {
 }
 
 /// The units of a program or packet, and its refinements.
-#[derive(Debug, Drop)]
+#[derive(Drop)]
 pub struct Level {
     pub units: List<LevelUnit>,
     pub refinements: List<Refinement>,
 }
 
 /// A unit of a program or packet. Its place, `at`, is that of its first byte.
-#[derive(Debug, Drop)]
+#[derive(Drop)]
 pub enum LevelUnit {
     Plain(Unit),
     /// `TYPE NAME = of`
@@ -60,21 +60,21 @@ pub enum LevelUnit {
 }
 
 /// The name of an operator, where it stands.
-#[derive(Debug, Drop)]
+#[derive(Drop)]
 pub struct OperatorName {
     pub at: u32,
     pub operator: Operator,
 }
 
 /// The units of a PROC or OP, and its refinements.
-#[derive(Debug, Drop)]
+#[derive(Drop)]
 pub struct Body {
     pub units: List<Unit>,
     pub refinements: List<Refinement>,
 }
 
 /// Units under a name.
-#[derive(Debug, Drop)]
+#[derive(Drop)]
 pub struct Refinement {
     pub name: Name,
     pub units: List<Unit>,

@@ -1,9 +1,9 @@
 //! What holds no expression: names, types, constants, parameters, labels.
 
-use eu_base::{Boxed, Bytes, List};
+use containers::{Boxed, Bytes, List};
 
 /// An identifier or a bold word, where it stands.
-#[derive(Debug, Drop)]
+#[derive(Drop)]
 pub struct Name {
     pub at: u32,
     pub text: Bytes,
@@ -11,7 +11,7 @@ pub struct Name {
 
 /// A type as it is written.
 #[cycle(types)]
-#[derive(Debug, Drop)]
+#[derive(Drop)]
 pub enum TypePhrase {
     Int(u32),
     Bool(u32),
@@ -33,28 +33,28 @@ pub enum TypePhrase {
 
 /// Fields of one type, as they stand between two commas that do not go on with it.
 #[cycle(types)]
-#[derive(Debug, Drop)]
+#[derive(Drop)]
 pub struct Field {
     pub of: TypePhrase,
     pub names: List<Name>,
 }
 
 /// The number of parts of a ROW.
-#[derive(Debug, Drop)]
+#[derive(Drop)]
 pub enum Size {
     Number(u32, i16),
     Named(Name),
 }
 
 /// What a parameter gives: a value, or the place of a variable.
-#[derive(Clone, Copy, PartialEq, Eq, Debug)]
+#[derive(Clone, Copy, PartialEq, Eq)]
 pub enum Access {
     Const,
     Var,
 }
 
 /// Parameters of one type and access.
-#[derive(Debug, Drop)]
+#[derive(Drop)]
 pub struct Formal {
     pub of: TypePhrase,
     pub access: Access,
@@ -62,7 +62,7 @@ pub struct Formal {
 }
 
 /// The constant of a LET.
-#[derive(Debug, Drop)]
+#[derive(Drop)]
 pub enum Constant {
     Number(u32, i16),
     Text(u32, Bytes),
@@ -70,14 +70,14 @@ pub enum Constant {
 }
 
 /// A name that LET defines.
-#[derive(Debug, Drop)]
+#[derive(Drop)]
 pub enum LetItem {
     Constant(Name, Constant),
     Abbreviation(Name, TypePhrase),
 }
 
 /// The label of a CASE.
-#[derive(Debug, Drop)]
+#[derive(Drop)]
 pub enum Label {
     Number(u32, i16),
     Named(Name),

@@ -5,7 +5,7 @@ use crate::elan_type::ElanType;
 use eu_base::{Boxed, Change, List, Operation, Way};
 
 /// The meaning of a program.
-#[derive(Debug, Drop)]
+#[derive(Drop)]
 pub struct Core {
     /// The types of the level's variables and constants, in the order of their declarations.
     pub variables: List<ElanType>,
@@ -15,14 +15,14 @@ pub struct Core {
 }
 
 /// A PROC, or a refinement.
-#[derive(Debug, Drop)]
+#[derive(Drop)]
 pub struct Body {
     pub scope: Scope,
     pub content: Content,
 }
 
 /// What variables a body has.
-#[derive(Debug, Drop)]
+#[derive(Drop)]
 pub enum Scope {
     /// Those of a PROC: its parameters, and behind them the types of its own variables and constants.
     Own {
@@ -36,21 +36,21 @@ pub enum Scope {
 }
 
 /// A parameter.
-#[derive(Clone, Copy, PartialEq, Eq, Debug)]
+#[derive(Clone, Copy, PartialEq, Eq)]
 pub struct Parameter {
     pub of: ElanType,
     pub access: Access,
 }
 
 /// What a parameter holds: a value, or the place of a variable.
-#[derive(Clone, Copy, PartialEq, Eq, Debug)]
+#[derive(Clone, Copy, PartialEq, Eq)]
 pub enum Access {
     Const,
     Var,
 }
 
 /// What a body does.
-#[derive(Debug, Drop)]
+#[derive(Drop)]
 pub enum Content {
     /// It delivers nothing.
     Units(List<Action>),
@@ -59,7 +59,7 @@ pub enum Content {
 }
 
 /// What a LEAVE leaves.
-#[derive(Clone, Copy, PartialEq, Eq, Debug)]
+#[derive(Clone, Copy, PartialEq, Eq)]
 pub enum Exit {
     /// The body in which it stands.
     Body,
@@ -69,7 +69,7 @@ pub enum Exit {
 
 /// A phrase that delivers a value.
 #[cycle(phrases)]
-#[derive(Debug, Drop)]
+#[derive(Drop)]
 pub enum ValuePhrase {
     Number(i16),
     Truth(bool),
@@ -97,7 +97,7 @@ pub enum ValuePhrase {
 
 /// What a parameter is given.
 #[cycle(phrases)]
-#[derive(Debug, Drop)]
+#[derive(Drop)]
 pub enum Actual {
     Value(ValuePhrase),
     Place(PlacePhrase, ElanType),
@@ -105,14 +105,14 @@ pub enum Actual {
 
 /// Labels, and the value that they choose.
 #[cycle(phrases)]
-#[derive(Debug, Drop)]
+#[derive(Drop)]
 pub struct ValueArm {
     pub labels: List<i16>,
     pub value: ValuePhrase,
 }
 
 /// A phrase that names a place.
-#[derive(Debug, Drop)]
+#[derive(Drop)]
 pub enum PlacePhrase {
     /// A variable or constant of the level, by its number in `Core::variables`.
     Variable(usize),
@@ -124,7 +124,7 @@ pub enum PlacePhrase {
 
 /// A phrase that delivers nothing.
 #[cycle(phrases)]
-#[derive(Debug, Drop)]
+#[derive(Drop)]
 pub enum Action {
     /// A declaration or statement: it spends a mark, and then does each of these.
     Unit(List<Action>),
@@ -167,7 +167,7 @@ pub enum Action {
 
 /// Labels, and what they choose.
 #[cycle(phrases)]
-#[derive(Debug, Drop)]
+#[derive(Drop)]
 pub struct Arm {
     pub labels: List<i16>,
     pub units: List<Action>,

@@ -1,5 +1,5 @@
 //! What a text may use beside its own names.
 
 /// The packets of a task, from the first inserted to the last. No packets are built yet.
-#[derive(Debug, Drop)]
+#[derive(Drop)]
 pub struct Env;

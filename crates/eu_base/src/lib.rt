@@ -1,13 +1,9 @@
-//! Values that every layer shares: want of memory, byte lists, lists, boxes, numbers as text; what a program
-//! computes with, why it stops, what it asks for, and the memory and the data spaces that it runs over.
+//! Values that every layer shares: the containers again, numbers as text; what a program computes with, why
+//! it stops, what it asks for, and the memory and the data spaces that it runs over.
 #![tactic(auto)]
 
 mod address;
-mod boxed;
-mod bytes;
 mod cells;
-mod list;
-mod memory;
 mod number;
 mod operation;
 mod request;
@@ -17,11 +13,8 @@ mod stop;
 mod value;
 
 pub use address::{Addr, Area, CELLS};
-pub use boxed::Boxed;
-pub use bytes::Bytes;
 pub use cells::{MemFault, Memory};
-pub use list::List;
-pub use memory::NoMemory;
+pub use containers::{Boxed, Bytes, List, NoMemory};
 pub use number::decimal;
 pub use operation::{Change, Operation, Way};
 pub use request::{Reply, Request};

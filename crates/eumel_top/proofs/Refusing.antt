@@ -1,7 +1,7 @@
 -- The refusals of the parts refuse the text.
 use Rattle.std.proofs.Common.{◌≡◌, ℕ, false, List, Result, Ok, Err, refl, subst, sym}
 use Rattle.std.specs.Prelude.{IsErr, IsErrAnd, IfErr, IfOk}
-use Rattle.eu_base.specs.declared.memory.NoMemory.{NoMemory}
+use Rattle.containers.specs.declared.no_memory.NoMemory.{NoMemory}
 use Rattle.elan_tree.specs.declared.token.Token.{Token}
 use Rattle.elan_tree.specs.declared.tree.Tree.{Tree}
 use Rattle.elan_lexer.specs.declared.error.LexError.{LexError}

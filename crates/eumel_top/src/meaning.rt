@@ -12,7 +12,7 @@ use eu_base::NoMemory;
 use std::alloc::Global;
 
 /// Why there is no core.
-#[derive(Clone, Copy, PartialEq, Eq, Debug)]
+#[derive(Clone, Copy, PartialEq, Eq)]
 pub(crate) enum TextError {
     NoMemory,
     Refused(Refusal),

@@ -7,7 +7,7 @@ use eu_base::{Bytes, NoMemory, decimal};
 use std::alloc::Global;
 
 /// Why a text is refused.
-#[derive(Clone, Copy, PartialEq, Eq, Debug)]
+#[derive(Clone, Copy, PartialEq, Eq)]
 pub(crate) enum Refusal {
     /// No token can be read at this place.
     NoToken(u32),

@@ -16,7 +16,7 @@ use std::mem;
 const CELL_BYTES: usize = 8;
 
 /// Where a live call or refinement was made.
-#[derive(Clone, Copy, PartialEq, Eq, Debug)]
+#[derive(Clone, Copy, PartialEq, Eq)]
 pub struct Link {
     /// The instruction to which it returns.
     pub back: usize,
@@ -28,7 +28,7 @@ pub struct Link {
 }
 
 /// A live call or refinement.
-#[derive(Debug, Drop)]
+#[derive(Drop)]
 pub struct Frame {
     link: Link,
     /// What is pending in the frame below, the newest last.
@@ -36,7 +36,7 @@ pub struct Frame {
 }
 
 /// The pending operands of all frames, and the frames.
-#[derive(Debug, Drop)]
+#[derive(Drop)]
 pub struct Stack {
     /// What is pending in the innermost frame, the newest last.
     operands: List<Operand>,

@@ -5,7 +5,7 @@ use eu_base::Request;
 use std::alloc::Global;
 
 /// Where the machine stands in its code.
-#[derive(Debug, Drop)]
+#[derive(Drop)]
 pub struct State {
     pub alloc: Global,
     /// The number of the next instruction.
