@@ -1,2 +1,4 @@
-pub mod Given
 pub mod Composed
+mod Given
+mod Kept
+mod Noted
