@@ -18,5 +18,5 @@ pub use sink::{MemSink, Sink};
 pub use source::{MemSource, Source};
 
 /// An outside object failed, and its count of faults rose.
-#[derive(Clone, Copy, PartialEq, Eq)]
+#[derive(Clone, Copy, PartialEq, Eq, Debug)]
 pub struct Failed;

@@ -7,7 +7,7 @@ use elan_types::Why;
 use eu_base::NoMemory;
 
 /// Why a text has no core.
-#[derive(Clone, Copy, PartialEq, Eq)]
+#[derive(Clone, Copy, PartialEq, Eq, Debug)]
 pub enum CheckError {
     NoMemory,
     /// The place of the first phrase in text order that breaks a rule though all its parts have

@@ -1,7 +1,7 @@
 //! Why a text has no list of tokens.
 use containers::NoMemory;
 
-#[derive(Clone, Copy, PartialEq, Eq)]
+#[derive(Clone, Copy, PartialEq, Eq, Debug)]
 pub enum LexError {
     /// Memory was refused.
     NoMemory,

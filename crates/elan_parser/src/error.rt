@@ -2,7 +2,7 @@
 
 use containers::NoMemory;
 
-#[derive(Clone, Copy, PartialEq, Eq)]
+#[derive(Clone, Copy, PartialEq, Eq, Debug)]
 pub enum ParseError {
     NoMemory,
     /// The tokens have no tree. With the number of tokens from the place on where the parser is stuck.

@@ -28,7 +28,7 @@ pub enum Word {
 }
 
 /// A keyword.
-#[derive(Clone, Copy, PartialEq, Eq)]
+#[derive(Clone, Copy, PartialEq, Eq, Debug)]
 pub enum Key {
     Packet,
     Defines,
@@ -75,7 +75,7 @@ pub enum Key {
 }
 
 /// A sign.
-#[derive(Clone, Copy, PartialEq, Eq)]
+#[derive(Clone, Copy, PartialEq, Eq, Debug)]
 pub enum Sign {
     /// `(`
     LeftRound,

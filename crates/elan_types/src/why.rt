@@ -1,7 +1,7 @@
 //! Why a text has no meaning.
 
 /// The rule that a phrase breaks.
-#[derive(Clone, Copy, PartialEq, Eq)]
+#[derive(Clone, Copy, PartialEq, Eq, Debug)]
 pub enum Why {
     /// A name denotes nothing.
     Unknown,

@@ -7,7 +7,7 @@ use crate::NoMemory;
 use crate::address::Addr;
 
 /// Why a memory did not do what it was asked for. Afterwards it is spent, and can only be dropped.
-#[derive(Clone, Copy, PartialEq, Eq)]
+#[derive(Clone, Copy, PartialEq, Eq, Debug)]
 pub enum MemFault {
     NoMemory,
     /// What lies behind it failed, and its count of faults rose.

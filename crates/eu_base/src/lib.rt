@@ -22,6 +22,3 @@ pub use shape::Shape;
 pub use space::{SPACE_BYTES, Space};
 pub use stop::Stop;
 pub use value::{Kind, OPERAND_BYTES, Value};
-
-#[cfg(test)]
-mod tests;

@@ -15,6 +15,3 @@ mod top;
 pub use law::one_output;
 pub use status::Status;
 pub use top::eumel;
-
-#[cfg(test)]
-mod tests;

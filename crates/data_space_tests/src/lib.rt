@@ -1,0 +1,5 @@
+//! Tests of data spaces: several over one pool, against plain bytes.
+#![tactic(auto)]
+
+#[cfg(test)]
+mod tests;
