@@ -1,8 +1,8 @@
 -- One more write, or the sync after it, joins those that a disk in memory has had.
-use Rattle.std.proofs.Common.{◌≡◌, ◌⊎◌, inl, inr, ⊎_elim, ℕ, zero, suc, ◌+◌, ◌≤◌, ◌||◌, cond, if◌then◌else◌, Bool, true, false, List, [], ◌∷◌, ◌++◌, length, get_or, set, drop, refl, sym, ◌∙◌, ap, subst, arith, append_assoc, length-append}
+use Rattle.std.proofs.Common.{◌≡◌, ◌⊎◌, inl, inr, ⊎_elim, ℕ, zero, suc, ◌≤◌, Bool, true, false, List, [], ◌∷◌, ◌++◌, length, drop, refl, sym, ◌∙◌, ap, subst, arith, append_assoc, length-append}
 use Rattle.edge.specs.declared.log.Written.{Written}
-use Rattle.edge.specs.Disk.{Blocks, DiskState, IsImage, Elapses, with_block, with_mark}
-use Rattle.edge.specs.Log.{now_from, past_from, now_of, past_of, written_at, wrote, step, before_sync, settled, block_after, zeros, blank, HadImage, LeftSince, mark_last, any_synced, synced_part}
+use Rattle.edge.specs.Disk.{Blocks, DiskState, IsImage, Elapses}
+use Rattle.edge.specs.Log.{now_from, past_from, now_of, past_of, written_at, wrote, step, before_sync, settled, blank, HadImage, LeftSince, mark_last}
 
 keeps : (past : List DiskState) (v : DiskState) (c : Blocks) → HadImage past c → HadImage (past ++ v ∷ []) c
 keeps [] v c had = absurd had

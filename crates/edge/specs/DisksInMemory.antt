@@ -1,9 +1,9 @@
 -- The disks in memory, and what their calls do.
-use Rattle.std.specs.Prelude.{◌≡◌, ◌↔◌, ℕ, zero, suc, Bool, true, List, [], ◌∷◌, ◌++◌, Option, None, Some, Result, IsErr, OnOk, OnErr}
+use Rattle.std.specs.Prelude.{◌≡◌, ◌↔◌, ℕ, zero, suc, Bool, true, List, [], ◌∷◌, ◌++◌, length, Option, None, Some, Result, IsErr, OnOk, OnErr}
 use Rattle.eu_base.specs.Faults.{next_count}
 use Rattle.edge.specs.declared.log.Written.{Written}
-use Rattle.edge.specs.Disk.{DiskState}
-use Rattle.edge.specs.Log.{now_of, written_at, mark_last}
+use Rattle.edge.specs.Disk.{DiskState, IsImage, Elapses}
+use Rattle.edge.specs.Log.{now_of, past_of, LeftSince, written_at, mark_last}
 use Rattle.edge.specs.Memory.{IsListed}
 
 -- a disk in memory: the writes, the numbers of the calls that fail, how many calls were made, of each kind too, and how many failed
@@ -20,6 +20,11 @@ pub record MemDiskState : Type 0 where
 -- what it tells
 abbrev pub told_state : MemDiskState → DiskState
 told_state m = record (now_of m.log) { reads = m.reads; writes = m.writes; syncs = m.syncs }
+
+-- a call, at each moment
+abbrev pub Passes : MemDiskState → MemDiskState → Type 0
+Passes old new =
+    Elapses (length (past_of old.log)) (length (past_of new.log)) (LeftSince (past_of old.log) (now_of old.log)) (LeftSince (past_of new.log) (now_of new.log)) (IsImage (now_of new.log))
 
 abbrev pub with_fault : MemDiskState → MemDiskState
 with_fault m = record m { faults = next_count m.faults }

@@ -1,5 +1,5 @@
 -- What a list of writes leaves on a disk that was all zeros, now and at each moment before.
-use Rattle.std.specs.Prelude.{◌≡◌, ◌⊎◌, ◌||◌, ◌==◌, ℕ, Bool, true, false, if◌then◌else◌, List, [], ◌∷◌, ◌++◌, length, drop, replicate}
+use Rattle.std.specs.Prelude.{◌⊎◌, ◌||◌, ◌==◌, ℕ, Bool, true, false, if◌then◌else◌, List, [], ◌∷◌, ◌++◌, length, drop, replicate}
 use mathlib.Core.Logic.{inl, inr}
 use Rattle.edge.specs.declared.log.Written.{Written}
 use Rattle.edge.specs.Disk.{Blocks, DiskState, IsImage, with_block, with_mark}

@@ -1,8 +1,8 @@
 //! A disk that fails from some call on, as at a crash there.
 ghost use Rattle.std.specs.Prelude.{◌≡◌, ◌<◌, ◌≤◌, ◌-◌, ◌↔◌, None, Some, OnOk, OnErr, IsErr, IsTrue, length};
-ghost use Rattle.edge.specs.Disk.{after_read, after_write, after_no_write, after_sync, after_failed_sync, IsImage, Elapses};
+ghost use Rattle.edge.specs.Disk.{after_read, after_write, after_no_write, after_sync, after_failed_sync};
 ghost use Rattle.edge.specs.Log.{now_of, past_of, LeftSince, counts_now_of, only_now_of};
-ghost use Rattle.edge.specs.DisksInMemory.{told_by_fuse, MemReads, MemWrites, MemSyncs, IsSpent, one_less};
+ghost use Rattle.edge.specs.DisksInMemory.{told_by_fuse, Passes, MemReads, MemWrites, MemSyncs, IsSpent, one_less};
 ghost use Rattle.edge.specs.Faults.{HasCause};
 
 use crate::mem_disk::Counts;
@@ -25,16 +25,28 @@ impl Model for FuseDisk {
     ghost Value = { FuseDiskState };
 
     ghost view = { λ f. record {
-        disk = f.disk; calls_left = f.calls_left; syncs_left = f.syncs_left; reads = f.counts.reads;
-        writes = f.counts.writes; syncs = f.counts.syncs; faults = f.counts.faults } };
+      disk = f.disk;
+      calls_left = f.calls_left;
+      syncs_left = f.syncs_left;
+      reads = f.counts.reads;
+      writes = f.counts.writes;
+      syncs = f.counts.syncs;
+      faults = f.counts.faults;
+    } };
 }
 
 impl FuseDisk {
     /// Passes so many calls.
     pub fn after(disk: MemDisk, calls: u32) -> FuseDisk
         ensures { result ≡ record {
-            disk = disk; calls_left = Some calls; syncs_left = None; reads = disk.reads; writes = disk.writes;
-            syncs = disk.syncs; faults = disk.faults } }
+          disk = disk;
+          calls_left = Some calls;
+          syncs_left = None;
+          reads = disk.reads;
+          writes = disk.writes;
+          syncs = disk.syncs;
+          faults = disk.faults;
+        } }
     {
         let counts = disk.counts();
         FuseDisk {
@@ -49,8 +61,14 @@ impl FuseDisk {
     pub fn at_sync(disk: MemDisk, m: u32) -> FuseDisk
         requires { 1 ≤ m }
         ensures { result ≡ record {
-            disk = disk; calls_left = None; syncs_left = Some (m - 1); reads = disk.reads; writes = disk.writes;
-            syncs = disk.syncs; faults = disk.faults } }
+          disk = disk;
+          calls_left = None;
+          syncs_left = Some (m - 1);
+          reads = disk.reads;
+          writes = disk.writes;
+          syncs = disk.syncs;
+          faults = disk.faults;
+        } }
     {
         let counts = disk.counts();
         FuseDisk {
@@ -106,9 +124,7 @@ impl Disk for FuseDisk {
     fn read(&mut self, at: u32, into: &mut [u8; 512]) -> Result<(), Failed>
         ensures bytes { OnOk result (into.new ≡ (told_by_fuse self.old).content at) }
         ensures state { Some (told_by_fuse self.new) ≡ Some (after_read (told_by_fuse self.old)) }
-        ensures time { Elapses (length (past_of self.old.disk.log)) (length (past_of self.new.disk.log))
-            (LeftSince (past_of self.old.disk.log) (now_of self.old.disk.log))
-            (LeftSince (past_of self.new.disk.log) (now_of self.new.disk.log)) (IsImage (told_by_fuse self.new)) }
+        ensures time { Passes self.old.disk self.new.disk }
         ensures cause { HasCause self.old.faults self.new.faults result }
         ensures refused { IsSpent self.old.calls_left → IsErr result × (self.new.disk ≡ self.old.disk) }
         ensures passed { ¬ (IsSpent self.old.calls_left) → MemReads result self.old.disk self.new.disk }
@@ -131,9 +147,7 @@ impl Disk for FuseDisk {
     fn write(&mut self, at: u32, from: &[u8; 512]) -> Result<(), Failed>
         ensures ok { OnOk result (Some (told_by_fuse self.new) ≡ Some (after_write at from.now (told_by_fuse self.old))) }
         ensures err { OnErr result (Some (told_by_fuse self.new) ≡ Some (after_no_write (told_by_fuse self.old))) }
-        ensures time { Elapses (length (past_of self.old.disk.log)) (length (past_of self.new.disk.log))
-            (LeftSince (past_of self.old.disk.log) (now_of self.old.disk.log))
-            (LeftSince (past_of self.new.disk.log) (now_of self.new.disk.log)) (IsImage (told_by_fuse self.new)) }
+        ensures time { Passes self.old.disk self.new.disk }
         ensures cause { HasCause self.old.faults self.new.faults result }
         ensures refused { IsSpent self.old.calls_left → IsErr result × (self.new.disk ≡ self.old.disk) }
         ensures passed { ¬ (IsSpent self.old.calls_left) → MemWrites at from.now result self.old.disk self.new.disk }
@@ -156,12 +170,13 @@ impl Disk for FuseDisk {
     fn sync(&mut self) -> Result<(), Failed>
         ensures ok { OnOk result (Some (told_by_fuse self.new) ≡ Some (after_sync (told_by_fuse self.old))) }
         ensures err { OnErr result (Some (told_by_fuse self.new) ≡ Some (after_failed_sync (told_by_fuse self.old))) }
-        ensures time { Elapses (length (past_of self.old.disk.log)) (length (past_of self.new.disk.log))
-            (LeftSince (past_of self.old.disk.log) (now_of self.old.disk.log))
-            (LeftSince (past_of self.new.disk.log) (now_of self.new.disk.log)) (IsImage (told_by_fuse self.new)) }
+        ensures time { Passes self.old.disk self.new.disk }
         ensures cause { HasCause self.old.faults self.new.faults result }
         ensures refused { IsSpent self.old.calls_left → IsErr result × (self.new ≡ record self.new {
-            disk = self.old.disk; calls_left = Some 0; syncs_left = self.old.syncs_left }) }
+          disk = self.old.disk;
+          calls_left = Some 0;
+          syncs_left = self.old.syncs_left;
+        }) }
         ensures blows { ¬ (IsSpent self.old.calls_left) → IsSpent self.old.syncs_left → IsErr result
             × (self.new ≡ record self.new { disk = self.old.disk; calls_left = Some 0; syncs_left = Some 0 }) }
         ensures passed { ¬ (IsSpent self.old.calls_left) → ¬ (IsSpent self.old.syncs_left) → MemSyncs result self.old.disk self.new.disk

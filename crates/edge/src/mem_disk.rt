@@ -1,9 +1,8 @@
 //! A disk in memory.
-ghost use Rattle.std.specs.Prelude.{◌≡◌, [], false, Some, OnOk, OnErr, IfSome, IsTrue, length};
-ghost use Rattle.std.specs.Option.{option_map};
-ghost use Rattle.edge.specs.Disk.{after_read, after_write, after_no_write, after_sync, after_failed_sync, IsImage, MayLeave, Elapses};
+ghost use Rattle.std.specs.Prelude.{◌≡◌, [], false, Some, OnOk, OnErr, IsTrue, length};
+ghost use Rattle.edge.specs.Disk.{after_read, after_write, after_no_write, after_sync, after_failed_sync, IsImage};
 ghost use Rattle.edge.specs.Log.{now_of, past_of, LeftSince, counts_now_of, only_now_of, zeros, mark_last, synced_part};
-ghost use Rattle.edge.specs.DisksInMemory.{told_state, MemReads, MemWrites, MemSyncs};
+ghost use Rattle.edge.specs.DisksInMemory.{told_state, Passes, MemReads, MemWrites, MemSyncs};
 ghost use Rattle.edge.specs.Faults.{HasCause};
 
 use crate::calls::is_listed;
@@ -42,14 +41,29 @@ impl Model for MemDisk {
     ghost Value = { MemDiskState };
 
     ghost view = { λ m. record {
-        log = m.log.items; fails = m.fails; calls = m.calls; reads = m.reads; writes = m.writes; syncs = m.syncs;
-        faults = m.faults; wanted = m.wanted } };
+      log = m.log.items;
+      fails = m.fails;
+      calls = m.calls;
+      reads = m.reads;
+      writes = m.writes;
+      syncs = m.syncs;
+      faults = m.faults;
+      wanted = m.wanted;
+    } };
 }
 
 impl MemDisk {
     pub fn new(alloc: Global, fails: List<u32>) -> MemDisk
         ensures made { result ≡ record {
-            log = []; fails = fails; calls = 0; reads = 0; writes = 0; syncs = 0; faults = 0; wanted = false } }
+          log = [];
+          fails = fails;
+          calls = 0;
+          reads = 0;
+          writes = 0;
+          syncs = 0;
+          faults = 0;
+          wanted = false;
+        } }
         ensures blank { (told_state result).content ≡ (λ _. zeros) }
     {
         MemDisk {
@@ -93,7 +107,11 @@ impl MemDisk {
 
     pub(crate) fn counts(&self) -> Counts
         ensures { result ≡ record {
-            reads = self.now.reads; writes = self.now.writes; syncs = self.now.syncs; faults = self.now.faults } }
+          reads = self.now.reads;
+          writes = self.now.writes;
+          syncs = self.now.syncs;
+          faults = self.now.faults;
+        } }
     {
         Counts {
             reads: self.reads,
@@ -120,9 +138,7 @@ impl Disk for MemDisk {
     fn read(&mut self, at: u32, into: &mut [u8; 512]) -> Result<(), Failed>
         ensures bytes { OnOk result (into.new ≡ (told_state self.old).content at) }
         ensures state { Some (told_state self.new) ≡ Some (after_read (told_state self.old)) }
-        ensures time { Elapses (length (past_of self.old.log)) (length (past_of self.new.log))
-            (LeftSince (past_of self.old.log) (now_of self.old.log)) (LeftSince (past_of self.new.log) (now_of self.new.log))
-            (IsImage (told_state self.new)) }
+        ensures time { Passes self.old self.new }
         ensures cause { HasCause self.old.faults self.new.faults result }
         ensures does { MemReads result self.old self.new }
     {
@@ -139,9 +155,7 @@ impl Disk for MemDisk {
     fn write(&mut self, at: u32, from: &[u8; 512]) -> Result<(), Failed>
         ensures ok { OnOk result (Some (told_state self.new) ≡ Some (after_write at from.now (told_state self.old))) }
         ensures err { OnErr result (Some (told_state self.new) ≡ Some (after_no_write (told_state self.old))) }
-        ensures time { Elapses (length (past_of self.old.log)) (length (past_of self.new.log))
-            (LeftSince (past_of self.old.log) (now_of self.old.log)) (LeftSince (past_of self.new.log) (now_of self.new.log))
-            (IsImage (told_state self.new)) }
+        ensures time { Passes self.old self.new }
         ensures cause { HasCause self.old.faults self.new.faults result }
         ensures does { MemWrites at from.now result self.old self.new }
     {
@@ -164,9 +178,7 @@ impl Disk for MemDisk {
     fn sync(&mut self) -> Result<(), Failed>
         ensures ok { OnOk result (Some (told_state self.new) ≡ Some (after_sync (told_state self.old))) }
         ensures err { OnErr result (Some (told_state self.new) ≡ Some (after_failed_sync (told_state self.old))) }
-        ensures time { Elapses (length (past_of self.old.log)) (length (past_of self.new.log))
-            (LeftSince (past_of self.old.log) (now_of self.old.log)) (LeftSince (past_of self.new.log) (now_of self.new.log))
-            (IsImage (told_state self.new)) }
+        ensures time { Passes self.old self.new }
         ensures cause { HasCause self.old.faults self.new.faults result }
         ensures does { MemSyncs result self.old self.new }
     {

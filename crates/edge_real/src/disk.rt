@@ -5,10 +5,9 @@ ghost use Rattle.edge.specs.Faults.{HasCause};
 use edge::{Disk, Failed};
 use eu_base::Bytes;
 use std::fs::{OpenFile, OpenOptions};
-use std::io;
 use std::io::{ErrorKind, Read, Seek, SeekFrom, Write};
 use std::rt::Files;
-use std::str;
+use std::{io, str};
 
 /// A disk in a file, of which it tells nothing. The file is opened and synced at the first call. A file that isn't there
 /// reads as zeros, and is made by the first write; bytes past its end read as zeros. Every other failure of
@@ -132,8 +131,7 @@ fn fill<F: Read>(file: &mut F, into: &mut [u8; 512]) -> io::Result<()> {
 }
 
 impl<R: Files> Disk for FileDisk<'_, R> {
-    ghost use Rattle.std.specs.Prelude.{◌≤◌, List, ℕ, Option};
-    ghost use Rattle.edge.specs.Disk.{Blocks};
+    ghost use Rattle.std.specs.Prelude.{Option};
 
     ghost state = { λ _. None };
 

@@ -1,5 +1,9 @@
-//! Tests of the outside objects in memory.
+//! Tests of the outside objects: in memory, and the real ones over standard input, standard output and a file.
 #![tactic(auto)]
 
 #[cfg(test)]
-mod tests;
+mod disks;
+#[cfg(test)]
+mod real;
+#[cfg(test)]
+mod streams;

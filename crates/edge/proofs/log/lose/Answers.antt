@@ -1,4 +1,4 @@
-use Rattle.std.proofs.Common.{◌≡◌, ◌+◌, ◌<◌, ◌++◌, ◌∷◌, [], ℕ, true, false, length, List, take, ap, sym, ◌∙◌, subst, arith}
+use Rattle.std.proofs.Common.{◌≡◌, ◌+◌, ◌<◌, ◌++◌, ◌∷◌, [], ℕ, length, take, ap, sym, ◌∙◌, arith}
 use Rattle.std.proofs.lemmas.List.{take_more}
 use Rattle.edge.specs.declared.log.Written.{Written}
 use Rattle.edge.specs.Log.{synced_part}

@@ -1,4 +1,4 @@
-use Rattle.std.proofs.Common.{◌≡◌, ◌∙◌, ◌-◌, suc, true, length, get_or, set, ap, arith}
+use Rattle.std.proofs.Common.{◌≡◌, ◌∙◌, ◌-◌, suc, true, length, set, ap, arith}
 use Rattle.edge.specs.declared.log.Written.{Written}
 use Rattle.edge.proofs.Kept.{set_last}
 use Rattle.edge.proofs.log.settle.Goals as goal
