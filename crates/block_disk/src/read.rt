@@ -16,7 +16,7 @@ pub fn read_run<D: Disk>(disk: &mut D, at: u32, into: &mut [u8]) -> Result<(), F
     ensures bytes { OnOk result (ForSome (D.state disk.old) (λ s. HoldsRun s.content at (blocks_in into.old) into.new)) }
     ensures ok { OnOk result (D.state disk.new ≡ option_map (after_reads (blocks_in into.old)) (D.state disk.old)) }
     ensures err { OnErr result (IsFailedRead (blocks_in into.old) (D.state disk.old) (D.state disk.new)) }
-    ensures step { ForSome (D.state disk.old) (Step D.state D.moment D.left_since disk.old disk.new Nowhere) }
+    ensures step { ForSome (D.state disk.old) (Step D.state D.moment D.left_since disk.old disk.new Nowhere (blocks_in into.old) 0 0) }
     ensures cause { HasCause (D.faults disk.old) (D.faults disk.new) result }
 {
     let count = into.len() / 512;

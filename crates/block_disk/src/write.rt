@@ -16,7 +16,7 @@ pub fn write_run<D: Disk>(disk: &mut D, at: u32, from: &[u8]) -> Result<(), Fail
     ensures err { OnErr result (IsFailedRun (blocks_in from.now) at from.now (D.state disk.old) (D.state disk.new)) }
     ensures bytes { OnOk result (ForSome (D.state disk.new) (λ s. HoldsRun s.content at (blocks_in from.now) from.now)) }
     ensures step { ForSome (D.state disk.old) (Step D.state D.moment D.left_since disk.old disk.new
-        (IsInRun at (blocks_in from.now))) }
+        (IsInRun at (blocks_in from.now)) 0 (blocks_in from.now) 0) }
     ensures cause { HasCause (D.faults disk.old) (D.faults disk.new) result }
 {
     let count = from.len() / 512;

@@ -1,5 +1,6 @@
 -- What a run of disk calls does, at each moment in it and at its end.
-use Rattle.std.specs.Prelude.{◌≡◌, ◌⊎◌, ℕ, ◌+◌, ◌-◌, ◌^◌, ◌≤◌, min, false, Option, Some}
+use Rattle.std.specs.Prelude.{◌≡◌, ◌⊎◌, ℕ, zero, suc, ◌≤◌, false, Option, Some}
+use Rattle.eu_base.specs.Faults.{next_count}
 use Rattle.edge.specs.Disk.{Blocks, DiskState}
 
 -- each image that a crash at a moment of this part of a run may leave has P
@@ -25,29 +26,32 @@ AgreesOutside changed s image = (block : ℕ) → ¬ (changed block) → s.writt
 abbrev pub Nowhere : ℕ → Type 0
 Nowhere block = ⊥
 
--- the disk goes from state s to one that it tells, and changes these blocks alone, at each moment
-pub record Step {D : Type 0} (state : D → Option DiskState) (moment : D → ℕ) (left_since : D → ℕ → Blocks → Type 0) (old new : D) (changed : ℕ → Type 0) (s : DiskState) : Type 0 where
-  pub reached : DiskState
-  pub told : state new ≡ Some reached
-  pub only : ChangesOnly changed s reached
-  pub leaves : Leaves moment left_since old new (AgreesOutside changed s)
-
--- so many calls later a counter, which stands still at its last value, stands so
+-- so many calls later a counter stands so
 abbrev pub counted : ℕ → ℕ → ℕ
-counted calls count = min (count + calls) (2 ^ 64 - 1)
+counted zero count = count
+counted (suc calls) count = next_count (counted calls count)
 
 -- exactly so many reads, writes and syncs were made, failed ones among them
-pub record HasMade (r w s : ℕ) (old new : DiskState) : Type 0 where
+pub record HasMade (r w y : ℕ) (old new : DiskState) : Type 0 where
   pub reads : new.reads ≡ counted r old.reads
   pub writes : new.writes ≡ counted w old.writes
-  pub syncs : new.syncs ≡ counted s old.syncs
+  pub syncs : new.syncs ≡ counted y old.syncs
 
 -- no more calls than these were made
-pub record HasMadeAtMost (r w s : ℕ) (old new : DiskState) : Type 0 where
+pub record HasMadeAtMost (r w y : ℕ) (old new : DiskState) : Type 0 where
   pub reads : ℕ
   pub writes : ℕ
   pub syncs : ℕ
   pub few_reads : reads ≤ r
   pub few_writes : writes ≤ w
-  pub few_syncs : syncs ≤ s
+  pub few_syncs : syncs ≤ y
   pub made : HasMade reads writes syncs old new
+
+-- The disk goes from state s to one that it tells, changes these blocks alone, at each moment, and makes at most so many
+-- reads, writes and syncs.
+pub record Step {D : Type 0} (state : D → Option DiskState) (moment : D → ℕ) (left_since : D → ℕ → Blocks → Type 0) (old new : D) (changed : ℕ → Type 0) (r w y : ℕ) (s : DiskState) : Type 0 where
+  pub reached : DiskState
+  pub told : state new ≡ Some reached
+  pub only : ChangesOnly changed s reached
+  pub leaves : Leaves moment left_since old new (AgreesOutside changed s)
+  pub calls : HasMadeAtMost r w y s reached

@@ -2,8 +2,8 @@ use Rattle.std.proofs.Common.{◌≡◌, ◌+◌, Some, Option, IfSome, refl, sy
 use Rattle.std.specs.Option.{option_map}
 use Rattle.edge.specs.Disk.{DiskState}
 use Rattle.edge.specs.Moments.{Nowhere}
-use Rattle.edge.proofs.Steps.{read_step, step_more}
-use Rattle.block_disk.specs.Runs.{after_reads}
+use Rattle.edge.proofs.Steps.{read_step, step_more, step_within}
+use Rattle.block_disk.specs.Runs.{blocks_in, after_reads}
 use Rattle.block_disk.proofs.OneMore.{reads_content, reads_next, holds_read}
 use Rattle.block_disk.proofs.read.read_run.Goals as goal
 
@@ -11,8 +11,10 @@ pub returns-in_err-read-clause-step : goal.returns-in_err-read-clause-step
 returns-in_err-read-clause-step g c = λ s told.
     let d = g.D.Disk in
     let before = c.loop-k.invariant.step s told in
-    step_more d.state d.moment d.left_since c.args.disk.now c.loop-k.disk c.read.new.self Nowhere s before
-    (read_step d.state d.moment d.left_since c.loop-k.disk c.read.new.self Nowhere before.reached before.told c.read.ensures.state c.read.ensures.time)
+    step_within d.state d.moment d.left_since (c.loop-k.k + 1) 0 0 (blocks_in c.args.into.now) 0 0 c.args.disk.now c.read.new.self Nowhere Nowhere s (λ block none. none)
+    (omega (arith, c.loop-k.invariant.count, c.loop-k-test.true)) (omega arith) (omega arith)
+    (step_more d.state d.moment d.left_since c.loop-k.k 0 0 1 0 0 c.args.disk.now c.loop-k.disk c.read.new.self Nowhere s before
+    (read_step d.state d.moment d.left_since c.loop-k.disk c.read.new.self Nowhere before.reached before.told c.read.ensures.state c.read.ensures.time))
 
 pub loop-k-preserved : goal.loop-k-preserved
 loop-k-preserved g c =
@@ -30,7 +32,13 @@ loop-k-preserved g c =
       state = reads_next k (d.state c.args.disk.now) (d.state c.loop-k.disk) (d.state c.read.new.self) c.loop-k.invariant.state c.read.ensures.state;
       step = λ s told.
           let before = c.loop-k.invariant.step s told in
-          step_more d.state d.moment d.left_since c.args.disk.now c.loop-k.disk c.read.new.self Nowhere s before
+          step_more d.state d.moment d.left_since k 0 0 1 0 0 c.args.disk.now c.loop-k.disk c.read.new.self Nowhere s before
           (read_step d.state d.moment d.left_since c.loop-k.disk c.read.new.self Nowhere before.reached before.told c.read.ensures.state c.read.ensures.time);
       later = omega (arith, c.loop-k.invariant.later, c.read.ensures.cause.later);
     }
+
+pub returns-clause-step : goal.returns-clause-step
+returns-clause-step g c = λ s told.
+    let d = g.D.Disk in
+    step_within d.state d.moment d.left_since c.loop-k.k 0 0 (blocks_in c.args.into.now) 0 0 c.args.disk.now c.loop-k.disk Nowhere Nowhere s (λ block none. none)
+    (omega (arith, c.loop-k.invariant.count, c.loop-k.auto.k-end)) (omega arith) (omega arith) (c.loop-k.invariant.step s told)

@@ -13,6 +13,6 @@ invariant-loop-k g l =
       length : length l.into ≡ length l.fn.into;
       bytes : ForSome (d.state l.fn.disk) (λ s. HoldsRun s.content l.at l.k l.into);
       state : d.state l.disk ≡ option_map (after_reads l.k) (d.state l.fn.disk);
-      step : ForSome (d.state l.fn.disk) (Step d.state d.moment d.left_since l.fn.disk l.disk Nowhere);
+      step : ForSome (d.state l.fn.disk) (Step d.state d.moment d.left_since l.fn.disk l.disk Nowhere l.k 0 0);
       later : d.faults l.fn.disk ≤ d.faults l.disk;
     }
