@@ -1,4 +1,5 @@
 //! Disks in memory: what they hold, which calls fail, and what a crash leaves.
+ghost use Rattle.std.specs.Prelude.{◌<◌};
 
 use edge::{Disk, Failed, FuseDisk, MemDisk};
 use eu_base::List;
