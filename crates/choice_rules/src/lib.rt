@@ -1,0 +1,5 @@
+//! The rules of IF and SELECT.
+#![tactic(auto)]
+
+pub mod choice;
+pub mod selection;
