@@ -4,7 +4,7 @@ use Rattle.elan_types.specs.declared.core_phrase.Actual.{Actual}
 use Rattle.elan_scope.specs.Ruled.{Ruled, gives}
 use Rattle.elan_scope.specs.Answer.{Is}
 use Rattle.value_rules.specs.Calls.{given, given_next}
-use Rattle.elan_meant.proofs.Given.{given_none, given_more, behind}
+use Rattle.value_rules.proofs.Given.{given_none, given_more, behind}
 use Rattle.value_rules.proofs.call.given.Goals as goal
 
 pub loop-operand-init : goal.loop-operand-init
