@@ -1,13 +1,17 @@
 //! IF: conditions, and parts that deliver the same.
 
-ghost use Rattle.std.specs.Prelude.{◌≡◌, ◌++◌, IfOk, OnOk, Some};
+ghost use Rattle.std.specs.Prelude.{◌≡◌, ◌∷◌, [], IfOk, Some};
+ghost use Rattle.elan_meant.specs.declared.meant.Meant.TheVariants as means;
+ghost use Rattle.elan_scope.specs.Ruled.{gives};
 ghost use Rattle.choice_rules.specs.Choices as spec;
 ghost use Rattle.elan_scope.specs.Answer.{Is};
 
 use elan_meant::meant::{Guarded, Meant, Part};
 use elan_meant::operands::delivers;
-use elan_meant::row::{Judged, append};
-use elan_meant::part::{one, part_of, unreached, value_of, valued};
+use elan_meant::row::{Judged, appended, both};
+use elan_meant::part::{one, part_of, value_of, valued};
+use elan_scope::delivery::Delivery;
+use crate::parts::{delivery_in, joined, part_actions, part_value};
 use elan_scope::trouble::Trouble;
 use elan_types::{Action, ElanType, ValuePhrase, Why};
 use eu_base::{Boxed, List, NoMemory};
@@ -26,128 +30,57 @@ fn truth(alloc: Global, condition: Meant) -> Result<Option<Boxed<ValuePhrase>>, 
 }
 
 /// A condition, and the units that it guards.
-pub fn guarded(alloc: Global, condition: Meant, units: Meant) -> Result<Guarded, NoMemory>
-    ensures { IfOk result (λ branch. branch ≡ spec.guarded condition units) }
+pub fn guarded(alloc: Global, condition: Meant, units: Meant) -> Judged
+    ensures { Is result (gives (means.Branches (spec.guarded condition units ∷ []))) }
 {
     match truth(alloc, condition) {
-        Err(refusal) => {
+        Err(_refusal) => {
             units.let_go();
-            Err(refusal)
+            Err(Trouble::NoMemory)
         }
-        Ok(condition) => Ok(Guarded {
-            condition,
-            part: part_of(alloc, units),
-        }),
+        Ok(condition) => {
+            let mut branches = List::new(alloc);
+            branches.push(Guarded {
+                condition,
+                part: part_of(alloc, units),
+            })?;
+            Ok(Meant::Branches(branches))
+        }
     }
 }
 
+// What IF does by parts that deliver nothing.
 fn if_actions(
     alloc: Global,
     condition: Boxed<ValuePhrase>,
-    first: List<Action>,
-    second: List<Action>,
+    first: Part,
+    second: Part,
 ) -> Result<List<Action>, NoMemory>
-    ensures { IfOk result (λ actions. actions ≡ spec.if_actions condition first second) }
+    ensures { IfOk result (λ actions. actions ≡ spec.if_actions condition (spec.part_actions first) (spec.part_actions second)) }
 {
+    let first = part_actions(alloc, first);
+    let second = part_actions(alloc, second);
     one(alloc, Action::If(condition.into_inner(), first, second))
 }
 
+// What IF delivers by parts that deliver a value of this type.
 fn if_value(
     alloc: Global,
     of: ElanType,
     condition: Boxed<ValuePhrase>,
-    first: Boxed<ValuePhrase>,
-    second: Boxed<ValuePhrase>,
+    first: Part,
+    second: Part,
 ) -> Result<Part, NoMemory>
-    ensures { IfOk result (λ p. p ≡ spec.if_value of condition first second) }
+    ensures { IfOk result (λ p. p ≡ spec.if_value of condition (spec.part_value of first) (spec.part_value of second)) }
 {
+    let first = part_value(alloc, of, first);
+    let (first, second) = both(first, part_value(alloc, of, second))?;
     let value = Boxed::new(alloc, ValuePhrase::If(condition, first, second))?;
     Ok(Part::Value(of, value))
 }
 
-// One of two parts, of which the first delivers a value.
-fn value_or(
-    alloc: Global,
-    condition: Boxed<ValuePhrase>,
-    of: ElanType,
-    first: Boxed<ValuePhrase>,
-    second: Part,
-) -> Result<Option<Part>, NoMemory>
-    ensures { IfOk result (λ p. p ≡ spec.chosen_of condition (Part.Value of first) second) }
-{
-    match second {
-        Part::Done(actions) => {
-            Action::all_let_go(actions);
-            Ok(None)
-        }
-        Part::Left(actions) => {
-            let second = unreached(alloc, actions, of)?;
-            let part = if_value(alloc, of, condition, first, second)?;
-            Ok(Some(part))
-        }
-        Part::Value(other, second) => {
-            if of.is_same(other) {
-                let part = if_value(alloc, of, condition, first, second)?;
-                Ok(Some(part))
-            } else {
-                Ok(None)
-            }
-        }
-    }
-}
-
-// One of two parts, of which the first ends with a LEAVE.
-fn left_or(
-    alloc: Global,
-    condition: Boxed<ValuePhrase>,
-    first: List<Action>,
-    second: Part,
-) -> Result<Option<Part>, NoMemory>
-    ensures { IfOk result (λ p. p ≡ spec.chosen_of condition (Part.Left first) second) }
-{
-    match second {
-        Part::Done(second) => {
-            let actions = if_actions(alloc, condition, first, second)?;
-            Ok(Some(Part::Done(actions)))
-        }
-        Part::Left(second) => {
-            let actions = if_actions(alloc, condition, first, second)?;
-            Ok(Some(Part::Left(actions)))
-        }
-        Part::Value(of, second) => {
-            let first = unreached(alloc, first, of)?;
-            let part = if_value(alloc, of, condition, first, second)?;
-            Ok(Some(part))
-        }
-    }
-}
-
-// One of two parts, of which the first delivers nothing.
-fn done_or(
-    alloc: Global,
-    condition: Boxed<ValuePhrase>,
-    first: List<Action>,
-    second: Part,
-) -> Result<Option<Part>, NoMemory>
-    ensures { IfOk result (λ p. p ≡ spec.chosen_of condition (Part.Done first) second) }
-{
-    match second {
-        Part::Done(second) => {
-            let actions = if_actions(alloc, condition, first, second)?;
-            Ok(Some(Part::Done(actions)))
-        }
-        Part::Left(second) => {
-            let actions = if_actions(alloc, condition, first, second)?;
-            Ok(Some(Part::Done(actions)))
-        }
-        Part::Value(_of, second) => {
-            second.into_inner().let_go();
-            Ok(None)
-        }
-    }
-}
-
 // One of two parts, which deliver the same. One that ends with a LEAVE agrees with every type.
+#[tactic(auto, using(crate::proofs::Chosen::chosen_is))]
 fn chosen_of(
     alloc: Global,
     condition: Boxed<ValuePhrase>,
@@ -156,10 +89,25 @@ fn chosen_of(
 ) -> Result<Option<Part>, NoMemory>
     ensures { IfOk result (λ p. p ≡ spec.chosen_of condition first second) }
 {
-    match first {
-        Part::Done(first) => done_or(alloc, condition, first, second),
-        Part::Left(first) => left_or(alloc, condition, first, second),
-        Part::Value(of, first) => value_or(alloc, condition, of, first, second),
+    match joined(delivery_in(&first), delivery_in(&second)) {
+        None => {
+            condition.into_inner().let_go();
+            first.let_go();
+            second.let_go();
+            Ok(None)
+        }
+        Some(Delivery::Nothing) => {
+            let actions = if_actions(alloc, condition, first, second)?;
+            Ok(Some(Part::Done(actions)))
+        }
+        Some(Delivery::Open) => {
+            let actions = if_actions(alloc, condition, first, second)?;
+            Ok(Some(Part::Left(actions)))
+        }
+        Some(Delivery::Of(of)) => {
+            let part = if_value(alloc, of, condition, first, second)?;
+            Ok(Some(part))
+        }
     }
 }
 
@@ -222,29 +170,15 @@ fn branches_in(alloc: Global, meant: Meant) -> List<Guarded>
     }
 }
 
-// Adds the branches of a part.
-fn add_branches(out: &mut List<Guarded>, part: Meant) -> Result<(), NoMemory>
-    ensures { OnOk result (out.new ≡ out.old ++ spec.branches_in part) }
-{
-    match part {
-        Meant::Branches(branches) => append(out, branches),
-        other => {
-            other.let_go();
-            Ok(())
-        }
-    }
-}
-
 /// The branches of parts, one after another.
-#[tactic(auto, using(crate::proofs::Lists::branches_push))]
 pub fn branches_of(alloc: Global, parts: List<Meant>) -> Result<List<Guarded>, NoMemory>
     ensures { IfOk result (λ branches. branches ≡ spec.branches_of parts) }
 {
-    let mut branches = List::new(alloc);
+    let mut branches = Ok(List::new(alloc));
     for part in parts.into_vec() {
-        add_branches(&mut branches, part)?;
+        branches = appended(branches, branches_in(alloc, part));
     }
-    Ok(branches)
+    branches
 }
 
 /// Branches, and the units of ELSE.

@@ -2,4 +2,5 @@
 #![tactic(auto)]
 
 pub mod choice;
+mod parts;
 pub mod selection;

@@ -1,16 +1,17 @@
 //! SELECT: labels, and parts that deliver the same.
 
-ghost use Rattle.std.specs.Prelude.{◌≡◌, ◌++◌, ◌∷◌, [], IfOk, OnOk, Some};
+ghost use Rattle.std.specs.Prelude.{◌≡◌, ◌∷◌, [], IfOk, Some};
 ghost use Rattle.elan_meant.specs.declared.meant.Meant.TheVariants as means;
 ghost use Rattle.choice_rules.specs.Choices as spec;
 ghost use Rattle.elan_scope.specs.Answer.{Is, Gives};
 
+use crate::parts::{delivery_in, joined, part_actions, part_value};
 use elan_scope::delivery::Delivery;
 use elan_meant::meant::{Labelled, Meant, Part};
 use elan_meant::operands::delivers;
 use elan_meant::predefined::exists;
-use elan_meant::row::{Judged, append, both};
-use elan_meant::part::{blank, one, part_of, unreached, value_of, valued};
+use elan_meant::row::{Judged, appended, both, pushed};
+use elan_meant::part::{one, part_of, value_of, valued};
 use elan_scope::scope::Found;
 use elan_scope::trouble::Trouble;
 use elan_types::{Action, Arm, ElanType, ValueArm, ValuePhrase, Why};
@@ -68,69 +69,38 @@ fn labels_in(alloc: Global, meant: Meant) -> List<i16>
 }
 
 /// Labels, and the units that they choose.
-pub fn labelled(alloc: Global, labels: Meant, units: Meant) -> Labelled
-    ensures { result ≡ spec.arm_of (spec.labels_in labels) units }
+pub fn labelled(alloc: Global, labels: Meant, units: Meant) -> Judged
+    ensures { Is result (spec.labelled labels units) }
 {
-    Labelled {
+    let mut arms = List::new(alloc);
+    arms.push(Labelled {
         labels: labels_in(alloc, labels),
         part: part_of(alloc, units),
-    }
+    })?;
+    Ok(Meant::Arms(arms))
 }
 
-// Adds the arms of a part.
-fn add_arms(out: &mut List<Labelled>, part: Meant) -> Result<(), NoMemory>
-    ensures { OnOk result (out.new ≡ out.old ++ spec.arms_in part) }
+fn arms_in(alloc: Global, meant: Meant) -> List<Labelled>
+    ensures { result ≡ spec.arms_in meant }
 {
-    match part {
-        Meant::Arms(arms) => append(out, arms),
+    match meant {
+        Meant::Arms(arms) => arms,
         other => {
             other.let_go();
-            Ok(())
+            List::new(alloc)
         }
     }
 }
 
 /// The arms of parts, one after another.
-#[tactic(auto, using(crate::proofs::Lists::arms_push))]
 pub fn arms_of(alloc: Global, parts: List<Meant>) -> Result<List<Labelled>, NoMemory>
     ensures { IfOk result (λ arms. arms ≡ spec.arms_of parts) }
 {
-    let mut arms = List::new(alloc);
+    let mut arms = Ok(List::new(alloc));
     for part in parts.into_vec() {
-        add_arms(&mut arms, part)?;
+        arms = appended(arms, arms_in(alloc, part));
     }
-    Ok(arms)
-}
-
-// What a part delivers. One that ends with a LEAVE agrees with every type.
-fn delivery_in(part: &Part) -> Delivery
-    ensures { result ≡ spec.delivery_in part.now }
-{
-    match part {
-        Part::Done(_) => Delivery::Nothing,
-        Part::Value(of, _) => Delivery::Of(*of),
-        Part::Left(_) => Delivery::Open,
-    }
-}
-
-fn joined(delivery: Delivery, other: Delivery) -> Option<Delivery>
-    ensures { result ≡ spec.joined delivery other }
-{
-    match (delivery, other) {
-        (Delivery::Open, other) => Some(other),
-        (Delivery::Nothing, Delivery::Open) => Some(Delivery::Nothing),
-        (Delivery::Nothing, Delivery::Nothing) => Some(Delivery::Nothing),
-        (Delivery::Nothing, Delivery::Of(_)) => None,
-        (Delivery::Of(of), Delivery::Open) => Some(Delivery::Of(of)),
-        (Delivery::Of(_), Delivery::Nothing) => None,
-        (Delivery::Of(of), Delivery::Of(other)) => {
-            if of.is_same(other) {
-                Some(Delivery::Of(of))
-            } else {
-                None
-            }
-        }
-    }
+    arms
 }
 
 // What all parts deliver, if they agree.
@@ -145,32 +115,6 @@ fn agreed(delivery: Delivery, arms: &[Labelled]) -> Option<Delivery>
         };
     }
     agreed
-}
-
-fn part_actions(alloc: Global, part: Part) -> List<Action>
-    ensures { result ≡ spec.part_actions part }
-{
-    match part {
-        Part::Done(actions) => actions,
-        Part::Left(actions) => actions,
-        Part::Value(_of, value) => {
-            value.into_inner().let_go();
-            List::new(alloc)
-        }
-    }
-}
-
-fn part_value(alloc: Global, of: ElanType, part: Part) -> Result<Boxed<ValuePhrase>, NoMemory>
-    ensures { IfOk result (λ value. value ≡ spec.part_value of part) }
-{
-    match part {
-        Part::Done(actions) => {
-            Action::all_let_go(actions);
-            Boxed::new(alloc, blank(of))
-        }
-        Part::Left(actions) => unreached(alloc, actions, of),
-        Part::Value(_of, value) => Ok(value),
-    }
 }
 
 fn action_arm(alloc: Global, arm: Labelled) -> Arm
@@ -194,27 +138,24 @@ fn value_arm(alloc: Global, of: ElanType, arm: Labelled) -> Result<ValueArm, NoM
     })
 }
 
-#[tactic(auto, using(crate::proofs::Lists::action_arms_push))]
 fn action_arms(alloc: Global, arms: List<Labelled>) -> Result<List<Arm>, NoMemory>
     ensures { IfOk result (λ list. list ≡ spec.action_arms arms) }
 {
-    let mut list = List::new(alloc);
+    let mut list = Ok(List::new(alloc));
     for arm in arms.into_vec() {
-        list.push(action_arm(alloc, arm))?;
+        list = pushed(list, Ok(action_arm(alloc, arm)));
     }
-    Ok(list)
+    list
 }
 
-#[tactic(auto, using(crate::proofs::Lists::value_arms_push))]
 fn value_arms(alloc: Global, of: ElanType, arms: List<Labelled>) -> Result<List<ValueArm>, NoMemory>
     ensures { IfOk result (λ list. list ≡ spec.value_arms of arms) }
 {
-    let mut list = List::new(alloc);
+    let mut list = Ok(List::new(alloc));
     for arm in arms.into_vec() {
-        let arm = value_arm(alloc, of, arm)?;
-        list.push(arm)?;
+        list = pushed(list, value_arm(alloc, of, arm));
     }
-    Ok(list)
+    list
 }
 
 fn select_actions(
@@ -270,18 +211,6 @@ fn selected_by(
         Some(Delivery::Of(of)) => {
             let value = select_value(alloc, of, value, arms, otherwise)?;
             Ok(valued(at, of, value))
-        }
-    }
-}
-
-fn arms_in(alloc: Global, meant: Meant) -> List<Labelled>
-    ensures { result ≡ spec.arms_in meant }
-{
-    match meant {
-        Meant::Arms(arms) => arms,
-        other => {
-            other.let_go();
-            List::new(alloc)
         }
     }
 }

@@ -22,9 +22,8 @@ pub fn two_of<T: Drop>(mut parts: List<T>) -> Option<(T, T)>
     if parts.len() != 2 {
         return None;
     }
-    let right = parts.pop()?;
-    let left = parts.pop()?;
-    Some((left, right))
+    let right = parts.pop();
+    parts.pop().zip(right)
 }
 
 /// Three parts, where there are three.
@@ -34,10 +33,10 @@ pub fn three_of<T: Drop>(mut parts: List<T>) -> Option<(T, T, T)>
     if parts.len() != 3 {
         return None;
     }
-    let right = parts.pop()?;
-    match two_of(parts) {
+    let right = parts.pop();
+    match two_of(parts).zip(right) {
         None => None,
-        Some((left, middle)) => Some((left, middle, right)),
+        Some(((left, middle), right)) => Some((left, middle, right)),
     }
 }
 
@@ -48,9 +47,9 @@ pub fn four_of<T: Drop>(mut parts: List<T>) -> Option<(T, T, T, T)>
     if parts.len() != 4 {
         return None;
     }
-    let last = parts.pop()?;
-    match three_of(parts) {
+    let last = parts.pop();
+    match three_of(parts).zip(last) {
         None => None,
-        Some((first, second, third)) => Some((first, second, third, last)),
+        Some(((first, second, third), last)) => Some((first, second, third, last)),
     }
 }

@@ -4,7 +4,7 @@ use elan_types::{Action, Body, Change, ElanType, Operation, PlacePhrase, ValuePh
 use eu_base::{Boxed, List};
 
 /// What a predefined operator or procedure does.
-#[derive(Clone, Copy, PartialEq, Eq)]
+#[derive(Clone, Copy)]
 pub enum Does {
     /// Delivers the result of an operation, of this type.
     Delivers(Operation, ElanType),

@@ -2,9 +2,12 @@
 
 ghost use Rattle.std.specs.Prelude.{◌≡◌, IfOk, [], ◌∷◌};
 ghost use Rattle.elan_meant.specs.Parts as spec;
+ghost use Rattle.elan_scope.specs.Ruled.{gives};
+ghost use Rattle.elan_scope.specs.Answer.{Is};
 
 use crate::meant::{Meant, Part};
 use crate::operands::delivers;
+use crate::row::Judged;
 use elan_types::{Action, ElanType, PlacePhrase, ValuePhrase};
 use eu_base::{Boxed, List, NoMemory};
 use std::alloc::Global;
@@ -23,6 +26,24 @@ pub fn value_of(alloc: Global, meant: Meant) -> Result<Boxed<ValuePhrase>, NoMem
         other => {
             other.let_go();
             Boxed::new(alloc, ValuePhrase::Truth(false))
+        }
+    }
+}
+
+/// The same without a box.
+pub fn value_in(meant: Meant) -> ValuePhrase
+    ensures { result ≡ spec.value_of meant }
+{
+    match meant {
+        Meant::Value {
+            at: _at,
+            of: _of,
+            value,
+            variable: _variable,
+        } => value.into_inner(),
+        other => {
+            other.let_go();
+            ValuePhrase::Truth(false)
         }
     }
 }
@@ -140,13 +161,8 @@ pub fn valued(at: u32, of: ElanType, value: Boxed<ValuePhrase>) -> Meant
 }
 
 /// The same of a value that has no box yet.
-pub fn delivering(
-    alloc: Global,
-    at: u32,
-    of: ElanType,
-    value: ValuePhrase,
-) -> Result<Meant, NoMemory>
-    ensures { IfOk result (λ m. m ≡ spec.valued at of value) }
+pub fn delivering(alloc: Global, at: u32, of: ElanType, value: ValuePhrase) -> Judged
+    ensures { Is result (gives (spec.valued at of value)) }
 {
     let value = Boxed::new(alloc, value)?;
     Ok(valued(at, of, value))
@@ -162,24 +178,24 @@ pub fn one(alloc: Global, action: Action) -> Result<List<Action>, NoMemory>
 }
 
 /// A unit that delivers nothing.
-pub fn unit_of(alloc: Global, actions: List<Action>) -> Result<Meant, NoMemory>
-    ensures { IfOk result (λ m. m ≡ spec.unit_of actions) }
+pub fn unit_of(alloc: Global, actions: List<Action>) -> Judged
+    ensures { Is result (gives (spec.unit_of actions)) }
 {
     let units = one(alloc, Action::Unit(actions))?;
     Ok(Meant::Done(units))
 }
 
 /// A phrase that delivers nothing, and does this.
-pub fn done(alloc: Global, action: Action) -> Result<Meant, NoMemory>
-    ensures { IfOk result (λ m. m ≡ Meant.Done (action ∷ [])) }
+pub fn done(alloc: Global, action: Action) -> Judged
+    ensures { Is result (gives (Meant.Done (action ∷ []))) }
 {
     let actions = one(alloc, action)?;
     Ok(Meant::Done(actions))
 }
 
 /// A unit that delivers nothing, and does this.
-pub fn unit_doing(alloc: Global, action: Action) -> Result<Meant, NoMemory>
-    ensures { IfOk result (λ m. m ≡ spec.unit_of (action ∷ [])) }
+pub fn unit_doing(alloc: Global, action: Action) -> Judged
+    ensures { Is result (gives (spec.unit_of (action ∷ []))) }
 {
     let actions = one(alloc, action)?;
     unit_of(alloc, actions)

@@ -1,7 +1,7 @@
 //! What several phrases mean together. Where one has no meaning the others are let go here and not in the caller, whose proof
 //! would be long with exits at which trees are let go.
 
-ghost use Rattle.std.specs.Prelude.{◌≡◌, ◌++◌, [], IfOk, OnOk};
+ghost use Rattle.std.specs.Prelude.{◌≡◌, ◌++◌, ◌∷◌, [], List, IfOk, OnOk};
 ghost use Rattle.elan_scope.specs.Ruled.{Ruled, gives, before, beside, joined};
 ghost use Rattle.elan_scope.specs.Answer.{Is};
 
@@ -110,6 +110,41 @@ pub fn both<A: Drop, B: Drop>(
         Ok(first) => match second {
             Err(refusal) => Err(refusal),
             Ok(second) => Ok((first, second)),
+        },
+    }
+}
+
+/// A list and one item more, unless memory ran out for one of them.
+pub fn pushed<T: Drop>(
+    list: Result<List<T>, NoMemory>,
+    item: Result<T, NoMemory>,
+) -> Result<List<T>, NoMemory>
+    ensures { (xs : List T) → (x : T) → IfOk list (λ l. l ≡ xs) → IfOk item (λ i. i ≡ x) → IfOk result (λ l. l ≡ xs ++ x ∷ []) }
+{
+    match list {
+        Err(refusal) => Err(refusal),
+        Ok(mut list) => match item {
+            Err(refusal) => Err(refusal),
+            Ok(item) => match list.push(item) {
+                Err(refusal) => Err(refusal),
+                Ok(()) => Ok(list),
+            },
+        },
+    }
+}
+
+/// A list and the items of another, unless memory ran out.
+pub fn appended<T: Drop>(
+    list: Result<List<T>, NoMemory>,
+    more: List<T>,
+) -> Result<List<T>, NoMemory>
+    ensures { (xs : List T) → IfOk list (λ l. l ≡ xs) → IfOk result (λ l. l ≡ xs ++ more) }
+{
+    match list {
+        Err(refusal) => Err(refusal),
+        Ok(mut list) => match append(&mut list, more) {
+            Err(refusal) => Err(refusal),
+            Ok(()) => Ok(list),
         },
     }
 }

@@ -1,13 +1,8 @@
 //! The rules of phrases with several parts, over the list of these parts.
 
-ghost use Rattle.std.specs.Prelude.{◌∷◌, []};
 ghost use Rattle.elan_scope.specs.declared.known.Known.{Known};
 ghost use Rattle.elan_scope.specs.Phrase as form;
 ghost use Rattle.elan_rules.specs.Rules.{rule};
-ghost use Rattle.elan_meant.specs.declared.meant.Meant.TheVariants as means;
-ghost use Rattle.choice_rules.specs.Choices as choices;
-ghost use Rattle.unit_rules.specs.Units as units_spec;
-ghost use Rattle.elan_scope.specs.Ruled.{gives};
 ghost use Rattle.elan_scope.specs.Answer.{Is};
 
 use elan_meant::meant::Meant;
@@ -23,30 +18,6 @@ use unit_rules::body::refinement;
 use unit_rules::repetition::{counted, repeated};
 use unit_rules::store::initial;
 use value_rules::value::{cand, cor};
-
-fn branch(alloc: Global, condition: Meant, units: Meant) -> Judged
-    ensures { Is result (gives (means.Branches (choices.guarded condition units ∷ []))) }
-{
-    let branch = guarded(alloc, condition, units)?;
-    let mut branches = List::new(alloc);
-    branches.push(branch)?;
-    Ok(Meant::Branches(branches))
-}
-
-fn arm(alloc: Global, labels: Meant, units: Meant) -> Judged
-    ensures { Is result (choices.labelled labels units) }
-{
-    let mut arms = List::new(alloc);
-    arms.push(labelled(alloc, labels, units))?;
-    Ok(Meant::Arms(arms))
-}
-
-fn refined(alloc: Global, owner: Owner, units: Meant) -> Judged
-    ensures { Is result (gives (units_spec.body_with owner (units_spec.content_of units))) }
-{
-    let meant = refinement(alloc, owner, units)?;
-    Ok(meant)
-}
 
 /// CAND.
 pub fn cand_parts(alloc: Global, at: u32, parts: List<Meant>) -> Judged
@@ -84,7 +55,7 @@ pub fn branch_parts(alloc: Global, parts: List<Meant>) -> Judged
 {
     match two_of(parts) {
         None => Err(Trouble::Breaks(0, Why::Unknown)),
-        Some((condition, units)) => branch(alloc, condition, units),
+        Some((condition, units)) => guarded(alloc, condition, units),
     }
 }
 
@@ -104,7 +75,7 @@ pub fn arm_parts(alloc: Global, parts: List<Meant>) -> Judged
 {
     match two_of(parts) {
         None => Err(Trouble::Breaks(0, Why::Unknown)),
-        Some((labels, units)) => arm(alloc, labels, units),
+        Some((labels, units)) => labelled(alloc, labels, units),
     }
 }
 
@@ -124,10 +95,7 @@ pub fn counter_parts(alloc: Global, way: Way, parts: List<Meant>) -> Judged
 {
     match three_of(parts) {
         None => Err(Trouble::Breaks(0, Why::Unknown)),
-        Some((name, from, limit)) => {
-            let counter = counted(alloc, way, name, from, limit)?;
-            Ok(Meant::Counter(counter))
-        }
+        Some((name, from, limit)) => counted(alloc, way, name, from, limit),
     }
 }
 
@@ -151,7 +119,7 @@ pub fn refinement_parts(alloc: Global, owner: Owner, parts: List<Meant>) -> Judg
         None => Err(Trouble::Breaks(0, Why::Unknown)),
         Some((name, units)) => {
             name.let_go();
-            refined(alloc, owner, units)
+            refinement(alloc, owner, units)
         }
     }
 }

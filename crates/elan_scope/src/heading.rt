@@ -7,7 +7,7 @@ use elan_types::{ElanType, Parameter};
 use eu_base::{Bytes, List};
 
 /// PROCs and OPs have names of their own.
-#[derive(Clone, Copy, PartialEq, Eq)]
+#[derive(Clone, Copy)]
 pub enum Sort {
     Procedure,
     Operator,

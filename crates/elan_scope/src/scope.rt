@@ -17,7 +17,7 @@ pub enum Usage {
 }
 
 /// What an identifier without actuals denotes.
-#[derive(Clone, Copy, PartialEq, Eq)]
+#[derive(Clone, Copy)]
 pub enum Denotes {
     Variable(ElanType),
     Constant(ElanType),
@@ -81,7 +81,7 @@ pub struct Scope {
 }
 
 /// Where a name was declared: in the level, or in the PROC or OP.
-#[derive(Clone, Copy, PartialEq, Eq)]
+#[derive(Clone, Copy)]
 pub enum Home {
     Level,
     Routine,

@@ -7,7 +7,7 @@ use elan_types::Why;
 use eu_base::NoMemory;
 
 /// Why a phrase has no meaning.
-#[derive(Clone, Copy, PartialEq, Eq)]
+#[derive(Clone, Copy)]
 pub enum Trouble {
     NoMemory,
     /// The place of the first phrase in it that breaks a rule though all its parts have meaning, and the rule.

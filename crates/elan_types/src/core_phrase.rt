@@ -185,6 +185,11 @@ impl Action {
     pub fn all_let_go(_actions: List<Action>) {}
 }
 
+impl Scope {
+    /// Lets it go, with its lists.
+    pub fn let_go(self) {}
+}
+
 impl Body {
     /// Lets bodies go, with all their parts.
     pub fn all_let_go(_bodies: List<Body>) {}

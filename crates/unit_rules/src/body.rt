@@ -4,9 +4,10 @@ ghost use Rattle.std.specs.Prelude.{◌≡◌, ◌++◌, IfOk, OnOk};
 ghost use Rattle.elan_meant.specs.Parts as parts_of;
 ghost use Rattle.unit_rules.specs.Units as spec;
 ghost use Rattle.elan_scope.specs.Answer.{Is};
+ghost use Rattle.elan_scope.specs.Ruled.{gives};
 
 use elan_meant::meant::Meant;
-use elan_meant::row::{Judged, append};
+use elan_meant::row::{Judged, append, appended};
 use elan_meant::part::{actions, unreached};
 use elan_scope::trouble::Trouble;
 use elan_types::{Action, Body, Content, ElanType, Scope, ValuePhrase, Why};
@@ -80,8 +81,8 @@ fn content_as(
     }
 }
 
-fn body_with(alloc: Global, owner: Scope, content: Content) -> Result<Meant, NoMemory>
-    ensures { IfOk result (λ m. m ≡ spec.body_with owner content) }
+fn body_with(alloc: Global, owner: Scope, content: Content) -> Judged
+    ensures { Is result (gives (spec.body_with owner content)) }
 {
     let mut bodies = List::new(alloc);
     bodies.push(Body {
@@ -101,12 +102,16 @@ pub fn body(
 ) -> Judged
     ensures { Is result (spec.body at owner delivered units) }
 {
-    match content_as(alloc, delivered, units)? {
-        None => Err(Trouble::Breaks(at, Why::WrongType)),
-        Some(content) => {
-            let meant = body_with(alloc, owner, content)?;
-            Ok(meant)
+    match content_as(alloc, delivered, units) {
+        Err(_refusal) => {
+            owner.let_go();
+            Err(Trouble::NoMemory)
         }
+        Ok(None) => {
+            owner.let_go();
+            Err(Trouble::Breaks(at, Why::WrongType))
+        }
+        Ok(Some(content)) => body_with(alloc, owner, content),
     }
 }
 
@@ -125,22 +130,21 @@ fn content_of(alloc: Global, units: Meant) -> Content
 }
 
 /// A refinement, which delivers what its units deliver.
-pub fn refinement(alloc: Global, owner: Scope, units: Meant) -> Result<Meant, NoMemory>
-    ensures { IfOk result (λ m. m ≡ spec.body_with owner (spec.content_of units)) }
+pub fn refinement(alloc: Global, owner: Scope, units: Meant) -> Judged
+    ensures { Is result (gives (spec.body_with owner (spec.content_of units))) }
 {
     let content = content_of(alloc, units);
     body_with(alloc, owner, content)
 }
 
-// Adds the bodies of a part.
-fn add_bodies(out: &mut List<Body>, part: Meant) -> Result<(), NoMemory>
-    ensures { OnOk result (out.new ≡ out.old ++ spec.bodies_in part) }
+fn bodies_in(alloc: Global, part: Meant) -> List<Body>
+    ensures { result ≡ spec.bodies_in part }
 {
     match part {
-        Meant::Bodies(bodies) => append(out, bodies),
+        Meant::Bodies(bodies) => bodies,
         other => {
             other.let_go();
-            Ok(())
+            List::new(alloc)
         }
     }
 }
@@ -162,15 +166,14 @@ fn add(
 }
 
 /// A PROC or OP with its refinements.
-#[tactic(auto, using(crate::proofs::Lists::bodies_push))]
 pub fn bodies_of(alloc: Global, parts: List<Meant>) -> Result<List<Body>, NoMemory>
     ensures { IfOk result (λ bodies. bodies ≡ spec.bodies_of parts) }
 {
-    let mut bodies = List::new(alloc);
+    let mut bodies = Ok(List::new(alloc));
     for part in parts.into_vec() {
-        add_bodies(&mut bodies, part)?;
+        bodies = appended(bodies, bodies_in(alloc, part));
     }
-    Ok(bodies)
+    bodies
 }
 
 /// The units and the bodies of a level.

@@ -8,9 +8,9 @@ ghost use Rattle.elan_scope.specs.Answer.{Is};
 
 use elan_meant::meant::Meant;
 use elan_meant::row::{Judged, append};
-use elan_meant::part::{delivering, one, unit_of};
+use elan_meant::part::{delivering, one, unit_of, valued};
 use elan_scope::trouble::Trouble;
-use elan_types::{Action, Body, ElanType, ValuePhrase, Why};
+use elan_types::{Action, Body, ValuePhrase, Why};
 use eu_base::{Boxed, List, NoMemory};
 use std::alloc::Global;
 use std::mem::replace;
@@ -61,7 +61,10 @@ fn gathered(alloc: Global, parts: List<Meant>) -> Result<(List<Action>, Meant), 
     let mut actions = List::new(alloc);
     let mut last = Meant::Absent;
     for part in parts.into_vec() {
-        add(alloc, &mut actions, &mut last, part)?;
+        if let Err(refusal) = add(alloc, &mut actions, &mut last, part) {
+            last.let_go();
+            return Err(refusal);
+        }
     }
     Ok((actions, last))
 }
@@ -76,7 +79,10 @@ fn ended(alloc: Global, actions: List<Action>, last: Meant) -> Result<Meant, NoM
             of,
             value,
             variable: _variable,
-        } => delivering(alloc, at, of, ValuePhrase::After(actions, value)),
+        } => {
+            let value = Boxed::new(alloc, ValuePhrase::After(actions, value))?;
+            Ok(valued(at, of, value))
+        }
         Meant::Left(none) => {
             Action::all_let_go(none);
             Ok(Meant::Left(actions))
@@ -102,18 +108,8 @@ pub fn declaration(alloc: Global, parts: List<Meant>) -> Result<Meant, NoMemory>
 {
     let (actions, last) = gathered(alloc, parts)?;
     last.let_go();
-    unit_of(alloc, actions)
-}
-
-fn value_unit(
-    alloc: Global,
-    at: u32,
-    of: ElanType,
-    value: Boxed<ValuePhrase>,
-) -> Result<Meant, NoMemory>
-    ensures { IfOk result (λ m. m ≡ spec.value_unit at of value) }
-{
-    delivering(alloc, at, of, ValuePhrase::Unit(value))
+    let units = one(alloc, Action::Unit(actions))?;
+    Ok(Meant::Done(units))
 }
 
 /// An expression that stands alone.
@@ -126,14 +122,8 @@ pub fn alone(alloc: Global, meant: Meant) -> Judged
             of,
             value,
             variable: _variable,
-        } => {
-            let unit = value_unit(alloc, at, of, value)?;
-            Ok(unit)
-        }
-        Meant::Done(actions) => {
-            let unit = unit_of(alloc, actions)?;
-            Ok(unit)
-        }
+        } => delivering(alloc, at, of, ValuePhrase::Unit(value)),
+        Meant::Done(actions) => unit_of(alloc, actions),
         Meant::Left(actions) => {
             let units = one(alloc, Action::Unit(actions))?;
             Ok(Meant::Left(units))

@@ -4,6 +4,8 @@ ghost use Rattle.std.specs.Prelude.{◌≡◌, IfOk};
 ghost use Rattle.unit_rules.specs.Loops as spec;
 ghost use Rattle.elan_meant.specs.Parts as parts;
 ghost use Rattle.elan_scope.specs.Answer.{Is};
+ghost use Rattle.elan_scope.specs.Ruled.{gives};
+ghost use Rattle.elan_meant.specs.declared.meant.Meant.TheVariants as means;
 
 use elan_meant::meant::{Counted, Meant};
 use elan_meant::operands::delivers;
@@ -35,21 +37,15 @@ fn first_value(
 }
 
 /// A counter, its first value, and its limit.
-pub fn counted(
-    alloc: Global,
-    way: Way,
-    name: Meant,
-    from: Meant,
-    limit: Meant,
-) -> Result<Boxed<Counted>, NoMemory>
-    ensures { IfOk result (λ counter. counter ≡ spec.counted way name from limit) }
+pub fn counted(alloc: Global, way: Way, name: Meant, from: Meant, limit: Meant) -> Judged
+    ensures { Is result (gives (means.Counter (spec.counted way name from limit))) }
 {
     let are_numbers = are_numbers(&name, &from, &limit);
     let at = place_of(&name);
     let place = variable_of(name);
     let limit = written(limit);
     let from = first_value(alloc, written(from))?;
-    Boxed::new(
+    let counter = Boxed::new(
         alloc,
         Counted {
             are_numbers,
@@ -59,7 +55,8 @@ pub fn counted(
             way,
             limit,
         },
-    )
+    )?;
+    Ok(Meant::Counter(counter))
 }
 
 // What a loop does in its turns.
@@ -102,8 +99,8 @@ fn count(
     way: Way,
     limit: Option<Boxed<ValuePhrase>>,
     turns: Turns,
-) -> Result<Meant, NoMemory>
-    ensures { IfOk result (λ m. m ≡ spec.count counter from way limit turns.condition turns.units turns.until) }
+) -> Judged
+    ensures { Is result (gives (spec.count counter from way limit turns.condition turns.units turns.until)) }
 {
     let Turns {
         condition,
@@ -124,8 +121,8 @@ fn count(
     )
 }
 
-fn uncounted(alloc: Global, turns: Turns) -> Result<Meant, NoMemory>
-    ensures { IfOk result (λ m. m ≡ spec.uncounted turns.condition turns.units turns.until) }
+fn uncounted(alloc: Global, turns: Turns) -> Judged
+    ensures { Is result (gives (spec.uncounted turns.condition turns.units turns.until)) }
 {
     let Turns {
         condition,
@@ -159,10 +156,7 @@ fn counting(alloc: Global, counter: Boxed<Counted>, turns: Turns) -> Judged
             turns.let_go();
             Err(Trouble::Breaks(at, Why::NoVariable))
         }
-        Some(place) => {
-            let meant = count(alloc, place, from, way, limit, turns)?;
-            Ok(meant)
-        }
+        Some(place) => count(alloc, place, from, way, limit, turns),
     }
 }
 
@@ -181,10 +175,7 @@ fn looped(alloc: Global, at: u32, counter: Option<Boxed<Counted>>, turns: Turns)
     ensures { Is result (spec.looped at counter turns.condition turns.units turns.until) }
 {
     match counter {
-        None => {
-            let meant = uncounted(alloc, turns)?;
-            Ok(meant)
-        }
+        None => uncounted(alloc, turns),
         Some(counter) => match in_numbers(at, counter) {
             Err(trouble) => {
                 turns.let_go();

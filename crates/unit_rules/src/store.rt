@@ -7,10 +7,9 @@ ghost use Rattle.elan_scope.specs.Answer.{Is};
 use elan_meant::meant::Meant;
 use elan_meant::operands::delivers;
 use elan_meant::row::Judged;
-use elan_meant::part::{done, place_of, type_in, unit_doing, value_of, variable_of};
+use elan_meant::part::{done, place_of, type_in, unit_doing, value_in, variable_of};
 use elan_scope::trouble::Trouble;
 use elan_types::{Action, ElanType, PlacePhrase, ValuePhrase, Why};
-use eu_base::Boxed;
 use std::alloc::Global;
 
 // A variable is needed at the left.
@@ -19,19 +18,16 @@ fn assigned_to(
     place: Option<PlacePhrase>,
     at: u32,
     of: ElanType,
-    value: Boxed<ValuePhrase>,
+    value: ValuePhrase,
 ) -> Judged
     ensures { Is result (spec.assigned_to place at of value) }
 {
     match place {
         None => {
-            value.into_inner().let_go();
+            value.let_go();
             Err(Trouble::Breaks(at, Why::NoVariable))
         }
-        Some(place) => {
-            let meant = unit_doing(alloc, Action::Store(place, of, value.into_inner()))?;
-            Ok(meant)
-        }
+        Some(place) => unit_doing(alloc, Action::Store(place, of, value)),
     }
 }
 
@@ -64,8 +60,7 @@ pub fn assigned(alloc: Global, at: u32, left: Meant, right: Meant) -> Judged
         Ok(of) => {
             let at = place_of(&left);
             let place = variable_of(left);
-            let value = value_of(alloc, right)?;
-            assigned_to(alloc, place, at, of, value)
+            assigned_to(alloc, place, at, of, value_in(right))
         }
     }
 }
@@ -74,19 +69,16 @@ fn initial_to(
     alloc: Global,
     place: Option<PlacePhrase>,
     of: ElanType,
-    value: Boxed<ValuePhrase>,
+    value: ValuePhrase,
 ) -> Judged
     ensures { Is result (spec.initial_to place of value) }
 {
     match place {
         None => {
-            value.into_inner().let_go();
+            value.let_go();
             Err(Trouble::Breaks(0, Why::Unknown))
         }
-        Some(place) => {
-            let meant = done(alloc, Action::Store(place, of, value.into_inner()))?;
-            Ok(meant)
-        }
+        Some(place) => done(alloc, Action::Store(place, of, value)),
     }
 }
 
@@ -102,8 +94,7 @@ pub fn initial(alloc: Global, at: u32, name: Meant, init: Meant) -> Judged
         }
         Ok(of) => {
             let place = variable_of(name);
-            let value = value_of(alloc, init)?;
-            initial_to(alloc, place, of, value)
+            initial_to(alloc, place, of, value_in(init))
         }
     }
 }

@@ -2,7 +2,7 @@
 
 ghost use Rattle.std.specs.Prelude.{◌≡◌, IfOk, None, List, drop};
 ghost use Rattle.elan_types.specs.declared.core_phrase.Actual.{Actual as ActualPhrase};
-ghost use Rattle.elan_scope.specs.Ruled.{Ruled};
+ghost use Rattle.elan_scope.specs.Ruled.{Ruled, gives};
 ghost use Rattle.elan_meant.specs.declared.meant.Does.TheVariants as does_what;
 ghost use Rattle.value_rules.specs.Calls as spec;
 ghost use Rattle.elan_meant.specs.Parts as parts;
@@ -12,30 +12,28 @@ use elan_meant::operands::first_taking;
 use elan_scope::heading::{Sort, What, any_with_as_many};
 use elan_meant::meant::{Does, Meant};
 use elan_meant::predefined::{chosen, exists};
-use elan_meant::row::{Judged, and};
+use elan_meant::row::{Judged, and, pushed};
 use elan_meant::arity::{one_of, two_of};
-use elan_meant::part::{delivering, done, place_of, value_of, variable_of};
+use elan_meant::part::{delivering, done, place_of, value_in, variable_of};
 use elan_scope::scope::Scope;
 use elan_scope::trouble::Trouble;
 use elan_types::{
     Access, Action, Actual, Change, ElanType, Operation, Parameter, PlacePhrase, ValuePhrase, Why,
 };
-use eu_base::{Boxed, List, NoMemory};
+use eu_base::{List, NoMemory};
 use std::alloc::Global;
 
 // ---- predefined operators and procedures
 
 // The values of parts.
-#[tactic(auto, using(crate::proofs::Lists::values_push))]
 fn values_of(alloc: Global, operands: List<Meant>) -> Result<List<ValuePhrase>, NoMemory>
     ensures { IfOk result (λ values. values ≡ parts.values_of operands) }
 {
-    let mut values = List::new(alloc);
+    let mut values = Ok(List::new(alloc));
     for operand in operands.into_vec() {
-        let value = value_of(alloc, operand)?;
-        values.push(value.into_inner())?;
+        values = pushed(values, Ok(value_in(operand)));
     }
-    Ok(values)
+    values
 }
 
 // A variable is needed at the left.
@@ -44,19 +42,16 @@ fn changed_at(
     change: Change,
     at: u32,
     place: Option<PlacePhrase>,
-    value: Boxed<ValuePhrase>,
+    value: ValuePhrase,
 ) -> Judged
     ensures { Is result (spec.changed_at change at place value) }
 {
     match place {
         None => {
-            value.into_inner().let_go();
+            value.let_go();
             Err(Trouble::Breaks(at, Why::NoVariable))
         }
-        Some(place) => {
-            let meant = done(alloc, Action::Modify(change, place, value.into_inner()))?;
-            Ok(meant)
-        }
+        Some(place) => done(alloc, Action::Modify(change, place, value)),
     }
 }
 
@@ -68,8 +63,7 @@ fn changed(alloc: Global, change: Change, operands: List<Meant>) -> Judged
         Some((left, right)) => {
             let at = place_of(&left);
             let place = variable_of(left);
-            let value = value_of(alloc, right)?;
-            changed_at(alloc, change, at, place, value)
+            changed_at(alloc, change, at, place, value_in(right))
         }
     }
 }
@@ -85,8 +79,7 @@ fn delivered(
 {
     let values = values_of(alloc, operands)?;
     let value = ValuePhrase::Apply(operation, values);
-    let meant = delivering(alloc, at, of, value)?;
-    Ok(meant)
+    delivering(alloc, at, of, value)
 }
 
 fn put(alloc: Global, operands: List<Meant>) -> Judged
@@ -94,11 +87,7 @@ fn put(alloc: Global, operands: List<Meant>) -> Judged
 {
     match one_of(operands) {
         None => Err(Trouble::Breaks(0, Why::Unknown)),
-        Some(operand) => {
-            let value = value_of(alloc, operand)?;
-            let meant = done(alloc, Action::Put(value.into_inner()))?;
-            Ok(meant)
-        }
+        Some(operand) => done(alloc, Action::Put(value_in(operand))),
     }
 }
 
@@ -109,24 +98,18 @@ fn performed(alloc: Global, at: u32, does: Does, operands: List<Meant>) -> Judge
         Does::Delivers(operation, of) => delivered(alloc, at, operation, of, operands),
         Does::Changes(change) => changed(alloc, change, operands),
         Does::Puts => put(alloc, operands),
-        Does::EndsLine => {
-            let meant = done(alloc, Action::Line)?;
-            Ok(meant)
-        }
+        Does::EndsLine => done(alloc, Action::Line),
     }
 }
 
 // ---- own PROCs and OPs
 
 // A VAR parameter needs a variable.
-fn given_as(alloc: Global, parameter: Parameter, operand: Meant) -> Result<Actual, Trouble>
+fn given_as(parameter: Parameter, operand: Meant) -> Result<Actual, Trouble>
     ensures { Is result (spec.given_as parameter.access parameter.of operand) }
 {
     match parameter.access {
-        Access::Const => {
-            let value = value_of(alloc, operand)?;
-            Ok(Actual::Value(value.into_inner()))
-        }
+        Access::Const => Ok(Actual::Value(value_in(operand))),
         Access::Var => {
             let at = place_of(&operand);
             match variable_of(operand) {
@@ -139,7 +122,6 @@ fn given_as(alloc: Global, parameter: Parameter, operand: Meant) -> Result<Actua
 
 // What parameters were given, and the first of those that are left, if one is.
 fn give(
-    alloc: Global,
     actuals: Result<List<Actual>, Trouble>,
     rest: &[Parameter],
     operand: Meant,
@@ -151,7 +133,7 @@ fn give(
             operand.let_go();
             actuals
         }
-        [parameter, _others @ ..] => and(actuals, given_as(alloc, *parameter, operand)),
+        [parameter, _others @ ..] => and(actuals, given_as(*parameter, operand)),
     }
 }
 
@@ -175,7 +157,7 @@ fn given(
     let mut actuals = Ok(List::new(alloc));
     let mut rest = parameters;
     for operand in operands.into_vec() {
-        actuals = give(alloc, actuals, rest, operand);
+        actuals = give(actuals, rest, operand);
         rest = behind_first(rest);
     }
     actuals
@@ -187,8 +169,8 @@ fn call(
     number: usize,
     result_type: Option<ElanType>,
     actuals: List<Actual>,
-) -> Result<Meant, NoMemory>
-    ensures { IfOk result (λ m. m ≡ spec.call at number result_type actuals) }
+) -> Judged
+    ensures { Is result (gives (spec.call at number result_type actuals)) }
 {
     match result_type {
         None => done(alloc, Action::Call(number, actuals)),
@@ -203,8 +185,7 @@ pub fn called(alloc: Global, at: u32, number: usize, what: &What, operands: List
     match what {
         What::Routine(_, parameters, delivered) => {
             let actuals = given(alloc, parameters.as_slice(), operands)?;
-            let meant = call(alloc, at, number, *delivered, actuals)?;
-            Ok(meant)
+            call(alloc, at, number, *delivered, actuals)
         }
         What::Refinement(_) => Err(Trouble::Breaks(0, Why::Unknown)),
     }

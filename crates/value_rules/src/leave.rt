@@ -1,6 +1,7 @@
 //! LEAVE.
 
-ghost use Rattle.std.specs.Prelude.{◌≡◌, ◌∷◌, [], IfOk};
+ghost use Rattle.std.specs.Prelude.{◌≡◌, ◌∷◌, []};
+ghost use Rattle.elan_scope.specs.Ruled.{gives};
 ghost use Rattle.elan_types.specs.declared.core_phrase.Action.TheVariants as leaves;
 ghost use Rattle.elan_meant.specs.declared.meant.Meant.TheVariants as means;
 ghost use Rattle.value_rules.specs.Calls as spec;
@@ -14,7 +15,6 @@ use elan_meant::row::Judged;
 use elan_meant::part::one;
 use elan_scope::trouble::Trouble;
 use elan_types::{Action, Exit, Why};
-use eu_base::NoMemory;
 use std::alloc::Global;
 
 // Nothing is asked of the value where it is not known what is left.
@@ -47,8 +47,8 @@ fn leave_of(exit: Exit, value: Meant) -> Action
     }
 }
 
-fn leave_unit(alloc: Global, action: Action) -> Result<Meant, NoMemory>
-    ensures { IfOk result (λ m. m ≡ means.Left (leaves.Unit (action ∷ []) ∷ [])) }
+fn leave_unit(alloc: Global, action: Action) -> Judged
+    ensures { Is result (gives (means.Left (leaves.Unit (action ∷ []) ∷ []))) }
 {
     let actions = one(alloc, action)?;
     let units = one(alloc, Action::Unit(actions))?;
@@ -59,8 +59,7 @@ fn leave_as(alloc: Global, at: u32, exit: Exit, delivery: Delivery, value: Meant
     ensures { Is result (spec.leave_as at exit delivery value) }
 {
     if agrees(delivery, &value) {
-        let meant = leave_unit(alloc, leave_of(exit, value))?;
-        Ok(meant)
+        leave_unit(alloc, leave_of(exit, value))
     } else {
         value.let_go();
         Err(Trouble::Breaks(at, Why::WrongType))

@@ -1,6 +1,7 @@
 //! Identifiers without actuals, and names in their declarations.
 
-ghost use Rattle.std.specs.Prelude.{◌≡◌, IfOk};
+ghost use Rattle.std.specs.Prelude.{◌≡◌};
+ghost use Rattle.elan_scope.specs.Ruled.{gives};
 ghost use Rattle.elan_types.specs.declared.core_phrase.Access.TheVariants as accesses;
 ghost use Rattle.value_rules.specs.Calls as spec;
 ghost use Rattle.elan_scope.specs.Scope as scopes;
@@ -16,7 +17,7 @@ use elan_meant::part::{delivering, done};
 use elan_scope::scope::{Denotes, Found, Home, Scope, Usage};
 use elan_scope::trouble::Trouble;
 use elan_types::{Access, Action, ElanType, Parameter, PlacePhrase, ValuePhrase, Why};
-use eu_base::{Boxed, List, NoMemory};
+use eu_base::{Boxed, List};
 use std::alloc::Global;
 
 // The place of what is held with this access; only PROCs and OPs have parameters.
@@ -46,8 +47,8 @@ impl Held {
     }
 }
 
-fn variable(alloc: Global, at: u32, of: ElanType, held: Held) -> Result<Meant, NoMemory>
-    ensures { IfOk result (λ m. m ≡ spec.variable at of (spec.place_in held.home held.number held.access)) }
+fn variable(alloc: Global, at: u32, of: ElanType, held: Held) -> Judged
+    ensures { Is result (gives (spec.variable at of (spec.place_in held.home held.number held.access))) }
 {
     let value = Boxed::new(alloc, ValuePhrase::Load(held.place(), of))?;
     Ok(Meant::Value {
@@ -58,21 +59,15 @@ fn variable(alloc: Global, at: u32, of: ElanType, held: Held) -> Result<Meant, N
     })
 }
 
-fn constant(alloc: Global, at: u32, of: ElanType, held: Held) -> Result<Meant, NoMemory>
-    ensures { IfOk result (λ m. m ≡ spec.constant at of (spec.place_in held.home held.number held.access)) }
+fn constant(alloc: Global, at: u32, of: ElanType, held: Held) -> Judged
+    ensures { Is result (gives (spec.constant at of (spec.place_in held.home held.number held.access))) }
 {
     delivering(alloc, at, of, ValuePhrase::Load(held.place(), of))
 }
 
 // A CONST parameter is a constant, a VAR parameter a variable.
-fn parameter(
-    alloc: Global,
-    at: u32,
-    home: Home,
-    number: usize,
-    parameter: Parameter,
-) -> Result<Meant, NoMemory>
-    ensures { IfOk result (λ m. m ≡ spec.parameter at parameter.of parameter.access (spec.place_in home number parameter.access)) }
+fn parameter(alloc: Global, at: u32, home: Home, number: usize, parameter: Parameter) -> Judged
+    ensures { Is result (gives (spec.parameter at parameter.of parameter.access (spec.place_in home number parameter.access))) }
 {
     let held = Held {
         home,
@@ -93,14 +88,8 @@ fn referred(alloc: Global, at: u32, number: usize, delivery: Delivery) -> Judged
 {
     match delivery {
         Delivery::Open => Err(Trouble::Hangs),
-        Delivery::Nothing => {
-            let meant = done(alloc, Action::Refer(number))?;
-            Ok(meant)
-        }
-        Delivery::Of(of) => {
-            let meant = delivering(alloc, at, of, ValuePhrase::Refer(number, of))?;
-            Ok(meant)
-        }
+        Delivery::Nothing => done(alloc, Action::Refer(number)),
+        Delivery::Of(of) => delivering(alloc, at, of, ValuePhrase::Refer(number, of)),
     }
 }
 
@@ -154,18 +143,9 @@ fn denoted(
     ensures { Is result (spec.denoted known.now usage at scope.now name.now found.home found.number found.denotes) }
 {
     match found.denotes {
-        Denotes::Variable(of) => {
-            let meant = variable(alloc, at, of, plainly_held(found))?;
-            Ok(meant)
-        }
-        Denotes::Constant(of) => {
-            let meant = constant(alloc, at, of, plainly_held(found))?;
-            Ok(meant)
-        }
-        Denotes::Parameter(given) => {
-            let meant = parameter(alloc, at, found.home, found.number, given)?;
-            Ok(meant)
-        }
+        Denotes::Variable(of) => variable(alloc, at, of, plainly_held(found)),
+        Denotes::Constant(of) => constant(alloc, at, of, plainly_held(found)),
+        Denotes::Parameter(given) => parameter(alloc, at, found.home, found.number, given),
         Denotes::Procedure => {
             let actuals = List::new(alloc);
             applied(alloc, at, scope, Sort::Procedure, name, actuals)
@@ -210,8 +190,8 @@ pub fn named(
 // ---- declarations
 
 // A variable or constant can be given its initial value; nothing else has to be done.
-fn declared_as(alloc: Global, at: u32, found: Found) -> Result<Meant, NoMemory>
-    ensures { IfOk result (λ m. m ≡ spec.declared_as at found.home found.number found.denotes) }
+fn declared_as(alloc: Global, at: u32, found: Found) -> Judged
+    ensures { Is result (gives (spec.declared_as at found.home found.number found.denotes)) }
 {
     match found.denotes {
         Denotes::Variable(of) => variable(alloc, at, of, plainly_held(found)),
@@ -230,8 +210,7 @@ pub fn declared(alloc: Global, at: u32, scope: &Scope, name: &[u8]) -> Judged
         None => Err(Trouble::Breaks(0, Why::Unknown)),
         Some(found) => {
             if found.at == at {
-                let meant = declared_as(alloc, at, found)?;
-                Ok(meant)
+                declared_as(alloc, at, found)
             } else {
                 Err(Trouble::Breaks(at, Why::Doubled))
             }

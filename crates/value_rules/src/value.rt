@@ -1,6 +1,6 @@
 //! Numbers, brackets, CAND and COR.
 
-ghost use Rattle.std.specs.Prelude.{◌≡◌, IfOk};
+ghost use Rattle.std.specs.Prelude.{◌≡◌};
 ghost use Rattle.elan_types.specs.declared.elan_type.ElanType.TheVariants as types;
 ghost use Rattle.elan_types.specs.declared.core_phrase.ValuePhrase.TheVariants as values;
 ghost use Rattle.elan_meant.specs.Parts as parts;
@@ -14,7 +14,6 @@ use elan_meant::part::{delivering, value_of, valued};
 use elan_meant::row::{Judged, both};
 use elan_scope::trouble::Trouble;
 use elan_types::{ElanType, ValuePhrase, Why};
-use eu_base::NoMemory;
 use std::alloc::Global;
 
 /// A number that is written.
@@ -22,16 +21,14 @@ use std::alloc::Global;
 pub fn number(alloc: Global, at: u32, number: i16) -> Judged
     ensures { Is result (spec.number at number) }
 {
-    let meant = delivering(alloc, at, ElanType::Int, ValuePhrase::Number(number))?;
-    Ok(meant)
+    delivering(alloc, at, ElanType::Int, ValuePhrase::Number(number))
 }
 
 /// TRUE or FALSE.
 pub fn truth(alloc: Global, at: u32, truth: bool) -> Judged
     ensures { Is result (gives (parts.valued at types.Bool (values.Truth truth))) }
 {
-    let meant = delivering(alloc, at, ElanType::Bool, ValuePhrase::Truth(truth))?;
-    Ok(meant)
+    delivering(alloc, at, ElanType::Bool, ValuePhrase::Truth(truth))
 }
 
 pub fn bracketed(at: u32, meant: Meant) -> Judged
@@ -59,15 +56,15 @@ fn are_truths(left: &Meant, right: &Meant) -> bool
     delivers(ElanType::Bool, left) && delivers(ElanType::Bool, right)
 }
 
-fn cand_of(alloc: Global, at: u32, left: Meant, right: Meant) -> Result<Meant, NoMemory>
-    ensures { IfOk result (λ m. m ≡ spec.cand_of at (parts.value_of left) (parts.value_of right)) }
+fn cand_of(alloc: Global, at: u32, left: Meant, right: Meant) -> Judged
+    ensures { Is result (gives (spec.cand_of at (parts.value_of left) (parts.value_of right))) }
 {
     let (left, right) = both(value_of(alloc, left), value_of(alloc, right))?;
     delivering(alloc, at, ElanType::Bool, ValuePhrase::Cand(left, right))
 }
 
-fn cor_of(alloc: Global, at: u32, left: Meant, right: Meant) -> Result<Meant, NoMemory>
-    ensures { IfOk result (λ m. m ≡ spec.cor_of at (parts.value_of left) (parts.value_of right)) }
+fn cor_of(alloc: Global, at: u32, left: Meant, right: Meant) -> Judged
+    ensures { Is result (gives (spec.cor_of at (parts.value_of left) (parts.value_of right))) }
 {
     let (left, right) = both(value_of(alloc, left), value_of(alloc, right))?;
     delivering(alloc, at, ElanType::Bool, ValuePhrase::Cor(left, right))
@@ -77,8 +74,7 @@ pub fn cand(alloc: Global, at: u32, left: Meant, right: Meant) -> Judged
     ensures { Is result (spec.cand at left right) }
 {
     if are_truths(&left, &right) {
-        let meant = cand_of(alloc, at, left, right)?;
-        Ok(meant)
+        cand_of(alloc, at, left, right)
     } else {
         left.let_go();
         right.let_go();
@@ -90,8 +86,7 @@ pub fn cor(alloc: Global, at: u32, left: Meant, right: Meant) -> Judged
     ensures { Is result (spec.cor at left right) }
 {
     if are_truths(&left, &right) {
-        let meant = cor_of(alloc, at, left, right)?;
-        Ok(meant)
+        cor_of(alloc, at, left, right)
     } else {
         left.let_go();
         right.let_go();
