@@ -6,12 +6,12 @@ ghost use Rattle.elan_scope.specs.Ruled.{gives};
 ghost use Rattle.choice_rules.specs.Choices as spec;
 ghost use Rattle.elan_scope.specs.Answer.{Is};
 
+use crate::parts::{delivery_in, joined, part_actions, part_value};
 use elan_meant::meant::{Guarded, Meant, Part};
 use elan_meant::operands::delivers;
-use elan_meant::row::{Judged, appended, both};
 use elan_meant::part::{one, part_of, value_of, valued};
+use elan_meant::row::{Judged, appended, both};
 use elan_scope::delivery::Delivery;
-use crate::parts::{delivery_in, joined, part_actions, part_value};
 use elan_scope::trouble::Trouble;
 use elan_types::{Action, ElanType, ValuePhrase, Why};
 use eu_base::{Boxed, List, NoMemory};

@@ -6,12 +6,12 @@ ghost use Rattle.choice_rules.specs.Choices as spec;
 ghost use Rattle.elan_scope.specs.Answer.{Is, Gives};
 
 use crate::parts::{delivery_in, joined, part_actions, part_value};
-use elan_scope::delivery::Delivery;
 use elan_meant::meant::{Labelled, Meant, Part};
 use elan_meant::operands::delivers;
+use elan_meant::part::{one, part_of, value_of, valued};
 use elan_meant::predefined::exists;
 use elan_meant::row::{Judged, appended, both, pushed};
-use elan_meant::part::{one, part_of, value_of, valued};
+use elan_scope::delivery::Delivery;
 use elan_scope::scope::Found;
 use elan_scope::trouble::Trouble;
 use elan_types::{Action, Arm, ElanType, ValueArm, ValuePhrase, Why};

@@ -5,11 +5,11 @@ ghost use Rattle.unit_rules.specs.Units as units;
 ghost use Rattle.elan_meant.specs.Parts as parts;
 ghost use Rattle.elan_scope.specs.Answer.{Is};
 
-use elan_meant::operands::first_taking;
-use elan_scope::heading::Sort;
-use elan_meant::meant::Meant;
-use elan_meant::row::Judged;
 use elan_meant::arity::two_of;
+use elan_meant::meant::Meant;
+use elan_meant::operands::first_taking;
+use elan_meant::row::Judged;
+use elan_scope::heading::Sort;
 use elan_scope::scope::Scope;
 use elan_scope::trouble::Trouble;
 use elan_types::Why;

@@ -5,11 +5,11 @@ ghost use Rattle.elan_scope.specs.Phrase as form;
 ghost use Rattle.elan_rules.specs.Rules.{rule};
 ghost use Rattle.elan_scope.specs.Answer.{Is};
 
-use elan_meant::meant::Meant;
-use elan_meant::row::Judged;
 use choice_rules::choice::{choice, guarded};
 use choice_rules::selection::{labelled, selected};
 use elan_meant::arity::{four_of, three_of, two_of};
+use elan_meant::meant::Meant;
+use elan_meant::row::Judged;
 use elan_scope::trouble::Trouble;
 use elan_types::{Scope as Owner, Way, Why};
 use eu_base::List;

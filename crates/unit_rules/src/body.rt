@@ -7,8 +7,8 @@ ghost use Rattle.elan_scope.specs.Answer.{Is};
 ghost use Rattle.elan_scope.specs.Ruled.{gives};
 
 use elan_meant::meant::Meant;
-use elan_meant::row::{Judged, append, appended};
 use elan_meant::part::{actions, unreached};
+use elan_meant::row::{Judged, append, appended};
 use elan_scope::trouble::Trouble;
 use elan_types::{Action, Body, Content, ElanType, Scope, ValuePhrase, Why};
 use eu_base::{Boxed, List, NoMemory};

@@ -7,8 +7,8 @@ ghost use Rattle.unit_rules.specs.Units as spec;
 ghost use Rattle.elan_scope.specs.Answer.{Is};
 
 use elan_meant::meant::Meant;
-use elan_meant::row::{Judged, append};
 use elan_meant::part::{delivering, one, unit_of, valued};
+use elan_meant::row::{Judged, append};
 use elan_scope::trouble::Trouble;
 use elan_types::{Action, Body, ValuePhrase, Why};
 use eu_base::{Boxed, List, NoMemory};

@@ -9,8 +9,8 @@ ghost use Rattle.elan_meant.specs.declared.meant.Meant.TheVariants as means;
 
 use elan_meant::meant::{Counted, Meant};
 use elan_meant::operands::delivers;
-use elan_meant::row::Judged;
 use elan_meant::part::{actions, may_deliver, place_of, unit_doing, variable_of, written};
+use elan_meant::row::Judged;
 use elan_scope::trouble::Trouble;
 use elan_types::{Action, ElanType, PlacePhrase, ValuePhrase, Way, Why};
 use eu_base::{Boxed, List, NoMemory};

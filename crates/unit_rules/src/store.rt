@@ -6,8 +6,8 @@ ghost use Rattle.elan_scope.specs.Answer.{Is};
 
 use elan_meant::meant::Meant;
 use elan_meant::operands::delivers;
-use elan_meant::row::Judged;
 use elan_meant::part::{done, place_of, type_in, unit_doing, value_in, variable_of};
+use elan_meant::row::Judged;
 use elan_scope::trouble::Trouble;
 use elan_types::{Action, ElanType, PlacePhrase, ValuePhrase, Why};
 use std::alloc::Global;
@@ -65,12 +65,7 @@ pub fn assigned(alloc: Global, at: u32, left: Meant, right: Meant) -> Judged
     }
 }
 
-fn initial_to(
-    alloc: Global,
-    place: Option<PlacePhrase>,
-    of: ElanType,
-    value: ValuePhrase,
-) -> Judged
+fn initial_to(alloc: Global, place: Option<PlacePhrase>, of: ElanType, value: ValuePhrase) -> Judged
     ensures { Is result (spec.initial_to place of value) }
 {
     match place {

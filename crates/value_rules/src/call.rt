@@ -8,13 +8,13 @@ ghost use Rattle.value_rules.specs.Calls as spec;
 ghost use Rattle.elan_meant.specs.Parts as parts;
 ghost use Rattle.elan_scope.specs.Answer.{Is};
 
-use elan_meant::operands::first_taking;
-use elan_scope::heading::{Sort, What, any_with_as_many};
+use elan_meant::arity::{one_of, two_of};
 use elan_meant::meant::{Does, Meant};
+use elan_meant::operands::first_taking;
+use elan_meant::part::{delivering, done, place_of, value_in, variable_of};
 use elan_meant::predefined::{chosen, exists};
 use elan_meant::row::{Judged, and, pushed};
-use elan_meant::arity::{one_of, two_of};
-use elan_meant::part::{delivering, done, place_of, value_in, variable_of};
+use elan_scope::heading::{Sort, What, any_with_as_many};
 use elan_scope::scope::Scope;
 use elan_scope::trouble::Trouble;
 use elan_types::{

@@ -7,12 +7,12 @@ ghost use Rattle.elan_meant.specs.declared.meant.Meant.TheVariants as means;
 ghost use Rattle.value_rules.specs.Calls as spec;
 ghost use Rattle.elan_scope.specs.Answer.{Is};
 
-use elan_scope::delivery::Delivery;
-use elan_scope::known::Known;
 use elan_meant::meant::Meant;
 use elan_meant::operands::delivers;
-use elan_meant::row::Judged;
 use elan_meant::part::one;
+use elan_meant::row::Judged;
+use elan_scope::delivery::Delivery;
+use elan_scope::known::Known;
 use elan_scope::trouble::Trouble;
 use elan_types::{Action, Exit, Why};
 use std::alloc::Global;

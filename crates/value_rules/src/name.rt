@@ -7,13 +7,13 @@ ghost use Rattle.value_rules.specs.Calls as spec;
 ghost use Rattle.elan_scope.specs.Scope as scopes;
 ghost use Rattle.elan_scope.specs.Answer.{Is};
 
+use crate::call::applied;
+use elan_meant::meant::Meant;
+use elan_meant::part::{delivering, done};
+use elan_meant::row::Judged;
 use elan_scope::delivery::Delivery;
 use elan_scope::heading::{Sort, first_alike};
 use elan_scope::known::Known;
-use elan_meant::meant::Meant;
-use elan_meant::row::Judged;
-use crate::call::applied;
-use elan_meant::part::{delivering, done};
 use elan_scope::scope::{Denotes, Found, Home, Scope, Usage};
 use elan_scope::trouble::Trouble;
 use elan_types::{Access, Action, ElanType, Parameter, PlacePhrase, ValuePhrase, Why};
