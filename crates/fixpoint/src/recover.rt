@@ -1,7 +1,7 @@
 //! Which slot of a disk is taken.
 ghost use Rattle.std.specs.Prelude.{◌≡◌, ◌≤◌, ◌<◌, ◌-◌, ℕ, OnOk, IfOk, IfSome, IfNone, IsErrOf};
 ghost use Rattle.std.specs.Option.{ForSome};
-ghost use Rattle.edge.specs.Disk.{Blocks, IsSettled};
+ghost use Rattle.edge.specs.Disk.{Blocks, IsSettled, Tells};
 ghost use Rattle.edge.specs.Moments.{Step, Nowhere};
 ghost use Rattle.edge.specs.Faults.{HasCause};
 ghost use Rattle.eu_base.specs.Faults.{Rose};
@@ -71,7 +71,7 @@ impl Fix {
             (slot sequence root : ℕ) → IsTaken s.content slot sequence root
             → (slot ≡ fix.slot) × (sequence ≡ fix.sequence) × (root ≡ fix.root))) }
         // A disk with nothing left to sync is ready for a commit.
-        ensures fits { IfOk result (λ fix. ForSome (D.state disk.old) (λ s. IsSettled s → ForSome (D.state disk.new) (Fits fix))) }
+        ensures fits { IfOk result (λ fix. ForSome (D.state disk.old) (λ s. IsSettled s → Tells (D.state disk.new) (Fits fix))) }
         ensures foreign { IsErrOf result RecoverError.Foreign → ForSome (D.state disk.old) (λ s. IsForeign s.content) }
         ensures not_foreign { OnOk result (ForSome (D.state disk.old) (λ s. ¬ (IsForeign s.content))) }
         ensures none { IsErrOf result RecoverError.Foreign → ForSome (D.state disk.old) (λ s.

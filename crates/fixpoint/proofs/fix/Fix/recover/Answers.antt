@@ -1,9 +1,8 @@
-use Rattle.std.proofs.Common.{◌≡◌, ◌∙◌, sym, subst, arith}
-use Rattle.std.proofs.lemmas.Option.{same_Some}
+use Rattle.std.proofs.Common.{◌≡◌, sym, subst, arith}
 use Rattle.edge.specs.Disk.{Blocks}
 use Rattle.edge.specs.Moments.{Nowhere}
 use Rattle.edge.proofs.Steps.{step_more, step_within}
-use Rattle.fixpoint.specs.Fixpoints.{Holds, Fits}
+use Rattle.fixpoint.specs.Fixpoints.{Holds}
 use Rattle.fixpoint.specs.Found.{IsFound}
 use Rattle.fixpoint.proofs.Heads.{one_taken, foreign_none}
 use Rattle.fixpoint.proofs.fix.Fix.recover.Goals as goal
@@ -59,12 +58,14 @@ pub returns-in-None-clause-none : goal.returns-in-None-clause-none
 returns-in-None-clause-none g c = λ is s told slot sequence root. foreign_none s.content (returns-in-None-clause-foreign g c is s told) slot sequence root
 
 pub returns-in-Some-clause-fits : goal.returns-in-Some-clause-fits
-returns-in-Some-clause-fits g c = λ s told settled t told_new.
+returns-in-Some-clause-fits g c = λ s told settled.
     let step = returns-in-Some-clause-step g c s told in
     let fix = c.in-Some.fix in
-    let same : s.content ≡ step.reached.content = λ i block. sym (step.only.content block (λ none. none)) i in
-    let fits : Fits fix step.reached = record {
-      settled = λ block. step.only.written block (λ none. none) (settled block);
-      holds = subst (λ (content : Blocks). Holds fix content) same (returns-in-Some-clause-ok g c s told);
-    } in
-    subst (Fits fix) (same_Some step.reached t (sym step.told ∙ told_new)) fits
+    let same : s.content ≡ step.reached.content = λ i block. sym (step.only.content block (λ none. none)) i in (
+      step.reached,
+      step.told,
+      record {
+        settled = λ block. step.only.written block (λ none. none) (settled block);
+        holds = subst (λ (content : Blocks). Holds fix content) same (returns-in-Some-clause-ok g c s told);
+      },
+    )
