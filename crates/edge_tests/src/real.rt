@@ -38,6 +38,7 @@ fn a_file_keeps_blocks(rt: HostRuntime) -> Result<(), Fail> {
     assert_eq!(rt; block[0], 0);
     assert_eq!(rt; again.read(1048575, &mut block), Ok(()));
     assert_eq!(rt; block[0], 0);
+    fs::remove_file(&rt, "blocks")?;
     Ok(())
 }
 
@@ -48,6 +49,7 @@ fn the_end_of_a_file_may_lie_in_a_block(rt: HostRuntime) -> Result<(), Fail> {
     let mut disk = FileDisk::new(&rt, Bytes::from(rt.alloc(), b"short")?);
     assert_eq!(rt; disk.read(0, &mut block), Ok(()));
     assert_eq!(rt; (block[2], block[3], block[511]), (b'c', 0, 0));
+    fs::remove_file(&rt, "short")?;
     Ok(())
 }
 
