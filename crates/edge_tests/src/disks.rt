@@ -1,7 +1,8 @@
 //! Disks in memory: what they hold, which calls fail, and what a crash leaves.
-ghost use Rattle.std.specs.Prelude.{◌<◌};
 
-use edge::{Disk, Failed, FuseDisk, MemDisk};
+use crate::calls::Call::{Read, Sync, Write};
+use crate::calls::{FAULT, answers};
+use edge::{FuseDisk, MemDisk};
 use eu_base::List;
 use std::alloc::Global;
 use std::test::Fail;
@@ -11,41 +12,36 @@ fn disk_with(alloc: Global, fails: &[u32]) -> Result<MemDisk, Fail> {
     Ok(MemDisk::new(alloc, List::from_slice(alloc, fails)?))
 }
 
-// What stands at the front of a block, by a read through the trait.
-fn first_of<D: Disk>(disk: &mut D, at: u32) -> Result<u8, Failed>
-    requires { at < 1048576 }
-{
-    let mut block = [9; 512];
-    disk.read(at, &mut block)?;
-    Ok(block[0])
-}
-
 #[test]
 fn a_block_holds_what_was_written_last(rt: HostRuntime) -> Result<(), Fail> {
     let mut disk = disk_with(rt.alloc(), &[])?;
-    assert_eq!(rt; first_of(&mut disk, 1048575), Ok(0));
-    assert_eq!(rt; disk.write(1048575, &[1; 512]), Ok(()));
-    assert_eq!(rt; disk.write(3, &[2; 512]), Ok(()));
-    assert_eq!(rt; disk.sync(), Ok(()));
-    assert_eq!(rt; disk.write(3, &[3; 512]), Ok(()));
-    assert_eq!(rt; first_of(&mut disk, 1048575), Ok(1));
-    assert_eq!(rt; first_of(&mut disk, 3), Ok(3));
-    assert_eq!(rt; first_of(&mut disk, 4), Ok(0));
-    assert_eq!(rt; disk.wanted(), false);
+    let calls = [
+        (Read(255), 0),
+        (Write(255, 1), 0),
+        (Write(3, 2), 0),
+        (Sync, 0),
+        (Write(3, 3), 0),
+        (Read(255), 1),
+        (Read(3), 3),
+        (Read(4), 0),
+    ];
+    assert!(rt; answers(&mut disk, &calls) && !disk.wanted());
     Ok(())
 }
 
 #[test]
 fn exactly_the_listed_calls_fail(rt: HostRuntime) -> Result<(), Fail> {
     let mut disk = disk_with(rt.alloc(), &[2, 4, 5])?;
-    assert_eq!(rt; disk.write(7, &[1; 512]), Ok(()));
-    assert_eq!(rt; disk.write(7, &[2; 512]), Err(Failed));
-    assert_eq!(rt; first_of(&mut disk, 7), Ok(1));
-    assert_eq!(rt; first_of(&mut disk, 7), Err(Failed));
-    assert_eq!(rt; disk.sync(), Err(Failed));
+    let calls = [
+        (Write(7, 1), 0),
+        (Write(7, 2), FAULT),
+        (Read(7), 1),
+        (Read(7), FAULT),
+        (Sync, FAULT),
+    ];
+    assert!(rt; answers(&mut disk, &calls) && !disk.wanted());
     disk.crash(false);
-    assert_eq!(rt; first_of(&mut disk, 7), Ok(0));
-    assert_eq!(rt; disk.wanted(), false);
+    assert!(rt; answers(&mut disk, &[(Read(7), 0)]));
     Ok(())
 }
 
@@ -53,48 +49,58 @@ fn exactly_the_listed_calls_fail(rt: HostRuntime) -> Result<(), Fail> {
 fn a_crash_keeps_or_loses_what_was_not_synced(rt: HostRuntime) -> Result<(), Fail> {
     for keep in [false, true] {
         let mut disk = disk_with(rt.alloc(), &[])?;
-        assert_eq!(rt; disk.write(5, &[1; 512]), Ok(()));
-        assert_eq!(rt; disk.sync(), Ok(()));
-        assert_eq!(rt; disk.write(5, &[2; 512]), Ok(()));
-        assert_eq!(rt; disk.write(6, &[3; 512]), Ok(()));
+        let calls = [
+            (Write(5, 1), 0),
+            (Sync, 0),
+            (Write(5, 2), 0),
+            (Write(6, 3), 0),
+        ];
+        assert!(rt; answers(&mut disk, &calls));
         disk.crash(keep);
-        let left = (first_of(&mut disk, 5), first_of(&mut disk, 6));
-        assert_eq!(rt; left, if keep { (Ok(2), Ok(3)) } else { (Ok(1), Ok(0)) });
+        let left = if keep {
+            [(Read(5), 2), (Read(6), 3)]
+        } else {
+            [(Read(5), 1), (Read(6), 0)]
+        };
+        assert!(rt; answers(&mut disk, &left));
         disk.crash(!keep);
-        let later = (first_of(&mut disk, 5), first_of(&mut disk, 6));
-        assert_eq!(rt; later, left);
+        assert!(rt; answers(&mut disk, &left));
     }
     Ok(())
 }
 
 #[test]
 fn a_fuse_passes_so_many_calls(rt: HostRuntime) -> Result<(), Fail> {
-    let disk = disk_with(rt.alloc(), &[2])?;
-    let mut fuse = FuseDisk::after(disk, 3);
-    assert_eq!(rt; fuse.write(1, &[1; 512]), Ok(()));
-    assert_eq!(rt; fuse.sync(), Err(Failed));
-    assert_eq!(rt; first_of(&mut fuse, 1), Ok(1));
-    assert_eq!(rt; fuse.write(1, &[2; 512]), Err(Failed));
-    assert_eq!(rt; first_of(&mut fuse, 1), Err(Failed));
-    assert_eq!(rt; fuse.sync(), Err(Failed));
+    let mut fuse = FuseDisk::after(disk_with(rt.alloc(), &[2])?, 3);
+    let calls = [
+        (Write(1, 1), 0),
+        (Sync, FAULT),
+        (Read(1), 1),
+        (Write(1, 2), FAULT),
+        (Read(1), FAULT),
+        (Sync, FAULT),
+    ];
+    assert!(rt; answers(&mut fuse, &calls));
     let mut disk = fuse.into_inner();
-    assert_eq!(rt; first_of(&mut disk, 1), Ok(1));
+    assert!(rt; answers(&mut disk, &[(Read(1), 1)]));
     Ok(())
 }
 
 #[test]
 fn a_fuse_fails_from_a_sync_on(rt: HostRuntime) -> Result<(), Fail> {
-    let disk = disk_with(rt.alloc(), &[])?;
-    let mut fuse = FuseDisk::at_sync(disk, 2);
-    assert_eq!(rt; fuse.write(1, &[1; 512]), Ok(()));
-    assert_eq!(rt; fuse.sync(), Ok(()));
-    assert_eq!(rt; fuse.write(1, &[2; 512]), Ok(()));
-    assert_eq!(rt; fuse.sync(), Err(Failed));
-    assert_eq!(rt; fuse.write(1, &[3; 512]), Err(Failed));
-    assert_eq!(rt; first_of(&mut fuse, 1), Err(Failed));
+    let mut fuse = FuseDisk::at_sync(disk_with(rt.alloc(), &[])?, 2);
+    let calls = [
+        (Write(1, 1), 0),
+        (Sync, 0),
+        (Write(1, 2), 0),
+        (Sync, FAULT),
+        (Write(1, 3), FAULT),
+        (Read(1), FAULT),
+    ];
+    assert!(rt; answers(&mut fuse, &calls));
     let mut disk = fuse.into_inner();
-    assert_eq!(rt; first_of(&mut disk, 1), Ok(2));
+    assert!(rt; answers(&mut disk, &[(Read(1), 2)]));
     disk.crash(false);
-    assert_eq!(rt; first_of(&mut disk, 1), Ok(1));
+    assert!(rt; answers(&mut disk, &[(Read(1), 1)]));
     Ok(())
 }

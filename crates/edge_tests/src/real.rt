@@ -1,6 +1,8 @@
 //! Standard input, standard output, and a disk in a file.
 
-use edge::{Disk, Failed, Sink, Source};
+use crate::calls::Call::{Read, Sync, Write};
+use crate::calls::{FAULT, answers};
+use edge::{Sink, Source};
 use edge_real::{FileDisk, StdSink, StdSource};
 use eu_base::Bytes;
 use std::fs;
@@ -21,48 +23,44 @@ fn standard_output_takes_some(rt: HostRuntime) {
 
 #[test]
 fn a_file_keeps_blocks(rt: HostRuntime) -> Result<(), Fail> {
-    let alloc = rt.alloc();
-    let mut block = [9; 512];
-    let mut disk = FileDisk::new(&rt, Bytes::from(alloc, b"blocks")?);
-    assert_eq!(rt; disk.read(3, &mut block), Ok(()));
-    assert_eq!(rt; block[511], 0);
-    assert_eq!(rt; disk.sync(), Ok(()));
+    let mut disk = FileDisk::new(&rt, Bytes::from(rt.alloc(), b"blocks")?);
+    assert!(rt; answers(&mut disk, &[(Read(3), 0), (Sync, 0)]));
     assert!(rt; fs::metadata(&rt, "blocks").is_err());
-    assert_eq!(rt; disk.write(3, &[7; 512]), Ok(()));
-    assert_eq!(rt; disk.sync(), Ok(()));
-    assert_eq!(rt; fs::metadata(&rt, "blocks")?.len(), 2048);
-    let mut again = FileDisk::new(&rt, Bytes::from(alloc, b"blocks")?);
-    assert_eq!(rt; again.read(3, &mut block), Ok(()));
-    assert_eq!(rt; block[0], 7);
-    assert_eq!(rt; again.read(2, &mut block), Ok(()));
-    assert_eq!(rt; block[0], 0);
-    assert_eq!(rt; again.read(1048575, &mut block), Ok(()));
-    assert_eq!(rt; block[0], 0);
+    assert!(rt; answers(&mut disk, &[(Write(3, 7), 0), (Sync, 0), (Read(3), 7)]));
+    let mut again = FileDisk::new(&rt, Bytes::from(rt.alloc(), b"blocks")?);
+    assert!(rt; answers(&mut again, &[(Read(3), 7), (Read(2), 0), (Read(255), 0)]));
+    let length = fs::metadata(&rt, "blocks")?.len();
     fs::remove_file(&rt, "blocks")?;
+    assert_eq!(rt; length, 2048);
     Ok(())
 }
 
+// A block in which the file ends goes on with zeros.
 #[test]
 fn the_end_of_a_file_may_lie_in_a_block(rt: HostRuntime) -> Result<(), Fail> {
     fs::write(&rt, "short", "abc")?;
-    let mut block = [9; 512];
     let mut disk = FileDisk::new(&rt, Bytes::from(rt.alloc(), b"short")?);
-    assert_eq!(rt; disk.read(0, &mut block), Ok(()));
-    assert_eq!(rt; (block[2], block[3], block[511]), (b'c', 0, 0));
+    let right = answers(
+        &mut disk,
+        &[(Read(0), 97), (Read(1), 0), (Write(1, 5), 0), (Read(0), 97)],
+    );
+    let length = fs::metadata(&rt, "short")?.len();
     fs::remove_file(&rt, "short")?;
+    assert!(rt; right);
+    assert_eq!(rt; length, 1024);
     Ok(())
 }
 
 #[test]
 fn what_cannot_be_opened_is_a_fault(rt: HostRuntime) -> Result<(), Fail> {
-    let alloc = rt.alloc();
-    let mut block = [0; 512];
-    let mut folder = FileDisk::new(&rt, Bytes::from(alloc, b".")?);
-    assert_eq!(rt; folder.read(0, &mut block), Err(Failed));
-    let mut no_folder = FileDisk::new(&rt, Bytes::from(alloc, b"none/blocks")?);
-    assert_eq!(rt; no_folder.read(0, &mut block), Ok(()));
-    assert_eq!(rt; no_folder.write(0, &block), Err(Failed));
-    let mut no_text = FileDisk::new(&rt, Bytes::from(alloc, &[255])?);
-    assert_eq!(rt; no_text.read(0, &mut block), Err(Failed));
+    let cases: [(&[u8], u16, u16); 3] = [
+        (b".", FAULT, FAULT),
+        (b"none/blocks", 0, FAULT),
+        (b"\xff", FAULT, FAULT),
+    ];
+    for (path, read, written) in cases {
+        let mut disk = FileDisk::new(&rt, Bytes::from(rt.alloc(), path)?);
+        assert!(rt; answers(&mut disk, &[(Read(0), read), (Write(0, 1), written)]));
+    }
     Ok(())
 }
