@@ -1,21 +1,14 @@
 //! Contents of gates and heads, and what is recovered of them.
 
-use edge::{Disk, MemDisk};
+use edge::{Disk, Failed, MemDisk};
 use eu_base::List;
 use fixpoint::{Fix, RecoverError};
+use std::alloc::Global;
 use std::test::Fail;
 
-// A block with these bytes in front, and zeros.
-fn block(front: &[u8]) -> [u8; 512] {
-    let mut bytes = [0; 512];
-    for (byte, given) in bytes.iter_mut().zip(front) {
-        *byte = *given;
-    }
-    bytes
-}
-
-// A gate of the slot 0 and of the slot 1, their heads, and the root that is recovered; 0 for a foreign disk.
-const CASES: [(&[u8], &[u8], &[u8], &[u8], u32); 19] = [
+// The gates of both slots, their heads, and the root that is recovered; 0 for a foreign disk. What follows the bytes
+// of a block is zeros.
+static CASES: [(&[u8], &[u8], &[u8], &[u8], u32); 20] = [
     // zeros, and closed gates before good heads
     (b"", b"", b"", b"", 0),
     (
@@ -97,58 +90,64 @@ const CASES: [(&[u8], &[u8], &[u8], &[u8], u32); 19] = [
         0,
     ),
     (b"\x01", b"", b"EUMELSYS\x01\x04\x04", b"", 0),
+    (
+        b"\x01",
+        b"",
+        b"EUMELSYS\x01\x01\x04\x00\x00\x00\x00\x01",
+        b"",
+        0,
+    ),
+    // roots from block 4 to the last one
     (b"\x01", b"", b"EUMELSYS\x01\x01\x03", b"", 0),
-    // roots up to the last block, and bytes behind the root
     (b"\x01", b"", b"EUMELSYS\x01\x01\xff\xff\x0f", b"", 1048575),
     (b"\x01", b"", b"EUMELSYS\x01\x01\x00\x00\x10", b"", 0),
 ];
 
+// Writes a block that begins with these bytes.
+fn craft(disk: &mut MemDisk, at: u8, front: &[u8]) -> Result<(), Failed> {
+    let mut block = [0; 512];
+    for (byte, given) in block.iter_mut().zip(front) {
+        *byte = *given;
+    }
+    disk.write(u32::from(at), &block)
+}
+
+fn crafted(alloc: Global, gates: [&[u8]; 2], heads: [&[u8]; 2]) -> Result<MemDisk, Failed> {
+    let mut disk = MemDisk::new(alloc, List::new(alloc));
+    craft(&mut disk, 0, gates[0])?;
+    craft(&mut disk, 1, gates[1])?;
+    craft(&mut disk, 2, heads[0])?;
+    craft(&mut disk, 3, heads[1])?;
+    Ok(disk)
+}
+
+// The root that is recovered; 0 for a foreign disk, and 1 for one that fails.
+fn root_of(disk: &mut MemDisk) -> u32 {
+    match Fix::recover(disk) {
+        Ok(fix) => fix.root(),
+        Err(RecoverError::Foreign) => 0,
+        Err(RecoverError::DiskFault) => 1,
+    }
+}
+
 #[test]
 fn the_table_of_contents(rt: HostRuntime) -> Result<(), Fail> {
-    let alloc = rt.alloc();
-    for (first_gate, second_gate, first_head, second_head, root) in CASES {
-        let mut disk = MemDisk::new(alloc, List::new(alloc));
-        disk.write(0, &block(first_gate))?;
-        disk.write(1, &block(second_gate))?;
-        disk.write(2, &block(first_head))?;
-        disk.write(3, &block(second_head))?;
-        match Fix::recover(&mut disk) {
-            Ok(fix) => assert_eq!(rt; fix.root(), root),
-            Err(error) => {
-                assert_eq!(rt; error, RecoverError::Foreign);
-                assert_eq!(rt; root, 0);
-            }
-        }
+    for (first_gate, second_gate, first_head, second_head, root) in &CASES {
+        let mut disk = crafted(
+            rt.alloc(),
+            [first_gate, second_gate],
+            [first_head, second_head],
+        )?;
+        assert_eq!(rt; root_of(&mut disk), *root);
     }
     Ok(())
 }
 
 #[test]
-fn a_head_ends_with_zeros(rt: HostRuntime) -> Result<(), Fail> {
-    let alloc = rt.alloc();
-    let mut disk = MemDisk::new(alloc, List::new(alloc));
-    disk.write(0, &block(b"\x01"))?;
-    let mut head = block(b"EUMELSYS\x01\x01\x04");
-    disk.write(2, &head)?;
-    assert_eq!(rt; Fix::recover(&mut disk).map(|fix| fix.root()), Ok(4));
-    head[511] = 1;
-    disk.write(2, &head)?;
-    assert_eq!(rt;
-        Fix::recover(&mut disk).map(|fix| fix.root()),
-        Err(RecoverError::Foreign)
-    );
-    Ok(())
-}
-
-#[test]
 fn a_disk_that_fails_is_not_foreign(rt: HostRuntime) -> Result<(), Fail> {
-    let alloc = rt.alloc();
     for call in 1..3u32 {
-        let mut disk = MemDisk::new(alloc, List::from_slice(alloc, &[call])?);
-        assert_eq!(rt;
-            Fix::recover(&mut disk).map(|fix| fix.root()),
-            Err(RecoverError::DiskFault)
-        );
+        let mut disk = MemDisk::new(rt.alloc(), List::from_slice(rt.alloc(), &[call])?);
+        assert_eq!(rt; root_of(&mut disk), 1);
     }
     Ok(())
 }

@@ -1,5 +1,5 @@
 //! Images for tests.
-ghost use Rattle.std.specs.Prelude.{◌+◌, ◌<◌, replicate};
+ghost use Rattle.std.specs.Prelude.{◌+◌, ◌<◌, ◌≤◌, replicate};
 
 use fixpoint::Image;
 
@@ -9,6 +9,7 @@ pub struct Pages {
     pub from: u32,
     pub count: u32,
     pub fill: u8,
+    ghost low: { 4 ≤ from },
     ghost within: { from + count < 1048576 },
 }
 
