@@ -10,29 +10,28 @@ ghost use Rattle.elan_check.specs.Shape as shape;
 
 use crate::label::{add_numbers, judge_labels};
 use crate::operators::operator_text;
-use elan_scope::heading::Sort;
-use elan_scope::known::Known;
+use choice_rules::choice::branches_of;
+use choice_rules::selection::arms_of;
 use elan_meant::meant::Meant;
-use elan_scope::scope::Usage;
 use elan_meant::row::{Judged, Row, and, four, one, pair, three};
 use elan_rules::assignment::assignment;
-use value_rules::call::applied;
-use choice_rules::choice::branches_of;
-use value_rules::leave::leaving;
-use unit_rules::list::{alone, declaration, in_order, without_value};
-use value_rules::name::{declared, named};
-use choice_rules::selection::arms_of;
-use value_rules::value::{bracketed, number, truth};
 use elan_rules::whole::{
     arm_parts, branch_parts, cand_parts, choice_parts, cor_parts, counter_parts, initial_parts,
     loop_parts, selection_parts,
 };
-use elan_scope::scope::Scope;
+use elan_scope::heading::Sort;
+use elan_scope::known::Known;
+use elan_scope::scope::{Scope, Usage};
 use elan_scope::trouble::Trouble;
 use elan_tree::{Branch, Case, Counter, Expr, Item, Limit, Unit};
 use elan_types::{Way, Why};
 use eu_base::{Boxed, List};
 use std::alloc::Global;
+use unit_rules::list::{alone, declaration, in_order, without_value};
+use value_rules::call::applied;
+use value_rules::leave::leaving;
+use value_rules::name::{declared, named};
+use value_rules::value::{bracketed, number, truth};
 
 /// Whether a unit is empty.
 pub fn is_empty(unit: &Unit) -> bool

@@ -8,10 +8,10 @@ ghost use Rattle.elan_rules.specs.Meaning.{judged};
 ghost use Rattle.elan_scope.specs.Answer.{Is, Gives};
 ghost use Rattle.elan_check.specs.Shape as shape;
 
-use elan_scope::known::Known;
+use choice_rules::selection::{label_is, label_named};
 use elan_meant::meant::Meant;
 use elan_meant::row::Judged;
-use choice_rules::selection::{label_is, label_named};
+use elan_scope::known::Known;
 use elan_scope::scope::Scope;
 use elan_scope::trouble::Trouble;
 use elan_tree::Label;

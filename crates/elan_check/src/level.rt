@@ -20,17 +20,17 @@ use crate::heading::{first_refinement, headings, number_behind};
 use crate::judge::judge_role;
 use crate::operators::operator_text;
 use crate::routine::{Routine, judge_refinements, judge_routine};
+use elan_meant::row::{Judged, Row, and, one};
 use elan_scope::heading::Sort;
 use elan_scope::known::Known;
-use elan_meant::row::{Judged, Row, and, one};
-use unit_rules::body::level;
-use value_rules::name::declared;
 use elan_scope::scope::Scope;
 use elan_scope::trouble::Trouble;
 use elan_tree::{Formal, Level, LevelUnit, Name};
 use elan_types::{Core, Why};
 use eu_base::{List, NoMemory};
 use std::alloc::Global;
+use unit_rules::body::level;
+use value_rules::name::declared;
 
 // The name of a PROC: one without parameters is a name of the level.
 fn procedure_name(alloc: Global, scope: &Scope, name: &Name, formals: &[Formal]) -> Row

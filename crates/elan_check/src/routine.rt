@@ -15,18 +15,18 @@ ghost use Rattle.elan_check.specs.Shape as shape;
 use crate::bodies::{body_names, held_types, own_names, parameters};
 use crate::heading::{next_number, result_type};
 use crate::judge::{all_empty, is_empty, judge_units};
-use elan_scope::heading::Sort;
-use elan_scope::known::Known;
 use elan_meant::meant::Meant;
 use elan_meant::row::{Judged, Row, and, pair};
-use unit_rules::body::{bodies_of, body};
-use value_rules::name::{declared, headed};
 use elan_rules::whole::refinement_parts;
+use elan_scope::heading::Sort;
+use elan_scope::known::Known;
 use elan_scope::scope::{Scope, Within};
 use elan_tree::{Body, Expr, Formal, Name, Refinement, TypePhrase, Unit};
 use elan_types::Scope as Owner;
 use eu_base::NoMemory;
 use std::alloc::Global;
+use unit_rules::body::{bodies_of, body};
+use value_rules::name::{declared, headed};
 
 /// A PROC or OP as it is written, with its number among the bodies of the level.
 #[derive(Clone, Copy)]
