@@ -26,10 +26,10 @@ use Rattle.elan_rules.specs.Ruled.{Ruled, gives, joined}
 use Rattle.elan_rules.specs.Scope.{first_heading, is_alike, types_of}
 use Rattle.elan_rules.specs.Calls as calls
 use Rattle.elan_rules.specs.Units as u
-use Rattle.elan_check.specs.Shape as shape
-use Rattle.elan_check.specs.Bodies.{parameters, result, body_names, bodies_in}
+use Rattle.elan_judge.specs.Shape as shape
+use Rattle.elan_levels.specs.Bodies.{parameters, result, body_names, bodies_in}
 use Rattle.elan_check.specs.Level as l
-use Rattle.elan_check.proofs.Rows.{row_is, one_is}
+use Rattle.elan_judge.proofs.Rows.{row_is, one_is}
 
 -- ---- a row that grows behind phrases: those that are judged, and those that are left
 

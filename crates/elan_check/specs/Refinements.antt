@@ -9,7 +9,7 @@ use Rattle.elan_rules.specs.declared.meant.Meant.{Meant}
 use Rattle.elan_rules.specs.declared.meant.Meant.TheVariants.{Value}
 use Rattle.elan_rules.specs.Known.{delivery_at}
 use Rattle.elan_rules.specs.Scope.{refinement_named}
-use Rattle.elan_check.specs.Uses.{number_list}
+use Rattle.elan_levels.specs.Uses.{number_list}
 use Rattle.elan_rules.specs.Phrase as form
 use Rattle.elan_rules.specs.Phrase.{Form, Phrase, phrase, Parts, none, part, is_empty}
 use Rattle.elan_rules.specs.Ruled.{Ruled, gives, breaks, hangs}

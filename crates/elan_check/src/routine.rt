@@ -8,13 +8,13 @@ ghost use Rattle.elan_rules.specs.Phrase as form;
 ghost use Rattle.elan_rules.specs.Phrase.{Phrase, phrase, around, all_of};
 ghost use Rattle.elan_rules.specs.Meaning.{judged, judged_all};
 ghost use Rattle.elan_rules.specs.Answer.{Is};
-ghost use Rattle.elan_check.specs.Bodies as bodies;
+ghost use Rattle.elan_levels.specs.Bodies as bodies;
 ghost use Rattle.elan_check.specs.Level as spec;
-ghost use Rattle.elan_check.specs.Shape as shape;
+ghost use Rattle.elan_judge.specs.Shape as shape;
 
-use crate::bodies::{body_names, held_types, own_names, parameters};
-use crate::heading::{next_number, result_type};
-use crate::judge::{all_empty, is_empty, judge_units};
+use elan_levels::bodies::{body_names, held_types, own_names, parameters};
+use elan_levels::heading::{next_number, result_type};
+use elan_judge::judge::{all_empty, is_empty, judge_units};
 use elan_rules::heading::Sort;
 use elan_rules::known::Known;
 use elan_rules::meant::Meant;

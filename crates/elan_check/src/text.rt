@@ -11,7 +11,7 @@ ghost use Rattle.elan_check.specs.Text as text;
 
 use crate::error::CheckError;
 use crate::level::core_of;
-use crate::not_built::has_unbuilt;
+use elan_unbuilt::has_unbuilt;
 use elan_tree::Tree;
 use elan_types::{Core, Env};
 use std::alloc::Global;

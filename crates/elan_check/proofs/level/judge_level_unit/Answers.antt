@@ -3,7 +3,7 @@ use Rattle.elan_tree.specs.declared.tree.LevelUnit.{LevelUnit}
 use Rattle.elan_rules.specs.declared.heading.Sort.TheVariants.{Operator}
 use Rattle.elan_rules.specs.Answer.{Is}
 use Rattle.elan_rules.specs.Meaning.{judged}
-use Rattle.elan_check.specs.Operators.{operator_text}
+use Rattle.elan_unbuilt.specs.Operators.{operator_text}
 use Rattle.elan_check.specs.Level.{procedure_name, level_unit}
 use Rattle.elan_check.proofs.Routines.{procedure_at, operator_at, no_phrases}
 use Rattle.elan_check.proofs.level.judge_level_unit.Goals as goal

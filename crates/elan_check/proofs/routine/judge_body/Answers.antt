@@ -1,5 +1,5 @@
 use Rattle.elan_types.specs.declared.core_phrase.Scope.TheVariants as owner
-use Rattle.elan_check.specs.Bodies.{parameters, result}
+use Rattle.elan_levels.specs.Bodies.{parameters, result}
 use Rattle.elan_check.specs.Level.{own_types}
 use Rattle.elan_check.proofs.Routines.{body_is}
 use Rattle.elan_check.proofs.routine.judge_body.Goals as goal

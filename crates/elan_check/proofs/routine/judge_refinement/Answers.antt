@@ -6,9 +6,9 @@ use Rattle.elan_rules.specs.Phrase.{leaf, part, none}
 use Rattle.elan_rules.specs.Answer.{Is}
 use Rattle.elan_rules.specs.Rules.{rule}
 use Rattle.elan_rules.specs.Meaning.{judged}
-use Rattle.elan_check.specs.Shape as shape
+use Rattle.elan_judge.specs.Shape as shape
 use Rattle.elan_check.specs.Level as l
-use Rattle.elan_check.proofs.Rows.{whole_is}
+use Rattle.elan_judge.proofs.Rows.{whole_is}
 use Rattle.elan_check.proofs.routine.judge_refinement.Goals as goal
 
 pub returns-clause-meaning : goal.returns-clause-meaning

@@ -1,10 +1,10 @@
 use Rattle.std.proofs.Common.{◌++◌, ◌∷◌, []}
 use Rattle.elan_rules.specs.Phrase.{all_of}
 use Rattle.elan_rules.specs.Meaning.{judged, judged_all}
-use Rattle.elan_check.specs.Bodies.{body_names}
+use Rattle.elan_levels.specs.Bodies.{body_names}
 use Rattle.elan_check.specs.Level as l
 use Rattle.elan_check.proofs.Scopes.{scope_with, within, entered}
-use Rattle.elan_check.proofs.Rows.{row_is}
+use Rattle.elan_judge.proofs.Rows.{row_is}
 use Rattle.elan_check.proofs.Routines.{headed, routine_row}
 use Rattle.elan_check.proofs.routine.judge_routine.Goals as goal
 
