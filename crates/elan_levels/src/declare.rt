@@ -62,16 +62,17 @@ fn in_expr(alloc: Global, out: &mut List<Entry>, expr: &Expr) -> Result<(), NoMe
     ensures { OnOk result (out.new ≡ out.old ++ spec.in_expr expr.now) }
 {
     match expr {
-        Expr::Call(_, actuals) => in_exprs(alloc, out, actuals.as_slice())?,
-        Expr::Bracket(_, inner) => in_expr(alloc, out, inner.get())?,
+        Expr::Call(_, actuals) => in_exprs(alloc, out, actuals.as_slice()),
+        Expr::Bracket(_, inner) => in_expr(alloc, out, inner.get()),
         Expr::If {
             branches,
             otherwise,
             ..
         } => {
             in_branches(alloc, out, branches.as_slice())?;
-            if let Some(units) = otherwise {
-                in_units(alloc, out, units.as_slice())?;
+            match otherwise {
+                None => Ok(()),
+                Some(units) => in_units(alloc, out, units.as_slice()),
             }
         }
         Expr::Select {
@@ -82,26 +83,26 @@ fn in_expr(alloc: Global, out: &mut List<Entry>, expr: &Expr) -> Result<(), NoMe
         } => {
             in_expr(alloc, out, of.get())?;
             in_cases(alloc, out, cases.as_slice())?;
-            if let Some(units) = otherwise {
-                in_units(alloc, out, units.as_slice())?;
+            match otherwise {
+                None => Ok(()),
+                Some(units) => in_units(alloc, out, units.as_slice()),
             }
         }
-        Expr::Monadic { operand, .. } => in_expr(alloc, out, operand.get())?,
+        Expr::Monadic { operand, .. } => in_expr(alloc, out, operand.get()),
         Expr::Dyadic { left, right, .. } => {
             in_expr(alloc, out, left.get())?;
-            in_expr(alloc, out, right.get())?;
+            in_expr(alloc, out, right.get())
         }
         Expr::Cand { left, right, .. } => {
             in_expr(alloc, out, left.get())?;
-            in_expr(alloc, out, right.get())?;
+            in_expr(alloc, out, right.get())
         }
         Expr::Cor { left, right, .. } => {
             in_expr(alloc, out, left.get())?;
-            in_expr(alloc, out, right.get())?;
+            in_expr(alloc, out, right.get())
         }
-        _ => {}
+        _ => Ok(()),
     }
-    Ok(())
 }
 
 #[cycle(declare)]
@@ -186,12 +187,12 @@ pub fn in_unit(alloc: Global, out: &mut List<Entry>, unit: &Unit) -> Result<(), 
     ensures { OnOk result (out.new ≡ out.old ++ spec.in_unit unit.now) }
 {
     match unit {
-        Unit::Variables(_, of, items) => in_items(alloc, out, variables(of), items.as_slice())?,
-        Unit::Constants(_, of, items) => in_items(alloc, out, constants(of), items.as_slice())?,
-        Unit::Value(expr) => in_expr(alloc, out, expr)?,
+        Unit::Variables(_, of, items) => in_items(alloc, out, variables(of), items.as_slice()),
+        Unit::Constants(_, of, items) => in_items(alloc, out, constants(of), items.as_slice()),
+        Unit::Value(expr) => in_expr(alloc, out, expr),
         Unit::Becomes { left, right, .. } => {
             in_expr(alloc, out, left)?;
-            in_expr(alloc, out, right)?;
+            in_expr(alloc, out, right)
         }
         Unit::Loop {
             counter: None,
@@ -202,7 +203,7 @@ pub fn in_unit(alloc: Global, out: &mut List<Entry>, unit: &Unit) -> Result<(), 
         } => {
             in_optional(alloc, out, condition)?;
             in_units(alloc, out, units.as_slice())?;
-            in_optional(alloc, out, until)?;
+            in_optional(alloc, out, until)
         }
         Unit::Loop {
             counter: Some(counter),
@@ -214,12 +215,11 @@ pub fn in_unit(alloc: Global, out: &mut List<Entry>, unit: &Unit) -> Result<(), 
             in_counter(alloc, out, counter.get())?;
             in_optional(alloc, out, condition)?;
             in_units(alloc, out, units.as_slice())?;
-            in_optional(alloc, out, until)?;
+            in_optional(alloc, out, until)
         }
-        Unit::Leave { value, .. } => in_optional(alloc, out, value)?,
-        _ => {}
+        Unit::Leave { value, .. } => in_optional(alloc, out, value),
+        _ => Ok(()),
     }
-    Ok(())
 }
 
 /// Adds what units declare.

@@ -5,10 +5,10 @@ ghost use Rattle.elan_levels.specs.Bodies as spec;
 
 use crate::bodies::parameters;
 use crate::declare::written_type;
-use elan_unbuilt::operator_text;
 use elan_rules::heading::{Heading, Sort, What};
 use elan_tree::{Formal, Level, LevelUnit, Refinement, TypePhrase};
 use elan_types::ElanType;
+use elan_unbuilt::operator_text;
 use eu_base::{Bytes, List, NoMemory};
 use std::alloc::Global;
 

@@ -22,17 +22,18 @@ fn in_expr(scope: &Scope, out: &mut List<usize>, expr: &Expr) -> Result<(), NoMe
     ensures { OnOk result (out.new ≡ out.old ++ spec.in_expr scope.now expr.now) }
 {
     match expr {
-        Expr::Named(name) => in_name(scope, out, name)?,
-        Expr::Call(_, actuals) => in_exprs(scope, out, actuals.as_slice())?,
-        Expr::Bracket(_, inner) => in_expr(scope, out, inner.get())?,
+        Expr::Named(name) => in_name(scope, out, name),
+        Expr::Call(_, actuals) => in_exprs(scope, out, actuals.as_slice()),
+        Expr::Bracket(_, inner) => in_expr(scope, out, inner.get()),
         Expr::If {
             branches,
             otherwise,
             ..
         } => {
             in_branches(scope, out, branches.as_slice())?;
-            if let Some(units) = otherwise {
-                in_units(scope, out, units.as_slice())?;
+            match otherwise {
+                None => Ok(()),
+                Some(units) => in_units(scope, out, units.as_slice()),
             }
         }
         Expr::Select {
@@ -43,26 +44,26 @@ fn in_expr(scope: &Scope, out: &mut List<usize>, expr: &Expr) -> Result<(), NoMe
         } => {
             in_expr(scope, out, of.get())?;
             in_cases(scope, out, cases.as_slice())?;
-            if let Some(units) = otherwise {
-                in_units(scope, out, units.as_slice())?;
+            match otherwise {
+                None => Ok(()),
+                Some(units) => in_units(scope, out, units.as_slice()),
             }
         }
-        Expr::Monadic { operand, .. } => in_expr(scope, out, operand.get())?,
+        Expr::Monadic { operand, .. } => in_expr(scope, out, operand.get()),
         Expr::Dyadic { left, right, .. } => {
             in_expr(scope, out, left.get())?;
-            in_expr(scope, out, right.get())?;
+            in_expr(scope, out, right.get())
         }
         Expr::Cand { left, right, .. } => {
             in_expr(scope, out, left.get())?;
-            in_expr(scope, out, right.get())?;
+            in_expr(scope, out, right.get())
         }
         Expr::Cor { left, right, .. } => {
             in_expr(scope, out, left.get())?;
-            in_expr(scope, out, right.get())?;
+            in_expr(scope, out, right.get())
         }
-        _ => {}
+        _ => Ok(()),
     }
-    Ok(())
 }
 
 #[cycle(uses)]
@@ -141,12 +142,12 @@ fn in_unit(scope: &Scope, out: &mut List<usize>, unit: &Unit) -> Result<(), NoMe
     ensures { OnOk result (out.new ≡ out.old ++ spec.in_unit scope.now unit.now) }
 {
     match unit {
-        Unit::Variables(_, _, items) => in_items(scope, out, items.as_slice())?,
-        Unit::Constants(_, _, items) => in_items(scope, out, items.as_slice())?,
-        Unit::Value(expr) => in_expr(scope, out, expr)?,
+        Unit::Variables(_, _, items) => in_items(scope, out, items.as_slice()),
+        Unit::Constants(_, _, items) => in_items(scope, out, items.as_slice()),
+        Unit::Value(expr) => in_expr(scope, out, expr),
         Unit::Becomes { left, right, .. } => {
             in_expr(scope, out, left)?;
-            in_expr(scope, out, right)?;
+            in_expr(scope, out, right)
         }
         Unit::Loop {
             counter: None,
@@ -157,7 +158,7 @@ fn in_unit(scope: &Scope, out: &mut List<usize>, unit: &Unit) -> Result<(), NoMe
         } => {
             in_optional(scope, out, condition)?;
             in_units(scope, out, units.as_slice())?;
-            in_optional(scope, out, until)?;
+            in_optional(scope, out, until)
         }
         Unit::Loop {
             counter: Some(counter),
@@ -169,12 +170,11 @@ fn in_unit(scope: &Scope, out: &mut List<usize>, unit: &Unit) -> Result<(), NoMe
             in_counter(scope, out, counter.get())?;
             in_optional(scope, out, condition)?;
             in_units(scope, out, units.as_slice())?;
-            in_optional(scope, out, until)?;
+            in_optional(scope, out, until)
         }
-        Unit::Leave { value, .. } => in_optional(scope, out, value)?,
-        _ => {}
+        Unit::Leave { value, .. } => in_optional(scope, out, value),
+        _ => Ok(()),
     }
-    Ok(())
 }
 
 /// Adds the refinements that units call.

@@ -4,6 +4,7 @@ ghost use Rattle.std.specs.Prelude.{◌≡◌, map, Option, Some, None};
 ghost use Rattle.elan_unbuilt.specs.NotBuilt as spec;
 
 use crate::names::is_not_built;
+use containers::List;
 use elan_tree::{
     Body, Branch, Case, Counter, Expr, Formal, Item, Label, LevelUnit, Limit, Name, Operator,
     Refinement, Tree, TypePhrase, Unit,
@@ -34,10 +35,11 @@ fn written_type(of: &TypePhrase) -> bool
     }
 }
 
-fn labels(labels: &[Label]) -> bool
+fn labels(labels: &List<Label>) -> bool
     ensures { result ≡ spec.any (map spec.label_name labels.now) }
 {
-    for label in labels {
+    let all = labels.as_slice();
+    for label in all {
         let found = match label {
             Label::Number(_, _) => false,
             Label::Named(written) => name(written),
@@ -57,17 +59,17 @@ fn in_expr(expr: &Expr) -> bool
         Expr::Number(_, _) => false,
         Expr::Truth(_, _) => false,
         Expr::Named(named) => name(named),
-        Expr::Call(named, actuals) => name(named) || in_exprs(actuals.as_slice()),
+        Expr::Call(named, actuals) => name(named) || in_exprs(actuals),
         Expr::Bracket(_, inner) => in_expr(inner.get()),
         Expr::If {
             branches,
             otherwise,
             ..
         } => {
-            in_branches(branches.as_slice())
+            in_branches(branches)
                 || match otherwise {
                     None => false,
-                    Some(units) => in_units(units.as_slice()),
+                    Some(units) => in_units(units),
                 }
         }
         Expr::Select {
@@ -77,10 +79,10 @@ fn in_expr(expr: &Expr) -> bool
             ..
         } => {
             in_expr(of.get())
-                || in_cases(cases.as_slice())
+                || in_cases(cases)
                 || match otherwise {
                     None => false,
-                    Some(units) => in_units(units.as_slice()),
+                    Some(units) => in_units(units),
                 }
         }
         Expr::Monadic {
@@ -105,10 +107,11 @@ fn in_expr(expr: &Expr) -> bool
 }
 
 #[cycle(not_built)]
-fn in_exprs(exprs: &[Expr]) -> bool
+fn in_exprs(exprs: &List<Expr>) -> bool
     ensures { result ≡ spec.any (map spec.in_expr exprs.now) }
 {
-    for expr in exprs {
+    let all = exprs.as_slice();
+    for expr in all {
         if in_expr(expr) {
             return true;
         }
@@ -127,11 +130,12 @@ fn in_optional(expr: &Option<Expr>) -> bool
 }
 
 #[cycle(not_built)]
-fn in_branches(branches: &[Branch]) -> bool
+fn in_branches(branches: &List<Branch>) -> bool
     ensures { result ≡ spec.any (map spec.in_branch branches.now) }
 {
-    for branch in branches {
-        if in_expr(&branch.condition) || in_units(branch.units.as_slice()) {
+    let all = branches.as_slice();
+    for branch in all {
+        if in_expr(&branch.condition) || in_units(&branch.units) {
             return true;
         }
     }
@@ -139,11 +143,12 @@ fn in_branches(branches: &[Branch]) -> bool
 }
 
 #[cycle(not_built)]
-fn in_cases(cases: &[Case]) -> bool
+fn in_cases(cases: &List<Case>) -> bool
     ensures { result ≡ spec.any (map spec.in_case cases.now) }
 {
-    for case in cases {
-        if labels(case.labels.as_slice()) || in_units(case.units.as_slice()) {
+    let all = cases.as_slice();
+    for case in all {
+        if labels(&case.labels) || in_units(&case.units) {
             return true;
         }
     }
@@ -151,10 +156,11 @@ fn in_cases(cases: &[Case]) -> bool
 }
 
 #[cycle(not_built)]
-fn in_items(items: &[Item]) -> bool
+fn in_items(items: &List<Item>) -> bool
     ensures { result ≡ spec.any (map spec.in_item items.now) }
 {
-    for item in items {
+    let all = items.as_slice();
+    for item in all {
         if name(&item.name) || in_optional(&item.init) {
             return true;
         }
@@ -186,8 +192,8 @@ fn in_unit(unit: &Unit) -> bool
 {
     match unit {
         Unit::Empty => false,
-        Unit::Variables(_, of, items) => written_type(of) || in_items(items.as_slice()),
-        Unit::Constants(_, of, items) => written_type(of) || in_items(items.as_slice()),
+        Unit::Variables(_, of, items) => written_type(of) || in_items(items),
+        Unit::Constants(_, of, items) => written_type(of) || in_items(items),
         Unit::Value(expr) => in_expr(expr),
         Unit::Becomes { left, right, .. } => in_expr(left) || in_expr(right),
         Unit::Loop {
@@ -196,7 +202,7 @@ fn in_unit(unit: &Unit) -> bool
             units,
             until,
             ..
-        } => { in_optional(condition) || in_units(units.as_slice()) || in_optional(until) }
+        } => { in_optional(condition) || in_units(units) || in_optional(until) }
         Unit::Loop {
             counter: Some(counter),
             condition,
@@ -206,7 +212,7 @@ fn in_unit(unit: &Unit) -> bool
         } => {
             in_counter(counter.get())
                 || in_optional(condition)
-                || in_units(units.as_slice())
+                || in_units(units)
                 || in_optional(until)
         }
         Unit::Let(_, _) => true,
@@ -220,10 +226,11 @@ fn in_unit(unit: &Unit) -> bool
 }
 
 #[cycle(not_built)]
-fn in_units(units: &[Unit]) -> bool
+fn in_units(units: &List<Unit>) -> bool
     ensures { result ≡ spec.any (map spec.in_unit units.now) }
 {
-    for unit in units {
+    let all = units.as_slice();
+    for unit in all {
         if in_unit(unit) {
             return true;
         }
@@ -240,10 +247,11 @@ fn optional_type(of: &Option<TypePhrase>) -> bool
     }
 }
 
-fn names(names: &[Name]) -> bool
+fn names(names: &List<Name>) -> bool
     ensures { result ≡ spec.any (map spec.name names.now) }
 {
-    for written in names {
+    let all = names.as_slice();
+    for written in all {
         if name(written) {
             return true;
         }
@@ -251,22 +259,24 @@ fn names(names: &[Name]) -> bool
     false
 }
 
-fn formals(formals: &[Formal]) -> bool
+fn formals(formals: &List<Formal>) -> bool
     ensures { result ≡ spec.any (map spec.formal formals.now) }
 {
-    for formal in formals {
-        if written_type(&formal.of) || names(formal.names.as_slice()) {
+    let all = formals.as_slice();
+    for formal in all {
+        if written_type(&formal.of) || names(&formal.names) {
             return true;
         }
     }
     false
 }
 
-fn refinements(refinements: &[Refinement]) -> bool
+fn refinements(refinements: &List<Refinement>) -> bool
     ensures { result ≡ spec.any (map spec.refinement refinements.now) }
 {
-    for refinement in refinements {
-        if name(&refinement.name) || in_units(refinement.units.as_slice()) {
+    let all = refinements.as_slice();
+    for refinement in all {
+        if name(&refinement.name) || in_units(&refinement.units) {
             return true;
         }
     }
@@ -276,7 +286,7 @@ fn refinements(refinements: &[Refinement]) -> bool
 fn in_body(body: &Body) -> bool
     ensures { result ≡ spec.body body.now }
 {
-    in_units(body.units.as_slice()) || refinements(body.refinements.as_slice())
+    in_units(&body.units) || refinements(&body.refinements)
 }
 
 fn in_level_unit(unit: &LevelUnit) -> bool
@@ -290,7 +300,7 @@ fn in_level_unit(unit: &LevelUnit) -> bool
             formals: given,
             body,
             ..
-        } => { optional_type(result) || name(named) || formals(given.as_slice()) || in_body(body) }
+        } => { optional_type(result) || name(named) || formals(given) || in_body(body) }
         LevelUnit::NewType { .. } => true,
         LevelUnit::Op {
             result,
@@ -301,16 +311,17 @@ fn in_level_unit(unit: &LevelUnit) -> bool
         } => {
             optional_type(result)
                 || operator(&named.operator)
-                || formals(given.as_slice())
+                || formals(given)
                 || in_body(body)
         }
     }
 }
 
-fn in_level_units(units: &[LevelUnit]) -> bool
+fn in_level_units(units: &List<LevelUnit>) -> bool
     ensures { result ≡ spec.any (map spec.in_level_unit units.now) }
 {
-    for unit in units {
+    let all = units.as_slice();
+    for unit in all {
         if in_level_unit(unit) {
             return true;
         }
@@ -323,8 +334,8 @@ pub fn has_unbuilt(tree: &Tree) -> bool
     ensures { result ≡ spec.not_built tree.now }
 {
     match tree {
-        Tree::Program(level) => in_level_units(level.units.as_slice())
-            || refinements(level.refinements.as_slice()),
+        Tree::Program(level) => in_level_units(&level.units)
+            || refinements(&level.refinements),
         Tree::Packet { .. } => true,
     }
 }
