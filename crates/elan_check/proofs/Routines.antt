@@ -41,9 +41,6 @@ pub record Grown (k : Known) (row : Result (List Meant) Trouble) (left whole : L
 pub starts : (k : Known) (row : Result (List Meant) Trouble) (ps left : List Phrase) → Is row (judged_all k (all_of ps)) → Grown k row left (ps ++ left)
 starts k row ps left h = record { done = ps; means = h; rest = refl }
 
-pub no_phrases : (k : Known) (ms : List Meant) → ms ≡ [] → Is {A = List Meant} (Ok ms) (judged_all k (all_of []))
-no_phrases k ms e = ap (λ (ns : List Meant). gives ns) (sym e)
-
 -- one phrase further
 pub grows : (k : Known) (row next : Result (List Meant) Trouble) (p : Phrase) (left whole : List Phrase) → (g : Grown k row (p ∷ left) whole) → Is next (joined (judged_all k (all_of g.done)) (judged k p)) → Grown k next left whole
 grows k row next p left whole g h = record {

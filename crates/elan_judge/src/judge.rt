@@ -9,11 +9,11 @@ ghost use Rattle.elan_rules.specs.Answer.{Is};
 ghost use Rattle.elan_judge.specs.Shape as shape;
 
 use crate::label::{add_numbers, judge_labels};
-use elan_unbuilt::operator_text;
+use crate::row::{let_go, let_meant_go, none, with};
 use elan_rules::heading::Sort;
 use elan_rules::known::Known;
 use elan_rules::meant::{Meant, Usage};
-use elan_rules::row::{Judged, Row, and, four, one, pair, three};
+use elan_rules::row::{Judged, Row, four, one, pair, three};
 use elan_rules::rules::assignment::assignment;
 use elan_rules::rules::call::applied;
 use elan_rules::rules::choice::branches_of;
@@ -30,6 +30,7 @@ use elan_rules::scope::Scope;
 use elan_rules::trouble::Trouble;
 use elan_tree::{Branch, Case, Counter, Expr, Item, Limit, Unit};
 use elan_types::{Way, Why};
+use elan_unbuilt::operator_text;
 use eu_base::{Boxed, List};
 use std::alloc::Global;
 
@@ -85,13 +86,19 @@ fn judge(alloc: Global, known: &Known, scope: &Scope, expr: &Expr) -> Judged
             named(alloc, known, Usage::Expression, name.at, scope, text)
         },
         Expr::Call(name, actuals) => {
-            let actuals = judge_exprs(alloc, known, scope, actuals.as_slice())?;
-            let text = name.text.as_slice();
-            applied(alloc, name.at, scope, Sort::Procedure, text, actuals)
+            match judge_exprs(alloc, known, scope, actuals.as_slice()) {
+                Err(trouble) => Err(trouble),
+                Ok(actuals) => {
+                    let text = name.text.as_slice();
+                    applied(alloc, name.at, scope, Sort::Procedure, text, actuals)
+                }
+            }
         }
         Expr::Bracket(at, inner) => {
-            let inner = judge(alloc, known, scope, inner.get())?;
-            bracketed(*at, inner)
+            match judge(alloc, known, scope, inner.get()) {
+                Err(trouble) => Err(trouble),
+                Ok(inner) => bracketed(*at, inner),
+            }
         }
         Expr::If {
             at,
@@ -103,8 +110,10 @@ fn judge(alloc: Global, known: &Known, scope: &Scope, expr: &Expr) -> Judged
                 None => Ok(Meant::Absent),
                 Some(units) => judge_units(alloc, known, scope, true, units.as_slice()),
             };
-            let parts = pair(alloc, branches, otherwise)?;
-            choice_parts(alloc, *at, parts)
+            match pair(alloc, branches, otherwise) {
+                Err(trouble) => Err(trouble),
+                Ok(parts) => choice_parts(alloc, *at, parts),
+            }
         }
         Expr::Select {
             at,
@@ -118,8 +127,10 @@ fn judge(alloc: Global, known: &Known, scope: &Scope, expr: &Expr) -> Judged
                 None => Ok(Meant::Absent),
                 Some(units) => judge_units(alloc, known, scope, true, units.as_slice()),
             };
-            let parts = three(alloc, of, arms, otherwise)?;
-            selection_parts(alloc, *at, parts)
+            match three(alloc, of, arms, otherwise) {
+                Err(trouble) => Err(trouble),
+                Ok(parts) => selection_parts(alloc, *at, parts),
+            }
         }
         Expr::Monadic {
             at,
@@ -127,15 +138,17 @@ fn judge(alloc: Global, known: &Known, scope: &Scope, expr: &Expr) -> Judged
             operand,
         } => {
             let operand = judge(alloc, known, scope, operand.get());
-            let parts = one(alloc, operand)?;
-            applied(
-                alloc,
-                *at,
-                scope,
-                Sort::Operator,
-                operator_text(operator),
-                parts,
-            )
+            match one(alloc, operand) {
+                Err(trouble) => Err(trouble),
+                Ok(parts) => applied(
+                    alloc,
+                    *at,
+                    scope,
+                    Sort::Operator,
+                    operator_text(operator),
+                    parts,
+                ),
+            }
         }
         Expr::Dyadic {
             at,
@@ -145,33 +158,39 @@ fn judge(alloc: Global, known: &Known, scope: &Scope, expr: &Expr) -> Judged
         } => {
             let left = judge(alloc, known, scope, left.get());
             let right = judge(alloc, known, scope, right.get());
-            let parts = pair(alloc, left, right)?;
-            applied(
-                alloc,
-                *at,
-                scope,
-                Sort::Operator,
-                operator_text(operator),
-                parts,
-            )
+            match pair(alloc, left, right) {
+                Err(trouble) => Err(trouble),
+                Ok(parts) => applied(
+                    alloc,
+                    *at,
+                    scope,
+                    Sort::Operator,
+                    operator_text(operator),
+                    parts,
+                ),
+            }
         }
         Expr::Cand { at, left, right } => {
             let left = judge(alloc, known, scope, left.get());
             let right = judge(alloc, known, scope, right.get());
-            let parts = pair(alloc, left, right)?;
-            cand_parts(alloc, *at, parts)
+            match pair(alloc, left, right) {
+                Err(trouble) => Err(trouble),
+                Ok(parts) => cand_parts(alloc, *at, parts),
+            }
         }
         Expr::Cor { at, left, right } => {
             let left = judge(alloc, known, scope, left.get());
             let right = judge(alloc, known, scope, right.get());
-            let parts = pair(alloc, left, right)?;
-            cor_parts(alloc, *at, parts)
+            match pair(alloc, left, right) {
+                Err(trouble) => Err(trouble),
+                Ok(parts) => cor_parts(alloc, *at, parts),
+            }
         }
-        Expr::Text(_, _) => Err(Trouble::Breaks(0, Why::Unknown)),
-        Expr::Procedure(_, _) => Err(Trouble::Breaks(0, Why::Unknown)),
-        Expr::Concr(_, _) => Err(Trouble::Breaks(0, Why::Unknown)),
-        Expr::Index { .. } => Err(Trouble::Breaks(0, Why::Unknown)),
-        Expr::Field { .. } => Err(Trouble::Breaks(0, Why::Unknown)),
+        Expr::Text(_, _)
+        | Expr::Procedure(_, _)
+        | Expr::Concr(_, _)
+        | Expr::Index { .. }
+        | Expr::Field { .. } => Err(Trouble::Breaks(0, Why::Unknown)),
     }
 }
 
@@ -180,9 +199,9 @@ fn judge(alloc: Global, known: &Known, scope: &Scope, expr: &Expr) -> Judged
 fn judge_exprs(alloc: Global, known: &Known, scope: &Scope, exprs: &[Expr]) -> Row
     ensures { Is result (judged_all known.now (all_of (map (shape.expr scope.now) exprs.now))) }
 {
-    let mut row = Ok(List::new(alloc));
+    let mut row = none(alloc);
     for expr in exprs {
-        row = and(row, judge(alloc, known, scope, expr));
+        row = with(row, judge(alloc, known, scope, expr));
     }
     row
 }
@@ -203,17 +222,19 @@ fn judge_branch(alloc: Global, known: &Known, scope: &Scope, branch: &Branch) ->
 {
     let condition = judge(alloc, known, scope, &branch.condition);
     let units = judge_units(alloc, known, scope, true, branch.units.as_slice());
-    let parts = pair(alloc, condition, units)?;
-    branch_parts(alloc, parts)
+    match pair(alloc, condition, units) {
+        Err(trouble) => Err(trouble),
+        Ok(parts) => branch_parts(alloc, parts),
+    }
 }
 
 #[cycle(judge)]
 fn branch_row(alloc: Global, known: &Known, scope: &Scope, branches: &[Branch]) -> Row
     ensures { Is result (judged_all known.now (all_of (map (shape.branch scope.now) branches.now))) }
 {
-    let mut row = Ok(List::new(alloc));
+    let mut row = none(alloc);
     for branch in branches {
-        row = and(row, judge_branch(alloc, known, scope, branch));
+        row = with(row, judge_branch(alloc, known, scope, branch));
     }
     row
 }
@@ -233,8 +254,10 @@ fn judge_case(alloc: Global, known: &Known, scope: &Scope, earlier: &[i16], case
 {
     let labels = judge_labels(alloc, known, scope, earlier, case.labels.as_slice());
     let units = judge_units(alloc, known, scope, true, case.units.as_slice());
-    let parts = pair(alloc, labels, units)?;
-    arm_parts(alloc, parts)
+    match pair(alloc, labels, units) {
+        Err(trouble) => Err(trouble),
+        Ok(parts) => arm_parts(alloc, parts),
+    }
 }
 
 // Each label is compared with all before it.
@@ -242,14 +265,17 @@ fn judge_case(alloc: Global, known: &Known, scope: &Scope, earlier: &[i16], case
 fn case_row(alloc: Global, known: &Known, scope: &Scope, cases: &[Case]) -> Row
     ensures { Is result (judged_all known.now (all_of (shape.arm_phrases scope.now [] (map (shape.case scope.now) cases.now)))) }
 {
-    let mut row = Ok(List::new(alloc));
+    let mut row = none(alloc);
     let mut earlier = List::new(alloc);
     for case in cases {
-        row = and(
+        row = with(
             row,
             judge_case(alloc, known, scope, earlier.as_slice(), case),
         );
-        add_numbers(&mut earlier, case.labels.as_slice())?;
+        let Ok(()) = add_numbers(&mut earlier, case.labels.as_slice()) else {
+            let_go(row);
+            return Err(Trouble::NoMemory);
+        };
     }
     row
 }
@@ -271,13 +297,20 @@ fn judge_item(alloc: Global, known: &Known, scope: &Scope, item: &Item) -> Judge
     let name = declared(alloc, at, scope, item.name.text.as_slice());
     match &item.init {
         None => {
-            let _name = name?;
-            Ok(Meant::Done(List::new(alloc)))
+            match name {
+                Err(trouble) => Err(trouble),
+                Ok(name) => {
+                    let_meant_go(name);
+                    Ok(Meant::Done(List::new(alloc)))
+                }
+            }
         }
         Some(expr) => {
             let value = judge(alloc, known, scope, expr);
-            let parts = pair(alloc, name, value)?;
-            initial_parts(alloc, at, parts)
+            match pair(alloc, name, value) {
+                Err(trouble) => Err(trouble),
+                Ok(parts) => initial_parts(alloc, at, parts),
+            }
         }
     }
 }
@@ -286,9 +319,9 @@ fn judge_item(alloc: Global, known: &Known, scope: &Scope, item: &Item) -> Judge
 fn judge_items(alloc: Global, known: &Known, scope: &Scope, items: &[Item]) -> Row
     ensures { Is result (judged_all known.now (all_of (map (shape.item scope.now) items.now))) }
 {
-    let mut row = Ok(List::new(alloc));
+    let mut row = none(alloc);
     for item in items {
-        row = and(row, judge_item(alloc, known, scope, item));
+        row = with(row, judge_item(alloc, known, scope, item));
     }
     row
 }
@@ -321,8 +354,10 @@ fn judge_counter(alloc: Global, known: &Known, scope: &Scope, counter: &Counter)
     let name = named(alloc, known, Usage::Counter, counter.name.at, scope, text);
     let from = judge_optional(alloc, known, scope, &counter.from);
     let limit = judge_limit(alloc, known, scope, &counter.limit);
-    let parts = three(alloc, name, from, limit)?;
-    counter_parts(alloc, way(&counter.limit), parts)
+    match three(alloc, name, from, limit) {
+        Err(trouble) => Err(trouble),
+        Ok(parts) => counter_parts(alloc, way(&counter.limit), parts),
+    }
 }
 
 #[cycle(judge)]
@@ -356,8 +391,10 @@ pub fn judge_unit(alloc: Global, known: &Known, scope: &Scope, unit: &Unit) -> J
         Unit::Becomes { at, left, right } => {
             let left = judge(alloc, known, scope, left);
             let right = judge(alloc, known, scope, right);
-            let parts = pair(alloc, left, right)?;
-            assignment(alloc, *at, scope, parts)
+            match pair(alloc, left, right) {
+                Err(trouble) => Err(trouble),
+                Ok(parts) => assignment(alloc, *at, scope, parts),
+            }
         }
         Unit::Loop {
             at,
@@ -370,11 +407,12 @@ pub fn judge_unit(alloc: Global, known: &Known, scope: &Scope, unit: &Unit) -> J
             let condition = judge_optional(alloc, known, scope, condition);
             let units = judge_units(alloc, known, scope, false, units.as_slice());
             let until = judge_optional(alloc, known, scope, until);
-            let parts = four(alloc, counter, condition, units, until)?;
-            loop_parts(alloc, *at, parts)
+            match four(alloc, counter, condition, units, until) {
+                Err(trouble) => Err(trouble),
+                Ok(parts) => loop_parts(alloc, *at, parts),
+            }
         }
-        Unit::Let(_, _) => Err(Trouble::Breaks(0, Why::Unknown)),
-        Unit::Bound(_, _, _) => Err(Trouble::Breaks(0, Why::Unknown)),
+        Unit::Let(_, _) | Unit::Bound(_, _, _) => Err(Trouble::Breaks(0, Why::Unknown)),
         Unit::Leave { at, name, value } => {
             let value = judge_optional(alloc, known, scope, value)?;
             leaving(alloc, known, *at, scope.left(name.text.as_slice()), value)
@@ -395,10 +433,10 @@ pub fn judge_role(alloc: Global, known: &Known, scope: &Scope, may: bool, unit: 
 fn judge_roles(alloc: Global, known: &Known, scope: &Scope, may: bool, units: &[Unit]) -> Row
     ensures { Is result (judged_all known.now (all_of (shape.roles may (map (shape.unit scope.now) units.now)))) }
 {
-    let mut row = Ok(List::new(alloc));
+    let mut row = none(alloc);
     for (i, unit) in units.iter().enumerate() {
         let last = is_last(may, &units[i + 1..]);
-        row = and(row, judge_role(alloc, known, scope, last, unit));
+        row = with(row, judge_role(alloc, known, scope, last, unit));
     }
     row
 }
