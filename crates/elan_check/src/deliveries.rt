@@ -12,10 +12,10 @@ ghost use Rattle.elan_check.specs.Refinements as spec;
 ghost use Rattle.elan_judge.specs.Shape as shape;
 
 use elan_judge::judge::{is_empty, judge_unit};
-use elan_judge::row::let_meant_go;
 use elan_levels::bodies::body_names;
 use elan_levels::heading::{first_refinement, next_number, number_behind};
 use elan_levels::uses::in_units;
+use elan_rows::let_meant_go;
 use elan_rules::delivery::Delivery;
 use elan_rules::heading::{Heading, What};
 use elan_rules::known::Known;

@@ -13,13 +13,13 @@ ghost use Rattle.elan_check.specs.Level as spec;
 ghost use Rattle.elan_judge.specs.Shape as shape;
 
 use elan_judge::judge::{all_empty, is_empty, judge_units};
-use elan_judge::row::{let_go, let_meant_go, with};
 use elan_levels::bodies::{body_names, held_types, own_names, parameters};
 use elan_levels::heading::{next_number, result_type};
+use elan_rows::{let_go, let_meant_go, pair, with};
 use elan_rules::heading::Sort;
 use elan_rules::known::Known;
 use elan_rules::meant::Meant;
-use elan_rules::row::{Judged, Row, pair};
+use elan_rules::row::{Judged, Row};
 use elan_rules::rules::body::{bodies_of, body};
 use elan_rules::rules::name::{declared, headed};
 use elan_rules::rules::whole::refinement_parts;

@@ -9,11 +9,11 @@ ghost use Rattle.elan_rules.specs.Answer.{Is};
 ghost use Rattle.elan_judge.specs.Shape as shape;
 
 use crate::label::{add_numbers, judge_labels};
-use crate::row::{let_go, let_meant_go, none, with};
+use elan_rows::{four, let_go, let_meant_go, none, one, pair, three, with};
 use elan_rules::heading::Sort;
 use elan_rules::known::Known;
 use elan_rules::meant::{Meant, Usage};
-use elan_rules::row::{Judged, Row, four, one, pair, three};
+use elan_rules::row::{Judged, Row};
 use elan_rules::rules::assignment::assignment;
 use elan_rules::rules::call::applied;
 use elan_rules::rules::choice::branches_of;

@@ -3,4 +3,3 @@
 
 pub mod judge;
 pub mod label;
-pub mod row;
