@@ -309,10 +309,7 @@ fn in_level_unit(unit: &LevelUnit) -> bool
             body,
             ..
         } => {
-            optional_type(result)
-                || operator(&named.operator)
-                || formals(given)
-                || in_body(body)
+            optional_type(result) || operator(&named.operator) || formals(given) || in_body(body)
         }
     }
 }
@@ -334,8 +331,7 @@ pub fn has_unbuilt(tree: &Tree) -> bool
     ensures { result ≡ spec.not_built tree.now }
 {
     match tree {
-        Tree::Program(level) => in_level_units(&level.units)
-            || refinements(&level.refinements),
+        Tree::Program(level) => in_level_units(&level.units) || refinements(&level.refinements),
         Tree::Packet { .. } => true,
     }
 }
