@@ -2,12 +2,12 @@
 
 ghost use Rattle.std.specs.Prelude.{◌≡◌, ◌++◌, List, map, None, true, IfOk};
 ghost use Rattle.elan_types.specs.declared.core_phrase.Scope.TheVariants as owner;
-ghost use Rattle.elan_rules.specs.declared.known.Known.{Known};
-ghost use Rattle.elan_rules.specs.declared.scope.Scope.{Scope};
-ghost use Rattle.elan_rules.specs.Phrase as form;
-ghost use Rattle.elan_rules.specs.Phrase.{Phrase, phrase, around, all_of};
+ghost use Rattle.elan_scope.specs.declared.known.Known.{Known};
+ghost use Rattle.elan_scope.specs.declared.scope.Scope.{Scope};
+ghost use Rattle.elan_scope.specs.Phrase as form;
+ghost use Rattle.elan_scope.specs.Phrase.{Phrase, phrase, around, all_of};
 ghost use Rattle.elan_rules.specs.Meaning.{judged, judged_all};
-ghost use Rattle.elan_rules.specs.Answer.{Is};
+ghost use Rattle.elan_scope.specs.Answer.{Is};
 ghost use Rattle.elan_levels.specs.Bodies as bodies;
 ghost use Rattle.elan_check.specs.Level as spec;
 ghost use Rattle.elan_judge.specs.Shape as shape;
@@ -15,20 +15,20 @@ ghost use Rattle.elan_judge.specs.Shape as shape;
 use elan_judge::judge::{all_empty, is_empty, judge_units};
 use elan_levels::bodies::{body_names, held_types, own_names, parameters};
 use elan_levels::heading::{next_number, result_type};
+use elan_meant::meant::Meant;
+use elan_meant::row::{Judged, Row};
 use elan_rows::{let_go, let_meant_go, pair, with};
-use elan_rules::heading::Sort;
-use elan_rules::known::Known;
-use elan_rules::meant::Meant;
-use elan_rules::row::{Judged, Row};
-use elan_rules::rules::body::{bodies_of, body};
-use elan_rules::rules::name::{declared, headed};
-use elan_rules::rules::whole::refinement_parts;
-use elan_rules::scope::{Scope, Within};
-use elan_rules::trouble::Trouble;
+use elan_rules::whole::refinement_parts;
+use elan_scope::heading::Sort;
+use elan_scope::known::Known;
+use elan_scope::scope::{Scope, Within};
+use elan_scope::trouble::Trouble;
 use elan_tree::{Body, Expr, Formal, Name, Refinement, TypePhrase, Unit};
 use elan_types::Scope as Owner;
 use eu_base::NoMemory;
 use std::alloc::Global;
+use unit_rules::body::{bodies_of, body};
+use value_rules::name::{declared, headed};
 
 /// A PROC or OP as it is written, with its number among the bodies of the level.
 #[derive(Clone, Copy)]

@@ -1,38 +1,38 @@
 //! The meaning of expressions and units, from left to right.
 
 ghost use Rattle.std.specs.Prelude.{ℕ, ◌≡◌, [], map, true, false, ◌&&◌};
-ghost use Rattle.elan_rules.specs.declared.scope.Scope.{Scope};
-ghost use Rattle.elan_rules.specs.Phrase as form;
-ghost use Rattle.elan_rules.specs.Phrase.{phrase, all_of};
+ghost use Rattle.elan_scope.specs.declared.scope.Scope.{Scope};
+ghost use Rattle.elan_scope.specs.Phrase as form;
+ghost use Rattle.elan_scope.specs.Phrase.{phrase, all_of};
 ghost use Rattle.elan_rules.specs.Meaning.{judged, judged_all};
-ghost use Rattle.elan_rules.specs.Answer.{Is};
+ghost use Rattle.elan_scope.specs.Answer.{Is};
 ghost use Rattle.elan_judge.specs.Shape as shape;
 
 use crate::label::{add_numbers, judge_labels};
+use choice_rules::choice::branches_of;
+use choice_rules::selection::arms_of;
+use elan_meant::meant::Meant;
+use elan_meant::row::{Judged, Row};
 use elan_rows::{four, let_go, let_meant_go, none, one, pair, three, with};
-use elan_rules::heading::Sort;
-use elan_rules::known::Known;
-use elan_rules::meant::{Meant, Usage};
-use elan_rules::row::{Judged, Row};
-use elan_rules::rules::assignment::assignment;
-use elan_rules::rules::call::applied;
-use elan_rules::rules::choice::branches_of;
-use elan_rules::rules::leave::leaving;
-use elan_rules::rules::list::{alone, declaration, in_order, without_value};
-use elan_rules::rules::name::{declared, named};
-use elan_rules::rules::selection::arms_of;
-use elan_rules::rules::value::{bracketed, number, truth};
-use elan_rules::rules::whole::{
+use elan_rules::assignment::assignment;
+use elan_rules::whole::{
     arm_parts, branch_parts, cand_parts, choice_parts, cor_parts, counter_parts, initial_parts,
     loop_parts, selection_parts,
 };
-use elan_rules::scope::Scope;
-use elan_rules::trouble::Trouble;
+use elan_scope::heading::Sort;
+use elan_scope::known::Known;
+use elan_scope::scope::{Scope, Usage};
+use elan_scope::trouble::Trouble;
 use elan_tree::{Branch, Case, Counter, Expr, Item, Limit, Unit};
 use elan_types::{Way, Why};
 use elan_unbuilt::operator_text;
 use eu_base::{Boxed, List};
 use std::alloc::Global;
+use unit_rules::list::{alone, declaration, in_order, without_value};
+use value_rules::call::applied;
+use value_rules::leave::leaving;
+use value_rules::name::{declared, named};
+use value_rules::value::{bracketed, number, truth};
 
 /// Whether a unit is empty.
 pub fn is_empty(unit: &Unit) -> bool

@@ -5,7 +5,7 @@ ghost use Rattle.elan_levels.specs.Bodies as spec;
 
 use crate::bodies::parameters;
 use crate::declare::written_type;
-use elan_rules::heading::{Heading, Sort, What};
+use elan_scope::heading::{Heading, Sort, What};
 use elan_tree::{Formal, Level, LevelUnit, Refinement, TypePhrase};
 use elan_types::ElanType;
 use elan_unbuilt::operator_text;

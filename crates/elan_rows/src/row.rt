@@ -1,13 +1,13 @@
 //! What several phrases mean together.
 
 ghost use Rattle.std.specs.Prelude.{[], List};
-ghost use Rattle.elan_rules.specs.declared.meant.Meant.{Meant};
-ghost use Rattle.elan_rules.specs.Ruled.{Ruled, gives, before, joined};
-ghost use Rattle.elan_rules.specs.Answer.{Is};
+ghost use Rattle.elan_meant.specs.declared.meant.Meant.{Meant};
+ghost use Rattle.elan_scope.specs.Ruled.{Ruled, gives, before, joined};
+ghost use Rattle.elan_scope.specs.Answer.{Is};
 
-use elan_rules::meant::Meant;
-use elan_rules::row as rows;
-use elan_rules::row::{Judged, Row};
+use elan_meant::meant::Meant;
+use elan_meant::row as rows;
+use elan_meant::row::{Judged, Row};
 use eu_base::List;
 use std::alloc::Global;
 

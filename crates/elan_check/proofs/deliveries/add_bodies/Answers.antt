@@ -1,7 +1,7 @@
 use Rattle.std.proofs.Common.{List, ap, ◌∙◌}
 use Rattle.elan_tree.specs.declared.tree.Refinement.{Refinement}
 use Rattle.elan_tree.specs.declared.tree.LevelUnit.{LevelUnit}
-use Rattle.elan_rules.specs.declared.known.Known.{Known}
+use Rattle.elan_scope.specs.declared.known.Known.{Known}
 use Rattle.elan_levels.specs.Bodies.{bodies_of_units}
 use Rattle.elan_check.specs.Level.{all_unit_bodies, all_refined_units}
 use Rattle.elan_check.specs.Refinements.{all_known}
