@@ -1,21 +1,21 @@
 //! Bodies with their refinements, PROC and OP.
 
 ghost use Rattle.std.specs.Prelude.{◌≡◌, ◌≤◌, ◌<◌, ◌+◌, max, IfOk};
-ghost use Rattle.elan_parser.specs.Rule as rule;
-ghost use Rattle.elan_parser.specs.Rule.{Gives, GivesTall};
-ghost use Rattle.elan_parser.specs.Kinds as kinds;
-ghost use Rattle.elan_parser.specs.Terminals as terminals;
-ghost use Rattle.elan_parser.specs.Grammar as spec;
-ghost use Rattle.elan_parser.specs.Depth.{units_depth, formal_depth, formals_depth, option_type_depth, refinement_depth, refinements_depth, body_depth, level_unit_depth};
+ghost use Rattle.elan_grammar.specs.Rule as rule;
+ghost use Rattle.elan_grammar.specs.Rule.{Gives, GivesTall};
+ghost use Rattle.elan_grammar.specs.Kinds as kinds;
+ghost use Rattle.elan_grammar.specs.Terminals as terminals;
+ghost use Rattle.elan_grammar.specs.Grammar as spec;
+ghost use Rattle.elan_grammar.specs.Depth.{units_depth, formal_depth, formals_depth, option_type_depth, refinement_depth, refinements_depth, body_depth, level_unit_depth};
 
-use crate::cursor::Cursor;
-use crate::error::ParseError;
-use crate::heading::{OperatorParts, ProcParts};
-use crate::kind::{goes_on, is_ident, is_operator, is_point, is_sign, leads};
-use crate::knot::units;
-use crate::parts::formals;
-use crate::tall::{Tall, and, single, with_last};
-use crate::types::{type_place, types};
+use elan_cursor::Cursor;
+use elan_grammar::ParseError;
+use elan_grammar::{OperatorParts, ProcParts};
+use elan_cursor::kind::{goes_on, is_ident, is_operator, is_point, is_sign, leads};
+use phrase_parser::units;
+use type_parser::formals;
+use elan_grammar::tall::{Tall, and, single, with_last};
+use type_parser::{type_place, types};
 use containers::{List, NoMemory};
 use elan_tree::{
     Access, Body, Formal, Key, LevelUnit, Name, Operator, OperatorName, Refinement, Sign,
@@ -29,7 +29,7 @@ pub const MOST: u16 = 400;
 /// What stands in a body is at most so deep.
 const MOST_IN_BODY: u16 = 399;
 
-#[tactic(auto, unfolding(crate::specs::Grammar::refinement))]
+#[tactic(auto, unfolding(elan_grammar::specs::Grammar::refinement))]
 fn refinement(
     alloc: Global,
     cursor: &mut Cursor<'_>,
@@ -52,7 +52,7 @@ fn refinement(
     })
 }
 
-#[tactic(auto, unfolding(crate::specs::Grammar::last_point))]
+#[tactic(auto, unfolding(elan_grammar::specs::Grammar::last_point))]
 pub fn last_point(cursor: &mut Cursor<'_>) -> Result<Option<u32>, ParseError>
     ensures { Gives ((spec.last_point).run cursor.old.rest.now) result cursor.new.rest.now }
 {
@@ -62,7 +62,7 @@ pub fn last_point(cursor: &mut Cursor<'_>) -> Result<Option<u32>, ParseError>
     Ok(Some(cursor.mark(Sign::Point)?))
 }
 
-#[tactic(auto, using(crate::proofs::Turns::turn_on, crate::proofs::Turns::turn_off, crate::proofs::Turns::turn_end, crate::proofs::Deepest::deepest_push))]
+#[tactic(auto, using(elan_grammar::proofs::Turns::turn_on, elan_grammar::proofs::Turns::turn_off, elan_grammar::proofs::Turns::turn_end, elan_grammar::proofs::Deepest::deepest_push))]
 fn more_refinements(
     alloc: Global,
     cursor: &mut Cursor<'_>,
@@ -85,7 +85,7 @@ fn more_refinements(
     Ok(row)
 }
 
-#[tactic(auto, unfolding(crate::specs::Grammar::refinement_list), using(crate::proofs::Deepest::deepest_one))]
+#[tactic(auto, unfolding(elan_grammar::specs::Grammar::refinement_list), using(elan_grammar::proofs::Deepest::deepest_one))]
 fn refinement_list(
     alloc: Global,
     cursor: &mut Cursor<'_>,
@@ -99,7 +99,7 @@ fn refinement_list(
     more_refinements(alloc, cursor, depth, single(alloc, first)?)
 }
 
-#[tactic(auto, unfolding(crate::specs::Grammar::refinements))]
+#[tactic(auto, unfolding(elan_grammar::specs::Grammar::refinements))]
 fn refinements(
     alloc: Global,
     cursor: &mut Cursor<'_>,
@@ -114,7 +114,7 @@ fn refinements(
     Ok(row)
 }
 
-#[tactic(auto, unfolding(crate::specs::Grammar::point_tail))]
+#[tactic(auto, unfolding(elan_grammar::specs::Grammar::point_tail))]
 fn point_tail(
     alloc: Global,
     cursor: &mut Cursor<'_>,
@@ -135,7 +135,7 @@ fn point_tail(
 }
 
 /// What may end a list of units: its refinements.
-#[tactic(auto, unfolding(crate::specs::Grammar::tail))]
+#[tactic(auto, unfolding(elan_grammar::specs::Grammar::tail))]
 pub fn tail(
     alloc: Global,
     cursor: &mut Cursor<'_>,
@@ -154,7 +154,7 @@ pub fn tail(
     })
 }
 
-#[tactic(auto, unfolding(crate::specs::Grammar::body))]
+#[tactic(auto, unfolding(elan_grammar::specs::Grammar::body))]
 fn body(alloc: Global, cursor: &mut Cursor<'_>) -> Result<Tall<Body>, ParseError>
     ensures reads { GivesTall ((spec.body).run cursor.old.rest.now) result cursor.new.rest.now }
     ensures tall { IfOk result (λ a. a.height ≡ body_depth a.tree) }
@@ -171,7 +171,7 @@ fn body(alloc: Global, cursor: &mut Cursor<'_>) -> Result<Tall<Body>, ParseError
 }
 
 /// The name of what ends, where it is written.
-#[tactic(auto, unfolding(crate::specs::Grammar::end_name))]
+#[tactic(auto, unfolding(elan_grammar::specs::Grammar::end_name))]
 pub fn end_name(cursor: &mut Cursor<'_>, name: &Name) -> Result<Option<()>, ParseError>
     ensures { Gives ((spec.end_name name.now).run cursor.old.rest.now) result cursor.new.rest.now }
 {
@@ -182,7 +182,7 @@ pub fn end_name(cursor: &mut Cursor<'_>, name: &Name) -> Result<Option<()>, Pars
     Ok(Some(()))
 }
 
-#[tactic(auto, unfolding(crate::specs::Grammar::end_operator))]
+#[tactic(auto, unfolding(elan_grammar::specs::Grammar::end_operator))]
 fn end_operator(cursor: &mut Cursor<'_>, name: &OperatorName) -> Result<Option<()>, ParseError>
     ensures { Gives ((spec.end_operator name.now).run cursor.old.rest.now) result cursor.new.rest.now }
 {
@@ -193,7 +193,7 @@ fn end_operator(cursor: &mut Cursor<'_>, name: &OperatorName) -> Result<Option<(
     Ok(Some(()))
 }
 
-#[tactic(auto, unfolding(crate::specs::Grammar::formal_list))]
+#[tactic(auto, unfolding(elan_grammar::specs::Grammar::formal_list))]
 fn formal_list(alloc: Global, cursor: &mut Cursor<'_>) -> Result<Tall<List<Formal>>, ParseError>
     ensures reads { GivesTall ((spec.formal_list).run cursor.old.rest.now) result cursor.new.rest.now }
     ensures tall { IfOk result (λ a. a.height ≡ formals_depth a.tree) }
@@ -205,7 +205,7 @@ fn formal_list(alloc: Global, cursor: &mut Cursor<'_>) -> Result<Tall<List<Forma
     Ok(row)
 }
 
-#[tactic(auto, unfolding(crate::specs::Grammar::optional_formals))]
+#[tactic(auto, unfolding(elan_grammar::specs::Grammar::optional_formals))]
 fn optional_formals(
     alloc: Global,
     cursor: &mut Cursor<'_>,
@@ -233,7 +233,7 @@ fn start(of: &Option<TypePhrase>, at: u32) -> u32
     }
 }
 
-#[tactic(auto, unfolding(crate::specs::Grammar::proc_parts))]
+#[tactic(auto, unfolding(elan_grammar::specs::Grammar::proc_parts))]
 fn proc_parts(alloc: Global, cursor: &mut Cursor<'_>) -> Result<Tall<ProcParts>, ParseError>
     ensures reads { GivesTall ((spec.proc_parts).run cursor.old.rest.now) result cursor.new.rest.now }
     ensures tall { IfOk result (λ a. a.height ≡ max (formals_depth a.tree.formals) (body_depth a.tree.body) + 1) }
@@ -258,7 +258,7 @@ fn proc_parts(alloc: Global, cursor: &mut Cursor<'_>) -> Result<Tall<ProcParts>,
 }
 
 /// A PROC behind the type of its result.
-#[tactic(auto, unfolding(crate::specs::Grammar::proc))]
+#[tactic(auto, unfolding(elan_grammar::specs::Grammar::proc))]
 pub fn proc(
     alloc: Global,
     cursor: &mut Cursor<'_>,
@@ -306,7 +306,7 @@ fn operand_of(alloc: Global, of: TypePhrase, access: Access, name: Name) -> Resu
     Ok(Formal { of, access, names })
 }
 
-#[tactic(auto, unfolding(crate::specs::Grammar::operand))]
+#[tactic(auto, unfolding(elan_grammar::specs::Grammar::operand))]
 fn operand(alloc: Global, cursor: &mut Cursor<'_>) -> Result<Tall<Formal>, ParseError>
     ensures reads { GivesTall ((spec.operand).run cursor.old.rest.now) result cursor.new.rest.now }
     ensures tall { IfOk result (λ a. a.height ≡ formal_depth a.tree) }
@@ -320,7 +320,7 @@ fn operand(alloc: Global, cursor: &mut Cursor<'_>) -> Result<Tall<Formal>, Parse
     Ok(Tall { tree, height })
 }
 
-#[tactic(auto, unfolding(crate::specs::Grammar::same_typed), using(crate::proofs::Deepest::deepest_one))]
+#[tactic(auto, unfolding(elan_grammar::specs::Grammar::same_typed), using(elan_grammar::proofs::Deepest::deepest_one))]
 fn same_typed(
     alloc: Global,
     cursor: &mut Cursor<'_>,
@@ -339,7 +339,7 @@ fn same_typed(
     Ok(single(alloc, Tall { tree, height })?)
 }
 
-#[tactic(auto, unfolding(crate::specs::Grammar::other_typed), using(crate::proofs::Deepest::deepest_one, crate::proofs::Deepest::deepest_push))]
+#[tactic(auto, unfolding(elan_grammar::specs::Grammar::other_typed), using(elan_grammar::proofs::Deepest::deepest_one, elan_grammar::proofs::Deepest::deepest_push))]
 fn other_typed(
     alloc: Global,
     cursor: &mut Cursor<'_>,
@@ -356,7 +356,7 @@ fn other_typed(
     Ok(with_last(single(alloc, first)?, second)?)
 }
 
-#[tactic(auto, unfolding(crate::specs::Grammar::one_operand), using(crate::proofs::Deepest::deepest_one))]
+#[tactic(auto, unfolding(elan_grammar::specs::Grammar::one_operand), using(elan_grammar::proofs::Deepest::deepest_one))]
 fn one_operand(
     alloc: Global,
     cursor: &mut Cursor<'_>,
@@ -376,7 +376,7 @@ fn one_operand(
 }
 
 /// As many operands as an operator takes.
-#[tactic(auto, unfolding(crate::specs::Grammar::operands))]
+#[tactic(auto, unfolding(elan_grammar::specs::Grammar::operands))]
 fn operands(
     alloc: Global,
     cursor: &mut Cursor<'_>,
@@ -397,7 +397,7 @@ fn operands(
     }
 }
 
-#[tactic(auto, unfolding(crate::specs::Grammar::operator_parts))]
+#[tactic(auto, unfolding(elan_grammar::specs::Grammar::operator_parts))]
 fn operator_parts(alloc: Global, cursor: &mut Cursor<'_>) -> Result<Tall<OperatorParts>, ParseError>
     ensures reads { GivesTall ((spec.operator_parts).run cursor.old.rest.now) result cursor.new.rest.now }
     ensures tall { IfOk result (λ a. a.height ≡ max (formals_depth a.tree.formals) (body_depth a.tree.body) + 1) }
@@ -424,7 +424,7 @@ fn operator_parts(alloc: Global, cursor: &mut Cursor<'_>) -> Result<Tall<Operato
 }
 
 /// An OP behind the type of its result.
-#[tactic(auto, unfolding(crate::specs::Grammar::operator))]
+#[tactic(auto, unfolding(elan_grammar::specs::Grammar::operator))]
 pub fn operator(
     alloc: Global,
     cursor: &mut Cursor<'_>,

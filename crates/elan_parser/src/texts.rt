@@ -1,28 +1,27 @@
 //! Whole texts: programs and packets.
 
 ghost use Rattle.std.specs.Prelude.{◌≡◌, ℕ, List, Err, Bool, ◌≤◌, ◌<◌, ◌+◌, IfOk};
-ghost use Rattle.elan_parser.specs.Rule as rule;
-ghost use Rattle.elan_parser.specs.Rule.{Gives, GivesTall};
-ghost use Rattle.elan_parser.specs.Kinds as kinds;
-ghost use Rattle.elan_parser.specs.Terminals as terminals;
-ghost use Rattle.elan_parser.specs.Grammar as spec;
-ghost use Rattle.elan_parser.specs.Grammar.{Reads};
-ghost use Rattle.elan_parser.specs.Place.{left, ReadsOn, StaysStuck};
-ghost use Rattle.elan_parser.specs.Depth.{type_depth, level_unit_depth, level_units_depth, level_depth, tree_depth};
+ghost use Rattle.elan_grammar.specs.Rule as rule;
+ghost use Rattle.elan_grammar.specs.Rule.{Gives, GivesTall};
+ghost use Rattle.elan_grammar.specs.Kinds as kinds;
+ghost use Rattle.elan_grammar.specs.Terminals as terminals;
+ghost use Rattle.elan_grammar.specs.Grammar as spec;
+ghost use Rattle.elan_grammar.specs.Grammar.{Reads};
+ghost use Rattle.elan_grammar.specs.Place.{left};
+ghost use Rattle.elan_grammar.specs.Depth.{type_depth, level_unit_depth, level_units_depth, level_depth, tree_depth};
 
 use crate::bodies::{MOST, end_name, last_point, operator, proc, tail};
-use crate::cursor::Cursor;
-use crate::error::ParseError;
-use crate::expressions::Grammar;
-use crate::kind::{begins_typed, is_comma, is_key};
-use crate::knot::{expression, units};
-use crate::tall::{Tall, single, with_last};
-use crate::types::types;
+use elan_cursor::Cursor;
+use elan_grammar::ParseError;
+use elan_cursor::kind::{begins_typed, is_comma, is_key};
+use phrase_parser::{declared, plain};
+use elan_grammar::tall::{Tall, single, with_last};
+use type_parser::types;
 use containers::List;
 use elan_tree::{Export, Key, Level, LevelUnit, Sign, Token, Tree, TypePhrase};
 use std::alloc::Global;
 
-#[tactic(auto, unfolding(crate::specs::Grammar::new_type))]
+#[tactic(auto, unfolding(elan_grammar::specs::Grammar::new_type))]
 fn new_type(alloc: Global, cursor: &mut Cursor<'_>) -> Result<Tall<LevelUnit>, ParseError>
     ensures reads { GivesTall ((spec.new_type).run cursor.old.rest.now) result cursor.new.rest.now }
     ensures tall { IfOk result (λ a. a.height ≡ level_unit_depth a.tree) }
@@ -43,7 +42,7 @@ fn new_type(alloc: Global, cursor: &mut Cursor<'_>) -> Result<Tall<LevelUnit>, P
     })
 }
 
-#[tactic(auto, unfolding(crate::specs::Grammar::declared_unit))]
+#[tactic(auto, unfolding(elan_grammar::specs::Grammar::declared_unit))]
 fn declared_unit(
     alloc: Global,
     cursor: &mut Cursor<'_>,
@@ -55,20 +54,14 @@ fn declared_unit(
     ensures tall { IfOk result (λ a. a.height ≡ level_unit_depth a.tree) }
     ensures low { IfOk result (λ a. a.height ≤ 400) }
 {
-    let grammar = Grammar {
-        alloc,
-        depth: MOST,
-        expression,
-        units,
-    };
-    let unit = grammar.declared(cursor, of)?;
+    let unit = declared(alloc, cursor, MOST, of)?;
     Ok(Tall {
         tree: LevelUnit::Plain(unit.tree),
         height: unit.height,
     })
 }
 
-#[tactic(auto, unfolding(crate::specs::Grammar::typed_unit))]
+#[tactic(auto, unfolding(elan_grammar::specs::Grammar::typed_unit))]
 fn typed_unit(alloc: Global, cursor: &mut Cursor<'_>) -> Result<Tall<LevelUnit>, ParseError>
     ensures reads { GivesTall ((spec.typed_unit).run cursor.old.rest.now) result cursor.new.rest.now }
     ensures tall { IfOk result (λ a. a.height ≡ level_unit_depth a.tree) }
@@ -90,26 +83,20 @@ fn typed_unit(alloc: Global, cursor: &mut Cursor<'_>) -> Result<Tall<LevelUnit>,
     }
 }
 
-#[tactic(auto, unfolding(crate::specs::Grammar::plain_unit))]
+#[tactic(auto, unfolding(elan_grammar::specs::Grammar::plain_unit))]
 fn plain_unit(alloc: Global, cursor: &mut Cursor<'_>) -> Result<Tall<LevelUnit>, ParseError>
     ensures reads { GivesTall ((spec.plain_unit).run cursor.old.rest.now) result cursor.new.rest.now }
     ensures tall { IfOk result (λ a. a.height ≡ level_unit_depth a.tree) }
     ensures low { IfOk result (λ a. a.height ≤ 400) }
 {
-    let grammar = Grammar {
-        alloc,
-        depth: MOST,
-        expression,
-        units,
-    };
-    let unit = grammar.plain(cursor)?;
+    let unit = plain(alloc, cursor, MOST)?;
     Ok(Tall {
         tree: LevelUnit::Plain(unit.tree),
         height: unit.height,
     })
 }
 
-#[tactic(auto, unfolding(crate::specs::Grammar::level_unit))]
+#[tactic(auto, unfolding(elan_grammar::specs::Grammar::level_unit))]
 fn level_unit(alloc: Global, cursor: &mut Cursor<'_>) -> Result<Tall<LevelUnit>, ParseError>
     ensures reads { GivesTall ((spec.level_unit).run cursor.old.rest.now) result cursor.new.rest.now }
     ensures tall { IfOk result (λ a. a.height ≡ level_unit_depth a.tree) }
@@ -133,7 +120,7 @@ fn level_unit(alloc: Global, cursor: &mut Cursor<'_>) -> Result<Tall<LevelUnit>,
     }
 }
 
-#[tactic(auto, using(crate::proofs::Turns::turn_on, crate::proofs::Turns::turn_off, crate::proofs::Turns::turn_end, crate::proofs::Deepest::deepest_push))]
+#[tactic(auto, using(elan_grammar::proofs::Turns::turn_on, elan_grammar::proofs::Turns::turn_off, elan_grammar::proofs::Turns::turn_end, elan_grammar::proofs::Deepest::deepest_push))]
 fn more_level_units(
     alloc: Global,
     cursor: &mut Cursor<'_>,
@@ -155,7 +142,7 @@ fn more_level_units(
     Ok(row)
 }
 
-#[tactic(auto, unfolding(crate::specs::Grammar::level_units), using(crate::proofs::Deepest::deepest_one))]
+#[tactic(auto, unfolding(elan_grammar::specs::Grammar::level_units), using(elan_grammar::proofs::Deepest::deepest_one))]
 fn level_units(alloc: Global, cursor: &mut Cursor<'_>) -> Result<Tall<List<LevelUnit>>, ParseError>
     ensures reads { GivesTall ((spec.level_units).run cursor.old.rest.now) result cursor.new.rest.now }
     ensures tall { IfOk result (λ a. a.height ≡ level_units_depth a.tree) }
@@ -165,7 +152,7 @@ fn level_units(alloc: Global, cursor: &mut Cursor<'_>) -> Result<Tall<List<Level
     more_level_units(alloc, cursor, single(alloc, first)?)
 }
 
-#[tactic(auto, unfolding(crate::specs::Grammar::a_level))]
+#[tactic(auto, unfolding(elan_grammar::specs::Grammar::a_level))]
 fn a_level(alloc: Global, cursor: &mut Cursor<'_>) -> Result<Tall<Level>, ParseError>
     ensures reads { GivesTall ((spec.a_level).run cursor.old.rest.now) result cursor.new.rest.now }
     ensures tall { IfOk result (λ a. a.height ≡ level_depth a.tree) }
@@ -181,7 +168,7 @@ fn a_level(alloc: Global, cursor: &mut Cursor<'_>) -> Result<Tall<Level>, ParseE
     Ok(Tall { tree, height })
 }
 
-#[tactic(auto, unfolding(crate::specs::Grammar::program))]
+#[tactic(auto, unfolding(elan_grammar::specs::Grammar::program))]
 fn program(alloc: Global, cursor: &mut Cursor<'_>) -> Result<Tall<Tree>, ParseError>
     ensures reads { GivesTall ((spec.program).run cursor.old.rest.now) result cursor.new.rest.now }
     ensures tall { IfOk result (λ a. a.height ≡ tree_depth a.tree) }
@@ -194,7 +181,7 @@ fn program(alloc: Global, cursor: &mut Cursor<'_>) -> Result<Tall<Tree>, ParseEr
     })
 }
 
-#[tactic(auto, using(crate::proofs::Turns::turn_on, crate::proofs::Turns::turn_off, crate::proofs::Turns::turn_end))]
+#[tactic(auto, using(elan_grammar::proofs::Turns::turn_on, elan_grammar::proofs::Turns::turn_off, elan_grammar::proofs::Turns::turn_end))]
 fn more_exports(
     alloc: Global,
     cursor: &mut Cursor<'_>,
@@ -212,7 +199,7 @@ fn more_exports(
     Ok(exports)
 }
 
-#[tactic(auto, unfolding(crate::specs::Grammar::export_list))]
+#[tactic(auto, unfolding(elan_grammar::specs::Grammar::export_list))]
 fn export_list(alloc: Global, cursor: &mut Cursor<'_>) -> Result<List<Export>, ParseError>
     ensures { Gives ((spec.export_list).run cursor.old.rest.now) result cursor.new.rest.now }
 {
@@ -221,7 +208,7 @@ fn export_list(alloc: Global, cursor: &mut Cursor<'_>) -> Result<List<Export>, P
     more_exports(alloc, cursor, exports)
 }
 
-#[tactic(auto, unfolding(crate::specs::Grammar::exports))]
+#[tactic(auto, unfolding(elan_grammar::specs::Grammar::exports))]
 fn exports(alloc: Global, cursor: &mut Cursor<'_>) -> Result<List<Export>, ParseError>
     ensures { Gives ((spec.exports).run cursor.old.rest.now) result cursor.new.rest.now }
 {
@@ -232,7 +219,7 @@ fn exports(alloc: Global, cursor: &mut Cursor<'_>) -> Result<List<Export>, Parse
     export_list(alloc, cursor)
 }
 
-#[tactic(auto, unfolding(crate::specs::Grammar::last_mark))]
+#[tactic(auto, unfolding(elan_grammar::specs::Grammar::last_mark))]
 fn last_mark(cursor: &mut Cursor<'_>) -> Result<Option<u32>, ParseError>
     ensures { Gives ((spec.last_mark).run cursor.old.rest.now) result cursor.new.rest.now }
 {
@@ -242,7 +229,7 @@ fn last_mark(cursor: &mut Cursor<'_>) -> Result<Option<u32>, ParseError>
     last_point(cursor)
 }
 
-#[tactic(auto, unfolding(crate::specs::Grammar::packet))]
+#[tactic(auto, unfolding(elan_grammar::specs::Grammar::packet))]
 fn packet(alloc: Global, cursor: &mut Cursor<'_>) -> Result<Tall<Tree>, ParseError>
     ensures reads { GivesTall ((spec.packet).run cursor.old.rest.now) result cursor.new.rest.now }
     ensures tall { IfOk result (λ a. a.height ≡ tree_depth a.tree) }
@@ -282,7 +269,7 @@ fn text(alloc: Global, cursor: &mut Cursor<'_>, is_packet: bool) -> Result<Tall<
 }
 
 /// The tree that the tokens spell, as a packet or as a program.
-#[tactic(auto, using(crate::proofs::GrammarLaws::is_read, crate::proofs::GrammarLaws::refused_run, crate::proofs::GrammarLaws::left_empty, crate::proofs::GrammarLaws::left_err, crate::proofs::GrammarLaws::left_ok))]
+#[tactic(auto, using(elan_grammar::proofs::GrammarLaws::is_read, elan_grammar::proofs::GrammarLaws::refused_run, elan_grammar::proofs::GrammarLaws::left_empty, elan_grammar::proofs::GrammarLaws::left_err, elan_grammar::proofs::GrammarLaws::left_ok))]
 pub fn parse(alloc: Global, tokens: &[Token], packet: bool) -> Result<Tree, ParseError>
     ensures ok { IfOk result (λ t. Reads packet tokens.now t) }
     ensures deep { IfOk result (λ t. tree_depth t ≤ 400) }
@@ -299,18 +286,3 @@ pub fn parse(alloc: Global, tokens: &[Token], packet: bool) -> Result<Tree, Pars
     }
     Ok(found.tree)
 }
-
-/// A list of tokens has at most one tree.
-pub fn one_tree()
-    ensures { (packet : Bool) (tokens : List Token) (t u : Tree) → Reads packet tokens t → Reads packet tokens u → t ≡ u }
-{}
-
-/// Law: tokens that spell a tree spell it whatever follows them.
-pub fn reads_on()
-    ensures { (packet : Bool) → ReadsOn packet }
-{}
-
-/// Law: what stands behind the place where the parser is stuck does not matter to it.
-pub fn stays_stuck()
-    ensures { (packet : Bool) → StaysStuck packet }
-{}

@@ -1,10 +1,10 @@
 use Rattle.std.proofs.Common.{◌≡◌, ◌≤◌, ◌-◌, length}
 use Rattle.elan_tree.specs.declared.token.Sign.TheVariants as sign
-use Rattle.elan_parser.specs.Rule.{steps_run, further}
-use Rattle.elan_parser.specs.Kinds.{leads}
-use Rattle.elan_parser.specs.Terminals.{mark}
-use Rattle.elan_parser.specs.Grammar as grammar
-use Rattle.elan_parser.specs.Depth.{refinements_depth}
+use Rattle.elan_grammar.specs.Rule.{steps_run, further}
+use Rattle.elan_grammar.specs.Kinds.{leads}
+use Rattle.elan_grammar.specs.Terminals.{mark}
+use Rattle.elan_grammar.specs.Grammar as grammar
+use Rattle.elan_grammar.specs.Depth.{refinements_depth}
 use Rattle.elan_parser.proofs.bodies.more_refinements.Given as goal
 
 abbrev pub invariant-loop-turn : goal.invariant-loop-turn

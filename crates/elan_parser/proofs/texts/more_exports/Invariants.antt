@@ -1,8 +1,8 @@
 use Rattle.std.proofs.Common.{◌≡◌, ◌-◌, length}
 use Rattle.elan_tree.specs.declared.token.Sign.TheVariants as sign
-use Rattle.elan_parser.specs.Rule.{steps_run, further, terminal}
-use Rattle.elan_parser.specs.Kinds.{is_comma}
-use Rattle.elan_parser.specs.Terminals.{mark, export_at}
+use Rattle.elan_grammar.specs.Rule.{steps_run, further, terminal}
+use Rattle.elan_grammar.specs.Kinds.{is_comma}
+use Rattle.elan_grammar.specs.Terminals.{mark, export_at}
 use Rattle.elan_parser.proofs.texts.more_exports.Given as goal
 
 abbrev pub invariant-loop-turn : goal.invariant-loop-turn

@@ -1,10 +1,10 @@
 use Rattle.std.proofs.Common.{◌≡◌, ◌≤◌, ◌-◌, length}
 use Rattle.elan_tree.specs.declared.token.Sign.TheVariants as sign
-use Rattle.elan_parser.specs.Rule.{steps_run, further}
-use Rattle.elan_parser.specs.Kinds.{is_sign}
-use Rattle.elan_parser.specs.Terminals.{mark}
-use Rattle.elan_parser.specs.Grammar as grammar
-use Rattle.elan_parser.specs.Depth.{level_units_depth}
+use Rattle.elan_grammar.specs.Rule.{steps_run, further}
+use Rattle.elan_grammar.specs.Kinds.{is_sign}
+use Rattle.elan_grammar.specs.Terminals.{mark}
+use Rattle.elan_grammar.specs.Grammar as grammar
+use Rattle.elan_grammar.specs.Depth.{level_units_depth}
 use Rattle.elan_parser.proofs.texts.more_level_units.Given as goal
 
 abbrev pub invariant-loop-turn : goal.invariant-loop-turn

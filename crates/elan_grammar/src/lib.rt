@@ -1,0 +1,16 @@
+//! The grammar of ELAN: what a parser sees ahead, what it gives, and the definitions of all productions.
+#![tactic(auto)]
+
+pub mod tall;
+
+mod error;
+mod heading;
+mod joint;
+mod kind;
+mod law;
+
+pub use error::ParseError;
+pub use heading::{OperatorParts, ProcParts};
+pub use joint::{Joint, Right};
+pub use kind::{Kind, Tier};
+pub use law::{one_tree, reads_on, stays_stuck};

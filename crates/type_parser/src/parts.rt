@@ -1,0 +1,174 @@
+//! What holds types and no expression: parameters, constants, LET.
+
+ghost use Rattle.std.specs.Prelude.{◌≡◌, ◌≤◌, IfOk};
+ghost use Rattle.elan_grammar.specs.Rule as rule;
+ghost use Rattle.elan_grammar.specs.Rule.{Gives, GivesTall};
+ghost use Rattle.elan_grammar.specs.Kinds as kinds;
+ghost use Rattle.elan_grammar.specs.Terminals as terminals;
+ghost use Rattle.elan_grammar.specs.Types as spec;
+ghost use Rattle.elan_grammar.specs.Depth.{formal_depth, formals_depth, let_item_depth, let_items_depth};
+
+use elan_cursor::Cursor;
+use elan_grammar::ParseError;
+use elan_cursor::kind::{is_comma, is_ident};
+use elan_grammar::tall::{Tall, single, with_last};
+use crate::types::{names, types};
+use containers::List;
+use elan_tree::{Constant, Formal, LetItem, Sign};
+use std::alloc::Global;
+
+#[tactic(auto, unfolding(elan_grammar::specs::Types::formal))]
+fn formal(alloc: Global, cursor: &mut Cursor<'_>, depth: u16) -> Result<Tall<Formal>, ParseError>
+    ensures reads { GivesTall ((spec.formal depth).run cursor.old.rest.now) result cursor.new.rest.now }
+    ensures tall { IfOk result (λ a. a.height ≡ formal_depth a.tree) }
+    ensures low { IfOk result (λ a. a.height ≤ depth) }
+{
+    let of = types(alloc, cursor, depth)?;
+    let access = cursor.access()?;
+    let names = names(alloc, cursor)?;
+    let tree = Formal {
+        of: of.tree,
+        access,
+        names,
+    };
+    Ok(Tall {
+        tree,
+        height: of.height,
+    })
+}
+
+#[tactic(auto, using(elan_grammar::proofs::Turns::turn_on, elan_grammar::proofs::Turns::turn_off, elan_grammar::proofs::Turns::turn_end, elan_grammar::proofs::Deepest::deepest_push))]
+fn more_formals(
+    alloc: Global,
+    cursor: &mut Cursor<'_>,
+    depth: u16,
+    mut row: Tall<List<Formal>>,
+) -> Result<Tall<List<Formal>>, ParseError>
+    requires tall { row.height ≡ formals_depth row.tree }
+    requires low { row.height ≤ depth }
+    ensures reads { GivesTall ((rule.iterate (rule.further (terminals.mark Sign.Comma) (spec.formal depth)) kinds.is_comma row.tree).run cursor.old.rest.now) result cursor.new.rest.now }
+    ensures tall { IfOk result (λ a. a.height ≡ formals_depth a.tree) }
+    ensures low { IfOk result (λ a. a.height ≤ depth) }
+{
+    for _turn in 0..cursor.rest.len() {
+        if !is_comma(cursor.ahead()) {
+            return Ok(row);
+        }
+        cursor.mark(Sign::Comma)?;
+        row = with_last(row, formal(alloc, cursor, depth)?)?;
+    }
+    Ok(row)
+}
+
+#[tactic(auto, unfolding(elan_grammar::specs::Types::formals), using(elan_grammar::proofs::Deepest::deepest_one))]
+pub fn formals(
+    alloc: Global,
+    cursor: &mut Cursor<'_>,
+    depth: u16,
+) -> Result<Tall<List<Formal>>, ParseError>
+    ensures reads { GivesTall ((spec.formals depth).run cursor.old.rest.now) result cursor.new.rest.now }
+    ensures tall { IfOk result (λ a. a.height ≡ formals_depth a.tree) }
+    ensures low { IfOk result (λ a. a.height ≤ depth) }
+{
+    let first = formal(alloc, cursor, depth)?;
+    more_formals(alloc, cursor, depth, single(alloc, first)?)
+}
+
+#[tactic(auto, unfolding(elan_grammar::specs::Types::negative))]
+fn negative(cursor: &mut Cursor<'_>) -> Result<Constant, ParseError>
+    ensures { Gives ((spec.negative).run cursor.old.rest.now) result cursor.new.rest.now }
+{
+    let at = cursor.mark(Sign::Minus)?;
+    let number = cursor.negated()?;
+    Ok(Constant::Number(at, number))
+}
+
+#[tactic(auto, unfolding(elan_grammar::specs::Types::constant))]
+fn constant(alloc: Global, cursor: &mut Cursor<'_>) -> Result<Constant, ParseError>
+    ensures { Gives ((spec.constant).run cursor.old.rest.now) result cursor.new.rest.now }
+{
+    if cursor.sees_sign(Sign::Minus) {
+        negative(cursor)
+    } else {
+        cursor.constant(alloc)
+    }
+}
+
+#[tactic(auto, unfolding(elan_grammar::specs::Types::let_constant))]
+fn let_constant(alloc: Global, cursor: &mut Cursor<'_>) -> Result<LetItem, ParseError>
+    ensures { Gives ((spec.let_constant).run cursor.old.rest.now) result cursor.new.rest.now }
+{
+    let name = cursor.ident(alloc)?;
+    cursor.mark(Sign::Equal)?;
+    let value = constant(alloc, cursor)?;
+    Ok(LetItem::Constant(name, value))
+}
+
+#[tactic(auto, unfolding(elan_grammar::specs::Types::abbreviation))]
+fn abbreviation(
+    alloc: Global,
+    cursor: &mut Cursor<'_>,
+    depth: u16,
+) -> Result<Tall<LetItem>, ParseError>
+    ensures reads { GivesTall ((spec.abbreviation depth).run cursor.old.rest.now) result cursor.new.rest.now }
+    ensures tall { IfOk result (λ a. a.height ≡ let_item_depth a.tree) }
+    ensures low { IfOk result (λ a. a.height ≤ depth) }
+{
+    let name = cursor.bold(alloc)?;
+    cursor.mark(Sign::Equal)?;
+    let of = types(alloc, cursor, depth)?;
+    Ok(Tall {
+        tree: LetItem::Abbreviation(name, of.tree),
+        height: of.height,
+    })
+}
+
+#[tactic(auto, unfolding(elan_grammar::specs::Types::let_item, elan_grammar::specs::Types::let_constant))]
+fn let_item(alloc: Global, cursor: &mut Cursor<'_>, depth: u16) -> Result<Tall<LetItem>, ParseError>
+    ensures reads { GivesTall ((spec.let_item depth).run cursor.old.rest.now) result cursor.new.rest.now }
+    ensures tall { IfOk result (λ a. a.height ≡ let_item_depth a.tree) }
+    ensures low { IfOk result (λ a. a.height ≤ depth) }
+{
+    if is_ident(cursor.ahead()) {
+        let tree = let_constant(alloc, cursor)?;
+        return Ok(Tall { tree, height: 0 });
+    }
+    abbreviation(alloc, cursor, depth)
+}
+
+#[tactic(auto, using(elan_grammar::proofs::Turns::turn_on, elan_grammar::proofs::Turns::turn_off, elan_grammar::proofs::Turns::turn_end, elan_grammar::proofs::Deepest::deepest_push))]
+fn more_let_items(
+    alloc: Global,
+    cursor: &mut Cursor<'_>,
+    depth: u16,
+    mut row: Tall<List<LetItem>>,
+) -> Result<Tall<List<LetItem>>, ParseError>
+    requires tall { row.height ≡ let_items_depth row.tree }
+    requires low { row.height ≤ depth }
+    ensures reads { GivesTall ((rule.iterate (rule.further (terminals.mark Sign.Comma) (spec.let_item depth)) kinds.is_comma row.tree).run cursor.old.rest.now) result cursor.new.rest.now }
+    ensures tall { IfOk result (λ a. a.height ≡ let_items_depth a.tree) }
+    ensures low { IfOk result (λ a. a.height ≤ depth) }
+{
+    for _turn in 0..cursor.rest.len() {
+        if !is_comma(cursor.ahead()) {
+            return Ok(row);
+        }
+        cursor.mark(Sign::Comma)?;
+        row = with_last(row, let_item(alloc, cursor, depth)?)?;
+    }
+    Ok(row)
+}
+
+#[tactic(auto, unfolding(elan_grammar::specs::Types::let_items), using(elan_grammar::proofs::Deepest::deepest_one))]
+pub fn let_items(
+    alloc: Global,
+    cursor: &mut Cursor<'_>,
+    depth: u16,
+) -> Result<Tall<List<LetItem>>, ParseError>
+    ensures reads { GivesTall ((spec.let_items depth).run cursor.old.rest.now) result cursor.new.rest.now }
+    ensures tall { IfOk result (λ a. a.height ≡ let_items_depth a.tree) }
+    ensures low { IfOk result (λ a. a.height ≤ depth) }
+{
+    let first = let_item(alloc, cursor, depth)?;
+    more_let_items(alloc, cursor, depth, single(alloc, first)?)
+}
