@@ -72,6 +72,15 @@ impl<'a> Cursor<'a> {
         }
     }
 
+    /// END and a keyword.
+    #[tactic(auto, unfolding(elan_grammar::specs::Terminals::end_of))]
+    pub fn end_of(&mut self, key: Key) -> Result<u32, ParseError>
+        ensures { Gives ((spec.end_of key).run self.old.rest.now) result self.new.rest.now }
+    {
+        self.keyword(Key::End)?;
+        self.keyword(key)
+    }
+
     pub fn mark(&mut self, sign: Sign) -> Result<u32, ParseError>
         ensures { Gives ((spec.mark sign).run self.old.rest.now) result self.new.rest.now }
     {

@@ -17,7 +17,7 @@ use Rattle.elan_grammar.proofs.Laws.{Set, Laws, pure_law, bind_law, only_law, ch
 use Rattle.elan_grammar.proofs.Repeats.{iterate_law}
 use Rattle.elan_grammar.proofs.Every.{within, apart}
 use Rattle.elan_grammar.proofs.Seen.{is_colon, colon_ahead, ahead-point, selecting}
-use Rattle.elan_grammar.proofs.Tokens.{given, keyword_law, mark_law, point_law, comma_law, ident_law, ident_shows, literal_law, monadic_law, applies, joint_law}
+use Rattle.elan_grammar.proofs.Tokens.{given, keyword_law, end_law, mark_law, point_law, comma_law, ident_law, ident_shows, literal_law, monadic_law, applies, joint_law}
 use Rattle.elan_grammar.proofs.Forms.{bind_same, narrower, Eats, eats_terminal, eats_only, eats_pure, eats_then, eats_choose, eats_refirst, optional_law, listed_law, listed_by}
 use Rattle.elan_grammar.proofs.TypeLaws.{labels_law, begins_label}
 use Rattle.elan_grammar.proofs.Follows.{ends_level, after_head, after_name, ends_units, begins_unit}
@@ -49,7 +49,7 @@ choice_end_law : (stop : Set) → Laws g.choice_end is_choice_end stop
 unfolding g.choice_end
 choice_end_law stop =
     choose_law (is_key key.End) _ _ (is_key key.End) (is_key key.Fi) is_choice_end stop
-    (bind_same _ _ _ _ _ (keyword_law key.End (is_key key.If)) (λ _. keyword_law key.If stop)) (keyword_law key.Fi stop)
+    (end_law key.If stop) (keyword_law key.Fi stop)
     (λ x h. h) (apart (is_key key.Fi) (is_key key.End) refl) (within (is_key key.End) is_choice_end refl) (within (is_key key.Fi) is_choice_end refl)
 
 module _ (inner : Language) (n : ℕ) (laws : LanguageLaws inner) where
@@ -177,6 +177,14 @@ module _ (inner : Language) (n : ℕ) (laws : LanguageLaws inner) where
       narrower _ _ _ (is_key key.End) laws.bodies (within (is_key key.End) ends_units refl))))
       (λ x h. h) (apart (is_key key.End) (is_key key.Otherwise) refl) (within (is_key key.Otherwise) ends_cases refl) (within (is_key key.End) ends_cases refl)
 
+  select_parts_law : (stop : Set) → Laws (g.select_parts inner n) (is_key key.Case) stop
+  unfolding g.select_parts
+  select_parts_law stop =
+      bind_same _ _ _ _ _ cases_law (λ cs.
+      bind_same _ _ _ _ _ otherwise_part_law (λ o.
+      bind_same _ _ _ _ _ (end_law key.Select stop) (λ _.
+      pure_law _ stop)))
+
   selection_law : (stop : Set) → Laws (g.selection inner n) (is_key key.Select) stop
   unfolding g.selection
   selection_law stop =
@@ -184,11 +192,8 @@ module _ (inner : Language) (n : ℕ) (laws : LanguageLaws inner) where
       bind_same _ _ _ _ _ (keyword_law key.Select begins) (λ at.
       bind_law _ _ _ _ (is_key key.Of) stop e1_law (λ a.
       bind_same _ _ _ _ _ (keyword_law key.Of (is_key key.Case)) (λ _.
-      bind_same _ _ _ _ _ cases_law (λ cs.
-      bind_same _ _ _ _ _ otherwise_part_law (λ o.
-      bind_same _ _ _ _ _ (keyword_law key.End (is_key key.Select)) (λ _.
-      bind_same _ _ _ _ _ (keyword_law key.Select stop) (λ _.
-      pure_law _ stop)))))) (within (is_key key.Of) (ends_level 6) refl)))
+      bind_same _ _ _ _ _ (select_parts_law stop) (λ p.
+      pure_law _ stop))) (within (is_key key.Of) (ends_level 6) refl)))
 
   abbrev head4 : Set
   head4 x = is_key key.Select x || is_ident x

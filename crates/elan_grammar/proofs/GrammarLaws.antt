@@ -25,7 +25,7 @@ use Rattle.elan_grammar.specs.Place.{left, left_by}
 use Rattle.elan_grammar.proofs.Laws.{Set, Within, Apart, Laws, keeps, done, failed, left_is, same_value, pure_law, bind_law, only_law, choose_law}
 use Rattle.elan_grammar.proofs.Every.{within, apart}
 use Rattle.elan_grammar.proofs.Seen.{is_colon, is_refines, declares, ident_ahead, ahead-point, refining, alone}
-use Rattle.elan_grammar.proofs.Tokens.{given, keyword_law, mark_law, point_law, leading_law, alone_law, comma_law, going_law, parting_law, ident_law, ident_shows, bold_law, same_law, access_law, is_access, operator_law, same_operator_law, export_law, is_export}
+use Rattle.elan_grammar.proofs.Tokens.{given, keyword_law, end_law, mark_law, point_law, leading_law, alone_law, comma_law, going_law, parting_law, ident_law, ident_shows, bold_law, same_law, access_law, is_access, operator_law, same_operator_law, export_law, is_export}
 use Rattle.elan_grammar.proofs.Forms.{bind_same, refirst, Eats, eats_terminal, eats_refirst, optional_law, listed_law, listed_by}
 use Rattle.elan_grammar.proofs.TypeLaws.{type_law, typed_law, any_type, formals_law}
 use Rattle.elan_grammar.proofs.Follows.{ends_units, ends_unit, begins_plain, begins_unit}
@@ -180,10 +180,9 @@ proc_parts_law =
     bind_same _ _ _ _ _ optional_formals_law (λ fs.
     bind_same _ _ _ _ _ (mark_law sign.Colon begins_unit refl) (λ _.
     bind_law _ _ _ _ (is_key key.End) after_level_unit body_law (λ b.
-    bind_same _ _ _ _ _ (keyword_law key.End (is_key key.Proc)) (λ _.
-    bind_same _ _ _ _ _ (keyword_law key.Proc after_end_proc) (λ _.
+    bind_same _ _ _ _ _ (end_law key.Proc after_end_proc) (λ _.
     bind_same _ _ _ _ _ (end_name_law x after_level_unit after_end_proc (apart after_level_unit is_ident refl) (within is_ident after_end_proc refl) (within after_level_unit after_end_proc refl)) (λ _.
-    pure_law _ after_level_unit)))) (within (is_key key.End) ends_text refl)))))
+    pure_law _ after_level_unit))) (within (is_key key.End) ends_text refl)))))
 
 proc_law : (t : Option TypePhrase) → Laws (g.proc t) (is_key key.Proc) after_level_unit
 unfolding g.proc
@@ -245,10 +244,9 @@ operator_parts_law =
     bind_same _ _ _ _ _ (mark_law sign.RightRound is_colon refl) (λ _.
     bind_same _ _ _ _ _ (mark_law sign.Colon begins_unit refl) (λ _.
     bind_law _ _ _ _ (is_key key.End) after_level_unit body_law (λ b.
-    bind_same _ _ _ _ _ (keyword_law key.End (is_key key.Op)) (λ _.
-    bind_same _ _ _ _ _ (keyword_law key.Op after_end_op) (λ _.
+    bind_same _ _ _ _ _ (end_law key.Op after_end_op) (λ _.
     bind_same _ _ _ _ _ (end_operator_law o) (λ _.
-    pure_law _ after_level_unit)))) (within (is_key key.End) ends_text refl)))))))
+    pure_law _ after_level_unit))) (within (is_key key.End) ends_text refl)))))))
 
 operator_rule_law : (t : Option TypePhrase) → Laws (g.operator t) (is_key key.Op) after_level_unit
 unfolding g.operator
@@ -377,11 +375,10 @@ packet_law =
     bind_same _ _ _ _ _ exports_law (λ es.
     bind_same _ _ _ _ _ (mark_law sign.Colon begins_level refl) (λ _.
     bind_law _ _ _ _ (is_key key.End) is_nothing a_level_law (λ l.
-    bind_same _ _ _ _ _ (keyword_law key.End (is_key key.Packet)) (λ _.
-    bind_same _ _ _ _ _ (keyword_law key.Packet after_end_packet) (λ _.
+    bind_same _ _ _ _ _ (end_law key.Packet after_end_packet) (λ _.
     bind_same _ _ _ _ _ (end_name_law x last_marks after_end_packet (apart last_marks is_ident refl) (within is_ident after_end_packet refl) (within last_marks after_end_packet refl)) (λ _.
     bind_same _ _ _ _ _ last_mark_law (λ _.
-    pure_law _ is_nothing))))) (within (is_key key.End) ends_text refl)))))
+    pure_law _ is_nothing)))) (within (is_key key.End) ends_text refl)))))
 
 -- what a text begins with
 abbrev first_of_text : Bool → Set

@@ -28,7 +28,7 @@ use Rattle.elan_grammar.specs.declared.joint.Joint.TheVariants as joint
 use Rattle.elan_grammar.specs.Kinds.{ahead, kind, second, kind_of, is_key, is_sign, is_ident, is_number, is_bold, is_comma, goes_on, is_point, leads, is_init, is_rep, is_symbol, is_operator, is_literal, begins, is_level, loose, tier_of, tier_level, same_sign}
 use Rattle.elan_grammar.specs.Rule.{terminal}
 use Rattle.elan_grammar.specs.Terminals as terminals
-use Rattle.elan_grammar.proofs.Laws.{Set, Within, Apart, Laws, terminal_law}
+use Rattle.elan_grammar.proofs.Laws.{Set, Within, Apart, Laws, bind_law, terminal_law}
 use Rattle.elan_grammar.proofs.Every.{every, implies, apart}
 use Rattle.elan_grammar.proofs.Seen.{is_special, is_mark, is_type_name, declares, ahead-is, stays, ident_ahead, declares_ahead, ahead-point, pointed, leading, alone, ahead-comma, commaed, going_on, parting, type_named, ahead-plain}
 
@@ -54,6 +54,10 @@ key_apart x _ h = absurd cc
 
 pub keyword_law : (x : Key) (stop : Set) → Laws (terminals.keyword x) (is_key x) stop
 keyword_law x stop = plain_law (terminals.key_at x) (is_key x) stop (λ t a h. given (is_key x (kind_of t.what)) t.at a h) (key_apart x)
+
+pub end_law : (x : Key) (stop : Set) → Laws (terminals.end_of x) (is_key key.End) stop
+unfolding terminals.end_of
+end_law x stop = bind_law (terminals.keyword key.End) _ (is_key key.End) (is_key x) (is_key x) stop (keyword_law key.End (is_key x)) (λ _. keyword_law x stop) (λ k h. h)
 
 pub mark_law : (x : Sign) (stop : Set) → every (λ y. implies (is_sign x y) (not (is_special y))) ≡ true → Laws (terminals.mark x) (is_sign x) stop
 mark_law x stop e = plain_law (terminals.sign_at x) (is_sign x) stop (λ t a h. given (is_sign x (kind_of t.what)) t.at a h) (apart (is_sign x) is_special e)

@@ -161,7 +161,7 @@ module _ (inner : Language) (n : ℕ) (laws : LanguageLaws inner) where
       optional_law (is_key x) _ (is_key x) stop first (bind_same _ _ _ _ _ (keyword_law x begins) (λ _. narrower _ _ _ stop inner_law w)) (λ y h. h) ap fx fs
 
   with_part_law : Laws (g.with_part inner n) after_leaving ends_unit
-  unfolding g.with_part
+  unfolding g.key_part
   with_part_law = part_law key.With ends_unit after_leaving (within ends_unit (ends_level 6) refl) (apart ends_unit (is_key key.With) refl) (within (is_key key.With) after_leaving refl) (within ends_unit after_leaving refl)
 
   leave_law : Laws (g.leave inner n) (is_key key.Leave) ends_unit
@@ -176,16 +176,14 @@ module _ (inner : Language) (n : ℕ) (laws : LanguageLaws inner) where
   upto_law : Laws (g.upto inner n) (is_key key.Upto) after_limit
   unfolding g.upto
   upto_law =
-      bind_same _ _ _ _ _ (keyword_law key.Upto begins) (λ _.
-      bind_law _ _ _ _ after_limit after_limit inner_law (λ a.
-      pure_law _ after_limit) (within after_limit (ends_level 6) refl))
+      bind_same _ _ _ _ _ (bind_same _ _ _ _ _ (keyword_law key.Upto begins) (λ _. narrower _ _ _ after_limit inner_law (within after_limit (ends_level 6) refl))) (λ a.
+      pure_law _ after_limit)
 
   downto_law : Laws (g.downto inner n) (is_key key.Downto) after_limit
   unfolding g.downto
   downto_law =
-      bind_same _ _ _ _ _ (keyword_law key.Downto begins) (λ _.
-      bind_law _ _ _ _ after_limit after_limit inner_law (λ a.
-      pure_law _ after_limit) (within after_limit (ends_level 6) refl))
+      bind_same _ _ _ _ _ (bind_same _ _ _ _ _ (keyword_law key.Downto begins) (λ _. narrower _ _ _ after_limit inner_law (within after_limit (ends_level 6) refl))) (λ a.
+      pure_law _ after_limit)
 
   a_limit_law : Laws (g.a_limit inner n) after_from after_limit
   unfolding g.a_limit
@@ -196,7 +194,7 @@ module _ (inner : Language) (n : ℕ) (laws : LanguageLaws inner) where
       (λ x h. h) (apart after_downto (is_key key.Upto) refl) (within (is_key key.Upto) after_from refl) (within after_downto after_from refl)
 
   from_part_law : Laws (g.from_part inner n) after_counter_name after_from
-  unfolding g.from_part
+  unfolding g.key_part
   from_part_law = part_law key.From after_from after_counter_name (within after_from (ends_level 6) refl) (apart after_from (is_key key.From) refl) (within (is_key key.From) after_counter_name refl) (within after_from after_counter_name refl)
 
   counter_law : Laws (g.counter inner n) is_ident after_limit
@@ -208,20 +206,24 @@ module _ (inner : Language) (n : ℕ) (laws : LanguageLaws inner) where
       pure_law _ after_limit)))
 
   until_part_law : Laws (g.until_part inner n) after_turns is_loop_end
-  unfolding g.until_part
+  unfolding g.key_part
   until_part_law = part_law key.Until is_loop_end after_turns (within is_loop_end (ends_level 6) refl) (apart is_loop_end (is_key key.Until) refl) (within (is_key key.Until) after_turns refl) (within is_loop_end after_turns refl)
 
-  turns_law : (at : Option ℕ) (c : Option Counter) (w : Option Expr) (stop : Set) → Laws (g.turns inner n at c w) is_rep stop
-  unfolding g.turns
-  turns_law at c w stop =
+  turn_parts_law : (stop : Set) → Laws (g.turn_parts inner n) is_rep stop
+  unfolding g.turn_parts
+  turn_parts_law stop =
       bind_same _ _ _ _ _ (rep_law begins_unit) (λ r.
       bind_law _ _ _ _ after_turns stop laws.bodies (λ us.
       bind_same _ _ _ _ _ until_part_law (λ a.
       bind_same _ _ _ _ _ (loop_end_law stop) (λ _.
       pure_law _ stop))) (within after_turns ends_units refl))
 
+  turns_law : (at : Option ℕ) (c : Option Counter) (w : Option Expr) (stop : Set) → Laws (g.turns inner n at c w) is_rep stop
+  unfolding g.turns
+  turns_law at c w stop = bind_same _ _ _ _ _ (turn_parts_law stop) (λ p. pure_law _ stop)
+
   while_part_law : Laws (g.while_part inner n) after_limit is_rep
-  unfolding g.while_part
+  unfolding g.key_part
   while_part_law = part_law key.While is_rep after_limit (within is_rep (ends_level 6) refl) (apart is_rep (is_key key.While) refl) (within (is_key key.While) after_limit refl) (within is_rep after_limit refl)
 
   counted_law : (stop : Set) → Laws (g.counted inner n) (is_key key.For) stop

@@ -8,12 +8,13 @@ use Rattle.elan_tree.specs.declared.phrase.Expr.TheVariants as e
 use Rattle.elan_tree.specs.declared.phrase.Branch.{Branch}
 use Rattle.elan_tree.specs.declared.phrase.Case.{Case}
 use Rattle.elan_tree.specs.declared.phrase.Unit.{Unit as Phrase}
+use Rattle.elan_grammar.specs.declared.heading.SelectParts.{SelectParts}
 use Rattle.elan_grammar.specs.declared.joint.Joint.{Joint}
 use Rattle.elan_grammar.specs.declared.joint.Joint.TheVariants as joint
 use Rattle.elan_grammar.specs.declared.joint.Right.{Right}
 use Rattle.elan_grammar.specs.Kinds.{is_key, is_sign, is_comma, is_literal, is_monadic, is_level, lengthens}
 use Rattle.elan_grammar.specs.Rule.{Rule, pure, nothing, ◌>>=◌, ◌>>◌, terminal, only, choose, iterate, optional, listed}
-use Rattle.elan_grammar.specs.Terminals.{keyword, mark, ident, literal_at, monadic_at, joint_at}
+use Rattle.elan_grammar.specs.Terminals.{keyword, end_of, mark, ident, literal_at, monadic_at, joint_at}
 use Rattle.elan_grammar.specs.Types.{labels}
 use Rattle.elan_grammar.specs.Depth.{expr_depth, expr_place}
 
@@ -32,7 +33,7 @@ joined a r = joined_by r.joint a r.operand
 
 -- FI | END IF
 unfoldable pub choice_end : Rule ℕ
-choice_end = choose (is_key key.End) (do keyword key.End; keyword key.If) (keyword key.Fi)
+choice_end = choose (is_key key.End) (end_of key.If) (keyword key.Fi)
 
 -- The expressions at most n deep. What stands in them is less than n deep.
 module _ (inner : Language) (n : ℕ) where
@@ -142,6 +143,14 @@ module _ (inner : Language) (n : ℕ) where
     optional (is_sign sign.Colon) (mark sign.Colon)
     inner.units)
 
+  -- cases [ OTHERWISE [ ":" ] units ] END SELECT
+  unfoldable pub select_parts : Rule SelectParts
+  select_parts = do
+    cs ← cases
+    o ← otherwise_part
+    end_of key.Select
+    pure (record { cases = cs; otherwise = o })
+
   -- SELECT e1 OF cases [ OTHERWISE [ ":" ] units ] END SELECT
   unfoldable pub selection : Rule Expr
   selection = do
@@ -149,11 +158,8 @@ module _ (inner : Language) (n : ℕ) where
     at ← keyword key.Select
     a ← e1
     keyword key.Of
-    cs ← cases
-    o ← otherwise_part
-    keyword key.End
-    keyword key.Select
-    pure (e.Select at a cs o)
+    p ← select_parts
+    pure (e.Select at a p.cases p.otherwise)
 
   -- number | textdenoter | TRUE | FALSE | "(" e1 ")" | CONCR "(" e1 ")" | if | select | ident [ "(" actuals ")" ]
   unfoldable pub head : Rule Expr

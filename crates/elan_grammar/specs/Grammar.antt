@@ -21,7 +21,7 @@ use Rattle.elan_grammar.specs.declared.heading.ProcParts.{ProcParts}
 use Rattle.elan_grammar.specs.declared.heading.OperatorParts.{OperatorParts}
 use Rattle.elan_grammar.specs.Kinds.{is_key, is_sign, is_ident, is_comma, goes_on, is_point, leads, is_operator, begins_typed}
 use Rattle.elan_grammar.specs.Rule.{Tokens, Rule, pure, ◌>>=◌, ◌>>◌, terminal, only, choose, optional, listed}
-use Rattle.elan_grammar.specs.Terminals.{keyword, mark, ident, bold, same_at, access_at, operator_at, same_operator_at, export_at}
+use Rattle.elan_grammar.specs.Terminals.{keyword, end_of, mark, ident, bold, same_at, access_at, operator_at, same_operator_at, export_at}
 use Rattle.elan_grammar.specs.Types.{types, formals}
 use Rattle.elan_grammar.specs.Units.{declared, plain, phrases}
 use Rattle.elan_grammar.specs.Depth.{type_place}
@@ -108,8 +108,7 @@ proc_parts = do
   fs ← optional_formals
   mark sign.Colon
   b ← body
-  keyword key.End
-  keyword key.Proc
+  end_of key.Proc
   end_name x
   pure (record { at = at; name = x; formals = fs; body = b })
 
@@ -176,8 +175,7 @@ operator_parts = do
   mark sign.RightRound
   mark sign.Colon
   b ← body
-  keyword key.End
-  keyword key.Op
+  end_of key.Op
   end_operator o
   pure (record { at = at; name = o; formals = fs; body = b })
 
@@ -254,8 +252,7 @@ packet = do
   es ← exports
   mark sign.Colon
   l ← a_level
-  keyword key.End
-  keyword key.Packet
+  end_of key.Packet
   end_name x
   last_mark
   pure (tree.Packet at x es l)

@@ -28,7 +28,7 @@ use Rattle.elan_tree.specs.declared.tree.Export.TheVariants as export
 use Rattle.elan_grammar.specs.declared.kind.Kind.TheVariants as k
 use Rattle.elan_grammar.specs.declared.joint.Joint.{Joint}
 use Rattle.elan_grammar.specs.declared.joint.Joint.TheVariants as joint
-use Rattle.elan_grammar.specs.Rule.{Rule, terminal}
+use Rattle.elan_grammar.specs.Rule.{Rule, ◌>>=◌, ◌>>◌, terminal}
 use Rattle.elan_grammar.specs.Kinds.{kind_of, is_key, is_sign, is_init, is_symbol, is_rep, same_sign, loose, tier_of, tier_level}
 
 -- ---- keywords and signs: each gives its place
@@ -47,6 +47,12 @@ rep_at t = if is_rep (kind_of t.what) then Some t.at else None
 
 abbrev pub keyword : Key → Rule ℕ
 keyword x = terminal (key_at x)
+
+-- END and a keyword
+unfoldable pub end_of : Key → Rule ℕ
+end_of x = do
+  keyword key.End
+  keyword x
 
 abbrev pub mark : Sign → Rule ℕ
 mark x = terminal (sign_at x)

@@ -1,6 +1,7 @@
 -- Units: what stands in every list of units.
 use Rattle.std.specs.Prelude.{ℕ, zero, suc, nat_lt, List, Option, Some, None}
 use Rattle.std.specs.Option.{unwrap_or}
+use Rattle.elan_tree.specs.declared.token.Key.{Key}
 use Rattle.elan_tree.specs.declared.token.Key.TheVariants as key
 use Rattle.elan_tree.specs.declared.token.Sign.TheVariants as sign
 use Rattle.elan_tree.specs.declared.written_type.Name.{Name}
@@ -12,6 +13,7 @@ use Rattle.elan_tree.specs.declared.phrase.Limit.{Limit}
 use Rattle.elan_tree.specs.declared.phrase.Limit.TheVariants as limit
 use Rattle.elan_tree.specs.declared.phrase.Unit.{Unit as Phrase}
 use Rattle.elan_tree.specs.declared.phrase.Unit.TheVariants as u
+use Rattle.elan_grammar.specs.declared.heading.LoopParts.{LoopParts}
 use Rattle.elan_grammar.specs.Kinds.{is_key, is_sign, is_comma, is_init, is_rep, begins, begins_typed}
 use Rattle.elan_grammar.specs.Rule.{Rule, pure, fail, ◌>>=◌, ◌>>◌, terminal, only, choose, optional, listed}
 use Rattle.elan_grammar.specs.Terminals.{keyword, mark, ident, init_mark, rep, leaving_at}
@@ -41,6 +43,16 @@ module _ (inner : Language) (n : ℕ) where
   -- e1 as a unit, or as an initial value
   abbrev e1 : Rule Expr
   e1 = level inner n 6
+
+  -- key e1
+  abbrev pub behind : Key → Rule Expr
+  behind x = do
+    keyword x
+    inner_e1
+
+  -- [ key e1 ]
+  unfoldable pub key_part : Key → Rule (Option Expr)
+  key_part x = optional (is_key x) (behind x)
 
   -- LET let_item { "," let_item }
   unfoldable pub a_let : Rule Phrase
@@ -125,8 +137,8 @@ module _ (inner : Language) (n : ℕ) where
     choose (is_sign sign.Becomes) (assigned a) (pure (u.Value a))
 
   -- [ WITH e1 ]
-  unfoldable pub with_part : Rule (Option Expr)
-  with_part = optional (is_key key.With) (do keyword key.With; inner_e1)
+  abbrev pub with_part : Rule (Option Expr)
+  with_part = key_part key.With
 
   -- LEAVE ( ident | BOLD ) [ WITH e1 ]
   unfoldable pub leave : Rule Phrase
@@ -140,15 +152,13 @@ module _ (inner : Language) (n : ℕ) where
   -- UPTO e1
   unfoldable pub upto : Rule Limit
   upto = do
-    keyword key.Upto
-    a ← inner_e1
+    a ← behind key.Upto
     pure (limit.Upto a)
 
   -- DOWNTO e1
   unfoldable pub downto : Rule Limit
   downto = do
-    keyword key.Downto
-    a ← inner_e1
+    a ← behind key.Downto
     pure (limit.Downto a)
 
   -- [ ( UPTO | DOWNTO ) e1 ]
@@ -156,8 +166,8 @@ module _ (inner : Language) (n : ℕ) where
   a_limit = choose (is_key key.Upto) upto (choose (is_key key.Downto) downto (pure limit.Without))
 
   -- [ FROM e1 ]
-  unfoldable pub from_part : Rule (Option Expr)
-  from_part = optional (is_key key.From) (do keyword key.From; inner_e1)
+  abbrev pub from_part : Rule (Option Expr)
+  from_part = key_part key.From
 
   -- ident [ FROM e1 ] [ ( UPTO | DOWNTO ) e1 ]
   unfoldable pub counter : Rule (Option Counter)
@@ -168,21 +178,27 @@ module _ (inner : Language) (n : ℕ) where
     pure (Some (counter_of x f l))
 
   -- [ UNTIL e1 ]
-  unfoldable pub until_part : Rule (Option Expr)
-  until_part = optional (is_key key.Until) (do keyword key.Until; inner_e1)
+  abbrev pub until_part : Rule (Option Expr)
+  until_part = key_part key.Until
 
-  -- ( REP | REPEAT ) units [ UNTIL e1 ] ( PER | END REP | END REPEAT ), behind what stands before it
-  unfoldable pub turns : Option ℕ → Option Counter → Option Expr → Rule Phrase
-  turns at c w = do
+  -- ( REP | REPEAT ) units [ UNTIL e1 ] ( PER | END REP | END REPEAT )
+  unfoldable pub turn_parts : Rule LoopParts
+  turn_parts = do
     r ← rep
     us ← inner.units
     a ← until_part
     loop_end
-    pure (u.Loop (unwrap_or at r) c w us a)
+    pure (record { start = r; units = us; until = a })
+
+  -- the same behind what stands before it
+  unfoldable pub turns : Option ℕ → Option Counter → Option Expr → Rule Phrase
+  turns at c w = do
+    p ← turn_parts
+    pure (u.Loop (unwrap_or at p.start) c w p.units p.until)
 
   -- [ WHILE e1 ]
-  unfoldable pub while_part : Rule (Option Expr)
-  while_part = optional (is_key key.While) (do keyword key.While; inner_e1)
+  abbrev pub while_part : Rule (Option Expr)
+  while_part = key_part key.While
 
   -- FOR counter [ WHILE e1 ] turns
   unfoldable pub counted : Rule Phrase

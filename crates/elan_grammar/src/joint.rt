@@ -1,5 +1,6 @@
 //! What joins two operands.
 
+use containers::Boxed;
 use elan_tree::{Expr, Operator};
 
 #[derive(Drop)]
@@ -13,5 +14,5 @@ pub enum Joint {
 #[derive(Drop)]
 pub struct Right {
     pub joint: Joint,
-    pub operand: Expr,
+    pub operand: Boxed<Expr>,
 }

@@ -10,7 +10,7 @@ mod kind;
 mod law;
 
 pub use error::ParseError;
-pub use heading::{OperatorParts, ProcParts};
+pub use heading::{LoopParts, OperatorParts, ProcParts, SelectParts};
 pub use joint::{Joint, Right};
 pub use kind::{Kind, Tier};
 pub use law::{one_tree, reads_on, stays_stuck};

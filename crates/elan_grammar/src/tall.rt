@@ -1,10 +1,10 @@
 //! What was read, and how deep it is.
 
-ghost use Rattle.std.specs.Prelude.{◌≡◌, [], ◌∷◌, ◌++◌, max, IfOk};
-ghost use Rattle.elan_grammar.specs.Pairs.{second_of};
+ghost use Rattle.std.specs.Prelude.{◌≡◌, IfOk};
+ghost use Rattle.elan_grammar.specs.Pairs.{second_of, IsOne, IsOneMore, IsSingle, IsWithNext, IsPassedOn};
 
 use crate::error::ParseError;
-use containers::{List, NoMemory};
+use containers::{Boxed, List};
 use std::alloc::Global;
 
 #[derive(Drop)]
@@ -13,11 +13,35 @@ pub struct Tall<T> {
     pub height: u32,
 }
 
-/// A list of one.
-pub fn single<T: Drop>(alloc: Global, first: Tall<T>) -> Result<Tall<List<T>>, NoMemory>
-    ensures tree { IfOk result (λ r. r.tree ≡ first.tree ∷ []) }
-    ensures height { IfOk result (λ r. r.height ≡ first.height) }
+/// A list of the one item that was read.
+pub fn one<T: Drop>(alloc: Global, first: Result<T, ParseError>) -> Result<List<T>, ParseError>
+    ensures { IsOne first result }
 {
+    let mut row = List::new(alloc);
+    row.push(first?)?;
+    Ok(row)
+}
+
+/// A list with one more. Where that could not be read the list is let go here.
+pub fn one_more<T: Drop>(
+    row: List<T>,
+    next: Result<T, ParseError>,
+) -> Result<List<T>, ParseError>
+    ensures { IsOneMore row next result }
+{
+    let mut row = row;
+    row.push(next?)?;
+    Ok(row)
+}
+
+/// A list of the one item that was read, as deep as that.
+pub fn single<T: Drop>(
+    alloc: Global,
+    first: Result<Tall<T>, ParseError>,
+) -> Result<Tall<List<T>>, ParseError>
+    ensures { IsSingle first result }
+{
+    let first = first?;
     let mut tree = List::new(alloc);
     tree.push(first.tree)?;
     Ok(Tall {
@@ -26,17 +50,32 @@ pub fn single<T: Drop>(alloc: Global, first: Tall<T>) -> Result<Tall<List<T>>, N
     })
 }
 
-/// A list with one more.
-pub fn with_last<T: Drop>(row: Tall<List<T>>, last: Tall<T>) -> Result<Tall<List<T>>, NoMemory>
-    ensures tree { IfOk result (λ r. r.tree ≡ row.tree ++ last.tree ∷ []) }
-    ensures height { IfOk result (λ r. r.height ≡ max row.height last.height) }
+/// A list with one more, as deep as the deepest. Where that could not be read the list is let go here.
+pub fn with_next<T: Drop>(
+    row: Tall<List<T>>,
+    next: Result<Tall<T>, ParseError>,
+) -> Result<Tall<List<T>>, ParseError>
+    ensures { IsWithNext row next result }
 {
+    let last = next?;
     let mut tree = row.tree;
     tree.push(last.tree)?;
     Ok(Tall {
         tree,
         height: row.height.max(last.height),
     })
+}
+
+/// What was read, in a box.
+pub fn boxed<T: Drop>(
+    alloc: Global,
+    read: Result<Tall<T>, ParseError>,
+) -> Result<Tall<Boxed<T>>, ParseError>
+    ensures { IsPassedOn read result }
+{
+    let Tall { tree, height } = read?;
+    let tree = Boxed::new(alloc, tree)?;
+    Ok(Tall { tree, height })
 }
 
 /// A value, and what was read behind it. Where that fails the value is let go here and not in the caller, whose proof would be

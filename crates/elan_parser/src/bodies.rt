@@ -14,7 +14,7 @@ use elan_grammar::{OperatorParts, ProcParts};
 use elan_cursor::kind::{goes_on, is_ident, is_operator, is_point, is_sign, leads};
 use phrase_parser::units;
 use type_parser::formals;
-use elan_grammar::tall::{Tall, and, single, with_last};
+use elan_grammar::tall::{Tall, and, one_more, single, with_next};
 use type_parser::{type_place, types};
 use containers::{List, NoMemory};
 use elan_tree::{
@@ -40,8 +40,8 @@ fn refinement(
     ensures low { IfOk result (λ a. a.height ≤ depth) }
 {
     let name = cursor.ident(alloc)?;
-    cursor.mark(Sign::Colon)?;
-    let units = units(alloc, cursor, depth)?;
+    let (name, _) = and(name, cursor.mark(Sign::Colon))?;
+    let (name, units) = and(name, units(alloc, cursor, depth))?;
     let tree = Refinement {
         name,
         units: units.tree,
@@ -62,30 +62,7 @@ pub fn last_point(cursor: &mut Cursor<'_>) -> Result<Option<u32>, ParseError>
     Ok(Some(cursor.mark(Sign::Point)?))
 }
 
-#[tactic(auto, using(elan_grammar::proofs::Turns::turn_on, elan_grammar::proofs::Turns::turn_off, elan_grammar::proofs::Turns::turn_end, elan_grammar::proofs::Deepest::deepest_push))]
-fn more_refinements(
-    alloc: Global,
-    cursor: &mut Cursor<'_>,
-    depth: u16,
-    mut row: Tall<List<Refinement>>,
-) -> Result<Tall<List<Refinement>>, ParseError>
-    requires tall { row.height ≡ refinements_depth row.tree }
-    requires low { row.height ≤ depth }
-    ensures reads { GivesTall ((rule.iterate (rule.further (terminals.mark Sign.Point) (spec.refinement depth)) kinds.leads row.tree).run cursor.old.rest.now) result cursor.new.rest.now }
-    ensures tall { IfOk result (λ a. a.height ≡ refinements_depth a.tree) }
-    ensures low { IfOk result (λ a. a.height ≤ depth) }
-{
-    for _turn in 0..cursor.rest.len() {
-        if !leads(cursor.ahead()) {
-            return Ok(row);
-        }
-        cursor.mark(Sign::Point)?;
-        row = with_last(row, refinement(alloc, cursor, depth)?)?;
-    }
-    Ok(row)
-}
-
-#[tactic(auto, unfolding(elan_grammar::specs::Grammar::refinement_list), using(elan_grammar::proofs::Deepest::deepest_one))]
+#[tactic(auto, unfolding(elan_grammar::specs::Grammar::refinement_list), using(elan_grammar::proofs::Turns::turn_on, elan_grammar::proofs::Turns::turn_off, elan_grammar::proofs::Turns::turn_end, elan_grammar::proofs::Deepest::deepest_one, elan_grammar::proofs::Deepest::deepest_push))]
 fn refinement_list(
     alloc: Global,
     cursor: &mut Cursor<'_>,
@@ -95,8 +72,15 @@ fn refinement_list(
     ensures tall { IfOk result (λ a. a.height ≡ refinements_depth a.tree) }
     ensures low { IfOk result (λ a. a.height ≤ depth) }
 {
-    let first = refinement(alloc, cursor, depth)?;
-    more_refinements(alloc, cursor, depth, single(alloc, first)?)
+    let mut row = single(alloc, refinement(alloc, cursor, depth))?;
+    for _turn in 0..cursor.rest.len() {
+        if !leads(cursor.ahead()) {
+            return Ok(row);
+        }
+        let (items, _) = and(row, cursor.mark(Sign::Point))?;
+        row = with_next(items, refinement(alloc, cursor, depth))?;
+    }
+    Ok(row)
 }
 
 #[tactic(auto, unfolding(elan_grammar::specs::Grammar::refinements))]
@@ -110,7 +94,7 @@ fn refinements(
     ensures low { IfOk result (λ a. a.height ≤ depth) }
 {
     let row = refinement_list(alloc, cursor, depth)?;
-    last_point(cursor)?;
+    let (row, _) = and(row, last_point(cursor))?;
     Ok(row)
 }
 
@@ -161,7 +145,7 @@ fn body(alloc: Global, cursor: &mut Cursor<'_>) -> Result<Tall<Body>, ParseError
     ensures low { IfOk result (λ a. a.height ≤ 399) }
 {
     let units = units(alloc, cursor, MOST)?;
-    let refinements = tail(alloc, cursor, MOST_IN_BODY)?;
+    let (units, refinements) = and(units, tail(alloc, cursor, MOST_IN_BODY))?;
     let height = units.height.max(refinements.height);
     let tree = Body {
         units: units.tree,
@@ -201,7 +185,7 @@ fn formal_list(alloc: Global, cursor: &mut Cursor<'_>) -> Result<Tall<List<Forma
 {
     cursor.mark(Sign::LeftRound)?;
     let row = formals(alloc, cursor, MOST_IN_BODY)?;
-    cursor.mark(Sign::RightRound)?;
+    let (row, _) = and(row, cursor.mark(Sign::RightRound))?;
     Ok(row)
 }
 
@@ -241,12 +225,13 @@ fn proc_parts(alloc: Global, cursor: &mut Cursor<'_>) -> Result<Tall<ProcParts>,
 {
     let at = cursor.keyword(Key::Proc)?;
     let name = cursor.ident(alloc)?;
-    let formals = optional_formals(alloc, cursor)?;
-    cursor.mark(Sign::Colon)?;
-    let body = body(alloc, cursor)?;
-    cursor.keyword(Key::End)?;
-    cursor.keyword(Key::Proc)?;
-    end_name(cursor, &name)?;
+    let (name, formals) = and(name, optional_formals(alloc, cursor))?;
+    let (head, _) = and((name, formals), cursor.mark(Sign::Colon))?;
+    let (head, body) = and(head, body(alloc, cursor))?;
+    let (parts, _) = and((head, body), cursor.end_of(Key::Proc))?;
+    let ((name, formals), body) = parts;
+    let end = end_name(cursor, &name);
+    let ((name, formals, body), _) = and((name, formals, body), end)?;
     let height = formals.height.max(body.height) + 1;
     let tree = ProcParts {
         at,
@@ -334,9 +319,11 @@ fn same_typed(
 {
     let (first, _) = and(first, cursor.mark(Sign::Comma))?;
     let (first, second) = and(first, cursor.ident(alloc))?;
-    let Tall { mut tree, height } = first;
-    tree.names.push(second)?;
-    Ok(single(alloc, Tall { tree, height })?)
+    let Tall { tree, height } = first;
+    let Formal { of, access, names } = tree;
+    let (of, names) = and(of, one_more(names, Ok(second)))?;
+    let tree = Formal { of, access, names };
+    single(alloc, Ok(Tall { tree, height }))
 }
 
 #[tactic(auto, unfolding(elan_grammar::specs::Grammar::other_typed), using(elan_grammar::proofs::Deepest::deepest_one, elan_grammar::proofs::Deepest::deepest_push))]
@@ -352,8 +339,8 @@ fn other_typed(
     ensures low { IfOk result (λ a. a.height ≤ 399) }
 {
     let (first, _) = and(first, cursor.mark(Sign::Comma))?;
-    let (first, second) = and(first, operand(alloc, cursor))?;
-    Ok(with_last(single(alloc, first)?, second)?)
+    let row = single(alloc, Ok(first))?;
+    with_next(row, operand(alloc, cursor))
 }
 
 #[tactic(auto, unfolding(elan_grammar::specs::Grammar::one_operand), using(elan_grammar::proofs::Deepest::deepest_one))]
@@ -372,7 +359,7 @@ fn one_operand(
     if !takes_one(operator) {
         return Err(cursor.refuse());
     }
-    Ok(single(alloc, first)?)
+    single(alloc, Ok(first))
 }
 
 /// As many operands as an operator takes.
@@ -405,14 +392,16 @@ fn operator_parts(alloc: Global, cursor: &mut Cursor<'_>) -> Result<Tall<Operato
 {
     let at = cursor.keyword(Key::Op)?;
     let name = cursor.operator(alloc)?;
-    cursor.mark(Sign::LeftRound)?;
-    let formals = operands(alloc, cursor, &name.operator)?;
-    cursor.mark(Sign::RightRound)?;
-    cursor.mark(Sign::Colon)?;
-    let body = body(alloc, cursor)?;
-    cursor.keyword(Key::End)?;
-    cursor.keyword(Key::Op)?;
-    end_operator(cursor, &name)?;
+    let (name, _) = and(name, cursor.mark(Sign::LeftRound))?;
+    let operands = operands(alloc, cursor, &name.operator);
+    let (name, formals) = and(name, operands)?;
+    let (head, _) = and((name, formals), cursor.mark(Sign::RightRound))?;
+    let (head, _) = and(head, cursor.mark(Sign::Colon))?;
+    let (head, body) = and(head, body(alloc, cursor))?;
+    let (parts, _) = and((head, body), cursor.end_of(Key::Op))?;
+    let ((name, formals), body) = parts;
+    let end = end_operator(cursor, &name);
+    let ((name, formals, body), _) = and((name, formals, body), end)?;
     let height = formals.height.max(body.height) + 1;
     let tree = OperatorParts {
         at,

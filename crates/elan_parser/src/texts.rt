@@ -15,7 +15,7 @@ use elan_cursor::Cursor;
 use elan_grammar::ParseError;
 use elan_cursor::kind::{begins_typed, is_comma, is_key};
 use phrase_parser::{declared, plain};
-use elan_grammar::tall::{Tall, single, with_last};
+use elan_grammar::tall::{Tall, and, one, one_more, single, with_next};
 use type_parser::types;
 use containers::List;
 use elan_tree::{Export, Key, Level, LevelUnit, Sign, Token, Tree, TypePhrase};
@@ -29,8 +29,8 @@ fn new_type(alloc: Global, cursor: &mut Cursor<'_>) -> Result<Tall<LevelUnit>, P
 {
     let at = cursor.keyword(Key::TypeWord)?;
     let name = cursor.bold(alloc)?;
-    cursor.mark(Sign::Equal)?;
-    let of = types(alloc, cursor, MOST)?;
+    let (name, _) = and(name, cursor.mark(Sign::Equal))?;
+    let (name, of) = and(name, types(alloc, cursor, MOST))?;
     let tree = LevelUnit::NewType {
         at,
         name,
@@ -120,36 +120,21 @@ fn level_unit(alloc: Global, cursor: &mut Cursor<'_>) -> Result<Tall<LevelUnit>,
     }
 }
 
-#[tactic(auto, using(elan_grammar::proofs::Turns::turn_on, elan_grammar::proofs::Turns::turn_off, elan_grammar::proofs::Turns::turn_end, elan_grammar::proofs::Deepest::deepest_push))]
-fn more_level_units(
-    alloc: Global,
-    cursor: &mut Cursor<'_>,
-    mut row: Tall<List<LevelUnit>>,
-) -> Result<Tall<List<LevelUnit>>, ParseError>
-    requires tall { row.height ≡ level_units_depth row.tree }
-    requires low { row.height ≤ 400 }
-    ensures reads { GivesTall ((rule.iterate (rule.further (terminals.mark Sign.Semicolon) spec.level_unit) (kinds.is_sign Sign.Semicolon) row.tree).run cursor.old.rest.now) result cursor.new.rest.now }
-    ensures tall { IfOk result (λ a. a.height ≡ level_units_depth a.tree) }
-    ensures low { IfOk result (λ a. a.height ≤ 400) }
-{
-    for _turn in 0..cursor.rest.len() {
-        if !cursor.sees_sign(Sign::Semicolon) {
-            return Ok(row);
-        }
-        cursor.mark(Sign::Semicolon)?;
-        row = with_last(row, level_unit(alloc, cursor)?)?;
-    }
-    Ok(row)
-}
-
-#[tactic(auto, unfolding(elan_grammar::specs::Grammar::level_units), using(elan_grammar::proofs::Deepest::deepest_one))]
+#[tactic(auto, unfolding(elan_grammar::specs::Grammar::level_units), using(elan_grammar::proofs::Turns::turn_on, elan_grammar::proofs::Turns::turn_off, elan_grammar::proofs::Turns::turn_end, elan_grammar::proofs::Deepest::deepest_one, elan_grammar::proofs::Deepest::deepest_push))]
 fn level_units(alloc: Global, cursor: &mut Cursor<'_>) -> Result<Tall<List<LevelUnit>>, ParseError>
     ensures reads { GivesTall ((spec.level_units).run cursor.old.rest.now) result cursor.new.rest.now }
     ensures tall { IfOk result (λ a. a.height ≡ level_units_depth a.tree) }
     ensures low { IfOk result (λ a. a.height ≤ 400) }
 {
-    let first = level_unit(alloc, cursor)?;
-    more_level_units(alloc, cursor, single(alloc, first)?)
+    let mut row = single(alloc, level_unit(alloc, cursor))?;
+    for _turn in 0..cursor.rest.len() {
+        if !cursor.sees_sign(Sign::Semicolon) {
+            return Ok(row);
+        }
+        let (items, _) = and(row, cursor.mark(Sign::Semicolon))?;
+        row = with_next(items, level_unit(alloc, cursor))?;
+    }
+    Ok(row)
 }
 
 #[tactic(auto, unfolding(elan_grammar::specs::Grammar::a_level))]
@@ -159,7 +144,7 @@ fn a_level(alloc: Global, cursor: &mut Cursor<'_>) -> Result<Tall<Level>, ParseE
     ensures low { IfOk result (λ a. a.height ≤ 400) }
 {
     let units = level_units(alloc, cursor)?;
-    let refinements = tail(alloc, cursor, MOST)?;
+    let (units, refinements) = and(units, tail(alloc, cursor, MOST))?;
     let height = units.height.max(refinements.height);
     let tree = Level {
         units: units.tree,
@@ -181,31 +166,19 @@ fn program(alloc: Global, cursor: &mut Cursor<'_>) -> Result<Tall<Tree>, ParseEr
     })
 }
 
-#[tactic(auto, using(elan_grammar::proofs::Turns::turn_on, elan_grammar::proofs::Turns::turn_off, elan_grammar::proofs::Turns::turn_end))]
-fn more_exports(
-    alloc: Global,
-    cursor: &mut Cursor<'_>,
-    mut exports: List<Export>,
-) -> Result<List<Export>, ParseError>
-    ensures { Gives ((rule.iterate (rule.further (terminals.mark Sign.Comma) (rule.terminal terminals.export_at)) kinds.is_comma exports).run cursor.old.rest.now) result cursor.new.rest.now }
-{
-    for _turn in 0..cursor.rest.len() {
-        if !is_comma(cursor.ahead()) {
-            return Ok(exports);
-        }
-        cursor.mark(Sign::Comma)?;
-        exports.push(cursor.export(alloc)?)?;
-    }
-    Ok(exports)
-}
-
-#[tactic(auto, unfolding(elan_grammar::specs::Grammar::export_list))]
+#[tactic(auto, unfolding(elan_grammar::specs::Grammar::export_list), using(elan_grammar::proofs::Turns::turn_on, elan_grammar::proofs::Turns::turn_off, elan_grammar::proofs::Turns::turn_end))]
 fn export_list(alloc: Global, cursor: &mut Cursor<'_>) -> Result<List<Export>, ParseError>
     ensures { Gives ((spec.export_list).run cursor.old.rest.now) result cursor.new.rest.now }
 {
-    let mut exports = List::new(alloc);
-    exports.push(cursor.export(alloc)?)?;
-    more_exports(alloc, cursor, exports)
+    let mut row = one(alloc, cursor.export(alloc))?;
+    for _turn in 0..cursor.rest.len() {
+        if !is_comma(cursor.ahead()) {
+            return Ok(row);
+        }
+        let (items, _) = and(row, cursor.mark(Sign::Comma))?;
+        row = one_more(items, cursor.export(alloc))?;
+    }
+    Ok(row)
 }
 
 #[tactic(auto, unfolding(elan_grammar::specs::Grammar::exports))]
@@ -237,13 +210,14 @@ fn packet(alloc: Global, cursor: &mut Cursor<'_>) -> Result<Tall<Tree>, ParseErr
 {
     let at = cursor.keyword(Key::Packet)?;
     let name = cursor.ident(alloc)?;
-    let exports = exports(alloc, cursor)?;
-    cursor.mark(Sign::Colon)?;
-    let level = a_level(alloc, cursor)?;
-    cursor.keyword(Key::End)?;
-    cursor.keyword(Key::Packet)?;
-    end_name(cursor, &name)?;
-    last_mark(cursor)?;
+    let (name, exports) = and(name, exports(alloc, cursor))?;
+    let (head, _) = and((name, exports), cursor.mark(Sign::Colon))?;
+    let (head, level) = and(head, a_level(alloc, cursor))?;
+    let (parts, _) = and((head, level), cursor.end_of(Key::Packet))?;
+    let ((name, exports), level) = parts;
+    let end = end_name(cursor, &name);
+    let (parts, _) = and((name, exports, level), end)?;
+    let ((name, exports, level), _) = and(parts, last_mark(cursor))?;
     let tree = Tree::Packet {
         at,
         name,

@@ -11,11 +11,11 @@ ghost use Rattle.form_parser.specs.Nests.{Nests};
 ghost use Rattle.elan_grammar.specs.Depth.{expr_depth, branch_depth, branches_depth, case_depth, cases_depth, option_units_depth};
 
 use elan_cursor::Cursor;
-use elan_grammar::ParseError;
+use elan_grammar::{ParseError, SelectParts};
 use crate::inner::Inner;
 use crate::labels::labels;
-use elan_grammar::tall::{Tall, and, single, with_last};
-use containers::{Boxed, List};
+use elan_grammar::tall::{Tall, and, boxed, single, with_next};
+use containers::List;
 use elan_tree::{Branch, Case, Expr, Key, Sign, Unit};
 use std::alloc::Global;
 
@@ -41,38 +41,22 @@ impl<
         Ok(Tall { tree, height })
     }
 
-    #[tactic(auto, using(elan_grammar::proofs::Turns::turn_on, elan_grammar::proofs::Turns::turn_off, elan_grammar::proofs::Turns::turn_end, elan_grammar::proofs::Deepest::deepest_push))]
-    fn more_branches(
-        &self,
-        cursor: &mut Cursor<'_>,
-        mut row: Tall<List<Branch>>,
-    ) -> Result<Tall<List<Branch>>, ParseError>
-        requires nests { Nests self.now.depth (E.pre self.now.expression) (E.post self.now.expression) (U.pre self.now.units) (U.post self.now.units) }
-        requires tall { row.height ≡ branches_depth row.tree }
-        requires low { row.height < self.now.depth }
-        ensures reads { GivesTall ((rule.iterate (rule.further (terminals.keyword Key.Elif) (spec.branch (units.phrases self.now.depth) self.now.depth)) (kinds.is_key Key.Elif) row.tree).run cursor.old.rest.now) result cursor.new.rest.now }
-        ensures tall { IfOk result (λ a. a.height ≡ branches_depth a.tree) }
-        ensures low { IfOk result (λ a. a.height < self.now.depth) }
-    {
-        for _turn in 0..cursor.rest.len() {
-            if !cursor.sees_key(Key::Elif) {
-                return Ok(row);
-            }
-            cursor.keyword(Key::Elif)?;
-            row = with_last(row, self.branch(cursor)?)?;
-        }
-        Ok(row)
-    }
-
-    #[tactic(auto, unfolding(elan_grammar::specs::Expressions::branches), using(elan_grammar::proofs::Deepest::deepest_one))]
+    #[tactic(auto, unfolding(elan_grammar::specs::Expressions::branches), using(elan_grammar::proofs::Turns::turn_on, elan_grammar::proofs::Turns::turn_off, elan_grammar::proofs::Turns::turn_end, elan_grammar::proofs::Deepest::deepest_one, elan_grammar::proofs::Deepest::deepest_push))]
     fn branches(&self, cursor: &mut Cursor<'_>) -> Result<Tall<List<Branch>>, ParseError>
         requires { Nests self.now.depth (E.pre self.now.expression) (E.post self.now.expression) (U.pre self.now.units) (U.post self.now.units) }
         ensures reads { GivesTall ((spec.branches (units.phrases self.now.depth) self.now.depth).run cursor.old.rest.now) result cursor.new.rest.now }
         ensures tall { IfOk result (λ a. a.height ≡ branches_depth a.tree) }
         ensures low { IfOk result (λ a. a.height < self.now.depth) }
     {
-        let first = self.branch(cursor)?;
-        self.more_branches(cursor, single(self.alloc, first)?)
+        let mut row = single(self.alloc, self.branch(cursor))?;
+        for _turn in 0..cursor.rest.len() {
+            if !cursor.sees_key(Key::Elif) {
+                return Ok(row);
+            }
+            let (items, _) = and(row, cursor.keyword(Key::Elif))?;
+            row = with_next(items, self.branch(cursor))?;
+        }
+        Ok(row)
     }
 
     #[tactic(auto, unfolding(elan_grammar::specs::Expressions::else_part))]
@@ -102,8 +86,7 @@ impl<
         ensures { Gives ((spec.choice_end).run cursor.old.rest.now) result cursor.new.rest.now }
     {
         if cursor.sees_key(Key::End) {
-            cursor.keyword(Key::End)?;
-            cursor.keyword(Key::If)
+            cursor.end_of(Key::If)
         } else {
             cursor.keyword(Key::Fi)
         }
@@ -119,8 +102,8 @@ impl<
         self.below(cursor, 0)?;
         let at = cursor.keyword(Key::If)?;
         let branches = self.branches(cursor)?;
-        let otherwise = self.else_part(cursor)?;
-        self.choice_end(cursor)?;
+        let (branches, otherwise) = and(branches, self.else_part(cursor))?;
+        let ((branches, otherwise), _) = and((branches, otherwise), self.choice_end(cursor))?;
         let height = branches.height.max(otherwise.height);
         let tree = Expr::If {
             at,
@@ -142,8 +125,8 @@ impl<
     {
         cursor.keyword(Key::Case)?;
         let labels = labels(self.alloc, cursor)?;
-        cursor.mark(Sign::Colon)?;
-        let units = self.units(cursor)?;
+        let (labels, _) = and(labels, cursor.mark(Sign::Colon))?;
+        let (labels, units) = and(labels, self.units(cursor))?;
         let tree = Case {
             labels,
             units: units.tree,
@@ -154,37 +137,21 @@ impl<
         })
     }
 
-    #[tactic(auto, using(elan_grammar::proofs::Turns::turn_on, elan_grammar::proofs::Turns::turn_off, elan_grammar::proofs::Turns::turn_end, elan_grammar::proofs::Deepest::deepest_push))]
-    fn more_cases(
-        &self,
-        cursor: &mut Cursor<'_>,
-        mut row: Tall<List<Case>>,
-    ) -> Result<Tall<List<Case>>, ParseError>
-        requires nests { Nests self.now.depth (E.pre self.now.expression) (E.post self.now.expression) (U.pre self.now.units) (U.post self.now.units) }
-        requires tall { row.height ≡ cases_depth row.tree }
-        requires low { row.height < self.now.depth }
-        ensures reads { GivesTall ((rule.iterate (rule.further rule.nothing (spec.a_case (units.phrases self.now.depth) self.now.depth)) (kinds.is_key Key.Case) row.tree).run cursor.old.rest.now) result cursor.new.rest.now }
-        ensures tall { IfOk result (λ a. a.height ≡ cases_depth a.tree) }
-        ensures low { IfOk result (λ a. a.height < self.now.depth) }
-    {
-        for _turn in 0..cursor.rest.len() {
-            if !cursor.sees_key(Key::Case) {
-                return Ok(row);
-            }
-            row = with_last(row, self.a_case(cursor)?)?;
-        }
-        Ok(row)
-    }
-
-    #[tactic(auto, unfolding(elan_grammar::specs::Expressions::cases), using(elan_grammar::proofs::Deepest::deepest_one))]
+    #[tactic(auto, unfolding(elan_grammar::specs::Expressions::cases), using(elan_grammar::proofs::Turns::turn_on, elan_grammar::proofs::Turns::turn_off, elan_grammar::proofs::Turns::turn_end, elan_grammar::proofs::Deepest::deepest_one, elan_grammar::proofs::Deepest::deepest_push))]
     fn cases(&self, cursor: &mut Cursor<'_>) -> Result<Tall<List<Case>>, ParseError>
         requires { Nests self.now.depth (E.pre self.now.expression) (E.post self.now.expression) (U.pre self.now.units) (U.post self.now.units) }
         ensures reads { GivesTall ((spec.cases (units.phrases self.now.depth) self.now.depth).run cursor.old.rest.now) result cursor.new.rest.now }
         ensures tall { IfOk result (λ a. a.height ≡ cases_depth a.tree) }
         ensures low { IfOk result (λ a. a.height < self.now.depth) }
     {
-        let first = self.a_case(cursor)?;
-        self.more_cases(cursor, single(self.alloc, first)?)
+        let mut row = single(self.alloc, self.a_case(cursor))?;
+        for _turn in 0..cursor.rest.len() {
+            if !cursor.sees_key(Key::Case) {
+                return Ok(row);
+            }
+            row = with_next(row, self.a_case(cursor))?;
+        }
+        Ok(row)
     }
 
     #[tactic(auto, unfolding(elan_grammar::specs::Expressions::otherwise_part))]
@@ -215,6 +182,25 @@ impl<
         })
     }
 
+    #[tactic(auto, unfolding(elan_grammar::specs::Expressions::select_parts))]
+    fn select_parts(&self, cursor: &mut Cursor<'_>) -> Result<Tall<SelectParts>, ParseError>
+        requires nests { Nests self.now.depth (E.pre self.now.expression) (E.post self.now.expression) (U.pre self.now.units) (U.post self.now.units) }
+        requires room { 0 < self.now.depth }
+        ensures reads { GivesTall ((spec.select_parts (units.phrases self.now.depth) self.now.depth).run cursor.old.rest.now) result cursor.new.rest.now }
+        ensures tall { IfOk result (λ a. a.height ≡ max (cases_depth a.tree.cases) (option_units_depth a.tree.otherwise)) }
+        ensures low { IfOk result (λ a. a.height < self.now.depth) }
+    {
+        let cases = self.cases(cursor)?;
+        let (cases, otherwise) = and(cases, self.otherwise_part(cursor))?;
+        let ((cases, otherwise), _) = and((cases, otherwise), cursor.end_of(Key::Select))?;
+        let height = cases.height.max(otherwise.height);
+        let tree = SelectParts {
+            cases: cases.tree,
+            otherwise: otherwise.tree,
+        };
+        Ok(Tall { tree, height })
+    }
+
     #[tactic(auto, unfolding(elan_grammar::specs::Expressions::selection))]
     pub fn selection(&self, cursor: &mut Cursor<'_>) -> Result<Tall<Expr>, ParseError>
         requires { Nests self.now.depth (E.pre self.now.expression) (E.post self.now.expression) (U.pre self.now.units) (U.post self.now.units) }
@@ -224,19 +210,16 @@ impl<
     {
         self.below(cursor, 0)?;
         let at = cursor.keyword(Key::Select)?;
-        let Tall { tree, height } = self.expression(cursor, 6)?;
-        let of = Boxed::new(self.alloc, tree)?;
-        cursor.keyword(Key::Of)?;
-        let cases = self.cases(cursor)?;
-        let otherwise = self.otherwise_part(cursor)?;
-        cursor.keyword(Key::End)?;
-        cursor.keyword(Key::Select)?;
-        let height = height.max(cases.height.max(otherwise.height));
+        let of = boxed(self.alloc, self.expression(cursor, 6))?;
+        let (of, _) = and(of, cursor.keyword(Key::Of))?;
+        let (of, parts) = and(of, self.select_parts(cursor))?;
+        let height = of.height.max(parts.height);
+        let SelectParts { cases, otherwise } = parts.tree;
         let tree = Expr::Select {
             at,
-            of,
-            cases: cases.tree,
-            otherwise: otherwise.tree,
+            of: of.tree,
+            cases,
+            otherwise,
         };
         Ok(Tall {
             tree,

@@ -15,7 +15,7 @@ use elan_tree::{Expr, Unit};
 use std::alloc::Global;
 
 /// The phrases less than `depth` deep, which the two functions parse.
-#[derive(Clone, Copy)]
+#[derive(Drop)]
 pub struct Inner<E, U> {
     pub alloc: Global,
     pub depth: u16,

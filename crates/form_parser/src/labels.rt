@@ -11,6 +11,7 @@ use containers::List;
 use elan_cursor::Cursor;
 use elan_cursor::kind::is_comma;
 use elan_grammar::ParseError;
+use elan_grammar::tall::{and, one, one_more};
 use elan_tree::{Label, Sign};
 use std::alloc::Global;
 
@@ -34,29 +35,17 @@ fn label(alloc: Global, cursor: &mut Cursor<'_>) -> Result<Label, ParseError>
     }
 }
 
-#[tactic(auto, using(elan_grammar::proofs::Turns::turn_on, elan_grammar::proofs::Turns::turn_off, elan_grammar::proofs::Turns::turn_end))]
-fn more_labels(
-    alloc: Global,
-    cursor: &mut Cursor<'_>,
-    mut labels: List<Label>,
-) -> Result<List<Label>, ParseError>
-    ensures { Gives ((rule.iterate (rule.further (terminals.mark Sign.Comma) spec.label) kinds.is_comma labels).run cursor.old.rest.now) result cursor.new.rest.now }
-{
-    for _turn in 0..cursor.rest.len() {
-        if !is_comma(cursor.ahead()) {
-            return Ok(labels);
-        }
-        cursor.mark(Sign::Comma)?;
-        labels.push(label(alloc, cursor)?)?;
-    }
-    Ok(labels)
-}
-
-#[tactic(auto, unfolding(elan_grammar::specs::Types::labels))]
+#[tactic(auto, unfolding(elan_grammar::specs::Types::labels), using(elan_grammar::proofs::Turns::turn_on, elan_grammar::proofs::Turns::turn_off, elan_grammar::proofs::Turns::turn_end))]
 pub fn labels(alloc: Global, cursor: &mut Cursor<'_>) -> Result<List<Label>, ParseError>
     ensures { Gives ((spec.labels).run cursor.old.rest.now) result cursor.new.rest.now }
 {
-    let mut labels = List::new(alloc);
-    labels.push(label(alloc, cursor)?)?;
-    more_labels(alloc, cursor, labels)
+    let mut row = one(alloc, label(alloc, cursor))?;
+    for _turn in 0..cursor.rest.len() {
+        if !is_comma(cursor.ahead()) {
+            return Ok(row);
+        }
+        let (items, _) = and(row, cursor.mark(Sign::Comma))?;
+        row = one_more(items, label(alloc, cursor))?;
+    }
+    Ok(row)
 }

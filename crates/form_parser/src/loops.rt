@@ -1,6 +1,6 @@
 //! Loops.
 
-ghost use Rattle.std.specs.Prelude.{◌≡◌, ◌<◌, ◌≤◌, IfOk, Some};
+ghost use Rattle.std.specs.Prelude.{◌≡◌, ◌<◌, ◌≤◌, max, IfOk, Some};
 ghost use Rattle.elan_grammar.specs.Rule as rule;
 ghost use Rattle.elan_grammar.specs.Rule.{Gives, GivesTall};
 ghost use Rattle.elan_grammar.specs.Kinds as kinds;
@@ -10,61 +10,30 @@ ghost use Rattle.form_parser.specs.Nests.{Nests};
 ghost use Rattle.elan_grammar.specs.Depth.{expr_depth, unit_depth, units_depth, limit_depth, counter_depth, option_depth, option_counter_depth};
 
 use elan_cursor::Cursor;
-use elan_grammar::ParseError;
+use elan_grammar::{LoopParts, ParseError};
 use crate::inner::Inner;
 use elan_cursor::kind::is_key;
 use elan_grammar::tall::{Tall, and};
-use containers::{Boxed, List, NoMemory};
-use elan_tree::{Counter, Expr, Key, Limit, Name, Unit};
+use containers::{Boxed, List};
+use elan_tree::{Counter, Expr, Key, Limit, Unit};
 use std::alloc::Global;
-
-fn boxed(
-    alloc: Global,
-    name: Name,
-    from: Option<Expr>,
-    limit: Limit,
-) -> Result<Boxed<Counter>, NoMemory>
-    ensures { IfOk result (λ c. c ≡ units.counter_of name from limit) }
-{
-    let counter = Counter { name, from, limit };
-    Boxed::new(alloc, counter)
-}
 
 impl<
     E: Fn(Global, &mut Cursor<'_>, u16, u8) -> Result<Tall<Expr>, ParseError>,
     U: Fn(Global, &mut Cursor<'_>, u16) -> Result<Tall<List<Unit>>, ParseError>,
 > Inner<E, U> {
-    #[tactic(auto, unfolding(elan_grammar::specs::Units::upto))]
-    fn upto(&self, cursor: &mut Cursor<'_>) -> Result<Tall<Limit>, ParseError>
+    /// A keyword, and an expression behind it.
+    fn behind(&self, cursor: &mut Cursor<'_>, key: Key) -> Result<Tall<Expr>, ParseError>
         requires { Nests self.now.depth (E.pre self.now.expression) (E.post self.now.expression) (U.pre self.now.units) (U.post self.now.units) }
-        ensures reads { GivesTall ((units.upto (units.phrases self.now.depth) self.now.depth).run cursor.old.rest.now) result cursor.new.rest.now }
-        ensures tall { IfOk result (λ a. a.height ≡ limit_depth a.tree) }
+        ensures reads { GivesTall ((units.behind (units.phrases self.now.depth) self.now.depth key).run cursor.old.rest.now) result cursor.new.rest.now }
+        ensures tall { IfOk result (λ a. a.height ≡ expr_depth a.tree) }
         ensures low { IfOk result (λ a. a.height < self.now.depth) }
     {
-        cursor.keyword(Key::Upto)?;
-        let a = self.expression(cursor, 6)?;
-        Ok(Tall {
-            tree: Limit::Upto(a.tree),
-            height: a.height,
-        })
+        cursor.keyword(key)?;
+        self.expression(cursor, 6)
     }
 
-    #[tactic(auto, unfolding(elan_grammar::specs::Units::downto))]
-    fn downto(&self, cursor: &mut Cursor<'_>) -> Result<Tall<Limit>, ParseError>
-        requires { Nests self.now.depth (E.pre self.now.expression) (E.post self.now.expression) (U.pre self.now.units) (U.post self.now.units) }
-        ensures reads { GivesTall ((units.downto (units.phrases self.now.depth) self.now.depth).run cursor.old.rest.now) result cursor.new.rest.now }
-        ensures tall { IfOk result (λ a. a.height ≡ limit_depth a.tree) }
-        ensures low { IfOk result (λ a. a.height < self.now.depth) }
-    {
-        cursor.keyword(Key::Downto)?;
-        let a = self.expression(cursor, 6)?;
-        Ok(Tall {
-            tree: Limit::Downto(a.tree),
-            height: a.height,
-        })
-    }
-
-    #[tactic(auto, unfolding(elan_grammar::specs::Units::a_limit))]
+    #[tactic(auto, unfolding(elan_grammar::specs::Units::a_limit, elan_grammar::specs::Units::upto, elan_grammar::specs::Units::downto))]
     fn a_limit(&self, cursor: &mut Cursor<'_>) -> Result<Tall<Limit>, ParseError>
         requires nests { Nests self.now.depth (E.pre self.now.expression) (E.post self.now.expression) (U.pre self.now.units) (U.post self.now.units) }
         requires room { 0 < self.now.depth }
@@ -74,9 +43,17 @@ impl<
     {
         let kind = cursor.ahead();
         if is_key(Key::Upto, kind) {
-            self.upto(cursor)
+            let a = self.behind(cursor, Key::Upto)?;
+            Ok(Tall {
+                tree: Limit::Upto(a.tree),
+                height: a.height,
+            })
         } else if is_key(Key::Downto, kind) {
-            self.downto(cursor)
+            let a = self.behind(cursor, Key::Downto)?;
+            Ok(Tall {
+                tree: Limit::Downto(a.tree),
+                height: a.height,
+            })
         } else {
             Ok(Tall {
                 tree: Limit::Without,
@@ -85,66 +62,26 @@ impl<
         }
     }
 
-    #[tactic(auto, unfolding(elan_grammar::specs::Units::from_part))]
-    fn from_part(&self, cursor: &mut Cursor<'_>) -> Result<Tall<Option<Expr>>, ParseError>
+    /// An expression behind a keyword, where that stands next.
+    #[tactic(auto, unfolding(elan_grammar::specs::Units::key_part))]
+    pub fn key_part(
+        &self,
+        cursor: &mut Cursor<'_>,
+        key: Key,
+    ) -> Result<Tall<Option<Expr>>, ParseError>
         requires nests { Nests self.now.depth (E.pre self.now.expression) (E.post self.now.expression) (U.pre self.now.units) (U.post self.now.units) }
         requires room { 0 < self.now.depth }
-        ensures reads { GivesTall ((units.from_part (units.phrases self.now.depth) self.now.depth).run cursor.old.rest.now) result cursor.new.rest.now }
+        ensures reads { GivesTall ((units.key_part (units.phrases self.now.depth) self.now.depth key).run cursor.old.rest.now) result cursor.new.rest.now }
         ensures tall { IfOk result (λ a. a.height ≡ option_depth a.tree) }
         ensures low { IfOk result (λ a. a.height < self.now.depth) }
     {
-        if !cursor.sees_key(Key::From) {
+        if !cursor.sees_key(key) {
             return Ok(Tall {
                 tree: None,
                 height: 0,
             });
         }
-        cursor.keyword(Key::From)?;
-        let a = self.expression(cursor, 6)?;
-        Ok(Tall {
-            tree: Some(a.tree),
-            height: a.height,
-        })
-    }
-
-    #[tactic(auto, unfolding(elan_grammar::specs::Units::until_part))]
-    fn until_part(&self, cursor: &mut Cursor<'_>) -> Result<Tall<Option<Expr>>, ParseError>
-        requires nests { Nests self.now.depth (E.pre self.now.expression) (E.post self.now.expression) (U.pre self.now.units) (U.post self.now.units) }
-        requires room { 0 < self.now.depth }
-        ensures reads { GivesTall ((units.until_part (units.phrases self.now.depth) self.now.depth).run cursor.old.rest.now) result cursor.new.rest.now }
-        ensures tall { IfOk result (λ a. a.height ≡ option_depth a.tree) }
-        ensures low { IfOk result (λ a. a.height < self.now.depth) }
-    {
-        if !cursor.sees_key(Key::Until) {
-            return Ok(Tall {
-                tree: None,
-                height: 0,
-            });
-        }
-        cursor.keyword(Key::Until)?;
-        let a = self.expression(cursor, 6)?;
-        Ok(Tall {
-            tree: Some(a.tree),
-            height: a.height,
-        })
-    }
-
-    #[tactic(auto, unfolding(elan_grammar::specs::Units::while_part))]
-    fn while_part(&self, cursor: &mut Cursor<'_>) -> Result<Tall<Option<Expr>>, ParseError>
-        requires nests { Nests self.now.depth (E.pre self.now.expression) (E.post self.now.expression) (U.pre self.now.units) (U.post self.now.units) }
-        requires room { 0 < self.now.depth }
-        ensures reads { GivesTall ((units.while_part (units.phrases self.now.depth) self.now.depth).run cursor.old.rest.now) result cursor.new.rest.now }
-        ensures tall { IfOk result (λ a. a.height ≡ option_depth a.tree) }
-        ensures low { IfOk result (λ a. a.height < self.now.depth) }
-    {
-        if !cursor.sees_key(Key::While) {
-            return Ok(Tall {
-                tree: None,
-                height: 0,
-            });
-        }
-        cursor.keyword(Key::While)?;
-        let a = self.expression(cursor, 6)?;
+        let a = self.behind(cursor, key)?;
         Ok(Tall {
             tree: Some(a.tree),
             height: a.height,
@@ -160,12 +97,16 @@ impl<
         ensures low { IfOk result (λ a. a.height < self.now.depth) }
     {
         let name = cursor.ident(self.alloc)?;
-        let from = self.from_part(cursor)?;
-        let (from, limit) = and(from, self.a_limit(cursor))?;
+        let (name, from) = and(name, self.key_part(cursor, Key::From))?;
+        let ((name, from), limit) = and((name, from), self.a_limit(cursor))?;
         let height = from.height.max(limit.height);
-        let tree = boxed(self.alloc, name, from.tree, limit.tree)?;
+        let counter = Counter {
+            name,
+            from: from.tree,
+            limit: limit.tree,
+        };
         Ok(Tall {
-            tree: Some(tree),
+            tree: Some(Boxed::new(self.alloc, counter)?),
             height,
         })
     }
@@ -180,6 +121,27 @@ impl<
         } else {
             cursor.keyword(Key::Per)
         }
+    }
+
+    #[tactic(auto, unfolding(elan_grammar::specs::Units::turn_parts))]
+    fn turn_parts(&self, cursor: &mut Cursor<'_>) -> Result<Tall<LoopParts>, ParseError>
+        requires nests { Nests self.now.depth (E.pre self.now.expression) (E.post self.now.expression) (U.pre self.now.units) (U.post self.now.units) }
+        requires room { 0 < self.now.depth }
+        ensures reads { GivesTall ((units.turn_parts (units.phrases self.now.depth) self.now.depth).run cursor.old.rest.now) result cursor.new.rest.now }
+        ensures tall { IfOk result (λ a. a.height ≡ max (units_depth a.tree.units) (option_depth a.tree.until)) }
+        ensures low { IfOk result (λ a. a.height < self.now.depth) }
+    {
+        let start = cursor.rep()?;
+        let units = self.units(cursor)?;
+        let (units, until) = and(units, self.key_part(cursor, Key::Until))?;
+        let ((units, until), _) = and((units, until), self.loop_end(cursor))?;
+        let height = units.height.max(until.height);
+        let tree = LoopParts {
+            start,
+            units: units.tree,
+            until: until.tree,
+        };
+        Ok(Tall { tree, height })
     }
 
     #[tactic(auto, unfolding(elan_grammar::specs::Units::turns))]
@@ -200,18 +162,21 @@ impl<
         ensures tall { IfOk result (λ a. a.height ≡ unit_depth a.tree) }
         ensures low { IfOk result (λ a. a.height ≤ self.now.depth) }
     {
-        let (condition, start) = and(condition, cursor.rep())?;
-        let (condition, units) = and(condition, self.units(cursor))?;
-        let (condition, until) = and(condition, self.until_part(cursor))?;
-        let guards = condition.height.max(units.height.max(until.height));
+        let (before, parts) = and((counter, condition), self.turn_parts(cursor))?;
+        let (counter, condition) = before;
+        let guards = condition.height.max(parts.height);
         let height = counter.height.max(guards);
-        self.loop_end(cursor)?;
+        let LoopParts {
+            start,
+            units,
+            until,
+        } = parts.tree;
         let tree = Unit::Loop {
             at: at.unwrap_or(start),
             counter: counter.tree,
             condition: condition.tree,
-            units: units.tree,
-            until: until.tree,
+            units,
+            until,
         };
         Ok(Tall {
             tree,
@@ -229,7 +194,7 @@ impl<
         self.below(cursor, 0)?;
         let at = cursor.keyword(Key::For)?;
         let counter = self.counter(cursor)?;
-        let condition = self.while_part(cursor)?;
+        let (counter, condition) = and(counter, self.key_part(cursor, Key::While))?;
         self.turns(cursor, Some(at), counter, condition)
     }
 

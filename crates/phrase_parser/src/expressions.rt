@@ -14,14 +14,14 @@ use elan_cursor::Cursor;
 use elan_grammar::ParseError;
 use elan_grammar::{Joint, Right};
 use elan_cursor::kind::{is_comma, is_key, is_level, is_literal, is_monadic, is_sign, lengthens};
-use elan_grammar::tall::{Tall, and, single, with_last};
-use containers::{Boxed, List, NoMemory};
+use elan_grammar::tall::{Tall, and, boxed, single, with_next};
+use containers::{Boxed, List};
 use elan_tree::{Expr, Key, Name, Sign, Unit};
 use form_parser::Inner;
 use std::alloc::Global;
 
 /// The rules of phrases at most as deep as those in them, and one more.
-#[derive(Clone, Copy)]
+#[derive(Drop)]
 pub struct Grammar<E, U> {
     pub inner: Inner<E, U>,
 }
@@ -49,15 +49,13 @@ pub fn expr_place(expr: &Expr) -> u32
     }
 }
 
-fn joined(alloc: Global, left: Expr, right: Right) -> Result<Expr, NoMemory>
-    ensures tree { IfOk result (λ e. e ≡ spec.joined left right) }
-    ensures depth { IfOk result (λ e. expr_depth e ≡ max (expr_depth left) (expr_depth right.operand) + 1) }
+/// Two operands and what joins them, at the place of the left one.
+fn joined(at: u32, joint: Joint, left: Boxed<Expr>, right: Boxed<Expr>) -> Expr
+    requires { at ≡ expr_place left }
+    ensures tree { result ≡ spec.joined_by joint left right }
+    ensures depth { expr_depth result ≡ max (expr_depth left) (expr_depth right) + 1 }
 {
-    let Right { joint, operand } = right;
-    let at = expr_place(&left);
-    let left = Boxed::new(alloc, left)?;
-    let right = Boxed::new(alloc, operand)?;
-    Ok(match joint {
+    match joint {
         Joint::Cand => Expr::Cand { at, left, right },
         Joint::Cor => Expr::Cor { at, left, right },
         Joint::Operator(operator) => Expr::Dyadic {
@@ -66,17 +64,7 @@ fn joined(alloc: Global, left: Expr, right: Right) -> Result<Expr, NoMemory>
             left,
             right,
         },
-    })
-}
-
-/// `of [index]`
-fn indexed(alloc: Global, of: Expr, index: Expr) -> Result<Expr, NoMemory>
-    ensures { IfOk result (λ e. e ≡ Expr.Index (expr_place of) of index) }
-{
-    let at = expr_place(&of);
-    let of = Boxed::new(alloc, of)?;
-    let index = Boxed::new(alloc, index)?;
-    Ok(Expr::Index { at, of, index })
+    }
 }
 
 impl<
@@ -92,12 +80,11 @@ impl<
     {
         self.inner.below(cursor, 0)?;
         let at = cursor.mark(Sign::LeftRound)?;
-        let Tall { tree, height } = self.inner.expression(cursor, 6)?;
-        let inner = Boxed::new(self.inner.alloc, tree)?;
-        cursor.mark(Sign::RightRound)?;
+        let inner = boxed(self.inner.alloc, self.inner.expression(cursor, 6))?;
+        let (inner, _) = and(inner, cursor.mark(Sign::RightRound))?;
         Ok(Tall {
-            tree: Expr::Bracket(at, inner),
-            height: height + 1,
+            tree: Expr::Bracket(at, inner.tree),
+            height: inner.height + 1,
         })
     }
 
@@ -111,12 +98,11 @@ impl<
         self.inner.below(cursor, 0)?;
         let at = cursor.keyword(Key::Concr)?;
         cursor.mark(Sign::LeftRound)?;
-        let Tall { tree, height } = self.inner.expression(cursor, 6)?;
-        let inner = Boxed::new(self.inner.alloc, tree)?;
-        cursor.mark(Sign::RightRound)?;
+        let inner = boxed(self.inner.alloc, self.inner.expression(cursor, 6))?;
+        let (inner, _) = and(inner, cursor.mark(Sign::RightRound))?;
         Ok(Tall {
-            tree: Expr::Concr(at, inner),
-            height: height + 1,
+            tree: Expr::Concr(at, inner.tree),
+            height: inner.height + 1,
         })
     }
 
@@ -144,30 +130,7 @@ impl<
         self.inner.expression(cursor, 6)
     }
 
-    #[tactic(auto, using(elan_grammar::proofs::Turns::turn_on, elan_grammar::proofs::Turns::turn_off, elan_grammar::proofs::Turns::turn_end, elan_grammar::proofs::Deepest::deepest_push))]
-    fn more_actuals(
-        &self,
-        cursor: &mut Cursor<'_>,
-        mut row: Tall<List<Expr>>,
-    ) -> Result<Tall<List<Expr>>, ParseError>
-        requires nests { Nests self.now.inner.depth (E.pre self.now.inner.expression) (E.post self.now.inner.expression) (U.pre self.now.inner.units) (U.post self.now.inner.units) }
-        requires tall { row.height ≡ exprs_depth row.tree }
-        requires low { row.height < self.now.inner.depth }
-        ensures reads { GivesTall ((rule.iterate (rule.further (terminals.mark Sign.Comma) (spec.actual (units.phrases self.now.inner.depth) self.now.inner.depth)) (kinds.is_comma) row.tree).run cursor.old.rest.now) result cursor.new.rest.now }
-        ensures tall { IfOk result (λ a. a.height ≡ exprs_depth a.tree) }
-        ensures low { IfOk result (λ a. a.height < self.now.inner.depth) }
-    {
-        for _turn in 0..cursor.rest.len() {
-            if !is_comma(cursor.ahead()) {
-                return Ok(row);
-            }
-            cursor.mark(Sign::Comma)?;
-            row = with_last(row, self.actual(cursor)?)?;
-        }
-        Ok(row)
-    }
-
-    #[tactic(auto, unfolding(elan_grammar::specs::Expressions::actuals), using(elan_grammar::proofs::Deepest::deepest_one))]
+    #[tactic(auto, unfolding(elan_grammar::specs::Expressions::actuals), using(elan_grammar::proofs::Turns::turn_on, elan_grammar::proofs::Turns::turn_off, elan_grammar::proofs::Turns::turn_end, elan_grammar::proofs::Deepest::deepest_one, elan_grammar::proofs::Deepest::deepest_push))]
     fn actuals(&self, cursor: &mut Cursor<'_>) -> Result<Tall<List<Expr>>, ParseError>
         requires nests { Nests self.now.inner.depth (E.pre self.now.inner.expression) (E.post self.now.inner.expression) (U.pre self.now.inner.units) (U.post self.now.inner.units) }
         requires room { 0 < self.now.inner.depth }
@@ -175,8 +138,15 @@ impl<
         ensures tall { IfOk result (λ a. a.height ≡ exprs_depth a.tree) }
         ensures low { IfOk result (λ a. a.height < self.now.inner.depth) }
     {
-        let first = self.actual(cursor)?;
-        self.more_actuals(cursor, single(self.inner.alloc, first)?)
+        let mut row = single(self.inner.alloc, self.actual(cursor))?;
+        for _turn in 0..cursor.rest.len() {
+            if !is_comma(cursor.ahead()) {
+                return Ok(row);
+            }
+            let (items, _) = and(row, cursor.mark(Sign::Comma))?;
+            row = with_next(items, self.actual(cursor))?;
+        }
+        Ok(row)
     }
 
     #[tactic(auto, unfolding(elan_grammar::specs::Expressions::call))]
@@ -186,13 +156,12 @@ impl<
         ensures tall { IfOk result (λ a. a.height ≡ expr_depth a.tree) }
         ensures low { IfOk result (λ a. a.height ≤ self.now.inner.depth) }
     {
-        self.inner.below(cursor, 0)?;
-        cursor.mark(Sign::LeftRound)?;
-        let row = self.actuals(cursor)?;
-        cursor.mark(Sign::RightRound)?;
-        let tree = Expr::Call(name, row.tree);
+        let (name, _) = and(name, self.inner.below(cursor, 0))?;
+        let (name, _) = and(name, cursor.mark(Sign::LeftRound))?;
+        let (name, row) = and(name, self.actuals(cursor))?;
+        let ((name, row), _) = and((name, row), cursor.mark(Sign::RightRound))?;
         Ok(Tall {
-            tree,
+            tree: Expr::Call(name, row.tree),
             height: row.height + 1,
         })
     }
@@ -214,15 +183,6 @@ impl<
         })
     }
 
-    fn literal(&self, cursor: &mut Cursor<'_>) -> Result<Tall<Expr>, ParseError>
-        ensures reads { GivesTall ((rule.terminal terminals.literal_at).run cursor.old.rest.now) result cursor.new.rest.now }
-        ensures tall { IfOk result (λ a. a.height ≡ expr_depth a.tree) }
-        ensures low { IfOk result (λ a. a.height ≤ self.now.inner.depth) }
-    {
-        let tree = cursor.literal(self.inner.alloc)?;
-        Ok(Tall { tree, height: 0 })
-    }
-
     #[tactic(auto, unfolding(elan_grammar::specs::Expressions::head))]
     fn head(&self, cursor: &mut Cursor<'_>) -> Result<Tall<Expr>, ParseError>
         requires { Nests self.now.inner.depth (E.pre self.now.inner.expression) (E.post self.now.inner.expression) (U.pre self.now.inner.units) (U.post self.now.inner.units) }
@@ -232,7 +192,8 @@ impl<
     {
         let kind = cursor.ahead();
         if is_literal(kind) {
-            self.literal(cursor)
+            let tree = cursor.literal(self.inner.alloc)?;
+            Ok(Tall { tree, height: 0 })
         } else if is_sign(Sign::LeftRound, kind) {
             self.bracket(cursor)
         } else if is_key(Key::Concr, kind) {
@@ -269,15 +230,16 @@ impl<
         ensures tall { IfOk result (λ a. a.height ≡ expr_depth a.tree) }
         ensures low { IfOk result (λ a. a.height ≤ self.now.inner.depth) }
     {
-        let Tall { tree: of, height } = of;
-        let (of, index) = and(of, self.index_part(cursor, height))?;
-        let Tall {
-            tree: index,
-            height: below,
-        } = index;
-        let height = height.max(below) + 1;
-        let tree = indexed(self.inner.alloc, of, index)?;
-        Ok(Tall { tree, height })
+        let at = expr_place(&of.tree);
+        let height = of.height;
+        let of = Boxed::new(self.inner.alloc, of.tree)?;
+        let (of, index) = and(of, boxed(self.inner.alloc, self.index_part(cursor, height)))?;
+        let height = height.max(index.height) + 1;
+        let index = index.tree;
+        Ok(Tall {
+            tree: Expr::Index { at, of, index },
+            height,
+        })
     }
 
     #[tactic(auto, unfolding(elan_grammar::specs::Expressions::field_part))]
@@ -301,10 +263,9 @@ impl<
         let height = of.height;
         let at = expr_place(&of.tree);
         let of = Boxed::new(self.inner.alloc, of.tree)?;
-        let field = self.field_part(cursor, height)?;
-        let tree = Expr::Field { at, of, field };
+        let (of, field) = and(of, self.field_part(cursor, height))?;
         Ok(Tall {
-            tree,
+            tree: Expr::Field { at, of, field },
             height: height + 1,
         })
     }
@@ -324,19 +285,14 @@ impl<
         }
     }
 
-    #[tactic(auto, using(elan_grammar::proofs::Turns::turn_on, elan_grammar::proofs::Turns::turn_off, elan_grammar::proofs::Turns::turn_end))]
-    fn more_longer(
-        &self,
-        cursor: &mut Cursor<'_>,
-        mut of: Tall<Expr>,
-    ) -> Result<Tall<Expr>, ParseError>
-        requires nests { Nests self.now.inner.depth (E.pre self.now.inner.expression) (E.post self.now.inner.expression) (U.pre self.now.inner.units) (U.post self.now.inner.units) }
-        requires tall { of.height ≡ expr_depth of.tree }
-        requires low { of.height ≤ self.now.inner.depth }
-        ensures reads { GivesTall ((rule.iterate (spec.longer (units.phrases self.now.inner.depth) self.now.inner.depth) (kinds.lengthens) of.tree).run cursor.old.rest.now) result cursor.new.rest.now }
+    #[tactic(auto, unfolding(elan_grammar::specs::Expressions::prim), using(elan_grammar::proofs::Turns::turn_on, elan_grammar::proofs::Turns::turn_off, elan_grammar::proofs::Turns::turn_end))]
+    fn prim(&self, cursor: &mut Cursor<'_>) -> Result<Tall<Expr>, ParseError>
+        requires { Nests self.now.inner.depth (E.pre self.now.inner.expression) (E.post self.now.inner.expression) (U.pre self.now.inner.units) (U.post self.now.inner.units) }
+        ensures reads { GivesTall ((spec.prim (units.phrases self.now.inner.depth) self.now.inner.depth).run cursor.old.rest.now) result cursor.new.rest.now }
         ensures tall { IfOk result (λ a. a.height ≡ expr_depth a.tree) }
         ensures low { IfOk result (λ a. a.height ≤ self.now.inner.depth) }
     {
+        let mut of = self.head(cursor)?;
         for _turn in 0..cursor.rest.len() {
             if !lengthens(cursor.ahead()) {
                 return Ok(of);
@@ -344,17 +300,6 @@ impl<
             of = self.longer(cursor, of)?;
         }
         Ok(of)
-    }
-
-    #[tactic(auto, unfolding(elan_grammar::specs::Expressions::prim))]
-    fn prim(&self, cursor: &mut Cursor<'_>) -> Result<Tall<Expr>, ParseError>
-        requires { Nests self.now.inner.depth (E.pre self.now.inner.expression) (E.post self.now.inner.expression) (U.pre self.now.inner.units) (U.post self.now.inner.units) }
-        ensures reads { GivesTall ((spec.prim (units.phrases self.now.inner.depth) self.now.inner.depth).run cursor.old.rest.now) result cursor.new.rest.now }
-        ensures tall { IfOk result (λ a. a.height ≡ expr_depth a.tree) }
-        ensures low { IfOk result (λ a. a.height ≤ self.now.inner.depth) }
-    {
-        let head = self.head(cursor)?;
-        self.more_longer(cursor, head)
     }
 
     #[tactic(auto, unfolding(elan_grammar::specs::Expressions::applied))]
@@ -365,16 +310,20 @@ impl<
         ensures low { IfOk result (λ a. a.height ≤ self.now.inner.depth) }
     {
         self.inner.below(cursor, 0)?;
-        let (at, operator) = cursor.monadic(self.inner.alloc)?;
-        let a = self.inner.expression(cursor, 0)?;
+        let operator = cursor.monadic(self.inner.alloc)?;
+        let (operator, operand) = and(
+            operator,
+            boxed(self.inner.alloc, self.inner.expression(cursor, 0)),
+        )?;
+        let (at, operator) = operator;
         let tree = Expr::Monadic {
             at,
             operator,
-            operand: Boxed::new(self.inner.alloc, a.tree)?,
+            operand: operand.tree,
         };
         Ok(Tall {
             tree,
-            height: a.height + 1,
+            height: operand.height + 1,
         })
     }
 
@@ -408,14 +357,17 @@ impl<
     {
         self.inner.below(cursor, height)?;
         let joint = cursor.joint(self.inner.alloc, level + 1)?;
-        let right = self.inner.expression(cursor, level)?;
-        let Tall {
-            tree: operand,
-            height,
-        } = right;
+        let (joint, right) = and(
+            joint,
+            boxed(self.inner.alloc, self.inner.expression(cursor, level)),
+        )?;
+        let tree = Right {
+            joint,
+            operand: right.tree,
+        };
         Ok(Tall {
-            tree: Right { joint, operand },
-            height,
+            tree,
+            height: right.height,
         })
     }
 
@@ -433,15 +385,16 @@ impl<
         ensures tall { IfOk result (λ a. a.height ≡ expr_depth a.tree) }
         ensures low { IfOk result (λ a. a.height ≤ self.now.inner.depth) }
     {
-        let Tall { tree: left, height } = left;
+        let at = expr_place(&left.tree);
+        let height = left.height;
+        let left = Boxed::new(self.inner.alloc, left.tree)?;
         let (left, right) = and(left, self.right_part(cursor, level, height))?;
-        let Tall {
-            tree: right,
-            height: below,
-        } = right;
-        let height = height.max(below) + 1;
-        let tree = joined(self.inner.alloc, left, right)?;
-        Ok(Tall { tree, height })
+        let height = height.max(right.height) + 1;
+        let Right { joint, operand } = right.tree;
+        Ok(Tall {
+            tree: joined(at, joint, left, operand),
+            height,
+        })
     }
 
     #[tactic(auto, using(elan_grammar::proofs::Turns::turn_on, elan_grammar::proofs::Turns::turn_off, elan_grammar::proofs::Turns::turn_end))]

@@ -3,6 +3,6 @@
 
 mod expressions;
 mod knot;
-mod units;
+mod unit_rules;
 
 pub use knot::{declared, plain, units};

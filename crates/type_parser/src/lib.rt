@@ -2,7 +2,7 @@
 #![tactic(auto)]
 
 mod parts;
-mod types;
+mod type_phrases;
 
 pub use parts::{formals, let_items};
-pub use types::{type_place, types};
+pub use type_phrases::{type_place, types};

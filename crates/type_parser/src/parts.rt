@@ -11,8 +11,8 @@ ghost use Rattle.elan_grammar.specs.Depth.{formal_depth, formals_depth, let_item
 use elan_cursor::Cursor;
 use elan_grammar::ParseError;
 use elan_cursor::kind::{is_comma, is_ident};
-use elan_grammar::tall::{Tall, single, with_last};
-use crate::types::{names, types};
+use elan_grammar::tall::{Tall, and, single, with_next};
+use crate::type_phrases::{names, types};
 use containers::List;
 use elan_tree::{Constant, Formal, LetItem, Sign};
 use std::alloc::Global;
@@ -24,8 +24,8 @@ fn formal(alloc: Global, cursor: &mut Cursor<'_>, depth: u16) -> Result<Tall<For
     ensures low { IfOk result (λ a. a.height ≤ depth) }
 {
     let of = types(alloc, cursor, depth)?;
-    let access = cursor.access()?;
-    let names = names(alloc, cursor)?;
+    let (of, access) = and(of, cursor.access())?;
+    let (of, names) = and(of, names(alloc, cursor))?;
     let tree = Formal {
         of: of.tree,
         access,
@@ -37,30 +37,7 @@ fn formal(alloc: Global, cursor: &mut Cursor<'_>, depth: u16) -> Result<Tall<For
     })
 }
 
-#[tactic(auto, using(elan_grammar::proofs::Turns::turn_on, elan_grammar::proofs::Turns::turn_off, elan_grammar::proofs::Turns::turn_end, elan_grammar::proofs::Deepest::deepest_push))]
-fn more_formals(
-    alloc: Global,
-    cursor: &mut Cursor<'_>,
-    depth: u16,
-    mut row: Tall<List<Formal>>,
-) -> Result<Tall<List<Formal>>, ParseError>
-    requires tall { row.height ≡ formals_depth row.tree }
-    requires low { row.height ≤ depth }
-    ensures reads { GivesTall ((rule.iterate (rule.further (terminals.mark Sign.Comma) (spec.formal depth)) kinds.is_comma row.tree).run cursor.old.rest.now) result cursor.new.rest.now }
-    ensures tall { IfOk result (λ a. a.height ≡ formals_depth a.tree) }
-    ensures low { IfOk result (λ a. a.height ≤ depth) }
-{
-    for _turn in 0..cursor.rest.len() {
-        if !is_comma(cursor.ahead()) {
-            return Ok(row);
-        }
-        cursor.mark(Sign::Comma)?;
-        row = with_last(row, formal(alloc, cursor, depth)?)?;
-    }
-    Ok(row)
-}
-
-#[tactic(auto, unfolding(elan_grammar::specs::Types::formals), using(elan_grammar::proofs::Deepest::deepest_one))]
+#[tactic(auto, unfolding(elan_grammar::specs::Types::formals), using(elan_grammar::proofs::Turns::turn_on, elan_grammar::proofs::Turns::turn_off, elan_grammar::proofs::Turns::turn_end, elan_grammar::proofs::Deepest::deepest_one, elan_grammar::proofs::Deepest::deepest_push))]
 pub fn formals(
     alloc: Global,
     cursor: &mut Cursor<'_>,
@@ -70,8 +47,15 @@ pub fn formals(
     ensures tall { IfOk result (λ a. a.height ≡ formals_depth a.tree) }
     ensures low { IfOk result (λ a. a.height ≤ depth) }
 {
-    let first = formal(alloc, cursor, depth)?;
-    more_formals(alloc, cursor, depth, single(alloc, first)?)
+    let mut row = single(alloc, formal(alloc, cursor, depth))?;
+    for _turn in 0..cursor.rest.len() {
+        if !is_comma(cursor.ahead()) {
+            return Ok(row);
+        }
+        let (items, _) = and(row, cursor.mark(Sign::Comma))?;
+        row = with_next(items, formal(alloc, cursor, depth))?;
+    }
+    Ok(row)
 }
 
 #[tactic(auto, unfolding(elan_grammar::specs::Types::negative))]
@@ -99,8 +83,8 @@ fn let_constant(alloc: Global, cursor: &mut Cursor<'_>) -> Result<LetItem, Parse
     ensures { Gives ((spec.let_constant).run cursor.old.rest.now) result cursor.new.rest.now }
 {
     let name = cursor.ident(alloc)?;
-    cursor.mark(Sign::Equal)?;
-    let value = constant(alloc, cursor)?;
+    let (name, _) = and(name, cursor.mark(Sign::Equal))?;
+    let (name, value) = and(name, constant(alloc, cursor))?;
     Ok(LetItem::Constant(name, value))
 }
 
@@ -115,8 +99,8 @@ fn abbreviation(
     ensures low { IfOk result (λ a. a.height ≤ depth) }
 {
     let name = cursor.bold(alloc)?;
-    cursor.mark(Sign::Equal)?;
-    let of = types(alloc, cursor, depth)?;
+    let (name, _) = and(name, cursor.mark(Sign::Equal))?;
+    let (name, of) = and(name, types(alloc, cursor, depth))?;
     Ok(Tall {
         tree: LetItem::Abbreviation(name, of.tree),
         height: of.height,
@@ -136,30 +120,7 @@ fn let_item(alloc: Global, cursor: &mut Cursor<'_>, depth: u16) -> Result<Tall<L
     abbreviation(alloc, cursor, depth)
 }
 
-#[tactic(auto, using(elan_grammar::proofs::Turns::turn_on, elan_grammar::proofs::Turns::turn_off, elan_grammar::proofs::Turns::turn_end, elan_grammar::proofs::Deepest::deepest_push))]
-fn more_let_items(
-    alloc: Global,
-    cursor: &mut Cursor<'_>,
-    depth: u16,
-    mut row: Tall<List<LetItem>>,
-) -> Result<Tall<List<LetItem>>, ParseError>
-    requires tall { row.height ≡ let_items_depth row.tree }
-    requires low { row.height ≤ depth }
-    ensures reads { GivesTall ((rule.iterate (rule.further (terminals.mark Sign.Comma) (spec.let_item depth)) kinds.is_comma row.tree).run cursor.old.rest.now) result cursor.new.rest.now }
-    ensures tall { IfOk result (λ a. a.height ≡ let_items_depth a.tree) }
-    ensures low { IfOk result (λ a. a.height ≤ depth) }
-{
-    for _turn in 0..cursor.rest.len() {
-        if !is_comma(cursor.ahead()) {
-            return Ok(row);
-        }
-        cursor.mark(Sign::Comma)?;
-        row = with_last(row, let_item(alloc, cursor, depth)?)?;
-    }
-    Ok(row)
-}
-
-#[tactic(auto, unfolding(elan_grammar::specs::Types::let_items), using(elan_grammar::proofs::Deepest::deepest_one))]
+#[tactic(auto, unfolding(elan_grammar::specs::Types::let_items), using(elan_grammar::proofs::Turns::turn_on, elan_grammar::proofs::Turns::turn_off, elan_grammar::proofs::Turns::turn_end, elan_grammar::proofs::Deepest::deepest_one, elan_grammar::proofs::Deepest::deepest_push))]
 pub fn let_items(
     alloc: Global,
     cursor: &mut Cursor<'_>,
@@ -169,6 +130,13 @@ pub fn let_items(
     ensures tall { IfOk result (λ a. a.height ≡ let_items_depth a.tree) }
     ensures low { IfOk result (λ a. a.height ≤ depth) }
 {
-    let first = let_item(alloc, cursor, depth)?;
-    more_let_items(alloc, cursor, depth, single(alloc, first)?)
+    let mut row = single(alloc, let_item(alloc, cursor, depth))?;
+    for _turn in 0..cursor.rest.len() {
+        if !is_comma(cursor.ahead()) {
+            return Ok(row);
+        }
+        let (items, _) = and(row, cursor.mark(Sign::Comma))?;
+        row = with_next(items, let_item(alloc, cursor, depth))?;
+    }
+    Ok(row)
 }
