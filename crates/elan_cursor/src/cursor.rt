@@ -1,6 +1,6 @@
 //! A cursor over tokens: it stands before the next one.
 
-ghost use Rattle.std.specs.Prelude.{◌≡◌, Ok, Err, IfOk};
+ghost use Rattle.std.specs.Prelude.{◌≡◌, ◌<◌, nat_lt, Ok, Err, IfOk};
 ghost use Rattle.elan_grammar.specs.Rule as rule;
 ghost use Rattle.elan_grammar.specs.Rule.{Gives};
 ghost use Rattle.elan_grammar.specs.Kinds as kinds;
@@ -58,6 +58,18 @@ impl<'a> Cursor<'a> {
         ensures { result ≡ rule.refusal self.now.rest.now }
     {
         ParseError::NotElan(self.rest.len())
+    }
+
+    /// There is a depth above a phrase of this height.
+    pub fn below(&self, height: u32, depth: u16) -> Result<(), ParseError>
+        ensures reads { Gives ((rule.only (nat_lt height depth)).run self.now.rest.now) result self.now.rest.now }
+        ensures low { IfOk result (λ _. height < depth) }
+    {
+        if height < u32::from(depth) {
+            Ok(())
+        } else {
+            Err(self.refuse())
+        }
     }
 
     pub fn keyword(&mut self, key: Key) -> Result<u32, ParseError>

@@ -99,7 +99,7 @@ impl<
         ensures tall { IfOk result (λ a. a.height ≡ expr_depth a.tree) }
         ensures low { IfOk result (λ a. a.height ≤ self.now.depth) }
     {
-        self.below(cursor, 0)?;
+        cursor.below(0, self.depth)?;
         let at = cursor.keyword(Key::If)?;
         let branches = self.branches(cursor)?;
         let (branches, otherwise) = and(branches, self.else_part(cursor))?;
@@ -208,7 +208,7 @@ impl<
         ensures tall { IfOk result (λ a. a.height ≡ expr_depth a.tree) }
         ensures low { IfOk result (λ a. a.height ≤ self.now.depth) }
     {
-        self.below(cursor, 0)?;
+        cursor.below(0, self.depth)?;
         let at = cursor.keyword(Key::Select)?;
         let of = boxed(self.alloc, self.expression(cursor, 6))?;
         let (of, _) = and(of, cursor.keyword(Key::Of))?;

@@ -47,16 +47,4 @@ impl<
     {
         (self.units)(self.alloc, cursor, self.depth)
     }
-
-    /// There is room for a phrase above one of this height.
-    pub fn below(&self, cursor: &Cursor<'_>, height: u32) -> Result<(), ParseError>
-        ensures reads { Gives ((rule.only (nat_lt height self.now.depth)).run cursor.now.rest.now) result cursor.now.rest.now }
-        ensures low { IfOk result (λ _. height < self.now.depth) }
-    {
-        if height < u32::from(self.depth) {
-            Ok(())
-        } else {
-            Err(cursor.refuse())
-        }
-    }
 }

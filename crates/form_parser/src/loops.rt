@@ -191,7 +191,7 @@ impl<
         ensures tall { IfOk result (λ a. a.height ≡ unit_depth a.tree) }
         ensures low { IfOk result (λ a. a.height ≤ self.now.depth) }
     {
-        self.below(cursor, 0)?;
+        cursor.below(0, self.depth)?;
         let at = cursor.keyword(Key::For)?;
         let counter = self.counter(cursor)?;
         let (counter, condition) = and(counter, self.key_part(cursor, Key::While))?;
@@ -205,7 +205,7 @@ impl<
         ensures tall { IfOk result (λ a. a.height ≡ unit_depth a.tree) }
         ensures low { IfOk result (λ a. a.height ≤ self.now.depth) }
     {
-        self.below(cursor, 0)?;
+        cursor.below(0, self.depth)?;
         let at = cursor.keyword(Key::While)?;
         let a = self.expression(cursor, 6)?;
         let counter = Tall {
@@ -226,7 +226,7 @@ impl<
         ensures tall { IfOk result (λ a. a.height ≡ unit_depth a.tree) }
         ensures low { IfOk result (λ a. a.height ≤ self.now.depth) }
     {
-        self.below(cursor, 0)?;
+        cursor.below(0, self.depth)?;
         let counter = Tall {
             tree: None,
             height: 0,

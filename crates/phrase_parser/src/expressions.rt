@@ -14,16 +14,19 @@ use elan_cursor::Cursor;
 use elan_grammar::ParseError;
 use elan_grammar::{Joint, Right};
 use elan_cursor::kind::{is_comma, is_key, is_level, is_literal, is_monadic, is_sign, lengthens};
-use elan_grammar::tall::{Tall, and, boxed, single, with_next};
+use elan_grammar::tall::{Tall, and, single, with_next};
 use containers::{Boxed, List};
 use elan_tree::{Expr, Key, Name, Sign, Unit};
 use form_parser::Inner;
 use std::alloc::Global;
 
-/// The rules of phrases at most as deep as those in them, and one more.
+/// The rules of phrases whose parts are less than `depth` deep, which the two functions parse.
 #[derive(Drop)]
 pub struct Grammar<E, U> {
-    pub inner: Inner<E, U>,
+    pub alloc: Global,
+    pub depth: u16,
+    pub expression: E,
+    pub units: U,
 }
 
 /// The place where an expression begins.
@@ -68,77 +71,105 @@ fn joined(at: u32, joint: Joint, left: Boxed<Expr>, right: Boxed<Expr>) -> Expr
 }
 
 impl<
-    E: Fn(Global, &mut Cursor<'_>, u16, u8) -> Result<Tall<Expr>, ParseError>,
-    U: Fn(Global, &mut Cursor<'_>, u16) -> Result<Tall<List<Unit>>, ParseError>,
+    E: Fn(Global, &mut Cursor<'_>, u16, u8) -> Result<Tall<Expr>, ParseError> + Copy,
+    U: Fn(Global, &mut Cursor<'_>, u16) -> Result<Tall<List<Unit>>, ParseError> + Copy,
 > Grammar<E, U> {
+    /// The rules of IF, SELECT and loops over the same parts.
+    pub fn forms(&self) -> Inner<E, U>
+        ensures alloc { result.alloc ≡ self.now.alloc }
+        ensures depth { result.depth ≡ self.now.depth }
+        ensures expression { result.expression ≡ self.now.expression }
+        ensures units { result.units ≡ self.now.units }
+    {
+        Inner {
+            alloc: self.alloc,
+            depth: self.depth,
+            expression: self.expression,
+            units: self.units,
+        }
+    }
+
+    /// An expression in another phrase.
+    pub fn inner(&self, cursor: &mut Cursor<'_>, level: u8) -> Result<Tall<Expr>, ParseError>
+        requires nests { Nests self.now.depth (E.pre self.now.expression) (E.post self.now.expression) (U.pre self.now.units) (U.post self.now.units) }
+        requires level { level ≤ 6 }
+        ensures reads { GivesTall (((units.phrases self.now.depth).level level).run cursor.old.rest.now) result cursor.new.rest.now }
+        ensures tall { IfOk result (λ a. a.height ≡ expr_depth a.tree) }
+        ensures low { IfOk result (λ a. a.height < self.now.depth) }
+    {
+        (self.expression)(self.alloc, cursor, self.depth, level)
+    }
+
     #[tactic(auto, unfolding(elan_grammar::specs::Expressions::bracket))]
     fn bracket(&self, cursor: &mut Cursor<'_>) -> Result<Tall<Expr>, ParseError>
-        requires { Nests self.now.inner.depth (E.pre self.now.inner.expression) (E.post self.now.inner.expression) (U.pre self.now.inner.units) (U.post self.now.inner.units) }
-        ensures reads { GivesTall ((spec.bracket (units.phrases self.now.inner.depth) self.now.inner.depth).run cursor.old.rest.now) result cursor.new.rest.now }
+        requires { Nests self.now.depth (E.pre self.now.expression) (E.post self.now.expression) (U.pre self.now.units) (U.post self.now.units) }
+        ensures reads { GivesTall ((spec.bracket (units.phrases self.now.depth) self.now.depth).run cursor.old.rest.now) result cursor.new.rest.now }
         ensures tall { IfOk result (λ a. a.height ≡ expr_depth a.tree) }
-        ensures low { IfOk result (λ a. a.height ≤ self.now.inner.depth) }
+        ensures low { IfOk result (λ a. a.height ≤ self.now.depth) }
     {
-        self.inner.below(cursor, 0)?;
+        cursor.below(0, self.depth)?;
         let at = cursor.mark(Sign::LeftRound)?;
-        let inner = boxed(self.inner.alloc, self.inner.expression(cursor, 6))?;
-        let (inner, _) = and(inner, cursor.mark(Sign::RightRound))?;
+        let a = self.inner(cursor, 6)?;
+        let inner = Boxed::new(self.alloc, a.tree)?;
+        cursor.mark(Sign::RightRound)?;
         Ok(Tall {
-            tree: Expr::Bracket(at, inner.tree),
-            height: inner.height + 1,
+            tree: Expr::Bracket(at, inner),
+            height: a.height + 1,
         })
     }
 
     #[tactic(auto, unfolding(elan_grammar::specs::Expressions::concr))]
     fn concr(&self, cursor: &mut Cursor<'_>) -> Result<Tall<Expr>, ParseError>
-        requires { Nests self.now.inner.depth (E.pre self.now.inner.expression) (E.post self.now.inner.expression) (U.pre self.now.inner.units) (U.post self.now.inner.units) }
-        ensures reads { GivesTall ((spec.concr (units.phrases self.now.inner.depth) self.now.inner.depth).run cursor.old.rest.now) result cursor.new.rest.now }
+        requires { Nests self.now.depth (E.pre self.now.expression) (E.post self.now.expression) (U.pre self.now.units) (U.post self.now.units) }
+        ensures reads { GivesTall ((spec.concr (units.phrases self.now.depth) self.now.depth).run cursor.old.rest.now) result cursor.new.rest.now }
         ensures tall { IfOk result (λ a. a.height ≡ expr_depth a.tree) }
-        ensures low { IfOk result (λ a. a.height ≤ self.now.inner.depth) }
+        ensures low { IfOk result (λ a. a.height ≤ self.now.depth) }
     {
-        self.inner.below(cursor, 0)?;
+        cursor.below(0, self.depth)?;
         let at = cursor.keyword(Key::Concr)?;
         cursor.mark(Sign::LeftRound)?;
-        let inner = boxed(self.inner.alloc, self.inner.expression(cursor, 6))?;
-        let (inner, _) = and(inner, cursor.mark(Sign::RightRound))?;
+        let a = self.inner(cursor, 6)?;
+        let inner = Boxed::new(self.alloc, a.tree)?;
+        cursor.mark(Sign::RightRound)?;
         Ok(Tall {
-            tree: Expr::Concr(at, inner.tree),
-            height: inner.height + 1,
+            tree: Expr::Concr(at, inner),
+            height: a.height + 1,
         })
     }
 
     #[tactic(auto, unfolding(elan_grammar::specs::Expressions::procedure))]
     fn procedure(&self, cursor: &mut Cursor<'_>) -> Result<Expr, ParseError>
-        ensures { Gives ((spec.procedure (units.phrases self.now.inner.depth) self.now.inner.depth).run cursor.old.rest.now) result cursor.new.rest.now }
+        ensures { Gives ((spec.procedure (units.phrases self.now.depth) self.now.depth).run cursor.old.rest.now) result cursor.new.rest.now }
     {
         let at = cursor.keyword(Key::Proc)?;
-        let name = cursor.ident(self.inner.alloc)?;
+        let name = cursor.ident(self.alloc)?;
         Ok(Expr::Procedure(at, name))
     }
 
     #[tactic(auto, unfolding(elan_grammar::specs::Expressions::actual, elan_grammar::specs::Expressions::procedure))]
     fn actual(&self, cursor: &mut Cursor<'_>) -> Result<Tall<Expr>, ParseError>
-        requires nests { Nests self.now.inner.depth (E.pre self.now.inner.expression) (E.post self.now.inner.expression) (U.pre self.now.inner.units) (U.post self.now.inner.units) }
-        requires room { 0 < self.now.inner.depth }
-        ensures reads { GivesTall ((spec.actual (units.phrases self.now.inner.depth) self.now.inner.depth).run cursor.old.rest.now) result cursor.new.rest.now }
+        requires nests { Nests self.now.depth (E.pre self.now.expression) (E.post self.now.expression) (U.pre self.now.units) (U.post self.now.units) }
+        requires room { 0 < self.now.depth }
+        ensures reads { GivesTall ((spec.actual (units.phrases self.now.depth) self.now.depth).run cursor.old.rest.now) result cursor.new.rest.now }
         ensures tall { IfOk result (λ a. a.height ≡ expr_depth a.tree) }
-        ensures low { IfOk result (λ a. a.height < self.now.inner.depth) }
+        ensures low { IfOk result (λ a. a.height < self.now.depth) }
     {
         if cursor.sees_key(Key::Proc) {
             let tree = self.procedure(cursor)?;
             return Ok(Tall { tree, height: 0 });
         }
-        self.inner.expression(cursor, 6)
+        self.inner(cursor, 6)
     }
 
     #[tactic(auto, unfolding(elan_grammar::specs::Expressions::actuals), using(elan_grammar::proofs::Turns::turn_on, elan_grammar::proofs::Turns::turn_off, elan_grammar::proofs::Turns::turn_end, elan_grammar::proofs::Deepest::deepest_one, elan_grammar::proofs::Deepest::deepest_push))]
     fn actuals(&self, cursor: &mut Cursor<'_>) -> Result<Tall<List<Expr>>, ParseError>
-        requires nests { Nests self.now.inner.depth (E.pre self.now.inner.expression) (E.post self.now.inner.expression) (U.pre self.now.inner.units) (U.post self.now.inner.units) }
-        requires room { 0 < self.now.inner.depth }
-        ensures reads { GivesTall ((spec.actuals (units.phrases self.now.inner.depth) self.now.inner.depth).run cursor.old.rest.now) result cursor.new.rest.now }
+        requires nests { Nests self.now.depth (E.pre self.now.expression) (E.post self.now.expression) (U.pre self.now.units) (U.post self.now.units) }
+        requires room { 0 < self.now.depth }
+        ensures reads { GivesTall ((spec.actuals (units.phrases self.now.depth) self.now.depth).run cursor.old.rest.now) result cursor.new.rest.now }
         ensures tall { IfOk result (λ a. a.height ≡ exprs_depth a.tree) }
-        ensures low { IfOk result (λ a. a.height < self.now.inner.depth) }
+        ensures low { IfOk result (λ a. a.height < self.now.depth) }
     {
-        let mut row = single(self.inner.alloc, self.actual(cursor))?;
+        let mut row = single(self.alloc, self.actual(cursor))?;
         for _turn in 0..cursor.rest.len() {
             if !is_comma(cursor.ahead()) {
                 return Ok(row);
@@ -151,29 +182,30 @@ impl<
 
     #[tactic(auto, unfolding(elan_grammar::specs::Expressions::call))]
     fn call(&self, cursor: &mut Cursor<'_>, name: Name) -> Result<Tall<Expr>, ParseError>
-        requires { Nests self.now.inner.depth (E.pre self.now.inner.expression) (E.post self.now.inner.expression) (U.pre self.now.inner.units) (U.post self.now.inner.units) }
-        ensures reads { GivesTall ((spec.call (units.phrases self.now.inner.depth) self.now.inner.depth name).run cursor.old.rest.now) result cursor.new.rest.now }
+        requires { Nests self.now.depth (E.pre self.now.expression) (E.post self.now.expression) (U.pre self.now.units) (U.post self.now.units) }
+        ensures reads { GivesTall ((spec.call (units.phrases self.now.depth) self.now.depth name).run cursor.old.rest.now) result cursor.new.rest.now }
         ensures tall { IfOk result (λ a. a.height ≡ expr_depth a.tree) }
-        ensures low { IfOk result (λ a. a.height ≤ self.now.inner.depth) }
+        ensures low { IfOk result (λ a. a.height ≤ self.now.depth) }
     {
-        let (name, _) = and(name, self.inner.below(cursor, 0))?;
-        let (name, _) = and(name, cursor.mark(Sign::LeftRound))?;
-        let (name, row) = and(name, self.actuals(cursor))?;
-        let ((name, row), _) = and((name, row), cursor.mark(Sign::RightRound))?;
+        cursor.below(0, self.depth)?;
+        cursor.mark(Sign::LeftRound)?;
+        let row = self.actuals(cursor)?;
+        let (row, _) = and(row, cursor.mark(Sign::RightRound))?;
+        let tree = Expr::Call(name, row.tree);
         Ok(Tall {
-            tree: Expr::Call(name, row.tree),
+            tree,
             height: row.height + 1,
         })
     }
 
     #[tactic(auto, unfolding(elan_grammar::specs::Expressions::named))]
     fn named(&self, cursor: &mut Cursor<'_>) -> Result<Tall<Expr>, ParseError>
-        requires { Nests self.now.inner.depth (E.pre self.now.inner.expression) (E.post self.now.inner.expression) (U.pre self.now.inner.units) (U.post self.now.inner.units) }
-        ensures reads { GivesTall ((spec.named (units.phrases self.now.inner.depth) self.now.inner.depth).run cursor.old.rest.now) result cursor.new.rest.now }
+        requires { Nests self.now.depth (E.pre self.now.expression) (E.post self.now.expression) (U.pre self.now.units) (U.post self.now.units) }
+        ensures reads { GivesTall ((spec.named (units.phrases self.now.depth) self.now.depth).run cursor.old.rest.now) result cursor.new.rest.now }
         ensures tall { IfOk result (λ a. a.height ≡ expr_depth a.tree) }
-        ensures low { IfOk result (λ a. a.height ≤ self.now.inner.depth) }
+        ensures low { IfOk result (λ a. a.height ≤ self.now.depth) }
     {
-        let name = cursor.ident(self.inner.alloc)?;
+        let name = cursor.ident(self.alloc)?;
         if cursor.sees_sign(Sign::LeftRound) {
             return self.call(cursor, name);
         }
@@ -185,23 +217,23 @@ impl<
 
     #[tactic(auto, unfolding(elan_grammar::specs::Expressions::head))]
     fn head(&self, cursor: &mut Cursor<'_>) -> Result<Tall<Expr>, ParseError>
-        requires { Nests self.now.inner.depth (E.pre self.now.inner.expression) (E.post self.now.inner.expression) (U.pre self.now.inner.units) (U.post self.now.inner.units) }
-        ensures reads { GivesTall ((spec.head (units.phrases self.now.inner.depth) self.now.inner.depth).run cursor.old.rest.now) result cursor.new.rest.now }
+        requires { Nests self.now.depth (E.pre self.now.expression) (E.post self.now.expression) (U.pre self.now.units) (U.post self.now.units) }
+        ensures reads { GivesTall ((spec.head (units.phrases self.now.depth) self.now.depth).run cursor.old.rest.now) result cursor.new.rest.now }
         ensures tall { IfOk result (λ a. a.height ≡ expr_depth a.tree) }
-        ensures low { IfOk result (λ a. a.height ≤ self.now.inner.depth) }
+        ensures low { IfOk result (λ a. a.height ≤ self.now.depth) }
     {
         let kind = cursor.ahead();
         if is_literal(kind) {
-            let tree = cursor.literal(self.inner.alloc)?;
+            let tree = cursor.literal(self.alloc)?;
             Ok(Tall { tree, height: 0 })
         } else if is_sign(Sign::LeftRound, kind) {
             self.bracket(cursor)
         } else if is_key(Key::Concr, kind) {
             self.concr(cursor)
         } else if is_key(Key::If, kind) {
-            self.inner.choice(cursor)
+            self.forms().choice(cursor)
         } else if is_key(Key::Select, kind) {
-            self.inner.selection(cursor)
+            self.forms().selection(cursor)
         } else {
             self.named(cursor)
         }
@@ -209,33 +241,33 @@ impl<
 
     #[tactic(auto, unfolding(elan_grammar::specs::Expressions::index_part))]
     fn index_part(&self, cursor: &mut Cursor<'_>, height: u32) -> Result<Tall<Expr>, ParseError>
-        requires { Nests self.now.inner.depth (E.pre self.now.inner.expression) (E.post self.now.inner.expression) (U.pre self.now.inner.units) (U.post self.now.inner.units) }
-        ensures reads { GivesTall ((spec.index_part (units.phrases self.now.inner.depth) self.now.inner.depth height).run cursor.old.rest.now) result cursor.new.rest.now }
+        requires { Nests self.now.depth (E.pre self.now.expression) (E.post self.now.expression) (U.pre self.now.units) (U.post self.now.units) }
+        ensures reads { GivesTall ((spec.index_part (units.phrases self.now.depth) self.now.depth height).run cursor.old.rest.now) result cursor.new.rest.now }
         ensures tall { IfOk result (λ a. a.height ≡ expr_depth a.tree) }
-        ensures low { IfOk result (λ a. a.height < self.now.inner.depth) }
-        ensures below { IfOk result (λ _. height < self.now.inner.depth) }
+        ensures low { IfOk result (λ a. a.height < self.now.depth) }
+        ensures below { IfOk result (λ _. height < self.now.depth) }
     {
-        self.inner.below(cursor, height)?;
+        cursor.below(height, self.depth)?;
         cursor.mark(Sign::LeftSquare)?;
-        let index = self.inner.expression(cursor, 6)?;
+        let index = self.inner(cursor, 6)?;
         let (index, _) = and(index, cursor.mark(Sign::RightSquare))?;
         Ok(index)
     }
 
     #[tactic(auto, unfolding(elan_grammar::specs::Expressions::index))]
     fn index(&self, cursor: &mut Cursor<'_>, of: Tall<Expr>) -> Result<Tall<Expr>, ParseError>
-        requires nests { Nests self.now.inner.depth (E.pre self.now.inner.expression) (E.post self.now.inner.expression) (U.pre self.now.inner.units) (U.post self.now.inner.units) }
+        requires nests { Nests self.now.depth (E.pre self.now.expression) (E.post self.now.expression) (U.pre self.now.units) (U.post self.now.units) }
         requires tall { of.height ≡ expr_depth of.tree }
-        ensures reads { GivesTall ((spec.index (units.phrases self.now.inner.depth) self.now.inner.depth of.tree).run cursor.old.rest.now) result cursor.new.rest.now }
+        ensures reads { GivesTall ((spec.index (units.phrases self.now.depth) self.now.depth of.tree).run cursor.old.rest.now) result cursor.new.rest.now }
         ensures tall { IfOk result (λ a. a.height ≡ expr_depth a.tree) }
-        ensures low { IfOk result (λ a. a.height ≤ self.now.inner.depth) }
+        ensures low { IfOk result (λ a. a.height ≤ self.now.depth) }
     {
         let at = expr_place(&of.tree);
         let height = of.height;
-        let of = Boxed::new(self.inner.alloc, of.tree)?;
-        let (of, index) = and(of, boxed(self.inner.alloc, self.index_part(cursor, height)))?;
+        let of = Boxed::new(self.alloc, of.tree)?;
+        let (of, index) = and(of, self.index_part(cursor, height))?;
         let height = height.max(index.height) + 1;
-        let index = index.tree;
+        let index = Boxed::new(self.alloc, index.tree)?;
         Ok(Tall {
             tree: Expr::Index { at, of, index },
             height,
@@ -244,25 +276,25 @@ impl<
 
     #[tactic(auto, unfolding(elan_grammar::specs::Expressions::field_part))]
     fn field_part(&self, cursor: &mut Cursor<'_>, height: u32) -> Result<Name, ParseError>
-        ensures reads { Gives ((spec.field_part (units.phrases self.now.inner.depth) self.now.inner.depth height).run cursor.old.rest.now) result cursor.new.rest.now }
-        ensures below { IfOk result (λ _. height < self.now.inner.depth) }
+        ensures reads { Gives ((spec.field_part (units.phrases self.now.depth) self.now.depth height).run cursor.old.rest.now) result cursor.new.rest.now }
+        ensures below { IfOk result (λ _. height < self.now.depth) }
     {
-        self.inner.below(cursor, height)?;
+        cursor.below(height, self.depth)?;
         cursor.mark(Sign::Point)?;
-        cursor.ident(self.inner.alloc)
+        cursor.ident(self.alloc)
     }
 
     #[tactic(auto, unfolding(elan_grammar::specs::Expressions::field_of))]
     fn field_of(&self, cursor: &mut Cursor<'_>, of: Tall<Expr>) -> Result<Tall<Expr>, ParseError>
-        requires nests { Nests self.now.inner.depth (E.pre self.now.inner.expression) (E.post self.now.inner.expression) (U.pre self.now.inner.units) (U.post self.now.inner.units) }
+        requires nests { Nests self.now.depth (E.pre self.now.expression) (E.post self.now.expression) (U.pre self.now.units) (U.post self.now.units) }
         requires tall { of.height ≡ expr_depth of.tree }
-        ensures reads { GivesTall ((spec.field_of (units.phrases self.now.inner.depth) self.now.inner.depth of.tree).run cursor.old.rest.now) result cursor.new.rest.now }
+        ensures reads { GivesTall ((spec.field_of (units.phrases self.now.depth) self.now.depth of.tree).run cursor.old.rest.now) result cursor.new.rest.now }
         ensures tall { IfOk result (λ a. a.height ≡ expr_depth a.tree) }
-        ensures low { IfOk result (λ a. a.height ≤ self.now.inner.depth) }
+        ensures low { IfOk result (λ a. a.height ≤ self.now.depth) }
     {
         let height = of.height;
         let at = expr_place(&of.tree);
-        let of = Boxed::new(self.inner.alloc, of.tree)?;
+        let of = Boxed::new(self.alloc, of.tree)?;
         let (of, field) = and(of, self.field_part(cursor, height))?;
         Ok(Tall {
             tree: Expr::Field { at, of, field },
@@ -272,11 +304,11 @@ impl<
 
     #[tactic(auto, unfolding(elan_grammar::specs::Expressions::longer))]
     fn longer(&self, cursor: &mut Cursor<'_>, of: Tall<Expr>) -> Result<Tall<Expr>, ParseError>
-        requires nests { Nests self.now.inner.depth (E.pre self.now.inner.expression) (E.post self.now.inner.expression) (U.pre self.now.inner.units) (U.post self.now.inner.units) }
+        requires nests { Nests self.now.depth (E.pre self.now.expression) (E.post self.now.expression) (U.pre self.now.units) (U.post self.now.units) }
         requires tall { of.height ≡ expr_depth of.tree }
-        ensures reads { GivesTall ((spec.longer (units.phrases self.now.inner.depth) self.now.inner.depth of.tree).run cursor.old.rest.now) result cursor.new.rest.now }
+        ensures reads { GivesTall ((spec.longer (units.phrases self.now.depth) self.now.depth of.tree).run cursor.old.rest.now) result cursor.new.rest.now }
         ensures tall { IfOk result (λ a. a.height ≡ expr_depth a.tree) }
-        ensures low { IfOk result (λ a. a.height ≤ self.now.inner.depth) }
+        ensures low { IfOk result (λ a. a.height ≤ self.now.depth) }
     {
         if cursor.sees_sign(Sign::LeftSquare) {
             self.index(cursor, of)
@@ -287,10 +319,10 @@ impl<
 
     #[tactic(auto, unfolding(elan_grammar::specs::Expressions::prim), using(elan_grammar::proofs::Turns::turn_on, elan_grammar::proofs::Turns::turn_off, elan_grammar::proofs::Turns::turn_end))]
     fn prim(&self, cursor: &mut Cursor<'_>) -> Result<Tall<Expr>, ParseError>
-        requires { Nests self.now.inner.depth (E.pre self.now.inner.expression) (E.post self.now.inner.expression) (U.pre self.now.inner.units) (U.post self.now.inner.units) }
-        ensures reads { GivesTall ((spec.prim (units.phrases self.now.inner.depth) self.now.inner.depth).run cursor.old.rest.now) result cursor.new.rest.now }
+        requires { Nests self.now.depth (E.pre self.now.expression) (E.post self.now.expression) (U.pre self.now.units) (U.post self.now.units) }
+        ensures reads { GivesTall ((spec.prim (units.phrases self.now.depth) self.now.depth).run cursor.old.rest.now) result cursor.new.rest.now }
         ensures tall { IfOk result (λ a. a.height ≡ expr_depth a.tree) }
-        ensures low { IfOk result (λ a. a.height ≤ self.now.inner.depth) }
+        ensures low { IfOk result (λ a. a.height ≤ self.now.depth) }
     {
         let mut of = self.head(cursor)?;
         for _turn in 0..cursor.rest.len() {
@@ -304,35 +336,31 @@ impl<
 
     #[tactic(auto, unfolding(elan_grammar::specs::Expressions::applied))]
     fn applied(&self, cursor: &mut Cursor<'_>) -> Result<Tall<Expr>, ParseError>
-        requires { Nests self.now.inner.depth (E.pre self.now.inner.expression) (E.post self.now.inner.expression) (U.pre self.now.inner.units) (U.post self.now.inner.units) }
-        ensures reads { GivesTall ((spec.applied (units.phrases self.now.inner.depth) self.now.inner.depth).run cursor.old.rest.now) result cursor.new.rest.now }
+        requires { Nests self.now.depth (E.pre self.now.expression) (E.post self.now.expression) (U.pre self.now.units) (U.post self.now.units) }
+        ensures reads { GivesTall ((spec.applied (units.phrases self.now.depth) self.now.depth).run cursor.old.rest.now) result cursor.new.rest.now }
         ensures tall { IfOk result (λ a. a.height ≡ expr_depth a.tree) }
-        ensures low { IfOk result (λ a. a.height ≤ self.now.inner.depth) }
+        ensures low { IfOk result (λ a. a.height ≤ self.now.depth) }
     {
-        self.inner.below(cursor, 0)?;
-        let operator = cursor.monadic(self.inner.alloc)?;
-        let (operator, operand) = and(
-            operator,
-            boxed(self.inner.alloc, self.inner.expression(cursor, 0)),
-        )?;
-        let (at, operator) = operator;
+        cursor.below(0, self.depth)?;
+        let (at, operator) = cursor.monadic(self.alloc)?;
+        let a = self.inner(cursor, 0)?;
         let tree = Expr::Monadic {
             at,
             operator,
-            operand: operand.tree,
+            operand: Boxed::new(self.alloc, a.tree)?,
         };
         Ok(Tall {
             tree,
-            height: operand.height + 1,
+            height: a.height + 1,
         })
     }
 
     #[tactic(auto, unfolding(elan_grammar::specs::Expressions::operand))]
     fn operand(&self, cursor: &mut Cursor<'_>) -> Result<Tall<Expr>, ParseError>
-        requires { Nests self.now.inner.depth (E.pre self.now.inner.expression) (E.post self.now.inner.expression) (U.pre self.now.inner.units) (U.post self.now.inner.units) }
-        ensures reads { GivesTall ((spec.operand (units.phrases self.now.inner.depth) self.now.inner.depth).run cursor.old.rest.now) result cursor.new.rest.now }
+        requires { Nests self.now.depth (E.pre self.now.expression) (E.post self.now.expression) (U.pre self.now.units) (U.post self.now.units) }
+        ensures reads { GivesTall ((spec.operand (units.phrases self.now.depth) self.now.depth).run cursor.old.rest.now) result cursor.new.rest.now }
         ensures tall { IfOk result (λ a. a.height ≡ expr_depth a.tree) }
-        ensures low { IfOk result (λ a. a.height ≤ self.now.inner.depth) }
+        ensures low { IfOk result (λ a. a.height ≤ self.now.depth) }
     {
         if is_monadic(cursor.ahead()) {
             self.applied(cursor)
@@ -348,22 +376,19 @@ impl<
         level: u8,
         height: u32,
     ) -> Result<Tall<Right>, ParseError>
-        requires nests { Nests self.now.inner.depth (E.pre self.now.inner.expression) (E.post self.now.inner.expression) (U.pre self.now.inner.units) (U.post self.now.inner.units) }
+        requires nests { Nests self.now.depth (E.pre self.now.expression) (E.post self.now.expression) (U.pre self.now.units) (U.post self.now.units) }
         requires level { level < 6 }
-        ensures reads { GivesTall ((spec.right_part (units.phrases self.now.inner.depth) self.now.inner.depth level height).run cursor.old.rest.now) result cursor.new.rest.now }
+        ensures reads { GivesTall ((spec.right_part (units.phrases self.now.depth) self.now.depth level height).run cursor.old.rest.now) result cursor.new.rest.now }
         ensures tall { IfOk result (λ a. a.height ≡ expr_depth a.tree.operand) }
-        ensures low { IfOk result (λ a. a.height < self.now.inner.depth) }
-        ensures below { IfOk result (λ _. height < self.now.inner.depth) }
+        ensures low { IfOk result (λ a. a.height < self.now.depth) }
+        ensures below { IfOk result (λ _. height < self.now.depth) }
     {
-        self.inner.below(cursor, height)?;
-        let joint = cursor.joint(self.inner.alloc, level + 1)?;
-        let (joint, right) = and(
-            joint,
-            boxed(self.inner.alloc, self.inner.expression(cursor, level)),
-        )?;
+        cursor.below(height, self.depth)?;
+        let joint = cursor.joint(self.alloc, level + 1)?;
+        let right = self.inner(cursor, level)?;
         let tree = Right {
             joint,
-            operand: right.tree,
+            operand: Boxed::new(self.alloc, right.tree)?,
         };
         Ok(Tall {
             tree,
@@ -378,16 +403,16 @@ impl<
         level: u8,
         left: Tall<Expr>,
     ) -> Result<Tall<Expr>, ParseError>
-        requires nests { Nests self.now.inner.depth (E.pre self.now.inner.expression) (E.post self.now.inner.expression) (U.pre self.now.inner.units) (U.post self.now.inner.units) }
+        requires nests { Nests self.now.depth (E.pre self.now.expression) (E.post self.now.expression) (U.pre self.now.units) (U.post self.now.units) }
         requires level { level < 6 }
         requires tall { left.height ≡ expr_depth left.tree }
-        ensures reads { GivesTall ((spec.dyadic (units.phrases self.now.inner.depth) self.now.inner.depth level left.tree).run cursor.old.rest.now) result cursor.new.rest.now }
+        ensures reads { GivesTall ((spec.dyadic (units.phrases self.now.depth) self.now.depth level left.tree).run cursor.old.rest.now) result cursor.new.rest.now }
         ensures tall { IfOk result (λ a. a.height ≡ expr_depth a.tree) }
-        ensures low { IfOk result (λ a. a.height ≤ self.now.inner.depth) }
+        ensures low { IfOk result (λ a. a.height ≤ self.now.depth) }
     {
         let at = expr_place(&left.tree);
         let height = left.height;
-        let left = Boxed::new(self.inner.alloc, left.tree)?;
+        let left = Boxed::new(self.alloc, left.tree)?;
         let (left, right) = and(left, self.right_part(cursor, level, height))?;
         let height = height.max(right.height) + 1;
         let Right { joint, operand } = right.tree;
@@ -404,13 +429,13 @@ impl<
         level: u8,
         mut left: Tall<Expr>,
     ) -> Result<Tall<Expr>, ParseError>
-        requires nests { Nests self.now.inner.depth (E.pre self.now.inner.expression) (E.post self.now.inner.expression) (U.pre self.now.inner.units) (U.post self.now.inner.units) }
+        requires nests { Nests self.now.depth (E.pre self.now.expression) (E.post self.now.expression) (U.pre self.now.units) (U.post self.now.units) }
         requires tall { left.height ≡ expr_depth left.tree }
-        requires low { left.height ≤ self.now.inner.depth }
+        requires low { left.height ≤ self.now.depth }
         requires level { level < 6 }
-        ensures reads { GivesTall ((rule.iterate (spec.dyadic (units.phrases self.now.inner.depth) self.now.inner.depth level) (kinds.is_level (level + 1)) left.tree).run cursor.old.rest.now) result cursor.new.rest.now }
+        ensures reads { GivesTall ((rule.iterate (spec.dyadic (units.phrases self.now.depth) self.now.depth level) (kinds.is_level (level + 1)) left.tree).run cursor.old.rest.now) result cursor.new.rest.now }
         ensures tall { IfOk result (λ a. a.height ≡ expr_depth a.tree) }
-        ensures low { IfOk result (λ a. a.height ≤ self.now.inner.depth) }
+        ensures low { IfOk result (λ a. a.height ≤ self.now.depth) }
     {
         for _turn in 0..cursor.rest.len() {
             if !is_level(level + 1, cursor.ahead()) {
@@ -422,11 +447,11 @@ impl<
     }
 
     pub fn level(&self, cursor: &mut Cursor<'_>, level: u8) -> Result<Tall<Expr>, ParseError>
-        requires nests { Nests self.now.inner.depth (E.pre self.now.inner.expression) (E.post self.now.inner.expression) (U.pre self.now.inner.units) (U.post self.now.inner.units) }
+        requires nests { Nests self.now.depth (E.pre self.now.expression) (E.post self.now.expression) (U.pre self.now.units) (U.post self.now.units) }
         requires level { level ≤ 6 }
-        ensures reads { GivesTall ((spec.level (units.phrases self.now.inner.depth) self.now.inner.depth level).run cursor.old.rest.now) result cursor.new.rest.now }
+        ensures reads { GivesTall ((spec.level (units.phrases self.now.depth) self.now.depth level).run cursor.old.rest.now) result cursor.new.rest.now }
         ensures tall { IfOk result (λ a. a.height ≡ expr_depth a.tree) }
-        ensures low { IfOk result (λ a. a.height ≤ self.now.inner.depth) }
+        ensures low { IfOk result (λ a. a.height ≤ self.now.depth) }
     {
         if level == 0 {
             return self.operand(cursor);

@@ -11,7 +11,6 @@ use crate::expressions::Grammar;
 use elan_grammar::tall::Tall;
 use containers::List;
 use elan_tree::{Expr, TypePhrase, Unit};
-use form_parser::Inner;
 use std::alloc::Global;
 
 /// An expression less than `depth` deep.
@@ -30,13 +29,12 @@ pub fn expression(
     if depth == 0 {
         return Err(cursor.refuse());
     }
-    let inner = Inner {
+    let grammar = Grammar {
         alloc,
         depth: depth - 1,
         expression,
         units,
     };
-    let grammar = Grammar { inner };
     grammar.level(cursor, level)
 }
 
@@ -54,13 +52,12 @@ pub fn units(
     if depth == 0 {
         return Err(cursor.refuse());
     }
-    let inner = Inner {
+    let grammar = Grammar {
         alloc,
         depth: depth - 1,
         expression,
         units,
     };
-    let grammar = Grammar { inner };
     grammar.units(cursor)
 }
 
@@ -77,13 +74,12 @@ pub fn declared(
     ensures tall { IfOk result (λ a. a.height ≡ unit_depth a.tree) }
     ensures low { IfOk result (λ a. a.height ≤ depth) }
 {
-    let inner = Inner {
+    let grammar = Grammar {
         alloc,
         depth,
         expression,
         units,
     };
-    let grammar = Grammar { inner };
     grammar.declared(cursor, of)
 }
 
@@ -97,12 +93,11 @@ pub fn plain(
     ensures tall { IfOk result (λ a. a.height ≡ unit_depth a.tree) }
     ensures low { IfOk result (λ a. a.height ≤ depth) }
 {
-    let inner = Inner {
+    let grammar = Grammar {
         alloc,
         depth,
         expression,
         units,
     };
-    let grammar = Grammar { inner };
     grammar.plain(cursor)
 }

@@ -21,17 +21,17 @@ use elan_tree::{Expr, Item, Key, Sign, TypePhrase, Unit};
 use std::alloc::Global;
 
 impl<
-    E: Fn(Global, &mut Cursor<'_>, u16, u8) -> Result<Tall<Expr>, ParseError>,
-    U: Fn(Global, &mut Cursor<'_>, u16) -> Result<Tall<List<Unit>>, ParseError>,
+    E: Fn(Global, &mut Cursor<'_>, u16, u8) -> Result<Tall<Expr>, ParseError> + Copy,
+    U: Fn(Global, &mut Cursor<'_>, u16) -> Result<Tall<List<Unit>>, ParseError> + Copy,
 > Grammar<E, U> {
     #[tactic(auto, unfolding(elan_grammar::specs::Units::a_let))]
     fn a_let(&self, cursor: &mut Cursor<'_>) -> Result<Tall<Unit>, ParseError>
-        ensures reads { GivesTall ((units.a_let (units.phrases self.now.inner.depth) self.now.inner.depth).run cursor.old.rest.now) result cursor.new.rest.now }
+        ensures reads { GivesTall ((units.a_let (units.phrases self.now.depth) self.now.depth).run cursor.old.rest.now) result cursor.new.rest.now }
         ensures tall { IfOk result (λ a. a.height ≡ unit_depth a.tree) }
-        ensures low { IfOk result (λ a. a.height ≤ self.now.inner.depth) }
+        ensures low { IfOk result (λ a. a.height ≤ self.now.depth) }
     {
         let at = cursor.keyword(Key::Let)?;
-        let row = let_items(self.inner.alloc, cursor, self.inner.depth)?;
+        let row = let_items(self.alloc, cursor, self.depth)?;
         Ok(Tall {
             tree: Unit::Let(at, row.tree),
             height: row.height,
@@ -40,10 +40,10 @@ impl<
 
     #[tactic(auto, unfolding(elan_grammar::specs::Units::init))]
     fn init(&self, cursor: &mut Cursor<'_>) -> Result<Tall<Expr>, ParseError>
-        requires { Nests self.now.inner.depth (E.pre self.now.inner.expression) (E.post self.now.inner.expression) (U.pre self.now.inner.units) (U.post self.now.inner.units) }
-        ensures reads { GivesTall ((units.init (units.phrases self.now.inner.depth) self.now.inner.depth).run cursor.old.rest.now) result cursor.new.rest.now }
+        requires { Nests self.now.depth (E.pre self.now.expression) (E.post self.now.expression) (U.pre self.now.units) (U.post self.now.units) }
+        ensures reads { GivesTall ((units.init (units.phrases self.now.depth) self.now.depth).run cursor.old.rest.now) result cursor.new.rest.now }
         ensures tall { IfOk result (λ a. a.height ≡ expr_depth a.tree) }
-        ensures low { IfOk result (λ a. a.height ≤ self.now.inner.depth) }
+        ensures low { IfOk result (λ a. a.height ≤ self.now.depth) }
     {
         cursor.init_mark()?;
         self.level(cursor, 6)
@@ -51,12 +51,12 @@ impl<
 
     #[tactic(auto, unfolding(elan_grammar::specs::Units::item))]
     fn item(&self, cursor: &mut Cursor<'_>) -> Result<Tall<Item>, ParseError>
-        requires { Nests self.now.inner.depth (E.pre self.now.inner.expression) (E.post self.now.inner.expression) (U.pre self.now.inner.units) (U.post self.now.inner.units) }
-        ensures reads { GivesTall ((units.item (units.phrases self.now.inner.depth) self.now.inner.depth).run cursor.old.rest.now) result cursor.new.rest.now }
+        requires { Nests self.now.depth (E.pre self.now.expression) (E.post self.now.expression) (U.pre self.now.units) (U.post self.now.units) }
+        ensures reads { GivesTall ((units.item (units.phrases self.now.depth) self.now.depth).run cursor.old.rest.now) result cursor.new.rest.now }
         ensures tall { IfOk result (λ a. a.height ≡ item_depth a.tree) }
-        ensures low { IfOk result (λ a. a.height ≤ self.now.inner.depth) }
+        ensures low { IfOk result (λ a. a.height ≤ self.now.depth) }
     {
-        let name = cursor.ident(self.inner.alloc)?;
+        let name = cursor.ident(self.alloc)?;
         if !is_init(cursor.ahead()) {
             return Ok(Tall {
                 tree: Item { name, init: None },
@@ -76,12 +76,12 @@ impl<
 
     #[tactic(auto, unfolding(elan_grammar::specs::Units::items), using(elan_grammar::proofs::Turns::turn_on, elan_grammar::proofs::Turns::turn_off, elan_grammar::proofs::Turns::turn_end, elan_grammar::proofs::Deepest::deepest_one, elan_grammar::proofs::Deepest::deepest_push))]
     fn items(&self, cursor: &mut Cursor<'_>) -> Result<Tall<List<Item>>, ParseError>
-        requires { Nests self.now.inner.depth (E.pre self.now.inner.expression) (E.post self.now.inner.expression) (U.pre self.now.inner.units) (U.post self.now.inner.units) }
-        ensures reads { GivesTall ((units.items (units.phrases self.now.inner.depth) self.now.inner.depth).run cursor.old.rest.now) result cursor.new.rest.now }
+        requires { Nests self.now.depth (E.pre self.now.expression) (E.post self.now.expression) (U.pre self.now.units) (U.post self.now.units) }
+        ensures reads { GivesTall ((units.items (units.phrases self.now.depth) self.now.depth).run cursor.old.rest.now) result cursor.new.rest.now }
         ensures tall { IfOk result (λ a. a.height ≡ items_depth a.tree) }
-        ensures low { IfOk result (λ a. a.height ≤ self.now.inner.depth) }
+        ensures low { IfOk result (λ a. a.height ≤ self.now.depth) }
     {
-        let mut row = single(self.inner.alloc, self.item(cursor))?;
+        let mut row = single(self.alloc, self.item(cursor))?;
         for _turn in 0..cursor.rest.len() {
             if !is_comma(cursor.ahead()) {
                 return Ok(row);
@@ -94,12 +94,12 @@ impl<
 
     #[tactic(auto, unfolding(elan_grammar::specs::Units::constant_item))]
     fn constant_item(&self, cursor: &mut Cursor<'_>) -> Result<Tall<Item>, ParseError>
-        requires { Nests self.now.inner.depth (E.pre self.now.inner.expression) (E.post self.now.inner.expression) (U.pre self.now.inner.units) (U.post self.now.inner.units) }
-        ensures reads { GivesTall ((units.constant_item (units.phrases self.now.inner.depth) self.now.inner.depth).run cursor.old.rest.now) result cursor.new.rest.now }
+        requires { Nests self.now.depth (E.pre self.now.expression) (E.post self.now.expression) (U.pre self.now.units) (U.post self.now.units) }
+        ensures reads { GivesTall ((units.constant_item (units.phrases self.now.depth) self.now.depth).run cursor.old.rest.now) result cursor.new.rest.now }
         ensures tall { IfOk result (λ a. a.height ≡ item_depth a.tree) }
-        ensures low { IfOk result (λ a. a.height ≤ self.now.inner.depth) }
+        ensures low { IfOk result (λ a. a.height ≤ self.now.depth) }
     {
-        let name = cursor.ident(self.inner.alloc)?;
+        let name = cursor.ident(self.alloc)?;
         let (name, init) = and(name, self.init(cursor))?;
         let tree = Item {
             name,
@@ -113,12 +113,12 @@ impl<
 
     #[tactic(auto, unfolding(elan_grammar::specs::Units::constant_items), using(elan_grammar::proofs::Turns::turn_on, elan_grammar::proofs::Turns::turn_off, elan_grammar::proofs::Turns::turn_end, elan_grammar::proofs::Deepest::deepest_one, elan_grammar::proofs::Deepest::deepest_push))]
     fn constant_items(&self, cursor: &mut Cursor<'_>) -> Result<Tall<List<Item>>, ParseError>
-        requires { Nests self.now.inner.depth (E.pre self.now.inner.expression) (E.post self.now.inner.expression) (U.pre self.now.inner.units) (U.post self.now.inner.units) }
-        ensures reads { GivesTall ((units.constant_items (units.phrases self.now.inner.depth) self.now.inner.depth).run cursor.old.rest.now) result cursor.new.rest.now }
+        requires { Nests self.now.depth (E.pre self.now.expression) (E.post self.now.expression) (U.pre self.now.units) (U.post self.now.units) }
+        ensures reads { GivesTall ((units.constant_items (units.phrases self.now.depth) self.now.depth).run cursor.old.rest.now) result cursor.new.rest.now }
         ensures tall { IfOk result (λ a. a.height ≡ items_depth a.tree) }
-        ensures low { IfOk result (λ a. a.height ≤ self.now.inner.depth) }
+        ensures low { IfOk result (λ a. a.height ≤ self.now.depth) }
     {
-        let mut row = single(self.inner.alloc, self.constant_item(cursor))?;
+        let mut row = single(self.alloc, self.constant_item(cursor))?;
         for _turn in 0..cursor.rest.len() {
             if !is_comma(cursor.ahead()) {
                 return Ok(row);
@@ -135,12 +135,12 @@ impl<
         cursor: &mut Cursor<'_>,
         of: Tall<TypePhrase>,
     ) -> Result<Tall<Unit>, ParseError>
-        requires nests { Nests self.now.inner.depth (E.pre self.now.inner.expression) (E.post self.now.inner.expression) (U.pre self.now.inner.units) (U.post self.now.inner.units) }
+        requires nests { Nests self.now.depth (E.pre self.now.expression) (E.post self.now.expression) (U.pre self.now.units) (U.post self.now.units) }
         requires tall { of.height ≡ type_depth of.tree }
-        requires low { of.height ≤ self.now.inner.depth }
-        ensures reads { GivesTall ((units.variables (units.phrases self.now.inner.depth) self.now.inner.depth of.tree).run cursor.old.rest.now) result cursor.new.rest.now }
+        requires low { of.height ≤ self.now.depth }
+        ensures reads { GivesTall ((units.variables (units.phrases self.now.depth) self.now.depth of.tree).run cursor.old.rest.now) result cursor.new.rest.now }
         ensures tall { IfOk result (λ a. a.height ≡ unit_depth a.tree) }
-        ensures low { IfOk result (λ a. a.height ≤ self.now.inner.depth) }
+        ensures low { IfOk result (λ a. a.height ≤ self.now.depth) }
     {
         let at = type_place(&of.tree);
         let (of, _) = and(of, cursor.keyword(Key::Var))?;
@@ -158,12 +158,12 @@ impl<
         cursor: &mut Cursor<'_>,
         of: Tall<TypePhrase>,
     ) -> Result<Tall<Unit>, ParseError>
-        requires nests { Nests self.now.inner.depth (E.pre self.now.inner.expression) (E.post self.now.inner.expression) (U.pre self.now.inner.units) (U.post self.now.inner.units) }
+        requires nests { Nests self.now.depth (E.pre self.now.expression) (E.post self.now.expression) (U.pre self.now.units) (U.post self.now.units) }
         requires tall { of.height ≡ type_depth of.tree }
-        requires low { of.height ≤ self.now.inner.depth }
-        ensures reads { GivesTall ((units.constants (units.phrases self.now.inner.depth) self.now.inner.depth of.tree).run cursor.old.rest.now) result cursor.new.rest.now }
+        requires low { of.height ≤ self.now.depth }
+        ensures reads { GivesTall ((units.constants (units.phrases self.now.depth) self.now.depth of.tree).run cursor.old.rest.now) result cursor.new.rest.now }
         ensures tall { IfOk result (λ a. a.height ≡ unit_depth a.tree) }
-        ensures low { IfOk result (λ a. a.height ≤ self.now.inner.depth) }
+        ensures low { IfOk result (λ a. a.height ≤ self.now.depth) }
     {
         let at = type_place(&of.tree);
         let (of, _) = and(of, cursor.keyword(Key::Const))?;
@@ -182,12 +182,12 @@ impl<
         cursor: &mut Cursor<'_>,
         of: Tall<TypePhrase>,
     ) -> Result<Tall<Unit>, ParseError>
-        requires nests { Nests self.now.inner.depth (E.pre self.now.inner.expression) (E.post self.now.inner.expression) (U.pre self.now.inner.units) (U.post self.now.inner.units) }
+        requires nests { Nests self.now.depth (E.pre self.now.expression) (E.post self.now.expression) (U.pre self.now.units) (U.post self.now.units) }
         requires tall { of.height ≡ type_depth of.tree }
-        requires low { of.height ≤ self.now.inner.depth }
-        ensures reads { GivesTall ((units.declared (units.phrases self.now.inner.depth) self.now.inner.depth of.tree).run cursor.old.rest.now) result cursor.new.rest.now }
+        requires low { of.height ≤ self.now.depth }
+        ensures reads { GivesTall ((units.declared (units.phrases self.now.depth) self.now.depth of.tree).run cursor.old.rest.now) result cursor.new.rest.now }
         ensures tall { IfOk result (λ a. a.height ≡ unit_depth a.tree) }
-        ensures low { IfOk result (λ a. a.height ≤ self.now.inner.depth) }
+        ensures low { IfOk result (λ a. a.height ≤ self.now.depth) }
     {
         if cursor.sees_key(Key::Var) {
             self.variables(cursor, of)
@@ -198,24 +198,24 @@ impl<
 
     #[tactic(auto, unfolding(elan_grammar::specs::Units::declaration))]
     fn declaration(&self, cursor: &mut Cursor<'_>) -> Result<Tall<Unit>, ParseError>
-        requires { Nests self.now.inner.depth (E.pre self.now.inner.expression) (E.post self.now.inner.expression) (U.pre self.now.inner.units) (U.post self.now.inner.units) }
-        ensures reads { GivesTall ((units.declaration (units.phrases self.now.inner.depth) self.now.inner.depth).run cursor.old.rest.now) result cursor.new.rest.now }
+        requires { Nests self.now.depth (E.pre self.now.expression) (E.post self.now.expression) (U.pre self.now.units) (U.post self.now.units) }
+        ensures reads { GivesTall ((units.declaration (units.phrases self.now.depth) self.now.depth).run cursor.old.rest.now) result cursor.new.rest.now }
         ensures tall { IfOk result (λ a. a.height ≡ unit_depth a.tree) }
-        ensures low { IfOk result (λ a. a.height ≤ self.now.inner.depth) }
+        ensures low { IfOk result (λ a. a.height ≤ self.now.depth) }
     {
-        let of = types(self.inner.alloc, cursor, self.inner.depth)?;
+        let of = types(self.alloc, cursor, self.depth)?;
         self.declared(cursor, of)
     }
 
     #[tactic(auto, unfolding(elan_grammar::specs::Units::bound))]
     fn bound(&self, cursor: &mut Cursor<'_>) -> Result<Tall<Unit>, ParseError>
-        requires { Nests self.now.inner.depth (E.pre self.now.inner.expression) (E.post self.now.inner.expression) (U.pre self.now.inner.units) (U.post self.now.inner.units) }
-        ensures reads { GivesTall ((units.bound (units.phrases self.now.inner.depth) self.now.inner.depth).run cursor.old.rest.now) result cursor.new.rest.now }
+        requires { Nests self.now.depth (E.pre self.now.expression) (E.post self.now.expression) (U.pre self.now.units) (U.post self.now.units) }
+        ensures reads { GivesTall ((units.bound (units.phrases self.now.depth) self.now.depth).run cursor.old.rest.now) result cursor.new.rest.now }
         ensures tall { IfOk result (λ a. a.height ≡ unit_depth a.tree) }
-        ensures low { IfOk result (λ a. a.height ≤ self.now.inner.depth) }
+        ensures low { IfOk result (λ a. a.height ≤ self.now.depth) }
     {
         let at = cursor.keyword(Key::Bound)?;
-        let of = types(self.inner.alloc, cursor, self.inner.depth)?;
+        let of = types(self.alloc, cursor, self.depth)?;
         let (of, _) = and(of, cursor.keyword(Key::Var))?;
         let (of, row) = and(of, self.items(cursor))?;
         let height = of.height.max(row.height);
@@ -227,16 +227,16 @@ impl<
 
     #[tactic(auto, unfolding(elan_grammar::specs::Units::assigned))]
     fn assigned(&self, cursor: &mut Cursor<'_>, left: Tall<Expr>) -> Result<Tall<Unit>, ParseError>
-        requires nests { Nests self.now.inner.depth (E.pre self.now.inner.expression) (E.post self.now.inner.expression) (U.pre self.now.inner.units) (U.post self.now.inner.units) }
+        requires nests { Nests self.now.depth (E.pre self.now.expression) (E.post self.now.expression) (U.pre self.now.units) (U.post self.now.units) }
         requires tall { left.height ≡ expr_depth left.tree }
-        ensures reads { GivesTall ((units.assigned (units.phrases self.now.inner.depth) self.now.inner.depth left.tree).run cursor.old.rest.now) result cursor.new.rest.now }
+        ensures reads { GivesTall ((units.assigned (units.phrases self.now.depth) self.now.depth left.tree).run cursor.old.rest.now) result cursor.new.rest.now }
         ensures tall { IfOk result (λ a. a.height ≡ unit_depth a.tree) }
-        ensures low { IfOk result (λ a. a.height ≤ self.now.inner.depth) }
+        ensures low { IfOk result (λ a. a.height ≤ self.now.depth) }
     {
         let height = left.height;
-        let (left, _) = and(left, self.inner.below(cursor, height))?;
+        let (left, _) = and(left, cursor.below(height, self.depth))?;
         let (left, _) = and(left, cursor.mark(Sign::Becomes))?;
-        let (left, right) = and(left, self.inner.expression(cursor, 6))?;
+        let (left, right) = and(left, self.inner(cursor, 6))?;
         let height = left.height.max(right.height);
         let tree = Unit::Becomes {
             at: expr_place(&left.tree),
@@ -251,10 +251,10 @@ impl<
 
     #[tactic(auto, unfolding(elan_grammar::specs::Units::statement))]
     fn statement(&self, cursor: &mut Cursor<'_>) -> Result<Tall<Unit>, ParseError>
-        requires { Nests self.now.inner.depth (E.pre self.now.inner.expression) (E.post self.now.inner.expression) (U.pre self.now.inner.units) (U.post self.now.inner.units) }
-        ensures reads { GivesTall ((units.statement (units.phrases self.now.inner.depth) self.now.inner.depth).run cursor.old.rest.now) result cursor.new.rest.now }
+        requires { Nests self.now.depth (E.pre self.now.expression) (E.post self.now.expression) (U.pre self.now.units) (U.post self.now.units) }
+        ensures reads { GivesTall ((units.statement (units.phrases self.now.depth) self.now.depth).run cursor.old.rest.now) result cursor.new.rest.now }
         ensures tall { IfOk result (λ a. a.height ≡ unit_depth a.tree) }
-        ensures low { IfOk result (λ a. a.height ≤ self.now.inner.depth) }
+        ensures low { IfOk result (λ a. a.height ≤ self.now.depth) }
     {
         let a = self.level(cursor, 6)?;
         if cursor.sees_sign(Sign::Becomes) {
@@ -268,15 +268,15 @@ impl<
 
     #[tactic(auto, unfolding(elan_grammar::specs::Units::leave))]
     fn leave(&self, cursor: &mut Cursor<'_>) -> Result<Tall<Unit>, ParseError>
-        requires { Nests self.now.inner.depth (E.pre self.now.inner.expression) (E.post self.now.inner.expression) (U.pre self.now.inner.units) (U.post self.now.inner.units) }
-        ensures reads { GivesTall ((units.leave (units.phrases self.now.inner.depth) self.now.inner.depth).run cursor.old.rest.now) result cursor.new.rest.now }
+        requires { Nests self.now.depth (E.pre self.now.expression) (E.post self.now.expression) (U.pre self.now.units) (U.post self.now.units) }
+        ensures reads { GivesTall ((units.leave (units.phrases self.now.depth) self.now.depth).run cursor.old.rest.now) result cursor.new.rest.now }
         ensures tall { IfOk result (λ a. a.height ≡ unit_depth a.tree) }
-        ensures low { IfOk result (λ a. a.height ≤ self.now.inner.depth) }
+        ensures low { IfOk result (λ a. a.height ≤ self.now.depth) }
     {
-        self.inner.below(cursor, 0)?;
+        cursor.below(0, self.depth)?;
         let at = cursor.keyword(Key::Leave)?;
-        let name = cursor.leaving(self.inner.alloc)?;
-        let (name, value) = and(name, self.inner.key_part(cursor, Key::With))?;
+        let name = cursor.leaving(self.alloc)?;
+        let value = self.forms().key_part(cursor, Key::With)?;
         let tree = Unit::Leave {
             at,
             name,
@@ -291,10 +291,10 @@ impl<
     /// A unit that begins with no type.
     #[tactic(auto, unfolding(elan_grammar::specs::Units::plain))]
     pub fn plain(&self, cursor: &mut Cursor<'_>) -> Result<Tall<Unit>, ParseError>
-        requires { Nests self.now.inner.depth (E.pre self.now.inner.expression) (E.post self.now.inner.expression) (U.pre self.now.inner.units) (U.post self.now.inner.units) }
-        ensures reads { GivesTall ((units.plain (units.phrases self.now.inner.depth) self.now.inner.depth).run cursor.old.rest.now) result cursor.new.rest.now }
+        requires { Nests self.now.depth (E.pre self.now.expression) (E.post self.now.expression) (U.pre self.now.units) (U.post self.now.units) }
+        ensures reads { GivesTall ((units.plain (units.phrases self.now.depth) self.now.depth).run cursor.old.rest.now) result cursor.new.rest.now }
         ensures tall { IfOk result (λ a. a.height ≡ unit_depth a.tree) }
-        ensures low { IfOk result (λ a. a.height ≤ self.now.inner.depth) }
+        ensures low { IfOk result (λ a. a.height ≤ self.now.depth) }
     {
         let kind = cursor.ahead();
         if is_key(Key::Let, kind) {
@@ -304,11 +304,11 @@ impl<
         } else if is_key(Key::Leave, kind) {
             self.leave(cursor)
         } else if is_key(Key::For, kind) {
-            self.inner.counted(cursor)
+            self.forms().counted(cursor)
         } else if is_key(Key::While, kind) {
-            self.inner.guarded(cursor)
+            self.forms().guarded(cursor)
         } else if is_rep(kind) {
-            self.inner.repeated(cursor)
+            self.forms().repeated(cursor)
         } else if begins(kind) {
             self.statement(cursor)
         } else {
@@ -321,10 +321,10 @@ impl<
 
     #[tactic(auto, unfolding(elan_grammar::specs::Units::unit))]
     fn unit(&self, cursor: &mut Cursor<'_>) -> Result<Tall<Unit>, ParseError>
-        requires { Nests self.now.inner.depth (E.pre self.now.inner.expression) (E.post self.now.inner.expression) (U.pre self.now.inner.units) (U.post self.now.inner.units) }
-        ensures reads { GivesTall ((units.unit (units.phrases self.now.inner.depth) self.now.inner.depth).run cursor.old.rest.now) result cursor.new.rest.now }
+        requires { Nests self.now.depth (E.pre self.now.expression) (E.post self.now.expression) (U.pre self.now.units) (U.post self.now.units) }
+        ensures reads { GivesTall ((units.unit (units.phrases self.now.depth) self.now.depth).run cursor.old.rest.now) result cursor.new.rest.now }
         ensures tall { IfOk result (λ a. a.height ≡ unit_depth a.tree) }
-        ensures low { IfOk result (λ a. a.height ≤ self.now.inner.depth) }
+        ensures low { IfOk result (λ a. a.height ≤ self.now.depth) }
     {
         if begins_typed(cursor.ahead()) {
             self.declaration(cursor)
@@ -335,12 +335,12 @@ impl<
 
     #[tactic(auto, unfolding(elan_grammar::specs::Units::units), using(elan_grammar::proofs::Turns::turn_on, elan_grammar::proofs::Turns::turn_off, elan_grammar::proofs::Turns::turn_end, elan_grammar::proofs::Deepest::deepest_one, elan_grammar::proofs::Deepest::deepest_push))]
     pub fn units(&self, cursor: &mut Cursor<'_>) -> Result<Tall<List<Unit>>, ParseError>
-        requires { Nests self.now.inner.depth (E.pre self.now.inner.expression) (E.post self.now.inner.expression) (U.pre self.now.inner.units) (U.post self.now.inner.units) }
-        ensures reads { GivesTall ((units.units (units.phrases self.now.inner.depth) self.now.inner.depth).run cursor.old.rest.now) result cursor.new.rest.now }
+        requires { Nests self.now.depth (E.pre self.now.expression) (E.post self.now.expression) (U.pre self.now.units) (U.post self.now.units) }
+        ensures reads { GivesTall ((units.units (units.phrases self.now.depth) self.now.depth).run cursor.old.rest.now) result cursor.new.rest.now }
         ensures tall { IfOk result (λ a. a.height ≡ units_depth a.tree) }
-        ensures low { IfOk result (λ a. a.height ≤ self.now.inner.depth) }
+        ensures low { IfOk result (λ a. a.height ≤ self.now.depth) }
     {
-        let mut row = single(self.inner.alloc, self.unit(cursor))?;
+        let mut row = single(self.alloc, self.unit(cursor))?;
         for _turn in 0..cursor.rest.len() {
             if !cursor.sees_sign(Sign::Semicolon) {
                 return Ok(row);

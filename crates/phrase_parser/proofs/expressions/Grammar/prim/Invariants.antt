@@ -8,6 +8,6 @@ use Rattle.phrase_parser.proofs.expressions.Grammar.prim.Given as goal
 
 abbrev pub invariant-loop-turn : goal.invariant-loop-turn
 invariant-loop-turn g l =
-    ((expressions.prim (units.phrases l.self.inner.depth) l.self.inner.depth).run l.fn.cursor.rest.now
-    ≡ steps_run (expressions.longer (units.phrases l.self.inner.depth) l.self.inner.depth) (lengthens) (l._turn-end - l._turn) l.of.tree l.cursor.rest.now)
-    × (l.of.height ≡ expr_depth l.of.tree) × (l.of.height ≤ l.self.inner.depth)
+    ((expressions.prim (units.phrases l.self.depth) l.self.depth).run l.fn.cursor.rest.now
+    ≡ steps_run (expressions.longer (units.phrases l.self.depth) l.self.depth) (lengthens) (l._turn-end - l._turn) l.of.tree l.cursor.rest.now)
+    × (l.of.height ≡ expr_depth l.of.tree) × (l.of.height ≤ l.self.depth)
