@@ -1,27 +1,22 @@
 //! Bodies with their refinements, PROC and OP.
 
 ghost use Rattle.std.specs.Prelude.{◌≡◌, ◌≤◌, ◌<◌, ◌+◌, max, IfOk};
-ghost use Rattle.elan_grammar.specs.Rule as rule;
 ghost use Rattle.elan_grammar.specs.Rule.{Gives, GivesTall};
-ghost use Rattle.elan_grammar.specs.Kinds as kinds;
-ghost use Rattle.elan_grammar.specs.Terminals as terminals;
 ghost use Rattle.elan_grammar.specs.Grammar as spec;
-ghost use Rattle.elan_grammar.specs.Depth.{units_depth, formal_depth, formals_depth, option_type_depth, refinement_depth, refinements_depth, body_depth, level_unit_depth};
+ghost use Rattle.elan_grammar.specs.Depth.{formal_depth, formals_depth, option_type_depth, refinement_depth, refinements_depth, body_depth, level_unit_depth};
 
-use elan_cursor::Cursor;
-use elan_grammar::ParseError;
-use elan_grammar::{OperatorParts, ProcParts};
-use elan_cursor::kind::{goes_on, is_ident, is_operator, is_point, is_sign, leads};
-use phrase_parser::units;
-use type_parser::formals;
-use elan_grammar::tall::{Tall, and, one_more, single, with_next};
-use type_parser::{type_place, types};
 use containers::{List, NoMemory};
+use elan_cursor::Cursor;
+use elan_cursor::kind::{goes_on, is_ident, is_operator, is_point, is_sign, leads};
+use elan_grammar::tall::{Tall, and, one_more, single, with_next};
+use elan_grammar::{OperatorParts, ParseError, ProcParts};
 use elan_tree::{
     Access, Body, Formal, Key, LevelUnit, Name, Operator, OperatorName, Refinement, Sign,
     TypePhrase,
 };
+use phrase_parser::units;
 use std::alloc::Global;
+use type_parser::{formals, type_place, types};
 
 /// A tree is at most so deep.
 pub const MOST: u16 = 400;
@@ -52,6 +47,7 @@ fn refinement(
     })
 }
 
+/// A point at the end, where one stands.
 #[tactic(auto, unfolding(elan_grammar::specs::Grammar::last_point))]
 pub fn last_point(cursor: &mut Cursor<'_>) -> Result<Option<u32>, ParseError>
     ensures { Gives ((spec.last_point).run cursor.old.rest.now) result cursor.new.rest.now }

@@ -4,6 +4,5 @@
 mod bodies;
 mod texts;
 
-pub use elan_grammar::ParseError;
-pub use elan_grammar::{one_tree, reads_on, stays_stuck};
+pub use elan_grammar::{ParseError, one_tree, reads_on, stays_stuck};
 pub use texts::parse;

@@ -1,25 +1,22 @@
 //! Whole texts: programs and packets.
 
-ghost use Rattle.std.specs.Prelude.{◌≡◌, ℕ, List, Err, Bool, ◌≤◌, ◌<◌, ◌+◌, IfOk};
-ghost use Rattle.elan_grammar.specs.Rule as rule;
+ghost use Rattle.std.specs.Prelude.{◌≡◌, ℕ, List, Err, ◌≤◌, ◌<◌, IfOk};
 ghost use Rattle.elan_grammar.specs.Rule.{Gives, GivesTall};
-ghost use Rattle.elan_grammar.specs.Kinds as kinds;
-ghost use Rattle.elan_grammar.specs.Terminals as terminals;
 ghost use Rattle.elan_grammar.specs.Grammar as spec;
 ghost use Rattle.elan_grammar.specs.Grammar.{Reads};
 ghost use Rattle.elan_grammar.specs.Place.{left};
 ghost use Rattle.elan_grammar.specs.Depth.{type_depth, level_unit_depth, level_units_depth, level_depth, tree_depth};
 
 use crate::bodies::{MOST, end_name, last_point, operator, proc, tail};
-use elan_cursor::Cursor;
-use elan_grammar::ParseError;
-use elan_cursor::kind::{begins_typed, is_comma, is_key};
-use phrase_parser::{declared, plain};
-use elan_grammar::tall::{Tall, and, one, one_more, single, with_next};
-use type_parser::types;
 use containers::List;
+use elan_cursor::Cursor;
+use elan_cursor::kind::{begins_typed, is_comma, is_key};
+use elan_grammar::ParseError;
+use elan_grammar::tall::{Tall, and, one, one_more, single, with_next};
 use elan_tree::{Export, Key, Level, LevelUnit, Sign, Token, Tree, TypePhrase};
+use phrase_parser::{declared, plain};
 use std::alloc::Global;
+use type_parser::types;
 
 #[tactic(auto, unfolding(elan_grammar::specs::Grammar::new_type))]
 fn new_type(alloc: Global, cursor: &mut Cursor<'_>) -> Result<Tall<LevelUnit>, ParseError>

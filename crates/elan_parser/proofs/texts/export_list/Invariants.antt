@@ -3,6 +3,7 @@ use Rattle.elan_tree.specs.declared.token.Sign.TheVariants as sign
 use Rattle.elan_grammar.specs.Rule.{steps_run, further, terminal}
 use Rattle.elan_grammar.specs.Kinds.{is_comma}
 use Rattle.elan_grammar.specs.Terminals.{mark, export_at}
+use Rattle.elan_grammar.specs.Grammar as grammar
 use Rattle.elan_parser.proofs.texts.export_list.Given as goal
 
 abbrev pub invariant-loop-turn : goal.invariant-loop-turn
