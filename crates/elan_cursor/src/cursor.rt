@@ -6,11 +6,11 @@ ghost use Rattle.elan_grammar.specs.Rule.{Gives};
 ghost use Rattle.elan_grammar.specs.Kinds as kinds;
 ghost use Rattle.elan_grammar.specs.Terminals as spec;
 
-use elan_grammar::{Joint, Kind, ParseError};
 use crate::kind::{
     ahead, is_init, is_key, is_level, is_rep, is_sign, is_symbol, kind_of, same_sign,
 };
 use containers::{Bytes, NoMemory};
+use elan_grammar::{Joint, Kind, ParseError};
 use elan_tree::{
     Access, Constant, Export, Expr, Key, Label, Name, Operator, OperatorName, Sign, Size, Token,
     TypePhrase, Word,
@@ -30,30 +30,35 @@ fn named(alloc: Global, at: u32, text: &Bytes) -> Result<Name, NoMemory>
     Ok(Name { at, text })
 }
 
+/// The tokens that are left.
 #[derive(Drop)]
 pub struct Cursor<'a> {
     pub rest: &'a [Token],
 }
 
 impl<'a> Cursor<'a> {
+    /// What stands next.
     pub fn ahead(&self) -> Kind
         ensures { result ≡ kinds.ahead self.now.rest.now }
     {
         ahead(self.rest)
     }
 
+    /// Whether this keyword stands next.
     pub fn sees_key(&self, key: Key) -> bool
         ensures { result ≡ kinds.is_key key (kinds.ahead self.now.rest.now) }
     {
         is_key(key, self.ahead())
     }
 
+    /// Whether this sign stands next.
     pub fn sees_sign(&self, sign: Sign) -> bool
         ensures { result ≡ kinds.is_sign sign (kinds.ahead self.now.rest.now) }
     {
         is_sign(sign, self.ahead())
     }
 
+    /// The refusal at this place.
     pub fn refuse(&self) -> ParseError
         ensures { result ≡ rule.refusal self.now.rest.now }
     {
@@ -72,6 +77,7 @@ impl<'a> Cursor<'a> {
         }
     }
 
+    /// Takes a keyword; its place.
     pub fn keyword(&mut self, key: Key) -> Result<u32, ParseError>
         ensures { Gives ((spec.keyword key).run self.old.rest.now) result self.new.rest.now }
     {
@@ -93,6 +99,7 @@ impl<'a> Cursor<'a> {
         self.keyword(key)
     }
 
+    /// Takes a sign; its place.
     pub fn mark(&mut self, sign: Sign) -> Result<u32, ParseError>
         ensures { Gives ((spec.mark sign).run self.old.rest.now) result self.new.rest.now }
     {
@@ -105,6 +112,7 @@ impl<'a> Cursor<'a> {
         }
     }
 
+    /// Takes `::` or `:=`; its place.
     pub fn init_mark(&mut self) -> Result<u32, ParseError>
         ensures { Gives (spec.init_mark.run self.old.rest.now) result self.new.rest.now }
     {
@@ -117,6 +125,7 @@ impl<'a> Cursor<'a> {
         }
     }
 
+    /// Takes REP or REPEAT; its place.
     pub fn rep(&mut self) -> Result<u32, ParseError>
         ensures { Gives (spec.rep.run self.old.rest.now) result self.new.rest.now }
     {
@@ -129,6 +138,7 @@ impl<'a> Cursor<'a> {
         }
     }
 
+    /// Takes an identifier.
     pub fn ident(&mut self, alloc: Global) -> Result<Name, ParseError>
         ensures { Gives (spec.ident.run self.old.rest.now) result self.new.rest.now }
     {
@@ -145,6 +155,7 @@ impl<'a> Cursor<'a> {
         }
     }
 
+    /// Takes a bold word.
     pub fn bold(&mut self, alloc: Global) -> Result<Name, ParseError>
         ensures { Gives (spec.bold.run self.old.rest.now) result self.new.rest.now }
     {
@@ -197,6 +208,7 @@ impl<'a> Cursor<'a> {
         }
     }
 
+    /// Takes INT, BOOL, TEXT, TASK or DATASPACE.
     pub fn simple_type(&mut self) -> Result<TypePhrase, ParseError>
         ensures { Gives ((rule.terminal spec.simple_at).run self.old.rest.now) result self.new.rest.now }
     {
@@ -217,6 +229,7 @@ impl<'a> Cursor<'a> {
         }
     }
 
+    /// Takes the size of a ROW.
     pub fn size(&mut self, alloc: Global) -> Result<Size, ParseError>
         ensures { Gives ((rule.terminal spec.size_at).run self.old.rest.now) result self.new.rest.now }
     {
@@ -234,6 +247,7 @@ impl<'a> Cursor<'a> {
         }
     }
 
+    /// Takes CONST or VAR.
     pub fn access(&mut self) -> Result<Access, ParseError>
         ensures { Gives ((rule.terminal spec.access_at).run self.old.rest.now) result self.new.rest.now }
     {
@@ -251,6 +265,7 @@ impl<'a> Cursor<'a> {
         }
     }
 
+    /// Takes a number, a text, TRUE or FALSE, as the constant of a LET.
     pub fn constant(&mut self, alloc: Global) -> Result<Constant, ParseError>
         ensures { Gives ((rule.terminal spec.constant_at).run self.old.rest.now) result self.new.rest.now }
     {
@@ -270,6 +285,7 @@ impl<'a> Cursor<'a> {
         }
     }
 
+    /// Takes the label of a CASE.
     pub fn label(&mut self, alloc: Global) -> Result<Label, ParseError>
         ensures { Gives ((rule.terminal spec.label_at).run self.old.rest.now) result self.new.rest.now }
     {
@@ -306,6 +322,7 @@ impl<'a> Cursor<'a> {
         }
     }
 
+    /// Takes a number, a text, TRUE or FALSE, as an expression.
     pub fn literal(&mut self, alloc: Global) -> Result<Expr, ParseError>
         ensures { Gives ((rule.terminal spec.literal_at).run self.old.rest.now) result self.new.rest.now }
     {
@@ -325,6 +342,7 @@ impl<'a> Cursor<'a> {
         }
     }
 
+    /// Takes an operator that stands before its operand; its place and itself.
     pub fn monadic(&mut self, alloc: Global) -> Result<(u32, Operator), ParseError>
         ensures { Gives ((rule.terminal spec.monadic_at).run self.old.rest.now) result self.new.rest.now }
     {
@@ -366,6 +384,7 @@ impl<'a> Cursor<'a> {
         }
     }
 
+    /// Takes the name of an operator.
     pub fn operator(&mut self, alloc: Global) -> Result<OperatorName, ParseError>
         ensures { Gives ((rule.terminal spec.operator_at).run self.old.rest.now) result self.new.rest.now }
     {
@@ -399,6 +418,7 @@ impl<'a> Cursor<'a> {
         }
     }
 
+    /// Takes a name that a packet offers.
     pub fn export(&mut self, alloc: Global) -> Result<Export, ParseError>
         ensures { Gives ((rule.terminal spec.export_at).run self.old.rest.now) result self.new.rest.now }
     {

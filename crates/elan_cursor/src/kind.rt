@@ -1,6 +1,6 @@
 //! What the parser looks at: the next token, and of some tokens what follows them.
 
-ghost use Rattle.std.specs.Prelude.{◌≡◌, ◌<◌, ◌==◌};
+ghost use Rattle.std.specs.Prelude.{◌≡◌, ◌==◌};
 ghost use Rattle.elan_grammar.specs.Kinds as kinds;
 
 use elan_grammar::{Kind, Tier};
@@ -81,12 +81,14 @@ fn sign_number(sign: Sign) -> u8
     }
 }
 
+/// Whether two signs are one.
 pub fn same_sign(a: Sign, b: Sign) -> bool
     ensures { result ≡ kinds.same_sign a b }
 {
     sign_number(a) == sign_number(b)
 }
 
+/// Whether the kind is this keyword.
 pub fn is_key(key: Key, kind: Kind) -> bool
     ensures { result ≡ kinds.is_key key kind }
 {
@@ -96,6 +98,7 @@ pub fn is_key(key: Key, kind: Kind) -> bool
     }
 }
 
+/// Whether the kind is this sign.
 pub fn is_sign(sign: Sign, kind: Kind) -> bool
     ensures { result ≡ kinds.is_sign sign kind }
 {
@@ -119,6 +122,7 @@ fn tier_of(word: &[u8]) -> Tier
     }
 }
 
+/// The kind of a word, whatever follows it.
 pub fn kind_of(word: &Word) -> Kind
     ensures { result ≡ kinds.kind_of word.now }
 {
@@ -189,6 +193,7 @@ fn by_next(here: Kind, rest: &[Token]) -> Kind
     }
 }
 
+/// What the parser sees before these tokens.
 #[tactic(auto, unfolding(elan_grammar::specs::Kinds::ahead))]
 pub fn ahead(tokens: &[Token]) -> Kind
     ensures { result ≡ kinds.ahead tokens.now }
@@ -201,36 +206,42 @@ pub fn ahead(tokens: &[Token]) -> Kind
 
 // ---- sets of kinds
 
+/// REP or REPEAT.
 pub fn is_rep(kind: Kind) -> bool
     ensures { result ≡ kinds.is_rep kind }
 {
     matches!(kind, Kind::Key(Key::Rep | Key::Repeat))
 }
 
+/// An identifier.
 pub fn is_ident(kind: Kind) -> bool
     ensures { result ≡ kinds.is_ident kind }
 {
     matches!(kind, Kind::Ident)
 }
 
+/// A bold word.
 pub fn is_bold(kind: Kind) -> bool
     ensures { result ≡ kinds.is_bold kind }
 {
     matches!(kind, Kind::Bold(_) | Kind::TypeName(_))
 }
 
+/// A comma, whatever follows it.
 pub fn is_comma(kind: Kind) -> bool
     ensures { result ≡ kinds.is_comma kind }
 {
     matches!(kind, Kind::GoesOn | Kind::Sign(Sign::Comma))
 }
 
+/// A comma with an identifier behind it.
 pub fn goes_on(kind: Kind) -> bool
     ensures { result ≡ kinds.goes_on kind }
 {
     matches!(kind, Kind::GoesOn)
 }
 
+/// A point, whatever follows it.
 pub fn is_point(kind: Kind) -> bool
     ensures { result ≡ kinds.is_point kind }
 {
@@ -240,24 +251,28 @@ pub fn is_point(kind: Kind) -> bool
     )
 }
 
+/// A point with an identifier behind it.
 pub fn leads(kind: Kind) -> bool
     ensures { result ≡ kinds.leads kind }
 {
     matches!(kind, Kind::Selects | Kind::Refines)
 }
 
+/// What goes on with a primary: `[`, or a point that selects.
 pub fn lengthens(kind: Kind) -> bool
     ensures { result ≡ kinds.lengthens kind }
 {
     matches!(kind, Kind::Selects | Kind::Sign(Sign::LeftSquare))
 }
 
+/// What an initial value stands behind: `::` or `:=`.
 pub fn is_init(kind: Kind) -> bool
     ensures { result ≡ kinds.is_init kind }
 {
     matches!(kind, Kind::Sign(Sign::DoubleColon | Sign::Becomes))
 }
 
+/// A sign that may name an operator.
 pub fn is_symbol(sign: Sign) -> bool
     ensures { result ≡ kinds.is_symbol sign }
 {
@@ -276,6 +291,7 @@ pub fn is_symbol(sign: Sign) -> bool
     )
 }
 
+/// What may name an operator: a bold word or such a sign.
 pub fn is_operator(kind: Kind) -> bool
     ensures { result ≡ kinds.is_operator kind }
 {
@@ -286,6 +302,7 @@ pub fn is_operator(kind: Kind) -> bool
     }
 }
 
+/// What may stand before its one operand.
 pub fn is_monadic(kind: Kind) -> bool
     ensures { result ≡ kinds.is_monadic kind }
 {
@@ -295,6 +312,7 @@ pub fn is_monadic(kind: Kind) -> bool
     )
 }
 
+/// A number, a text, TRUE or FALSE.
 pub fn is_literal(kind: Kind) -> bool
     ensures { result ≡ kinds.is_literal kind }
 {
@@ -304,6 +322,7 @@ pub fn is_literal(kind: Kind) -> bool
     )
 }
 
+/// What a unit begins with that begins with a type.
 pub fn begins_typed(kind: Kind) -> bool
     ensures { result ≡ kinds.begins_typed kind }
 {
@@ -322,6 +341,7 @@ pub fn begins_typed(kind: Kind) -> bool
     )
 }
 
+/// What a statement begins with that begins with an expression.
 pub fn begins(kind: Kind) -> bool
     ensures { result ≡ kinds.begins kind }
 {

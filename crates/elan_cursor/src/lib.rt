@@ -1,8 +1,7 @@
 //! A cursor over the tokens of a text.
 #![tactic(auto)]
 
-pub mod kind;
-
 mod cursor;
+pub mod kind;
 
 pub use cursor::Cursor;

@@ -1,5 +1,5 @@
 -- What holds of the productions of expressions.
-use Rattle.std.proofs.Common.{◌≡◌, ℕ, zero, suc, ◌<◌, ◌≤◌, true, false, List, ◌∷◌, refl, sym, subst, ◌∙◌, arith}
+use Rattle.std.proofs.Common.{◌≡◌, ℕ, zero, suc, ◌<◌, ◌≤◌, true, false, List, ◌∷◌, refl, sym, ◌∙◌, arith}
 use Rattle.std.specs.Prelude.{◌||◌, nat_lt, ◌==◌}
 use Rattle.std.proofs.lemmas.Bool.{eqb-true, ltb-true, lt-ltb}
 use Rattle.std.proofs.lemmas.Bool.Decides.{nat_tests}
@@ -9,7 +9,7 @@ use Rattle.elan_tree.specs.declared.written_type.Name.{Name}
 use Rattle.elan_tree.specs.declared.phrase.Expr.{Expr}
 use Rattle.elan_grammar.specs.declared.kind.Kind.TheVariants as k
 use Rattle.elan_grammar.specs.Kinds.{ahead, kind, kind_of, is_key, is_sign, is_ident, is_comma, is_point, is_literal, is_monadic, is_level, lengthens, begins, loose}
-use Rattle.elan_grammar.specs.Rule.{Tokens, nothing, further}
+use Rattle.elan_grammar.specs.Rule.{nothing, further}
 use Rattle.elan_grammar.specs.Depth.{expr_depth}
 use Rattle.elan_grammar.specs.Expressions as g
 use Rattle.elan_grammar.specs.Expressions.{Language}

@@ -7,7 +7,6 @@ use Rattle.elan_tree.specs.declared.token.Key.TheVariants as key
 use Rattle.elan_tree.specs.declared.token.Sign.TheVariants as sign
 use Rattle.elan_tree.specs.declared.written_type.Name.{Name}
 use Rattle.elan_tree.specs.declared.written_type.TypePhrase.{TypePhrase}
-use Rattle.elan_tree.specs.declared.written_type.Access.{Access}
 use Rattle.elan_tree.specs.declared.written_type.Formal.{Formal}
 use Rattle.elan_tree.specs.declared.phrase.Operator.{Operator}
 use Rattle.elan_tree.specs.declared.tree.OperatorName.{OperatorName}

@@ -3,7 +3,7 @@ use Rattle.std.specs.Prelude.{ℕ, ◌+◌, max, List, [], ◌∷◌, map, Optio
 use Rattle.elan_tree.specs.declared.written_type.TypePhrase.{TypePhrase}
 use Rattle.elan_tree.specs.declared.written_type.Field.{Field}
 use Rattle.elan_tree.specs.declared.written_type.TypePhrase.TheOpen as ty
-use Rattle.elan_tree.specs.declared.written_type.TypePhrase.TheOpen.{TypePhrase-F, Field-F}
+use Rattle.elan_tree.specs.declared.written_type.TypePhrase.TheOpen.{TypePhrase-F}
 use Rattle.elan_tree.specs.declared.written_type.TypePhrase.TheViews.{out-TypePhrase}
 use Rattle.elan_tree.specs.declared.written_type.TypePhrase.TheFolds.{fold-TypePhrase, fold-Field}
 use Rattle.elan_tree.specs.declared.written_type.Formal.{Formal}

@@ -1,5 +1,5 @@
 -- What was read in two parts, and lists of what was read.
-use Rattle.std.specs.Prelude.{◌≡◌, ◌≢◌, ℕ, List, [], ◌∷◌, ◌++◌, max, Result, Ok, Err}
+use Rattle.std.specs.Prelude.{◌≡◌, List, [], ◌∷◌, ◌++◌, max, Result, Ok, Err}
 use Rattle.elan_grammar.specs.declared.error.ParseError.{ParseError}
 use Rattle.elan_grammar.specs.declared.error.ParseError.TheVariants.{NoMemory}
 use Rattle.elan_grammar.specs.declared.tall.Tall.{Tall}

@@ -2,6 +2,7 @@
 
 use containers::NoMemory;
 
+/// Why there is no tree.
 #[derive(Clone, Copy, PartialEq, Eq)]
 pub enum ParseError {
     NoMemory,

@@ -3,6 +3,7 @@
 use containers::Boxed;
 use elan_tree::{Expr, Operator};
 
+/// An operator that stands between two operands.
 #[derive(Drop)]
 pub enum Joint {
     Cand,

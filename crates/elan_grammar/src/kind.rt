@@ -12,6 +12,7 @@ pub enum Tier {
     Other,
 }
 
+/// What stands next, as far as the grammar looks.
 #[derive(Clone, Copy)]
 pub enum Kind {
     Ident,

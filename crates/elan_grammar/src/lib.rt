@@ -1,13 +1,12 @@
 //! The grammar of ELAN: what a parser sees ahead, what it gives, and the definitions of all productions.
 #![tactic(auto)]
 
-pub mod tall;
-
 mod error;
 mod heading;
 mod joint;
 mod kind;
 mod law;
+pub mod tall;
 
 pub use error::ParseError;
 pub use heading::{LoopParts, OperatorParts, ProcParts, SelectParts};

@@ -7,6 +7,7 @@ use crate::error::ParseError;
 use containers::{Boxed, List};
 use std::alloc::Global;
 
+/// What was read, and its depth.
 #[derive(Drop)]
 pub struct Tall<T> {
     pub tree: T,
@@ -23,10 +24,7 @@ pub fn one<T: Drop>(alloc: Global, first: Result<T, ParseError>) -> Result<List<
 }
 
 /// A list with one more. Where that could not be read the list is let go here.
-pub fn one_more<T: Drop>(
-    row: List<T>,
-    next: Result<T, ParseError>,
-) -> Result<List<T>, ParseError>
+pub fn one_more<T: Drop>(row: List<T>, next: Result<T, ParseError>) -> Result<List<T>, ParseError>
     ensures { IsOneMore row next result }
 {
     let mut row = row;

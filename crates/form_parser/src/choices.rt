@@ -1,21 +1,18 @@
 //! IF and SELECT.
 
-ghost use Rattle.std.specs.Prelude.{◌≡◌, ◌<◌, ◌≤◌, ◌+◌, ◌-◌, ◌==◌, nat_lt, max, IfOk};
-ghost use Rattle.elan_grammar.specs.Rule as rule;
+ghost use Rattle.std.specs.Prelude.{◌≡◌, ◌<◌, ◌≤◌, ◌+◌, ◌-◌, max, IfOk};
 ghost use Rattle.elan_grammar.specs.Rule.{Gives, GivesTall};
-ghost use Rattle.elan_grammar.specs.Kinds as kinds;
-ghost use Rattle.elan_grammar.specs.Terminals as terminals;
 ghost use Rattle.elan_grammar.specs.Expressions as spec;
 ghost use Rattle.elan_grammar.specs.Units as units;
 ghost use Rattle.form_parser.specs.Nests.{Nests};
 ghost use Rattle.elan_grammar.specs.Depth.{expr_depth, branch_depth, branches_depth, case_depth, cases_depth, option_units_depth};
 
-use elan_cursor::Cursor;
-use elan_grammar::{ParseError, SelectParts};
 use crate::inner::Inner;
 use crate::labels::labels;
-use elan_grammar::tall::{Tall, and, boxed, single, with_next};
 use containers::List;
+use elan_cursor::Cursor;
+use elan_grammar::tall::{Tall, and, boxed, single, with_next};
+use elan_grammar::{ParseError, SelectParts};
 use elan_tree::{Branch, Case, Expr, Key, Sign, Unit};
 use std::alloc::Global;
 
@@ -92,6 +89,7 @@ impl<
         }
     }
 
+    /// IF with its branches.
     #[tactic(auto, unfolding(elan_grammar::specs::Expressions::choice, elan_grammar::specs::Expressions::choice_end))]
     pub fn choice(&self, cursor: &mut Cursor<'_>) -> Result<Tall<Expr>, ParseError>
         requires { Nests self.now.depth (E.pre self.now.expression) (E.post self.now.expression) (U.pre self.now.units) (U.post self.now.units) }
@@ -201,6 +199,7 @@ impl<
         Ok(Tall { tree, height })
     }
 
+    /// SELECT with its cases.
     #[tactic(auto, unfolding(elan_grammar::specs::Expressions::selection))]
     pub fn selection(&self, cursor: &mut Cursor<'_>) -> Result<Tall<Expr>, ParseError>
         requires { Nests self.now.depth (E.pre self.now.expression) (E.post self.now.expression) (U.pre self.now.units) (U.post self.now.units) }

@@ -1,10 +1,6 @@
 //! The labels of a CASE.
 
-ghost use Rattle.std.specs.Prelude.{◌≡◌};
-ghost use Rattle.elan_grammar.specs.Rule as rule;
 ghost use Rattle.elan_grammar.specs.Rule.{Gives};
-ghost use Rattle.elan_grammar.specs.Kinds as kinds;
-ghost use Rattle.elan_grammar.specs.Terminals as terminals;
 ghost use Rattle.elan_grammar.specs.Types as spec;
 
 use containers::List;
@@ -35,6 +31,7 @@ fn label(alloc: Global, cursor: &mut Cursor<'_>) -> Result<Label, ParseError>
     }
 }
 
+/// Labels with commas between them.
 #[tactic(auto, unfolding(elan_grammar::specs::Types::labels), using(elan_grammar::proofs::Turns::turn_on, elan_grammar::proofs::Turns::turn_off, elan_grammar::proofs::Turns::turn_end))]
 pub fn labels(alloc: Global, cursor: &mut Cursor<'_>) -> Result<List<Label>, ParseError>
     ensures { Gives ((spec.labels).run cursor.old.rest.now) result cursor.new.rest.now }

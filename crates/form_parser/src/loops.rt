@@ -1,20 +1,17 @@
 //! Loops.
 
 ghost use Rattle.std.specs.Prelude.{◌≡◌, ◌<◌, ◌≤◌, max, IfOk, Some};
-ghost use Rattle.elan_grammar.specs.Rule as rule;
 ghost use Rattle.elan_grammar.specs.Rule.{Gives, GivesTall};
-ghost use Rattle.elan_grammar.specs.Kinds as kinds;
-ghost use Rattle.elan_grammar.specs.Terminals as terminals;
 ghost use Rattle.elan_grammar.specs.Units as units;
 ghost use Rattle.form_parser.specs.Nests.{Nests};
-ghost use Rattle.elan_grammar.specs.Depth.{expr_depth, unit_depth, units_depth, limit_depth, counter_depth, option_depth, option_counter_depth};
+ghost use Rattle.elan_grammar.specs.Depth.{expr_depth, unit_depth, units_depth, limit_depth, option_depth, option_counter_depth};
 
-use elan_cursor::Cursor;
-use elan_grammar::{LoopParts, ParseError};
 use crate::inner::Inner;
+use containers::{Boxed, List};
+use elan_cursor::Cursor;
 use elan_cursor::kind::is_key;
 use elan_grammar::tall::{Tall, and};
-use containers::{Boxed, List};
+use elan_grammar::{LoopParts, ParseError};
 use elan_tree::{Counter, Expr, Key, Limit, Unit};
 use std::alloc::Global;
 
@@ -184,6 +181,7 @@ impl<
         })
     }
 
+    /// A loop that begins with FOR.
     #[tactic(auto, unfolding(elan_grammar::specs::Units::counted))]
     pub fn counted(&self, cursor: &mut Cursor<'_>) -> Result<Tall<Unit>, ParseError>
         requires { Nests self.now.depth (E.pre self.now.expression) (E.post self.now.expression) (U.pre self.now.units) (U.post self.now.units) }
@@ -198,6 +196,7 @@ impl<
         self.turns(cursor, Some(at), counter, condition)
     }
 
+    /// A loop that begins with WHILE.
     #[tactic(auto, unfolding(elan_grammar::specs::Units::guarded))]
     pub fn guarded(&self, cursor: &mut Cursor<'_>) -> Result<Tall<Unit>, ParseError>
         requires { Nests self.now.depth (E.pre self.now.expression) (E.post self.now.expression) (U.pre self.now.units) (U.post self.now.units) }
@@ -219,6 +218,7 @@ impl<
         self.turns(cursor, Some(at), counter, condition)
     }
 
+    /// A loop that begins with REP.
     #[tactic(auto, unfolding(elan_grammar::specs::Units::repeated))]
     pub fn repeated(&self, cursor: &mut Cursor<'_>) -> Result<Tall<Unit>, ParseError>
         requires { Nests self.now.depth (E.pre self.now.expression) (E.post self.now.expression) (U.pre self.now.units) (U.post self.now.units) }

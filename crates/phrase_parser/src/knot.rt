@@ -5,12 +5,13 @@ ghost use Rattle.elan_grammar.specs.Rule.{GivesTall};
 ghost use Rattle.elan_grammar.specs.Units as spec;
 ghost use Rattle.elan_grammar.specs.Depth.{type_depth, expr_depth, unit_depth, units_depth};
 
+use crate::phrases::Phrases;
+use containers::List;
 use elan_cursor::Cursor;
 use elan_grammar::ParseError;
-use crate::expressions::Grammar;
 use elan_grammar::tall::Tall;
-use containers::List;
 use elan_tree::{Expr, TypePhrase, Unit};
+use expression_parser::Grammar;
 use std::alloc::Global;
 
 /// An expression less than `depth` deep.
@@ -52,13 +53,13 @@ pub fn units(
     if depth == 0 {
         return Err(cursor.refuse());
     }
-    let grammar = Grammar {
+    let phrases = Phrases {
         alloc,
         depth: depth - 1,
         expression,
         units,
     };
-    grammar.units(cursor)
+    phrases.units(cursor)
 }
 
 /// A declaration at most `depth` deep, behind its type.
@@ -74,30 +75,26 @@ pub fn declared(
     ensures tall { IfOk result (λ a. a.height ≡ unit_depth a.tree) }
     ensures low { IfOk result (λ a. a.height ≤ depth) }
 {
-    let grammar = Grammar {
+    let phrases = Phrases {
         alloc,
         depth,
         expression,
         units,
     };
-    grammar.declared(cursor, of)
+    phrases.declared(cursor, of)
 }
 
 /// A unit at most `depth` deep that begins with no type.
-pub fn plain(
-    alloc: Global,
-    cursor: &mut Cursor<'_>,
-    depth: u16,
-) -> Result<Tall<Unit>, ParseError>
+pub fn plain(alloc: Global, cursor: &mut Cursor<'_>, depth: u16) -> Result<Tall<Unit>, ParseError>
     ensures reads { GivesTall ((spec.plain (spec.phrases depth) depth).run cursor.old.rest.now) result cursor.new.rest.now }
     ensures tall { IfOk result (λ a. a.height ≡ unit_depth a.tree) }
     ensures low { IfOk result (λ a. a.height ≤ depth) }
 {
-    let grammar = Grammar {
+    let phrases = Phrases {
         alloc,
         depth,
         expression,
         units,
     };
-    grammar.plain(cursor)
+    phrases.plain(cursor)
 }

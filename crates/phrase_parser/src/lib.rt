@@ -1,8 +1,8 @@
-//! The parser of expressions and units.
+//! The parser of units, and of phrases in phrases.
 #![tactic(auto)]
 
-mod expressions;
 mod knot;
+mod phrases;
 mod unit_rules;
 
 pub use knot::{declared, plain, units};

@@ -1,29 +1,26 @@
 //! Units: declarations and statements.
 
 ghost use Rattle.std.specs.Prelude.{◌≡◌, ◌<◌, ◌≤◌, IfOk, Some};
-ghost use Rattle.elan_grammar.specs.Rule as rule;
-ghost use Rattle.elan_grammar.specs.Rule.{Gives, GivesTall};
-ghost use Rattle.elan_grammar.specs.Kinds as kinds;
-ghost use Rattle.elan_grammar.specs.Terminals as terminals;
+ghost use Rattle.elan_grammar.specs.Rule.{GivesTall};
 ghost use Rattle.elan_grammar.specs.Units as units;
 ghost use Rattle.form_parser.specs.Nests.{Nests};
-ghost use Rattle.elan_grammar.specs.Depth.{type_depth, expr_depth, item_depth, items_depth, unit_depth, units_depth, option_depth};
+ghost use Rattle.elan_grammar.specs.Depth.{type_depth, expr_depth, item_depth, items_depth, unit_depth, units_depth};
 
-use elan_cursor::Cursor;
-use elan_grammar::ParseError;
-use crate::expressions::{Grammar, expr_place};
-use elan_cursor::kind::{begins, begins_typed, is_comma, is_init, is_key, is_rep};
-use type_parser::let_items;
-use elan_grammar::tall::{Tall, and, single, with_next};
-use type_parser::{type_place, types};
+use crate::phrases::Phrases;
 use containers::List;
+use elan_cursor::Cursor;
+use elan_cursor::kind::{begins, begins_typed, is_comma, is_init, is_key, is_rep};
+use elan_grammar::ParseError;
+use elan_grammar::tall::{Tall, and, single, with_next};
 use elan_tree::{Expr, Item, Key, Sign, TypePhrase, Unit};
+use expression_parser::expr_place;
 use std::alloc::Global;
+use type_parser::{let_items, type_place, types};
 
 impl<
     E: Fn(Global, &mut Cursor<'_>, u16, u8) -> Result<Tall<Expr>, ParseError> + Copy,
     U: Fn(Global, &mut Cursor<'_>, u16) -> Result<Tall<List<Unit>>, ParseError> + Copy,
-> Grammar<E, U> {
+> Phrases<E, U> {
     #[tactic(auto, unfolding(elan_grammar::specs::Units::a_let))]
     fn a_let(&self, cursor: &mut Cursor<'_>) -> Result<Tall<Unit>, ParseError>
         ensures reads { GivesTall ((units.a_let (units.phrases self.now.depth) self.now.depth).run cursor.old.rest.now) result cursor.new.rest.now }
@@ -46,7 +43,7 @@ impl<
         ensures low { IfOk result (λ a. a.height ≤ self.now.depth) }
     {
         cursor.init_mark()?;
-        self.level(cursor, 6)
+        self.expressions().level(cursor, 6)
     }
 
     #[tactic(auto, unfolding(elan_grammar::specs::Units::item))]
@@ -236,7 +233,7 @@ impl<
         let height = left.height;
         let (left, _) = and(left, cursor.below(height, self.depth))?;
         let (left, _) = and(left, cursor.mark(Sign::Becomes))?;
-        let (left, right) = and(left, self.inner(cursor, 6))?;
+        let (left, right) = and(left, self.forms().expression(cursor, 6))?;
         let height = left.height.max(right.height);
         let tree = Unit::Becomes {
             at: expr_place(&left.tree),
@@ -256,7 +253,7 @@ impl<
         ensures tall { IfOk result (λ a. a.height ≡ unit_depth a.tree) }
         ensures low { IfOk result (λ a. a.height ≤ self.now.depth) }
     {
-        let a = self.level(cursor, 6)?;
+        let a = self.expressions().level(cursor, 6)?;
         if cursor.sees_sign(Sign::Becomes) {
             return self.assigned(cursor, a);
         }

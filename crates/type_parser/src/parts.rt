@@ -1,19 +1,16 @@
 //! What holds types and no expression: parameters, constants, LET.
 
 ghost use Rattle.std.specs.Prelude.{◌≡◌, ◌≤◌, IfOk};
-ghost use Rattle.elan_grammar.specs.Rule as rule;
 ghost use Rattle.elan_grammar.specs.Rule.{Gives, GivesTall};
-ghost use Rattle.elan_grammar.specs.Kinds as kinds;
-ghost use Rattle.elan_grammar.specs.Terminals as terminals;
 ghost use Rattle.elan_grammar.specs.Types as spec;
 ghost use Rattle.elan_grammar.specs.Depth.{formal_depth, formals_depth, let_item_depth, let_items_depth};
 
-use elan_cursor::Cursor;
-use elan_grammar::ParseError;
-use elan_cursor::kind::{is_comma, is_ident};
-use elan_grammar::tall::{Tall, and, single, with_next};
 use crate::type_phrases::{names, types};
 use containers::List;
+use elan_cursor::Cursor;
+use elan_cursor::kind::{is_comma, is_ident};
+use elan_grammar::ParseError;
+use elan_grammar::tall::{Tall, and, single, with_next};
 use elan_tree::{Constant, Formal, LetItem, Sign};
 use std::alloc::Global;
 
@@ -37,6 +34,7 @@ fn formal(alloc: Global, cursor: &mut Cursor<'_>, depth: u16) -> Result<Tall<For
     })
 }
 
+/// Parameters, their types at most `depth` deep.
 #[tactic(auto, unfolding(elan_grammar::specs::Types::formals), using(elan_grammar::proofs::Turns::turn_on, elan_grammar::proofs::Turns::turn_off, elan_grammar::proofs::Turns::turn_end, elan_grammar::proofs::Deepest::deepest_one, elan_grammar::proofs::Deepest::deepest_push))]
 pub fn formals(
     alloc: Global,
@@ -120,6 +118,7 @@ fn let_item(alloc: Global, cursor: &mut Cursor<'_>, depth: u16) -> Result<Tall<L
     abbreviation(alloc, cursor, depth)
 }
 
+/// The names that a LET defines, their types at most `depth` deep.
 #[tactic(auto, unfolding(elan_grammar::specs::Types::let_items), using(elan_grammar::proofs::Turns::turn_on, elan_grammar::proofs::Turns::turn_off, elan_grammar::proofs::Turns::turn_end, elan_grammar::proofs::Deepest::deepest_one, elan_grammar::proofs::Deepest::deepest_push))]
 pub fn let_items(
     alloc: Global,

@@ -1,22 +1,20 @@
 //! Types: each stands in others.
 
 ghost use Rattle.std.specs.Prelude.{◌≡◌, ◌<◌, ◌≤◌, ◌+◌, ◌-◌, ◌==◌, IfOk};
-ghost use Rattle.elan_grammar.specs.Rule as rule;
 ghost use Rattle.elan_grammar.specs.Rule.{Gives, GivesTall};
-ghost use Rattle.elan_grammar.specs.Kinds as kinds;
-ghost use Rattle.elan_grammar.specs.Terminals as terminals;
 ghost use Rattle.elan_grammar.specs.Types as spec;
 ghost use Rattle.elan_grammar.specs.Depth.{type_depth, field_depth, fields_depth, type_place};
 ghost use Rattle.type_parser.specs.Nests.{TypeNests};
 
-use elan_cursor::Cursor;
-use elan_grammar::ParseError;
-use elan_cursor::kind::{goes_on, is_bold, is_comma, is_key};
-use elan_grammar::tall::{Tall, and, boxed, one, one_more, single, with_next};
 use containers::List;
+use elan_cursor::Cursor;
+use elan_cursor::kind::{goes_on, is_bold, is_comma, is_key};
+use elan_grammar::ParseError;
+use elan_grammar::tall::{Tall, and, boxed, one, one_more, single, with_next};
 use elan_tree::{Field, Key, Name, Sign, TypePhrase};
 use std::alloc::Global;
 
+/// Identifiers with commas between them.
 #[tactic(auto, unfolding(elan_grammar::specs::Types::names), using(elan_grammar::proofs::Turns::turn_on, elan_grammar::proofs::Turns::turn_off, elan_grammar::proofs::Turns::turn_end))]
 pub fn names(alloc: Global, cursor: &mut Cursor<'_>) -> Result<List<Name>, ParseError>
     ensures { Gives (spec.names.run cursor.old.rest.now) result cursor.new.rest.now }

@@ -1,5 +1,4 @@
 use Rattle.std.proofs.Common.{◌≡◌, ◌+◌, ℕ, max, List, Option, Some, None, sym, ap, ◌∙◌, rules, arith}
-use Rattle.std.proofs.lemmas.Grind.{common_steps}
 use Rattle.elan_tree.specs.declared.phrase.Expr.{Expr}
 use Rattle.elan_tree.specs.declared.phrase.Counter.{Counter}
 use Rattle.elan_tree.specs.declared.phrase.Unit.{Unit as Phrase}

@@ -4,7 +4,7 @@ use Rattle.elan_grammar.specs.Kinds.{is_level}
 use Rattle.elan_grammar.specs.Expressions as expressions
 use Rattle.elan_grammar.specs.Units as units
 use Rattle.elan_grammar.specs.Depth.{expr_depth}
-use Rattle.phrase_parser.proofs.expressions.Grammar.more_dyadic.Given as goal
+use Rattle.expression_parser.proofs.expressions.Grammar.more_dyadic.Given as goal
 
 abbrev pub invariant-loop-turn : goal.invariant-loop-turn
 invariant-loop-turn g l =

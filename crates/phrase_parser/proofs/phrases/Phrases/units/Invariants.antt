@@ -5,7 +5,7 @@ use Rattle.elan_grammar.specs.Kinds.{is_sign}
 use Rattle.elan_grammar.specs.Terminals.{mark}
 use Rattle.elan_grammar.specs.Units as units
 use Rattle.elan_grammar.specs.Depth.{units_depth}
-use Rattle.phrase_parser.proofs.expressions.Grammar.units.Given as goal
+use Rattle.phrase_parser.proofs.phrases.Phrases.units.Given as goal
 
 abbrev pub invariant-loop-turn : goal.invariant-loop-turn
 invariant-loop-turn g l =

@@ -6,7 +6,7 @@ use Rattle.elan_grammar.specs.Terminals.{mark}
 use Rattle.elan_grammar.specs.Expressions as expressions
 use Rattle.elan_grammar.specs.Units as units
 use Rattle.elan_grammar.specs.Depth.{exprs_depth}
-use Rattle.phrase_parser.proofs.expressions.Grammar.actuals.Given as goal
+use Rattle.expression_parser.proofs.expressions.Grammar.actuals.Given as goal
 
 abbrev pub invariant-loop-turn : goal.invariant-loop-turn
 invariant-loop-turn g l =

@@ -1,21 +1,19 @@
 //! Expressions: each rule for what is at most `depth` deep, over what stands in it and is less deep.
 
-ghost use Rattle.std.specs.Prelude.{◌≡◌, ◌<◌, ◌≤◌, ◌+◌, ◌-◌, ◌==◌, nat_lt, max, IfOk};
+ghost use Rattle.std.specs.Prelude.{◌≡◌, ◌<◌, ◌≤◌, ◌+◌, ◌-◌, ◌==◌, max, IfOk};
 ghost use Rattle.elan_grammar.specs.Rule as rule;
 ghost use Rattle.elan_grammar.specs.Rule.{Gives, GivesTall};
 ghost use Rattle.elan_grammar.specs.Kinds as kinds;
-ghost use Rattle.elan_grammar.specs.Terminals as terminals;
 ghost use Rattle.elan_grammar.specs.Expressions as spec;
 ghost use Rattle.elan_grammar.specs.Units as units;
 ghost use Rattle.form_parser.specs.Nests.{Nests};
-ghost use Rattle.elan_grammar.specs.Depth.{expr_depth, exprs_depth, units_depth, expr_place};
+ghost use Rattle.elan_grammar.specs.Depth.{expr_depth, exprs_depth, expr_place};
 
+use containers::{Boxed, List};
 use elan_cursor::Cursor;
-use elan_grammar::ParseError;
-use elan_grammar::{Joint, Right};
 use elan_cursor::kind::{is_comma, is_key, is_level, is_literal, is_monadic, is_sign, lengthens};
 use elan_grammar::tall::{Tall, and, single, with_next};
-use containers::{Boxed, List};
+use elan_grammar::{Joint, ParseError, Right};
 use elan_tree::{Expr, Key, Name, Sign, Unit};
 use form_parser::Inner;
 use std::alloc::Global;
@@ -75,7 +73,7 @@ impl<
     U: Fn(Global, &mut Cursor<'_>, u16) -> Result<Tall<List<Unit>>, ParseError> + Copy,
 > Grammar<E, U> {
     /// The rules of IF, SELECT and loops over the same parts.
-    pub fn forms(&self) -> Inner<E, U>
+    fn forms(&self) -> Inner<E, U>
         ensures alloc { result.alloc ≡ self.now.alloc }
         ensures depth { result.depth ≡ self.now.depth }
         ensures expression { result.expression ≡ self.now.expression }
@@ -90,7 +88,7 @@ impl<
     }
 
     /// An expression in another phrase.
-    pub fn inner(&self, cursor: &mut Cursor<'_>, level: u8) -> Result<Tall<Expr>, ParseError>
+    fn inner(&self, cursor: &mut Cursor<'_>, level: u8) -> Result<Tall<Expr>, ParseError>
         requires nests { Nests self.now.depth (E.pre self.now.expression) (E.post self.now.expression) (U.pre self.now.units) (U.post self.now.units) }
         requires level { level ≤ 6 }
         ensures reads { GivesTall (((units.phrases self.now.depth).level level).run cursor.old.rest.now) result cursor.new.rest.now }

@@ -4,7 +4,7 @@ use Rattle.elan_grammar.specs.declared.error.ParseError.{ParseError}
 use Rattle.elan_grammar.specs.Expressions.{level}
 use Rattle.elan_grammar.specs.Units.{phrases}
 use Rattle.elan_grammar.proofs.Knots.{level_zero, level_err, level_ok}
-use Rattle.phrase_parser.proofs.expressions.Grammar.+level.Goals as goal
+use Rattle.expression_parser.proofs.expressions.Grammar.+level.Goals as goal
 
 pub returns-then-level-eq0-clause-reads : goal.returns-then-level-eq0-clause-reads
 returns-then-level-eq0-clause-reads g t c =
