@@ -1,6 +1,6 @@
-//! Sources, sinks and disks in memory: which bytes move, and which call fails.
+//! Sources and sinks in memory: which bytes move, and which call fails.
 
-use edge::{Disk, Failed, MemDisk, MemSink, MemSource, Sink, Source};
+use edge::{Failed, MemSink, MemSource, Sink, Source};
 use eu_base::{Bytes, List};
 use std::test::Fail;
 
@@ -31,13 +31,4 @@ fn a_sink_takes_pieces_and_fails_where_listed(rt: HostRuntime) -> Result<(), Fai
     assert_eq!(rt; sink.bytes(), b"abc".as_slice());
     assert_eq!(rt; sink.wanted(), false);
     Ok(())
-}
-
-#[test]
-fn a_disk_in_memory_fails_each_call(rt: HostRuntime) {
-    let mut disk = MemDisk::new();
-    let mut block = [0u8; 512];
-    assert_eq!(rt; disk.read(0, &mut block), Err(Failed));
-    assert_eq!(rt; disk.write(0, &block), Err(Failed));
-    assert_eq!(rt; disk.sync(), Err(Failed));
 }
