@@ -1,11 +1,12 @@
 -- Calls on spaces, whatever the rest of the spaces is.
-use Rattle.std.proofs.Common.{◌≡◌, ℕ, ◌+◌, ◌-◌, ◌/◌, ◌%◌, ◌≤◌, List, [], ◌∷◌, ◌++◌, length, get_or, Option, Some, None, refl, sym, ◌∙◌, ap, subst, arith}
+use Rattle.std.proofs.Common.{◌≡◌, ◌≢◌, inl, inr, ℕ, ◌+◌, ◌-◌, ◌/◌, ◌%◌, ◌≤◌, List, [], ◌∷◌, ◌++◌, length, get_or, Option, Some, None, refl, sym, ◌∙◌, ap, subst, arith}
 use Rattle.std.proofs.Math.Logic.{∥∥₁_map}
 use Rattle.std.proofs.lemmas.List.{length-append, append_assoc}
-use Rattle.std.proofs.lemmas.Option.{none-some}
+use Rattle.std.proofs.lemmas.Bool.{cases_eq}
+use Rattle.std.proofs.lemmas.Option.{none-some, same_Some}
 use Rattle.std.specs.Option.{ForSome}
 use Rattle.page_pool.specs.Pool.{Pages, count_of, used_of, IsPool, Shares}
-use Rattle.page_pool.proofs.Sound.{one_same}
+use Rattle.page_pool.proofs.Sound.{one_same, one_other}
 use Rattle.page_table.specs.Entries.{Names, book_of, child}
 use Rattle.page_table.specs.Sharing.{hit, occ, Hands, names, both, nothing, Agrees, AgreeIn, Agree}
 use Rattle.page_table.specs.Frames.{shown, content_at, Frames, Stands, Moves, Holds}
@@ -209,3 +210,17 @@ agree_after old new a b rest room f some = ∥∥₁_map some (λ g. (f.frame re
 
 pub agree_same : (pages : Pages) (a b : Names) → Same a b → ∥ Agree pages a ∥₁ → ∥ Agree pages b ∥₁
 agree_same pages a b s some = ∥∥₁_map some (reorder pages a b s)
+
+-- a call that keeps the bytes of its own space keeps those of all
+pub all_keep : (old new : Pages) (mine : Option ℕ) (after rest : Names) → Frames old new (mine ∷ []) after → ((n : ℕ) → content_at new mine n ≡ content_at old mine n) → ∥ Agree old (mine ∷ rest) ∥₁
+    → length (after ++ rest) ≤ 2000 → (root : Option ℕ) → ForSome root (λ x. 1 ≤ occ x (mine ∷ rest)) → (n : ℕ) → content_at new root n ≡ content_at old root n
+all_keep old new mine after rest f shows some room root among n = by mine shows root among (λ other. equal _ _ some (λ a. (f.frame rest a room).same root other n))
+  where
+    by : (mine : Option ℕ) → ((n : ℕ) → content_at new mine n ≡ content_at old mine n) → (root : Option ℕ) → ForSome root (λ x. 1 ≤ occ x (mine ∷ rest))
+        → (ForSome root (λ x. 1 ≤ occ x rest) → content_at new root n ≡ content_at old root n) → content_at new root n ≡ content_at old root n
+    by mine shows None among beside = beside (λ x is. absurd (none-some x is))
+    by None shows (Some x) among beside = beside (λ y is. omega (arith, among y is))
+    by (Some r) shows (Some x) among beside = elim (cases_eq r x) [
+      | inl e ↦ subst (λ (m : ℕ). content_at new (Some m) n ≡ content_at old (Some m) n) e (shows n)
+      | inr ne ↦ beside (λ y is. omega (arith, among y is, one_other y r (λ e. ne (e ∙ sym (same_Some x y is)))))
+    ]
