@@ -10,7 +10,7 @@ use Rattle.page_table.specs.Entries.{Names}
 use Rattle.page_table.specs.Frames.{content_at, Frames, Framed, Stands}
 use Rattle.page_table.specs.Sharing.{occ, Agree}
 use Rattle.page_table.proofs.Counting.{occ-append}
-use Rattle.page_table.proofs.Framing.{Same, same_self, reorder, stands_of}
+use Rattle.page_table.proofs.Framing.{Same, same_self, reorder, agree_same, agree_after, all_keep, stands_of}
 use Rattle.page_table.proofs.Holding.{equal}
 
 module _ {T : Type 0} (roots : T → Names) (none : T) (unnamed : (x : ℕ) → occ x (roots none) ≡ 0) where
@@ -84,9 +84,53 @@ module _ {T : Type 0} (roots : T → Names) (none : T) (unnamed : (x : ℕ) → 
       pub others_keep : (j : ℕ) → j ≢ k → (root : Option ℕ) → ForSome root (λ x. 1 ≤ occ x (roots (get_or ts j none))) → IsKept (content_at pages root) (content_at new root)
       others_keep j ne root among n = equal _ _ some (λ a. (framed a).same root (λ x e. omega (arith, among x e, in_others ts k j x ne)) n)
 
-  -- names in hand and an owner are put back, or the owner is gone
-  pub put_back : (hand : Names) (ts : List T) (k : ℕ) (u : T) → k < length ts → Same ((hand ++ roots u) ++ all (without k ts)) (hand ++ all (set ts k u))
-  put_back hand ts k u low = let s = in_hand hand ts k u low in record { long = sym s.long; occs = λ p. sym (s.occs p) }
+  put_back : (ts : List T) (k : ℕ) (u : T) → k < length ts → Same (roots u ++ all (without k ts)) (all (set ts k u))
+  put_back ts k u low = let s = split_set ts k u low in record { long = sym s.long; occs = λ p. sym (s.occs p) }
 
-  pub gone : (ts : List T) (k : ℕ) → k < length ts → Same (all (without k ts)) (all (remove ts k))
-  gone ts k low = subst (λ (l : List T). Same (all (without k ts)) (all l)) (without_is ts k low) (same_self _)
+  left : (ts : List T) (k : ℕ) → k < length ts → Same (all (without k ts)) (all (remove ts k))
+  left ts k low = subst (λ (l : List T). Same (all (without k ts)) (all l)) (without_is ts k low) (same_self _)
+
+  -- the bytes of all spaces of an owner
+  abbrev pub Keeps : Pages → Pages → T → Type 0
+  Keeps old new t = (root : Option ℕ) → ForSome root (λ x. 1 ≤ occ x (roots t)) → IsKept (content_at old root) (content_at new root)
+
+  module _ (old new : Pages) (hand : Names) (ts : List T) (k : ℕ) (t : T) (is : t ≡ get_or ts k none) (low : k < length ts) (some : ∥ Agree old (hand ++ all ts) ∥₁) where
+    -- owner k is another one, which has the names in hand
+    module _ (u : T) (fewer : length (roots u) ≤ length (hand ++ roots t)) (frames : Frames old new (hand ++ roots t) (roots u)) where
+      set_fits : length (hand ++ all ts) ≤ 2000 → length (all (set ts k u)) ≤ 2000
+      set_fits few = omega (arith, few, fewer, (apart old hand ts k t is low some).long, length-append (hand ++ roots t) (all (without k ts)), (split_set ts k u low).long, length-append (roots u) (all (without k ts)))
+
+      pub set_agree : ∥ Agree new (all (set ts k u)) ∥₁
+      set_agree = agree_one old hand ts k t is low some new (roots u) _ frames (put_back ts k u low) set_fits
+
+      pub set_others : (j : ℕ) → j ≢ k → Keeps old new (get_or ts j none)
+      set_others = others_keep old hand ts k t is low some new (roots u) _ frames (put_back ts k u low) set_fits
+
+    -- it is gone, with the names in hand
+    module _ (frames : Frames old new (hand ++ roots t) []) where
+      gone_fits : length (hand ++ all ts) ≤ 2000 → length (all (remove ts k)) ≤ 2000
+      gone_fits few = omega (arith, few, (apart old hand ts k t is low some).long, length-append (hand ++ roots t) (all (without k ts)), (left ts k low).long)
+
+      pub gone_agree : ∥ Agree new (all (remove ts k)) ∥₁
+      gone_agree = agree_one old hand ts k t is low some new [] _ frames (left ts k low) gone_fits
+
+      pub gone_others : (j : ℕ) → j ≢ k → Keeps old new (get_or ts j none)
+      gone_others = others_keep old hand ts k t is low some new [] _ frames (left ts k low) gone_fits
+
+  -- a copy of a space of owner k, its first, is in hand
+  module _ (old new : Pages) (ts : List T) (k : ℕ) (t : T) (is : t ≡ get_or ts k none) (low : k < length ts) (some : ∥ Agree old (all ts) ∥₁) (mine : Option ℕ) (more : Names) (has : roots t ≡ mine ∷ more)
+      (room : length (all ts) ≤ 1999) where
+    split : Same (all ts) (mine ∷ (more ++ all (without k ts)))
+    split = subst (λ (l : Names). Same (all ts) (l ++ all (without k ts))) has (apart old [] ts k t is low some)
+
+    pub copy_stands : Stands old (mine ∷ []) 1
+    copy_stands = stands_of old (mine ∷ []) (more ++ all (without k ts)) 1 (omega (arith, room, split.long)) (agree_same old _ _ split some)
+
+    module _ (frames : Frames old new (mine ∷ []) (mine ∷ mine ∷ [])) (shows : IsKept (content_at old mine) (content_at new mine)) where
+      pub copy_agree : ∥ Agree new (mine ∷ all ts) ∥₁
+      copy_agree = agree_same new _ _ (record { long = omega (arith, split.long); occs = λ p. omega (arith, split.occs p) })
+          (agree_after old new (mine ∷ []) (mine ∷ mine ∷ []) (more ++ all (without k ts)) (omega (arith, room, split.long)) frames (agree_same old _ _ split some))
+
+      pub copy_others : (j : ℕ) → Keeps old new (get_or ts j none)
+      copy_others j root among = all_keep old new mine _ (more ++ all (without k ts)) frames shows (agree_same old _ _ split some) (omega (arith, room, split.long)) root
+          (λ x e. omega (arith, among x e, in_all ts j x, split.occs x))

@@ -1,14 +1,15 @@
-use Rattle.std.proofs.Common.{◌≡◌, []}
+use Rattle.std.proofs.Common.{◌≡◌, [], arith}
 use Rattle.std.proofs.lemmas.List.{get_or_read, get_or-set_same}
-use Rattle.task_spaces_tests.specs.Tasks.{task_at, no_task}
-use Rattle.task_spaces_tests.proofs.Systems.{stands_task, changed_agree, changes_task}
+use Rattle.data_space.proofs.Owners.{stands_one, set_agree, set_others}
+use Rattle.task_spaces_tests.specs.Tasks.{task_at, no_task, roots}
+use Rattle.task_spaces_tests.proofs.Systems.{no_roots, changes}
 use Rattle.task_spaces_tests.proofs.system.System.write.Goals as goal
 
 pub write-requires-clause-agree : goal.write-requires-clause-agree
-write-requires-clause-agree c = stands_task _ c.args.self.now.pool _ _ _ (get_or_read _ _ _ c.requires.task c.index_mut.ensures.value no_task) c.requires.task c.args.self.now.agree
+write-requires-clause-agree c = stands_one roots no_task no_roots _ [] _ _ _ (get_or_read _ _ _ c.requires.task c.index_mut.ensures.value no_task) c.requires.task c.args.self.now.agree 0 (λ few. omega (arith, few))
 
 pub invariant_of-self : goal.invariant_of-self
-invariant_of-self c = record { agree = changed_agree _ _ [] _ _ _ (get_or_read _ _ _ c.requires.task c.index_mut.ensures.value no_task) c.requires.task c.args.self.now.agree _ c.write.ensures.frames }
+invariant_of-self c = record { agree = set_agree roots no_task no_roots _ _ [] _ _ _ (get_or_read _ _ _ c.requires.task c.index_mut.ensures.value no_task) c.requires.task c.args.self.now.agree c.write.new.task (omega arith) c.write.ensures.frames }
 
 pub returns-clause-written : goal.returns-clause-written
 returns-clause-written c =
@@ -21,4 +22,4 @@ returns-clause-second c =
     rw (← is) c.write.ensures.second
 
 pub returns-clause-others : goal.returns-clause-others
-returns-clause-others c = changes_task _ _ [] _ _ _ (get_or_read _ _ _ c.requires.task c.index_mut.ensures.value no_task) c.requires.task c.args.self.now.agree _ c.write.ensures.frames
+returns-clause-others c = changes _ _ _ _ c.write.new.task c.requires.task (set_others roots no_task no_roots _ _ [] _ _ _ (get_or_read _ _ _ c.requires.task c.index_mut.ensures.value no_task) c.requires.task c.args.self.now.agree c.write.new.task (omega arith) c.write.ensures.frames)
