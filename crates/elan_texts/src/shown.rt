@@ -125,6 +125,7 @@ fn expr(out: &mut String, e: &Expr) -> Result<(), AllocError> {
     }
 }
 
+/// Writes how the operators of a unit hold, in braces.
 #[cycle(shown)]
 pub fn unit(out: &mut String, unit: &Unit) -> Result<(), AllocError> {
     match unit {
