@@ -42,6 +42,7 @@ fn branch(out: &mut String, branch: &Branch) -> Result<(), AllocError> {
     units(out, &branch.units)
 }
 
+// An arm a form of expression, so it is as long as there are forms.
 #[cycle(shown)]
 fn expr(out: &mut String, e: &Expr) -> Result<(), AllocError> {
     match e {
