@@ -14,29 +14,29 @@ use Rattle.elan_tree.specs.declared.written_type.TypePhrase.{TypePhrase}
 use Rattle.elan_tree.specs.declared.written_type.Formal.{Formal}
 use Rattle.elan_tree.specs.declared.tree.Body.{Body as Written}
 use Rattle.elan_tree.specs.declared.tree.Refinement.{Refinement as Refined}
-use Rattle.elan_rules.specs.declared.scope.Denotes.{Denotes}
-use Rattle.elan_rules.specs.declared.scope.Denotes.TheVariants as denotes
-use Rattle.elan_rules.specs.declared.scope.Entry.{Entry}
-use Rattle.elan_rules.specs.declared.heading.Sort.{Sort}
-use Rattle.elan_rules.specs.declared.heading.What.{What}
-use Rattle.elan_rules.specs.declared.heading.What.TheVariants.{Routine, Refinement}
-use Rattle.elan_rules.specs.declared.heading.Heading.{Heading}
-use Rattle.elan_rules.specs.declared.meant.Meant.{Meant}
-use Rattle.elan_rules.specs.declared.meant.Meant.TheVariants.{Done, Bodies}
-use Rattle.elan_rules.specs.Scope as scope
-use Rattle.elan_rules.specs.Scope.{number_of, all_held, held}
-use Rattle.elan_rules.specs.declared.scope.Scope.{Scope}
-use Rattle.elan_rules.specs.declared.scope.Within.{Within}
-use Rattle.elan_rules.specs.declared.scope.Home.{Home}
-use Rattle.elan_rules.specs.declared.scope.Found.{Found}
+use Rattle.elan_scope.specs.declared.scope.Denotes.{Denotes}
+use Rattle.elan_scope.specs.declared.scope.Denotes.TheVariants as denotes
+use Rattle.elan_scope.specs.declared.scope.Entry.{Entry}
+use Rattle.elan_scope.specs.declared.heading.Sort.{Sort}
+use Rattle.elan_scope.specs.declared.heading.What.{What}
+use Rattle.elan_scope.specs.declared.heading.What.TheVariants.{Routine, Refinement}
+use Rattle.elan_scope.specs.declared.heading.Heading.{Heading}
+use Rattle.elan_meant.specs.declared.meant.Meant.{Meant}
+use Rattle.elan_meant.specs.declared.meant.Meant.TheVariants.{Done, Bodies}
+use Rattle.elan_scope.specs.Scope as scope
+use Rattle.elan_scope.specs.Scope.{number_of, all_held, held}
+use Rattle.elan_scope.specs.declared.scope.Scope.{Scope}
+use Rattle.elan_scope.specs.declared.scope.Within.{Within}
+use Rattle.elan_scope.specs.declared.scope.Home.{Home}
+use Rattle.elan_scope.specs.declared.scope.Found.{Found}
 use Rattle.elan_check.specs.Bodies as b
 use Rattle.elan_check.specs.Bodies.{parameters, result, parameter_names, own_names, body_names, refinement_headings, bodies_in, unit_headings, all_headings}
-use Rattle.elan_rules.specs.Phrase as form
-use Rattle.elan_rules.specs.Phrase.{Phrase, phrase, Parts, none, part, all_of, leaf, around, all_empty, last_place}
-use Rattle.elan_rules.specs.Ruled.{Ruled, gives, breaks, before}
-use Rattle.elan_rules.specs.declared.known.Known.{Known}
-use Rattle.elan_rules.specs.Calls as calls
-use Rattle.elan_rules.specs.Units as u
+use Rattle.elan_scope.specs.Phrase as form
+use Rattle.elan_scope.specs.Phrase.{Phrase, phrase, Parts, none, part, all_of, leaf, around, all_empty, last_place}
+use Rattle.elan_scope.specs.Ruled.{Ruled, gives, breaks, before}
+use Rattle.elan_scope.specs.declared.known.Known.{Known}
+use Rattle.value_rules.specs.Calls as calls
+use Rattle.unit_rules.specs.Units as u
 use Rattle.elan_rules.specs.Rules.{rule}
 use Rattle.elan_check.specs.Shape as shape
 use Rattle.elan_check.specs.Level as l

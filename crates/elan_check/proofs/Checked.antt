@@ -7,8 +7,8 @@ use Rattle.elan_types.specs.Typing.{IsWellTyped}
 use Rattle.elan_tree.specs.declared.tree.Level.{Level}
 use Rattle.elan_tree.specs.declared.tree.Tree.{Tree}
 use Rattle.elan_tree.specs.declared.tree.Tree.TheVariants as tree
-use Rattle.elan_rules.specs.declared.meant.Meant.TheVariants as means
-use Rattle.elan_rules.specs.Ruled.{Fault}
+use Rattle.elan_meant.specs.declared.meant.Meant.TheVariants as means
+use Rattle.elan_scope.specs.Ruled.{Fault}
 use Rattle.elan_check.specs.declared.error.CheckError.{CheckError}
 use Rattle.elan_check.specs.declared.error.CheckError.TheVariants.{NoMemory, NoMeaning, NotBuilt}
 use Rattle.elan_check.specs.NotBuilt.{not_built}

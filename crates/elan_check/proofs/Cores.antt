@@ -7,15 +7,15 @@ use Rattle.elan_types.specs.declared.core_phrase.Core.{Core}
 use Rattle.elan_types.specs.declared.why.Why.{Why}
 use Rattle.elan_types.specs.Typing.{IsWellTyped}
 use Rattle.elan_tree.specs.declared.tree.Level.{Level}
-use Rattle.elan_rules.specs.declared.known.Known.{Known}
-use Rattle.elan_rules.specs.declared.meant.Meant.{Meant}
-use Rattle.elan_rules.specs.declared.meant.Meant.TheVariants as means
-use Rattle.elan_rules.specs.Scope.{variables_of}
-use Rattle.elan_rules.specs.Parts.{actions_of}
-use Rattle.elan_rules.specs.Units.{bodies_of}
-use Rattle.elan_rules.specs.Phrase as form
-use Rattle.elan_rules.specs.Phrase.{all_of}
-use Rattle.elan_rules.specs.Ruled.{Ruled, gives, breaks, hangs, ◌>>=◌}
+use Rattle.elan_scope.specs.declared.known.Known.{Known}
+use Rattle.elan_meant.specs.declared.meant.Meant.{Meant}
+use Rattle.elan_meant.specs.declared.meant.Meant.TheVariants as means
+use Rattle.elan_scope.specs.Scope.{variables_of}
+use Rattle.elan_meant.specs.Parts.{actions_of}
+use Rattle.unit_rules.specs.Units.{bodies_of}
+use Rattle.elan_scope.specs.Phrase as form
+use Rattle.elan_scope.specs.Phrase.{all_of}
+use Rattle.elan_scope.specs.Ruled.{Ruled, gives, breaks, hangs, ◌>>=◌}
 use Rattle.elan_rules.specs.Rules.{rule}
 use Rattle.elan_rules.specs.Meaning.{judged, judged_all}
 use Rattle.elan_check.specs.declared.error.CheckError.TheVariants.{NoMeaning}

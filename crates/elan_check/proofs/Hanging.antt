@@ -1,22 +1,22 @@
 -- A text of which no phrase breaks a rule has a meaning: no phrase hangs on another one.
 use Rattle.std.proofs.Common.{◌≡◌, ℕ, Bool, true, false, ◌&&◌, if◌then◌else◌, List, [], ◌∷◌, ◌++◌, Option, Some, None, refl, sym, ap, subst, ◌∙◌, ◌⊎◌, inl, inr}
 use Rattle.std.specs.Prelude.{slice_get}
-use Rattle.elan_rules.specs.declared.delivery.Delivery.TheVariants.{Open}
-use Rattle.elan_rules.specs.declared.heading.What.{What}
-use Rattle.elan_rules.specs.declared.heading.What.TheVariants.{Routine, Refinement}
-use Rattle.elan_rules.specs.declared.heading.Heading.{Heading}
-use Rattle.elan_rules.specs.declared.meant.Meant.{Meant}
-use Rattle.elan_rules.specs.declared.meant.Usage.{Usage}
-use Rattle.elan_rules.specs.Scope as scope
-use Rattle.elan_rules.specs.Scope.{number_of, refinement_named}
-use Rattle.elan_rules.specs.declared.scope.Scope.{Scope}
-use Rattle.elan_rules.specs.declared.scope.Found.{Found}
-use Rattle.elan_rules.specs.Phrase as form
-use Rattle.elan_rules.specs.Phrase.{Form, Phrase, phrase, Parts, none, part, all_of, around, leaf, is_empty, last_place}
-use Rattle.elan_rules.specs.Ruled.{Ruled, gives, breaks, hangs, ◌>>=◌, before}
-use Rattle.elan_rules.specs.Known.{delivery_at, leads_back}
-use Rattle.elan_rules.specs.declared.known.Known.{Known}
-use Rattle.elan_rules.specs.Calls as c
+use Rattle.elan_scope.specs.declared.delivery.Delivery.TheVariants.{Open}
+use Rattle.elan_scope.specs.declared.heading.What.{What}
+use Rattle.elan_scope.specs.declared.heading.What.TheVariants.{Routine, Refinement}
+use Rattle.elan_scope.specs.declared.heading.Heading.{Heading}
+use Rattle.elan_meant.specs.declared.meant.Meant.{Meant}
+use Rattle.elan_scope.specs.declared.scope.Usage.{Usage}
+use Rattle.elan_scope.specs.Scope as scope
+use Rattle.elan_scope.specs.Scope.{number_of, refinement_named}
+use Rattle.elan_scope.specs.declared.scope.Scope.{Scope}
+use Rattle.elan_scope.specs.declared.scope.Found.{Found}
+use Rattle.elan_scope.specs.Phrase as form
+use Rattle.elan_scope.specs.Phrase.{Form, Phrase, phrase, Parts, none, part, all_of, around, leaf, is_empty, last_place}
+use Rattle.elan_scope.specs.Ruled.{Ruled, gives, breaks, hangs, ◌>>=◌, before}
+use Rattle.elan_scope.specs.Known.{delivery_at, leads_back}
+use Rattle.elan_scope.specs.declared.known.Known.{Known}
+use Rattle.value_rules.specs.Calls as c
 use Rattle.elan_rules.specs.Rules.{rule}
 use Rattle.elan_rules.specs.Meaning.{judged, judged_all, phrases, phrases_of}
 use Rattle.elan_check.specs.Refinements.{told, last_unit, last_unit_in, unit_delivery, outcome, called_by, called_by_all, called_in}

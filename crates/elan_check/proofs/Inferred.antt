@@ -4,26 +4,26 @@ use Rattle.elan_types.specs.declared.core_phrase.Exit.{Exit}
 use Rattle.elan_types.specs.declared.why.Why.TheVariants.{WrongType}
 use Rattle.elan_types.specs.declared.core_phrase.Action.{Action}
 use Rattle.elan_types.specs.declared.core_phrase.Action.TheVariants as action
-use Rattle.elan_rules.specs.declared.delivery.Delivery.{Delivery}
-use Rattle.elan_rules.specs.declared.delivery.Delivery.TheVariants.{Open, Nothing, Of}
-use Rattle.elan_rules.specs.declared.scope.Denotes.{Denotes}
-use Rattle.elan_rules.specs.declared.scope.Denotes.TheVariants as denotes
-use Rattle.elan_rules.specs.declared.meant.Meant.{Meant}
-use Rattle.elan_rules.specs.declared.meant.Meant.TheVariants.{Absent, Value, Done, Left, Labels, Branches, Arms, Counter, Bodies, Level}
-use Rattle.elan_rules.specs.declared.meant.Usage.{Usage}
-use Rattle.elan_rules.specs.declared.meant.Usage.TheVariants as usage
-use Rattle.elan_rules.specs.Scope.{find, left, refinement_named}
-use Rattle.elan_rules.specs.declared.scope.Scope.{Scope}
-use Rattle.elan_rules.specs.declared.scope.Home.{Home}
-use Rattle.elan_rules.specs.declared.scope.Found.{Found}
-use Rattle.elan_rules.specs.Phrase as form
-use Rattle.elan_rules.specs.Phrase.{Form, Phrase, phrase, Parts, none, part, all_of, around, is_empty, all_empty}
-use Rattle.elan_rules.specs.Ruled.{gives, breaks, before}
-use Rattle.elan_rules.specs.Known.{delivery_at, leads, leads_back}
-use Rattle.elan_rules.specs.declared.known.Known.{Known}
-use Rattle.elan_rules.specs.Parts.{one_of, on_one, actions_of}
-use Rattle.elan_rules.specs.Calls as r
-use Rattle.elan_rules.specs.Units.{or_last, last_value, ended, without_value}
+use Rattle.elan_scope.specs.declared.delivery.Delivery.{Delivery}
+use Rattle.elan_scope.specs.declared.delivery.Delivery.TheVariants.{Open, Nothing, Of}
+use Rattle.elan_scope.specs.declared.scope.Denotes.{Denotes}
+use Rattle.elan_scope.specs.declared.scope.Denotes.TheVariants as denotes
+use Rattle.elan_meant.specs.declared.meant.Meant.{Meant}
+use Rattle.elan_meant.specs.declared.meant.Meant.TheVariants.{Absent, Value, Done, Left, Labels, Branches, Arms, Counter, Bodies, Level}
+use Rattle.elan_scope.specs.declared.scope.Usage.{Usage}
+use Rattle.elan_scope.specs.declared.scope.Usage.TheVariants as usage
+use Rattle.elan_scope.specs.Scope.{find, left, refinement_named}
+use Rattle.elan_scope.specs.declared.scope.Scope.{Scope}
+use Rattle.elan_scope.specs.declared.scope.Home.{Home}
+use Rattle.elan_scope.specs.declared.scope.Found.{Found}
+use Rattle.elan_scope.specs.Phrase as form
+use Rattle.elan_scope.specs.Phrase.{Form, Phrase, phrase, Parts, none, part, all_of, around, is_empty, all_empty}
+use Rattle.elan_scope.specs.Ruled.{gives, breaks, before}
+use Rattle.elan_scope.specs.Known.{delivery_at, leads, leads_back}
+use Rattle.elan_scope.specs.declared.known.Known.{Known}
+use Rattle.elan_meant.specs.Parts.{one_of, on_one, actions_of}
+use Rattle.value_rules.specs.Calls as r
+use Rattle.unit_rules.specs.Units.{or_last, last_value, ended, without_value}
 use Rattle.elan_rules.specs.Rules.{rule}
 use Rattle.elan_check.specs.Shape.{role, roles, units}
 use Rattle.elan_rules.specs.Meaning.{judged, judged_all}

@@ -5,9 +5,9 @@ use Rattle.elan_tree.specs.declared.phrase.Expr.{Expr}
 use Rattle.elan_tree.specs.declared.phrase.Expr.TheFolds.{fold-roll-Unit}
 use Rattle.elan_tree.specs.declared.phrase.Unit.{Unit as Statement}
 use Rattle.elan_tree.specs.declared.phrase.Unit.TheVariants as statement
-use Rattle.elan_rules.specs.declared.scope.Scope.{Scope}
-use Rattle.elan_rules.specs.Phrase as form
-use Rattle.elan_rules.specs.Phrase.{Phrase, all_of, around, is_empty, all_empty, place, last_place}
+use Rattle.elan_scope.specs.declared.scope.Scope.{Scope}
+use Rattle.elan_scope.specs.Phrase as form
+use Rattle.elan_scope.specs.Phrase.{Phrase, all_of, around, is_empty, all_empty, place, last_place}
 use Rattle.elan_check.specs.Shape.{expr, unit, role, roles}
 use Rattle.elan_check.specs.Refinements.{last_unit_in}
 

@@ -6,16 +6,16 @@ use Rattle.elan_types.specs.declared.core_phrase.Core.{Core}
 use Rattle.elan_types.specs.declared.core_phrase.Body.{Body}
 use Rattle.elan_types.specs.declared.core_phrase.Action.{Action}
 use Rattle.elan_tree.specs.declared.tree.Tree.{Tree}
-use Rattle.elan_rules.specs.declared.meant.Meant.{Meant}
-use Rattle.elan_rules.specs.declared.meant.Meant.TheVariants.{Level}
-use Rattle.elan_rules.specs.Ruled.{Fault, Ruled, gives, breaks, hangs}
-use Rattle.elan_rules.specs.Scope.{variables_of}
+use Rattle.elan_meant.specs.declared.meant.Meant.{Meant}
+use Rattle.elan_meant.specs.declared.meant.Meant.TheVariants.{Level}
+use Rattle.elan_scope.specs.Ruled.{Fault, Ruled, gives, breaks, hangs}
+use Rattle.elan_scope.specs.Scope.{variables_of}
 use Rattle.elan_check.specs.Bodies.{level_names}
-use Rattle.elan_rules.specs.Phrase as form
-use Rattle.elan_rules.specs.Phrase.{Phrase, phrase, all_of}
-use Rattle.elan_rules.specs.declared.known.Known.{Known}
-use Rattle.elan_rules.specs.Parts.{actions_of}
-use Rattle.elan_rules.specs.Units.{bodies_of}
+use Rattle.elan_scope.specs.Phrase as form
+use Rattle.elan_scope.specs.Phrase.{Phrase, phrase, all_of}
+use Rattle.elan_scope.specs.declared.known.Known.{Known}
+use Rattle.elan_meant.specs.Parts.{actions_of}
+use Rattle.unit_rules.specs.Units.{bodies_of}
 use Rattle.elan_rules.specs.Rules.{rule}
 use Rattle.elan_rules.specs.Meaning.{judged, judged_all}
 use Rattle.elan_check.proofs.Spots.{never_hangs}

@@ -15,10 +15,10 @@ use Rattle.elan_types.specs.declared.elan_type.ElanType.{ElanType}
 use Rattle.elan_types.specs.declared.core_phrase.Parameter.{Parameter}
 use Rattle.elan_types.specs.Typing.{held_const}
 use Rattle.elan_tree.specs.declared.tree.Refinement.{Refinement}
-use Rattle.elan_rules.specs.declared.scope.Denotes.{Denotes}
-use Rattle.elan_rules.specs.declared.scope.Denotes.TheVariants as denotes
-use Rattle.elan_rules.specs.declared.scope.Entry.{Entry}
-use Rattle.elan_rules.specs.Scope.{held, all_held, types_of}
+use Rattle.elan_scope.specs.declared.scope.Denotes.{Denotes}
+use Rattle.elan_scope.specs.declared.scope.Denotes.TheVariants as denotes
+use Rattle.elan_scope.specs.declared.scope.Entry.{Entry}
+use Rattle.elan_scope.specs.Scope.{held, all_held, types_of}
 use Rattle.elan_check.specs.Declarations as d
 use Rattle.elan_check.specs.Bodies.{refinement_names}
 use Rattle.elan_check.proofs.Held.{types_append}

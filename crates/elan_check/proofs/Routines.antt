@@ -12,20 +12,20 @@ use Rattle.elan_tree.specs.declared.written_type.Formal.{Formal}
 use Rattle.elan_tree.specs.declared.tree.Body.{Body}
 use Rattle.elan_tree.specs.declared.tree.Refinement.{Refinement}
 use Rattle.elan_tree.specs.declared.tree.LevelUnit.{LevelUnit}
-use Rattle.elan_rules.specs.declared.heading.Sort.{Sort}
-use Rattle.elan_rules.specs.declared.heading.Sort.TheVariants.{Procedure}
-use Rattle.elan_rules.specs.declared.scope.Scope.{Scope}
-use Rattle.elan_rules.specs.declared.known.Known.{Known}
-use Rattle.elan_rules.specs.declared.meant.Meant.{Meant}
-use Rattle.elan_rules.specs.declared.trouble.Trouble.{Trouble}
-use Rattle.elan_rules.specs.Phrase as form
-use Rattle.elan_rules.specs.Phrase.{Phrase, all_of, around, leaf, last_place}
-use Rattle.elan_rules.specs.Answer.{Is}
+use Rattle.elan_scope.specs.declared.heading.Sort.{Sort}
+use Rattle.elan_scope.specs.declared.heading.Sort.TheVariants.{Procedure}
+use Rattle.elan_scope.specs.declared.scope.Scope.{Scope}
+use Rattle.elan_scope.specs.declared.known.Known.{Known}
+use Rattle.elan_meant.specs.declared.meant.Meant.{Meant}
+use Rattle.elan_scope.specs.declared.trouble.Trouble.{Trouble}
+use Rattle.elan_scope.specs.Phrase as form
+use Rattle.elan_scope.specs.Phrase.{Phrase, all_of, around, leaf, last_place}
+use Rattle.elan_scope.specs.Answer.{Is}
 use Rattle.elan_rules.specs.Meaning.{judged, judged_all}
-use Rattle.elan_rules.specs.Ruled.{Ruled, gives, joined}
-use Rattle.elan_rules.specs.Scope.{first_heading, is_alike, types_of}
-use Rattle.elan_rules.specs.Calls as calls
-use Rattle.elan_rules.specs.Units as u
+use Rattle.elan_scope.specs.Ruled.{Ruled, gives, joined}
+use Rattle.elan_scope.specs.Scope.{first_heading, is_alike, types_of}
+use Rattle.value_rules.specs.Calls as calls
+use Rattle.unit_rules.specs.Units as u
 use Rattle.elan_check.specs.Shape as shape
 use Rattle.elan_check.specs.Bodies.{parameters, result, body_names, bodies_in}
 use Rattle.elan_check.specs.Level as l

@@ -6,19 +6,19 @@ use Rattle.elan_tree.specs.declared.phrase.Unit.{Unit as Statement}
 use Rattle.elan_tree.specs.declared.phrase.Case.{Case, rolls-Case'}
 use Rattle.elan_tree.specs.declared.phrase.Expr.TheFolds.{fold-roll-Case}
 use Rattle.elan_tree.specs.declared.written_type.Label.{Label}
-use Rattle.elan_rules.specs.declared.known.Known.{Known}
-use Rattle.elan_rules.specs.declared.meant.Meant.{Meant}
-use Rattle.elan_rules.specs.declared.meant.Meant.TheVariants.{Labels}
-use Rattle.elan_rules.specs.declared.scope.Scope.{Scope}
-use Rattle.elan_rules.specs.declared.trouble.Trouble.{Trouble}
-use Rattle.elan_rules.specs.declared.trouble.Trouble.TheVariants.{NoMemory, Breaks, Hangs}
-use Rattle.elan_rules.specs.Answer.{Is, Fails}
-use Rattle.elan_rules.specs.Choices.{labels_of}
+use Rattle.elan_scope.specs.declared.known.Known.{Known}
+use Rattle.elan_meant.specs.declared.meant.Meant.{Meant}
+use Rattle.elan_meant.specs.declared.meant.Meant.TheVariants.{Labels}
+use Rattle.elan_scope.specs.declared.scope.Scope.{Scope}
+use Rattle.elan_scope.specs.declared.trouble.Trouble.{Trouble}
+use Rattle.elan_scope.specs.declared.trouble.Trouble.TheVariants.{NoMemory, Breaks, Hangs}
+use Rattle.elan_scope.specs.Answer.{Is, Fails}
+use Rattle.choice_rules.specs.Choices.{labels_of}
 use Rattle.elan_rules.specs.Meaning.{judged, judged_all}
-use Rattle.elan_rules.specs.Phrase.{Form, Phrase, phrase, Parts, none, part, around, all_of, is_empty, all_empty}
-use Rattle.elan_rules.specs.Ruled.{Ruled, gives, breaks, hangs, ◌>>=◌, before, joined}
+use Rattle.elan_scope.specs.Phrase.{Form, Phrase, phrase, Parts, none, part, around, all_of, is_empty, all_empty}
+use Rattle.elan_scope.specs.Ruled.{Ruled, gives, breaks, hangs, ◌>>=◌, before, joined}
 use Rattle.elan_rules.specs.Rules.{rule}
-use Rattle.elan_rules.proofs.Beside.{before_joined, single_joined}
+use Rattle.elan_meant.proofs.Beside.{before_joined, single_joined}
 use Rattle.elan_check.specs.Shape.{unit, case, role, roles, numbers, arm_phrase, arm_phrases}
 
 -- ---- what a function hands on

@@ -2,9 +2,9 @@
 use Rattle.std.proofs.Common.{◌≡◌, refl}
 use Rattle.std.specs.Bool.{Decides}
 use Rattle.elan_types.specs.declared.elan_type.ElanType.TheVariants.{Int, Bool as Truths}
-use Rattle.elan_rules.specs.declared.delivery.Delivery.{Delivery}
-use Rattle.elan_rules.specs.declared.delivery.Delivery.TheVariants.{Open, Nothing, Of}
-use Rattle.elan_rules.specs.contracts.delivery.DeliveryPartialEq.TheImpl as derived
+use Rattle.elan_scope.specs.declared.delivery.Delivery.{Delivery}
+use Rattle.elan_scope.specs.declared.delivery.Delivery.TheVariants.{Open, Nothing, Of}
+use Rattle.elan_scope.specs.contracts.delivery.DeliveryPartialEq.TheImpl as derived
 
 pub delivery_Decides : (a b : Delivery) → Decides (derived.eq-value.it a b) (a ≡ b)
 delivery_Decides Open Open = (λ e. refl, λ e. refl)

@@ -1,8 +1,8 @@
 -- The scopes of PROCs, OPs and refinements, which are entered and left.
 use Rattle.std.proofs.Common.{◌≡◌, ℕ, List, Option, Some, None, sym, ap, ◌∙◌}
-use Rattle.elan_rules.specs.declared.scope.Entry.{Entry}
-use Rattle.elan_rules.specs.declared.scope.Within.{Within}
-use Rattle.elan_rules.specs.declared.scope.Scope.{Scope}
+use Rattle.elan_scope.specs.declared.scope.Entry.{Entry}
+use Rattle.elan_scope.specs.declared.scope.Within.{Within}
+use Rattle.elan_scope.specs.declared.scope.Scope.{Scope}
 use Rattle.elan_check.specs.Level as l
 
 abbrev pub scope_with : Scope → Option Within → Option ℕ → Scope

@@ -2,15 +2,15 @@
 use Rattle.std.proofs.Common.{◌≡◌, ℕ, zero, suc, ◌+◌, ◌≤◌, true, List, [], ◌∷◌, map, length, Option, Some, None, refl, sym, ap, subst, ◌∙◌, ◌⊎◌, inl, inr, arith}
 use Rattle.std.specs.Prelude.{slice_get, slice_index_or}
 use Rattle.elan_types.specs.declared.elan_type.ElanType.{ElanType}
-use Rattle.elan_rules.specs.declared.delivery.Delivery.{Delivery}
-use Rattle.elan_rules.specs.declared.delivery.Delivery.TheVariants.{Open, Nothing, Of}
-use Rattle.elan_rules.specs.declared.heading.Heading.{Heading}
-use Rattle.elan_rules.specs.declared.meant.Meant.{Meant}
-use Rattle.elan_rules.specs.declared.meant.Meant.TheVariants.{Absent, Value, Done, Left, Labels, Branches, Arms, Counter, Bodies, Level}
-use Rattle.elan_rules.specs.Phrase.{Phrase}
-use Rattle.elan_rules.specs.Ruled.{Ruled, gives, breaks, hangs}
-use Rattle.elan_rules.specs.Known.{delivery_at}
-use Rattle.elan_rules.specs.declared.known.Known.{Known}
+use Rattle.elan_scope.specs.declared.delivery.Delivery.{Delivery}
+use Rattle.elan_scope.specs.declared.delivery.Delivery.TheVariants.{Open, Nothing, Of}
+use Rattle.elan_scope.specs.declared.heading.Heading.{Heading}
+use Rattle.elan_meant.specs.declared.meant.Meant.{Meant}
+use Rattle.elan_meant.specs.declared.meant.Meant.TheVariants.{Absent, Value, Done, Left, Labels, Branches, Arms, Counter, Bodies, Level}
+use Rattle.elan_scope.specs.Phrase.{Phrase}
+use Rattle.elan_scope.specs.Ruled.{Ruled, gives, breaks, hangs}
+use Rattle.elan_scope.specs.Known.{delivery_at}
+use Rattle.elan_scope.specs.declared.known.Known.{Known}
 use Rattle.elan_check.specs.Shape.{units}
 use Rattle.elan_rules.specs.Meaning.{judged}
 use Rattle.elan_check.specs.Refinements.{told, told_by, last_unit, delivery_of, outcome, unit_delivery, next, next_all, called_in, known_after}

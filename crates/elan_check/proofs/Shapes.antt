@@ -16,16 +16,16 @@ use Rattle.elan_tree.specs.declared.phrase.Unit.TheVariants as statement
 use Rattle.elan_tree.specs.declared.phrase.Expr.TheOpen as t
 use Rattle.elan_tree.specs.declared.phrase.Expr.TheFolds.{fold-roll-Expr, fold-roll-Unit, fold-roll-Branch, fold-roll-Case, fold-roll-Counter, fold-roll-Item}
 use Rattle.eu_base.specs.declared.operation.Way.{Way}
-use Rattle.elan_rules.specs.declared.trouble.Trouble.{Trouble}
-use Rattle.elan_rules.specs.declared.meant.Meant.{Meant}
-use Rattle.elan_rules.specs.declared.meant.Meant.TheVariants.{Absent}
-use Rattle.elan_rules.specs.Answer.{Is}
+use Rattle.elan_scope.specs.declared.trouble.Trouble.{Trouble}
+use Rattle.elan_meant.specs.declared.meant.Meant.{Meant}
+use Rattle.elan_meant.specs.declared.meant.Meant.TheVariants.{Absent}
+use Rattle.elan_scope.specs.Answer.{Is}
 use Rattle.elan_rules.specs.Meaning.{judged}
-use Rattle.elan_rules.specs.declared.known.Known.{Known}
-use Rattle.elan_rules.specs.declared.scope.Scope.{Scope}
-use Rattle.elan_rules.specs.declared.meant.Usage.TheVariants.{Counter as Counts}
-use Rattle.elan_rules.specs.Phrase as form
-use Rattle.elan_rules.specs.Phrase.{Form, Phrase, phrase, none, part, leaf, pair, three, all_of}
+use Rattle.elan_scope.specs.declared.known.Known.{Known}
+use Rattle.elan_scope.specs.declared.scope.Scope.{Scope}
+use Rattle.elan_scope.specs.declared.scope.Usage.TheVariants.{Counter as Counts}
+use Rattle.elan_scope.specs.Phrase as form
+use Rattle.elan_scope.specs.Phrase.{Form, Phrase, phrase, none, part, leaf, pair, three, all_of}
 use Rattle.elan_check.specs.Shape as shape
 
 abbrev pub four : Form → Phrase → Phrase → Phrase → Phrase → Phrase

@@ -5,7 +5,7 @@ use Rattle.elan_types.specs.declared.elan_type.ElanType.{ElanType}
 use Rattle.elan_types.specs.declared.core_phrase.Parameter.{Parameter}
 use Rattle.elan_types.specs.declared.core_phrase.Scope.{Scope as Owner}
 use Rattle.elan_types.specs.declared.core_phrase.Scope.TheVariants as owner
-use Rattle.elan_rules.specs.declared.meant.Meant.{Meant}
+use Rattle.elan_meant.specs.declared.meant.Meant.{Meant}
 use Rattle.elan_tree.specs.declared.written_type.Name.{Name}
 use Rattle.elan_tree.specs.declared.written_type.TypePhrase.{TypePhrase}
 use Rattle.elan_tree.specs.declared.written_type.Formal.{Formal}
@@ -14,20 +14,20 @@ use Rattle.elan_tree.specs.declared.tree.Refinement.{Refinement as Refined}
 use Rattle.elan_tree.specs.declared.tree.Level.{Level}
 use Rattle.elan_tree.specs.declared.tree.LevelUnit.{LevelUnit}
 use Rattle.elan_tree.specs.declared.tree.LevelUnit.TheVariants as level
-use Rattle.elan_rules.specs.declared.delivery.Delivery.TheVariants.{Open}
-use Rattle.elan_rules.specs.declared.heading.Sort.{Sort}
-use Rattle.elan_rules.specs.declared.heading.Sort.TheVariants.{Procedure, Operator}
-use Rattle.elan_rules.specs.declared.heading.What.TheVariants.{Routine}
-use Rattle.elan_rules.specs.declared.heading.Heading.{Heading}
-use Rattle.elan_rules.specs.declared.scope.Scope.{Scope}
+use Rattle.elan_scope.specs.declared.delivery.Delivery.TheVariants.{Open}
+use Rattle.elan_scope.specs.declared.heading.Sort.{Sort}
+use Rattle.elan_scope.specs.declared.heading.Sort.TheVariants.{Procedure, Operator}
+use Rattle.elan_scope.specs.declared.heading.What.TheVariants.{Routine}
+use Rattle.elan_scope.specs.declared.heading.Heading.{Heading}
+use Rattle.elan_scope.specs.declared.scope.Scope.{Scope}
 use Rattle.elan_check.specs.Bodies as b
 use Rattle.elan_check.specs.Bodies.{headings, parameters, result}
 use Rattle.elan_check.specs.Operators.{operator_text}
-use Rattle.elan_rules.specs.Phrase as form
-use Rattle.elan_rules.specs.Phrase.{Form, Phrase, phrase, Parts, none, part, all_of, around, leaf, last_place}
-use Rattle.elan_rules.specs.Ruled.{Ruled, hangs}
-use Rattle.elan_rules.specs.Known.{delivery_at, leads_back}
-use Rattle.elan_rules.specs.declared.known.Known.{Known}
+use Rattle.elan_scope.specs.Phrase as form
+use Rattle.elan_scope.specs.Phrase.{Form, Phrase, phrase, Parts, none, part, all_of, around, leaf, last_place}
+use Rattle.elan_scope.specs.Ruled.{Ruled, hangs}
+use Rattle.elan_scope.specs.Known.{delivery_at, leads_back}
+use Rattle.elan_scope.specs.declared.known.Known.{Known}
 use Rattle.elan_rules.specs.Rules.{rule}
 use Rattle.elan_check.specs.Shape as shape
 use Rattle.elan_check.specs.Level as l

@@ -8,13 +8,13 @@ use Rattle.elan_tree.specs.declared.tree.Refinement.{Refinement as Refined}
 use Rattle.elan_tree.specs.declared.tree.Level.{Level}
 use Rattle.elan_tree.specs.declared.tree.LevelUnit.{LevelUnit}
 use Rattle.elan_tree.specs.declared.tree.LevelUnit.TheVariants as level
-use Rattle.elan_rules.specs.declared.delivery.Delivery.{Delivery}
-use Rattle.elan_rules.specs.declared.delivery.Delivery.TheVariants.{Open}
-use Rattle.elan_rules.specs.declared.heading.Heading.{Heading}
-use Rattle.elan_rules.specs.declared.known.Known.{Known}
-use Rattle.elan_rules.specs.declared.scope.Scope.{Scope}
-use Rattle.elan_rules.specs.Known.{delivery_at}
-use Rattle.elan_rules.specs.Phrase.{Phrase}
+use Rattle.elan_scope.specs.declared.delivery.Delivery.{Delivery}
+use Rattle.elan_scope.specs.declared.delivery.Delivery.TheVariants.{Open}
+use Rattle.elan_scope.specs.declared.heading.Heading.{Heading}
+use Rattle.elan_scope.specs.declared.known.Known.{Known}
+use Rattle.elan_scope.specs.declared.scope.Scope.{Scope}
+use Rattle.elan_scope.specs.Known.{delivery_at}
+use Rattle.elan_scope.specs.Phrase.{Phrase}
 use Rattle.elan_check.specs.Bodies as b
 use Rattle.elan_check.specs.Level as l
 use Rattle.elan_check.specs.Shape.{unit, units}

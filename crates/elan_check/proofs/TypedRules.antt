@@ -1,20 +1,20 @@
 -- What a phrase means has the types that it asks for.
 use Rattle.std.proofs.Common.{◌≡◌, ℕ, List, [], Option, Some, None, refl, sym, subst}
-use Rattle.elan_rules.specs.declared.meant.Meant.{Meant}
-use Rattle.elan_rules.specs.Ruled.{Ruled, gives}
-use Rattle.elan_rules.specs.Scope as scope
-use Rattle.elan_rules.specs.declared.scope.Scope.{Scope}
-use Rattle.elan_rules.specs.declared.known.Known.{Known}
-use Rattle.elan_rules.specs.declared.heading.Sort.TheVariants.{Operator}
-use Rattle.elan_rules.specs.declared.heading.Heading.{Heading}
-use Rattle.elan_rules.specs.Predefined.{becomes}
-use Rattle.elan_rules.specs.Phrase as form
-use Rattle.elan_rules.specs.Phrase.{Form, Phrase, phrase, Parts, none, part}
-use Rattle.elan_rules.specs.Parts as p
-use Rattle.elan_rules.specs.Calls as r
-use Rattle.elan_rules.specs.Units as u
-use Rattle.elan_rules.specs.Choices as c
-use Rattle.elan_rules.specs.Loops as l
+use Rattle.elan_meant.specs.declared.meant.Meant.{Meant}
+use Rattle.elan_scope.specs.Ruled.{Ruled, gives}
+use Rattle.elan_scope.specs.Scope as scope
+use Rattle.elan_scope.specs.declared.scope.Scope.{Scope}
+use Rattle.elan_scope.specs.declared.known.Known.{Known}
+use Rattle.elan_scope.specs.declared.heading.Sort.TheVariants.{Operator}
+use Rattle.elan_scope.specs.declared.heading.Heading.{Heading}
+use Rattle.elan_meant.specs.Predefined.{becomes}
+use Rattle.elan_scope.specs.Phrase as form
+use Rattle.elan_scope.specs.Phrase.{Form, Phrase, phrase, Parts, none, part}
+use Rattle.elan_meant.specs.Parts as p
+use Rattle.value_rules.specs.Calls as r
+use Rattle.unit_rules.specs.Units as u
+use Rattle.choice_rules.specs.Choices as c
+use Rattle.unit_rules.specs.Loops as l
 use Rattle.elan_rules.specs.Rules as all
 use Rattle.elan_rules.specs.Rules.{rule}
 use Rattle.elan_rules.specs.Meaning.{judged, judged_all}

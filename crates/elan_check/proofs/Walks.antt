@@ -1,7 +1,7 @@
 -- A walk from call to call that never comes back does not go on for ever.
 use Rattle.std.proofs.Common.{◌≡◌, ℕ, zero, suc, ◌+◌, Bool, true, false, ◌||◌, List, [], ◌∷◌, map, length, Some, refl, sym, ap, subst, ◌∙◌, ◌⊎◌, inl, inr, arith, eq-eqb, eqb-true}
 use Rattle.std.specs.Prelude.{slice_get, slice_index_or, ◌==◌}
-use Rattle.elan_rules.specs.Known.{any, leads}
+use Rattle.elan_scope.specs.Known.{any, leads}
 
 abbrev pub In : ℕ → List ℕ → Type 0
 In n [] = ⊥

@@ -18,29 +18,29 @@ use Rattle.elan_tree.specs.declared.tree.LevelUnit.{LevelUnit}
 use Rattle.elan_tree.specs.declared.tree.LevelUnit.TheVariants as level
 use Rattle.elan_tree.specs.declared.tree.Tree.{Tree}
 use Rattle.elan_types.specs.declared.env.Env.{Env}
-use Rattle.elan_rules.specs.declared.delivery.Delivery.{Delivery}
-use Rattle.elan_rules.specs.declared.delivery.Delivery.TheVariants.{Open}
-use Rattle.elan_rules.specs.declared.scope.Entry.{Entry}
-use Rattle.elan_rules.specs.declared.heading.Sort.{Sort}
-use Rattle.elan_rules.specs.declared.heading.Sort.TheVariants.{Procedure, Operator}
-use Rattle.elan_rules.specs.declared.heading.What.{What}
-use Rattle.elan_rules.specs.declared.heading.What.TheVariants.{Routine, Refinement}
-use Rattle.elan_rules.specs.declared.heading.Heading.{Heading}
-use Rattle.elan_rules.specs.declared.meant.Meant.{Meant}
-use Rattle.elan_rules.specs.declared.meant.Meant.TheVariants.{Absent, Value, Done, Left, Labels, Branches, Arms, Counter, Bodies, Level}
-use Rattle.elan_rules.specs.Scope.{number_of, all_held, or_else, variables_of}
-use Rattle.elan_rules.specs.declared.scope.Scope.{Scope}
-use Rattle.elan_rules.specs.declared.scope.Within.{Within}
+use Rattle.elan_scope.specs.declared.delivery.Delivery.{Delivery}
+use Rattle.elan_scope.specs.declared.delivery.Delivery.TheVariants.{Open}
+use Rattle.elan_scope.specs.declared.scope.Entry.{Entry}
+use Rattle.elan_scope.specs.declared.heading.Sort.{Sort}
+use Rattle.elan_scope.specs.declared.heading.Sort.TheVariants.{Procedure, Operator}
+use Rattle.elan_scope.specs.declared.heading.What.{What}
+use Rattle.elan_scope.specs.declared.heading.What.TheVariants.{Routine, Refinement}
+use Rattle.elan_scope.specs.declared.heading.Heading.{Heading}
+use Rattle.elan_meant.specs.declared.meant.Meant.{Meant}
+use Rattle.elan_meant.specs.declared.meant.Meant.TheVariants.{Absent, Value, Done, Left, Labels, Branches, Arms, Counter, Bodies, Level}
+use Rattle.elan_scope.specs.Scope.{number_of, all_held, or_else, variables_of}
+use Rattle.elan_scope.specs.declared.scope.Scope.{Scope}
+use Rattle.elan_scope.specs.declared.scope.Within.{Within}
 use Rattle.elan_check.specs.Bodies as b
 use Rattle.elan_check.specs.Bodies.{headings, level_names}
-use Rattle.elan_rules.specs.Phrase as form
-use Rattle.elan_rules.specs.Phrase.{Phrase, phrase, Parts, none, part, all_of, around}
-use Rattle.elan_rules.specs.Ruled.{gives}
-use Rattle.elan_rules.specs.Known.{delivery_at}
-use Rattle.elan_rules.specs.declared.known.Known.{Known}
+use Rattle.elan_scope.specs.Phrase as form
+use Rattle.elan_scope.specs.Phrase.{Phrase, phrase, Parts, none, part, all_of, around}
+use Rattle.elan_scope.specs.Ruled.{gives}
+use Rattle.elan_scope.specs.Known.{delivery_at}
+use Rattle.elan_scope.specs.declared.known.Known.{Known}
 use Rattle.elan_check.specs.Operators.{operator_text}
-use Rattle.elan_rules.specs.Parts as p
-use Rattle.elan_rules.specs.Units as u
+use Rattle.elan_meant.specs.Parts as p
+use Rattle.unit_rules.specs.Units as u
 use Rattle.elan_rules.specs.Rules.{rule}
 use Rattle.elan_check.specs.Shape as shape
 use Rattle.elan_check.specs.Level as l

@@ -14,13 +14,13 @@ use Rattle.elan_tree.specs.declared.tree.Refinement.{Refinement}
 use Rattle.elan_tree.specs.declared.tree.Level.{Level}
 use Rattle.elan_tree.specs.declared.tree.LevelUnit.{LevelUnit}
 use Rattle.elan_tree.specs.declared.tree.LevelUnit.TheVariants as level
-use Rattle.elan_rules.specs.declared.scope.Denotes.{Denotes}
-use Rattle.elan_rules.specs.declared.scope.Denotes.TheVariants as denotes
-use Rattle.elan_rules.specs.declared.scope.Entry.{Entry}
-use Rattle.elan_rules.specs.declared.heading.Sort.{Sort}
-use Rattle.elan_rules.specs.declared.heading.Sort.TheVariants.{Procedure, Operator}
-use Rattle.elan_rules.specs.declared.heading.What.TheVariants as what
-use Rattle.elan_rules.specs.declared.heading.Heading.{Heading}
+use Rattle.elan_scope.specs.declared.scope.Denotes.{Denotes}
+use Rattle.elan_scope.specs.declared.scope.Denotes.TheVariants as denotes
+use Rattle.elan_scope.specs.declared.scope.Entry.{Entry}
+use Rattle.elan_scope.specs.declared.heading.Sort.{Sort}
+use Rattle.elan_scope.specs.declared.heading.Sort.TheVariants.{Procedure, Operator}
+use Rattle.elan_scope.specs.declared.heading.What.TheVariants as what
+use Rattle.elan_scope.specs.declared.heading.Heading.{Heading}
 use Rattle.elan_check.specs.Declarations.{written_type, entry, in_unit, in_units}
 use Rattle.elan_check.specs.Operators.{operator_text}
 

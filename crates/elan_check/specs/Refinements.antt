@@ -1,19 +1,19 @@
 -- What bodies deliver. A refinement delivers what its last unit delivers.
 use Rattle.std.specs.Prelude.{ℕ, zero, suc, List, [], ◌∷◌, ◌++◌, map, length, Option, Some, None, if◌then◌else◌}
-use Rattle.elan_rules.specs.declared.delivery.Delivery.{Delivery}
-use Rattle.elan_rules.specs.declared.delivery.Delivery.TheVariants.{Open, Nothing, Of}
-use Rattle.elan_rules.specs.declared.heading.What.{What}
-use Rattle.elan_rules.specs.declared.heading.What.TheVariants.{Routine, Refinement}
-use Rattle.elan_rules.specs.declared.heading.Heading.{Heading}
-use Rattle.elan_rules.specs.declared.meant.Meant.{Meant}
-use Rattle.elan_rules.specs.declared.meant.Meant.TheVariants.{Value}
-use Rattle.elan_rules.specs.Known.{delivery_at}
-use Rattle.elan_rules.specs.Scope.{refinement_named}
+use Rattle.elan_scope.specs.declared.delivery.Delivery.{Delivery}
+use Rattle.elan_scope.specs.declared.delivery.Delivery.TheVariants.{Open, Nothing, Of}
+use Rattle.elan_scope.specs.declared.heading.What.{What}
+use Rattle.elan_scope.specs.declared.heading.What.TheVariants.{Routine, Refinement}
+use Rattle.elan_scope.specs.declared.heading.Heading.{Heading}
+use Rattle.elan_meant.specs.declared.meant.Meant.{Meant}
+use Rattle.elan_meant.specs.declared.meant.Meant.TheVariants.{Value}
+use Rattle.elan_scope.specs.Known.{delivery_at}
+use Rattle.elan_scope.specs.Scope.{refinement_named}
 use Rattle.elan_check.specs.Uses.{number_list}
-use Rattle.elan_rules.specs.Phrase as form
-use Rattle.elan_rules.specs.Phrase.{Form, Phrase, phrase, Parts, none, part, is_empty}
-use Rattle.elan_rules.specs.Ruled.{Ruled, gives, breaks, hangs}
-use Rattle.elan_rules.specs.declared.known.Known.{Known}
+use Rattle.elan_scope.specs.Phrase as form
+use Rattle.elan_scope.specs.Phrase.{Form, Phrase, phrase, Parts, none, part, is_empty}
+use Rattle.elan_scope.specs.Ruled.{Ruled, gives, breaks, hangs}
+use Rattle.elan_scope.specs.declared.known.Known.{Known}
 use Rattle.elan_rules.specs.Meaning.{judged, phrases}
 
 -- ---- calls

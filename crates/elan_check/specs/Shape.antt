@@ -15,12 +15,12 @@ use Rattle.elan_tree.specs.declared.phrase.Unit.{Unit as Statement}
 use Rattle.elan_tree.specs.declared.phrase.Expr.TheOpen as t
 use Rattle.elan_tree.specs.declared.phrase.Expr.TheOpen.{Expr-F, Limit-F, Unit-F, Branch-F, Case-F, Counter-F, Item-F}
 use Rattle.elan_tree.specs.declared.phrase.Expr.TheFolds.{fold-Expr, fold-Limit, fold-Unit, fold-Branch, fold-Case, fold-Counter, fold-Item}
-use Rattle.elan_rules.specs.declared.heading.Sort.TheVariants.{Procedure, Operator}
-use Rattle.elan_rules.specs.declared.scope.Scope.{Scope}
+use Rattle.elan_scope.specs.declared.heading.Sort.TheVariants.{Procedure, Operator}
+use Rattle.elan_scope.specs.declared.scope.Scope.{Scope}
 use Rattle.elan_check.specs.Operators.{operator_text}
-use Rattle.elan_rules.specs.declared.meant.Usage.TheVariants.{Expression, Counter as Counts}
-use Rattle.elan_rules.specs.Phrase as form
-use Rattle.elan_rules.specs.Phrase.{Phrase, phrase, Parts, none, part, leaf, around, pair, three, all_of, all_empty}
+use Rattle.elan_scope.specs.declared.scope.Usage.TheVariants.{Expression, Counter as Counts}
+use Rattle.elan_scope.specs.Phrase as form
+use Rattle.elan_scope.specs.Phrase.{Phrase, phrase, Parts, none, part, leaf, around, pair, three, all_of, all_empty}
 
 -- a part that may be left out
 abbrev pub written : Option Phrase → Phrase

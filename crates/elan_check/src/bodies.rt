@@ -1,11 +1,11 @@
 //! The names that a level and its bodies declare.
 
 ghost use Rattle.std.specs.Prelude.{◌≡◌, ◌++◌, IfOk, OnOk};
-ghost use Rattle.elan_rules.specs.Scope as scopes;
+ghost use Rattle.elan_scope.specs.Scope as scopes;
 ghost use Rattle.elan_check.specs.Bodies as spec;
 
 use crate::declare::{add, in_unit, in_units, written_type};
-use elan_rules::scope::{Denotes, Entry};
+use elan_scope::scope::{Denotes, Entry};
 use elan_tree::{Access as Given, Body, Formal, Level, LevelUnit, Name, Refinement};
 use elan_types::{Access, ElanType, Parameter};
 use eu_base::{List, NoMemory};

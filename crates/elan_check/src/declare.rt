@@ -3,7 +3,7 @@
 ghost use Rattle.std.specs.Prelude.{◌≡◌, ◌++◌, map, IfOk, OnOk};
 ghost use Rattle.elan_check.specs.Declarations as spec;
 
-use elan_rules::scope::{Denotes, Entry};
+use elan_scope::scope::{Denotes, Entry};
 use elan_tree::{Branch, Case, Counter, Expr, Item, Limit, Name, TypePhrase, Unit};
 use elan_types::ElanType;
 use eu_base::{Bytes, List, NoMemory};

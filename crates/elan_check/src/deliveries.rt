@@ -1,11 +1,11 @@
 //! What bodies deliver: a refinement delivers what its last unit delivers, which is found out in steps.
 
 ghost use Rattle.std.specs.Prelude.{◌≡◌, ◌++◌, map, option_map, None, true, IfOk, OnOk};
-ghost use Rattle.elan_rules.specs.declared.scope.Scope.{Scope};
-ghost use Rattle.elan_rules.specs.declared.meant.Meant.{Meant};
-ghost use Rattle.elan_rules.specs.Ruled.{Ruled};
-ghost use Rattle.elan_rules.specs.Answer.{Is};
-ghost use Rattle.elan_rules.specs.Known as knowledge;
+ghost use Rattle.elan_scope.specs.declared.scope.Scope.{Scope};
+ghost use Rattle.elan_meant.specs.declared.meant.Meant.{Meant};
+ghost use Rattle.elan_scope.specs.Ruled.{Ruled};
+ghost use Rattle.elan_scope.specs.Answer.{Is};
+ghost use Rattle.elan_scope.specs.Known as knowledge;
 ghost use Rattle.elan_check.specs.Bodies as bodies;
 ghost use Rattle.elan_check.specs.Level as level_spec;
 ghost use Rattle.elan_check.specs.Refinements as spec;
@@ -15,13 +15,13 @@ use crate::bodies::body_names;
 use crate::heading::{first_refinement, next_number, number_behind};
 use crate::judge::{is_empty, judge_unit};
 use crate::uses::in_units;
-use elan_rules::delivery::Delivery;
-use elan_rules::heading::{Heading, What};
-use elan_rules::known::Known;
-use elan_rules::meant::Meant;
-use elan_rules::row::Judged;
-use elan_rules::scope::{Scope, Within};
-use elan_rules::trouble::Trouble;
+use elan_scope::delivery::Delivery;
+use elan_scope::heading::{Heading, What};
+use elan_scope::known::Known;
+use elan_meant::meant::Meant;
+use elan_meant::row::Judged;
+use elan_scope::scope::{Scope, Within};
+use elan_scope::trouble::Trouble;
 use elan_tree::{Body, Formal, Level, LevelUnit, Refinement, Unit};
 use eu_base::{List, NoMemory};
 use std::alloc::Global;

@@ -7,7 +7,7 @@ ghost use Rattle.elan_check.specs.Level as level_spec;
 use crate::bodies::parameters;
 use crate::declare::written_type;
 use crate::operators::operator_text;
-use elan_rules::heading::{Heading, Sort, What};
+use elan_scope::heading::{Heading, Sort, What};
 use elan_tree::{Formal, Level, LevelUnit, Refinement, TypePhrase};
 use elan_types::ElanType;
 use eu_base::{Bytes, List, NoMemory};

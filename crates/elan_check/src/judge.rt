@@ -1,33 +1,34 @@
 //! The meaning of expressions and units, from left to right.
 
 ghost use Rattle.std.specs.Prelude.{ℕ, ◌≡◌, [], map, true, false, ◌&&◌};
-ghost use Rattle.elan_rules.specs.declared.scope.Scope.{Scope};
-ghost use Rattle.elan_rules.specs.Phrase as form;
-ghost use Rattle.elan_rules.specs.Phrase.{phrase, all_of};
+ghost use Rattle.elan_scope.specs.declared.scope.Scope.{Scope};
+ghost use Rattle.elan_scope.specs.Phrase as form;
+ghost use Rattle.elan_scope.specs.Phrase.{phrase, all_of};
 ghost use Rattle.elan_rules.specs.Meaning.{judged, judged_all};
-ghost use Rattle.elan_rules.specs.Answer.{Is};
+ghost use Rattle.elan_scope.specs.Answer.{Is};
 ghost use Rattle.elan_check.specs.Shape as shape;
 
 use crate::label::{add_numbers, judge_labels};
 use crate::operators::operator_text;
-use elan_rules::heading::Sort;
-use elan_rules::known::Known;
-use elan_rules::meant::{Meant, Usage};
-use elan_rules::row::{Judged, Row, and, four, one, pair, three};
-use elan_rules::rules::assignment::assignment;
-use elan_rules::rules::call::applied;
-use elan_rules::rules::choice::branches_of;
-use elan_rules::rules::leave::leaving;
-use elan_rules::rules::list::{alone, declaration, in_order, without_value};
-use elan_rules::rules::name::{declared, named};
-use elan_rules::rules::selection::arms_of;
-use elan_rules::rules::value::{bracketed, number, truth};
-use elan_rules::rules::whole::{
+use elan_scope::heading::Sort;
+use elan_scope::known::Known;
+use elan_meant::meant::Meant;
+use elan_scope::scope::Usage;
+use elan_meant::row::{Judged, Row, and, four, one, pair, three};
+use elan_rules::assignment::assignment;
+use value_rules::call::applied;
+use choice_rules::choice::branches_of;
+use value_rules::leave::leaving;
+use unit_rules::list::{alone, declaration, in_order, without_value};
+use value_rules::name::{declared, named};
+use choice_rules::selection::arms_of;
+use value_rules::value::{bracketed, number, truth};
+use elan_rules::whole::{
     arm_parts, branch_parts, cand_parts, choice_parts, cor_parts, counter_parts, initial_parts,
     loop_parts, selection_parts,
 };
-use elan_rules::scope::Scope;
-use elan_rules::trouble::Trouble;
+use elan_scope::scope::Scope;
+use elan_scope::trouble::Trouble;
 use elan_tree::{Branch, Case, Counter, Expr, Item, Limit, Unit};
 use elan_types::{Way, Why};
 use eu_base::{Boxed, List};

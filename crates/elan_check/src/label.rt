@@ -1,19 +1,19 @@
 //! The labels of SELECT.
 
 ghost use Rattle.std.specs.Prelude.{◌≡◌, ◌++◌, ◌∷◌, [], OnOk};
-ghost use Rattle.elan_rules.specs.declared.meant.Meant.TheVariants as means;
-ghost use Rattle.elan_rules.specs.Phrase as form;
-ghost use Rattle.elan_rules.specs.Phrase.{phrase, all_of};
+ghost use Rattle.elan_meant.specs.declared.meant.Meant.TheVariants as means;
+ghost use Rattle.elan_scope.specs.Phrase as form;
+ghost use Rattle.elan_scope.specs.Phrase.{phrase, all_of};
 ghost use Rattle.elan_rules.specs.Meaning.{judged};
-ghost use Rattle.elan_rules.specs.Answer.{Is, Gives};
+ghost use Rattle.elan_scope.specs.Answer.{Is, Gives};
 ghost use Rattle.elan_check.specs.Shape as shape;
 
-use elan_rules::known::Known;
-use elan_rules::meant::Meant;
-use elan_rules::row::Judged;
-use elan_rules::rules::selection::{label_is, label_named};
-use elan_rules::scope::Scope;
-use elan_rules::trouble::Trouble;
+use elan_scope::known::Known;
+use elan_meant::meant::Meant;
+use elan_meant::row::Judged;
+use choice_rules::selection::{label_is, label_named};
+use elan_scope::scope::Scope;
+use elan_scope::trouble::Trouble;
 use elan_tree::Label;
 use eu_base::{List, NoMemory};
 use std::alloc::Global;

@@ -5,7 +5,7 @@ ghost use Rattle.elan_types.specs.declared.env.Env.{Env};
 ghost use Rattle.elan_types.specs.declared.core_phrase.Core.{Core};
 ghost use Rattle.elan_tree.specs.declared.tree.Tree.{Tree};
 ghost use Rattle.elan_types.specs.Typing.{IsWellTyped};
-ghost use Rattle.elan_rules.specs.Ruled.{Fault};
+ghost use Rattle.elan_scope.specs.Ruled.{Fault};
 ghost use Rattle.elan_check.specs.Text.{Means, Refused, IsNotBuilt, HasOneAnswer};
 
 /// A text has at most one core.

@@ -6,7 +6,7 @@ ghost use Rattle.elan_types.specs.declared.env.Env.{Env};
 ghost use Rattle.elan_types.specs.declared.core_phrase.Core.{Core};
 ghost use Rattle.elan_tree.specs.declared.tree.Tree.{Tree};
 ghost use Rattle.elan_check.specs.declared.error.CheckError.TheVariants as errors;
-ghost use Rattle.elan_rules.specs.Ruled.{Fault};
+ghost use Rattle.elan_scope.specs.Ruled.{Fault};
 ghost use Rattle.elan_check.specs.Text as text;
 
 use crate::error::CheckError;

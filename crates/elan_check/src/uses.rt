@@ -3,7 +3,7 @@
 ghost use Rattle.std.specs.Prelude.{◌≡◌, ◌++◌, map, OnOk};
 ghost use Rattle.elan_check.specs.Uses as spec;
 
-use elan_rules::scope::Scope;
+use elan_scope::scope::Scope;
 use elan_tree::{Branch, Case, Counter, Expr, Item, Limit, Name, Unit};
 use eu_base::{List, NoMemory};
 

@@ -1,9 +1,9 @@
 -- Going from left to right gives the meaning, or the first phrase that breaks a rule, or finds that a part hangs.
 use Rattle.std.proofs.Common.{◌≡◌, List, [], ◌∷◌, ◌++◌, refl, sym, ap, subst, ◌∙◌, append_assoc, ◌⊎◌, inl, inr}
-use Rattle.elan_rules.specs.declared.meant.Meant.{Meant}
-use Rattle.elan_rules.specs.Phrase.{Phrase, phrase, Parts, none, part}
-use Rattle.elan_rules.specs.Ruled.{Fault, Ruled, gives, breaks, hangs, ◌>>=◌, before}
-use Rattle.elan_rules.specs.declared.known.Known.{Known}
+use Rattle.elan_meant.specs.declared.meant.Meant.{Meant}
+use Rattle.elan_scope.specs.Phrase.{Phrase, phrase, Parts, none, part}
+use Rattle.elan_scope.specs.Ruled.{Fault, Ruled, gives, breaks, hangs, ◌>>=◌, before}
+use Rattle.elan_scope.specs.declared.known.Known.{Known}
 use Rattle.elan_rules.specs.Rules.{rule}
 use Rattle.elan_rules.specs.Meaning.{Means, AllMean, Breaks, phrases, phrases_of, NoneBreaks, IsFirst, judged, judged_all}
 

@@ -6,7 +6,3 @@ pub mod TypedLoops
 pub mod TypedChoices
 pub mod TypedCalls
 pub mod Firm
-pub mod Lists
-pub mod Numbers
-pub mod Marks
-pub mod Beside

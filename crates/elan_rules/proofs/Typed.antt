@@ -6,18 +6,18 @@ use Rattle.elan_types.specs.declared.core_phrase.PlacePhrase.{PlacePhrase}
 use Rattle.elan_types.specs.declared.core_phrase.ValuePhrase.{ValuePhrase}
 use Rattle.elan_types.specs.declared.core_phrase.Action.{Action}
 use Rattle.elan_types.specs.declared.core_phrase.Action.TheVariants as action
-use Rattle.elan_rules.specs.declared.meant.Part.{Part}
-use Rattle.elan_rules.specs.declared.meant.Part.TheVariants as piece
-use Rattle.elan_rules.specs.declared.meant.Guarded.{Guarded}
-use Rattle.elan_rules.specs.declared.meant.Labelled.{Labelled}
-use Rattle.elan_rules.specs.declared.meant.Counted.{Counted}
-use Rattle.elan_rules.specs.declared.meant.Meant.{Meant}
-use Rattle.elan_rules.specs.declared.meant.Meant.TheVariants.{Absent, Value, Done, Left, Labels, Branches, Arms, Counter, Bodies, Level}
-use Rattle.elan_rules.specs.Ruled.{Ruled, gives, breaks, hangs, ◌>>=◌}
+use Rattle.elan_meant.specs.declared.meant.Part.{Part}
+use Rattle.elan_meant.specs.declared.meant.Part.TheVariants as piece
+use Rattle.elan_meant.specs.declared.meant.Guarded.{Guarded}
+use Rattle.elan_meant.specs.declared.meant.Labelled.{Labelled}
+use Rattle.elan_meant.specs.declared.meant.Counted.{Counted}
+use Rattle.elan_meant.specs.declared.meant.Meant.{Meant}
+use Rattle.elan_meant.specs.declared.meant.Meant.TheVariants.{Absent, Value, Done, Left, Labels, Branches, Arms, Counter, Bodies, Level}
+use Rattle.elan_scope.specs.Ruled.{Ruled, gives, breaks, hangs, ◌>>=◌}
 use Rattle.elan_types.specs.Typing.{Typed, same_type, has, agree, only_if, have, all_true}
-use Rattle.elan_rules.specs.Predefined.{delivers, fit}
-use Rattle.elan_rules.specs.Parts as r
-use Rattle.elan_rules.specs.Choices.{part_of}
+use Rattle.elan_meant.specs.Predefined.{delivers, fit}
+use Rattle.elan_meant.specs.Parts as r
+use Rattle.choice_rules.specs.Choices.{part_of}
 use Rattle.elan_rules.proofs.TypeEquations.{Stand, type, typed, lies, unit_is, has_written}
 
 -- ---- types

@@ -6,11 +6,11 @@ use Rattle.elan_types.specs.declared.core_phrase.PlacePhrase.{PlacePhrase}
 use Rattle.elan_types.specs.declared.core_phrase.ValuePhrase.{ValuePhrase}
 use Rattle.elan_types.specs.declared.core_phrase.Action.{Action}
 use Rattle.elan_types.specs.declared.core_phrase.Action.TheVariants as action
-use Rattle.elan_rules.specs.declared.meant.Meant.{Meant}
-use Rattle.elan_rules.specs.declared.meant.Usage.{Usage}
-use Rattle.elan_rules.specs.declared.meant.Usage.TheVariants as usage
-use Rattle.elan_rules.specs.declared.meant.Meant.TheVariants.{Absent, Value, Done, Left, Labels, Branches, Arms, Counter, Bodies, Level}
-use Rattle.elan_rules.specs.Ruled.{Ruled, gives, breaks, hangs, before}
+use Rattle.elan_meant.specs.declared.meant.Meant.{Meant}
+use Rattle.elan_scope.specs.declared.scope.Usage.{Usage}
+use Rattle.elan_scope.specs.declared.scope.Usage.TheVariants as usage
+use Rattle.elan_meant.specs.declared.meant.Meant.TheVariants.{Absent, Value, Done, Left, Labels, Branches, Arms, Counter, Bodies, Level}
+use Rattle.elan_scope.specs.Ruled.{Ruled, gives, breaks, hangs, before}
 use Rattle.std.specs.Prelude.{slice_get, nat_eq}
 use Rattle.std.specs.Str.{bytes_eq}
 use Rattle.eu_base.specs.declared.operation.Change.{Change}
@@ -25,33 +25,33 @@ use Rattle.elan_types.specs.declared.core_phrase.Scope.{Scope as Owner}
 use Rattle.elan_types.specs.declared.core_phrase.Scope.TheVariants as owner
 use Rattle.elan_types.specs.declared.core_phrase.Body.{Body}
 use Rattle.elan_types.specs.Typing.{Typed, Taken, Home as InBody, same_access, has, type_in, type_as, takes, take_all, taken_by, given_as, result_of_content, result_of, delivered_by, scope_of, refines, is_none, leaves_without, leaves_with, left_from, around, frame_in, owner as owner_in}
-use Rattle.elan_rules.specs.declared.meant.Does.{Does}
-use Rattle.elan_rules.specs.declared.meant.Does.TheVariants.{Delivers, Changes, Puts, EndsLine}
-use Rattle.elan_rules.specs.declared.delivery.Delivery.{Delivery}
-use Rattle.elan_rules.specs.declared.delivery.Delivery.TheVariants.{Open, Nothing, Of}
-use Rattle.elan_rules.specs.declared.scope.Denotes.{Denotes}
-use Rattle.elan_rules.specs.declared.scope.Denotes.TheVariants as denotes
-use Rattle.elan_rules.specs.declared.scope.Entry.{Entry}
-use Rattle.elan_rules.specs.declared.heading.Sort.{Sort}
-use Rattle.elan_rules.specs.declared.heading.Sort.TheVariants.{Procedure}
-use Rattle.elan_rules.specs.declared.heading.What.{What}
-use Rattle.elan_rules.specs.declared.heading.What.TheVariants.{Routine, Refinement}
-use Rattle.elan_rules.specs.declared.heading.Heading.{Heading}
-use Rattle.elan_rules.specs.Scope as scope
-use Rattle.elan_rules.specs.Scope.{number_of, held, all_held, types_of, variables_of, or_else}
-use Rattle.elan_rules.specs.declared.scope.Scope.{Scope}
-use Rattle.elan_rules.specs.declared.scope.Within.{Within}
-use Rattle.elan_rules.specs.declared.scope.Home.{Home}
-use Rattle.elan_rules.specs.declared.scope.Found.{Found}
-use Rattle.elan_rules.specs.declared.scope.Home.TheVariants.{Level as of_level, Routine as of_routine}
-use Rattle.elan_rules.specs.Known.{delivery_at, leads_back}
-use Rattle.elan_rules.specs.declared.known.Known.{Known}
-use Rattle.elan_rules.specs.Predefined.{Line, predefined, chosen}
-use Rattle.elan_rules.specs.Predefined.{delivers, fit}
+use Rattle.elan_meant.specs.declared.meant.Does.{Does}
+use Rattle.elan_meant.specs.declared.meant.Does.TheVariants.{Delivers, Changes, Puts, EndsLine}
+use Rattle.elan_scope.specs.declared.delivery.Delivery.{Delivery}
+use Rattle.elan_scope.specs.declared.delivery.Delivery.TheVariants.{Open, Nothing, Of}
+use Rattle.elan_scope.specs.declared.scope.Denotes.{Denotes}
+use Rattle.elan_scope.specs.declared.scope.Denotes.TheVariants as denotes
+use Rattle.elan_scope.specs.declared.scope.Entry.{Entry}
+use Rattle.elan_scope.specs.declared.heading.Sort.{Sort}
+use Rattle.elan_scope.specs.declared.heading.Sort.TheVariants.{Procedure}
+use Rattle.elan_scope.specs.declared.heading.What.{What}
+use Rattle.elan_scope.specs.declared.heading.What.TheVariants.{Routine, Refinement}
+use Rattle.elan_scope.specs.declared.heading.Heading.{Heading}
+use Rattle.elan_scope.specs.Scope as scope
+use Rattle.elan_scope.specs.Scope.{number_of, held, all_held, types_of, variables_of, or_else}
+use Rattle.elan_scope.specs.declared.scope.Scope.{Scope}
+use Rattle.elan_scope.specs.declared.scope.Within.{Within}
+use Rattle.elan_scope.specs.declared.scope.Home.{Home}
+use Rattle.elan_scope.specs.declared.scope.Found.{Found}
+use Rattle.elan_scope.specs.declared.scope.Home.TheVariants.{Level as of_level, Routine as of_routine}
+use Rattle.elan_scope.specs.Known.{delivery_at, leads_back}
+use Rattle.elan_scope.specs.declared.known.Known.{Known}
+use Rattle.elan_meant.specs.Predefined.{Line, predefined, chosen}
+use Rattle.elan_meant.specs.Predefined.{delivers, fit}
 use Rattle.elan_rules.proofs.Typed as ty
 use Rattle.elan_rules.proofs.Typed.{same_is, same_self, has_self, agree_self, only_if_holds, both, and_true, Gives, on_if, on_bind}
-use Rattle.elan_rules.specs.Parts as p
-use Rattle.elan_rules.specs.Calls as r
+use Rattle.elan_meant.specs.Parts as p
+use Rattle.value_rules.specs.Calls as r
 use Rattle.elan_rules.proofs.TypeEquations.{Stand, typed, lies, actual_type, load_is, apply_is, modify_is, put_is, line_is, call_is, refer_is, action_call_is, action_refer_is, leave_is, leave_with_is, given_value_is, given_place_is}
 
 -- ---- look-ups

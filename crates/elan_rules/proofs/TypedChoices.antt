@@ -7,22 +7,22 @@ use Rattle.elan_types.specs.declared.core_phrase.ValuePhrase.{ValuePhrase}
 use Rattle.elan_types.specs.declared.core_phrase.ValuePhrase.TheVariants as value
 use Rattle.elan_types.specs.declared.core_phrase.Action.{Action}
 use Rattle.elan_types.specs.declared.core_phrase.Action.TheVariants as action
-use Rattle.elan_rules.specs.declared.meant.Part.{Part}
-use Rattle.elan_rules.specs.declared.meant.Part.TheVariants as piece
-use Rattle.elan_rules.specs.declared.meant.Guarded.{Guarded}
-use Rattle.elan_rules.specs.declared.meant.Labelled.{Labelled}
-use Rattle.elan_rules.specs.declared.meant.Meant.{Meant}
-use Rattle.elan_rules.specs.declared.meant.Meant.TheVariants.{Absent, Value, Done, Left, Labels, Branches, Arms, Counter, Bodies, Level}
+use Rattle.elan_meant.specs.declared.meant.Part.{Part}
+use Rattle.elan_meant.specs.declared.meant.Part.TheVariants as piece
+use Rattle.elan_meant.specs.declared.meant.Guarded.{Guarded}
+use Rattle.elan_meant.specs.declared.meant.Labelled.{Labelled}
+use Rattle.elan_meant.specs.declared.meant.Meant.{Meant}
+use Rattle.elan_meant.specs.declared.meant.Meant.TheVariants.{Absent, Value, Done, Left, Labels, Branches, Arms, Counter, Bodies, Level}
 use Rattle.elan_types.specs.Typing.{Typed, same_type, all_agree, all_true}
-use Rattle.elan_rules.specs.declared.delivery.Delivery.{Delivery}
-use Rattle.elan_rules.specs.declared.delivery.Delivery.TheVariants.{Open, Nothing, Of}
-use Rattle.elan_rules.specs.declared.scope.Found.{Found}
-use Rattle.elan_rules.specs.Predefined.{predefined, exists}
-use Rattle.elan_rules.specs.Predefined.{delivers}
+use Rattle.elan_scope.specs.declared.delivery.Delivery.{Delivery}
+use Rattle.elan_scope.specs.declared.delivery.Delivery.TheVariants.{Open, Nothing, Of}
+use Rattle.elan_scope.specs.declared.scope.Found.{Found}
+use Rattle.elan_meant.specs.Predefined.{predefined, exists}
+use Rattle.elan_meant.specs.Predefined.{delivers}
 use Rattle.elan_rules.proofs.Typed as ty
 use Rattle.elan_rules.proofs.Typed.{same_is, same_self, has_self, agree_self, only_if_holds, both, and_true, Gives, on_if, on_bind}
-use Rattle.elan_rules.specs.Parts as p
-use Rattle.elan_rules.specs.Choices as r
+use Rattle.elan_meant.specs.Parts as p
+use Rattle.choice_rules.specs.Choices as r
 use Rattle.elan_rules.proofs.TypedUnits.{unreached_typed}
 use Rattle.elan_rules.proofs.TypeEquations.{Stand, arm_typed, arm_type, if_is, select_is, value_if_is, value_select_is, value_arm_is, arm_is}
 

@@ -6,15 +6,15 @@ use Rattle.elan_types.specs.declared.core_phrase.PlacePhrase.{PlacePhrase}
 use Rattle.elan_types.specs.declared.core_phrase.ValuePhrase.{ValuePhrase}
 use Rattle.elan_types.specs.declared.core_phrase.Action.{Action}
 use Rattle.elan_types.specs.declared.core_phrase.Action.TheVariants as action
-use Rattle.elan_rules.specs.declared.meant.Counted.{Counted}
-use Rattle.elan_rules.specs.declared.meant.Meant.{Meant}
-use Rattle.elan_rules.specs.declared.meant.Meant.TheVariants.{Absent, Value, Done, Left, Labels, Branches, Arms, Counter, Bodies, Level}
+use Rattle.elan_meant.specs.declared.meant.Counted.{Counted}
+use Rattle.elan_meant.specs.declared.meant.Meant.{Meant}
+use Rattle.elan_meant.specs.declared.meant.Meant.TheVariants.{Absent, Value, Done, Left, Labels, Branches, Arms, Counter, Bodies, Level}
 use Rattle.std.specs.Prelude.{pos}
 use Rattle.eu_base.specs.declared.operation.Way.{Way}
 use Rattle.elan_rules.proofs.Typed as ty
 use Rattle.elan_rules.proofs.Typed.{same_is, same_self, has_self, agree_self, only_if_holds, both, and_true, Gives, on_if, on_bind}
-use Rattle.elan_rules.specs.Parts as p
-use Rattle.elan_rules.specs.Loops as r
+use Rattle.elan_meant.specs.Parts as p
+use Rattle.unit_rules.specs.Loops as r
 use Rattle.elan_rules.proofs.TypeEquations.{Stand, number_is, loop_is, count_is}
 
 module _ (here : Stand) where

@@ -7,17 +7,17 @@ use Rattle.elan_types.specs.declared.core_phrase.ValuePhrase.{ValuePhrase}
 use Rattle.elan_types.specs.declared.core_phrase.ValuePhrase.TheVariants as value
 use Rattle.elan_types.specs.declared.core_phrase.Action.{Action}
 use Rattle.elan_types.specs.declared.core_phrase.Action.TheVariants as action
-use Rattle.elan_rules.specs.declared.meant.Meant.{Meant}
-use Rattle.elan_rules.specs.declared.meant.Meant.TheVariants.{Absent, Value, Done, Left, Labels, Branches, Arms, Counter, Bodies, Level}
+use Rattle.elan_meant.specs.declared.meant.Meant.{Meant}
+use Rattle.elan_meant.specs.declared.meant.Meant.TheVariants.{Absent, Value, Done, Left, Labels, Branches, Arms, Counter, Bodies, Level}
 use Rattle.elan_types.specs.Typing.{same_type, has, is_content_typed}
 use Rattle.std.specs.Prelude.{pos}
 use Rattle.eu_base.specs.Operations.{in_range}
 use Rattle.elan_types.specs.declared.core_phrase.Content.{Content}
-use Rattle.elan_rules.specs.Predefined.{delivers}
+use Rattle.elan_meant.specs.Predefined.{delivers}
 use Rattle.elan_rules.proofs.Typed as ty
 use Rattle.elan_rules.proofs.Typed.{same_is, same_self, has_self, agree_self, only_if_holds, both, and_true, Gives, on_if, on_bind}
-use Rattle.elan_rules.specs.Parts as p
-use Rattle.elan_rules.specs.Units as r
+use Rattle.elan_meant.specs.Parts as p
+use Rattle.unit_rules.specs.Units as r
 use Rattle.elan_rules.specs.Rules as rules
 use Rattle.elan_rules.proofs.TypeEquations.{Stand, type, number_is, truth_is, cand_is, cor_is, value_unit_is, after_is, store_is}
 

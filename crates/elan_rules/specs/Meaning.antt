@@ -1,9 +1,9 @@
 -- Which phrases have meaning, and which phrase of a text is the first that breaks a rule.
 use Rattle.std.specs.Prelude.{◌≡◌, List, [], ◌∷◌, ◌++◌}
-use Rattle.elan_rules.specs.declared.meant.Meant.{Meant}
-use Rattle.elan_rules.specs.Phrase.{Phrase, phrase, Parts, none, part}
-use Rattle.elan_rules.specs.Ruled.{Fault, Ruled, gives, breaks, ◌>>=◌, before}
-use Rattle.elan_rules.specs.declared.known.Known.{Known}
+use Rattle.elan_meant.specs.declared.meant.Meant.{Meant}
+use Rattle.elan_scope.specs.Phrase.{Phrase, phrase, Parts, none, part}
+use Rattle.elan_scope.specs.Ruled.{Fault, Ruled, gives, breaks, ◌>>=◌, before}
+use Rattle.elan_scope.specs.declared.known.Known.{Known}
 use Rattle.elan_rules.specs.Rules.{rule}
 
 -- the phrases in text order, parts before what they are parts of

@@ -4,50 +4,23 @@ use Rattle.elan_types.specs.declared.elan_type.ElanType.TheVariants.{Int, Bool a
 use Rattle.elan_types.specs.declared.core_phrase.ValuePhrase.{ValuePhrase}
 use Rattle.elan_types.specs.declared.core_phrase.ValuePhrase.TheVariants as value
 use Rattle.elan_types.specs.declared.why.Why.TheVariants.{WrongType}
-use Rattle.eu_base.specs.Operations.{in_range}
-use Rattle.elan_rules.specs.declared.meant.Meant.{Meant}
-use Rattle.elan_rules.specs.declared.meant.Meant.TheVariants.{Absent, Value, Done, Left, Labels, Branches, Arms, Counter, Bodies, Level}
-use Rattle.elan_rules.specs.Scope.{find, find_own, left, first_heading, is_alike, types_of}
-use Rattle.elan_rules.specs.Predefined.{becomes, delivers}
-use Rattle.elan_rules.specs.declared.known.Known.{Known}
-use Rattle.elan_rules.specs.Parts.{unasked, value_of, valued, unit_of, actions_of, one_of, two_of, three_of, four_of, on_one, on_two, on_three, on_four}
-use Rattle.elan_rules.specs.declared.scope.Scope.{Scope}
-use Rattle.elan_rules.specs.declared.heading.Sort.TheVariants.{Operator}
-use Rattle.elan_rules.specs.declared.heading.Heading.{Heading}
-use Rattle.elan_rules.specs.Calls.{named, applied, takes, called, declared, headed, leaving}
-use Rattle.elan_rules.specs.Units.{assigned, initial, in_order, alone, without_value, body, body_with, content_of, bodies_of}
-use Rattle.elan_rules.specs.Choices.{guarded, branches_of, choice, label_is, label_named, labels_of, labelled, arms_of, selected}
-use Rattle.elan_rules.specs.Loops.{counted, loop}
-use Rattle.elan_rules.specs.Phrase as form
-use Rattle.elan_rules.specs.Phrase.{Form}
-use Rattle.elan_rules.specs.Ruled.{Ruled, gives, breaks, ◌>>=◌}
-
--- ---- values
-
--- No text has a number of more than 16 bits.
-abbrev pub number : ℕ → ℤ → Ruled Meant
-number at n = if in_range n then gives (valued at Int (value.Number n)) else unasked
-
-abbrev pub bracketed : ℕ → Meant → Ruled Meant
-bracketed at (Value p t v x) = gives (valued at t v)
-bracketed at (Done as') = gives (Done as')
-bracketed at (Left as') = gives (Left as')
-bracketed at m = unasked
-
-abbrev pub are_truths : Meant → Meant → Bool
-are_truths l r = delivers Truths l && delivers Truths r
-
-abbrev pub cand_of : ℕ → ValuePhrase → ValuePhrase → Meant
-cand_of at v w = valued at Truths (value.Cand v w)
-
-abbrev pub cor_of : ℕ → ValuePhrase → ValuePhrase → Meant
-cor_of at v w = valued at Truths (value.Cor v w)
-
-abbrev pub cand : ℕ → Meant → Meant → Ruled Meant
-cand at l r = if are_truths l r then gives (cand_of at (value_of l) (value_of r)) else breaks (at, WrongType)
-
-abbrev pub cor : ℕ → Meant → Meant → Ruled Meant
-cor at l r = if are_truths l r then gives (cor_of at (value_of l) (value_of r)) else breaks (at, WrongType)
+pub use Rattle.value_rules.specs.Values.{number, bracketed, are_truths, cand_of, cor_of, cand, cor}
+use Rattle.elan_meant.specs.declared.meant.Meant.{Meant}
+use Rattle.elan_meant.specs.declared.meant.Meant.TheVariants.{Absent, Value, Done, Left, Labels, Branches, Arms, Counter, Bodies, Level}
+use Rattle.elan_scope.specs.Scope.{find, find_own, left, first_heading, is_alike, types_of}
+use Rattle.elan_meant.specs.Predefined.{becomes, delivers}
+use Rattle.elan_scope.specs.declared.known.Known.{Known}
+use Rattle.elan_meant.specs.Parts.{unasked, value_of, valued, unit_of, actions_of, one_of, two_of, three_of, four_of, on_one, on_two, on_three, on_four}
+use Rattle.elan_scope.specs.declared.scope.Scope.{Scope}
+use Rattle.elan_scope.specs.declared.heading.Sort.TheVariants.{Operator}
+use Rattle.elan_scope.specs.declared.heading.Heading.{Heading}
+use Rattle.value_rules.specs.Calls.{named, applied, takes, called, declared, headed, leaving}
+use Rattle.unit_rules.specs.Units.{assigned, initial, in_order, alone, without_value, body, body_with, content_of, bodies_of}
+use Rattle.choice_rules.specs.Choices.{guarded, branches_of, choice, label_is, label_named, labels_of, labelled, arms_of, selected}
+use Rattle.unit_rules.specs.Loops.{counted, loop}
+use Rattle.elan_scope.specs.Phrase as form
+use Rattle.elan_scope.specs.Phrase.{Form}
+use Rattle.elan_scope.specs.Ruled.{Ruled, gives, breaks, ◌>>=◌}
 
 -- ---- assignments
 

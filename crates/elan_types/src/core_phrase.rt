@@ -188,3 +188,25 @@ pub struct Arm {
     /// What they choose.
     pub units: List<Action>,
 }
+
+// A crate above that lets a phrase go by these calls proves nothing of how its parts are let go.
+
+impl ValuePhrase {
+    /// Lets it go, with all its parts.
+    pub fn let_go(self) {}
+}
+
+impl Action {
+    /// Lets actions go, with all their parts.
+    pub fn all_let_go(_actions: List<Action>) {}
+}
+
+impl Scope {
+    /// Lets it go, with its lists.
+    pub fn let_go(self) {}
+}
+
+impl Body {
+    /// Lets bodies go, with all their parts.
+    pub fn all_let_go(_bodies: List<Body>) {}
+}

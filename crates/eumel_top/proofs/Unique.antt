@@ -10,7 +10,7 @@ use Rattle.elan_types.specs.declared.core_phrase.Core.{Core}
 use Rattle.elan_types.specs.declared.why.Why.{Why}
 use Rattle.elan_types.specs.Command.{Ending}
 use Rattle.elan_check.specs.Text as tree
-use Rattle.elan_rules.specs.Ruled.{Fault}
+use Rattle.elan_scope.specs.Ruled.{Fault}
 use Rattle.eumel_top.specs.declared.refusal.Refusal.{Refusal}
 use Rattle.eumel_top.specs.declared.refusal.Refusal.TheVariants.{NoMeaning}
 use Rattle.eumel_top.specs.Screen.{Written}

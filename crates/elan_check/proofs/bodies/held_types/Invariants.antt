@@ -1,5 +1,5 @@
 use Rattle.std.proofs.Common.{◌≡◌, ◌++◌, drop}
-use Rattle.elan_rules.specs.Scope.{types_of, all_held}
+use Rattle.elan_scope.specs.Scope.{types_of, all_held}
 use Rattle.elan_check.proofs.bodies.held_types.Given as goal
 
 abbrev pub invariant-loop-entry : goal.invariant-loop-entry

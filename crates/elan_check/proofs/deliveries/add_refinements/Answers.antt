@@ -1,6 +1,6 @@
 use Rattle.std.proofs.Common.{List, true, map, ap, ◌∙◌}
 use Rattle.elan_tree.specs.declared.phrase.Unit.{Unit as Statement}
-use Rattle.elan_rules.specs.declared.scope.Scope.{Scope}
+use Rattle.elan_scope.specs.declared.scope.Scope.{Scope}
 use Rattle.elan_check.specs.Shape as shape
 use Rattle.elan_check.specs.Level.{refinement_scope}
 use Rattle.elan_check.specs.Refinements.{more_known}

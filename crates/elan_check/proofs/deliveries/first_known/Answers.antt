@@ -1,5 +1,5 @@
 use Rattle.std.proofs.Common.{refl, ap, ◌∙◌}
-use Rattle.elan_rules.specs.declared.scope.Scope.{Scope}
+use Rattle.elan_scope.specs.declared.scope.Scope.{Scope}
 use Rattle.elan_check.specs.Refinements.{told_by}
 use Rattle.elan_check.proofs.Steps.{first_is}
 use Rattle.elan_check.proofs.deliveries.first_known.Goals as goal

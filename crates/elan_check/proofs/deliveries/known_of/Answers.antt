@@ -1,6 +1,6 @@
 use Rattle.std.proofs.Common.{◌≡◌, ◌≤◌, length, true, refl, sym, arith, ap, ◌∙◌}
 use Rattle.std.proofs.lemmas.Slice.Eq.{slice_eq-Decides}
-use Rattle.elan_rules.specs.declared.scope.Scope.{Scope}
+use Rattle.elan_scope.specs.declared.scope.Scope.{Scope}
 use Rattle.elan_check.specs.Bodies.{headings}
 use Rattle.elan_check.proofs.Same.{delivery_Decides}
 use Rattle.elan_check.proofs.Steps.{found_all, found_next}

@@ -1,7 +1,7 @@
 use Rattle.std.proofs.Common.{List, ℕ, [], ap, ◌∙◌}
 use Rattle.elan_tree.specs.declared.tree.Refinement.{Refinement}
 use Rattle.elan_tree.specs.declared.tree.LevelUnit.{LevelUnit}
-use Rattle.elan_rules.specs.declared.delivery.Delivery.{Delivery}
+use Rattle.elan_scope.specs.declared.delivery.Delivery.{Delivery}
 use Rattle.elan_check.specs.Level.{all_unit_bodies, all_refined_units, bodies_of_units}
 use Rattle.elan_check.specs.Refinements.{all_known}
 use Rattle.elan_check.proofs.Steps.{known_with, level_found}

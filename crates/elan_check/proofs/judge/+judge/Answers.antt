@@ -1,10 +1,10 @@
 use Rattle.std.proofs.Common.{rules, arith, ℕ, ◌≡◌, ◌++◌, ◌∙◌, List, [], map, take, true, false, Some, refl, ap, subst}
 use Rattle.elan_tree.specs.declared.phrase.Expr.TheViews.{size-Expr, size-Unit, size_is-Branch, sized-Select, sized-Loop, weight-Expr-If-2}
-use Rattle.elan_rules.specs.Answer.{Is}
+use Rattle.elan_scope.specs.Answer.{Is}
 use Rattle.elan_rules.specs.Meaning.{judged, judged_all}
-use Rattle.elan_rules.specs.declared.meant.Usage.TheVariants.{Counter as Counts}
-use Rattle.elan_rules.specs.Phrase as form
-use Rattle.elan_rules.specs.Phrase.{leaf, phrase, all_of, part, none}
+use Rattle.elan_scope.specs.declared.scope.Usage.TheVariants.{Counter as Counts}
+use Rattle.elan_scope.specs.Phrase as form
+use Rattle.elan_scope.specs.Phrase.{leaf, phrase, all_of, part, none}
 use Rattle.elan_check.specs.Shape as shape
 use Rattle.elan_check.proofs.Rows.{all_numbers, row_goes, roles_goes, roles_end, cases_go, numbers_go, whole_ends, whole_is}
 use Rattle.elan_check.proofs.Shapes.{units_of, units_absent, units_written, branches_of, arms_of, choice_is, selection_is, cand_is, cor_is, loop_is, branch_is, case_is, counter_is, item_is, variables_is, constants_is}

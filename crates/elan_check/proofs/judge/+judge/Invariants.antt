@@ -1,7 +1,7 @@
 use Rattle.std.proofs.Common.{◌≡◌, [], map, take}
-use Rattle.elan_rules.specs.Answer.{Is}
+use Rattle.elan_scope.specs.Answer.{Is}
 use Rattle.elan_rules.specs.Meaning.{judged_all}
-use Rattle.elan_rules.specs.Phrase.{all_of}
+use Rattle.elan_scope.specs.Phrase.{all_of}
 use Rattle.elan_check.specs.Shape.{expr, unit, branch, case, item, roles, arm_phrases}
 use Rattle.elan_check.proofs.Rows.{all_numbers}
 use Rattle.elan_check.proofs.judge.+judge.Given as goal

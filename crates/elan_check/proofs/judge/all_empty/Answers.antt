@@ -1,6 +1,6 @@
 use Rattle.std.proofs.Common.{sym, map, ◌∙◌}
 use Rattle.std.proofs.lemmas.List.{at_drop_all}
-use Rattle.elan_rules.specs.Phrase.{all_empty}
+use Rattle.elan_scope.specs.Phrase.{all_empty}
 use Rattle.elan_check.specs.Shape.{unit}
 use Rattle.elan_check.proofs.Rows.{stops, goes_on}
 use Rattle.elan_check.proofs.judge.all_empty.Goals as goal

@@ -1,5 +1,5 @@
 use Rattle.std.proofs.Common.{Bool, ◌&&◌, map, sym, ap, ◌∙◌}
-use Rattle.elan_rules.specs.Phrase.{all_empty}
+use Rattle.elan_scope.specs.Phrase.{all_empty}
 use Rattle.elan_check.specs.Shape.{unit}
 use Rattle.elan_check.proofs.judge.is_last.Goals as goal
 

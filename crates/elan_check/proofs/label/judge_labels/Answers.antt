@@ -1,11 +1,11 @@
 use Rattle.std.proofs.Common.{[], ◌∷◌, List, ℤ, ap, ◌∙◌}
 use Rattle.std.proofs.lemmas.List.{at_drop_all}
-use Rattle.elan_rules.specs.declared.meant.Meant.{Meant}
-use Rattle.elan_rules.specs.declared.meant.Meant.TheVariants.{Labels}
-use Rattle.elan_rules.specs.Phrase as form
-use Rattle.elan_rules.specs.Phrase.{all_of}
+use Rattle.elan_meant.specs.declared.meant.Meant.{Meant}
+use Rattle.elan_meant.specs.declared.meant.Meant.TheVariants.{Labels}
+use Rattle.elan_scope.specs.Phrase as form
+use Rattle.elan_scope.specs.Phrase.{all_of}
 use Rattle.elan_rules.specs.Meaning.{judged_all}
-use Rattle.elan_rules.specs.Ruled.{Ruled, gives, ◌>>=◌}
+use Rattle.elan_scope.specs.Ruled.{Ruled, gives, ◌>>=◌}
 use Rattle.elan_rules.specs.Rules.{rule}
 use Rattle.elan_check.specs.Shape.{label_phrases}
 use Rattle.elan_check.proofs.Rows.{list_done, labels_single}

@@ -1,7 +1,7 @@
 use Rattle.std.proofs.Common.{◌≡◌, ◌∷◌, [], map, drop}
-use Rattle.elan_rules.specs.declared.meant.Meant.TheVariants.{Labels}
+use Rattle.elan_meant.specs.declared.meant.Meant.TheVariants.{Labels}
 use Rattle.elan_rules.specs.Meaning.{judged_all}
-use Rattle.elan_rules.specs.Phrase.{all_of}
+use Rattle.elan_scope.specs.Phrase.{all_of}
 use Rattle.elan_check.specs.Shape.{label_phrases}
 use Rattle.elan_check.proofs.Rows.{prefixed}
 use Rattle.elan_check.proofs.label.judge_labels.Given as goal

@@ -1,11 +1,11 @@
 use Rattle.std.proofs.Common.{List, ap, subst, ◌∙◌}
 use Rattle.elan_types.specs.declared.core_phrase.Core.{Core}
-use Rattle.elan_rules.specs.declared.scope.Entry.{Entry}
-use Rattle.elan_rules.specs.declared.scope.Scope.{Scope}
-use Rattle.elan_rules.specs.declared.trouble.Trouble.{Trouble}
-use Rattle.elan_rules.specs.Scope.{types_of, all_held}
-use Rattle.elan_rules.specs.Phrase.{all_of}
-use Rattle.elan_rules.specs.Answer.{Fails}
+use Rattle.elan_scope.specs.declared.scope.Entry.{Entry}
+use Rattle.elan_scope.specs.declared.scope.Scope.{Scope}
+use Rattle.elan_scope.specs.declared.trouble.Trouble.{Trouble}
+use Rattle.elan_scope.specs.Scope.{types_of, all_held}
+use Rattle.elan_scope.specs.Phrase.{all_of}
+use Rattle.elan_scope.specs.Answer.{Fails}
 use Rattle.elan_rules.specs.Meaning.{judged_all}
 use Rattle.elan_check.specs.Level.{level_parts}
 use Rattle.elan_check.proofs.Cores.{core_is, none_hangs}

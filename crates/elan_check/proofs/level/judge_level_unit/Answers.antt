@@ -1,7 +1,7 @@
 use Rattle.std.proofs.Common.{[], sym, subst}
 use Rattle.elan_tree.specs.declared.tree.LevelUnit.{LevelUnit}
-use Rattle.elan_rules.specs.declared.heading.Sort.TheVariants.{Operator}
-use Rattle.elan_rules.specs.Answer.{Is}
+use Rattle.elan_scope.specs.declared.heading.Sort.TheVariants.{Operator}
+use Rattle.elan_scope.specs.Answer.{Is}
 use Rattle.elan_rules.specs.Meaning.{judged}
 use Rattle.elan_check.specs.Operators.{operator_text}
 use Rattle.elan_check.specs.Level.{procedure_name, level_unit}

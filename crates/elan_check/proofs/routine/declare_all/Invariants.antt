@@ -1,8 +1,8 @@
 use Rattle.std.proofs.Common.{◌++◌, List, drop}
-use Rattle.elan_rules.specs.declared.known.Known.{Known}
-use Rattle.elan_rules.specs.Phrase.{Phrase, all_of}
+use Rattle.elan_scope.specs.declared.known.Known.{Known}
+use Rattle.elan_scope.specs.Phrase.{Phrase, all_of}
 use Rattle.elan_rules.specs.Meaning.{judged_all}
-use Rattle.elan_rules.specs.Answer.{Is}
+use Rattle.elan_scope.specs.Answer.{Is}
 use Rattle.elan_check.specs.Level.{declare_all}
 use Rattle.elan_check.proofs.Routines.{Grown}
 use Rattle.elan_check.proofs.routine.declare_all.Given as goal

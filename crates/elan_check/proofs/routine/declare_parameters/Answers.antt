@@ -1,7 +1,7 @@
 use Rattle.std.proofs.Common.{List, ◌++◌, subst}
 use Rattle.elan_tree.specs.declared.written_type.Name.{Name}
-use Rattle.elan_rules.specs.Phrase.{all_of}
-use Rattle.elan_rules.specs.Answer.{Is}
+use Rattle.elan_scope.specs.Phrase.{all_of}
+use Rattle.elan_scope.specs.Answer.{Is}
 use Rattle.elan_rules.specs.Meaning.{judged_all}
 use Rattle.elan_check.specs.Level.{declare_all}
 use Rattle.elan_check.proofs.Routines.{formals_go}

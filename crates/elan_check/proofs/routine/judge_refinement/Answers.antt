@@ -1,9 +1,9 @@
 use Rattle.std.proofs.Common.{List, ℕ, true, map, subst}
 use Rattle.elan_types.specs.declared.core_phrase.Scope.{Scope as Owner}
 use Rattle.elan_tree.specs.declared.phrase.Unit.{Unit as Statement}
-use Rattle.elan_rules.specs.Phrase as form
-use Rattle.elan_rules.specs.Phrase.{leaf, part, none}
-use Rattle.elan_rules.specs.Answer.{Is}
+use Rattle.elan_scope.specs.Phrase as form
+use Rattle.elan_scope.specs.Phrase.{leaf, part, none}
+use Rattle.elan_scope.specs.Answer.{Is}
 use Rattle.elan_rules.specs.Rules.{rule}
 use Rattle.elan_rules.specs.Meaning.{judged}
 use Rattle.elan_check.specs.Shape as shape

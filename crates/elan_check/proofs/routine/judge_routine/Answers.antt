@@ -1,5 +1,5 @@
 use Rattle.std.proofs.Common.{◌++◌, ◌∷◌, []}
-use Rattle.elan_rules.specs.Phrase.{all_of}
+use Rattle.elan_scope.specs.Phrase.{all_of}
 use Rattle.elan_rules.specs.Meaning.{judged, judged_all}
 use Rattle.elan_check.specs.Bodies.{body_names}
 use Rattle.elan_check.specs.Level as l

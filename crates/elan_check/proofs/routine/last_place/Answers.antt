@@ -1,6 +1,6 @@
 use Rattle.std.proofs.Common.{◌≡◌, true, false, map, sym, ◌∙◌}
 use Rattle.std.proofs.lemmas.List.{at_drop_all}
-use Rattle.elan_rules.specs.Phrase.{is_empty, last_place}
+use Rattle.elan_scope.specs.Phrase.{is_empty, last_place}
 use Rattle.elan_check.specs.Shape as shape
 use Rattle.elan_check.proofs.Lasts.{place_goes}
 use Rattle.elan_check.proofs.routine.last_place.Goals as goal

@@ -1,6 +1,6 @@
 use Rattle.std.proofs.Common.{◌≡◌, map, drop}
-use Rattle.elan_rules.specs.declared.scope.Scope.{Scope}
-use Rattle.elan_rules.specs.Phrase.{last_place}
+use Rattle.elan_scope.specs.declared.scope.Scope.{Scope}
+use Rattle.elan_scope.specs.Phrase.{last_place}
 use Rattle.elan_check.specs.Shape.{unit}
 use Rattle.elan_check.proofs.routine.last_place.Given as goal
 

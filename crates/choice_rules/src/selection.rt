@@ -1,0 +1,237 @@
+//! SELECT: labels, and parts that deliver the same.
+
+ghost use Rattle.std.specs.Prelude.{◌≡◌, ◌∷◌, [], IfOk, Some};
+ghost use Rattle.elan_meant.specs.declared.meant.Meant.TheVariants as means;
+ghost use Rattle.choice_rules.specs.Choices as spec;
+ghost use Rattle.elan_scope.specs.Answer.{Is, Gives};
+
+use crate::parts::{delivery_in, joined, part_actions, part_value};
+use elan_meant::meant::{Labelled, Meant, Part};
+use elan_meant::operands::delivers;
+use elan_meant::part::{one, part_of, value_of, valued};
+use elan_meant::predefined::exists;
+use elan_meant::row::{Judged, appended, both, pushed};
+use elan_scope::delivery::Delivery;
+use elan_scope::scope::Found;
+use elan_scope::trouble::Trouble;
+use elan_types::{Action, Arm, ElanType, ValueArm, ValuePhrase, Why};
+use eu_base::{Boxed, List, NoMemory};
+use std::alloc::Global;
+
+fn is_in(labels: &[i16], number: i16) -> bool
+    ensures { result ≡ spec.is_in labels.now number }
+{
+    for label in labels {
+        if *label == number {
+            return true;
+        }
+    }
+    false
+}
+
+/// A label after others.
+pub fn label_is(at: u32, earlier: &[i16], number: i16) -> Result<i16, Trouble>
+    ensures { Gives (λ n. means.Labels (n ∷ [])) result (spec.label_is at earlier.now number) }
+{
+    if is_in(earlier, number) {
+        Err(Trouble::Breaks(at, Why::Doubled))
+    } else {
+        Ok(number)
+    }
+}
+
+/// An identifier as a label, and the declaration that it denotes.
+pub fn label_named(at: u32, name: &[u8], found: Option<Found>) -> Result<i16, Trouble>
+    ensures { Gives (λ n. means.Labels (n ∷ [])) result (spec.label_named at name.now found) }
+{
+    match found {
+        Some(_) => Err(Trouble::Breaks(at, Why::WrongType)),
+        None => {
+            if exists(name, 0) {
+                Err(Trouble::Breaks(at, Why::WrongType))
+            } else {
+                Err(Trouble::Breaks(at, Why::Unknown))
+            }
+        }
+    }
+}
+
+fn labels_in(alloc: Global, meant: Meant) -> List<i16>
+    ensures { result ≡ spec.labels_in meant }
+{
+    match meant {
+        Meant::Labels(labels) => labels,
+        other => {
+            other.let_go();
+            List::new(alloc)
+        }
+    }
+}
+
+/// Labels, and the units that they choose.
+pub fn labelled(alloc: Global, labels: Meant, units: Meant) -> Judged
+    ensures { Is result (spec.labelled labels units) }
+{
+    let mut arms = List::new(alloc);
+    arms.push(Labelled {
+        labels: labels_in(alloc, labels),
+        part: part_of(alloc, units),
+    })?;
+    Ok(Meant::Arms(arms))
+}
+
+fn arms_in(alloc: Global, meant: Meant) -> List<Labelled>
+    ensures { result ≡ spec.arms_in meant }
+{
+    match meant {
+        Meant::Arms(arms) => arms,
+        other => {
+            other.let_go();
+            List::new(alloc)
+        }
+    }
+}
+
+/// The arms of parts, one after another.
+pub fn arms_of(alloc: Global, parts: List<Meant>) -> Result<List<Labelled>, NoMemory>
+    ensures { IfOk result (λ arms. arms ≡ spec.arms_of parts) }
+{
+    let mut arms = Ok(List::new(alloc));
+    for part in parts.into_vec() {
+        arms = appended(arms, arms_in(alloc, part));
+    }
+    arms
+}
+
+// What all parts deliver, if they agree.
+fn agreed(delivery: Delivery, arms: &[Labelled]) -> Option<Delivery>
+    ensures { result ≡ spec.agreed (Some delivery) arms.now }
+{
+    let mut agreed = Some(delivery);
+    for arm in arms {
+        agreed = match agreed {
+            None => None,
+            Some(delivery) => joined(delivery, delivery_in(&arm.part)),
+        };
+    }
+    agreed
+}
+
+fn action_arm(alloc: Global, arm: Labelled) -> Arm
+    ensures { result ≡ spec.action_arm arm }
+{
+    let Labelled { labels, part } = arm;
+    Arm {
+        labels,
+        units: part_actions(alloc, part),
+    }
+}
+
+fn value_arm(alloc: Global, of: ElanType, arm: Labelled) -> Result<ValueArm, NoMemory>
+    ensures { IfOk result (λ a. a ≡ spec.value_arm of arm) }
+{
+    let Labelled { labels, part } = arm;
+    let value = part_value(alloc, of, part)?;
+    Ok(ValueArm {
+        labels,
+        value: value.into_inner(),
+    })
+}
+
+fn action_arms(alloc: Global, arms: List<Labelled>) -> Result<List<Arm>, NoMemory>
+    ensures { IfOk result (λ list. list ≡ spec.action_arms arms) }
+{
+    let mut list = Ok(List::new(alloc));
+    for arm in arms.into_vec() {
+        list = pushed(list, Ok(action_arm(alloc, arm)));
+    }
+    list
+}
+
+fn value_arms(alloc: Global, of: ElanType, arms: List<Labelled>) -> Result<List<ValueArm>, NoMemory>
+    ensures { IfOk result (λ list. list ≡ spec.value_arms of arms) }
+{
+    let mut list = Ok(List::new(alloc));
+    for arm in arms.into_vec() {
+        list = pushed(list, value_arm(alloc, of, arm));
+    }
+    list
+}
+
+fn select_actions(
+    alloc: Global,
+    value: Boxed<ValuePhrase>,
+    arms: List<Labelled>,
+    otherwise: Part,
+) -> Result<List<Action>, NoMemory>
+    ensures { IfOk result (λ actions. actions ≡ spec.select_actions value arms otherwise) }
+{
+    let units = part_actions(alloc, otherwise);
+    let arms = action_arms(alloc, arms)?;
+    one(alloc, Action::Select(value.into_inner(), arms, units))
+}
+
+fn select_value(
+    alloc: Global,
+    of: ElanType,
+    value: Boxed<ValuePhrase>,
+    arms: List<Labelled>,
+    otherwise: Part,
+) -> Result<Boxed<ValuePhrase>, NoMemory>
+    ensures { IfOk result (λ v. v ≡ spec.select_value of value arms otherwise) }
+{
+    let arms = value_arms(alloc, of, arms);
+    let (arms, last) = both(arms, part_value(alloc, of, otherwise))?;
+    Boxed::new(alloc, ValuePhrase::Select(value, arms, last))
+}
+
+fn selected_by(
+    alloc: Global,
+    at: u32,
+    value: Boxed<ValuePhrase>,
+    arms: List<Labelled>,
+    otherwise: Part,
+) -> Judged
+    ensures { Is result (spec.selected_by at value arms otherwise) }
+{
+    match agreed(delivery_in(&otherwise), arms.as_slice()) {
+        None => {
+            value.into_inner().let_go();
+            otherwise.let_go();
+            Err(Trouble::Breaks(at, Why::WrongType))
+        }
+        Some(Delivery::Nothing) => {
+            let actions = select_actions(alloc, value, arms, otherwise)?;
+            Ok(Meant::Done(actions))
+        }
+        Some(Delivery::Open) => {
+            let actions = select_actions(alloc, value, arms, otherwise)?;
+            Ok(Meant::Left(actions))
+        }
+        Some(Delivery::Of(of)) => {
+            let value = select_value(alloc, of, value, arms, otherwise)?;
+            Ok(valued(at, of, value))
+        }
+    }
+}
+
+/// The value to choose by, arms, and the units of OTHERWISE.
+pub fn selected(alloc: Global, at: u32, value: Meant, arms: Meant, otherwise: Meant) -> Judged
+    ensures { Is result (spec.selected at value arms otherwise) }
+{
+    if delivers(ElanType::Int, &value) {
+        let arms = arms_in(alloc, arms);
+        match value_of(alloc, value) {
+            Err(_refusal) => {
+                otherwise.let_go();
+                Err(Trouble::NoMemory)
+            }
+            Ok(value) => selected_by(alloc, at, value, arms, part_of(alloc, otherwise)),
+        }
+    } else {
+        value.let_go();
+        arms.let_go();
+        otherwise.let_go();
+        Err(Trouble::Breaks(at, Why::WrongType))
+    }
+}

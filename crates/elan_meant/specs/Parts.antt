@@ -1,0 +1,118 @@
+-- What the parts of a phrase deliver, where they have meaning.
+use Rattle.std.specs.Prelude.{ℕ, pos, Bool, true, false, List, [], ◌∷◌, ◌++◌, Option, Some, None}
+use Rattle.elan_types.specs.declared.elan_type.ElanType.{ElanType}
+use Rattle.elan_types.specs.declared.elan_type.ElanType.TheVariants.{Int, Bool as Truths}
+use Rattle.elan_types.specs.declared.core_phrase.PlacePhrase.{PlacePhrase}
+use Rattle.elan_types.specs.declared.core_phrase.ValuePhrase.{ValuePhrase}
+use Rattle.elan_types.specs.declared.core_phrase.ValuePhrase.TheVariants as value
+use Rattle.elan_types.specs.declared.core_phrase.Action.{Action}
+use Rattle.elan_types.specs.declared.core_phrase.Action.TheVariants as action
+use Rattle.elan_types.specs.declared.why.Why.TheVariants.{Unknown}
+use Rattle.elan_meant.specs.declared.meant.Part.{Part}
+use Rattle.elan_meant.specs.declared.meant.Part.TheVariants as part
+use Rattle.elan_meant.specs.declared.meant.Meant.{Meant}
+use Rattle.elan_meant.specs.declared.meant.Meant.TheVariants.{Absent, Value, Done, Left}
+use Rattle.elan_meant.specs.Operands.{delivers}
+use Rattle.elan_scope.specs.Ruled.{Ruled, breaks}
+
+-- what no text asks for
+abbrev pub unasked : {A : Type 0} → Ruled A
+unasked = breaks (0, Unknown)
+
+-- ---- what parts deliver
+
+abbrev pub value_of : Meant → ValuePhrase
+value_of (Value at t v x) = v
+value_of _ = value.Truth false
+
+abbrev pub variable_of : Meant → Option PlacePhrase
+variable_of (Value at t v x) = x
+variable_of _ = None
+
+abbrev pub type_in : Meant → Option ElanType
+type_in (Value at t v x) = Some t
+type_in _ = None
+
+abbrev pub place_of : Meant → ℕ
+place_of (Value at t v x) = at
+place_of _ = 0
+
+abbrev pub actions : Meant → List Action
+actions (Done as') = as'
+actions (Left as') = as'
+actions _ = []
+
+-- a part that is not written, or delivers this type
+abbrev pub may_deliver : ElanType → Meant → Bool
+may_deliver t Absent = true
+may_deliver t m = delivers t m
+
+abbrev pub written : Meant → Option ValuePhrase
+written (Value at t v x) = Some v
+written _ = None
+
+-- a value that is no variable
+abbrev pub valued : ℕ → ElanType → ValuePhrase → Meant
+valued at t v = Value at t v None
+
+-- a unit that delivers nothing
+abbrev pub unit_of : List Action → Meant
+unit_of as' = Done (action.Unit as' ∷ [])
+
+abbrev pub values_of : List Meant → List ValuePhrase
+values_of [] = []
+values_of (m ∷ ms) = value_of m ∷ values_of ms
+
+-- what phrases do that deliver nothing, one after another
+abbrev pub actions_of : List Meant → List Action
+actions_of [] = []
+actions_of (m ∷ ms) = actions m ++ actions_of ms
+
+-- any value of a type; it stands behind a LEAVE, where it is never reached
+abbrev pub blank : ElanType → ValuePhrase
+blank Int = value.Number (pos 0)
+blank Truths = value.Truth false
+
+-- a list of units as a part of IF or SELECT
+abbrev pub part_of : Meant → Part
+part_of (Value at t v x) = part.Value t v
+part_of (Left as') = part.Left as'
+part_of m = part.Done (actions m)
+
+-- behind a LEAVE any value of the type that is asked for
+abbrev pub unreached : List Action → ElanType → ValuePhrase
+unreached as' t = value.After as' (blank t)
+
+-- ---- so many parts
+
+abbrev pub one_of : {A : Type 0} → List A → Option A
+one_of (x ∷ []) = Some x
+one_of _ = None
+
+abbrev pub two_of : {A : Type 0} → List A → Option (A × A)
+two_of (x ∷ y ∷ []) = Some (x, y)
+two_of _ = None
+
+abbrev pub three_of : {A : Type 0} → List A → Option (A × A × A)
+three_of (x ∷ y ∷ z ∷ []) = Some (x, y, z)
+three_of _ = None
+
+abbrev pub four_of : {A : Type 0} → List A → Option (A × A × A × A)
+four_of (w ∷ x ∷ y ∷ z ∷ []) = Some (w, x, y, z)
+four_of _ = None
+
+abbrev pub on_one : Option Meant → (Meant → Ruled Meant) → Ruled Meant
+on_one None f = unasked
+on_one (Some m) f = f m
+
+abbrev pub on_two : Option (Meant × Meant) → (Meant → Meant → Ruled Meant) → Ruled Meant
+on_two None f = unasked
+on_two (Some p) f = f p.0 p.1
+
+abbrev pub on_three : Option (Meant × Meant × Meant) → (Meant → Meant → Meant → Ruled Meant) → Ruled Meant
+on_three None f = unasked
+on_three (Some p) f = f p.0 p.1 p.2
+
+abbrev pub on_four : Option (Meant × Meant × Meant × Meant) → (Meant → Meant → Meant → Meant → Ruled Meant) → Ruled Meant
+on_four None f = unasked
+on_four (Some p) f = f p.0 p.1 p.2 p.3

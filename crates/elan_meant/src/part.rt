@@ -1,0 +1,224 @@
+//! What parts deliver.
+
+ghost use Rattle.std.specs.Prelude.{◌≡◌, IfOk, [], ◌∷◌};
+ghost use Rattle.elan_meant.specs.Parts as spec;
+ghost use Rattle.elan_scope.specs.Ruled.{gives};
+ghost use Rattle.elan_scope.specs.Answer.{Is};
+
+use crate::meant::{Meant, Part};
+use crate::operands::delivers;
+use crate::row::Judged;
+use elan_types::{Action, ElanType, PlacePhrase, ValuePhrase};
+use eu_base::{Boxed, List, NoMemory};
+use std::alloc::Global;
+
+/// The value of a part that delivers one.
+pub fn value_of(alloc: Global, meant: Meant) -> Result<Boxed<ValuePhrase>, NoMemory>
+    ensures { IfOk result (λ value. value ≡ spec.value_of meant) }
+{
+    match meant {
+        Meant::Value {
+            at: _at,
+            of: _of,
+            value,
+            variable: _variable,
+        } => Ok(value),
+        other => {
+            other.let_go();
+            Boxed::new(alloc, ValuePhrase::Truth(false))
+        }
+    }
+}
+
+/// The same without a box.
+pub fn value_in(meant: Meant) -> ValuePhrase
+    ensures { result ≡ spec.value_of meant }
+{
+    match meant {
+        Meant::Value {
+            at: _at,
+            of: _of,
+            value,
+            variable: _variable,
+        } => value.into_inner(),
+        other => {
+            other.let_go();
+            ValuePhrase::Truth(false)
+        }
+    }
+}
+
+/// The variable that a part is, if it is one.
+pub fn variable_of(meant: Meant) -> Option<PlacePhrase>
+    ensures { result ≡ spec.variable_of meant }
+{
+    match meant {
+        Meant::Value {
+            at: _at,
+            of: _of,
+            value: _value,
+            variable,
+        } => variable,
+        other => {
+            other.let_go();
+            None
+        }
+    }
+}
+
+/// The type that a part delivers, if it delivers a value.
+pub fn type_in(meant: &Meant) -> Option<ElanType>
+    ensures { result ≡ spec.type_in meant.now }
+{
+    match meant {
+        Meant::Value { of, .. } => Some(*of),
+        _ => None,
+    }
+}
+
+/// The place of a part that delivers a value.
+pub fn place_of(meant: &Meant) -> u32
+    ensures { result ≡ spec.place_of meant.now }
+{
+    match meant {
+        Meant::Value { at, .. } => *at,
+        _ => 0,
+    }
+}
+
+/// The actions of a part that delivers nothing.
+pub fn actions(alloc: Global, meant: Meant) -> List<Action>
+    ensures { result ≡ spec.actions meant }
+{
+    match meant {
+        Meant::Done(actions) => actions,
+        Meant::Left(actions) => actions,
+        other => {
+            other.let_go();
+            List::new(alloc)
+        }
+    }
+}
+
+/// A list of units as a part of IF or SELECT.
+pub fn part_of(alloc: Global, meant: Meant) -> Part
+    ensures { result ≡ spec.part_of meant }
+{
+    match meant {
+        Meant::Value {
+            at: _at,
+            of,
+            value,
+            variable: _variable,
+        } => Part::Value(of, value),
+        Meant::Done(actions) => Part::Done(actions),
+        Meant::Left(actions) => Part::Left(actions),
+        other => {
+            other.let_go();
+            Part::Done(List::new(alloc))
+        }
+    }
+}
+
+/// Whether a part is not written, or delivers this type.
+pub fn may_deliver(of: ElanType, meant: &Meant) -> bool
+    ensures { result ≡ spec.may_deliver of meant.now }
+{
+    match meant {
+        Meant::Absent => true,
+        _ => delivers(of, meant),
+    }
+}
+
+/// The value of a part, if it is written.
+pub fn written(meant: Meant) -> Option<Boxed<ValuePhrase>>
+    ensures { result ≡ spec.written meant }
+{
+    match meant {
+        Meant::Value {
+            at: _at,
+            of: _of,
+            value,
+            variable: _variable,
+        } => Some(value),
+        other => {
+            other.let_go();
+            None
+        }
+    }
+}
+
+/// A phrase that delivers this value, and is no variable.
+pub fn valued(at: u32, of: ElanType, value: Boxed<ValuePhrase>) -> Meant
+    ensures { result ≡ spec.valued at of value }
+{
+    Meant::Value {
+        at,
+        of,
+        value,
+        variable: None,
+    }
+}
+
+/// The same of a value that has no box yet.
+pub fn delivering(alloc: Global, at: u32, of: ElanType, value: ValuePhrase) -> Judged
+    ensures { Is result (gives (spec.valued at of value)) }
+{
+    let value = Boxed::new(alloc, value)?;
+    Ok(valued(at, of, value))
+}
+
+/// One action.
+pub fn one(alloc: Global, action: Action) -> Result<List<Action>, NoMemory>
+    ensures { IfOk result (λ actions. actions ≡ action ∷ []) }
+{
+    let mut actions = List::new(alloc);
+    actions.push(action)?;
+    Ok(actions)
+}
+
+/// A unit that delivers nothing.
+pub fn unit_of(alloc: Global, actions: List<Action>) -> Judged
+    ensures { Is result (gives (spec.unit_of actions)) }
+{
+    let units = one(alloc, Action::Unit(actions))?;
+    Ok(Meant::Done(units))
+}
+
+/// A phrase that delivers nothing, and does this.
+pub fn done(alloc: Global, action: Action) -> Judged
+    ensures { Is result (gives (Meant.Done (action ∷ []))) }
+{
+    let actions = one(alloc, action)?;
+    Ok(Meant::Done(actions))
+}
+
+/// A unit that delivers nothing, and does this.
+pub fn unit_doing(alloc: Global, action: Action) -> Judged
+    ensures { Is result (gives (spec.unit_of (action ∷ []))) }
+{
+    let actions = one(alloc, action)?;
+    unit_of(alloc, actions)
+}
+
+/// Any value of a type; it stands behind a LEAVE, where it is never reached.
+pub fn blank(of: ElanType) -> ValuePhrase
+    ensures { result ≡ spec.blank of }
+{
+    match of {
+        ElanType::Int => ValuePhrase::Number(0),
+        ElanType::Bool => ValuePhrase::Truth(false),
+    }
+}
+
+/// Actions that end with a LEAVE, where a value of a type is asked for.
+pub fn unreached(
+    alloc: Global,
+    actions: List<Action>,
+    of: ElanType,
+) -> Result<Boxed<ValuePhrase>, NoMemory>
+    ensures { IfOk result (λ v. v ≡ spec.unreached actions of) }
+{
+    let value = Boxed::new(alloc, blank(of))?;
+    Boxed::new(alloc, ValuePhrase::After(actions, value))
+}

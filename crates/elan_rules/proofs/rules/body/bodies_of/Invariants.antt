@@ -1,6 +1,0 @@
-use Rattle.std.proofs.Common.{◌≡◌}
-use Rattle.elan_rules.specs.Units.{bodies_of}
-use Rattle.elan_rules.proofs.rules.body.bodies_of.Given as goal
-
-abbrev pub invariant-loop-part : goal.invariant-loop-part
-invariant-loop-part l = l.bodies ≡ bodies_of l.yielded

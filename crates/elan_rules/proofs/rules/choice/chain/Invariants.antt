@@ -1,9 +1,0 @@
-use Rattle.std.proofs.Common.{◌≡◌, length, Some}
-use Rattle.elan_rules.specs.Choices.{chain}
-use Rattle.elan_rules.proofs.rules.choice.chain.Given as goal
-
-abbrev pub invariant-loop-branch : goal.invariant-loop-branch
-invariant-loop-branch l = chain l.branches l.rest ≡ chain l.fn.branches (Some l.fn.otherwise)
-
-abbrev pub decreases-loop-branch : goal.decreases-loop-branch
-decreases-loop-branch l = length l.branches

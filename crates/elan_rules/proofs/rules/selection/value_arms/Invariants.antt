@@ -1,6 +1,0 @@
-use Rattle.std.proofs.Common.{◌≡◌}
-use Rattle.elan_rules.specs.Choices.{value_arms}
-use Rattle.elan_rules.proofs.rules.selection.value_arms.Given as goal
-
-abbrev pub invariant-loop-arm : goal.invariant-loop-arm
-invariant-loop-arm l = l.list ≡ value_arms l.of l.yielded

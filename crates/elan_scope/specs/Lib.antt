@@ -1,0 +1,5 @@
+pub mod Scope
+pub mod Phrase
+pub mod Ruled
+pub mod Known
+pub mod Answer

@@ -1,0 +1,130 @@
+-- Phrases: a form, and the parts that it is made of.
+use Rattle.std.specs.Prelude.{ℕ, ℤ, Bool, true, false, ◌&&◌, List, [], ◌∷◌, Option, if◌then◌else◌}
+use Rattle.eu_base.specs.declared.operation.Way.{Way}
+use Rattle.elan_types.specs.declared.elan_type.ElanType.{ElanType}
+use Rattle.elan_types.specs.declared.core_phrase.Parameter.{Parameter}
+use Rattle.elan_types.specs.declared.core_phrase.Scope.{Scope as Owner}
+use Rattle.elan_scope.specs.declared.heading.Sort.{Sort}
+use Rattle.elan_scope.specs.declared.scope.Scope.{Scope}
+use Rattle.elan_scope.specs.declared.scope.Usage.{Usage}
+
+-- The forms, each with its place where a fault may be placed at it; a form is also the role that a phrase plays in another.
+pub data Form : Type 0 where
+  -- a part that is not written
+  absent : Form
+  -- what is not built, which is refused before its meaning is asked for
+  not_built : Form
+  number : ℕ → ℤ → Form
+  truth : ℕ → Bool → Form
+  -- an identifier without actuals, as an expression or as the counter of a loop
+  named : Usage → ℕ → Scope → List ℕ → Form
+  -- an operator with its operands, or a procedure with its actuals
+  applied : ℕ → Scope → Sort → List ℕ → Form
+  bracket : ℕ → Form
+  cand : ℕ → Form
+  cor : ℕ → Form
+  -- a condition and units
+  branch : Form
+  branches : Form
+  -- branches, and the units of ELSE
+  choice : ℕ → Form
+  -- a label after these numbers
+  label : ℕ → List ℤ → ℤ → Form
+  label_name : ℕ → Scope → List ℕ → Form
+  labels : Form
+  -- labels and units
+  arm : Form
+  arms : Form
+  -- a value, arms, and the units of OTHERWISE
+  selection : ℕ → Form
+  -- a name in its declaration
+  declares : ℕ → Scope → List ℕ → Form
+  -- a name that is declared without an initial value, and with one
+  item : Form
+  initial : ℕ → Form
+  declaration : ℕ → Form
+  -- an expression that stands alone
+  statement : Form
+  assignment : ℕ → Scope → Form
+  -- a name, its first value, and its limit
+  counter : Way → Form
+  -- a counter, a condition, units, and a condition
+  loop : ℕ → Form
+  empty : Form
+  -- a LEAVE with the name of what it leaves, and the value of WITH
+  leave : ℕ → Scope → List ℕ → Form
+  -- a unit that may deliver nothing
+  without_value : Form
+  units : Form
+  -- the heading of a PROC or OP, and whether a value is missing because its body has no unit
+  heading : ℕ → Scope → Sort → List ℕ → List Parameter → Bool → Form
+  -- the units of a PROC or OP that delivers this, placed at the last of them
+  body : ℕ → Owner → Option ElanType → Form
+  -- a heading, the names of parameters, units, and refinements
+  routine : Form
+  -- a name in its declaration, and units
+  refinement : Owner → Form
+  -- the units of a text, and its refinements
+  level : Form
+
+mutual
+  pub data Phrase : Type 0 where
+    phrase : Form → Parts → Phrase
+
+  pub data Parts : Type 0 where
+    none : Parts
+    part : Phrase → Parts → Parts
+
+abbrev pub leaf : Form → Phrase
+leaf form = phrase form none
+
+abbrev pub around : Form → Phrase → Phrase
+around form p = phrase form (part p none)
+
+abbrev pub pair : Form → Phrase → Phrase → Phrase
+pair form p q = phrase form (part p (part q none))
+
+abbrev pub three : Form → Phrase → Phrase → Phrase → Phrase
+three form p q r = phrase form (part p (part q (part r none)))
+
+abbrev pub all_of : List Phrase → Parts
+all_of [] = none
+all_of (p ∷ ps) = part p (all_of ps)
+
+-- ---- the units of a list
+
+abbrev pub is_empty : Phrase → Bool
+is_empty (phrase empty ps) = true
+is_empty p = false
+
+abbrev pub all_empty : List Phrase → Bool
+all_empty [] = true
+all_empty (p ∷ ps) = is_empty p && all_empty ps
+
+-- the place of a unit; of expressions and what stands alone
+abbrev mutual
+  pub place : Phrase → ℕ
+  place (phrase (number at n) ps) = at
+  place (phrase (truth at b) ps) = at
+  place (phrase (named u at s x) ps) = at
+  place (phrase (applied at s sort x) ps) = at
+  place (phrase (bracket at) ps) = at
+  place (phrase (cand at) ps) = at
+  place (phrase (cor at) ps) = at
+  place (phrase (choice at) ps) = at
+  place (phrase (selection at) ps) = at
+  place (phrase (declaration at) ps) = at
+  place (phrase statement ps) = first_place ps
+  place (phrase (assignment at s) ps) = at
+  place (phrase (loop at) ps) = at
+  place (phrase (leave at s x) ps) = at
+  place p = 0
+
+  pub first_place : Parts → ℕ
+  first_place none = 0
+  first_place (part p ps) = place p
+
+-- the place of the last unit that is not empty, or this one
+abbrev pub last_place : ℕ → List Phrase → ℕ
+last_place at [] = at
+last_place at (p ∷ ps) = last_place (if is_empty p then at else place p) ps

@@ -1,0 +1,181 @@
+-- What names denote where a phrase stands.
+use Rattle.std.specs.Prelude.{ℕ, ◌+◌, Bool, true, false, ◌&&◌, ◌==◌, List, [], ◌∷◌, ◌++◌, length, Option, Some, None, if◌then◌else◌, slice_get}
+use Rattle.std.specs.Str.{bytes_eq}
+use Rattle.elan_types.specs.declared.elan_type.ElanType.{ElanType}
+use Rattle.elan_types.specs.declared.core_phrase.Parameter.{Parameter}
+use Rattle.elan_types.specs.declared.core_phrase.Exit.{Exit}
+use Rattle.elan_types.specs.declared.core_phrase.Exit.TheVariants as exits
+use Rattle.elan_types.specs.Typing.{same_type, held_const}
+use Rattle.elan_scope.specs.declared.scope.Denotes.{Denotes}
+use Rattle.elan_scope.specs.declared.scope.Denotes.TheVariants as denotes
+use Rattle.elan_scope.specs.declared.scope.Entry.{Entry}
+use Rattle.elan_scope.specs.declared.scope.Within.{Within}
+use Rattle.elan_scope.specs.declared.scope.Scope.{Scope}
+use Rattle.elan_scope.specs.declared.scope.Home.{Home}
+use Rattle.elan_scope.specs.declared.scope.Home.TheVariants.{Level as of_level, Routine as of_routine}
+use Rattle.elan_scope.specs.declared.scope.Found.{Found}
+use Rattle.elan_scope.specs.declared.heading.Sort.{Sort}
+use Rattle.elan_scope.specs.declared.heading.Sort.TheVariants.{Procedure, Operator}
+use Rattle.elan_scope.specs.declared.heading.What.{What}
+use Rattle.elan_scope.specs.declared.heading.What.TheVariants.{Routine, Refinement}
+use Rattle.elan_scope.specs.declared.heading.Heading.{Heading}
+
+-- the number of the PROC or OP
+abbrev pub number_of : Option Within → Option ℕ
+number_of None = None
+number_of (Some w) = Some w.number
+
+-- ---- variables, constants and parameters
+
+-- what is held under a name: a variable or constant, or what a parameter is given; PROCs and refinements hold nothing
+abbrev pub held : Denotes → List Parameter
+held (denotes.Variable t) = held_const t ∷ []
+held (denotes.Constant t) = held_const t ∷ []
+held (denotes.Parameter p) = p ∷ []
+held denotes.Procedure = []
+held denotes.Refinement = []
+
+abbrev pub all_held : List Entry → List Parameter
+all_held [] = []
+all_held (e ∷ es) = held e.denotes ++ all_held es
+
+abbrev pub types_of : List Parameter → List ElanType
+types_of [] = []
+types_of (p ∷ ps) = p.of ∷ types_of ps
+
+-- the types of the variables and constants of a level
+abbrev pub variables_of : List Entry → List ElanType
+variables_of es = types_of (all_held es)
+
+-- ---- identifiers without actuals
+
+-- the first declaration of a name, with the number of variables, constants and parameters before it
+abbrev pub first_from : ℕ → List Entry → List ℕ → Option (ℕ × Entry)
+first_from k [] x = None
+first_from k (e ∷ es) x = if bytes_eq e.name x then Some (k, e) else first_from (k + length (held e.denotes)) es x
+
+abbrev pub first_named : List Entry → List ℕ → Option (ℕ × Entry)
+first_named = first_from 0
+
+abbrev pub is_refinement : Denotes → Bool
+is_refinement denotes.Refinement = true
+is_refinement _ = false
+
+-- The refinements of a level are for its own units and refinements alone.
+abbrev pub from_inside : Option (ℕ × Entry) → Option (ℕ × Entry)
+from_inside None = None
+from_inside (Some f) = if is_refinement f.1.denotes then None else Some f
+
+abbrev pub found_in : Home → Option (ℕ × Entry) → Option Found
+found_in home None = None
+found_in home (Some f) = Some (record { home = home; number = f.0; at = f.1.at; denotes = f.1.denotes })
+
+abbrev pub or_else : {A : Type 0} → Option A → Option A → Option A
+or_else None other = other
+or_else (Some x) other = Some x
+
+-- The body is looked at first, and then the level.
+abbrev pub find_from : List Entry → Option Within → List ℕ → Option Found
+find_from level None x = found_in of_level (first_named level x)
+find_from level (Some w) x = or_else (found_in of_routine (first_named w.names x)) (found_in of_level (from_inside (first_named level x)))
+
+-- what a name denotes, without the predefined names
+abbrev pub find : Scope → List ℕ → Option Found
+find s x = find_from s.level s.routine x
+
+-- what a name denotes in the scope that declares it
+abbrev pub find_own_from : List Entry → Option Within → List ℕ → Option Found
+find_own_from level None x = found_in of_level (first_named level x)
+find_own_from level (Some w) x = found_in of_routine (first_named w.names x)
+
+abbrev pub find_own : Scope → List ℕ → Option Found
+find_own s x = find_own_from s.level s.routine x
+
+-- ---- bodies
+
+-- the first heading that passes a test, with its number
+abbrev pub first_heading_from : ℕ → (Heading → Bool) → List Heading → Option (ℕ × Heading)
+first_heading_from n test [] = None
+first_heading_from n test (h ∷ hs) = if test h then Some (n, h) else first_heading_from (n + 1) test hs
+
+abbrev pub first_heading : (Heading → Bool) → List Heading → Option (ℕ × Heading)
+first_heading = first_heading_from 0
+
+abbrev pub any_heading : (Heading → Bool) → List Heading → Bool
+any_heading test [] = false
+any_heading test (h ∷ hs) = if test h then true else any_heading test hs
+
+abbrev pub same_sort : Sort → Sort → Bool
+same_sort Procedure Procedure = true
+same_sort Operator Operator = true
+same_sort _ _ = false
+
+abbrev pub same_types : List ElanType → List ElanType → Bool
+same_types [] [] = true
+same_types (t ∷ ts) (u ∷ us) = same_type t u && same_types ts us
+same_types _ _ = false
+
+abbrev pub same_number : Option ℕ → Option ℕ → Bool
+same_number None None = true
+same_number (Some a) (Some b) = a == b
+same_number _ _ = false
+
+-- a PROC or OP whose parameters pass a test
+abbrev pub is_routine : Sort → (List Parameter → Bool) → What → Bool
+is_routine sort test (Routine other ps r) = same_sort sort other && test ps
+is_routine sort test (Refinement home) = false
+
+abbrev pub is_refinement_of : Option ℕ → What → Bool
+is_refinement_of home (Routine sort ps r) = false
+is_refinement_of home (Refinement other) = same_number home other
+
+-- a PROC or OP of that name and with these types of parameters
+abbrev pub is_alike : Sort → List ℕ → List ElanType → Heading → Bool
+is_alike sort x ts h = bytes_eq h.name x && is_routine sort (λ ps. same_types (types_of ps) ts) h.what
+
+-- a PROC or OP of that name and with that number of parameters
+abbrev pub has_as_many : Sort → List ℕ → ℕ → Heading → Bool
+has_as_many sort x n h = bytes_eq h.name x && is_routine sort (λ ps. length ps == n) h.what
+
+-- the refinement of that name, of the PROC or OP with this number, or of the level
+abbrev pub is_refined : Option ℕ → List ℕ → Heading → Bool
+is_refined home x h = bytes_eq h.name x && is_refinement_of home h.what
+
+abbrev pub number_in : Option (ℕ × Heading) → Option ℕ
+number_in None = None
+number_in (Some b) = Some b.0
+
+abbrev pub refinement_in : Scope → List ℕ → Option Found → Option ℕ
+refinement_in s x None = None
+refinement_in s x (Some f) =
+    if is_refinement f.denotes
+    then number_in (first_heading (is_refined (number_of s.routine) x) s.headings)
+    else None
+
+-- the number of the refinement that a name denotes, if it denotes one
+abbrev pub refinement_named : Scope → List ℕ → Option ℕ
+refinement_named s x = refinement_in s x (find s x)
+
+-- ---- what a LEAVE leaves
+
+abbrev pub is_named : List ℕ → Option Heading → Bool
+is_named x None = false
+is_named x (Some h) = bytes_eq h.name x
+
+-- the body with this number, where it has that name
+abbrev pub body_named : List Heading → Option ℕ → List ℕ → Option ℕ
+body_named hs None x = None
+body_named hs (Some n) x = if is_named x (slice_get hs n) then Some n else None
+
+abbrev pub left_by : Exit → Option ℕ → Option (Exit × ℕ)
+left_by e None = None
+left_by e (Some n) = Some (e, n)
+
+-- A PROC or OP is left from itself, or from a refinement of it.
+abbrev pub exit_from : Option ℕ → Exit
+exit_from None = exits.Body
+exit_from (Some n) = exits.Around
+
+-- the body that a LEAVE of that name leaves: the refinement in which it stands, or the PROC or OP
+abbrev pub left : Scope → List ℕ → Option (Exit × ℕ)
+left s x = or_else (left_by exits.Body (body_named s.headings s.refinement x)) (left_by (exit_from s.refinement) (body_named s.headings (number_of s.routine) x))

@@ -1,0 +1,149 @@
+//! The headings of bodies, and the look-up among them.
+
+ghost use Rattle.std.specs.Prelude.{◌≡◌, option_map};
+ghost use Rattle.elan_scope.specs.Scope as spec;
+
+use elan_types::{ElanType, Parameter};
+use eu_base::{Bytes, List};
+
+/// PROCs and OPs have names of their own.
+#[derive(Clone, Copy)]
+pub enum Sort {
+    Procedure,
+    Operator,
+}
+
+impl Sort {
+    /// Whether both are PROCs, or both OPs.
+    pub fn is_same(self, other: Sort) -> bool
+        ensures { result ≡ spec.same_sort self other }
+    {
+        match (self, other) {
+            (Sort::Procedure, Sort::Procedure) | (Sort::Operator, Sort::Operator) => true,
+            (Sort::Procedure, Sort::Operator) | (Sort::Operator, Sort::Procedure) => false,
+        }
+    }
+}
+
+/// What a body is.
+#[derive(Drop)]
+pub enum What {
+    /// A PROC or OP, with its parameters and the type that it delivers.
+    Routine(Sort, List<Parameter>, Option<ElanType>),
+    /// A refinement of the PROC or OP with this number, or of the level.
+    Refinement(Option<usize>),
+}
+
+/// The heading of a body: the place of its name, the name, and what it is.
+#[derive(Drop)]
+pub struct Heading {
+    pub at: u32,
+    pub name: Bytes,
+    pub what: What,
+}
+
+fn same_types(parameters: &[Parameter], others: &[Parameter]) -> bool
+    ensures { result ≡ spec.same_types (spec.types_of parameters.now) (spec.types_of others.now) }
+{
+    match (parameters, others) {
+        ([], []) => true,
+        ([parameter, parameters @ ..], [other, others @ ..]) => parameter.of.is_same(other.of)
+            && same_types(parameters, others),
+        ([], [_other, _others @ ..]) => false,
+        ([_parameter, _parameters @ ..], []) => false,
+    }
+}
+
+fn same_home(home: Option<usize>, other: Option<usize>) -> bool
+    ensures { result ≡ spec.same_number home other }
+{
+    match (home, other) {
+        (None, None) => true,
+        (Some(home), Some(other)) => home == other,
+        (None, Some(_)) | (Some(_), None) => false,
+    }
+}
+
+fn is_alike(heading: &Heading, sort: Sort, name: &[u8], parameters: &[Parameter]) -> bool
+    ensures { result ≡ spec.is_alike sort name.now (spec.types_of parameters.now) heading.now }
+{
+    heading.name.as_slice() == name
+        && match &heading.what {
+            What::Routine(other, own, _) => sort.is_same(*other)
+                && same_types(own.as_slice(), parameters),
+            What::Refinement(_) => false,
+        }
+}
+
+fn has_as_many(heading: &Heading, sort: Sort, name: &[u8], count: usize) -> bool
+    ensures { result ≡ spec.has_as_many sort name.now count heading.now }
+{
+    heading.name.as_slice() == name
+        && match &heading.what {
+            What::Routine(other, parameters, _) => sort.is_same(*other)
+                && parameters.len() == count,
+            What::Refinement(_) => false,
+        }
+}
+
+fn is_refined(heading: &Heading, home: Option<usize>, name: &[u8]) -> bool
+    ensures { result ≡ spec.is_refined home name.now heading.now }
+{
+    heading.name.as_slice() == name
+        && match &heading.what {
+            What::Routine(_, _, _) => false,
+            What::Refinement(other) => same_home(home, *other),
+        }
+}
+
+/// The first PROC or OP with this name and these types of parameters, with its number; `None` exactly where there is none.
+pub fn first_alike<'a>(
+    headings: &'a [Heading],
+    sort: Sort,
+    name: &[u8],
+    parameters: &[Parameter],
+) -> Option<(usize, &'a Heading)>
+    ensures { option_map (λ b. (b.0, b.1.now)) result ≡ spec.first_heading (spec.is_alike sort name.now (spec.types_of parameters.now)) headings.now }
+{
+    let mut position = 0;
+    let mut rest = headings;
+    while let [heading, others @ ..] = rest {
+        if is_alike(heading, sort, name, parameters) {
+            return Some((position, heading));
+        }
+        position += 1;
+        rest = others;
+    }
+    None
+}
+
+/// Whether there is a PROC or OP of a name with that number of parameters.
+pub fn any_with_as_many(headings: &[Heading], sort: Sort, name: &[u8], count: usize) -> bool
+    ensures { result ≡ spec.any_heading (spec.has_as_many sort name.now count) headings.now }
+{
+    let mut rest = headings;
+    while let [heading, others @ ..] = rest {
+        if has_as_many(heading, sort, name, count) {
+            return true;
+        }
+        rest = others;
+    }
+    false
+}
+
+/// The number of the refinement of this name, of the PROC or OP with this number or of the level; `None` exactly where
+/// there is none.
+pub fn first_refined(headings: &[Heading], home: Option<usize>, name: &[u8]) -> Option<usize>
+    ensures { result ≡ spec.number_in (spec.first_heading (spec.is_refined home name.now) headings.now) }
+{
+    let mut position = 0;
+    let mut rest = headings;
+    while let [heading, others @ ..] = rest {
+        if is_refined(heading, home, name) {
+            return Some(position);
+        }
+        position += 1;
+        rest = others;
+    }
+    None
+}

@@ -1,0 +1,8 @@
+//! Where a phrase stands, what names denote there, and what is known of bodies.
+#![tactic(auto)]
+
+pub mod delivery;
+pub mod heading;
+pub mod known;
+pub mod scope;
+pub mod trouble;

@@ -1,0 +1,240 @@
+//! Where a phrase stands, and what names denote there.
+
+ghost use Rattle.std.specs.Prelude.{◌≡◌, ◌≤◌, option_map, length};
+ghost use Rattle.elan_scope.specs.declared.scope.Home.TheVariants as homes;
+ghost use Rattle.elan_scope.specs.Scope as spec;
+
+use crate::heading::{Heading, first_refined};
+use elan_types::{ElanType, Exit, Parameter};
+use eu_base::{Bytes, List};
+
+/// What an identifier without actuals is used as.
+#[derive(Clone, Copy)]
+pub enum Usage {
+    Expression,
+    /// The counter of a loop, which calls nothing.
+    Counter,
+}
+
+/// What an identifier without actuals denotes.
+#[derive(Clone, Copy)]
+pub enum Denotes {
+    Variable(ElanType),
+    Constant(ElanType),
+    Parameter(Parameter),
+    /// A PROC without parameters.
+    Procedure,
+    Refinement,
+}
+
+impl Denotes {
+    /// How many variables, constants and parameters it is.
+    fn count(self) -> usize
+        ensures held { result ≡ length (spec.held self) }
+        ensures few { result ≤ 1 }
+    {
+        match self {
+            Denotes::Variable(_) => 1,
+            Denotes::Constant(_) => 1,
+            Denotes::Parameter(_) => 1,
+            Denotes::Procedure => 0,
+            Denotes::Refinement => 0,
+        }
+    }
+
+    fn is_refinement(self) -> bool
+        ensures { result ≡ spec.is_refinement self }
+    {
+        match self {
+            Denotes::Refinement => true,
+            _ => false,
+        }
+    }
+}
+
+/// A declaration: the place of its name, the name, and what it denotes.
+#[derive(Drop)]
+pub struct Entry {
+    pub at: u32,
+    pub name: Bytes,
+    pub denotes: Denotes,
+}
+
+/// A PROC or OP, by its number among the bodies of the level, with the names that it declares in text order.
+#[derive(Drop)]
+pub struct Within {
+    pub number: usize,
+    pub names: List<Entry>,
+}
+
+/// Where a phrase stands.
+#[derive(Drop)]
+pub struct Scope {
+    /// The bodies of the level.
+    pub headings: List<Heading>,
+    /// The names that the level declares, in text order.
+    pub level: List<Entry>,
+    /// The PROC or OP in which the phrase stands.
+    pub routine: Option<Within>,
+    /// The number of the refinement in which it stands.
+    pub refinement: Option<usize>,
+}
+
+/// Where a name was declared: in the level, or in the PROC or OP.
+#[derive(Clone, Copy)]
+pub enum Home {
+    Level,
+    Routine,
+}
+
+/// A declaration that was found, with the number of variables, constants and parameters before it in its home.
+#[derive(Clone, Copy)]
+pub struct Found {
+    pub home: Home,
+    pub number: usize,
+    pub at: u32,
+    pub denotes: Denotes,
+}
+
+// The first declaration of a name, with the number of variables, constants and parameters before it.
+fn first_named<'a>(names: &'a [Entry], name: &[u8]) -> Option<(usize, &'a Entry)>
+    ensures { option_map (λ f. (f.0, f.1.now)) result ≡ spec.first_named names.now name.now }
+{
+    let mut position = 0;
+    let mut rest = names;
+    while let [entry, others @ ..] = rest {
+        if entry.name.as_slice() == name {
+            return Some((position, entry));
+        }
+        position += entry.denotes.count();
+        rest = others;
+    }
+    None
+}
+
+fn found_in(home: Home, names: &[Entry], name: &[u8]) -> Option<Found>
+    ensures { result ≡ spec.found_in home (spec.first_named names.now name.now) }
+{
+    match first_named(names, name) {
+        None => None,
+        Some((number, entry)) => Some(Found {
+            home,
+            number,
+            at: entry.at,
+            denotes: entry.denotes,
+        }),
+    }
+}
+
+// The refinements of a level are for its own units and refinements alone.
+fn found_from_inside(names: &[Entry], name: &[u8]) -> Option<Found>
+    ensures { result ≡ spec.found_in homes.Level (spec.from_inside (spec.first_named names.now name.now)) }
+{
+    match first_named(names, name) {
+        None => None,
+        Some((number, entry)) => {
+            if entry.denotes.is_refinement() {
+                return None;
+            }
+            Some(Found {
+                home: Home::Level,
+                number,
+                at: entry.at,
+                denotes: entry.denotes,
+            })
+        }
+    }
+}
+
+impl Scope {
+    /// What an identifier without actuals denotes: the body is looked at first, and then the level. `None` exactly where
+    /// neither declares it.
+    pub fn find(&self, name: &[u8]) -> Option<Found>
+        ensures { result ≡ spec.find self.now name.now }
+    {
+        let level = self.level.as_slice();
+        match &self.routine {
+            None => found_in(Home::Level, level, name),
+            Some(within) => match found_in(Home::Routine, within.names.as_slice(), name) {
+                None => found_from_inside(level, name),
+                Some(found) => Some(found),
+            },
+        }
+    }
+
+    /// What a name denotes in the scope that declares it; `None` exactly where it is not declared there.
+    pub fn find_own(&self, name: &[u8]) -> Option<Found>
+        ensures { result ≡ spec.find_own self.now name.now }
+    {
+        match &self.routine {
+            None => found_in(Home::Level, self.level.as_slice(), name),
+            Some(within) => found_in(Home::Routine, within.names.as_slice(), name),
+        }
+    }
+
+    fn routine_number(&self) -> Option<usize>
+        ensures { result ≡ spec.number_of self.now.routine }
+    {
+        match &self.routine {
+            None => None,
+            Some(within) => Some(within.number),
+        }
+    }
+
+    /// The number of the refinement that a name denotes, if it denotes one.
+    pub fn refinement_named(&self, name: &[u8]) -> Option<usize>
+        ensures { result ≡ spec.refinement_named self.now name.now }
+    {
+        match self.find(name) {
+            None => None,
+            Some(found) => {
+                if found.denotes.is_refinement() {
+                    first_refined(self.headings.as_slice(), self.routine_number(), name)
+                } else {
+                    None
+                }
+            }
+        }
+    }
+
+    // The body with this number, where it has that name.
+    fn body_named(&self, number: Option<usize>, name: &[u8]) -> Option<usize>
+        ensures { result ≡ spec.body_named self.now.headings number name.now }
+    {
+        let number = number?;
+        match self.headings.get(number) {
+            None => None,
+            Some(heading) => {
+                if heading.name.as_slice() == name {
+                    Some(number)
+                } else {
+                    None
+                }
+            }
+        }
+    }
+
+    // A PROC or OP is left from itself, or from a refinement of it.
+    fn exit(&self) -> Exit
+        ensures { result ≡ spec.exit_from self.now.refinement }
+    {
+        match self.refinement {
+            None => Exit::Body,
+            Some(_) => Exit::Around,
+        }
+    }
+
+    /// The body that a LEAVE of a name leaves: the refinement in which it stands, or the PROC or OP. `None` exactly where
+    /// it stands in none of that name.
+    pub fn left(&self, name: &[u8]) -> Option<(Exit, usize)>
+        ensures { result ≡ spec.left self.now name.now }
+    {
+        match self.body_named(self.refinement, name) {
+            Some(number) => Some((Exit::Body, number)),
+            None => match self.body_named(self.routine_number(), name) {
+                None => None,
+                Some(number) => Some((self.exit(), number)),
+            },
+        }
+    }
+}

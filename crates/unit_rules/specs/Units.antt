@@ -1,0 +1,129 @@
+-- Stores, lists of units, and bodies.
+use Rattle.std.specs.Prelude.{ℕ, List, [], ◌∷◌, ◌++◌, Option, Some, None, if◌then◌else◌}
+use Rattle.elan_types.specs.declared.elan_type.ElanType.{ElanType}
+use Rattle.elan_types.specs.declared.core_phrase.PlacePhrase.{PlacePhrase}
+use Rattle.elan_types.specs.declared.core_phrase.ValuePhrase.{ValuePhrase}
+use Rattle.elan_types.specs.declared.core_phrase.ValuePhrase.TheVariants as value
+use Rattle.elan_types.specs.declared.core_phrase.Action.{Action}
+use Rattle.elan_types.specs.declared.core_phrase.Action.TheVariants as action
+use Rattle.elan_types.specs.declared.core_phrase.Scope.{Scope as Owner}
+use Rattle.elan_types.specs.declared.core_phrase.Content.{Content}
+use Rattle.elan_types.specs.declared.core_phrase.Content.TheVariants as content
+use Rattle.elan_types.specs.declared.core_phrase.Body.{Body}
+use Rattle.elan_types.specs.declared.why.Why.TheVariants.{WrongType, NoVariable}
+use Rattle.elan_types.specs.Typing.{same_type}
+use Rattle.elan_meant.specs.declared.meant.Meant.{Meant}
+use Rattle.elan_meant.specs.declared.meant.Meant.TheVariants.{Absent, Value, Done, Left, Bodies}
+use Rattle.elan_meant.specs.Operands.{delivers}
+use Rattle.elan_meant.specs.Parts.{unasked, value_of, variable_of, type_in, place_of, actions, actions_of, valued, unit_of, blank}
+use Rattle.elan_scope.specs.Ruled.{Ruled, gives, breaks, ◌>>=◌}
+
+-- ---- stores
+
+abbrev pub agreed_as : ℕ → Option ElanType → Meant → Ruled ElanType
+agreed_as at None m = breaks (at, WrongType)
+agreed_as at (Some t) m = if delivers t m then gives t else breaks (at, WrongType)
+
+-- Both deliver one type.
+abbrev pub agreed : ℕ → Meant → Meant → Ruled ElanType
+agreed at l r = agreed_as at (type_in l) r
+
+-- A variable is needed at the left.
+abbrev pub assigned_to : Option PlacePhrase → ℕ → ElanType → ValuePhrase → Ruled Meant
+assigned_to None p t v = breaks (p, NoVariable)
+assigned_to (Some x) p t v = gives (unit_of (action.Store x t v ∷ []))
+
+abbrev pub assigned : ℕ → Meant → Meant → Ruled Meant
+assigned at l r = agreed at l r >>= (λ t. assigned_to (variable_of l) (place_of l) t (value_of r))
+
+abbrev pub initial_to : Option PlacePhrase → ElanType → ValuePhrase → Ruled Meant
+initial_to None t v = unasked
+initial_to (Some x) t v = gives (Done (action.Store x t v ∷ []))
+
+-- a name in its declaration, and its initial value
+abbrev pub initial : ℕ → Meant → Meant → Ruled Meant
+initial at n m = agreed at n m >>= (λ t. initial_to (variable_of n) t (value_of m))
+
+-- ---- lists of units
+
+-- a phrase that delivers a value or ends with a LEAVE, or the one before it
+abbrev pub or_last : Meant → Meant → Meant
+or_last n (Value at t v x) = Value at t v x
+or_last n (Left as') = Left []
+or_last n m = n
+
+-- the last phrase that delivers a value or ends with a LEAVE
+abbrev pub last_value : Meant → List Meant → Meant
+last_value n [] = n
+last_value n (m ∷ ms) = last_value (or_last n m) ms
+
+abbrev pub ended : List Action → Meant → Meant
+ended as' (Value at t v x) = Value at t (value.After as' v) None
+ended as' (Left bs) = Left as'
+ended as' m = Done as'
+
+-- Of the units of a list at most the last non-empty one delivers.
+abbrev pub in_order : List Meant → Meant
+in_order ms = ended (actions_of ms) (last_value Absent ms)
+
+abbrev pub value_unit : ℕ → ElanType → ValuePhrase → Meant
+value_unit at t v = valued at t (value.Unit v)
+
+-- An expression that stands alone spends a mark.
+abbrev pub alone : Meant → Ruled Meant
+alone (Value at t v x) = gives (value_unit at t v)
+alone (Done as') = gives (unit_of as')
+alone (Left as') = gives (Left (action.Unit as' ∷ []))
+alone m = unasked
+
+-- The value is superfluous. A LEAVE that is not the last unit agrees with nothing.
+abbrev pub without_value : Meant → Ruled Meant
+without_value (Value at t v x) = breaks (at, WrongType)
+without_value (Left as') = gives (Done as')
+without_value (Bodies bs) = unasked
+without_value m = gives m
+
+-- ---- bodies
+
+-- the value that the units of a body deliver that delivers this type
+abbrev pub value_as : ElanType → Meant → Option ValuePhrase
+value_as t (Value at u v x) = if same_type t u then Some v else None
+value_as t (Left as') = Some (value.After as' (blank t))
+value_as t m = None
+
+abbrev pub with_value : ElanType → Option ValuePhrase → Option Content
+with_value t None = None
+with_value t (Some v) = Some (content.Value t v)
+
+abbrev pub without : Meant → Option Content
+without (Value at t v x) = None
+without m = Some (content.Units (actions m))
+
+-- the units of a body that delivers this type, or nothing
+abbrev pub content_as : Option ElanType → Meant → Option Content
+content_as None m = without m
+content_as (Some t) m = with_value t (value_as t m)
+
+-- the units of a refinement, which delivers what they deliver
+abbrev pub content_of : Meant → Content
+content_of (Value at t v x) = content.Value t v
+content_of m = content.Units (actions m)
+
+abbrev pub body_with : Owner → Content → Meant
+body_with o c = Bodies (record { scope = o; content = c } ∷ [])
+
+-- The last unit of a body agrees with its type.
+abbrev pub body_as : ℕ → Owner → Option Content → Ruled Meant
+body_as at o None = breaks (at, WrongType)
+body_as at o (Some c) = gives (body_with o c)
+
+abbrev pub body : ℕ → Owner → Option ElanType → Meant → Ruled Meant
+body at o r m = body_as at o (content_as r m)
+
+abbrev pub bodies_in : Meant → List Body
+bodies_in (Bodies bs) = bs
+bodies_in _ = []
+
+abbrev pub bodies_of : List Meant → List Body
+bodies_of [] = []
+bodies_of (m ∷ ms) = bodies_in m ++ bodies_of ms

@@ -1,0 +1,191 @@
+//! What PROCs, OPs, refinements and levels do.
+
+ghost use Rattle.std.specs.Prelude.{◌≡◌, ◌++◌, IfOk, OnOk};
+ghost use Rattle.elan_meant.specs.Parts as parts_of;
+ghost use Rattle.unit_rules.specs.Units as spec;
+ghost use Rattle.elan_scope.specs.Answer.{Is};
+ghost use Rattle.elan_scope.specs.Ruled.{gives};
+
+use elan_meant::meant::Meant;
+use elan_meant::part::{actions, unreached};
+use elan_meant::row::{Judged, append, appended};
+use elan_scope::trouble::Trouble;
+use elan_types::{Action, Body, Content, ElanType, Scope, ValuePhrase, Why};
+use eu_base::{Boxed, List, NoMemory};
+use std::alloc::Global;
+
+// The value that the units of a body deliver that delivers this type.
+fn value_as(
+    alloc: Global,
+    of: ElanType,
+    units: Meant,
+) -> Result<Option<Boxed<ValuePhrase>>, NoMemory>
+    ensures { IfOk result (λ v. v ≡ spec.value_as of units) }
+{
+    match units {
+        Meant::Value {
+            at: _at,
+            of: delivered,
+            value,
+            variable: _variable,
+        } => {
+            if of.is_same(delivered) {
+                Ok(Some(value))
+            } else {
+                value.into_inner().let_go();
+                Ok(None)
+            }
+        }
+        Meant::Left(actions) => {
+            let value = unreached(alloc, actions, of)?;
+            Ok(Some(value))
+        }
+        other => {
+            other.let_go();
+            Ok(None)
+        }
+    }
+}
+
+fn without(alloc: Global, units: Meant) -> Option<Content>
+    ensures { result ≡ spec.without units }
+{
+    match units {
+        Meant::Value {
+            at: _at,
+            of: _of,
+            value,
+            variable: _variable,
+        } => {
+            value.into_inner().let_go();
+            None
+        }
+        other => Some(Content::Units(actions(alloc, other))),
+    }
+}
+
+// The units of a body that delivers this type, or nothing.
+fn content_as(
+    alloc: Global,
+    delivered: Option<ElanType>,
+    units: Meant,
+) -> Result<Option<Content>, NoMemory>
+    ensures { IfOk result (λ c. c ≡ spec.content_as delivered units) }
+{
+    match delivered {
+        None => Ok(without(alloc, units)),
+        Some(of) => match value_as(alloc, of, units)? {
+            None => Ok(None),
+            Some(value) => Ok(Some(Content::Value(of, value.into_inner()))),
+        },
+    }
+}
+
+fn body_with(alloc: Global, owner: Scope, content: Content) -> Judged
+    ensures { Is result (gives (spec.body_with owner content)) }
+{
+    let mut bodies = List::new(alloc);
+    bodies.push(Body {
+        scope: owner,
+        content,
+    })?;
+    Ok(Meant::Bodies(bodies))
+}
+
+/// A PROC or OP that delivers this type, or nothing. The last unit of its body agrees with its type.
+pub fn body(
+    alloc: Global,
+    at: u32,
+    owner: Scope,
+    delivered: Option<ElanType>,
+    units: Meant,
+) -> Judged
+    ensures { Is result (spec.body at owner delivered units) }
+{
+    match content_as(alloc, delivered, units) {
+        Err(_refusal) => {
+            owner.let_go();
+            Err(Trouble::NoMemory)
+        }
+        Ok(None) => {
+            owner.let_go();
+            Err(Trouble::Breaks(at, Why::WrongType))
+        }
+        Ok(Some(content)) => body_with(alloc, owner, content),
+    }
+}
+
+fn content_of(alloc: Global, units: Meant) -> Content
+    ensures { result ≡ spec.content_of units }
+{
+    match units {
+        Meant::Value {
+            at: _at,
+            of,
+            value,
+            variable: _variable,
+        } => Content::Value(of, value.into_inner()),
+        other => Content::Units(actions(alloc, other)),
+    }
+}
+
+/// A refinement, which delivers what its units deliver.
+pub fn refinement(alloc: Global, owner: Scope, units: Meant) -> Judged
+    ensures { Is result (gives (spec.body_with owner (spec.content_of units))) }
+{
+    let content = content_of(alloc, units);
+    body_with(alloc, owner, content)
+}
+
+fn bodies_in(alloc: Global, part: Meant) -> List<Body>
+    ensures { result ≡ spec.bodies_in part }
+{
+    match part {
+        Meant::Bodies(bodies) => bodies,
+        other => {
+            other.let_go();
+            List::new(alloc)
+        }
+    }
+}
+
+// Adds the actions or the bodies of a part of a level.
+fn add(
+    alloc: Global,
+    units: &mut List<Action>,
+    bodies: &mut List<Body>,
+    part: Meant,
+) -> Result<(), NoMemory>
+    ensures units { OnOk result (units.new ≡ units.old ++ parts_of.actions part) }
+    ensures bodies { OnOk result (bodies.new ≡ bodies.old ++ spec.bodies_in part) }
+{
+    match part {
+        Meant::Bodies(more) => append(bodies, more),
+        other => append(units, actions(alloc, other)),
+    }
+}
+
+/// A PROC or OP with its refinements.
+pub fn bodies_of(alloc: Global, parts: List<Meant>) -> Result<List<Body>, NoMemory>
+    ensures { IfOk result (λ bodies. bodies ≡ spec.bodies_of parts) }
+{
+    let mut bodies = Ok(List::new(alloc));
+    for part in parts.into_vec() {
+        bodies = appended(bodies, bodies_in(alloc, part));
+    }
+    bodies
+}
+
+/// The units and the bodies of a level.
+#[tactic(auto, using(crate::proofs::Lists::actions_push, crate::proofs::Lists::bodies_push))]
+pub fn level(alloc: Global, parts: List<Meant>) -> Result<(List<Action>, List<Body>), NoMemory>
+    ensures units { IfOk result (λ l. l.0 ≡ parts_of.actions_of parts) }
+    ensures bodies { IfOk result (λ l. l.1 ≡ spec.bodies_of parts) }
+{
+    let mut units = List::new(alloc);
+    let mut bodies = List::new(alloc);
+    for part in parts.into_vec() {
+        add(alloc, &mut units, &mut bodies, part)?;
+    }
+    Ok((units, bodies))
+}

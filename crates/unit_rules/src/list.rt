@@ -1,0 +1,159 @@
+//! Lists of units, and units that stand alone.
+
+ghost use Rattle.std.specs.Prelude.{◌≡◌, ◌++◌, OnOk, IfOk};
+ghost use Rattle.elan_meant.specs.declared.meant.Meant.TheVariants as means;
+ghost use Rattle.elan_meant.specs.Parts as part_specs;
+ghost use Rattle.unit_rules.specs.Units as spec;
+ghost use Rattle.elan_scope.specs.Answer.{Is};
+
+use elan_meant::meant::Meant;
+use elan_meant::part::{delivering, one, unit_of, valued};
+use elan_meant::row::{Judged, append};
+use elan_scope::trouble::Trouble;
+use elan_types::{Action, Body, ValuePhrase, Why};
+use eu_base::{Boxed, List, NoMemory};
+use std::alloc::Global;
+use std::mem::replace;
+
+// One more part. The actions of one that ends with a LEAVE stand among the others.
+fn add(
+    alloc: Global,
+    actions: &mut List<Action>,
+    last: &mut Meant,
+    part: Meant,
+) -> Result<(), NoMemory>
+    ensures actions { OnOk result (actions.new ≡ actions.old ++ part_specs.actions part) }
+    ensures last { OnOk result (last.new ≡ spec.or_last last.old part) }
+{
+    match part {
+        Meant::Done(more) => append(actions, more),
+        Meant::Left(more) => {
+            replace(last, Meant::Left(List::new(alloc))).let_go();
+            append(actions, more)
+        }
+        Meant::Value {
+            at,
+            of,
+            value,
+            variable,
+        } => {
+            let next = Meant::Value {
+                at,
+                of,
+                value,
+                variable,
+            };
+            replace(last, next).let_go();
+            Ok(())
+        }
+        other => {
+            other.let_go();
+            Ok(())
+        }
+    }
+}
+
+// What parts do that deliver nothing, and the last part that delivers a value or ends with a LEAVE.
+#[tactic(auto, using(crate::proofs::Lists::actions_push, crate::proofs::Lists::last_push))]
+fn gathered(alloc: Global, parts: List<Meant>) -> Result<(List<Action>, Meant), NoMemory>
+    ensures { IfOk result (λ g. (g.0 ≡ part_specs.actions_of parts) × (g.1 ≡ spec.last_value means.Absent parts)) }
+{
+    let mut actions = List::new(alloc);
+    let mut last = Meant::Absent;
+    for part in parts.into_vec() {
+        if let Err(refusal) = add(alloc, &mut actions, &mut last, part) {
+            last.let_go();
+            return Err(refusal);
+        }
+    }
+    Ok((actions, last))
+}
+
+// Actions, and then a value, if the last phrase delivers one.
+fn ended(alloc: Global, actions: List<Action>, last: Meant) -> Result<Meant, NoMemory>
+    ensures { IfOk result (λ m. m ≡ spec.ended actions last) }
+{
+    match last {
+        Meant::Value {
+            at,
+            of,
+            value,
+            variable: _variable,
+        } => {
+            let value = Boxed::new(alloc, ValuePhrase::After(actions, value))?;
+            Ok(valued(at, of, value))
+        }
+        Meant::Left(none) => {
+            Action::all_let_go(none);
+            Ok(Meant::Left(actions))
+        }
+        other => {
+            other.let_go();
+            Ok(Meant::Done(actions))
+        }
+    }
+}
+
+/// A list of units, of which at most the last non-empty one delivers.
+pub fn in_order(alloc: Global, parts: List<Meant>) -> Result<Meant, NoMemory>
+    ensures { IfOk result (λ m. m ≡ spec.in_order parts) }
+{
+    let (actions, last) = gathered(alloc, parts)?;
+    ended(alloc, actions, last)
+}
+
+/// The items of a declaration.
+pub fn declaration(alloc: Global, parts: List<Meant>) -> Result<Meant, NoMemory>
+    ensures { IfOk result (λ m. m ≡ part_specs.unit_of (part_specs.actions_of parts)) }
+{
+    let (actions, last) = gathered(alloc, parts)?;
+    last.let_go();
+    let units = one(alloc, Action::Unit(actions))?;
+    Ok(Meant::Done(units))
+}
+
+/// An expression that stands alone.
+pub fn alone(alloc: Global, meant: Meant) -> Judged
+    ensures { Is result (spec.alone meant) }
+{
+    match meant {
+        Meant::Value {
+            at,
+            of,
+            value,
+            variable: _variable,
+        } => delivering(alloc, at, of, ValuePhrase::Unit(value)),
+        Meant::Done(actions) => unit_of(alloc, actions),
+        Meant::Left(actions) => {
+            let units = one(alloc, Action::Unit(actions))?;
+            Ok(Meant::Left(units))
+        }
+        other => {
+            other.let_go();
+            Err(Trouble::Breaks(0, Why::Unknown))
+        }
+    }
+}
+
+/// A unit that may deliver nothing.
+pub fn without_value(meant: Meant) -> Judged
+    ensures { Is result (spec.without_value meant) }
+{
+    match meant {
+        Meant::Value {
+            at,
+            of: _of,
+            value,
+            variable: _variable,
+        } => {
+            value.into_inner().let_go();
+            Err(Trouble::Breaks(at, Why::WrongType))
+        }
+        Meant::Left(actions) => Ok(Meant::Done(actions)),
+        Meant::Bodies(bodies) => {
+            Body::all_let_go(bodies);
+            Err(Trouble::Breaks(0, Why::Unknown))
+        }
+        other => Ok(other),
+    }
+}

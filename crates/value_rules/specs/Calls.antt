@@ -1,0 +1,212 @@
+-- Names, calls of PROCs, OPs and refinements, and LEAVE.
+use Rattle.std.specs.Prelude.{ℕ, Bool, true, false, ◌&&◌, List, [], ◌∷◌, length, Option, Some, None, if◌then◌else◌, nat_eq, ◌||◌}
+use Rattle.elan_types.specs.declared.elan_type.ElanType.{ElanType}
+use Rattle.elan_types.specs.declared.core_phrase.PlacePhrase.{PlacePhrase}
+use Rattle.elan_types.specs.declared.core_phrase.PlacePhrase.TheVariants as place
+use Rattle.elan_types.specs.declared.core_phrase.ValuePhrase.{ValuePhrase}
+use Rattle.elan_types.specs.declared.core_phrase.ValuePhrase.TheVariants as value
+use Rattle.elan_types.specs.declared.core_phrase.Action.{Action}
+use Rattle.elan_types.specs.declared.core_phrase.Action.TheVariants as action
+use Rattle.elan_types.specs.declared.core_phrase.Access.{Access}
+use Rattle.elan_types.specs.declared.core_phrase.Access.TheVariants.{Const, Var}
+use Rattle.elan_types.specs.declared.core_phrase.Parameter.{Parameter}
+use Rattle.elan_types.specs.declared.core_phrase.Actual.{Actual}
+use Rattle.elan_types.specs.declared.core_phrase.Actual.TheVariants as actual
+use Rattle.elan_types.specs.declared.core_phrase.Exit.{Exit}
+use Rattle.elan_types.specs.declared.why.Why.TheVariants.{Unknown, Doubled, WrongType, NoVariable, WrongPlace}
+use Rattle.eu_base.specs.declared.operation.Change.{Change}
+use Rattle.elan_scope.specs.declared.scope.Denotes.{Denotes}
+use Rattle.elan_scope.specs.declared.scope.Denotes.TheVariants as denotes
+use Rattle.elan_scope.specs.declared.delivery.Delivery.{Delivery}
+use Rattle.elan_scope.specs.declared.delivery.Delivery.TheVariants.{Open, Nothing, Of}
+use Rattle.elan_scope.specs.declared.heading.Sort.{Sort}
+use Rattle.elan_scope.specs.declared.heading.Sort.TheVariants.{Procedure}
+use Rattle.elan_scope.specs.declared.heading.What.{What}
+use Rattle.elan_scope.specs.declared.heading.What.TheVariants.{Routine, Refinement}
+use Rattle.elan_scope.specs.declared.heading.Heading.{Heading}
+use Rattle.elan_meant.specs.declared.meant.Does.{Does}
+use Rattle.elan_meant.specs.declared.meant.Does.TheVariants.{Delivers, Changes, Puts, EndsLine}
+use Rattle.elan_meant.specs.declared.meant.Meant.{Meant}
+use Rattle.elan_meant.specs.declared.meant.Meant.TheVariants.{Absent, Value, Done, Left}
+use Rattle.elan_scope.specs.Scope.{first_heading, any_heading, has_as_many, refinement_named}
+use Rattle.elan_scope.specs.declared.scope.Scope.{Scope}
+use Rattle.elan_scope.specs.declared.scope.Found.{Found}
+use Rattle.elan_scope.specs.declared.scope.Home.{Home}
+use Rattle.elan_scope.specs.declared.scope.Home.TheVariants.{Level as of_level, Routine as of_routine}
+use Rattle.elan_meant.specs.Predefined.{predefined, chosen, exists}
+use Rattle.elan_meant.specs.Operands.{delivers}
+pub use Rattle.elan_meant.specs.Operands.{takes}
+use Rattle.elan_scope.specs.Known.{leads_back, delivery_at}
+use Rattle.elan_scope.specs.declared.known.Known.{Known}
+use Rattle.elan_scope.specs.declared.scope.Usage.{Usage}
+use Rattle.elan_scope.specs.declared.scope.Usage.TheVariants.{Expression, Counter}
+use Rattle.elan_meant.specs.Parts.{unasked, value_of, values_of, variable_of, place_of, valued, two_of, one_of, on_two, on_one}
+use Rattle.elan_scope.specs.Ruled.{Ruled, gives, breaks, hangs, ◌>>=◌, before, joined}
+
+-- ---- variables, constants and parameters
+
+-- the place of what is held with this access; only PROCs and OPs have parameters
+abbrev pub place_in : Home → ℕ → Access → PlacePhrase
+place_in of_level n a = place.Variable n
+place_in of_routine n Const = place.Local n
+place_in of_routine n Var = place.Parameter n
+
+-- a value that stands at a place, which may be that of a variable
+abbrev pub loaded : ℕ → ElanType → PlacePhrase → Option PlacePhrase → Meant
+loaded at t p x = Value at t (value.Load p t) x
+
+abbrev pub variable : ℕ → ElanType → PlacePhrase → Meant
+variable at t p = loaded at t p (Some p)
+
+abbrev pub constant : ℕ → ElanType → PlacePhrase → Meant
+constant at t p = loaded at t p None
+
+-- A CONST parameter is a constant, a VAR parameter a variable.
+abbrev pub parameter : ℕ → ElanType → Access → PlacePhrase → Meant
+parameter at t Const p = constant at t p
+parameter at t Var p = variable at t p
+
+-- ---- predefined operators and procedures
+
+-- A variable is needed at the left.
+abbrev pub changed_at : Change → ℕ → Option PlacePhrase → ValuePhrase → Ruled Meant
+changed_at c at None v = breaks (at, NoVariable)
+changed_at c at (Some x) v = gives (Done (action.Modify c x v ∷ []))
+
+abbrev pub changed : Change → Meant → Meant → Ruled Meant
+changed c l r = changed_at c (place_of l) (variable_of l) (value_of r)
+
+abbrev pub put : Meant → Ruled Meant
+put m = gives (Done (action.Put (value_of m) ∷ []))
+
+abbrev pub done : ℕ → Does → List Meant → Ruled Meant
+done at (Delivers op t) ms = gives (valued at t (value.Apply op (values_of ms)))
+done at (Changes c) ms = on_two (two_of ms) (changed c)
+done at Puts ms = on_one (one_of ms) put
+done at EndsLine ms = gives (Done (action.Line ∷ []))
+
+-- ---- own PROCs and OPs
+
+-- A variable is needed for a VAR parameter.
+abbrev pub given_place : ElanType → ℕ → Option PlacePhrase → Ruled Actual
+given_place t at None = breaks (at, NoVariable)
+given_place t at (Some x) = gives (actual.Place x t)
+
+abbrev pub given_as : Access → ElanType → Meant → Ruled Actual
+given_as Const t m = gives (actual.Value (value_of m))
+given_as Var t m = given_place t (place_of m) (variable_of m)
+
+-- what parameters are given, from left to right
+abbrev pub given : List Parameter → List Meant → Ruled (List Actual)
+given [] ms = gives []
+given (p ∷ ps) [] = gives []
+given (p ∷ ps) (m ∷ ms) = before (given_as p.access p.of m) (given ps ms)
+
+-- what was given, and behind it what the first of these parameters is given, if there is one
+abbrev pub given_next : List Parameter → Meant → Ruled (List Actual) → Ruled (List Actual)
+given_next [] m r = r
+given_next (p ∷ ps) m r = joined r (given_as p.access p.of m)
+
+abbrev pub call : ℕ → ℕ → Option ElanType → List Actual → Meant
+call at n None as' = Done (action.Call n as' ∷ [])
+call at n (Some t) as' = valued at t (value.Call n as' t)
+
+-- a call of the body with this number
+abbrev pub called : ℕ → ℕ → What → List Meant → Ruled Meant
+called at n (Routine sort ps r) ms = given ps ms >>= (λ as'. gives (call at n r as'))
+called at n (Refinement home) ms = unasked
+
+-- ---- operators, and identifiers with actuals
+
+-- The name exists with that number of operands.
+abbrev pub is_known : List Heading → Sort → List ℕ → ℕ → Bool
+is_known hs sort x n = any_heading (has_as_many sort x n) hs || exists predefined x n
+
+-- A name that exists with that number of operands, but not for these types, has the wrong type.
+abbrev pub predefined_as : ℕ → Bool → List Meant → Option Does → Ruled Meant
+predefined_as at known ms (Some d) = done at d ms
+predefined_as at known ms None = if known then breaks (at, WrongType) else breaks (at, Unknown)
+
+abbrev pub applied_as : ℕ → Scope → Sort → List ℕ → List Meant → Option (ℕ × Heading) → Ruled Meant
+applied_as at s sort x ms (Some b) = called at b.0 b.1.what ms
+applied_as at s sort x ms None = predefined_as at (is_known s.headings sort x (length ms)) ms (chosen predefined x ms)
+
+-- The PROCs and OPs of the level are looked at first, and then the predefined ones.
+abbrev pub applied : ℕ → Scope → Sort → List ℕ → List Meant → Ruled Meant
+applied at s sort x ms = applied_as at s sort x ms (first_heading (takes sort x ms) s.headings)
+
+-- ---- refinements
+
+-- Where it is not known what a refinement delivers, a call of it hangs on that.
+abbrev pub referred : ℕ → ℕ → Delivery → Ruled Meant
+referred at n Open = hangs
+referred at n Nothing = gives (Done (action.Refer n ∷ []))
+referred at n (Of t) = gives (valued at t (value.Refer n t))
+
+-- It leads back to the refinement in which it stands. A counter calls nothing, and is not a variable, whatever it delivers.
+abbrev pub led_back : Usage → ℕ → ℕ → Delivery → Ruled Meant
+led_back Expression at n d = breaks (at, WrongPlace)
+led_back Counter at n Open = breaks (at, NoVariable)
+led_back Counter at n Nothing = referred at n Nothing
+led_back Counter at n (Of t) = referred at n (Of t)
+
+-- A refinement does not call itself through any chain.
+abbrev pub refined : Known → Usage → ℕ → Scope → Option ℕ → Ruled Meant
+refined k u at s None = unasked
+refined k u at s (Some n) = if leads_back k n s.refinement then led_back u at n (delivery_at k n) else referred at n (delivery_at k n)
+
+-- ---- identifiers without actuals
+
+abbrev pub denoted : Known → Usage → ℕ → Scope → List ℕ → Home → ℕ → Denotes → Ruled Meant
+denoted k u at s x home n (denotes.Variable t) = gives (variable at t (place_in home n Const))
+denoted k u at s x home n (denotes.Constant t) = gives (constant at t (place_in home n Const))
+denoted k u at s x home n (denotes.Parameter p) = gives (parameter at p.of p.access (place_in home n p.access))
+denoted k u at s x home n denotes.Procedure = applied at s Procedure x []
+denoted k u at s x home n denotes.Refinement = refined k u at s (refinement_named s x)
+
+abbrev pub named : Known → Usage → ℕ → Scope → List ℕ → Option Found → Ruled Meant
+named k u at s x (Some f) = denoted k u at s x f.home f.number f.denotes
+named k u at s x None = applied at s Procedure x []
+
+-- ---- declarations
+
+-- a name in its declaration: a variable or constant can be given its initial value there
+abbrev pub declared_as : ℕ → Home → ℕ → Denotes → Meant
+declared_as at home n (denotes.Variable t) = variable at t (place_in home n Const)
+declared_as at home n (denotes.Constant t) = variable at t (place_in home n Const)
+declared_as at home n (denotes.Parameter p) = Done []
+declared_as at home n denotes.Procedure = Done []
+declared_as at home n denotes.Refinement = Done []
+
+-- A name is declared where the first declaration of that name is this one.
+abbrev pub declared : ℕ → Option Found → Ruled Meant
+declared at None = unasked
+declared at (Some f) = if nat_eq f.at at then gives (declared_as at f.home f.number f.denotes) else breaks (at, Doubled)
+
+-- the heading of a PROC or OP, of which the first with equal name and types of parameters is this one. A value can be missing
+abbrev pub headed : ℕ → Bool → Option (ℕ × Heading) → Ruled Meant
+headed at missing None = unasked
+headed at missing (Some b) = if nat_eq b.1.at at then (if missing then breaks (at, WrongType) else gives (Done [])) else breaks (at, Doubled)
+
+-- ---- LEAVE
+
+-- Without a value, or with one, it agrees with what it leaves. Nothing is asked of the value where that is not known.
+abbrev pub agrees : Delivery → Meant → Bool
+agrees Open Absent = true
+agrees Open (Value at t v x) = true
+agrees Open m = false
+agrees Nothing Absent = true
+agrees Nothing m = false
+agrees (Of t) m = delivers t m
+
+abbrev pub leave_of : Exit → Meant → Action
+leave_of e (Value at t v x) = action.LeaveWith e t v
+leave_of e m = action.Leave e
+
+abbrev pub leave_as : ℕ → Exit → Delivery → Meant → Ruled Meant
+leave_as at e d m = if agrees d m then gives (Left (action.Unit (leave_of e m ∷ []) ∷ [])) else breaks (at, WrongType)
+
+-- It names the refinement, PROC or OP in which it stands.
+abbrev pub leaving : Known → ℕ → Option (Exit × ℕ) → Meant → Ruled Meant
+leaving k at None m = breaks (at, WrongPlace)
+leaving k at (Some e) m = leave_as at e.0 (delivery_at k e.1) m

@@ -1,0 +1,37 @@
+-- Numbers, brackets, CAND and COR.
+use Rattle.std.specs.Prelude.{ℕ, ℤ, Bool, ◌&&◌, if◌then◌else◌}
+use Rattle.elan_types.specs.declared.elan_type.ElanType.TheVariants.{Int, Bool as Truths}
+use Rattle.elan_types.specs.declared.core_phrase.ValuePhrase.{ValuePhrase}
+use Rattle.elan_types.specs.declared.core_phrase.ValuePhrase.TheVariants as value
+use Rattle.elan_types.specs.declared.why.Why.TheVariants.{WrongType}
+use Rattle.eu_base.specs.Operations.{in_range}
+use Rattle.elan_scope.specs.Ruled.{Ruled, gives, breaks}
+use Rattle.elan_meant.specs.declared.meant.Meant.{Meant}
+use Rattle.elan_meant.specs.declared.meant.Meant.TheVariants.{Value, Done, Left}
+use Rattle.elan_meant.specs.Operands.{delivers}
+use Rattle.elan_meant.specs.Parts.{unasked, value_of, valued}
+
+-- No text has a number of more than 16 bits.
+abbrev pub number : ℕ → ℤ → Ruled Meant
+number at n = if in_range n then gives (valued at Int (value.Number n)) else unasked
+
+abbrev pub bracketed : ℕ → Meant → Ruled Meant
+bracketed at (Value p t v x) = gives (valued at t v)
+bracketed at (Done as') = gives (Done as')
+bracketed at (Left as') = gives (Left as')
+bracketed at m = unasked
+
+abbrev pub are_truths : Meant → Meant → Bool
+are_truths l r = delivers Truths l && delivers Truths r
+
+abbrev pub cand_of : ℕ → ValuePhrase → ValuePhrase → Meant
+cand_of at v w = valued at Truths (value.Cand v w)
+
+abbrev pub cor_of : ℕ → ValuePhrase → ValuePhrase → Meant
+cor_of at v w = valued at Truths (value.Cor v w)
+
+abbrev pub cand : ℕ → Meant → Meant → Ruled Meant
+cand at l r = if are_truths l r then gives (cand_of at (value_of l) (value_of r)) else breaks (at, WrongType)
+
+abbrev pub cor : ℕ → Meant → Meant → Ruled Meant
+cor at l r = if are_truths l r then gives (cor_of at (value_of l) (value_of r)) else breaks (at, WrongType)

@@ -1,0 +1,89 @@
+//! LEAVE.
+
+ghost use Rattle.std.specs.Prelude.{◌≡◌, ◌∷◌, []};
+ghost use Rattle.elan_scope.specs.Ruled.{gives};
+ghost use Rattle.elan_types.specs.declared.core_phrase.Action.TheVariants as leaves;
+ghost use Rattle.elan_meant.specs.declared.meant.Meant.TheVariants as means;
+ghost use Rattle.value_rules.specs.Calls as spec;
+ghost use Rattle.elan_scope.specs.Answer.{Is};
+
+use elan_meant::meant::Meant;
+use elan_meant::operands::delivers;
+use elan_meant::part::one;
+use elan_meant::row::Judged;
+use elan_scope::delivery::Delivery;
+use elan_scope::known::Known;
+use elan_scope::trouble::Trouble;
+use elan_types::{Action, Exit, Why};
+use std::alloc::Global;
+
+// Nothing is asked of the value where it is not known what is left.
+fn agrees(delivery: Delivery, value: &Meant) -> bool
+    ensures { result ≡ spec.agrees delivery value.now }
+{
+    match (delivery, value) {
+        (Delivery::Open, Meant::Absent) => true,
+        (Delivery::Open, Meant::Value { .. }) => true,
+        (Delivery::Nothing, Meant::Absent) => true,
+        (Delivery::Of(of), value) => delivers(of, value),
+        _ => false,
+    }
+}
+
+fn leave_of(exit: Exit, value: Meant) -> Action
+    ensures { result ≡ spec.leave_of exit value }
+{
+    match value {
+        Meant::Value {
+            at: _at,
+            of,
+            value,
+            variable: _variable,
+        } => Action::LeaveWith(exit, of, value.into_inner()),
+        other => {
+            other.let_go();
+            Action::Leave(exit)
+        }
+    }
+}
+
+fn leave_unit(alloc: Global, action: Action) -> Judged
+    ensures { Is result (gives (means.Left (leaves.Unit (action ∷ []) ∷ []))) }
+{
+    let actions = one(alloc, action)?;
+    let units = one(alloc, Action::Unit(actions))?;
+    Ok(Meant::Left(units))
+}
+
+fn leave_as(alloc: Global, at: u32, exit: Exit, delivery: Delivery, value: Meant) -> Judged
+    ensures { Is result (spec.leave_as at exit delivery value) }
+{
+    if agrees(delivery, &value) {
+        leave_unit(alloc, leave_of(exit, value))
+    } else {
+        value.let_go();
+        Err(Trouble::Breaks(at, Why::WrongType))
+    }
+}
+
+/// A LEAVE, the body that it leaves, and its value. It names the refinement, PROC or OP in which it stands.
+pub fn leaving(
+    alloc: Global,
+    known: &Known,
+    at: u32,
+    left: Option<(Exit, usize)>,
+    value: Meant,
+) -> Judged
+    ensures { Is result (spec.leaving known.now at left value) }
+{
+    match left {
+        None => {
+            value.let_go();
+            Err(Trouble::Breaks(at, Why::WrongPlace))
+        }
+        Some((exit, number)) => {
+            let delivery = known.delivery_at(number);
+            leave_as(alloc, at, exit, delivery, value)
+        }
+    }
+}

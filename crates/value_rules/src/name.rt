@@ -1,0 +1,246 @@
+//! Identifiers without actuals, and names in their declarations.
+
+ghost use Rattle.std.specs.Prelude.{◌≡◌};
+ghost use Rattle.elan_scope.specs.Ruled.{gives};
+ghost use Rattle.elan_types.specs.declared.core_phrase.Access.TheVariants as accesses;
+ghost use Rattle.value_rules.specs.Calls as spec;
+ghost use Rattle.elan_scope.specs.Scope as scopes;
+ghost use Rattle.elan_scope.specs.Answer.{Is};
+
+use crate::call::applied;
+use elan_meant::meant::Meant;
+use elan_meant::part::{delivering, done};
+use elan_meant::row::Judged;
+use elan_scope::delivery::Delivery;
+use elan_scope::heading::{Sort, first_alike};
+use elan_scope::known::Known;
+use elan_scope::scope::{Denotes, Found, Home, Scope, Usage};
+use elan_scope::trouble::Trouble;
+use elan_types::{Access, Action, ElanType, Parameter, PlacePhrase, ValuePhrase, Why};
+use eu_base::{Boxed, List};
+use std::alloc::Global;
+
+// The place of what is held with this access; only PROCs and OPs have parameters.
+fn place_in(home: Home, number: usize, access: Access) -> PlacePhrase
+    ensures { result ≡ spec.place_in home number access }
+{
+    match (home, access) {
+        (Home::Level, _) => PlacePhrase::Variable(number),
+        (Home::Routine, Access::Const) => PlacePhrase::Local(number),
+        (Home::Routine, Access::Var) => PlacePhrase::Parameter(number),
+    }
+}
+
+// Where a variable, constant or parameter is held.
+#[derive(Clone, Copy)]
+struct Held {
+    home: Home,
+    number: usize,
+    access: Access,
+}
+
+impl Held {
+    fn place(self) -> PlacePhrase
+        ensures { result ≡ spec.place_in self.home self.number self.access }
+    {
+        place_in(self.home, self.number, self.access)
+    }
+}
+
+fn variable(alloc: Global, at: u32, of: ElanType, held: Held) -> Judged
+    ensures { Is result (gives (spec.variable at of (spec.place_in held.home held.number held.access))) }
+{
+    let value = Boxed::new(alloc, ValuePhrase::Load(held.place(), of))?;
+    Ok(Meant::Value {
+        at,
+        of,
+        value,
+        variable: Some(held.place()),
+    })
+}
+
+fn constant(alloc: Global, at: u32, of: ElanType, held: Held) -> Judged
+    ensures { Is result (gives (spec.constant at of (spec.place_in held.home held.number held.access))) }
+{
+    delivering(alloc, at, of, ValuePhrase::Load(held.place(), of))
+}
+
+// A CONST parameter is a constant, a VAR parameter a variable.
+fn parameter(alloc: Global, at: u32, home: Home, number: usize, parameter: Parameter) -> Judged
+    ensures { Is result (gives (spec.parameter at parameter.of parameter.access (spec.place_in home number parameter.access))) }
+{
+    let held = Held {
+        home,
+        number,
+        access: parameter.access,
+    };
+    match parameter.access {
+        Access::Const => constant(alloc, at, parameter.of, held),
+        Access::Var => variable(alloc, at, parameter.of, held),
+    }
+}
+
+// ---- refinements
+
+// Where it is not known what a refinement delivers, a call of it hangs on that.
+fn referred(alloc: Global, at: u32, number: usize, delivery: Delivery) -> Judged
+    ensures { Is result (spec.referred at number delivery) }
+{
+    match delivery {
+        Delivery::Open => Err(Trouble::Hangs),
+        Delivery::Nothing => done(alloc, Action::Refer(number)),
+        Delivery::Of(of) => delivering(alloc, at, of, ValuePhrase::Refer(number, of)),
+    }
+}
+
+// It leads back to the refinement in which it stands.
+fn led_back(alloc: Global, usage: Usage, at: u32, number: usize, delivery: Delivery) -> Judged
+    ensures { Is result (spec.led_back usage at number delivery) }
+{
+    match (usage, delivery) {
+        (Usage::Expression, _) => Err(Trouble::Breaks(at, Why::WrongPlace)),
+        (Usage::Counter, Delivery::Open) => Err(Trouble::Breaks(at, Why::NoVariable)),
+        (Usage::Counter, Delivery::Nothing) => referred(alloc, at, number, Delivery::Nothing),
+        (Usage::Counter, Delivery::Of(of)) => referred(alloc, at, number, Delivery::Of(of)),
+    }
+}
+
+// A refinement does not call itself through any chain.
+fn refined(
+    alloc: Global,
+    known: &Known,
+    usage: Usage,
+    at: u32,
+    scope: &Scope,
+    number: Option<usize>,
+) -> Judged
+    ensures { Is result (spec.refined known.now usage at scope.now number) }
+{
+    match number {
+        None => Err(Trouble::Breaks(0, Why::Unknown)),
+        Some(number) => {
+            let delivery = known.delivery_at(number);
+            if known.leads_back(alloc, number, scope.refinement)? {
+                led_back(alloc, usage, at, number, delivery)
+            } else {
+                referred(alloc, at, number, delivery)
+            }
+        }
+    }
+}
+
+// ---- identifiers without actuals
+
+fn denoted(
+    alloc: Global,
+    known: &Known,
+    usage: Usage,
+    at: u32,
+    scope: &Scope,
+    name: &[u8],
+    found: Found,
+) -> Judged
+    ensures { Is result (spec.denoted known.now usage at scope.now name.now found.home found.number found.denotes) }
+{
+    match found.denotes {
+        Denotes::Variable(of) => variable(alloc, at, of, plainly_held(found)),
+        Denotes::Constant(of) => constant(alloc, at, of, plainly_held(found)),
+        Denotes::Parameter(given) => parameter(alloc, at, found.home, found.number, given),
+        Denotes::Procedure => {
+            let actuals = List::new(alloc);
+            applied(alloc, at, scope, Sort::Procedure, name, actuals)
+        }
+        Denotes::Refinement => {
+            let number = scope.refinement_named(name);
+            refined(alloc, known, usage, at, scope, number)
+        }
+    }
+}
+
+// Where a variable or constant is held.
+fn plainly_held(found: Found) -> Held
+    ensures home { result.home ≡ found.home }
+    ensures number { result.number ≡ found.number }
+    ensures access { result.access ≡ accesses.Const }
+{
+    Held {
+        home: found.home,
+        number: found.number,
+        access: Access::Const,
+    }
+}
+
+/// An identifier without actuals.
+pub fn named(
+    alloc: Global,
+    known: &Known,
+    usage: Usage,
+    at: u32,
+    scope: &Scope,
+    name: &[u8],
+) -> Judged
+    ensures { Is result (spec.named known.now usage at scope.now name.now (scopes.find scope.now name.now)) }
+{
+    match scope.find(name) {
+        Some(found) => denoted(alloc, known, usage, at, scope, name, found),
+        None => applied(alloc, at, scope, Sort::Procedure, name, List::new(alloc)),
+    }
+}
+
+// ---- declarations
+
+// A variable or constant can be given its initial value; nothing else has to be done.
+fn declared_as(alloc: Global, at: u32, found: Found) -> Judged
+    ensures { Is result (gives (spec.declared_as at found.home found.number found.denotes)) }
+{
+    match found.denotes {
+        Denotes::Variable(of) => variable(alloc, at, of, plainly_held(found)),
+        Denotes::Constant(of) => variable(alloc, at, of, plainly_held(found)),
+        Denotes::Parameter(_) => Ok(Meant::Done(List::new(alloc))),
+        Denotes::Procedure => Ok(Meant::Done(List::new(alloc))),
+        Denotes::Refinement => Ok(Meant::Done(List::new(alloc))),
+    }
+}
+
+/// A name in its declaration. It is declared where the first declaration of that name is this one.
+pub fn declared(alloc: Global, at: u32, scope: &Scope, name: &[u8]) -> Judged
+    ensures { Is result (spec.declared at (scopes.find_own scope.now name.now)) }
+{
+    match scope.find_own(name) {
+        None => Err(Trouble::Breaks(0, Why::Unknown)),
+        Some(found) => {
+            if found.at == at {
+                declared_as(alloc, at, found)
+            } else {
+                Err(Trouble::Breaks(at, Why::Doubled))
+            }
+        }
+    }
+}
+
+/// The heading of a PROC or OP, of which the first with equal name and types of parameters is this one. A value is missing
+/// where it delivers one and its body has no unit.
+pub fn headed(
+    alloc: Global,
+    at: u32,
+    scope: &Scope,
+    sort: Sort,
+    name: &[u8],
+    parameters: &[Parameter],
+    missing: bool,
+) -> Judged
+    ensures { Is result (spec.headed at missing (scopes.first_heading (scopes.is_alike sort name.now (scopes.types_of parameters.now)) scope.now.headings)) }
+{
+    match first_alike(scope.headings.as_slice(), sort, name, parameters) {
+        None => Err(Trouble::Breaks(0, Why::Unknown)),
+        Some((_, heading)) => {
+            if heading.at != at {
+                Err(Trouble::Breaks(at, Why::Doubled))
+            } else if missing {
+                Err(Trouble::Breaks(at, Why::WrongType))
+            } else {
+                Ok(Meant::Done(List::new(alloc)))
+            }
+        }
+    }
+}

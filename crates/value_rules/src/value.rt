@@ -1,0 +1,95 @@
+//! Numbers, brackets, CAND and COR.
+
+ghost use Rattle.std.specs.Prelude.{◌≡◌};
+ghost use Rattle.elan_types.specs.declared.elan_type.ElanType.TheVariants as types;
+ghost use Rattle.elan_types.specs.declared.core_phrase.ValuePhrase.TheVariants as values;
+ghost use Rattle.elan_meant.specs.Parts as parts;
+ghost use Rattle.value_rules.specs.Values as spec;
+ghost use Rattle.elan_scope.specs.Ruled.{gives};
+ghost use Rattle.elan_scope.specs.Answer.{Is};
+
+use elan_meant::meant::Meant;
+use elan_meant::operands::delivers;
+use elan_meant::part::{delivering, value_of, valued};
+use elan_meant::row::{Judged, both};
+use elan_scope::trouble::Trouble;
+use elan_types::{ElanType, ValuePhrase, Why};
+use std::alloc::Global;
+
+/// A number that is written.
+#[tactic(auto, using(crate::proofs::Numbers::number_gives))]
+pub fn number(alloc: Global, at: u32, number: i16) -> Judged
+    ensures { Is result (spec.number at number) }
+{
+    delivering(alloc, at, ElanType::Int, ValuePhrase::Number(number))
+}
+
+/// TRUE or FALSE.
+pub fn truth(alloc: Global, at: u32, truth: bool) -> Judged
+    ensures { Is result (gives (parts.valued at types.Bool (values.Truth truth))) }
+{
+    delivering(alloc, at, ElanType::Bool, ValuePhrase::Truth(truth))
+}
+
+pub fn bracketed(at: u32, meant: Meant) -> Judged
+    ensures { Is result (spec.bracketed at meant) }
+{
+    match meant {
+        Meant::Value {
+            at: _at,
+            of,
+            value,
+            variable: _variable,
+        } => Ok(valued(at, of, value)),
+        Meant::Done(actions) => Ok(Meant::Done(actions)),
+        Meant::Left(actions) => Ok(Meant::Left(actions)),
+        other => {
+            other.let_go();
+            Err(Trouble::Breaks(0, Why::Unknown))
+        }
+    }
+}
+
+fn are_truths(left: &Meant, right: &Meant) -> bool
+    ensures { result ≡ spec.are_truths left.now right.now }
+{
+    delivers(ElanType::Bool, left) && delivers(ElanType::Bool, right)
+}
+
+fn cand_of(alloc: Global, at: u32, left: Meant, right: Meant) -> Judged
+    ensures { Is result (gives (spec.cand_of at (parts.value_of left) (parts.value_of right))) }
+{
+    let (left, right) = both(value_of(alloc, left), value_of(alloc, right))?;
+    delivering(alloc, at, ElanType::Bool, ValuePhrase::Cand(left, right))
+}
+
+fn cor_of(alloc: Global, at: u32, left: Meant, right: Meant) -> Judged
+    ensures { Is result (gives (spec.cor_of at (parts.value_of left) (parts.value_of right))) }
+{
+    let (left, right) = both(value_of(alloc, left), value_of(alloc, right))?;
+    delivering(alloc, at, ElanType::Bool, ValuePhrase::Cor(left, right))
+}
+
+pub fn cand(alloc: Global, at: u32, left: Meant, right: Meant) -> Judged
+    ensures { Is result (spec.cand at left right) }
+{
+    if are_truths(&left, &right) {
+        cand_of(alloc, at, left, right)
+    } else {
+        left.let_go();
+        right.let_go();
+        Err(Trouble::Breaks(at, Why::WrongType))
+    }
+}
+
+pub fn cor(alloc: Global, at: u32, left: Meant, right: Meant) -> Judged
+    ensures { Is result (spec.cor at left right) }
+{
+    if are_truths(&left, &right) {
+        cor_of(alloc, at, left, right)
+    } else {
+        left.let_go();
+        right.let_go();
+        Err(Trouble::Breaks(at, Why::WrongType))
+    }
+}
