@@ -18,7 +18,7 @@ use Rattle.elan_meant.specs.declared.meant.Part.TheVariants as part
 use Rattle.elan_meant.specs.declared.meant.Guarded.{Guarded}
 use Rattle.elan_meant.specs.declared.meant.Labelled.{Labelled}
 use Rattle.elan_meant.specs.declared.meant.Meant.{Meant}
-use Rattle.elan_meant.specs.declared.meant.Meant.TheVariants.{Value, Done, Left, Labels, Branches, Arms}
+use Rattle.elan_meant.specs.declared.meant.Meant.TheVariants.{Done, Left, Labels, Branches, Arms}
 use Rattle.elan_scope.specs.declared.scope.Found.{Found}
 use Rattle.elan_meant.specs.Predefined.{predefined, exists}
 use Rattle.elan_meant.specs.Operands.{delivers}

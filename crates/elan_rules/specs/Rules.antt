@@ -1,16 +1,14 @@
 -- The rules of meaning, one for each form of phrase: what it means where its parts mean these, or which rule it breaks.
-use Rattle.std.specs.Prelude.{ℕ, ℤ, Bool, ◌&&◌, List, [], ◌∷◌, Option, Some, None, if◌then◌else◌}
-use Rattle.elan_types.specs.declared.elan_type.ElanType.TheVariants.{Int, Bool as Truths}
-use Rattle.elan_types.specs.declared.core_phrase.ValuePhrase.{ValuePhrase}
+use Rattle.std.specs.Prelude.{ℕ, List, [], ◌∷◌, Option, Some, None}
+use Rattle.elan_types.specs.declared.elan_type.ElanType.TheVariants.{Bool as Truths}
 use Rattle.elan_types.specs.declared.core_phrase.ValuePhrase.TheVariants as value
-use Rattle.elan_types.specs.declared.why.Why.TheVariants.{WrongType}
 pub use Rattle.value_rules.specs.Values.{number, bracketed, are_truths, cand_of, cor_of, cand, cor}
 use Rattle.elan_meant.specs.declared.meant.Meant.{Meant}
-use Rattle.elan_meant.specs.declared.meant.Meant.TheVariants.{Absent, Value, Done, Left, Labels, Branches, Arms, Counter, Bodies, Level}
+use Rattle.elan_meant.specs.declared.meant.Meant.TheVariants.{Absent, Done, Labels, Branches, Arms, Counter, Bodies, Level}
 use Rattle.elan_scope.specs.Scope.{find, find_own, left, first_heading, is_alike, types_of}
-use Rattle.elan_meant.specs.Predefined.{becomes, delivers}
+use Rattle.elan_meant.specs.Predefined.{becomes}
 use Rattle.elan_scope.specs.declared.known.Known.{Known}
-use Rattle.elan_meant.specs.Parts.{unasked, value_of, valued, unit_of, actions_of, one_of, two_of, three_of, four_of, on_one, on_two, on_three, on_four}
+use Rattle.elan_meant.specs.Parts.{unasked, valued, unit_of, actions_of, one_of, two_of, three_of, four_of, on_one, on_two, on_three, on_four}
 use Rattle.elan_scope.specs.declared.scope.Scope.{Scope}
 use Rattle.elan_scope.specs.declared.heading.Sort.TheVariants.{Operator}
 use Rattle.elan_scope.specs.declared.heading.Heading.{Heading}
@@ -20,7 +18,7 @@ use Rattle.choice_rules.specs.Choices.{guarded, branches_of, choice, label_is, l
 use Rattle.unit_rules.specs.Loops.{counted, loop}
 use Rattle.elan_scope.specs.Phrase as form
 use Rattle.elan_scope.specs.Phrase.{Form}
-use Rattle.elan_scope.specs.Ruled.{Ruled, gives, breaks, ◌>>=◌}
+use Rattle.elan_scope.specs.Ruled.{Ruled, gives, ◌>>=◌}
 
 -- ---- assignments
 

@@ -1,5 +1,5 @@
 -- Names, calls of PROCs, OPs and refinements, and LEAVE.
-use Rattle.std.specs.Prelude.{ℕ, Bool, true, false, ◌&&◌, List, [], ◌∷◌, length, Option, Some, None, if◌then◌else◌, nat_eq, ◌||◌}
+use Rattle.std.specs.Prelude.{ℕ, Bool, true, false, List, [], ◌∷◌, length, Option, Some, None, if◌then◌else◌, nat_eq, ◌||◌}
 use Rattle.elan_types.specs.declared.elan_type.ElanType.{ElanType}
 use Rattle.elan_types.specs.declared.core_phrase.PlacePhrase.{PlacePhrase}
 use Rattle.elan_types.specs.declared.core_phrase.PlacePhrase.TheVariants as place
