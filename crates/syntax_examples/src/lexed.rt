@@ -2,7 +2,7 @@
 
 use elan_lexer::{LexError, tokens};
 use elan_tree::{Token, Word};
-use eu_base::{Bytes, List};
+use containers::{Bytes, List};
 use std::alloc::{AllocError, Global};
 use std::test::Fail;
 
