@@ -42,6 +42,7 @@ fn branch(out: &mut String, branch: &Branch) -> Result<(), AllocError> {
     units(out, &branch.units)
 }
 
+// An arm a form of expression, so it is as long as there are forms.
 #[cycle(shown)]
 fn expr(out: &mut String, e: &Expr) -> Result<(), AllocError> {
     match e {
@@ -125,6 +126,7 @@ fn expr(out: &mut String, e: &Expr) -> Result<(), AllocError> {
     }
 }
 
+/// Writes how the operators of a unit hold, in braces.
 #[cycle(shown)]
 pub fn unit(out: &mut String, unit: &Unit) -> Result<(), AllocError> {
     match unit {
