@@ -4,12 +4,17 @@ use Rattle.std.proofs.lemmas.Bool.Decides.{nat_tests}
 use Rattle.edge.specs.Disk.{Blocks, DiskState, IsImage, IsSettled}
 use Rattle.edge.specs.Moments.{ChangesOnly, AgreesOutside, Leaves, Step}
 use Rattle.edge.proofs.Steps.{leaves_weaker, leaves_more}
-use Rattle.fixpoint.specs.Slots.{is_open, head_of, next_of, IsHead, IsOlder, IsTaken}
+use Rattle.fixpoint.specs.Slots.{is_open, gate_of, head_of, next_of, IsHead, IsOlder, IsTaken}
 use Rattle.fixpoint.specs.Fixpoints.{Fixpoint, Fits, after, IsPlace, ArePlaces, HasPages, IsOldOrNew, HasNew}
 
 -- the gate of the slot that is written
 abbrev pub GateOf : Fixpoint → ℕ → Type 0
 GateOf fix k = (k ≡ 1 - fix.slot) × IsTrue fix.other_open
+
+-- what a gate that was written says
+pub gate_is : (c : Blocks) (k : ℕ) (b : Bool) → c k ≡ gate_of b → is_open c k ≡ b
+gate_is c k true written = ap (λ (l : List ℕ). slice_index l 0 == 1) written
+gate_is c k false written = ap (λ (l : List ℕ). slice_index l 0 == 1) written
 
 pub open_at : (c d : Blocks) (k : ℕ) (b : Bool) → c k ≡ d k → is_open d k ≡ b → is_open c k ≡ b
 open_at c d k b same is = ap (λ (l : List ℕ). slice_index l 0 == 1) same ∙ is
@@ -155,8 +160,9 @@ module _ (fix : Fixpoint) (root count : ℕ) (place : ℕ → ℕ) (page : ℕ �
       }
 
   -- and synced
-  pub now_new : (s3 s4 : DiskState) → Staged s3 → ChangesOnly (λ k. k ≡ 1 - fix.slot) s3 s4 → IsSettled s4 → is_open s4.content (1 - fix.slot) ≡ true → HasNew (after fix root) count place page s s4
-  now_new s3 s4 staged gate settled is = record {
+  pub now_new : (s3 s4 : DiskState) → Staged s3 → ChangesOnly (λ k. k ≡ 1 - fix.slot) s3 s4 → IsSettled s4 → s4.content (1 - fix.slot) ≡ gate_of true → HasNew (after fix root) count place page s s4
+  now_new s3 s4 staged gate settled written = record {
+    gate = written;
     fits = record {
       settled = settled;
       holds = record {
@@ -168,6 +174,9 @@ module _ (fix : Fixpoint) (root count : ℕ) (place : ℕ → ℕ) (page : ℕ �
     others = λ k four out. gate.content k (λ e. absurd (omega (arith, e, low))) ∙ staged.same k (λ e. absurd (omega (arith, e, low))) (λ e. absurd (omega (arith, e, low))) out;
   }
     where
+      is : is_open s4.content (1 - fix.slot) ≡ true
+      is = gate_is s4.content (1 - fix.slot) true written
+
       back : 1 - (1 - fix.slot) ≡ fix.slot
       back = omega (arith, low)
 
@@ -201,9 +210,9 @@ module _ (fix : Fixpoint) (root count : ℕ) (place : ℕ → ℕ) (page : ℕ �
       pub upto1 : Leaves moment left_since d0 d1 P
       upto1 = part1 0 w1 1 d0 d1 step1
 
-      module _ (settled1 : IsSettled step1.reached) (shut1 : IsTrue fix.other_open → is_open step1.reached.content (1 - fix.slot) ≡ false) (d2 : D) (step2 : Step state moment left_since d1 d2 (IsPlace count place) 0 count 0 step1.reached) where
+      module _ (settled1 : IsSettled step1.reached) (shut1 : IsTrue fix.other_open → step1.reached.content (1 - fix.slot) ≡ gate_of false) (d2 : D) (step2 : Step state moment left_since d1 d2 (IsPlace count place) 0 count 0 step1.reached) where
         closed : Closed step1.reached
-        closed = now_closed step1.reached step1.only settled1 shut1
+        closed = now_closed step1.reached step1.only settled1 (λ is. gate_is step1.reached.content (1 - fix.slot) false (shut1 is))
 
         pub upto2 : Leaves moment left_since d0 d2 P
         upto2 = leaves_more state moment left_since d0 d1 d2 P upto1 (part2 0 count 0 d1 d2 step1.reached closed step2)
@@ -220,5 +229,5 @@ module _ (fix : Fixpoint) (root count : ℕ) (place : ℕ → ℕ) (page : ℕ �
             pub upto4 : Leaves moment left_since d0 d4 P
             upto4 = leaves_more state moment left_since d0 d3 d4 P upto3 (part4 0 1 1 d3 d4 step3.reached staged step4)
 
-            pub all_new : IsSettled step4.reached → is_open step4.reached.content (1 - fix.slot) ≡ true → HasNew (after fix root) count place page s step4.reached
+            pub all_new : IsSettled step4.reached → step4.reached.content (1 - fix.slot) ≡ gate_of true → HasNew (after fix root) count place page s step4.reached
             all_new settled4 opened = now_new step3.reached step4.reached staged step4.only settled4 opened

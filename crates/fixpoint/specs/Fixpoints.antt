@@ -1,7 +1,7 @@
 -- The fixpoint that a disk holds, and what a new one makes of it.
-use Rattle.std.specs.Prelude.{◌≡◌, ◌<◌, ◌≤◌, ◌⊎◌, ◌+◌, ◌-◌, ℕ, Bool, true, if◌then◌else◌, List}
+use Rattle.std.specs.Prelude.{◌≡◌, ◌<◌, ◌≤◌, ◌⊎◌, ◌+◌, ◌-◌, ℕ, Bool, true, false, if◌then◌else◌, List}
 use Rattle.edge.specs.Disk.{Blocks, DiskState, IsSettled}
-use Rattle.fixpoint.specs.Slots.{is_open, next_of, IsTaken}
+use Rattle.fixpoint.specs.Slots.{is_open, gate_of, next_of, IsTaken}
 
 -- the slot that is taken, the sequence and the root of its head, and whether the gate of the other slot is open
 pub record Fixpoint : Type 0 where
@@ -49,11 +49,22 @@ pub record IsOldOrNew (fix : Fixpoint) (root count : ℕ) (place : ℕ → ℕ) 
   pub taken : IsTaken image fix.slot fix.sequence fix.root ⊎ (IsTaken image (1 - fix.slot) (next_of fix.sequence) root × HasPages count place page image)
   pub others : KeepsOthers count place old image
 
--- the new fixpoint is held with all pages at their places, nothing is left to sync, and the other blocks are as they were
+-- the new fixpoint is held with all pages at their places and its gate as it is written, nothing is left to sync, and the other
+-- blocks are as they were
 pub record HasNew (fix : Fixpoint) (count : ℕ) (place : ℕ → ℕ) (page : ℕ → List ℕ) (old new : DiskState) : Type 0 where
   pub fits : Fits fix new
+  pub gate : new.content fix.slot ≡ gate_of true
   pub pages : HasPages count place page new.content
   pub others : KeepsOthers count place old.content new.content
+
+-- the fixpoint of a disk that was formatted
+abbrev pub first_of : ℕ → Fixpoint
+first_of root = record { slot = 0; sequence = 1; root = root; other_open = false }
+
+-- that fixpoint is held as a new one is, and the other gate is closed as it is written
+pub record HasFirst (root count : ℕ) (place : ℕ → ℕ) (page : ℕ → List ℕ) (old new : DiskState) : Type 0 where
+  pub first : HasNew (first_of root) count place page old new
+  pub shut : new.content 1 ≡ gate_of false
 
 -- an open gate is closed by a write, and a closed one needs none
 abbrev pub gate_writes : Bool → ℕ

@@ -7,6 +7,10 @@ use Rattle.edge.specs.Disk.{Blocks}
 abbrev pub is_open : Blocks → ℕ → Bool
 is_open content slot = slice_index (content slot) 0 == 1
 
+-- a gate as it is written: a byte that says whether it is open, and zeros
+abbrev pub gate_of : Bool → List ℕ
+gate_of open_one = (if open_one then 1 else 0) ∷ replicate 511 0
+
 -- the bytes of a head: EUMELSYS, the version 1, the sequence, the block of the root with its least byte first, zeros
 abbrev pub head_of : ℕ → ℕ → List ℕ
 head_of sequence root = 69 ∷ 85 ∷ 77 ∷ 69 ∷ 76 ∷ 83 ∷ 89 ∷ 83 ∷ 1 ∷ sequence ∷ (to_le_bytes w32 root ++ replicate 498 0)

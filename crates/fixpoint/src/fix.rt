@@ -1,11 +1,11 @@
 //! The last fixpoint of a disk.
-ghost use Rattle.std.specs.Prelude.{◌≡◌, ◌≤◌, ◌<◌, ◌+◌, OnOk, OnErr, false, true};
+ghost use Rattle.std.specs.Prelude.{◌≡◌, ◌≤◌, ◌<◌, ◌+◌, OnOk, OnErr, true};
 ghost use Rattle.std.specs.Option.{ForSome};
 ghost use Rattle.edge.specs.Disk.{Tells};
 ghost use Rattle.edge.specs.Moments.{LeavesOnly, HasMade, HasMadeAtMost};
 ghost use Rattle.edge.specs.Faults.{HasCause};
 ghost use Rattle.fixpoint.specs.Slots.{next_of};
-ghost use Rattle.fixpoint.specs.Fixpoints.{Fixpoint, Fits, after, ArePlaces, IsOldOrNew, HasNew, writes_of};
+ghost use Rattle.fixpoint.specs.Fixpoints.{Fixpoint, Fits, after, ArePlaces, IsOldOrNew, HasNew, HasFirst, writes_of};
 
 use crate::blocks::write_block;
 use crate::head::Head;
@@ -66,8 +66,7 @@ impl Fix {
     pub fn format<D: Disk, I: Image>(disk: &mut D, image: &I) -> Result<(), DiskFault>
         requires places { ArePlaces (I.root_of image.now) (I.count_of image.now) (I.place_of image.now) }
         ensures ok { OnOk result (ForSome (D.state disk.old) (λ s. Tells (D.state disk.new)
-            (HasNew (record { slot = 0; sequence = 1; root = I.root_of image.now; other_open = false })
-            (I.count_of image.now) (I.place_of image.now) (I.page_of image.now) s))) }
+            (HasFirst (I.root_of image.now) (I.count_of image.now) (I.place_of image.now) (I.page_of image.now) s))) }
         ensures calls { OnOk result (ForSome (D.state disk.old) (λ s. Tells (D.state disk.new) (HasMade 0 (I.count_of image.now + 4) 3 s))) }
         ensures at_most { ForSome (D.state disk.old) (λ s. Tells (D.state disk.new) (HasMadeAtMost 0 (I.count_of image.now + 4) 3 s)) }
         ensures cause { HasCause (D.faults disk.old) (D.faults disk.new) result }

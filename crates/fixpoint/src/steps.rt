@@ -4,7 +4,7 @@ ghost use Rattle.std.specs.Option.{ForSome};
 ghost use Rattle.edge.specs.Disk.{IsSettled};
 ghost use Rattle.edge.specs.Moments.{Step, HasMade};
 ghost use Rattle.edge.specs.Faults.{HasCause};
-ghost use Rattle.fixpoint.specs.Slots.{is_open, head_of};
+ghost use Rattle.fixpoint.specs.Slots.{gate_of, head_of};
 ghost use Rattle.fixpoint.specs.Fixpoints.{IsPlace, HasPages, gate_writes};
 
 use crate::blocks::{sync, write_block};
@@ -19,7 +19,7 @@ pub(crate) fn close_gate<D: Disk>(disk: &mut D, gate: u32, was_open: bool) -> Re
     ensures step { ForSome (D.state disk.old) (Step D.state D.moment D.left_since disk.old disk.new
         (λ block. (block ≡ gate) × IsTrue was_open) 0 (gate_writes was_open) 1) }
     ensures settled { OnOk result (ForSome (D.state disk.new) IsSettled) }
-    ensures closed { OnOk result (IsTrue was_open → ForSome (D.state disk.new) (λ t. is_open t.content gate ≡ false)) }
+    ensures closed { OnOk result (IsTrue was_open → ForSome (D.state disk.new) (λ t. t.content gate ≡ gate_of false)) }
     ensures calls { OnOk result (ForSome (D.state disk.old) (λ s. ForSome (D.state disk.new)
         (HasMade 0 (gate_writes was_open) 1 s))) }
     ensures cause { HasCause (D.faults disk.old) (D.faults disk.new) result }
@@ -75,7 +75,7 @@ pub(crate) fn open_gate<D: Disk>(disk: &mut D, gate: u32) -> Result<(), DiskFaul
     requires { gate < 2 }
     ensures step { ForSome (D.state disk.old) (Step D.state D.moment D.left_since disk.old disk.new (λ block. block ≡ gate) 0 1 1) }
     ensures settled { OnOk result (ForSome (D.state disk.new) IsSettled) }
-    ensures opened { OnOk result (ForSome (D.state disk.new) (λ t. is_open t.content gate ≡ true)) }
+    ensures opened { OnOk result (ForSome (D.state disk.new) (λ t. t.content gate ≡ gate_of true)) }
     ensures calls { OnOk result (ForSome (D.state disk.old) (λ s. ForSome (D.state disk.new) (HasMade 0 1 1 s))) }
     ensures cause { HasCause (D.faults disk.old) (D.faults disk.new) result }
 {
