@@ -7,7 +7,7 @@ set -euo pipefail
 top="$(cd "$(dirname "${BASH_SOURCE[0]}")/.." && pwd)"
 work="$(mktemp -d)"
 trap 'rm -rf "$work"' EXIT
-crates="eu_base page_pool page_table data_space cell_layout space_memory"
+crates="containers eu_base page_pool page_table data_space cell_layout space_memory"
 
 mkdir -p "$work/crates/cells/src" "$work/crates/cells/proofs/run"
 for crate in $crates; do
@@ -16,7 +16,6 @@ for crate in $crates; do
 done
 echo "cells: space_memory page_table page_pool eu_base" >>"$work/crates.txt"
 cp "$top/HANDLES" "$work/"
-cp "$top/crates/zero_machine/src/plain.rt" "$work/crates/cells/src/"
 cp "$top/crates/eumel_top/proofs/Paging.antt" "$work/crates/cells/proofs/"
 echo "pub mod Paging" >"$work/crates/cells/proofs/Lib.antt"
 
@@ -26,6 +25,54 @@ use Rattle.cells.proofs.run.Goals as goal
 
 pub over-lent-requires : goal.over-lent-requires
 over-lent-requires c = rw (c.new-pool.ensures, c.new-memory.ensures) (record { agree = none_among })
+END
+
+cat >"$work/crates/cells/src/plain.rt" <<'END'
+//! Cells in memory.
+ghost use Rattle.std.specs.Prelude.{unwrap_or};
+ghost use Rattle.std.specs.Ordering.{nat_cmp};
+ghost use Rattle.std.specs.BTreeMap.{get};
+
+use eu_base::{Addr, MemFault, Memory};
+use std::alloc::Global;
+use std::collections::BTreeMap;
+
+/// A plain map from cells to numbers. A cell that was never written holds 0.
+#[derive(Drop)]
+pub struct PlainMemory {
+    cells: BTreeMap<u16, u64>,
+}
+
+impl PlainMemory {
+    pub fn new(alloc: Global) -> PlainMemory {
+        PlainMemory {
+            cells: BTreeMap::new(alloc),
+        }
+    }
+}
+
+impl Memory for PlainMemory {
+    ghost cells = { λ memory at. unwrap_or (get nat_cmp memory.cells at.cell) 0 };
+
+    ghost faults = { λ _. 0 };
+
+    ghost follows = { λ _ _. Unit {0} };
+
+    ghost reflexive = { λ _. tt };
+
+    ghost transitive = { λ _ _ _ _ _. tt };
+
+    fn cell(&mut self, at: Addr) -> Result<u64, MemFault> {
+        Ok(self.cells.get(&at.cell).copied().unwrap_or(0))
+    }
+
+    fn set_cell(&mut self, at: Addr, number: u64) -> Result<(), MemFault> {
+        match self.cells.insert(at.cell, number) {
+            Ok(_) => Ok(()),
+            Err(_) => Err(MemFault::NoMemory),
+        }
+    }
+}
 END
 
 cat >"$work/crates/cells/src/main.rt" <<'END'

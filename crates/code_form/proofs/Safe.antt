@@ -47,10 +47,6 @@ cells_fewer m n le e = le-leb m CELLS (omega (arith, le, leb-true n CELLS e))
 bytes_fewer : (m n : ℕ) → m ≤ n → bytes_fit n ≡ true → bytes_fit m ≡ true
 bytes_fewer m n le e = le-leb m OPERAND_BYTES (omega (arith, le, leb-true n OPERAND_BYTES e))
 
-operand_eight : (o : Operand) → operand_bytes o ≡ 8
-operand_eight (Of v) = refl
-operand_eight (At a) = refl
-
 -- what is pending below is not more than what is pending in all
 bytes_below : (ops : List Operand) (held : ℕ) → held ≤ bytes_on ops held
 bytes_below [] held = omega arith

@@ -60,7 +60,7 @@ pub data Move : Type 0 where
   Halts : Halt → Move
   Stuck : Move
 
--- another place and other operands
+-- another instruction and other operands
 abbrev pub at : Control → ℕ → List Operand → Control
 at c pc ops = record c { pc = pc; ops = ops; full = false; waits = None }
 
@@ -250,7 +250,7 @@ pub record Rest : Type 0 where
 abbrev pub answered : Request → Reply → Control → Control
 answered q r c = record c { waits = None }
 
--- what a step leads to: a next place, rest, or nothing
+-- what a step leads to: a next state, rest, or nothing
 pub data Stage : Type 0 where
   On : Control → Scene → Stage
   Over : Rest → Stage

@@ -58,6 +58,6 @@ ahead lines pc = cond (is_mark (instr_of (slice_get lines pc))) 0 (length lines 
 abbrev pub steps_left : List Line → ℕ → ℕ → ℕ → ℕ
 steps_left lines marks frames pc = marks * (length lines + 1) + marks * (length lines + 1) + frames * (length lines + 1) + ahead lines pc
 
--- with more marks and replies, the machine goes on from here as it would from the first place with all of them
+-- with more marks and replies, the machine goes on from here as it would from the first state with all of them
 pub record Continues (p : Program) (first : Control) (cells : Cells) (given : ℕ) (replies : List Reply) (c : Control) (now : Cells) (left : ℕ) : Type 0 where
   pub goes : (marks : ℕ) (more : List Reply) (last : Rest) → Rests p c (record { cells = now; marks = left + marks; replies = more }) last → Rests p first (record { cells = cells; marks = given + marks; replies = replies ++ more }) last

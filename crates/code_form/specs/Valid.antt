@@ -22,7 +22,7 @@ use Rattle.code_form.specs.declared.code.Layout.TheVariants as layouts
 use Rattle.code_form.specs.Program.{Program, line_of, instr_of, at_level, in_body, deeper, owner, owner_in, frame_cells}
 use Rattle.code_form.specs.Machine.{Frame, Control, base_of, bytes_on, bytes_of}
 
--- these operands are pending at a place of this body, with so many limits
+-- these operands are pending at an instruction of this body, with so many limits
 abbrev pub Next : List Line → ℕ → List OperandKind → Spot → Type 0
 Next lines pc ks m = (i : Instr) × (slice_get lines pc ≡ Some (line_of i ks m))
 
@@ -99,7 +99,7 @@ pub record IsLeftAround (p : Program) (result : Option Kind) (ks : List OperandK
   pub delivers : entry.delivers ≡ result
   pub top : HasResult result ks
 
--- an instruction finds what it takes, and leads to places where what it leaves is pending
+-- an instruction finds what it takes, and leads to instructions where what it leaves is pending
 abbrev pub IsFine : Program → ℕ → Instr → List OperandKind → Spot → Type 0
 IsFine p pc Mark ks m = Next p.lines (pc + 1) ks m
 IsFine p pc (Number z) ks m = Next p.lines (pc + 1) (Value kinds.Int ∷ ks) m
@@ -159,7 +159,7 @@ MadeSo p (layouts.Own parameters variables) n pc rest m f floor below =
 MadeSo p _ n pc rest m f floor below =
     (slice_get p.lines pc ≡ Some (line_of (Refer n) rest m)) × (f.refines ≡ true) × (f.base ≡ below) × (floor ≡ f.used + 2)
 
--- a frame of a body is one that a CALL or REFER makes at a place of the frame below, which has so many cells without its FOR limits;
+-- a frame of a body is one that a CALL or REFER makes at an instruction of the frame below, which has so many cells without its FOR limits;
 -- it returns to the instruction after that one, and what is pending below is what the tables give there, without what this step takes
 pub record IsMade (p : Program) (f : Frame) (body : Option ℕ) (floor below : ℕ) (m : Spot) (floor_below : ℕ) : Type 0 where
   pub number : ℕ

@@ -11,9 +11,11 @@ use std::marker::Model;
 /// An instruction, with what is pending when it is reached.
 #[derive(Drop)]
 pub struct Line {
+    /// The instruction.
     pub instr: Instr,
     /// The kinds of the pending operands, the newest first.
     pub operands: List<OperandKind>,
+    /// Where it stands.
     pub spot: Spot,
 }
 
@@ -31,6 +33,7 @@ pub struct Spot {
 pub struct Entry {
     /// The number of its first instruction.
     pub first: usize,
+    /// The cells of its frame.
     pub layout: Layout,
     /// The kind of the value that it delivers, where it delivers one.
     pub delivers: Option<Kind>,
@@ -72,6 +75,7 @@ impl Model for Code {
 }
 
 impl Code {
+    /// Code of these instructions, whose tables agree.
     pub fn new(variables: List<Kind>, bodies: List<Entry>, lines: List<Line>) -> Code
         requires { IsValid (record { variables = variables; bodies = bodies; lines = lines }) }
         ensures { result ≡ record { variables = variables; bodies = bodies; lines = lines } }
@@ -113,6 +117,7 @@ impl Code {
         self.lines.as_slice()[at].instr
     }
 
+    /// The instructions, by their numbers from 0.
     pub fn lines(&self) -> &[Line]
         ensures { result.now ≡ self.now.lines }
     {

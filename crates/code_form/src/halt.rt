@@ -9,6 +9,8 @@ pub enum Halt {
     Marked,
     /// It waits for the answer to a request.
     Asks(Request),
+    /// The command has come to its end.
     Ended,
+    /// The command stopped before its end.
     Stopped(Stop),
 }

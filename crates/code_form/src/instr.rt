@@ -25,6 +25,7 @@ pub enum Instr {
     Do(Operation),
     /// Takes a number and the place below it, and changes the number there. It is listed as `DO`.
     Modify(Change),
+    /// Jumps.
     Jump(usize),
     /// Takes a truth value, and jumps where it is FALSE.
     False(usize),

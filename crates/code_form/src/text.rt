@@ -36,6 +36,7 @@ fn append_line(
     Ok(())
 }
 
+// An arm an instruction, so it is as long as there are instructions.
 fn append_instr(out: &mut Bytes, bodies: &[Entry], instr: Instr) -> Result<(), NoMemory>
     ensures { OnOk result (out.new ≡ out.old ++ instr_text bodies.now instr) }
 {

@@ -14,11 +14,11 @@ use Rattle.place_gen.specs.Stretch.{Stretch, one, keeps, join, all_code, action_
 abbrev pub level_code : Core → Stretch
 level_code core = join (all_code (map action_code core.units)) (one End keeps)
 
--- the table of a body that begins at this place
+-- the table of a body that begins with this instruction
 abbrev pub entry_of : Body → ℕ → Entry
 entry_of b at = record { first = at; layout = layout_of b.scope; delivers = delivered_kind b.content }
 
--- the entries and the lines of bodies, from this number and this place on
+-- the entries and the lines of bodies, from this number and this instruction on
 abbrev pub entries : List Body → ℕ → List Entry
 entries [] at = []
 entries (b ∷ bs) at = entry_of b at ∷ entries bs (at + (content_code b.content).size)

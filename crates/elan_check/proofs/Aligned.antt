@@ -29,8 +29,8 @@ use Rattle.elan_scope.specs.declared.scope.Scope.{Scope}
 use Rattle.elan_scope.specs.declared.scope.Within.{Within}
 use Rattle.elan_scope.specs.declared.scope.Home.{Home}
 use Rattle.elan_scope.specs.declared.scope.Found.{Found}
-use Rattle.elan_check.specs.Bodies as b
-use Rattle.elan_check.specs.Bodies.{parameters, result, parameter_names, own_names, body_names, refinement_headings, bodies_in, unit_headings, all_headings}
+use Rattle.elan_levels.specs.Bodies as b
+use Rattle.elan_levels.specs.Bodies.{parameters, result, parameter_names, own_names, body_names, refinement_headings, bodies_in, unit_headings, all_headings}
 use Rattle.elan_scope.specs.Phrase as form
 use Rattle.elan_scope.specs.Phrase.{Phrase, phrase, Parts, none, part, all_of, leaf, around, all_empty, last_place}
 use Rattle.elan_scope.specs.Ruled.{Ruled, gives, breaks, before}
@@ -38,12 +38,12 @@ use Rattle.elan_scope.specs.declared.known.Known.{Known}
 use Rattle.value_rules.specs.Calls as calls
 use Rattle.unit_rules.specs.Units as u
 use Rattle.elan_rules.specs.Rules.{rule}
-use Rattle.elan_check.specs.Shape as shape
+use Rattle.elan_judge.specs.Shape as shape
 use Rattle.elan_check.specs.Level as l
 use Rattle.elan_rules.specs.Meaning.{judged, judged_all}
 use Rattle.elan_rules.proofs.First.{bind_gives, before_gives, gives_is}
-use Rattle.elan_check.proofs.InScope.{InScope, body_units_in}
-use Rattle.elan_check.proofs.OwnNames.{own_held}
+use Rattle.elan_judge.proofs.InScope.{InScope, body_units_in}
+use Rattle.elan_levels.proofs.OwnNames.{own_held}
 use Rattle.elan_rules.proofs.TypedCalls.{owner_with}
 
 -- ---- lists

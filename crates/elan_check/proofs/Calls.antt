@@ -18,8 +18,8 @@ use Rattle.elan_scope.specs.declared.scope.Usage.TheVariants.{Counter as Counts}
 use Rattle.elan_scope.specs.Phrase as form
 use Rattle.elan_scope.specs.Phrase.{Form, Phrase, phrase, Parts, none, part, all_of, around}
 use Rattle.elan_rules.specs.Meaning.{phrases, phrases_of}
-use Rattle.elan_check.specs.Shape as shape
-use Rattle.elan_check.specs.Uses as uses
+use Rattle.elan_judge.specs.Shape as shape
+use Rattle.elan_levels.specs.Uses as uses
 use Rattle.elan_check.specs.Refinements.{called_by, called_by_all, called_in}
 
 -- ---- lists

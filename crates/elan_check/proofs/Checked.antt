@@ -11,7 +11,7 @@ use Rattle.elan_meant.specs.declared.meant.Meant.TheVariants as means
 use Rattle.elan_scope.specs.Ruled.{Fault}
 use Rattle.elan_check.specs.declared.error.CheckError.{CheckError}
 use Rattle.elan_check.specs.declared.error.CheckError.TheVariants.{NoMemory, NoMeaning, NotBuilt}
-use Rattle.elan_check.specs.NotBuilt.{not_built}
+use Rattle.elan_unbuilt.specs.NotBuilt.{not_built}
 use Rattle.elan_check.specs.Level.{text}
 use Rattle.elan_check.specs.Text.{Means, Refused, IsNotBuilt, IsCore, IsRefusal, Answers, known}
 use Rattle.elan_rules.proofs.First as first

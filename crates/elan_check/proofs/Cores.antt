@@ -19,7 +19,7 @@ use Rattle.elan_scope.specs.Ruled.{Ruled, gives, breaks, hangs, ◌>>=◌}
 use Rattle.elan_rules.specs.Rules.{rule}
 use Rattle.elan_rules.specs.Meaning.{judged, judged_all}
 use Rattle.elan_check.specs.declared.error.CheckError.TheVariants.{NoMeaning}
-use Rattle.elan_check.specs.Bodies.{headings, level_names}
+use Rattle.elan_levels.specs.Bodies.{headings, level_names}
 use Rattle.elan_check.specs.Level.{level_bodies, level_parts, level_phrase}
 use Rattle.elan_check.specs.Refinements.{known_of}
 use Rattle.elan_check.specs.Text.{Answers}

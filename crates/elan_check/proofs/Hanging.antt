@@ -20,10 +20,10 @@ use Rattle.value_rules.specs.Calls as c
 use Rattle.elan_rules.specs.Rules.{rule}
 use Rattle.elan_rules.specs.Meaning.{judged, judged_all, phrases, phrases_of}
 use Rattle.elan_check.specs.Refinements.{told, last_unit, last_unit_in, unit_delivery, outcome, called_by, called_by_all, called_in}
-use Rattle.elan_check.specs.Uses.{number_list}
+use Rattle.elan_levels.specs.Uses.{number_list}
 use Rattle.elan_rules.proofs.First.{Faultless, whole, open_one, bind_faultless, before_faultless, breaks_has_fault}
 use Rattle.elan_check.proofs.Calls.{called_append}
-use Rattle.elan_check.proofs.InScope.{Names, InScope, AllIn}
+use Rattle.elan_judge.proofs.InScope.{Names, InScope, AllIn}
 use Rattle.elan_rules.proofs.Firm.{rules, not_hung, named_open}
 use Rattle.elan_check.proofs.Walks.{In}
 use Rattle.elan_check.proofs.Settled.{not_open}

@@ -25,7 +25,7 @@ use Rattle.elan_meant.specs.Parts.{one_of, on_one, actions_of}
 use Rattle.value_rules.specs.Calls as r
 use Rattle.unit_rules.specs.Units.{or_last, last_value, ended, without_value}
 use Rattle.elan_rules.specs.Rules.{rule}
-use Rattle.elan_check.specs.Shape.{role, roles, units}
+use Rattle.elan_judge.specs.Shape.{role, roles, units}
 use Rattle.elan_rules.specs.Meaning.{judged, judged_all}
 use Rattle.elan_check.specs.Refinements.{last_unit, last_unit_in, delivery_of}
 use Rattle.elan_rules.proofs.First.{bind_gives, before_gives, gives_is}

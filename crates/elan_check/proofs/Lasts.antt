@@ -8,7 +8,7 @@ use Rattle.elan_tree.specs.declared.phrase.Unit.TheVariants as statement
 use Rattle.elan_scope.specs.declared.scope.Scope.{Scope}
 use Rattle.elan_scope.specs.Phrase as form
 use Rattle.elan_scope.specs.Phrase.{Phrase, all_of, around, is_empty, all_empty, place, last_place}
-use Rattle.elan_check.specs.Shape.{expr, unit, role, roles}
+use Rattle.elan_judge.specs.Shape.{expr, unit, role, roles}
 use Rattle.elan_check.specs.Refinements.{last_unit_in}
 
 abbrev last_in : Option Phrase → List Phrase → Option Phrase

@@ -10,16 +10,16 @@ use Rattle.elan_scope.specs.declared.heading.Heading.{Heading}
 use Rattle.elan_meant.specs.declared.meant.Meant.{Meant}
 use Rattle.elan_meant.specs.declared.meant.Meant.TheVariants.{Absent, Value, Done, Left, Labels, Branches, Arms, Counter, Bodies, Level}
 use Rattle.elan_scope.specs.declared.scope.Scope.{Scope}
-use Rattle.elan_check.specs.Bodies as b
-use Rattle.elan_check.specs.Bodies.{headings, level_names}
+use Rattle.elan_levels.specs.Bodies as b
+use Rattle.elan_levels.specs.Bodies.{headings, level_names}
 use Rattle.elan_scope.specs.Phrase as form
 use Rattle.elan_scope.specs.Phrase.{Phrase, phrase, Parts, none, part, all_of, around}
 use Rattle.elan_scope.specs.Ruled.{gives}
 use Rattle.elan_scope.specs.declared.known.Known.{Known}
-use Rattle.elan_check.specs.Operators.{operator_text}
+use Rattle.elan_unbuilt.specs.Operators.{operator_text}
 use Rattle.unit_rules.specs.Units as u
 use Rattle.elan_rules.specs.Rules.{rule}
-use Rattle.elan_check.specs.Shape as shape
+use Rattle.elan_judge.specs.Shape as shape
 use Rattle.elan_check.specs.Level as l
 use Rattle.elan_rules.specs.Meaning.{judged, judged_all}
 use Rattle.elan_rules.proofs.First.{bind_gives, before_gives, gives_is}
@@ -100,7 +100,7 @@ module _ (kn : Known) (s : Scope) (all : List Body) where
       subst (λ (ns : List Meant). Rows kn s all k (b.all_headings k (v ∷ vs)) (l.all_unit_bodies s k (v ∷ vs)) (u.bodies_of ns)) (sym q.4)
       (rows_append kn s all k (k + b.bodies_in v) (b.unit_headings k v) (b.all_headings (k + b.bodies_in v) vs) (l.unit_bodies s k v) (l.all_unit_bodies s (k + b.bodies_in v) vs) (u.bodies_in q.0) (u.bodies_of q.1) (ap (λ (n : ℕ). k + n) (sym count)) first rest)
 
-  pub all_count : (k : ℕ) (vs : List LevelUnit) → length (b.all_headings k vs) ≡ l.bodies_of_units vs
+  pub all_count : (k : ℕ) (vs : List LevelUnit) → length (b.all_headings k vs) ≡ b.bodies_of_units vs
   all_count k [] = refl
   all_count k (v ∷ vs) = both (b.unit_headings k v) (b.all_headings (k + b.bodies_in v) vs) ∙ ap (λ (n : ℕ). n + length (b.all_headings (k + b.bodies_in v) vs)) (headings_count k v) ∙ ap (λ (n : ℕ). b.bodies_in v + n) (all_count (k + b.bodies_in v) vs)
     where

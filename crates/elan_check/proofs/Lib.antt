@@ -1,8 +1,4 @@
 pub mod OneAnswer
-pub mod InScope
-pub mod TypedRules
-pub mod Held
-pub mod OwnNames
 pub mod Inferred
 pub mod Settled
 pub mod Aligned
@@ -19,5 +15,3 @@ pub mod Calls
 pub mod Steps
 pub mod Hanging
 pub mod Spots
-pub mod Rows
-pub mod Shapes

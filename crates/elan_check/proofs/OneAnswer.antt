@@ -10,7 +10,7 @@ use Rattle.elan_meant.specs.declared.meant.Meant.{Meant}
 use Rattle.elan_meant.specs.declared.meant.Meant.TheVariants.{Level}
 use Rattle.elan_scope.specs.Ruled.{Fault, Ruled, gives, breaks, hangs}
 use Rattle.elan_scope.specs.Scope.{variables_of}
-use Rattle.elan_check.specs.Bodies.{level_names}
+use Rattle.elan_levels.specs.Bodies.{level_names}
 use Rattle.elan_scope.specs.Phrase as form
 use Rattle.elan_scope.specs.Phrase.{Phrase, phrase, all_of}
 use Rattle.elan_scope.specs.declared.known.Known.{Known}
@@ -19,7 +19,7 @@ use Rattle.unit_rules.specs.Units.{bodies_of}
 use Rattle.elan_rules.specs.Rules.{rule}
 use Rattle.elan_rules.specs.Meaning.{judged, judged_all}
 use Rattle.elan_check.proofs.Spots.{never_hangs}
-use Rattle.elan_check.specs.NotBuilt.{not_built}
+use Rattle.elan_unbuilt.specs.NotBuilt.{not_built}
 use Rattle.elan_check.specs.Level.{text, level_in, level_parts}
 use Rattle.elan_rules.specs.Meaning as phrase
 use Rattle.elan_check.specs.Text.{Means, Refused, known, HasAnswer, core, refusal, not_yet, HasOneAnswer}

@@ -1,5 +1,5 @@
 -- What PROCs, OPs and refinements mean, from what their parts mean.
-use Rattle.std.proofs.Common.{◌≡◌, ℕ, suc, ◌+◌, ◌<◌, ◌≤◌, List, [], ◌∷◌, ◌++◌, map, length, get_or, drop, drop-cons, Result, Ok, Option, arith, Bool, true, refl, sym, ap, subst, ◌∙◌, append_assoc}
+use Rattle.std.proofs.Common.{◌≡◌, ℕ, suc, ◌+◌, ◌<◌, ◌≤◌, List, [], ◌∷◌, ◌++◌, map, length, get_or, drop, drop-cons, Result, Option, arith, Bool, true, refl, sym, ap, subst, ◌∙◌, append_assoc}
 use Rattle.std.proofs.lemmas.List.{append-nil, at_drop_all}
 use Rattle.elan_types.specs.declared.elan_type.ElanType.{ElanType}
 use Rattle.elan_types.specs.declared.core_phrase.Parameter.{Parameter}
@@ -26,10 +26,10 @@ use Rattle.elan_scope.specs.Ruled.{Ruled, gives, joined}
 use Rattle.elan_scope.specs.Scope.{first_heading, is_alike, types_of}
 use Rattle.value_rules.specs.Calls as calls
 use Rattle.unit_rules.specs.Units as u
-use Rattle.elan_check.specs.Shape as shape
-use Rattle.elan_check.specs.Bodies.{parameters, result, body_names, bodies_in}
+use Rattle.elan_judge.specs.Shape as shape
+use Rattle.elan_levels.specs.Bodies.{parameters, result, body_names, bodies_in}
 use Rattle.elan_check.specs.Level as l
-use Rattle.elan_check.proofs.Rows.{row_is, one_is}
+use Rattle.elan_judge.proofs.Rows.{row_is, one_is}
 
 -- ---- a row that grows behind phrases: those that are judged, and those that are left
 
@@ -40,9 +40,6 @@ pub record Grown (k : Known) (row : Result (List Meant) Trouble) (left whole : L
 
 pub starts : (k : Known) (row : Result (List Meant) Trouble) (ps left : List Phrase) → Is row (judged_all k (all_of ps)) → Grown k row left (ps ++ left)
 starts k row ps left h = record { done = ps; means = h; rest = refl }
-
-pub no_phrases : (k : Known) (ms : List Meant) → ms ≡ [] → Is {A = List Meant} (Ok ms) (judged_all k (all_of []))
-no_phrases k ms e = ap (λ (ns : List Meant). gives ns) (sym e)
 
 -- one phrase further
 pub grows : (k : Known) (row next : Result (List Meant) Trouble) (p : Phrase) (left whole : List Phrase) → (g : Grown k row (p ∷ left) whole) → Is next (joined (judged_all k (all_of g.done)) (judged k p)) → Grown k next left whole

@@ -11,7 +11,7 @@ use Rattle.elan_scope.specs.Phrase.{Phrase}
 use Rattle.elan_scope.specs.Ruled.{Ruled, gives, breaks, hangs}
 use Rattle.elan_scope.specs.Known.{delivery_at}
 use Rattle.elan_scope.specs.declared.known.Known.{Known}
-use Rattle.elan_check.specs.Shape.{units}
+use Rattle.elan_judge.specs.Shape.{units}
 use Rattle.elan_rules.specs.Meaning.{judged}
 use Rattle.elan_check.specs.Refinements.{told, told_by, last_unit, delivery_of, outcome, unit_delivery, next, next_all, called_in, known_after}
 use Rattle.elan_check.proofs.Inferred.{Below, Last, same_meaning, last_delivers}

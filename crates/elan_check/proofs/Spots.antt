@@ -20,21 +20,21 @@ use Rattle.elan_scope.specs.declared.heading.Sort.TheVariants.{Procedure, Operat
 use Rattle.elan_scope.specs.declared.heading.What.TheVariants.{Routine}
 use Rattle.elan_scope.specs.declared.heading.Heading.{Heading}
 use Rattle.elan_scope.specs.declared.scope.Scope.{Scope}
-use Rattle.elan_check.specs.Bodies as b
-use Rattle.elan_check.specs.Bodies.{headings, parameters, result}
-use Rattle.elan_check.specs.Operators.{operator_text}
+use Rattle.elan_levels.specs.Bodies as b
+use Rattle.elan_levels.specs.Bodies.{headings, parameters, result}
+use Rattle.elan_unbuilt.specs.Operators.{operator_text}
 use Rattle.elan_scope.specs.Phrase as form
 use Rattle.elan_scope.specs.Phrase.{Form, Phrase, phrase, Parts, none, part, all_of, around, leaf, last_place}
 use Rattle.elan_scope.specs.Ruled.{Ruled, hangs}
 use Rattle.elan_scope.specs.Known.{delivery_at, leads_back}
 use Rattle.elan_scope.specs.declared.known.Known.{Known}
 use Rattle.elan_rules.specs.Rules.{rule}
-use Rattle.elan_check.specs.Shape as shape
+use Rattle.elan_judge.specs.Shape as shape
 use Rattle.elan_check.specs.Level as l
 use Rattle.elan_rules.specs.Meaning.{judged, judged_all}
 use Rattle.elan_check.specs.Refinements.{told, called_in, known_of}
 use Rattle.elan_rules.proofs.First.{Faultless, whole, open_one, bind_faultless, before_faultless}
-use Rattle.elan_check.proofs.InScope.{InScope, body_units_in, statement_in}
+use Rattle.elan_judge.proofs.InScope.{InScope, body_units_in, statement_in}
 use Rattle.elan_rules.proofs.Firm.{Firm, rules, not_hung}
 use Rattle.elan_check.proofs.Walks.{In, Call, no_walk}
 use Rattle.elan_check.proofs.Settled.{open_last, calls_are}
@@ -240,23 +240,23 @@ module _ (kn : Known) (s : Scope) where
   units_lead k [] = tt
   units_lead k (v ∷ vs) = (unit_lead k v, units_lead (k + b.bodies_in v) vs)
 
-  pub level_lead : (w : Level) → judged kn (phrase form.level (all_of (l.level_units s 0 w.units ++ l.refinements s (l.bodies_of_units w.units) w.refinements))) ≡ hangs → HangsIn
-  level_lead w e = phrase_hangs form.level (l.level_units s 0 w.units ++ l.refinements s (l.bodies_of_units w.units) w.refinements) tt (lead_append (l.level_units s 0 w.units) (l.refinements s (l.bodies_of_units w.units) w.refinements) (units_lead 0 w.units) (refinements_lead s (l.bodies_of_units w.units) w.refinements refl)) e
+  pub level_lead : (w : Level) → judged kn (phrase form.level (all_of (l.level_units s 0 w.units ++ l.refinements s (b.bodies_of_units w.units) w.refinements))) ≡ hangs → HangsIn
+  level_lead w e = phrase_hangs form.level (l.level_units s 0 w.units ++ l.refinements s (b.bodies_of_units w.units) w.refinements) tt (lead_append (l.level_units s 0 w.units) (l.refinements s (b.bodies_of_units w.units) w.refinements) (units_lead 0 w.units) (refinements_lead s (b.bodies_of_units w.units) w.refinements refl)) e
 
   count_append : (xs ys : List Heading) → length (xs ++ ys) ≡ length xs + length ys
   count_append [] ys = let z : 0 + length ys ≡ length ys = omega arith in sym z
   count_append (x ∷ xs) ys = let z : suc (length xs) + length ys ≡ suc (length xs + length ys) = omega arith in ap suc (count_append xs ys) ∙ sym z
 
-  all_count : (k : ℕ) (vs : List LevelUnit) → length (b.all_headings k vs) ≡ l.bodies_of_units vs
+  all_count : (k : ℕ) (vs : List LevelUnit) → length (b.all_headings k vs) ≡ b.bodies_of_units vs
   all_count k [] = refl
   all_count k (v ∷ vs) = count_append (b.unit_headings k v) (b.all_headings (k + b.bodies_in v) vs) ∙ ap (λ (n : ℕ). n + length (b.all_headings (k + b.bodies_in v) vs)) (headings_count k v) ∙ ap (λ (n : ℕ). b.bodies_in v + n) (all_count (k + b.bodies_in v) vs)
 
-  pub level_spots : (w : Level) → Faultless (judged kn (phrase form.level (all_of (l.level_units s 0 w.units ++ l.refinements s (l.bodies_of_units w.units) w.refinements)))) → Spots 0 (b.all_headings 0 w.units ++ b.refinement_headings None w.refinements) (l.all_unit_bodies s 0 w.units ++ l.all_refined_units s (l.bodies_of_units w.units) w.refinements)
+  pub level_spots : (w : Level) → Faultless (judged kn (phrase form.level (all_of (l.level_units s 0 w.units ++ l.refinements s (b.bodies_of_units w.units) w.refinements)))) → Spots 0 (b.all_headings 0 w.units ++ b.refinement_headings None w.refinements) (l.all_unit_bodies s 0 w.units ++ l.all_refined_units s (b.bodies_of_units w.units) w.refinements)
   level_spots w f =
-      let g = bind_faultless kn (judged_all kn (all_of (l.level_units s 0 w.units ++ l.refinements s (l.bodies_of_units w.units) w.refinements))) (rule kn form.level) f in
-      let h = split (l.level_units s 0 w.units) (l.refinements s (l.bodies_of_units w.units) w.refinements) g in
+      let g = bind_faultless kn (judged_all kn (all_of (l.level_units s 0 w.units ++ l.refinements s (b.bodies_of_units w.units) w.refinements))) (rule kn form.level) f in
+      let h = split (l.level_units s 0 w.units) (l.refinements s (b.bodies_of_units w.units) w.refinements) g in
       let z : 0 + length (b.all_headings 0 w.units) ≡ length (b.all_headings 0 w.units) = omega arith in
-      spots_append 0 (l.bodies_of_units w.units) (b.all_headings 0 w.units) (b.refinement_headings None w.refinements) (l.all_unit_bodies s 0 w.units) (l.all_refined_units s (l.bodies_of_units w.units) w.refinements) (sym (all_count 0 w.units) ∙ sym z) (units_spots 0 w.units h.0) (refinement_spots s (l.bodies_of_units w.units) None w.refinements refl h.1)
+      spots_append 0 (b.bodies_of_units w.units) (b.all_headings 0 w.units) (b.refinement_headings None w.refinements) (l.all_unit_bodies s 0 w.units) (l.all_refined_units s (b.bodies_of_units w.units) w.refinements) (sym (all_count 0 w.units) ∙ sym z) (units_spots 0 w.units h.0) (refinement_spots s (b.bodies_of_units w.units) None w.refinements refl h.1)
 
 -- ---- a level
 

@@ -15,9 +15,9 @@ use Rattle.elan_scope.specs.declared.known.Known.{Known}
 use Rattle.elan_scope.specs.declared.scope.Scope.{Scope}
 use Rattle.elan_scope.specs.Known.{delivery_at}
 use Rattle.elan_scope.specs.Phrase.{Phrase}
-use Rattle.elan_check.specs.Bodies as b
+use Rattle.elan_levels.specs.Bodies as b
 use Rattle.elan_check.specs.Level as l
-use Rattle.elan_check.specs.Shape.{unit, units}
+use Rattle.elan_judge.specs.Shape.{unit, units}
 use Rattle.elan_check.specs.Refinements.{told_by, next, next_all, called_in, known_after, known_of, more_known, all_known, nothing_known}
 
 abbrev pub known_with : List Delivery → List (List ℕ) → Known
@@ -100,7 +100,7 @@ unit_count s k (level.Proc at r n fs w) = ap suc (refined_count (l.routine_scope
 unit_count s k (level.Op at r n fs w) = ap suc (refined_count (l.routine_scope s k (b.body_names fs w)) (suc k) w.refinements)
 unit_count s k (level.NewType at n of) = refl
 
-pub units_count : (s : Scope) (k : ℕ) (vs : List LevelUnit) → length (l.all_unit_bodies s k vs) ≡ l.bodies_of_units vs
+pub units_count : (s : Scope) (k : ℕ) (vs : List LevelUnit) → length (l.all_unit_bodies s k vs) ≡ b.bodies_of_units vs
 units_count s k [] = refl
 units_count s k (v ∷ vs) =
     phrases_count (l.unit_bodies s k v) (l.all_unit_bodies s (k + b.bodies_in v) vs)
@@ -113,7 +113,7 @@ unit_headings_count k (level.Proc at r n fs w) = ap suc (refinements_count (Some
 unit_headings_count k (level.Op at r n fs w) = ap suc (refinements_count (Some k) w.refinements)
 unit_headings_count k (level.NewType at n of) = refl
 
-all_headings_count : (k : ℕ) (vs : List LevelUnit) → length (b.all_headings k vs) ≡ l.bodies_of_units vs
+all_headings_count : (k : ℕ) (vs : List LevelUnit) → length (b.all_headings k vs) ≡ b.bodies_of_units vs
 all_headings_count k [] = refl
 all_headings_count k (v ∷ vs) =
     headings_count (b.unit_headings k v) (b.all_headings (k + b.bodies_in v) vs)
@@ -124,7 +124,7 @@ all_headings_count k (v ∷ vs) =
 level_count : (w : Level) → length (b.headings w) ≡ length (l.level_bodies w)
 level_count w =
     let s = l.level_scope w in
-    let m = l.bodies_of_units w.units in
+    let m = b.bodies_of_units w.units in
     headings_count (b.all_headings 0 w.units) (b.refinement_headings None w.refinements)
     ∙ ap (λ (n : ℕ). n + length (b.refinement_headings None w.refinements)) (all_headings_count 0 w.units)
     ∙ ap (λ (n : ℕ). m + n) (refinements_count None w.refinements)
@@ -226,12 +226,12 @@ module _ (k : Known) where
       ∙ ap (λ (o : Known). all_known k o (suc n) (l.all_refined_units z (suc n) w.refinements)) ef
       ∙ ap (λ (y : Scope). all_known k (more_known k out n (units true (map (unit y) w.units))) (suc n) (l.all_refined_units y (suc n) w.refinements)) ez
 
-  pub level_found : (w : Level) (s z : Scope) (m : ℕ) (first new : Known) → s ≡ l.level_scope w → z ≡ s → m ≡ l.bodies_of_units w.units →
+  pub level_found : (w : Level) (s z : Scope) (m : ℕ) (first new : Known) → s ≡ l.level_scope w → z ≡ s → m ≡ b.bodies_of_units w.units →
       first ≡ all_known k nothing_known 0 (l.all_unit_bodies s 0 w.units) → new ≡ all_known k first m (l.all_refined_units z m w.refinements) → new ≡ all_known k nothing_known 0 (l.level_bodies w)
   level_found w s z m first new es ez em ef en =
       let here = l.level_scope w in
       let before = l.all_unit_bodies here 0 w.units in
-      let count = l.bodies_of_units w.units in
+      let count = b.bodies_of_units w.units in
       let length_is : 0 + length before ≡ count = (let c = units_count here 0 w.units in omega (arith, c)) in
       en ∙ ap (λ (j : ℕ). all_known k first j (l.all_refined_units z j w.refinements)) em
       ∙ ap (λ (y : Scope). all_known k first count (l.all_refined_units y count w.refinements)) (ez ∙ es)

@@ -31,29 +31,29 @@ use Rattle.elan_meant.specs.declared.meant.Meant.TheVariants.{Absent, Value, Don
 use Rattle.elan_scope.specs.Scope.{number_of, all_held, or_else, variables_of}
 use Rattle.elan_scope.specs.declared.scope.Scope.{Scope}
 use Rattle.elan_scope.specs.declared.scope.Within.{Within}
-use Rattle.elan_check.specs.Bodies as b
-use Rattle.elan_check.specs.Bodies.{headings, level_names}
+use Rattle.elan_levels.specs.Bodies as b
+use Rattle.elan_levels.specs.Bodies.{headings, level_names}
 use Rattle.elan_scope.specs.Phrase as form
 use Rattle.elan_scope.specs.Phrase.{Phrase, phrase, Parts, none, part, all_of, around}
 use Rattle.elan_scope.specs.Ruled.{gives}
 use Rattle.elan_scope.specs.Known.{delivery_at}
 use Rattle.elan_scope.specs.declared.known.Known.{Known}
-use Rattle.elan_check.specs.Operators.{operator_text}
+use Rattle.elan_unbuilt.specs.Operators.{operator_text}
 use Rattle.elan_meant.specs.Parts as p
 use Rattle.unit_rules.specs.Units as u
 use Rattle.elan_rules.specs.Rules.{rule}
-use Rattle.elan_check.specs.Shape as shape
+use Rattle.elan_judge.specs.Shape as shape
 use Rattle.elan_check.specs.Level as l
 use Rattle.elan_rules.specs.Meaning.{judged, judged_all}
 use Rattle.elan_check.specs.Refinements.{told, delivery_of, known_of}
 use Rattle.elan_check.specs.Text.{Means, known}
 use Rattle.elan_rules.proofs.First.{bind_gives, before_gives, gives_is, judged_of}
-use Rattle.elan_check.proofs.InScope.{statement_in}
+use Rattle.elan_judge.proofs.InScope.{statement_in}
 use Rattle.elan_rules.proofs.TypeEquations.{Stand}
 use Rattle.elan_rules.proofs.Typed as ty
 use Rattle.elan_rules.proofs.TypedUnits.{content_as_good, content_of_good}
 use Rattle.elan_rules.proofs.TypedCalls.{owner_with, Headed, Delivering, BodyFits, FrameIs, Fits}
-use Rattle.elan_check.proofs.TypedRules.{good}
+use Rattle.elan_judge.proofs.TypedRules.{good}
 use Rattle.elan_check.proofs.Settled.{told_found, refinement_found}
 use Rattle.elan_check.proofs.Aligned.{Made, Inside, Frames, within, Stands, Row, Rows, rows_append, refinement_rows, split, bodies_append}
 use Rattle.elan_check.proofs.LevelRows.{units_rows, rows_count, all_count, inside_first, row_of_heading, heading_of_body}
@@ -127,7 +127,7 @@ module _ (w : Written) (us : List Action) (all : List Body) where
   vs = variables_of (level_names w)
 
   abbrev after_units : ℕ
-  after_units = l.bodies_of_units w.units
+  after_units = b.bodies_of_units w.units
 
   abbrev MeansLevel : Type 0
   MeansLevel = judged kn (l.level_phrase w) ≡ gives (Level us all)

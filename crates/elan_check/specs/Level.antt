@@ -19,11 +19,11 @@ use Rattle.elan_scope.specs.declared.heading.Sort.TheVariants.{Procedure, Operat
 use Rattle.elan_scope.specs.Scope.{types_of, all_held}
 use Rattle.elan_scope.specs.declared.scope.Scope.{Scope}
 use Rattle.elan_scope.specs.declared.scope.Within.{Within}
-use Rattle.elan_check.specs.Bodies.{parameters, result, own_names, body_names, level_names, headings, bodies_in}
-use Rattle.elan_check.specs.Operators.{operator_text}
+use Rattle.elan_levels.specs.Bodies.{parameters, result, own_names, body_names, level_names, headings, bodies_in, bodies_of_units}
+use Rattle.elan_unbuilt.specs.Operators.{operator_text}
 use Rattle.elan_scope.specs.Phrase as form
 use Rattle.elan_scope.specs.Phrase.{Phrase, phrase, Parts, none, part, leaf, around, pair, all_of, all_empty, last_place}
-use Rattle.elan_check.specs.Shape.{unit, units}
+use Rattle.elan_judge.specs.Shape.{unit, units}
 
 -- ---- scopes
 
@@ -153,10 +153,6 @@ module _ (s : Scope) where
   abbrev pub all_unit_bodies : ℕ → List LevelUnit → List Phrase
   all_unit_bodies k [] = []
   all_unit_bodies k (u ∷ us) = unit_bodies k u ++ all_unit_bodies (k + bodies_in u) us
-
-abbrev pub bodies_of_units : List LevelUnit → ℕ
-bodies_of_units [] = 0
-bodies_of_units (u ∷ us) = bodies_in u + bodies_of_units us
 
 -- The units of a text deliver nothing. Its refinements are numbered behind its PROCs and OPs.
 abbrev pub level_parts : Level → List Phrase

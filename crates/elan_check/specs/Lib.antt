@@ -1,10 +1,3 @@
-pub mod Names
-pub mod Operators
-pub mod NotBuilt
-pub mod Declarations
-pub mod Bodies
-pub mod Shape
 pub mod Level
-pub mod Uses
 pub mod Refinements
 pub mod Text

@@ -9,7 +9,7 @@ use Rattle.elan_meant.specs.declared.meant.Meant.{Meant}
 use Rattle.elan_meant.specs.declared.meant.Meant.TheVariants.{Value}
 use Rattle.elan_scope.specs.Known.{delivery_at}
 use Rattle.elan_scope.specs.Scope.{refinement_named}
-use Rattle.elan_check.specs.Uses.{number_list}
+use Rattle.elan_levels.specs.Uses.{number_list}
 use Rattle.elan_scope.specs.Phrase as form
 use Rattle.elan_scope.specs.Phrase.{Form, Phrase, phrase, Parts, none, part, is_empty}
 use Rattle.elan_scope.specs.Ruled.{Ruled, gives, breaks, hangs}

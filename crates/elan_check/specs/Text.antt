@@ -8,9 +8,9 @@ use Rattle.elan_check.specs.declared.error.CheckError.TheVariants.{NoMemory, NoM
 use Rattle.elan_types.specs.Typing.{IsWellTyped}
 use Rattle.elan_tree.specs.declared.tree.Level.{Level}
 use Rattle.elan_meant.specs.declared.meant.Meant.TheVariants as means
-use Rattle.elan_check.specs.NotBuilt.{not_built}
+use Rattle.elan_unbuilt.specs.NotBuilt.{not_built}
 use Rattle.elan_scope.specs.Scope.{variables_of}
-use Rattle.elan_check.specs.Bodies.{level_names, headings}
+use Rattle.elan_levels.specs.Bodies.{level_names, headings}
 use Rattle.elan_scope.specs.Ruled.{Fault, gives, breaks}
 use Rattle.elan_check.specs.Level.{level_in, level_phrase, level_bodies, text}
 use Rattle.elan_scope.specs.declared.known.Known.{Known}

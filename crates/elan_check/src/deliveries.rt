@@ -6,20 +6,21 @@ ghost use Rattle.elan_meant.specs.declared.meant.Meant.{Meant};
 ghost use Rattle.elan_scope.specs.Ruled.{Ruled};
 ghost use Rattle.elan_scope.specs.Answer.{Is};
 ghost use Rattle.elan_scope.specs.Known as knowledge;
-ghost use Rattle.elan_check.specs.Bodies as bodies;
+ghost use Rattle.elan_levels.specs.Bodies as bodies;
 ghost use Rattle.elan_check.specs.Level as level_spec;
 ghost use Rattle.elan_check.specs.Refinements as spec;
-ghost use Rattle.elan_check.specs.Shape as shape;
+ghost use Rattle.elan_judge.specs.Shape as shape;
 
-use crate::bodies::body_names;
-use crate::heading::{first_refinement, next_number, number_behind};
-use crate::judge::{is_empty, judge_unit};
-use crate::uses::in_units;
+use elan_judge::judge::{is_empty, judge_unit};
+use elan_levels::bodies::body_names;
+use elan_levels::heading::{first_refinement, next_number, number_behind};
+use elan_levels::uses::in_units;
+use elan_meant::meant::Meant;
+use elan_meant::row::Judged;
+use elan_rows::let_meant_go;
 use elan_scope::delivery::Delivery;
 use elan_scope::heading::{Heading, What};
 use elan_scope::known::Known;
-use elan_meant::meant::Meant;
-use elan_meant::row::Judged;
 use elan_scope::scope::{Scope, Within};
 use elan_scope::trouble::Trouble;
 use elan_tree::{Body, Formal, Level, LevelUnit, Refinement, Unit};
@@ -74,7 +75,11 @@ fn outcome(judged: Judged) -> Result<Delivery, NoMemory>
     ensures { (r : Ruled Meant) → Is judged r → IfOk result (λ d. d ≡ spec.outcome r) }
 {
     match judged {
-        Ok(meant) => Ok(delivery_of(&meant)),
+        Ok(meant) => {
+            let delivery = delivery_of(&meant);
+            let_meant_go(meant);
+            Ok(delivery)
+        }
         Err(Trouble::NoMemory) => Err(NoMemory),
         Err(Trouble::Breaks(_, _)) => Ok(Delivery::Open),
         Err(Trouble::Hangs) => Ok(Delivery::Open),
@@ -240,6 +245,27 @@ fn add_units(
     Ok(())
 }
 
+// Adds what is found out of all bodies.
+fn add_bodies(
+    alloc: Global,
+    known: &Known,
+    scope: &mut Scope,
+    out: &mut Known,
+    level: &Level,
+) -> Result<(), NoMemory>
+    requires scope { scope.old ≡ level_spec.level_scope level.now }
+    requires out { out.old ≡ spec.nothing_known }
+    ensures found { OnOk result (out.new ≡ spec.all_known known.now spec.nothing_known 0 (level_spec.level_bodies level.now)) }
+    ensures kept { OnOk result (scope.new ≡ scope.old) }
+{
+    let units = level.units.as_slice();
+    add_units(alloc, known, scope, out, units)?;
+    let first = first_refinement(units)?;
+    let refinements = level.refinements.as_slice();
+    add_refinements(alloc, known, scope, out, first, refinements)?;
+    Ok(())
+}
+
 // One step further.
 fn next_known(
     alloc: Global,
@@ -255,12 +281,10 @@ fn next_known(
         deliveries: List::new(alloc),
         calls: List::new(alloc),
     };
-    let units = level.units.as_slice();
-    add_units(alloc, known, scope, &mut next, units)?;
-    let first = first_refinement(units)?;
-    let refinements = level.refinements.as_slice();
-    add_refinements(alloc, known, scope, &mut next, first, refinements)?;
-    Ok(next)
+    match add_bodies(alloc, known, scope, &mut next, level) {
+        Err(refusal) => Err(refusal),
+        Ok(()) => Ok(next),
+    }
 }
 
 // What the headings tell, and which refinements the units of bodies call.

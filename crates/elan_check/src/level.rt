@@ -8,29 +8,30 @@ ghost use Rattle.elan_scope.specs.declared.known.Known.{Known};
 ghost use Rattle.elan_scope.specs.Phrase.{all_of};
 ghost use Rattle.elan_rules.specs.Meaning.{judged, judged_all};
 ghost use Rattle.elan_scope.specs.Answer.{Is};
-ghost use Rattle.elan_check.specs.Bodies as bodies;
+ghost use Rattle.elan_levels.specs.Bodies as bodies;
 ghost use Rattle.elan_check.specs.Level as spec;
-ghost use Rattle.elan_check.specs.Refinements.{known_of};
+ghost use Rattle.elan_check.specs.Refinements as refinements;
 ghost use Rattle.elan_check.specs.Text as text;
 
-use crate::bodies::{held_types, level_names};
 use crate::deliveries::known_of;
 use crate::error::CheckError;
-use crate::heading::{first_refinement, headings, number_behind};
-use crate::judge::judge_role;
-use crate::operators::operator_text;
 use crate::routine::{Routine, judge_refinements, judge_routine};
+use elan_judge::judge::judge_role;
+use elan_levels::bodies::{held_types, level_names};
+use elan_levels::heading::{first_refinement, headings, number_behind};
+use elan_meant::row::{Judged, Row};
+use elan_rows::{let_go, none, one, with};
 use elan_scope::heading::Sort;
 use elan_scope::known::Known;
-use elan_meant::row::{Judged, Row, and, one};
-use unit_rules::body::level;
-use value_rules::name::declared;
 use elan_scope::scope::Scope;
 use elan_scope::trouble::Trouble;
 use elan_tree::{Formal, Level, LevelUnit, Name};
 use elan_types::{Core, Why};
+use elan_unbuilt::operator_text;
 use eu_base::{List, NoMemory};
 use std::alloc::Global;
+use unit_rules::body::level;
+use value_rules::name::declared;
 
 // The name of a PROC: one without parameters is a name of the level.
 fn procedure_name(alloc: Global, scope: &Scope, name: &Name, formals: &[Formal]) -> Row
@@ -38,7 +39,7 @@ fn procedure_name(alloc: Global, scope: &Scope, name: &Name, formals: &[Formal])
 {
     match formals {
         [] => one(alloc, declared(alloc, name.at, scope, name.text.as_slice())),
-        [_first, _others @ ..] => Ok(List::new(alloc)),
+        [_first, _others @ ..] => none(alloc),
     }
 }
 
@@ -94,7 +95,7 @@ fn judge_level_unit(
                 formals: formals.as_slice(),
                 body,
             };
-            judge_routine(alloc, known, scope, routine, Ok(List::new(alloc)))
+            judge_routine(alloc, known, scope, routine, none(alloc))
         }
     }
 }
@@ -105,12 +106,16 @@ fn judge_level_units(alloc: Global, known: &Known, scope: &mut Scope, units: &[L
     ensures meaning { Is result (judged_all known.now (all_of (spec.level_units scope.old 0 units.now))) }
     ensures kept { scope.new ≡ scope.old }
 {
-    let mut row = Ok(List::new(alloc));
+    let mut row = none(alloc);
     let mut number = 0;
     for unit in units {
         let next = judge_level_unit(alloc, known, scope, number, unit);
-        row = and(row, next);
-        number = number_behind(number, unit)?;
+        row = with(row, next);
+        let Ok(following) = number_behind(number, unit) else {
+            let_go(row);
+            return Err(Trouble::NoMemory);
+        };
+        number = following;
     }
     row
 }
@@ -121,8 +126,8 @@ fn judge_level(alloc: Global, known: &Known, scope: &mut Scope, level: &Level) -
     ensures { Is result (judged_all known.now (all_of (spec.level_parts level.now))) }
 {
     let units = level.units.as_slice();
-    let row = judge_level_units(alloc, known, scope, units);
     let first = first_refinement(units)?;
+    let row = judge_level_units(alloc, known, scope, units);
     let refinements = level.refinements.as_slice();
     judge_refinements(alloc, known, scope, row, first, refinements)
 }
@@ -138,14 +143,19 @@ fn level_scope(alloc: Global, level: &Level) -> Result<Scope, NoMemory>
     })
 }
 
-/// The core of a level.
-pub fn core_of(alloc: Global, written: &Level) -> Result<Core, CheckError>
+// The core of a level, from what is known of its bodies.
+fn core_known(
+    alloc: Global,
+    known: &Known,
+    scope: &mut Scope,
+    written: &Level,
+) -> Result<Core, CheckError>
+    requires known { known.now ≡ refinements.known_of (bodies.headings written.now) (spec.level_bodies written.now) }
+    requires scope { scope.old ≡ spec.level_scope written.now }
     ensures { text.Answers written.now result }
 {
-    let mut scope = level_scope(alloc, written)?;
-    let known = known_of(alloc, &mut scope, written)?;
     let variables = held_types(alloc, scope.level.as_slice())?;
-    match judge_level(alloc, &known, &mut scope, written) {
+    match judge_level(alloc, known, scope, written) {
         Ok(parts) => {
             let (units, bodies) = level(alloc, parts)?;
             Ok(Core {
@@ -159,4 +169,21 @@ pub fn core_of(alloc: Global, written: &Level) -> Result<Core, CheckError>
         // Where nothing breaks a rule, nothing hangs.
         Err(Trouble::Hangs) => unreachable!(),
     }
+}
+
+// The core of a level, in its scope.
+fn core_in(alloc: Global, scope: &mut Scope, written: &Level) -> Result<Core, CheckError>
+    requires { scope.old ≡ spec.level_scope written.now }
+    ensures { text.Answers written.now result }
+{
+    let known = known_of(alloc, scope, written)?;
+    core_known(alloc, &known, scope, written)
+}
+
+/// The core of a level.
+pub fn core_of(alloc: Global, written: &Level) -> Result<Core, CheckError>
+    ensures { text.Answers written.now result }
+{
+    let mut scope = level_scope(alloc, written)?;
+    core_in(alloc, &mut scope, written)
 }

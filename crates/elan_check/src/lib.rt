@@ -1,21 +1,12 @@
 //! What a text means: its names and types, and the first phrase that breaks a rule.
 #![tactic(auto)]
 
-mod bodies;
-mod declare;
 mod deliveries;
 mod error;
-mod heading;
-mod judge;
-mod label;
 mod laws;
 mod level;
-mod names;
-mod not_built;
-mod operators;
 mod routine;
 mod text;
-mod uses;
 
 pub use error::CheckError;
 pub use laws::{

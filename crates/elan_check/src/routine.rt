@@ -8,25 +8,27 @@ ghost use Rattle.elan_scope.specs.Phrase as form;
 ghost use Rattle.elan_scope.specs.Phrase.{Phrase, phrase, around, all_of};
 ghost use Rattle.elan_rules.specs.Meaning.{judged, judged_all};
 ghost use Rattle.elan_scope.specs.Answer.{Is};
-ghost use Rattle.elan_check.specs.Bodies as bodies;
+ghost use Rattle.elan_levels.specs.Bodies as bodies;
 ghost use Rattle.elan_check.specs.Level as spec;
-ghost use Rattle.elan_check.specs.Shape as shape;
+ghost use Rattle.elan_judge.specs.Shape as shape;
 
-use crate::bodies::{body_names, held_types, own_names, parameters};
-use crate::heading::{next_number, result_type};
-use crate::judge::{all_empty, is_empty, judge_units};
+use elan_judge::judge::{all_empty, is_empty, judge_units};
+use elan_levels::bodies::{body_names, held_types, own_names, parameters};
+use elan_levels::heading::{next_number, result_type};
+use elan_meant::meant::Meant;
+use elan_meant::row::{Judged, Row};
+use elan_rows::{let_go, let_meant_go, pair, with};
+use elan_rules::whole::refinement_parts;
 use elan_scope::heading::Sort;
 use elan_scope::known::Known;
-use elan_meant::meant::Meant;
-use elan_meant::row::{Judged, Row, and, pair};
-use unit_rules::body::{bodies_of, body};
-use value_rules::name::{declared, headed};
-use elan_rules::whole::refinement_parts;
 use elan_scope::scope::{Scope, Within};
+use elan_scope::trouble::Trouble;
 use elan_tree::{Body, Expr, Formal, Name, Refinement, TypePhrase, Unit};
 use elan_types::Scope as Owner;
 use eu_base::NoMemory;
 use std::alloc::Global;
+use unit_rules::body::{bodies_of, body};
+use value_rules::name::{declared, headed};
 
 /// A PROC or OP as it is written, with its number among the bodies of the level.
 #[derive(Clone, Copy)]
@@ -72,8 +74,10 @@ fn judge_refinement(
     scope.refinement = Some(number);
     let units = judge_units(alloc, known, scope, true, refinement.units.as_slice());
     scope.refinement = None;
-    let parts = pair(alloc, name, units)?;
-    refinement_parts(alloc, owner_of(scope), parts)
+    match pair(alloc, name, units) {
+        Err(trouble) => Err(trouble),
+        Ok(parts) => refinement_parts(alloc, owner_of(scope), parts),
+    }
 }
 
 /// What phrases mean, and behind them refinements, the first of which has this number.
@@ -93,8 +97,12 @@ pub fn judge_refinements(
     let mut number = first;
     for refinement in refinements {
         let next = judge_refinement(alloc, known, scope, number, refinement);
-        row = and(row, next);
-        number = next_number(number)?;
+        row = with(row, next);
+        let Ok(following) = next_number(number) else {
+            let_go(row);
+            return Err(Trouble::NoMemory);
+        };
+        number = following;
     }
     row
 }
@@ -106,7 +114,7 @@ fn declare_all(alloc: Global, scope: &Scope, before: Row, names: &[Name]) -> Row
 {
     let mut row = before;
     for name in names {
-        row = and(row, declared(alloc, name.at, scope, name.text.as_slice()));
+        row = with(row, declared(alloc, name.at, scope, name.text.as_slice()));
     }
     row
 }
@@ -192,7 +200,10 @@ fn judge_body(alloc: Global, known: &Known, scope: &Scope, of: Routine<'_>) -> J
 {
     let units = of.body.units.as_slice();
     let meant = judge_units(alloc, known, scope, true, units)?;
-    let owner = frame(alloc, of)?;
+    let Ok(owner) = frame(alloc, of) else {
+        let_meant_go(meant);
+        return Err(Trouble::NoMemory);
+    };
     body(
         alloc,
         last_place(of.at, units),
@@ -240,9 +251,12 @@ fn judge_inside(
     ensures meaning { (ps : List Phrase) → Is before (judged_all known.now (all_of ps)) → Is result (judged_all known.now (all_of (ps ++ spec.inside scope.old of.entry.number of.entry.at of.entry.result.now of.entry.formals.now of.entry.body.now))) }
     ensures kept { scope.new ≡ scope.old }
 {
-    let first = next_number(of.number)?;
+    let Ok(first) = next_number(of.number) else {
+        let_go(before);
+        return Err(Trouble::NoMemory);
+    };
     let row = declare_parameters(alloc, scope, before, of.formals);
-    let row = and(row, judge_body(alloc, known, scope, of));
+    let row = with(row, judge_body(alloc, known, scope, of));
     let refinements = of.body.refinements.as_slice();
     judge_refinements(alloc, known, scope, row, first, refinements)
 }
@@ -251,9 +265,13 @@ fn judge_inside(
 fn routine_of(alloc: Global, parts: Row) -> Judged
     ensures { (k : Known) → (ps : List Phrase) → Is parts (judged_all k (all_of ps)) → Is result (judged k (phrase form.routine (all_of ps))) }
 {
-    let parts = parts?;
-    let bodies = bodies_of(alloc, parts)?;
-    Ok(Meant::Bodies(bodies))
+    match parts {
+        Err(trouble) => Err(trouble),
+        Ok(parts) => match bodies_of(alloc, parts) {
+            Err(_refusal) => Err(Trouble::NoMemory),
+            Ok(bodies) => Ok(Meant::Bodies(bodies)),
+        },
+    }
 }
 
 /// A PROC or OP, whose name is declared by the phrases before it.
@@ -269,8 +287,11 @@ pub fn judge_routine(
     ensures meaning { (ps : List Phrase) → Is names (judged_all known.now (all_of ps)) → Is result (judged known.now (spec.routine scope.old of.entry.number of.entry.at of.entry.name.now of.entry.result.now of.entry.formals.now of.entry.body.now of.entry.sort ps)) }
     ensures kept { scope.new ≡ scope.old }
 {
-    let own = body_names(alloc, of.formals, of.body)?;
-    let row = and(names, judge_heading(alloc, scope, of));
+    let Ok(own) = body_names(alloc, of.formals, of.body) else {
+        let_go(names);
+        return Err(Trouble::NoMemory);
+    };
+    let row = with(names, judge_heading(alloc, scope, of));
     scope.routine = Some(Within {
         number: of.number,
         names: own,

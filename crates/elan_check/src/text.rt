@@ -11,9 +11,9 @@ ghost use Rattle.elan_check.specs.Text as text;
 
 use crate::error::CheckError;
 use crate::level::core_of;
-use crate::not_built::has_unbuilt;
 use elan_tree::Tree;
 use elan_types::{Core, Env};
+use elan_unbuilt::has_unbuilt;
 use std::alloc::Global;
 
 /// The one core of a text, or the first phrase in text order that breaks a rule though all its parts have meaning, and the

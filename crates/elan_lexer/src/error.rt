@@ -1,6 +1,7 @@
 //! Why a text has no list of tokens.
 use containers::NoMemory;
 
+/// Why a text has no list of tokens.
 #[derive(Clone, Copy, PartialEq, Eq, Debug)]
 pub enum LexError {
     /// Memory was refused.

@@ -1,6 +1,7 @@
 //! What stands at the front of a text.
 use elan_tree::{Key, Word};
 
+/// What stands at the front of a text: the longest piece that begins there.
 #[derive(Drop)]
 pub enum Front {
     /// This many bytes of a blank or a comment.

@@ -9,6 +9,7 @@ use crate::class::{is_digit, is_inner, is_space, is_upper};
 use containers::{Bytes, NoMemory};
 use std::alloc::Global;
 
+/// The number of digits at the front.
 pub fn digits_len(text: &[u8]) -> usize
     ensures value { result ≡ prefix_len class.is_digit text.now }
     ensures within { result ≤ length text.now }
@@ -16,6 +17,7 @@ pub fn digits_len(text: &[u8]) -> usize
     text.iter().take_while(|b| is_digit(**b)).count()
 }
 
+/// The number of capital letters at the front.
 pub fn capitals_len(text: &[u8]) -> usize
     ensures value { result ≡ prefix_len class.is_upper text.now }
     ensures within { result ≤ length text.now }
@@ -46,6 +48,7 @@ pub fn rest_len(text: &[u8]) -> usize
     len.saturating_sub(spaces_at_end(&text[..len]))
 }
 
+/// The text without its spaces.
 pub fn without_spaces(alloc: Global, text: &[u8]) -> Result<Bytes, NoMemory>
     ensures { IfOk result (λ b. b ≡ filter (λ c. not (class.is_space c)) text.now) }
 {
@@ -69,6 +72,7 @@ pub fn value(digits: &[u8]) -> u32
     n
 }
 
+/// Whether a comment of this kind, `{` or `(*`, begins here.
 pub fn opens(curly: bool, text: &[u8]) -> bool
     ensures { result ≡ spec.opens_at curly text.now }
 {

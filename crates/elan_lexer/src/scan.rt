@@ -84,6 +84,7 @@ fn sign(text: &[u8]) -> Front
     }
 }
 
+/// The longest piece at the front of a text.
 #[tactic(auto, unfolding(crate::specs::Scan::scan))]
 pub fn scan(alloc: Global, text: &[u8]) -> Result<Front, NoMemory>
     ensures { IfOk result (λ f. f ≡ spec.scan text.now) }

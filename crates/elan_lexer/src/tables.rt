@@ -93,6 +93,7 @@ fn lookup<T: Copy>(mut table: &[(&[u8], T)], spelling: &[u8]) -> Option<T>
     None
 }
 
+/// The keyword that is spelled so.
 #[tactic(auto, unfolding(crate::specs::Tables::keywords))]
 pub fn keyword(spelling: &[u8]) -> Option<Key>
     ensures { result ≡ spec.lookup spec.keywords spelling.now }
@@ -108,6 +109,7 @@ pub fn end_word(spelling: &[u8]) -> Option<Key>
     lookup(&END_WORDS, spelling)
 }
 
+/// The sign that is spelled so.
 #[tactic(auto, unfolding(crate::specs::Tables::signs))]
 pub fn sign_spelled(spelling: &[u8]) -> Option<Sign>
     ensures { result ≡ spec.lookup spec.signs spelling.now }

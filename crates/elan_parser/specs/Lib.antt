@@ -1,12 +1,4 @@
-pub mod Pairs
-pub mod Kinds
-pub mod Rule
-pub mod Terminals
-pub mod Depth
-pub mod Types
-pub mod Expressions
-pub mod Units
-pub mod Grammar
-pub mod Looks
-pub mod Place
-pub mod Nests
+pub use Rattle.elan_grammar.specs.Depth
+pub use Rattle.elan_grammar.specs.Grammar
+pub use Rattle.elan_grammar.specs.Place
+pub use Rattle.elan_grammar.specs.Rule

@@ -1,27 +1,22 @@
 //! Bodies with their refinements, PROC and OP.
 
 ghost use Rattle.std.specs.Prelude.{◌≡◌, ◌≤◌, ◌<◌, ◌+◌, max, IfOk};
-ghost use Rattle.elan_parser.specs.Rule as rule;
-ghost use Rattle.elan_parser.specs.Rule.{Gives, GivesTall};
-ghost use Rattle.elan_parser.specs.Kinds as kinds;
-ghost use Rattle.elan_parser.specs.Terminals as terminals;
-ghost use Rattle.elan_parser.specs.Grammar as spec;
-ghost use Rattle.elan_parser.specs.Depth.{units_depth, formal_depth, formals_depth, option_type_depth, refinement_depth, refinements_depth, body_depth, level_unit_depth};
+ghost use Rattle.elan_grammar.specs.Rule.{Gives, GivesTall};
+ghost use Rattle.elan_grammar.specs.Grammar as spec;
+ghost use Rattle.elan_grammar.specs.Depth.{formal_depth, formals_depth, option_type_depth, refinement_depth, refinements_depth, body_depth, level_unit_depth};
 
-use crate::cursor::Cursor;
-use crate::error::ParseError;
-use crate::heading::{OperatorParts, ProcParts};
-use crate::kind::{goes_on, is_ident, is_operator, is_point, is_sign, leads};
-use crate::knot::units;
-use crate::parts::formals;
-use crate::tall::{Tall, and, single, with_last};
-use crate::types::{type_place, types};
 use containers::{List, NoMemory};
+use elan_cursor::Cursor;
+use elan_cursor::kind::{goes_on, is_ident, is_operator, is_point, is_sign, leads};
+use elan_grammar::tall::{Tall, and, one_more, single, with_next};
+use elan_grammar::{OperatorParts, ParseError, ProcParts};
 use elan_tree::{
     Access, Body, Formal, Key, LevelUnit, Name, Operator, OperatorName, Refinement, Sign,
     TypePhrase,
 };
+use phrase_parser::units;
 use std::alloc::Global;
+use type_parser::{formals, type_place, types};
 
 /// A tree is at most so deep.
 pub const MOST: u16 = 400;
@@ -29,7 +24,7 @@ pub const MOST: u16 = 400;
 /// What stands in a body is at most so deep.
 const MOST_IN_BODY: u16 = 399;
 
-#[tactic(auto, unfolding(crate::specs::Grammar::refinement))]
+#[tactic(auto, unfolding(elan_grammar::specs::Grammar::refinement))]
 fn refinement(
     alloc: Global,
     cursor: &mut Cursor<'_>,
@@ -40,8 +35,8 @@ fn refinement(
     ensures low { IfOk result (λ a. a.height ≤ depth) }
 {
     let name = cursor.ident(alloc)?;
-    cursor.mark(Sign::Colon)?;
-    let units = units(alloc, cursor, depth)?;
+    let (name, _) = and(name, cursor.mark(Sign::Colon))?;
+    let (name, units) = and(name, units(alloc, cursor, depth))?;
     let tree = Refinement {
         name,
         units: units.tree,
@@ -52,7 +47,8 @@ fn refinement(
     })
 }
 
-#[tactic(auto, unfolding(crate::specs::Grammar::last_point))]
+/// A point at the end, where one stands.
+#[tactic(auto, unfolding(elan_grammar::specs::Grammar::last_point))]
 pub fn last_point(cursor: &mut Cursor<'_>) -> Result<Option<u32>, ParseError>
     ensures { Gives ((spec.last_point).run cursor.old.rest.now) result cursor.new.rest.now }
 {
@@ -62,30 +58,7 @@ pub fn last_point(cursor: &mut Cursor<'_>) -> Result<Option<u32>, ParseError>
     Ok(Some(cursor.mark(Sign::Point)?))
 }
 
-#[tactic(auto, using(crate::proofs::Turns::turn_on, crate::proofs::Turns::turn_off, crate::proofs::Turns::turn_end, crate::proofs::Deepest::deepest_push))]
-fn more_refinements(
-    alloc: Global,
-    cursor: &mut Cursor<'_>,
-    depth: u16,
-    mut row: Tall<List<Refinement>>,
-) -> Result<Tall<List<Refinement>>, ParseError>
-    requires tall { row.height ≡ refinements_depth row.tree }
-    requires low { row.height ≤ depth }
-    ensures reads { GivesTall ((rule.iterate (rule.further (terminals.mark Sign.Point) (spec.refinement depth)) kinds.leads row.tree).run cursor.old.rest.now) result cursor.new.rest.now }
-    ensures tall { IfOk result (λ a. a.height ≡ refinements_depth a.tree) }
-    ensures low { IfOk result (λ a. a.height ≤ depth) }
-{
-    for _turn in 0..cursor.rest.len() {
-        if !leads(cursor.ahead()) {
-            return Ok(row);
-        }
-        cursor.mark(Sign::Point)?;
-        row = with_last(row, refinement(alloc, cursor, depth)?)?;
-    }
-    Ok(row)
-}
-
-#[tactic(auto, unfolding(crate::specs::Grammar::refinement_list), using(crate::proofs::Deepest::deepest_one))]
+#[tactic(auto, unfolding(elan_grammar::specs::Grammar::refinement_list), using(elan_grammar::proofs::Turns::turn_on, elan_grammar::proofs::Turns::turn_off, elan_grammar::proofs::Turns::turn_end, elan_grammar::proofs::Deepest::deepest_one, elan_grammar::proofs::Deepest::deepest_push))]
 fn refinement_list(
     alloc: Global,
     cursor: &mut Cursor<'_>,
@@ -95,11 +68,18 @@ fn refinement_list(
     ensures tall { IfOk result (λ a. a.height ≡ refinements_depth a.tree) }
     ensures low { IfOk result (λ a. a.height ≤ depth) }
 {
-    let first = refinement(alloc, cursor, depth)?;
-    more_refinements(alloc, cursor, depth, single(alloc, first)?)
+    let mut row = single(alloc, refinement(alloc, cursor, depth))?;
+    for _turn in 0..cursor.rest.len() {
+        if !leads(cursor.ahead()) {
+            return Ok(row);
+        }
+        let (items, _) = and(row, cursor.mark(Sign::Point))?;
+        row = with_next(items, refinement(alloc, cursor, depth))?;
+    }
+    Ok(row)
 }
 
-#[tactic(auto, unfolding(crate::specs::Grammar::refinements))]
+#[tactic(auto, unfolding(elan_grammar::specs::Grammar::refinements))]
 fn refinements(
     alloc: Global,
     cursor: &mut Cursor<'_>,
@@ -110,11 +90,11 @@ fn refinements(
     ensures low { IfOk result (λ a. a.height ≤ depth) }
 {
     let row = refinement_list(alloc, cursor, depth)?;
-    last_point(cursor)?;
+    let (row, _) = and(row, last_point(cursor))?;
     Ok(row)
 }
 
-#[tactic(auto, unfolding(crate::specs::Grammar::point_tail))]
+#[tactic(auto, unfolding(elan_grammar::specs::Grammar::point_tail))]
 fn point_tail(
     alloc: Global,
     cursor: &mut Cursor<'_>,
@@ -135,7 +115,7 @@ fn point_tail(
 }
 
 /// What may end a list of units: its refinements.
-#[tactic(auto, unfolding(crate::specs::Grammar::tail))]
+#[tactic(auto, unfolding(elan_grammar::specs::Grammar::tail))]
 pub fn tail(
     alloc: Global,
     cursor: &mut Cursor<'_>,
@@ -154,14 +134,14 @@ pub fn tail(
     })
 }
 
-#[tactic(auto, unfolding(crate::specs::Grammar::body))]
+#[tactic(auto, unfolding(elan_grammar::specs::Grammar::body))]
 fn body(alloc: Global, cursor: &mut Cursor<'_>) -> Result<Tall<Body>, ParseError>
     ensures reads { GivesTall ((spec.body).run cursor.old.rest.now) result cursor.new.rest.now }
     ensures tall { IfOk result (λ a. a.height ≡ body_depth a.tree) }
     ensures low { IfOk result (λ a. a.height ≤ 399) }
 {
     let units = units(alloc, cursor, MOST)?;
-    let refinements = tail(alloc, cursor, MOST_IN_BODY)?;
+    let (units, refinements) = and(units, tail(alloc, cursor, MOST_IN_BODY))?;
     let height = units.height.max(refinements.height);
     let tree = Body {
         units: units.tree,
@@ -171,7 +151,7 @@ fn body(alloc: Global, cursor: &mut Cursor<'_>) -> Result<Tall<Body>, ParseError
 }
 
 /// The name of what ends, where it is written.
-#[tactic(auto, unfolding(crate::specs::Grammar::end_name))]
+#[tactic(auto, unfolding(elan_grammar::specs::Grammar::end_name))]
 pub fn end_name(cursor: &mut Cursor<'_>, name: &Name) -> Result<Option<()>, ParseError>
     ensures { Gives ((spec.end_name name.now).run cursor.old.rest.now) result cursor.new.rest.now }
 {
@@ -182,7 +162,7 @@ pub fn end_name(cursor: &mut Cursor<'_>, name: &Name) -> Result<Option<()>, Pars
     Ok(Some(()))
 }
 
-#[tactic(auto, unfolding(crate::specs::Grammar::end_operator))]
+#[tactic(auto, unfolding(elan_grammar::specs::Grammar::end_operator))]
 fn end_operator(cursor: &mut Cursor<'_>, name: &OperatorName) -> Result<Option<()>, ParseError>
     ensures { Gives ((spec.end_operator name.now).run cursor.old.rest.now) result cursor.new.rest.now }
 {
@@ -193,7 +173,7 @@ fn end_operator(cursor: &mut Cursor<'_>, name: &OperatorName) -> Result<Option<(
     Ok(Some(()))
 }
 
-#[tactic(auto, unfolding(crate::specs::Grammar::formal_list))]
+#[tactic(auto, unfolding(elan_grammar::specs::Grammar::formal_list))]
 fn formal_list(alloc: Global, cursor: &mut Cursor<'_>) -> Result<Tall<List<Formal>>, ParseError>
     ensures reads { GivesTall ((spec.formal_list).run cursor.old.rest.now) result cursor.new.rest.now }
     ensures tall { IfOk result (λ a. a.height ≡ formals_depth a.tree) }
@@ -201,11 +181,11 @@ fn formal_list(alloc: Global, cursor: &mut Cursor<'_>) -> Result<Tall<List<Forma
 {
     cursor.mark(Sign::LeftRound)?;
     let row = formals(alloc, cursor, MOST_IN_BODY)?;
-    cursor.mark(Sign::RightRound)?;
+    let (row, _) = and(row, cursor.mark(Sign::RightRound))?;
     Ok(row)
 }
 
-#[tactic(auto, unfolding(crate::specs::Grammar::optional_formals))]
+#[tactic(auto, unfolding(elan_grammar::specs::Grammar::optional_formals))]
 fn optional_formals(
     alloc: Global,
     cursor: &mut Cursor<'_>,
@@ -233,7 +213,7 @@ fn start(of: &Option<TypePhrase>, at: u32) -> u32
     }
 }
 
-#[tactic(auto, unfolding(crate::specs::Grammar::proc_parts))]
+#[tactic(auto, unfolding(elan_grammar::specs::Grammar::proc_parts))]
 fn proc_parts(alloc: Global, cursor: &mut Cursor<'_>) -> Result<Tall<ProcParts>, ParseError>
     ensures reads { GivesTall ((spec.proc_parts).run cursor.old.rest.now) result cursor.new.rest.now }
     ensures tall { IfOk result (λ a. a.height ≡ max (formals_depth a.tree.formals) (body_depth a.tree.body) + 1) }
@@ -241,12 +221,13 @@ fn proc_parts(alloc: Global, cursor: &mut Cursor<'_>) -> Result<Tall<ProcParts>,
 {
     let at = cursor.keyword(Key::Proc)?;
     let name = cursor.ident(alloc)?;
-    let formals = optional_formals(alloc, cursor)?;
-    cursor.mark(Sign::Colon)?;
-    let body = body(alloc, cursor)?;
-    cursor.keyword(Key::End)?;
-    cursor.keyword(Key::Proc)?;
-    end_name(cursor, &name)?;
+    let (name, formals) = and(name, optional_formals(alloc, cursor))?;
+    let (head, _) = and((name, formals), cursor.mark(Sign::Colon))?;
+    let (head, body) = and(head, body(alloc, cursor))?;
+    let (parts, _) = and((head, body), cursor.end_of(Key::Proc))?;
+    let ((name, formals), body) = parts;
+    let end = end_name(cursor, &name);
+    let ((name, formals, body), _) = and((name, formals, body), end)?;
     let height = formals.height.max(body.height) + 1;
     let tree = ProcParts {
         at,
@@ -258,7 +239,7 @@ fn proc_parts(alloc: Global, cursor: &mut Cursor<'_>) -> Result<Tall<ProcParts>,
 }
 
 /// A PROC behind the type of its result.
-#[tactic(auto, unfolding(crate::specs::Grammar::proc))]
+#[tactic(auto, unfolding(elan_grammar::specs::Grammar::proc))]
 pub fn proc(
     alloc: Global,
     cursor: &mut Cursor<'_>,
@@ -306,7 +287,7 @@ fn operand_of(alloc: Global, of: TypePhrase, access: Access, name: Name) -> Resu
     Ok(Formal { of, access, names })
 }
 
-#[tactic(auto, unfolding(crate::specs::Grammar::operand))]
+#[tactic(auto, unfolding(elan_grammar::specs::Grammar::operand))]
 fn operand(alloc: Global, cursor: &mut Cursor<'_>) -> Result<Tall<Formal>, ParseError>
     ensures reads { GivesTall ((spec.operand).run cursor.old.rest.now) result cursor.new.rest.now }
     ensures tall { IfOk result (λ a. a.height ≡ formal_depth a.tree) }
@@ -320,7 +301,7 @@ fn operand(alloc: Global, cursor: &mut Cursor<'_>) -> Result<Tall<Formal>, Parse
     Ok(Tall { tree, height })
 }
 
-#[tactic(auto, unfolding(crate::specs::Grammar::same_typed), using(crate::proofs::Deepest::deepest_one))]
+#[tactic(auto, unfolding(elan_grammar::specs::Grammar::same_typed), using(elan_grammar::proofs::Deepest::deepest_one))]
 fn same_typed(
     alloc: Global,
     cursor: &mut Cursor<'_>,
@@ -334,12 +315,14 @@ fn same_typed(
 {
     let (first, _) = and(first, cursor.mark(Sign::Comma))?;
     let (first, second) = and(first, cursor.ident(alloc))?;
-    let Tall { mut tree, height } = first;
-    tree.names.push(second)?;
-    Ok(single(alloc, Tall { tree, height })?)
+    let Tall { tree, height } = first;
+    let Formal { of, access, names } = tree;
+    let (of, names) = and(of, one_more(names, Ok(second)))?;
+    let tree = Formal { of, access, names };
+    single(alloc, Ok(Tall { tree, height }))
 }
 
-#[tactic(auto, unfolding(crate::specs::Grammar::other_typed), using(crate::proofs::Deepest::deepest_one, crate::proofs::Deepest::deepest_push))]
+#[tactic(auto, unfolding(elan_grammar::specs::Grammar::other_typed), using(elan_grammar::proofs::Deepest::deepest_one, elan_grammar::proofs::Deepest::deepest_push))]
 fn other_typed(
     alloc: Global,
     cursor: &mut Cursor<'_>,
@@ -352,11 +335,11 @@ fn other_typed(
     ensures low { IfOk result (λ a. a.height ≤ 399) }
 {
     let (first, _) = and(first, cursor.mark(Sign::Comma))?;
-    let (first, second) = and(first, operand(alloc, cursor))?;
-    Ok(with_last(single(alloc, first)?, second)?)
+    let row = single(alloc, Ok(first))?;
+    with_next(row, operand(alloc, cursor))
 }
 
-#[tactic(auto, unfolding(crate::specs::Grammar::one_operand), using(crate::proofs::Deepest::deepest_one))]
+#[tactic(auto, unfolding(elan_grammar::specs::Grammar::one_operand), using(elan_grammar::proofs::Deepest::deepest_one))]
 fn one_operand(
     alloc: Global,
     cursor: &mut Cursor<'_>,
@@ -372,11 +355,11 @@ fn one_operand(
     if !takes_one(operator) {
         return Err(cursor.refuse());
     }
-    Ok(single(alloc, first)?)
+    single(alloc, Ok(first))
 }
 
 /// As many operands as an operator takes.
-#[tactic(auto, unfolding(crate::specs::Grammar::operands))]
+#[tactic(auto, unfolding(elan_grammar::specs::Grammar::operands))]
 fn operands(
     alloc: Global,
     cursor: &mut Cursor<'_>,
@@ -397,7 +380,7 @@ fn operands(
     }
 }
 
-#[tactic(auto, unfolding(crate::specs::Grammar::operator_parts))]
+#[tactic(auto, unfolding(elan_grammar::specs::Grammar::operator_parts))]
 fn operator_parts(alloc: Global, cursor: &mut Cursor<'_>) -> Result<Tall<OperatorParts>, ParseError>
     ensures reads { GivesTall ((spec.operator_parts).run cursor.old.rest.now) result cursor.new.rest.now }
     ensures tall { IfOk result (λ a. a.height ≡ max (formals_depth a.tree.formals) (body_depth a.tree.body) + 1) }
@@ -405,14 +388,16 @@ fn operator_parts(alloc: Global, cursor: &mut Cursor<'_>) -> Result<Tall<Operato
 {
     let at = cursor.keyword(Key::Op)?;
     let name = cursor.operator(alloc)?;
-    cursor.mark(Sign::LeftRound)?;
-    let formals = operands(alloc, cursor, &name.operator)?;
-    cursor.mark(Sign::RightRound)?;
-    cursor.mark(Sign::Colon)?;
-    let body = body(alloc, cursor)?;
-    cursor.keyword(Key::End)?;
-    cursor.keyword(Key::Op)?;
-    end_operator(cursor, &name)?;
+    let (name, _) = and(name, cursor.mark(Sign::LeftRound))?;
+    let operands = operands(alloc, cursor, &name.operator);
+    let (name, formals) = and(name, operands)?;
+    let (head, _) = and((name, formals), cursor.mark(Sign::RightRound))?;
+    let (head, _) = and(head, cursor.mark(Sign::Colon))?;
+    let (head, body) = and(head, body(alloc, cursor))?;
+    let (parts, _) = and((head, body), cursor.end_of(Key::Op))?;
+    let ((name, formals), body) = parts;
+    let end = end_operator(cursor, &name);
+    let ((name, formals, body), _) = and((name, formals, body), end)?;
     let height = formals.height.max(body.height) + 1;
     let tree = OperatorParts {
         at,
@@ -424,7 +409,7 @@ fn operator_parts(alloc: Global, cursor: &mut Cursor<'_>) -> Result<Tall<Operato
 }
 
 /// An OP behind the type of its result.
-#[tactic(auto, unfolding(crate::specs::Grammar::operator))]
+#[tactic(auto, unfolding(elan_grammar::specs::Grammar::operator))]
 pub fn operator(
     alloc: Global,
     cursor: &mut Cursor<'_>,

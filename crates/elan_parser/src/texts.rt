@@ -1,28 +1,24 @@
 //! Whole texts: programs and packets.
 
-ghost use Rattle.std.specs.Prelude.{◌≡◌, ℕ, List, Err, Bool, ◌≤◌, ◌<◌, ◌+◌, IfOk};
-ghost use Rattle.elan_parser.specs.Rule as rule;
-ghost use Rattle.elan_parser.specs.Rule.{Gives, GivesTall};
-ghost use Rattle.elan_parser.specs.Kinds as kinds;
-ghost use Rattle.elan_parser.specs.Terminals as terminals;
-ghost use Rattle.elan_parser.specs.Grammar as spec;
-ghost use Rattle.elan_parser.specs.Grammar.{Reads};
-ghost use Rattle.elan_parser.specs.Place.{left, ReadsOn, StaysStuck};
-ghost use Rattle.elan_parser.specs.Depth.{type_depth, level_unit_depth, level_units_depth, level_depth, tree_depth};
+ghost use Rattle.std.specs.Prelude.{◌≡◌, ℕ, List, Err, ◌≤◌, ◌<◌, IfOk};
+ghost use Rattle.elan_grammar.specs.Rule.{Gives, GivesTall};
+ghost use Rattle.elan_grammar.specs.Grammar as spec;
+ghost use Rattle.elan_grammar.specs.Grammar.{Reads};
+ghost use Rattle.elan_grammar.specs.Place.{left};
+ghost use Rattle.elan_grammar.specs.Depth.{type_depth, level_unit_depth, level_units_depth, level_depth, tree_depth};
 
 use crate::bodies::{MOST, end_name, last_point, operator, proc, tail};
-use crate::cursor::Cursor;
-use crate::error::ParseError;
-use crate::expressions::Grammar;
-use crate::kind::{begins_typed, is_comma, is_key};
-use crate::knot::{expression, units};
-use crate::tall::{Tall, single, with_last};
-use crate::types::types;
 use containers::List;
+use elan_cursor::Cursor;
+use elan_cursor::kind::{begins_typed, is_comma, is_key};
+use elan_grammar::ParseError;
+use elan_grammar::tall::{Tall, and, one, one_more, single, with_next};
 use elan_tree::{Export, Key, Level, LevelUnit, Sign, Token, Tree, TypePhrase};
+use phrase_parser::{declared, plain};
 use std::alloc::Global;
+use type_parser::types;
 
-#[tactic(auto, unfolding(crate::specs::Grammar::new_type))]
+#[tactic(auto, unfolding(elan_grammar::specs::Grammar::new_type))]
 fn new_type(alloc: Global, cursor: &mut Cursor<'_>) -> Result<Tall<LevelUnit>, ParseError>
     ensures reads { GivesTall ((spec.new_type).run cursor.old.rest.now) result cursor.new.rest.now }
     ensures tall { IfOk result (λ a. a.height ≡ level_unit_depth a.tree) }
@@ -30,8 +26,8 @@ fn new_type(alloc: Global, cursor: &mut Cursor<'_>) -> Result<Tall<LevelUnit>, P
 {
     let at = cursor.keyword(Key::TypeWord)?;
     let name = cursor.bold(alloc)?;
-    cursor.mark(Sign::Equal)?;
-    let of = types(alloc, cursor, MOST)?;
+    let (name, _) = and(name, cursor.mark(Sign::Equal))?;
+    let (name, of) = and(name, types(alloc, cursor, MOST))?;
     let tree = LevelUnit::NewType {
         at,
         name,
@@ -43,7 +39,7 @@ fn new_type(alloc: Global, cursor: &mut Cursor<'_>) -> Result<Tall<LevelUnit>, P
     })
 }
 
-#[tactic(auto, unfolding(crate::specs::Grammar::declared_unit))]
+#[tactic(auto, unfolding(elan_grammar::specs::Grammar::declared_unit))]
 fn declared_unit(
     alloc: Global,
     cursor: &mut Cursor<'_>,
@@ -55,20 +51,14 @@ fn declared_unit(
     ensures tall { IfOk result (λ a. a.height ≡ level_unit_depth a.tree) }
     ensures low { IfOk result (λ a. a.height ≤ 400) }
 {
-    let grammar = Grammar {
-        alloc,
-        depth: MOST,
-        expression,
-        units,
-    };
-    let unit = grammar.declared(cursor, of)?;
+    let unit = declared(alloc, cursor, MOST, of)?;
     Ok(Tall {
         tree: LevelUnit::Plain(unit.tree),
         height: unit.height,
     })
 }
 
-#[tactic(auto, unfolding(crate::specs::Grammar::typed_unit))]
+#[tactic(auto, unfolding(elan_grammar::specs::Grammar::typed_unit))]
 fn typed_unit(alloc: Global, cursor: &mut Cursor<'_>) -> Result<Tall<LevelUnit>, ParseError>
     ensures reads { GivesTall ((spec.typed_unit).run cursor.old.rest.now) result cursor.new.rest.now }
     ensures tall { IfOk result (λ a. a.height ≡ level_unit_depth a.tree) }
@@ -90,26 +80,20 @@ fn typed_unit(alloc: Global, cursor: &mut Cursor<'_>) -> Result<Tall<LevelUnit>,
     }
 }
 
-#[tactic(auto, unfolding(crate::specs::Grammar::plain_unit))]
+#[tactic(auto, unfolding(elan_grammar::specs::Grammar::plain_unit))]
 fn plain_unit(alloc: Global, cursor: &mut Cursor<'_>) -> Result<Tall<LevelUnit>, ParseError>
     ensures reads { GivesTall ((spec.plain_unit).run cursor.old.rest.now) result cursor.new.rest.now }
     ensures tall { IfOk result (λ a. a.height ≡ level_unit_depth a.tree) }
     ensures low { IfOk result (λ a. a.height ≤ 400) }
 {
-    let grammar = Grammar {
-        alloc,
-        depth: MOST,
-        expression,
-        units,
-    };
-    let unit = grammar.plain(cursor)?;
+    let unit = plain(alloc, cursor, MOST)?;
     Ok(Tall {
         tree: LevelUnit::Plain(unit.tree),
         height: unit.height,
     })
 }
 
-#[tactic(auto, unfolding(crate::specs::Grammar::level_unit))]
+#[tactic(auto, unfolding(elan_grammar::specs::Grammar::level_unit))]
 fn level_unit(alloc: Global, cursor: &mut Cursor<'_>) -> Result<Tall<LevelUnit>, ParseError>
     ensures reads { GivesTall ((spec.level_unit).run cursor.old.rest.now) result cursor.new.rest.now }
     ensures tall { IfOk result (λ a. a.height ≡ level_unit_depth a.tree) }
@@ -133,46 +117,31 @@ fn level_unit(alloc: Global, cursor: &mut Cursor<'_>) -> Result<Tall<LevelUnit>,
     }
 }
 
-#[tactic(auto, using(crate::proofs::Turns::turn_on, crate::proofs::Turns::turn_off, crate::proofs::Turns::turn_end, crate::proofs::Deepest::deepest_push))]
-fn more_level_units(
-    alloc: Global,
-    cursor: &mut Cursor<'_>,
-    mut row: Tall<List<LevelUnit>>,
-) -> Result<Tall<List<LevelUnit>>, ParseError>
-    requires tall { row.height ≡ level_units_depth row.tree }
-    requires low { row.height ≤ 400 }
-    ensures reads { GivesTall ((rule.iterate (rule.further (terminals.mark Sign.Semicolon) spec.level_unit) (kinds.is_sign Sign.Semicolon) row.tree).run cursor.old.rest.now) result cursor.new.rest.now }
-    ensures tall { IfOk result (λ a. a.height ≡ level_units_depth a.tree) }
-    ensures low { IfOk result (λ a. a.height ≤ 400) }
-{
-    for _turn in 0..cursor.rest.len() {
-        if !cursor.sees_sign(Sign::Semicolon) {
-            return Ok(row);
-        }
-        cursor.mark(Sign::Semicolon)?;
-        row = with_last(row, level_unit(alloc, cursor)?)?;
-    }
-    Ok(row)
-}
-
-#[tactic(auto, unfolding(crate::specs::Grammar::level_units), using(crate::proofs::Deepest::deepest_one))]
+#[tactic(auto, unfolding(elan_grammar::specs::Grammar::level_units), using(elan_grammar::proofs::Turns::turn_on, elan_grammar::proofs::Turns::turn_off, elan_grammar::proofs::Turns::turn_end, elan_grammar::proofs::Deepest::deepest_one, elan_grammar::proofs::Deepest::deepest_push))]
 fn level_units(alloc: Global, cursor: &mut Cursor<'_>) -> Result<Tall<List<LevelUnit>>, ParseError>
     ensures reads { GivesTall ((spec.level_units).run cursor.old.rest.now) result cursor.new.rest.now }
     ensures tall { IfOk result (λ a. a.height ≡ level_units_depth a.tree) }
     ensures low { IfOk result (λ a. a.height ≤ 400) }
 {
-    let first = level_unit(alloc, cursor)?;
-    more_level_units(alloc, cursor, single(alloc, first)?)
+    let mut row = single(alloc, level_unit(alloc, cursor))?;
+    for _turn in 0..cursor.rest.len() {
+        if !cursor.sees_sign(Sign::Semicolon) {
+            return Ok(row);
+        }
+        let (items, _) = and(row, cursor.mark(Sign::Semicolon))?;
+        row = with_next(items, level_unit(alloc, cursor))?;
+    }
+    Ok(row)
 }
 
-#[tactic(auto, unfolding(crate::specs::Grammar::a_level))]
+#[tactic(auto, unfolding(elan_grammar::specs::Grammar::a_level))]
 fn a_level(alloc: Global, cursor: &mut Cursor<'_>) -> Result<Tall<Level>, ParseError>
     ensures reads { GivesTall ((spec.a_level).run cursor.old.rest.now) result cursor.new.rest.now }
     ensures tall { IfOk result (λ a. a.height ≡ level_depth a.tree) }
     ensures low { IfOk result (λ a. a.height ≤ 400) }
 {
     let units = level_units(alloc, cursor)?;
-    let refinements = tail(alloc, cursor, MOST)?;
+    let (units, refinements) = and(units, tail(alloc, cursor, MOST))?;
     let height = units.height.max(refinements.height);
     let tree = Level {
         units: units.tree,
@@ -181,7 +150,7 @@ fn a_level(alloc: Global, cursor: &mut Cursor<'_>) -> Result<Tall<Level>, ParseE
     Ok(Tall { tree, height })
 }
 
-#[tactic(auto, unfolding(crate::specs::Grammar::program))]
+#[tactic(auto, unfolding(elan_grammar::specs::Grammar::program))]
 fn program(alloc: Global, cursor: &mut Cursor<'_>) -> Result<Tall<Tree>, ParseError>
     ensures reads { GivesTall ((spec.program).run cursor.old.rest.now) result cursor.new.rest.now }
     ensures tall { IfOk result (λ a. a.height ≡ tree_depth a.tree) }
@@ -194,34 +163,22 @@ fn program(alloc: Global, cursor: &mut Cursor<'_>) -> Result<Tall<Tree>, ParseEr
     })
 }
 
-#[tactic(auto, using(crate::proofs::Turns::turn_on, crate::proofs::Turns::turn_off, crate::proofs::Turns::turn_end))]
-fn more_exports(
-    alloc: Global,
-    cursor: &mut Cursor<'_>,
-    mut exports: List<Export>,
-) -> Result<List<Export>, ParseError>
-    ensures { Gives ((rule.iterate (rule.further (terminals.mark Sign.Comma) (rule.terminal terminals.export_at)) kinds.is_comma exports).run cursor.old.rest.now) result cursor.new.rest.now }
-{
-    for _turn in 0..cursor.rest.len() {
-        if !is_comma(cursor.ahead()) {
-            return Ok(exports);
-        }
-        cursor.mark(Sign::Comma)?;
-        exports.push(cursor.export(alloc)?)?;
-    }
-    Ok(exports)
-}
-
-#[tactic(auto, unfolding(crate::specs::Grammar::export_list))]
+#[tactic(auto, unfolding(elan_grammar::specs::Grammar::export_list), using(elan_grammar::proofs::Turns::turn_on, elan_grammar::proofs::Turns::turn_off, elan_grammar::proofs::Turns::turn_end))]
 fn export_list(alloc: Global, cursor: &mut Cursor<'_>) -> Result<List<Export>, ParseError>
     ensures { Gives ((spec.export_list).run cursor.old.rest.now) result cursor.new.rest.now }
 {
-    let mut exports = List::new(alloc);
-    exports.push(cursor.export(alloc)?)?;
-    more_exports(alloc, cursor, exports)
+    let mut row = one(alloc, cursor.export(alloc))?;
+    for _turn in 0..cursor.rest.len() {
+        if !is_comma(cursor.ahead()) {
+            return Ok(row);
+        }
+        let (items, _) = and(row, cursor.mark(Sign::Comma))?;
+        row = one_more(items, cursor.export(alloc))?;
+    }
+    Ok(row)
 }
 
-#[tactic(auto, unfolding(crate::specs::Grammar::exports))]
+#[tactic(auto, unfolding(elan_grammar::specs::Grammar::exports))]
 fn exports(alloc: Global, cursor: &mut Cursor<'_>) -> Result<List<Export>, ParseError>
     ensures { Gives ((spec.exports).run cursor.old.rest.now) result cursor.new.rest.now }
 {
@@ -232,7 +189,7 @@ fn exports(alloc: Global, cursor: &mut Cursor<'_>) -> Result<List<Export>, Parse
     export_list(alloc, cursor)
 }
 
-#[tactic(auto, unfolding(crate::specs::Grammar::last_mark))]
+#[tactic(auto, unfolding(elan_grammar::specs::Grammar::last_mark))]
 fn last_mark(cursor: &mut Cursor<'_>) -> Result<Option<u32>, ParseError>
     ensures { Gives ((spec.last_mark).run cursor.old.rest.now) result cursor.new.rest.now }
 {
@@ -242,7 +199,7 @@ fn last_mark(cursor: &mut Cursor<'_>) -> Result<Option<u32>, ParseError>
     last_point(cursor)
 }
 
-#[tactic(auto, unfolding(crate::specs::Grammar::packet))]
+#[tactic(auto, unfolding(elan_grammar::specs::Grammar::packet))]
 fn packet(alloc: Global, cursor: &mut Cursor<'_>) -> Result<Tall<Tree>, ParseError>
     ensures reads { GivesTall ((spec.packet).run cursor.old.rest.now) result cursor.new.rest.now }
     ensures tall { IfOk result (λ a. a.height ≡ tree_depth a.tree) }
@@ -250,13 +207,14 @@ fn packet(alloc: Global, cursor: &mut Cursor<'_>) -> Result<Tall<Tree>, ParseErr
 {
     let at = cursor.keyword(Key::Packet)?;
     let name = cursor.ident(alloc)?;
-    let exports = exports(alloc, cursor)?;
-    cursor.mark(Sign::Colon)?;
-    let level = a_level(alloc, cursor)?;
-    cursor.keyword(Key::End)?;
-    cursor.keyword(Key::Packet)?;
-    end_name(cursor, &name)?;
-    last_mark(cursor)?;
+    let (name, exports) = and(name, exports(alloc, cursor))?;
+    let (head, _) = and((name, exports), cursor.mark(Sign::Colon))?;
+    let (head, level) = and(head, a_level(alloc, cursor))?;
+    let (parts, _) = and((head, level), cursor.end_of(Key::Packet))?;
+    let ((name, exports), level) = parts;
+    let end = end_name(cursor, &name);
+    let (parts, _) = and((name, exports, level), end)?;
+    let ((name, exports, level), _) = and(parts, last_mark(cursor))?;
     let tree = Tree::Packet {
         at,
         name,
@@ -282,7 +240,7 @@ fn text(alloc: Global, cursor: &mut Cursor<'_>, is_packet: bool) -> Result<Tall<
 }
 
 /// The tree that the tokens spell, as a packet or as a program.
-#[tactic(auto, using(crate::proofs::GrammarLaws::is_read, crate::proofs::GrammarLaws::refused_run, crate::proofs::GrammarLaws::left_empty, crate::proofs::GrammarLaws::left_err, crate::proofs::GrammarLaws::left_ok))]
+#[tactic(auto, using(elan_grammar::proofs::GrammarLaws::is_read, elan_grammar::proofs::GrammarLaws::refused_run, elan_grammar::proofs::GrammarLaws::left_empty, elan_grammar::proofs::GrammarLaws::left_err, elan_grammar::proofs::GrammarLaws::left_ok))]
 pub fn parse(alloc: Global, tokens: &[Token], packet: bool) -> Result<Tree, ParseError>
     ensures ok { IfOk result (λ t. Reads packet tokens.now t) }
     ensures deep { IfOk result (λ t. tree_depth t ≤ 400) }
@@ -299,18 +257,3 @@ pub fn parse(alloc: Global, tokens: &[Token], packet: bool) -> Result<Tree, Pars
     }
     Ok(found.tree)
 }
-
-/// A list of tokens has at most one tree.
-pub fn one_tree()
-    ensures { (packet : Bool) (tokens : List Token) (t u : Tree) → Reads packet tokens t → Reads packet tokens u → t ≡ u }
-{}
-
-/// Law: tokens that spell a tree spell it whatever follows them.
-pub fn reads_on()
-    ensures { (packet : Bool) → ReadsOn packet }
-{}
-
-/// Law: what stands behind the place where the parser is stuck does not matter to it.
-pub fn stays_stuck()
-    ensures { (packet : Bool) → StaysStuck packet }
-{}

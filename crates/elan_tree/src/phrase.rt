@@ -7,7 +7,9 @@ use containers::{Boxed, Bytes, List};
 /// An operator that a program may define.
 #[derive(Drop)]
 pub enum Operator {
+    /// One of `+ - * = <> < <= > >= :=`.
     Sign(Sign),
+    /// A bold word, by its letters.
     Named(Bytes),
 }
 
@@ -15,14 +17,21 @@ pub enum Operator {
 #[cycle(phrases)]
 #[derive(Drop)]
 pub enum Expr {
+    /// A number, from 0 to 32,767.
     Number(u32, i16),
+    /// A text denoter, by the characters that it stands for.
     Text(u32, Bytes),
+    /// `TRUE` or `FALSE`.
     Truth(u32, bool),
+    /// An identifier without actuals.
     Named(Name),
+    /// An identifier with actuals, which are never none.
     Call(Name, List<Expr>),
     /// `PROC p` as an actual parameter.
     Procedure(u32, Name),
+    /// `CONCR (e)`
     Concr(u32, Boxed<Expr>),
+    /// `(e)`
     Bracket(u32, Boxed<Expr>),
     /// The branches of IF and ELIF, and the units of ELSE.
     If {
@@ -30,6 +39,7 @@ pub enum Expr {
         branches: List<Branch>,
         otherwise: Option<List<Unit>>,
     },
+    /// The value to choose by, the cases, and the units of OTHERWISE.
     Select {
         at: u32,
         of: Boxed<Expr>,
@@ -48,22 +58,26 @@ pub enum Expr {
         of: Boxed<Expr>,
         field: Name,
     },
+    /// An operator and its one operand.
     Monadic {
         at: u32,
         operator: Operator,
         operand: Boxed<Expr>,
     },
+    /// An operator between two operands.
     Dyadic {
         at: u32,
         operator: Operator,
         left: Boxed<Expr>,
         right: Boxed<Expr>,
     },
+    /// `left CAND right`
     Cand {
         at: u32,
         left: Boxed<Expr>,
         right: Boxed<Expr>,
     },
+    /// `left COR right`
     Cor {
         at: u32,
         left: Boxed<Expr>,
@@ -75,7 +89,9 @@ pub enum Expr {
 #[cycle(phrases)]
 #[derive(Drop)]
 pub struct Branch {
+    /// What is asked.
     pub condition: Expr,
+    /// What is done where the answer is TRUE.
     pub units: List<Unit>,
 }
 
@@ -83,7 +99,9 @@ pub struct Branch {
 #[cycle(phrases)]
 #[derive(Drop)]
 pub struct Case {
+    /// At least one.
     pub labels: List<Label>,
+    /// What is done where a label is the value.
     pub units: List<Unit>,
 }
 
@@ -91,7 +109,9 @@ pub struct Case {
 #[cycle(phrases)]
 #[derive(Drop)]
 pub struct Item {
+    /// The name.
     pub name: Name,
+    /// What stands behind `::` or `:=`.
     pub init: Option<Expr>,
 }
 
@@ -99,8 +119,11 @@ pub struct Item {
 #[cycle(phrases)]
 #[derive(Drop)]
 pub struct Counter {
+    /// The variable that counts.
     pub name: Name,
+    /// What it begins with; 1 where nothing is written.
     pub from: Option<Expr>,
+    /// Where it ends.
     pub limit: Limit,
 }
 
@@ -108,8 +131,11 @@ pub struct Counter {
 #[cycle(phrases)]
 #[derive(Drop)]
 pub enum Limit {
+    /// Nothing is written: it counts up.
     Without,
+    /// It counts up to this number.
     Upto(Expr),
+    /// It counts down to this number.
     Downto(Expr),
 }
 
@@ -119,6 +145,7 @@ pub enum Limit {
 pub enum Unit {
     /// Nothing between two semicolons.
     Empty,
+    /// `LET a = 1, T = INT`
     Let(u32, List<LetItem>),
     /// `INT VAR a, b :: 1`
     Variables(u32, TypePhrase, List<Item>),

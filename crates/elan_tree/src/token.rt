@@ -5,6 +5,7 @@ use containers::Bytes;
 /// A token, and where it stands in its text.
 #[derive(Drop)]
 pub struct Token {
+    /// What it says.
     pub what: Word,
     /// The place of its first byte; the text's first byte has place 1.
     pub at: u32,
@@ -19,7 +20,9 @@ pub enum Word {
     Ident(Bytes),
     /// A name of a type or of an operator, in capital letters.
     Bold(Bytes),
+    /// A keyword.
     Key(Key),
+    /// A sign.
     Sign(Sign),
     /// A number of at most 32,767.
     Number(i16),
@@ -27,7 +30,7 @@ pub enum Word {
     Text(Bytes),
 }
 
-/// A keyword.
+/// A keyword: the word of its variant's name in capital letters.
 #[derive(Clone, Copy, PartialEq, Eq, Debug)]
 pub enum Key {
     Packet,

@@ -8,6 +8,7 @@ use containers::List;
 /// A text as it is written.
 #[derive(Drop)]
 pub enum Tree {
+    /// A program: a level alone.
     Program(Level),
     /// A packet, with the names that it offers.
     Packet {
@@ -21,21 +22,27 @@ pub enum Tree {
 /// A name that a packet offers.
 #[derive(Drop)]
 pub enum Export {
+    /// A PROC or constant, by its name.
     Ident(Name),
+    /// A type or operator, by its name.
     Bold(Name),
+    /// An operator that is a sign.
     Sign(u32, Sign),
 }
 
 /// The units of a program or packet, and its refinements.
 #[derive(Drop)]
 pub struct Level {
+    /// What it declares and does, in text order.
     pub units: List<LevelUnit>,
+    /// Those behind its point.
     pub refinements: List<Refinement>,
 }
 
 /// A unit of a program or packet. Its place, `at`, is that of its first byte.
 #[derive(Drop)]
 pub enum LevelUnit {
+    /// A unit that may stand in any list.
     Plain(Unit),
     /// `TYPE NAME = of`
     NewType {
@@ -43,6 +50,7 @@ pub enum LevelUnit {
         name: Name,
         of: TypePhrase,
     },
+    /// `result PROC name (formals): body END PROC`
     Proc {
         at: u32,
         result: Option<TypePhrase>,
@@ -50,6 +58,7 @@ pub enum LevelUnit {
         formals: List<Formal>,
         body: Body,
     },
+    /// `result OP name (formals): body END OP`
     Op {
         at: u32,
         result: Option<TypePhrase>,
@@ -62,20 +71,26 @@ pub enum LevelUnit {
 /// The name of an operator, where it stands.
 #[derive(Drop)]
 pub struct OperatorName {
+    /// The place of its first byte.
     pub at: u32,
+    /// A sign or a bold word.
     pub operator: Operator,
 }
 
 /// The units of a PROC or OP, and its refinements.
 #[derive(Drop)]
 pub struct Body {
+    /// What it declares and does, in text order.
     pub units: List<Unit>,
+    /// Those behind its point.
     pub refinements: List<Refinement>,
 }
 
 /// Units under a name.
 #[derive(Drop)]
 pub struct Refinement {
+    /// The name.
     pub name: Name,
+    /// What stands behind the colon.
     pub units: List<Unit>,
 }

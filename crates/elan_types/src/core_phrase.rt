@@ -11,13 +11,16 @@ pub struct Core {
     pub variables: List<ElanType>,
     /// The PROCs and refinements. Phrases name them by their numbers here.
     pub bodies: List<Body>,
+    /// What the command does, in text order.
     pub units: List<Action>,
 }
 
 /// A PROC, or a refinement.
 #[derive(Drop)]
 pub struct Body {
+    /// What variables it has.
     pub scope: Scope,
+    /// What it does.
     pub content: Content,
 }
 
@@ -38,14 +41,18 @@ pub enum Scope {
 /// A parameter.
 #[derive(Clone, Copy, PartialEq, Eq)]
 pub struct Parameter {
+    /// Its type.
     pub of: ElanType,
+    /// What it holds.
     pub access: Access,
 }
 
 /// What a parameter holds: a value, or the place of a variable.
 #[derive(Clone, Copy, PartialEq, Eq)]
 pub enum Access {
+    /// A value.
     Const,
+    /// The place of a variable.
     Var,
 }
 
@@ -71,7 +78,9 @@ pub enum Exit {
 #[cycle(phrases)]
 #[derive(Drop)]
 pub enum ValuePhrase {
+    /// A number, from -32768 to 32767.
     Number(i16),
+    /// A truth value.
     Truth(bool),
     /// What stands at a place.
     Load(PlacePhrase, ElanType),
@@ -99,7 +108,9 @@ pub enum ValuePhrase {
 #[cycle(phrases)]
 #[derive(Drop)]
 pub enum Actual {
+    /// A value, for a CONST parameter.
     Value(ValuePhrase),
+    /// The place of a variable of this type, for a VAR parameter.
     Place(PlacePhrase, ElanType),
 }
 
@@ -107,7 +118,9 @@ pub enum Actual {
 #[cycle(phrases)]
 #[derive(Drop)]
 pub struct ValueArm {
+    /// At least one, and no two of a SELECT are equal.
     pub labels: List<i16>,
+    /// What they choose.
     pub value: ValuePhrase,
 }
 
@@ -160,6 +173,7 @@ pub enum Action {
     Call(usize, List<Actual>),
     /// A refinement that delivers nothing.
     Refer(usize),
+    /// LEAVE without a value.
     Leave(Exit),
     /// A LEAVE WITH, and the value that is delivered.
     LeaveWith(Exit, ElanType, ValuePhrase),
@@ -169,7 +183,9 @@ pub enum Action {
 #[cycle(phrases)]
 #[derive(Drop)]
 pub struct Arm {
+    /// At least one, and no two of a SELECT are equal.
     pub labels: List<i16>,
+    /// What they choose.
     pub units: List<Action>,
 }
 

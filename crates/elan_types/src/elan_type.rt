@@ -6,7 +6,9 @@ ghost use Rattle.elan_types.specs.Typing.{same_type};
 /// A type, with its names resolved.
 #[derive(Clone, Copy, PartialEq, Eq)]
 pub enum ElanType {
+    /// `INT`, a number of 16 bits.
     Int,
+    /// `BOOL`, a truth value.
     Bool,
 }
 

@@ -9,6 +9,7 @@ use crate::address::Addr;
 /// Why a memory did not do what it was asked for. Afterwards it is spent, and can only be dropped.
 #[derive(Clone, Copy, PartialEq, Eq, Debug)]
 pub enum MemFault {
+    /// Memory was refused.
     NoMemory,
     /// What lies behind it failed, and its count of faults rose.
     Failed,

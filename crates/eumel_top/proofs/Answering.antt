@@ -9,7 +9,7 @@ use Rattle.std.specs.Io.KnownBytes.{Appends}
 use Rattle.eumel_top.specs.Meaning.{TextWrites}
 use Rattle.eumel_top.specs.Line.{first_line, IsTooLong, LineWrites, program, too_long, too_long_text}
 use Rattle.edge.specs.Piece.{AppendsFront}
-use Rattle.eumel_top.specs.Answer.{PutsOutput, PutsFront, LineAnswers, HasRisen, line_status, LineSettles}
+use Rattle.eumel_top.specs.Answer.{PutsOutput, PutsFront, LineAnswers, HasCause, line_status, LineSettles}
 
 -- one word, and no other
 pub only_word : {X : Type 0} → (f : X → List ℕ) (xs : List X) (x : X) (bytes : List ℕ) → 1 ≤ length xs → length xs < 2 → x ≡ get_or xs 0 x → f x ≡ bytes → map f xs ≡ bytes ∷ []
@@ -46,7 +46,7 @@ long_status bytes long = go (nat_le (length (first_line bytes)) 250) refl
     go false e = refl
 
 -- where neither count rose
-pub settles : (left left' taken taken' : Option (List ℕ)) (source sink : Type 0) (status : Status) → LineAnswers left left' taken taken' status → HasRisen source sink ⊥ status → (source → ⊥) → (sink → ⊥) → LineSettles left status
+pub settles : (left left' taken taken' : Option (List ℕ)) (source sink : Type 0) (status : Status) → LineAnswers left left' taken taken' status → HasCause source sink ⊥ status → (source → ⊥) → (sink → ⊥) → LineSettles left status
 settles left left' taken taken' source sink Done answer risen no_source no_sink = inr (answer.0, answer.1, short_status answer.0 answer.2.0)
 settles left left' taken taken' source sink (BadLine n) answer risen no_source no_sink =
     inr (answer.1.0, answer.1.1, ap BadLine answer.0 ∙ long_status answer.1.0 answer.1.2)

@@ -2,7 +2,7 @@
 use Rattle.std.proofs.Common.{◌≡◌, ℕ, suc, ◌+◌, ◌<◌, Bool, true, false, List, [], ◌∷◌, ◌++◌, length, take, drop, get_or, Option, Some, None, ◌==◌, if◌then◌else◌, refl, sym, ap, ◌∙◌, append_assoc, append-nil, length-append, nat_le, drop-cons, arith}
 use Rattle.std.proofs.lemmas.List.{take-append-drop, take_more}
 use Rattle.std.proofs.lemmas.Bool.Decides.{nat_tests}
-use Rattle.std.specs.Io.KnownBytes.{Consumes, IsAtEnd}
+use Rattle.std.specs.Io.KnownBytes.{Consumes}
 use Rattle.edge.specs.Told.{OnTold}
 use Rattle.eumel_top.specs.declared.stream.Line.{Line}
 use Rattle.eumel_top.specs.declared.stream.Line.TheVariants as line
@@ -67,14 +67,6 @@ is_whole old new text h = go (nat_le (length text) 250) refl
 pub line_ends : (old mid new : Option (List ℕ)) (so_far piece text : List ℕ) (n : ℕ) (found : Line) → Consumes old mid so_far → HasNoLineEnd so_far → Consumes mid new piece → EndsLineAt piece n → text ≡ so_far ++ take n piece → found ≡ whole_line text → IsLine old new found
 line_ends old mid new so_far piece text n found taken open_ next ends text_is is =
     rw (is, text_is) (is_whole old new (so_far ++ take n piece) (line_found old mid new so_far piece n taken open_ next ends))
-
--- the input ended, and no line end was found
-pub input_ends : (old mid new : Option (List ℕ)) (so_far : List ℕ) → Consumes old mid so_far → HasNoLineEnd so_far → Consumes mid new [] → IsAtEnd new → OnTold old (λ bytes. first_line bytes ≡ so_far)
-input_ends None mid new so_far taken open_ next ended = (so_far, tt, open_)
-input_ends (Some xs) None new so_far taken open_ next ended = absurd taken
-input_ends (Some xs) (Some ys) None so_far taken open_ next ended = absurd next
-input_ends (Some xs) (Some ys) (Some zs) so_far taken open_ next ended =
-    (xs, refl, ap first_line (taken ∙ (ap (λ l. so_far ++ l) (next ∙ ended) ∙ append-nil so_far)) ∙ open_)
 
 -- no end was found, and the line is too long already
 pub line_too_long : (old mid : Option (List ℕ)) (so_far : List ℕ) → Consumes old mid so_far → HasNoLineEnd so_far → 250 < length so_far → OnTold old IsTooLong

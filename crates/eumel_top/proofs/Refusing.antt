@@ -7,9 +7,9 @@ use Rattle.elan_tree.specs.declared.tree.Tree.{Tree}
 use Rattle.elan_lexer.specs.declared.error.LexError.{LexError}
 use Rattle.elan_lexer.specs.declared.error.LexError.TheVariants as lex
 use Rattle.elan_lexer.specs.Tokens.{Answers}
-use Rattle.elan_parser.specs.declared.error.ParseError.{ParseError}
-use Rattle.elan_parser.specs.declared.error.ParseError.TheVariants as syntactic
-use Rattle.elan_parser.specs.Grammar.{Reads}
+use Rattle.elan_grammar.specs.declared.error.ParseError.{ParseError}
+use Rattle.elan_grammar.specs.declared.error.ParseError.TheVariants as syntactic
+use Rattle.elan_grammar.specs.Grammar.{Reads}
 use Rattle.elan_types.specs.declared.core_phrase.Core.{Core}
 use Rattle.elan_check.specs.declared.error.CheckError.{CheckError}
 use Rattle.elan_check.specs.declared.error.CheckError.TheVariants as semantic

@@ -12,10 +12,10 @@ use Rattle.elan_tree.specs.declared.token.Token.{Token}
 use Rattle.elan_tree.specs.declared.tree.Tree.{Tree}
 use Rattle.elan_lexer.specs.declared.error.LexError.TheVariants as lex
 use Rattle.elan_lexer.specs.Tokens.{tokens_of, limited}
-use Rattle.elan_parser.specs.Rule.{Outcome}
-use Rattle.elan_parser.specs.Grammar as grammar
-use Rattle.elan_parser.specs.Grammar.{Reads}
-use Rattle.elan_parser.proofs.GrammarLaws.{is_read, refused_run, some_left}
+use Rattle.elan_grammar.specs.Rule.{Outcome}
+use Rattle.elan_grammar.specs.Grammar as grammar
+use Rattle.elan_grammar.specs.Grammar.{Reads}
+use Rattle.elan_grammar.proofs.GrammarLaws.{is_read, refused_run, some_left}
 use Rattle.elan_types.specs.declared.core_phrase.Core.{Core}
 use Rattle.elan_types.specs.Eval.{World}
 use Rattle.elan_types.specs.Command.{Ending, Ended, Stopped, OutOfMarks, Asks, evaluate}

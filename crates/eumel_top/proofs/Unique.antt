@@ -4,7 +4,7 @@ use Rattle.eu_base.specs.declared.stop.Stop.{Stop}
 use Rattle.eu_base.specs.declared.request.Reply.{Reply}
 use Rattle.elan_tree.specs.declared.token.Token.{Token}
 use Rattle.elan_tree.specs.declared.tree.Tree.{Tree}
-use Rattle.elan_parser.specs.Grammar.{Reads}
+use Rattle.elan_grammar.specs.Grammar.{Reads}
 use Rattle.elan_types.specs.declared.env.Env.{Env}
 use Rattle.elan_types.specs.declared.core_phrase.Core.{Core}
 use Rattle.elan_types.specs.declared.why.Why.{Why}

@@ -35,16 +35,16 @@ LineAnswers left left' taken taken' Foreign = ⊥
 LineAnswers left left' taken taken' SessionFull = ⊥
 
 -- each status that speaks of a fault comes only where the object's faults rose
-abbrev pub HasRisen : (source sink disk : Type 0) → Status → Type 0
-HasRisen source sink disk SourceFault = source
-HasRisen source sink disk SinkFault = sink
-HasRisen source sink disk DiskFault = disk
-HasRisen source sink disk Done = Unit {0}
-HasRisen source sink disk BadWords = Unit {0}
-HasRisen source sink disk NoMemory = Unit {0}
-HasRisen source sink disk Foreign = Unit {0}
-HasRisen source sink disk (BadLine n) = Unit {0}
-HasRisen source sink disk SessionFull = Unit {0}
+abbrev pub HasCause : (source sink disk : Type 0) → Status → Type 0
+HasCause source sink disk SourceFault = source
+HasCause source sink disk SinkFault = sink
+HasCause source sink disk DiskFault = disk
+HasCause source sink disk Done = Unit {0}
+HasCause source sink disk BadWords = Unit {0}
+HasCause source sink disk NoMemory = Unit {0}
+HasCause source sink disk Foreign = Unit {0}
+HasCause source sink disk (BadLine n) = Unit {0}
+HasCause source sink disk SessionFull = Unit {0}
 
 -- how the command ends where nothing failed, by the bytes alone
 abbrev pub line_status : List ℕ → Status

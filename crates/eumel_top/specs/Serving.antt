@@ -13,7 +13,7 @@ use Rattle.elan_types.specs.Command.{blank_store}
 use Rattle.eumel_top.specs.Screen.{Screen, Written, blank, put_all}
 use Rattle.eumel_top.specs.Program.{Writes}
 
--- the run began over these first cells and has come to this place
+-- the run began over these first cells and has come to this control
 pub record IsServed (p : Program) (first : Cells) (control : Control) (cells : Cells) (marks : ℕ) (screen : Screen) : Type 0 where
   pub replies : List Reply
   pub written : List Written

@@ -2,7 +2,7 @@
 ghost use Rattle.std.specs.Prelude.{◌≡◌, ◌≤◌, ◌<◌, ◌^◌, length, IfOk, MatchOption};
 ghost use Rattle.eu_base.specs.Faults.{Rose};
 ghost use Rattle.eumel_top.specs.Meaning.{TextWrites};
-ghost use Rattle.eumel_top.specs.Answer.{LineAnswers, HasRisen};
+ghost use Rattle.eumel_top.specs.Answer.{LineAnswers, HasCause};
 
 use crate::meaning::{TextError, meaning};
 use crate::program::shown;
@@ -17,7 +17,7 @@ use std::alloc::Global;
 /// Runs the line at the front of the input.
 pub(crate) fn run_line<S: Source, K: Sink>(alloc: Global, source: &mut S, sink: &mut K) -> Status
     ensures answer { LineAnswers (S.left source.old) (S.left source.new) (K.taken sink.old) (K.taken sink.new) result }
-    ensures cause { HasRisen (Rose (S.faults source.old) (S.faults source.new)) (Rose (K.faults sink.old) (K.faults sink.new)) ⊥ result }
+    ensures cause { HasCause (Rose (S.faults source.old) (S.faults source.new)) (Rose (K.faults sink.old) (K.faults sink.new)) ⊥ result }
     ensures source_later { S.faults source.old ≤ S.faults source.new }
     ensures sink_later { K.faults sink.old ≤ K.faults sink.new }
 {

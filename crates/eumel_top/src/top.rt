@@ -3,7 +3,7 @@ ghost use Rattle.std.specs.Prelude.{◌≡◌, ◌≤◌, ◌↔◌, map};
 ghost use Rattle.std.specs.String.{string_bytes};
 ghost use Rattle.eu_base.specs.Faults.{Rose};
 ghost use Rattle.eumel_top.specs.Words.{Names, NamesNone};
-ghost use Rattle.eumel_top.specs.Answer.{LineAnswers, HasRisen, LineSettles};
+ghost use Rattle.eumel_top.specs.Answer.{LineAnswers, HasCause, LineSettles};
 ghost use Rattle.eumel_top.specs.declared.command.Command.{Command};
 
 use crate::command::{Command, command_of};
@@ -24,7 +24,7 @@ pub fn eumel<D: Disk, S: Source, K: Sink>(
     ensures bad_words { (result ≡ Status.BadWords) ↔ NamesNone (map string_bytes words.now) }
     ensures bad_words_leaves { result ≡ Status.BadWords → (source.new ≡ source.old) × (sink.new ≡ sink.old) × (disk.new ≡ disk.old) }
     // A fault is answered only where the faults of its object rose in this call, and no count falls.
-    ensures cause { HasRisen (Rose (S.faults source.old) (S.faults source.new)) (Rose (K.faults sink.old) (K.faults sink.new)) (Rose (D.faults disk.old) (D.faults disk.new)) result }
+    ensures cause { HasCause (Rose (S.faults source.old) (S.faults source.new)) (Rose (K.faults sink.old) (K.faults sink.new)) (Rose (D.faults disk.old) (D.faults disk.new)) result }
     ensures source_later { S.faults source.old ≤ S.faults source.new }
     ensures sink_later { K.faults sink.old ≤ K.faults sink.new }
     ensures disk_later { D.faults disk.old ≤ D.faults disk.new }

@@ -14,7 +14,7 @@ use std::alloc::Global;
 use std::marker::Model;
 use zero_machine::State;
 
-/// Where a command stands, which contracts see as the place of the machine.
+/// Where a command stands, which contracts see as the control of the machine.
 #[derive(Drop)]
 pub struct TaskRun {
     state: State,

@@ -1,6 +1,6 @@
 use Rattle.std.proofs.Common.{List, ℕ, ◌++◌, true, map, sym, ap, ◌∙◌}
-use Rattle.elan_check.specs.Shape as shape
-use Rattle.elan_check.specs.Uses as uses
+use Rattle.elan_judge.specs.Shape as shape
+use Rattle.elan_levels.specs.Uses as uses
 use Rattle.elan_check.proofs.Calls.{units_called}
 use Rattle.elan_check.proofs.Steps.{body_found}
 use Rattle.elan_check.proofs.deliveries.add_body.Goals as goal

@@ -1,7 +1,7 @@
 use Rattle.std.proofs.Common.{List, true, map, ap, ◌∙◌}
 use Rattle.elan_tree.specs.declared.phrase.Unit.{Unit as Statement}
 use Rattle.elan_scope.specs.declared.scope.Scope.{Scope}
-use Rattle.elan_check.specs.Shape as shape
+use Rattle.elan_judge.specs.Shape as shape
 use Rattle.elan_check.specs.Level.{refinement_scope}
 use Rattle.elan_check.specs.Refinements.{more_known}
 use Rattle.elan_check.proofs.Scopes.{left_refinement}

@@ -1,8 +1,8 @@
 use Rattle.std.proofs.Common.{List, true, map, ap, ◌∙◌}
 use Rattle.elan_tree.specs.declared.phrase.Unit.{Unit as Statement}
 use Rattle.elan_tree.specs.declared.tree.Refinement.{Refinement}
-use Rattle.elan_check.specs.Bodies.{body_names}
-use Rattle.elan_check.specs.Shape as shape
+use Rattle.elan_levels.specs.Bodies.{body_names}
+use Rattle.elan_judge.specs.Shape as shape
 use Rattle.elan_check.specs.Level.{all_refined_units}
 use Rattle.elan_check.specs.Refinements.{more_known, all_known}
 use Rattle.elan_check.proofs.Scopes.{scope_with, within, entered}

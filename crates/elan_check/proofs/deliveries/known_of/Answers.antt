@@ -1,7 +1,7 @@
 use Rattle.std.proofs.Common.{◌≡◌, ◌≤◌, length, true, refl, sym, arith, ap, ◌∙◌}
 use Rattle.std.proofs.lemmas.Slice.Eq.{slice_eq-Decides}
 use Rattle.elan_scope.specs.declared.scope.Scope.{Scope}
-use Rattle.elan_check.specs.Bodies.{headings}
+use Rattle.elan_levels.specs.Bodies.{headings}
 use Rattle.elan_check.proofs.Same.{delivery_Decides}
 use Rattle.elan_check.proofs.Steps.{found_all, found_next}
 use Rattle.elan_check.proofs.deliveries.known_of.Goals as goal

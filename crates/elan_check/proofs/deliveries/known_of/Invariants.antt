@@ -1,5 +1,5 @@
 use Rattle.std.proofs.Common.{◌≡◌}
-use Rattle.elan_check.specs.Bodies.{headings}
+use Rattle.elan_levels.specs.Bodies.{headings}
 use Rattle.elan_check.specs.Level.{level_bodies}
 use Rattle.elan_check.specs.Refinements.{known_after}
 use Rattle.elan_check.proofs.deliveries.known_of.Given as goal

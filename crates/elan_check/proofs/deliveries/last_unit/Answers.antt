@@ -1,7 +1,7 @@
 use Rattle.std.proofs.Common.{◌≡◌, true, false, ap}
 use Rattle.std.specs.Prelude.{option_map}
 use Rattle.elan_scope.specs.Phrase.{is_empty}
-use Rattle.elan_check.specs.Shape as shape
+use Rattle.elan_judge.specs.Shape as shape
 use Rattle.elan_check.proofs.Lasts.{last_goes}
 use Rattle.elan_check.proofs.deliveries.last_unit.Goals as goal
 use Rattle.elan_check.proofs.deliveries.last_unit.Goals.{then-not-is_empty, else-not-is_empty}

@@ -2,7 +2,7 @@ use Rattle.std.proofs.Common.{◌≡◌, true, map, drop}
 use Rattle.std.specs.Prelude.{option_map}
 use Rattle.elan_scope.specs.declared.scope.Scope.{Scope}
 use Rattle.elan_scope.specs.Phrase.{all_of}
-use Rattle.elan_check.specs.Shape as shape
+use Rattle.elan_judge.specs.Shape as shape
 use Rattle.elan_check.specs.Refinements.{last_unit, last_unit_in}
 use Rattle.elan_check.proofs.deliveries.last_unit.Given as goal
 

@@ -2,7 +2,7 @@ use Rattle.std.proofs.Common.{◌≡◌, Option, ap, subst}
 use Rattle.std.specs.Prelude.{IfOk}
 use Rattle.elan_scope.specs.Phrase.{Phrase}
 use Rattle.elan_rules.specs.Meaning.{judged}
-use Rattle.elan_check.specs.Shape as shape
+use Rattle.elan_judge.specs.Shape as shape
 use Rattle.elan_check.specs.Refinements.{unit_delivery}
 use Rattle.elan_check.proofs.deliveries.units_delivery.Goals as goal
 

@@ -3,9 +3,9 @@ use Rattle.elan_tree.specs.declared.tree.LevelUnit.{LevelUnit}
 use Rattle.elan_scope.specs.declared.heading.Sort.TheVariants.{Operator}
 use Rattle.elan_scope.specs.Answer.{Is}
 use Rattle.elan_rules.specs.Meaning.{judged}
-use Rattle.elan_check.specs.Operators.{operator_text}
+use Rattle.elan_unbuilt.specs.Operators.{operator_text}
 use Rattle.elan_check.specs.Level.{procedure_name, level_unit}
-use Rattle.elan_check.proofs.Routines.{procedure_at, operator_at, no_phrases}
+use Rattle.elan_check.proofs.Routines.{procedure_at, operator_at}
 use Rattle.elan_check.proofs.level.judge_level_unit.Goals as goal
 
 pub returns-in-Proc-clause-meaning : goal.returns-in-Proc-clause-meaning
@@ -22,4 +22,4 @@ returns-in-Op-clause-meaning c =
     let s = c.args.scope.now in
     subst (λ (v : LevelUnit). Is c.judge_routine-in-Op.result (judged k (level_unit s c.args.number v))) (sym c.in-Op.is)
     (operator_at k s c.args.number c.in-Op.name.at (operator_text c.in-Op.name.operator) c.operator_text.result.now c.in-Op.result c.in-Op.formals c.as_slice-in-Op.result.now c.in-Op.body Operator c.judge_routine-in-Op.result c.operator_text.ensures c.as_slice-in-Op.ensures
-    (c.judge_routine-in-Op.ensures.meaning [] (no_phrases k c.new.result c.new.ensures)))
+    (c.judge_routine-in-Op.ensures.meaning [] c.none.ensures))

@@ -1,7 +1,7 @@
 use Rattle.std.proofs.Common.{map, Option, ap, ◌∙◌}
 use Rattle.elan_types.specs.declared.elan_type.ElanType.{ElanType}
 use Rattle.elan_check.specs.Level.{is_missing}
-use Rattle.elan_check.specs.Shape as shape
+use Rattle.elan_judge.specs.Shape as shape
 use Rattle.elan_check.proofs.routine.is_missing.Goals as goal
 
 pub returns-in-Some : goal.returns-in-Some

@@ -1,8 +1,8 @@
 use Rattle.std.proofs.Common.{List, map, ap, ◌∙◌}
 use Rattle.elan_tree.specs.declared.phrase.Unit.{Unit as Statement}
-use Rattle.elan_check.specs.Bodies.{parameters, result}
+use Rattle.elan_levels.specs.Bodies.{parameters, result}
 use Rattle.elan_check.specs.Level.{is_missing}
-use Rattle.elan_check.specs.Shape as shape
+use Rattle.elan_judge.specs.Shape as shape
 use Rattle.elan_check.proofs.Routines.{heading_is}
 use Rattle.elan_check.proofs.routine.judge_heading.Goals as goal
 

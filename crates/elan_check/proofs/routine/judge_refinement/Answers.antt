@@ -6,19 +6,19 @@ use Rattle.elan_scope.specs.Phrase.{leaf, part, none}
 use Rattle.elan_scope.specs.Answer.{Is}
 use Rattle.elan_rules.specs.Rules.{rule}
 use Rattle.elan_rules.specs.Meaning.{judged}
-use Rattle.elan_check.specs.Shape as shape
+use Rattle.elan_judge.specs.Shape as shape
 use Rattle.elan_check.specs.Level as l
-use Rattle.elan_check.proofs.Rows.{whole_is}
+use Rattle.elan_judge.proofs.Rows.{whole_is}
 use Rattle.elan_check.proofs.routine.judge_refinement.Goals as goal
 
-pub returns-clause-meaning : goal.returns-clause-meaning
-returns-clause-meaning c =
+pub returns-in-Ok-clause-meaning : goal.returns-in-Ok-clause-meaning
+returns-in-Ok-clause-meaning c =
     let k = c.args.known.now in
     let s = c.args.scope.now in
     let r = c.args.refinement.now in
     let inner = l.refinement_scope s c.args.number in
     let name = subst (λ (x : List ℕ). Is c.declared-name.result (judged k (leaf (form.declares r.name.at s x)))) c.as_slice.ensures c.declared-name.ensures in
     let units = subst (λ (us : List Statement). Is c.judge_units-units.result (judged k (shape.units true (map (shape.unit inner) us)))) c.as_slice-2.ensures c.judge_units-units.ensures in
-    whole_is k (form.refinement (l.owner_of s.routine)) (part (l.declares s r.name) (part (l.refined_units s c.args.number r) none)) c.refinement_parts.result c.in_ok-parts.parts
-    (c.in_ok-parts.ensures (judged k (l.declares s r.name)) (judged k (l.refined_units s c.args.number r)) name units)
-    (subst (λ (o : Owner). Is c.refinement_parts.result (rule k (form.refinement o) c.in_ok-parts.parts)) c.owner_of.ensures (c.refinement_parts.ensures k))
+    whole_is k (form.refinement (l.owner_of s.routine)) (part (l.declares s r.name) (part (l.refined_units s c.args.number r) none)) c.refinement_parts.result c.in-Ok.parts
+    (c.in-Ok.ensures (judged k (l.declares s r.name)) (judged k (l.refined_units s c.args.number r)) name units)
+    (subst (λ (o : Owner). Is c.refinement_parts.result (rule k (form.refinement o) c.in-Ok.parts)) c.owner_of.ensures (c.refinement_parts.ensures k))

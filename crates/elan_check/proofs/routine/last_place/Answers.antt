@@ -1,7 +1,7 @@
 use Rattle.std.proofs.Common.{◌≡◌, true, false, map, sym, ◌∙◌}
 use Rattle.std.proofs.lemmas.List.{at_drop_all}
 use Rattle.elan_scope.specs.Phrase.{is_empty, last_place}
-use Rattle.elan_check.specs.Shape as shape
+use Rattle.elan_judge.specs.Shape as shape
 use Rattle.elan_check.proofs.Lasts.{place_goes}
 use Rattle.elan_check.proofs.routine.last_place.Goals as goal
 use Rattle.elan_check.proofs.routine.last_place.Goals.{then-not-is_empty, else-not-is_empty}

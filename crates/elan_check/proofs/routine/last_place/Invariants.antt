@@ -1,7 +1,7 @@
 use Rattle.std.proofs.Common.{◌≡◌, map, drop}
 use Rattle.elan_scope.specs.declared.scope.Scope.{Scope}
 use Rattle.elan_scope.specs.Phrase.{last_place}
-use Rattle.elan_check.specs.Shape.{unit}
+use Rattle.elan_judge.specs.Shape.{unit}
 use Rattle.elan_check.proofs.routine.last_place.Given as goal
 
 abbrev pub invariant-loop-unit : goal.invariant-loop-unit

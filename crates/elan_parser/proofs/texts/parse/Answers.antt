@@ -1,8 +1,8 @@
 use Rattle.std.proofs.Common.{◌≡◌, List, [], Ok, ap, ◌∙◌, rules, arith}
 use Rattle.std.proofs.lemmas.Grind.{common_steps}
 use Rattle.elan_tree.specs.declared.token.Token.{Token}
-use Rattle.elan_parser.specs.Grammar.{text}
-use Rattle.elan_parser.proofs.GrammarLaws.{is_read, some_left, no_tokens}
+use Rattle.elan_grammar.specs.Grammar.{text}
+use Rattle.elan_grammar.proofs.GrammarLaws.{is_read, some_left, no_tokens}
 use Rattle.elan_parser.proofs.texts.parse.Goals as goal
 
 pub returns-then-is_empty-clause-place : goal.returns-then-is_empty-clause-place

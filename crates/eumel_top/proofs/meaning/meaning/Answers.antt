@@ -1,5 +1,5 @@
 use Rattle.std.proofs.Common.{false}
-use Rattle.elan_parser.specs.Grammar.{Reads}
+use Rattle.elan_grammar.specs.Grammar.{Reads}
 use Rattle.eumel_top.specs.Meaning.{means, of_lexer, of_parser, of_check}
 use Rattle.eumel_top.proofs.Refusing.{handed_on, lexer_refuses, parser_refuses, check_refuses}
 use Rattle.eumel_top.proofs.meaning.meaning.Goals as goal

@@ -1,0 +1,219 @@
+//! Programs, and behind each what it writes. tools/examples writes this file from README.md and docs/.
+
+/// One text, since the check goes over each item of an array.
+pub(crate) const EXAMPLES: &str = "\
+> put (10 - 2 - 3); put (7 DIV 2); put (7 MOD 2)
+5 3 1 
+> INT VAR i; FOR i FROM 1 UPTO 5 REP put (i * i) PER
+1 4 9 16 25 
+> INT VAR a :: 48, b :: 36; WHILE a <> b REP IF a > b THEN a DECR b ELSE b DECR a FI PER; put (a)
+12 
+> INT PROC f (INT CONST n): IF n < 2 THEN 1 ELSE n * f (n - 1) FI END PROC f; put (f (7))
+5040 
+> put (sum). sum: INT VAR i, s; FOR i UPTO 4 REP s INCR i PER; s.
+10 
+> put (total)
+FEHLER : unbekannt (Zeile 1, Stelle 6)
+> INT VAR my age :: 9; put (myage)   (* one name *)
+9 
+> put (007); put (1)put (2)
+FEHLER : kein ELAN-Text
+> put (007); IF 1<2 THEN put(1)ENDIF {the last word is two}
+7 1 
+> put (32768)
+FEHLER : kein Symbol (Zeile 1, Stelle 6)
+> put (1); (* put (2)
+FEHLER : kein Symbol (Zeile 1, Stelle 10)
+> put (10 - 2 - 3); put (1 + 2 * 3); put (- 7 DIV 2)
+5 7 -3 
+> INT VAR a :: 1; a INCR 1 + 2; put (a); IF NOT (a = 4) OR 1 + 1 < 3 THEN put (5) FI
+4 5 
+> (((((((((((((1)))))))))))))
+FEHLER : falscher Typ (Zeile 1, Stelle 1)
+> INT VAR x; ; put (x);
+0 
+> INT PROC f (INT CONST a, b): a - b END PROC g; put (f (1, 2))
+FEHLER : kein ELAN-Text
+> x := 3; put (x); INT VAR x
+3 
+> INT VAR n :: 1; PROC p: INT VAR n :: 2; put (n) END PROC p; p; put (n)
+2 1 
+> r; put (n). r: INT VAR n :: 7.
+7 
+> PROC w (INT CONST a): put (1) END PROC w; PROC w (BOOL CONST a): put (2) END PROC w; w (3); w (TRUE)
+1 2 
+> INT OP + (INT CONST a, b): a * b END OP +; put (3 + 4)
+12 
+> OP := (INT VAR a, INT CONST b): a INCR b END OP :=; INT VAR x :: 2; x := 3; put (x)
+5 
+> PROC p (INT VAR a, b): a INCR 1; b INCR 1 END PROC p; INT VAR x :: 5; p (x, x); put (x)
+7 
+> PROC p (INT CONST a): a := 3 END PROC p; p (1)
+FEHLER : keine Variable (Zeile 1, Stelle 23)
+> INT PROC f (INT CONST n): IF n < 0 THEN - n ELSE n FI END PROC f; put (f (- 5)); put (f (3))
+5 3 
+> put (IF TRUE THEN 1 FI)
+FEHLER : falscher Typ (Zeile 1, Stelle 6)
+> INT VAR x; x; put (x)
+FEHLER : falscher Typ (Zeile 1, Stelle 12)
+> SELECT 2 OF CASE 1, 2: put (1) CASE 3: put (3) END SELECT; BOOL VAR b :: 1 < 2; IF b THEN put (4) FI
+1 4 
+> INT PROC f (INT CONST n): IF n > 3 THEN LEAVE f WITH 1 FI; 2 END PROC f; put (f (4)); put (f (3))
+1 2 
+> INT PROC p: q; 1. q: LEAVE p WITH 7 END PROC p; put (p)
+7 
+> r; put (9). r: INT VAR i; FOR i REP IF i > 3 THEN LEAVE r FI; put (i) PER.
+1 2 3 9 
+> put (a). a: b + c. b: 2. c: b * 3.
+8 
+> r. r: s. s: r.
+FEHLER : falsche Stelle (Zeile 1, Stelle 7)
+> put (a + 1)
+FEHLER : unbekannt (Zeile 1, Stelle 6)
+> put (1 + (2 = TRUE)); put (b)
+FEHLER : falscher Typ (Zeile 1, Stelle 11)
+> INT VAR a; INT CONST a :: 1
+FEHLER : doppelt (Zeile 1, Stelle 22)
+> REP PER
+FEHLER : Zeitgrenze
+> INT VAR i; FOR i UPTO 32000 REP PER; put (i)
+32000 
+> INT PROC f (INT CONST n): put (n); n END PROC f; put (f (1) + f (2) * f (3))
+1 2 3 7 
+> IF FALSE CAND 1 DIV 0 = 1 THEN put (1) ELSE put (2) FI
+2 
+> PROC p: INT VAR n; n INCR 1; put (n) END PROC p; p; p
+1 1 
+> PROC p (INT CONST n): IF n > 0 THEN p (n - 1) FI END PROC p; p (5460); put (1)
+1 
+> PROC p (INT CONST n): IF n > 0 THEN p (n - 1) FI END PROC p; p (5461); put (1)
+FEHLER : Stapelueberlauf
+> INT VAR i, n :: 3; FOR i UPTO n REP n := 1; put (i) PER; put (i)
+1 2 3 3 
+> INT VAR i; FOR i FROM 32767 UPTO 32767 REP put (i) PER; put (i)
+32767 32767 
+> INT VAR i; FOR i FROM 5 UPTO 4 REP put (i) PER; put (i)
+5 
+> INT VAR i; FOR i FROM 3 DOWNTO 1 REP put (i) UNTIL i = 2 PER
+3 2 
+> INT VAR i; FOR i FROM 32766 REP put (i) PER
+32766 32767 
+FEHLER : INT-Ueberlauf
+> INT VAR i; FOR i UPTO 4 REP put (SELECT i OF CASE 1: 10 CASE 2, 3: 20 OTHERWISE 0 END SELECT) PER
+10 20 20 0 
+> put (-7 DIV 2); put (-7 MOD 2); put (7 DIV -2); put (7 MOD -2)
+-3 1 -3 1 
+> put (abs (- 3)); put (min (1, 2)); put (max (1, 2)); put (maxint)
+3 1 2 32767 
+> IF (TRUE = FALSE) OR NOT (1 <> 1) THEN put (1) FI; line; line; put (2)
+1 
+
+2 
+> put (maxint + 1)
+FEHLER : INT-Ueberlauf
+> put (1 DIV 0)
+FEHLER : Division durch 0
+> put (1); put (2)
+1 2 
+> put (1); line; put (1 DIV 0)
+1 
+FEHLER : Division durch 0
+> put (1); put (1 DIV 0)
+1 
+FEHLER : Division durch 0
+> INT VAR unused
+> put (1 + 2 * 3); put ((1 + 2) * 3)
+7 9 
+> put (17 DIV 5); put (17 MOD 5); line; put (maxint); put (- maxint)
+3 2 
+32767 -32767 
+> INT VAR apples :: 5; apples := apples + 2; put (apples); apples INCR 10; put (apples)
+7 17 
+> INT CONST dozen :: 12; INT VAR eggs in the fridge :: 2 * dozen; eggs in the fridge DECR 5; put (eggs in the fridge)
+19 
+> INT VAR age :: 17; IF age >= 18 THEN put (1) ELSE put (0) FI; put (IF age < 13 THEN 4 ELIF age < 18 THEN 7 ELSE 10 FI)
+0 7 
+> INT VAR month :: 2; put (SELECT month OF   CASE 2: 28   CASE 4, 6, 9, 11: 30   OTHERWISE 31 END SELECT)
+28 
+> INT VAR i; FOR i FROM 1 UPTO 5 REP   put (i * i) PER
+1 4 9 16 25 
+> INT VAR a :: 48, b :: 36; WHILE a <> b REP   IF a > b THEN a DECR b ELSE b DECR a FI PER; put (a)
+12 
+> PROC countdown:   INT VAR i;   FOR i FROM 3 DOWNTO 0 REP put (i) PER;   line END PROC countdown; countdown; countdown
+3 2 1 0 
+3 2 1 0 
+> INT PROC answer: 6 * 7 END PROC answer; put (answer); put (answer + 1)
+42 43 
+> INT PROC power (INT CONST base, exponent):   IF exponent = 0 THEN 1   ELSE base * power (base, exponent - 1) FI END PROC power; put (power (2, 10)); put (power (7, 3))
+1024 343 
+> PROC swap (INT VAR a, b):   INT CONST old a :: a;   a := b;   b := old a END PROC swap; INT VAR x :: 1, y :: 2; swap (x, y); put (x); put (y)
+2 1 
+> put (sum of squares); put (largest).  sum of squares:   INT VAR i, sum :: 0;   FOR i FROM 1 UPTO largest REP     sum INCR i * i   PER;   sum.  largest: 4.
+30 4 
+> search; put (i).  search:   INT VAR i;   FOR i FROM 2 REP     IF 91 MOD i = 0 THEN LEAVE search FI   PER.
+7 
+> put (aple)
+FEHLER : unbekannt (Zeile 1, Stelle 6)
+> INT VAR a; put (a = TRUE)
+FEHLER : falscher Typ (Zeile 1, Stelle 17)
+> INT CONST a :: 1; a := 2
+FEHLER : keine Variable (Zeile 1, Stelle 19)
+> put (40000)
+FEHLER : kein Symbol (Zeile 1, Stelle 6)
+> put (1 +)
+FEHLER : kein ELAN-Text
+> put (4); put (1 DIV 0); put (5)
+4 
+FEHLER : Division durch 0
+> put (32767 + 1)
+FEHLER : INT-Ueberlauf
+> PROC p: p END PROC p; p
+FEHLER : Stapelueberlauf
+> put (7 / 2)
+FEHLER : kein Symbol (Zeile 1, Stelle 8)
+> put (1) (* comment
+FEHLER : kein Symbol (Zeile 1, Stelle 9)
+> INT VAR x = 5
+FEHLER : kein ELAN-Text
+> INT VAR x :: 5; put (x)
+5 
+> IF 2 > 1 THEN put (2)
+FEHLER : kein ELAN-Text
+> put (\"Hallo\")
+FEHLER : kein ELAN-Text
+> INT VAR name
+FEHLER : kein ELAN-Text
+> put 1
+FEHLER : unbekannt (Zeile 1, Stelle 1)
+> FOR i UPTO 3 REP put (i) PER
+FEHLER : unbekannt (Zeile 1, Stelle 5)
+> INT VAR i; FOR i FROM 1 TO 3 REP put (i) PER
+FEHLER : unbekannt (Zeile 1, Stelle 23)
+> INT VAR a; INT VAR a
+FEHLER : doppelt (Zeile 1, Stelle 20)
+> SELECT 1 OF CASE 1: put (1) CASE 1: put (2) END SELECT
+FEHLER : doppelt (Zeile 1, Stelle 34)
+> put (TRUE)
+FEHLER : falscher Typ (Zeile 1, Stelle 1)
+> IF 1 THEN put (1) FI
+FEHLER : falscher Typ (Zeile 1, Stelle 1)
+> 1 + 2
+FEHLER : falscher Typ (Zeile 1, Stelle 1)
+> INT VAR a :: TRUE
+FEHLER : falscher Typ (Zeile 1, Stelle 9)
+> INT PROC f: line END PROC f; put (f)
+FEHLER : falscher Typ (Zeile 1, Stelle 13)
+> PROC p (INT VAR a): a := 3 END PROC p; p (1)
+FEHLER : keine Variable (Zeile 1, Stelle 43)
+> LEAVE f
+FEHLER : falsche Stelle (Zeile 1, Stelle 1)
+> again. again: put (1); again.
+FEHLER : falsche Stelle (Zeile 1, Stelle 24)
+> put (200 * 200)
+FEHLER : INT-Ueberlauf
+> put (4); put (7 MOD 0)
+4 
+FEHLER : Division durch 0
+> INT PROC f (INT CONST n): IF n = 0 THEN 0 ELSE 1 + (1 + (1 + f (n - 1))) FI END PROC f; put (f (30000))
+FEHLER : Operandenspeicher voll
+";

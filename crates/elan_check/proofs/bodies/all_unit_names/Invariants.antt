@@ -1,6 +1,0 @@
-use Rattle.std.proofs.Common.{◌≡◌, ◌++◌, drop}
-use Rattle.elan_check.specs.Bodies.{all_unit_names}
-use Rattle.elan_check.proofs.bodies.all_unit_names.Given as goal
-
-abbrev pub invariant-loop-unit : goal.invariant-loop-unit
-invariant-loop-unit l = l.out ++ all_unit_names (drop l.unit-index l.units) ≡ l.fn.out ++ all_unit_names l.units

@@ -1,6 +1,0 @@
-use Rattle.std.proofs.Common.{◌≡◌, ◌++◌, drop}
-use Rattle.elan_check.specs.Bodies.{parameters}
-use Rattle.elan_check.proofs.bodies.parameters.Given as goal
-
-abbrev pub invariant-loop-formal : goal.invariant-loop-formal
-invariant-loop-formal l = l.list ++ parameters (drop l.formal-index l.formals) ≡ parameters l.formals

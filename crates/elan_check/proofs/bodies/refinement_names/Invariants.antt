@@ -1,6 +1,0 @@
-use Rattle.std.proofs.Common.{◌≡◌, ◌++◌, drop}
-use Rattle.elan_check.specs.Bodies.{refinement_names}
-use Rattle.elan_check.proofs.bodies.refinement_names.Given as goal
-
-abbrev pub invariant-loop-refinement : goal.invariant-loop-refinement
-invariant-loop-refinement l = l.out ++ refinement_names (drop l.refinement-index l.refinements) ≡ l.fn.out ++ refinement_names l.refinements

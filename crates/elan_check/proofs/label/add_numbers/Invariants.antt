@@ -1,6 +1,0 @@
-use Rattle.std.proofs.Common.{◌≡◌, ◌++◌, drop}
-use Rattle.elan_check.specs.Shape.{numbers}
-use Rattle.elan_check.proofs.label.add_numbers.Given as goal
-
-abbrev pub invariant-loop-label : goal.invariant-loop-label
-invariant-loop-label l = l.out ++ numbers (drop l.label-index l.labels) ≡ l.fn.out ++ numbers l.labels

@@ -1,6 +1,0 @@
-use Rattle.std.proofs.Common.{◌≡◌, map, drop}
-use Rattle.elan_check.specs.NotBuilt.{any, refinement}
-use Rattle.elan_check.proofs.not_built.refinements.Given as goal
-
-abbrev pub invariant-loop-refinement : goal.invariant-loop-refinement
-invariant-loop-refinement l = any (map refinement (drop l.refinement-index l.refinements)) ≡ any (map refinement l.refinements)

@@ -1,0 +1,449 @@
+//! A cursor over tokens: it stands before the next one.
+
+ghost use Rattle.std.specs.Prelude.{◌≡◌, ◌<◌, nat_lt, Ok, Err, IfOk};
+ghost use Rattle.elan_grammar.specs.Rule as rule;
+ghost use Rattle.elan_grammar.specs.Rule.{Gives};
+ghost use Rattle.elan_grammar.specs.Kinds as kinds;
+ghost use Rattle.elan_grammar.specs.Terminals as spec;
+
+use crate::kind::{
+    ahead, is_init, is_key, is_level, is_rep, is_sign, is_symbol, kind_of, same_sign,
+};
+use containers::{Bytes, NoMemory};
+use elan_grammar::{Joint, Kind, ParseError};
+use elan_tree::{
+    Access, Constant, Export, Expr, Key, Label, Name, Operator, OperatorName, Sign, Size, Token,
+    TypePhrase, Word,
+};
+use std::alloc::Global;
+
+fn copied(alloc: Global, text: &Bytes) -> Result<Bytes, NoMemory>
+    ensures { IfOk result (λ copy. copy ≡ text.now) }
+{
+    Bytes::from(alloc, text.as_slice())
+}
+
+fn named(alloc: Global, at: u32, text: &Bytes) -> Result<Name, NoMemory>
+    ensures { IfOk result (λ name. name ≡ spec.named_at at text.now) }
+{
+    let text = copied(alloc, text)?;
+    Ok(Name { at, text })
+}
+
+/// The tokens that are left.
+#[derive(Drop)]
+pub struct Cursor<'a> {
+    pub rest: &'a [Token],
+}
+
+impl<'a> Cursor<'a> {
+    /// What stands next.
+    pub fn ahead(&self) -> Kind
+        ensures { result ≡ kinds.ahead self.now.rest.now }
+    {
+        ahead(self.rest)
+    }
+
+    /// Whether this keyword stands next.
+    pub fn sees_key(&self, key: Key) -> bool
+        ensures { result ≡ kinds.is_key key (kinds.ahead self.now.rest.now) }
+    {
+        is_key(key, self.ahead())
+    }
+
+    /// Whether this sign stands next.
+    pub fn sees_sign(&self, sign: Sign) -> bool
+        ensures { result ≡ kinds.is_sign sign (kinds.ahead self.now.rest.now) }
+    {
+        is_sign(sign, self.ahead())
+    }
+
+    /// The refusal at this place.
+    pub fn refuse(&self) -> ParseError
+        ensures { result ≡ rule.refusal self.now.rest.now }
+    {
+        ParseError::NotElan(self.rest.len())
+    }
+
+    /// There is a depth above a phrase of this height.
+    pub fn below(&self, height: u32, depth: u16) -> Result<(), ParseError>
+        ensures reads { Gives ((rule.only (nat_lt height depth)).run self.now.rest.now) result self.now.rest.now }
+        ensures low { IfOk result (λ _. height < depth) }
+    {
+        if height < u32::from(depth) {
+            Ok(())
+        } else {
+            Err(self.refuse())
+        }
+    }
+
+    /// Takes a keyword; its place.
+    pub fn keyword(&mut self, key: Key) -> Result<u32, ParseError>
+        ensures { Gives ((spec.keyword key).run self.old.rest.now) result self.new.rest.now }
+    {
+        match self.rest {
+            [first, rest @ ..] if is_key(key, kind_of(&first.what)) => {
+                self.rest = rest;
+                Ok(first.at)
+            }
+            _ => Err(self.refuse()),
+        }
+    }
+
+    /// END and a keyword.
+    #[tactic(auto, unfolding(elan_grammar::specs::Terminals::end_of))]
+    pub fn end_of(&mut self, key: Key) -> Result<u32, ParseError>
+        ensures { Gives ((spec.end_of key).run self.old.rest.now) result self.new.rest.now }
+    {
+        self.keyword(Key::End)?;
+        self.keyword(key)
+    }
+
+    /// Takes a sign; its place.
+    pub fn mark(&mut self, sign: Sign) -> Result<u32, ParseError>
+        ensures { Gives ((spec.mark sign).run self.old.rest.now) result self.new.rest.now }
+    {
+        match self.rest {
+            [first, rest @ ..] if is_sign(sign, kind_of(&first.what)) => {
+                self.rest = rest;
+                Ok(first.at)
+            }
+            _ => Err(self.refuse()),
+        }
+    }
+
+    /// Takes `::` or `:=`; its place.
+    pub fn init_mark(&mut self) -> Result<u32, ParseError>
+        ensures { Gives (spec.init_mark.run self.old.rest.now) result self.new.rest.now }
+    {
+        match self.rest {
+            [first, rest @ ..] if is_init(kind_of(&first.what)) => {
+                self.rest = rest;
+                Ok(first.at)
+            }
+            _ => Err(self.refuse()),
+        }
+    }
+
+    /// Takes REP or REPEAT; its place.
+    pub fn rep(&mut self) -> Result<u32, ParseError>
+        ensures { Gives (spec.rep.run self.old.rest.now) result self.new.rest.now }
+    {
+        match self.rest {
+            [first, rest @ ..] if is_rep(kind_of(&first.what)) => {
+                self.rest = rest;
+                Ok(first.at)
+            }
+            _ => Err(self.refuse()),
+        }
+    }
+
+    /// Takes an identifier.
+    pub fn ident(&mut self, alloc: Global) -> Result<Name, ParseError>
+        ensures { Gives (spec.ident.run self.old.rest.now) result self.new.rest.now }
+    {
+        match self.rest {
+            [] => Err(self.refuse()),
+            [first, rest @ ..] => match &first.what {
+                Word::Ident(text) => {
+                    let name = named(alloc, first.at, text)?;
+                    self.rest = rest;
+                    Ok(name)
+                }
+                _ => Err(self.refuse()),
+            },
+        }
+    }
+
+    /// Takes a bold word.
+    pub fn bold(&mut self, alloc: Global) -> Result<Name, ParseError>
+        ensures { Gives (spec.bold.run self.old.rest.now) result self.new.rest.now }
+    {
+        match self.rest {
+            [] => Err(self.refuse()),
+            [first, rest @ ..] => match &first.what {
+                Word::Bold(text) => {
+                    let name = named(alloc, first.at, text)?;
+                    self.rest = rest;
+                    Ok(name)
+                }
+                _ => Err(self.refuse()),
+            },
+        }
+    }
+
+    /// The name of what LEAVE leaves.
+    pub fn leaving(&mut self, alloc: Global) -> Result<Name, ParseError>
+        ensures { Gives ((rule.terminal spec.leaving_at).run self.old.rest.now) result self.new.rest.now }
+    {
+        match self.rest {
+            [] => Err(self.refuse()),
+            [first, rest @ ..] => match &first.what {
+                Word::Ident(text) | Word::Bold(text) => {
+                    let name = named(alloc, first.at, text)?;
+                    self.rest = rest;
+                    Ok(name)
+                }
+                _ => Err(self.refuse()),
+            },
+        }
+    }
+
+    /// The identifier that has this name.
+    pub fn same(&mut self, name: &Name) -> Result<(), ParseError>
+        ensures { Gives ((rule.terminal (spec.same_at name.now)).run self.old.rest.now) result self.new.rest.now }
+    {
+        match self.rest {
+            [] => Err(self.refuse()),
+            [first, rest @ ..] => match &first.what {
+                Word::Ident(text) => {
+                    if text.as_slice() != name.text.as_slice() {
+                        return Err(self.refuse());
+                    }
+                    self.rest = rest;
+                    Ok(())
+                }
+                _ => Err(self.refuse()),
+            },
+        }
+    }
+
+    /// Takes INT, BOOL, TEXT, TASK or DATASPACE.
+    pub fn simple_type(&mut self) -> Result<TypePhrase, ParseError>
+        ensures { Gives ((rule.terminal spec.simple_at).run self.old.rest.now) result self.new.rest.now }
+    {
+        match self.rest {
+            [] => Err(self.refuse()),
+            [first, rest @ ..] => {
+                let found = match &first.what {
+                    Word::Key(Key::Int) => TypePhrase::Int(first.at),
+                    Word::Key(Key::Bool) => TypePhrase::Bool(first.at),
+                    Word::Key(Key::Text) => TypePhrase::Text(first.at),
+                    Word::Key(Key::Task) => TypePhrase::Task(first.at),
+                    Word::Key(Key::Dataspace) => TypePhrase::Dataspace(first.at),
+                    _ => return Err(self.refuse()),
+                };
+                self.rest = rest;
+                Ok(found)
+            }
+        }
+    }
+
+    /// Takes the size of a ROW.
+    pub fn size(&mut self, alloc: Global) -> Result<Size, ParseError>
+        ensures { Gives ((rule.terminal spec.size_at).run self.old.rest.now) result self.new.rest.now }
+    {
+        match self.rest {
+            [] => Err(self.refuse()),
+            [first, rest @ ..] => {
+                let found = match &first.what {
+                    Word::Number(number) => Size::Number(first.at, *number),
+                    Word::Ident(text) => Size::Named(named(alloc, first.at, text)?),
+                    _ => return Err(self.refuse()),
+                };
+                self.rest = rest;
+                Ok(found)
+            }
+        }
+    }
+
+    /// Takes CONST or VAR.
+    pub fn access(&mut self) -> Result<Access, ParseError>
+        ensures { Gives ((rule.terminal spec.access_at).run self.old.rest.now) result self.new.rest.now }
+    {
+        match self.rest {
+            [] => Err(self.refuse()),
+            [first, rest @ ..] => {
+                let found = match &first.what {
+                    Word::Key(Key::Const) => Access::Const,
+                    Word::Key(Key::Var) => Access::Var,
+                    _ => return Err(self.refuse()),
+                };
+                self.rest = rest;
+                Ok(found)
+            }
+        }
+    }
+
+    /// Takes a number, a text, TRUE or FALSE, as the constant of a LET.
+    pub fn constant(&mut self, alloc: Global) -> Result<Constant, ParseError>
+        ensures { Gives ((rule.terminal spec.constant_at).run self.old.rest.now) result self.new.rest.now }
+    {
+        match self.rest {
+            [] => Err(self.refuse()),
+            [first, rest @ ..] => {
+                let found = match &first.what {
+                    Word::Number(number) => Constant::Number(first.at, *number),
+                    Word::Text(text) => Constant::Text(first.at, copied(alloc, text)?),
+                    Word::Key(Key::True) => Constant::Truth(first.at, true),
+                    Word::Key(Key::False) => Constant::Truth(first.at, false),
+                    _ => return Err(self.refuse()),
+                };
+                self.rest = rest;
+                Ok(found)
+            }
+        }
+    }
+
+    /// Takes the label of a CASE.
+    pub fn label(&mut self, alloc: Global) -> Result<Label, ParseError>
+        ensures { Gives ((rule.terminal spec.label_at).run self.old.rest.now) result self.new.rest.now }
+    {
+        match self.rest {
+            [] => Err(self.refuse()),
+            [first, rest @ ..] => {
+                let found = match &first.what {
+                    Word::Number(number) => Label::Number(first.at, *number),
+                    Word::Ident(text) => Label::Named(named(alloc, first.at, text)?),
+                    _ => return Err(self.refuse()),
+                };
+                self.rest = rest;
+                Ok(found)
+            }
+        }
+    }
+
+    /// A number behind a minus.
+    pub fn negated(&mut self) -> Result<i16, ParseError>
+        ensures { Gives ((rule.terminal spec.negated_at).run self.old.rest.now) result self.new.rest.now }
+    {
+        match self.rest {
+            [] => Err(self.refuse()),
+            [first, rest @ ..] => match &first.what {
+                Word::Number(number) => {
+                    if *number < 0 {
+                        return Err(self.refuse());
+                    }
+                    self.rest = rest;
+                    Ok(-*number)
+                }
+                _ => Err(self.refuse()),
+            },
+        }
+    }
+
+    /// Takes a number, a text, TRUE or FALSE, as an expression.
+    pub fn literal(&mut self, alloc: Global) -> Result<Expr, ParseError>
+        ensures { Gives ((rule.terminal spec.literal_at).run self.old.rest.now) result self.new.rest.now }
+    {
+        match self.rest {
+            [] => Err(self.refuse()),
+            [first, rest @ ..] => {
+                let found = match &first.what {
+                    Word::Number(number) => Expr::Number(first.at, *number),
+                    Word::Text(text) => Expr::Text(first.at, copied(alloc, text)?),
+                    Word::Key(Key::True) => Expr::Truth(first.at, true),
+                    Word::Key(Key::False) => Expr::Truth(first.at, false),
+                    _ => return Err(self.refuse()),
+                };
+                self.rest = rest;
+                Ok(found)
+            }
+        }
+    }
+
+    /// Takes an operator that stands before its operand; its place and itself.
+    pub fn monadic(&mut self, alloc: Global) -> Result<(u32, Operator), ParseError>
+        ensures { Gives ((rule.terminal spec.monadic_at).run self.old.rest.now) result self.new.rest.now }
+    {
+        match self.rest {
+            [] => Err(self.refuse()),
+            [first, rest @ ..] => {
+                let found = match &first.what {
+                    Word::Sign(Sign::Plus) => Operator::Sign(Sign::Plus),
+                    Word::Sign(Sign::Minus) => Operator::Sign(Sign::Minus),
+                    Word::Bold(text) => Operator::Named(copied(alloc, text)?),
+                    _ => return Err(self.refuse()),
+                };
+                self.rest = rest;
+                Ok((first.at, found))
+            }
+        }
+    }
+
+    /// An operator of a level.
+    pub fn joint(&mut self, alloc: Global, level: u8) -> Result<Joint, ParseError>
+        ensures { Gives ((rule.terminal (spec.joint_at level)).run self.old.rest.now) result self.new.rest.now }
+    {
+        match self.rest {
+            [] => Err(self.refuse()),
+            [first, rest @ ..] => {
+                if !is_level(level, kind_of(&first.what)) {
+                    return Err(self.refuse());
+                }
+                let found = match &first.what {
+                    Word::Bold(text) => Joint::Operator(Operator::Named(copied(alloc, text)?)),
+                    Word::Sign(sign) => Joint::Operator(Operator::Sign(*sign)),
+                    Word::Key(Key::Cand) => Joint::Cand,
+                    Word::Key(Key::Cor) => Joint::Cor,
+                    _ => return Err(self.refuse()),
+                };
+                self.rest = rest;
+                Ok(found)
+            }
+        }
+    }
+
+    /// Takes the name of an operator.
+    pub fn operator(&mut self, alloc: Global) -> Result<OperatorName, ParseError>
+        ensures { Gives ((rule.terminal spec.operator_at).run self.old.rest.now) result self.new.rest.now }
+    {
+        match self.rest {
+            [] => Err(self.refuse()),
+            [first, rest @ ..] => {
+                let operator = match &first.what {
+                    Word::Bold(text) => Operator::Named(copied(alloc, text)?),
+                    Word::Sign(sign) if is_symbol(*sign) => Operator::Sign(*sign),
+                    _ => return Err(self.refuse()),
+                };
+                self.rest = rest;
+                Ok(OperatorName {
+                    at: first.at,
+                    operator,
+                })
+            }
+        }
+    }
+
+    /// The name of an operator that is this one.
+    pub fn same_operator(&mut self, name: &OperatorName) -> Result<(), ParseError>
+        ensures { Gives ((rule.terminal (spec.same_operator_at name.now)).run self.old.rest.now) result self.new.rest.now }
+    {
+        match self.rest {
+            [first, rest @ ..] if is_operator_name(&name.operator, &first.what) => {
+                self.rest = rest;
+                Ok(())
+            }
+            _ => Err(self.refuse()),
+        }
+    }
+
+    /// Takes a name that a packet offers.
+    pub fn export(&mut self, alloc: Global) -> Result<Export, ParseError>
+        ensures { Gives ((rule.terminal spec.export_at).run self.old.rest.now) result self.new.rest.now }
+    {
+        match self.rest {
+            [] => Err(self.refuse()),
+            [first, rest @ ..] => {
+                let found = match &first.what {
+                    Word::Ident(text) => Export::Ident(named(alloc, first.at, text)?),
+                    Word::Bold(text) => Export::Bold(named(alloc, first.at, text)?),
+                    Word::Sign(sign) if is_symbol(*sign) => Export::Sign(first.at, *sign),
+                    _ => return Err(self.refuse()),
+                };
+                self.rest = rest;
+                Ok(found)
+            }
+        }
+    }
+}
+
+fn is_operator_name(operator: &Operator, word: &Word) -> bool
+    ensures { result ≡ spec.same_operator operator.now word.now }
+{
+    match (operator, word) {
+        (Operator::Named(name), Word::Bold(text)) => text.as_slice() == name.as_slice(),
+        (Operator::Sign(sign), Word::Sign(other)) => is_symbol(*other) && same_sign(*sign, *other),
+        _ => false,
+    }
+}

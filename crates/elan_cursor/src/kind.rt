@@ -1,0 +1,434 @@
+//! What the parser looks at: the next token, and of some tokens what follows them.
+
+ghost use Rattle.std.specs.Prelude.{◌≡◌, ◌==◌};
+ghost use Rattle.elan_grammar.specs.Kinds as kinds;
+
+use elan_grammar::{Kind, Tier};
+use elan_tree::{Key, Sign, Token, Word};
+
+fn key_number(key: Key) -> u8
+    ensures { result ≡ kinds.key_number key }
+{
+    match key {
+        Key::Packet => 0,
+        Key::Defines => 1,
+        Key::End => 2,
+        Key::Proc => 3,
+        Key::Op => 4,
+        Key::TypeWord => 5,
+        Key::Let => 6,
+        Key::Const => 7,
+        Key::Var => 8,
+        Key::Row => 9,
+        Key::Struct => 10,
+        Key::Bound => 11,
+        Key::Int => 12,
+        Key::Bool => 13,
+        Key::Text => 14,
+        Key::Task => 15,
+        Key::Dataspace => 16,
+        Key::If => 17,
+        Key::Then => 18,
+        Key::Elif => 19,
+        Key::Else => 20,
+        Key::Fi => 21,
+        Key::Select => 22,
+        Key::Of => 23,
+        Key::Case => 24,
+        Key::Otherwise => 25,
+        Key::For => 26,
+        Key::From => 27,
+        Key::Upto => 28,
+        Key::Downto => 29,
+        Key::While => 30,
+        Key::Rep => 31,
+        Key::Repeat => 32,
+        Key::Until => 33,
+        Key::Per => 34,
+        Key::Leave => 35,
+        Key::With => 36,
+        Key::True => 37,
+        Key::False => 38,
+        Key::Concr => 39,
+        Key::Cand => 40,
+        Key::Cor => 41,
+    }
+}
+
+fn sign_number(sign: Sign) -> u8
+    ensures { result ≡ kinds.sign_number sign }
+{
+    match sign {
+        Sign::LeftRound => 0,
+        Sign::RightRound => 1,
+        Sign::LeftSquare => 2,
+        Sign::RightSquare => 3,
+        Sign::Comma => 4,
+        Sign::Semicolon => 5,
+        Sign::Point => 6,
+        Sign::Colon => 7,
+        Sign::DoubleColon => 8,
+        Sign::Becomes => 9,
+        Sign::Equal => 10,
+        Sign::Unequal => 11,
+        Sign::Less => 12,
+        Sign::LessEqual => 13,
+        Sign::Greater => 14,
+        Sign::GreaterEqual => 15,
+        Sign::Plus => 16,
+        Sign::Minus => 17,
+        Sign::Times => 18,
+    }
+}
+
+/// Whether two signs are one.
+pub fn same_sign(a: Sign, b: Sign) -> bool
+    ensures { result ≡ kinds.same_sign a b }
+{
+    sign_number(a) == sign_number(b)
+}
+
+/// Whether the kind is this keyword.
+pub fn is_key(key: Key, kind: Kind) -> bool
+    ensures { result ≡ kinds.is_key key kind }
+{
+    match kind {
+        Kind::Key(other) => key_number(key) == key_number(other),
+        _ => false,
+    }
+}
+
+/// Whether the kind is this sign.
+pub fn is_sign(sign: Sign, kind: Kind) -> bool
+    ensures { result ≡ kinds.is_sign sign kind }
+{
+    match kind {
+        Kind::Sign(other) => same_sign(sign, other),
+        _ => false,
+    }
+}
+
+fn tier_of(word: &[u8]) -> Tier
+    ensures { result ≡ kinds.tier_of word.now }
+{
+    if word == b"AND".as_slice() {
+        Tier::And
+    } else if word == b"OR".as_slice() {
+        Tier::Or
+    } else if word == b"DIV".as_slice() || word == b"MOD".as_slice() {
+        Tier::Times
+    } else {
+        Tier::Other
+    }
+}
+
+/// The kind of a word, whatever follows it.
+pub fn kind_of(word: &Word) -> Kind
+    ensures { result ≡ kinds.kind_of word.now }
+{
+    match word {
+        Word::Ident(_) => Kind::Ident,
+        Word::Bold(text) => Kind::Bold(tier_of(text.as_slice())),
+        Word::Key(key) => Kind::Key(*key),
+        Word::Sign(sign) => Kind::Sign(*sign),
+        Word::Number(_) => Kind::Number,
+        Word::Text(_) => Kind::Text,
+    }
+}
+
+fn first_kind(tokens: &[Token]) -> Kind
+    ensures { result ≡ kinds.kind tokens.now }
+{
+    match tokens {
+        [] => Kind::Nothing,
+        [first, ..] => kind_of(&first.what),
+    }
+}
+
+fn second(tokens: &[Token]) -> Kind
+    ensures { result ≡ kinds.second tokens.now }
+{
+    match tokens {
+        [] => Kind::Nothing,
+        [_, rest @ ..] => first_kind(rest),
+    }
+}
+
+fn point_by(first: Kind, second: Kind) -> Kind
+    ensures { result ≡ kinds.point_by first second }
+{
+    match (first, second) {
+        (Kind::Ident, Kind::Sign(Sign::Colon)) => Kind::Refines,
+        (Kind::Ident, _) => Kind::Selects,
+        _ => Kind::Sign(Sign::Point),
+    }
+}
+
+fn comma_by(next: Kind) -> Kind
+    ensures { result ≡ kinds.comma_by next }
+{
+    match next {
+        Kind::Ident => Kind::GoesOn,
+        _ => Kind::Sign(Sign::Comma),
+    }
+}
+
+fn bold_by(tier: Tier, next: Kind) -> Kind
+    ensures { result ≡ kinds.bold_by tier next }
+{
+    match next {
+        Kind::Key(Key::Var | Key::Const | Key::Proc | Key::Op) => Kind::TypeName(tier),
+        _ => Kind::Bold(tier),
+    }
+}
+
+fn by_next(here: Kind, rest: &[Token]) -> Kind
+    ensures { result ≡ kinds.by_next here rest.now }
+{
+    match here {
+        Kind::Sign(Sign::Point) => point_by(first_kind(rest), second(rest)),
+        Kind::Sign(Sign::Comma) => comma_by(first_kind(rest)),
+        Kind::Bold(tier) => bold_by(tier, first_kind(rest)),
+        other => other,
+    }
+}
+
+/// What the parser sees before these tokens.
+#[tactic(auto, unfolding(elan_grammar::specs::Kinds::ahead))]
+pub fn ahead(tokens: &[Token]) -> Kind
+    ensures { result ≡ kinds.ahead tokens.now }
+{
+    match tokens {
+        [] => Kind::Nothing,
+        [first, rest @ ..] => by_next(kind_of(&first.what), rest),
+    }
+}
+
+// ---- sets of kinds
+
+/// REP or REPEAT.
+pub fn is_rep(kind: Kind) -> bool
+    ensures { result ≡ kinds.is_rep kind }
+{
+    matches!(kind, Kind::Key(Key::Rep | Key::Repeat))
+}
+
+/// An identifier.
+pub fn is_ident(kind: Kind) -> bool
+    ensures { result ≡ kinds.is_ident kind }
+{
+    matches!(kind, Kind::Ident)
+}
+
+/// A bold word.
+pub fn is_bold(kind: Kind) -> bool
+    ensures { result ≡ kinds.is_bold kind }
+{
+    matches!(kind, Kind::Bold(_) | Kind::TypeName(_))
+}
+
+/// A comma, whatever follows it.
+pub fn is_comma(kind: Kind) -> bool
+    ensures { result ≡ kinds.is_comma kind }
+{
+    matches!(kind, Kind::GoesOn | Kind::Sign(Sign::Comma))
+}
+
+/// A comma with an identifier behind it.
+pub fn goes_on(kind: Kind) -> bool
+    ensures { result ≡ kinds.goes_on kind }
+{
+    matches!(kind, Kind::GoesOn)
+}
+
+/// A point, whatever follows it.
+pub fn is_point(kind: Kind) -> bool
+    ensures { result ≡ kinds.is_point kind }
+{
+    matches!(
+        kind,
+        Kind::Selects | Kind::Refines | Kind::Sign(Sign::Point)
+    )
+}
+
+/// A point with an identifier behind it.
+pub fn leads(kind: Kind) -> bool
+    ensures { result ≡ kinds.leads kind }
+{
+    matches!(kind, Kind::Selects | Kind::Refines)
+}
+
+/// What goes on with a primary: `[`, or a point that selects.
+pub fn lengthens(kind: Kind) -> bool
+    ensures { result ≡ kinds.lengthens kind }
+{
+    matches!(kind, Kind::Selects | Kind::Sign(Sign::LeftSquare))
+}
+
+/// What an initial value stands behind: `::` or `:=`.
+pub fn is_init(kind: Kind) -> bool
+    ensures { result ≡ kinds.is_init kind }
+{
+    matches!(kind, Kind::Sign(Sign::DoubleColon | Sign::Becomes))
+}
+
+/// A sign that may name an operator.
+pub fn is_symbol(sign: Sign) -> bool
+    ensures { result ≡ kinds.is_symbol sign }
+{
+    matches!(
+        sign,
+        Sign::Plus
+            | Sign::Minus
+            | Sign::Times
+            | Sign::Equal
+            | Sign::Unequal
+            | Sign::Less
+            | Sign::LessEqual
+            | Sign::Greater
+            | Sign::GreaterEqual
+            | Sign::Becomes
+    )
+}
+
+/// What may name an operator: a bold word or such a sign.
+pub fn is_operator(kind: Kind) -> bool
+    ensures { result ≡ kinds.is_operator kind }
+{
+    match kind {
+        Kind::Bold(_) | Kind::TypeName(_) => true,
+        Kind::Sign(sign) => is_symbol(sign),
+        _ => false,
+    }
+}
+
+/// What may stand before its one operand.
+pub fn is_monadic(kind: Kind) -> bool
+    ensures { result ≡ kinds.is_monadic kind }
+{
+    matches!(
+        kind,
+        Kind::Bold(_) | Kind::TypeName(_) | Kind::Sign(Sign::Plus | Sign::Minus)
+    )
+}
+
+/// A number, a text, TRUE or FALSE.
+pub fn is_literal(kind: Kind) -> bool
+    ensures { result ≡ kinds.is_literal kind }
+{
+    matches!(
+        kind,
+        Kind::Number | Kind::Text | Kind::Key(Key::True | Key::False)
+    )
+}
+
+/// What a unit begins with that begins with a type.
+pub fn begins_typed(kind: Kind) -> bool
+    ensures { result ≡ kinds.begins_typed kind }
+{
+    matches!(
+        kind,
+        Kind::TypeName(_)
+            | Kind::Key(
+                Key::Int
+                    | Key::Bool
+                    | Key::Text
+                    | Key::Task
+                    | Key::Dataspace
+                    | Key::Row
+                    | Key::Struct
+            )
+    )
+}
+
+/// What a statement begins with that begins with an expression.
+pub fn begins(kind: Kind) -> bool
+    ensures { result ≡ kinds.begins kind }
+{
+    matches!(
+        kind,
+        Kind::Ident
+            | Kind::Number
+            | Kind::Text
+            | Kind::Bold(_)
+            | Kind::Sign(Sign::Plus | Sign::Minus | Sign::LeftRound)
+            | Kind::Key(Key::True | Key::False | Key::Concr | Key::If | Key::Select)
+    )
+}
+
+fn tier_level(tier: Tier) -> u8
+    ensures { result ≡ kinds.tier_level tier }
+{
+    match tier {
+        Tier::Times => 1,
+        Tier::And => 4,
+        Tier::Or => 5,
+        Tier::Other => 6,
+    }
+}
+
+fn key_level(key: Key) -> u8
+    ensures { result ≡ kinds.loose (Kind.Key key) }
+{
+    match key {
+        Key::Cand => 4,
+        Key::Cor => 5,
+        Key::Then
+        | Key::Elif
+        | Key::Else
+        | Key::Fi
+        | Key::End
+        | Key::Of
+        | Key::Case
+        | Key::Otherwise
+        | Key::Upto
+        | Key::Downto
+        | Key::While
+        | Key::Rep
+        | Key::Repeat
+        | Key::Until
+        | Key::Per => 7,
+        _ => 0,
+    }
+}
+
+fn sign_level(sign: Sign) -> u8
+    ensures { result ≡ kinds.loose (Kind.Sign sign) }
+{
+    match sign {
+        Sign::Times => 1,
+        Sign::Plus | Sign::Minus => 2,
+        Sign::Equal
+        | Sign::Unequal
+        | Sign::Less
+        | Sign::LessEqual
+        | Sign::Greater
+        | Sign::GreaterEqual => 3,
+        Sign::RightRound
+        | Sign::RightSquare
+        | Sign::Comma
+        | Sign::Semicolon
+        | Sign::Point
+        | Sign::Becomes => 7,
+        _ => 0,
+    }
+}
+
+fn loose(kind: Kind) -> u8
+    ensures { result ≡ kinds.loose kind }
+{
+    match kind {
+        Kind::Bold(tier) | Kind::TypeName(tier) => tier_level(tier),
+        Kind::Key(key) => key_level(key),
+        Kind::Sign(sign) => sign_level(sign),
+        Kind::GoesOn | Kind::Refines | Kind::Nothing => 7,
+        _ => 0,
+    }
+}
+
+/// An operator of this level.
+pub fn is_level(level: u8, kind: Kind) -> bool
+    ensures { result ≡ kinds.is_level level kind }
+{
+    loose(kind) == level
+}

@@ -1,0 +1,15 @@
+pub mod Turns
+pub mod Deepest
+pub mod Knots
+pub mod Laws
+pub mod Repeats
+pub mod Every
+pub mod Seen
+pub mod Tokens
+pub mod Forms
+pub mod Follows
+pub mod TypeLaws
+pub mod ExpressionLaws
+pub mod UnitLaws
+pub mod GrammarLaws
+pub mod PlaceLaws

@@ -1,0 +1,301 @@
+-- What holds of the rules of one token.
+use Rattle.std.proofs.Common.{◌≡◌, ℕ, ◌<◌, Bool, true, false, cond, List, Option, Some, None, refl, sym, ◌∙◌, arith}
+use Rattle.std.specs.Prelude.{not, ◌==◌, ◌&&◌, ℤ}
+use Rattle.std.proofs.lemmas.Bool.{eqb-true}
+use Rattle.elan_tree.specs.declared.token.Token.{Token}
+use Rattle.elan_tree.specs.declared.token.Word.{Word}
+use Rattle.elan_tree.specs.declared.token.Word.TheVariants as w
+use Rattle.elan_tree.specs.declared.token.Key.{Key}
+use Rattle.elan_tree.specs.declared.token.Key.TheVariants as key
+use Rattle.elan_tree.specs.declared.token.Sign.{Sign}
+use Rattle.elan_tree.specs.declared.token.Sign.TheVariants as sign
+use Rattle.elan_tree.specs.declared.written_type.Name.{Name}
+use Rattle.elan_tree.specs.declared.written_type.TypePhrase.{TypePhrase}
+use Rattle.elan_tree.specs.declared.written_type.Size.{Size}
+use Rattle.elan_tree.specs.declared.written_type.Access.{Access}
+use Rattle.elan_tree.specs.declared.written_type.Constant.{Constant}
+use Rattle.elan_tree.specs.declared.written_type.Label.{Label}
+use Rattle.elan_tree.specs.declared.phrase.Expr.{Expr}
+use Rattle.elan_tree.specs.declared.phrase.Operator.{Operator}
+use Rattle.elan_tree.specs.declared.phrase.Operator.TheVariants as op
+use Rattle.elan_tree.specs.declared.tree.OperatorName.{OperatorName}
+use Rattle.elan_tree.specs.declared.tree.Export.{Export}
+use Rattle.elan_tree.specs.declared.tree.Export.TheVariants as export
+use Rattle.elan_grammar.specs.declared.kind.Tier.{Tier}
+use Rattle.elan_grammar.specs.declared.kind.Kind.TheVariants as k
+use Rattle.elan_grammar.specs.declared.joint.Joint.{Joint}
+use Rattle.elan_grammar.specs.declared.joint.Joint.TheVariants as joint
+use Rattle.elan_grammar.specs.Kinds.{ahead, kind, second, kind_of, is_key, is_sign, is_ident, is_number, is_bold, is_comma, goes_on, is_point, leads, is_init, is_rep, is_symbol, is_operator, is_literal, begins, is_level, loose, tier_of, tier_level, same_sign}
+use Rattle.elan_grammar.specs.Rule.{terminal}
+use Rattle.elan_grammar.specs.Terminals as terminals
+use Rattle.elan_grammar.proofs.Laws.{Set, Within, Apart, Laws, bind_law, terminal_law}
+use Rattle.elan_grammar.proofs.Every.{every, implies, apart}
+use Rattle.elan_grammar.proofs.Seen.{is_special, is_mark, is_type_name, declares, ahead-is, stays, ident_ahead, declares_ahead, ahead-point, pointed, leading, alone, ahead-comma, commaed, going_on, parting, type_named, ahead-plain}
+
+-- what a test accepts
+pub given : {A : Type 0} (b : Bool) (x y : A) → cond b (Some x) None ≡ Some y → b ≡ true
+given true x y e = refl
+given false x y e = absurd cc
+
+plain_law : {A : Type 0} (f : Token → Option A) (first stop : Set) → ((t : Token) (a : A) → f t ≡ Some a → first (kind_of t.what) ≡ true) → Apart first is_special → Laws (terminal f) first stop
+plain_law f first stop shows apart = terminal_law f first stop (λ t ts a h s.
+    let is = shows t a h in
+    rw (ahead-is t ts (apart (kind_of t.what) is)) is)
+
+-- of a token that may be a bold word
+loose_law : {A : Type 0} (f : Token → Option A) (first stop : Set) → ((t : Token) (a : A) → f t ≡ Some a → first (kind_of t.what) ≡ true) → ((r : Tier) → first (k.Bold r) ≡ true → first (k.TypeName r) ≡ true) → Apart first is_mark → Laws (terminal f) first stop
+loose_law f first stop shows same apart = terminal_law f first stop (λ t ts a h s. stays first same apart t ts (shows t a h))
+
+-- ---- keywords and signs
+
+key_apart : (x : Key) → Apart (is_key x) is_special
+key_apart x (k.Key y) h = refl
+key_apart x _ h = absurd cc
+
+pub keyword_law : (x : Key) (stop : Set) → Laws (terminals.keyword x) (is_key x) stop
+keyword_law x stop = plain_law (terminals.key_at x) (is_key x) stop (λ t a h. given (is_key x (kind_of t.what)) t.at a h) (key_apart x)
+
+pub end_law : (x : Key) (stop : Set) → Laws (terminals.end_of x) (is_key key.End) stop
+unfolding terminals.end_of
+end_law x stop = bind_law (terminals.keyword key.End) _ (is_key key.End) (is_key x) (is_key x) stop (keyword_law key.End (is_key x)) (λ _. keyword_law x stop) (λ k h. h)
+
+pub mark_law : (x : Sign) (stop : Set) → every (λ y. implies (is_sign x y) (not (is_special y))) ≡ true → Laws (terminals.mark x) (is_sign x) stop
+mark_law x stop e = plain_law (terminals.sign_at x) (is_sign x) stop (λ t a h. given (is_sign x (kind_of t.what)) t.at a h) (apart (is_sign x) is_special e)
+
+pub init_law : (stop : Set) → Laws terminals.init_mark is_init stop
+init_law stop = plain_law terminals.init_at is_init stop (λ t a h. given (is_init (kind_of t.what)) t.at a h) (apart is_init is_special refl)
+
+pub rep_law : (stop : Set) → Laws terminals.rep is_rep stop
+rep_law stop = plain_law terminals.rep_at is_rep stop (λ t a h. given (is_rep (kind_of t.what)) t.at a h) (apart is_rep is_special refl)
+
+-- ---- points and commas
+
+point_shows : (t : Token) (a : ℕ) → terminals.sign_at sign.Point t ≡ Some a → is_sign sign.Point (kind_of t.what) ≡ true
+point_shows t a h = given (is_sign sign.Point (kind_of t.what)) t.at a h
+
+pub point_law : (stop : Set) → Laws (terminals.mark sign.Point) is_point stop
+point_law stop = terminal_law (terminals.sign_at sign.Point) is_point stop (λ t ts a h s. rw (ahead-point t ts (point_shows t a h)) (pointed (kind ts) (second ts)))
+
+-- before an identifier
+pub leading_law : Laws (terminals.mark sign.Point) leads is_ident
+leading_law = terminal_law (terminals.sign_at sign.Point) leads is_ident (λ t ts a h s. rw (ahead-point t ts (point_shows t a h)) (leading (kind ts) (second ts) (sym (ident_ahead ts) ∙ s)))
+
+-- before anything else
+pub alone_law : (stop : Set) → Apart stop is_ident → Laws (terminals.mark sign.Point) (is_sign sign.Point) stop
+alone_law stop e = terminal_law (terminals.sign_at sign.Point) (is_sign sign.Point) stop (λ t ts a h s. rw (ahead-point t ts (point_shows t a h)) (alone (kind ts) (second ts) (sym (ident_ahead ts) ∙ e (ahead ts) s)))
+
+comma_shows : (t : Token) (a : ℕ) → terminals.sign_at sign.Comma t ≡ Some a → is_sign sign.Comma (kind_of t.what) ≡ true
+comma_shows t a h = given (is_sign sign.Comma (kind_of t.what)) t.at a h
+
+pub comma_law : (stop : Set) → Laws (terminals.mark sign.Comma) is_comma stop
+comma_law stop = terminal_law (terminals.sign_at sign.Comma) is_comma stop (λ t ts a h s. rw (ahead-comma t ts (comma_shows t a h)) (commaed (kind ts)))
+
+pub going_law : Laws (terminals.mark sign.Comma) goes_on is_ident
+going_law = terminal_law (terminals.sign_at sign.Comma) goes_on is_ident (λ t ts a h s. rw (ahead-comma t ts (comma_shows t a h)) (going_on (kind ts) (sym (ident_ahead ts) ∙ s)))
+
+pub parting_law : (stop : Set) → Apart stop is_ident → Laws (terminals.mark sign.Comma) (is_sign sign.Comma) stop
+parting_law stop e = terminal_law (terminals.sign_at sign.Comma) (is_sign sign.Comma) stop (λ t ts a h s. rw (ahead-comma t ts (comma_shows t a h)) (parting (kind ts) (sym (ident_ahead ts) ∙ e (ahead ts) s)))
+
+-- ---- names
+
+pub ident_shows : (at : ℕ) (v : Word) (a : Name) → terminals.ident_of at v ≡ Some a → is_ident (kind_of v) ≡ true
+ident_shows at (w.Ident b) a e = refl
+ident_shows at _ a e = absurd cc
+
+pub ident_law : (stop : Set) → Laws terminals.ident is_ident stop
+ident_law stop = plain_law terminals.ident_at is_ident stop (λ t a h. ident_shows t.at t.what a h) (apart is_ident is_special refl)
+
+bold_shows : (at : ℕ) (v : Word) (a : Name) → terminals.bold_of at v ≡ Some a → is_bold (kind_of v) ≡ true
+bold_shows at (w.Bold b) a e = refl
+bold_shows at _ a e = absurd cc
+
+pub bold_law : (stop : Set) → Laws terminals.bold is_bold stop
+bold_law stop = loose_law terminals.bold_at is_bold stop (λ t a h. bold_shows t.at t.what a h) (λ r e. refl) (apart is_bold is_mark refl)
+
+-- before VAR, CONST, PROC or OP
+pub type_name_law : (stop : Set) → Within stop declares → Laws terminals.bold is_type_name stop
+type_name_law stop e = terminal_law terminals.bold_at is_type_name stop (λ t ts a h s. type_named t ts (bold_shows t.at t.what a h) (sym (declares_ahead ts) ∙ e (ahead ts) s))
+
+abbrev pub is_leaving : Set
+is_leaving k.Ident = true
+is_leaving (k.Bold r) = true
+is_leaving (k.TypeName r) = true
+is_leaving _ = false
+
+leaving_shows : (at : ℕ) (v : Word) (a : Name) → terminals.leaving_of at v ≡ Some a → is_leaving (kind_of v) ≡ true
+leaving_shows at (w.Ident b) a e = refl
+leaving_shows at (w.Bold b) a e = refl
+leaving_shows at _ a e = absurd cc
+
+pub leaving_law : (stop : Set) → Laws (terminal terminals.leaving_at) is_leaving stop
+leaving_law stop = loose_law terminals.leaving_at is_leaving stop (λ t a h. leaving_shows t.at t.what a h) (λ r e. refl) (apart is_leaving is_mark refl)
+
+same_shows : (text : List ℕ) (v : Word) (a : Unit {0}) → terminals.same_of text v ≡ Some a → is_ident (kind_of v) ≡ true
+same_shows text (w.Ident b) a e = refl
+same_shows text _ a e = absurd cc
+
+pub same_law : (x : Name) (stop : Set) → Laws (terminal (terminals.same_at x)) is_ident stop
+same_law x stop = plain_law (terminals.same_at x) is_ident stop (λ t a h. same_shows x.text t.what a h) (apart is_ident is_special refl)
+
+-- ---- what stands in types, constants, labels and expressions
+
+abbrev pub is_simple : Set
+is_simple (k.Key key.Int) = true
+is_simple (k.Key key.Bool) = true
+is_simple (k.Key key.Text) = true
+is_simple (k.Key key.Task) = true
+is_simple (k.Key key.Dataspace) = true
+is_simple _ = false
+
+abbrev pub is_size : Set
+is_size k.Number = true
+is_size k.Ident = true
+is_size _ = false
+
+abbrev pub is_access : Set
+is_access (k.Key key.Const) = true
+is_access (k.Key key.Var) = true
+is_access _ = false
+
+simple_shows : (at : ℕ) (v : Word) (a : TypePhrase) → terminals.simple_of at v ≡ Some a → is_simple (kind_of v) ≡ true
+simple_shows at (w.Key key.Int) a e = refl
+simple_shows at (w.Key key.Bool) a e = refl
+simple_shows at (w.Key key.Text) a e = refl
+simple_shows at (w.Key key.Task) a e = refl
+simple_shows at (w.Key key.Dataspace) a e = refl
+simple_shows at _ a e = absurd cc
+
+pub simple_law : (stop : Set) → Laws (terminal terminals.simple_at) is_simple stop
+simple_law stop = plain_law terminals.simple_at is_simple stop (λ t a h. simple_shows t.at t.what a h) (apart is_simple is_special refl)
+
+size_shows : (at : ℕ) (v : Word) (a : Size) → terminals.size_of at v ≡ Some a → is_size (kind_of v) ≡ true
+size_shows at (w.Number n) a e = refl
+size_shows at (w.Ident b) a e = refl
+size_shows at _ a e = absurd cc
+
+pub size_law : (stop : Set) → Laws (terminal terminals.size_at) is_size stop
+size_law stop = plain_law terminals.size_at is_size stop (λ t a h. size_shows t.at t.what a h) (apart is_size is_special refl)
+
+access_shows : (v : Word) (a : Access) → terminals.access_of v ≡ Some a → is_access (kind_of v) ≡ true
+access_shows (w.Key key.Const) a e = refl
+access_shows (w.Key key.Var) a e = refl
+access_shows _ a e = absurd cc
+
+pub access_law : (stop : Set) → Laws (terminal terminals.access_at) is_access stop
+access_law stop = plain_law terminals.access_at is_access stop (λ t a h. access_shows t.what a h) (apart is_access is_special refl)
+
+constant_shows : (at : ℕ) (v : Word) (a : Constant) → terminals.constant_of at v ≡ Some a → is_literal (kind_of v) ≡ true
+constant_shows at (w.Number n) a e = refl
+constant_shows at (w.Text b) a e = refl
+constant_shows at (w.Key key.True) a e = refl
+constant_shows at (w.Key key.False) a e = refl
+constant_shows at _ a e = absurd cc
+
+pub constant_law : (stop : Set) → Laws (terminal terminals.constant_at) is_literal stop
+constant_law stop = plain_law terminals.constant_at is_literal stop (λ t a h. constant_shows t.at t.what a h) (apart is_literal is_special refl)
+
+label_shows : (at : ℕ) (v : Word) (a : Label) → terminals.label_of at v ≡ Some a → is_size (kind_of v) ≡ true
+label_shows at (w.Number n) a e = refl
+label_shows at (w.Ident b) a e = refl
+label_shows at _ a e = absurd cc
+
+pub label_law : (stop : Set) → Laws (terminal terminals.label_at) is_size stop
+label_law stop = plain_law terminals.label_at is_size stop (λ t a h. label_shows t.at t.what a h) (apart is_size is_special refl)
+
+literal_shows : (at : ℕ) (v : Word) (a : Expr) → terminals.literal_of at v ≡ Some a → is_literal (kind_of v) ≡ true
+literal_shows at (w.Number n) a e = refl
+literal_shows at (w.Text b) a e = refl
+literal_shows at (w.Key key.True) a e = refl
+literal_shows at (w.Key key.False) a e = refl
+literal_shows at _ a e = absurd cc
+
+pub literal_law : (stop : Set) → Laws (terminal terminals.literal_at) is_literal stop
+literal_law stop = plain_law terminals.literal_at is_literal stop (λ t a h. literal_shows t.at t.what a h) (apart is_literal is_special refl)
+
+negated_shows : (v : Word) (a : ℤ) → terminals.negated_of v ≡ Some a → is_number (kind_of v) ≡ true
+negated_shows (w.Number n) a e = refl
+negated_shows _ a e = absurd cc
+
+pub negated_law : (stop : Set) → Laws (terminal terminals.negated_at) is_number stop
+negated_law stop = plain_law terminals.negated_at is_number stop (λ t a h. negated_shows t.what a h) (apart is_number is_special refl)
+
+-- ---- operators
+
+-- a monadic operator before an operand
+abbrev pub applies : Set
+applies (k.Bold r) = true
+applies (k.Sign sign.Plus) = true
+applies (k.Sign sign.Minus) = true
+applies _ = false
+
+monadic_shows : (at : ℕ) (v : Word) (a : ℕ × Operator) → terminals.monadic_of at v ≡ Some a → applies (kind_of v) ≡ true
+monadic_shows at (w.Sign sign.Plus) a e = refl
+monadic_shows at (w.Sign sign.Minus) a e = refl
+monadic_shows at (w.Bold b) a e = refl
+monadic_shows at _ a e = absurd cc
+
+pub monadic_law : Laws (terminal terminals.monadic_at) applies begins
+monadic_law = terminal_law terminals.monadic_at applies begins (λ t ts a h s.
+    let is = monadic_shows t.at t.what a h in
+    rw (ahead-plain t ts (apart applies is_mark refl (kind_of t.what) is) (sym (declares_ahead ts) ∙ apart begins declares refl (ahead ts) s)) is)
+
+joint_shows : (i : ℕ) (v : Word) (a : Joint) → terminals.joint_of i v ≡ Some a → is_level i (kind_of v) ≡ true
+joint_shows i (w.Bold b) a e = given (tier_level (tier_of b) == i) (joint.Operator (op.Named b)) a e
+joint_shows i (w.Sign x) a e = given (loose (k.Sign x) == i) (joint.Operator (op.Sign x)) a e
+joint_shows i (w.Key key.Cand) a e = given (4 == i) joint.Cand a e
+joint_shows i (w.Key key.Cor) a e = given (5 == i) joint.Cor a e
+joint_shows i (w.Key _) a e = absurd cc
+joint_shows i (w.Ident b) a e = absurd cc
+joint_shows i (w.Number n) a e = absurd cc
+joint_shows i (w.Text b) a e = absurd cc
+
+no_mark : (i : ℕ) → i < 7 → Apart (is_level i) is_mark
+no_mark i lt (k.Sign sign.Point) h = absurd (omega (arith, eqb-true 7 i h))
+no_mark i lt (k.Sign sign.Comma) h = absurd (omega (arith, eqb-true 7 i h))
+no_mark i lt _ h = refl
+
+pub joint_law : (i : ℕ) (stop : Set) → i < 7 → Laws (terminal (terminals.joint_at i)) (is_level i) stop
+joint_law i stop lt = loose_law (terminals.joint_at i) (is_level i) stop (λ t a h. joint_shows i t.what a h) (λ r e. e) (no_mark i lt)
+
+operator_of_shows : (v : Word) (a : Operator) → terminals.operator_of v ≡ Some a → is_operator (kind_of v) ≡ true
+operator_of_shows (w.Bold b) a e = refl
+operator_of_shows (w.Sign x) a e = given (is_symbol x) (op.Sign x) a e
+operator_of_shows _ a e = absurd cc
+
+operator_given : (at : ℕ) (o : Option Operator) (a : OperatorName) → terminals.operator_named at o ≡ Some a → (x : Operator) × (o ≡ Some x)
+operator_given at (Some x) a e = (x, refl)
+operator_given at None a e = absurd cc
+
+operator_apart : Apart is_operator is_mark
+operator_apart = apart is_operator is_mark refl
+
+pub operator_law : (stop : Set) → Laws (terminal terminals.operator_at) is_operator stop
+operator_law stop = loose_law terminals.operator_at is_operator stop (λ t a h. let g = operator_given t.at (terminals.operator_of t.what) a h in operator_of_shows t.what g.0 g.1) (λ r e. refl) operator_apart
+
+and_first : (a b : Bool) → (a && b) ≡ true → a ≡ true
+and_first true b e = refl
+and_first false b e = absurd cc
+
+same_operator_shows : (o : Operator) (v : Word) → terminals.same_operator o v ≡ true → is_operator (kind_of v) ≡ true
+same_operator_shows (op.Named a) (w.Bold b) e = refl
+same_operator_shows (op.Sign x) (w.Sign y) e = and_first (is_symbol y) (same_sign x y) e
+same_operator_shows _ _ e = absurd cc
+
+pub same_operator_law : (o : OperatorName) (stop : Set) → Laws (terminal (terminals.same_operator_at o)) is_operator stop
+same_operator_law o stop = loose_law (terminals.same_operator_at o) is_operator stop (λ t a h. same_operator_shows o.operator t.what (given (terminals.same_operator o.operator t.what) tt a h)) (λ r e. refl) operator_apart
+
+abbrev pub is_export : Set
+is_export k.Ident = true
+is_export (k.Bold r) = true
+is_export (k.TypeName r) = true
+is_export (k.Sign x) = is_symbol x
+is_export _ = false
+
+export_shows : (at : ℕ) (v : Word) (a : Export) → terminals.export_of at v ≡ Some a → is_export (kind_of v) ≡ true
+export_shows at (w.Ident b) a e = refl
+export_shows at (w.Bold b) a e = refl
+export_shows at (w.Sign x) a e = given (is_symbol x) (export.Sign at x) a e
+export_shows at _ a e = absurd cc
+
+pub export_law : (stop : Set) → Laws (terminal terminals.export_at) is_export stop
+export_law stop = loose_law terminals.export_at is_export stop (λ t a h. export_shows t.at t.what a h) (λ r e. refl) (apart is_export is_mark refl)

@@ -1,0 +1,233 @@
+-- Expressions.
+use Rattle.std.specs.Prelude.{ℕ, zero, suc, nat_lt, List, Option}
+use Rattle.elan_tree.specs.declared.token.Key.TheVariants as key
+use Rattle.elan_tree.specs.declared.token.Sign.TheVariants as sign
+use Rattle.elan_tree.specs.declared.written_type.Name.{Name}
+use Rattle.elan_tree.specs.declared.phrase.Expr.{Expr}
+use Rattle.elan_tree.specs.declared.phrase.Expr.TheVariants as e
+use Rattle.elan_tree.specs.declared.phrase.Branch.{Branch}
+use Rattle.elan_tree.specs.declared.phrase.Case.{Case}
+use Rattle.elan_tree.specs.declared.phrase.Unit.{Unit as Phrase}
+use Rattle.elan_grammar.specs.declared.heading.SelectParts.{SelectParts}
+use Rattle.elan_grammar.specs.declared.joint.Joint.{Joint}
+use Rattle.elan_grammar.specs.declared.joint.Joint.TheVariants as joint
+use Rattle.elan_grammar.specs.declared.joint.Right.{Right}
+use Rattle.elan_grammar.specs.Kinds.{is_key, is_sign, is_comma, is_literal, is_monadic, is_level, lengthens}
+use Rattle.elan_grammar.specs.Rule.{Rule, pure, nothing, ◌>>=◌, ◌>>◌, terminal, only, choose, iterate, optional, listed}
+use Rattle.elan_grammar.specs.Terminals.{keyword, end_of, mark, ident, literal_at, monadic_at, joint_at}
+use Rattle.elan_grammar.specs.Types.{labels}
+use Rattle.elan_grammar.specs.Depth.{expr_depth, expr_place}
+
+-- Phrases of some depth: expressions whose operators hold as tightly as a level or more tightly (6 for all, 0 for none that stands between two operands), and lists of units.
+pub record Language : Type 1 where
+  pub level : ℕ → Rule Expr
+  pub units : Rule (List Phrase)
+
+abbrev pub joined_by : Joint → Expr → Expr → Expr
+joined_by joint.Cand a b = e.Cand (expr_place a) a b
+joined_by joint.Cor a b = e.Cor (expr_place a) a b
+joined_by (joint.Operator o) a b = e.Dyadic (expr_place a) o a b
+
+abbrev pub joined : Expr → Right → Expr
+joined a r = joined_by r.joint a r.operand
+
+-- FI | END IF
+unfoldable pub choice_end : Rule ℕ
+choice_end = choose (is_key key.End) (end_of key.If) (keyword key.Fi)
+
+-- The expressions at most n deep. What stands in them is less than n deep.
+module _ (inner : Language) (n : ℕ) where
+  -- there is a depth between
+  abbrev room : Rule (Unit {0})
+  room = only (nat_lt 0 n)
+
+  -- there is a depth above this one
+  abbrev below : ℕ → Rule (Unit {0})
+  below depth = only (nat_lt depth n)
+
+  abbrev e1 : Rule Expr
+  e1 = inner.level 6
+
+  -- "(" e1 ")"
+  unfoldable pub bracket : Rule Expr
+  bracket = do
+    room
+    at ← mark sign.LeftRound
+    a ← e1
+    mark sign.RightRound
+    pure (e.Bracket at a)
+
+  -- CONCR "(" e1 ")"
+  unfoldable pub concr : Rule Expr
+  concr = do
+    room
+    at ← keyword key.Concr
+    mark sign.LeftRound
+    a ← e1
+    mark sign.RightRound
+    pure (e.Concr at a)
+
+  -- PROC ident
+  unfoldable pub procedure : Rule Expr
+  procedure = do
+    at ← keyword key.Proc
+    x ← ident
+    pure (e.Procedure at x)
+
+  -- e1 | PROC ident
+  unfoldable pub actual : Rule Expr
+  actual = choose (is_key key.Proc) procedure e1
+
+  -- actual { "," actual }
+  unfoldable pub actuals : Rule (List Expr)
+  actuals = listed is_comma (mark sign.Comma) actual
+
+  -- "(" actuals ")"
+  unfoldable pub call : Name → Rule Expr
+  call x = do
+    room
+    mark sign.LeftRound
+    xs ← actuals
+    mark sign.RightRound
+    pure (e.Call x xs)
+
+  -- ident [ "(" actuals ")" ]
+  unfoldable pub named : Rule Expr
+  named = do
+    x ← ident
+    choose (is_sign sign.LeftRound) (call x) (pure (e.Named x))
+
+  -- e1 THEN units
+  unfoldable pub branch : Rule Branch
+  branch = do
+    c ← e1
+    keyword key.Then
+    us ← inner.units
+    pure (record { condition = c; units = us })
+
+  -- branch { ELIF branch }
+  unfoldable pub branches : Rule (List Branch)
+  branches = listed (is_key key.Elif) (keyword key.Elif) branch
+
+  -- [ ELSE units ]
+  unfoldable pub else_part : Rule (Option (List Phrase))
+  else_part = optional (is_key key.Else) (do keyword key.Else; inner.units)
+
+  -- IF branches [ ELSE units ] ( FI | END IF )
+  unfoldable pub choice : Rule Expr
+  choice = do
+    room
+    at ← keyword key.If
+    bs ← branches
+    o ← else_part
+    choice_end
+    pure (e.If at bs o)
+
+  -- CASE label { "," label } ":" units
+  unfoldable pub a_case : Rule Case
+  a_case = do
+    keyword key.Case
+    ls ← labels
+    mark sign.Colon
+    us ← inner.units
+    pure (record { labels = ls; units = us })
+
+  -- case { case }
+  unfoldable pub cases : Rule (List Case)
+  cases = listed (is_key key.Case) nothing a_case
+
+  -- [ OTHERWISE [ ":" ] units ]
+  unfoldable pub otherwise_part : Rule (Option (List Phrase))
+  otherwise_part = optional (is_key key.Otherwise) (do
+    keyword key.Otherwise
+    optional (is_sign sign.Colon) (mark sign.Colon)
+    inner.units)
+
+  -- cases [ OTHERWISE [ ":" ] units ] END SELECT
+  unfoldable pub select_parts : Rule SelectParts
+  select_parts = do
+    cs ← cases
+    o ← otherwise_part
+    end_of key.Select
+    pure (record { cases = cs; otherwise = o })
+
+  -- SELECT e1 OF cases [ OTHERWISE [ ":" ] units ] END SELECT
+  unfoldable pub selection : Rule Expr
+  selection = do
+    room
+    at ← keyword key.Select
+    a ← e1
+    keyword key.Of
+    p ← select_parts
+    pure (e.Select at a p.cases p.otherwise)
+
+  -- number | textdenoter | TRUE | FALSE | "(" e1 ")" | CONCR "(" e1 ")" | if | select | ident [ "(" actuals ")" ]
+  unfoldable pub head : Rule Expr
+  head = choose is_literal (terminal literal_at) (choose (is_sign sign.LeftRound) bracket (choose (is_key key.Concr) concr (choose (is_key key.If) choice (choose (is_key key.Select) selection named))))
+
+  -- "[" e1 "]", behind an expression of this depth
+  unfoldable pub index_part : ℕ → Rule Expr
+  index_part depth = do
+    below depth
+    mark sign.LeftSquare
+    b ← e1
+    mark sign.RightSquare
+    pure b
+
+  unfoldable pub index : Expr → Rule Expr
+  index a = do
+    b ← index_part (expr_depth a)
+    pure (e.Index (expr_place a) a b)
+
+  -- "." ident, behind an expression of this depth
+  unfoldable pub field_part : ℕ → Rule Name
+  field_part depth = do
+    below depth
+    mark sign.Point
+    ident
+
+  unfoldable pub field_of : Expr → Rule Expr
+  field_of a = do
+    x ← field_part (expr_depth a)
+    pure (e.Field (expr_place a) a x)
+
+  unfoldable pub longer : Expr → Rule Expr
+  longer a = choose (is_sign sign.LeftSquare) (index a) (field_of a)
+
+  -- head { "[" e1 "]" | "." ident }
+  unfoldable pub prim : Rule Expr
+  prim = do
+    a ← head
+    iterate longer lengthens a
+
+  -- ( "+" | "-" | BOLD ) m
+  unfoldable pub applied : Rule Expr
+  applied = do
+    room
+    o ← terminal monadic_at
+    a ← inner.level 0
+    pure (e.Monadic o.0 o.1 a)
+
+  -- m: ( "+" | "-" | BOLD ) m | prim
+  unfoldable pub operand : Rule Expr
+  operand = choose is_monadic applied prim
+
+  -- an operator of level i + 1 and its right operand, behind an expression of this depth
+  unfoldable pub right_part : ℕ → ℕ → Rule Right
+  right_part i depth = do
+    below depth
+    o ← terminal (joint_at (suc i))
+    b ← inner.level i
+    pure (record { joint = o; operand = b })
+
+  unfoldable pub dyadic : ℕ → Expr → Rule Expr
+  dyadic i a = do
+    r ← right_part i (expr_depth a)
+    pure (joined a r)
+
+  -- m, e6, e5, e4, e3, e2 and e1 are the levels 0 to 6: e6 is m { ( "*" | DIV | MOD ) m }, and so on
+  unfoldable pub level : ℕ → Rule Expr
+  level zero = operand
+  level (suc i) = do
+    a ← level i
+    iterate (dyadic i) (is_level (suc i)) a

@@ -1,0 +1,319 @@
+-- The kinds of tokens: what the parser looks at.
+use Rattle.std.specs.Prelude.{ℕ, Bool, true, false, ◌||◌, if◌then◌else◌, ◌==◌, List, [], ◌∷◌, bytes_eq}
+use Rattle.elan_tree.specs.declared.token.Token.{Token}
+use Rattle.elan_tree.specs.declared.token.Word.{Word}
+use Rattle.elan_tree.specs.declared.token.Word.TheVariants as w
+use Rattle.elan_tree.specs.declared.token.Key.{Key}
+use Rattle.elan_tree.specs.declared.token.Key.TheVariants as key
+use Rattle.elan_tree.specs.declared.token.Sign.{Sign}
+use Rattle.elan_tree.specs.declared.token.Sign.TheVariants as sign
+use Rattle.elan_grammar.specs.declared.kind.Tier.{Tier}
+use Rattle.elan_grammar.specs.declared.kind.Tier.TheVariants as tier
+use Rattle.elan_grammar.specs.declared.kind.Kind.{Kind}
+use Rattle.elan_grammar.specs.declared.kind.Kind.TheVariants as k
+
+abbrev pub key_number : Key → ℕ
+key_number key.Packet = 0
+key_number key.Defines = 1
+key_number key.End = 2
+key_number key.Proc = 3
+key_number key.Op = 4
+key_number key.TypeWord = 5
+key_number key.Let = 6
+key_number key.Const = 7
+key_number key.Var = 8
+key_number key.Row = 9
+key_number key.Struct = 10
+key_number key.Bound = 11
+key_number key.Int = 12
+key_number key.Bool = 13
+key_number key.Text = 14
+key_number key.Task = 15
+key_number key.Dataspace = 16
+key_number key.If = 17
+key_number key.Then = 18
+key_number key.Elif = 19
+key_number key.Else = 20
+key_number key.Fi = 21
+key_number key.Select = 22
+key_number key.Of = 23
+key_number key.Case = 24
+key_number key.Otherwise = 25
+key_number key.For = 26
+key_number key.From = 27
+key_number key.Upto = 28
+key_number key.Downto = 29
+key_number key.While = 30
+key_number key.Rep = 31
+key_number key.Repeat = 32
+key_number key.Until = 33
+key_number key.Per = 34
+key_number key.Leave = 35
+key_number key.With = 36
+key_number key.True = 37
+key_number key.False = 38
+key_number key.Concr = 39
+key_number key.Cand = 40
+key_number key.Cor = 41
+
+abbrev pub sign_number : Sign → ℕ
+sign_number sign.LeftRound = 0
+sign_number sign.RightRound = 1
+sign_number sign.LeftSquare = 2
+sign_number sign.RightSquare = 3
+sign_number sign.Comma = 4
+sign_number sign.Semicolon = 5
+sign_number sign.Point = 6
+sign_number sign.Colon = 7
+sign_number sign.DoubleColon = 8
+sign_number sign.Becomes = 9
+sign_number sign.Equal = 10
+sign_number sign.Unequal = 11
+sign_number sign.Less = 12
+sign_number sign.LessEqual = 13
+sign_number sign.Greater = 14
+sign_number sign.GreaterEqual = 15
+sign_number sign.Plus = 16
+sign_number sign.Minus = 17
+sign_number sign.Times = 18
+
+abbrev pub same_key : Key → Key → Bool
+same_key a b = key_number a == key_number b
+
+abbrev pub same_sign : Sign → Sign → Bool
+same_sign a b = sign_number a == sign_number b
+
+abbrev pub is_key : Key → Kind → Bool
+is_key a (k.Key b) = same_key a b
+is_key a _ = false
+
+abbrev pub is_sign : Sign → Kind → Bool
+is_sign a (k.Sign b) = same_sign a b
+is_sign a _ = false
+
+-- ---- the words of operators
+
+abbrev pub word_and : List ℕ
+word_and = 65 ∷ 78 ∷ 68 ∷ []
+
+abbrev pub word_or : List ℕ
+word_or = 79 ∷ 82 ∷ []
+
+abbrev pub word_div : List ℕ
+word_div = 68 ∷ 73 ∷ 86 ∷ []
+
+abbrev pub word_mod : List ℕ
+word_mod = 77 ∷ 79 ∷ 68 ∷ []
+
+-- where a bold word stands as an operator
+abbrev pub tier_of : List ℕ → Tier
+tier_of b = if bytes_eq b word_and then tier.And else (if bytes_eq b word_or then tier.Or else (if bytes_eq b word_div || bytes_eq b word_mod then tier.Times else tier.Other))
+
+abbrev pub kind_of : Word → Kind
+kind_of (w.Ident b) = k.Ident
+kind_of (w.Bold b) = k.Bold (tier_of b)
+kind_of (w.Key x) = k.Key x
+kind_of (w.Sign x) = k.Sign x
+kind_of (w.Number n) = k.Number
+kind_of (w.Text b) = k.Text
+
+abbrev pub kind : List Token → Kind
+kind [] = k.Nothing
+kind (t ∷ ts) = kind_of t.what
+
+abbrev pub second : List Token → Kind
+second [] = k.Nothing
+second (t ∷ ts) = kind ts
+
+-- what a point is, by the two tokens after it
+abbrev pub point_by : Kind → Kind → Kind
+point_by k.Ident (k.Sign sign.Colon) = k.Refines
+point_by k.Ident _ = k.Selects
+point_by _ _ = k.Sign sign.Point
+
+-- what a comma is, by the token after it
+abbrev pub comma_by : Kind → Kind
+comma_by k.Ident = k.GoesOn
+comma_by _ = k.Sign sign.Comma
+
+-- what a bold word is, by the token after it
+abbrev pub bold_by : Tier → Kind → Kind
+bold_by t (k.Key key.Var) = k.TypeName t
+bold_by t (k.Key key.Const) = k.TypeName t
+bold_by t (k.Key key.Proc) = k.TypeName t
+bold_by t (k.Key key.Op) = k.TypeName t
+bold_by t _ = k.Bold t
+
+abbrev pub by_next : Kind → List Token → Kind
+by_next (k.Sign sign.Point) ts = point_by (kind ts) (second ts)
+by_next (k.Sign sign.Comma) ts = comma_by (kind ts)
+by_next (k.Bold t) ts = bold_by t (kind ts)
+by_next other ts = other
+
+-- what the parser sees
+unfoldable pub ahead : List Token → Kind
+ahead [] = k.Nothing
+ahead (t ∷ ts) = by_next (kind_of t.what) ts
+
+-- ---- sets of kinds
+
+abbrev pub is_ident : Kind → Bool
+is_ident k.Ident = true
+is_ident _ = false
+
+abbrev pub is_number : Kind → Bool
+is_number k.Number = true
+is_number _ = false
+
+abbrev pub is_bold : Kind → Bool
+is_bold (k.Bold t) = true
+is_bold (k.TypeName t) = true
+is_bold _ = false
+
+abbrev pub is_comma : Kind → Bool
+is_comma k.GoesOn = true
+is_comma (k.Sign sign.Comma) = true
+is_comma _ = false
+
+abbrev pub goes_on : Kind → Bool
+goes_on k.GoesOn = true
+goes_on _ = false
+
+abbrev pub is_point : Kind → Bool
+is_point k.Selects = true
+is_point k.Refines = true
+is_point (k.Sign sign.Point) = true
+is_point _ = false
+
+-- a point with an identifier behind it
+abbrev pub leads : Kind → Bool
+leads k.Selects = true
+leads k.Refines = true
+leads _ = false
+
+abbrev pub lengthens : Kind → Bool
+lengthens k.Selects = true
+lengthens (k.Sign sign.LeftSquare) = true
+lengthens _ = false
+
+abbrev pub is_init : Kind → Bool
+is_init (k.Sign sign.DoubleColon) = true
+is_init (k.Sign sign.Becomes) = true
+is_init _ = false
+
+-- a name of an operator that may be defined
+abbrev pub is_symbol : Sign → Bool
+is_symbol sign.Plus = true
+is_symbol sign.Minus = true
+is_symbol sign.Times = true
+is_symbol sign.Equal = true
+is_symbol sign.Unequal = true
+is_symbol sign.Less = true
+is_symbol sign.LessEqual = true
+is_symbol sign.Greater = true
+is_symbol sign.GreaterEqual = true
+is_symbol sign.Becomes = true
+is_symbol _ = false
+
+abbrev pub is_operator : Kind → Bool
+is_operator (k.Bold t) = true
+is_operator (k.TypeName t) = true
+is_operator (k.Sign x) = is_symbol x
+is_operator _ = false
+
+abbrev pub is_monadic : Kind → Bool
+is_monadic (k.Bold t) = true
+is_monadic (k.TypeName t) = true
+is_monadic (k.Sign sign.Plus) = true
+is_monadic (k.Sign sign.Minus) = true
+is_monadic _ = false
+
+abbrev pub is_literal : Kind → Bool
+is_literal k.Number = true
+is_literal k.Text = true
+is_literal (k.Key key.True) = true
+is_literal (k.Key key.False) = true
+is_literal _ = false
+
+abbrev pub is_rep : Kind → Bool
+is_rep (k.Key key.Rep) = true
+is_rep (k.Key key.Repeat) = true
+is_rep _ = false
+
+-- a unit that begins with it begins with a type
+abbrev pub begins_typed : Kind → Bool
+begins_typed (k.TypeName t) = true
+begins_typed (k.Key key.Int) = true
+begins_typed (k.Key key.Bool) = true
+begins_typed (k.Key key.Text) = true
+begins_typed (k.Key key.Task) = true
+begins_typed (k.Key key.Dataspace) = true
+begins_typed (k.Key key.Row) = true
+begins_typed (k.Key key.Struct) = true
+begins_typed _ = false
+
+-- an expression may begin with it
+abbrev pub begins : Kind → Bool
+begins k.Ident = true
+begins k.Number = true
+begins k.Text = true
+begins (k.Bold t) = true
+begins (k.Sign sign.Plus) = true
+begins (k.Sign sign.Minus) = true
+begins (k.Sign sign.LeftRound) = true
+begins (k.Key key.True) = true
+begins (k.Key key.False) = true
+begins (k.Key key.Concr) = true
+begins (k.Key key.If) = true
+begins (k.Key key.Select) = true
+begins _ = false
+
+abbrev pub tier_level : Tier → ℕ
+tier_level tier.Times = 1
+tier_level tier.And = 4
+tier_level tier.Or = 5
+tier_level tier.Other = 6
+
+-- The level of an operator, 1 for those that hold most tightly to 6; 7 for what ends each expression, and 0 for what can't follow an operand or goes on with it.
+abbrev pub loose : Kind → ℕ
+loose (k.Bold t) = tier_level t
+loose (k.TypeName t) = tier_level t
+loose (k.Sign sign.Times) = 1
+loose (k.Sign sign.Plus) = 2
+loose (k.Sign sign.Minus) = 2
+loose (k.Sign sign.Equal) = 3
+loose (k.Sign sign.Unequal) = 3
+loose (k.Sign sign.Less) = 3
+loose (k.Sign sign.LessEqual) = 3
+loose (k.Sign sign.Greater) = 3
+loose (k.Sign sign.GreaterEqual) = 3
+loose (k.Key key.Cand) = 4
+loose (k.Key key.Cor) = 5
+loose (k.Sign sign.RightRound) = 7
+loose (k.Sign sign.RightSquare) = 7
+loose (k.Sign sign.Comma) = 7
+loose (k.Sign sign.Semicolon) = 7
+loose (k.Sign sign.Point) = 7
+loose (k.Sign sign.Becomes) = 7
+loose (k.Key key.Then) = 7
+loose (k.Key key.Elif) = 7
+loose (k.Key key.Else) = 7
+loose (k.Key key.Fi) = 7
+loose (k.Key key.End) = 7
+loose (k.Key key.Of) = 7
+loose (k.Key key.Case) = 7
+loose (k.Key key.Otherwise) = 7
+loose (k.Key key.Upto) = 7
+loose (k.Key key.Downto) = 7
+loose (k.Key key.While) = 7
+loose (k.Key key.Rep) = 7
+loose (k.Key key.Repeat) = 7
+loose (k.Key key.Until) = 7
+loose (k.Key key.Per) = 7
+loose k.GoesOn = 7
+loose k.Refines = 7
+loose k.Nothing = 7
+loose _ = 0
+
+abbrev pub is_level : ℕ → Kind → Bool
+is_level i k = loose k == i

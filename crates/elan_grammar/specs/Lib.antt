@@ -1,0 +1,11 @@
+pub mod Pairs
+pub mod Kinds
+pub mod Rule
+pub mod Terminals
+pub mod Depth
+pub mod Types
+pub mod Expressions
+pub mod Units
+pub mod Grammar
+pub mod Looks
+pub mod Place

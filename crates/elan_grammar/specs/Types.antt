@@ -1,0 +1,128 @@
+-- What holds no expression: types, parameters, constants, labels, LET.
+use Rattle.std.specs.Prelude.{ℕ, zero, suc, List}
+use Rattle.elan_tree.specs.declared.token.Key.TheVariants as key
+use Rattle.elan_tree.specs.declared.token.Sign.TheVariants as sign
+use Rattle.elan_tree.specs.declared.written_type.Name.{Name}
+use Rattle.elan_tree.specs.declared.written_type.TypePhrase.{TypePhrase}
+use Rattle.elan_tree.specs.declared.written_type.TypePhrase.TheVariants as ty
+use Rattle.elan_tree.specs.declared.written_type.Field.{Field}
+use Rattle.elan_tree.specs.declared.written_type.Formal.{Formal}
+use Rattle.elan_tree.specs.declared.written_type.Constant.{Constant}
+use Rattle.elan_tree.specs.declared.written_type.Constant.TheVariants as constant_form
+use Rattle.elan_tree.specs.declared.written_type.LetItem.{LetItem}
+use Rattle.elan_tree.specs.declared.written_type.LetItem.TheVariants as let_form
+use Rattle.elan_tree.specs.declared.written_type.Label.{Label}
+use Rattle.elan_tree.specs.declared.written_type.Label.TheVariants as label_form
+use Rattle.elan_grammar.specs.Kinds.{is_bold, is_key, is_sign, is_ident, is_comma, goes_on}
+use Rattle.elan_grammar.specs.Rule.{Rule, pure, fail, ◌>>=◌, ◌>>◌, terminal, choose, listed}
+use Rattle.elan_grammar.specs.Terminals.{keyword, mark, ident, bold, simple_at, size_at, access_at, constant_at, negated_at, label_at}
+
+-- ident { "," ident }
+unfoldable pub names : Rule (List Name)
+names = listed goes_on (mark sign.Comma) ident
+
+-- The types of the language stand in others.
+module _ (inner : Rule TypePhrase) where
+  -- BOLD
+  unfoldable pub named_type : Rule TypePhrase
+  named_type = do
+    x ← bold
+    pure (ty.Named x)
+
+  -- ROW size type
+  unfoldable pub row : Rule TypePhrase
+  row = do
+    at ← keyword key.Row
+    s ← terminal size_at
+    t ← inner
+    pure (ty.Row at s t)
+
+  -- type ident { "," ident }
+  unfoldable pub field : Rule Field
+  field = do
+    t ← inner
+    xs ← names
+    pure (record { of = t; names = xs })
+
+  -- field { "," field }
+  unfoldable pub fields : Rule (List Field)
+  fields = listed is_comma (mark sign.Comma) field
+
+  -- STRUCT "(" fields ")"
+  unfoldable pub structure : Rule TypePhrase
+  structure = do
+    at ← keyword key.Struct
+    mark sign.LeftRound
+    fs ← fields
+    mark sign.RightRound
+    pure (ty.Struct at fs)
+
+  -- INT | BOOL | TEXT | TASK | DATASPACE | BOLD | ROW size type | STRUCT "(" fields ")"
+  unfoldable pub a_type : Rule TypePhrase
+  a_type = choose is_bold named_type (choose (is_key key.Row) row (choose (is_key key.Struct) structure (terminal simple_at)))
+
+-- the types at most n deep
+unfoldable pub types : ℕ → Rule TypePhrase
+types zero = fail
+types (suc n) = a_type (types n)
+
+-- type ( CONST | VAR ) ident { "," ident }
+unfoldable pub formal : ℕ → Rule Formal
+formal n = do
+  t ← types n
+  a ← terminal access_at
+  xs ← names
+  pure (record { of = t; access = a; names = xs })
+
+-- formal { "," formal }
+unfoldable pub formals : ℕ → Rule (List Formal)
+formals n = listed is_comma (mark sign.Comma) (formal n)
+
+-- "-" number
+unfoldable pub negative : Rule Constant
+negative = do
+  at ← mark sign.Minus
+  n ← terminal negated_at
+  pure (constant_form.Number at n)
+
+-- [ "-" ] number | textdenoter | TRUE | FALSE
+unfoldable pub constant : Rule Constant
+constant = choose (is_sign sign.Minus) negative (terminal constant_at)
+
+-- ident "=" constant
+unfoldable pub let_constant : Rule LetItem
+let_constant = do
+  x ← ident
+  mark sign.Equal
+  c ← constant
+  pure (let_form.Constant x c)
+
+-- BOLD "=" type
+unfoldable pub abbreviation : ℕ → Rule LetItem
+abbreviation n = do
+  x ← bold
+  mark sign.Equal
+  t ← types n
+  pure (let_form.Abbreviation x t)
+
+unfoldable pub let_item : ℕ → Rule LetItem
+let_item n = choose is_ident let_constant (abbreviation n)
+
+-- let_item { "," let_item }
+unfoldable pub let_items : ℕ → Rule (List LetItem)
+let_items n = listed is_comma (mark sign.Comma) (let_item n)
+
+-- "-" number
+unfoldable pub negative_label : Rule Label
+negative_label = do
+  at ← mark sign.Minus
+  n ← terminal negated_at
+  pure (label_form.Number at n)
+
+-- [ "-" ] number | ident
+unfoldable pub label : Rule Label
+label = choose (is_sign sign.Minus) negative_label (terminal label_at)
+
+-- label { "," label }
+unfoldable pub labels : Rule (List Label)
+labels = listed is_comma (mark sign.Comma) label

@@ -1,0 +1,205 @@
+-- All names in the units of a body are looked up in the scope of the body.
+use Rattle.std.proofs.Common.{◌≡◌, ℤ, ℕ, Bool, true, false, ◌&&◌, List, [], ◌∷◌, ◌++◌, map, Option, Some, None, refl}
+use Rattle.elan_tree.specs.declared.written_type.Name.{Name}
+use Rattle.elan_tree.specs.declared.written_type.Label.{Label}
+use Rattle.elan_tree.specs.declared.written_type.Label.TheVariants as label
+use Rattle.elan_tree.specs.declared.phrase.Expr.{Expr}
+use Rattle.elan_tree.specs.declared.phrase.Limit.{Limit}
+use Rattle.elan_tree.specs.declared.phrase.Branch.{Branch}
+use Rattle.elan_tree.specs.declared.phrase.Case.{Case}
+use Rattle.elan_tree.specs.declared.phrase.Counter.{Counter}
+use Rattle.elan_tree.specs.declared.phrase.Item.{Item}
+use Rattle.elan_tree.specs.declared.phrase.Unit.{Unit as Statement}
+use Rattle.elan_tree.specs.declared.phrase.Expr.TheOpen as t
+use Rattle.elan_tree.specs.declared.phrase.Expr.TheOpen.{Expr-F, Limit-F, Unit-F, Branch-F, Case-F, Counter-F, Item-F}
+use Rattle.elan_tree.specs.declared.phrase.Expr.TheFolds.{ind-Unit, map-Expr, map-Limit, map-Unit, map-Branch, map-Case, map-Counter, map-Item, fold-roll-Expr, fold-roll-Limit, fold-roll-Unit, fold-roll-Branch, fold-roll-Case, fold-roll-Counter, fold-roll-Item}
+use Rattle.elan_scope.specs.declared.scope.Scope.{Scope}
+use Rattle.elan_scope.specs.Phrase as form
+use Rattle.elan_scope.specs.Phrase.{Form, Phrase, phrase, Parts, none, part, all_of}
+use Rattle.elan_judge.specs.Shape as shape
+
+abbrev fst : {A : Type 0} {B : A → Type 0} → (a : A) × B a → A
+fst x = x.0
+
+module _ (s : Scope) where
+  abbrev pub Names : Form → Type 0
+  Names (form.named u at z x) = z ≡ s
+  Names (form.applied at z sort x) = z ≡ s
+  Names (form.declares at z x) = z ≡ s
+  Names (form.assignment at z) = z ≡ s
+  Names (form.leave at z x) = z ≡ s
+  Names (form.heading at z sort x ps missing) = ⊥
+  Names (form.body at o r) = ⊥
+  Names form.routine = ⊥
+  Names (form.refinement o) = ⊥
+  Names form.level = ⊥
+  Names _ = Unit {0}
+
+  abbrev mutual
+    pub InScope : Phrase → Type 0
+    InScope (phrase form ps) = Names form × AllIn ps
+
+    pub AllIn : Parts → Type 0
+    AllIn none = Unit {0}
+    AllIn (part p ps) = InScope p × AllIn ps
+
+  abbrev E : Expr → Type 0
+  E e = InScope (shape.expr s e)
+
+  abbrev L : Limit → Type 0
+  L l = InScope (shape.limit s l).1
+
+  abbrev U : Statement → Type 0
+  U u = InScope (shape.unit s u)
+
+  abbrev B : Branch → Type 0
+  B b = InScope (shape.branch s b)
+
+  abbrev C : Case → Type 0
+  C c = InScope (shape.case s c).1
+
+  abbrev K : Counter → Type 0
+  K k = InScope (shape.counter s k)
+
+  abbrev I : Item → Type 0
+  I i = InScope (shape.item s i)
+
+  -- ---- lists
+
+  exprs_in : (es : List ((e : Expr) × E e)) → AllIn (all_of (map (shape.expr s) (map fst es)))
+  exprs_in [] = tt
+  exprs_in (e ∷ es) = (e.1, exprs_in es)
+
+  branches_in : (bs : List ((b : Branch) × B b)) → AllIn (all_of (map (shape.branch s) (map fst bs)))
+  branches_in [] = tt
+  branches_in (b ∷ bs) = (b.1, branches_in bs)
+
+  items_in : (is : List ((i : Item) × I i)) → AllIn (all_of (map (shape.item s) (map fst is)))
+  items_in [] = tt
+  items_in (i ∷ is) = (i.1, items_in is)
+
+  role_in : (may : Bool) (p : Phrase) → InScope p → InScope (shape.role may p)
+  role_in true p h = h
+  role_in false p h = (tt, (h, tt))
+
+  roles_in : (may : Bool) (us : List ((u : Statement) × U u)) → AllIn (all_of (shape.roles may (map (shape.unit s) (map fst us))))
+  roles_in may [] = tt
+  roles_in may (u ∷ us) = (role_in (may && form.all_empty (map (shape.unit s) (map fst us))) (shape.unit s u.0) u.1, roles_in may us)
+
+  units_in : (may : Bool) (us : List ((u : Statement) × U u)) → InScope (shape.units may (map (shape.unit s) (map fst us)))
+  units_in may us = (tt, roles_in may us)
+
+  labels_in : (ns : List ℤ) (ls : List Label) → AllIn (all_of (shape.label_phrases s ns ls))
+  labels_in ns [] = tt
+  labels_in ns (label.Number at n ∷ ls) = ((tt, tt), labels_in (ns ++ n ∷ []) ls)
+  labels_in ns (label.Named n ∷ ls) = ((tt, tt), labels_in (ns ++ []) ls)
+
+  arms_in : (ns : List ℤ) (cs : List ((c : Case) × C c)) → AllIn (all_of (shape.arm_phrases s ns (map (shape.case s) (map fst cs))))
+  arms_in ns [] = tt
+  arms_in ns (c ∷ cs) =
+      let ls = (shape.case s c.0).0 in
+      ((tt, ((tt, labels_in ns ls), (c.1, tt))), arms_in (ns ++ shape.numbers ls) cs)
+
+  -- ---- one layer
+
+  abbrev Below : (Type 0 → Type 0 → Type 0 → Type 0 → Type 0 → Type 0 → Type 0 → Type 0) → Type 0
+  Below F = F ((e : Expr) × E e) ((l : Limit) × L l) ((u : Statement) × U u) ((b : Branch) × B b) ((c : Case) × C c) ((k : Counter) × K k) ((i : Item) × I i)
+
+  expr_in : (y : Below Expr-F) → InScope (shape.expr_step s (map-Expr _ _ _ _ _ _ _ _ _ _ _ _ _ _ (shape.expr s) (shape.limit s) (shape.unit s) (shape.branch s) (shape.case s) (shape.counter s) (shape.item s) (map-Expr _ _ _ _ _ _ _ _ _ _ _ _ _ _ fst fst fst fst fst fst fst y)))
+  expr_in (t.Number at n) = (tt, tt)
+  expr_in (t.Text at x) = (tt, tt)
+  expr_in (t.Truth at b) = (tt, tt)
+  expr_in (t.Named n) = (refl, tt)
+  expr_in (t.Call n actuals) = (refl, exprs_in actuals)
+  expr_in (t.Procedure at n) = (tt, tt)
+  expr_in (t.Concr at a) = (tt, tt)
+  expr_in (t.Bracket at a) = (tt, (a.1, tt))
+  expr_in (t.If at branches None) = (tt, ((tt, branches_in branches), ((tt, tt), tt)))
+  expr_in (t.If at branches (Some us)) = (tt, ((tt, branches_in branches), (units_in true us, tt)))
+  expr_in (t.Select at of cases None) = (tt, (of.1, ((tt, arms_in [] cases), ((tt, tt), tt))))
+  expr_in (t.Select at of cases (Some us)) = (tt, (of.1, ((tt, arms_in [] cases), (units_in true us, tt))))
+  expr_in (t.Index at of index) = (tt, tt)
+  expr_in (t.Field at of field) = (tt, tt)
+  expr_in (t.Monadic at o a) = (refl, (a.1, tt))
+  expr_in (t.Dyadic at o a b) = (refl, (a.1, (b.1, tt)))
+  expr_in (t.Cand at a b) = (tt, (a.1, (b.1, tt)))
+  expr_in (t.Cor at a b) = (tt, (a.1, (b.1, tt)))
+
+  limit_in : (y : Below Limit-F) → InScope (shape.limit_step s (map-Limit _ _ _ _ _ _ _ _ _ _ _ _ _ _ (shape.expr s) (shape.limit s) (shape.unit s) (shape.branch s) (shape.case s) (shape.counter s) (shape.item s) (map-Limit _ _ _ _ _ _ _ _ _ _ _ _ _ _ fst fst fst fst fst fst fst y))).1
+  limit_in t.Without = (tt, tt)
+  limit_in (t.Upto a) = a.1
+  limit_in (t.Downto a) = a.1
+
+  abbrev absent : Phrase
+  absent = form.leaf form.absent
+
+  loop_in : (at : ℕ) (k c : Phrase) (us : List ((u : Statement) × U u)) (v : Phrase) → InScope k → InScope c → InScope v → InScope (phrase (form.loop at) (part k (part c (part (shape.units false (map (shape.unit s) (map fst us))) (part v none)))))
+  loop_in at k c us v hk hc hv = (tt, (hk, (hc, (units_in false us, (hv, tt)))))
+
+  unit_in_layer : (y : Below Unit-F) → InScope (shape.unit_step s (map-Unit _ _ _ _ _ _ _ _ _ _ _ _ _ _ (shape.expr s) (shape.limit s) (shape.unit s) (shape.branch s) (shape.case s) (shape.counter s) (shape.item s) (map-Unit _ _ _ _ _ _ _ _ _ _ _ _ _ _ fst fst fst fst fst fst fst y)))
+  unit_in_layer t.Empty = (tt, tt)
+  unit_in_layer (t.Let at items) = (tt, tt)
+  unit_in_layer (t.Variables at of items) = (tt, items_in items)
+  unit_in_layer (t.Constants at of items) = (tt, items_in items)
+  unit_in_layer (t.Bound at of items) = (tt, tt)
+  unit_in_layer (t.Value a) = (tt, (a.1, tt))
+  unit_in_layer (t.Becomes at a b) = (refl, (a.1, (b.1, tt)))
+  unit_in_layer (t.Loop at None None us None) = loop_in at absent absent us absent (tt, tt) (tt, tt) (tt, tt)
+  unit_in_layer (t.Loop at None None us (Some v)) = loop_in at absent absent us (shape.expr s v.0) (tt, tt) (tt, tt) v.1
+  unit_in_layer (t.Loop at None (Some c) us None) = loop_in at absent (shape.expr s c.0) us absent (tt, tt) c.1 (tt, tt)
+  unit_in_layer (t.Loop at None (Some c) us (Some v)) = loop_in at absent (shape.expr s c.0) us (shape.expr s v.0) (tt, tt) c.1 v.1
+  unit_in_layer (t.Loop at (Some k) None us None) = loop_in at (shape.counter s k.0) absent us absent k.1 (tt, tt) (tt, tt)
+  unit_in_layer (t.Loop at (Some k) None us (Some v)) = loop_in at (shape.counter s k.0) absent us (shape.expr s v.0) k.1 (tt, tt) v.1
+  unit_in_layer (t.Loop at (Some k) (Some c) us None) = loop_in at (shape.counter s k.0) (shape.expr s c.0) us absent k.1 c.1 (tt, tt)
+  unit_in_layer (t.Loop at (Some k) (Some c) us (Some v)) = loop_in at (shape.counter s k.0) (shape.expr s c.0) us (shape.expr s v.0) k.1 c.1 v.1
+  unit_in_layer (t.Leave at n None) = (refl, ((tt, tt), tt))
+  unit_in_layer (t.Leave at n (Some v)) = (refl, (v.1, tt))
+
+  branch_in : (y : Below Branch-F) → InScope (shape.branch_step s (map-Branch _ _ _ _ _ _ _ _ _ _ _ _ _ _ (shape.expr s) (shape.limit s) (shape.unit s) (shape.branch s) (shape.case s) (shape.counter s) (shape.item s) (map-Branch _ _ _ _ _ _ _ _ _ _ _ _ _ _ fst fst fst fst fst fst fst y)))
+  branch_in y = (tt, (y.condition.1, (units_in true y.units, tt)))
+
+  case_in : (y : Below Case-F) → InScope (shape.case_step s (map-Case _ _ _ _ _ _ _ _ _ _ _ _ _ _ (shape.expr s) (shape.limit s) (shape.unit s) (shape.branch s) (shape.case s) (shape.counter s) (shape.item s) (map-Case _ _ _ _ _ _ _ _ _ _ _ _ _ _ fst fst fst fst fst fst fst y))).1
+  case_in y = units_in true y.units
+
+  abbrev counter_with : Name → Option ((e : Expr) × E e) → (l : Limit) × L l → Below Counter-F
+  counter_with n from l = record { name = n; from = from; limit = l }
+
+  counter_of : (n : Name) (from : Option ((e : Expr) × E e)) (l : (l : Limit) × L l) → InScope (shape.counter_step s (map-Counter _ _ _ _ _ _ _ _ _ _ _ _ _ _ (shape.expr s) (shape.limit s) (shape.unit s) (shape.branch s) (shape.case s) (shape.counter s) (shape.item s) (map-Counter _ _ _ _ _ _ _ _ _ _ _ _ _ _ fst fst fst fst fst fst fst (counter_with n from l))))
+  counter_of n None l = (tt, ((refl, tt), ((tt, tt), (l.1, tt))))
+  counter_of n (Some e) l = (tt, ((refl, tt), (e.1, (l.1, tt))))
+
+  counter_in : (y : Below Counter-F) → InScope (shape.counter_step s (map-Counter _ _ _ _ _ _ _ _ _ _ _ _ _ _ (shape.expr s) (shape.limit s) (shape.unit s) (shape.branch s) (shape.case s) (shape.counter s) (shape.item s) (map-Counter _ _ _ _ _ _ _ _ _ _ _ _ _ _ fst fst fst fst fst fst fst y)))
+  counter_in y = counter_of y.name y.from y.limit
+
+  abbrev item_with : Name → Option ((e : Expr) × E e) → Below Item-F
+  item_with n init = record { name = n; init = init }
+
+  item_of : (n : Name) (init : Option ((e : Expr) × E e)) → InScope (shape.item_step s (map-Item _ _ _ _ _ _ _ _ _ _ _ _ _ _ (shape.expr s) (shape.limit s) (shape.unit s) (shape.branch s) (shape.case s) (shape.counter s) (shape.item s) (map-Item _ _ _ _ _ _ _ _ _ _ _ _ _ _ fst fst fst fst fst fst fst (item_with n init))))
+  item_of n None = (tt, ((refl, tt), tt))
+  item_of n (Some e) = (tt, ((refl, tt), (e.1, tt)))
+
+  item_in : (y : Below Item-F) → InScope (shape.item_step s (map-Item _ _ _ _ _ _ _ _ _ _ _ _ _ _ (shape.expr s) (shape.limit s) (shape.unit s) (shape.branch s) (shape.case s) (shape.counter s) (shape.item s) (map-Item _ _ _ _ _ _ _ _ _ _ _ _ _ _ fst fst fst fst fst fst fst y)))
+  item_in y = item_of y.name y.init
+
+  -- ---- all of them
+
+  unit_in : (u : Statement) → U u
+  unit_in = ind-Unit E L U B C K I
+      (λ x y is. rw (fold-roll-Expr, ← is) (expr_in y))
+      (λ x y is. rw (fold-roll-Limit, ← is) (limit_in y))
+      (λ x y is. rw (fold-roll-Unit, ← is) (unit_in_layer y))
+      (λ x y is. rw (fold-roll-Branch, ← is) (branch_in y))
+      (λ x y is. rw (fold-roll-Case, ← is) (case_in y))
+      (λ x y is. rw (fold-roll-Counter, ← is) (counter_in y))
+      (λ x y is. rw (fold-roll-Item, ← is) (item_in y))
+
+  pub statement_in : (may : Bool) (u : Statement) → InScope (shape.role may (shape.unit s u))
+  statement_in may u = role_in may (shape.unit s u) (unit_in u)
+
+  statements_in : (may : Bool) (us : List Statement) → AllIn (all_of (shape.roles may (map (shape.unit s) us)))
+  statements_in may [] = tt
+  statements_in may (u ∷ us) = (statement_in (may && form.all_empty (map (shape.unit s) us)) u, statements_in may us)
+
+  -- the units of a body
+  pub body_units_in : (may : Bool) (us : List Statement) → InScope (shape.units may (map (shape.unit s) us))
+  body_units_in may us = (tt, statements_in may us)

@@ -1,0 +1,4 @@
+pub mod InScope
+pub mod TypedRules
+pub mod Rows
+pub mod Shapes

@@ -1,0 +1,98 @@
+-- What a phrase means has the types that it asks for.
+use Rattle.std.proofs.Common.{◌≡◌, ℕ, List, [], Option, Some, None, refl, sym, subst}
+use Rattle.elan_meant.specs.declared.meant.Meant.{Meant}
+use Rattle.elan_scope.specs.Ruled.{Ruled, gives}
+use Rattle.elan_scope.specs.Scope as scope
+use Rattle.elan_scope.specs.declared.scope.Scope.{Scope}
+use Rattle.elan_scope.specs.declared.known.Known.{Known}
+use Rattle.elan_scope.specs.declared.heading.Sort.TheVariants.{Operator}
+use Rattle.elan_scope.specs.declared.heading.Heading.{Heading}
+use Rattle.elan_meant.specs.Predefined.{becomes}
+use Rattle.elan_scope.specs.Phrase as form
+use Rattle.elan_scope.specs.Phrase.{Form, Phrase, phrase, Parts, none, part}
+use Rattle.elan_meant.specs.Parts as p
+use Rattle.value_rules.specs.Calls as r
+use Rattle.unit_rules.specs.Units as u
+use Rattle.choice_rules.specs.Choices as c
+use Rattle.unit_rules.specs.Loops as l
+use Rattle.elan_rules.specs.Rules as all
+use Rattle.elan_rules.specs.Rules.{rule}
+use Rattle.elan_rules.specs.Meaning.{judged, judged_all}
+use Rattle.elan_rules.proofs.First.{bind_gives, before_gives, gives_is}
+use Rattle.elan_judge.proofs.InScope.{Names, InScope, AllIn}
+use Rattle.elan_rules.proofs.Typed as ty
+use Rattle.elan_rules.proofs.Typed.{Gives, on_if, on_bind}
+use Rattle.elan_rules.proofs.TypeEquations.{Stand, truth_is}
+use Rattle.elan_rules.proofs.TypedUnits.{number_good, bracketed_good, cand_good, cor_good, assigned_good, initial_good, in_order_good, alone_good, without_value_good}
+use Rattle.elan_rules.proofs.TypedChoices.{truth_good, branches_good, choice_good, arms_good, selected_good, label_named_good}
+use Rattle.elan_rules.proofs.TypedLoops.{counted_good, loop_good}
+use Rattle.elan_rules.proofs.TypedCalls.{Fits, named_good, applied_good, declared_good, leaving_good}
+
+module _ (here : Stand) (s : Scope) (k : Known) (fits : Fits here s k) where
+  abbrev Good : Meant → Type 0
+  Good = ty.Good here
+
+  abbrev AllGood : List Meant → Type 0
+  AllGood = ty.AllGood here
+
+  in_scope : (f : Scope → Ruled Meant) (z : Scope) → z ≡ s → Gives Good (f s) → Gives Good (f z)
+  in_scope f z e h = subst (λ (y : Scope). Gives Good (f y)) (sym e) h
+
+  assignment_by : (at : ℕ) (ms : List Meant) (o : Option (ℕ × Heading)) → AllGood ms → Gives Good (r.applied_as at s Operator becomes ms o) → Gives Good (all.assignment_as at ms o)
+  assignment_by at ms (Some b) g h = on_bind Good Good (r.called at b.0 b.1.what ms) u.alone h (alone_good here)
+  assignment_by at ms None g h = ty.two here ms (u.assigned at) g (assigned_good here at)
+
+  -- An own operator is called as operators are.
+  assignment_good : (at : ℕ) (ms : List Meant) → AllGood ms → Gives Good (all.assignment at s ms)
+  assignment_good at ms g = assignment_by at ms (scope.first_heading (r.takes Operator becomes ms) s.headings) g (applied_good here s k fits at Operator becomes ms g)
+
+  rules : (f : Form) (ms : List Meant) → Names s f → AllGood ms → Gives Good (rule k f ms)
+  rules form.absent ms i g = tt
+  rules form.not_built ms i g = tt
+  rules (form.number at n) ms i g = number_good here at n
+  rules (form.truth at b) ms i g = (truth_is here b, tt)
+  rules (form.named u at z x) ms i g = in_scope (λ y. r.named k u at y x (scope.find y x)) z i (named_good here s k fits u at x)
+  rules (form.applied at z sort x) ms i g = in_scope (λ y. r.applied at y sort x ms) z i (applied_good here s k fits at sort x ms g)
+  rules (form.bracket at) ms i g = ty.one here ms (all.bracketed at) g (bracketed_good here at)
+  rules (form.cand at) ms i g = ty.two here ms (all.cand at) g (cand_good here at)
+  rules (form.cor at) ms i g = ty.two here ms (all.cor at) g (cor_good here at)
+  rules form.branch ms i g = ty.two here ms _ g (λ c m h j. ((truth_good here c h, ty.part_good here m j), tt))
+  rules form.branches ms i g = branches_good here ms g
+  rules (form.choice at) ms i g = ty.two here ms (c.choice at) g (choice_good here at)
+  rules (form.label at earlier n) ms i g = on_if Good (c.is_in earlier n) _ _ (λ e. tt) (λ e. tt)
+  rules (form.label_name at z x) ms i g = label_named_good here at x (scope.find z x)
+  rules form.labels ms i g = tt
+  rules form.arm ms i g = ty.two here ms c.labelled g (λ l m h j. (ty.part_good here m j, tt))
+  rules form.arms ms i g = arms_good here ms g
+  rules (form.selection at) ms i g = ty.three here ms (c.selected at) g (selected_good here at)
+  rules (form.declares at z x) ms i g = in_scope (λ y. r.declared at (scope.find_own y x)) z i (declared_good here s k fits at x)
+  rules form.item ms i g = refl
+  rules (form.initial at) ms i g = ty.two here ms (u.initial at) g (initial_good here at)
+  rules (form.declaration at) ms i g = ty.unit_typed here (p.actions_of ms) (ty.actions_of_typed here ms g)
+  rules form.statement ms i g = ty.one here ms u.alone g (alone_good here)
+  rules (form.assignment at z) ms i g = in_scope (λ y. all.assignment at y ms) z i (assignment_good at ms g)
+  rules (form.counter w) ms i g = ty.three here ms _ g (counted_good here w)
+  rules (form.loop at) ms i g = ty.four here ms (l.loop at) g (loop_good here at)
+  rules form.empty ms i g = refl
+  rules form.without_value ms i g = ty.one here ms u.without_value g (without_value_good here)
+  rules (form.leave at z x) ms i g = ty.one here ms _ g (λ m h. in_scope (λ y. r.leaving k at (scope.left y x) m) z i (leaving_good here s k fits at x m h))
+  rules form.units ms i g = in_order_good here ms g
+  rules (form.heading at z sort x ps missing) ms i g = absurd i
+  rules (form.body at o q) ms i g = absurd i
+  rules form.routine ms i g = absurd i
+  rules (form.refinement o) ms i g = absurd i
+  rules form.level ms i g = absurd i
+
+  -- ---- all phrases
+
+  mutual
+    pub good : (p : Phrase) (m : Meant) → InScope s p → judged k p ≡ gives m → Good m
+    good (phrase f ps) m i e =
+        let b = bind_gives (judged_all k ps) (rule k f) m e in
+        subst (λ (q : Ruled Meant). Gives Good q) b.2 (rules f b.0 i.0 (all_good ps b.0 i.1 b.1))
+
+    pub all_good : (ps : Parts) (ms : List Meant) → AllIn s ps → judged_all k ps ≡ gives ms → AllGood ms
+    all_good none ms i e = subst AllGood (gives_is [] ms e) tt
+    all_good (part p ps) ms i e =
+        let b = before_gives (judged k p) (judged_all k ps) ms e in
+        subst AllGood (sym b.4) (good p b.0 i.0 b.2, all_good ps b.1 i.1 b.3)

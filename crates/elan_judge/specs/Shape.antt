@@ -1,0 +1,157 @@
+-- The phrases of expressions and units.
+use Rattle.std.specs.Prelude.{ℤ, Bool, true, false, ◌&&◌, List, [], ◌∷◌, ◌++◌, Option, Some, None}
+use Rattle.eu_base.specs.declared.operation.Way.{Way}
+use Rattle.eu_base.specs.declared.operation.Way.TheVariants.{Up, Down}
+use Rattle.elan_tree.specs.declared.written_type.Name.{Name}
+use Rattle.elan_tree.specs.declared.written_type.Label.{Label}
+use Rattle.elan_tree.specs.declared.written_type.Label.TheVariants as label
+use Rattle.elan_tree.specs.declared.phrase.Expr.{Expr}
+use Rattle.elan_tree.specs.declared.phrase.Limit.{Limit}
+use Rattle.elan_tree.specs.declared.phrase.Branch.{Branch}
+use Rattle.elan_tree.specs.declared.phrase.Case.{Case}
+use Rattle.elan_tree.specs.declared.phrase.Counter.{Counter}
+use Rattle.elan_tree.specs.declared.phrase.Item.{Item}
+use Rattle.elan_tree.specs.declared.phrase.Unit.{Unit as Statement}
+use Rattle.elan_tree.specs.declared.phrase.Expr.TheOpen as t
+use Rattle.elan_tree.specs.declared.phrase.Expr.TheOpen.{Expr-F, Limit-F, Unit-F, Branch-F, Case-F, Counter-F, Item-F}
+use Rattle.elan_tree.specs.declared.phrase.Expr.TheFolds.{fold-Expr, fold-Limit, fold-Unit, fold-Branch, fold-Case, fold-Counter, fold-Item}
+use Rattle.elan_scope.specs.declared.heading.Sort.TheVariants.{Procedure, Operator}
+use Rattle.elan_scope.specs.declared.scope.Scope.{Scope}
+use Rattle.elan_unbuilt.specs.Operators.{operator_text}
+use Rattle.elan_scope.specs.declared.scope.Usage.TheVariants.{Expression, Counter as Counts}
+use Rattle.elan_scope.specs.Phrase as form
+use Rattle.elan_scope.specs.Phrase.{Phrase, phrase, Parts, none, part, leaf, around, pair, three, all_of, all_empty}
+
+-- a part that may be left out
+abbrev pub written : Option Phrase → Phrase
+written None = leaf form.absent
+written (Some p) = p
+
+-- ---- lists of units
+
+abbrev pub role : Bool → Phrase → Phrase
+role true p = p
+role false p = around form.without_value p
+
+-- where the list may deliver a value, its last non-empty unit may
+abbrev pub roles : Bool → List Phrase → List Phrase
+roles may [] = []
+roles may (p ∷ ps) = role (may && all_empty ps) p ∷ roles may ps
+
+abbrev pub units : Bool → List Phrase → Phrase
+units may ps = phrase form.units (all_of (roles may ps))
+
+abbrev pub otherwise : Option (List Phrase) → Phrase
+otherwise None = leaf form.absent
+otherwise (Some ps) = units true ps
+
+-- ---- labels
+
+-- the number of a label, if it has one
+abbrev pub number : Label → List ℤ
+number (label.Number at n) = n ∷ []
+number (label.Named n) = []
+
+abbrev pub numbers : List Label → List ℤ
+numbers [] = []
+numbers (l ∷ ls) = number l ++ numbers ls
+
+module _ (s : Scope) where
+  abbrev pub label_phrase : List ℤ → Label → Phrase
+  label_phrase earlier (label.Number at n) = leaf (form.label at earlier n)
+  label_phrase earlier (label.Named n) = leaf (form.label_name n.at s n.text)
+
+  abbrev pub label_phrases : List ℤ → List Label → List Phrase
+  label_phrases earlier [] = []
+  label_phrases earlier (l ∷ ls) = label_phrase earlier l ∷ label_phrases (earlier ++ number l) ls
+
+  abbrev pub arm_phrase : List ℤ → (List Label × Phrase) → Phrase
+  arm_phrase earlier c = pair form.arm (phrase form.labels (all_of (label_phrases earlier c.0))) c.1
+
+  -- A label is compared with all labels before it.
+  abbrev pub arm_phrases : List ℤ → List (List Label × Phrase) → List Phrase
+  arm_phrases earlier [] = []
+  arm_phrases earlier (c ∷ cs) = arm_phrase earlier c ∷ arm_phrases (earlier ++ numbers c.0) cs
+
+  -- ---- the tree
+
+  abbrev pub expr_step : Expr-F Phrase (Way × Phrase) Phrase Phrase (List Label × Phrase) Phrase Phrase → Phrase
+  expr_step (t.Number at n) = leaf (form.number at n)
+  expr_step (t.Truth at b) = leaf (form.truth at b)
+  expr_step (t.Named n) = leaf (form.named Expression n.at s n.text)
+  expr_step (t.Call n actuals) = phrase (form.applied n.at s Procedure n.text) (all_of actuals)
+  expr_step (t.Bracket at a) = around (form.bracket at) a
+  expr_step (t.If at branches other) = pair (form.choice at) (phrase form.branches (all_of branches)) (otherwise other)
+  expr_step (t.Select at of cases other) = three (form.selection at) of (phrase form.arms (all_of (arm_phrases [] cases))) (otherwise other)
+  expr_step (t.Monadic at o a) = around (form.applied at s Operator (operator_text o)) a
+  expr_step (t.Dyadic at o a b) = pair (form.applied at s Operator (operator_text o)) a b
+  expr_step (t.Cand at a b) = pair (form.cand at) a b
+  expr_step (t.Cor at a b) = pair (form.cor at) a b
+  expr_step (t.Text at x) = leaf form.not_built
+  expr_step (t.Procedure at n) = leaf form.not_built
+  expr_step (t.Concr at a) = leaf form.not_built
+  expr_step (t.Index at of index) = leaf form.not_built
+  expr_step (t.Field at of field) = leaf form.not_built
+
+  -- Without a limit a counter goes up.
+  abbrev pub limit_step : Limit-F Phrase (Way × Phrase) Phrase Phrase (List Label × Phrase) Phrase Phrase → Way × Phrase
+  limit_step t.Without = (Up, leaf form.absent)
+  limit_step (t.Upto a) = (Up, a)
+  limit_step (t.Downto a) = (Down, a)
+
+  abbrev pub unit_step : Unit-F Phrase (Way × Phrase) Phrase Phrase (List Label × Phrase) Phrase Phrase → Phrase
+  unit_step t.Empty = leaf form.empty
+  unit_step (t.Variables at of items) = phrase (form.declaration at) (all_of items)
+  unit_step (t.Constants at of items) = phrase (form.declaration at) (all_of items)
+  unit_step (t.Value a) = around form.statement a
+  unit_step (t.Becomes at a b) = pair (form.assignment at s) a b
+  unit_step (t.Loop at counter condition us until) =
+      phrase (form.loop at) (part (written counter) (part (written condition) (part (units false us) (part (written until) none))))
+  unit_step (t.Let at items) = leaf form.not_built
+  unit_step (t.Bound at of items) = leaf form.not_built
+  unit_step (t.Leave at n value) = around (form.leave at s n.text) (written value)
+
+  abbrev pub branch_step : Branch-F Phrase (Way × Phrase) Phrase Phrase (List Label × Phrase) Phrase Phrase → Phrase
+  branch_step b = pair form.branch b.condition (units true b.units)
+
+  abbrev pub case_step : Case-F Phrase (Way × Phrase) Phrase Phrase (List Label × Phrase) Phrase Phrase → List Label × Phrase
+  case_step c = (c.labels, units true c.units)
+
+  abbrev pub counter_step : Counter-F Phrase (Way × Phrase) Phrase Phrase (List Label × Phrase) Phrase Phrase → Phrase
+  counter_step c = three (form.counter c.limit.0) (leaf (form.named Counts c.name.at s c.name.text)) (written c.from) c.limit.1
+
+  abbrev pub item_with : Name → Phrase → Option Phrase → Phrase
+  item_with n p None = around form.item p
+  item_with n p (Some a) = pair (form.initial n.at) p a
+
+  abbrev pub item_step : Item-F Phrase (Way × Phrase) Phrase Phrase (List Label × Phrase) Phrase Phrase → Phrase
+  item_step i = item_with i.name (leaf (form.declares i.name.at s i.name.text)) i.init
+
+  abbrev pub expr : Expr → Phrase
+  expr = fold-Expr Phrase (Way × Phrase) Phrase Phrase (List Label × Phrase) Phrase Phrase expr_step limit_step unit_step branch_step case_step counter_step item_step
+
+  abbrev pub limit : Limit → Way × Phrase
+  limit = fold-Limit Phrase (Way × Phrase) Phrase Phrase (List Label × Phrase) Phrase Phrase expr_step limit_step unit_step branch_step case_step counter_step item_step
+
+  abbrev pub unit : Statement → Phrase
+  unit = fold-Unit Phrase (Way × Phrase) Phrase Phrase (List Label × Phrase) Phrase Phrase expr_step limit_step unit_step branch_step case_step counter_step item_step
+
+  abbrev pub branch : Branch → Phrase
+  branch = fold-Branch Phrase (Way × Phrase) Phrase Phrase (List Label × Phrase) Phrase Phrase expr_step limit_step unit_step branch_step case_step counter_step item_step
+
+  abbrev pub case : Case → List Label × Phrase
+  case = fold-Case Phrase (Way × Phrase) Phrase Phrase (List Label × Phrase) Phrase Phrase expr_step limit_step unit_step branch_step case_step counter_step item_step
+
+  abbrev pub counter : Counter → Phrase
+  counter = fold-Counter Phrase (Way × Phrase) Phrase Phrase (List Label × Phrase) Phrase Phrase expr_step limit_step unit_step branch_step case_step counter_step item_step
+
+  abbrev pub item : Item → Phrase
+  item = fold-Item Phrase (Way × Phrase) Phrase Phrase (List Label × Phrase) Phrase Phrase expr_step limit_step unit_step branch_step case_step counter_step item_step
+
+  abbrev pub optional_expr : Option Expr → Phrase
+  optional_expr None = leaf form.absent
+  optional_expr (Some a) = expr a
+
+  abbrev pub optional_counter : Option Counter → Phrase
+  optional_counter None = leaf form.absent
+  optional_counter (Some k) = counter k

@@ -1,0 +1,452 @@
+//! The meaning of expressions and units, from left to right.
+
+ghost use Rattle.std.specs.Prelude.{ℕ, ◌≡◌, [], map, true, false, ◌&&◌};
+ghost use Rattle.elan_scope.specs.declared.scope.Scope.{Scope};
+ghost use Rattle.elan_scope.specs.Phrase as form;
+ghost use Rattle.elan_scope.specs.Phrase.{phrase, all_of};
+ghost use Rattle.elan_rules.specs.Meaning.{judged, judged_all};
+ghost use Rattle.elan_scope.specs.Answer.{Is};
+ghost use Rattle.elan_judge.specs.Shape as shape;
+
+use crate::label::{add_numbers, judge_labels};
+use choice_rules::choice::branches_of;
+use choice_rules::selection::arms_of;
+use elan_meant::meant::Meant;
+use elan_meant::row::{Judged, Row};
+use elan_rows::{four, let_go, let_meant_go, none, one, pair, three, with};
+use elan_rules::assignment::assignment;
+use elan_rules::whole::{
+    arm_parts, branch_parts, cand_parts, choice_parts, cor_parts, counter_parts, initial_parts,
+    loop_parts, selection_parts,
+};
+use elan_scope::heading::Sort;
+use elan_scope::known::Known;
+use elan_scope::scope::{Scope, Usage};
+use elan_scope::trouble::Trouble;
+use elan_tree::{Branch, Case, Counter, Expr, Item, Limit, Unit};
+use elan_types::{Way, Why};
+use elan_unbuilt::operator_text;
+use eu_base::{Boxed, List};
+use std::alloc::Global;
+use unit_rules::list::{alone, declaration, in_order, without_value};
+use value_rules::call::applied;
+use value_rules::leave::leaving;
+use value_rules::name::{declared, named};
+use value_rules::value::{bracketed, number, truth};
+
+/// Whether a unit is empty.
+pub fn is_empty(unit: &Unit) -> bool
+    ensures { (s : Scope) → result ≡ form.is_empty (shape.unit s unit.now) }
+{
+    match unit {
+        Unit::Empty => true,
+        _ => false,
+    }
+}
+
+/// Whether all units are empty.
+pub fn all_empty(units: &[Unit]) -> bool
+    ensures { (s : Scope) → result ≡ form.all_empty (map (shape.unit s) units.now) }
+{
+    for unit in units {
+        if !is_empty(unit) {
+            return false;
+        }
+    }
+    true
+}
+
+// Whether a unit before these may deliver a value, where their list may.
+fn is_last(may: bool, rest: &[Unit]) -> bool
+    ensures { (s : Scope) → result ≡ (may && form.all_empty (map (shape.unit s) rest.now)) }
+{
+    if may { all_empty(rest) } else { false }
+}
+
+fn way(limit: &Limit) -> Way
+    ensures { (s : Scope) → result ≡ (shape.limit s limit.now).0 }
+{
+    match limit {
+        Limit::Without => Way::Up,
+        Limit::Upto(_) => Way::Up,
+        Limit::Downto(_) => Way::Down,
+    }
+}
+
+/// The meaning of an expression.
+#[cycle(judge)]
+fn judge(alloc: Global, known: &Known, scope: &Scope, expr: &Expr) -> Judged
+    ensures { Is result (judged known.now (shape.expr scope.now expr.now)) }
+{
+    match expr {
+        Expr::Number(at, written) => number(alloc, *at, *written),
+        Expr::Truth(at, written) => truth(alloc, *at, *written),
+        Expr::Named(name) => {
+            let text = name.text.as_slice();
+            named(alloc, known, Usage::Expression, name.at, scope, text)
+        },
+        Expr::Call(name, actuals) => {
+            match judge_exprs(alloc, known, scope, actuals.as_slice()) {
+                Err(trouble) => Err(trouble),
+                Ok(actuals) => {
+                    let text = name.text.as_slice();
+                    applied(alloc, name.at, scope, Sort::Procedure, text, actuals)
+                }
+            }
+        }
+        Expr::Bracket(at, inner) => {
+            match judge(alloc, known, scope, inner.get()) {
+                Err(trouble) => Err(trouble),
+                Ok(inner) => bracketed(*at, inner),
+            }
+        }
+        Expr::If {
+            at,
+            branches,
+            otherwise,
+        } => {
+            let branches = judge_branches(alloc, known, scope, branches.as_slice());
+            let otherwise = match otherwise {
+                None => Ok(Meant::Absent),
+                Some(units) => judge_units(alloc, known, scope, true, units.as_slice()),
+            };
+            match pair(alloc, branches, otherwise) {
+                Err(trouble) => Err(trouble),
+                Ok(parts) => choice_parts(alloc, *at, parts),
+            }
+        }
+        Expr::Select {
+            at,
+            of,
+            cases,
+            otherwise,
+        } => {
+            let of = judge(alloc, known, scope, of.get());
+            let arms = judge_cases(alloc, known, scope, cases.as_slice());
+            let otherwise = match otherwise {
+                None => Ok(Meant::Absent),
+                Some(units) => judge_units(alloc, known, scope, true, units.as_slice()),
+            };
+            match three(alloc, of, arms, otherwise) {
+                Err(trouble) => Err(trouble),
+                Ok(parts) => selection_parts(alloc, *at, parts),
+            }
+        }
+        Expr::Monadic {
+            at,
+            operator,
+            operand,
+        } => {
+            let operand = judge(alloc, known, scope, operand.get());
+            match one(alloc, operand) {
+                Err(trouble) => Err(trouble),
+                Ok(parts) => applied(
+                    alloc,
+                    *at,
+                    scope,
+                    Sort::Operator,
+                    operator_text(operator),
+                    parts,
+                ),
+            }
+        }
+        Expr::Dyadic {
+            at,
+            operator,
+            left,
+            right,
+        } => {
+            let left = judge(alloc, known, scope, left.get());
+            let right = judge(alloc, known, scope, right.get());
+            match pair(alloc, left, right) {
+                Err(trouble) => Err(trouble),
+                Ok(parts) => applied(
+                    alloc,
+                    *at,
+                    scope,
+                    Sort::Operator,
+                    operator_text(operator),
+                    parts,
+                ),
+            }
+        }
+        Expr::Cand { at, left, right } => {
+            let left = judge(alloc, known, scope, left.get());
+            let right = judge(alloc, known, scope, right.get());
+            match pair(alloc, left, right) {
+                Err(trouble) => Err(trouble),
+                Ok(parts) => cand_parts(alloc, *at, parts),
+            }
+        }
+        Expr::Cor { at, left, right } => {
+            let left = judge(alloc, known, scope, left.get());
+            let right = judge(alloc, known, scope, right.get());
+            match pair(alloc, left, right) {
+                Err(trouble) => Err(trouble),
+                Ok(parts) => cor_parts(alloc, *at, parts),
+            }
+        }
+        Expr::Text(_, _)
+        | Expr::Procedure(_, _)
+        | Expr::Concr(_, _)
+        | Expr::Index { .. }
+        | Expr::Field { .. } => Err(Trouble::Breaks(0, Why::Unknown)),
+    }
+}
+
+// The operands of a call.
+#[cycle(judge)]
+fn judge_exprs(alloc: Global, known: &Known, scope: &Scope, exprs: &[Expr]) -> Row
+    ensures { Is result (judged_all known.now (all_of (map (shape.expr scope.now) exprs.now))) }
+{
+    let mut row = none(alloc);
+    for expr in exprs {
+        row = with(row, judge(alloc, known, scope, expr));
+    }
+    row
+}
+
+#[cycle(judge)]
+fn judge_optional(alloc: Global, known: &Known, scope: &Scope, expr: &Option<Expr>) -> Judged
+    ensures { Is result (judged known.now (shape.optional_expr scope.now expr.now)) }
+{
+    match expr {
+        None => Ok(Meant::Absent),
+        Some(expr) => judge(alloc, known, scope, expr),
+    }
+}
+
+#[cycle(judge)]
+fn judge_branch(alloc: Global, known: &Known, scope: &Scope, branch: &Branch) -> Judged
+    ensures { Is result (judged known.now (shape.branch scope.now branch.now)) }
+{
+    let condition = judge(alloc, known, scope, &branch.condition);
+    let units = judge_units(alloc, known, scope, true, branch.units.as_slice());
+    match pair(alloc, condition, units) {
+        Err(trouble) => Err(trouble),
+        Ok(parts) => branch_parts(alloc, parts),
+    }
+}
+
+#[cycle(judge)]
+fn branch_row(alloc: Global, known: &Known, scope: &Scope, branches: &[Branch]) -> Row
+    ensures { Is result (judged_all known.now (all_of (map (shape.branch scope.now) branches.now))) }
+{
+    let mut row = none(alloc);
+    for branch in branches {
+        row = with(row, judge_branch(alloc, known, scope, branch));
+    }
+    row
+}
+
+#[cycle(judge)]
+fn judge_branches(alloc: Global, known: &Known, scope: &Scope, branches: &[Branch]) -> Judged
+    ensures { Is result (judged known.now (phrase form.branches (all_of (map (shape.branch scope.now) branches.now)))) }
+{
+    let row = branch_row(alloc, known, scope, branches)?;
+    let branches = branches_of(alloc, row)?;
+    Ok(Meant::Branches(branches))
+}
+
+#[cycle(judge)]
+fn judge_case(alloc: Global, known: &Known, scope: &Scope, earlier: &[i16], case: &Case) -> Judged
+    ensures { Is result (judged known.now (shape.arm_phrase scope.now earlier.now (shape.case scope.now case.now))) }
+{
+    let labels = judge_labels(alloc, known, scope, earlier, case.labels.as_slice());
+    let units = judge_units(alloc, known, scope, true, case.units.as_slice());
+    match pair(alloc, labels, units) {
+        Err(trouble) => Err(trouble),
+        Ok(parts) => arm_parts(alloc, parts),
+    }
+}
+
+// Each label is compared with all before it.
+#[cycle(judge)]
+fn case_row(alloc: Global, known: &Known, scope: &Scope, cases: &[Case]) -> Row
+    ensures { Is result (judged_all known.now (all_of (shape.arm_phrases scope.now [] (map (shape.case scope.now) cases.now)))) }
+{
+    let mut row = none(alloc);
+    let mut earlier = List::new(alloc);
+    for case in cases {
+        row = with(
+            row,
+            judge_case(alloc, known, scope, earlier.as_slice(), case),
+        );
+        let Ok(()) = add_numbers(&mut earlier, case.labels.as_slice()) else {
+            let_go(row);
+            return Err(Trouble::NoMemory);
+        };
+    }
+    row
+}
+
+#[cycle(judge)]
+fn judge_cases(alloc: Global, known: &Known, scope: &Scope, cases: &[Case]) -> Judged
+    ensures { Is result (judged known.now (phrase form.arms (all_of (shape.arm_phrases scope.now [] (map (shape.case scope.now) cases.now))))) }
+{
+    let row = case_row(alloc, known, scope, cases)?;
+    let arms = arms_of(alloc, row)?;
+    Ok(Meant::Arms(arms))
+}
+
+#[cycle(judge)]
+fn judge_item(alloc: Global, known: &Known, scope: &Scope, item: &Item) -> Judged
+    ensures { Is result (judged known.now (shape.item scope.now item.now)) }
+{
+    let at = item.name.at;
+    let name = declared(alloc, at, scope, item.name.text.as_slice());
+    match &item.init {
+        None => {
+            match name {
+                Err(trouble) => Err(trouble),
+                Ok(name) => {
+                    let_meant_go(name);
+                    Ok(Meant::Done(List::new(alloc)))
+                }
+            }
+        }
+        Some(expr) => {
+            let value = judge(alloc, known, scope, expr);
+            match pair(alloc, name, value) {
+                Err(trouble) => Err(trouble),
+                Ok(parts) => initial_parts(alloc, at, parts),
+            }
+        }
+    }
+}
+
+#[cycle(judge)]
+fn judge_items(alloc: Global, known: &Known, scope: &Scope, items: &[Item]) -> Row
+    ensures { Is result (judged_all known.now (all_of (map (shape.item scope.now) items.now))) }
+{
+    let mut row = none(alloc);
+    for item in items {
+        row = with(row, judge_item(alloc, known, scope, item));
+    }
+    row
+}
+
+#[cycle(judge)]
+fn judge_declaration(alloc: Global, known: &Known, scope: &Scope, items: &[Item]) -> Judged
+    ensures { (at : ℕ) → Is result (judged known.now (phrase (form.declaration at) (all_of (map (shape.item scope.now) items.now)))) }
+{
+    let items = judge_items(alloc, known, scope, items)?;
+    let meant = declaration(alloc, items)?;
+    Ok(meant)
+}
+
+#[cycle(judge)]
+fn judge_limit(alloc: Global, known: &Known, scope: &Scope, limit: &Limit) -> Judged
+    ensures { Is result (judged known.now (shape.limit scope.now limit.now).1) }
+{
+    match limit {
+        Limit::Without => Ok(Meant::Absent),
+        Limit::Upto(expr) => judge(alloc, known, scope, expr),
+        Limit::Downto(expr) => judge(alloc, known, scope, expr),
+    }
+}
+
+#[cycle(judge)]
+fn judge_counter(alloc: Global, known: &Known, scope: &Scope, counter: &Counter) -> Judged
+    ensures { Is result (judged known.now (shape.counter scope.now counter.now)) }
+{
+    let text = counter.name.text.as_slice();
+    let name = named(alloc, known, Usage::Counter, counter.name.at, scope, text);
+    let from = judge_optional(alloc, known, scope, &counter.from);
+    let limit = judge_limit(alloc, known, scope, &counter.limit);
+    match three(alloc, name, from, limit) {
+        Err(trouble) => Err(trouble),
+        Ok(parts) => counter_parts(alloc, way(&counter.limit), parts),
+    }
+}
+
+#[cycle(judge)]
+fn judge_optional_counter(
+    alloc: Global,
+    known: &Known,
+    scope: &Scope,
+    counter: &Option<Boxed<Counter>>,
+) -> Judged
+    ensures { Is result (judged known.now (shape.optional_counter scope.now counter.now)) }
+{
+    match counter {
+        None => Ok(Meant::Absent),
+        Some(counter) => judge_counter(alloc, known, scope, counter.get()),
+    }
+}
+
+/// The meaning of a unit.
+#[cycle(judge)]
+pub fn judge_unit(alloc: Global, known: &Known, scope: &Scope, unit: &Unit) -> Judged
+    ensures { Is result (judged known.now (shape.unit scope.now unit.now)) }
+{
+    match unit {
+        Unit::Empty => Ok(Meant::Done(List::new(alloc))),
+        Unit::Variables(_, _, items) => judge_declaration(alloc, known, scope, items.as_slice()),
+        Unit::Constants(_, _, items) => judge_declaration(alloc, known, scope, items.as_slice()),
+        Unit::Value(expr) => {
+            let value = judge(alloc, known, scope, expr)?;
+            alone(alloc, value)
+        }
+        Unit::Becomes { at, left, right } => {
+            let left = judge(alloc, known, scope, left);
+            let right = judge(alloc, known, scope, right);
+            match pair(alloc, left, right) {
+                Err(trouble) => Err(trouble),
+                Ok(parts) => assignment(alloc, *at, scope, parts),
+            }
+        }
+        Unit::Loop {
+            at,
+            counter,
+            condition,
+            units,
+            until,
+        } => {
+            let counter = judge_optional_counter(alloc, known, scope, counter);
+            let condition = judge_optional(alloc, known, scope, condition);
+            let units = judge_units(alloc, known, scope, false, units.as_slice());
+            let until = judge_optional(alloc, known, scope, until);
+            match four(alloc, counter, condition, units, until) {
+                Err(trouble) => Err(trouble),
+                Ok(parts) => loop_parts(alloc, *at, parts),
+            }
+        }
+        Unit::Let(_, _) | Unit::Bound(_, _, _) => Err(Trouble::Breaks(0, Why::Unknown)),
+        Unit::Leave { at, name, value } => {
+            let value = judge_optional(alloc, known, scope, value)?;
+            leaving(alloc, known, *at, scope.left(name.text.as_slice()), value)
+        }
+    }
+}
+
+/// A unit that may deliver a value, or may not.
+#[cycle(judge)]
+pub fn judge_role(alloc: Global, known: &Known, scope: &Scope, may: bool, unit: &Unit) -> Judged
+    ensures { Is result (judged known.now (shape.role may (shape.unit scope.now unit.now))) }
+{
+    let meant = judge_unit(alloc, known, scope, unit)?;
+    if may { Ok(meant) } else { without_value(meant) }
+}
+
+#[cycle(judge)]
+fn judge_roles(alloc: Global, known: &Known, scope: &Scope, may: bool, units: &[Unit]) -> Row
+    ensures { Is result (judged_all known.now (all_of (shape.roles may (map (shape.unit scope.now) units.now)))) }
+{
+    let mut row = none(alloc);
+    for (i, unit) in units.iter().enumerate() {
+        let last = is_last(may, &units[i + 1..]);
+        row = with(row, judge_role(alloc, known, scope, last, unit));
+    }
+    row
+}
+
+/// A list of units, whose last one may deliver a value, or may not.
+#[cycle(judge)]
+pub fn judge_units(alloc: Global, known: &Known, scope: &Scope, may: bool, units: &[Unit]) -> Judged
+    ensures { Is result (judged known.now (shape.units may (map (shape.unit scope.now) units.now))) }
+{
+    let row = judge_roles(alloc, known, scope, may, units)?;
+    let meant = in_order(alloc, row)?;
+    Ok(meant)
+}

@@ -1,0 +1,5 @@
+//! What expressions and units mean, from left to right.
+#![tactic(auto)]
+
+pub mod judge;
+pub mod label;

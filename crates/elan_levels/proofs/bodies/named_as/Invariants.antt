@@ -1,0 +1,6 @@
+use Rattle.std.proofs.Common.{◌≡◌, ◌++◌, drop}
+use Rattle.elan_levels.specs.Bodies.{named_as}
+use Rattle.elan_levels.proofs.bodies.named_as.Given as goal
+
+abbrev pub invariant-loop-name : goal.invariant-loop-name
+invariant-loop-name l = l.out ++ named_as (drop l.name-index l.names) l.denotes ≡ l.fn.out ++ named_as l.names l.denotes

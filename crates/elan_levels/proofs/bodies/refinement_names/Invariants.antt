@@ -1,0 +1,6 @@
+use Rattle.std.proofs.Common.{◌≡◌, ◌++◌, drop}
+use Rattle.elan_levels.specs.Bodies.{refinement_names}
+use Rattle.elan_levels.proofs.bodies.refinement_names.Given as goal
+
+abbrev pub invariant-loop-refinement : goal.invariant-loop-refinement
+invariant-loop-refinement l = l.out ++ refinement_names (drop l.refinement-index l.refinements) ≡ l.fn.out ++ refinement_names l.refinements

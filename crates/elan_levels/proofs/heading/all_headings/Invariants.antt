@@ -1,0 +1,6 @@
+use Rattle.std.proofs.Common.{◌≡◌, ◌++◌, drop}
+use Rattle.elan_levels.specs.Bodies.{all_headings}
+use Rattle.elan_levels.proofs.heading.all_headings.Given as goal
+
+abbrev pub invariant-loop-unit : goal.invariant-loop-unit
+invariant-loop-unit l = l.out ++ all_headings l.number (drop l.unit-index l.units) ≡ l.fn.out ++ all_headings 0 l.units

@@ -1,0 +1,131 @@
+-- The PROCs, OPs and refinements of a level, numbered in text order, and the names that a level and a body declare.
+use Rattle.std.specs.Prelude.{ℕ, suc, ◌+◌, List, [], ◌∷◌, ◌++◌, map, length, Option, Some, None}
+use Rattle.elan_types.specs.declared.elan_type.ElanType.{ElanType}
+use Rattle.elan_types.specs.declared.core_phrase.Access.{Access}
+use Rattle.elan_types.specs.declared.core_phrase.Access.TheVariants as held
+use Rattle.elan_types.specs.declared.core_phrase.Parameter.{Parameter}
+use Rattle.elan_tree.specs.declared.written_type.Name.{Name}
+use Rattle.elan_tree.specs.declared.written_type.TypePhrase.{TypePhrase}
+use Rattle.elan_tree.specs.declared.written_type.Access.{Access as Given}
+use Rattle.elan_tree.specs.declared.written_type.Access.TheVariants.{Const, Var}
+use Rattle.elan_tree.specs.declared.written_type.Formal.{Formal}
+use Rattle.elan_tree.specs.declared.tree.Body.{Body}
+use Rattle.elan_tree.specs.declared.tree.Refinement.{Refinement}
+use Rattle.elan_tree.specs.declared.tree.Level.{Level}
+use Rattle.elan_tree.specs.declared.tree.LevelUnit.{LevelUnit}
+use Rattle.elan_tree.specs.declared.tree.LevelUnit.TheVariants as level
+use Rattle.elan_scope.specs.declared.scope.Denotes.{Denotes}
+use Rattle.elan_scope.specs.declared.scope.Denotes.TheVariants as denotes
+use Rattle.elan_scope.specs.declared.scope.Entry.{Entry}
+use Rattle.elan_scope.specs.declared.heading.Sort.{Sort}
+use Rattle.elan_scope.specs.declared.heading.Sort.TheVariants.{Procedure, Operator}
+use Rattle.elan_scope.specs.declared.heading.What.TheVariants as what
+use Rattle.elan_scope.specs.declared.heading.Heading.{Heading}
+use Rattle.elan_levels.specs.Declarations.{written_type, entry, in_unit, in_units}
+use Rattle.elan_unbuilt.specs.Operators.{operator_text}
+
+-- ---- parameters
+
+abbrev pub access_of : Given → Access
+access_of Const = held.Const
+access_of Var = held.Var
+
+abbrev pub parameter_of : Given → Option ElanType → Option Parameter
+parameter_of a None = None
+parameter_of a (Some t) = Some (record { of = t; access = access_of a })
+
+abbrev pub parameter : Formal → Option Parameter
+parameter f = parameter_of f.access (written_type f.of)
+
+-- the same parameter for each name
+abbrev pub for_each : List Name → Option Parameter → List Parameter
+for_each ns None = []
+for_each ns (Some p) = map (λ n. p) ns
+
+abbrev pub parameters : List Formal → List Parameter
+parameters [] = []
+parameters (f ∷ fs) = for_each f.names (parameter f) ++ parameters fs
+
+abbrev pub as_parameter : Option Parameter → Option Denotes
+as_parameter None = None
+as_parameter (Some p) = Some (denotes.Parameter p)
+
+abbrev pub named_as : List Name → Option Denotes → List Entry
+named_as [] d = []
+named_as (n ∷ ns) d = entry n d ++ named_as ns d
+
+abbrev pub parameter_names : List Formal → List Entry
+parameter_names [] = []
+parameter_names (f ∷ fs) = named_as f.names (as_parameter (parameter f)) ++ parameter_names fs
+
+-- the type that a PROC or OP delivers
+abbrev pub result : Option TypePhrase → Option ElanType
+result None = None
+result (Some of) = written_type of
+
+-- ---- the names of a scope
+
+abbrev pub refinement_names : List Refinement → List Entry
+refinement_names [] = []
+refinement_names (r ∷ rs) = entry r.name (Some denotes.Refinement) ++ in_units r.units ++ refinement_names rs
+
+-- what a body declares beside its parameters
+abbrev pub own_names : Body → List Entry
+own_names b = in_units b.units ++ refinement_names b.refinements
+
+-- the names of a PROC or OP: its parameters, what its units declare, and its refinements with what they declare
+abbrev pub body_names : List Formal → Body → List Entry
+body_names fs b = parameter_names fs ++ own_names b
+
+-- A PROC without parameters is known by its name alone.
+abbrev pub procedure_name : Name → List Formal → List Entry
+procedure_name n [] = entry n (Some denotes.Procedure)
+procedure_name n (f ∷ fs) = []
+
+abbrev pub unit_names : LevelUnit → List Entry
+unit_names (level.Plain u) = in_unit u
+unit_names (level.Proc at r n fs b) = procedure_name n fs
+unit_names (level.NewType at n of) = []
+unit_names (level.Op at r n fs b) = []
+
+abbrev pub all_unit_names : List LevelUnit → List Entry
+all_unit_names [] = []
+all_unit_names (u ∷ us) = unit_names u ++ all_unit_names us
+
+abbrev pub level_names : Level → List Entry
+level_names l = all_unit_names l.units ++ refinement_names l.refinements
+
+-- ---- the headings of bodies
+
+abbrev pub refinement_headings : Option ℕ → List Refinement → List Heading
+refinement_headings home [] = []
+refinement_headings home (r ∷ rs) = record { at = r.name.at; name = r.name.text; what = what.Refinement home } ∷ refinement_headings home rs
+
+abbrev pub routine_heading : Sort → ℕ → List ℕ → List Formal → Option TypePhrase → Heading
+routine_heading sort at x fs r = record { at = at; name = x; what = what.Routine sort (parameters fs) (result r) }
+
+-- how many bodies a unit of a level has: a PROC or OP with its refinements
+abbrev pub bodies_in : LevelUnit → ℕ
+bodies_in (level.Proc at r n fs b) = suc (length b.refinements)
+bodies_in (level.Op at r n fs b) = suc (length b.refinements)
+bodies_in (level.Plain u) = 0
+bodies_in (level.NewType at n of) = 0
+
+abbrev pub bodies_of_units : List LevelUnit → ℕ
+bodies_of_units [] = 0
+bodies_of_units (u ∷ us) = bodies_in u + bodies_of_units us
+
+-- the headings of a unit whose first body has this number
+abbrev pub unit_headings : ℕ → LevelUnit → List Heading
+unit_headings k (level.Proc at r n fs b) = routine_heading Procedure n.at n.text fs r ∷ refinement_headings (Some k) b.refinements
+unit_headings k (level.Op at r n fs b) = routine_heading Operator n.at (operator_text n.operator) fs r ∷ refinement_headings (Some k) b.refinements
+unit_headings k (level.Plain u) = []
+unit_headings k (level.NewType at n of) = []
+
+abbrev pub all_headings : ℕ → List LevelUnit → List Heading
+all_headings k [] = []
+all_headings k (u ∷ us) = unit_headings k u ++ all_headings (k + bodies_in u) us
+
+-- Each PROC or OP has a number, and behind it its refinements; behind them all stand the refinements of the level.
+abbrev pub headings : Level → List Heading
+headings l = all_headings 0 l.units ++ refinement_headings None l.refinements

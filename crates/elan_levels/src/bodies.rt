@@ -1,0 +1,191 @@
+//! The names that a level and its bodies declare.
+
+ghost use Rattle.std.specs.Prelude.{◌≡◌, ◌++◌, IfOk, OnOk};
+ghost use Rattle.elan_scope.specs.Scope as scopes;
+ghost use Rattle.elan_levels.specs.Bodies as spec;
+
+use crate::declare::{add, in_unit, in_units, written_type};
+use elan_scope::scope::{Denotes, Entry};
+use elan_tree::{Access as Given, Body, Formal, Level, LevelUnit, Name, Refinement};
+use elan_types::{Access, ElanType, Parameter};
+use eu_base::{List, NoMemory};
+use std::alloc::Global;
+
+fn access(given: Given) -> Access
+    ensures { result ≡ spec.access_of given }
+{
+    match given {
+        Given::Const => Access::Const,
+        Given::Var => Access::Var,
+    }
+}
+
+fn parameter(formal: &Formal) -> Option<Parameter>
+    ensures { result ≡ spec.parameter formal.now }
+{
+    match written_type(&formal.of) {
+        None => None,
+        Some(of) => Some(Parameter {
+            of,
+            access: access(formal.access),
+        }),
+    }
+}
+
+// Adds the parameter for each name.
+fn for_each(
+    out: &mut List<Parameter>,
+    names: &[Name],
+    parameter: Option<Parameter>,
+) -> Result<(), NoMemory>
+    ensures { OnOk result (out.new ≡ out.old ++ spec.for_each names.now parameter) }
+{
+    let Some(parameter) = parameter else {
+        return Ok(());
+    };
+    for _name in names {
+        out.push(parameter)?;
+    }
+    Ok(())
+}
+
+/// The parameters of a PROC or OP.
+pub fn parameters(alloc: Global, formals: &[Formal]) -> Result<List<Parameter>, NoMemory>
+    ensures { IfOk result (λ list. list ≡ spec.parameters formals.now) }
+{
+    let mut list = List::new(alloc);
+    for formal in formals {
+        for_each(&mut list, formal.names.as_slice(), parameter(formal))?;
+    }
+    Ok(list)
+}
+
+fn as_parameter(parameter: Option<Parameter>) -> Option<Denotes>
+    ensures { result ≡ spec.as_parameter parameter }
+{
+    match parameter {
+        None => None,
+        Some(parameter) => Some(Denotes::Parameter(parameter)),
+    }
+}
+
+fn named_as(
+    alloc: Global,
+    out: &mut List<Entry>,
+    names: &[Name],
+    denotes: Option<Denotes>,
+) -> Result<(), NoMemory>
+    ensures { OnOk result (out.new ≡ out.old ++ spec.named_as names.now denotes) }
+{
+    for name in names {
+        add(alloc, out, name, denotes)?;
+    }
+    Ok(())
+}
+
+fn parameter_names(alloc: Global, out: &mut List<Entry>, formals: &[Formal]) -> Result<(), NoMemory>
+    ensures { OnOk result (out.new ≡ out.old ++ spec.parameter_names formals.now) }
+{
+    for formal in formals {
+        named_as(
+            alloc,
+            out,
+            formal.names.as_slice(),
+            as_parameter(parameter(formal)),
+        )?;
+    }
+    Ok(())
+}
+
+fn refinement_names(
+    alloc: Global,
+    out: &mut List<Entry>,
+    refinements: &[Refinement],
+) -> Result<(), NoMemory>
+    ensures { OnOk result (out.new ≡ out.old ++ spec.refinement_names refinements.now) }
+{
+    for refinement in refinements {
+        add(alloc, out, &refinement.name, Some(Denotes::Refinement))?;
+        in_units(alloc, out, refinement.units.as_slice())?;
+    }
+    Ok(())
+}
+
+/// The names of a PROC or OP: its parameters, what its units declare, and its refinements.
+pub fn body_names(alloc: Global, formals: &[Formal], body: &Body) -> Result<List<Entry>, NoMemory>
+    ensures { IfOk result (λ names. names ≡ spec.body_names formals.now body.now) }
+{
+    let mut names = List::new(alloc);
+    parameter_names(alloc, &mut names, formals)?;
+    in_units(alloc, &mut names, body.units.as_slice())?;
+    refinement_names(alloc, &mut names, body.refinements.as_slice())?;
+    Ok(names)
+}
+
+fn unit_names(alloc: Global, out: &mut List<Entry>, unit: &LevelUnit) -> Result<(), NoMemory>
+    ensures { OnOk result (out.new ≡ out.old ++ spec.unit_names unit.now) }
+{
+    match unit {
+        LevelUnit::Plain(unit) => in_unit(alloc, out, unit),
+        LevelUnit::Proc { name, formals, .. } => match formals.as_slice() {
+            [] => add(alloc, out, name, Some(Denotes::Procedure)),
+            [_first, _others @ ..] => Ok(()),
+        },
+        LevelUnit::NewType { .. } => Ok(()),
+        LevelUnit::Op { .. } => Ok(()),
+    }
+}
+
+fn all_unit_names(alloc: Global, out: &mut List<Entry>, units: &[LevelUnit]) -> Result<(), NoMemory>
+    ensures { OnOk result (out.new ≡ out.old ++ spec.all_unit_names units.now) }
+{
+    for unit in units {
+        unit_names(alloc, out, unit)?;
+    }
+    Ok(())
+}
+
+/// The names of a level: what its units declare, and its refinements.
+pub fn level_names(alloc: Global, level: &Level) -> Result<List<Entry>, NoMemory>
+    ensures { IfOk result (λ names. names ≡ spec.level_names level.now) }
+{
+    let mut names = List::new(alloc);
+    all_unit_names(alloc, &mut names, level.units.as_slice())?;
+    refinement_names(alloc, &mut names, level.refinements.as_slice())?;
+    Ok(names)
+}
+
+/// What a body declares beside its parameters.
+pub fn own_names(alloc: Global, body: &Body) -> Result<List<Entry>, NoMemory>
+    ensures { IfOk result (λ names. names ≡ spec.own_names body.now) }
+{
+    let mut names = List::new(alloc);
+    in_units(alloc, &mut names, body.units.as_slice())?;
+    refinement_names(alloc, &mut names, body.refinements.as_slice())?;
+    Ok(names)
+}
+
+// Adds the type of what is held under a name.
+fn add_held(out: &mut List<ElanType>, denotes: Denotes) -> Result<(), NoMemory>
+    ensures { OnOk result (out.new ≡ out.old ++ scopes.types_of (scopes.held denotes)) }
+{
+    match denotes {
+        Denotes::Variable(of) => out.push(of),
+        Denotes::Constant(of) => out.push(of),
+        Denotes::Parameter(parameter) => out.push(parameter.of),
+        Denotes::Procedure => Ok(()),
+        Denotes::Refinement => Ok(()),
+    }
+}
+
+/// The types of the variables, constants and parameters among names.
+#[tactic(auto, using(crate::proofs::Held::types_append))]
+pub fn held_types(alloc: Global, names: &[Entry]) -> Result<List<ElanType>, NoMemory>
+    ensures { IfOk result (λ types. types ≡ scopes.types_of (scopes.all_held names.now)) }
+{
+    let mut types = List::new(alloc);
+    for entry in names {
+        add_held(&mut types, entry.denotes)?;
+    }
+    Ok(types)
+}

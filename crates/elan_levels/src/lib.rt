@@ -1,0 +1,7 @@
+//! What a level declares: its names, the headings of its bodies, and the refinements that they call.
+#![tactic(auto)]
+
+pub mod bodies;
+pub mod declare;
+pub mod heading;
+pub mod uses;

@@ -1,5 +1,0 @@
-use Rattle.elan_parser.proofs.GrammarLaws.{one_tree}
-use Rattle.elan_parser.proofs.texts.one_tree.Goals as goal
-
-pub returns : goal.returns
-returns c = λ p tokens t u h i. one_tree p tokens t u h i

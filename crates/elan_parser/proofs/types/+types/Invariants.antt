@@ -1,4 +1,0 @@
-use Rattle.elan_parser.proofs.types.+types.Given as goal
-
-abbrev pub decreases-types : goal.decreases-types
-decreases-types l = l.depth

@@ -1,0 +1,60 @@
+//! What several phrases mean together.
+
+ghost use Rattle.std.specs.Prelude.{[], List};
+ghost use Rattle.elan_meant.specs.declared.meant.Meant.{Meant};
+ghost use Rattle.elan_scope.specs.Ruled.{Ruled, gives, before, joined};
+ghost use Rattle.elan_scope.specs.Answer.{Is};
+
+use elan_meant::meant::Meant;
+use elan_meant::row as rows;
+use elan_meant::row::{Judged, Row};
+use eu_base::List;
+use std::alloc::Global;
+
+/// A row of no phrases.
+pub fn none(alloc: Global) -> Row
+    ensures { Is result (gives []) }
+{
+    Ok(List::new(alloc))
+}
+
+/// What phrases mean, and one more.
+pub fn with(row: Row, next: Judged) -> Row
+    ensures { (rs : Ruled (List Meant)) → (r : Ruled Meant) → Is row rs → Is next r → Is result (joined rs r) }
+{
+    rows::and(row, next)
+}
+
+/// What one phrase means.
+pub fn one(alloc: Global, part: Judged) -> Row
+    ensures { (r : Ruled Meant) → Is part r → Is result (before r (gives [])) }
+{
+    rows::one(alloc, part)
+}
+
+/// What two phrases mean, one after the other.
+pub fn pair(alloc: Global, first: Judged, second: Judged) -> Row
+    ensures { (r : Ruled Meant) → (q : Ruled Meant) → Is first r → Is second q → Is result (before r (before q (gives []))) }
+{
+    rows::pair(alloc, first, second)
+}
+
+/// What three phrases mean, one after another.
+pub fn three(alloc: Global, first: Judged, second: Judged, third: Judged) -> Row
+    ensures { (r : Ruled Meant) → (q : Ruled Meant) → (s : Ruled Meant) → Is first r → Is second q → Is third s → Is result (before r (before q (before s (gives [])))) }
+{
+    rows::three(alloc, first, second, third)
+}
+
+/// What four phrases mean, one after another.
+pub fn four(alloc: Global, first: Judged, second: Judged, third: Judged, fourth: Judged) -> Row
+    ensures { (r : Ruled Meant) → (q : Ruled Meant) → (s : Ruled Meant) → (u : Ruled Meant) → Is first r → Is second q → Is third s → Is fourth u → Is result (before r (before q (before s (before u (gives []))))) }
+{
+    rows::four(alloc, first, second, third, fourth)
+}
+
+/// Lets a row go.
+pub fn let_go(_row: Row) {}
+
+/// Lets what a phrase means go.
+pub fn let_meant_go(_meant: Meant) {}

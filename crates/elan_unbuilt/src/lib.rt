@@ -1,0 +1,9 @@
+//! What of a tree is not built yet, and how operators are written.
+#![tactic(auto)]
+
+mod names;
+mod not_built;
+mod operators;
+
+pub use not_built::has_unbuilt;
+pub use operators::operator_text;

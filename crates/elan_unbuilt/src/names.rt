@@ -1,0 +1,62 @@
+//! The predefined names that are not built yet.
+
+ghost use Rattle.std.specs.Prelude.{◌≡◌, map};
+ghost use Rattle.elan_unbuilt.specs.Names as spec;
+
+const NOT_BUILT: [&[u8]; 35] = [
+    b"CAT",
+    b"SUB",
+    b"LENGTH",
+    b"length",
+    b"pos",
+    b"subtext",
+    b"code",
+    b"text",
+    b"int",
+    b"errorstop",
+    b"write",
+    b"putline",
+    b"get",
+    b"getline",
+    b"niltask",
+    b"begin",
+    b"end",
+    b"myself",
+    b"father",
+    b"son",
+    b"brother",
+    b"task",
+    b"name",
+    b"exists",
+    b"break",
+    b"nilspace",
+    b"type",
+    b"forget",
+    b"new",
+    b"old",
+    b"rename",
+    b"copy",
+    b"send",
+    b"wait",
+    b"call",
+];
+
+fn is_among(mut names: &[&[u8]], name: &[u8]) -> bool
+    ensures { result ≡ spec.is_among (map (λ n. n.now) names.entry.now) name.now }
+{
+    while let [first, rest @ ..] = names {
+        if *first == name {
+            return true;
+        }
+        names = rest;
+    }
+    false
+}
+
+/// Whether a name is predefined and not built yet.
+#[tactic(auto, unfolding(crate::specs::Names::names_not_built))]
+pub fn is_not_built(name: &[u8]) -> bool
+    ensures { result ≡ spec.is_among spec.names_not_built name.now }
+{
+    is_among(&NOT_BUILT, name)
+}

@@ -1,0 +1,460 @@
+//! Expressions: each rule for what is at most `depth` deep, over what stands in it and is less deep.
+
+ghost use Rattle.std.specs.Prelude.{◌≡◌, ◌<◌, ◌≤◌, ◌+◌, ◌-◌, ◌==◌, max, IfOk};
+ghost use Rattle.elan_grammar.specs.Rule as rule;
+ghost use Rattle.elan_grammar.specs.Rule.{Gives, GivesTall};
+ghost use Rattle.elan_grammar.specs.Kinds as kinds;
+ghost use Rattle.elan_grammar.specs.Expressions as spec;
+ghost use Rattle.elan_grammar.specs.Units as units;
+ghost use Rattle.form_parser.specs.Nests.{Nests};
+ghost use Rattle.elan_grammar.specs.Depth.{expr_depth, exprs_depth, expr_place};
+
+use containers::{Boxed, List};
+use elan_cursor::Cursor;
+use elan_cursor::kind::{is_comma, is_key, is_level, is_literal, is_monadic, is_sign, lengthens};
+use elan_grammar::tall::{Tall, and, single, with_next};
+use elan_grammar::{Joint, ParseError, Right};
+use elan_tree::{Expr, Key, Name, Sign, Unit};
+use form_parser::Inner;
+use std::alloc::Global;
+
+/// The rules of phrases whose parts are less than `depth` deep, which the two functions parse.
+#[derive(Drop)]
+pub struct Grammar<E, U> {
+    pub alloc: Global,
+    pub depth: u16,
+    pub expression: E,
+    pub units: U,
+}
+
+/// The place where an expression begins.
+pub fn expr_place(expr: &Expr) -> u32
+    ensures { result ≡ expr_place expr.now }
+{
+    match expr {
+        Expr::Number(at, _)
+        | Expr::Text(at, _)
+        | Expr::Truth(at, _)
+        | Expr::Procedure(at, _)
+        | Expr::Concr(at, _)
+        | Expr::Bracket(at, _)
+        | Expr::If { at, .. }
+        | Expr::Select { at, .. }
+        | Expr::Index { at, .. }
+        | Expr::Field { at, .. }
+        | Expr::Monadic { at, .. }
+        | Expr::Dyadic { at, .. }
+        | Expr::Cand { at, .. }
+        | Expr::Cor { at, .. } => *at,
+        Expr::Named(name) | Expr::Call(name, _) => name.at,
+    }
+}
+
+/// Two operands and what joins them, at the place of the left one.
+fn joined(at: u32, joint: Joint, left: Boxed<Expr>, right: Boxed<Expr>) -> Expr
+    requires { at ≡ expr_place left }
+    ensures tree { result ≡ spec.joined_by joint left right }
+    ensures depth { expr_depth result ≡ max (expr_depth left) (expr_depth right) + 1 }
+{
+    match joint {
+        Joint::Cand => Expr::Cand { at, left, right },
+        Joint::Cor => Expr::Cor { at, left, right },
+        Joint::Operator(operator) => Expr::Dyadic {
+            at,
+            operator,
+            left,
+            right,
+        },
+    }
+}
+
+impl<
+    E: Fn(Global, &mut Cursor<'_>, u16, u8) -> Result<Tall<Expr>, ParseError> + Copy,
+    U: Fn(Global, &mut Cursor<'_>, u16) -> Result<Tall<List<Unit>>, ParseError> + Copy,
+> Grammar<E, U> {
+    /// The rules of IF, SELECT and loops over the same parts.
+    fn forms(&self) -> Inner<E, U>
+        ensures alloc { result.alloc ≡ self.now.alloc }
+        ensures depth { result.depth ≡ self.now.depth }
+        ensures expression { result.expression ≡ self.now.expression }
+        ensures units { result.units ≡ self.now.units }
+    {
+        Inner {
+            alloc: self.alloc,
+            depth: self.depth,
+            expression: self.expression,
+            units: self.units,
+        }
+    }
+
+    /// An expression in another phrase.
+    fn inner(&self, cursor: &mut Cursor<'_>, level: u8) -> Result<Tall<Expr>, ParseError>
+        requires nests { Nests self.now.depth (E.pre self.now.expression) (E.post self.now.expression) (U.pre self.now.units) (U.post self.now.units) }
+        requires level { level ≤ 6 }
+        ensures reads { GivesTall (((units.phrases self.now.depth).level level).run cursor.old.rest.now) result cursor.new.rest.now }
+        ensures tall { IfOk result (λ a. a.height ≡ expr_depth a.tree) }
+        ensures low { IfOk result (λ a. a.height < self.now.depth) }
+    {
+        (self.expression)(self.alloc, cursor, self.depth, level)
+    }
+
+    #[tactic(auto, unfolding(elan_grammar::specs::Expressions::bracket))]
+    fn bracket(&self, cursor: &mut Cursor<'_>) -> Result<Tall<Expr>, ParseError>
+        requires { Nests self.now.depth (E.pre self.now.expression) (E.post self.now.expression) (U.pre self.now.units) (U.post self.now.units) }
+        ensures reads { GivesTall ((spec.bracket (units.phrases self.now.depth) self.now.depth).run cursor.old.rest.now) result cursor.new.rest.now }
+        ensures tall { IfOk result (λ a. a.height ≡ expr_depth a.tree) }
+        ensures low { IfOk result (λ a. a.height ≤ self.now.depth) }
+    {
+        cursor.below(0, self.depth)?;
+        let at = cursor.mark(Sign::LeftRound)?;
+        let a = self.inner(cursor, 6)?;
+        let inner = Boxed::new(self.alloc, a.tree)?;
+        cursor.mark(Sign::RightRound)?;
+        Ok(Tall {
+            tree: Expr::Bracket(at, inner),
+            height: a.height + 1,
+        })
+    }
+
+    #[tactic(auto, unfolding(elan_grammar::specs::Expressions::concr))]
+    fn concr(&self, cursor: &mut Cursor<'_>) -> Result<Tall<Expr>, ParseError>
+        requires { Nests self.now.depth (E.pre self.now.expression) (E.post self.now.expression) (U.pre self.now.units) (U.post self.now.units) }
+        ensures reads { GivesTall ((spec.concr (units.phrases self.now.depth) self.now.depth).run cursor.old.rest.now) result cursor.new.rest.now }
+        ensures tall { IfOk result (λ a. a.height ≡ expr_depth a.tree) }
+        ensures low { IfOk result (λ a. a.height ≤ self.now.depth) }
+    {
+        cursor.below(0, self.depth)?;
+        let at = cursor.keyword(Key::Concr)?;
+        cursor.mark(Sign::LeftRound)?;
+        let a = self.inner(cursor, 6)?;
+        let inner = Boxed::new(self.alloc, a.tree)?;
+        cursor.mark(Sign::RightRound)?;
+        Ok(Tall {
+            tree: Expr::Concr(at, inner),
+            height: a.height + 1,
+        })
+    }
+
+    #[tactic(auto, unfolding(elan_grammar::specs::Expressions::procedure))]
+    fn procedure(&self, cursor: &mut Cursor<'_>) -> Result<Expr, ParseError>
+        ensures { Gives ((spec.procedure (units.phrases self.now.depth) self.now.depth).run cursor.old.rest.now) result cursor.new.rest.now }
+    {
+        let at = cursor.keyword(Key::Proc)?;
+        let name = cursor.ident(self.alloc)?;
+        Ok(Expr::Procedure(at, name))
+    }
+
+    #[tactic(auto, unfolding(elan_grammar::specs::Expressions::actual, elan_grammar::specs::Expressions::procedure))]
+    fn actual(&self, cursor: &mut Cursor<'_>) -> Result<Tall<Expr>, ParseError>
+        requires nests { Nests self.now.depth (E.pre self.now.expression) (E.post self.now.expression) (U.pre self.now.units) (U.post self.now.units) }
+        requires room { 0 < self.now.depth }
+        ensures reads { GivesTall ((spec.actual (units.phrases self.now.depth) self.now.depth).run cursor.old.rest.now) result cursor.new.rest.now }
+        ensures tall { IfOk result (λ a. a.height ≡ expr_depth a.tree) }
+        ensures low { IfOk result (λ a. a.height < self.now.depth) }
+    {
+        if cursor.sees_key(Key::Proc) {
+            let tree = self.procedure(cursor)?;
+            return Ok(Tall { tree, height: 0 });
+        }
+        self.inner(cursor, 6)
+    }
+
+    #[tactic(auto, unfolding(elan_grammar::specs::Expressions::actuals), using(elan_grammar::proofs::Turns::turn_on, elan_grammar::proofs::Turns::turn_off, elan_grammar::proofs::Turns::turn_end, elan_grammar::proofs::Deepest::deepest_one, elan_grammar::proofs::Deepest::deepest_push))]
+    fn actuals(&self, cursor: &mut Cursor<'_>) -> Result<Tall<List<Expr>>, ParseError>
+        requires nests { Nests self.now.depth (E.pre self.now.expression) (E.post self.now.expression) (U.pre self.now.units) (U.post self.now.units) }
+        requires room { 0 < self.now.depth }
+        ensures reads { GivesTall ((spec.actuals (units.phrases self.now.depth) self.now.depth).run cursor.old.rest.now) result cursor.new.rest.now }
+        ensures tall { IfOk result (λ a. a.height ≡ exprs_depth a.tree) }
+        ensures low { IfOk result (λ a. a.height < self.now.depth) }
+    {
+        let mut row = single(self.alloc, self.actual(cursor))?;
+        for _turn in 0..cursor.rest.len() {
+            if !is_comma(cursor.ahead()) {
+                return Ok(row);
+            }
+            let (items, _) = and(row, cursor.mark(Sign::Comma))?;
+            row = with_next(items, self.actual(cursor))?;
+        }
+        Ok(row)
+    }
+
+    #[tactic(auto, unfolding(elan_grammar::specs::Expressions::call))]
+    fn call(&self, cursor: &mut Cursor<'_>, name: Name) -> Result<Tall<Expr>, ParseError>
+        requires { Nests self.now.depth (E.pre self.now.expression) (E.post self.now.expression) (U.pre self.now.units) (U.post self.now.units) }
+        ensures reads { GivesTall ((spec.call (units.phrases self.now.depth) self.now.depth name).run cursor.old.rest.now) result cursor.new.rest.now }
+        ensures tall { IfOk result (λ a. a.height ≡ expr_depth a.tree) }
+        ensures low { IfOk result (λ a. a.height ≤ self.now.depth) }
+    {
+        cursor.below(0, self.depth)?;
+        cursor.mark(Sign::LeftRound)?;
+        let row = self.actuals(cursor)?;
+        let (row, _) = and(row, cursor.mark(Sign::RightRound))?;
+        let tree = Expr::Call(name, row.tree);
+        Ok(Tall {
+            tree,
+            height: row.height + 1,
+        })
+    }
+
+    #[tactic(auto, unfolding(elan_grammar::specs::Expressions::named))]
+    fn named(&self, cursor: &mut Cursor<'_>) -> Result<Tall<Expr>, ParseError>
+        requires { Nests self.now.depth (E.pre self.now.expression) (E.post self.now.expression) (U.pre self.now.units) (U.post self.now.units) }
+        ensures reads { GivesTall ((spec.named (units.phrases self.now.depth) self.now.depth).run cursor.old.rest.now) result cursor.new.rest.now }
+        ensures tall { IfOk result (λ a. a.height ≡ expr_depth a.tree) }
+        ensures low { IfOk result (λ a. a.height ≤ self.now.depth) }
+    {
+        let name = cursor.ident(self.alloc)?;
+        if cursor.sees_sign(Sign::LeftRound) {
+            return self.call(cursor, name);
+        }
+        Ok(Tall {
+            tree: Expr::Named(name),
+            height: 0,
+        })
+    }
+
+    #[tactic(auto, unfolding(elan_grammar::specs::Expressions::head))]
+    fn head(&self, cursor: &mut Cursor<'_>) -> Result<Tall<Expr>, ParseError>
+        requires { Nests self.now.depth (E.pre self.now.expression) (E.post self.now.expression) (U.pre self.now.units) (U.post self.now.units) }
+        ensures reads { GivesTall ((spec.head (units.phrases self.now.depth) self.now.depth).run cursor.old.rest.now) result cursor.new.rest.now }
+        ensures tall { IfOk result (λ a. a.height ≡ expr_depth a.tree) }
+        ensures low { IfOk result (λ a. a.height ≤ self.now.depth) }
+    {
+        let kind = cursor.ahead();
+        if is_literal(kind) {
+            let tree = cursor.literal(self.alloc)?;
+            Ok(Tall { tree, height: 0 })
+        } else if is_sign(Sign::LeftRound, kind) {
+            self.bracket(cursor)
+        } else if is_key(Key::Concr, kind) {
+            self.concr(cursor)
+        } else if is_key(Key::If, kind) {
+            self.forms().choice(cursor)
+        } else if is_key(Key::Select, kind) {
+            self.forms().selection(cursor)
+        } else {
+            self.named(cursor)
+        }
+    }
+
+    #[tactic(auto, unfolding(elan_grammar::specs::Expressions::index_part))]
+    fn index_part(&self, cursor: &mut Cursor<'_>, height: u32) -> Result<Tall<Expr>, ParseError>
+        requires { Nests self.now.depth (E.pre self.now.expression) (E.post self.now.expression) (U.pre self.now.units) (U.post self.now.units) }
+        ensures reads { GivesTall ((spec.index_part (units.phrases self.now.depth) self.now.depth height).run cursor.old.rest.now) result cursor.new.rest.now }
+        ensures tall { IfOk result (λ a. a.height ≡ expr_depth a.tree) }
+        ensures low { IfOk result (λ a. a.height < self.now.depth) }
+        ensures below { IfOk result (λ _. height < self.now.depth) }
+    {
+        cursor.below(height, self.depth)?;
+        cursor.mark(Sign::LeftSquare)?;
+        let index = self.inner(cursor, 6)?;
+        let (index, _) = and(index, cursor.mark(Sign::RightSquare))?;
+        Ok(index)
+    }
+
+    #[tactic(auto, unfolding(elan_grammar::specs::Expressions::index))]
+    fn index(&self, cursor: &mut Cursor<'_>, of: Tall<Expr>) -> Result<Tall<Expr>, ParseError>
+        requires nests { Nests self.now.depth (E.pre self.now.expression) (E.post self.now.expression) (U.pre self.now.units) (U.post self.now.units) }
+        requires tall { of.height ≡ expr_depth of.tree }
+        ensures reads { GivesTall ((spec.index (units.phrases self.now.depth) self.now.depth of.tree).run cursor.old.rest.now) result cursor.new.rest.now }
+        ensures tall { IfOk result (λ a. a.height ≡ expr_depth a.tree) }
+        ensures low { IfOk result (λ a. a.height ≤ self.now.depth) }
+    {
+        let at = expr_place(&of.tree);
+        let height = of.height;
+        let of = Boxed::new(self.alloc, of.tree)?;
+        let (of, index) = and(of, self.index_part(cursor, height))?;
+        let height = height.max(index.height) + 1;
+        let index = Boxed::new(self.alloc, index.tree)?;
+        Ok(Tall {
+            tree: Expr::Index { at, of, index },
+            height,
+        })
+    }
+
+    #[tactic(auto, unfolding(elan_grammar::specs::Expressions::field_part))]
+    fn field_part(&self, cursor: &mut Cursor<'_>, height: u32) -> Result<Name, ParseError>
+        ensures reads { Gives ((spec.field_part (units.phrases self.now.depth) self.now.depth height).run cursor.old.rest.now) result cursor.new.rest.now }
+        ensures below { IfOk result (λ _. height < self.now.depth) }
+    {
+        cursor.below(height, self.depth)?;
+        cursor.mark(Sign::Point)?;
+        cursor.ident(self.alloc)
+    }
+
+    #[tactic(auto, unfolding(elan_grammar::specs::Expressions::field_of))]
+    fn field_of(&self, cursor: &mut Cursor<'_>, of: Tall<Expr>) -> Result<Tall<Expr>, ParseError>
+        requires nests { Nests self.now.depth (E.pre self.now.expression) (E.post self.now.expression) (U.pre self.now.units) (U.post self.now.units) }
+        requires tall { of.height ≡ expr_depth of.tree }
+        ensures reads { GivesTall ((spec.field_of (units.phrases self.now.depth) self.now.depth of.tree).run cursor.old.rest.now) result cursor.new.rest.now }
+        ensures tall { IfOk result (λ a. a.height ≡ expr_depth a.tree) }
+        ensures low { IfOk result (λ a. a.height ≤ self.now.depth) }
+    {
+        let height = of.height;
+        let at = expr_place(&of.tree);
+        let of = Boxed::new(self.alloc, of.tree)?;
+        let (of, field) = and(of, self.field_part(cursor, height))?;
+        Ok(Tall {
+            tree: Expr::Field { at, of, field },
+            height: height + 1,
+        })
+    }
+
+    #[tactic(auto, unfolding(elan_grammar::specs::Expressions::longer))]
+    fn longer(&self, cursor: &mut Cursor<'_>, of: Tall<Expr>) -> Result<Tall<Expr>, ParseError>
+        requires nests { Nests self.now.depth (E.pre self.now.expression) (E.post self.now.expression) (U.pre self.now.units) (U.post self.now.units) }
+        requires tall { of.height ≡ expr_depth of.tree }
+        ensures reads { GivesTall ((spec.longer (units.phrases self.now.depth) self.now.depth of.tree).run cursor.old.rest.now) result cursor.new.rest.now }
+        ensures tall { IfOk result (λ a. a.height ≡ expr_depth a.tree) }
+        ensures low { IfOk result (λ a. a.height ≤ self.now.depth) }
+    {
+        if cursor.sees_sign(Sign::LeftSquare) {
+            self.index(cursor, of)
+        } else {
+            self.field_of(cursor, of)
+        }
+    }
+
+    #[tactic(auto, unfolding(elan_grammar::specs::Expressions::prim), using(elan_grammar::proofs::Turns::turn_on, elan_grammar::proofs::Turns::turn_off, elan_grammar::proofs::Turns::turn_end))]
+    fn prim(&self, cursor: &mut Cursor<'_>) -> Result<Tall<Expr>, ParseError>
+        requires { Nests self.now.depth (E.pre self.now.expression) (E.post self.now.expression) (U.pre self.now.units) (U.post self.now.units) }
+        ensures reads { GivesTall ((spec.prim (units.phrases self.now.depth) self.now.depth).run cursor.old.rest.now) result cursor.new.rest.now }
+        ensures tall { IfOk result (λ a. a.height ≡ expr_depth a.tree) }
+        ensures low { IfOk result (λ a. a.height ≤ self.now.depth) }
+    {
+        let mut of = self.head(cursor)?;
+        for _turn in 0..cursor.rest.len() {
+            if !lengthens(cursor.ahead()) {
+                return Ok(of);
+            }
+            of = self.longer(cursor, of)?;
+        }
+        Ok(of)
+    }
+
+    #[tactic(auto, unfolding(elan_grammar::specs::Expressions::applied))]
+    fn applied(&self, cursor: &mut Cursor<'_>) -> Result<Tall<Expr>, ParseError>
+        requires { Nests self.now.depth (E.pre self.now.expression) (E.post self.now.expression) (U.pre self.now.units) (U.post self.now.units) }
+        ensures reads { GivesTall ((spec.applied (units.phrases self.now.depth) self.now.depth).run cursor.old.rest.now) result cursor.new.rest.now }
+        ensures tall { IfOk result (λ a. a.height ≡ expr_depth a.tree) }
+        ensures low { IfOk result (λ a. a.height ≤ self.now.depth) }
+    {
+        cursor.below(0, self.depth)?;
+        let (at, operator) = cursor.monadic(self.alloc)?;
+        let a = self.inner(cursor, 0)?;
+        let tree = Expr::Monadic {
+            at,
+            operator,
+            operand: Boxed::new(self.alloc, a.tree)?,
+        };
+        Ok(Tall {
+            tree,
+            height: a.height + 1,
+        })
+    }
+
+    #[tactic(auto, unfolding(elan_grammar::specs::Expressions::operand))]
+    fn operand(&self, cursor: &mut Cursor<'_>) -> Result<Tall<Expr>, ParseError>
+        requires { Nests self.now.depth (E.pre self.now.expression) (E.post self.now.expression) (U.pre self.now.units) (U.post self.now.units) }
+        ensures reads { GivesTall ((spec.operand (units.phrases self.now.depth) self.now.depth).run cursor.old.rest.now) result cursor.new.rest.now }
+        ensures tall { IfOk result (λ a. a.height ≡ expr_depth a.tree) }
+        ensures low { IfOk result (λ a. a.height ≤ self.now.depth) }
+    {
+        if is_monadic(cursor.ahead()) {
+            self.applied(cursor)
+        } else {
+            self.prim(cursor)
+        }
+    }
+
+    #[tactic(auto, unfolding(elan_grammar::specs::Expressions::right_part))]
+    fn right_part(
+        &self,
+        cursor: &mut Cursor<'_>,
+        level: u8,
+        height: u32,
+    ) -> Result<Tall<Right>, ParseError>
+        requires nests { Nests self.now.depth (E.pre self.now.expression) (E.post self.now.expression) (U.pre self.now.units) (U.post self.now.units) }
+        requires level { level < 6 }
+        ensures reads { GivesTall ((spec.right_part (units.phrases self.now.depth) self.now.depth level height).run cursor.old.rest.now) result cursor.new.rest.now }
+        ensures tall { IfOk result (λ a. a.height ≡ expr_depth a.tree.operand) }
+        ensures low { IfOk result (λ a. a.height < self.now.depth) }
+        ensures below { IfOk result (λ _. height < self.now.depth) }
+    {
+        cursor.below(height, self.depth)?;
+        let joint = cursor.joint(self.alloc, level + 1)?;
+        let right = self.inner(cursor, level)?;
+        let tree = Right {
+            joint,
+            operand: Boxed::new(self.alloc, right.tree)?,
+        };
+        Ok(Tall {
+            tree,
+            height: right.height,
+        })
+    }
+
+    #[tactic(auto, unfolding(elan_grammar::specs::Expressions::dyadic))]
+    fn dyadic(
+        &self,
+        cursor: &mut Cursor<'_>,
+        level: u8,
+        left: Tall<Expr>,
+    ) -> Result<Tall<Expr>, ParseError>
+        requires nests { Nests self.now.depth (E.pre self.now.expression) (E.post self.now.expression) (U.pre self.now.units) (U.post self.now.units) }
+        requires level { level < 6 }
+        requires tall { left.height ≡ expr_depth left.tree }
+        ensures reads { GivesTall ((spec.dyadic (units.phrases self.now.depth) self.now.depth level left.tree).run cursor.old.rest.now) result cursor.new.rest.now }
+        ensures tall { IfOk result (λ a. a.height ≡ expr_depth a.tree) }
+        ensures low { IfOk result (λ a. a.height ≤ self.now.depth) }
+    {
+        let at = expr_place(&left.tree);
+        let height = left.height;
+        let left = Boxed::new(self.alloc, left.tree)?;
+        let (left, right) = and(left, self.right_part(cursor, level, height))?;
+        let height = height.max(right.height) + 1;
+        let Right { joint, operand } = right.tree;
+        Ok(Tall {
+            tree: joined(at, joint, left, operand),
+            height,
+        })
+    }
+
+    #[tactic(auto, using(elan_grammar::proofs::Turns::turn_on, elan_grammar::proofs::Turns::turn_off, elan_grammar::proofs::Turns::turn_end))]
+    fn more_dyadic(
+        &self,
+        cursor: &mut Cursor<'_>,
+        level: u8,
+        mut left: Tall<Expr>,
+    ) -> Result<Tall<Expr>, ParseError>
+        requires nests { Nests self.now.depth (E.pre self.now.expression) (E.post self.now.expression) (U.pre self.now.units) (U.post self.now.units) }
+        requires tall { left.height ≡ expr_depth left.tree }
+        requires low { left.height ≤ self.now.depth }
+        requires level { level < 6 }
+        ensures reads { GivesTall ((rule.iterate (spec.dyadic (units.phrases self.now.depth) self.now.depth level) (kinds.is_level (level + 1)) left.tree).run cursor.old.rest.now) result cursor.new.rest.now }
+        ensures tall { IfOk result (λ a. a.height ≡ expr_depth a.tree) }
+        ensures low { IfOk result (λ a. a.height ≤ self.now.depth) }
+    {
+        for _turn in 0..cursor.rest.len() {
+            if !is_level(level + 1, cursor.ahead()) {
+                return Ok(left);
+            }
+            left = self.dyadic(cursor, level, left)?;
+        }
+        Ok(left)
+    }
+
+    pub fn level(&self, cursor: &mut Cursor<'_>, level: u8) -> Result<Tall<Expr>, ParseError>
+        requires nests { Nests self.now.depth (E.pre self.now.expression) (E.post self.now.expression) (U.pre self.now.units) (U.post self.now.units) }
+        requires level { level ≤ 6 }
+        ensures reads { GivesTall ((spec.level (units.phrases self.now.depth) self.now.depth level).run cursor.old.rest.now) result cursor.new.rest.now }
+        ensures tall { IfOk result (λ a. a.height ≡ expr_depth a.tree) }
+        ensures low { IfOk result (λ a. a.height ≤ self.now.depth) }
+    {
+        if level == 0 {
+            return self.operand(cursor);
+        }
+        let left = self.level(cursor, level - 1)?;
+        self.more_dyadic(cursor, level - 1, left)
+    }
+}

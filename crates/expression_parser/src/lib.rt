@@ -1,0 +1,6 @@
+//! The parser of expressions, over the parsers of what stands in them.
+#![tactic(auto)]
+
+mod expressions;
+
+pub use expressions::{Grammar, expr_place};

@@ -1,0 +1,14 @@
+use Rattle.std.proofs.Common.{◌≡◌, ◌<◌, ◌-◌}
+use Rattle.elan_tree.specs.declared.token.Key.TheVariants as key
+use Rattle.elan_grammar.specs.Rule.{steps_run, further, nothing}
+use Rattle.elan_grammar.specs.Kinds.{is_key}
+use Rattle.elan_grammar.specs.Expressions as expressions
+use Rattle.elan_grammar.specs.Units as units
+use Rattle.elan_grammar.specs.Depth.{cases_depth}
+use Rattle.form_parser.proofs.inner.Inner.cases.Given as goal
+
+abbrev pub invariant-loop-turn : goal.invariant-loop-turn
+invariant-loop-turn g l =
+    ((expressions.cases (units.phrases l.self.depth) l.self.depth).run l.fn.cursor.rest.now
+    ≡ steps_run (further nothing (expressions.a_case (units.phrases l.self.depth) l.self.depth)) (is_key key.Case) (l._turn-end - l._turn) l.row.tree l.cursor.rest.now)
+    × (l.row.height ≡ cases_depth l.row.tree) × (l.row.height < l.self.depth)

@@ -1,0 +1,228 @@
+//! IF and SELECT.
+
+ghost use Rattle.std.specs.Prelude.{◌≡◌, ◌<◌, ◌≤◌, ◌+◌, ◌-◌, max, IfOk};
+ghost use Rattle.elan_grammar.specs.Rule.{Gives, GivesTall};
+ghost use Rattle.elan_grammar.specs.Expressions as spec;
+ghost use Rattle.elan_grammar.specs.Units as units;
+ghost use Rattle.form_parser.specs.Nests.{Nests};
+ghost use Rattle.elan_grammar.specs.Depth.{expr_depth, branch_depth, branches_depth, case_depth, cases_depth, option_units_depth};
+
+use crate::inner::Inner;
+use crate::labels::labels;
+use containers::List;
+use elan_cursor::Cursor;
+use elan_grammar::tall::{Tall, and, boxed, single, with_next};
+use elan_grammar::{ParseError, SelectParts};
+use elan_tree::{Branch, Case, Expr, Key, Sign, Unit};
+use std::alloc::Global;
+
+impl<
+    E: Fn(Global, &mut Cursor<'_>, u16, u8) -> Result<Tall<Expr>, ParseError>,
+    U: Fn(Global, &mut Cursor<'_>, u16) -> Result<Tall<List<Unit>>, ParseError>,
+> Inner<E, U> {
+    #[tactic(auto, unfolding(elan_grammar::specs::Expressions::branch))]
+    fn branch(&self, cursor: &mut Cursor<'_>) -> Result<Tall<Branch>, ParseError>
+        requires { Nests self.now.depth (E.pre self.now.expression) (E.post self.now.expression) (U.pre self.now.units) (U.post self.now.units) }
+        ensures reads { GivesTall ((spec.branch (units.phrases self.now.depth) self.now.depth).run cursor.old.rest.now) result cursor.new.rest.now }
+        ensures tall { IfOk result (λ a. a.height ≡ branch_depth a.tree) }
+        ensures low { IfOk result (λ a. a.height < self.now.depth) }
+    {
+        let condition = self.expression(cursor, 6)?;
+        let (condition, _) = and(condition, cursor.keyword(Key::Then))?;
+        let (condition, units) = and(condition, self.units(cursor))?;
+        let height = condition.height.max(units.height);
+        let tree = Branch {
+            condition: condition.tree,
+            units: units.tree,
+        };
+        Ok(Tall { tree, height })
+    }
+
+    #[tactic(auto, unfolding(elan_grammar::specs::Expressions::branches), using(elan_grammar::proofs::Turns::turn_on, elan_grammar::proofs::Turns::turn_off, elan_grammar::proofs::Turns::turn_end, elan_grammar::proofs::Deepest::deepest_one, elan_grammar::proofs::Deepest::deepest_push))]
+    fn branches(&self, cursor: &mut Cursor<'_>) -> Result<Tall<List<Branch>>, ParseError>
+        requires { Nests self.now.depth (E.pre self.now.expression) (E.post self.now.expression) (U.pre self.now.units) (U.post self.now.units) }
+        ensures reads { GivesTall ((spec.branches (units.phrases self.now.depth) self.now.depth).run cursor.old.rest.now) result cursor.new.rest.now }
+        ensures tall { IfOk result (λ a. a.height ≡ branches_depth a.tree) }
+        ensures low { IfOk result (λ a. a.height < self.now.depth) }
+    {
+        let mut row = single(self.alloc, self.branch(cursor))?;
+        for _turn in 0..cursor.rest.len() {
+            if !cursor.sees_key(Key::Elif) {
+                return Ok(row);
+            }
+            let (items, _) = and(row, cursor.keyword(Key::Elif))?;
+            row = with_next(items, self.branch(cursor))?;
+        }
+        Ok(row)
+    }
+
+    #[tactic(auto, unfolding(elan_grammar::specs::Expressions::else_part))]
+    fn else_part(&self, cursor: &mut Cursor<'_>) -> Result<Tall<Option<List<Unit>>>, ParseError>
+        requires nests { Nests self.now.depth (E.pre self.now.expression) (E.post self.now.expression) (U.pre self.now.units) (U.post self.now.units) }
+        requires room { 0 < self.now.depth }
+        ensures reads { GivesTall ((spec.else_part (units.phrases self.now.depth) self.now.depth).run cursor.old.rest.now) result cursor.new.rest.now }
+        ensures tall { IfOk result (λ a. a.height ≡ option_units_depth a.tree) }
+        ensures low { IfOk result (λ a. a.height < self.now.depth) }
+    {
+        if !cursor.sees_key(Key::Else) {
+            return Ok(Tall {
+                tree: None,
+                height: 0,
+            });
+        }
+        cursor.keyword(Key::Else)?;
+        let units = self.units(cursor)?;
+        Ok(Tall {
+            tree: Some(units.tree),
+            height: units.height,
+        })
+    }
+
+    #[tactic(auto, unfolding(elan_grammar::specs::Expressions::choice_end))]
+    fn choice_end(&self, cursor: &mut Cursor<'_>) -> Result<u32, ParseError>
+        ensures { Gives ((spec.choice_end).run cursor.old.rest.now) result cursor.new.rest.now }
+    {
+        if cursor.sees_key(Key::End) {
+            cursor.end_of(Key::If)
+        } else {
+            cursor.keyword(Key::Fi)
+        }
+    }
+
+    /// IF with its branches.
+    #[tactic(auto, unfolding(elan_grammar::specs::Expressions::choice, elan_grammar::specs::Expressions::choice_end))]
+    pub fn choice(&self, cursor: &mut Cursor<'_>) -> Result<Tall<Expr>, ParseError>
+        requires { Nests self.now.depth (E.pre self.now.expression) (E.post self.now.expression) (U.pre self.now.units) (U.post self.now.units) }
+        ensures reads { GivesTall ((spec.choice (units.phrases self.now.depth) self.now.depth).run cursor.old.rest.now) result cursor.new.rest.now }
+        ensures tall { IfOk result (λ a. a.height ≡ expr_depth a.tree) }
+        ensures low { IfOk result (λ a. a.height ≤ self.now.depth) }
+    {
+        cursor.below(0, self.depth)?;
+        let at = cursor.keyword(Key::If)?;
+        let branches = self.branches(cursor)?;
+        let (branches, otherwise) = and(branches, self.else_part(cursor))?;
+        let ((branches, otherwise), _) = and((branches, otherwise), self.choice_end(cursor))?;
+        let height = branches.height.max(otherwise.height);
+        let tree = Expr::If {
+            at,
+            branches: branches.tree,
+            otherwise: otherwise.tree,
+        };
+        Ok(Tall {
+            tree,
+            height: height + 1,
+        })
+    }
+
+    #[tactic(auto, unfolding(elan_grammar::specs::Expressions::a_case))]
+    fn a_case(&self, cursor: &mut Cursor<'_>) -> Result<Tall<Case>, ParseError>
+        requires { Nests self.now.depth (E.pre self.now.expression) (E.post self.now.expression) (U.pre self.now.units) (U.post self.now.units) }
+        ensures reads { GivesTall ((spec.a_case (units.phrases self.now.depth) self.now.depth).run cursor.old.rest.now) result cursor.new.rest.now }
+        ensures tall { IfOk result (λ a. a.height ≡ case_depth a.tree) }
+        ensures low { IfOk result (λ a. a.height < self.now.depth) }
+    {
+        cursor.keyword(Key::Case)?;
+        let labels = labels(self.alloc, cursor)?;
+        let (labels, _) = and(labels, cursor.mark(Sign::Colon))?;
+        let (labels, units) = and(labels, self.units(cursor))?;
+        let tree = Case {
+            labels,
+            units: units.tree,
+        };
+        Ok(Tall {
+            tree,
+            height: units.height,
+        })
+    }
+
+    #[tactic(auto, unfolding(elan_grammar::specs::Expressions::cases), using(elan_grammar::proofs::Turns::turn_on, elan_grammar::proofs::Turns::turn_off, elan_grammar::proofs::Turns::turn_end, elan_grammar::proofs::Deepest::deepest_one, elan_grammar::proofs::Deepest::deepest_push))]
+    fn cases(&self, cursor: &mut Cursor<'_>) -> Result<Tall<List<Case>>, ParseError>
+        requires { Nests self.now.depth (E.pre self.now.expression) (E.post self.now.expression) (U.pre self.now.units) (U.post self.now.units) }
+        ensures reads { GivesTall ((spec.cases (units.phrases self.now.depth) self.now.depth).run cursor.old.rest.now) result cursor.new.rest.now }
+        ensures tall { IfOk result (λ a. a.height ≡ cases_depth a.tree) }
+        ensures low { IfOk result (λ a. a.height < self.now.depth) }
+    {
+        let mut row = single(self.alloc, self.a_case(cursor))?;
+        for _turn in 0..cursor.rest.len() {
+            if !cursor.sees_key(Key::Case) {
+                return Ok(row);
+            }
+            row = with_next(row, self.a_case(cursor))?;
+        }
+        Ok(row)
+    }
+
+    #[tactic(auto, unfolding(elan_grammar::specs::Expressions::otherwise_part))]
+    fn otherwise_part(
+        &self,
+        cursor: &mut Cursor<'_>,
+    ) -> Result<Tall<Option<List<Unit>>>, ParseError>
+        requires nests { Nests self.now.depth (E.pre self.now.expression) (E.post self.now.expression) (U.pre self.now.units) (U.post self.now.units) }
+        requires room { 0 < self.now.depth }
+        ensures reads { GivesTall ((spec.otherwise_part (units.phrases self.now.depth) self.now.depth).run cursor.old.rest.now) result cursor.new.rest.now }
+        ensures tall { IfOk result (λ a. a.height ≡ option_units_depth a.tree) }
+        ensures low { IfOk result (λ a. a.height < self.now.depth) }
+    {
+        if !cursor.sees_key(Key::Otherwise) {
+            return Ok(Tall {
+                tree: None,
+                height: 0,
+            });
+        }
+        cursor.keyword(Key::Otherwise)?;
+        if cursor.sees_sign(Sign::Colon) {
+            cursor.mark(Sign::Colon)?;
+        }
+        let units = self.units(cursor)?;
+        Ok(Tall {
+            tree: Some(units.tree),
+            height: units.height,
+        })
+    }
+
+    #[tactic(auto, unfolding(elan_grammar::specs::Expressions::select_parts))]
+    fn select_parts(&self, cursor: &mut Cursor<'_>) -> Result<Tall<SelectParts>, ParseError>
+        requires nests { Nests self.now.depth (E.pre self.now.expression) (E.post self.now.expression) (U.pre self.now.units) (U.post self.now.units) }
+        requires room { 0 < self.now.depth }
+        ensures reads { GivesTall ((spec.select_parts (units.phrases self.now.depth) self.now.depth).run cursor.old.rest.now) result cursor.new.rest.now }
+        ensures tall { IfOk result (λ a. a.height ≡ max (cases_depth a.tree.cases) (option_units_depth a.tree.otherwise)) }
+        ensures low { IfOk result (λ a. a.height < self.now.depth) }
+    {
+        let cases = self.cases(cursor)?;
+        let (cases, otherwise) = and(cases, self.otherwise_part(cursor))?;
+        let ((cases, otherwise), _) = and((cases, otherwise), cursor.end_of(Key::Select))?;
+        let height = cases.height.max(otherwise.height);
+        let tree = SelectParts {
+            cases: cases.tree,
+            otherwise: otherwise.tree,
+        };
+        Ok(Tall { tree, height })
+    }
+
+    /// SELECT with its cases.
+    #[tactic(auto, unfolding(elan_grammar::specs::Expressions::selection))]
+    pub fn selection(&self, cursor: &mut Cursor<'_>) -> Result<Tall<Expr>, ParseError>
+        requires { Nests self.now.depth (E.pre self.now.expression) (E.post self.now.expression) (U.pre self.now.units) (U.post self.now.units) }
+        ensures reads { GivesTall ((spec.selection (units.phrases self.now.depth) self.now.depth).run cursor.old.rest.now) result cursor.new.rest.now }
+        ensures tall { IfOk result (λ a. a.height ≡ expr_depth a.tree) }
+        ensures low { IfOk result (λ a. a.height ≤ self.now.depth) }
+    {
+        cursor.below(0, self.depth)?;
+        let at = cursor.keyword(Key::Select)?;
+        let of = boxed(self.alloc, self.expression(cursor, 6))?;
+        let (of, _) = and(of, cursor.keyword(Key::Of))?;
+        let (of, parts) = and(of, self.select_parts(cursor))?;
+        let height = of.height.max(parts.height);
+        let SelectParts { cases, otherwise } = parts.tree;
+        let tree = Expr::Select {
+            at,
+            of: of.tree,
+            cases,
+            otherwise,
+        };
+        Ok(Tall {
+            tree,
+            height: height + 1,
+        })
+    }
+}

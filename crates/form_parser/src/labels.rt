@@ -1,0 +1,48 @@
+//! The labels of a CASE.
+
+ghost use Rattle.elan_grammar.specs.Rule.{Gives};
+ghost use Rattle.elan_grammar.specs.Types as spec;
+
+use containers::List;
+use elan_cursor::Cursor;
+use elan_cursor::kind::is_comma;
+use elan_grammar::ParseError;
+use elan_grammar::tall::{and, one, one_more};
+use elan_tree::{Label, Sign};
+use std::alloc::Global;
+
+#[tactic(auto, unfolding(elan_grammar::specs::Types::negative_label))]
+fn negative_label(cursor: &mut Cursor<'_>) -> Result<Label, ParseError>
+    ensures { Gives ((spec.negative_label).run cursor.old.rest.now) result cursor.new.rest.now }
+{
+    let at = cursor.mark(Sign::Minus)?;
+    let number = cursor.negated()?;
+    Ok(Label::Number(at, number))
+}
+
+#[tactic(auto, unfolding(elan_grammar::specs::Types::label))]
+fn label(alloc: Global, cursor: &mut Cursor<'_>) -> Result<Label, ParseError>
+    ensures { Gives ((spec.label).run cursor.old.rest.now) result cursor.new.rest.now }
+{
+    if cursor.sees_sign(Sign::Minus) {
+        negative_label(cursor)
+    } else {
+        cursor.label(alloc)
+    }
+}
+
+/// Labels with commas between them.
+#[tactic(auto, unfolding(elan_grammar::specs::Types::labels), using(elan_grammar::proofs::Turns::turn_on, elan_grammar::proofs::Turns::turn_off, elan_grammar::proofs::Turns::turn_end))]
+pub fn labels(alloc: Global, cursor: &mut Cursor<'_>) -> Result<List<Label>, ParseError>
+    ensures { Gives ((spec.labels).run cursor.old.rest.now) result cursor.new.rest.now }
+{
+    let mut row = one(alloc, label(alloc, cursor))?;
+    for _turn in 0..cursor.rest.len() {
+        if !is_comma(cursor.ahead()) {
+            return Ok(row);
+        }
+        let (items, _) = and(row, cursor.mark(Sign::Comma))?;
+        row = one_more(items, label(alloc, cursor))?;
+    }
+    Ok(row)
+}

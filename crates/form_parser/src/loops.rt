@@ -1,0 +1,240 @@
+//! Loops.
+
+ghost use Rattle.std.specs.Prelude.{◌≡◌, ◌<◌, ◌≤◌, max, IfOk, Some};
+ghost use Rattle.elan_grammar.specs.Rule.{Gives, GivesTall};
+ghost use Rattle.elan_grammar.specs.Units as units;
+ghost use Rattle.form_parser.specs.Nests.{Nests};
+ghost use Rattle.elan_grammar.specs.Depth.{expr_depth, unit_depth, units_depth, limit_depth, option_depth, option_counter_depth};
+
+use crate::inner::Inner;
+use containers::{Boxed, List};
+use elan_cursor::Cursor;
+use elan_cursor::kind::is_key;
+use elan_grammar::tall::{Tall, and};
+use elan_grammar::{LoopParts, ParseError};
+use elan_tree::{Counter, Expr, Key, Limit, Unit};
+use std::alloc::Global;
+
+impl<
+    E: Fn(Global, &mut Cursor<'_>, u16, u8) -> Result<Tall<Expr>, ParseError>,
+    U: Fn(Global, &mut Cursor<'_>, u16) -> Result<Tall<List<Unit>>, ParseError>,
+> Inner<E, U> {
+    /// A keyword, and an expression behind it.
+    fn behind(&self, cursor: &mut Cursor<'_>, key: Key) -> Result<Tall<Expr>, ParseError>
+        requires { Nests self.now.depth (E.pre self.now.expression) (E.post self.now.expression) (U.pre self.now.units) (U.post self.now.units) }
+        ensures reads { GivesTall ((units.behind (units.phrases self.now.depth) self.now.depth key).run cursor.old.rest.now) result cursor.new.rest.now }
+        ensures tall { IfOk result (λ a. a.height ≡ expr_depth a.tree) }
+        ensures low { IfOk result (λ a. a.height < self.now.depth) }
+    {
+        cursor.keyword(key)?;
+        self.expression(cursor, 6)
+    }
+
+    #[tactic(auto, unfolding(elan_grammar::specs::Units::a_limit, elan_grammar::specs::Units::upto, elan_grammar::specs::Units::downto))]
+    fn a_limit(&self, cursor: &mut Cursor<'_>) -> Result<Tall<Limit>, ParseError>
+        requires nests { Nests self.now.depth (E.pre self.now.expression) (E.post self.now.expression) (U.pre self.now.units) (U.post self.now.units) }
+        requires room { 0 < self.now.depth }
+        ensures reads { GivesTall ((units.a_limit (units.phrases self.now.depth) self.now.depth).run cursor.old.rest.now) result cursor.new.rest.now }
+        ensures tall { IfOk result (λ a. a.height ≡ limit_depth a.tree) }
+        ensures low { IfOk result (λ a. a.height < self.now.depth) }
+    {
+        let kind = cursor.ahead();
+        if is_key(Key::Upto, kind) {
+            let a = self.behind(cursor, Key::Upto)?;
+            Ok(Tall {
+                tree: Limit::Upto(a.tree),
+                height: a.height,
+            })
+        } else if is_key(Key::Downto, kind) {
+            let a = self.behind(cursor, Key::Downto)?;
+            Ok(Tall {
+                tree: Limit::Downto(a.tree),
+                height: a.height,
+            })
+        } else {
+            Ok(Tall {
+                tree: Limit::Without,
+                height: 0,
+            })
+        }
+    }
+
+    /// An expression behind a keyword, where that stands next.
+    #[tactic(auto, unfolding(elan_grammar::specs::Units::key_part))]
+    pub fn key_part(
+        &self,
+        cursor: &mut Cursor<'_>,
+        key: Key,
+    ) -> Result<Tall<Option<Expr>>, ParseError>
+        requires nests { Nests self.now.depth (E.pre self.now.expression) (E.post self.now.expression) (U.pre self.now.units) (U.post self.now.units) }
+        requires room { 0 < self.now.depth }
+        ensures reads { GivesTall ((units.key_part (units.phrases self.now.depth) self.now.depth key).run cursor.old.rest.now) result cursor.new.rest.now }
+        ensures tall { IfOk result (λ a. a.height ≡ option_depth a.tree) }
+        ensures low { IfOk result (λ a. a.height < self.now.depth) }
+    {
+        if !cursor.sees_key(key) {
+            return Ok(Tall {
+                tree: None,
+                height: 0,
+            });
+        }
+        let a = self.behind(cursor, key)?;
+        Ok(Tall {
+            tree: Some(a.tree),
+            height: a.height,
+        })
+    }
+
+    #[tactic(auto, unfolding(elan_grammar::specs::Units::counter))]
+    fn counter(&self, cursor: &mut Cursor<'_>) -> Result<Tall<Option<Boxed<Counter>>>, ParseError>
+        requires nests { Nests self.now.depth (E.pre self.now.expression) (E.post self.now.expression) (U.pre self.now.units) (U.post self.now.units) }
+        requires room { 0 < self.now.depth }
+        ensures reads { GivesTall ((units.counter (units.phrases self.now.depth) self.now.depth).run cursor.old.rest.now) result cursor.new.rest.now }
+        ensures tall { IfOk result (λ a. a.height ≡ option_counter_depth a.tree) }
+        ensures low { IfOk result (λ a. a.height < self.now.depth) }
+    {
+        let name = cursor.ident(self.alloc)?;
+        let (name, from) = and(name, self.key_part(cursor, Key::From))?;
+        let ((name, from), limit) = and((name, from), self.a_limit(cursor))?;
+        let height = from.height.max(limit.height);
+        let counter = Counter {
+            name,
+            from: from.tree,
+            limit: limit.tree,
+        };
+        Ok(Tall {
+            tree: Some(Boxed::new(self.alloc, counter)?),
+            height,
+        })
+    }
+
+    #[tactic(auto, unfolding(elan_grammar::specs::Units::loop_end))]
+    fn loop_end(&self, cursor: &mut Cursor<'_>) -> Result<u32, ParseError>
+        ensures { Gives ((units.loop_end).run cursor.old.rest.now) result cursor.new.rest.now }
+    {
+        if cursor.sees_key(Key::End) {
+            cursor.keyword(Key::End)?;
+            cursor.rep()
+        } else {
+            cursor.keyword(Key::Per)
+        }
+    }
+
+    #[tactic(auto, unfolding(elan_grammar::specs::Units::turn_parts))]
+    fn turn_parts(&self, cursor: &mut Cursor<'_>) -> Result<Tall<LoopParts>, ParseError>
+        requires nests { Nests self.now.depth (E.pre self.now.expression) (E.post self.now.expression) (U.pre self.now.units) (U.post self.now.units) }
+        requires room { 0 < self.now.depth }
+        ensures reads { GivesTall ((units.turn_parts (units.phrases self.now.depth) self.now.depth).run cursor.old.rest.now) result cursor.new.rest.now }
+        ensures tall { IfOk result (λ a. a.height ≡ max (units_depth a.tree.units) (option_depth a.tree.until)) }
+        ensures low { IfOk result (λ a. a.height < self.now.depth) }
+    {
+        let start = cursor.rep()?;
+        let units = self.units(cursor)?;
+        let (units, until) = and(units, self.key_part(cursor, Key::Until))?;
+        let ((units, until), _) = and((units, until), self.loop_end(cursor))?;
+        let height = units.height.max(until.height);
+        let tree = LoopParts {
+            start,
+            units: units.tree,
+            until: until.tree,
+        };
+        Ok(Tall { tree, height })
+    }
+
+    #[tactic(auto, unfolding(elan_grammar::specs::Units::turns))]
+    fn turns(
+        &self,
+        cursor: &mut Cursor<'_>,
+        at: Option<u32>,
+        counter: Tall<Option<Boxed<Counter>>>,
+        condition: Tall<Option<Expr>>,
+    ) -> Result<Tall<Unit>, ParseError>
+        requires nests { Nests self.now.depth (E.pre self.now.expression) (E.post self.now.expression) (U.pre self.now.units) (U.post self.now.units) }
+        requires room { 0 < self.now.depth }
+        requires counter { counter.height ≡ option_counter_depth counter.tree }
+        requires counter_low { counter.height < self.now.depth }
+        requires condition { condition.height ≡ option_depth condition.tree }
+        requires condition_low { condition.height < self.now.depth }
+        ensures reads { GivesTall ((units.turns (units.phrases self.now.depth) self.now.depth at counter.tree condition.tree).run cursor.old.rest.now) result cursor.new.rest.now }
+        ensures tall { IfOk result (λ a. a.height ≡ unit_depth a.tree) }
+        ensures low { IfOk result (λ a. a.height ≤ self.now.depth) }
+    {
+        let (before, parts) = and((counter, condition), self.turn_parts(cursor))?;
+        let (counter, condition) = before;
+        let guards = condition.height.max(parts.height);
+        let height = counter.height.max(guards);
+        let LoopParts {
+            start,
+            units,
+            until,
+        } = parts.tree;
+        let tree = Unit::Loop {
+            at: at.unwrap_or(start),
+            counter: counter.tree,
+            condition: condition.tree,
+            units,
+            until,
+        };
+        Ok(Tall {
+            tree,
+            height: height + 1,
+        })
+    }
+
+    /// A loop that begins with FOR.
+    #[tactic(auto, unfolding(elan_grammar::specs::Units::counted))]
+    pub fn counted(&self, cursor: &mut Cursor<'_>) -> Result<Tall<Unit>, ParseError>
+        requires { Nests self.now.depth (E.pre self.now.expression) (E.post self.now.expression) (U.pre self.now.units) (U.post self.now.units) }
+        ensures reads { GivesTall ((units.counted (units.phrases self.now.depth) self.now.depth).run cursor.old.rest.now) result cursor.new.rest.now }
+        ensures tall { IfOk result (λ a. a.height ≡ unit_depth a.tree) }
+        ensures low { IfOk result (λ a. a.height ≤ self.now.depth) }
+    {
+        cursor.below(0, self.depth)?;
+        let at = cursor.keyword(Key::For)?;
+        let counter = self.counter(cursor)?;
+        let (counter, condition) = and(counter, self.key_part(cursor, Key::While))?;
+        self.turns(cursor, Some(at), counter, condition)
+    }
+
+    /// A loop that begins with WHILE.
+    #[tactic(auto, unfolding(elan_grammar::specs::Units::guarded))]
+    pub fn guarded(&self, cursor: &mut Cursor<'_>) -> Result<Tall<Unit>, ParseError>
+        requires { Nests self.now.depth (E.pre self.now.expression) (E.post self.now.expression) (U.pre self.now.units) (U.post self.now.units) }
+        ensures reads { GivesTall ((units.guarded (units.phrases self.now.depth) self.now.depth).run cursor.old.rest.now) result cursor.new.rest.now }
+        ensures tall { IfOk result (λ a. a.height ≡ unit_depth a.tree) }
+        ensures low { IfOk result (λ a. a.height ≤ self.now.depth) }
+    {
+        cursor.below(0, self.depth)?;
+        let at = cursor.keyword(Key::While)?;
+        let a = self.expression(cursor, 6)?;
+        let counter = Tall {
+            tree: None,
+            height: 0,
+        };
+        let condition = Tall {
+            tree: Some(a.tree),
+            height: a.height,
+        };
+        self.turns(cursor, Some(at), counter, condition)
+    }
+
+    /// A loop that begins with REP.
+    #[tactic(auto, unfolding(elan_grammar::specs::Units::repeated))]
+    pub fn repeated(&self, cursor: &mut Cursor<'_>) -> Result<Tall<Unit>, ParseError>
+        requires { Nests self.now.depth (E.pre self.now.expression) (E.post self.now.expression) (U.pre self.now.units) (U.post self.now.units) }
+        ensures reads { GivesTall ((units.repeated (units.phrases self.now.depth) self.now.depth).run cursor.old.rest.now) result cursor.new.rest.now }
+        ensures tall { IfOk result (λ a. a.height ≡ unit_depth a.tree) }
+        ensures low { IfOk result (λ a. a.height ≤ self.now.depth) }
+    {
+        cursor.below(0, self.depth)?;
+        let counter = Tall {
+            tree: None,
+            height: 0,
+        };
+        let condition = Tall {
+            tree: None,
+            height: 0,
+        };
+        self.turns(cursor, None, counter, condition)
+    }
+}

@@ -1,0 +1,100 @@
+//! Phrases in phrases.
+
+ghost use Rattle.std.specs.Prelude.{◌≡◌, ◌<◌, ◌≤◌, IfOk};
+ghost use Rattle.elan_grammar.specs.Rule.{GivesTall};
+ghost use Rattle.elan_grammar.specs.Units as spec;
+ghost use Rattle.elan_grammar.specs.Depth.{type_depth, expr_depth, unit_depth, units_depth};
+
+use crate::phrases::Phrases;
+use containers::List;
+use elan_cursor::Cursor;
+use elan_grammar::ParseError;
+use elan_grammar::tall::Tall;
+use elan_tree::{Expr, TypePhrase, Unit};
+use expression_parser::Grammar;
+use std::alloc::Global;
+
+/// An expression less than `depth` deep.
+#[cycle(phrases)]
+pub fn expression(
+    alloc: Global,
+    cursor: &mut Cursor<'_>,
+    depth: u16,
+    level: u8,
+) -> Result<Tall<Expr>, ParseError>
+    requires { level ≤ 6 }
+    ensures reads { GivesTall (((spec.phrases depth).level level).run cursor.old.rest.now) result cursor.new.rest.now }
+    ensures tall { IfOk result (λ a. a.height ≡ expr_depth a.tree) }
+    ensures low { IfOk result (λ a. a.height < depth) }
+{
+    if depth == 0 {
+        return Err(cursor.refuse());
+    }
+    let grammar = Grammar {
+        alloc,
+        depth: depth - 1,
+        expression,
+        units,
+    };
+    grammar.level(cursor, level)
+}
+
+/// Units less than `depth` deep.
+#[cycle(phrases)]
+pub fn units(
+    alloc: Global,
+    cursor: &mut Cursor<'_>,
+    depth: u16,
+) -> Result<Tall<List<Unit>>, ParseError>
+    ensures reads { GivesTall ((spec.phrases depth).units.run cursor.old.rest.now) result cursor.new.rest.now }
+    ensures tall { IfOk result (λ a. a.height ≡ units_depth a.tree) }
+    ensures low { IfOk result (λ a. a.height < depth) }
+{
+    if depth == 0 {
+        return Err(cursor.refuse());
+    }
+    let phrases = Phrases {
+        alloc,
+        depth: depth - 1,
+        expression,
+        units,
+    };
+    phrases.units(cursor)
+}
+
+/// A declaration at most `depth` deep, behind its type.
+pub fn declared(
+    alloc: Global,
+    cursor: &mut Cursor<'_>,
+    depth: u16,
+    of: Tall<TypePhrase>,
+) -> Result<Tall<Unit>, ParseError>
+    requires tall { of.height ≡ type_depth of.tree }
+    requires low { of.height ≤ depth }
+    ensures reads { GivesTall ((spec.declared (spec.phrases depth) depth of.tree).run cursor.old.rest.now) result cursor.new.rest.now }
+    ensures tall { IfOk result (λ a. a.height ≡ unit_depth a.tree) }
+    ensures low { IfOk result (λ a. a.height ≤ depth) }
+{
+    let phrases = Phrases {
+        alloc,
+        depth,
+        expression,
+        units,
+    };
+    phrases.declared(cursor, of)
+}
+
+/// A unit at most `depth` deep that begins with no type.
+pub fn plain(alloc: Global, cursor: &mut Cursor<'_>, depth: u16) -> Result<Tall<Unit>, ParseError>
+    ensures reads { GivesTall ((spec.plain (spec.phrases depth) depth).run cursor.old.rest.now) result cursor.new.rest.now }
+    ensures tall { IfOk result (λ a. a.height ≡ unit_depth a.tree) }
+    ensures low { IfOk result (λ a. a.height ≤ depth) }
+{
+    let phrases = Phrases {
+        alloc,
+        depth,
+        expression,
+        units,
+    };
+    phrases.plain(cursor)
+}

@@ -1,0 +1,350 @@
+//! Units: declarations and statements.
+
+ghost use Rattle.std.specs.Prelude.{◌≡◌, ◌<◌, ◌≤◌, IfOk, Some};
+ghost use Rattle.elan_grammar.specs.Rule.{GivesTall};
+ghost use Rattle.elan_grammar.specs.Units as units;
+ghost use Rattle.form_parser.specs.Nests.{Nests};
+ghost use Rattle.elan_grammar.specs.Depth.{type_depth, expr_depth, item_depth, items_depth, unit_depth, units_depth};
+
+use crate::phrases::Phrases;
+use containers::List;
+use elan_cursor::Cursor;
+use elan_cursor::kind::{begins, begins_typed, is_comma, is_init, is_key, is_rep};
+use elan_grammar::ParseError;
+use elan_grammar::tall::{Tall, and, single, with_next};
+use elan_tree::{Expr, Item, Key, Sign, TypePhrase, Unit};
+use expression_parser::expr_place;
+use std::alloc::Global;
+use type_parser::{let_items, type_place, types};
+
+impl<
+    E: Fn(Global, &mut Cursor<'_>, u16, u8) -> Result<Tall<Expr>, ParseError> + Copy,
+    U: Fn(Global, &mut Cursor<'_>, u16) -> Result<Tall<List<Unit>>, ParseError> + Copy,
+> Phrases<E, U> {
+    #[tactic(auto, unfolding(elan_grammar::specs::Units::a_let))]
+    fn a_let(&self, cursor: &mut Cursor<'_>) -> Result<Tall<Unit>, ParseError>
+        ensures reads { GivesTall ((units.a_let (units.phrases self.now.depth) self.now.depth).run cursor.old.rest.now) result cursor.new.rest.now }
+        ensures tall { IfOk result (λ a. a.height ≡ unit_depth a.tree) }
+        ensures low { IfOk result (λ a. a.height ≤ self.now.depth) }
+    {
+        let at = cursor.keyword(Key::Let)?;
+        let row = let_items(self.alloc, cursor, self.depth)?;
+        Ok(Tall {
+            tree: Unit::Let(at, row.tree),
+            height: row.height,
+        })
+    }
+
+    #[tactic(auto, unfolding(elan_grammar::specs::Units::init))]
+    fn init(&self, cursor: &mut Cursor<'_>) -> Result<Tall<Expr>, ParseError>
+        requires { Nests self.now.depth (E.pre self.now.expression) (E.post self.now.expression) (U.pre self.now.units) (U.post self.now.units) }
+        ensures reads { GivesTall ((units.init (units.phrases self.now.depth) self.now.depth).run cursor.old.rest.now) result cursor.new.rest.now }
+        ensures tall { IfOk result (λ a. a.height ≡ expr_depth a.tree) }
+        ensures low { IfOk result (λ a. a.height ≤ self.now.depth) }
+    {
+        cursor.init_mark()?;
+        self.expressions().level(cursor, 6)
+    }
+
+    #[tactic(auto, unfolding(elan_grammar::specs::Units::item))]
+    fn item(&self, cursor: &mut Cursor<'_>) -> Result<Tall<Item>, ParseError>
+        requires { Nests self.now.depth (E.pre self.now.expression) (E.post self.now.expression) (U.pre self.now.units) (U.post self.now.units) }
+        ensures reads { GivesTall ((units.item (units.phrases self.now.depth) self.now.depth).run cursor.old.rest.now) result cursor.new.rest.now }
+        ensures tall { IfOk result (λ a. a.height ≡ item_depth a.tree) }
+        ensures low { IfOk result (λ a. a.height ≤ self.now.depth) }
+    {
+        let name = cursor.ident(self.alloc)?;
+        if !is_init(cursor.ahead()) {
+            return Ok(Tall {
+                tree: Item { name, init: None },
+                height: 0,
+            });
+        }
+        let (name, init) = and(name, self.init(cursor))?;
+        let tree = Item {
+            name,
+            init: Some(init.tree),
+        };
+        Ok(Tall {
+            tree,
+            height: init.height,
+        })
+    }
+
+    #[tactic(auto, unfolding(elan_grammar::specs::Units::items), using(elan_grammar::proofs::Turns::turn_on, elan_grammar::proofs::Turns::turn_off, elan_grammar::proofs::Turns::turn_end, elan_grammar::proofs::Deepest::deepest_one, elan_grammar::proofs::Deepest::deepest_push))]
+    fn items(&self, cursor: &mut Cursor<'_>) -> Result<Tall<List<Item>>, ParseError>
+        requires { Nests self.now.depth (E.pre self.now.expression) (E.post self.now.expression) (U.pre self.now.units) (U.post self.now.units) }
+        ensures reads { GivesTall ((units.items (units.phrases self.now.depth) self.now.depth).run cursor.old.rest.now) result cursor.new.rest.now }
+        ensures tall { IfOk result (λ a. a.height ≡ items_depth a.tree) }
+        ensures low { IfOk result (λ a. a.height ≤ self.now.depth) }
+    {
+        let mut row = single(self.alloc, self.item(cursor))?;
+        for _turn in 0..cursor.rest.len() {
+            if !is_comma(cursor.ahead()) {
+                return Ok(row);
+            }
+            let (items, _) = and(row, cursor.mark(Sign::Comma))?;
+            row = with_next(items, self.item(cursor))?;
+        }
+        Ok(row)
+    }
+
+    #[tactic(auto, unfolding(elan_grammar::specs::Units::constant_item))]
+    fn constant_item(&self, cursor: &mut Cursor<'_>) -> Result<Tall<Item>, ParseError>
+        requires { Nests self.now.depth (E.pre self.now.expression) (E.post self.now.expression) (U.pre self.now.units) (U.post self.now.units) }
+        ensures reads { GivesTall ((units.constant_item (units.phrases self.now.depth) self.now.depth).run cursor.old.rest.now) result cursor.new.rest.now }
+        ensures tall { IfOk result (λ a. a.height ≡ item_depth a.tree) }
+        ensures low { IfOk result (λ a. a.height ≤ self.now.depth) }
+    {
+        let name = cursor.ident(self.alloc)?;
+        let (name, init) = and(name, self.init(cursor))?;
+        let tree = Item {
+            name,
+            init: Some(init.tree),
+        };
+        Ok(Tall {
+            tree,
+            height: init.height,
+        })
+    }
+
+    #[tactic(auto, unfolding(elan_grammar::specs::Units::constant_items), using(elan_grammar::proofs::Turns::turn_on, elan_grammar::proofs::Turns::turn_off, elan_grammar::proofs::Turns::turn_end, elan_grammar::proofs::Deepest::deepest_one, elan_grammar::proofs::Deepest::deepest_push))]
+    fn constant_items(&self, cursor: &mut Cursor<'_>) -> Result<Tall<List<Item>>, ParseError>
+        requires { Nests self.now.depth (E.pre self.now.expression) (E.post self.now.expression) (U.pre self.now.units) (U.post self.now.units) }
+        ensures reads { GivesTall ((units.constant_items (units.phrases self.now.depth) self.now.depth).run cursor.old.rest.now) result cursor.new.rest.now }
+        ensures tall { IfOk result (λ a. a.height ≡ items_depth a.tree) }
+        ensures low { IfOk result (λ a. a.height ≤ self.now.depth) }
+    {
+        let mut row = single(self.alloc, self.constant_item(cursor))?;
+        for _turn in 0..cursor.rest.len() {
+            if !is_comma(cursor.ahead()) {
+                return Ok(row);
+            }
+            let (items, _) = and(row, cursor.mark(Sign::Comma))?;
+            row = with_next(items, self.constant_item(cursor))?;
+        }
+        Ok(row)
+    }
+
+    #[tactic(auto, unfolding(elan_grammar::specs::Units::variables))]
+    fn variables(
+        &self,
+        cursor: &mut Cursor<'_>,
+        of: Tall<TypePhrase>,
+    ) -> Result<Tall<Unit>, ParseError>
+        requires nests { Nests self.now.depth (E.pre self.now.expression) (E.post self.now.expression) (U.pre self.now.units) (U.post self.now.units) }
+        requires tall { of.height ≡ type_depth of.tree }
+        requires low { of.height ≤ self.now.depth }
+        ensures reads { GivesTall ((units.variables (units.phrases self.now.depth) self.now.depth of.tree).run cursor.old.rest.now) result cursor.new.rest.now }
+        ensures tall { IfOk result (λ a. a.height ≡ unit_depth a.tree) }
+        ensures low { IfOk result (λ a. a.height ≤ self.now.depth) }
+    {
+        let at = type_place(&of.tree);
+        let (of, _) = and(of, cursor.keyword(Key::Var))?;
+        let (of, row) = and(of, self.items(cursor))?;
+        let height = of.height.max(row.height);
+        Ok(Tall {
+            tree: Unit::Variables(at, of.tree, row.tree),
+            height,
+        })
+    }
+
+    #[tactic(auto, unfolding(elan_grammar::specs::Units::constants))]
+    fn constants(
+        &self,
+        cursor: &mut Cursor<'_>,
+        of: Tall<TypePhrase>,
+    ) -> Result<Tall<Unit>, ParseError>
+        requires nests { Nests self.now.depth (E.pre self.now.expression) (E.post self.now.expression) (U.pre self.now.units) (U.post self.now.units) }
+        requires tall { of.height ≡ type_depth of.tree }
+        requires low { of.height ≤ self.now.depth }
+        ensures reads { GivesTall ((units.constants (units.phrases self.now.depth) self.now.depth of.tree).run cursor.old.rest.now) result cursor.new.rest.now }
+        ensures tall { IfOk result (λ a. a.height ≡ unit_depth a.tree) }
+        ensures low { IfOk result (λ a. a.height ≤ self.now.depth) }
+    {
+        let at = type_place(&of.tree);
+        let (of, _) = and(of, cursor.keyword(Key::Const))?;
+        let (of, row) = and(of, self.constant_items(cursor))?;
+        let height = of.height.max(row.height);
+        Ok(Tall {
+            tree: Unit::Constants(at, of.tree, row.tree),
+            height,
+        })
+    }
+
+    /// A declaration behind its type.
+    #[tactic(auto, unfolding(elan_grammar::specs::Units::declared))]
+    pub fn declared(
+        &self,
+        cursor: &mut Cursor<'_>,
+        of: Tall<TypePhrase>,
+    ) -> Result<Tall<Unit>, ParseError>
+        requires nests { Nests self.now.depth (E.pre self.now.expression) (E.post self.now.expression) (U.pre self.now.units) (U.post self.now.units) }
+        requires tall { of.height ≡ type_depth of.tree }
+        requires low { of.height ≤ self.now.depth }
+        ensures reads { GivesTall ((units.declared (units.phrases self.now.depth) self.now.depth of.tree).run cursor.old.rest.now) result cursor.new.rest.now }
+        ensures tall { IfOk result (λ a. a.height ≡ unit_depth a.tree) }
+        ensures low { IfOk result (λ a. a.height ≤ self.now.depth) }
+    {
+        if cursor.sees_key(Key::Var) {
+            self.variables(cursor, of)
+        } else {
+            self.constants(cursor, of)
+        }
+    }
+
+    #[tactic(auto, unfolding(elan_grammar::specs::Units::declaration))]
+    fn declaration(&self, cursor: &mut Cursor<'_>) -> Result<Tall<Unit>, ParseError>
+        requires { Nests self.now.depth (E.pre self.now.expression) (E.post self.now.expression) (U.pre self.now.units) (U.post self.now.units) }
+        ensures reads { GivesTall ((units.declaration (units.phrases self.now.depth) self.now.depth).run cursor.old.rest.now) result cursor.new.rest.now }
+        ensures tall { IfOk result (λ a. a.height ≡ unit_depth a.tree) }
+        ensures low { IfOk result (λ a. a.height ≤ self.now.depth) }
+    {
+        let of = types(self.alloc, cursor, self.depth)?;
+        self.declared(cursor, of)
+    }
+
+    #[tactic(auto, unfolding(elan_grammar::specs::Units::bound))]
+    fn bound(&self, cursor: &mut Cursor<'_>) -> Result<Tall<Unit>, ParseError>
+        requires { Nests self.now.depth (E.pre self.now.expression) (E.post self.now.expression) (U.pre self.now.units) (U.post self.now.units) }
+        ensures reads { GivesTall ((units.bound (units.phrases self.now.depth) self.now.depth).run cursor.old.rest.now) result cursor.new.rest.now }
+        ensures tall { IfOk result (λ a. a.height ≡ unit_depth a.tree) }
+        ensures low { IfOk result (λ a. a.height ≤ self.now.depth) }
+    {
+        let at = cursor.keyword(Key::Bound)?;
+        let of = types(self.alloc, cursor, self.depth)?;
+        let (of, _) = and(of, cursor.keyword(Key::Var))?;
+        let (of, row) = and(of, self.items(cursor))?;
+        let height = of.height.max(row.height);
+        Ok(Tall {
+            tree: Unit::Bound(at, of.tree, row.tree),
+            height,
+        })
+    }
+
+    #[tactic(auto, unfolding(elan_grammar::specs::Units::assigned))]
+    fn assigned(&self, cursor: &mut Cursor<'_>, left: Tall<Expr>) -> Result<Tall<Unit>, ParseError>
+        requires nests { Nests self.now.depth (E.pre self.now.expression) (E.post self.now.expression) (U.pre self.now.units) (U.post self.now.units) }
+        requires tall { left.height ≡ expr_depth left.tree }
+        ensures reads { GivesTall ((units.assigned (units.phrases self.now.depth) self.now.depth left.tree).run cursor.old.rest.now) result cursor.new.rest.now }
+        ensures tall { IfOk result (λ a. a.height ≡ unit_depth a.tree) }
+        ensures low { IfOk result (λ a. a.height ≤ self.now.depth) }
+    {
+        let height = left.height;
+        let (left, _) = and(left, cursor.below(height, self.depth))?;
+        let (left, _) = and(left, cursor.mark(Sign::Becomes))?;
+        let (left, right) = and(left, self.forms().expression(cursor, 6))?;
+        let height = left.height.max(right.height);
+        let tree = Unit::Becomes {
+            at: expr_place(&left.tree),
+            left: left.tree,
+            right: right.tree,
+        };
+        Ok(Tall {
+            tree,
+            height: height + 1,
+        })
+    }
+
+    #[tactic(auto, unfolding(elan_grammar::specs::Units::statement))]
+    fn statement(&self, cursor: &mut Cursor<'_>) -> Result<Tall<Unit>, ParseError>
+        requires { Nests self.now.depth (E.pre self.now.expression) (E.post self.now.expression) (U.pre self.now.units) (U.post self.now.units) }
+        ensures reads { GivesTall ((units.statement (units.phrases self.now.depth) self.now.depth).run cursor.old.rest.now) result cursor.new.rest.now }
+        ensures tall { IfOk result (λ a. a.height ≡ unit_depth a.tree) }
+        ensures low { IfOk result (λ a. a.height ≤ self.now.depth) }
+    {
+        let a = self.expressions().level(cursor, 6)?;
+        if cursor.sees_sign(Sign::Becomes) {
+            return self.assigned(cursor, a);
+        }
+        Ok(Tall {
+            tree: Unit::Value(a.tree),
+            height: a.height,
+        })
+    }
+
+    #[tactic(auto, unfolding(elan_grammar::specs::Units::leave))]
+    fn leave(&self, cursor: &mut Cursor<'_>) -> Result<Tall<Unit>, ParseError>
+        requires { Nests self.now.depth (E.pre self.now.expression) (E.post self.now.expression) (U.pre self.now.units) (U.post self.now.units) }
+        ensures reads { GivesTall ((units.leave (units.phrases self.now.depth) self.now.depth).run cursor.old.rest.now) result cursor.new.rest.now }
+        ensures tall { IfOk result (λ a. a.height ≡ unit_depth a.tree) }
+        ensures low { IfOk result (λ a. a.height ≤ self.now.depth) }
+    {
+        cursor.below(0, self.depth)?;
+        let at = cursor.keyword(Key::Leave)?;
+        let name = cursor.leaving(self.alloc)?;
+        let value = self.forms().key_part(cursor, Key::With)?;
+        let tree = Unit::Leave {
+            at,
+            name,
+            value: value.tree,
+        };
+        Ok(Tall {
+            tree,
+            height: value.height + 1,
+        })
+    }
+
+    /// A unit that begins with no type.
+    #[tactic(auto, unfolding(elan_grammar::specs::Units::plain))]
+    pub fn plain(&self, cursor: &mut Cursor<'_>) -> Result<Tall<Unit>, ParseError>
+        requires { Nests self.now.depth (E.pre self.now.expression) (E.post self.now.expression) (U.pre self.now.units) (U.post self.now.units) }
+        ensures reads { GivesTall ((units.plain (units.phrases self.now.depth) self.now.depth).run cursor.old.rest.now) result cursor.new.rest.now }
+        ensures tall { IfOk result (λ a. a.height ≡ unit_depth a.tree) }
+        ensures low { IfOk result (λ a. a.height ≤ self.now.depth) }
+    {
+        let kind = cursor.ahead();
+        if is_key(Key::Let, kind) {
+            self.a_let(cursor)
+        } else if is_key(Key::Bound, kind) {
+            self.bound(cursor)
+        } else if is_key(Key::Leave, kind) {
+            self.leave(cursor)
+        } else if is_key(Key::For, kind) {
+            self.forms().counted(cursor)
+        } else if is_key(Key::While, kind) {
+            self.forms().guarded(cursor)
+        } else if is_rep(kind) {
+            self.forms().repeated(cursor)
+        } else if begins(kind) {
+            self.statement(cursor)
+        } else {
+            Ok(Tall {
+                tree: Unit::Empty,
+                height: 0,
+            })
+        }
+    }
+
+    #[tactic(auto, unfolding(elan_grammar::specs::Units::unit))]
+    fn unit(&self, cursor: &mut Cursor<'_>) -> Result<Tall<Unit>, ParseError>
+        requires { Nests self.now.depth (E.pre self.now.expression) (E.post self.now.expression) (U.pre self.now.units) (U.post self.now.units) }
+        ensures reads { GivesTall ((units.unit (units.phrases self.now.depth) self.now.depth).run cursor.old.rest.now) result cursor.new.rest.now }
+        ensures tall { IfOk result (λ a. a.height ≡ unit_depth a.tree) }
+        ensures low { IfOk result (λ a. a.height ≤ self.now.depth) }
+    {
+        if begins_typed(cursor.ahead()) {
+            self.declaration(cursor)
+        } else {
+            self.plain(cursor)
+        }
+    }
+
+    #[tactic(auto, unfolding(elan_grammar::specs::Units::units), using(elan_grammar::proofs::Turns::turn_on, elan_grammar::proofs::Turns::turn_off, elan_grammar::proofs::Turns::turn_end, elan_grammar::proofs::Deepest::deepest_one, elan_grammar::proofs::Deepest::deepest_push))]
+    pub fn units(&self, cursor: &mut Cursor<'_>) -> Result<Tall<List<Unit>>, ParseError>
+        requires { Nests self.now.depth (E.pre self.now.expression) (E.post self.now.expression) (U.pre self.now.units) (U.post self.now.units) }
+        ensures reads { GivesTall ((units.units (units.phrases self.now.depth) self.now.depth).run cursor.old.rest.now) result cursor.new.rest.now }
+        ensures tall { IfOk result (λ a. a.height ≡ units_depth a.tree) }
+        ensures low { IfOk result (λ a. a.height ≤ self.now.depth) }
+    {
+        let mut row = single(self.alloc, self.unit(cursor))?;
+        for _turn in 0..cursor.rest.len() {
+            if !cursor.sees_sign(Sign::Semicolon) {
+                return Ok(row);
+            }
+            let (items, _) = and(row, cursor.mark(Sign::Semicolon))?;
+            row = with_next(items, self.unit(cursor))?;
+        }
+        Ok(row)
+    }
+}

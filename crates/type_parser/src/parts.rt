@@ -1,0 +1,141 @@
+//! What holds types and no expression: parameters, constants, LET.
+
+ghost use Rattle.std.specs.Prelude.{◌≡◌, ◌≤◌, IfOk};
+ghost use Rattle.elan_grammar.specs.Rule.{Gives, GivesTall};
+ghost use Rattle.elan_grammar.specs.Types as spec;
+ghost use Rattle.elan_grammar.specs.Depth.{formal_depth, formals_depth, let_item_depth, let_items_depth};
+
+use crate::type_phrases::{names, types};
+use containers::List;
+use elan_cursor::Cursor;
+use elan_cursor::kind::{is_comma, is_ident};
+use elan_grammar::ParseError;
+use elan_grammar::tall::{Tall, and, single, with_next};
+use elan_tree::{Constant, Formal, LetItem, Sign};
+use std::alloc::Global;
+
+#[tactic(auto, unfolding(elan_grammar::specs::Types::formal))]
+fn formal(alloc: Global, cursor: &mut Cursor<'_>, depth: u16) -> Result<Tall<Formal>, ParseError>
+    ensures reads { GivesTall ((spec.formal depth).run cursor.old.rest.now) result cursor.new.rest.now }
+    ensures tall { IfOk result (λ a. a.height ≡ formal_depth a.tree) }
+    ensures low { IfOk result (λ a. a.height ≤ depth) }
+{
+    let of = types(alloc, cursor, depth)?;
+    let (of, access) = and(of, cursor.access())?;
+    let (of, names) = and(of, names(alloc, cursor))?;
+    let tree = Formal {
+        of: of.tree,
+        access,
+        names,
+    };
+    Ok(Tall {
+        tree,
+        height: of.height,
+    })
+}
+
+/// Parameters, their types at most `depth` deep.
+#[tactic(auto, unfolding(elan_grammar::specs::Types::formals), using(elan_grammar::proofs::Turns::turn_on, elan_grammar::proofs::Turns::turn_off, elan_grammar::proofs::Turns::turn_end, elan_grammar::proofs::Deepest::deepest_one, elan_grammar::proofs::Deepest::deepest_push))]
+pub fn formals(
+    alloc: Global,
+    cursor: &mut Cursor<'_>,
+    depth: u16,
+) -> Result<Tall<List<Formal>>, ParseError>
+    ensures reads { GivesTall ((spec.formals depth).run cursor.old.rest.now) result cursor.new.rest.now }
+    ensures tall { IfOk result (λ a. a.height ≡ formals_depth a.tree) }
+    ensures low { IfOk result (λ a. a.height ≤ depth) }
+{
+    let mut row = single(alloc, formal(alloc, cursor, depth))?;
+    for _turn in 0..cursor.rest.len() {
+        if !is_comma(cursor.ahead()) {
+            return Ok(row);
+        }
+        let (items, _) = and(row, cursor.mark(Sign::Comma))?;
+        row = with_next(items, formal(alloc, cursor, depth))?;
+    }
+    Ok(row)
+}
+
+#[tactic(auto, unfolding(elan_grammar::specs::Types::negative))]
+fn negative(cursor: &mut Cursor<'_>) -> Result<Constant, ParseError>
+    ensures { Gives ((spec.negative).run cursor.old.rest.now) result cursor.new.rest.now }
+{
+    let at = cursor.mark(Sign::Minus)?;
+    let number = cursor.negated()?;
+    Ok(Constant::Number(at, number))
+}
+
+#[tactic(auto, unfolding(elan_grammar::specs::Types::constant))]
+fn constant(alloc: Global, cursor: &mut Cursor<'_>) -> Result<Constant, ParseError>
+    ensures { Gives ((spec.constant).run cursor.old.rest.now) result cursor.new.rest.now }
+{
+    if cursor.sees_sign(Sign::Minus) {
+        negative(cursor)
+    } else {
+        cursor.constant(alloc)
+    }
+}
+
+#[tactic(auto, unfolding(elan_grammar::specs::Types::let_constant))]
+fn let_constant(alloc: Global, cursor: &mut Cursor<'_>) -> Result<LetItem, ParseError>
+    ensures { Gives ((spec.let_constant).run cursor.old.rest.now) result cursor.new.rest.now }
+{
+    let name = cursor.ident(alloc)?;
+    let (name, _) = and(name, cursor.mark(Sign::Equal))?;
+    let (name, value) = and(name, constant(alloc, cursor))?;
+    Ok(LetItem::Constant(name, value))
+}
+
+#[tactic(auto, unfolding(elan_grammar::specs::Types::abbreviation))]
+fn abbreviation(
+    alloc: Global,
+    cursor: &mut Cursor<'_>,
+    depth: u16,
+) -> Result<Tall<LetItem>, ParseError>
+    ensures reads { GivesTall ((spec.abbreviation depth).run cursor.old.rest.now) result cursor.new.rest.now }
+    ensures tall { IfOk result (λ a. a.height ≡ let_item_depth a.tree) }
+    ensures low { IfOk result (λ a. a.height ≤ depth) }
+{
+    let name = cursor.bold(alloc)?;
+    let (name, _) = and(name, cursor.mark(Sign::Equal))?;
+    let (name, of) = and(name, types(alloc, cursor, depth))?;
+    Ok(Tall {
+        tree: LetItem::Abbreviation(name, of.tree),
+        height: of.height,
+    })
+}
+
+#[tactic(auto, unfolding(elan_grammar::specs::Types::let_item, elan_grammar::specs::Types::let_constant))]
+fn let_item(alloc: Global, cursor: &mut Cursor<'_>, depth: u16) -> Result<Tall<LetItem>, ParseError>
+    ensures reads { GivesTall ((spec.let_item depth).run cursor.old.rest.now) result cursor.new.rest.now }
+    ensures tall { IfOk result (λ a. a.height ≡ let_item_depth a.tree) }
+    ensures low { IfOk result (λ a. a.height ≤ depth) }
+{
+    if is_ident(cursor.ahead()) {
+        let tree = let_constant(alloc, cursor)?;
+        return Ok(Tall { tree, height: 0 });
+    }
+    abbreviation(alloc, cursor, depth)
+}
+
+/// The names that a LET defines, their types at most `depth` deep.
+#[tactic(auto, unfolding(elan_grammar::specs::Types::let_items), using(elan_grammar::proofs::Turns::turn_on, elan_grammar::proofs::Turns::turn_off, elan_grammar::proofs::Turns::turn_end, elan_grammar::proofs::Deepest::deepest_one, elan_grammar::proofs::Deepest::deepest_push))]
+pub fn let_items(
+    alloc: Global,
+    cursor: &mut Cursor<'_>,
+    depth: u16,
+) -> Result<Tall<List<LetItem>>, ParseError>
+    ensures reads { GivesTall ((spec.let_items depth).run cursor.old.rest.now) result cursor.new.rest.now }
+    ensures tall { IfOk result (λ a. a.height ≡ let_items_depth a.tree) }
+    ensures low { IfOk result (λ a. a.height ≤ depth) }
+{
+    let mut row = single(alloc, let_item(alloc, cursor, depth))?;
+    for _turn in 0..cursor.rest.len() {
+        if !is_comma(cursor.ahead()) {
+            return Ok(row);
+        }
+        let (items, _) = and(row, cursor.mark(Sign::Comma))?;
+        row = with_next(items, let_item(alloc, cursor, depth))?;
+    }
+    Ok(row)
+}

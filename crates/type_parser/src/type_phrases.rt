@@ -1,0 +1,183 @@
+//! Types: each stands in others.
+
+ghost use Rattle.std.specs.Prelude.{◌≡◌, ◌<◌, ◌≤◌, ◌+◌, ◌-◌, ◌==◌, IfOk};
+ghost use Rattle.elan_grammar.specs.Rule.{Gives, GivesTall};
+ghost use Rattle.elan_grammar.specs.Types as spec;
+ghost use Rattle.elan_grammar.specs.Depth.{type_depth, field_depth, fields_depth, type_place};
+ghost use Rattle.type_parser.specs.Nests.{TypeNests};
+
+use containers::List;
+use elan_cursor::Cursor;
+use elan_cursor::kind::{goes_on, is_bold, is_comma, is_key};
+use elan_grammar::ParseError;
+use elan_grammar::tall::{Tall, and, boxed, one, one_more, single, with_next};
+use elan_tree::{Field, Key, Name, Sign, TypePhrase};
+use std::alloc::Global;
+
+/// Identifiers with commas between them.
+#[tactic(auto, unfolding(elan_grammar::specs::Types::names), using(elan_grammar::proofs::Turns::turn_on, elan_grammar::proofs::Turns::turn_off, elan_grammar::proofs::Turns::turn_end))]
+pub fn names(alloc: Global, cursor: &mut Cursor<'_>) -> Result<List<Name>, ParseError>
+    ensures { Gives (spec.names.run cursor.old.rest.now) result cursor.new.rest.now }
+{
+    let mut names = one(alloc, cursor.ident(alloc))?;
+    for _turn in 0..cursor.rest.len() {
+        if !goes_on(cursor.ahead()) {
+            return Ok(names);
+        }
+        let (row, _) = and(names, cursor.mark(Sign::Comma))?;
+        names = one_more(row, cursor.ident(alloc))?;
+    }
+    Ok(names)
+}
+
+/// The types at most `depth` deep.
+pub fn types(
+    alloc: Global,
+    cursor: &mut Cursor<'_>,
+    depth: u16,
+) -> Result<Tall<TypePhrase>, ParseError>
+    ensures reads { GivesTall ((spec.types depth).run cursor.old.rest.now) result cursor.new.rest.now }
+    ensures tall { IfOk result (λ a. a.height ≡ type_depth a.tree) }
+    ensures low { IfOk result (λ a. a.height ≤ depth) }
+{
+    if depth == 0 {
+        return Err(cursor.refuse());
+    }
+    let types = TypeRules {
+        alloc,
+        depth: depth - 1,
+        inner: types,
+    };
+    types.a_type(cursor)
+}
+
+/// The place where a type begins.
+pub fn type_place(of: &TypePhrase) -> u32
+    ensures { result ≡ type_place of.now }
+{
+    match of {
+        TypePhrase::Int(at)
+        | TypePhrase::Bool(at)
+        | TypePhrase::Text(at)
+        | TypePhrase::Task(at)
+        | TypePhrase::Dataspace(at)
+        | TypePhrase::Row { at, .. }
+        | TypePhrase::Struct { at, .. } => *at,
+        TypePhrase::Named(name) => name.at,
+    }
+}
+
+/// The rules of types whose parts are at most `depth` deep.
+#[derive(Drop)]
+pub struct TypeRules<F> {
+    alloc: Global,
+    depth: u16,
+    inner: F,
+}
+
+impl<F: Fn(Global, &mut Cursor<'_>, u16) -> Result<Tall<TypePhrase>, ParseError>> TypeRules<F> {
+    fn inner(&self, cursor: &mut Cursor<'_>) -> Result<Tall<TypePhrase>, ParseError>
+        requires { TypeNests self.now.depth (F.pre self.now.inner) (F.post self.now.inner) }
+        ensures reads { GivesTall ((spec.types self.now.depth).run cursor.old.rest.now) result cursor.new.rest.now }
+        ensures tall { IfOk result (λ a. a.height ≡ type_depth a.tree) }
+        ensures low { IfOk result (λ a. a.height ≤ self.now.depth) }
+    {
+        (self.inner)(self.alloc, cursor, self.depth)
+    }
+
+    #[tactic(auto, unfolding(elan_grammar::specs::Types::row))]
+    fn row(&self, cursor: &mut Cursor<'_>) -> Result<Tall<TypePhrase>, ParseError>
+        requires { TypeNests self.now.depth (F.pre self.now.inner) (F.post self.now.inner) }
+        ensures reads { GivesTall ((spec.row (spec.types self.now.depth)).run cursor.old.rest.now) result cursor.new.rest.now }
+        ensures tall { IfOk result (λ a. a.height ≡ type_depth a.tree) }
+        ensures low { IfOk result (λ a. a.height ≤ self.now.depth + 1) }
+    {
+        let _depth = self.depth;
+        let at = cursor.keyword(Key::Row)?;
+        let size = cursor.size(self.alloc)?;
+        let (size, part) = and(size, boxed(self.alloc, self.inner(cursor)))?;
+        Ok(Tall {
+            tree: TypePhrase::Row {
+                at,
+                size,
+                of: part.tree,
+            },
+            height: part.height + 1,
+        })
+    }
+
+    #[tactic(auto, unfolding(elan_grammar::specs::Types::field))]
+    fn field(&self, cursor: &mut Cursor<'_>) -> Result<Tall<Field>, ParseError>
+        requires { TypeNests self.now.depth (F.pre self.now.inner) (F.post self.now.inner) }
+        ensures reads { GivesTall ((spec.field (spec.types self.now.depth)).run cursor.old.rest.now) result cursor.new.rest.now }
+        ensures tall { IfOk result (λ a. a.height ≡ field_depth a.tree) }
+        ensures low { IfOk result (λ a. a.height ≤ self.now.depth) }
+    {
+        let of = self.inner(cursor)?;
+        let (of, names) = and(of, names(self.alloc, cursor))?;
+        Ok(Tall {
+            tree: Field { of: of.tree, names },
+            height: of.height,
+        })
+    }
+
+    #[tactic(auto, unfolding(elan_grammar::specs::Types::fields), using(elan_grammar::proofs::Turns::turn_on, elan_grammar::proofs::Turns::turn_off, elan_grammar::proofs::Turns::turn_end, elan_grammar::proofs::Deepest::deepest_one, elan_grammar::proofs::Deepest::deepest_push))]
+    fn fields(&self, cursor: &mut Cursor<'_>) -> Result<Tall<List<Field>>, ParseError>
+        requires { TypeNests self.now.depth (F.pre self.now.inner) (F.post self.now.inner) }
+        ensures reads { GivesTall ((spec.fields (spec.types self.now.depth)).run cursor.old.rest.now) result cursor.new.rest.now }
+        ensures tall { IfOk result (λ a. a.height ≡ fields_depth a.tree) }
+        ensures low { IfOk result (λ a. a.height ≤ self.now.depth) }
+    {
+        let mut row = single(self.alloc, self.field(cursor))?;
+        for _turn in 0..cursor.rest.len() {
+            if !is_comma(cursor.ahead()) {
+                return Ok(row);
+            }
+            let (fields, _) = and(row, cursor.mark(Sign::Comma))?;
+            row = with_next(fields, self.field(cursor))?;
+        }
+        Ok(row)
+    }
+
+    #[tactic(auto, unfolding(elan_grammar::specs::Types::structure))]
+    fn structure(&self, cursor: &mut Cursor<'_>) -> Result<Tall<TypePhrase>, ParseError>
+        requires { TypeNests self.now.depth (F.pre self.now.inner) (F.post self.now.inner) }
+        ensures reads { GivesTall ((spec.structure (spec.types self.now.depth)).run cursor.old.rest.now) result cursor.new.rest.now }
+        ensures tall { IfOk result (λ a. a.height ≡ type_depth a.tree) }
+        ensures low { IfOk result (λ a. a.height ≤ self.now.depth + 1) }
+    {
+        let _depth = self.depth;
+        let at = cursor.keyword(Key::Struct)?;
+        cursor.mark(Sign::LeftRound)?;
+        let row = self.fields(cursor)?;
+        let (row, _) = and(row, cursor.mark(Sign::RightRound))?;
+        Ok(Tall {
+            tree: TypePhrase::Struct {
+                at,
+                fields: row.tree,
+            },
+            height: row.height + 1,
+        })
+    }
+
+    #[tactic(auto, unfolding(elan_grammar::specs::Types::a_type, elan_grammar::specs::Types::named_type))]
+    fn a_type(&self, cursor: &mut Cursor<'_>) -> Result<Tall<TypePhrase>, ParseError>
+        requires { TypeNests self.now.depth (F.pre self.now.inner) (F.post self.now.inner) }
+        ensures reads { GivesTall ((spec.a_type (spec.types self.now.depth)).run cursor.old.rest.now) result cursor.new.rest.now }
+        ensures tall { IfOk result (λ a. a.height ≡ type_depth a.tree) }
+        ensures low { IfOk result (λ a. a.height ≤ self.now.depth + 1) }
+    {
+        let kind = cursor.ahead();
+        if is_bold(kind) {
+            let tree = TypePhrase::Named(cursor.bold(self.alloc)?);
+            Ok(Tall { tree, height: 1 })
+        } else if is_key(Key::Row, kind) {
+            self.row(cursor)
+        } else if is_key(Key::Struct, kind) {
+            self.structure(cursor)
+        } else {
+            let tree = cursor.simple_type()?;
+            Ok(Tall { tree, height: 1 })
+        }
+    }
+}
