@@ -1,13 +1,15 @@
 -- A table page that is built of its entries.
-use Rattle.std.proofs.Common.{◌≡◌, inl, inr, ℕ, suc, ◌+◌, ◌<◌, ◌≤◌, List, [], ◌∷◌, length, get_or, set, Option, Some, None, refl, sym, ◌∙◌, ap, arith, get_or-set_same, get_or-set_other}
+use Rattle.std.proofs.Common.{◌≡◌, ◌≢◌, inl, inr, ℕ, suc, ◌+◌, ◌<◌, ◌≤◌, List, [], ◌∷◌, length, get_or, set, Option, Some, None, refl, sym, ◌∙◌, ap, arith, get_or-set_same, get_or-set_other}
 use Rattle.std.proofs.lemmas.Bool.{cases_eq, cases_lt}
 use Rattle.std.proofs.lemmas.List.{get_or_past}
 use Rattle.page_pool.specs.Pool.{Pages, count_of, IsPool, Adds, Writes}
 use Rattle.page_pool.proofs.Sound.{low, one_same}
 use Rattle.page_table.specs.Entries.{Names, book_of}
-use Rattle.page_table.specs.Sharing.{hit, occ, names}
-use Rattle.page_table.specs.Frames.{Moves}
+use Rattle.page_table.specs.Sharing.{hit, occ, names, nothing}
+use Rattle.page_table.specs.Frames.{Frames, Moves}
 use Rattle.page_table.proofs.Copies.{added, takes_heirs}
+use Rattle.page_table.proofs.Counting.{names_none}
+use Rattle.page_table.proofs.Framing.{frames_of}
 use Rattle.page_table.proofs.Moving.{moves_then, moves_like}
 
 pub adds_writes : (p0 p1 p2 : Pages) (q : ℕ) (was bytes : List ℕ) → Adds p0 p1 q was → Writes p1 p2 q bytes → Adds p0 p2 q bytes
@@ -65,3 +67,10 @@ builds p0 p1 q below es bytes low few sound adds same =
     (takes_heirs p1 q (suc below) es (omega (arith, low)) (added_single p0 p1 q bytes adds)
     (λ top k up. same k ∙ get_or_past es k None (omega (arith, few (omega (arith, top)), up)))
     (λ p. occ_alike p ((book_of p1).entries q) es same)))
+
+pub added_other : (p0 p1 : Pages) (q p : ℕ) (bytes : List ℕ) → Adds p0 p1 q bytes → 1 ≤ count_of p0 p → p ≢ q
+added_other p0 p1 q p bytes adds live e = let here : count_of p0 p ≡ count_of p0 q = ap (count_of p0) e in absurd (omega (arith, here, live, adds.free))
+
+-- a root page that was built is that of one space more
+pub frames_built : (old new : Pages) (r : ℕ) → Moves old new nothing (names 2 (Some r ∷ [])) → Frames old new [] (Some r ∷ [])
+frames_built old new r m = frames_of old new [] (Some r ∷ []) (moves_like old new _ _ _ _ (λ h p. sym (names_none 2 [] (λ x. refl) h p)) (λ h p. refl) m)

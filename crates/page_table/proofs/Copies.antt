@@ -15,7 +15,7 @@ use Rattle.page_table.proofs.Showing.{shown_none, shown_same}
 use Rattle.page_table.proofs.Spelled.{zeros_none}
 
 -- bytes in the place of all
-pasted_whole : (was bytes : List ℕ) → length was ≡ 512 → length bytes ≡ 512 → pasted was 0 bytes ≡ bytes
+pub pasted_whole : (was bytes : List ℕ) → length was ≡ 512 → length bytes ≡ 512 → pasted was 0 bytes ≡ bytes
 pasted_whole was bytes long also =
     ap (λ (l : List ℕ). bytes ++ l) (drop_all (0 + length bytes) was (omega (arith, long, also))) ∙ append-nil bytes
 

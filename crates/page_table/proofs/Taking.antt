@@ -3,10 +3,10 @@ use Rattle.std.proofs.Common.{◌≡◌, ℕ, ◌+◌, ◌*◌, ◌<◌, ◌≤�
 use Rattle.page_pool.specs.Pool.{Pages, count_of}
 use Rattle.page_table.specs.Entries.{Names, book_of, child}
 use Rattle.page_table.specs.Sharing.{occ, names}
-use Rattle.page_table.specs.Frames.{shown, Moves, Holds, Frames, Stands}
+use Rattle.page_table.specs.Frames.{shown, content_at, Moves, Holds, Frames, Stands}
 use Rattle.page_table.specs.Changes.{ChangesOnly}
 use Rattle.page_table.specs.Own.{Owns, KeepsWay}
-use Rattle.page_table.proofs.Framing.{frames_of, frames_then, holds_of, stands_after}
+use Rattle.page_table.proofs.Framing.{frames_of, frames_then, holds_of, stands_after, content_same}
 use Rattle.page_table.proofs.Inside.{in_moves, in_child, in_single, in_shown, in_keeps}
 use Rattle.page_table.proofs.Owned.{entry_held}
 
@@ -23,6 +23,14 @@ changes_then p0 p1 p2 these those all more first second = record {
       let f = first.others p (omega (arith, more p, out)) in
       record { bytes = s.bytes ∙ f.bytes; home = s.home ∙ f.home };
 }
+
+-- the root page r is one's own, and the table page t of its entry i was worked on
+pub record Taken (old new : Pages) (was : Option ℕ) (r i t : ℕ) : Type 0 where
+  pub frames : Frames old new (was ∷ []) (Some r ∷ [])
+  pub table : child (book_of new) (Some r) i ≡ Some t
+  pub single : count_of new r ≡ 1
+  pub shows : (n : ℕ) → content_at new (Some r) n ≡ content_at old was n
+  pub keeps : (j : ℕ) → Owns old 2 was j → KeepsWay old new 2 was (Some r) j
 
 module _ (p0 p1 : Pages) (was : Option ℕ) (r : ℕ) (stands : Stands p0 (was ∷ []) 0) (first : Moves p0 p1 (names 2 (was ∷ [])) (names 2 (Some r ∷ []))) where
   pub root_frames : Frames p0 p1 (was ∷ []) (Some r ∷ [])
@@ -43,20 +51,17 @@ module _ (p0 p1 : Pages) (was : Option ℕ) (r : ℕ) (stands : Stands p0 (was �
       table_held = entry_held p2 r i 1 (Some t) (omega arith) (holds_of p2 (Some r ∷ []) 0 table_stands) own is small
 
       module _ (p3 : Pages) (third : Moves p2 p3 (names 1 (Some t ∷ [])) (names 1 (Some t ∷ []))) where
-        lifted : Moves p2 p3 (names 2 (Some r ∷ [])) (names 2 (Some r ∷ []))
-        lifted = in_moves p2 p3 r i 1 t (omega arith) (holds_of p2 (Some r ∷ []) 0 table_stands) own is third
+        held : Holds p2 (names 2 (Some r ∷ []))
+        held = holds_of p2 (Some r ∷ []) 0 table_stands
 
-        pub page_frames : Frames p0 p3 (was ∷ []) (Some r ∷ [])
-        page_frames = frames_then p0 p2 p3 (was ∷ []) (Some r ∷ []) (Some r ∷ []) (omega arith) table_frames (frames_of p2 p3 (Some r ∷ []) (Some r ∷ []) lifted)
-
-        pub path_child : child (book_of p3) (Some r) i ≡ Some t
-        path_child = in_child p2 p3 r i 1 t (omega arith) (holds_of p2 (Some r ∷ []) 0 table_stands) own is third
-
-        pub path_single : count_of p3 r ≡ 1
-        path_single = in_single p2 p3 r i 1 t (omega arith) (holds_of p2 (Some r ∷ []) 0 table_stands) own is third
-
-        pub path_shown : ((k : ℕ) → shown p3 1 (Some t) k ≡ shown p2 1 (Some t) k) → (k : ℕ) → shown p3 2 (Some r) k ≡ shown p2 2 (Some r) k
-        path_shown = in_shown p2 p3 r i 1 t (omega arith) (holds_of p2 (Some r ∷ []) 0 table_stands) own is third
-
-        pub path_keeps : ((k : ℕ) → Owns p2 1 (Some t) k → KeepsWay p2 p3 1 (Some t) (Some t) k) → (k : ℕ) → Owns p2 2 (Some r) k → KeepsWay p2 p3 2 (Some r) (Some r) k
-        path_keeps = in_keeps p2 p3 r i 1 t (omega arith) (holds_of p2 (Some r ∷ []) 0 table_stands) own is third
+        -- what the calls on the root page and on its entry did, one after the other
+        module _ (shows : (k : ℕ) → shown p2 2 (Some r) k ≡ shown p0 2 was k) (below : (k : ℕ) → shown p3 1 (Some t) k ≡ shown p2 1 (Some t) k)
+            (keeps : (j : ℕ) → Owns p0 2 was j → KeepsWay p0 p2 2 was (Some r) j) (lower : (j : ℕ) → Owns p2 1 (Some t) j → KeepsWay p2 p3 1 (Some t) (Some t) j) where
+          pub taken : Taken p0 p3 was r i t
+          taken = record {
+            frames = frames_then p0 p2 p3 (was ∷ []) (Some r ∷ []) (Some r ∷ []) (omega arith) table_frames (frames_of p2 p3 (Some r ∷ []) (Some r ∷ []) (in_moves p2 p3 r i 1 t (omega arith) held own is third));
+            table = in_child p2 p3 r i 1 t (omega arith) held own is third;
+            single = in_single p2 p3 r i 1 t (omega arith) held own is third;
+            shows = content_same p0 p3 was (Some r) (λ k. in_shown p2 p3 r i 1 t (omega arith) held own is third below k ∙ shows k);
+            keeps = λ j. keeps_then p0 p2 p3 2 was (Some r) (Some r) j (keeps j) (in_keeps p2 p3 r i 1 t (omega arith) held own is third lower j);
+          }

@@ -1,4 +1,4 @@
-use Rattle.std.proofs.Common.{◌≡◌, ◌∙◌, [], ◌∷◌, None, refl, ap, sym, subst, arith}
+use Rattle.std.proofs.Common.{◌∙◌, [], ◌∷◌, None, refl, ap, sym, subst, arith}
 use Rattle.page_table.specs.Frames.{Frames, Stands}
 use Rattle.page_table.proofs.Framing.{frames_then, frames_nil}
 use Rattle.data_space.specs.Data.{SpaceData}

@@ -1,0 +1,24 @@
+//! A space that is built of its pages, as from a disk.
+ghost use Rattle.std.specs.Prelude.{◌≡◌, ◌+◌, ◌<◌, length, [], ◌∷◌, IfOk};
+ghost use Rattle.eu_base.specs.Spaces.{IsRead};
+ghost use Rattle.page_pool.specs.Pool.{used_of};
+ghost use Rattle.page_table.specs.Frames.{content_at, Frames};
+
+use data_space::DataSpace;
+use eu_base::NoMemory;
+use page_pool::Pool;
+use page_table::table_page;
+
+/// A space with these bytes as its first page.
+pub fn open_page(pool: &mut Pool, bytes: &[u8]) -> Result<DataSpace, NoMemory>
+    requires room { used_of pool.old + 2 < 1048576 }
+    requires page { length bytes.now ≡ 512 }
+    ensures frames { IfOk result (λ space. Frames pool.old pool.new [] (space.root ∷ [])) }
+    ensures shows { IfOk result (λ space. IsRead (content_at pool.new space.root) 0 bytes.now) }
+{
+    let p = pool.fresh()?;
+    pool.write_own(p, 0, bytes);
+    let t = table_page(pool, &[Some(p)])?;
+    let r = table_page(pool, &[Some(t)])?;
+    Ok(DataSpace::of(0, None, Some(r)))
+}
