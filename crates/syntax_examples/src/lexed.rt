@@ -1,8 +1,8 @@
 //! The tokens of texts.
 
+use containers::{Bytes, List};
 use elan_lexer::{LexError, tokens};
 use elan_tree::{Token, Word};
-use containers::{Bytes, List};
 use std::alloc::{AllocError, Global};
 use std::test::Fail;
 

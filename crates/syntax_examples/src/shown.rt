@@ -1,7 +1,7 @@
 //! Units as text: each application in braces, each bracket in angles.
 
-use elan_tree::{Branch, Expr, Name, Operator, Unit};
 use containers::{Bytes, List};
+use elan_tree::{Branch, Expr, Name, Operator, Unit};
 use std::alloc::AllocError;
 
 fn word(out: &mut String, text: &Bytes) -> Result<(), AllocError> {
