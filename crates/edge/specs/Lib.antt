@@ -1,4 +1,8 @@
+pub mod Disk
+pub mod DisksInMemory
 pub mod Faults
-pub mod Piece
+pub mod Log
 pub mod Memory
+pub mod Moments
+pub mod Piece
 pub mod Told

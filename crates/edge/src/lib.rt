@@ -3,11 +3,16 @@
 
 mod calls;
 mod disk;
+mod fuse_disk;
+mod log;
+mod mem_disk;
 mod pieces;
 mod sink;
 mod source;
 
-pub use disk::{Disk, MemDisk};
+pub use disk::Disk;
+pub use fuse_disk::FuseDisk;
+pub use mem_disk::MemDisk;
 pub use pieces::put_all;
 pub use sink::{MemSink, Sink};
 pub use source::{MemSource, Source};

@@ -28,7 +28,7 @@ fn outcome(
     let bytes = Bytes::from(alloc, input)?;
     let mut source = MemSource::new(bytes, piece.max(1), source_fails);
     let mut sink = MemSink::new(alloc, 1, sink_fails);
-    let mut disk = MemDisk::new();
+    let mut disk = MemDisk::new(alloc, List::new(alloc));
     let status = eumel(alloc, list.as_slice(), &mut disk, &mut source, &mut sink);
     Ok((status, sink))
 }

@@ -1,6 +1,7 @@
 //! A memory that is lent with its pool.
 ghost use Rattle.std.specs.Prelude.{◌≡◌};
-ghost use Rattle.page_table.specs.Sharing.{IsAmong};
+ghost use Rattle.page_table.specs.Frames.{Stands};
+ghost use Rattle.space_memory.specs.Memories.{roots};
 
 use crate::space_memory::SpaceMemory;
 use eu_base::{Addr, MemFault, Memory};
@@ -11,13 +12,13 @@ use page_pool::Pool;
 pub struct Lent<'a> {
     pub memory: &'a mut SpaceMemory,
     pub pool: &'a mut Pool,
-    ghost agree: { IsAmong pool.now memory.now.run.root 0 },
+    ghost agree: { Stands pool.now (roots memory.now) 0 },
 }
 
 impl SpaceMemory {
     /// Its cells, over its pool.
     pub fn over<'a>(&'a mut self, pool: &'a mut Pool) -> Lent<'a>
-        requires agree { IsAmong pool.old self.old.run.root 0 }
+        requires agree { Stands pool.old (roots self.old) 0 }
         ensures memory_name { result.memory.ghost_name ≡ self.entry.ghost_name }
         ensures pool_name { result.pool.ghost_name ≡ pool.entry.ghost_name }
         ensures memory_same { result.memory.now ≡ self.old }
@@ -28,7 +29,7 @@ impl SpaceMemory {
 }
 
 impl<'a> Memory for Lent<'a> {
-    ghost use Rattle.data_space.specs.Spaces.{content_at};
+    ghost use Rattle.page_table.specs.Frames.{content_at};
     ghost use Rattle.cell_layout.specs.Layout.{cell_in};
     ghost use Rattle.space_memory.specs.Lent.{LentFollows, lent_reflexive, lent_transitive};
 

@@ -1,29 +1,45 @@
 //! What a task has in its memory.
-ghost use Rattle.std.specs.Prelude.{◌≡◌, ◌≢◌, ◌<◌, ◌≤◌, ℕ, List, [], ◌∷◌, Option, None, pos, Err, IfOk, OnOk};
+ghost use Rattle.std.specs.Prelude.{◌≡◌, ◌≢◌, ◌<◌, ◌≤◌, [], Err, IfOk, OnOk};
 ghost use Rattle.eu_base.specs.declared.cells.MemFault.TheVariants.{Failed};
 ghost use Rattle.eu_base.specs.Spaces.{IsKept};
 ghost use Rattle.page_pool.specs.Pool.{used_of};
-ghost use Rattle.page_table.specs.Sharing.{Agree, IsAmong};
-ghost use Rattle.data_space.specs.Spaces.{content_at, OthersKeep, LosesSpace};
+ghost use Rattle.page_table.specs.Changes.{FreesOnly};
+ghost use Rattle.page_table.specs.Frames.{content_at, Frames, Stands};
+ghost use Rattle.page_table.specs.Sharing.{Agree};
 ghost use Rattle.cell_layout.specs.Layout.{cell_in, HoldsIn};
+ghost use Rattle.space_memory.specs.Memories.{no_space, roots};
 
 use cell_layout::{get, put};
 use data_space::DataSpace;
 use eu_base::{CELLS, MemFault};
 use page_pool::Pool;
+use std::marker::Model;
 use std::mem;
 
-/// The spaces of a task.
+/// The spaces of a task. All calls that take a pool have the pool of these spaces.
 #[derive(Drop)]
 pub struct SpaceMemory {
     // The variables of the command that runs.
     run: DataSpace,
 }
 
+impl Model for SpaceMemory {
+    ghost use Rattle.space_memory.specs.Memories.{MemoryData};
+
+    ghost Value = { MemoryData };
+
+    ghost use Rattle.eu_base.specs.contracts.shape.Shape as shapes;
+    ghost use Rattle.std.specs.Coded.{codes};
+
+    ghost coded = { Prim.hlevel (codes, shapes.the_row.coded) };
+
+    ghost view = { λ memory. record { run = memory.run } };
+}
+
 impl SpaceMemory {
     /// A memory whose spaces are empty.
     pub fn new() -> SpaceMemory
-        ensures { result.run ≡ record { root = None; kind = pos 0; shape = None } }
+        ensures { result ≡ record { run = no_space } }
     {
         SpaceMemory {
             run: DataSpace::nil(),
@@ -39,9 +55,10 @@ impl SpaceMemory {
 
     /// Empties the space of the command that runs, and frees the pages that no other space has.
     pub fn clear_run(&mut self, pool: &mut Pool)
-        requires agree { IsAmong pool.old self.old.run.root 0 }
-        ensures cleared { self.new.run ≡ record { root = None; kind = pos 0; shape = None } }
-        ensures lost { (roots : List (Option ℕ)) → Agree pool.old (self.old.run.root ∷ roots) → LosesSpace pool.old pool.new roots }
+        requires agree { Stands pool.old (roots self.old) 0 }
+        ensures cleared { self.new ≡ record self.old { run = no_space } }
+        ensures frames { Frames pool.old pool.new (roots self.old) (roots self.new) }
+        ensures frees { FreesOnly pool.old pool.new }
         ensures used { used_of pool.new ≤ used_of pool.old }
     {
         let run = mem::replace(&mut self.run, DataSpace::nil());
@@ -50,9 +67,11 @@ impl SpaceMemory {
 
     /// Lets all spaces go.
     pub fn end(self, pool: &mut Pool)
-        requires agree { IsAmong pool.old self.run.root 0 }
-        ensures lost { (roots : List (Option ℕ)) → Agree pool.old (self.run.root ∷ roots) → LosesSpace pool.old pool.new roots }
-        ensures last { Agree pool.old (self.run.root ∷ []) → used_of pool.new ≡ 0 }
+        requires agree { Stands pool.old (roots self) 0 }
+        ensures frames { Frames pool.old pool.new (roots self) [] }
+        ensures frees { FreesOnly pool.old pool.new }
+        ensures used { used_of pool.new ≤ used_of pool.old }
+        ensures last { Agree pool.old (roots self) → used_of pool.new ≡ 0 }
     {
         let SpaceMemory { run } = self;
         run.forget(pool);
@@ -61,11 +80,10 @@ impl SpaceMemory {
     // The number in a cell of the command that runs.
     pub(crate) fn run_cell(&mut self, pool: &mut Pool, cell: u16) -> Result<u64, MemFault>
         requires cell { cell < CELLS }
-        requires agree { IsAmong pool.old self.old.run.root 0 }
+        requires agree { Stands pool.old (roots self.old) 0 }
         ensures number { IfOk result (λ number. number ≡ cell_in (content_at pool.old self.old.run.root) cell) }
         ensures same { OnOk result (IsKept (content_at pool.old self.old.run.root) (content_at pool.new self.new.run.root)) }
-        ensures kept { (roots : List (Option ℕ)) → Agree pool.old (self.old.run.root ∷ roots) →
-            OthersKeep pool.old pool.new self.new.run.root roots }
+        ensures frames { Frames pool.old pool.new (roots self.old) (roots self.new) }
         ensures cause { result ≢ Err Failed }
     {
         let mut run = self.run.over(pool);
@@ -80,10 +98,9 @@ impl SpaceMemory {
         number: u64,
     ) -> Result<(), MemFault>
         requires cell { cell < CELLS }
-        requires agree { IsAmong pool.old self.old.run.root 0 }
+        requires agree { Stands pool.old (roots self.old) 0 }
         ensures holds { OnOk result (HoldsIn (content_at pool.old self.old.run.root) (content_at pool.new self.new.run.root) cell number) }
-        ensures kept { (roots : List (Option ℕ)) → Agree pool.old (self.old.run.root ∷ roots) →
-            OthersKeep pool.old pool.new self.new.run.root roots }
+        ensures frames { Frames pool.old pool.new (roots self.old) (roots self.new) }
         ensures cause { result ≢ Err Failed }
     {
         let mut run = self.run.over(pool);

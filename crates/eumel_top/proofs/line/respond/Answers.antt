@@ -1,10 +1,10 @@
+use Rattle.space_memory.proofs.Fresh.{new_stands}
 use Rattle.eumel_top.specs.Meaning.{runs}
-use Rattle.eumel_top.proofs.Paging.{none_among}
 use Rattle.eumel_top.proofs.Refusing.{refused_line}
 use Rattle.eumel_top.proofs.line.respond.Goals as goal
 
 pub over-lent-requires : goal.over-lent-requires
-over-lent-requires c = rw (c.new-pool.ensures, c.new-memory.ensures) (record { agree = none_among })
+over-lent-requires c = rw (c.new-pool.ensures, c.new-memory.ensures) (record { agree = new_stands })
 
 pub returns-in-Ok-shown : goal.returns-in-Ok-shown
 returns-in-Ok-shown c = runs c.in-Ok.ensures.meaning c.in-Ok-shown.ensures.shows

@@ -1,0 +1,2 @@
+mod BlocksOf
+mod OneMore

@@ -1,0 +1,194 @@
+//! A disk in memory.
+ghost use Rattle.std.specs.Prelude.{◌≡◌, [], false, Some, OnOk, OnErr, IsTrue, length};
+ghost use Rattle.edge.specs.Disk.{after_read, after_write, after_no_write, after_sync, after_failed_sync, IsImage};
+ghost use Rattle.edge.specs.Log.{now_of, past_of, LeftSince, counts_now_of, only_now_of, zeros, mark_last, synced_part};
+ghost use Rattle.edge.specs.DisksInMemory.{told_state, Passes, MemReads, MemWrites, MemSyncs};
+ghost use Rattle.edge.specs.Faults.{HasCause};
+
+use crate::calls::is_listed;
+use crate::log::{Written, find, lose, note, settle};
+use crate::{Disk, Failed};
+use eu_base::List;
+use std::alloc::Global;
+use std::marker::Model;
+
+/// A disk in memory, at first all zeros. A call fails where its number, from 1, is listed, and a write for want
+/// of memory too; the disk is then as it was.
+#[derive(Drop)]
+pub struct MemDisk {
+    log: Vec<Written>,
+    fails: List<u32>,
+    calls: u64,
+    reads: u64,
+    writes: u64,
+    syncs: u64,
+    faults: u64,
+    wanted: bool,
+}
+
+/// How often a disk was read, written and synced, and how often it failed.
+#[derive(Clone, Copy)]
+pub(crate) struct Counts {
+    pub(crate) reads: u64,
+    pub(crate) writes: u64,
+    pub(crate) syncs: u64,
+    pub(crate) faults: u64,
+}
+
+impl Model for MemDisk {
+    ghost use Rattle.edge.specs.DisksInMemory.{MemDiskState};
+
+    ghost Value = { MemDiskState };
+
+    ghost view = { λ m. record {
+      log = m.log.items;
+      fails = m.fails;
+      calls = m.calls;
+      reads = m.reads;
+      writes = m.writes;
+      syncs = m.syncs;
+      faults = m.faults;
+      wanted = m.wanted;
+    } };
+}
+
+impl MemDisk {
+    pub fn new(alloc: Global, fails: List<u32>) -> MemDisk
+        ensures made { result ≡ record {
+          log = [];
+          fails = fails;
+          calls = 0;
+          reads = 0;
+          writes = 0;
+          syncs = 0;
+          faults = 0;
+          wanted = false;
+        } }
+        ensures blank { (told_state result).content ≡ (λ _. zeros) }
+    {
+        MemDisk {
+            log: Vec::new(alloc),
+            fails,
+            calls: 0,
+            reads: 0,
+            writes: 0,
+            syncs: 0,
+            faults: 0,
+            wanted: false,
+        }
+    }
+
+    /// The power goes and comes back. The blocks written since the last successful sync then hold what was
+    /// written, where `keep`, and else what they held at that sync. This begins a new life of the disk: its
+    /// moments before count no more.
+    pub fn crash(&mut self, keep: bool)
+        ensures image { IsImage (told_state self.old) (told_state self.new).content }
+        ensures kept { IsTrue keep → (told_state self.new).content ≡ (told_state self.old).content }
+        ensures lost { keep ≡ false → (told_state self.new).content ≡ (told_state self.old).synced }
+        ensures settled { (told_state self.new).written ≡ (λ _. false) }
+        ensures synced { (told_state self.new).synced ≡ (told_state self.new).content }
+        ensures log { IsTrue keep → self.new.log ≡ mark_last self.old.log }
+        ensures cut { keep ≡ false → self.new.log ≡ synced_part self.old.log }
+        ensures rest { self.new ≡ record self.old { log = self.new.log } }
+    {
+        if keep {
+            settle(&mut self.log);
+        } else {
+            lose(&mut self.log);
+        }
+    }
+
+    /// Whether a write failed for want of memory.
+    pub fn wanted(&self) -> bool
+        ensures { result ≡ self.now.wanted }
+    {
+        self.wanted
+    }
+
+    pub(crate) fn counts(&self) -> Counts
+        ensures { result ≡ record {
+          reads = self.now.reads;
+          writes = self.now.writes;
+          syncs = self.now.syncs;
+          faults = self.now.faults;
+        } }
+    {
+        Counts {
+            reads: self.reads,
+            writes: self.writes,
+            syncs: self.syncs,
+            faults: self.faults,
+        }
+    }
+}
+
+impl Disk for MemDisk {
+    ghost state = { λ m. Some (told_state m) };
+
+    ghost faults = { λ m. m.faults };
+
+    ghost moment = { λ m. length (past_of m.log) };
+
+    ghost left_since = { λ m. LeftSince (past_of m.log) (now_of m.log) };
+
+    ghost counts_now = { λ m t image le now. counts_now_of (past_of m.log) (now_of m.log) t image now };
+
+    ghost only_now = { λ m image left. only_now_of (past_of m.log) (now_of m.log) image left };
+
+    fn read(&mut self, at: u32, into: &mut [u8; 512]) -> Result<(), Failed>
+        ensures bytes { OnOk result (into.new ≡ (told_state self.old).content at) }
+        ensures state { Some (told_state self.new) ≡ Some (after_read (told_state self.old)) }
+        ensures time { Passes self.old self.new }
+        ensures cause { HasCause self.old.faults self.new.faults result }
+        ensures does { MemReads result self.old self.new }
+    {
+        self.calls = self.calls.saturating_add(1);
+        self.reads = self.reads.saturating_add(1);
+        if is_listed(self.fails.as_slice(), self.calls) {
+            self.faults = self.faults.saturating_add(1);
+            return Err(Failed);
+        }
+        find(&self.log, at, into);
+        Ok(())
+    }
+
+    fn write(&mut self, at: u32, from: &[u8; 512]) -> Result<(), Failed>
+        ensures ok { OnOk result (Some (told_state self.new) ≡ Some (after_write at from.now (told_state self.old))) }
+        ensures err { OnErr result (Some (told_state self.new) ≡ Some (after_no_write (told_state self.old))) }
+        ensures time { Passes self.old self.new }
+        ensures cause { HasCause self.old.faults self.new.faults result }
+        ensures does { MemWrites at from.now result self.old self.new }
+    {
+        self.calls = self.calls.saturating_add(1);
+        self.writes = self.writes.saturating_add(1);
+        if is_listed(self.fails.as_slice(), self.calls) {
+            self.faults = self.faults.saturating_add(1);
+            return Err(Failed);
+        }
+        match note(&mut self.log, at, from) {
+            Ok(()) => Ok(()),
+            Err(_) => {
+                self.wanted = true;
+                self.faults = self.faults.saturating_add(1);
+                Err(Failed)
+            }
+        }
+    }
+
+    fn sync(&mut self) -> Result<(), Failed>
+        ensures ok { OnOk result (Some (told_state self.new) ≡ Some (after_sync (told_state self.old))) }
+        ensures err { OnErr result (Some (told_state self.new) ≡ Some (after_failed_sync (told_state self.old))) }
+        ensures time { Passes self.old self.new }
+        ensures cause { HasCause self.old.faults self.new.faults result }
+        ensures does { MemSyncs result self.old self.new }
+    {
+        self.calls = self.calls.saturating_add(1);
+        self.syncs = self.syncs.saturating_add(1);
+        if is_listed(self.fails.as_slice(), self.calls) {
+            self.faults = self.faults.saturating_add(1);
+            return Err(Failed);
+        }
+        settle(&mut self.log);
+        Ok(())
+    }
+}

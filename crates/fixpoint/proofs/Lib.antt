@@ -1,0 +1,6 @@
+mod Formatted
+pub mod Heads
+mod OneBlock
+mod Pages
+mod Phases
+mod Totals

@@ -1,0 +1,3 @@
+pub mod Fixpoints
+pub mod Found
+pub mod Slots

@@ -1,0 +1,226 @@
+-- Calls on spaces, whatever the rest of the spaces is.
+use Rattle.std.proofs.Common.{◌≡◌, ◌≢◌, inl, inr, ℕ, ◌+◌, ◌-◌, ◌/◌, ◌%◌, ◌≤◌, List, [], ◌∷◌, ◌++◌, length, get_or, Option, Some, None, refl, sym, ◌∙◌, ap, subst, arith}
+use Rattle.std.proofs.Math.Logic.{∥∥₁_map}
+use Rattle.std.proofs.lemmas.List.{length-append, append_assoc}
+use Rattle.std.proofs.lemmas.Bool.{cases_eq}
+use Rattle.std.proofs.lemmas.Option.{none-some, same_Some}
+use Rattle.std.specs.Option.{ForSome}
+use Rattle.page_pool.specs.Pool.{Pages, count_of, used_of, IsPool, Shares}
+use Rattle.page_pool.proofs.Sound.{one_same, one_other}
+use Rattle.page_table.specs.Entries.{Names, book_of, child}
+use Rattle.page_table.specs.Sharing.{hit, occ, Hands, names, both, nothing, Agrees, AgreeIn, Agree}
+use Rattle.page_table.specs.Frames.{shown, content_at, Frames, Stands, Moves, Holds}
+use Rattle.page_table.specs.Own.{named_page, HasFewNames}
+use Rattle.page_table.proofs.Bound.{few_pages, few_names}
+use Rattle.page_table.proofs.Counting.{occ-append, names_sum, names_same, names_none}
+use Rattle.page_table.proofs.Holding.{at_least, equal}
+use Rattle.page_table.proofs.Moving.{in_like, homes_same, homes_then, moves_like, moves_none, moves_again}
+use Rattle.page_table.proofs.Showing.{shown_none, held_stood, child_named, child_stood}
+
+pub agree_in : (pages : Pages) (roots : Names) → Agree pages roots → AgreeIn pages (names 2 roots)
+agree_in pages roots a = record { sound = a.sound; shares = a.shares }
+
+-- what was built of names in hand agrees where the spaces' roots alone are left in hand
+pub agree_out : (pages : Pages) (roots : Names) → length roots ≤ 2000 → AgreeIn pages (names 2 roots) → Agree pages roots
+agree_out pages roots few a = record { few = few; sound = a.sound; shares = a.shares }
+
+append_names : (a b : Names) (h p : ℕ) → names 2 (a ++ b) h p ≡ names 2 a h p + names 2 b h p
+append_names a b h p = names_sum 2 a b (a ++ b) (λ x. occ-append x a b) h p
+
+-- a content that is shown is the same where its pages are
+pub content_same : (old new : Pages) (mine later : Option ℕ) → ((k : ℕ) → shown new 2 later k ≡ shown old 2 mine k) → (n : ℕ) → content_at new later n ≡ content_at old mine n
+content_same old new mine later same n = ap (λ (bytes : List ℕ). get_or bytes (n % 512) 0) (same (n / 512))
+
+each_shown : (old new : Pages) (rest : Names) → ((r k : ℕ) → 1 ≤ occ r rest → shown new 2 (Some r) k ≡ shown old 2 (Some r) k) → (root : Option ℕ) → ForSome root (λ r. 1 ≤ occ r rest)
+    → (k : ℕ) → shown new 2 root k ≡ shown old 2 root k
+each_shown old new rest each None among k = shown_none old new 2 k
+each_shown old new rest each (Some r) among k = each r k (among r refl)
+
+pub frames_of : (old new : Pages) (before after : Names) → Moves old new (names 2 before) (names 2 after) → Frames old new before after
+frames_of old new before after m = record {
+  homes = m.homes;
+  frame = λ rest a room.
+      let f = m.frame (names 2 rest) (in_like old (names 2 (before ++ rest)) (both (names 2 before) (names 2 rest)) (λ h p. sym (append_names before rest h p)) (agree_in old (before ++ rest) a)) in
+      record {
+        agrees = agree_out new (after ++ rest) room (in_like new (both (names 2 after) (names 2 rest)) (names 2 (after ++ rest)) (λ h p. append_names after rest h p) f.agrees);
+        same = λ root among. content_same old new root root (each_shown old new rest (λ r k here. f.same 2 r k (omega arith) (omega (arith, here))) root among);
+      };
+}
+
+pub holds_of : (pages : Pages) (mine : Names) (more : ℕ) → Stands pages mine more → Holds pages (names 2 mine)
+holds_of pages mine more stands = record {
+  some = ∥∥₁_map stands.some (λ t. (names 2 t.0, in_like pages (names 2 (mine ++ t.0)) (both (names 2 mine) (names 2 t.0)) (λ h p. sym (append_names mine t.0 h p)) (agree_in pages (mine ++ t.0) t.1)));
+}
+
+-- there is room for the pages of the spaces, and for their names
+pub stands_room : (pages : Pages) (mine : Names) (more : ℕ) → Stands pages mine more → used_of pages ≤ 1034000
+stands_room pages mine more stands = at_least _ _ stands.some (λ t. omega (arith, few_pages pages (mine ++ t.0) t.1, t.1.few))
+
+pub stands_few : (pages : Pages) (mine : Names) (more : ℕ) → Stands pages mine more → HasFewNames pages
+stands_few pages mine more stands p = at_least _ _ stands.some (λ t. few_names pages (mine ++ t.0) t.1 p)
+
+-- the same names, in any order
+pub record Same (a b : Names) : Type 0 where
+  pub long : length a ≡ length b
+  pub occs : (p : ℕ) → occ p a ≡ occ p b
+
+pub reorder : (pages : Pages) (a b : Names) → Same a b → Agree pages a → Agree pages b
+reorder pages a b s g = agree_out pages b (omega (arith, s.long, g.few)) (in_like pages (names 2 a) (names 2 b) (names_same 2 a b (λ p. sym (s.occs p))) (agree_in pages a g))
+
+pub same_app : (a b c d : Names) → Same a b → Same c d → Same (a ++ c) (b ++ d)
+same_app a b c d s t = record {
+  long = omega (arith, length-append a c, length-append b d, s.long, t.long);
+  occs = λ p. omega (arith, occ-append p a c, occ-append p b d, s.occs p, t.occs p);
+}
+
+pub same_self : (a : Names) → Same a a
+same_self a = record { long = refl; occs = λ p. refl }
+
+-- a call in another order, beside others, after another call, and none
+pub frames_same : (old new : Pages) (a b c d : Names) → Same a b → Same c d → Frames old new a c → Frames old new b d
+frames_same old new a b c d s t f = record {
+  homes = f.homes;
+  frame = λ rest g room.
+      let back : Same (b ++ rest) (a ++ rest) = let u = same_app a b rest rest s (same_self rest) in record { long = sym u.long; occs = λ p. sym (u.occs p) } in
+      let k = f.frame rest (reorder old (b ++ rest) (a ++ rest) back g) (omega (arith, room, length-append c rest, length-append d rest, t.long)) in
+      record { agrees = reorder new (c ++ rest) (d ++ rest) (same_app c d rest rest t (same_self rest)) k.agrees; same = k.same };
+}
+
+pub frames_more : (old new : Pages) (a b more : Names) → Frames old new a b → Frames old new (a ++ more) (b ++ more)
+frames_more old new a b more f = record {
+  homes = f.homes;
+  frame = λ rest g room.
+      let k = f.frame (more ++ rest) (subst (Agree old) (append_assoc a more rest) g) (subst (λ (l : Names). length l ≤ 2000) (append_assoc b more rest) room) in
+      record {
+        agrees = subst (Agree new) (sym (append_assoc b more rest)) k.agrees;
+        same = λ root among. k.same root (λ x is. omega (arith, occ-append x more rest, among x is));
+      };
+}
+
+-- in between there are at most as many spaces as before, or as afterwards
+pub frames_then : (p0 p1 p2 : Pages) (a b c : Names) → length b ≤ length a + (length c - length a) → Frames p0 p1 a b → Frames p1 p2 b c → Frames p0 p2 a c
+frames_then p0 p1 p2 a b c few f g = record {
+  homes = homes_then p0 p1 p2 f.homes g.homes;
+  frame = λ rest agree room.
+      let k = f.frame rest agree (omega (arith, few, agree.few, room, length-append a rest, length-append b rest, length-append c rest)) in
+      let l = g.frame rest k.agrees room in
+      record { agrees = l.agrees; same = λ root among n. l.same root among n ∙ k.same root among n };
+}
+
+pub frames_none : (pages : Pages) (a : Names) → Frames pages pages a a
+frames_none pages a = record { homes = homes_same pages; frame = λ rest agree room. record { agrees = agree; same = λ root among n. refl } }
+
+pub stands_same : (pages : Pages) (a b : Names) (more : ℕ) → Same a b → Stands pages a more → Stands pages b more
+stands_same pages a b more s stands = record {
+  some = ∥∥₁_map stands.some (λ t.
+      let u = same_app a b t.0 t.0 s (same_self t.0) in
+      (t.0, reorder pages (a ++ t.0) (b ++ t.0) u t.1, omega (arith, t.2, u.long)));
+}
+
+-- after a call there is the room that its spaces leave
+pub stands_after : (old new : Pages) (a b : Names) (more less : ℕ) → length b + less ≤ length a + more → Frames old new a b → Stands old a more → Stands new b less
+stands_after old new a b more less few f stands = record {
+  some = ∥∥₁_map stands.some (λ t.
+      let room : length (b ++ t.0) + less ≤ 2000 = omega (arith, few, t.2, length-append a t.0, length-append b t.0) in
+      (t.0, (f.frame t.0 t.1 (omega (arith, room))).agrees, room));
+}
+
+pub stands_first : (pages : Pages) (a others : Names) (more : ℕ) → Stands pages (a ++ others) more → Stands pages a more
+stands_first pages a others more stands = record {
+  some = ∥∥₁_map stands.some (λ t.
+      let e = append_assoc a others t.0 in
+      (others ++ t.0, subst (Agree pages) e t.1, subst (λ (l : Names). length l + more ≤ 2000) e t.2));
+}
+
+-- a space beside those of the call keeps its bytes
+pub beside : (old new : Pages) (a b others : Names) (more : ℕ) → length b ≤ length a + more → Frames old new a b → Stands old (a ++ others) more → (root : Option ℕ) → ForSome root (λ r. 1 ≤ occ r others)
+    → (n : ℕ) → content_at new root n ≡ content_at old root n
+beside old new a b others more few f stands root among n = equal _ _ stands.some (λ t.
+    let e = append_assoc a others t.0 in
+    let g = subst (Agree old) e t.1 in
+    let room : length (a ++ (others ++ t.0)) + more ≤ 2000 = subst (λ (l : Names). length l + more ≤ 2000) e t.2 in
+    (f.frame (others ++ t.0) g (omega (arith, few, room, length-append a (others ++ t.0), length-append b (others ++ t.0)))).same root (λ x is. omega (arith, occ-append x others t.0, among x is)) n)
+
+-- a name among names
+pub named_first : (o : Option ℕ) (more : Names) → ForSome o (λ x. 1 ≤ occ x (o ∷ more))
+named_first o more x is = let h : hit x o ≡ 1 = ap (hit x) is ∙ one_same x x refl in omega (arith, h)
+
+pub named_later : (o p : Option ℕ) (more : Names) → ForSome p (λ x. 1 ≤ occ x more) → ForSome p (λ x. 1 ≤ occ x (o ∷ more))
+named_later o p more among x is = omega (arith, among x is)
+
+-- whatever holds of the content of a space holds of it after a call that keeps its bytes
+pub carries : (old new : Pages) (root : Option ℕ) (P : (ℕ → ℕ) → Type 0) → ((n : ℕ) → content_at new root n ≡ content_at old root n) → P (content_at old root) → P (content_at new root)
+carries old new root P kept held = subst P (sym same) held
+  where
+    same : content_at new root ≡ content_at old root
+    same = λ i n. kept n i
+
+-- where no space is left, no page is
+pub none_used : (pages : Pages) → Agree pages [] → used_of pages ≡ 0
+none_used pages a = omega (arith, few_pages pages [] a)
+
+-- one space more with the same root
+pub frames_again : (old new : Pages) (r : ℕ) → IsPool new → Shares old new r → Frames old new (Some r ∷ []) (Some r ∷ Some r ∷ [])
+frames_again old new r sound shares = frames_of old new (Some r ∷ []) (Some r ∷ Some r ∷ [])
+    (moves_like old new _ _ _ _ (λ h p. refl) (λ h p. append_names (Some r ∷ []) (Some r ∷ []) h p) (moves_again old new r 2 sound shares (omega arith)))
+
+pub frames_nil : (pages : Pages) (a b : Names) → ((p : ℕ) → occ p a ≡ 0) → ((p : ℕ) → occ p b ≡ 0) → Frames pages pages a b
+frames_nil pages a b none also = frames_of pages pages a b (moves_like pages pages nothing _ nothing _ (λ h p. sym (names_none 2 a none h p)) (λ h p. names_none 2 b also h p) (moves_none pages nothing))
+
+-- a page that a space has lives
+pub page_live : (pages : Pages) (root : Option ℕ) (more k p : ℕ) → Stands pages (root ∷ []) more → named_page pages root k ≡ Some p → 1 ≤ count_of pages p
+page_live pages None more k p stands is = absurd (none-some p is)
+page_live pages (Some r) more k p stands is = at_least _ _ (holds_of pages (Some r ∷ []) more stands).some (λ t. by t.0 t.1.shares (child (book_of pages) (Some r) (k / 128)) refl)
+  where
+    by : (rest : Hands) (a : Agrees (book_of pages) (both (names 2 (Some r ∷ [])) rest)) (o : Option ℕ) → child (book_of pages) (Some r) (k / 128) ≡ o → 1 ≤ count_of pages p
+    by rest a None at = absurd (none-some p (ap (λ (o : Option ℕ). child (book_of pages) o (k % 128)) (sym at) ∙ is))
+    by rest a (Some t) at =
+        let root = held_stood pages _ a 2 r (omega arith) (omega (arith, one_same r r refl)) in
+        let table = child_stood pages _ a 1 r (k / 128) t root at in
+        omega (arith, a.counts p, child_named pages _ a 0 t (k % 128) p table (ap (λ (o : Option ℕ). child (book_of pages) o (k % 128)) (sym at) ∙ is))
+
+-- a pool without pages agrees where nothing is named
+pub nil_agrees : AgreeIn [] nothing
+nil_agrees = record {
+  sound = record { each = λ p page is. absurd (none-some page is) };
+  shares = record {
+    height = λ p. 0;
+    nodes = [];
+    counts = λ p. omega arith;
+    held = λ h p low among. absurd (omega (arith, among));
+    entry = λ q p among also. absurd (omega (arith, among));
+    once = λ p. omega arith;
+    live = λ p among. absurd (omega (arith, among));
+    high = λ p among. absurd (omega (arith, among));
+    low = λ p among. absurd (omega (arith, among));
+    node = λ p alive up. absurd (omega (arith, up));
+    four = λ q k among top up. absurd (omega (arith, among));
+  };
+}
+
+pub nil_agree : (roots : Names) → ((p : ℕ) → occ p roots ≡ 0) → length roots ≤ 2000 → Agree [] roots
+nil_agree roots none few = agree_out [] roots few (in_like [] nothing (names 2 roots) (names_none 2 roots none) nil_agrees)
+
+-- the same for all spaces that there are
+pub stands_of : (pages : Pages) (mine rest : Names) (more : ℕ) → length (mine ++ rest) + more ≤ 2000 → ∥ Agree pages (mine ++ rest) ∥₁ → Stands pages mine more
+stands_of pages mine rest more room some = record { some = ∥∥₁_map some (λ a. (rest, a, room)) }
+
+pub agree_after : (old new : Pages) (a b rest : Names) → length (b ++ rest) ≤ 2000 → Frames old new a b → ∥ Agree old (a ++ rest) ∥₁ → ∥ Agree new (b ++ rest) ∥₁
+agree_after old new a b rest room f some = ∥∥₁_map some (λ g. (f.frame rest g room).agrees)
+
+pub agree_same : (pages : Pages) (a b : Names) → Same a b → ∥ Agree pages a ∥₁ → ∥ Agree pages b ∥₁
+agree_same pages a b s some = ∥∥₁_map some (reorder pages a b s)
+
+-- a call that keeps the bytes of its own space keeps those of all
+pub all_keep : (old new : Pages) (mine : Option ℕ) (after rest : Names) → Frames old new (mine ∷ []) after → ((n : ℕ) → content_at new mine n ≡ content_at old mine n) → ∥ Agree old (mine ∷ rest) ∥₁
+    → length (after ++ rest) ≤ 2000 → (root : Option ℕ) → ForSome root (λ x. 1 ≤ occ x (mine ∷ rest)) → (n : ℕ) → content_at new root n ≡ content_at old root n
+all_keep old new mine after rest f shows some room root among n = by mine shows root among (λ other. equal _ _ some (λ a. (f.frame rest a room).same root other n))
+  where
+    by : (mine : Option ℕ) → ((n : ℕ) → content_at new mine n ≡ content_at old mine n) → (root : Option ℕ) → ForSome root (λ x. 1 ≤ occ x (mine ∷ rest))
+        → (ForSome root (λ x. 1 ≤ occ x rest) → content_at new root n ≡ content_at old root n) → content_at new root n ≡ content_at old root n
+    by mine shows None among beside = beside (λ x is. absurd (none-some x is))
+    by None shows (Some x) among beside = beside (λ y is. omega (arith, among y is))
+    by (Some r) shows (Some x) among beside = elim (cases_eq r x) [
+      | inl e ↦ subst (λ (m : ℕ). content_at new (Some m) n ≡ content_at old (Some m) n) e (shows n)
+      | inr ne ↦ beside (λ y is. omega (arith, among y is, one_other y r (λ e. ne (e ∙ sym (same_Some x y is)))))
+    ]

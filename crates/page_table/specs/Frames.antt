@@ -1,0 +1,53 @@
+-- What a call does to the spaces over a pool, whatever else stands over it.
+use Rattle.std.specs.Prelude.{◌≡◌, ◌+◌, ◌/◌, ◌%◌, ◌≤◌, ℕ, zero, suc, List, ◌++◌, length, Option, Some, slice_index_or}
+use Rattle.std.specs.Option.{ForSome}
+use Rattle.page_pool.specs.Pool.{Pages, count_of, bytes_of, home_of}
+use Rattle.page_table.specs.Entries.{Names, book_of, told, child, content_of}
+use Rattle.page_table.specs.Sharing.{Hands, both, occ, AgreeIn, Agree}
+
+-- the entry on the way to page k, in a page one higher than this
+abbrev pub place : ℕ → ℕ → ℕ
+place zero k = k % 128
+place (suc h) k = k / 128
+
+-- page k of what a page of this height shows
+abbrev pub shown : Pages → ℕ → Option ℕ → ℕ → List ℕ
+shown pages zero page k = content_of (told pages) page
+shown pages (suc h) page k = shown pages h (child (book_of pages) page (place h k)) k
+
+-- the byte at each place of the space with this root
+abbrev pub content_at : Pages → Option ℕ → ℕ → ℕ
+content_at pages root n = slice_index_or (shown pages 2 root (n / 512)) (n % 512) 0
+
+-- a page with a home afterwards had it, with the bytes that it had: what was made or written counts as changed
+pub record KeepsHomes (old new : Pages) : Type 0 where
+  pub home : (p b : ℕ) → home_of new p ≡ Some b → home_of old p ≡ Some b
+  pub bytes : (p b : ℕ) → home_of new p ≡ Some b → bytes_of new p ≡ bytes_of old p
+
+-- pool and spaces agree, and no byte of the rest changed
+pub record Framed (old new : Pages) (after rest : Names) : Type 0 where
+  pub agrees : Agree new (after ++ rest)
+  pub same : (root : Option ℕ) → ForSome root (λ r. 1 ≤ occ r rest) → (n : ℕ) → content_at new root n ≡ content_at old root n
+
+-- Spaces with the roots before become spaces with those after. Whatever the rest is, pool and spaces agree, and no byte
+-- of the rest changes.
+pub record Frames (old new : Pages) (before after : Names) : Type 0 where
+  pub homes : KeepsHomes old new
+  pub frame : (rest : Names) → Agree old (before ++ rest) → length (after ++ rest) ≤ 2000 → Framed old new after rest
+
+-- the pool agrees with some spaces, these among them, and there is room for so many more
+pub record Stands (pages : Pages) (mine : Names) (more : ℕ) : Type 0 where
+  pub some : ∥ ((rest : Names) × Agree pages (mine ++ rest) × (length (mine ++ rest) + more ≤ 2000)) ∥₁
+
+-- the same with names in hand: the rest shows what it showed, and a page of it with one name keeps one
+pub record Moved (old new : Pages) (after rest : Hands) : Type 0 where
+  pub agrees : AgreeIn new (both after rest)
+  pub same : (h x k : ℕ) → h ≤ 2 → 1 ≤ rest h x → shown new h (Some x) k ≡ shown old h (Some x) k
+  pub single : (h x : ℕ) → h ≤ 2 → 1 ≤ rest h x → count_of old x ≡ 1 → count_of new x ≡ 1
+
+pub record Moves (old new : Pages) (before after : Hands) : Type 0 where
+  pub homes : KeepsHomes old new
+  pub frame : (rest : Hands) → AgreeIn old (both before rest) → Moved old new after rest
+
+pub record Holds (pages : Pages) (mine : Hands) : Type 0 where
+  pub some : ∥ ((rest : Hands) × AgreeIn pages (both mine rest)) ∥₁
