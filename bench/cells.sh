@@ -16,15 +16,13 @@ for crate in $crates; do
 done
 echo "cells: space_memory page_table page_pool eu_base" >>"$work/crates.txt"
 cp "$top/HANDLES" "$work/"
-cp "$top/crates/eumel_top/proofs/Paging.antt" "$work/crates/cells/proofs/"
-echo "pub mod Paging" >"$work/crates/cells/proofs/Lib.antt"
 
 cat >"$work/crates/cells/proofs/run/Answers.antt" <<'END'
-use Rattle.cells.proofs.Paging.{none_among}
+use Rattle.space_memory.proofs.Fresh.{new_stands}
 use Rattle.cells.proofs.run.Goals as goal
 
 pub over-lent-requires : goal.over-lent-requires
-over-lent-requires c = rw (c.new-pool.ensures, c.new-memory.ensures) (record { agree = none_among })
+over-lent-requires c = rw (c.new-pool.ensures, c.new-memory.ensures) (record { agree = new_stands })
 END
 
 cat >"$work/crates/cells/src/plain.rt" <<'END'
