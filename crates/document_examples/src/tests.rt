@@ -17,7 +17,7 @@ fn transcript(alloc: Global, table: &str) -> Result<Bytes, Fail> {
             let input = Bytes::from(alloc, program.as_bytes())?;
             let mut source = MemSource::new(input, 64, List::new(alloc));
             let mut sink = MemSink::new(alloc, 64, List::new(alloc));
-            let mut disk = MemDisk::new();
+            let mut disk = MemDisk::new(alloc, List::new(alloc));
             let status = eumel(alloc, words.as_slice(), &mut disk, &mut source, &mut sink);
             text.append(row.as_bytes())?;
             text.append(b"\n")?;
