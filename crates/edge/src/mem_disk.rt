@@ -53,6 +53,7 @@ impl Model for MemDisk {
 }
 
 impl MemDisk {
+    /// A disk of zeros, of which the calls with these numbers, from 1, fail.
     pub fn new(alloc: Global, fails: List<u32>) -> MemDisk
         ensures made { result ≡ record {
           log = [];

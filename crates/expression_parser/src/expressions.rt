@@ -444,6 +444,7 @@ impl<
         Ok(left)
     }
 
+    /// An expression whose operators have at most this level, from 1 for those that hold most tightly to 6; at 0 an operand alone.
     pub fn level(&self, cursor: &mut Cursor<'_>, level: u8) -> Result<Tall<Expr>, ParseError>
         requires nests { Nests self.now.depth (E.pre self.now.expression) (E.post self.now.expression) (U.pre self.now.units) (U.post self.now.units) }
         requires level { level ≤ 6 }

@@ -58,6 +58,7 @@ pub fn leave_instr(exit: Exit, delivers: Option<Kind>) -> Instr
     }
 }
 
+/// A jump past so many instructions and the jump behind them, where FALSE is on top.
 pub fn put_false(out: &mut Draft, over: usize) -> Result<(), NoMemory>
     ensures { OnOk result (Adds (one (instrs.False (length out.old.lines + 1 + over + 1)) (drop 1)) out.old out.new) }
 {
@@ -65,6 +66,7 @@ pub fn put_false(out: &mut Draft, over: usize) -> Result<(), NoMemory>
     out.put(Instr::False(to), 1, None)
 }
 
+/// A jump past so many instructions.
 pub fn put_jump(out: &mut Draft, over: usize) -> Result<(), NoMemory>
     ensures { OnOk result (Adds (one (instrs.Jump (length out.old.lines + 1 + over)) keeps) out.old out.new) }
 {
@@ -95,6 +97,7 @@ pub fn put_place(out: &mut Draft, place: Instr, kind: Kind) -> Result<(), NoMemo
     out.put(place, 0, Some(OperandKind::Place(kind)))
 }
 
+/// A number.
 pub fn put_number(out: &mut Draft, number: i16) -> Result<(), NoMemory>
     ensures { OnOk result (Adds (one (instrs.Number number) (pushes (operand.Value kinds.Int))) out.old out.new) }
 {
@@ -105,6 +108,7 @@ pub fn put_number(out: &mut Draft, number: i16) -> Result<(), NoMemory>
     )
 }
 
+/// A truth value.
 pub fn put_truth(out: &mut Draft, truth: bool) -> Result<(), NoMemory>
     ensures { OnOk result (Adds (one (instrs.Truth truth) (pushes (operand.Value kinds.Truth))) out.old out.new) }
 {
@@ -115,6 +119,7 @@ pub fn put_truth(out: &mut Draft, truth: bool) -> Result<(), NoMemory>
     )
 }
 
+/// The value at a place, which this instruction pushes.
 pub fn put_load(out: &mut Draft, place: Instr, kind: Kind) -> Result<(), NoMemory>
     ensures { OnOk result (Adds (join (one place (pushes (operand.Place kind))) (one (instrs.Load kind) (λ ks. operand.Value kind ∷ drop 1 ks))) out.old out.new) }
 {
@@ -123,6 +128,7 @@ pub fn put_load(out: &mut Draft, place: Instr, kind: Kind) -> Result<(), NoMemor
     Ok(())
 }
 
+/// An operation on the operands on top.
 pub fn put_operation(out: &mut Draft, operation: Operation) -> Result<(), NoMemory>
     ensures { OnOk result (Adds (one (instrs.Do operation) (λ ks. operand.Value (result_kind operation) ∷ drop (length (operand_kinds operation)) ks)) out.old out.new) }
 {
@@ -158,6 +164,7 @@ pub fn put_refer(out: &mut Draft, body: usize, delivers: Option<Kind>) -> Result
     }
 }
 
+/// Tests of labels, each of which jumps there where the number on top is the label.
 pub fn put_whens(out: &mut Draft, labels: &[i16], to: usize) -> Result<(), NoMemory>
     ensures { OnOk result (Adds (whens_code labels.now to) out.old out.new) }
 {
@@ -167,6 +174,7 @@ pub fn put_whens(out: &mut Draft, labels: &[i16], to: usize) -> Result<(), NoMem
     Ok(())
 }
 
+/// The step of a loop's counter, and the way out of the loop behind its last turn.
 pub fn put_step(out: &mut Draft, step: Step, end: usize) -> Result<(), NoMemory>
     ensures { OnOk result (AddsExit (step_exit step) end out.old out.new) }
 {
@@ -186,6 +194,7 @@ pub fn put_step(out: &mut Draft, step: Step, end: usize) -> Result<(), NoMemory>
     }
 }
 
+/// How many instructions a step has.
 pub fn step_size(step: Step) -> usize
     ensures { result ≡ (step_exit step).size }
 {

@@ -20,6 +20,7 @@ fn if_size(test: usize, first: usize, second: usize) -> Result<usize, NoMemory>
     plus(test, plus(1, branches)?)
 }
 
+/// Of a phrase that delivers a value.
 #[cycle(size)]
 pub fn value_size(v: &ValuePhrase) -> Result<usize, NoMemory>
     ensures { IfOk result (λ size. size ≡ (value_code v.now).size) }
@@ -81,6 +82,7 @@ fn values_size(values: &[ValuePhrase]) -> Result<usize, NoMemory>
     Ok(size)
 }
 
+/// Of actions, one after another.
 #[cycle(size)]
 pub fn actions_size(actions: &[Action]) -> Result<usize, NoMemory>
     ensures { IfOk result (λ size. size ≡ (all_code (map action_code actions.now)).size) }
@@ -188,6 +190,7 @@ fn until_size(test: &Option<ValuePhrase>) -> Result<usize, NoMemory>
     }
 }
 
+/// Of the arms of a SELECT that delivers a value, with so many for what no label holds.
 #[cycle(size)]
 pub fn value_arms_size(arms: &[ValueArm], other: usize) -> Result<usize, NoMemory>
     ensures { IfOk result (λ size. size ≡ arms_length (map value_arm_code arms.now) + (1 + other)) }
@@ -200,6 +203,7 @@ pub fn value_arms_size(arms: &[ValueArm], other: usize) -> Result<usize, NoMemor
     Ok(size)
 }
 
+/// Of the arms of a SELECT that delivers nothing, with so many for what no label holds.
 #[cycle(size)]
 pub fn arms_size(arms: &[Arm], other: usize) -> Result<usize, NoMemory>
     ensures { IfOk result (λ size. size ≡ arms_length (map arm_code_of arms.now) + (1 + other)) }

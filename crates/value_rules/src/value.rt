@@ -31,6 +31,7 @@ pub fn truth(alloc: Global, at: u32, truth: bool) -> Judged
     delivering(alloc, at, ElanType::Bool, ValuePhrase::Truth(truth))
 }
 
+/// A phrase in brackets: its value is no variable.
 pub fn bracketed(at: u32, meant: Meant) -> Judged
     ensures { Is result (spec.bracketed at meant) }
 {
@@ -70,6 +71,7 @@ fn cor_of(alloc: Global, at: u32, left: Meant, right: Meant) -> Judged
     delivering(alloc, at, ElanType::Bool, ValuePhrase::Cor(left, right))
 }
 
+/// CAND, of two truth values.
 pub fn cand(alloc: Global, at: u32, left: Meant, right: Meant) -> Judged
     ensures { Is result (spec.cand at left right) }
 {
@@ -82,6 +84,7 @@ pub fn cand(alloc: Global, at: u32, left: Meant, right: Meant) -> Judged
     }
 }
 
+/// COR, of two truth values.
 pub fn cor(alloc: Global, at: u32, left: Meant, right: Meant) -> Judged
     ensures { Is result (spec.cor at left right) }
 {

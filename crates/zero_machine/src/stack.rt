@@ -59,6 +59,7 @@ impl Model for Stack {
 }
 
 impl Stack {
+    /// Nothing is pending, and no frame is live.
     pub fn new(alloc: Global) -> Stack
         ensures { result ≡ record { ops = []; frames = [] } }
     {
