@@ -45,7 +45,8 @@ after_sync s = record s { synced = s.content; written = λ _. false; syncs = nex
 abbrev pub after_failed_sync : DiskState → DiskState
 after_failed_sync s = record s { syncs = next_count s.syncs }
 
--- a failed write leaves the block old or new, and the block counts as written, unless nothing reached the disk
+-- A failed write leaves the block old or new, and the block counts as written; or it never reached the disk. A disk on which each
+-- failed write counts is one of these; this asks less of a disk, so that disks are among them which have no place for the mark.
 abbrev pub IsFailedWrite : ℕ → List ℕ → Option DiskState → Option DiskState → Type 0
 IsFailedWrite at bytes old new =
     (new ≡ option_map after_no_write old) ⊎ ((new ≡ option_map (after_lost_write at) old) ⊎ (new ≡ option_map (after_write at bytes) old))

@@ -1,8 +1,8 @@
 //! A disk that fails from some call on, as at a crash there.
 ghost use Rattle.std.specs.Prelude.{◌≡◌, ◌<◌, ◌≤◌, ◌-◌, ◌↔◌, None, Some, OnOk, OnErr, IsErr, IsTrue, length};
-ghost use Rattle.edge.specs.Disk.{after_read, after_write, after_no_write, after_sync, after_failed_sync};
+ghost use Rattle.edge.specs.Disk.{after_read, after_write, after_sync, after_failed_sync};
 ghost use Rattle.edge.specs.Log.{now_of, past_of, LeftSince, counts_now_of, only_now_of};
-ghost use Rattle.edge.specs.DisksInMemory.{told_by_fuse, Passes, MemReads, MemWrites, MemSyncs, IsSpent, one_less};
+ghost use Rattle.edge.specs.DisksInMemory.{told_by_fuse, FailsAtWrite, Passes, MemReads, MemWrites, MemSyncs, IsSpent, one_less};
 ghost use Rattle.edge.specs.Faults.{HasCause};
 
 use crate::mem_disk::Counts;
@@ -146,7 +146,7 @@ impl Disk for FuseDisk {
 
     fn write(&mut self, at: u32, from: &[u8; 512]) -> Result<(), Failed>
         ensures ok { OnOk result (Some (told_by_fuse self.new) ≡ Some (after_write at from.now (told_by_fuse self.old))) }
-        ensures err { OnErr result (Some (told_by_fuse self.new) ≡ Some (after_no_write (told_by_fuse self.old))) }
+        ensures err { OnErr result (FailsAtWrite at from.now (told_by_fuse self.old) (told_by_fuse self.new)) }
         ensures time { Passes self.old.disk self.new.disk }
         ensures cause { HasCause self.old.faults self.new.faults result }
         ensures refused { IsSpent self.old.calls_left → IsErr result × (self.new.disk ≡ self.old.disk) }

@@ -1,8 +1,8 @@
 //! A disk in memory.
 ghost use Rattle.std.specs.Prelude.{◌≡◌, [], false, Some, OnOk, OnErr, IsTrue, length};
-ghost use Rattle.edge.specs.Disk.{after_read, after_write, after_no_write, after_sync, after_failed_sync, IsImage};
+ghost use Rattle.edge.specs.Disk.{after_read, after_write, after_sync, after_failed_sync, IsImage};
 ghost use Rattle.edge.specs.Log.{now_of, past_of, LeftSince, counts_now_of, only_now_of, zeros, mark_last, synced_part};
-ghost use Rattle.edge.specs.DisksInMemory.{told_state, Passes, MemReads, MemWrites, MemSyncs};
+ghost use Rattle.edge.specs.DisksInMemory.{told_state, FailsAtWrite, Passes, MemReads, MemWrites, MemSyncs};
 ghost use Rattle.edge.specs.Faults.{HasCause};
 
 use crate::calls::is_listed;
@@ -13,7 +13,8 @@ use std::alloc::Global;
 use std::marker::Model;
 
 /// A disk in memory, at first all zeros. A call fails where its number, from 1, is listed, and a write for want
-/// of memory too; the disk is then as it was.
+/// of memory too. A listed write fails after it reached the disk: the block is new, and a crash may keep or lose
+/// it. A write for which there is no memory leaves the disk as it was.
 #[derive(Drop)]
 pub struct MemDisk {
     log: Vec<Written>,
@@ -24,6 +25,7 @@ pub struct MemDisk {
     syncs: u64,
     faults: u64,
     wanted: bool,
+    missed: bool,
 }
 
 /// How often a disk was read, written and synced, and how often it failed.
@@ -49,6 +51,7 @@ impl Model for MemDisk {
       syncs = m.syncs;
       faults = m.faults;
       wanted = m.wanted;
+      missed = m.missed;
     } };
 }
 
@@ -64,6 +67,7 @@ impl MemDisk {
           syncs = 0;
           faults = 0;
           wanted = false;
+          missed = false;
         } }
         ensures blank { (told_state result).content ≡ (λ _. zeros) }
     {
@@ -76,6 +80,7 @@ impl MemDisk {
             syncs: 0,
             faults: 0,
             wanted: false,
+            missed: false,
         }
     }
 
@@ -99,11 +104,18 @@ impl MemDisk {
         }
     }
 
-    /// Whether a write failed for want of memory.
+    /// Whether a write failed for want of memory whose number is not listed.
     pub fn wanted(&self) -> bool
         ensures { result ≡ self.now.wanted }
     {
         self.wanted
+    }
+
+    /// Whether a listed write left the disk as it was, for want of memory.
+    pub fn missed(&self) -> bool
+        ensures { result ≡ self.now.missed }
+    {
+        self.missed
     }
 
     pub(crate) fn counts(&self) -> Counts
@@ -155,7 +167,7 @@ impl Disk for MemDisk {
 
     fn write(&mut self, at: u32, from: &[u8; 512]) -> Result<(), Failed>
         ensures ok { OnOk result (Some (told_state self.new) ≡ Some (after_write at from.now (told_state self.old))) }
-        ensures err { OnErr result (Some (told_state self.new) ≡ Some (after_no_write (told_state self.old))) }
+        ensures err { OnErr result (FailsAtWrite at from.now (told_state self.old) (told_state self.new)) }
         ensures time { Passes self.old self.new }
         ensures cause { HasCause self.old.faults self.new.faults result }
         ensures does { MemWrites at from.now result self.old self.new }
@@ -164,7 +176,13 @@ impl Disk for MemDisk {
         self.writes = self.writes.saturating_add(1);
         if is_listed(self.fails.as_slice(), self.calls) {
             self.faults = self.faults.saturating_add(1);
-            return Err(Failed);
+            return match note(&mut self.log, at, from) {
+                Ok(()) => Err(Failed),
+                Err(_) => {
+                    self.missed = true;
+                    Err(Failed)
+                }
+            };
         }
         match note(&mut self.log, at, from) {
             Ok(()) => Ok(()),

@@ -25,9 +25,9 @@ const THIRD: Pages = Pages {
     fill: 3,
 };
 
-// A disk with one fixpoint, or with a second one behind it.
-fn disk_with(alloc: Global, second: bool) -> Option<MemDisk> {
-    let mut disk = MemDisk::new(alloc, List::new(alloc));
+// A disk with one fixpoint, or with a second one behind it, whose calls of these numbers fail.
+fn disk_with(alloc: Global, second: bool, fails: &[u32]) -> Option<MemDisk> {
+    let mut disk = MemDisk::new(alloc, List::from_slice(alloc, fails).ok()?);
     Fix::format(&mut disk, &FIRST).ok()?;
     if second {
         commit(&mut disk, &SECOND).ok()?;
@@ -65,7 +65,7 @@ fn has_pages(disk: &mut MemDisk, pages: &Pages) -> bool {
 // A commit of three pages that stops after so many calls, and a crash: the fixpoint before or the new one is kept. It takes
 // eight calls, and one more where an open gate is closed first; three or four reads before them recover the old fixpoint.
 fn is_old_or_new(alloc: Global, second: bool, calls: u32, keep: bool) -> bool {
-    let Some(disk) = disk_with(alloc, second) else {
+    let Some(disk) = disk_with(alloc, second, &[]) else {
         return false;
     };
     let mut fuse = FuseDisk::after(disk, calls);
@@ -91,9 +91,41 @@ fn each_stop_leaves_the_old_fixpoint_or_the_new(rt: HostRuntime) {
     }
 }
 
+// A commit of three pages of which one call fails, and a crash. The number counts all calls of the disk: the commit, and the reads
+// before it, make those from 11 to 21, or from 22 to 34 behind a second fixpoint. A write that fails has reached the disk, so the
+// new fixpoint is there where the last write or sync fails, and the crash keeps what was written.
+fn a_failed_call_leaves_old_or_new(alloc: Global, second: bool, call: u32, keep: bool) -> bool {
+    let Some(mut disk) = disk_with(alloc, second, &[call]) else {
+        return false;
+    };
+    let failed = commit(&mut disk, &THIRD).is_err();
+    disk.crash(keep);
+    let gate_written = if second { call >= 33 } else { call >= 20 };
+    let right = if keep && gate_written {
+        keeps(&mut disk, &THIRD)
+    } else if second {
+        keeps(&mut disk, &SECOND)
+    } else {
+        keeps(&mut disk, &FIRST)
+    };
+    failed && right
+}
+
+#[test]
+fn each_failed_call_leaves_the_old_fixpoint_or_the_new(rt: HostRuntime) {
+    for keep in [false, true] {
+        for call in 11..22u32 {
+            assert!(rt; a_failed_call_leaves_old_or_new(rt.alloc(), false, call, keep));
+        }
+        for call in 22..35u32 {
+            assert!(rt; a_failed_call_leaves_old_or_new(rt.alloc(), true, call, keep));
+        }
+    }
+}
+
 // A commit that stops after so many calls, a crash, and another commit.
 fn goes_on(alloc: Global, calls: u32) -> bool {
-    let Some(disk) = disk_with(alloc, false) else {
+    let Some(disk) = disk_with(alloc, false, &[]) else {
         return false;
     };
     let mut fuse = FuseDisk::after(disk, calls);
