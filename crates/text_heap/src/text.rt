@@ -1,0 +1,90 @@
+//! The texts of cells.
+ghost use Rattle.std.specs.Prelude.{◌≡◌, ◌≢◌, ◌+◌, ◌<◌, Err, IfOk, OnOk, IsSome, Some, []};
+ghost use Rattle.eu_base.specs.declared.cells.MemFault.TheVariants.{NoMemory};
+ghost use Rattle.eu_base.specs.Cells.{HasFaultCause};
+ghost use Rattle.eu_base.specs.Spaces.{IsKept};
+ghost use Rattle.text_heap.specs.Blocks.{text_in, free_in};
+ghost use Rattle.text_heap.specs.Texts.{Texts, Holds, Sets, KeepsCells, blocks_in, stored};
+
+use crate::block::{BLOCKS, blocks};
+use crate::entry::read_entry;
+use crate::hint::{hint_after, move_hint, read_hint};
+use crate::search::{count_free, has_free, spread};
+use crate::walk::{collect, release};
+use cell_layout::put;
+use eu_base::{Bytes, CELLS, MemFault, Set, Space};
+use std::alloc::Global;
+
+/// The text of a cell. On bytes that hold no text it still answers some text.
+pub fn get<S: Space>(alloc: Global, space: &mut S, cell: u16) -> Result<Bytes, MemFault>
+    requires { cell < CELLS }
+    ensures text { IfOk result (λ text. (texts : Texts) → Holds (S.content space.old) texts → IsSome (texts cell) → texts cell ≡ Some text) }
+    ensures bytes { IfOk result (λ text. text ≡ text_in (S.content space.old) cell) }
+    ensures kept { OnOk result (IsKept (S.content space.old) (S.content space.new)) }
+    ensures cause { HasFaultCause (S.faults space.old) (S.faults space.new) result }
+    ensures follows { S.follows space.old space.new }
+{
+    let entry = read_entry(space, cell)?;
+    let text = collect(alloc, space, entry.first, entry.length)?;
+    Ok(text)
+}
+
+/// How many blocks are free: all that no text has, from 0 to 4,096.
+pub fn rooms<S: Space>(space: &mut S) -> Result<u16, MemFault>
+    ensures free { IfOk result (λ count. count ≡ free_in (S.content space.old) 4096) }
+    ensures texts { IfOk result (λ count. (texts : Texts) → Holds (S.content space.old) texts → count + blocks_in texts ≡ 4096) }
+    ensures kept { OnOk result (IsKept (S.content space.old) (S.content space.new)) }
+    ensures memory { result ≢ Err NoMemory }
+    ensures cause { HasFaultCause (S.faults space.old) (S.faults space.new) result }
+    ensures follows { S.follows space.old space.new }
+{
+    let count = count_free(space)?;
+    Ok(count)
+}
+
+/// Puts a text in the place of the one that stands in a cell. Where all texts together would then have more than 4,096
+/// blocks it answers HeapFull and changes nothing. After an error the space can only be dropped.
+pub fn set<S: Space>(space: &mut S, cell: u16, t: &[u8]) -> Result<Set, MemFault>
+    requires { cell < CELLS }
+    ensures sets { IfOk result (λ set. (texts : Texts) → Holds (S.content space.old) texts → IsSome (texts cell) →
+        Sets (S.content space.old) (S.content space.new) texts cell t.now set) }
+    ensures cells { OnOk result (KeepsCells (S.content space.old) (S.content space.new) cell) }
+    ensures cause { HasFaultCause (S.faults space.old) (S.faults space.new) result }
+    ensures follows { S.follows space.old space.new }
+{
+    let old = read_entry(space, cell)?;
+    let had = blocks(old.length);
+    let needed = blocks(t.len());
+    let wanted = needed.saturating_sub(had);
+    let hint = read_hint(space)?;
+    let has_room = has_free(space, hint, wanted)?;
+    if !has_room {
+        return Ok(Set::HeapFull);
+    }
+    let from = release(space, old.first, had, hint)?;
+    let Some(first) = spread(space, from, t)? else {
+        return Ok(Set::HeapFull);
+    };
+    move_hint(space, hint, hint_after(hint, from, first, had, needed))?;
+    let number = t.len() as u64 + 4_294_967_296 * u64::from(first);
+    put(space, cell, number)?;
+    Ok(Set::Done)
+}
+
+/// Puts the text "" in the place of the one that stands in a cell. After an error the space can only be dropped.
+pub fn clear<S: Space>(space: &mut S, cell: u16) -> Result<(), MemFault>
+    requires { cell < CELLS }
+    ensures clears { OnOk result ((texts : Texts) → Holds (S.content space.old) texts → IsSome (texts cell) →
+        Holds (S.content space.new) (stored texts cell [])) }
+    ensures cells { OnOk result (KeepsCells (S.content space.old) (S.content space.new) cell) }
+    ensures cause { HasFaultCause (S.faults space.old) (S.faults space.new) result }
+    ensures follows { S.follows space.old space.new }
+{
+    let old = read_entry(space, cell)?;
+    let had = blocks(old.length);
+    let hint = read_hint(space)?;
+    let lowest = release(space, old.first, had, hint)?;
+    move_hint(space, hint, lowest)?;
+    put(space, cell, 0)?;
+    Ok(())
+}
