@@ -5,3 +5,4 @@ pub mod Pieces
 pub mod Spread
 pub mod Stored
 pub mod Setting
+pub mod Zeros

@@ -4,8 +4,10 @@
 mod block;
 mod entry;
 mod hint;
+mod law;
 mod search;
 mod text;
 mod walk;
 
+pub use law::zeros_hold_empty_texts;
 pub use text::{clear, get, rooms, set};

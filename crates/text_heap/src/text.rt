@@ -29,7 +29,7 @@ pub fn get<S: Space>(alloc: Global, space: &mut S, cell: u16) -> Result<Bytes, M
     Ok(text)
 }
 
-/// How many blocks are free: all that no text has, from 0 to 4,096.
+/// How many blocks are free, from 0 to 4,096. In a space that holds texts it is those that no text has.
 pub fn rooms<S: Space>(space: &mut S) -> Result<u16, MemFault>
     ensures free { IfOk result (λ count. count ≡ free_in (S.content space.old) 4096) }
     ensures texts { IfOk result (λ count. (texts : Texts) → Holds (S.content space.old) texts → count + blocks_in texts ≡ 4096) }
