@@ -1,148 +1,159 @@
 -- A copy of a page.
-use Rattle.std.proofs.Common.{◌≡◌, ◌≢◌, inl, inr, ℕ, zero, suc, ◌+◌, ◌≤◌, List, [], ◌∷◌, ◌++◌, length, get_or, take, drop, replicate, Option, Some, None, refl, sym, ◌∙◌, ap, subst, arith}
-use Rattle.std.proofs.lemmas.Bool.{cases_eq}
+use Rattle.std.proofs.Common.{◌≡◌, ◌≢◌, inr, ℕ, zero, suc, ◌+◌, ◌<◌, ◌≤◌, List, [], ◌∷◌, ◌++◌, length, get_or, take, drop, replicate}
+use Rattle.std.proofs.Common.{Option, Some, None, refl, sym, ◌∙◌, ap, subst, arith}
 use Rattle.std.proofs.lemmas.List.{append-nil, take_all, drop_all}
-use Rattle.page_pool.specs.Pool.{Pages, count_of, bytes_of, pasted, Stays, IsPool, Adds, Drops, Writes}
-use Rattle.page_pool.proofs.Sound.{one_same}
+use Rattle.std.proofs.lemmas.Option.{none-some, same_Some}
+use Rattle.std.specs.Option.{ForSome}
+use Rattle.page_pool.specs.Pool.{Pages, count_of, bytes_of, pasted, Stays, IsPool, Adds, Writes, Drops}
+use Rattle.page_pool.proofs.Sound.{one_same, low}
 use Rattle.page_table.specs.Entries.{Names, entries_of, book_of, told, child, content_of}
 use Rattle.page_table.specs.Sharing.{hit, occ, Hands, names, both, nothing}
 use Rattle.page_table.specs.Frames.{place, shown, Moves, Holds}
-use Rattle.page_table.specs.Own.{heirs}
-use Rattle.page_table.proofs.Counting.{names_at, names_same, names_none}
-use Rattle.page_table.proofs.Holding.{holds_then, holds_like, holds_first, held_live, held_four, beside_single, beside_shown}
-use Rattle.page_table.proofs.Moving.{moves_then, moves_like, moves_with, moves_none, moves_close, moves_adds}
+use Rattle.page_table.specs.Own.{count_at, heirs, Owns, Takes}
+use Rattle.page_table.proofs.Counting.{names_none, heirs_none, heirs_sum, occ_take, own_at}
+use Rattle.page_table.proofs.Holding.{holds_then, holds_part, held_live, held_entries, held_four, beside_single, beside_shown}
+use Rattle.page_table.proofs.Moving.{moves_on, moves_like, moves_with, moves_none, moves_close, moves_adds, moves_drops, drop_stays}
 use Rattle.page_table.proofs.Showing.{shown_none, shown_same}
-use Rattle.page_table.proofs.Spelled.{zeros_none}
+use Rattle.page_table.proofs.Spelled.{zeros_none, zeros_occ}
 
 -- bytes in the place of all
 pub pasted_whole : (was bytes : List ℕ) → length was ≡ 512 → length bytes ≡ 512 → pasted was 0 bytes ≡ bytes
 pasted_whole was bytes long also =
     ap (λ (l : List ℕ). bytes ++ l) (drop_all (0 + length bytes) was (omega (arith, long, also))) ∙ append-nil bytes
 
-pub copied : (p0 p1 p2 : Pages) (q p : ℕ) (bytes : List ℕ) → Adds p0 p1 q (replicate 512 0) → Writes p1 p2 q (pasted (bytes_of p1 q) 0 bytes) → bytes ≡ take 512 (drop 0 (bytes_of p1 p))
-    → length (bytes_of p1 p) ≡ 512 → length (bytes_of p1 q) ≡ 512 → 1 ≤ count_of p0 p → Adds p0 p2 q (bytes_of p0 p)
-copied p0 p1 p2 q p bytes adds writes read long wide live = record {
+pub stays_then : {p0 p1 p2 : Pages} {x : ℕ} → Stays p0 p1 x → Stays p1 p2 x → Stays p0 p2 x
+stays_then first second = record { bytes = second.bytes ∙ first.bytes; home = second.home ∙ first.home }
+
+-- a page that was made
+pub adds_writes : (p0 p1 p2 : Pages) (q : ℕ) (was bytes : List ℕ) → Adds p0 p1 q was → Writes p1 p2 q bytes → Adds p0 p2 q bytes
+adds_writes p0 p1 p2 q was bytes adds writes = record {
   free = adds.free;
   low = adds.low;
   counts = λ x. writes.counts x ∙ adds.counts x;
-  bytes_are = writes.bytes_are ∙ pasted_whole (bytes_of p1 q) bytes wide (ap (λ (l : List ℕ). length l) is ∙ long) ∙ is ∙ (adds.others p ne).bytes;
+  bytes_are = writes.bytes_are;
   changed = writes.changed;
-  others = λ x out. record { bytes = (writes.others x out).bytes ∙ (adds.others x out).bytes; home = (writes.others x out).home ∙ (adds.others x out).home };
+  others = λ x out. stays_then (adds.others x out) (writes.others x out);
 }
-  where
-    ne : p ≢ q
-    ne e = let here : count_of p0 p ≡ count_of p0 q = ap (count_of p0) e in absurd (omega (arith, here, live, adds.free))
 
+module _ (p0 p1 : Pages) (q : ℕ) where
+  pub added_single : (bytes : List ℕ) → Adds p0 p1 q bytes → count_of p1 q ≡ 1
+  added_single bytes adds = omega (arith, adds.counts q, adds.free, one_same q q refl)
+
+  pub added_other : (p : ℕ) (bytes : List ℕ) → Adds p0 p1 q bytes → 1 ≤ count_of p0 p → p ≢ q
+  added_other p bytes adds live e = let here : count_of p0 p ≡ count_of p0 q = ap (count_of p0) e in absurd (omega (arith, here, live, adds.free))
+
+  -- a page that lives has a number still
+  pub added_low : (p : ℕ) (bytes : List ℕ) → IsPool p1 → Adds p0 p1 q bytes → 1 ≤ count_of p0 p → p < 1048576
+  added_low p bytes sound adds live = low p1 p sound (omega (arith, live, adds.counts p))
+
+  -- beside what is in hand
+  pub added : (bytes : List ℕ) (mine : Hands) → Adds p0 p1 q bytes → IsPool p1 → Moves p0 p1 mine (both mine (names 0 (Some q ∷ [])))
+  added bytes mine adds sound = moves_like (λ h p. omega arith) (λ h p. omega arith) (moves_with mine (moves_adds p0 p1 q bytes sound adds))
+
+pub copied : (p0 p1 p2 : Pages) (q p : ℕ) (bytes : List ℕ) → Adds p0 p1 q (replicate 512 0) → Writes p1 p2 q (pasted (bytes_of p1 q) 0 bytes)
+    → bytes ≡ take 512 (drop 0 (bytes_of p1 p)) → length (bytes_of p1 p) ≡ 512 → length (bytes_of p1 q) ≡ 512 → 1 ≤ count_of p0 p
+    → Adds p0 p2 q (bytes_of p0 p)
+copied p0 p1 p2 q p bytes adds writes read long wide live =
+    subst (Adds p0 p2 q) (pasted_whole (bytes_of p1 q) bytes wide (ap (λ (l : List ℕ). length l) is ∙ long) ∙ is
+    ∙ (adds.others p (added_other p0 p1 q p _ adds live)).bytes) (adds_writes p0 p1 p2 q _ _ adds writes)
+  where
     is : bytes ≡ bytes_of p1 p
     is = read ∙ take_all 512 (bytes_of p1 p) (omega (arith, long))
 
--- names that the entries of a page take over from it
-module _ (p0 p1 p2 : Pages) (p height : ℕ) (es : Names) (drops : Moves p1 p2 (names height (Some p ∷ [])) nothing) where
-  pub leaves_node : (h : ℕ) → suc h ≡ height → Moves p0 p1 (names (suc h) (Some p ∷ [])) (both (names (suc h) (Some p ∷ [])) (names h es)) → Moves p0 p2 (names height (Some p ∷ [])) (heirs height es)
-  leaves_node h is shares = subst (λ (n : ℕ). Moves p0 p2 (names n (Some p ∷ [])) (heirs n es)) is
-      (moves_then _ _ _ _ _ _ shares (moves_like _ _ _ _ _ _ (λ x q. refl) (λ x q. omega arith) (moves_with _ _ _ _ (names h es) (subst (λ (n : ℕ). Moves p1 p2 (names n (Some p ∷ [])) nothing) (sym is) drops))))
+-- names of the entries of a page in hand, one after the other
+module _ {p0 p1 : Pages} (height p k : ℕ) (low : height ≤ 2) (held : Holds p0 (names height (Some p ∷ []))) where
+  pub shares_next : {p2 : Pages} {o : Option ℕ} → k < 128 → child (book_of p0) (Some p) k ≡ o
+      → Moves p0 p1 (names height (Some p ∷ [])) (both (names height (Some p ∷ [])) (heirs height (take k ((book_of p0).entries p))))
+      → Moves p1 p2 (names height (Some p ∷ [])) (both (names height (Some p ∷ [])) (heirs height (o ∷ [])))
+      → Moves p0 p2 (names height (Some p ∷ [])) (both (names height (Some p ∷ [])) (heirs height (take (k + 1) ((book_of p0).entries p))))
+  shares_next {p2} {o} small is first second =
+      moves_on first (moves_like (λ h x. refl) (λ h x. omega (arith, more h x)) (moves_with (heirs height (take k ((book_of p0).entries p))) second))
+    where
+      more : (h x : ℕ) → heirs height (take (k + 1) ((book_of p0).entries p)) h x ≡ heirs height (take k ((book_of p0).entries p)) h x + heirs height (o ∷ []) h x
+      more = heirs_sum height (take k ((book_of p0).entries p)) (o ∷ []) (take (k + 1) ((book_of p0).entries p)) (λ x.
+          let here : hit x (child (book_of p0) (Some p) k) ≡ hit x o = ap (hit x) is in
+          omega (arith, occ_take x ((book_of p0).entries p) k (omega (arith, small, held_entries p0 height p low held)), here))
 
--- a page whose entries name what is in hand becomes a page of its height
-pub takes_heirs : (pages : Pages) (q height : ℕ) (es : Names) → height ≤ 2 → count_of pages q ≡ 1 → (height ≡ 2 → (k : ℕ) → 4 ≤ k → child (book_of pages) (Some q) k ≡ None)
-    → ((p : ℕ) → occ p ((book_of pages).entries q) ≡ occ p es) → Moves pages pages (both (names 0 (Some q ∷ [])) (heirs height es)) (names height (Some q ∷ []))
-takes_heirs pages q zero es low single few same = moves_like _ _ _ _ _ _ (λ h p. omega arith) (λ h p. refl) (moves_none pages (names 0 (Some q ∷ [])))
-takes_heirs pages q (suc h) es low single few same =
-    moves_like _ _ _ _ _ _ (λ x p. omega (arith, names_same h es ((book_of pages).entries q) same x p)) (λ x p. refl)
-    (moves_close pages q h (omega (arith, low)) single (λ top. few (omega (arith, top))))
+  pub shares_all : k ≡ 128 → Moves p0 p1 (names height (Some p ∷ [])) (both (names height (Some p ∷ [])) (heirs height (take k ((book_of p0).entries p))))
+      → Moves p0 p1 (names height (Some p ∷ [])) (both (names height (Some p ∷ [])) (heirs height ((book_of p0).entries p)))
+  shares_all all m = subst (λ (es : Names). Moves p0 p1 (names height (Some p ∷ [])) (both (names height (Some p ∷ [])) (heirs height es)))
+      (take_all k ((book_of p0).entries p) (omega (arith, all, held_entries p0 height p low held))) m
 
--- a page beside what is in hand
-module _ (p0 p1 : Pages) (q : ℕ) (bytes : List ℕ) (mine : Hands) (adds : Adds p0 p1 q bytes) (sound : IsPool p1) where
-  pub added : Moves p0 p1 mine (both mine (names 0 (Some q ∷ [])))
-  added = moves_like _ _ _ _ _ _ (λ h p. omega arith) (λ h p. omega arith) (moves_with _ _ _ _ mine (moves_adds p0 p1 q bytes sound adds))
-
-  pub added_held : Holds p0 mine → Holds p1 (both mine (names 0 (Some q ∷ [])))
-  added_held holds = holds_then _ _ _ _ added holds
-
-module _ (p0 p1 p2 : Pages) (q height : ℕ) (of : Option ℕ) (es : Names) (low : height ≤ 2) (adds : Adds p0 p1 q (content_of (told p0) of)) (sound : IsPool p1)
-    (leaves : Moves p1 p2 (names height (of ∷ [])) (heirs height es)) (holds : Holds p0 (names height (of ∷ []))) where
-  pub copy_single : count_of p2 q ≡ 1
-  copy_single = beside_single p1 p2 _ _ (names 0 (Some q ∷ [])) leaves (added_held p0 p1 q _ _ adds sound holds) 0 q (omega arith) (omega (arith, one_same q q refl)) (omega (arith, adds.counts q, adds.free, one_same q q refl))
-
-  pub copy_moves : ((p : ℕ) → occ p ((book_of p2).entries q) ≡ occ p es) → (height ≡ 2 → (k : ℕ) → 4 ≤ k → child (book_of p2) (Some q) k ≡ None) → Moves p0 p2 (names height (of ∷ [])) (names height (Some q ∷ []))
-  copy_moves same few = moves_then _ _ _ _ _ _ (added p0 p1 q _ _ adds sound)
-      (moves_then _ _ _ _ _ _
-      (moves_like p1 p2 _ _ _ (both (names 0 (Some q ∷ [])) (heirs height es)) (λ h p. refl) (λ h p. omega arith) (moves_with _ _ _ _ (names 0 (Some q ∷ [])) leaves))
-      (takes_heirs p2 q height es low copy_single few same))
-
-  -- what was copied shows what it showed
-  pub of_shown : (p k : ℕ) → of ≡ Some p → shown p1 height (Some p) k ≡ shown p0 height (Some p) k
-  of_shown p k is = beside_shown p0 p1 nothing (names 0 (Some q ∷ [])) (names height (of ∷ [])) (moves_adds p0 p1 q _ sound adds) (holds_like p0 _ _ (λ h x. omega arith) holds) height p k low
-      (omega (arith, names_at height (of ∷ []) p, let h : hit p of ≡ 1 = ap (hit p) is ∙ one_same p p refl in h))
-
-shown_alike : (pages : Pages) (x y : ℕ) → bytes_of pages x ≡ bytes_of pages y → (h k : ℕ) → shown pages h (Some x) k ≡ shown pages h (Some y) k
-shown_alike pages x y same zero k = same
-shown_alike pages x y same (suc h) k = ap (λ (bytes : List ℕ). shown pages h (get_or (entries_of bytes) (place h k) None) k) same
-
--- a page of zeros
-pub shown_zeros : (p0 p1 : Pages) (q : ℕ) → bytes_of p1 q ≡ replicate 512 0 → (h k : ℕ) → shown p1 h (Some q) k ≡ shown p0 h None k
-shown_zeros p0 p1 q is zero k = is
-shown_zeros p0 p1 q is (suc h) k = ap (λ (bytes : List ℕ). shown p1 h (get_or (entries_of bytes) (place h k) None) k) is ∙ ap (λ (o : Option ℕ). shown p1 h o k) (zeros_none 512 (place h k)) ∙ shown_none p0 p1 h k
-
-pub occ_zeros : (p n : ℕ) → occ p (entries_of (replicate n 0)) ≡ 0
-occ_zeros p zero = refl
-occ_zeros p (suc zero) = refl
-occ_zeros p (suc (suc zero)) = refl
-occ_zeros p (suc (suc (suc zero))) = refl
-occ_zeros p (suc (suc (suc (suc n)))) = omega (arith, occ_zeros p n)
-
--- a copy shows what the page shows
-pub shown_copy : (p0 p1 p2 : Pages) (q p h k : ℕ) → bytes_of p1 q ≡ bytes_of p0 p → bytes_of p1 p ≡ bytes_of p0 p → ((x : ℕ) → Stays p1 p2 x) → shown p1 h (Some p) k ≡ shown p0 h (Some p) k
-    → shown p2 h (Some q) k ≡ shown p0 h (Some p) k
-shown_copy p0 p1 p2 q p h k mine his stays was = shown_same p1 p2 (λ x. (stays x).bytes) h (Some q) k ∙ shown_alike p1 q p (mine ∙ sym his) h k ∙ was
-
-pub drop_stays : (old new : Pages) (p : ℕ) → Drops old new p → 2 ≤ count_of old p → (x : ℕ) → Stays old new x
-drop_stays old new p drops more x = elim (cases_eq x p) [
-  | inl e ↦ subst (Stays old new) (sym e) (drops.stays (omega (arith, more, drops.counts p, one_same p p refl)))
-  | inr ne ↦ drops.others x ne
-]
-
-heirs_none : (height h p : ℕ) → heirs height [] h p ≡ 0
-heirs_none zero h p = refl
-heirs_none (suc height) h p = names_none height [] (λ x. refl) h p
-
-pub copies_none : (p0 p1 : Pages) (q height : ℕ) (of : Option ℕ) → height ≤ 2 → of ≡ None → Adds p0 p1 q (content_of (told p0) of) → IsPool p1 → Holds p0 (names height (of ∷ []))
-    → Moves p0 p1 (names height (of ∷ [])) (names height (Some q ∷ []))
-copies_none p0 p1 q height of low is adds sound holds =
-    copy_moves p0 p1 p1 q height of [] low adds sound
-    (moves_like p1 p1 nothing _ nothing _ (λ h p. sym (names_none height (of ∷ []) (λ x. let none : hit x of ≡ 0 = ap (hit x) is in omega (arith, none)) h p)) (λ h p. heirs_none height h p) (moves_none p1 nothing))
-    holds (λ p. ap (λ (bytes : List ℕ). occ p (entries_of bytes)) bytes ∙ occ_zeros p 512)
-    (λ top k up. ap (λ (b : List ℕ). get_or (entries_of b) k None) bytes ∙ zeros_none 512 k)
+-- a page that is shared is none of one's own
+pub shared_none : (pages : Pages) (h : ℕ) (o : Option ℕ) (k : ℕ) → ForSome o (λ p. 2 ≤ count_of pages p) → Owns pages h o k → ⊥
+shared_none pages h o k shared own = by h o shared own
   where
-    bytes : bytes_of p1 q ≡ replicate 512 0
-    bytes = adds.bytes_are ∙ ap (content_of (told p0)) is
+    by : (h : ℕ) (o : Option ℕ) → ForSome o (λ p. 2 ≤ count_of pages p) → Owns pages h o k → ⊥
+    by zero None shared own = omega (arith, own)
+    by zero (Some p) shared own = omega (arith, own, shared p refl)
+    by (suc h) None shared own = omega (arith, own.0)
+    by (suc h) (Some p) shared own = omega (arith, own.0, shared p refl)
 
-module _ (p0 p1 p2 : Pages) (q p height : ℕ) (of : Option ℕ) (low : height ≤ 2) (is : of ≡ Some p) (adds : Adds p0 p1 q (content_of (told p0) of)) (sound : IsPool p1) (holds : Holds p0 (names height (of ∷ []))) where
-  held : Holds p0 (names height (Some p ∷ []))
-  held = subst (λ (o : Option ℕ). Holds p0 (names height (o ∷ []))) is holds
+-- a page with the bytes of another, or with zeros
+shown_content : (pages : Pages) (q : ℕ) (of : Option ℕ) → bytes_of pages q ≡ content_of (told pages) of → (h k : ℕ)
+    → shown pages h (Some q) k ≡ shown pages h of k
+shown_content pages q of is zero k = is
+shown_content pages q None is (suc h) k =
+    ap (λ (bytes : List ℕ). shown pages h (get_or (entries_of bytes) (place h k) None) k) is
+    ∙ ap (λ (o : Option ℕ). shown pages h o k) (zeros_none 512 (place h k))
+shown_content pages q (Some p) is (suc h) k = ap (λ (bytes : List ℕ). shown pages h (get_or (entries_of bytes) (place h k) None) k) is
 
-  other : p ≢ q
-  other e = let here : count_of p0 p ≡ count_of p0 q = ap (count_of p0) e in absurd (omega (arith, here, held_live p0 height p low held, adds.free))
+copy_shown : (p0 p1 : Pages) (q height : ℕ) (of : Option ℕ) → height ≤ 2 → Adds p0 p1 q (content_of (told p0) of) → IsPool p1
+    → Holds p0 (names height (of ∷ [])) → (k : ℕ) → shown p1 height (Some q) k ≡ shown p0 height of k
+copy_shown p0 p1 q height None low adds sound holds k = shown_content p1 q None adds.bytes_are height k ∙ shown_none p0 p1 height k
+copy_shown p0 p1 q height (Some p) low adds sound holds k =
+    shown_content p1 q (Some p) (adds.bytes_are ∙ sym (adds.others p (added_other p0 p1 q p _ adds (held_live p0 height p low holds))).bytes) height k
+    ∙ beside_shown (names height (Some p ∷ [])) (moves_adds p0 p1 q _ sound adds) (holds_part nothing (λ h x. omega arith) holds) height p k low
+    (omega (arith, own_at height p))
 
-  bytes : bytes_of p1 q ≡ bytes_of p0 p
-  bytes = adds.bytes_are ∙ ap (content_of (told p0)) is
+copy_four : (pages : Pages) (height : ℕ) (of : Option ℕ) → Holds pages (names height (of ∷ [])) → height ≡ 2 → (k : ℕ) → 4 ≤ k
+    → get_or (entries_of (content_of (told pages) of)) k None ≡ None
+copy_four pages height None holds top k past = zeros_none 512 k
+copy_four pages height (Some p) holds top k past = held_four pages height p holds top k past
 
-  pub still_held : Holds p1 (names height (Some p ∷ []))
-  still_held = holds_first p1 _ _ (added_held p0 p1 q _ _ adds sound held)
+-- It was made beside the other, which lost a name to those that its entries have.
+module _ {p0 p1 p2 : Pages} (q height : ℕ) (of : Option ℕ) (low : height ≤ 2) (adds : Adds p0 p1 q (content_of (told p0) of)) (sound : IsPool p1)
+    (holds : Holds p0 (names height (of ∷ []))) (stays : (x : ℕ) → Stays p1 p2 x) where
+  pub takes : (es : Names) → Moves p1 p2 (names height (of ∷ [])) (heirs height es) → ((x : ℕ) → occ x ((book_of p2).entries q) ≡ occ x es)
+      → ForSome of (λ p. 2 ≤ count_of p0 p) → Takes p0 p2 height of q
+  takes es leaves same shared = record {
+    moves = moves_on add (moves_on (moves_with (names 0 (Some q ∷ [])) leaves)
+        (moves_like (λ h p. omega arith) (λ h p. refl) (moves_close p2 q height es low single four same)));
+    shows = λ k. shown_same p1 p2 (λ x. (stays x).bytes) height (Some q) k ∙ copy_shown p0 p1 q height of low adds sound holds k;
+    keeps = λ k own. absurd (shared_none p0 height of k shared own);
+    single = single;
+  }
+    where
+      add : Moves p0 p1 (names height (of ∷ [])) (both (names height (of ∷ [])) (names 0 (Some q ∷ [])))
+      add = added p0 p1 q _ (names height (of ∷ [])) adds sound
 
-  module _ (leaves : Moves p1 p2 (names height (Some p ∷ [])) (heirs height ((book_of p1).entries p))) (stays : (x : ℕ) → Stays p1 p2 x) where
-    leaves_of : Moves p1 p2 (names height (of ∷ [])) (heirs height ((book_of p1).entries p))
-    leaves_of = subst (λ (o : Option ℕ). Moves p1 p2 (names height (o ∷ [])) (heirs height ((book_of p1).entries p))) (sym is) leaves
+      single : count_of p2 q ≡ 1
+      single = beside_single _ leaves (holds_then add holds) 0 q (omega arith) (omega (arith, own_at 0 q)) (added_single p0 p1 q _ adds)
 
-    entries_same : (book_of p2).entries q ≡ (book_of p0).entries p
-    entries_same = ap entries_of ((stays q).bytes ∙ bytes)
+      four : height ≡ 2 → (k : ℕ) → 4 ≤ k → child (book_of p2) (Some q) k ≡ None
+      four top k past = ap (λ (b : List ℕ). get_or (entries_of b) k None) ((stays q).bytes ∙ adds.bytes_are) ∙ copy_four p0 height of holds top k past
 
-    pub copies_some : Moves p0 p2 (names height (of ∷ [])) (names height (Some q ∷ []))
-    copies_some = copy_moves p0 p1 p2 q height of _ low adds sound leaves_of holds
-        (λ x. ap (occ x) (entries_same ∙ ap entries_of (sym (adds.others p other).bytes)))
-        (λ top k up. ap (λ (es : Names). get_or es k None) entries_same ∙ held_four p0 1 p (omega arith) (subst (λ (n : ℕ). Holds p0 (names n (Some p ∷ []))) top held) refl k up)
+-- what was copied is in hand still
+pub still_held : {p0 p1 : Pages} {q : ℕ} {bytes : List ℕ} {mine : Hands} → Adds p0 p1 q bytes → IsPool p1 → Holds p0 mine → Holds p1 mine
+still_held {p0} {p1} {q} {bytes} {mine} adds sound holds = holds_part (names 0 (Some q ∷ [])) (λ h x. refl) (holds_then (added p0 p1 q bytes mine adds sound) holds)
 
-    pub copies_single : count_of p2 q ≡ 1
-    copies_single = copy_single p0 p1 p2 q height of _ low adds sound leaves_of holds
+pub takes_none : {p0 p1 : Pages} {q height : ℕ} → height ≤ 2 → Adds p0 p1 q (replicate 512 0) → IsPool p1 → Holds p0 (names height (None ∷ []))
+    → Takes p0 p1 height None q
+takes_none {p0} {p1} {q} {height} low adds sound holds = takes q height None low adds sound holds (λ x. record { bytes = refl; home = refl }) []
+    (moves_like (λ h p. sym (names_none height (None ∷ []) (λ x. refl) h p)) (λ h p. heirs_none height [] (λ x. refl) h p) (moves_none p1 nothing))
+    (λ x. ap (λ (b : List ℕ). occ x (entries_of b)) adds.bytes_are ∙ zeros_occ x 512)
+    (λ p is. absurd (none-some p is))
 
-    pub copies_shown : (k : ℕ) → shown p2 height (Some q) k ≡ shown p0 height of k
-    copies_shown k = shown_copy p0 p1 p2 q p height k bytes (adds.others p other).bytes stays (of_shown p0 p1 p2 q height of _ low adds sound leaves_of holds p k is) ∙ ap (λ (o : Option ℕ). shown p0 height o k) (sym is)
+pub takes_some : {p0 p1 p2 p3 : Pages} {q p height : ℕ} → height ≤ 2 → Adds p0 p1 q (bytes_of p0 p) → IsPool p1 → Holds p0 (names height (Some p ∷ []))
+    → Moves p1 p2 (names height (Some p ∷ [])) (both (names height (Some p ∷ [])) (heirs height ((book_of p1).entries p)))
+    → ((x : ℕ) → Stays p1 p2 x) → Drops p2 p3 p → IsPool p3 → 2 ≤ count_of p0 p → 2 ≤ count_of p2 p → Takes p0 p3 height (Some p) q
+takes_some {p0} {p1} {p2} {p3} {q} {p} {height} low adds sound holds shares stays drops sound_3 shared more =
+    takes q height (Some p) low adds sound holds still ((book_of p1).entries p)
+    (moves_on shares (moves_like (λ h x. refl) (λ h x. omega arith)
+    (moves_with (heirs height ((book_of p1).entries p)) (moves_drops p2 p3 p height sound_3 drops low (inr more)))))
+    (λ x. ap (λ (b : List ℕ). occ x (entries_of b)) ((still q).bytes ∙ adds.bytes_are
+    ∙ sym (adds.others p (added_other p0 p1 q p _ adds (omega (arith, shared)))).bytes))
+    (λ x is. subst (λ (n : ℕ). 2 ≤ count_of p0 n) (same_Some p x is) shared)
+  where
+    still : (x : ℕ) → Stays p1 p3 x
+    still x = stays_then (stays x) (drop_stays p2 p3 p drops more x)

@@ -8,14 +8,14 @@ use Rattle.std.specs.Option.{ForSome}
 use Rattle.page_pool.specs.Pool.{Pages, count_of, used_of, IsPool, Shares}
 use Rattle.page_pool.proofs.Sound.{one_same, one_other}
 use Rattle.page_table.specs.Entries.{Names, book_of, child}
-use Rattle.page_table.specs.Sharing.{hit, occ, Hands, names, both, nothing, Agrees, AgreeIn, Agree}
+use Rattle.page_table.specs.Sharing.{hit, numbers, occ, Hands, names, both, nothing, Agrees, AgreeIn, Agree}
 use Rattle.page_table.specs.Frames.{shown, content_at, Frames, Stands, Moves, Holds}
 use Rattle.page_table.specs.Own.{named_page, HasFewNames}
-use Rattle.page_table.proofs.Bound.{few_pages, few_names}
-use Rattle.page_table.proofs.Counting.{occ-append, names_sum, names_same, names_none}
+use Rattle.page_table.proofs.Bound.{sum_zero, few_pages, few_names}
+use Rattle.page_table.proofs.Counting.{sum_same, occ-append, names_sum, names_same, names_none}
 use Rattle.page_table.proofs.Holding.{at_least, equal}
 use Rattle.page_table.proofs.Moving.{in_like, homes_same, homes_then, moves_like, moves_none, moves_again}
-use Rattle.page_table.proofs.Showing.{shown_none, held_stood, child_named, child_stood}
+use Rattle.page_table.proofs.Showing.{shown_none, child_named, child_high}
 
 pub agree_in : (pages : Pages) (roots : Names) → Agree pages roots → AgreeIn pages (names 2 roots)
 agree_in pages roots a = record { sound = a.sound; shares = a.shares }
@@ -40,17 +40,21 @@ pub frames_of : (old new : Pages) (before after : Names) → Moves old new (name
 frames_of old new before after m = record {
   homes = m.homes;
   frame = λ rest a room.
-      let f = m.frame (names 2 rest) (in_like old (names 2 (before ++ rest)) (both (names 2 before) (names 2 rest)) (λ h p. sym (append_names before rest h p)) (agree_in old (before ++ rest) a)) in
+      let f = m.frame (names 2 rest) (in_like (λ h p. sym (append_names before rest h p)) (agree_in old (before ++ rest) a)) in
       record {
-        agrees = agree_out new (after ++ rest) room (in_like new (both (names 2 after) (names 2 rest)) (names 2 (after ++ rest)) (λ h p. append_names after rest h p) f.agrees);
+        agrees = agree_out new (after ++ rest) room (in_like (λ h p. append_names after rest h p) f.agrees);
         same = λ root among. content_same old new root root (each_shown old new rest (λ r k here. f.same 2 r k (omega arith) (omega (arith, here))) root among);
       };
 }
 
 pub holds_of : (pages : Pages) (mine : Names) (more : ℕ) → Stands pages mine more → Holds pages (names 2 mine)
 holds_of pages mine more stands = record {
-  some = ∥∥₁_map stands.some (λ t. (names 2 t.0, in_like pages (names 2 (mine ++ t.0)) (both (names 2 mine) (names 2 t.0)) (λ h p. sym (append_names mine t.0 h p)) (agree_in pages (mine ++ t.0) t.1)));
+  some = ∥∥₁_map stands.some (λ t. (names 2 t.0, in_like (λ h p. sym (append_names mine t.0 h p)) (agree_in pages (mine ++ t.0) t.1)));
 }
+
+-- a table's root page is in hand, by another name of it
+pub held_of : {pages : Pages} {root : Option ℕ} {more : ℕ} {now : Option ℕ} → root ≡ now → Stands pages (root ∷ []) more → Holds pages (names 2 (now ∷ []))
+held_of {pages} {root} {more} is stands = subst (λ (o : Option ℕ). Holds pages (names 2 (o ∷ []))) is (holds_of pages (root ∷ []) more stands)
 
 -- there is room for the pages of the spaces, and for their names
 pub stands_room : (pages : Pages) (mine : Names) (more : ℕ) → Stands pages mine more → used_of pages ≤ 1034000
@@ -65,7 +69,7 @@ pub record Same (a b : Names) : Type 0 where
   pub occs : (p : ℕ) → occ p a ≡ occ p b
 
 pub reorder : (pages : Pages) (a b : Names) → Same a b → Agree pages a → Agree pages b
-reorder pages a b s g = agree_out pages b (omega (arith, s.long, g.few)) (in_like pages (names 2 a) (names 2 b) (names_same 2 a b (λ p. sym (s.occs p))) (agree_in pages a g))
+reorder pages a b s g = agree_out pages b (omega (arith, s.long, g.few)) (in_like (names_same 2 a b (λ p. sym (s.occs p))) (agree_in pages a g))
 
 pub same_app : (a b c d : Names) → Same a b → Same c d → Same (a ++ c) (b ++ d)
 same_app a b c d s t = record {
@@ -100,7 +104,7 @@ frames_more old new a b more f = record {
 -- in between there are at most as many spaces as before, or as afterwards
 pub frames_then : (p0 p1 p2 : Pages) (a b c : Names) → length b ≤ length a + (length c - length a) → Frames p0 p1 a b → Frames p1 p2 b c → Frames p0 p2 a c
 frames_then p0 p1 p2 a b c few f g = record {
-  homes = homes_then p0 p1 p2 f.homes g.homes;
+  homes = homes_then f.homes g.homes;
   frame = λ rest agree room.
       let k = f.frame rest agree (omega (arith, few, agree.few, room, length-append a rest, length-append b rest, length-append c rest)) in
       let l = g.frame rest k.agrees room in
@@ -162,44 +166,42 @@ none_used pages a = omega (arith, few_pages pages [] a)
 -- one space more with the same root
 pub frames_again : (old new : Pages) (r : ℕ) → IsPool new → Shares old new r → Frames old new (Some r ∷ []) (Some r ∷ Some r ∷ [])
 frames_again old new r sound shares = frames_of old new (Some r ∷ []) (Some r ∷ Some r ∷ [])
-    (moves_like old new _ _ _ _ (λ h p. refl) (λ h p. append_names (Some r ∷ []) (Some r ∷ []) h p) (moves_again old new r 2 sound shares (omega arith)))
+    (moves_like (λ h p. refl) (λ h p. append_names (Some r ∷ []) (Some r ∷ []) h p) (moves_again old new r 2 sound shares (omega arith)))
 
 pub frames_nil : (pages : Pages) (a b : Names) → ((p : ℕ) → occ p a ≡ 0) → ((p : ℕ) → occ p b ≡ 0) → Frames pages pages a b
-frames_nil pages a b none also = frames_of pages pages a b (moves_like pages pages nothing _ nothing _ (λ h p. sym (names_none 2 a none h p)) (λ h p. names_none 2 b also h p) (moves_none pages nothing))
+frames_nil pages a b none also = frames_of pages pages a b (moves_like (λ h p. sym (names_none 2 a none h p)) (λ h p. names_none 2 b also h p) (moves_none pages nothing))
 
 -- a page that a space has lives
 pub page_live : (pages : Pages) (root : Option ℕ) (more k p : ℕ) → Stands pages (root ∷ []) more → named_page pages root k ≡ Some p → 1 ≤ count_of pages p
 page_live pages None more k p stands is = absurd (none-some p is)
-page_live pages (Some r) more k p stands is = at_least _ _ (holds_of pages (Some r ∷ []) more stands).some (λ t. by t.0 t.1.shares (child (book_of pages) (Some r) (k / 128)) refl)
+page_live pages (Some r) more k p stands is = at_least _ _ (holds_of pages (Some r ∷ []) more stands).some (λ t.
+    by t.0 t.1.shares (child (book_of pages) (Some r) (k / 128)) refl is)
   where
-    by : (rest : Hands) (a : Agrees (book_of pages) (both (names 2 (Some r ∷ [])) rest)) (o : Option ℕ) → child (book_of pages) (Some r) (k / 128) ≡ o → 1 ≤ count_of pages p
-    by rest a None at = absurd (none-some p (ap (λ (o : Option ℕ). child (book_of pages) o (k % 128)) (sym at) ∙ is))
-    by rest a (Some t) at =
-        let root = held_stood pages _ a 2 r (omega arith) (omega (arith, one_same r r refl)) in
-        let table = child_stood pages _ a 1 r (k / 128) t root at in
-        omega (arith, a.counts p, child_named pages _ a 0 t (k % 128) p table (ap (λ (o : Option ℕ). child (book_of pages) o (k % 128)) (sym at) ∙ is))
+    by : (rest : Hands) (a : Agrees (book_of pages) (both (names 2 (Some r ∷ [])) rest)) (o : Option ℕ) → child (book_of pages) (Some r) (k / 128) ≡ o
+        → child (book_of pages) o (k % 128) ≡ Some p → 1 ≤ count_of pages p
+    by rest a None at is = absurd (none-some p is)
+    by rest a (Some t) at is =
+        let table = child_high pages _ a 1 r (k / 128) t (a.held 2 r (omega arith) (omega (arith, one_same r r refl))) at in
+        omega (arith, a.counts p, child_named pages _ a t (k % 128) p (omega (arith, table)) is)
 
 -- a pool without pages agrees where nothing is named
-pub nil_agrees : AgreeIn [] nothing
+nil_agrees : AgreeIn [] nothing
 nil_agrees = record {
   sound = record { each = λ p page is. absurd (none-some page is) };
   shares = record {
     height = λ p. 0;
-    nodes = [];
-    counts = λ p. omega arith;
+    counts = λ p. omega (arith, sum_zero numbers);
     held = λ h p low among. absurd (omega (arith, among));
-    entry = λ q p among also. absurd (omega (arith, among));
-    once = λ p. omega arith;
-    live = λ p among. absurd (omega (arith, among));
-    high = λ p among. absurd (omega (arith, among));
-    low = λ p among. absurd (omega (arith, among));
-    node = λ p alive up. absurd (omega (arith, up));
-    four = λ q k among top up. absurd (omega (arith, among));
+    entry = λ q p up among. absurd (omega (arith, up));
+    live = λ q up. absurd (omega (arith, up));
+    within = λ q up. absurd (omega (arith, up));
+    low = λ q. omega arith;
+    four = λ q k top up. absurd (omega (arith, top));
   };
 }
 
 pub nil_agree : (roots : Names) → ((p : ℕ) → occ p roots ≡ 0) → length roots ≤ 2000 → Agree [] roots
-nil_agree roots none few = agree_out [] roots few (in_like [] nothing (names 2 roots) (names_none 2 roots none) nil_agrees)
+nil_agree roots none few = agree_out [] roots few (in_like (names_none 2 roots none) nil_agrees)
 
 -- the same for all spaces that there are
 pub stands_of : (pages : Pages) (mine rest : Names) (more : ℕ) → length (mine ++ rest) + more ≤ 2000 → ∥ Agree pages (mine ++ rest) ∥₁ → Stands pages mine more

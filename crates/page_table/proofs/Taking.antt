@@ -1,67 +1,57 @@
 -- A path that is made one's own, step by step.
-use Rattle.std.proofs.Common.{◌≡◌, ℕ, ◌+◌, ◌*◌, ◌<◌, ◌≤◌, [], ◌∷◌, Option, Some, ◌∙◌, arith}
+use Rattle.std.proofs.Common.{◌≡◌, ℕ, ◌+◌, ◌*◌, ◌<◌, ◌≤◌, [], ◌∷◌, Option, Some, refl, ◌∙◌, subst, arith}
 use Rattle.page_pool.specs.Pool.{Pages, count_of}
 use Rattle.page_table.specs.Entries.{Names, book_of, child}
 use Rattle.page_table.specs.Sharing.{occ, names}
-use Rattle.page_table.specs.Frames.{shown, content_at, Moves, Holds, Frames, Stands}
+use Rattle.page_table.specs.Frames.{content_at, Holds, Frames, Stands}
 use Rattle.page_table.specs.Changes.{ChangesOnly}
-use Rattle.page_table.specs.Own.{Owns, KeepsWay}
-use Rattle.page_table.proofs.Framing.{frames_of, frames_then, holds_of, stands_after, content_same}
-use Rattle.page_table.proofs.Inside.{in_moves, in_child, in_single, in_shown, in_keeps}
-use Rattle.page_table.proofs.Owned.{entry_held}
+use Rattle.page_table.specs.Own.{Owns, KeepsWay, Takes}
+use Rattle.page_table.proofs.Copies.{stays_then}
+use Rattle.page_table.proofs.Entering.{in_moves, in_shown, in_keeps, still_single}
+use Rattle.page_table.proofs.Framing.{frames_of, stands_after, content_same}
+use Rattle.page_table.proofs.Moving.{moves_on}
 
-pub keeps_then : (p0 p1 p2 : Pages) (h : ℕ) (a b c : Option ℕ) (k : ℕ) → (Owns p0 h a k → KeepsWay p0 p1 h a b k) → (Owns p1 h b k → KeepsWay p1 p2 h b c k) → Owns p0 h a k → KeepsWay p0 p2 h a c k
+pub keeps_then : (p0 p1 p2 : Pages) (h : ℕ) (a b c : Option ℕ) (k : ℕ) → (Owns p0 h a k → KeepsWay p0 p1 h a b k)
+    → (Owns p1 h b k → KeepsWay p1 p2 h b c k) → Owns p0 h a k → KeepsWay p0 p2 h a c k
 keeps_then p0 p1 p2 h a b c k first second own =
     let f = first own in
     let s = second f.own in
     record { same = s.same ∙ f.same; own = s.own }
 
-pub changes_then : (p0 p1 p2 : Pages) (these those all : Names) → ((p : ℕ) → occ p these + occ p those ≤ 2 * occ p all) → ChangesOnly p0 p1 these → ChangesOnly p1 p2 those → ChangesOnly p0 p2 all
-changes_then p0 p1 p2 these those all more first second = record {
-  others = λ p out.
-      let s = second.others p (omega (arith, more p, out)) in
-      let f = first.others p (omega (arith, more p, out)) in
-      record { bytes = s.bytes ∙ f.bytes; home = s.home ∙ f.home };
+pub changes_then : {p0 p1 p2 : Pages} {these those : Names} (all : Names) → ((p : ℕ) → occ p these + occ p those ≤ 2 * occ p all)
+    → ChangesOnly p0 p1 these → ChangesOnly p1 p2 those → ChangesOnly p0 p2 all
+changes_then all more first second = record {
+  others = λ p out. stays_then (first.others p (omega (arith, more p, out))) (second.others p (omega (arith, more p, out)));
 }
 
--- the root page r is one's own, and the table page t of its entry i was worked on
-pub record Taken (old new : Pages) (was : Option ℕ) (r i t : ℕ) : Type 0 where
-  pub frames : Frames old new (was ∷ []) (Some r ∷ [])
-  pub table : child (book_of new) (Some r) i ≡ Some t
-  pub single : count_of new r ≡ 1
-  pub shows : (n : ℕ) → content_at new (Some r) n ≡ content_at old was n
-  pub keeps : (j : ℕ) → Owns old 2 was j → KeepsWay old new 2 was (Some r) j
+pub takes_then : {p0 p1 p2 : Pages} {h : ℕ} {a : Option ℕ} {b c : ℕ} → Takes p0 p1 h a b → Takes p1 p2 h (Some b) c → Takes p0 p2 h a c
+takes_then first second = record {
+  moves = moves_on first.moves second.moves;
+  shows = λ k. second.shows k ∙ first.shows k;
+  keeps = λ k. keeps_then _ _ _ _ _ _ _ k (first.keeps k) (second.keeps k);
+  single = second.single;
+}
 
-module _ (p0 p1 : Pages) (was : Option ℕ) (r : ℕ) (stands : Stands p0 (was ∷ []) 0) (first : Moves p0 p1 (names 2 (was ∷ [])) (names 2 (Some r ∷ []))) where
-  pub root_frames : Frames p0 p1 (was ∷ []) (Some r ∷ [])
-  root_frames = frames_of p0 p1 (was ∷ []) (Some r ∷ []) first
+-- the root page of a table
+module _ {old new : Pages} {was : Option ℕ} {r : ℕ} (t : Takes old new 2 was r) where
+  pub taken_frames : Frames old new (was ∷ []) (Some r ∷ [])
+  taken_frames = frames_of old new (was ∷ []) (Some r ∷ []) t.moves
 
-  pub root_stands : Stands p1 (Some r ∷ []) 0
-  root_stands = stands_after p0 p1 (was ∷ []) (Some r ∷ []) 0 0 (omega arith) root_frames stands
+  pub taken_stands : Stands old (was ∷ []) 0 → Stands new (Some r ∷ []) 0
+  taken_stands stands = stands_after old new (was ∷ []) (Some r ∷ []) 0 0 (omega arith) taken_frames stands
 
-  module _ (p2 : Pages) (second : Moves p1 p2 (names 2 (Some r ∷ [])) (names 2 (Some r ∷ []))) where
-    pub table_frames : Frames p0 p2 (was ∷ []) (Some r ∷ [])
-    table_frames = frames_then p0 p1 p2 (was ∷ []) (Some r ∷ []) (Some r ∷ []) (omega arith) root_frames (frames_of p1 p2 (Some r ∷ []) (Some r ∷ []) second)
+  pub taken_shows : (n : ℕ) → content_at new (Some r) n ≡ content_at old was n
+  taken_shows = content_same old new was (Some r) t.shows
 
-    pub table_stands : Stands p2 (Some r ∷ []) 0
-    table_stands = stands_after p0 p2 (was ∷ []) (Some r ∷ []) 0 0 (omega arith) table_frames stands
+  pub viewed : (now : Option ℕ) → was ≡ now → Takes old new 2 now r
+  viewed now is = subst (λ (o : Option ℕ). Takes old new 2 o r) is t
 
-    module _ (i t : ℕ) (own : count_of p2 r ≡ 1) (is : child (book_of p2) (Some r) i ≡ Some t) (small : i < 128) where
-      pub table_held : Holds p2 (names 1 (Some t ∷ []))
-      table_held = entry_held p2 r i 1 (Some t) (omega arith) (holds_of p2 (Some r ∷ []) 0 table_stands) own is small
-
-      module _ (p3 : Pages) (third : Moves p2 p3 (names 1 (Some t ∷ [])) (names 1 (Some t ∷ []))) where
-        held : Holds p2 (names 2 (Some r ∷ []))
-        held = holds_of p2 (Some r ∷ []) 0 table_stands
-
-        -- what the calls on the root page and on its entry did, one after the other
-        module _ (shows : (k : ℕ) → shown p2 2 (Some r) k ≡ shown p0 2 was k) (below : (k : ℕ) → shown p3 1 (Some t) k ≡ shown p2 1 (Some t) k)
-            (keeps : (j : ℕ) → Owns p0 2 was j → KeepsWay p0 p2 2 was (Some r) j) (lower : (j : ℕ) → Owns p2 1 (Some t) j → KeepsWay p2 p3 1 (Some t) (Some t) j) where
-          pub taken : Taken p0 p3 was r i t
-          taken = record {
-            frames = frames_then p0 p2 p3 (was ∷ []) (Some r ∷ []) (Some r ∷ []) (omega arith) table_frames (frames_of p2 p3 (Some r ∷ []) (Some r ∷ []) (in_moves p2 p3 r i 1 t (omega arith) held own is third));
-            table = in_child p2 p3 r i 1 t (omega arith) held own is third;
-            single = in_single p2 p3 r i 1 t (omega arith) held own is third;
-            shows = content_same p0 p3 was (Some r) (λ k. in_shown p2 p3 r i 1 t (omega arith) held own is third below k ∙ shows k);
-            keeps = λ j. keeps_then p0 p2 p3 2 was (Some r) (Some r) j (keeps j) (in_keeps p2 p3 r i 1 t (omega arith) held own is third lower j);
-          }
+-- a table page of it, whose entry stays
+pub inside : {old new : Pages} (r i t : ℕ) → Holds old (names 2 (Some r ∷ [])) → count_of old r ≡ 1 → child (book_of old) (Some r) i ≡ Some t → i < 128
+    → Takes old new 1 (Some t) t → Takes old new 2 (Some r) r
+inside r i t holds own is small below = record {
+  moves = in_moves r i 1 (omega arith) holds own is small t below.moves refl;
+  shows = λ k. in_shown r i 1 (omega arith) holds own is small t below.moves refl k (λ at. below.shows k);
+  keeps = in_keeps r i 1 (omega arith) holds own is small t below.moves refl below.keeps;
+  single = still_single r i 1 (omega arith) holds own is small t below.moves;
+}

@@ -1,25 +1,30 @@
-use Rattle.std.proofs.Common.{◌∙◌, ap, sym, Option, ℕ}
-use Rattle.page_table.specs.Entries.{told, content_of}
-use Rattle.page_table.specs.Frames.{shown}
-use Rattle.page_table.proofs.Copies.{copies_none, shown_zeros, still_held, copies_some, copies_single, copies_shown}
+use Rattle.std.proofs.Common.{ℕ, [], ◌∷◌, Option, subst, sym, arith}
+use Rattle.page_table.specs.Sharing.{names}
+use Rattle.page_table.specs.Frames.{Holds}
+use Rattle.page_table.specs.Own.{Takes}
+use Rattle.page_table.proofs.Copies.{takes_none, takes_some, still_held}
 use Rattle.page_table.proofs.node.copy.Goals as goal
 
-pub returns-in_default-clause-moves : goal.returns-in_default-clause-moves
-returns-in_default-clause-moves c = copies_none _ _ _ c.args.height _ c.requires.low c.in_default.is c.in_ok-q.ensures.adds c.in_ok-q.ensures.sound c.requires.held
+pub returns-in_default-clause-takes : goal.returns-in_default-clause-takes
+returns-in_default-clause-takes c = subst (λ (o : Option ℕ). Takes c.args.pool.now c.fresh.new.self c.args.height o c.in_ok-q.q) (sym c.in_default.is)
+    (takes_none c.requires.low c.in_ok-q.ensures.adds c.in_ok-q.ensures.sound
+    (subst (λ (o : Option ℕ). Holds c.args.pool.now (names c.args.height (o ∷ []))) c.in_default.is c.requires.held))
 
-pub returns-in_default-clause-shows : goal.returns-in_default-clause-shows
-returns-in_default-clause-shows c = λ k.
-    shown_zeros c.args.pool.now _ _ (c.in_ok-q.ensures.adds.bytes_are ∙ ap (content_of (told c.args.pool.now)) c.in_default.is) c.args.height k
-    ∙ ap (λ (o : Option ℕ). shown c.args.pool.now c.args.height o k) (sym c.in_default.is)
+pub copy_page-requires-clause-live : goal.copy_page-requires-clause-live
+copy_page-requires-clause-live c = omega (arith, c.requires.shared c.in-Some.p c.in-Some.is)
 
-pub leave-requires-clause-held : goal.leave-requires-clause-held
-leave-requires-clause-held c = still_held _ _ c.copy_page.new.pool _ _ c.args.height _ c.requires.low c.in-Some.is c.in_ok-q.ensures.adds c.in_ok-q.ensures.sound c.requires.held
+pub share_entries-requires-clause-held : goal.share_entries-requires-clause-held
+share_entries-requires-clause-held c = still_held c.in_ok-q-2.ensures.adds c.in_ok-q-2.ensures.sound
+    (subst (λ (o : Option ℕ). Holds c.args.pool.now (names c.args.height (o ∷ []))) c.in-Some.is c.requires.held)
 
-pub returns-clause-moves : goal.returns-clause-moves
-returns-clause-moves c = copies_some _ _ _ _ _ c.args.height _ c.requires.low c.in-Some.is c.in_ok-q.ensures.adds c.in_ok-q.ensures.sound c.requires.held c.leave.ensures.moves c.leave.ensures.stays
-
-pub returns-clause-shows : goal.returns-clause-shows
-returns-clause-shows c = copies_shown _ _ _ _ _ c.args.height _ c.requires.low c.in-Some.is c.in_ok-q.ensures.adds c.in_ok-q.ensures.sound c.requires.held c.leave.ensures.moves c.leave.ensures.stays
-
-pub returns-clause-single : goal.returns-clause-single
-returns-clause-single c = copies_single _ _ _ _ _ c.args.height _ c.requires.low c.in-Some.is c.in_ok-q.ensures.adds c.in_ok-q.ensures.sound c.requires.held c.leave.ensures.moves c.leave.ensures.stays
+pub returns-clause-takes : goal.returns-clause-takes
+returns-clause-takes c = subst (λ (o : Option ℕ). Takes c.args.pool.now c.drop_ref.new.self c.args.height o c.in_ok-q-2.q) (sym c.in-Some.is)
+    (takes_some c.requires.low c.in_ok-q-2.ensures.adds c.in_ok-q-2.ensures.sound
+    (subst (λ (o : Option ℕ). Holds c.args.pool.now (names c.args.height (o ∷ []))) c.in-Some.is c.requires.held)
+    c.share_entries.ensures.moves c.share_entries.ensures.stays c.drop_ref.ensures.drops c.drop_ref.ensures.sound
+    (c.requires.shared c.in-Some.p c.in-Some.is) (omega (
+      arith,
+      c.requires.shared c.in-Some.p c.in-Some.is,
+      c.in_ok-q-2.ensures.adds.counts c.in-Some.p,
+      c.share_entries.ensures.more c.in-Some.p,
+    )))
