@@ -105,7 +105,7 @@ module _ (height : ℕ → ℕ) where
 
 module _ (pages : Pages) (roots : Names) (agree : Agree pages roots) where
   abbrev a : Agrees (book_of pages) (names 2 roots)
-  a = agree.shares
+  a = agree.agrees.shares
 
   entries_worth : (q h : ℕ) → a.height q ≡ h → worths a.height (λ p. occ p (inner h ((book_of pages).entries q))) ≤ below h
   entries_worth q zero is = omega (arith, worths_none a.height (λ p. 0) (λ p. refl))
@@ -114,7 +114,7 @@ module _ (pages : Pages) (roots : Names) (agree : Agree pages roots) where
         arith,
         up,
         entries_length (bytes_of pages q),
-        long pages q agree.sound (a.live q (omega (arith, is))),
+        long pages q agree.agrees.sound (a.live q (omega (arith, is))),
       )))
       (λ p among. omega (arith, a.entry q p (omega (arith, is)) among, is))
   entries_worth q (suc (suc h)) is = worths_occ a.height 1 4 ((book_of pages).entries q)
@@ -132,14 +132,14 @@ module _ (pages : Pages) (roots : Names) (agree : Agree pages roots) where
   )
 
   number : (p : ℕ) → 1 ≤ count_of pages p → p < numbers
-  number p live = number_low agree.sound live
+  number p live = number_low agree.agrees.sound live
 
   pub few_pages : used_of pages ≤ 517 * length roots
   few_pages = omega (
     arith,
     sum_counts,
     used_sum numbers pages (count_of pages) (λ p live.
-        let some = count_live pages p agree.sound live in (number p some, some)),
+        let some = count_live pages p agree.agrees.sound live in (number p some, some)),
   )
 
   pub few_names : HasFewNames pages

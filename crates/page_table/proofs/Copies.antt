@@ -12,7 +12,7 @@ use Rattle.page_table.specs.Frames.{place, shown, Moves, Holds}
 use Rattle.page_table.specs.Own.{count_at, heirs, Owns, Takes}
 use Rattle.page_table.proofs.Counting.{names_none, heirs_none, heirs_sum, occ_take, own_at}
 use Rattle.page_table.proofs.Holding.{holds_then, holds_part, held_live, held_entries, held_four, beside_single, beside_shown}
-use Rattle.page_table.proofs.Moving.{moves_on, moves_like, moves_with, moves_none, moves_close, moves_adds, moves_drops, drop_stays}
+use Rattle.page_table.proofs.Moving.{stays_then, moves_on, moves_like, moves_with, moves_none, moves_close, moves_adds, moves_drops, drop_stays}
 use Rattle.page_table.proofs.Showing.{shown_none, shown_same}
 use Rattle.page_table.proofs.Spelled.{zeros_none, zeros_occ}
 
@@ -20,9 +20,6 @@ use Rattle.page_table.proofs.Spelled.{zeros_none, zeros_occ}
 pub pasted_whole : (was bytes : List ℕ) → length was ≡ 512 → length bytes ≡ 512 → pasted was 0 bytes ≡ bytes
 pasted_whole was bytes long also =
     ap (λ (l : List ℕ). bytes ++ l) (drop_all (0 + length bytes) was (omega (arith, long, also))) ∙ append-nil bytes
-
-pub stays_then : {p0 p1 p2 : Pages} {x : ℕ} → Stays p0 p1 x → Stays p1 p2 x → Stays p0 p2 x
-stays_then first second = record { bytes = second.bytes ∙ first.bytes; home = second.home ∙ first.home }
 
 -- a page that was made
 pub adds_writes : (p0 p1 p2 : Pages) (q : ℕ) (was bytes : List ℕ) → Adds p0 p1 q was → Writes p1 p2 q bytes → Adds p0 p2 q bytes

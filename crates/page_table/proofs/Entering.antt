@@ -5,13 +5,13 @@ use Rattle.std.proofs.lemmas.Bool.{cases_eq, cases_lt}
 use Rattle.std.proofs.lemmas.List.{get_or_past, set-get_or}
 use Rattle.std.proofs.lemmas.Option.{none-some}
 use Rattle.std.specs.Option.{ForSome}
-use Rattle.page_pool.specs.Pool.{Pages, count_of, bytes_of, IsPool, Writes}
+use Rattle.page_pool.specs.Pool.{Pages, count_of, used_of, bytes_of, IsPool, Writes}
 use Rattle.page_pool.proofs.Sound.{one_same}
 use Rattle.page_table.specs.Entries.{Names, entries_of, book_of, child}
 use Rattle.page_table.specs.Sharing.{hit, occ, Hands, names, both, nothing}
 use Rattle.page_table.specs.Frames.{place, shown, Moves, Holds}
 use Rattle.page_table.specs.Changes.{way}
-use Rattle.page_table.specs.Own.{count_at, Owns, KeepsWay, Takes}
+use Rattle.page_table.specs.Own.{Owns, KeepsWay, Takes, HasFewNames, Ready}
 use Rattle.page_table.proofs.Counting.{names_sum, names_at, own_at, occ-set, occ_get}
 use Rattle.page_table.proofs.Copies.{shared_none}
 use Rattle.page_table.proofs.Holding.{held_four, held_entries, holds_then, holds_part, beside_single, beside_shown}
@@ -141,6 +141,9 @@ module _ {old : Pages} (x e h : ℕ) {was : Option ℕ} (low : h ≤ 1) (holds :
 
   pub entry_held : Holds old (names h (was ∷ []))
   entry_held = holds_part _ (λ n p. refl) apart_two
+
+  pub ready_below : HasFewNames old → used_of old < 1048576 → Ready old (names h (was ∷ []))
+  ready_below few room = record { held = entry_held; few = few; room = room }
 
   -- after a call on what the entry names
   module _ {mid : Pages} (later : ℕ) (m : Moves old mid (names h (was ∷ [])) (names h (Some later ∷ []))) where

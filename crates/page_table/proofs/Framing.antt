@@ -10,19 +10,12 @@ use Rattle.page_pool.proofs.Sound.{one_same, one_other}
 use Rattle.page_table.specs.Entries.{Names, book_of, child}
 use Rattle.page_table.specs.Sharing.{hit, numbers, occ, Hands, names, both, nothing, Agrees, AgreeIn, Agree}
 use Rattle.page_table.specs.Frames.{shown, content_at, Frames, Stands, Moves, Holds}
-use Rattle.page_table.specs.Own.{named_page, HasFewNames}
+use Rattle.page_table.specs.Own.{named_page, HasFewNames, Ready}
 use Rattle.page_table.proofs.Bound.{sum_zero, few_pages, few_names}
 use Rattle.page_table.proofs.Counting.{sum_same, occ-append, names_sum, names_same, names_none}
 use Rattle.page_table.proofs.Holding.{at_least, equal}
 use Rattle.page_table.proofs.Moving.{in_like, homes_same, homes_then, moves_like, moves_none, moves_again}
 use Rattle.page_table.proofs.Showing.{shown_none, child_named, child_high}
-
-pub agree_in : (pages : Pages) (roots : Names) → Agree pages roots → AgreeIn pages (names 2 roots)
-agree_in pages roots a = record { sound = a.sound; shares = a.shares }
-
--- what was built of names in hand agrees where the spaces' roots alone are left in hand
-pub agree_out : (pages : Pages) (roots : Names) → length roots ≤ 2000 → AgreeIn pages (names 2 roots) → Agree pages roots
-agree_out pages roots few a = record { few = few; sound = a.sound; shares = a.shares }
 
 append_names : (a b : Names) (h p : ℕ) → names 2 (a ++ b) h p ≡ names 2 a h p + names 2 b h p
 append_names a b h p = names_sum 2 a b (a ++ b) (λ x. occ-append x a b) h p
@@ -40,16 +33,16 @@ pub frames_of : (old new : Pages) (before after : Names) → Moves old new (name
 frames_of old new before after m = record {
   homes = m.homes;
   frame = λ rest a room.
-      let f = m.frame (names 2 rest) (in_like (λ h p. sym (append_names before rest h p)) (agree_in old (before ++ rest) a)) in
+      let f = m.frame (names 2 rest) (in_like (λ h p. sym (append_names before rest h p)) a.agrees) in
       record {
-        agrees = agree_out new (after ++ rest) room (in_like (λ h p. append_names after rest h p) f.agrees);
+        agrees = record { few = room; agrees = in_like (append_names after rest) f.agrees };
         same = λ root among. content_same old new root root (each_shown old new rest (λ r k here. f.same 2 r k (omega arith) (omega (arith, here))) root among);
       };
 }
 
 pub holds_of : (pages : Pages) (mine : Names) (more : ℕ) → Stands pages mine more → Holds pages (names 2 mine)
 holds_of pages mine more stands = record {
-  some = ∥∥₁_map stands.some (λ t. (names 2 t.0, in_like (λ h p. sym (append_names mine t.0 h p)) (agree_in pages (mine ++ t.0) t.1)));
+  some = ∥∥₁_map stands.some (λ t. (names 2 t.0, in_like (λ h p. sym (append_names mine t.0 h p)) t.1.agrees));
 }
 
 -- a table's root page is in hand, by another name of it
@@ -63,13 +56,16 @@ stands_room pages mine more stands = at_least _ _ stands.some (λ t. omega (arit
 pub stands_few : (pages : Pages) (mine : Names) (more : ℕ) → Stands pages mine more → HasFewNames pages
 stands_few pages mine more stands p = at_least _ _ stands.some (λ t. few_names pages (mine ++ t.0) t.1 p)
 
+pub ready_of : {pages : Pages} {root : Option ℕ} {more : ℕ} {now : Option ℕ} → root ≡ now → Stands pages (root ∷ []) more → Ready pages (names 2 (now ∷ []))
+ready_of is stands = record { held = held_of is stands; few = stands_few _ _ _ stands; room = omega (arith, stands_room _ _ _ stands) }
+
 -- the same names, in any order
 pub record Same (a b : Names) : Type 0 where
   pub long : length a ≡ length b
   pub occs : (p : ℕ) → occ p a ≡ occ p b
 
 pub reorder : (pages : Pages) (a b : Names) → Same a b → Agree pages a → Agree pages b
-reorder pages a b s g = agree_out pages b (omega (arith, s.long, g.few)) (in_like (names_same 2 a b (λ p. sym (s.occs p))) (agree_in pages a g))
+reorder pages a b s g = record { few = omega (arith, s.long, g.few); agrees = in_like (names_same 2 a b (λ p. sym (s.occs p))) g.agrees }
 
 pub same_app : (a b c d : Names) → Same a b → Same c d → Same (a ++ c) (b ++ d)
 same_app a b c d s t = record {
@@ -112,7 +108,7 @@ frames_then p0 p1 p2 a b c few f g = record {
 }
 
 pub frames_none : (pages : Pages) (a : Names) → Frames pages pages a a
-frames_none pages a = record { homes = homes_same pages; frame = λ rest agree room. record { agrees = agree; same = λ root among n. refl } }
+frames_none pages a = record { homes = homes_same; frame = λ rest agree room. record { agrees = agree; same = λ root among n. refl } }
 
 pub stands_same : (pages : Pages) (a b : Names) (more : ℕ) → Same a b → Stands pages a more → Stands pages b more
 stands_same pages a b more s stands = record {
@@ -201,7 +197,7 @@ nil_agrees = record {
 }
 
 pub nil_agree : (roots : Names) → ((p : ℕ) → occ p roots ≡ 0) → length roots ≤ 2000 → Agree [] roots
-nil_agree roots none few = agree_out [] roots few (in_like (names_none 2 roots none) nil_agrees)
+nil_agree roots none few = record { few = few; agrees = in_like (names_none 2 roots none) nil_agrees }
 
 -- the same for all spaces that there are
 pub stands_of : (pages : Pages) (mine rest : Names) (more : ℕ) → length (mine ++ rest) + more ≤ 2000 → ∥ Agree pages (mine ++ rest) ∥₁ → Stands pages mine more

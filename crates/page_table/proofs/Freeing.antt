@@ -7,10 +7,9 @@ use Rattle.page_table.specs.Sharing.{occ, Hands, names, nothing}
 use Rattle.page_table.specs.Frames.{Moves, Holds}
 use Rattle.page_table.specs.Changes.{FreesOnly}
 use Rattle.page_table.specs.Own.{heirs}
-use Rattle.page_table.proofs.Copies.{stays_then}
 use Rattle.page_table.proofs.Counting.{heirs_sum, heirs_none}
 use Rattle.page_table.proofs.Holding.{holds_then, holds_part}
-use Rattle.page_table.proofs.Moving.{moves_on, moves_like, moves_with, moves_open, moves_drops}
+use Rattle.page_table.proofs.Moving.{stays_then, moves_on, moves_like, moves_with, moves_open, moves_drops}
 use Rattle.page_table.proofs.Spelled.{entries_length}
 
 pub frees_then : {p0 p1 p2 : Pages} → FreesOnly p0 p1 → FreesOnly p1 p2 → FreesOnly p0 p2

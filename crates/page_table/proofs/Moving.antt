@@ -13,23 +13,16 @@ use Rattle.page_table.proofs.Counting.{total_names, total_at, names_same, own_at
 use Rattle.page_table.proofs.Agreeing.{step, same_hands, opens, closes}
 use Rattle.page_table.proofs.Showing.{shown_same, shown_away, child_named, child_high}
 
--- pages with a home
-pub homes_same : (pages : Pages) → KeepsHomes pages pages
-homes_same pages = record { home = λ p b is. is; bytes = λ p b is. refl }
+pub stays_then : {p0 p1 p2 : Pages} {x : ℕ} → Stays p0 p1 x → Stays p1 p2 x → Stays p0 p2 x
+stays_then first second = record { bytes = second.bytes ∙ first.bytes; home = second.home ∙ first.home }
+
+pub homes_same : {pages : Pages} → KeepsHomes pages pages
+homes_same = record { stays = λ p b is. record { bytes = refl; home = refl } }
 
 pub homes_then : {p0 p1 p2 : Pages} → KeepsHomes p0 p1 → KeepsHomes p1 p2 → KeepsHomes p0 p2
 homes_then first second = record {
-  home = λ p b is. first.home p b (second.home p b is);
-  bytes = λ p b is. second.bytes p b is ∙ first.bytes p b (second.home p b is);
+  stays = λ p b is. let s = second.stays p b is in stays_then (first.stays p b (sym s.home ∙ is)) s;
 }
-
-homes_stay : (old new : Pages) → ((p b : ℕ) → home_of new p ≡ Some b → Stays old new p) → KeepsHomes old new
-homes_stay old new stays = record { home = λ p b is. sym (stays p b is).home ∙ is; bytes = λ p b is. (stays p b is).bytes }
-
--- all pages but a changed one stay
-homes_but : (old new : Pages) (q : ℕ) → home_of new q ≡ None → ((x : ℕ) → x ≢ q → Stays old new x) → KeepsHomes old new
-homes_but old new q changed others =
-    homes_stay old new (λ p b is. others p (λ e. none-some b (sym changed ∙ ap (home_of new) (sym e) ∙ is)))
 
 -- names in hand in another form
 pub in_like : {pages : Pages} {a b : Hands} → ((h p : ℕ) → b h p ≡ a h p) → AgreeIn pages a → AgreeIn pages b
@@ -37,8 +30,8 @@ in_like like agree = record { sound = agree.sound; shares = same_hands _ _ _ lik
 
 -- the same pages
 still : {pages : Pages} {a b : Hands} → ((rest : Hands) → AgreeIn pages (both a rest) → AgreeIn pages (both b rest)) → Moves pages pages a b
-still {pages} turn = record {
-  homes = homes_same pages;
+still turn = record {
+  homes = homes_same;
   frame = λ rest agree. record { agrees = turn rest agree; same = λ h x k low among. refl; single = λ h x low among once. once };
 }
 
@@ -116,11 +109,16 @@ record Fits (old new : Pages) (before after rest : Hands) (q : ℕ) (a : Agrees 
   bytes : (bytes_of new q ≡ bytes_of old q) ⊎ ((a.height q ≡ 0) × (total rest q + named (book_of old) a.height q ≡ 0))
   fresh : (x : ℕ) → count_of old x ≡ 1 → total before x + named (book_of old) a.height x ≡ 0 → total after x ≡ 0
 
-moves_fits : (old new : Pages) (before after : Hands) (q : ℕ) → IsPool new → KeepsHomes old new → ((x : ℕ) → x ≢ q → Stays old new x)
+moves_fits : (old new : Pages) (before after : Hands) (q : ℕ) → IsPool new → ((b : ℕ) → home_of new q ≡ Some b → Stays old new q) → ((x : ℕ) → x ≢ q → Stays old new x)
     → ((x : ℕ) → count_of new x + total before x ≡ count_of old x + total after x)
     → ((rest : Hands) (a : Agrees (book_of old) (both before rest)) → Fits old new before after rest q a) → Moves old new before after
-moves_fits old new before after q sound homes others counted fits = record {
-  homes = homes;
+moves_fits old new before after q sound home others counted fits = record {
+  homes = record {
+    stays = λ x b is. elim (cases_eq x q) [
+      | inl e ↦ subst (Stays old new) (sym e) (home b (ap (home_of new) (sym e) ∙ is))
+      | inr ne ↦ others x ne
+    ];
+  };
   frame = λ rest agree.
       let a = agree.shares in
       let f = fits rest a in
@@ -155,7 +153,7 @@ moves_fits old new before after q sound homes others counted fits = record {
 -- a page more, or other bytes of a content page that has one name, in hand
 module _ (old new : Pages) (q : ℕ) (bytes : List ℕ) (sound : IsPool new) where
   pub moves_adds : Adds old new q bytes → Moves old new nothing (names 0 (Some q ∷ []))
-  moves_adds adds = moves_fits old new nothing (names 0 (Some q ∷ [])) q sound (homes_but old new q adds.changed adds.others) adds.others
+  moves_adds adds = moves_fits old new nothing (names 0 (Some q ∷ [])) q sound (λ b is. absurd (none-some b (sym adds.changed ∙ is))) adds.others
       (λ x. omega (arith, adds.counts x)) (λ rest a.
       let bottom : a.height q ≡ 0 = elim (cases_eq (a.height q) 0) [ inl is ↦ is | inr up ↦ absurd (omega (arith, a.live q (omega (arith, up)), adds.free)) ] in
       record {
@@ -171,7 +169,7 @@ module _ (old new : Pages) (q : ℕ) (bytes : List ℕ) (sound : IsPool new) whe
 
   pub moves_writes : Writes old new q bytes → count_of old q ≡ 1 → Moves old new (names 0 (Some q ∷ [])) (names 0 (Some q ∷ []))
   moves_writes writes single = moves_fits old new (names 0 (Some q ∷ [])) (names 0 (Some q ∷ [])) q sound
-      (homes_but old new q writes.changed writes.others) writes.others (λ x. omega (arith, writes.counts x)) (λ rest a. record {
+      (λ b is. absurd (none-some b (sym writes.changed ∙ is))) writes.others (λ x. omega (arith, writes.counts x)) (λ rest a. record {
         held = λ h x fits own. a.held h x fits (omega (arith, own));
         live = λ x up. omega (arith, a.live x up, writes.counts x);
         bytes = inr (a.held 0 q (omega arith) (omega (arith, one_same q q refl)), omega (arith, a.counts q, single, one_same q q refl));
@@ -183,7 +181,7 @@ moves_known : (old new : Pages) (mine : Hands) (p height : ℕ) → IsPool new �
     → ((rest : Hands) (a : Agrees (book_of old) (both mine rest)) → (a.height p ≡ height) × (1 ≤ total mine p + named (book_of old) a.height p))
     → Moves old new mine (both mine (names height (Some p ∷ [])))
 moves_known old new mine p height sound shares low known = moves_fits old new mine (both mine (names height (Some p ∷ []))) p sound
-    (homes_stay old new (λ x b at. shares.each x)) (λ x ne. shares.each x)
+    (λ b is. shares.each p) (λ x ne. shares.each x)
     (λ x. omega (arith, shares.counts x, total_names height (Some p ∷ []) x low)) (λ rest a. record {
       held = λ h x fits among. elim (cases_eq (mine h x) 0) [
         | inl none ↦ let at = own_in height p h x (omega (arith, among, none)) in ap a.height at.1 ∙ (known rest a).0 ∙ sym at.0
@@ -240,7 +238,7 @@ drop_stays old new p drops more x = elim (cases_eq x p) [
 pub moves_drops : (old new : Pages) (p height : ℕ) → IsPool new → Drops old new p → height ≤ 2 → (height ≡ 0) ⊎ (2 ≤ count_of old p)
     → Moves old new (names height (Some p ∷ [])) nothing
 moves_drops old new p height sound drops low which = moves_fits old new (names height (Some p ∷ [])) nothing p sound
-    (homes_stay old new (λ x b at. (frees_drop old new p drops).stays x (home_lives new x b sound at))) drops.others
+    (λ b is. drops.stays (home_lives new p b sound is)) drops.others
     (λ x. omega (arith, drops.counts x, total_names height (Some p ∷ []) x low)) (λ rest a.
     let high : a.height p ≡ height = a.held height p low (omega (arith, own_at height p)) in
     record {

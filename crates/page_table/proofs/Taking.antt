@@ -6,10 +6,9 @@ use Rattle.page_table.specs.Sharing.{occ, names}
 use Rattle.page_table.specs.Frames.{content_at, Holds, Frames, Stands}
 use Rattle.page_table.specs.Changes.{ChangesOnly}
 use Rattle.page_table.specs.Own.{Owns, KeepsWay, Takes}
-use Rattle.page_table.proofs.Copies.{stays_then}
 use Rattle.page_table.proofs.Entering.{in_moves, in_shown, in_keeps, still_single}
 use Rattle.page_table.proofs.Framing.{frames_of, stands_after, content_same}
-use Rattle.page_table.proofs.Moving.{moves_on}
+use Rattle.page_table.proofs.Moving.{stays_then, moves_on}
 
 pub keeps_then : (p0 p1 p2 : Pages) (h : ℕ) (a b c : Option ℕ) (k : ℕ) → (Owns p0 h a k → KeepsWay p0 p1 h a b k)
     → (Owns p1 h b k → KeepsWay p1 p2 h b c k) → Owns p0 h a k → KeepsWay p0 p2 h a c k

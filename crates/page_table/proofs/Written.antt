@@ -3,19 +3,19 @@ use Rattle.std.proofs.Common.{◌≡◌, ◌≢◌, ℕ, zero, suc, ◌/◌, ◌
 use Rattle.page_pool.specs.Pool.{Pages, bytes_of, IsPool, Writes}
 use Rattle.page_table.specs.Entries.{book_of, child}
 use Rattle.page_table.specs.Sharing.{names}
-use Rattle.page_table.specs.Frames.{place, shown, Moves, Holds, Frames, Stands}
+use Rattle.page_table.specs.Frames.{place, shown, Moves, Holds, Stands}
 use Rattle.page_table.specs.Own.{named_page, Owns, KeepsWay}
 use Rattle.page_table.proofs.Entering.{owned_some, entry_held, in_child, in_moves, in_shown, in_keeps}
-use Rattle.page_table.proofs.Framing.{frames_of, holds_of}
+use Rattle.page_table.proofs.Framing.{holds_of}
 use Rattle.page_table.proofs.Moving.{moves_writes}
 
 -- the page at the end of the way to page k
-abbrev end : Pages → ℕ → Option ℕ → ℕ → Option ℕ
+abbrev pub end : Pages → ℕ → Option ℕ → ℕ → Option ℕ
 end pages zero page k = page
 end pages (suc h) page k = end pages h (child (book_of pages) page (place h k)) k
 
 -- the ways to two pages part
-abbrev Apart : ℕ → ℕ → ℕ → Type 0
+abbrev pub Apart : ℕ → ℕ → ℕ → Type 0
 Apart zero j k = ⊥
 Apart (suc h) j k = place h j ≡ place h k → Apart h j k
 
@@ -24,28 +24,28 @@ place_low zero k low = omega arith
 place_low (suc h) k low = omega (arith, low)
 
 -- what a page on the way shows, and that it is in hand still
-record WrittenBelow (pages new : Pages) (k p : ℕ) (bytes : List ℕ) (h : ℕ) (x : Option ℕ) : Type 0 where
-  moves : Moves pages new (names h (x ∷ [])) (names h (x ∷ []))
-  here : shown new h x k ≡ bytes
-  was : shown pages h x k ≡ bytes_of pages p
-  off : (j : ℕ) → Apart h j k → shown new h x j ≡ shown pages h x j
-  keeps : (j : ℕ) → Owns pages h x j → KeepsWay pages new h x x j
+pub record Written (pages new : Pages) (k p : ℕ) (bytes : List ℕ) (h : ℕ) (x : Option ℕ) : Type 0 where
+  pub moves : Moves pages new (names h (x ∷ [])) (names h (x ∷ []))
+  pub here : shown new h x k ≡ bytes
+  pub was : shown pages h x k ≡ bytes_of pages p
+  pub off : (j : ℕ) → Apart h j k → shown new h x j ≡ shown pages h x j
+  pub keeps : (j : ℕ) → Owns pages h x j → KeepsWay pages new h x x j
 
-module _ (pages new : Pages) (k p : ℕ) (bytes : List ℕ) (low : k < 512) (sound : IsPool new) (writes : Writes pages new p bytes) where
-  written_below : (h : ℕ) (x : Option ℕ) → h ≤ 2 → Holds pages (names h (x ∷ [])) → Owns pages h x k → end pages h x k ≡ Some p
-      → WrittenBelow pages new k p bytes h x
-  written_below zero x fits holds own is = subst (WrittenBelow pages new k p bytes 0) (sym is) (record {
+module _ {pages new : Pages} (k p : ℕ) {bytes : List ℕ} (low : k < 512) (sound : IsPool new) (writes : Writes pages new p bytes) where
+  pub written_way : (h : ℕ) (x : Option ℕ) → h ≤ 2 → Holds pages (names h (x ∷ [])) → Owns pages h x k → end pages h x k ≡ Some p
+      → Written pages new k p bytes h x
+  written_way zero x fits holds own is = subst (Written pages new k p bytes 0) (sym is) (record {
     moves = moves_writes pages new p bytes sound writes (subst (λ (o : Option ℕ). Owns pages 0 o k) is own);
     here = writes.bytes_are;
     was = refl;
     off = λ j apart. absurd apart;
     keeps = λ j single. record { same = refl; own = writes.counts p ∙ single };
   })
-  written_below (suc h) None fits holds own is = absurd (omega (arith, own.0))
-  written_below (suc h) (Some r) fits holds own is =
+  written_way (suc h) None fits holds own is = absurd (omega (arith, own.0))
+  written_way (suc h) (Some r) fits holds own is =
       let t = owned_some pages h (child (book_of pages) (Some r) (place h k)) k own.1 in
       let held = entry_held r (place h k) h (omega (arith, fits)) holds own.0 t.1 (place_low h k low) in
-      let below = written_below h (Some t.0) (omega (arith, fits)) held (subst (λ (o : Option ℕ). Owns pages h o k) t.1 own.1)
+      let below = written_way h (Some t.0) (omega (arith, fits)) held (subst (λ (o : Option ℕ). Owns pages h o k) t.1 own.1)
       (subst (λ (o : Option ℕ). end pages h o k ≡ Some p) t.1 is) in
       record {
         moves = in_moves r (place h k) h (omega (arith, fits)) holds own.0 t.1 (place_low h k low) t.0 below.moves refl;
@@ -57,22 +57,8 @@ module _ (pages new : Pages) (k p : ℕ) (bytes : List ℕ) (low : k < 512) (sou
         keeps = in_keeps r (place h k) h (omega (arith, fits)) holds own.0 t.1 (place_low h k low) t.0 below.moves refl below.keeps;
       }
 
-module _ (pages new : Pages) (root : Option ℕ) (k p : ℕ) (bytes : List ℕ) (stands : Stands pages (root ∷ []) 0) (low : k < 512) (own : Owns pages 2 root k)
-    (named : named_page pages root k ≡ Some p) (sound : IsPool new) (writes : Writes pages new p bytes) where
-  done : WrittenBelow pages new k p bytes 2 root
-  done = written_below pages new k p bytes low sound writes 2 root (omega arith) (holds_of pages (root ∷ []) 0 stands) own named
-
-  pub write_frames : Frames pages new (root ∷ []) (root ∷ [])
-  write_frames = frames_of pages new (root ∷ []) (root ∷ []) done.moves
-
-  pub write_here : shown new 2 root k ≡ bytes
-  write_here = done.here
-
-  pub was_here : shown pages 2 root k ≡ bytes_of pages p
-  was_here = done.was
-
-  pub write_off : (j : ℕ) → j ≢ k → shown new 2 root j ≡ shown pages 2 root j
-  write_off j ne = done.off j (λ table page. ne (omega (arith, table, page)))
-
-  pub write_keeps : (j : ℕ) → Owns pages 2 root j → KeepsWay pages new 2 root root j
-  write_keeps = done.keeps
+-- a table's page k is written
+pub written : {pages new : Pages} {root : Option ℕ} {more : ℕ} (k p : ℕ) {bytes : List ℕ} → Stands pages (root ∷ []) more → k < 512 → Owns pages 2 root k
+    → named_page pages root k ≡ Some p → IsPool new → Writes pages new p bytes → Written pages new k p bytes 2 root
+written {root = root} {more = more} k p stands low own named sound writes =
+    written_way k p low sound writes 2 root (omega arith) (holds_of _ (root ∷ []) more stands) own named

@@ -1,7 +1,7 @@
 -- What a call does to the spaces over a pool, whatever else stands over it.
 use Rattle.std.specs.Prelude.{◌≡◌, ◌+◌, ◌/◌, ◌%◌, ◌≤◌, ℕ, zero, suc, List, ◌++◌, length, Option, Some, slice_index_or}
 use Rattle.std.specs.Option.{ForSome}
-use Rattle.page_pool.specs.Pool.{Pages, count_of, bytes_of, home_of}
+use Rattle.page_pool.specs.Pool.{Pages, count_of, home_of, Stays}
 use Rattle.page_table.specs.Entries.{Names, book_of, told, child, content_of}
 use Rattle.page_table.specs.Sharing.{Hands, both, occ, AgreeIn, Agree}
 
@@ -19,10 +19,9 @@ shown pages (suc h) page k = shown pages h (child (book_of pages) page (place h 
 abbrev pub content_at : Pages → Option ℕ → ℕ → ℕ
 content_at pages root n = slice_index_or (shown pages 2 root (n / 512)) (n % 512) 0
 
--- a page with a home afterwards had it, with the bytes that it had: what was made or written counts as changed
+-- a page with a home afterwards stands as it stood: what was made or written counts as changed
 pub record KeepsHomes (old new : Pages) : Type 0 where
-  pub home : (p b : ℕ) → home_of new p ≡ Some b → home_of old p ≡ Some b
-  pub bytes : (p b : ℕ) → home_of new p ≡ Some b → bytes_of new p ≡ bytes_of old p
+  pub stays : (p b : ℕ) → home_of new p ≡ Some b → Stays old new p
 
 -- pool and spaces agree, and no byte of the rest changed
 pub record Framed (old new : Pages) (after rest : Names) : Type 0 where

@@ -6,44 +6,30 @@ use Rattle.page_table.proofs.Moving.{frees_drop, moves_drops, moves_none, moves_
 use Rattle.page_table.proofs.forget.+release.Goals as goal
 use Rattle.page_table.proofs.forget.+release.Goals.{in-Some, in_default}
 
-pub drop_ref-requires : goal.drop_ref-requires
-drop_ref-requires t c = record { live = held_live _ c.args.height c.args.p c.requires.low c.requires.held }
-
 pub returns-then-height-eq0-clause-moves : goal.returns-then-height-eq0-clause-moves
 returns-then-height-eq0-clause-moves t c =
     moves_drops _ _ c.args.p c.args.height c.drop_ref.ensures.sound c.drop_ref.ensures.drops c.requires.low (inl (omega (arith, c.if-height-eq0.true)))
-
-pub count-requires : goal.count-requires
-count-requires t c = record { live = held_live _ c.args.height c.args.p c.requires.low c.requires.held }
 
 pub returns-then-count-gt1-clause-moves : goal.returns-then-count-gt1-clause-moves
 returns-then-count-gt1-clause-moves t c = moves_drops _ _ c.args.p c.args.height c.drop_ref-then-count-gt1.ensures.sound
     c.drop_ref-then-count-gt1.ensures.drops c.requires.low (inr (omega (arith, c.if-count-gt1.true, c.count.ensures)))
 
-pub read-requires-clause-live : goal.read-requires-clause-live
-read-requires-clause-live t c = held_live _ c.args.height c.args.p c.requires.low c.requires.held
-
-pub drop_ref-requires-2 : goal.drop_ref-requires-2
-drop_ref-requires-2 t c = record { live = held_live _ c.args.height c.args.p c.requires.low c.requires.held }
-
 pub loop-k-init : goal.loop-k-init
 loop-k-init t c = record {
   moves = frees_node c.args.p c.args.height _ c.requires.low
-      (omega (arith, c.if-count-gt1.false, c.count.ensures, held_live _ c.args.height c.args.p c.requires.low c.requires.held))
+      (omega (arith, c.if-count-gt1.false, c.count.ensures, c.requires.live))
       c.drop_ref-2.ensures.sound c.drop_ref-2.ensures.drops c.read.ensures.bytes c.read.ensures.long;
   frees = frees_drop _ _ _ c.drop_ref-2.ensures.drops;
   used = c.drop_ref-2.ensures.used;
 }
 
 pub release-requires : goal.release-requires
-release-requires t c = (
-  omega (arith, c.decreases, c.if-height-eq0.false),
-  (
-    omega (arith, c.requires.low),
-    left_held c.read.new.into c.loop-k.k c.args.height (omega (arith, c.if-height-eq0.false)) c.read.auto.into c.loop-k-test.true (sym c.entry_in.ensures ∙ c.in-Some.is)
-        c.loop-k.invariant.moves c.requires.held,
-  ),
-)
+release-requires t c =
+    let held = left_held c.read.new.into c.loop-k.k c.args.height (omega (arith, c.if-height-eq0.false)) c.read.auto.into c.loop-k-test.true
+    (sym c.entry_in.ensures ∙ c.in-Some.is) c.loop-k.invariant.moves c.requires.held in (
+      omega (arith, c.decreases, c.if-height-eq0.false),
+      (omega (arith, c.requires.low), (held_live _ (c.args.height - 1) _ (omega (arith, c.requires.low)) held, held)),
+    )
 
 pub loop-k-preserved : goal.loop-k-preserved
 loop-k-preserved t c = elim c.match-entry_in.branch [
