@@ -11,7 +11,7 @@ use Rattle.page_table.specs.Frames.{content_at, Frames, Framed, Stands}
 use Rattle.page_table.specs.Sharing.{occ, Agree}
 use Rattle.page_table.proofs.Counting.{occ-append}
 use Rattle.page_table.proofs.Framing.{Same, same_self, reorder, agree_same, agree_after, all_keep, stands_of}
-use Rattle.page_table.proofs.Holding.{equal}
+use Rattle.page_table.proofs.Moving.{equal}
 
 module _ {T : Type 0} (roots : T → Names) (none : T) (unnamed : (x : ℕ) → occ x (roots none) ≡ 0) where
   abbrev pub all : List T → Names

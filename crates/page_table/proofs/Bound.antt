@@ -1,13 +1,11 @@
 -- How many pages the spaces have: at most 517 each.
-use Rattle.std.proofs.Common.{◌≡◌, ◌≢◌, inl, inr, ℕ, zero, suc, ◌+◌, ◌*◌, ◌<◌, ◌≤◌, [], ◌∷◌, length, get_or, Option, Some, None, refl, sym, ◌∙◌, ap, subst, arith}
-use Rattle.std.proofs.lemmas.Bool.{cases_eq, cases_lt}
+use Rattle.page_table.proofs.Common.{◌≡◌, ◌≢◌, ◌+◌, ◌*◌, ◌<◌, ◌≤◌, ℕ, zero, suc, [], ◌∷◌, length, get_or, Option, Some, None, inl, inr, refl, sym, ◌∙◌, ap}
+use Rattle.page_table.proofs.Common.{subst, arith, cases_eq, cases_lt, Pages, count_of, bytes_of, used_of, one, sum, one_same, one_other, Names, book_of, hit}
+use Rattle.page_table.proofs.Common.{occ, inner, named, names, Agrees, Agree, HasFewNames}
+use Rattle.page_table.specs.Sharing.{numbers}
 use Rattle.std.proofs.lemmas.List.{get_or_past}
-use Rattle.page_pool.specs.Pool.{Pages, count_of, bytes_of, used_of, one, sum}
-use Rattle.page_pool.proofs.Sound.{one_same, one_other, long, count_live}
+use Rattle.page_pool.proofs.Sound.{long, count_live}
 use Rattle.page_pool.proofs.Used.{used_sum}
-use Rattle.page_table.specs.Entries.{Names, book_of}
-use Rattle.page_table.specs.Sharing.{hit, occ, numbers, inner, named, names, Agrees, Agree}
-use Rattle.page_table.specs.Own.{HasFewNames}
 use Rattle.page_table.proofs.Counting.{sum_same, sum_at}
 use Rattle.page_table.proofs.Moving.{number_low}
 use Rattle.page_table.proofs.Spelled.{entries_length}

@@ -1,20 +1,16 @@
--- A copy of a page.
-use Rattle.std.proofs.Common.{◌≡◌, ◌≢◌, inr, ℕ, zero, suc, ◌+◌, ◌<◌, ◌≤◌, List, [], ◌∷◌, ◌++◌, length, get_or, take, drop, replicate}
-use Rattle.std.proofs.Common.{Option, Some, None, refl, sym, ◌∙◌, ap, subst, arith}
-use Rattle.std.proofs.lemmas.List.{append-nil, take_all, drop_all}
-use Rattle.std.proofs.lemmas.Option.{none-some, same_Some}
-use Rattle.std.specs.Option.{ForSome}
-use Rattle.page_pool.specs.Pool.{Pages, count_of, bytes_of, pasted, Stays, IsPool, Adds, Writes, Drops}
-use Rattle.page_pool.proofs.Sound.{one_same, low}
-use Rattle.page_table.specs.Entries.{Names, entries_of, book_of, told, child, content_of}
-use Rattle.page_table.specs.Sharing.{hit, occ, Hands, names, both, nothing}
-use Rattle.page_table.specs.Frames.{place, shown, Moves, Holds}
-use Rattle.page_table.specs.Own.{count_at, heirs, Owns, Takes}
+-- Pages that are copied, freed, and built of their entries.
+use Rattle.page_table.proofs.Common.{◌≡◌, ◌≢◌, ◌+◌, ◌-◌, ◌<◌, ◌≤◌, ℕ, zero, suc, List, [], ◌∷◌, ◌++◌, length, get_or, set, take, drop, replicate, Option, Some}
+use Rattle.page_table.proofs.Common.{None, inl, inr, refl, sym, ◌∙◌, ap, subst, arith, get_or-set_same, get_or-set_other, cases_eq, cases_lt, none-some}
+use Rattle.page_table.proofs.Common.{same_Some, ForSome, Pages, count_of, bytes_of, pasted, IsPool, Stays, Adds, Drops, Writes, one_same, Names, entries_of}
+use Rattle.page_table.proofs.Common.{book_of, told, child, content_of, hit, occ, Hands, names, both, nothing, place, shown, Frames, Moves, Holds, FreesOnly}
+use Rattle.page_table.proofs.Common.{count_at, Owns, Takes, heirs}
+use Rattle.std.proofs.lemmas.List.{append-nil, take_all, drop_all, drop_more, get_or_past}
+use Rattle.page_pool.proofs.Sound.{low}
 use Rattle.page_table.proofs.Counting.{names_none, heirs_none, heirs_sum, occ_take, own_at}
-use Rattle.page_table.proofs.Holding.{holds_then, holds_part, held_live, held_entries, held_four, beside_single, beside_shown}
-use Rattle.page_table.proofs.Moving.{stays_then, moves_on, moves_like, moves_with, moves_none, moves_close, moves_adds, moves_drops, drop_stays}
-use Rattle.page_table.proofs.Showing.{shown_none, shown_same}
-use Rattle.page_table.proofs.Spelled.{zeros_none, zeros_occ}
+use Rattle.page_table.proofs.Framing.{frames_of}
+use Rattle.page_table.proofs.Moving.{holds_then, holds_part, held_live, held_entries, held_four, beside_single, beside_shown, stays_then, moves_on, moves_like}
+use Rattle.page_table.proofs.Moving.{moves_with, moves_none, moves_close, moves_adds, moves_drops, drop_stays, shown_none, shown_same, moves_open}
+use Rattle.page_table.proofs.Spelled.{zeros_none, zeros_occ, entries_length}
 
 -- bytes in the place of all
 pub pasted_whole : (was bytes : List ℕ) → length was ≡ 512 → length bytes ≡ 512 → pasted was 0 bytes ≡ bytes
@@ -154,3 +150,90 @@ takes_some {p0} {p1} {p2} {p3} {q} {p} {height} low adds sound holds shares stay
   where
     still : (x : ℕ) → Stays p1 p3 x
     still x = stays_then (stays x) (drop_stays p2 p3 p drops more x)
+
+pub frees_then : {p0 p1 p2 : Pages} → FreesOnly p0 p1 → FreesOnly p1 p2 → FreesOnly p0 p2
+frees_then first second = record {
+  lived = λ x alive. first.lived x (second.lived x alive);
+  stays = λ x alive. stays_then (first.stays x (second.lived x alive)) (second.stays x alive);
+}
+
+-- a page with one name is freed: what its entries name is in hand
+pub frees_node : {old new : Pages} (p height : ℕ) (bytes : List ℕ) → height ≤ 2 → count_of old p ≡ 1 → IsPool new → Drops old new p
+    → bytes ≡ take 512 (drop 0 (bytes_of old p)) → length (bytes_of old p) ≡ 512
+    → Moves old new (names height (Some p ∷ [])) (heirs height (drop 0 (entries_of bytes)))
+frees_node {old} {new} p height bytes low single sound drops read long = moves_on (moves_open old p height low single)
+    (moves_like (λ n x. refl) (λ n x. omega (arith, ap (λ (l : Names). heirs height l n x) same))
+    (moves_with (heirs height ((book_of old).entries p)) (moves_drops old new p 0 sound drops (omega arith) (inl refl))))
+  where
+    same : entries_of bytes ≡ (book_of old).entries p
+    same = ap entries_of (read ∙ take_all 512 (bytes_of old p) (omega (arith, long)))
+
+heirs_down : (height : ℕ) (es : Names) → 1 ≤ height → (h p : ℕ) → heirs height es h p ≡ names (height - 1) es h p
+heirs_down zero es up h p = absurd (omega (arith, up))
+heirs_down (suc height) es up h p = ap (λ (n : ℕ). names n es h p) (omega arith)
+
+-- the first of the names that are left
+module _ (bytes : List ℕ) (k height : ℕ) {o : Option ℕ} (up : 1 ≤ height) (long : length bytes ≡ 512) (small : k < 128)
+    (is : get_or (entries_of bytes) k None ≡ o) where
+  first_left : (h p : ℕ) → heirs height (drop k (entries_of bytes)) h p
+      ≡ names (height - 1) (o ∷ []) h p + heirs height (drop (k + 1) (entries_of bytes)) h p
+  first_left h p = omega (
+    arith,
+    heirs_down height (o ∷ []) up h p,
+    heirs_sum height (o ∷ []) (drop (k + 1) (entries_of bytes)) (drop k (entries_of bytes)) (λ x.
+        let next : occ x (drop k (entries_of bytes)) ≡ occ x (o ∷ drop (k + 1) (entries_of bytes)) = ap (occ x)
+        (drop_more (entries_of bytes) k None (omega (arith, entries_length bytes, long, small))
+        ∙ ap (λ (e : Option ℕ). e ∷ drop (k + 1) (entries_of bytes)) is) in
+        omega (arith, next)) h p,
+  )
+
+  pub left_held : {old pages : Pages} {a : Hands} → Moves old pages a (heirs height (drop k (entries_of bytes))) → Holds old a
+      → Holds pages (names (height - 1) (o ∷ []))
+  left_held m holds = holds_part (heirs height (drop (k + 1) (entries_of bytes))) first_left (holds_then m holds)
+
+  pub left_next : {p0 p1 p2 : Pages} {a : Hands} → Moves p0 p1 a (heirs height (drop k (entries_of bytes))) → Moves p1 p2 (names (height - 1) (o ∷ [])) nothing
+      → Moves p0 p2 a (heirs height (drop (k + 1) (entries_of bytes)))
+  left_next m more = moves_on m (moves_like (λ h p. sym (first_left h p)) (λ h p. omega arith) (moves_with (heirs height (drop (k + 1) (entries_of bytes))) more))
+
+pub left_none : {p0 p1 : Pages} {a : Hands} (bytes : List ℕ) (height k : ℕ) → length bytes ≡ 512 → k ≡ 128
+    → Moves p0 p1 a (heirs height (drop k (entries_of bytes))) → Moves p0 p1 a nothing
+left_none bytes height k long all m = moves_like (λ h p. refl) (λ h p. sym (heirs_none height (drop k (entries_of bytes))
+    (λ x. ap (occ x) (drop_all k (entries_of bytes) (omega (arith, entries_length bytes, long, all)))) h p)) m
+
+pub set_below : (es fs : Names) (k : ℕ) → k < length es → ((j : ℕ) → j < k → get_or es j None ≡ get_or fs j None)
+    → (j : ℕ) → j < k + 1 → get_or (set es k (get_or fs k None)) j None ≡ get_or fs j None
+set_below es fs k within below j small = elim (cases_eq j k) [
+  | inl e ↦ ap (λ (n : ℕ). get_or (set es k (get_or fs k None)) n None) e ∙ get_or-set_same es k (get_or fs k None) None within
+      ∙ ap (λ (n : ℕ). get_or fs n None) (sym e)
+  | inr ne ↦ get_or-set_other es k j (get_or fs k None) None ne ∙ below j (omega (arith, small, ne))
+]
+
+pub set_above : (es : Names) (k : ℕ) (o : Option ℕ) → ((j : ℕ) → k ≤ j → get_or es j None ≡ None)
+    → (j : ℕ) → k + 1 ≤ j → get_or (set es k o) j None ≡ None
+set_above es k o above j past = get_or-set_other es k j o None (λ e. absurd (omega (arith, e, past))) ∙ above j (omega (arith, past))
+
+pub all_alike : (es fs : Names) (k : ℕ) → length fs ≤ k → ((j : ℕ) → j < k → get_or es j None ≡ get_or fs j None)
+    → ((j : ℕ) → k ≤ j → get_or es j None ≡ None) → (j : ℕ) → get_or es j None ≡ get_or fs j None
+all_alike es fs k all below above j = elim (cases_lt j k) [
+  | inl small ↦ below j small
+  | inr past ↦ above j past ∙ sym (get_or_past fs j None (omega (arith, all, past)))
+]
+
+-- lists with the same entries name each page equally often
+occ_alike : (p : ℕ) (es fs : Names) → ((j : ℕ) → get_or es j None ≡ get_or fs j None) → occ p es ≡ occ p fs
+occ_alike p [] [] same = refl
+occ_alike p [] (f ∷ fs) same = let here : 0 ≡ hit p f = ap (hit p) (same 0) in omega (arith, here, occ_alike p [] fs (λ j. same (suc j)))
+occ_alike p (e ∷ es) [] same = let here : hit p e ≡ 0 = ap (hit p) (same 0) in omega (arith, here, occ_alike p es [] (λ j. same (suc j)))
+occ_alike p (e ∷ es) (f ∷ fs) same = let here : hit p e ≡ hit p f = ap (hit p) (same 0) in omega (arith, here, occ_alike p es fs (λ j. same (suc j)))
+
+-- the names of the entries, in hand, become one of the page
+pub builds : (p0 p1 : Pages) (q below : ℕ) (es : Names) (bytes : List ℕ) → below ≤ 1 → (below ≡ 1 → length es ≤ 4) → IsPool p1 → Adds p0 p1 q bytes
+    → ((j : ℕ) → get_or ((book_of p1).entries q) j None ≡ get_or es j None) → Moves p0 p1 (names below es) (names (suc below) (Some q ∷ []))
+builds p0 p1 q below es bytes low few sound adds same = moves_on (added p0 p1 q bytes (names below es) adds sound)
+    (moves_like (λ h p. omega arith) (λ h p. refl) (moves_close p1 q (suc below) es (omega (arith, low)) (added_single p0 p1 q bytes adds)
+    (λ top k up. same k ∙ get_or_past es k None (omega (arith, few (omega (arith, top)), up)))
+    (λ p. occ_alike p ((book_of p1).entries q) es same)))
+
+-- a root page that was built is that of one space more
+pub frames_built : (old new : Pages) (r : ℕ) → Moves old new nothing (names 2 (Some r ∷ [])) → Frames old new [] (Some r ∷ [])
+frames_built old new r m = frames_of old new [] (Some r ∷ []) (moves_like (λ h p. sym (names_none 2 [] (λ x. refl) h p)) (λ h p. refl) m)

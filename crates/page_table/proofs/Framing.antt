@@ -1,21 +1,14 @@
 -- Calls on spaces, whatever the rest of the spaces is.
-use Rattle.std.proofs.Common.{◌≡◌, inl, inr, ℕ, ◌+◌, ◌-◌, ◌/◌, ◌%◌, ◌≤◌, List, [], ◌∷◌, ◌++◌, length, get_or, Option, Some, None, refl, sym, ◌∙◌, ap, subst, arith}
+use Rattle.page_table.proofs.Common.{◌≡◌, ◌+◌, ◌-◌, ◌/◌, ◌%◌, ◌≤◌, ℕ, List, [], ◌∷◌, ◌++◌, length, get_or, Option, Some, None, inl, inr, refl, sym, ◌∙◌, ap}
+use Rattle.page_table.proofs.Common.{subst, arith, cases_eq, none-some, same_Some, ForSome, Pages, count_of, used_of, IsPool, Shares, one_same, one_other}
+use Rattle.page_table.proofs.Common.{Names, book_of, child, hit, occ, Hands, names, both, nothing, Agrees, AgreeIn, Agree, shown, content_at, Frames}
+use Rattle.page_table.proofs.Common.{Stands, Moves, Holds, named_page, HasFewNames, Ready}
+use Rattle.page_table.specs.Sharing.{numbers}
 use Rattle.std.proofs.Math.Logic.{∥∥₁_map}
 use Rattle.std.proofs.lemmas.List.{length-append, append_assoc}
-use Rattle.std.proofs.lemmas.Bool.{cases_eq}
-use Rattle.std.proofs.lemmas.Option.{none-some, same_Some}
-use Rattle.std.specs.Option.{ForSome}
-use Rattle.page_pool.specs.Pool.{Pages, count_of, used_of, IsPool, Shares}
-use Rattle.page_pool.proofs.Sound.{one_same, one_other}
-use Rattle.page_table.specs.Entries.{Names, book_of, child}
-use Rattle.page_table.specs.Sharing.{hit, numbers, occ, Hands, names, both, nothing, Agrees, AgreeIn, Agree}
-use Rattle.page_table.specs.Frames.{shown, content_at, Frames, Stands, Moves, Holds}
-use Rattle.page_table.specs.Own.{named_page, HasFewNames, Ready}
 use Rattle.page_table.proofs.Bound.{sum_zero, few_pages, few_names}
 use Rattle.page_table.proofs.Counting.{sum_same, occ-append, names_sum, names_same, names_none}
-use Rattle.page_table.proofs.Holding.{at_least, equal}
-use Rattle.page_table.proofs.Moving.{in_like, homes_same, homes_then, moves_like, moves_none, moves_again}
-use Rattle.page_table.proofs.Showing.{shown_none, child_named, child_high}
+use Rattle.page_table.proofs.Moving.{at_least, equal, in_like, homes_same, homes_then, moves_like, moves_none, moves_again, shown_none, child_named, child_high}
 
 append_names : (a b : Names) (h p : ℕ) → names 2 (a ++ b) h p ≡ names 2 a h p + names 2 b h p
 append_names a b h p = names_sum 2 a b (a ++ b) (λ x. occ-append x a b) h p

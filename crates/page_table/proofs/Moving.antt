@@ -1,17 +1,51 @@
--- What the calls of a pool do to names in hand, whatever else stands over it.
-use Rattle.std.proofs.Common.{◌≡◌, ◌≢◌, ◌⊎◌, inl, inr, ℕ, zero, suc, ◌+◌, ◌<◌, ◌≤◌, List, [], ◌∷◌, Some, None, refl, sym, ◌∙◌, ap, subst, arith}
-use Rattle.std.proofs.lemmas.Bool.{cases_eq}
-use Rattle.std.proofs.lemmas.Option.{none-some}
-use Rattle.page_pool.specs.Pool.{Pages, count_of, bytes_of, home_of, one, Stays, IsPool, Adds, Shares, Drops, Writes}
-use Rattle.page_pool.proofs.Sound.{one_same, one_other, home_lives, low}
-use Rattle.page_table.specs.Changes.{FreesOnly}
-use Rattle.page_table.specs.Entries.{Names, entries_of, book_of, child}
-use Rattle.page_table.specs.Own.{heirs}
-use Rattle.page_table.specs.Sharing.{occ, numbers, named, Hands, names, both, nothing, total, Agrees, AgreeIn}
-use Rattle.page_table.specs.Frames.{KeepsHomes, Moves}
-use Rattle.page_table.proofs.Counting.{total_names, total_at, names_same, own_at, own_in}
-use Rattle.page_table.proofs.Agreeing.{step, same_hands, opens, closes}
-use Rattle.page_table.proofs.Showing.{shown_same, shown_away, child_named, child_high}
+-- What the calls of a pool do to names in hand, whatever else stands over it: what pages show, and what is still held.
+use Rattle.page_table.proofs.Common.{◌≡◌, ◌≢◌, ◌+◌, ◌<◌, ◌≤◌, ℕ, zero, suc, List, [], ◌∷◌, length, get_or, Option, Some, None, inl, inr, refl, sym, ◌∙◌, ap}
+use Rattle.page_table.proofs.Common.{subst, arith, cases_eq, none-some, Pages, count_of, bytes_of, home_of, one, IsPool, Stays, Adds, Shares, Drops, Writes}
+use Rattle.page_table.proofs.Common.{one_same, one_other, Names, entries_of, book_of, child, occ, named, Hands, names, both, nothing, total, Agrees}
+use Rattle.page_table.proofs.Common.{AgreeIn, place, shown, KeepsHomes, Moves, Holds, FreesOnly, heirs}
+use Rattle.page_table.specs.Sharing.{numbers}
+use Rattle.std.proofs.Common.{◌⊎◌}
+use Rattle.std.proofs.Math.Logic.{∥∥₁_map, ∥∥₁_elim}
+use Rattle.std.proofs.Props.{props}
+use Rattle.page_pool.proofs.Sound.{home_lives, low, long}
+use Rattle.page_table.proofs.Counting.{occ_get, named_one, total_names, total_at, names_same, own_at, own_in, step, same_hands, opens, closes}
+use Rattle.page_table.proofs.Spelled.{entries_length}
+
+pub shown_none : (old new : Pages) (h k : ℕ) → shown new h None k ≡ shown old h None k
+shown_none old new zero k = refl
+shown_none old new (suc h) k = shown_none old new h k
+
+-- all bytes are as they were
+pub shown_same : (old new : Pages) → ((x : ℕ) → bytes_of new x ≡ bytes_of old x) → (h : ℕ) (o : Option ℕ) (k : ℕ) → shown new h o k ≡ shown old h o k
+shown_same old new same h None k = shown_none old new h k
+shown_same old new same zero (Some x) k = same x
+shown_same old new same (suc h) (Some x) k =
+    ap (λ (bytes : List ℕ). shown new h (get_or (entries_of bytes) (place h k) None) k) (same x)
+    ∙ shown_same old new same h (child (book_of old) (Some x) (place h k)) k
+
+-- a page on the way down from one that stands at a height
+module _ (pages : Pages) (hands : Hands) (a : Agrees (book_of pages) hands) where
+  pub child_named : (x k y : ℕ) → 1 ≤ a.height x → child (book_of pages) (Some x) k ≡ Some y → 1 ≤ named (book_of pages) a.height y
+  child_named x k y up is =
+      omega (arith, named_one (book_of pages) a.height y x up (a.within x up), occ_get ((book_of pages).entries x) k y is)
+
+  pub child_high : (h x k y : ℕ) → a.height x ≡ suc h → child (book_of pages) (Some x) k ≡ Some y → a.height y ≡ h
+  child_high h x k y high is = omega (arith, high, a.entry x y (omega (arith, high)) (occ_get ((book_of pages).entries x) k y is))
+
+  -- a page that no entry names is on no way, but as the first page
+  module _ (new : Pages) (p : ℕ) (unnamed : named (book_of pages) a.height p ≡ 0) (same : (x : ℕ) → x ≢ p → bytes_of new x ≡ bytes_of pages x) where
+    pub shown_away : (h x k : ℕ) → a.height x ≡ h → x ≢ p → shown new h (Some x) k ≡ shown pages h (Some x) k
+    shown_away zero x k high ne = same x ne
+    shown_away (suc h) x k high ne =
+        ap (λ (bytes : List ℕ). shown new h (get_or (entries_of bytes) (place h k) None) k) (same x ne)
+        ∙ below (child (book_of pages) (Some x) (place h k)) refl (λ y. shown_away h y k)
+      where
+        below : (o : Option ℕ) → child (book_of pages) (Some x) (place h k) ≡ o
+            → ((y : ℕ) → a.height y ≡ h → y ≢ p → shown new h (Some y) k ≡ shown pages h (Some y) k) → shown new h o k ≡ shown pages h o k
+        below None is each = shown_none pages new h k
+        below (Some y) is each = each y (child_high h x (place h k) y high is) (λ e.
+            let at : named (book_of pages) a.height y ≡ named (book_of pages) a.height p = ap (named (book_of pages) a.height) e in
+            absurd (omega (arith, at, unnamed, child_named x (place h k) y (omega (arith, high)) is)))
 
 pub stays_then : {p0 p1 p2 : Pages} {x : ℕ} → Stays p0 p1 x → Stays p1 p2 x → Stays p0 p2 x
 stays_then first second = record { bytes = second.bytes ∙ first.bytes; home = second.home ∙ first.home }
@@ -67,9 +101,6 @@ moves_with more m = record {
         single = λ h x low among. f.single h x low (omega (arith, among));
       };
 }
-
-pub moves_then : (p0 p1 p2 : Pages) (a b c : Hands) → Moves p0 p1 a b → Moves p1 p2 b c → Moves p0 p2 a c
-moves_then p0 p1 p2 a b c first second = moves_on first second
 
 pub number_low : {pages : Pages} {p : ℕ} → IsPool pages → 1 ≤ count_of pages p → p < numbers
 unfolding numbers
@@ -259,3 +290,49 @@ moves_drops old new p height sound drops low which = moves_fits old new (names h
       ];
       fresh = λ x once none. omega arith;
     })
+
+pub at_least : {A : Type 0} (m n : ℕ) → ∥ A ∥₁ → (A → m ≤ n) → m ≤ n
+at_least m n some f = ∥∥₁_elim some (search props) f
+
+pub equal : {A : Type 0} (m n : ℕ) → ∥ A ∥₁ → (A → m ≡ n) → m ≡ n
+equal m n some f = ∥∥₁_elim some (search props) f
+
+pub holds_then : {old new : Pages} {a b : Hands} → Moves old new a b → Holds old a → Holds new b
+holds_then m holds = record { some = ∥∥₁_map holds.some (λ t. (t.0, (m.frame t.0 t.1).agrees)) }
+
+-- some of the names
+pub holds_part : {pages : Pages} {a b : Hands} (more : Hands) → ((h p : ℕ) → a h p ≡ b h p + more h p) → Holds pages a → Holds pages b
+holds_part more like holds = record { some = ∥∥₁_map holds.some (λ t. (both more t.0, in_like (λ h p. omega (arith, like h p)) t.1)) }
+
+-- a page in hand lives
+pub held_live : (pages : Pages) (height p : ℕ) → height ≤ 2 → Holds pages (names height (Some p ∷ [])) → 1 ≤ count_of pages p
+held_live pages height p low holds = at_least 1 (count_of pages p) holds.some (λ t.
+    omega (arith, t.1.shares.counts p, total_names height (Some p ∷ []) p low, one_same p p refl))
+
+-- and so do the pages that it names
+pub heir_live : (pages : Pages) (height q k p : ℕ) → 1 ≤ height → height ≤ 2 → Holds pages (names height (Some q ∷ []))
+    → child (book_of pages) (Some q) k ≡ Some p → 1 ≤ count_of pages p
+heir_live pages height q k p up low holds is = at_least 1 (count_of pages p) holds.some (λ t.
+    let a = t.1.shares in
+    omega (arith, a.counts p, child_named pages _ a q k p (omega (arith, up, a.held height q low (omega (arith, own_at height q)))) is))
+
+-- a root page has four entries
+pub held_four : (pages : Pages) (height q : ℕ) → Holds pages (names height (Some q ∷ [])) → height ≡ 2 → (k : ℕ) → 4 ≤ k
+    → child (book_of pages) (Some q) k ≡ None
+held_four pages height q holds top k past = ∥∥₁_elim holds.some (search props) (λ t.
+    t.1.shares.four q k (t.1.shares.held height q (omega (arith, top)) (omega (arith, own_at height q)) ∙ top) past)
+
+-- a page in hand has 128 entries
+pub held_entries : (pages : Pages) (height p : ℕ) → height ≤ 2 → Holds pages (names height (Some p ∷ [])) → length ((book_of pages).entries p) ≡ 128
+held_entries pages height p low holds = equal _ _ holds.some (λ t.
+    omega (arith, entries_length (bytes_of pages p), long pages p t.1.sound (held_live pages height p low holds)))
+
+-- what stands beside a call: its bytes, and that it has one name
+module _ {old new : Pages} {a b : Hands} (more : Hands) (m : Moves old new a b) (holds : Holds old (both a more)) where
+  pub beside_single : (h q : ℕ) → h ≤ 2 → 1 ≤ more h q → count_of old q ≡ 1 → count_of new q ≡ 1
+  beside_single h q low among once = equal _ _ holds.some (λ t.
+      (m.frame (both more t.0) (in_like (λ x p. omega arith) t.1)).single h q low (omega (arith, among)) once)
+
+  pub beside_shown : (h q k : ℕ) → h ≤ 2 → 1 ≤ more h q → shown new h (Some q) k ≡ shown old h (Some q) k
+  beside_shown h q k low among = ∥∥₁_elim holds.some (search props) (λ t.
+      (m.frame (both more t.0) (in_like (λ x p. omega arith) t.1)).same h q k low (omega (arith, among)))

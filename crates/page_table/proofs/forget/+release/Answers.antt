@@ -1,8 +1,7 @@
-use Rattle.std.proofs.Common.{◌≡◌, ◌-◌, ◌∙◌, inl, inr, None, [], ◌∷◌, refl, sym, arith}
+use Rattle.page_table.proofs.Common.{◌≡◌, ◌-◌, [], ◌∷◌, None, inl, inr, refl, sym, ◌∙◌, arith}
+use Rattle.page_table.proofs.Copies.{frees_then, frees_node, left_held, left_next, left_none}
 use Rattle.page_table.proofs.Counting.{names_none}
-use Rattle.page_table.proofs.Freeing.{frees_then, frees_node, left_held, left_next, left_none}
-use Rattle.page_table.proofs.Holding.{held_live}
-use Rattle.page_table.proofs.Moving.{frees_drop, moves_drops, moves_none, moves_like}
+use Rattle.page_table.proofs.Moving.{held_live, frees_drop, moves_drops, moves_none, moves_like}
 use Rattle.page_table.proofs.forget.+release.Goals as goal
 use Rattle.page_table.proofs.forget.+release.Goals.{in-Some, in_default}
 

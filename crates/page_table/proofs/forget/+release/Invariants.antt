@@ -1,10 +1,4 @@
-use Rattle.std.proofs.Common.{◌≤◌, [], ◌∷◌, Some, drop}
-use Rattle.page_pool.specs.Pool.{used_of}
-use Rattle.page_table.specs.Entries.{entries_of}
-use Rattle.page_table.specs.Sharing.{names}
-use Rattle.page_table.specs.Frames.{Moves}
-use Rattle.page_table.specs.Changes.{FreesOnly}
-use Rattle.page_table.specs.Own.{heirs}
+use Rattle.page_table.proofs.Common.{◌≤◌, [], ◌∷◌, drop, Some, used_of, entries_of, names, Moves, FreesOnly, heirs}
 use Rattle.page_table.proofs.forget.+release.Given as goal
 
 abbrev pub decreases-release : goal.decreases-release

@@ -1,7 +1,4 @@
-use Rattle.std.proofs.Common.{ℕ, [], ◌∷◌, Option, subst, sym, arith}
-use Rattle.page_table.specs.Sharing.{names}
-use Rattle.page_table.specs.Frames.{Holds}
-use Rattle.page_table.specs.Own.{Takes}
+use Rattle.page_table.proofs.Common.{ℕ, [], ◌∷◌, Option, sym, subst, arith, names, Holds, Takes}
 use Rattle.page_table.proofs.Copies.{takes_none, takes_some, still_held}
 use Rattle.page_table.proofs.node.copy.Goals as goal
 

@@ -1,6 +1,6 @@
-use Rattle.std.proofs.Common.{◌∙◌, sym, arith}
-use Rattle.page_table.proofs.Entering.{ready_below, still_single, puts}
-use Rattle.page_table.proofs.Holding.{heir_live}
+use Rattle.page_table.proofs.Common.{sym, ◌∙◌, arith}
+use Rattle.page_table.proofs.Moving.{heir_live}
+use Rattle.page_table.proofs.Owned.{ready_below, still_single, puts}
 use Rattle.page_table.proofs.own.own_entry.Goals as goal
 
 pub single-requires : goal.single-requires

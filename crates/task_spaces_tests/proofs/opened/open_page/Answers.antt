@@ -2,18 +2,17 @@ use Rattle.std.proofs.Common.{◌≡◌, ◌≤◌, ◌+◌, ◌/◌, ◌%◌, �
 use Rattle.page_pool.specs.Pool.{bytes_of, count_of}
 use Rattle.page_table.specs.Entries.{book_of, child, entries_of}
 use Rattle.page_table.specs.Frames.{shown, content_at, Frames}
-use Rattle.page_table.proofs.Building.{added_single, added_other, frames_built}
-use Rattle.page_table.proofs.Copies.{pasted_whole}
-use Rattle.page_table.proofs.Moving.{moves_then, moves_adds, moves_writes}
+use Rattle.page_table.proofs.Copies.{added_single, added_other, frames_built, pasted_whole}
+use Rattle.page_table.proofs.Moving.{moves_on, moves_adds, moves_writes}
 use Rattle.data_space.specs.Data.{SpaceData}
 use Rattle.task_spaces_tests.proofs.opened.open_page.Goals as goal
 
 pub returns-clause-frames : goal.returns-clause-frames
 returns-clause-frames c =
-    let page = moves_then _ _ _ _ _ _ (moves_adds _ _ _ _ c.in_ok-p.ensures.sound c.in_ok-p.ensures.adds)
+    let page = moves_on (moves_adds _ _ _ _ c.in_ok-p.ensures.sound c.in_ok-p.ensures.adds)
     (moves_writes _ _ _ _ c.write_own.ensures.sound c.write_own.ensures.writes (added_single _ _ _ _ c.in_ok-p.ensures.adds)) in
-    let tables = moves_then _ _ _ _ _ _ (c.in_ok-t.ensures.moves 0 (omega arith) (λ e. omega arith)) (c.in_ok-r.ensures.moves 1 (omega arith) (λ e. omega arith)) in
-    subst (λ (d : SpaceData). Frames c.args.pool.now c.table_page-2.new.pool [] (d.root ∷ [])) (sym c.of.ensures) (frames_built _ _ _ (moves_then _ _ _ _ _ _ page tables))
+    let tables = moves_on (c.in_ok-t.ensures.moves 0 (omega arith) (λ e. omega arith)) (c.in_ok-r.ensures.moves 1 (omega arith) (λ e. omega arith)) in
+    subst (λ (d : SpaceData). Frames c.args.pool.now c.table_page-2.new.pool [] (d.root ∷ [])) (sym c.of.ensures) (frames_built _ _ _ (moves_on page tables))
 
 pub returns-clause-shows : goal.returns-clause-shows
 returns-clause-shows c = λ k low.

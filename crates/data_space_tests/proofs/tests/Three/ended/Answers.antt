@@ -1,6 +1,6 @@
 use Rattle.std.proofs.Common.{◌∷◌, [], ◌∙◌, arith}
 use Rattle.page_table.proofs.Framing.{agree_after, stands_of}
-use Rattle.page_table.proofs.Holding.{equal}
+use Rattle.page_table.proofs.Moving.{equal}
 use Rattle.data_space_tests.proofs.Threes.{third_stands, third_first, swap}
 use Rattle.data_space_tests.proofs.tests.Three.ended.Goals as goal
 
