@@ -8,7 +8,7 @@ use Rattle.std.proofs.Math.Logic.{∥∥₁_map}
 use Rattle.std.proofs.lemmas.List.{length-append, append_assoc}
 use Rattle.page_table.proofs.Bound.{sum_zero, few_pages, few_names}
 use Rattle.page_table.proofs.Counting.{sum_same, occ-append, names_sum, names_same, names_none}
-use Rattle.page_table.proofs.Moving.{at_least, equal, in_like, homes_same, homes_then, moves_like, moves_none, moves_again, shown_none, child_named, child_high}
+use Rattle.page_table.proofs.Moving.{at_least, equal, in_like, homes_same, homes_then, moves_like, moves_none, moves_known, shown_none, child_named, child_high}
 
 append_names : (a b : Names) (h p : ℕ) → names 2 (a ++ b) h p ≡ names 2 a h p + names 2 b h p
 append_names a b h p = names_sum 2 a b (a ++ b) (λ x. occ-append x a b) h p
@@ -38,19 +38,13 @@ holds_of pages mine more stands = record {
   some = ∥∥₁_map stands.some (λ t. (names 2 t.0, in_like (λ h p. sym (append_names mine t.0 h p)) t.1.agrees));
 }
 
--- a table's root page is in hand, by another name of it
-pub held_of : {pages : Pages} {root : Option ℕ} {more : ℕ} {now : Option ℕ} → root ≡ now → Stands pages (root ∷ []) more → Holds pages (names 2 (now ∷ []))
-held_of {pages} {root} {more} is stands = subst (λ (o : Option ℕ). Holds pages (names 2 (o ∷ []))) is (holds_of pages (root ∷ []) more stands)
-
--- there is room for the pages of the spaces, and for their names
-pub stands_room : (pages : Pages) (mine : Names) (more : ℕ) → Stands pages mine more → used_of pages ≤ 1034000
-stands_room pages mine more stands = at_least _ _ stands.some (λ t. omega (arith, few_pages pages (mine ++ t.0) t.1, t.1.few))
-
-pub stands_few : (pages : Pages) (mine : Names) (more : ℕ) → Stands pages mine more → HasFewNames pages
-stands_few pages mine more stands p = at_least _ _ stands.some (λ t. few_names pages (mine ++ t.0) t.1 p)
-
-pub ready_of : {pages : Pages} {root : Option ℕ} {more : ℕ} {now : Option ℕ} → root ≡ now → Stands pages (root ∷ []) more → Ready pages (names 2 (now ∷ []))
-ready_of is stands = record { held = held_of is stands; few = stands_few _ _ _ stands; room = omega (arith, stands_room _ _ _ stands) }
+-- a table's root page is in hand, and there is room for the pages of the spaces, and for their names
+pub ready_of : {pages : Pages} {root now : Option ℕ} {more : ℕ} → root ≡ now → Stands pages (root ∷ []) more → Ready pages (names 2 (now ∷ []))
+ready_of {pages} {root} {now} {more} is stands = record {
+  held = subst (λ (o : Option ℕ). Holds pages (names 2 (o ∷ []))) is (holds_of pages (root ∷ []) more stands);
+  few = λ p. at_least _ _ stands.some (λ t. few_names pages ((root ∷ []) ++ t.0) t.1 p);
+  room = at_least _ _ stands.some (λ t. omega (arith, few_pages pages ((root ∷ []) ++ t.0) t.1, t.1.few));
+}
 
 -- the same names, in any order
 pub record Same (a b : Names) : Type 0 where
@@ -143,10 +137,7 @@ named_later o p more among x is = omega (arith, among x is)
 
 -- whatever holds of the content of a space holds of it after a call that keeps its bytes
 pub carries : (old new : Pages) (root : Option ℕ) (P : (ℕ → ℕ) → Type 0) → ((n : ℕ) → content_at new root n ≡ content_at old root n) → P (content_at old root) → P (content_at new root)
-carries old new root P kept held = subst P (sym same) held
-  where
-    same : content_at new root ≡ content_at old root
-    same = λ i n. kept n i
+carries old new root P kept held = let same : content_at new root ≡ content_at old root = λ i n. kept n i in subst P (sym same) held
 
 -- where no space is left, no page is
 pub none_used : (pages : Pages) → Agree pages [] → used_of pages ≡ 0
@@ -155,7 +146,8 @@ none_used pages a = omega (arith, few_pages pages [] a)
 -- one space more with the same root
 pub frames_again : (old new : Pages) (r : ℕ) → IsPool new → Shares old new r → Frames old new (Some r ∷ []) (Some r ∷ Some r ∷ [])
 frames_again old new r sound shares = frames_of old new (Some r ∷ []) (Some r ∷ Some r ∷ [])
-    (moves_like (λ h p. refl) (λ h p. append_names (Some r ∷ []) (Some r ∷ []) h p) (moves_again old new r 2 sound shares (omega arith)))
+    (moves_like (λ h p. refl) (λ h p. append_names (Some r ∷ []) (Some r ∷ []) h p) (moves_known old new (names 2 (Some r ∷ [])) r 2 sound shares (omega arith)
+    (λ rest a. (a.held 2 r (omega arith) (omega (arith, one_same r r refl)), omega (arith, one_same r r refl)))))
 
 pub frames_nil : (pages : Pages) (a b : Names) → ((p : ℕ) → occ p a ≡ 0) → ((p : ℕ) → occ p b ≡ 0) → Frames pages pages a b
 frames_nil pages a b none also = frames_of pages pages a b (moves_like (λ h p. sym (names_none 2 a none h p)) (λ h p. names_none 2 b also h p) (moves_none pages nothing))
@@ -174,23 +166,23 @@ page_live pages (Some r) more k p stands is = at_least _ _ (holds_of pages (Some
         omega (arith, a.counts p, child_named pages _ a t (k % 128) p (omega (arith, table)) is)
 
 -- a pool without pages agrees where nothing is named
-nil_agrees : AgreeIn [] nothing
-nil_agrees = record {
-  sound = record { each = λ p page is. absurd (none-some page is) };
-  shares = record {
-    height = λ p. 0;
-    counts = λ p. omega (arith, sum_zero numbers);
-    held = λ h p low among. absurd (omega (arith, among));
-    entry = λ q p up among. absurd (omega (arith, up));
-    live = λ q up. absurd (omega (arith, up));
-    within = λ q up. absurd (omega (arith, up));
-    low = λ q. omega arith;
-    four = λ q k top up. absurd (omega (arith, top));
-  };
-}
-
 pub nil_agree : (roots : Names) → ((p : ℕ) → occ p roots ≡ 0) → length roots ≤ 2000 → Agree [] roots
-nil_agree roots none few = record { few = few; agrees = in_like (names_none 2 roots none) nil_agrees }
+nil_agree roots none few = record {
+  few = few;
+  agrees = in_like {a = nothing} (names_none 2 roots none) (record {
+    sound = record { each = λ p page is. absurd (none-some page is) };
+    shares = record {
+      height = λ p. 0;
+      counts = λ p. omega (arith, sum_zero numbers);
+      held = λ h p low among. absurd (omega (arith, among));
+      entry = λ q p up among. absurd (omega (arith, up));
+      live = λ q up. absurd (omega (arith, up));
+      within = λ q up. absurd (omega (arith, up));
+      low = λ q. omega arith;
+      four = λ q k top up. absurd (omega (arith, top));
+    };
+  });
+}
 
 -- the same for all spaces that there are
 pub stands_of : (pages : Pages) (mine rest : Names) (more : ℕ) → length (mine ++ rest) + more ≤ 2000 → ∥ Agree pages (mine ++ rest) ∥₁ → Stands pages mine more

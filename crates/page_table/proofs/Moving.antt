@@ -8,7 +8,7 @@ use Rattle.std.proofs.Common.{◌⊎◌}
 use Rattle.std.proofs.Math.Logic.{∥∥₁_map, ∥∥₁_elim}
 use Rattle.std.proofs.Props.{props}
 use Rattle.page_pool.proofs.Sound.{home_lives, low, long}
-use Rattle.page_table.proofs.Counting.{occ_get, named_one, total_names, total_at, names_same, own_at, own_in, step, same_hands, opens, closes}
+use Rattle.page_table.proofs.Counting.{occ_get, named_one, total_names, total_at, names_at, names_in, own_at, own_in, step, same_hands, turns}
 use Rattle.page_table.proofs.Spelled.{entries_length}
 
 pub shown_none : (old new : Pages) (h k : ℕ) → shown new h None k ≡ shown old h None k
@@ -106,32 +106,34 @@ pub number_low : {pages : Pages} {p : ℕ} → IsPool pages → 1 ≤ count_of p
 unfolding numbers
 number_low {pages} {p} sound live = low pages p sound live
 
--- the names of a page that has one name, and of what it names
+-- A page that has one name: as a root or table page its entries are its own, as a content page what they name is in hand.
 pub moves_open : (pages : Pages) (q height : ℕ) → height ≤ 2 → count_of pages q ≡ 1
     → Moves pages pages (names height (Some q ∷ [])) (both (names 0 (Some q ∷ [])) (heirs height ((book_of pages).entries q)))
 moves_open pages q zero fits single = still (λ rest. in_like (λ h p. omega arith))
-moves_open pages q (suc h) fits single = still (λ rest agree. record {
-  sound = agree.sound;
-  shares = opens (book_of pages) q h rest (omega (arith, fits)) (number_low agree.sound (omega (arith, single))) single
-      (same_hands _ _ _ (λ n p. omega arith) agree.shares);
-})
+moves_open pages q (suc h) fits single = still (λ rest agree.
+    let es = (book_of pages).entries q in
+    let a = (in_like {b = both (both (names (suc h) (Some q ∷ [])) nothing) rest} (λ n p. omega arith) agree).shares in
+    let high : a.height q ≡ suc h = a.held (suc h) q fits (omega (arith, own_at (suc h) q)) in
+    record {
+      sound = agree.sound;
+      shares = turns (book_of pages) q (suc h) 0 nothing (names h es) rest a fits (omega arith) (number_low agree.sound (omega (arith, single))) single
+          (λ p. omega (arith, total_names h es p (omega (arith, fits))))
+          (λ n p among. let at = names_in n h es p among in omega (arith, a.entry q p (omega (arith, high)) at.1, high, at.0))
+          (λ p up. absurd (omega (arith, up))) (λ e. absurd (omega (arith, e)));
+    })
 
 pub moves_close : (pages : Pages) (q height : ℕ) (es : Names) → height ≤ 2 → count_of pages q ≡ 1
     → (height ≡ 2 → (k : ℕ) → 4 ≤ k → child (book_of pages) (Some q) k ≡ None) → ((p : ℕ) → occ p ((book_of pages).entries q) ≡ occ p es)
     → Moves pages pages (both (names 0 (Some q ∷ [])) (heirs height es)) (names height (Some q ∷ []))
 moves_close pages q zero es fits single few same = still (λ rest. in_like (λ h p. omega arith))
-moves_close pages q (suc h) es fits single few same = still (λ rest agree. record {
-  sound = agree.sound;
-  shares = same_hands _ _ _ (λ n p. omega arith) (closes (book_of pages) q h rest (omega (arith, fits))
-      (number_low agree.sound (omega (arith, single))) single (λ top. few (omega (arith, top)))
-      (same_hands _ _ _ (λ n p. omega (arith, names_same h es ((book_of pages).entries q) same n p)) agree.shares));
-})
-
--- a page that is in hand once at most, and not in the rest
-away_rest : (rest : Hands) (q h x : ℕ) → total rest q ≡ 0 → h ≤ 2 → 1 ≤ rest h x → x ≢ q
-away_rest rest q h x none low among e =
-    let at : rest h x ≡ rest h q = ap (rest h) e in
-    absurd (omega (arith, none, at, among, total_at rest h q low))
+moves_close pages q (suc h) es fits single few same = still (λ rest agree. in_like {a = both (both (names (suc h) (Some q ∷ [])) nothing) rest}
+    (λ n p. omega arith) (record {
+      sound = agree.sound;
+      shares = turns (book_of pages) q 0 (suc h) (names h es) nothing rest agree.shares (omega arith) fits
+          (number_low agree.sound (omega (arith, single))) single (λ p. omega (arith, total_names h es p (omega (arith, fits)), same p))
+          (λ n p among. absurd (omega (arith, among)))
+          (λ p up among. omega (arith, agree.shares.held h p (omega (arith, fits)) (omega (arith, among, same p, names_at h es p)))) few;
+    }))
 
 -- What a call on page q does: its bytes stay, or nothing that stays names it.
 record Fits (old new : Pages) (before after rest : Hands) (q : ℕ) (a : Agrees (book_of old) (both before rest)) : Type 0 where
@@ -170,7 +172,8 @@ moves_fits old new before after q sound home others counted fits = record {
         same = λ h x k fits among. elim f.bytes [
           | inl same ↦ shown_same old new (all same) h (Some x) k
           | inr away ↦ shown_away old _ a new q (omega (arith, away.1)) (λ y ne. (others y ne).bytes) h x k
-              (a.held h x fits (omega (arith, among))) (away_rest rest q h x (omega (arith, away.1)) fits among)
+              (a.held h x fits (omega (arith, among))) (λ e. let at : rest h x ≡ rest h q = ap (rest h) e in
+              absurd (omega (arith, away.1, at, among, total_at rest h q fits)))
         ];
         single = λ h x fits among once.
             let alone : total before x + named (book_of old) a.height x ≡ 0 = omega (arith, once, a.counts x, total_at rest h x fits, among) in
@@ -191,11 +194,9 @@ module _ (old new : Pages) (q : ℕ) (bytes : List ℕ) (sound : IsPool new) whe
         held = λ h x fits own. let at = own_in 0 q h x own in ap a.height at.1 ∙ bottom ∙ sym at.0;
         live = λ x up. omega (arith, a.live x up, adds.counts x);
         bytes = inr (bottom, omega (arith, a.counts q, adds.free));
-        fresh = λ x once none. omega (
-          arith,
-          one_other x q (λ e. let free : count_of old x ≡ 0 = ap (count_of old) (sym e) ∙ adds.free in
-              absurd (omega (arith, free, once))),
-        );
+        fresh = λ x once none.
+            let other = one_other x q (λ e. let free : count_of old x ≡ 0 = ap (count_of old) (sym e) ∙ adds.free in absurd (omega (arith, free, once))) in
+            omega (arith, other);
       })
 
   pub moves_writes : Writes old new q bytes → count_of old q ≡ 1 → Moves old new (names 0 (Some q ∷ [])) (names 0 (Some q ∷ []))
@@ -208,7 +209,7 @@ module _ (old new : Pages) (q : ℕ) (bytes : List ℕ) (sound : IsPool new) whe
       })
 
 -- one name more of a page that stands at a height
-moves_known : (old new : Pages) (mine : Hands) (p height : ℕ) → IsPool new → Shares old new p → height ≤ 2
+pub moves_known : (old new : Pages) (mine : Hands) (p height : ℕ) → IsPool new → Shares old new p → height ≤ 2
     → ((rest : Hands) (a : Agrees (book_of old) (both mine rest)) → (a.height p ≡ height) × (1 ≤ total mine p + named (book_of old) a.height p))
     → Moves old new mine (both mine (names height (Some p ∷ [])))
 moves_known old new mine p height sound shares low known = moves_fits old new mine (both mine (names height (Some p ∷ []))) p sound
@@ -220,24 +221,11 @@ moves_known old new mine p height sound shares low known = moves_fits old new mi
       ];
       live = λ x up. omega (arith, a.live x up, shares.counts x);
       bytes = inl (shares.each p).bytes;
-      fresh = λ x once none. omega (
-        arith,
-        none,
-        total_names height (Some p ∷ []) x low,
-        one_other x p (λ e.
-            let here : total mine p + named (book_of old) a.height p ≡ total mine x + named (book_of old) a.height x
-            = ap (λ (n : ℕ). total mine n + named (book_of old) a.height n) e in
-            absurd (omega (arith, here, none, (known rest a).1))),
-      );
+      fresh = λ x once none.
+          let other = one_other x p (λ e. let here : total mine p + named (book_of old) a.height p ≡ total mine x + named (book_of old) a.height x
+          = ap (λ (n : ℕ). total mine n + named (book_of old) a.height n) e in absurd (omega (arith, here, none, (known rest a).1))) in
+          omega (arith, none, other, total_names height (Some p ∷ []) x low);
     })
-
--- one name more of a page in hand
-pub moves_again : (old new : Pages) (p height : ℕ) → IsPool new → Shares old new p → height ≤ 2
-    → Moves old new (names height (Some p ∷ [])) (both (names height (Some p ∷ [])) (names height (Some p ∷ [])))
-moves_again old new p height sound shares low = moves_known old new (names height (Some p ∷ [])) p height sound shares low (λ rest a. (
-  a.held height p low (omega (arith, own_at height p)),
-  omega (arith, total_names height (Some p ∷ []) p low, one_same p p refl),
-))
 
 -- one name more for what an entry of a page in hand names
 pub moves_shares : (old new : Pages) (q k p height : ℕ) → IsPool new → Shares old new p → 1 ≤ height → height ≤ 2 → child (book_of old) (Some q) k ≡ Some p
