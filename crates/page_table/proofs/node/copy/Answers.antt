@@ -1,27 +1,39 @@
-use Rattle.page_table.proofs.Common.{ℕ, [], ◌∷◌, Option, sym, subst, arith, names, Holds, Takes}
-use Rattle.page_table.proofs.Copies.{takes_none, takes_some, still_held}
+use Rattle.page_table.proofs.Common.{◌≤◌, ℕ, List, [], ◌∷◌, Option, Some, None, inr, refl, sym, ◌∙◌, ap, subst, arith, count_of, none-some, same_Some, Stays}
+use Rattle.page_table.proofs.Common.{entries_of, book_of, occ, nothing, names, heirs, Holds, Takes}
+use Rattle.page_table.proofs.Copies.{added, added_other, takes}
+use Rattle.page_table.proofs.Counting.{names_none, heirs_none}
+use Rattle.page_table.proofs.Moving.{holds_then, holds_part, stays_then, drop_stays, moves_on, moves_like, moves_with, moves_none, moves_drops}
+use Rattle.page_table.proofs.Spelled.{zeros_occ}
 use Rattle.page_table.proofs.node.copy.Goals as goal
 
 pub returns-in_default-clause-takes : goal.returns-in_default-clause-takes
-returns-in_default-clause-takes c = subst (λ (o : Option ℕ). Takes c.args.pool.now c.fresh.new.self c.args.height o c.in_ok-q.q) (sym c.in_default.is)
-    (takes_none c.requires.low c.in_ok-q.ensures.adds c.in_ok-q.ensures.sound
-    (subst (λ (o : Option ℕ). Holds c.args.pool.now (names c.args.height (o ∷ []))) c.in_default.is c.requires.ready.held))
+returns-in_default-clause-takes c = subst (λ (o : Option ℕ). Holds c.args.pool.now (names c.args.height (o ∷ []))
+    → Takes c.args.pool.now c.fresh.new.self c.args.height o c.in_ok-q.q) (sym c.in_default.is)
+    (λ held. takes _ c.args.height None c.requires.low c.in_ok-q.ensures.adds c.in_ok-q.ensures.sound held (λ x. record { bytes = refl; home = refl }) []
+    (moves_like (λ h p. sym (names_none c.args.height (None ∷ []) (λ x. refl) h p)) (λ h p. heirs_none c.args.height [] (λ x. refl) h p) (moves_none _ nothing))
+    (λ x. ap (λ (b : List ℕ). occ x (entries_of b)) c.in_ok-q.ensures.adds.bytes_are ∙ zeros_occ x 512) (λ p is. absurd (none-some p is)))
+    c.requires.ready.held
 
 pub copy_page-requires-clause-live : goal.copy_page-requires-clause-live
 copy_page-requires-clause-live c = omega (arith, c.requires.shared c.in-Some.p c.in-Some.is)
 
 pub share_entries-requires-clause-held : goal.share_entries-requires-clause-held
-share_entries-requires-clause-held c = still_held c.in_ok-q-2.ensures.adds c.in_ok-q-2.ensures.sound
-    (subst (λ (o : Option ℕ). Holds c.args.pool.now (names c.args.height (o ∷ []))) c.in-Some.is c.requires.ready.held)
+share_entries-requires-clause-held c = holds_part _ (λ h x. refl) (holds_then (added _ _ _ _ _ c.in_ok-q-2.ensures.adds c.in_ok-q-2.ensures.sound)
+    (subst (λ (o : Option ℕ). Holds c.args.pool.now (names c.args.height (o ∷ []))) c.in-Some.is c.requires.ready.held))
 
 pub returns-clause-takes : goal.returns-clause-takes
-returns-clause-takes c = subst (λ (o : Option ℕ). Takes c.args.pool.now c.drop_ref.new.self c.args.height o c.in_ok-q-2.q) (sym c.in-Some.is)
-    (takes_some c.requires.low c.in_ok-q-2.ensures.adds c.in_ok-q-2.ensures.sound
-    (subst (λ (o : Option ℕ). Holds c.args.pool.now (names c.args.height (o ∷ []))) c.in-Some.is c.requires.ready.held)
-    c.share_entries.ensures.moves c.share_entries.ensures.stays c.drop_ref.ensures.drops c.drop_ref.ensures.sound
-    (c.requires.shared c.in-Some.p c.in-Some.is) (omega (
-      arith,
-      c.requires.shared c.in-Some.p c.in-Some.is,
-      c.in_ok-q-2.ensures.adds.counts c.in-Some.p,
-      c.share_entries.ensures.more c.in-Some.p,
-    )))
+returns-clause-takes c =
+    let p = c.in-Some.p in
+    let adds = c.in_ok-q-2.ensures.adds in
+    let shared : 2 ≤ count_of c.args.pool.now p = c.requires.shared p c.in-Some.is in
+    let more : 2 ≤ count_of c.share_entries.new.pool p = omega (arith, shared, adds.counts p, c.share_entries.ensures.more p) in
+    let still : (x : ℕ) → Stays c.copy_page.new.pool c.drop_ref.new.self x
+    = λ x. stays_then (c.share_entries.ensures.stays x) (drop_stays _ _ p c.drop_ref.ensures.drops more x) in
+    let es = (book_of c.copy_page.new.pool).entries p in
+    subst (λ (o : Option ℕ). Holds c.args.pool.now (names c.args.height (o ∷ [])) → Takes c.args.pool.now c.drop_ref.new.self c.args.height o c.in_ok-q-2.q)
+    (sym c.in-Some.is) (λ held. takes c.in_ok-q-2.q c.args.height (Some p) c.requires.low adds c.in_ok-q-2.ensures.sound held still es
+    (moves_on c.share_entries.ensures.moves (moves_like (λ h x. refl) (λ h x. omega arith)
+    (moves_with (heirs c.args.height es) (moves_drops _ _ p c.args.height c.drop_ref.ensures.sound c.drop_ref.ensures.drops c.requires.low (inr more)))))
+    (λ x. ap (λ (b : List ℕ). occ x (entries_of b)) ((still c.in_ok-q-2.q).bytes ∙ adds.bytes_are
+    ∙ sym (adds.others p (added_other _ _ _ p _ adds (omega (arith, shared)))).bytes))
+    (λ x is. subst (λ (n : ℕ). 2 ≤ count_of c.args.pool.now n) (same_Some p x is) shared)) c.requires.ready.held
