@@ -8,7 +8,7 @@ use Rattle.std.proofs.Math.Logic.{∥∥₁_map}
 use Rattle.std.proofs.lemmas.List.{length-append, append_assoc}
 use Rattle.page_table.proofs.Bound.{sum_zero, few_pages, few_names}
 use Rattle.page_table.proofs.Counting.{sum_same, occ-append, names_sum, names_same, names_none}
-use Rattle.page_table.proofs.Moving.{at_least, equal, in_like, homes_same, homes_then, moves_like, moves_none, moves_known, shown_none, child_named, child_high}
+use Rattle.page_table.proofs.Moving.{at_least, equal, held_as, in_like, homes_same, homes_then, moves_like, moves_none, moves_known, shown_none, child_named, child_high}
 
 append_names : (a b : Names) (h p : ℕ) → names 2 (a ++ b) h p ≡ names 2 a h p + names 2 b h p
 append_names a b h p = names_sum 2 a b (a ++ b) (λ x. occ-append x a b) h p
@@ -41,7 +41,7 @@ holds_of pages mine more stands = record {
 -- a table's root page is in hand, and there is room for the pages of the spaces, and for their names
 pub ready_of : {pages : Pages} {root now : Option ℕ} {more : ℕ} → root ≡ now → Stands pages (root ∷ []) more → Ready pages (names 2 (now ∷ []))
 ready_of {pages} {root} {now} {more} is stands = record {
-  held = subst (λ (o : Option ℕ). Holds pages (names 2 (o ∷ []))) is (holds_of pages (root ∷ []) more stands);
+  held = held_as 2 is (holds_of pages (root ∷ []) more stands);
   few = λ p. at_least _ _ stands.some (λ t. few_names pages ((root ∷ []) ++ t.0) t.1 p);
   room = at_least _ _ stands.some (λ t. omega (arith, few_pages pages ((root ∷ []) ++ t.0) t.1, t.1.few));
 }

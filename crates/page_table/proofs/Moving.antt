@@ -292,6 +292,9 @@ holds_then m holds = record { some = ∥∥₁_map holds.some (λ t. (t.0, (m.fr
 pub holds_part : {pages : Pages} {a b : Hands} (more : Hands) → ((h p : ℕ) → a h p ≡ b h p + more h p) → Holds pages a → Holds pages b
 holds_part more like holds = record { some = ∥∥₁_map holds.some (λ t. (both more t.0, in_like (λ h p. omega (arith, like h p)) t.1)) }
 
+pub held_as : {pages : Pages} (height : ℕ) {o now : Option ℕ} → o ≡ now → Holds pages (names height (o ∷ [])) → Holds pages (names height (now ∷ []))
+held_as {pages} height is = subst (λ (o : Option ℕ). Holds pages (names height (o ∷ []))) is
+
 -- a page in hand lives
 pub held_live : (pages : Pages) (height p : ℕ) → height ≤ 2 → Holds pages (names height (Some p ∷ [])) → 1 ≤ count_of pages p
 held_live pages height p low holds = at_least 1 (count_of pages p) holds.some (λ t.

@@ -1,29 +1,39 @@
-use Rattle.page_table.proofs.Common.{◌≡◌, ◌-◌, [], ◌∷◌, drop, None, inl, inr, refl, sym, ◌∙◌, ap, arith, count_of, Names, entries_of, book_of, occ, heirs}
+use Rattle.page_table.proofs.Common.{◌≡◌, ◌-◌, ℕ, [], ◌∷◌, drop, Option, Some, inl, inr, refl, sym, ◌∙◌, ap, subst, arith, Pages, count_of, Names, entries_of, book_of}
+use Rattle.page_table.proofs.Common.{hit, occ, Hands, names, nothing, heirs, Moves}
 use Rattle.std.proofs.lemmas.List.{take_all, drop_all}
 use Rattle.page_table.proofs.Copies.{left_held, left_next}
 use Rattle.page_table.proofs.Counting.{names_none, heirs_none}
-use Rattle.page_table.proofs.Moving.{held_live, frees_drop, stays_then, moves_on, moves_open, moves_with, moves_drops, moves_none, moves_like}
+use Rattle.page_table.proofs.Moving.{held_live, held_as, frees_drop, stays_then, moves_on, moves_open, moves_with, moves_drops, moves_none, moves_like}
 use Rattle.page_table.proofs.Spelled.{entries_length}
 use Rattle.page_table.proofs.forget.+release.Goals as goal
-use Rattle.page_table.proofs.forget.+release.Goals.{in-Some, in_default}
+
+-- one name less of the page, in terms of what is asked for
+less : {old new : Pages} {page : Option ℕ} (height p : ℕ) {after : Hands} → page ≡ Some p → Moves old new (names height (Some p ∷ [])) after
+    → Moves old new (names height (page ∷ [])) after
+less {old} {new} {page} height p {after} is m = subst (λ (o : Option ℕ). Moves old new (names height (o ∷ [])) after) (sym is) m
+
+pub returns-in_default-clause-moves : goal.returns-in_default-clause-moves
+returns-in_default-clause-moves t c = moves_like (λ h p. sym (names_none c.args.height (c.args.page ∷ [])
+    (λ x. let none : hit x c.args.page ≡ 0 = ap (hit x) c.in_default.is in omega (arith, none)) h p)) (λ h p. refl) (moves_none _ nothing)
 
 pub returns-then-height-eq0-clause-moves : goal.returns-then-height-eq0-clause-moves
-returns-then-height-eq0-clause-moves t c =
-    moves_drops _ _ c.args.p c.args.height c.drop_ref.ensures.sound c.drop_ref.ensures.drops c.requires.low (inl (omega (arith, c.if-height-eq0.true)))
+returns-then-height-eq0-clause-moves t c = less c.args.height c.in-Some.p c.in-Some.is
+    (moves_drops _ _ _ c.args.height c.drop_ref.ensures.sound c.drop_ref.ensures.drops c.requires.low (inl (omega (arith, c.if-height-eq0.true))))
 
 pub returns-then-count-gt1-clause-moves : goal.returns-then-count-gt1-clause-moves
-returns-then-count-gt1-clause-moves t c = moves_drops _ _ c.args.p c.args.height c.drop_ref-then-count-gt1.ensures.sound
-    c.drop_ref-then-count-gt1.ensures.drops c.requires.low (inr (omega (arith, c.if-count-gt1.true, c.count.ensures)))
+returns-then-count-gt1-clause-moves t c = less c.args.height c.in-Some.p c.in-Some.is (moves_drops _ _ _ c.args.height c.drop_ref-then-count-gt1.ensures.sound
+    c.drop_ref-then-count-gt1.ensures.drops c.requires.low (inr (omega (arith, c.if-count-gt1.true, c.count.ensures))))
 
 pub loop-k-init : goal.loop-k-init
 loop-k-init t c =
-    let same : entries_of c.read.new.into ≡ (book_of c.args.pool.now).entries c.args.p
+    let same : entries_of c.read.new.into ≡ (book_of c.args.pool.now).entries c.in-Some.p
     = ap entries_of (c.read.ensures.bytes ∙ take_all 512 _ (omega (arith, c.read.ensures.long))) in
-    let single : count_of c.args.pool.now c.args.p ≡ 1 = omega (arith, c.if-count-gt1.false, c.count.ensures, c.requires.live) in
+    let single : count_of c.args.pool.now c.in-Some.p ≡ 1
+    = omega (arith, c.if-count-gt1.false, c.count.ensures, c.requires.live c.in-Some.p c.in-Some.is) in
     record {
-      moves = moves_on (moves_open _ c.args.p c.args.height c.requires.low single)
+      moves = less c.args.height c.in-Some.p c.in-Some.is (moves_on (moves_open _ c.in-Some.p c.args.height c.requires.low single)
           (moves_like (λ n x. refl) (λ n x. omega (arith, ap (λ (l : Names). heirs c.args.height l n x) same)) (moves_with (heirs c.args.height _)
-          (moves_drops _ _ c.args.p 0 c.drop_ref-2.ensures.sound c.drop_ref-2.ensures.drops (omega arith) (inl refl))));
+          (moves_drops _ _ c.in-Some.p 0 c.drop_ref-2.ensures.sound c.drop_ref-2.ensures.drops (omega arith) (inl refl)))));
       frees = frees_drop _ _ _ c.drop_ref-2.ensures.drops;
       used = c.drop_ref-2.ensures.used;
     }
@@ -31,29 +41,24 @@ loop-k-init t c =
 pub release-requires : goal.release-requires
 release-requires t c =
     let held = left_held c.read.new.into c.loop-k.k c.args.height (omega (arith, c.if-height-eq0.false)) c.read.auto.into c.loop-k-test.true
-    (sym c.entry_in.ensures ∙ c.in-Some.is) c.loop-k.invariant.moves c.requires.held in (
+    (sym c.entry_in.ensures) c.loop-k.invariant.moves c.requires.held in (
       omega (arith, c.decreases, c.if-height-eq0.false),
-      (omega (arith, c.requires.low), (held_live _ (c.args.height - 1) _ (omega (arith, c.requires.low)) held, held)),
+      (omega (arith, c.requires.low), (λ q is. held_live _ (c.args.height - 1) q (omega (arith, c.requires.low)) (held_as (c.args.height - 1) is held), held)),
     )
 
 pub loop-k-preserved : goal.loop-k-preserved
-loop-k-preserved t c = elim c.match-entry_in.branch [
-  | in-Some w ↦ rw w.pool-is (record {
-    moves = left_next c.read.new.into c.loop-k.k c.args.height (omega (arith, c.if-height-eq0.false)) c.read.auto.into c.loop-k-test.true (sym c.entry_in.ensures ∙ w.in-Some.is)
-        c.loop-k.invariant.moves w.release.ensures.moves;
-    frees = record {
-      lived = λ x alive. c.loop-k.invariant.frees.lived x (w.release.ensures.frees.lived x alive);
-      stays = λ x alive. stays_then (c.loop-k.invariant.frees.stays x (w.release.ensures.frees.lived x alive)) (w.release.ensures.frees.stays x alive);
-    };
-    used = omega (arith, c.loop-k.invariant.used, w.release.ensures.used);
-  })
-  | in_default w ↦ rw w.pool-is (record {
-    moves = left_next c.read.new.into c.loop-k.k c.args.height (omega (arith, c.if-height-eq0.false)) c.read.auto.into c.loop-k-test.true (sym c.entry_in.ensures ∙ w.in_default.is)
-        c.loop-k.invariant.moves (moves_like (λ h p. sym (names_none _ (None ∷ []) (λ x. refl) h p)) (λ h p. refl) (moves_none _ _));
-    frees = c.loop-k.invariant.frees;
-    used = c.loop-k.invariant.used;
-  })
-]
+loop-k-preserved t c =
+    let inv = c.loop-k.invariant in
+    let frees = c.release.ensures.frees in
+    record {
+      moves = left_next c.read.new.into c.loop-k.k c.args.height (omega (arith, c.if-height-eq0.false)) c.read.auto.into c.loop-k-test.true
+          (sym c.entry_in.ensures) inv.moves c.release.ensures.moves;
+      frees = record {
+        lived = λ x alive. inv.frees.lived x (frees.lived x alive);
+        stays = λ x alive. stays_then (inv.frees.stays x (frees.lived x alive)) (frees.stays x alive);
+      };
+      used = omega (arith, inv.used, c.release.ensures.used);
+    }
 
 pub returns-clause-moves : goal.returns-clause-moves
 returns-clause-moves t c = moves_like (λ h p. refl) (λ h p. sym (heirs_none c.args.height (drop c.loop-k.k (entries_of c.read.new.into)) (λ x. ap (occ x)

@@ -2,7 +2,7 @@ use Rattle.page_table.proofs.Common.{◌≤◌, ℕ, List, [], ◌∷◌, Option
 use Rattle.page_table.proofs.Common.{entries_of, book_of, occ, nothing, names, heirs, Holds, Takes}
 use Rattle.page_table.proofs.Copies.{added, added_other, takes}
 use Rattle.page_table.proofs.Counting.{names_none, heirs_none}
-use Rattle.page_table.proofs.Moving.{holds_then, holds_part, stays_then, drop_stays, moves_on, moves_like, moves_with, moves_none, moves_drops}
+use Rattle.page_table.proofs.Moving.{held_as, holds_then, holds_part, stays_then, drop_stays, moves_on, moves_like, moves_with, moves_none, moves_drops}
 use Rattle.page_table.proofs.Spelled.{zeros_occ}
 use Rattle.page_table.proofs.node.copy.Goals as goal
 
@@ -19,7 +19,7 @@ copy_page-requires-clause-live c = omega (arith, c.requires.shared c.in-Some.p c
 
 pub share_entries-requires-clause-held : goal.share_entries-requires-clause-held
 share_entries-requires-clause-held c = holds_part _ (λ h x. refl) (holds_then (added _ _ _ _ _ c.in_ok-q-2.ensures.adds c.in_ok-q-2.ensures.sound)
-    (subst (λ (o : Option ℕ). Holds c.args.pool.now (names c.args.height (o ∷ []))) c.in-Some.is c.requires.ready.held))
+    (held_as c.args.height c.in-Some.is c.requires.ready.held))
 
 pub returns-clause-takes : goal.returns-clause-takes
 returns-clause-takes c =

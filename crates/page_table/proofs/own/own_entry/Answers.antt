@@ -1,6 +1,6 @@
 use Rattle.page_table.proofs.Common.{sym, ◌∙◌, arith}
 use Rattle.page_table.proofs.Moving.{heir_live}
-use Rattle.page_table.proofs.Owned.{ready_below, still_single, puts}
+use Rattle.page_table.proofs.Owned.{entry_held, still_single, puts}
 use Rattle.page_table.proofs.own.own_entry.Goals as goal
 
 pub single-requires : goal.single-requires
@@ -9,8 +9,11 @@ single-requires c = record {
 }
 
 pub copy-requires-clause-ready : goal.copy-requires-clause-ready
-copy-requires-clause-ready c = ready_below c.args.x c.args.e c.args.below c.requires.low c.requires.ready.held c.requires.own
-    (sym c.entry-was.ensures.named) c.requires.entry c.requires.ready.few c.requires.ready.room
+copy-requires-clause-ready c = record {
+  held = entry_held c.args.x c.args.e c.args.below c.requires.low c.requires.ready.held c.requires.own (sym c.entry-was.ensures.named) c.requires.entry;
+  few = c.requires.ready.few;
+  room = c.requires.ready.room;
+}
 
 pub set_entry-requires-clause-own : goal.set_entry-requires-clause-own
 set_entry-requires-clause-own c = still_single c.args.x c.args.e c.args.below c.requires.low c.requires.ready.held c.requires.own
