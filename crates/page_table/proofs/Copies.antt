@@ -138,11 +138,7 @@ module _ (bytes : List ℕ) (k height : ℕ) {o : Option ℕ} (up : 1 ≤ height
 
 pub set_below : (es fs : Names) (k : ℕ) → k < length es → ((j : ℕ) → j < k → get_or es j None ≡ get_or fs j None)
     → (j : ℕ) → j < k + 1 → get_or (set es k (get_or fs k None)) j None ≡ get_or fs j None
-set_below es fs k within below j small = elim (cases_eq j k) [
-  | inl e ↦ ap (λ (n : ℕ). get_or (set es k (get_or fs k None)) n None) e ∙ get_or-set_same es k (get_or fs k None) None within
-      ∙ ap (λ (n : ℕ). get_or fs n None) (sym e)
-  | inr ne ↦ get_or-set_other es k j (get_or fs k None) None ne ∙ below j (omega (arith, small, ne))
-]
+set_below es fs k within below j small = grind (arith, cases_eq j k, get_or-set_same, get_or-set_other, within, small, below j)
 
 pub set_above : (es : Names) (k : ℕ) (o : Option ℕ) → ((j : ℕ) → k ≤ j → get_or es j None ≡ None)
     → (j : ℕ) → k + 1 ≤ j → get_or (set es k o) j None ≡ None
@@ -150,10 +146,7 @@ set_above es k o above j past = get_or-set_other es k j o None (λ e. absurd (om
 
 pub all_alike : (es fs : Names) (k : ℕ) → length fs ≤ k → ((j : ℕ) → j < k → get_or es j None ≡ get_or fs j None)
     → ((j : ℕ) → k ≤ j → get_or es j None ≡ None) → (j : ℕ) → get_or es j None ≡ get_or fs j None
-all_alike es fs k all below above j = elim (cases_lt j k) [
-  | inl small ↦ below j small
-  | inr past ↦ above j past ∙ sym (get_or_past fs j None (omega (arith, all, past)))
-]
+all_alike es fs k all below above j = grind (arith, cases_lt j k, all, below j, above j, get_or_past fs j None)
 
 -- lists with the same entries name each page equally often
 pub occ_alike : (p : ℕ) (es fs : Names) → ((j : ℕ) → get_or es j None ≡ get_or fs j None) → occ p es ≡ occ p fs

@@ -5,6 +5,7 @@ use Rattle.page_table.proofs.Common.{one_same, one_other, Names, entries_of, boo
 use Rattle.page_table.proofs.Common.{AgreeIn, place, shown, KeepsHomes, Moves, Holds, FreesOnly, heirs}
 use Rattle.page_table.specs.Sharing.{numbers}
 use Rattle.std.proofs.Common.{◌⊎◌}
+use Rattle.std.proofs.lemmas.Bool.Decides.{nat_tests}
 use Rattle.std.proofs.Math.Logic.{∥∥₁_map, ∥∥₁_elim}
 use Rattle.std.proofs.Props.{props}
 use Rattle.page_pool.proofs.Sound.{home_lives, low, long}
@@ -164,10 +165,7 @@ moves_fits old new before after q sound home others counted fits = record {
                 | inr away ↦ (others x (λ e. let none : a.height x ≡ 0 = ap a.height e ∙ away.0 in absurd (omega (arith, none, up)))).bytes
               ]))
               f.live
-              (λ h x fits among. elim (cases_eq (after h x) 0) [
-                | inl none ↦ a.held h x fits (omega (arith, among, none))
-                | inr some ↦ f.held h x fits (omega (arith, some))
-              ]);
+              (λ h x fits among. grind (arith, among, f.held h x fits, a.held h x fits));
         };
         same = λ h x k fits among. elim f.bytes [
           | inl same ↦ shown_same old new (all same) h (Some x) k
@@ -194,9 +192,7 @@ module _ (old new : Pages) (q : ℕ) (bytes : List ℕ) (sound : IsPool new) whe
         held = λ h x fits own. let at = own_in 0 q h x own in ap a.height at.1 ∙ bottom ∙ sym at.0;
         live = λ x up. omega (arith, a.live x up, adds.counts x);
         bytes = inr (bottom, omega (arith, a.counts q, adds.free));
-        fresh = λ x once none.
-            let other = one_other x q (λ e. let free : count_of old x ≡ 0 = ap (count_of old) (sym e) ∙ adds.free in absurd (omega (arith, free, once))) in
-            omega (arith, other);
+        fresh = λ x once none. grind (arith, nat_tests, once, adds.free);
       })
 
   pub moves_writes : Writes old new q bytes → count_of old q ≡ 1 → Moves old new (names 0 (Some q ∷ [])) (names 0 (Some q ∷ []))
@@ -215,16 +211,10 @@ pub moves_known : (old new : Pages) (mine : Hands) (p height : ℕ) → IsPool n
 moves_known old new mine p height sound shares low known = moves_fits old new mine (both mine (names height (Some p ∷ []))) p sound
     (λ b is. shares.each p) (λ x ne. shares.each x)
     (λ x. omega (arith, shares.counts x, total_names height (Some p ∷ []) x low)) (λ rest a. record {
-      held = λ h x fits among. elim (cases_eq (mine h x) 0) [
-        | inl none ↦ let at = own_in height p h x (omega (arith, among, none)) in ap a.height at.1 ∙ (known rest a).0 ∙ sym at.0
-        | inr some ↦ a.held h x fits (omega (arith, some))
-      ];
+      held = λ h x fits among. grind (arith, nat_tests, among, (known rest a).0, a.held h x fits);
       live = λ x up. omega (arith, a.live x up, shares.counts x);
       bytes = inl (shares.each p).bytes;
-      fresh = λ x once none.
-          let other = one_other x p (λ e. let here : total mine p + named (book_of old) a.height p ≡ total mine x + named (book_of old) a.height x
-          = ap (λ (n : ℕ). total mine n + named (book_of old) a.height n) e in absurd (omega (arith, here, none, (known rest a).1))) in
-          omega (arith, none, other, total_names height (Some p ∷ []) x low);
+      fresh = λ x once none. grind (arith, nat_tests, none, (known rest a).1, total_names height (Some p ∷ []) x low);
     })
 
 -- one name more for what an entry of a page in hand names
@@ -262,13 +252,7 @@ moves_drops old new p height sound drops low which = moves_fits old new (names h
     let high : a.height p ≡ height = a.held height p low (omega (arith, own_at height p)) in
     record {
       held = λ h x fits none. absurd (omega (arith, none));
-      live = λ x up. elim (cases_eq x p) [
-        | inl e ↦ subst (λ (n : ℕ). 1 ≤ count_of new n) (sym e) (elim which [
-          | inl bottom ↦ absurd (let there : a.height x ≡ a.height p = ap a.height e in omega (arith, up, there, high, bottom))
-          | inr more ↦ omega (arith, more, drops.counts p, one_same p p refl)
-        ])
-        | inr ne ↦ omega (arith, a.live x up, drops.counts x, one_other x p (λ e. ne (sym e)))
-      ];
+      live = λ x up. grind (arith, nat_tests, up, high, which, a.live x up, drops.counts x);
       bytes = elim (cases_eq (count_of old p) 1) [
         | inl last ↦ elim which [
           | inl bottom ↦ inr (high ∙ bottom, omega (arith, a.counts p, total_names height (Some p ∷ []) p low, one_same p p refl, last))
