@@ -136,18 +136,6 @@ module _ (bytes : List ℕ) (k height : ℕ) {o : Option ℕ} (up : 1 ≤ height
       → Moves p1 p2 (names (height - 1) (o ∷ [])) nothing → Moves p0 p2 a (heirs height left)
   left_next m more = moves_on m (moves_like (λ h p. sym (first_left h p)) (λ h p. omega arith) (moves_with (heirs height left) more))
 
-pub set_below : (es fs : Names) (k : ℕ) → k < length es → ((j : ℕ) → j < k → get_or es j None ≡ get_or fs j None)
-    → (j : ℕ) → j < k + 1 → get_or (set es k (get_or fs k None)) j None ≡ get_or fs j None
-set_below es fs k within below j small = grind (arith, cases_eq j k, get_or-set_same, get_or-set_other, within, small, below j)
-
-pub set_above : (es : Names) (k : ℕ) (o : Option ℕ) → ((j : ℕ) → k ≤ j → get_or es j None ≡ None)
-    → (j : ℕ) → k + 1 ≤ j → get_or (set es k o) j None ≡ None
-set_above es k o above j past = get_or-set_other es k j o None (λ e. absurd (omega (arith, e, past))) ∙ above j (omega (arith, past))
-
-pub all_alike : (es fs : Names) (k : ℕ) → length fs ≤ k → ((j : ℕ) → j < k → get_or es j None ≡ get_or fs j None)
-    → ((j : ℕ) → k ≤ j → get_or es j None ≡ None) → (j : ℕ) → get_or es j None ≡ get_or fs j None
-all_alike es fs k all below above j = grind (arith, cases_lt j k, all, below j, above j, get_or_past fs j None)
-
 -- lists with the same entries name each page equally often
 pub occ_alike : (p : ℕ) (es fs : Names) → ((j : ℕ) → get_or es j None ≡ get_or fs j None) → occ p es ≡ occ p fs
 occ_alike p [] [] same = refl

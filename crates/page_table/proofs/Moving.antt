@@ -173,9 +173,7 @@ moves_fits old new before after q sound home others counted fits = record {
               (a.held h x fits (omega (arith, among))) (λ e. let at : rest h x ≡ rest h q = ap (rest h) e in
               absurd (omega (arith, away.1, at, among, total_at rest h q fits)))
         ];
-        single = λ h x fits among once.
-            let alone : total before x + named (book_of old) a.height x ≡ 0 = omega (arith, once, a.counts x, total_at rest h x fits, among) in
-            omega (arith, once, counted x, alone, f.fresh x once alone);
+        single = λ h x fits among once. grind (arith, once, counted x, a.counts x, total_at rest h x fits, among, f.fresh x once);
       };
 }
   where
@@ -229,17 +227,11 @@ moves_shares old new q k p (suc h) sound shares up low is =
 
 -- one name less
 pub frees_drop : (old new : Pages) (p : ℕ) → Drops old new p → FreesOnly old new
-frees_drop old new p drops = record {
-  lived = λ x alive. omega (arith, alive, drops.counts x);
-  stays = λ x alive. elim (cases_eq x p) [
-    | inl e ↦ subst (Stays old new) (sym e) (drops.stays (subst (λ (n : ℕ). 1 ≤ count_of new n) e alive))
-    | inr ne ↦ drops.others x ne
-  ];
-}
+frees_drop old new p drops = record { lived = λ x alive. omega (arith, alive, drops.counts x); stays = drops.stays }
 
 pub drop_stays : (old new : Pages) (p : ℕ) → Drops old new p → 2 ≤ count_of old p → (x : ℕ) → Stays old new x
 drop_stays old new p drops more x = elim (cases_eq x p) [
-  | inl e ↦ subst (Stays old new) (sym e) (drops.stays (omega (arith, more, drops.counts p, one_same p p refl)))
+  | inl e ↦ subst (Stays old new) (sym e) (drops.stays p (omega (arith, more, drops.counts p, one_same p p refl)))
   | inr ne ↦ drops.others x ne
 ]
 
@@ -247,7 +239,7 @@ drop_stays old new p drops more x = elim (cases_eq x p) [
 pub moves_drops : (old new : Pages) (p height : ℕ) → IsPool new → Drops old new p → height ≤ 2 → (height ≡ 0) ⊎ (2 ≤ count_of old p)
     → Moves old new (names height (Some p ∷ [])) nothing
 moves_drops old new p height sound drops low which = moves_fits old new (names height (Some p ∷ [])) nothing p sound
-    (λ b is. drops.stays (home_lives new p b sound is)) drops.others
+    (λ b is. drops.stays p (home_lives new p b sound is)) drops.others
     (λ x. omega (arith, drops.counts x, total_names height (Some p ∷ []) x low)) (λ rest a.
     let high : a.height p ≡ height = a.held height p low (omega (arith, own_at height p)) in
     record {
@@ -258,7 +250,7 @@ moves_drops old new p height sound drops low which = moves_fits old new (names h
           | inl bottom ↦ inr (high ∙ bottom, omega (arith, a.counts p, total_names height (Some p ∷ []) p low, one_same p p refl, last))
           | inr more ↦ absurd (omega (arith, last, more))
         ]
-        | inr ne ↦ inl (drops.stays (omega (arith, ne, drops.counts p, one_same p p refl))).bytes
+        | inr ne ↦ inl (drops.stays p (omega (arith, ne, drops.counts p, one_same p p refl))).bytes
       ];
       fresh = λ x once none. omega arith;
     })
