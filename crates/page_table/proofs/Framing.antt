@@ -7,18 +7,19 @@ use Rattle.page_table.specs.Sharing.{numbers}
 use Rattle.std.proofs.Math.Logic.{∥∥₁_map}
 use Rattle.std.proofs.lemmas.List.{length-append, append_assoc}
 use Rattle.page_table.proofs.Bound.{sum_zero, few_pages, few_names}
-use Rattle.page_table.proofs.Counting.{sum_same, occ-append, names_sum, names_same, names_none}
+use Rattle.page_table.proofs.Counting.{hit_some, sum_same, occ-append, names_sum, names_same, names_none}
 use Rattle.page_table.proofs.Moving.{at_least, equal, held_as, in_like, homes_same, homes_then, moves_like, moves_none, moves_known, shown_none, child_named, child_high}
 
 append_names : (a b : Names) (h p : ℕ) → names 2 (a ++ b) h p ≡ names 2 a h p + names 2 b h p
 append_names a b h p = names_sum 2 a b (a ++ b) (λ x. occ-append x a b) h p
 
 -- a content that is shown is the same where its pages are
-pub content_same : (old new : Pages) (mine later : Option ℕ) → ((k : ℕ) → shown new 2 later k ≡ shown old 2 mine k) → (n : ℕ) → content_at new later n ≡ content_at old mine n
+pub content_same : (old new : Pages) (mine later : Option ℕ) → ((k : ℕ) → shown new 2 later k ≡ shown old 2 mine k)
+    → (n : ℕ) → content_at new later n ≡ content_at old mine n
 content_same old new mine later same n = ap (λ (bytes : List ℕ). get_or bytes (n % 512) 0) (same (n / 512))
 
-each_shown : (old new : Pages) (rest : Names) → ((r k : ℕ) → 1 ≤ occ r rest → shown new 2 (Some r) k ≡ shown old 2 (Some r) k) → (root : Option ℕ) → ForSome root (λ r. 1 ≤ occ r rest)
-    → (k : ℕ) → shown new 2 root k ≡ shown old 2 root k
+each_shown : (old new : Pages) (rest : Names) → ((r k : ℕ) → 1 ≤ occ r rest → shown new 2 (Some r) k ≡ shown old 2 (Some r) k)
+    → (root : Option ℕ) → ForSome root (λ r. 1 ≤ occ r rest) → (k : ℕ) → shown new 2 root k ≡ shown old 2 root k
 each_shown old new rest each None among k = shown_none old new 2 k
 each_shown old new rest each (Some r) among k = each r k (among r refl)
 
@@ -29,7 +30,8 @@ frames_of old new before after m = record {
       let f = m.frame (names 2 rest) (in_like (λ h p. sym (append_names before rest h p)) a.agrees) in
       record {
         agrees = record { few = room; agrees = in_like (append_names after rest) f.agrees };
-        same = λ root among. content_same old new root root (each_shown old new rest (λ r k here. f.same 2 r k (omega arith) (omega (arith, here))) root among);
+        same = λ root among. content_same old new root root
+            (each_shown old new rest (λ r k here. f.same 2 r k (omega arith) (omega (arith, here))) root among);
       };
 }
 
@@ -145,8 +147,8 @@ none_used pages a = omega (arith, few_pages pages [] a)
 
 -- one space more with the same root
 pub frames_again : (old new : Pages) (r : ℕ) → IsPool new → Shares old new r → Frames old new (Some r ∷ []) (Some r ∷ Some r ∷ [])
-frames_again old new r sound shares = frames_of old new (Some r ∷ []) (Some r ∷ Some r ∷ [])
-    (moves_like (λ h p. refl) (λ h p. append_names (Some r ∷ []) (Some r ∷ []) h p) (moves_known old new (names 2 (Some r ∷ [])) r 2 sound shares (omega arith)
+frames_again old new r sound shares = frames_of old new (Some r ∷ []) (Some r ∷ Some r ∷ []) (moves_like (λ h p. refl)
+    (append_names (Some r ∷ []) (Some r ∷ [])) (moves_known old new (names 2 (Some r ∷ [])) r 2 sound shares (omega arith)
     (λ rest a. (a.held 2 r (omega arith) (omega (arith, one_same r r refl)), omega (arith, one_same r r refl)))))
 
 pub frames_nil : (pages : Pages) (a b : Names) → ((p : ℕ) → occ p a ≡ 0) → ((p : ℕ) → occ p b ≡ 0) → Frames pages pages a b
@@ -195,15 +197,12 @@ pub agree_same : (pages : Pages) (a b : Names) → Same a b → ∥ Agree pages 
 agree_same pages a b s some = ∥∥₁_map some (reorder pages a b s)
 
 -- a call that keeps the bytes of its own space keeps those of all
-pub all_keep : (old new : Pages) (mine : Option ℕ) (after rest : Names) → Frames old new (mine ∷ []) after → ((n : ℕ) → content_at new mine n ≡ content_at old mine n) → ∥ Agree old (mine ∷ rest) ∥₁
-    → length (after ++ rest) ≤ 2000 → (root : Option ℕ) → ForSome root (λ x. 1 ≤ occ x (mine ∷ rest)) → (n : ℕ) → content_at new root n ≡ content_at old root n
-all_keep old new mine after rest f shows some room root among n = by mine shows root among (λ other. equal _ _ some (λ a. (f.frame rest a room).same root other n))
-  where
-    by : (mine : Option ℕ) → ((n : ℕ) → content_at new mine n ≡ content_at old mine n) → (root : Option ℕ) → ForSome root (λ x. 1 ≤ occ x (mine ∷ rest))
-        → (ForSome root (λ x. 1 ≤ occ x rest) → content_at new root n ≡ content_at old root n) → content_at new root n ≡ content_at old root n
-    by mine shows None among beside = beside (λ x is. absurd (none-some x is))
-    by None shows (Some x) among beside = beside (λ y is. omega (arith, among y is))
-    by (Some r) shows (Some x) among beside = elim (cases_eq r x) [
-      | inl e ↦ subst (λ (m : ℕ). content_at new (Some m) n ≡ content_at old (Some m) n) e (shows n)
-      | inr ne ↦ beside (λ y is. omega (arith, among y is, one_other y r (λ e. ne (e ∙ sym (same_Some x y is)))))
-    ]
+pub all_keep : (old new : Pages) (mine : Option ℕ) (after rest : Names) → Frames old new (mine ∷ []) after
+    → ((n : ℕ) → content_at new mine n ≡ content_at old mine n) → ∥ Agree old (mine ∷ rest) ∥₁ → length (after ++ rest) ≤ 2000
+    → (root : Option ℕ) → ForSome root (λ x. 1 ≤ occ x (mine ∷ rest)) → (n : ℕ) → content_at new root n ≡ content_at old root n
+all_keep old new mine after rest f shows some room None among n =
+    equal _ _ some (λ a. (f.frame rest a room).same None (λ x is. absurd (none-some x is)) n)
+all_keep old new mine after rest f shows some room (Some x) among n = elim (cases_eq (hit x mine) 0) [
+  | inl none ↦ equal _ _ some (λ a. (f.frame rest a room).same (Some x) (λ y is. grind (arith, none, among y is, is)) n)
+  | inr hits ↦ subst (λ (o : Option ℕ). content_at new o n ≡ content_at old o n) (hit_some x mine (omega (arith, hits))) (shows n)
+]

@@ -146,39 +146,40 @@ record Fits (old new : Pages) (before after rest : Hands) (q : ℕ) (a : Agrees 
 moves_fits : (old new : Pages) (before after : Hands) (q : ℕ) → IsPool new → ((b : ℕ) → home_of new q ≡ Some b → Stays old new q) → ((x : ℕ) → x ≢ q → Stays old new x)
     → ((x : ℕ) → count_of new x + total before x ≡ count_of old x + total after x)
     → ((rest : Hands) (a : Agrees (book_of old) (both before rest)) → Fits old new before after rest q a) → Moves old new before after
-moves_fits old new before after q sound home others counted fits = record {
-  homes = record {
-    stays = λ x b is. elim (cases_eq x q) [
-      | inl e ↦ subst (Stays old new) (sym e) (home b (ap (home_of new) (sym e) ∙ is))
-      | inr ne ↦ others x ne
-    ];
-  };
-  frame = λ rest agree.
-      let a = agree.shares in
-      let f = fits rest a in
-      record {
-        agrees = record {
-          sound = sound;
-          shares = step (book_of old) (book_of new) (both before rest) (both after rest) a (λ x. omega (arith, counted x))
-              (λ x up. ap entries_of (elim f.bytes [
-                | inl same ↦ all same x
-                | inr away ↦ (others x (λ e. let none : a.height x ≡ 0 = ap a.height e ∙ away.0 in absurd (omega (arith, none, up)))).bytes
-              ]))
-              f.live
-              (λ h x fits among. grind (arith, among, f.held h x fits, a.held h x fits));
-        };
-        same = λ h x k fits among. elim f.bytes [
-          | inl same ↦ shown_same old new (all same) h (Some x) k
-          | inr away ↦ shown_away old _ a new q (omega (arith, away.1)) (λ y ne. (others y ne).bytes) h x k
-              (a.held h x fits (omega (arith, among))) (λ e. let at : rest h x ≡ rest h q = ap (rest h) e in
-              absurd (omega (arith, away.1, at, among, total_at rest h q fits)))
+moves_fits old new before after q sound home others counted fits =
+    let all : bytes_of new q ≡ bytes_of old q → (x : ℕ) → bytes_of new x ≡ bytes_of old x = λ same x. elim (cases_eq x q) [
+      | inl e ↦ ap (bytes_of new) e ∙ same ∙ ap (bytes_of old) (sym e)
+      | inr ne ↦ (others x ne).bytes
+    ] in record {
+      homes = record {
+        stays = λ x b is. elim (cases_eq x q) [
+          | inl e ↦ subst (Stays old new) (sym e) (home b (ap (home_of new) (sym e) ∙ is))
+          | inr ne ↦ others x ne
         ];
-        single = λ h x fits among once. grind (arith, once, counted x, a.counts x, total_at rest h x fits, among, f.fresh x once);
       };
-}
-  where
-    all : bytes_of new q ≡ bytes_of old q → (x : ℕ) → bytes_of new x ≡ bytes_of old x
-    all same x = elim (cases_eq x q) [ inl e ↦ ap (bytes_of new) e ∙ same ∙ ap (bytes_of old) (sym e) | inr ne ↦ (others x ne).bytes ]
+      frame = λ rest agree.
+          let a = agree.shares in
+          let f = fits rest a in
+          record {
+            agrees = record {
+              sound = sound;
+              shares = step (book_of old) (book_of new) (both before rest) (both after rest) a (λ x. omega (arith, counted x))
+                  (λ x up. ap entries_of (elim f.bytes [
+                    | inl same ↦ all same x
+                    | inr away ↦ (others x (λ e. let none : a.height x ≡ 0 = ap a.height e ∙ away.0 in absurd (omega (arith, none, up)))).bytes
+                  ]))
+                  f.live
+                  (λ h x fits among. grind (arith, among, f.held h x fits, a.held h x fits));
+            };
+            same = λ h x k fits among. elim f.bytes [
+              | inl same ↦ shown_same old new (all same) h (Some x) k
+              | inr away ↦ shown_away old _ a new q (omega (arith, away.1)) (λ y ne. (others y ne).bytes) h x k
+                  (a.held h x fits (omega (arith, among))) (λ e. let at : rest h x ≡ rest h q = ap (rest h) e in
+                  absurd (omega (arith, away.1, at, among, total_at rest h q fits)))
+            ];
+            single = λ h x fits among once. grind (arith, once, counted x, a.counts x, total_at rest h x fits, among, f.fresh x once);
+          };
+    }
 
 -- a page more, or other bytes of a content page that has one name, in hand
 module _ (old new : Pages) (q : ℕ) (bytes : List ℕ) (sound : IsPool new) where
@@ -246,10 +247,7 @@ moves_drops old new p height sound drops low which = moves_fits old new (names h
       held = λ h x fits none. absurd (omega (arith, none));
       live = λ x up. grind (arith, nat_tests, up, high, which, a.live x up, drops.counts x);
       bytes = elim (cases_eq (count_of old p) 1) [
-        | inl last ↦ elim which [
-          | inl bottom ↦ inr (high ∙ bottom, omega (arith, a.counts p, total_names height (Some p ∷ []) p low, one_same p p refl, last))
-          | inr more ↦ absurd (omega (arith, last, more))
-        ]
+        | inl last ↦ inr (grind (arith, high, which, last), omega (arith, a.counts p, total_names height (Some p ∷ []) p low, one_same p p refl, last))
         | inr ne ↦ inl (drops.stays p (omega (arith, ne, drops.counts p, one_same p p refl))).bytes
       ];
       fresh = λ x once none. omega arith;
