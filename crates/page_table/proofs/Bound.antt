@@ -28,11 +28,9 @@ sum_one f zero q w most none = omega arith
 sum_one f (suc n) zero w most none =
     let rest : sum (λ p. f (suc p)) n ≡ 0 = sum_same (λ p. 0) (λ p. f (suc p)) n (λ p. none (suc p) (λ e. absurd (omega (arith, e)))) ∙ sum_zero n in
     omega (arith, rest, most)
-sum_one f (suc n) (suc q) w most none = omega (
-  arith,
-  none 0 (λ e. absurd (omega (arith, e))),
-  sum_one (λ p. f (suc p)) n q w most (λ p ne. none (suc p) (λ e. ne (omega (arith, e)))),
-)
+sum_one f (suc n) (suc q) w most none =
+    let rest = sum_one (λ p. f (suc p)) n q w most (λ p ne. none (suc p) (λ e. ne (omega (arith, e)))) in
+    omega (arith, rest, none 0 (λ e. absurd (omega (arith, e))))
 
 -- what so many names of pages of this height are worth: for each the page and all that is below it
 abbrev worth : ℕ → ℕ → ℕ
@@ -78,28 +76,21 @@ module _ (height : ℕ → ℕ) where
   worths_occ : (h m : ℕ) (es : Names) → ((k : ℕ) → m ≤ k → get_or es k None ≡ None) → ((q : ℕ) → 1 ≤ occ q es → height q ≡ h)
       → worths (λ p. occ p es) ≤ worth h m
   worths_occ h m [] few each = omega (arith, worths_none (λ p. 0) (λ p. refl))
-  worths_occ h zero (e ∷ es) few each = omega (
-    arith,
-    worths_plus (λ p. hit p e) (λ p. occ p es) (λ p. occ p (e ∷ es)) (λ p. refl),
-    worths_none (λ p. hit p e) (λ p. ap (hit p) (few 0 (omega arith))),
-    worths_occ h zero es (λ k up. few (suc k) (omega arith)) (λ q among. each q (omega (arith, among))),
-  )
-  worths_occ h (suc m) (e ∷ es) few each = omega (
-    arith,
-    worths_plus (λ p. hit p e) (λ p. occ p es) (λ p. occ p (e ∷ es)) (λ p. refl),
-    worths_hit h e (λ q is. let here : hit q e ≡ 1 = ap (hit q) is ∙ one_same q q refl in each q (omega (arith, here))),
-    worths_occ h m es (λ k up. few (suc k) (omega (arith, up))) (λ q among. each q (omega (arith, among))),
-    worth_plus h 1 m (suc m) (omega arith),
-  )
+  worths_occ h zero (e ∷ es) few each =
+      let apart = worths_plus (λ p. hit p e) (λ p. occ p es) (λ p. occ p (e ∷ es)) (λ p. refl) in
+      let rest = worths_occ h zero es (λ k up. few (suc k) (omega arith)) (λ q among. each q (omega (arith, among))) in
+      omega (arith, apart, worths_none (λ p. hit p e) (λ p. ap (hit p) (few 0 (omega arith))), rest)
+  worths_occ h (suc m) (e ∷ es) few each =
+      let apart = worths_plus (λ p. hit p e) (λ p. occ p es) (λ p. occ p (e ∷ es)) (λ p. refl) in
+      let first = worths_hit h e (λ q is. let here : hit q e ≡ 1 = ap (hit q) is ∙ one_same q q refl in each q (omega (arith, here))) in
+      let rest = worths_occ h m es (λ k up. few (suc k) (omega (arith, up))) (λ q among. each q (omega (arith, among))) in
+      omega (arith, apart, first, rest, worth_plus h 1 m (suc m) (omega arith))
 
   worths_sum : (f : ℕ → Names) (g : ℕ → ℕ) (n : ℕ) → ((q : ℕ) → worths (λ p. occ p (f q)) ≤ g q) → worths (λ p. sum (λ q. occ p (f q)) n) ≤ sum g n
   worths_sum f g zero each = omega (arith, worths_none (λ p. 0) (λ p. refl))
-  worths_sum f g (suc n) each = omega (
-    arith,
-    each 0,
-    worths_plus (λ p. occ p (f 0)) (λ p. sum (λ q. occ p (f (suc q))) n) (λ p. sum (λ q. occ p (f q)) (suc n)) (λ p. refl),
-    worths_sum (λ q. f (suc q)) (λ q. g (suc q)) n (λ q. each (suc q)),
-  )
+  worths_sum f g (suc n) each =
+      let apart = worths_plus (λ p. occ p (f 0)) (λ p. sum (λ q. occ p (f (suc q))) n) (λ p. sum (λ q. occ p (f q)) (suc n)) (λ p. refl) in
+      omega (arith, apart, each 0, worths_sum (λ q. f (suc q)) (λ q. g (suc q)) n (λ q. each (suc q)))
 
 module _ (pages : Pages) (roots : Names) (agree : Agree pages roots) where
   abbrev a : Agrees (book_of pages) (names 2 roots)
@@ -107,13 +98,10 @@ module _ (pages : Pages) (roots : Names) (agree : Agree pages roots) where
 
   entries_worth : (q h : ℕ) → a.height q ≡ h → worths a.height (λ p. occ p (inner h ((book_of pages).entries q))) ≤ below h
   entries_worth q zero is = omega (arith, worths_none a.height (λ p. 0) (λ p. refl))
-  entries_worth q (suc zero) is = worths_occ a.height 0 128 ((book_of pages).entries q)
-      (λ k up. get_or_past ((book_of pages).entries q) k None (omega (
-        arith,
-        up,
-        entries_length (bytes_of pages q),
-        long pages q agree.agrees.sound (a.live q (omega (arith, is))),
-      )))
+  entries_worth q (suc zero) is =
+      let few = long pages q agree.agrees.sound (a.live q (omega (arith, is))) in
+      worths_occ a.height 0 128 ((book_of pages).entries q)
+      (λ k up. get_or_past ((book_of pages).entries q) k None (omega (arith, up, entries_length (bytes_of pages q), few)))
       (λ p among. omega (arith, a.entry q p (omega (arith, is)) among, is))
   entries_worth q (suc (suc h)) is = worths_occ a.height 1 4 ((book_of pages).entries q)
       (λ k up. a.four q k (omega (arith, is, a.low q)) up)
@@ -133,12 +121,9 @@ module _ (pages : Pages) (roots : Names) (agree : Agree pages roots) where
   number p live = number_low agree.agrees.sound live
 
   pub few_pages : used_of pages ≤ 517 * length roots
-  few_pages = omega (
-    arith,
-    sum_counts,
-    used_sum numbers pages (count_of pages) (λ p live.
-        let some = count_live pages p agree.agrees.sound live in (number p some, some)),
-  )
+  few_pages =
+      let used = used_sum numbers pages (count_of pages) (λ p live. let some = count_live pages p agree.agrees.sound live in (number p some, some)) in
+      omega (arith, sum_counts, used)
 
   pub few_names : HasFewNames pages
   few_names p = elim (cases_eq (count_of pages p) 0) [

@@ -9,7 +9,7 @@ use Rattle.page_pool.proofs.Sound.{low}
 use Rattle.page_table.proofs.Counting.{names_none, heirs_none, heirs_sum, occ_take, own_at}
 use Rattle.page_table.proofs.Framing.{frames_of}
 use Rattle.page_table.proofs.Moving.{holds_then, holds_part, held_live, held_entries, held_four, beside_single, beside_shown, stays_then, moves_on, moves_like}
-use Rattle.page_table.proofs.Moving.{moves_with, moves_none, moves_close, moves_adds, moves_drops, drop_stays, shown_none, shown_same, moves_open}
+use Rattle.page_table.proofs.Moving.{moves_with, moves_none, moves_close, moves_adds, moves_drops, shown_none, shown_same, moves_open}
 use Rattle.page_table.proofs.Spelled.{zeros_none, zeros_occ, entries_length}
 
 -- bytes in the place of all
@@ -38,14 +38,6 @@ module _ (p0 p1 : Pages) (q : ℕ) where
   -- beside what is in hand
   pub added : (bytes : List ℕ) (mine : Hands) → Adds p0 p1 q bytes → IsPool p1 → Moves p0 p1 mine (both mine (names 0 (Some q ∷ [])))
   added bytes mine adds sound = moves_like (λ h p. omega arith) (λ h p. omega arith) (moves_with mine (moves_adds p0 p1 q bytes sound adds))
-
-pub copied : (p0 p1 p2 : Pages) (q p : ℕ) (bytes : List ℕ) → Adds p0 p1 q (replicate 512 0) → Writes p1 p2 q (pasted (bytes_of p1 q) 0 bytes)
-    → bytes ≡ take 512 (drop 0 (bytes_of p1 p)) → length (bytes_of p1 p) ≡ 512 → length (bytes_of p1 q) ≡ 512 → 1 ≤ count_of p0 p
-    → Adds p0 p2 q (bytes_of p0 p)
-copied p0 p1 p2 q p bytes adds writes read long wide live =
-    let is : bytes ≡ bytes_of p1 p = read ∙ take_all 512 (bytes_of p1 p) (omega (arith, long)) in
-    subst (Adds p0 p2 q) (pasted_whole (bytes_of p1 q) bytes wide (ap (λ (l : List ℕ). length l) is ∙ long) ∙ is
-    ∙ (adds.others p (added_other p0 p1 q p _ adds live)).bytes) (adds_writes p0 p1 p2 q _ _ adds writes)
 
 -- one name more for what an entry of a page in hand names
 pub shares_next : {p0 p1 p2 : Pages} (height p k : ℕ) {o : Option ℕ} → height ≤ 2 → Holds p0 (names height (Some p ∷ [])) → k < 128
@@ -118,19 +110,15 @@ heirs_down (suc height) es up h p = ap (λ (n : ℕ). names n es h p) (omega ari
 -- the first of the names that are left
 module _ (bytes : List ℕ) (k height : ℕ) {o : Option ℕ} (up : 1 ≤ height) (long : length bytes ≡ 512) (small : k < 128)
     (is : get_or (entries_of bytes) k None ≡ o) where
-  abbrev left : Names
+  abbrev pub left : Names
   left = drop (k + 1) (entries_of bytes)
 
-  first_left : (h p : ℕ) → heirs height (drop k (entries_of bytes)) h p ≡ names (height - 1) (o ∷ []) h p + heirs height left h p
+  pub first_left : (h p : ℕ) → heirs height (drop k (entries_of bytes)) h p ≡ names (height - 1) (o ∷ []) h p + heirs height left h p
   first_left h p =
       let next = drop_more (entries_of bytes) k None (omega (arith, entries_length bytes, long, small)) ∙ ap (λ (e : Option ℕ). e ∷ left) is in
       let sum = heirs_sum height (o ∷ []) left (drop k (entries_of bytes)) (λ x.
       let here : occ x (drop k (entries_of bytes)) ≡ occ x (o ∷ left) = ap (occ x) next in omega (arith, here)) h p in
       omega (arith, sum, heirs_down height (o ∷ []) up h p)
-
-  pub left_held : {old pages : Pages} {a : Hands} → Moves old pages a (heirs height (drop k (entries_of bytes))) → Holds old a
-      → Holds pages (names (height - 1) (o ∷ []))
-  left_held m holds = holds_part (heirs height left) first_left (holds_then m holds)
 
   pub left_next : {p0 p1 p2 : Pages} {a : Hands} → Moves p0 p1 a (heirs height (drop k (entries_of bytes)))
       → Moves p1 p2 (names (height - 1) (o ∷ [])) nothing → Moves p0 p2 a (heirs height left)

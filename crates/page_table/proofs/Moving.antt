@@ -1,6 +1,6 @@
 -- What the calls of a pool do to names in hand, whatever else stands over it: what pages show, and what is still held.
 use Rattle.page_table.proofs.Common.{◌≡◌, ◌≢◌, ◌+◌, ◌<◌, ◌≤◌, ℕ, zero, suc, List, [], ◌∷◌, length, get_or, Option, Some, None, inl, inr, refl, sym, ◌∙◌, ap}
-use Rattle.page_table.proofs.Common.{subst, arith, cases_eq, none-some, Pages, count_of, bytes_of, home_of, one, IsPool, Stays, Adds, Shares, Drops, Writes}
+use Rattle.page_table.proofs.Common.{subst, arith, cases_eq, none-some, same_Some, Pages, count_of, bytes_of, home_of, one, IsPool, Stays, Adds, Shares, Drops, Writes}
 use Rattle.page_table.proofs.Common.{one_same, one_other, Names, entries_of, book_of, child, occ, named, Hands, names, both, nothing, total, Agrees}
 use Rattle.page_table.proofs.Common.{AgreeIn, place, shown, KeepsHomes, Moves, Holds, FreesOnly, heirs}
 use Rattle.page_table.specs.Sharing.{numbers}
@@ -16,13 +16,18 @@ pub shown_none : (old new : Pages) (h k : ℕ) → shown new h None k ≡ shown 
 shown_none old new zero k = refl
 shown_none old new (suc h) k = shown_none old new h k
 
--- all bytes are as they were
+-- the bytes of each page on the way are as they were
+shown_where : (old new : Pages) (On : ℕ → ℕ → Type 0) → ((h x : ℕ) → On h x → bytes_of new x ≡ bytes_of old x)
+    → ((h x k y : ℕ) → On (suc h) x → child (book_of old) (Some x) k ≡ Some y → On h y)
+    → (h : ℕ) (o : Option ℕ) → ((x : ℕ) → o ≡ Some x → On h x) → (k : ℕ) → shown new h o k ≡ shown old h o k
+shown_where old new On same down h None on k = shown_none old new h k
+shown_where old new On same down zero (Some x) on k = same zero x (on x refl)
+shown_where old new On same down (suc h) (Some x) on k =
+    ap (λ (bytes : List ℕ). shown new h (get_or (entries_of bytes) (place h k) None) k) (same (suc h) x (on x refl))
+    ∙ shown_where old new On same down h (child (book_of old) (Some x) (place h k)) (λ y is. down h x (place h k) y (on x refl) is) k
+
 pub shown_same : (old new : Pages) → ((x : ℕ) → bytes_of new x ≡ bytes_of old x) → (h : ℕ) (o : Option ℕ) (k : ℕ) → shown new h o k ≡ shown old h o k
-shown_same old new same h None k = shown_none old new h k
-shown_same old new same zero (Some x) k = same x
-shown_same old new same (suc h) (Some x) k =
-    ap (λ (bytes : List ℕ). shown new h (get_or (entries_of bytes) (place h k) None) k) (same x)
-    ∙ shown_same old new same h (child (book_of old) (Some x) (place h k)) k
+shown_same old new same h o = shown_where old new (λ h x. ℕ) (λ h x on. same x) (λ h x k y on is. on) h o (λ x is. 0)
 
 -- a page on the way down from one that stands at a height
 module _ (pages : Pages) (hands : Hands) (a : Agrees (book_of pages) hands) where
@@ -32,21 +37,6 @@ module _ (pages : Pages) (hands : Hands) (a : Agrees (book_of pages) hands) wher
 
   pub child_high : (h x k y : ℕ) → a.height x ≡ suc h → child (book_of pages) (Some x) k ≡ Some y → a.height y ≡ h
   child_high h x k y high is = omega (arith, high, a.entry x y (omega (arith, high)) (occ_get ((book_of pages).entries x) k y is))
-
-  -- a page that no entry names is on no way, but as the first page
-  module _ (new : Pages) (p : ℕ) (unnamed : named (book_of pages) a.height p ≡ 0) (same : (x : ℕ) → x ≢ p → bytes_of new x ≡ bytes_of pages x) where
-    pub shown_away : (h x k : ℕ) → a.height x ≡ h → x ≢ p → shown new h (Some x) k ≡ shown pages h (Some x) k
-    shown_away zero x k high ne = same x ne
-    shown_away (suc h) x k high ne =
-        ap (λ (bytes : List ℕ). shown new h (get_or (entries_of bytes) (place h k) None) k) (same x ne)
-        ∙ below (child (book_of pages) (Some x) (place h k)) refl (λ y. shown_away h y k)
-      where
-        below : (o : Option ℕ) → child (book_of pages) (Some x) (place h k) ≡ o
-            → ((y : ℕ) → a.height y ≡ h → y ≢ p → shown new h (Some y) k ≡ shown pages h (Some y) k) → shown new h o k ≡ shown pages h o k
-        below None is each = shown_none pages new h k
-        below (Some y) is each = each y (child_high h x (place h k) y high is) (λ e.
-            let at : named (book_of pages) a.height y ≡ named (book_of pages) a.height p = ap (named (book_of pages) a.height) e in
-            absurd (omega (arith, at, unnamed, child_named x (place h k) y (omega (arith, high)) is)))
 
 pub stays_then : {p0 p1 p2 : Pages} {x : ℕ} → Stays p0 p1 x → Stays p1 p2 x → Stays p0 p2 x
 stays_then first second = record { bytes = second.bytes ∙ first.bytes; home = second.home ∙ first.home }
@@ -143,43 +133,41 @@ record Fits (old new : Pages) (before after rest : Hands) (q : ℕ) (a : Agrees 
   bytes : (bytes_of new q ≡ bytes_of old q) ⊎ ((a.height q ≡ 0) × (total rest q + named (book_of old) a.height q ≡ 0))
   fresh : (x : ℕ) → count_of old x ≡ 1 → total before x + named (book_of old) a.height x ≡ 0 → total after x ≡ 0
 
-moves_fits : (old new : Pages) (before after : Hands) (q : ℕ) → IsPool new → ((b : ℕ) → home_of new q ≡ Some b → Stays old new q) → ((x : ℕ) → x ≢ q → Stays old new x)
-    → ((x : ℕ) → count_of new x + total before x ≡ count_of old x + total after x)
+moves_fits : (old new : Pages) (before after : Hands) (q : ℕ) → IsPool new → ((b : ℕ) → home_of new q ≡ Some b → Stays old new q)
+    → ((x : ℕ) → x ≢ q → Stays old new x) → ((x : ℕ) → count_of new x + total before x ≡ count_of old x + total after x)
     → ((rest : Hands) (a : Agrees (book_of old) (both before rest)) → Fits old new before after rest q a) → Moves old new before after
-moves_fits old new before after q sound home others counted fits =
-    let all : bytes_of new q ≡ bytes_of old q → (x : ℕ) → bytes_of new x ≡ bytes_of old x = λ same x. elim (cases_eq x q) [
-      | inl e ↦ ap (bytes_of new) e ∙ same ∙ ap (bytes_of old) (sym e)
-      | inr ne ↦ (others x ne).bytes
-    ] in record {
-      homes = record {
-        stays = λ x b is. elim (cases_eq x q) [
-          | inl e ↦ subst (Stays old new) (sym e) (home b (ap (home_of new) (sym e) ∙ is))
-          | inr ne ↦ others x ne
-        ];
+moves_fits old new before after q sound home others counted fits = record {
+  homes = record {
+    stays = λ x b is. elim (cases_eq x q) [
+      | inl e ↦ subst (Stays old new) (sym e) (home b (ap (home_of new) (sym e) ∙ is))
+      | inr ne ↦ others x ne
+    ];
+  };
+  frame = λ rest agree.
+      let a = agree.shares in
+      let f = fits rest a in
+      let Named : ℕ → Type 0 = λ x. 1 ≤ a.height x + (total rest x + named (book_of old) a.height x) in
+      let bytes : (x : ℕ) → Named x → bytes_of new x ≡ bytes_of old x = λ x on. elim (cases_eq x q) [
+        | inl e ↦ elim f.bytes [
+          | inl same ↦ ap (bytes_of new) e ∙ same ∙ ap (bytes_of old) (sym e)
+          | inr away ↦ absurd (let at : Named q = subst Named e on in omega (arith, at, away.0, away.1))
+        ]
+        | inr ne ↦ (others x ne).bytes
+      ] in
+      record {
+        agrees = record {
+          sound = sound;
+          shares = step (book_of old) (book_of new) (both before rest) (both after rest) a (λ x. omega (arith, counted x))
+              (λ x up. ap entries_of (bytes x (omega (arith, up)))) f.live
+              (λ h x fits among. grind (arith, among, f.held h x fits, a.held h x fits));
+        };
+        same = λ h x k fits among. shown_where old new (λ n y. (a.height y ≡ n) × (Named y)) (λ n y on. bytes y on.1) (λ n y i z on is.
+            (child_high old _ a n y i z on.0 is, omega (arith, child_named old _ a y i z (omega (arith, on.0)) is))) h (Some x) (λ y is.
+            subst (λ (n : ℕ). (a.height n ≡ h) × (Named n)) (same_Some x y is)
+            (a.held h x fits (omega (arith, among)), omega (arith, among, total_at rest h x fits))) k;
+        single = λ h x fits among once. grind (arith, once, counted x, a.counts x, total_at rest h x fits, among, f.fresh x once);
       };
-      frame = λ rest agree.
-          let a = agree.shares in
-          let f = fits rest a in
-          record {
-            agrees = record {
-              sound = sound;
-              shares = step (book_of old) (book_of new) (both before rest) (both after rest) a (λ x. omega (arith, counted x))
-                  (λ x up. ap entries_of (elim f.bytes [
-                    | inl same ↦ all same x
-                    | inr away ↦ (others x (λ e. let none : a.height x ≡ 0 = ap a.height e ∙ away.0 in absurd (omega (arith, none, up)))).bytes
-                  ]))
-                  f.live
-                  (λ h x fits among. grind (arith, among, f.held h x fits, a.held h x fits));
-            };
-            same = λ h x k fits among. elim f.bytes [
-              | inl same ↦ shown_same old new (all same) h (Some x) k
-              | inr away ↦ shown_away old _ a new q (omega (arith, away.1)) (λ y ne. (others y ne).bytes) h x k
-                  (a.held h x fits (omega (arith, among))) (λ e. let at : rest h x ≡ rest h q = ap (rest h) e in
-                  absurd (omega (arith, away.1, at, among, total_at rest h q fits)))
-            ];
-            single = λ h x fits among once. grind (arith, once, counted x, a.counts x, total_at rest h x fits, among, f.fresh x once);
-          };
-    }
+}
 
 -- a page more, or other bytes of a content page that has one name, in hand
 module _ (old new : Pages) (q : ℕ) (bytes : List ℕ) (sound : IsPool new) where
@@ -226,17 +214,7 @@ moves_shares old new q k p (suc h) sound shares up low is =
     let named_p = child_named old _ a q k p (omega (arith, high)) is in
     (child_high old _ a h q k p high is, omega (arith, named_p)))
 
--- one name less
-pub frees_drop : (old new : Pages) (p : ℕ) → Drops old new p → FreesOnly old new
-frees_drop old new p drops = record { lived = λ x alive. omega (arith, alive, drops.counts x); stays = drops.stays }
-
-pub drop_stays : (old new : Pages) (p : ℕ) → Drops old new p → 2 ≤ count_of old p → (x : ℕ) → Stays old new x
-drop_stays old new p drops more x = elim (cases_eq x p) [
-  | inl e ↦ subst (Stays old new) (sym e) (drops.stays p (omega (arith, more, drops.counts p, one_same p p refl)))
-  | inr ne ↦ drops.others x ne
-]
-
--- of a content page, or of a page that has others
+-- one name less of a content page, or of a page that has others
 pub moves_drops : (old new : Pages) (p height : ℕ) → IsPool new → Drops old new p → height ≤ 2 → (height ≡ 0) ⊎ (2 ≤ count_of old p)
     → Moves old new (names height (Some p ∷ [])) nothing
 moves_drops old new p height sound drops low which = moves_fits old new (names height (Some p ∷ [])) nothing p sound

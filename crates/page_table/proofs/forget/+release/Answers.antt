@@ -1,9 +1,9 @@
 use Rattle.page_table.proofs.Common.{◌≡◌, ◌-◌, ℕ, [], ◌∷◌, drop, Option, Some, inl, inr, refl, sym, ◌∙◌, ap, subst, arith, Pages, count_of, Names, entries_of, book_of}
 use Rattle.page_table.proofs.Common.{hit, occ, Hands, names, nothing, heirs, Moves}
 use Rattle.std.proofs.lemmas.List.{take_all, drop_all}
-use Rattle.page_table.proofs.Copies.{left_held, left_next}
+use Rattle.page_table.proofs.Copies.{first_left, left_next}
 use Rattle.page_table.proofs.Counting.{names_none, heirs_none}
-use Rattle.page_table.proofs.Moving.{held_live, held_as, frees_drop, stays_then, moves_on, moves_open, moves_with, moves_drops, moves_none, moves_like}
+use Rattle.page_table.proofs.Moving.{holds_part, holds_then, held_live, held_as, stays_then, moves_on, moves_open, moves_with, moves_drops, moves_none, moves_like}
 use Rattle.page_table.proofs.Spelled.{entries_length}
 use Rattle.page_table.proofs.forget.+release.Goals as goal
 
@@ -34,14 +34,14 @@ loop-k-init t c =
       moves = less c.args.height c.in-Some.p c.in-Some.is (moves_on (moves_open _ c.in-Some.p c.args.height c.requires.low single)
           (moves_like (λ n x. refl) (λ n x. omega (arith, ap (λ (l : Names). heirs c.args.height l n x) same)) (moves_with (heirs c.args.height _)
           (moves_drops _ _ c.in-Some.p 0 c.drop_ref-2.ensures.sound c.drop_ref-2.ensures.drops (omega arith) (inl refl)))));
-      frees = frees_drop _ _ _ c.drop_ref-2.ensures.drops;
+      frees = record { lived = λ x alive. omega (arith, alive, c.drop_ref-2.ensures.drops.counts x); stays = c.drop_ref-2.ensures.drops.stays };
       used = c.drop_ref-2.ensures.used;
     }
 
 pub release-requires : goal.release-requires
 release-requires t c =
-    let held = left_held c.read.new.into c.loop-k.k c.args.height (omega (arith, c.if-height-eq0.false)) c.read.auto.into c.loop-k-test.true
-    (sym c.entry_in.ensures) c.loop-k.invariant.moves c.requires.held in (
+    let held = holds_part _ (first_left c.read.new.into c.loop-k.k c.args.height (omega (arith, c.if-height-eq0.false)) c.read.auto.into
+    c.loop-k-test.true (sym c.entry_in.ensures)) (holds_then c.loop-k.invariant.moves c.requires.held) in (
       omega (arith, c.decreases, c.if-height-eq0.false),
       (omega (arith, c.requires.low), (λ q is. held_live _ (c.args.height - 1) q (omega (arith, c.requires.low)) (held_as (c.args.height - 1) is held), held)),
     )

@@ -1,8 +1,8 @@
-use Rattle.page_table.proofs.Common.{◌≤◌, ℕ, List, [], ◌∷◌, Option, Some, None, inr, refl, sym, ◌∙◌, ap, subst, arith, count_of, none-some, same_Some, Stays}
-use Rattle.page_table.proofs.Common.{entries_of, book_of, occ, nothing, names, heirs, Holds, Takes}
+use Rattle.page_table.proofs.Common.{◌≤◌, ℕ, List, [], ◌∷◌, Option, Some, None, inl, inr, refl, sym, ◌∙◌, ap, subst, arith, count_of, cases_eq, none-some, same_Some, Stays}
+use Rattle.page_table.proofs.Common.{one_same, entries_of, book_of, occ, nothing, names, heirs, Holds, Takes}
 use Rattle.page_table.proofs.Copies.{added, added_other, takes}
 use Rattle.page_table.proofs.Counting.{names_none, heirs_none}
-use Rattle.page_table.proofs.Moving.{held_as, holds_then, holds_part, stays_then, drop_stays, moves_on, moves_like, moves_with, moves_none, moves_drops}
+use Rattle.page_table.proofs.Moving.{held_as, holds_then, holds_part, stays_then, moves_on, moves_like, moves_with, moves_none, moves_drops}
 use Rattle.page_table.proofs.Spelled.{zeros_occ}
 use Rattle.page_table.proofs.node.copy.Goals as goal
 
@@ -28,7 +28,10 @@ returns-clause-takes c =
     let shared : 2 ≤ count_of c.args.pool.now p = c.requires.shared p c.in-Some.is in
     let more : 2 ≤ count_of c.share_entries.new.pool p = omega (arith, shared, adds.counts p, c.share_entries.ensures.more p) in
     let still : (x : ℕ) → Stays c.copy_page.new.pool c.drop_ref.new.self x
-    = λ x. stays_then (c.share_entries.ensures.stays x) (drop_stays _ _ p c.drop_ref.ensures.drops more x) in
+    = λ x. stays_then (c.share_entries.ensures.stays x) (elim (cases_eq x p) [
+      | inl e ↦ subst (Stays _ _) (sym e) (c.drop_ref.ensures.drops.stays p (omega (arith, more, c.drop_ref.ensures.drops.counts p, one_same p p refl)))
+      | inr ne ↦ c.drop_ref.ensures.drops.others x ne
+    ]) in
     let es = (book_of c.copy_page.new.pool).entries p in
     subst (λ (o : Option ℕ). Holds c.args.pool.now (names c.args.height (o ∷ [])) → Takes c.args.pool.now c.drop_ref.new.self c.args.height o c.in_ok-q-2.q)
     (sym c.in-Some.is) (λ held. takes c.in_ok-q-2.q c.args.height (Some p) c.requires.low adds c.in_ok-q-2.ensures.sound held still es
