@@ -1,14 +1,14 @@
 -- How many pages the spaces have: at most 517 each.
-use Rattle.page_table.proofs.Common.{◌≡◌, ◌≢◌, ◌+◌, ◌*◌, ◌<◌, ◌≤◌, ℕ, zero, suc, [], ◌∷◌, length, get_or, Option, Some, None, inl, inr, refl, sym, ◌∙◌, ap}
-use Rattle.page_table.proofs.Common.{subst, arith, cases_eq, cases_lt, Pages, count_of, bytes_of, used_of, one, sum, one_same, one_other, Names, book_of, hit}
-use Rattle.page_table.proofs.Common.{occ, inner, named, names, Agrees, Agree, HasFewNames}
-use Rattle.page_table.specs.Sharing.{numbers}
 use Rattle.std.proofs.lemmas.List.{get_or_past}
 use Rattle.page_pool.proofs.Sound.{long, count_live}
 use Rattle.page_pool.proofs.Used.{used_sum}
-use Rattle.page_table.proofs.Counting.{sum_same, sum_at}
+use Rattle.page_table.proofs.Common.{◌≡◌, ◌+◌, ◌*◌, ◌<◌, ◌≤◌, ℕ, zero, suc, [], ◌∷◌, length, get_or, Option, Some, None, inl, inr, refl, sym, ◌∙◌, ap}
+use Rattle.page_table.proofs.Common.{arith, cases_eq, Pages, count_of, bytes_of, used_of, one, sum, one_same, one_other, Names, book_of, hit, occ, inner, named}
+use Rattle.page_table.proofs.Common.{names, Agrees, Agree, HasFewNames}
+use Rattle.page_table.proofs.Counting.{sum_same, sum_at, sum_put, named_one}
 use Rattle.page_table.proofs.Moving.{number_low}
 use Rattle.page_table.proofs.Spelled.{entries_length}
+use Rattle.page_table.specs.Sharing.{numbers}
 
 pub sum_zero : (n : ℕ) → sum (λ p. 0) n ≡ 0
 sum_zero zero = refl
@@ -21,16 +21,6 @@ sum_most f g (suc n) most = omega (arith, most 0, sum_most (λ p. f (suc p)) (λ
 sum_plus : (f g h : ℕ → ℕ) (n : ℕ) → ((p : ℕ) → h p ≡ f p + g p) → sum h n ≡ sum f n + sum g n
 sum_plus f g h zero is = refl
 sum_plus f g h (suc n) is = omega (arith, is 0, sum_plus (λ p. f (suc p)) (λ p. g (suc p)) (λ p. h (suc p)) n (λ p. is (suc p)))
-
--- one value, and zeros
-sum_one : (f : ℕ → ℕ) (n q w : ℕ) → f q ≤ w → ((p : ℕ) → p ≢ q → f p ≡ 0) → sum f n ≤ w
-sum_one f zero q w most none = omega arith
-sum_one f (suc n) zero w most none =
-    let rest : sum (λ p. f (suc p)) n ≡ 0 = sum_same (λ p. 0) (λ p. f (suc p)) n (λ p. none (suc p) (λ e. absurd (omega (arith, e)))) ∙ sum_zero n in
-    omega (arith, rest, most)
-sum_one f (suc n) (suc q) w most none =
-    let rest = sum_one (λ p. f (suc p)) n q w most (λ p ne. none (suc p) (λ e. ne (omega (arith, e)))) in
-    omega (arith, rest, none 0 (λ e. absurd (omega (arith, e))))
 
 -- what so many names of pages of this height are worth: for each the page and all that is below it
 abbrev worth : ℕ → ℕ → ℕ
@@ -66,14 +56,15 @@ module _ (height : ℕ → ℕ) where
   worths_none : (f : ℕ → ℕ) → ((p : ℕ) → f p ≡ 0) → worths f ≡ 0
   worths_none f none = sum_same (λ p. 0) _ numbers (λ p. worth_none (height p) (f p) (none p)) ∙ sum_zero numbers
 
-  worths_hit : (h : ℕ) (o : Option ℕ) → ((q : ℕ) → o ≡ Some q → height q ≡ h) → worths (λ p. hit p o) ≤ worth h 1
+  worths_hit : (h : ℕ) (o : Option ℕ) → ((q : ℕ) → o ≡ Some q → (height q ≡ h) × (q < numbers)) → worths (λ p. hit p o) ≤ worth h 1
   worths_hit h None each = omega (arith, worths_none (λ p. 0) (λ p. refl))
-  worths_hit h (Some q) each = sum_one _ numbers q (worth h 1)
-      (omega (arith, ap (worth (height q)) (one_same q q refl), ap (λ (n : ℕ). worth n 1) (each q refl)))
-      (λ p ne. worth_none (height p) (one p q) (one_other p q (λ e. ne (sym e))))
+  worths_hit h (Some q) each =
+      let one_at = sum_put (λ p. 0) (λ p. worth (height p) (one p q)) numbers q (each q refl).1
+      (λ p ne. worth_none (height p) (one p q) (one_other p q (λ e. ne (sym e)))) in
+      omega (arith, one_at, sum_zero numbers, ap (worth (height q)) (one_same q q refl), ap (λ (n : ℕ). worth n 1) (each q refl).0)
 
   -- names of pages of one height, of which no more than the first so many name a page
-  worths_occ : (h m : ℕ) (es : Names) → ((k : ℕ) → m ≤ k → get_or es k None ≡ None) → ((q : ℕ) → 1 ≤ occ q es → height q ≡ h)
+  worths_occ : (h m : ℕ) (es : Names) → ((k : ℕ) → m ≤ k → get_or es k None ≡ None) → ((q : ℕ) → 1 ≤ occ q es → (height q ≡ h) × (q < numbers))
       → worths (λ p. occ p es) ≤ worth h m
   worths_occ h m [] few each = omega (arith, worths_none (λ p. 0) (λ p. refl))
   worths_occ h zero (e ∷ es) few each =
@@ -96,16 +87,22 @@ module _ (pages : Pages) (roots : Names) (agree : Agree pages roots) where
   abbrev a : Agrees (book_of pages) (names 2 roots)
   a = agree.agrees.shares
 
+  number : (p : ℕ) → 1 ≤ count_of pages p → p < numbers
+  number p live = number_low agree.agrees.sound live
+
+  entry_number : (q p : ℕ) → 1 ≤ a.height q → 1 ≤ occ p ((book_of pages).entries q) → p < numbers
+  entry_number q p up among = number p (omega (arith, a.counts p, named_one (book_of pages) a.height p q up (a.within q up), among))
+
   entries_worth : (q h : ℕ) → a.height q ≡ h → worths a.height (λ p. occ p (inner h ((book_of pages).entries q))) ≤ below h
   entries_worth q zero is = omega (arith, worths_none a.height (λ p. 0) (λ p. refl))
   entries_worth q (suc zero) is =
       let few = long pages q agree.agrees.sound (a.live q (omega (arith, is))) in
       worths_occ a.height 0 128 ((book_of pages).entries q)
       (λ k up. get_or_past ((book_of pages).entries q) k None (omega (arith, up, entries_length (bytes_of pages q), few)))
-      (λ p among. omega (arith, a.entry q p (omega (arith, is)) among, is))
+      (λ p among. (omega (arith, a.entry q p (omega (arith, is)) among, is), entry_number q p (omega (arith, is)) among))
   entries_worth q (suc (suc h)) is = worths_occ a.height 1 4 ((book_of pages).entries q)
       (λ k up. a.four q k (omega (arith, is, a.low q)) up)
-      (λ p among. omega (arith, a.entry q p (omega (arith, is)) among, is, a.low q))
+      (λ p among. (omega (arith, a.entry q p (omega (arith, is)) among, is, a.low q), entry_number q p (omega (arith, is)) among))
 
   sum_counts : sum (count_of pages) numbers ≤ 517 * length roots
   sum_counts = omega (
@@ -113,12 +110,10 @@ module _ (pages : Pages) (roots : Names) (agree : Agree pages roots) where
     sum_plus (count_of pages) (λ p. below (a.height p)) (λ p. count_of pages p + below (a.height p)) numbers (λ p. refl),
     sum_most (λ p. count_of pages p + below (a.height p)) (λ p. worth (a.height p) (count_of pages p)) numbers (λ p. worth_below (a.height p) _ (a.live p)),
     worths_plus a.height (λ p. occ p roots) (named (book_of pages) a.height) (count_of pages) (λ p. omega (arith, a.counts p)),
-    worths_occ a.height 2 (length roots) roots (λ k up. get_or_past roots k None up) (λ q among. a.held 2 q (omega arith) (omega (arith, among))),
+    worths_occ a.height 2 (length roots) roots (λ k up. get_or_past roots k None up) (λ q among.
+        (a.held 2 q (omega arith) (omega (arith, among)), number q (omega (arith, a.counts q, among)))),
     worths_sum a.height (λ q. inner (a.height q) ((book_of pages).entries q)) (λ q. below (a.height q)) numbers (λ q. entries_worth q (a.height q) refl),
   )
-
-  number : (p : ℕ) → 1 ≤ count_of pages p → p < numbers
-  number p live = number_low agree.agrees.sound live
 
   pub few_pages : used_of pages ≤ 517 * length roots
   few_pages =

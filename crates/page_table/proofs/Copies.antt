@@ -1,16 +1,15 @@
 -- Pages that are copied, freed, and built of their entries.
-use Rattle.page_table.proofs.Common.{◌≡◌, ◌≢◌, ◌+◌, ◌-◌, ◌<◌, ◌≤◌, ℕ, zero, suc, List, [], ◌∷◌, ◌++◌, length, get_or, set, take, drop, replicate, Option, Some}
-use Rattle.page_table.proofs.Common.{None, inl, inr, refl, sym, ◌∙◌, ap, subst, arith, get_or-set_same, get_or-set_other, cases_eq, cases_lt, none-some}
-use Rattle.page_table.proofs.Common.{same_Some, ForSome, Pages, count_of, bytes_of, pasted, IsPool, Stays, Adds, Drops, Writes, one_same, Names, entries_of}
-use Rattle.page_table.proofs.Common.{book_of, told, child, content_of, hit, occ, Hands, names, both, nothing, place, shown, Frames, Moves, Holds, FreesOnly}
-use Rattle.page_table.proofs.Common.{count_at, Owns, Takes, heirs}
-use Rattle.std.proofs.lemmas.List.{append-nil, take_all, drop_all, drop_more, get_or_past}
+use Rattle.std.proofs.lemmas.List.{append-nil, drop_all, drop_more, take_more}
 use Rattle.page_pool.proofs.Sound.{low}
-use Rattle.page_table.proofs.Counting.{names_none, heirs_none, heirs_sum, occ_take, own_at}
+use Rattle.page_table.proofs.Common.{◌≡◌, ◌≢◌, ◌+◌, ◌-◌, ◌<◌, ◌≤◌, ℕ, zero, suc, List, [], ◌∷◌, ◌++◌, length, get_or, take, drop, Option, Some, None, refl, sym}
+use Rattle.page_table.proofs.Common.{◌∙◌, ap, arith, ForSome, Pages, count_of, bytes_of, pasted, IsPool, Stays, Adds, Writes, one_same, Names, entries_of}
+use Rattle.page_table.proofs.Common.{book_of, told, child, content_of, hit, occ, Hands, names, both, nothing, place, shown, Frames, Moves, Holds, Owns, Takes}
+use Rattle.page_table.proofs.Common.{heirs}
+use Rattle.page_table.proofs.Counting.{names_none, heirs_sum, occ-append, own_at}
 use Rattle.page_table.proofs.Framing.{frames_of}
 use Rattle.page_table.proofs.Moving.{holds_then, holds_part, held_live, held_entries, held_four, beside_single, beside_shown, stays_then, moves_on, moves_like}
-use Rattle.page_table.proofs.Moving.{moves_with, moves_none, moves_close, moves_adds, moves_drops, shown_none, shown_same, moves_open}
-use Rattle.page_table.proofs.Spelled.{zeros_none, zeros_occ, entries_length}
+use Rattle.page_table.proofs.Moving.{moves_with, moves_close, moves_adds, shown_none, shown_where}
+use Rattle.page_table.proofs.Spelled.{zeros_none, entries_length}
 
 -- bytes in the place of all
 pub pasted_whole : (was bytes : List ℕ) → length was ≡ 512 → length bytes ≡ 512 → pasted was 0 bytes ≡ bytes
@@ -47,12 +46,10 @@ pub shares_next : {p0 p1 p2 : Pages} (height p k : ℕ) {o : Option ℕ} → hei
     → Moves p0 p2 (names height (Some p ∷ [])) (both (names height (Some p ∷ [])) (heirs height (take (k + 1) ((book_of p0).entries p))))
 shares_next {p0} height p k {o} low held small is first second =
     let es : Names = (book_of p0).entries p in
-    moves_on first (moves_like (λ h x. refl) (λ h x. omega (
-      arith,
-      heirs_sum height (take k es) (o ∷ []) (take (k + 1) es) (λ y.
-          let here : hit y (child (book_of p0) (Some p) k) ≡ hit y o = ap (hit y) is in
-          omega (arith, occ_take y es k (omega (arith, small, held_entries p0 height p low held)), here)) h x,
-    )) (moves_with (heirs height (take k es)) second))
+    moves_on first (moves_like (λ h x. refl) (λ h x. let more = heirs_sum height (take k es) (o ∷ []) (take (k + 1) es) (λ y.
+    let here : hit y (child (book_of p0) (Some p) k) ≡ hit y o = ap (hit y) is in
+    rw (take_more es k None (omega (arith, small, held_entries p0 height p low held))) (omega (arith, here, occ-append y (take k es) (get_or es k None ∷ [])))) h x in omega (arith, more))
+    (moves_with (heirs height (take k es)) second))
 
 -- a page on a way of one's own is there
 pub owned_some : (pages : Pages) (h : ℕ) (o : Option ℕ) (k : ℕ) → Owns pages h o k → (x : ℕ) × (o ≡ Some x) × (count_of pages x ≡ 1)
@@ -98,7 +95,7 @@ takes {p0} {p1} {p2} q height of low adds sound holds stays es leaves same share
       moves = moves_on add (moves_on (moves_with (names 0 (Some q ∷ [])) leaves) (moves_like (λ h p. omega arith) (λ h p. refl)
           (moves_close p2 q height es low single (λ top k past. ap (λ (b : List ℕ). get_or (entries_of b) k None) ((stays q).bytes ∙ adds.bytes_are)
           ∙ content_child p0 of k ∙ alike.1 top k past) same)));
-      shows = λ k. shown_same p1 p2 (λ x. (stays x).bytes) height (Some q) k ∙ alike.0 k;
+      shows = λ k. shown_where p1 p2 (λ h x. ℕ) (λ h x on. (stays x).bytes) (λ h x k y on is. on) height (Some q) (λ x is. 0) k ∙ alike.0 k;
       keeps = λ k own. let t = owned_some p0 height of k own in absurd (omega (arith, t.2, shared t.0 t.1));
       single = single;
     }

@@ -1,16 +1,16 @@
 -- Calls on spaces, whatever the rest of the spaces is.
-use Rattle.page_table.proofs.Common.{◌≡◌, ◌+◌, ◌-◌, ◌/◌, ◌%◌, ◌≤◌, ℕ, List, [], ◌∷◌, ◌++◌, length, get_or, Option, Some, None, inl, inr, refl, sym, ◌∙◌, ap}
-use Rattle.page_table.proofs.Common.{subst, arith, cases_eq, none-some, same_Some, ForSome, Pages, count_of, used_of, IsPool, Shares, one_same, one_other}
-use Rattle.page_table.proofs.Common.{Names, book_of, child, hit, occ, Hands, names, both, nothing, Agrees, AgreeIn, Agree, shown, content_at, Frames}
-use Rattle.page_table.proofs.Common.{Stands, Moves, Holds, named_page, HasFewNames, Ready}
-use Rattle.page_table.specs.Sharing.{numbers}
 use Rattle.std.proofs.Math.Logic.{∥∥₁_map}
 use Rattle.std.proofs.lemmas.List.{length-append, append_assoc}
 use Rattle.page_table.proofs.Bound.{sum_zero, few_pages, few_names}
-use Rattle.page_table.proofs.Counting.{hit_some, sum_same, occ-append, names_sum, names_same, names_none}
-use Rattle.page_table.proofs.Moving.{at_least, equal, held_as, in_like, homes_same, homes_then, moves_like, moves_none, moves_known, shown_none, child_named, child_high}
+use Rattle.page_table.proofs.Common.{◌≡◌, ◌+◌, ◌-◌, ◌/◌, ◌%◌, ◌≤◌, ℕ, List, [], ◌∷◌, ◌++◌, length, get_or, Option, Some, None, inl, inr, refl, sym, ◌∙◌, ap}
+use Rattle.page_table.proofs.Common.{subst, arith, cases_eq, none-some, ForSome, Pages, count_of, used_of, one_same, Names, book_of, child, hit}
+use Rattle.page_table.proofs.Common.{occ, Hands, names, both, nothing, Agrees, Agree, shown, content_at, Frames, Stands, Moves, Holds, named_page, Ready}
+use Rattle.page_table.proofs.Counting.{hit_some, occ-append, names_sum, names_same, names_none}
+use Rattle.page_table.proofs.Moving.{at_least, equal, held_as, in_like, homes_same, homes_then, moves_like, moves_none, shown_none, child_named}
+use Rattle.page_table.proofs.Moving.{child_high}
+use Rattle.page_table.specs.Sharing.{numbers}
 
-append_names : (a b : Names) (h p : ℕ) → names 2 (a ++ b) h p ≡ names 2 a h p + names 2 b h p
+pub append_names : (a b : Names) (h p : ℕ) → names 2 (a ++ b) h p ≡ names 2 a h p + names 2 b h p
 append_names a b h p = names_sum 2 a b (a ++ b) (λ x. occ-append x a b) h p
 
 -- a content that is shown is the same where its pages are
@@ -36,9 +36,8 @@ frames_of old new before after m = record {
 }
 
 pub holds_of : (pages : Pages) (mine : Names) (more : ℕ) → Stands pages mine more → Holds pages (names 2 mine)
-holds_of pages mine more stands = record {
-  some = ∥∥₁_map stands.some (λ t. (names 2 t.0, in_like (λ h p. sym (append_names mine t.0 h p)) t.1.agrees));
-}
+holds_of pages mine more stands =
+    record { some = ∥∥₁_map stands.some (λ t. (names 2 t.0, in_like (λ h p. sym (append_names mine t.0 h p)) t.1.agrees)) }
 
 -- a table's root page is in hand, and there is room for the pages of the spaces, and for their names
 pub ready_of : {pages : Pages} {root now : Option ℕ} {more : ℕ} → root ≡ now → Stands pages (root ∷ []) more → Ready pages (names 2 (now ∷ []))
@@ -79,7 +78,8 @@ pub frames_more : (old new : Pages) (a b more : Names) → Frames old new a b �
 frames_more old new a b more f = record {
   homes = f.homes;
   frame = λ rest g room.
-      let k = f.frame (more ++ rest) (subst (Agree old) (append_assoc a more rest) g) (subst (λ (l : Names). length l ≤ 2000) (append_assoc b more rest) room) in
+      let k = f.frame (more ++ rest) (subst (Agree old) (append_assoc a more rest) g)
+      (subst (λ (l : Names). length l ≤ 2000) (append_assoc b more rest) room) in
       record {
         agrees = subst (Agree new) (sym (append_assoc b more rest)) k.agrees;
         same = λ root among. k.same root (λ x is. omega (arith, occ-append x more rest, among x is));
@@ -107,7 +107,8 @@ stands_same pages a b more s stands = record {
 }
 
 -- after a call there is the room that its spaces leave
-pub stands_after : (old new : Pages) (a b : Names) (more less : ℕ) → length b + less ≤ length a + more → Frames old new a b → Stands old a more → Stands new b less
+pub stands_after : (old new : Pages) (a b : Names) (more less : ℕ) → length b + less ≤ length a + more
+    → Frames old new a b → Stands old a more → Stands new b less
 stands_after old new a b more less few f stands = record {
   some = ∥∥₁_map stands.some (λ t.
       let room : length (b ++ t.0) + less ≤ 2000 = omega (arith, few, t.2, length-append a t.0, length-append b t.0) in
@@ -122,13 +123,14 @@ stands_first pages a others more stands = record {
 }
 
 -- a space beside those of the call keeps its bytes
-pub beside : (old new : Pages) (a b others : Names) (more : ℕ) → length b ≤ length a + more → Frames old new a b → Stands old (a ++ others) more → (root : Option ℕ) → ForSome root (λ r. 1 ≤ occ r others)
-    → (n : ℕ) → content_at new root n ≡ content_at old root n
+pub beside : (old new : Pages) (a b others : Names) (more : ℕ) → length b ≤ length a + more → Frames old new a b
+    → Stands old (a ++ others) more → (root : Option ℕ) → ForSome root (λ r. 1 ≤ occ r others) → (n : ℕ) → content_at new root n ≡ content_at old root n
 beside old new a b others more few f stands root among n = equal _ _ stands.some (λ t.
     let e = append_assoc a others t.0 in
     let g = subst (Agree old) e t.1 in
     let room : length (a ++ (others ++ t.0)) + more ≤ 2000 = subst (λ (l : Names). length l + more ≤ 2000) e t.2 in
-    (f.frame (others ++ t.0) g (omega (arith, few, room, length-append a (others ++ t.0), length-append b (others ++ t.0)))).same root (λ x is. omega (arith, occ-append x others t.0, among x is)) n)
+    (f.frame (others ++ t.0) g (omega (arith, few, room, length-append a (others ++ t.0), length-append b (others ++ t.0)))).same root
+    (λ x is. omega (arith, occ-append x others t.0, among x is)) n)
 
 -- a name among names
 pub named_first : (o : Option ℕ) (more : Names) → ForSome o (λ x. 1 ≤ occ x (o ∷ more))
@@ -138,21 +140,17 @@ pub named_later : (o p : Option ℕ) (more : Names) → ForSome p (λ x. 1 ≤ o
 named_later o p more among x is = omega (arith, among x is)
 
 -- whatever holds of the content of a space holds of it after a call that keeps its bytes
-pub carries : (old new : Pages) (root : Option ℕ) (P : (ℕ → ℕ) → Type 0) → ((n : ℕ) → content_at new root n ≡ content_at old root n) → P (content_at old root) → P (content_at new root)
+pub carries : (old new : Pages) (root : Option ℕ) (P : (ℕ → ℕ) → Type 0)
+    → ((n : ℕ) → content_at new root n ≡ content_at old root n) → P (content_at old root) → P (content_at new root)
 carries old new root P kept held = let same : content_at new root ≡ content_at old root = λ i n. kept n i in subst P (sym same) held
 
 -- where no space is left, no page is
 pub none_used : (pages : Pages) → Agree pages [] → used_of pages ≡ 0
 none_used pages a = omega (arith, few_pages pages [] a)
 
--- one space more with the same root
-pub frames_again : (old new : Pages) (r : ℕ) → IsPool new → Shares old new r → Frames old new (Some r ∷ []) (Some r ∷ Some r ∷ [])
-frames_again old new r sound shares = frames_of old new (Some r ∷ []) (Some r ∷ Some r ∷ []) (moves_like (λ h p. refl)
-    (append_names (Some r ∷ []) (Some r ∷ [])) (moves_known old new (names 2 (Some r ∷ [])) r 2 sound shares (omega arith)
-    (λ rest a. (a.held 2 r (omega arith) (omega (arith, one_same r r refl)), omega (arith, one_same r r refl)))))
-
 pub frames_nil : (pages : Pages) (a b : Names) → ((p : ℕ) → occ p a ≡ 0) → ((p : ℕ) → occ p b ≡ 0) → Frames pages pages a b
-frames_nil pages a b none also = frames_of pages pages a b (moves_like (λ h p. sym (names_none 2 a none h p)) (λ h p. names_none 2 b also h p) (moves_none pages nothing))
+frames_nil pages a b none also =
+    frames_of pages pages a b (moves_like (λ h p. sym (names_none 2 a none h p)) (names_none 2 b also) (moves_none pages nothing))
 
 -- a page that a space has lives
 pub page_live : (pages : Pages) (root : Option ℕ) (more k p : ℕ) → Stands pages (root ∷ []) more → named_page pages root k ≡ Some p → 1 ≤ count_of pages p
@@ -190,7 +188,8 @@ nil_agree roots none few = record {
 pub stands_of : (pages : Pages) (mine rest : Names) (more : ℕ) → length (mine ++ rest) + more ≤ 2000 → ∥ Agree pages (mine ++ rest) ∥₁ → Stands pages mine more
 stands_of pages mine rest more room some = record { some = ∥∥₁_map some (λ a. (rest, a, room)) }
 
-pub agree_after : (old new : Pages) (a b rest : Names) → length (b ++ rest) ≤ 2000 → Frames old new a b → ∥ Agree old (a ++ rest) ∥₁ → ∥ Agree new (b ++ rest) ∥₁
+pub agree_after : (old new : Pages) (a b rest : Names) → length (b ++ rest) ≤ 2000 → Frames old new a b → ∥ Agree old (a ++ rest) ∥₁
+    → ∥ Agree new (b ++ rest) ∥₁
 agree_after old new a b rest room f some = ∥∥₁_map some (λ g. (f.frame rest g room).agrees)
 
 pub agree_same : (pages : Pages) (a b : Names) → Same a b → ∥ Agree pages a ∥₁ → ∥ Agree pages b ∥₁

@@ -1,23 +1,23 @@
 -- What the calls of a pool do to names in hand, whatever else stands over it: what pages show, and what is still held.
-use Rattle.page_table.proofs.Common.{◌≡◌, ◌≢◌, ◌+◌, ◌<◌, ◌≤◌, ℕ, zero, suc, List, [], ◌∷◌, length, get_or, Option, Some, None, inl, inr, refl, sym, ◌∙◌, ap}
-use Rattle.page_table.proofs.Common.{subst, arith, cases_eq, none-some, same_Some, Pages, count_of, bytes_of, home_of, one, IsPool, Stays, Adds, Shares, Drops, Writes}
-use Rattle.page_table.proofs.Common.{one_same, one_other, Names, entries_of, book_of, child, occ, named, Hands, names, both, nothing, total, Agrees}
-use Rattle.page_table.proofs.Common.{AgreeIn, place, shown, KeepsHomes, Moves, Holds, FreesOnly, heirs}
-use Rattle.page_table.specs.Sharing.{numbers}
 use Rattle.std.proofs.Common.{◌⊎◌}
-use Rattle.std.proofs.lemmas.Bool.Decides.{nat_tests}
 use Rattle.std.proofs.Math.Logic.{∥∥₁_map, ∥∥₁_elim}
 use Rattle.std.proofs.Props.{props}
+use Rattle.std.proofs.lemmas.Bool.Decides.{nat_tests}
 use Rattle.page_pool.proofs.Sound.{home_lives, low, long}
+use Rattle.page_table.proofs.Common.{◌≡◌, ◌≢◌, ◌+◌, ◌<◌, ◌≤◌, ℕ, zero, suc, List, [], ◌∷◌, length, get_or, Option, Some, None, inl, inr, refl, sym, ◌∙◌, ap}
+use Rattle.page_table.proofs.Common.{subst, arith, cases_eq, none-some, same_Some, Pages, count_of, bytes_of, home_of, IsPool, Stays, Adds, Shares, Drops}
+use Rattle.page_table.proofs.Common.{Writes, one_same, Names, entries_of, book_of, child, occ, named, Hands, names, both, nothing, total, Agrees, AgreeIn}
+use Rattle.page_table.proofs.Common.{place, shown, KeepsHomes, Moves, Holds, heirs}
 use Rattle.page_table.proofs.Counting.{occ_get, named_one, total_names, total_at, names_at, names_in, own_at, own_in, step, same_hands, turns}
 use Rattle.page_table.proofs.Spelled.{entries_length}
+use Rattle.page_table.specs.Sharing.{numbers}
 
 pub shown_none : (old new : Pages) (h k : ℕ) → shown new h None k ≡ shown old h None k
 shown_none old new zero k = refl
 shown_none old new (suc h) k = shown_none old new h k
 
 -- the bytes of each page on the way are as they were
-shown_where : (old new : Pages) (On : ℕ → ℕ → Type 0) → ((h x : ℕ) → On h x → bytes_of new x ≡ bytes_of old x)
+pub shown_where : (old new : Pages) (On : ℕ → ℕ → Type 0) → ((h x : ℕ) → On h x → bytes_of new x ≡ bytes_of old x)
     → ((h x k y : ℕ) → On (suc h) x → child (book_of old) (Some x) k ≡ Some y → On h y)
     → (h : ℕ) (o : Option ℕ) → ((x : ℕ) → o ≡ Some x → On h x) → (k : ℕ) → shown new h o k ≡ shown old h o k
 shown_where old new On same down h None on k = shown_none old new h k
@@ -25,9 +25,6 @@ shown_where old new On same down zero (Some x) on k = same zero x (on x refl)
 shown_where old new On same down (suc h) (Some x) on k =
     ap (λ (bytes : List ℕ). shown new h (get_or (entries_of bytes) (place h k) None) k) (same (suc h) x (on x refl))
     ∙ shown_where old new On same down h (child (book_of old) (Some x) (place h k)) (λ y is. down h x (place h k) y (on x refl) is) k
-
-pub shown_same : (old new : Pages) → ((x : ℕ) → bytes_of new x ≡ bytes_of old x) → (h : ℕ) (o : Option ℕ) (k : ℕ) → shown new h o k ≡ shown old h o k
-shown_same old new same h o = shown_where old new (λ h x. ℕ) (λ h x on. same x) (λ h x k y on is. on) h o (λ x is. 0)
 
 -- a page on the way down from one that stands at a height
 module _ (pages : Pages) (hands : Hands) (a : Agrees (book_of pages) hands) where
@@ -45,9 +42,7 @@ pub homes_same : {pages : Pages} → KeepsHomes pages pages
 homes_same = record { stays = λ p b is. record { bytes = refl; home = refl } }
 
 pub homes_then : {p0 p1 p2 : Pages} → KeepsHomes p0 p1 → KeepsHomes p1 p2 → KeepsHomes p0 p2
-homes_then first second = record {
-  stays = λ p b is. let s = second.stays p b is in stays_then (first.stays p b (sym s.home ∙ is)) s;
-}
+homes_then first second = record { stays = λ p b is. let s = second.stays p b is in stays_then (first.stays p b (sym s.home ∙ is)) s }
 
 -- names in hand in another form
 pub in_like : {pages : Pages} {a b : Hands} → ((h p : ℕ) → b h p ≡ a h p) → AgreeIn pages a → AgreeIn pages b
