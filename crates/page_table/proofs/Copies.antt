@@ -5,11 +5,10 @@ use Rattle.page_table.proofs.Common.{◌≡◌, ◌≢◌, ◌+◌, ◌-◌, ◌
 use Rattle.page_table.proofs.Common.{◌∙◌, ap, arith, ForSome, Pages, count_of, bytes_of, pasted, IsPool, Stays, Adds, Writes, one_same, Names, entries_of}
 use Rattle.page_table.proofs.Common.{book_of, told, child, content_of, hit, occ, Hands, names, both, nothing, place, shown, Frames, Moves, Holds, Owns, Takes}
 use Rattle.page_table.proofs.Common.{heirs}
-use Rattle.page_table.proofs.Counting.{names_none, heirs_sum, occ-append, own_at}
+use Rattle.page_table.proofs.Counting.{names_none, heirs_sum, occ-append, own_at, zeros_none, entries_length}
 use Rattle.page_table.proofs.Framing.{frames_of}
 use Rattle.page_table.proofs.Moving.{holds_then, holds_part, held_live, held_entries, held_four, beside_single, beside_shown, stays_then, moves_on, moves_like}
 use Rattle.page_table.proofs.Moving.{moves_with, moves_close, moves_adds, shown_none, shown_where}
-use Rattle.page_table.proofs.Spelled.{zeros_none, entries_length}
 
 -- bytes in the place of all
 pub pasted_whole : (was bytes : List ℕ) → length was ≡ 512 → length bytes ≡ 512 → pasted was 0 bytes ≡ bytes

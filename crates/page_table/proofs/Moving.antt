@@ -8,8 +8,7 @@ use Rattle.page_table.proofs.Common.{◌≡◌, ◌≢◌, ◌+◌, ◌<◌, ◌
 use Rattle.page_table.proofs.Common.{subst, arith, cases_eq, none-some, same_Some, Pages, count_of, bytes_of, home_of, IsPool, Stays, Adds, Shares, Drops}
 use Rattle.page_table.proofs.Common.{Writes, one_same, Names, entries_of, book_of, child, occ, named, Hands, names, both, nothing, total, Agrees, AgreeIn}
 use Rattle.page_table.proofs.Common.{place, shown, KeepsHomes, Moves, Holds, heirs}
-use Rattle.page_table.proofs.Counting.{occ_get, named_one, total_names, total_at, names_at, names_in, own_at, own_in, step, same_hands, turns}
-use Rattle.page_table.proofs.Spelled.{entries_length}
+use Rattle.page_table.proofs.Counting.{occ_get, named_one, total_names, total_at, names_at, names_in, own_at, own_in, step, same_hands, turns, entries_length}
 use Rattle.page_table.specs.Sharing.{numbers}
 
 pub shown_none : (old new : Pages) (h k : ℕ) → shown new h None k ≡ shown old h None k

@@ -2,10 +2,9 @@ use Rattle.std.proofs.lemmas.List.{take_all, drop_all}
 use Rattle.page_table.proofs.Common.{◌≡◌, ◌-◌, ℕ, [], ◌∷◌, drop, Option, Some, inl, inr, refl, sym, ◌∙◌, ap, subst, arith, Pages, count_of, Names, entries_of}
 use Rattle.page_table.proofs.Common.{book_of, hit, occ, Hands, names, nothing, heirs, Moves}
 use Rattle.page_table.proofs.Copies.{first_left, left_next}
-use Rattle.page_table.proofs.Counting.{names_none, heirs_none}
+use Rattle.page_table.proofs.Counting.{names_none, heirs_none, entries_length}
 use Rattle.page_table.proofs.Moving.{holds_part, holds_then, held_live, held_as, stays_then, moves_on, moves_open, moves_with, moves_drops, moves_none}
 use Rattle.page_table.proofs.Moving.{moves_like}
-use Rattle.page_table.proofs.Spelled.{entries_length}
 use Rattle.page_table.proofs.forget.+release.Goals as goal
 
 -- one name less of the page, in terms of what is asked for

@@ -1,9 +1,8 @@
 use Rattle.page_table.proofs.Common.{◌≤◌, ℕ, List, [], ◌∷◌, Option, Some, None, inl, inr, refl, sym, ◌∙◌, ap, subst, arith, count_of, cases_eq, none-some}
 use Rattle.page_table.proofs.Common.{same_Some, Stays, one_same, entries_of, book_of, occ, nothing, names, heirs, Holds, Takes}
 use Rattle.page_table.proofs.Copies.{added, added_other, takes}
-use Rattle.page_table.proofs.Counting.{names_none, heirs_none}
+use Rattle.page_table.proofs.Counting.{names_none, heirs_none, zeros_occ}
 use Rattle.page_table.proofs.Moving.{held_as, holds_then, holds_part, stays_then, moves_on, moves_like, moves_with, moves_none, moves_drops}
-use Rattle.page_table.proofs.Spelled.{zeros_occ}
 use Rattle.page_table.proofs.node.copy.Goals as goal
 
 pub returns-in_default-clause-takes : goal.returns-in_default-clause-takes
