@@ -8,8 +8,7 @@ use Rattle.page_table.proofs.Common.{cases_eq, Pages, count_of, bytes_of, used_o
 use Rattle.page_table.proofs.Common.{Agrees, Agree, HasFewNames, ◌-◌, ◌/◌, ◌%◌, List, ◌++◌, subst, none-some, ForSome, child, Hands, both, nothing, shown}
 use Rattle.page_table.proofs.Common.{content_at, Frames, Stands, Moves, Holds, named_page, Ready}
 use Rattle.page_table.proofs.Counting.{sum_same, sum_at, sum_put, named_one, entries_length, hit_some, occ-append, names_sum, names_same, names_none}
-use Rattle.page_table.proofs.Moving.{number_low, at_least, equal, held_as, in_like, homes_same, homes_then, moves_like, moves_none, shown_none, child_named}
-use Rattle.page_table.proofs.Moving.{child_high}
+use Rattle.page_table.proofs.Moving.{number_low, at_least, equal, held_as, in_like, homes_then, moves_like, moves_none, shown_none, child_named, child_high}
 use Rattle.page_table.specs.Sharing.{numbers}
 
 pub sum_zero : (n : ℕ) → sum (λ p. 0) n ≡ 0
@@ -215,7 +214,7 @@ frames_then p0 p1 p2 a b c few f g = record {
 }
 
 pub frames_none : (pages : Pages) (a : Names) → Frames pages pages a a
-frames_none pages a = record { homes = homes_same; frame = λ rest agree room. record { agrees = agree; same = λ root among n. refl } }
+frames_none pages a = frames_of pages pages a a (moves_none pages (names 2 a))
 
 pub stands_same : (pages : Pages) (a b : Names) (more : ℕ) → Same a b → Stands pages a more → Stands pages b more
 stands_same pages a b more s stands = record {
