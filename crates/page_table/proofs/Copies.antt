@@ -47,7 +47,8 @@ shares_next {p0} height p k {o} low held small is first second =
     let es : Names = (book_of p0).entries p in
     moves_on first (moves_like (λ h x. refl) (λ h x. let more = heirs_sum height (take k es) (o ∷ []) (take (k + 1) es) (λ y.
     let here : hit y (child (book_of p0) (Some p) k) ≡ hit y o = ap (hit y) is in
-    rw (take_more es k None (omega (arith, small, held_entries p0 height p low held))) (omega (arith, here, occ-append y (take k es) (get_or es k None ∷ [])))) h x in omega (arith, more))
+    let next = take_more es k None (omega (arith, small, held_entries p0 height p low held)) in
+    rw next (omega (arith, here, occ-append y (take k es) (get_or es k None ∷ [])))) h x in omega (arith, more))
     (moves_with (heirs height (take k es)) second))
 
 -- a page on a way of one's own is there

@@ -34,9 +34,6 @@ worth_plus zero a b c is = is
 worth_plus (suc zero) a b c is = omega (arith, is)
 worth_plus (suc (suc h)) a b c is = omega (arith, is)
 
-worth_none : (h n : ℕ) → n ≡ 0 → worth h n ≡ 0
-worth_none h n none = omega (arith, worth_plus h n n n (omega (arith, none)))
-
 abbrev below : ℕ → ℕ
 below zero = 0
 below (suc zero) = 128
@@ -55,13 +52,13 @@ module _ (height : ℕ → ℕ) where
   worths_plus f g h is = sum_plus _ _ _ numbers (λ p. worth_plus (height p) (f p) (g p) (h p) (is p))
 
   worths_none : (f : ℕ → ℕ) → ((p : ℕ) → f p ≡ 0) → worths f ≡ 0
-  worths_none f none = sum_same (λ p. 0) _ numbers (λ p. worth_none (height p) (f p) (none p)) ∙ sum_zero numbers
+  worths_none f none = sum_same (λ p. 0) _ numbers (λ p. omega (arith, worth_plus (height p) (f p) (f p) (f p) (omega (arith, none p)))) ∙ sum_zero numbers
 
   worths_hit : (h : ℕ) (o : Option ℕ) → ((q : ℕ) → o ≡ Some q → (height q ≡ h) × (q < numbers)) → worths (λ p. hit p o) ≤ worth h 1
   worths_hit h None each = omega (arith, worths_none (λ p. 0) (λ p. refl))
   worths_hit h (Some q) each =
       let one_at = sum_put (λ p. 0) (λ p. worth (height p) (one p q)) numbers q (each q refl).1
-      (λ p ne. worth_none (height p) (one p q) (one_other p q (λ e. ne (sym e)))) in
+      (λ p ne. omega (arith, worth_plus (height p) (one p q) (one p q) (one p q) (omega (arith, one_other p q (λ e. ne (sym e)))))) in
       omega (arith, one_at, sum_zero numbers, ap (worth (height q)) (one_same q q refl), ap (λ (n : ℕ). worth n 1) (each q refl).0)
 
   -- names of pages of one height, of which no more than the first so many name a page

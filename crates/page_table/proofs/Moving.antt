@@ -37,9 +37,6 @@ module _ (pages : Pages) (hands : Hands) (a : Agrees (book_of pages) hands) wher
 pub stays_then : {p0 p1 p2 : Pages} {x : ℕ} → Stays p0 p1 x → Stays p1 p2 x → Stays p0 p2 x
 stays_then first second = record { bytes = second.bytes ∙ first.bytes; home = second.home ∙ first.home }
 
-pub homes_same : {pages : Pages} → KeepsHomes pages pages
-homes_same = record { stays = λ p b is. record { bytes = refl; home = refl } }
-
 pub homes_then : {p0 p1 p2 : Pages} → KeepsHomes p0 p1 → KeepsHomes p1 p2 → KeepsHomes p0 p2
 homes_then first second = record { stays = λ p b is. let s = second.stays p b is in stays_then (first.stays p b (sym s.home ∙ is)) s }
 
@@ -50,7 +47,7 @@ in_like like agree = record { sound = agree.sound; shares = same_hands _ _ _ lik
 -- the same pages
 still : {pages : Pages} {a b : Hands} → ((rest : Hands) → AgreeIn pages (both a rest) → AgreeIn pages (both b rest)) → Moves pages pages a b
 still turn = record {
-  homes = homes_same;
+  homes = record { stays = λ p b is. record { bytes = refl; home = refl } };
   frame = λ rest agree. record { agrees = turn rest agree; same = λ h x k low among. refl; single = λ h x low among once. once };
 }
 
