@@ -147,6 +147,10 @@ FEHLER : Operandenspeicher voll
 1 
 > PROC p (INT CONST n): IF n > 0 THEN p (n - 1) FI END PROC p; p (5461); put (1)
 FEHLER : Stapelueberlauf
+> INT VAR x; PROC p (INT CONST n): IF n > 0 THEN p (n - 1) FI END PROC p; p (5460); put (1)
+1 
+> INT VAR x, y; PROC p (INT CONST n): IF n > 0 THEN p (n - 1) FI END PROC p; p (5460); put (1)
+FEHLER : Stapelueberlauf
 > put (summe). summe: INT VAR i, s; FOR i UPTO 4 REP s INCR i PER; s.
 10 
 > INT PROC f (INT CONST n): IF n > 3 THEN LEAVE f WITH 1 FI; 2 END PROC f; put (f (4)); put (f (3))

@@ -20,7 +20,8 @@ use Rattle.eumel_top.specs.Refusal.{refusal_line}
 use Rattle.eumel_top.specs.Meaning.{alone, HasTokens, no_token, too_many, no_tree, not_built, no_meaning, of_lexer, of_parser, of_check, IsCause, IsRefused, TextWrites, refused}
 
 -- what `?` hands on is the cause
-pub handed_on : (text : List ℕ) (cause : TextError) (r : Result Core TextError) → IsErr r × IsErrAnd r (λ e. e ≡ cause) → IsCause text cause → IfErr r (IsCause text)
+pub handed_on : (text : List ℕ) (cause : TextError) (r : Result Core TextError) → IsErr r × IsErrAnd r (λ e. e ≡ cause) → IsCause text cause
+    → IfErr r (IsCause text)
 handed_on text cause (Ok c) h k = tt
 handed_on text cause (Err e) h k = subst (IsCause text) (sym h.1) k
 
@@ -29,15 +30,19 @@ lexer_refuses text lex.NoMemory h = tt
 lexer_refuses text (lex.NoToken place) h = no_token h
 lexer_refuses text lex.TooMany h = too_many h
 
-pub parser_refuses : (text : List ℕ) (ts : List Token) (q : ParseError) → HasTokens text ts → ((n : ℕ) → ◌≡◌ {A = Result Tree ParseError} (Err q) (Err (syntactic.NotElan n)) → (t : Tree) → Reads false ts t → ⊥) → IsCause text (of_parser q)
+pub parser_refuses : (text : List ℕ) (ts : List Token) (q : ParseError) → HasTokens text ts
+    → ((n : ℕ) → ◌≡◌ {A = Result Tree ParseError} (Err q) (Err (syntactic.NotElan n)) → (t : Tree) → Reads false ts t → ⊥) → IsCause text (of_parser q)
 parser_refuses text ts syntactic.NoMemory has none = tt
 parser_refuses text ts (syntactic.NotElan n) has none = no_tree has (none n refl)
 
-pub check_refuses : (text : List ℕ) (ts : List Token) (t : Tree) (q : CheckError) → HasTokens text ts → Reads false ts t → tree.IsRefusal (tree.Refused alone t) (Err q) → (◌≡◌ {A = Result Core CheckError} (Err q) (Err semantic.NotBuilt) → tree.IsNotBuilt t) → IsCause text (of_check q)
+pub check_refuses : (text : List ℕ) (ts : List Token) (t : Tree) (q : CheckError) → HasTokens text ts → Reads false ts t
+    → tree.IsRefusal (tree.Refused alone t) (Err q) → (◌≡◌ {A = Result Core CheckError} (Err q) (Err semantic.NotBuilt) → tree.IsNotBuilt t)
+    → IsCause text (of_check q)
 check_refuses text ts t semantic.NoMemory has reads first unbuilt = tt
 check_refuses text ts t (semantic.NoMeaning place why) has reads first unbuilt = no_meaning t has reads first
 check_refuses text ts t semantic.NotBuilt has reads first unbuilt = not_built t has reads (unbuilt refl)
 
-pub refused_line : (text : List ℕ) (r : Refusal) (q : Result (List ℕ) NoMemory) → IsRefused text r → IfOk q (λ line. line ≡ refusal_line r text) → IfOk q (TextWrites text)
+pub refused_line : (text : List ℕ) (r : Refusal) (q : Result (List ℕ) NoMemory) → IsRefused text r → IfOk q (λ line. line ≡ refusal_line r text)
+    → IfOk q (TextWrites text)
 refused_line text r (Ok line) h is = subst (TextWrites text) (sym is) (refused h)
 refused_line text r (Err e) h is = tt

@@ -1,5 +1,5 @@
 -- A program that is served writes what its evaluation says.
-use Rattle.std.proofs.Common.{◌≡◌, ℕ, ◌+◌, ◌<◌, ◌≤◌, List, [], ◌∷◌, ◌++◌, Option, Some, None, refl, sym, ap, ◌∙◌, subst, append_assoc, append-nil, length, arith}
+use Rattle.std.proofs.Common.{◌≡◌, ℕ, zero, suc, ◌+◌, ◌-◌, ◌<◌, ◌≤◌, List, [], ◌∷◌, ◌++◌, Option, Some, None, refl, sym, ap, ◌∙◌, subst, append_assoc, append-nil, length, length-append, arith}
 use Rattle.std.specs.Prelude.{IsSome, IfSome}
 use Rattle.eu_base.specs.declared.stop.Stop.{Stop}
 use Rattle.eu_base.specs.declared.stop.Stop.TheVariants.{LineMarks}
@@ -23,9 +23,9 @@ use Rattle.elan_types.specs.Eval.{World}
 use Rattle.elan_types.specs.Command.{Ending, Ended, Stopped, OutOfMarks, Asks, evaluate, blank_store}
 use Rattle.eumel_top.specs.Screen as screen
 use Rattle.eumel_top.specs.Screen.{Screen, Written, blank, put, final}
-use Rattle.eumel_top.specs.Serving.{IsServed}
 use Rattle.eumel_top.specs.Program as text
-use Rattle.eumel_top.specs.Program.{Writes, ends, stops, spent, writes, shows}
+use Rattle.eumel_top.specs.Program.{line_marks, Output, ends, output_at, output_in, output_of}
+use Rattle.eumel_top.proofs.Served.{behind, IsServed}
 use Rattle.eumel_top.proofs.Waiting.{waits}
 
 -- how a run came to rest tells how the evaluation stands
@@ -59,44 +59,68 @@ put_all-append s [] more = refl
 put_all-append s (w ∷ ws) more = put_all-append (put s w) ws more
 
 -- at the start nothing was answered
-pub served_first : (p : Program) (first : Cells) (control : Control) → control ≡ start (length p.variables) → IsServed p first control first 100000 blank
+pub served_first : (p : Program) (first : Cells) (control : Control) → control ≡ start (length p.variables) → IsServed p first control first line_marks blank
 served_first p first control is = record {
   replies = [];
   written = [];
-  run = subst (λ c. Continues p (start (length p.variables)) first 100000 [] c first 100000) (sym is) (continues_here p (start (length p.variables)) first 100000);
+  run =
+      subst (λ c. Continues p (start (length p.variables)) first line_marks [] c first line_marks) (sym is)
+      (continues_here p (start (length p.variables)) first line_marks);
   shown = refl;
-  before = λ core b h ws stop w. w;
+  paid = omega arith;
+  so_far = λ core b h. refl;
 }
 
 module _ (p : Program) (first : Cells) (control : Control) (cells : Cells) (marks : ℕ) (s : Screen) (served : IsServed p first control cells marks s) where
   -- the evaluation with the replies so far, where the run comes to rest next
-  module _ (h : Halt) (control' : Control) (cells' : Cells) (marks' : ℕ) (rests : Rests p control (scene_of cells marks) (rest_at h control' (scene_of cells' marks'))) where
+  module _ (h : Halt) (control' : Control) (cells' : Cells) (marks' : ℕ)
+      (rests : Rests p control (scene_of cells marks) (rest_at h control' (scene_of cells' marks'))) where
     abbrev now : Rest
     now = rest_at h control' (scene_of cells' marks')
 
-    shown_so : (core : Core) → Behaves core p → HasVariables p.variables (blank_store core) first → Shows (evaluate core 100000 served.replies) now
-    shown_so core b holds = plays core p first cells 100000 marks served.replies control now b holds served.run rests
+    shown_so : (core : Core) → Behaves core p → HasVariables p.variables (blank_store core) first → Shows (evaluate core line_marks served.replies) now
+    shown_so core b holds = plays core p first cells line_marks marks served.replies control now b holds served.run rests
+
+    -- what is left to write where the evaluation stands so; an evaluation is always left
+    whole_output : (core : Core) → Behaves core p → HasVariables p.variables (blank_store core) first → (e : Ending) (stop : Option Stop)
+        → evaluate core line_marks served.replies ≡ e
+        → ((more : Output) → output_at e more ≡ ends stop) → output_of core ≡ record { written = served.written; stop = stop }
+    whole_output core b holds e stop is ended = by (line_marks + 1 - length served.replies) refl
+      where
+        by : (n : ℕ) → line_marks + 1 - length served.replies ≡ n → output_of core ≡ record { written = served.written; stop = stop }
+        by zero all = absurd (omega (arith, all, served.paid))
+        by (suc n) all =
+            let more = output_in n core line_marks (served.replies ++ Done ∷ []) in
+            let left : output_at (evaluate core line_marks served.replies) more ≡ ends stop = ap (λ x. output_at x more) is ∙ ended more in
+            served.so_far core b holds ∙ ap (λ k. behind served.written (output_in k core line_marks served.replies)) all
+            ∙ ap (behind served.written) left
+            ∙ ap (λ ws. record { written = ws; stop = stop }) (append-nil served.written)
 
     -- a rest that ends the program
-    whole : (core : Core) → Behaves core p → HasVariables p.variables (blank_store core) first → (stop : Option Stop) (out : List ℕ) → Writes core 100000 served.replies [] stop → out ≡ final s stop → text.Shows core out
-    whole core b holds stop out w is =
-        let all : Writes core 100000 [] served.written stop = subst (λ ws. Writes core 100000 [] ws stop) (append-nil served.written) (served.before core b holds [] stop w) in
-        rw (is, served.shown) (shows all)
+    whole : (core : Core) → Behaves core p → HasVariables p.variables (blank_store core) first → (e : Ending) (stop : Option Stop) (out : List ℕ)
+        → evaluate core line_marks served.replies ≡ e
+        → ((more : Output) → output_at e more ≡ ends stop) → out ≡ final s stop → text.Shows core out
+    whole core b holds e stop out is ended out_is =
+        out_is ∙ ap (λ x. final x stop) served.shown
+        ∙ ap (λ (o : Output). final (screen.put_all blank o.written) o.stop) (sym (whole_output core b holds e stop is ended))
 
-    pub served_ended : h ≡ halts.Ended → (out : List ℕ) → out ≡ final s None → (core : Core) → Behaves core p → HasVariables p.variables (blank_store core) first → text.Shows core out
+    pub served_ended : h ≡ halts.Ended → (out : List ℕ) → out ≡ final s None → (core : Core) → Behaves core p
+        → HasVariables p.variables (blank_store core) first → text.Shows core out
     served_ended is out out_is core b holds =
-        let e = shows_ended (evaluate core 100000 served.replies) now (shown_so core b holds) is in
-        whole core b holds None out (ends e.1) out_is
+        let e = shows_ended (evaluate core line_marks served.replies) now (shown_so core b holds) is in
+        whole core b holds (Ended e.0) None out e.1 (λ more. refl) out_is
 
-    pub served_stopped : (stop : Stop) → h ≡ halts.Stopped stop → (out : List ℕ) → out ≡ final s (Some stop) → (core : Core) → Behaves core p → HasVariables p.variables (blank_store core) first → text.Shows core out
+    pub served_stopped : (stop : Stop) → h ≡ halts.Stopped stop → (out : List ℕ) → out ≡ final s (Some stop) → (core : Core) → Behaves core p
+        → HasVariables p.variables (blank_store core) first → text.Shows core out
     served_stopped stop is out out_is core b holds =
-        let e = shows_stopped stop (evaluate core 100000 served.replies) now (shown_so core b holds) is in
-        whole core b holds (Some stop) out (stops e.1) out_is
+        let e = shows_stopped stop (evaluate core line_marks served.replies) now (shown_so core b holds) is in
+        whole core b holds (Stopped stop e.0) (Some stop) out e.1 (λ more. refl) out_is
 
-    pub served_marked : h ≡ halts.Marked → (out : List ℕ) → out ≡ final s (Some LineMarks) → (core : Core) → Behaves core p → HasVariables p.variables (blank_store core) first → text.Shows core out
+    pub served_marked : h ≡ halts.Marked → (out : List ℕ) → out ≡ final s (Some LineMarks) → (core : Core) → Behaves core p
+        → HasVariables p.variables (blank_store core) first → text.Shows core out
     served_marked is out out_is core b holds =
-        let e = shows_marked (evaluate core 100000 served.replies) now (shown_so core b holds) is in
-        whole core b holds (Some LineMarks) out (spent e.1) out_is
+        let e = shows_marked (evaluate core line_marks served.replies) now (shown_so core b holds) is in
+        whole core b holds (OutOfMarks e.0) (Some LineMarks) out e.1 (λ more. refl) out_is
 
     asked : (q : Request) → h ≡ halts.Asks q → control'.waits ≡ Some q
     asked q is = waits p rests.0 control (scene_of cells marks) now q rests.1 is
@@ -115,27 +139,43 @@ module _ (p : Program) (first : Cells) (control : Control) (cells : Cells) (mark
         omega (arith, most)
 
     -- the answer that is given
-    given : (q : Request) (control'' : Control) → h ≡ halts.Asks q → IfSome control'.waits (λ request. control'' ≡ answered request Done control') → control'' ≡ answered q Done control'
+    given : (q : Request) (control'' : Control) → h ≡ halts.Asks q → IfSome control'.waits (λ request. control'' ≡ answered request Done control')
+        → control'' ≡ answered q Done control'
     given q control'' is = by control'.waits (asked q is)
       where
         by : (o : Option Request) → o ≡ Some q → IfSome o (λ request. control'' ≡ answered request Done control') → control'' ≡ answered q Done control'
         by None e k = absurd (cc e)
         by (Some x) e k = k
 
-    pub is_free : (q : Request) (control'' : Control) → h ≡ halts.Asks q → IfSome control'.waits (λ request. control'' ≡ answered request Done control') → control''.waits ≡ None
+    pub is_free : (q : Request) (control'' : Control) → h ≡ halts.Asks q → IfSome control'.waits (λ request. control'' ≡ answered request Done control')
+        → control''.waits ≡ None
     is_free q control'' is answer = ap (λ (c : Control). c.waits) (given q control'' is answer)
 
     -- and one at a request, which is answered
-    pub served_on : (q : Request) (s' : Screen) (control'' : Control) (cells'' : Cells) → h ≡ halts.Asks q → s' ≡ screen.with_request s q → IfSome control'.waits (λ request. control'' ≡ answered request Done control') → cells'' ≡ cells' → IsServed p first control'' cells'' marks' s'
-    served_on (Out bytes line_ends) s' control'' cells'' is put_is answer cells_is = record {
-      replies = served.replies ++ Done ∷ [];
-      written = served.written ++ w ∷ [];
-      run = rw (answer_is, cells_is) (continues_reply p (start (length p.variables)) first 100000 marks' served.replies control' cells' q Done (asked q is) (continues_run p (start (length p.variables)) first 100000 marks served.replies control cells now (subst IsPaused (sym is) tt) served.run rests refl));
-      shown = put_is ∙ (ap (λ x. put x w) served.shown ∙ sym (put_all-append blank served.written (w ∷ [])));
-      before = λ core b holds ws stop more.
-          let e = shows_asks q (evaluate core 100000 served.replies) now (shown_so core b holds) is in
-          rw (append_assoc served.written (w ∷ []) ws) (served.before core b holds (w ∷ ws) stop (writes e.1 more));
-    }
+    pub served_on : (q : Request) (s' : Screen) (control'' : Control) (cells'' : Cells) → h ≡ halts.Asks q → s' ≡ screen.with_request s q
+        → IfSome control'.waits (λ request. control'' ≡ answered request Done control') → cells'' ≡ cells' → control.waits ≡ None
+        → IsServed p first control'' cells'' marks' s'
+    served_on (Out bytes line_ends) s' control'' cells'' is put_is answer cells_is free =
+        let paused : IsPaused h = subst IsPaused (sym is) tt in
+        let rested = continues_run p (start (length p.variables)) first line_marks marks served.replies control cells now paused served.run rests refl in
+        let longer : length (served.replies ++ Done ∷ []) ≡ length served.replies + 1 = length-append served.replies (Done ∷ []) in
+        record {
+          replies = served.replies ++ Done ∷ [];
+          written = served.written ++ w ∷ [];
+          run =
+              rw (answer_is, cells_is)
+              (continues_reply p (start (length p.variables)) first line_marks marks' served.replies control' cells' q Done (asked q is) rested);
+          shown = put_is ∙ (ap (λ x. put x w) served.shown ∙ sym (put_all-append blank served.written (w ∷ [])));
+          paid = omega (arith, longer, served.paid, has_paid q is free);
+          so_far = λ core b holds.
+              let e = shows_asks q (evaluate core line_marks served.replies) now (shown_so core b holds) is in
+              let n : ℕ = line_marks + 1 - length (served.replies ++ Done ∷ []) in
+              let more = output_in n core line_marks (served.replies ++ Done ∷ []) in
+              let one_more : line_marks + 1 - length served.replies ≡ suc n = omega (arith, longer, served.paid) in
+              served.so_far core b holds ∙ ap (λ k. behind served.written (output_in k core line_marks served.replies)) one_more
+              ∙ ap (λ x. behind served.written (output_at x more)) e.1
+              ∙ ap (λ ws. record { written = ws; stop = more.stop }) (sym (append_assoc served.written (w ∷ []) more.written));
+        }
       where
         q : Request
         q = Out bytes line_ends

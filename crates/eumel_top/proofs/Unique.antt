@@ -1,53 +1,22 @@
--- A text has one meaning or one refusal, a program shows one output, so a line writes one output.
-use Rattle.std.proofs.Common.{◌≡◌, ℕ, Bool, false, List, Option, Some, refl, sym, ap, ◌∙◌, arith}
-use Rattle.eu_base.specs.declared.stop.Stop.{Stop}
-use Rattle.eu_base.specs.declared.request.Reply.{Reply}
+-- A text has one meaning or one refusal, so a line writes one output.
+use Rattle.std.proofs.Common.{◌≡◌, ℕ, Bool, false, List, refl, sym, ap, subst, ◌∙◌, arith}
 use Rattle.elan_tree.specs.declared.token.Token.{Token}
 use Rattle.elan_tree.specs.declared.tree.Tree.{Tree}
 use Rattle.elan_grammar.specs.Grammar.{Reads}
 use Rattle.elan_types.specs.declared.env.Env.{Env}
 use Rattle.elan_types.specs.declared.core_phrase.Core.{Core}
 use Rattle.elan_types.specs.declared.why.Why.{Why}
-use Rattle.elan_types.specs.Command.{Ending}
 use Rattle.elan_check.specs.Text as tree
 use Rattle.elan_scope.specs.Ruled.{Fault}
 use Rattle.eumel_top.specs.declared.refusal.Refusal.{Refusal}
 use Rattle.eumel_top.specs.declared.refusal.Refusal.TheVariants.{NoMeaning}
-use Rattle.eumel_top.specs.Screen.{Written}
-use Rattle.eumel_top.specs.Program.{Writes, ends, stops, spent, writes, Shows, shows}
+use Rattle.eumel_top.specs.Program.{Shows}
 use Rattle.eumel_top.specs.Refusal.{refusal_line}
 use Rattle.eumel_top.specs.Meaning.{alone, HasTokens, Means, means, IsRefused, no_token, too_many, no_tree, not_built, no_meaning, TextWrites, runs, refused}
 use Rattle.eumel_top.specs.Line.{LineWrites, program, too_long}
 
--- two endings of one evaluation
-clash : {P : Type 0} {e : Ending} {a b : Ending} → e ≡ a → e ≡ b → (a ≡ b → P) → P
-clash x y go = go (sym x ∙ y)
-
--- a program writes one list
-one_list : {core : Core} {marks : ℕ} {rs : List Reply} {a b : List Written} {s t : Option Stop} → Writes core marks rs a s → Writes core marks rs b t → (a ≡ b) × (s ≡ t)
-one_list (ends x) (ends y) = (refl, refl)
-one_list (ends x) (stops y) = clash x y (λ e. absurd (cc e))
-one_list (ends x) (spent y) = clash x y (λ e. absurd (cc e))
-one_list (ends x) (writes y more) = clash x y (λ e. absurd (cc e))
-one_list (stops x) (ends y) = clash x y (λ e. absurd (cc e))
-one_list (stops x) (stops y) = clash x y (λ e. (refl, ap Some (cc e)))
-one_list (stops x) (spent y) = clash x y (λ e. absurd (cc e))
-one_list (stops x) (writes y more) = clash x y (λ e. absurd (cc e))
-one_list (spent x) (ends y) = clash x y (λ e. absurd (cc e))
-one_list (spent x) (stops y) = clash x y (λ e. absurd (cc e))
-one_list (spent x) (spent y) = (refl, refl)
-one_list (spent x) (writes y more) = clash x y (λ e. absurd (cc e))
-one_list (writes x more) (ends y) = clash x y (λ e. absurd (cc e))
-one_list (writes x more) (stops y) = clash x y (λ e. absurd (cc e))
-one_list (writes x more) (spent y) = clash x y (λ e. absurd (cc e))
-one_list (writes {b = b} {e = e} x more) (writes {b = b'} {e = e'} y then) =
-    let same_bytes : b ≡ b' = clash x y (λ q. cc q) in
-    let same_end : e ≡ e' = clash x y (λ q. cc q) in
-    let rest = one_list more then in
-    (rw (same_bytes, same_end, rest.0) refl, rest.1)
-
-one_screen : {core : Core} {a b : List ℕ} → Shows core a → Shows core b → a ≡ b
-one_screen (shows w) (shows v) = let same = one_list w v in rw (same.0, same.1) refl
+one_screen : (core : Core) {a b : List ℕ} → Shows core a → Shows core b → a ≡ b
+one_screen core a b = a ∙ sym b
 
 same_fault : (p q : ℕ) (w v : Why) → ◌≡◌ {A = Fault} (p, w) (q, v) → NoMeaning p w ≡ NoMeaning q v
 same_fault p q w v e = ap (λ (f : Fault). NoMeaning f.0 f.1) e
@@ -61,9 +30,6 @@ pub record Laws : Type 0 where
   pub one_answer : (env : Env) (t : Tree) → tree.HasOneAnswer env t
 
 module _ (laws : Laws) (text : List ℕ) where
-  abbrev HasTree : List Token → Tree → Type 0
-  HasTree ts t = HasTokens text ts × Reads false ts t
-
   the_tokens : {ts us : List Token} → HasTokens text ts → HasTokens text us → ts ≡ us
   the_tokens a b = cc (a, b)
 
@@ -103,16 +69,18 @@ module _ (laws : Laws) (text : List ℕ) where
   one_refusal (not_built t e s n) (too_many f) = absurd (cc (e, f))
   one_refusal (not_built t e s n) (no_tree f m) = refl
   one_refusal (not_built t e s n) (not_built u f r m) = refl
-  one_refusal (not_built t e s n) (no_meaning {place = place} {why = why} u f r m) = absurd ((laws.one_answer alone t).no_refusal_not_built (place, why) (rw (the_tree e s f r) m) n)
+  one_refusal (not_built t e s n) (no_meaning {place = place} {why = why} u f r m) =
+      absurd ((laws.one_answer alone t).no_refusal_not_built (place, why) (rw (the_tree e s f r) m) n)
   one_refusal (no_meaning t e s n) (no_token f) = absurd (cc (e, f))
   one_refusal (no_meaning t e s n) (too_many f) = absurd (cc (e, f))
   one_refusal (no_meaning t e s n) (no_tree f m) = absurd (m t (rw (the_tokens f e) s))
-  one_refusal (no_meaning {place = place} {why = why} t e s n) (not_built u f r m) = absurd ((laws.one_answer alone t).no_refusal_not_built (place, why) n (rw (the_tree e s f r) m))
+  one_refusal (no_meaning {place = place} {why = why} t e s n) (not_built u f r m) =
+      absurd ((laws.one_answer alone t).no_refusal_not_built (place, why) n (rw (the_tree e s f r) m))
   one_refusal (no_meaning {place = p} {why = w} t e s n) (no_meaning {place = q} {why = v} u f r m) =
       same_fault p q w v (laws.one_refusal alone t (p, w) (q, v) n (rw (the_tree e s f r) m))
 
   one_writing : {a b : List ℕ} → TextWrites text a → TextWrites text b → a ≡ b
-  one_writing (runs m s) (runs n t) = one_screen s (rw (one_meaning m n) t)
+  one_writing (runs {core = c} m s) (runs {out = out} n t) = one_screen c s (subst (λ core. Shows core out) (sym (one_meaning m n)) t)
   one_writing (runs m s) (refused f) = absurd (not_both m f)
   one_writing (refused f) (runs m s) = absurd (not_both m f)
   one_writing (refused f) (refused g) = ap (λ r. refusal_line r text) (one_refusal f g)

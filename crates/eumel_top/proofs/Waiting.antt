@@ -48,13 +48,15 @@ quiet_place f h [] = tt
 quiet_place f h (Of v ∷ r) = tt
 quiet_place f h (At a ∷ r) = h a r
 
-quiet_values : (n : ℕ) (f : List Value → List Operand → Move) → ((vs : List Value) (r : List Operand) → IsQuiet (f vs r)) → (acc : List Value) (ops : List Operand) → IsQuiet (on_values n acc ops f)
+quiet_values : (n : ℕ) (f : List Value → List Operand → Move) → ((vs : List Value) (r : List Operand) → IsQuiet (f vs r))
+    → (acc : List Value) (ops : List Operand) → IsQuiet (on_values n acc ops f)
 quiet_values zero f h acc ops = h acc ops
 quiet_values (suc n) f h acc [] = tt
 quiet_values (suc n) f h acc (Of v ∷ r) = quiet_values n f h (v ∷ acc) r
 quiet_values (suc n) f h acc (At a ∷ r) = tt
 
-quiet_operands : (n : ℕ) (f : List Operand → List Operand → Move) → ((os r : List Operand) → IsQuiet (f os r)) → (acc ops : List Operand) → IsQuiet (on_operands n acc ops f)
+quiet_operands : (n : ℕ) (f : List Operand → List Operand → Move) → ((os r : List Operand) → IsQuiet (f os r)) → (acc ops : List Operand)
+    → IsQuiet (on_operands n acc ops f)
 quiet_operands zero f h acc ops = h acc ops
 quiet_operands (suc n) f h acc [] = tt
 quiet_operands (suc n) f h acc (o ∷ r) = quiet_operands n f h (o ∷ acc) r
@@ -101,8 +103,10 @@ quiet bodies (Some (Local x)) c cells = quiet_push c (At (run_cell (base_of c.fr
 quiet bodies (Some (Param x)) c cells = quiet_push c (At (place_in (cells (run_cell (base_of c.frames + x))))) c.ops cells
 quiet bodies (Some (Load k)) c cells = quiet_place _ (λ a r. quiet_push c (Of (value_in k (cells a))) r cells) c.ops
 quiet bodies (Some (Store k)) c cells = quiet_value _ (λ v r. quiet_place _ (λ a r. tt) r) c.ops
-quiet bodies (Some (Do op)) c cells = quiet_values (length (operand_kinds op)) _ (λ vs r. quiet_or _ (λ v. quiet_push c (Of v) r cells) (result_of op vs)) [] c.ops
-quiet bodies (Some (Modify ch)) c cells = quiet_value _ (λ v r. quiet_place _ (λ a r. quiet_or _ (λ x. tt) (changed ch (number_in cells a) (number_of v))) r) c.ops
+quiet bodies (Some (Do op)) c cells =
+    quiet_values (length (operand_kinds op)) _ (λ vs r. quiet_or _ (λ v. quiet_push c (Of v) r cells) (result_of op vs)) [] c.ops
+quiet bodies (Some (Modify ch)) c cells =
+    quiet_value _ (λ v r. quiet_place _ (λ a r. quiet_or _ (λ x. tt) (changed ch (number_in cells a) (number_of v))) r) c.ops
 quiet bodies (Some (Jump a)) c cells = tt
 quiet bodies (Some (False a)) c cells = quiet_value _ (λ v r. tt) c.ops
 quiet bodies (Some (When z a)) c cells = quiet_value _ (λ v r. quiet_if (int_eq (number_of v) z) _ _ tt tt) c.ops
@@ -155,7 +159,8 @@ pub waits : (p : Program) (n : ℕ) (c : Control) (s : Scene) (r : Rest) (q : Re
 waits p zero c s r q e is = absurd (cc e)
 waits p (suc n) c s r q e is = by (λ c' s' e'. waits p n c' s' r q e' is) (stage (step p c s.cells) c s) (step_waits p c s c.waits refl) e
   where
-    by : ((c' : Control) (s' : Scene) → exec p n c' s' ≡ Some r → r.control.waits ≡ Some q) → (st : Stage) → IsWaiting st → carry_on st (exec p n) ≡ Some r → r.control.waits ≡ Some q
+    by : ((c' : Control) (s' : Scene) → exec p n c' s' ≡ Some r → r.control.waits ≡ Some q) → (st : Stage) → IsWaiting st → carry_on st (exec p n) ≡ Some r
+        → r.control.waits ≡ Some q
     by ih (On c' s') w e = ih c' s' e
     by ih (Over x) w e =
         let same : x ≡ r = cc e in

@@ -5,7 +5,7 @@ use Rattle.edge.specs.Piece.{AppendsFront}
 use Rattle.edge.specs.Told.{OnTold}
 use Rattle.eumel_top.specs.declared.status.Status.{Status}
 use Rattle.eumel_top.specs.declared.status.Status.TheVariants.{Done, BadWords, NoMemory, SourceFault, SinkFault, DiskFault, Foreign, BadLine, SessionFull}
-use Rattle.eumel_top.specs.Line.{first_line, IsTooLong, LineWrites, too_long_text}
+use Rattle.eumel_top.specs.Line.{first_line, longest_line, IsTooLong, LineWrites, too_long_text}
 use Rattle.eumel_top.specs.Streams.{TakesNoLineEnd}
 
 -- the whole output of the line was put
@@ -48,7 +48,7 @@ HasCause source sink disk SessionFull = Unit {0}
 
 -- how the command ends where nothing failed, by the bytes alone
 abbrev pub line_status : List ℕ → Status
-line_status bytes = if nat_le (length (first_line bytes)) 250 then Done else BadLine 1
+line_status bytes = if nat_le (length (first_line bytes)) longest_line then Done else BadLine 1
 
 -- the command ends so, or memory was wanting
 abbrev pub LineSettles : Option (List ℕ) → Status → Type 0

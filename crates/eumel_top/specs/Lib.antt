@@ -2,7 +2,6 @@ pub mod Words
 pub mod Screen
 pub mod Refusal
 pub mod Program
-pub mod Serving
 pub mod Meaning
 pub mod Line
 pub mod Streams

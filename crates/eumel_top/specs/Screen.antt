@@ -27,14 +27,14 @@ abbrev pub shown : List ℕ → List ℕ
 shown [] = []
 shown (b ∷ bytes) = shown_byte b ++ shown bytes
 
-abbrev pub is_some : List ℕ → Bool
-is_some [] = false
-is_some (b ∷ bytes) = true
+abbrev pub has_bytes : List ℕ → Bool
+has_bytes [] = false
+has_bytes (b ∷ bytes) = true
 
 abbrev pub put : Screen → Written → Screen
 put s w = if w.ends
     then record { text = s.text ++ (shown w.bytes ++ 10 ∷ []); open_ = false }
-    else record { text = s.text ++ shown w.bytes; open_ = s.open_ || is_some w.bytes }
+    else record { text = s.text ++ shown w.bytes; open_ = s.open_ || has_bytes w.bytes }
 
 -- with what a program asks for
 abbrev pub with_request : Screen → Request → Screen
@@ -49,9 +49,9 @@ put_all s (w ∷ ws) = put_all (put s w) ws
 abbrev pub closed : Screen → List ℕ
 closed s = if s.open_ then s.text ++ 10 ∷ [] else s.text
 
--- the line of a stop
+-- the line of a stop, whose text is shown as output is
 abbrev pub stop_line : Stop → List ℕ
-stop_line s = codes "FEHLER : " ++ (stop_text s ++ 10 ∷ [])
+stop_line s = codes "FEHLER : " ++ (shown (stop_text s) ++ 10 ∷ [])
 
 -- all that a program shows
 abbrev pub final : Screen → Option Stop → List ℕ

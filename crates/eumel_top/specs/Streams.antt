@@ -2,7 +2,7 @@
 use Rattle.std.specs.Prelude.{◌≡◌, ℕ, ◌≤◌, List, ◌++◌, length, take, Option, nat_le, if◌then◌else◌}
 use Rattle.std.specs.Io.KnownBytes.{Consumes}
 use Rattle.edge.specs.Told.{OnTold}
-use Rattle.eumel_top.specs.Line.{first_line, IsTooLong}
+use Rattle.eumel_top.specs.Line.{first_line, longest_line, IsTooLong}
 use Rattle.eumel_top.specs.declared.stream.Line.{Line}
 use Rattle.eumel_top.specs.declared.stream.Line.TheVariants as line
 
@@ -16,7 +16,7 @@ TakesNoLineEnd old new = (taken : List ℕ) × Consumes old new taken × HasNoLi
 
 -- the line at the front of the bytes left
 abbrev pub IsLine : Option (List ℕ) → Option (List ℕ) → Line → Type 0
-IsLine old new (line.Text text) = (length text ≤ 250) × OnTold old (λ bytes. first_line bytes ≡ text)
+IsLine old new (line.Text text) = (length text ≤ longest_line) × OnTold old (λ bytes. first_line bytes ≡ text)
 IsLine old new line.TooLong = OnTold old IsTooLong
 IsLine old new line.Fault = TakesNoLineEnd old new
 
@@ -31,4 +31,4 @@ OnFault line.Fault P = P
 
 -- a line that ends, which may be too long
 abbrev pub whole_line : List ℕ → Line
-whole_line text = if nat_le (length text) 250 then line.Text text else line.TooLong
+whole_line text = if nat_le (length text) longest_line then line.Text text else line.TooLong

@@ -65,7 +65,7 @@ impl Screen {
         }
         if let Some(stop) = stop {
             text.append(b"FEHLER : ")?;
-            text.append(stop.text(alloc)?.as_slice())?;
+            append_shown(alloc, &mut text, stop.text(alloc)?.as_slice())?;
             text.append(b"\n")?;
         }
         Ok(text)

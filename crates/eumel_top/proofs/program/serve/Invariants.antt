@@ -1,6 +1,6 @@
 use Rattle.std.proofs.Common.{◌≡◌, ◌≤◌, None}
 use Rattle.code_form.specs.Valid.{Fits}
-use Rattle.eumel_top.specs.Serving.{IsServed}
+use Rattle.eumel_top.proofs.Served.{IsServed}
 use Rattle.eumel_top.proofs.program.serve.Given as goal
 
 -- the requests so far were answered, each for a mark

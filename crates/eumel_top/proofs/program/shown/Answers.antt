@@ -12,6 +12,7 @@ pub returns-clause-shows : goal.returns-clause-shows
 returns-clause-shows g c =
     let cells = g.M.Memory.cells c.start.new.m in
     let kinds : c.in_ok-code.code.variables ≡ map kind_in c.args.core.now.variables = ap (λ (p : Program). p.variables) c.in_ok-code.ensures.code in
-    let blank : cells_fit (length (map kind_in c.args.core.now.variables)) ≡ true → IsBlank (map kind_in c.args.core.now.variables) cells = rw kinds at c.in_ok-command.ensures.blank in
+    let blank : cells_fit (length (map kind_in c.args.core.now.variables)) ≡ true → IsBlank (map kind_in c.args.core.now.variables) cells =
+    rw kinds at c.in_ok-command.ensures.blank in
     let holds : HasVariables c.in_ok-code.code.variables (blank_store c.args.core.now) cells = rw kinds (has_blank c.args.core.now cells blank) in
     c.serve.ensures.shows c.args.core.now c.in_ok-code.ensures.behaves holds

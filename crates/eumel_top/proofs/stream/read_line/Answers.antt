@@ -26,4 +26,5 @@ pieces-preserved g c =
 
 pub returns-clause-line : goal.returns-clause-line
 returns-clause-line g c =
-    line_too_long (g.S.Source.left c.args.source.now) (g.S.Source.left c.pieces.source) c.pieces.line c.pieces.invariant.taken c.pieces.invariant.open_ (rw c.as_slice.ensures at c.pieces-test.false)
+    line_too_long (g.S.Source.left c.args.source.now) (g.S.Source.left c.pieces.source) c.pieces.line c.pieces.invariant.taken c.pieces.invariant.open_
+    (rw c.as_slice.ensures at c.pieces-test.false)
