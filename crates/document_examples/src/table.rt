@@ -17,7 +17,7 @@ FEHLER : unbekannt (Zeile 1, Stelle 6)
 > INT VAR my age :: 9; put (myage)   (* one name *)
 9 
 > put (007); put (1)put (2)
-FEHLER : kein ELAN-Text
+FEHLER : kein ELAN-Text (Zeile 1, Stelle 19)
 > put (007); IF 1<2 THEN put(1)ENDIF {the last word is two}
 7 1 
 > put (32768)
@@ -33,7 +33,7 @@ FEHLER : falscher Typ (Zeile 1, Stelle 1)
 > INT VAR x; ; put (x);
 0 
 > INT PROC f (INT CONST a, b): a - b END PROC g; put (f (1, 2))
-FEHLER : kein ELAN-Text
+FEHLER : kein ELAN-Text (Zeile 1, Stelle 45)
 > x := 3; put (x); INT VAR x
 3 
 > INT VAR n :: 1; PROC p: INT VAR n :: 2; put (n) END PROC p; p; put (n)
@@ -161,7 +161,7 @@ FEHLER : keine Variable (Zeile 1, Stelle 19)
 > put (40000)
 FEHLER : kein Symbol (Zeile 1, Stelle 6)
 > put (1 +)
-FEHLER : kein ELAN-Text
+FEHLER : kein ELAN-Text (Zeile 1, Stelle 9)
 > put (4); put (1 DIV 0); put (5)
 4 
 FEHLER : Division durch 0
@@ -174,11 +174,11 @@ FEHLER : kein Symbol (Zeile 1, Stelle 8)
 > put (1) (* comment
 FEHLER : kein Symbol (Zeile 1, Stelle 9)
 > INT VAR x = 5
-FEHLER : kein ELAN-Text
+FEHLER : kein ELAN-Text (Zeile 1, Stelle 11)
 > INT VAR x :: 5; put (x)
 5 
 > IF 2 > 1 THEN put (2)
-FEHLER : kein ELAN-Text
+FEHLER : kein ELAN-Text (Zeile 1, Stelle 22)
 > put (\"Hallo\")
 FEHLER : kein ELAN-Text
 > INT VAR name

@@ -13,18 +13,18 @@ use Rattle.elan_grammar.specs.Rule.{nothing, further}
 use Rattle.elan_grammar.specs.Depth.{expr_depth}
 use Rattle.elan_grammar.specs.Expressions as g
 use Rattle.elan_grammar.specs.Expressions.{Language}
-use Rattle.elan_grammar.proofs.Laws.{Set, Laws, pure_law, bind_law, only_law, choose_law}
+use Rattle.elan_grammar.proofs.Laws.{Set, Laws, Full, pure_law, bind_law, bind_part, guard_law, choose_part, choose_law}
 use Rattle.elan_grammar.proofs.Repeats.{iterate_law}
 use Rattle.elan_grammar.proofs.Every.{within, apart}
 use Rattle.elan_grammar.proofs.Seen.{is_colon, colon_ahead, ahead-point, selecting}
 use Rattle.elan_grammar.proofs.Tokens.{given, keyword_law, end_law, mark_law, point_law, comma_law, ident_law, ident_shows, literal_law, monadic_law, applies, joint_law}
-use Rattle.elan_grammar.proofs.Forms.{bind_same, narrower, Eats, eats_terminal, eats_only, eats_pure, eats_then, eats_choose, eats_refirst, optional_law, listed_law, listed_by}
+use Rattle.elan_grammar.proofs.Forms.{bind_same, part_same, narrower, Eats, eats_terminal, eats_guard, eats_pure, eats_then, eats_choose, eats_refirst, optional_law, listed_law, listed_by}
 use Rattle.elan_grammar.proofs.TypeLaws.{labels_law, begins_label}
 use Rattle.elan_grammar.proofs.Follows.{ends_level, after_head, after_name, ends_units, begins_unit}
 
 pub record LanguageLaws (inner : Language) : Type 0 where
-  pub levels : (i : ℕ) → i ≤ 6 → Laws (inner.level i) begins (ends_level i)
-  pub bodies : Laws inner.units begins_unit ends_units
+  pub levels : (i : ℕ) → i ≤ 6 → Full (inner.level i) begins (ends_level i)
+  pub bodies : Full inner.units begins_unit ends_units
 
 operator_ends : (i l : ℕ) → (l == suc i) ≡ true → nat_lt i l ≡ true
 operator_ends i l h = lt-ltb i l (omega (arith, eqb-true l (suc i) h))
@@ -45,74 +45,39 @@ is_selecting _ = false
 abbrev pub is_choice_end : Set
 is_choice_end x = is_key key.End x || is_key key.Fi x
 
-choice_end_law : (stop : Set) → Laws g.choice_end is_choice_end stop
+choice_end_law : (stop : Set) → Full g.choice_end is_choice_end stop
 unfolding g.choice_end
 choice_end_law stop =
     choose_law (is_key key.End) _ _ (is_key key.End) (is_key key.Fi) is_choice_end stop
-    (end_law key.If stop) (keyword_law key.Fi stop)
+    (end_law key.If stop).laws (keyword_law key.Fi stop)
     (λ x h. h) (apart (is_key key.Fi) (is_key key.End) refl) (within (is_key key.End) is_choice_end refl) (within (is_key key.Fi) is_choice_end refl)
 
+abbrev begins_actual : Set
+begins_actual x = is_key key.Proc x || begins x
+
 module _ (inner : Language) (n : ℕ) (laws : LanguageLaws inner) where
-  e1_law : Laws (inner.level 6) begins (ends_level 6)
+  e1_law : Full (inner.level 6) begins (ends_level 6)
   e1_law = laws.levels 6 (omega arith)
 
-  bracket_law : (stop : Set) → Laws (g.bracket inner n) (is_sign sign.LeftRound) stop
-  unfolding g.bracket
-  bracket_law stop =
-      bind_same _ _ _ _ _ (only_law (nat_lt 0 n) (is_sign sign.LeftRound)) (λ _.
-      bind_same _ _ _ _ _ (mark_law sign.LeftRound begins refl) (λ at.
-      bind_law _ _ _ _ (is_sign sign.RightRound) stop e1_law (λ a.
-      bind_same _ _ _ _ _ (mark_law sign.RightRound stop refl) (λ _.
-      pure_law _ stop)) (within (is_sign sign.RightRound) (ends_level 6) refl)))
-
-  concr_law : (stop : Set) → Laws (g.concr inner n) (is_key key.Concr) stop
-  unfolding g.concr
-  concr_law stop =
-      bind_same _ _ _ _ _ (only_law (nat_lt 0 n) (is_key key.Concr)) (λ _.
-      bind_same _ _ _ _ _ (keyword_law key.Concr (is_sign sign.LeftRound)) (λ at.
-      bind_same _ _ _ _ _ (mark_law sign.LeftRound begins refl) (λ _.
-      bind_law _ _ _ _ (is_sign sign.RightRound) stop e1_law (λ a.
-      bind_same _ _ _ _ _ (mark_law sign.RightRound stop refl) (λ _.
-      pure_law _ stop)) (within (is_sign sign.RightRound) (ends_level 6) refl))))
-
-  procedure_law : (stop : Set) → Laws (g.procedure inner n) (is_key key.Proc) stop
+  procedure_law : (stop : Set) → Full (g.procedure inner n) (is_key key.Proc) stop
   unfolding g.procedure
   procedure_law stop =
       bind_same _ _ _ _ _ (keyword_law key.Proc is_ident) (λ at.
       bind_same _ _ _ _ _ (ident_law stop) (λ x.
       pure_law _ stop))
 
-  abbrev begins_actual : Set
-  begins_actual x = is_key key.Proc x || begins x
-
-  actual_law : Laws (g.actual inner n) begins_actual (ends_level 6)
+  actual_law : Full (g.actual inner n) begins_actual (ends_level 6)
   unfolding g.actual
   actual_law =
-      choose_law (is_key key.Proc) _ _ (is_key key.Proc) begins begins_actual (ends_level 6) (procedure_law (ends_level 6)) e1_law
+      choose_law (is_key key.Proc) _ _ (is_key key.Proc) begins begins_actual (ends_level 6) (procedure_law (ends_level 6)).laws e1_law
       (λ x h. h) (apart begins (is_key key.Proc) refl) (within (is_key key.Proc) begins_actual refl) (within begins begins_actual refl)
 
-  actuals_law : Laws (g.actuals inner n) begins_actual (is_sign sign.RightRound)
+  actuals_law : Full (g.actuals inner n) begins_actual (is_sign sign.RightRound)
   unfolding g.actuals
   actuals_law = listed_law is_comma _ _ is_comma begins_actual (ends_level 6) (is_sign sign.RightRound) (comma_law begins_actual) actual_law
       (λ x h. h) (within is_comma (ends_level 6) refl) (within (is_sign sign.RightRound) (ends_level 6) refl) (apart (is_sign sign.RightRound) is_comma refl) refl
 
-  call_law : (x : Name) (stop : Set) → Laws (g.call inner n x) (is_sign sign.LeftRound) stop
-  unfolding g.call
-  call_law x stop =
-      bind_same _ _ _ _ _ (only_law (nat_lt 0 n) (is_sign sign.LeftRound)) (λ _.
-      bind_same _ _ _ _ _ (mark_law sign.LeftRound begins_actual refl) (λ at.
-      bind_same _ _ _ _ _ actuals_law (λ xs.
-      bind_same _ _ _ _ _ (mark_law sign.RightRound stop refl) (λ _.
-      pure_law _ stop))))
-
-  named_law : Laws (g.named inner n) is_ident after_head
-  unfolding g.named
-  named_law =
-      bind_same _ _ _ _ _ (ident_law after_name) (λ x.
-      choose_law (is_sign sign.LeftRound) _ _ (is_sign sign.LeftRound) after_head after_name after_head (call_law x after_head) (pure_law _ after_head)
-      (λ x h. h) (apart after_head (is_sign sign.LeftRound) refl) (within (is_sign sign.LeftRound) after_name refl) (within after_head after_name refl))
-
-  branch_law : Laws (g.branch inner n) begins ends_units
+  branch_law : Full (g.branch inner n) begins ends_units
   unfolding g.branch
   branch_law =
       bind_law _ _ _ _ (is_key key.Then) ends_units e1_law (λ c.
@@ -123,61 +88,60 @@ module _ (inner : Language) (n : ℕ) (laws : LanguageLaws inner) where
   abbrev ends_branches : Set
   ends_branches x = is_key key.Else x || is_choice_end x
 
-  branches_law : Laws (g.branches inner n) begins ends_branches
+  branches_law : Full (g.branches inner n) begins ends_branches
   unfolding g.branches
   branches_law = listed_law (is_key key.Elif) _ _ (is_key key.Elif) begins ends_units ends_branches (keyword_law key.Elif begins) branch_law
       (λ x h. h) (within (is_key key.Elif) ends_units refl) (within ends_branches ends_units refl) (apart ends_branches (is_key key.Elif) refl) refl
 
-  else_part_law : Laws (g.else_part inner n) ends_branches is_choice_end
+  else_part_law : Full (g.else_part inner n) ends_branches is_choice_end
   unfolding g.else_part
   else_part_law =
       optional_law (is_key key.Else) _ (is_key key.Else) is_choice_end ends_branches
-      (bind_same _ _ _ _ _ (keyword_law key.Else begins_unit) (λ _. narrower _ _ _ is_choice_end laws.bodies (within is_choice_end ends_units refl)))
+      (bind_same _ _ _ _ _ (keyword_law key.Else begins_unit) (λ _. narrower _ _ _ is_choice_end laws.bodies (within is_choice_end ends_units refl))).laws
       (λ x h. h) (apart is_choice_end (is_key key.Else) refl) (within (is_key key.Else) ends_branches refl) (within is_choice_end ends_branches refl)
 
-  choice_law : (stop : Set) → Laws (g.choice inner n) (is_key key.If) stop
-  unfolding g.choice
-  choice_law stop =
-      bind_same _ _ _ _ _ (only_law (nat_lt 0 n) (is_key key.If)) (λ _.
-      bind_same _ _ _ _ _ (keyword_law key.If begins) (λ at.
-      bind_same _ _ _ _ _ branches_law (λ bs.
-      bind_same _ _ _ _ _ else_part_law (λ o.
-      bind_same _ _ _ _ _ (choice_end_law stop) (λ _.
-      pure_law _ stop)))))
-
-  a_case_law : Eats (g.a_case inner n) (is_key key.Case) ends_units
+  a_case_law : Full (g.a_case inner n) (is_key key.Case) ends_units
   unfolding g.a_case
   a_case_law =
-      eats_terminal _ _ _ _ _ (keyword_law key.Case begins_label) (λ _.
+      bind_same _ _ _ _ _ (keyword_law key.Case begins_label) (λ _.
+      bind_same _ _ _ _ _ (labels_law is_colon (apart is_colon is_comma refl)) (λ ls.
+      bind_same _ _ _ _ _ (mark_law sign.Colon begins_unit refl) (λ _.
+      bind_same _ _ _ _ _ laws.bodies (λ us.
+      pure_law _ ends_units))))
+
+  a_case_eats : Eats (g.a_case inner n) (is_key key.Case) ends_units
+  unfolding g.a_case
+  a_case_eats =
+      eats_terminal _ _ _ _ _ (keyword_law key.Case begins_label).laws (λ _.
       bind_same _ _ _ _ _ (labels_law is_colon (apart is_colon is_comma refl)) (λ ls.
       bind_same _ _ _ _ _ (mark_law sign.Colon begins_unit refl) (λ _.
       bind_same _ _ _ _ _ laws.bodies (λ us.
       pure_law _ ends_units))))
 
   further_case_law : (xs : List _) → Eats (further nothing (g.a_case inner n) xs) (is_key key.Case) ends_units
-  further_case_law xs = eats_pure tt _ (is_key key.Case) ends_units (λ _. eats_then (g.a_case inner n) _ (is_key key.Case) ends_units ends_units a_case_law (λ c. pure_law _ ends_units))
+  further_case_law xs = eats_pure tt _ (is_key key.Case) ends_units (λ _. bind_same _ _ _ _ _ a_case_law (λ c. pure_law _ ends_units)) (λ _. eats_then (g.a_case inner n) _ (is_key key.Case) ends_units ends_units a_case_eats (λ c. pure_law _ ends_units))
 
   abbrev ends_cases : Set
   ends_cases x = is_key key.Otherwise x || is_key key.End x
 
-  cases_law : Laws (g.cases inner n) (is_key key.Case) ends_cases
+  cases_law : Full (g.cases inner n) (is_key key.Case) ends_cases
   unfolding g.cases
-  cases_law = listed_by (is_key key.Case) nothing _ (is_key key.Case) (is_key key.Case) ends_units ends_cases a_case_law.laws further_case_law
+  cases_law = listed_by (is_key key.Case) nothing _ (is_key key.Case) (is_key key.Case) ends_units ends_cases a_case_law further_case_law
       (λ x h. h) (within (is_key key.Case) ends_units refl) (within ends_cases ends_units refl) (apart ends_cases (is_key key.Case) refl) refl
 
   abbrev after_otherwise : Set
   after_otherwise x = is_colon x || begins_unit x
 
-  otherwise_part_law : Laws (g.otherwise_part inner n) ends_cases (is_key key.End)
+  otherwise_part_law : Full (g.otherwise_part inner n) ends_cases (is_key key.End)
   unfolding g.otherwise_part
   otherwise_part_law =
       optional_law (is_key key.Otherwise) _ (is_key key.Otherwise) (is_key key.End) ends_cases
       (bind_same _ _ _ _ _ (keyword_law key.Otherwise after_otherwise) (λ _.
-      bind_same _ _ _ _ _ (optional_law is_colon _ is_colon begins_unit after_otherwise (mark_law sign.Colon begins_unit refl) (λ x h. h) (apart begins_unit is_colon refl) (within is_colon after_otherwise refl) (within begins_unit after_otherwise refl)) (λ _.
-      narrower _ _ _ (is_key key.End) laws.bodies (within (is_key key.End) ends_units refl))))
+      bind_same _ _ _ _ _ (optional_law is_colon _ is_colon begins_unit after_otherwise (mark_law sign.Colon begins_unit refl).laws (λ x h. h) (apart begins_unit is_colon refl) (within is_colon after_otherwise refl) (within begins_unit after_otherwise refl)) (λ _.
+      narrower _ _ _ (is_key key.End) laws.bodies (within (is_key key.End) ends_units refl)))).laws
       (λ x h. h) (apart (is_key key.End) (is_key key.Otherwise) refl) (within (is_key key.Otherwise) ends_cases refl) (within (is_key key.End) ends_cases refl)
 
-  select_parts_law : (stop : Set) → Laws (g.select_parts inner n) (is_key key.Case) stop
+  select_parts_law : (stop : Set) → Full (g.select_parts inner n) (is_key key.Case) stop
   unfolding g.select_parts
   select_parts_law stop =
       bind_same _ _ _ _ _ cases_law (λ cs.
@@ -185,15 +149,65 @@ module _ (inner : Language) (n : ℕ) (laws : LanguageLaws inner) where
       bind_same _ _ _ _ _ (end_law key.Select stop) (λ _.
       pure_law _ stop)))
 
+-- a depth above another
+pub deeper : (d n : ℕ) → nat_lt d n ≡ true → nat_lt 0 n ≡ true
+deeper d n h = lt-ltb 0 n (omega (arith, ltb-true d n h))
+
+module _ (inner : Language) (n : ℕ) (laws : nat_lt 0 n ≡ true → LanguageLaws inner) where
+  bracket_law : (stop : Set) → Laws (g.bracket inner n) (is_sign sign.LeftRound) stop
+  unfolding g.bracket
+  bracket_law stop =
+      guard_law _ _ _ _ (λ some. (
+      bind_same _ _ _ _ _ (mark_law sign.LeftRound begins refl) (λ at.
+      bind_law _ _ _ _ (is_sign sign.RightRound) stop (e1_law inner n (laws some)) (λ a.
+      bind_same _ _ _ _ _ (mark_law sign.RightRound stop refl) (λ _.
+      pure_law _ stop)) (within (is_sign sign.RightRound) (ends_level 6) refl))).laws)
+
+  concr_law : (stop : Set) → Laws (g.concr inner n) (is_key key.Concr) stop
+  unfolding g.concr
+  concr_law stop =
+      guard_law _ _ _ _ (λ some. (
+      bind_same _ _ _ _ _ (keyword_law key.Concr (is_sign sign.LeftRound)) (λ at.
+      bind_same _ _ _ _ _ (mark_law sign.LeftRound begins refl) (λ _.
+      bind_law _ _ _ _ (is_sign sign.RightRound) stop (e1_law inner n (laws some)) (λ a.
+      bind_same _ _ _ _ _ (mark_law sign.RightRound stop refl) (λ _.
+      pure_law _ stop)) (within (is_sign sign.RightRound) (ends_level 6) refl)))).laws)
+
+  call_law : (x : Name) (stop : Set) → Laws (g.call inner n x) (is_sign sign.LeftRound) stop
+  unfolding g.call
+  call_law x stop =
+      guard_law _ _ _ _ (λ some. (
+      bind_same _ _ _ _ _ (mark_law sign.LeftRound begins_actual refl) (λ at.
+      bind_same _ _ _ _ _ (actuals_law inner n (laws some)) (λ xs.
+      bind_same _ _ _ _ _ (mark_law sign.RightRound stop refl) (λ _.
+      pure_law _ stop)))).laws)
+
+  named_law : Full (g.named inner n) is_ident after_head
+  unfolding g.named
+  named_law =
+      bind_same _ _ _ _ _ (ident_law after_name) (λ x.
+      choose_law (is_sign sign.LeftRound) _ _ (is_sign sign.LeftRound) after_head after_name after_head (call_law x after_head) (pure_law _ after_head)
+      (λ x h. h) (apart after_head (is_sign sign.LeftRound) refl) (within (is_sign sign.LeftRound) after_name refl) (within after_head after_name refl))
+
+  choice_law : (stop : Set) → Laws (g.choice inner n) (is_key key.If) stop
+  unfolding g.choice
+  choice_law stop =
+      guard_law _ _ _ _ (λ some. (
+      bind_same _ _ _ _ _ (keyword_law key.If begins) (λ at.
+      bind_same _ _ _ _ _ (branches_law inner n (laws some)) (λ bs.
+      bind_same _ _ _ _ _ (else_part_law inner n (laws some)) (λ o.
+      bind_same _ _ _ _ _ (choice_end_law stop) (λ _.
+      pure_law _ stop))))).laws)
+
   selection_law : (stop : Set) → Laws (g.selection inner n) (is_key key.Select) stop
   unfolding g.selection
   selection_law stop =
-      bind_same _ _ _ _ _ (only_law (nat_lt 0 n) (is_key key.Select)) (λ _.
+      guard_law _ _ _ _ (λ some. (
       bind_same _ _ _ _ _ (keyword_law key.Select begins) (λ at.
-      bind_law _ _ _ _ (is_key key.Of) stop e1_law (λ a.
+      bind_law _ _ _ _ (is_key key.Of) stop (e1_law inner n (laws some)) (λ a.
       bind_same _ _ _ _ _ (keyword_law key.Of (is_key key.Case)) (λ _.
-      bind_same _ _ _ _ _ (select_parts_law stop) (λ p.
-      pure_law _ stop))) (within (is_key key.Of) (ends_level 6) refl)))
+      bind_same _ _ _ _ _ (select_parts_law inner n (laws some) stop) (λ p.
+      pure_law _ stop))) (within (is_key key.Of) (ends_level 6) refl))).laws)
 
   abbrev head4 : Set
   head4 x = is_key key.Select x || is_ident x
@@ -210,10 +224,10 @@ module _ (inner : Language) (n : ℕ) (laws : LanguageLaws inner) where
   abbrev head0 : Set
   head0 x = is_literal x || head1 x
 
-  head_law : Laws (g.head inner n) head0 after_head
+  head_law : Full (g.head inner n) head0 after_head
   unfolding g.head
   head_law =
-      choose_law is_literal _ _ is_literal head1 head0 after_head (literal_law after_head)
+      choose_law is_literal _ _ is_literal head1 head0 after_head (literal_law after_head).laws
       (choose_law (is_sign sign.LeftRound) _ _ (is_sign sign.LeftRound) head2 head1 after_head (bracket_law after_head)
       (choose_law (is_key key.Concr) _ _ (is_key key.Concr) head3 head2 after_head (concr_law after_head)
       (choose_law (is_key key.If) _ _ (is_key key.If) head4 head3 after_head (choice_law after_head)
@@ -227,9 +241,9 @@ module _ (inner : Language) (n : ℕ) (laws : LanguageLaws inner) where
   index_part_law : (depth : ℕ) (stop : Set) → Eats (g.index_part inner n depth) (is_sign sign.LeftSquare) stop
   unfolding g.index_part
   index_part_law depth stop =
-      eats_only _ _ _ _ (
-      eats_terminal _ _ _ _ _ (mark_law sign.LeftSquare begins refl) (λ _.
-      bind_law _ _ _ _ (is_sign sign.RightSquare) stop e1_law (λ b.
+      eats_guard _ _ _ _ (λ some.
+      eats_terminal _ _ _ _ _ (mark_law sign.LeftSquare begins refl).laws (λ _.
+      bind_law _ _ _ _ (is_sign sign.RightSquare) stop (e1_law inner n (laws (deeper depth n some))) (λ b.
       bind_same _ _ _ _ _ (mark_law sign.RightSquare stop refl) (λ _.
       pure_law _ stop)) (within (is_sign sign.RightSquare) (ends_level 6) refl)))
 
@@ -241,9 +255,9 @@ module _ (inner : Language) (n : ℕ) (laws : LanguageLaws inner) where
   field_part_law : (depth : ℕ) → Eats (g.field_part inner n depth) is_selecting after_head
   unfolding g.field_part
   field_part_law depth =
-      eats_only _ _ _ _ (
+      eats_guard _ _ _ _ (λ some.
       eats_refirst _ is_point is_selecting after_head
-      (eats_terminal _ _ _ _ _ (point_law is_ident) (λ _. ident_law after_head))
+      (eats_terminal _ _ _ _ _ (point_law is_ident).laws (λ _. ident_law after_head))
       (λ xs ys b h s.
       let f = h.3 in
       let p : is_sign sign.Point (kind_of h.2.0.what) ≡ true = given (is_sign sign.Point (kind_of h.2.0.what)) h.2.0.at h.0 h.2.2 in
@@ -261,7 +275,7 @@ module _ (inner : Language) (n : ℕ) (laws : LanguageLaws inner) where
       eats_choose (is_sign sign.LeftSquare) _ _ (is_sign sign.LeftSquare) is_selecting lengthens after_head (index_law a after_head) (field_of_law a)
       (λ x h. h) (apart is_selecting (is_sign sign.LeftSquare) refl) (within (is_sign sign.LeftSquare) lengthens refl) (within is_selecting lengthens refl)
 
-  prim_law : Laws (g.prim inner n) head0 (ends_level 0)
+  prim_law : Full (g.prim inner n) head0 (ends_level 0)
   unfolding g.prim
   prim_law =
       bind_same _ _ _ _ _ head_law (λ a.
@@ -272,12 +286,12 @@ module _ (inner : Language) (n : ℕ) (laws : LanguageLaws inner) where
   applied_law : Laws (g.applied inner n) applies (ends_level 0)
   unfolding g.applied
   applied_law =
-      bind_same _ _ _ _ _ (only_law (nat_lt 0 n) applies) (λ _.
-      bind_same _ _ _ _ _ monadic_law (λ o.
-      bind_same _ _ _ _ _ (laws.levels 0 (omega arith)) (λ a.
+      guard_law _ _ _ _ (λ some.
+      part_same _ _ _ _ _ monadic_law (λ o.
+      bind_same _ _ _ _ _ ((laws some).levels 0 (omega arith)) (λ a.
       pure_law _ (ends_level 0))))
 
-  operand_law : Laws (g.operand inner n) begins (ends_level 0)
+  operand_law : Full (g.operand inner n) begins (ends_level 0)
   unfolding g.operand
   operand_law =
       choose_law is_monadic _ _ applies head0 begins (ends_level 0) applied_law prim_law
@@ -286,16 +300,16 @@ module _ (inner : Language) (n : ℕ) (laws : LanguageLaws inner) where
   right_part_law : (i : ℕ) → i < 6 → (depth : ℕ) → Eats (g.right_part inner n i depth) (is_level (suc i)) (ends_level i)
   unfolding g.right_part
   right_part_law i lt depth =
-      eats_only _ _ _ _ (
+      eats_guard _ _ _ _ (λ some.
       eats_terminal _ _ _ _ _ (joint_law (suc i) begins (omega arith)) (λ o.
-      bind_same _ _ _ _ _ (laws.levels i (omega arith)) (λ b.
+      bind_same _ _ _ _ _ ((laws (deeper depth n some)).levels i (omega arith)) (λ b.
       pure_law _ (ends_level i))))
 
   dyadic_law : (i : ℕ) → i < 6 → (a : Expr) → Eats (g.dyadic inner n i a) (is_level (suc i)) (ends_level i)
   unfolding g.dyadic
   dyadic_law i lt a = eats_then _ _ _ _ _ (right_part_law i lt (expr_depth a)) (λ r. pure_law _ (ends_level i))
 
-  pub level_law : (i : ℕ) → i ≤ 6 → Laws (g.level inner n i) begins (ends_level i)
+  pub level_law : (i : ℕ) → i ≤ 6 → Full (g.level inner n i) begins (ends_level i)
   unfolding g.level
   level_law zero le = operand_law
   level_law (suc i) le =

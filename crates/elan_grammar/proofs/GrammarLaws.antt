@@ -1,6 +1,6 @@
 -- What holds of whole texts.
 use Rattle.std.proofs.Common.{◌≡◌, ◌≢◌, ℕ, ◌≤◌, inl, inr, Bool, true, false, cond, List, [], ◌∷◌, length, Option, Some, None, Ok, Err, refl, sym, ap, subst, ◌∙◌, arith}
-use Rattle.std.specs.Prelude.{◌||◌}
+use Rattle.std.specs.Prelude.{◌||◌, nat_lt}
 use Rattle.std.proofs.lemmas.List.{length-append}
 use Rattle.elan_tree.specs.declared.token.Token.{Token}
 use Rattle.elan_tree.specs.declared.token.Key.TheVariants as key
@@ -20,12 +20,13 @@ use Rattle.elan_grammar.specs.Rule.{Tokens, Outcome, further}
 use Rattle.elan_grammar.specs.Terminals.{mark}
 use Rattle.elan_grammar.specs.Units.{phrases}
 use Rattle.elan_grammar.specs.Grammar as g
-use Rattle.elan_grammar.specs.Place.{left, left_by}
-use Rattle.elan_grammar.proofs.Laws.{Set, Within, Apart, Laws, keeps, done, failed, left_is, same_value, pure_law, bind_law, only_law, choose_law}
+use Rattle.elan_grammar.specs.Reads.{text, Reads}
+use Rattle.elan_grammar.specs.Stops.{left, left_by}
+use Rattle.elan_grammar.proofs.Laws.{Set, Within, Apart, Laws, Full, keeps, done, failed, left_is, same_value, pure_law, bind_law, guard_law, choose_part, choose_law, choose_first}
 use Rattle.elan_grammar.proofs.Every.{within, apart}
 use Rattle.elan_grammar.proofs.Seen.{is_colon, is_refines, declares, ident_ahead, ahead-point, refining, alone}
 use Rattle.elan_grammar.proofs.Tokens.{given, keyword_law, end_law, mark_law, point_law, leading_law, alone_law, comma_law, going_law, parting_law, ident_law, ident_shows, bold_law, same_law, access_law, is_access, operator_law, same_operator_law, export_law, is_export}
-use Rattle.elan_grammar.proofs.Forms.{bind_same, refirst, Eats, eats_terminal, eats_refirst, optional_law, listed_law, listed_by}
+use Rattle.elan_grammar.proofs.Forms.{bind_same, part_same, refirst, Eats, eats_terminal, eats_refirst, optional_law, listed_law, listed_by}
 use Rattle.elan_grammar.proofs.TypeLaws.{type_law, typed_law, any_type, formals_law}
 use Rattle.elan_grammar.proofs.Follows.{ends_units, ends_unit, begins_plain, begins_unit}
 use Rattle.elan_grammar.proofs.UnitLaws.{declared_law, plain_law, phrases_law, begins_declared}
@@ -48,12 +49,12 @@ ends_body x = is_refines x || is_sign sign.Point x
 abbrev after_body_units : Set
 after_body_units x = ends_body x || ends_text x
 
-refinement_law : (n : ℕ) → Laws (g.refinement n) is_ident ends_units
+refinement_law : (n : ℕ) → nat_lt 0 n ≡ true → Full (g.refinement n) is_ident ends_units
 unfolding g.refinement
-refinement_law n =
+refinement_law n some =
     bind_same _ _ _ _ _ (ident_law is_colon) (λ x.
     bind_same _ _ _ _ _ (mark_law sign.Colon begins_unit refl) (λ _.
-    bind_same _ _ _ _ _ (phrases_law n).bodies (λ us.
+    bind_same _ _ _ _ _ (phrases_law n some).bodies (λ us.
     pure_law _ ends_units)))
 
 -- it begins with an identifier and a colon
@@ -71,25 +72,25 @@ point_refines t a zs h e = ahead-point t zs (given (is_sign sign.Point (kind_of 
 point_alone : (t : Token) (a : ℕ) (zs : Tokens) → cond (is_sign sign.Point (kind_of t.what)) (Some t.at) None ≡ Some a → is_ident (ahead zs) ≡ false → is_sign sign.Point (ahead (t ∷ zs)) ≡ true
 point_alone t a zs h e = rw (ahead-point t zs (given (is_sign sign.Point (kind_of t.what)) t.at a h)) (alone (kind zs) (second zs) (sym (ident_ahead zs) ∙ e))
 
-next_refinement_law : (n : ℕ) (xs : List Refinement) → Eats (further (mark sign.Point) (g.refinement n) xs) is_refines ends_units
-next_refinement_law n xs =
+next_refinement_law : (n : ℕ) → nat_lt 0 n ≡ true → (xs : List Refinement) → Eats (further (mark sign.Point) (g.refinement n) xs) is_refines ends_units
+next_refinement_law n some xs =
     eats_refirst _ leads is_refines ends_units
-    (eats_terminal _ _ _ _ _ leading_law (λ _. bind_same _ _ _ _ _ (refinement_law n) (λ r. pure_law _ ends_units)))
+    (eats_terminal _ _ _ _ _ leading_law.laws (λ _. bind_same _ _ _ _ _ (refinement_law n some) (λ r. pure_law _ ends_units)))
     (λ xs ys b h s. rw (h.2.1, point_refines h.2.0 h.0 h.1 h.2.2 (refinement_begins n h.3.0 h.1 h.3.1 h.3.2)) refl)
 
-last_point_law : (stop : Set) → Apart stop is_ident → Apart stop (is_sign sign.Point) → (first : Set) → Within (is_sign sign.Point) first → Within stop first → Laws g.last_point first stop
+last_point_law : (stop : Set) → Apart stop is_ident → Apart stop (is_sign sign.Point) → (first : Set) → Within (is_sign sign.Point) first → Within stop first → Full g.last_point first stop
 unfolding g.last_point
-last_point_law stop no_ident no_point first fx fs = optional_law (is_sign sign.Point) _ (is_sign sign.Point) stop first (alone_law stop no_ident) (λ x h. h) no_point fx fs
+last_point_law stop no_ident no_point first fx fs = optional_law (is_sign sign.Point) _ (is_sign sign.Point) stop first (alone_law stop no_ident).laws (λ x h. h) no_point fx fs
 
-refinement_list_law : (n : ℕ) → Laws (g.refinement_list n) is_ident last_points
+refinement_list_law : (n : ℕ) → nat_lt 0 n ≡ true → Full (g.refinement_list n) is_ident last_points
 unfolding g.refinement_list
-refinement_list_law n = listed_by leads _ _ is_refines is_ident ends_units last_points (refinement_law n) (next_refinement_law n)
+refinement_list_law n some = listed_by leads _ _ is_refines is_ident ends_units last_points (refinement_law n some) (next_refinement_law n some)
     (within is_refines leads refl) (within is_refines ends_units refl) (within last_points ends_units refl) (apart last_points leads refl) refl
 
-refinements_law : (n : ℕ) → Laws (g.refinements n) is_ident ends_text
+refinements_law : (n : ℕ) → nat_lt 0 n ≡ true → Full (g.refinements n) is_ident ends_text
 unfolding g.refinements
-refinements_law n =
-    bind_same _ _ _ _ _ (refinement_list_law n) (λ rs.
+refinements_law n some =
+    bind_same _ _ _ _ _ (refinement_list_law n some) (λ rs.
     bind_same _ _ _ _ _ (last_point_law ends_text (apart ends_text is_ident refl) (apart ends_text (is_sign sign.Point) refl) last_points (within (is_sign sign.Point) last_points refl) (within ends_text last_points refl)) (λ _.
     pure_law _ ends_text))
 
@@ -111,29 +112,29 @@ or_right : (a b : Bool) → b ≡ true → (a || b) ≡ true
 or_right true b h = refl
 or_right false b h = h
 
-point_tail_law : (n : ℕ) → Laws (g.point_tail n) ends_body ends_text
+point_tail_law : (n : ℕ) → nat_lt 0 n ≡ true → Full (g.point_tail n) ends_body ends_text
 unfolding g.point_tail
-point_tail_law n =
+point_tail_law n some =
     refirst _ is_point ends_body ends_text
     (bind_same _ _ _ _ _ (point_law ident_or_end) (λ _.
-    choose_law is_ident _ _ is_ident ends_text ident_or_end ends_text (refinements_law n) (pure_law _ ends_text)
+    choose_law is_ident _ _ is_ident ends_text ident_or_end ends_text (refinements_law n some).laws (pure_law _ ends_text)
     (λ x h. h) (apart ends_text is_ident refl) (within is_ident ident_or_end refl) (within ends_text ident_or_end refl)))
     (λ xs ys b h s. elim h.3 [
       | inl r ↦ rw (h.2.1, point_refines h.2.0 h.0 h.1 h.2.2 (refinements_begin n b h.1 ys r)) refl
       | inr r ↦ rw h.2.1 (or_right (is_refines (ahead (h.2.0 ∷ h.1))) (is_sign sign.Point (ahead (h.2.0 ∷ h.1))) (point_alone h.2.0 h.0 h.1 h.2.2 (subst (λ (z : Tokens). is_ident (ahead z) ≡ false) (sym r.1) (apart ends_text is_ident refl (ahead ys) s))))
     ])
 
-tail_law : (n : ℕ) → Laws (g.tail n) after_body_units ends_text
+tail_law : (n : ℕ) → nat_lt 0 n ≡ true → Full (g.tail n) after_body_units ends_text
 unfolding g.tail
-tail_law n =
-    choose_law is_point _ _ ends_body ends_text after_body_units ends_text (point_tail_law n) (pure_law _ ends_text)
+tail_law n some =
+    choose_law is_point _ _ ends_body ends_text after_body_units ends_text (point_tail_law n some).laws (pure_law _ ends_text)
     (within ends_body is_point refl) (apart ends_text is_point refl) (within ends_body after_body_units refl) (within ends_text after_body_units refl)
 
-body_law : Laws g.body begins_unit ends_text
+body_law : Full g.body begins_unit ends_text
 unfolding g.body
 body_law =
-    bind_law _ _ _ _ after_body_units ends_text (phrases_law 400).bodies (λ us.
-    bind_same _ _ _ _ _ (tail_law 399) (λ rs.
+    bind_law _ _ _ _ after_body_units ends_text (phrases_law 400 refl).bodies (λ us.
+    bind_same _ _ _ _ _ (tail_law 399 refl) (λ rs.
     pure_law _ ends_text)) (within after_body_units ends_units refl)
 
 -- ---- the units of a level
@@ -144,34 +145,34 @@ after_level_unit x = is_sign sign.Semicolon x || after_body_units x
 abbrev after_end_proc : Set
 after_end_proc x = is_ident x || after_level_unit x
 
-end_name_law : (x : Name) (stop first : Set) → Apart stop is_ident → Within is_ident first → Within stop first → Laws (g.end_name x) first stop
+end_name_law : (x : Name) (stop first : Set) → Apart stop is_ident → Within is_ident first → Within stop first → Full (g.end_name x) first stop
 unfolding g.end_name
 end_name_law x stop first ap fx fs = optional_law is_ident _ is_ident stop first (same_law x stop) (λ y h. h) ap fx fs
 
 abbrev after_end_op : Set
 after_end_op x = is_operator x || after_level_unit x
 
-end_operator_law : (o : OperatorName) → Laws (g.end_operator o) after_end_op after_level_unit
+end_operator_law : (o : OperatorName) → Full (g.end_operator o) after_end_op after_level_unit
 unfolding g.end_operator
 end_operator_law o = optional_law is_operator _ is_operator after_level_unit after_end_op (same_operator_law o after_level_unit) (λ y h. h) (apart after_level_unit is_operator refl) (within is_operator after_end_op refl) (within after_level_unit after_end_op refl)
 
-formal_list_law : (stop : Set) → Laws g.formal_list (is_sign sign.LeftRound) stop
+formal_list_law : (stop : Set) → Full g.formal_list (is_sign sign.LeftRound) stop
 unfolding g.formal_list
 formal_list_law stop =
     bind_same _ _ _ _ _ (mark_law sign.LeftRound any_type refl) (λ _.
-    bind_same _ _ _ _ _ (formals_law 399) (λ fs.
+    bind_same _ _ _ _ _ (formals_law 399 refl) (λ fs.
     bind_same _ _ _ _ _ (mark_law sign.RightRound stop refl) (λ _.
     pure_law _ stop)))
 
 abbrev after_proc_name : Set
 after_proc_name x = is_sign sign.LeftRound x || is_colon x
 
-optional_formals_law : Laws g.optional_formals after_proc_name is_colon
+optional_formals_law : Full g.optional_formals after_proc_name is_colon
 unfolding g.optional_formals
-optional_formals_law = choose_law (is_sign sign.LeftRound) _ _ (is_sign sign.LeftRound) is_colon after_proc_name is_colon (formal_list_law is_colon) (pure_law _ is_colon)
+optional_formals_law = choose_law (is_sign sign.LeftRound) _ _ (is_sign sign.LeftRound) is_colon after_proc_name is_colon (formal_list_law is_colon).laws (pure_law _ is_colon)
     (λ y h. h) (apart is_colon (is_sign sign.LeftRound) refl) (within (is_sign sign.LeftRound) after_proc_name refl) (within is_colon after_proc_name refl)
 
-proc_parts_law : Laws g.proc_parts (is_key key.Proc) after_level_unit
+proc_parts_law : Full g.proc_parts (is_key key.Proc) after_level_unit
 unfolding g.proc_parts
 proc_parts_law =
     bind_same _ _ _ _ _ (keyword_law key.Proc is_ident) (λ at.
@@ -183,29 +184,29 @@ proc_parts_law =
     bind_same _ _ _ _ _ (end_name_law x after_level_unit after_end_proc (apart after_level_unit is_ident refl) (within is_ident after_end_proc refl) (within after_level_unit after_end_proc refl)) (λ _.
     pure_law _ after_level_unit))) (within (is_key key.End) ends_text refl)))))
 
-proc_law : (t : Option TypePhrase) → Laws (g.proc t) (is_key key.Proc) after_level_unit
+proc_law : (t : Option TypePhrase) → Full (g.proc t) (is_key key.Proc) after_level_unit
 unfolding g.proc
 proc_law t = bind_same _ _ _ _ _ proc_parts_law (λ p. pure_law _ after_level_unit)
 
 abbrev is_right : Set
 is_right x = is_sign sign.RightRound x
 
-operand_law : (stop : Set) → Laws g.operand any_type stop
+operand_law : (stop : Set) → Full g.operand any_type stop
 unfolding g.operand
 operand_law stop =
-    bind_same _ _ _ _ _ (type_law 399 is_access) (λ t.
+    bind_same _ _ _ _ _ (type_law 399 refl is_access) (λ t.
     bind_same _ _ _ _ _ (access_law is_ident) (λ a.
     bind_same _ _ _ _ _ (ident_law stop) (λ x.
     pure_law _ stop)))
 
-same_typed_law : (f : Formal) → Laws (g.same_typed f) goes_on is_right
+same_typed_law : (f : Formal) → Full (g.same_typed f) goes_on is_right
 unfolding g.same_typed
 same_typed_law f =
     bind_same _ _ _ _ _ going_law (λ _.
     bind_same _ _ _ _ _ (ident_law is_right) (λ y.
     pure_law _ is_right))
 
-other_typed_law : (f : Formal) → Laws (g.other_typed f) (is_sign sign.Comma) is_right
+other_typed_law : (f : Formal) → Full (g.other_typed f) (is_sign sign.Comma) is_right
 unfolding g.other_typed
 other_typed_law f =
     bind_same _ _ _ _ _ (parting_law any_type (apart any_type is_ident refl)) (λ _.
@@ -215,8 +216,8 @@ other_typed_law f =
 one_operand_law : (o : Operator) (f : Formal) → Laws (g.one_operand o f) is_right is_right
 unfolding g.one_operand
 one_operand_law o f =
-    bind_same _ _ _ _ _ (only_law (g.takes_one o) is_right) (λ _.
-    pure_law _ is_right)
+    guard_law _ _ _ _ (λ one.
+    (pure_law _ is_right).laws)
 
 abbrev after_operand2 : Set
 after_operand2 x = is_sign sign.Comma x || is_right x
@@ -224,16 +225,16 @@ after_operand2 x = is_sign sign.Comma x || is_right x
 abbrev after_operand : Set
 after_operand x = goes_on x || after_operand2 x
 
-operands_law : (o : Operator) → Laws (g.operands o) any_type is_right
+operands_law : (o : Operator) → Full (g.operands o) any_type is_right
 unfolding g.operands
 operands_law o =
     bind_same _ _ _ _ _ (operand_law after_operand) (λ f.
-    choose_law goes_on _ _ goes_on after_operand2 after_operand is_right (same_typed_law f)
-    (choose_law (is_sign sign.Comma) _ _ (is_sign sign.Comma) is_right after_operand2 is_right (other_typed_law f) (one_operand_law o f)
+    choose_first goes_on _ _ goes_on after_operand2 after_operand is_right (same_typed_law f)
+    (choose_part (is_sign sign.Comma) _ _ (is_sign sign.Comma) is_right after_operand2 is_right (other_typed_law f).laws (one_operand_law o f)
     (λ y h. h) (apart is_right (is_sign sign.Comma) refl) (within (is_sign sign.Comma) after_operand2 refl) (within is_right after_operand2 refl))
     (λ y h. h) (apart after_operand2 goes_on refl) (within goes_on after_operand refl) (within after_operand2 after_operand refl))
 
-operator_parts_law : Laws g.operator_parts (is_key key.Op) after_level_unit
+operator_parts_law : Full g.operator_parts (is_key key.Op) after_level_unit
 unfolding g.operator_parts
 operator_parts_law =
     bind_same _ _ _ _ _ (keyword_law key.Op is_operator) (λ at.
@@ -247,20 +248,20 @@ operator_parts_law =
     bind_same _ _ _ _ _ (end_operator_law o) (λ _.
     pure_law _ after_level_unit))) (within (is_key key.End) ends_text refl)))))))
 
-operator_rule_law : (t : Option TypePhrase) → Laws (g.operator t) (is_key key.Op) after_level_unit
+operator_rule_law : (t : Option TypePhrase) → Full (g.operator t) (is_key key.Op) after_level_unit
 unfolding g.operator
 operator_rule_law t = bind_same _ _ _ _ _ operator_parts_law (λ p. pure_law _ after_level_unit)
 
-new_type_law : Laws g.new_type (is_key key.TypeWord) after_level_unit
+new_type_law : Full g.new_type (is_key key.TypeWord) after_level_unit
 unfolding g.new_type
 new_type_law =
     bind_same _ _ _ _ _ (keyword_law key.TypeWord is_bold) (λ at.
     bind_same _ _ _ _ _ (bold_law (is_sign sign.Equal)) (λ x.
     bind_same _ _ _ _ _ (mark_law sign.Equal any_type refl) (λ _.
-    bind_same _ _ _ _ _ (type_law 400 after_level_unit) (λ t.
+    bind_same _ _ _ _ _ (type_law 400 refl after_level_unit) (λ t.
     pure_law _ after_level_unit))))
 
-declared_unit_law : (t : TypePhrase) → Laws (g.declared_unit t) begins_declared after_level_unit
+declared_unit_law : (t : TypePhrase) → Full (g.declared_unit t) begins_declared after_level_unit
 unfolding g.declared_unit
 declared_unit_law t =
     bind_law _ _ _ _ after_level_unit after_level_unit (declared_law (phrases 400) 400 (phrases_law 400) t) (λ v.
@@ -275,13 +276,13 @@ after_type x = is_key key.Proc x || after_type2 x
 typed_unit_law : Laws g.typed_unit begins_typed after_level_unit
 unfolding g.typed_unit
 typed_unit_law =
-    bind_same _ _ _ _ _ (typed_law 400 after_type (within after_type declares refl)) (λ t.
-    choose_law (is_key key.Proc) _ _ (is_key key.Proc) after_type2 after_type after_level_unit (proc_law (Some t))
-    (choose_law (is_key key.Op) _ _ (is_key key.Op) begins_declared after_type2 after_level_unit (operator_rule_law (Some t)) (declared_unit_law t)
+    part_same _ _ _ _ _ (typed_law 400 after_type (within after_type declares refl)) (λ t.
+    choose_law (is_key key.Proc) _ _ (is_key key.Proc) after_type2 after_type after_level_unit (proc_law (Some t)).laws
+    (choose_law (is_key key.Op) _ _ (is_key key.Op) begins_declared after_type2 after_level_unit (operator_rule_law (Some t)).laws (declared_unit_law t)
     (λ y h. h) (apart begins_declared (is_key key.Op) refl) (within (is_key key.Op) after_type2 refl) (within begins_declared after_type2 refl))
     (λ y h. h) (apart after_type2 (is_key key.Proc) refl) (within (is_key key.Proc) after_type refl) (within after_type2 after_type refl))
 
-plain_unit_law : Laws g.plain_unit begins_plain after_level_unit
+plain_unit_law : Full g.plain_unit begins_plain after_level_unit
 unfolding g.plain_unit
 plain_unit_law =
     bind_law _ _ _ _ after_level_unit after_level_unit (plain_law (phrases 400) 400 (phrases_law 400)) (λ v.
@@ -299,33 +300,33 @@ level1 x = is_key key.TypeWord x || level2 x
 abbrev begins_level : Set
 begins_level x = begins_typed x || level1 x
 
-level_unit_law : Laws g.level_unit begins_level after_level_unit
+level_unit_law : Full g.level_unit begins_level after_level_unit
 unfolding g.level_unit
 level_unit_law =
     choose_law begins_typed _ _ begins_typed level1 begins_level after_level_unit typed_unit_law
-    (choose_law (is_key key.TypeWord) _ _ (is_key key.TypeWord) level2 level1 after_level_unit new_type_law
-    (choose_law (is_key key.Proc) _ _ (is_key key.Proc) level3 level2 after_level_unit (proc_law None)
-    (choose_law (is_key key.Op) _ _ (is_key key.Op) begins_plain level3 after_level_unit (operator_rule_law None) plain_unit_law
+    (choose_law (is_key key.TypeWord) _ _ (is_key key.TypeWord) level2 level1 after_level_unit new_type_law.laws
+    (choose_law (is_key key.Proc) _ _ (is_key key.Proc) level3 level2 after_level_unit (proc_law None).laws
+    (choose_law (is_key key.Op) _ _ (is_key key.Op) begins_plain level3 after_level_unit (operator_rule_law None).laws plain_unit_law
     (λ y h. h) (apart begins_plain (is_key key.Op) refl) (within (is_key key.Op) level3 refl) (within begins_plain level3 refl))
     (λ y h. h) (apart level3 (is_key key.Proc) refl) (within (is_key key.Proc) level2 refl) (within level3 level2 refl))
     (λ y h. h) (apart level2 (is_key key.TypeWord) refl) (within (is_key key.TypeWord) level1 refl) (within level2 level1 refl))
     (λ y h. h) (apart level1 begins_typed refl) (within begins_typed begins_level refl) (within level1 begins_level refl)
 
-level_units_law : Laws g.level_units begins_level after_body_units
+pub level_units_law : Full g.level_units begins_level after_body_units
 unfolding g.level_units
 level_units_law = listed_law (is_sign sign.Semicolon) _ _ (is_sign sign.Semicolon) begins_level after_level_unit after_body_units (mark_law sign.Semicolon begins_level refl) level_unit_law
     (λ x h. h) (within (is_sign sign.Semicolon) after_level_unit refl) (within after_body_units after_level_unit refl) (apart after_body_units (is_sign sign.Semicolon) refl) refl
 
-a_level_law : Laws g.a_level begins_level ends_text
+a_level_law : Full g.a_level begins_level ends_text
 unfolding g.a_level
 a_level_law =
     bind_same _ _ _ _ _ level_units_law (λ us.
-    bind_same _ _ _ _ _ (tail_law 400) (λ rs.
+    bind_same _ _ _ _ _ (tail_law 400 refl) (λ rs.
     pure_law _ ends_text))
 
 -- ---- texts
 
-program_law : Laws g.program begins_level is_nothing
+program_law : Full g.program begins_level is_nothing
 unfolding g.program
 program_law =
     bind_law _ _ _ _ is_nothing is_nothing a_level_law (λ l.
@@ -334,7 +335,7 @@ program_law =
 abbrev after_exports : Set
 after_exports x = is_comma x || is_colon x
 
-export_list_law : Laws g.export_list is_export is_colon
+export_list_law : Full g.export_list is_export is_colon
 unfolding g.export_list
 export_list_law = listed_law is_comma _ _ is_comma is_export after_exports is_colon (comma_law is_export) (export_law after_exports)
     (λ x h. h) (within is_comma after_exports refl) (within is_colon after_exports refl) (apart is_colon is_comma refl) refl
@@ -342,11 +343,11 @@ export_list_law = listed_law is_comma _ _ is_comma is_export after_exports is_co
 abbrev after_packet_name : Set
 after_packet_name x = is_key key.Defines x || is_colon x
 
-exports_law : Laws g.exports after_packet_name is_colon
+exports_law : Full g.exports after_packet_name is_colon
 unfolding g.exports
 exports_law =
     choose_law (is_key key.Defines) _ _ (is_key key.Defines) is_colon after_packet_name is_colon
-    (bind_same _ _ _ _ _ (keyword_law key.Defines is_export) (λ _. export_list_law)) (pure_law _ is_colon)
+    (bind_same _ _ _ _ _ (keyword_law key.Defines is_export) (λ _. export_list_law)).laws (pure_law _ is_colon)
     (λ y h. h) (apart is_colon (is_key key.Defines) refl) (within (is_key key.Defines) after_packet_name refl) (within is_colon after_packet_name refl)
 
 abbrev after_point : Set
@@ -355,18 +356,18 @@ after_point x = is_sign sign.Point x || is_nothing x
 abbrev last_marks : Set
 last_marks x = is_sign sign.Semicolon x || after_point x
 
-last_mark_law : Laws g.last_mark last_marks is_nothing
+last_mark_law : Full g.last_mark last_marks is_nothing
 unfolding g.last_mark
 last_mark_law =
     choose_law (is_sign sign.Semicolon) _ _ (is_sign sign.Semicolon) after_point last_marks is_nothing
-    (bind_same _ _ _ _ _ (mark_law sign.Semicolon is_nothing refl) (λ at. pure_law _ is_nothing))
+    (bind_same _ _ _ _ _ (mark_law sign.Semicolon is_nothing refl) (λ at. pure_law _ is_nothing)).laws
     (last_point_law is_nothing (apart is_nothing is_ident refl) (apart is_nothing (is_sign sign.Point) refl) after_point (within (is_sign sign.Point) after_point refl) (within is_nothing after_point refl))
     (λ x h. h) (apart after_point (is_sign sign.Semicolon) refl) (within (is_sign sign.Semicolon) last_marks refl) (within after_point last_marks refl)
 
 abbrev after_end_packet : Set
 after_end_packet x = is_ident x || last_marks x
 
-packet_law : Laws g.packet (is_key key.Packet) is_nothing
+packet_law : Full g.packet (is_key key.Packet) is_nothing
 unfolding g.packet
 packet_law =
     bind_same _ _ _ _ _ (keyword_law key.Packet is_ident) (λ at.
@@ -384,20 +385,20 @@ abbrev first_of_text : Bool → Set
 first_of_text true = is_key key.Packet
 first_of_text false = begins_level
 
-pub text_law : (p : Bool) → Laws (g.text p) (first_of_text p) is_nothing
+pub text_law : (p : Bool) → Full (text p) (first_of_text p) is_nothing
 text_law true = packet_law
 text_law false = program_law
 
 -- ---- A list of tokens has a tree exactly where the parser finds it and nothing is left.
 
-pub reads_is : (p : Bool) (tokens : Tokens) (t : Tree) → g.Reads p tokens t → (g.text p).run tokens ≡ Ok (t, [])
+pub reads_is : (p : Bool) (tokens : Tokens) (t : Tree) → Reads p tokens t → (text p).run tokens ≡ Ok (t, [])
 unfolding ahead
-reads_is p tokens t h = (text_law p).whole tokens [] t h.1 refl
+reads_is p tokens t h = (text_law p).laws.whole tokens [] t h.1 refl
 
-pub is_read : (p : Bool) (tokens : Tokens) (t : Tree) → tokens ≢ [] → (g.text p).run tokens ≡ Ok (t, []) → g.Reads p tokens t
-is_read p tokens t some e = (some, (text_law p).sound tokens [] t e)
+pub is_read : (p : Bool) (tokens : Tokens) (t : Tree) → tokens ≢ [] → (text p).run tokens ≡ Ok (t, []) → Reads p tokens t
+is_read p tokens t some e = (some, (text_law p).laws.sound tokens [] t e)
 
-pub one_tree : (p : Bool) (tokens : Tokens) (t u : Tree) → g.Reads p tokens t → g.Reads p tokens u → t ≡ u
+pub one_tree : (p : Bool) (tokens : Tokens) (t u : Tree) → Reads p tokens t → Reads p tokens u → t ≡ u
 one_tree p tokens t u h i = sym (same_value t u [] [] (sym (reads_is p tokens t h) ∙ reads_is p tokens u i)).0
 
 pub not_empty : (x : Token) (rest : Tokens) → x ∷ rest ≡ [] → ⊥
@@ -406,10 +407,10 @@ not_empty x rest h = cc
 more_left : (t u : Tree) (x : Token) (rest : Tokens) → done t (x ∷ rest) ≡ done u [] → ⊥
 more_left t u x rest h = not_empty x rest (same_value t u (x ∷ rest) [] h).1
 
-pub refused_run : (p : Bool) (tokens : Tokens) (e : ParseError) → (g.text p).run tokens ≡ Err e → (t : Tree) → g.Reads p tokens t → ⊥
+pub refused_run : (p : Bool) (tokens : Tokens) (e : ParseError) → (text p).run tokens ≡ Err e → (t : Tree) → Reads p tokens t → ⊥
 refused_run p tokens e h t r = let q = reads_is p tokens t r in cc
 
-pub some_left : (p : Bool) (tokens : Tokens) (t : Tree) (rest : Tokens) → (g.text p).run tokens ≡ Ok (t, rest) → (rest ≡ [] → ⊥) → (u : Tree) → g.Reads p tokens u → ⊥
+pub some_left : (p : Bool) (tokens : Tokens) (t : Tree) (rest : Tokens) → (text p).run tokens ≡ Ok (t, rest) → (rest ≡ [] → ⊥) → (u : Tree) → Reads p tokens u → ⊥
 some_left p tokens t [] h some u r = some refl
 some_left p tokens t (x ∷ rest) h some u r = more_left t u x rest (sym h ∙ reads_is p tokens u r)
 
@@ -418,24 +419,24 @@ some_left p tokens t (x ∷ rest) h some u r = more_left t u x rest (sym h ∙ r
 same_number : (n m : ℕ) → NotElan n ≡ NotElan m → n ≡ m
 same_number n m e = cc
 
-left_by_most : (p : Bool) (tokens : Tokens) (o : Outcome Tree) → (g.text p).run tokens ≡ o → left_by o ≤ length tokens
-left_by_most p tokens (Ok q) h = keeps (g.text p) (first_of_text p) is_nothing (text_law p) tokens q.1 q.0 ((text_law p).sound tokens q.1 q.0 h)
+left_by_most : (p : Bool) (tokens : Tokens) (o : Outcome Tree) → (text p).run tokens ≡ o → left_by o ≤ length tokens
+left_by_most p tokens (Ok q) h = keeps (text p) (first_of_text p) is_nothing (text_law p).laws tokens q.1 q.0 ((text_law p).laws.sound tokens q.1 q.0 h)
 left_by_most p tokens (Err (NotElan n)) h =
-    let s = (text_law p).stuck tokens (NotElan n) h in
+    let s = (text_law p).laws.stuck tokens (NotElan n) h in
     let e : n ≡ length s.rest = same_number n (length s.rest) s.place in
     omega (arith, e, ap length s.whole, length-append s.front s.rest)
 left_by_most p tokens (Err NoMemory) h = omega arith
 
 pub left_most : (p : Bool) (tokens : Tokens) → left p tokens ≤ length tokens
-left_most p tokens = left_by_most p tokens ((g.text p).run tokens) refl
+left_most p tokens = left_by_most p tokens ((text p).run tokens) refl
 
 pub left_empty : (p : Bool) (tokens : Tokens) → tokens ≡ [] → 0 ≡ left p tokens
 left_empty p tokens h = omega (arith, left_most p tokens, ap length h)
 
-pub left_err : (p : Bool) (tokens : Tokens) (n : ℕ) → (g.text p).run tokens ≡ Err (NotElan n) → n ≡ left p tokens
+pub left_err : (p : Bool) (tokens : Tokens) (n : ℕ) → (text p).run tokens ≡ Err (NotElan n) → n ≡ left p tokens
 left_err p tokens n h = rw h refl
 
-pub left_ok : (p : Bool) (tokens : Tokens) (t : Tree) (rest : Tokens) → (g.text p).run tokens ≡ Ok (t, rest) → length rest ≡ left p tokens
+pub left_ok : (p : Bool) (tokens : Tokens) (t : Tree) (rest : Tokens) → (text p).run tokens ≡ Ok (t, rest) → length rest ≡ left p tokens
 left_ok p tokens t rest h = rw h refl
 
 pub no_tokens : (p : Bool) (tokens : Tokens) (n : ℕ) → tokens ≡ [] → failed {X = Tree} (NotElan 0) ≡ failed {X = Tree} (NotElan n) → n ≡ left p tokens

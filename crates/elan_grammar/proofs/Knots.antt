@@ -12,7 +12,7 @@ pub types_zero : (d : ℕ) (xs : Tokens) → d ≡ 0 → (types d).run xs ≡ Er
 unfolding types
 types_zero d xs h = rw h refl
 
-pub types_more : (d j : ℕ) (xs : Tokens) → d ≡ suc j → (types d).run xs ≡ (a_type (types j)).run xs
+pub types_more : (d j : ℕ) (xs : Tokens) → d ≡ suc j → (types d).run xs ≡ (a_type (types j) j).run xs
 unfolding types
 types_more d j xs h = rw h refl
 

@@ -24,12 +24,19 @@ pub record Splits {A : Type 0} (r : Rule A) (xs ys : Tokens) (a : A) : Type 0 wh
   pub whole : xs ≡ front ++ ys
   pub free : (zs : Tokens) → r.reads a (front ++ zs) zs
 
--- where the parser is stuck
-pub record Stuck (xs : Tokens) (e : ParseError) : Type 0 where
+-- These tokens go on to a reading, whatever comes after it.
+pub record Completes {A : Type 0} (r : Rule A) (front : Tokens) : Type 0 where
+  pub more : Tokens
+  pub value : A
+  pub reads : (zs : Tokens) → r.reads value (front ++ (more ++ zs)) zs
+
+-- Where the parser is stuck: what it read goes on to a reading. Of a rule that reads nothing yet this is not said: a depth may be missing.
+pub record Stuck {A : Type 0} (r : Rule A) (xs : Tokens) (e : ParseError) : Type 0 where
   pub front : Tokens
   pub rest : Tokens
   pub whole : xs ≡ front ++ rest
   pub place : e ≡ refusal rest
+  pub viable : 0 < length front → Completes r front
 
 pub record Laws {A : Type 0} (r : Rule A) (first stop : Kind → Bool) : Type 0 where
   -- the parser reads what the rule reads, where the token after it is one that may follow
@@ -38,10 +45,41 @@ pub record Laws {A : Type 0} (r : Rule A) (first stop : Kind → Bool) : Type 0 
   pub starts : (xs ys : Tokens) (a : A) → r.reads a xs ys → stop (ahead ys) ≡ true → first (ahead xs) ≡ true
   pub splits : (xs ys : Tokens) (a : A) → r.reads a xs ys → Splits r xs ys a
   -- the parser names the place where it is stuck
-  pub stuck : (xs : Tokens) (e : ParseError) → r.run xs ≡ Err e → Stuck xs e
+  pub stuck : (xs : Tokens) (e : ParseError) → r.run xs ≡ Err e → Stuck r xs e
   -- what comes behind the place where the parser stops doesn't matter to it
   pub reads_on : (front us vs : Tokens) (a : A) → r.run (front ++ us) ≡ Ok (a, us) → LooksSame front us vs → r.run (front ++ vs) ≡ Ok (a, vs)
   pub stops : (front us vs : Tokens) (t : Token) → r.run (front ++ (t ∷ us)) ≡ Err (refusal (t ∷ us)) → LooksSame front (t ∷ us) (t ∷ vs) → r.run (front ++ (t ∷ vs)) ≡ Err (refusal (t ∷ vs))
+
+-- the laws of a rule that reads something
+pub record Full {A : Type 0} (r : Rule A) (first stop : Kind → Bool) : Type 0 where
+  pub laws : Laws r first stop
+  pub sample : Completes r []
+
+pub some_or_none : (xs : Tokens) → (xs ≡ []) ⊎ (0 < length xs)
+some_or_none [] = inl refl
+some_or_none (x ∷ xs) = inr (omega arith)
+
+-- where nothing was read
+abbrev pub stuck_here : {A : Type 0} (r : Rule A) (xs : Tokens) (e : ParseError) → e ≡ refusal xs → Stuck r xs e
+stuck_here r xs e h = record { front = []; rest = xs; whole = refl; place = h; viable = λ some. absurd (omega arith) }
+
+-- What r completes to, and a reading of what follows.
+pub bind_completes : {A B : Type 0} (r : Rule A) (f : A → Rule B) (front : Tokens) → Completes r front → ((a : A) → Completes (f a) []) → Completes (r >>= f) front
+bind_completes r f front c sf =
+    let s = sf c.value in
+    record {
+      more = c.more ++ s.more;
+      value = s.value;
+      reads = λ zs. (c.value, s.more ++ zs, subst (λ (z : Tokens). r.reads c.value z (s.more ++ zs)) (ap (λ (z : Tokens). front ++ z) (sym (append_assoc c.more s.more zs))) (c.reads (s.more ++ zs)), s.reads zs);
+    }
+
+-- What r read, and what completes the rest.
+pub after_completes : {A B : Type 0} (r : Rule A) (f : A → Rule B) (first front : Tokens) (a : A) → ((zs : Tokens) → r.reads a (first ++ zs) zs) → Completes (f a) front → Completes (r >>= f) (first ++ front)
+after_completes r f first front a free c = record {
+  more = c.more;
+  value = c.value;
+  reads = λ zs. (a, front ++ (c.more ++ zs), subst (λ (z : Tokens). r.reads a z (front ++ (c.more ++ zs))) (sym (append_assoc first front (c.more ++ zs))) (free (front ++ (c.more ++ zs))), c.reads zs);
+}
 
 -- ---- outcomes
 
@@ -117,8 +155,8 @@ stays_on r a now front us vs b e =
     let p = same_value a b (front ++ us) us (sym (now (front ++ us)) ∙ e) in
     rw (no_front front us p.1, p.0) (now vs)
 
-pub pure_law : {A : Type 0} (a : A) (p : Set) → Laws (pure a) p p
-pure_law a p = record {
+pure_laws : {A : Type 0} (a : A) (p : Set) → Laws (pure a) p p
+pure_laws a p = record {
   sound = λ xs ys b e. same_value a b xs ys e;
   whole = λ xs ys b h s. cc (h.0, h.1);
   starts = λ xs ys b h s. subst (λ (z : Tokens). p (ahead z) ≡ true) (sym h.1) s;
@@ -127,6 +165,9 @@ pure_law a p = record {
   reads_on = λ front us vs b e h. stays_on (pure a) a (λ xs. refl) front us vs b e;
   stops = λ front us vs t e h. absurd cc;
 }
+
+pub pure_law : {A : Type 0} (a : A) (p : Set) → Full (pure a) p p
+pure_law a p = record { laws = pure_laws a p; sample = record { more = []; value = a; reads = λ zs. (refl, refl) } }
 
 refuses_on : {A : Type 0} (r : Rule A) → ((xs : Tokens) → r.run xs ≡ Err (refusal xs)) → (front us vs : Tokens) (t : Token) → r.run (front ++ (t ∷ us)) ≡ Err (refusal (t ∷ us)) → r.run (front ++ (t ∷ vs)) ≡ Err (refusal (t ∷ vs))
 refuses_on r now front us vs t e =
@@ -142,7 +183,7 @@ fail_law {A = A} first stop = record {
   whole = λ xs ys a h s. absurd h;
   starts = λ xs ys a h s. absurd h;
   splits = λ xs ys a h. absurd h;
-  stuck = λ xs e h. record { front = []; rest = xs; whole = refl; place = sym (left_is (refusal xs) e h) };
+  stuck = λ xs e h. stuck_here fail xs e (sym (left_is (refusal xs) e h));
   reads_on = λ front us vs a e h. absurd (refuses_ok (front ++ us) us a e);
   stops = λ front us vs t e h. refuses_on (fail {A = A}) (λ xs. refl) front us vs t e;
 }
@@ -151,9 +192,9 @@ only_sound : (c : Bool) (xs ys : Tokens) (u : Unit {0}) → (only c).run xs ≡ 
 only_sound true xs ys u e = (refl, (same_value u u xs ys e).1)
 only_sound false xs ys u e = absurd cc
 
-only_stuck : (c : Bool) (xs : Tokens) (e : ParseError) → (only c).run xs ≡ Err e → Stuck xs e
+only_stuck : (c : Bool) (xs : Tokens) (e : ParseError) → (only c).run xs ≡ Err e → Stuck (only c) xs e
 only_stuck true xs e h = absurd cc
-only_stuck false xs e h = record { front = []; rest = xs; whole = refl; place = sym (left_is (refusal xs) e h) }
+only_stuck false xs e h = stuck_here (only false) xs e (sym (left_is (refusal xs) e h))
 
 only_on : (c : Bool) (front us vs : Tokens) (u : Unit {0}) → (only c).run (front ++ us) ≡ Ok (u, us) → (only c).run (front ++ vs) ≡ Ok (u, vs)
 only_on true front us vs u e = stays_on (only true) tt (λ xs. refl) front us vs u e
@@ -222,10 +263,14 @@ terminal_law f first stop begins = record {
   whole = λ xs ys a h s. rw (h.1, h.2) refl;
   starts = λ xs ys a h s. rw h.1 (begins h.0 ys a h.2 s);
   splits = λ xs ys a h. record { front = h.0 ∷ []; whole = h.1; free = λ zs. (h.0, refl, h.2) };
-  stuck = λ xs e h. record { front = []; rest = xs; whole = refl; place = terminal_place f xs e h };
+  stuck = λ xs e h. stuck_here (terminal f) xs e (terminal_place f xs e h);
   reads_on = λ front us vs a e h. terminal_on f front us vs a e;
   stops = λ front us vs t e h. terminal_stops f front us vs t e;
 }
+
+-- a token that the rule takes
+pub taking : {A : Type 0} (f : Token → Option A) (t : Token) (a : A) → f t ≡ Some a → Completes (terminal f) []
+taking f t a h = record { more = t ∷ []; value = a; reads = λ zs. (t, refl, h) }
 
 pub terminal_eats : {A : Type 0} (f : Token → Option A) (xs ys : Tokens) (a : A) → (terminal f).reads a xs ys → length ys < length xs
 terminal_eats f xs ys a h = omega (arith, ap length h.1)
@@ -261,22 +306,33 @@ first_part r first stop l front second us vs mid a run is h =
     (ap (λ (z : Tokens). r.run z) (ap (λ (z : Tokens). z ++ vs) eq ∙ append_assoc s.front second vs) ∙ there, same_second s.front second us vs k)
 
 -- The place where the second part is stuck lies behind the first part.
-pub place_behind : {A : Type 0} (r : Rule A) (first stop : Set) → Laws r first stop → (front us mid : Tokens) (a : A) → r.run (front ++ us) ≡ Ok (a, mid) → Stuck mid (refusal us) → (second : Tokens) × (mid ≡ second ++ us)
-place_behind r first stop l front us mid a run q =
+pub place_behind : {A B : Type 0} (r : Rule A) (q : Rule B) (first stop : Set) → Laws r first stop → (front us mid : Tokens) (a : A) → r.run (front ++ us) ≡ Ok (a, mid) → Stuck q mid (refusal us) → (second : Tokens) × (mid ≡ second ++ us)
+place_behind r other first stop l front us mid a run q =
     let s = l.splits (front ++ us) mid a (l.sound (front ++ us) mid a run) in
     let whole : front ++ us ≡ (s.front ++ q.front) ++ q.rest = s.whole ∙ ap (λ (z : Tokens). s.front ++ z) q.whole ∙ sym (append_assoc s.front q.front q.rest) in
     let rest : us ≡ q.rest = same_end front (s.front ++ q.front) us q.rest whole (refused_length us q.rest q.place) in
     (q.front, q.whole ∙ ap (λ (z : Tokens). q.front ++ z) (sym rest))
 
 module _ {A B : Type 0} (r : Rule A) (f : A → Rule B) (r1 r2 f1 f2 : Set) (lr : Laws r r1 r2) (lf : (a : A) → Laws (f a) f1 f2) where
-  bind_stuck : (xs : Tokens) (e : ParseError) → (r >>= f).run xs ≡ Err e → Stuck xs e
-  bind_stuck xs e h = elim (and_then_err (r.run xs) (λ a zs. (f a).run zs) e h) [
-    | inl x ↦ lr.stuck xs e x
+  bind_stuck : ((a : A) → Completes (f a) []) → (xs : Tokens) (e : ParseError) → (r >>= f).run xs ≡ Err e → Stuck (r >>= f) xs e
+  bind_stuck sf xs e h = elim (and_then_err (r.run xs) (λ a zs. (f a).run zs) e h) [
+    | inl x ↦
+        let s = lr.stuck xs e x in
+        record { front = s.front; rest = s.rest; whole = s.whole; place = s.place; viable = λ some. bind_completes r f s.front (s.viable some) sf }
     | inr x ↦
         let a = x.0.0 in
         let p = lr.splits xs x.0.1 a (lr.sound xs x.0.1 a x.1) in
         let s = (lf a).stuck x.0.1 e x.2 in
-        record { front = p.front ++ s.front; rest = s.rest; whole = p.whole ∙ ap (λ (z : Tokens). p.front ++ z) s.whole ∙ sym (append_assoc p.front s.front s.rest); place = s.place }
+        record {
+          front = p.front ++ s.front;
+          rest = s.rest;
+          whole = p.whole ∙ ap (λ (z : Tokens). p.front ++ z) s.whole ∙ sym (append_assoc p.front s.front s.rest);
+          place = s.place;
+          viable = λ some. after_completes r f p.front s.front a p.free (elim (some_or_none s.front) [
+            | inl none ↦ subst (λ (z : Tokens). Completes (f a) z) (sym none) (sf a)
+            | inr more ↦ s.viable more
+          ]);
+        }
   ]
 
   bind_reads_on : (front us vs : Tokens) (b : B) → (r >>= f).run (front ++ us) ≡ Ok (b, us) → LooksSame front us vs → (r >>= f).run (front ++ vs) ≡ Ok (b, vs)
@@ -296,14 +352,14 @@ module _ {A B : Type 0} (r : Rule A) (f : A → Rule B) (r1 r2 f1 f2 : Set) (lr 
         | inr x ↦
             let a = x.0.0 in
             let mid = x.0.1 in
-            let q = place_behind r r1 r2 lr front (t ∷ us) mid a x.1 ((lf a).stuck mid (refusal (t ∷ us)) x.2) in
+            let q = place_behind r (f a) r1 r2 lr front (t ∷ us) mid a x.1 ((lf a).stuck mid (refusal (t ∷ us)) x.2) in
             let p = first_part r r1 r2 lr front q.0 (t ∷ us) (t ∷ vs) mid a x.1 q.1 h in
             let later = (lf a).stops q.0 us vs t (ap (λ (z : Tokens). (f a).run z) (sym q.1) ∙ x.2) p.1 in
             rw p.0 later
       ]
 
-  pub bind_law : Within f1 r2 → Laws (r >>= f) r1 f2
-  bind_law w = record {
+  pub bind_by : ((xs : Tokens) (e : ParseError) → (r >>= f).run xs ≡ Err e → Stuck (r >>= f) xs e) → Within f1 r2 → Laws (r >>= f) r1 f2
+  bind_by stuck w = record {
     sound = λ xs ys b e.
         let o = and_then_ok (r.run xs) (λ a zs. (f a).run zs) (b, ys) e in
         (o.0.0, o.0.1, lr.sound xs o.0.1 o.0.0 o.1, (lf o.0.0).sound o.0.1 ys b o.2);
@@ -312,10 +368,46 @@ module _ {A B : Type 0} (r : Rule A) (f : A → Rule B) (r1 r2 f1 f2 : Set) (lr 
         rw first ((lf h.0).whole h.1 ys b h.3 s);
     starts = λ xs ys b h s. lr.starts xs h.1 h.0 h.2 (w (ahead h.1) ((lf h.0).starts h.1 ys b h.3 s));
     splits = λ xs ys b h. bind_splits r f xs ys b lr.splits (λ a. (lf a).splits) h;
-    stuck = bind_stuck;
+    stuck = stuck;
     reads_on = bind_reads_on;
     stops = bind_stops;
   }
+
+-- a rule and one that reads something behind it
+pub bind_part : {A B : Type 0} (r : Rule A) (f : A → Rule B) (r1 r2 f1 f2 : Set) → Laws r r1 r2 → ((a : A) → Full (f a) f1 f2) → Within f1 r2 → Laws (r >>= f) r1 f2
+bind_part r f r1 r2 f1 f2 lr lf w = bind_by r f r1 r2 f1 f2 lr (λ a. (lf a).laws) (bind_stuck r f r1 r2 f1 f2 lr (λ a. (lf a).laws) (λ a. (lf a).sample)) w
+
+pub bind_law : {A B : Type 0} (r : Rule A) (f : A → Rule B) (r1 r2 f1 f2 : Set) → Full r r1 r2 → ((a : A) → Full (f a) f1 f2) → Within f1 r2 → Full (r >>= f) r1 f2
+bind_law r f r1 r2 f1 f2 lr lf w = record { laws = bind_part r f r1 r2 f1 f2 lr.laws lf w; sample = bind_completes r f [] lr.sample (λ a. (lf a).sample) }
+
+-- A guard is asked before any token is read, so what follows may rest on it.
+guarded_stuck : {B : Type 0} (r : Rule B) (first stop : Set) → Laws r first stop → (xs : Tokens) (e : ParseError) → (only true >>= (λ _. r)).run xs ≡ Err e → Stuck (only true >>= (λ _. r)) xs e
+guarded_stuck r first stop l xs e h =
+    let s = l.stuck xs e h in
+    record {
+      front = s.front;
+      rest = s.rest;
+      whole = s.whole;
+      place = s.place;
+      viable = λ some.
+          let c = s.viable some in
+          record { more = c.more; value = c.value; reads = λ zs. (tt, s.front ++ (c.more ++ zs), (refl, refl), c.reads zs) };
+    }
+
+pub no_guard : {X : Type 0} → false ≡ true → X
+no_guard e = absurd cc
+
+pub guard_law : {B : Type 0} (c : Bool) (r : Rule B) (first stop : Set) → (c ≡ true → Laws r first stop) → Laws (only c >>= (λ _. r)) first stop
+guard_law true r first stop l = bind_by (only true) (λ _. r) first first first stop (only_law true first) (λ _. l refl) (guarded_stuck r first stop (l refl)) (λ x h. h)
+guard_law false r first stop l = record {
+  sound = λ xs ys b e. absurd (refuses_ok xs ys b e);
+  whole = λ xs ys b h s. no_guard h.2.0;
+  starts = λ xs ys b h s. no_guard h.2.0;
+  splits = λ xs ys b h. no_guard h.2.0;
+  stuck = λ xs e h. stuck_here (only false >>= (λ _. r)) xs e (sym (left_is (refusal xs) e h));
+  reads_on = λ front us vs b e h. absurd (refuses_ok (front ++ us) us b e);
+  stops = λ front us vs t e h. refuses_on (only false >>= (λ _. r)) (λ xs. refl) front us vs t e;
+}
 
 -- ---- one or the other
 
@@ -325,9 +417,15 @@ on_test false false x y u v z w e f g h = g h
 on_test true false x y u v z w e f g h = absurd cc
 on_test false true x y u v z w e f g h = absurd cc
 
-pub choose_law : {A : Type 0} (b : Set) (r s : Rule A) (r1 s1 first stop : Set) → Laws r r1 stop → Laws s s1 stop
+first_completes : {A : Type 0} (b : Set) (r s : Rule A) (front : Tokens) → Completes r front → Completes (choose b r s) front
+first_completes b r s front c = record { more = c.more; value = c.value; reads = λ zs. inl (c.reads zs) }
+
+second_completes : {A : Type 0} (b : Set) (r s : Rule A) (front : Tokens) → Completes s front → Completes (choose b r s) front
+second_completes b r s front c = record { more = c.more; value = c.value; reads = λ zs. inr (c.reads zs) }
+
+pub choose_part : {A : Type 0} (b : Set) (r s : Rule A) (r1 s1 first stop : Set) → Laws r r1 stop → Laws s s1 stop
     → Within r1 b → Apart s1 b → Within r1 first → Within s1 first → Laws (choose b r s) first stop
-choose_law b r s r1 s1 first stop lr ls wr ws fr fs = record {
+choose_part b r s r1 s1 first stop lr ls wr ws fr fs = record {
   sound = λ xs ys a e. elim (chosen (b (ahead xs)) (r.run xs) (s.run xs) (Ok (a, ys)) e) [
     | inl h ↦ inl (lr.sound xs ys a h.1)
     | inr h ↦ inr (ls.sound xs ys a h.1)
@@ -345,11 +443,25 @@ choose_law b r s r1 s1 first stop lr ls wr ws fr fs = record {
     | inr x ↦ let p = ls.splits xs ys a x in record { front = p.front; whole = p.whole; free = λ zs. inr (p.free zs) }
   ];
   stuck = λ xs e h. elim (chosen (b (ahead xs)) (r.run xs) (s.run xs) (Err e) h) [
-    | inl x ↦ lr.stuck xs e x.1
-    | inr x ↦ ls.stuck xs e x.1
+    | inl x ↦
+        let p = lr.stuck xs e x.1 in
+        record { front = p.front; rest = p.rest; whole = p.whole; place = p.place; viable = λ some. first_completes b r s p.front (p.viable some) }
+    | inr x ↦
+        let p = ls.stuck xs e x.1 in
+        record { front = p.front; rest = p.rest; whole = p.whole; place = p.place; viable = λ some. second_completes b r s p.front (p.viable some) }
   ];
   reads_on = λ front us vs a e h. on_test (b (ahead (front ++ us))) (b (ahead (front ++ vs))) (r.run (front ++ us)) (s.run (front ++ us)) (r.run (front ++ vs)) (s.run (front ++ vs)) (Ok (a, us)) (Ok (a, vs))
       (ap b (same_here front us vs h)) (λ x. lr.reads_on front us vs a x h) (λ x. ls.reads_on front us vs a x h) e;
   stops = λ front us vs t e h. on_test (b (ahead (front ++ (t ∷ us)))) (b (ahead (front ++ (t ∷ vs)))) (r.run (front ++ (t ∷ us))) (s.run (front ++ (t ∷ us))) (r.run (front ++ (t ∷ vs))) (s.run (front ++ (t ∷ vs))) (Err (refusal (t ∷ us))) (Err (refusal (t ∷ vs)))
       (ap b (same_here front (t ∷ us) (t ∷ vs) h)) (λ x. lr.stops front us vs t x h) (λ x. ls.stops front us vs t x h) e;
 }
+
+-- Where the second reads something, so does the choice.
+pub choose_law : {A : Type 0} (b : Set) (r s : Rule A) (r1 s1 first stop : Set) → Laws r r1 stop → Full s s1 stop
+    → Within r1 b → Apart s1 b → Within r1 first → Within s1 first → Full (choose b r s) first stop
+choose_law b r s r1 s1 first stop lr ls wr ws fr fs = record { laws = choose_part b r s r1 s1 first stop lr ls.laws wr ws fr fs; sample = second_completes b r s [] ls.sample }
+
+-- the same where the first does
+pub choose_first : {A : Type 0} (b : Set) (r s : Rule A) (r1 s1 first stop : Set) → Full r r1 stop → Laws s s1 stop
+    → Within r1 b → Apart s1 b → Within r1 first → Within s1 first → Full (choose b r s) first stop
+choose_first b r s r1 s1 first stop lr ls wr ws fr fs = record { laws = choose_part b r s r1 s1 first stop lr.laws ls wr ws fr fs; sample = first_completes b r s [] lr.sample }

@@ -7,7 +7,7 @@ use Rattle.elan_grammar.specs.declared.error.ParseError.{ParseError}
 use Rattle.elan_grammar.specs.Kinds.{ahead}
 use Rattle.elan_grammar.specs.Looks.{LooksSame}
 use Rattle.elan_grammar.specs.Rule.{Tokens, and_then, refusal, Rule, steps, steps_run, iterate}
-use Rattle.elan_grammar.proofs.Laws.{Set, Within, Apart, Laws, Stuck, same_here, same_value, and_then_ok, and_then_err, chosen, no_front, first_part, place_behind}
+use Rattle.elan_grammar.proofs.Laws.{Set, Within, Apart, Laws, Full, Completes, Stuck, some_or_none, same_here, same_value, and_then_ok, and_then_err, chosen, no_front, first_part, place_behind}
 
 empty_by : (xs : Tokens) → length xs ≤ 0 → xs ≡ []
 empty_by [] e = refl
@@ -62,17 +62,45 @@ module _ {S : Type 0} (body : S → Rule S) (b b1 b2 stop : Set) (laws : (s : S)
         λ zs. (h.0, q.0 ++ zs, subst (λ (z : Tokens). (body s).reads h.0 z (q.0 ++ zs)) (sym (append_assoc p.front q.0 zs)) (p.free (q.0 ++ zs)), q.2 zs),
       )
 
-  steps_stuck : (n : ℕ) (s : S) (xs : Tokens) (e : ParseError) → steps_run body b n s xs ≡ Err e → Stuck xs e
+  -- a step that goes on to a reading is the last
+  last_step : (s : S) (front : Tokens) → Completes (body s) front → Completes (iterate body b s) front
+  last_step s front c = record { more = c.more; value = c.value; reads = λ zs. (1, (c.value, zs, c.reads zs, (refl, refl))) }
+
+  -- a step that was read, and what completes the rest
+  next_step : (s t : S) (first front : Tokens) → ((zs : Tokens) → (body s).reads t (first ++ zs) zs) → Completes (iterate body b t) front → Completes (iterate body b s) (first ++ front)
+  next_step s t first front free c = record {
+    more = c.more;
+    value = c.value;
+    reads = λ zs.
+        let later = c.reads zs in
+        (suc later.0, (t, front ++ (c.more ++ zs), subst (λ (z : Tokens). (body s).reads t z (front ++ (c.more ++ zs))) (sym (append_assoc first front (c.more ++ zs))) (free (front ++ (c.more ++ zs))), later.1));
+  }
+
+  pub no_step : (s : S) → Completes (iterate body b s) []
+  no_step s = record { more = []; value = s; reads = λ zs. (0, (refl, refl)) }
+
+  steps_stuck : (n : ℕ) (s : S) (xs : Tokens) (e : ParseError) → steps_run body b n s xs ≡ Err e → Stuck (iterate body b s) xs e
   steps_stuck zero s xs e h = absurd cc
   steps_stuck (suc n) s xs e h =
       elim (chosen (b (ahead xs)) (and_then ((body s).run xs) (steps_run body b n)) (Ok (s, xs)) (Err e) h) [
         | inl w ↦ elim (and_then_err ((body s).run xs) (steps_run body b n) e w.1) [
-          | inl x ↦ (laws s).stuck xs e x
+          | inl x ↦
+              let p = (laws s).stuck xs e x in
+              record { front = p.front; rest = p.rest; whole = p.whole; place = p.place; viable = λ some. last_step s p.front (p.viable some) }
           | inr x ↦
               let t = x.0.0 in
               let p = (laws s).splits xs x.0.1 t ((laws s).sound xs x.0.1 t x.1) in
               let q = steps_stuck n t x.0.1 e x.2 in
-              record { front = p.front ++ q.front; rest = q.rest; whole = p.whole ∙ ap (λ (z : Tokens). p.front ++ z) q.whole ∙ sym (append_assoc p.front q.front q.rest); place = q.place }
+              record {
+                front = p.front ++ q.front;
+                rest = q.rest;
+                whole = p.whole ∙ ap (λ (z : Tokens). p.front ++ z) q.whole ∙ sym (append_assoc p.front q.front q.rest);
+                place = q.place;
+                viable = λ some. next_step s t p.front q.front p.free (elim (some_or_none q.front) [
+                  | inl none ↦ subst (λ (z : Tokens). Completes (iterate body b t) z) (sym none) (no_step t)
+                  | inr more ↦ q.viable more
+                ]);
+              }
         ]
         | inr w ↦ absurd cc
       ]
@@ -134,7 +162,7 @@ module _ {S : Type 0} (body : S → Rule S) (b b1 b2 stop : Set) (laws : (s : S)
         | inr x ↦
             let t = x.0.0 in
             let mid = x.0.1 in
-            let q = place_behind (body s) b1 b2 (laws s) front (u ∷ us) mid t x.1 (steps_stuck n t mid (refusal (u ∷ us)) x.2) in
+            let q = place_behind (body s) (iterate body b t) b1 b2 (laws s) front (u ∷ us) mid t x.1 (steps_stuck n t mid (refusal (u ∷ us)) x.2) in
             let p = first_part (body s) b1 b2 (laws s) front q.0 (u ∷ us) (u ∷ vs) mid t x.1 q.1 w in
             let fewer : length (q.0 ++ (u ∷ vs)) < length (front ++ (u ∷ vs)) = shrinks s t (front ++ (u ∷ vs)) (q.0 ++ (u ∷ vs)) p.0 in
             let later = more t q.0 (ap (λ (z : Tokens). steps_run body b n t z) (sym q.1) ∙ x.2) p.1 (omega arith) in
@@ -151,8 +179,8 @@ module _ {S : Type 0} (body : S → Rule S) (b b1 b2 stop : Set) (laws : (s : S)
         | inr x ↦ absurd cc
       ]
 
-  pub iterate_law : (s : S) (first : Set) → Within b1 first → Within stop first → Laws (iterate body b s) first stop
-  iterate_law s first w v = record {
+  iterate_laws : (s : S) (first : Set) → Within b1 first → Within stop first → Laws (iterate body b s) first stop
+  iterate_laws s first w v = record {
     sound = λ xs ys e h. steps_sound (length xs) s e xs ys h;
     whole = λ xs ys e h t. steps_whole h.0 (length xs) s e xs ys h.1 t (omega arith);
     starts = λ xs ys e h t. steps_start first w v h.0 s e xs ys h.1 t;
@@ -161,3 +189,6 @@ module _ {S : Type 0} (body : S → Rule S) (b b1 b2 stop : Set) (laws : (s : S)
     reads_on = λ front us vs e h w. steps_on (length (front ++ us)) (length (front ++ vs)) s e front us vs h w (omega arith) (omega arith);
     stops = λ front us vs t h w. steps_stop (length (front ++ (t ∷ us))) (length (front ++ (t ∷ vs))) s front us vs t h w (omega arith);
   }
+
+  pub iterate_law : (s : S) (first : Set) → Within b1 first → Within stop first → Full (iterate body b s) first stop
+  iterate_law s first w v = record { laws = iterate_laws s first w v; sample = no_step s }

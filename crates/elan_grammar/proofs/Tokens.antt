@@ -1,7 +1,8 @@
 -- What holds of the rules of one token.
 use Rattle.std.proofs.Common.{◌≡◌, ℕ, ◌<◌, Bool, true, false, cond, List, Option, Some, None, refl, sym, ◌∙◌, arith}
-use Rattle.std.specs.Prelude.{not, ◌==◌, ◌&&◌, ℤ}
+use Rattle.std.specs.Prelude.{not, ◌==◌, ◌&&◌, ℤ, neg_ℤ, pos, []}
 use Rattle.std.proofs.lemmas.Bool.{eqb-true}
+use Rattle.std.proofs.lemmas.Bool.Decides.{nat_tests}
 use Rattle.elan_tree.specs.declared.token.Token.{Token}
 use Rattle.elan_tree.specs.declared.token.Word.{Word}
 use Rattle.elan_tree.specs.declared.token.Word.TheVariants as w
@@ -11,11 +12,17 @@ use Rattle.elan_tree.specs.declared.token.Sign.{Sign}
 use Rattle.elan_tree.specs.declared.token.Sign.TheVariants as sign
 use Rattle.elan_tree.specs.declared.written_type.Name.{Name}
 use Rattle.elan_tree.specs.declared.written_type.TypePhrase.{TypePhrase}
+use Rattle.elan_tree.specs.declared.written_type.TypePhrase.TheVariants as ty
 use Rattle.elan_tree.specs.declared.written_type.Size.{Size}
+use Rattle.elan_tree.specs.declared.written_type.Size.TheVariants as size
 use Rattle.elan_tree.specs.declared.written_type.Access.{Access}
+use Rattle.elan_tree.specs.declared.written_type.Access.TheVariants as access
 use Rattle.elan_tree.specs.declared.written_type.Constant.{Constant}
+use Rattle.elan_tree.specs.declared.written_type.Constant.TheVariants as constant
 use Rattle.elan_tree.specs.declared.written_type.Label.{Label}
+use Rattle.elan_tree.specs.declared.written_type.Label.TheVariants as label
 use Rattle.elan_tree.specs.declared.phrase.Expr.{Expr}
+use Rattle.elan_tree.specs.declared.phrase.Expr.TheVariants as e
 use Rattle.elan_tree.specs.declared.phrase.Operator.{Operator}
 use Rattle.elan_tree.specs.declared.phrase.Operator.TheVariants as op
 use Rattle.elan_tree.specs.declared.tree.OperatorName.{OperatorName}
@@ -25,10 +32,10 @@ use Rattle.elan_grammar.specs.declared.kind.Tier.{Tier}
 use Rattle.elan_grammar.specs.declared.kind.Kind.TheVariants as k
 use Rattle.elan_grammar.specs.declared.joint.Joint.{Joint}
 use Rattle.elan_grammar.specs.declared.joint.Joint.TheVariants as joint
-use Rattle.elan_grammar.specs.Kinds.{ahead, kind, second, kind_of, is_key, is_sign, is_ident, is_number, is_bold, is_comma, goes_on, is_point, leads, is_init, is_rep, is_symbol, is_operator, is_literal, begins, is_level, loose, tier_of, tier_level, same_sign}
+use Rattle.elan_grammar.specs.Kinds.{ahead, kind, second, kind_of, is_key, is_sign, is_ident, is_number, is_bold, is_comma, goes_on, is_point, leads, is_init, is_rep, is_symbol, is_operator, is_literal, begins, is_level, loose, tier_of, tier_level, key_number, sign_number, same_sign}
 use Rattle.elan_grammar.specs.Rule.{terminal}
 use Rattle.elan_grammar.specs.Terminals as terminals
-use Rattle.elan_grammar.proofs.Laws.{Set, Within, Apart, Laws, bind_law, terminal_law}
+use Rattle.elan_grammar.proofs.Laws.{Set, Within, Apart, Laws, Full, Completes, taking, bind_law, terminal_law}
 use Rattle.elan_grammar.proofs.Every.{every, implies, apart}
 use Rattle.elan_grammar.proofs.Seen.{is_special, is_mark, is_type_name, declares, ahead-is, stays, ident_ahead, declares_ahead, ahead-point, pointed, leading, alone, ahead-comma, commaed, going_on, parting, type_named, ahead-plain}
 
@@ -46,55 +53,73 @@ plain_law f first stop shows apart = terminal_law f first stop (λ t ts a h s.
 loose_law : {A : Type 0} (f : Token → Option A) (first stop : Set) → ((t : Token) (a : A) → f t ≡ Some a → first (kind_of t.what) ≡ true) → ((r : Tier) → first (k.Bold r) ≡ true → first (k.TypeName r) ≡ true) → Apart first is_mark → Laws (terminal f) first stop
 loose_law f first stop shows same apart = terminal_law f first stop (λ t ts a h s. stays first same apart t ts (shows t a h))
 
+-- ---- rules of one token read something
+
+-- a token of this word
+abbrev pub a_token : Word → Token
+a_token v = record { what = v; at = 1; len = 1 }
+
+full : {A : Type 0} (f : Token → Option A) (first stop : Set) (v : Word) (a : A) → f (a_token v) ≡ Some a → Laws (terminal f) first stop → Full (terminal f) first stop
+full f first stop v a h l = record { laws = l; sample = taking f (a_token v) a h }
+
+same_number : (n : ℕ) → (n == n) ≡ true
+same_number n = grind (arith, nat_tests)
+
+key_taken : (x : Key) → terminals.key_at x (a_token (w.Key x)) ≡ Some 1
+key_taken x = rw (same_number (key_number x)) refl
+
+sign_taken : (x : Sign) → terminals.sign_at x (a_token (w.Sign x)) ≡ Some 1
+sign_taken x = rw (same_number (sign_number x)) refl
+
 -- ---- keywords and signs
 
 key_apart : (x : Key) → Apart (is_key x) is_special
 key_apart x (k.Key y) h = refl
 key_apart x _ h = absurd cc
 
-pub keyword_law : (x : Key) (stop : Set) → Laws (terminals.keyword x) (is_key x) stop
-keyword_law x stop = plain_law (terminals.key_at x) (is_key x) stop (λ t a h. given (is_key x (kind_of t.what)) t.at a h) (key_apart x)
+pub keyword_law : (x : Key) (stop : Set) → Full (terminals.keyword x) (is_key x) stop
+keyword_law x stop = full (terminals.key_at x) (is_key x) stop (w.Key x) 1 (key_taken x) (plain_law (terminals.key_at x) (is_key x) stop (λ t a h. given (is_key x (kind_of t.what)) t.at a h) (key_apart x))
 
-pub end_law : (x : Key) (stop : Set) → Laws (terminals.end_of x) (is_key key.End) stop
+pub end_law : (x : Key) (stop : Set) → Full (terminals.end_of x) (is_key key.End) stop
 unfolding terminals.end_of
 end_law x stop = bind_law (terminals.keyword key.End) _ (is_key key.End) (is_key x) (is_key x) stop (keyword_law key.End (is_key x)) (λ _. keyword_law x stop) (λ k h. h)
 
-pub mark_law : (x : Sign) (stop : Set) → every (λ y. implies (is_sign x y) (not (is_special y))) ≡ true → Laws (terminals.mark x) (is_sign x) stop
-mark_law x stop e = plain_law (terminals.sign_at x) (is_sign x) stop (λ t a h. given (is_sign x (kind_of t.what)) t.at a h) (apart (is_sign x) is_special e)
+pub mark_law : (x : Sign) (stop : Set) → every (λ y. implies (is_sign x y) (not (is_special y))) ≡ true → Full (terminals.mark x) (is_sign x) stop
+mark_law x stop e = full _ (is_sign x) stop (w.Sign x) 1 (sign_taken x) (plain_law (terminals.sign_at x) (is_sign x) stop (λ t a h. given (is_sign x (kind_of t.what)) t.at a h) (apart (is_sign x) is_special e))
 
-pub init_law : (stop : Set) → Laws terminals.init_mark is_init stop
-init_law stop = plain_law terminals.init_at is_init stop (λ t a h. given (is_init (kind_of t.what)) t.at a h) (apart is_init is_special refl)
+pub init_law : (stop : Set) → Full terminals.init_mark is_init stop
+init_law stop = full _ is_init stop (w.Sign sign.Becomes) 1 refl (plain_law terminals.init_at is_init stop (λ t a h. given (is_init (kind_of t.what)) t.at a h) (apart is_init is_special refl))
 
-pub rep_law : (stop : Set) → Laws terminals.rep is_rep stop
-rep_law stop = plain_law terminals.rep_at is_rep stop (λ t a h. given (is_rep (kind_of t.what)) t.at a h) (apart is_rep is_special refl)
+pub rep_law : (stop : Set) → Full terminals.rep is_rep stop
+rep_law stop = full _ is_rep stop (w.Key key.Rep) 1 refl (plain_law terminals.rep_at is_rep stop (λ t a h. given (is_rep (kind_of t.what)) t.at a h) (apart is_rep is_special refl))
 
 -- ---- points and commas
 
 point_shows : (t : Token) (a : ℕ) → terminals.sign_at sign.Point t ≡ Some a → is_sign sign.Point (kind_of t.what) ≡ true
 point_shows t a h = given (is_sign sign.Point (kind_of t.what)) t.at a h
 
-pub point_law : (stop : Set) → Laws (terminals.mark sign.Point) is_point stop
-point_law stop = terminal_law (terminals.sign_at sign.Point) is_point stop (λ t ts a h s. rw (ahead-point t ts (point_shows t a h)) (pointed (kind ts) (second ts)))
+pub point_law : (stop : Set) → Full (terminals.mark sign.Point) is_point stop
+point_law stop = full _ is_point stop (w.Sign sign.Point) 1 refl (terminal_law (terminals.sign_at sign.Point) is_point stop (λ t ts a h s. rw (ahead-point t ts (point_shows t a h)) (pointed (kind ts) (second ts))))
 
 -- before an identifier
-pub leading_law : Laws (terminals.mark sign.Point) leads is_ident
-leading_law = terminal_law (terminals.sign_at sign.Point) leads is_ident (λ t ts a h s. rw (ahead-point t ts (point_shows t a h)) (leading (kind ts) (second ts) (sym (ident_ahead ts) ∙ s)))
+pub leading_law : Full (terminals.mark sign.Point) leads is_ident
+leading_law = full _ leads is_ident (w.Sign sign.Point) 1 refl (terminal_law (terminals.sign_at sign.Point) leads is_ident (λ t ts a h s. rw (ahead-point t ts (point_shows t a h)) (leading (kind ts) (second ts) (sym (ident_ahead ts) ∙ s))))
 
 -- before anything else
-pub alone_law : (stop : Set) → Apart stop is_ident → Laws (terminals.mark sign.Point) (is_sign sign.Point) stop
-alone_law stop e = terminal_law (terminals.sign_at sign.Point) (is_sign sign.Point) stop (λ t ts a h s. rw (ahead-point t ts (point_shows t a h)) (alone (kind ts) (second ts) (sym (ident_ahead ts) ∙ e (ahead ts) s)))
+pub alone_law : (stop : Set) → Apart stop is_ident → Full (terminals.mark sign.Point) (is_sign sign.Point) stop
+alone_law stop e = full _ (is_sign sign.Point) stop (w.Sign sign.Point) 1 refl (terminal_law (terminals.sign_at sign.Point) (is_sign sign.Point) stop (λ t ts a h s. rw (ahead-point t ts (point_shows t a h)) (alone (kind ts) (second ts) (sym (ident_ahead ts) ∙ e (ahead ts) s))))
 
 comma_shows : (t : Token) (a : ℕ) → terminals.sign_at sign.Comma t ≡ Some a → is_sign sign.Comma (kind_of t.what) ≡ true
 comma_shows t a h = given (is_sign sign.Comma (kind_of t.what)) t.at a h
 
-pub comma_law : (stop : Set) → Laws (terminals.mark sign.Comma) is_comma stop
-comma_law stop = terminal_law (terminals.sign_at sign.Comma) is_comma stop (λ t ts a h s. rw (ahead-comma t ts (comma_shows t a h)) (commaed (kind ts)))
+pub comma_law : (stop : Set) → Full (terminals.mark sign.Comma) is_comma stop
+comma_law stop = full _ is_comma stop (w.Sign sign.Comma) 1 refl (terminal_law (terminals.sign_at sign.Comma) is_comma stop (λ t ts a h s. rw (ahead-comma t ts (comma_shows t a h)) (commaed (kind ts))))
 
-pub going_law : Laws (terminals.mark sign.Comma) goes_on is_ident
-going_law = terminal_law (terminals.sign_at sign.Comma) goes_on is_ident (λ t ts a h s. rw (ahead-comma t ts (comma_shows t a h)) (going_on (kind ts) (sym (ident_ahead ts) ∙ s)))
+pub going_law : Full (terminals.mark sign.Comma) goes_on is_ident
+going_law = full _ goes_on is_ident (w.Sign sign.Comma) 1 refl (terminal_law (terminals.sign_at sign.Comma) goes_on is_ident (λ t ts a h s. rw (ahead-comma t ts (comma_shows t a h)) (going_on (kind ts) (sym (ident_ahead ts) ∙ s))))
 
-pub parting_law : (stop : Set) → Apart stop is_ident → Laws (terminals.mark sign.Comma) (is_sign sign.Comma) stop
-parting_law stop e = terminal_law (terminals.sign_at sign.Comma) (is_sign sign.Comma) stop (λ t ts a h s. rw (ahead-comma t ts (comma_shows t a h)) (parting (kind ts) (sym (ident_ahead ts) ∙ e (ahead ts) s)))
+pub parting_law : (stop : Set) → Apart stop is_ident → Full (terminals.mark sign.Comma) (is_sign sign.Comma) stop
+parting_law stop e = full _ (is_sign sign.Comma) stop (w.Sign sign.Comma) 1 refl (terminal_law (terminals.sign_at sign.Comma) (is_sign sign.Comma) stop (λ t ts a h s. rw (ahead-comma t ts (comma_shows t a h)) (parting (kind ts) (sym (ident_ahead ts) ∙ e (ahead ts) s))))
 
 -- ---- names
 
@@ -102,19 +127,19 @@ pub ident_shows : (at : ℕ) (v : Word) (a : Name) → terminals.ident_of at v �
 ident_shows at (w.Ident b) a e = refl
 ident_shows at _ a e = absurd cc
 
-pub ident_law : (stop : Set) → Laws terminals.ident is_ident stop
-ident_law stop = plain_law terminals.ident_at is_ident stop (λ t a h. ident_shows t.at t.what a h) (apart is_ident is_special refl)
+pub ident_law : (stop : Set) → Full terminals.ident is_ident stop
+ident_law stop = full _ is_ident stop (w.Ident []) (terminals.named_at 1 []) refl (plain_law terminals.ident_at is_ident stop (λ t a h. ident_shows t.at t.what a h) (apart is_ident is_special refl))
 
 bold_shows : (at : ℕ) (v : Word) (a : Name) → terminals.bold_of at v ≡ Some a → is_bold (kind_of v) ≡ true
 bold_shows at (w.Bold b) a e = refl
 bold_shows at _ a e = absurd cc
 
-pub bold_law : (stop : Set) → Laws terminals.bold is_bold stop
-bold_law stop = loose_law terminals.bold_at is_bold stop (λ t a h. bold_shows t.at t.what a h) (λ r e. refl) (apart is_bold is_mark refl)
+pub bold_law : (stop : Set) → Full terminals.bold is_bold stop
+bold_law stop = full _ is_bold stop (w.Bold []) (terminals.named_at 1 []) refl (loose_law terminals.bold_at is_bold stop (λ t a h. bold_shows t.at t.what a h) (λ r e. refl) (apart is_bold is_mark refl))
 
 -- before VAR, CONST, PROC or OP
-pub type_name_law : (stop : Set) → Within stop declares → Laws terminals.bold is_type_name stop
-type_name_law stop e = terminal_law terminals.bold_at is_type_name stop (λ t ts a h s. type_named t ts (bold_shows t.at t.what a h) (sym (declares_ahead ts) ∙ e (ahead ts) s))
+pub type_name_law : (stop : Set) → Within stop declares → Full terminals.bold is_type_name stop
+type_name_law stop e = full _ is_type_name stop (w.Bold []) (terminals.named_at 1 []) refl (terminal_law terminals.bold_at is_type_name stop (λ t ts a h s. type_named t ts (bold_shows t.at t.what a h) (sym (declares_ahead ts) ∙ e (ahead ts) s)))
 
 abbrev pub is_leaving : Set
 is_leaving k.Ident = true
@@ -127,8 +152,8 @@ leaving_shows at (w.Ident b) a e = refl
 leaving_shows at (w.Bold b) a e = refl
 leaving_shows at _ a e = absurd cc
 
-pub leaving_law : (stop : Set) → Laws (terminal terminals.leaving_at) is_leaving stop
-leaving_law stop = loose_law terminals.leaving_at is_leaving stop (λ t a h. leaving_shows t.at t.what a h) (λ r e. refl) (apart is_leaving is_mark refl)
+pub leaving_law : (stop : Set) → Full (terminal terminals.leaving_at) is_leaving stop
+leaving_law stop = full _ is_leaving stop (w.Ident []) (terminals.named_at 1 []) refl (loose_law terminals.leaving_at is_leaving stop (λ t a h. leaving_shows t.at t.what a h) (λ r e. refl) (apart is_leaving is_mark refl))
 
 same_shows : (text : List ℕ) (v : Word) (a : Unit {0}) → terminals.same_of text v ≡ Some a → is_ident (kind_of v) ≡ true
 same_shows text (w.Ident b) a e = refl
@@ -165,24 +190,24 @@ simple_shows at (w.Key key.Task) a e = refl
 simple_shows at (w.Key key.Dataspace) a e = refl
 simple_shows at _ a e = absurd cc
 
-pub simple_law : (stop : Set) → Laws (terminal terminals.simple_at) is_simple stop
-simple_law stop = plain_law terminals.simple_at is_simple stop (λ t a h. simple_shows t.at t.what a h) (apart is_simple is_special refl)
+pub simple_law : (stop : Set) → Full (terminal terminals.simple_at) is_simple stop
+simple_law stop = full _ is_simple stop (w.Key key.Int) (ty.Int 1) refl (plain_law terminals.simple_at is_simple stop (λ t a h. simple_shows t.at t.what a h) (apart is_simple is_special refl))
 
 size_shows : (at : ℕ) (v : Word) (a : Size) → terminals.size_of at v ≡ Some a → is_size (kind_of v) ≡ true
 size_shows at (w.Number n) a e = refl
 size_shows at (w.Ident b) a e = refl
 size_shows at _ a e = absurd cc
 
-pub size_law : (stop : Set) → Laws (terminal terminals.size_at) is_size stop
-size_law stop = plain_law terminals.size_at is_size stop (λ t a h. size_shows t.at t.what a h) (apart is_size is_special refl)
+pub size_law : (stop : Set) → Full (terminal terminals.size_at) is_size stop
+size_law stop = full _ is_size stop (w.Ident []) (size.Named (terminals.named_at 1 [])) refl (plain_law terminals.size_at is_size stop (λ t a h. size_shows t.at t.what a h) (apart is_size is_special refl))
 
 access_shows : (v : Word) (a : Access) → terminals.access_of v ≡ Some a → is_access (kind_of v) ≡ true
 access_shows (w.Key key.Const) a e = refl
 access_shows (w.Key key.Var) a e = refl
 access_shows _ a e = absurd cc
 
-pub access_law : (stop : Set) → Laws (terminal terminals.access_at) is_access stop
-access_law stop = plain_law terminals.access_at is_access stop (λ t a h. access_shows t.what a h) (apart is_access is_special refl)
+pub access_law : (stop : Set) → Full (terminal terminals.access_at) is_access stop
+access_law stop = full _ is_access stop (w.Key key.Const) (access.Const) refl (plain_law terminals.access_at is_access stop (λ t a h. access_shows t.what a h) (apart is_access is_special refl))
 
 constant_shows : (at : ℕ) (v : Word) (a : Constant) → terminals.constant_of at v ≡ Some a → is_literal (kind_of v) ≡ true
 constant_shows at (w.Number n) a e = refl
@@ -191,16 +216,16 @@ constant_shows at (w.Key key.True) a e = refl
 constant_shows at (w.Key key.False) a e = refl
 constant_shows at _ a e = absurd cc
 
-pub constant_law : (stop : Set) → Laws (terminal terminals.constant_at) is_literal stop
-constant_law stop = plain_law terminals.constant_at is_literal stop (λ t a h. constant_shows t.at t.what a h) (apart is_literal is_special refl)
+pub constant_law : (stop : Set) → Full (terminal terminals.constant_at) is_literal stop
+constant_law stop = full _ is_literal stop (w.Key key.True) (constant.Truth 1 true) refl (plain_law terminals.constant_at is_literal stop (λ t a h. constant_shows t.at t.what a h) (apart is_literal is_special refl))
 
 label_shows : (at : ℕ) (v : Word) (a : Label) → terminals.label_of at v ≡ Some a → is_size (kind_of v) ≡ true
 label_shows at (w.Number n) a e = refl
 label_shows at (w.Ident b) a e = refl
 label_shows at _ a e = absurd cc
 
-pub label_law : (stop : Set) → Laws (terminal terminals.label_at) is_size stop
-label_law stop = plain_law terminals.label_at is_size stop (λ t a h. label_shows t.at t.what a h) (apart is_size is_special refl)
+pub label_law : (stop : Set) → Full (terminal terminals.label_at) is_size stop
+label_law stop = full _ is_size stop (w.Ident []) (label.Named (terminals.named_at 1 [])) refl (plain_law terminals.label_at is_size stop (λ t a h. label_shows t.at t.what a h) (apart is_size is_special refl))
 
 literal_shows : (at : ℕ) (v : Word) (a : Expr) → terminals.literal_of at v ≡ Some a → is_literal (kind_of v) ≡ true
 literal_shows at (w.Number n) a e = refl
@@ -209,15 +234,15 @@ literal_shows at (w.Key key.True) a e = refl
 literal_shows at (w.Key key.False) a e = refl
 literal_shows at _ a e = absurd cc
 
-pub literal_law : (stop : Set) → Laws (terminal terminals.literal_at) is_literal stop
-literal_law stop = plain_law terminals.literal_at is_literal stop (λ t a h. literal_shows t.at t.what a h) (apart is_literal is_special refl)
+pub literal_law : (stop : Set) → Full (terminal terminals.literal_at) is_literal stop
+literal_law stop = full _ is_literal stop (w.Key key.True) (e.Truth 1 true) refl (plain_law terminals.literal_at is_literal stop (λ t a h. literal_shows t.at t.what a h) (apart is_literal is_special refl))
 
 negated_shows : (v : Word) (a : ℤ) → terminals.negated_of v ≡ Some a → is_number (kind_of v) ≡ true
 negated_shows (w.Number n) a e = refl
 negated_shows _ a e = absurd cc
 
-pub negated_law : (stop : Set) → Laws (terminal terminals.negated_at) is_number stop
-negated_law stop = plain_law terminals.negated_at is_number stop (λ t a h. negated_shows t.what a h) (apart is_number is_special refl)
+pub negated_law : (stop : Set) → Full (terminal terminals.negated_at) is_number stop
+negated_law stop = full _ is_number stop (w.Number (pos 0)) (neg_ℤ (pos 0)) refl (plain_law terminals.negated_at is_number stop (λ t a h. negated_shows t.what a h) (apart is_number is_special refl))
 
 -- ---- operators
 
@@ -269,8 +294,8 @@ operator_given at None a e = absurd cc
 operator_apart : Apart is_operator is_mark
 operator_apart = apart is_operator is_mark refl
 
-pub operator_law : (stop : Set) → Laws (terminal terminals.operator_at) is_operator stop
-operator_law stop = loose_law terminals.operator_at is_operator stop (λ t a h. let g = operator_given t.at (terminals.operator_of t.what) a h in operator_of_shows t.what g.0 g.1) (λ r e. refl) operator_apart
+pub operator_law : (stop : Set) → Full (terminal terminals.operator_at) is_operator stop
+operator_law stop = full _ is_operator stop (w.Bold []) (record { at = 1; operator = op.Named [] }) refl (loose_law terminals.operator_at is_operator stop (λ t a h. let g = operator_given t.at (terminals.operator_of t.what) a h in operator_of_shows t.what g.0 g.1) (λ r e. refl) operator_apart)
 
 and_first : (a b : Bool) → (a && b) ≡ true → a ≡ true
 and_first true b e = refl
@@ -297,5 +322,5 @@ export_shows at (w.Bold b) a e = refl
 export_shows at (w.Sign x) a e = given (is_symbol x) (export.Sign at x) a e
 export_shows at _ a e = absurd cc
 
-pub export_law : (stop : Set) → Laws (terminal terminals.export_at) is_export stop
-export_law stop = loose_law terminals.export_at is_export stop (λ t a h. export_shows t.at t.what a h) (λ r e. refl) (apart is_export is_mark refl)
+pub export_law : (stop : Set) → Full (terminal terminals.export_at) is_export stop
+export_law stop = full _ is_export stop (w.Ident []) (export.Ident (terminals.named_at 1 [])) refl (loose_law terminals.export_at is_export stop (λ t a h. export_shows t.at t.what a h) (λ r e. refl) (apart is_export is_mark refl))

@@ -1,5 +1,5 @@
--- The grammar of ELAN: whole texts.
-use Rattle.std.specs.Prelude.{◌≢◌, ℕ, Bool, true, false, List, [], ◌∷◌, ◌++◌, Option, Some, None}
+-- Whole texts: levels, PROCs, OPs, refinements, packets.
+use Rattle.std.specs.Prelude.{ℕ, Bool, true, false, List, [], ◌∷◌, ◌++◌, Option, Some, None}
 use Rattle.elan_tree.specs.declared.token.Key.TheVariants as key
 use Rattle.elan_tree.specs.declared.token.Sign.TheVariants as sign
 use Rattle.elan_tree.specs.declared.written_type.Name.{Name}
@@ -20,7 +20,7 @@ use Rattle.elan_tree.specs.declared.tree.Tree.TheVariants as tree
 use Rattle.elan_grammar.specs.declared.heading.ProcParts.{ProcParts}
 use Rattle.elan_grammar.specs.declared.heading.OperatorParts.{OperatorParts}
 use Rattle.elan_grammar.specs.Kinds.{is_key, is_sign, is_ident, is_comma, goes_on, is_point, leads, is_operator, begins_typed}
-use Rattle.elan_grammar.specs.Rule.{Tokens, Rule, pure, ◌>>=◌, ◌>>◌, terminal, only, choose, optional, listed}
+use Rattle.elan_grammar.specs.Rule.{Rule, pure, ◌>>=◌, ◌>>◌, terminal, only, choose, optional, listed}
 use Rattle.elan_grammar.specs.Terminals.{keyword, end_of, mark, ident, bold, same_at, access_at, operator_at, same_operator_at, export_at}
 use Rattle.elan_grammar.specs.Types.{types, formals}
 use Rattle.elan_grammar.specs.Units.{declared, plain, phrases}
@@ -256,11 +256,3 @@ packet = do
   end_name x
   last_mark
   pure (tree.Packet at x es l)
-
-abbrev pub text : Bool → Rule Tree
-text true = packet
-text false = program
-
--- The tokens spell the tree: as a packet, or as a program. There is at least one.
-abbrev pub Reads : Bool → Tokens → Tree → Type 0
-Reads is_packet tokens t = (tokens ≢ []) × (text is_packet).reads t tokens []

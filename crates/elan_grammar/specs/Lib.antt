@@ -7,5 +7,7 @@ pub mod Types
 pub mod Expressions
 pub mod Units
 pub mod Grammar
+pub mod Reads
 pub mod Looks
 pub mod Place
+pub mod Stops

@@ -1,27 +1,30 @@
--- Where the parser is stuck, and what holds of that place.
-use Rattle.std.specs.Prelude.{◌≡◌, ℕ, Bool, length, Ok, Err, ◌∷◌, ◌++◌}
+-- The place of a refusal: where a text stops being one of the grammar.
+use Rattle.std.specs.Prelude.{ℕ, suc, ◌+◌, ◌-◌, ◌<◌, ◌≤◌, min, Bool, take, length, ◌++◌, Option, Some, None}
+use Rattle.std.specs.List.{slice_get}
 use Rattle.elan_tree.specs.declared.token.Token.{Token}
 use Rattle.elan_tree.specs.declared.tree.Tree.{Tree}
-use Rattle.elan_grammar.specs.declared.error.ParseError.TheVariants.{NoMemory, NotElan}
-use Rattle.elan_grammar.specs.Looks.{LooksSame}
-use Rattle.elan_grammar.specs.Rule.{Tokens, Outcome}
-use Rattle.elan_grammar.specs.Grammar.{text, Reads}
+use Rattle.elan_grammar.specs.Rule.{Tokens}
+use Rattle.elan_grammar.specs.Reads.{Reads}
 
-abbrev pub left_by : Outcome Tree → ℕ
-left_by (Ok p) = length p.1
-left_by (Err (NotElan n)) = n
-left_by (Err NoMemory) = 0
+-- These tokens begin a text of the grammar: with some tokens behind them they have a tree.
+abbrev pub CanGoOn : Bool → Tokens → Type 0
+CanGoOn is_packet front = (rest : Tokens) × (tree : Tree) × Reads is_packet (front ++ rest) tree
 
--- the number of tokens from the place on
-abbrev pub left : Bool → Tokens → ℕ
-left is_packet tokens = left_by ((text is_packet).run tokens)
+-- So many tokens stand before the place: these can go on, and with the token at the place, where one stands there, they cannot.
+abbrev pub IsPlace : Bool → Tokens → ℕ → Type 0
+IsPlace is_packet tokens n = (n ≤ length tokens) × CanGoOn is_packet (take n tokens) × (n < length tokens → CanGoOn is_packet (take (suc n) tokens) → ⊥)
 
--- Tokens that spell a tree spell it whatever follows them.
-abbrev pub ReadsOn : Bool → Type 0
-ReadsOn p = (t : Tree) (xs ys : Tokens) → (text p).reads t xs ys → (front : Tokens) × (xs ≡ front ++ ys) × ((zs : Tokens) → (text p).reads t (front ++ zs) zs)
+-- ---- the place in bytes
 
--- What stands behind the place does not matter: with any other tokens there, as long as those up to it look the same, the
--- parser is stuck at that place, and there is no tree.
-abbrev pub StaysStuck : Bool → Type 0
-StaysStuck p = (front us vs : Tokens) (t : Token) → left p (front ++ (t ∷ us)) ≡ length (t ∷ us) → LooksSame front (t ∷ us) (t ∷ vs)
-    → (left p (front ++ (t ∷ vs)) ≡ length (t ∷ vs)) × ((tree : Tree) → Reads p (front ++ (t ∷ vs)) tree → ⊥)
+-- no place is greater
+abbrev pub last_place : ℕ
+last_place = 4294967295
+
+abbrev pub next_or_end : Option Token → Option Token → ℕ
+next_or_end (Some next) last = next.at
+next_or_end None (Some last) = min (last.at + last.len) last_place
+next_or_end None None = 1
+
+-- The place of the token that has n before it; where there is none, the place behind the last token's last byte; 1 without a token.
+abbrev pub place_of : Tokens → ℕ → ℕ
+place_of tokens n = next_or_end (slice_get tokens n) (slice_get tokens (length tokens - 1))

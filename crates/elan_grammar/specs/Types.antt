@@ -1,5 +1,5 @@
 -- What holds no expression: types, parameters, constants, labels, LET.
-use Rattle.std.specs.Prelude.{ℕ, zero, suc, List}
+use Rattle.std.specs.Prelude.{ℕ, zero, suc, nat_lt, List}
 use Rattle.elan_tree.specs.declared.token.Key.TheVariants as key
 use Rattle.elan_tree.specs.declared.token.Sign.TheVariants as sign
 use Rattle.elan_tree.specs.declared.written_type.Name.{Name}
@@ -14,12 +14,16 @@ use Rattle.elan_tree.specs.declared.written_type.LetItem.TheVariants as let_form
 use Rattle.elan_tree.specs.declared.written_type.Label.{Label}
 use Rattle.elan_tree.specs.declared.written_type.Label.TheVariants as label_form
 use Rattle.elan_grammar.specs.Kinds.{is_bold, is_key, is_sign, is_ident, is_comma, goes_on}
-use Rattle.elan_grammar.specs.Rule.{Rule, pure, fail, ◌>>=◌, ◌>>◌, terminal, choose, listed}
+use Rattle.elan_grammar.specs.Rule.{Rule, pure, fail, ◌>>=◌, ◌>>◌, terminal, only, choose, listed}
 use Rattle.elan_grammar.specs.Terminals.{keyword, mark, ident, bold, simple_at, size_at, access_at, constant_at, negated_at, label_at}
 
 -- ident { "," ident }
 unfoldable pub names : Rule (List Name)
 names = listed goes_on (mark sign.Comma) ident
+
+-- There is room for a type: asked before the first token of what needs one.
+abbrev pub type_room : ℕ → Rule (Unit {0})
+type_room n = only (nat_lt 0 n)
 
 -- The types of the language stand in others.
 module _ (inner : Rule TypePhrase) where
@@ -28,14 +32,6 @@ module _ (inner : Rule TypePhrase) where
   named_type = do
     x ← bold
     pure (ty.Named x)
-
-  -- ROW size type
-  unfoldable pub row : Rule TypePhrase
-  row = do
-    at ← keyword key.Row
-    s ← terminal size_at
-    t ← inner
-    pure (ty.Row at s t)
 
   -- type ident { "," ident }
   unfoldable pub field : Rule Field
@@ -48,23 +44,35 @@ module _ (inner : Rule TypePhrase) where
   unfoldable pub fields : Rule (List Field)
   fields = listed is_comma (mark sign.Comma) field
 
+-- those that hold others, which are at most n deep
+module _ (inner : Rule TypePhrase) (n : ℕ) where
+  -- ROW size type
+  unfoldable pub row : Rule TypePhrase
+  row = do
+    type_room n
+    at ← keyword key.Row
+    s ← terminal size_at
+    t ← inner
+    pure (ty.Row at s t)
+
   -- STRUCT "(" fields ")"
   unfoldable pub structure : Rule TypePhrase
   structure = do
+    type_room n
     at ← keyword key.Struct
     mark sign.LeftRound
-    fs ← fields
+    fs ← fields inner
     mark sign.RightRound
     pure (ty.Struct at fs)
 
   -- INT | BOOL | TEXT | TASK | DATASPACE | BOLD | ROW size type | STRUCT "(" fields ")"
   unfoldable pub a_type : Rule TypePhrase
-  a_type = choose is_bold named_type (choose (is_key key.Row) row (choose (is_key key.Struct) structure (terminal simple_at)))
+  a_type = choose is_bold (named_type inner) (choose (is_key key.Row) row (choose (is_key key.Struct) structure (terminal simple_at)))
 
 -- the types at most n deep
 unfoldable pub types : ℕ → Rule TypePhrase
 types zero = fail
-types (suc n) = a_type (types n)
+types (suc n) = a_type (types n) n
 
 -- type ( CONST | VAR ) ident { "," ident }
 unfoldable pub formal : ℕ → Rule Formal
@@ -100,6 +108,7 @@ let_constant = do
 -- BOLD "=" type
 unfoldable pub abbreviation : ℕ → Rule LetItem
 abbreviation n = do
+  type_room n
   x ← bold
   mark sign.Equal
   t ← types n

@@ -116,6 +116,7 @@ module _ (inner : Language) (n : ℕ) where
   -- BOUND type VAR items
   unfoldable pub bound : Rule Phrase
   bound = do
+    room
     at ← keyword key.Bound
     t ← types n
     keyword key.Var

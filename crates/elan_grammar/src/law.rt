@@ -1,8 +1,8 @@
-//! Laws of the grammar: a text has at most one tree, and what stands behind the place of a refusal does not matter.
+//! Laws of the grammar: a text has at most one tree, and one place where it stops being a text.
 
-ghost use Rattle.std.specs.Prelude.{◌≡◌, List, Bool};
-ghost use Rattle.elan_grammar.specs.Grammar.{Reads};
-ghost use Rattle.elan_grammar.specs.Place.{ReadsOn, StaysStuck};
+ghost use Rattle.std.specs.Prelude.{◌≡◌, ℕ, List, Bool};
+ghost use Rattle.elan_grammar.specs.Reads.{Reads};
+ghost use Rattle.elan_grammar.specs.Place.{IsPlace};
 
 use elan_tree::{Token, Tree};
 
@@ -11,12 +11,8 @@ pub fn one_tree()
     ensures { (packet : Bool) (tokens : List Token) (t u : Tree) → Reads packet tokens t → Reads packet tokens u → t ≡ u }
 {}
 
-/// Law: tokens that spell a tree spell it whatever follows them.
-pub fn reads_on()
-    ensures { (packet : Bool) → ReadsOn packet }
-{}
-
-/// Law: what stands behind the place where the parser is stuck does not matter to it.
-pub fn stays_stuck()
-    ensures { (packet : Bool) → StaysStuck packet }
+/// A list of tokens has one place.
+pub fn one_place()
+    ensures some { (packet : Bool) (tokens : List Token) → (n : ℕ) × IsPlace packet tokens n }
+    ensures one { (packet : Bool) (tokens : List Token) (n m : ℕ) → IsPlace packet tokens n → IsPlace packet tokens m → n ≡ m }
 {}

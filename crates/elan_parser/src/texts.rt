@@ -1,10 +1,11 @@
 //! Whole texts: programs and packets.
 
-ghost use Rattle.std.specs.Prelude.{◌≡◌, ℕ, List, Err, ◌≤◌, ◌<◌, IfOk};
+ghost use Rattle.std.specs.Prelude.{◌≡◌, ℕ, Err, ◌≤◌, IfOk};
 ghost use Rattle.elan_grammar.specs.Rule.{Gives, GivesTall};
 ghost use Rattle.elan_grammar.specs.Grammar as spec;
-ghost use Rattle.elan_grammar.specs.Grammar.{Reads};
-ghost use Rattle.elan_grammar.specs.Place.{left};
+ghost use Rattle.elan_grammar.specs.Reads as whole;
+ghost use Rattle.elan_grammar.specs.Reads.{Reads};
+ghost use Rattle.elan_grammar.specs.Stops.{left};
 ghost use Rattle.elan_grammar.specs.Depth.{type_depth, level_unit_depth, level_units_depth, level_depth, tree_depth};
 
 use crate::bodies::{MOST, end_name, last_point, operator, proc, tail};
@@ -227,8 +228,13 @@ fn packet(alloc: Global, cursor: &mut Cursor<'_>) -> Result<Tall<Tree>, ParseErr
     })
 }
 
-fn text(alloc: Global, cursor: &mut Cursor<'_>, is_packet: bool) -> Result<Tall<Tree>, ParseError>
-    ensures reads { GivesTall ((spec.text is_packet).run cursor.old.rest.now) result cursor.new.rest.now }
+/// A packet, or a program.
+pub(crate) fn text(
+    alloc: Global,
+    cursor: &mut Cursor<'_>,
+    is_packet: bool,
+) -> Result<Tall<Tree>, ParseError>
+    ensures reads { GivesTall ((whole.text is_packet).run cursor.old.rest.now) result cursor.new.rest.now }
     ensures tall { IfOk result (λ a. a.height ≡ tree_depth a.tree) }
     ensures low { IfOk result (λ a. a.height ≤ 400) }
 {
@@ -239,13 +245,13 @@ fn text(alloc: Global, cursor: &mut Cursor<'_>, is_packet: bool) -> Result<Tall<
     }
 }
 
-/// The tree that the tokens spell, as a packet or as a program.
+/// The tree that all these tokens spell, or how many the parser leaves.
 #[tactic(auto, using(elan_grammar::proofs::GrammarLaws::is_read, elan_grammar::proofs::GrammarLaws::refused_run, elan_grammar::proofs::GrammarLaws::left_empty, elan_grammar::proofs::GrammarLaws::left_err, elan_grammar::proofs::GrammarLaws::left_ok))]
-pub fn parse(alloc: Global, tokens: &[Token], packet: bool) -> Result<Tree, ParseError>
+pub(crate) fn whole(alloc: Global, tokens: &[Token], packet: bool) -> Result<Tree, ParseError>
     ensures ok { IfOk result (λ t. Reads packet tokens.now t) }
     ensures deep { IfOk result (λ t. tree_depth t ≤ 400) }
     ensures refused { (n : ℕ) → result ≡ Err (ParseError.NotElan n) → (t : Tree) → Reads packet tokens.now t → ⊥ }
-    ensures place { (n : ℕ) → result ≡ Err (ParseError.NotElan n) → n ≡ left packet tokens.now }
+    ensures left { (n : ℕ) → result ≡ Err (ParseError.NotElan n) → n ≡ left packet tokens.now }
 {
     if tokens.is_empty() {
         return Err(ParseError::NotElan(0));

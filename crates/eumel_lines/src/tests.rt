@@ -81,13 +81,17 @@ FEHLER : doppelt (Zeile 1, Stelle 22)
 > INT CONST a :: 1; a := 2
 FEHLER : keine Variable (Zeile 1, Stelle 19)
 > put (1 2)
-FEHLER : kein ELAN-Text
+FEHLER : kein ELAN-Text (Zeile 1, Stelle 8)
+> put (1 +)
+FEHLER : kein ELAN-Text (Zeile 1, Stelle 9)
+> put (1
+FEHLER : kein ELAN-Text (Zeile 1, Stelle 7)
 > TEXT VAR t
 FEHLER : kein ELAN-Text
 > put (((((((((((((((((((((((((((((((((((((((((((((((((((((((((((((((((((((((((((((((((((((((((((((((((((((5)))))))))))))))))))))))))))))))))))))))))))))))))))))))))))))))))))))))))))))))))))))))))))))))))))))
 5 
 > ((((((((((((((((((((((((((((((((((((((((((((((((((((((((((((((((((((((((((((((((((((((((((((((((((((((((((((((((((((((((((((((((((((((((((((((((((((((((((((((((((((((((((((((((((((((((((((((((((((((((((((((((((((((((((((((((((((((((((((((((((((((((((
-FEHLER : kein ELAN-Text
+FEHLER : kein ELAN-Text (Zeile 1, Stelle 251)
 > put (                                                                                                                                                                                                                                                   1)
 1 
 ";
@@ -115,8 +119,18 @@ fn a_line_ends_and_words_are_known(rt: HostRuntime) -> Result<(), Fail> {
             done,
             "FEHLER : INT-Ueberlauf\n",
         ),
-        (&["line"], "", done, "FEHLER : kein ELAN-Text\n"),
-        (&["line"], "\nput (1)\n", done, "FEHLER : kein ELAN-Text\n"),
+        (
+            &["line"],
+            "",
+            done,
+            "FEHLER : kein ELAN-Text (Zeile 1, Stelle 1)\n",
+        ),
+        (
+            &["line"],
+            "\nput (1)\n",
+            done,
+            "FEHLER : kein ELAN-Text (Zeile 1, Stelle 1)\n",
+        ),
         (&["line"], too_long, Status::BadLine(1), "! Zeile 1\n"),
         (&[], "put (1)", Status::BadWords, ""),
         (&["line", "x"], "put (1)", Status::BadWords, ""),

@@ -7,15 +7,17 @@ use Rattle.elan_tree.specs.declared.tree.Tree.{Tree}
 use Rattle.elan_lexer.specs.declared.error.LexError.{LexError}
 use Rattle.elan_lexer.specs.declared.error.LexError.TheVariants as lex
 use Rattle.elan_lexer.specs.Tokens.{Answers}
-use Rattle.elan_grammar.specs.declared.error.ParseError.{ParseError}
-use Rattle.elan_grammar.specs.declared.error.ParseError.TheVariants as syntactic
-use Rattle.elan_grammar.specs.Grammar.{Reads}
+use Rattle.elan_parser.specs.declared.error.ParseError.{ParseError}
+use Rattle.elan_parser.specs.declared.error.ParseError.TheVariants as syntactic
+use Rattle.elan_grammar.specs.Reads.{Reads}
+use Rattle.elan_grammar.specs.Place.{IsPlace, place_of}
 use Rattle.elan_types.specs.declared.core_phrase.Core.{Core}
 use Rattle.elan_check.specs.declared.error.CheckError.{CheckError}
 use Rattle.elan_check.specs.declared.error.CheckError.TheVariants as semantic
 use Rattle.elan_check.specs.Text as tree
 use Rattle.eumel_top.specs.declared.meaning.TextError.{TextError}
 use Rattle.eumel_top.specs.declared.refusal.Refusal.{Refusal}
+use Rattle.eumel_top.specs.declared.refusal.Refusal.TheVariants.{NotElan}
 use Rattle.eumel_top.specs.Refusal.{refusal_line}
 use Rattle.eumel_top.specs.Meaning.{alone, HasTokens, no_token, too_many, no_tree, not_built, no_meaning, of_lexer, of_parser, of_check, IsCause, IsRefused, TextWrites, refused}
 
@@ -31,9 +33,13 @@ lexer_refuses text (lex.NoToken place) h = no_token h
 lexer_refuses text lex.TooMany h = too_many h
 
 pub parser_refuses : (text : List ℕ) (ts : List Token) (q : ParseError) → HasTokens text ts
-    → ((n : ℕ) → ◌≡◌ {A = Result Tree ParseError} (Err q) (Err (syntactic.NotElan n)) → (t : Tree) → Reads false ts t → ⊥) → IsCause text (of_parser q)
-parser_refuses text ts syntactic.NoMemory has none = tt
-parser_refuses text ts (syntactic.NotElan n) has none = no_tree has (none n refl)
+    → ((at : ℕ) → ◌≡◌ {A = Result Tree ParseError} (Err q) (Err (syntactic.NotElan at)) → (t : Tree) → Reads false ts t → ⊥)
+    → ((at : ℕ) → ◌≡◌ {A = Result Tree ParseError} (Err q) (Err (syntactic.NotElan at)) → (n : ℕ) × IsPlace false ts n × (at ≡ place_of ts n))
+    → IsCause text (of_parser q)
+parser_refuses text ts syntactic.NoMemory has none there = tt
+parser_refuses text ts (syntactic.NotElan at) has none there =
+    let p = there at refl in
+    subst (λ (z : ℕ). IsRefused text (NotElan z)) (sym p.2) (no_tree {n = p.0} has (none at refl) p.1)
 
 pub check_refuses : (text : List ℕ) (ts : List Token) (t : Tree) (q : CheckError) → HasTokens text ts → Reads false ts t
     → tree.IsRefusal (tree.Refused alone t) (Err q) → (◌≡◌ {A = Result Core CheckError} (Err q) (Err semantic.NotBuilt) → tree.IsNotBuilt t)

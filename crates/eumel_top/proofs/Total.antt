@@ -8,9 +8,10 @@ use Rattle.elan_tree.specs.declared.tree.Tree.{Tree}
 use Rattle.elan_lexer.specs.declared.error.LexError.TheVariants as lex
 use Rattle.elan_lexer.specs.Tokens.{tokens_of, limited}
 use Rattle.elan_grammar.specs.Rule.{Outcome}
-use Rattle.elan_grammar.specs.Grammar as grammar
-use Rattle.elan_grammar.specs.Grammar.{Reads}
+use Rattle.elan_grammar.specs.Reads as grammar
+use Rattle.elan_grammar.specs.Reads.{Reads}
 use Rattle.elan_grammar.proofs.GrammarLaws.{is_read, refused_run, some_left}
+use Rattle.elan_grammar.proofs.PlaceLaws.{some_place}
 use Rattle.elan_check.specs.Text as tree
 use Rattle.eumel_top.specs.Meaning.{alone, HasTokens, means, no_token, too_many, no_tree, not_built, no_meaning, TextWrites, runs, refused}
 use Rattle.eumel_top.specs.Line.{first_line, longest_line, LineWrites, program, too_long}
@@ -31,7 +32,7 @@ has_tree (x ∷ ts) = by ((grammar.text false).run (x ∷ ts)) refl
 module _ (answers : (t : Tree) → tree.HasAnswer alone t) where
   by_tree : (text : List ℕ) (ts : List Token) → HasTokens text ts → ((t : Tree) × Reads false ts t) ⊎ ((t : Tree) → Reads false ts t → ⊥)
       → (out : List ℕ) × TextWrites text out
-  by_tree text ts has (inr none) = (_, refused (no_tree has none))
+  by_tree text ts has (inr none) = let p = some_place false ts in (_, refused (no_tree {n = p.0} has none p.1))
   by_tree text ts has (inl r) = by (answers r.0)
     where
       by : tree.HasAnswer alone r.0 → (out : List ℕ) × TextWrites text out

@@ -2,7 +2,9 @@
 use Rattle.std.proofs.Common.{◌≡◌, ℕ, Bool, false, List, refl, sym, ap, subst, ◌∙◌, arith}
 use Rattle.elan_tree.specs.declared.token.Token.{Token}
 use Rattle.elan_tree.specs.declared.tree.Tree.{Tree}
-use Rattle.elan_grammar.specs.Grammar.{Reads}
+use Rattle.elan_grammar.specs.Reads.{Reads}
+use Rattle.elan_grammar.specs.Place.{IsPlace}
+use Rattle.elan_grammar.proofs.PlaceLaws.{one_place}
 use Rattle.elan_types.specs.declared.env.Env.{Env}
 use Rattle.elan_types.specs.declared.core_phrase.Core.{Core}
 use Rattle.elan_types.specs.declared.why.Why.{Why}
@@ -44,7 +46,7 @@ module _ (laws : Laws) (text : List ℕ) where
   not_both : {c : Core} {r : Refusal} → Means text c → IsRefused text r → ⊥
   not_both (means t a r m) (no_token e) = cc (a, e)
   not_both (means t a r m) (too_many e) = cc (a, e)
-  not_both (means t a r m) (no_tree b none) = none t (rw (the_tokens b a) r)
+  not_both (means t a r m) (no_tree b none _) = none t (rw (the_tokens b a) r)
   not_both {c} (means t a r m) (not_built u b s n) = (laws.one_answer alone t).no_core_not_built c m (rw (the_tree a r b s) n)
   not_both {c} (means t a r m) (no_meaning {place = place} {why = why} u b s f) = laws.meant_is_not_refused alone t c (place, why) m (rw (the_tree a r b s) f)
 
@@ -52,28 +54,31 @@ module _ (laws : Laws) (text : List ℕ) where
   one_refusal : {q r : Refusal} → IsRefused text q → IsRefused text r → q ≡ r
   one_refusal (no_token e) (no_token f) = cc (e, f)
   one_refusal (no_token e) (too_many f) = absurd (cc (e, f))
-  one_refusal (no_token e) (no_tree f n) = absurd (cc (e, f))
+  one_refusal (no_token e) (no_tree f n _) = absurd (cc (e, f))
   one_refusal (no_token e) (not_built u f r n) = absurd (cc (e, f))
   one_refusal (no_token e) (no_meaning u f r n) = absurd (cc (e, f))
   one_refusal (too_many e) (no_token f) = absurd (cc (e, f))
   one_refusal (too_many e) (too_many f) = refl
-  one_refusal (too_many e) (no_tree f n) = absurd (cc (e, f))
+  one_refusal (too_many e) (no_tree f n _) = absurd (cc (e, f))
   one_refusal (too_many e) (not_built u f r n) = absurd (cc (e, f))
   one_refusal (too_many e) (no_meaning u f r n) = absurd (cc (e, f))
-  one_refusal (no_tree e n) (no_token f) = absurd (cc (e, f))
-  one_refusal (no_tree e n) (too_many f) = absurd (cc (e, f))
-  one_refusal (no_tree e n) (no_tree f m) = refl
-  one_refusal (no_tree e n) (not_built u f r m) = refl
-  one_refusal (no_tree e n) (no_meaning u f r m) = absurd (n u (rw (the_tokens e f) r))
+  one_refusal (no_tree e n _) (no_token f) = absurd (cc (e, f))
+  one_refusal (no_tree e n _) (too_many f) = absurd (cc (e, f))
+  one_refusal (no_tree {ts = ts} {n = p} e n is) (no_tree {ts = us} {n = q} f m also) =
+      let same : ts ≡ us = the_tokens e f in
+      let number : p ≡ q = one_place false us p q (rw same at is) also in
+      rw (same, number) refl
+  one_refusal (no_tree e n _) (not_built u f r m) = absurd (n u (rw (the_tokens e f) r))
+  one_refusal (no_tree e n _) (no_meaning u f r m) = absurd (n u (rw (the_tokens e f) r))
   one_refusal (not_built t e s n) (no_token f) = absurd (cc (e, f))
   one_refusal (not_built t e s n) (too_many f) = absurd (cc (e, f))
-  one_refusal (not_built t e s n) (no_tree f m) = refl
+  one_refusal (not_built t e s n) (no_tree f m _) = absurd (m t (rw (the_tokens f e) s))
   one_refusal (not_built t e s n) (not_built u f r m) = refl
   one_refusal (not_built t e s n) (no_meaning {place = place} {why = why} u f r m) =
       absurd ((laws.one_answer alone t).no_refusal_not_built (place, why) (rw (the_tree e s f r) m) n)
   one_refusal (no_meaning t e s n) (no_token f) = absurd (cc (e, f))
   one_refusal (no_meaning t e s n) (too_many f) = absurd (cc (e, f))
-  one_refusal (no_meaning t e s n) (no_tree f m) = absurd (m t (rw (the_tokens f e) s))
+  one_refusal (no_meaning t e s n) (no_tree f m _) = absurd (m t (rw (the_tokens f e) s))
   one_refusal (no_meaning {place = place} {why = why} t e s n) (not_built u f r m) =
       absurd ((laws.one_answer alone t).no_refusal_not_built (place, why) n (rw (the_tree e s f r) m))
   one_refusal (no_meaning {place = p} {why = w} t e s n) (no_meaning {place = q} {why = v} u f r m) =

@@ -5,9 +5,10 @@ use Rattle.elan_tree.specs.declared.tree.Tree.{Tree}
 use Rattle.elan_lexer.specs.declared.error.LexError.{LexError}
 use Rattle.elan_lexer.specs.declared.error.LexError.TheVariants as lex
 use Rattle.elan_lexer.specs.Tokens.{tokens_of, limited}
-use Rattle.elan_grammar.specs.declared.error.ParseError.{ParseError}
-use Rattle.elan_grammar.specs.declared.error.ParseError.TheVariants as syntactic
-use Rattle.elan_grammar.specs.Grammar.{Reads}
+use Rattle.elan_parser.specs.declared.error.ParseError.{ParseError}
+use Rattle.elan_parser.specs.declared.error.ParseError.TheVariants as syntactic
+use Rattle.elan_grammar.specs.Reads.{Reads}
+use Rattle.elan_grammar.specs.Place.{IsPlace, place_of}
 use Rattle.elan_types.specs.declared.env.Env.{Env}
 use Rattle.elan_types.specs.declared.core_phrase.Core.{Core}
 use Rattle.elan_types.specs.declared.why.Why.{Why}
@@ -15,7 +16,7 @@ use Rattle.elan_check.specs.declared.error.CheckError.{CheckError}
 use Rattle.elan_check.specs.declared.error.CheckError.TheVariants as semantic
 use Rattle.elan_check.specs.Text as tree
 use Rattle.eumel_top.specs.declared.refusal.Refusal.{Refusal}
-use Rattle.eumel_top.specs.declared.refusal.Refusal.TheVariants.{NoToken, TooMany, NotElan, NoMeaning}
+use Rattle.eumel_top.specs.declared.refusal.Refusal.TheVariants.{NoToken, TooMany, NotElan, NotBuilt, NoMeaning}
 use Rattle.eumel_top.specs.declared.meaning.TextError.{TextError}
 use Rattle.eumel_top.specs.declared.meaning.TextError.TheVariants.{NoMemory, Refused}
 use Rattle.eumel_top.specs.Refusal.{refusal_line}
@@ -37,8 +38,8 @@ pub data Means (text : List ℕ) (core : Core) : Type 0 where
 pub data IsRefused (text : List ℕ) : Refusal → Type 0 where
   no_token : {place : ℕ} → limited (tokens_of text) ≡ Err (lex.NoToken place) → IsRefused text (NoToken place)
   too_many : limited (tokens_of text) ≡ Err lex.TooMany → IsRefused text TooMany
-  no_tree : {ts : List Token} → HasTokens text ts → ((t : Tree) → Reads false ts t → ⊥) → IsRefused text NotElan
-  not_built : {ts : List Token} (t : Tree) → HasTokens text ts → Reads false ts t → tree.IsNotBuilt t → IsRefused text NotElan
+  no_tree : {ts : List Token} {n : ℕ} → HasTokens text ts → ((t : Tree) → Reads false ts t → ⊥) → IsPlace false ts n → IsRefused text (NotElan (place_of ts n))
+  not_built : {ts : List Token} (t : Tree) → HasTokens text ts → Reads false ts t → tree.IsNotBuilt t → IsRefused text NotBuilt
   no_meaning : {ts : List Token} {place : ℕ} {why : Why} (t : Tree) → HasTokens text ts → Reads false ts t → tree.Refused alone t (place, why) → IsRefused text (NoMeaning place why)
 
 -- what the text of a program writes
@@ -54,12 +55,12 @@ of_lexer lex.TooMany = Refused TooMany
 
 abbrev pub of_parser : ParseError → TextError
 of_parser syntactic.NoMemory = NoMemory
-of_parser (syntactic.NotElan n) = Refused NotElan
+of_parser (syntactic.NotElan place) = Refused (NotElan place)
 
 abbrev pub of_check : CheckError → TextError
 of_check semantic.NoMemory = NoMemory
 of_check (semantic.NoMeaning place why) = Refused (NoMeaning place why)
-of_check semantic.NotBuilt = Refused NotElan
+of_check semantic.NotBuilt = Refused NotBuilt
 
 -- memory was wanting, or the text is refused so
 abbrev pub IsCause : List ℕ → TextError → Type 0

@@ -2,7 +2,7 @@
 use Rattle.std.specs.Prelude.{ℕ, ◌+◌, ◌-◌, List, [], ◌∷◌, ◌++◌, take, codes, ◌==◌, if◌then◌else◌}
 use Rattle.std.specs.Fmt.{decimal}
 use Rattle.eumel_top.specs.declared.refusal.Refusal.{Refusal}
-use Rattle.eumel_top.specs.declared.refusal.Refusal.TheVariants.{NoToken, TooMany, NotElan, NoMeaning}
+use Rattle.eumel_top.specs.declared.refusal.Refusal.TheVariants.{NoToken, TooMany, NotElan, NotBuilt, NoMeaning}
 use Rattle.elan_types.specs.declared.why.Why.{Why}
 use Rattle.elan_types.specs.declared.why.Why.TheVariants.{Unknown, Doubled, WrongType, NoVariable, WrongPlace}
 
@@ -41,5 +41,6 @@ refusal_at reason text place = codes "FEHLER : " ++ (reason ++ position_text (po
 abbrev pub refusal_line : Refusal → List ℕ → List ℕ
 refusal_line (NoToken place) text = refusal_at (codes "kein Symbol") text place
 refusal_line TooMany text = codes "FEHLER : zu viele Symbole\n"
-refusal_line NotElan text = codes "FEHLER : kein ELAN-Text\n"
+refusal_line (NotElan place) text = refusal_at (codes "kein ELAN-Text") text place
+refusal_line NotBuilt text = codes "FEHLER : kein ELAN-Text\n"
 refusal_line (NoMeaning place why) text = refusal_at (why_text why) text place

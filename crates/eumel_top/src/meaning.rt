@@ -42,7 +42,7 @@ impl From<ParseError> for TextError {
     fn from(cause: ParseError) -> TextError {
         match cause {
             ParseError::NoMemory => TextError::NoMemory,
-            ParseError::NotElan(_) => TextError::Refused(Refusal::NotElan),
+            ParseError::NotElan(place) => TextError::Refused(Refusal::NotElan(place)),
         }
     }
 }
@@ -57,7 +57,7 @@ impl From<CheckError> for TextError {
         match cause {
             CheckError::NoMemory => TextError::NoMemory,
             CheckError::NoMeaning(place, why) => TextError::Refused(Refusal::NoMeaning(place, why)),
-            CheckError::NotBuilt => TextError::Refused(Refusal::NotElan),
+            CheckError::NotBuilt => TextError::Refused(Refusal::NotBuilt),
         }
     }
 }

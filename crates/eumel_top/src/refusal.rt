@@ -13,8 +13,10 @@ pub(crate) enum Refusal {
     NoToken(u32),
     /// It has too many tokens.
     TooMany,
-    /// It is no text of ELAN, or has what is not built yet.
-    NotElan,
+    /// It is no text of ELAN from this place on.
+    NotElan(u32),
+    /// It has what is not built yet.
+    NotBuilt,
     /// The place of the first phrase that breaks a rule, and the rule.
     NoMeaning(u32, Why),
 }
@@ -28,7 +30,8 @@ impl Refusal {
         match self {
             Refusal::NoToken(place) => refusal_at(alloc, b"kein Symbol", text, place),
             Refusal::TooMany => Bytes::from(alloc, b"FEHLER : zu viele Symbole\n"),
-            Refusal::NotElan => Bytes::from(alloc, b"FEHLER : kein ELAN-Text\n"),
+            Refusal::NotElan(place) => refusal_at(alloc, b"kein ELAN-Text", text, place),
+            Refusal::NotBuilt => Bytes::from(alloc, b"FEHLER : kein ELAN-Text\n"),
             Refusal::NoMeaning(place, why) => refusal_at(alloc, why_text(why), text, place),
         }
     }

@@ -211,6 +211,7 @@ impl<
         ensures tall { IfOk result (λ a. a.height ≡ unit_depth a.tree) }
         ensures low { IfOk result (λ a. a.height ≤ self.now.depth) }
     {
+        cursor.below(0, self.depth)?;
         let at = cursor.keyword(Key::Bound)?;
         let of = types(self.alloc, cursor, self.depth)?;
         let (of, _) = and(of, cursor.keyword(Key::Var))?;

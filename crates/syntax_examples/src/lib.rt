@@ -9,4 +9,6 @@ mod lexed;
 #[cfg(test)]
 mod parsed;
 #[cfg(test)]
+mod places;
+#[cfg(test)]
 mod shown;

@@ -96,6 +96,7 @@ fn abbreviation(
     ensures tall { IfOk result (λ a. a.height ≡ let_item_depth a.tree) }
     ensures low { IfOk result (λ a. a.height ≤ depth) }
 {
+    cursor.below(0, depth)?;
     let name = cursor.bold(alloc)?;
     let (name, _) = and(name, cursor.mark(Sign::Equal))?;
     let (name, of) = and(name, types(alloc, cursor, depth))?;

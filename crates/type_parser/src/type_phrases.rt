@@ -88,11 +88,11 @@ impl<F: Fn(Global, &mut Cursor<'_>, u16) -> Result<Tall<TypePhrase>, ParseError>
     #[tactic(auto, unfolding(elan_grammar::specs::Types::row))]
     fn row(&self, cursor: &mut Cursor<'_>) -> Result<Tall<TypePhrase>, ParseError>
         requires { TypeNests self.now.depth (F.pre self.now.inner) (F.post self.now.inner) }
-        ensures reads { GivesTall ((spec.row (spec.types self.now.depth)).run cursor.old.rest.now) result cursor.new.rest.now }
+        ensures reads { GivesTall ((spec.row (spec.types self.now.depth) self.now.depth).run cursor.old.rest.now) result cursor.new.rest.now }
         ensures tall { IfOk result (λ a. a.height ≡ type_depth a.tree) }
         ensures low { IfOk result (λ a. a.height ≤ self.now.depth + 1) }
     {
-        let _depth = self.depth;
+        cursor.below(0, self.depth)?;
         let at = cursor.keyword(Key::Row)?;
         let size = cursor.size(self.alloc)?;
         let (size, part) = and(size, boxed(self.alloc, self.inner(cursor)))?;
@@ -142,11 +142,11 @@ impl<F: Fn(Global, &mut Cursor<'_>, u16) -> Result<Tall<TypePhrase>, ParseError>
     #[tactic(auto, unfolding(elan_grammar::specs::Types::structure))]
     fn structure(&self, cursor: &mut Cursor<'_>) -> Result<Tall<TypePhrase>, ParseError>
         requires { TypeNests self.now.depth (F.pre self.now.inner) (F.post self.now.inner) }
-        ensures reads { GivesTall ((spec.structure (spec.types self.now.depth)).run cursor.old.rest.now) result cursor.new.rest.now }
+        ensures reads { GivesTall ((spec.structure (spec.types self.now.depth) self.now.depth).run cursor.old.rest.now) result cursor.new.rest.now }
         ensures tall { IfOk result (λ a. a.height ≡ type_depth a.tree) }
         ensures low { IfOk result (λ a. a.height ≤ self.now.depth + 1) }
     {
-        let _depth = self.depth;
+        cursor.below(0, self.depth)?;
         let at = cursor.keyword(Key::Struct)?;
         cursor.mark(Sign::LeftRound)?;
         let row = self.fields(cursor)?;
@@ -163,7 +163,7 @@ impl<F: Fn(Global, &mut Cursor<'_>, u16) -> Result<Tall<TypePhrase>, ParseError>
     #[tactic(auto, unfolding(elan_grammar::specs::Types::a_type, elan_grammar::specs::Types::named_type))]
     fn a_type(&self, cursor: &mut Cursor<'_>) -> Result<Tall<TypePhrase>, ParseError>
         requires { TypeNests self.now.depth (F.pre self.now.inner) (F.post self.now.inner) }
-        ensures reads { GivesTall ((spec.a_type (spec.types self.now.depth)).run cursor.old.rest.now) result cursor.new.rest.now }
+        ensures reads { GivesTall ((spec.a_type (spec.types self.now.depth) self.now.depth).run cursor.old.rest.now) result cursor.new.rest.now }
         ensures tall { IfOk result (λ a. a.height ≡ type_depth a.tree) }
         ensures low { IfOk result (λ a. a.height ≤ self.now.depth + 1) }
     {

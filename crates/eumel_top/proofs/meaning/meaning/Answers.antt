@@ -1,5 +1,5 @@
 use Rattle.std.proofs.Common.{false}
-use Rattle.elan_grammar.specs.Grammar.{Reads}
+use Rattle.elan_grammar.specs.Reads.{Reads}
 use Rattle.eumel_top.specs.Meaning.{means, of_lexer, of_parser, of_check}
 use Rattle.eumel_top.proofs.Refusing.{handed_on, lexer_refuses, parser_refuses, check_refuses}
 use Rattle.eumel_top.proofs.meaning.meaning.Goals as goal
@@ -13,7 +13,7 @@ pub returns-in_err-tree-clause-refused : goal.returns-in_err-tree-clause-refused
 returns-in_err-tree-clause-refused c =
     handed_on c.args.text.now (of_parser c.in_err-tree.field-0.0) c.from_residual-in_err-tree.result c.from_residual-in_err-tree.ensures
     (parser_refuses c.args.text.now c.in_ok-tokens.tokens c.in_err-tree.field-0.0 c.in_ok-tokens.ensures.answer
-    (rw c.as_slice.ensures at c.in_err-tree.ensures.refused))
+    (rw c.as_slice.ensures at c.in_err-tree.ensures.refused) (rw c.as_slice.ensures at c.in_err-tree.ensures.place))
 
 pub returns-in_err-check-clause-refused : goal.returns-in_err-check-clause-refused
 returns-in_err-check-clause-refused c =

@@ -1,12 +1,12 @@
 use Rattle.std.proofs.Common.{◌≡◌, List, [], Ok, ap, ◌∙◌, rules, arith}
 use Rattle.std.proofs.lemmas.Grind.{common_steps}
 use Rattle.elan_tree.specs.declared.token.Token.{Token}
-use Rattle.elan_grammar.specs.Grammar.{text}
+use Rattle.elan_grammar.specs.Reads.{text}
 use Rattle.elan_grammar.proofs.GrammarLaws.{is_read, some_left, no_tokens}
-use Rattle.elan_parser.proofs.texts.parse.Goals as goal
+use Rattle.elan_parser.proofs.texts.whole.Goals as goal
 
-pub returns-then-is_empty-clause-place : goal.returns-then-is_empty-clause-place
-returns-then-is_empty-clause-place c =
+pub returns-then-is_empty-clause-left : goal.returns-then-is_empty-clause-left
+returns-then-is_empty-clause-left c =
     let none : c.args.tokens.now ≡ [] = first_of (search rules, grind (arith, common_steps)) in
     λ n e. no_tokens c.args.packet c.args.tokens.now n none e
 
