@@ -7,8 +7,11 @@ use std::alloc::AllocError;
 /// The bytes written to a block, and whether a sync followed before the next write.
 #[derive(Drop)]
 pub struct Written {
+    /// The block's number, from 0.
     pub at: u32,
+    /// What was written.
     pub bytes: [u8; 512],
+    /// Whether a sync followed before the next write.
     pub synced: bool,
 }
 

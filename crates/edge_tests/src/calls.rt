@@ -6,8 +6,11 @@ use edge::Disk;
 /// A call. Blocks are numbered from 0, and 255 stands for the last one of the disk.
 #[derive(Clone, Copy)]
 pub enum Call {
+    /// Of a block.
     Read(u8),
+    /// A block, and the number that its bytes get.
     Write(u8, u8),
+    /// Of the disk.
     Sync,
 }
 

@@ -15,7 +15,7 @@ use Rattle.elan_lexer.specs.declared.front.Front.TheVariants as front
 use Rattle.elan_lexer.specs.declared.lexer.Found.{Found}
 use Rattle.elan_lexer.specs.Tables.{Text}
 use Rattle.elan_lexer.specs.Pieces.{Lexeme, Unreadable, piece, is_piece}
-use Rattle.elan_lexer.specs.Tokens.{longest, first, cut, pieces, before, tokens_by, tokens_at, tokens_of, limited}
+use Rattle.elan_lexer.specs.Tokens.{longest, first, cut, pieces, before, tokens_by, tokens_at, tokens_of, most_tokens, limited}
 use Rattle.elan_lexer.specs.Scan.{scan, IsLongest}
 use Rattle.elan_lexer.specs.Kept.{token, added, answer}
 use Rattle.elan_lexer.proofs.Forms.{scan_longest}
@@ -95,26 +95,27 @@ module _ (text : Text) (i : ℕ) (lt : i < length text) where
 
 -- ---- gathering
 
-added_one : (found : Found) (w : Word) (i n : ℕ) (r : Result (List Token) ℕ) → length found.tokens ≤ 8000
+added_one : (found : Found) (w : Word) (i n : ℕ) (r : Result (List Token) ℕ) → length found.tokens ≤ most_tokens
     → answer found (before (i + 1) ((w, n) ∷ []) r) ≡ answer (added found (token w i n)) r
 added_one found w i n (Err place) le = refl
 added_one found w i n (Ok ts) le =
-    elim (cases_Bool (nat_lt (length found.tokens) 8000)) [
+    elim (cases_Bool (nat_lt (length found.tokens) most_tokens)) [
       | inl e ↦
           let same : (found.tokens ++ token w i n ∷ []) ++ ts ≡ found.tokens ++ (token w i n ∷ ts) = append_assoc found.tokens (token w i n ∷ []) ts in
           rw (e, same) refl
       | inr e ↦
-          let full = ltb-false (length found.tokens) 8000 e in
+          let full = ltb-false (length found.tokens) most_tokens e in
           let len : length (found.tokens ++ (token w i n ∷ ts)) ≡ length found.tokens + suc (length ts) = length-append found.tokens (token w i n ∷ ts) in
-          let past : nat_lt 8000 (length (found.tokens ++ (token w i n ∷ ts))) ≡ true = lt-ltb 8000 (length (found.tokens ++ (token w i n ∷ ts))) (omega arith) in
-          let over = or_right found.over (nat_lt 8000 (length (found.tokens ++ (token w i n ∷ ts)))) past in
+          let past : nat_lt most_tokens (length (found.tokens ++ (token w i n ∷ ts))) ≡ true =
+          lt-ltb most_tokens (length (found.tokens ++ (token w i n ∷ ts))) (omega arith) in
+          let over = or_right found.over (nat_lt most_tokens (length (found.tokens ++ (token w i n ∷ ts)))) past in
           rw (e, over) refl
     ]
 
-pub added_within : (found : Found) (t : Token) → length found.tokens ≤ 8000 → length (added found t).tokens ≤ 8000
+pub added_within : (found : Found) (t : Token) → length found.tokens ≤ most_tokens → length (added found t).tokens ≤ most_tokens
 added_within found t le =
-    elim (cases_Bool (nat_lt (length found.tokens) 8000)) [
-      | inl e ↦ let lt = ltb-true (length found.tokens) 8000 e in rw e (omega (arith, length-append found.tokens (t ∷ [])))
+    elim (cases_Bool (nat_lt (length found.tokens) most_tokens)) [
+      | inl e ↦ let lt = ltb-true (length found.tokens) most_tokens e in rw e (omega (arith, length-append found.tokens (t ∷ [])))
       | inr e ↦ rw e le
     ]
 
@@ -126,17 +127,20 @@ before_none : (at : ℕ) (r : Result (List Token) ℕ) → before at [] r ≡ r
 before_none at (Ok ts) = refl
 before_none at (Err place) = refl
 
-module _ (text : Text) (i : ℕ) (lt : i < length text) (found : Found) (few : length found.tokens ≤ 8000) (whole : Result (List Token) LexError)
+module _ (text : Text) (i : ℕ) (lt : i < length text) (found : Found) (few : length found.tokens ≤ most_tokens) (whole : Result (List Token) LexError)
     (so_far : whole ≡ answer found (tokens_at (i + 1) (pieces (drop i text)))) where
   pub skips_turn : (n : ℕ) → IsLongest (drop i text) (front.Skips n) → whole ≡ answer found (tokens_at (i + n + 1) (pieces (drop (i + n) text)))
-  skips_turn n is = so_far ∙ rw (turn text i lt n is.0 is.3, is.1) (ap (λ (r : Result (List Token) ℕ). answer found r) (before_none (i + 1) (tokens_at (i + n + 1) (pieces (drop (i + n) text)))))
+  skips_turn n is =
+      so_far ∙ rw (turn text i lt n is.0 is.3, is.1)
+      (ap (λ (r : Result (List Token) ℕ). answer found r) (before_none (i + 1) (tokens_at (i + n + 1) (pieces (drop (i + n) text)))))
 
   pub holds_turn : (w : Word) (n : ℕ) → IsLongest (drop i text) (front.Holds w n)
       → whole ≡ answer (added found (token w i n)) (tokens_at (i + n + 1) (pieces (drop (i + n) text)))
   holds_turn w n is = so_far ∙ rw (turn text i lt n is.0 is.3, is.1) (added_one found w i n (tokens_at (i + n + 1) (pieces (drop (i + n) text))) few)
 
   pub ends_turn : (k : Key) (n : ℕ) → IsLongest (drop i text) (front.Ends k n)
-      → whole ≡ answer (added (added found (token (word.Key key.End) i 3)) (token (word.Key k) (i + 3) (n - 3))) (tokens_at (i + n + 1) (pieces (drop (i + n) text)))
+      → whole ≡ answer (added (added found (token (word.Key key.End) i 3)) (token (word.Key k) (i + 3) (n - 3)))
+      (tokens_at (i + n + 1) (pieces (drop (i + n) text)))
   ends_turn k n is =
       let rest = tokens_at (i + n + 1) (pieces (drop (i + n) text)) in
       let second = before (i + 3 + 1) ((word.Key k, n - 3) ∷ []) rest in
@@ -152,7 +156,8 @@ module _ (text : Text) (i : ℕ) (lt : i < length text) (found : Found) (few : l
 
 -- as the code reads it, from a slice of the text
 pub of_slice : (text : Text) (i : ℕ) (f g : Front) → f ≡ g → IsLongest (take (length text - i) (drop i text)) f → IsLongest (drop i text) g
-of_slice text i f g e is = subst (λ (rest : Text). IsLongest rest g) (take_rest text i) (subst (λ (f : Front). IsLongest (take (length text - i) (drop i text)) f) e is)
+of_slice text i f g e is =
+    subst (λ (rest : Text). IsLongest rest g) (take_rest text i) (subst (λ (f : Front). IsLongest (take (length text - i) (drop i text)) f) e is)
 
 -- ---- start and end
 
@@ -172,7 +177,7 @@ module _ (text : Text) (i : ℕ) (past : length text ≤ i) (found : Found) (who
   pub end_over : found.over ≡ true → whole ≡ Err error.TooMany
   end_over e = at_end ∙ rw e refl
 
-  pub end_within : length found.tokens ≤ 8000 → found.over ≡ false → whole ≡ Ok found.tokens
+  pub end_within : length found.tokens ≤ most_tokens → found.over ≡ false → whole ≡ Ok found.tokens
   end_within le e =
-      let fits : nat_lt 8000 (length found.tokens) ≡ false = le-ltb 8000 (length found.tokens) le in
+      let fits : nat_lt most_tokens (length found.tokens) ≡ false = le-ltb most_tokens (length found.tokens) le in
       at_end ∙ rw (e, append-nil found.tokens, fits) refl

@@ -27,7 +27,8 @@ past_all n (entry ∷ table) spelling short lt =
       | inr e ↦ rw e (past_all n table spelling parts.1 lt)
     ]
 
-found_long : {X : Type 0} (n : ℕ) (table : List (Text × X)) (spelling : Text) (x : X) → all_long n table ≡ true → lookup table spelling ≡ Some x → n < length spelling
+found_long : {X : Type 0} (n : ℕ) (table : List (Text × X)) (spelling : Text) (x : X) → all_long n table ≡ true → lookup table spelling ≡ Some x
+    → n < length spelling
 found_long n [] spelling x long found = absurd (cc)
 found_long n (entry ∷ table) spelling x long found =
     let parts = and_parts (nat_lt n (length entry.0)) (all_long n table) long in

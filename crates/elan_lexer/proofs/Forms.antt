@@ -11,7 +11,7 @@ use Rattle.elan_lexer.specs.declared.front.Front.TheVariants as front
 use Rattle.elan_lexer.specs.Class.{is_lower, is_upper, is_digit, is_blank, is_space, is_inner}
 use Rattle.elan_lexer.specs.Tables.{Text, lookup, signs, end_words}
 use Rattle.elan_lexer.specs.Pieces as p
-use Rattle.elan_lexer.specs.Pieces.{Piece, Holds, Unreadable, NoPiece, piece, is_piece, only_if, alone, opens, comment_end, characters, value}
+use Rattle.elan_lexer.specs.Pieces.{Piece, Holds, Unreadable, NoPiece, piece, is_piece, only_if, alone, opens, comment_end, characters, value, largest_number}
 use Rattle.elan_lexer.specs.Tokens.{first}
 use Rattle.elan_lexer.specs.Scan as s
 use Rattle.elan_lexer.specs.Scan.{scan, rest_len, IsLongest}
@@ -83,7 +83,8 @@ capitals_good : (spelling : Text) (o : Option Key) → is_piece (p.capitals spel
 capitals_good spelling (Some k) = refl
 capitals_good spelling None = refl
 
-piece_upper : (b : ℕ) → is_blank b ≡ false → is_lower b ≡ false → is_upper b ≡ true → (bs : Text) → piece (b ∷ bs) ≡ only_if (list_all is_upper bs) (capitals b bs)
+piece_upper : (b : ℕ) → is_blank b ≡ false → is_lower b ≡ false → is_upper b ≡ true → (bs : Text)
+    → piece (b ∷ bs) ≡ only_if (list_all is_upper bs) (capitals b bs)
 unfolding piece
 piece_upper b n1 n2 e bs = rw (n1, n2, e) refl
 
@@ -108,7 +109,8 @@ module _ (b : ℕ) (bs : Text) (same : (bs : Text) → piece (b ∷ bs) ≡ only
       by_end None is found holds le = let len = run_length is_upper b bs in (found, rw (holds, is, len) refl, omega arith, omega arith)
 
 pub bold_longest : (b : ℕ) (bs : Text) → is_blank b ≡ false → is_lower b ≡ false → is_upper b ≡ true → IsLongest (b ∷ bs) (s.bold (b ∷ bs))
-bold_longest b bs n1 n2 e = rw (run_len is_upper b bs e) (spelled_longest b bs (piece_upper b n1 n2 e) (lookup end_words (b ∷ take (prefix_len is_upper bs) bs)) refl)
+bold_longest b bs n1 n2 e =
+    rw (run_len is_upper b bs e) (spelled_longest b bs (piece_upper b n1 n2 e) (lookup end_words (b ∷ take (prefix_len is_upper bs) bs)) refl)
 
 -- ---- numbers
 
@@ -116,23 +118,25 @@ abbrev digits : ℕ → Text → Piece
 digits b bs = p.number_of (value (b ∷ bs)) (suc (length bs))
 
 number_good : (v n : ℕ) → is_piece (p.number_of v n) ≡ true
-number_good v n = elim (cases_Bool (nat_le v 32767)) [ inl e ↦ rw e refl | inr e ↦ rw e refl ]
+number_good v n = elim (cases_Bool (nat_le v largest_number)) [ inl e ↦ rw e refl | inr e ↦ rw e refl ]
 
 piece_digit : (b : ℕ) → is_blank b ≡ false → is_lower b ≡ false → is_upper b ≡ false → is_digit b ≡ true
     → (bs : Text) → piece (b ∷ bs) ≡ only_if (list_all is_digit bs) (digits b bs)
 unfolding piece
 piece_digit b n1 n2 n3 e bs = rw (n1, n2, n3, e) refl
 
-pub number_longest : (b : ℕ) (bs : Text) → is_blank b ≡ false → is_lower b ≡ false → is_upper b ≡ false → is_digit b ≡ true → IsLongest (b ∷ bs) (s.number (b ∷ bs))
+pub number_longest : (b : ℕ) (bs : Text) → is_blank b ≡ false → is_lower b ≡ false → is_upper b ≡ false → is_digit b ≡ true
+    → IsLongest (b ∷ bs) (s.number (b ∷ bs))
 number_longest b bs n1 n2 n3 e =
     let same = piece_digit b n1 n2 n3 e in
     let good = λ (bs : Text). number_good (value (b ∷ bs)) (suc (length bs)) in
     let found = run_first b is_digit (digits b) good same bs in
     let holds = run_holds b is_digit (digits b) good same bs in
-    let len : length (take (prefix_len is_digit bs) bs) ≡ prefix_len is_digit bs = length-take-le (prefix_len is_digit bs) bs (prefix_len-le-length is_digit bs) in
+    let len : length (take (prefix_len is_digit bs) bs) ≡ prefix_len is_digit bs =
+    length-take-le (prefix_len is_digit bs) bs (prefix_len-le-length is_digit bs) in
     let le = prefix_len-le-length is_digit bs in
     rw (run_len is_digit b bs e)
-    (elim (cases_Bool (nat_le (value (b ∷ take (prefix_len is_digit bs) bs)) 32767)) [
+    (elim (cases_Bool (nat_le (value (b ∷ take (prefix_len is_digit bs) bs)) largest_number)) [
       | inl small ↦ rw small (found, rw (holds, len, small) refl, omega arith, omega arith)
       | inr large ↦ rw large (rw (found, holds, large) refl)
     ])
@@ -179,7 +183,8 @@ ident_longest b bs n e =
 
 -- ---- text denoters
 
-piece_quote : (b : ℕ) → is_blank b ≡ false → is_lower b ≡ false → is_upper b ≡ false → is_digit b ≡ false → (b == 34) ≡ true → (bs : Text) → piece (b ∷ bs) ≡ p.denoter bs
+piece_quote : (b : ℕ) → is_blank b ≡ false → is_lower b ≡ false → is_upper b ≡ false → is_digit b ≡ false → (b == 34) ≡ true → (bs : Text)
+    → piece (b ∷ bs) ≡ p.denoter bs
 unfolding piece
 piece_quote b n1 n2 n3 n4 e bs = rw (n1, n2, n3, n4, e) refl
 
@@ -218,7 +223,8 @@ piece_round : (b : ℕ) → is_blank b ≡ false → is_lower b ≡ false → is
 unfolding piece
 piece_round b n1 n2 n3 n4 n5 n6 bs e = rw (n1, n2, n3, n4, n5, n6, e) refl
 
-module _ (curly : Bool) (b : ℕ) (bs : Text) (same : (bs : Text) → opens curly b bs ≡ true → piece (b ∷ bs) ≡ p.comment curly bs) (open_here : opens curly b bs ≡ true) where
+module _ (curly : Bool) (b : ℕ) (bs : Text) (same : (bs : Text) → opens curly b bs ≡ true → piece (b ∷ bs) ≡ p.comment curly bs)
+    (open_here : opens curly b bs ≡ true) where
   comment_by : (o : Option ℕ) → comment_end curly 1 (not curly) bs ≡ o → IsLongest (b ∷ bs) (s.skipped o)
   comment_by None is = all_unreadable b bs (rw (same bs open_here, is) refl)
   comment_by (Some n) is =
@@ -239,7 +245,8 @@ pub curly_longest : (b : ℕ) (bs : Text) → is_blank b ≡ false → is_lower 
     → opens true b bs ≡ true → IsLongest (b ∷ bs) (s.comment true bs)
 curly_longest b bs n1 n2 n3 n4 n5 e = comment_by true b bs (piece_curly b n1 n2 n3 n4 n5) e (comment_end true 1 false bs) refl
 
-pub round_longest : (b : ℕ) (bs : Text) → is_blank b ≡ false → is_lower b ≡ false → is_upper b ≡ false → is_digit b ≡ false → (b == 34) ≡ false → (b == 123) ≡ false
+pub round_longest : (b : ℕ) (bs : Text) → is_blank b ≡ false → is_lower b ≡ false → is_upper b ≡ false → is_digit b ≡ false → (b == 34) ≡ false
+    → (b == 123) ≡ false
     → opens false b bs ≡ true → IsLongest (b ∷ bs) (s.comment false bs)
 round_longest b bs n1 n2 n3 n4 n5 n6 e = comment_by false b bs (piece_round b n1 n2 n3 n4 n5 n6) e (comment_end false 1 true bs) refl
 
@@ -266,12 +273,14 @@ module _ (b : ℕ) (same : (bs : Text) → opens false b bs ≡ false → piece 
       rw (same (take m bs) (opens_no false b bs m none), no, alone_no bs m Unreadable (omega arith) le) refl
 
   -- where the first two bytes are none, there is none past the first
-  sign_past_one : (bs : Text) (m : ℕ) → opens false b bs ≡ false → lookup signs (b ∷ take 1 bs) ≡ None → 0 < m → m ≤ length bs → is_piece (piece (b ∷ take m bs)) ≡ false
+  sign_past_one : (bs : Text) (m : ℕ) → opens false b bs ≡ false → lookup signs (b ∷ take 1 bs) ≡ None → 0 < m → m ≤ length bs
+      → is_piece (piece (b ∷ take m bs)) ≡ false
   sign_past_one bs zero none two lt le = absurd (omega arith)
   sign_past_one bs (suc zero) none two lt le = rw (same (take 1 bs) (opens_no false b bs 1 none), two, alone_no bs 1 Unreadable lt le) refl
   sign_past_one bs (suc (suc m)) none two lt le = sign_past bs (suc (suc m)) none (omega arith) le
 
-  short_by : (bs : Text) (o : Option Sign) → opens false b bs ≡ false → lookup signs (b ∷ take 1 bs) ≡ None → lookup signs (b ∷ []) ≡ o → IsLongest (b ∷ bs) (s.short o)
+  short_by : (bs : Text) (o : Option Sign) → opens false b bs ≡ false → lookup signs (b ∷ take 1 bs) ≡ None → lookup signs (b ∷ []) ≡ o
+      → IsLongest (b ∷ bs) (s.short o)
   short_by bs o none two is =
       let holds = short_holds o is in
       let found = first_cons b bs 0 (omega arith) (rw holds (sign_good o)) (λ m lt le. sign_past_one bs m none two lt le) in
@@ -290,7 +299,8 @@ module _ (b : ℕ) (same : (bs : Text) → opens false b bs ≡ false → piece 
       let holds : piece (b ∷ c ∷ []) ≡ p.one (word.Sign x) 2 = rw (same (c ∷ []) none, is) refl in
       (first_cons b (c ∷ bs) 1 (omega arith) (rw holds refl) (λ m lt le. sign_past (c ∷ bs) m none lt le), holds, omega arith, omega arith)
 
-pub sign_longest : (b : ℕ) (bs : Text) → is_blank b ≡ false → is_lower b ≡ false → is_upper b ≡ false → is_digit b ≡ false → (b == 34) ≡ false → (b == 123) ≡ false
+pub sign_longest : (b : ℕ) (bs : Text) → is_blank b ≡ false → is_lower b ≡ false → is_upper b ≡ false → is_digit b ≡ false → (b == 34) ≡ false
+    → (b == 123) ≡ false
     → opens false b bs ≡ false → IsLongest (b ∷ bs) (s.sign (b ∷ bs))
 sign_longest b bs n1 n2 n3 n4 n5 n6 none = sign_by b (piece_sign b n1 n2 n3 n4 n5 n6) bs (lookup signs (b ∷ take 1 bs)) none refl
 
@@ -312,19 +322,23 @@ scan_digit : (b : ℕ) (bs : Text) → is_blank b ≡ false → is_lower b ≡ f
 unfolding scan
 scan_digit b bs n1 n2 n3 e = rw (n1, n2, n3, e) refl
 
-scan_quote : (b : ℕ) (bs : Text) → is_blank b ≡ false → is_lower b ≡ false → is_upper b ≡ false → is_digit b ≡ false → (b == 34) ≡ true → scan (b ∷ bs) ≡ s.denoter (characters 0 bs)
+scan_quote : (b : ℕ) (bs : Text) → is_blank b ≡ false → is_lower b ≡ false → is_upper b ≡ false → is_digit b ≡ false → (b == 34) ≡ true
+    → scan (b ∷ bs) ≡ s.denoter (characters 0 bs)
 unfolding scan
 scan_quote b bs n1 n2 n3 n4 e = rw (n1, n2, n3, n4, e) refl
 
-scan_curly : (b : ℕ) (bs : Text) → is_blank b ≡ false → is_lower b ≡ false → is_upper b ≡ false → is_digit b ≡ false → (b == 34) ≡ false → (b == 123) ≡ true → scan (b ∷ bs) ≡ s.comment true bs
+scan_curly : (b : ℕ) (bs : Text) → is_blank b ≡ false → is_lower b ≡ false → is_upper b ≡ false → is_digit b ≡ false → (b == 34) ≡ false → (b == 123) ≡ true
+    → scan (b ∷ bs) ≡ s.comment true bs
 unfolding scan
 scan_curly b bs n1 n2 n3 n4 n5 e = rw (n1, n2, n3, n4, n5, e) refl
 
-scan_round : (b : ℕ) (bs : Text) → is_blank b ≡ false → is_lower b ≡ false → is_upper b ≡ false → is_digit b ≡ false → (b == 34) ≡ false → (b == 123) ≡ false → opens false b bs ≡ true → scan (b ∷ bs) ≡ s.comment false bs
+scan_round : (b : ℕ) (bs : Text) → is_blank b ≡ false → is_lower b ≡ false → is_upper b ≡ false → is_digit b ≡ false → (b == 34) ≡ false → (b == 123) ≡ false
+    → opens false b bs ≡ true → scan (b ∷ bs) ≡ s.comment false bs
 unfolding scan
 scan_round b bs n1 n2 n3 n4 n5 n6 e = rw (n1, n2, n3, n4, n5, n6, e) refl
 
-scan_sign : (b : ℕ) (bs : Text) → is_blank b ≡ false → is_lower b ≡ false → is_upper b ≡ false → is_digit b ≡ false → (b == 34) ≡ false → (b == 123) ≡ false → opens false b bs ≡ false → scan (b ∷ bs) ≡ s.sign (b ∷ bs)
+scan_sign : (b : ℕ) (bs : Text) → is_blank b ≡ false → is_lower b ≡ false → is_upper b ≡ false → is_digit b ≡ false → (b == 34) ≡ false → (b == 123) ≡ false
+    → opens false b bs ≡ false → scan (b ∷ bs) ≡ s.sign (b ∷ bs)
 unfolding scan
 scan_sign b bs n1 n2 n3 n4 n5 n6 e = rw (n1, n2, n3, n4, n5, n6, e) refl
 

@@ -10,7 +10,7 @@ use Rattle.elan_lexer.specs.declared.front.Front.{Front}
 use Rattle.elan_lexer.specs.declared.front.Front.TheVariants as front
 use Rattle.elan_lexer.specs.Tables.{Text}
 use Rattle.elan_lexer.specs.Pieces.{Lexeme, piece, is_piece}
-use Rattle.elan_lexer.specs.Tokens.{longest, first, cut, pieces, placed, before, tokens_by, tokens_at, tokens_of, limited}
+use Rattle.elan_lexer.specs.Tokens.{longest, first, cut, pieces, placed, before, tokens_by, tokens_at, tokens_of, most_tokens, limited}
 use Rattle.elan_lexer.specs.Scan.{scan, IsLongest}
 use Rattle.elan_lexer.specs.Law.{IsLongestPiece, IsCut, LongestMatch, InOrder}
 use Rattle.elan_lexer.proofs.Forms.{scan_longest}
@@ -93,7 +93,8 @@ longest_match text ps = ((λ is. one_cut ps text is), (λ same. subst (λ (qs : 
 
 -- ---- the tokens stand in the text, in order
 
-before_ok : (at : ℕ) (ls : List Lexeme) (r : Result (List Token) ℕ) (ts : List Token) → before at ls r ≡ Ok ts → (us : List Token) × (r ≡ Ok us) × (ts ≡ placed at ls ++ us)
+before_ok : (at : ℕ) (ls : List Lexeme) (r : Result (List Token) ℕ) (ts : List Token) → before at ls r ≡ Ok ts
+    → (us : List Token) × (r ≡ Ok us) × (ts ≡ placed at ls ++ us)
 before_ok at ls (Ok us) ts e = (us, refl, (cc))
 before_ok at ls (Err place) ts e = absurd (cc)
 
@@ -137,7 +138,7 @@ order_at (suc n) (b ∷ bs) at ts le e =
 
 only_ok : (r : Result (List Token) ℕ) (ts : List Token) → limited r ≡ Ok ts → r ≡ Ok ts
 only_ok (Ok us) ts e =
-    elim (cases_Bool (nat_lt 8000 (length us))) [
+    elim (cases_Bool (nat_lt most_tokens (length us))) [
       | inl many ↦ let f = rw many at e in absurd (cc)
       | inr few ↦ let f = rw few at e in (cc)
     ]

@@ -33,19 +33,22 @@ closes_no false b (c ∷ bs) zero e = refl
 closes_no false b (c ∷ bs) (suc m) e = e
 
 -- where a second byte follows
-pub opens_yes : (curly : Bool) (b : ℕ) (bs : Text) (d k m : ℕ) → opens curly b bs ≡ true → comment_end curly d (not curly) bs ≡ Some k → k ≤ m → opens curly b (take m bs) ≡ true
+pub opens_yes : (curly : Bool) (b : ℕ) (bs : Text) (d k m : ℕ) → opens curly b bs ≡ true → comment_end curly d (not curly) bs ≡ Some k → k ≤ m
+    → opens curly b (take m bs) ≡ true
 opens_yes true b bs d k m o e le = o
 opens_yes false b [] d k m o e le = absurd (cc)
 opens_yes false b (c ∷ bs) d k zero o e le = let i = one_more_is (comment_end false d false bs) k e in absurd (omega arith)
 opens_yes false b (c ∷ bs) d k (suc m) o e le = o
 
-closes_yes : (curly : Bool) (b : ℕ) (bs : Text) (d k m : ℕ) → closes curly b bs ≡ true → comment_end curly d (not curly) bs ≡ Some k → k ≤ m → closes curly b (take m bs) ≡ true
+closes_yes : (curly : Bool) (b : ℕ) (bs : Text) (d k m : ℕ) → closes curly b bs ≡ true → comment_end curly d (not curly) bs ≡ Some k → k ≤ m
+    → closes curly b (take m bs) ≡ true
 closes_yes true b bs d k m o e le = o
 closes_yes false b [] d k m o e le = absurd (cc)
 closes_yes false b (c ∷ bs) d k zero o e le = let i = one_more_is (comment_end false d false bs) k e in absurd (omega arith)
 closes_yes false b (c ∷ bs) d k (suc m) o e le = o
 
-pub comment_local : (curly : Bool) (bs : Text) (d n m : ℕ) (second : Bool) → comment_end curly d second bs ≡ Some n → n ≤ m → comment_end curly d second (take m bs) ≡ Some n
+pub comment_local : (curly : Bool) (bs : Text) (d n m : ℕ) (second : Bool) → comment_end curly d second bs ≡ Some n → n ≤ m
+    → comment_end curly d second (take m bs) ≡ Some n
 comment_local curly [] d n m second e le = rw (take-nil m) e
 comment_local curly (b ∷ bs) d n zero true e le = let i = one_more_is (comment_end curly d false bs) n e in absurd (omega arith)
 comment_local curly (b ∷ bs) d n (suc m) true e le =
@@ -78,7 +81,8 @@ comment_local curly (b ∷ bs) d n (suc m) false e le =
                   | inl c ↦
                       let i = one_more_is (comment_end curly (d - 1) (not curly) bs) n (rw c at g) in
                       let le2 : i.0 ≤ m = omega arith in
-                      rw (z, opens_no curly b bs m o, closes_yes curly b bs (d - 1) i.0 m c i.1 le2, comment_local curly bs (d - 1) i.0 m (not curly) i.1 le2) (same_some i.0 n i.2)
+                      rw (z, opens_no curly b bs m o, closes_yes curly b bs (d - 1) i.0 m c i.1 le2, comment_local curly bs (d - 1) i.0 m (not curly) i.1 le2)
+                      (same_some i.0 n i.2)
                   | inr c ↦
                       let i = one_more_is (comment_end curly d false bs) n (rw c at g) in
                       let le2 : i.0 ≤ m = omega arith in
@@ -139,7 +143,8 @@ prefix_whole p (b ∷ bs) (suc m) le =
 abbrev coded : Text → Bool
 coded bs = nat_lt 0 (prefix_len is_digit bs) && quote_at (prefix_len is_digit bs) bs
 
-quote_is : (bs : Text) → quote bs ≡ cond (coded bs) (Code (code (take (prefix_len is_digit bs) bs)) (prefix_len is_digit bs + 1)) (cond (quote_at 0 bs) Doubled End)
+quote_is : (bs : Text) → quote bs
+    ≡ cond (coded bs) (Code (code (take (prefix_len is_digit bs) bs)) (prefix_len is_digit bs + 1)) (cond (quote_at 0 bs) Doubled End)
 unfolding quote
 quote_is bs = refl
 
@@ -210,7 +215,8 @@ quote_end bs m e =
     ]
 
 -- what a character is read from, and what is read behind it
-pub character_is : (c n : ℕ) (o : Option (Text × ℕ)) (p : Text × ℕ) → character c n o ≡ Some p → (q : Text × ℕ) × (o ≡ Some q) × (p ≡ (c ∷ q.0, q.1 + n)) × (p.1 ≡ q.1 + n)
+pub character_is : (c n : ℕ) (o : Option (Text × ℕ)) (p : Text × ℕ) → character c n o ≡ Some p
+    → (q : Text × ℕ) × (o ≡ Some q) × (p ≡ (c ∷ q.0, q.1 + n)) × (p.1 ≡ q.1 + n)
 character_is c n (Some q) p e = let same : p ≡ (c ∷ q.0, q.1 + n) = cc in (q, refl, same, ap (λ (x : Text × ℕ). x.1) same)
 character_is c n None p e = absurd (cc)
 

@@ -1,9 +1,9 @@
 -- The turns of the loops over a text.
 use Rattle.std.proofs.Common.{◌≡◌, ℕ, zero, suc, ◌+◌, ◌-◌, ◌<◌, Bool, true, false, not, [], ◌∷◌, ◌++◌, length, get_or, drop, Option, Some, None, refl, sym, ap, ◌∙◌, arith, append_assoc, add-one, drop-cons}
 use Rattle.std.specs.Prelude.{◌==◌}
-use Rattle.std.proofs.lemmas.List.{append-nil, drop-drop}
+use Rattle.std.proofs.lemmas.List.{drop-drop}
 use Rattle.elan_lexer.specs.Tables.{Text}
-use Rattle.elan_lexer.specs.declared.reading.Quote.TheVariants.{Code, Doubled, End}
+use Rattle.elan_lexer.specs.declared.reading.Quote.TheVariants.{Code, Doubled}
 use Rattle.elan_lexer.specs.Pieces.{comment_end, one_more, opens_at, closes_at, character, characters, quote}
 
 pub drop_turn : (text : Text) (i : ℕ) → i < length text → drop i text ≡ get_or text i 0 ∷ drop (i + 1) text
@@ -20,7 +20,8 @@ longer_turn i (Some n) = ap (λ (m : ℕ). Some m) (omega arith)
 longer_turn i None = refl
 
 module _ (curly : Bool) (depth : ℕ) (text : Text) (i : ℕ) (lt : i < length text) (whole : Option ℕ) where
-  pub comment_second : whole ≡ longer_by i (comment_end curly depth true (drop i text)) → whole ≡ longer_by (i + 1) (comment_end curly depth false (drop (i + 1) text))
+  pub comment_second : whole ≡ longer_by i (comment_end curly depth true (drop i text))
+      → whole ≡ longer_by (i + 1) (comment_end curly depth false (drop (i + 1) text))
   comment_second e = e ∙ rw (drop_turn text i lt) (longer_turn i (comment_end curly depth false (drop (i + 1) text)))
 
   pub comment_done : depth ≡ 0 → whole ≡ longer_by i (comment_end curly depth false (drop i text)) → whole ≡ Some i
@@ -32,14 +33,16 @@ module _ (curly : Bool) (depth : ℕ) (text : Text) (i : ℕ) (lt : i < length t
       let o1 = rw (drop_turn text i lt) at o in
       e ∙ rw (drop_turn text i lt, z, o1) (longer_turn i (comment_end curly (depth + 1) (not curly) (drop (i + 1) text)))
 
-  pub comment_closes : (depth == 0) ≡ false → opens_at curly (drop i text) ≡ false → closes_at curly (drop i text) ≡ true → whole ≡ longer_by i (comment_end curly depth false (drop i text))
+  pub comment_closes : (depth == 0) ≡ false → opens_at curly (drop i text) ≡ false → closes_at curly (drop i text) ≡ true
+      → whole ≡ longer_by i (comment_end curly depth false (drop i text))
       → whole ≡ longer_by (i + 1) (comment_end curly (depth - 1) (not curly) (drop (i + 1) text))
   comment_closes z o c e =
       let o1 = rw (drop_turn text i lt) at o in
       let c1 = rw (drop_turn text i lt) at c in
       e ∙ rw (drop_turn text i lt, z, o1, c1) (longer_turn i (comment_end curly (depth - 1) (not curly) (drop (i + 1) text)))
 
-  pub comment_other : (depth == 0) ≡ false → opens_at curly (drop i text) ≡ false → closes_at curly (drop i text) ≡ false → whole ≡ longer_by i (comment_end curly depth false (drop i text))
+  pub comment_other : (depth == 0) ≡ false → opens_at curly (drop i text) ≡ false → closes_at curly (drop i text) ≡ false
+      → whole ≡ longer_by i (comment_end curly depth false (drop i text))
       → whole ≡ longer_by (i + 1) (comment_end curly depth false (drop (i + 1) text))
   comment_other z o c e =
       let o1 = rw (drop_turn text i lt) at o in
@@ -66,24 +69,15 @@ characters_skip (suc n) [] = refl
 characters_skip (suc n) (b ∷ bs) = characters_skip n bs
 
 module _ (text : Text) (i : ℕ) (lt : i < length text) (xs : Text) (whole : Option (Text × ℕ)) (so_far : whole ≡ behind xs i (characters 0 (drop i text))) where
-  pub denoter_code : (c n : ℕ) → get_or text i 0 ≡ 34 → quote (drop (i + 1) text) ≡ Code (Some c) n → whole ≡ behind (xs ++ c ∷ []) (i + (n + 1)) (characters 0 (drop (i + (n + 1)) text))
+  pub denoter_code : (c n : ℕ) → get_or text i 0 ≡ 34 → quote (drop (i + 1) text) ≡ Code (Some c) n
+      → whole ≡ behind (xs ++ c ∷ []) (i + (n + 1)) (characters 0 (drop (i + (n + 1)) text))
   denoter_code c n b q =
-      let skip : characters n (drop (i + 1) text) ≡ characters 0 (drop (i + (n + 1)) text) = characters_skip n (drop (i + 1) text) ∙ ap (λ (z : Text). characters 0 z) (drop-drop n (i + 1) text ∙ ap (λ (m : ℕ). drop m text) (omega arith)) in
+      let skip : characters n (drop (i + 1) text) ≡ characters 0 (drop (i + (n + 1)) text) =
+      characters_skip n (drop (i + 1) text) ∙ ap (λ (z : Text). characters 0 z) (drop-drop n (i + 1) text ∙ ap (λ (m : ℕ). drop m text) (omega arith)) in
       so_far ∙ rw (drop_turn text i lt, b, q, skip) (behind_byte xs i c (n + 1) (characters 0 (drop (i + (n + 1)) text)))
-
-  pub denoter_large : (n : ℕ) → get_or text i 0 ≡ 34 → quote (drop (i + 1) text) ≡ Code None n → whole ≡ None
-  denoter_large n b q = so_far ∙ rw (drop_turn text i lt, b, q) refl
 
   pub denoter_doubled : get_or text i 0 ≡ 34 → quote (drop (i + 1) text) ≡ Doubled → whole ≡ behind (xs ++ 34 ∷ []) (i + 2) (characters 0 (drop (i + 2) text))
   denoter_doubled b q =
-      let skip : characters 1 (drop (i + 1) text) ≡ characters 0 (drop (i + 2) text) = characters_skip 1 (drop (i + 1) text) ∙ ap (λ (z : Text). characters 0 z) (drop-drop 1 (i + 1) text ∙ ap (λ (m : ℕ). drop m text) (omega arith)) in
+      let skip : characters 1 (drop (i + 1) text) ≡ characters 0 (drop (i + 2) text) =
+      characters_skip 1 (drop (i + 1) text) ∙ ap (λ (z : Text). characters 0 z) (drop-drop 1 (i + 1) text ∙ ap (λ (m : ℕ). drop m text) (omega arith)) in
       so_far ∙ rw (drop_turn text i lt, b, q, skip) (behind_byte xs i 34 2 (characters 0 (drop (i + 2) text)))
-
-  pub denoter_end : get_or text i 0 ≡ 34 → quote (drop (i + 1) text) ≡ End → whole ≡ Some (xs, i + 1)
-  denoter_end b q = so_far ∙ rw (drop_turn text i lt, b, q) (ap (λ (z : Text). Some (z, i + 1)) (append-nil xs))
-
-  pub denoter_line : get_or text i 0 ≡ 10 → whole ≡ None
-  denoter_line b = so_far ∙ rw (drop_turn text i lt, b) refl
-
-  pub denoter_plain : (get_or text i 0 == 34) ≡ false → (get_or text i 0 == 10) ≡ false → whole ≡ behind (xs ++ get_or text i 0 ∷ []) (i + 1) (characters 0 (drop (i + 1) text))
-  denoter_plain q l = so_far ∙ rw (drop_turn text i lt, q, l) (behind_byte xs i (get_or text i 0) 1 (characters 0 (drop (i + 1) text)))

@@ -149,8 +149,12 @@ capitals spelling None = one (word_of spelling) (length spelling)
 abbrev pub bold_word : ℕ → Text → Piece
 bold_word b bs = only_if (list_all is_upper bs) (capitals (b ∷ bs) (lookup end_words (b ∷ bs)))
 
+-- the largest number that a text may have
+abbrev pub largest_number : ℕ
+largest_number = 32767
+
 abbrev pub number_of : ℕ → ℕ → Piece
-number_of v n = if nat_le v 32767 then one (word.Number (pos v)) n else Unreadable
+number_of v n = if nat_le v largest_number then one (word.Number (pos v)) n else Unreadable
 
 abbrev pub number : ℕ → Text → Piece
 number b bs = only_if (list_all is_digit bs) (number_of (value (b ∷ bs)) (suc (length bs)))

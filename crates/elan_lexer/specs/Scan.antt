@@ -9,7 +9,7 @@ use Rattle.elan_lexer.specs.declared.front.Front.{Front}
 use Rattle.elan_lexer.specs.declared.front.Front.TheVariants as front
 use Rattle.elan_lexer.specs.Class.{is_lower, is_upper, is_digit, is_blank, is_space, is_inner}
 use Rattle.elan_lexer.specs.Tables.{Text, lookup, end_words, signs}
-use Rattle.elan_lexer.specs.Pieces.{Holds, Unreadable, piece, opens, comment_end, characters, value, word_of}
+use Rattle.elan_lexer.specs.Pieces.{Holds, Unreadable, piece, opens, comment_end, characters, value, largest_number, word_of}
 use Rattle.elan_lexer.specs.Tokens.{first}
 
 abbrev pub skipped : Option ℕ → Front
@@ -29,7 +29,7 @@ ident text =
     front.Holds (word.Ident (filter (λ c. not (is_space c)) (take n text))) n
 
 abbrev pub number_of : ℕ → ℕ → Front
-number_of v n = if nat_le v 32767 then front.Holds (word.Number (pos v)) n else front.Stuck
+number_of v n = if nat_le v largest_number then front.Holds (word.Number (pos v)) n else front.Stuck
 
 abbrev pub number : Text → Front
 number text = let n = prefix_len is_digit text in number_of (value (take n text)) n

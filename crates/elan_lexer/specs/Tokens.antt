@@ -49,11 +49,16 @@ tokens_at at (p ∷ ps) = tokens_by at (piece p) (tokens_at (at + length p) ps)
 unfoldable pub tokens_of : Text → Result (List Token) ℕ
 tokens_of text = tokens_at 1 (pieces text)
 
+-- the tokens that a text may have at most
+abbrev pub most_tokens : ℕ
+most_tokens = 8000
+
+-- a text with more is refused as a whole, unless it can't be read
 abbrev pub limited : Result (List Token) ℕ → Result (List Token) LexError
-limited (Ok ts) = if nat_lt 8000 (length ts) then Err error.TooMany else Ok ts
+limited (Ok ts) = if nat_lt most_tokens (length ts) then Err error.TooMany else Ok ts
 limited (Err place) = Err (error.NoToken place)
 
--- Memory may run out. Every other answer is that of the definition, with at most 8,000 tokens.
+-- Memory may run out. Every other answer is that of the definition, with at most so many tokens.
 abbrev pub Answers : Text → Result (List Token) LexError → Type 0
 Answers text (Ok ts) = limited (tokens_of text) ≡ Ok ts
 Answers text (Err error.NoMemory) = Unit {0}

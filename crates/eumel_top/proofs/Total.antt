@@ -6,7 +6,7 @@ use mathlib.Core.Logic.{inl, inr}
 use Rattle.elan_tree.specs.declared.token.Token.{Token}
 use Rattle.elan_tree.specs.declared.tree.Tree.{Tree}
 use Rattle.elan_lexer.specs.declared.error.LexError.TheVariants as lex
-use Rattle.elan_lexer.specs.Tokens.{tokens_of, limited}
+use Rattle.elan_lexer.specs.Tokens.{tokens_of, most_tokens, limited}
 use Rattle.elan_grammar.specs.Rule.{Outcome}
 use Rattle.elan_grammar.specs.Reads as grammar
 use Rattle.elan_grammar.specs.Reads.{Reads}
@@ -43,13 +43,13 @@ module _ (answers : (t : Tree) → tree.HasAnswer alone t) where
   text_writes : (text : List ℕ) → (out : List ℕ) × TextWrites text out
   text_writes text = by (tokens_of text) refl
     where
-      counted : (ts : List Token) (b : Bool) → nat_lt 8000 (length ts) ≡ b → limited (tokens_of text) ≡ (if b then Err lex.TooMany else Ok ts)
+      counted : (ts : List Token) (b : Bool) → nat_lt most_tokens (length ts) ≡ b → limited (tokens_of text) ≡ (if b then Err lex.TooMany else Ok ts)
           → (out : List ℕ) × TextWrites text out
       counted ts true e is = (_, refused (too_many is))
       counted ts false e is = by_tree text ts is (has_tree ts)
 
       by : (r : Result (List Token) ℕ) → tokens_of text ≡ r → (out : List ℕ) × TextWrites text out
-      by (Ok ts) e = counted ts (nat_lt 8000 (length ts)) refl (ap limited e)
+      by (Ok ts) e = counted ts (nat_lt most_tokens (length ts)) refl (ap limited e)
       by (Err place) e = (_, refused (no_token (ap limited e)))
 
   pub an_output : (bytes : List ℕ) → (out : List ℕ) × LineWrites bytes out

@@ -5,7 +5,9 @@ ghost use Rattle.fixpoint.specs.Slots.{head_of, IsHead};
 /// The sequence and the root that a head names.
 #[derive(Drop)]
 pub struct Head {
+    /// From 1 to 3, and 1 follows 3.
     pub sequence: u8,
+    /// The block of the root.
     pub root: u32,
     ghost in_range: { (1 ≤ sequence) × (sequence ≤ 3) },
 }

@@ -15,16 +15,20 @@ pub trait Image {
     /// The 512 bytes of each page.
     ghost page_of: { Self → ℕ → List ℕ };
 
+    /// The block of the root.
     fn root(&self) -> u32
         ensures { result ≡ root_of self.now };
 
+    /// How many pages are to be written.
     fn count(&self) -> u32
         ensures { result ≡ count_of self.now };
 
+    /// The block of page `k`.
     fn place(&self, k: u32) -> u32
         requires { k < count_of self.now }
         ensures { result ≡ place_of self.now k };
 
+    /// Puts the bytes of page `k` into `into`.
     fn page(&self, k: u32, into: &mut [u8; 512])
         requires { k < count_of self.now }
         ensures { into.new ≡ page_of self.now k };

@@ -6,8 +6,11 @@ use fixpoint::Image;
 /// So many pages from a block on, all filled with one number; the first is the root.
 #[derive(Drop)]
 pub struct Pages {
+    /// The first block.
     pub from: u32,
+    /// How many pages.
     pub count: u32,
+    /// The number that their bytes are.
     pub fill: u8,
     ghost low: { 4 ≤ from },
     ghost within: { from + count < 1048576 },

@@ -14,7 +14,9 @@ use std::alloc::Global;
 /// Tasks over one pool.
 #[derive(Drop)]
 pub struct System {
+    /// The pages of all tasks.
     pub pool: Pool,
+    /// The tasks, by number from 0.
     pub tasks: Vec<Task>,
     ghost agree: { ∥ Agree pool (roots_of tasks.items) ∥₁ },
 }

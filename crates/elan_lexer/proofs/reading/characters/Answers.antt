@@ -11,9 +11,11 @@ bytes-preserved-in-Code-Some-default c =
     let k = c.in-Code-Some-default.c in
     let n = c.in-Code-Some-default.len in
     let q : quote (drop (c.bytes.i + 1) c.args.text.now) ≡ Code (Some k) n = first_of (search rules, grind (arith, common_steps)) in
-    rw c.in_ok-push-in-Code-Some-default.ensures.items (denoter_code c.args.text.now c.bytes.i c.bytes-test.true c.bytes.found.items _ c.bytes.invariant k n c.if-b-eq34.true q)
+    rw c.in_ok-push-in-Code-Some-default.ensures.items
+    (denoter_code c.args.text.now c.bytes.i c.bytes-test.true c.bytes.found.items _ c.bytes.invariant k n c.if-b-eq34.true q)
 
 pub bytes-preserved-in-Doubled : goal.bytes-preserved-in-Doubled
 bytes-preserved-in-Doubled c =
     let q : quote (drop (c.bytes.i + 1) c.args.text.now) ≡ Doubled = first_of (search rules, grind (arith, common_steps)) in
-    rw c.in_ok-push-in-Doubled.ensures.items (denoter_doubled c.args.text.now c.bytes.i c.bytes-test.true c.bytes.found.items _ c.bytes.invariant c.if-b-eq34.true q)
+    rw c.in_ok-push-in-Doubled.ensures.items
+    (denoter_doubled c.args.text.now c.bytes.i c.bytes-test.true c.bytes.found.items _ c.bytes.invariant c.if-b-eq34.true q)
