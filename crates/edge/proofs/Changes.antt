@@ -46,7 +46,8 @@ changes_within changed more s t within only = record {
 pub image_agrees : (changed : ℕ → Type 0) (s t : DiskState) (image : Blocks) → ChangesOnly changed s t → IsImage t image → AgreesOutside changed s image
 image_agrees changed s t image only is block out synced = is block (only.written block out synced) ∙ only.content block out
 
-pub agrees_before : (changed : ℕ → Type 0) (s t : DiskState) (image : Blocks) → ChangesOnly changed s t → AgreesOutside changed t image → AgreesOutside changed s image
+pub agrees_before : (changed : ℕ → Type 0) (s t : DiskState) (image : Blocks) → ChangesOnly changed s t → AgreesOutside changed t image
+    → AgreesOutside changed s image
 agrees_before changed s t image only agrees block out synced = agrees block out (only.written block out synced) ∙ only.content block out
 
 -- a value that was mapped to another

@@ -23,7 +23,8 @@ made_more r w y r2 w2 y2 s t u first second = record {
 pub at_most : (r w y : ℕ) (s t : DiskState) → HasMade r w y s t → HasMadeAtMost r w y s t
 at_most r w y s t made = record { reads = r; writes = w; syncs = y; few_reads = omega arith; few_writes = omega arith; few_syncs = omega arith; made = made }
 
-pub at_most_more : (r w y r2 w2 y2 : ℕ) (s t u : DiskState) → HasMadeAtMost r w y s t → HasMadeAtMost r2 w2 y2 t u → HasMadeAtMost (r + r2) (w + w2) (y + y2) s u
+pub at_most_more : (r w y r2 w2 y2 : ℕ) (s t u : DiskState) → HasMadeAtMost r w y s t → HasMadeAtMost r2 w2 y2 t u
+    → HasMadeAtMost (r + r2) (w + w2) (y + y2) s u
 at_most_more r w y r2 w2 y2 s t u first second = record {
   reads = first.reads + second.reads;
   writes = first.writes + second.writes;

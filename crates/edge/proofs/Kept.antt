@@ -52,7 +52,9 @@ pub record IsSyncedPart (all left : DiskState) : Type 0 where
 
 part_synced : (s : DiskState) (ws : List Written) → any_synced ws ≡ true → IsSyncedPart (now_from s ws) (now_from s (synced_part ws))
 part_synced s [] some = absurd (cc)
-part_synced s (w ∷ ws) some = subst (λ (l : List Written). IsSyncedPart (now_from s (w ∷ ws)) (now_from s l)) (sym (some_part w ws some)) (either (any_synced ws) refl (part_synced (step s w) ws))
+part_synced s (w ∷ ws) some =
+    subst (λ (l : List Written). IsSyncedPart (now_from s (w ∷ ws)) (now_from s l)) (sym (some_part w ws some))
+    (either (any_synced ws) refl (part_synced (step s w) ws))
   where
     one : (b : Bool) → any_synced ws ≡ false → w.synced || any_synced ws ≡ true → w.synced ≡ true
     one b is both = or_first w.synced (any_synced ws) is both
@@ -61,11 +63,13 @@ part_synced s (w ∷ ws) some = subst (λ (l : List Written). IsSyncedPart (now_
         or_first true b shut open_one = refl
         or_first false b shut open_one = absurd (cc)
 
-    either : (b : Bool) → any_synced ws ≡ b → (any_synced ws ≡ true → IsSyncedPart (now_from (step s w) ws) (now_from (step s w) (synced_part ws))) → IsSyncedPart (now_from (step s w) ws) (now_from (step s w) (synced_part ws))
+    either : (b : Bool) → any_synced ws ≡ b → (any_synced ws ≡ true → IsSyncedPart (now_from (step s w) ws) (now_from (step s w) (synced_part ws)))
+        → IsSyncedPart (now_from (step s w) ws) (now_from (step s w) (synced_part ws))
     either true is more = more is
     either false is more =
         let done : w.synced ≡ true = one true is some in
-        let block_now_there : (if w.synced then with_block s.content w.at w.bytes else s.synced) ≡ with_block s.content w.at w.bytes = ap (λ (b : Bool). if b then with_block s.content w.at w.bytes else s.synced) done in
+        let block_now_there : (if w.synced then with_block s.content w.at w.bytes else s.synced) ≡ with_block s.content w.at w.bytes =
+        ap (λ (b : Bool). if b then with_block s.content w.at w.bytes else s.synced) done in
         let all = none_synced (step s w) ws is in
         subst (λ (l : List Written). IsSyncedPart (now_from (step s w) ws) (now_from (step s w) l)) (sym (none_part ws is)) (record {
           content = sym (all ∙ block_now_there);
@@ -79,7 +83,9 @@ part_of ws left is = subst (λ (l : List Written). IsSyncedPart (now_of ws) (now
   where
     either : (b : Bool) → any_synced ws ≡ b → IsSyncedPart (now_of ws) (now_of (synced_part ws))
     either true some = part_synced blank ws some
-    either false no_sync = subst (λ (l : List Written). IsSyncedPart (now_of ws) (now_of l)) (sym (none_part ws no_sync)) (record { content = sym (none_synced blank ws no_sync); synced = sym (none_synced blank ws no_sync); written = refl })
+    either false no_sync =
+        subst (λ (l : List Written). IsSyncedPart (now_of ws) (now_of l)) (sym (none_part ws no_sync))
+        (record { content = sym (none_synced blank ws no_sync); synced = sym (none_synced blank ws no_sync); written = refl })
 
 any_push : (ws : List Written) (w : Written) → w.synced ≡ false → any_synced (ws ++ w ∷ []) ≡ any_synced ws
 any_push [] w not_yet = ap (λ (b : Bool). b || false) not_yet
@@ -106,10 +112,12 @@ part_whole (v ∷ ws) w done = some_part v (ws ++ w ∷ []) (any_push_yes (v ∷
 abbrev IsSame : DiskState → Type 0
 IsSame s = (block : ℕ) → s.written block ≡ false → s.content block ≡ s.synced block
 
-unwritten : (s : DiskState) (at : ℕ) (bytes : List ℕ) (block : ℕ) → IsSame s → with_mark s.written at block ≡ false → with_block s.content at bytes block ≡ s.synced block
+unwritten : (s : DiskState) (at : ℕ) (bytes : List ℕ) (block : ℕ) → IsSame s → with_mark s.written at block ≡ false
+    → with_block s.content at bytes block ≡ s.synced block
 unwritten s at bytes block same is = choose (block == at) (s.written block) (s.content block) (s.synced block) (same block) is
   where
-    choose : (here written : Bool) (content synced : List ℕ) → (written ≡ false → content ≡ synced) → (if here then true else written) ≡ false → (if here then bytes else content) ≡ synced
+    choose : (here written : Bool) (content synced : List ℕ) → (written ≡ false → content ≡ synced) → (if here then true else written) ≡ false
+        → (if here then bytes else content) ≡ synced
     choose true written content synced same is = absurd (cc)
     choose false written content synced same is = same is
 

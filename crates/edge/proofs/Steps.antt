@@ -11,13 +11,15 @@ module _ {D : Type 0} (state : D → Option DiskState) (moment : D → ℕ) (lef
   Passes old new = Elapses (moment old) (moment new) (left_since old) (left_since new) (MayLeave (state new))
 
   -- what holds of each image of a part of a run
-  pub leaves_weaker : (old new : D) (P Q : Blocks → Type 0) → ((image : Blocks) → P image → Q image) → Leaves moment left_since old new P → Leaves moment left_since old new Q
+  pub leaves_weaker : (old new : D) (P Q : Blocks → Type 0) → ((image : Blocks) → P image → Q image) → Leaves moment left_since old new P
+      → Leaves moment left_since old new Q
   leaves_weaker old new P Q weaker part = record {
     later = part.later;
     before = λ t image le left. ⊎_elim (λ was. inl was) (λ has. inr (weaker image has)) (part.before t image le left);
   }
 
-  pub leaves_more : (old mid new : D) (P : Blocks → Type 0) → Leaves moment left_since old mid P → Leaves moment left_since mid new P → Leaves moment left_since old new P
+  pub leaves_more : (old mid new : D) (P : Blocks → Type 0) → Leaves moment left_since old mid P → Leaves moment left_since mid new P
+      → Leaves moment left_since old new P
   leaves_more old mid new P first second = record {
     later = omega (arith, first.later, second.later);
     before = λ t image le left. ⊎_elim (first.before t image le) (λ has. inr has) (second.before t image (omega (arith, le, first.later)) left);
@@ -27,7 +29,8 @@ module _ {D : Type 0} (state : D → Option DiskState) (moment : D → ℕ) (lef
   leaves_none old P = record { later = omega arith; before = λ t image le left. inl left }
 
   -- one call
-  one_step : (r w y : ℕ) (old new : D) (changed : ℕ → Type 0) (s t : DiskState) → state new ≡ Some t → ChangesOnly changed s t → HasMade r w y s t → Passes old new → Step state moment left_since old new changed r w y s
+  one_step : (r w y : ℕ) (old new : D) (changed : ℕ → Type 0) (s t : DiskState) → state new ≡ Some t → ChangesOnly changed s t → HasMade r w y s t
+      → Passes old new → Step state moment left_since old new changed r w y s
   one_step r w y old new changed s t told only made time = record {
     calls = at_most r w y s t made;
     reached = t;
@@ -42,23 +45,36 @@ module _ {D : Type 0} (state : D → Option DiskState) (moment : D → ℕ) (lef
 
   -- no call
   pub no_step : (old : D) (changed : ℕ → Type 0) (s : DiskState) → state old ≡ Some s → Step state moment left_since old old changed 0 0 0 s
-  no_step old changed s told = record { calls = at_most 0 0 0 s s (made_none s); reached = s; told = told; only = changes_nothing changed s; leaves = leaves_none old (AgreesOutside changed s) }
+  no_step old changed s told =
+      record {
+        calls = at_most 0 0 0 s s (made_none s);
+        reached = s;
+        told = told;
+        only = changes_nothing changed s;
+        leaves =
+            leaves_none old (AgreesOutside changed s);
+      }
 
-  pub read_step : (old new : D) (changed : ℕ → Type 0) (s : DiskState) → state old ≡ Some s → state new ≡ option_map after_read (state old) → Passes old new → Step state moment left_since old new changed 1 0 0 s
+  pub read_step : (old new : D) (changed : ℕ → Type 0) (s : DiskState) → state old ≡ Some s → state new ≡ option_map after_read (state old) → Passes old new
+      → Step state moment left_since old new changed 1 0 0 s
   read_step old new changed s told is time =
-      one_step 1 0 0 old new changed s (after_read s) (is ∙ ap (option_map after_read) told) (record { content = λ block out. refl; written = λ block out synced. synced }) (record { reads = refl; writes = refl; syncs = refl }) time
+      one_step 1 0 0 old new changed s (after_read s) (is ∙ ap (option_map after_read) told)
+      (record { content = λ block out. refl; written = λ block out synced. synced }) (record { reads = refl; writes = refl; syncs = refl }) time
 
   pub wrote_step : (old new : D) (changed : ℕ → Type 0) (at : ℕ) (bytes : List ℕ) (s : DiskState) → changed at → state old ≡ Some s
       → state new ≡ option_map (after_write at bytes) (state old) → Passes old new → Step state moment left_since old new changed 0 1 0 s
   wrote_step old new changed at bytes s there told is time =
-      one_step 0 1 0 old new changed s (after_write at bytes s) (is ∙ ap (option_map (after_write at bytes)) told) (changes_written changed at bytes s there) (record { reads = refl; writes = refl; syncs = refl }) time
+      one_step 0 1 0 old new changed s (after_write at bytes s) (is ∙ ap (option_map (after_write at bytes)) told) (changes_written changed at bytes s there)
+      (record { reads = refl; writes = refl; syncs = refl }) time
 
   pub failed_step : (old new : D) (changed : ℕ → Type 0) (at : ℕ) (bytes : List ℕ) (s : DiskState) → changed at → state old ≡ Some s
       → IsFailedWrite at bytes (state old) (state new) → Passes old new → Step state moment left_since old new changed 0 1 0 s
   failed_step old new changed at bytes s there told (inl nothing) time =
-      one_step 0 1 0 old new changed s (after_no_write s) (nothing ∙ ap (option_map after_no_write) told) (record { content = λ block out. refl; written = λ block out synced. synced }) (record { reads = refl; writes = refl; syncs = refl }) time
+      one_step 0 1 0 old new changed s (after_no_write s) (nothing ∙ ap (option_map after_no_write) told)
+      (record { content = λ block out. refl; written = λ block out synced. synced }) (record { reads = refl; writes = refl; syncs = refl }) time
   failed_step old new changed at bytes s there told (inr (inl lost)) time =
-      one_step 0 1 0 old new changed s (after_lost_write at s) (lost ∙ ap (option_map (after_lost_write at)) told) (changes_lost changed at s there) (record { reads = refl; writes = refl; syncs = refl }) time
+      one_step 0 1 0 old new changed s (after_lost_write at s) (lost ∙ ap (option_map (after_lost_write at)) told) (changes_lost changed at s there)
+      (record { reads = refl; writes = refl; syncs = refl }) time
   failed_step old new changed at bytes s there told (inr (inr done)) time = wrote_step old new changed at bytes s there told done time
 
   -- a sync, which may fail
@@ -66,9 +82,11 @@ module _ {D : Type 0} (state : D → Option DiskState) (moment : D → ℕ) (lef
       → OnOk result (state new ≡ option_map after_sync (state old)) → OnErr result (state new ≡ option_map after_failed_sync (state old))
       → Passes old new → Step state moment left_since old new changed 0 0 1 s
   sync_step (Ok _) old new changed s told ok err time =
-      one_step 0 0 1 old new changed s (after_sync s) (ok ∙ ap (option_map after_sync) told) (record { content = λ block out. refl; written = λ block out synced. refl }) (record { reads = refl; writes = refl; syncs = refl }) time
+      one_step 0 0 1 old new changed s (after_sync s) (ok ∙ ap (option_map after_sync) told)
+      (record { content = λ block out. refl; written = λ block out synced. refl }) (record { reads = refl; writes = refl; syncs = refl }) time
   sync_step (Err _) old new changed s told ok err time =
-      one_step 0 0 1 old new changed s (after_failed_sync s) (err ∙ ap (option_map after_failed_sync) told) (record { content = λ block out. refl; written = λ block out synced. synced }) (record { reads = refl; writes = refl; syncs = refl }) time
+      one_step 0 0 1 old new changed s (after_failed_sync s) (err ∙ ap (option_map after_failed_sync) told)
+      (record { content = λ block out. refl; written = λ block out synced. synced }) (record { reads = refl; writes = refl; syncs = refl }) time
 
   -- one part after another
   pub step_more : (r w y r2 w2 y2 : ℕ) (old mid new : D) (changed : ℕ → Type 0) (s : DiskState) (first : Step state moment left_since old mid changed r w y s)
@@ -78,18 +96,22 @@ module _ {D : Type 0} (state : D → Option DiskState) (moment : D → ℕ) (lef
     told = second.told;
     only = changes_more changed s first.reached second.reached first.only second.only;
     leaves = leaves_more old mid new (AgreesOutside changed s) first.leaves
-        (leaves_weaker mid new (AgreesOutside changed first.reached) (AgreesOutside changed s) (λ image. agrees_before changed s first.reached image first.only) second.leaves);
+        (leaves_weaker mid new (AgreesOutside changed first.reached) (AgreesOutside changed s) (λ image. agrees_before changed s first.reached image first.only)
+        second.leaves);
     calls = at_most_more r w y r2 w2 y2 s first.reached second.reached first.calls second.calls;
   }
 
   -- the same of more blocks and calls
-  pub step_within : (r w y r2 w2 y2 : ℕ) (old new : D) (changed more : ℕ → Type 0) (s : DiskState) → ((block : ℕ) → changed block → more block) → r ≤ r2 → w ≤ w2 → y ≤ y2
+  pub step_within : (r w y r2 w2 y2 : ℕ) (old new : D) (changed more : ℕ → Type 0) (s : DiskState) → ((block : ℕ) → changed block → more block) → r ≤ r2
+      → w ≤ w2 → y ≤ y2
       → Step state moment left_since old new changed r w y s → Step state moment left_since old new more r2 w2 y2 s
   step_within r w y r2 w2 y2 old new changed more s within reads writes syncs step = record {
     reached = step.reached;
     told = step.told;
     only = changes_within changed more s step.reached within step.only;
-    leaves = leaves_weaker old new (AgreesOutside changed s) (AgreesOutside more s) (λ image agrees block out. agrees block (λ there. out (within block there))) step.leaves;
+    leaves =
+        leaves_weaker old new (AgreesOutside changed s) (AgreesOutside more s) (λ image agrees block out. agrees block (λ there. out (within block there)))
+        step.leaves;
     calls = at_most_of r w y r2 w2 y2 s step.reached reads writes syncs step.calls;
   }
 

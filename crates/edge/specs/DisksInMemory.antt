@@ -30,7 +30,8 @@ FailsAtWrite at bytes old new = (Some new ≡ Some (after_no_write old)) ⊎ (So
 -- a call, at each moment
 abbrev pub Passes : MemDiskState → MemDiskState → Type 0
 Passes old new =
-    Elapses (length (past_of old.log)) (length (past_of new.log)) (LeftSince (past_of old.log) (now_of old.log)) (LeftSince (past_of new.log) (now_of new.log)) (IsImage (now_of new.log))
+    Elapses (length (past_of old.log)) (length (past_of new.log)) (LeftSince (past_of old.log) (now_of old.log)) (LeftSince (past_of new.log) (now_of new.log))
+    (IsImage (now_of new.log))
 
 abbrev pub with_fault : MemDiskState → MemDiskState
 with_fault m = record m { faults = next_count m.faults }

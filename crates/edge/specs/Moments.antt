@@ -49,7 +49,8 @@ pub record HasMadeAtMost (r w y : ℕ) (old new : DiskState) : Type 0 where
 
 -- The disk goes from state s to one that it tells, changes these blocks alone, at each moment, and makes at most so many
 -- reads, writes and syncs.
-pub record Step {D : Type 0} (state : D → Option DiskState) (moment : D → ℕ) (left_since : D → ℕ → Blocks → Type 0) (old new : D) (changed : ℕ → Type 0) (r w y : ℕ) (s : DiskState) : Type 0 where
+pub record Step {D : Type 0} (state : D → Option DiskState) (moment : D → ℕ) (left_since : D → ℕ → Blocks → Type 0) (old new : D) (changed : ℕ → Type 0)
+    (r w y : ℕ) (s : DiskState) : Type 0 where
   pub reached : DiskState
   pub told : state new ≡ Some reached
   pub only : ChangesOnly changed s reached

@@ -9,7 +9,8 @@ pub returns-then-keep-clause-image : goal.returns-then-keep-clause-image
 returns-then-keep-clause-image c = rw (← c.self.view_is) (kept_image c.self.inside.log.items c.settle.new.log.items c.settle.ensures)
 
 pub returns-then-keep-clause-kept : goal.returns-then-keep-clause-kept
-returns-then-keep-clause-kept c = λ _. rw (← c.self.view_is) (ap (λ (s : DiskState). s.content) (ap now_of c.settle.ensures ∙ now_marked blank c.self.inside.log.items refl))
+returns-then-keep-clause-kept c =
+    λ _. rw (← c.self.view_is) (ap (λ (s : DiskState). s.content) (ap now_of c.settle.ensures ∙ now_marked blank c.self.inside.log.items refl))
 
 pub returns-then-keep-clause-settled : goal.returns-then-keep-clause-settled
 returns-then-keep-clause-settled c = ap (λ (s : DiskState). s.written) (ap now_of c.settle.ensures ∙ now_marked blank c.self.inside.log.items refl)

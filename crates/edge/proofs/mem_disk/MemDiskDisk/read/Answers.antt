@@ -8,4 +8,5 @@ returns-then-is_listed-clause-does c = rw (← c.self.view_is) (search rules)
 
 pub returns-clause-bytes : goal.returns-clause-bytes
 returns-clause-bytes c =
-    rw (← c.self.view_is) (c.find.ensures ∙ ap (λ log. block_after log c.args.at zeros) c.deref.ensures.value ∙ sym (block_now blank c.self.inside.log.items c.args.at))
+    rw (← c.self.view_is) (c.find.ensures ∙ ap (λ log. block_after log c.args.at zeros) c.deref.ensures.value
+    ∙ sym (block_now blank c.self.inside.log.items c.args.at))
