@@ -1,13 +1,10 @@
 -- Tasks as owners of spaces.
-use Rattle.std.proofs.Common.{◌≡◌, ◌≢◌, ℕ, ◌*◌, ◌<◌, ◌≤◌, List, [], ◌∷◌, length, set, refl, sym, ap, subst, arith, get_or-set_same}
+use Rattle.std.proofs.Common.{◌≤◌}
 use Rattle.page_pool.specs.Pool.{Pages}
-use Rattle.page_table.specs.Frames.{Frames}
 use Rattle.page_table.specs.Sharing.{occ, Agree}
-use Rattle.page_table.proofs.Framing.{named_first, named_later}
 use Rattle.data_space.proofs.Owners.{Keeps, copy_agree, copy_others}
-use Rattle.data_space.specs.Data.{SpaceData}
-use Rattle.task_spaces_tests.specs.declared.task.Task.{Task}
-use Rattle.task_spaces_tests.specs.Tasks.{roots, roots_of, task_at, no_task, SameBytes, SameTask, ChangesTask}
+use Rattle.task_spaces_tests.proofs.Common.{◌≡◌, ◌≢◌, ℕ, ◌*◌, ◌<◌, List, [], ◌∷◌, length, set, refl, sym, ap, subst, arith, get_or-set_same, Frames, named_first, named_later}
+use Rattle.task_spaces_tests.proofs.Common.{SpaceData, Task, roots, roots_of, task_at, no_task, SameBytes, SameTask, ChangesTask}
 
 pub no_roots : (x : ℕ) → occ x (roots no_task) ≡ 0
 no_roots x = omega arith

@@ -1,5 +1,4 @@
-use Rattle.std.proofs.Common.{[], ◌∷◌, arith}
-use Rattle.page_table.proofs.Framing.{stands_first, stands_after, frames_more, frames_then}
+use Rattle.task_spaces_tests.proofs.Common.{[], ◌∷◌, arith, stands_first, stands_after, frames_more, frames_then}
 use Rattle.task_spaces_tests.proofs.spaces.end.Goals as goal
 
 pub forget-requires : goal.forget-requires

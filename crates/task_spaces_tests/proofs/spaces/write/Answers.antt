@@ -1,5 +1,4 @@
-use Rattle.std.proofs.Common.{[], ◌∷◌, arith}
-use Rattle.page_table.proofs.Framing.{stands_first, frames_more, beside, named_first}
+use Rattle.task_spaces_tests.proofs.Common.{[], ◌∷◌, arith, stands_first, frames_more, beside, named_first}
 use Rattle.task_spaces_tests.proofs.spaces.write.Goals as goal
 
 pub write-requires-clause-agree : goal.write-requires-clause-agree

@@ -1,9 +1,5 @@
-use Rattle.std.proofs.Common.{◌≡◌, ◌∙◌, [], ◌∷◌, refl, sym, subst, arith}
-use Rattle.std.proofs.lemmas.List.{get_or_read}
-use Rattle.page_table.specs.Frames.{content_at}
-use Rattle.data_space.proofs.Owners.{stands_one, set_agree, set_others, copy_stands}
-use Rattle.task_spaces_tests.specs.declared.task.Task.{Task}
-use Rattle.task_spaces_tests.specs.Tasks.{task_at, no_task, roots}
+use Rattle.data_space.proofs.Owners.{copy_stands}
+use Rattle.task_spaces_tests.proofs.Common.{◌≡◌, ◌∙◌, [], ◌∷◌, refl, sym, subst, arith, get_or_read, content_at, stands_one, set_agree, set_others, Task, task_at, no_task, roots}
 use Rattle.task_spaces_tests.proofs.Systems.{no_roots, two_each, changes, copy_held, copy_same}
 use Rattle.task_spaces_tests.proofs.system.System.copy.Goals as goal
 

@@ -1,7 +1,4 @@
-use Rattle.std.proofs.Common.{[], arith}
-use Rattle.std.proofs.lemmas.List.{get_or_read}
-use Rattle.data_space.proofs.Owners.{stands_one, gone_agree, gone_others}
-use Rattle.task_spaces_tests.specs.Tasks.{no_task, roots}
+use Rattle.task_spaces_tests.proofs.Common.{[], arith, get_or_read, stands_one, gone_agree, gone_others, no_task, roots}
 use Rattle.task_spaces_tests.proofs.Systems.{no_roots, both_same}
 use Rattle.task_spaces_tests.proofs.system.System.end.Goals as goal
 
