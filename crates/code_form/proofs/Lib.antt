@@ -1,4 +1,5 @@
 pub mod Resume
 pub mod Steps
-pub mod Paid
+pub mod Requests
+pub mod Spent
 pub mod Safe

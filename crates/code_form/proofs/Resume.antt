@@ -6,8 +6,10 @@ use Rattle.eu_base.specs.declared.request.Reply.{Reply}
 use Rattle.eu_base.specs.Cells.{Cells}
 use Rattle.code_form.specs.declared.halt.Halt.TheVariants as halts
 use Rattle.code_form.specs.Program.{Program}
-use Rattle.code_form.specs.Machine.{Control, After, To, Stops, Move, Goes, Spends, Awaits, Halts, Stuck, Scene, Rest, step, step_at, Stage, On, Over, Lost, after_stage, mark_stage, reply_stage, stage, carry_on, exec, answered}
-use Rattle.code_form.specs.Runs.{IsPaused, Rests, wider, Resumes, Replies, IsOne, Continues}
+use Rattle.code_form.specs.declared.waits.Waits.{Waits}
+use Rattle.code_form.specs.declared.waits.Waits.TheVariants.{Nothing, Asked, Refused}
+use Rattle.code_form.specs.Machine.{Position, Control, free, After, To, Asks, Stops, Move, Goes, Spends, Halts, Ends, Stuck, Scene, Rest, step, Stage, On, Over, Lost, after_stage, mark_stage, reply_stage, stage, stage_at, advance, carry_on, exec}
+use Rattle.code_form.specs.Runs.{IsPaused, Rests, wider, Resumes, Replies, IsOne}
 
 the_some : {A : Type 0} (a b : A) → Some a ≡ Some b → a ≡ b
 the_some a b e = cc
@@ -16,7 +18,7 @@ the_some a b e = cc
 longer : (p : Program) (m n : ℕ) (c : Control) (s : Scene) (r : Rest) → m ≤ n → exec p m c s ≡ Some r → exec p n c s ≡ Some r
 longer p zero n c s r le e = let f : ⊥ = cc in absurd f
 longer p (suc m) zero c s r le e = absurd (omega arith)
-longer p (suc m) (suc n) c s r le e = by (λ c s e. longer p m n c s r (omega arith) e) (stage (step p c s.cells) c s) e
+longer p (suc m) (suc n) c s r le e = by (λ c s e. longer p m n c s r (omega arith) e) (advance p c s) e
   where
     by : ((c : Control) (s : Scene) → exec p m c s ≡ Some r → exec p n c s ≡ Some r) → (st : Stage) → carry_on st (exec p m) ≡ Some r → carry_on st (exec p n) ≡ Some r
     by ih (On c s) e = ih c s e
@@ -36,8 +38,9 @@ Widens marks replies (On c' s') c s st = st ≡ On c' (wider s' marks replies)
 Widens marks replies (Over r) c s st = IsPaused r.how → (r.control ≡ c) × (r.scene ≡ s)
 Widens marks replies Lost c s st = Unit {0}
 
-after_widens : (marks : ℕ) (replies : List Reply) (a : After) (c : Control) (s : Scene) → Widens marks replies (after_stage a c s) c s (after_stage a c (wider s marks replies))
+after_widens : (marks : ℕ) (replies : List Reply) (a : After) (c : Position) (s : Scene) → Widens marks replies (after_stage a c s) (free c) s (after_stage a c (wider s marks replies))
 after_widens marks replies (To c' cells) c s = refl
+after_widens marks replies (Asks c' q cells) c s = refl
 after_widens marks replies (Stops stop) c s = λ paused. absurd paused
 
 of_marks : (marks : ℕ) (replies : List Reply) (st st' : Stage) (c : Control) (s s' : Scene) → ((r : Rest) → st ≡ Over r → IsPaused r.how → ⊥) → Widens marks replies st c s st' → Widens marks replies st c s' st'
@@ -45,33 +48,39 @@ of_marks marks replies (On c' x) st' c s s' never w = w
 of_marks marks replies (Over r) st' c s s' never w = λ paused. absurd (never r refl paused)
 of_marks marks replies Lost st' c s s' never w = tt
 
-never_paused : (a : After) (c : Control) (s : Scene) (r : Rest) → after_stage a c s ≡ Over r → IsPaused r.how → ⊥
+never_paused : (a : After) (c : Position) (s : Scene) (r : Rest) → after_stage a c s ≡ Over r → IsPaused r.how → ⊥
 never_paused (To c' cells) c s r e paused = let f : ⊥ = cc in f
+never_paused (Asks c' q cells) c s r e paused = let f : ⊥ = cc in f
 never_paused (Stops stop) c s r e paused =
-    let f : record { how = halts.Stopped stop; control = c; scene = s } ≡ r = cc in
+    let f : record { how = halts.Stopped stop; control = free c; scene = s } ≡ r = cc in
     subst (λ (x : Rest). IsPaused x.how) (sym f) paused
 
-mark_widens : (marks : ℕ) (replies : List Reply) (m : ℕ) (a : After) (c : Control) (s : Scene) → Widens marks replies (mark_stage m a c s) c s (mark_stage (m + marks) a c (wider s marks replies))
+mark_widens : (marks : ℕ) (replies : List Reply) (m : ℕ) (a : After) (c : Position) (s : Scene) → Widens marks replies (mark_stage m a c s) (free c) s (mark_stage (m + marks) a c (wider s marks replies))
 mark_widens marks replies zero a c s = λ paused. (refl, refl)
 mark_widens marks replies (suc m) a c s =
     let e : suc m + marks ≡ suc (m + marks) = omega arith in
     let s' = record s { marks = m } in
-    subst (λ n. Widens marks replies (after_stage a c s') c s (mark_stage n a c (wider s marks replies))) (sym e)
-    (of_marks marks replies (after_stage a c s') (after_stage a c (wider s' marks replies)) c s' s (never_paused a c s') (after_widens marks replies a c s'))
+    subst (λ n. Widens marks replies (after_stage a c s') (free c) s (mark_stage n a c (wider s marks replies))) (sym e)
+    (of_marks marks replies (after_stage a c s') (after_stage a c (wider s' marks replies)) (free c) s' s (never_paused a c s') (after_widens marks replies a c s'))
 
-stage_widens : (marks : ℕ) (replies : List Reply) (m : Move) (c : Control) (s : Scene) → Widens marks replies (stage m c s) c s (stage m c (wider s marks replies))
-stage_widens marks replies (Goes c' cells) c s = refl
-stage_widens marks replies (Spends a) c s = mark_widens marks replies s.marks a c s
-stage_widens marks replies (Awaits q) c s = asks s.replies
+move_widens : (marks : ℕ) (replies : List Reply) (m : Move) (c : Position) (s : Scene) → Widens marks replies (stage m c s) (free c) s (stage m c (wider s marks replies))
+move_widens marks replies (Goes c' cells) c s = refl
+move_widens marks replies (Spends a) c s = mark_widens marks replies s.marks a c s
+move_widens marks replies (Halts stop) c s = λ paused. (refl, refl)
+move_widens marks replies Ends c s = λ paused. (refl, refl)
+move_widens marks replies Stuck c s = tt
+
+stage_widens : (p : Program) (marks : ℕ) (replies : List Reply) (w : Waits) (c : Position) (s : Scene) → Widens marks replies (stage_at w p c s) (record { position = c; waits = w }) s (stage_at w p c (wider s marks replies))
+stage_widens p marks replies Nothing c s = move_widens marks replies (step p c s.cells) c s
+stage_widens p marks replies (Asked q) c s = asks s.replies
   where
-    asks : (rs : List Reply) → Widens marks replies (reply_stage rs q c s) c s (reply_stage (rs ++ replies) q c (wider s marks replies))
+    asks : (rs : List Reply) → Widens marks replies (reply_stage rs q c s) (record { position = c; waits = Asked q }) s (reply_stage (rs ++ replies) q c (wider s marks replies))
     asks [] = λ paused. (refl, refl)
     asks (r ∷ rs) = refl
-stage_widens marks replies (Halts h) c s = λ paused. (refl, refl)
-stage_widens marks replies Stuck c s = tt
+stage_widens p marks replies (Refused stop) c s = λ paused. (refl, refl)
 
 module _ (p : Program) (marks : ℕ) (replies : List Reply) (last : Rest) where
-  resume_stage : (j : ℕ) (st : Stage) (c : Control) (s : Scene) (r : Rest) → IsPaused r.how → ((c : Control) (s : Scene) → exec p j c s ≡ Some r → Rests p c (wider s marks replies) last) → carry_on st (exec p j) ≡ Some r → Rests p r.control (wider r.scene marks replies) last → Widens marks replies st c s (stage (step p c s.cells) c (wider s marks replies)) → Rests p c (wider s marks replies) last
+  resume_stage : (j : ℕ) (st : Stage) (c : Control) (s : Scene) (r : Rest) → IsPaused r.how → ((c : Control) (s : Scene) → exec p j c s ≡ Some r → Rests p c (wider s marks replies) last) → carry_on st (exec p j) ≡ Some r → Rests p r.control (wider r.scene marks replies) last → Widens marks replies st c s (advance p c (wider s marks replies)) → Rests p c (wider s marks replies) last
   resume_stage j (On c' s') c s r paused ih e h w =
       let a = ih c' s' e in
       (suc a.0, ap (λ st. carry_on st (exec p a.0)) w ∙ a.1)
@@ -84,39 +93,10 @@ module _ (p : Program) (marks : ℕ) (replies : List Reply) (last : Rest) where
 
   resume : (j : ℕ) (c : Control) (s : Scene) (r : Rest) → IsPaused r.how → exec p j c s ≡ Some r → Rests p r.control (wider r.scene marks replies) last → Rests p c (wider s marks replies) last
   resume zero c s r paused e h = let f : ⊥ = cc in absurd f
-  resume (suc j) c s r paused e h = resume_stage j (stage (step p c s.cells) c s) c s r paused (λ c s e. resume j c s r paused e h) e h (stage_widens marks replies (step p c s.cells) c s)
+  resume (suc j) c s r paused e h = resume_stage j (advance p c s) c s r paused (λ c s e. resume j c s r paused e h) e h (stage_widens p marks replies c.waits c.position s)
 
 pub resumed : Resumes
 resumed p c s r last marks replies paused a h = resume p marks replies last a.0 c s r paused a.1 h
 
 pub replied : Replies
-replied p c s q reply last e h = (suc h.0, ap (λ o. carry_on (stage (step_at o p c s.cells) c (record s { replies = reply ∷ s.replies })) (exec p h.0)) e ∙ h.1)
-
-module _ (p : Program) (first : Control) (cells : Cells) where
-  -- at the first place
-  pub continues_here : (given : ℕ) → Continues p first cells given [] first cells given
-  continues_here given = record { goes = λ marks more last h. h }
-
-  -- after a run without replies
-  pub continues_run : (given left : ℕ) (replies : List Reply) (c : Control) (now : Cells) (r : Rest) → IsPaused r.how → Continues p first cells given replies c now left → Rests p c (record { cells = now; marks = left; replies = [] }) r → r.scene.replies ≡ [] → Continues p first cells given replies r.control r.scene.cells r.scene.marks
-  continues_run given left replies c now r paused k h e = record {
-    goes = λ marks more last g. k.goes marks more last (resumed p c (record { cells = now; marks = left; replies = [] }) r last marks more paused h (subst (λ rs. Rests p r.control (record { cells = r.scene.cells; marks = r.scene.marks + marks; replies = rs ++ more }) last) (sym e) g));
-  }
-
-  -- after a reply
-  pub continues_reply : (given left : ℕ) (replies : List Reply) (c : Control) (now : Cells) (q : Request) (reply : Reply) → c.waits ≡ Some q → Continues p first cells given replies c now left → Continues p first cells given (replies ++ reply ∷ []) (answered q reply c) now left
-  continues_reply given left replies c now q reply e k = record {
-    goes = λ marks more last g.
-        let same : replies ++ reply ∷ more ≡ (replies ++ reply ∷ []) ++ more = sym (append_assoc replies (reply ∷ []) more) in
-        subst (λ rs. Rests p first (record { cells = cells; marks = given + marks; replies = rs }) last) same (k.goes marks (reply ∷ more) last (replied p c (record { cells = now; marks = left + marks; replies = more }) q reply last e g));
-  }
-
-  -- with more marks
-  pub continues_more : (given left n : ℕ) (replies : List Reply) (c : Control) (now : Cells) → Continues p first cells given replies c now left → Continues p first cells (given + n) replies c now (left + n)
-  continues_more given left n replies c now k = record {
-    goes = λ marks more last g.
-        let e : left + n + marks ≡ left + (n + marks) = omega arith in
-        let f : given + (n + marks) ≡ given + n + marks = omega arith in
-        subst (λ m. Rests p first (record { cells = cells; marks = m; replies = replies ++ more }) last) f
-        (k.goes (n + marks) more last (subst (λ m. Rests p c (record { cells = now; marks = m; replies = more }) last) e g));
-  }
+replied p c s q reply last h = (suc h.0, h.1)

@@ -23,6 +23,8 @@ use Rattle.code_form.specs.declared.operand.Operand.{Operand}
 use Rattle.code_form.specs.declared.operand.Operand.TheVariants.{Value as Of, Place as At}
 use Rattle.code_form.specs.declared.operand.OperandKind.{OperandKind}
 use Rattle.code_form.specs.declared.operand.OperandKind.TheVariants.{Value as OfKind, Place as AtKind}
+use Rattle.code_form.specs.declared.waits.Waits.{Waits}
+use Rattle.code_form.specs.declared.waits.Waits.TheVariants.{Nothing}
 use Rattle.code_form.specs.declared.instr.Call.TheVariants as calls
 use Rattle.code_form.specs.declared.instr.Instr.{Instr}
 use Rattle.code_form.specs.declared.instr.Instr.TheVariants.{Mark, Number, Truth, Outer, Local, Param, Load, Store, Do, Modify, Jump, False, When, Drop, Limit, Unlimit, Step, Ask, Call, Refer, Back, Out, End}
@@ -32,7 +34,7 @@ use Rattle.code_form.specs.declared.code.Entry.{Entry}
 use Rattle.code_form.specs.declared.code.Layout.{Layout}
 use Rattle.code_form.specs.declared.code.Layout.TheVariants as layouts
 use Rattle.code_form.specs.Program.{Program, line_of, instr_of, in_body, deeper, owner, owner_in, owner_at, layout_of, cells_of, cells_in, cells_at, frame_cells}
-use Rattle.code_form.specs.Machine.{Frame, Control, To, Stops, Move, Goes, Spends, operand_bytes, bytes_on, bytes_of, base_of, at, using, goes, pushes, on_value, on_place, on_values, on_operands, on_result, or_halt, number_in, limit_in, number_of_operand, frame_numbers, link_numbers, written_from, enters, calls_to, call_move, refer_move, back_into, back_to, out_to, limit_to, instruction, free_step, step_at}
+use Rattle.code_form.specs.Machine.{Frame, Position, free, asking, To, Stops, Move, Goes, Spends, operand_bytes, bytes_on, bytes_of, base_of, at, using, goes, pushes, on_value, on_place, on_values, on_operands, on_result, or_halt, number_in, limit_in, number_of_operand, frame_numbers, link_numbers, written_from, enters, calls_to, call_move, refer_move, back_into, back_to, out_to, limit_to, instruction, step}
 use Rattle.code_form.specs.Valid.{Next, pushed_kinds, pushed_operands, with_result, HasResult, IsRefinement, IsCalled, IsReferred, IsFine, IsValid, FitsKind, FitsKinds, MadeSo, IsMade, FitsFrames, Fits}
 use Rattle.code_form.specs.Runs.{IsSafe, StaysFit}
 use Rattle.eu_base.proofs.Results.{result_gives, kind_is}
@@ -146,11 +148,11 @@ module _ (p : Program) (valid : IsValid p) where
       made.entry.layout refl
 
 module _ (p : Program) (valid : IsValid p) (pc : ℕ) (ops : List Operand) (used : ℕ) (frames : List Frame) (cells : Cells) where
-  abbrev now : Control
-  now = record { pc = pc; ops = ops; used = used; frames = frames; full = false; waits = None }
+  abbrev now : Position
+  now = record { pc = pc; ops = ops; used = used; frames = frames }
 
   abbrev Safe : Move → Type 0
-  Safe = IsSafe p now
+  Safe = IsSafe p
 
   -- these operands are of these kinds, and have room
   abbrev Has : List Operand → List OperandKind → Type 0
@@ -202,11 +204,11 @@ module _ (p : Program) (valid : IsValid p) (pc : ℕ) (ops : List Operand) (used
   cond_safe false m m' a b = b
 
   module _ (m : Spot) (floor : ℕ) (made : FitsFrames p frames m.body floor) (used_is : used ≡ floor + m.limits) (room : cells_fit used ≡ true) where
-    fits_at : (pc : ℕ) (ks : List OperandKind) (ops : List Operand) (w : Option Request) → Next p.lines pc ks m → Has ops ks → Fits p (record { pc = pc; ops = ops; used = used; frames = frames; full = false; waits = w })
+    fits_at : (pc : ℕ) (ks : List OperandKind) (ops : List Operand) (w : Waits) → Next p.lines pc ks m → Has ops ks → Fits p (record { position = record { pc = pc; ops = ops; used = used; frames = frames }; waits = w })
     fits_at pc ks ops w next f = record { kinds = ks; spot = m; floor = floor; next = next; operands = f.0; frames = made; used = used_is; cells = λ _. room; bytes = f.1 }
 
-    fit : (pc : ℕ) (ks : List OperandKind) (ops : List Operand) → Next p.lines pc ks m → Has ops ks → Fits p (record { pc = pc; ops = ops; used = used; frames = frames; full = false; waits = None })
-    fit pc ks ops next f = fits_at pc ks ops None next f
+    fit : (pc : ℕ) (ks : List OperandKind) (ops : List Operand) → Next p.lines pc ks m → Has ops ks → Fits p (free (record { pc = pc; ops = ops; used = used; frames = frames }))
+    fit pc ks ops next f = fits_at pc ks ops Nothing next f
 
     push_safe : (o : Operand) (k : OperandKind) (r : List Operand) (ks : List OperandKind) → FitsKind o k → Next p.lines (pc + 1) (k ∷ ks) m → FitsKinds r ks → Safe (pushes now o r cells)
     push_safe o k r ks is next f = cond_safe (bytes_fit (operand_bytes o + bytes_on r (bytes_of frames))) _ _ (λ e. fit (pc + 1) (k ∷ ks) (o ∷ r) next ((is, f), e)) tt
@@ -234,7 +236,7 @@ module _ (p : Program) (valid : IsValid p) (pc : ℕ) (ops : List Operand) (used
         let t = is_past way (number_of v) (number_in cells x) in
         cond_safe (cells_fit (used + 1)) _ _ (λ e. record { kinds = ks; spot = deeper m; floor = floor; next = chosen t a (pc + 1) ks (deeper m) lands next; operands = f.0; frames = made; used = omega (arith, used_is); cells = λ _. e; bytes = f.1 }) tt
 
-    unlimit_safe : (outer : Spot) (ks : List OperandKind) → m ≡ deeper outer → Next p.lines (pc + 1) ks outer → Has ops ks → Fits p (using (at now (pc + 1) ops) (used - 1))
+    unlimit_safe : (outer : Spot) (ks : List OperandKind) → m ≡ deeper outer → Next p.lines (pc + 1) ks outer → Has ops ks → Fits p (free (using (at now (pc + 1) ops) (used - 1)))
     unlimit_safe outer ks e next f =
         let limits : m.limits ≡ suc outer.limits = ap (λ (s : Spot). s.limits) e in
         record {
@@ -252,7 +254,7 @@ module _ (p : Program) (valid : IsValid p) (pc : ℕ) (ops : List Operand) (used
     -- a body is entered
     enters_safe : (n : ℕ) (e : Entry) (base floor' : ℕ) (refines : Bool) (r : List Operand) (rest : List OperandKind) (ns : List ℕ) → slice_get p.bodies n ≡ Some e → Has r rest → floor' ≡ used + length ns
         → MadeSo p e.layout n pc rest m (record { back = pc + 1; base = base; used = used; refines = refines; ops = r }) floor' (base_of frames) → (t : Bool) → cells_fit (used + length ns) ≡ t
-        → IsSafe p now (Spends (cond t (To (record { pc = e.first; ops = []; used = used + length ns; frames = record { back = pc + 1; base = base; used = used; refines = refines; ops = r } ∷ frames; full = false; waits = None }) (written_from used ns cells)) (Stops CellRoom)))
+        → IsSafe p (Spends (cond t (To (record { pc = e.first; ops = []; used = used + length ns; frames = record { back = pc + 1; base = base; used = used; refines = refines; ops = r } ∷ frames }) (written_from used ns cells)) (Stops CellRoom)))
     enters_safe n e base floor' refines r rest ns has f is so false fit = tt
     enters_safe n e base floor' refines r rest ns has f is so true fit = record {
       kinds = [];
@@ -342,7 +344,7 @@ module _ (p : Program) (valid : IsValid p) (pc : ℕ) (ops : List Operand) (used
         (out_safe fs k os n e h.1.0 h.0.body h.1.1.1 (sym (same_owner p valid f body floor' (base_of fs) h.0 h.1.0 made' l q r) ∙ number) has is (omega (arith, le, under, made'.used)) (omega (arith, bytes, bytes_below f.ops (bytes_of fs))) fits room'))
         made'.entry.layout refl
 
-    safe : (i : Instr) (ks : List OperandKind) → slice_get p.lines pc ≡ Some (line_of i ks m) → IsFine p pc i ks m → Has ops ks → Safe (instruction p.bodies (Some i) now cells)
+    safe : (i : Instr) (ks : List OperandKind) → slice_get p.lines pc ≡ Some (line_of i ks m) → IsFine p pc i ks m → Has ops ks → Safe (instruction p (Some i) now cells)
     safe Mark ks line f k = fit (pc + 1) ks ops f k
     safe (Number z) ks line f k = push_safe (Of (item.Int z)) (OfKind kinds.Int) ops ks refl f k.0
     safe (Truth b) ks line f k = push_safe (Of (item.Truth b)) (OfKind kinds.Truth) ops ks refl f k.0
@@ -382,19 +384,15 @@ module _ (p : Program) (valid : IsValid p) (pc : ℕ) (ops : List Operand) (used
     safe (Out r) ks line f k = result_safe r ks _ f.top k (λ os fits room'. out_safe frames r os f.number f.entry floor m.body made f.proc f.has f.delivers (omega (arith, used_is)) (omega arith) fits room')
     safe End ks line f k = tt
 
-pub stays_fit : StaysFit
-stays_fit p c cells valid fits = by c.waits refl
-  where
-    free : (full : Bool) → c.full ≡ full → c.waits ≡ None → IsSafe p c (free_step full p c cells)
-    free true e w = tt
-    free false e w =
-        let i = fits.next.0 in
-        let fine = valid.each c.pc (line_of i fits.kinds fits.spot) fits.next.1 in
-        let same : record c { full = false; waits = None } ≡ c = ap (λ f. record c { full = f; waits = None }) (sym e) ∙ ap (λ w. record c { waits = w }) (sym w) in
-        let made = safe p valid c.pc c.ops c.used c.frames cells fits.spot fits.floor fits.frames fits.used (fits.cells e) i fits.kinds fits.next.1 fine (fits.operands, fits.bytes) in
-        subst (λ (d : Control). IsSafe p d (instruction p.bodies (instr_of (slice_get p.lines c.pc)) d cells)) same
-        (subst (λ (o : Option Line). IsSafe p (record c { full = false; waits = None }) (instruction p.bodies (instr_of o) (record c { full = false; waits = None }) cells)) (sym fits.next.1) made)
+step_safe : (p : Program) (c : Position) (cells : Cells) → IsValid p → Fits p (free c) → IsSafe p (step p c cells)
+step_safe p c cells valid fits =
+    let i = fits.next.0 in
+    let fine = valid.each c.pc (line_of i fits.kinds fits.spot) fits.next.1 in
+    let made = safe p valid c.pc c.ops c.used c.frames cells fits.spot fits.floor fits.frames fits.used (fits.cells refl) i fits.kinds fits.next.1 fine (fits.operands, fits.bytes) in
+    subst (λ (o : Option Line). IsSafe p (instruction p (instr_of o) c cells)) (sym fits.next.1) made
 
-    by : (w : Option Request) → c.waits ≡ w → IsSafe p c (step_at w p c cells)
-    by (Some q) e = λ r. record { kinds = fits.kinds; spot = fits.spot; floor = fits.floor; next = fits.next; operands = fits.operands; frames = fits.frames; used = fits.used; cells = fits.cells; bytes = fits.bytes }
-    by None e = free c.full refl e
+pub stays_fit : StaysFit
+stays_fit = record {
+  steps = step_safe;
+  replies = λ p c q r fits. record { kinds = fits.kinds; spot = fits.spot; floor = fits.floor; next = fits.next; operands = fits.operands; frames = fits.frames; used = fits.used; cells = fits.cells; bytes = fits.bytes };
+}

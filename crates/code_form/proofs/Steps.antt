@@ -24,13 +24,13 @@ use Rattle.code_form.specs.declared.code.Layout.{Layout}
 use Rattle.code_form.specs.declared.code.Layout.TheVariants.{Own}
 use Rattle.code_form.specs.declared.code.Layout.TheVariants as layouts
 use Rattle.code_form.specs.Program.{Program, instr_of}
-use Rattle.code_form.specs.Machine.{Frame, Control, After, To, Stops, Move, Scene, Stage, On, Over, Lost, Rest, operand_bytes, bytes_on, bytes_of, base_of, pushes, on_value, on_place, on_values, on_operands, on_result, or_halt, number_in, limit_in, frame_numbers, link_numbers, written_from, enters, calls_to, call_move, refer_move, back_to, out_to, instruction, free_step, step, step_at, mark_stage, stage, carry_on, exec}
+use Rattle.code_form.specs.Machine.{Frame, Position, Control, free, After, To, Asks, Stops, Move, Scene, Stage, On, Over, Lost, Rest, operand_bytes, bytes_on, bytes_of, base_of, pushes, on_value, on_place, on_values, on_operands, on_result, or_halt, number_in, limit_in, frame_numbers, link_numbers, written_from, enters, calls_to, call_move, refer_move, back_to, out_to, instruction, step, mark_stage, stage, advance, carry_on, exec}
 use Rattle.code_form.specs.Valid.{is_mark, IsFine, IsValid}
 use Rattle.code_form.specs.Runs.{Rests, ahead, steps_left}
 
 -- a step that goes on leaves less to do
 abbrev Nearer : List Line → ℕ → ℕ → ℕ → Stage → Type 0
-Nearer lines marks frames pc (On c s) = steps_left lines s.marks (length c.frames) c.pc < steps_left lines marks frames pc
+Nearer lines marks frames pc (On c s) = steps_left lines s.marks (length c.position.frames) c.position.pc < steps_left lines marks frames pc
 Nearer lines marks frames pc (Over r) = Unit {0}
 Nearer lines marks frames pc Lost = Unit {0}
 
@@ -63,7 +63,7 @@ module _ (p : Program) (valid : IsValid p) where
       (λ le. let z : ahead p.lines a ≡ 0 = ap (λ b. cond b 0 (length p.lines - a)) (t le) in omega (arith, ahead_is pc l e n, slice_get_within p.lines pc l e, z))
       (cases_lt pc a)
 
-  module _ (c : Control) (s : Scene) where
+  module _ (c : Position) (s : Scene) where
     abbrev depth : ℕ
     depth = length c.frames
 
@@ -84,11 +84,13 @@ module _ (p : Program) (valid : IsValid p) where
     -- what follows a spent mark has at most one frame more
     abbrev Deeper : After → Type 0
     Deeper (To c' cells) = length c'.frames ≤ suc depth
+    Deeper (Asks c' q cells) = length c'.frames ≤ suc depth
     Deeper (Stops stop) = Unit {0}
 
     marked : (m : ℕ) (a : After) → Deeper a → Nearer p.lines m depth c.pc (mark_stage m a c s)
     marked zero a d = tt
     marked (suc m) (To c' cells) d = spent_less m (length c'.frames) c'.pc d
+    marked (suc m) (Asks c' q cells) d = spent_less m (length c'.frames) c'.pc d
     marked (suc m) (Stops stop) d = tt
 
     go : (pc : ℕ) → ahead p.lines pc < ahead p.lines c.pc → steps_left p.lines s.marks depth pc < steps_left p.lines s.marks depth c.pc
@@ -152,7 +154,7 @@ module _ (p : Program) (valid : IsValid p) where
     enters_deeper : (first base : ℕ) (refines : Bool) (ops : List Operand) (ns : List ℕ) → Deeper (enters c first base refines ops ns s.cells)
     enters_deeper first base refines ops ns = by (cells_fit (c.used + length ns))
       where
-        by : (b : Bool) → Deeper (cond b (To (record { pc = first; ops = []; used = c.used + length ns; frames = record { back = c.pc + 1; base = base; used = c.used; refines = refines; ops = ops } ∷ c.frames; full = false; waits = None }) (written_from c.used ns s.cells)) (Stops CellRoom))
+        by : (b : Bool) → Deeper (cond b (To (record { pc = first; ops = []; used = c.used + length ns; frames = record { back = c.pc + 1; base = base; used = c.used; refines = refines; ops = ops } ∷ c.frames }) (written_from c.used ns s.cells)) (Stops CellRoom))
         by true = omega arith
         by false = tt
 
@@ -177,7 +179,7 @@ module _ (p : Program) (valid : IsValid p) where
     near_or f h (Ok v) = h v
     near_or f h (Err e) = tt
 
-    at_instr : (l : Line) → slice_get p.lines c.pc ≡ Some l → (i : Instr) → l.instr ≡ i → IsFine p c.pc i l.operands l.spot → Near (instruction p.bodies (Some i) c s.cells)
+    at_instr : (l : Line) → slice_get p.lines c.pc ≡ Some l → (i : Instr) → l.instr ≡ i → IsFine p c.pc i l.operands l.spot → Near (instruction p (Some i) c s.cells)
     at_instr l e Mark is f = marked s.marks _ (omega arith)
     at_instr l e (Number z) is f = push_near l e (ap (λ i. is_mark (Some i)) is) (Of (item.Int z)) c.ops
     at_instr l e (Truth b) is f = push_near l e (ap (λ i. is_mark (Some i)) is) (Of (item.Truth b)) c.ops
@@ -206,23 +208,17 @@ module _ (p : Program) (valid : IsValid p) where
     at_instr l e (Out k) is f = near_result k _ (λ os. out_near os c.frames (omega arith)) c.ops
     at_instr l e End is f = tt
 
-    at_line : (o : Option Line) → slice_get p.lines c.pc ≡ o → Near (instruction p.bodies (instr_of o) c s.cells)
+    at_line : (o : Option Line) → slice_get p.lines c.pc ≡ o → Near (instruction p (instr_of o) c s.cells)
     at_line None e = tt
     at_line (Some l) e = at_instr l e l.instr refl (valid.each c.pc l e)
 
-    near_free : (full : Bool) → Near (free_step full p c s.cells)
-    near_free true = tt
-    near_free false = at_line (slice_get p.lines c.pc) refl
-
-  -- where a step goes on without a reply, the end is nearer
-  pub nearer : (c c' : Control) (s s' : Scene) → c.waits ≡ None → On c' s' ≡ stage (step p c s.cells) c s → steps_left p.lines s'.marks (length c'.frames) c'.pc < steps_left p.lines s.marks (length c.frames) c.pc
-  nearer c c' s s' w e =
-      let f : On c' s' ≡ stage (free_step c.full p c s.cells) c s = e ∙ ap (λ o. stage (step_at o p c s.cells) c s) w in
-      subst (Nearer p.lines s.marks (length c.frames) c.pc) (sym f) (near_free c s c.full)
+  -- where a step goes on, the end is nearer
+  pub nearer : (c : Position) (c' : Control) (s s' : Scene) → On c' s' ≡ stage (step p c s.cells) c s → steps_left p.lines s'.marks (length c'.position.frames) c'.position.pc < steps_left p.lines s.marks (length c.frames) c.pc
+  nearer c c' s s' e = subst (Nearer p.lines s.marks (length c.frames) c.pc) (sym e) (at_line c s (slice_get p.lines c.pc) refl)
 
 -- a step, and then the rest
-pub one_step : (p : Program) (c c' : Control) (s s' : Scene) (r : Rest) → On c' s' ≡ stage (step p c s.cells) c s → Rests p c' s' r → Rests p c s r
+pub one_step : (p : Program) (c c' : Control) (s s' : Scene) (r : Rest) → On c' s' ≡ advance p c s → Rests p c' s' r → Rests p c s r
 one_step p c c' s s' r e h = (suc h.0, ap (λ st. carry_on st (exec p h.0)) (sym e) ∙ h.1)
 
-pub last_step : (p : Program) (c : Control) (s : Scene) (r : Rest) → Over r ≡ stage (step p c s.cells) c s → Rests p c s r
+pub last_step : (p : Program) (c : Control) (s : Scene) (r : Rest) → Over r ≡ advance p c s → Rests p c s r
 last_step p c s r e = (1, ap (λ st. carry_on st (exec p 0)) (sym e))

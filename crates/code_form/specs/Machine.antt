@@ -1,5 +1,5 @@
 -- What the machine does with a list of instructions, one by one.
-use Rattle.std.specs.Prelude.{ℕ, zero, suc, ◌+◌, ◌-◌, Bool, true, false, not, cond, List, [], ◌∷◌, ◌++◌, map, length, Option, Some, None, Ok, Err, slice_get, ℤ}
+use Rattle.std.specs.Prelude.{ℕ, zero, suc, ◌+◌, ◌-◌, Bool, true, false, cond, List, [], ◌∷◌, ◌++◌, map, length, Option, Some, None, Ok, Err, slice_get, ℤ}
 use Rattle.std.specs.Ordering.{int_eq}
 use Rattle.eu_base.specs.declared.address.Addr.{Addr}
 use Rattle.eu_base.specs.declared.value.Kind.{Kind}
@@ -19,6 +19,8 @@ use Rattle.code_form.specs.declared.operand.Operand.{Operand}
 use Rattle.code_form.specs.declared.operand.Operand.TheVariants.{Value as Of, Place as At}
 use Rattle.code_form.specs.declared.halt.Halt.{Halt}
 use Rattle.code_form.specs.declared.halt.Halt.TheVariants as halts
+use Rattle.code_form.specs.declared.waits.Waits.{Waits}
+use Rattle.code_form.specs.declared.waits.Waits.TheVariants.{Nothing, Asked, Refused}
 use Rattle.code_form.specs.declared.instr.Call.{Call as Requested}
 use Rattle.code_form.specs.declared.instr.Call.TheVariants as calls
 use Rattle.code_form.specs.declared.instr.Instr.{Instr}
@@ -37,38 +39,48 @@ pub record Frame : Type 0 where
   pub refines : Bool
   pub ops : List Operand
 
--- where the machine stands: its instruction, the pending operands, the newest first, the cells in use, the live frames, the innermost
--- first, whether the variables had no room at the start, and the request whose answer it waits for
-pub record Control : Type 0 where
+-- where the machine stands: its instruction, the pending operands, the newest first, the cells in use, and the live frames, the
+-- innermost first
+pub record Position : Type 0 where
   pub pc : ℕ
   pub ops : List Operand
   pub used : ℕ
   pub frames : List Frame
-  pub full : Bool
-  pub waits : Option Request
 
--- where an instruction leads once its mark is spent
+-- a position, and what is waited for there
+pub record Control : Type 0 where
+  pub position : Position
+  pub waits : Waits
+
+abbrev pub free : Position → Control
+free c = record { position = c; waits = Nothing }
+
+abbrev pub asking : Position → Request → Control
+asking c q = record { position = c; waits = Asked q }
+
+-- where an instruction leads once its mark is spent: on, to a request, or to a stop
 pub data After : Type 0 where
-  To : Control → Cells → After
+  To : Position → Cells → After
+  Asks : Position → Request → Cells → After
   Stops : Stop → After
 
--- what a step does: it goes on, spends a mark and then does more, waits for an answer, comes to rest, or cannot be made
+-- what an instruction does: it goes on, spends a mark and then does more, stops, ends the command, or cannot be done
 pub data Move : Type 0 where
-  Goes : Control → Cells → Move
+  Goes : Position → Cells → Move
   Spends : After → Move
-  Awaits : Request → Move
-  Halts : Halt → Move
+  Halts : Stop → Move
+  Ends : Move
   Stuck : Move
 
 -- another instruction and other operands
-abbrev pub at : Control → ℕ → List Operand → Control
-at c pc ops = record c { pc = pc; ops = ops; full = false; waits = None }
+abbrev pub at : Position → ℕ → List Operand → Position
+at c pc ops = record c { pc = pc; ops = ops }
 
 -- more or fewer cells in use
-abbrev pub using : Control → ℕ → Control
+abbrev pub using : Position → ℕ → Position
 using c n = record c { used = n }
 
-abbrev pub goes : Control → List Operand → Cells → Move
+abbrev pub goes : Position → List Operand → Cells → Move
 goes c ops cells = Goes (at c (c.pc + 1) ops) cells
 
 -- the bytes of pending operands
@@ -90,8 +102,8 @@ base_of [] = 0
 base_of (f ∷ fs) = f.base
 
 -- the next instruction, with one operand more, where it has room
-abbrev pub pushes : Control → Operand → List Operand → Cells → Move
-pushes c o ops cells = cond (bytes_fit (operand_bytes o + bytes_on ops (bytes_of c.frames))) (goes c (o ∷ ops) cells) (Halts (halts.Stopped OperandRoom))
+abbrev pub pushes : Position → Operand → List Operand → Cells → Move
+pushes c o ops cells = cond (bytes_fit (operand_bytes o + bytes_on ops (bytes_of c.frames))) (goes c (o ∷ ops) cells) (Halts OperandRoom)
 
 -- takes what is on top
 abbrev pub on_value : List Operand → (Value → List Operand → Move) → Move
@@ -116,7 +128,7 @@ on_operands (suc n) os [] go = Stuck
 
 abbrev pub or_halt : Given → (Value → Move) → Move
 or_halt (Ok v) go = go v
-or_halt (Err s) go = Halts (halts.Stopped s)
+or_halt (Err s) go = Halts s
 
 abbrev pub number_in : Cells → Addr → ℤ
 number_in cells a = number_of (value_in kinds.Int (cells a))
@@ -144,21 +156,21 @@ written_from at [] cells = cells
 written_from at (n ∷ ns) cells = written_from (suc at) ns (written cells (run_cell at) n)
 
 -- goes to a body, with a frame that has these numbers in its cells
-abbrev pub enters : Control → ℕ → ℕ → Bool → List Operand → List ℕ → Cells → After
+abbrev pub enters : Position → ℕ → ℕ → Bool → List Operand → List ℕ → Cells → After
 enters c first base refines ops numbers cells =
     cond (cells_fit (c.used + length numbers))
-    (To (record { pc = first; ops = []; used = c.used + length numbers; frames = record { back = c.pc + 1; base = base; used = c.used; refines = refines; ops = ops } ∷ c.frames; full = false; waits = None }) (written_from c.used numbers cells))
+    (To (record { pc = first; ops = []; used = c.used + length numbers; frames = record { back = c.pc + 1; base = base; used = c.used; refines = refines; ops = ops } ∷ c.frames }) (written_from c.used numbers cells))
     (Stops CellRoom)
 
-abbrev pub calls_to : Control → ℕ → Layout → Cells → Move
+abbrev pub calls_to : Position → ℕ → Layout → Cells → Move
 calls_to c first (Own parameters variables) cells = on_operands (length parameters) [] c.ops (λ args ops. Spends (enters c first (c.used + 2) false ops (frame_numbers args variables) cells))
 calls_to c first _ cells = Stuck
 
-abbrev pub call_move : Control → Option Entry → Cells → Move
+abbrev pub call_move : Position → Option Entry → Cells → Move
 call_move c (Some e) cells = calls_to c e.first e.layout cells
 call_move c None cells = Stuck
 
-abbrev pub refer_move : Control → Option Entry → Cells → Move
+abbrev pub refer_move : Position → Option Entry → Cells → Move
 refer_move c (Some e) cells = Spends (enters c e.first (base_of c.frames) true c.ops link_numbers cells)
 refer_move c None cells = Stuck
 
@@ -169,7 +181,7 @@ on_result (Some k) ops go = on_value ops (λ v rest. go (Of v ∷ []))
 
 -- leaves a frame, and leaves those of refinements and that of their PROC
 abbrev pub back_into : List Operand → Frame → List Frame → Cells → Move
-back_into result f fs cells = Goes (record { pc = f.back; ops = result ++ f.ops; used = f.used; frames = fs; full = false; waits = None }) cells
+back_into result f fs cells = Goes (record { pc = f.back; ops = result ++ f.ops; used = f.used; frames = fs }) cells
 
 abbrev pub back_to : List Operand → List Frame → Cells → Move
 back_to result [] cells = Stuck
@@ -180,59 +192,51 @@ out_to result [] cells = Stuck
 out_to result (f ∷ fs) cells = cond f.refines (out_to result fs cells) (back_into result f fs cells)
 
 -- keeps a limit in a cell, and looks whether the counter is past it
-abbrev pub limit_to : Control → Way → ℕ → ℤ → Addr → List Operand → Cells → Move
+abbrev pub limit_to : Position → Way → ℕ → ℤ → Addr → List Operand → Cells → Move
 limit_to c way a limit x ops cells =
     cond (cells_fit (c.used + 1))
     (Goes (using (at c (cond (is_past way limit (number_in cells x)) a (c.pc + 1)) ops) (c.used + 1)) (written cells (run_cell c.used) (cell_of (item.Int limit))))
-    (Halts (halts.Stopped CellRoom))
+    (Halts CellRoom)
 
 -- the innermost limit
-abbrev pub limit_in : Control → Cells → ℤ
+abbrev pub limit_in : Position → Cells → ℤ
 limit_in c cells = number_in cells (run_cell (c.used - 1))
 
--- what an instruction does
-abbrev pub instruction : List Entry → Option Instr → Control → Cells → Move
-instruction bodies None c cells = Stuck
-instruction bodies (Some Mark) c cells = Spends (To (at c (c.pc + 1) c.ops) cells)
-instruction bodies (Some (Number z)) c cells = pushes c (Of (item.Int z)) c.ops cells
-instruction bodies (Some (Truth b)) c cells = pushes c (Of (item.Truth b)) c.ops cells
-instruction bodies (Some (Outer k)) c cells = pushes c (At (run_cell k)) c.ops cells
-instruction bodies (Some (Local k)) c cells = pushes c (At (run_cell (base_of c.frames + k))) c.ops cells
-instruction bodies (Some (Param k)) c cells = pushes c (At (place_in (cells (run_cell (base_of c.frames + k))))) c.ops cells
-instruction bodies (Some (Load kind)) c cells = on_place c.ops (λ a ops. pushes c (Of (value_in kind (cells a))) ops cells)
-instruction bodies (Some (Store kind)) c cells = on_value c.ops (λ v ops. on_place ops (λ a ops. goes c ops (written cells a (cell_of v))))
-instruction bodies (Some (Do op)) c cells =
+-- what an instruction of a program does. It looks at where bodies begin and what frames they have, not at the other tables
+abbrev pub instruction : Program → Option Instr → Position → Cells → Move
+instruction p None c cells = Stuck
+instruction p (Some Mark) c cells = Spends (To (at c (c.pc + 1) c.ops) cells)
+instruction p (Some (Number z)) c cells = pushes c (Of (item.Int z)) c.ops cells
+instruction p (Some (Truth b)) c cells = pushes c (Of (item.Truth b)) c.ops cells
+instruction p (Some (Outer k)) c cells = pushes c (At (run_cell k)) c.ops cells
+instruction p (Some (Local k)) c cells = pushes c (At (run_cell (base_of c.frames + k))) c.ops cells
+instruction p (Some (Param k)) c cells = pushes c (At (place_in (cells (run_cell (base_of c.frames + k))))) c.ops cells
+instruction p (Some (Load kind)) c cells = on_place c.ops (λ a ops. pushes c (Of (value_in kind (cells a))) ops cells)
+instruction p (Some (Store kind)) c cells = on_value c.ops (λ v ops. on_place ops (λ a ops. goes c ops (written cells a (cell_of v))))
+instruction p (Some (Do op)) c cells =
     on_values (length (operand_kinds op)) [] c.ops (λ vs ops. or_halt (result_of op vs) (λ v. pushes c (Of v) ops cells))
-instruction bodies (Some (Modify change)) c cells =
+instruction p (Some (Modify change)) c cells =
     on_value c.ops (λ v ops. on_place ops (λ a ops. or_halt (changed change (number_in cells a) (number_of v)) (λ x. goes c ops (written cells a (cell_of x)))))
-instruction bodies (Some (Jump a)) c cells = Goes (at c a c.ops) cells
-instruction bodies (Some (False a)) c cells = on_value c.ops (λ v ops. Goes (at c (cond (truth_of v) (c.pc + 1) a) ops) cells)
-instruction bodies (Some (When z a)) c cells =
+instruction p (Some (Jump a)) c cells = Goes (at c a c.ops) cells
+instruction p (Some (False a)) c cells = on_value c.ops (λ v ops. Goes (at c (cond (truth_of v) (c.pc + 1) a) ops) cells)
+instruction p (Some (When z a)) c cells =
     on_value c.ops (λ v ops. cond (int_eq (number_of v) z) (Goes (at c a ops) cells) (goes c (Of v ∷ ops) cells))
-instruction bodies (Some Drop) c cells = on_value c.ops (λ v ops. goes c ops cells)
-instruction bodies (Some (Limit way a)) c cells = on_value c.ops (λ v ops. on_place ops (λ x ops. limit_to c way a (number_of v) x ops cells))
-instruction bodies (Some Unlimit) c cells = Goes (using (at c (c.pc + 1) c.ops) (c.used - 1)) cells
-instruction bodies (Some (Step way a)) c cells =
+instruction p (Some Drop) c cells = on_value c.ops (λ v ops. goes c ops cells)
+instruction p (Some (Limit way a)) c cells = on_value c.ops (λ v ops. on_place ops (λ x ops. limit_to c way a (number_of v) x ops cells))
+instruction p (Some Unlimit) c cells = Goes (using (at c (c.pc + 1) c.ops) (c.used - 1)) cells
+instruction p (Some (Step way a)) c cells =
     on_place c.ops (λ x ops.
     cond (has_reached way (limit_in c cells) (number_in cells x)) (Goes (at c a ops) cells) (goes c ops (written cells x (cell_of (item.Int (next_number way (number_in cells x)))))))
-instruction bodies (Some (Ask call)) c cells = on_call call c.ops (λ q ops. Spends (To (record (at c (c.pc + 1) ops) { waits = Some q }) cells))
-instruction bodies (Some (Call n)) c cells = call_move c (slice_get bodies n) cells
-instruction bodies (Some (Refer n)) c cells = refer_move c (slice_get bodies n) cells
-instruction bodies (Some (Back kind)) c cells = on_result kind c.ops (λ result. back_to result c.frames cells)
-instruction bodies (Some (Out kind)) c cells = on_result kind c.ops (λ result. out_to result c.frames cells)
-instruction bodies (Some End) c cells = Halts halts.Ended
+instruction p (Some (Ask call)) c cells = on_call call c.ops (λ q ops. Spends (Asks (at c (c.pc + 1) ops) q cells))
+instruction p (Some (Call n)) c cells = call_move c (slice_get p.bodies n) cells
+instruction p (Some (Refer n)) c cells = refer_move c (slice_get p.bodies n) cells
+instruction p (Some (Back kind)) c cells = on_result kind c.ops (λ result. back_to result c.frames cells)
+instruction p (Some (Out kind)) c cells = on_result kind c.ops (λ result. out_to result c.frames cells)
+instruction p (Some End) c cells = Ends
 
-abbrev pub free_step : Bool → Program → Control → Cells → Move
-free_step true p c cells = Halts (halts.Stopped CellRoom)
-free_step false p c cells = instruction p.bodies (instr_of (slice_get p.lines c.pc)) c cells
-
-abbrev pub step_at : Option Request → Program → Control → Cells → Move
-step_at (Some q) p c cells = Awaits q
-step_at None p c cells = free_step c.full p c cells
-
--- one step. It looks at the instructions and at where bodies begin and what frames they have, not at the other tables
-abbrev pub step : Program → Control → Cells → Move
-step p c cells = step_at c.waits p c cells
+-- one step, where nothing is waited for
+abbrev pub step : Program → Position → Cells → Move
+step p c cells = instruction p (instr_of (slice_get p.lines c.pc)) c cells
 
 -- what the machine runs on: a number in each cell, the marks that are left, and the replies that are left
 pub record Scene : Type 0 where
@@ -247,8 +251,8 @@ pub record Rest : Type 0 where
   pub scene : Scene
 
 -- a reply to what the machine asks
-abbrev pub answered : Request → Reply → Control → Control
-answered q r c = record c { waits = None }
+abbrev pub answered : Request → Reply → Position → Control
+answered q r c = free c
 
 -- what a step leads to: a next state, rest, or nothing
 pub data Stage : Type 0 where
@@ -259,24 +263,34 @@ pub data Stage : Type 0 where
 abbrev pub rest_at : Halt → Control → Scene → Rest
 rest_at h c s = record { how = h; control = c; scene = s }
 
-abbrev pub after_stage : After → Control → Scene → Stage
-after_stage (To c' cells) c s = On c' (record s { cells = cells })
-after_stage (Stops stop) c s = Over (rest_at (halts.Stopped stop) c s)
+abbrev pub after_stage : After → Position → Scene → Stage
+after_stage (To c' cells) c s = On (free c') (record s { cells = cells })
+after_stage (Asks c' q cells) c s = On (asking c' q) (record s { cells = cells })
+after_stage (Stops stop) c s = Over (rest_at (halts.Stopped stop) (free c) s)
 
-abbrev pub mark_stage : ℕ → After → Control → Scene → Stage
-mark_stage zero a c s = Over (rest_at halts.Marked c s)
+abbrev pub mark_stage : ℕ → After → Position → Scene → Stage
+mark_stage zero a c s = Over (rest_at halts.Marked (free c) s)
 mark_stage (suc m) a c s = after_stage a c (record s { marks = m })
 
-abbrev pub reply_stage : List Reply → Request → Control → Scene → Stage
-reply_stage [] q c s = Over (rest_at (halts.Asks q) c s)
+abbrev pub stage : Move → Position → Scene → Stage
+stage (Goes c' cells) c s = On (free c') (record s { cells = cells })
+stage (Spends a) c s = mark_stage s.marks a c s
+stage (Halts stop) c s = Over (rest_at (halts.Stopped stop) (free c) s)
+stage Ends c s = Over (rest_at halts.Ended (free c) s)
+stage Stuck c s = Lost
+
+abbrev pub reply_stage : List Reply → Request → Position → Scene → Stage
+reply_stage [] q c s = Over (rest_at (halts.Asks q) (asking c q) s)
 reply_stage (r ∷ rs) q c s = On (answered q r c) (record s { replies = rs })
 
-abbrev pub stage : Move → Control → Scene → Stage
-stage (Goes c' cells) c s = On c' (record s { cells = cells })
-stage (Spends a) c s = mark_stage s.marks a c s
-stage (Awaits q) c s = reply_stage s.replies q c s
-stage (Halts h) c s = Over (rest_at h c s)
-stage Stuck c s = Lost
+-- where nothing is waited for, a step is made; a request takes the next reply; and what was refused stops
+abbrev pub stage_at : Waits → Program → Position → Scene → Stage
+stage_at Nothing p c s = stage (step p c s.cells) c s
+stage_at (Asked q) p c s = reply_stage s.replies q c s
+stage_at (Refused stop) p c s = Over (rest_at (halts.Stopped stop) (record { position = c; waits = Refused stop }) s)
+
+abbrev pub advance : Program → Control → Scene → Stage
+advance p c s = stage_at c.waits p c.position s
 
 abbrev pub carry_on : Stage → (Control → Scene → Option Rest) → Option Rest
 carry_on (On c s) next = next c s
@@ -286,8 +300,8 @@ carry_on Lost next = None
 -- at most n steps, and none where these are too few
 abbrev pub exec : Program → ℕ → Control → Scene → Option Rest
 exec p zero c s = None
-exec p (suc n) c s = carry_on (stage (step p c s.cells) c s) (exec p n)
+exec p (suc n) c s = carry_on (advance p c s) (exec p n)
 
--- where a command starts, with so many variables
+-- where a command starts, with so many variables. Where these have no room, it stops there
 abbrev pub start : ℕ → Control
-start n = record { pc = 0; ops = []; used = n; frames = []; full = not (cells_fit n); waits = None }
+start n = record { position = record { pc = 0; ops = []; used = n; frames = [] }; waits = cond (cells_fit n) Nothing (Refused CellRoom) }

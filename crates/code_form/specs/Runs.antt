@@ -1,13 +1,15 @@
 -- Runs of code: how they come to rest, go on, and end.
-use Rattle.std.specs.Prelude.{◌≡◌, ℕ, ◌+◌, ◌-◌, ◌*◌, cond, List, ◌∷◌, ◌++◌, length, Some, slice_get}
+use Rattle.std.specs.Prelude.{◌≡◌, ℕ, ◌+◌, ◌-◌, ◌*◌, ◌⊎◌, cond, List, [], ◌∷◌, ◌++◌, length, Option, Some, None, slice_get}
 use Rattle.eu_base.specs.declared.request.Request.{Request}
 use Rattle.eu_base.specs.declared.request.Reply.{Reply}
 use Rattle.eu_base.specs.Cells.{Cells}
 use Rattle.code_form.specs.declared.halt.Halt.{Halt}
 use Rattle.code_form.specs.declared.halt.Halt.TheVariants as halts
+use Rattle.code_form.specs.declared.waits.Waits.{Waits}
+use Rattle.code_form.specs.declared.waits.Waits.TheVariants.{Nothing, Asked, Refused}
 use Rattle.code_form.specs.declared.code.Line.{Line}
 use Rattle.code_form.specs.Program.{Program, instr_of}
-use Rattle.code_form.specs.Machine.{Control, To, Stops, Move, Goes, Spends, Awaits, Halts, Stuck, Scene, Rest, step, exec, answered}
+use Rattle.code_form.specs.Machine.{Position, Control, free, asking, To, Asks, Stops, Move, Goes, Spends, Halts, Ends, Stuck, Scene, Rest, step, exec, answered}
 use Rattle.code_form.specs.Valid.{IsValid, Fits, is_mark}
 
 -- the machine comes to rest so
@@ -31,24 +33,32 @@ Resumes = (p : Program) (c : Control) (s : Scene) (r last : Rest) (marks : ℕ) 
 
 -- a reply given is the next of the replies
 abbrev pub Replies : Type 0
-Replies = (p : Program) (c : Control) (s : Scene) (q : Request) (reply : Reply) (last : Rest) → c.waits ≡ Some q → Rests p (answered q reply c) s last → Rests p c (record s { replies = reply ∷ s.replies }) last
+Replies = (p : Program) (c : Position) (s : Scene) (q : Request) (reply : Reply) (last : Rest) → Rests p (answered q reply c) s last → Rests p (asking c q) (record s { replies = reply ∷ s.replies }) last
 
 -- there is one way to come to rest
 abbrev pub IsOne : Type 0
 IsOne = (p : Program) (c : Control) (s : Scene) (r r' : Rest) → Rests p c s r → Rests p c s r' → r ≡ r'
 
--- a step can be made, and leads to a state that fits
-abbrev pub IsSafe : Program → Control → Move → Type 0
-IsSafe p c (Goes c' cells) = Fits p c'
-IsSafe p c (Spends (To c' cells)) = Fits p c'
-IsSafe p c (Spends (Stops s)) = Unit {0}
-IsSafe p c (Awaits q) = (r : Reply) → Fits p (answered q r c)
-IsSafe p c (Halts h) = Unit {0}
-IsSafe p c Stuck = ⊥
+-- an instruction can be done, and leads to a state that fits
+abbrev pub IsSafe : Program → Move → Type 0
+IsSafe p (Goes c cells) = Fits p (free c)
+IsSafe p (Spends (To c cells)) = Fits p (free c)
+IsSafe p (Spends (Asks c q cells)) = Fits p (asking c q)
+IsSafe p (Spends (Stops s)) = Unit {0}
+IsSafe p (Halts s) = Unit {0}
+IsSafe p Ends = Unit {0}
+IsSafe p Stuck = ⊥
 
 -- each state that code reaches fits, and the machine is never stuck
-abbrev pub StaysFit : Type 0
-StaysFit = (p : Program) (c : Control) (cells : Cells) → IsValid p → Fits p c → IsSafe p c (step p c cells)
+pub record StaysFit : Type 0 where
+  pub steps : (p : Program) (c : Position) (cells : Cells) → IsValid p → Fits p (free c) → IsSafe p (step p c cells)
+  pub replies : (p : Program) (c : Position) (q : Request) (r : Reply) → Fits p (asking c q) → Fits p (answered q r c)
+
+-- the request that is waited for
+abbrev pub asked : Waits → Option Request
+asked Nothing = None
+asked (Asked q) = Some q
+asked (Refused stop) = None
 
 -- how far the next mark, or else the end, can be
 abbrev pub ahead : List Line → ℕ → ℕ
@@ -58,6 +68,12 @@ ahead lines pc = cond (is_mark (instr_of (slice_get lines pc))) 0 (length lines 
 abbrev pub steps_left : List Line → ℕ → ℕ → ℕ → ℕ
 steps_left lines marks frames pc = marks * (length lines + 1) + marks * (length lines + 1) + frames * (length lines + 1) + ahead lines pc
 
--- with more marks and replies, the machine goes on from here as it would from the first state with all of them
-pub record Continues (p : Program) (first : Control) (cells : Cells) (given : ℕ) (replies : List Reply) (c : Control) (now : Cells) (left : ℕ) : Type 0 where
-  pub goes : (marks : ℕ) (more : List Reply) (last : Rest) → Rests p c (record { cells = now; marks = left + marks; replies = more }) last → Rests p first (record { cells = cells; marks = given + marks; replies = replies ++ more }) last
+-- A state stands so after a start: so many marks were spent and these replies were given, and with more of both the machine goes on
+-- from it as from the start with all of them.
+pub record Stands (p : Program) (first : Control) (cells : Cells) (spent : ℕ) (replies : List Reply) (c : Control) (now : Cells) : Type 0 where
+  pub goes : (marks : ℕ) (more : List Reply) (last : Rest) → Rests p c (record { cells = now; marks = marks; replies = more }) last → Rests p first (record { cells = cells; marks = spent + marks; replies = replies ++ more }) last
+
+-- a run from there for want of marks or replies, and one that had no marks however it came to rest, spends marks and leaves it so
+abbrev pub StandsOn : Type 0
+StandsOn = (p : Program) (first : Control) (cells : Cells) (spent left : ℕ) (replies : List Reply) (c : Control) (now : Cells) (r : Rest) → IsPaused r.how ⊎ (left ≡ 0) → Stands p first cells spent replies c now
+    → Rests p c (record { cells = now; marks = left; replies = [] }) r → r.scene.replies ≡ [] → Stands p first cells (spent + (left - r.scene.marks)) replies r.control r.scene.cells

@@ -21,6 +21,8 @@ use Rattle.code_form.specs.declared.code.Layout.{Layout}
 use Rattle.code_form.specs.declared.code.Layout.TheVariants as layouts
 use Rattle.code_form.specs.Program.{Program, line_of, instr_of, at_level, in_body, deeper, owner, owner_in, frame_cells}
 use Rattle.code_form.specs.Machine.{Frame, Control, base_of, bytes_on, bytes_of}
+use Rattle.code_form.specs.declared.waits.Waits.{Waits}
+use Rattle.code_form.specs.declared.waits.Waits.TheVariants.{Refused}
 
 -- these operands are pending at an instruction of this body, with so many limits
 abbrev pub Next : List Line → ℕ → List OperandKind → Spot → Type 0
@@ -179,15 +181,20 @@ FitsFrames p [] body floor = (body ≡ None) × (floor ≡ length p.variables)
 FitsFrames p (f ∷ fs) body floor =
     (m : Spot) × ((floor_below : ℕ) × (IsMade p f body floor (base_of fs) m floor_below × FitsFrames p fs m.body floor_below))
 
+-- what was needed was refused
+abbrev pub is_refused : Waits → Bool
+is_refused (Refused stop) = true
+is_refused _ = false
+
 -- a state fits its code: its instruction is one of the body of its innermost frame, the frames are such as CALL and REFER make, the
--- pending operands and FOR limits are those that the tables give, and cells and pending operands have room, or the next step stops
+-- pending operands and FOR limits are those that the tables give, and cells and pending operands have room, or it stops
 pub record Fits (p : Program) (c : Control) : Type 0 where
   pub kinds : List OperandKind
   pub spot : Spot
   pub floor : ℕ
-  pub next : Next p.lines c.pc kinds spot
-  pub operands : FitsKinds c.ops kinds
-  pub frames : FitsFrames p c.frames spot.body floor
-  pub used : c.used ≡ floor + spot.limits
-  pub cells : c.full ≡ false → cells_fit c.used ≡ true
-  pub bytes : bytes_fit (bytes_on c.ops (bytes_of c.frames)) ≡ true
+  pub next : Next p.lines c.position.pc kinds spot
+  pub operands : FitsKinds c.position.ops kinds
+  pub frames : FitsFrames p c.position.frames spot.body floor
+  pub used : c.position.used ≡ floor + spot.limits
+  pub cells : is_refused c.waits ≡ false → cells_fit c.position.used ≡ true
+  pub bytes : bytes_fit (bytes_on c.position.ops (bytes_of c.position.frames)) ≡ true

@@ -6,9 +6,11 @@ mod halt;
 mod instr;
 mod operand;
 mod text;
+mod waits;
 
 pub use code::{Code, Entry, Layout, Line, Spot};
 pub use halt::Halt;
 pub use instr::{Call, Instr};
 pub use operand::{Operand, OperandKind};
 pub use text::listing;
+pub use waits::Waits;

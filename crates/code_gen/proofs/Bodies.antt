@@ -11,7 +11,7 @@ use Rattle.code_form.specs.declared.code.Line.{Line}
 use Rattle.code_form.specs.declared.code.Spot.{Spot}
 use Rattle.code_form.specs.declared.code.Entry.{Entry}
 use Rattle.code_form.specs.Program.{Program, line_of, in_body}
-use Rattle.code_form.specs.Machine.{Control, at, on_result, back_to}
+use Rattle.code_form.specs.Machine.{Position, at, on_result, back_to}
 use Rattle.elan_types.specs.declared.elan_type.ElanType.{ElanType}
 use Rattle.elan_types.specs.declared.core_phrase.Exit.{Exit}
 use Rattle.elan_types.specs.declared.core_phrase.Exit.TheVariants as exits
@@ -65,7 +65,7 @@ module _ (p : Program) (variables : List ElanType) (bodies : List Body) (agrees 
   content_sized (contents.Value u a) e m at = join_sized (value_code a) (one (Back (Some (kind_in u))) (drop 1)) (value_is p variables bodies agrees (Some q) home a u (has_is u _ e)).sized (one_sized (Back (Some (kind_in u))) (drop 1)) [] m at
 
   -- the end of a body is an exit from it
-  back_ends : (b z : ℕ) (k : Option Kind) (v : Option Value) (ks : List OperandKind) (m : Spot) (L : Uses) (c : Control) (l : Exit → Option Value → World → Ending) → slice_get p.lines z ≡ Some (line_of (Back k) ks m) → Delivers p (Some q) k → Result k v → Exits p L b (Some q) c.frames l → (w : World) → w.marks ≤ b → Ends p L (at c z (result_ops v)) w (l exits.Body v w)
+  back_ends : (b z : ℕ) (k : Option Kind) (v : Option Value) (ks : List OperandKind) (m : Spot) (L : Uses) (c : Position) (l : Exit → Option Value → World → Ending) → slice_get p.lines z ≡ Some (line_of (Back k) ks m) → Delivers p (Some q) k → Result k v → Exits p L b (Some q) c.frames l → (w : World) → w.marks ≤ b → Ends p L (at c z (result_ops v)) w (l exits.Body v w)
   back_ends b z k v ks m L c l has gives r hl w le =
       let x = hl.self k gives [] v w r le in λ cells keeps.
       on_step p (at c z (result_ops v)) x.0 (scene_of w cells) cells _ (here p z (Back k) ks m has c (result_ops v) cells ∙ by k v r cells ∙ x.1 cells) (subst (λ U. Ends p U x.0 w (l exits.Body v w)) (append-[] L) x.2 cells keeps)

@@ -19,7 +19,7 @@ use Rattle.code_form.specs.declared.code.Layout.TheVariants as layouts
 use Rattle.code_form.specs.declared.instr.Instr.TheVariants.{Call, Refer}
 use Rattle.code_form.specs.Program as tables
 use Rattle.code_form.specs.Program.{Program, line_of, in_body, owner, cells_in, frame_cells}
-use Rattle.code_form.specs.Machine.{Control, To, Stops, Spends, at, base_of, bytes_on, bytes_of, enters, calls_to, call_move, refer_move, frame_numbers, link_numbers, after_stage, written_from, step}
+use Rattle.code_form.specs.Machine.{Position, free, To, Stops, Spends, at, base_of, bytes_on, bytes_of, enters, calls_to, call_move, refer_move, frame_numbers, link_numbers, after_stage, written_from, step}
 use Rattle.elan_types.specs.declared.core_phrase.Exit.{Exit}
 use Rattle.elan_types.specs.declared.core_phrase.Exit.TheVariants as exits
 use Rattle.elan_types.specs.declared.core_phrase.Scope.{Scope}
@@ -61,15 +61,15 @@ finish_referred n (Asks q w) k l = refl
 module _ (p : Program) where
   -- the code of a body does what the body does: it ends as it is left from itself
   pub record ContentCarries (q first : ℕ) (con : Content) : Type 0 where
-    pub ends : (calls : Calls) (n b : ℕ) (L : Uses) (c : Control) → Within p calls n b L (in_body q) c → (l : Exit → Option Value → World → Ending) → Exits p L b (Some q) c.frames l → (w : World) → w.marks ≤ b → Ends p L (at c first []) w (finish (content con (reach calls n c []) w) (l exits.Body) l)
+    pub ends : (calls : Calls) (n b : ℕ) (L : Uses) (c : Position) → Within p calls n b L (in_body q) c → (l : Exit → Option Value → World → Ending) → Exits p L b (Some q) c.frames l → (w : World) → w.marks ≤ b → Ends p L (at c first []) w (finish (content con (reach calls n c []) w) (l exits.Body) l)
 
   -- cells are taken for a frame where there is room, and the machine goes into the body
-  room_ends : (L M : Uses) (more : List Slot) (ns : List ℕ) (c inner : Control) (go : World → Outcome (Option Value)) (k : Option Value → World → Ending) (l : Exit → Option Value → World → Ending) (w : World) (cells : Cells) → c.used ≡ length L → AllKept L (length L) M more ns → Keeps L w.store cells
+  room_ends : (L M : Uses) (more : List Slot) (ns : List ℕ) (c inner : Position) (go : World → Outcome (Option Value)) (k : Option Value → World → Ending) (l : Exit → Option Value → World → Ending) (w : World) (cells : Cells) → c.used ≡ length L → AllKept L (length L) M more ns → Keeps L w.store cells
       → (t : Bool) → (t ≡ true → Ends p (L ++ M) inner (record w { store = w.store ++ more }) (finish (go (record w { store = w.store ++ more })) k l))
       → After p (after_stage (cond t (To inner (written_from c.used ns cells)) (Stops CellRoom)) c (scene_of w cells)) (finish (branch t (λ w. go (record w { store = w.store ++ more })) (Stopped CellRoom) w) k l)
   room_ends L M more ns c inner go k l w cells used kept h false e = record {
     steps = 0;
-    rest = record { how = halts.Stopped CellRoom; control = c; scene = scene_of w cells };
+    rest = record { how = halts.Stopped CellRoom; control = free c; scene = scene_of w cells };
     comes = refl;
     shows = record { how = refl; marks = refl; replies = refl; cells = image L w.store cells h };
   }
@@ -78,11 +78,11 @@ module _ (p : Program) where
       record { steps = x.steps; rest = x.rest; comes = x.comes; shows = x.shows }
 
   -- a body is entered with these cells
-  abbrev entered : Control → ℕ → ℕ → Bool → List Operand → List ℕ → Control
-  entered c first base refines ops ns = record { pc = first; ops = []; used = c.used + length ns; frames = record { back = c.pc + 1; base = base; used = c.used; refines = refines; ops = ops } ∷ c.frames; full = false; waits = None }
+  abbrev entered : Position → ℕ → ℕ → Bool → List Operand → List ℕ → Position
+  entered c first base refines ops ns = record { pc = first; ops = []; used = c.used + length ns; frames = record { back = c.pc + 1; base = base; used = c.used; refines = refines; ops = ops } ∷ c.frames }
 
   -- with the cells of a frame in use, that those of the frame below are where they were
-  enter_ends : (L M : Uses) (more : List Slot) (ns : List ℕ) (c : Control) (first base : ℕ) (refines : Bool) (ops : List Operand) (go : World → Outcome (Option Value)) (k : Option Value → World → Ending) (l : Exit → Option Value → World → Ending) (w : World) (cells : Cells) → c.used ≡ length L → AllKept L (length L) M more ns → Keeps L w.store cells
+  enter_ends : (L M : Uses) (more : List Slot) (ns : List ℕ) (c : Position) (first base : ℕ) (refines : Bool) (ops : List Operand) (go : World → Outcome (Option Value)) (k : Option Value → World → Ending) (l : Exit → Option Value → World → Ending) (w : World) (cells : Cells) → c.used ≡ length L → AllKept L (length L) M more ns → Keeps L w.store cells
       → (length (L ++ M) ≤ CELLS → Ends p (L ++ M) (entered c first base refines ops ns) (record w { store = w.store ++ more }) (finish (go (record w { store = w.store ++ more })) k l))
       → After p (after_stage (enters c first base refines ops ns cells) c (scene_of w cells)) (finish (with_room more go w) k l)
   enter_ends L M more ns c first base refines ops go k l w cells used kept h e =
@@ -94,7 +94,7 @@ module _ (p : Program) where
       (room_ends L M more ns c inner go k l w cells used kept h (cells_fit (c.used + length ns)) (λ t. e (subst (λ n. n ≤ CELLS) (sym all) (leb-true (c.used + length ns) CELLS t))))
 
   -- what comes after a body, with its cells given back
-  cut_ends : (L M more : Uses) (n : ℕ) (c : Control) (v : Option Value) (w : World) (k : Option Value → World → Ending) → n ≡ length L → Ends p L c (cut n w) (k v (cut n w)) → Ends p ((L ++ M) ++ more) c w (k v (cut n w))
+  cut_ends : (L M more : Uses) (n : ℕ) (c : Position) (v : Option Value) (w : World) (k : Option Value → World → Ending) → n ≡ length L → Ends p L c (cut n w) (k v (cut n w)) → Ends p ((L ++ M) ++ more) c w (k v (cut n w))
   cut_ends L M more n c v w k is e cells keeps = e cells (cuts L (M ++ more) w.store cells n is (subst (λ U. Keeps U w.store cells) (append_assoc L M more) keeps))
 
 -- an entry of the tables is that of a body, whose code does what the body does
@@ -125,7 +125,7 @@ module _ (bodies : List Body) (p : Program) where
   frame_own q e ks vs is own = ap (cells_in p) (owner_own q e ks vs is own) ∙ ap (λ o. tables.cells_at (tables.layout_of o)) is ∙ ap tables.cells_of own
 
   -- the cells in use behind the frame below are those of the call
-  stands_called : (L : Uses) (m : Spot) (c c' : Control) (q : ℕ) (cells : List OperandKind) → Stands p L m c → length (L ++ frame_uses cells) ≤ CELLS → c'.used ≡ length (L ++ frame_uses cells) → base_of c'.frames ≡ length L + 2 → frame_cells p (Some q) ≡ cells → Stands p (L ++ frame_uses cells) (in_body q) c'
+  stands_called : (L : Uses) (m : Spot) (c c' : Position) (q : ℕ) (cells : List OperandKind) → Stands p L m c → length (L ++ frame_uses cells) ≤ CELLS → c'.used ≡ length (L ++ frame_uses cells) → base_of c'.frames ≡ length L + 2 → frame_cells p (Some q) ≡ cells → Stands p (L ++ frame_uses cells) (in_body q) c'
   stands_called L m c c' q cells h room used base is = record {
     used = used;
     room = room;
@@ -135,7 +135,7 @@ module _ (bodies : List Body) (p : Program) where
         ap (slice_get (L ++ frame_uses cells)) n ∙ get_right L (frame_uses cells) (suc (suc x)) ∙ slice_get-map use_of cells x ∙ ap (option_map use_of) (ap (λ l. slice_get l x) (sym is) ∙ e);
   }
 
-  stands_referred : (L : Uses) (m : Spot) (c c' : Control) (q : ℕ) → Stands p L m c → length (L ++ link_uses) ≤ CELLS → c'.used ≡ length (L ++ link_uses) → base_of c'.frames ≡ base_of c.frames → owner p (Some q) ≡ owner p m.body → Stands p (L ++ link_uses) (in_body q) c'
+  stands_referred : (L : Uses) (m : Spot) (c c' : Position) (q : ℕ) → Stands p L m c → length (L ++ link_uses) ≤ CELLS → c'.used ≡ length (L ++ link_uses) → base_of c'.frames ≡ base_of c.frames → owner p (Some q) ≡ owner p m.body → Stands p (L ++ link_uses) (in_body q) c'
   stands_referred L m c c' q h room used base owned = record {
     used = used;
     room = room;
@@ -146,7 +146,7 @@ module _ (bodies : List Body) (p : Program) where
 
   module _ (made : (q : ℕ) (e : Entry) → slice_get p.bodies q ≡ Some e → IsMade p bodies q e) where
     -- a PROC that is called, where calls in it do what they do
-    call_ends : (n b pc q : ℕ) (L : Uses) (m : Spot) (c : Control) (ops : List Operand) (e : Entry) (ks : List OperandKind) (us : List ElanType) (args : List Slot) (con : Content) → CallsCarry p (level bodies n) n → b ≤ n → Stands p L m c → slice_get p.bodies q ≡ Some e → e.layout ≡ layouts.Own ks (map kind_in us) → TakeAll p ks L args → ContentCarries p q e.first con
+    call_ends : (n b pc q : ℕ) (L : Uses) (m : Spot) (c : Position) (ops : List Operand) (e : Entry) (ks : List OperandKind) (us : List ElanType) (args : List Slot) (con : Content) → CallsCarry p (level bodies n) n → b ≤ n → Stands p L m c → slice_get p.bodies q ≡ Some e → e.layout ≡ layouts.Own ks (map kind_in us) → TakeAll p ks L args → ContentCarries p q e.first con
         → (k : Option Value → World → Ending) (l : Exit → Option Value → World → Ending) → ((v : Option Value) (w : World) → Result e.delivers v → w.marks ≤ b → Ends p L (at c (pc + 1) (result_ops v ++ ops)) w (k v w)) → (w : World) → w.marks ≤ b → (cells : Cells) → Keeps L w.store cells
         → After p (after_stage (enters (at c pc (pushed_slots p args ops)) e.first (c.used + 2) false ops (frame_numbers (map slot_operand args) (map kind_in us)) cells) (at c pc (pushed_slots p args ops)) (scene_of w cells)) (finish (with_room (frame args us) (λ w'. called (length w.store) (content con (record { calls = level bodies n; turns = n; base = length w.store + 2; held = bytes_on ops (bytes_of c.frames) }) w')) w) k l)
     call_ends n b pc q L m c ops e ks us args con calls le h is own takes body k l hk w lw cells keeps =
@@ -177,7 +177,7 @@ module _ (bodies : List Body) (p : Program) where
         (subst (λ z. Ends p (L ++ M) inner w' (finish (go z w') (λ v w. k v (cut N w)) l')) same (body.ends (level bodies n) n b (L ++ M) inner within l' exits' w' lw)))
 
     -- a refinement, which goes on over the cells of the frame below
-    refer_ends : (n b pc q : ℕ) (L : Uses) (m : Spot) (c : Control) (ops : List Operand) (e : Entry) (con : Content) → CallsCarry p (level bodies n) n → b ≤ n → Stands p L m c → slice_get p.bodies q ≡ Some e → owner p (Some q) ≡ owner p m.body → ContentCarries p q e.first con
+    refer_ends : (n b pc q : ℕ) (L : Uses) (m : Spot) (c : Position) (ops : List Operand) (e : Entry) (con : Content) → CallsCarry p (level bodies n) n → b ≤ n → Stands p L m c → slice_get p.bodies q ≡ Some e → owner p (Some q) ≡ owner p m.body → ContentCarries p q e.first con
         → (k : Option Value → World → Ending) (l : Exit → Option Value → World → Ending) → ((v : Option Value) (w : World) → Result e.delivers v → w.marks ≤ b → Ends p L (at c (pc + 1) (result_ops v ++ ops)) w (k v w)) → Exits p L b m.body c.frames l → (w : World) → w.marks ≤ b → (cells : Cells) → Keeps L w.store cells
         → After p (after_stage (enters (at c pc ops) e.first (base_of c.frames) true ops link_numbers cells) (at c pc ops) (scene_of w cells)) (finish (with_room link (λ w'. referred (length w.store) (content con (record { calls = level bodies n; turns = n; base = base_of c.frames; held = bytes_on ops (bytes_of c.frames) }) w')) w) k l)
     refer_ends n b pc q L m c ops e con calls le h is owned body k l hk hl w lw cells keeps =
@@ -200,13 +200,13 @@ module _ (bodies : List Body) (p : Program) where
         } in
         subst (λ o. Ends p (L ++ M) inner w' o) (sym (finish_referred N (go w') k l)) (body.ends (level bodies n) n b (L ++ M) inner within l' exits' w' lw))
 
-    call_step : (pc q : ℕ) (L : Uses) (ks : List OperandKind) (m : Spot) (c : Control) (ops : List Operand) (e : Entry) (parameters : List OperandKind) (vs : List Kind) (args : List Slot) → slice_get p.lines pc ≡ Some (line_of (Call q) ks m) → slice_get p.bodies q ≡ Some e → e.layout ≡ layouts.Own parameters vs → TakeAll p parameters L args → (cells : Cells) → step p (at c pc (pushed_slots p args ops)) cells ≡ Spends (enters (at c pc (pushed_slots p args ops)) e.first (c.used + 2) false ops (frame_numbers (map slot_operand args) vs) cells)
+    call_step : (pc q : ℕ) (L : Uses) (ks : List OperandKind) (m : Spot) (c : Position) (ops : List Operand) (e : Entry) (parameters : List OperandKind) (vs : List Kind) (args : List Slot) → slice_get p.lines pc ≡ Some (line_of (Call q) ks m) → slice_get p.bodies q ≡ Some e → e.layout ≡ layouts.Own parameters vs → TakeAll p parameters L args → (cells : Cells) → step p (at c pc (pushed_slots p args ops)) cells ≡ Spends (enters (at c pc (pushed_slots p args ops)) e.first (c.used + 2) false ops (frame_numbers (map slot_operand args) vs) cells)
     call_step pc q L ks m c ops e parameters vs args has is own takes cells =
         let now = at c pc (pushed_slots p args ops) in
         here p pc (Call q) ks m has c (pushed_slots p args ops) cells ∙ ap (λ o. call_move now o cells) is ∙ ap (λ x. calls_to now e.first x cells) own
         ∙ all_taken p L parameters args ops (λ args ops. Spends (enters now e.first (c.used + 2) false ops (frame_numbers args vs) cells)) takes
 
-    refer_step : (pc q : ℕ) (ks : List OperandKind) (m : Spot) (c : Control) (ops : List Operand) (e : Entry) → slice_get p.lines pc ≡ Some (line_of (Refer q) ks m) → slice_get p.bodies q ≡ Some e → (cells : Cells) → step p (at c pc ops) cells ≡ Spends (enters (at c pc ops) e.first (base_of c.frames) true ops link_numbers cells)
+    refer_step : (pc q : ℕ) (ks : List OperandKind) (m : Spot) (c : Position) (ops : List Operand) (e : Entry) → slice_get p.lines pc ≡ Some (line_of (Refer q) ks m) → slice_get p.bodies q ≡ Some e → (cells : Cells) → step p (at c pc ops) cells ≡ Spends (enters (at c pc ops) e.first (base_of c.frames) true ops link_numbers cells)
     refer_step pc q ks m c ops e has is cells = here p pc (Refer q) ks m has c ops cells ∙ ap (λ o. refer_move (at c pc ops) o cells) is
 
     -- so calls are carried, however many marks there are

@@ -1,5 +1,5 @@
 -- A command that is run in pieces shows what it does.
-use Rattle.std.proofs.Common.{◌≡◌, ℕ, zero, suc, ◌+◌, List, [], ◌∷◌, ◌++◌, map, length, Some, true, refl, sym, ap, ◌∙◌, subst, arith}
+use Rattle.std.proofs.Common.{◌≡◌, ℕ, zero, suc, ◌+◌, List, [], ◌∷◌, ◌++◌, map, length, Some, true, refl, sym, ap, ◌∙◌, subst}
 use Rattle.std.specs.Prelude.{slice_get}
 use Rattle.std.proofs.lemmas.List.{length-map}
 use Rattle.eu_base.specs.declared.value.Kind.{Kind}
@@ -12,7 +12,7 @@ use Rattle.eu_base.specs.Cells.{Cells, IsBlank, run_cell}
 use Rattle.eu_base.proofs.Results.{fits_in_range}
 use Rattle.code_form.specs.Program.{Program}
 use Rattle.code_form.specs.Machine.{Control, Rest, start}
-use Rattle.code_form.specs.Runs.{Rests, Continues}
+use Rattle.code_form.specs.Runs.{Rests, Stands}
 use Rattle.elan_types.specs.declared.elan_type.ElanType.{ElanType}
 use Rattle.elan_types.specs.declared.core_phrase.Core.{Core}
 use Rattle.elan_types.specs.Typing.{kind_in}
@@ -49,16 +49,13 @@ has_blank core cells blank =
           subst (StandsFor (cells (run_cell x))) (sym f.2) (blank (subst (λ n. cells_fit n ≡ true) as_many room) x f.0 f.1);
     }
 
--- where a command came to rest that was run in pieces, with so many marks given and with these replies, it shows what evaluation gives
-pub plays : (core : Core) (p : Program) (cells now : Cells) (given left : ℕ) (replies : List Reply) (c : Control) (last : Rest) → Behaves core p → HasVariables p.variables (blank_store core) cells → Continues p (start (length p.variables)) cells given replies c now left → Rests p c (record { cells = now; marks = left; replies = [] }) last → Shows (evaluate core given replies) last
-plays core p cells now given left replies c last b has k h =
-    let e : left ≡ left + 0 = omega arith in
-    let f : given + 0 ≡ given = omega arith in
-    let first = start (length p.variables) in
-    let g = k.goes 0 [] last (subst (λ m. Rests p c (record { cells = now; marks = m; replies = [] }) last) e h) in
-    let r = subst (λ m. Rests p first (record { cells = cells; marks = m; replies = replies ++ [] }) last) f g in
-    let r' = subst (λ rs. Rests p first (record { cells = cells; marks = given; replies = rs }) last) (append-[] replies) r in
-    b.only (at_start core given replies) cells r'.0 last has r'.1
+-- where a command comes to rest that was run in pieces, it shows what evaluation gives with the marks that were spent and those that
+-- it has from there, and with the replies that were given
+pub plays : (core : Core) (p : Program) (cells now : Cells) (spent left : ℕ) (replies : List Reply) (c : Control) (last : Rest) → Behaves core p → HasVariables p.variables (blank_store core) cells → Stands p (start (length p.variables)) cells spent replies c now → Rests p c (record { cells = now; marks = left; replies = [] }) last → Shows (evaluate core (spent + left) replies) last
+plays core p cells now spent left replies c last b has k h =
+    let r = k.goes left [] last h in
+    let r' = subst (λ rs. Rests p (start (length p.variables)) (record { cells = cells; marks = spent + left; replies = rs }) last) (append-[] replies) r in
+    b.only (at_start core (spent + left) replies) cells r'.0 last has r'.1
   where
     append-[] : (l : List Reply) → l ++ [] ≡ l
     append-[] [] = refl

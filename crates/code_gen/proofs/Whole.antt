@@ -1,5 +1,5 @@
 -- The code of a whole command does what the command does.
-use Rattle.std.proofs.Common.{◌≡◌, ℕ, ◌+◌, ◌≤◌, List, [], map, length, Option, Some, None, Bool, true, false, not, refl, sym, ap, ◌∙◌, subst, arith}
+use Rattle.std.proofs.Common.{◌≡◌, ℕ, ◌+◌, ◌≤◌, List, [], map, length, Option, Some, None, Bool, true, false, cond, refl, sym, ap, ◌∙◌, subst, arith}
 use Rattle.std.specs.Prelude.{slice_get, option_map}
 use Rattle.std.proofs.lemmas.List.{length-map}
 use Rattle.std.proofs.lemmas.Bool.{leb-true}
@@ -11,10 +11,11 @@ use Rattle.eu_base.specs.declared.value.Value.{Value}
 use Rattle.eu_base.specs.Room.{cells_fit}
 use Rattle.eu_base.specs.Cells.{Cells, run_cell}
 use Rattle.code_form.specs.declared.halt.Halt.TheVariants as halts
+use Rattle.code_form.specs.declared.waits.Waits.TheVariants.{Nothing, Refused}
 use Rattle.code_form.specs.declared.instr.Instr.TheVariants.{End}
 use Rattle.code_form.specs.declared.code.Entry.{Entry}
 use Rattle.code_form.specs.Program.{Program, at_level, in_body}
-use Rattle.code_form.specs.Machine.{Control, at, start}
+use Rattle.code_form.specs.Machine.{Position, free, at, start}
 use Rattle.code_form.proofs.Resume.{one_rest}
 use Rattle.elan_types.specs.declared.core_phrase.Body.{Body}
 use Rattle.elan_types.specs.declared.core_phrase.Core.{Core}
@@ -96,13 +97,13 @@ module _ (core : Core) (typed : IsWellTyped core) where
   number = length p.variables
 
   -- where the variables have room
-  abbrev free : Control
-  free = record { pc = 0; ops = []; used = number; frames = []; full = false; waits = None }
+  abbrev top : Position
+  top = record { pc = 0; ops = []; used = number; frames = [] }
 
   no_exits : (b : ℕ) (l : Exit → Option Value → World → Ending) → Exits p (level_uses p.variables) b None [] l
   no_exits b l = record { self = λ k d more v w r le. absurd d; around = λ k d more v w r le. absurd d }
 
-  stands : number ≤ CELLS → Stands p (level_uses p.variables) at_level free
+  stands : number ≤ CELLS → Stands p (level_uses p.variables) at_level top
   stands room = record {
     used = sym (length-map p.variables OfValue);
     room = omega (arith, room, length-map p.variables OfValue);
@@ -110,23 +111,23 @@ module _ (core : Core) (typed : IsWellTyped core) where
     frame = λ x k e. let f : ⊥ = cc in absurd f;
   }
 
-  runs : (w : World) (cells : Cells) → number ≤ CELLS → Keeps (level_uses p.variables) w.store cells → Comes p free (scene_of w cells) (ending (all (map act core.units) (from_level core w.marks) w))
+  runs : (w : World) (cells : Cells) → number ≤ CELLS → Keeps (level_uses p.variables) w.store cells → Comes p (free top) (scene_of w cells) (ending (all (map act core.units) (from_level core w.marks) w))
   runs w cells room keeps =
       let l = λ (e : Exit) (v : Option Value) (w : World). endings.Ended w in
       let q = 0 + units.size in
-      let within : Within p (level core.bodies w.marks) w.marks w.marks (level_uses p.variables) at_level free = record { turns = omega arith; stands = stands room; carry = level_carries core.bodies p made w.marks } in
+      let within : Within p (level core.bodies w.marks) w.marks w.marks (level_uses p.variables) at_level top = record { turns = omega arith; stands = stands room; carry = level_carries core.bodies p made w.marks } in
       let h = has_rest p.lines 0 units.size (units.lines [] at_level 0) _ (level_is.sized [] at_level 0) (has_level core typed) in
-      subst (Comes p free (scene_of w cells)) (finish_ending (all (map act core.units) (from_level core w.marks) w))
-      ((level_is.goes (level core.bodies w.marks) w.marks w.marks 0 (level_uses p.variables) [] at_level free [] refl within (has_front p.lines 0 (units.lines [] at_level 0) _ (has_level core typed))).by
+      subst (Comes p (free top) (scene_of w cells)) (finish_ending (all (map act core.units) (from_level core w.marks) w))
+      ((level_is.goes (level core.bodies w.marks) w.marks w.marks 0 (level_uses p.variables) [] at_level top [] refl within (has_front p.lines 0 (units.lines [] at_level 0) _ (has_level core typed))).by
       (λ _ w. endings.Ended w) l
-      (λ _ w' _ le. end_ends p (level_uses p.variables) (at free q []) w' (λ cells. here p q End (units.leaves []) at_level h.0 free [] cells))
+      (λ _ w' _ le. end_ends p (level_uses p.variables) (at top q []) w' (λ cells. here p q End (units.leaves []) at_level h.0 top [] cells))
       (no_exits w.marks l) w (omega arith) cells keeps)
 
-  by_room : (w : World) (cells : Cells) → HasVariables p.variables w.store cells → (t : Bool) → cells_fit number ≡ t → Comes p (record { pc = 0; ops = []; used = number; frames = []; full = not t; waits = None }) (scene_of w cells) (ending (branch t (all (map act core.units) (from_level core w.marks)) (Stopped CellRoom) w))
+  by_room : (w : World) (cells : Cells) → HasVariables p.variables w.store cells → (t : Bool) → cells_fit number ≡ t → Comes p (record { position = top; waits = cond t Nothing (Refused CellRoom) }) (scene_of w cells) (ending (branch t (all (map act core.units) (from_level core w.marks)) (Stopped CellRoom) w))
   by_room w cells h true e = runs w cells (leb-true number CELLS e) (level_kept p.variables w.store cells h e)
   by_room w cells h false e = record {
     steps = 1;
-    rest = record { how = halts.Stopped CellRoom; control = record { pc = 0; ops = []; used = number; frames = []; full = true; waits = None }; scene = scene_of w cells };
+    rest = record { how = halts.Stopped CellRoom; control = record { position = top; waits = Refused CellRoom }; scene = scene_of w cells };
     comes = refl;
     shows = record { how = refl; marks = refl; replies = refl; cells = h.image };
   }

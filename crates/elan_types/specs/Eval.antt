@@ -111,6 +111,14 @@ fetch x w = value_of (slot_at w.store x.variable)
 abbrev pub assign : Place → Value → World → World
 assign x v w = record w { store = slice_set w.store x.variable (Holds v) }
 
+-- goes on with what stands at a place, and after a value was stored there. Reads and stores are outcomes, as all steps that a
+-- program can stop at
+abbrev pub load : {A : Type 0} → Place → (Value → World → Outcome A) → World → Outcome A
+load x go w = go (fetch x w) w
+
+abbrev pub save : {A : Type 0} → Place → Value → (World → Outcome A) → World → Outcome A
+save x v go w = go (assign x v w)
+
 -- what calls of bodies do: of a PROC with what its parameters hold, and of a refinement from a body whose variables begin at a
 -- number in the store; each with so many bytes of operands pending. They deliver a value or nothing
 pub record Calls : Type 0 where
@@ -222,7 +230,7 @@ go_on n w = Gives true w
 
 -- INCR and DECR
 abbrev pub modify : {A : Type 0} → Change → Place → ℤ → A → World → Outcome A
-modify change x z a w = or_stop (changed change (number_of (fetch x w)) z) (λ v w. Gives a (assign x v w)) w
+modify change x z a = load x (λ y. or_stop (changed change (number_of y) z) (λ v. save x v (Gives a)))
 
 -- the step of a counter without limit: it delivers the place and the number 1
 abbrev pub step : PlacePhrase → Run Bool
@@ -230,16 +238,16 @@ step p n w = bind (place p n w) (λ x w. bind (deliver (Int (pos 1)) (holding_pl
 
 -- the step of a counter with a limit, at the number z: it ends at the limit, and no number past it is made
 abbrev pub step_from : Place → Way → ℤ → ℤ → World → Outcome Bool
-step_from x way limit z w = branch (has_reached way limit z) (Gives false) (λ w. Gives true (assign x (Int (next_number way z)) w)) w
+step_from x way limit z = branch (has_reached way limit z) (Gives false) (save x (Int (next_number way z)) (Gives true))
 
 -- it delivers the place
 abbrev pub step_to : PlacePhrase → Way → ℤ → Run Bool
-step_to p way limit n w = bind (place p n w) (λ x w. step_from x way limit (number_of (fetch x w)) w)
+step_to p way limit n w = bind (place p n w) (λ x. load x (λ v. step_from x way limit (number_of v)))
 
 -- the turns under a limit, which has a cell meanwhile; x is the place at which the counter is tested first
 abbrev pub limited : Place → Way → ℤ → Run Bool → Run (Unit {0})
 limited x way limit turn' n =
-    with_room (Taken ∷ []) (λ w. bind (branch (is_past way limit (number_of (fetch x w))) (Gives tt) (turns n.turns (turn' n)) w) (λ _ w. Gives tt (cut (length w.store - 1) w)))
+    with_room (Taken ∷ []) (λ w. bind (load x (λ v. branch (is_past way limit (number_of v)) (Gives tt) (turns n.turns (turn' n))) w) (λ _ w. Gives tt (cut (length w.store - 1) w)))
 
 -- the turns of a counted loop, whose counter has its first value. The limit is evaluated once
 abbrev pub counted : PlacePhrase → Way → Option (Run Value) → (Run Bool → Run Bool) → Run (Unit {0})
@@ -249,7 +257,7 @@ counted p way (Some a) turn' n w =
 
 -- a value is stored at a place, which is evaluated first
 abbrev pub stored : PlacePhrase → Run Value → Run (Unit {0})
-stored p a n w = bind (place p n w) (λ x w. bind (a (holding_place n) w) (λ v w. Gives tt (assign x v w)))
+stored p a n w = bind (place p n w) (λ x w. bind (a (holding_place n) w) (λ v. save x v (Gives tt)))
 
 -- the value that a body delivers. Where it delivers none it is 0; no well typed phrase asks for it
 abbrev pub delivered : Option Value → Value
@@ -262,7 +270,7 @@ Layer F = F (Run (Unit {0})) (Run Slot) (Run Value) (Labelled (Run (Unit {0}))) 
 abbrev pub value_step : Layer ValuePhrase-F → Run Value
 value_step (t.Number z) n w = deliver (Int z) n w
 value_step (t.Truth b) n w = deliver (Truth b) n w
-value_step (t.Load p u) n w = bind (place p n w) (λ x w. deliver (fetch x w) n w)
+value_step (t.Load p u) n w = bind (place p n w) (λ x. load x (λ v. deliver v n))
 value_step (t.Apply op as') n w = bind (values as' n w) (λ vs. or_stop (result_of op vs) (λ v. deliver v n))
 value_step (t.Cand a b) n w = bind (a n w) (λ v. branch (truth_of v) (b n) (deliver (Truth false) n))
 value_step (t.Cor a b) n w = bind (a n w) (λ v. branch (truth_of v) (deliver (Truth true) n) (b n))

@@ -1,5 +1,6 @@
 //! A memory of cells.
-ghost use Rattle.std.specs.Prelude.{◌≡◌, ℕ, IfOk, OnOk};
+ghost use Rattle.std.specs.Prelude.{◌≡◌, ◌≢◌, ℕ, Err, IfOk, OnOk};
+ghost use Rattle.eu_base.specs.declared.cells.MemFault.TheVariants as fault;
 ghost use Rattle.eu_base.specs.declared.address.Addr.{Addr};
 ghost use Rattle.eu_base.specs.Cells.{IsCell, IsSame, IsWritten, HasFaultCause};
 
@@ -36,13 +37,16 @@ pub trait Memory {
     /// What a later value of the same memory keeps of an earlier one.
     ghost follows: { Self → Self → Type 0 };
 
+    /// The number in a cell. It takes no memory.
     fn cell(&mut self, at: Addr) -> Result<u64, MemFault>
         requires { IsCell at }
         ensures number { IfOk result (λ number. number ≡ cells self.old at) }
         ensures kept { OnOk result (IsSame (cells self.old) (cells self.new)) }
+        ensures memory { result ≢ Err fault.NoMemory }
         ensures cause { HasFaultCause (faults self.old) (faults self.new) result }
         ensures follows { follows self.old self.new };
 
+    /// Puts a number into a cell.
     fn set_cell(&mut self, at: Addr, number: u64) -> Result<(), MemFault>
         requires { IsCell at }
         ensures written { OnOk result (IsWritten (cells self.old) (cells self.new) at number) }

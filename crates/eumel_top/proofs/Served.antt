@@ -4,7 +4,7 @@ use Rattle.eu_base.specs.declared.request.Reply.{Reply}
 use Rattle.eu_base.specs.Cells.{Cells}
 use Rattle.code_form.specs.Program.{Program}
 use Rattle.code_form.specs.Machine.{Control, start}
-use Rattle.code_form.specs.Runs.{Continues}
+use Rattle.code_form.specs.Runs.{Stands}
 use Rattle.place_gen.specs.Correct.{HasVariables}
 use Rattle.code_gen.specs.Correct.{Behaves}
 use Rattle.elan_types.specs.declared.core_phrase.Core.{Core}
@@ -21,7 +21,9 @@ behind ws more = record { written = ws ++ more.written; stop = more.stop }
 pub record IsServed (p : Program) (first : Cells) (control : Control) (cells : Cells) (marks : ℕ) (s : Screen) : Type 0 where
   pub replies : List Reply
   pub written : List Written
-  pub run : Continues p (start (length p.variables)) first line_marks replies control cells marks
+  pub spent : ℕ
+  pub sum : spent + marks ≡ line_marks
+  pub run : Stands p (start (length p.variables)) first spent replies control cells
   pub shown : s ≡ put_all blank written
   pub paid : marks + length replies ≤ line_marks
   -- what any program of this code writes, it has written, or writes in the evaluations that are left

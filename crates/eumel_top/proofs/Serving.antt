@@ -1,19 +1,21 @@
 -- A program that is served writes what its evaluation says.
-use Rattle.std.proofs.Common.{◌≡◌, ℕ, zero, suc, ◌+◌, ◌-◌, ◌<◌, ◌≤◌, List, [], ◌∷◌, ◌++◌, Option, Some, None, refl, sym, ap, ◌∙◌, subst, append_assoc, append-nil, length, length-append, arith}
-use Rattle.std.specs.Prelude.{IsSome, IfSome}
+use Rattle.std.proofs.Common.{◌≡◌, Bool, true, false, cond, inl, ℕ, zero, suc, ◌+◌, ◌-◌, ◌<◌, ◌≤◌, List, [], ◌∷◌, ◌++◌, Option, Some, None, refl, sym, ap, ◌∙◌, subst, append_assoc, append-nil, length, length-append, arith}
+use Rattle.std.specs.Prelude.{IsSome}
 use Rattle.eu_base.specs.declared.stop.Stop.{Stop}
-use Rattle.eu_base.specs.declared.stop.Stop.TheVariants.{LineMarks}
+use Rattle.eu_base.specs.declared.stop.Stop.TheVariants.{CellRoom, LineMarks}
 use Rattle.eu_base.specs.declared.request.Request.{Request}
 use Rattle.eu_base.specs.declared.request.Request.TheVariants.{Out}
 use Rattle.eu_base.specs.declared.request.Reply.TheVariants.{Done}
 use Rattle.eu_base.specs.Cells.{Cells}
+use Rattle.eu_base.specs.Room.{cells_fit}
 use Rattle.code_form.specs.declared.halt.Halt.{Halt}
 use Rattle.code_form.specs.declared.halt.Halt.TheVariants as halts
 use Rattle.code_form.specs.Program.{Program}
-use Rattle.code_form.specs.Machine.{Control, Rest, rest_at, start, answered}
-use Rattle.code_form.specs.Runs.{Rests, IsPaused, Continues}
-use Rattle.code_form.proofs.Resume.{continues_here, continues_run, continues_reply}
-use Rattle.code_form.proofs.Paid.{asks_spends}
+use Rattle.code_form.specs.Machine.{Control, asking, Rest, rest_at, start, answered}
+use Rattle.code_form.specs.declared.waits.Waits.TheVariants.{Nothing, Asked, Refused}
+use Rattle.code_form.specs.Runs.{Rests, IsPaused, Stands, asked}
+use Rattle.code_form.proofs.Spent.{stands_first, stands_run, stands_reply}
+use Rattle.code_form.proofs.Requests.{asks_fair, asks_spends}
 use Rattle.place_gen.specs.Correct.{HasVariables, Shows}
 use Rattle.code_gen.specs.Correct.{Behaves}
 use Rattle.code_gen.proofs.Plays.{plays}
@@ -26,7 +28,6 @@ use Rattle.eumel_top.specs.Screen.{Screen, Written, blank, put, final}
 use Rattle.eumel_top.specs.Program as text
 use Rattle.eumel_top.specs.Program.{line_marks, Output, ends, output_at, output_in, output_of}
 use Rattle.eumel_top.proofs.Served.{behind, IsServed}
-use Rattle.eumel_top.proofs.Waiting.{waits}
 
 -- how a run came to rest tells how the evaluation stands
 shows_ended : (e : Ending) (r : Rest) → Shows e r → r.how ≡ halts.Ended → (w : World) × (e ≡ Ended w)
@@ -58,14 +59,22 @@ put_all-append : (s : Screen) (ws more : List Written) → screen.put_all s (ws 
 put_all-append s [] more = refl
 put_all-append s (w ∷ ws) more = put_all-append (put s w) ws more
 
+-- a command at its start waits for no reply
+pub start_free : (n : ℕ) → asked (start n).waits ≡ None
+start_free n = by (cells_fit n)
+  where
+    by : (t : Bool) → asked (cond t Nothing (Refused CellRoom)) ≡ None
+    by true = refl
+    by false = refl
+
 -- at the start nothing was answered
 pub served_first : (p : Program) (first : Cells) (control : Control) → control ≡ start (length p.variables) → IsServed p first control first line_marks blank
 served_first p first control is = record {
   replies = [];
   written = [];
-  run =
-      subst (λ c. Continues p (start (length p.variables)) first line_marks [] c first line_marks) (sym is)
-      (continues_here p (start (length p.variables)) first line_marks);
+  spent = 0;
+  sum = omega arith;
+  run = subst (λ c. Stands p (start (length p.variables)) first 0 [] c first) (sym is) (stands_first p (start (length p.variables)) first);
   shown = refl;
   paid = omega arith;
   so_far = λ core b h. refl;
@@ -79,7 +88,9 @@ module _ (p : Program) (first : Cells) (control : Control) (cells : Cells) (mark
     now = rest_at h control' (scene_of cells' marks')
 
     shown_so : (core : Core) → Behaves core p → HasVariables p.variables (blank_store core) first → Shows (evaluate core line_marks served.replies) now
-    shown_so core b holds = plays core p first cells line_marks marks served.replies control now b holds served.run rests
+    shown_so core b holds =
+        subst (λ n. Shows (evaluate core n served.replies) now) served.sum
+        (plays core p first cells served.spent marks served.replies control now b holds served.run rests)
 
     -- what is left to write where the evaluation stands so; an evaluation is always left
     whole_output : (core : Core) → Behaves core p → HasVariables p.variables (blank_store core) first → (e : Ending) (stop : Option Stop)
@@ -122,49 +133,39 @@ module _ (p : Program) (first : Cells) (control : Control) (cells : Cells) (mark
         let e = shows_marked (evaluate core line_marks served.replies) now (shown_so core b holds) is in
         whole core b holds (OutOfMarks e.0) (Some LineMarks) out e.1 (λ more. refl) out_is
 
-    asked : (q : Request) → h ≡ halts.Asks q → control'.waits ≡ Some q
-    asked q is = waits p rests.0 control (scene_of cells marks) now q rests.1 is
+    waits : (q : Request) → h ≡ halts.Asks q → control'.waits ≡ Asked q
+    waits q is = (asks_fair p rests.0 control (scene_of cells marks) now q rests.1 is).0
 
-    pub has_asked : (q : Request) → h ≡ halts.Asks q → IsSome control'.waits
-    has_asked q is = by control'.waits (asked q is)
-      where
-        by : (w : Option Request) → w ≡ Some q → IsSome w
-        by None e = absurd (cc e)
-        by (Some x) e = refl
+    pub has_asked : (q : Request) → h ≡ halts.Asks q → IsSome (asked control'.waits)
+    has_asked q is = subst (λ w. IsSome (asked w)) (sym (waits q is)) refl
 
     -- a request costs a mark
-    pub has_paid : (q : Request) → h ≡ halts.Asks q → control.waits ≡ None → marks' < marks
+    pub has_paid : (q : Request) → h ≡ halts.Asks q → asked control.waits ≡ None → marks' < marks
     has_paid q is free =
         let most : marks' + 1 ≤ marks = asks_spends p control (scene_of cells marks) now q rests.0 free rests.1 is in
         omega (arith, most)
 
     -- the answer that is given
-    given : (q : Request) (control'' : Control) → h ≡ halts.Asks q → IfSome control'.waits (λ request. control'' ≡ answered request Done control')
-        → control'' ≡ answered q Done control'
-    given q control'' is = by control'.waits (asked q is)
-      where
-        by : (o : Option Request) → o ≡ Some q → IfSome o (λ request. control'' ≡ answered request Done control') → control'' ≡ answered q Done control'
-        by None e k = absurd (cc e)
-        by (Some x) e k = k
+    abbrev Answers : Control → Type 0
+    Answers control'' = (request : Request) → control'.waits ≡ Asked request → control'' ≡ answered request Done control'.position
 
-    pub is_free : (q : Request) (control'' : Control) → h ≡ halts.Asks q → IfSome control'.waits (λ request. control'' ≡ answered request Done control')
-        → control''.waits ≡ None
-    is_free q control'' is answer = ap (λ (c : Control). c.waits) (given q control'' is answer)
+    pub is_free : (q : Request) (control'' : Control) → h ≡ halts.Asks q → Answers control'' → asked control''.waits ≡ None
+    is_free q control'' is answer = ap (λ (c : Control). asked c.waits) (answer q (waits q is))
 
     -- and one at a request, which is answered
     pub served_on : (q : Request) (s' : Screen) (control'' : Control) (cells'' : Cells) → h ≡ halts.Asks q → s' ≡ screen.with_request s q
-        → IfSome control'.waits (λ request. control'' ≡ answered request Done control') → cells'' ≡ cells' → control.waits ≡ None
+        → Answers control'' → cells'' ≡ cells' → asked control.waits ≡ None
         → IsServed p first control'' cells'' marks' s'
     served_on (Out bytes line_ends) s' control'' cells'' is put_is answer cells_is free =
-        let paused : IsPaused h = subst IsPaused (sym is) tt in
-        let rested = continues_run p (start (length p.variables)) first line_marks marks served.replies control cells now paused served.run rests refl in
         let longer : length (served.replies ++ Done ∷ []) ≡ length served.replies + 1 = length-append served.replies (Done ∷ []) in
         record {
           replies = served.replies ++ Done ∷ [];
           written = served.written ++ w ∷ [];
+          spent = served.spent + (marks - marks');
+          sum = omega (arith, served.sum, has_paid q is free);
           run =
               rw (answer_is, cells_is)
-              (continues_reply p (start (length p.variables)) first line_marks marks' served.replies control' cells' q Done (asked q is) rested);
+              (stands_reply p (start (length p.variables)) first (served.spent + (marks - marks')) served.replies control'.position cells' q Done waiting);
           shown = put_is ∙ (ap (λ x. put x w) served.shown ∙ sym (put_all-append blank served.written (w ∷ [])));
           paid = omega (arith, longer, served.paid, has_paid q is free);
           so_far = λ core b holds.
@@ -183,5 +184,17 @@ module _ (p : Program) (first : Cells) (control : Control) (cells : Cells) (mark
         w : Written
         w = record { bytes = bytes; ends = line_ends }
 
-        answer_is : control'' ≡ answered q Done control'
-        answer_is = given q control'' is answer
+        answer_is : control'' ≡ answered q Done control'.position
+        answer_is = answer q (waits q is)
+
+        paused : IsPaused h
+        paused = subst IsPaused (sym is) tt
+
+        rested : Stands p (start (length p.variables)) first (served.spent + (marks - marks')) served.replies control' cells'
+        rested = stands_run p (start (length p.variables)) first served.spent marks served.replies control cells now (inl paused) served.run rests refl
+
+        waiting : Stands p (start (length p.variables)) first (served.spent + (marks - marks')) served.replies (asking control'.position q) cells'
+        waiting =
+            subst
+            (λ w. Stands p (start (length p.variables)) first (served.spent + (marks - marks')) served.replies (record control' { waits = w }) cells')
+            (waits q is) rested

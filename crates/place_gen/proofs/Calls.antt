@@ -13,7 +13,7 @@ use Rattle.code_form.specs.declared.code.Spot.{Spot}
 use Rattle.code_form.specs.declared.code.Entry.{Entry}
 use Rattle.code_form.specs.declared.code.Layout.TheVariants as layouts
 use Rattle.code_form.specs.Program.{Program, owner}
-use Rattle.code_form.specs.Machine.{Control, at, base_of, bytes_on, bytes_of}
+use Rattle.code_form.specs.Machine.{Position, at, base_of, bytes_on, bytes_of}
 use Rattle.code_form.specs.Valid.{with_result}
 use Rattle.elan_types.specs.declared.core_phrase.Exit.{Exit}
 use Rattle.elan_types.specs.declared.core_phrase.Exit.TheVariants as exits
@@ -57,7 +57,7 @@ module _ (p : Program) (body : Option ℕ) where
   }
 
   -- what is pending with a slot
-  held_slot : (calls : Calls) (n : ℕ) (c : Control) (ops : List Operand) (s : Slot) → reach calls n c (operand_of p s ops) ≡ holding_slot s (reach calls n c ops)
+  held_slot : (calls : Calls) (n : ℕ) (c : Position) (ops : List Operand) (s : Slot) → reach calls n c (operand_of p s ops) ≡ holding_slot s (reach calls n c ops)
   held_slot calls n c ops (Holds v) = refl
   held_slot calls n c ops (Refers x) = refl
   held_slot calls n c ops Taken = refl
@@ -74,11 +74,11 @@ module _ (p : Program) (body : Option ℕ) where
   }
 
   -- the result of a body that delivers a value, and of one that delivers none
-  value_result : {L : Uses} {home : Option ℕ} (k : Kind) (d : Option Kind) (b z : ℕ) (c : Control) (ops : List Operand) (v : Option Value) → d ≡ Some k → Result d v → Carries p L home c.frames (OfKind k) b (at c z (result_ops v ++ ops)) (Gives (delivered v)) (λ v. at c z (Of v ∷ ops))
+  value_result : {L : Uses} {home : Option ℕ} (k : Kind) (d : Option Kind) (b z : ℕ) (c : Position) (ops : List Operand) (v : Option Value) → d ≡ Some k → Result d v → Carries p L home c.frames (OfKind k) b (at c z (result_ops v ++ ops)) (Gives (delivered v)) (λ v. at c z (Of v ∷ ops))
   value_result k d b z c ops None e ok = absurd (subst (λ d. Result d None) e ok)
   value_result k d b z c ops (Some v) e ok = none_carries p b v (λ v. at c z (Of v ∷ ops)) (subst (λ d. Result d (Some v)) e ok)
 
-  no_result : {L : Uses} {home : Option ℕ} (d : Option Kind) (b z : ℕ) (c : Control) (ops : List Operand) (v : Option Value) → d ≡ None → Result d v → Carries p L home c.frames Any b (at c z (result_ops v ++ ops)) (Gives (tt {0})) (λ _. at c z ops)
+  no_result : {L : Uses} {home : Option ℕ} (d : Option Kind) (b z : ℕ) (c : Position) (ops : List Operand) (v : Option Value) → d ≡ None → Result d v → Carries p L home c.frames Any b (at c z (result_ops v ++ ops)) (Gives (tt {0})) (λ _. at c z ops)
   no_result d b z c ops None e ok = none_carries p b tt (λ _. at c z ops) tt
   no_result d b z c ops (Some v) e ok = absurd (subst (λ d. Result d (Some v)) e ok)
 
@@ -125,7 +125,7 @@ module _ (p : Program) (body : Option ℕ) where
   }
 
   -- the instruction of LEAVE, with nothing and with a value on top
-  leaves : {A : Type 0} {Good : Uses → A → Type 0} (e : Exit) (L : Uses) (b pc : ℕ) (ks : List OperandKind) (m : Spot) (c : Control) (ops : List Operand) (to : A → Control) → m.body ≡ body → LeftBy p body e None → HasAt p.lines pc ((one (leave_instr e None) keeps).lines ks m pc) → Carries p L m.body c.frames Good b (at c pc ops) (Left e None) to
+  leaves : {A : Type 0} {Good : Uses → A → Type 0} (e : Exit) (L : Uses) (b pc : ℕ) (ks : List OperandKind) (m : Spot) (c : Position) (ops : List Operand) (to : A → Position) → m.body ≡ body → LeftBy p body e None → HasAt p.lines pc ((one (leave_instr e None) keeps).lines ks m pc) → Carries p L m.body c.frames Good b (at c pc ops) (Left e None) to
   leaves exits.Body L b pc ks m c ops to home d has = record {
     by = λ k l hk hl w le cells keeps'.
         let x = hl.self None (subst (λ o. Delivers p o None) (sym home) d) [] None w tt le in
@@ -137,7 +137,7 @@ module _ (p : Program) (body : Option ℕ) where
         on_step p (at c pc ops) x.0 (scene_of w cells) cells _ (here p pc (Out None) ks m has.0 c ops cells ∙ x.1 cells) (subst (λ U. Ends p U x.0 w (l exits.Around None w)) (append-[] L) x.2 cells keeps');
   }
 
-  leaves_with : {A : Type 0} {Good : Uses → A → Type 0} (e : Exit) (q : Kind) (v : Value) (L : Uses) (b pc : ℕ) (ks : List OperandKind) (m : Spot) (c : Control) (ops : List Operand) (to : A → Control) → IsOf q v → m.body ≡ body → LeftBy p body e (Some q) → HasAt p.lines pc ((one (leave_instr e (Some q)) (drop 1)).lines ks m pc) → Carries p L m.body c.frames Good b (at c pc (Of v ∷ ops)) (Left e (Some v)) to
+  leaves_with : {A : Type 0} {Good : Uses → A → Type 0} (e : Exit) (q : Kind) (v : Value) (L : Uses) (b pc : ℕ) (ks : List OperandKind) (m : Spot) (c : Position) (ops : List Operand) (to : A → Position) → IsOf q v → m.body ≡ body → LeftBy p body e (Some q) → HasAt p.lines pc ((one (leave_instr e (Some q)) (drop 1)).lines ks m pc) → Carries p L m.body c.frames Good b (at c pc (Of v ∷ ops)) (Left e (Some v)) to
   leaves_with exits.Body q v L b pc ks m c ops to ok home d has = record {
     by = λ k l hk hl w le cells keeps'.
         let x = hl.self (Some q) (subst (λ o. Delivers p o (Some q)) (sym home) d) [] (Some v) w ok le in

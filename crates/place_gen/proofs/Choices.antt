@@ -16,7 +16,7 @@ use Rattle.code_form.specs.declared.instr.Instr.TheVariants.{Mark, Modify, Jump,
 use Rattle.code_form.specs.declared.instr.Call.TheVariants as requests
 use Rattle.code_form.specs.declared.code.Spot.{Spot}
 use Rattle.code_form.specs.Program.{Program, line_of}
-use Rattle.code_form.specs.Machine.{Control, Goes, at, or_halt, step}
+use Rattle.code_form.specs.Machine.{Position, free, Goes, at, or_halt, step}
 use Rattle.elan_types.specs.declared.core_phrase.Exit.{Exit}
 use Rattle.elan_types.specs.declared.core_phrase.PlacePhrase.{PlacePhrase}
 use Rattle.elan_types.specs.Eval.{Place, World, Outcome, Gives, bind, spend, ask, branch, or_stop, fetch, assign, modify, place, holding_place, Calls, Run, holds}
@@ -57,7 +57,7 @@ module _ (p : Program) (body : Option ℕ) where
   -- the code chooses by the number on top, and takes it
   pub record IsChoice {A : Type 0} (Good : Uses → A → Type 0) (push : A → List Operand → List Operand) (run : ℤ → Run A) (f : Stretch) : Type 0 where
     pub sized : (ks : List OperandKind) (m : Spot) (pc : ℕ) → length (f.lines ks m pc) ≡ f.size
-    pub goes : (calls : Calls) (n b pc : ℕ) (L : Uses) (ks : List OperandKind) (m : Spot) (c : Control) (v : Value) (ops : List Operand) → m.body ≡ body → Within p calls n b L m c → HasAt p.lines pc (f.lines ks m pc) → Carries p L m.body c.frames Good b (at c pc (Of v ∷ ops)) (run (number_of v) (reach calls n c ops)) (λ a. at c (pc + f.size) (push a ops))
+    pub goes : (calls : Calls) (n b pc : ℕ) (L : Uses) (ks : List OperandKind) (m : Spot) (c : Position) (v : Value) (ops : List Operand) → m.body ≡ body → Within p calls n b L m c → HasAt p.lines pc (f.lines ks m pc) → Carries p L m.body c.frames Good b (at c pc (Of v ∷ ops)) (run (number_of v) (reach calls n c ops)) (λ a. at c (pc + f.size) (push a ops))
 
   pub otherwise_is : {A : Type 0} {Good : Uses → A → Type 0} {push : A → List Operand → List Operand} {x : Run A} {f : Stretch} → Is p body Good push x f → IsChoice Good push (λ z. x) (join (one Drop (drop 1)) f)
   otherwise_is {A} {Good} {push} {x} {f} i = record {
@@ -67,7 +67,7 @@ module _ (p : Program) (body : Option ℕ) where
         (lead_carries p b (at c pc (Of v ∷ ops)) (at c (pc + 1) ops) (x r) (λ a. at c (pc + 1 + f.size) (push a ops)) (λ cells. here p pc Drop ks m has.0 c (Of v ∷ ops) cells) (i.goes calls n b (pc + 1) L (drop 1 ks) m c ops home le has.1));
   }
 
-  whens_carry : {L : Uses} {A : Type 0} {Good : Uses → A → Type 0} (zs : List ℤ) (a b q : ℕ) (ks : List OperandKind) (m : Spot) (c : Control) (v : Value) (ops : List Operand) (x y : World → Outcome A) (to : A → Control) → HasAt p.lines q (whens zs a ks m) → Carries p L m.body c.frames Good b (at c a ops) x to → Carries p L m.body c.frames Good b (at c (q + length zs) (Of v ∷ ops)) y to → Carries p L m.body c.frames Good b (at c q (Of v ∷ ops)) (branch (holds zs (number_of v)) x y) to
+  whens_carry : {L : Uses} {A : Type 0} {Good : Uses → A → Type 0} (zs : List ℤ) (a b q : ℕ) (ks : List OperandKind) (m : Spot) (c : Position) (v : Value) (ops : List Operand) (x y : World → Outcome A) (to : A → Position) → HasAt p.lines q (whens zs a ks m) → Carries p L m.body c.frames Good b (at c a ops) x to → Carries p L m.body c.frames Good b (at c (q + length zs) (Of v ∷ ops)) y to → Carries p L m.body c.frames Good b (at c q (Of v ∷ ops)) (branch (holds zs (number_of v)) x y) to
   whens_carry {L} {A} {Good} [] a b q ks m c v ops x y to has i j = let e : q + 0 ≡ q = omega arith in subst (λ n. Carries p L m.body c.frames Good b (at c n (Of v ∷ ops)) y to) e j
   whens_carry {L} {A} {Good} (z ∷ zs) a b q ks m c v ops x y to has i j =
       let e : q + length (z ∷ zs) ≡ q + 1 + length zs = omega arith in
@@ -117,12 +117,12 @@ module _ (p : Program) (body : Option ℕ) where
   }
 
   -- INCR and DECR, at the instruction
-  modified : {A : Type 0} {L : Uses} (g : Given) (x : Place) (a : A) (c c' : Control) (w : World) (cells : Cells) (k : A → World → Ending) (l : Exit → Option Value → World → Ending) → AtKind kinds.Int L x → ((v : Value) → g ≡ Ok v → IsOf kinds.Int v) → Keeps L w.store cells → step p c cells ≡ or_halt g (λ v. Goes c' (written cells (run_cell x.variable) (cell_of v))) → ((v : Value) → Ends p L c' (assign x v w) (k a (assign x v w))) → Comes p c (scene_of w cells) (finish (or_stop g (λ v w. Gives a (assign x v w)) w) k l)
+  modified : {A : Type 0} {L : Uses} (g : Given) (x : Place) (a : A) (c c' : Position) (w : World) (cells : Cells) (k : A → World → Ending) (l : Exit → Option Value → World → Ending) → AtKind kinds.Int L x → ((v : Value) → g ≡ Ok v → IsOf kinds.Int v) → Keeps L w.store cells → step p c cells ≡ or_halt g (λ v. Goes c' (written cells (run_cell x.variable) (cell_of v))) → ((v : Value) → Ends p L c' (assign x v w) (k a (assign x v w))) → Comes p (free c) (scene_of w cells) (finish (or_stop g (λ v w. Gives a (assign x v w)) w) k l)
   modified {A} {L} (Ok v) x a c c' w cells k l is gives kept e hk = write_ends p c c' w x kinds.Int v _ cells is (gives v refl) kept e (hk v)
   modified {A} {L} (Err s) x a c c' w cells k l is gives kept e hk = stop_comes p L c w s cells kept e
 
   -- INCR and DECR where number and place are on top
-  pub modify_carries : {A : Type 0} {L : Uses} (change : Change) (x : Place) (v : Value) (a : A) (b q : ℕ) (ks : List OperandKind) (m : Spot) (c : Control) (ops : List Operand) (to : A → Control) → to a ≡ at c (q + 1) ops → AtKind kinds.Int L x → HasAt p.lines q ((one (Modify change) (drop 2)).lines ks m q) → Carries p L m.body c.frames Any b (at c q (Of v ∷ keep_place x ops)) (modify change x (number_of v) a) to
+  pub modify_carries : {A : Type 0} {L : Uses} (change : Change) (x : Place) (v : Value) (a : A) (b q : ℕ) (ks : List OperandKind) (m : Spot) (c : Position) (ops : List Operand) (to : A → Position) → to a ≡ at c (q + 1) ops → AtKind kinds.Int L x → HasAt p.lines q ((one (Modify change) (drop 2)).lines ks m q) → Carries p L m.body c.frames Any b (at c q (Of v ∷ keep_place x ops)) (modify change x (number_of v) a) to
   modify_carries {A} {L} change x v a b q ks m c ops to to_is is has = record {
     by = λ k l hk hl w le cells keeps.
         let now = at c q (Of v ∷ keep_place x ops) in
@@ -146,7 +146,7 @@ module _ (p : Program) (body : Option ℕ) where
   pub line_is : IsAction p body (λ r. ask line_request (λ _. Gives tt)) (one (Ask requests.Line) keeps)
   line_is = record {
     sized = λ ks m pc. refl;
-    goes = λ calls n b pc L ks m c ops home le has. ask_carries p b line_request (at c pc ops) (record (at c (pc + 1) ops) { waits = Some line_request }) (λ _. Gives (tt {0})) (λ _. at c (pc + 1) ops) (λ cells. here p pc (Ask requests.Line) ks m has.0 c ops cells) (λ cells. refl) (λ b' r lt. none_carries p b' tt (λ _. at c (pc + 1) ops) tt);
+    goes = λ calls n b pc L ks m c ops home le has. ask_carries p b line_request (at c pc ops) (at c (pc + 1) ops) (λ _. Gives (tt {0})) (λ _. at c (pc + 1) ops) (λ cells. here p pc (Ask requests.Line) ks m has.0 c ops cells) (λ b' r lt. none_carries p b' tt (λ _. at c (pc + 1) ops) tt);
   }
 
   pub put_is : {t : Run Value} {f : Stretch} → IsValue p body kinds.Int t f → IsAction p body (λ r w. bind (t r w) (λ v. ask (put_request (number_of v)) (λ _. Gives tt))) (join f (one (Ask requests.PutNumber) (drop 1)))
@@ -155,5 +155,5 @@ module _ (p : Program) (body : Option ℕ) where
         sized = join_sized f g i.sized (λ ks m pc. refl);
         goes = λ calls n b pc L ks m c ops home le has. join_carries p f g b pc ks m c ops (t (reach calls n c ops)) (λ v. ask (put_request (number_of v)) (λ _. Gives (tt {0}))) (λ v. Of v ∷ ops) (λ _. ops) i.sized has (λ h. i.goes calls n b pc L ks m c ops home le h) (λ h v ok.
             let q = pc + f.size in
-            ask_carries p b (put_request (number_of v)) (at c q (Of v ∷ ops)) (record (at c (q + 1) ops) { waits = Some (put_request (number_of v)) }) (λ _. Gives (tt {0})) (λ _. at c (q + 1) ops) (λ cells. here p q (Ask requests.PutNumber) (f.leaves ks) m h.0 c (Of v ∷ ops) cells) (λ cells. refl) (λ b' r lt. none_carries p b' tt (λ _. at c (q + 1) ops) tt));
+            ask_carries p b (put_request (number_of v)) (at c q (Of v ∷ ops)) (at c (q + 1) ops) (λ _. Gives (tt {0})) (λ _. at c (q + 1) ops) (λ cells. here p q (Ask requests.PutNumber) (f.leaves ks) m h.0 c (Of v ∷ ops) cells) (λ b' r lt. none_carries p b' tt (λ _. at c (q + 1) ops) tt));
       }

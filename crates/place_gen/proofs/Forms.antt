@@ -18,7 +18,7 @@ use Rattle.code_form.specs.declared.instr.Instr.{Instr}
 use Rattle.code_form.specs.declared.instr.Instr.TheVariants.{Number, Truth, Outer, Local, Param, Load, Store, Do}
 use Rattle.code_form.specs.declared.code.Spot.{Spot}
 use Rattle.code_form.specs.Program.{Program, frame_cells}
-use Rattle.code_form.specs.Machine.{Control, Move, at, pushes as push_move, or_halt, on_values, base_of, bytes_on, bytes_of, instruction}
+use Rattle.code_form.specs.Machine.{Position, Move, at, pushes as push_move, or_halt, on_values, base_of, bytes_on, bytes_of, instruction}
 use Rattle.elan_types.specs.declared.core_phrase.PlacePhrase.{PlacePhrase}
 use Rattle.elan_types.specs.declared.core_phrase.PlacePhrase.TheVariants as places
 use Rattle.elan_types.specs.Eval.{Place, slot_at, place_of, Gives, bind, or_stop, fetch, assign, deliver, place, holding, holding_place, stored, Calls, Run, all, values}
@@ -79,7 +79,7 @@ module _ (p : Program) (body : Option ℕ) where
   -- in this body the code does what the run does, and leaves what it gives
   pub record Is {A : Type 0} (Good : Uses → A → Type 0) (push : A → List Operand → List Operand) (run : Run A) (f : Stretch) : Type 0 where
     pub sized : (ks : List OperandKind) (m : Spot) (pc : ℕ) → length (f.lines ks m pc) ≡ f.size
-    pub goes : (calls : Calls) (n b pc : ℕ) (L : Uses) (ks : List OperandKind) (m : Spot) (c : Control) (ops : List Operand) → m.body ≡ body → Within p calls n b L m c → HasAt p.lines pc (f.lines ks m pc) → Carries p L m.body c.frames Good b (at c pc ops) (run (reach calls n c ops)) (λ a. at c (pc + f.size) (push a ops))
+    pub goes : (calls : Calls) (n b pc : ℕ) (L : Uses) (ks : List OperandKind) (m : Spot) (c : Position) (ops : List Operand) → m.body ≡ body → Within p calls n b L m c → HasAt p.lines pc (f.lines ks m pc) → Carries p L m.body c.frames Good b (at c pc ops) (run (reach calls n c ops)) (λ a. at c (pc + f.size) (push a ops))
 
   abbrev pub IsValue : Kind → Run Value → Stretch → Type 0
   IsValue k = Is (OfKind k) keep
@@ -104,7 +104,7 @@ module _ (p : Program) (body : Option ℕ) where
   }
 
   -- one instruction that delivers what it reads
-  pub deliver_is : (i : Instr) (k : Kind) (v : Value) → IsOf k v → ((c : Control) (cells : Cells) → instruction p.bodies (Some i) c cells ≡ push_move c (Of v) c.ops cells) → IsValue k (deliver v) (one i (pushes (operand.Value k)))
+  pub deliver_is : (i : Instr) (k : Kind) (v : Value) → IsOf k v → ((c : Position) (cells : Cells) → instruction p (Some i) c cells ≡ push_move c (Of v) c.ops cells) → IsValue k (deliver v) (one i (pushes (operand.Value k)))
   deliver_is i k v ok e = record {
     sized = λ ks m pc. refl;
     goes = λ calls n b pc L ks m c ops home le has. reads_carries p b (at c pc ops) (λ w. v) (λ w. bytes_fit (value_bytes v + bytes_on ops (bytes_of c.frames))) (λ v. at c (pc + 1) (Of v ∷ ops)) (λ w cells h. (ok, here p pc i ks m has.0 c ops cells ∙ e (at c pc ops) cells));
@@ -116,11 +116,11 @@ module _ (p : Program) (body : Option ℕ) where
   pub truth_is : (t : Bool) → IsValue kinds.Truth (deliver (item.Truth t)) (one (Truth t) (pushes (operand.Value kinds.Truth)))
   truth_is t = deliver_is (Truth t) kinds.Truth (item.Truth t) tt (λ c cells. refl)
 
-  in_frame : (m : Spot) (c : Control) (L : Uses) (x : ℕ) (k : OperandKind) → m.body ≡ body → Stands p L m c → slice_get (frame_cells p body) x ≡ Some k → slice_get L (base_of c.frames + x) ≡ Some (use_of k)
+  in_frame : (m : Spot) (c : Position) (L : Uses) (x : ℕ) (k : OperandKind) → m.body ≡ body → Stands p L m c → slice_get (frame_cells p body) x ≡ Some k → slice_get L (base_of c.frames + x) ≡ Some (use_of k)
   in_frame m c L x k home stands is = stands.frame x k (ap (λ b. slice_get (frame_cells p b) x) home ∙ is)
 
   -- a place is delivered
-  pub place_carries : (q : PlacePhrase) (k : Kind) (calls : Calls) (n b pc : ℕ) (L : Uses) (ks : List OperandKind) (m : Spot) (c : Control) (ops : List Operand) → m.body ≡ body → HasPlace p body q k → Within p calls n b L m c → HasAt p.lines pc ((place_code q k).lines ks m pc) → Carries p L m.body c.frames (AtKind k) b (at c pc ops) (place q (reach calls n c ops)) (λ x. at c (pc + 1) (keep_place x ops))
+  pub place_carries : (q : PlacePhrase) (k : Kind) (calls : Calls) (n b pc : ℕ) (L : Uses) (ks : List OperandKind) (m : Spot) (c : Position) (ops : List Operand) → m.body ≡ body → HasPlace p body q k → Within p calls n b L m c → HasAt p.lines pc ((place_code q k).lines ks m pc) → Carries p L m.body c.frames (AtKind k) b (at c pc ops) (place q (reach calls n c ops)) (λ x. at c (pc + 1) (keep_place x ops))
   place_carries (places.Variable x) k calls n b pc L ks m c ops home is le has =
       reads_carries p b (at c pc ops) (λ w. record { variable = x }) (λ w. bytes_fit (place_bytes + bytes_on ops (bytes_of c.frames))) (λ x. at c (pc + 1) (keep_place x ops)) (λ w cells h. (le.stands.level x k is, here p pc (Outer x) ks m has.0 c ops cells))
   place_carries (places.Local x) k calls n b pc L ks m c ops home is le has =

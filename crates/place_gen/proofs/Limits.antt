@@ -24,7 +24,7 @@ use Rattle.code_form.specs.declared.operand.OperandKind.TheVariants as operand
 use Rattle.code_form.specs.declared.instr.Instr.TheVariants.{Limit, Unlimit}
 use Rattle.code_form.specs.declared.code.Spot.{Spot}
 use Rattle.code_form.specs.Program.{Program, line_of, deeper}
-use Rattle.code_form.specs.Machine.{Control, Goes, Halts, at, using, base_of, step}
+use Rattle.code_form.specs.Machine.{Position, free, Goes, Halts, at, using, base_of, step}
 use Rattle.elan_types.specs.declared.core_phrase.Exit.{Exit as Exit'}
 use Rattle.elan_types.specs.declared.core_phrase.PlacePhrase.{PlacePhrase}
 use Rattle.elan_types.specs.Eval.{Place, Taken, value_of, World, Outcome, Gives, Stopped, bind, branch, fetch, place, holding_place, cut, Calls, Run, turns, step as step_on, step_to, limited, counted}
@@ -41,7 +41,7 @@ use Rattle.place_gen.proofs.Loops.{IsExit, Under, number_fits, turns_are, turns_
 
 module _ (p : Program) (body : Option ℕ) where
   -- with one cell more in use
-  stands_wider : (L : Uses) (k : Use) (m : Spot) (c : Control) → cells_fit (c.used + 1) ≡ true → Stands p L m c → Stands p (L ++ k ∷ []) (deeper m) (using c (c.used + 1))
+  stands_wider : (L : Uses) (k : Use) (m : Spot) (c : Position) → cells_fit (c.used + 1) ≡ true → Stands p L m c → Stands p (L ++ k ∷ []) (deeper m) (using c (c.used + 1))
   stands_wider L k m c fits h =
       let most : c.used + 1 ≤ CELLS = leb-true (c.used + 1) CELLS fits in record {
         used = omega (arith, h.used, length-append L (k ∷ []));
@@ -51,12 +51,12 @@ module _ (p : Program) (body : Option ℕ) where
       }
 
   -- a cell is taken for the limit, where it has room
-  taken : {L : Uses} (t : Bool) (c c' : Control) (w : World) (cells now : Cells) (go : World → Outcome (Unit {0})) (k : Unit {0} → World → Ending) (l : Exit' → Option Value → World → Ending) → Keeps L w.store cells → step p c cells ≡ cond t (Goes c' now) (Halts (halts.Stopped CellRoom)) → (t ≡ true → Comes p c' (scene_of w now) (finish (go (record w { store = w.store ++ Taken ∷ [] })) k l)) → Comes p c (scene_of w cells) (finish (branch t (λ w. go (record w { store = w.store ++ Taken ∷ [] })) (Stopped CellRoom) w) k l)
+  taken : {L : Uses} (t : Bool) (c c' : Position) (w : World) (cells now : Cells) (go : World → Outcome (Unit {0})) (k : Unit {0} → World → Ending) (l : Exit' → Option Value → World → Ending) → Keeps L w.store cells → step p c cells ≡ cond t (Goes c' now) (Halts CellRoom) → (t ≡ true → Comes p (free c') (scene_of w now) (finish (go (record w { store = w.store ++ Taken ∷ [] })) k l)) → Comes p (free c) (scene_of w cells) (finish (branch t (λ w. go (record w { store = w.store ++ Taken ∷ [] })) (Stopped CellRoom) w) k l)
   taken {L} true c c' w cells now go k l keeps e h = on_step p c c' (scene_of w cells) now _ e (h refl)
   taken {L} false c c' w cells now go k l keeps e h = stop_comes p L c w CellRoom cells keeps e
 
   -- the cell is given back
-  given_back : (L : Uses) (limit : ℤ) (b end : ℕ) (c c1 : Control) (ops : List Operand) (k : Unit {0} → World → Ending) → c1.used ≡ c.used + 1 → c1.frames ≡ c.frames → ((cells : Cells) → step p (at c1 end ops) cells ≡ Goes (at c (end + 1) ops) cells) → ((a : Unit {0}) (w : World) → Any L a → w.marks ≤ b → Ends p L (at c (end + 1) ops) w (k a w)) → (a : Unit {0}) (w : World) → Any (L ++ OfLimit limit ∷ []) a → w.marks ≤ b → Ends p (L ++ OfLimit limit ∷ []) (at c1 end ops) w (k tt (cut (length w.store - 1) w))
+  given_back : (L : Uses) (limit : ℤ) (b end : ℕ) (c c1 : Position) (ops : List Operand) (k : Unit {0} → World → Ending) → c1.used ≡ c.used + 1 → c1.frames ≡ c.frames → ((cells : Cells) → step p (at c1 end ops) cells ≡ Goes (at c (end + 1) ops) cells) → ((a : Unit {0}) (w : World) → Any L a → w.marks ≤ b → Ends p L (at c (end + 1) ops) w (k a w)) → (a : Unit {0}) (w : World) → Any (L ++ OfLimit limit ∷ []) a → w.marks ≤ b → Ends p (L ++ OfLimit limit ∷ []) (at c1 end ops) w (k tt (cut (length w.store - 1) w))
   given_back L limit b end c c1 ops k e e' s hk a w good le cells keeps =
       let n : length w.store - 1 ≡ length L = omega (arith, keeps.as_many, length-append L (OfLimit limit ∷ [])) in
       on_step p (at c1 end ops) (at c (end + 1) ops) (scene_of w cells) cells _ (s cells) (hk tt (cut (length w.store - 1) w) tt le cells (cuts L (OfLimit limit ∷ []) w.store cells (length w.store - 1) n keeps))
@@ -65,7 +65,7 @@ module _ (p : Program) (body : Option ℕ) where
   limit_sized way ts e ks m pc = omega (arith, length-append (ts.lines (drop 2 ks) (deeper m) (pc + 1)) (line_of Unlimit (drop 2 ks) (deeper m) ∷ []), e (drop 2 ks) (deeper m) (pc + 1))
 
   -- the turns under a limit
-  limited_carries : {t : Run Bool} {f : Exit} (way : Way) (v : Value) (x : Place) → IsOf kinds.Int v → IsExit p body (Under p body (number_of v)) t f → (calls : Calls) (n b pc : ℕ) (L : Uses) (ks : List OperandKind) (m : Spot) (c : Control) (ops : List Operand) → m.body ≡ body → Within p calls n b L m c → AtKind kinds.Int L x → HasAt p.lines pc ((limit_code way (turns_code f)).lines ks m pc) → Carries p L m.body c.frames Any b (at c pc (Of v ∷ keep_place x ops)) (limited x way (number_of v) t (reach calls n c ops)) (λ _. at c (pc + 1 + (turns_code f).size + 1) ops)
+  limited_carries : {t : Run Bool} {f : Exit} (way : Way) (v : Value) (x : Place) → IsOf kinds.Int v → IsExit p body (Under p body (number_of v)) t f → (calls : Calls) (n b pc : ℕ) (L : Uses) (ks : List OperandKind) (m : Spot) (c : Position) (ops : List Operand) → m.body ≡ body → Within p calls n b L m c → AtKind kinds.Int L x → HasAt p.lines pc ((limit_code way (turns_code f)).lines ks m pc) → Carries p L m.body c.frames Any b (at c pc (Of v ∷ keep_place x ops)) (limited x way (number_of v) t (reach calls n c ops)) (λ _. at c (pc + 1 + (turns_code f).size + 1) ops)
   limited_carries {t} {f} way v x ok i calls n b pc L ks m c ops home le at_x has =
       let z = number_of v in
       let ts = turns_code f in
@@ -83,7 +83,7 @@ module _ (p : Program) (body : Option ℕ) where
             let now_cells = written cells (run_cell c.used) (cell_of (item.Int z)) in
             let w' : World = record w { store = w.store ++ Taken ∷ [] } in
             let read = reads L w.store cells x.variable kinds.Int keeps at_x in
-            let go = λ (u : Value). cond (cells_fit (c.used + 1)) (Goes (using (at c (cond (is_past way z (number_of u)) end (pc + 1)) ops) (c.used + 1)) now_cells) (Halts (halts.Stopped CellRoom)) in
+            let go = λ (u : Value). cond (cells_fit (c.used + 1)) (Goes (using (at c (cond (is_past way z (number_of u)) end (pc + 1)) ops) (c.used + 1)) now_cells) (Halts CellRoom) in
             let does : step p now cells ≡ go (fetch x w) = here p pc (Limit way end) ks m has.0 c (Of v ∷ keep_place x ops) cells ∙ ap go read.1 in
             let run = λ (w : World). bind (branch (is_past way z (number_of (fetch x w))) (Gives (tt {0})) (turns n (t r)) w) (λ _ w. Gives (tt {0}) (cut (length w.store - 1) w)) in
             let within : x.variable < length w.store = omega (arith, slice_get_within L x.variable (OfValue kinds.Int) at_x, keeps.as_many) in
@@ -96,8 +96,8 @@ module _ (p : Program) (body : Option ℕ) where
             let n : c.used + 1 - 1 ≡ c.used = omega arith in
             here p end Unlimit (drop 2 ks) (deeper m) h1.0 c1 ops cells ∙ ap (λ n. Goes (using (at c (end + 1) ops) n) cells) n in
             let ends = inner.by (λ _ w. k tt (cut (length w.store - 1) w)) l (given_back L z b end c c1 ops k refl refl drops hk) (wider p L (OfLimit z ∷ []) hl) w' lw now_cells kept in
-            subst (Comes p (at c1 (cond past end (pc + 1)) ops) (scene_of w now_cells)) (sym (finish_bind (branch past (Gives (tt {0})) (turns n (t r)) w') (λ _ w. Gives (tt {0}) (cut (length w.store - 1) w)) k l) ∙ ap (λ (u : Value). finish (bind (branch (is_past way z (number_of u)) (Gives (tt {0})) (turns n (t r)) w') (λ _ w. Gives (tt {0}) (cut (length w.store - 1) w))) k l) (sym same_x)) ends in
-            subst (λ (n : ℕ). Comes p now (scene_of w cells) (finish (branch (cells_fit n) (λ w. run (record w { store = w.store ++ Taken ∷ [] })) (Stopped CellRoom) w) k l)) (sym same)
+            subst (Comes p (free (at c1 (cond past end (pc + 1)) ops)) (scene_of w now_cells)) (sym (finish_bind (branch past (Gives (tt {0})) (turns n (t r)) w') (λ _ w. Gives (tt {0}) (cut (length w.store - 1) w)) k l) ∙ ap (λ (u : Value). finish (bind (branch (is_past way z (number_of u)) (Gives (tt {0})) (turns n (t r)) w') (λ _ w. Gives (tt {0}) (cut (length w.store - 1) w))) k l) (sym same_x)) ends in
+            subst (λ (n : ℕ). Comes p (free now) (scene_of w cells) (finish (branch (cells_fit n) (λ w. run (record w { store = w.store ++ Taken ∷ [] })) (Stopped CellRoom) w) k l)) (sym same)
             (taken (cells_fit (c.used + 1)) now (at c1 (cond past end (pc + 1)) ops) w cells now_cells run k l keeps does fuller);
       }
 

@@ -18,7 +18,7 @@ use Rattle.code_form.specs.declared.operand.OperandKind.TheVariants as operand
 use Rattle.code_form.specs.declared.instr.Instr.TheVariants.{Mark, Number, Modify, Jump, False, Step}
 use Rattle.code_form.specs.declared.code.Spot.{Spot}
 use Rattle.code_form.specs.Program.{Program, line_of}
-use Rattle.code_form.specs.Machine.{Frame, Control, Goes, at, limit_in, step}
+use Rattle.code_form.specs.Machine.{Frame, Position, free, Goes, at, limit_in, step}
 use Rattle.elan_types.specs.declared.core_phrase.Exit.{Exit as Exit'}
 use Rattle.elan_types.specs.declared.core_phrase.PlacePhrase.{PlacePhrase}
 use Rattle.elan_types.specs.Eval.{Place, Slot, World, Outcome, Gives, bind, branch, fetch, assign, deliver, place, holding_place, modify, Calls, Run, turns, while_true, until_true, then_on, done, turn, go_on, step as step_on, step_to, step_from}
@@ -35,18 +35,18 @@ use Rattle.place_gen.proofs.Choices.{modify_carries}
 
 module _ (p : Program) (body : Option ℕ) where
   -- where the run goes on the code goes on behind, and else it goes to the end of the loop
-  abbrev pub Parts : Uses → Option ℕ → ℕ → Control → ℕ → List Operand → ℕ → (World → Outcome Bool) → Control → Type 0
+  abbrev pub Parts : Uses → Option ℕ → ℕ → Position → ℕ → List Operand → ℕ → (World → Outcome Bool) → Position → Type 0
   Parts L home b c q ops end run from = Carries p L home c.frames Any b from run (λ on. cond on (at c q ops) (at c end ops))
 
   -- a part of a turn, where the limits are such
   pub record IsExit (L : Uses → Type 0) (run : Run Bool) (f : Exit) : Type 0 where
     pub sized : (end : ℕ) (ks : List OperandKind) (m : Spot) (pc : ℕ) → length (f.lines end ks m pc) ≡ f.size
-    pub goes : (calls : Calls) (n b pc end : ℕ) (U : Uses) (ks : List OperandKind) (m : Spot) (c : Control) (ops : List Operand) → m.body ≡ body → Within p calls n b U m c → L U → HasAt p.lines pc (f.lines end ks m pc) → Parts U m.body b c (pc + f.size) ops end (run (reach calls n c ops)) (at c pc ops)
+    pub goes : (calls : Calls) (n b pc end : ℕ) (U : Uses) (ks : List OperandKind) (m : Spot) (c : Position) (ops : List Operand) → m.body ≡ body → Within p calls n b U m c → L U → HasAt p.lines pc (f.lines end ks m pc) → Parts U m.body b c (pc + f.size) ops end (run (reach calls n c ops)) (at c pc ops)
 
-  exits_at : {U : Uses} {home : Option ℕ} (b : ℕ) (c : Control) (m n : ℕ) (ops : List Operand) (end : ℕ) (run : World → Outcome Bool) (from : Control) → m ≡ n → Parts U home b c m ops end run from → Parts U home b c n ops end run from
+  exits_at : {U : Uses} {home : Option ℕ} (b : ℕ) (c : Position) (m n : ℕ) (ops : List Operand) (end : ℕ) (run : World → Outcome Bool) (from : Position) → m ≡ n → Parts U home b c m ops end run from → Parts U home b c n ops end run from
   exits_at {U} {home} b c m n ops end run from e i = subst (λ n. Parts U home b c n ops end run from) e i
 
-  gives_truth : {U : Uses} {home : Option ℕ} (b : ℕ) (t : Bool) (c : Control) (q : ℕ) (ops : List Operand) (end : ℕ) → Parts U home b c q ops end (Gives t) (at c (cond t q end) ops)
+  gives_truth : {U : Uses} {home : Option ℕ} (b : ℕ) (t : Bool) (c : Position) (q : ℕ) (ops : List Operand) (end : ℕ) → Parts U home b c q ops end (Gives t) (at c (cond t q end) ops)
   gives_truth b true c q ops end = none_carries p b true (λ on. cond on (at c q ops) (at c end ops)) tt
   gives_truth b false c q ops end = none_carries p b false (λ on. cond on (at c q ops) (at c end ops)) tt
 
@@ -89,7 +89,7 @@ module _ (p : Program) (body : Option ℕ) where
         lead_carries p b (at c q (Of v ∷ ops)) (at c (cond (truth_of v) (q + 1) (q + 1 + 1)) ops) (Gives (not (truth_of v))) to (λ cells. here p q (False (q + 1 + 1)) (f.leaves ks) m h.0 c (Of v ∷ ops) cells) (by (truth_of v) b c ops q end (λ cells. here p (q + 1) (Jump end) ks m h.1.0 c ops cells))));
   }
     where
-      by : {U : Uses} {home : Option ℕ} (t : Bool) (b : ℕ) (c : Control) (ops : List Operand) (q end : ℕ) → ((cells : Cells) → step p (at c (q + 1) ops) cells ≡ Goes (at c end ops) cells) → Parts U home b c (q + 1 + 1) ops end (Gives (not t)) (at c (cond t (q + 1) (q + 1 + 1)) ops)
+      by : {U : Uses} {home : Option ℕ} (t : Bool) (b : ℕ) (c : Position) (ops : List Operand) (q end : ℕ) → ((cells : Cells) → step p (at c (q + 1) ops) cells ≡ Goes (at c end ops) cells) → Parts U home b c (q + 1 + 1) ops end (Gives (not t)) (at c (cond t (q + 1) (q + 1 + 1)) ops)
       by true b c ops q end e = lead_carries p b (at c (q + 1) ops) (at c end ops) (Gives false) (λ on. cond on (at c (q + 1 + 1) ops) (at c end ops)) e (none_carries p b false (λ on. cond on (at c (q + 1 + 1) ops) (at c end ops)) tt)
       by false b c ops q end e = none_carries p b true (λ on. cond on (at c (q + 1 + 1) ops) (at c end ops)) tt
 
@@ -118,7 +118,7 @@ module _ (p : Program) (body : Option ℕ) where
   turn_is w u wf uf {L = L} a b c d = then_exits a (then_exits (units_are L b) (then_exits c d))
 
   -- the turns of a loop
-  pub turns_are : {t : Run Bool} {f : Exit} {L : Uses → Type 0} → IsExit L t f → (calls : Calls) (n b pc : ℕ) (U : Uses) (ks : List OperandKind) (m : Spot) (c : Control) (ops : List Operand) → m.body ≡ body → Within p calls n b U m c → L U → HasAt p.lines pc ((turns_code f).lines ks m pc) → Carries p U m.body c.frames Any b (at c pc ops) (turns n (t (reach calls n c ops))) (λ _. at c (pc + (turns_code f).size) ops)
+  pub turns_are : {t : Run Bool} {f : Exit} {L : Uses → Type 0} → IsExit L t f → (calls : Calls) (n b pc : ℕ) (U : Uses) (ks : List OperandKind) (m : Spot) (c : Position) (ops : List Operand) → m.body ≡ body → Within p calls n b U m c → L U → HasAt p.lines pc ((turns_code f).lines ks m pc) → Carries p U m.body c.frames Any b (at c pc ops) (turns n (t (reach calls n c ops))) (λ _. at c (pc + (turns_code f).size) ops)
   turns_are {t} {f} {L} i calls n b pc U ks m c ops home le l has =
       let end = pc + 1 + f.size + 1 in
       let q = pc + 1 + f.size in
@@ -130,11 +130,11 @@ module _ (p : Program) (body : Option ℕ) where
       (turns_carries p n b (t r) top (at c (pc + 1) ops) exit (λ cells. here p pc Mark ks m has.0 c ops cells) (λ b' lb.
       jumps_back {U = U} {home = m.body} {fs = c.frames} b' (at c (pc + 1) ops) (at c q ops) top exit (t r) (λ cells. here p q (Jump pc) ks m h.0 c ops cells) (i.goes calls n b' (pc + 1) end U ks m c ops home (less p le lb) l (has_front p.lines (pc + 1) (f.lines end ks m (pc + 1)) _ has.1))) le.turns)
     where
-      back : {U : Uses} (b : ℕ) (mid top exit : Control) (k : Bool → World → Ending) → ((cells : Cells) → step p mid cells ≡ Goes top cells) → ((a : Bool) (w : World) → Any U a → w.marks ≤ b → Ends p U (cond a top exit) w (k a w)) → (a : Bool) (w : World) → w.marks ≤ b → Ends p U (cond a mid exit) w (k a w)
+      back : {U : Uses} (b : ℕ) (mid top exit : Position) (k : Bool → World → Ending) → ((cells : Cells) → step p mid cells ≡ Goes top cells) → ((a : Bool) (w : World) → Any U a → w.marks ≤ b → Ends p U (cond a top exit) w (k a w)) → (a : Bool) (w : World) → w.marks ≤ b → Ends p U (cond a mid exit) w (k a w)
       back {U} b mid top exit k e hk true w le = lead_ends p U mid top w _ e (hk true w tt le)
       back {U} b mid top exit k e hk false w le = hk false w tt le
 
-      jumps_back : {U : Uses} {home : Option ℕ} {fs : List Frame} (b : ℕ) (from mid top exit : Control) (t : World → Outcome Bool) → ((cells : Cells) → step p mid cells ≡ Goes top cells) → Carries p U home fs Any b from t (λ on. cond on mid exit) → Carries p U home fs Any b from t (λ on. cond on top exit)
+      jumps_back : {U : Uses} {home : Option ℕ} {fs : List Frame} (b : ℕ) (from mid top exit : Position) (t : World → Outcome Bool) → ((cells : Cells) → step p mid cells ≡ Goes top cells) → Carries p U home fs Any b from t (λ on. cond on mid exit) → Carries p U home fs Any b from t (λ on. cond on top exit)
       jumps_back b from mid top exit t e i = record { by = λ k l hk hl w le. i.by k l (λ a w _ le. back b mid top exit k e hk a w le) hl w le }
 
   pub turns_sized : {t : Run Bool} {f : Exit} {L : Uses → Type 0} → IsExit L t f → (ks : List OperandKind) (m : Spot) (pc : ℕ) → length ((turns_code f).lines ks m pc) ≡ (turns_code f).size
@@ -174,14 +174,14 @@ module _ (p : Program) (body : Option ℕ) where
   number_fits (item.Truth b) h = absurd h
 
   -- the limit is read out of its cell
-  limit_read : (limit : ℤ) (U : Uses) (c : Control) (store : List Slot) (cells : Cells) → Under limit U → c.used ≡ length U → Keeps U store cells → limit_in c cells ≡ limit
+  limit_read : (limit : ℤ) (U : Uses) (c : Position) (store : List Slot) (cells : Cells) → Under limit U → c.used ≡ length U → Keeps U store cells → limit_in c cells ≡ limit
   limit_read limit U c store cells l used h =
       let n : c.used - 1 ≡ length l.0 = omega (arith, used, ap length l.1, length-append l.0 (OfLimit limit ∷ [])) in
       let is : slice_get U (length l.0) ≡ Some (OfLimit limit) = ap (λ U. slice_get U (length l.0)) l.1 ∙ (let e : length l.0 ≡ length l.0 + 0 = omega arith in ap (slice_get (l.0 ++ OfLimit limit ∷ [])) e ∙ get_right l.0 (OfLimit limit ∷ []) 0) in
       let g = h.each (length l.0) (OfLimit limit) is in
       ap (λ n. number_of (value_in kinds.Int (cells (run_cell n)))) n ∙ ap (λ n. number_of (value_in kinds.Int n)) g.2 ∙ ap number_of (value_in-cell_of kinds.Int (item.Int limit) g.1)
 
-  stepped : {U : Uses} (t : Bool) (way : Way) (limit z : ℤ) (x : Place) (b : ℕ) (c next exit : Control) (k : Bool → World → Ending) (l : Exit' → Option Value → World → Ending) → ((a : Bool) (w : World) → Any U a → w.marks ≤ b → Ends p U (cond a next exit) w (k a w)) → (w : World) → w.marks ≤ b → (cells : Cells) → Keeps U w.store cells → AtKind kinds.Int U x → FitsSigned w16 limit → FitsSigned w16 z → has_reached way limit z ≡ t → step p c cells ≡ cond t (Goes exit cells) (Goes next (written cells (run_cell x.variable) (cell_of (item.Int (next_number way z))))) → Comes p c (scene_of w cells) (finish (branch t (Gives false) (λ w. Gives true (assign x (item.Int (next_number way z)) w)) w) k l)
+  stepped : {U : Uses} (t : Bool) (way : Way) (limit z : ℤ) (x : Place) (b : ℕ) (c next exit : Position) (k : Bool → World → Ending) (l : Exit' → Option Value → World → Ending) → ((a : Bool) (w : World) → Any U a → w.marks ≤ b → Ends p U (cond a next exit) w (k a w)) → (w : World) → w.marks ≤ b → (cells : Cells) → Keeps U w.store cells → AtKind kinds.Int U x → FitsSigned w16 limit → FitsSigned w16 z → has_reached way limit z ≡ t → step p c cells ≡ cond t (Goes exit cells) (Goes next (written cells (run_cell x.variable) (cell_of (item.Int (next_number way z))))) → Comes p (free c) (scene_of w cells) (finish (branch t (Gives false) (λ w. Gives true (assign x (item.Int (next_number way z)) w)) w) k l)
   stepped true way limit z x b c next exit k l hk w le cells h is f g t e = on_step p c exit (scene_of w cells) cells _ e (hk false w tt le cells h)
   stepped {U} false way limit z x b c next exit k l hk w le cells h is f g t e =
       write_ends p c next w x kinds.Int (item.Int (next_number way z)) _ cells is (next_fits way limit z f g t) h e (hk true (assign x (item.Int (next_number way z)) w) tt le)

@@ -1,6 +1,6 @@
 //! What a task has in its memory.
 ghost use Rattle.std.specs.Prelude.{◌≡◌, ◌≢◌, ◌<◌, ◌≤◌, [], Err, IfOk, OnOk};
-ghost use Rattle.eu_base.specs.declared.cells.MemFault.TheVariants.{Failed};
+ghost use Rattle.eu_base.specs.declared.cells.MemFault.TheVariants.{NoMemory, Failed};
 ghost use Rattle.eu_base.specs.Spaces.{IsKept};
 ghost use Rattle.page_pool.specs.Pool.{used_of};
 ghost use Rattle.page_table.specs.Changes.{FreesOnly};
@@ -84,6 +84,7 @@ impl SpaceMemory {
         ensures number { IfOk result (λ number. number ≡ cell_in (content_at pool.old self.old.run.root) cell) }
         ensures same { OnOk result (IsKept (content_at pool.old self.old.run.root) (content_at pool.new self.new.run.root)) }
         ensures frames { Frames pool.old pool.new (roots self.old) (roots self.new) }
+        ensures memory { result ≢ Err NoMemory }
         ensures cause { result ≢ Err Failed }
     {
         let mut run = self.run.over(pool);

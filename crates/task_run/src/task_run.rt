@@ -1,15 +1,19 @@
 //! A command that runs.
-ghost use Rattle.std.specs.Prelude.{◌≡◌, ◌++◌, ◌∷◌, [], ℕ, List, length, true, IfOk, OnOk, IfSome, IsSome};
+ghost use Rattle.std.specs.Prelude.{◌≡◌, ◌+◌, ◌-◌, ◌<◌, ◌≤◌, ◌⊎◌, ◌++◌, ◌∷◌, [], ℕ, List, length, map, true, false, None, IfOk, OnOk, IsSome, option_copied};
+ghost use Rattle.eu_base.specs.declared.request.Request.{Request};
 ghost use Rattle.eu_base.specs.declared.request.Reply.{Reply};
+ghost use Rattle.code_form.specs.declared.halt.Halt.TheVariants as halts;
+ghost use Rattle.code_form.specs.declared.waits.Waits.TheVariants as waits;
+ghost use Rattle.eu_base.specs.Values.{blank_of, cell_of};
 ghost use Rattle.eu_base.specs.Room.{cells_fit};
 ghost use Rattle.eu_base.specs.Cells.{Cells, HasFaultCause, IsBlank};
-ghost use Rattle.code_form.specs.Machine.{Control, start, rest_at, answered};
+ghost use Rattle.code_form.specs.Machine.{Control, start, rest_at, answered, written_from};
 ghost use Rattle.code_form.specs.Valid.{Fits};
-ghost use Rattle.code_form.specs.Runs.{IsPaused, Rests, Continues};
+ghost use Rattle.code_form.specs.Runs.{IsPaused, Rests, Stands, asked};
 ghost use Rattle.zero_machine.specs.Running.{scene_of};
 
-use code_form::{Code, Halt};
-use eu_base::{MemFault, Memory, Reply};
+use code_form::{Code, Halt, Waits};
+use eu_base::{MemFault, Memory, Reply, Request};
 use std::alloc::Global;
 use std::marker::Model;
 use zero_machine::State;
@@ -35,6 +39,9 @@ impl TaskRun {
         ensures control { IfOk result (λ command. command ≡ start (length c.now.variables)) }
         ensures fits { IfOk result (λ command. Fits c.now command) }
         ensures blank { OnOk result (cells_fit (length c.now.variables) ≡ true → IsBlank c.now.variables (M.cells m.new)) }
+        ensures written { OnOk result (cells_fit (length c.now.variables) ≡ true →
+            M.cells m.new ≡ written_from 0 (map (λ k. cell_of (blank_of k)) c.now.variables) (M.cells m.old)) }
+        ensures kept { OnOk result (cells_fit (length c.now.variables) ≡ false → M.cells m.new ≡ M.cells m.old) }
         ensures cause { HasFaultCause (M.faults m.old) (M.faults m.new) result }
         ensures follows { M.follows m.old m.new }
     {
@@ -43,14 +50,18 @@ impl TaskRun {
     }
 
     /// Goes on until a mark is due and none is left, something is asked, or the command ends or stops. However the
-    /// marks are divided over the calls, they make one run, until it ends or stops.
+    /// marks are divided over the calls, they make one run. A call without marks asks nothing: after it the command
+    /// stands right before its next mark, its end or its stop.
     pub fn go<M: Memory>(&mut self, c: &Code, m: &mut M, marks: &mut u32) -> Result<Halt, MemFault>
         requires { Fits c.now self.old }
         ensures rests { IfOk result (λ halt. Rests c.now self.old (scene_of (M.cells m.old) marks.old)
             (rest_at halt self.new (scene_of (M.cells m.new) marks.new))) }
-        ensures goes_on { IfOk result (λ halt. IsPaused halt → (first : Control) (cells : Cells) (given : ℕ) (replies : List Reply) →
-            Continues c.now first cells given replies self.old (M.cells m.old) marks.old →
-            Continues c.now first cells given replies self.new (M.cells m.new) marks.new) }
+        ensures marks { OnOk result (marks.new ≤ marks.old) }
+        ensures stands { IfOk result (λ halt. IsPaused halt ⊎ (marks.old ≡ 0) → (first : Control) (cells : Cells) (spent : ℕ) (replies : List Reply) →
+            Stands c.now first cells spent replies self.old (M.cells m.old) →
+            Stands c.now first cells (spent + (marks.old - marks.new)) replies self.new (M.cells m.new)) }
+        ensures asks { IfOk result (λ halt. (request : Request) → halt ≡ halts.Asks request → self.new.waits ≡ waits.Asked request) }
+        ensures pays { IfOk result (λ halt. (request : Request) → halt ≡ halts.Asks request → asked self.old.waits ≡ None → marks.new < marks.old) }
         ensures fits { OnOk result (Fits c.now self.new) }
         ensures cause { HasFaultCause (M.faults m.old) (M.faults m.new) result }
         ensures follows { M.follows m.old m.new }
@@ -59,14 +70,24 @@ impl TaskRun {
         Ok(halt)
     }
 
+    /// The request that the command waits for.
+    pub fn asked(&self) -> Option<&Request>
+        ensures { option_copied result ≡ asked self.now.waits }
+    {
+        match &self.state.waits {
+            Waits::Asked(request) => Some(request),
+            Waits::Nothing | Waits::Refused(_) => None,
+        }
+    }
+
     /// Answers the request that the command waits for.
     pub fn answer<M: Memory>(&mut self, c: &Code, m: &mut M, r: Reply) -> Result<(), MemFault>
         requires fits { Fits c.now self.old }
-        requires asks { IsSome self.old.waits }
-        ensures answered { OnOk result (IfSome self.old.waits (λ request. self.new ≡ answered request r self.old)) }
-        ensures goes_on { OnOk result ((first : Control) (cells : Cells) (given left : ℕ) (replies : List Reply) →
-            Continues c.now first cells given replies self.old (M.cells m.old) left →
-            Continues c.now first cells given (replies ++ r ∷ []) self.new (M.cells m.new) left) }
+        requires asks { IsSome (asked self.old.waits) }
+        ensures answered { OnOk result ((request : Request) → self.old.waits ≡ waits.Asked request → self.new ≡ answered request r self.old.position) }
+        ensures stands { OnOk result ((first : Control) (cells : Cells) (spent : ℕ) (replies : List Reply) →
+            Stands c.now first cells spent replies self.old (M.cells m.old) →
+            Stands c.now first cells spent (replies ++ r ∷ []) self.new (M.cells m.new)) }
         ensures fits { OnOk result (Fits c.now self.new) }
         ensures kept { M.cells m.new ≡ M.cells m.old }
         ensures cause { HasFaultCause (M.faults m.old) (M.faults m.new) result }

@@ -3,26 +3,26 @@ use Rattle.std.proofs.Common.{◌≡◌, ℕ, zero, suc, ◌+◌, ◌-◌, ◌�
 use Rattle.std.specs.Prelude.{Result, Ok, Err, IfOk, reverse}
 use Rattle.eu_base.specs.declared.value.Kind.{Kind}
 use Rattle.eu_base.specs.Cells.{Cells}
-use Rattle.code_form.specs.declared.halt.Halt.{Halt}
+use Rattle.zero_machine.specs.declared.next.Next.{Next}
 use Rattle.code_form.specs.declared.halt.Halt.TheVariants as halts
 use Rattle.code_form.specs.declared.code.Layout.{Layout}
 use Rattle.code_form.specs.declared.code.Layout.TheVariants.{Own}
 use Rattle.code_form.specs.declared.operand.Operand.{Operand}
 use Rattle.code_form.specs.declared.operand.OperandKind.{OperandKind}
-use Rattle.code_form.specs.Machine.{Frame, Control, After, Spends, Over, rest_at, enters, calls_to, frame_numbers, back_into, out_to, after_stage, mark_stage, stage}
+use Rattle.code_form.specs.Machine.{Frame, Position, Control, free, After, Spends, Over, rest_at, enters, calls_to, frame_numbers, back_into, out_to, after_stage, mark_stage, stage}
 use Rattle.zero_machine.specs.Finds.{IsCallable, IsInside, is_in_proc}
-use Rattle.zero_machine.specs.Running.{scene_of, stage_of, EntersSo}
+use Rattle.zero_machine.specs.Running.{scene_of, stage_of, halt_of, EntersSo}
 use Rattle.zero_machine.proofs.Stacks.{taken_all}
 
-unspent : (m : ℕ) (a : After) (c : Control) (cells : Cells) → m ≡ 0 → Over (rest_at halts.Marked c (scene_of cells m)) ≡ mark_stage m a c (scene_of cells m)
+unspent : (m : ℕ) (a : After) (c : Position) (cells : Cells) → m ≡ 0 → Over (rest_at halts.Marked (free c) (scene_of cells m)) ≡ mark_stage m a c (scene_of cells m)
 unspent zero a c cells e = refl
 unspent (suc m) a c cells e = let f : ⊥ = cc in absurd f
 
-spent : (m : ℕ) (a : After) (c : Control) (cells : Cells) → 0 < m → after_stage a c (scene_of cells (m - 1)) ≡ mark_stage m a c (scene_of cells m)
+spent : (m : ℕ) (a : After) (c : Position) (cells : Cells) → 0 < m → after_stage a c (scene_of cells (m - 1)) ≡ mark_stage m a c (scene_of cells m)
 spent zero a c cells lt = absurd (omega (arith, lt))
 spent (suc m) a c cells lt = let e : suc m - 1 ≡ m = omega arith in ap (λ n. after_stage a c (scene_of cells n)) e
 
-module _ (c : Control) (first : ℕ) (layout : Layout) (cells : Cells) (ps : List OperandKind) (vs : List Kind) (own : layout ≡ Own ps vs) (callable : IsCallable layout c.ops) where
+module _ (c : Position) (first : ℕ) (layout : Layout) (cells : Cells) (ps : List OperandKind) (vs : List Kind) (own : layout ≡ Own ps vs) (callable : IsCallable layout c.ops) where
   fewer : length ps ≤ length c.ops
   fewer =
       let e : Own callable.parameters callable.variables ≡ Own ps vs = sym callable.own ∙ own in
@@ -35,11 +35,11 @@ module _ (c : Control) (first : ℕ) (layout : Layout) (cells : Cells) (ps : Lis
   spends : calls_to c first layout cells ≡ Spends (into (length ps) vs)
   spends = ap (λ l. calls_to c first l cells) own ∙ taken_all (length ps) c.ops (λ args ops. Spends (enters c first (c.used + 2) false ops (frame_numbers args vs) cells)) fewer
 
-  pub call_marked : (m : ℕ) → m ≡ 0 → Over (rest_at halts.Marked c (scene_of cells m)) ≡ stage (calls_to c first layout cells) c (scene_of cells m)
+  pub call_marked : (m : ℕ) → m ≡ 0 → Over (rest_at halts.Marked (free c) (scene_of cells m)) ≡ stage (calls_to c first layout cells) c (scene_of cells m)
   call_marked m e = unspent m (into (length ps) vs) c cells e ∙ ap (λ x. stage x c (scene_of cells m)) (sym spends)
 
-  pub call_enters : {E : Type 0} (result : Result (Option Halt) E) (c' : Control) (cells' : Cells) (m n : ℕ) (variables : List Kind) → n ≡ length ps → variables ≡ vs → 0 < m → IfOk result (EntersSo (into n variables) c cells c' cells')
-      → IfOk result (λ halt. stage_of halt c' (scene_of cells' (m - 1)) ≡ stage (calls_to c first layout cells) c (scene_of cells m))
+  pub call_enters : {E : Type 0} (result : Result Next E) (c' : Control) (cells' : Cells) (m n : ℕ) (variables : List Kind) → n ≡ length ps → variables ≡ vs → 0 < m → IfOk result (EntersSo (into n variables) c cells c' cells')
+      → IfOk result (λ next. stage_of (halt_of next) c' (scene_of cells' (m - 1)) ≡ stage (calls_to c first layout cells) c (scene_of cells m))
   call_enters (Ok h) c' cells' m n variables e f lt goes =
       goes (m - 1) ∙ ap (λ n. after_stage (into n variables) c (scene_of cells (m - 1))) e ∙ ap (λ l. after_stage (into (length ps) l) c (scene_of cells (m - 1))) f
       ∙ spent m (into (length ps) vs) c cells lt ∙ ap (λ x. stage x c (scene_of cells m)) (sym spends)

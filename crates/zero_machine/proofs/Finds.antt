@@ -17,13 +17,13 @@ use Rattle.code_form.specs.declared.instr.Instr.{Instr}
 use Rattle.code_form.specs.declared.instr.Instr.TheVariants.{Mark, Number, Truth, Outer, Local, Param, Load, Store, Do, Modify, Jump, False, When, Drop, Limit, Unlimit, Step, Ask, Call, Refer, Back, Out, End}
 use Rattle.code_form.specs.declared.code.Spot.{Spot}
 use Rattle.code_form.specs.Program.{Program, line_of, instr_of, owner, frame_cells}
-use Rattle.code_form.specs.Machine.{Frame, Control, base_of}
+use Rattle.code_form.specs.Machine.{Frame, Position, free, base_of}
 use Rattle.code_form.specs.Valid.{pushed_kinds, pushed_operands, HasResult, IsCalled, IsFine, IsValid, FitsKinds, FitsFrames, Fits}
 use Rattle.code_form.proofs.Safe.{level_below, frame_below, by_layout, as_proc, as_refined, same_owner}
 use Rattle.zero_machine.specs.Finds.{TopValue, TopPlace, TopBoth, TopValues, TopResult, HasProc, IsInside, is_in_proc, Finds}
 
 -- the instruction of a state that fits is the one that stands in the code
-pub the_instr : (p : Program) (c : Control) (fits : Fits p c) (i : Instr) → Some i ≡ instr_of (slice_get p.lines c.pc) → fits.next.0 ≡ i
+pub the_instr : (p : Program) (c : Position) (fits : Fits p (free c)) (i : Instr) → Some i ≡ instr_of (slice_get p.lines c.pc) → fits.next.0 ≡ i
 the_instr p c fits i e = let f : Some i ≡ Some fits.next.0 = e ∙ ap instr_of fits.next.1 in cc
 
 top_value : (ops : List Operand) (k : Kind) (rest : List OperandKind) → FitsKinds ops (OfKind k ∷ rest) → TopValue ops
@@ -71,9 +71,9 @@ pushed_many (k ∷ ps) ks = omega (arith, pushed_many ps (k ∷ ks))
 
 module _ (p : Program) (valid : IsValid p) where
   -- the places of a frame lie among the cells in use
-  module _ (c : Control) (fits : Fits p c) (room : c.full ≡ false) where
+  module _ (c : Position) (fits : Fits p (free c)) where
     in_use : c.used ≤ CELLS
-    in_use = leb-true c.used CELLS (fits.cells room)
+    in_use = leb-true c.used CELLS (fits.cells refl)
 
     outer_cell : (x : ℕ) (k : Kind) → slice_get p.variables x ≡ Some k → IsCell (run_cell x)
     outer_cell x k e =
@@ -109,7 +109,7 @@ module _ (p : Program) (valid : IsValid p) where
       let b : length ks ≡ length f.parameters + length f.rest = ap length f.taken ∙ pushed_many f.parameters f.rest in
       record { entry = f.entry; has = f.has; callable = record { parameters = f.parameters; variables = f.variables; own = f.own; taken = omega (arith, a, b) } }
 
-  module _ (c : Control) (fits : Fits p c) (room : c.full ≡ false) where
+  module _ (c : Position) (fits : Fits p (free c)) where
     abbrev ks : List OperandKind
     ks = fits.kinds
 
@@ -125,9 +125,9 @@ module _ (p : Program) (valid : IsValid p) where
     finds_at Mark f = tt
     finds_at (Number z) f = tt
     finds_at (Truth b) f = tt
-    finds_at (Outer x) f = outer_cell c fits room x f.0 f.1
-    finds_at (Local x) f = local_cell c fits room x (OfKind f.0) f.1
-    finds_at (Param x) f = local_cell c fits room x (AtKind f.0) f.1
+    finds_at (Outer x) f = outer_cell c fits x f.0 f.1
+    finds_at (Local x) f = local_cell c fits x (OfKind f.0) f.1
+    finds_at (Param x) f = local_cell c fits x (AtKind f.0) f.1
     finds_at (Load kind) f = top_place c.ops kind f.0 (subst (FitsKinds c.ops) f.1 fits.operands)
     finds_at (Store kind) f = top_both c.ops kind kind f.0 (subst (FitsKinds c.ops) f.1 fits.operands)
     finds_at (Do op) f =
@@ -153,5 +153,5 @@ module _ (p : Program) (valid : IsValid p) where
     pub finds : Finds p.bodies fits.next.0 c
     finds = finds_at fits.next.0 (valid.each c.pc (line_of fits.next.0 fits.kinds fits.spot) fits.next.1)
 
-  pub within : (c : Control) → Fits p c → c.pc < length p.lines
+  pub within : (c : Position) → Fits p (free c) → c.pc < length p.lines
   within c fits = slice_get_within p.lines c.pc _ fits.next.1

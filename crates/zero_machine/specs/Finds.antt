@@ -14,7 +14,7 @@ use Rattle.code_form.specs.declared.code.Layout.TheVariants.{Own}
 use Rattle.code_form.specs.declared.operand.Operand.{Operand}
 use Rattle.code_form.specs.declared.operand.Operand.TheVariants.{Value as Of, Place as At}
 use Rattle.code_form.specs.declared.operand.OperandKind.{OperandKind}
-use Rattle.code_form.specs.Machine.{Frame, Control, base_of}
+use Rattle.code_form.specs.Machine.{Frame, Position, base_of}
 
 -- a value
 pub record TopValue (ops : List Operand) : Type 0 where
@@ -75,7 +75,7 @@ is_in_proc [] = false
 is_in_proc (f ∷ fs) = cond f.refines (is_in_proc fs) true
 
 -- what an instruction takes is there
-abbrev pub Finds : List Entry → Instr → Control → Type 0
+abbrev pub Finds : List Entry → Instr → Position → Type 0
 Finds bodies (Outer k) c = IsCell (run_cell k)
 Finds bodies (Local k) c = IsCell (run_cell (base_of c.frames + k))
 Finds bodies (Param k) c = IsCell (run_cell (base_of c.frames + k))

@@ -1,18 +1,31 @@
 -- What the machine's state stands for.
-use Rattle.std.specs.Prelude.{◌≡◌, ℕ, ◌+◌, ◌^◌, ◌<◌, true, false, List, [], ◌∷◌, Option, Some, None}
+use Rattle.std.specs.Prelude.{◌≡◌, ℕ, ◌+◌, ◌^◌, ◌<◌, true, List, [], ◌∷◌, Option, Some, None, Result, Ok, Err}
 use Rattle.eu_base.specs.Room.{cells_fit, bytes_fit}
 use Rattle.eu_base.specs.declared.value.Value.{Value}
 use Rattle.eu_base.specs.Cells.{Cells}
 use Rattle.code_form.specs.declared.halt.Halt.{Halt}
+use Rattle.code_form.specs.declared.halt.Halt.TheVariants as halts
+use Rattle.eu_base.specs.declared.stop.Stop.TheVariants as stops
 use Rattle.code_form.specs.declared.instr.Instr.{Instr}
 use Rattle.code_form.specs.declared.operand.Operand.{Operand}
 use Rattle.code_form.specs.declared.operand.Operand.TheVariants.{Value as Of}
-use Rattle.code_form.specs.declared.code.Entry.{Entry}
-use Rattle.code_form.specs.Machine.{Control, Goes, After, Scene, Stage, On, Over, rest_at, bytes_on, bytes_of, instruction, after_stage, stage}
+use Rattle.code_form.specs.declared.waits.Waits.{Waits}
+use Rattle.code_form.specs.declared.waits.Waits.TheVariants.{Nothing, Asked, Refused}
+use Rattle.code_form.specs.Program.{Program}
+use Rattle.code_form.specs.Machine.{Position, Control, After, Scene, Stage, On, Over, rest_at, bytes_on, bytes_of, instruction, after_stage, stage}
+use Rattle.eu_base.specs.declared.stop.Stop.{Stop}
+use Rattle.eu_base.specs.Operations.{Given}
+use Rattle.zero_machine.specs.declared.operations.Fault.{Fault}
+use Rattle.zero_machine.specs.declared.operations.Fault.TheVariants as faults
 use Rattle.zero_machine.specs.declared.state.State.{State}
+use Rattle.zero_machine.specs.declared.next.Next.{Next}
+use Rattle.zero_machine.specs.declared.next.Next.TheVariants.{On as On', Marked, Ended, Overflow, Division, CellRoom, OperandRoom}
+
+abbrev pub position_of : State → Position
+position_of s = record { pc = s.pc; ops = s.stack.ops; used = s.used; frames = s.stack.frames }
 
 abbrev pub control_of : State → Control
-control_of s = record { pc = s.pc; ops = s.stack.ops; used = s.used; frames = s.stack.frames; full = s.full; waits = s.waiting }
+control_of s = record { position = position_of s; waits = s.waits }
 
 -- cells and marks, with no replies
 abbrev pub scene_of : Cells → ℕ → Scene
@@ -23,25 +36,48 @@ abbrev pub stage_of : Option Halt → Control → Scene → Stage
 stage_of None c s = On c s
 stage_of (Some h) c s = Over (rest_at h c s)
 
--- the next instruction can be reached, and there is room for what is pending and in use
+-- nothing is waited for, the next instruction can be reached, and there is room for what is pending and in use
 pub record IsReady (s : State) : Type 0 where
-  pub free : s.waiting ≡ None
-  pub roomy : s.full ≡ false
+  pub free : s.waits ≡ Nothing
   pub next : s.pc + 1 < 2 ^ 64
   pub bytes : bytes_fit (bytes_on s.stack.ops (bytes_of s.stack.frames)) ≡ true
   pub cells : cells_fit s.used ≡ true
 
--- an instruction goes on so
-abbrev pub GoesOn : Instr → Control → Cells → Control → Cells → Type 0
-GoesOn i c cells c' cells' = (bodies : List Entry) → instruction bodies (Some i) c cells ≡ Goes c' cells'
+-- what an operation gives
+abbrev pub stop_of : Fault → Stop
+stop_of faults.Overflow = stops.Overflow
+stop_of faults.Division = stops.Division
+
+abbrev pub given_of : Result Value Fault → Given
+given_of (Ok v) = Ok v
+given_of (Err fault) = Err (stop_of fault)
+
+-- why the machine rests after an instruction, and before one
+abbrev pub halt_of : Next → Option Halt
+halt_of On' = None
+halt_of Marked = Some halts.Marked
+halt_of Ended = Some halts.Ended
+halt_of Overflow = Some (halts.Stopped stops.Overflow)
+halt_of Division = Some (halts.Stopped stops.Division)
+halt_of CellRoom = Some (halts.Stopped stops.CellRoom)
+halt_of OperandRoom = Some (halts.Stopped stops.OperandRoom)
+
+abbrev pub due : Waits → Option Halt
+due Nothing = None
+due (Asked q) = Some (halts.Asks q)
+due (Refused stop) = Some (halts.Stopped stop)
 
 -- an instruction that spends no mark leads so on, or comes so to rest
-abbrev pub StepsSo : Instr → Control → Cells → Control → Cells → Option Halt → Type 0
-StepsSo i c cells c' cells' halt = (bodies : List Entry) (marks : ℕ) → stage_of halt c' (scene_of cells' marks) ≡ stage (instruction bodies (Some i) c cells) c (scene_of cells marks)
+abbrev pub StepsSo : Instr → Position → Cells → Control → Cells → Next → Type 0
+StepsSo i c cells c' cells' next = (p : Program) (marks : ℕ) → stage_of (halt_of next) c' (scene_of cells' marks) ≡ stage (instruction p (Some i) c cells) c (scene_of cells marks)
+
+-- an instruction goes on so
+abbrev pub GoesOn : Instr → Position → Cells → Control → Cells → Type 0
+GoesOn i c cells c' cells' = StepsSo i c cells c' cells' On'
 
 -- a body is entered so, or has no room
-abbrev pub EntersSo : After → Control → Cells → Control → Cells → Option Halt → Type 0
-EntersSo after c cells c' cells' halt = (marks : ℕ) → stage_of halt c' (scene_of cells' marks) ≡ after_stage after c (scene_of cells marks)
+abbrev pub EntersSo : After → Position → Cells → Control → Cells → Next → Type 0
+EntersSo after c cells c' cells' next = (marks : ℕ) → stage_of (halt_of next) c' (scene_of cells' marks) ≡ after_stage after c (scene_of cells marks)
 
 -- what comes back with a result
 abbrev pub result_ops : Option Value → List Operand

@@ -1,25 +1,26 @@
 //! Requests.
 ghost use Rattle.std.specs.Prelude.{◌≡◌, ◌+◌, IfOk, Some, [], List};
 ghost use Rattle.eu_base.specs.Cells.{Cells};
-ghost use Rattle.code_form.specs.declared.code.Entry.{Entry};
+ghost use Rattle.code_form.specs.Program.{Program};
 ghost use Rattle.code_form.specs.declared.instr.Instr.TheVariants as instrs;
 ghost use Rattle.code_form.specs.Machine.{instruction, stage};
 ghost use Rattle.zero_machine.specs.Finds.{Finds};
-ghost use Rattle.zero_machine.specs.Running.{control_of, scene_of, stage_of, IsReady};
+ghost use Rattle.zero_machine.specs.Running.{position_of, control_of, scene_of, stage_of, halt_of, IsReady};
 
+use crate::next::Next;
 use crate::state::State;
-use code_form::{Call, Halt};
+use code_form::{Call, Waits};
 use eu_base::{Bytes, NoMemory, Request, decimal};
 use std::alloc::Global;
 
 /// Spends a mark, and makes a request.
-pub fn ask(s: &mut State, call: Call, marks: &mut u32) -> Result<Option<Halt>, NoMemory>
+pub fn ask(s: &mut State, call: Call, marks: &mut u32) -> Result<Next, NoMemory>
     requires ready { IsReady s.old }
-    requires finds { Finds [] (instrs.Ask call) (control_of s.old) }
-    ensures { IfOk result (λ halt. (bodies : List Entry) (cells : Cells) → stage_of halt (control_of s.new) (scene_of cells marks.new) ≡ stage (instruction bodies (Some (instrs.Ask call)) (control_of s.old) cells) (control_of s.old) (scene_of cells marks.old)) }
+    requires finds { Finds [] (instrs.Ask call) (position_of s.old) }
+    ensures { IfOk result (λ next. (p : Program) (cells : Cells) → stage_of (halt_of next) (control_of s.new) (scene_of cells marks.new) ≡ stage (instruction p (Some (instrs.Ask call)) (position_of s.old) cells) (position_of s.old) (scene_of cells marks.old)) }
 {
     if *marks == 0 {
-        return Ok(Some(Halt::Marked));
+        return Ok(Next::Marked);
     }
     let request = match call {
         Call::PutNumber => {
@@ -34,19 +35,7 @@ pub fn ask(s: &mut State, call: Call, marks: &mut u32) -> Result<Option<Halt>, N
         },
     };
     *marks -= 1;
-    s.waiting = Some(request);
+    s.waits = Waits::Asked(request);
     s.pc += 1;
-    Ok(None)
-}
-
-/// The same request.
-pub fn copy(alloc: Global, request: &Request) -> Result<Request, NoMemory>
-    ensures { IfOk result (λ made. made ≡ request.now) }
-{
-    match request {
-        Request::Out { bytes, ends } => Ok(Request::Out {
-            bytes: Bytes::from(alloc, bytes.as_slice())?,
-            ends: *ends,
-        }),
-    }
+    Ok(Next::On)
 }

@@ -6,13 +6,14 @@ ghost use Rattle.code_form.specs.declared.operand.Operand.{Operand};
 ghost use Rattle.code_form.specs.Machine.{Move, enters, frame_numbers, call_move, refer_move, on_result, back_into, out_to, stage};
 ghost use Rattle.zero_machine.specs.Finds.{TopResult, IsCallable, IsInside, is_in_proc};
 ghost use Rattle.zero_machine.specs.Stacked.{linked};
-ghost use Rattle.zero_machine.specs.Running.{control_of, scene_of, stage_of, result_ops, IsReady, GoesOn, EntersSo};
+ghost use Rattle.zero_machine.specs.Running.{position_of, control_of, scene_of, stage_of, halt_of, result_ops, IsReady, GoesOn, EntersSo};
 
 use crate::cells::{have_room, write_frame};
+use crate::next::Next;
 use crate::stack::{Link, Stack};
 use crate::state::State;
-use code_form::{Entry, Halt, Layout, Operand};
-use eu_base::{Kind, MemFault, Memory, NoMemory, Stop, Value};
+use code_form::{Entry, Layout, Operand};
+use eu_base::{Kind, MemFault, Memory, NoMemory, Value};
 
 /// CALL
 pub fn call<M: Memory>(
@@ -20,16 +21,16 @@ pub fn call<M: Memory>(
     s: &mut State,
     m: &mut M,
     marks: &mut u32,
-) -> Result<Option<Halt>, MemFault>
+) -> Result<Next, MemFault>
     requires ready { IsReady s.old }
     requires finds { IsCallable entry.now.layout s.old.stack.ops }
-    ensures goes { IfOk result (λ halt. stage_of halt (control_of s.new) (scene_of (M.cells m.new) marks.new)
-        ≡ stage (call_move (control_of s.old) (Some entry.now) (M.cells m.old)) (control_of s.old) (scene_of (M.cells m.old) marks.old)) }
+    ensures goes { IfOk result (λ next. stage_of (halt_of next) (control_of s.new) (scene_of (M.cells m.new) marks.new)
+        ≡ stage (call_move (position_of s.old) (Some entry.now) (M.cells m.old)) (position_of s.old) (scene_of (M.cells m.old) marks.old)) }
     ensures cause { HasFaultCause (M.faults m.old) (M.faults m.new) result }
     ensures follows { M.follows m.old m.new }
 {
     if *marks == 0 {
-        return Ok(Some(Halt::Marked));
+        return Ok(Next::Marked);
     }
     *marks -= 1;
     match &entry.layout {
@@ -58,15 +59,15 @@ pub fn refer<M: Memory>(
     s: &mut State,
     m: &mut M,
     marks: &mut u32,
-) -> Result<Option<Halt>, MemFault>
+) -> Result<Next, MemFault>
     requires ready { IsReady s.old }
-    ensures goes { IfOk result (λ halt. stage_of halt (control_of s.new) (scene_of (M.cells m.new) marks.new)
-        ≡ stage (refer_move (control_of s.old) (Some entry.now) (M.cells m.old)) (control_of s.old) (scene_of (M.cells m.old) marks.old)) }
+    ensures goes { IfOk result (λ next. stage_of (halt_of next) (control_of s.new) (scene_of (M.cells m.new) marks.new)
+        ≡ stage (refer_move (position_of s.old) (Some entry.now) (M.cells m.old)) (position_of s.old) (scene_of (M.cells m.old) marks.old)) }
     ensures cause { HasFaultCause (M.faults m.old) (M.faults m.new) result }
     ensures follows { M.follows m.old m.new }
 {
     if *marks == 0 {
-        return Ok(Some(Halt::Marked));
+        return Ok(Next::Marked);
     }
     *marks -= 1;
     let base = s.stack.base();
@@ -82,17 +83,17 @@ fn enter<M: Memory>(
     refines: bool,
     count: usize,
     variables: &[Kind],
-) -> Result<Option<Halt>, MemFault>
+) -> Result<Next, MemFault>
     requires ready { IsReady s.old }
     requires many { count ≤ length s.old.stack.ops }
-    ensures goes { IfOk result (EntersSo (enters (control_of s.old) first base refines (drop count s.old.stack.ops) (frame_numbers (reverse (take count s.old.stack.ops)) variables.now) (M.cells m.old))
-        (control_of s.old) (M.cells m.old) (control_of s.new) (M.cells m.new)) }
+    ensures goes { IfOk result (EntersSo (enters (position_of s.old) first base refines (drop count s.old.stack.ops) (frame_numbers (reverse (take count s.old.stack.ops)) variables.now) (M.cells m.old))
+        (position_of s.old) (M.cells m.old) (control_of s.new) (M.cells m.new)) }
     ensures cause { HasFaultCause (M.faults m.old) (M.faults m.new) result }
     ensures follows { M.follows m.old m.new }
 {
     let more = frame_size(count, variables.len());
     if !have_room(s.used, more) {
-        return Ok(Some(Halt::Stopped(Stop::CellRoom)));
+        return Ok(Next::CellRoom);
     }
     write_frame(m, s.used, s.stack.top(count), variables)?;
     let link = Link {
@@ -104,7 +105,7 @@ fn enter<M: Memory>(
     s.stack.enter(s.alloc, link, count)?;
     s.used += more;
     s.pc = first;
-    Ok(None)
+    Ok(Next::On)
 }
 
 // The cells of a frame. More than can be counted have no room anyway.
@@ -119,7 +120,7 @@ pub fn back(s: &mut State, kind: Option<Kind>) -> Result<(), NoMemory>
     requires ready { IsReady s.old }
     requires result { TopResult kind s.old.stack.ops }
     requires inside { IsInside s.old.stack.frames }
-    ensures { OnOk result ((cells : Cells) → GoesOn (instrs.Back kind) (control_of s.old) cells (control_of s.new) cells) }
+    ensures { OnOk result ((cells : Cells) → GoesOn (instrs.Back kind) (position_of s.old) cells (control_of s.new) cells) }
 {
     let result = take_result(&mut s.stack, kind);
     let link = leave(&mut s.stack);
@@ -131,7 +132,7 @@ pub fn out(s: &mut State, kind: Option<Kind>) -> Result<(), NoMemory>
     requires ready { IsReady s.old }
     requires result { TopResult kind s.old.stack.ops }
     requires inside { is_in_proc s.old.stack.frames ≡ true }
-    ensures { OnOk result ((cells : Cells) → GoesOn (instrs.Out kind) (control_of s.old) cells (control_of s.new) cells) }
+    ensures { OnOk result ((cells : Cells) → GoesOn (instrs.Out kind) (position_of s.old) cells (control_of s.new) cells) }
 {
     let result = take_result(&mut s.stack, kind);
     let link = leave_proc(&mut s.stack);
@@ -176,7 +177,7 @@ fn leave_proc(stack: &mut Stack) -> Link
 
 // Goes on where a frame was made, with the result.
 fn return_with(s: &mut State, link: Link, value: Option<Value>) -> Result<(), NoMemory>
-    ensures { OnOk result (control_of s.new ≡ record (control_of s.old) { pc = link.back; ops = result_ops value ++ s.old.stack.ops; used = link.used }) }
+    ensures { OnOk result (control_of s.new ≡ record { position = record (position_of s.old) { pc = link.back; ops = result_ops value ++ s.old.stack.ops; used = link.used }; waits = s.old.waits }) }
 {
     s.pc = link.back;
     s.used = link.used;

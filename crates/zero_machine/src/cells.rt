@@ -1,6 +1,7 @@
 //! Numbers in cells.
-ghost use Rattle.std.specs.Prelude.{◌≡◌, ◌+◌, ◌≤◌, ◌<◌, ◌++◌, map, length, true, IfOk, OnOk};
+ghost use Rattle.std.specs.Prelude.{◌≡◌, ◌≢◌, Err, ◌+◌, ◌≤◌, ◌<◌, ◌++◌, map, length, true, IfOk, OnOk};
 ghost use Rattle.eu_base.specs.declared.address.TheConstants.{CELLS};
+ghost use Rattle.eu_base.specs.declared.cells.MemFault.TheVariants.{NoMemory};
 ghost use Rattle.eu_base.specs.Room.{cells_fit};
 ghost use Rattle.eu_base.specs.Values.{blank_of, cell_of, value_in};
 ghost use Rattle.eu_base.specs.Cells.{IsCell, run_cell, place_in, written, HasFaultCause};
@@ -33,6 +34,7 @@ pub fn read<M: Memory>(m: &mut M, at: Addr, kind: Kind) -> Result<Value, MemFaul
     requires { IsCell at }
     ensures value { IfOk result (λ value. value ≡ value_in kind (M.cells m.old at)) }
     ensures kept { OnOk result (M.cells m.new ≡ M.cells m.old) }
+    ensures memory { result ≢ Err NoMemory }
     ensures cause { HasFaultCause (M.faults m.old) (M.faults m.new) result }
     ensures follows { M.follows m.old m.new }
 {
@@ -45,6 +47,7 @@ pub fn read_place<M: Memory>(m: &mut M, at: Addr) -> Result<Addr, MemFault>
     requires { IsCell at }
     ensures place { IfOk result (λ place. place ≡ place_in (M.cells m.old at)) }
     ensures kept { OnOk result (M.cells m.new ≡ M.cells m.old) }
+    ensures memory { result ≢ Err NoMemory }
     ensures cause { HasFaultCause (M.faults m.old) (M.faults m.new) result }
     ensures follows { M.follows m.old m.new }
 {

@@ -4,46 +4,47 @@ ghost use Rattle.eu_base.specs.Cells.{Cells, HasFaultCause};
 ghost use Rattle.code_form.specs.declared.operand.Operand.TheVariants as operand;
 ghost use Rattle.code_form.specs.Machine.{instruction, stage};
 ghost use Rattle.zero_machine.specs.Finds.{Finds, is_plain, is_push, is_access};
-ghost use Rattle.zero_machine.specs.Running.{control_of, scene_of, stage_of, IsReady, GoesOn, StepsSo};
+ghost use Rattle.zero_machine.specs.Running.{position_of, control_of, scene_of, stage_of, halt_of, IsReady, GoesOn, StepsSo};
 
 use crate::ask::ask;
 use crate::calls::{back, call, out, refer};
+use crate::next::Next;
 use crate::operate::operate;
 use crate::state::State;
 use crate::step::{
     drop_value, jump_false, limit, load, local, modify, outer, param, push_on, step, store,
     unlimit, when,
 };
-use code_form::{Entry, Halt, Instr, Operand};
+use code_form::{Code, Instr, Operand};
 use eu_base::{MemFault, Memory, NoMemory, Value};
 
-/// What one instruction does, or why the machine rests at it.
+/// What one instruction does.
 pub fn execute<M: Memory>(
-    bodies: &[Entry],
+    code: &Code,
     instr: Instr,
     s: &mut State,
     m: &mut M,
     marks: &mut u32,
-) -> Result<Option<Halt>, MemFault>
+) -> Result<Next, MemFault>
     requires ready { IsReady s.old }
-    requires finds { Finds bodies.now instr (control_of s.old) }
-    ensures goes { IfOk result (λ halt. stage_of halt (control_of s.new) (scene_of (M.cells m.new) marks.new)
-        ≡ stage (instruction bodies.now (Some instr) (control_of s.old) (M.cells m.old)) (control_of s.old) (scene_of (M.cells m.old) marks.old)) }
+    requires finds { Finds code.now.bodies instr (position_of s.old) }
+    ensures goes { IfOk result (λ next. stage_of (halt_of next) (control_of s.new) (scene_of (M.cells m.new) marks.new)
+        ≡ stage (instruction code.now (Some instr) (position_of s.old) (M.cells m.old)) (position_of s.old) (scene_of (M.cells m.old) marks.old)) }
     ensures cause { HasFaultCause (M.faults m.old) (M.faults m.new) result }
     ensures follows { M.follows m.old m.new }
 {
     match instr {
         Instr::Mark => {
             if *marks == 0 {
-                return Ok(Some(Halt::Marked));
+                return Ok(Next::Marked);
             }
             *marks -= 1;
             s.pc += 1;
-            Ok(None)
+            Ok(Next::On)
         }
         Instr::Ask(request) => Ok(ask(s, request, marks)?),
-        Instr::Call(body) => call(&bodies[body], s, m, marks),
-        Instr::Refer(body) => refer(&bodies[body], s, m, marks),
+        Instr::Call(body) => call(&code.bodies()[body], s, m, marks),
+        Instr::Refer(body) => refer(&code.bodies()[body], s, m, marks),
         Instr::Number(_) | Instr::Truth(_) | Instr::Outer(_) | Instr::Local(_) => {
             Ok(push_constant(instr, s)?)
         }
@@ -53,22 +54,22 @@ pub fn execute<M: Memory>(
         Instr::Limit(way, to) => limit(s, m, way, to),
         Instr::Load(_) | Instr::Store(_) | Instr::Step(_, _) => {
             access(instr, s, m)?;
-            Ok(None)
+            Ok(Next::On)
         }
-        Instr::End => Ok(Some(Halt::Ended)),
+        Instr::End => Ok(Next::Ended),
         _ => {
             go_on(instr, s)?;
-            Ok(None)
+            Ok(Next::On)
         }
     }
 }
 
 // Pushes what stands in the instruction.
-fn push_constant(instr: Instr, s: &mut State) -> Result<Option<Halt>, NoMemory>
+fn push_constant(instr: Instr, s: &mut State) -> Result<Next, NoMemory>
     requires ready { IsReady s.old }
     requires pushes { is_push instr ≡ true }
-    requires finds { Finds [] instr (control_of s.old) }
-    ensures { IfOk result (λ halt. (cells : Cells) → StepsSo instr (control_of s.old) cells (control_of s.new) cells halt) }
+    requires finds { Finds [] instr (position_of s.old) }
+    ensures { IfOk result (λ next. (cells : Cells) → StepsSo instr (position_of s.old) cells (control_of s.new) cells next) }
 {
     match instr {
         Instr::Number(number) => push_on(s, Operand::Value(Value::Int(number))),
@@ -83,8 +84,8 @@ fn push_constant(instr: Instr, s: &mut State) -> Result<Option<Halt>, NoMemory>
 fn access<M: Memory>(instr: Instr, s: &mut State, m: &mut M) -> Result<(), MemFault>
     requires ready { IsReady s.old }
     requires accesses { is_access instr ≡ true }
-    requires finds { Finds [] instr (control_of s.old) }
-    ensures goes { OnOk result (GoesOn instr (control_of s.old) (M.cells m.old) (control_of s.new) (M.cells m.new)) }
+    requires finds { Finds [] instr (position_of s.old) }
+    ensures goes { OnOk result (GoesOn instr (position_of s.old) (M.cells m.old) (control_of s.new) (M.cells m.new)) }
     ensures cause { HasFaultCause (M.faults m.old) (M.faults m.new) result }
     ensures follows { M.follows m.old m.new }
 {
@@ -100,8 +101,8 @@ fn access<M: Memory>(instr: Instr, s: &mut State, m: &mut M) -> Result<(), MemFa
 fn go_on(instr: Instr, s: &mut State) -> Result<(), NoMemory>
     requires ready { IsReady s.old }
     requires plain { is_plain instr ≡ true }
-    requires finds { Finds [] instr (control_of s.old) }
-    ensures { OnOk result ((cells : Cells) → GoesOn instr (control_of s.old) cells (control_of s.new) cells) }
+    requires finds { Finds [] instr (position_of s.old) }
+    ensures { OnOk result ((cells : Cells) → GoesOn instr (position_of s.old) cells (control_of s.new) cells) }
 {
     match instr {
         Instr::Jump(to) => {

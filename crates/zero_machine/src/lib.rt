@@ -6,6 +6,7 @@ mod calls;
 mod cells;
 mod execute;
 mod machine;
+mod next;
 mod operate;
 mod operations;
 mod stack;

@@ -1,45 +1,44 @@
 //! Runs of code.
-ghost use Rattle.std.specs.Prelude.{◌≡◌, ◌≤◌, ◌<◌, ℕ, List, [], length, true, not, IfOk, OnOk, IsSome, IfSome, Some};
+ghost use Rattle.std.specs.Prelude.{◌≡◌, ◌≤◌, ◌<◌, ℕ, List, [], length, map, true, false, cond, IfOk, OnOk, IsSome, Some};
 ghost use Rattle.eu_base.specs.Room.{cells_fit};
+ghost use Rattle.eu_base.specs.Values.{blank_of, cell_of};
 ghost use Rattle.eu_base.specs.Cells.{HasFaultCause, IsBlank};
-ghost use Rattle.code_form.specs.Machine.{start, step, stage, rest_at, answered};
+ghost use Rattle.eu_base.specs.declared.stop.Stop.TheVariants as stop;
+ghost use Rattle.eu_base.specs.declared.request.Request.{Request};
+ghost use Rattle.code_form.specs.declared.waits.Waits.TheVariants as waits;
+ghost use Rattle.code_form.specs.Machine.{start, advance, rest_at, answered, written_from};
 ghost use Rattle.code_form.specs.Valid.{Fits, IsValid};
-ghost use Rattle.code_form.specs.Runs.{Rests, Resumes, Replies, IsOne, StaysFit};
-ghost use Rattle.zero_machine.specs.Running.{control_of, scene_of, stage_of};
+ghost use Rattle.code_form.specs.Runs.{Rests, Resumes, Replies, IsOne, StaysFit, asked};
+ghost use Rattle.zero_machine.specs.Running.{position_of, control_of, scene_of, stage_of, halt_of};
 
-use crate::ask::copy;
 use crate::cells::write_blanks;
 use crate::execute::execute;
+use crate::next::Next;
 use crate::stack::Stack;
 use crate::state::State;
-use code_form::{Code, Halt};
+use code_form::{Code, Halt, Waits};
 use eu_base::{CELLS, Kind, MemFault, Memory, Reply, Stop};
 use std::alloc::Global;
 
-// One step, or why the machine rests.
+// One step, where nothing is waited for.
 fn advance<M: Memory>(
     code: &Code,
     s: &mut State,
     m: &mut M,
     marks: &mut u32,
-) -> Result<Option<Halt>, MemFault>
-    requires { Fits code.now (control_of s.old) }
-    ensures goes { IfOk result (λ halt. stage_of halt (control_of s.new) (scene_of (M.cells m.new) marks.new)
-        ≡ stage (step code.now (control_of s.old) (M.cells m.old)) (control_of s.old) (scene_of (M.cells m.old) marks.old)) }
+) -> Result<Next, MemFault>
+    requires fits { Fits code.now (control_of s.old) }
+    requires free { s.old.waits ≡ waits.Nothing }
+    ensures goes { IfOk result (λ next. stage_of (halt_of next) (control_of s.new) (scene_of (M.cells m.new) marks.new)
+        ≡ advance code.now (control_of s.old) (scene_of (M.cells m.old) marks.old)) }
     ensures fits { OnOk result (Fits code.now (control_of s.new)) }
     ensures valid { IsValid code.now }
     ensures cause { HasFaultCause (M.faults m.old) (M.faults m.new) result }
     ensures follows { M.follows m.old m.new }
 {
     let size = code.len();
-    if let Some(request) = &s.waiting {
-        return Ok(Some(Halt::Asks(copy(s.alloc, request)?)));
-    }
-    if s.full {
-        return Ok(Some(Halt::Stopped(Stop::CellRoom)));
-    }
     prove!(s.pc < size);
-    execute(code.bodies(), code.instr(s.pc), s, m, marks)
+    execute(code, code.instr(s.pc), s, m, marks)
 }
 
 /// Starts a command: its variables are made, where they have room, and nothing is pending.
@@ -47,47 +46,52 @@ pub fn start<M: Memory>(alloc: Global, code: &Code, m: &mut M) -> Result<State, 
     ensures control { IfOk result (λ s. control_of s ≡ start (length code.now.variables)) }
     ensures fits { IfOk result (λ s. Fits code.now (control_of s)) }
     ensures blank { OnOk result (cells_fit (length code.now.variables) ≡ true → IsBlank code.now.variables (M.cells m.new)) }
+    ensures written { OnOk result (cells_fit (length code.now.variables) ≡ true →
+        M.cells m.new ≡ written_from 0 (map (λ k. cell_of (blank_of k)) code.now.variables) (M.cells m.old)) }
+    ensures kept { OnOk result (cells_fit (length code.now.variables) ≡ false → M.cells m.new ≡ M.cells m.old) }
     ensures cause { HasFaultCause (M.faults m.old) (M.faults m.new) result }
     ensures follows { M.follows m.old m.new }
 {
     let _size = code.len();
-    let full = make_variables(m, code.variables())?;
+    let waits = make_variables(m, code.variables())?;
     Ok(State {
         alloc,
         pc: 0,
         stack: Stack::new(alloc),
         used: code.variables().len(),
-        full,
-        waiting: None,
+        waits,
     })
 }
 
-// Makes the variables, or answers that they have no room.
-fn make_variables<M: Memory>(m: &mut M, variables: &[Kind]) -> Result<bool, MemFault>
-    ensures full { IfOk result (λ full. full ≡ not (cells_fit (length variables.now))) }
+// Makes the variables. Where they have no room, the command stops at its start.
+fn make_variables<M: Memory>(m: &mut M, variables: &[Kind]) -> Result<Waits, MemFault>
+    ensures waits { IfOk result (λ waiting. waiting ≡ cond (cells_fit (length variables.now)) waits.Nothing (waits.Refused stop.CellRoom)) }
     ensures blank { OnOk result (cells_fit (length variables.now) ≡ true → IsBlank variables.now (M.cells m.new)) }
+    ensures written { OnOk result (cells_fit (length variables.now) ≡ true →
+        M.cells m.new ≡ written_from 0 (map (λ k. cell_of (blank_of k)) variables.now) (M.cells m.old)) }
+    ensures kept { OnOk result (cells_fit (length variables.now) ≡ false → M.cells m.new ≡ M.cells m.old) }
     ensures cause { HasFaultCause (M.faults m.old) (M.faults m.new) result }
     ensures follows { M.follows m.old m.new }
 {
     if variables.len() > usize::from(CELLS) {
-        return Ok(true);
+        return Ok(Waits::Refused(Stop::CellRoom));
     }
     write_blanks(m, 0, variables)?;
-    Ok(false)
+    Ok(Waits::Nothing)
 }
 
 /// Answers the request that the machine waits for.
 pub fn reply<M: Memory>(_code: &Code, s: &mut State, _m: &mut M, r: Reply) -> Result<(), MemFault>
     requires fits { Fits _code.now (control_of s.old) }
-    requires asks { IsSome s.old.waiting }
-    ensures answered { OnOk result (IfSome s.old.waiting (λ request. control_of s.new ≡ answered request r (control_of s.old))) }
+    requires asks { IsSome (asked s.old.waits) }
+    ensures answered { OnOk result ((request : Request) → s.old.waits ≡ waits.Asked request → control_of s.new ≡ answered request r (position_of s.old)) }
     ensures fits { OnOk result (Fits _code.now (control_of s.new)) }
     ensures kept { M.cells _m.new ≡ M.cells _m.old }
     ensures cause { HasFaultCause (M.faults _m.old) (M.faults _m.new) result }
     ensures follows { M.follows _m.old _m.new }
 {
     match r {
-        Reply::Done => s.waiting = None,
+        Reply::Done => s.waits = Waits::Nothing,
     }
     Ok(())
 }
@@ -116,7 +120,11 @@ pub fn run<M: Memory>(
     ensures follows { M.follows m.old m.new }
 {
     loop {
-        if let Some(halt) = advance(code, s, m, marks)? {
+        if let Some(halt) = s.due()? {
+            return Ok(halt);
+        }
+        let next = advance(code, s, m, marks)?;
+        if let Some(halt) = next.halt() {
             return Ok(halt);
         }
     }

@@ -1,15 +1,39 @@
 //! What operations give.
-ghost use Rattle.std.specs.Prelude.{◌≡◌, ◌≢◌, pos, ◌+ℤ◌, ◌-ℤ◌, ◌*ℤ◌, int_div};
-ghost use Rattle.eu_base.specs.Operations.{fitted, divided, remaining, number_at, truth_at, result_of, changed, is_past, has_reached};
+ghost use Rattle.std.specs.Prelude.{◌≡◌, ◌≢◌, [], ◌∷◌, Some, pos, ◌+ℤ◌, ◌-ℤ◌, ◌*ℤ◌, int_div};
+ghost use Rattle.eu_base.specs.Operations.{fitted, divided, remaining, result_of, changed, is_past, has_reached};
+ghost use Rattle.zero_machine.specs.Running.{given_of, stop_of, halt_of};
+ghost use Rattle.code_form.specs.declared.halt.Halt.TheVariants as halts;
 
-use eu_base::{Change, Operation, Stop, Value, Way};
+use crate::next::Next;
+use eu_base::{Change, Operation, Value, Way};
 
-/// The result of an operation, or why the program stops.
-pub fn apply(operation: Operation, operands: &[Value]) -> Result<Value, Stop>
-    ensures { result ≡ result_of operation operands.now }
+/// What stops an operation.
+#[derive(Clone, Copy, PartialEq, Eq)]
+pub enum Fault {
+    /// A number past 16 bits.
+    Overflow,
+    /// A divisor 0.
+    Division,
+}
+
+impl Fault {
+    /// What comes of the instruction.
+    pub fn next(self) -> Next
+        ensures { halt_of result ≡ Some (halts.Stopped (stop_of self)) }
+    {
+        match self {
+            Fault::Overflow => Next::Overflow,
+            Fault::Division => Next::Division,
+        }
+    }
+}
+
+/// The result of an operation, or why the program stops. Where it has fewer operands, it does not look at the others.
+pub fn apply(operation: Operation, left: Value, right: Value) -> Result<Value, Fault>
+    ensures { given_of result ≡ result_of operation (left ∷ right ∷ []) }
 {
-    let a = number_at(operands, 0);
-    let b = number_at(operands, 1);
+    let a = left.number();
+    let b = right.number();
     match operation {
         Operation::Plus => fitted(i32::from(a)),
         Operation::Negate => fitted(-i32::from(a)),
@@ -28,17 +52,17 @@ pub fn apply(operation: Operation, operands: &[Value]) -> Result<Value, Stop>
         Operation::LessEqual => Ok(Value::Truth(a <= b)),
         Operation::Greater => Ok(Value::Truth(a > b)),
         Operation::GreaterEqual => Ok(Value::Truth(a >= b)),
-        Operation::Same => Ok(Value::Truth(truth_at(operands, 0) == truth_at(operands, 1))),
-        Operation::Different => Ok(Value::Truth(truth_at(operands, 0) != truth_at(operands, 1))),
-        Operation::And => Ok(Value::Truth(truth_at(operands, 0) && truth_at(operands, 1))),
-        Operation::Or => Ok(Value::Truth(truth_at(operands, 0) || truth_at(operands, 1))),
-        Operation::Not => Ok(Value::Truth(!truth_at(operands, 0))),
+        Operation::Same => Ok(Value::Truth(left.truth() == right.truth())),
+        Operation::Different => Ok(Value::Truth(left.truth() != right.truth())),
+        Operation::And => Ok(Value::Truth(left.truth() && right.truth())),
+        Operation::Or => Ok(Value::Truth(left.truth() || right.truth())),
+        Operation::Not => Ok(Value::Truth(!left.truth())),
     }
 }
 
 /// What INCR and DECR store.
-pub fn change(change: Change, a: i16, b: i16) -> Result<Value, Stop>
-    ensures { result ≡ changed change a b }
+pub fn change(change: Change, a: i16, b: i16) -> Result<Value, Fault>
+    ensures { given_of result ≡ changed change a b }
 {
     match change {
         Change::Increase => fitted(sum(a, b)),
@@ -91,48 +115,30 @@ fn quotient(a: i16, b: i16) -> i32
     i32::from(a) / i32::from(b)
 }
 
-fn fitted(number: i32) -> Result<Value, Stop>
-    ensures { result ≡ fitted number }
+fn fitted(number: i32) -> Result<Value, Fault>
+    ensures { given_of result ≡ fitted number }
 {
     if -32768 <= number && number <= 32767 {
         Ok(Value::Int(number as i16))
     } else {
-        Err(Stop::Overflow)
+        Err(Fault::Overflow)
     }
 }
 
-fn divided(a: i16, b: i16) -> Result<Value, Stop>
-    ensures { result ≡ divided a b }
+fn divided(a: i16, b: i16) -> Result<Value, Fault>
+    ensures { given_of result ≡ divided a b }
 {
     if b == 0 {
-        return Err(Stop::Division);
+        return Err(Fault::Division);
     }
     fitted(quotient(a, b))
 }
 
-fn remaining(a: i16, b: i16) -> Result<Value, Stop>
-    ensures { result ≡ remaining a b }
+fn remaining(a: i16, b: i16) -> Result<Value, Fault>
+    ensures { given_of result ≡ remaining a b }
 {
     if b == 0 {
-        return Err(Stop::Division);
+        return Err(Fault::Division);
     }
     fitted(i32::from(a).rem_euclid(i32::from(b)))
-}
-
-fn number_at(values: &[Value], at: usize) -> i16
-    ensures { result ≡ number_at values.now at }
-{
-    match values.get(at) {
-        Some(value) => value.number(),
-        None => 0,
-    }
-}
-
-fn truth_at(values: &[Value], at: usize) -> bool
-    ensures { result ≡ truth_at values.now at }
-{
-    match values.get(at) {
-        Some(value) => value.truth(),
-        None => false,
-    }
 }

@@ -1,7 +1,10 @@
 //! Where the machine stands.
+ghost use Rattle.std.specs.Prelude.{◌≡◌, IfOk};
+ghost use Rattle.zero_machine.specs.Running.{due};
 
 use crate::stack::Stack;
-use eu_base::Request;
+use code_form::{Halt, Waits};
+use eu_base::NoMemory;
 use std::alloc::Global;
 
 /// Where the machine stands in its code.
@@ -14,8 +17,19 @@ pub struct State {
     pub stack: Stack,
     /// The cells in use. Limits of loops stand in the last ones.
     pub used: usize,
-    /// Whether the variables had no room at the start.
-    pub full: bool,
-    /// The request whose answer it waits for.
-    pub waiting: Option<Request>,
+    /// What it waits for.
+    pub waits: Waits,
+}
+
+impl State {
+    /// Why the machine rests before its instruction; `None` where nothing is waited for.
+    pub fn due(&self) -> Result<Option<Halt>, NoMemory>
+        ensures { IfOk result (λ halt. halt ≡ due self.now.waits) }
+    {
+        match &self.waits {
+            Waits::Nothing => Ok(None),
+            Waits::Asked(request) => Ok(Some(Halt::Asks(request.try_clone(self.alloc)?))),
+            Waits::Refused(stop) => Ok(Some(Halt::Stopped(stop.try_clone(self.alloc)?))),
+        }
+    }
 }

@@ -6,65 +6,66 @@ ghost use Rattle.code_form.specs.declared.operand.Operand.TheVariants as operand
 ghost use Rattle.code_form.specs.declared.instr.Instr.TheVariants as instrs;
 ghost use Rattle.code_form.specs.Machine.{base_of, pushes, instruction, stage};
 ghost use Rattle.zero_machine.specs.Finds.{TopValue, TopPlace, TopBoth};
-ghost use Rattle.zero_machine.specs.Running.{control_of, scene_of, stage_of, IsReady, GoesOn, StepsSo};
+ghost use Rattle.zero_machine.specs.Running.{position_of, control_of, scene_of, stage_of, halt_of, IsReady, GoesOn, StepsSo};
 
 use crate::cells::{have_room, read, read_place, run_cell, write};
+use crate::next::Next;
 use crate::operations::{change, has_reached, is_past};
 use crate::state::State;
-use code_form::{Halt, Operand};
-use eu_base::{Change, Kind, MemFault, Memory, NoMemory, Stop, Value, Way};
+use code_form::Operand;
+use eu_base::{Change, Kind, MemFault, Memory, NoMemory, Value, Way};
 
 /// Pushes an operand where it has room.
-pub fn push_on(s: &mut State, operand: Operand) -> Result<Option<Halt>, NoMemory>
+pub fn push_on(s: &mut State, operand: Operand) -> Result<Next, NoMemory>
     requires { IsReady s.old }
-    ensures { IfOk result (λ halt. (cells : Cells) (marks : ℕ) → stage_of halt (control_of s.new) (scene_of cells marks) ≡ stage (pushes (control_of s.old) operand s.old.stack.ops cells) (control_of s.old) (scene_of cells marks)) }
+    ensures { IfOk result (λ next. (cells : Cells) (marks : ℕ) → stage_of (halt_of next) (control_of s.new) (scene_of cells marks) ≡ stage (pushes (position_of s.old) operand s.old.stack.ops cells) (position_of s.old) (scene_of cells marks)) }
 {
     if !s.stack.has_room(operand) {
-        return Ok(Some(Halt::Stopped(Stop::OperandRoom)));
+        return Ok(Next::OperandRoom);
     }
     s.stack.push(operand)?;
     s.pc += 1;
-    Ok(None)
+    Ok(Next::On)
 }
 
 /// OUTER
-pub fn outer(s: &mut State, cell: usize) -> Result<Option<Halt>, NoMemory>
+pub fn outer(s: &mut State, cell: usize) -> Result<Next, NoMemory>
     requires ready { IsReady s.old }
     requires finds { IsCell (run_cell cell) }
-    ensures { IfOk result (λ halt. (cells : Cells) → StepsSo (instrs.Outer cell) (control_of s.old) cells (control_of s.new) cells halt) }
+    ensures { IfOk result (λ next. (cells : Cells) → StepsSo (instrs.Outer cell) (position_of s.old) cells (control_of s.new) cells next) }
 {
     push_on(s, Operand::Place(run_cell(cell)))
 }
 
 /// LOCAL
-pub fn local(s: &mut State, cell: usize) -> Result<Option<Halt>, NoMemory>
+pub fn local(s: &mut State, cell: usize) -> Result<Next, NoMemory>
     requires ready { IsReady s.old }
     requires finds { IsCell (run_cell (base_of s.old.stack.frames + cell)) }
-    ensures { IfOk result (λ halt. (cells : Cells) → StepsSo (instrs.Local cell) (control_of s.old) cells (control_of s.new) cells halt) }
+    ensures { IfOk result (λ next. (cells : Cells) → StepsSo (instrs.Local cell) (position_of s.old) cells (control_of s.new) cells next) }
 {
     let at = run_cell(s.stack.base() + cell);
     push_on(s, Operand::Place(at))
 }
 
 /// PARAM
-pub fn param<M: Memory>(s: &mut State, m: &mut M, cell: usize) -> Result<Option<Halt>, MemFault>
+pub fn param<M: Memory>(s: &mut State, m: &mut M, cell: usize) -> Result<Next, MemFault>
     requires ready { IsReady s.old }
     requires finds { IsCell (run_cell (base_of s.old.stack.frames + cell)) }
-    ensures goes { IfOk result (StepsSo (instrs.Param cell) (control_of s.old) (M.cells m.old) (control_of s.new) (M.cells m.new)) }
+    ensures goes { IfOk result (StepsSo (instrs.Param cell) (position_of s.old) (M.cells m.old) (control_of s.new) (M.cells m.new)) }
     ensures cause { HasFaultCause (M.faults m.old) (M.faults m.new) result }
     ensures follows { M.follows m.old m.new }
 {
     let at = run_cell(s.stack.base() + cell);
     let place = read_place(m, at)?;
-    let halt = push_on(s, Operand::Place(place))?;
-    Ok(halt)
+    let next = push_on(s, Operand::Place(place))?;
+    Ok(next)
 }
 
 /// LOAD. The value has the room of the place.
 pub fn load<M: Memory>(s: &mut State, m: &mut M, kind: Kind) -> Result<(), MemFault>
     requires ready { IsReady s.old }
     requires finds { TopPlace s.old.stack.ops }
-    ensures goes { OnOk result (GoesOn (instrs.Load kind) (control_of s.old) (M.cells m.old) (control_of s.new) (M.cells m.new)) }
+    ensures goes { OnOk result (GoesOn (instrs.Load kind) (position_of s.old) (M.cells m.old) (control_of s.new) (M.cells m.new)) }
     ensures cause { HasFaultCause (M.faults m.old) (M.faults m.new) result }
     ensures follows { M.follows m.old m.new }
 {
@@ -79,7 +80,7 @@ pub fn load<M: Memory>(s: &mut State, m: &mut M, kind: Kind) -> Result<(), MemFa
 pub fn store<M: Memory>(s: &mut State, m: &mut M, kind: Kind) -> Result<(), MemFault>
     requires ready { IsReady s.old }
     requires finds { TopBoth s.old.stack.ops }
-    ensures goes { OnOk result (GoesOn (instrs.Store kind) (control_of s.old) (M.cells m.old) (control_of s.new) (M.cells m.new)) }
+    ensures goes { OnOk result (GoesOn (instrs.Store kind) (position_of s.old) (M.cells m.old) (control_of s.new) (M.cells m.new)) }
     ensures cause { HasFaultCause (M.faults m.old) (M.faults m.new) result }
     ensures follows { M.follows m.old m.new }
 {
@@ -94,7 +95,7 @@ pub fn store<M: Memory>(s: &mut State, m: &mut M, kind: Kind) -> Result<(), MemF
 pub fn jump_false(s: &mut State, to: usize)
     requires ready { IsReady s.old }
     requires finds { TopValue s.old.stack.ops }
-    ensures { (cells : Cells) → GoesOn (instrs.False to) (control_of s.old) cells (control_of s.new) cells }
+    ensures { (cells : Cells) → GoesOn (instrs.False to) (position_of s.old) cells (control_of s.new) cells }
 {
     if s.stack.pop_value().truth() {
         s.pc += 1;
@@ -107,7 +108,7 @@ pub fn jump_false(s: &mut State, to: usize)
 pub fn when(s: &mut State, label: i16, to: usize) -> Result<(), NoMemory>
     requires ready { IsReady s.old }
     requires finds { TopValue s.old.stack.ops }
-    ensures { OnOk result ((cells : Cells) → GoesOn (instrs.When label to) (control_of s.old) cells (control_of s.new) cells) }
+    ensures { OnOk result ((cells : Cells) → GoesOn (instrs.When label to) (position_of s.old) cells (control_of s.new) cells) }
 {
     let value = s.stack.pop_value();
     if value.number() == label {
@@ -123,27 +124,22 @@ pub fn when(s: &mut State, label: i16, to: usize) -> Result<(), NoMemory>
 pub fn drop_value(s: &mut State)
     requires ready { IsReady s.old }
     requires finds { TopValue s.old.stack.ops }
-    ensures { (cells : Cells) → GoesOn instrs.Drop (control_of s.old) cells (control_of s.new) cells }
+    ensures { (cells : Cells) → GoesOn instrs.Drop (position_of s.old) cells (control_of s.new) cells }
 {
     let _value = s.stack.pop_value();
     s.pc += 1;
 }
 
 /// LIMIT. The limit is kept in the next cell.
-pub fn limit<M: Memory>(
-    s: &mut State,
-    m: &mut M,
-    way: Way,
-    to: usize,
-) -> Result<Option<Halt>, MemFault>
+pub fn limit<M: Memory>(s: &mut State, m: &mut M, way: Way, to: usize) -> Result<Next, MemFault>
     requires ready { IsReady s.old }
     requires finds { TopBoth s.old.stack.ops }
-    ensures goes { IfOk result (StepsSo (instrs.Limit way to) (control_of s.old) (M.cells m.old) (control_of s.new) (M.cells m.new)) }
+    ensures goes { IfOk result (StepsSo (instrs.Limit way to) (position_of s.old) (M.cells m.old) (control_of s.new) (M.cells m.new)) }
     ensures cause { HasFaultCause (M.faults m.old) (M.faults m.new) result }
     ensures follows { M.follows m.old m.new }
 {
     if !have_room(s.used, 1) {
-        return Ok(Some(Halt::Stopped(Stop::CellRoom)));
+        return Ok(Next::CellRoom);
     }
     let limit = s.stack.pop_value().number();
     let at = s.stack.pop_place();
@@ -155,14 +151,14 @@ pub fn limit<M: Memory>(
     } else {
         s.pc += 1;
     }
-    Ok(None)
+    Ok(Next::On)
 }
 
 /// UNLIMIT
 pub fn unlimit(s: &mut State)
     requires ready { IsReady s.old }
     requires finds { 1 ≤ s.old.used }
-    ensures { (cells : Cells) → GoesOn instrs.Unlimit (control_of s.old) cells (control_of s.new) cells }
+    ensures { (cells : Cells) → GoesOn instrs.Unlimit (position_of s.old) cells (control_of s.new) cells }
 {
     s.used -= 1;
     s.pc += 1;
@@ -173,7 +169,7 @@ pub fn step<M: Memory>(s: &mut State, m: &mut M, way: Way, to: usize) -> Result<
     requires ready { IsReady s.old }
     requires finds { TopPlace s.old.stack.ops }
     requires limit { 1 ≤ s.old.used }
-    ensures goes { OnOk result (GoesOn (instrs.Step way to) (control_of s.old) (M.cells m.old) (control_of s.new) (M.cells m.new)) }
+    ensures goes { OnOk result (GoesOn (instrs.Step way to) (position_of s.old) (M.cells m.old) (control_of s.new) (M.cells m.new)) }
     ensures cause { HasFaultCause (M.faults m.old) (M.faults m.new) result }
     ensures follows { M.follows m.old m.new }
 {
@@ -200,10 +196,10 @@ fn next(way: Way, limit: i16, number: i16) -> i16
 }
 
 /// DO of INCR and DECR.
-pub fn modify<M: Memory>(s: &mut State, m: &mut M, by: Change) -> Result<Option<Halt>, MemFault>
+pub fn modify<M: Memory>(s: &mut State, m: &mut M, by: Change) -> Result<Next, MemFault>
     requires ready { IsReady s.old }
     requires finds { TopBoth s.old.stack.ops }
-    ensures goes { IfOk result (StepsSo (instrs.Modify by) (control_of s.old) (M.cells m.old) (control_of s.new) (M.cells m.new)) }
+    ensures goes { IfOk result (StepsSo (instrs.Modify by) (position_of s.old) (M.cells m.old) (control_of s.new) (M.cells m.new)) }
     ensures cause { HasFaultCause (M.faults m.old) (M.faults m.new) result }
     ensures follows { M.follows m.old m.new }
 {
@@ -214,12 +210,12 @@ pub fn modify<M: Memory>(s: &mut State, m: &mut M, by: Change) -> Result<Option<
         Ok(value) => {
             write(m, at, value)?;
             s.pc += 1;
-            Ok(None)
+            Ok(Next::On)
         }
-        Err(stop) => {
+        Err(fault) => {
             s.stack.push(Operand::Place(at))?;
             s.stack.push(Operand::Value(operand))?;
-            Ok(Some(Halt::Stopped(stop)))
+            Ok(fault.next())
         }
     }
 }

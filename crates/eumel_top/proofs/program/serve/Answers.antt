@@ -1,13 +1,14 @@
-use Rattle.std.proofs.Common.{rules, ◌≡◌, ap, arith}
+use Rattle.std.proofs.Common.{rules, ◌≡◌, ◌∙◌, length, ap, arith}
 use Rattle.code_form.specs.Machine.{Control}
+use Rattle.code_form.specs.Runs.{asked}
 use Rattle.eumel_top.proofs.Causes.{fault_handed_on}
-use Rattle.eumel_top.proofs.Serving.{served_first, served_ended, served_stopped, served_marked, has_asked, has_paid, is_free, served_on}
+use Rattle.eumel_top.proofs.Serving.{start_free, served_first, served_ended, served_stopped, served_marked, has_asked, has_paid, is_free, served_on}
 use Rattle.eumel_top.proofs.program.serve.Goals as goal
 
 pub loop-screen-init : goal.loop-screen-init
 loop-screen-init g c = record {
   served = rw c.new-screen.ensures (served_first c.args.code.now (g.M.Memory.cells c.args.memory.now) c.args.command.now c.requires.starts);
-  free = ap (λ (d : Control). d.waits) c.requires.starts;
+  free = ap (λ (d : Control). asked d.waits) c.requires.starts ∙ start_free (length c.args.code.now.variables);
   fits = c.requires.fits;
   later = omega arith;
 }

@@ -1,4 +1,5 @@
 use Rattle.std.proofs.Common.{◌≡◌, ◌≤◌, None}
+use Rattle.code_form.specs.Runs.{asked}
 use Rattle.code_form.specs.Valid.{Fits}
 use Rattle.eumel_top.proofs.Served.{IsServed}
 use Rattle.eumel_top.proofs.program.serve.Given as goal
@@ -7,7 +8,7 @@ use Rattle.eumel_top.proofs.program.serve.Given as goal
 abbrev pub invariant-loop-screen : goal.invariant-loop-screen
 invariant-loop-screen g l = record {
   served : IsServed l.code (g.M.Memory.cells l.fn.memory) l.command (g.M.Memory.cells l.memory) l.marks l.screen;
-  free : l.command.waits ≡ None;
+  free : asked l.command.waits ≡ None;
   fits : Fits l.code l.command;
   later : g.M.Memory.faults l.fn.memory ≤ g.M.Memory.faults l.memory;
 }

@@ -1,0 +1,154 @@
+-- A run that came to rest with marks left would have come there with none more than it spent. This holds of a rest for want of
+-- marks or replies, and of every rest of a run that had no marks.
+use Rattle.std.proofs.Common.{◌≡◌, ℕ, zero, suc, ◌+◌, ◌-◌, ◌≤◌, List, [], ◌∷◌, ◌++◌, Some, refl, sym, ap, ◌∙◌, subst, arith, append_assoc, ◌⊎◌, inl, inr, ⊎_elim}
+use Rattle.eu_base.specs.declared.request.Request.{Request}
+use Rattle.eu_base.specs.declared.request.Reply.{Reply}
+use Rattle.eu_base.specs.Cells.{Cells}
+use Rattle.code_form.specs.declared.halt.Halt.TheVariants as halts
+use Rattle.code_form.specs.Program.{Program}
+use Rattle.code_form.specs.declared.waits.Waits.{Waits}
+use Rattle.code_form.specs.declared.waits.Waits.TheVariants.{Nothing, Asked, Refused}
+use Rattle.code_form.specs.Machine.{Position, Control, free, asking, answered, After, To, Asks, Stops, Move, Goes, Spends, Halts, Ends, Stuck, Scene, Rest, step, Stage, On, Over, Lost, after_stage, mark_stage, reply_stage, stage, stage_at, advance, carry_on, exec}
+use Rattle.code_form.specs.Runs.{IsPaused, Rests, Stands, StandsOn}
+use Rattle.code_form.proofs.Resume.{replied}
+
+-- with so many marks, and with these replies besides
+abbrev pub at_marks : List Reply → ℕ → Scene → Scene
+at_marks rs m s = record s { marks = m; replies = s.replies ++ rs }
+
+-- with no more marks than the stage spends and k besides, it leads there with k
+abbrev Shifts : List Reply → Stage → Control → Scene → (ℕ → Stage) → Type 0
+Shifts rs (On c' s') c s f = (s'.marks ≤ s.marks) × ((k : ℕ) → f ((s.marks - s'.marks) + k) ≡ On c' (at_marks rs k s'))
+Shifts rs (Over r) c s f = IsPaused r.how ⊎ (s.marks ≡ 0) → (r.control ≡ c) × (r.scene ≡ s)
+Shifts rs Lost c s f = Unit {0}
+
+paid_shifts : (rs : List Reply) (m : ℕ) (a : After) (c : Position) (s : Scene) → s.marks ≡ suc m → Shifts rs (after_stage a c (record s { marks = m })) (free c) s (λ n. mark_stage n a c (at_marks rs n s))
+paid_shifts rs m (To c' cells) c s e =
+    (omega (arith, e), λ k. let f : (s.marks - m) + k ≡ suc k = omega (arith, e) in ap (λ n. mark_stage n (To c' cells) c (at_marks rs n s)) f)
+paid_shifts rs m (Asks c' q cells) c s e =
+    (omega (arith, e), λ k. let f : (s.marks - m) + k ≡ suc k = omega (arith, e) in ap (λ n. mark_stage n (Asks c' q cells) c (at_marks rs n s)) f)
+paid_shifts rs m (Stops stop) c s e = λ calm. absurd (⊎_elim (λ paused. paused) (λ none. omega (arith, e, none)) calm)
+
+mark_shifts : (rs : List Reply) (m : ℕ) (a : After) (c : Position) (s : Scene) → s.marks ≡ m → Shifts rs (mark_stage m a c s) (free c) s (λ n. mark_stage n a c (at_marks rs n s))
+mark_shifts rs zero a c s e = λ paused. (refl, refl)
+mark_shifts rs (suc m) a c s e = paid_shifts rs m a c s e
+
+move_shifts : (rs : List Reply) (m : Move) (c : Position) (s : Scene) → Shifts rs (stage m c s) (free c) s (λ n. stage m c (at_marks rs n s))
+move_shifts rs (Goes c' cells) c s =
+    (omega arith, λ k. let f : (s.marks - s.marks) + k ≡ k = omega arith in ap (λ n. stage (Goes c' cells) c (at_marks rs n s)) f)
+move_shifts rs (Spends a) c s = mark_shifts rs s.marks a c s refl
+move_shifts rs (Halts stop) c s = λ paused. (refl, refl)
+move_shifts rs Ends c s = λ paused. (refl, refl)
+move_shifts rs Stuck c s = tt
+
+stage_shifts : (p : Program) (rs : List Reply) (w : Waits) (c : Position) (s : Scene) → Shifts rs (stage_at w p c s) (record { position = c; waits = w }) s (λ n. stage_at w p c (at_marks rs n s))
+stage_shifts p rs Nothing c s = move_shifts rs (step p c s.cells) c s
+stage_shifts p rs (Asked q) c s = asks s.replies
+  where
+    asks : (xs : List Reply) → Shifts rs (reply_stage xs q c s) (asking c q) s (λ n. reply_stage (xs ++ rs) q c (at_marks rs n s))
+    asks [] = λ paused. (refl, refl)
+    asks (x ∷ xs) = (omega arith, λ k. let f : (s.marks - s.marks) + k ≡ k = omega arith in ap (λ n. reply_stage ((x ∷ xs) ++ rs) q c (at_marks rs n s)) f)
+stage_shifts p rs (Refused stop) c s = λ paused. (refl, refl)
+
+-- no step makes marks
+abbrev Falls : ℕ → Stage → Type 0
+Falls n (On c s) = s.marks ≤ n
+Falls n (Over r) = r.scene.marks ≤ n
+Falls n Lost = Unit {0}
+
+after_falls : (m : ℕ) (a : After) (c : Position) (s : Scene) → Falls (suc m) (after_stage a c (record s { marks = m }))
+after_falls m (To c' cells) c s = omega arith
+after_falls m (Asks c' q cells) c s = omega arith
+after_falls m (Stops stop) c s = omega arith
+
+move_falls : (m : Move) (c : Position) (s : Scene) → Falls s.marks (stage m c s)
+move_falls (Goes c' cells) c s = omega arith
+move_falls (Spends a) c s = by s.marks refl
+  where
+    by : (n : ℕ) → s.marks ≡ n → Falls n (mark_stage n a c s)
+    by zero e = omega (arith, e)
+    by (suc n) e = after_falls n a c s
+move_falls (Halts stop) c s = omega arith
+move_falls Ends c s = omega arith
+move_falls Stuck c s = tt
+
+stage_falls : (p : Program) (w : Waits) (c : Position) (s : Scene) → Falls s.marks (stage_at w p c s)
+stage_falls p Nothing c s = move_falls (step p c s.cells) c s
+stage_falls p (Asked q) c s = by s.replies
+  where
+    by : (rs : List Reply) → Falls s.marks (reply_stage rs q c s)
+    by [] = omega arith
+    by (r ∷ rs) = omega arith
+stage_falls p (Refused stop) c s = omega arith
+
+pub falls : (p : Program) (n : ℕ) (c : Control) (s : Scene) (r : Rest) → exec p n c s ≡ Some r → r.scene.marks ≤ s.marks
+falls p zero c s r e = absurd (cc e)
+falls p (suc n) c s r e = by (λ c s e. falls p n c s r e) (advance p c s) (stage_falls p c.waits c.position s) e
+  where
+    by : ((c : Control) (s : Scene) → exec p n c s ≡ Some r → r.scene.marks ≤ s.marks) → (st : Stage) → Falls s.marks st → carry_on st (exec p n) ≡ Some r → r.scene.marks ≤ s.marks
+    by ih (On c' s') f e = let g : r.scene.marks ≤ s'.marks = ih c' s' e in omega (arith, f, g)
+    by ih (Over x) f e = let same : x ≡ r = cc e in subst (λ (x : Rest). x.scene.marks ≤ s.marks) same f
+    by ih Lost f e = absurd (cc e)
+
+-- what comes to rest from a place, with all marks and replies from another
+pub record Leads (p : Program) (rs : List Reply) (c : Control) (s : Scene) (r : Rest) : Type 0 where
+  pub less : r.scene.marks ≤ s.marks
+  pub goes : (k : ℕ) (last : Rest) → Rests p r.control (at_marks rs k r.scene) last → Rests p c (at_marks rs ((s.marks - r.scene.marks) + k) s) last
+
+module _ (p : Program) (rs : List Reply) where
+  leads_stage : (j : ℕ) (st : Stage) (c : Control) (s : Scene) (r : Rest) → IsPaused r.how ⊎ (s.marks ≡ 0) → ((c : Control) (s : Scene) → IsPaused r.how ⊎ (s.marks ≡ 0) → exec p j c s ≡ Some r → Leads p rs c s r) →
+      carry_on st (exec p j) ≡ Some r → Shifts rs st c s (λ n. advance p c (at_marks rs n s)) → Leads p rs c s r
+  leads_stage j (On c' s') c s r paused ih e w =
+      let a = ih c' s' (⊎_elim (λ p. inl p) (λ none. inr (omega (arith, w.0, none))) paused) e in
+      record {
+        less = omega (arith, w.0, a.less);
+        goes = λ k last h.
+            let b = a.goes k last h in
+            let f : (s.marks - r.scene.marks) + k ≡ (s.marks - s'.marks) + ((s'.marks - r.scene.marks) + k) = omega (arith, w.0, a.less) in
+            subst (λ n. Rests p c (at_marks rs n s) last) (sym f)
+            (suc b.0, ap (λ st. carry_on st (exec p b.0)) (w.1 ((s'.marks - r.scene.marks) + k)) ∙ b.1);
+      }
+  leads_stage j (Over x) c s r paused ih e w =
+      let f : x ≡ r = cc in
+      let at_rest = w (subst (λ (y : Rest). IsPaused y.how ⊎ (s.marks ≡ 0)) (sym f) paused) in
+      let same_c : r.control ≡ c = ap (λ (y : Rest). y.control) (sym f) ∙ at_rest.0 in
+      let same_s : r.scene ≡ s = ap (λ (y : Rest). y.scene) (sym f) ∙ at_rest.1 in
+      let marks : r.scene.marks ≡ s.marks = ap (λ (y : Scene). y.marks) same_s in
+      record {
+        less = omega (arith, marks);
+        goes = λ k last h.
+            let g : (s.marks - r.scene.marks) + k ≡ k = omega (arith, marks) in
+            subst (λ n. Rests p c (at_marks rs n s) last) (sym g)
+            (subst (λ (d : Control). Rests p d (at_marks rs k s) last) same_c (subst (λ (u : Scene). Rests p r.control (at_marks rs k u) last) same_s h));
+      }
+  leads_stage j Lost c s r paused ih e w = let f : ⊥ = cc in absurd f
+
+  pub leads : (j : ℕ) (c : Control) (s : Scene) (r : Rest) → IsPaused r.how ⊎ (s.marks ≡ 0) → exec p j c s ≡ Some r → Leads p rs c s r
+  leads zero c s r paused e = let f : ⊥ = cc in absurd f
+  leads (suc j) c s r paused e = leads_stage j (advance p c s) c s r paused (λ c s calm e. leads j c s r calm e) e (stage_shifts p rs c.waits c.position s)
+
+pub stands_run : StandsOn
+stands_run p first cells spent left replies c now r paused k h none = record {
+  goes = λ marks more last g.
+      let s : Scene = record { cells = now; marks = left; replies = [] } in
+      let l : Leads p more c s r = leads p more h.0 c s r paused h.1 in
+      let g' : Rests p r.control (at_marks more marks r.scene) last = subst (λ rs. Rests p r.control (record { cells = r.scene.cells; marks = marks; replies = rs ++ more }) last) (sym none) g in
+      let e : spent + ((left - r.scene.marks) + marks) ≡ (spent + (left - r.scene.marks)) + marks = omega arith in
+      subst (λ n. Rests p first (record { cells = cells; marks = n; replies = replies ++ more }) last) e (k.goes ((left - r.scene.marks) + marks) more last (l.goes marks last g'));
+}
+
+module _ (p : Program) (first : Control) (cells : Cells) where
+  -- at the start nothing was spent
+  pub stands_first : Stands p first cells 0 [] first cells
+  stands_first = record {
+    goes = λ marks more last h. let e : marks ≡ 0 + marks = omega arith in subst (λ n. Rests p first (record { cells = cells; marks = n; replies = more }) last) e h;
+  }
+
+  -- after a reply
+  pub stands_reply : (spent : ℕ) (replies : List Reply) (c : Position) (now : Cells) (q : Request) (reply : Reply) → Stands p first cells spent replies (asking c q) now → Stands p first cells spent (replies ++ reply ∷ []) (answered q reply c) now
+  stands_reply spent replies c now q reply k = record {
+    goes = λ marks more last g.
+        let same : replies ++ reply ∷ more ≡ (replies ++ reply ∷ []) ++ more = sym (append_assoc replies (reply ∷ []) more) in
+        subst (λ rs. Rests p first (record { cells = cells; marks = spent + marks; replies = rs }) last) same
+        (k.goes marks (reply ∷ more) last (replied p c (record { cells = now; marks = marks; replies = more }) q reply last g));
+  }

@@ -1,0 +1,14 @@
+//! What a command waits for.
+
+use eu_base::{Request, Stop};
+
+/// What a command waits for before it goes on.
+#[derive(Drop)]
+pub enum Waits {
+    /// Nothing.
+    Nothing,
+    /// The reply to a request.
+    Asked(Request),
+    /// Nothing any more: what it needed was refused, and it stops.
+    Refused(Stop),
+}
