@@ -161,9 +161,11 @@ module _ (p : Program) (first : Cells) (control : Control) (cells : Cells) (mark
         record {
           replies = served.replies ++ Done ∷ [];
           written = served.written ++ w ∷ [];
-          spent = here;
+          spent = served.spent + (marks - marks');
           sum = omega (arith, served.sum, has_paid q is free);
-          run = rw (answer_is, cells_is) (stands_reply p (start (length p.variables)) first here served.replies control'.position cells' q Done waiting);
+          run =
+              rw (answer_is, cells_is)
+              (stands_reply p (start (length p.variables)) first (served.spent + (marks - marks')) served.replies control'.position cells' q Done waiting);
           shown = put_is ∙ (ap (λ x. put x w) served.shown ∙ sym (put_all-append blank served.written (w ∷ [])));
           paid = omega (arith, longer, served.paid, has_paid q is free);
           so_far = λ core b holds.
@@ -185,16 +187,14 @@ module _ (p : Program) (first : Cells) (control : Control) (cells : Cells) (mark
         answer_is : control'' ≡ answered q Done control'.position
         answer_is = answer q (waits q is)
 
-        abbrev here : ℕ
-        here = served.spent + (marks - marks')
-
         paused : IsPaused h
         paused = subst IsPaused (sym is) tt
 
-        rested : Stands p (start (length p.variables)) first here served.replies control' cells'
+        rested : Stands p (start (length p.variables)) first (served.spent + (marks - marks')) served.replies control' cells'
         rested = stands_run p (start (length p.variables)) first served.spent marks served.replies control cells now (inl paused) served.run rests refl
 
-        waiting : Stands p (start (length p.variables)) first here served.replies (asking control'.position q) cells'
+        waiting : Stands p (start (length p.variables)) first (served.spent + (marks - marks')) served.replies (asking control'.position q) cells'
         waiting =
-            subst (λ w. Stands p (start (length p.variables)) first here served.replies (record { position = control'.position; waits = w }) cells')
+            subst
+            (λ w. Stands p (start (length p.variables)) first (served.spent + (marks - marks')) served.replies (record control' { waits = w }) cells')
             (waits q is) rested
