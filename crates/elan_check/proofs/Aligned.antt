@@ -32,8 +32,11 @@ use Rattle.elan_scope.specs.declared.scope.Found.{Found}
 use Rattle.elan_levels.specs.Bodies as b
 use Rattle.elan_levels.specs.Bodies.{parameters, result, parameter_names, own_names, body_names, refinement_headings, bodies_in, unit_headings, all_headings}
 use Rattle.elan_scope.specs.Phrase as form
-use Rattle.elan_scope.specs.Phrase.{Phrase, phrase, Parts, none, part, all_of, leaf, around, all_empty, last_place}
+use Rattle.elan_scope.specs.Phrase.{Phrase, phrase, Parts, none, part, all_of, leaf}
 use Rattle.elan_scope.specs.Ruled.{Ruled, gives, breaks, before}
+use Rattle.elan_scope.specs.declared.delivery.Delivery.TheVariants.{Open}
+use Rattle.elan_scope.specs.Known.{delivered}
+use Rattle.elan_check.specs.Refinements.{told}
 use Rattle.elan_scope.specs.declared.known.Known.{Known}
 use Rattle.value_rules.specs.Calls as calls
 use Rattle.unit_rules.specs.Units as u
@@ -93,7 +96,7 @@ frame_held fs w =
 
 -- what the units of a body mean is its content
 abbrev pub Made : What → Meant → Body → Type 0
-Made (Routine sort ps r) m b = (vs : List ElanType) × (b.scope ≡ owner.Own ps vs) × (u.content_as r m ≡ Some b.content)
+Made (Routine sort ps r) m b = (vs : List ElanType) × (b.scope ≡ owner.Own ps vs) × (b.content ≡ u.content_as r m)
 Made (Refinement home) m b = (b.scope ≡ owner_with home) × (b.content ≡ u.content_of m)
 
 abbrev pub Inside : ℕ → List Body → List Body → Type 0
@@ -115,8 +118,8 @@ module _ (kn : Known) (s : Scope) (all : List Body) where
   pub record Row (n : ℕ) (h : Heading) (p : Phrase) (b : Body) : Type 0 where
     pub meant : Meant
     pub means : judged kn p ≡ gives meant
-    pub list : List Phrase
-    pub is_list : p ≡ shape.units true list
+    pub list : List (Option Phrase)
+    pub is_list : p ≡ shape.units (told h.what) list
     pub made : Made h.what meant b
     pub scope : Scope
     pub in_scope : InScope scope p
@@ -168,7 +171,7 @@ module _ (kn : Known) (s : Scope) (all : List Body) where
           is_list = refl;
           made = (owner_is z.routine, refl);
           scope = l.refinement_scope z k;
-          in_scope = body_units_in (l.refinement_scope z k) true r.units;
+          in_scope = body_units_in (l.refinement_scope z k) Open r.units;
           headings = hh;
           level = hl;
           stands = (refl, refl, fr);
@@ -243,12 +246,8 @@ module _ (kn : Known) (s : Scope) (all : List Body) where
     abbrev inner : Scope
     inner = l.inner s k at x t fs w
 
-    body_made : (a : ℕ) (r : Option ElanType) (m v : Meant) (o : Option Content) → u.content_as r v ≡ o → u.body_as a own o ≡ gives m → (c : Content) × (u.content_as r v ≡ Some c) × (m ≡ u.body_with own c)
-    body_made a r m v None i e = absurd cc
-    body_made a r m v (Some c) i e = (c, i, sym (gives_is (u.body_with own c) m e))
-
-    one_body : (a : ℕ) (r : Option ElanType) (ms : List Meant) (m v : Meant) → ms ≡ v ∷ [] → rule kn (form.body a own r) ms ≡ gives m → (c : Content) × (u.content_as r v ≡ Some c) × (m ≡ u.body_with own c)
-    one_body a r ms m v e h = body_made a r m v (u.content_as r v) refl (ap (rule kn (form.body a own r)) (sym e) ∙ h)
+    one_body : (r : Option ElanType) (ms : List Meant) (m v : Meant) → ms ≡ v ∷ [] → rule kn (form.body own r) ms ≡ gives m → m ≡ u.body_with own (u.content_as r v)
+    one_body r ms m v e h = sym (gives_is (u.body_with own (u.content_as r v)) m (ap (rule kn (form.body own r)) (sym e) ∙ h))
 
     pub routine_rows : (sort : Sort) (names : List Phrase) (m : Meant) → AllQuiet names → judged kn (l.routine s k at x t fs w sort names) ≡ gives m → Inside k (u.bodies_in m) all →
         Rows k (b.routine_heading sort at x fs t ∷ refinement_headings (Some k) w.refinements) (l.routine_units s k at x t fs w) (u.bodies_in m)
@@ -257,14 +256,14 @@ module _ (kn : Known) (s : Scope) (all : List Body) where
         let p = split kn (l.heading_phrases s k at x t fs w sort names) (l.body_phrases s k at x t fs w) q.0 q.1 in
         let silent : u.bodies_of p.0 ≡ [] = quiet_bodies (l.heading_phrases s k at x t fs w sort names) p.0 (quiet_append names (leaf (form.heading at s sort x (parameters fs) (l.is_missing (result t) (l.body_units s k at x t fs w))) ∷ l.declare_parameters inner fs) quiet (headed_quiet at (l.is_missing (result t) (l.body_units s k at x t fs w)) (scope.first_heading (scope.is_alike sort x (scope.types_of (parameters fs))) s.headings), parameters_quiet inner fs)) p.2 in
         let a = before_gives (judged kn (l.own_body s k at x t fs w)) (judged_all kn (all_of (l.refinements inner (suc k) w.refinements))) p.1 p.3 in
-        let c = bind_gives (judged_all kn (part (l.own_units s k at x t fs w) none)) (rule kn (form.body (last_place at (l.body_units s k at x t fs w)) own (result t))) a.0 a.2 in
+        let c = bind_gives (judged_all kn (part (l.own_units s k at x t fs w) none)) (rule kn (form.body own (result t))) a.0 a.2 in
         let d = before_gives (judged kn (l.own_units s k at x t fs w)) (gives []) c.0 c.1 in
         let one : c.0 ≡ d.0 ∷ [] = d.4 ∙ ap (λ (ns : List Meant). d.0 ∷ ns) (sym (gives_is [] d.1 d.3)) in
-        let made = one_body (last_place at (l.body_units s k at x t fs w)) (result t) c.0 a.0 d.0 one c.2 in
-        let body : Body = record { scope = own; content = made.0 } in
+        let made = one_body (result t) c.0 a.0 d.0 one c.2 in
+        let body : Body = record { scope = own; content = u.content_as (result t) d.0 } in
         let is : u.bodies_in m ≡ body ∷ u.bodies_of a.1 =
         ap u.bodies_in (sym (gives_is (Bodies (u.bodies_of q.0)) m q.2)) ∙ ap u.bodies_of p.4 ∙ bodies_append p.0 p.1
-        ∙ ap (λ (bs : List Body). bs ++ u.bodies_of p.1) silent ∙ ap u.bodies_of a.4 ∙ ap (λ (n : Meant). u.bodies_in n ++ u.bodies_of a.1) made.2 in
+        ∙ ap (λ (bs : List Body). bs ++ u.bodies_of p.1) silent ∙ ap u.bodies_of a.4 ∙ ap (λ (n : Meant). u.bodies_in n ++ u.bodies_of a.1) made in
         let here : slice_get all k ≡ Some body = (let z : k + 0 ≡ k = omega arith in ap (slice_get all) (sym z) ∙ inside 0 body (ap (λ (bs : List Body). slice_get bs 0) is)) in
         subst (λ (bs : List Body). Rows k (b.routine_heading sort at x fs t ∷ refinement_headings (Some k) w.refinements) (l.routine_units s k at x t fs w) bs) (sym is) (
           record {
@@ -272,9 +271,9 @@ module _ (kn : Known) (s : Scope) (all : List Body) where
             means = d.2;
             list = l.body_units s k at x t fs w;
             is_list = refl;
-            made = (l.own_types w, refl, made.1);
+            made = (l.own_types w, refl, refl);
             scope = inner;
-            in_scope = body_units_in inner true w.units;
+            in_scope = body_units_in inner (delivered (result t)) w.units;
             headings = refl;
             level = refl;
             stands = (body_names fs w, refl, refl, frame_held fs w);

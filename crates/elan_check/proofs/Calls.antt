@@ -1,5 +1,5 @@
 -- The refinements that phrases call, as they are found in the tree.
-use Rattle.std.proofs.Common.{◌≡◌, ℤ, ℕ, Bool, true, false, ◌&&◌, List, [], ◌∷◌, ◌++◌, map, Option, Some, None, refl, sym, ap, ◌∙◌}
+use Rattle.std.proofs.Common.{◌≡◌, ℤ, ℕ, List, [], ◌∷◌, ◌++◌, map, Option, Some, None, refl, sym, ap, ◌∙◌}
 use Rattle.elan_tree.specs.declared.written_type.Name.{Name}
 use Rattle.elan_tree.specs.declared.written_type.Label.{Label}
 use Rattle.elan_tree.specs.declared.written_type.Label.TheVariants as label
@@ -13,6 +13,8 @@ use Rattle.elan_tree.specs.declared.phrase.Unit.{Unit as Statement}
 use Rattle.elan_tree.specs.declared.phrase.Expr.TheOpen as t
 use Rattle.elan_tree.specs.declared.phrase.Expr.TheOpen.{Expr-F, Limit-F, Unit-F, Branch-F, Case-F, Counter-F, Item-F}
 use Rattle.elan_tree.specs.declared.phrase.Expr.TheFolds.{ind-Unit, map-Expr, map-Limit, map-Unit, map-Branch, map-Case, map-Counter, map-Item, fold-roll-Expr, fold-roll-Limit, fold-roll-Unit, fold-roll-Branch, fold-roll-Case, fold-roll-Counter, fold-roll-Item}
+use Rattle.elan_scope.specs.declared.delivery.Delivery.{Delivery}
+use Rattle.elan_scope.specs.declared.delivery.Delivery.TheVariants.{Open, Nothing, Of}
 use Rattle.elan_scope.specs.declared.scope.Scope.{Scope}
 use Rattle.elan_scope.specs.declared.scope.Usage.TheVariants.{Counter as Counts}
 use Rattle.elan_scope.specs.Phrase as form
@@ -80,6 +82,11 @@ three_call f p q r xs ys zs h e g i =
     ∙ both (called_in p ++ called_in q) (xs ++ ys) (called_in r) zs (both (called_in p) xs (called_in q) ys e g) i
 
 module _ (s : Scope) where
+  -- what the phrase of a unit calls, if it has one
+  abbrev unit_calls_of : Option Phrase → List ℕ
+  unit_calls_of None = []
+  unit_calls_of (Some p) = called_in p
+
   abbrev E : Expr → Type 0
   E e = called_in (shape.expr s e) ≡ uses.in_expr s e
 
@@ -87,7 +94,7 @@ module _ (s : Scope) where
   L l = called_in (shape.limit s l).1 ≡ uses.in_limit s l
 
   abbrev U : Statement → Type 0
-  U u = called_in (shape.unit s u) ≡ uses.in_unit s u
+  U u = unit_calls_of (shape.unit s u) ≡ uses.in_unit s u
 
   abbrev B : Branch → Type 0
   B b = called_in (shape.branch s b) ≡ uses.in_branch s b
@@ -118,20 +125,34 @@ module _ (s : Scope) where
   items_call [] = refl
   items_call (i ∷ is) = first_part (shape.item s i.0) (all_of (map (shape.item s) (map fst is))) ∙ both (called_in (shape.item s i.0)) (uses.in_item s i.0) (calls (all_of (map (shape.item s) (map fst is)))) _ i.1 (items_call is)
 
-  role_calls : (may : Bool) (p : Phrase) → called_in (shape.role may p) ≡ called_in p
-  role_calls true p = refl
-  role_calls false p = one_calls form.without_value p refl
+  role_calls : (d : Delivery) (p : Phrase) → called_in (shape.role d p) ≡ called_in p
+  role_calls Open p = refl
+  role_calls Nothing p = one_calls form.without_value p refl
+  role_calls (Of t) p = one_calls (form.must_deliver (form.place p) t) p refl
 
-  roles_call : (may : Bool) (us : List ((u : Statement) × U u)) → calls (all_of (shape.roles may (map (shape.unit s) (map fst us)))) ≡ uses.all (map (uses.in_unit s) (map fst us))
-  roles_call may [] = refl
-  roles_call may (u ∷ us) =
-      let last = may && form.all_empty (map (shape.unit s) (map fst us)) in
-      let rest = all_of (shape.roles may (map (shape.unit s) (map fst us))) in
-      first_part (shape.role last (shape.unit s u.0)) rest
-      ∙ both (called_in (shape.role last (shape.unit s u.0))) (uses.in_unit s u.0) (calls rest) _ (role_calls last (shape.unit s u.0) ∙ u.1) (roles_call may us)
+  roles_call : (d : Delivery) (ps : List Phrase) → calls (all_of (shape.roles d ps)) ≡ calls (all_of ps)
+  roles_call d [] = refl
+  roles_call d (p ∷ []) = one_part (shape.role d p) ∙ role_calls d p ∙ sym (one_part p)
+  roles_call d (p ∷ q ∷ ps) =
+      let rest = all_of (shape.roles d (q ∷ ps)) in
+      first_part (shape.role Nothing p) rest
+      ∙ both (called_in (shape.role Nothing p)) (called_in p) (calls rest) (calls (all_of (q ∷ ps))) (role_calls Nothing p) (roles_call d (q ∷ ps))
+      ∙ sym (first_part p (all_of (q ∷ ps)))
 
-  units_call : (may : Bool) (us : List ((u : Statement) × U u)) → called_in (shape.units may (map (shape.unit s) (map fst us))) ≡ uses.all (map (uses.in_unit s) (map fst us))
-  units_call may us = whole form.units (all_of (shape.roles may (map (shape.unit s) (map fst us)))) refl ∙ roles_call may us
+  filled_call : (u : Option Phrase) (us : List (Option Phrase)) → calls (all_of (shape.filled (u ∷ us))) ≡ unit_calls_of u ++ calls (all_of (shape.filled us))
+  filled_call None us = refl
+  filled_call (Some p) us = first_part p (all_of (shape.filled us))
+
+  us_call : (us : List ((u : Statement) × U u)) → calls (all_of (shape.filled (map (shape.unit s) (map fst us)))) ≡ uses.all (map (uses.in_unit s) (map fst us))
+  us_call [] = refl
+  us_call (u ∷ us) =
+      let rest = map (shape.unit s) (map fst us) in
+      filled_call (shape.unit s u.0) rest ∙ both (unit_calls_of (shape.unit s u.0)) (uses.in_unit s u.0) (calls (all_of (shape.filled rest))) _ u.1 (us_call us)
+
+  units_call : (d : Delivery) (us : List ((u : Statement) × U u)) → called_in (shape.units d (map (shape.unit s) (map fst us))) ≡ uses.all (map (uses.in_unit s) (map fst us))
+  units_call d us =
+      let ps = shape.filled (map (shape.unit s) (map fst us)) in
+      whole form.units (all_of (shape.roles d ps)) refl ∙ roles_call d ps ∙ us_call us
 
   labels_call : (ns : List ℤ) (ls : List Label) → calls (all_of (shape.label_phrases s ns ls)) ≡ []
   labels_call ns [] = refl
@@ -170,9 +191,9 @@ module _ (s : Scope) where
   expr_calls (t.Concr at a) = refl
   expr_calls (t.Bracket at a) = one_calls (form.bracket at) (shape.expr s a.0) refl ∙ a.1
   expr_calls (t.If at branches None) = two_call (form.choice at) (phrase form.branches (all_of (map (shape.branch s) (map fst branches)))) absent _ [] refl (branches_call branches) refl
-  expr_calls (t.If at branches (Some us)) = two_call (form.choice at) (phrase form.branches (all_of (map (shape.branch s) (map fst branches)))) (shape.units true (map (shape.unit s) (map fst us))) _ _ refl (branches_call branches) (units_call true us)
+  expr_calls (t.If at branches (Some us)) = two_call (form.choice at) (phrase form.branches (all_of (map (shape.branch s) (map fst branches)))) (shape.units Open (map (shape.unit s) (map fst us))) _ _ refl (branches_call branches) (units_call Open us)
   expr_calls (t.Select at of cases None) = three_call (form.selection at) (shape.expr s of.0) (phrase form.arms (all_of (shape.arm_phrases s [] (map (shape.case s) (map fst cases))))) absent (uses.in_expr s of.0) _ [] refl of.1 (arms_call cases) refl
-  expr_calls (t.Select at of cases (Some us)) = three_call (form.selection at) (shape.expr s of.0) (phrase form.arms (all_of (shape.arm_phrases s [] (map (shape.case s) (map fst cases))))) (shape.units true (map (shape.unit s) (map fst us))) (uses.in_expr s of.0) _ _ refl of.1 (arms_call cases) (units_call true us)
+  expr_calls (t.Select at of cases (Some us)) = three_call (form.selection at) (shape.expr s of.0) (phrase form.arms (all_of (shape.arm_phrases s [] (map (shape.case s) (map fst cases))))) (shape.units Open (map (shape.unit s) (map fst us))) (uses.in_expr s of.0) _ _ refl of.1 (arms_call cases) (units_call Open us)
   expr_calls (t.Index at of index) = refl
   expr_calls (t.Field at of field) = refl
   expr_calls (t.Monadic at o a) = one_calls _ (shape.expr s a.0) refl ∙ a.1
@@ -186,14 +207,14 @@ module _ (s : Scope) where
   limit_calls (t.Downto a) = a.1
 
   loop_calls : (at : ℕ) (k c v : Phrase) (us : List ((u : Statement) × U u)) (xs ys zs : List ℕ) → called_in k ≡ xs → called_in c ≡ ys → called_in v ≡ zs →
-      called_in (phrase (form.loop at) (part k (part c (part (shape.units false (map (shape.unit s) (map fst us))) (part v none))))) ≡ xs ++ ys ++ uses.all (map (uses.in_unit s) (map fst us)) ++ zs
+      called_in (phrase (form.loop at) (part k (part c (part (shape.units Nothing (map (shape.unit s) (map fst us))) (part v none))))) ≡ xs ++ ys ++ uses.all (map (uses.in_unit s) (map fst us)) ++ zs
   loop_calls at k c v us xs ys zs e g h =
-      let body = shape.units false (map (shape.unit s) (map fst us)) in
+      let body = shape.units Nothing (map (shape.unit s) (map fst us)) in
       let inside = uses.all (map (uses.in_unit s) (map fst us)) in
       whole (form.loop at) (part k (part c (part body (part v none)))) refl ∙ four_parts k c body v
-      ∙ both (called_in k ++ called_in c ++ called_in body) (xs ++ ys ++ inside) (called_in v) zs (both (called_in k ++ called_in c) (xs ++ ys) (called_in body) inside (both (called_in k) xs (called_in c) ys e g) (units_call false us)) h
+      ∙ both (called_in k ++ called_in c ++ called_in body) (xs ++ ys ++ inside) (called_in v) zs (both (called_in k ++ called_in c) (xs ++ ys) (called_in body) inside (both (called_in k) xs (called_in c) ys e g) (units_call Nothing us)) h
 
-  unit_calls : (y : Below Unit-F) → called_in (shape.unit_step s (map-Unit _ _ _ _ _ _ _ _ _ _ _ _ _ _ (shape.expr s) (shape.limit s) (shape.unit s) (shape.branch s) (shape.case s) (shape.counter s) (shape.item s) (map-Unit _ _ _ _ _ _ _ _ _ _ _ _ _ _ fst fst fst fst fst fst fst y))) ≡ uses.unit_step s (map-Unit _ _ _ _ _ _ _ _ _ _ _ _ _ _ (uses.in_expr s) (uses.in_limit s) (uses.in_unit s) (uses.in_branch s) (uses.in_case s) (uses.in_counter s) (uses.in_item s) (map-Unit _ _ _ _ _ _ _ _ _ _ _ _ _ _ fst fst fst fst fst fst fst y))
+  unit_calls : (y : Below Unit-F) → unit_calls_of (shape.unit_step s (map-Unit _ _ _ _ _ _ _ _ _ _ _ _ _ _ (shape.expr s) (shape.limit s) (shape.unit s) (shape.branch s) (shape.case s) (shape.counter s) (shape.item s) (map-Unit _ _ _ _ _ _ _ _ _ _ _ _ _ _ fst fst fst fst fst fst fst y))) ≡ uses.unit_step s (map-Unit _ _ _ _ _ _ _ _ _ _ _ _ _ _ (uses.in_expr s) (uses.in_limit s) (uses.in_unit s) (uses.in_branch s) (uses.in_case s) (uses.in_counter s) (uses.in_item s) (map-Unit _ _ _ _ _ _ _ _ _ _ _ _ _ _ fst fst fst fst fst fst fst y))
   unit_calls t.Empty = refl
   unit_calls (t.Let at items) = refl
   unit_calls (t.Variables at of items) = whole (form.declaration at) (all_of (map (shape.item s) (map fst items))) refl ∙ items_call items
@@ -213,17 +234,17 @@ module _ (s : Scope) where
   unit_calls (t.Leave at n (Some v)) = one_calls _ (shape.expr s v.0) refl ∙ v.1
 
   branch_calls : (y : Below Branch-F) → called_in (shape.branch_step s (map-Branch _ _ _ _ _ _ _ _ _ _ _ _ _ _ (shape.expr s) (shape.limit s) (shape.unit s) (shape.branch s) (shape.case s) (shape.counter s) (shape.item s) (map-Branch _ _ _ _ _ _ _ _ _ _ _ _ _ _ fst fst fst fst fst fst fst y))) ≡ uses.branch_step s (map-Branch _ _ _ _ _ _ _ _ _ _ _ _ _ _ (uses.in_expr s) (uses.in_limit s) (uses.in_unit s) (uses.in_branch s) (uses.in_case s) (uses.in_counter s) (uses.in_item s) (map-Branch _ _ _ _ _ _ _ _ _ _ _ _ _ _ fst fst fst fst fst fst fst y))
-  branch_calls y = two_call form.branch (shape.expr s y.condition.0) (shape.units true (map (shape.unit s) (map fst y.units))) (uses.in_expr s y.condition.0) _ refl y.condition.1 (units_call true y.units)
+  branch_calls y = two_call form.branch (shape.expr s y.condition.0) (shape.units Open (map (shape.unit s) (map fst y.units))) (uses.in_expr s y.condition.0) _ refl y.condition.1 (units_call Open y.units)
 
   case_calls : (y : Below Case-F) → called_in (shape.case_step s (map-Case _ _ _ _ _ _ _ _ _ _ _ _ _ _ (shape.expr s) (shape.limit s) (shape.unit s) (shape.branch s) (shape.case s) (shape.counter s) (shape.item s) (map-Case _ _ _ _ _ _ _ _ _ _ _ _ _ _ fst fst fst fst fst fst fst y))).1 ≡ uses.case_step s (map-Case _ _ _ _ _ _ _ _ _ _ _ _ _ _ (uses.in_expr s) (uses.in_limit s) (uses.in_unit s) (uses.in_branch s) (uses.in_case s) (uses.in_counter s) (uses.in_item s) (map-Case _ _ _ _ _ _ _ _ _ _ _ _ _ _ fst fst fst fst fst fst fst y))
-  case_calls y = units_call true y.units
+  case_calls y = units_call Open y.units
 
   abbrev counter_with : Name → Option ((e : Expr) × E e) → (l : Limit) × L l → Below Counter-F
   counter_with n from l = record { name = n; from = from; limit = l }
 
   counter_of : (n : Name) (from : Option ((e : Expr) × E e)) (l : (l : Limit) × L l) → called_in (shape.counter_step s (map-Counter _ _ _ _ _ _ _ _ _ _ _ _ _ _ (shape.expr s) (shape.limit s) (shape.unit s) (shape.branch s) (shape.case s) (shape.counter s) (shape.item s) (map-Counter _ _ _ _ _ _ _ _ _ _ _ _ _ _ fst fst fst fst fst fst fst (counter_with n from l)))) ≡ uses.counter_step s (map-Counter _ _ _ _ _ _ _ _ _ _ _ _ _ _ (uses.in_expr s) (uses.in_limit s) (uses.in_unit s) (uses.in_branch s) (uses.in_case s) (uses.in_counter s) (uses.in_item s) (map-Counter _ _ _ _ _ _ _ _ _ _ _ _ _ _ fst fst fst fst fst fst fst (counter_with n from l)))
-  counter_of n None l = three_call _ (form.leaf (form.named Counts n.at s n.text)) absent (shape.limit s l.0).1 (uses.in_name s n) [] (uses.in_limit s l.0) refl (nil (uses.in_name s n)) refl l.1
-  counter_of n (Some e) l = three_call _ (form.leaf (form.named Counts n.at s n.text)) (shape.expr s e.0) (shape.limit s l.0).1 (uses.in_name s n) (uses.in_expr s e.0) (uses.in_limit s l.0) refl (nil (uses.in_name s n)) e.1 l.1
+  counter_of n None l = three_call _ (form.leaf (form.named Counts n.at s n.text)) absent (shape.limit s l.0).1 [] [] (uses.in_limit s l.0) refl refl refl l.1
+  counter_of n (Some e) l = three_call _ (form.leaf (form.named Counts n.at s n.text)) (shape.expr s e.0) (shape.limit s l.0).1 [] (uses.in_expr s e.0) (uses.in_limit s l.0) refl refl e.1 l.1
 
   counter_calls : (y : Below Counter-F) → called_in (shape.counter_step s (map-Counter _ _ _ _ _ _ _ _ _ _ _ _ _ _ (shape.expr s) (shape.limit s) (shape.unit s) (shape.branch s) (shape.case s) (shape.counter s) (shape.item s) (map-Counter _ _ _ _ _ _ _ _ _ _ _ _ _ _ fst fst fst fst fst fst fst y))) ≡ uses.counter_step s (map-Counter _ _ _ _ _ _ _ _ _ _ _ _ _ _ (uses.in_expr s) (uses.in_limit s) (uses.in_unit s) (uses.in_branch s) (uses.in_case s) (uses.in_counter s) (uses.in_item s) (map-Counter _ _ _ _ _ _ _ _ _ _ _ _ _ _ fst fst fst fst fst fst fst y))
   counter_calls y = counter_of y.name y.from y.limit
@@ -250,14 +271,14 @@ module _ (s : Scope) where
       (λ x y is. rw (fold-roll-Counter, fold-roll-Counter, ← is) (counter_calls y))
       (λ x y is. rw (fold-roll-Item, fold-roll-Item, ← is) (item_calls y))
 
-  row_called : (may : Bool) (us : List Statement) → calls (all_of (shape.roles may (map (shape.unit s) us))) ≡ uses.in_units s us
-  row_called may [] = refl
-  row_called may (u ∷ us) =
-      let last = may && form.all_empty (map (shape.unit s) us) in
-      let rest = all_of (shape.roles may (map (shape.unit s) us)) in
-      first_part (shape.role last (shape.unit s u)) rest
-      ∙ both (called_in (shape.role last (shape.unit s u))) (uses.in_unit s u) (calls rest) (uses.in_units s us) (role_calls last (shape.unit s u) ∙ unit_called u) (row_called may us)
+  all_called : (us : List Statement) → calls (all_of (shape.filled (map (shape.unit s) us))) ≡ uses.in_units s us
+  all_called [] = refl
+  all_called (u ∷ us) =
+      let rest = map (shape.unit s) us in
+      filled_call (shape.unit s u) rest ∙ both (unit_calls_of (shape.unit s u)) (uses.in_unit s u) (calls (all_of (shape.filled rest))) (uses.in_units s us) (unit_called u) (all_called us)
 
   -- the units of a body
-  pub units_called : (may : Bool) (us : List Statement) → called_in (shape.units may (map (shape.unit s) us)) ≡ uses.in_units s us
-  units_called may us = whole form.units (all_of (shape.roles may (map (shape.unit s) us))) refl ∙ row_called may us
+  pub units_called : (d : Delivery) (us : List Statement) → called_in (shape.units d (map (shape.unit s) us)) ≡ uses.in_units s us
+  units_called d us =
+      let ps = shape.filled (map (shape.unit s) us) in
+      whole form.units (all_of (shape.roles d ps)) refl ∙ roles_call d ps ∙ all_called us

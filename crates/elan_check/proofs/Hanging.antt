@@ -7,19 +7,20 @@ use Rattle.elan_scope.specs.declared.heading.What.TheVariants.{Routine, Refineme
 use Rattle.elan_scope.specs.declared.heading.Heading.{Heading}
 use Rattle.elan_meant.specs.declared.meant.Meant.{Meant}
 use Rattle.elan_scope.specs.declared.scope.Usage.{Usage}
+use Rattle.elan_scope.specs.declared.scope.Usage.TheVariants as usage
 use Rattle.elan_scope.specs.Scope as scope
 use Rattle.elan_scope.specs.Scope.{number_of, refinement_named}
 use Rattle.elan_scope.specs.declared.scope.Scope.{Scope}
 use Rattle.elan_scope.specs.declared.scope.Found.{Found}
 use Rattle.elan_scope.specs.Phrase as form
-use Rattle.elan_scope.specs.Phrase.{Form, Phrase, phrase, Parts, none, part, all_of, around, leaf, is_empty, last_place}
+use Rattle.elan_scope.specs.Phrase.{Form, Phrase, phrase, Parts, none, part, all_of, around, leaf}
 use Rattle.elan_scope.specs.Ruled.{Ruled, gives, breaks, hangs, ◌>>=◌, before}
 use Rattle.elan_scope.specs.Known.{delivery_at, leads_back}
 use Rattle.elan_scope.specs.declared.known.Known.{Known}
 use Rattle.value_rules.specs.Calls as c
 use Rattle.elan_rules.specs.Rules.{rule}
 use Rattle.elan_rules.specs.Meaning.{judged, judged_all, phrases, phrases_of}
-use Rattle.elan_check.specs.Refinements.{told, last_unit, last_unit_in, unit_delivery, outcome, called_by, called_by_all, called_in}
+use Rattle.elan_check.specs.Refinements.{told, last_unit, last_part, unit_delivery, outcome, called_by, called_by_all, called_in}
 use Rattle.elan_levels.specs.Uses.{number_list}
 use Rattle.elan_rules.proofs.First.{Faultless, whole, open_one, bind_faultless, before_faultless, breaks_has_fault}
 use Rattle.elan_check.proofs.Calls.{called_append}
@@ -104,10 +105,12 @@ module _ (kn : Known) where
 
   named_leaf : (z : Scope) (u : Usage) (at : ℕ) (s : Scope) (x : List ℕ) (ps : Parts) → s ≡ z → c.named kn u at s x (scope.find s x) ≡ hangs → Leaf z (called_by_all (phrase (form.named u at s x) ps ∷ []))
   named_leaf z u at s x ps i e =
-      let o = named_open kn u at s x (scope.find s x) e in
-      let here : In o.0 (called_by (phrase (form.named u at s x) ps)) = subst (λ (q : Option ℕ). In o.0 (number_list q)) (sym o.1) (inl refl) in
-      subst (λ (y : Scope). Leaf y (called_by_all (phrase (form.named u at s x) ps ∷ []))) i
-      (o.0, in_first o.0 (called_by (phrase (form.named u at s x) ps)) [] here, o.2, o.3, named_headed s x (scope.find s x) o.0 o.1)
+      let w = named_open kn at s x u (scope.find s x) e in
+      let o = w.1 in
+      let here : In o.0 (called_by (phrase (form.named usage.Expression at s x) ps)) = subst (λ (q : Option ℕ). In o.0 (number_list q)) (sym o.1) (inl refl) in
+      subst (λ (v : Usage). Leaf z (called_by_all (phrase (form.named v at s x) ps ∷ []))) (sym w.0)
+      (subst (λ (y : Scope). Leaf y (called_by_all (phrase (form.named usage.Expression at s x) ps ∷ []))) i
+      (o.0, in_first o.0 (called_by (phrase (form.named usage.Expression at s x) ps)) [] here, o.2, o.3, named_headed s x (scope.find s x) o.0 o.1))
 
   form_leaf : (z : Scope) (f : Form) (ps : Parts) → Names z f → (ms : List Meant) → rule kn f ms ≡ hangs → Leaf z (called_by_all (phrase f ps ∷ []))
   form_leaf z form.absent ps i ms e = absurd (not_hung (rule kn form.absent ms) e (rules kn form.absent ms tt))
@@ -136,12 +139,12 @@ module _ (kn : Known) where
   form_leaf z (form.assignment a0 s0) ps i ms e = absurd (not_hung (rule kn (form.assignment a0 s0) ms) e (rules kn (form.assignment a0 s0) ms tt))
   form_leaf z (form.counter a0) ps i ms e = absurd (not_hung (rule kn (form.counter a0) ms) e (rules kn (form.counter a0) ms tt))
   form_leaf z (form.loop a0) ps i ms e = absurd (not_hung (rule kn (form.loop a0) ms) e (rules kn (form.loop a0) ms tt))
-  form_leaf z form.empty ps i ms e = absurd (not_hung (rule kn form.empty ms) e (rules kn form.empty ms tt))
   form_leaf z (form.leave a0 a1 a2) ps i ms e = absurd (not_hung (rule kn (form.leave a0 a1 a2) ms) e (rules kn (form.leave a0 a1 a2) ms tt))
   form_leaf z form.without_value ps i ms e = absurd (not_hung (rule kn form.without_value ms) e (rules kn form.without_value ms tt))
+  form_leaf z (form.must_deliver a0 a1) ps i ms e = absurd (not_hung (rule kn (form.must_deliver a0 a1) ms) e (rules kn (form.must_deliver a0 a1) ms tt))
   form_leaf z form.units ps i ms e = absurd (not_hung (rule kn form.units ms) e (rules kn form.units ms tt))
   form_leaf z (form.heading a0 a1 a2 a3 a4 a5) ps i ms e = absurd (not_hung (rule kn (form.heading a0 a1 a2 a3 a4 a5) ms) e (rules kn (form.heading a0 a1 a2 a3 a4 a5) ms tt))
-  form_leaf z (form.body a0 a1 a2) ps i ms e = absurd (not_hung (rule kn (form.body a0 a1 a2) ms) e (rules kn (form.body a0 a1 a2) ms tt))
+  form_leaf z (form.body a0 a1) ps i ms e = absurd (not_hung (rule kn (form.body a0 a1) ms) e (rules kn (form.body a0 a1) ms tt))
   form_leaf z form.routine ps i ms e = absurd (not_hung (rule kn form.routine ms) e (rules kn form.routine ms tt))
   form_leaf z (form.refinement a0) ps i ms e = absurd (not_hung (rule kn (form.refinement a0) ms) e (rules kn (form.refinement a0) ms tt))
   form_leaf z form.level ps i ms e = absurd (not_hung (rule kn form.level ms) e (rules kn form.level ms tt))
@@ -175,15 +178,14 @@ module _ (kn : Known) where
   MayFine z ns None = Unit {0}
   MayFine z ns (Some p) = Fine z ns p
 
-  last_fine : (z : Scope) (ns : List ℕ) (ps : Parts) (o : Option Phrase) → AllIn z ps → Faultless (judged_all kn ps) → ((n : ℕ) → In n (called_by_all (phrases_of ps)) → In n ns) → MayFine z ns o → MayFine z ns (last_unit_in o ps)
-  last_fine z ns none o i f h m = m
-  last_fine z ns (part p ps) o i f h m =
-      let g = before_faultless kn (judged kn p) (judged_all kn ps) f in
-      last_fine z ns ps (if is_empty p then o else Some p) i.1 g.1 (λ n k. h n (in_right n (phrases p) (phrases_of ps) k)) (by_test (is_empty p) (i.0, g.0, λ n k. h n (in_left n (phrases p) (phrases_of ps) k)))
-    where
-      by_test : (d : Bool) → Fine z ns p → MayFine z ns (if d then o else Some p)
-      by_test true k = m
-      by_test false k = k
+  last_fine : (z : Scope) (ns : List ℕ) (ps : Parts) → AllIn z ps → Faultless (judged_all kn ps) → ((n : ℕ) → In n (called_by_all (phrases_of ps)) → In n ns) → MayFine z ns (last_part ps)
+  last_fine z ns none i f h = tt
+  last_fine z ns (part p none) i f h =
+      let g = before_faultless kn (judged kn p) (judged_all kn none) f in
+      (i.0, g.0, λ n k. h n (in_left n (phrases p) [] k))
+  last_fine z ns (part p (part q ps)) i f h =
+      let g = before_faultless kn (judged kn p) (judged_all kn (part q ps)) f in
+      last_fine z ns (part q ps) i.1 g.1 (λ n k. h n (in_right n (phrases p) (phrases_of (part q ps)) k))
 
   unit_leaf : (z : Scope) (ns : List ℕ) (o : Option Phrase) → MayFine z ns o → unit_delivery kn o ≡ Open → Leaf z ns
   unit_leaf z ns None m e = absurd cc
@@ -195,4 +197,4 @@ module _ (kn : Known) where
       by_outcome hangs i = wider z (called_in p) ns m.2 (leaf_of z p m.0 i)
 
   pub body_leaf : (z : Scope) (p : Phrase) → InScope z p → Faultless (judged kn p) → unit_delivery kn (last_unit p) ≡ Open → Leaf z (called_in p)
-  body_leaf z (phrase f ps) i g e = unit_leaf z (called_in (phrase f ps)) (last_unit (phrase f ps)) (last_fine z (called_in (phrase f ps)) ps None i.1 (bind_faultless kn (judged_all kn ps) (rule kn f) g) (λ n k. in_left n (phrases_of ps) (phrase f ps ∷ []) k) tt) e
+  body_leaf z (phrase f ps) i g e = unit_leaf z (called_in (phrase f ps)) (last_unit (phrase f ps)) (last_fine z (called_in (phrase f ps)) ps i.1 (bind_faultless kn (judged_all kn ps) (rule kn f) g) (λ n k. in_left n (phrases_of ps) (phrase f ps ∷ []) k)) e

@@ -1,7 +1,7 @@
 -- What is found out about refinements: it is what their last units deliver, and in the end nothing more can be found.
 use Rattle.std.proofs.Common.{◌≡◌, ℕ, Bool, true, false, if◌then◌else◌, List, [], ◌∷◌, length, Option, Some, None, refl, sym, ap, subst, ◌∙◌, ◌⊎◌, inl, inr}
 use Rattle.elan_types.specs.declared.core_phrase.Exit.{Exit}
-use Rattle.elan_types.specs.declared.why.Why.TheVariants.{WrongType}
+use Rattle.elan_types.specs.declared.why.Why.TheVariants.{WrongType, WrongPlace}
 use Rattle.elan_types.specs.declared.core_phrase.Action.{Action}
 use Rattle.elan_types.specs.declared.core_phrase.Action.TheVariants as action
 use Rattle.elan_scope.specs.declared.delivery.Delivery.{Delivery}
@@ -17,7 +17,7 @@ use Rattle.elan_scope.specs.declared.scope.Scope.{Scope}
 use Rattle.elan_scope.specs.declared.scope.Home.{Home}
 use Rattle.elan_scope.specs.declared.scope.Found.{Found}
 use Rattle.elan_scope.specs.Phrase as form
-use Rattle.elan_scope.specs.Phrase.{Form, Phrase, phrase, Parts, none, part, all_of, around, is_empty, all_empty}
+use Rattle.elan_scope.specs.Phrase.{Form, Phrase, phrase, Parts, none, part, all_of, around}
 use Rattle.elan_scope.specs.Ruled.{gives, breaks, before}
 use Rattle.elan_scope.specs.Known.{delivery_at, leads, leads_back}
 use Rattle.elan_scope.specs.declared.known.Known.{Known}
@@ -25,51 +25,15 @@ use Rattle.elan_meant.specs.Parts.{one_of, on_one, actions_of}
 use Rattle.value_rules.specs.Calls as r
 use Rattle.unit_rules.specs.Units.{or_last, last_value, ended, without_value}
 use Rattle.elan_rules.specs.Rules.{rule}
-use Rattle.elan_judge.specs.Shape.{role, roles, units}
+use Rattle.elan_judge.specs.Shape.{roles, filled, units}
 use Rattle.elan_rules.specs.Meaning.{judged, judged_all}
-use Rattle.elan_check.specs.Refinements.{last_unit, last_unit_in, delivery_of}
+use Rattle.elan_check.specs.Refinements.{last_unit, last_part, delivery_of}
+use Rattle.elan_check.proofs.Lasts.{behind}
 use Rattle.elan_rules.proofs.First.{bind_gives, before_gives, gives_is}
 
 -- ---- the last unit
 
 module _ (kn : Known) where
-  empty_done : (p : Phrase) (m : Meant) → is_empty p ≡ true → judged kn p ≡ gives m → Done [] ≡ m
-  empty_done (phrase form.absent ps) m e h = absurd cc
-  empty_done (phrase form.not_built ps) m e h = absurd cc
-  empty_done (phrase (form.number a0 a1) ps) m e h = absurd cc
-  empty_done (phrase (form.truth a0 a1) ps) m e h = absurd cc
-  empty_done (phrase (form.named u a0 a1 a2) ps) m e h = absurd cc
-  empty_done (phrase (form.applied a0 a1 a2 a3) ps) m e h = absurd cc
-  empty_done (phrase (form.bracket a0) ps) m e h = absurd cc
-  empty_done (phrase (form.cand a0) ps) m e h = absurd cc
-  empty_done (phrase (form.cor a0) ps) m e h = absurd cc
-  empty_done (phrase form.branch ps) m e h = absurd cc
-  empty_done (phrase form.branches ps) m e h = absurd cc
-  empty_done (phrase (form.choice a0) ps) m e h = absurd cc
-  empty_done (phrase (form.label a0 a1 a2) ps) m e h = absurd cc
-  empty_done (phrase (form.label_name a0 a1 a2) ps) m e h = absurd cc
-  empty_done (phrase form.labels ps) m e h = absurd cc
-  empty_done (phrase form.arm ps) m e h = absurd cc
-  empty_done (phrase form.arms ps) m e h = absurd cc
-  empty_done (phrase (form.selection a0) ps) m e h = absurd cc
-  empty_done (phrase (form.declares a0 a1 a2) ps) m e h = absurd cc
-  empty_done (phrase form.item ps) m e h = absurd cc
-  empty_done (phrase (form.initial a0) ps) m e h = absurd cc
-  empty_done (phrase (form.declaration a0) ps) m e h = absurd cc
-  empty_done (phrase form.statement ps) m e h = absurd cc
-  empty_done (phrase (form.assignment a0 s0) ps) m e h = absurd cc
-  empty_done (phrase (form.counter a0) ps) m e h = absurd cc
-  empty_done (phrase (form.loop a0) ps) m e h = absurd cc
-  empty_done (phrase form.empty ps) m e h = let b = bind_gives (judged_all kn ps) (rule kn form.empty) m h in gives_is (Done []) m b.2
-  empty_done (phrase (form.leave a0 a1 a2) ps) m e h = absurd cc
-  empty_done (phrase form.without_value ps) m e h = absurd cc
-  empty_done (phrase form.units ps) m e h = absurd cc
-  empty_done (phrase (form.heading a0 a1 a2 a3 a4 a5) ps) m e h = absurd cc
-  empty_done (phrase (form.body a0 a1 a2) ps) m e h = absurd cc
-  empty_done (phrase form.routine ps) m e h = absurd cc
-  empty_done (phrase (form.refinement a0) ps) m e h = absurd cc
-  empty_done (phrase form.level ps) m e h = absurd cc
-
   kept : (k m : Meant) → without_value k ≡ gives m → or_last Absent m ≡ Absent
   kept Absent m e = ap (or_last Absent) (sym (gives_is Absent m e))
   kept (Value at t v x) m e = absurd cc
@@ -95,26 +59,6 @@ module _ (kn : Known) where
   Last None n = Nothing ≡ delivery_of n
   Last (Some p) n = (m : Meant) × (judged kn p ≡ gives m) × (delivery_of m ≡ delivery_of n)
 
-  or_last_done : (n m : Meant) → Done [] ≡ m → or_last n m ≡ n
-  or_last_done n m e = ap (or_last n) (sym e)
-
-  empties : (ps : List Phrase) (o : Option Phrase) (n : Meant) (ms : List Meant) → all_empty ps ≡ true → judged_all kn (all_of (roles true ps)) ≡ gives ms → Last o n → Last (last_unit_in o (all_of (roles true ps))) (last_value n ms)
-  empties [] o n ms e h l = subst (λ (ks : List Meant). Last o (last_value n ks)) (gives_is [] ms h) l
-  empties (p ∷ ps) o n ms e h l = by_tests (empties ps) (is_empty p) (all_empty ps) refl refl
-    where
-      by_tests : ((o' : Option Phrase) (n' : Meant) (ks : List Meant) → all_empty ps ≡ true → judged_all kn (all_of (roles true ps)) ≡ gives ks → Last o' n' → Last (last_unit_in o' (all_of (roles true ps))) (last_value n' ks)) → (a b : Bool) → is_empty p ≡ a → all_empty ps ≡ b → Last (last_unit_in o (all_of (roles true (p ∷ ps)))) (last_value n ms)
-      by_tests rest false b i j = absurd cc
-      by_tests rest true false i j = absurd cc
-      by_tests rest true true i j =
-          let q = before_gives (judged kn (role (all_empty ps) p)) (judged_all kn (all_of (roles true ps))) ms h in
-          let g : judged kn p ≡ gives q.0 = subst (λ (c : Bool). judged kn (role c p) ≡ gives q.0) j q.2 in
-          let z = or_last_done n q.0 (empty_done p q.0 i g) in
-          subst (λ (c : Bool). Last (last_unit_in (if is_empty (role c p) then o else Some (role c p)) (all_of (roles true ps))) (last_value n ms)) (sym j)
-          (subst (λ (c : Bool). Last (last_unit_in (if c then o else Some p) (all_of (roles true ps))) (last_value n ms)) (sym i)
-          (subst (λ (ks : List Meant). Last (last_unit_in o (all_of (roles true ps))) (last_value n ks)) (sym q.4)
-          (subst (λ (w : Meant). Last (last_unit_in o (all_of (roles true ps))) (last_value w q.1)) (sym z)
-          (rest o n q.1 j q.3 l))))
-
   first_delivers : (m : Meant) → delivery_of m ≡ delivery_of (or_last Absent m)
   first_delivers Absent = refl
   first_delivers (Value at t v x) = refl
@@ -127,29 +71,19 @@ module _ (kn : Known) where
   first_delivers (Bodies bs) = refl
   first_delivers (Level us bs) = refl
 
-  last_of_all : (ps : List Phrase) (o : Option Phrase) (ms : List Meant) → all_empty ps ≡ false → judged_all kn (all_of (roles true ps)) ≡ gives ms → Last (last_unit_in o (all_of (roles true ps))) (last_value Absent ms)
-  last_of_all [] o ms e h = absurd cc
-  last_of_all (p ∷ ps) o ms e h = by_tests (last_of_all ps) (is_empty p) (all_empty ps) refl refl
-    where
-      q : (x : Meant) × (xs : List Meant) × (judged kn (role (all_empty ps) p) ≡ gives x) × (judged_all kn (all_of (roles true ps)) ≡ gives xs) × (ms ≡ x ∷ xs)
-      q = before_gives (judged kn (role (all_empty ps) p)) (judged_all kn (all_of (roles true ps))) ms h
-
-      earlier : ((o' : Option Phrase) (ks : List Meant) → all_empty ps ≡ false → judged_all kn (all_of (roles true ps)) ≡ gives ks → Last (last_unit_in o' (all_of (roles true ps))) (last_value Absent ks)) → (o' : Option Phrase) → all_empty ps ≡ false → Last (last_unit_in o' (all_of (roles true ps))) (last_value Absent ms)
-      earlier rest o' j =
-          let g : judged kn (around form.without_value p) ≡ gives q.0 = subst (λ (c : Bool). judged kn (role c p) ≡ gives q.0) j q.2 in
-          subst (λ (ks : List Meant). Last (last_unit_in o' (all_of (roles true ps))) (last_value Absent ks)) (sym q.4)
-          (subst (λ (w : Meant). Last (last_unit_in o' (all_of (roles true ps))) (last_value w q.1)) (sym (no_value p q.0 g))
-          (rest o' q.1 j q.3))
-
-      by_tests : ((o' : Option Phrase) (ks : List Meant) → all_empty ps ≡ false → judged_all kn (all_of (roles true ps)) ≡ gives ks → Last (last_unit_in o' (all_of (roles true ps))) (last_value Absent ks)) → (a b : Bool) → is_empty p ≡ a → all_empty ps ≡ b → Last (last_unit_in o (all_of (roles true (p ∷ ps)))) (last_value Absent ms)
-      by_tests rest true true i j = absurd cc
-      by_tests rest a false i j = earlier rest (if is_empty (role (all_empty ps) p) then o else Some (role (all_empty ps) p)) j
-      by_tests rest false true i j =
-          let g : judged kn p ≡ gives q.0 = subst (λ (c : Bool). judged kn (role c p) ≡ gives q.0) j q.2 in
-          subst (λ (c : Bool). Last (last_unit_in (if is_empty (role c p) then o else Some (role c p)) (all_of (roles true ps))) (last_value Absent ms)) (sym j)
-          (subst (λ (c : Bool). Last (last_unit_in (if c then o else Some p) (all_of (roles true ps))) (last_value Absent ms)) (sym i)
-          (subst (λ (ks : List Meant). Last (last_unit_in (Some p) (all_of (roles true ps))) (last_value Absent ks)) (sym q.4)
-          (empties ps (Some p) (or_last Absent q.0) q.1 j q.3 (q.0, g, first_delivers q.0))))
+  -- The last unit of a list that may deliver what it will delivers what the list delivers.
+  last_of_all : (ps : List Phrase) (ms : List Meant) → judged_all kn (all_of (roles Open ps)) ≡ gives ms → Last (last_part (all_of (roles Open ps))) (last_value Absent ms)
+  last_of_all [] ms h = subst (λ (ks : List Meant). Last None (last_value Absent ks)) (gives_is [] ms h) refl
+  last_of_all (p ∷ []) ms h =
+      let q = before_gives (judged kn p) (judged_all kn none) ms h in
+      subst (λ (ks : List Meant). Last (Some p) (last_value Absent ks)) (sym q.4)
+      (subst (λ (ks : List Meant). Last (Some p) (last_value (or_last Absent q.0) ks)) (gives_is [] q.1 q.3) (q.0, q.2, first_delivers q.0))
+  last_of_all (p ∷ r ∷ ps) ms h =
+      let q = before_gives (judged kn (around form.without_value p)) (judged_all kn (all_of (roles Open (r ∷ ps)))) ms h in
+      subst (λ (o : Option Phrase). Last o (last_value Absent ms)) (sym (behind Open (around form.without_value p) r ps))
+      (subst (λ (ks : List Meant). Last (last_part (all_of (roles Open (r ∷ ps)))) (last_value Absent ks)) (sym q.4)
+      (subst (λ (w : Meant). Last (last_part (all_of (roles Open (r ∷ ps)))) (last_value w q.1)) (sym (no_value p q.0 q.2))
+      (last_of_all (r ∷ ps) q.1 q.3)))
 
   ended_delivers : (as' : List Action) (n : Meant) → delivery_of (ended as' n) ≡ delivery_of n
   ended_delivers as' Absent = refl
@@ -167,15 +101,12 @@ module _ (kn : Known) where
   last_as None n m e h = h ∙ sym e
   last_as (Some p) n m e h = (h.0, h.1, h.2 ∙ sym e)
 
-  -- the units of a body deliver what the last of them delivers
-  pub last_delivers : (ps : List Phrase) (m : Meant) → judged kn (units true ps) ≡ gives m → Last (last_unit (units true ps)) m
-  last_delivers ps m e =
-      let b = bind_gives (judged_all kn (all_of (roles true ps))) (rule kn form.units) m e in
-      last_as (last_unit (units true ps)) (last_value Absent b.0) m (ap delivery_of (sym (gives_is (ended (actions_of b.0) (last_value Absent b.0)) m b.2)) ∙ ended_delivers (actions_of b.0) (last_value Absent b.0)) (by_test (all_empty ps) refl b.0 b.1)
-    where
-      by_test : (c : Bool) → all_empty ps ≡ c → (ms : List Meant) → judged_all kn (all_of (roles true ps)) ≡ gives ms → Last (last_unit (units true ps)) (last_value Absent ms)
-      by_test true i ms h = empties ps None Absent ms i h refl
-      by_test false i ms h = last_of_all ps None ms i h
+  -- the units of a refinement deliver what the last of them delivers
+  pub last_delivers : (us : List (Option Phrase)) (m : Meant) → judged kn (units Open us) ≡ gives m → Last (last_unit (units Open us)) m
+  last_delivers us m e =
+      let b = bind_gives (judged_all kn (all_of (roles Open (filled us)))) (rule kn form.units) m e in
+      last_as (last_unit (units Open us)) (last_value Absent b.0) m
+      (ap delivery_of (sym (gives_is (ended (actions_of b.0) (last_value Absent b.0)) m b.2)) ∙ ended_delivers (actions_of b.0) (last_value Absent b.0)) (last_of_all (filled us) b.0 b.1)
 
 -- ---- what is known of more
 
@@ -200,27 +131,25 @@ module _ (j k : Known) (below : Below j k) where
         | inr e ↦ gives_is m n (sym h ∙ ap (r.referred at i) e ∙ g)
       ]
 
-  -- where a call that leads back gives a meaning, it is that of one that does not
-  led_gives : (u : Usage) (at i : ℕ) (d : Delivery) (m : Meant) → r.led_back u at i d ≡ gives m → r.referred at i d ≡ gives m
-  led_gives usage.Expression at i d m h = absurd cc
-  led_gives usage.Counter at i Open m h = absurd cc
-  led_gives usage.Counter at i Nothing m h = h
-  led_gives usage.Counter at i (Of t) m h = h
+  as_referred : (at i : ℕ) (d : Delivery) (a : Bool) (m : Meant) → (if a then breaks (at, WrongPlace) else r.referred at i d) ≡ gives m → r.referred at i d ≡ gives m
+  as_referred at i d true m h = absurd cc
+  as_referred at i d false m h = h
 
-  as_referred : (u : Usage) (at i : ℕ) (d : Delivery) (a : Bool) (m : Meant) → (if a then r.led_back u at i d else r.referred at i d) ≡ gives m → r.referred at i d ≡ gives m
-  as_referred u at i d true m h = led_gives u at i d m h
-  as_referred u at i d false m h = h
+  refined_same : (at : ℕ) (s : Scope) (o : Option ℕ) (m n : Meant) → r.refined j at s o ≡ gives m → r.refined k at s o ≡ gives n → m ≡ n
+  refined_same at s None m n h g = absurd cc
+  refined_same at s (Some i) m n h g =
+      referred_same at i m n (as_referred at i (delivery_at j i) (leads_back j i s.refinement) m h) (as_referred at i (delivery_at k i) (leads_back k i s.refinement) n g)
 
-  refined_same : (u : Usage) (at : ℕ) (s : Scope) (o : Option ℕ) (m n : Meant) → r.refined j u at s o ≡ gives m → r.refined k u at s o ≡ gives n → m ≡ n
-  refined_same u at s None m n h g = absurd cc
-  refined_same u at s (Some i) m n h g = referred_same at i m n (as_referred u at i (delivery_at j i) (leads_back j i s.refinement) m h) (as_referred u at i (delivery_at k i) (leads_back k i s.refinement) n g)
+  used_same : (u : Usage) (at : ℕ) (s : Scope) (o : Option ℕ) (m n : Meant) → r.refined_as j u at s o ≡ gives m → r.refined_as k u at s o ≡ gives n → m ≡ n
+  used_same usage.Expression at s o m n h g = refined_same at s o m n h g
+  used_same usage.Counter at s o m n h g = absurd cc
 
   denoted_same : (u : Usage) (at : ℕ) (s : Scope) (x : List ℕ) (home : Home) (i : ℕ) (d : Denotes) (m n : Meant) → r.denoted j u at s x home i d ≡ gives m → r.denoted k u at s x home i d ≡ gives n → m ≡ n
   denoted_same u at s x home i (denotes.Variable t) m n h g = gives_is m n (sym h ∙ g)
   denoted_same u at s x home i (denotes.Constant t) m n h g = gives_is m n (sym h ∙ g)
   denoted_same u at s x home i (denotes.Parameter p) m n h g = gives_is m n (sym h ∙ g)
   denoted_same u at s x home i denotes.Procedure m n h g = gives_is m n (sym h ∙ g)
-  denoted_same u at s x home i denotes.Refinement m n h g = refined_same u at s (refinement_named s x) m n h g
+  denoted_same u at s x home i denotes.Refinement m n h g = used_same u at s (refinement_named s x) m n h g
 
   named_same : (u : Usage) (at : ℕ) (s : Scope) (x : List ℕ) (o : Option Found) (m n : Meant) → r.named j u at s x o ≡ gives m → r.named k u at s x o ≡ gives n → m ≡ n
   named_same u at s x None m n h g = gives_is m n (sym h ∙ g)
@@ -266,12 +195,12 @@ module _ (j k : Known) (below : Below j k) where
   rule_same (form.assignment a0 s0) ms m n h i = gives_is m n (sym h ∙ i)
   rule_same (form.counter a0) ms m n h i = gives_is m n (sym h ∙ i)
   rule_same (form.loop a0) ms m n h i = gives_is m n (sym h ∙ i)
-  rule_same form.empty ms m n h i = gives_is m n (sym h ∙ i)
   rule_same (form.leave a0 a1 a2) ms m n h i = leave_same a0 (left a1 a2) (one_of ms) m n h i
   rule_same form.without_value ms m n h i = gives_is m n (sym h ∙ i)
+  rule_same (form.must_deliver a0 a1) ms m n h i = gives_is m n (sym h ∙ i)
   rule_same form.units ms m n h i = gives_is m n (sym h ∙ i)
   rule_same (form.heading a0 a1 a2 a3 a4 a5) ms m n h i = gives_is m n (sym h ∙ i)
-  rule_same (form.body a0 a1 a2) ms m n h i = gives_is m n (sym h ∙ i)
+  rule_same (form.body a0 a1) ms m n h i = gives_is m n (sym h ∙ i)
   rule_same form.routine ms m n h i = gives_is m n (sym h ∙ i)
   rule_same (form.refinement a0) ms m n h i = gives_is m n (sym h ∙ i)
   rule_same form.level ms m n h i = gives_is m n (sym h ∙ i)

@@ -84,7 +84,7 @@ module _ (kn : Known) (s : Scope) (all : List Body) where
   plain_quiet q m e = let r = bind_gives (judged_all kn (part q none)) (rule kn form.without_value) m e in no_bodies_in r.0 m r.2
 
   unit_rows : (k : ℕ) (v : LevelUnit) (m : Meant) → judged kn (l.level_unit s k v) ≡ gives m → Inside k (u.bodies_in m) all → Rows kn s all k (b.unit_headings k v) (l.unit_bodies s k v) (u.bodies_in m)
-  unit_rows k (level.Plain v) m e h = subst (λ (bs : List Body). Rows kn s all k [] [] bs) (sym (plain_quiet (shape.unit s v) m e)) tt
+  unit_rows k (level.Plain v) m e h = subst (λ (bs : List Body). Rows kn s all k [] [] bs) (sym (plain_quiet (shape.written (shape.unit s v)) m e)) tt
   unit_rows k (level.Proc at r n fs w) m e h = routine_rows kn s all k n.at n.text r fs w Procedure (l.procedure_name s n fs) m (procedure_quiet kn s all n fs) e h
   unit_rows k (level.Op at r n fs w) m e h = routine_rows kn s all k n.at (operator_text n.operator) r fs w Operator [] m tt e h
   unit_rows k (level.NewType at n of) m e h = absurd cc

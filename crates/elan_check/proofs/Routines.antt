@@ -19,7 +19,9 @@ use Rattle.elan_scope.specs.declared.known.Known.{Known}
 use Rattle.elan_meant.specs.declared.meant.Meant.{Meant}
 use Rattle.elan_scope.specs.declared.trouble.Trouble.{Trouble}
 use Rattle.elan_scope.specs.Phrase as form
-use Rattle.elan_scope.specs.Phrase.{Phrase, all_of, around, leaf, last_place}
+use Rattle.elan_scope.specs.Known.{delivered}
+use Rattle.elan_scope.specs.declared.delivery.Delivery.{Delivery}
+use Rattle.elan_scope.specs.Phrase.{Phrase, all_of, around, leaf}
 use Rattle.elan_scope.specs.Answer.{Is}
 use Rattle.elan_rules.specs.Meaning.{judged, judged_all}
 use Rattle.elan_scope.specs.Ruled.{Ruled, gives, joined}
@@ -29,43 +31,8 @@ use Rattle.unit_rules.specs.Units as u
 use Rattle.elan_judge.specs.Shape as shape
 use Rattle.elan_levels.specs.Bodies.{parameters, result, body_names, bodies_in}
 use Rattle.elan_check.specs.Level as l
+pub use Rattle.elan_judge.proofs.Rows.{Grown, starts, grows, grows_all, ends, left_at, left_none}
 use Rattle.elan_judge.proofs.Rows.{row_is, one_is}
-
--- ---- a row that grows behind phrases: those that are judged, and those that are left
-
-pub record Grown (k : Known) (row : Result (List Meant) Trouble) (left whole : List Phrase) : Type 0 where
-  pub done : List Phrase
-  pub means : Is row (judged_all k (all_of done))
-  pub rest : done ++ left ≡ whole
-
-pub starts : (k : Known) (row : Result (List Meant) Trouble) (ps left : List Phrase) → Is row (judged_all k (all_of ps)) → Grown k row left (ps ++ left)
-starts k row ps left h = record { done = ps; means = h; rest = refl }
-
--- one phrase further
-pub grows : (k : Known) (row next : Result (List Meant) Trouble) (p : Phrase) (left whole : List Phrase) → (g : Grown k row (p ∷ left) whole) → Is next (joined (judged_all k (all_of g.done)) (judged k p)) → Grown k next left whole
-grows k row next p left whole g h = record {
-  done = g.done ++ p ∷ [];
-  means = row_is k next g.done p h;
-  rest = append_assoc g.done (p ∷ []) left ∙ g.rest;
-}
-
--- some phrases further
-pub grows_all : (k : Known) (row next : Result (List Meant) Trouble) (qs left whole : List Phrase) → (g : Grown k row (qs ++ left) whole) → Is next (judged_all k (all_of (g.done ++ qs))) → Grown k next left whole
-grows_all k row next qs left whole g h = record {
-  done = g.done ++ qs;
-  means = h;
-  rest = append_assoc g.done qs left ∙ g.rest;
-}
-
-pub ends : (k : Known) (row : Result (List Meant) Trouble) (whole : List Phrase) → Grown k row [] whole → Is row (judged_all k (all_of whole))
-ends k row whole g = subst (λ (ps : List Phrase). Is row (judged_all k (all_of ps))) (sym (append-nil g.done) ∙ g.rest) g.means
-
--- what is left, seen from the next element
-pub left_at : {X : Type 0} (F : List X → List Phrase) (k : Known) (row : Result (List Meant) Trouble) (xs : List X) (i : ℕ) (x : X) (whole : List Phrase) → i < length xs → x ≡ get_or xs i x → Grown k row (F (drop i xs)) whole → Grown k row (F (x ∷ drop (suc i) xs)) whole
-left_at F k row xs i x whole lt e g = subst (λ (ys : List Phrase). Grown k row ys whole) (ap F (drop-cons xs i x lt ∙ ap (λ y. y ∷ drop (suc i) xs) (sym e))) g
-
-pub left_none : {X : Type 0} (F : List X → List Phrase) (k : Known) (row : Result (List Meant) Trouble) (xs : List X) (i : ℕ) (whole : List Phrase) → length xs ≤ i → F [] ≡ [] → Grown k row (F (drop i xs)) whole → Is row (judged_all k (all_of whole))
-left_none F k row xs i whole le n g = ends k row whole (subst (λ (ys : List Phrase). Grown k row ys whole) (at_drop_all F xs i le ∙ n) g)
 
 -- what is said of a row and the next phrase
 abbrev Joins : Result (List Meant) Trouble → Result Meant Trouble → Result (List Meant) Trouble → Type 0
@@ -112,32 +79,32 @@ formals_go k row next s fs i f whole lt e g h =
 -- ---- PROCs and OPs
 
 -- the body of a PROC or OP, in its scope
-abbrev pub body_in : Scope → ℕ → Option TypePhrase → List Formal → Body → Phrase
-body_in s at r fs b = around (form.body (last_place at (map (shape.unit s) b.units)) (owner.Own (parameters fs) (l.own_types b)) (result r)) (shape.units true (map (shape.unit s) b.units))
+abbrev pub body_in : Scope → Option TypePhrase → List Formal → Body → Phrase
+body_in s r fs b = around (form.body (owner.Own (parameters fs) (l.own_types b)) (result r)) (shape.units (delivered (result r)) (map (shape.unit s) b.units))
 
 regroup : (ps qs : List Phrase) (p q : Phrase) (rs : List Phrase) → (ps ++ p ∷ []) ++ (qs ++ q ∷ rs) ≡ (ps ++ p ∷ qs) ++ q ∷ rs
 regroup ps qs p q rs = append_assoc ps (p ∷ []) (qs ++ q ∷ rs) ∙ sym (append_assoc ps (p ∷ qs) (q ∷ rs))
 
 -- what stands in its scope, behind phrases
-pub inside_goes : (k : Known) (row : Result (List Meant) Trouble) (ps : List Phrase) (s : Scope) (n m at : ℕ) (r : Option TypePhrase) (fs : List Formal) (b : Body) (rs : List Refinement) → m ≡ n + 1 → rs ≡ b.refinements →
-    Is row (judged_all k (all_of (((ps ++ l.declare_parameters s fs) ++ body_in s at r fs b ∷ []) ++ l.refinements s m rs))) → Is row (judged_all k (all_of (ps ++ l.inside s n at r fs b)))
-inside_goes k row ps s n m at r fs b rs em er h =
+pub inside_goes : (k : Known) (row : Result (List Meant) Trouble) (ps : List Phrase) (s : Scope) (n m : ℕ) (r : Option TypePhrase) (fs : List Formal) (b : Body) (rs : List Refinement) → m ≡ n + 1 → rs ≡ b.refinements →
+    Is row (judged_all k (all_of (((ps ++ l.declare_parameters s fs) ++ body_in s r fs b ∷ []) ++ l.refinements s m rs))) → Is row (judged_all k (all_of (ps ++ l.inside s n r fs b)))
+inside_goes k row ps s n m r fs b rs em er h =
     let qs = l.declare_parameters s fs in
-    let q = body_in s at r fs b in
+    let q = body_in s r fs b in
     let number : m ≡ suc n = omega (arith, em) in
     let left : l.refinements s m rs ≡ l.refinements s (suc n) b.refinements = ap (λ (j : ℕ). l.refinements s j rs) number ∙ ap (λ (vs : List Refinement). l.refinements s (suc n) vs) er in
     subst (λ (all : List Phrase). Is row (judged_all k (all_of all)))
     (ap (λ (vs : List Phrase). ((ps ++ qs) ++ q ∷ []) ++ vs) left
     ∙ append_assoc (ps ++ qs) (q ∷ []) (l.refinements s (suc n) b.refinements) ∙ append_assoc ps qs (q ∷ l.refinements s (suc n) b.refinements)) h
 
-pub body_is : (k : Known) (s : Scope) (at a : ℕ) (o o' : Owner) (r r' : Option ElanType) (us us' : List Statement) (m : Meant) (out : Result Meant Trouble) → us' ≡ us → judged k (shape.units true (map (shape.unit s) us')) ≡ gives m →
-    a ≡ last_place at (map (shape.unit s) us') → o' ≡ o → r' ≡ r → Is out (u.body a o' r' m) → Is out (judged k (around (form.body (last_place at (map (shape.unit s) us)) o r) (shape.units true (map (shape.unit s) us))))
-body_is k s at a o o' r r' us us' m out eu e ea eo er h =
-    let place = last_place at (map (shape.unit s) us) in
-    one_is k (form.body place o r) (shape.units true (map (shape.unit s) us)) out m (subst (λ (vs : List Statement). judged k (shape.units true (map (shape.unit s) vs)) ≡ gives m) eu e)
-    (subst (λ (x : Option ElanType). Is out (u.body place o x m)) er
-    (subst (λ (x : Owner). Is out (u.body place x r' m)) eo
-    (subst (λ (x : ℕ). Is out (u.body x o' r' m)) (ea ∙ ap (λ (vs : List Statement). last_place at (map (shape.unit s) vs)) eu) h)))
+pub body_is : (k : Known) (s : Scope) (o o' : Owner) (r r' : Option ElanType) (d : Delivery) (us us' : List Statement) (m : Meant) (out : Result Meant Trouble) → us' ≡ us → d ≡ delivered r → judged k (shape.units d (map (shape.unit s) us')) ≡ gives m →
+    o' ≡ o → r' ≡ r → Is out (gives (u.body_with o' (u.content_as r' m))) → Is out (judged k (around (form.body o r) (shape.units (delivered r) (map (shape.unit s) us))))
+body_is k s o o' r r' d us us' m out eu ed e eo er h =
+    let here : judged k (shape.units (delivered r) (map (shape.unit s) us)) ≡ gives m =
+    subst (λ (vs : List Statement). judged k (shape.units (delivered r) (map (shape.unit s) vs)) ≡ gives m) eu (subst (λ (c : Delivery). judged k (shape.units c (map (shape.unit s) us')) ≡ gives m) ed e) in
+    one_is k (form.body o r) (shape.units (delivered r) (map (shape.unit s) us)) out m here
+    (subst (λ (x : Option ElanType). Is out (gives (u.body_with o (u.content_as x m)))) er
+    (subst (λ (x : Owner). Is out (gives (u.body_with x (u.content_as r' m)))) eo h))
 
 pub heading_is : (k : Known) (s : Scope) (at : ℕ) (sort : Sort) (x : List ℕ) (ps ps' : List Parameter) (b b' : Bool) (out : Result Meant Trouble) → ps' ≡ ps → b' ≡ b →
     Is out (calls.headed at b' (first_heading (is_alike sort x (types_of ps')) s.headings)) → Is out (judged k (leaf (form.heading at s sort x ps b)))
@@ -161,9 +128,9 @@ module _ (k : Known) (row : Result (List Meant) Trouble) (s : Scope) (n at : ℕ
   abbrev pub headed : Phrase
   headed = form.leaf (form.heading at s sort x (parameters fs) (l.is_missing (result r) (l.body_units s n at x r fs b)))
 
-  pub routine_row : (z : Scope) → z ≡ l.routine_scope s n (body_names fs b) → Is row (judged_all k (all_of ((ps ++ headed ∷ []) ++ l.inside z n at r fs b))) →
+  pub routine_row : (z : Scope) → z ≡ l.routine_scope s n (body_names fs b) → Is row (judged_all k (all_of ((ps ++ headed ∷ []) ++ l.inside z n r fs b))) →
       Is row (judged_all k (all_of (l.heading_phrases s n at x r fs b sort ps ++ l.body_phrases s n at x r fs b)))
   routine_row z e h =
       let inner = l.routine_scope s n (body_names fs b) in
-      let here : Is row (judged_all k (all_of ((ps ++ headed ∷ []) ++ l.inside inner n at r fs b))) = subst (λ (y : Scope). Is row (judged_all k (all_of ((ps ++ headed ∷ []) ++ l.inside y n at r fs b)))) e h in
+      let here : Is row (judged_all k (all_of ((ps ++ headed ∷ []) ++ l.inside inner n r fs b))) = subst (λ (y : Scope). Is row (judged_all k (all_of ((ps ++ headed ∷ []) ++ l.inside y n r fs b)))) e h in
       subst (λ (qs : List Phrase). Is row (judged_all k (all_of qs))) (regroup ps (l.declare_parameters inner fs) headed (l.own_body s n at x r fs b) (l.refinements inner (suc n) b.refinements)) here

@@ -1,5 +1,5 @@
 -- As many steps as there are bodies find out what all refinements deliver whose last units have a meaning.
-use Rattle.std.proofs.Common.{◌≡◌, ℕ, zero, suc, ◌+◌, ◌≤◌, true, List, [], ◌∷◌, map, length, Option, Some, None, refl, sym, ap, subst, ◌∙◌, ◌⊎◌, inl, inr, arith}
+use Rattle.std.proofs.Common.{◌≡◌, ℕ, zero, suc, ◌+◌, ◌≤◌, List, [], ◌∷◌, map, length, Option, Some, None, refl, sym, ap, subst, ◌∙◌, ◌⊎◌, inl, inr, arith}
 use Rattle.std.specs.Prelude.{slice_get, slice_index_or}
 use Rattle.elan_types.specs.declared.elan_type.ElanType.{ElanType}
 use Rattle.elan_scope.specs.declared.delivery.Delivery.{Delivery}
@@ -247,7 +247,7 @@ module _ (hs : List Heading) (us : List Phrase) where
     earlier_is j (Some p) m d b e f l = outcome_is j p m l.0 (judged (K j) p) d refl b e f l.1 l.2
 
     -- a refinement delivers what its units deliver
-    pub refinement_found : (ps : List Phrase) (m : Meant) → told h.what ≡ Open → u ≡ units true ps → judged (K N) u ≡ gives m → delivery_at (K N) i ≡ delivery_of m
+    pub refinement_found : (ps : List (Option Phrase)) (m : Meant) → told h.what ≡ Open → u ≡ units Open ps → judged (K N) u ≡ gives m → delivery_at (K N) i ≡ delivery_of m
     refinement_found ps m untold is e =
         let f = from N in
         at_index (D N) i f.0 f.1 ∙ by_delivery f.0 f.1 f.2

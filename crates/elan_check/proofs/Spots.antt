@@ -14,7 +14,7 @@ use Rattle.elan_tree.specs.declared.tree.Refinement.{Refinement as Refined}
 use Rattle.elan_tree.specs.declared.tree.Level.{Level}
 use Rattle.elan_tree.specs.declared.tree.LevelUnit.{LevelUnit}
 use Rattle.elan_tree.specs.declared.tree.LevelUnit.TheVariants as level
-use Rattle.elan_scope.specs.declared.delivery.Delivery.TheVariants.{Open}
+use Rattle.elan_scope.specs.declared.delivery.Delivery.TheVariants.{Open, Nothing}
 use Rattle.elan_scope.specs.declared.heading.Sort.{Sort}
 use Rattle.elan_scope.specs.declared.heading.Sort.TheVariants.{Procedure, Operator}
 use Rattle.elan_scope.specs.declared.heading.What.TheVariants.{Routine}
@@ -24,9 +24,9 @@ use Rattle.elan_levels.specs.Bodies as b
 use Rattle.elan_levels.specs.Bodies.{headings, parameters, result}
 use Rattle.elan_unbuilt.specs.Operators.{operator_text}
 use Rattle.elan_scope.specs.Phrase as form
-use Rattle.elan_scope.specs.Phrase.{Form, Phrase, phrase, Parts, none, part, all_of, around, leaf, last_place}
+use Rattle.elan_scope.specs.Phrase.{Form, Phrase, phrase, Parts, none, part, all_of, leaf}
 use Rattle.elan_scope.specs.Ruled.{Ruled, hangs}
-use Rattle.elan_scope.specs.Known.{delivery_at, leads_back}
+use Rattle.elan_scope.specs.Known.{delivered, delivery_at, leads_back}
 use Rattle.elan_scope.specs.declared.known.Known.{Known}
 use Rattle.elan_rules.specs.Rules.{rule}
 use Rattle.elan_judge.specs.Shape as shape
@@ -100,7 +100,7 @@ module _ (kn : Known) (s : Scope) where
       let d = before_faultless kn (judged kn (l.refined_units z k r)) (judged_all kn none) c.1 in (
         record {
           scope = l.refinement_scope z k;
-          in_scope = body_units_in (l.refinement_scope z k) true r.units;
+          in_scope = body_units_in (l.refinement_scope z k) Open r.units;
           headings = hh;
           stands = λ e. refl;
           faultless = d.0;
@@ -160,7 +160,7 @@ module _ (kn : Known) (s : Scope) where
   refinements_lead z k [] hh = tt
   refinements_lead z k (r ∷ rs) hh = (
     λ e. phrase_hangs (form.refinement (l.owner_of z.routine)) (l.declares z r.name ∷ l.refined_units z k r ∷ []) tt
-        (declares_lead z r.name, ((λ i. (l.refinement_scope z k, l.refined_units z k r, body_units_in (l.refinement_scope z k) true r.units, hh, i)), tt)) e,
+        (declares_lead z r.name, ((λ i. (l.refinement_scope z k, l.refined_units z k r, body_units_in (l.refinement_scope z k) Open r.units, hh, i)), tt)) e,
     refinements_lead z (suc k) rs hh,
   )
 
@@ -175,11 +175,11 @@ module _ (kn : Known) (s : Scope) where
         let g = bind_faultless kn (judged_all kn (all_of (l.heading_phrases s k at x t fs w sort names ++ l.body_phrases s k at x t fs w))) (rule kn form.routine) f in
         let h = split (l.heading_phrases s k at x t fs w sort names) (l.body_phrases s k at x t fs w) g in
         let a = before_faultless kn (judged kn (l.own_body s k at x t fs w)) (judged_all kn (all_of (l.refinements inner (suc k) w.refinements))) h.1 in
-        let c = bind_faultless kn (judged_all kn (part (l.own_units s k at x t fs w) none)) (rule kn (form.body (last_place at (l.body_units s k at x t fs w)) (own_owner) (result t))) a.0 in
+        let c = bind_faultless kn (judged_all kn (part (l.own_units s k at x t fs w) none)) (rule kn (form.body own_owner (result t))) a.0 in
         let d = before_faultless kn (judged kn (l.own_units s k at x t fs w)) (judged_all kn none) c in (
           record {
             scope = inner;
-            in_scope = body_units_in inner true w.units;
+            in_scope = body_units_in inner (delivered (result t)) w.units;
             headings = refl;
             stands = told_never sort (result t) (parameters fs) k inner;
             faultless = d.0;
@@ -195,7 +195,7 @@ module _ (kn : Known) (s : Scope) where
         phrase_hangs form.routine (l.heading_phrases s k at x t fs w sort names ++ l.body_phrases s k at x t fs w) tt
         (lead_append (l.heading_phrases s k at x t fs w sort names) (l.body_phrases s k at x t fs w)
         (lead_append names (heading_leaf ∷ l.declare_parameters inner fs) h ((λ i. phrase_hangs heading_form [] tt tt i), parameters_lead inner fs))
-        ((λ i. phrase_hangs body_form (l.own_units s k at x t fs w ∷ []) tt ((λ j. (inner, l.own_units s k at x t fs w, body_units_in inner true w.units, refl, j)), tt) i), refinements_lead inner (suc k) w.refinements refl)) e
+        ((λ i. phrase_hangs body_form (l.own_units s k at x t fs w ∷ []) tt ((λ j. (inner, l.own_units s k at x t fs w, body_units_in inner (delivered (result t)) w.units, refl, j)), tt) i), refinements_lead inner (suc k) w.refinements refl)) e
       where
         heading_form : Form
         heading_form = form.heading at s sort x (parameters fs) (l.is_missing (result t) (l.body_units s k at x t fs w))
@@ -204,7 +204,7 @@ module _ (kn : Known) (s : Scope) where
         heading_leaf = leaf heading_form
 
         body_form : Form
-        body_form = form.body (last_place at (l.body_units s k at x t fs w)) (owner.Own (parameters fs) (l.own_types w)) (result t)
+        body_form = form.body (owner.Own (parameters fs) (l.own_types w)) (result t)
 
   -- ---- units
 
@@ -231,7 +231,7 @@ module _ (kn : Known) (s : Scope) where
       spots_append k (k + b.bodies_in v) (b.unit_headings k v) (b.all_headings (k + b.bodies_in v) vs) (l.unit_bodies s k v) (l.all_unit_bodies s (k + b.bodies_in v) vs) (ap (λ (n : ℕ). k + n) (sym (headings_count k v))) (unit_spots k v g.0) (units_spots (k + b.bodies_in v) vs g.1)
 
   unit_lead : (k : ℕ) (v : LevelUnit) → judged kn (l.level_unit s k v) ≡ hangs → HangsIn
-  unit_lead k (level.Plain v) e = (s, around form.without_value (shape.unit s v), statement_in s false v, refl, e)
+  unit_lead k (level.Plain v) e = (s, shape.role Nothing (shape.written (shape.unit s v)), statement_in s Nothing v, refl, e)
   unit_lead k (level.Proc at r n fs w) e = routine_lead k n.at n.text r fs w Procedure (l.procedure_name s n fs) (procedure_lead n fs) e
   unit_lead k (level.Op at r n fs w) e = routine_lead k n.at (operator_text n.operator) r fs w Operator [] tt e
   unit_lead k (level.NewType at n of) e = absurd cc

@@ -1,7 +1,8 @@
 -- What is found out of one body after another is what a step finds out of all of them.
-use Rattle.std.proofs.Common.{◌≡◌, ℕ, zero, suc, ◌+◌, ◌-◌, ◌≤◌, ◌<◌, get_or, drop, List, [], ◌∷◌, ◌++◌, map, length, true, Option, Some, None, Result, Ok, Err, refl, sym, ap, ◌∙◌, arith, append_assoc}
+use Rattle.std.proofs.Common.{◌≡◌, ℕ, zero, suc, ◌+◌, ◌-◌, ◌≤◌, ◌<◌, get_or, drop, List, [], ◌∷◌, ◌++◌, map, length, Option, Some, None, Result, Ok, Err, refl, sym, ap, ◌∙◌, arith, append_assoc}
 use Rattle.std.specs.Prelude.{slice_index_or, OnOk}
 use Rattle.std.proofs.lemmas.List.{append-nil, at_drop_more, at_drop_all}
+use Rattle.elan_tree.specs.declared.written_type.TypePhrase.{TypePhrase}
 use Rattle.elan_tree.specs.declared.written_type.Formal.{Formal}
 use Rattle.elan_tree.specs.declared.tree.Body.{Body}
 use Rattle.elan_tree.specs.declared.tree.Refinement.{Refinement as Refined}
@@ -13,7 +14,7 @@ use Rattle.elan_scope.specs.declared.delivery.Delivery.TheVariants.{Open}
 use Rattle.elan_scope.specs.declared.heading.Heading.{Heading}
 use Rattle.elan_scope.specs.declared.known.Known.{Known}
 use Rattle.elan_scope.specs.declared.scope.Scope.{Scope}
-use Rattle.elan_scope.specs.Known.{delivery_at}
+use Rattle.elan_scope.specs.Known.{delivered, delivery_at}
 use Rattle.elan_scope.specs.Phrase.{Phrase}
 use Rattle.elan_levels.specs.Bodies as b
 use Rattle.elan_check.specs.Level as l
@@ -218,13 +219,13 @@ module _ (k : Known) where
   units_found s vs i n out whole le h = sym (at_drop_all (λ ys. all_known k out n (l.all_unit_bodies s n ys)) vs i le) ∙ h
 
   -- a PROC or OP, in whose scope its body is looked at
-  pub routine_found : (s z : Scope) (n m : ℕ) (fs : List Formal) (w : Body) (out first new : Known) → z ≡ l.routine_scope s n (b.body_names fs w) → m ≡ n + 1 →
-      first ≡ more_known k out n (units true (map (unit z) w.units)) → new ≡ all_known k first m (l.all_refined_units z m w.refinements) → new ≡ all_known k out n (l.inside_units s n fs w)
-  routine_found s z n m fs w out first new ez em ef en =
+  pub routine_found : (s z : Scope) (n m : ℕ) (r : Option TypePhrase) (fs : List Formal) (w : Body) (out first new : Known) → z ≡ l.routine_scope s n (b.body_names fs w) → m ≡ n + 1 →
+      first ≡ more_known k out n (units (delivered (b.result r)) (map (unit z) w.units)) → new ≡ all_known k first m (l.all_refined_units z m w.refinements) → new ≡ all_known k out n (l.inside_units s n r fs w)
+  routine_found s z n m r fs w out first new ez em ef en =
       let next_number : m ≡ suc n = omega (arith, em) in
       en ∙ ap (λ (j : ℕ). all_known k first j (l.all_refined_units z j w.refinements)) next_number
       ∙ ap (λ (o : Known). all_known k o (suc n) (l.all_refined_units z (suc n) w.refinements)) ef
-      ∙ ap (λ (y : Scope). all_known k (more_known k out n (units true (map (unit y) w.units))) (suc n) (l.all_refined_units y (suc n) w.refinements)) ez
+      ∙ ap (λ (y : Scope). all_known k (more_known k out n (units (delivered (b.result r)) (map (unit y) w.units))) (suc n) (l.all_refined_units y (suc n) w.refinements)) ez
 
   pub level_found : (w : Level) (s z : Scope) (m : ℕ) (first new : Known) → s ≡ l.level_scope w → z ≡ s → m ≡ b.bodies_of_units w.units →
       first ≡ all_known k nothing_known 0 (l.all_unit_bodies s 0 w.units) → new ≡ all_known k first m (l.all_refined_units z m w.refinements) → new ≡ all_known k nothing_known 0 (l.level_bodies w)

@@ -19,7 +19,7 @@ use Rattle.elan_tree.specs.declared.tree.LevelUnit.TheVariants as level
 use Rattle.elan_tree.specs.declared.tree.Tree.{Tree}
 use Rattle.elan_types.specs.declared.env.Env.{Env}
 use Rattle.elan_scope.specs.declared.delivery.Delivery.{Delivery}
-use Rattle.elan_scope.specs.declared.delivery.Delivery.TheVariants.{Open}
+use Rattle.elan_scope.specs.declared.delivery.Delivery.TheVariants.{Open, Nothing}
 use Rattle.elan_scope.specs.declared.scope.Entry.{Entry}
 use Rattle.elan_scope.specs.declared.heading.Sort.{Sort}
 use Rattle.elan_scope.specs.declared.heading.Sort.TheVariants.{Procedure, Operator}
@@ -60,25 +60,9 @@ use Rattle.elan_check.proofs.LevelRows.{units_rows, rows_count, all_count, insid
 
 -- ---- what a body delivers
 
-without_result : (m : Meant) (c : Content) → u.without m ≡ Some c → result_of_content c ≡ None
-without_result Absent c e = let h : u.content_of Absent ≡ c = cc in ap result_of_content (sym h)
-without_result (Value at t v x) c e = absurd cc
-without_result (Done as') c e = let h : u.content_of (Done as') ≡ c = cc in ap result_of_content (sym h)
-without_result (Left as') c e = let h : u.content_of (Left as') ≡ c = cc in ap result_of_content (sym h)
-without_result (Labels ns) c e = let h : u.content_of (Labels ns) ≡ c = cc in ap result_of_content (sym h)
-without_result (Branches gs) c e = let h : u.content_of (Branches gs) ≡ c = cc in ap result_of_content (sym h)
-without_result (Arms ls) c e = let h : u.content_of (Arms ls) ≡ c = cc in ap result_of_content (sym h)
-without_result (Counter k) c e = let h : u.content_of (Counter k) ≡ c = cc in ap result_of_content (sym h)
-without_result (Bodies bs) c e = let h : u.content_of (Bodies bs) ≡ c = cc in ap result_of_content (sym h)
-without_result (Level us bs) c e = let h : u.content_of (Level us bs) ≡ c = cc in ap result_of_content (sym h)
-
-with_result : (t : ElanType) (o : Option ValuePhrase) (c : Content) → u.with_value t o ≡ Some c → result_of_content c ≡ Some t
-with_result t None c e = absurd cc
-with_result t (Some v) c e = let h : content.Value t v ≡ c = cc in ap result_of_content (sym h)
-
-content_result : (o : Option ElanType) (m : Meant) (c : Content) → u.content_as o m ≡ Some c → result_of_content c ≡ o
-content_result None m c e = without_result m c e
-content_result (Some t) m c e = with_result t (u.value_as t m) c e
+content_result : (o : Option ElanType) (m : Meant) (c : Content) → c ≡ u.content_as o m → result_of_content c ≡ o
+content_result None m c e = ap result_of_content e
+content_result (Some t) m c e = ap result_of_content e
 
 headed_of : (w : What) (m : Meant) (c : Body) → Made w m c → Headed w c
 headed_of (Routine sort ps r) m c h = (h.0, h.1, content_result r m c.content h.2)
@@ -175,12 +159,12 @@ module _ (w : Written) (us : List Action) (all : List Body) where
       let z : 0 + n ≡ n = omega arith in
       (r.0, r.1, r.2, r.3, subst (λ (m : ℕ). Row kn s all m h r.0 r.1) z r.4)
 
-  delivers_as : (n : ℕ) (h : Heading) (q : Phrase) (c : Body) (m : Meant) (list : List Phrase) (what : What) → h.what ≡ what → slice_get hs n ≡ Some h → slice_get ps n ≡ Some q → judged kn q ≡ gives m → q ≡ shape.units true list → Made what m c → Delivering (delivery_at kn n) c
+  delivers_as : (n : ℕ) (h : Heading) (q : Phrase) (c : Body) (m : Meant) (list : List (Option Phrase)) (what : What) → h.what ≡ what → slice_get hs n ≡ Some h → slice_get ps n ≡ Some q → judged kn q ≡ gives m → q ≡ shape.units (told h.what) list → Made what m c → Delivering (delivery_at kn n) c
   delivers_as n h q c m list (Routine sort params r) e i j g is made =
       let known : delivery_at kn n ≡ told (Routine sort params r) = told_found hs ps n h q i j (λ o. told_known sort params r (ap told (sym e) ∙ o)) ∙ ap told e in
       subst (λ (d : Delivery). Delivering d c) (told_routine sort params r ∙ sym known) (told_delivers r c (content_result r m c.content made.2))
   delivers_as n h q c m list (Refinement home) e i j g is made =
-      subst (λ (d : Delivery). Delivering d c) (sym (refinement_found hs ps n h q i j list m (ap told e) is g)) (content_delivers m c made.1)
+      subst (λ (d : Delivery). Delivering d c) (sym (refinement_found hs ps n h q i j list m (ap told e) (is ∙ ap (λ (d : Delivery). shape.units d list) (ap told e)) g)) (content_delivers m c made.1)
 
   bodies_fit : Rows kn s all 0 hs ps all → (n : ℕ) (h : Heading) → slice_get hs n ≡ Some h → BodyFits (slice_get all n) h (delivery_at kn n)
   bodies_fit rs n h e =
@@ -255,16 +239,8 @@ module _ (w : Written) (us : List Action) (all : List Body) where
 
   -- ---- the content of bodies
 
-  abbrev ContentGood : Stand → Option Content → Type 0
-  ContentGood here None = Unit {0}
-  ContentGood here (Some c) = is_content_typed here.variables here.bodies here.home c ≡ true
-
   content_typed : (n : ℕ) (what : What) (m : Meant) (c : Body) → Made what m c → ty.Good (stand n) m → is_content_typed vs all (Some n) c.content ≡ true
-  content_typed n (Routine sort params r) m c made g = routine_typed (u.content_as r m) made.2 (content_as_good (stand n) r m g)
-    where
-      routine_typed : (o : Option Content) → o ≡ Some c.content → ContentGood (stand n) o → is_content_typed vs all (Some n) c.content ≡ true
-      routine_typed None e h = absurd cc
-      routine_typed (Some d) e h = let f : d ≡ c.content = cc in subst (λ (x : Content). is_content_typed vs all (Some n) x ≡ true) f h
+  content_typed n (Routine sort params r) m c made g = subst (λ (x : Content). is_content_typed vs all (Some n) x ≡ true) (sym made.2) (content_as_good (stand n) r m g)
   content_typed n (Refinement home) m c made g = subst (λ (x : Content). is_content_typed vs all (Some n) x ≡ true) (sym made.1) (content_of_good (stand n) m g)
 
   body_typed : Rows kn s all 0 hs ps all → (n : ℕ) (c : Body) → slice_get all n ≡ Some c → is_content_typed vs all (Some n) c.content ≡ true
@@ -310,7 +286,7 @@ module _ (w : Written) (us : List Action) (all : List Body) where
   bodies_typed m bs e = subst (λ (n : Meant). AllTyped (p.actions n)) (gives_is (Bodies bs) m e) refl
 
   unit_typed : Fits level_stand s kn → (k : ℕ) (v : LevelUnit) (m : Meant) → judged kn (l.level_unit s k v) ≡ gives m → AllTyped (p.actions m)
-  unit_typed f k (level.Plain v) m e = ty.actions_typed level_stand m (good level_stand s kn f (around form.without_value (shape.unit s v)) m (statement_in s false v) e)
+  unit_typed f k (level.Plain v) m e = ty.actions_typed level_stand m (good level_stand s kn f (shape.role Nothing (shape.written (shape.unit s v))) m (statement_in s Nothing v) e)
   unit_typed f k (level.Proc at r n fs x) m e = let q = bind_gives (judged_all kn (all_of (l.heading_phrases s k n.at n.text r fs x Procedure (l.procedure_name s n fs) ++ l.body_phrases s k n.at n.text r fs x))) (rule kn form.routine) m e in bodies_typed m (u.bodies_of q.0) q.2
   unit_typed f k (level.Op at r n fs x) m e = let q = bind_gives (judged_all kn (all_of (l.heading_phrases s k n.at (operator_text n.operator) r fs x Operator [] ++ l.body_phrases s k n.at (operator_text n.operator) r fs x))) (rule kn form.routine) m e in bodies_typed m (u.bodies_of q.0) q.2
   unit_typed f k (level.NewType at n of) m e = absurd cc

@@ -22,8 +22,10 @@ use Rattle.elan_scope.specs.declared.scope.Within.{Within}
 use Rattle.elan_levels.specs.Bodies.{parameters, result, own_names, body_names, level_names, headings, bodies_in, bodies_of_units}
 use Rattle.elan_unbuilt.specs.Operators.{operator_text}
 use Rattle.elan_scope.specs.Phrase as form
-use Rattle.elan_scope.specs.Phrase.{Phrase, phrase, Parts, none, part, leaf, around, pair, all_of, all_empty, last_place}
-use Rattle.elan_judge.specs.Shape.{unit, units}
+use Rattle.elan_scope.specs.Known.{delivered}
+use Rattle.elan_scope.specs.declared.delivery.Delivery.TheVariants.{Open, Nothing}
+use Rattle.elan_scope.specs.Phrase.{Phrase, phrase, Parts, none, part, leaf, around, pair, all_of}
+use Rattle.elan_judge.specs.Shape.{written, role, unit, units, all_empty}
 
 -- ---- scopes
 
@@ -60,7 +62,7 @@ module _ (s : Scope) where
 
   -- the units of the refinement with this number
   abbrev pub refined_units : ℕ → Refinement → Phrase
-  refined_units k r = units true (map (unit (refinement_scope s k)) r.units)
+  refined_units k r = units Open (map (unit (refinement_scope s k)) r.units)
 
   abbrev pub refinement : ℕ → Refinement → Phrase
   refinement k r = pair (form.refinement (owner_of s.routine)) (declares r.name) (refined_units k r)
@@ -84,7 +86,7 @@ abbrev pub procedure_name : Scope → Name → List Formal → List Phrase
 procedure_name s n [] = declares s n ∷ []
 procedure_name s n (f ∷ fs) = []
 
-abbrev pub is_missing : Option ElanType → List Phrase → Bool
+abbrev pub is_missing : Option ElanType → List (Option Phrase) → Bool
 is_missing None us = false
 is_missing (Some t) us = all_empty us
 
@@ -92,14 +94,15 @@ module _ (s : Scope) (k : ℕ) (at : ℕ) (x : List ℕ) (r : Option TypePhrase)
   abbrev pub inner : Scope
   inner = routine_scope s k (body_names fs b)
 
-  abbrev pub body_units : List Phrase
+  abbrev pub body_units : List (Option Phrase)
   body_units = map (unit inner) b.units
 
+  -- Its last unit delivers what it has to deliver.
   abbrev pub own_units : Phrase
-  own_units = units true body_units
+  own_units = units (delivered (result r)) body_units
 
   abbrev pub own_body : Phrase
-  own_body = around (form.body (last_place at body_units) (owner.Own (parameters fs) (own_types b)) (result r)) own_units
+  own_body = around (form.body (owner.Own (parameters fs) (own_types b)) (result r)) own_units
 
   -- its heading, and its parameters
   abbrev pub heading_phrases : Sort → List Phrase → List Phrase
@@ -118,23 +121,23 @@ module _ (s : Scope) (k : ℕ) (at : ℕ) (x : List ℕ) (r : Option TypePhrase)
   routine_units = own_units ∷ all_refined_units inner (suc k) b.refinements
 
 -- what stands in the scope of a PROC or OP: its parameters, its body, and its refinements
-abbrev pub inside : Scope → ℕ → ℕ → Option TypePhrase → List Formal → Body → List Phrase
-inside s k at r fs b =
+abbrev pub inside : Scope → ℕ → Option TypePhrase → List Formal → Body → List Phrase
+inside s k r fs b =
     declare_parameters s fs
-    ++ around (form.body (last_place at (map (unit s) b.units)) (owner.Own (parameters fs) (own_types b)) (result r)) (units true (map (unit s) b.units))
+    ++ around (form.body (owner.Own (parameters fs) (own_types b)) (result r)) (units (delivered (result r)) (map (unit s) b.units))
     ∷ refinements s (suc k) b.refinements
 
 -- the units of its body, and of its refinements
-abbrev pub inside_units : Scope → ℕ → List Formal → Body → List Phrase
-inside_units s k fs b =
-    units true (map (unit (routine_scope s k (body_names fs b))) b.units) ∷ all_refined_units (routine_scope s k (body_names fs b)) (suc k) b.refinements
+abbrev pub inside_units : Scope → ℕ → Option TypePhrase → List Formal → Body → List Phrase
+inside_units s k r fs b =
+    units (delivered (result r)) (map (unit (routine_scope s k (body_names fs b))) b.units) ∷ all_refined_units (routine_scope s k (body_names fs b)) (suc k) b.refinements
 
 -- ---- the level
 
 module _ (s : Scope) where
   -- a unit whose first body has this number
   abbrev pub level_unit : ℕ → LevelUnit → Phrase
-  level_unit k (level.Plain u) = around form.without_value (unit s u)
+  level_unit k (level.Plain u) = role Nothing (written (unit s u))
   level_unit k (level.Proc at r n fs b) = routine s k n.at n.text r fs b Procedure (procedure_name s n fs)
   level_unit k (level.Op at r n fs b) = routine s k n.at (operator_text n.operator) r fs b Operator []
   level_unit k (level.NewType at n of) = leaf form.not_built

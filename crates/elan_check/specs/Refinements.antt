@@ -1,5 +1,5 @@
 -- What bodies deliver. A refinement delivers what its last unit delivers.
-use Rattle.std.specs.Prelude.{ℕ, zero, suc, List, [], ◌∷◌, ◌++◌, map, length, Option, Some, None, if◌then◌else◌}
+use Rattle.std.specs.Prelude.{ℕ, zero, suc, List, [], ◌∷◌, ◌++◌, map, length, Option, Some, None}
 use Rattle.elan_scope.specs.declared.delivery.Delivery.{Delivery}
 use Rattle.elan_scope.specs.declared.delivery.Delivery.TheVariants.{Open, Nothing, Of}
 use Rattle.elan_scope.specs.declared.heading.What.{What}
@@ -7,20 +7,21 @@ use Rattle.elan_scope.specs.declared.heading.What.TheVariants.{Routine, Refineme
 use Rattle.elan_scope.specs.declared.heading.Heading.{Heading}
 use Rattle.elan_meant.specs.declared.meant.Meant.{Meant}
 use Rattle.elan_meant.specs.declared.meant.Meant.TheVariants.{Value}
-use Rattle.elan_scope.specs.Known.{delivery_at}
+use Rattle.elan_scope.specs.Known.{delivered, delivery_at}
+use Rattle.elan_scope.specs.declared.scope.Usage.TheVariants.{Expression}
 use Rattle.elan_scope.specs.Scope.{refinement_named}
 use Rattle.elan_levels.specs.Uses.{number_list}
 use Rattle.elan_scope.specs.Phrase as form
-use Rattle.elan_scope.specs.Phrase.{Form, Phrase, phrase, Parts, none, part, is_empty}
+use Rattle.elan_scope.specs.Phrase.{Form, Phrase, phrase, Parts, none, part}
 use Rattle.elan_scope.specs.Ruled.{Ruled, gives, breaks, hangs}
 use Rattle.elan_scope.specs.declared.known.Known.{Known}
 use Rattle.elan_rules.specs.Meaning.{judged, phrases}
 
 -- ---- calls
 
--- the refinement that a phrase calls, or that it names as a counter
+-- the refinement that a phrase calls
 abbrev pub called_by : Phrase → List ℕ
-called_by (phrase (form.named u at s x) ps) = number_list (refinement_named s x)
+called_by (phrase (form.named Expression at s x) ps) = number_list (refinement_named s x)
 called_by p = []
 
 abbrev pub called_by_all : List Phrase → List ℕ
@@ -35,21 +36,21 @@ called_in p = called_by_all (phrases p)
 
 -- what a heading tells
 abbrev pub told : What → Delivery
-told (Routine sort ps None) = Nothing
-told (Routine sort ps (Some t)) = Of t
+told (Routine sort ps r) = delivered r
 told (Refinement home) = Open
 
 abbrev pub told_by : List Heading → List Delivery
 told_by [] = []
 told_by (h ∷ hs) = told h.what ∷ told_by hs
 
-abbrev pub last_unit_in : Option Phrase → Parts → Option Phrase
-last_unit_in o none = o
-last_unit_in o (part p ps) = last_unit_in (if is_empty p then o else Some p) ps
+abbrev pub last_part : Parts → Option Phrase
+last_part none = None
+last_part (part p none) = Some p
+last_part (part p (part q ps)) = last_part (part q ps)
 
--- the last unit that is not empty
+-- the last unit of a list
 abbrev pub last_unit : Phrase → Option Phrase
-last_unit (phrase form ps) = last_unit_in None ps
+last_unit (phrase form ps) = last_part ps
 
 -- what a phrase delivers, as far as it has a meaning
 abbrev pub delivery_of : Meant → Delivery

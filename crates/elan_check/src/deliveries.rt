@@ -1,6 +1,7 @@
 //! What bodies deliver: a refinement delivers what its last unit delivers, which is found out in steps.
 
-ghost use Rattle.std.specs.Prelude.{◌≡◌, ◌++◌, map, option_map, None, true, IfOk, OnOk};
+ghost use Rattle.std.specs.Prelude.{◌≡◌, ◌++◌, map, option_map, None, IfOk, OnOk};
+ghost use Rattle.elan_scope.specs.declared.delivery.Delivery.{Delivery as Wanted};
 ghost use Rattle.elan_scope.specs.declared.scope.Scope.{Scope};
 ghost use Rattle.elan_meant.specs.declared.meant.Meant.{Meant};
 ghost use Rattle.elan_scope.specs.Ruled.{Ruled};
@@ -11,9 +12,10 @@ ghost use Rattle.elan_check.specs.Level as level_spec;
 ghost use Rattle.elan_check.specs.Refinements as spec;
 ghost use Rattle.elan_judge.specs.Shape as shape;
 
-use elan_judge::judge::{is_empty, judge_unit};
+use elan_judge::judge::judge_role;
+use elan_judge::role::is_empty;
 use elan_levels::bodies::body_names;
-use elan_levels::heading::{first_refinement, next_number, number_behind};
+use elan_levels::heading::{first_refinement, next_number, number_behind, result_type};
 use elan_levels::uses::in_units;
 use elan_meant::meant::Meant;
 use elan_meant::row::Judged;
@@ -23,7 +25,7 @@ use elan_scope::heading::{Heading, What};
 use elan_scope::known::Known;
 use elan_scope::scope::{Scope, Within};
 use elan_scope::trouble::Trouble;
-use elan_tree::{Body, Formal, Level, LevelUnit, Refinement, Unit};
+use elan_tree::{Body, Formal, Level, LevelUnit, Refinement, TypePhrase, Unit};
 use eu_base::{List, NoMemory};
 use std::alloc::Global;
 
@@ -31,8 +33,7 @@ fn told(what: &What) -> Delivery
     ensures { result ≡ spec.told what.now }
 {
     match what {
-        What::Routine(_, _, None) => Delivery::Nothing,
-        What::Routine(_, _, Some(of)) => Delivery::Of(*of),
+        What::Routine(_, _, result_type) => Delivery::of(*result_type),
         What::Refinement(_) => Delivery::Open,
     }
 }
@@ -50,7 +51,7 @@ fn told_by(alloc: Global, headings: &[Heading]) -> Result<List<Delivery>, NoMemo
 
 // The last unit that is not empty.
 fn last_unit(units: &[Unit]) -> Option<&Unit>
-    ensures { (s : Scope) → option_map (λ u. shape.unit s u.now) result ≡ spec.last_unit (shape.units true (map (shape.unit s) units.now)) }
+    ensures { (s : Scope) → (d : Wanted) → option_map (λ u. shape.role d (shape.written (shape.unit s u.now))) result ≡ spec.last_unit (shape.units d (map (shape.unit s) units.now)) }
 {
     let mut last = None;
     for unit in units {
@@ -91,13 +92,14 @@ fn units_delivery(
     alloc: Global,
     known: &Known,
     scope: &Scope,
+    wanted: Delivery,
     units: &[Unit],
 ) -> Result<Delivery, NoMemory>
-    ensures { IfOk result (λ d. d ≡ spec.unit_delivery known.now (spec.last_unit (shape.units true (map (shape.unit scope.now) units.now)))) }
+    ensures { IfOk result (λ d. d ≡ spec.unit_delivery known.now (spec.last_unit (shape.units wanted (map (shape.unit scope.now) units.now)))) }
 {
     match last_unit(units) {
         None => Ok(Delivery::Nothing),
-        Some(unit) => outcome(judge_unit(alloc, known, scope, unit)),
+        Some(unit) => outcome(judge_role(alloc, known, scope, wanted, unit)),
     }
 }
 
@@ -107,12 +109,13 @@ fn next(
     known: &Known,
     scope: &Scope,
     number: usize,
+    wanted: Delivery,
     units: &[Unit],
 ) -> Result<Delivery, NoMemory>
-    ensures { IfOk result (λ d. d ≡ spec.next known.now (knowledge.delivery_at known.now number) (shape.units true (map (shape.unit scope.now) units.now))) }
+    ensures { IfOk result (λ d. d ≡ spec.next known.now (knowledge.delivery_at known.now number) (shape.units wanted (map (shape.unit scope.now) units.now))) }
 {
     match known.delivery_at(number) {
-        Delivery::Open => units_delivery(alloc, known, scope, units),
+        Delivery::Open => units_delivery(alloc, known, scope, wanted, units),
         found => Ok(found),
     }
 }
@@ -124,11 +127,12 @@ fn add_body(
     scope: &Scope,
     out: &mut Known,
     number: usize,
+    wanted: Delivery,
     units: &[Unit],
 ) -> Result<(), NoMemory>
-    ensures { OnOk result (out.new ≡ spec.more_known known.now out.old number (shape.units true (map (shape.unit scope.now) units.now))) }
+    ensures { OnOk result (out.new ≡ spec.more_known known.now out.old number (shape.units wanted (map (shape.unit scope.now) units.now))) }
 {
-    let delivery = next(alloc, known, scope, number, units)?;
+    let delivery = next(alloc, known, scope, number, wanted, units)?;
     let mut calls = List::new(alloc);
     in_units(scope, &mut calls, units)?;
     out.deliveries.push(delivery)?;
@@ -156,6 +160,7 @@ fn add_refinements(
             scope,
             out,
             number,
+            Delivery::Open,
             refinement.units.as_slice(),
         )?;
         scope.refinement = None;
@@ -171,18 +176,28 @@ fn add_routine(
     scope: &mut Scope,
     out: &mut Known,
     number: usize,
+    delivered: &Option<TypePhrase>,
     formals: &[Formal],
     body: &Body,
 ) -> Result<(), NoMemory>
     requires level { scope.old.routine ≡ None }
     requires unit { scope.old.refinement ≡ None }
-    ensures found { OnOk result (out.new ≡ spec.all_known known.now out.old number (level_spec.inside_units scope.old number formals.now body.now)) }
+    ensures found { OnOk result (out.new ≡ spec.all_known known.now out.old number (level_spec.inside_units scope.old number delivered.now formals.now body.now)) }
     ensures kept { OnOk result (scope.new ≡ scope.old) }
 {
     let first = next_number(number)?;
     let names = body_names(alloc, formals, body)?;
     scope.routine = Some(Within { number, names });
-    add_body(alloc, known, scope, out, number, body.units.as_slice())?;
+    let wanted = Delivery::of(result_type(delivered));
+    add_body(
+        alloc,
+        known,
+        scope,
+        out,
+        number,
+        wanted,
+        body.units.as_slice(),
+    )?;
     add_refinements(alloc, known, scope, out, first, body.refinements.as_slice())?;
     scope.routine = None;
     Ok(())
@@ -204,21 +219,33 @@ fn add_unit(
     match unit {
         LevelUnit::Plain(_) => Ok(()),
         LevelUnit::NewType { .. } => Ok(()),
-        LevelUnit::Proc { formals, body, .. } => add_routine(
+        LevelUnit::Proc {
+            result,
+            formals,
+            body,
+            ..
+        } => add_routine(
             alloc,
             known,
             scope,
             out,
             number,
+            result,
             formals.as_slice(),
             body,
         ),
-        LevelUnit::Op { formals, body, .. } => add_routine(
+        LevelUnit::Op {
+            result,
+            formals,
+            body,
+            ..
+        } => add_routine(
             alloc,
             known,
             scope,
             out,
             number,
+            result,
             formals.as_slice(),
             body,
         ),

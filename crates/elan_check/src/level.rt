@@ -21,6 +21,7 @@ use elan_levels::bodies::{held_types, level_names};
 use elan_levels::heading::{first_refinement, headings, number_behind};
 use elan_meant::row::{Judged, Row};
 use elan_rows::{let_go, none, one, with};
+use elan_scope::delivery::Delivery;
 use elan_scope::heading::Sort;
 use elan_scope::known::Known;
 use elan_scope::scope::Scope;
@@ -57,7 +58,7 @@ fn judge_level_unit(
     ensures kept { scope.new ≡ scope.old }
 {
     match unit {
-        LevelUnit::Plain(unit) => judge_role(alloc, known, scope, false, unit),
+        LevelUnit::Plain(unit) => judge_role(alloc, known, scope, Delivery::Nothing, unit),
         LevelUnit::NewType { .. } => Err(Trouble::Breaks(0, Why::Unknown)),
         LevelUnit::Proc {
             result,

@@ -1,9 +1,10 @@
 //! The meaning of PROCs, OPs and refinements.
 
-ghost use Rattle.std.specs.Prelude.{◌≡◌, ◌++◌, List, map, None, true, IfOk};
+ghost use Rattle.std.specs.Prelude.{◌≡◌, ◌++◌, List, map, None, IfOk};
 ghost use Rattle.elan_types.specs.declared.core_phrase.Scope.TheVariants as owner;
 ghost use Rattle.elan_scope.specs.declared.known.Known.{Known};
 ghost use Rattle.elan_scope.specs.declared.scope.Scope.{Scope};
+ghost use Rattle.elan_scope.specs.Known.{delivered};
 ghost use Rattle.elan_scope.specs.Phrase as form;
 ghost use Rattle.elan_scope.specs.Phrase.{Phrase, phrase, around, all_of};
 ghost use Rattle.elan_rules.specs.Meaning.{judged, judged_all};
@@ -12,18 +13,20 @@ ghost use Rattle.elan_levels.specs.Bodies as bodies;
 ghost use Rattle.elan_check.specs.Level as spec;
 ghost use Rattle.elan_judge.specs.Shape as shape;
 
-use elan_judge::judge::{all_empty, is_empty, judge_units};
+use elan_judge::judge::judge_units;
+use elan_judge::role::all_empty;
 use elan_levels::bodies::{body_names, held_types, own_names, parameters};
 use elan_levels::heading::{next_number, result_type};
 use elan_meant::meant::Meant;
 use elan_meant::row::{Judged, Row};
 use elan_rows::{let_go, let_meant_go, pair, with};
 use elan_rules::whole::refinement_parts;
+use elan_scope::delivery::Delivery;
 use elan_scope::heading::Sort;
 use elan_scope::known::Known;
 use elan_scope::scope::{Scope, Within};
 use elan_scope::trouble::Trouble;
-use elan_tree::{Body, Expr, Formal, Name, Refinement, TypePhrase, Unit};
+use elan_tree::{Body, Formal, Name, Refinement, TypePhrase, Unit};
 use elan_types::Scope as Owner;
 use eu_base::NoMemory;
 use std::alloc::Global;
@@ -72,7 +75,13 @@ fn judge_refinement(
         refinement.name.text.as_slice(),
     );
     scope.refinement = Some(number);
-    let units = judge_units(alloc, known, scope, true, refinement.units.as_slice());
+    let units = judge_units(
+        alloc,
+        known,
+        scope,
+        Delivery::Open,
+        refinement.units.as_slice(),
+    );
     scope.refinement = None;
     match pair(alloc, name, units) {
         Err(trouble) => Err(trouble),
@@ -129,58 +138,6 @@ fn declare_parameters(alloc: Global, scope: &Scope, before: Row, formals: &[Form
     row
 }
 
-fn expr_place(expr: &Expr) -> u32
-    ensures { (s : Scope) → result ≡ form.place (shape.expr s expr.now) }
-{
-    match expr {
-        Expr::Number(at, _) => *at,
-        Expr::Truth(at, _) => *at,
-        Expr::Named(name) => name.at,
-        Expr::Call(name, _) => name.at,
-        Expr::Bracket(at, _) => *at,
-        Expr::If { at, .. } => *at,
-        Expr::Select { at, .. } => *at,
-        Expr::Monadic { at, .. } => *at,
-        Expr::Dyadic { at, .. } => *at,
-        Expr::Cand { at, .. } => *at,
-        Expr::Cor { at, .. } => *at,
-        Expr::Text(_, _) => 0,
-        Expr::Procedure(_, _) => 0,
-        Expr::Concr(_, _) => 0,
-        Expr::Index { .. } => 0,
-        Expr::Field { .. } => 0,
-    }
-}
-
-fn unit_place(unit: &Unit) -> u32
-    ensures { (s : Scope) → result ≡ form.place (shape.unit s unit.now) }
-{
-    match unit {
-        Unit::Variables(at, _, _) => *at,
-        Unit::Constants(at, _, _) => *at,
-        Unit::Value(expr) => expr_place(expr),
-        Unit::Becomes { at, .. } => *at,
-        Unit::Loop { at, .. } => *at,
-        Unit::Leave { at, .. } => *at,
-        Unit::Empty => 0,
-        Unit::Let(_, _) => 0,
-        Unit::Bound(_, _, _) => 0,
-    }
-}
-
-// The place of the last unit that is not empty, or this one.
-fn last_place(at: u32, units: &[Unit]) -> u32
-    ensures { (s : Scope) → result ≡ form.last_place at (map (shape.unit s) units.now) }
-{
-    let mut last = at;
-    for unit in units {
-        if !is_empty(unit) {
-            last = unit_place(unit);
-        }
-    }
-    last
-}
-
 // The scope of its variables: its parameters, and what its body declares.
 fn frame(alloc: Global, of: Routine<'_>) -> Result<Owner, NoMemory>
     ensures { IfOk result (λ frame. frame ≡ owner.Own (bodies.parameters of.entry.formals.now) (spec.own_types of.entry.body.now)) }
@@ -196,21 +153,16 @@ fn frame(alloc: Global, of: Routine<'_>) -> Result<Owner, NoMemory>
 
 // Its body, in its own scope.
 fn judge_body(alloc: Global, known: &Known, scope: &Scope, of: Routine<'_>) -> Judged
-    ensures { Is result (judged known.now (around (form.body (form.last_place of.entry.at (map (shape.unit scope.now) of.entry.body.now.units)) (owner.Own (bodies.parameters of.entry.formals.now) (spec.own_types of.entry.body.now)) (bodies.result of.entry.result.now)) (shape.units true (map (shape.unit scope.now) of.entry.body.now.units)))) }
+    ensures { Is result (judged known.now (around (form.body (owner.Own (bodies.parameters of.entry.formals.now) (spec.own_types of.entry.body.now)) (bodies.result of.entry.result.now)) (shape.units (delivered (bodies.result of.entry.result.now)) (map (shape.unit scope.now) of.entry.body.now.units)))) }
 {
-    let units = of.body.units.as_slice();
-    let meant = judge_units(alloc, known, scope, true, units)?;
+    let of_type = result_type(of.result);
+    let wanted = Delivery::of(of_type);
+    let meant = judge_units(alloc, known, scope, wanted, of.body.units.as_slice())?;
     let Ok(owner) = frame(alloc, of) else {
         let_meant_go(meant);
         return Err(Trouble::NoMemory);
     };
-    body(
-        alloc,
-        last_place(of.at, units),
-        owner,
-        result_type(of.result),
-        meant,
-    )
+    body(alloc, owner, of_type, meant)
 }
 
 fn is_missing(of: &Option<TypePhrase>, units: &[Unit]) -> bool
@@ -248,7 +200,7 @@ fn judge_inside(
     before: Row,
 ) -> Row
     requires { scope.old.refinement ≡ None }
-    ensures meaning { (ps : List Phrase) → Is before (judged_all known.now (all_of ps)) → Is result (judged_all known.now (all_of (ps ++ spec.inside scope.old of.entry.number of.entry.at of.entry.result.now of.entry.formals.now of.entry.body.now))) }
+    ensures meaning { (ps : List Phrase) → Is before (judged_all known.now (all_of ps)) → Is result (judged_all known.now (all_of (ps ++ spec.inside scope.old of.entry.number of.entry.result.now of.entry.formals.now of.entry.body.now))) }
     ensures kept { scope.new ≡ scope.old }
 {
     let Ok(first) = next_number(of.number) else {

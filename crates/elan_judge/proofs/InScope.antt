@@ -1,5 +1,5 @@
 -- All names in the units of a body are looked up in the scope of the body.
-use Rattle.std.proofs.Common.{◌≡◌, ℤ, ℕ, Bool, true, false, ◌&&◌, List, [], ◌∷◌, ◌++◌, map, Option, Some, None, refl}
+use Rattle.std.proofs.Common.{◌≡◌, ℤ, ℕ, List, [], ◌∷◌, ◌++◌, map, Option, Some, None, refl}
 use Rattle.elan_tree.specs.declared.written_type.Name.{Name}
 use Rattle.elan_tree.specs.declared.written_type.Label.{Label}
 use Rattle.elan_tree.specs.declared.written_type.Label.TheVariants as label
@@ -13,6 +13,8 @@ use Rattle.elan_tree.specs.declared.phrase.Unit.{Unit as Statement}
 use Rattle.elan_tree.specs.declared.phrase.Expr.TheOpen as t
 use Rattle.elan_tree.specs.declared.phrase.Expr.TheOpen.{Expr-F, Limit-F, Unit-F, Branch-F, Case-F, Counter-F, Item-F}
 use Rattle.elan_tree.specs.declared.phrase.Expr.TheFolds.{ind-Unit, map-Expr, map-Limit, map-Unit, map-Branch, map-Case, map-Counter, map-Item, fold-roll-Expr, fold-roll-Limit, fold-roll-Unit, fold-roll-Branch, fold-roll-Case, fold-roll-Counter, fold-roll-Item}
+use Rattle.elan_scope.specs.declared.delivery.Delivery.{Delivery}
+use Rattle.elan_scope.specs.declared.delivery.Delivery.TheVariants.{Open, Nothing, Of}
 use Rattle.elan_scope.specs.declared.scope.Scope.{Scope}
 use Rattle.elan_scope.specs.Phrase as form
 use Rattle.elan_scope.specs.Phrase.{Form, Phrase, phrase, Parts, none, part, all_of}
@@ -29,7 +31,7 @@ module _ (s : Scope) where
   Names (form.assignment at z) = z ≡ s
   Names (form.leave at z x) = z ≡ s
   Names (form.heading at z sort x ps missing) = ⊥
-  Names (form.body at o r) = ⊥
+  Names (form.body o r) = ⊥
   Names form.routine = ⊥
   Names (form.refinement o) = ⊥
   Names form.level = ⊥
@@ -43,6 +45,14 @@ module _ (s : Scope) where
     AllIn none = Unit {0}
     AllIn (part p ps) = InScope p × AllIn ps
 
+  abbrev pub MayIn : Option Phrase → Type 0
+  MayIn None = Unit {0}
+  MayIn (Some p) = InScope p
+
+  abbrev AllMay : List (Option Phrase) → Type 0
+  AllMay [] = Unit {0}
+  AllMay (u ∷ us) = MayIn u × AllMay us
+
   abbrev E : Expr → Type 0
   E e = InScope (shape.expr s e)
 
@@ -50,7 +60,7 @@ module _ (s : Scope) where
   L l = InScope (shape.limit s l).1
 
   abbrev U : Statement → Type 0
-  U u = InScope (shape.unit s u)
+  U u = MayIn (shape.unit s u)
 
   abbrev B : Branch → Type 0
   B b = InScope (shape.branch s b)
@@ -78,16 +88,34 @@ module _ (s : Scope) where
   items_in [] = tt
   items_in (i ∷ is) = (i.1, items_in is)
 
-  role_in : (may : Bool) (p : Phrase) → InScope p → InScope (shape.role may p)
-  role_in true p h = h
-  role_in false p h = (tt, (h, tt))
+  written_in : (u : Option Phrase) → MayIn u → InScope (shape.written u)
+  written_in None h = (tt, tt)
+  written_in (Some p) h = h
 
-  roles_in : (may : Bool) (us : List ((u : Statement) × U u)) → AllIn (all_of (shape.roles may (map (shape.unit s) (map fst us))))
-  roles_in may [] = tt
-  roles_in may (u ∷ us) = (role_in (may && form.all_empty (map (shape.unit s) (map fst us))) (shape.unit s u.0) u.1, roles_in may us)
+  role_in : (d : Delivery) (p : Phrase) → InScope p → InScope (shape.role d p)
+  role_in Open p h = h
+  role_in Nothing p h = (tt, (h, tt))
+  role_in (Of t) p h = (tt, (h, tt))
 
-  units_in : (may : Bool) (us : List ((u : Statement) × U u)) → InScope (shape.units may (map (shape.unit s) (map fst us)))
-  units_in may us = (tt, roles_in may us)
+  roles_in : (d : Delivery) (ps : List Phrase) → AllIn (all_of ps) → AllIn (all_of (shape.roles d ps))
+  roles_in d [] h = tt
+  roles_in d (p ∷ []) h = (role_in d p h.0, tt)
+  roles_in d (p ∷ q ∷ ps) h = (role_in Nothing p h.0, roles_in d (q ∷ ps) h.1)
+
+  filled_in : (us : List (Option Phrase)) → AllMay us → AllIn (all_of (shape.filled us))
+  filled_in [] h = tt
+  filled_in (None ∷ us) h = filled_in us h.1
+  filled_in (Some p ∷ us) h = (h.0, filled_in us h.1)
+
+  list_in : (d : Delivery) (us : List (Option Phrase)) → AllMay us → InScope (shape.units d us)
+  list_in d us h = (tt, roles_in d (shape.filled us) (filled_in us h))
+
+  all_may : (us : List ((u : Statement) × U u)) → AllMay (map (shape.unit s) (map fst us))
+  all_may [] = tt
+  all_may (u ∷ us) = (u.1, all_may us)
+
+  units_in : (d : Delivery) (us : List ((u : Statement) × U u)) → InScope (shape.units d (map (shape.unit s) (map fst us)))
+  units_in d us = list_in d (map (shape.unit s) (map fst us)) (all_may us)
 
   labels_in : (ns : List ℤ) (ls : List Label) → AllIn (all_of (shape.label_phrases s ns ls))
   labels_in ns [] = tt
@@ -115,9 +143,9 @@ module _ (s : Scope) where
   expr_in (t.Concr at a) = (tt, tt)
   expr_in (t.Bracket at a) = (tt, (a.1, tt))
   expr_in (t.If at branches None) = (tt, ((tt, branches_in branches), ((tt, tt), tt)))
-  expr_in (t.If at branches (Some us)) = (tt, ((tt, branches_in branches), (units_in true us, tt)))
+  expr_in (t.If at branches (Some us)) = (tt, ((tt, branches_in branches), (units_in Open us, tt)))
   expr_in (t.Select at of cases None) = (tt, (of.1, ((tt, arms_in [] cases), ((tt, tt), tt))))
-  expr_in (t.Select at of cases (Some us)) = (tt, (of.1, ((tt, arms_in [] cases), (units_in true us, tt))))
+  expr_in (t.Select at of cases (Some us)) = (tt, (of.1, ((tt, arms_in [] cases), (units_in Open us, tt))))
   expr_in (t.Index at of index) = (tt, tt)
   expr_in (t.Field at of field) = (tt, tt)
   expr_in (t.Monadic at o a) = (refl, (a.1, tt))
@@ -133,11 +161,11 @@ module _ (s : Scope) where
   abbrev absent : Phrase
   absent = form.leaf form.absent
 
-  loop_in : (at : ℕ) (k c : Phrase) (us : List ((u : Statement) × U u)) (v : Phrase) → InScope k → InScope c → InScope v → InScope (phrase (form.loop at) (part k (part c (part (shape.units false (map (shape.unit s) (map fst us))) (part v none)))))
-  loop_in at k c us v hk hc hv = (tt, (hk, (hc, (units_in false us, (hv, tt)))))
+  loop_in : (at : ℕ) (k c : Phrase) (us : List ((u : Statement) × U u)) (v : Phrase) → InScope k → InScope c → InScope v → InScope (phrase (form.loop at) (part k (part c (part (shape.units Nothing (map (shape.unit s) (map fst us))) (part v none)))))
+  loop_in at k c us v hk hc hv = (tt, (hk, (hc, (units_in Nothing us, (hv, tt)))))
 
-  unit_in_layer : (y : Below Unit-F) → InScope (shape.unit_step s (map-Unit _ _ _ _ _ _ _ _ _ _ _ _ _ _ (shape.expr s) (shape.limit s) (shape.unit s) (shape.branch s) (shape.case s) (shape.counter s) (shape.item s) (map-Unit _ _ _ _ _ _ _ _ _ _ _ _ _ _ fst fst fst fst fst fst fst y)))
-  unit_in_layer t.Empty = (tt, tt)
+  unit_in_layer : (y : Below Unit-F) → MayIn (shape.unit_step s (map-Unit _ _ _ _ _ _ _ _ _ _ _ _ _ _ (shape.expr s) (shape.limit s) (shape.unit s) (shape.branch s) (shape.case s) (shape.counter s) (shape.item s) (map-Unit _ _ _ _ _ _ _ _ _ _ _ _ _ _ fst fst fst fst fst fst fst y)))
+  unit_in_layer t.Empty = tt
   unit_in_layer (t.Let at items) = (tt, tt)
   unit_in_layer (t.Variables at of items) = (tt, items_in items)
   unit_in_layer (t.Constants at of items) = (tt, items_in items)
@@ -156,10 +184,10 @@ module _ (s : Scope) where
   unit_in_layer (t.Leave at n (Some v)) = (refl, (v.1, tt))
 
   branch_in : (y : Below Branch-F) → InScope (shape.branch_step s (map-Branch _ _ _ _ _ _ _ _ _ _ _ _ _ _ (shape.expr s) (shape.limit s) (shape.unit s) (shape.branch s) (shape.case s) (shape.counter s) (shape.item s) (map-Branch _ _ _ _ _ _ _ _ _ _ _ _ _ _ fst fst fst fst fst fst fst y)))
-  branch_in y = (tt, (y.condition.1, (units_in true y.units, tt)))
+  branch_in y = (tt, (y.condition.1, (units_in Open y.units, tt)))
 
   case_in : (y : Below Case-F) → InScope (shape.case_step s (map-Case _ _ _ _ _ _ _ _ _ _ _ _ _ _ (shape.expr s) (shape.limit s) (shape.unit s) (shape.branch s) (shape.case s) (shape.counter s) (shape.item s) (map-Case _ _ _ _ _ _ _ _ _ _ _ _ _ _ fst fst fst fst fst fst fst y))).1
-  case_in y = units_in true y.units
+  case_in y = units_in Open y.units
 
   abbrev counter_with : Name → Option ((e : Expr) × E e) → (l : Limit) × L l → Below Counter-F
   counter_with n from l = record { name = n; from = from; limit = l }
@@ -193,13 +221,13 @@ module _ (s : Scope) where
       (λ x y is. rw (fold-roll-Counter, ← is) (counter_in y))
       (λ x y is. rw (fold-roll-Item, ← is) (item_in y))
 
-  pub statement_in : (may : Bool) (u : Statement) → InScope (shape.role may (shape.unit s u))
-  statement_in may u = role_in may (shape.unit s u) (unit_in u)
+  pub statement_in : (d : Delivery) (u : Statement) → InScope (shape.role d (shape.written (shape.unit s u)))
+  statement_in d u = role_in d (shape.written (shape.unit s u)) (written_in (shape.unit s u) (unit_in u))
 
-  statements_in : (may : Bool) (us : List Statement) → AllIn (all_of (shape.roles may (map (shape.unit s) us)))
-  statements_in may [] = tt
-  statements_in may (u ∷ us) = (statement_in (may && form.all_empty (map (shape.unit s) us)) u, statements_in may us)
+  statements_in : (us : List Statement) → AllMay (map (shape.unit s) us)
+  statements_in [] = tt
+  statements_in (u ∷ us) = (unit_in u, statements_in us)
 
   -- the units of a body
-  pub body_units_in : (may : Bool) (us : List Statement) → InScope (shape.units may (map (shape.unit s) us))
-  body_units_in may us = (tt, statements_in may us)
+  pub body_units_in : (d : Delivery) (us : List Statement) → InScope (shape.units d (map (shape.unit s) us))
+  body_units_in d us = list_in d (map (shape.unit s) us) (statements_in us)

@@ -1,4 +1,5 @@
 pub mod InScope
+mod Asked
 pub mod TypedRules
 pub mod Rows
 pub mod Shapes

@@ -1,6 +1,6 @@
 -- Rows of phrases: what their parts mean together.
-use Rattle.std.proofs.Common.{◌≡◌, ℤ, List, [], ◌∷◌, ◌++◌, map, Result, IsErr, IsErrAnd, refl, ap, sym, ◌∙◌, append_assoc, ℕ, ◌+◌, ◌<◌, suc, Bool, true, false, ◌&&◌, length, get_or, drop, take, drop-cons, add-one, ◌-◌, ◌≤◌, zero, subst, arith, length-drop}
-use Rattle.std.proofs.lemmas.List.{append-nil, take_all, map_more}
+use Rattle.std.proofs.Common.{◌≡◌, ℤ, List, [], ◌∷◌, ◌++◌, map, Result, IsErr, IsErrAnd, refl, ap, sym, ◌∙◌, append_assoc, ℕ, ◌+◌, ◌<◌, suc, Bool, true, false, ◌&&◌, if◌then◌else◌, Option, Some, None, length, get_or, drop, take, drop-cons, add-one, ◌-◌, ◌≤◌, zero, subst, arith, length-drop}
+use Rattle.std.proofs.lemmas.List.{append-nil, take_all, map_more, at_drop_all}
 use Rattle.std.proofs.lemmas.Result.{err_from_is_err_and}
 use Rattle.elan_tree.specs.declared.phrase.Unit.{Unit as Statement}
 use Rattle.elan_tree.specs.declared.phrase.Case.{Case, rolls-Case'}
@@ -15,11 +15,13 @@ use Rattle.elan_scope.specs.declared.trouble.Trouble.TheVariants.{NoMemory, Brea
 use Rattle.elan_scope.specs.Answer.{Is, Fails}
 use Rattle.choice_rules.specs.Choices.{labels_of}
 use Rattle.elan_rules.specs.Meaning.{judged, judged_all}
-use Rattle.elan_scope.specs.Phrase.{Form, Phrase, phrase, Parts, none, part, around, all_of, is_empty, all_empty}
+use Rattle.elan_scope.specs.declared.delivery.Delivery.{Delivery}
+use Rattle.elan_scope.specs.declared.delivery.Delivery.TheVariants.{Nothing}
+use Rattle.elan_scope.specs.Phrase.{Form, Phrase, phrase, Parts, none, part, around, all_of}
 use Rattle.elan_scope.specs.Ruled.{Ruled, gives, breaks, hangs, ◌>>=◌, before, joined}
 use Rattle.elan_rules.specs.Rules.{rule}
 use Rattle.elan_meant.proofs.Beside.{before_joined, single_joined}
-use Rattle.elan_judge.specs.Shape.{unit, case, role, roles, numbers, arm_phrase, arm_phrases}
+use Rattle.elan_judge.specs.Shape.{written, unit, case, role, roles, filled, is_empty, all_empty, asked, in_role, numbers, arm_phrase, arm_phrases}
 
 -- ---- what a function hands on
 
@@ -73,34 +75,85 @@ module _ (k : Known) where
   row_goes f xs i x q lt e h =
       subst (λ (ps : List Phrase). Is q (judged_all k (all_of ps))) (sym (map_more f xs i x lt ∙ ap (λ y. map f (take i xs) ++ f y ∷ []) (sym e))) (row_is q (map f (take i xs)) (f x) h)
 
--- ---- a row of units, of which the last may deliver
+-- ---- a row that grows behind phrases: those that are judged, and those that are left
 
-module _ (k : Known) (s : Scope) (may : Bool) where
-  roles_suc : (us : List Statement) (i : ℕ) (u : Statement) → i < length us → u ≡ get_or us i u →
-      take (suc i) (roles may (map (unit s) us)) ≡ take i (roles may (map (unit s) us)) ++ role (may && all_empty (map (unit s) (drop (suc i) us))) (unit s u) ∷ []
-  roles_suc [] i u lt e = absurd (omega arith)
-  roles_suc (v ∷ us) zero u lt e = ap (λ (w : Statement). role (may && all_empty (map (unit s) us)) (unit s w) ∷ []) (sym e)
-  roles_suc (v ∷ us) (suc i) u lt e = ap (λ (l : List Phrase). role (may && all_empty (map (unit s) us)) (unit s v) ∷ l) (roles_suc us i u (omega arith) e)
+pub record Grown (k : Known) (row : Result (List Meant) Trouble) (left whole : List Phrase) : Type 0 where
+  pub done : List Phrase
+  pub means : Is row (judged_all k (all_of done))
+  pub rest : done ++ left ≡ whole
 
-  roles_length : (us : List Statement) → length (roles may (map (unit s) us)) ≡ length us
-  roles_length [] = refl
-  roles_length (u ∷ us) = ap suc (roles_length us)
+pub starts : (k : Known) (row : Result (List Meant) Trouble) (ps left : List Phrase) → Is row (judged_all k (all_of ps)) → Grown k row left (ps ++ left)
+starts k row ps left h = record { done = ps; means = h; rest = refl }
 
-  pub roles_goes : (us : List Statement) (i : ℕ) (u : Statement) (last : Bool) (q : Result (List Meant) Trouble) → i < length us → u ≡ get_or us i u →
-      last ≡ (may && all_empty (map (unit s) (take (length us - (i + 1)) (drop (i + 1) us)))) →
-      Is q (joined (judged_all k (all_of (take i (roles may (map (unit s) us))))) (judged k (role last (unit s u)))) →
-      Is q (judged_all k (all_of (take (i + 1) (roles may (map (unit s) us)))))
-  roles_goes us i u last q lt e le h =
+-- one phrase further
+pub grows : (k : Known) (row next : Result (List Meant) Trouble) (p : Phrase) (left whole : List Phrase) → (g : Grown k row (p ∷ left) whole) →
+    Is next (joined (judged_all k (all_of g.done)) (judged k p)) → Grown k next left whole
+grows k row next p left whole g h = record {
+  done = g.done ++ p ∷ [];
+  means = row_is k next g.done p h;
+  rest = append_assoc g.done (p ∷ []) left ∙ g.rest;
+}
+
+-- some phrases further
+pub grows_all : (k : Known) (row next : Result (List Meant) Trouble) (qs left whole : List Phrase) → (g : Grown k row (qs ++ left) whole) →
+    Is next (judged_all k (all_of (g.done ++ qs))) → Grown k next left whole
+grows_all k row next qs left whole g h = record {
+  done = g.done ++ qs;
+  means = h;
+  rest = append_assoc g.done qs left ∙ g.rest;
+}
+
+pub ends : (k : Known) (row : Result (List Meant) Trouble) (whole : List Phrase) → Grown k row [] whole → Is row (judged_all k (all_of whole))
+ends k row whole g = subst (λ (ps : List Phrase). Is row (judged_all k (all_of ps))) (sym (append-nil g.done) ∙ g.rest) g.means
+
+-- what is left, seen from the next element
+pub left_at : {X : Type 0} (F : List X → List Phrase) (k : Known) (row : Result (List Meant) Trouble) (xs : List X) (i : ℕ) (x : X) (whole : List Phrase) →
+    i < length xs → x ≡ get_or xs i x → Grown k row (F (drop i xs)) whole → Grown k row (F (x ∷ drop (suc i) xs)) whole
+left_at F k row xs i x whole lt e g =
+    subst (λ (ys : List Phrase). Grown k row ys whole) (ap F (drop-cons xs i x lt ∙ ap (λ y. y ∷ drop (suc i) xs) (sym e))) g
+
+pub left_none : {X : Type 0} (F : List X → List Phrase) (k : Known) (row : Result (List Meant) Trouble) (xs : List X) (i : ℕ) (whole : List Phrase) →
+    length xs ≤ i → F [] ≡ [] → Grown k row (F (drop i xs)) whole → Is row (judged_all k (all_of whole))
+left_none F k row xs i whole le n g = ends k row whole (subst (λ (ys : List Phrase). Grown k row ys whole) (at_drop_all F xs i le ∙ n) g)
+
+-- ---- a row of units, the last of which is asked for this
+
+module _ (d : Delivery) where
+  roles_open : (p : Phrase) (us : List (Option Phrase)) → roles d (p ∷ filled us) ≡ role (if all_empty us then d else Nothing) p ∷ roles d (filled us)
+  roles_open p [] = refl
+  roles_open p (None ∷ us) = roles_open p us
+  roles_open p (Some q ∷ us) = refl
+
+  pub first_role : (u : Option Phrase) (us : List (Option Phrase)) → roles d (filled (u ∷ us)) ≡ in_role (asked d u us) (written u) ++ roles d (filled us)
+  first_role None us = refl
+  first_role (Some p) us = roles_open p us ∙ by_test (all_empty us)
+    where
+      by_test : (b : Bool) → role (if b then d else Nothing) p ∷ roles d (filled us) ≡ in_role (if b then Some d else Some Nothing) p ++ roles d (filled us)
+      by_test true = refl
+      by_test false = refl
+
+module _ (k : Known) (s : Scope) (d : Delivery) where
+  abbrev pub left_roles : List Statement → List Phrase
+  left_roles us = roles d (filled (map (unit s) us))
+
+  pub roles_go : (row next : Result (List Meant) Trouble) (us : List Statement) (i : ℕ) (u : Statement) (w : Option Delivery) (whole : List Phrase) → i < length us → u ≡ get_or us i u →
+      w ≡ asked d (unit s u) (map (unit s) (take (length us - (i + 1)) (drop (i + 1) us))) →
+      ((done : List Phrase) → Is row (judged_all k (all_of done)) → Is next (judged_all k (all_of (done ++ in_role w (written (unit s u)))))) →
+      Grown k row (left_roles (drop i us)) whole → Grown k next (left_roles (drop (i + 1) us)) whole
+  roles_go row next us i u w whole lt e ew h g =
       let rest = drop (i + 1) us in
-      let whole : take (length us - (i + 1)) rest ≡ rest = take_all (length us - (i + 1)) rest (omega (arith, length-drop (i + 1) us)) in
-      let split : take (i + 1) (roles may (map (unit s) us)) ≡ take i (roles may (map (unit s) us)) ++ role (may && all_empty (map (unit s) rest)) (unit s u) ∷ [] = rw (add-one) (roles_suc us i u lt e) in
-      let same : last ≡ (may && all_empty (map (unit s) rest)) = le ∙ ap (λ (l : List Statement). may && all_empty (map (unit s) l)) whole in
-      subst (λ (ps : List Phrase). Is q (judged_all k (all_of ps))) (ap (λ (b : Bool). take i (roles may (map (unit s) us)) ++ role b (unit s u) ∷ []) same ∙ sym split) (row_is k q (take i (roles may (map (unit s) us))) (role last (unit s u)) h)
+      let all : take (length us - (i + 1)) rest ≡ rest = take_all (length us - (i + 1)) rest (omega (arith, length-drop (i + 1) us)) in
+      let index : suc i ≡ i + 1 = omega arith in
+      let here : Grown k row (left_roles (u ∷ rest)) whole =
+      subst (λ (j : ℕ). Grown k row (left_roles (u ∷ drop j us)) whole) index (left_at left_roles k row us i u whole lt e g) in
+      let is : w ≡ asked d (unit s u) (map (unit s) rest) = ew ∙ ap (λ (vs : List Statement). asked d (unit s u) (map (unit s) vs)) all in
+      let split : left_roles (u ∷ rest) ≡ in_role w (written (unit s u)) ++ left_roles rest =
+      first_role d (unit s u) (map (unit s) rest) ∙ ap (λ (o : Option Delivery). in_role o (written (unit s u)) ++ left_roles rest) (sym is) in
+      let next_one : Grown k row (in_role w (written (unit s u)) ++ left_roles rest) whole = subst (λ (ps : List Phrase). Grown k row ps whole) split here in
+      grows_all k row next (in_role w (written (unit s u))) (left_roles rest) whole next_one (h next_one.done next_one.means)
 
-  pub roles_end : (us : List Statement) (i : ℕ) (q : Result (List Meant) Trouble) → length us ≤ i →
-      Is q (judged_all k (all_of (take i (roles may (map (unit s) us))))) → Is q (judged_all k (all_of (roles may (map (unit s) us))))
-  roles_end us i q le h =
-      subst (λ (ps : List Phrase). Is q (judged_all k (all_of ps))) (take_all i (roles may (map (unit s) us)) (subst (λ n. n ≤ i) (sym (roles_length us)) le)) h
+  pub roles_end : (row : Result (List Meant) Trouble) (us : List Statement) (i : ℕ) (whole : List Phrase) → length us ≤ i → Grown k row (left_roles (drop i us)) whole → Is row (judged_all k (all_of whole))
+  roles_end row us i whole le g = left_none left_roles k row us i whole le refl g
 
 -- ---- a row of arms, each with the labels before it
 

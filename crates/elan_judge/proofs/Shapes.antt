@@ -21,6 +21,7 @@ use Rattle.elan_meant.specs.declared.meant.Meant.{Meant}
 use Rattle.elan_meant.specs.declared.meant.Meant.TheVariants.{Absent}
 use Rattle.elan_scope.specs.Answer.{Is}
 use Rattle.elan_rules.specs.Meaning.{judged}
+use Rattle.elan_scope.specs.declared.delivery.Delivery.TheVariants.{Open, Nothing}
 use Rattle.elan_scope.specs.declared.known.Known.{Known}
 use Rattle.elan_scope.specs.declared.scope.Scope.{Scope}
 use Rattle.elan_scope.specs.declared.scope.Usage.TheVariants.{Counter as Counts}
@@ -55,7 +56,7 @@ module _ (s : Scope) where
   pub selection_shape : (at : ℕ) (v : Expr) (cs : List Case) (o : Option (List Statement)) → shape.expr s (expression.Select at v cs o) ≡ three (form.selection at) (shape.expr s v) (arms_of cs) (units_of o)
   selection_shape at v cs o = ap (shape.expr s) (sym (expression.rolls-Select at v cs o)) ∙ selection_rolled at v cs o
 
-  loop_rolled : (at : ℕ) (k : Option Counter) (c : Option Expr) (us : List Statement) (u : Option Expr) → shape.unit s (roll-Unit (t.Loop at k c us u)) ≡ four (form.loop at) (shape.optional_counter s k) (shape.optional_expr s c) (shape.units false (map (shape.unit s) us)) (shape.optional_expr s u)
+  loop_rolled : (at : ℕ) (k : Option Counter) (c : Option Expr) (us : List Statement) (u : Option Expr) → shape.unit s (roll-Unit (t.Loop at k c us u)) ≡ Some (four (form.loop at) (shape.optional_counter s k) (shape.optional_expr s c) (shape.units Nothing (map (shape.unit s) us)) (shape.optional_expr s u))
   loop_rolled at None None us None = rw fold-roll-Unit refl
   loop_rolled at None None us (Some u) = rw fold-roll-Unit refl
   loop_rolled at None (Some c) us None = rw fold-roll-Unit refl
@@ -65,7 +66,7 @@ module _ (s : Scope) where
   loop_rolled at (Some k) (Some c) us None = rw fold-roll-Unit refl
   loop_rolled at (Some k) (Some c) us (Some u) = rw fold-roll-Unit refl
 
-  pub loop_shape : (at : ℕ) (k : Option Counter) (c : Option Expr) (us : List Statement) (u : Option Expr) → shape.unit s (statement.Loop at k c us u) ≡ four (form.loop at) (shape.optional_counter s k) (shape.optional_expr s c) (shape.units false (map (shape.unit s) us)) (shape.optional_expr s u)
+  pub loop_shape : (at : ℕ) (k : Option Counter) (c : Option Expr) (us : List Statement) (u : Option Expr) → shape.unit s (statement.Loop at k c us u) ≡ Some (four (form.loop at) (shape.optional_counter s k) (shape.optional_expr s c) (shape.units Nothing (map (shape.unit s) us)) (shape.optional_expr s u))
   loop_shape at k c us u = ap (shape.unit s) (sym (statement.rolls-Loop at k c us u)) ∙ loop_rolled at k c us u
 
   -- ---- what is said of the parts, said of the whole
@@ -74,11 +75,11 @@ module _ (s : Scope) where
     pub units_absent : (r : Result Meant Trouble) (o : Option (List Statement)) → o ≡ None → r ≡ Ok Absent → Is r (judged known (units_of o))
     units_absent r o i e = subst (λ (w : Option (List Statement)). Is r (judged known (units_of w))) (sym i) (subst (λ (z : Result Meant Trouble). Is z (judged known (leaf form.absent))) (sym e) refl)
 
-    pub units_written : (r r' : Result Meant Trouble) (o : Option (List Statement)) (us us' : List Statement) → o ≡ Some us → us' ≡ us → r ≡ r' → Is r' (judged known (shape.units true (map (shape.unit s) us'))) → Is r (judged known (units_of o))
+    pub units_written : (r r' : Result Meant Trouble) (o : Option (List Statement)) (us us' : List Statement) → o ≡ Some us → us' ≡ us → r ≡ r' → Is r' (judged known (shape.units Open (map (shape.unit s) us'))) → Is r (judged known (units_of o))
     units_written r r' o us us' i e f h =
         subst (λ (w : Option (List Statement)). Is r (judged known (units_of w))) (sym i)
-        (subst (λ (l : List Statement). Is r (judged known (shape.units true (map (shape.unit s) l)))) e
-        (subst (λ (z : Result Meant Trouble). Is z (judged known (shape.units true (map (shape.unit s) us')))) (sym f) h))
+        (subst (λ (l : List Statement). Is r (judged known (shape.units Open (map (shape.unit s) l)))) e
+        (subst (λ (z : Result Meant Trouble). Is z (judged known (shape.units Open (map (shape.unit s) us')))) (sym f) h))
 
   module _ (known : Known) (q : Result Meant Trouble) where
     choice_goes : (at : ℕ) (bs bs' : List Branch) (o : Option (List Statement)) → bs' ≡ bs → Is q (judged known (pair (form.choice at) (branches_of bs') (units_of o))) → Is q (judged known (shape.expr s (expression.If at bs o)))
@@ -110,24 +111,24 @@ module _ (s : Scope) where
         ∙ sym (ap (shape.expr s) (i ∙ sym (expression.rolls-Cor at l r)) ∙ rw fold-roll-Expr refl)) h
 
     pub loop_is : (w : Statement) (at : ℕ) (k : Option Counter) (c : Option Expr) (us us' : List Statement) (u : Option Expr) → w ≡ statement.Loop at k c us u → us' ≡ us
-        → Is q (judged known (four (form.loop at) (shape.optional_counter s k) (shape.optional_expr s c) (shape.units false (map (shape.unit s) us')) (shape.optional_expr s u))) → Is q (judged known (shape.unit s w))
+        → Is q (judged known (four (form.loop at) (shape.optional_counter s k) (shape.optional_expr s c) (shape.units Nothing (map (shape.unit s) us')) (shape.optional_expr s u))) → Is q (judged known (shape.written (shape.unit s w)))
     loop_is w at k c us us' u i e h =
-        subst (λ (p : Phrase). Is q (judged known p))
-        (ap (λ (l : List Statement). four (form.loop at) (shape.optional_counter s k) (shape.optional_expr s c) (shape.units false (map (shape.unit s) l)) (shape.optional_expr s u)) e
+        subst (λ (o : Option Phrase). Is q (judged known (shape.written o)))
+        (ap (λ (l : List Statement). Some (four (form.loop at) (shape.optional_counter s k) (shape.optional_expr s c) (shape.units Nothing (map (shape.unit s) l)) (shape.optional_expr s u))) e
         ∙ sym (ap (shape.unit s) i ∙ loop_shape at k c us u)) h
 
-    pub branch_is : (b : Branch) (us' : List Statement) → us' ≡ b.units → Is q (judged known (pair form.branch (shape.expr s b.condition) (shape.units true (map (shape.unit s) us')))) → Is q (judged known (shape.branch s b))
+    pub branch_is : (b : Branch) (us' : List Statement) → us' ≡ b.units → Is q (judged known (pair form.branch (shape.expr s b.condition) (shape.units Open (map (shape.unit s) us')))) → Is q (judged known (shape.branch s b))
     branch_is b us' e h =
         subst (λ (p : Phrase). Is q (judged known p))
-        (ap (λ (l : List Statement). pair form.branch (shape.expr s b.condition) (shape.units true (map (shape.unit s) l))) e
+        (ap (λ (l : List Statement). pair form.branch (shape.expr s b.condition) (shape.units Open (map (shape.unit s) l))) e
         ∙ sym (ap (shape.branch s) (sym (rolls-Branch' (record { condition = b.condition; units = b.units }))) ∙ rw fold-roll-Branch refl)) h
 
     pub case_is : (earlier : List ℤ) (c : Case) (ls' : List Label) (us' : List Statement) → ls' ≡ c.labels → us' ≡ c.units
-        → Is q (judged known (pair form.arm (phrase form.labels (all_of (shape.label_phrases s earlier ls'))) (shape.units true (map (shape.unit s) us')))) → Is q (judged known (shape.arm_phrase s earlier (shape.case s c)))
+        → Is q (judged known (pair form.arm (phrase form.labels (all_of (shape.label_phrases s earlier ls'))) (shape.units Open (map (shape.unit s) us')))) → Is q (judged known (shape.arm_phrase s earlier (shape.case s c)))
     case_is earlier c ls' us' d e h =
         subst (λ (p : Phrase). Is q (judged known p))
-        (ap (λ (l : List Label). pair form.arm (phrase form.labels (all_of (shape.label_phrases s earlier l))) (shape.units true (map (shape.unit s) us'))) d
-        ∙ ap (λ (l : List Statement). pair form.arm (phrase form.labels (all_of (shape.label_phrases s earlier c.labels))) (shape.units true (map (shape.unit s) l))) e
+        (ap (λ (l : List Label). pair form.arm (phrase form.labels (all_of (shape.label_phrases s earlier l))) (shape.units Open (map (shape.unit s) us'))) d
+        ∙ ap (λ (l : List Statement). pair form.arm (phrase form.labels (all_of (shape.label_phrases s earlier c.labels))) (shape.units Open (map (shape.unit s) l))) e
         ∙ sym (ap (λ (d : Case). shape.arm_phrase s earlier (shape.case s d)) (sym (rolls-Case' (record { labels = c.labels; units = c.units }))) ∙ rw fold-roll-Case refl)) h
 
     counter_rolled : (n : Name) (from : Option Expr) (l : Limit) → shape.counter s (roll-Counter (record { name = n; from = from; limit = l })) ≡ three (form.counter (shape.limit s l).0) (leaf (form.named Counts n.at s n.text)) (shape.optional_expr s from) (shape.limit s l).1
@@ -150,14 +151,20 @@ module _ (s : Scope) where
         (ap (λ (z : Option Expr). shape.item_with s i.name (leaf (form.declares i.name.at s i.name.text)) (option_map (shape.expr s) z)) (sym e)
         ∙ sym (ap (shape.item s) (sym (rolls-Item' (record { name = i.name; init = i.init }))) ∙ item_rolled i.name i.init)) h
 
-    pub variables_is : (w : Statement) (at : ℕ) (of : TypePhrase) (xs xs' : List Item) → w ≡ statement.Variables at of xs → xs' ≡ xs → Is q (judged known (phrase (form.declaration at) (all_of (map (shape.item s) xs')))) → Is q (judged known (shape.unit s w))
+    pub variables_is : (w : Statement) (at : ℕ) (of : TypePhrase) (xs xs' : List Item) → w ≡ statement.Variables at of xs → xs' ≡ xs → Is q (judged known (phrase (form.declaration at) (all_of (map (shape.item s) xs')))) → Is q (judged known (shape.written (shape.unit s w)))
     variables_is w at of xs xs' i e h =
-        subst (λ (p : Phrase). Is q (judged known p))
-        (ap (λ (l : List Item). phrase (form.declaration at) (all_of (map (shape.item s) l))) e
+        subst (λ (o : Option Phrase). Is q (judged known (shape.written o)))
+        (ap (λ (l : List Item). Some (phrase (form.declaration at) (all_of (map (shape.item s) l)))) e
         ∙ sym (ap (shape.unit s) (i ∙ sym (statement.rolls-Variables at of xs)) ∙ rw fold-roll-Unit refl)) h
 
-    pub constants_is : (w : Statement) (at : ℕ) (of : TypePhrase) (xs xs' : List Item) → w ≡ statement.Constants at of xs → xs' ≡ xs → Is q (judged known (phrase (form.declaration at) (all_of (map (shape.item s) xs')))) → Is q (judged known (shape.unit s w))
+    pub constants_is : (w : Statement) (at : ℕ) (of : TypePhrase) (xs xs' : List Item) → w ≡ statement.Constants at of xs → xs' ≡ xs → Is q (judged known (phrase (form.declaration at) (all_of (map (shape.item s) xs')))) → Is q (judged known (shape.written (shape.unit s w)))
     constants_is w at of xs xs' i e h =
-        subst (λ (p : Phrase). Is q (judged known p))
-        (ap (λ (l : List Item). phrase (form.declaration at) (all_of (map (shape.item s) l))) e
+        subst (λ (o : Option Phrase). Is q (judged known (shape.written o)))
+        (ap (λ (l : List Item). Some (phrase (form.declaration at) (all_of (map (shape.item s) l)))) e
         ∙ sym (ap (shape.unit s) (i ∙ sym (statement.rolls-Constants at of xs)) ∙ rw fold-roll-Unit refl)) h
+
+-- An expression that stands alone is placed as it is itself.
+pub value_place : (s : Scope) (u : Statement) (e : Expr) → u ≡ statement.Value e → form.place (shape.expr s e) ≡ form.place (shape.written (shape.unit s u))
+value_place s u e i =
+    let is : shape.unit s u ≡ Some (form.around form.statement (shape.expr s e)) = ap (shape.unit s) (i ∙ sym (statement.rolls-Value e)) ∙ rw fold-roll-Unit refl in
+    sym (ap (λ (o : Option Phrase). form.place (shape.written o)) is)

@@ -23,7 +23,7 @@ use Rattle.elan_judge.proofs.InScope.{Names, InScope, AllIn}
 use Rattle.elan_rules.proofs.Typed as ty
 use Rattle.elan_rules.proofs.Typed.{Gives, on_if, on_bind}
 use Rattle.elan_rules.proofs.TypeEquations.{Stand, truth_is}
-use Rattle.elan_rules.proofs.TypedUnits.{number_good, bracketed_good, cand_good, cor_good, assigned_good, initial_good, in_order_good, alone_good, without_value_good}
+use Rattle.elan_rules.proofs.TypedUnits.{number_good, bracketed_good, cand_good, cor_good, assigned_good, initial_good, in_order_good, alone_good, without_value_good, must_deliver_good}
 use Rattle.elan_rules.proofs.TypedChoices.{truth_good, branches_good, choice_good, arms_good, selected_good, label_named_good}
 use Rattle.elan_rules.proofs.TypedLoops.{counted_good, loop_good}
 use Rattle.elan_rules.proofs.TypedCalls.{Fits, named_good, applied_good, declared_good, leaving_good}
@@ -73,12 +73,12 @@ module _ (here : Stand) (s : Scope) (k : Known) (fits : Fits here s k) where
   rules (form.assignment at z) ms i g = in_scope (λ y. all.assignment at y ms) z i (assignment_good at ms g)
   rules (form.counter w) ms i g = ty.three here ms _ g (counted_good here w)
   rules (form.loop at) ms i g = ty.four here ms (l.loop at) g (loop_good here at)
-  rules form.empty ms i g = refl
   rules form.without_value ms i g = ty.one here ms u.without_value g (without_value_good here)
+  rules (form.must_deliver at t) ms i g = ty.one here ms (u.must_deliver at t) g (must_deliver_good here at t)
   rules (form.leave at z x) ms i g = ty.one here ms _ g (λ m h. in_scope (λ y. r.leaving k at (scope.left y x) m) z i (leaving_good here s k fits at x m h))
   rules form.units ms i g = in_order_good here ms g
   rules (form.heading at z sort x ps missing) ms i g = absurd i
-  rules (form.body at o q) ms i g = absurd i
+  rules (form.body o q) ms i g = absurd i
   rules form.routine ms i g = absurd i
   rules (form.refinement o) ms i g = absurd i
   rules form.level ms i g = absurd i

@@ -1,5 +1,5 @@
 -- The phrases of expressions and units.
-use Rattle.std.specs.Prelude.{ℤ, Bool, true, false, ◌&&◌, List, [], ◌∷◌, ◌++◌, Option, Some, None}
+use Rattle.std.specs.Prelude.{ℤ, Bool, true, false, ◌&&◌, List, [], ◌∷◌, ◌++◌, Option, Some, None, if◌then◌else◌}
 use Rattle.eu_base.specs.declared.operation.Way.{Way}
 use Rattle.eu_base.specs.declared.operation.Way.TheVariants.{Up, Down}
 use Rattle.elan_tree.specs.declared.written_type.Name.{Name}
@@ -15,12 +15,14 @@ use Rattle.elan_tree.specs.declared.phrase.Unit.{Unit as Statement}
 use Rattle.elan_tree.specs.declared.phrase.Expr.TheOpen as t
 use Rattle.elan_tree.specs.declared.phrase.Expr.TheOpen.{Expr-F, Limit-F, Unit-F, Branch-F, Case-F, Counter-F, Item-F}
 use Rattle.elan_tree.specs.declared.phrase.Expr.TheFolds.{fold-Expr, fold-Limit, fold-Unit, fold-Branch, fold-Case, fold-Counter, fold-Item}
+use Rattle.elan_scope.specs.declared.delivery.Delivery.{Delivery}
+use Rattle.elan_scope.specs.declared.delivery.Delivery.TheVariants.{Open, Nothing, Of}
 use Rattle.elan_scope.specs.declared.heading.Sort.TheVariants.{Procedure, Operator}
 use Rattle.elan_scope.specs.declared.scope.Scope.{Scope}
 use Rattle.elan_unbuilt.specs.Operators.{operator_text}
 use Rattle.elan_scope.specs.declared.scope.Usage.TheVariants.{Expression, Counter as Counts}
 use Rattle.elan_scope.specs.Phrase as form
-use Rattle.elan_scope.specs.Phrase.{Phrase, phrase, Parts, none, part, leaf, around, pair, three, all_of, all_empty}
+use Rattle.elan_scope.specs.Phrase.{Phrase, phrase, Parts, none, part, leaf, around, pair, three, all_of, place}
 
 -- a part that may be left out
 abbrev pub written : Option Phrase → Phrase
@@ -29,21 +31,46 @@ written (Some p) = p
 
 -- ---- lists of units
 
-abbrev pub role : Bool → Phrase → Phrase
-role true p = p
-role false p = around form.without_value p
+-- a unit that is asked for this: where it is open, it delivers what it will
+abbrev pub role : Delivery → Phrase → Phrase
+role Open p = p
+role Nothing p = around form.without_value p
+role (Of t) p = around (form.must_deliver (place p) t) p
 
--- where the list may deliver a value, its last non-empty unit may
-abbrev pub roles : Bool → List Phrase → List Phrase
-roles may [] = []
-roles may (p ∷ ps) = role (may && all_empty ps) p ∷ roles may ps
+-- The last unit of a list is asked for what the list has to deliver, each before it for nothing.
+abbrev pub roles : Delivery → List Phrase → List Phrase
+roles d [] = []
+roles d (p ∷ []) = role d p ∷ []
+roles d (p ∷ q ∷ ps) = role Nothing p ∷ roles d (q ∷ ps)
 
-abbrev pub units : Bool → List Phrase → Phrase
-units may ps = phrase form.units (all_of (roles may ps))
+-- An empty unit is no phrase.
+abbrev pub filled : List (Option Phrase) → List Phrase
+filled [] = []
+filled (None ∷ us) = filled us
+filled (Some p ∷ us) = p ∷ filled us
 
-abbrev pub otherwise : Option (List Phrase) → Phrase
+abbrev pub is_empty : Option Phrase → Bool
+is_empty None = true
+is_empty (Some p) = false
+
+abbrev pub all_empty : List (Option Phrase) → Bool
+all_empty [] = true
+all_empty (u ∷ us) = is_empty u && all_empty us
+
+abbrev pub units : Delivery → List (Option Phrase) → Phrase
+units d us = phrase form.units (all_of (roles d (filled us)))
+
+abbrev pub otherwise : Option (List (Option Phrase)) → Phrase
 otherwise None = leaf form.absent
-otherwise (Some ps) = units true ps
+otherwise (Some us) = units Open us
+
+-- what a unit before these is asked for, if it is not empty
+abbrev pub asked : Delivery → Option Phrase → List (Option Phrase) → Option Delivery
+asked d u us = if is_empty u then None else (if all_empty us then Some d else Some Nothing)
+
+abbrev pub in_role : Option Delivery → Phrase → List Phrase
+in_role None p = []
+in_role (Some d) p = role d p ∷ []
 
 -- ---- labels
 
@@ -73,9 +100,9 @@ module _ (s : Scope) where
   arm_phrases earlier [] = []
   arm_phrases earlier (c ∷ cs) = arm_phrase earlier c ∷ arm_phrases (earlier ++ numbers c.0) cs
 
-  -- ---- the tree
+  -- ---- the tree; an empty unit has no phrase
 
-  abbrev pub expr_step : Expr-F Phrase (Way × Phrase) Phrase Phrase (List Label × Phrase) Phrase Phrase → Phrase
+  abbrev pub expr_step : Expr-F Phrase (Way × Phrase) (Option Phrase) Phrase (List Label × Phrase) Phrase Phrase → Phrase
   expr_step (t.Number at n) = leaf (form.number at n)
   expr_step (t.Truth at b) = leaf (form.truth at b)
   expr_step (t.Named n) = leaf (form.named Expression n.at s n.text)
@@ -94,59 +121,59 @@ module _ (s : Scope) where
   expr_step (t.Field at of field) = leaf form.not_built
 
   -- Without a limit a counter goes up.
-  abbrev pub limit_step : Limit-F Phrase (Way × Phrase) Phrase Phrase (List Label × Phrase) Phrase Phrase → Way × Phrase
+  abbrev pub limit_step : Limit-F Phrase (Way × Phrase) (Option Phrase) Phrase (List Label × Phrase) Phrase Phrase → Way × Phrase
   limit_step t.Without = (Up, leaf form.absent)
   limit_step (t.Upto a) = (Up, a)
   limit_step (t.Downto a) = (Down, a)
 
-  abbrev pub unit_step : Unit-F Phrase (Way × Phrase) Phrase Phrase (List Label × Phrase) Phrase Phrase → Phrase
-  unit_step t.Empty = leaf form.empty
-  unit_step (t.Variables at of items) = phrase (form.declaration at) (all_of items)
-  unit_step (t.Constants at of items) = phrase (form.declaration at) (all_of items)
-  unit_step (t.Value a) = around form.statement a
-  unit_step (t.Becomes at a b) = pair (form.assignment at s) a b
+  abbrev pub unit_step : Unit-F Phrase (Way × Phrase) (Option Phrase) Phrase (List Label × Phrase) Phrase Phrase → Option Phrase
+  unit_step t.Empty = None
+  unit_step (t.Variables at of items) = Some (phrase (form.declaration at) (all_of items))
+  unit_step (t.Constants at of items) = Some (phrase (form.declaration at) (all_of items))
+  unit_step (t.Value a) = Some (around form.statement a)
+  unit_step (t.Becomes at a b) = Some (pair (form.assignment at s) a b)
   unit_step (t.Loop at counter condition us until) =
-      phrase (form.loop at) (part (written counter) (part (written condition) (part (units false us) (part (written until) none))))
-  unit_step (t.Let at items) = leaf form.not_built
-  unit_step (t.Bound at of items) = leaf form.not_built
-  unit_step (t.Leave at n value) = around (form.leave at s n.text) (written value)
+      Some (phrase (form.loop at) (part (written counter) (part (written condition) (part (units Nothing us) (part (written until) none)))))
+  unit_step (t.Let at items) = Some (leaf form.not_built)
+  unit_step (t.Bound at of items) = Some (leaf form.not_built)
+  unit_step (t.Leave at n value) = Some (around (form.leave at s n.text) (written value))
 
-  abbrev pub branch_step : Branch-F Phrase (Way × Phrase) Phrase Phrase (List Label × Phrase) Phrase Phrase → Phrase
-  branch_step b = pair form.branch b.condition (units true b.units)
+  abbrev pub branch_step : Branch-F Phrase (Way × Phrase) (Option Phrase) Phrase (List Label × Phrase) Phrase Phrase → Phrase
+  branch_step b = pair form.branch b.condition (units Open b.units)
 
-  abbrev pub case_step : Case-F Phrase (Way × Phrase) Phrase Phrase (List Label × Phrase) Phrase Phrase → List Label × Phrase
-  case_step c = (c.labels, units true c.units)
+  abbrev pub case_step : Case-F Phrase (Way × Phrase) (Option Phrase) Phrase (List Label × Phrase) Phrase Phrase → List Label × Phrase
+  case_step c = (c.labels, units Open c.units)
 
-  abbrev pub counter_step : Counter-F Phrase (Way × Phrase) Phrase Phrase (List Label × Phrase) Phrase Phrase → Phrase
+  abbrev pub counter_step : Counter-F Phrase (Way × Phrase) (Option Phrase) Phrase (List Label × Phrase) Phrase Phrase → Phrase
   counter_step c = three (form.counter c.limit.0) (leaf (form.named Counts c.name.at s c.name.text)) (written c.from) c.limit.1
 
   abbrev pub item_with : Name → Phrase → Option Phrase → Phrase
   item_with n p None = around form.item p
   item_with n p (Some a) = pair (form.initial n.at) p a
 
-  abbrev pub item_step : Item-F Phrase (Way × Phrase) Phrase Phrase (List Label × Phrase) Phrase Phrase → Phrase
+  abbrev pub item_step : Item-F Phrase (Way × Phrase) (Option Phrase) Phrase (List Label × Phrase) Phrase Phrase → Phrase
   item_step i = item_with i.name (leaf (form.declares i.name.at s i.name.text)) i.init
 
   abbrev pub expr : Expr → Phrase
-  expr = fold-Expr Phrase (Way × Phrase) Phrase Phrase (List Label × Phrase) Phrase Phrase expr_step limit_step unit_step branch_step case_step counter_step item_step
+  expr = fold-Expr Phrase (Way × Phrase) (Option Phrase) Phrase (List Label × Phrase) Phrase Phrase expr_step limit_step unit_step branch_step case_step counter_step item_step
 
   abbrev pub limit : Limit → Way × Phrase
-  limit = fold-Limit Phrase (Way × Phrase) Phrase Phrase (List Label × Phrase) Phrase Phrase expr_step limit_step unit_step branch_step case_step counter_step item_step
+  limit = fold-Limit Phrase (Way × Phrase) (Option Phrase) Phrase (List Label × Phrase) Phrase Phrase expr_step limit_step unit_step branch_step case_step counter_step item_step
 
-  abbrev pub unit : Statement → Phrase
-  unit = fold-Unit Phrase (Way × Phrase) Phrase Phrase (List Label × Phrase) Phrase Phrase expr_step limit_step unit_step branch_step case_step counter_step item_step
+  abbrev pub unit : Statement → Option Phrase
+  unit = fold-Unit Phrase (Way × Phrase) (Option Phrase) Phrase (List Label × Phrase) Phrase Phrase expr_step limit_step unit_step branch_step case_step counter_step item_step
 
   abbrev pub branch : Branch → Phrase
-  branch = fold-Branch Phrase (Way × Phrase) Phrase Phrase (List Label × Phrase) Phrase Phrase expr_step limit_step unit_step branch_step case_step counter_step item_step
+  branch = fold-Branch Phrase (Way × Phrase) (Option Phrase) Phrase (List Label × Phrase) Phrase Phrase expr_step limit_step unit_step branch_step case_step counter_step item_step
 
   abbrev pub case : Case → List Label × Phrase
-  case = fold-Case Phrase (Way × Phrase) Phrase Phrase (List Label × Phrase) Phrase Phrase expr_step limit_step unit_step branch_step case_step counter_step item_step
+  case = fold-Case Phrase (Way × Phrase) (Option Phrase) Phrase (List Label × Phrase) Phrase Phrase expr_step limit_step unit_step branch_step case_step counter_step item_step
 
   abbrev pub counter : Counter → Phrase
-  counter = fold-Counter Phrase (Way × Phrase) Phrase Phrase (List Label × Phrase) Phrase Phrase expr_step limit_step unit_step branch_step case_step counter_step item_step
+  counter = fold-Counter Phrase (Way × Phrase) (Option Phrase) Phrase (List Label × Phrase) Phrase Phrase expr_step limit_step unit_step branch_step case_step counter_step item_step
 
   abbrev pub item : Item → Phrase
-  item = fold-Item Phrase (Way × Phrase) Phrase Phrase (List Label × Phrase) Phrase Phrase expr_step limit_step unit_step branch_step case_step counter_step item_step
+  item = fold-Item Phrase (Way × Phrase) (Option Phrase) Phrase (List Label × Phrase) Phrase Phrase expr_step limit_step unit_step branch_step case_step counter_step item_step
 
   abbrev pub optional_expr : Option Expr → Phrase
   optional_expr None = leaf form.absent

@@ -1,14 +1,16 @@
 //! The meaning of expressions and units, from left to right.
 
-ghost use Rattle.std.specs.Prelude.{ℕ, ◌≡◌, [], map, true, false, ◌&&◌};
+ghost use Rattle.std.specs.Prelude.{ℕ, ◌≡◌, ◌++◌, [], List, map};
 ghost use Rattle.elan_scope.specs.declared.scope.Scope.{Scope};
 ghost use Rattle.elan_scope.specs.Phrase as form;
-ghost use Rattle.elan_scope.specs.Phrase.{phrase, all_of};
+ghost use Rattle.elan_scope.specs.Phrase.{Phrase, phrase, all_of};
 ghost use Rattle.elan_rules.specs.Meaning.{judged, judged_all};
 ghost use Rattle.elan_scope.specs.Answer.{Is};
 ghost use Rattle.elan_judge.specs.Shape as shape;
 
 use crate::label::{add_numbers, judge_labels};
+use crate::place::unit_place;
+use crate::role::asked;
 use choice_rules::choice::branches_of;
 use choice_rules::selection::arms_of;
 use elan_meant::meant::Meant;
@@ -19,6 +21,7 @@ use elan_rules::whole::{
     arm_parts, branch_parts, cand_parts, choice_parts, cor_parts, counter_parts, initial_parts,
     loop_parts, selection_parts,
 };
+use elan_scope::delivery::Delivery;
 use elan_scope::heading::Sort;
 use elan_scope::known::Known;
 use elan_scope::scope::{Scope, Usage};
@@ -28,40 +31,11 @@ use elan_types::{Way, Why};
 use elan_unbuilt::operator_text;
 use eu_base::{Boxed, List};
 use std::alloc::Global;
-use unit_rules::list::{alone, declaration, in_order, without_value};
+use unit_rules::list::{alone, declaration, in_order, must_deliver, without_value};
 use value_rules::call::applied;
 use value_rules::leave::leaving;
 use value_rules::name::{declared, named};
 use value_rules::value::{bracketed, number, truth};
-
-/// Whether a unit is empty.
-pub fn is_empty(unit: &Unit) -> bool
-    ensures { (s : Scope) → result ≡ form.is_empty (shape.unit s unit.now) }
-{
-    match unit {
-        Unit::Empty => true,
-        _ => false,
-    }
-}
-
-/// Whether all units are empty.
-pub fn all_empty(units: &[Unit]) -> bool
-    ensures { (s : Scope) → result ≡ form.all_empty (map (shape.unit s) units.now) }
-{
-    for unit in units {
-        if !is_empty(unit) {
-            return false;
-        }
-    }
-    true
-}
-
-// Whether a unit before these may deliver a value, where their list may.
-fn is_last(may: bool, rest: &[Unit]) -> bool
-    ensures { (s : Scope) → result ≡ (may && form.all_empty (map (shape.unit s) rest.now)) }
-{
-    if may { all_empty(rest) } else { false }
-}
 
 fn way(limit: &Limit) -> Way
     ensures { (s : Scope) → result ≡ (shape.limit s limit.now).0 }
@@ -108,7 +82,7 @@ fn judge(alloc: Global, known: &Known, scope: &Scope, expr: &Expr) -> Judged
             let branches = judge_branches(alloc, known, scope, branches.as_slice());
             let otherwise = match otherwise {
                 None => Ok(Meant::Absent),
-                Some(units) => judge_units(alloc, known, scope, true, units.as_slice()),
+                Some(units) => judge_units(alloc, known, scope, Delivery::Open, units.as_slice()),
             };
             match pair(alloc, branches, otherwise) {
                 Err(trouble) => Err(trouble),
@@ -125,7 +99,7 @@ fn judge(alloc: Global, known: &Known, scope: &Scope, expr: &Expr) -> Judged
             let arms = judge_cases(alloc, known, scope, cases.as_slice());
             let otherwise = match otherwise {
                 None => Ok(Meant::Absent),
-                Some(units) => judge_units(alloc, known, scope, true, units.as_slice()),
+                Some(units) => judge_units(alloc, known, scope, Delivery::Open, units.as_slice()),
             };
             match three(alloc, of, arms, otherwise) {
                 Err(trouble) => Err(trouble),
@@ -221,7 +195,7 @@ fn judge_branch(alloc: Global, known: &Known, scope: &Scope, branch: &Branch) ->
     ensures { Is result (judged known.now (shape.branch scope.now branch.now)) }
 {
     let condition = judge(alloc, known, scope, &branch.condition);
-    let units = judge_units(alloc, known, scope, true, branch.units.as_slice());
+    let units = judge_units(alloc, known, scope, Delivery::Open, branch.units.as_slice());
     match pair(alloc, condition, units) {
         Err(trouble) => Err(trouble),
         Ok(parts) => branch_parts(alloc, parts),
@@ -253,7 +227,7 @@ fn judge_case(alloc: Global, known: &Known, scope: &Scope, earlier: &[i16], case
     ensures { Is result (judged known.now (shape.arm_phrase scope.now earlier.now (shape.case scope.now case.now))) }
 {
     let labels = judge_labels(alloc, known, scope, earlier, case.labels.as_slice());
-    let units = judge_units(alloc, known, scope, true, case.units.as_slice());
+    let units = judge_units(alloc, known, scope, Delivery::Open, case.units.as_slice());
     match pair(alloc, labels, units) {
         Err(trouble) => Err(trouble),
         Ok(parts) => arm_parts(alloc, parts),
@@ -375,13 +349,13 @@ fn judge_optional_counter(
     }
 }
 
-/// The meaning of a unit.
+/// The meaning of a unit; an empty one is as a part that is not written.
 #[cycle(judge)]
-pub fn judge_unit(alloc: Global, known: &Known, scope: &Scope, unit: &Unit) -> Judged
-    ensures { Is result (judged known.now (shape.unit scope.now unit.now)) }
+fn judge_unit(alloc: Global, known: &Known, scope: &Scope, unit: &Unit) -> Judged
+    ensures { Is result (judged known.now (shape.written (shape.unit scope.now unit.now))) }
 {
     match unit {
-        Unit::Empty => Ok(Meant::Done(List::new(alloc))),
+        Unit::Empty => Ok(Meant::Absent),
         Unit::Variables(_, _, items) => judge_declaration(alloc, known, scope, items.as_slice()),
         Unit::Constants(_, _, items) => judge_declaration(alloc, known, scope, items.as_slice()),
         Unit::Value(expr) => {
@@ -405,7 +379,7 @@ pub fn judge_unit(alloc: Global, known: &Known, scope: &Scope, unit: &Unit) -> J
         } => {
             let counter = judge_optional_counter(alloc, known, scope, counter);
             let condition = judge_optional(alloc, known, scope, condition);
-            let units = judge_units(alloc, known, scope, false, units.as_slice());
+            let units = judge_units(alloc, known, scope, Delivery::Nothing, units.as_slice());
             let until = judge_optional(alloc, known, scope, until);
             match four(alloc, counter, condition, units, until) {
                 Err(trouble) => Err(trouble),
@@ -420,33 +394,72 @@ pub fn judge_unit(alloc: Global, known: &Known, scope: &Scope, unit: &Unit) -> J
     }
 }
 
-/// A unit that may deliver a value, or may not.
+/// A unit that is asked for this.
 #[cycle(judge)]
-pub fn judge_role(alloc: Global, known: &Known, scope: &Scope, may: bool, unit: &Unit) -> Judged
-    ensures { Is result (judged known.now (shape.role may (shape.unit scope.now unit.now))) }
+pub fn judge_role(
+    alloc: Global,
+    known: &Known,
+    scope: &Scope,
+    wanted: Delivery,
+    unit: &Unit,
+) -> Judged
+    ensures { Is result (judged known.now (shape.role wanted (shape.written (shape.unit scope.now unit.now)))) }
 {
-    let meant = judge_unit(alloc, known, scope, unit)?;
-    if may { Ok(meant) } else { without_value(meant) }
+    match wanted {
+        Delivery::Open => judge_unit(alloc, known, scope, unit),
+        Delivery::Nothing => {
+            let meant = judge_unit(alloc, known, scope, unit)?;
+            without_value(meant)
+        }
+        Delivery::Of(of) => {
+            let meant = judge_unit(alloc, known, scope, unit)?;
+            must_deliver(unit_place(unit), of, meant)
+        }
+    }
+}
+
+// A row, and one unit more, unless it is empty.
+#[cycle(judge)]
+fn add_role(
+    alloc: Global,
+    known: &Known,
+    scope: &Scope,
+    row: Row,
+    wanted: Option<Delivery>,
+    unit: &Unit,
+) -> Row
+    ensures { (done : List Phrase) → Is row (judged_all known.now (all_of done)) → Is result (judged_all known.now (all_of (done ++ shape.in_role wanted (shape.written (shape.unit scope.now unit.now))))) }
+{
+    match wanted {
+        None => row,
+        Some(wanted) => with(row, judge_role(alloc, known, scope, wanted, unit)),
+    }
 }
 
 #[cycle(judge)]
-fn judge_roles(alloc: Global, known: &Known, scope: &Scope, may: bool, units: &[Unit]) -> Row
-    ensures { Is result (judged_all known.now (all_of (shape.roles may (map (shape.unit scope.now) units.now)))) }
+fn judge_roles(alloc: Global, known: &Known, scope: &Scope, wanted: Delivery, units: &[Unit]) -> Row
+    ensures { Is result (judged_all known.now (all_of (shape.roles wanted (shape.filled (map (shape.unit scope.now) units.now))))) }
 {
     let mut row = none(alloc);
     for (i, unit) in units.iter().enumerate() {
-        let last = is_last(may, &units[i + 1..]);
-        row = with(row, judge_role(alloc, known, scope, last, unit));
+        let role = asked(wanted, unit, &units[i + 1..]);
+        row = add_role(alloc, known, scope, row, role, unit);
     }
     row
 }
 
-/// A list of units, whose last one may deliver a value, or may not.
+/// A list of units that has to deliver this.
 #[cycle(judge)]
-pub fn judge_units(alloc: Global, known: &Known, scope: &Scope, may: bool, units: &[Unit]) -> Judged
-    ensures { Is result (judged known.now (shape.units may (map (shape.unit scope.now) units.now))) }
+pub fn judge_units(
+    alloc: Global,
+    known: &Known,
+    scope: &Scope,
+    wanted: Delivery,
+    units: &[Unit],
+) -> Judged
+    ensures { Is result (judged known.now (shape.units wanted (map (shape.unit scope.now) units.now))) }
 {
-    let row = judge_roles(alloc, known, scope, may, units)?;
+    let row = judge_roles(alloc, known, scope, wanted, units)?;
     let meant = in_order(alloc, row)?;
     Ok(meant)
 }

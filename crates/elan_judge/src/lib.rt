@@ -3,3 +3,5 @@
 
 pub mod judge;
 pub mod label;
+pub mod place;
+pub mod role;

@@ -75,9 +75,9 @@ module _ (s : Scope) where
   abbrev pub case_step : Case-F (List ℕ) (List ℕ) (List ℕ) (List ℕ) (List ℕ) (List ℕ) (List ℕ) → List ℕ
   case_step c = all c.units
 
-  -- what the identifier after FOR denotes counts too
+  -- The identifier after FOR is no call.
   abbrev pub counter_step : Counter-F (List ℕ) (List ℕ) (List ℕ) (List ℕ) (List ℕ) (List ℕ) (List ℕ) → List ℕ
-  counter_step c = in_name c.name ++ written c.from ++ c.limit
+  counter_step c = written c.from ++ c.limit
 
   abbrev pub item_step : Item-F (List ℕ) (List ℕ) (List ℕ) (List ℕ) (List ℕ) (List ℕ) (List ℕ) → List ℕ
   item_step i = written i.init

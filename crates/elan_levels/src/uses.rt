@@ -132,7 +132,6 @@ fn in_limit(scope: &Scope, out: &mut List<usize>, limit: &Limit) -> Result<(), N
 fn in_counter(scope: &Scope, out: &mut List<usize>, counter: &Counter) -> Result<(), NoMemory>
     ensures { OnOk result (out.new ≡ out.old ++ spec.in_counter scope.now counter.now) }
 {
-    in_name(scope, out, &counter.name)?;
     in_optional(scope, out, &counter.from)?;
     in_limit(scope, out, &counter.limit)
 }

@@ -11,8 +11,7 @@ use Rattle.elan_types.specs.declared.core_phrase.Access.{Access}
 use Rattle.elan_types.specs.declared.core_phrase.Access.TheVariants.{Const, Var}
 use Rattle.elan_types.specs.declared.core_phrase.Parameter.{Parameter}
 use Rattle.elan_types.specs.declared.core_phrase.Exit.{Exit}
-use Rattle.elan_types.specs.declared.core_phrase.Content.{Content}
-use Rattle.elan_types.specs.declared.core_phrase.Scope.{Scope as Owner}
+use Rattle.elan_types.specs.declared.why.Why.TheVariants.{WrongPlace}
 use Rattle.eu_base.specs.declared.operation.Change.{Change}
 use Rattle.elan_scope.specs.declared.delivery.Delivery.{Delivery}
 use Rattle.elan_scope.specs.declared.delivery.Delivery.TheVariants.{Open, Nothing, Of}
@@ -142,10 +141,6 @@ leaving : (kn : Known) (at : ℕ) (o : Option (Exit × ℕ)) (m : Meant) → IsF
 leaving kn at None m = refl
 leaving kn at (Some e) m = leave_as at e.0 (delivery_at kn e.1) m
 
-body_as : (at : ℕ) (o : Owner) (q : Option Content) → IsFirm (u.body_as at o q)
-body_as at o None = refl
-body_as at o (Some d) = refl
-
 bracketed : (at : ℕ) (m : Meant) → IsFirm (r.bracketed at m)
 bracketed at Absent = refl
 bracketed at (Value p t v x) = refl
@@ -254,12 +249,12 @@ rules kn form.statement ms i = one (p.one_of ms) u.alone alone
 rules kn (form.assignment at s) ms i = assignment_as at ms (first_heading (c.takes Operator becomes ms) s.headings)
 rules kn (form.counter w) ms i = three (p.three_of ms) _ (λ m n k. refl)
 rules kn (form.loop at) ms i = four (p.four_of ms) (l.loop at) (λ m n k j. on_if (l.conditions n j) _ _ (looped at (l.counter_in m) (p.written n) (p.actions k) (p.written j)) refl)
-rules kn form.empty ms i = refl
 rules kn form.without_value ms i = one (p.one_of ms) u.without_value without_value
+rules kn (form.must_deliver at t) ms i = one (p.one_of ms) (u.must_deliver at t) (λ m. on_if (u.agrees_with t m) _ _ refl refl)
 rules kn form.units ms i = refl
 rules kn (form.leave at s x) ms i = one (p.one_of ms) (c.leaving kn at (left s x)) (leaving kn at (left s x))
 rules kn (form.heading at s sort x ps missing) ms i = headed at missing (first_heading (is_alike sort x (types_of ps)) s.headings)
-rules kn (form.body at o q) ms i = one (p.one_of ms) (u.body at o q) (λ m. body_as at o (u.content_as q m))
+rules kn (form.body o q) ms i = one (p.one_of ms) _ (λ m. refl)
 rules kn form.routine ms i = refl
 rules kn (form.refinement o) ms i = two (p.two_of ms) _ (λ m n. refl)
 rules kn form.level ms i = refl
@@ -274,33 +269,35 @@ not_hung (gives x) e f = cc
 not_hung (breaks d) e f = cc
 not_hung hangs e f = cc
 
-module _ (kn : Known) (u : Usage) (at : ℕ) (s : Scope) (x : List ℕ) where
+module _ (kn : Known) (at : ℕ) (s : Scope) (x : List ℕ) where
   referred_open : (n : ℕ) (d : Delivery) → c.referred at n d ≡ hangs → d ≡ Open
   referred_open n Open e = refl
   referred_open n Nothing e = absurd cc
   referred_open n (Of t) e = absurd cc
 
-  led_firm : (v : Usage) (n : ℕ) (d : Delivery) → IsFirm (c.led_back v at n d)
-  led_firm usage.Expression n d = refl
-  led_firm usage.Counter n Open = refl
-  led_firm usage.Counter n Nothing = refl
-  led_firm usage.Counter n (Of t) = refl
-
-  refined_open : (o : Option ℕ) → refinement_named s x ≡ o → c.refined kn u at s o ≡ hangs → IsOpen kn s x
+  refined_open : (o : Option ℕ) → refinement_named s x ≡ o → c.refined kn at s o ≡ hangs → IsOpen kn s x
   refined_open None i e = absurd cc
   refined_open (Some n) i e = by_test (leads_back kn n s.refinement) refl e
     where
-      by_test : (b : Bool) → leads_back kn n s.refinement ≡ b → (if b then c.led_back u at n (delivery_at kn n) else c.referred at n (delivery_at kn n)) ≡ hangs → IsOpen kn s x
-      by_test true j g = absurd (not_hung (c.led_back u at n (delivery_at kn n)) g (led_firm u n (delivery_at kn n)))
+      by_test : (b : Bool) → leads_back kn n s.refinement ≡ b → (if b then breaks (at, WrongPlace) else c.referred at n (delivery_at kn n)) ≡ hangs → IsOpen kn s x
+      by_test true j g = absurd cc
       by_test false j g = (n, i, referred_open n (delivery_at kn n) g, j)
 
-  denoted_open : (home : Home) (n : ℕ) (d : Denotes) → c.denoted kn u at s x home n d ≡ hangs → IsOpen kn s x
-  denoted_open home n (denotes.Variable t) e = absurd cc
-  denoted_open home n (denotes.Constant t) e = absurd cc
-  denoted_open home n (denotes.Parameter q) e = absurd cc
-  denoted_open home n denotes.Procedure e = absurd (not_hung (c.applied at s Procedure x []) e (applied at s Procedure x []))
-  denoted_open home n denotes.Refinement e = refined_open (refinement_named s x) refl e
+  -- An identifier that hangs is an expression.
+  abbrev pub OpenUse : Usage → Type 0
+  OpenUse v = (v ≡ usage.Expression) × IsOpen kn s x
 
-  pub named_open : (o : Option Found) → c.named kn u at s x o ≡ hangs → IsOpen kn s x
-  named_open None e = absurd (not_hung (c.applied at s Procedure x []) e (applied at s Procedure x []))
-  named_open (Some f) e = denoted_open f.home f.number f.denotes e
+  used_open : (v : Usage) → c.refined_as kn v at s (refinement_named s x) ≡ hangs → OpenUse v
+  used_open usage.Expression e = (refl, refined_open (refinement_named s x) refl e)
+  used_open usage.Counter e = absurd cc
+
+  denoted_open : (v : Usage) (home : Home) (n : ℕ) (d : Denotes) → c.denoted kn v at s x home n d ≡ hangs → OpenUse v
+  denoted_open v home n (denotes.Variable t) e = absurd cc
+  denoted_open v home n (denotes.Constant t) e = absurd cc
+  denoted_open v home n (denotes.Parameter q) e = absurd cc
+  denoted_open v home n denotes.Procedure e = absurd (not_hung (c.applied at s Procedure x []) e (applied at s Procedure x []))
+  denoted_open v home n denotes.Refinement e = used_open v e
+
+  pub named_open : (v : Usage) (o : Option Found) → c.named kn v at s x o ≡ hangs → OpenUse v
+  named_open v None e = absurd (not_hung (c.applied at s Procedure x []) e (applied at s Procedure x []))
+  named_open v (Some f) e = denoted_open v f.home f.number f.denotes e

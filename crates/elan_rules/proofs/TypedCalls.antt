@@ -426,17 +426,15 @@ module _ (here : Stand) where
         by_test true = number_refined x (scope.first_heading (scope.is_refined (number_of s.routine) x) s.headings) refl
         by_test false = tt
 
-    led_good : (u : Usage) (at n : ℕ) (d : Delivery) → Gives Good (r.referred at n d) → Gives Good (r.led_back u at n d)
-    led_good usage.Expression at n d h = tt
-    led_good usage.Counter at n Open h = tt
-    led_good usage.Counter at n Nothing h = h
-    led_good usage.Counter at n (Of t) h = h
-
-    refined_good : (u : Usage) (at : ℕ) (o : Option ℕ) → IsRefined o → Gives Good (r.refined k u at s o)
-    refined_good u at None h = tt
-    refined_good u at (Some n) h =
+    refined_good : (at : ℕ) (o : Option ℕ) → IsRefined o → Gives Good (r.refined k at s o)
+    refined_good at None h = tt
+    refined_good at (Some n) h =
         let f = fits.bodies n h.0 h.1 in
-        on_if Good (leads_back k n s.refinement) _ _ (λ e. led_good u at n (delivery_at k n) (referred_good at n f.body (delivery_at k n) f.is (refined_owner h.0.what f.body h.2 f.headed) f.delivers)) (λ e. referred_good at n f.body (delivery_at k n) f.is (refined_owner h.0.what f.body h.2 f.headed) f.delivers)
+        on_if Good (leads_back k n s.refinement) _ _ (λ e. tt) (λ e. referred_good at n f.body (delivery_at k n) f.is (refined_owner h.0.what f.body h.2 f.headed) f.delivers)
+
+    used_good : (u : Usage) (at : ℕ) (o : Option ℕ) → IsRefined o → Gives Good (r.refined_as k u at s o)
+    used_good usage.Expression at o h = refined_good at o h
+    used_good usage.Counter at o h = tt
 
     -- ---- identifiers
 
@@ -445,7 +443,7 @@ module _ (here : Stand) where
     denoted_good u at x home n (denotes.Constant t) h = constant_good at t (r.place_in home n Const) (place_lies home n t Const h)
     denoted_good u at x home n (denotes.Parameter q) h = parameter_good at q.of q.access (r.place_in home n q.access) (place_lies home n q.of q.access h)
     denoted_good u at x home n denotes.Procedure h = applied_good at Procedure x [] tt
-    denoted_good u at x home n denotes.Refinement h = refined_good u at (scope.refinement_named s x) (in_refined x (scope.find s x))
+    denoted_good u at x home n denotes.Refinement h = used_good u at (scope.refinement_named s x) (in_refined x (scope.find s x))
 
     named_as_good : (u : Usage) (at : ℕ) (x : List ℕ) (o : Option Found) → FoundLies o → Gives Good (r.named k u at s x o)
     named_as_good u at x None h = applied_good at Procedure x [] tt

@@ -157,11 +157,10 @@ module _ (here : Stand) where
   without_value_good (Bodies bs) g = tt
   without_value_good (Level us bs) g = g
 
-  -- ---- bodies
+  pub must_deliver_good : (at : ℕ) (t : ElanType) (m : Meant) → Good m → Gives Good (r.must_deliver at t m)
+  must_deliver_good at t m g = on_if Good (r.agrees_with t m) _ _ (λ e. g) (λ e. tt)
 
-  abbrev ContentGood : Option Content → Type 0
-  ContentGood None = Unit {0}
-  ContentGood (Some c) = is_content_typed here.variables here.bodies here.home c ≡ true
+  -- ---- bodies
 
   blank_typed : (t : ElanType) → Has t (p.blank t)
   blank_typed Int = number_is here (pos 0)
@@ -170,41 +169,17 @@ module _ (here : Stand) where
   pub unreached_typed : (t : ElanType) (as' : List Action) → AllTyped as' → Has t (value.After as' (p.blank t))
   unreached_typed t as' h = after_is here as' (p.blank t) ∙ only_if_holds _ _ t h (blank_typed t)
 
-  without_good : (m : Meant) → Good m → ContentGood (r.without m)
-  without_good Absent g = refl
-  without_good (Value at t v x) g = tt
-  without_good (Done as') g = g
-  without_good (Left as') g = g
-  without_good (Labels ns) g = refl
-  without_good (Branches gs) g = refl
-  without_good (Arms ls) g = refl
-  without_good (Counter k) g = refl
-  without_good (Bodies bs) g = refl
-  without_good (Level us bs) g = refl
-
-  value_as_good : (t u : ElanType) (v : ValuePhrase) → Has u v → ContentGood (r.with_value t (if same_type t u then Some v else None))
-  value_as_good t u v g = by_test (same_type t u) refl
+  value_as_typed : (t : ElanType) (m : Meant) → Good m → Has t (if delivers t m then p.value_of m else p.unreached (p.actions m) t)
+  value_as_typed t m g = by_test (delivers t m) refl
     where
-      by_test : (b : Bool) → same_type t u ≡ b → ContentGood (r.with_value t (if b then Some v else None))
-      by_test true e = has_self t _ (subst (λ (z : ElanType). Has z v) (sym (same_is t u e)) g)
-      by_test false e = tt
-
-  with_good : (t : ElanType) (m : Meant) → Good m → ContentGood (r.content_as (Some t) m)
-  with_good t Absent g = tt
-  with_good t (Value at u v x) g = value_as_good t u v g.0
-  with_good t (Done as') g = tt
-  with_good t (Left as') g = has_self t _ (unreached_typed t as' g)
-  with_good t (Labels ns) g = tt
-  with_good t (Branches gs) g = tt
-  with_good t (Arms ls) g = tt
-  with_good t (Counter k) g = tt
-  with_good t (Bodies bs) g = tt
-  with_good t (Level us bs) g = tt
+      by_test : (b : Bool) → delivers t m ≡ b → Has t (if b then p.value_of m else p.unreached (p.actions m) t)
+      by_test true e = ty.value_typed here t m g e
+      by_test false e = unreached_typed t (p.actions m) (ty.actions_typed here m g)
 
   -- the units of a body have the types that they ask for
-  pub content_as_good : (o : Option ElanType) (m : Meant) → Good m → ContentGood (r.content_as o m)
-  content_as_good None m g = without_good m g
-  content_as_good (Some t) m g = with_good t m g
+  pub content_as_good : (o : Option ElanType) (m : Meant) → Good m → is_content_typed here.variables here.bodies here.home (r.content_as o m) ≡ true
+  content_as_good None m g = ty.actions_typed here m g
+  content_as_good (Some t) m g = has_self t _ (value_as_typed t m g)
 
   pub content_of_good : (m : Meant) → Good m → is_content_typed here.variables here.bodies here.home (r.content_of m) ≡ true
   content_of_good Absent g = refl

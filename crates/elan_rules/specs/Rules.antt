@@ -13,7 +13,7 @@ use Rattle.elan_scope.specs.declared.scope.Scope.{Scope}
 use Rattle.elan_scope.specs.declared.heading.Sort.TheVariants.{Operator}
 use Rattle.elan_scope.specs.declared.heading.Heading.{Heading}
 use Rattle.value_rules.specs.Calls.{named, applied, takes, called, declared, headed, leaving}
-use Rattle.unit_rules.specs.Units.{assigned, initial, in_order, alone, without_value, body, body_with, content_of, bodies_of}
+use Rattle.unit_rules.specs.Units.{assigned, initial, in_order, alone, without_value, must_deliver, body_with, content_as, content_of, bodies_of}
 use Rattle.choice_rules.specs.Choices.{guarded, branches_of, choice, label_is, label_named, labels_of, labelled, arms_of, selected}
 use Rattle.unit_rules.specs.Loops.{counted, loop}
 use Rattle.elan_scope.specs.Phrase as form
@@ -59,12 +59,12 @@ rule k form.statement ms = on_one (one_of ms) alone
 rule k (form.assignment at s) ms = assignment at s ms
 rule k (form.counter w) ms = on_three (three_of ms) (λ n f l. gives (Counter (counted w n f l)))
 rule k (form.loop at) ms = on_four (four_of ms) (loop at)
-rule k form.empty ms = gives (Done [])
 rule k (form.leave at s x) ms = on_one (one_of ms) (leaving k at (left s x))
 rule k form.without_value ms = on_one (one_of ms) without_value
+rule k (form.must_deliver at t) ms = on_one (one_of ms) (must_deliver at t)
 rule k form.units ms = gives (in_order ms)
 rule k (form.heading at s sort x ps missing) ms = headed at missing (first_heading (is_alike sort x (types_of ps)) s.headings)
-rule k (form.body at o r) ms = on_one (one_of ms) (body at o r)
+rule k (form.body o r) ms = on_one (one_of ms) (λ m. gives (body_with o (content_as r m)))
 rule k form.routine ms = gives (Bodies (bodies_of ms))
 rule k (form.refinement o) ms = on_two (two_of ms) (λ n m. gives (body_with o (content_of m)))
 rule k form.level ms = gives (Level (actions_of ms) (bodies_of ms))

@@ -1,8 +1,14 @@
--- What is known of bodies beside their headings.
+-- What bodies deliver, and what is known of them beside their headings.
 use Rattle.std.specs.Prelude.{ℕ, zero, suc, Bool, false, ◌||◌, ◌==◌, ◌+◌, List, [], ◌∷◌, map, length, Option, Some, None, slice_index_or}
 use Rattle.elan_scope.specs.declared.delivery.Delivery.{Delivery}
-use Rattle.elan_scope.specs.declared.delivery.Delivery.TheVariants.{Open}
+use Rattle.elan_types.specs.declared.elan_type.ElanType.{ElanType}
+use Rattle.elan_scope.specs.declared.delivery.Delivery.TheVariants.{Open, Nothing, Of}
 use Rattle.elan_scope.specs.declared.known.Known.{Known}
+
+-- what a PROC or OP delivers
+abbrev pub delivered : Option ElanType → Delivery
+delivered None = Nothing
+delivered (Some t) = Of t
 
 abbrev pub delivery_at : Known → ℕ → Delivery
 delivery_at k n = slice_index_or k.deliveries n Open

@@ -1,5 +1,5 @@
 -- Phrases: a form, and the parts that it is made of.
-use Rattle.std.specs.Prelude.{ℕ, ℤ, Bool, true, false, ◌&&◌, List, [], ◌∷◌, Option, if◌then◌else◌}
+use Rattle.std.specs.Prelude.{ℕ, ℤ, Bool, List, [], ◌∷◌, Option}
 use Rattle.eu_base.specs.declared.operation.Way.{Way}
 use Rattle.elan_types.specs.declared.elan_type.ElanType.{ElanType}
 use Rattle.elan_types.specs.declared.core_phrase.Parameter.{Parameter}
@@ -50,16 +50,16 @@ pub data Form : Type 0 where
   counter : Way → Form
   -- a counter, a condition, units, and a condition
   loop : ℕ → Form
-  empty : Form
   -- a LEAVE with the name of what it leaves, and the value of WITH
   leave : ℕ → Scope → List ℕ → Form
-  -- a unit that may deliver nothing
+  -- a unit that may deliver nothing, and one that has to deliver this type
   without_value : Form
+  must_deliver : ℕ → ElanType → Form
   units : Form
   -- the heading of a PROC or OP, and whether a value is missing because its body has no unit
   heading : ℕ → Scope → Sort → List ℕ → List Parameter → Bool → Form
-  -- the units of a PROC or OP that delivers this, placed at the last of them
-  body : ℕ → Owner → Option ElanType → Form
+  -- the units of a PROC or OP that delivers this
+  body : Owner → Option ElanType → Form
   -- a heading, the names of parameters, units, and refinements
   routine : Form
   -- a name in its declaration, and units
@@ -91,17 +91,7 @@ abbrev pub all_of : List Phrase → Parts
 all_of [] = none
 all_of (p ∷ ps) = part p (all_of ps)
 
--- ---- the units of a list
-
-abbrev pub is_empty : Phrase → Bool
-is_empty (phrase empty ps) = true
-is_empty p = false
-
-abbrev pub all_empty : List Phrase → Bool
-all_empty [] = true
-all_empty (p ∷ ps) = is_empty p && all_empty ps
-
--- the place of a unit; of expressions and what stands alone
+-- the place of a unit: of an expression that stands alone it is that of the expression
 abbrev mutual
   pub place : Phrase → ℕ
   place (phrase (number at n) ps) = at
@@ -123,8 +113,3 @@ abbrev mutual
   pub first_place : Parts → ℕ
   first_place none = 0
   first_place (part p ps) = place p
-
--- the place of the last unit that is not empty, or this one
-abbrev pub last_place : ℕ → List Phrase → ℕ
-last_place at [] = at
-last_place at (p ∷ ps) = last_place (if is_empty p then at else place p) ps

@@ -171,11 +171,36 @@ INT PROC p: r. r: LEAVE p WITH 3 END PROC p => NoMeaning(13, WrongType)
 INT PROC p: r; 4. r: LEAVE p WITH 3 END PROC p; put (p) => a core
 r. r: 1. r: 2. => NoMeaning(1, WrongType)
 put (r). r: FOR r REP PER; 1. => NoMeaning(17, NoVariable)
-IF r THEN FI. r: FOR r REP PER; TRUE. => NoMeaning(18, WrongType)
+IF r THEN FI. r: FOR r REP PER; TRUE. => NoMeaning(22, NoVariable)
 r. r: FOR s REP PER; line. s: FOR r REP PER; 3. => NoMeaning(11, NoVariable)
 PROC put (INT CONST a): line END PROC put; put (1); put (TRUE) => NoMeaning(53, WrongType)
 PROC p: put (x) END PROC p. x: 3; INT VAR x. => NoMeaning(14, Unknown)
 PROC p: v := 1; INT VAR v END PROC p; v := 2 => NoMeaning(39, Unknown)";
+
+/// The identifier after FOR, and bodies that have to deliver a type.
+const BODIES: &str = "\
+put (r). r: IF s = 1 THEN 1 ELSE 2 FI. s: FOR r REP PER; 2. => NoMeaning(47, NoVariable)
+INT VAR a; a := s; put (r). r: 1 + s. s: FOR r REP PER; 2. => NoMeaning(46, NoVariable)
+put (r). r: s. s: FOR r REP PER. => NoMeaning(23, NoVariable)
+INT VAR i; FOR i REP r PER. r: FOR r REP PER. => NoMeaning(36, NoVariable)
+r. r: FOR r UPTO r REP PER. => NoMeaning(11, NoVariable)
+FOR r REP x PER. r: TRUE. => NoMeaning(5, NoVariable)
+FOR r REP PER. r: x. => NoMeaning(5, NoVariable)
+FOR p REP PER; BOOL PROC p: TRUE END PROC p => NoMeaning(1, WrongType)
+INT PROC f: r; TRUE. r: x END PROC f; put (f) => NoMeaning(16, WrongType)
+PROC p: r; 1. r: x END PROC p; p => NoMeaning(12, WrongType)
+BOOL OP X (INT CONST a): r; a. r: x END OP X => NoMeaning(29, WrongType)
+r; 1. r: x. => NoMeaning(4, WrongType)
+REP r; 1 PER. r: x. => NoMeaning(8, WrongType)
+r; 1; line. r: x. => NoMeaning(4, WrongType)
+put (TRUE AND r). r: s; 1. s: x. => NoMeaning(6, WrongType)
+BOOL VAR a; r. r: IF a THEN LEAVE r ELIF 3 THEN FI. => NoMeaning(19, WrongType)
+PROC p: r. r: p END PROC p; p => a core
+INT PROC f: ;; END PROC f => NoMeaning(10, WrongType)
+INT PROC f: ; 1;; END PROC f; put (f) => a core
+INT PROC f: TRUE;; END PROC f => NoMeaning(13, WrongType)
+INT PROC f: x; line; END PROC f => NoMeaning(13, Unknown)
+PROC f: ;1; END PROC f => NoMeaning(10, WrongType)";
 
 /// What is not built yet.
 const UNBUILT: &str = "\
@@ -277,6 +302,12 @@ fn what_is_not_built_is_refused_first(rt: HostRuntime) -> Result<(), Fail> {
 #[test]
 fn procedures_have_these_meanings(rt: HostRuntime) -> Result<(), Fail> {
     assert_eq!(rt; compared(rt.alloc(), PROCEDURES)?.as_str(), "47 rows");
+    Ok(())
+}
+
+#[test]
+fn bodies_have_these_meanings(rt: HostRuntime) -> Result<(), Fail> {
+    assert_eq!(rt; compared(rt.alloc(), BODIES)?.as_str(), "22 rows");
     Ok(())
 }
 

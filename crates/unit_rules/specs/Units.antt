@@ -1,5 +1,5 @@
 -- Stores, lists of units, and bodies.
-use Rattle.std.specs.Prelude.{ℕ, List, [], ◌∷◌, ◌++◌, Option, Some, None, if◌then◌else◌}
+use Rattle.std.specs.Prelude.{ℕ, Bool, true, List, [], ◌∷◌, ◌++◌, Option, Some, None, if◌then◌else◌}
 use Rattle.elan_types.specs.declared.elan_type.ElanType.{ElanType}
 use Rattle.elan_types.specs.declared.core_phrase.PlacePhrase.{PlacePhrase}
 use Rattle.elan_types.specs.declared.core_phrase.ValuePhrase.{ValuePhrase}
@@ -11,11 +11,10 @@ use Rattle.elan_types.specs.declared.core_phrase.Content.{Content}
 use Rattle.elan_types.specs.declared.core_phrase.Content.TheVariants as content
 use Rattle.elan_types.specs.declared.core_phrase.Body.{Body}
 use Rattle.elan_types.specs.declared.why.Why.TheVariants.{WrongType, NoVariable}
-use Rattle.elan_types.specs.Typing.{same_type}
 use Rattle.elan_meant.specs.declared.meant.Meant.{Meant}
 use Rattle.elan_meant.specs.declared.meant.Meant.TheVariants.{Absent, Value, Done, Left, Bodies}
 use Rattle.elan_meant.specs.Operands.{delivers}
-use Rattle.elan_meant.specs.Parts.{unasked, value_of, variable_of, type_in, place_of, actions, actions_of, valued, unit_of, blank}
+use Rattle.elan_meant.specs.Parts.{unasked, value_of, variable_of, type_in, place_of, actions, actions_of, valued, unit_of, unreached}
 use Rattle.elan_scope.specs.Ruled.{Ruled, gives, breaks, ◌>>=◌}
 
 -- ---- stores
@@ -83,26 +82,21 @@ without_value (Left as') = gives (Done as')
 without_value (Bodies bs) = unasked
 without_value m = gives m
 
+-- A LEAVE agrees with every type.
+abbrev pub agrees_with : ElanType → Meant → Bool
+agrees_with t (Left as') = true
+agrees_with t m = delivers t m
+
+-- The last unit of a body delivers what the body has to deliver.
+abbrev pub must_deliver : ℕ → ElanType → Meant → Ruled Meant
+must_deliver at t m = if agrees_with t m then gives m else breaks (at, WrongType)
+
 -- ---- bodies
 
--- the value that the units of a body deliver that delivers this type
-abbrev pub value_as : ElanType → Meant → Option ValuePhrase
-value_as t (Value at u v x) = if same_type t u then Some v else None
-value_as t (Left as') = Some (value.After as' (blank t))
-value_as t m = None
-
-abbrev pub with_value : ElanType → Option ValuePhrase → Option Content
-with_value t None = None
-with_value t (Some v) = Some (content.Value t v)
-
-abbrev pub without : Meant → Option Content
-without (Value at t v x) = None
-without m = Some (content.Units (actions m))
-
--- the units of a body that delivers this type, or nothing
-abbrev pub content_as : Option ElanType → Meant → Option Content
-content_as None m = without m
-content_as (Some t) m = with_value t (value_as t m)
+-- the units of a body that delivers this type, or nothing; behind a LEAVE stands any value
+abbrev pub content_as : Option ElanType → Meant → Content
+content_as None m = content.Units (actions m)
+content_as (Some t) m = content.Value t (if delivers t m then value_of m else unreached (actions m) t)
 
 -- the units of a refinement, which delivers what they deliver
 abbrev pub content_of : Meant → Content
@@ -111,14 +105,6 @@ content_of m = content.Units (actions m)
 
 abbrev pub body_with : Owner → Content → Meant
 body_with o c = Bodies (record { scope = o; content = c } ∷ [])
-
--- The last unit of a body agrees with its type.
-abbrev pub body_as : ℕ → Owner → Option Content → Ruled Meant
-body_as at o None = breaks (at, WrongType)
-body_as at o (Some c) = gives (body_with o c)
-
-abbrev pub body : ℕ → Owner → Option ElanType → Meant → Ruled Meant
-body at o r m = body_as at o (content_as r m)
 
 abbrev pub bodies_in : Meant → List Body
 bodies_in (Bodies bs) = bs

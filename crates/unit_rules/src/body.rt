@@ -1,83 +1,42 @@
 //! What PROCs, OPs, refinements and levels do.
 
-ghost use Rattle.std.specs.Prelude.{◌≡◌, ◌++◌, IfOk, OnOk};
+ghost use Rattle.std.specs.Prelude.{◌≡◌, ◌++◌, IfOk, OnOk, if◌then◌else◌};
+ghost use Rattle.elan_meant.specs.Operands.{delivers};
 ghost use Rattle.elan_meant.specs.Parts as parts_of;
 ghost use Rattle.unit_rules.specs.Units as spec;
 ghost use Rattle.elan_scope.specs.Answer.{Is};
 ghost use Rattle.elan_scope.specs.Ruled.{gives};
 
 use elan_meant::meant::Meant;
-use elan_meant::part::{actions, unreached};
+use elan_meant::operands::delivers;
+use elan_meant::part::{actions, unreached, value_of};
 use elan_meant::row::{Judged, append, appended};
 use elan_scope::trouble::Trouble;
-use elan_types::{Action, Body, Content, ElanType, Scope, ValuePhrase, Why};
+use elan_types::{Action, Body, Content, ElanType, Scope, ValuePhrase};
 use eu_base::{Boxed, List, NoMemory};
 use std::alloc::Global;
 
-// The value that the units of a body deliver that delivers this type.
-fn value_as(
-    alloc: Global,
-    of: ElanType,
-    units: Meant,
-) -> Result<Option<Boxed<ValuePhrase>>, NoMemory>
-    ensures { IfOk result (λ v. v ≡ spec.value_as of units) }
+// The value of a body that delivers this type; behind a LEAVE stands any value.
+fn value_as(alloc: Global, of: ElanType, units: Meant) -> Result<Boxed<ValuePhrase>, NoMemory>
+    ensures { IfOk result (λ v. v ≡ (if delivers of units then parts_of.value_of units else parts_of.unreached (parts_of.actions units) of)) }
 {
-    match units {
-        Meant::Value {
-            at: _at,
-            of: delivered,
-            value,
-            variable: _variable,
-        } => {
-            if of.is_same(delivered) {
-                Ok(Some(value))
-            } else {
-                value.into_inner().let_go();
-                Ok(None)
-            }
-        }
-        Meant::Left(actions) => {
-            let value = unreached(alloc, actions, of)?;
-            Ok(Some(value))
-        }
-        other => {
-            other.let_go();
-            Ok(None)
-        }
-    }
-}
-
-fn without(alloc: Global, units: Meant) -> Option<Content>
-    ensures { result ≡ spec.without units }
-{
-    match units {
-        Meant::Value {
-            at: _at,
-            of: _of,
-            value,
-            variable: _variable,
-        } => {
-            value.into_inner().let_go();
-            None
-        }
-        other => Some(Content::Units(actions(alloc, other))),
+    if delivers(of, &units) {
+        value_of(alloc, units)
+    } else {
+        unreached(alloc, actions(alloc, units), of)
     }
 }
 
 // The units of a body that delivers this type, or nothing.
-fn content_as(
-    alloc: Global,
-    delivered: Option<ElanType>,
-    units: Meant,
-) -> Result<Option<Content>, NoMemory>
+fn content_as(alloc: Global, delivered: Option<ElanType>, units: Meant) -> Result<Content, NoMemory>
     ensures { IfOk result (λ c. c ≡ spec.content_as delivered units) }
 {
     match delivered {
-        None => Ok(without(alloc, units)),
-        Some(of) => match value_as(alloc, of, units)? {
-            None => Ok(None),
-            Some(value) => Ok(Some(Content::Value(of, value.into_inner()))),
-        },
+        None => Ok(Content::Units(actions(alloc, units))),
+        Some(of) => {
+            let value = value_as(alloc, of, units)?;
+            Ok(Content::Value(of, value.into_inner()))
+        }
     }
 }
 
@@ -92,26 +51,16 @@ fn body_with(alloc: Global, owner: Scope, content: Content) -> Judged
     Ok(Meant::Bodies(bodies))
 }
 
-/// A PROC or OP that delivers this type, or nothing. The last unit of its body agrees with its type.
-pub fn body(
-    alloc: Global,
-    at: u32,
-    owner: Scope,
-    delivered: Option<ElanType>,
-    units: Meant,
-) -> Judged
-    ensures { Is result (spec.body at owner delivered units) }
+/// A PROC or OP that delivers this type, or nothing.
+pub fn body(alloc: Global, owner: Scope, delivered: Option<ElanType>, units: Meant) -> Judged
+    ensures { Is result (gives (spec.body_with owner (spec.content_as delivered units))) }
 {
     match content_as(alloc, delivered, units) {
         Err(_refusal) => {
             owner.let_go();
             Err(Trouble::NoMemory)
         }
-        Ok(None) => {
-            owner.let_go();
-            Err(Trouble::Breaks(at, Why::WrongType))
-        }
-        Ok(Some(content)) => body_with(alloc, owner, content),
+        Ok(content) => body_with(alloc, owner, content),
     }
 }
 

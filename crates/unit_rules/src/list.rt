@@ -7,10 +7,11 @@ ghost use Rattle.unit_rules.specs.Units as spec;
 ghost use Rattle.elan_scope.specs.Answer.{Is};
 
 use elan_meant::meant::Meant;
+use elan_meant::operands::delivers;
 use elan_meant::part::{delivering, one, unit_of, valued};
 use elan_meant::row::{Judged, append};
 use elan_scope::trouble::Trouble;
-use elan_types::{Action, Body, ValuePhrase, Why};
+use elan_types::{Action, Body, ElanType, ValuePhrase, Why};
 use eu_base::{Boxed, List, NoMemory};
 use std::alloc::Global;
 use std::mem::replace;
@@ -155,5 +156,26 @@ pub fn without_value(meant: Meant) -> Judged
             Err(Trouble::Breaks(0, Why::Unknown))
         }
         other => Ok(other),
+    }
+}
+
+fn agrees_with(of: ElanType, meant: &Meant) -> bool
+    ensures { result ≡ spec.agrees_with of meant.now }
+{
+    match meant {
+        Meant::Left(_) => true,
+        _ => delivers(of, meant),
+    }
+}
+
+/// The last unit of a body that has to deliver this type.
+pub fn must_deliver(at: u32, of: ElanType, meant: Meant) -> Judged
+    ensures { Is result (spec.must_deliver at of meant) }
+{
+    if agrees_with(of, &meant) {
+        Ok(meant)
+    } else {
+        meant.let_go();
+        Err(Trouble::Breaks(at, Why::WrongType))
     }
 }

@@ -143,17 +143,15 @@ referred at n Open = hangs
 referred at n Nothing = gives (Done (action.Refer n ∷ []))
 referred at n (Of t) = gives (valued at t (value.Refer n t))
 
--- It leads back to the refinement in which it stands. A counter calls nothing, and is not a variable, whatever it delivers.
-abbrev pub led_back : Usage → ℕ → ℕ → Delivery → Ruled Meant
-led_back Expression at n d = breaks (at, WrongPlace)
-led_back Counter at n Open = breaks (at, NoVariable)
-led_back Counter at n Nothing = referred at n Nothing
-led_back Counter at n (Of t) = referred at n (Of t)
-
 -- A refinement does not call itself through any chain.
-abbrev pub refined : Known → Usage → ℕ → Scope → Option ℕ → Ruled Meant
-refined k u at s None = unasked
-refined k u at s (Some n) = if leads_back k n s.refinement then led_back u at n (delivery_at k n) else referred at n (delivery_at k n)
+abbrev pub refined : Known → ℕ → Scope → Option ℕ → Ruled Meant
+refined k at s None = unasked
+refined k at s (Some n) = if leads_back k n s.refinement then breaks (at, WrongPlace) else referred at n (delivery_at k n)
+
+-- The identifier after FOR is no call, and a refinement is no variable, whatever it delivers.
+abbrev pub refined_as : Known → Usage → ℕ → Scope → Option ℕ → Ruled Meant
+refined_as k Expression at s o = refined k at s o
+refined_as k Counter at s o = breaks (at, NoVariable)
 
 -- ---- identifiers without actuals
 
@@ -162,7 +160,7 @@ denoted k u at s x home n (denotes.Variable t) = gives (variable at t (place_in 
 denoted k u at s x home n (denotes.Constant t) = gives (constant at t (place_in home n Const))
 denoted k u at s x home n (denotes.Parameter p) = gives (parameter at p.of p.access (place_in home n p.access))
 denoted k u at s x home n denotes.Procedure = applied at s Procedure x []
-denoted k u at s x home n denotes.Refinement = refined k u at s (refinement_named s x)
+denoted k u at s x home n denotes.Refinement = refined_as k u at s (refinement_named s x)
 
 abbrev pub named : Known → Usage → ℕ → Scope → List ℕ → Option Found → Ruled Meant
 named k u at s x (Some f) = denoted k u at s x f.home f.number f.denotes

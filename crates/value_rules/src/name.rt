@@ -93,39 +93,40 @@ fn referred(alloc: Global, at: u32, number: usize, delivery: Delivery) -> Judged
     }
 }
 
-// It leads back to the refinement in which it stands.
-fn led_back(alloc: Global, usage: Usage, at: u32, number: usize, delivery: Delivery) -> Judged
-    ensures { Is result (spec.led_back usage at number delivery) }
-{
-    match (usage, delivery) {
-        (Usage::Expression, _) => Err(Trouble::Breaks(at, Why::WrongPlace)),
-        (Usage::Counter, Delivery::Open) => Err(Trouble::Breaks(at, Why::NoVariable)),
-        (Usage::Counter, Delivery::Nothing) => referred(alloc, at, number, Delivery::Nothing),
-        (Usage::Counter, Delivery::Of(of)) => referred(alloc, at, number, Delivery::Of(of)),
-    }
-}
-
 // A refinement does not call itself through any chain.
-fn refined(
-    alloc: Global,
-    known: &Known,
-    usage: Usage,
-    at: u32,
-    scope: &Scope,
-    number: Option<usize>,
-) -> Judged
-    ensures { Is result (spec.refined known.now usage at scope.now number) }
+fn refined(alloc: Global, known: &Known, at: u32, scope: &Scope, number: Option<usize>) -> Judged
+    ensures { Is result (spec.refined known.now at scope.now number) }
 {
     match number {
         None => Err(Trouble::Breaks(0, Why::Unknown)),
         Some(number) => {
             let delivery = known.delivery_at(number);
             if known.leads_back(alloc, number, scope.refinement)? {
-                led_back(alloc, usage, at, number, delivery)
+                Err(Trouble::Breaks(at, Why::WrongPlace))
             } else {
                 referred(alloc, at, number, delivery)
             }
         }
+    }
+}
+
+// The identifier after FOR is no call, and a refinement is no variable, whatever it delivers.
+fn refined_as(
+    alloc: Global,
+    known: &Known,
+    usage: Usage,
+    at: u32,
+    scope: &Scope,
+    name: &[u8],
+) -> Judged
+    ensures { Is result (spec.refined_as known.now usage at scope.now (scopes.refinement_named scope.now name.now)) }
+{
+    match usage {
+        Usage::Expression => {
+            let number = scope.refinement_named(name);
+            refined(alloc, known, at, scope, number)
+        }
+        Usage::Counter => Err(Trouble::Breaks(at, Why::NoVariable)),
     }
 }
 
@@ -150,10 +151,7 @@ fn denoted(
             let actuals = List::new(alloc);
             applied(alloc, at, scope, Sort::Procedure, name, actuals)
         }
-        Denotes::Refinement => {
-            let number = scope.refinement_named(name);
-            refined(alloc, known, usage, at, scope, number)
-        }
+        Denotes::Refinement => refined_as(alloc, known, usage, at, scope, name),
     }
 }
 

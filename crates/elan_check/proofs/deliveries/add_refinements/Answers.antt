@@ -1,5 +1,6 @@
-use Rattle.std.proofs.Common.{List, true, map, ap, ◌∙◌}
+use Rattle.std.proofs.Common.{List, map, ap, ◌∙◌}
 use Rattle.elan_tree.specs.declared.phrase.Unit.{Unit as Statement}
+use Rattle.elan_scope.specs.declared.delivery.Delivery.TheVariants.{Open}
 use Rattle.elan_scope.specs.declared.scope.Scope.{Scope}
 use Rattle.elan_judge.specs.Shape as shape
 use Rattle.elan_check.specs.Level.{refinement_scope}
@@ -16,6 +17,6 @@ loop-refinement-preserved c =
       scope = left_refinement z (ap (λ (y : Scope). y.refinement) c.loop-refinement.invariant.scope ∙ c.requires) ∙ c.loop-refinement.invariant.scope;
       found = refinement_found k c.args.scope.now z c.args.refinements.now c.loop-refinement.refinement-index c.refinement-item.result n c.in_ok-number.number c.loop-refinement.out c.add_body.new.out _
           c.loop-refinement-test.true c.refinement-item.is c.in_ok-number.ensures c.loop-refinement.invariant.scope
-          (c.in_ok-add_body.ensures ∙ ap (λ (us : List Statement). more_known k c.loop-refinement.out n (shape.units true (map (shape.unit (refinement_scope z n)) us))) c.as_slice.ensures)
+          (c.in_ok-add_body.ensures ∙ ap (λ (us : List Statement). more_known k c.loop-refinement.out n (shape.units Open (map (shape.unit (refinement_scope z n)) us))) c.as_slice.ensures)
           c.loop-refinement.invariant.found;
     }

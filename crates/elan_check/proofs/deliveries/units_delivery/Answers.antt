@@ -7,9 +7,9 @@ use Rattle.elan_check.specs.Refinements.{unit_delivery}
 use Rattle.elan_check.proofs.deliveries.units_delivery.Goals as goal
 
 pub returns-in-None : goal.returns-in-None
-returns-in-None c = ap (λ (o : Option Phrase). unit_delivery c.args.known.now o) (c.in-None.ensures c.args.scope.now)
+returns-in-None c = ap (λ (o : Option Phrase). unit_delivery c.args.known.now o) (c.in-None.ensures c.args.scope.now c.args.wanted)
 
 pub returns-in-Some : goal.returns-in-Some
 returns-in-Some c =
-    subst (λ (o : Option Phrase). IfOk c.outcome.result (λ d. d ≡ unit_delivery c.args.known.now o)) (c.in-Some.ensures c.args.scope.now)
-    (c.outcome.ensures (judged c.args.known.now (shape.unit c.args.scope.now c.in-Some.unit.now)) c.judge_unit.ensures)
+    subst (λ (o : Option Phrase). IfOk c.outcome.result (λ d. d ≡ unit_delivery c.args.known.now o)) (c.in-Some.ensures c.args.scope.now c.args.wanted)
+    (c.outcome.ensures (judged c.args.known.now (shape.role c.args.wanted (shape.written (shape.unit c.args.scope.now c.in-Some.unit.now)))) c.judge_role.ensures)

@@ -1,12 +1,16 @@
-use Rattle.std.proofs.Common.{rules, arith, ℕ, ◌≡◌, ◌++◌, ◌∙◌, List, [], map, take, true, false, Err, Some, refl, ap, subst}
+use Rattle.std.proofs.Common.{rules, arith, ℕ, ◌≡◌, ◌++◌, ◌∙◌, List, [], map, take, true, false, Err, Option, Some, refl, ap, sym, subst}
 use Rattle.elan_tree.specs.declared.phrase.Expr.TheViews.{size-Expr, size-Unit, size_is-Branch, sized-Select, sized-Loop, weight-Expr-If-2}
+use Rattle.std.proofs.lemmas.List.{append-nil}
+use Rattle.elan_scope.specs.declared.delivery.Delivery.{Delivery}
+use Rattle.elan_scope.specs.declared.delivery.Delivery.TheVariants.{Open, Nothing}
+use Rattle.unit_rules.specs.Units as units
 use Rattle.elan_scope.specs.Answer.{Is}
 use Rattle.elan_rules.specs.Meaning.{judged, judged_all}
 use Rattle.elan_scope.specs.declared.scope.Usage.TheVariants.{Counter as Counts}
 use Rattle.elan_scope.specs.Phrase as form
-use Rattle.elan_scope.specs.Phrase.{leaf, phrase, all_of, part, none}
+use Rattle.elan_scope.specs.Phrase.{Phrase, leaf, phrase, all_of, part, none}
 use Rattle.elan_judge.specs.Shape as shape
-use Rattle.elan_judge.proofs.Rows.{all_numbers, row_goes, roles_goes, roles_end, cases_go, numbers_go, whole_fails, whole_is}
+use Rattle.elan_judge.proofs.Rows.{all_numbers, row_goes, roles_go, roles_end, row_is, one_is, cases_go, numbers_go, whole_fails, whole_is}
 use Rattle.elan_judge.proofs.Shapes.{units_of, units_absent, units_written, branches_of, arms_of, choice_is, selection_is, cand_is, cor_is, loop_is, branch_is, case_is, counter_is, item_is, variables_is, constants_is}
 use Rattle.elan_judge.proofs.judge.+judge.Goals as goal
 use Rattle.elan_judge.proofs.judge.+judge.Goals.{judge-in-None, judge-in-Some, judge-in-None-otherwise, judge-in-Some-otherwise}
@@ -73,8 +77,8 @@ judge_branch-judge_units-units-requires t c = rw c.as_slice.ensures (omega (arit
 pub judge_branch-returns-in-Ok : goal.judge_branch-returns-in-Ok
 judge_branch-returns-in-Ok t c =
     branch_is c.args.scope.now c.args.known.now c.branch_parts.result c.args.branch.now c.as_slice.result.now c.as_slice.ensures
-    (whole_is c.args.known.now form.branch (part (shape.expr c.args.scope.now c.args.branch.now.condition) (part (shape.units true (map (shape.unit c.args.scope.now) c.as_slice.result.now)) none)) c.branch_parts.result c.in-Ok.parts
-    (c.in-Ok.ensures (judged c.args.known.now (shape.expr c.args.scope.now c.args.branch.now.condition)) (judged c.args.known.now (shape.units true (map (shape.unit c.args.scope.now) c.as_slice.result.now))) c.judge-condition.ensures c.judge_units-units.ensures)
+    (whole_is c.args.known.now form.branch (part (shape.expr c.args.scope.now c.args.branch.now.condition) (part (shape.units Open (map (shape.unit c.args.scope.now) c.as_slice.result.now)) none)) c.branch_parts.result c.in-Ok.parts
+    (c.in-Ok.ensures (judged c.args.known.now (shape.expr c.args.scope.now c.args.branch.now.condition)) (judged c.args.known.now (shape.units Open (map (shape.unit c.args.scope.now) c.as_slice.result.now))) c.judge-condition.ensures c.judge_units-units.ensures)
     (c.branch_parts.ensures c.args.known.now))
 
 pub branch_row-loop-branch-preserved : goal.branch_row-loop-branch-preserved
@@ -85,8 +89,8 @@ branch_row-loop-branch-preserved t c =
 pub judge_case-returns-in-Ok : goal.judge_case-returns-in-Ok
 judge_case-returns-in-Ok t c =
     case_is c.args.scope.now c.args.known.now c.arm_parts.result c.args.earlier.now c.args.case.now c.as_slice.result.now c.as_slice-2.result.now c.as_slice.ensures c.as_slice-2.ensures
-    (whole_is c.args.known.now form.arm (part (phrase form.labels (all_of (shape.label_phrases c.args.scope.now c.args.earlier.now c.as_slice.result.now))) (part (shape.units true (map (shape.unit c.args.scope.now) c.as_slice-2.result.now)) none)) c.arm_parts.result c.in-Ok.parts
-    (c.in-Ok.ensures (judged c.args.known.now (phrase form.labels (all_of (shape.label_phrases c.args.scope.now c.args.earlier.now c.as_slice.result.now)))) (judged c.args.known.now (shape.units true (map (shape.unit c.args.scope.now) c.as_slice-2.result.now))) c.judge_labels-labels.ensures c.judge_units-units.ensures)
+    (whole_is c.args.known.now form.arm (part (phrase form.labels (all_of (shape.label_phrases c.args.scope.now c.args.earlier.now c.as_slice.result.now))) (part (shape.units Open (map (shape.unit c.args.scope.now) c.as_slice-2.result.now)) none)) c.arm_parts.result c.in-Ok.parts
+    (c.in-Ok.ensures (judged c.args.known.now (phrase form.labels (all_of (shape.label_phrases c.args.scope.now c.args.earlier.now c.as_slice.result.now)))) (judged c.args.known.now (shape.units Open (map (shape.unit c.args.scope.now) c.as_slice-2.result.now))) c.judge_labels-labels.ensures c.judge_units-units.ensures)
     (c.arm_parts.ensures c.args.known.now))
 
 pub case_row-loop-case-preserved : goal.case_row-loop-case-preserved
@@ -146,23 +150,43 @@ pub judge_unit-returns-in-Err-four : goal.judge_unit-returns-in-Err-four
 judge_unit-returns-in-Err-four t c =
     loop_is c.args.scope.now c.args.known.now (Err c.in-Err-four.trouble) c.args.unit.now c.in-Loop.at c.in-Loop.counter c.in-Loop.condition c.in-Loop.units c.as_slice-in-Loop.result.now c.in-Loop.until c.in-Loop.is c.as_slice-in-Loop.ensures
     (whole_fails c.args.known.now (form.loop c.in-Loop.at)
-    (part (shape.optional_counter c.args.scope.now c.in-Loop.counter) (part (shape.optional_expr c.args.scope.now c.in-Loop.condition) (part (shape.units false (map (shape.unit c.args.scope.now) c.as_slice-in-Loop.result.now)) (part (shape.optional_expr c.args.scope.now c.in-Loop.until) none))))
+    (part (shape.optional_counter c.args.scope.now c.in-Loop.counter) (part (shape.optional_expr c.args.scope.now c.in-Loop.condition) (part (shape.units Nothing (map (shape.unit c.args.scope.now) c.as_slice-in-Loop.result.now)) (part (shape.optional_expr c.args.scope.now c.in-Loop.until) none))))
     c.in-Err-four.trouble
-    (c.in-Err-four.ensures (judged c.args.known.now (shape.optional_counter c.args.scope.now c.in-Loop.counter)) (judged c.args.known.now (shape.optional_expr c.args.scope.now c.in-Loop.condition)) (judged c.args.known.now (shape.units false (map (shape.unit c.args.scope.now) c.as_slice-in-Loop.result.now))) (judged c.args.known.now (shape.optional_expr c.args.scope.now c.in-Loop.until)) c.judge_optional_counter-counter.ensures c.judge_optional-condition.ensures c.judge_units-units.ensures c.judge_optional-until.ensures))
+    (c.in-Err-four.ensures (judged c.args.known.now (shape.optional_counter c.args.scope.now c.in-Loop.counter)) (judged c.args.known.now (shape.optional_expr c.args.scope.now c.in-Loop.condition)) (judged c.args.known.now (shape.units Nothing (map (shape.unit c.args.scope.now) c.as_slice-in-Loop.result.now))) (judged c.args.known.now (shape.optional_expr c.args.scope.now c.in-Loop.until)) c.judge_optional_counter-counter.ensures c.judge_optional-condition.ensures c.judge_units-units.ensures c.judge_optional-until.ensures))
 
 pub judge_unit-returns-in-Ok-four : goal.judge_unit-returns-in-Ok-four
 judge_unit-returns-in-Ok-four t c =
     loop_is c.args.scope.now c.args.known.now c.loop_parts.result c.args.unit.now c.in-Loop.at c.in-Loop.counter c.in-Loop.condition c.in-Loop.units c.as_slice-in-Loop.result.now c.in-Loop.until c.in-Loop.is c.as_slice-in-Loop.ensures
     (whole_is c.args.known.now (form.loop c.in-Loop.at)
-    (part (shape.optional_counter c.args.scope.now c.in-Loop.counter) (part (shape.optional_expr c.args.scope.now c.in-Loop.condition) (part (shape.units false (map (shape.unit c.args.scope.now) c.as_slice-in-Loop.result.now)) (part (shape.optional_expr c.args.scope.now c.in-Loop.until) none))))
+    (part (shape.optional_counter c.args.scope.now c.in-Loop.counter) (part (shape.optional_expr c.args.scope.now c.in-Loop.condition) (part (shape.units Nothing (map (shape.unit c.args.scope.now) c.as_slice-in-Loop.result.now)) (part (shape.optional_expr c.args.scope.now c.in-Loop.until) none))))
     c.loop_parts.result c.in-Ok-four.parts
-    (c.in-Ok-four.ensures (judged c.args.known.now (shape.optional_counter c.args.scope.now c.in-Loop.counter)) (judged c.args.known.now (shape.optional_expr c.args.scope.now c.in-Loop.condition)) (judged c.args.known.now (shape.units false (map (shape.unit c.args.scope.now) c.as_slice-in-Loop.result.now))) (judged c.args.known.now (shape.optional_expr c.args.scope.now c.in-Loop.until)) c.judge_optional_counter-counter.ensures c.judge_optional-condition.ensures c.judge_units-units.ensures c.judge_optional-until.ensures)
+    (c.in-Ok-four.ensures (judged c.args.known.now (shape.optional_counter c.args.scope.now c.in-Loop.counter)) (judged c.args.known.now (shape.optional_expr c.args.scope.now c.in-Loop.condition)) (judged c.args.known.now (shape.units Nothing (map (shape.unit c.args.scope.now) c.as_slice-in-Loop.result.now))) (judged c.args.known.now (shape.optional_expr c.args.scope.now c.in-Loop.until)) c.judge_optional_counter-counter.ensures c.judge_optional-condition.ensures c.judge_units-units.ensures c.judge_optional-until.ensures)
     (c.loop_parts.ensures c.args.known.now))
+
+pub judge_role-returns-in_ok-meant-in-Of : goal.judge_role-returns-in_ok-meant-in-Of
+judge_role-returns-in_ok-meant-in-Of t c =
+    let p = shape.written (shape.unit c.args.scope.now c.args.unit.now) in
+    subst (λ (d : Delivery). Is c.must_deliver.result (judged c.args.known.now (shape.role d p))) (sym c.in-Of.is)
+    (one_is c.args.known.now (form.must_deliver (form.place p) c.in-Of.of) p c.must_deliver.result c.in_ok-meant-in-Of.meant c.in_ok-meant-in-Of.ensures
+    (subst (λ (a : ℕ). Is c.must_deliver.result (units.must_deliver a c.in-Of.of c.in_ok-meant-in-Of.meant)) (c.unit_place.ensures c.args.scope.now) c.must_deliver.ensures))
+
+pub add_role-returns-in-None : goal.add_role-returns-in-None
+add_role-returns-in-None t c = λ done h.
+    let p = shape.written (shape.unit c.args.scope.now c.args.unit.now) in
+    subst (λ (o : Option Delivery). Is c.args.row (judged_all c.args.known.now (all_of (done ++ shape.in_role o p)))) (sym c.in-None.is)
+    (subst (λ (ps : List Phrase). Is c.args.row (judged_all c.args.known.now (all_of ps))) (sym (append-nil done)) h)
+
+pub add_role-returns-in-Some : goal.add_role-returns-in-Some
+add_role-returns-in-Some t c = λ done h.
+    let p = shape.written (shape.unit c.args.scope.now c.args.unit.now) in
+    subst (λ (o : Option Delivery). Is c.with.result (judged_all c.args.known.now (all_of (done ++ shape.in_role o p)))) (sym c.in-Some.is)
+    (row_is c.args.known.now c.with.result done (shape.role c.in-Some.wanted p)
+    (c.with.ensures (judged_all c.args.known.now (all_of done)) (judged c.args.known.now (shape.role c.in-Some.wanted p)) h c.judge_role.ensures))
 
 pub judge_roles-loop-i-preserved : goal.judge_roles-loop-i-preserved
 judge_roles-loop-i-preserved t c =
-    roles_goes c.args.known.now c.args.scope.now c.args.may c.args.units.now c.loop-i.i c.index-units-i.result c.is_last-last.result c.with-row.result c.loop-i-test.true c.index-units-i.is (c.is_last-last.ensures c.args.scope.now)
-    (c.with-row.ensures (judged_all c.args.known.now (all_of (take c.loop-i.i (shape.roles c.args.may (map (shape.unit c.args.scope.now) c.args.units.now))))) (judged c.args.known.now (shape.role c.is_last-last.result (shape.unit c.args.scope.now c.index-units-i.result))) c.loop-i.invariant c.judge_role.ensures)
+    roles_go c.args.known.now c.args.scope.now c.args.wanted c.loop-i.row c.add_role-row.result c.args.units.now c.loop-i.i c.index-units-i.result c.asked-role.result _ c.loop-i-test.true c.index-units-i.is
+    (c.asked-role.ensures c.args.scope.now) c.add_role-row.ensures c.loop-i.invariant
 
 pub judge_roles-returns : goal.judge_roles-returns
-judge_roles-returns t c = roles_end c.args.known.now c.args.scope.now c.args.may c.args.units.now c.loop-i.i c.loop-i.row c.loop-i-test.false c.loop-i.invariant
+judge_roles-returns t c = roles_end c.args.known.now c.args.scope.now c.args.wanted c.loop-i.row c.args.units.now c.loop-i.i _ c.loop-i-test.false c.loop-i.invariant

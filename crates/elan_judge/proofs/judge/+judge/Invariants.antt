@@ -1,9 +1,9 @@
-use Rattle.std.proofs.Common.{◌≡◌, [], map, take}
+use Rattle.std.proofs.Common.{◌≡◌, [], map, take, drop}
 use Rattle.elan_scope.specs.Answer.{Is}
 use Rattle.elan_rules.specs.Meaning.{judged_all}
 use Rattle.elan_scope.specs.Phrase.{all_of}
-use Rattle.elan_judge.specs.Shape.{expr, unit, branch, case, item, roles, arm_phrases}
-use Rattle.elan_judge.proofs.Rows.{all_numbers}
+use Rattle.elan_judge.specs.Shape.{expr, branch, case, item, arm_phrases}
+use Rattle.elan_judge.proofs.Rows.{all_numbers, Grown, left_roles}
 use Rattle.elan_judge.proofs.judge.+judge.Given as goal
 
 abbrev pub invariant-judge_exprs-loop-expr : goal.invariant-judge_exprs-loop-expr
@@ -16,7 +16,7 @@ abbrev pub invariant-branch_row-loop-branch : goal.invariant-branch_row-loop-bra
 invariant-branch_row-loop-branch l = Is l.row (judged_all l.known (all_of (map (branch l.scope) (take l.branch-index l.branches))))
 
 abbrev pub invariant-judge_roles-loop-i : goal.invariant-judge_roles-loop-i
-invariant-judge_roles-loop-i l = Is l.row (judged_all l.known (all_of (take l.i (roles l.may (map (unit l.scope) l.units)))))
+invariant-judge_roles-loop-i l = Grown l.known l.row (left_roles l.known l.scope l.wanted (drop l.i l.units)) (left_roles l.known l.scope l.wanted l.units)
 
 abbrev pub invariant-case_row-loop-case : goal.invariant-case_row-loop-case
 invariant-case_row-loop-case l =

@@ -1,0 +1,48 @@
+//! The places of units.
+
+ghost use Rattle.std.specs.Prelude.{◌≡◌};
+ghost use Rattle.elan_scope.specs.declared.scope.Scope.{Scope};
+ghost use Rattle.elan_scope.specs.Phrase as form;
+ghost use Rattle.elan_judge.specs.Shape as shape;
+
+use elan_tree::{Expr, Unit};
+
+fn expr_place(expr: &Expr) -> u32
+    ensures { (s : Scope) → result ≡ form.place (shape.expr s expr.now) }
+{
+    match expr {
+        Expr::Number(at, _) => *at,
+        Expr::Truth(at, _) => *at,
+        Expr::Named(name) => name.at,
+        Expr::Call(name, _) => name.at,
+        Expr::Bracket(at, _) => *at,
+        Expr::If { at, .. } => *at,
+        Expr::Select { at, .. } => *at,
+        Expr::Monadic { at, .. } => *at,
+        Expr::Dyadic { at, .. } => *at,
+        Expr::Cand { at, .. } => *at,
+        Expr::Cor { at, .. } => *at,
+        Expr::Text(_, _) => 0,
+        Expr::Procedure(_, _) => 0,
+        Expr::Concr(_, _) => 0,
+        Expr::Index { .. } => 0,
+        Expr::Field { .. } => 0,
+    }
+}
+
+/// The place of a unit; 0 of one that is empty, or not built.
+pub fn unit_place(unit: &Unit) -> u32
+    ensures { (s : Scope) → result ≡ form.place (shape.written (shape.unit s unit.now)) }
+{
+    match unit {
+        Unit::Variables(at, _, _) => *at,
+        Unit::Constants(at, _, _) => *at,
+        Unit::Value(expr) => expr_place(expr),
+        Unit::Becomes { at, .. } => *at,
+        Unit::Loop { at, .. } => *at,
+        Unit::Leave { at, .. } => *at,
+        Unit::Empty => 0,
+        Unit::Let(_, _) => 0,
+        Unit::Bound(_, _, _) => 0,
+    }
+}
