@@ -246,46 +246,6 @@ fn the_table_of_listings(rt: HostRuntime) -> Result<(), Fail> {
     Ok(())
 }
 
-/// Forms around `put (1)`, which is one deep, so often that the text is 400 deep.
-const DEEP: [(&str, &str); 4] = [
-    ("IF TRUE THEN ", " FI"),
-    ("SELECT 1 OF CASE 1: ", " END SELECT"),
-    ("REP ", " PER"),
-    (
-        "IF TRUE THEN SELECT 1 OF CASE 1: REP ",
-        " PER END SELECT FI",
-    ),
-];
-
-fn deep(alloc: Global, open: &str, close: &str, times: usize) -> Result<String, Fail> {
-    let mut text = String::new(alloc);
-    for _ in 0..times {
-        text.push_str(open)?;
-    }
-    text.push_str("put (1)")?;
-    for _ in 0..times {
-        text.push_str(close)?;
-    }
-    Ok(text)
-}
-
-#[test]
-fn a_text_400_deep_goes_the_whole_way(rt: HostRuntime) -> Result<(), Fail> {
-    let alloc = rt.alloc();
-    for (open, close) in DEEP {
-        let times = if open.len() > 30 { 133 } else { 399 };
-        let text = deep(alloc, open, close, times)?;
-        assert!(rt; text.len() < 20_000);
-        let tokens = tokens(alloc, text.as_bytes())?;
-        let tree = parse(alloc, tokens.as_slice(), false)?;
-        let core = check(alloc, &tree, &Env)?;
-        let code = generate(alloc, &core)?;
-        let listed = listing(alloc, &code)?;
-        assert!(rt; listed.as_slice().ends_with(b" END\n"), "{open}");
-    }
-    Ok(())
-}
-
 #[test]
 fn a_source_and_a_sink_that_fail_at_each_call(rt: HostRuntime) -> Result<(), Fail> {
     let alloc = rt.alloc();
