@@ -1,2 +1,1 @@
-pub mod Common
-mod Systems
+pub mod Systems

@@ -1,9 +1,10 @@
 -- Tasks over one pool.
-use Rattle.std.specs.Prelude.{◌≡◌, ◌≢◌, ℕ, List, [], ◌∷◌, Option, None, pos, slice_set, slice_index_or}
-use Rattle.std.specs.List.{flat_map, remove}
+use Rattle.std.specs.Prelude.{◌≡◌, ℕ, List, [], ◌∷◌, Option, None, pos, slice_index_or}
+use Rattle.std.specs.List.{flat_map}
 use Rattle.eu_base.specs.Spaces.{IsKept}
 use Rattle.page_pool.specs.Pool.{Pages}
 use Rattle.data_space.specs.Data.{SpaceData}
+use Rattle.data_space.specs.Owners.{ChangesOwner, LosesOwner}
 use Rattle.page_table.specs.Frames.{content_at}
 use Rattle.task_spaces_tests.specs.declared.task.Task.{Task}
 
@@ -26,11 +27,6 @@ task_at tasks k = slice_index_or tasks k no_task
 abbrev pub SameBytes : Pages → Pages → Option ℕ → Type 0
 SameBytes old new root = IsKept (content_at old root) (content_at new root)
 
--- and of both spaces of a task
-pub record SameTask (old new : Pages) (t : Task) : Type 0 where
-  pub first : SameBytes old new t.first.root
-  pub second : SameBytes old new t.second.root
-
 -- a space with the bytes, the type and the shape that another had
 pub record IsCopy (old new : Pages) (of copy : SpaceData) : Type 0 where
   pub bytes : IsKept (content_at old of.root) (content_at new copy.root)
@@ -38,11 +34,9 @@ pub record IsCopy (old new : Pages) (of copy : SpaceData) : Type 0 where
   pub shape : copy.shape ≡ of.shape
 
 -- task k is another one now; each other task is as it was, with every byte of its spaces
-pub record ChangesTask (old new : Pages) (tasks later : List Task) (k : ℕ) (t : Task) : Type 0 where
-  pub list : later ≡ slice_set tasks k t
-  pub others : (j : ℕ) → j ≢ k → SameTask old new (task_at tasks j)
+abbrev pub ChangesTask : Pages → Pages → List Task → List Task → ℕ → Type 0
+ChangesTask old new tasks later k = ChangesOwner roots no_task old new tasks later k
 
--- task k is gone
-pub record LosesTask (old new : Pages) (tasks later : List Task) (k : ℕ) : Type 0 where
-  pub list : later ≡ remove tasks k
-  pub others : (j : ℕ) → j ≢ k → SameTask old new (task_at tasks j)
+-- task k is gone; each other task is as it was, with every byte of its spaces
+abbrev pub LosesTask : Pages → Pages → List Task → List Task → ℕ → Type 0
+LosesTask old new tasks later k = LosesOwner roots no_task old new tasks later k

@@ -29,7 +29,7 @@ impl System {
         ensures written { OnOk result (IsPasted (content_at self.old.pool (task_at self.old.tasks.items k).first.root)
             (content_at self.new.pool (task_at self.new.tasks.items k).first.root) at from.now) }
         ensures second { SameBytes self.old.pool self.new.pool (task_at self.old.tasks.items k).second.root }
-        ensures others { ChangesTask self.old.pool self.new.pool self.old.tasks.items self.new.tasks.items k (task_at self.new.tasks.items k) }
+        ensures others { ChangesTask self.old.pool self.new.pool self.old.tasks.items self.new.tasks.items k }
     {
         spaces::write(&mut self.tasks[k], &mut self.pool, at, from)
     }
@@ -38,7 +38,7 @@ impl System {
     pub fn put(&mut self, k: usize, cell: u16, number: u64) -> Result<(), MemFault>
         requires task { k < length self.old.tasks.items }
         requires cell { cell < 16384 }
-        ensures others { ChangesTask self.old.pool self.new.pool self.old.tasks.items self.new.tasks.items k (task_at self.new.tasks.items k) }
+        ensures others { ChangesTask self.old.pool self.new.pool self.old.tasks.items self.new.tasks.items k }
     {
         spaces::put(&mut self.tasks[k], &mut self.pool, cell, number)
     }
@@ -47,10 +47,10 @@ impl System {
     pub fn copy(&mut self, alloc: Global, from: usize, to: usize) -> Result<(), NoMemory>
         requires from { from < length self.old.tasks.items }
         requires to { to < length self.old.tasks.items }
-        requires few { length self.old.tasks.items ≤ 900 }
+        requires few { length (roots_of self.old.tasks.items) ≤ 1999 }
         ensures copied { OnOk result (IsCopy self.old.pool self.new.pool (task_at self.old.tasks.items from).first (task_at self.new.tasks.items to).second) }
         ensures first { SameBytes self.old.pool self.new.pool (task_at self.old.tasks.items to).first.root }
-        ensures others { ChangesTask self.old.pool self.new.pool self.old.tasks.items self.new.tasks.items to (task_at self.new.tasks.items to) }
+        ensures others { ChangesTask self.old.pool self.new.pool self.old.tasks.items self.new.tasks.items to }
     {
         let copy = self.tasks[from].first.copy(alloc, &mut self.pool)?;
         spaces::give(&mut self.tasks[to], &mut self.pool, copy);

@@ -18,15 +18,19 @@ pub returns-clause-shows : goal.returns-clause-shows
 returns-clause-shows c = λ k low.
     let new = c.table_page-2.new.pool in
     let t_not = added_other _ _ _ c.in_ok-t.t _ c.in_ok-r.ensures.adds (omega (arith, added_single _ _ _ _ c.in_ok-t.ensures.adds)) in
-    let p_live : 1 ≤ count_of c.write_own.new.self c.in_ok-p.p = omega (arith, c.write_own.ensures.writes.counts c.in_ok-p.p, added_single _ _ _ _ c.in_ok-p.ensures.adds) in
+    let p_live : 1 ≤ count_of c.write_own.new.self c.in_ok-p.p =
+    omega (arith, c.write_own.ensures.writes.counts c.in_ok-p.p, added_single _ _ _ _ c.in_ok-p.ensures.adds) in
     let p_not = added_other _ _ _ c.in_ok-p.p _ c.in_ok-t.ensures.adds p_live in
     let p_far = added_other _ _ _ c.in_ok-p.p _ c.in_ok-r.ensures.adds (omega (arith, c.in_ok-t.ensures.adds.counts c.in_ok-p.p, p_live)) in
     let bytes : bytes_of new c.in_ok-p.p ≡ c.args.bytes.now =
-    (c.in_ok-r.ensures.adds.others _ p_far).bytes ∙ (c.in_ok-t.ensures.adds.others _ p_not).bytes ∙ c.write_own.ensures.writes.bytes_are ∙ pasted_whole _ _ c.write_own.ensures.long c.requires.page in
-    let table : child (book_of new) (Some c.in_ok-t.t) 0 ≡ Some c.in_ok-p.p = ap (λ (b : List ℕ). get_or (entries_of b) 0 None) (c.in_ok-r.ensures.adds.others _ t_not).bytes ∙ c.in_ok-t.ensures.entries 0 in
+    (c.in_ok-r.ensures.adds.others _ p_far).bytes ∙ (c.in_ok-t.ensures.adds.others _ p_not).bytes ∙ c.write_own.ensures.writes.bytes_are
+    ∙ pasted_whole _ _ c.write_own.ensures.long c.requires.page in
+    let table : child (book_of new) (Some c.in_ok-t.t) 0 ≡ Some c.in_ok-p.p =
+    ap (λ (b : List ℕ). get_or (entries_of b) 0 None) (c.in_ok-r.ensures.adds.others _ t_not).bytes ∙ c.in_ok-t.ensures.entries 0 in
     let here : shown new 2 (Some c.in_ok-r.r) 0 ≡ c.args.bytes.now =
     ap (λ (o : Option ℕ). shown new 1 o 0) (c.in_ok-r.ensures.entries 0) ∙ ap (λ (o : Option ℕ). shown new 0 o 0) table ∙ bytes in
     let first : (0 + k) / 512 ≡ 0 = omega (arith, low, c.requires.page) in
     let place : (0 + k) % 512 ≡ k = omega (arith, low, c.requires.page) in
-    sym (ap (λ (d : SpaceData). content_at new d.root (0 + k)) c.of.ensures ∙ ap (λ (n : ℕ). get_or (shown new 2 (Some c.in_ok-r.r) n) ((0 + k) % 512) 0) first
+    sym (ap (λ (d : SpaceData). content_at new d.root (0 + k)) c.of.ensures
+    ∙ ap (λ (n : ℕ). get_or (shown new 2 (Some c.in_ok-r.r) n) ((0 + k) % 512) 0) first
     ∙ ap (λ (n : ℕ). get_or (shown new 2 (Some c.in_ok-r.r) 0) n 0) place ∙ ap (λ (b : List ℕ). get_or b k 0) here)

@@ -1,4 +1,4 @@
-use Rattle.task_spaces_tests.proofs.Common.{[], ◌∷◌, stands_first, frames_more}
+use Rattle.task_spaces_tests.proofs.Systems.{[], ◌∷◌, stands_first, frames_more}
 use Rattle.task_spaces_tests.proofs.spaces.put.Goals as goal
 
 pub put_cell-requires-clause-agree : goal.put_cell-requires-clause-agree

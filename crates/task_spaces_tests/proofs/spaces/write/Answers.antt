@@ -1,4 +1,4 @@
-use Rattle.task_spaces_tests.proofs.Common.{[], ◌∷◌, arith, stands_first, frames_more, beside, named_first}
+use Rattle.task_spaces_tests.proofs.Systems.{[], ◌∷◌, arith, stands_first, frames_more, beside, named_first}
 use Rattle.task_spaces_tests.proofs.spaces.write.Goals as goal
 
 pub write-requires-clause-agree : goal.write-requires-clause-agree
