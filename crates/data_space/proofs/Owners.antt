@@ -8,7 +8,7 @@ use Rattle.eu_base.specs.Spaces.{IsKept}
 use Rattle.page_pool.specs.Pool.{Pages}
 use Rattle.page_table.specs.Entries.{Names}
 use Rattle.page_table.specs.Frames.{content_at, Frames, Framed, Stands}
-use Rattle.page_table.specs.Sharing.{occ, Agree}
+use Rattle.page_table.specs.Sharing.{occ, Agree, most_spaces}
 use Rattle.page_table.proofs.Counting.{occ-append}
 use Rattle.page_table.proofs.Framing.{Same, same_self, reorder, agree_same, agree_after, all_keep, stands_of, named_first, named_later}
 use Rattle.page_table.proofs.Moving.{equal}
@@ -80,7 +80,7 @@ module _ {T : Type 0} (roots : T → Names) (none : T) where
 
     -- A call on it turns its names, and those in hand before, into others. Afterwards the spaces are those of the others, and these.
     module _ (new : Pages) (mine later : Names) (frames : Frames pages new (hand ++ roots t) mine) (same : Same (mine ++ all (without k ts)) later)
-        (fits : length (hand ++ all ts) ≤ 2000 → length later ≤ 2000) where
+        (fits : length (hand ++ all ts) ≤ most_spaces → length later ≤ most_spaces) where
       framed : Agree pages (hand ++ all ts) → Framed pages new mine (all (without k ts))
       framed a = frames.frame (all (without k ts)) (reorder pages _ _ apart a) (omega (arith, fits a.few, same.long))
 
@@ -101,7 +101,7 @@ module _ {T : Type 0} (roots : T → Names) (none : T) where
   module _ (old new : Pages) (hand : Names) (ts : List T) (k : ℕ) (t : T) (low : k < length ts) (read : t ≡ get_or ts k t) (some : ∥ Agree old (hand ++ all ts) ∥₁) where
     -- owner k is another one, which has the names in hand
     module _ (u : T) (fewer : length (roots u) ≤ length (hand ++ roots t)) (frames : Frames old new (hand ++ roots t) (roots u)) where
-      set_fits : length (hand ++ all ts) ≤ 2000 → length (all (set ts k u)) ≤ 2000
+      set_fits : length (hand ++ all ts) ≤ most_spaces → length (all (set ts k u)) ≤ most_spaces
       set_fits few = omega (arith, few, fewer, (apart old hand ts k t low read some).long, length-append (hand ++ roots t) (all (without k ts)), (split_set ts k u low).long, length-append (roots u) (all (without k ts)))
 
       pub set_agree : ∥ Agree new (all (set ts k u)) ∥₁
@@ -115,7 +115,7 @@ module _ {T : Type 0} (roots : T → Names) (none : T) where
 
     -- it is gone, with the names in hand
     module _ (frames : Frames old new (hand ++ roots t) []) where
-      gone_fits : length (hand ++ all ts) ≤ 2000 → length (all (remove ts k)) ≤ 2000
+      gone_fits : length (hand ++ all ts) ≤ most_spaces → length (all (remove ts k)) ≤ most_spaces
       gone_fits few = omega (arith, few, (apart old hand ts k t low read some).long, length-append (hand ++ roots t) (all (without k ts)), (left ts k low).long)
 
       pub gone_agree : ∥ Agree new (all (remove ts k)) ∥₁
@@ -126,7 +126,7 @@ module _ {T : Type 0} (roots : T → Names) (none : T) where
 
   -- a copy of a space of owner k, its first, is in hand
   module _ (old : Pages) (ts : List T) (k : ℕ) (t : T) (low : k < length ts) (read : t ≡ get_or ts k t) (some : ∥ Agree old (all ts) ∥₁)
-      (mine : Option ℕ) (more : Names) (has : roots t ≡ mine ∷ more) (room : length (all ts) ≤ 1999) where
+      (mine : Option ℕ) (more : Names) (has : roots t ≡ mine ∷ more) (room : length (all ts) < most_spaces) where
     split : Same (all ts) (mine ∷ (more ++ all (without k ts)))
     split = subst (λ (l : Names). Same (all ts) (l ++ all (without k ts))) has (apart old [] ts k t low read some)
 

@@ -6,8 +6,9 @@ pub use Rattle.std.proofs.lemmas.Option.{none-some, same_Some}
 pub use Rattle.std.specs.Option.{ForSome}
 pub use Rattle.page_pool.specs.Pool.{Pages, count_of, bytes_of, home_of, used_of, pasted, one, sum, IsPool, Stays, Adds, Shares, Drops, Writes}
 pub use Rattle.page_pool.proofs.Sound.{one_same, one_other}
-pub use Rattle.page_table.specs.Entries.{Names, Book, entries_of, book_of, told, child, content_of, named_by, word}
-pub use Rattle.page_table.specs.Sharing.{hit, occ, inner, named, Hands, names, both, nothing, total, Agrees, AgreeIn, Agree}
+pub use Rattle.page_table.specs.Entries.{Names, Book, entries_of, book_of, told, child, content_of, named_by}
+pub use Rattle.std.specs.Int.{from_le_bytes, to_le_bytes, w32}
+pub use Rattle.page_table.specs.Sharing.{hit, occ, inner, named, Hands, names, both, nothing, total, Agrees, AgreeIn, Agree, most_spaces}
 pub use Rattle.page_table.specs.Frames.{place, shown, content_at, KeepsHomes, Frames, Stands, Moves, Holds}
 pub use Rattle.page_table.specs.Changes.{ChangesOnly, FreesOnly, way}
 pub use Rattle.page_table.specs.Own.{named_page, count_at, Owns, KeepsWay, Takes, heirs, HasFewNames, Ready}

@@ -9,7 +9,7 @@ use Rattle.page_table.proofs.Common.{Agrees, Agree, HasFewNames, ◌-◌, ◌/�
 use Rattle.page_table.proofs.Common.{content_at, Frames, Stands, Moves, Holds, named_page, Ready}
 use Rattle.page_table.proofs.Counting.{sum_same, sum_at, sum_put, named_one, entries_length, hit_some, occ-append, names_sum, names_same, names_none}
 use Rattle.page_table.proofs.Moving.{number_low, at_least, equal, held_as, in_like, homes_then, moves_like, moves_none, shown_none, child_named, child_high}
-use Rattle.page_table.specs.Sharing.{numbers}
+use Rattle.page_table.specs.Sharing.{numbers, most_spaces}
 
 pub sum_zero : (n : ℕ) → sum (λ p. 0) n ≡ 0
 sum_zero zero = refl
@@ -193,7 +193,7 @@ frames_more old new a b more f = record {
   homes = f.homes;
   frame = λ rest g room.
       let k = f.frame (more ++ rest) (subst (Agree old) (append_assoc a more rest) g)
-      (subst (λ (l : Names). length l ≤ 2000) (append_assoc b more rest) room) in
+      (subst (λ (l : Names). length l ≤ most_spaces) (append_assoc b more rest) room) in
       record {
         agrees = subst (Agree new) (sym (append_assoc b more rest)) k.agrees;
         same = λ root among. k.same root (λ x is. omega (arith, occ-append x more rest, among x is));
@@ -225,7 +225,7 @@ pub stands_after : (old new : Pages) (a b : Names) (more less : ℕ) → length 
     → Frames old new a b → Stands old a more → Stands new b less
 stands_after old new a b more less few f stands = record {
   some = ∥∥₁_map stands.some (λ t.
-      let room : length (b ++ t.0) + less ≤ 2000 = omega (arith, few, t.2, length-append a t.0, length-append b t.0) in
+      let room : length (b ++ t.0) + less ≤ most_spaces = omega (arith, few, t.2, length-append a t.0, length-append b t.0) in
       (t.0, (f.frame t.0 t.1 (omega (arith, room))).agrees, room));
 }
 
@@ -233,7 +233,7 @@ pub stands_first : (pages : Pages) (a others : Names) (more : ℕ) → Stands pa
 stands_first pages a others more stands = record {
   some = ∥∥₁_map stands.some (λ t.
       let e = append_assoc a others t.0 in
-      (others ++ t.0, subst (Agree pages) e t.1, subst (λ (l : Names). length l + more ≤ 2000) e t.2));
+      (others ++ t.0, subst (Agree pages) e t.1, subst (λ (l : Names). length l + more ≤ most_spaces) e t.2));
 }
 
 -- a space beside those of the call keeps its bytes
@@ -242,7 +242,7 @@ pub beside : (old new : Pages) (a b others : Names) (more : ℕ) → length b �
 beside old new a b others more few f stands root among n = equal _ _ stands.some (λ t.
     let e = append_assoc a others t.0 in
     let g = subst (Agree old) e t.1 in
-    let room : length (a ++ (others ++ t.0)) + more ≤ 2000 = subst (λ (l : Names). length l + more ≤ 2000) e t.2 in
+    let room : length (a ++ (others ++ t.0)) + more ≤ most_spaces = subst (λ (l : Names). length l + more ≤ most_spaces) e t.2 in
     (f.frame (others ++ t.0) g (omega (arith, few, room, length-append a (others ++ t.0), length-append b (others ++ t.0)))).same root
     (λ x is. omega (arith, occ-append x others t.0, among x is)) n)
 
@@ -280,7 +280,7 @@ page_live pages (Some r) more k p stands is = at_least _ _ (holds_of pages (Some
         omega (arith, a.counts p, child_named pages _ a t (k % 128) p (omega (arith, table)) is)
 
 -- a pool without pages agrees where nothing is named
-pub nil_agree : (roots : Names) → ((p : ℕ) → occ p roots ≡ 0) → length roots ≤ 2000 → Agree [] roots
+pub nil_agree : (roots : Names) → ((p : ℕ) → occ p roots ≡ 0) → length roots ≤ most_spaces → Agree [] roots
 nil_agree roots none few = record {
   few = few;
   agrees = in_like {a = nothing} (names_none 2 roots none) (record {
@@ -299,10 +299,10 @@ nil_agree roots none few = record {
 }
 
 -- the same for all spaces that there are
-pub stands_of : (pages : Pages) (mine rest : Names) (more : ℕ) → length (mine ++ rest) + more ≤ 2000 → ∥ Agree pages (mine ++ rest) ∥₁ → Stands pages mine more
+pub stands_of : (pages : Pages) (mine rest : Names) (more : ℕ) → length (mine ++ rest) + more ≤ most_spaces → ∥ Agree pages (mine ++ rest) ∥₁ → Stands pages mine more
 stands_of pages mine rest more room some = record { some = ∥∥₁_map some (λ a. (rest, a, room)) }
 
-pub agree_after : (old new : Pages) (a b rest : Names) → length (b ++ rest) ≤ 2000 → Frames old new a b → ∥ Agree old (a ++ rest) ∥₁
+pub agree_after : (old new : Pages) (a b rest : Names) → length (b ++ rest) ≤ most_spaces → Frames old new a b → ∥ Agree old (a ++ rest) ∥₁
     → ∥ Agree new (b ++ rest) ∥₁
 agree_after old new a b rest room f some = ∥∥₁_map some (λ g. (f.frame rest g room).agrees)
 
@@ -311,7 +311,7 @@ agree_same pages a b s some = ∥∥₁_map some (reorder pages a b s)
 
 -- a call that keeps the bytes of its own space keeps those of all
 pub all_keep : (old new : Pages) (mine : Option ℕ) (after rest : Names) → Frames old new (mine ∷ []) after
-    → ((n : ℕ) → content_at new mine n ≡ content_at old mine n) → ∥ Agree old (mine ∷ rest) ∥₁ → length (after ++ rest) ≤ 2000
+    → ((n : ℕ) → content_at new mine n ≡ content_at old mine n) → ∥ Agree old (mine ∷ rest) ∥₁ → length (after ++ rest) ≤ most_spaces
     → (root : Option ℕ) → ForSome root (λ x. 1 ≤ occ x (mine ∷ rest)) → (n : ℕ) → content_at new root n ≡ content_at old root n
 all_keep old new mine after rest f shows some room None among n =
     equal _ _ some (λ a. (f.frame rest a room).same None (λ x is. absurd (none-some x is)) n)

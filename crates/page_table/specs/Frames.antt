@@ -3,7 +3,7 @@ use Rattle.std.specs.Prelude.{◌≡◌, ◌+◌, ◌/◌, ◌%◌, ◌≤◌, �
 use Rattle.std.specs.Option.{ForSome}
 use Rattle.page_pool.specs.Pool.{Pages, count_of, home_of, Stays}
 use Rattle.page_table.specs.Entries.{Names, book_of, told, child, content_of}
-use Rattle.page_table.specs.Sharing.{Hands, both, occ, AgreeIn, Agree}
+use Rattle.page_table.specs.Sharing.{most_spaces, Hands, both, occ, AgreeIn, Agree}
 
 -- the entry on the way to page k, in a page one higher than this
 abbrev pub place : ℕ → ℕ → ℕ
@@ -32,11 +32,11 @@ pub record Framed (old new : Pages) (after rest : Names) : Type 0 where
 -- of the rest changes.
 pub record Frames (old new : Pages) (before after : Names) : Type 0 where
   pub homes : KeepsHomes old new
-  pub frame : (rest : Names) → Agree old (before ++ rest) → length (after ++ rest) ≤ 2000 → Framed old new after rest
+  pub frame : (rest : Names) → Agree old (before ++ rest) → length (after ++ rest) ≤ most_spaces → Framed old new after rest
 
 -- the pool agrees with some spaces, these among them, and there is room for so many more
 pub record Stands (pages : Pages) (mine : Names) (more : ℕ) : Type 0 where
-  pub some : ∥ ((rest : Names) × Agree pages (mine ++ rest) × (length (mine ++ rest) + more ≤ 2000)) ∥₁
+  pub some : ∥ ((rest : Names) × Agree pages (mine ++ rest) × (length (mine ++ rest) + more ≤ most_spaces)) ∥₁
 
 -- the same with names in hand: the rest shows what it showed, and a page of it with one name keeps one
 pub record Moved (old new : Pages) (after rest : Hands) : Type 0 where

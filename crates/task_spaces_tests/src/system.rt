@@ -2,7 +2,7 @@
 ghost use Rattle.std.specs.Prelude.{◌≡◌, ◌+◌, ◌<◌, ◌≤◌, length, OnOk};
 ghost use Rattle.eu_base.specs.Spaces.{IsPasted};
 ghost use Rattle.page_table.specs.Frames.{content_at};
-ghost use Rattle.page_table.specs.Sharing.{Agree};
+ghost use Rattle.page_table.specs.Sharing.{Agree, most_spaces};
 ghost use Rattle.task_spaces_tests.specs.Tasks.{roots_of, task_at, SameBytes, IsCopy, ChangesTask, LosesTask};
 
 use crate::spaces;
@@ -47,7 +47,7 @@ impl System {
     pub fn copy(&mut self, alloc: Global, from: usize, to: usize) -> Result<(), NoMemory>
         requires from { from < length self.old.tasks.items }
         requires to { to < length self.old.tasks.items }
-        requires few { length (roots_of self.old.tasks.items) ≤ 1999 }
+        requires few { length (roots_of self.old.tasks.items) < most_spaces }
         ensures copied { OnOk result (IsCopy self.old.pool self.new.pool (task_at self.old.tasks.items from).first (task_at self.new.tasks.items to).second) }
         ensures first { SameBytes self.old.pool self.new.pool (task_at self.old.tasks.items to).first.root }
         ensures others { ChangesTask self.old.pool self.new.pool self.old.tasks.items self.new.tasks.items to }
