@@ -34,8 +34,12 @@ module _ {T : Type 0} (roots : T → Names) (none : T) where
   split_set (t ∷ ts) (suc k) u low =
       let s = split_set ts k u (omega (arith, low)) in
       record {
-        long = omega (arith, s.long, length-append (roots t) (all (set ts k u)), length-append (roots u) (all (without k ts)), length-append (roots u) (roots t ++ all (without k ts)), length-append (roots t) (all (without k ts)));
-        occs = λ p. omega (arith, s.occs p, occ-append p (roots t) (all (set ts k u)), occ-append p (roots u) (all (without k ts)), occ-append p (roots u) (roots t ++ all (without k ts)), occ-append p (roots t) (all (without k ts)));
+        long =
+            omega (arith, s.long, length-append (roots t) (all (set ts k u)), length-append (roots u) (all (without k ts)),
+                length-append (roots u) (roots t ++ all (without k ts)), length-append (roots t) (all (without k ts)));
+        occs =
+            λ p. omega (arith, s.occs p, occ-append p (roots t) (all (set ts k u)), occ-append p (roots u) (all (without k ts)),
+                occ-append p (roots u) (roots t ++ all (without k ts)), occ-append p (roots t) (all (without k ts)));
       }
 
   set_get : (ts : List T) (k : ℕ) → k < length ts → set ts k (get_or ts k none) ≡ ts
@@ -53,7 +57,8 @@ module _ {T : Type 0} (roots : T → Names) (none : T) where
   in_others (t ∷ ts) zero zero x low ne = absurd (ne refl)
   in_others (t ∷ ts) zero (suc j) x low ne = in_all ts j x (omega (arith, low))
   in_others (t ∷ ts) (suc k) zero x low ne = omega (arith, occ-append x (roots t) (all (without k ts)))
-  in_others (t ∷ ts) (suc k) (suc j) x low ne = omega (arith, in_others ts k j x (omega (arith, low)) (λ e. ne (ap suc e)), occ-append x (roots t) (all (without k ts)))
+  in_others (t ∷ ts) (suc k) (suc j) x low ne =
+      omega (arith, in_others ts k j x (omega (arith, low)) (λ e. ne (ap suc e)), occ-append x (roots t) (all (without k ts)))
 
   pub without_is : (ts : List T) (k : ℕ) → k < length ts → without k ts ≡ remove ts k
   without_is [] k low = absurd (omega (arith, low))
@@ -66,14 +71,21 @@ module _ {T : Type 0} (roots : T → Names) (none : T) where
       let s = split_set ts k u low in
       let rest : Names = all (without k ts) in
       record {
-        long = omega (arith, s.long, length-append hand (all (set ts k u)), length-append (hand ++ roots u) rest, length-append hand (roots u), length-append (roots u) rest);
-        occs = λ p. omega (arith, s.occs p, occ-append p hand (all (set ts k u)), occ-append p (hand ++ roots u) rest, occ-append p hand (roots u), occ-append p (roots u) rest);
+        long =
+            omega (arith, s.long, length-append hand (all (set ts k u)), length-append (hand ++ roots u) rest, length-append hand (roots u),
+                length-append (roots u) rest);
+        occs =
+            λ p. omega (arith, s.occs p, occ-append p hand (all (set ts k u)), occ-append p (hand ++ roots u) rest, occ-append p hand (roots u),
+                occ-append p (roots u) rest);
       }
 
   -- an owner that stands at k, with names in hand
-  module _ (pages : Pages) (hand : Names) (ts : List T) (k : ℕ) (t : T) (low : k < length ts) (read : t ≡ get_or ts k t) (some : ∥ Agree pages (hand ++ all ts) ∥₁) where
+  module _ (pages : Pages) (hand : Names) (ts : List T) (k : ℕ) (t : T) (low : k < length ts) (read : t ≡ get_or ts k t)
+      (some : ∥ Agree pages (hand ++ all ts) ∥₁) where
     pub apart : Same (hand ++ all ts) ((hand ++ roots t) ++ all (without k ts))
-    apart = subst (λ (l : List T). Same (hand ++ all l) ((hand ++ roots t) ++ all (without k ts))) (subst (λ (u : T). set ts k u ≡ ts) (sym (get_or_read ts k t low read none)) (set_get ts k low)) (in_hand hand ts k t low)
+    apart =
+        subst (λ (l : List T). Same (hand ++ all l) ((hand ++ roots t) ++ all (without k ts)))
+            (subst (λ (u : T). set ts k u ≡ ts) (sym (get_or_read ts k t low read none)) (set_get ts k low)) (in_hand hand ts k t low)
 
     pub own : Stands pages (hand ++ roots t) 0
     own = record { some = ∥∥₁_map some (λ a. (all (without k ts), reorder pages _ _ apart a, omega (arith, a.few, apart.long))) }
@@ -90,7 +102,8 @@ module _ {T : Type 0} (roots : T → Names) (none : T) where
       others_keep : (j : ℕ) → j < length ts → j ≢ k → Keeps roots pages new (get_or ts j none)
       others_keep j there ne i n =
           let named = nth_named (roots (get_or ts j none)) i in
-          equal _ _ some (λ a. (framed a).same _ (λ (x : ℕ) (e : get_or (roots (get_or ts j none)) i None ≡ Some x). omega (arith, named x e, in_others ts k j x there ne)) n)
+          equal _ _ some (λ a. (framed a).same _
+              (λ (x : ℕ) (e : get_or (roots (get_or ts j none)) i None ≡ Some x). omega (arith, named x e, in_others ts k j x there ne)) n)
 
   put_back : (ts : List T) (k : ℕ) (u : T) → k < length ts → Same (roots u ++ all (without k ts)) (all (set ts k u))
   put_back ts k u low = let s = split_set ts k u low in record { long = sym s.long; occs = λ p. sym (s.occs p) }
@@ -98,11 +111,14 @@ module _ {T : Type 0} (roots : T → Names) (none : T) where
   left : (ts : List T) (k : ℕ) → k < length ts → Same (all (without k ts)) (all (remove ts k))
   left ts k low = subst (λ (l : List T). Same (all (without k ts)) (all l)) (without_is ts k low) (same_self _)
 
-  module _ (old new : Pages) (hand : Names) (ts : List T) (k : ℕ) (t : T) (low : k < length ts) (read : t ≡ get_or ts k t) (some : ∥ Agree old (hand ++ all ts) ∥₁) where
+  module _ (old new : Pages) (hand : Names) (ts : List T) (k : ℕ) (t : T) (low : k < length ts) (read : t ≡ get_or ts k t)
+      (some : ∥ Agree old (hand ++ all ts) ∥₁) where
     -- owner k is another one, which has the names in hand
     module _ (u : T) (fewer : length (roots u) ≤ length (hand ++ roots t)) (frames : Frames old new (hand ++ roots t) (roots u)) where
       set_fits : length (hand ++ all ts) ≤ most_spaces → length (all (set ts k u)) ≤ most_spaces
-      set_fits few = omega (arith, few, fewer, (apart old hand ts k t low read some).long, length-append (hand ++ roots t) (all (without k ts)), (split_set ts k u low).long, length-append (roots u) (all (without k ts)))
+      set_fits few =
+          omega (arith, few, fewer, (apart old hand ts k t low read some).long, length-append (hand ++ roots t) (all (without k ts)),
+              (split_set ts k u low).long, length-append (roots u) (all (without k ts)))
 
       pub set_agree : ∥ Agree new (all (set ts k u)) ∥₁
       set_agree = agree_one old hand ts k t low read some new (roots u) _ frames (put_back ts k u low) set_fits
@@ -137,7 +153,8 @@ module _ {T : Type 0} (roots : T → Names) (none : T) where
       pub copy_agree : (copy : Option ℕ) → copy ≡ mine → ∥ Agree new (copy ∷ all ts) ∥₁
       copy_agree copy is = subst (λ (o : Option ℕ). ∥ Agree new (o ∷ all ts) ∥₁) (sym is)
           (agree_same new _ _ (record { long = omega (arith, split.long); occs = λ p. omega (arith, split.occs p) })
-          (agree_after old new (mine ∷ []) (mine ∷ mine ∷ []) (more ++ all (without k ts)) (omega (arith, room, split.long)) frames (agree_same old _ _ split some)))
+          (agree_after old new (mine ∷ []) (mine ∷ mine ∷ []) (more ++ all (without k ts)) (omega (arith, room, split.long)) frames
+              (agree_same old _ _ split some)))
 
       pub copy_keeps : (j : ℕ) → j < length ts → Keeps roots old new (get_or ts j none)
       copy_keeps j there i =

@@ -40,7 +40,8 @@ pub data IsRefused (text : List ℕ) : Refusal → Type 0 where
   too_many : limited (tokens_of text) ≡ Err lex.TooMany → IsRefused text TooMany
   no_tree : {ts : List Token} {n : ℕ} → HasTokens text ts → ((t : Tree) → Reads false ts t → ⊥) → IsPlace false ts n → IsRefused text (NotElan (place_of ts n))
   not_built : {ts : List Token} (t : Tree) → HasTokens text ts → Reads false ts t → tree.IsNotBuilt t → IsRefused text NotBuilt
-  no_meaning : {ts : List Token} {place : ℕ} {why : Why} (t : Tree) → HasTokens text ts → Reads false ts t → tree.Refused alone t (place, why) → IsRefused text (NoMeaning place why)
+  no_meaning : {ts : List Token} {place : ℕ} {why : Why} (t : Tree) → HasTokens text ts → Reads false ts t → tree.Refused alone t (place, why)
+      → IsRefused text (NoMeaning place why)
 
 -- what the text of a program writes
 pub data TextWrites (text : List ℕ) : List ℕ → Type 0 where

@@ -299,7 +299,8 @@ nil_agree roots none few = record {
 }
 
 -- the same for all spaces that there are
-pub stands_of : (pages : Pages) (mine rest : Names) (more : ℕ) → length (mine ++ rest) + more ≤ most_spaces → ∥ Agree pages (mine ++ rest) ∥₁ → Stands pages mine more
+pub stands_of : (pages : Pages) (mine rest : Names) (more : ℕ) → length (mine ++ rest) + more ≤ most_spaces → ∥ Agree pages (mine ++ rest) ∥₁
+    → Stands pages mine more
 stands_of pages mine rest more room some = record { some = ∥∥₁_map some (λ a. (rest, a, room)) }
 
 pub agree_after : (old new : Pages) (a b rest : Names) → length (b ++ rest) ≤ most_spaces → Frames old new a b → ∥ Agree old (a ++ rest) ∥₁

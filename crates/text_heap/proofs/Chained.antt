@@ -6,14 +6,6 @@ use Rattle.text_heap.specs.Blocks.{block_at, link_in, next_in, used_in, bytes_fr
 use Rattle.text_heap.specs.Chains.{SameBlock}
 use Rattle.text_heap.proofs.Totals.{one_same, times_more, AllBelow}
 
-pub bytes_none : (content : Content) (at : ℕ) → bytes_from content at 0 ≡ []
-unfolding bytes_from
-bytes_none content at = refl
-
-pub bytes_more : (content : Content) (at n : ℕ) → bytes_from content at (suc n) ≡ content at ∷ bytes_from content (suc at) n
-unfolding bytes_from
-bytes_more content at n = refl
-
 pub bytes_long : (content : Content) (at n : ℕ) → length (bytes_from content at n) ≡ n
 unfolding bytes_from
 bytes_long content at zero = refl

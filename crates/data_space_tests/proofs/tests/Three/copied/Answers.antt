@@ -11,7 +11,9 @@ forget-requires c = record { agree = third_stands _ _ _ _ c.args.self.agree }
 pub copy-requires : goal.copy-requires
 copy-requires c =
     let rest = c.args.self.first.root ∷ c.args.self.second.root ∷ [] in
-    record { agree = stands_of _ _ (c.args.self.second.root ∷ []) 1 (omega arith) (agree_after _ _ _ _ rest (omega arith) c.forget.ensures.frames (third_first _ _ _ _ c.args.self.agree)) }
+    record { agree =
+        stands_of _ _ (c.args.self.second.root ∷ []) 1 (omega arith)
+        (agree_after _ _ _ _ rest (omega arith) c.forget.ensures.frames (third_first _ _ _ _ c.args.self.agree)) }
 
 pub invariant_of-result : goal.invariant_of-result
 invariant_of-result c =
@@ -19,6 +21,8 @@ invariant_of-result c =
     let left = agree_after _ _ _ _ rest (omega arith) c.forget.ensures.frames (third_first _ _ _ _ c.args.self.agree) in
     let both = agree_after _ _ _ _ (c.args.self.second.root ∷ []) (omega arith) c.in_ok-third.ensures.frames left in
     record {
-      agree = subst (λ (space : SpaceData). ∥ Agree c.copy.new.pool (c.args.self.first.root ∷ c.args.self.second.root ∷ space.root ∷ []) ∥₁) (sym c.in_ok-third.ensures.same)
+      agree =
+          subst (λ (space : SpaceData). ∥ Agree c.copy.new.pool (c.args.self.first.root ∷ c.args.self.second.root ∷ space.root ∷ []) ∥₁)
+              (sym c.in_ok-third.ensures.same)
           (agree_same _ _ _ (record { long = refl; occs = λ p. omega arith }) both);
     }
