@@ -4,4 +4,5 @@ pub mod Counts
 mod Given
 mod Kept
 mod Noted
+mod Same
 pub mod Steps

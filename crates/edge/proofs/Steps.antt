@@ -1,7 +1,7 @@
 -- How a run of disk calls goes on.
 use Rattle.std.proofs.Common.{◌≡◌, inl, inr, ⊎_elim, ℕ, ◌+◌, ◌≤◌, List, Option, Some, Result, Ok, Err, OnOk, OnErr, refl, ◌∙◌, ap, subst, arith}
 use Rattle.std.specs.Option.{option_map}
-use Rattle.edge.specs.Disk.{Blocks, DiskState, after_read, after_write, after_lost_write, after_no_write, after_sync, after_failed_sync, IsFailedWrite, IsImage, MayLeave, Elapses}
+use Rattle.edge.specs.Disk.{Blocks, DiskState, after_read, after_write, after_lost_write, after_sync, after_failed_sync, IsFailedWrite, IsImage, MayLeave, Elapses}
 use Rattle.edge.specs.Moments.{ChangesOnly, AgreesOutside, Leaves, LeavesOnly, Nowhere, Step, HasMade}
 use Rattle.edge.proofs.Changes.{changes_nothing, changes_written, changes_lost, changes_more, changes_within, image_agrees, agrees_before}
 use Rattle.edge.proofs.Counts.{made_none, at_most, at_most_more, at_most_of}
@@ -69,13 +69,10 @@ module _ {D : Type 0} (state : D → Option DiskState) (moment : D → ℕ) (lef
 
   pub failed_step : (old new : D) (changed : ℕ → Type 0) (at : ℕ) (bytes : List ℕ) (s : DiskState) → changed at → state old ≡ Some s
       → IsFailedWrite at bytes (state old) (state new) → Passes old new → Step state moment left_since old new changed 0 1 0 s
-  failed_step old new changed at bytes s there told (inl nothing) time =
-      one_step 0 1 0 old new changed s (after_no_write s) (nothing ∙ ap (option_map after_no_write) told)
-      (record { content = λ block out. refl; written = λ block out synced. synced }) (record { reads = refl; writes = refl; syncs = refl }) time
-  failed_step old new changed at bytes s there told (inr (inl lost)) time =
+  failed_step old new changed at bytes s there told (inl lost) time =
       one_step 0 1 0 old new changed s (after_lost_write at s) (lost ∙ ap (option_map (after_lost_write at)) told) (changes_lost changed at s there)
       (record { reads = refl; writes = refl; syncs = refl }) time
-  failed_step old new changed at bytes s there told (inr (inr done)) time = wrote_step old new changed at bytes s there told done time
+  failed_step old new changed at bytes s there told (inr done) time = wrote_step old new changed at bytes s there told done time
 
   -- a sync, which may fail
   pub sync_step : {T E : Type 0} (result : Result T E) (old new : D) (changed : ℕ → Type 0) (s : DiskState) → state old ≡ Some s

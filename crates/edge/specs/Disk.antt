@@ -34,10 +34,6 @@ after_write at bytes s = record s { content = with_block s.content at bytes; wri
 abbrev pub after_lost_write : ℕ → DiskState → DiskState
 after_lost_write at s = record s { written = with_mark s.written at; writes = next_count s.writes }
 
--- a write that failed before it reached the disk
-abbrev pub after_no_write : DiskState → DiskState
-after_no_write s = record s { writes = next_count s.writes }
-
 abbrev pub after_sync : DiskState → DiskState
 after_sync s = record s { synced = s.content; written = λ _. false; syncs = next_count s.syncs }
 
@@ -45,11 +41,9 @@ after_sync s = record s { synced = s.content; written = λ _. false; syncs = nex
 abbrev pub after_failed_sync : DiskState → DiskState
 after_failed_sync s = record s { syncs = next_count s.syncs }
 
--- A failed write leaves the block old or new, and the block counts as written; or it never reached the disk. A disk on which each
--- failed write counts is one of these; this asks less of a disk, so that disks are among them which have no place for the mark.
+-- a failed write leaves the block old or new, and the block counts as written
 abbrev pub IsFailedWrite : ℕ → List ℕ → Option DiskState → Option DiskState → Type 0
-IsFailedWrite at bytes old new =
-    (new ≡ option_map after_no_write old) ⊎ ((new ≡ option_map (after_lost_write at) old) ⊎ (new ≡ option_map (after_write at bytes) old))
+IsFailedWrite at bytes old new = (new ≡ option_map (after_lost_write at) old) ⊎ (new ≡ option_map (after_write at bytes) old)
 
 -- a crash may leave this image: any bytes in the blocks written since the last successful sync, in all others what a read gives
 abbrev pub IsImage : DiskState → Blocks → Type 0

@@ -2,12 +2,13 @@
 use Rattle.std.specs.Prelude.{◌≡◌, ◌⊎◌, ◌↔◌, ℕ, zero, suc, Bool, true, List, [], ◌∷◌, ◌++◌, length, Option, None, Some, Result, IsErr, OnOk, OnErr}
 use Rattle.eu_base.specs.Faults.{next_count}
 use Rattle.edge.specs.declared.log.Written.{Written}
-use Rattle.edge.specs.Disk.{DiskState, after_no_write, after_write, IsImage, Elapses}
-use Rattle.edge.specs.Log.{now_of, past_of, LeftSince, written_at, mark_last}
+use Rattle.edge.specs.Disk.{DiskState, IsImage, Elapses}
+use Rattle.edge.specs.Log.{now_of, past_of, LeftSince, written_at, lost_at, mark_last}
 use Rattle.edge.specs.Memory.{IsListed}
 
--- a disk in memory: the writes, the numbers of the calls that fail, how many calls were made, of each kind too, and how many failed;
--- whether a write failed for want of memory whose number is not listed, and whether a listed one missed the disk for want of memory
+-- a disk in memory: the writes, lost ones among them, the numbers of the calls that fail, how many calls were made, of each kind
+-- too, and how many failed; whether a write failed for want of memory whose number is not listed, and whether a listed one was lost
+-- for want of memory
 pub record MemDiskState : Type 0 where
   pub log : List Written
   pub fails : List ℕ
@@ -22,10 +23,6 @@ pub record MemDiskState : Type 0 where
 -- what it tells
 abbrev pub told_state : MemDiskState → DiskState
 told_state m = record (now_of m.log) { reads = m.reads; writes = m.writes; syncs = m.syncs }
-
--- a write that fails on a disk in memory: it never reached the disk, or the block is new and counts as written
-abbrev pub FailsAtWrite : ℕ → List ℕ → DiskState → DiskState → Type 0
-FailsAtWrite at bytes old new = (Some new ≡ Some (after_no_write old)) ⊎ (Some new ≡ Some (after_write at bytes old))
 
 -- a call, at each moment
 abbrev pub Passes : MemDiskState → MemDiskState → Type 0
@@ -46,6 +43,10 @@ with_write m = record m { calls = next_count m.calls; writes = next_count m.writ
 abbrev pub noted : ℕ → List ℕ → MemDiskState → MemDiskState
 noted at bytes m = record m { log = m.log ++ written_at at bytes ∷ [] }
 
+-- a write was lost: the block is as it was, and counts as written
+abbrev pub lost : ℕ → MemDiskState → MemDiskState
+lost at m = record m { log = m.log ++ lost_at m.log at ∷ [] }
+
 abbrev pub with_sync : MemDiskState → MemDiskState
 with_sync m = record m { calls = next_count m.calls; syncs = next_count m.syncs }
 
@@ -55,13 +56,13 @@ pub record MemReads {T E : Type 0} (result : Result T E) (old new : MemDiskState
   pub ok : OnOk result (new ≡ with_read old)
   pub err : OnErr result (new ≡ with_fault (with_read old))
 
--- A write that is listed fails after it reached the disk: the block is new and counts as written. For want of memory it may miss the
--- disk, which is then told. Any other write fails only for want of memory; it never reached the disk, which is told too.
+-- A write that is listed fails after it reached the disk: the block is new and counts as written. For want of memory it may be lost,
+-- which is then told. Any other write fails only for want of memory; it is lost, which is told too.
 pub record MemWrites {T E : Type 0} (at : ℕ) (bytes : List ℕ) (result : Result T E) (old new : MemDiskState) : Type 0 where
   pub fails : IsListed old.fails old.calls → IsErr result
   pub listed : IsListed old.fails old.calls →
-      (new ≡ noted at bytes (with_fault (with_write old))) ⊎ (new ≡ record (with_fault (with_write old)) { missed = true })
-  pub wanted : ¬ (IsListed old.fails old.calls) → OnErr result (new ≡ record (with_fault (with_write old)) { wanted = true })
+      (new ≡ noted at bytes (with_fault (with_write old))) ⊎ (new ≡ record (lost at (with_fault (with_write old))) { missed = true })
+  pub wanted : ¬ (IsListed old.fails old.calls) → OnErr result (new ≡ record (lost at (with_fault (with_write old))) { wanted = true })
   pub ok : OnOk result (new ≡ noted at bytes (with_write old))
 
 -- a sync fails exactly where it is listed

@@ -6,3 +6,4 @@ pub mod Memory
 pub mod Moments
 pub mod Piece
 pub mod Told
+pub mod Trail

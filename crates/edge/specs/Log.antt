@@ -1,5 +1,5 @@
 -- What a list of writes leaves on a disk that was all zeros, now and at each moment before.
-use Rattle.std.specs.Prelude.{◌⊎◌, ◌||◌, ◌==◌, ℕ, Bool, true, false, if◌then◌else◌, List, [], ◌∷◌, ◌++◌, length, drop, replicate}
+use Rattle.std.specs.Prelude.{◌≡◌, ◌⊎◌, ◌||◌, ◌==◌, ℕ, Bool, true, false, if◌then◌else◌, List, [], ◌∷◌, ◌++◌, length, drop, replicate}
 use mathlib.Core.Logic.{inl, inr}
 use Rattle.edge.specs.declared.log.Written.{Written}
 use Rattle.edge.specs.Disk.{Blocks, DiskState, IsImage, with_block, with_mark}
@@ -75,6 +75,15 @@ counts_now_of past now t image is = inl is
 pub only_now_of : (past : List DiskState) (now : DiskState) (image : Blocks) → LeftSince past now (length past) image → IsImage now image
 only_now_of past now image (inl is) = is
 only_now_of past now image (inr had) = absurd (none_left past image had)
+
+-- a write that was lost: one of the bytes that stood there
+abbrev pub lost_at : List Written → ℕ → Written
+lost_at ws at = written_at at (block_after ws at zeros)
+
+-- the same content, now and at the last successful sync
+pub record HoldsSame (a b : DiskState) : Type 0 where
+  pub content : a.content ≡ b.content
+  pub synced : a.synced ≡ b.synced
 
 -- a sync follows the last write
 abbrev pub mark_last : List Written → List Written

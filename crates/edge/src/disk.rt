@@ -30,7 +30,7 @@ pub trait Disk {
         ensures cause { HasCause (faults self.old) (faults self.new) result };
 
     /// Writes the block of that number. Until a sync succeeds a crash may leave any bytes there. A write that fails
-    /// leaves the block old or new, and a crash may leave any bytes there too; or it never reached the disk.
+    /// leaves the block old or new, and a crash may leave any bytes there too.
     fn write(&mut self, at: u32, from: &[u8; 512]) -> Result<(), Failed>
         requires { at < 1048576 }
         ensures ok { OnOk result (state self.new ≡ option_map (after_write at from.now) (state self.old)) }

@@ -1,8 +1,8 @@
 //! A disk that fails from some call on, as at a crash there.
 ghost use Rattle.std.specs.Prelude.{◌≡◌, ◌<◌, ◌≤◌, ◌-◌, ◌↔◌, None, Some, OnOk, OnErr, IsErr, IsTrue, length};
-ghost use Rattle.edge.specs.Disk.{after_read, after_write, after_sync, after_failed_sync};
+ghost use Rattle.edge.specs.Disk.{Blocks, after_read, after_write, after_sync, after_failed_sync, IsFailedWrite, IsImage};
 ghost use Rattle.edge.specs.Log.{now_of, past_of, LeftSince, counts_now_of, only_now_of};
-ghost use Rattle.edge.specs.DisksInMemory.{told_by_fuse, FailsAtWrite, Passes, MemReads, MemWrites, MemSyncs, IsSpent, one_less};
+ghost use Rattle.edge.specs.DisksInMemory.{told_state, told_by_fuse, lost, Passes, MemReads, MemWrites, MemSyncs, IsSpent, one_less};
 ghost use Rattle.edge.specs.Faults.{HasCause};
 
 use crate::mem_disk::Counts;
@@ -10,7 +10,8 @@ use crate::{Disk, Failed, MemDisk};
 use std::marker::Model;
 
 /// A disk in memory behind a fuse. It passes so many calls, or all calls before some sync, and then fails
-/// every call. A call that it refuses doesn't reach the disk in memory.
+/// every call. A call that it refuses doesn't reach the disk in memory; a write that it refuses is lost, and the
+/// block counts as written.
 #[derive(Drop)]
 pub struct FuseDisk {
     disk: MemDisk,
@@ -79,9 +80,10 @@ impl FuseDisk {
         }
     }
 
-    /// The disk behind the fuse.
+    /// The disk behind the fuse. What a crash may leave of it, it may have left behind the fuse.
     pub fn into_inner(self) -> MemDisk
-        ensures { result ≡ self.disk }
+        ensures disk { result ≡ self.disk }
+        ensures images { (image : Blocks) → IsImage (told_state result) image → IsImage (told_by_fuse self) image }
     {
         let FuseDisk {
             disk,
@@ -146,15 +148,16 @@ impl Disk for FuseDisk {
 
     fn write(&mut self, at: u32, from: &[u8; 512]) -> Result<(), Failed>
         ensures ok { OnOk result (Some (told_by_fuse self.new) ≡ Some (after_write at from.now (told_by_fuse self.old))) }
-        ensures err { OnErr result (FailsAtWrite at from.now (told_by_fuse self.old) (told_by_fuse self.new)) }
+        ensures err { OnErr result (IsFailedWrite at from.now (Some (told_by_fuse self.old)) (Some (told_by_fuse self.new))) }
         ensures time { Passes self.old.disk self.new.disk }
         ensures cause { HasCause self.old.faults self.new.faults result }
-        ensures refused { IsSpent self.old.calls_left → IsErr result × (self.new.disk ≡ self.old.disk) }
+        ensures refused { IsSpent self.old.calls_left → IsErr result × (self.new.disk ≡ lost at self.old.disk) }
         ensures passed { ¬ (IsSpent self.old.calls_left) → MemWrites at from.now result self.old.disk self.new.disk }
         ensures left { (self.new.calls_left ≡ one_less self.old.calls_left) × (self.new.syncs_left ≡ self.old.syncs_left) }
     {
         self.counts.writes = self.counts.writes.saturating_add(1);
         if is_refused(&mut self.calls_left) {
+            self.disk.lose_write(at);
             self.counts.faults = self.counts.faults.saturating_add(1);
             return Err(Failed);
         }

@@ -9,6 +9,8 @@ mod mem_disk;
 mod pieces;
 mod sink;
 mod source;
+mod trail;
+mod write_log;
 
 pub use disk::Disk;
 pub use fuse_disk::FuseDisk;

@@ -1,12 +1,12 @@
 //! A disk in memory.
 ghost use Rattle.std.specs.Prelude.{◌≡◌, [], false, Some, OnOk, OnErr, IsTrue, length};
-ghost use Rattle.edge.specs.Disk.{after_read, after_write, after_sync, after_failed_sync, IsImage};
+ghost use Rattle.edge.specs.Disk.{after_read, after_write, after_sync, after_failed_sync, IsFailedWrite, IsImage};
 ghost use Rattle.edge.specs.Log.{now_of, past_of, LeftSince, counts_now_of, only_now_of, zeros, mark_last, synced_part};
-ghost use Rattle.edge.specs.DisksInMemory.{told_state, FailsAtWrite, Passes, MemReads, MemWrites, MemSyncs};
+ghost use Rattle.edge.specs.DisksInMemory.{told_state, lost, Passes, MemReads, MemWrites, MemSyncs};
 ghost use Rattle.edge.specs.Faults.{HasCause};
 
 use crate::calls::is_listed;
-use crate::log::{Written, find, lose, note, settle};
+use crate::write_log::WriteLog;
 use crate::{Disk, Failed};
 use eu_base::List;
 use std::alloc::Global;
@@ -14,10 +14,10 @@ use std::marker::Model;
 
 /// A disk in memory, at first all zeros. A call fails where its number, from 1, is listed, and a write for want
 /// of memory too. A listed write fails after it reached the disk: the block is new, and a crash may keep or lose
-/// it. A write for which there is no memory leaves the disk as it was.
+/// it. A write for which there is no memory is lost: the block is as it was, and counts as written too.
 #[derive(Drop)]
 pub struct MemDisk {
-    log: Vec<Written>,
+    log: WriteLog,
     fails: List<u32>,
     calls: u64,
     reads: u64,
@@ -43,7 +43,7 @@ impl Model for MemDisk {
     ghost Value = { MemDiskState };
 
     ghost view = { λ m. record {
-      log = m.log.items;
+      log = m.log;
       fails = m.fails;
       calls = m.calls;
       reads = m.reads;
@@ -72,7 +72,7 @@ impl MemDisk {
         ensures blank { (told_state result).content ≡ (λ _. zeros) }
     {
         MemDisk {
-            log: Vec::new(alloc),
+            log: WriteLog::new(alloc),
             fails,
             calls: 0,
             reads: 0,
@@ -98,9 +98,9 @@ impl MemDisk {
         ensures rest { self.new ≡ record self.old { log = self.new.log } }
     {
         if keep {
-            settle(&mut self.log);
+            self.log.settle();
         } else {
-            lose(&mut self.log);
+            self.log.lose();
         }
     }
 
@@ -111,11 +111,18 @@ impl MemDisk {
         self.wanted
     }
 
-    /// Whether a listed write left the disk as it was, for want of memory.
+    /// Whether a listed write was lost, for want of memory.
     pub fn missed(&self) -> bool
         ensures { result ≡ self.now.missed }
     {
         self.missed
+    }
+
+    // A write that never came here is lost: it counts among the writes, and in no other way.
+    pub(crate) fn lose_write(&mut self, at: u32)
+        ensures { self.new ≡ lost at self.old }
+    {
+        self.log.note_lost(at);
     }
 
     pub(crate) fn counts(&self) -> Counts
@@ -161,13 +168,13 @@ impl Disk for MemDisk {
             self.faults = self.faults.saturating_add(1);
             return Err(Failed);
         }
-        find(&self.log, at, into);
+        self.log.find(at, into);
         Ok(())
     }
 
     fn write(&mut self, at: u32, from: &[u8; 512]) -> Result<(), Failed>
         ensures ok { OnOk result (Some (told_state self.new) ≡ Some (after_write at from.now (told_state self.old))) }
-        ensures err { OnErr result (FailsAtWrite at from.now (told_state self.old) (told_state self.new)) }
+        ensures err { OnErr result (IsFailedWrite at from.now (Some (told_state self.old)) (Some (told_state self.new))) }
         ensures time { Passes self.old self.new }
         ensures cause { HasCause self.old.faults self.new.faults result }
         ensures does { MemWrites at from.now result self.old self.new }
@@ -176,7 +183,7 @@ impl Disk for MemDisk {
         self.writes = self.writes.saturating_add(1);
         if is_listed(self.fails.as_slice(), self.calls) {
             self.faults = self.faults.saturating_add(1);
-            return match note(&mut self.log, at, from) {
+            return match self.log.note(at, from) {
                 Ok(()) => Err(Failed),
                 Err(_) => {
                     self.missed = true;
@@ -184,7 +191,7 @@ impl Disk for MemDisk {
                 }
             };
         }
-        match note(&mut self.log, at, from) {
+        match self.log.note(at, from) {
             Ok(()) => Ok(()),
             Err(_) => {
                 self.wanted = true;
@@ -207,7 +214,7 @@ impl Disk for MemDisk {
             self.faults = self.faults.saturating_add(1);
             return Err(Failed);
         }
-        settle(&mut self.log);
+        self.log.settle();
         Ok(())
     }
 }
