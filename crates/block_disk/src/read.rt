@@ -5,13 +5,13 @@ ghost use Rattle.edge.specs.Moments.{Nowhere, Step};
 ghost use Rattle.edge.specs.Faults.{HasCause};
 ghost use Rattle.block_disk.specs.Runs.{blocks_in, block_of, HoldsRun, after_reads, IsFailedRead};
 
-use edge::{Disk, Failed};
+use edge::{BLOCKS, Disk, Failed};
 
 /// Reads the blocks from that number on into `into`, which has room for whole blocks. It stops at the first
 /// read that fails.
 pub fn read_run<D: Disk>(disk: &mut D, at: u32, into: &mut [u8]) -> Result<(), Failed>
     requires whole { length into.old % 512 ≡ 0 }
-    requires within { at + blocks_in into.old ≤ 1048576 }
+    requires within { at + blocks_in into.old ≤ BLOCKS }
     ensures length { length into.new ≡ length into.old }
     ensures bytes { OnOk result (ForSome (D.state disk.old) (λ s. HoldsRun s.content at (blocks_in into.old) into.new)) }
     ensures ok { OnOk result (D.state disk.new ≡ option_map (after_reads (blocks_in into.old)) (D.state disk.old)) }

@@ -5,13 +5,13 @@ ghost use Rattle.edge.specs.Moments.{Step};
 ghost use Rattle.edge.specs.Faults.{HasCause};
 ghost use Rattle.block_disk.specs.Runs.{blocks_in, IsInRun, HoldsRun, after_writes, IsFailedRun};
 
-use edge::{Disk, Failed};
+use edge::{BLOCKS, Disk, Failed};
 
 /// Writes these bytes, which are whole blocks, to the blocks from that number on. It stops at the first write
 /// that fails.
 pub fn write_run<D: Disk>(disk: &mut D, at: u32, from: &[u8]) -> Result<(), Failed>
     requires whole { length from.now % 512 ≡ 0 }
-    requires within { at + blocks_in from.now ≤ 1048576 }
+    requires within { at + blocks_in from.now ≤ BLOCKS }
     ensures ok { OnOk result (D.state disk.new ≡ option_map (after_writes (blocks_in from.now) at from.now) (D.state disk.old)) }
     ensures err { OnErr result (IsFailedRun (blocks_in from.now) at from.now (D.state disk.old) (D.state disk.new)) }
     ensures bytes { OnOk result (ForSome (D.state disk.new) (λ s. HoldsRun s.content at (blocks_in from.now) from.now)) }

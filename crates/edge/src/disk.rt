@@ -6,7 +6,10 @@ ghost use Rattle.edge.specs.Faults.{HasCause};
 
 use crate::Failed;
 
-/// A disk of 1,048,576 blocks of 512 bytes, which may fail, and which may lose its power at any moment.
+/// The blocks of a disk, of 512 bytes each, 512 megabytes in all. Their numbers are from 0 to one less.
+pub const BLOCKS: u32 = 1_048_576;
+
+/// A disk of [`BLOCKS`] blocks, which may fail, and which may lose its power at any moment.
 pub trait Disk {
     /// What it holds and how often it was called, where it tells that.
     ghost state: { Self → Option DiskState };
@@ -22,7 +25,7 @@ pub trait Disk {
 
     /// Reads the block of that number.
     fn read(&mut self, at: u32, into: &mut [u8; 512]) -> Result<(), Failed>
-        requires { at < 1048576 }
+        requires { at < BLOCKS }
         ensures bytes { OnOk result (IfSome (state self.old) (λ s. into.new ≡ s.content at)) }
         ensures state { state self.new ≡ option_map after_read (state self.old) }
         ensures time { Elapses (moment self.old) (moment self.new) (left_since self.old) (left_since self.new)
@@ -32,7 +35,7 @@ pub trait Disk {
     /// Writes the block of that number. Until a sync succeeds a crash may leave any bytes there. A write that fails
     /// leaves the block old or new, and a crash may leave any bytes there too.
     fn write(&mut self, at: u32, from: &[u8; 512]) -> Result<(), Failed>
-        requires { at < 1048576 }
+        requires { at < BLOCKS }
         ensures ok { OnOk result (state self.new ≡ option_map (after_write at from.now) (state self.old)) }
         ensures err { OnErr result (IsFailedWrite at from.now (state self.old) (state self.new)) }
         ensures time { Elapses (moment self.old) (moment self.new) (left_since self.old) (left_since self.new)

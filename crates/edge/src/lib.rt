@@ -12,7 +12,7 @@ mod source;
 mod trail;
 mod write_log;
 
-pub use disk::Disk;
+pub use disk::{BLOCKS, Disk};
 pub use fuse_disk::FuseDisk;
 pub use mem_disk::MemDisk;
 pub use pieces::put_all;

@@ -2,7 +2,7 @@
 ghost use Rattle.std.specs.Prelude.{◌≡◌, ◌<◌, None};
 ghost use Rattle.edge.specs.Faults.{HasCause};
 
-use edge::{Disk, Failed};
+use edge::{BLOCKS, Disk, Failed};
 use eu_base::Bytes;
 use std::fs::{OpenFile, OpenOptions};
 use std::io::{ErrorKind, Read, Seek, SeekFrom, Write};
@@ -61,7 +61,7 @@ impl<'a, R: Files> FileDisk<'a, R> {
     }
 
     fn read_block(&mut self, at: u32, into: &mut [u8; 512]) -> io::Result<()>
-        requires { at < 1048576 }
+        requires { at < BLOCKS }
         ensures { self.new.faults ≡ self.old.faults }
     {
         self.open(false)?;
@@ -76,7 +76,7 @@ impl<'a, R: Files> FileDisk<'a, R> {
     }
 
     fn write_block(&mut self, at: u32, from: &[u8; 512]) -> io::Result<()>
-        requires { at < 1048576 }
+        requires { at < BLOCKS }
         ensures { self.new.faults ≡ self.old.faults }
     {
         self.open(true)?;

@@ -2,6 +2,7 @@
 use Rattle.std.specs.Prelude.{◌≡◌, ◌<◌, ◌≤◌, ◌⊎◌, ◌+◌, ◌-◌, ℕ, Bool, true, false, if◌then◌else◌, List}
 use Rattle.edge.specs.Disk.{Blocks, DiskState, IsSettled}
 use Rattle.fixpoint.specs.Slots.{is_open, gate_of, next_of, IsTaken}
+use Rattle.edge.specs.declared.disk.TheConstants.{BLOCKS}
 
 -- the slot that is taken, the sequence and the root of its head, and whether the gate of the other slot is open
 pub record Fixpoint : Type 0 where
@@ -31,9 +32,9 @@ IsPlace count place block = (k : ℕ) × (k < count) × (place k ≡ block)
 -- the places differ, and they and the root lie from block 4 to the last one
 pub record ArePlaces (root count : ℕ) (place : ℕ → ℕ) : Type 0 where
   pub root_low : 4 ≤ root
-  pub root_high : root < 1048576
+  pub root_high : root < BLOCKS
   pub low : (k : ℕ) → k < count → 4 ≤ place k
-  pub high : (k : ℕ) → k < count → place k < 1048576
+  pub high : (k : ℕ) → k < count → place k < BLOCKS
   pub differ : (j k : ℕ) → j < count → k < count → place j ≡ place k → j ≡ k
 
 -- the pages stand at their places

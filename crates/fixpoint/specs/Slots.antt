@@ -2,6 +2,7 @@
 use Rattle.std.specs.Prelude.{◌≡◌, ◌⊎◌, ◌≤◌, ◌<◌, ◌+◌, ◌-◌, ◌==◌, ℕ, Bool, true, false, if◌then◌else◌, List, ◌∷◌, ◌++◌, replicate, slice_index}
 use Rattle.std.specs.Int.{w32, to_le_bytes}
 use Rattle.edge.specs.Disk.{Blocks}
+use Rattle.edge.specs.declared.disk.TheConstants.{BLOCKS}
 
 -- The gates of the slots 0 and 1 stand in the blocks 0 and 1. A gate is open exactly where its first byte is 1.
 abbrev pub is_open : Blocks → ℕ → Bool
@@ -21,7 +22,7 @@ pub record IsHead (block : List ℕ) (sequence root : ℕ) : Type 0 where
   pub sequence_low : 1 ≤ sequence
   pub sequence_high : sequence ≤ 3
   pub root_low : 4 ≤ root
-  pub root_high : root < 1048576
+  pub root_high : root < BLOCKS
 
 -- 2 comes after 1, 3 after 2, and 1 after 3
 abbrev pub next_of : ℕ → ℕ

@@ -7,14 +7,14 @@ ghost use Rattle.edge.specs.Faults.{HasCause};
 
 use crate::DiskFault;
 use block_disk::{read_run, write_run};
-use edge::Disk;
+use edge::{BLOCKS, Disk};
 
 pub(crate) fn read_block<D: Disk>(
     disk: &mut D,
     at: u32,
     into: &mut [u8; 512],
 ) -> Result<(), DiskFault>
-    requires { at < 1048576 }
+    requires { at < BLOCKS }
     ensures bytes { OnOk result (ForSome (D.state disk.old) (λ s. into.new ≡ s.content at)) }
     ensures step { ForSome (D.state disk.old) (Step D.state D.moment D.left_since disk.old disk.new Nowhere 1 0 0) }
     ensures cause { HasCause (D.faults disk.old) (D.faults disk.new) result }
@@ -24,7 +24,7 @@ pub(crate) fn read_block<D: Disk>(
 }
 
 pub(crate) fn write_block<D: Disk>(disk: &mut D, at: u32, from: &[u8; 512]) -> Result<(), DiskFault>
-    requires { at < 1048576 }
+    requires { at < BLOCKS }
     ensures ok { OnOk result (D.state disk.new ≡ option_map (after_write at from.now) (D.state disk.old)) }
     ensures step { ForSome (D.state disk.old) (Step D.state D.moment D.left_since disk.old disk.new (λ block. block ≡ at) 0 1 0) }
     ensures cause { HasCause (D.faults disk.old) (D.faults disk.new) result }

@@ -2,6 +2,8 @@
 ghost use Rattle.std.specs.Prelude.{◌≡◌, ◌≤◌, ℕ, IfSome, IfNone};
 ghost use Rattle.fixpoint.specs.Slots.{head_of, IsHead};
 
+use edge::BLOCKS;
+
 /// The sequence and the root that a head names.
 #[derive(Drop)]
 pub struct Head {
@@ -31,7 +33,7 @@ pub(crate) fn parse(block: &[u8; 512]) -> Option<Head>
 {
     let sequence = block[9];
     let root = u32::from_le_bytes([block[10], block[11], block[12], block[13]]);
-    if sequence < 1 || sequence > 3 || root < 4 || root >= 1048576 {
+    if sequence < 1 || sequence > 3 || root < 4 || root >= BLOCKS {
         return None;
     }
     let expected = spell(sequence, root);

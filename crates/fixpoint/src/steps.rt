@@ -10,7 +10,7 @@ ghost use Rattle.fixpoint.specs.Fixpoints.{IsPlace, HasPages, gate_writes};
 use crate::blocks::{sync, write_block};
 use crate::head::spell;
 use crate::{DiskFault, Image};
-use edge::Disk;
+use edge::{BLOCKS, Disk};
 
 /// Closes a gate where it is open, and syncs. A gate that is closed is not written: a crash in that write
 /// could leave it open.
@@ -33,7 +33,7 @@ pub(crate) fn close_gate<D: Disk>(disk: &mut D, gate: u32, was_open: bool) -> Re
 
 /// Writes the pages to their places, in order.
 pub(crate) fn write_pages<D: Disk, I: Image>(disk: &mut D, image: &I) -> Result<(), DiskFault>
-    requires high { (k : ℕ) → k < I.count_of image.now → I.place_of image.now k < 1048576 }
+    requires high { (k : ℕ) → k < I.count_of image.now → I.place_of image.now k < BLOCKS }
     requires differ { (j k : ℕ) → j < I.count_of image.now → k < I.count_of image.now
         → I.place_of image.now j ≡ I.place_of image.now k → j ≡ k }
     ensures step { ForSome (D.state disk.old) (Step D.state D.moment D.left_since disk.old disk.new
