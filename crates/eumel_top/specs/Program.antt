@@ -35,13 +35,25 @@ output_at (OutOfMarks w) answered = ends (Some LineMarks)
 output_at (Asks request w) answered = writes_before request answered
 
 -- What a program writes after these replies, with so many marks from its start on, in at most so many evaluations. At a request the
--- program is evaluated again, with one reply more. Where no evaluation is left it is as if its marks were spent. No program comes
--- there that has one evaluation more than it has marks, since each request costs a mark.
+-- program is evaluated again, with one reply more. Where no evaluation is left it is as if its marks were spent.
 abbrev pub output_in : (evaluations : ℕ) → Core → (marks : ℕ) → List Reply → Output
 output_in zero core marks replies = ends (Some LineMarks)
 output_in (suc n) core marks replies = output_at (evaluate core marks replies) (output_in n core marks (replies ++ Done ∷ []))
 
--- what it writes from its start on, with the marks of a line
+-- a request is followed by more, and nothing else is
+abbrev pub AsksOnly : Ending → (later : Type 0) → Type 0
+AsksOnly (Ended w) later = Unit {0}
+AsksOnly (Stopped stop w) later = Unit {0}
+AsksOnly (OutOfMarks w) later = Unit {0}
+AsksOnly (Asks request w) later = later
+
+-- so many evaluations are enough to tell all that a program writes: the last of them stands at no request
+abbrev pub Suffices : (evaluations : ℕ) → Core → (marks : ℕ) → List Reply → Type 0
+Suffices zero core marks replies = ⊥
+Suffices (suc n) core marks replies = AsksOnly (evaluate core marks replies) (Suffices n core marks (replies ++ Done ∷ []))
+
+-- what it writes from its start on, with the marks of a line. One evaluation more than there are marks is enough for each program
+-- that is accepted, since each request costs a mark
 abbrev pub output_of : Core → Output
 output_of core = output_in (line_marks + 1) core line_marks []
 

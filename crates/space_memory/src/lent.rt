@@ -43,6 +43,7 @@ impl<'a> Memory for Lent<'a> {
 
     ghost transitive = { lent_transitive };
 
+    #[inline(always)]
     fn cell(&mut self, at: Addr) -> Result<u64, MemFault> {
         let number = self.memory.run_cell(self.pool, at.cell)?;
         Ok(number)

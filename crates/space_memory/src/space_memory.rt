@@ -78,6 +78,7 @@ impl SpaceMemory {
     }
 
     // The number in a cell of the command that runs.
+    #[inline(always)]
     pub(crate) fn run_cell(&mut self, pool: &mut Pool, cell: u16) -> Result<u64, MemFault>
         requires cell { cell < CELLS }
         requires agree { Stands pool.old (roots self.old) 0 }

@@ -29,6 +29,8 @@ impl Fault {
 }
 
 /// The result of an operation, or why the program stops. Where it has fewer operands, it does not look at the others.
+// Inlined, since a call would pass the values and the result through memory at each operation of a program.
+#[inline(always)]
 pub fn apply(operation: Operation, left: Value, right: Value) -> Result<Value, Fault>
     ensures { given_of result ≡ result_of operation (left ∷ right ∷ []) }
 {
