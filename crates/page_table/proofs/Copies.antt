@@ -117,10 +117,6 @@ module _ (bytes : List ℕ) (k height : ℕ) {o : Option ℕ} (up : 1 ≤ height
       let here : occ x (drop k (entries_of bytes)) ≡ occ x (o ∷ left) = ap (occ x) next in omega (arith, here)) h p in
       omega (arith, sum, heirs_down height (o ∷ []) up h p)
 
-  pub left_next : {p0 p1 p2 : Pages} {a : Hands} → Moves p0 p1 a (heirs height (drop k (entries_of bytes)))
-      → Moves p1 p2 (names (height - 1) (o ∷ [])) nothing → Moves p0 p2 a (heirs height left)
-  left_next m more = moves_on m (moves_like (λ h p. sym (first_left h p)) (λ h p. omega arith) (moves_with (heirs height left) more))
-
 -- lists with the same entries name each page equally often
 pub occ_alike : (p : ℕ) (es fs : Names) → ((j : ℕ) → get_or es j None ≡ get_or fs j None) → occ p es ≡ occ p fs
 occ_alike p [] [] same = refl

@@ -6,10 +6,9 @@ use Rattle.page_pool.proofs.Used.{used_sum}
 use Rattle.page_table.proofs.Common.{◌≡◌, ◌+◌, ◌*◌, ◌<◌, ◌≤◌, ℕ, zero, suc, [], ◌∷◌, length, get_or, Option, Some, None, inl, inr, refl, sym, ◌∙◌, ap, arith}
 use Rattle.page_table.proofs.Common.{cases_eq, Pages, count_of, bytes_of, used_of, one, sum, one_same, one_other, Names, book_of, hit, occ, inner, named, names}
 use Rattle.page_table.proofs.Common.{Agrees, Agree, HasFewNames, ◌-◌, ◌/◌, ◌%◌, List, ◌++◌, subst, none-some, ForSome, child, Hands, both, nothing, shown}
-use Rattle.page_table.proofs.Common.{content_at, Frames, Stands, Moves, Holds, named_page, Ready}
+use Rattle.page_table.proofs.Common.{content_at, Frames, Stands, Moves, Holds, named_page, Ready, numbers, most_spaces}
 use Rattle.page_table.proofs.Counting.{sum_same, sum_at, sum_put, named_one, entries_length, hit_some, occ-append, names_sum, names_same, names_none}
 use Rattle.page_table.proofs.Moving.{number_low, at_least, equal, held_as, in_like, homes_then, moves_like, moves_none, shown_none, child_named, child_high}
-use Rattle.page_table.specs.Sharing.{numbers, most_spaces}
 
 pub sum_zero : (n : ℕ) → sum (λ p. 0) n ≡ 0
 sum_zero zero = refl
@@ -132,10 +131,10 @@ pub content_same : (old new : Pages) (mine later : Option ℕ) → ((k : ℕ) �
     → (n : ℕ) → content_at new later n ≡ content_at old mine n
 content_same old new mine later same n = ap (λ (bytes : List ℕ). get_or bytes (n % 512) 0) (same (n / 512))
 
-each_shown : (old new : Pages) (rest : Names) → ((r k : ℕ) → 1 ≤ occ r rest → shown new 2 (Some r) k ≡ shown old 2 (Some r) k)
-    → (root : Option ℕ) → ForSome root (λ r. 1 ≤ occ r rest) → (k : ℕ) → shown new 2 root k ≡ shown old 2 root k
-each_shown old new rest each None among k = shown_none old new 2 k
-each_shown old new rest each (Some r) among k = each r k (among r refl)
+each_shown : (old new : Pages) (root : Option ℕ) → ForSome root (λ r. (k : ℕ) → shown new 2 (Some r) k ≡ shown old 2 (Some r) k)
+    → (k : ℕ) → shown new 2 root k ≡ shown old 2 root k
+each_shown old new None each = shown_none old new 2
+each_shown old new (Some r) each = each r refl
 
 pub frames_of : (old new : Pages) (before after : Names) → Moves old new (names 2 before) (names 2 after) → Frames old new before after
 frames_of old new before after m = record {
@@ -144,8 +143,7 @@ frames_of old new before after m = record {
       let f = m.frame (names 2 rest) (in_like (λ h p. sym (append_names before rest h p)) a.agrees) in
       record {
         agrees = record { few = room; agrees = in_like (append_names after rest) f.agrees };
-        same = λ root among. content_same old new root root
-            (each_shown old new rest (λ r k here. f.same 2 r k (omega arith) (omega (arith, here))) root among);
+        same = λ root among. content_same old new root root (each_shown old new root (λ r is k. f.same 2 r k (omega arith) (omega (arith, among r is))));
       };
 }
 
@@ -257,10 +255,6 @@ named_later o p more among x is = omega (arith, among x is)
 pub carries : (old new : Pages) (root : Option ℕ) (P : (ℕ → ℕ) → Type 0)
     → ((n : ℕ) → content_at new root n ≡ content_at old root n) → P (content_at old root) → P (content_at new root)
 carries old new root P kept held = let same : content_at new root ≡ content_at old root = λ i n. kept n i in subst P (sym same) held
-
--- where no space is left, no page is
-pub none_used : (pages : Pages) → Agree pages [] → used_of pages ≡ 0
-none_used pages a = omega (arith, few_pages pages [] a)
 
 pub frames_nil : (pages : Pages) (a b : Names) → ((p : ℕ) → occ p a ≡ 0) → ((p : ℕ) → occ p b ≡ 0) → Frames pages pages a b
 frames_nil pages a b none also =

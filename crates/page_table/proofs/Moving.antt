@@ -1,15 +1,13 @@
 -- What the calls of a pool do to names in hand, whatever else stands over it: what pages show, and what is still held.
-use Rattle.std.proofs.Common.{◌⊎◌}
+use Rattle.page_table.proofs.Common.{◌≡◌, ◌≢◌, ◌+◌, ◌<◌, ◌≤◌, ℕ, zero, suc, List, [], ◌∷◌, length, get_or, Option, Some, None, inl, inr, refl, sym, ◌∙◌}
+use Rattle.page_table.proofs.Common.{ap, subst, arith, cases_eq, none-some, same_Some, Pages, count_of, bytes_of, home_of, IsPool, Stays, Adds, Shares, Drops}
+use Rattle.page_table.proofs.Common.{Writes, one_same, Names, entries_of, book_of, child, occ, named, Hands, names, both, nothing, total, Agrees, AgreeIn}
+use Rattle.page_table.proofs.Common.{place, shown, KeepsHomes, Moves, Holds, heirs, numbers, ◌⊎◌}
 use Rattle.std.proofs.Math.Logic.{∥∥₁_map, ∥∥₁_elim}
 use Rattle.std.proofs.Props.{props}
 use Rattle.std.proofs.lemmas.Bool.Decides.{nat_tests}
 use Rattle.page_pool.proofs.Sound.{home_lives, low, long}
-use Rattle.page_table.proofs.Common.{◌≡◌, ◌≢◌, ◌+◌, ◌<◌, ◌≤◌, ℕ, zero, suc, List, [], ◌∷◌, length, get_or, Option, Some, None, inl, inr, refl, sym, ◌∙◌, ap}
-use Rattle.page_table.proofs.Common.{subst, arith, cases_eq, none-some, same_Some, Pages, count_of, bytes_of, home_of, IsPool, Stays, Adds, Shares, Drops}
-use Rattle.page_table.proofs.Common.{Writes, one_same, Names, entries_of, book_of, child, occ, named, Hands, names, both, nothing, total, Agrees, AgreeIn}
-use Rattle.page_table.proofs.Common.{place, shown, KeepsHomes, Moves, Holds, heirs}
-use Rattle.page_table.proofs.Counting.{occ_get, named_one, total_names, total_at, names_at, names_in, own_at, own_in, step, same_hands, turns, entries_length}
-use Rattle.page_table.specs.Sharing.{numbers}
+use Rattle.page_table.proofs.Counting.{occ_get, named_one, total_names, total_at, names_at, own_at, own_in, step, turns, entries_length}
 
 pub shown_none : (old new : Pages) (h k : ℕ) → shown new h None k ≡ shown old h None k
 shown_none old new zero k = refl
@@ -42,7 +40,11 @@ homes_then first second = record { stays = λ p b is. let s = second.stays p b i
 
 -- names in hand in another form
 pub in_like : {pages : Pages} {a b : Hands} → ((h p : ℕ) → b h p ≡ a h p) → AgreeIn pages a → AgreeIn pages b
-in_like like agree = record { sound = agree.sound; shares = same_hands _ _ _ like agree.shares }
+in_like like agree = record {
+  sound = agree.sound;
+  shares = step _ _ _ _ agree.shares (λ p. omega (arith, like 0 p, like 1 p, like 2 p)) (λ q up. refl) agree.shares.live
+      (λ h p low among. agree.shares.held h p low (omega (arith, among, like h p)));
+}
 
 -- the same pages
 still : {pages : Pages} {a b : Hands} → ((rest : Hands) → AgreeIn pages (both a rest) → AgreeIn pages (both b rest)) → Moves pages pages a b
@@ -100,7 +102,8 @@ moves_open pages q (suc h) fits single = still (λ rest agree.
       sound = agree.sound;
       shares = turns (book_of pages) q (suc h) 0 nothing (names h es) rest a fits (omega arith) (number_low agree.sound (omega (arith, single))) single
           (λ p. omega (arith, total_names h es p (omega (arith, fits))))
-          (λ n p among. let at = names_in n h es p among in omega (arith, a.entry q p (omega (arith, high)) at.1, high, at.0))
+          (λ n p among. let at : n ≡ h = grind (arith, nat_tests, among) in
+          omega (arith, a.entry q p (omega (arith, high)) (grind (arith, nat_tests, among)), high, at))
           (λ p up. absurd (omega (arith, up))) (λ e. absurd (omega (arith, e)));
     })
 

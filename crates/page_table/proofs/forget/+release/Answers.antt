@@ -1,7 +1,7 @@
 use Rattle.std.proofs.lemmas.List.{take_all, drop_all}
 use Rattle.page_table.proofs.Common.{◌≡◌, ◌-◌, ℕ, [], ◌∷◌, drop, Option, Some, inl, inr, refl, sym, ◌∙◌, ap, subst, arith, Pages, count_of, Names, entries_of}
 use Rattle.page_table.proofs.Common.{book_of, hit, occ, Hands, names, nothing, heirs, Moves}
-use Rattle.page_table.proofs.Copies.{first_left, left_next}
+use Rattle.page_table.proofs.Copies.{first_left}
 use Rattle.page_table.proofs.Counting.{names_none, heirs_none, entries_length}
 use Rattle.page_table.proofs.Moving.{holds_part, holds_then, held_live, held_as, stays_then, moves_on, moves_open, moves_with, moves_drops, moves_none}
 use Rattle.page_table.proofs.Moving.{moves_like}
@@ -50,9 +50,9 @@ pub loop-k-preserved : goal.loop-k-preserved
 loop-k-preserved t c =
     let inv = c.loop-k.invariant in
     let frees = c.release.ensures.frees in
+    let first = first_left _ _ c.args.height (omega (arith, c.if-height-eq0.false)) c.read.auto.into c.loop-k-test.true (sym c.entry_in.ensures) in
     record {
-      moves = left_next c.read.new.into c.loop-k.k c.args.height (omega (arith, c.if-height-eq0.false)) c.read.auto.into c.loop-k-test.true
-          (sym c.entry_in.ensures) inv.moves c.release.ensures.moves;
+      moves = moves_on inv.moves (moves_like (λ h p. sym (first h p)) (λ h p. omega arith) (moves_with (heirs c.args.height _) c.release.ensures.moves));
       frees = record {
         lived = λ x alive. inv.frees.lived x (frees.lived x alive);
         stays = λ x alive. stays_then (inv.frees.stays x (frees.lived x alive)) (frees.stays x alive);
