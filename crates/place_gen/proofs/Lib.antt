@@ -5,7 +5,6 @@ pub mod LoopTables
 pub mod TableTree
 pub mod Adds
 pub mod Select
-pub mod Count
 pub mod Cells
 pub mod Carry
 pub mod Forms

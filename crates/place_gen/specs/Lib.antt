@@ -1,3 +1,4 @@
+pub mod Counted
 pub mod Stretch
 pub mod Layouts
 pub mod Correct

@@ -1,6 +1,7 @@
 //! The instructions of places, values and statements.
 #![tactic(auto)]
 
+mod count;
 mod draft;
 mod emit;
 mod put;
