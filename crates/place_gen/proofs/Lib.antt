@@ -4,6 +4,7 @@ pub mod Tables
 pub mod LoopTables
 pub mod TableTree
 pub mod Adds
+pub mod Makes
 pub mod Select
 pub mod Cells
 pub mod Carry

@@ -3,4 +3,5 @@ pub mod Stretch
 pub mod Layouts
 pub mod Correct
 pub mod Adds
+pub mod Makes
 pub mod Steps

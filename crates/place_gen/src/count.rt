@@ -1,7 +1,7 @@
 //! How many instructions a phrase has. More than the largest number count as that, so that no count fails.
 ghost use Rattle.std.specs.Prelude.{◌≡◌, ◌+◌, map, option_map};
 ghost use Rattle.place_gen.specs.Counted.{counted};
-ghost use Rattle.place_gen.specs.Stretch.{all_code, while_code, until_code, value_code, action_code, actual_code, value_arm_code, arm_code_of, arms_length};
+ghost use Rattle.place_gen.specs.Stretch.{all_code, while_code, until_code, value_code, action_code, actual_code, value_arm_code, arm_code_of, arms_length, Exit, loop_code};
 ghost use Rattle.place_gen.specs.Steps.{count_code};
 
 use elan_types::{Action, Actual, Arm, ValueArm, ValuePhrase};
@@ -31,8 +31,10 @@ pub fn count_value(v: &ValuePhrase) -> usize
             count_value(a.get()),
             count_value(b.get()),
         ),
-        ValuePhrase::Select(v, arms, other) => count_value(v.get())
-            .saturating_add(count_value_arms(arms.as_slice(), count_value(other.get()))),
+        ValuePhrase::Select(v, arms, other) => count_value(v.get()).saturating_add(count_value_arms(
+            arms.as_slice(),
+            count_value(other.get()),
+        )),
         ValuePhrase::Unit(a) => count_value(a.get()).saturating_add(1),
         ValuePhrase::After(units, a) => {
             count_actions(units.as_slice()).saturating_add(count_value(a.get()))
@@ -99,8 +101,10 @@ fn count_action(action: &Action) -> usize
             count_actions(first.as_slice()),
             count_actions(second.as_slice()),
         ),
-        Action::Select(v, arms, other) => count_value(v)
-            .saturating_add(count_arms(arms.as_slice(), count_actions(other.as_slice()))),
+        Action::Select(v, arms, other) => count_value(v).saturating_add(count_arms(
+            arms.as_slice(),
+            count_actions(other.as_slice()),
+        )),
         Action::Loop {
             condition,
             units,
@@ -158,8 +162,8 @@ fn count_limited(limit: usize, turns: usize) -> usize
     limit.saturating_add(turns).saturating_add(3)
 }
 
-/// Of the turns of a loop, from the counts of the parts of a turn.
-pub fn count_turns(test: usize, units: usize, until: usize, step: usize) -> usize
+// Of the turns of a loop, from the counts of the parts of a turn.
+fn count_turns(test: usize, units: usize, until: usize, step: usize) -> usize
     ensures { result ≡ counted (1 + (test + (units + (until + step)) + 1)) }
 {
     test.saturating_add(units)
@@ -168,9 +172,8 @@ pub fn count_turns(test: usize, units: usize, until: usize, step: usize) -> usiz
         .saturating_add(2)
 }
 
-/// Of a test of a loop, WHILE.
 #[cycle(count)]
-pub fn count_while(test: &Option<ValuePhrase>) -> usize
+fn count_while(test: &Option<ValuePhrase>) -> usize
     ensures { result ≡ counted (while_code (option_map value_code test.now)).size }
 {
     match test {
@@ -179,9 +182,8 @@ pub fn count_while(test: &Option<ValuePhrase>) -> usize
     }
 }
 
-/// Of a test of a loop, UNTIL.
 #[cycle(count)]
-pub fn count_until(test: &Option<ValuePhrase>) -> usize
+fn count_until(test: &Option<ValuePhrase>) -> usize
     ensures { result ≡ counted (until_code (option_map value_code test.now)).size }
 {
     match test {
@@ -222,4 +224,29 @@ fn count_arm(count: usize, labels: usize, part: usize) -> usize
         .saturating_add(labels)
         .saturating_add(part)
         .saturating_add(2)
+}
+
+/// Of the turns of a loop whose step has so many; nothing for another action.
+pub fn count_loop(action: &Action, step: usize) -> usize
+    ensures { (exit : Exit) → exit.size ≡ step → result ≡ counted (loop_code action.now exit).size }
+{
+    match action {
+        Action::Loop {
+            condition,
+            units,
+            until,
+        }
+        | Action::Count {
+            condition,
+            units,
+            until,
+            ..
+        } => count_turns(
+            count_while(condition),
+            count_actions(units.as_slice()),
+            count_until(until),
+            step,
+        ),
+        _ => 0,
+    }
 }

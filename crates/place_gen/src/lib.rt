@@ -5,7 +5,6 @@ mod count;
 mod draft;
 mod emit;
 mod put;
-mod size;
 
 pub use draft::Draft;
 pub use emit::{emit_actions, emit_content};
