@@ -27,6 +27,7 @@ pub fn generate(alloc: Global, core: &Core) -> Result<Code, NoMemory>
         lines,
         pending: _,
         spot: _,
+        wanted: _,
     } = out;
     Ok(Code::new(variables, bodies, lines))
 }

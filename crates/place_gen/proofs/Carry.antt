@@ -22,7 +22,7 @@ use Rattle.code_form.specs.declared.code.Spot.{Spot}
 use Rattle.code_form.specs.declared.code.Entry.{Entry}
 use Rattle.code_form.specs.declared.code.Layout.TheVariants as layouts
 use Rattle.code_form.specs.Program.{Program, line_of, instr_of, owner, frame_cells}
-use Rattle.code_form.specs.Machine.{Frame, Position, Control, free, asking, After as AfterMark, To, Asks as AsksFor, Move, Goes, Spends, Halts, Ends as EndsHere, at, bytes_on, bytes_of, base_of, back_to, out_to, instruction, step, Scene, Rest, Stage, after_stage, mark_stage, reply_stage, stage, carry_on, exec}
+use Rattle.code_form.specs.Machine.{Frame, Position, free, asking, After as AfterMark, To, Asks as AsksFor, Move, Goes, Spends, Halts, Ends as EndsHere, at, bytes_on, bytes_of, base_of, back_to, out_to, instruction, step, Scene, Rest, Stage, after_stage, mark_stage, reply_stage, stage, carry_on, exec}
 use Rattle.elan_types.specs.declared.core_phrase.Exit.{Exit}
 use Rattle.elan_types.specs.declared.core_phrase.Exit.TheVariants as exits
 use Rattle.elan_types.specs.Eval.{Place, Slot, Holds, Refers, Taken, World, Outcome, Gives, Left, Stopped, OutOfMarks, Asks, bind, spend_at, spend, ask_at, ask, branch, or_stop, assign, turns, Calls, Reach}

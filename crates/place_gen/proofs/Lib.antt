@@ -4,8 +4,8 @@ pub mod Tables
 pub mod LoopTables
 pub mod TableTree
 pub mod Adds
+pub mod Makes
 pub mod Select
-pub mod Count
 pub mod Cells
 pub mod Carry
 pub mod Forms

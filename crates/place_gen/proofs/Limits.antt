@@ -16,7 +16,6 @@ use Rattle.eu_base.specs.Room.{cells_fit}
 use Rattle.eu_base.specs.Values.{IsOf, number_of, cell_of}
 use Rattle.eu_base.specs.Operations.{is_past}
 use Rattle.eu_base.specs.Cells.{Cells, run_cell, written}
-use Rattle.code_form.specs.declared.halt.Halt.TheVariants as halts
 use Rattle.code_form.specs.declared.operand.Operand.{Operand}
 use Rattle.code_form.specs.declared.operand.Operand.TheVariants.{Value as Of}
 use Rattle.code_form.specs.declared.operand.OperandKind.{OperandKind}

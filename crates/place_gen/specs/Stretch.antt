@@ -273,6 +273,15 @@ loop_step _ step = none
 abbrev pub loop_code : Action → Exit → Stretch
 loop_code a = loop_step (out-Action a)
 
+-- a turn of a loop with such a step; nothing for another action
+abbrev pub turn_step : Action-F Action Actual ValuePhrase Arm ValueArm → Exit → Exit
+turn_step (t.Loop w us u) step = turn_code (option_map value_code w) (all_code (map action_code us)) (option_map value_code u) step
+turn_step (t.Count p from way limit w us u) step = turn_code (option_map value_code w) (all_code (map action_code us)) (option_map value_code u) step
+turn_step _ step = stays none
+
+abbrev pub turn_of : Action → Exit → Exit
+turn_of a = turn_step (out-Action a)
+
 -- the parts of a SELECT; nothing for another phrase
 abbrev pub value_parts_step : ValuePhrase-F Action Actual ValuePhrase Arm ValueArm → Stretch
 value_parts_step (t.ValuePhrase::Select v arms other) = select_code (map value_arm_code arms) (value_code other)

@@ -1,8 +1,10 @@
 //! Code that is being made.
-ghost use Rattle.std.specs.Prelude.{◌≡◌, [], IfOk, OnOk};
+ghost use Rattle.std.specs.Prelude.{◌≡◌, ◌+◌, [], false, ℕ, length, IfOk, OnOk};
 ghost use Rattle.code_form.specs.Program.{at_level, deeper};
+ghost use Rattle.place_gen.specs.Counted.{counted};
 ghost use Rattle.place_gen.specs.Stretch.{one};
-ghost use Rattle.place_gen.specs.Adds.{left, Adds, Restores, Begins};
+ghost use Rattle.place_gen.specs.Adds.{left, Adds, Begins};
+ghost use Rattle.place_gen.specs.Makes.{Makes, ComesBack};
 
 use code_form::{Instr, Line, OperandKind, Spot};
 use eu_base::{List, NoMemory};
@@ -17,6 +19,8 @@ pub struct Draft {
     pub pending: List<OperandKind>,
     /// The body whose code is made, and how many limits of loops its frame keeps.
     pub spot: Spot,
+    /// Whether memory was wanted. Steps after that do no harm, and what was made is worth nothing.
+    pub wanted: bool,
 }
 
 impl Draft {
@@ -34,6 +38,7 @@ impl Draft {
                 body: None,
                 limits: 0,
             },
+            wanted: false,
         }
     }
 
@@ -57,7 +62,30 @@ impl Draft {
     ) -> Result<(), NoMemory>
         ensures { OnOk result (Adds (one instr (left taken pushed)) self.old self.new) }
     {
-        let operands = self.pending_copy()?;
+        self.add(instr, taken, pushed);
+        self.met()
+    }
+
+    /// The same, where want of memory is kept in the draft.
+    pub fn add(&mut self, instr: Instr, taken: usize, pushed: Option<OperandKind>)
+        ensures { Makes (one instr (left taken pushed)) self.old self.new }
+    {
+        match self.try_add(instr, taken, pushed) {
+            Ok(()) => {}
+            Err(NoMemory) => self.wanted = true,
+        }
+    }
+
+    fn try_add(
+        &mut self,
+        instr: Instr,
+        taken: usize,
+        pushed: Option<OperandKind>,
+    ) -> Result<(), NoMemory>
+        ensures adds { OnOk result (Adds (one instr (left taken pushed)) self.old self.new) }
+        ensures wanted { self.new.wanted ≡ self.old.wanted }
+    {
+        let operands = List::from_slice(self.alloc, self.pending.as_slice())?;
         self.lines.push(Line {
             instr,
             operands,
@@ -67,32 +95,57 @@ impl Draft {
         Ok(())
     }
 
-    /// What is pending, to come back to it.
-    pub fn pending_copy(&self) -> Result<List<OperandKind>, NoMemory>
-        ensures { IfOk result (λ kinds. kinds ≡ self.now.pending) }
+    /// Whether memory sufficed for all that was made.
+    pub fn met(&self) -> Result<(), NoMemory>
+        ensures { OnOk result (self.now.wanted ≡ false) }
     {
-        List::from_slice(self.alloc, self.pending.as_slice())
+        if self.wanted { Err(NoMemory) } else { Ok(()) }
+    }
+
+    /// The place so many instructions further on, as far as they were counted.
+    pub fn ahead(&mut self, count: usize) -> usize
+        ensures draft { ComesBack self.old.pending self.old self.new }
+        ensures place { self.new.wanted ≡ false → (n : ℕ) → count ≡ counted n → result ≡ length self.old.lines + n }
+    {
+        let place = self.lines.len().saturating_add(count);
+        if place == usize::MAX {
+            self.wanted = true;
+        }
+        place
+    }
+
+    /// What is pending, to come back to it.
+    pub fn kept(&mut self) -> List<OperandKind>
+        ensures draft { ComesBack self.old.pending self.old self.new }
+        ensures kinds { self.new.wanted ≡ false → result ≡ self.old.pending }
+    {
+        match List::from_slice(self.alloc, self.pending.as_slice()) {
+            Ok(kinds) => kinds,
+            Err(NoMemory) => {
+                self.wanted = true;
+                List::new(self.alloc)
+            }
+        }
     }
 
     /// Goes on where this is pending.
-    pub fn restore(&mut self, pending: &[OperandKind]) -> Result<(), NoMemory>
-        ensures { OnOk result (Restores pending.now self.old self.new) }
+    pub fn restore(&mut self, pending: &[OperandKind])
+        ensures { ComesBack pending.now self.old self.new }
     {
-        self.pending = List::from_slice(self.alloc, pending)?;
-        Ok(())
+        match List::from_slice(self.alloc, pending) {
+            Ok(kinds) => self.pending = kinds,
+            Err(NoMemory) => self.wanted = true,
+        }
     }
-}
 
-/// The same body, under one limit more.
-pub fn deeper(spot: Spot) -> Result<Spot, NoMemory>
-    ensures { IfOk result (λ inner. inner ≡ deeper spot) }
-{
-    match spot.limits.checked_add(1) {
-        Some(limits) => Ok(Spot {
-            body: spot.body,
-            limits,
-        }),
-        None => Err(NoMemory),
+    /// Goes on in the same body, under one limit more.
+    pub fn deepen(&mut self)
+        ensures { self.new.wanted ≡ false → (self.old.wanted ≡ false) × (self.new.lines ≡ self.old.lines) × (self.new.pending ≡ self.old.pending) × (self.new.spot ≡ deeper self.old.spot) }
+    {
+        match self.spot.limits.checked_add(1) {
+            Some(limits) => self.spot.limits = limits,
+            None => self.wanted = true,
+        }
     }
 }
 

@@ -1,96 +1,302 @@
-use Rattle.std.proofs.Common.{rules, ◌≡◌, ◌+◌, [], ◌∷◌, map, drop, length, subst, ap, sym, refl, arith}
-use Rattle.std.specs.Prelude.{OnOk}
+use Rattle.std.proofs.Common.{rules, ◌⊎◌, inl, inr, ◌≡◌, ◌+◌, true, false, [], ◌∷◌, map, drop, length, subst, ap, ◌∙◌, sym, refl, arith}
+use Rattle.std.specs.Prelude.{option_map}
 use Rattle.std.proofs.lemmas.List.{drop_all}
-use Rattle.std.proofs.lemmas.Int.{to_z-of_z}
-use Rattle.std.specs.Int.{w16}
-use Rattle.std.specs.Int.RustNames.{FitsSigned}
+use Rattle.std.proofs.lemmas.Grind.{common_steps}
+use borrow.Author.Tests.{tests}
+use Rattle.elan_types.specs.Eval.{Labelled}
 use Rattle.elan_types.specs.declared.core_phrase.Action.TheFolds.{the_lemmas}
 use Rattle.eu_base.specs.declared.value.Kind.TheVariants as kinds
 use Rattle.eu_base.specs.Operations.{operand_kinds, result_kind}
 use Rattle.code_form.specs.declared.operand.OperandKind.TheVariants as operand
-use Rattle.code_form.specs.declared.instr.Instr.TheVariants.{Mark, Number, Do, Drop}
-use Rattle.place_gen.specs.Stretch.{one, keeps, pushes, join, all_code, select_code, value_parts, action_parts, value_code, action_code, value_arm_code, arm_code_of}
-use Rattle.place_gen.specs.Adds.{Adds}
+use Rattle.code_form.specs.declared.instr.Instr.TheVariants.{Mark, Truth, Do, Jump, False}
+use Rattle.place_gen.specs.Counted.{counted}
+use Rattle.place_gen.specs.Stretch.{Stretch, one, keeps, pushes, join, if_code, all_code, select_code, whens_code, while_code, until_code, exit_join, stays, turns_code, choice_code, loop_code, turn_of, value_parts, action_parts, value_code, action_code, actual_code, value_arm_code, arm_code_of}
+use Rattle.place_gen.specs.Steps.{step_exit}
+use Rattle.place_gen.specs.Makes.{Makes, MakesExit, MakesArm, MakesTurn, ComesBack}
 use Rattle.place_gen.proofs.Select.{select_size}
-use Rattle.place_gen.proofs.Adds.{join_adds, rest_adds}
+use Rattle.place_gen.proofs.Makes.{rest_of, none_makes, same_makes, join_makes, if_makes, until_makes, turn_exit, turns_makes, arm_makes, IsAt, arm_at, select_makes}
 use Rattle.place_gen.proofs.emit.+emit.Goals as goal
 
-pub emit_parts-loop-arm-init : goal.emit_parts-loop-arm-init
-emit_parts-loop-arm-init t c =
-    let s = select_size (map arm_code_of c.as_slice-arms.result.now) (all_code (map action_code c.in-Select.other)) in
-    let o : (all_code (map action_code c.as_slice.result.now)).size ≡ (all_code (map action_code c.in-Select.other)).size = ap (λ l. (all_code (map action_code l)).size) c.as_slice.ensures in
-    let e : c.in_ok-end.end ≡ length c.args.out.now.lines + (select_code (map arm_code_of c.as_slice-arms.result.now) (all_code (map action_code c.in-Select.other))).size =
-    omega (arith, c.in_ok-end.ensures, c.len.ensures, c.in_ok-size.ensures, c.in_ok-actions_size.ensures, s, o) in
-    record { lines = refl; end = e; size = e; leaves = refl; pending = search rules; spot = refl }
+pub add_actions-loop-action-init : goal.add_actions-loop-action-init
+add_actions-loop-action-init t c new m = m
 
-pub emit_parts-returns : goal.emit_parts-returns
-emit_parts-returns t c =
-    let other = all_code (map action_code c.in-Select.other) in
-    let none : drop c.loop-arm.arm-index c.as_slice-arms.result.now ≡ [] = drop_all c.loop-arm.arm-index c.as_slice-arms.result.now (omega arith) in
-    let d1 = c.loop-arm.out in
-    let d3 = c.emit_actions.new.out in
-    let o : all_code (map action_code c.as_slice-2.result.now) ≡ other = ap (λ l. all_code (map action_code l)) c.as_slice-2.ensures in
-    let last = subst (λ f. Adds f c.put.new.self d3) o c.in_ok-emit_actions.ensures in
-    let added = join_adds (one Drop (drop 1)) other d1 c.put.new.self d3 c.in_ok-put.ensures last in
-    let rest = subst (λ l. Adds (select_code (map arm_code_of l) other) d1 d3) (sym none) added in
-    let e : select_code (map arm_code_of c.as_slice-arms.result.now) other ≡ action_parts c.args.action.now = search (rules, the_lemmas, c.in-Select.is, c.as_slice-arms.ensures) in
-    subst (λ f. Adds f c.args.out.now d3) e
-    (rest_adds (select_code (map arm_code_of (drop c.loop-arm.arm-index c.as_slice-arms.result.now)) other) (select_code (map arm_code_of c.as_slice-arms.result.now) other) c.args.out.now d1 d3 c.in_ok-end.end rest c.loop-arm.invariant.lines c.loop-arm.invariant.end c.loop-arm.invariant.size c.loop-arm.invariant.leaves c.loop-arm.invariant.spot)
+pub add_actions-loop-action-preserved : goal.add_actions-loop-action-preserved
+add_actions-loop-action-preserved t c new m =
+    let rest = rest_of c.args.actions.now c.loop-action.action-index c.action-item.result c.loop-action-test.true c.action-item.is in
+    c.loop-action.invariant new (subst (λ l. Makes (all_code (map action_code l)) c.loop-action.out new) (sym rest) (join_makes c.add_action.ensures m))
 
-pub emit_value_parts-loop-arm-init : goal.emit_value_parts-loop-arm-init
-emit_value_parts-loop-arm-init t c =
-    let s = select_size (map value_arm_code c.as_slice-arms.result.now) (value_code c.in-Select.other) in
-    let o : (value_code c.get.result.now).size ≡ (value_code c.in-Select.other).size = ap (λ v. (value_code v).size) c.get.ensures in
-    let e : c.in_ok-end.end ≡ length c.args.out.now.lines + (select_code (map value_arm_code c.as_slice-arms.result.now) (value_code c.in-Select.other)).size =
-    omega (arith, c.in_ok-end.ensures, c.len.ensures, c.in_ok-size.ensures, c.in_ok-value_size.ensures, s, o) in
-    record { lines = refl; end = e; size = e; leaves = refl; pending = search rules; spot = refl }
+pub add_actions-returns : goal.add_actions-returns
+add_actions-returns t c =
+    let none : drop c.loop-action.action-index c.args.actions.now ≡ [] = drop_all c.loop-action.action-index c.args.actions.now c.loop-action-test.false in
+    let out = c.loop-action.out in
+    c.loop-action.invariant out (subst (λ l. Makes (all_code (map action_code l)) out out) (sym none) none_makes)
 
-pub emit_value_parts-returns : goal.emit_value_parts-returns
-emit_value_parts-returns t c =
-    let other = value_code c.in-Select.other in
-    let none : drop c.loop-arm.arm-index c.as_slice-arms.result.now ≡ [] = drop_all c.loop-arm.arm-index c.as_slice-arms.result.now (omega arith) in
-    let d1 = c.loop-arm.out in
-    let d3 = c.emit_value.new.out in
-    let o : value_code c.get-2.result.now ≡ other = ap value_code c.get-2.ensures in
-    let last = subst (λ f. Adds f c.put.new.self d3) o c.in_ok-emit_value.ensures in
-    let added = join_adds (one Drop (drop 1)) other d1 c.put.new.self d3 c.in_ok-put.ensures last in
-    let rest = subst (λ l. Adds (select_code (map value_arm_code l) other) d1 d3) (sym none) added in
-    let e : select_code (map value_arm_code c.as_slice-arms.result.now) other ≡ value_parts c.args.phrase.now = search (rules, the_lemmas, c.in-Select.is, c.as_slice-arms.ensures) in
-    subst (λ f. Adds f c.args.out.now d3) e
-    (rest_adds (select_code (map value_arm_code (drop c.loop-arm.arm-index c.as_slice-arms.result.now)) other) (select_code (map value_arm_code c.as_slice-arms.result.now) other) c.args.out.now d1 d3 c.in_ok-end.end rest c.loop-arm.invariant.lines c.loop-arm.invariant.end c.loop-arm.invariant.size c.loop-arm.invariant.leaves c.loop-arm.invariant.spot)
+pub add_actuals-loop-actual-init : goal.add_actuals-loop-actual-init
+add_actuals-loop-actual-init t c new m = m
 
-pub emit_value-returns-in-Number : goal.emit_value-returns-in-Number
-emit_value-returns-in-Number t c =
-    let z = c.in-Number.number in
-    let fits : FitsSigned w16 z = search rules in
-    let e : one (Number z) (pushes (operand.Value kinds.Int)) ≡ value_code c.args.phrase.now = search (rules, the_lemmas, c.in-Number.is) in
-    let h = simp to_z-of_z at c.put_number.ensures in
-    subst (λ g. OnOk c.put_number.result (Adds g c.args.out.now c.put_number.new.out)) e h
+pub add_actuals-loop-actual-preserved : goal.add_actuals-loop-actual-preserved
+add_actuals-loop-actual-preserved t c new m =
+    let rest = rest_of c.args.actuals.now c.loop-actual.actual-index c.actual-item.result c.loop-actual-test.true c.actual-item.is in
+    c.loop-actual.invariant new (subst (λ l. Makes (all_code (map actual_code l)) c.loop-actual.out new) (sym rest) (join_makes c.add_actual.ensures m))
 
-pub emit_value-returns-in_ok-put_operation-in-Apply : goal.emit_value-returns-in_ok-put_operation-in-Apply
-emit_value-returns-in_ok-put_operation-in-Apply t c =
+pub add_actuals-returns : goal.add_actuals-returns
+add_actuals-returns t c =
+    let none : drop c.loop-actual.actual-index c.args.actuals.now ≡ [] = drop_all c.loop-actual.actual-index c.args.actuals.now c.loop-actual-test.false in
+    let out = c.loop-actual.out in
+    c.loop-actual.invariant out (subst (λ l. Makes (all_code (map actual_code l)) out out) (sym none) none_makes)
+
+pub add_values-loop-value-init : goal.add_values-loop-value-init
+add_values-loop-value-init t c new m = m
+
+pub add_values-loop-value-preserved : goal.add_values-loop-value-preserved
+add_values-loop-value-preserved t c new m =
+    let rest = rest_of c.args.values.now c.loop-value.value-index c.value-item.result c.loop-value-test.true c.value-item.is in
+    c.loop-value.invariant new (subst (λ l. Makes (all_code (map value_code l)) c.loop-value.out new) (sym rest) (join_makes c.add_value.ensures m))
+
+pub add_values-returns : goal.add_values-returns
+add_values-returns t c =
+    let none : drop c.loop-value.value-index c.args.values.now ≡ [] = drop_all c.loop-value.value-index c.args.values.now c.loop-value-test.false in
+    let out = c.loop-value.out in
+    c.loop-value.invariant out (subst (λ l. Makes (all_code (map value_code l)) out out) (sym none) none_makes)
+
+pub add_value-returns-in-Apply : goal.add_value-returns-in-Apply
+add_value-returns-in-Apply t c =
     let op = c.in-Apply.operation in
-    let f = all_code (map value_code c.as_slice.result.now) in
-    let g = one (Do op) (λ ks. operand.Value (result_kind op) ∷ drop (length (operand_kinds op)) ks) in
-    let e : join f g ≡ value_code c.args.phrase.now = search (rules, the_lemmas, c.in-Apply.is, c.as_slice.ensures) in
-    subst (λ h. Adds h c.args.out.now c.put_operation.new.out) e (join_adds f g c.args.out.now c.emit_values.new.out c.put_operation.new.out c.in_ok-emit_values-in-Apply.ensures c.in_ok-put_operation-in-Apply.ensures)
+    let e : join (all_code (map value_code c.as_slice.result.now)) (one (Do op) (λ ks. operand.Value (result_kind op) ∷ drop (length (operand_kinds op)) ks))
+    ≡ value_code c.args.phrase.now = search (rules, the_lemmas, c.in-Apply.is, c.as_slice.ensures) in
+    subst (λ f. Makes f c.args.out.now c.put_operation.new.out) e (join_makes c.add_values.ensures c.put_operation.ensures)
 
-pub emit_value-returns-in_ok-emit_value_parts-in-Select : goal.emit_value-returns-in_ok-emit_value_parts-in-Select
-emit_value-returns-in_ok-emit_value_parts-in-Select t c =
-    let f = value_code c.get.result.now in
-    let g = value_parts c.args.phrase.now in
-    let e : join f g ≡ value_code c.args.phrase.now = search (rules, the_lemmas, c.in-Select.is, c.get.ensures) in
-    subst (λ h. Adds h c.args.out.now c.emit_value_parts.new.out) e (join_adds f g c.args.out.now c.emit_value.new.out c.emit_value_parts.new.out c.in_ok-emit_value-in-Select.ensures c.in_ok-emit_value_parts-in-Select.ensures)
+pub add_value-returns-in-Select : goal.add_value-returns-in-Select
+add_value-returns-in-Select t c =
+    let e : join (value_code c.get.result.now) (value_parts c.args.phrase.now) ≡ value_code c.args.phrase.now =
+    search (rules, the_lemmas, c.in-Select.is, c.get.ensures) in
+    subst (λ f. Makes f c.args.out.now c.add_value_parts.new.out) e (join_makes c.add_value.ensures c.add_value_parts.ensures)
 
-pub emit_value-returns-in_ok-emit_value-in-Unit : goal.emit_value-returns-in_ok-emit_value-in-Unit
-emit_value-returns-in_ok-emit_value-in-Unit t c =
-    let f = value_code c.get-in-Unit.result.now in
-    let e : join (one Mark keeps) f ≡ value_code c.args.phrase.now = search (rules, the_lemmas, c.in-Unit.is, c.get-in-Unit.ensures) in
-    subst (λ h. Adds h c.args.out.now c.emit_value-in-Unit.new.out) e (join_adds (one Mark keeps) f c.args.out.now c.put.new.self c.emit_value-in-Unit.new.out c.in_ok-put-in-Unit.ensures c.in_ok-emit_value-in-Unit.ensures)
+pub add_value-returns-in-Unit : goal.add_value-returns-in-Unit
+add_value-returns-in-Unit t c =
+    let e : join (one Mark keeps) (value_code c.get-in-Unit.result.now) ≡ value_code c.args.phrase.now =
+    search (rules, the_lemmas, c.in-Unit.is, c.get-in-Unit.ensures) in
+    subst (λ f. Makes f c.args.out.now c.add_value-in-Unit.new.out) e (join_makes c.add.ensures c.add_value-in-Unit.ensures)
 
-pub emit_value-returns-in_ok-emit_value-in-After : goal.emit_value-returns-in_ok-emit_value-in-After
-emit_value-returns-in_ok-emit_value-in-After t c =
-    let f = all_code (map action_code c.as_slice-in-After.result.now) in
-    let g = value_code c.get-in-After.result.now in
-    let e : join f g ≡ value_code c.args.phrase.now = search (rules, the_lemmas, c.in-After.is, c.as_slice-in-After.ensures, c.get-in-After.ensures) in
-    subst (λ h. Adds h c.args.out.now c.emit_value-in-After.new.out) e (join_adds f g c.args.out.now c.emit_actions.new.out c.emit_value-in-After.new.out c.in_ok-emit_actions-in-After.ensures c.in_ok-emit_value-in-After.ensures)
+pub add_value-returns-in-After : goal.add_value-returns-in-After
+add_value-returns-in-After t c =
+    let e : join (all_code (map action_code c.as_slice-in-After.result.now)) (value_code c.get-in-After.result.now) ≡ value_code c.args.phrase.now =
+    search (rules, the_lemmas, c.in-After.is, c.as_slice-in-After.ensures, c.get-in-After.ensures) in
+    subst (λ f. Makes f c.args.out.now c.add_value-in-After.new.out) e (join_makes c.add_actions.ensures c.add_value-in-After.ensures)
+
+pub add_choice-returns-in-Cand : goal.add_choice-returns-in-Cand
+add_choice-returns-in-Cand t c =
+    let f = value_code c.in-Cand.a in
+    let g = value_code c.in-Cand.b in
+    let h = one (Truth false) (pushes (operand.Value kinds.Truth)) in
+    let d1 = c.add_value.new.out in
+    let d3 = c.add_value-in-Cand.new.out in
+    let x1 = subst (λ v. Makes (value_code v) c.kept-below.new.self d1) c.get.ensures c.add_value.ensures in
+    let k = subst (λ v. c.count_value.result ≡ counted (value_code v).size) c.get-in-Cand.ensures c.count_value.ensures in
+    let x2 = subst (λ ks. MakesTurn (False (length d1.lines + 1 + g.size + 1)) ks d1 c.put_test.new.out) c.as_slice.ensures (c.put_test.ensures g.size k) in
+    let x3 = subst (λ v. Makes (value_code v) c.put_test.new.out d3) c.get-in-Cand-2.ensures c.add_value-in-Cand.ensures in
+    let x4 = subst (λ ks. MakesTurn (Jump (length d3.lines + 1 + h.size)) ks d3 c.put_else.new.out) c.as_slice-in-Cand.ensures (c.put_else.ensures 1 refl) in
+    let e : if_code f g h ≡ choice_code c.args.v.now = search (rules, the_lemmas, c.in-Cand.is) in
+    subst (λ f. Makes f c.args.out.now c.put_truth.new.out) e (if_makes c.kept-below.ensures.draft c.kept-below.ensures.kinds x1 x2 x3 x4 c.put_truth.ensures)
+
+pub add_choice-returns-in-Cor : goal.add_choice-returns-in-Cor
+add_choice-returns-in-Cor t c =
+    let f = value_code c.in-Cor.a in
+    let g = one (Truth true) (pushes (operand.Value kinds.Truth)) in
+    let h = value_code c.in-Cor.b in
+    let d1 = c.add_value-in-Cor.new.out in
+    let d3 = c.put_truth-in-Cor.new.out in
+    let x1 = subst (λ v. Makes (value_code v) c.kept-below-in-Cor.new.self d1) c.get-in-Cor.ensures c.add_value-in-Cor.ensures in
+    let x2 =
+    subst (λ ks. MakesTurn (False (length d1.lines + 1 + g.size + 1)) ks d1 c.put_test-in-Cor.new.out) c.as_slice-in-Cor.ensures
+    (c.put_test-in-Cor.ensures 1 refl) in
+    let k = subst (λ v. c.count_value-in-Cor.result ≡ counted (value_code v).size) c.get-in-Cor-2.ensures c.count_value-in-Cor.ensures in
+    let x4 =
+    subst (λ ks. MakesTurn (Jump (length d3.lines + 1 + h.size)) ks d3 c.put_else-in-Cor.new.out) c.as_slice-in-Cor-2.ensures
+    (c.put_else-in-Cor.ensures h.size k) in
+    let x5 = subst (λ v. Makes (value_code v) c.put_else-in-Cor.new.out c.add_value-in-Cor-2.new.out) c.get-in-Cor-3.ensures c.add_value-in-Cor-2.ensures in
+    let e : if_code f g h ≡ choice_code c.args.v.now = search (rules, the_lemmas, c.in-Cor.is) in
+    subst (λ f. Makes f c.args.out.now c.add_value-in-Cor-2.new.out) e
+    (if_makes c.kept-below-in-Cor.ensures.draft c.kept-below-in-Cor.ensures.kinds x1 x2 c.put_truth-in-Cor.ensures x4 x5)
+
+pub add_choice-returns-in-If : goal.add_choice-returns-in-If
+add_choice-returns-in-If t c =
+    let f = value_code c.in-If.c in
+    let g = value_code c.in-If.a in
+    let h = value_code c.in-If.b in
+    let d1 = c.add_value-in-If.new.out in
+    let d3 = c.add_value-in-If-2.new.out in
+    let x1 = subst (λ v. Makes (value_code v) c.kept-below-in-If.new.self d1) c.get-in-If.ensures c.add_value-in-If.ensures in
+    let k2 = subst (λ v. c.count_value-in-If.result ≡ counted (value_code v).size) c.get-in-If-2.ensures c.count_value-in-If.ensures in
+    let x2 =
+    subst (λ ks. MakesTurn (False (length d1.lines + 1 + g.size + 1)) ks d1 c.put_test-in-If.new.out) c.as_slice-in-If.ensures
+    (c.put_test-in-If.ensures g.size k2) in
+    let x3 = subst (λ v. Makes (value_code v) c.put_test-in-If.new.out d3) c.get-in-If-3.ensures c.add_value-in-If-2.ensures in
+    let k4 = subst (λ v. c.count_value-in-If-2.result ≡ counted (value_code v).size) c.get-in-If-4.ensures c.count_value-in-If-2.ensures in
+    let x4 =
+    subst (λ ks. MakesTurn (Jump (length d3.lines + 1 + h.size)) ks d3 c.put_else-in-If.new.out) c.as_slice-in-If-2.ensures
+    (c.put_else-in-If.ensures h.size k4) in
+    let x5 = subst (λ v. Makes (value_code v) c.put_else-in-If.new.out c.add_value-in-If-3.new.out) c.get-in-If-5.ensures c.add_value-in-If-3.ensures in
+    let e : if_code f g h ≡ choice_code c.args.v.now = search (rules, the_lemmas, c.in-If.is) in
+    subst (λ f. Makes f c.args.out.now c.add_value-in-If-3.new.out) e
+    (if_makes c.kept-below-in-If.ensures.draft c.kept-below-in-If.ensures.kinds x1 x2 x3 x4 x5)
+
+pub add_until-returns-in-Some : goal.add_until-returns-in-Some
+add_until-returns-in-Some t c =
+    let d1 = c.add_value.new.out in
+    let x2 = subst (λ ks. MakesTurn (False (length d1.lines + 1 + 0 + 1)) ks d1 c.put_test.new.out) c.as_slice.ensures (c.put_test.ensures 0 refl) in
+    rw c.in-Some.is (until_makes c.kept-below.ensures.draft c.kept-below.ensures.kinds c.add_value.ensures x2 c.add.ensures)
+
+pub add_turns-returns-in-Loop : goal.add_turns-returns-in-Loop
+add_turns-returns-in-Loop t c =
+    let s = step_exit c.args.step in
+    let turn = turn_of c.args.action.now s in
+    let e : turns_code turn ≡ loop_code c.args.action.now s = search (rules, the_lemmas, c.in-Loop.is) in
+    let k = subst (λ f. c.count_loop.result ≡ counted f.size) (sym e) (c.count_loop.ensures s (sym c.step_size.ensures)) in
+    subst (λ f. Makes f c.args.out.now c.add-in-Loop.new.self) e
+    (turns_makes c.ahead-end.ensures.draft (λ h. c.ahead-end.ensures.place h (turns_code turn).size k) c.len-top.ensures c.add.ensures c.add_turn.ensures
+    c.add-in-Loop.ensures)
+
+pub add_turn-returns-in-Loop : goal.add_turn-returns-in-Loop
+add_turn-returns-in-Loop t c =
+    let s = step_exit c.args.step in
+    let w = while_code (option_map value_code c.in-Loop.condition) in
+    let u = until_code (option_map value_code c.in-Loop.until) in
+    let us = all_code (map action_code c.in-Loop.units) in
+    let e : exit_join w (exit_join (stays us) (exit_join u s)) ≡ turn_of c.args.action.now s = search (rules, the_lemmas, c.in-Loop.is) in
+    let x3 = subst (λ l. Makes (all_code (map action_code l)) c.add_while.new.out c.add_actions.new.out) c.as_slice.ensures c.add_actions.ensures in
+    let x4 = subst (λ ks. ComesBack ks c.add_actions.new.out c.restore.new.self) c.as_slice-in-Loop.ensures c.restore.ensures in
+    subst (λ f. MakesExit f c.args.end c.args.out.now c.put_step.new.out) e
+    (turn_exit c.kept-below.ensures.draft c.kept-below.ensures.kinds c.add_while.ensures x3 x4 c.add_until.ensures c.put_step.ensures)
+
+pub add_arm-returns : goal.add_arm-returns
+add_arm-returns t c =
+    let zs = c.args.arm.now.labels in
+    let part = all_code (map action_code c.args.arm.now.units) in
+    let arm : Labelled Stretch = record { labels = zs; part = part } in
+    let e : arm ≡ arm_code_of c.args.arm.now = search (rules, the_lemmas) in
+    let k1 : c.saturating_add.result ≡ counted (length zs + 1) = omega (arith, c.saturating_add.ensures, c.len.ensures) in
+    let x2 = subst (λ l. Makes (whens_code l c.ahead-past.result) c.ahead-past.new.self c.put_whens.new.out) c.as_slice.ensures c.put_whens.ensures in
+    let s = subst (λ l. c.count_actions.result ≡ counted (all_code (map action_code l)).size) c.as_slice-2.ensures c.count_actions.ensures in
+    let x5 = subst (λ l. Makes (all_code (map action_code l)) c.restore.new.self c.add_actions.new.out) c.as_slice-3.ensures c.add_actions.ensures in
+    let k3 : c.saturating_add-2.result ≡ counted (part.size + 1) = omega (arith, s, c.saturating_add-2.ensures) in
+    let x4 = subst (λ ks. ComesBack ks c.put_jump.new.out c.restore.new.self) c.without_first.ensures c.restore.ensures in
+    subst (λ a. MakesArm a c.args.end c.args.top.now c.args.out.now c.restore-2.new.self) e
+    (arm_makes arm c.ahead-past.ensures.draft (λ h. c.ahead-past.ensures.place h (length zs + 1) k1) x2 (c.put_jump.ensures (part.size + 1) k3) x4 x5
+    c.add.ensures c.restore-2.ensures)
+
+pub add_value_arm-returns : goal.add_value_arm-returns
+add_value_arm-returns t c =
+    let zs = c.args.arm.now.labels in
+    let part = value_code c.args.arm.now.value in
+    let arm : Labelled Stretch = record { labels = zs; part = part } in
+    let e : arm ≡ value_arm_code c.args.arm.now = search (rules, the_lemmas) in
+    let k1 : c.saturating_add.result ≡ counted (length zs + 1) = omega (arith, c.saturating_add.ensures, c.len.ensures) in
+    let x2 = subst (λ l. Makes (whens_code l c.ahead-past.result) c.ahead-past.new.self c.put_whens.new.out) c.as_slice.ensures c.put_whens.ensures in
+    let s = c.count_value.ensures in
+    let x5 = c.add_value.ensures in
+    let k3 : c.saturating_add-2.result ≡ counted (part.size + 1) = omega (arith, s, c.saturating_add-2.ensures) in
+    let x4 = subst (λ ks. ComesBack ks c.put_jump.new.out c.restore.new.self) c.without_first.ensures c.restore.ensures in
+    subst (λ a. MakesArm a c.args.end c.args.top.now c.args.out.now c.restore-2.new.self) e
+    (arm_makes arm c.ahead-past.ensures.draft (λ h. c.ahead-past.ensures.place h (length zs + 1) k1) x2 (c.put_jump.ensures (part.size + 1) k3) x4 x5
+    c.add.ensures c.restore-2.ensures)
+
+pub add_parts-loop-arm-init : goal.add_parts-loop-arm-init
+add_parts-loop-arm-init t c =
+    let other = all_code (map action_code c.in-Select.other) in
+    let whole = select_code (map arm_code_of c.as_slice-arms.result.now) other in
+    let s = select_size (map arm_code_of c.as_slice-arms.result.now) other in
+    let o = subst (λ l. c.count_actions.result ≡ counted (all_code (map action_code l)).size) c.as_slice.ensures c.count_actions.ensures in
+    let k : c.count_arms.result ≡ counted whole.size = omega (arith, c.count_arms.ensures, o, s) in
+    record {
+      rest = λ new m. same_makes c.ahead-end.ensures.draft (same_makes c.kept-kept.ensures.draft m);
+      at = record {
+        ends = λ h. let q = c.kept-kept.ensures.draft.met h in
+            c.ahead-end.ensures.place q.0 whole.size k ∙ ap (λ n. n + whole.size) (sym (ap length (q.1.0 ∙ (c.ahead-end.ensures.draft.met q.0).1.0)));
+        pending = λ h. (c.kept-kept.ensures.draft.met h).1.1 ∙ sym (c.as_slice-top.ensures ∙ c.kept-kept.ensures.kinds h);
+      };
+    }
+
+pub add_parts-loop-arm-preserved : goal.add_parts-loop-arm-preserved
+add_parts-loop-arm-preserved t c =
+    let other = all_code (map action_code c.in-Select.other) in
+    let arms = c.as_slice-arms.result.now in
+    let arm = arm_code_of c.arm-item.result in
+    let more = map arm_code_of (drop (c.loop-arm.arm-index + 1) arms) in
+    let rest = rest_of arms c.loop-arm.arm-index c.arm-item.result c.loop-arm-test.true c.arm-item.is in
+    let at : IsAt (select_code (arm ∷ more) other) c.ahead-end.result c.as_slice-top.result.now c.loop-arm.out =
+    subst (λ l. IsAt (select_code (map arm_code_of l) other) c.ahead-end.result c.as_slice-top.result.now c.loop-arm.out) rest c.loop-arm.invariant.at in
+    record {
+      rest =
+          λ new m. c.loop-arm.invariant.rest new
+          (subst (λ l. Makes (select_code (map arm_code_of l) other) c.loop-arm.out new) (sym rest) (select_makes arm more other at c.add_arm.ensures m));
+      at = arm_at arm more other at c.add_arm.ensures;
+    }
+
+pub add_parts-returns : goal.add_parts-returns
+add_parts-returns t c =
+    let other = all_code (map action_code c.in-Select.other) in
+    let arms = c.as_slice-arms.result.now in
+    let none : drop c.loop-arm.arm-index arms ≡ [] = drop_all c.loop-arm.arm-index arms c.loop-arm-test.false in
+    let done = c.add_actions.new.out in
+    let last = subst (λ l. Makes (all_code (map action_code l)) c.add.new.self done) c.as_slice-2.ensures c.add_actions.ensures in
+    let whole =
+    c.loop-arm.invariant.rest done
+    (subst (λ l. Makes (select_code (map arm_code_of l) other) c.loop-arm.out done) (sym none) (join_makes c.add.ensures last)) in
+    let e : select_code (map arm_code_of arms) other ≡ action_parts c.args.action.now = search (rules, the_lemmas, c.in-Select.is, c.as_slice-arms.ensures) in
+    subst (λ f. Makes f c.args.out.now done) e whole
+
+pub add_value_parts-loop-arm-init : goal.add_value_parts-loop-arm-init
+add_value_parts-loop-arm-init t c =
+    let other = value_code c.in-Select.other in
+    let whole = select_code (map value_arm_code c.as_slice-arms.result.now) other in
+    let s = select_size (map value_arm_code c.as_slice-arms.result.now) other in
+    let o = subst (λ v. c.count_value.result ≡ counted (value_code v).size) c.get.ensures c.count_value.ensures in
+    let k : c.count_value_arms.result ≡ counted whole.size = omega (arith, c.count_value_arms.ensures, o, s) in
+    record {
+      rest = λ new m. same_makes c.ahead-end.ensures.draft (same_makes c.kept-kept.ensures.draft m);
+      at = record {
+        ends = λ h. let q = c.kept-kept.ensures.draft.met h in
+            c.ahead-end.ensures.place q.0 whole.size k ∙ ap (λ n. n + whole.size) (sym (ap length (q.1.0 ∙ (c.ahead-end.ensures.draft.met q.0).1.0)));
+        pending = λ h. (c.kept-kept.ensures.draft.met h).1.1 ∙ sym (c.as_slice-top.ensures ∙ c.kept-kept.ensures.kinds h);
+      };
+    }
+
+pub add_value_parts-loop-arm-preserved : goal.add_value_parts-loop-arm-preserved
+add_value_parts-loop-arm-preserved t c =
+    let other = value_code c.in-Select.other in
+    let arms = c.as_slice-arms.result.now in
+    let arm = value_arm_code c.arm-item.result in
+    let more = map value_arm_code (drop (c.loop-arm.arm-index + 1) arms) in
+    let rest = rest_of arms c.loop-arm.arm-index c.arm-item.result c.loop-arm-test.true c.arm-item.is in
+    let at : IsAt (select_code (arm ∷ more) other) c.ahead-end.result c.as_slice-top.result.now c.loop-arm.out =
+    subst (λ l. IsAt (select_code (map value_arm_code l) other) c.ahead-end.result c.as_slice-top.result.now c.loop-arm.out) rest c.loop-arm.invariant.at in
+    record {
+      rest =
+          λ new m. c.loop-arm.invariant.rest new
+          (subst (λ l. Makes (select_code (map value_arm_code l) other) c.loop-arm.out new) (sym rest)
+          (select_makes arm more other at c.add_value_arm.ensures m));
+      at = arm_at arm more other at c.add_value_arm.ensures;
+    }
+
+pub add_value_parts-returns : goal.add_value_parts-returns
+add_value_parts-returns t c =
+    let other = value_code c.in-Select.other in
+    let arms = c.as_slice-arms.result.now in
+    let none : drop c.loop-arm.arm-index arms ≡ [] = drop_all c.loop-arm.arm-index arms c.loop-arm-test.false in
+    let done = c.add_value.new.out in
+    let last = subst (λ v. Makes (value_code v) c.add.new.self done) c.get-2.ensures c.add_value.ensures in
+    let whole =
+    c.loop-arm.invariant.rest done
+    (subst (λ l. Makes (select_code (map value_arm_code l) other) c.loop-arm.out done) (sym none) (join_makes c.add.ensures last)) in
+    let e : select_code (map value_arm_code arms) other ≡ value_parts c.args.phrase.now = search (rules, the_lemmas, c.in-Select.is, c.as_slice-arms.ensures) in
+    subst (λ f. Makes f c.args.out.now done) e whole
+
+either : {A B C : Type 0} → A ⊎ B → (A → C) → (B → C) → C
+either (inl a) f g = f a
+either (inr b) f g = g b
+
+pub add_turn-add_actions-requires : goal.add_turn-add_actions-requires
+add_turn-add_actions-requires t c =
+    either c.in-Loop.is (λ e. search (rules, the_lemmas, e, c.as_slice.ensures))
+    (λ x. let e = x.4 in search (rules, the_lemmas, tests, common_steps, e, c.as_slice.ensures))

@@ -1,0 +1,252 @@
+//! How many instructions a phrase has. More than the largest number count as that, so that no count fails.
+ghost use Rattle.std.specs.Prelude.{◌≡◌, ◌+◌, map, option_map};
+ghost use Rattle.place_gen.specs.Counted.{counted};
+ghost use Rattle.place_gen.specs.Stretch.{all_code, while_code, until_code, value_code, action_code, actual_code, value_arm_code, arm_code_of, arms_length, Exit, loop_code};
+ghost use Rattle.place_gen.specs.Steps.{count_code};
+
+use elan_types::{Action, Actual, Arm, ValueArm, ValuePhrase};
+
+fn count_if(test: usize, first: usize, second: usize) -> usize
+    ensures { result ≡ counted (test + (1 + (first + (1 + second)))) }
+{
+    test.saturating_add(first)
+        .saturating_add(second)
+        .saturating_add(2)
+}
+
+/// Of a phrase that delivers a value.
+#[cycle(count)]
+pub fn count_value(v: &ValuePhrase) -> usize
+    ensures { result ≡ counted (value_code v.now).size }
+{
+    match v {
+        ValuePhrase::Number(_) => 1,
+        ValuePhrase::Truth(_) => 1,
+        ValuePhrase::Load(_, _) => 2,
+        ValuePhrase::Apply(_, operands) => count_values(operands.as_slice()).saturating_add(1),
+        ValuePhrase::Cand(a, b) => count_if(count_value(a.get()), count_value(b.get()), 1),
+        ValuePhrase::Cor(a, b) => count_if(count_value(a.get()), 1, count_value(b.get())),
+        ValuePhrase::If(c, a, b) => count_if(
+            count_value(c.get()),
+            count_value(a.get()),
+            count_value(b.get()),
+        ),
+        ValuePhrase::Select(v, arms, other) => count_value(v.get()).saturating_add(count_value_arms(
+            arms.as_slice(),
+            count_value(other.get()),
+        )),
+        ValuePhrase::Unit(a) => count_value(a.get()).saturating_add(1),
+        ValuePhrase::After(units, a) => {
+            count_actions(units.as_slice()).saturating_add(count_value(a.get()))
+        }
+        ValuePhrase::Call(_, actuals, _) => count_actuals(actuals.as_slice()).saturating_add(1),
+        ValuePhrase::Refer(_, _) => 1,
+    }
+}
+
+#[cycle(count)]
+fn count_actuals(actuals: &[Actual]) -> usize
+    ensures { result ≡ counted (all_code (map actual_code actuals.now)).size }
+{
+    let mut count = 0usize;
+    for actual in actuals {
+        count = count.saturating_add(count_actual(actual));
+    }
+    count
+}
+
+#[cycle(count)]
+fn count_actual(actual: &Actual) -> usize
+    ensures { result ≡ counted (actual_code actual.now).size }
+{
+    match actual {
+        Actual::Value(value) => count_value(value),
+        Actual::Place(_, _) => 1,
+    }
+}
+
+#[cycle(count)]
+fn count_values(values: &[ValuePhrase]) -> usize
+    ensures { result ≡ counted (all_code (map value_code values.now)).size }
+{
+    let mut count = 0usize;
+    for value in values {
+        count = count.saturating_add(count_value(value));
+    }
+    count
+}
+
+/// Of actions, one after another.
+#[cycle(count)]
+pub fn count_actions(actions: &[Action]) -> usize
+    ensures { result ≡ counted (all_code (map action_code actions.now)).size }
+{
+    let mut count = 0usize;
+    for action in actions {
+        count = count.saturating_add(count_action(action));
+    }
+    count
+}
+
+#[cycle(count)]
+fn count_action(action: &Action) -> usize
+    ensures { result ≡ counted (action_code action.now).size }
+{
+    match action {
+        Action::Unit(units) => count_actions(units.as_slice()).saturating_add(1),
+        Action::Store(_, _, value) => count_value(value).saturating_add(2),
+        Action::Modify(_, _, value) => count_value(value).saturating_add(2),
+        Action::If(c, first, second) => count_if(
+            count_value(c),
+            count_actions(first.as_slice()),
+            count_actions(second.as_slice()),
+        ),
+        Action::Select(v, arms, other) => count_value(v).saturating_add(count_arms(
+            arms.as_slice(),
+            count_actions(other.as_slice()),
+        )),
+        Action::Loop {
+            condition,
+            units,
+            until,
+        } => count_turns(
+            count_while(condition),
+            count_actions(units.as_slice()),
+            count_until(until),
+            0,
+        ),
+        Action::Count { .. } => count_stepped(action),
+        Action::Put(value) => count_value(value).saturating_add(1),
+        Action::Line => 1,
+        Action::Call(_, actuals) => count_actuals(actuals.as_slice()).saturating_add(1),
+        Action::Refer(_) => 1,
+        Action::Leave(_) => 1,
+        Action::LeaveWith(_, _, value) => count_value(value).saturating_add(1),
+    }
+}
+
+// A loop with a counter; nothing for another action.
+#[cycle(count)]
+fn count_stepped(action: &Action) -> usize
+    ensures { result ≡ counted (count_code action.now).size }
+{
+    let Action::Count {
+        counter: _,
+        from,
+        way: _,
+        limit,
+        condition,
+        units,
+        until,
+    } = action
+    else {
+        return 0;
+    };
+    let first = count_value(from).saturating_add(2);
+    let test = count_while(condition);
+    let body = count_actions(units.as_slice());
+    let end = count_until(until);
+    match limit {
+        None => first.saturating_add(count_turns(test, body, end, 3)),
+        Some(limit) => {
+            let turns = count_turns(test, body, end, 2);
+            first.saturating_add(count_limited(count_value(limit), turns))
+        }
+    }
+}
+
+// A limit, and what keeps it around these turns.
+fn count_limited(limit: usize, turns: usize) -> usize
+    ensures { result ≡ counted (1 + (limit + (1 + (turns + 1)))) }
+{
+    limit.saturating_add(turns).saturating_add(3)
+}
+
+// Of the turns of a loop, from the counts of the parts of a turn.
+fn count_turns(test: usize, units: usize, until: usize, step: usize) -> usize
+    ensures { result ≡ counted (1 + (test + (units + (until + step)) + 1)) }
+{
+    test.saturating_add(units)
+        .saturating_add(until)
+        .saturating_add(step)
+        .saturating_add(2)
+}
+
+#[cycle(count)]
+fn count_while(test: &Option<ValuePhrase>) -> usize
+    ensures { result ≡ counted (while_code (option_map value_code test.now)).size }
+{
+    match test {
+        None => 0,
+        Some(value) => count_value(value).saturating_add(1),
+    }
+}
+
+#[cycle(count)]
+fn count_until(test: &Option<ValuePhrase>) -> usize
+    ensures { result ≡ counted (until_code (option_map value_code test.now)).size }
+{
+    match test {
+        None => 0,
+        Some(value) => count_value(value).saturating_add(2),
+    }
+}
+
+/// Of the arms of a SELECT that delivers a value, with so many for what no label holds.
+#[cycle(count)]
+pub fn count_value_arms(arms: &[ValueArm], other: usize) -> usize
+    ensures { result ≡ counted (arms_length (map value_arm_code arms.now) + (1 + other)) }
+{
+    let mut count = other.saturating_add(1);
+    for arm in arms {
+        count = count_arm(count, arm.labels.len(), count_value(&arm.value));
+    }
+    count
+}
+
+/// Of the arms of a SELECT that delivers nothing, with so many for what no label holds.
+#[cycle(count)]
+pub fn count_arms(arms: &[Arm], other: usize) -> usize
+    ensures { result ≡ counted (arms_length (map arm_code_of arms.now) + (1 + other)) }
+{
+    let mut count = other.saturating_add(1);
+    for arm in arms {
+        count = count_arm(count, arm.labels.len(), count_actions(arm.units.as_slice()));
+    }
+    count
+}
+
+// So many, and an arm of this part.
+fn count_arm(count: usize, labels: usize, part: usize) -> usize
+    ensures { result ≡ counted (count + (labels + (part + 2))) }
+{
+    count
+        .saturating_add(labels)
+        .saturating_add(part)
+        .saturating_add(2)
+}
+
+/// Of the turns of a loop whose step has so many; nothing for another action.
+pub fn count_loop(action: &Action, step: usize) -> usize
+    ensures { (exit : Exit) → exit.size ≡ step → result ≡ counted (loop_code action.now exit).size }
+{
+    match action {
+        Action::Loop {
+            condition,
+            units,
+            until,
+        }
+        | Action::Count {
+            condition,
+            units,
+            until,
+            ..
+        } => count_turns(
+            count_while(condition),
+            count_actions(units.as_slice()),
+            count_until(until),
+            step,
+        ),
+        _ => 0,
+    }
+}
