@@ -6,7 +6,7 @@ use Rattle.elan_meant.specs.declared.meant.Part.{Part}
 use Rattle.elan_meant.specs.declared.meant.Guarded.{Guarded}
 use Rattle.elan_meant.specs.declared.meant.Labelled.{Labelled}
 use Rattle.elan_meant.specs.declared.meant.Meant.{Meant}
-use Rattle.elan_meant.specs.declared.meant.Meant.TheVariants.{Absent, Value, Done, Left, Labels, Branches, Arms, Counter, Bodies, Level}
+use Rattle.elan_meant.specs.declared.meant.Meant.TheVariants.{Absent, Variable, Value, Done, Left, Labels, Branches, Arms, Counter, Bodies, Level}
 use Rattle.choice_rules.specs.Choices.{action_arm, value_arm, action_arms, value_arms, chain, branched, branches_in, branches_of, arms_in, arms_of}
 
 pub action_arms_push : (ls : List Labelled) (l : Labelled) → action_arms (ls ++ l ∷ []) ≡ action_arms ls ++ action_arm l ∷ []
@@ -23,7 +23,8 @@ chain_push (h ∷ gs) g p = ap (branched h) (chain_push gs g p)
 
 branches_cons : (m : Meant) (ms : List Meant) → branches_of (m ∷ ms) ≡ branches_in m ++ branches_of ms
 branches_cons Absent ms = refl
-branches_cons (Value at t v x) ms = refl
+branches_cons (Variable at t x) ms = refl
+branches_cons (Value at t v) ms = refl
 branches_cons (Done as') ms = refl
 branches_cons (Left as') ms = refl
 branches_cons (Labels ns) ms = refl
@@ -41,7 +42,8 @@ branches_push (n ∷ ms) m =
 
 arms_cons : (m : Meant) (ms : List Meant) → arms_of (m ∷ ms) ≡ arms_in m ++ arms_of ms
 arms_cons Absent ms = refl
-arms_cons (Value at t v x) ms = refl
+arms_cons (Variable at t x) ms = refl
+arms_cons (Value at t v) ms = refl
 arms_cons (Done as') ms = refl
 arms_cons (Left as') ms = refl
 arms_cons (Labels ns) ms = refl

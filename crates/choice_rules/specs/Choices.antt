@@ -18,11 +18,11 @@ use Rattle.elan_meant.specs.declared.meant.Part.TheVariants as part
 use Rattle.elan_meant.specs.declared.meant.Guarded.{Guarded}
 use Rattle.elan_meant.specs.declared.meant.Labelled.{Labelled}
 use Rattle.elan_meant.specs.declared.meant.Meant.{Meant}
-use Rattle.elan_meant.specs.declared.meant.Meant.TheVariants.{Done, Left, Labels, Branches, Arms}
+use Rattle.elan_meant.specs.declared.meant.Meant.TheVariants.{Value, Done, Left, Labels, Branches, Arms}
 use Rattle.elan_scope.specs.declared.scope.Found.{Found}
 use Rattle.elan_meant.specs.Predefined.{predefined, exists}
 use Rattle.elan_meant.specs.Operands.{delivers}
-use Rattle.elan_meant.specs.Parts.{value_of, valued, blank}
+use Rattle.elan_meant.specs.Parts.{value_of, blank}
 pub use Rattle.elan_meant.specs.Parts.{part_of, unreached}
 use Rattle.elan_scope.specs.Ruled.{Ruled, gives, breaks}
 
@@ -73,7 +73,7 @@ chain (g ∷ gs) p = branched g (chain gs p)
 abbrev pub delivered : ℕ → Option Part → Ruled Meant
 delivered at None = breaks (at, WrongType)
 delivered at (Some (part.Done as')) = gives (Done as')
-delivered at (Some (part.Value t v)) = gives (valued at t v)
+delivered at (Some (part.Value t v)) = gives (Value at t v)
 delivered at (Some (part.Left as')) = gives (Left as')
 
 abbrev pub branches_in : Meant → List Guarded
@@ -175,7 +175,7 @@ abbrev pub selected_as : ℕ → ValuePhrase → List Labelled → Part → Opti
 selected_as at v ls p None = breaks (at, WrongType)
 selected_as at v ls p (Some Nothing) = gives (Done (select_actions v ls p))
 selected_as at v ls p (Some Open) = gives (Left (select_actions v ls p))
-selected_as at v ls p (Some (Of t)) = gives (valued at t (select_value t v ls p))
+selected_as at v ls p (Some (Of t)) = gives (Value at t (select_value t v ls p))
 
 abbrev pub selected_by : ℕ → ValuePhrase → List Labelled → Part → Ruled Meant
 selected_by at v ls p = selected_as at v ls p (agreed (Some (delivery_in p)) ls)

@@ -9,7 +9,7 @@ ghost use Rattle.elan_scope.specs.Answer.{Is};
 use crate::parts::{delivery_in, joined, part_actions, part_value};
 use elan_meant::meant::{Guarded, Meant, Part};
 use elan_meant::operands::delivers;
-use elan_meant::part::{one, part_of, value_of, valued};
+use elan_meant::part::{one, part_of, value_of};
 use elan_meant::row::{Judged, appended, both};
 use elan_scope::delivery::Delivery;
 use elan_scope::trouble::Trouble;
@@ -153,7 +153,7 @@ fn delivered(at: u32, part: Option<Part>) -> Judged
     match part {
         None => Err(Trouble::Breaks(at, Why::WrongType)),
         Some(Part::Done(actions)) => Ok(Meant::Done(actions)),
-        Some(Part::Value(of, value)) => Ok(valued(at, of, value)),
+        Some(Part::Value(of, value)) => Ok(Meant::Value { at, of, value }),
         Some(Part::Left(actions)) => Ok(Meant::Left(actions)),
     }
 }

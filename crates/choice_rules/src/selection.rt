@@ -8,7 +8,7 @@ ghost use Rattle.elan_scope.specs.Answer.{Is, Gives};
 use crate::parts::{delivery_in, joined, part_actions, part_value};
 use elan_meant::meant::{Labelled, Meant, Part};
 use elan_meant::operands::delivers;
-use elan_meant::part::{one, part_of, value_of, valued};
+use elan_meant::part::{one, part_of, value_of};
 use elan_meant::predefined::exists;
 use elan_meant::row::{Judged, appended, both, pushed};
 use elan_scope::delivery::Delivery;
@@ -210,7 +210,7 @@ fn selected_by(
         }
         Some(Delivery::Of(of)) => {
             let value = select_value(alloc, of, value, arms, otherwise)?;
-            Ok(valued(at, of, value))
+            Ok(Meant::Value { at, of, value })
         }
     }
 }

@@ -9,7 +9,7 @@ use Rattle.elan_scope.specs.declared.delivery.Delivery.TheVariants.{Open, Nothin
 use Rattle.elan_scope.specs.declared.scope.Denotes.{Denotes}
 use Rattle.elan_scope.specs.declared.scope.Denotes.TheVariants as denotes
 use Rattle.elan_meant.specs.declared.meant.Meant.{Meant}
-use Rattle.elan_meant.specs.declared.meant.Meant.TheVariants.{Absent, Value, Done, Left, Labels, Branches, Arms, Counter, Bodies, Level}
+use Rattle.elan_meant.specs.declared.meant.Meant.TheVariants.{Absent, Variable, Value, Done, Left, Labels, Branches, Arms, Counter, Bodies, Level}
 use Rattle.elan_scope.specs.declared.scope.Usage.{Usage}
 use Rattle.elan_scope.specs.declared.scope.Usage.TheVariants as usage
 use Rattle.elan_scope.specs.Scope.{find, left, refinement_named}
@@ -36,7 +36,8 @@ use Rattle.elan_rules.proofs.First.{bind_gives, before_gives, gives_is}
 module _ (kn : Known) where
   kept : (k m : Meant) → without_value k ≡ gives m → or_last Absent m ≡ Absent
   kept Absent m e = ap (or_last Absent) (sym (gives_is Absent m e))
-  kept (Value at t v x) m e = absurd cc
+  kept (Variable at t x) m e = ap (or_last Absent) (sym (gives_is (Variable at t x) m e))
+  kept (Value at t v) m e = absurd cc
   kept (Done as') m e = ap (or_last Absent) (sym (gives_is (Done as') m e))
   kept (Left as') m e = ap (or_last Absent) (sym (gives_is (Done as') m e))
   kept (Labels ns) m e = ap (or_last Absent) (sym (gives_is (Labels ns) m e))
@@ -61,7 +62,8 @@ module _ (kn : Known) where
 
   first_delivers : (m : Meant) → delivery_of m ≡ delivery_of (or_last Absent m)
   first_delivers Absent = refl
-  first_delivers (Value at t v x) = refl
+  first_delivers (Variable at t x) = refl
+  first_delivers (Value at t v) = refl
   first_delivers (Done as') = refl
   first_delivers (Left as') = refl
   first_delivers (Labels ns) = refl
@@ -87,7 +89,8 @@ module _ (kn : Known) where
 
   ended_delivers : (as' : List Action) (n : Meant) → delivery_of (ended as' n) ≡ delivery_of n
   ended_delivers as' Absent = refl
-  ended_delivers as' (Value at t v x) = refl
+  ended_delivers as' (Variable at t x) = refl
+  ended_delivers as' (Value at t v) = refl
   ended_delivers as' (Done bs) = refl
   ended_delivers as' (Left bs) = refl
   ended_delivers as' (Labels ns) = refl

@@ -8,7 +8,7 @@ use Rattle.elan_tree.specs.declared.tree.LevelUnit.TheVariants as level
 use Rattle.elan_scope.specs.declared.heading.Sort.TheVariants.{Procedure, Operator}
 use Rattle.elan_scope.specs.declared.heading.Heading.{Heading}
 use Rattle.elan_meant.specs.declared.meant.Meant.{Meant}
-use Rattle.elan_meant.specs.declared.meant.Meant.TheVariants.{Absent, Value, Done, Left, Labels, Branches, Arms, Counter, Bodies, Level}
+use Rattle.elan_meant.specs.declared.meant.Meant.TheVariants.{Absent, Variable, Value, Done, Left, Labels, Branches, Arms, Counter, Bodies, Level}
 use Rattle.elan_scope.specs.declared.scope.Scope.{Scope}
 use Rattle.elan_levels.specs.Bodies as b
 use Rattle.elan_levels.specs.Bodies.{headings, level_names}
@@ -65,7 +65,8 @@ module _ (kn : Known) (s : Scope) (all : List Body) where
 
   no_bodies : (v m : Meant) → u.without_value v ≡ gives m → u.bodies_in m ≡ []
   no_bodies Absent m e = ap u.bodies_in (sym (gives_is Absent m e))
-  no_bodies (Value at t w x) m e = absurd cc
+  no_bodies (Variable at t x) m e = ap u.bodies_in (sym (gives_is (Variable at t x) m e))
+  no_bodies (Value at t w) m e = absurd cc
   no_bodies (Done as') m e = ap u.bodies_in (sym (gives_is (Done as') m e))
   no_bodies (Left as') m e = ap u.bodies_in (sym (gives_is (Done as') m e))
   no_bodies (Labels ns) m e = ap u.bodies_in (sym (gives_is (Labels ns) m e))

@@ -6,7 +6,7 @@ use Rattle.elan_scope.specs.declared.delivery.Delivery.{Delivery}
 use Rattle.elan_scope.specs.declared.delivery.Delivery.TheVariants.{Open, Nothing, Of}
 use Rattle.elan_scope.specs.declared.heading.Heading.{Heading}
 use Rattle.elan_meant.specs.declared.meant.Meant.{Meant}
-use Rattle.elan_meant.specs.declared.meant.Meant.TheVariants.{Absent, Value, Done, Left, Labels, Branches, Arms, Counter, Bodies, Level}
+use Rattle.elan_meant.specs.declared.meant.Meant.TheVariants.{Absent, Variable, Value, Done, Left, Labels, Branches, Arms, Counter, Bodies, Level}
 use Rattle.elan_scope.specs.Phrase.{Phrase}
 use Rattle.elan_scope.specs.Ruled.{Ruled, gives, breaks, hangs}
 use Rattle.elan_scope.specs.Known.{delivery_at}
@@ -19,7 +19,8 @@ use Rattle.elan_check.proofs.Inferred.{Below, Last, same_meaning, last_delivers}
 -- What a phrase with a meaning delivers is known.
 pub not_open : (m : Meant) → delivery_of m ≡ Open → ⊥
 not_open Absent e = absurd cc
-not_open (Value at t v x) e = absurd cc
+not_open (Variable at t x) e = absurd cc
+not_open (Value at t v) e = absurd cc
 not_open (Done as') e = absurd cc
 not_open (Left as') e = absurd cc
 not_open (Labels ns) e = absurd cc

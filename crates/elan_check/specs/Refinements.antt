@@ -54,7 +54,7 @@ last_unit (phrase form ps) = last_part ps
 
 -- what a phrase delivers, as far as it has a meaning
 abbrev pub delivery_of : Meant → Delivery
-delivery_of (Value at t v x) = Of t
+delivery_of (Value at t v) = Of t
 delivery_of m = Nothing
 
 abbrev pub outcome : Ruled Meant → Delivery

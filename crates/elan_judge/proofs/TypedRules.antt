@@ -50,7 +50,7 @@ module _ (here : Stand) (s : Scope) (k : Known) (fits : Fits here s k) where
   rules form.absent ms i g = tt
   rules form.not_built ms i g = tt
   rules (form.number at n) ms i g = number_good here at n
-  rules (form.truth at b) ms i g = (truth_is here b, tt)
+  rules (form.truth at b) ms i g = truth_is here b
   rules (form.named u at z x) ms i g = in_scope (λ y. r.named k u at y x (scope.find y x)) z i (named_good here s k fits u at x)
   rules (form.applied at z sort x) ms i g = in_scope (λ y. r.applied at y sort x ms) z i (applied_good here s k fits at sort x ms g)
   rules (form.bracket at) ms i g = ty.one here ms (all.bracketed at) g (bracketed_good here at)

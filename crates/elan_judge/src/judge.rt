@@ -71,7 +71,7 @@ fn judge(alloc: Global, known: &Known, scope: &Scope, expr: &Expr) -> Judged
         Expr::Bracket(at, inner) => {
             match judge(alloc, known, scope, inner.get()) {
                 Err(trouble) => Err(trouble),
-                Ok(inner) => bracketed(*at, inner),
+                Ok(inner) => bracketed(alloc, *at, inner),
             }
         }
         Expr::If {

@@ -7,10 +7,11 @@ use Rattle.elan_scope.specs.declared.heading.Sort.{Sort}
 use Rattle.elan_scope.specs.declared.heading.Heading.{Heading}
 use Rattle.elan_scope.specs.Scope.{is_routine, types_of}
 use Rattle.elan_meant.specs.declared.meant.Meant.{Meant}
-use Rattle.elan_meant.specs.declared.meant.Meant.TheVariants.{Value}
+use Rattle.elan_meant.specs.declared.meant.Meant.TheVariants.{Variable, Value}
 
 abbrev pub delivers : ElanType → Meant → Bool
-delivers t (Value at u v x) = same_type t u
+delivers t (Variable at u p) = same_type t u
+delivers t (Value at u v) = same_type t u
 delivers t _ = false
 
 abbrev pub fit : List ElanType → List Meant → Bool

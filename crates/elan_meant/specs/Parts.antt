@@ -11,7 +11,7 @@ use Rattle.elan_types.specs.declared.why.Why.TheVariants.{Unknown}
 use Rattle.elan_meant.specs.declared.meant.Part.{Part}
 use Rattle.elan_meant.specs.declared.meant.Part.TheVariants as part
 use Rattle.elan_meant.specs.declared.meant.Meant.{Meant}
-use Rattle.elan_meant.specs.declared.meant.Meant.TheVariants.{Absent, Value, Done, Left}
+use Rattle.elan_meant.specs.declared.meant.Meant.TheVariants.{Absent, Variable, Value, Done, Left}
 use Rattle.elan_meant.specs.Operands.{delivers}
 use Rattle.elan_scope.specs.Ruled.{Ruled, breaks}
 
@@ -21,21 +21,30 @@ unasked = breaks (0, Unknown)
 
 -- ---- what parts deliver
 
+-- The value of a variable is what stands in it.
 abbrev pub value_of : Meant → ValuePhrase
-value_of (Value at t v x) = v
+value_of (Variable at t p) = value.Load p t
+value_of (Value at t v) = v
 value_of _ = value.Truth false
 
 abbrev pub variable_of : Meant → Option PlacePhrase
-variable_of (Value at t v x) = x
+variable_of (Variable at t p) = Some p
 variable_of _ = None
 
 abbrev pub type_in : Meant → Option ElanType
-type_in (Value at t v x) = Some t
+type_in (Variable at t p) = Some t
+type_in (Value at t v) = Some t
 type_in _ = None
 
 abbrev pub place_of : Meant → ℕ
-place_of (Value at t v x) = at
+place_of (Variable at t p) = at
+place_of (Value at t v) = at
 place_of _ = 0
+
+-- what a phrase means where a value is asked for
+abbrev pub loaded : Meant → Meant
+loaded (Variable at t p) = Value at t (value.Load p t)
+loaded m = m
 
 abbrev pub actions : Meant → List Action
 actions (Done as') = as'
@@ -48,12 +57,9 @@ may_deliver t Absent = true
 may_deliver t m = delivers t m
 
 abbrev pub written : Meant → Option ValuePhrase
-written (Value at t v x) = Some v
+written (Variable at t p) = Some (value.Load p t)
+written (Value at t v) = Some v
 written _ = None
-
--- a value that is no variable
-abbrev pub valued : ℕ → ElanType → ValuePhrase → Meant
-valued at t v = Value at t v None
 
 -- a unit that delivers nothing
 abbrev pub unit_of : List Action → Meant
@@ -75,7 +81,7 @@ blank Truths = value.Truth false
 
 -- a list of units as a part of IF or SELECT
 abbrev pub part_of : Meant → Part
-part_of (Value at t v x) = part.Value t v
+part_of (Value at t v) = part.Value t v
 part_of (Left as') = part.Left as'
 part_of m = part.Done (actions m)
 

@@ -45,9 +45,9 @@ pub struct Counted {
     pub at: u32,
     /// Its place, if it is a variable.
     pub place: Option<PlacePhrase>,
-    pub from: Boxed<ValuePhrase>,
+    pub from: ValuePhrase,
     pub way: Way,
-    pub limit: Option<Boxed<ValuePhrase>>,
+    pub limit: Option<ValuePhrase>,
     /// Counter, first value and limit are numbers.
     pub are_numbers: bool,
 }
@@ -57,12 +57,17 @@ pub struct Counted {
 pub enum Meant {
     /// A part that is not written.
     Absent,
-    /// A phrase that delivers a value: its place, its type, and the variable that it is, if it is one.
+    /// A variable: its place in the text, its type, and where it is held.
+    Variable {
+        at: u32,
+        of: ElanType,
+        place: PlacePhrase,
+    },
+    /// A value: its place in the text, and its type.
     Value {
         at: u32,
         of: ElanType,
         value: Boxed<ValuePhrase>,
-        variable: Option<PlacePhrase>,
     },
     /// A phrase that delivers nothing.
     Done(List<Action>),

@@ -13,6 +13,7 @@ pub fn delivers(of: ElanType, meant: &Meant) -> bool
     ensures { result ≡ spec.delivers of meant.now }
 {
     match meant {
+        Meant::Variable { of: delivered, .. } => of.is_same(*delivered),
         Meant::Value { of: delivered, .. } => of.is_same(*delivered),
         _ => false,
     }

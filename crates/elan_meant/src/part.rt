@@ -17,11 +17,13 @@ pub fn value_of(alloc: Global, meant: Meant) -> Result<Boxed<ValuePhrase>, NoMem
     ensures { IfOk result (λ value. value ≡ spec.value_of meant) }
 {
     match meant {
+        Meant::Variable { at: _at, of, place } => {
+            Boxed::new(alloc, ValuePhrase::Load(place, of))
+        }
         Meant::Value {
             at: _at,
             of: _of,
             value,
-            variable: _variable,
         } => Ok(value),
         other => {
             other.let_go();
@@ -35,11 +37,11 @@ pub fn value_in(meant: Meant) -> ValuePhrase
     ensures { result ≡ spec.value_of meant }
 {
     match meant {
+        Meant::Variable { at: _at, of, place } => ValuePhrase::Load(place, of),
         Meant::Value {
             at: _at,
             of: _of,
             value,
-            variable: _variable,
         } => value.into_inner(),
         other => {
             other.let_go();
@@ -53,12 +55,11 @@ pub fn variable_of(meant: Meant) -> Option<PlacePhrase>
     ensures { result ≡ spec.variable_of meant }
 {
     match meant {
-        Meant::Value {
+        Meant::Variable {
             at: _at,
             of: _of,
-            value: _value,
-            variable,
-        } => variable,
+            place,
+        } => Some(place),
         other => {
             other.let_go();
             None
@@ -71,16 +72,18 @@ pub fn type_in(meant: &Meant) -> Option<ElanType>
     ensures { result ≡ spec.type_in meant.now }
 {
     match meant {
+        Meant::Variable { of, .. } => Some(*of),
         Meant::Value { of, .. } => Some(*of),
         _ => None,
     }
 }
 
-/// The place of a part that delivers a value.
+/// The place of a part that delivers a value or is a variable.
 pub fn place_of(meant: &Meant) -> u32
     ensures { result ≡ spec.place_of meant.now }
 {
     match meant {
+        Meant::Variable { at, .. } => *at,
         Meant::Value { at, .. } => *at,
         _ => 0,
     }
@@ -105,12 +108,7 @@ pub fn part_of(alloc: Global, meant: Meant) -> Part
     ensures { result ≡ spec.part_of meant }
 {
     match meant {
-        Meant::Value {
-            at: _at,
-            of,
-            value,
-            variable: _variable,
-        } => Part::Value(of, value),
+        Meant::Value { at: _at, of, value } => Part::Value(of, value),
         Meant::Done(actions) => Part::Done(actions),
         Meant::Left(actions) => Part::Left(actions),
         other => {
@@ -131,16 +129,16 @@ pub fn may_deliver(of: ElanType, meant: &Meant) -> bool
 }
 
 /// The value of a part, if it is written.
-pub fn written(meant: Meant) -> Option<Boxed<ValuePhrase>>
+pub fn written(meant: Meant) -> Option<ValuePhrase>
     ensures { result ≡ spec.written meant }
 {
     match meant {
+        Meant::Variable { at: _at, of, place } => Some(ValuePhrase::Load(place, of)),
         Meant::Value {
             at: _at,
             of: _of,
             value,
-            variable: _variable,
-        } => Some(value),
+        } => Some(value.into_inner()),
         other => {
             other.let_go();
             None
@@ -148,24 +146,27 @@ pub fn written(meant: Meant) -> Option<Boxed<ValuePhrase>>
     }
 }
 
-/// A phrase that delivers this value, and is no variable.
-pub fn valued(at: u32, of: ElanType, value: Boxed<ValuePhrase>) -> Meant
-    ensures { result ≡ spec.valued at of value }
+/// What a phrase means where a value is asked for.
+pub fn loaded(alloc: Global, meant: Meant) -> Judged
+    ensures { Is result (gives (spec.loaded meant)) }
 {
-    Meant::Value {
-        at,
-        of,
-        value,
-        variable: None,
+    match meant {
+        Meant::Variable { at, of, place } => delivering(
+            alloc,
+            at,
+            of,
+            ValuePhrase::Load(place, of),
+        ),
+        other => Ok(other),
     }
 }
 
-/// The same of a value that has no box yet.
+/// A phrase that delivers this value.
 pub fn delivering(alloc: Global, at: u32, of: ElanType, value: ValuePhrase) -> Judged
-    ensures { Is result (gives (spec.valued at of value)) }
+    ensures { Is result (gives (Meant.Value at of value)) }
 {
     let value = Boxed::new(alloc, value)?;
-    Ok(valued(at, of, value))
+    Ok(Meant::Value { at, of, value })
 }
 
 /// One action.

@@ -31,7 +31,7 @@ use Rattle.elan_meant.specs.declared.meant.Part.TheVariants as part
 use Rattle.elan_meant.specs.declared.meant.Counted.{Counted}
 use Rattle.elan_meant.specs.declared.meant.Labelled.{Labelled}
 use Rattle.elan_meant.specs.declared.meant.Meant.{Meant}
-use Rattle.elan_meant.specs.declared.meant.Meant.TheVariants.{Absent, Value, Done, Left, Labels, Branches, Arms, Counter, Bodies, Level}
+use Rattle.elan_meant.specs.declared.meant.Meant.TheVariants.{Absent, Variable, Value, Done, Left, Labels, Branches, Arms, Counter, Bodies, Level}
 use Rattle.elan_scope.specs.Scope.{find, find_own, left, first_heading, types_of, is_alike, refinement_named}
 use Rattle.elan_scope.specs.declared.scope.Scope.{Scope}
 use Rattle.elan_scope.specs.declared.scope.Home.{Home}
@@ -141,17 +141,21 @@ leaving : (kn : Known) (at : ℕ) (o : Option (Exit × ℕ)) (m : Meant) → IsF
 leaving kn at None m = refl
 leaving kn at (Some e) m = leave_as at e.0 (delivery_at kn e.1) m
 
+bracketed_value : (at : ℕ) (m : Meant) → IsFirm (r.bracketed_value at m)
+bracketed_value at Absent = refl
+bracketed_value at (Variable p t x) = refl
+bracketed_value at (Value p t v) = refl
+bracketed_value at (Done as') = refl
+bracketed_value at (Left as') = refl
+bracketed_value at (Labels ns) = refl
+bracketed_value at (Branches gs) = refl
+bracketed_value at (Arms ls) = refl
+bracketed_value at (Counter k) = refl
+bracketed_value at (Bodies bs) = refl
+bracketed_value at (Level us bs) = refl
+
 bracketed : (at : ℕ) (m : Meant) → IsFirm (r.bracketed at m)
-bracketed at Absent = refl
-bracketed at (Value p t v x) = refl
-bracketed at (Done as') = refl
-bracketed at (Left as') = refl
-bracketed at (Labels ns) = refl
-bracketed at (Branches gs) = refl
-bracketed at (Arms ls) = refl
-bracketed at (Counter k) = refl
-bracketed at (Bodies bs) = refl
-bracketed at (Level us bs) = refl
+bracketed at m = bracketed_value at (p.loaded m)
 
 agreed_as : (at : ℕ) (o : Option ElanType) (m : Meant) → IsFirm (u.agreed_as at o m)
 agreed_as at None m = refl
@@ -165,21 +169,26 @@ initial_to : (x : Option PlacePhrase) (t : ElanType) (v : ValuePhrase) → IsFir
 initial_to None t v = refl
 initial_to (Some x) t v = refl
 
+alone_value : (m : Meant) → IsFirm (u.alone_value m)
+alone_value Absent = refl
+alone_value (Variable p t x) = refl
+alone_value (Value p t v) = refl
+alone_value (Done as') = refl
+alone_value (Left as') = refl
+alone_value (Labels ns) = refl
+alone_value (Branches gs) = refl
+alone_value (Arms ls) = refl
+alone_value (Counter k) = refl
+alone_value (Bodies bs) = refl
+alone_value (Level us bs) = refl
+
 alone : (m : Meant) → IsFirm (u.alone m)
-alone Absent = refl
-alone (Value p t v x) = refl
-alone (Done as') = refl
-alone (Left as') = refl
-alone (Labels ns) = refl
-alone (Branches gs) = refl
-alone (Arms ls) = refl
-alone (Counter k) = refl
-alone (Bodies bs) = refl
-alone (Level us bs) = refl
+alone m = alone_value (p.loaded m)
 
 without_value : (m : Meant) → IsFirm (u.without_value m)
 without_value Absent = refl
-without_value (Value p t v x) = refl
+without_value (Variable p t x) = refl
+without_value (Value p t v) = refl
 without_value (Done as') = refl
 without_value (Left as') = refl
 without_value (Labels ns) = refl

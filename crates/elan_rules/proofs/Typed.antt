@@ -4,6 +4,7 @@ use Rattle.elan_types.specs.declared.elan_type.ElanType.{ElanType}
 use Rattle.elan_types.specs.declared.elan_type.ElanType.TheVariants.{Int, Bool as Truths}
 use Rattle.elan_types.specs.declared.core_phrase.PlacePhrase.{PlacePhrase}
 use Rattle.elan_types.specs.declared.core_phrase.ValuePhrase.{ValuePhrase}
+use Rattle.elan_types.specs.declared.core_phrase.ValuePhrase.TheVariants as value
 use Rattle.elan_types.specs.declared.core_phrase.Action.{Action}
 use Rattle.elan_types.specs.declared.core_phrase.Action.TheVariants as action
 use Rattle.elan_meant.specs.declared.meant.Part.{Part}
@@ -12,13 +13,13 @@ use Rattle.elan_meant.specs.declared.meant.Guarded.{Guarded}
 use Rattle.elan_meant.specs.declared.meant.Labelled.{Labelled}
 use Rattle.elan_meant.specs.declared.meant.Counted.{Counted}
 use Rattle.elan_meant.specs.declared.meant.Meant.{Meant}
-use Rattle.elan_meant.specs.declared.meant.Meant.TheVariants.{Absent, Value, Done, Left, Labels, Branches, Arms, Counter, Bodies, Level}
+use Rattle.elan_meant.specs.declared.meant.Meant.TheVariants.{Absent, Variable, Value, Done, Left, Labels, Branches, Arms, Counter, Bodies, Level}
 use Rattle.elan_scope.specs.Ruled.{Ruled, gives, breaks, hangs, ◌>>=◌}
 use Rattle.elan_types.specs.Typing.{Typed, same_type, has, agree, only_if, have, all_true}
 use Rattle.elan_meant.specs.Predefined.{delivers, fit}
 use Rattle.elan_meant.specs.Parts as r
 use Rattle.choice_rules.specs.Choices.{part_of}
-use Rattle.elan_rules.proofs.TypeEquations.{Stand, type, typed, lies, unit_is, has_written}
+use Rattle.elan_rules.proofs.TypeEquations.{Stand, type, typed, lies, load_is, unit_is, has_written}
 
 -- ---- types
 
@@ -104,7 +105,8 @@ module _ (here : Stand) where
 
   abbrev pub Good : Meant → Type 0
   Good Absent = Unit {0}
-  Good (Value at t v x) = Has t v × MayLie t x
+  Good (Variable at t x) = lies here x ≡ Some t
+  Good (Value at t v) = Has t v
   Good (Done as') = AllTyped as'
   Good (Left as') = AllTyped as'
   Good (Labels ns) = Unit {0}
@@ -146,9 +148,27 @@ module _ (here : Stand) where
 
   -- ---- what parts deliver
 
+  -- what stands in a variable
+  pub load_typed : (t : ElanType) (x : PlacePhrase) → lies here x ≡ Some t → Has t (value.Load x t)
+  load_typed t x h = load_is here x t ∙ only_if_holds _ _ t (has_self t _ h) refl
+
+  pub loaded_good : (m : Meant) → Good m → Good (r.loaded m)
+  loaded_good Absent g = g
+  loaded_good (Variable at t x) g = load_typed t x g
+  loaded_good (Value at t v) g = g
+  loaded_good (Done as') g = g
+  loaded_good (Left as') g = g
+  loaded_good (Labels ns) g = g
+  loaded_good (Branches gs) g = g
+  loaded_good (Arms ls) g = g
+  loaded_good (Counter k) g = g
+  loaded_good (Bodies bs) g = g
+  loaded_good (Level us bs) g = g
+
   pub value_typed : (t : ElanType) (m : Meant) → Good m → delivers t m ≡ true → Has t (r.value_of m)
   value_typed t Absent g e = absurd cc
-  value_typed t (Value at u v x) g e = subst (λ (w : ElanType). Has w v) (sym (same_is t u e)) g.0
+  value_typed t (Variable at u x) g e = subst (λ (w : ElanType). Has w (value.Load x u)) (sym (same_is t u e)) (load_typed u x g)
+  value_typed t (Value at u v) g e = subst (λ (w : ElanType). Has w v) (sym (same_is t u e)) g
   value_typed t (Done as') g e = absurd cc
   value_typed t (Left as') g e = absurd cc
   value_typed t (Labels ns) g e = absurd cc
@@ -160,7 +180,8 @@ module _ (here : Stand) where
 
   pub lies_typed : (t : ElanType) (m : Meant) → Good m → delivers t m ≡ true → MayLie t (r.variable_of m)
   lies_typed t Absent g e = absurd cc
-  lies_typed t (Value at u v x) g e = subst (λ (w : ElanType). MayLie w x) (sym (same_is t u e)) g.1
+  lies_typed t (Variable at u x) g e = subst (λ (w : ElanType). MayLie w (Some x)) (sym (same_is t u e)) g
+  lies_typed t (Value at u v) g e = tt
   lies_typed t (Done as') g e = absurd cc
   lies_typed t (Left as') g e = absurd cc
   lies_typed t (Labels ns) g e = absurd cc
@@ -172,7 +193,8 @@ module _ (here : Stand) where
 
   pub may_typed : (t : ElanType) (m : Meant) → Good m → r.may_deliver t m ≡ true → MayHave t (r.written m)
   may_typed t Absent g e = tt
-  may_typed t (Value at u v x) g e = subst (λ (w : ElanType). Has w v) (sym (same_is t u e)) g.0
+  may_typed t (Variable at u x) g e = value_typed t (Variable at u x) g e
+  may_typed t (Value at u v) g e = value_typed t (Value at u v) g e
   may_typed t (Done as') g e = absurd cc
   may_typed t (Left as') g e = absurd cc
   may_typed t (Labels ns) g e = absurd cc
@@ -184,7 +206,8 @@ module _ (here : Stand) where
 
   pub actions_typed : (m : Meant) → Good m → AllTyped (r.actions m)
   actions_typed Absent g = refl
-  actions_typed (Value at t v x) g = refl
+  actions_typed (Variable at t x) g = refl
+  actions_typed (Value at t v) g = refl
   actions_typed (Done as') g = g
   actions_typed (Left as') g = g
   actions_typed (Labels ns) g = refl
@@ -196,7 +219,8 @@ module _ (here : Stand) where
 
   pub part_good : (m : Meant) → Good m → PartGood (part_of m)
   part_good Absent g = refl
-  part_good (Value at t v x) g = g.0
+  part_good (Variable at t x) g = refl
+  part_good (Value at t v) g = g
   part_good (Done as') g = g
   part_good (Left as') g = g
   part_good (Labels ns) g = refl

@@ -4,12 +4,13 @@ use Rattle.elan_types.specs.declared.elan_type.ElanType.{ElanType}
 use Rattle.elan_types.specs.declared.elan_type.ElanType.TheVariants.{Int}
 use Rattle.elan_types.specs.declared.core_phrase.PlacePhrase.{PlacePhrase}
 use Rattle.elan_types.specs.declared.core_phrase.ValuePhrase.{ValuePhrase}
+use Rattle.elan_types.specs.declared.core_phrase.ValuePhrase.TheVariants as value
 use Rattle.elan_types.specs.declared.core_phrase.Action.{Action}
 use Rattle.elan_types.specs.declared.core_phrase.Action.TheVariants as action
 use Rattle.elan_meant.specs.declared.meant.Meant.{Meant}
 use Rattle.elan_scope.specs.declared.scope.Usage.{Usage}
 use Rattle.elan_scope.specs.declared.scope.Usage.TheVariants as usage
-use Rattle.elan_meant.specs.declared.meant.Meant.TheVariants.{Absent, Value, Done, Left, Labels, Branches, Arms, Counter, Bodies, Level}
+use Rattle.elan_meant.specs.declared.meant.Meant.TheVariants.{Absent, Variable, Value, Done, Left, Labels, Branches, Arms, Counter, Bodies, Level}
 use Rattle.elan_scope.specs.Ruled.{Ruled, gives, breaks, hangs, before}
 use Rattle.std.specs.Prelude.{slice_get, nat_eq}
 use Rattle.std.specs.Str.{bytes_eq}
@@ -219,7 +220,7 @@ module _ (here : Stand) where
   puts_good (m ∷ n ∷ ms) g e = tt
 
   done_good : (at : ℕ) (d : Does) (ms : List Meant) → AllGood ms → Suits d ms → Gives Good (r.done at d ms)
-  done_good at (Delivers op t) ms g e = (apply_is here op (p.values_of ms) ∙ only_if_holds _ _ t (ty.values_typed here _ ms g e.0) (ap (λ (u : ElanType). Some u) (sym e.1)), tt)
+  done_good at (Delivers op t) ms g e = apply_is here op (p.values_of ms) ∙ only_if_holds _ _ t (ty.values_typed here _ ms g e.0) (ap (λ (u : ElanType). Some u) (sym e.1))
   done_good at (Changes c) ms g e = changes_good c ms g e
   done_good at Puts ms g e = puts_good ms g e
   done_good at EndsLine ms g e = ty.single_typed here action.Line (line_is here)
@@ -276,7 +277,7 @@ module _ (here : Stand) where
 
   call_good : (at n : ℕ) (b : Body) (ps : List Parameter) (vs : List ElanType) (o : Option ElanType) (as' : List Actual) → slice_get here.bodies n ≡ Some b → b.scope ≡ owner.Own ps vs → result_of_content b.content ≡ o → AllGiven ps as' → Good (r.call at n o as')
   call_good at n b ps vs None as' e z d h = ty.single_typed here (action.Call n as') (action_call_is here n as' ∙ and_true _ _ (taken_holds n b ps vs _ e z h) (none_holds n b e d))
-  call_good at n b ps vs (Some t) as' e z d h = (call_is here n as' t ∙ only_if_holds _ _ t (and_true _ _ (taken_holds n b ps vs _ e z h) (has_holds n b t e d)) refl, tt)
+  call_good at n b ps vs (Some t) as' e z d h = call_is here n as' t ∙ only_if_holds _ _ t (and_true _ _ (taken_holds n b ps vs _ e z h) (has_holds n b t e d)) refl
 
   called_good : (at n : ℕ) (b : Body) (w : What) (sort : Sort) (ms : List Meant) → slice_get here.bodies n ≡ Some b → Headed w b → AllGood ms → scope.is_routine sort (λ ps. fit (types_of ps) ms) w ≡ true → Gives Good (r.called at n w ms)
   called_good at n b (Routine other ps o) sort ms e h g t =
@@ -298,15 +299,12 @@ module _ (here : Stand) where
   place_lies of_routine n t Const h = ap (type_as Const) h
   place_lies of_routine n t Var h = ap (type_as Var) h
 
-  variable_good : (at : ℕ) (t : ElanType) (x : PlacePhrase) → lies here x ≡ Some t → Good (r.variable at t x)
-  variable_good at t x h = (load_is here x t ∙ only_if_holds _ _ t (has_self t _ h) refl, h)
-
   constant_good : (at : ℕ) (t : ElanType) (x : PlacePhrase) → lies here x ≡ Some t → Good (r.constant at t x)
-  constant_good at t x h = (load_is here x t ∙ only_if_holds _ _ t (has_self t _ h) refl, tt)
+  constant_good at t x h = ty.load_typed here t x h
 
   parameter_good : (at : ℕ) (t : ElanType) (a : Access) (x : PlacePhrase) → lies here x ≡ Some t → Good (r.parameter at t a x)
   parameter_good at t Const x h = constant_good at t x h
-  parameter_good at t Var x h = variable_good at t x h
+  parameter_good at t Var x h = h
 
   module _ (s : Scope) (k : Known) (fits : Fits here s k) where
     abbrev Lies : Home → ℕ → List Parameter → Type 0
@@ -407,7 +405,7 @@ module _ (here : Stand) where
     referred_good : (at n : ℕ) (b : Body) (d : Delivery) → slice_get here.bodies n ≡ Some b → refines (number_of s.routine) (Some b.scope) ≡ true → Delivering d b → Gives Good (r.referred at n d)
     referred_good at n b Open e o h = tt
     referred_good at n b Nothing e o h = ty.single_typed here (action.Refer n) (action_refer_is here n ∙ and_true _ _ (refines_holds n b e o) (none_holds n b e h))
-    referred_good at n b (Of t) e o h = (refer_is here n t ∙ only_if_holds _ _ t (and_true _ _ (refines_holds n b e o) (has_holds n b t e h)) refl, tt)
+    referred_good at n b (Of t) e o h = refer_is here n t ∙ only_if_holds _ _ t (and_true _ _ (refines_holds n b e o) (has_holds n b t e h)) refl
 
     -- a name that denotes a refinement has one of the scope
     abbrev IsRefined : Option ℕ → Type 0
@@ -439,7 +437,7 @@ module _ (here : Stand) where
     -- ---- identifiers
 
     denoted_good : (u : Usage) (at : ℕ) (x : List ℕ) (home : Home) (n : ℕ) (d : Denotes) → Lies home n (held d) → Gives Good (r.denoted k u at s x home n d)
-    denoted_good u at x home n (denotes.Variable t) h = variable_good at t (r.place_in home n Const) (place_lies home n t Const h)
+    denoted_good u at x home n (denotes.Variable t) h = place_lies home n t Const h
     denoted_good u at x home n (denotes.Constant t) h = constant_good at t (r.place_in home n Const) (place_lies home n t Const h)
     denoted_good u at x home n (denotes.Parameter q) h = parameter_good at q.of q.access (r.place_in home n q.access) (place_lies home n q.of q.access h)
     denoted_good u at x home n denotes.Procedure h = applied_good at Procedure x [] tt
@@ -453,8 +451,8 @@ module _ (here : Stand) where
     named_good u at x = named_as_good u at x (scope.find s x) (find_lies x)
 
     declared_as_good : (at : ℕ) (home : Home) (n : ℕ) (d : Denotes) → Lies home n (held d) → Good (r.declared_as at home n d)
-    declared_as_good at home n (denotes.Variable t) h = variable_good at t (r.place_in home n Const) (place_lies home n t Const h)
-    declared_as_good at home n (denotes.Constant t) h = variable_good at t (r.place_in home n Const) (place_lies home n t Const h)
+    declared_as_good at home n (denotes.Variable t) h = place_lies home n t Const h
+    declared_as_good at home n (denotes.Constant t) h = place_lies home n t Const h
     declared_as_good at home n (denotes.Parameter q) h = refl
     declared_as_good at home n denotes.Procedure h = refl
     declared_as_good at home n denotes.Refinement h = refl
@@ -525,7 +523,8 @@ module _ (here : Stand) where
 
     delivered_leave : (e : Exit) (t : ElanType) (m : Meant) → left_from here.bodies e here.home ≡ Some (Some t) → Good m → delivers t m ≡ true → typed here (r.leave_of e m) ≡ true
     delivered_leave e t Absent h g d = absurd cc
-    delivered_leave e t (Value at u v x) h g d = leave_with_typed e u v (h ∙ ap (λ (z : ElanType). Some (Some z)) (same_is t u d)) g.0
+    delivered_leave e t (Variable at u x) h g d = leave_with_typed e u (value.Load x u) (h ∙ ap (λ (z : ElanType). Some (Some z)) (same_is t u d)) (ty.load_typed here u x g)
+    delivered_leave e t (Value at u v) h g d = leave_with_typed e u v (h ∙ ap (λ (z : ElanType). Some (Some z)) (same_is t u d)) g
     delivered_leave e t (Done as') h g d = absurd cc
     delivered_leave e t (Left as') h g d = absurd cc
     delivered_leave e t (Labels ns) h g d = absurd cc
@@ -538,7 +537,8 @@ module _ (here : Stand) where
     leave_of_typed : (e : Exit) (n : ℕ) (b : Body) (d : Delivery) (m : Meant) → left_from here.bodies e here.home ≡ result_of (slice_get here.bodies n) → slice_get here.bodies n ≡ Some b → Delivering d b → Good m → r.agrees d m ≡ true → typed here (r.leave_of e m) ≡ true
     leave_of_typed e n b Open m h i j g a = absurd j
     leave_of_typed e n b Nothing Absent h i j g a = leave_typed e (left_result e n b None h i j)
-    leave_of_typed e n b Nothing (Value at u v x) h i j g a = absurd cc
+    leave_of_typed e n b Nothing (Variable at u x) h i j g a = absurd cc
+    leave_of_typed e n b Nothing (Value at u v) h i j g a = absurd cc
     leave_of_typed e n b Nothing (Done as') h i j g a = absurd cc
     leave_of_typed e n b Nothing (Left as') h i j g a = absurd cc
     leave_of_typed e n b Nothing (Labels ns) h i j g a = absurd cc

@@ -12,7 +12,7 @@ use Rattle.elan_meant.specs.declared.meant.Part.TheVariants as piece
 use Rattle.elan_meant.specs.declared.meant.Guarded.{Guarded}
 use Rattle.elan_meant.specs.declared.meant.Labelled.{Labelled}
 use Rattle.elan_meant.specs.declared.meant.Meant.{Meant}
-use Rattle.elan_meant.specs.declared.meant.Meant.TheVariants.{Absent, Value, Done, Left, Labels, Branches, Arms, Counter, Bodies, Level}
+use Rattle.elan_meant.specs.declared.meant.Meant.TheVariants.{Absent, Variable, Value, Done, Left, Labels, Branches, Arms, Counter, Bodies, Level}
 use Rattle.elan_types.specs.Typing.{Typed, same_type, all_agree, all_true}
 use Rattle.elan_scope.specs.declared.delivery.Delivery.{Delivery}
 use Rattle.elan_scope.specs.declared.delivery.Delivery.TheVariants.{Open, Nothing, Of}
@@ -73,7 +73,8 @@ module _ (here : Stand) where
   pub branches_good : (ms : List Meant) → AllGood ms → GuardsGood (r.branches_of ms)
   branches_good [] g = tt
   branches_good (Absent ∷ ms) g = branches_good ms g.1
-  branches_good (Value at t v x ∷ ms) g = branches_good ms g.1
+  branches_good (Variable at t x ∷ ms) g = branches_good ms g.1
+  branches_good (Value at t v ∷ ms) g = branches_good ms g.1
   branches_good (Done as' ∷ ms) g = branches_good ms g.1
   branches_good (Left as' ∷ ms) g = branches_good ms g.1
   branches_good (Bodies bs ∷ ms) g = branches_good ms g.1
@@ -85,7 +86,8 @@ module _ (here : Stand) where
 
   pub branches_in_good : (m : Meant) → Good m → GuardsGood (r.branches_in m)
   branches_in_good Absent g = tt
-  branches_in_good (Value at t v x) g = tt
+  branches_in_good (Variable at t x) g = tt
+  branches_in_good (Value at t v) g = tt
   branches_in_good (Done as') g = tt
   branches_in_good (Left as') g = tt
   branches_in_good (Labels ns) g = tt
@@ -137,7 +139,7 @@ module _ (here : Stand) where
   pub delivered_good : (at : ℕ) (o : Option Part) → MayBe o → Gives Good (r.delivered at o)
   delivered_good at None g = tt
   delivered_good at (Some (piece.Done as')) g = g
-  delivered_good at (Some (piece.Value t v)) g = (g, tt)
+  delivered_good at (Some (piece.Value t v)) g = g
   delivered_good at (Some (piece.Left as')) g = g
 
   pub choice_good : (at : ℕ) (m n : Meant) → Good m → Good n → Gives Good (r.choice at m n)
@@ -152,7 +154,8 @@ module _ (here : Stand) where
   pub arms_good : (ms : List Meant) → AllGood ms → ArmsGood (r.arms_of ms)
   arms_good [] g = tt
   arms_good (Absent ∷ ms) g = arms_good ms g.1
-  arms_good (Value at t v x ∷ ms) g = arms_good ms g.1
+  arms_good (Variable at t x ∷ ms) g = arms_good ms g.1
+  arms_good (Value at t v ∷ ms) g = arms_good ms g.1
   arms_good (Done as' ∷ ms) g = arms_good ms g.1
   arms_good (Left as' ∷ ms) g = arms_good ms g.1
   arms_good (Bodies bs ∷ ms) g = arms_good ms g.1
@@ -164,7 +167,8 @@ module _ (here : Stand) where
 
   pub arms_in_good : (m : Meant) → Good m → ArmsGood (r.arms_in m)
   arms_in_good Absent g = tt
-  arms_in_good (Value at t v x) g = tt
+  arms_in_good (Variable at t x) g = tt
+  arms_in_good (Value at t v) g = tt
   arms_in_good (Done as') g = tt
   arms_in_good (Left as') g = tt
   arms_in_good (Labels ns) g = tt
@@ -245,7 +249,7 @@ module _ (here : Stand) where
   selected_as_good at v ls a (Some (Of t)) h g k can =
       let c = can t refl in
       let other = part_value_typed t a k c.0 in
-      (value_select_is here v (r.value_arms t ls) (r.part_value t a) ∙ only_if_holds _ _ t (and_true _ _ (has_self Int _ h) (value_arms_agree t _ other ls g c.1)) other, tt)
+      (value_select_is here v (r.value_arms t ls) (r.part_value t a) ∙ only_if_holds _ _ t (and_true _ _ (has_self Int _ h) (value_arms_agree t _ other ls g c.1)) other)
 
   pub selected_by_good : (at : ℕ) (v : ValuePhrase) (ls : List Labelled) (a : Part) → Has Int v → ArmsGood ls → PartGood a → Gives Good (r.selected_by at v ls a)
   selected_by_good at v ls a h g k = selected_as_good at v ls a (r.agreed (Some (r.delivery_in a)) ls) h g k (λ t e. agreed_allows t ls (Some (r.delivery_in a)) e)

@@ -8,7 +8,7 @@ use Rattle.elan_types.specs.declared.core_phrase.Action.{Action}
 use Rattle.elan_types.specs.declared.core_phrase.Action.TheVariants as action
 use Rattle.elan_meant.specs.declared.meant.Counted.{Counted}
 use Rattle.elan_meant.specs.declared.meant.Meant.{Meant}
-use Rattle.elan_meant.specs.declared.meant.Meant.TheVariants.{Absent, Value, Done, Left, Labels, Branches, Arms, Counter, Bodies, Level}
+use Rattle.elan_meant.specs.declared.meant.Meant.TheVariants.{Absent, Variable, Value, Done, Left, Labels, Branches, Arms, Counter, Bodies, Level}
 use Rattle.std.specs.Prelude.{pos}
 use Rattle.eu_base.specs.declared.operation.Way.{Way}
 use Rattle.elan_rules.proofs.Typed as ty
@@ -65,7 +65,8 @@ module _ (here : Stand) where
 
   pub counter_in_good : (m : Meant) → Good m → MayCount (r.counter_in m)
   counter_in_good Absent g = tt
-  counter_in_good (Value at t v x) g = tt
+  counter_in_good (Variable at t x) g = tt
+  counter_in_good (Value at t v) g = tt
   counter_in_good (Done as') g = tt
   counter_in_good (Left as') g = tt
   counter_in_good (Labels ns) g = tt

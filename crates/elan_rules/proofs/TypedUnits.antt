@@ -8,7 +8,7 @@ use Rattle.elan_types.specs.declared.core_phrase.ValuePhrase.TheVariants as valu
 use Rattle.elan_types.specs.declared.core_phrase.Action.{Action}
 use Rattle.elan_types.specs.declared.core_phrase.Action.TheVariants as action
 use Rattle.elan_meant.specs.declared.meant.Meant.{Meant}
-use Rattle.elan_meant.specs.declared.meant.Meant.TheVariants.{Absent, Value, Done, Left, Labels, Branches, Arms, Counter, Bodies, Level}
+use Rattle.elan_meant.specs.declared.meant.Meant.TheVariants.{Absent, Variable, Value, Done, Left, Labels, Branches, Arms, Counter, Bodies, Level}
 use Rattle.elan_types.specs.Typing.{same_type, has, is_content_typed}
 use Rattle.std.specs.Prelude.{pos}
 use Rattle.eu_base.specs.Operations.{in_range}
@@ -43,28 +43,32 @@ module _ (here : Stand) where
   -- ---- values
 
   pub number_good : (at : ℕ) (n : ℤ) → Gives Good (rules.number at n)
-  number_good at n = on_if Good (in_range n) _ _ (λ e. (number_is here n ∙ only_if_holds (in_range n) _ Int e refl, tt)) (λ e. tt)
+  number_good at n = on_if Good (in_range n) _ _ (λ e. number_is here n ∙ only_if_holds (in_range n) _ Int e refl) (λ e. tt)
+
+  bracketed_value_good : (at : ℕ) (m : Meant) → Good m → Gives Good (rules.bracketed_value at m)
+  bracketed_value_good at Absent g = tt
+  bracketed_value_good at (Variable p t x) g = tt
+  bracketed_value_good at (Value p t v) g = g
+  bracketed_value_good at (Done as') g = g
+  bracketed_value_good at (Left as') g = g
+  bracketed_value_good at (Labels ns) g = tt
+  bracketed_value_good at (Branches gs) g = tt
+  bracketed_value_good at (Arms ls) g = tt
+  bracketed_value_good at (Counter k) g = tt
+  bracketed_value_good at (Bodies bs) g = tt
+  bracketed_value_good at (Level us bs) g = tt
 
   pub bracketed_good : (at : ℕ) (m : Meant) → Good m → Gives Good (rules.bracketed at m)
-  bracketed_good at Absent g = tt
-  bracketed_good at (Value p t v x) g = (g.0, tt)
-  bracketed_good at (Done as') g = g
-  bracketed_good at (Left as') g = g
-  bracketed_good at (Labels ns) g = tt
-  bracketed_good at (Branches gs) g = tt
-  bracketed_good at (Arms ls) g = tt
-  bracketed_good at (Counter k) g = tt
-  bracketed_good at (Bodies bs) g = tt
-  bracketed_good at (Level us bs) g = tt
+  bracketed_good at m g = bracketed_value_good at (p.loaded m) (ty.loaded_good here m g)
 
   pub truths_typed : (l m : Meant) → Good l → Good m → rules.are_truths l m ≡ true → (has Truths (type here (p.value_of l)) && has Truths (type here (p.value_of m))) ≡ true
   truths_typed l m g h e = let b = both _ _ e in and_true _ _ (has_self Truths _ (ty.value_typed here Truths l g b.0)) (has_self Truths _ (ty.value_typed here Truths m h b.1))
 
   pub cand_good : (at : ℕ) (l m : Meant) → Good l → Good m → Gives Good (rules.cand at l m)
-  cand_good at l m g h = on_if Good (rules.are_truths l m) _ _ (λ e. (cand_is here (p.value_of l) (p.value_of m) ∙ only_if_holds _ _ Truths (truths_typed l m g h e) refl, tt)) (λ e. tt)
+  cand_good at l m g h = on_if Good (rules.are_truths l m) _ _ (λ e. cand_is here (p.value_of l) (p.value_of m) ∙ only_if_holds _ _ Truths (truths_typed l m g h e) refl) (λ e. tt)
 
   pub cor_good : (at : ℕ) (l m : Meant) → Good l → Good m → Gives Good (rules.cor at l m)
-  cor_good at l m g h = on_if Good (rules.are_truths l m) _ _ (λ e. (cor_is here (p.value_of l) (p.value_of m) ∙ only_if_holds _ _ Truths (truths_typed l m g h e) refl, tt)) (λ e. tt)
+  cor_good at l m g h = on_if Good (rules.are_truths l m) _ _ (λ e. cor_is here (p.value_of l) (p.value_of m) ∙ only_if_holds _ _ Truths (truths_typed l m g h e) refl) (λ e. tt)
 
   -- ---- stores
 
@@ -73,7 +77,8 @@ module _ (here : Stand) where
 
   pub agreed_good : (at : ℕ) (l m : Meant) → Good l → Good m → Gives (Agreed l m) (r.agreed at l m)
   agreed_good at Absent m g h = tt
-  agreed_good at (Value p t v x) m g h = on_if (Agreed (Value p t v x) m) (delivers t m) _ _ (λ e. (g.1, ty.value_typed here t m h e)) (λ e. tt)
+  agreed_good at (Variable p t x) m g h = on_if (Agreed (Variable p t x) m) (delivers t m) _ _ (λ e. (g, ty.value_typed here t m h e)) (λ e. tt)
+  agreed_good at (Value p t v) m g h = on_if (Agreed (Value p t v) m) (delivers t m) _ _ (λ e. (tt, ty.value_typed here t m h e)) (λ e. tt)
   agreed_good at (Done as') m g h = tt
   agreed_good at (Left as') m g h = tt
   agreed_good at (Labels ns) m g h = tt
@@ -104,7 +109,8 @@ module _ (here : Stand) where
 
   pub or_last_good : (n m : Meant) → Good n → Good m → Good (r.or_last n m)
   or_last_good n Absent g h = g
-  or_last_good n (Value at t v x) g h = h
+  or_last_good n (Variable at t x) g h = g
+  or_last_good n (Value at t v) g h = h
   or_last_good n (Done as') g h = g
   or_last_good n (Left as') g h = refl
   or_last_good n (Labels ns) g h = g
@@ -120,7 +126,8 @@ module _ (here : Stand) where
 
   pub ended_good : (as' : List Action) (m : Meant) → AllTyped as' → Good m → Good (r.ended as' m)
   ended_good as' Absent h g = h
-  ended_good as' (Value at t v x) h g = (after_is here as' v ∙ only_if_holds _ _ t h g.0, tt)
+  ended_good as' (Variable at t x) h g = h
+  ended_good as' (Value at t v) h g = after_is here as' v ∙ only_if_holds _ _ t h g
   ended_good as' (Done bs) h g = h
   ended_good as' (Left bs) h g = h
   ended_good as' (Labels ns) h g = h
@@ -133,21 +140,26 @@ module _ (here : Stand) where
   pub in_order_good : (ms : List Meant) → AllGood ms → Good (r.in_order ms)
   in_order_good ms g = ended_good (p.actions_of ms) (r.last_value Absent ms) (ty.actions_of_typed here ms g) (last_good Absent ms tt g)
 
+  alone_value_good : (m : Meant) → Good m → Gives Good (r.alone_value m)
+  alone_value_good Absent g = tt
+  alone_value_good (Variable at t x) g = tt
+  alone_value_good (Value at t v) g = value_unit_is here v ∙ g
+  alone_value_good (Done as') g = ty.unit_typed here as' g
+  alone_value_good (Left as') g = ty.unit_typed here as' g
+  alone_value_good (Labels ns) g = tt
+  alone_value_good (Branches gs) g = tt
+  alone_value_good (Arms ls) g = tt
+  alone_value_good (Counter k) g = tt
+  alone_value_good (Bodies bs) g = tt
+  alone_value_good (Level us bs) g = tt
+
   pub alone_good : (m : Meant) → Good m → Gives Good (r.alone m)
-  alone_good Absent g = tt
-  alone_good (Value at t v x) g = (value_unit_is here v ∙ g.0, tt)
-  alone_good (Done as') g = ty.unit_typed here as' g
-  alone_good (Left as') g = ty.unit_typed here as' g
-  alone_good (Labels ns) g = tt
-  alone_good (Branches gs) g = tt
-  alone_good (Arms ls) g = tt
-  alone_good (Counter k) g = tt
-  alone_good (Bodies bs) g = tt
-  alone_good (Level us bs) g = tt
+  alone_good m g = alone_value_good (p.loaded m) (ty.loaded_good here m g)
 
   pub without_value_good : (m : Meant) → Good m → Gives Good (r.without_value m)
   without_value_good Absent g = g
-  without_value_good (Value at t v x) g = tt
+  without_value_good (Variable at t x) g = g
+  without_value_good (Value at t v) g = tt
   without_value_good (Done as') g = g
   without_value_good (Left as') g = g
   without_value_good (Labels ns) g = g
@@ -183,7 +195,8 @@ module _ (here : Stand) where
 
   pub content_of_good : (m : Meant) → Good m → is_content_typed here.variables here.bodies here.home (r.content_of m) ≡ true
   content_of_good Absent g = refl
-  content_of_good (Value at t v x) g = has_self t _ g.0
+  content_of_good (Variable at t x) g = refl
+  content_of_good (Value at t v) g = has_self t _ g
   content_of_good (Done as') g = g
   content_of_good (Left as') g = g
   content_of_good (Labels ns) g = refl

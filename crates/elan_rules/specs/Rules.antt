@@ -2,13 +2,13 @@
 use Rattle.std.specs.Prelude.{ℕ, List, [], ◌∷◌, Option, Some, None}
 use Rattle.elan_types.specs.declared.elan_type.ElanType.TheVariants.{Bool as Truths}
 use Rattle.elan_types.specs.declared.core_phrase.ValuePhrase.TheVariants as value
-pub use Rattle.value_rules.specs.Values.{number, bracketed, are_truths, cand_of, cor_of, cand, cor}
+pub use Rattle.value_rules.specs.Values.{number, bracketed_value, bracketed, are_truths, cand_of, cor_of, cand, cor}
 use Rattle.elan_meant.specs.declared.meant.Meant.{Meant}
-use Rattle.elan_meant.specs.declared.meant.Meant.TheVariants.{Absent, Done, Labels, Branches, Arms, Counter, Bodies, Level}
+use Rattle.elan_meant.specs.declared.meant.Meant.TheVariants.{Absent, Value, Done, Labels, Branches, Arms, Counter, Bodies, Level}
 use Rattle.elan_scope.specs.Scope.{find, find_own, left, first_heading, is_alike, types_of}
 use Rattle.elan_meant.specs.Predefined.{becomes}
 use Rattle.elan_scope.specs.declared.known.Known.{Known}
-use Rattle.elan_meant.specs.Parts.{unasked, valued, unit_of, actions_of, one_of, two_of, three_of, four_of, on_one, on_two, on_three, on_four}
+use Rattle.elan_meant.specs.Parts.{unasked, unit_of, actions_of, one_of, two_of, three_of, four_of, on_one, on_two, on_three, on_four}
 use Rattle.elan_scope.specs.declared.scope.Scope.{Scope}
 use Rattle.elan_scope.specs.declared.heading.Sort.TheVariants.{Operator}
 use Rattle.elan_scope.specs.declared.heading.Heading.{Heading}
@@ -36,7 +36,7 @@ abbrev pub rule : Known → Form → List Meant → Ruled Meant
 rule k form.absent ms = gives Absent
 rule k form.not_built ms = unasked
 rule k (form.number at n) ms = number at n
-rule k (form.truth at b) ms = gives (valued at Truths (value.Truth b))
+rule k (form.truth at b) ms = gives (Value at Truths (value.Truth b))
 rule k (form.named u at s x) ms = named k u at s x (find s x)
 rule k (form.applied at s sort x) ms = applied at s sort x ms
 rule k (form.bracket at) ms = on_one (one_of ms) (bracketed at)

@@ -14,7 +14,7 @@ use Rattle.elan_types.specs.declared.why.Why.TheVariants.{WrongType, NoVariable}
 use Rattle.elan_meant.specs.declared.meant.Meant.{Meant}
 use Rattle.elan_meant.specs.declared.meant.Meant.TheVariants.{Absent, Value, Done, Left, Bodies}
 use Rattle.elan_meant.specs.Operands.{delivers}
-use Rattle.elan_meant.specs.Parts.{unasked, value_of, variable_of, type_in, place_of, actions, actions_of, valued, unit_of, unreached}
+use Rattle.elan_meant.specs.Parts.{unasked, value_of, variable_of, type_in, place_of, actions, actions_of, loaded, unit_of, unreached}
 use Rattle.elan_scope.specs.Ruled.{Ruled, gives, breaks, ◌>>=◌}
 
 -- ---- stores
@@ -47,7 +47,7 @@ initial at n m = agreed at n m >>= (λ t. initial_to (variable_of n) t (value_of
 
 -- a phrase that delivers a value or ends with a LEAVE, or the one before it
 abbrev pub or_last : Meant → Meant → Meant
-or_last n (Value at t v x) = Value at t v x
+or_last n (Value at t v) = Value at t v
 or_last n (Left as') = Left []
 or_last n m = n
 
@@ -57,7 +57,7 @@ last_value n [] = n
 last_value n (m ∷ ms) = last_value (or_last n m) ms
 
 abbrev pub ended : List Action → Meant → Meant
-ended as' (Value at t v x) = Value at t (value.After as' v) None
+ended as' (Value at t v) = Value at t (value.After as' v)
 ended as' (Left bs) = Left as'
 ended as' m = Done as'
 
@@ -66,18 +66,21 @@ abbrev pub in_order : List Meant → Meant
 in_order ms = ended (actions_of ms) (last_value Absent ms)
 
 abbrev pub value_unit : ℕ → ElanType → ValuePhrase → Meant
-value_unit at t v = valued at t (value.Unit v)
+value_unit at t v = Value at t (value.Unit v)
 
--- An expression that stands alone spends a mark.
+abbrev pub alone_value : Meant → Ruled Meant
+alone_value (Value at t v) = gives (value_unit at t v)
+alone_value (Done as') = gives (unit_of as')
+alone_value (Left as') = gives (Left (action.Unit as' ∷ []))
+alone_value m = unasked
+
+-- An expression that stands alone spends a mark. A variable is a value there.
 abbrev pub alone : Meant → Ruled Meant
-alone (Value at t v x) = gives (value_unit at t v)
-alone (Done as') = gives (unit_of as')
-alone (Left as') = gives (Left (action.Unit as' ∷ []))
-alone m = unasked
+alone m = alone_value (loaded m)
 
 -- The value is superfluous. A LEAVE that is not the last unit agrees with nothing.
 abbrev pub without_value : Meant → Ruled Meant
-without_value (Value at t v x) = breaks (at, WrongType)
+without_value (Value at t v) = breaks (at, WrongType)
 without_value (Left as') = gives (Done as')
 without_value (Bodies bs) = unasked
 without_value m = gives m
@@ -100,7 +103,7 @@ content_as (Some t) m = content.Value t (if delivers t m then value_of m else un
 
 -- the units of a refinement, which delivers what they deliver
 abbrev pub content_of : Meant → Content
-content_of (Value at t v x) = content.Value t v
+content_of (Value at t v) = content.Value t v
 content_of m = content.Units (actions m)
 
 abbrev pub body_with : Owner → Content → Meant

@@ -68,12 +68,7 @@ fn content_of(alloc: Global, units: Meant) -> Content
     ensures { result ≡ spec.content_of units }
 {
     match units {
-        Meant::Value {
-            at: _at,
-            of,
-            value,
-            variable: _variable,
-        } => Content::Value(of, value.into_inner()),
+        Meant::Value { at: _at, of, value } => Content::Value(of, value.into_inner()),
         other => Content::Units(actions(alloc, other)),
     }
 }

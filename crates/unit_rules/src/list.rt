@@ -8,7 +8,7 @@ ghost use Rattle.elan_scope.specs.Answer.{Is};
 
 use elan_meant::meant::Meant;
 use elan_meant::operands::delivers;
-use elan_meant::part::{delivering, one, unit_of, valued};
+use elan_meant::part::{delivering, loaded, one, unit_of};
 use elan_meant::row::{Judged, append};
 use elan_scope::trouble::Trouble;
 use elan_types::{Action, Body, ElanType, ValuePhrase, Why};
@@ -32,19 +32,8 @@ fn add(
             replace(last, Meant::Left(List::new(alloc))).let_go();
             append(actions, more)
         }
-        Meant::Value {
-            at,
-            of,
-            value,
-            variable,
-        } => {
-            let next = Meant::Value {
-                at,
-                of,
-                value,
-                variable,
-            };
-            replace(last, next).let_go();
+        Meant::Value { at, of, value } => {
+            replace(last, Meant::Value { at, of, value }).let_go();
             Ok(())
         }
         other => {
@@ -75,14 +64,9 @@ fn ended(alloc: Global, actions: List<Action>, last: Meant) -> Result<Meant, NoM
     ensures { IfOk result (λ m. m ≡ spec.ended actions last) }
 {
     match last {
-        Meant::Value {
-            at,
-            of,
-            value,
-            variable: _variable,
-        } => {
+        Meant::Value { at, of, value } => {
             let value = Boxed::new(alloc, ValuePhrase::After(actions, value))?;
-            Ok(valued(at, of, value))
+            Ok(Meant::Value { at, of, value })
         }
         Meant::Left(none) => {
             Action::all_let_go(none);
@@ -113,17 +97,11 @@ pub fn declaration(alloc: Global, parts: List<Meant>) -> Result<Meant, NoMemory>
     Ok(Meant::Done(units))
 }
 
-/// An expression that stands alone.
-pub fn alone(alloc: Global, meant: Meant) -> Judged
-    ensures { Is result (spec.alone meant) }
+fn alone_value(alloc: Global, meant: Meant) -> Judged
+    ensures { Is result (spec.alone_value meant) }
 {
     match meant {
-        Meant::Value {
-            at,
-            of,
-            value,
-            variable: _variable,
-        } => delivering(alloc, at, of, ValuePhrase::Unit(value)),
+        Meant::Value { at, of, value } => delivering(alloc, at, of, ValuePhrase::Unit(value)),
         Meant::Done(actions) => unit_of(alloc, actions),
         Meant::Left(actions) => {
             let units = one(alloc, Action::Unit(actions))?;
@@ -136,17 +114,20 @@ pub fn alone(alloc: Global, meant: Meant) -> Judged
     }
 }
 
+/// An expression that stands alone.
+pub fn alone(alloc: Global, meant: Meant) -> Judged
+    ensures { Is result (spec.alone meant) }
+{
+    let meant = loaded(alloc, meant)?;
+    alone_value(alloc, meant)
+}
+
 /// A unit that may deliver nothing.
 pub fn without_value(meant: Meant) -> Judged
     ensures { Is result (spec.without_value meant) }
 {
     match meant {
-        Meant::Value {
-            at,
-            of: _of,
-            value,
-            variable: _variable,
-        } => {
+        Meant::Value { at, of: _of, value } => {
             value.into_inner().let_go();
             Err(Trouble::Breaks(at, Why::WrongType))
         }

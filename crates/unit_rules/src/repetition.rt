@@ -1,6 +1,6 @@
 //! Loops.
 
-ghost use Rattle.std.specs.Prelude.{◌≡◌, IfOk};
+ghost use Rattle.std.specs.Prelude.{◌≡◌};
 ghost use Rattle.unit_rules.specs.Loops as spec;
 ghost use Rattle.elan_meant.specs.Parts as parts;
 ghost use Rattle.elan_scope.specs.Answer.{Is};
@@ -13,7 +13,7 @@ use elan_meant::part::{actions, may_deliver, place_of, unit_doing, variable_of, 
 use elan_meant::row::Judged;
 use elan_scope::trouble::Trouble;
 use elan_types::{Action, ElanType, PlacePhrase, ValuePhrase, Way, Why};
-use eu_base::{Boxed, List, NoMemory};
+use eu_base::{Boxed, List};
 use std::alloc::Global;
 
 fn are_numbers(name: &Meant, from: &Meant, limit: &Meant) -> bool
@@ -24,15 +24,12 @@ fn are_numbers(name: &Meant, from: &Meant, limit: &Meant) -> bool
         && may_deliver(ElanType::Int, limit)
 }
 
-fn first_value(
-    alloc: Global,
-    from: Option<Boxed<ValuePhrase>>,
-) -> Result<Boxed<ValuePhrase>, NoMemory>
-    ensures { IfOk result (λ value. value ≡ spec.first_value from) }
+fn first_value(from: Option<ValuePhrase>) -> ValuePhrase
+    ensures { result ≡ spec.first_value from }
 {
     match from {
-        None => Boxed::new(alloc, ValuePhrase::Number(1)),
-        Some(value) => Ok(value),
+        None => ValuePhrase::Number(1),
+        Some(value) => value,
     }
 }
 
@@ -44,7 +41,7 @@ pub fn counted(alloc: Global, way: Way, name: Meant, from: Meant, limit: Meant) 
     let at = place_of(&name);
     let place = variable_of(name);
     let limit = written(limit);
-    let from = first_value(alloc, written(from))?;
+    let from = first_value(written(from));
     let counter = Boxed::new(
         alloc,
         Counted {
@@ -62,9 +59,9 @@ pub fn counted(alloc: Global, way: Way, name: Meant, from: Meant, limit: Meant) 
 // What a loop does in its turns.
 #[derive(Drop)]
 struct Turns {
-    condition: Option<Boxed<ValuePhrase>>,
+    condition: Option<ValuePhrase>,
     units: List<Action>,
-    until: Option<Boxed<ValuePhrase>>,
+    until: Option<ValuePhrase>,
 }
 
 impl Turns {
@@ -83,21 +80,12 @@ fn in_turns(alloc: Global, condition: Meant, units: Meant, until: Meant) -> Turn
     }
 }
 
-fn unboxed(value: Option<Boxed<ValuePhrase>>) -> Option<ValuePhrase>
-    ensures { result ≡ value }
-{
-    match value {
-        None => None,
-        Some(value) => Some(value.into_inner()),
-    }
-}
-
 fn count(
     alloc: Global,
     counter: PlacePhrase,
-    from: Boxed<ValuePhrase>,
+    from: ValuePhrase,
     way: Way,
-    limit: Option<Boxed<ValuePhrase>>,
+    limit: Option<ValuePhrase>,
     turns: Turns,
 ) -> Judged
     ensures { Is result (gives (spec.count counter from way limit turns.condition turns.units turns.until)) }
@@ -111,12 +99,12 @@ fn count(
         alloc,
         Action::Count {
             counter,
-            from: from.into_inner(),
+            from,
             way,
-            limit: unboxed(limit),
-            condition: unboxed(condition),
+            limit,
+            condition,
             units,
-            until: unboxed(until),
+            until,
         },
     )
 }
@@ -132,9 +120,9 @@ fn uncounted(alloc: Global, turns: Turns) -> Judged
     unit_doing(
         alloc,
         Action::Loop {
-            condition: unboxed(condition),
+            condition,
             units,
-            until: unboxed(until),
+            until,
         },
     )
 }

@@ -9,10 +9,11 @@ use Rattle.elan_types.specs.declared.elan_type.ElanType.TheVariants.{Int}
 use Rattle.elan_types.specs.declared.core_phrase.ValuePhrase.TheVariants as value
 use Rattle.elan_scope.specs.Ruled.{gives}
 use Rattle.value_rules.specs.Values as r
-use Rattle.elan_meant.specs.Parts.{valued, unasked}
+use Rattle.elan_meant.specs.declared.meant.Meant.TheVariants.{Value}
+use Rattle.elan_meant.specs.Parts.{unasked}
 
 is_in_range : (z : ℤ) → FitsSigned w16 z → in_range z ≡ true
 is_in_range z h = grind (arith, ints)
 
-pub number_gives : (at : ℕ) (n : ℤ) → FitsSigned w16 n → r.number at n ≡ gives (valued at Int (value.Number n))
-number_gives at n h = ap (λ (b : Bool). if b then gives (valued at Int (value.Number n)) else unasked) (is_in_range n h)
+pub number_gives : (at : ℕ) (n : ℤ) → FitsSigned w16 n → r.number at n ≡ gives (Value at Int (value.Number n))
+number_gives at n h = ap (λ (b : Bool). if b then gives (Value at Int (value.Number n)) else unasked) (is_in_range n h)

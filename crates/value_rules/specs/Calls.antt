@@ -27,7 +27,7 @@ use Rattle.elan_scope.specs.declared.heading.Heading.{Heading}
 use Rattle.elan_meant.specs.declared.meant.Does.{Does}
 use Rattle.elan_meant.specs.declared.meant.Does.TheVariants.{Delivers, Changes, Puts, EndsLine}
 use Rattle.elan_meant.specs.declared.meant.Meant.{Meant}
-use Rattle.elan_meant.specs.declared.meant.Meant.TheVariants.{Absent, Value, Done, Left}
+use Rattle.elan_meant.specs.declared.meant.Meant.TheVariants.{Absent, Variable, Value, Done, Left}
 use Rattle.elan_scope.specs.Scope.{first_heading, any_heading, has_as_many, refinement_named}
 use Rattle.elan_scope.specs.declared.scope.Scope.{Scope}
 use Rattle.elan_scope.specs.declared.scope.Found.{Found}
@@ -40,7 +40,7 @@ use Rattle.elan_scope.specs.Known.{leads_back, delivery_at}
 use Rattle.elan_scope.specs.declared.known.Known.{Known}
 use Rattle.elan_scope.specs.declared.scope.Usage.{Usage}
 use Rattle.elan_scope.specs.declared.scope.Usage.TheVariants.{Expression, Counter}
-use Rattle.elan_meant.specs.Parts.{unasked, value_of, values_of, variable_of, place_of, valued, two_of, one_of, on_two, on_one}
+use Rattle.elan_meant.specs.Parts.{unasked, value_of, values_of, variable_of, type_in, place_of, two_of, one_of, on_two, on_one}
 use Rattle.elan_scope.specs.Ruled.{Ruled, gives, breaks, hangs, ◌>>=◌, before, joined}
 
 -- ---- variables, constants and parameters
@@ -51,20 +51,14 @@ place_in of_level n a = place.Variable n
 place_in of_routine n Const = place.Local n
 place_in of_routine n Var = place.Parameter n
 
--- a value that stands at a place, which may be that of a variable
-abbrev pub loaded : ℕ → ElanType → PlacePhrase → Option PlacePhrase → Meant
-loaded at t p x = Value at t (value.Load p t) x
-
-abbrev pub variable : ℕ → ElanType → PlacePhrase → Meant
-variable at t p = loaded at t p (Some p)
-
+-- A constant is a value.
 abbrev pub constant : ℕ → ElanType → PlacePhrase → Meant
-constant at t p = loaded at t p None
+constant at t p = Value at t (value.Load p t)
 
 -- A CONST parameter is a constant, a VAR parameter a variable.
 abbrev pub parameter : ℕ → ElanType → Access → PlacePhrase → Meant
 parameter at t Const p = constant at t p
-parameter at t Var p = variable at t p
+parameter at t Var p = Variable at t p
 
 -- ---- predefined operators and procedures
 
@@ -80,7 +74,7 @@ abbrev pub put : Meant → Ruled Meant
 put m = gives (Done (action.Put (value_of m) ∷ []))
 
 abbrev pub done : ℕ → Does → List Meant → Ruled Meant
-done at (Delivers op t) ms = gives (valued at t (value.Apply op (values_of ms)))
+done at (Delivers op t) ms = gives (Value at t (value.Apply op (values_of ms)))
 done at (Changes c) ms = on_two (two_of ms) (changed c)
 done at Puts ms = on_one (one_of ms) put
 done at EndsLine ms = gives (Done (action.Line ∷ []))
@@ -109,7 +103,7 @@ given_next (p ∷ ps) m r = joined r (given_as p.access p.of m)
 
 abbrev pub call : ℕ → ℕ → Option ElanType → List Actual → Meant
 call at n None as' = Done (action.Call n as' ∷ [])
-call at n (Some t) as' = valued at t (value.Call n as' t)
+call at n (Some t) as' = Value at t (value.Call n as' t)
 
 -- a call of the body with this number
 abbrev pub called : ℕ → ℕ → What → List Meant → Ruled Meant
@@ -141,7 +135,7 @@ applied at s sort x ms = applied_as at s sort x ms (first_heading (takes sort x 
 abbrev pub referred : ℕ → ℕ → Delivery → Ruled Meant
 referred at n Open = hangs
 referred at n Nothing = gives (Done (action.Refer n ∷ []))
-referred at n (Of t) = gives (valued at t (value.Refer n t))
+referred at n (Of t) = gives (Value at t (value.Refer n t))
 
 -- A refinement does not call itself through any chain.
 abbrev pub refined : Known → ℕ → Scope → Option ℕ → Ruled Meant
@@ -156,7 +150,7 @@ refined_as k Counter at s o = breaks (at, NoVariable)
 -- ---- identifiers without actuals
 
 abbrev pub denoted : Known → Usage → ℕ → Scope → List ℕ → Home → ℕ → Denotes → Ruled Meant
-denoted k u at s x home n (denotes.Variable t) = gives (variable at t (place_in home n Const))
+denoted k u at s x home n (denotes.Variable t) = gives (Variable at t (place_in home n Const))
 denoted k u at s x home n (denotes.Constant t) = gives (constant at t (place_in home n Const))
 denoted k u at s x home n (denotes.Parameter p) = gives (parameter at p.of p.access (place_in home n p.access))
 denoted k u at s x home n denotes.Procedure = applied at s Procedure x []
@@ -170,8 +164,8 @@ named k u at s x None = applied at s Procedure x []
 
 -- a name in its declaration: a variable or constant can be given its initial value there
 abbrev pub declared_as : ℕ → Home → ℕ → Denotes → Meant
-declared_as at home n (denotes.Variable t) = variable at t (place_in home n Const)
-declared_as at home n (denotes.Constant t) = variable at t (place_in home n Const)
+declared_as at home n (denotes.Variable t) = Variable at t (place_in home n Const)
+declared_as at home n (denotes.Constant t) = Variable at t (place_in home n Const)
 declared_as at home n (denotes.Parameter p) = Done []
 declared_as at home n denotes.Procedure = Done []
 declared_as at home n denotes.Refinement = Done []
@@ -191,15 +185,19 @@ headed at missing (Some b) = if nat_eq b.1.at at then (if missing then breaks (a
 -- Without a value, or with one, it agrees with what it leaves. Nothing is asked of the value where that is not known.
 abbrev pub agrees : Delivery → Meant → Bool
 agrees Open Absent = true
-agrees Open (Value at t v x) = true
+agrees Open (Variable at t p) = true
+agrees Open (Value at t v) = true
 agrees Open m = false
 agrees Nothing Absent = true
 agrees Nothing m = false
 agrees (Of t) m = delivers t m
 
+abbrev pub leave_with : Exit → Option ElanType → ValuePhrase → Action
+leave_with e None v = action.Leave e
+leave_with e (Some t) v = action.LeaveWith e t v
+
 abbrev pub leave_of : Exit → Meant → Action
-leave_of e (Value at t v x) = action.LeaveWith e t v
-leave_of e m = action.Leave e
+leave_of e m = leave_with e (type_in m) (value_of m)
 
 abbrev pub leave_as : ℕ → Exit → Delivery → Meant → Ruled Meant
 leave_as at e d m = if agrees d m then gives (Left (action.Unit (leave_of e m ∷ []) ∷ [])) else breaks (at, WrongType)

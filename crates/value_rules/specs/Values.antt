@@ -9,26 +9,30 @@ use Rattle.elan_scope.specs.Ruled.{Ruled, gives, breaks}
 use Rattle.elan_meant.specs.declared.meant.Meant.{Meant}
 use Rattle.elan_meant.specs.declared.meant.Meant.TheVariants.{Value, Done, Left}
 use Rattle.elan_meant.specs.Operands.{delivers}
-use Rattle.elan_meant.specs.Parts.{unasked, value_of, valued}
+use Rattle.elan_meant.specs.Parts.{unasked, value_of, loaded}
 
 -- No text has a number of more than 16 bits.
 abbrev pub number : ℕ → ℤ → Ruled Meant
-number at n = if in_range n then gives (valued at Int (value.Number n)) else unasked
+number at n = if in_range n then gives (Value at Int (value.Number n)) else unasked
 
+abbrev pub bracketed_value : ℕ → Meant → Ruled Meant
+bracketed_value at (Value p t v) = gives (Value at t v)
+bracketed_value at (Done as') = gives (Done as')
+bracketed_value at (Left as') = gives (Left as')
+bracketed_value at m = unasked
+
+-- A variable in brackets is a value.
 abbrev pub bracketed : ℕ → Meant → Ruled Meant
-bracketed at (Value p t v x) = gives (valued at t v)
-bracketed at (Done as') = gives (Done as')
-bracketed at (Left as') = gives (Left as')
-bracketed at m = unasked
+bracketed at m = bracketed_value at (loaded m)
 
 abbrev pub are_truths : Meant → Meant → Bool
 are_truths l r = delivers Truths l && delivers Truths r
 
 abbrev pub cand_of : ℕ → ValuePhrase → ValuePhrase → Meant
-cand_of at v w = valued at Truths (value.Cand v w)
+cand_of at v w = Value at Truths (value.Cand v w)
 
 abbrev pub cor_of : ℕ → ValuePhrase → ValuePhrase → Meant
-cor_of at v w = valued at Truths (value.Cor v w)
+cor_of at v w = Value at Truths (value.Cor v w)
 
 abbrev pub cand : ℕ → Meant → Meant → Ruled Meant
 cand at l r = if are_truths l r then gives (cand_of at (value_of l) (value_of r)) else breaks (at, WrongType)

@@ -9,7 +9,7 @@ ghost use Rattle.elan_scope.specs.Answer.{Is};
 
 use elan_meant::meant::Meant;
 use elan_meant::operands::delivers;
-use elan_meant::part::one;
+use elan_meant::part::{one, type_in, value_in};
 use elan_meant::row::Judged;
 use elan_scope::delivery::Delivery;
 use elan_scope::known::Known;
@@ -23,6 +23,7 @@ fn agrees(delivery: Delivery, value: &Meant) -> bool
 {
     match (delivery, value) {
         (Delivery::Open, Meant::Absent) => true,
+        (Delivery::Open, Meant::Variable { .. }) => true,
         (Delivery::Open, Meant::Value { .. }) => true,
         (Delivery::Nothing, Meant::Absent) => true,
         (Delivery::Of(of), value) => delivers(of, value),
@@ -33,15 +34,10 @@ fn agrees(delivery: Delivery, value: &Meant) -> bool
 fn leave_of(exit: Exit, value: Meant) -> Action
     ensures { result ≡ spec.leave_of exit value }
 {
-    match value {
-        Meant::Value {
-            at: _at,
-            of,
-            value,
-            variable: _variable,
-        } => Action::LeaveWith(exit, of, value.into_inner()),
-        other => {
-            other.let_go();
+    match type_in(&value) {
+        Some(of) => Action::LeaveWith(exit, of, value_in(value)),
+        None => {
+            value.let_go();
             Action::Leave(exit)
         }
     }

@@ -3,6 +3,7 @@
 ghost use Rattle.std.specs.Prelude.{◌≡◌};
 ghost use Rattle.elan_scope.specs.Ruled.{gives};
 ghost use Rattle.elan_types.specs.declared.core_phrase.Access.TheVariants as accesses;
+ghost use Rattle.elan_meant.specs.declared.meant.Meant.TheVariants as means;
 ghost use Rattle.value_rules.specs.Calls as spec;
 ghost use Rattle.elan_scope.specs.Scope as scopes;
 ghost use Rattle.elan_scope.specs.Answer.{Is};
@@ -17,7 +18,7 @@ use elan_scope::known::Known;
 use elan_scope::scope::{Denotes, Found, Home, Scope, Usage};
 use elan_scope::trouble::Trouble;
 use elan_types::{Access, Action, ElanType, Parameter, PlacePhrase, ValuePhrase, Why};
-use eu_base::{Boxed, List};
+use eu_base::List;
 use std::alloc::Global;
 
 // The place of what is held with this access; only PROCs and OPs have parameters.
@@ -47,16 +48,14 @@ impl Held {
     }
 }
 
-fn variable(alloc: Global, at: u32, of: ElanType, held: Held) -> Judged
-    ensures { Is result (gives (spec.variable at of (spec.place_in held.home held.number held.access))) }
+fn variable(at: u32, of: ElanType, held: Held) -> Meant
+    ensures { result ≡ means.Variable at of (spec.place_in held.home held.number held.access) }
 {
-    let value = Boxed::new(alloc, ValuePhrase::Load(held.place(), of))?;
-    Ok(Meant::Value {
+    Meant::Variable {
         at,
         of,
-        value,
-        variable: Some(held.place()),
-    })
+        place: held.place(),
+    }
 }
 
 fn constant(alloc: Global, at: u32, of: ElanType, held: Held) -> Judged
@@ -76,7 +75,7 @@ fn parameter(alloc: Global, at: u32, home: Home, number: usize, parameter: Param
     };
     match parameter.access {
         Access::Const => constant(alloc, at, parameter.of, held),
-        Access::Var => variable(alloc, at, parameter.of, held),
+        Access::Var => Ok(variable(at, parameter.of, held)),
     }
 }
 
@@ -144,7 +143,7 @@ fn denoted(
     ensures { Is result (spec.denoted known.now usage at scope.now name.now found.home found.number found.denotes) }
 {
     match found.denotes {
-        Denotes::Variable(of) => variable(alloc, at, of, plainly_held(found)),
+        Denotes::Variable(of) => Ok(variable(at, of, plainly_held(found))),
         Denotes::Constant(of) => constant(alloc, at, of, plainly_held(found)),
         Denotes::Parameter(given) => parameter(alloc, at, found.home, found.number, given),
         Denotes::Procedure => {
@@ -192,8 +191,8 @@ fn declared_as(alloc: Global, at: u32, found: Found) -> Judged
     ensures { Is result (gives (spec.declared_as at found.home found.number found.denotes)) }
 {
     match found.denotes {
-        Denotes::Variable(of) => variable(alloc, at, of, plainly_held(found)),
-        Denotes::Constant(of) => variable(alloc, at, of, plainly_held(found)),
+        Denotes::Variable(of) => Ok(variable(at, of, plainly_held(found))),
+        Denotes::Constant(of) => Ok(variable(at, of, plainly_held(found))),
         Denotes::Parameter(_) => Ok(Meant::Done(List::new(alloc))),
         Denotes::Procedure => Ok(Meant::Done(List::new(alloc))),
         Denotes::Refinement => Ok(Meant::Done(List::new(alloc))),

@@ -3,6 +3,7 @@
 ghost use Rattle.std.specs.Prelude.{◌≡◌};
 ghost use Rattle.elan_types.specs.declared.elan_type.ElanType.TheVariants as types;
 ghost use Rattle.elan_types.specs.declared.core_phrase.ValuePhrase.TheVariants as values;
+ghost use Rattle.elan_meant.specs.declared.meant.Meant.TheVariants as means;
 ghost use Rattle.elan_meant.specs.Parts as parts;
 ghost use Rattle.value_rules.specs.Values as spec;
 ghost use Rattle.elan_scope.specs.Ruled.{gives};
@@ -10,7 +11,7 @@ ghost use Rattle.elan_scope.specs.Answer.{Is};
 
 use elan_meant::meant::Meant;
 use elan_meant::operands::delivers;
-use elan_meant::part::{delivering, value_of, valued};
+use elan_meant::part::{delivering, loaded, value_of};
 use elan_meant::row::{Judged, both};
 use elan_scope::trouble::Trouble;
 use elan_types::{ElanType, ValuePhrase, Why};
@@ -26,22 +27,16 @@ pub fn number(alloc: Global, at: u32, number: i16) -> Judged
 
 /// TRUE or FALSE.
 pub fn truth(alloc: Global, at: u32, truth: bool) -> Judged
-    ensures { Is result (gives (parts.valued at types.Bool (values.Truth truth))) }
+    ensures { Is result (gives (means.Value at types.Bool (values.Truth truth))) }
 {
     delivering(alloc, at, ElanType::Bool, ValuePhrase::Truth(truth))
 }
 
-/// A phrase in brackets: its value is no variable.
-pub fn bracketed(at: u32, meant: Meant) -> Judged
-    ensures { Is result (spec.bracketed at meant) }
+fn bracketed_value(at: u32, meant: Meant) -> Judged
+    ensures { Is result (spec.bracketed_value at meant) }
 {
     match meant {
-        Meant::Value {
-            at: _at,
-            of,
-            value,
-            variable: _variable,
-        } => Ok(valued(at, of, value)),
+        Meant::Value { at: _at, of, value } => Ok(Meant::Value { at, of, value }),
         Meant::Done(actions) => Ok(Meant::Done(actions)),
         Meant::Left(actions) => Ok(Meant::Left(actions)),
         other => {
@@ -49,6 +44,14 @@ pub fn bracketed(at: u32, meant: Meant) -> Judged
             Err(Trouble::Breaks(0, Why::Unknown))
         }
     }
+}
+
+/// A phrase in brackets: its value is no variable.
+pub fn bracketed(alloc: Global, at: u32, meant: Meant) -> Judged
+    ensures { Is result (spec.bracketed at meant) }
+{
+    let meant = loaded(alloc, meant)?;
+    bracketed_value(at, meant)
 }
 
 fn are_truths(left: &Meant, right: &Meant) -> bool
