@@ -6,9 +6,7 @@ ghost use Rattle.elan_grammar.specs.Rule.{Gives};
 ghost use Rattle.elan_grammar.specs.Kinds as kinds;
 ghost use Rattle.elan_grammar.specs.Terminals as spec;
 
-use crate::kind::{
-    ahead, is_init, is_key, is_level, is_rep, is_sign, is_symbol, kind_of, same_sign,
-};
+use crate::kind::{ahead, is_init, is_key, is_level, is_rep, is_sign, is_symbol, kind_of};
 use containers::{Bytes, NoMemory};
 use elan_grammar::{Joint, Kind, ParseError};
 use elan_tree::{
@@ -28,6 +26,23 @@ fn named(alloc: Global, at: u32, text: &Bytes) -> Result<Name, NoMemory>
 {
     let text = copied(alloc, text)?;
     Ok(Name { at, text })
+}
+
+/// Goes past the next token, where it is one of these; what was found in it.
+macro_rules! take {
+    ($cursor:ident, $first:ident, $($word:pat $(if $test:expr)? => $found:expr),+) => {
+        match $cursor.rest {
+            [] => Err($cursor.refuse()),
+            [$first, rest @ ..] => {
+                let found = match &$first.what {
+                    $($word $(if $test)? => $found,)+
+                    _ => return Err($cursor.refuse()),
+                };
+                $cursor.rest = rest;
+                Ok(found)
+            }
+        }
+    };
 }
 
 /// The tokens that are left.
@@ -81,13 +96,7 @@ impl<'a> Cursor<'a> {
     pub fn keyword(&mut self, key: Key) -> Result<u32, ParseError>
         ensures { Gives ((spec.keyword key).run self.old.rest.now) result self.new.rest.now }
     {
-        match self.rest {
-            [first, rest @ ..] if is_key(key, kind_of(&first.what)) => {
-                self.rest = rest;
-                Ok(first.at)
-            }
-            _ => Err(self.refuse()),
-        }
+        take!(self, first, word if is_key(key, kind_of(word)) => first.at)
     }
 
     /// END and a keyword.
@@ -103,267 +112,139 @@ impl<'a> Cursor<'a> {
     pub fn mark(&mut self, sign: Sign) -> Result<u32, ParseError>
         ensures { Gives ((spec.mark sign).run self.old.rest.now) result self.new.rest.now }
     {
-        match self.rest {
-            [first, rest @ ..] if is_sign(sign, kind_of(&first.what)) => {
-                self.rest = rest;
-                Ok(first.at)
-            }
-            _ => Err(self.refuse()),
-        }
+        take!(self, first, word if is_sign(sign, kind_of(word)) => first.at)
     }
 
     /// Takes `::` or `:=`; its place.
     pub fn init_mark(&mut self) -> Result<u32, ParseError>
         ensures { Gives (spec.init_mark.run self.old.rest.now) result self.new.rest.now }
     {
-        match self.rest {
-            [first, rest @ ..] if is_init(kind_of(&first.what)) => {
-                self.rest = rest;
-                Ok(first.at)
-            }
-            _ => Err(self.refuse()),
-        }
+        take!(self, first, word if is_init(kind_of(word)) => first.at)
     }
 
     /// Takes REP or REPEAT; its place.
     pub fn rep(&mut self) -> Result<u32, ParseError>
         ensures { Gives (spec.rep.run self.old.rest.now) result self.new.rest.now }
     {
-        match self.rest {
-            [first, rest @ ..] if is_rep(kind_of(&first.what)) => {
-                self.rest = rest;
-                Ok(first.at)
-            }
-            _ => Err(self.refuse()),
-        }
+        take!(self, first, word if is_rep(kind_of(word)) => first.at)
     }
 
     /// Takes an identifier.
     pub fn ident(&mut self, alloc: Global) -> Result<Name, ParseError>
         ensures { Gives (spec.ident.run self.old.rest.now) result self.new.rest.now }
     {
-        match self.rest {
-            [] => Err(self.refuse()),
-            [first, rest @ ..] => match &first.what {
-                Word::Ident(text) => {
-                    let name = named(alloc, first.at, text)?;
-                    self.rest = rest;
-                    Ok(name)
-                }
-                _ => Err(self.refuse()),
-            },
-        }
+        take!(self, first, Word::Ident(text) => named(alloc, first.at, text)?)
     }
 
     /// Takes a bold word.
     pub fn bold(&mut self, alloc: Global) -> Result<Name, ParseError>
         ensures { Gives (spec.bold.run self.old.rest.now) result self.new.rest.now }
     {
-        match self.rest {
-            [] => Err(self.refuse()),
-            [first, rest @ ..] => match &first.what {
-                Word::Bold(text) => {
-                    let name = named(alloc, first.at, text)?;
-                    self.rest = rest;
-                    Ok(name)
-                }
-                _ => Err(self.refuse()),
-            },
-        }
+        take!(self, first, Word::Bold(text) => named(alloc, first.at, text)?)
     }
 
     /// The name of what LEAVE leaves.
     pub fn leaving(&mut self, alloc: Global) -> Result<Name, ParseError>
-        ensures { Gives ((rule.terminal spec.leaving_at).run self.old.rest.now) result self.new.rest.now }
+        ensures { Gives ((spec.word spec.leaving_of).run self.old.rest.now) result self.new.rest.now }
     {
-        match self.rest {
-            [] => Err(self.refuse()),
-            [first, rest @ ..] => match &first.what {
-                Word::Ident(text) | Word::Bold(text) => {
-                    let name = named(alloc, first.at, text)?;
-                    self.rest = rest;
-                    Ok(name)
-                }
-                _ => Err(self.refuse()),
-            },
-        }
+        take!(self, first, Word::Ident(text) | Word::Bold(text) => named(alloc, first.at, text)?)
     }
 
     /// The identifier that has this name.
     pub fn same(&mut self, name: &Name) -> Result<(), ParseError>
-        ensures { Gives ((rule.terminal (spec.same_at name.now)).run self.old.rest.now) result self.new.rest.now }
+        ensures { Gives ((spec.word (spec.same_of name.now)).run self.old.rest.now) result self.new.rest.now }
     {
-        match self.rest {
-            [] => Err(self.refuse()),
-            [first, rest @ ..] => match &first.what {
-                Word::Ident(text) => {
-                    if text.as_slice() != name.text.as_slice() {
-                        return Err(self.refuse());
-                    }
-                    self.rest = rest;
-                    Ok(())
-                }
-                _ => Err(self.refuse()),
-            },
-        }
+        take!(self, first, Word::Ident(text) if text.as_slice() == name.text.as_slice() => ())
     }
 
     /// Takes INT, BOOL, TEXT, TASK or DATASPACE.
     pub fn simple_type(&mut self) -> Result<TypePhrase, ParseError>
-        ensures { Gives ((rule.terminal spec.simple_at).run self.old.rest.now) result self.new.rest.now }
+        ensures { Gives ((spec.word spec.simple_of).run self.old.rest.now) result self.new.rest.now }
     {
-        match self.rest {
-            [] => Err(self.refuse()),
-            [first, rest @ ..] => {
-                let found = match &first.what {
-                    Word::Key(Key::Int) => TypePhrase::Int(first.at),
-                    Word::Key(Key::Bool) => TypePhrase::Bool(first.at),
-                    Word::Key(Key::Text) => TypePhrase::Text(first.at),
-                    Word::Key(Key::Task) => TypePhrase::Task(first.at),
-                    Word::Key(Key::Dataspace) => TypePhrase::Dataspace(first.at),
-                    _ => return Err(self.refuse()),
-                };
-                self.rest = rest;
-                Ok(found)
-            }
-        }
+        take!(self, first,
+            Word::Key(Key::Int) => TypePhrase::Int(first.at),
+            Word::Key(Key::Bool) => TypePhrase::Bool(first.at),
+            Word::Key(Key::Text) => TypePhrase::Text(first.at),
+            Word::Key(Key::Task) => TypePhrase::Task(first.at),
+            Word::Key(Key::Dataspace) => TypePhrase::Dataspace(first.at)
+        )
     }
 
     /// Takes the size of a ROW.
     pub fn size(&mut self, alloc: Global) -> Result<Size, ParseError>
-        ensures { Gives ((rule.terminal spec.size_at).run self.old.rest.now) result self.new.rest.now }
+        ensures { Gives ((spec.word spec.size_of).run self.old.rest.now) result self.new.rest.now }
     {
-        match self.rest {
-            [] => Err(self.refuse()),
-            [first, rest @ ..] => {
-                let found = match &first.what {
-                    Word::Number(number) => Size::Number(first.at, *number),
-                    Word::Ident(text) => Size::Named(named(alloc, first.at, text)?),
-                    _ => return Err(self.refuse()),
-                };
-                self.rest = rest;
-                Ok(found)
-            }
-        }
+        take!(self, first,
+            Word::Number(number) => Size::Number(first.at, *number),
+            Word::Ident(text) => Size::Named(named(alloc, first.at, text)?)
+        )
     }
 
     /// Takes CONST or VAR.
     pub fn access(&mut self) -> Result<Access, ParseError>
-        ensures { Gives ((rule.terminal spec.access_at).run self.old.rest.now) result self.new.rest.now }
+        ensures { Gives ((spec.word spec.access_of).run self.old.rest.now) result self.new.rest.now }
     {
-        match self.rest {
-            [] => Err(self.refuse()),
-            [first, rest @ ..] => {
-                let found = match &first.what {
-                    Word::Key(Key::Const) => Access::Const,
-                    Word::Key(Key::Var) => Access::Var,
-                    _ => return Err(self.refuse()),
-                };
-                self.rest = rest;
-                Ok(found)
-            }
-        }
+        take!(self, first,
+            Word::Key(Key::Const) => Access::Const,
+            Word::Key(Key::Var) => Access::Var
+        )
     }
 
     /// Takes a number, a text, TRUE or FALSE, as the constant of a LET.
     pub fn constant(&mut self, alloc: Global) -> Result<Constant, ParseError>
-        ensures { Gives ((rule.terminal spec.constant_at).run self.old.rest.now) result self.new.rest.now }
+        ensures { Gives ((spec.word spec.constant_of).run self.old.rest.now) result self.new.rest.now }
     {
-        match self.rest {
-            [] => Err(self.refuse()),
-            [first, rest @ ..] => {
-                let found = match &first.what {
-                    Word::Number(number) => Constant::Number(first.at, *number),
-                    Word::Text(text) => Constant::Text(first.at, copied(alloc, text)?),
-                    Word::Key(Key::True) => Constant::Truth(first.at, true),
-                    Word::Key(Key::False) => Constant::Truth(first.at, false),
-                    _ => return Err(self.refuse()),
-                };
-                self.rest = rest;
-                Ok(found)
-            }
-        }
+        take!(self, first,
+            Word::Number(number) => Constant::Number(first.at, *number),
+            Word::Text(text) => Constant::Text(first.at, copied(alloc, text)?),
+            Word::Key(Key::True) => Constant::Truth(first.at, true),
+            Word::Key(Key::False) => Constant::Truth(first.at, false)
+        )
     }
 
     /// Takes the label of a CASE.
     pub fn label(&mut self, alloc: Global) -> Result<Label, ParseError>
-        ensures { Gives ((rule.terminal spec.label_at).run self.old.rest.now) result self.new.rest.now }
+        ensures { Gives ((spec.word spec.label_of).run self.old.rest.now) result self.new.rest.now }
     {
-        match self.rest {
-            [] => Err(self.refuse()),
-            [first, rest @ ..] => {
-                let found = match &first.what {
-                    Word::Number(number) => Label::Number(first.at, *number),
-                    Word::Ident(text) => Label::Named(named(alloc, first.at, text)?),
-                    _ => return Err(self.refuse()),
-                };
-                self.rest = rest;
-                Ok(found)
-            }
-        }
+        take!(self, first,
+            Word::Number(number) => Label::Number(first.at, *number),
+            Word::Ident(text) => Label::Named(named(alloc, first.at, text)?)
+        )
     }
 
     /// A number behind a minus.
     pub fn negated(&mut self) -> Result<i16, ParseError>
-        ensures { Gives ((rule.terminal spec.negated_at).run self.old.rest.now) result self.new.rest.now }
+        ensures { Gives ((spec.word spec.negated_of).run self.old.rest.now) result self.new.rest.now }
     {
-        match self.rest {
-            [] => Err(self.refuse()),
-            [first, rest @ ..] => match &first.what {
-                Word::Number(number) => {
-                    if *number < 0 {
-                        return Err(self.refuse());
-                    }
-                    self.rest = rest;
-                    Ok(-*number)
-                }
-                _ => Err(self.refuse()),
-            },
-        }
+        take!(self, first, Word::Number(number) if *number >= 0 => -*number)
     }
 
     /// Takes a number, a text, TRUE or FALSE, as an expression.
     pub fn literal(&mut self, alloc: Global) -> Result<Expr, ParseError>
-        ensures { Gives ((rule.terminal spec.literal_at).run self.old.rest.now) result self.new.rest.now }
+        ensures { Gives ((spec.word spec.literal_of).run self.old.rest.now) result self.new.rest.now }
     {
-        match self.rest {
-            [] => Err(self.refuse()),
-            [first, rest @ ..] => {
-                let found = match &first.what {
-                    Word::Number(number) => Expr::Number(first.at, *number),
-                    Word::Text(text) => Expr::Text(first.at, copied(alloc, text)?),
-                    Word::Key(Key::True) => Expr::Truth(first.at, true),
-                    Word::Key(Key::False) => Expr::Truth(first.at, false),
-                    _ => return Err(self.refuse()),
-                };
-                self.rest = rest;
-                Ok(found)
-            }
-        }
+        take!(self, first,
+            Word::Number(number) => Expr::Number(first.at, *number),
+            Word::Text(text) => Expr::Text(first.at, copied(alloc, text)?),
+            Word::Key(Key::True) => Expr::Truth(first.at, true),
+            Word::Key(Key::False) => Expr::Truth(first.at, false)
+        )
     }
 
     /// Takes an operator that stands before its operand; its place and itself.
     pub fn monadic(&mut self, alloc: Global) -> Result<(u32, Operator), ParseError>
-        ensures { Gives ((rule.terminal spec.monadic_at).run self.old.rest.now) result self.new.rest.now }
+        ensures { Gives ((spec.word spec.monadic_of).run self.old.rest.now) result self.new.rest.now }
     {
-        match self.rest {
-            [] => Err(self.refuse()),
-            [first, rest @ ..] => {
-                let found = match &first.what {
-                    Word::Sign(Sign::Plus) => Operator::Sign(Sign::Plus),
-                    Word::Sign(Sign::Minus) => Operator::Sign(Sign::Minus),
-                    Word::Bold(text) => Operator::Named(copied(alloc, text)?),
-                    _ => return Err(self.refuse()),
-                };
-                self.rest = rest;
-                Ok((first.at, found))
-            }
-        }
+        take!(self, first,
+            Word::Sign(Sign::Plus) => (first.at, Operator::Sign(Sign::Plus)),
+            Word::Sign(Sign::Minus) => (first.at, Operator::Sign(Sign::Minus)),
+            Word::Bold(text) => (first.at, Operator::Named(copied(alloc, text)?))
+        )
     }
 
     /// An operator of a level.
     pub fn joint(&mut self, alloc: Global, level: u8) -> Result<Joint, ParseError>
-        ensures { Gives ((rule.terminal (spec.joint_at level)).run self.old.rest.now) result self.new.rest.now }
+        ensures { Gives ((spec.word (spec.joint_of level)).run self.old.rest.now) result self.new.rest.now }
     {
         match self.rest {
             [] => Err(self.refuse()),
@@ -386,55 +267,30 @@ impl<'a> Cursor<'a> {
 
     /// Takes the name of an operator.
     pub fn operator(&mut self, alloc: Global) -> Result<OperatorName, ParseError>
-        ensures { Gives ((rule.terminal spec.operator_at).run self.old.rest.now) result self.new.rest.now }
+        ensures { Gives ((spec.word spec.operator_of).run self.old.rest.now) result self.new.rest.now }
     {
-        match self.rest {
-            [] => Err(self.refuse()),
-            [first, rest @ ..] => {
-                let operator = match &first.what {
-                    Word::Bold(text) => Operator::Named(copied(alloc, text)?),
-                    Word::Sign(sign) if is_symbol(*sign) => Operator::Sign(*sign),
-                    _ => return Err(self.refuse()),
-                };
-                self.rest = rest;
-                Ok(OperatorName {
-                    at: first.at,
-                    operator,
-                })
-            }
-        }
+        take!(self, first,
+            Word::Bold(text) => OperatorName { at: first.at, operator: Operator::Named(copied(alloc, text)?) },
+            Word::Sign(sign) if is_symbol(*sign) => OperatorName { at: first.at, operator: Operator::Sign(*sign) }
+        )
     }
 
     /// The name of an operator that is this one.
     pub fn same_operator(&mut self, name: &OperatorName) -> Result<(), ParseError>
-        ensures { Gives ((rule.terminal (spec.same_operator_at name.now)).run self.old.rest.now) result self.new.rest.now }
+        ensures { Gives ((spec.word (spec.same_operator_of name.now)).run self.old.rest.now) result self.new.rest.now }
     {
-        match self.rest {
-            [first, rest @ ..] if is_operator_name(&name.operator, &first.what) => {
-                self.rest = rest;
-                Ok(())
-            }
-            _ => Err(self.refuse()),
-        }
+        take!(self, first, word if is_operator_name(&name.operator, word) => ())
     }
 
     /// Takes a name that a packet offers.
     pub fn export(&mut self, alloc: Global) -> Result<Export, ParseError>
-        ensures { Gives ((rule.terminal spec.export_at).run self.old.rest.now) result self.new.rest.now }
+        ensures { Gives ((spec.word spec.export_of).run self.old.rest.now) result self.new.rest.now }
     {
-        match self.rest {
-            [] => Err(self.refuse()),
-            [first, rest @ ..] => {
-                let found = match &first.what {
-                    Word::Ident(text) => Export::Ident(named(alloc, first.at, text)?),
-                    Word::Bold(text) => Export::Bold(named(alloc, first.at, text)?),
-                    Word::Sign(sign) if is_symbol(*sign) => Export::Sign(first.at, *sign),
-                    _ => return Err(self.refuse()),
-                };
-                self.rest = rest;
-                Ok(found)
-            }
-        }
+        take!(self, first,
+            Word::Ident(text) => Export::Ident(named(alloc, first.at, text)?),
+            Word::Bold(text) => Export::Bold(named(alloc, first.at, text)?),
+            Word::Sign(sign) if is_symbol(*sign) => Export::Sign(first.at, *sign)
+        )
     }
 }
 
@@ -443,7 +299,7 @@ fn is_operator_name(operator: &Operator, word: &Word) -> bool
 {
     match (operator, word) {
         (Operator::Named(name), Word::Bold(text)) => text.as_slice() == name.as_slice(),
-        (Operator::Sign(sign), Word::Sign(other)) => is_symbol(*other) && same_sign(*sign, *other),
+        (Operator::Sign(sign), Word::Sign(other)) => is_symbol(*other) && *sign == *other,
         _ => false,
     }
 }

@@ -6,94 +6,12 @@ ghost use Rattle.elan_grammar.specs.Kinds as kinds;
 use elan_grammar::{Kind, Tier};
 use elan_tree::{Key, Sign, Token, Word};
 
-fn key_number(key: Key) -> u8
-    ensures { result ≡ kinds.key_number key }
-{
-    match key {
-        Key::Packet => 0,
-        Key::Defines => 1,
-        Key::End => 2,
-        Key::Proc => 3,
-        Key::Op => 4,
-        Key::TypeWord => 5,
-        Key::Let => 6,
-        Key::Const => 7,
-        Key::Var => 8,
-        Key::Row => 9,
-        Key::Struct => 10,
-        Key::Bound => 11,
-        Key::Int => 12,
-        Key::Bool => 13,
-        Key::Text => 14,
-        Key::Task => 15,
-        Key::Dataspace => 16,
-        Key::If => 17,
-        Key::Then => 18,
-        Key::Elif => 19,
-        Key::Else => 20,
-        Key::Fi => 21,
-        Key::Select => 22,
-        Key::Of => 23,
-        Key::Case => 24,
-        Key::Otherwise => 25,
-        Key::For => 26,
-        Key::From => 27,
-        Key::Upto => 28,
-        Key::Downto => 29,
-        Key::While => 30,
-        Key::Rep => 31,
-        Key::Repeat => 32,
-        Key::Until => 33,
-        Key::Per => 34,
-        Key::Leave => 35,
-        Key::With => 36,
-        Key::True => 37,
-        Key::False => 38,
-        Key::Concr => 39,
-        Key::Cand => 40,
-        Key::Cor => 41,
-    }
-}
-
-fn sign_number(sign: Sign) -> u8
-    ensures { result ≡ kinds.sign_number sign }
-{
-    match sign {
-        Sign::LeftRound => 0,
-        Sign::RightRound => 1,
-        Sign::LeftSquare => 2,
-        Sign::RightSquare => 3,
-        Sign::Comma => 4,
-        Sign::Semicolon => 5,
-        Sign::Point => 6,
-        Sign::Colon => 7,
-        Sign::DoubleColon => 8,
-        Sign::Becomes => 9,
-        Sign::Equal => 10,
-        Sign::Unequal => 11,
-        Sign::Less => 12,
-        Sign::LessEqual => 13,
-        Sign::Greater => 14,
-        Sign::GreaterEqual => 15,
-        Sign::Plus => 16,
-        Sign::Minus => 17,
-        Sign::Times => 18,
-    }
-}
-
-/// Whether two signs are one.
-pub fn same_sign(a: Sign, b: Sign) -> bool
-    ensures { result ≡ kinds.same_sign a b }
-{
-    sign_number(a) == sign_number(b)
-}
-
 /// Whether the kind is this keyword.
 pub fn is_key(key: Key, kind: Kind) -> bool
     ensures { result ≡ kinds.is_key key kind }
 {
     match kind {
-        Kind::Key(other) => key_number(key) == key_number(other),
+        Kind::Key(other) => key == other,
         _ => false,
     }
 }
@@ -103,7 +21,7 @@ pub fn is_sign(sign: Sign, kind: Kind) -> bool
     ensures { result ≡ kinds.is_sign sign kind }
 {
     match kind {
-        Kind::Sign(other) => same_sign(sign, other),
+        Kind::Sign(other) => sign == other,
         _ => false,
     }
 }

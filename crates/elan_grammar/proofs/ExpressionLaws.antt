@@ -13,7 +13,7 @@ use Rattle.elan_grammar.specs.Rule.{nothing, further}
 use Rattle.elan_grammar.specs.Depth.{expr_depth}
 use Rattle.elan_grammar.specs.Expressions as g
 use Rattle.elan_grammar.specs.Expressions.{Language}
-use Rattle.elan_grammar.proofs.Laws.{Set, Laws, Full, pure_law, bind_law, bind_part, guard_law, choose_part, choose_law}
+use Rattle.elan_grammar.proofs.Laws.{Set, Laws, Full, pure_law, bind_law, guard_law, choose_law}
 use Rattle.elan_grammar.proofs.Repeats.{iterate_law}
 use Rattle.elan_grammar.proofs.Every.{within, apart}
 use Rattle.elan_grammar.proofs.Seen.{is_colon, colon_ahead, ahead-point, selecting}

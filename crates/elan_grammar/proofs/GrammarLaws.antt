@@ -130,7 +130,7 @@ tail_law n some =
     choose_law is_point _ _ ends_body ends_text after_body_units ends_text (point_tail_law n some).laws (pure_law _ ends_text)
     (within ends_body is_point refl) (apart ends_text is_point refl) (within ends_body after_body_units refl) (within ends_text after_body_units refl)
 
-body_law : Full g.body begins_unit ends_text
+body_law : Full (g.body 400 399) begins_unit ends_text
 unfolding g.body
 body_law =
     bind_law _ _ _ _ after_body_units ends_text (phrases_law 400 refl).bodies (λ us.
@@ -156,7 +156,7 @@ end_operator_law : (o : OperatorName) → Full (g.end_operator o) after_end_op a
 unfolding g.end_operator
 end_operator_law o = optional_law is_operator _ is_operator after_level_unit after_end_op (same_operator_law o after_level_unit) (λ y h. h) (apart after_level_unit is_operator refl) (within is_operator after_end_op refl) (within after_level_unit after_end_op refl)
 
-formal_list_law : (stop : Set) → Full g.formal_list (is_sign sign.LeftRound) stop
+formal_list_law : (stop : Set) → Full (g.formal_list 400 399) (is_sign sign.LeftRound) stop
 unfolding g.formal_list
 formal_list_law stop =
     bind_same _ _ _ _ _ (mark_law sign.LeftRound any_type refl) (λ _.
@@ -167,12 +167,12 @@ formal_list_law stop =
 abbrev after_proc_name : Set
 after_proc_name x = is_sign sign.LeftRound x || is_colon x
 
-optional_formals_law : Full g.optional_formals after_proc_name is_colon
+optional_formals_law : Full (g.optional_formals 400 399) after_proc_name is_colon
 unfolding g.optional_formals
 optional_formals_law = choose_law (is_sign sign.LeftRound) _ _ (is_sign sign.LeftRound) is_colon after_proc_name is_colon (formal_list_law is_colon).laws (pure_law _ is_colon)
     (λ y h. h) (apart is_colon (is_sign sign.LeftRound) refl) (within (is_sign sign.LeftRound) after_proc_name refl) (within is_colon after_proc_name refl)
 
-proc_parts_law : Full g.proc_parts (is_key key.Proc) after_level_unit
+proc_parts_law : Full (g.proc_parts 400 399) (is_key key.Proc) after_level_unit
 unfolding g.proc_parts
 proc_parts_law =
     bind_same _ _ _ _ _ (keyword_law key.Proc is_ident) (λ at.
@@ -184,14 +184,14 @@ proc_parts_law =
     bind_same _ _ _ _ _ (end_name_law x after_level_unit after_end_proc (apart after_level_unit is_ident refl) (within is_ident after_end_proc refl) (within after_level_unit after_end_proc refl)) (λ _.
     pure_law _ after_level_unit))) (within (is_key key.End) ends_text refl)))))
 
-proc_law : (t : Option TypePhrase) → Full (g.proc t) (is_key key.Proc) after_level_unit
+proc_law : (t : Option TypePhrase) → Full (g.proc 400 399 t) (is_key key.Proc) after_level_unit
 unfolding g.proc
 proc_law t = bind_same _ _ _ _ _ proc_parts_law (λ p. pure_law _ after_level_unit)
 
 abbrev is_right : Set
 is_right x = is_sign sign.RightRound x
 
-operand_law : (stop : Set) → Full g.operand any_type stop
+operand_law : (stop : Set) → Full (g.operand 400 399) any_type stop
 unfolding g.operand
 operand_law stop =
     bind_same _ _ _ _ _ (type_law 399 refl is_access) (λ t.
@@ -206,7 +206,7 @@ same_typed_law f =
     bind_same _ _ _ _ _ (ident_law is_right) (λ y.
     pure_law _ is_right))
 
-other_typed_law : (f : Formal) → Full (g.other_typed f) (is_sign sign.Comma) is_right
+other_typed_law : (f : Formal) → Full (g.other_typed 400 399 f) (is_sign sign.Comma) is_right
 unfolding g.other_typed
 other_typed_law f =
     bind_same _ _ _ _ _ (parting_law any_type (apart any_type is_ident refl)) (λ _.
@@ -225,7 +225,7 @@ after_operand2 x = is_sign sign.Comma x || is_right x
 abbrev after_operand : Set
 after_operand x = goes_on x || after_operand2 x
 
-operands_law : (o : Operator) → Full (g.operands o) any_type is_right
+operands_law : (o : Operator) → Full (g.operands 400 399 o) any_type is_right
 unfolding g.operands
 operands_law o =
     bind_same _ _ _ _ _ (operand_law after_operand) (λ f.
@@ -234,7 +234,7 @@ operands_law o =
     (λ y h. h) (apart is_right (is_sign sign.Comma) refl) (within (is_sign sign.Comma) after_operand2 refl) (within is_right after_operand2 refl))
     (λ y h. h) (apart after_operand2 goes_on refl) (within goes_on after_operand refl) (within after_operand2 after_operand refl))
 
-operator_parts_law : Full g.operator_parts (is_key key.Op) after_level_unit
+operator_parts_law : Full (g.operator_parts 400 399) (is_key key.Op) after_level_unit
 unfolding g.operator_parts
 operator_parts_law =
     bind_same _ _ _ _ _ (keyword_law key.Op is_operator) (λ at.
@@ -248,11 +248,11 @@ operator_parts_law =
     bind_same _ _ _ _ _ (end_operator_law o) (λ _.
     pure_law _ after_level_unit))) (within (is_key key.End) ends_text refl)))))))
 
-operator_rule_law : (t : Option TypePhrase) → Full (g.operator t) (is_key key.Op) after_level_unit
+operator_rule_law : (t : Option TypePhrase) → Full (g.operator 400 399 t) (is_key key.Op) after_level_unit
 unfolding g.operator
 operator_rule_law t = bind_same _ _ _ _ _ operator_parts_law (λ p. pure_law _ after_level_unit)
 
-new_type_law : Full g.new_type (is_key key.TypeWord) after_level_unit
+new_type_law : Full (g.new_type 400 399) (is_key key.TypeWord) after_level_unit
 unfolding g.new_type
 new_type_law =
     bind_same _ _ _ _ _ (keyword_law key.TypeWord is_bold) (λ at.
@@ -261,7 +261,7 @@ new_type_law =
     bind_same _ _ _ _ _ (type_law 400 refl after_level_unit) (λ t.
     pure_law _ after_level_unit))))
 
-declared_unit_law : (t : TypePhrase) → Full (g.declared_unit t) begins_declared after_level_unit
+declared_unit_law : (t : TypePhrase) → Full (g.declared_unit 400 399 t) begins_declared after_level_unit
 unfolding g.declared_unit
 declared_unit_law t =
     bind_law _ _ _ _ after_level_unit after_level_unit (declared_law (phrases 400) 400 (phrases_law 400) t) (λ v.
@@ -273,7 +273,7 @@ after_type2 x = is_key key.Op x || begins_declared x
 abbrev after_type : Set
 after_type x = is_key key.Proc x || after_type2 x
 
-typed_unit_law : Laws g.typed_unit begins_typed after_level_unit
+typed_unit_law : Laws (g.typed_unit 400 399) begins_typed after_level_unit
 unfolding g.typed_unit
 typed_unit_law =
     part_same _ _ _ _ _ (typed_law 400 after_type (within after_type declares refl)) (λ t.
@@ -282,7 +282,7 @@ typed_unit_law =
     (λ y h. h) (apart begins_declared (is_key key.Op) refl) (within (is_key key.Op) after_type2 refl) (within begins_declared after_type2 refl))
     (λ y h. h) (apart after_type2 (is_key key.Proc) refl) (within (is_key key.Proc) after_type refl) (within after_type2 after_type refl))
 
-plain_unit_law : Full g.plain_unit begins_plain after_level_unit
+plain_unit_law : Full (g.plain_unit 400 399) begins_plain after_level_unit
 unfolding g.plain_unit
 plain_unit_law =
     bind_law _ _ _ _ after_level_unit after_level_unit (plain_law (phrases 400) 400 (phrases_law 400)) (λ v.
@@ -300,7 +300,7 @@ level1 x = is_key key.TypeWord x || level2 x
 abbrev begins_level : Set
 begins_level x = begins_typed x || level1 x
 
-level_unit_law : Full g.level_unit begins_level after_level_unit
+level_unit_law : Full (g.level_unit 400 399) begins_level after_level_unit
 unfolding g.level_unit
 level_unit_law =
     choose_law begins_typed _ _ begins_typed level1 begins_level after_level_unit typed_unit_law
@@ -312,12 +312,12 @@ level_unit_law =
     (λ y h. h) (apart level2 (is_key key.TypeWord) refl) (within (is_key key.TypeWord) level1 refl) (within level2 level1 refl))
     (λ y h. h) (apart level1 begins_typed refl) (within begins_typed begins_level refl) (within level1 begins_level refl)
 
-pub level_units_law : Full g.level_units begins_level after_body_units
+pub level_units_law : Full (g.level_units 400 399) begins_level after_body_units
 unfolding g.level_units
 level_units_law = listed_law (is_sign sign.Semicolon) _ _ (is_sign sign.Semicolon) begins_level after_level_unit after_body_units (mark_law sign.Semicolon begins_level refl) level_unit_law
     (λ x h. h) (within (is_sign sign.Semicolon) after_level_unit refl) (within after_body_units after_level_unit refl) (apart after_body_units (is_sign sign.Semicolon) refl) refl
 
-a_level_law : Full g.a_level begins_level ends_text
+a_level_law : Full (g.a_level 400 399) begins_level ends_text
 unfolding g.a_level
 a_level_law =
     bind_same _ _ _ _ _ level_units_law (λ us.
@@ -326,7 +326,7 @@ a_level_law =
 
 -- ---- texts
 
-program_law : Full g.program begins_level is_nothing
+program_law : Full (g.program 400 399) begins_level is_nothing
 unfolding g.program
 program_law =
     bind_law _ _ _ _ is_nothing is_nothing a_level_law (λ l.
@@ -367,7 +367,7 @@ last_mark_law =
 abbrev after_end_packet : Set
 after_end_packet x = is_ident x || last_marks x
 
-packet_law : Full g.packet (is_key key.Packet) is_nothing
+packet_law : Full (g.packet 400 399) (is_key key.Packet) is_nothing
 unfolding g.packet
 packet_law =
     bind_same _ _ _ _ _ (keyword_law key.Packet is_ident) (λ at.

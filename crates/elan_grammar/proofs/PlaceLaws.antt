@@ -1,5 +1,5 @@
 -- Where the parser stops, and which fronts can go on.
-use Rattle.std.proofs.Common.{◌≡◌, ◌≢◌, ℕ, zero, suc, ◌+◌, ◌-◌, ◌<◌, ◌≤◌, ◌⊎◌, inl, inr, Bool, true, false, [], ◌∷◌, ◌++◌, length, take, drop, Ok, Err, refl, sym, ap, subst, ◌∙◌, arith, append_assoc}
+use Rattle.std.proofs.Common.{◌≡◌, ℕ, zero, suc, ◌+◌, ◌-◌, ◌<◌, ◌≤◌, ◌⊎◌, inl, inr, Bool, true, false, [], ◌∷◌, ◌++◌, length, take, drop, Ok, Err, refl, sym, ap, subst, ◌∙◌, arith, append_assoc}
 use Rattle.std.proofs.lemmas.List.{length-append, take-append-le, take-append-drop, take-take, take_all}
 use Rattle.elan_tree.specs.declared.token.Token.{Token}
 use Rattle.elan_tree.specs.declared.token.Word.TheVariants as w
@@ -22,7 +22,7 @@ use Rattle.elan_grammar.specs.Grammar as g
 use Rattle.elan_grammar.specs.Reads.{text, Reads}
 use Rattle.elan_grammar.specs.Place.{CanGoOn, IsPlace}
 use Rattle.elan_grammar.specs.Stops.{left, left_by, tokens_of, token_of}
-use Rattle.elan_grammar.proofs.Laws.{done, failed, left_is, refused_length, some_or_none}
+use Rattle.elan_grammar.proofs.Laws.{done, failed, some_or_none}
 use Rattle.elan_grammar.proofs.GrammarLaws.{text_law, level_units_law, not_empty, some_left, refused_run}
 
 -- ---- What stands behind a front looks to it like one of the continuations.
@@ -191,7 +191,7 @@ some_program =
     let l : Level = record { units = c.value; refinements = [] } in
     (c.more ++ (a_point ∷ []), tree.Program l, (λ e. some_more c.more [] a_point e, (l, [], (c.value, a_point ∷ [], c.reads (a_point ∷ []), ([], [], inl (1, [], (a_point, refl, refl), inr (refl, refl)), (refl, refl))), (refl, refl))))
 
-packet_some : (t : Tree) (xs ys : Tokens) → g.packet.reads t xs ys → xs ≡ [] → ⊥
+packet_some : (t : Tree) (xs ys : Tokens) → (g.packet 400 399).reads t xs ys → xs ≡ [] → ⊥
 unfolding g.packet
 packet_some t xs ys h e = let first = h.2.1 in cc
 

@@ -12,9 +12,9 @@ use Rattle.elan_grammar.specs.declared.heading.SelectParts.{SelectParts}
 use Rattle.elan_grammar.specs.declared.joint.Joint.{Joint}
 use Rattle.elan_grammar.specs.declared.joint.Joint.TheVariants as joint
 use Rattle.elan_grammar.specs.declared.joint.Right.{Right}
-use Rattle.elan_grammar.specs.Kinds.{is_key, is_sign, is_comma, is_literal, is_monadic, is_level, lengthens}
-use Rattle.elan_grammar.specs.Rule.{Rule, pure, nothing, ◌>>=◌, ◌>>◌, terminal, only, choose, iterate, optional, listed}
-use Rattle.elan_grammar.specs.Terminals.{keyword, end_of, mark, ident, literal_at, monadic_at, joint_at}
+use Rattle.elan_grammar.specs.Kinds.{is_key, is_sign, is_comma, is_literal, is_monadic, is_level, lengthens, word_level, operand_level}
+use Rattle.elan_grammar.specs.Rule.{Rule, pure, nothing, ◌>>=◌, ◌>>◌, only, choose, iterate, optional, listed}
+use Rattle.elan_grammar.specs.Terminals.{word, keyword, end_of, mark, ident, literal_of, monadic_of, joint_of}
 use Rattle.elan_grammar.specs.Types.{labels}
 use Rattle.elan_grammar.specs.Depth.{expr_depth, expr_place}
 
@@ -46,7 +46,7 @@ module _ (inner : Language) (n : ℕ) where
   below depth = only (nat_lt depth n)
 
   abbrev e1 : Rule Expr
-  e1 = inner.level 6
+  e1 = inner.level word_level
 
   -- "(" e1 ")"
   unfoldable pub bracket : Rule Expr
@@ -163,7 +163,7 @@ module _ (inner : Language) (n : ℕ) where
 
   -- number | textdenoter | TRUE | FALSE | "(" e1 ")" | CONCR "(" e1 ")" | if | select | ident [ "(" actuals ")" ]
   unfoldable pub head : Rule Expr
-  head = choose is_literal (terminal literal_at) (choose (is_sign sign.LeftRound) bracket (choose (is_key key.Concr) concr (choose (is_key key.If) choice (choose (is_key key.Select) selection named))))
+  head = choose is_literal (word literal_of) (choose (is_sign sign.LeftRound) bracket (choose (is_key key.Concr) concr (choose (is_key key.If) choice (choose (is_key key.Select) selection named))))
 
   -- "[" e1 "]", behind an expression of this depth
   unfoldable pub index_part : ℕ → Rule Expr
@@ -204,8 +204,8 @@ module _ (inner : Language) (n : ℕ) where
   unfoldable pub applied : Rule Expr
   applied = do
     room
-    o ← terminal monadic_at
-    a ← inner.level 0
+    o ← word monadic_of
+    a ← inner.level operand_level
     pure (e.Monadic o.0 o.1 a)
 
   -- m: ( "+" | "-" | BOLD ) m | prim
@@ -216,7 +216,7 @@ module _ (inner : Language) (n : ℕ) where
   unfoldable pub right_part : ℕ → ℕ → Rule Right
   right_part i depth = do
     below depth
-    o ← terminal (joint_at (suc i))
+    o ← word (joint_of (suc i))
     b ← inner.level i
     pure (record { joint = o; operand = b })
 

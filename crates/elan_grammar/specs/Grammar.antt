@@ -20,15 +20,11 @@ use Rattle.elan_tree.specs.declared.tree.Tree.TheVariants as tree
 use Rattle.elan_grammar.specs.declared.heading.ProcParts.{ProcParts}
 use Rattle.elan_grammar.specs.declared.heading.OperatorParts.{OperatorParts}
 use Rattle.elan_grammar.specs.Kinds.{is_key, is_sign, is_ident, is_comma, goes_on, is_point, leads, is_operator, begins_typed}
-use Rattle.elan_grammar.specs.Rule.{Rule, pure, ◌>>=◌, ◌>>◌, terminal, only, choose, optional, listed}
-use Rattle.elan_grammar.specs.Terminals.{keyword, end_of, mark, ident, bold, same_at, access_at, operator_at, same_operator_at, export_at}
+use Rattle.elan_grammar.specs.Rule.{Rule, pure, ◌>>=◌, ◌>>◌, only, choose, optional, listed}
+use Rattle.elan_grammar.specs.Terminals.{word, keyword, end_of, mark, ident, bold, same_of, access_of, operator_of, same_operator_of, export_of}
 use Rattle.elan_grammar.specs.Types.{types, formals}
 use Rattle.elan_grammar.specs.Units.{declared, plain, phrases}
 use Rattle.elan_grammar.specs.Depth.{type_place}
-
--- A tree is at most so deep.
-abbrev pub most : ℕ
-most = 400
 
 -- The refinements at most n deep. Each adds one to the depth of its units.
 -- ident ":" units
@@ -64,59 +60,18 @@ point_tail n = do
 unfoldable pub tail : ℕ → Rule (List Refinement)
 tail n = choose is_point (point_tail n) (pure [])
 
--- The body of a PROC or OP adds one to the depth of its units, refinements and parameters.
-abbrev pub most_in_body : ℕ
-most_in_body = 399
-
--- units tail
-unfoldable pub body : Rule Body
-body = do
-  us ← (phrases most).units
-  rs ← tail most_in_body
-  pure (record { units = us; refinements = rs })
-
 -- [ ident ], which is this one
 unfoldable pub end_name : Name → Rule (Option (Unit {0}))
-end_name x = optional is_ident (terminal (same_at x))
+end_name x = optional is_ident (word (same_of x))
 
 -- [ opname ], which is this one
 unfoldable pub end_operator : OperatorName → Rule (Option (Unit {0}))
-end_operator o = optional is_operator (terminal (same_operator_at o))
-
--- "(" formals ")"
-unfoldable pub formal_list : Rule (List Formal)
-formal_list = do
-  mark sign.LeftRound
-  fs ← formals most_in_body
-  mark sign.RightRound
-  pure fs
-
--- [ "(" formals ")" ]
-unfoldable pub optional_formals : Rule (List Formal)
-optional_formals = choose (is_sign sign.LeftRound) formal_list (pure [])
+end_operator o = optional is_operator (word (same_operator_of o))
 
 -- the place where a PROC or OP begins
 abbrev pub start : Option TypePhrase → ℕ → ℕ
 start (Some t) at = type_place t
 start None at = at
-
--- PROC ident [ "(" formals ")" ] ":" units tail END PROC [ ident ]
-unfoldable pub proc_parts : Rule ProcParts
-proc_parts = do
-  at ← keyword key.Proc
-  x ← ident
-  fs ← optional_formals
-  mark sign.Colon
-  b ← body
-  end_of key.Proc
-  end_name x
-  pure (record { at = at; name = x; formals = fs; body = b })
-
--- the same behind the type of its result
-unfoldable pub proc : Option TypePhrase → Rule LevelUnit
-proc t = do
-  p ← proc_parts
-  pure (lu.Proc (start t p.at) t p.name p.formals p.body)
 
 -- Signs other than "+" and "-" take two operands; these and bold words take one or two.
 abbrev pub takes_one : Operator → Bool
@@ -128,14 +83,6 @@ takes_one (op.Sign _) = false
 abbrev pub operand_of : TypePhrase → Access → Name → Formal
 operand_of t a x = record { of = t; access = a; names = x ∷ [] }
 
--- type ( CONST | VAR ) ident
-unfoldable pub operand : Rule Formal
-operand = do
-  t ← types most_in_body
-  a ← terminal access_at
-  x ← ident
-  pure (operand_of t a x)
-
 abbrev pub with_name : Formal → Name → Formal
 with_name f x = record { of = f.of; access = f.access; names = f.names ++ x ∷ [] }
 
@@ -146,95 +93,15 @@ same_typed f = do
   x ← ident
   pure (with_name f x ∷ [])
 
--- the second operand, with a type of its own
-unfoldable pub other_typed : Formal → Rule (List Formal)
-other_typed f = do
-  mark sign.Comma
-  g ← operand
-  pure (f ∷ g ∷ [])
-
 -- no second operand
 unfoldable pub one_operand : Operator → Formal → Rule (List Formal)
 one_operand o f = do
   only (takes_one o)
   pure (f ∷ [])
 
--- operand [ "," ident | "," operand ]: as many as the operator takes
-unfoldable pub operands : Operator → Rule (List Formal)
-operands o = do
-  f ← operand
-  choose goes_on (same_typed f) (choose (is_sign sign.Comma) (other_typed f) (one_operand o f))
-
--- OP opname "(" operands ")" ":" units tail END OP [ opname ]
-unfoldable pub operator_parts : Rule OperatorParts
-operator_parts = do
-  at ← keyword key.Op
-  o ← terminal operator_at
-  mark sign.LeftRound
-  fs ← operands o.operator
-  mark sign.RightRound
-  mark sign.Colon
-  b ← body
-  end_of key.Op
-  end_operator o
-  pure (record { at = at; name = o; formals = fs; body = b })
-
--- the same behind the type of its result
-unfoldable pub operator : Option TypePhrase → Rule LevelUnit
-operator t = do
-  p ← operator_parts
-  pure (lu.Op (start t p.at) t p.name p.formals p.body)
-
--- TYPE BOLD "=" type
-unfoldable pub new_type : Rule LevelUnit
-new_type = do
-  at ← keyword key.TypeWord
-  x ← bold
-  mark sign.Equal
-  t ← types most
-  pure (lu.NewType at x t)
-
--- VAR items | CONST constant_items
-unfoldable pub declared_unit : TypePhrase → Rule LevelUnit
-declared_unit t = do
-  v ← declared (phrases most) most t
-  pure (lu.Plain v)
-
--- type VAR items | type CONST constant_items | type PROC .. | type OP ..
-unfoldable pub typed_unit : Rule LevelUnit
-typed_unit = do
-  t ← types most
-  choose (is_key key.Proc) (proc (Some t)) (choose (is_key key.Op) (operator (Some t)) (declared_unit t))
-
--- a unit that begins with no type
-unfoldable pub plain_unit : Rule LevelUnit
-plain_unit = do
-  v ← plain (phrases most) most
-  pure (lu.Plain v)
-
--- lunit | TYPE BOLD "=" type | proc | op
-unfoldable pub level_unit : Rule LevelUnit
-level_unit = choose begins_typed typed_unit (choose (is_key key.TypeWord) new_type (choose (is_key key.Proc) (proc None) (choose (is_key key.Op) (operator None) plain_unit)))
-
--- unit { ";" unit }
-unfoldable pub level_units : Rule (List LevelUnit)
-level_units = listed (is_sign sign.Semicolon) (mark sign.Semicolon) level_unit
-
--- units tail
-unfoldable pub a_level : Rule Level
-a_level = do
-  us ← level_units
-  rs ← tail most
-  pure (record { units = us; refinements = rs })
-
-unfoldable pub program : Rule Tree
-program = do
-  l ← a_level
-  pure (tree.Program l)
-
 -- iname { "," iname }
 unfoldable pub export_list : Rule (List Export)
-export_list = listed is_comma (mark sign.Comma) (terminal export_at)
+export_list = listed is_comma (mark sign.Comma) (word export_of)
 
 -- [ DEFINES iname { "," iname } ]
 unfoldable pub exports : Rule (List Export)
@@ -244,15 +111,143 @@ exports = choose (is_key key.Defines) (do keyword key.Defines; export_list) (pur
 unfoldable pub last_mark : Rule (Option ℕ)
 last_mark = choose (is_sign sign.Semicolon) (do at ← mark sign.Semicolon; pure (Some at)) last_point
 
--- PACKET ident [ DEFINES iname { "," iname } ] ":" units tail END PACKET [ ident ] [ ";" | "." ]
-unfoldable pub packet : Rule Tree
-packet = do
-  at ← keyword key.Packet
-  x ← ident
-  es ← exports
-  mark sign.Colon
-  l ← a_level
-  end_of key.Packet
-  end_name x
-  last_mark
-  pure (tree.Packet at x es l)
+-- A text is at most so deep. The body of a PROC or OP adds one to the depth of its units, refinements and parameters, which are at
+-- most `in_body` deep: one less.
+module _ (most in_body : ℕ) where
+  -- units tail
+  unfoldable pub body : Rule Body
+  body = do
+    us ← (phrases most).units
+    rs ← tail in_body
+    pure (record { units = us; refinements = rs })
+
+  -- "(" formals ")"
+  unfoldable pub formal_list : Rule (List Formal)
+  formal_list = do
+    mark sign.LeftRound
+    fs ← formals in_body
+    mark sign.RightRound
+    pure fs
+
+  -- [ "(" formals ")" ]
+  unfoldable pub optional_formals : Rule (List Formal)
+  optional_formals = choose (is_sign sign.LeftRound) formal_list (pure [])
+
+  -- PROC ident [ "(" formals ")" ] ":" units tail END PROC [ ident ]
+  unfoldable pub proc_parts : Rule ProcParts
+  proc_parts = do
+    at ← keyword key.Proc
+    x ← ident
+    fs ← optional_formals
+    mark sign.Colon
+    b ← body
+    end_of key.Proc
+    end_name x
+    pure (record { at = at; name = x; formals = fs; body = b })
+
+  -- the same behind the type of its result
+  unfoldable pub proc : Option TypePhrase → Rule LevelUnit
+  proc t = do
+    p ← proc_parts
+    pure (lu.Proc (start t p.at) t p.name p.formals p.body)
+
+  -- type ( CONST | VAR ) ident
+  unfoldable pub operand : Rule Formal
+  operand = do
+    t ← types in_body
+    a ← word access_of
+    x ← ident
+    pure (operand_of t a x)
+
+  -- the second operand, with a type of its own
+  unfoldable pub other_typed : Formal → Rule (List Formal)
+  other_typed f = do
+    mark sign.Comma
+    g ← operand
+    pure (f ∷ g ∷ [])
+
+  -- operand [ "," ident | "," operand ]: as many as the operator takes
+  unfoldable pub operands : Operator → Rule (List Formal)
+  operands o = do
+    f ← operand
+    choose goes_on (same_typed f) (choose (is_sign sign.Comma) (other_typed f) (one_operand o f))
+
+  -- OP opname "(" operands ")" ":" units tail END OP [ opname ]
+  unfoldable pub operator_parts : Rule OperatorParts
+  operator_parts = do
+    at ← keyword key.Op
+    o ← word operator_of
+    mark sign.LeftRound
+    fs ← operands o.operator
+    mark sign.RightRound
+    mark sign.Colon
+    b ← body
+    end_of key.Op
+    end_operator o
+    pure (record { at = at; name = o; formals = fs; body = b })
+
+  -- the same behind the type of its result
+  unfoldable pub operator : Option TypePhrase → Rule LevelUnit
+  operator t = do
+    p ← operator_parts
+    pure (lu.Op (start t p.at) t p.name p.formals p.body)
+
+  -- TYPE BOLD "=" type
+  unfoldable pub new_type : Rule LevelUnit
+  new_type = do
+    at ← keyword key.TypeWord
+    x ← bold
+    mark sign.Equal
+    t ← types most
+    pure (lu.NewType at x t)
+
+  -- VAR items | CONST constant_items
+  unfoldable pub declared_unit : TypePhrase → Rule LevelUnit
+  declared_unit t = do
+    v ← declared (phrases most) most t
+    pure (lu.Plain v)
+
+  -- type VAR items | type CONST constant_items | type PROC .. | type OP ..
+  unfoldable pub typed_unit : Rule LevelUnit
+  typed_unit = do
+    t ← types most
+    choose (is_key key.Proc) (proc (Some t)) (choose (is_key key.Op) (operator (Some t)) (declared_unit t))
+
+  -- a unit that begins with no type
+  unfoldable pub plain_unit : Rule LevelUnit
+  plain_unit = do
+    v ← plain (phrases most) most
+    pure (lu.Plain v)
+
+  -- lunit | TYPE BOLD "=" type | proc | op
+  unfoldable pub level_unit : Rule LevelUnit
+  level_unit = choose begins_typed typed_unit (choose (is_key key.TypeWord) new_type (choose (is_key key.Proc) (proc None) (choose (is_key key.Op) (operator None) plain_unit)))
+
+  -- unit { ";" unit }
+  unfoldable pub level_units : Rule (List LevelUnit)
+  level_units = listed (is_sign sign.Semicolon) (mark sign.Semicolon) level_unit
+
+  -- units tail
+  unfoldable pub a_level : Rule Level
+  a_level = do
+    us ← level_units
+    rs ← tail most
+    pure (record { units = us; refinements = rs })
+
+  unfoldable pub program : Rule Tree
+  program = do
+    l ← a_level
+    pure (tree.Program l)
+
+  -- PACKET ident [ DEFINES iname { "," iname } ] ":" units tail END PACKET [ ident ] [ ";" | "." ]
+  unfoldable pub packet : Rule Tree
+  packet = do
+    at ← keyword key.Packet
+    x ← ident
+    es ← exports
+    mark sign.Colon
+    l ← a_level
+    end_of key.Packet
+    end_name x
+    last_mark
+    pure (tree.Packet at x es l)

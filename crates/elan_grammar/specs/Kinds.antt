@@ -1,5 +1,8 @@
 -- The kinds of tokens: what the parser looks at.
 use Rattle.std.specs.Prelude.{ℕ, Bool, true, false, ◌||◌, if◌then◌else◌, ◌==◌, List, [], ◌∷◌, bytes_eq}
+use denote.Enum.Bare.{sameb}
+use Rattle.elan_tree.specs.contracts.token.Key as of_key
+use Rattle.elan_tree.specs.contracts.token.Sign as of_sign
 use Rattle.elan_tree.specs.declared.token.Token.{Token}
 use Rattle.elan_tree.specs.declared.token.Word.{Word}
 use Rattle.elan_tree.specs.declared.token.Word.TheVariants as w
@@ -12,76 +15,11 @@ use Rattle.elan_grammar.specs.declared.kind.Tier.TheVariants as tier
 use Rattle.elan_grammar.specs.declared.kind.Kind.{Kind}
 use Rattle.elan_grammar.specs.declared.kind.Kind.TheVariants as k
 
-abbrev pub key_number : Key → ℕ
-key_number key.Packet = 0
-key_number key.Defines = 1
-key_number key.End = 2
-key_number key.Proc = 3
-key_number key.Op = 4
-key_number key.TypeWord = 5
-key_number key.Let = 6
-key_number key.Const = 7
-key_number key.Var = 8
-key_number key.Row = 9
-key_number key.Struct = 10
-key_number key.Bound = 11
-key_number key.Int = 12
-key_number key.Bool = 13
-key_number key.Text = 14
-key_number key.Task = 15
-key_number key.Dataspace = 16
-key_number key.If = 17
-key_number key.Then = 18
-key_number key.Elif = 19
-key_number key.Else = 20
-key_number key.Fi = 21
-key_number key.Select = 22
-key_number key.Of = 23
-key_number key.Case = 24
-key_number key.Otherwise = 25
-key_number key.For = 26
-key_number key.From = 27
-key_number key.Upto = 28
-key_number key.Downto = 29
-key_number key.While = 30
-key_number key.Rep = 31
-key_number key.Repeat = 32
-key_number key.Until = 33
-key_number key.Per = 34
-key_number key.Leave = 35
-key_number key.With = 36
-key_number key.True = 37
-key_number key.False = 38
-key_number key.Concr = 39
-key_number key.Cand = 40
-key_number key.Cor = 41
-
-abbrev pub sign_number : Sign → ℕ
-sign_number sign.LeftRound = 0
-sign_number sign.RightRound = 1
-sign_number sign.LeftSquare = 2
-sign_number sign.RightSquare = 3
-sign_number sign.Comma = 4
-sign_number sign.Semicolon = 5
-sign_number sign.Point = 6
-sign_number sign.Colon = 7
-sign_number sign.DoubleColon = 8
-sign_number sign.Becomes = 9
-sign_number sign.Equal = 10
-sign_number sign.Unequal = 11
-sign_number sign.Less = 12
-sign_number sign.LessEqual = 13
-sign_number sign.Greater = 14
-sign_number sign.GreaterEqual = 15
-sign_number sign.Plus = 16
-sign_number sign.Minus = 17
-sign_number sign.Times = 18
-
 abbrev pub same_key : Key → Key → Bool
-same_key a b = key_number a == key_number b
+same_key = sameb of_key.the_type
 
 abbrev pub same_sign : Sign → Sign → Bool
-same_sign a b = sign_number a == sign_number b
+same_sign = sameb of_sign.the_type
 
 abbrev pub is_key : Key → Kind → Bool
 is_key a (k.Key b) = same_key a b
@@ -268,51 +206,80 @@ begins (k.Key key.If) = true
 begins (k.Key key.Select) = true
 begins _ = false
 
-abbrev pub tier_level : Tier → ℕ
-tier_level tier.Times = 1
-tier_level tier.And = 4
-tier_level tier.Or = 5
-tier_level tier.Other = 6
+-- ---- The levels of operators: those of a lower level hold more tightly.
 
--- The level of an operator, 1 for those that hold most tightly to 6; 7 for what ends each expression, and 0 for what can't follow an operand or goes on with it.
+-- no operator between two operands
+abbrev pub operand_level : ℕ
+operand_level = 0
+
+abbrev pub times_level : ℕ
+times_level = 1
+
+abbrev pub plus_level : ℕ
+plus_level = 2
+
+abbrev pub compare_level : ℕ
+compare_level = 3
+
+abbrev pub and_level : ℕ
+and_level = 4
+
+abbrev pub or_level : ℕ
+or_level = 5
+
+-- bold words; so each expression is of this level
+abbrev pub word_level : ℕ
+word_level = 6
+
+-- what ends each expression
+abbrev pub end_level : ℕ
+end_level = 7
+
+abbrev pub tier_level : Tier → ℕ
+tier_level tier.Times = times_level
+tier_level tier.And = and_level
+tier_level tier.Or = or_level
+tier_level tier.Other = word_level
+
+-- The level of an operator and of what ends an expression; 0 for what can't follow an operand or goes on with it.
 abbrev pub loose : Kind → ℕ
 loose (k.Bold t) = tier_level t
 loose (k.TypeName t) = tier_level t
-loose (k.Sign sign.Times) = 1
-loose (k.Sign sign.Plus) = 2
-loose (k.Sign sign.Minus) = 2
-loose (k.Sign sign.Equal) = 3
-loose (k.Sign sign.Unequal) = 3
-loose (k.Sign sign.Less) = 3
-loose (k.Sign sign.LessEqual) = 3
-loose (k.Sign sign.Greater) = 3
-loose (k.Sign sign.GreaterEqual) = 3
-loose (k.Key key.Cand) = 4
-loose (k.Key key.Cor) = 5
-loose (k.Sign sign.RightRound) = 7
-loose (k.Sign sign.RightSquare) = 7
-loose (k.Sign sign.Comma) = 7
-loose (k.Sign sign.Semicolon) = 7
-loose (k.Sign sign.Point) = 7
-loose (k.Sign sign.Becomes) = 7
-loose (k.Key key.Then) = 7
-loose (k.Key key.Elif) = 7
-loose (k.Key key.Else) = 7
-loose (k.Key key.Fi) = 7
-loose (k.Key key.End) = 7
-loose (k.Key key.Of) = 7
-loose (k.Key key.Case) = 7
-loose (k.Key key.Otherwise) = 7
-loose (k.Key key.Upto) = 7
-loose (k.Key key.Downto) = 7
-loose (k.Key key.While) = 7
-loose (k.Key key.Rep) = 7
-loose (k.Key key.Repeat) = 7
-loose (k.Key key.Until) = 7
-loose (k.Key key.Per) = 7
-loose k.GoesOn = 7
-loose k.Refines = 7
-loose k.Nothing = 7
+loose (k.Sign sign.Times) = times_level
+loose (k.Sign sign.Plus) = plus_level
+loose (k.Sign sign.Minus) = plus_level
+loose (k.Sign sign.Equal) = compare_level
+loose (k.Sign sign.Unequal) = compare_level
+loose (k.Sign sign.Less) = compare_level
+loose (k.Sign sign.LessEqual) = compare_level
+loose (k.Sign sign.Greater) = compare_level
+loose (k.Sign sign.GreaterEqual) = compare_level
+loose (k.Key key.Cand) = and_level
+loose (k.Key key.Cor) = or_level
+loose (k.Sign sign.RightRound) = end_level
+loose (k.Sign sign.RightSquare) = end_level
+loose (k.Sign sign.Comma) = end_level
+loose (k.Sign sign.Semicolon) = end_level
+loose (k.Sign sign.Point) = end_level
+loose (k.Sign sign.Becomes) = end_level
+loose (k.Key key.Then) = end_level
+loose (k.Key key.Elif) = end_level
+loose (k.Key key.Else) = end_level
+loose (k.Key key.Fi) = end_level
+loose (k.Key key.End) = end_level
+loose (k.Key key.Of) = end_level
+loose (k.Key key.Case) = end_level
+loose (k.Key key.Otherwise) = end_level
+loose (k.Key key.Upto) = end_level
+loose (k.Key key.Downto) = end_level
+loose (k.Key key.While) = end_level
+loose (k.Key key.Rep) = end_level
+loose (k.Key key.Repeat) = end_level
+loose (k.Key key.Until) = end_level
+loose (k.Key key.Per) = end_level
+loose k.GoesOn = end_level
+loose k.Refines = end_level
+loose k.Nothing = end_level
 loose _ = 0
 
 abbrev pub is_level : ℕ → Kind → Bool

@@ -1,5 +1,5 @@
 -- Which trees a list of tokens has. Begin here.
-use Rattle.std.specs.Prelude.{◌≢◌, Bool, true, false, []}
+use Rattle.std.specs.Prelude.{◌≢◌, ℕ, suc, Bool, true, false, []}
 use Rattle.elan_tree.specs.declared.tree.Tree.{Tree}
 use Rattle.elan_grammar.specs.Rule.{Tokens, Rule}
 use Rattle.elan_grammar.specs.Grammar.{program, packet}
@@ -19,10 +19,21 @@ use Rattle.elan_grammar.specs.Grammar.{program, packet}
 -- word begins with a type where VAR, CONST, PROC or OP follows, since none of these follows an operator. What the parser looks at to
 -- find its way, the tests of `choose` and `iterate`, is no part of what is read.
 -- Said in rules are: the name behind END (end_name, end_operator), and how many operands an operator has (operands).
+
+-- A text at most so deep, and in bodies one less.
+abbrev pub text_within : ℕ → ℕ → Bool → Rule Tree
+text_within most in_body true = packet most in_body
+text_within most in_body false = program most in_body
+
+-- A tree is at most 400 deep.
 abbrev pub text : Bool → Rule Tree
-text true = packet
-text false = program
+text is_packet = text_within 400 399 is_packet
 
 -- The tokens spell the tree: as a packet, or as a program. There is at least one.
 abbrev pub Reads : Bool → Tokens → Tree → Type 0
 Reads is_packet tokens t = (tokens ≢ []) × (text is_packet).reads t tokens []
+
+-- The same without the limit of 400: with any that serves. By the law `depth_alone` (elan_depth) a text reads as a tree exactly
+-- where the grammar without a limit reads it as that tree and the tree is at most 400 deep.
+abbrev pub ReadsAtAnyDepth : Bool → Tokens → Tree → Type 0
+ReadsAtAnyDepth is_packet tokens t = (tokens ≢ []) × ((in_body : ℕ) × (text_within (suc in_body) in_body is_packet).reads t tokens [])

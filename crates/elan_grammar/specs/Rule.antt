@@ -1,5 +1,5 @@
 -- Rules of a grammar: what each reads, and how.
-use Rattle.std.specs.Prelude.{◌≡◌, ◌≢◌, ℕ, zero, suc, ◌⊎◌, Bool, true, if◌then◌else◌, List, [], ◌∷◌, ◌++◌, Option, Some, None, Result, Ok, Err, length}
+use Rattle.std.specs.Prelude.{◌≡◌, ◌≢◌, ℕ, zero, suc, ◌≤◌, ◌<◌, ◌⊎◌, Bool, true, if◌then◌else◌, List, [], ◌∷◌, ◌++◌, Option, Some, None, Result, Ok, Err, length}
 use Rattle.elan_tree.specs.declared.token.Token.{Token}
 use Rattle.elan_grammar.specs.declared.error.ParseError.{ParseError}
 use Rattle.elan_grammar.specs.declared.error.ParseError.TheVariants.{NoMemory, NotElan}
@@ -112,7 +112,17 @@ abbrev pub Gives : {A : Type 0} → Outcome A → Result A ParseError → Tokens
 Gives outcome (Ok a) new = outcome ≡ Ok (a, new)
 Gives outcome (Err e) new = e ≢ NoMemory → outcome ≡ Err e
 
--- the same for what comes with its depth
-abbrev pub GivesTall : {A : Type 0} → Outcome A → Result (Tall A) ParseError → Tokens → Type 0
-GivesTall outcome (Ok a) new = outcome ≡ Ok (a.tree, new)
-GivesTall outcome (Err e) new = e ≢ NoMemory → outcome ≡ Err e
+abbrev pub AtMost : ℕ → ℕ → Type 0
+AtMost n height = height ≤ n
+
+abbrev pub Below : ℕ → ℕ → Type 0
+Below n height = height < n
+
+-- The depth of what was read is known, and within bounds.
+abbrev pub IsTall : {A : Type 0} → (A → ℕ) → (ℕ → Type 0) → Tall A → Type 0
+IsTall depth Fits a = (a.height ≡ depth a.tree) × Fits a.height
+
+-- The contract of a production: the function gives what the rule reads, with its depth.
+abbrev pub Parses : {A : Type 0} → Rule A → (A → ℕ) → (ℕ → Type 0) → Tokens → Result (Tall A) ParseError → Tokens → Type 0
+Parses rule depth Fits old (Ok a) new = (rule.run old ≡ Ok (a.tree, new)) × IsTall depth Fits a
+Parses rule depth Fits old (Err e) new = e ≢ NoMemory → rule.run old ≡ Err e

@@ -1,5 +1,5 @@
 -- How far the parser reads, and what it is tried with behind a front.
-use Rattle.std.specs.Prelude.{ℕ, Bool, List, [], ◌∷◌, length, Ok, Err}
+use Rattle.std.specs.Prelude.{ℕ, Bool, [], ◌∷◌, length, Ok, Err}
 use Rattle.elan_tree.specs.declared.token.Token.{Token}
 use Rattle.elan_tree.specs.declared.token.Word.{Word}
 use Rattle.elan_tree.specs.declared.token.Word.TheVariants as w

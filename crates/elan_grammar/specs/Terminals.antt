@@ -25,28 +25,31 @@ use Rattle.elan_tree.specs.declared.phrase.Operator.TheVariants as op
 use Rattle.elan_tree.specs.declared.tree.OperatorName.{OperatorName}
 use Rattle.elan_tree.specs.declared.tree.Export.{Export}
 use Rattle.elan_tree.specs.declared.tree.Export.TheVariants as export
+use Rattle.elan_grammar.specs.declared.kind.Kind.{Kind}
 use Rattle.elan_grammar.specs.declared.kind.Kind.TheVariants as k
 use Rattle.elan_grammar.specs.declared.joint.Joint.{Joint}
 use Rattle.elan_grammar.specs.declared.joint.Joint.TheVariants as joint
-use Rattle.elan_grammar.specs.Rule.{Rule, ◌>>=◌, ◌>>◌, terminal}
-use Rattle.elan_grammar.specs.Kinds.{kind_of, is_key, is_sign, is_init, is_symbol, is_rep, same_sign, loose, tier_of, tier_level}
+use Rattle.elan_grammar.specs.Rule.{Rule, ◌>>◌, terminal}
+use Rattle.elan_grammar.specs.Kinds.{kind_of, is_key, is_sign, is_init, is_symbol, is_rep, same_sign, loose, tier_of, tier_level, and_level, or_level}
 
--- ---- keywords and signs: each gives its place
+-- the next token, where f finds something in its place and in what it says
+abbrev pub in_word : {A : Type 0} → (ℕ → Word → Option A) → Token → Option A
+in_word f t = f t.at t.what
 
-abbrev pub key_at : Key → Token → Option ℕ
-key_at x t = if is_key x (kind_of t.what) then Some t.at else None
+abbrev pub word : {A : Type 0} → (ℕ → Word → Option A) → Rule A
+word f = terminal (in_word f)
 
-abbrev pub sign_at : Sign → Token → Option ℕ
-sign_at x t = if is_sign x (kind_of t.what) then Some t.at else None
+-- the place of the next token, where it is of these kinds
+abbrev pub place_if : (Kind → Bool) → Token → Option ℕ
+place_if b t = if b (kind_of t.what) then Some t.at else None
 
-abbrev pub init_at : Token → Option ℕ
-init_at t = if is_init (kind_of t.what) then Some t.at else None
+abbrev pub one_of : (Kind → Bool) → Rule ℕ
+one_of b = terminal (place_if b)
 
-abbrev pub rep_at : Token → Option ℕ
-rep_at t = if is_rep (kind_of t.what) then Some t.at else None
+-- ---- keywords and signs
 
 abbrev pub keyword : Key → Rule ℕ
-keyword x = terminal (key_at x)
+keyword x = one_of (is_key x)
 
 -- END and a keyword
 unfoldable pub end_of : Key → Rule ℕ
@@ -55,15 +58,15 @@ end_of x = do
   keyword x
 
 abbrev pub mark : Sign → Rule ℕ
-mark x = terminal (sign_at x)
+mark x = one_of (is_sign x)
 
 -- "::" | ":="
 abbrev pub init_mark : Rule ℕ
-init_mark = terminal init_at
+init_mark = one_of is_init
 
 -- REP | REPEAT
 abbrev pub rep : Rule ℕ
-rep = terminal rep_at
+rep = one_of is_rep
 
 -- ---- names
 
@@ -74,21 +77,15 @@ abbrev pub ident_of : ℕ → Word → Option Name
 ident_of at (w.Ident b) = Some (named_at at b)
 ident_of at _ = None
 
-abbrev pub ident_at : Token → Option Name
-ident_at t = ident_of t.at t.what
-
 abbrev pub ident : Rule Name
-ident = terminal ident_at
+ident = word ident_of
 
 abbrev pub bold_of : ℕ → Word → Option Name
 bold_of at (w.Bold b) = Some (named_at at b)
 bold_of at _ = None
 
-abbrev pub bold_at : Token → Option Name
-bold_at t = bold_of t.at t.what
-
 abbrev pub bold : Rule Name
-bold = terminal bold_at
+bold = word bold_of
 
 -- ident | BOLD
 abbrev pub leaving_of : ℕ → Word → Option Name
@@ -96,19 +93,14 @@ leaving_of at (w.Ident b) = Some (named_at at b)
 leaving_of at (w.Bold b) = Some (named_at at b)
 leaving_of at _ = None
 
-abbrev pub leaving_at : Token → Option Name
-leaving_at t = leaving_of t.at t.what
-
 -- the identifier that is this one
-abbrev pub same_of : List ℕ → Word → Option (Unit {0})
-same_of text (w.Ident b) = if bytes_eq b text then Some tt else None
-same_of text _ = None
-
-abbrev pub same_at : Name → Token → Option (Unit {0})
-same_at x t = same_of x.text t.what
+abbrev pub same_of : Name → ℕ → Word → Option (Unit {0})
+same_of x at (w.Ident b) = if bytes_eq b x.text then Some tt else None
+same_of x at _ = None
 
 -- ---- what stands in types, constants and labels
 
+-- INT | BOOL | TEXT | TASK | DATASPACE
 abbrev pub simple_of : ℕ → Word → Option TypePhrase
 simple_of at (w.Key key.Int) = Some (ty.Int at)
 simple_of at (w.Key key.Bool) = Some (ty.Bool at)
@@ -117,28 +109,19 @@ simple_of at (w.Key key.Task) = Some (ty.Task at)
 simple_of at (w.Key key.Dataspace) = Some (ty.Dataspace at)
 simple_of at _ = None
 
--- INT | BOOL | TEXT | TASK | DATASPACE
-abbrev pub simple_at : Token → Option TypePhrase
-simple_at t = simple_of t.at t.what
-
+-- number | ident
 abbrev pub size_of : ℕ → Word → Option Size
 size_of at (w.Number n) = Some (size.Number at n)
 size_of at (w.Ident b) = Some (size.Named (named_at at b))
 size_of at _ = None
 
--- number | ident
-abbrev pub size_at : Token → Option Size
-size_at t = size_of t.at t.what
-
-abbrev pub access_of : Word → Option Access
-access_of (w.Key key.Const) = Some access.Const
-access_of (w.Key key.Var) = Some access.Var
-access_of _ = None
-
 -- CONST | VAR
-abbrev pub access_at : Token → Option Access
-access_at t = access_of t.what
+abbrev pub access_of : ℕ → Word → Option Access
+access_of at (w.Key key.Const) = Some access.Const
+access_of at (w.Key key.Var) = Some access.Var
+access_of at _ = None
 
+-- number | textdenoter | TRUE | FALSE
 abbrev pub constant_of : ℕ → Word → Option Constant
 constant_of at (w.Number n) = Some (constant.Number at n)
 constant_of at (w.Text b) = Some (constant.Text at b)
@@ -146,29 +129,20 @@ constant_of at (w.Key key.True) = Some (constant.Truth at true)
 constant_of at (w.Key key.False) = Some (constant.Truth at false)
 constant_of at _ = None
 
--- number | textdenoter | TRUE | FALSE
-abbrev pub constant_at : Token → Option Constant
-constant_at t = constant_of t.at t.what
-
+-- number | ident
 abbrev pub label_of : ℕ → Word → Option Label
 label_of at (w.Number n) = Some (label.Number at n)
 label_of at (w.Ident b) = Some (label.Named (named_at at b))
 label_of at _ = None
 
--- number | ident
-abbrev pub label_at : Token → Option Label
-label_at t = label_of t.at t.what
-
-abbrev pub negated_of : Word → Option ℤ
-negated_of (w.Number n) = if int_lt n (pos 0) then None else Some (neg_ℤ n)
-negated_of _ = None
-
 -- A number behind a minus. No text spells a token of a negative number, and such a token is not taken here.
-abbrev pub negated_at : Token → Option ℤ
-negated_at t = negated_of t.what
+abbrev pub negated_of : ℕ → Word → Option ℤ
+negated_of at (w.Number n) = if int_lt n (pos 0) then None else Some (neg_ℤ n)
+negated_of at _ = None
 
 -- ---- what stands in expressions
 
+-- number | textdenoter | TRUE | FALSE
 abbrev pub literal_of : ℕ → Word → Option Expr
 literal_of at (w.Number n) = Some (e.Number at n)
 literal_of at (w.Text b) = Some (e.Text at b)
@@ -176,46 +150,28 @@ literal_of at (w.Key key.True) = Some (e.Truth at true)
 literal_of at (w.Key key.False) = Some (e.Truth at false)
 literal_of at _ = None
 
--- number | textdenoter | TRUE | FALSE
-abbrev pub literal_at : Token → Option Expr
-literal_at t = literal_of t.at t.what
-
+-- "+" | "-" | BOLD
 abbrev pub monadic_of : ℕ → Word → Option (ℕ × Operator)
 monadic_of at (w.Sign sign.Plus) = Some (at, op.Sign sign.Plus)
 monadic_of at (w.Sign sign.Minus) = Some (at, op.Sign sign.Minus)
 monadic_of at (w.Bold b) = Some (at, op.Named b)
 monadic_of at _ = None
 
--- "+" | "-" | BOLD
-abbrev pub monadic_at : Token → Option (ℕ × Operator)
-monadic_at t = monadic_of t.at t.what
-
--- CAND and COR are no operators that a program may define.
-abbrev pub joint_of : ℕ → Word → Option Joint
-joint_of i (w.Bold b) = if tier_level (tier_of b) == i then Some (joint.Operator (op.Named b)) else None
-joint_of i (w.Sign x) = if loose (k.Sign x) == i then Some (joint.Operator (op.Sign x)) else None
-joint_of i (w.Key key.Cand) = if 4 == i then Some joint.Cand else None
-joint_of i (w.Key key.Cor) = if 5 == i then Some joint.Cor else None
-joint_of i _ = None
-
--- an operator of a level
-abbrev pub joint_at : ℕ → Token → Option Joint
-joint_at i t = joint_of i t.what
+-- An operator of a level. CAND and COR are no operators that a program may define.
+abbrev pub joint_of : ℕ → ℕ → Word → Option Joint
+joint_of i at (w.Bold b) = if tier_level (tier_of b) == i then Some (joint.Operator (op.Named b)) else None
+joint_of i at (w.Sign x) = if loose (k.Sign x) == i then Some (joint.Operator (op.Sign x)) else None
+joint_of i at (w.Key key.Cand) = if and_level == i then Some joint.Cand else None
+joint_of i at (w.Key key.Cor) = if or_level == i then Some joint.Cor else None
+joint_of i at _ = None
 
 -- ---- names of operators
 
-abbrev pub operator_of : Word → Option Operator
-operator_of (w.Bold b) = Some (op.Named b)
-operator_of (w.Sign x) = if is_symbol x then Some (op.Sign x) else None
-operator_of _ = None
-
-abbrev pub operator_named : ℕ → Option Operator → Option OperatorName
-operator_named at (Some o) = Some (record { at = at; operator = o })
-operator_named at None = None
-
 -- BOLD | symbol
-abbrev pub operator_at : Token → Option OperatorName
-operator_at t = operator_named t.at (operator_of t.what)
+abbrev pub operator_of : ℕ → Word → Option OperatorName
+operator_of at (w.Bold b) = Some (record { at = at; operator = op.Named b })
+operator_of at (w.Sign x) = if is_symbol x then Some (record { at = at; operator = op.Sign x }) else None
+operator_of at _ = None
 
 abbrev pub same_operator : Operator → Word → Bool
 same_operator (op.Named a) (w.Bold b) = bytes_eq b a
@@ -223,15 +179,12 @@ same_operator (op.Sign x) (w.Sign y) = is_symbol y && same_sign x y
 same_operator _ _ = false
 
 -- the name of an operator that is this one
-abbrev pub same_operator_at : OperatorName → Token → Option (Unit {0})
-same_operator_at o t = if same_operator o.operator t.what then Some tt else None
+abbrev pub same_operator_of : OperatorName → ℕ → Word → Option (Unit {0})
+same_operator_of o at v = if same_operator o.operator v then Some tt else None
 
+-- ident | BOLD | symbol
 abbrev pub export_of : ℕ → Word → Option Export
 export_of at (w.Ident b) = Some (export.Ident (named_at at b))
 export_of at (w.Bold b) = Some (export.Bold (named_at at b))
 export_of at (w.Sign x) = if is_symbol x then Some (export.Sign at x) else None
 export_of at _ = None
-
--- ident | BOLD | symbol
-abbrev pub export_at : Token → Option Export
-export_at t = export_of t.at t.what

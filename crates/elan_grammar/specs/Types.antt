@@ -14,8 +14,8 @@ use Rattle.elan_tree.specs.declared.written_type.LetItem.TheVariants as let_form
 use Rattle.elan_tree.specs.declared.written_type.Label.{Label}
 use Rattle.elan_tree.specs.declared.written_type.Label.TheVariants as label_form
 use Rattle.elan_grammar.specs.Kinds.{is_bold, is_key, is_sign, is_ident, is_comma, goes_on}
-use Rattle.elan_grammar.specs.Rule.{Rule, pure, fail, ◌>>=◌, ◌>>◌, terminal, only, choose, listed}
-use Rattle.elan_grammar.specs.Terminals.{keyword, mark, ident, bold, simple_at, size_at, access_at, constant_at, negated_at, label_at}
+use Rattle.elan_grammar.specs.Rule.{Rule, pure, fail, ◌>>=◌, ◌>>◌, only, choose, listed}
+use Rattle.elan_grammar.specs.Terminals.{word, keyword, mark, ident, bold, simple_of, size_of, access_of, constant_of, negated_of, label_of}
 
 -- ident { "," ident }
 unfoldable pub names : Rule (List Name)
@@ -51,7 +51,7 @@ module _ (inner : Rule TypePhrase) (n : ℕ) where
   row = do
     type_room n
     at ← keyword key.Row
-    s ← terminal size_at
+    s ← word size_of
     t ← inner
     pure (ty.Row at s t)
 
@@ -67,7 +67,7 @@ module _ (inner : Rule TypePhrase) (n : ℕ) where
 
   -- INT | BOOL | TEXT | TASK | DATASPACE | BOLD | ROW size type | STRUCT "(" fields ")"
   unfoldable pub a_type : Rule TypePhrase
-  a_type = choose is_bold (named_type inner) (choose (is_key key.Row) row (choose (is_key key.Struct) structure (terminal simple_at)))
+  a_type = choose is_bold (named_type inner) (choose (is_key key.Row) row (choose (is_key key.Struct) structure (word simple_of)))
 
 -- the types at most n deep
 unfoldable pub types : ℕ → Rule TypePhrase
@@ -78,7 +78,7 @@ types (suc n) = a_type (types n) n
 unfoldable pub formal : ℕ → Rule Formal
 formal n = do
   t ← types n
-  a ← terminal access_at
+  a ← word access_of
   xs ← names
   pure (record { of = t; access = a; names = xs })
 
@@ -90,12 +90,12 @@ formals n = listed is_comma (mark sign.Comma) (formal n)
 unfoldable pub negative : Rule Constant
 negative = do
   at ← mark sign.Minus
-  n ← terminal negated_at
+  n ← word negated_of
   pure (constant_form.Number at n)
 
 -- [ "-" ] number | textdenoter | TRUE | FALSE
 unfoldable pub constant : Rule Constant
-constant = choose (is_sign sign.Minus) negative (terminal constant_at)
+constant = choose (is_sign sign.Minus) negative (word constant_of)
 
 -- ident "=" constant
 unfoldable pub let_constant : Rule LetItem
@@ -125,12 +125,12 @@ let_items n = listed is_comma (mark sign.Comma) (let_item n)
 unfoldable pub negative_label : Rule Label
 negative_label = do
   at ← mark sign.Minus
-  n ← terminal negated_at
+  n ← word negated_of
   pure (label_form.Number at n)
 
 -- [ "-" ] number | ident
 unfoldable pub label : Rule Label
-label = choose (is_sign sign.Minus) negative_label (terminal label_at)
+label = choose (is_sign sign.Minus) negative_label (word label_of)
 
 -- label { "," label }
 unfoldable pub labels : Rule (List Label)

@@ -14,9 +14,9 @@ use Rattle.elan_tree.specs.declared.phrase.Limit.TheVariants as limit
 use Rattle.elan_tree.specs.declared.phrase.Unit.{Unit as Phrase}
 use Rattle.elan_tree.specs.declared.phrase.Unit.TheVariants as u
 use Rattle.elan_grammar.specs.declared.heading.LoopParts.{LoopParts}
-use Rattle.elan_grammar.specs.Kinds.{is_key, is_sign, is_comma, is_init, is_rep, begins, begins_typed}
-use Rattle.elan_grammar.specs.Rule.{Rule, pure, fail, ◌>>=◌, ◌>>◌, terminal, only, choose, optional, listed}
-use Rattle.elan_grammar.specs.Terminals.{keyword, mark, ident, init_mark, rep, leaving_at}
+use Rattle.elan_grammar.specs.Kinds.{is_key, is_sign, is_comma, is_init, is_rep, begins, begins_typed, word_level}
+use Rattle.elan_grammar.specs.Rule.{Rule, pure, fail, ◌>>=◌, ◌>>◌, only, choose, optional, listed}
+use Rattle.elan_grammar.specs.Terminals.{word, keyword, mark, ident, init_mark, rep, leaving_of}
 use Rattle.elan_grammar.specs.Types.{types, let_items}
 use Rattle.elan_grammar.specs.Expressions.{Language, level}
 use Rattle.elan_grammar.specs.Depth.{expr_depth, expr_place, type_place}
@@ -38,11 +38,11 @@ module _ (inner : Language) (n : ℕ) where
 
   -- e1 in a form
   abbrev inner_e1 : Rule Expr
-  inner_e1 = inner.level 6
+  inner_e1 = inner.level word_level
 
   -- e1 as a unit, or as an initial value
   abbrev e1 : Rule Expr
-  e1 = level inner n 6
+  e1 = level inner n word_level
 
   -- key e1
   abbrev pub behind : Key → Rule Expr
@@ -146,7 +146,7 @@ module _ (inner : Language) (n : ℕ) where
   leave = do
     room
     at ← keyword key.Leave
-    x ← terminal leaving_at
+    x ← word leaving_of
     a ← with_part
     pure (u.Leave at x a)
 

@@ -1,7 +1,7 @@
 //! Bodies with their refinements, PROC and OP.
 
-ghost use Rattle.std.specs.Prelude.{◌≡◌, ◌≤◌, ◌<◌, ◌+◌, max, IfOk};
-ghost use Rattle.elan_grammar.specs.Rule.{Gives, GivesTall};
+ghost use Rattle.std.specs.Prelude.{◌≡◌, ◌+◌, max, IfOk};
+ghost use Rattle.elan_grammar.specs.Rule.{Gives, Parses, AtMost, IsTall};
 ghost use Rattle.elan_grammar.specs.Grammar as spec;
 ghost use Rattle.elan_grammar.specs.Depth.{formal_depth, formals_depth, option_type_depth, refinement_depth, refinements_depth, body_depth, level_unit_depth};
 
@@ -30,9 +30,7 @@ fn refinement(
     cursor: &mut Cursor<'_>,
     depth: u16,
 ) -> Result<Tall<Refinement>, ParseError>
-    ensures reads { GivesTall ((spec.refinement depth).run cursor.old.rest.now) result cursor.new.rest.now }
-    ensures tall { IfOk result (λ a. a.height ≡ refinement_depth a.tree) }
-    ensures low { IfOk result (λ a. a.height ≤ depth) }
+    ensures { Parses (spec.refinement depth) refinement_depth (AtMost depth) cursor.old.rest.now result cursor.new.rest.now }
 {
     let name = cursor.ident(alloc)?;
     let (name, _) = and(name, cursor.mark(Sign::Colon))?;
@@ -64,9 +62,7 @@ fn refinement_list(
     cursor: &mut Cursor<'_>,
     depth: u16,
 ) -> Result<Tall<List<Refinement>>, ParseError>
-    ensures reads { GivesTall ((spec.refinement_list depth).run cursor.old.rest.now) result cursor.new.rest.now }
-    ensures tall { IfOk result (λ a. a.height ≡ refinements_depth a.tree) }
-    ensures low { IfOk result (λ a. a.height ≤ depth) }
+    ensures { Parses (spec.refinement_list depth) refinements_depth (AtMost depth) cursor.old.rest.now result cursor.new.rest.now }
 {
     let mut row = single(alloc, refinement(alloc, cursor, depth))?;
     for _turn in 0..cursor.rest.len() {
@@ -85,9 +81,7 @@ fn refinements(
     cursor: &mut Cursor<'_>,
     depth: u16,
 ) -> Result<Tall<List<Refinement>>, ParseError>
-    ensures reads { GivesTall ((spec.refinements depth).run cursor.old.rest.now) result cursor.new.rest.now }
-    ensures tall { IfOk result (λ a. a.height ≡ refinements_depth a.tree) }
-    ensures low { IfOk result (λ a. a.height ≤ depth) }
+    ensures { Parses (spec.refinements depth) refinements_depth (AtMost depth) cursor.old.rest.now result cursor.new.rest.now }
 {
     let row = refinement_list(alloc, cursor, depth)?;
     let (row, _) = and(row, last_point(cursor))?;
@@ -100,9 +94,7 @@ fn point_tail(
     cursor: &mut Cursor<'_>,
     depth: u16,
 ) -> Result<Tall<List<Refinement>>, ParseError>
-    ensures reads { GivesTall ((spec.point_tail depth).run cursor.old.rest.now) result cursor.new.rest.now }
-    ensures tall { IfOk result (λ a. a.height ≡ refinements_depth a.tree) }
-    ensures low { IfOk result (λ a. a.height ≤ depth) }
+    ensures { Parses (spec.point_tail depth) refinements_depth (AtMost depth) cursor.old.rest.now result cursor.new.rest.now }
 {
     cursor.mark(Sign::Point)?;
     if is_ident(cursor.ahead()) {
@@ -121,9 +113,7 @@ pub fn tail(
     cursor: &mut Cursor<'_>,
     depth: u16,
 ) -> Result<Tall<List<Refinement>>, ParseError>
-    ensures reads { GivesTall ((spec.tail depth).run cursor.old.rest.now) result cursor.new.rest.now }
-    ensures tall { IfOk result (λ a. a.height ≡ refinements_depth a.tree) }
-    ensures low { IfOk result (λ a. a.height ≤ depth) }
+    ensures { Parses (spec.tail depth) refinements_depth (AtMost depth) cursor.old.rest.now result cursor.new.rest.now }
 {
     if is_point(cursor.ahead()) {
         return point_tail(alloc, cursor, depth);
@@ -136,9 +126,7 @@ pub fn tail(
 
 #[tactic(auto, unfolding(elan_grammar::specs::Grammar::body))]
 fn body(alloc: Global, cursor: &mut Cursor<'_>) -> Result<Tall<Body>, ParseError>
-    ensures reads { GivesTall ((spec.body).run cursor.old.rest.now) result cursor.new.rest.now }
-    ensures tall { IfOk result (λ a. a.height ≡ body_depth a.tree) }
-    ensures low { IfOk result (λ a. a.height ≤ 399) }
+    ensures { Parses (spec.body 400 399) body_depth (AtMost 399) cursor.old.rest.now result cursor.new.rest.now }
 {
     let units = units(alloc, cursor, MOST)?;
     let (units, refinements) = and(units, tail(alloc, cursor, MOST_IN_BODY))?;
@@ -175,9 +163,7 @@ fn end_operator(cursor: &mut Cursor<'_>, name: &OperatorName) -> Result<Option<(
 
 #[tactic(auto, unfolding(elan_grammar::specs::Grammar::formal_list))]
 fn formal_list(alloc: Global, cursor: &mut Cursor<'_>) -> Result<Tall<List<Formal>>, ParseError>
-    ensures reads { GivesTall ((spec.formal_list).run cursor.old.rest.now) result cursor.new.rest.now }
-    ensures tall { IfOk result (λ a. a.height ≡ formals_depth a.tree) }
-    ensures low { IfOk result (λ a. a.height ≤ 399) }
+    ensures { Parses (spec.formal_list 400 399) formals_depth (AtMost 399) cursor.old.rest.now result cursor.new.rest.now }
 {
     cursor.mark(Sign::LeftRound)?;
     let row = formals(alloc, cursor, MOST_IN_BODY)?;
@@ -190,9 +176,7 @@ fn optional_formals(
     alloc: Global,
     cursor: &mut Cursor<'_>,
 ) -> Result<Tall<List<Formal>>, ParseError>
-    ensures reads { GivesTall ((spec.optional_formals).run cursor.old.rest.now) result cursor.new.rest.now }
-    ensures tall { IfOk result (λ a. a.height ≡ formals_depth a.tree) }
-    ensures low { IfOk result (λ a. a.height ≤ 399) }
+    ensures { Parses (spec.optional_formals 400 399) formals_depth (AtMost 399) cursor.old.rest.now result cursor.new.rest.now }
 {
     if cursor.sees_sign(Sign::LeftRound) {
         return formal_list(alloc, cursor);
@@ -215,9 +199,7 @@ fn start(of: &Option<TypePhrase>, at: u32) -> u32
 
 #[tactic(auto, unfolding(elan_grammar::specs::Grammar::proc_parts))]
 fn proc_parts(alloc: Global, cursor: &mut Cursor<'_>) -> Result<Tall<ProcParts>, ParseError>
-    ensures reads { GivesTall ((spec.proc_parts).run cursor.old.rest.now) result cursor.new.rest.now }
-    ensures tall { IfOk result (λ a. a.height ≡ max (formals_depth a.tree.formals) (body_depth a.tree.body) + 1) }
-    ensures low { IfOk result (λ a. a.height ≤ 400) }
+    ensures { Parses (spec.proc_parts 400 399) (λ t. max (formals_depth t.formals) (body_depth t.body) + 1) (AtMost 400) cursor.old.rest.now result cursor.new.rest.now }
 {
     let at = cursor.keyword(Key::Proc)?;
     let name = cursor.ident(alloc)?;
@@ -245,11 +227,8 @@ pub fn proc(
     cursor: &mut Cursor<'_>,
     of: Tall<Option<TypePhrase>>,
 ) -> Result<Tall<LevelUnit>, ParseError>
-    requires tall { of.height ≡ option_type_depth of.tree }
-    requires low { of.height ≤ 400 }
-    ensures reads { GivesTall ((spec.proc of.tree).run cursor.old.rest.now) result cursor.new.rest.now }
-    ensures tall { IfOk result (λ a. a.height ≡ level_unit_depth a.tree) }
-    ensures low { IfOk result (λ a. a.height ≤ 400) }
+    requires tall { IsTall option_type_depth (AtMost 400) of }
+    ensures { Parses (spec.proc 400 399 of.tree) level_unit_depth (AtMost 400) cursor.old.rest.now result cursor.new.rest.now }
 {
     let (of, parts) = and(of, proc_parts(alloc, cursor))?;
     let height = of.height.max(parts.height);
@@ -289,9 +268,7 @@ fn operand_of(alloc: Global, of: TypePhrase, access: Access, name: Name) -> Resu
 
 #[tactic(auto, unfolding(elan_grammar::specs::Grammar::operand))]
 fn operand(alloc: Global, cursor: &mut Cursor<'_>) -> Result<Tall<Formal>, ParseError>
-    ensures reads { GivesTall ((spec.operand).run cursor.old.rest.now) result cursor.new.rest.now }
-    ensures tall { IfOk result (λ a. a.height ≡ formal_depth a.tree) }
-    ensures low { IfOk result (λ a. a.height ≤ 399) }
+    ensures { Parses (spec.operand 400 399) formal_depth (AtMost 399) cursor.old.rest.now result cursor.new.rest.now }
 {
     let of = types(alloc, cursor, MOST_IN_BODY)?;
     let (of, access) = and(of, cursor.access())?;
@@ -307,11 +284,8 @@ fn same_typed(
     cursor: &mut Cursor<'_>,
     first: Tall<Formal>,
 ) -> Result<Tall<List<Formal>>, ParseError>
-    requires tall { first.height ≡ formal_depth first.tree }
-    requires low { first.height ≤ 399 }
-    ensures reads { GivesTall ((spec.same_typed first.tree).run cursor.old.rest.now) result cursor.new.rest.now }
-    ensures tall { IfOk result (λ a. a.height ≡ formals_depth a.tree) }
-    ensures low { IfOk result (λ a. a.height ≤ 399) }
+    requires tall { IsTall formal_depth (AtMost 399) first }
+    ensures { Parses (spec.same_typed first.tree) formals_depth (AtMost 399) cursor.old.rest.now result cursor.new.rest.now }
 {
     let (first, _) = and(first, cursor.mark(Sign::Comma))?;
     let (first, second) = and(first, cursor.ident(alloc))?;
@@ -328,11 +302,8 @@ fn other_typed(
     cursor: &mut Cursor<'_>,
     first: Tall<Formal>,
 ) -> Result<Tall<List<Formal>>, ParseError>
-    requires tall { first.height ≡ formal_depth first.tree }
-    requires low { first.height ≤ 399 }
-    ensures reads { GivesTall ((spec.other_typed first.tree).run cursor.old.rest.now) result cursor.new.rest.now }
-    ensures tall { IfOk result (λ a. a.height ≡ formals_depth a.tree) }
-    ensures low { IfOk result (λ a. a.height ≤ 399) }
+    requires tall { IsTall formal_depth (AtMost 399) first }
+    ensures { Parses (spec.other_typed 400 399 first.tree) formals_depth (AtMost 399) cursor.old.rest.now result cursor.new.rest.now }
 {
     let (first, _) = and(first, cursor.mark(Sign::Comma))?;
     let row = single(alloc, Ok(first))?;
@@ -346,11 +317,8 @@ fn one_operand(
     operator: &Operator,
     first: Tall<Formal>,
 ) -> Result<Tall<List<Formal>>, ParseError>
-    requires tall { first.height ≡ formal_depth first.tree }
-    requires low { first.height ≤ 399 }
-    ensures reads { GivesTall ((spec.one_operand operator.now first.tree).run cursor.old.rest.now) result cursor.new.rest.now }
-    ensures tall { IfOk result (λ a. a.height ≡ formals_depth a.tree) }
-    ensures low { IfOk result (λ a. a.height ≤ 399) }
+    requires tall { IsTall formal_depth (AtMost 399) first }
+    ensures { Parses (spec.one_operand operator.now first.tree) formals_depth (AtMost 399) cursor.old.rest.now result cursor.new.rest.now }
 {
     if !takes_one(operator) {
         return Err(cursor.refuse());
@@ -365,9 +333,7 @@ fn operands(
     cursor: &mut Cursor<'_>,
     operator: &Operator,
 ) -> Result<Tall<List<Formal>>, ParseError>
-    ensures reads { GivesTall ((spec.operands operator.now).run cursor.old.rest.now) result cursor.new.rest.now }
-    ensures tall { IfOk result (λ a. a.height ≡ formals_depth a.tree) }
-    ensures low { IfOk result (λ a. a.height ≤ 399) }
+    ensures { Parses (spec.operands 400 399 operator.now) formals_depth (AtMost 399) cursor.old.rest.now result cursor.new.rest.now }
 {
     let first = operand(alloc, cursor)?;
     let kind = cursor.ahead();
@@ -382,9 +348,7 @@ fn operands(
 
 #[tactic(auto, unfolding(elan_grammar::specs::Grammar::operator_parts))]
 fn operator_parts(alloc: Global, cursor: &mut Cursor<'_>) -> Result<Tall<OperatorParts>, ParseError>
-    ensures reads { GivesTall ((spec.operator_parts).run cursor.old.rest.now) result cursor.new.rest.now }
-    ensures tall { IfOk result (λ a. a.height ≡ max (formals_depth a.tree.formals) (body_depth a.tree.body) + 1) }
-    ensures low { IfOk result (λ a. a.height ≤ 400) }
+    ensures { Parses (spec.operator_parts 400 399) (λ t. max (formals_depth t.formals) (body_depth t.body) + 1) (AtMost 400) cursor.old.rest.now result cursor.new.rest.now }
 {
     let at = cursor.keyword(Key::Op)?;
     let name = cursor.operator(alloc)?;
@@ -415,11 +379,8 @@ pub fn operator(
     cursor: &mut Cursor<'_>,
     of: Tall<Option<TypePhrase>>,
 ) -> Result<Tall<LevelUnit>, ParseError>
-    requires tall { of.height ≡ option_type_depth of.tree }
-    requires low { of.height ≤ 400 }
-    ensures reads { GivesTall ((spec.operator of.tree).run cursor.old.rest.now) result cursor.new.rest.now }
-    ensures tall { IfOk result (λ a. a.height ≡ level_unit_depth a.tree) }
-    ensures low { IfOk result (λ a. a.height ≤ 400) }
+    requires tall { IsTall option_type_depth (AtMost 400) of }
+    ensures { Parses (spec.operator 400 399 of.tree) level_unit_depth (AtMost 400) cursor.old.rest.now result cursor.new.rest.now }
 {
     let (of, parts) = and(of, operator_parts(alloc, cursor))?;
     let height = of.height.max(parts.height);

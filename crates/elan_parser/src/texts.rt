@@ -1,7 +1,7 @@
 //! Whole texts: programs and packets.
 
 ghost use Rattle.std.specs.Prelude.{◌≡◌, ℕ, Err, ◌≤◌, IfOk};
-ghost use Rattle.elan_grammar.specs.Rule.{Gives, GivesTall};
+ghost use Rattle.elan_grammar.specs.Rule.{Gives, Parses, AtMost, IsTall};
 ghost use Rattle.elan_grammar.specs.Grammar as spec;
 ghost use Rattle.elan_grammar.specs.Reads as whole;
 ghost use Rattle.elan_grammar.specs.Reads.{Reads};
@@ -21,9 +21,7 @@ use type_parser::types;
 
 #[tactic(auto, unfolding(elan_grammar::specs::Grammar::new_type))]
 fn new_type(alloc: Global, cursor: &mut Cursor<'_>) -> Result<Tall<LevelUnit>, ParseError>
-    ensures reads { GivesTall ((spec.new_type).run cursor.old.rest.now) result cursor.new.rest.now }
-    ensures tall { IfOk result (λ a. a.height ≡ level_unit_depth a.tree) }
-    ensures low { IfOk result (λ a. a.height ≤ 400) }
+    ensures { Parses (spec.new_type 400 399) level_unit_depth (AtMost 400) cursor.old.rest.now result cursor.new.rest.now }
 {
     let at = cursor.keyword(Key::TypeWord)?;
     let name = cursor.bold(alloc)?;
@@ -46,11 +44,8 @@ fn declared_unit(
     cursor: &mut Cursor<'_>,
     of: Tall<TypePhrase>,
 ) -> Result<Tall<LevelUnit>, ParseError>
-    requires tall { of.height ≡ type_depth of.tree }
-    requires low { of.height ≤ 400 }
-    ensures reads { GivesTall ((spec.declared_unit of.tree).run cursor.old.rest.now) result cursor.new.rest.now }
-    ensures tall { IfOk result (λ a. a.height ≡ level_unit_depth a.tree) }
-    ensures low { IfOk result (λ a. a.height ≤ 400) }
+    requires tall { IsTall type_depth (AtMost 400) of }
+    ensures { Parses (spec.declared_unit 400 399 of.tree) level_unit_depth (AtMost 400) cursor.old.rest.now result cursor.new.rest.now }
 {
     let unit = declared(alloc, cursor, MOST, of)?;
     Ok(Tall {
@@ -61,9 +56,7 @@ fn declared_unit(
 
 #[tactic(auto, unfolding(elan_grammar::specs::Grammar::typed_unit))]
 fn typed_unit(alloc: Global, cursor: &mut Cursor<'_>) -> Result<Tall<LevelUnit>, ParseError>
-    ensures reads { GivesTall ((spec.typed_unit).run cursor.old.rest.now) result cursor.new.rest.now }
-    ensures tall { IfOk result (λ a. a.height ≡ level_unit_depth a.tree) }
-    ensures low { IfOk result (λ a. a.height ≤ 400) }
+    ensures { Parses (spec.typed_unit 400 399) level_unit_depth (AtMost 400) cursor.old.rest.now result cursor.new.rest.now }
 {
     let of = types(alloc, cursor, MOST)?;
     let kind = cursor.ahead();
@@ -83,9 +76,7 @@ fn typed_unit(alloc: Global, cursor: &mut Cursor<'_>) -> Result<Tall<LevelUnit>,
 
 #[tactic(auto, unfolding(elan_grammar::specs::Grammar::plain_unit))]
 fn plain_unit(alloc: Global, cursor: &mut Cursor<'_>) -> Result<Tall<LevelUnit>, ParseError>
-    ensures reads { GivesTall ((spec.plain_unit).run cursor.old.rest.now) result cursor.new.rest.now }
-    ensures tall { IfOk result (λ a. a.height ≡ level_unit_depth a.tree) }
-    ensures low { IfOk result (λ a. a.height ≤ 400) }
+    ensures { Parses (spec.plain_unit 400 399) level_unit_depth (AtMost 400) cursor.old.rest.now result cursor.new.rest.now }
 {
     let unit = plain(alloc, cursor, MOST)?;
     Ok(Tall {
@@ -96,9 +87,7 @@ fn plain_unit(alloc: Global, cursor: &mut Cursor<'_>) -> Result<Tall<LevelUnit>,
 
 #[tactic(auto, unfolding(elan_grammar::specs::Grammar::level_unit))]
 fn level_unit(alloc: Global, cursor: &mut Cursor<'_>) -> Result<Tall<LevelUnit>, ParseError>
-    ensures reads { GivesTall ((spec.level_unit).run cursor.old.rest.now) result cursor.new.rest.now }
-    ensures tall { IfOk result (λ a. a.height ≡ level_unit_depth a.tree) }
-    ensures low { IfOk result (λ a. a.height ≤ 400) }
+    ensures { Parses (spec.level_unit 400 399) level_unit_depth (AtMost 400) cursor.old.rest.now result cursor.new.rest.now }
 {
     let kind = cursor.ahead();
     let none = Tall {
@@ -120,9 +109,7 @@ fn level_unit(alloc: Global, cursor: &mut Cursor<'_>) -> Result<Tall<LevelUnit>,
 
 #[tactic(auto, unfolding(elan_grammar::specs::Grammar::level_units), using(elan_grammar::proofs::Turns::turn_on, elan_grammar::proofs::Turns::turn_off, elan_grammar::proofs::Turns::turn_end, elan_grammar::proofs::Deepest::deepest_one, elan_grammar::proofs::Deepest::deepest_push))]
 fn level_units(alloc: Global, cursor: &mut Cursor<'_>) -> Result<Tall<List<LevelUnit>>, ParseError>
-    ensures reads { GivesTall ((spec.level_units).run cursor.old.rest.now) result cursor.new.rest.now }
-    ensures tall { IfOk result (λ a. a.height ≡ level_units_depth a.tree) }
-    ensures low { IfOk result (λ a. a.height ≤ 400) }
+    ensures { Parses (spec.level_units 400 399) level_units_depth (AtMost 400) cursor.old.rest.now result cursor.new.rest.now }
 {
     let mut row = single(alloc, level_unit(alloc, cursor))?;
     for _turn in 0..cursor.rest.len() {
@@ -137,9 +124,7 @@ fn level_units(alloc: Global, cursor: &mut Cursor<'_>) -> Result<Tall<List<Level
 
 #[tactic(auto, unfolding(elan_grammar::specs::Grammar::a_level))]
 fn a_level(alloc: Global, cursor: &mut Cursor<'_>) -> Result<Tall<Level>, ParseError>
-    ensures reads { GivesTall ((spec.a_level).run cursor.old.rest.now) result cursor.new.rest.now }
-    ensures tall { IfOk result (λ a. a.height ≡ level_depth a.tree) }
-    ensures low { IfOk result (λ a. a.height ≤ 400) }
+    ensures { Parses (spec.a_level 400 399) level_depth (AtMost 400) cursor.old.rest.now result cursor.new.rest.now }
 {
     let units = level_units(alloc, cursor)?;
     let (units, refinements) = and(units, tail(alloc, cursor, MOST))?;
@@ -153,9 +138,7 @@ fn a_level(alloc: Global, cursor: &mut Cursor<'_>) -> Result<Tall<Level>, ParseE
 
 #[tactic(auto, unfolding(elan_grammar::specs::Grammar::program))]
 fn program(alloc: Global, cursor: &mut Cursor<'_>) -> Result<Tall<Tree>, ParseError>
-    ensures reads { GivesTall ((spec.program).run cursor.old.rest.now) result cursor.new.rest.now }
-    ensures tall { IfOk result (λ a. a.height ≡ tree_depth a.tree) }
-    ensures low { IfOk result (λ a. a.height ≤ 400) }
+    ensures { Parses (spec.program 400 399) tree_depth (AtMost 400) cursor.old.rest.now result cursor.new.rest.now }
 {
     let level = a_level(alloc, cursor)?;
     Ok(Tall {
@@ -202,9 +185,7 @@ fn last_mark(cursor: &mut Cursor<'_>) -> Result<Option<u32>, ParseError>
 
 #[tactic(auto, unfolding(elan_grammar::specs::Grammar::packet))]
 fn packet(alloc: Global, cursor: &mut Cursor<'_>) -> Result<Tall<Tree>, ParseError>
-    ensures reads { GivesTall ((spec.packet).run cursor.old.rest.now) result cursor.new.rest.now }
-    ensures tall { IfOk result (λ a. a.height ≡ tree_depth a.tree) }
-    ensures low { IfOk result (λ a. a.height ≤ 400) }
+    ensures { Parses (spec.packet 400 399) tree_depth (AtMost 400) cursor.old.rest.now result cursor.new.rest.now }
 {
     let at = cursor.keyword(Key::Packet)?;
     let name = cursor.ident(alloc)?;
@@ -234,9 +215,7 @@ pub(crate) fn text(
     cursor: &mut Cursor<'_>,
     is_packet: bool,
 ) -> Result<Tall<Tree>, ParseError>
-    ensures reads { GivesTall ((whole.text is_packet).run cursor.old.rest.now) result cursor.new.rest.now }
-    ensures tall { IfOk result (λ a. a.height ≡ tree_depth a.tree) }
-    ensures low { IfOk result (λ a. a.height ≤ 400) }
+    ensures { Parses (whole.text is_packet) tree_depth (AtMost 400) cursor.old.rest.now result cursor.new.rest.now }
 {
     if is_packet {
         packet(alloc, cursor)

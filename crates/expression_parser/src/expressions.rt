@@ -1,9 +1,10 @@
 //! Expressions: each rule for what is at most `depth` deep, over what stands in it and is less deep.
 
-ghost use Rattle.std.specs.Prelude.{◌≡◌, ◌<◌, ◌≤◌, ◌+◌, ◌-◌, ◌==◌, max, IfOk};
+ghost use Rattle.std.specs.Prelude.{◌≡◌, ◌<◌, ◌≤◌, ◌+◌, max, IfOk};
 ghost use Rattle.elan_grammar.specs.Rule as rule;
-ghost use Rattle.elan_grammar.specs.Rule.{Gives, GivesTall};
+ghost use Rattle.elan_grammar.specs.Rule.{Gives, Parses, AtMost, Below, IsTall};
 ghost use Rattle.elan_grammar.specs.Kinds as kinds;
+ghost use Rattle.elan_grammar.specs.Kinds.{word_level};
 ghost use Rattle.elan_grammar.specs.Expressions as spec;
 ghost use Rattle.elan_grammar.specs.Units as units;
 ghost use Rattle.form_parser.specs.Nests.{Nests};
@@ -15,7 +16,7 @@ use elan_cursor::kind::{is_comma, is_key, is_level, is_literal, is_monadic, is_s
 use elan_grammar::tall::{Tall, and, single, with_next};
 use elan_grammar::{Joint, ParseError, Right};
 use elan_tree::{Expr, Key, Name, Sign, Unit};
-use form_parser::Inner;
+use form_parser::{Inner, OPERAND_LEVEL, WORD_LEVEL};
 use std::alloc::Global;
 
 /// The rules of phrases whose parts are less than `depth` deep, which the two functions parse.
@@ -90,10 +91,8 @@ impl<
     /// An expression in another phrase.
     fn inner(&self, cursor: &mut Cursor<'_>, level: u8) -> Result<Tall<Expr>, ParseError>
         requires nests { Nests self.now.depth (E.pre self.now.expression) (E.post self.now.expression) (U.pre self.now.units) (U.post self.now.units) }
-        requires level { level ≤ 6 }
-        ensures reads { GivesTall (((units.phrases self.now.depth).level level).run cursor.old.rest.now) result cursor.new.rest.now }
-        ensures tall { IfOk result (λ a. a.height ≡ expr_depth a.tree) }
-        ensures low { IfOk result (λ a. a.height < self.now.depth) }
+        requires level { level ≤ word_level }
+        ensures { Parses ((units.phrases self.now.depth).level level) expr_depth (Below self.now.depth) cursor.old.rest.now result cursor.new.rest.now }
     {
         (self.expression)(self.alloc, cursor, self.depth, level)
     }
@@ -101,13 +100,11 @@ impl<
     #[tactic(auto, unfolding(elan_grammar::specs::Expressions::bracket))]
     fn bracket(&self, cursor: &mut Cursor<'_>) -> Result<Tall<Expr>, ParseError>
         requires { Nests self.now.depth (E.pre self.now.expression) (E.post self.now.expression) (U.pre self.now.units) (U.post self.now.units) }
-        ensures reads { GivesTall ((spec.bracket (units.phrases self.now.depth) self.now.depth).run cursor.old.rest.now) result cursor.new.rest.now }
-        ensures tall { IfOk result (λ a. a.height ≡ expr_depth a.tree) }
-        ensures low { IfOk result (λ a. a.height ≤ self.now.depth) }
+        ensures { Parses (spec.bracket (units.phrases self.now.depth) self.now.depth) expr_depth (AtMost self.now.depth) cursor.old.rest.now result cursor.new.rest.now }
     {
         cursor.below(0, self.depth)?;
         let at = cursor.mark(Sign::LeftRound)?;
-        let a = self.inner(cursor, 6)?;
+        let a = self.inner(cursor, WORD_LEVEL)?;
         let inner = Boxed::new(self.alloc, a.tree)?;
         cursor.mark(Sign::RightRound)?;
         Ok(Tall {
@@ -119,14 +116,12 @@ impl<
     #[tactic(auto, unfolding(elan_grammar::specs::Expressions::concr))]
     fn concr(&self, cursor: &mut Cursor<'_>) -> Result<Tall<Expr>, ParseError>
         requires { Nests self.now.depth (E.pre self.now.expression) (E.post self.now.expression) (U.pre self.now.units) (U.post self.now.units) }
-        ensures reads { GivesTall ((spec.concr (units.phrases self.now.depth) self.now.depth).run cursor.old.rest.now) result cursor.new.rest.now }
-        ensures tall { IfOk result (λ a. a.height ≡ expr_depth a.tree) }
-        ensures low { IfOk result (λ a. a.height ≤ self.now.depth) }
+        ensures { Parses (spec.concr (units.phrases self.now.depth) self.now.depth) expr_depth (AtMost self.now.depth) cursor.old.rest.now result cursor.new.rest.now }
     {
         cursor.below(0, self.depth)?;
         let at = cursor.keyword(Key::Concr)?;
         cursor.mark(Sign::LeftRound)?;
-        let a = self.inner(cursor, 6)?;
+        let a = self.inner(cursor, WORD_LEVEL)?;
         let inner = Boxed::new(self.alloc, a.tree)?;
         cursor.mark(Sign::RightRound)?;
         Ok(Tall {
@@ -148,24 +143,20 @@ impl<
     fn actual(&self, cursor: &mut Cursor<'_>) -> Result<Tall<Expr>, ParseError>
         requires nests { Nests self.now.depth (E.pre self.now.expression) (E.post self.now.expression) (U.pre self.now.units) (U.post self.now.units) }
         requires room { 0 < self.now.depth }
-        ensures reads { GivesTall ((spec.actual (units.phrases self.now.depth) self.now.depth).run cursor.old.rest.now) result cursor.new.rest.now }
-        ensures tall { IfOk result (λ a. a.height ≡ expr_depth a.tree) }
-        ensures low { IfOk result (λ a. a.height < self.now.depth) }
+        ensures { Parses (spec.actual (units.phrases self.now.depth) self.now.depth) expr_depth (Below self.now.depth) cursor.old.rest.now result cursor.new.rest.now }
     {
         if cursor.sees_key(Key::Proc) {
             let tree = self.procedure(cursor)?;
             return Ok(Tall { tree, height: 0 });
         }
-        self.inner(cursor, 6)
+        self.inner(cursor, WORD_LEVEL)
     }
 
     #[tactic(auto, unfolding(elan_grammar::specs::Expressions::actuals), using(elan_grammar::proofs::Turns::turn_on, elan_grammar::proofs::Turns::turn_off, elan_grammar::proofs::Turns::turn_end, elan_grammar::proofs::Deepest::deepest_one, elan_grammar::proofs::Deepest::deepest_push))]
     fn actuals(&self, cursor: &mut Cursor<'_>) -> Result<Tall<List<Expr>>, ParseError>
         requires nests { Nests self.now.depth (E.pre self.now.expression) (E.post self.now.expression) (U.pre self.now.units) (U.post self.now.units) }
         requires room { 0 < self.now.depth }
-        ensures reads { GivesTall ((spec.actuals (units.phrases self.now.depth) self.now.depth).run cursor.old.rest.now) result cursor.new.rest.now }
-        ensures tall { IfOk result (λ a. a.height ≡ exprs_depth a.tree) }
-        ensures low { IfOk result (λ a. a.height < self.now.depth) }
+        ensures { Parses (spec.actuals (units.phrases self.now.depth) self.now.depth) exprs_depth (Below self.now.depth) cursor.old.rest.now result cursor.new.rest.now }
     {
         let mut row = single(self.alloc, self.actual(cursor))?;
         for _turn in 0..cursor.rest.len() {
@@ -181,9 +172,7 @@ impl<
     #[tactic(auto, unfolding(elan_grammar::specs::Expressions::call))]
     fn call(&self, cursor: &mut Cursor<'_>, name: Name) -> Result<Tall<Expr>, ParseError>
         requires { Nests self.now.depth (E.pre self.now.expression) (E.post self.now.expression) (U.pre self.now.units) (U.post self.now.units) }
-        ensures reads { GivesTall ((spec.call (units.phrases self.now.depth) self.now.depth name).run cursor.old.rest.now) result cursor.new.rest.now }
-        ensures tall { IfOk result (λ a. a.height ≡ expr_depth a.tree) }
-        ensures low { IfOk result (λ a. a.height ≤ self.now.depth) }
+        ensures { Parses (spec.call (units.phrases self.now.depth) self.now.depth name) expr_depth (AtMost self.now.depth) cursor.old.rest.now result cursor.new.rest.now }
     {
         cursor.below(0, self.depth)?;
         cursor.mark(Sign::LeftRound)?;
@@ -199,9 +188,7 @@ impl<
     #[tactic(auto, unfolding(elan_grammar::specs::Expressions::named))]
     fn named(&self, cursor: &mut Cursor<'_>) -> Result<Tall<Expr>, ParseError>
         requires { Nests self.now.depth (E.pre self.now.expression) (E.post self.now.expression) (U.pre self.now.units) (U.post self.now.units) }
-        ensures reads { GivesTall ((spec.named (units.phrases self.now.depth) self.now.depth).run cursor.old.rest.now) result cursor.new.rest.now }
-        ensures tall { IfOk result (λ a. a.height ≡ expr_depth a.tree) }
-        ensures low { IfOk result (λ a. a.height ≤ self.now.depth) }
+        ensures { Parses (spec.named (units.phrases self.now.depth) self.now.depth) expr_depth (AtMost self.now.depth) cursor.old.rest.now result cursor.new.rest.now }
     {
         let name = cursor.ident(self.alloc)?;
         if cursor.sees_sign(Sign::LeftRound) {
@@ -216,9 +203,7 @@ impl<
     #[tactic(auto, unfolding(elan_grammar::specs::Expressions::head))]
     fn head(&self, cursor: &mut Cursor<'_>) -> Result<Tall<Expr>, ParseError>
         requires { Nests self.now.depth (E.pre self.now.expression) (E.post self.now.expression) (U.pre self.now.units) (U.post self.now.units) }
-        ensures reads { GivesTall ((spec.head (units.phrases self.now.depth) self.now.depth).run cursor.old.rest.now) result cursor.new.rest.now }
-        ensures tall { IfOk result (λ a. a.height ≡ expr_depth a.tree) }
-        ensures low { IfOk result (λ a. a.height ≤ self.now.depth) }
+        ensures { Parses (spec.head (units.phrases self.now.depth) self.now.depth) expr_depth (AtMost self.now.depth) cursor.old.rest.now result cursor.new.rest.now }
     {
         let kind = cursor.ahead();
         if is_literal(kind) {
@@ -240,14 +225,12 @@ impl<
     #[tactic(auto, unfolding(elan_grammar::specs::Expressions::index_part))]
     fn index_part(&self, cursor: &mut Cursor<'_>, height: u32) -> Result<Tall<Expr>, ParseError>
         requires { Nests self.now.depth (E.pre self.now.expression) (E.post self.now.expression) (U.pre self.now.units) (U.post self.now.units) }
-        ensures reads { GivesTall ((spec.index_part (units.phrases self.now.depth) self.now.depth height).run cursor.old.rest.now) result cursor.new.rest.now }
-        ensures tall { IfOk result (λ a. a.height ≡ expr_depth a.tree) }
-        ensures low { IfOk result (λ a. a.height < self.now.depth) }
+        ensures parses { Parses (spec.index_part (units.phrases self.now.depth) self.now.depth height) expr_depth (Below self.now.depth) cursor.old.rest.now result cursor.new.rest.now }
         ensures below { IfOk result (λ _. height < self.now.depth) }
     {
         cursor.below(height, self.depth)?;
         cursor.mark(Sign::LeftSquare)?;
-        let index = self.inner(cursor, 6)?;
+        let index = self.inner(cursor, WORD_LEVEL)?;
         let (index, _) = and(index, cursor.mark(Sign::RightSquare))?;
         Ok(index)
     }
@@ -256,9 +239,7 @@ impl<
     fn index(&self, cursor: &mut Cursor<'_>, of: Tall<Expr>) -> Result<Tall<Expr>, ParseError>
         requires nests { Nests self.now.depth (E.pre self.now.expression) (E.post self.now.expression) (U.pre self.now.units) (U.post self.now.units) }
         requires tall { of.height ≡ expr_depth of.tree }
-        ensures reads { GivesTall ((spec.index (units.phrases self.now.depth) self.now.depth of.tree).run cursor.old.rest.now) result cursor.new.rest.now }
-        ensures tall { IfOk result (λ a. a.height ≡ expr_depth a.tree) }
-        ensures low { IfOk result (λ a. a.height ≤ self.now.depth) }
+        ensures { Parses (spec.index (units.phrases self.now.depth) self.now.depth of.tree) expr_depth (AtMost self.now.depth) cursor.old.rest.now result cursor.new.rest.now }
     {
         let at = expr_place(&of.tree);
         let height = of.height;
@@ -274,7 +255,7 @@ impl<
 
     #[tactic(auto, unfolding(elan_grammar::specs::Expressions::field_part))]
     fn field_part(&self, cursor: &mut Cursor<'_>, height: u32) -> Result<Name, ParseError>
-        ensures reads { Gives ((spec.field_part (units.phrases self.now.depth) self.now.depth height).run cursor.old.rest.now) result cursor.new.rest.now }
+        ensures parses { Gives ((spec.field_part (units.phrases self.now.depth) self.now.depth height).run cursor.old.rest.now) result cursor.new.rest.now }
         ensures below { IfOk result (λ _. height < self.now.depth) }
     {
         cursor.below(height, self.depth)?;
@@ -286,9 +267,7 @@ impl<
     fn field_of(&self, cursor: &mut Cursor<'_>, of: Tall<Expr>) -> Result<Tall<Expr>, ParseError>
         requires nests { Nests self.now.depth (E.pre self.now.expression) (E.post self.now.expression) (U.pre self.now.units) (U.post self.now.units) }
         requires tall { of.height ≡ expr_depth of.tree }
-        ensures reads { GivesTall ((spec.field_of (units.phrases self.now.depth) self.now.depth of.tree).run cursor.old.rest.now) result cursor.new.rest.now }
-        ensures tall { IfOk result (λ a. a.height ≡ expr_depth a.tree) }
-        ensures low { IfOk result (λ a. a.height ≤ self.now.depth) }
+        ensures { Parses (spec.field_of (units.phrases self.now.depth) self.now.depth of.tree) expr_depth (AtMost self.now.depth) cursor.old.rest.now result cursor.new.rest.now }
     {
         let height = of.height;
         let at = expr_place(&of.tree);
@@ -304,9 +283,7 @@ impl<
     fn longer(&self, cursor: &mut Cursor<'_>, of: Tall<Expr>) -> Result<Tall<Expr>, ParseError>
         requires nests { Nests self.now.depth (E.pre self.now.expression) (E.post self.now.expression) (U.pre self.now.units) (U.post self.now.units) }
         requires tall { of.height ≡ expr_depth of.tree }
-        ensures reads { GivesTall ((spec.longer (units.phrases self.now.depth) self.now.depth of.tree).run cursor.old.rest.now) result cursor.new.rest.now }
-        ensures tall { IfOk result (λ a. a.height ≡ expr_depth a.tree) }
-        ensures low { IfOk result (λ a. a.height ≤ self.now.depth) }
+        ensures { Parses (spec.longer (units.phrases self.now.depth) self.now.depth of.tree) expr_depth (AtMost self.now.depth) cursor.old.rest.now result cursor.new.rest.now }
     {
         if cursor.sees_sign(Sign::LeftSquare) {
             self.index(cursor, of)
@@ -318,9 +295,7 @@ impl<
     #[tactic(auto, unfolding(elan_grammar::specs::Expressions::prim), using(elan_grammar::proofs::Turns::turn_on, elan_grammar::proofs::Turns::turn_off, elan_grammar::proofs::Turns::turn_end))]
     fn prim(&self, cursor: &mut Cursor<'_>) -> Result<Tall<Expr>, ParseError>
         requires { Nests self.now.depth (E.pre self.now.expression) (E.post self.now.expression) (U.pre self.now.units) (U.post self.now.units) }
-        ensures reads { GivesTall ((spec.prim (units.phrases self.now.depth) self.now.depth).run cursor.old.rest.now) result cursor.new.rest.now }
-        ensures tall { IfOk result (λ a. a.height ≡ expr_depth a.tree) }
-        ensures low { IfOk result (λ a. a.height ≤ self.now.depth) }
+        ensures { Parses (spec.prim (units.phrases self.now.depth) self.now.depth) expr_depth (AtMost self.now.depth) cursor.old.rest.now result cursor.new.rest.now }
     {
         let mut of = self.head(cursor)?;
         for _turn in 0..cursor.rest.len() {
@@ -335,13 +310,11 @@ impl<
     #[tactic(auto, unfolding(elan_grammar::specs::Expressions::applied))]
     fn applied(&self, cursor: &mut Cursor<'_>) -> Result<Tall<Expr>, ParseError>
         requires { Nests self.now.depth (E.pre self.now.expression) (E.post self.now.expression) (U.pre self.now.units) (U.post self.now.units) }
-        ensures reads { GivesTall ((spec.applied (units.phrases self.now.depth) self.now.depth).run cursor.old.rest.now) result cursor.new.rest.now }
-        ensures tall { IfOk result (λ a. a.height ≡ expr_depth a.tree) }
-        ensures low { IfOk result (λ a. a.height ≤ self.now.depth) }
+        ensures { Parses (spec.applied (units.phrases self.now.depth) self.now.depth) expr_depth (AtMost self.now.depth) cursor.old.rest.now result cursor.new.rest.now }
     {
         cursor.below(0, self.depth)?;
         let (at, operator) = cursor.monadic(self.alloc)?;
-        let a = self.inner(cursor, 0)?;
+        let a = self.inner(cursor, OPERAND_LEVEL)?;
         let tree = Expr::Monadic {
             at,
             operator,
@@ -356,9 +329,7 @@ impl<
     #[tactic(auto, unfolding(elan_grammar::specs::Expressions::operand))]
     fn operand(&self, cursor: &mut Cursor<'_>) -> Result<Tall<Expr>, ParseError>
         requires { Nests self.now.depth (E.pre self.now.expression) (E.post self.now.expression) (U.pre self.now.units) (U.post self.now.units) }
-        ensures reads { GivesTall ((spec.operand (units.phrases self.now.depth) self.now.depth).run cursor.old.rest.now) result cursor.new.rest.now }
-        ensures tall { IfOk result (λ a. a.height ≡ expr_depth a.tree) }
-        ensures low { IfOk result (λ a. a.height ≤ self.now.depth) }
+        ensures { Parses (spec.operand (units.phrases self.now.depth) self.now.depth) expr_depth (AtMost self.now.depth) cursor.old.rest.now result cursor.new.rest.now }
     {
         if is_monadic(cursor.ahead()) {
             self.applied(cursor)
@@ -375,10 +346,8 @@ impl<
         height: u32,
     ) -> Result<Tall<Right>, ParseError>
         requires nests { Nests self.now.depth (E.pre self.now.expression) (E.post self.now.expression) (U.pre self.now.units) (U.post self.now.units) }
-        requires level { level < 6 }
-        ensures reads { GivesTall ((spec.right_part (units.phrases self.now.depth) self.now.depth level height).run cursor.old.rest.now) result cursor.new.rest.now }
-        ensures tall { IfOk result (λ a. a.height ≡ expr_depth a.tree.operand) }
-        ensures low { IfOk result (λ a. a.height < self.now.depth) }
+        requires level { level < word_level }
+        ensures parses { Parses (spec.right_part (units.phrases self.now.depth) self.now.depth level height) (λ t. expr_depth t.operand) (Below self.now.depth) cursor.old.rest.now result cursor.new.rest.now }
         ensures below { IfOk result (λ _. height < self.now.depth) }
     {
         cursor.below(height, self.depth)?;
@@ -402,11 +371,9 @@ impl<
         left: Tall<Expr>,
     ) -> Result<Tall<Expr>, ParseError>
         requires nests { Nests self.now.depth (E.pre self.now.expression) (E.post self.now.expression) (U.pre self.now.units) (U.post self.now.units) }
-        requires level { level < 6 }
+        requires level { level < word_level }
         requires tall { left.height ≡ expr_depth left.tree }
-        ensures reads { GivesTall ((spec.dyadic (units.phrases self.now.depth) self.now.depth level left.tree).run cursor.old.rest.now) result cursor.new.rest.now }
-        ensures tall { IfOk result (λ a. a.height ≡ expr_depth a.tree) }
-        ensures low { IfOk result (λ a. a.height ≤ self.now.depth) }
+        ensures { Parses (spec.dyadic (units.phrases self.now.depth) self.now.depth level left.tree) expr_depth (AtMost self.now.depth) cursor.old.rest.now result cursor.new.rest.now }
     {
         let at = expr_place(&left.tree);
         let height = left.height;
@@ -428,12 +395,9 @@ impl<
         mut left: Tall<Expr>,
     ) -> Result<Tall<Expr>, ParseError>
         requires nests { Nests self.now.depth (E.pre self.now.expression) (E.post self.now.expression) (U.pre self.now.units) (U.post self.now.units) }
-        requires tall { left.height ≡ expr_depth left.tree }
-        requires low { left.height ≤ self.now.depth }
-        requires level { level < 6 }
-        ensures reads { GivesTall ((rule.iterate (spec.dyadic (units.phrases self.now.depth) self.now.depth level) (kinds.is_level (level + 1)) left.tree).run cursor.old.rest.now) result cursor.new.rest.now }
-        ensures tall { IfOk result (λ a. a.height ≡ expr_depth a.tree) }
-        ensures low { IfOk result (λ a. a.height ≤ self.now.depth) }
+        requires tall { IsTall expr_depth (AtMost self.now.depth) left }
+        requires level { level < word_level }
+        ensures { Parses (rule.iterate (spec.dyadic (units.phrases self.now.depth) self.now.depth level) (kinds.is_level (level + 1)) left.tree) expr_depth (AtMost self.now.depth) cursor.old.rest.now result cursor.new.rest.now }
     {
         for _turn in 0..cursor.rest.len() {
             if !is_level(level + 1, cursor.ahead()) {
@@ -447,12 +411,10 @@ impl<
     /// An expression whose operators have at most this level, from 1 for those that hold most tightly to 6; at 0 an operand alone.
     pub fn level(&self, cursor: &mut Cursor<'_>, level: u8) -> Result<Tall<Expr>, ParseError>
         requires nests { Nests self.now.depth (E.pre self.now.expression) (E.post self.now.expression) (U.pre self.now.units) (U.post self.now.units) }
-        requires level { level ≤ 6 }
-        ensures reads { GivesTall ((spec.level (units.phrases self.now.depth) self.now.depth level).run cursor.old.rest.now) result cursor.new.rest.now }
-        ensures tall { IfOk result (λ a. a.height ≡ expr_depth a.tree) }
-        ensures low { IfOk result (λ a. a.height ≤ self.now.depth) }
+        requires level { level ≤ word_level }
+        ensures { Parses (spec.level (units.phrases self.now.depth) self.now.depth level) expr_depth (AtMost self.now.depth) cursor.old.rest.now result cursor.new.rest.now }
     {
-        if level == 0 {
+        if level == OPERAND_LEVEL {
             return self.operand(cursor);
         }
         let left = self.level(cursor, level - 1)?;

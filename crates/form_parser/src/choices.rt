@@ -1,13 +1,13 @@
 //! IF and SELECT.
 
-ghost use Rattle.std.specs.Prelude.{◌≡◌, ◌<◌, ◌≤◌, ◌+◌, ◌-◌, max, IfOk};
-ghost use Rattle.elan_grammar.specs.Rule.{Gives, GivesTall};
+ghost use Rattle.std.specs.Prelude.{◌<◌, ◌+◌, ◌-◌, max};
+ghost use Rattle.elan_grammar.specs.Rule.{Gives, Parses, AtMost, Below};
 ghost use Rattle.elan_grammar.specs.Expressions as spec;
 ghost use Rattle.elan_grammar.specs.Units as units;
 ghost use Rattle.form_parser.specs.Nests.{Nests};
 ghost use Rattle.elan_grammar.specs.Depth.{expr_depth, branch_depth, branches_depth, case_depth, cases_depth, option_units_depth};
 
-use crate::inner::Inner;
+use crate::inner::{Inner, WORD_LEVEL};
 use crate::labels::labels;
 use containers::List;
 use elan_cursor::Cursor;
@@ -23,11 +23,9 @@ impl<
     #[tactic(auto, unfolding(elan_grammar::specs::Expressions::branch))]
     fn branch(&self, cursor: &mut Cursor<'_>) -> Result<Tall<Branch>, ParseError>
         requires { Nests self.now.depth (E.pre self.now.expression) (E.post self.now.expression) (U.pre self.now.units) (U.post self.now.units) }
-        ensures reads { GivesTall ((spec.branch (units.phrases self.now.depth) self.now.depth).run cursor.old.rest.now) result cursor.new.rest.now }
-        ensures tall { IfOk result (λ a. a.height ≡ branch_depth a.tree) }
-        ensures low { IfOk result (λ a. a.height < self.now.depth) }
+        ensures { Parses (spec.branch (units.phrases self.now.depth) self.now.depth) branch_depth (Below self.now.depth) cursor.old.rest.now result cursor.new.rest.now }
     {
-        let condition = self.expression(cursor, 6)?;
+        let condition = self.expression(cursor, WORD_LEVEL)?;
         let (condition, _) = and(condition, cursor.keyword(Key::Then))?;
         let (condition, units) = and(condition, self.units(cursor))?;
         let height = condition.height.max(units.height);
@@ -41,9 +39,7 @@ impl<
     #[tactic(auto, unfolding(elan_grammar::specs::Expressions::branches), using(elan_grammar::proofs::Turns::turn_on, elan_grammar::proofs::Turns::turn_off, elan_grammar::proofs::Turns::turn_end, elan_grammar::proofs::Deepest::deepest_one, elan_grammar::proofs::Deepest::deepest_push))]
     fn branches(&self, cursor: &mut Cursor<'_>) -> Result<Tall<List<Branch>>, ParseError>
         requires { Nests self.now.depth (E.pre self.now.expression) (E.post self.now.expression) (U.pre self.now.units) (U.post self.now.units) }
-        ensures reads { GivesTall ((spec.branches (units.phrases self.now.depth) self.now.depth).run cursor.old.rest.now) result cursor.new.rest.now }
-        ensures tall { IfOk result (λ a. a.height ≡ branches_depth a.tree) }
-        ensures low { IfOk result (λ a. a.height < self.now.depth) }
+        ensures { Parses (spec.branches (units.phrases self.now.depth) self.now.depth) branches_depth (Below self.now.depth) cursor.old.rest.now result cursor.new.rest.now }
     {
         let mut row = single(self.alloc, self.branch(cursor))?;
         for _turn in 0..cursor.rest.len() {
@@ -60,9 +56,7 @@ impl<
     fn else_part(&self, cursor: &mut Cursor<'_>) -> Result<Tall<Option<List<Unit>>>, ParseError>
         requires nests { Nests self.now.depth (E.pre self.now.expression) (E.post self.now.expression) (U.pre self.now.units) (U.post self.now.units) }
         requires room { 0 < self.now.depth }
-        ensures reads { GivesTall ((spec.else_part (units.phrases self.now.depth) self.now.depth).run cursor.old.rest.now) result cursor.new.rest.now }
-        ensures tall { IfOk result (λ a. a.height ≡ option_units_depth a.tree) }
-        ensures low { IfOk result (λ a. a.height < self.now.depth) }
+        ensures { Parses (spec.else_part (units.phrases self.now.depth) self.now.depth) option_units_depth (Below self.now.depth) cursor.old.rest.now result cursor.new.rest.now }
     {
         if !cursor.sees_key(Key::Else) {
             return Ok(Tall {
@@ -93,9 +87,7 @@ impl<
     #[tactic(auto, unfolding(elan_grammar::specs::Expressions::choice, elan_grammar::specs::Expressions::choice_end))]
     pub fn choice(&self, cursor: &mut Cursor<'_>) -> Result<Tall<Expr>, ParseError>
         requires { Nests self.now.depth (E.pre self.now.expression) (E.post self.now.expression) (U.pre self.now.units) (U.post self.now.units) }
-        ensures reads { GivesTall ((spec.choice (units.phrases self.now.depth) self.now.depth).run cursor.old.rest.now) result cursor.new.rest.now }
-        ensures tall { IfOk result (λ a. a.height ≡ expr_depth a.tree) }
-        ensures low { IfOk result (λ a. a.height ≤ self.now.depth) }
+        ensures { Parses (spec.choice (units.phrases self.now.depth) self.now.depth) expr_depth (AtMost self.now.depth) cursor.old.rest.now result cursor.new.rest.now }
     {
         cursor.below(0, self.depth)?;
         let at = cursor.keyword(Key::If)?;
@@ -117,9 +109,7 @@ impl<
     #[tactic(auto, unfolding(elan_grammar::specs::Expressions::a_case))]
     fn a_case(&self, cursor: &mut Cursor<'_>) -> Result<Tall<Case>, ParseError>
         requires { Nests self.now.depth (E.pre self.now.expression) (E.post self.now.expression) (U.pre self.now.units) (U.post self.now.units) }
-        ensures reads { GivesTall ((spec.a_case (units.phrases self.now.depth) self.now.depth).run cursor.old.rest.now) result cursor.new.rest.now }
-        ensures tall { IfOk result (λ a. a.height ≡ case_depth a.tree) }
-        ensures low { IfOk result (λ a. a.height < self.now.depth) }
+        ensures { Parses (spec.a_case (units.phrases self.now.depth) self.now.depth) case_depth (Below self.now.depth) cursor.old.rest.now result cursor.new.rest.now }
     {
         cursor.keyword(Key::Case)?;
         let labels = labels(self.alloc, cursor)?;
@@ -138,9 +128,7 @@ impl<
     #[tactic(auto, unfolding(elan_grammar::specs::Expressions::cases), using(elan_grammar::proofs::Turns::turn_on, elan_grammar::proofs::Turns::turn_off, elan_grammar::proofs::Turns::turn_end, elan_grammar::proofs::Deepest::deepest_one, elan_grammar::proofs::Deepest::deepest_push))]
     fn cases(&self, cursor: &mut Cursor<'_>) -> Result<Tall<List<Case>>, ParseError>
         requires { Nests self.now.depth (E.pre self.now.expression) (E.post self.now.expression) (U.pre self.now.units) (U.post self.now.units) }
-        ensures reads { GivesTall ((spec.cases (units.phrases self.now.depth) self.now.depth).run cursor.old.rest.now) result cursor.new.rest.now }
-        ensures tall { IfOk result (λ a. a.height ≡ cases_depth a.tree) }
-        ensures low { IfOk result (λ a. a.height < self.now.depth) }
+        ensures { Parses (spec.cases (units.phrases self.now.depth) self.now.depth) cases_depth (Below self.now.depth) cursor.old.rest.now result cursor.new.rest.now }
     {
         let mut row = single(self.alloc, self.a_case(cursor))?;
         for _turn in 0..cursor.rest.len() {
@@ -159,9 +147,7 @@ impl<
     ) -> Result<Tall<Option<List<Unit>>>, ParseError>
         requires nests { Nests self.now.depth (E.pre self.now.expression) (E.post self.now.expression) (U.pre self.now.units) (U.post self.now.units) }
         requires room { 0 < self.now.depth }
-        ensures reads { GivesTall ((spec.otherwise_part (units.phrases self.now.depth) self.now.depth).run cursor.old.rest.now) result cursor.new.rest.now }
-        ensures tall { IfOk result (λ a. a.height ≡ option_units_depth a.tree) }
-        ensures low { IfOk result (λ a. a.height < self.now.depth) }
+        ensures { Parses (spec.otherwise_part (units.phrases self.now.depth) self.now.depth) option_units_depth (Below self.now.depth) cursor.old.rest.now result cursor.new.rest.now }
     {
         if !cursor.sees_key(Key::Otherwise) {
             return Ok(Tall {
@@ -184,9 +170,7 @@ impl<
     fn select_parts(&self, cursor: &mut Cursor<'_>) -> Result<Tall<SelectParts>, ParseError>
         requires nests { Nests self.now.depth (E.pre self.now.expression) (E.post self.now.expression) (U.pre self.now.units) (U.post self.now.units) }
         requires room { 0 < self.now.depth }
-        ensures reads { GivesTall ((spec.select_parts (units.phrases self.now.depth) self.now.depth).run cursor.old.rest.now) result cursor.new.rest.now }
-        ensures tall { IfOk result (λ a. a.height ≡ max (cases_depth a.tree.cases) (option_units_depth a.tree.otherwise)) }
-        ensures low { IfOk result (λ a. a.height < self.now.depth) }
+        ensures { Parses (spec.select_parts (units.phrases self.now.depth) self.now.depth) (λ t. max (cases_depth t.cases) (option_units_depth t.otherwise)) (Below self.now.depth) cursor.old.rest.now result cursor.new.rest.now }
     {
         let cases = self.cases(cursor)?;
         let (cases, otherwise) = and(cases, self.otherwise_part(cursor))?;
@@ -203,13 +187,11 @@ impl<
     #[tactic(auto, unfolding(elan_grammar::specs::Expressions::selection))]
     pub fn selection(&self, cursor: &mut Cursor<'_>) -> Result<Tall<Expr>, ParseError>
         requires { Nests self.now.depth (E.pre self.now.expression) (E.post self.now.expression) (U.pre self.now.units) (U.post self.now.units) }
-        ensures reads { GivesTall ((spec.selection (units.phrases self.now.depth) self.now.depth).run cursor.old.rest.now) result cursor.new.rest.now }
-        ensures tall { IfOk result (λ a. a.height ≡ expr_depth a.tree) }
-        ensures low { IfOk result (λ a. a.height ≤ self.now.depth) }
+        ensures { Parses (spec.selection (units.phrases self.now.depth) self.now.depth) expr_depth (AtMost self.now.depth) cursor.old.rest.now result cursor.new.rest.now }
     {
         cursor.below(0, self.depth)?;
         let at = cursor.keyword(Key::Select)?;
-        let of = boxed(self.alloc, self.expression(cursor, 6))?;
+        let of = boxed(self.alloc, self.expression(cursor, WORD_LEVEL))?;
         let (of, _) = and(of, cursor.keyword(Key::Of))?;
         let (of, parts) = and(of, self.select_parts(cursor))?;
         let height = of.height.max(parts.height);

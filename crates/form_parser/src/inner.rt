@@ -1,7 +1,8 @@
 //! What stands in a form: expressions and units, less deep than the form itself may be.
 
-ghost use Rattle.std.specs.Prelude.{◌≡◌, ◌<◌, ◌≤◌, IfOk};
-ghost use Rattle.elan_grammar.specs.Rule.{GivesTall};
+ghost use Rattle.std.specs.Prelude.{◌<◌, ◌≤◌};
+ghost use Rattle.elan_grammar.specs.Kinds.{word_level};
+ghost use Rattle.elan_grammar.specs.Rule.{Parses, Below};
 ghost use Rattle.elan_grammar.specs.Units as units;
 ghost use Rattle.form_parser.specs.Nests.{Nests};
 ghost use Rattle.elan_grammar.specs.Depth.{expr_depth, units_depth};
@@ -12,6 +13,12 @@ use elan_grammar::ParseError;
 use elan_grammar::tall::Tall;
 use elan_tree::{Expr, Unit};
 use std::alloc::Global;
+
+/// The level of every expression: that of bold words between two operands.
+pub const WORD_LEVEL: u8 = 6;
+
+/// The level of an expression without an operator between two operands.
+pub const OPERAND_LEVEL: u8 = 0;
 
 /// The phrases less than `depth` deep, which the two functions parse.
 #[derive(Drop)]
@@ -29,10 +36,8 @@ impl<
     /// An expression in another phrase.
     pub fn expression(&self, cursor: &mut Cursor<'_>, level: u8) -> Result<Tall<Expr>, ParseError>
         requires nests { Nests self.now.depth (E.pre self.now.expression) (E.post self.now.expression) (U.pre self.now.units) (U.post self.now.units) }
-        requires level { level ≤ 6 }
-        ensures reads { GivesTall (((units.phrases self.now.depth).level level).run cursor.old.rest.now) result cursor.new.rest.now }
-        ensures tall { IfOk result (λ a. a.height ≡ expr_depth a.tree) }
-        ensures low { IfOk result (λ a. a.height < self.now.depth) }
+        requires level { level ≤ word_level }
+        ensures { Parses ((units.phrases self.now.depth).level level) expr_depth (Below self.now.depth) cursor.old.rest.now result cursor.new.rest.now }
     {
         (self.expression)(self.alloc, cursor, self.depth, level)
     }
@@ -40,9 +45,7 @@ impl<
     /// Units in another phrase.
     pub fn units(&self, cursor: &mut Cursor<'_>) -> Result<Tall<List<Unit>>, ParseError>
         requires { Nests self.now.depth (E.pre self.now.expression) (E.post self.now.expression) (U.pre self.now.units) (U.post self.now.units) }
-        ensures reads { GivesTall (((units.phrases self.now.depth).units).run cursor.old.rest.now) result cursor.new.rest.now }
-        ensures tall { IfOk result (λ a. a.height ≡ units_depth a.tree) }
-        ensures low { IfOk result (λ a. a.height < self.now.depth) }
+        ensures { Parses ((units.phrases self.now.depth).units) units_depth (Below self.now.depth) cursor.old.rest.now result cursor.new.rest.now }
     {
         (self.units)(self.alloc, cursor, self.depth)
     }

@@ -1,12 +1,12 @@
 //! Loops.
 
-ghost use Rattle.std.specs.Prelude.{◌≡◌, ◌<◌, ◌≤◌, max, IfOk, Some};
-ghost use Rattle.elan_grammar.specs.Rule.{Gives, GivesTall};
+ghost use Rattle.std.specs.Prelude.{◌<◌, max, Some};
+ghost use Rattle.elan_grammar.specs.Rule.{Gives, Parses, AtMost, Below, IsTall};
 ghost use Rattle.elan_grammar.specs.Units as units;
 ghost use Rattle.form_parser.specs.Nests.{Nests};
 ghost use Rattle.elan_grammar.specs.Depth.{expr_depth, unit_depth, units_depth, limit_depth, option_depth, option_counter_depth};
 
-use crate::inner::Inner;
+use crate::inner::{Inner, WORD_LEVEL};
 use containers::{Boxed, List};
 use elan_cursor::Cursor;
 use elan_cursor::kind::is_key;
@@ -22,21 +22,17 @@ impl<
     /// A keyword, and an expression behind it.
     fn behind(&self, cursor: &mut Cursor<'_>, key: Key) -> Result<Tall<Expr>, ParseError>
         requires { Nests self.now.depth (E.pre self.now.expression) (E.post self.now.expression) (U.pre self.now.units) (U.post self.now.units) }
-        ensures reads { GivesTall ((units.behind (units.phrases self.now.depth) self.now.depth key).run cursor.old.rest.now) result cursor.new.rest.now }
-        ensures tall { IfOk result (λ a. a.height ≡ expr_depth a.tree) }
-        ensures low { IfOk result (λ a. a.height < self.now.depth) }
+        ensures { Parses (units.behind (units.phrases self.now.depth) self.now.depth key) expr_depth (Below self.now.depth) cursor.old.rest.now result cursor.new.rest.now }
     {
         cursor.keyword(key)?;
-        self.expression(cursor, 6)
+        self.expression(cursor, WORD_LEVEL)
     }
 
     #[tactic(auto, unfolding(elan_grammar::specs::Units::a_limit, elan_grammar::specs::Units::upto, elan_grammar::specs::Units::downto))]
     fn a_limit(&self, cursor: &mut Cursor<'_>) -> Result<Tall<Limit>, ParseError>
         requires nests { Nests self.now.depth (E.pre self.now.expression) (E.post self.now.expression) (U.pre self.now.units) (U.post self.now.units) }
         requires room { 0 < self.now.depth }
-        ensures reads { GivesTall ((units.a_limit (units.phrases self.now.depth) self.now.depth).run cursor.old.rest.now) result cursor.new.rest.now }
-        ensures tall { IfOk result (λ a. a.height ≡ limit_depth a.tree) }
-        ensures low { IfOk result (λ a. a.height < self.now.depth) }
+        ensures { Parses (units.a_limit (units.phrases self.now.depth) self.now.depth) limit_depth (Below self.now.depth) cursor.old.rest.now result cursor.new.rest.now }
     {
         let kind = cursor.ahead();
         if is_key(Key::Upto, kind) {
@@ -68,9 +64,7 @@ impl<
     ) -> Result<Tall<Option<Expr>>, ParseError>
         requires nests { Nests self.now.depth (E.pre self.now.expression) (E.post self.now.expression) (U.pre self.now.units) (U.post self.now.units) }
         requires room { 0 < self.now.depth }
-        ensures reads { GivesTall ((units.key_part (units.phrases self.now.depth) self.now.depth key).run cursor.old.rest.now) result cursor.new.rest.now }
-        ensures tall { IfOk result (λ a. a.height ≡ option_depth a.tree) }
-        ensures low { IfOk result (λ a. a.height < self.now.depth) }
+        ensures { Parses (units.key_part (units.phrases self.now.depth) self.now.depth key) option_depth (Below self.now.depth) cursor.old.rest.now result cursor.new.rest.now }
     {
         if !cursor.sees_key(key) {
             return Ok(Tall {
@@ -89,9 +83,7 @@ impl<
     fn counter(&self, cursor: &mut Cursor<'_>) -> Result<Tall<Option<Boxed<Counter>>>, ParseError>
         requires nests { Nests self.now.depth (E.pre self.now.expression) (E.post self.now.expression) (U.pre self.now.units) (U.post self.now.units) }
         requires room { 0 < self.now.depth }
-        ensures reads { GivesTall ((units.counter (units.phrases self.now.depth) self.now.depth).run cursor.old.rest.now) result cursor.new.rest.now }
-        ensures tall { IfOk result (λ a. a.height ≡ option_counter_depth a.tree) }
-        ensures low { IfOk result (λ a. a.height < self.now.depth) }
+        ensures { Parses (units.counter (units.phrases self.now.depth) self.now.depth) option_counter_depth (Below self.now.depth) cursor.old.rest.now result cursor.new.rest.now }
     {
         let name = cursor.ident(self.alloc)?;
         let (name, from) = and(name, self.key_part(cursor, Key::From))?;
@@ -124,9 +116,7 @@ impl<
     fn turn_parts(&self, cursor: &mut Cursor<'_>) -> Result<Tall<LoopParts>, ParseError>
         requires nests { Nests self.now.depth (E.pre self.now.expression) (E.post self.now.expression) (U.pre self.now.units) (U.post self.now.units) }
         requires room { 0 < self.now.depth }
-        ensures reads { GivesTall ((units.turn_parts (units.phrases self.now.depth) self.now.depth).run cursor.old.rest.now) result cursor.new.rest.now }
-        ensures tall { IfOk result (λ a. a.height ≡ max (units_depth a.tree.units) (option_depth a.tree.until)) }
-        ensures low { IfOk result (λ a. a.height < self.now.depth) }
+        ensures { Parses (units.turn_parts (units.phrases self.now.depth) self.now.depth) (λ t. max (units_depth t.units) (option_depth t.until)) (Below self.now.depth) cursor.old.rest.now result cursor.new.rest.now }
     {
         let start = cursor.rep()?;
         let units = self.units(cursor)?;
@@ -141,7 +131,7 @@ impl<
         Ok(Tall { tree, height })
     }
 
-    #[tactic(auto, unfolding(elan_grammar::specs::Units::turns))]
+    #[tactic(auto, unfolding(elan_grammar::specs::Units::turns), using(crate::proofs::LoopDepth::loop_depth))]
     fn turns(
         &self,
         cursor: &mut Cursor<'_>,
@@ -151,13 +141,9 @@ impl<
     ) -> Result<Tall<Unit>, ParseError>
         requires nests { Nests self.now.depth (E.pre self.now.expression) (E.post self.now.expression) (U.pre self.now.units) (U.post self.now.units) }
         requires room { 0 < self.now.depth }
-        requires counter { counter.height ≡ option_counter_depth counter.tree }
-        requires counter_low { counter.height < self.now.depth }
-        requires condition { condition.height ≡ option_depth condition.tree }
-        requires condition_low { condition.height < self.now.depth }
-        ensures reads { GivesTall ((units.turns (units.phrases self.now.depth) self.now.depth at counter.tree condition.tree).run cursor.old.rest.now) result cursor.new.rest.now }
-        ensures tall { IfOk result (λ a. a.height ≡ unit_depth a.tree) }
-        ensures low { IfOk result (λ a. a.height ≤ self.now.depth) }
+        requires counter { IsTall option_counter_depth (Below self.now.depth) counter }
+        requires condition { IsTall option_depth (Below self.now.depth) condition }
+        ensures { Parses (units.turns (units.phrases self.now.depth) self.now.depth at counter.tree condition.tree) unit_depth (AtMost self.now.depth) cursor.old.rest.now result cursor.new.rest.now }
     {
         let (before, parts) = and((counter, condition), self.turn_parts(cursor))?;
         let (counter, condition) = before;
@@ -185,9 +171,7 @@ impl<
     #[tactic(auto, unfolding(elan_grammar::specs::Units::counted))]
     pub fn counted(&self, cursor: &mut Cursor<'_>) -> Result<Tall<Unit>, ParseError>
         requires { Nests self.now.depth (E.pre self.now.expression) (E.post self.now.expression) (U.pre self.now.units) (U.post self.now.units) }
-        ensures reads { GivesTall ((units.counted (units.phrases self.now.depth) self.now.depth).run cursor.old.rest.now) result cursor.new.rest.now }
-        ensures tall { IfOk result (λ a. a.height ≡ unit_depth a.tree) }
-        ensures low { IfOk result (λ a. a.height ≤ self.now.depth) }
+        ensures { Parses (units.counted (units.phrases self.now.depth) self.now.depth) unit_depth (AtMost self.now.depth) cursor.old.rest.now result cursor.new.rest.now }
     {
         cursor.below(0, self.depth)?;
         let at = cursor.keyword(Key::For)?;
@@ -200,13 +184,11 @@ impl<
     #[tactic(auto, unfolding(elan_grammar::specs::Units::guarded))]
     pub fn guarded(&self, cursor: &mut Cursor<'_>) -> Result<Tall<Unit>, ParseError>
         requires { Nests self.now.depth (E.pre self.now.expression) (E.post self.now.expression) (U.pre self.now.units) (U.post self.now.units) }
-        ensures reads { GivesTall ((units.guarded (units.phrases self.now.depth) self.now.depth).run cursor.old.rest.now) result cursor.new.rest.now }
-        ensures tall { IfOk result (λ a. a.height ≡ unit_depth a.tree) }
-        ensures low { IfOk result (λ a. a.height ≤ self.now.depth) }
+        ensures { Parses (units.guarded (units.phrases self.now.depth) self.now.depth) unit_depth (AtMost self.now.depth) cursor.old.rest.now result cursor.new.rest.now }
     {
         cursor.below(0, self.depth)?;
         let at = cursor.keyword(Key::While)?;
-        let a = self.expression(cursor, 6)?;
+        let a = self.expression(cursor, WORD_LEVEL)?;
         let counter = Tall {
             tree: None,
             height: 0,
@@ -222,9 +204,7 @@ impl<
     #[tactic(auto, unfolding(elan_grammar::specs::Units::repeated))]
     pub fn repeated(&self, cursor: &mut Cursor<'_>) -> Result<Tall<Unit>, ParseError>
         requires { Nests self.now.depth (E.pre self.now.expression) (E.post self.now.expression) (U.pre self.now.units) (U.post self.now.units) }
-        ensures reads { GivesTall ((units.repeated (units.phrases self.now.depth) self.now.depth).run cursor.old.rest.now) result cursor.new.rest.now }
-        ensures tall { IfOk result (λ a. a.height ≡ unit_depth a.tree) }
-        ensures low { IfOk result (λ a. a.height ≤ self.now.depth) }
+        ensures { Parses (units.repeated (units.phrases self.now.depth) self.now.depth) unit_depth (AtMost self.now.depth) cursor.old.rest.now result cursor.new.rest.now }
     {
         cursor.below(0, self.depth)?;
         let counter = Tall {

@@ -1,7 +1,8 @@
 //! Phrases in phrases.
 
-ghost use Rattle.std.specs.Prelude.{◌≡◌, ◌<◌, ◌≤◌, IfOk};
-ghost use Rattle.elan_grammar.specs.Rule.{GivesTall};
+ghost use Rattle.std.specs.Prelude.{◌≤◌};
+ghost use Rattle.elan_grammar.specs.Kinds.{word_level};
+ghost use Rattle.elan_grammar.specs.Rule.{Parses, AtMost, Below, IsTall};
 ghost use Rattle.elan_grammar.specs.Units as spec;
 ghost use Rattle.elan_grammar.specs.Depth.{type_depth, expr_depth, unit_depth, units_depth};
 
@@ -22,10 +23,8 @@ pub fn expression(
     depth: u16,
     level: u8,
 ) -> Result<Tall<Expr>, ParseError>
-    requires { level ≤ 6 }
-    ensures reads { GivesTall (((spec.phrases depth).level level).run cursor.old.rest.now) result cursor.new.rest.now }
-    ensures tall { IfOk result (λ a. a.height ≡ expr_depth a.tree) }
-    ensures low { IfOk result (λ a. a.height < depth) }
+    requires { level ≤ word_level }
+    ensures { Parses ((spec.phrases depth).level level) expr_depth (Below depth) cursor.old.rest.now result cursor.new.rest.now }
 {
     if depth == 0 {
         return Err(cursor.refuse());
@@ -46,9 +45,7 @@ pub fn units(
     cursor: &mut Cursor<'_>,
     depth: u16,
 ) -> Result<Tall<List<Unit>>, ParseError>
-    ensures reads { GivesTall ((spec.phrases depth).units.run cursor.old.rest.now) result cursor.new.rest.now }
-    ensures tall { IfOk result (λ a. a.height ≡ units_depth a.tree) }
-    ensures low { IfOk result (λ a. a.height < depth) }
+    ensures { Parses (spec.phrases depth).units units_depth (Below depth) cursor.old.rest.now result cursor.new.rest.now }
 {
     if depth == 0 {
         return Err(cursor.refuse());
@@ -69,11 +66,8 @@ pub fn declared(
     depth: u16,
     of: Tall<TypePhrase>,
 ) -> Result<Tall<Unit>, ParseError>
-    requires tall { of.height ≡ type_depth of.tree }
-    requires low { of.height ≤ depth }
-    ensures reads { GivesTall ((spec.declared (spec.phrases depth) depth of.tree).run cursor.old.rest.now) result cursor.new.rest.now }
-    ensures tall { IfOk result (λ a. a.height ≡ unit_depth a.tree) }
-    ensures low { IfOk result (λ a. a.height ≤ depth) }
+    requires tall { IsTall type_depth (AtMost depth) of }
+    ensures { Parses (spec.declared (spec.phrases depth) depth of.tree) unit_depth (AtMost depth) cursor.old.rest.now result cursor.new.rest.now }
 {
     let phrases = Phrases {
         alloc,
@@ -86,9 +80,7 @@ pub fn declared(
 
 /// A unit at most `depth` deep that begins with no type.
 pub fn plain(alloc: Global, cursor: &mut Cursor<'_>, depth: u16) -> Result<Tall<Unit>, ParseError>
-    ensures reads { GivesTall ((spec.plain (spec.phrases depth) depth).run cursor.old.rest.now) result cursor.new.rest.now }
-    ensures tall { IfOk result (λ a. a.height ≡ unit_depth a.tree) }
-    ensures low { IfOk result (λ a. a.height ≤ depth) }
+    ensures { Parses (spec.plain (spec.phrases depth) depth) unit_depth (AtMost depth) cursor.old.rest.now result cursor.new.rest.now }
 {
     let phrases = Phrases {
         alloc,

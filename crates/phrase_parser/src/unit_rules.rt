@@ -1,7 +1,7 @@
 //! Units: declarations and statements.
 
-ghost use Rattle.std.specs.Prelude.{◌≡◌, ◌<◌, ◌≤◌, IfOk, Some};
-ghost use Rattle.elan_grammar.specs.Rule.{GivesTall};
+ghost use Rattle.std.specs.Prelude.{◌≡◌};
+ghost use Rattle.elan_grammar.specs.Rule.{Parses, AtMost, IsTall};
 ghost use Rattle.elan_grammar.specs.Units as units;
 ghost use Rattle.form_parser.specs.Nests.{Nests};
 ghost use Rattle.elan_grammar.specs.Depth.{type_depth, expr_depth, item_depth, items_depth, unit_depth, units_depth};
@@ -14,6 +14,7 @@ use elan_grammar::ParseError;
 use elan_grammar::tall::{Tall, and, single, with_next};
 use elan_tree::{Expr, Item, Key, Sign, TypePhrase, Unit};
 use expression_parser::expr_place;
+use form_parser::WORD_LEVEL;
 use std::alloc::Global;
 use type_parser::{let_items, type_place, types};
 
@@ -23,9 +24,7 @@ impl<
 > Phrases<E, U> {
     #[tactic(auto, unfolding(elan_grammar::specs::Units::a_let))]
     fn a_let(&self, cursor: &mut Cursor<'_>) -> Result<Tall<Unit>, ParseError>
-        ensures reads { GivesTall ((units.a_let (units.phrases self.now.depth) self.now.depth).run cursor.old.rest.now) result cursor.new.rest.now }
-        ensures tall { IfOk result (λ a. a.height ≡ unit_depth a.tree) }
-        ensures low { IfOk result (λ a. a.height ≤ self.now.depth) }
+        ensures { Parses (units.a_let (units.phrases self.now.depth) self.now.depth) unit_depth (AtMost self.now.depth) cursor.old.rest.now result cursor.new.rest.now }
     {
         let at = cursor.keyword(Key::Let)?;
         let row = let_items(self.alloc, cursor, self.depth)?;
@@ -38,20 +37,16 @@ impl<
     #[tactic(auto, unfolding(elan_grammar::specs::Units::init))]
     fn init(&self, cursor: &mut Cursor<'_>) -> Result<Tall<Expr>, ParseError>
         requires { Nests self.now.depth (E.pre self.now.expression) (E.post self.now.expression) (U.pre self.now.units) (U.post self.now.units) }
-        ensures reads { GivesTall ((units.init (units.phrases self.now.depth) self.now.depth).run cursor.old.rest.now) result cursor.new.rest.now }
-        ensures tall { IfOk result (λ a. a.height ≡ expr_depth a.tree) }
-        ensures low { IfOk result (λ a. a.height ≤ self.now.depth) }
+        ensures { Parses (units.init (units.phrases self.now.depth) self.now.depth) expr_depth (AtMost self.now.depth) cursor.old.rest.now result cursor.new.rest.now }
     {
         cursor.init_mark()?;
-        self.expressions().level(cursor, 6)
+        self.expressions().level(cursor, WORD_LEVEL)
     }
 
     #[tactic(auto, unfolding(elan_grammar::specs::Units::item))]
     fn item(&self, cursor: &mut Cursor<'_>) -> Result<Tall<Item>, ParseError>
         requires { Nests self.now.depth (E.pre self.now.expression) (E.post self.now.expression) (U.pre self.now.units) (U.post self.now.units) }
-        ensures reads { GivesTall ((units.item (units.phrases self.now.depth) self.now.depth).run cursor.old.rest.now) result cursor.new.rest.now }
-        ensures tall { IfOk result (λ a. a.height ≡ item_depth a.tree) }
-        ensures low { IfOk result (λ a. a.height ≤ self.now.depth) }
+        ensures { Parses (units.item (units.phrases self.now.depth) self.now.depth) item_depth (AtMost self.now.depth) cursor.old.rest.now result cursor.new.rest.now }
     {
         let name = cursor.ident(self.alloc)?;
         if !is_init(cursor.ahead()) {
@@ -74,9 +69,7 @@ impl<
     #[tactic(auto, unfolding(elan_grammar::specs::Units::items), using(elan_grammar::proofs::Turns::turn_on, elan_grammar::proofs::Turns::turn_off, elan_grammar::proofs::Turns::turn_end, elan_grammar::proofs::Deepest::deepest_one, elan_grammar::proofs::Deepest::deepest_push))]
     fn items(&self, cursor: &mut Cursor<'_>) -> Result<Tall<List<Item>>, ParseError>
         requires { Nests self.now.depth (E.pre self.now.expression) (E.post self.now.expression) (U.pre self.now.units) (U.post self.now.units) }
-        ensures reads { GivesTall ((units.items (units.phrases self.now.depth) self.now.depth).run cursor.old.rest.now) result cursor.new.rest.now }
-        ensures tall { IfOk result (λ a. a.height ≡ items_depth a.tree) }
-        ensures low { IfOk result (λ a. a.height ≤ self.now.depth) }
+        ensures { Parses (units.items (units.phrases self.now.depth) self.now.depth) items_depth (AtMost self.now.depth) cursor.old.rest.now result cursor.new.rest.now }
     {
         let mut row = single(self.alloc, self.item(cursor))?;
         for _turn in 0..cursor.rest.len() {
@@ -92,9 +85,7 @@ impl<
     #[tactic(auto, unfolding(elan_grammar::specs::Units::constant_item))]
     fn constant_item(&self, cursor: &mut Cursor<'_>) -> Result<Tall<Item>, ParseError>
         requires { Nests self.now.depth (E.pre self.now.expression) (E.post self.now.expression) (U.pre self.now.units) (U.post self.now.units) }
-        ensures reads { GivesTall ((units.constant_item (units.phrases self.now.depth) self.now.depth).run cursor.old.rest.now) result cursor.new.rest.now }
-        ensures tall { IfOk result (λ a. a.height ≡ item_depth a.tree) }
-        ensures low { IfOk result (λ a. a.height ≤ self.now.depth) }
+        ensures { Parses (units.constant_item (units.phrases self.now.depth) self.now.depth) item_depth (AtMost self.now.depth) cursor.old.rest.now result cursor.new.rest.now }
     {
         let name = cursor.ident(self.alloc)?;
         let (name, init) = and(name, self.init(cursor))?;
@@ -111,9 +102,7 @@ impl<
     #[tactic(auto, unfolding(elan_grammar::specs::Units::constant_items), using(elan_grammar::proofs::Turns::turn_on, elan_grammar::proofs::Turns::turn_off, elan_grammar::proofs::Turns::turn_end, elan_grammar::proofs::Deepest::deepest_one, elan_grammar::proofs::Deepest::deepest_push))]
     fn constant_items(&self, cursor: &mut Cursor<'_>) -> Result<Tall<List<Item>>, ParseError>
         requires { Nests self.now.depth (E.pre self.now.expression) (E.post self.now.expression) (U.pre self.now.units) (U.post self.now.units) }
-        ensures reads { GivesTall ((units.constant_items (units.phrases self.now.depth) self.now.depth).run cursor.old.rest.now) result cursor.new.rest.now }
-        ensures tall { IfOk result (λ a. a.height ≡ items_depth a.tree) }
-        ensures low { IfOk result (λ a. a.height ≤ self.now.depth) }
+        ensures { Parses (units.constant_items (units.phrases self.now.depth) self.now.depth) items_depth (AtMost self.now.depth) cursor.old.rest.now result cursor.new.rest.now }
     {
         let mut row = single(self.alloc, self.constant_item(cursor))?;
         for _turn in 0..cursor.rest.len() {
@@ -133,11 +122,8 @@ impl<
         of: Tall<TypePhrase>,
     ) -> Result<Tall<Unit>, ParseError>
         requires nests { Nests self.now.depth (E.pre self.now.expression) (E.post self.now.expression) (U.pre self.now.units) (U.post self.now.units) }
-        requires tall { of.height ≡ type_depth of.tree }
-        requires low { of.height ≤ self.now.depth }
-        ensures reads { GivesTall ((units.variables (units.phrases self.now.depth) self.now.depth of.tree).run cursor.old.rest.now) result cursor.new.rest.now }
-        ensures tall { IfOk result (λ a. a.height ≡ unit_depth a.tree) }
-        ensures low { IfOk result (λ a. a.height ≤ self.now.depth) }
+        requires tall { IsTall type_depth (AtMost self.now.depth) of }
+        ensures { Parses (units.variables (units.phrases self.now.depth) self.now.depth of.tree) unit_depth (AtMost self.now.depth) cursor.old.rest.now result cursor.new.rest.now }
     {
         let at = type_place(&of.tree);
         let (of, _) = and(of, cursor.keyword(Key::Var))?;
@@ -156,11 +142,8 @@ impl<
         of: Tall<TypePhrase>,
     ) -> Result<Tall<Unit>, ParseError>
         requires nests { Nests self.now.depth (E.pre self.now.expression) (E.post self.now.expression) (U.pre self.now.units) (U.post self.now.units) }
-        requires tall { of.height ≡ type_depth of.tree }
-        requires low { of.height ≤ self.now.depth }
-        ensures reads { GivesTall ((units.constants (units.phrases self.now.depth) self.now.depth of.tree).run cursor.old.rest.now) result cursor.new.rest.now }
-        ensures tall { IfOk result (λ a. a.height ≡ unit_depth a.tree) }
-        ensures low { IfOk result (λ a. a.height ≤ self.now.depth) }
+        requires tall { IsTall type_depth (AtMost self.now.depth) of }
+        ensures { Parses (units.constants (units.phrases self.now.depth) self.now.depth of.tree) unit_depth (AtMost self.now.depth) cursor.old.rest.now result cursor.new.rest.now }
     {
         let at = type_place(&of.tree);
         let (of, _) = and(of, cursor.keyword(Key::Const))?;
@@ -180,11 +163,8 @@ impl<
         of: Tall<TypePhrase>,
     ) -> Result<Tall<Unit>, ParseError>
         requires nests { Nests self.now.depth (E.pre self.now.expression) (E.post self.now.expression) (U.pre self.now.units) (U.post self.now.units) }
-        requires tall { of.height ≡ type_depth of.tree }
-        requires low { of.height ≤ self.now.depth }
-        ensures reads { GivesTall ((units.declared (units.phrases self.now.depth) self.now.depth of.tree).run cursor.old.rest.now) result cursor.new.rest.now }
-        ensures tall { IfOk result (λ a. a.height ≡ unit_depth a.tree) }
-        ensures low { IfOk result (λ a. a.height ≤ self.now.depth) }
+        requires tall { IsTall type_depth (AtMost self.now.depth) of }
+        ensures { Parses (units.declared (units.phrases self.now.depth) self.now.depth of.tree) unit_depth (AtMost self.now.depth) cursor.old.rest.now result cursor.new.rest.now }
     {
         if cursor.sees_key(Key::Var) {
             self.variables(cursor, of)
@@ -196,9 +176,7 @@ impl<
     #[tactic(auto, unfolding(elan_grammar::specs::Units::declaration))]
     fn declaration(&self, cursor: &mut Cursor<'_>) -> Result<Tall<Unit>, ParseError>
         requires { Nests self.now.depth (E.pre self.now.expression) (E.post self.now.expression) (U.pre self.now.units) (U.post self.now.units) }
-        ensures reads { GivesTall ((units.declaration (units.phrases self.now.depth) self.now.depth).run cursor.old.rest.now) result cursor.new.rest.now }
-        ensures tall { IfOk result (λ a. a.height ≡ unit_depth a.tree) }
-        ensures low { IfOk result (λ a. a.height ≤ self.now.depth) }
+        ensures { Parses (units.declaration (units.phrases self.now.depth) self.now.depth) unit_depth (AtMost self.now.depth) cursor.old.rest.now result cursor.new.rest.now }
     {
         let of = types(self.alloc, cursor, self.depth)?;
         self.declared(cursor, of)
@@ -207,9 +185,7 @@ impl<
     #[tactic(auto, unfolding(elan_grammar::specs::Units::bound))]
     fn bound(&self, cursor: &mut Cursor<'_>) -> Result<Tall<Unit>, ParseError>
         requires { Nests self.now.depth (E.pre self.now.expression) (E.post self.now.expression) (U.pre self.now.units) (U.post self.now.units) }
-        ensures reads { GivesTall ((units.bound (units.phrases self.now.depth) self.now.depth).run cursor.old.rest.now) result cursor.new.rest.now }
-        ensures tall { IfOk result (λ a. a.height ≡ unit_depth a.tree) }
-        ensures low { IfOk result (λ a. a.height ≤ self.now.depth) }
+        ensures { Parses (units.bound (units.phrases self.now.depth) self.now.depth) unit_depth (AtMost self.now.depth) cursor.old.rest.now result cursor.new.rest.now }
     {
         cursor.below(0, self.depth)?;
         let at = cursor.keyword(Key::Bound)?;
@@ -227,14 +203,12 @@ impl<
     fn assigned(&self, cursor: &mut Cursor<'_>, left: Tall<Expr>) -> Result<Tall<Unit>, ParseError>
         requires nests { Nests self.now.depth (E.pre self.now.expression) (E.post self.now.expression) (U.pre self.now.units) (U.post self.now.units) }
         requires tall { left.height ≡ expr_depth left.tree }
-        ensures reads { GivesTall ((units.assigned (units.phrases self.now.depth) self.now.depth left.tree).run cursor.old.rest.now) result cursor.new.rest.now }
-        ensures tall { IfOk result (λ a. a.height ≡ unit_depth a.tree) }
-        ensures low { IfOk result (λ a. a.height ≤ self.now.depth) }
+        ensures { Parses (units.assigned (units.phrases self.now.depth) self.now.depth left.tree) unit_depth (AtMost self.now.depth) cursor.old.rest.now result cursor.new.rest.now }
     {
         let height = left.height;
         let (left, _) = and(left, cursor.below(height, self.depth))?;
         let (left, _) = and(left, cursor.mark(Sign::Becomes))?;
-        let (left, right) = and(left, self.forms().expression(cursor, 6))?;
+        let (left, right) = and(left, self.forms().expression(cursor, WORD_LEVEL))?;
         let height = left.height.max(right.height);
         let tree = Unit::Becomes {
             at: expr_place(&left.tree),
@@ -250,11 +224,9 @@ impl<
     #[tactic(auto, unfolding(elan_grammar::specs::Units::statement))]
     fn statement(&self, cursor: &mut Cursor<'_>) -> Result<Tall<Unit>, ParseError>
         requires { Nests self.now.depth (E.pre self.now.expression) (E.post self.now.expression) (U.pre self.now.units) (U.post self.now.units) }
-        ensures reads { GivesTall ((units.statement (units.phrases self.now.depth) self.now.depth).run cursor.old.rest.now) result cursor.new.rest.now }
-        ensures tall { IfOk result (λ a. a.height ≡ unit_depth a.tree) }
-        ensures low { IfOk result (λ a. a.height ≤ self.now.depth) }
+        ensures { Parses (units.statement (units.phrases self.now.depth) self.now.depth) unit_depth (AtMost self.now.depth) cursor.old.rest.now result cursor.new.rest.now }
     {
-        let a = self.expressions().level(cursor, 6)?;
+        let a = self.expressions().level(cursor, WORD_LEVEL)?;
         if cursor.sees_sign(Sign::Becomes) {
             return self.assigned(cursor, a);
         }
@@ -267,9 +239,7 @@ impl<
     #[tactic(auto, unfolding(elan_grammar::specs::Units::leave))]
     fn leave(&self, cursor: &mut Cursor<'_>) -> Result<Tall<Unit>, ParseError>
         requires { Nests self.now.depth (E.pre self.now.expression) (E.post self.now.expression) (U.pre self.now.units) (U.post self.now.units) }
-        ensures reads { GivesTall ((units.leave (units.phrases self.now.depth) self.now.depth).run cursor.old.rest.now) result cursor.new.rest.now }
-        ensures tall { IfOk result (λ a. a.height ≡ unit_depth a.tree) }
-        ensures low { IfOk result (λ a. a.height ≤ self.now.depth) }
+        ensures { Parses (units.leave (units.phrases self.now.depth) self.now.depth) unit_depth (AtMost self.now.depth) cursor.old.rest.now result cursor.new.rest.now }
     {
         cursor.below(0, self.depth)?;
         let at = cursor.keyword(Key::Leave)?;
@@ -290,9 +260,7 @@ impl<
     #[tactic(auto, unfolding(elan_grammar::specs::Units::plain))]
     pub fn plain(&self, cursor: &mut Cursor<'_>) -> Result<Tall<Unit>, ParseError>
         requires { Nests self.now.depth (E.pre self.now.expression) (E.post self.now.expression) (U.pre self.now.units) (U.post self.now.units) }
-        ensures reads { GivesTall ((units.plain (units.phrases self.now.depth) self.now.depth).run cursor.old.rest.now) result cursor.new.rest.now }
-        ensures tall { IfOk result (λ a. a.height ≡ unit_depth a.tree) }
-        ensures low { IfOk result (λ a. a.height ≤ self.now.depth) }
+        ensures { Parses (units.plain (units.phrases self.now.depth) self.now.depth) unit_depth (AtMost self.now.depth) cursor.old.rest.now result cursor.new.rest.now }
     {
         let kind = cursor.ahead();
         if is_key(Key::Let, kind) {
@@ -320,9 +288,7 @@ impl<
     #[tactic(auto, unfolding(elan_grammar::specs::Units::unit))]
     fn unit(&self, cursor: &mut Cursor<'_>) -> Result<Tall<Unit>, ParseError>
         requires { Nests self.now.depth (E.pre self.now.expression) (E.post self.now.expression) (U.pre self.now.units) (U.post self.now.units) }
-        ensures reads { GivesTall ((units.unit (units.phrases self.now.depth) self.now.depth).run cursor.old.rest.now) result cursor.new.rest.now }
-        ensures tall { IfOk result (λ a. a.height ≡ unit_depth a.tree) }
-        ensures low { IfOk result (λ a. a.height ≤ self.now.depth) }
+        ensures { Parses (units.unit (units.phrases self.now.depth) self.now.depth) unit_depth (AtMost self.now.depth) cursor.old.rest.now result cursor.new.rest.now }
     {
         if begins_typed(cursor.ahead()) {
             self.declaration(cursor)
@@ -335,9 +301,7 @@ impl<
     #[tactic(auto, unfolding(elan_grammar::specs::Units::units), using(elan_grammar::proofs::Turns::turn_on, elan_grammar::proofs::Turns::turn_off, elan_grammar::proofs::Turns::turn_end, elan_grammar::proofs::Deepest::deepest_one, elan_grammar::proofs::Deepest::deepest_push))]
     pub fn units(&self, cursor: &mut Cursor<'_>) -> Result<Tall<List<Unit>>, ParseError>
         requires { Nests self.now.depth (E.pre self.now.expression) (E.post self.now.expression) (U.pre self.now.units) (U.post self.now.units) }
-        ensures reads { GivesTall ((units.units (units.phrases self.now.depth) self.now.depth).run cursor.old.rest.now) result cursor.new.rest.now }
-        ensures tall { IfOk result (λ a. a.height ≡ units_depth a.tree) }
-        ensures low { IfOk result (λ a. a.height ≤ self.now.depth) }
+        ensures { Parses (units.units (units.phrases self.now.depth) self.now.depth) units_depth (AtMost self.now.depth) cursor.old.rest.now result cursor.new.rest.now }
     {
         let mut row = single(self.alloc, self.unit(cursor))?;
         for _turn in 0..cursor.rest.len() {

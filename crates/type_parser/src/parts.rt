@@ -1,7 +1,7 @@
 //! What holds types and no expression: parameters, constants, LET.
 
 ghost use Rattle.std.specs.Prelude.{◌≡◌, ◌≤◌, IfOk};
-ghost use Rattle.elan_grammar.specs.Rule.{Gives, GivesTall};
+ghost use Rattle.elan_grammar.specs.Rule.{Gives, Parses, AtMost};
 ghost use Rattle.elan_grammar.specs.Types as spec;
 ghost use Rattle.elan_grammar.specs.Depth.{formal_depth, formals_depth, let_item_depth, let_items_depth};
 
@@ -16,9 +16,7 @@ use std::alloc::Global;
 
 #[tactic(auto, unfolding(elan_grammar::specs::Types::formal))]
 fn formal(alloc: Global, cursor: &mut Cursor<'_>, depth: u16) -> Result<Tall<Formal>, ParseError>
-    ensures reads { GivesTall ((spec.formal depth).run cursor.old.rest.now) result cursor.new.rest.now }
-    ensures tall { IfOk result (λ a. a.height ≡ formal_depth a.tree) }
-    ensures low { IfOk result (λ a. a.height ≤ depth) }
+    ensures { Parses (spec.formal depth) formal_depth (AtMost depth) cursor.old.rest.now result cursor.new.rest.now }
 {
     let of = types(alloc, cursor, depth)?;
     let (of, access) = and(of, cursor.access())?;
@@ -41,9 +39,7 @@ pub fn formals(
     cursor: &mut Cursor<'_>,
     depth: u16,
 ) -> Result<Tall<List<Formal>>, ParseError>
-    ensures reads { GivesTall ((spec.formals depth).run cursor.old.rest.now) result cursor.new.rest.now }
-    ensures tall { IfOk result (λ a. a.height ≡ formals_depth a.tree) }
-    ensures low { IfOk result (λ a. a.height ≤ depth) }
+    ensures { Parses (spec.formals depth) formals_depth (AtMost depth) cursor.old.rest.now result cursor.new.rest.now }
 {
     let mut row = single(alloc, formal(alloc, cursor, depth))?;
     for _turn in 0..cursor.rest.len() {
@@ -92,9 +88,7 @@ fn abbreviation(
     cursor: &mut Cursor<'_>,
     depth: u16,
 ) -> Result<Tall<LetItem>, ParseError>
-    ensures reads { GivesTall ((spec.abbreviation depth).run cursor.old.rest.now) result cursor.new.rest.now }
-    ensures tall { IfOk result (λ a. a.height ≡ let_item_depth a.tree) }
-    ensures low { IfOk result (λ a. a.height ≤ depth) }
+    ensures { Parses (spec.abbreviation depth) let_item_depth (AtMost depth) cursor.old.rest.now result cursor.new.rest.now }
 {
     cursor.below(0, depth)?;
     let name = cursor.bold(alloc)?;
@@ -108,9 +102,7 @@ fn abbreviation(
 
 #[tactic(auto, unfolding(elan_grammar::specs::Types::let_item, elan_grammar::specs::Types::let_constant))]
 fn let_item(alloc: Global, cursor: &mut Cursor<'_>, depth: u16) -> Result<Tall<LetItem>, ParseError>
-    ensures reads { GivesTall ((spec.let_item depth).run cursor.old.rest.now) result cursor.new.rest.now }
-    ensures tall { IfOk result (λ a. a.height ≡ let_item_depth a.tree) }
-    ensures low { IfOk result (λ a. a.height ≤ depth) }
+    ensures { Parses (spec.let_item depth) let_item_depth (AtMost depth) cursor.old.rest.now result cursor.new.rest.now }
 {
     if is_ident(cursor.ahead()) {
         let tree = let_constant(alloc, cursor)?;
@@ -126,9 +118,7 @@ pub fn let_items(
     cursor: &mut Cursor<'_>,
     depth: u16,
 ) -> Result<Tall<List<LetItem>>, ParseError>
-    ensures reads { GivesTall ((spec.let_items depth).run cursor.old.rest.now) result cursor.new.rest.now }
-    ensures tall { IfOk result (λ a. a.height ≡ let_items_depth a.tree) }
-    ensures low { IfOk result (λ a. a.height ≤ depth) }
+    ensures { Parses (spec.let_items depth) let_items_depth (AtMost depth) cursor.old.rest.now result cursor.new.rest.now }
 {
     let mut row = single(alloc, let_item(alloc, cursor, depth))?;
     for _turn in 0..cursor.rest.len() {

@@ -1,7 +1,7 @@
 //! Types: each stands in others.
 
 ghost use Rattle.std.specs.Prelude.{◌≡◌, ◌<◌, ◌≤◌, ◌+◌, ◌-◌, ◌==◌, IfOk};
-ghost use Rattle.elan_grammar.specs.Rule.{Gives, GivesTall};
+ghost use Rattle.elan_grammar.specs.Rule.{Gives, Parses, AtMost};
 ghost use Rattle.elan_grammar.specs.Types as spec;
 ghost use Rattle.elan_grammar.specs.Depth.{type_depth, field_depth, fields_depth, type_place};
 ghost use Rattle.type_parser.specs.Nests.{TypeNests};
@@ -36,9 +36,7 @@ pub fn types(
     cursor: &mut Cursor<'_>,
     depth: u16,
 ) -> Result<Tall<TypePhrase>, ParseError>
-    ensures reads { GivesTall ((spec.types depth).run cursor.old.rest.now) result cursor.new.rest.now }
-    ensures tall { IfOk result (λ a. a.height ≡ type_depth a.tree) }
-    ensures low { IfOk result (λ a. a.height ≤ depth) }
+    ensures { Parses (spec.types depth) type_depth (AtMost depth) cursor.old.rest.now result cursor.new.rest.now }
 {
     if depth == 0 {
         return Err(cursor.refuse());
@@ -78,9 +76,7 @@ pub struct TypeRules<F> {
 impl<F: Fn(Global, &mut Cursor<'_>, u16) -> Result<Tall<TypePhrase>, ParseError>> TypeRules<F> {
     fn inner(&self, cursor: &mut Cursor<'_>) -> Result<Tall<TypePhrase>, ParseError>
         requires { TypeNests self.now.depth (F.pre self.now.inner) (F.post self.now.inner) }
-        ensures reads { GivesTall ((spec.types self.now.depth).run cursor.old.rest.now) result cursor.new.rest.now }
-        ensures tall { IfOk result (λ a. a.height ≡ type_depth a.tree) }
-        ensures low { IfOk result (λ a. a.height ≤ self.now.depth) }
+        ensures { Parses (spec.types self.now.depth) type_depth (AtMost self.now.depth) cursor.old.rest.now result cursor.new.rest.now }
     {
         (self.inner)(self.alloc, cursor, self.depth)
     }
@@ -88,9 +84,7 @@ impl<F: Fn(Global, &mut Cursor<'_>, u16) -> Result<Tall<TypePhrase>, ParseError>
     #[tactic(auto, unfolding(elan_grammar::specs::Types::row))]
     fn row(&self, cursor: &mut Cursor<'_>) -> Result<Tall<TypePhrase>, ParseError>
         requires { TypeNests self.now.depth (F.pre self.now.inner) (F.post self.now.inner) }
-        ensures reads { GivesTall ((spec.row (spec.types self.now.depth) self.now.depth).run cursor.old.rest.now) result cursor.new.rest.now }
-        ensures tall { IfOk result (λ a. a.height ≡ type_depth a.tree) }
-        ensures low { IfOk result (λ a. a.height ≤ self.now.depth + 1) }
+        ensures { Parses (spec.row (spec.types self.now.depth) self.now.depth) type_depth (AtMost (self.now.depth + 1)) cursor.old.rest.now result cursor.new.rest.now }
     {
         cursor.below(0, self.depth)?;
         let at = cursor.keyword(Key::Row)?;
@@ -109,9 +103,7 @@ impl<F: Fn(Global, &mut Cursor<'_>, u16) -> Result<Tall<TypePhrase>, ParseError>
     #[tactic(auto, unfolding(elan_grammar::specs::Types::field))]
     fn field(&self, cursor: &mut Cursor<'_>) -> Result<Tall<Field>, ParseError>
         requires { TypeNests self.now.depth (F.pre self.now.inner) (F.post self.now.inner) }
-        ensures reads { GivesTall ((spec.field (spec.types self.now.depth)).run cursor.old.rest.now) result cursor.new.rest.now }
-        ensures tall { IfOk result (λ a. a.height ≡ field_depth a.tree) }
-        ensures low { IfOk result (λ a. a.height ≤ self.now.depth) }
+        ensures { Parses (spec.field (spec.types self.now.depth)) field_depth (AtMost self.now.depth) cursor.old.rest.now result cursor.new.rest.now }
     {
         let of = self.inner(cursor)?;
         let (of, names) = and(of, names(self.alloc, cursor))?;
@@ -124,9 +116,7 @@ impl<F: Fn(Global, &mut Cursor<'_>, u16) -> Result<Tall<TypePhrase>, ParseError>
     #[tactic(auto, unfolding(elan_grammar::specs::Types::fields), using(elan_grammar::proofs::Turns::turn_on, elan_grammar::proofs::Turns::turn_off, elan_grammar::proofs::Turns::turn_end, elan_grammar::proofs::Deepest::deepest_one, elan_grammar::proofs::Deepest::deepest_push))]
     fn fields(&self, cursor: &mut Cursor<'_>) -> Result<Tall<List<Field>>, ParseError>
         requires { TypeNests self.now.depth (F.pre self.now.inner) (F.post self.now.inner) }
-        ensures reads { GivesTall ((spec.fields (spec.types self.now.depth)).run cursor.old.rest.now) result cursor.new.rest.now }
-        ensures tall { IfOk result (λ a. a.height ≡ fields_depth a.tree) }
-        ensures low { IfOk result (λ a. a.height ≤ self.now.depth) }
+        ensures { Parses (spec.fields (spec.types self.now.depth)) fields_depth (AtMost self.now.depth) cursor.old.rest.now result cursor.new.rest.now }
     {
         let mut row = single(self.alloc, self.field(cursor))?;
         for _turn in 0..cursor.rest.len() {
@@ -142,9 +132,7 @@ impl<F: Fn(Global, &mut Cursor<'_>, u16) -> Result<Tall<TypePhrase>, ParseError>
     #[tactic(auto, unfolding(elan_grammar::specs::Types::structure))]
     fn structure(&self, cursor: &mut Cursor<'_>) -> Result<Tall<TypePhrase>, ParseError>
         requires { TypeNests self.now.depth (F.pre self.now.inner) (F.post self.now.inner) }
-        ensures reads { GivesTall ((spec.structure (spec.types self.now.depth) self.now.depth).run cursor.old.rest.now) result cursor.new.rest.now }
-        ensures tall { IfOk result (λ a. a.height ≡ type_depth a.tree) }
-        ensures low { IfOk result (λ a. a.height ≤ self.now.depth + 1) }
+        ensures { Parses (spec.structure (spec.types self.now.depth) self.now.depth) type_depth (AtMost (self.now.depth + 1)) cursor.old.rest.now result cursor.new.rest.now }
     {
         cursor.below(0, self.depth)?;
         let at = cursor.keyword(Key::Struct)?;
@@ -163,9 +151,7 @@ impl<F: Fn(Global, &mut Cursor<'_>, u16) -> Result<Tall<TypePhrase>, ParseError>
     #[tactic(auto, unfolding(elan_grammar::specs::Types::a_type, elan_grammar::specs::Types::named_type))]
     fn a_type(&self, cursor: &mut Cursor<'_>) -> Result<Tall<TypePhrase>, ParseError>
         requires { TypeNests self.now.depth (F.pre self.now.inner) (F.post self.now.inner) }
-        ensures reads { GivesTall ((spec.a_type (spec.types self.now.depth) self.now.depth).run cursor.old.rest.now) result cursor.new.rest.now }
-        ensures tall { IfOk result (λ a. a.height ≡ type_depth a.tree) }
-        ensures low { IfOk result (λ a. a.height ≤ self.now.depth + 1) }
+        ensures { Parses (spec.a_type (spec.types self.now.depth) self.now.depth) type_depth (AtMost (self.now.depth + 1)) cursor.old.rest.now result cursor.new.rest.now }
     {
         let kind = cursor.ahead();
         if is_bold(kind) {

@@ -9,6 +9,6 @@ use Rattle.elan_parser.proofs.texts.level_units.Given as goal
 
 abbrev pub invariant-loop-turn : goal.invariant-loop-turn
 invariant-loop-turn l =
-    (grammar.level_units.run l.fn.cursor.rest.now
-    ≡ steps_run (further (mark sign.Semicolon) grammar.level_unit) (is_sign sign.Semicolon) (l._turn-end - l._turn) l.row.tree l.cursor.rest.now)
+    ((grammar.level_units 400 399).run l.fn.cursor.rest.now
+    ≡ steps_run (further (mark sign.Semicolon) (grammar.level_unit 400 399)) (is_sign sign.Semicolon) (l._turn-end - l._turn) l.row.tree l.cursor.rest.now)
     × (l.row.height ≡ level_units_depth l.row.tree) × (l.row.height ≤ 400)

@@ -1,0 +1,5 @@
+pub mod Limits
+pub mod TypeLimits
+pub mod ExpressionLimits
+pub mod UnitLimits
+pub mod TextLimits

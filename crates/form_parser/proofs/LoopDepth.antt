@@ -1,0 +1,19 @@
+-- How deep a loop is.
+use Rattle.std.proofs.Common.{◌≡◌, ◌+◌, ℕ, max, List, Option, Some, None, rules}
+use Rattle.elan_tree.specs.declared.phrase.Expr.{Expr}
+use Rattle.elan_tree.specs.declared.phrase.Expr.TheFolds.{the_lemmas}
+use Rattle.elan_tree.specs.declared.phrase.Counter.{Counter}
+use Rattle.elan_tree.specs.declared.phrase.Unit.{Unit as Phrase}
+use Rattle.elan_tree.specs.declared.phrase.Unit.TheVariants as u
+use Rattle.elan_grammar.specs.Depth.{unit_depth, units_depth, option_depth, option_counter_depth}
+
+pub loop_depth : (at : ℕ) (c : Option Counter) (w : Option Expr) (us : List Phrase) (a : Option Expr)
+    → unit_depth (u.Loop at c w us a) ≡ max (option_counter_depth c) (max (option_depth w) (max (units_depth us) (option_depth a))) + 1
+loop_depth at None None us None = search (rules, the_lemmas)
+loop_depth at None None us (Some a) = search (rules, the_lemmas)
+loop_depth at None (Some w) us None = search (rules, the_lemmas)
+loop_depth at None (Some w) us (Some a) = search (rules, the_lemmas)
+loop_depth at (Some c) None us None = search (rules, the_lemmas)
+loop_depth at (Some c) None us (Some a) = search (rules, the_lemmas)
+loop_depth at (Some c) (Some w) us None = search (rules, the_lemmas)
+loop_depth at (Some c) (Some w) us (Some a) = search (rules, the_lemmas)
