@@ -1,11 +1,12 @@
 //! Three spaces over one pool, against plain bytes.
 ghost use Rattle.std.specs.Prelude.{◌≡◌, ◌+◌, ◌≤◌, ◌∷◌, [], length, OnOk};
+ghost use Rattle.page_table.specs.Frames.{Stands};
 ghost use Rattle.page_table.specs.Sharing.{Agree};
 
 use data_space::DataSpace;
 use eu_base::{Boxed, Kind, List, MemFault, NoMemory, Shape, Space};
 use page_pool::Pool;
-use std::alloc::Global;
+use std::alloc::{AllocError, Global};
 use std::test::Fail;
 
 // Spaces over a pool, of which each call works on the first.
@@ -121,98 +122,200 @@ fn agree(spaces: &Three, plain: &[u8]) -> bool {
     true
 }
 
-#[test]
-fn each_space_has_the_bytes_that_were_written_to_it(rt: HostRuntime) -> Result<(), Fail> {
-    let alloc = rt.alloc();
-    let mut spaces = untouched(alloc);
-    let mut first = Vec::from_elem(alloc, 0u8, 262_144)?;
-    let mut second = first.clone()?;
-    let mut third = first.clone()?;
+// Three spaces, and beside each the bytes that it is to have.
+#[derive(Drop)]
+struct Beside {
+    spaces: Three,
+    first: Vec<u8>,
+    second: Vec<u8>,
+    third: Vec<u8>,
+}
+
+fn blank(alloc: Global) -> Result<Beside, AllocError> {
+    let first = Vec::from_elem(alloc, 0u8, 262_144)?;
+    let second = first.clone()?;
+    let third = first.clone()?;
+    Ok(Beside {
+        spaces: untouched(alloc),
+        first,
+        second,
+        third,
+    })
+}
+
+impl Beside {
+    // The next space is the first.
+    fn turned(self) -> Beside {
+        let Beside {
+            spaces,
+            first,
+            second,
+            third,
+        } = self;
+        Beside {
+            spaces: spaces.turned(),
+            first: second,
+            second: third,
+            third: first,
+        }
+    }
+
+    // A run of bytes without order, to the first space.
+    fn write(&mut self, seed: &mut u32) -> Result<(), MemFault> {
+        let at = next(seed) % 260_000;
+        let len = next(seed) as usize % 1_500;
+        let bytes = [(next(seed) % 256) as u8; 1_500];
+        self.spaces.write(at, &bytes[..len])?;
+        put(&mut self.first, at as usize, &bytes[..len]);
+        Ok(())
+    }
+
+    // The third space is a copy of the first.
+    fn copied(self, alloc: Global) -> Result<Beside, Fail> {
+        let Beside {
+            spaces,
+            first,
+            second,
+            third: _,
+        } = self;
+        let third = first.clone()?;
+        Ok(Beside {
+            spaces: spaces.copied(alloc)?,
+            first,
+            second,
+            third,
+        })
+    }
+
+    fn agrees(&self) -> bool {
+        agree(&self.spaces, &self.first)
+    }
+}
+
+// After many writes and copies.
+fn written(alloc: Global) -> Result<Beside, Fail> {
+    let mut beside = blank(alloc)?;
     let mut seed = 7;
     for _ in 0..150 {
-        let at = next(&mut seed) % 260_000;
-        let len = next(&mut seed) as usize % 1_500;
-        let bytes = [(next(&mut seed) % 256) as u8; 1_500];
-        spaces.write(at, &bytes[..len])?;
-        put(&mut first, at as usize, &bytes[..len]);
+        beside.write(&mut seed)?;
         if next(&mut seed) % 3 == 0 {
-            spaces = spaces.copied(alloc)?;
-            third = first.clone()?;
+            beside = beside.copied(alloc)?;
         }
-        spaces = spaces.turned();
-        let was = first;
-        first = second;
-        second = third;
-        third = was;
+        beside = beside.turned();
     }
-    assert!(rt; agree(&spaces, &first));
-    let spaces = spaces.turned();
-    assert!(rt; agree(&spaces, &second));
-    let spaces = spaces.turned();
-    assert!(rt; agree(&spaces, &third));
-    assert_eq!(rt; spaces.ended(), 0);
+    Ok(beside)
+}
+
+#[test]
+fn each_space_has_the_bytes_that_were_written_to_it(rt: HostRuntime) -> Result<(), Fail> {
+    let mut beside = written(rt.alloc())?;
+    for _ in 0..3 {
+        assert!(rt; beside.agrees());
+        beside = beside.turned();
+    }
+    assert_eq!(rt; beside.spaces.ended(), 0);
     Ok(())
+}
+
+// In the first page and in the last.
+fn write_ends(spaces: &mut Three) -> Result<(), MemFault> {
+    spaces.write(0, b"a")?;
+    spaces.write(261_632, b"b")
+}
+
+fn first_byte(spaces: &Three) -> u8 {
+    let mut byte = [0];
+    spaces.read(0, &mut byte);
+    byte[0]
+}
+
+// The third space is a copy of the first, and begins with other bytes.
+fn changed_copy(alloc: Global, spaces: Three) -> Result<Three, Fail> {
+    let mut spaces = spaces.copied(alloc)?.turned().turned();
+    spaces.write(0, b"c")?;
+    Ok(spaces.turned())
+}
+
+// The pages after each step, and the first byte of a space and of its changed copy.
+fn shared(alloc: Global) -> Result<([u32; 4], [u8; 2]), Fail> {
+    let mut spaces = untouched(alloc);
+    write_ends(&mut spaces)?;
+    let written = spaces.pool.used();
+    let spaces = spaces.copied(alloc)?;
+    let copied = spaces.pool.used();
+    let spaces = changed_copy(alloc, spaces)?;
+    let changed = spaces.pool.used();
+    let first = first_byte(&spaces);
+    let spaces = spaces.turned().turned();
+    let copy = first_byte(&spaces);
+    Ok(([written, copied, changed, spaces.ended()], [first, copy]))
 }
 
 #[test]
 fn pages_are_shared(rt: HostRuntime) -> Result<(), Fail> {
-    let alloc = rt.alloc();
-    let mut spaces = untouched(alloc);
-    spaces.write(0, b"a")?;
-    spaces.write(261_632, b"b")?;
-    assert_eq!(rt; spaces.pool.used(), 5);
-    let spaces = spaces.copied(alloc)?;
-    assert_eq!(rt; spaces.pool.used(), 5);
-    let mut spaces = spaces.turned().turned();
-    spaces.write(0, b"c")?;
-    assert_eq!(rt; spaces.pool.used(), 8);
-    let mut byte = [0];
-    spaces.read(0, &mut byte);
-    assert_eq!(rt; byte, *b"c");
-    let spaces = spaces.turned();
-    spaces.read(0, &mut byte);
-    assert_eq!(rt; byte, *b"a");
-    assert_eq!(rt; spaces.ended(), 0);
+    assert_eq!(rt; shared(rt.alloc())?, ([5, 5, 8, 0], *b"ac"));
     Ok(())
+}
+
+// A row of four structs of one truth value.
+fn shape(alloc: Global) -> Result<Shape, NoMemory> {
+    let mut fields = List::new(alloc);
+    fields.push(Shape::Cell(Kind::Truth))?;
+    Ok(Shape::Row(4, Boxed::new(alloc, Shape::Struct(fields))?))
+}
+
+// The type; how long the row of the shape is; how many components a struct of it has.
+fn told(space: &DataSpace) -> (i16, u16, usize) {
+    match space.shape() {
+        Some(Shape::Row(count, of)) => match of.get() {
+            Shape::Struct(fields) => (space.kind(), *count, fields.len()),
+            _ => (0, 0, 0),
+        },
+        _ => (0, 0, 0),
+    }
+}
+
+// What a copy of a space with this type and this shape tells.
+fn told_by_copy(alloc: Global, kind: i16, shape: Shape) -> Result<(i16, u16, usize), NoMemory> {
+    let mut spaces = untouched(alloc);
+    spaces.first.set_kind(kind);
+    spaces.first.set_shape(shape);
+    let spaces = spaces.copied(alloc)?;
+    Ok(told(&spaces.third))
 }
 
 #[test]
 fn a_copy_has_the_type_and_the_shape(rt: HostRuntime) -> Result<(), Fail> {
     let alloc = rt.alloc();
-    let mut spaces = untouched(alloc);
-    spaces.first.set_kind(1003);
-    let mut fields = List::new(alloc);
-    fields.push(Shape::Cell(Kind::Truth))?;
-    spaces
-        .first
-        .set_shape(Shape::Row(4, Boxed::new(alloc, Shape::Struct(fields))?));
-    let spaces = spaces.copied(alloc)?.turned().turned();
-    assert_eq!(rt; spaces.first.kind(), 1003);
-    let told = match spaces.first.shape() {
-        Some(Shape::Row(count, of)) => match of.get() {
-            Shape::Struct(fields) => (*count, fields.len()),
-            _ => (0, 0),
-        },
-        _ => (0, 0),
-    };
-    assert_eq!(rt; told, (4, 1));
-    assert_eq!(rt; spaces.first.root(), None);
-    assert_eq!(rt; DataSpace::of(5, None, spaces.first.root()).kind(), 5);
+    assert_eq!(rt; told_by_copy(alloc, 1003, shape(alloc)?)?, (1003, 4, 1));
     Ok(())
 }
 
 #[test]
-fn a_lent_space_reads_what_it_wrote(rt: HostRuntime) -> Result<(), Fail> {
+fn a_space_without_bytes_has_no_root(rt: HostRuntime) {
+    let space = DataSpace::of(5, None, DataSpace::nil().root());
+    assert_eq!(rt; (space.root(), space.kind()), (None, 5));
+}
+
+// What a lent space reads where it wrote this.
+fn lent(space: &mut DataSpace, pool: &mut Pool, from: &[u8; 15]) -> Result<[u8; 15], MemFault>
+    requires agree { Stands pool.old (space.old.root ∷ []) 0 }
+{
+    let mut bytes = [0; 15];
+    let mut lent = space.over(pool);
+    lent.write(510, from)?;
+    lent.read(510, &mut bytes)?;
+    Ok(bytes)
+}
+
+#[test]
+fn a_lent_space_reads_what_it_wrote(rt: HostRuntime) {
     let Three {
         mut pool,
         mut first,
         second: _,
         third: _,
     } = untouched(rt.alloc());
-    let mut lent = first.over(&mut pool);
-    lent.write(510, b"over the border")?;
-    let mut bytes = [0; 15];
-    lent.read(510, &mut bytes)?;
-    assert_eq!(rt; bytes, *b"over the border");
-    Ok(())
+    let read = lent(&mut first, &mut pool, b"over the border");
+    assert_eq!(rt; read, Ok(*b"over the border"));
 }
