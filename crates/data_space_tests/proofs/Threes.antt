@@ -1,10 +1,9 @@
 -- Three spaces over one pool.
 use Rattle.std.proofs.Common.{ℕ, [], ◌∷◌, Option, None, refl, arith}
-use Rattle.std.proofs.Math.Logic.{∥∥₁_map}
 use Rattle.page_pool.specs.Pool.{Pages}
 use Rattle.page_table.specs.Sharing.{Agree}
 use Rattle.page_table.specs.Frames.{Stands}
-use Rattle.page_table.proofs.Framing.{Same, agree_same, stands_of, nil_agree}
+use Rattle.page_table.proofs.Framing.{agree_same, stands_of, nil_agree}
 
 module _ (pages : Pages) (a b c : Option ℕ) where
   pub turn : ∥ Agree pages (a ∷ b ∷ c ∷ []) ∥₁ → ∥ Agree pages (b ∷ c ∷ a ∷ []) ∥₁

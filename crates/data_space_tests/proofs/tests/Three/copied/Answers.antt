@@ -1,6 +1,6 @@
-use Rattle.std.proofs.Common.{◌∷◌, [], refl, ap, sym, subst, arith}
+use Rattle.std.proofs.Common.{◌∷◌, [], refl, sym, subst, arith}
 use Rattle.page_table.specs.Sharing.{Agree}
-use Rattle.page_table.proofs.Framing.{Same, agree_after, agree_same, stands_of}
+use Rattle.page_table.proofs.Framing.{agree_after, agree_same, stands_of}
 use Rattle.data_space.specs.Data.{SpaceData}
 use Rattle.data_space_tests.proofs.Threes.{third_stands, third_first}
 use Rattle.data_space_tests.proofs.tests.Three.copied.Goals as goal
