@@ -40,7 +40,9 @@ abbrev pub IsContentSized : Content → Type 0
 IsContentSized con = (m : Spot) (at : ℕ) → length ((content_code con).lines [] m at) ≡ (content_code con).size
 
 -- the lines of a body stand where its entry says
-pub body_has : (lines : List Line) (bs : List Body) (k at n : ℕ) (b : Body) (e : Entry) → ((n : ℕ) (b : Body) → slice_get bs n ≡ Some b → IsContentSized b.content) → HasAt lines at (body_lines bs k at) → slice_get bs n ≡ Some b → slice_get (entries bs at) n ≡ Some e → HasAt lines e.first ((content_code b.content).lines [] (in_body (k + n)) e.first)
+pub body_has : (lines : List Line) (bs : List Body) (k at n : ℕ) (b : Body) (e : Entry)
+    → ((n : ℕ) (b : Body) → slice_get bs n ≡ Some b → IsContentSized b.content) → HasAt lines at (body_lines bs k at) → slice_get bs n ≡ Some b
+    → slice_get (entries bs at) n ≡ Some e → HasAt lines e.first ((content_code b.content).lines [] (in_body (k + n)) e.first)
 body_has lines [] k at n b e sized has is entry = let f : ⊥ = cc in absurd f
 body_has lines (x ∷ bs) k at zero b e sized has is entry =
     let same : x ≡ b = cc in
@@ -54,36 +56,48 @@ body_has lines (x ∷ bs) k at zero b e sized has is entry =
 body_has lines (x ∷ bs) k at (suc n) b e sized has is entry =
     let n' : suc k + n ≡ k + suc n = omega arith in
     let h = has_rest lines at (content_code x.content).size ((content_code x.content).lines [] (in_body k) at) _ (sized 0 x refl (in_body k) at) has in
-    subst (λ n. HasAt lines e.first ((content_code b.content).lines [] (in_body n) e.first)) n' (body_has lines bs (suc k) (at + (content_code x.content).size) n b e (λ n b. sized (suc n) b) h is entry)
+    subst (λ n. HasAt lines e.first ((content_code b.content).lines [] (in_body n) e.first)) n'
+    (body_has lines bs (suc k) (at + (content_code x.content).size) n b e (λ n b. sized (suc n) b) h is entry)
 
 module _ (p : Program) (variables : List ElanType) (bodies : List Body) (agrees : Agrees p variables bodies) (q : ℕ) (home : IsHome bodies (Some q)) where
   one_sized : (i : Instr) (f : List OperandKind → List OperandKind) → IsSized (one i f)
   one_sized i f ks m pc = refl
 
   pub content_sized : (con : Content) → is_content_typed variables bodies (Some q) con ≡ true → IsContentSized con
-  content_sized (contents.Units us) e m at = join_sized (all_code (map action_code us)) (one (Back None) keeps) (all_are p variables bodies agrees (Some q) home us e).sized (one_sized (Back None) keeps) [] m at
-  content_sized (contents.Value u a) e m at = join_sized (value_code a) (one (Back (Some (kind_in u))) (drop 1)) (value_is p variables bodies agrees (Some q) home a u (has_is u _ e)).sized (one_sized (Back (Some (kind_in u))) (drop 1)) [] m at
+  content_sized (contents.Units us) e m at =
+      join_sized (all_code (map action_code us)) (one (Back None) keeps) (all_are p variables bodies agrees (Some q) home us e).sized
+      (one_sized (Back None) keeps) [] m at
+  content_sized (contents.Value u a) e m at =
+      join_sized (value_code a) (one (Back (Some (kind_in u))) (drop 1)) (value_is p variables bodies agrees (Some q) home a u (has_is u _ e)).sized
+      (one_sized (Back (Some (kind_in u))) (drop 1)) [] m at
 
   -- the end of a body is an exit from it
-  back_ends : (b z : ℕ) (k : Option Kind) (v : Option Value) (ks : List OperandKind) (m : Spot) (L : Uses) (c : Position) (l : Exit → Option Value → World → Ending) → slice_get p.lines z ≡ Some (line_of (Back k) ks m) → Delivers p (Some q) k → Result k v → Exits p L b (Some q) c.frames l → (w : World) → w.marks ≤ b → Ends p L (at c z (result_ops v)) w (l exits.Body v w)
+  back_ends : (b z : ℕ) (k : Option Kind) (v : Option Value) (ks : List OperandKind) (m : Spot) (L : Uses) (c : Position)
+      (l : Exit → Option Value → World → Ending) → slice_get p.lines z ≡ Some (line_of (Back k) ks m) → Delivers p (Some q) k → Result k v
+      → Exits p L b (Some q) c.frames l → (w : World) → w.marks ≤ b → Ends p L (at c z (result_ops v)) w (l exits.Body v w)
   back_ends b z k v ks m L c l has gives r hl w le =
       let x = hl.self k gives [] v w r le in λ cells keeps.
-      on_step p (at c z (result_ops v)) x.0 (scene_of w cells) cells _ (here p z (Back k) ks m has c (result_ops v) cells ∙ by k v r cells ∙ x.1 cells) (subst (λ U. Ends p U x.0 w (l exits.Body v w)) (append-[] L) x.2 cells keeps)
+      on_step p (at c z (result_ops v)) x.0 (scene_of w cells) cells _ (here p z (Back k) ks m has c (result_ops v) cells ∙ by k v r cells ∙ x.1 cells)
+      (subst (λ U. Ends p U x.0 w (l exits.Body v w)) (append-[] L) x.2 cells keeps)
     where
-      by : (k : Option Kind) (v : Option Value) → Result k v → (cells : Cells) → on_result k (result_ops v) (λ result. back_to result c.frames cells) ≡ back_to (result_ops v) c.frames cells
+      by : (k : Option Kind) (v : Option Value) → Result k v → (cells : Cells)
+          → on_result k (result_ops v) (λ result. back_to result c.frames cells) ≡ back_to (result_ops v) c.frames cells
       by None None r cells = refl
       by None (Some v) r cells = absurd r
       by (Some k) None r cells = absurd r
       by (Some k) (Some v) r cells = refl
 
-  pub content_carries : (first : ℕ) (con : Content) → is_content_typed variables bodies (Some q) con ≡ true → HasAt p.lines first ((content_code con).lines [] (in_body q) first) → Delivers p (Some q) (delivered_kind con) → ContentCarries p q first con
+  pub content_carries : (first : ℕ) (con : Content) → is_content_typed variables bodies (Some q) con ≡ true
+      → HasAt p.lines first ((content_code con).lines [] (in_body q) first) → Delivers p (Some q) (delivered_kind con) → ContentCarries p q first con
   content_carries first (contents.Units us) e has gives =
       let f = all_code (map action_code us) in
       let i = all_are p variables bodies agrees (Some q) home us e in
       let h = has_rest p.lines first f.size (f.lines [] (in_body q) first) _ (i.sized [] (in_body q) first) has in record {
         ends = λ calls n b L c le l hl w lw.
             subst (Ends p L (at c first []) w) (sym (finish_bind (all (map act us) (reach calls n c []) w) (λ _. Gives None) (l exits.Body) l))
-            ((i.goes calls n b first L [] (in_body q) c [] refl le (has_front p.lines first (f.lines [] (in_body q) first) _ has)).by (λ _ w. l exits.Body None w) l (λ _ w _ le. back_ends b (first + f.size) None None (f.leaves []) (in_body q) L c l h.0 gives tt hl w le) hl w lw);
+            ((i.goes calls n b first L [] (in_body q) c [] refl le (has_front p.lines first (f.lines [] (in_body q) first) _ has)).by
+            (λ _ w. l exits.Body None w) l (λ _ w _ le. back_ends b (first + f.size) None None (f.leaves []) (in_body q) L c l h.0 gives tt hl w le) hl w
+            lw);
       }
   content_carries first (contents.Value u a) e has gives =
       let f = value_code a in
@@ -91,5 +105,7 @@ module _ (p : Program) (variables : List ElanType) (bodies : List Body) (agrees 
       let h = has_rest p.lines first f.size (f.lines [] (in_body q) first) _ (i.sized [] (in_body q) first) has in record {
         ends = λ calls n b L c le l hl w lw.
             subst (Ends p L (at c first []) w) (sym (finish_bind (value a (reach calls n c []) w) (λ v. Gives (Some v)) (l exits.Body) l))
-            ((i.goes calls n b first L [] (in_body q) c [] refl le (has_front p.lines first (f.lines [] (in_body q) first) _ has)).by (λ v w. l exits.Body (Some v) w) l (λ v w ok le. back_ends b (first + f.size) (Some (kind_in u)) (Some v) (f.leaves []) (in_body q) L c l h.0 gives ok hl w le) hl w lw);
+            ((i.goes calls n b first L [] (in_body q) c [] refl le (has_front p.lines first (f.lines [] (in_body q) first) _ has)).by
+            (λ v w. l exits.Body (Some v) w) l
+            (λ v w ok le. back_ends b (first + f.size) (Some (kind_in u)) (Some v) (f.leaves []) (in_body q) L c l h.0 gives ok hl w le) hl w lw);
       }

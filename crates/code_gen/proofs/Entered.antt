@@ -46,36 +46,45 @@ module _ (p : Program) (L : Uses) where
   one_operand (operand.Value k) s ops t = subst (λ s. operand_of p s ops ≡ slot_operand s ∷ ops) (sym t.1) refl
   one_operand (operand.Place k) s ops t = subst (λ s. operand_of p s ops ≡ slot_operand s ∷ ops) (sym t.1) refl
 
-  taken : (ks : List OperandKind) (ss : List Slot) (n : ℕ) (acc ops : List Operand) (go : List Operand → List Operand → Move) → TakeAll p ks L ss → on_operands (length ks + n) acc (pushed_slots p ss ops) go ≡ on_operands n (map slot_operand ss ++ acc) ops go
+  taken : (ks : List OperandKind) (ss : List Slot) (n : ℕ) (acc ops : List Operand) (go : List Operand → List Operand → Move) → TakeAll p ks L ss
+      → on_operands (length ks + n) acc (pushed_slots p ss ops) go ≡ on_operands n (map slot_operand ss ++ acc) ops go
   taken [] [] n acc ops go t = let e : 0 + n ≡ n = omega arith in ap (λ n. on_operands n acc ops go) e
   taken [] (s ∷ ss) n acc ops go t = absurd t
   taken (k ∷ ks) [] n acc ops go t = absurd t
   taken (k ∷ ks) (s ∷ ss) n acc ops go t =
       let e : suc (length ks) + n ≡ length ks + suc n = omega arith in
-      ap (λ n. on_operands n acc (pushed_slots p ss (operand_of p s ops)) go) e ∙ taken ks ss (suc n) acc (operand_of p s ops) go t.1 ∙ ap (λ l. on_operands (suc n) (map slot_operand ss ++ acc) l go) (one_operand k s ops t.0)
+      ap (λ n. on_operands n acc (pushed_slots p ss (operand_of p s ops)) go) e ∙ taken ks ss (suc n) acc (operand_of p s ops) go t.1
+      ∙ ap (λ l. on_operands (suc n) (map slot_operand ss ++ acc) l go) (one_operand k s ops t.0)
 
   -- a call takes what was pushed for its parameters
-  pub all_taken : (ks : List OperandKind) (ss : List Slot) (ops : List Operand) (go : List Operand → List Operand → Move) → TakeAll p ks L ss → on_operands (length ks) [] (pushed_slots p ss ops) go ≡ go (map slot_operand ss) ops
+  pub all_taken : (ks : List OperandKind) (ss : List Slot) (ops : List Operand) (go : List Operand → List Operand → Move) → TakeAll p ks L ss
+      → on_operands (length ks) [] (pushed_slots p ss ops) go ≡ go (map slot_operand ss) ops
   all_taken ks ss ops go t =
       let e : length ks ≡ length ks + 0 = omega arith in
       ap (λ n. on_operands n [] (pushed_slots p ss ops) go) e ∙ taken ks ss 0 [] ops go t ∙ ap (λ l. go l ops) (append-[] (map slot_operand ss))
 
   one_kept : (k : OperandKind) (s : Slot) (at : ℕ) → length L ≤ at → Takes p k L s → Kept L at (use_of k) s (number_of_operand (slot_operand s))
   one_kept (operand.Value k) s at le t = (t.0, t.1, t.2, ap (λ s. number_of_operand (slot_operand s)) t.1)
-  one_kept (operand.Place k) s at le t = (t.0, t.1, omega (arith, le, slice_get_within L t.0.variable (OfValue k) t.2), t.2, ap (λ s. number_of_operand (slot_operand s)) t.1)
+  one_kept (operand.Place k) s at le t =
+      (t.0, t.1, omega (arith, le, slice_get_within L t.0.variable (OfValue k) t.2), t.2, ap (λ s. number_of_operand (slot_operand s)) t.1)
 
-  blank_kept : (vs : List ElanType) (at : ℕ) → AllKept L at (map use_of (map operand.Value (map kind_in vs))) (map (λ (u : ElanType). Holds (blank_of (kind_in u))) vs) (map (λ (k : Kind). cell_of (blank_of k)) (map kind_in vs))
+  blank_kept : (vs : List ElanType) (at : ℕ)
+      → AllKept L at (map use_of (map operand.Value (map kind_in vs))) (map (λ (u : ElanType). Holds (blank_of (kind_in u))) vs)
+      (map (λ (k : Kind). cell_of (blank_of k)) (map kind_in vs))
   blank_kept [] at = tt
   blank_kept (v ∷ vs) at = ((blank_of (kind_in v), refl, blank_is (kind_in v), refl), blank_kept vs (suc at))
 
-  rest_kept : (ks : List OperandKind) (ss : List Slot) (vs : List ElanType) (at : ℕ) → length L ≤ at → TakeAll p ks L ss → AllKept L at (map use_of (ks ++ map operand.Value (map kind_in vs))) (ss ++ map (λ (u : ElanType). Holds (blank_of (kind_in u))) vs) (map number_of_operand (map slot_operand ss) ++ map (λ (k : Kind). cell_of (blank_of k)) (map kind_in vs))
+  rest_kept : (ks : List OperandKind) (ss : List Slot) (vs : List ElanType) (at : ℕ) → length L ≤ at → TakeAll p ks L ss
+      → AllKept L at (map use_of (ks ++ map operand.Value (map kind_in vs))) (ss ++ map (λ (u : ElanType). Holds (blank_of (kind_in u))) vs)
+      (map number_of_operand (map slot_operand ss) ++ map (λ (k : Kind). cell_of (blank_of k)) (map kind_in vs))
   rest_kept [] [] vs at le t = blank_kept vs at
   rest_kept [] (s ∷ ss) vs at le t = absurd t
   rest_kept (k ∷ ks) [] vs at le t = absurd t
   rest_kept (k ∷ ks) (s ∷ ss) vs at le t = (one_kept k s at le t.0, rest_kept ks ss vs (suc at) (omega (arith, le)) t.1)
 
   -- the cells of a call hold what its slots have
-  pub frame_kept : (ks : List OperandKind) (ss : List Slot) (vs : List ElanType) → TakeAll p ks L ss → AllKept L (length L) (frame_uses (ks ++ map operand.Value (map kind_in vs))) (frame ss vs) (frame_numbers (map slot_operand ss) (map kind_in vs))
+  pub frame_kept : (ks : List OperandKind) (ss : List Slot) (vs : List ElanType) → TakeAll p ks L ss
+      → AllKept L (length L) (frame_uses (ks ++ map operand.Value (map kind_in vs))) (frame ss vs) (frame_numbers (map slot_operand ss) (map kind_in vs))
   frame_kept ks ss vs t = (refl, (refl, rest_kept ks ss vs (suc (suc (length L))) (omega arith) t))
 
 pub kept_lengths : (L M : Uses) (at : ℕ) (more : List Slot) (ns : List ℕ) → AllKept L at M more ns → (length more ≡ length M) × (length ns ≡ length M)

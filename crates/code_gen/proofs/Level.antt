@@ -38,7 +38,8 @@ use Rattle.place_gen.proofs.Carry.{use_of, finish, Result, result_ops, reach, Af
 use Rattle.code_gen.proofs.Entered.{slot_operand, frame_uses, link_uses, all_taken, frame_kept, kept_lengths}
 
 -- what comes of a call, and of a reference, as what comes of the body
-finish_called : (n : ℕ) (o : Outcome (Option Value)) (k : Option Value → World → Ending) (l : Exit → Option Value → World → Ending) → finish (called n o) k l ≡ finish o (λ v w. k v (cut n w)) (λ e v w. k v (cut n w))
+finish_called : (n : ℕ) (o : Outcome (Option Value)) (k : Option Value → World → Ending) (l : Exit → Option Value → World → Ending)
+    → finish (called n o) k l ≡ finish o (λ v w. k v (cut n w)) (λ e v w. k v (cut n w))
 finish_called n (Gives v w) k l = refl
 finish_called n (Left e v w) k l = refl
 finish_called n (Stopped s w) k l = refl
@@ -50,7 +51,8 @@ abbrev pub from_refinement : ℕ → (Option Value → World → Ending) → (Ex
 from_refinement n k l exits.Body v w = k v (cut n w)
 from_refinement n k l exits.Around v w = l exits.Around v w
 
-finish_referred : (n : ℕ) (o : Outcome (Option Value)) (k : Option Value → World → Ending) (l : Exit → Option Value → World → Ending) → finish (referred n o) k l ≡ finish o (λ v w. k v (cut n w)) (from_refinement n k l)
+finish_referred : (n : ℕ) (o : Outcome (Option Value)) (k : Option Value → World → Ending) (l : Exit → Option Value → World → Ending)
+    → finish (referred n o) k l ≡ finish o (λ v w. k v (cut n w)) (from_refinement n k l)
 finish_referred n (Gives v w) k l = refl
 finish_referred n (Left exits.Body v w) k l = refl
 finish_referred n (Left exits.Around v w) k l = refl
@@ -61,12 +63,16 @@ finish_referred n (Asks q w) k l = refl
 module _ (p : Program) where
   -- the code of a body does what the body does: it ends as it is left from itself
   pub record ContentCarries (q first : ℕ) (con : Content) : Type 0 where
-    pub ends : (calls : Calls) (n b : ℕ) (L : Uses) (c : Position) → Within p calls n b L (in_body q) c → (l : Exit → Option Value → World → Ending) → Exits p L b (Some q) c.frames l → (w : World) → w.marks ≤ b → Ends p L (at c first []) w (finish (content con (reach calls n c []) w) (l exits.Body) l)
+    pub ends : (calls : Calls) (n b : ℕ) (L : Uses) (c : Position) → Within p calls n b L (in_body q) c → (l : Exit → Option Value → World → Ending)
+        → Exits p L b (Some q) c.frames l → (w : World) → w.marks ≤ b
+        → Ends p L (at c first []) w (finish (content con (reach calls n c []) w) (l exits.Body) l)
 
   -- cells are taken for a frame where there is room, and the machine goes into the body
-  room_ends : (L M : Uses) (more : List Slot) (ns : List ℕ) (c inner : Position) (go : World → Outcome (Option Value)) (k : Option Value → World → Ending) (l : Exit → Option Value → World → Ending) (w : World) (cells : Cells) → c.used ≡ length L → AllKept L (length L) M more ns → Keeps L w.store cells
+  room_ends : (L M : Uses) (more : List Slot) (ns : List ℕ) (c inner : Position) (go : World → Outcome (Option Value)) (k : Option Value → World → Ending)
+      (l : Exit → Option Value → World → Ending) (w : World) (cells : Cells) → c.used ≡ length L → AllKept L (length L) M more ns → Keeps L w.store cells
       → (t : Bool) → (t ≡ true → Ends p (L ++ M) inner (record w { store = w.store ++ more }) (finish (go (record w { store = w.store ++ more })) k l))
-      → After p (after_stage (cond t (To inner (written_from c.used ns cells)) (Stops CellRoom)) c (scene_of w cells)) (finish (branch t (λ w. go (record w { store = w.store ++ more })) (Stopped CellRoom) w) k l)
+      → After p (after_stage (cond t (To inner (written_from c.used ns cells)) (Stops CellRoom)) c (scene_of w cells))
+      (finish (branch t (λ w. go (record w { store = w.store ++ more })) (Stopped CellRoom) w) k l)
   room_ends L M more ns c inner go k l w cells used kept h false e = record {
     steps = 0;
     rest = record { how = halts.Stopped CellRoom; control = free c; scene = scene_of w cells };
@@ -74,28 +80,45 @@ module _ (p : Program) where
     shows = record { how = refl; marks = refl; replies = refl; cells = image L w.store cells h };
   }
   room_ends L M more ns c inner go k l w cells used kept h true e =
-      let x = e refl (written_from c.used ns cells) (subst (λ n. Keeps (L ++ M) (w.store ++ more) (written_from n ns cells)) (sym used) (extends M L w.store more cells ns h kept)) in
+      let x =
+      e refl (written_from c.used ns cells)
+      (subst (λ n. Keeps (L ++ M) (w.store ++ more) (written_from n ns cells)) (sym used) (extends M L w.store more cells ns h kept)) in
       record { steps = x.steps; rest = x.rest; comes = x.comes; shows = x.shows }
 
   -- a body is entered with these cells
   abbrev entered : Position → ℕ → ℕ → Bool → List Operand → List ℕ → Position
-  entered c first base refines ops ns = record { pc = first; ops = []; used = c.used + length ns; frames = record { back = c.pc + 1; base = base; used = c.used; refines = refines; ops = ops } ∷ c.frames }
+  entered c first base refines ops ns =
+      record {
+        pc = first;
+        ops = [];
+        used = c.used + length ns;
+        frames =
+            record { back = c.pc + 1; base = base; used = c.used; refines = refines; ops = ops } ∷ c.frames;
+      }
 
   -- with the cells of a frame in use, that those of the frame below are where they were
-  enter_ends : (L M : Uses) (more : List Slot) (ns : List ℕ) (c : Position) (first base : ℕ) (refines : Bool) (ops : List Operand) (go : World → Outcome (Option Value)) (k : Option Value → World → Ending) (l : Exit → Option Value → World → Ending) (w : World) (cells : Cells) → c.used ≡ length L → AllKept L (length L) M more ns → Keeps L w.store cells
-      → (length (L ++ M) ≤ CELLS → Ends p (L ++ M) (entered c first base refines ops ns) (record w { store = w.store ++ more }) (finish (go (record w { store = w.store ++ more })) k l))
+  enter_ends : (L M : Uses) (more : List Slot) (ns : List ℕ) (c : Position) (first base : ℕ) (refines : Bool) (ops : List Operand)
+      (go : World → Outcome (Option Value)) (k : Option Value → World → Ending) (l : Exit → Option Value → World → Ending) (w : World) (cells : Cells)
+      → c.used ≡ length L → AllKept L (length L) M more ns → Keeps L w.store cells
+      → (length (L ++ M) ≤ CELLS
+      → Ends p (L ++ M) (entered c first base refines ops ns) (record w { store = w.store ++ more })
+      (finish (go (record w { store = w.store ++ more })) k l))
       → After p (after_stage (enters c first base refines ops ns cells) c (scene_of w cells)) (finish (with_room more go w) k l)
   enter_ends L M more ns c first base refines ops go k l w cells used kept h e =
       let lengths = kept_lengths L M (length L) more ns kept in
       let same : c.used + length ns ≡ length w.store + length more = omega (arith, used, h.as_many, lengths.0, lengths.1) in
       let all : length (L ++ M) ≡ c.used + length ns = omega (arith, used, lengths.1, length-append L M) in
       let inner = entered c first base refines ops ns in
-      subst (λ n. After p (after_stage (enters c first base refines ops ns cells) c (scene_of w cells)) (finish (branch (cells_fit n) (λ w. go (record w { store = w.store ++ more })) (Stopped CellRoom) w) k l)) same
-      (room_ends L M more ns c inner go k l w cells used kept h (cells_fit (c.used + length ns)) (λ t. e (subst (λ n. n ≤ CELLS) (sym all) (leb-true (c.used + length ns) CELLS t))))
+      subst (λ n. After p (after_stage (enters c first base refines ops ns cells) c (scene_of w cells))
+      (finish (branch (cells_fit n) (λ w. go (record w { store = w.store ++ more })) (Stopped CellRoom) w) k l)) same
+      (room_ends L M more ns c inner go k l w cells used kept h (cells_fit (c.used + length ns))
+      (λ t. e (subst (λ n. n ≤ CELLS) (sym all) (leb-true (c.used + length ns) CELLS t))))
 
   -- what comes after a body, with its cells given back
-  cut_ends : (L M more : Uses) (n : ℕ) (c : Position) (v : Option Value) (w : World) (k : Option Value → World → Ending) → n ≡ length L → Ends p L c (cut n w) (k v (cut n w)) → Ends p ((L ++ M) ++ more) c w (k v (cut n w))
-  cut_ends L M more n c v w k is e cells keeps = e cells (cuts L (M ++ more) w.store cells n is (subst (λ U. Keeps U w.store cells) (append_assoc L M more) keeps))
+  cut_ends : (L M more : Uses) (n : ℕ) (c : Position) (v : Option Value) (w : World) (k : Option Value → World → Ending) → n ≡ length L
+      → Ends p L c (cut n w) (k v (cut n w)) → Ends p ((L ++ M) ++ more) c w (k v (cut n w))
+  cut_ends L M more n c v w k is e cells keeps =
+      e cells (cuts L (M ++ more) w.store cells n is (subst (λ U. Keeps U w.store cells) (append_assoc L M more) keeps))
 
 -- an entry of the tables is that of a body, whose code does what the body does
 pub record IsMade (p : Program) (bodies : List Body) (q : ℕ) (e : Entry) : Type 0 where
@@ -118,37 +141,52 @@ module _ (bodies : List Body) (p : Program) where
       entry_is : (a b : Entry) → Some a ≡ Some b → a ≡ b
       entry_is a b e = cc
 
-  owner_own : (q : ℕ) (e : Entry) (ks : List OperandKind) (vs : List Kind) → slice_get p.bodies q ≡ Some e → e.layout ≡ layouts.Own ks vs → owner p (Some q) ≡ Some q
+  owner_own : (q : ℕ) (e : Entry) (ks : List OperandKind) (vs : List Kind) → slice_get p.bodies q ≡ Some e → e.layout ≡ layouts.Own ks vs
+      → owner p (Some q) ≡ Some q
   owner_own q e ks vs is own = ap (λ o. tables.owner_at q (tables.layout_of o)) is ∙ ap (tables.owner_in q) own
 
-  frame_own : (q : ℕ) (e : Entry) (ks : List OperandKind) (vs : List Kind) → slice_get p.bodies q ≡ Some e → e.layout ≡ layouts.Own ks vs → frame_cells p (Some q) ≡ ks ++ map operand.Value vs
+  frame_own : (q : ℕ) (e : Entry) (ks : List OperandKind) (vs : List Kind) → slice_get p.bodies q ≡ Some e → e.layout ≡ layouts.Own ks vs
+      → frame_cells p (Some q) ≡ ks ++ map operand.Value vs
   frame_own q e ks vs is own = ap (cells_in p) (owner_own q e ks vs is own) ∙ ap (λ o. tables.cells_at (tables.layout_of o)) is ∙ ap tables.cells_of own
 
   -- the cells in use behind the frame below are those of the call
-  stands_called : (L : Uses) (m : Spot) (c c' : Position) (q : ℕ) (cells : List OperandKind) → Stands p L m c → length (L ++ frame_uses cells) ≤ CELLS → c'.used ≡ length (L ++ frame_uses cells) → base_of c'.frames ≡ length L + 2 → frame_cells p (Some q) ≡ cells → Stands p (L ++ frame_uses cells) (in_body q) c'
+  stands_called : (L : Uses) (m : Spot) (c c' : Position) (q : ℕ) (cells : List OperandKind) → Stands p L m c → length (L ++ frame_uses cells) ≤ CELLS
+      → c'.used ≡ length (L ++ frame_uses cells) → base_of c'.frames ≡ length L + 2 → frame_cells p (Some q) ≡ cells
+      → Stands p (L ++ frame_uses cells) (in_body q) c'
   stands_called L m c c' q cells h room used base is = record {
     used = used;
     room = room;
     level = λ x k e. get_left L (frame_uses cells) x (OfValue k) (h.level x k e);
     frame = λ x k e.
         let n : base_of c'.frames + x ≡ length L + suc (suc x) = omega (arith, base) in
-        ap (slice_get (L ++ frame_uses cells)) n ∙ get_right L (frame_uses cells) (suc (suc x)) ∙ slice_get-map use_of cells x ∙ ap (option_map use_of) (ap (λ l. slice_get l x) (sym is) ∙ e);
+        ap (slice_get (L ++ frame_uses cells)) n ∙ get_right L (frame_uses cells) (suc (suc x)) ∙ slice_get-map use_of cells x
+        ∙ ap (option_map use_of) (ap (λ l. slice_get l x) (sym is) ∙ e);
   }
 
-  stands_referred : (L : Uses) (m : Spot) (c c' : Position) (q : ℕ) → Stands p L m c → length (L ++ link_uses) ≤ CELLS → c'.used ≡ length (L ++ link_uses) → base_of c'.frames ≡ base_of c.frames → owner p (Some q) ≡ owner p m.body → Stands p (L ++ link_uses) (in_body q) c'
+  stands_referred : (L : Uses) (m : Spot) (c c' : Position) (q : ℕ) → Stands p L m c → length (L ++ link_uses) ≤ CELLS → c'.used ≡ length (L ++ link_uses)
+      → base_of c'.frames ≡ base_of c.frames → owner p (Some q) ≡ owner p m.body → Stands p (L ++ link_uses) (in_body q) c'
   stands_referred L m c c' q h room used base owned = record {
     used = used;
     room = room;
     level = λ x k e. get_left L link_uses x (OfValue k) (h.level x k e);
     frame = λ x k e.
-        ap (λ z. slice_get (L ++ link_uses) (z + x)) base ∙ get_left L link_uses (base_of c.frames + x) (use_of k) (h.frame x k (ap (λ o. slice_get (cells_in p o) x) (sym owned) ∙ e));
+        ap (λ z. slice_get (L ++ link_uses) (z + x)) base
+        ∙ get_left L link_uses (base_of c.frames + x) (use_of k) (h.frame x k (ap (λ o. slice_get (cells_in p o) x) (sym owned) ∙ e));
   }
 
   module _ (made : (q : ℕ) (e : Entry) → slice_get p.bodies q ≡ Some e → IsMade p bodies q e) where
     -- a PROC that is called, where calls in it do what they do
-    call_ends : (n b pc q : ℕ) (L : Uses) (m : Spot) (c : Position) (ops : List Operand) (e : Entry) (ks : List OperandKind) (us : List ElanType) (args : List Slot) (con : Content) → CallsCarry p (level bodies n) n → b ≤ n → Stands p L m c → slice_get p.bodies q ≡ Some e → e.layout ≡ layouts.Own ks (map kind_in us) → TakeAll p ks L args → ContentCarries p q e.first con
-        → (k : Option Value → World → Ending) (l : Exit → Option Value → World → Ending) → ((v : Option Value) (w : World) → Result e.delivers v → w.marks ≤ b → Ends p L (at c (pc + 1) (result_ops v ++ ops)) w (k v w)) → (w : World) → w.marks ≤ b → (cells : Cells) → Keeps L w.store cells
-        → After p (after_stage (enters (at c pc (pushed_slots p args ops)) e.first (c.used + 2) false ops (frame_numbers (map slot_operand args) (map kind_in us)) cells) (at c pc (pushed_slots p args ops)) (scene_of w cells)) (finish (with_room (frame args us) (λ w'. called (length w.store) (content con (record { calls = level bodies n; turns = n; base = length w.store + 2; held = bytes_on ops (bytes_of c.frames) }) w')) w) k l)
+    call_ends : (n b pc q : ℕ) (L : Uses) (m : Spot) (c : Position) (ops : List Operand) (e : Entry) (ks : List OperandKind) (us : List ElanType)
+        (args : List Slot) (con : Content) → CallsCarry p (level bodies n) n → b ≤ n → Stands p L m c → slice_get p.bodies q ≡ Some e
+        → e.layout ≡ layouts.Own ks (map kind_in us) → TakeAll p ks L args → ContentCarries p q e.first con
+        → (k : Option Value → World → Ending) (l : Exit → Option Value → World → Ending)
+        → ((v : Option Value) (w : World) → Result e.delivers v → w.marks ≤ b → Ends p L (at c (pc + 1) (result_ops v ++ ops)) w (k v w)) → (w : World)
+        → w.marks ≤ b → (cells : Cells) → Keeps L w.store cells
+        → After p (after_stage (enters (at c pc (pushed_slots p args ops)) e.first (c.used + 2) false ops
+        (frame_numbers (map slot_operand args) (map kind_in us)) cells) (at c pc (pushed_slots p args ops)) (scene_of w cells))
+        (finish (with_room (frame args us)
+        (λ w'. called (length w.store)
+        (content con (record { calls = level bodies n; turns = n; base = length w.store + 2; held = bytes_on ops (bytes_of c.frames) }) w')) w) k l)
     call_ends n b pc q L m c ops e ks us args con calls le h is own takes body k l hk w lw cells keeps =
         let now = at c pc (pushed_slots p args ops) in
         let N = length w.store in
@@ -168,18 +206,28 @@ module _ (bodies : List Body) (p : Program) where
         enter_ends p L M (frame args us) ns now e.first (c.used + 2) false ops (λ w. called N (go N w)) k l w cells h.used kept keeps (λ room.
         let base : c.used + 2 ≡ length L + 2 = omega (arith, h.used) in
         let used : c.used + length ns ≡ length (L ++ M) = omega (arith, h.used, length-append L M, (kept_lengths L M (length L) (frame args us) ns kept).1) in
-        let within : Within p (level bodies n) n b (L ++ M) (in_body q) inner = record { turns = le; stands = stands_called L m c inner q frame' h room used base (frame_own q e ks (map kind_in us) is own); carry = calls } in
+        let within : Within p (level bodies n) n b (L ++ M) (in_body q) inner =
+        record { turns = le; stands = stands_called L m c inner q frame' h room used base (frame_own q e ks (map kind_in us) is own); carry = calls } in
         let exits' : Exits p (L ++ M) b (Some q) inner.frames l' = record {
           self = λ d gives more v w r lw. (to v, λ cells. refl, back d gives more v w r lw);
-          around = λ d gives more v w r lw. (to v, λ cells. refl, back d (subst (λ o. Delivers p o d) (owner_own q e ks (map kind_in us) is own) gives) more v w r lw);
+          around =
+              λ d gives more v w r lw.
+              (to v, λ cells. refl, back d (subst (λ o. Delivers p o d) (owner_own q e ks (map kind_in us) is own) gives) more v w r lw);
         } in
         subst (λ o. Ends p (L ++ M) inner w' o) (sym (finish_called N (go N w') k l))
-        (subst (λ z. Ends p (L ++ M) inner w' (finish (go z w') (λ v w. k v (cut N w)) l')) same (body.ends (level bodies n) n b (L ++ M) inner within l' exits' w' lw)))
+        (subst (λ z. Ends p (L ++ M) inner w' (finish (go z w') (λ v w. k v (cut N w)) l')) same
+        (body.ends (level bodies n) n b (L ++ M) inner within l' exits' w' lw)))
 
     -- a refinement, which goes on over the cells of the frame below
-    refer_ends : (n b pc q : ℕ) (L : Uses) (m : Spot) (c : Position) (ops : List Operand) (e : Entry) (con : Content) → CallsCarry p (level bodies n) n → b ≤ n → Stands p L m c → slice_get p.bodies q ≡ Some e → owner p (Some q) ≡ owner p m.body → ContentCarries p q e.first con
-        → (k : Option Value → World → Ending) (l : Exit → Option Value → World → Ending) → ((v : Option Value) (w : World) → Result e.delivers v → w.marks ≤ b → Ends p L (at c (pc + 1) (result_ops v ++ ops)) w (k v w)) → Exits p L b m.body c.frames l → (w : World) → w.marks ≤ b → (cells : Cells) → Keeps L w.store cells
-        → After p (after_stage (enters (at c pc ops) e.first (base_of c.frames) true ops link_numbers cells) (at c pc ops) (scene_of w cells)) (finish (with_room link (λ w'. referred (length w.store) (content con (record { calls = level bodies n; turns = n; base = base_of c.frames; held = bytes_on ops (bytes_of c.frames) }) w')) w) k l)
+    refer_ends : (n b pc q : ℕ) (L : Uses) (m : Spot) (c : Position) (ops : List Operand) (e : Entry) (con : Content) → CallsCarry p (level bodies n) n → b ≤ n
+        → Stands p L m c → slice_get p.bodies q ≡ Some e → owner p (Some q) ≡ owner p m.body → ContentCarries p q e.first con
+        → (k : Option Value → World → Ending) (l : Exit → Option Value → World → Ending)
+        → ((v : Option Value) (w : World) → Result e.delivers v → w.marks ≤ b → Ends p L (at c (pc + 1) (result_ops v ++ ops)) w (k v w))
+        → Exits p L b m.body c.frames l → (w : World) → w.marks ≤ b → (cells : Cells) → Keeps L w.store cells
+        → After p (after_stage (enters (at c pc ops) e.first (base_of c.frames) true ops link_numbers cells) (at c pc ops) (scene_of w cells))
+        (finish (with_room link (λ w'.
+        referred (length w.store)
+        (content con (record { calls = level bodies n; turns = n; base = base_of c.frames; held = bytes_on ops (bytes_of c.frames) }) w')) w) k l)
     refer_ends n b pc q L m c ops e con calls le h is owned body k l hk hl w lw cells keeps =
         let now = at c pc ops in
         let N = length w.store in
@@ -188,34 +236,51 @@ module _ (bodies : List Body) (p : Program) where
         let inner = entered p now e.first (base_of c.frames) true ops link_numbers in
         let l' = from_refinement N k l in
         let to = λ (v : Option Value). at c (pc + 1) (result_ops v ++ ops) in
-        let go = λ (w : World). content con (record { calls = level bodies n; turns = n; base = base_of c.frames; held = bytes_on ops (bytes_of c.frames) }) w in
+        let go =
+        λ (w : World). content con (record { calls = level bodies n; turns = n; base = base_of c.frames; held = bytes_on ops (bytes_of c.frames) }) w in
         enter_ends p L M link link_numbers now e.first (base_of c.frames) true ops (λ w. referred N (go w)) k l w cells h.used (refl, (refl, tt)) keeps (λ room.
         let used : c.used + length link_numbers ≡ length (L ++ M) = omega (arith, h.used, length-append L M) in
-        let within : Within p (level bodies n) n b (L ++ M) (in_body q) inner = record { turns = le; stands = stands_referred L m c inner q h room used refl owned; carry = calls } in
+        let within : Within p (level bodies n) n b (L ++ M) (in_body q) inner =
+        record { turns = le; stands = stands_referred L m c inner q h room used refl owned; carry = calls } in
         let exits' : Exits p (L ++ M) b (Some q) inner.frames l' = record {
-          self = λ d gives more v w r lw. (to v, λ cells. refl, cut_ends p L M more N (to v) v w k keeps.as_many (hk v (cut N w) (subst (λ d. Result d v) (sym (delivers_is q e d is gives)) r) lw));
+          self =
+              λ d gives more v w r lw. (
+                to v,
+                λ cells. refl,
+                cut_ends p L M more N (to v) v w k keeps.as_many
+                    (hk v (cut N w) (subst (λ d. Result d v) (sym (delivers_is q e d is gives)) r) lw),
+              );
           around = λ d gives more v w r lw.
               let x = hl.around d (subst (λ o. Delivers p o d) owned gives) (M ++ more) v w r lw in
               (x.0, x.1, subst (λ U. Ends p U x.0 w (l exits.Around v w)) (sym (append_assoc L M more)) x.2);
         } in
         subst (λ o. Ends p (L ++ M) inner w' o) (sym (finish_referred N (go w') k l)) (body.ends (level bodies n) n b (L ++ M) inner within l' exits' w' lw))
 
-    call_step : (pc q : ℕ) (L : Uses) (ks : List OperandKind) (m : Spot) (c : Position) (ops : List Operand) (e : Entry) (parameters : List OperandKind) (vs : List Kind) (args : List Slot) → slice_get p.lines pc ≡ Some (line_of (Call q) ks m) → slice_get p.bodies q ≡ Some e → e.layout ≡ layouts.Own parameters vs → TakeAll p parameters L args → (cells : Cells) → step p (at c pc (pushed_slots p args ops)) cells ≡ Spends (enters (at c pc (pushed_slots p args ops)) e.first (c.used + 2) false ops (frame_numbers (map slot_operand args) vs) cells)
+    call_step : (pc q : ℕ) (L : Uses) (ks : List OperandKind) (m : Spot) (c : Position) (ops : List Operand) (e : Entry) (parameters : List OperandKind)
+        (vs : List Kind) (args : List Slot) → slice_get p.lines pc ≡ Some (line_of (Call q) ks m) → slice_get p.bodies q ≡ Some e
+        → e.layout ≡ layouts.Own parameters vs → TakeAll p parameters L args → (cells : Cells)
+        → step p (at c pc (pushed_slots p args ops)) cells
+        ≡ Spends (enters (at c pc (pushed_slots p args ops)) e.first (c.used + 2) false ops (frame_numbers (map slot_operand args) vs) cells)
     call_step pc q L ks m c ops e parameters vs args has is own takes cells =
         let now = at c pc (pushed_slots p args ops) in
         here p pc (Call q) ks m has c (pushed_slots p args ops) cells ∙ ap (λ o. call_move now o cells) is ∙ ap (λ x. calls_to now e.first x cells) own
         ∙ all_taken p L parameters args ops (λ args ops. Spends (enters now e.first (c.used + 2) false ops (frame_numbers args vs) cells)) takes
 
-    refer_step : (pc q : ℕ) (ks : List OperandKind) (m : Spot) (c : Position) (ops : List Operand) (e : Entry) → slice_get p.lines pc ≡ Some (line_of (Refer q) ks m) → slice_get p.bodies q ≡ Some e → (cells : Cells) → step p (at c pc ops) cells ≡ Spends (enters (at c pc ops) e.first (base_of c.frames) true ops link_numbers cells)
+    refer_step : (pc q : ℕ) (ks : List OperandKind) (m : Spot) (c : Position) (ops : List Operand) (e : Entry)
+        → slice_get p.lines pc ≡ Some (line_of (Refer q) ks m) → slice_get p.bodies q ≡ Some e → (cells : Cells)
+        → step p (at c pc ops) cells ≡ Spends (enters (at c pc ops) e.first (base_of c.frames) true ops link_numbers cells)
     refer_step pc q ks m c ops e has is cells = here p pc (Refer q) ks m has c ops cells ∙ ap (λ o. refer_move (at c pc ops) o cells) is
 
     -- so calls are carried, however many marks there are
     pub level_carries : (n : ℕ) → CallsCarry p (level bodies n) n
     level_carries zero = record {
       call = λ L b pc q ks m c ops e parameters vs args le h has is own takes.
-          out_carries p b (at c pc (pushed_slots p args ops)) (λ cells. enters (at c pc (pushed_slots p args ops)) e.first (c.used + 2) false ops (frame_numbers (map slot_operand args) vs) cells) (λ v. at c (pc + 1) (result_ops v ++ ops)) le (call_step pc q L ks m c ops e parameters vs args has is own takes);
+          out_carries p b (at c pc (pushed_slots p args ops))
+          (λ cells. enters (at c pc (pushed_slots p args ops)) e.first (c.used + 2) false ops (frame_numbers (map slot_operand args) vs) cells)
+          (λ v. at c (pc + 1) (result_ops v ++ ops)) le (call_step pc q L ks m c ops e parameters vs args has is own takes);
       refer = λ L b pc q ks m c ops e le h has is owned.
-          out_carries p b (at c pc ops) (λ cells. enters (at c pc ops) e.first (base_of c.frames) true ops link_numbers cells) (λ v. at c (pc + 1) (result_ops v ++ ops)) le (refer_step pc q ks m c ops e has is);
+          out_carries p b (at c pc ops) (λ cells. enters (at c pc ops) e.first (base_of c.frames) true ops link_numbers cells)
+          (λ v. at c (pc + 1) (result_ops v ++ ops)) le (refer_step pc q ks m c ops e has is);
     }
     level_carries (suc n) = record {
       call = λ L b pc q ks m c ops e parameters vs args le h has is own takes.
@@ -225,18 +290,25 @@ module _ (bodies : List Body) (p : Program) where
           let own' : e.layout ≡ layouts.Own parameters (map kind_in us) = own ∙ ap (layouts.Own parameters) (sym vs_are) in
           let held = bytes_on ops (bytes_of c.frames) in
           let now = at c pc (pushed_slots p args ops) in
-          spend_carries p b now (λ cells. enters now e.first (c.used + 2) false ops (frame_numbers (map slot_operand args) (map kind_in us)) cells) (run_called (level bodies n) n (slice_get bodies q) args held) (λ v. at c (pc + 1) (result_ops v ++ ops)) (call_step pc q L ks m c ops e parameters (map kind_in us) args has is own' takes) (λ b' lt. record {
+          spend_carries p b now (λ cells. enters now e.first (c.used + 2) false ops (frame_numbers (map slot_operand args) (map kind_in us)) cells)
+          (run_called (level bodies n) n (slice_get bodies q) args held) (λ v. at c (pc + 1) (result_ops v ++ ops))
+          (call_step pc q L ks m c ops e parameters (map kind_in us) args has is own' takes) (λ b' lt. record {
             by = λ k l hk hl w lw cells keeps.
-                subst (λ o. After p (after_stage (enters now e.first (c.used + 2) false ops (frame_numbers (map slot_operand args) (map kind_in us)) cells) now (scene_of w cells)) (finish (run_called (level bodies n) n o args held w) k l)) (sym x.is)
-                (call_ends n b' pc q L m c ops e parameters us args x.body.content (level_carries n) (omega (arith, le, lt)) h is own' takes x.carry k l hk w lw cells keeps);
+                subst (λ o. After p (after_stage (enters now e.first (c.used + 2) false ops (frame_numbers (map slot_operand args) (map kind_in us)) cells) now
+                (scene_of w cells)) (finish (run_called (level bodies n) n o args held w) k l)) (sym x.is)
+                (call_ends n b' pc q L m c ops e parameters us args x.body.content (level_carries n) (omega (arith, le, lt)) h is own' takes x.carry k l hk w lw
+                cells keeps);
           });
       refer = λ L b pc q ks m c ops e le h has is owned.
           let x = made q e is in
           let held = bytes_on ops (bytes_of c.frames) in
           let now = at c pc ops in
-          spend_carries p b now (λ cells. enters now e.first (base_of c.frames) true ops link_numbers cells) (run_referred (level bodies n) n (slice_get bodies q) (base_of c.frames) held) (λ v. at c (pc + 1) (result_ops v ++ ops)) (refer_step pc q ks m c ops e has is) (λ b' lt. record {
+          spend_carries p b now (λ cells. enters now e.first (base_of c.frames) true ops link_numbers cells)
+          (run_referred (level bodies n) n (slice_get bodies q) (base_of c.frames) held) (λ v. at c (pc + 1) (result_ops v ++ ops))
+          (refer_step pc q ks m c ops e has is) (λ b' lt. record {
             by = λ k l hk hl w lw cells keeps.
-                subst (λ o. After p (after_stage (enters now e.first (base_of c.frames) true ops link_numbers cells) now (scene_of w cells)) (finish (run_referred (level bodies n) n o (base_of c.frames) held w) k l)) (sym x.is)
+                subst (λ o. After p (after_stage (enters now e.first (base_of c.frames) true ops link_numbers cells) now (scene_of w cells))
+                (finish (run_referred (level bodies n) n o (base_of c.frames) held w) k l)) (sym x.is)
                 (refer_ends n b' pc q L m c ops e x.body.content (level_carries n) (omega (arith, le, lt)) h is owned x.carry k l hk hl w lw cells keeps);
           });
     }

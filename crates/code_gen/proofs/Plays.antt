@@ -28,20 +28,24 @@ blank_is kinds.Truth = tt
 abbrev blanks : List ElanType → List Slot
 blanks us = map (λ u. Holds (blank_of (kind_in u))) us
 
-blank_each : (us : List ElanType) (x : ℕ) (k : Kind) → slice_get (map kind_in us) x ≡ Some k → (v : Value) × (slice_get (blanks us) x ≡ Some (Holds v)) × IsOf k v
+blank_each : (us : List ElanType) (x : ℕ) (k : Kind) → slice_get (map kind_in us) x ≡ Some k
+    → (v : Value) × (slice_get (blanks us) x ≡ Some (Holds v)) × IsOf k v
 blank_each [] x k e = let f : ⊥ = cc in absurd f
 blank_each (u ∷ us) zero k e = let f : kind_in u ≡ k = cc in (blank_of (kind_in u), refl, subst (λ k. IsOf k (blank_of (kind_in u))) f (blank_is (kind_in u)))
 blank_each (u ∷ us) (suc x) k e = blank_each us x k e
 
-blank_slot : (us : List ElanType) (x : ℕ) (s : Slot) → slice_get (blanks us) x ≡ Some s → (k : Kind) × (slice_get (map kind_in us) x ≡ Some k) × (s ≡ Holds (blank_of k))
+blank_slot : (us : List ElanType) (x : ℕ) (s : Slot) → slice_get (blanks us) x ≡ Some s
+    → (k : Kind) × (slice_get (map kind_in us) x ≡ Some k) × (s ≡ Holds (blank_of k))
 blank_slot [] x s e = let f : ⊥ = cc in absurd f
 blank_slot (u ∷ us) zero s e = let f : s ≡ Holds (blank_of (kind_in u)) = cc in (kind_in u, refl, f)
 blank_slot (u ∷ us) (suc x) s e = blank_slot us x s e
 
 -- variables that were made hold the values that a command starts with
-pub has_blank : (core : Core) (cells : Cells) → (cells_fit (length (map kind_in core.variables)) ≡ true → IsBlank (map kind_in core.variables) cells) → HasVariables (map kind_in core.variables) (blank_store core) cells
+pub has_blank : (core : Core) (cells : Cells) → (cells_fit (length (map kind_in core.variables)) ≡ true → IsBlank (map kind_in core.variables) cells)
+    → HasVariables (map kind_in core.variables) (blank_store core) cells
 has_blank core cells blank =
-    let as_many : length (blank_store core) ≡ length (map kind_in core.variables) = length-map core.variables (λ (u : ElanType). Holds (blank_of (kind_in u))) ∙ sym (length-map core.variables kind_in) in record {
+    let as_many : length (blank_store core) ≡ length (map kind_in core.variables) =
+    length-map core.variables (λ (u : ElanType). Holds (blank_of (kind_in u))) ∙ sym (length-map core.variables kind_in) in record {
       as_many = as_many;
       each = blank_each core.variables;
       image = λ room x s e.
@@ -51,7 +55,9 @@ has_blank core cells blank =
 
 -- where a command comes to rest that was run in pieces, it shows what evaluation gives with the marks that were spent and those that
 -- it has from there, and with the replies that were given
-pub plays : (core : Core) (p : Program) (cells now : Cells) (spent left : ℕ) (replies : List Reply) (c : Control) (last : Rest) → Behaves core p → HasVariables p.variables (blank_store core) cells → Stands p (start (length p.variables)) cells spent replies c now → Rests p c (record { cells = now; marks = left; replies = [] }) last → Shows (evaluate core (spent + left) replies) last
+pub plays : (core : Core) (p : Program) (cells now : Cells) (spent left : ℕ) (replies : List Reply) (c : Control) (last : Rest) → Behaves core p
+    → HasVariables p.variables (blank_store core) cells → Stands p (start (length p.variables)) cells spent replies c now
+    → Rests p c (record { cells = now; marks = left; replies = [] }) last → Shows (evaluate core (spent + left) replies) last
 plays core p cells now spent left replies c last b has k h =
     let r = k.goes left [] last h in
     let r' = subst (λ rs. Rests p (start (length p.variables)) (record { cells = cells; marks = spent + left; replies = rs }) last) (append-[] replies) r in

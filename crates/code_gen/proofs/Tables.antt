@@ -33,7 +33,8 @@ entry_at [] at n b e = let f : ⊥ = cc in absurd f
 entry_at (x ∷ bs) at zero b e = let f : x ≡ b = cc in (at, ap (λ b. Some (entry_of b at)) f)
 entry_at (x ∷ bs) at (suc n) b e = entry_at bs (at + (content_code x.content).size) n b e
 
-pub entry_from : (bs : List Body) (at n : ℕ) (e : Entry) → slice_get (entries bs at) n ≡ Some e → (b : Body) × ((first : ℕ) × (slice_get bs n ≡ Some b) × (e ≡ entry_of b first))
+pub entry_from : (bs : List Body) (at n : ℕ) (e : Entry) → slice_get (entries bs at) n ≡ Some e
+    → (b : Body) × ((first : ℕ) × (slice_get bs n ≡ Some b) × (e ≡ entry_of b first))
 entry_from [] at n e h = let f : ⊥ = cc in absurd f
 entry_from (x ∷ bs) at zero e h = let f : e ≡ entry_of x at = cc in (x, (at, refl, f))
 entry_from (x ∷ bs) at (suc n) e h = entry_from bs (at + (content_code x.content).size) n e h
@@ -44,7 +45,8 @@ each_get p at (x ∷ ls) e zero l h =
     let f : x ≡ l = cc in
     let z : at ≡ at + 0 = omega arith in
     subst (λ n. IsFine p n l.instr l.operands l.spot) z (subst (λ (x : Line). IsFine p at x.instr x.operands x.spot) f e.0)
-each_get p at (x ∷ ls) e (suc j) l h = let z : at + 1 + j ≡ at + suc j = omega arith in subst (λ n. IsFine p n l.instr l.operands l.spot) z (each_get p (at + 1) ls e.1 j l h)
+each_get p at (x ∷ ls) e (suc j) l h =
+    let z : at + 1 + j ≡ at + suc j = omega arith in subst (λ n. IsFine p n l.instr l.operands l.spot) z (each_get p (at + 1) ls e.1 j l h)
 
 module _ (core : Core) (typed : IsWellTyped core) where
   abbrev p : Program
@@ -56,31 +58,39 @@ module _ (core : Core) (typed : IsWellTyped core) where
   pub agrees : Agrees p core.variables core.bodies
   agrees = record {
     level = refl;
-    each = λ n b is. let e = entry_at core.bodies behind n b is in record { entry = entry_of b e.0; has = e.1; layout = refl; delivers = delivers_same b.content };
+    each =
+        λ n b is. let e = entry_at core.bodies behind n b is in record { entry = entry_of b e.0; has = e.1; layout = refl; delivers = delivers_same b.content };
   }
 
-  content_good : (n : ℕ) (b : Body) (is : slice_get core.bodies n ≡ Some b) → IsGood p core.variables core.bodies agrees (Some n) (b, is) (content_code b.content)
-  content_good n b is = let e = agrees.each n b is in content_is p core.variables core.bodies agrees (Some n) (b, is) b.content (typed.bodies n b is) (e.entry, e.has, e.delivers)
+  content_good : (n : ℕ) (b : Body) (is : slice_get core.bodies n ≡ Some b)
+      → IsGood p core.variables core.bodies agrees (Some n) (b, is) (content_code b.content)
+  content_good n b is =
+      let e = agrees.each n b is in content_is p core.variables core.bodies agrees (Some n) (b, is) b.content (typed.bodies n b is) (e.entry, e.has, e.delivers)
 
   -- the bodies from one on
   pub record Bodies (bs : List Body) (n at : ℕ) : Type 0 where
     pub each : Each p at (body_lines bs n at)
     pub first : (j : ℕ) (e : Entry) → slice_get (entries bs at) j ≡ Some e → Next p.lines e.first [] (in_body (n + j))
 
-  bodies_are : (bs : List Body) (n at : ℕ) → ((j : ℕ) (b : Body) → slice_get bs j ≡ Some b → slice_get core.bodies (n + j) ≡ Some b) → HasAt p.lines at (body_lines bs n at) → Bodies bs n at
+  bodies_are : (bs : List Body) (n at : ℕ) → ((j : ℕ) (b : Body) → slice_get bs j ≡ Some b → slice_get core.bodies (n + j) ≡ Some b)
+      → HasAt p.lines at (body_lines bs n at) → Bodies bs n at
   bodies_are [] n at is has = record { each = tt; first = λ j e h. let f : ⊥ = cc in absurd f }
   bodies_are (b ∷ bs) n at is has =
       let f = content_code b.content in
       let z : n + 0 ≡ n = omega arith in
       let i = content_good n b (ap (slice_get core.bodies) (sym z) ∙ is 0 b refl) in
       let r = i.good at (in_body n) refl (has_front p.lines at (f.lines [] (in_body n) at) _ has) in
-      let more = bodies_are bs (suc n) (at + f.size) (λ j c h. let s : suc n + j ≡ n + suc j = omega arith in ap (slice_get core.bodies) s ∙ is (suc j) c h) (has_rest p.lines at f.size (f.lines [] (in_body n) at) _ (i.sized [] (in_body n) at) has) in
+      let more =
+      bodies_are bs (suc n) (at + f.size) (λ j c h. let s : suc n + j ≡ n + suc j = omega arith in ap (slice_get core.bodies) s ∙ is (suc j) c h)
+      (has_rest p.lines at f.size (f.lines [] (in_body n) at) _ (i.sized [] (in_body n) at) has) in
       record {
         each = each_rest p at f.size (f.lines [] (in_body n) at) (body_lines bs (suc n) (at + f.size)) (i.sized [] (in_body n) at) r.1 more.each;
         first = first_of r.0 more.first;
       }
     where
-      first_of : Next p.lines at [] (in_body n) → ((j : ℕ) (e : Entry) → slice_get (entries bs (at + (content_code b.content).size)) j ≡ Some e → Next p.lines e.first [] (in_body (suc n + j))) → (j : ℕ) (e : Entry) → slice_get (entries (b ∷ bs) at) j ≡ Some e → Next p.lines e.first [] (in_body (n + j))
+      first_of : Next p.lines at [] (in_body n)
+          → ((j : ℕ) (e : Entry) → slice_get (entries bs (at + (content_code b.content).size)) j ≡ Some e → Next p.lines e.first [] (in_body (suc n + j)))
+          → (j : ℕ) (e : Entry) → slice_get (entries (b ∷ bs) at) j ≡ Some e → Next p.lines e.first [] (in_body (n + j))
       first_of here more zero e h =
           let f : at ≡ e.first = cc in
           let z : n ≡ n + 0 = omega arith in
@@ -113,16 +123,20 @@ module _ (core : Core) (typed : IsWellTyped core) where
   pub has_bodies : HasAt p.lines behind (body_lines core.bodies 0 behind)
   has_bodies =
       let n : 0 + behind ≡ behind = omega arith in
-      subst (λ n. HasAt p.lines n (body_lines core.bodies 0 behind)) n (has_rest p.lines 0 behind ((level_code core).lines [] at_level 0) _ level_sized (has_all p.lines []))
+      subst (λ n. HasAt p.lines n (body_lines core.bodies 0 behind)) n
+      (has_rest p.lines 0 behind ((level_code core).lines [] at_level 0) _ level_sized (has_all p.lines []))
 
   pub valid : IsValid p
   valid =
       let level = ends_good p None End keeps units_are 0 [] at_level refl (λ q. tt) has_level in
       let more = bodies_are core.bodies 0 behind (λ j b h. let s : 0 + j ≡ j = omega arith in ap (slice_get core.bodies) s ∙ h) has_bodies in
-      let each = each_rest p 0 behind ((level_code core).lines [] at_level 0) (body_lines core.bodies 0 behind) level_sized level.1 (let n : behind ≡ 0 + behind = omega arith in subst (λ n. Each p n (body_lines core.bodies 0 behind)) n more.each) in
+      let each =
+      each_rest p 0 behind ((level_code core).lines [] at_level 0) (body_lines core.bodies 0 behind) level_sized level.1
+      (let n : behind ≡ 0 + behind = omega arith in subst (λ n. Each p n (body_lines core.bodies 0 behind)) n more.each) in
       record {
         first = level.0;
         bodies = λ n e h. let z : 0 + n ≡ n = omega arith in subst (λ n. Next p.lines e.first [] (in_body n)) z (more.first n e h);
-        owned = λ n e h. let b = entry_from core.bodies behind n e h in owned_by e.layout b.0.scope (ap (λ (e : Entry). e.layout) b.1.2) (typed.scopes n b.0 b.1.1);
+        owned =
+            λ n e h. let b = entry_from core.bodies behind n e h in owned_by e.layout b.0.scope (ap (λ (e : Entry). e.layout) b.1.2) (typed.scopes n b.0 b.1.1);
         each = λ pc l e. let z : 0 + pc ≡ pc = omega arith in subst (λ n. IsFine p n l.instr l.operands l.spot) z (each_get p 0 p.lines each pc l e);
       }

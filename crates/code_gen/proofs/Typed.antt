@@ -21,11 +21,15 @@ only : (b x : Body) (n : ℕ) → slice_get (b ∷ []) n ≡ Some x → (n ≡ 0
 only b x zero h = let same : b ≡ x = cc in (refl, same)
 only b x (suc n) h = let f : ⊥ = cc in absurd f
 
-pub one_body : (core : Core) (b : Body) → core.bodies ≡ b ∷ [] → all_true (map (is_typed core.variables core.bodies None) core.units) ≡ true → IsScope core.bodies b.scope → is_content_typed core.variables core.bodies (Some 0) b.content ≡ true → IsWellTyped core
+pub one_body : (core : Core) (b : Body) → core.bodies ≡ b ∷ [] → all_true (map (is_typed core.variables core.bodies None) core.units) ≡ true
+    → IsScope core.bodies b.scope → is_content_typed core.variables core.bodies (Some 0) b.content ≡ true → IsWellTyped core
 one_body core b e typed scope content = record {
   typed = typed;
   scopes = λ n x h. let f = only b x n (ap (λ l. slice_get l n) (sym e) ∙ h) in subst (λ (x : Body). IsScope core.bodies x.scope) f.1 scope;
-  bodies = λ n x h. let f = only b x n (ap (λ l. slice_get l n) (sym e) ∙ h) in subst (λ n. is_content_typed core.variables core.bodies (Some n) x.content ≡ true) (sym f.0) (subst (λ (x : Body). is_content_typed core.variables core.bodies (Some 0) x.content ≡ true) f.1 content);
+  bodies =
+      λ n x h. let f = only b x n (ap (λ l. slice_get l n) (sym e) ∙ h) in
+      subst (λ n. is_content_typed core.variables core.bodies (Some n) x.content ≡ true) (sym f.0)
+      (subst (λ (x : Body). is_content_typed core.variables core.bodies (Some 0) x.content ≡ true) f.1 content);
 }
 
 -- a variable, a PROC that puts its parameter, and a call of it

@@ -54,19 +54,22 @@ some_is : {A : Type 0} (a b : A) → Some a ≡ Some b → a ≡ b
 some_is a b e = cc
 
 -- cells that hold a store with a value for each variable keep it
-level_kept : (kinds : List Kind) (store : List Slot) (cells : Cells) → HasVariables kinds store cells → cells_fit (length kinds) ≡ true → Keeps (level_uses kinds) store cells
+level_kept : (kinds : List Kind) (store : List Slot) (cells : Cells) → HasVariables kinds store cells → cells_fit (length kinds) ≡ true
+    → Keeps (level_uses kinds) store cells
 level_kept kinds store cells h room = record {
   as_many = h.as_many ∙ sym (length-map kinds OfValue);
   each = λ x u e. by x u (slice_get kinds x) refl (sym (slice_get-map OfValue kinds x) ∙ e);
 }
   where
-    by : (x : ℕ) (u : Use) (k : Option Kind) → slice_get kinds x ≡ k → option_map OfValue k ≡ Some u → Kept (level_uses kinds) x u (slot_at store x) (cells (run_cell x))
+    by : (x : ℕ) (u : Use) (k : Option Kind) → slice_get kinds x ≡ k → option_map OfValue k ≡ Some u
+        → Kept (level_uses kinds) x u (slot_at store x) (cells (run_cell x))
     by x u None is e = let f : ⊥ = cc in absurd f
     by x u (Some k) is e =
         let v = h.each x k is in
         let within = slice_get_within store x (Holds v.0) v.1 in
         let slot : slot_at store x ≡ Holds v.0 = some_is _ _ (sym (slice_get-get_or store x Taken within) ∙ v.1) in
-        subst (λ u. Kept (level_uses kinds) x u (slot_at store x) (cells (run_cell x))) (some_is (OfValue k) u e) (v.0, slot, v.2, h.image (subst (λ n. cells_fit n ≡ true) (sym h.as_many) room) x (Holds v.0) v.1)
+        subst (λ u. Kept (level_uses kinds) x u (slot_at store x) (cells (run_cell x))) (some_is (OfValue k) u e)
+        (v.0, slot, v.2, h.image (subst (λ n. cells_fit n ≡ true) (sym h.as_many) room) x (Holds v.0) v.1)
 
 module _ (core : Core) (typed : IsWellTyped core) where
   abbrev p : Program
@@ -82,9 +85,13 @@ module _ (core : Core) (typed : IsWellTyped core) where
   made : (q : ℕ) (e : Entry) → slice_get p.bodies q ≡ Some e → IsMade p core.bodies q e
   made q e entry =
       let x = entry_from core.bodies (level_code core).size q e entry in
-      let sized = λ (n : ℕ) (b : Body) (is : slice_get core.bodies n ≡ Some b). content_sized p core.variables core.bodies (agrees core typed) n (b, is) b.content (typed.bodies n b is) in
+      let sized =
+      λ (n : ℕ) (b : Body) (is : slice_get core.bodies n ≡ Some b).
+      content_sized p core.variables core.bodies (agrees core typed) n (b, is) b.content (typed.bodies n b is) in
       let n : 0 + q ≡ q = omega arith in
-      let has = subst (λ n. HasAt p.lines e.first ((content_code x.0.content).lines [] (in_body n) e.first)) n (body_has p.lines core.bodies 0 (level_code core).size q x.0 e sized (has_bodies core typed) x.1.1 entry) in
+      let has =
+      subst (λ n. HasAt p.lines e.first ((content_code x.0.content).lines [] (in_body n) e.first)) n
+      (body_has p.lines core.bodies 0 (level_code core).size q x.0 e sized (has_bodies core typed) x.1.1 entry) in
       let gives : Delivers p (Some q) (delivered_kind x.0.content) = (e, entry, ap (λ (e : Entry). e.delivers) x.1.2) in
       record {
         body = x.0;
@@ -111,19 +118,24 @@ module _ (core : Core) (typed : IsWellTyped core) where
     frame = λ x k e. let f : ⊥ = cc in absurd f;
   }
 
-  runs : (w : World) (cells : Cells) → number ≤ CELLS → Keeps (level_uses p.variables) w.store cells → Comes p (free top) (scene_of w cells) (ending (all (map act core.units) (from_level core w.marks) w))
+  runs : (w : World) (cells : Cells) → number ≤ CELLS → Keeps (level_uses p.variables) w.store cells
+      → Comes p (free top) (scene_of w cells) (ending (all (map act core.units) (from_level core w.marks) w))
   runs w cells room keeps =
       let l = λ (e : Exit) (v : Option Value) (w : World). endings.Ended w in
       let q = 0 + units.size in
-      let within : Within p (level core.bodies w.marks) w.marks w.marks (level_uses p.variables) at_level top = record { turns = omega arith; stands = stands room; carry = level_carries core.bodies p made w.marks } in
+      let within : Within p (level core.bodies w.marks) w.marks w.marks (level_uses p.variables) at_level top =
+      record { turns = omega arith; stands = stands room; carry = level_carries core.bodies p made w.marks } in
       let h = has_rest p.lines 0 units.size (units.lines [] at_level 0) _ (level_is.sized [] at_level 0) (has_level core typed) in
       subst (Comes p (free top) (scene_of w cells)) (finish_ending (all (map act core.units) (from_level core w.marks) w))
-      ((level_is.goes (level core.bodies w.marks) w.marks w.marks 0 (level_uses p.variables) [] at_level top [] refl within (has_front p.lines 0 (units.lines [] at_level 0) _ (has_level core typed))).by
+      ((level_is.goes (level core.bodies w.marks) w.marks w.marks 0 (level_uses p.variables) [] at_level top [] refl within
+      (has_front p.lines 0 (units.lines [] at_level 0) _ (has_level core typed))).by
       (λ _ w. endings.Ended w) l
       (λ _ w' _ le. end_ends p (level_uses p.variables) (at top q []) w' (λ cells. here p q End (units.leaves []) at_level h.0 top [] cells))
       (no_exits w.marks l) w (omega arith) cells keeps)
 
-  by_room : (w : World) (cells : Cells) → HasVariables p.variables w.store cells → (t : Bool) → cells_fit number ≡ t → Comes p (record { position = top; waits = cond t Nothing (Refused CellRoom) }) (scene_of w cells) (ending (branch t (all (map act core.units) (from_level core w.marks)) (Stopped CellRoom) w))
+  by_room : (w : World) (cells : Cells) → HasVariables p.variables w.store cells → (t : Bool) → cells_fit number ≡ t
+      → Comes p (record { position = top; waits = cond t Nothing (Refused CellRoom) }) (scene_of w cells)
+      (ending (branch t (all (map act core.units) (from_level core w.marks)) (Stopped CellRoom) w))
   by_room w cells h true e = runs w cells (leb-true number CELLS e) (level_kept p.variables w.store cells h e)
   by_room w cells h false e = record {
     steps = 1;
@@ -134,7 +146,8 @@ module _ (core : Core) (typed : IsWellTyped core) where
 
   pub ends : (w : World) (cells : Cells) → HasVariables p.variables w.store cells → Comes p (start number) (scene_of w cells) (evaluate_from core w)
   ends w cells h =
-      subst (λ n. Comes p (start number) (scene_of w cells) (ending (branch (cells_fit n) (all (map act core.units) (from_level core w.marks)) (Stopped CellRoom) w))) (length-map core.variables kind_in)
+      subst (λ n. Comes p (start number) (scene_of w cells)
+      (ending (branch (cells_fit n) (all (map act core.units) (from_level core w.marks)) (Stopped CellRoom) w))) (length-map core.variables kind_in)
       (by_room w cells h (cells_fit number) refl)
 
   pub behaves : Behaves core p

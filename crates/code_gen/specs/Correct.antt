@@ -10,6 +10,8 @@ use Rattle.place_gen.specs.Correct.{HasVariables, Shows, Comes, scene_of}
 
 -- the code does what the command does, in any world with any marks and replies
 pub record Behaves (core : Core) (p : Program) : Type 0 where
-  pub ends : (w : World) (cells : Cells) → HasVariables p.variables w.store cells → Comes p (start (length p.variables)) (scene_of w cells) (evaluate_from core w)
+  pub ends : (w : World) (cells : Cells) → HasVariables p.variables w.store cells
+      → Comes p (start (length p.variables)) (scene_of w cells) (evaluate_from core w)
   -- and it comes to rest in no other way
-  pub only : (w : World) (cells : Cells) (n : ℕ) (r : Rest) → HasVariables p.variables w.store cells → exec p n (start (length p.variables)) (scene_of w cells) ≡ Some r → Shows (evaluate_from core w) r
+  pub only : (w : World) (cells : Cells) (n : ℕ) (r : Rest) → HasVariables p.variables w.store cells
+      → exec p n (start (length p.variables)) (scene_of w cells) ≡ Some r → Shows (evaluate_from core w) r

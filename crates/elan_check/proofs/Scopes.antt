@@ -15,9 +15,5 @@ within n names = Some (record { number = n; names = names })
 pub entered : (s : Scope) (n : ℕ) (names own : List Entry) → s.refinement ≡ None → names ≡ own → scope_with s (within n names) s.refinement ≡ l.routine_scope s n own
 entered s n names own e h = ap (λ (o : Option ℕ). scope_with s (within n names) o) e ∙ ap (λ (es : List Entry). scope_with s (within n es) None) h
 
--- behind it
-pub left_routine : (s : Scope) → s.routine ≡ None → scope_with s None s.refinement ≡ s
-left_routine s e = ap (λ (o : Option Within). scope_with s o s.refinement) (sym e)
-
 pub left_refinement : (s : Scope) → s.refinement ≡ None → scope_with s s.routine None ≡ s
 left_refinement s e = ap (λ (o : Option ℕ). scope_with s s.routine o) (sym e)

@@ -131,9 +131,6 @@ at_index (c ∷ ds) (suc i) d e = at_index ds i d e
 
 -- ---- all steps
 
-below_self : (k : Known) → Below k k
-below_self k = (refl, λ n. inr refl)
-
 below_trans : (j k l : Known) → Below j k → Below k l → Below j l
 below_trans j k l h g = (h.0 ∙ g.0, λ n. both n (h.1 n) (g.1 n))
   where

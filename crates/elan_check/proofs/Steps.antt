@@ -200,9 +200,6 @@ module _ (k : Known) where
       ∙ ap (λ (x : Refined). all_known k out n (l.all_refined_units s n (x ∷ rest))) e
       ∙ sym (at_drop_more (λ ys. all_known k out n (l.all_refined_units s n ys)) rs i r lt) ∙ h
 
-  pub refinements_found : (s : Scope) (rs : List Refined) (i n : ℕ) (out whole : Known) → length rs ≤ i → all_known k out n (l.all_refined_units s n (drop i rs)) ≡ whole → out ≡ whole
-  refinements_found s rs i n out whole le h = sym (at_drop_all (λ ys. all_known k out n (l.all_refined_units s n ys)) rs i le) ∙ h
-
   pub unit_found : (s z : Scope) (vs : List LevelUnit) (i : ℕ) (v : LevelUnit) (n m : ℕ) (out new whole : Known) → i < length vs → v ≡ get_or vs i v → m ≡ n + b.bodies_in v → z ≡ s → new ≡ all_known k out n (l.unit_bodies z n v) →
       all_known k out n (l.all_unit_bodies s n (drop i vs)) ≡ whole → all_known k new m (l.all_unit_bodies s m (drop (i + 1) vs)) ≡ whole
   unit_found s z vs i v n m out new whole lt e em ez en h =
@@ -214,9 +211,6 @@ module _ (k : Known) where
       ∙ sym (all_append k out n (l.unit_bodies s n v) (l.all_unit_bodies s behind rest))
       ∙ ap (λ (x : LevelUnit). all_known k out n (l.all_unit_bodies s n (x ∷ rest))) e
       ∙ sym (at_drop_more (λ ys. all_known k out n (l.all_unit_bodies s n ys)) vs i v lt) ∙ h
-
-  pub units_found : (s : Scope) (vs : List LevelUnit) (i n : ℕ) (out whole : Known) → length vs ≤ i → all_known k out n (l.all_unit_bodies s n (drop i vs)) ≡ whole → out ≡ whole
-  units_found s vs i n out whole le h = sym (at_drop_all (λ ys. all_known k out n (l.all_unit_bodies s n ys)) vs i le) ∙ h
 
   -- a PROC or OP, in whose scope its body is looked at
   pub routine_found : (s z : Scope) (n m : ℕ) (r : Option TypePhrase) (fs : List Formal) (w : Body) (out first new : Known) → z ≡ l.routine_scope s n (b.body_names fs w) → m ≡ n + 1 →

@@ -73,14 +73,6 @@ stays p h a t ts e = stays_by p h a (kind_of t.what) ts e
 
 -- ---- what is true of the kind of one token
 
-pub kind_ident : (v : Kind) → is_ident v ≡ true → v ≡ k.Ident
-kind_ident k.Ident e = refl
-kind_ident _ e = absurd cc
-
-pub kind_colon : (v : Kind) → is_colon v ≡ true → v ≡ k.Sign sign.Colon
-kind_colon (k.Sign sign.Colon) e = refl
-kind_colon _ e = absurd cc
-
 point_no_ident : (v w : Kind) → is_ident (point_by v w) ≡ false
 point_no_ident k.Ident (k.Sign sign.Colon) = refl
 point_no_ident k.Ident _ = refl

@@ -58,10 +58,6 @@ first_step all marks marks' b k count r lt e f h =
     ∙ append_assoc marks ((k == r) ∷ []) (equal_from (k + 1) (count - (k + 1)) r)
     ∙ ap (λ (l : List Bool). marks ++ l) (sym (equal_open k count r lt)) ∙ h
 
-pub first_end : (all marks : List Bool) (k count r : ℕ) → count ≤ k → marks ++ equal_from k (count - k) r ≡ all → marks ≡ all
-first_end all marks k count r le h =
-    sym (append-nil marks) ∙ ap (λ (m : ℕ). marks ++ equal_from k m r) (let e : 0 ≡ count - k = omega arith in e) ∙ h
-
 marks_open : (k : ℕ) (marks : List Bool) (r : ℕ) (calls : List (List ℕ)) (i : ℕ) (cs : List ℕ) → i < length calls → cs ≡ get_or calls i cs → marks_from k marks r (drop i calls) ≡ (k == r || any_marked marks r cs) ∷ marks_from (k + 1) marks r (drop (i + 1) calls)
 marks_open k marks r calls i cs lt e =
     ap (marks_from k marks r) (drop-cons calls i cs lt ∙ ap (λ (l : List ℕ). l ∷ drop (suc i) calls) (sym e))

@@ -7,12 +7,14 @@ use Rattle.fixpoint.specs.Fixpoints.{IsPlace, ArePlaces, HasPages, HasFirst}
 use Rattle.fixpoint.proofs.Phases.{gate_is}
 
 module _ (root count : ℕ) (place : ℕ → ℕ) (page : ℕ → List ℕ) (are : ArePlaces root count place) (s s0 s1 s2 s3 s4 : DiskState)
-    (first : ChangesOnly (λ k. k ≡ 0) s s0) (second : ChangesOnly (λ k. (k ≡ 1) × (true ≡ true)) s0 s1) (places : ChangesOnly (IsPlace count place) s1 s2) (heads : ChangesOnly (λ k. k ≡ 2) s2 s3)
+    (first : ChangesOnly (λ k. k ≡ 0) s s0) (second : ChangesOnly (λ k. (k ≡ 1) × (true ≡ true)) s0 s1) (places : ChangesOnly (IsPlace count place) s1 s2)
+    (heads : ChangesOnly (λ k. k ≡ 2) s2 s3)
     (gates : ChangesOnly (λ k. k ≡ 0) s3 s4) where
   no_place : (k : ℕ) → k < 4 → IsPlace count place k → ⊥
   no_place k small at = let le : 4 ≤ place at.0 = are.low at.0 at.1 in absurd (omega (arith, at.2))
 
-  pub formatted : s1.content 1 ≡ gate_of false → HasPages count place page s2.content → s3.content 2 ≡ head_of 1 root → IsSettled s4 → s4.content 0 ≡ gate_of true
+  pub formatted : s1.content 1 ≡ gate_of false → HasPages count place page s2.content → s3.content 2 ≡ head_of 1 root → IsSettled s4
+      → s4.content 0 ≡ gate_of true
       → HasFirst root count place page s s4
   formatted shut pages head settled opened = record {
     first = record {

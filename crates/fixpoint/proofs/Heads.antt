@@ -38,7 +38,8 @@ not_both content sequence root sequence2 root2 t u =
     let b = u.other t.open_gate in
     let same_a : a.old_sequence ≡ sequence2 = one_sequence (content 3) a.old_sequence a.old_root sequence2 root2 a.head u.head in
     let same_b : b.old_sequence ≡ sequence = one_sequence (content 2) b.old_sequence b.old_root sequence root b.head t.head in
-    not_around sequence sequence2 t.head.sequence_low t.head.sequence_high u.head.sequence_low u.head.sequence_high (a.older ∙ ap next_of same_a) (b.older ∙ ap next_of same_b)
+    not_around sequence sequence2 t.head.sequence_low t.head.sequence_high u.head.sequence_low u.head.sequence_high (a.older ∙ ap next_of same_a)
+    (b.older ∙ ap next_of same_b)
 
 same_head : (content : Blocks) (slot sequence root sequence2 root2 : ℕ) → IsTaken content slot sequence root → IsTaken content slot sequence2 root2
     → (sequence ≡ sequence2) × (root ≡ root2)
@@ -51,7 +52,8 @@ same_head content slot sequence root sequence2 root2 t u = (
 pub one_taken : (content : Blocks) (slot sequence root slot2 sequence2 root2 : ℕ) → IsTaken content slot sequence root → IsTaken content slot2 sequence2 root2
     → (slot ≡ slot2) × (sequence ≡ sequence2) × (root ≡ root2)
 one_taken content zero sequence root zero sequence2 root2 t u = let same = same_head content 0 sequence root sequence2 root2 t u in (refl, same.0, same.1)
-one_taken content (suc zero) sequence root (suc zero) sequence2 root2 t u = let same = same_head content 1 sequence root sequence2 root2 t u in (refl, same.0, same.1)
+one_taken content (suc zero) sequence root (suc zero) sequence2 root2 t u =
+    let same = same_head content 1 sequence root sequence2 root2 t u in (refl, same.0, same.1)
 one_taken content zero sequence root (suc zero) sequence2 root2 t u = absurd (not_both content sequence root sequence2 root2 t u)
 one_taken content (suc zero) sequence root zero sequence2 root2 t u = absurd (not_both content sequence2 root2 sequence root u t)
 one_taken content (suc (suc n)) sequence root slot2 sequence2 root2 t u = absurd (omega (arith, t.number))
@@ -59,7 +61,8 @@ one_taken content zero sequence root (suc (suc n)) sequence2 root2 t u = absurd 
 one_taken content (suc zero) sequence root (suc (suc n)) sequence2 root2 t u = absurd (omega (arith, u.number))
 
 -- an open gate with no head behind it
-bad_head : (content : Blocks) (bad slot sequence root : ℕ) → bad < 2 → is_open content bad ≡ true → ((sequence root : ℕ) → ¬ (IsHead (content (2 + bad)) sequence root))
+bad_head : (content : Blocks) (bad slot sequence root : ℕ) → bad < 2 → is_open content bad ≡ true
+    → ((sequence root : ℕ) → ¬ (IsHead (content (2 + bad)) sequence root))
     → IsTaken content slot sequence root → ⊥
 bad_head content zero zero sequence root number is none t = none sequence root t.head
 bad_head content zero (suc zero) sequence root number is none t = let older = t.other is in none older.old_sequence older.old_root older.head
@@ -72,12 +75,14 @@ bad_head content (suc zero) (suc (suc n)) sequence root number is none t = absur
 equal : (content : Blocks) → HasEqualSequences content → (slot sequence root : ℕ) → IsTaken content slot sequence root → ⊥
 equal content both zero sequence root t =
     let older = t.other both.second_gate in
-    let a : older.old_sequence ≡ both.sequence = one_sequence (content 3) older.old_sequence older.old_root both.sequence both.second_root older.head both.second_head in
+    let a : older.old_sequence ≡ both.sequence =
+    one_sequence (content 3) older.old_sequence older.old_root both.sequence both.second_root older.head both.second_head in
     let b : both.sequence ≡ sequence = one_sequence (content 2) both.sequence both.first_root sequence root both.first_head t.head in
     not_itself sequence t.head.sequence_low t.head.sequence_high (older.older ∙ ap next_of (a ∙ b))
 equal content both (suc zero) sequence root t =
     let older = t.other both.first_gate in
-    let a : older.old_sequence ≡ both.sequence = one_sequence (content 2) older.old_sequence older.old_root both.sequence both.first_root older.head both.first_head in
+    let a : older.old_sequence ≡ both.sequence =
+    one_sequence (content 2) older.old_sequence older.old_root both.sequence both.first_root older.head both.first_head in
     let b : both.sequence ≡ sequence = one_sequence (content 3) both.sequence both.second_root sequence root both.second_head t.head in
     not_itself sequence t.head.sequence_low t.head.sequence_high (older.older ∙ ap next_of (a ∙ b))
 equal content both (suc (suc n)) sequence root t = absurd (omega (arith, t.number))

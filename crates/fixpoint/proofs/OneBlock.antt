@@ -11,7 +11,8 @@ one_block bytes long = ap (λ (n : ℕ). n / 512) long
 pub whole_block : (bytes : List ℕ) → length bytes ≡ 512 → block_of 0 bytes ≡ bytes
 whole_block bytes long = take_all 512 bytes (omega (arith, long))
 
-pub wrote_one : (at : ℕ) (bytes : List ℕ) (old new : Option DiskState) → length bytes ≡ 512 → new ≡ option_map (after_writes (blocks_in bytes) at bytes) old → new ≡ option_map (after_write at bytes) old
+pub wrote_one : (at : ℕ) (bytes : List ℕ) (old new : Option DiskState) → length bytes ≡ 512 → new ≡ option_map (after_writes (blocks_in bytes) at bytes) old
+    → new ≡ option_map (after_write at bytes) old
 wrote_one at bytes old new long is =
     is ∙ ap (λ (n : ℕ). option_map (after_writes n at bytes) old) (one_block bytes long)
     ∙ (λ i. option_map (after_write (add-zero at i) (whole_block bytes long i)) old)

@@ -15,7 +15,8 @@ four_parts w1 y1 w2 w y s s1 s2 s3 s4 first second third fourth all_writes all_s
 
 module _ {D : Type 0} (state : D → Option DiskState) (moment : D → ℕ) (left_since : D → ℕ → Blocks → Type 0) where
   -- the calls of one part, and of those before it
-  pub so_far : (w y w2 y2 w3 y3 : ℕ) (mid new : D) (changed : ℕ → Type 0) (s t : DiskState) → HasMadeAtMost 0 w y s t → (step : Step state moment left_since mid new changed 0 w2 y2 t)
+  pub so_far : (w y w2 y2 w3 y3 : ℕ) (mid new : D) (changed : ℕ → Type 0) (s t : DiskState) → HasMadeAtMost 0 w y s t
+      → (step : Step state moment left_since mid new changed 0 w2 y2 t)
       → w + w2 ≤ w3 → y + y2 ≤ y3 → HasMadeAtMost 0 w3 y3 s step.reached
   so_far w y w2 y2 w3 y3 mid new changed s t before step writes syncs =
       at_most_of 0 (w + w2) (y + y2) 0 w3 y3 s step.reached (omega arith) writes syncs (at_most_more 0 w y 0 w2 y2 s t step.reached before step.calls)

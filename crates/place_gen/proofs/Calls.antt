@@ -41,121 +41,170 @@ module _ (p : Program) (body : Option ℕ) where
   pub value_actual : {x : Run Value} {f : Stretch} (k : Kind) → IsValue p body k x f → IsActual (operand.Value k) (λ r w. bind (x r w) (λ v. Gives (Holds v))) f
   value_actual {x} {f} k i = record {
     sized = i.sized;
-    goes = λ calls n b pc L ks m c ops home le has. then_carries p b (at c pc ops) (x (reach calls n c ops)) (λ v. at c (pc + f.size) (keep v ops)) (λ v. Gives (Holds v)) (λ s. at c (pc + f.size) (operand_of p s ops)) (i.goes calls n b pc L ks m c ops home le has) (λ v ok. none_carries p b (Holds v) (λ s. at c (pc + f.size) (operand_of p s ops)) (v, refl, ok));
+    goes =
+        λ calls n b pc L ks m c ops home le has.
+        then_carries p b (at c pc ops) (x (reach calls n c ops)) (λ v. at c (pc + f.size) (keep v ops)) (λ v. Gives (Holds v))
+        (λ s. at c (pc + f.size) (operand_of p s ops)) (i.goes calls n b pc L ks m c ops home le has)
+        (λ v ok. none_carries p b (Holds v) (λ s. at c (pc + f.size) (operand_of p s ops)) (v, refl, ok));
   }
 
-  pub place_actual : {x : Run Place} {f : Stretch} (k : Kind) → IsPlace p body k x f → IsActual (operand.Place k) (λ r w. bind (x r w) (λ v. Gives (Refers v))) f
+  pub place_actual : {x : Run Place} {f : Stretch} (k : Kind) → IsPlace p body k x f
+      → IsActual (operand.Place k) (λ r w. bind (x r w) (λ v. Gives (Refers v))) f
   place_actual {x} {f} k i = record {
     sized = i.sized;
-    goes = λ calls n b pc L ks m c ops home le has. then_carries p b (at c pc ops) (x (reach calls n c ops)) (λ v. at c (pc + f.size) (keep_place v ops)) (λ v. Gives (Refers v)) (λ s. at c (pc + f.size) (operand_of p s ops)) (i.goes calls n b pc L ks m c ops home le has) (λ v ok. none_carries p b (Refers v) (λ s. at c (pc + f.size) (operand_of p s ops)) (v, refl, ok));
+    goes =
+        λ calls n b pc L ks m c ops home le has.
+        then_carries p b (at c pc ops) (x (reach calls n c ops)) (λ v. at c (pc + f.size) (keep_place v ops)) (λ v. Gives (Refers v))
+        (λ s. at c (pc + f.size) (operand_of p s ops)) (i.goes calls n b pc L ks m c ops home le has)
+        (λ v ok. none_carries p b (Refers v) (λ s. at c (pc + f.size) (operand_of p s ops)) (v, refl, ok));
   }
 
   pub no_actuals_are : AreActuals [] [] none
   no_actuals_are = record {
     sized = λ ks m pc. refl;
-    goes = λ calls n b pc L ks m c ops home le has. ends_at p b (at c pc ops) c (Gives []) pc _ (λ ss. pushed_slots p ss ops) (omega arith) (none_carries p b [] (λ ss. at c pc (pushed_slots p ss ops)) tt);
+    goes =
+        λ calls n b pc L ks m c ops home le has.
+        ends_at p b (at c pc ops) c (Gives []) pc _ (λ ss. pushed_slots p ss ops) (omega arith)
+        (none_carries p b [] (λ ss. at c pc (pushed_slots p ss ops)) tt);
   }
 
   -- what is pending with a slot
-  held_slot : (calls : Calls) (n : ℕ) (c : Position) (ops : List Operand) (s : Slot) → reach calls n c (operand_of p s ops) ≡ holding_slot s (reach calls n c ops)
+  held_slot : (calls : Calls) (n : ℕ) (c : Position) (ops : List Operand) (s : Slot)
+      → reach calls n c (operand_of p s ops) ≡ holding_slot s (reach calls n c ops)
   held_slot calls n c ops (Holds v) = refl
   held_slot calls n c ops (Refers x) = refl
   held_slot calls n c ops Taken = refl
 
-  pub more_actuals_are : (k : OperandKind) (ks' : List OperandKind) (x : Run Slot) (y : List (Run Slot)) {f g : Stretch} → IsActual k x f → AreActuals ks' y g → AreActuals (k ∷ ks') (x ∷ y) (join f g)
+  pub more_actuals_are : (k : OperandKind) (ks' : List OperandKind) (x : Run Slot) (y : List (Run Slot)) {f g : Stretch} → IsActual k x f → AreActuals ks' y g
+      → AreActuals (k ∷ ks') (x ∷ y) (join f g)
   more_actuals_are k ks' x y {f} {g} i j = record {
     sized = join_sized f g i.sized j.sized;
-    goes = λ calls n b pc L ks m c ops home le has. join_carries p f g b pc ks m c ops (x (reach calls n c ops)) (λ s w. bind (actuals y (holding_slot s (reach calls n c ops)) w) (λ ss. Gives (s ∷ ss))) (λ s. operand_of p s ops) (λ ss. pushed_slots p ss ops) i.sized has (λ h. i.goes calls n b pc L ks m c ops home le h) (λ h s ok.
+    goes =
+        λ calls n b pc L ks m c ops home le has.
+        join_carries p f g b pc ks m c ops (x (reach calls n c ops))
+        (λ s w. bind (actuals y (holding_slot s (reach calls n c ops)) w) (λ ss. Gives (s ∷ ss))) (λ s. operand_of p s ops) (λ ss. pushed_slots p ss ops)
+        i.sized has (λ h. i.goes calls n b pc L ks m c ops home le h) (λ h s ok.
         let q = pc + f.size in
         let more = operand_of p s ops in
-        then_carries p b (at c q more) (actuals y (holding_slot s (reach calls n c ops))) (λ ss. at c (q + g.size) (pushed_slots p ss more)) (λ ss. Gives (s ∷ ss)) (λ ss. at c (q + g.size) (pushed_slots p ss ops))
-        (subst (λ r. Carries p L m.body c.frames (TakeAll p ks') b (at c q more) (actuals y r) (λ ss. at c (q + g.size) (pushed_slots p ss more))) (held_slot calls n c ops s) (j.goes calls n b q L (f.leaves ks) m c more home le h))
+        then_carries p b (at c q more) (actuals y (holding_slot s (reach calls n c ops))) (λ ss. at c (q + g.size) (pushed_slots p ss more))
+        (λ ss. Gives (s ∷ ss)) (λ ss. at c (q + g.size) (pushed_slots p ss ops))
+        (subst (λ r. Carries p L m.body c.frames (TakeAll p ks') b (at c q more) (actuals y r) (λ ss. at c (q + g.size) (pushed_slots p ss more)))
+        (held_slot calls n c ops s) (j.goes calls n b q L (f.leaves ks) m c more home le h))
         (λ ss oks. none_carries p b (s ∷ ss) (λ ss. at c (q + g.size) (pushed_slots p ss ops)) (ok, oks)));
   }
 
   -- the result of a body that delivers a value, and of one that delivers none
-  value_result : {L : Uses} {home : Option ℕ} (k : Kind) (d : Option Kind) (b z : ℕ) (c : Position) (ops : List Operand) (v : Option Value) → d ≡ Some k → Result d v → Carries p L home c.frames (OfKind k) b (at c z (result_ops v ++ ops)) (Gives (delivered v)) (λ v. at c z (Of v ∷ ops))
+  value_result : {L : Uses} {home : Option ℕ} (k : Kind) (d : Option Kind) (b z : ℕ) (c : Position) (ops : List Operand) (v : Option Value) → d ≡ Some k
+      → Result d v → Carries p L home c.frames (OfKind k) b (at c z (result_ops v ++ ops)) (Gives (delivered v)) (λ v. at c z (Of v ∷ ops))
   value_result k d b z c ops None e ok = absurd (subst (λ d. Result d None) e ok)
   value_result k d b z c ops (Some v) e ok = none_carries p b v (λ v. at c z (Of v ∷ ops)) (subst (λ d. Result d (Some v)) e ok)
 
-  no_result : {L : Uses} {home : Option ℕ} (d : Option Kind) (b z : ℕ) (c : Position) (ops : List Operand) (v : Option Value) → d ≡ None → Result d v → Carries p L home c.frames Any b (at c z (result_ops v ++ ops)) (Gives (tt {0})) (λ _. at c z ops)
+  no_result : {L : Uses} {home : Option ℕ} (d : Option Kind) (b z : ℕ) (c : Position) (ops : List Operand) (v : Option Value) → d ≡ None → Result d v
+      → Carries p L home c.frames Any b (at c z (result_ops v ++ ops)) (Gives (tt {0})) (λ _. at c z ops)
   no_result d b z c ops None e ok = none_carries p b tt (λ _. at c z ops) tt
   no_result d b z c ops (Some v) e ok = absurd (subst (λ d. Result d (Some v)) e ok)
 
-  pub call_value_is : (q : ℕ) (e : Entry) (ks' : List OperandKind) (vs : List Kind) (k : Kind) (xs : List (Run Slot)) (fs : List Stretch) → slice_get p.bodies q ≡ Some e → e.layout ≡ layouts.Own ks' vs → e.delivers ≡ Some k → AreActuals ks' xs (all_code fs)
+  pub call_value_is : (q : ℕ) (e : Entry) (ks' : List OperandKind) (vs : List Kind) (k : Kind) (xs : List (Run Slot)) (fs : List Stretch)
+      → slice_get p.bodies q ≡ Some e → e.layout ≡ layouts.Own ks' vs → e.delivers ≡ Some k → AreActuals ks' xs (all_code fs)
       → IsValue p body k (λ r w. bind (actuals xs r w) (λ ss w. bind (r.calls.call q ss r.held w) (λ v. Gives (delivered v)))) (call_code q (Some k) fs)
   call_value_is q e ks' vs k xs fs has_body own gives i =
       let g = one (Call q) (λ (ks : List OperandKind). with_result (Some k) (drop (length fs) ks)) in record {
         sized = join_sized (all_code fs) g i.sized (λ ks m pc. refl);
         goes = λ calls n b pc L ks m c ops home le has.
             let held = bytes_on ops (bytes_of c.frames) in
-            join_carries p (all_code fs) g b pc ks m c ops (actuals xs (reach calls n c ops)) (λ ss w. bind (calls.call q ss held w) (λ v. Gives (delivered v))) (λ ss. pushed_slots p ss ops) (λ v. Of v ∷ ops) i.sized has (λ h. i.goes calls n b pc L ks m c ops home le h) (λ h ss oks.
+            join_carries p (all_code fs) g b pc ks m c ops (actuals xs (reach calls n c ops)) (λ ss w. bind (calls.call q ss held w) (λ v. Gives (delivered v)))
+            (λ ss. pushed_slots p ss ops) (λ v. Of v ∷ ops) i.sized has (λ h. i.goes calls n b pc L ks m c ops home le h) (λ h ss oks.
             let z = pc + (all_code fs).size in
-            then_carries p b (at c z (pushed_slots p ss ops)) (calls.call q ss held) (λ v. at c (z + 1) (result_ops v ++ ops)) (λ v. Gives (delivered v)) (λ v. at c (z + 1) (Of v ∷ ops)) (le.carry.call L b z q ((all_code fs).leaves ks) m c ops e ks' vs ss le.turns le.stands h.0 has_body own oks) (λ v ok.
+            then_carries p b (at c z (pushed_slots p ss ops)) (calls.call q ss held) (λ v. at c (z + 1) (result_ops v ++ ops)) (λ v. Gives (delivered v))
+            (λ v. at c (z + 1) (Of v ∷ ops)) (le.carry.call L b z q ((all_code fs).leaves ks) m c ops e ks' vs ss le.turns le.stands h.0 has_body own oks)
+            (λ v ok.
             value_result k e.delivers b (z + 1) c ops v gives ok));
       }
 
-  pub call_action_is : (q : ℕ) (e : Entry) (ks' : List OperandKind) (vs : List Kind) (xs : List (Run Slot)) (fs : List Stretch) → slice_get p.bodies q ≡ Some e → e.layout ≡ layouts.Own ks' vs → e.delivers ≡ None → AreActuals ks' xs (all_code fs)
+  pub call_action_is : (q : ℕ) (e : Entry) (ks' : List OperandKind) (vs : List Kind) (xs : List (Run Slot)) (fs : List Stretch) → slice_get p.bodies q ≡ Some e
+      → e.layout ≡ layouts.Own ks' vs → e.delivers ≡ None → AreActuals ks' xs (all_code fs)
       → IsAction p body (λ r w. bind (actuals xs r w) (λ ss w. bind (r.calls.call q ss r.held w) (λ _. Gives tt))) (call_code q None fs)
   call_action_is q e ks' vs xs fs has_body own gives i =
       let g = one (Call q) (λ (ks : List OperandKind). with_result None (drop (length fs) ks)) in record {
         sized = join_sized (all_code fs) g i.sized (λ ks m pc. refl);
         goes = λ calls n b pc L ks m c ops home le has.
             let held = bytes_on ops (bytes_of c.frames) in
-            join_carries p (all_code fs) g b pc ks m c ops (actuals xs (reach calls n c ops)) (λ ss w. bind (calls.call q ss held w) (λ _. Gives (tt {0}))) (λ ss. pushed_slots p ss ops) (λ _. ops) i.sized has (λ h. i.goes calls n b pc L ks m c ops home le h) (λ h ss oks.
+            join_carries p (all_code fs) g b pc ks m c ops (actuals xs (reach calls n c ops)) (λ ss w. bind (calls.call q ss held w) (λ _. Gives (tt {0})))
+            (λ ss. pushed_slots p ss ops) (λ _. ops) i.sized has (λ h. i.goes calls n b pc L ks m c ops home le h) (λ h ss oks.
             let z = pc + (all_code fs).size in
-            then_carries p b (at c z (pushed_slots p ss ops)) (calls.call q ss held) (λ v. at c (z + 1) (result_ops v ++ ops)) (λ _. Gives (tt {0})) (λ _. at c (z + 1) ops) (le.carry.call L b z q ((all_code fs).leaves ks) m c ops e ks' vs ss le.turns le.stands h.0 has_body own oks) (λ v ok.
+            then_carries p b (at c z (pushed_slots p ss ops)) (calls.call q ss held) (λ v. at c (z + 1) (result_ops v ++ ops)) (λ _. Gives (tt {0}))
+            (λ _. at c (z + 1) ops) (le.carry.call L b z q ((all_code fs).leaves ks) m c ops e ks' vs ss le.turns le.stands h.0 has_body own oks) (λ v ok.
             no_result e.delivers b (z + 1) c ops v gives ok));
       }
 
-  pub refer_value_is : (q : ℕ) (e : Entry) (k : Kind) → slice_get p.bodies q ≡ Some e → owner p (Some q) ≡ owner p body → e.delivers ≡ Some k → IsValue p body k (λ r w. bind (r.calls.refer q r.base r.held w) (λ v. Gives (delivered v))) (refer_code q (Some k))
+  pub refer_value_is : (q : ℕ) (e : Entry) (k : Kind) → slice_get p.bodies q ≡ Some e → owner p (Some q) ≡ owner p body → e.delivers ≡ Some k
+      → IsValue p body k (λ r w. bind (r.calls.refer q r.base r.held w) (λ v. Gives (delivered v))) (refer_code q (Some k))
   refer_value_is q e k has_body owned gives = record {
     sized = λ ks m pc. refl;
     goes = λ calls n b pc L ks m c ops home le has.
-        then_carries p b (at c pc ops) (calls.refer q (base_of c.frames) (bytes_on ops (bytes_of c.frames))) (λ v. at c (pc + 1) (result_ops v ++ ops)) (λ v. Gives (delivered v)) (λ v. at c (pc + 1) (Of v ∷ ops)) (le.carry.refer L b pc q ks m c ops e le.turns le.stands has.0 has_body (owned ∙ ap (owner p) (sym home))) (λ v ok.
+        then_carries p b (at c pc ops) (calls.refer q (base_of c.frames) (bytes_on ops (bytes_of c.frames))) (λ v. at c (pc + 1) (result_ops v ++ ops))
+        (λ v. Gives (delivered v)) (λ v. at c (pc + 1) (Of v ∷ ops))
+        (le.carry.refer L b pc q ks m c ops e le.turns le.stands has.0 has_body (owned ∙ ap (owner p) (sym home))) (λ v ok.
         value_result k e.delivers b (pc + 1) c ops v gives ok);
   }
 
-  pub refer_action_is : (q : ℕ) (e : Entry) → slice_get p.bodies q ≡ Some e → owner p (Some q) ≡ owner p body → e.delivers ≡ None → IsAction p body (λ r w. bind (r.calls.refer q r.base r.held w) (λ _. Gives tt)) (refer_code q None)
+  pub refer_action_is : (q : ℕ) (e : Entry) → slice_get p.bodies q ≡ Some e → owner p (Some q) ≡ owner p body → e.delivers ≡ None
+      → IsAction p body (λ r w. bind (r.calls.refer q r.base r.held w) (λ _. Gives tt)) (refer_code q None)
   refer_action_is q e has_body owned gives = record {
     sized = λ ks m pc. refl;
     goes = λ calls n b pc L ks m c ops home le has.
-        then_carries p b (at c pc ops) (calls.refer q (base_of c.frames) (bytes_on ops (bytes_of c.frames))) (λ v. at c (pc + 1) (result_ops v ++ ops)) (λ _. Gives (tt {0})) (λ _. at c (pc + 1) ops) (le.carry.refer L b pc q ks m c ops e le.turns le.stands has.0 has_body (owned ∙ ap (owner p) (sym home))) (λ v ok.
+        then_carries p b (at c pc ops) (calls.refer q (base_of c.frames) (bytes_on ops (bytes_of c.frames))) (λ v. at c (pc + 1) (result_ops v ++ ops))
+        (λ _. Gives (tt {0})) (λ _. at c (pc + 1) ops)
+        (le.carry.refer L b pc q ks m c ops e le.turns le.stands has.0 has_body (owned ∙ ap (owner p) (sym home))) (λ v ok.
         no_result e.delivers b (pc + 1) c ops v gives ok);
   }
 
   -- the instruction of LEAVE, with nothing and with a value on top
-  leaves : {A : Type 0} {Good : Uses → A → Type 0} (e : Exit) (L : Uses) (b pc : ℕ) (ks : List OperandKind) (m : Spot) (c : Position) (ops : List Operand) (to : A → Position) → m.body ≡ body → LeftBy p body e None → HasAt p.lines pc ((one (leave_instr e None) keeps).lines ks m pc) → Carries p L m.body c.frames Good b (at c pc ops) (Left e None) to
+  leaves : {A : Type 0} {Good : Uses → A → Type 0} (e : Exit) (L : Uses) (b pc : ℕ) (ks : List OperandKind) (m : Spot) (c : Position) (ops : List Operand)
+      (to : A → Position) → m.body ≡ body → LeftBy p body e None → HasAt p.lines pc ((one (leave_instr e None) keeps).lines ks m pc)
+      → Carries p L m.body c.frames Good b (at c pc ops) (Left e None) to
   leaves exits.Body L b pc ks m c ops to home d has = record {
     by = λ k l hk hl w le cells keeps'.
         let x = hl.self None (subst (λ o. Delivers p o None) (sym home) d) [] None w tt le in
-        on_step p (at c pc ops) x.0 (scene_of w cells) cells _ (here p pc (Back None) ks m has.0 c ops cells ∙ x.1 cells) (subst (λ U. Ends p U x.0 w (l exits.Body None w)) (append-[] L) x.2 cells keeps');
+        on_step p (at c pc ops) x.0 (scene_of w cells) cells _ (here p pc (Back None) ks m has.0 c ops cells ∙ x.1 cells)
+        (subst (λ U. Ends p U x.0 w (l exits.Body None w)) (append-[] L) x.2 cells keeps');
   }
   leaves exits.Around L b pc ks m c ops to home d has = record {
     by = λ k l hk hl w le cells keeps'.
         let x = hl.around None (subst (λ o. Delivers p (owner p o) None) (sym home) d) [] None w tt le in
-        on_step p (at c pc ops) x.0 (scene_of w cells) cells _ (here p pc (Out None) ks m has.0 c ops cells ∙ x.1 cells) (subst (λ U. Ends p U x.0 w (l exits.Around None w)) (append-[] L) x.2 cells keeps');
+        on_step p (at c pc ops) x.0 (scene_of w cells) cells _ (here p pc (Out None) ks m has.0 c ops cells ∙ x.1 cells)
+        (subst (λ U. Ends p U x.0 w (l exits.Around None w)) (append-[] L) x.2 cells keeps');
   }
 
-  leaves_with : {A : Type 0} {Good : Uses → A → Type 0} (e : Exit) (q : Kind) (v : Value) (L : Uses) (b pc : ℕ) (ks : List OperandKind) (m : Spot) (c : Position) (ops : List Operand) (to : A → Position) → IsOf q v → m.body ≡ body → LeftBy p body e (Some q) → HasAt p.lines pc ((one (leave_instr e (Some q)) (drop 1)).lines ks m pc) → Carries p L m.body c.frames Good b (at c pc (Of v ∷ ops)) (Left e (Some v)) to
+  leaves_with : {A : Type 0} {Good : Uses → A → Type 0} (e : Exit) (q : Kind) (v : Value) (L : Uses) (b pc : ℕ) (ks : List OperandKind) (m : Spot)
+      (c : Position) (ops : List Operand) (to : A → Position) → IsOf q v → m.body ≡ body → LeftBy p body e (Some q)
+      → HasAt p.lines pc ((one (leave_instr e (Some q)) (drop 1)).lines ks m pc)
+      → Carries p L m.body c.frames Good b (at c pc (Of v ∷ ops)) (Left e (Some v)) to
   leaves_with exits.Body q v L b pc ks m c ops to ok home d has = record {
     by = λ k l hk hl w le cells keeps'.
         let x = hl.self (Some q) (subst (λ o. Delivers p o (Some q)) (sym home) d) [] (Some v) w ok le in
-        on_step p (at c pc (Of v ∷ ops)) x.0 (scene_of w cells) cells _ (here p pc (Back (Some q)) ks m has.0 c (Of v ∷ ops) cells ∙ x.1 cells) (subst (λ U. Ends p U x.0 w (l exits.Body (Some v) w)) (append-[] L) x.2 cells keeps');
+        on_step p (at c pc (Of v ∷ ops)) x.0 (scene_of w cells) cells _ (here p pc (Back (Some q)) ks m has.0 c (Of v ∷ ops) cells ∙ x.1 cells)
+        (subst (λ U. Ends p U x.0 w (l exits.Body (Some v) w)) (append-[] L) x.2 cells keeps');
   }
   leaves_with exits.Around q v L b pc ks m c ops to ok home d has = record {
     by = λ k l hk hl w le cells keeps'.
         let x = hl.around (Some q) (subst (λ o. Delivers p (owner p o) (Some q)) (sym home) d) [] (Some v) w ok le in
-        on_step p (at c pc (Of v ∷ ops)) x.0 (scene_of w cells) cells _ (here p pc (Out (Some q)) ks m has.0 c (Of v ∷ ops) cells ∙ x.1 cells) (subst (λ U. Ends p U x.0 w (l exits.Around (Some v) w)) (append-[] L) x.2 cells keeps');
+        on_step p (at c pc (Of v ∷ ops)) x.0 (scene_of w cells) cells _ (here p pc (Out (Some q)) ks m has.0 c (Of v ∷ ops) cells ∙ x.1 cells)
+        (subst (λ U. Ends p U x.0 w (l exits.Around (Some v) w)) (append-[] L) x.2 cells keeps');
   }
 
   pub leave_is : (e : Exit) → LeftBy p body e None → IsAction p body (λ r. Left e None) (one (leave_instr e None) keeps)
-  leave_is e d = record { sized = λ ks m pc. refl; goes = λ calls n b pc L ks m c ops home le has. leaves e L b pc ks m c ops (λ _. at c (pc + 1) ops) home d has }
+  leave_is e d =
+      record { sized = λ ks m pc. refl; goes = λ calls n b pc L ks m c ops home le has. leaves e L b pc ks m c ops (λ _. at c (pc + 1) ops) home d has }
 
-  pub leave_with_is : {x : Run Value} {f : Stretch} (e : Exit) (k : Kind) → LeftBy p body e (Some k) → IsValue p body k x f → IsAction p body (λ r w. bind (x r w) (λ v. Left e (Some v))) (join f (one (leave_instr e (Some k)) (drop 1)))
+  pub leave_with_is : {x : Run Value} {f : Stretch} (e : Exit) (k : Kind) → LeftBy p body e (Some k) → IsValue p body k x f
+      → IsAction p body (λ r w. bind (x r w) (λ v. Left e (Some v))) (join f (one (leave_instr e (Some k)) (drop 1)))
   leave_with_is {x} {f} e k d i =
       let g = one (leave_instr e (Some k)) (drop 1) in record {
         sized = join_sized f g i.sized (λ ks m pc. refl);
-        goes = λ calls n b pc L ks m c ops home le has. join_carries p f g b pc ks m c ops (x (reach calls n c ops)) (λ v. Left e (Some v)) (λ v. Of v ∷ ops) (λ _. ops) i.sized has (λ h. i.goes calls n b pc L ks m c ops home le h) (λ h v ok.
+        goes =
+            λ calls n b pc L ks m c ops home le has.
+            join_carries p f g b pc ks m c ops (x (reach calls n c ops)) (λ v. Left e (Some v)) (λ v. Of v ∷ ops) (λ _. ops) i.sized has
+            (λ h. i.goes calls n b pc L ks m c ops home le h) (λ h v ok.
             leaves_with e k v L b (pc + f.size) (f.leaves ks) m c ops (λ _. at c (pc + f.size + 1) ops) ok home d h);
       }

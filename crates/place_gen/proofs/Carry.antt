@@ -42,7 +42,8 @@ finish (Stopped s w) k l = endings.Stopped s w
 finish (OutOfMarks w) k l = endings.OutOfMarks w
 finish (Asks q w) k l = endings.Asks q w
 
-pub finish_bind : {A B : Type 0} (o : Outcome A) (f : A → World → Outcome B) (k : B → World → Ending) (l : Exit → Option Value → World → Ending) → finish (bind o f) k l ≡ finish o (λ a w. finish (f a w) k l) l
+pub finish_bind : {A B : Type 0} (o : Outcome A) (f : A → World → Outcome B) (k : B → World → Ending) (l : Exit → Option Value → World → Ending)
+    → finish (bind o f) k l ≡ finish o (λ a w. finish (f a w) k l) l
 finish_bind (Gives a w) f k l = refl
 finish_bind (Left e v w) f k l = refl
 finish_bind (Stopped s w) f k l = refl
@@ -95,7 +96,8 @@ module _ (p : Program) where
   pub on_move : (c : Position) (s : Scene) (m : Move) (e : Ending) → step p c s.cells ≡ m → After (stage m c s) e → Comes p (free c) s e
   on_move c s m e h a = record { steps = suc a.steps; rest = a.rest; comes = ap (λ m. carry_on (stage m c s) (exec p a.steps)) h ∙ a.comes; shows = a.shows }
 
-  pub on_step : (c c' : Position) (s : Scene) (cells : Cells) (e : Ending) → step p c s.cells ≡ Goes c' cells → Comes p (free c') (record s { cells = cells }) e → Comes p (free c) s e
+  pub on_step : (c c' : Position) (s : Scene) (cells : Cells) (e : Ending) → step p c s.cells ≡ Goes c' cells → Comes p (free c') (record s { cells = cells }) e
+      → Comes p (free c) s e
   on_step c c' s cells e h a = on_move c s (Goes c' cells) e h (record { steps = a.steps; rest = a.rest; comes = a.comes; shows = a.shows })
 
   -- the machine goes from one place to another and changes nothing else
@@ -105,7 +107,8 @@ module _ (p : Program) where
   pub lead_ends : (L : Uses) (c c' : Position) (w : World) (e : Ending) → Leads c c' → Ends L c' w e → Ends L c w e
   lead_ends L c c' w e l a = λ cells h. on_step c c' (scene_of w cells) cells e (l cells) (a cells h)
 
-  pub stop_comes : (L : Uses) (c : Position) (w : World) (s : Stop) (cells : Cells) → Keeps L w.store cells → step p c cells ≡ Halts s → Comes p (free c) (scene_of w cells) (endings.Stopped s w)
+  pub stop_comes : (L : Uses) (c : Position) (w : World) (s : Stop) (cells : Cells) → Keeps L w.store cells → step p c cells ≡ Halts s
+      → Comes p (free c) (scene_of w cells) (endings.Stopped s w)
   stop_comes L c w s cells keeps h = on_move c (scene_of w cells) (Halts s) (endings.Stopped s w) h (record {
     steps = 0;
     rest = record { how = halts.Stopped s; control = free c; scene = scene_of w cells };
@@ -124,39 +127,63 @@ module _ (p : Program) where
     shows = record { how = refl; marks = refl; replies = refl; cells = image L w.store cells keeps };
   })
 
-  read_ends : {L : Uses} {A : Type 0} (c : Position) (a : A) (t : Bool) (to : A → Position) (k : A → World → Ending) (l : Exit → Option Value → World → Ending) (w : World) (cells : Cells) → Keeps L w.store cells → Ends L (to a) w (k a w) → step p c cells ≡ cond t (Goes (to a) cells) (Halts OperandRoom) → Comes p (free c) (scene_of w cells) (finish (branch t (Gives a) (Stopped OperandRoom) w) k l)
+  read_ends : {L : Uses} {A : Type 0} (c : Position) (a : A) (t : Bool) (to : A → Position) (k : A → World → Ending) (l : Exit → Option Value → World → Ending)
+      (w : World) (cells : Cells) → Keeps L w.store cells → Ends L (to a) w (k a w) → step p c cells ≡ cond t (Goes (to a) cells) (Halts OperandRoom)
+      → Comes p (free c) (scene_of w cells) (finish (branch t (Gives a) (Stopped OperandRoom) w) k l)
   read_ends c a true to k l w cells h next e = on_step c (to a) (scene_of w cells) cells _ e (next cells h)
   read_ends {L} c a false to k l w cells h next e = stop_comes L c w OperandRoom cells h e
 
   -- an instruction that writes to the cell of a variable
-  pub write_ends : {L : Uses} (c c' : Position) (w : World) (x : Place) (k : Kind) (v : Value) (e : Ending) (cells : Cells) → AtKind k L x → IsOf k v → Keeps L w.store cells → step p c cells ≡ Goes c' (written cells (run_cell x.variable) (cell_of v)) → Ends L c' (assign x v w) e → Comes p (free c) (scene_of w cells) e
-  write_ends {L} c c' w x k v e cells is ok h m a = on_step c c' (scene_of w cells) (written cells (run_cell x.variable) (cell_of v)) e m (a _ (writes L w.store cells x.variable k v h is ok))
+  pub write_ends : {L : Uses} (c c' : Position) (w : World) (x : Place) (k : Kind) (v : Value) (e : Ending) (cells : Cells) → AtKind k L x → IsOf k v
+      → Keeps L w.store cells → step p c cells ≡ Goes c' (written cells (run_cell x.variable) (cell_of v)) → Ends L c' (assign x v w) e
+      → Comes p (free c) (scene_of w cells) e
+  write_ends {L} c c' w x k v e cells is ok h m a =
+      on_step c c' (scene_of w cells) (written cells (run_cell x.variable) (cell_of v)) e m (a _ (writes L w.store cells x.variable k v h is ok))
 
   -- where a body is left, the machine goes to the frame below, and on as the exit says, whatever cells were taken meanwhile
   pub record Exits (L : Uses) (b : ℕ) (body : Option ℕ) (fs : List Frame) (l : Exit → Option Value → World → Ending) : Type 0 where
-    pub self : (k : Option Kind) → Delivers p body k → (more : Uses) (v : Option Value) (w : World) → Result k v → w.marks ≤ b → (c' : Position) × ((cells : Cells) → back_to (result_ops v) fs cells ≡ Goes c' cells) × Ends (L ++ more) c' w (l exits.Body v w)
-    pub around : (k : Option Kind) → Delivers p (owner p body) k → (more : Uses) (v : Option Value) (w : World) → Result k v → w.marks ≤ b → (c' : Position) × ((cells : Cells) → out_to (result_ops v) fs cells ≡ Goes c' cells) × Ends (L ++ more) c' w (l exits.Around v w)
+    pub self : (k : Option Kind) → Delivers p body k → (more : Uses) (v : Option Value) (w : World) → Result k v → w.marks ≤ b
+        → (c' : Position) × ((cells : Cells) → back_to (result_ops v) fs cells ≡ Goes c' cells) × Ends (L ++ more) c' w (l exits.Body v w)
+    pub around : (k : Option Kind) → Delivers p (owner p body) k → (more : Uses) (v : Option Value) (w : World) → Result k v → w.marks ≤ b
+        → (c' : Position) × ((cells : Cells) → out_to (result_ops v) fs cells ≡ Goes c' cells) × Ends (L ++ more) c' w (l exits.Around v w)
 
-  pub fewer : {L : Uses} {b b' : ℕ} {body : Option ℕ} {fs : List Frame} {l : Exit → Option Value → World → Ending} → b' ≤ b → Exits L b body fs l → Exits L b' body fs l
-  fewer le h = record { self = λ k d more v w r m. h.self k d more v w r (omega (arith, le, m)); around = λ k d more v w r m. h.around k d more v w r (omega (arith, le, m)) }
+  pub fewer : {L : Uses} {b b' : ℕ} {body : Option ℕ} {fs : List Frame} {l : Exit → Option Value → World → Ending} → b' ≤ b → Exits L b body fs l
+      → Exits L b' body fs l
+  fewer le h =
+      record {
+        self =
+            λ k d more v w r m. h.self k d more v w r (omega (arith, le, m));
+        around = λ k d more v w r m. h.around k d more v w r (omega (arith, le, m));
+      }
 
   -- with more cells in use
-  pub wider : {b : ℕ} {body : Option ℕ} {fs : List Frame} {l : Exit → Option Value → World → Ending} (L M : Uses) → Exits L b body fs l → Exits (L ++ M) b body fs l
+  pub wider : {b : ℕ} {body : Option ℕ} {fs : List Frame} {l : Exit → Option Value → World → Ending} (L M : Uses) → Exits L b body fs l
+      → Exits (L ++ M) b body fs l
   wider {b} {body} {fs} {l} L M h = record {
-    self = λ k d more v w r m. let x = h.self k d (M ++ more) v w r m in (x.0, x.1, subst (λ U. Ends U x.0 w (l exits.Body v w)) (sym (append_assoc L M more)) x.2);
-    around = λ k d more v w r m. let x = h.around k d (M ++ more) v w r m in (x.0, x.1, subst (λ U. Ends U x.0 w (l exits.Around v w)) (sym (append_assoc L M more)) x.2);
+    self =
+        λ k d more v w r m. let x = h.self k d (M ++ more) v w r m in
+        (x.0, x.1, subst (λ U. Ends U x.0 w (l exits.Body v w)) (sym (append_assoc L M more)) x.2);
+    around =
+        λ k d more v w r m. let x = h.around k d (M ++ more) v w r m in
+        (x.0, x.1, subst (λ U. Ends U x.0 w (l exits.Around v w)) (sym (append_assoc L M more)) x.2);
   }
 
   -- where the cells are in use so, with at most b marks and in a body over these frames, the machine goes from a place as the phrase
   -- says, and on with the good results that it gives, or by an exit
-  pub record Carries {A : Type 0} (L : Uses) (body : Option ℕ) (fs : List Frame) (Good : Uses → A → Type 0) (b : ℕ) (c : Position) (run : World → Outcome A) (to : A → Position) : Type 0 where
-    pub by : (k : A → World → Ending) (l : Exit → Option Value → World → Ending) → ((a : A) (w : World) → Good L a → w.marks ≤ b → Ends L (to a) w (k a w)) → Exits L b body fs l → (w : World) → w.marks ≤ b → Ends L c w (finish (run w) k l)
+  pub record Carries {A : Type 0} (L : Uses) (body : Option ℕ) (fs : List Frame) (Good : Uses → A → Type 0) (b : ℕ) (c : Position) (run : World → Outcome A)
+      (to : A → Position) : Type 0 where
+    pub by : (k : A → World → Ending) (l : Exit → Option Value → World → Ending) → ((a : A) (w : World) → Good L a → w.marks ≤ b → Ends L (to a) w (k a w))
+        → Exits L b body fs l → (w : World) → w.marks ≤ b → Ends L c w (finish (run w) k l)
 
   -- a mark, and what follows it: it goes on so, or stops
-  pub record Goes' {A : Type 0} (L : Uses) (body : Option ℕ) (fs : List Frame) (Good : Uses → A → Type 0) (b : ℕ) (c : Position) (a : Cells → AfterMark) (run : World → Outcome A) (to : A → Position) : Type 0 where
-    pub by : (k : A → World → Ending) (l : Exit → Option Value → World → Ending) → ((a : A) (w : World) → Good L a → w.marks ≤ b → Ends L (to a) w (k a w)) → Exits L b body fs l → (w : World) → w.marks ≤ b → (cells : Cells) → Keeps L w.store cells → After (after_stage (a cells) c (scene_of w cells)) (finish (run w) k l)
+  pub record Goes' {A : Type 0} (L : Uses) (body : Option ℕ) (fs : List Frame) (Good : Uses → A → Type 0) (b : ℕ) (c : Position) (a : Cells → AfterMark)
+      (run : World → Outcome A) (to : A → Position) : Type 0 where
+    pub by : (k : A → World → Ending) (l : Exit → Option Value → World → Ending) → ((a : A) (w : World) → Good L a → w.marks ≤ b → Ends L (to a) w (k a w))
+        → Exits L b body fs l → (w : World) → w.marks ≤ b → (cells : Cells) → Keeps L w.store cells
+        → After (after_stage (a cells) c (scene_of w cells)) (finish (run w) k l)
 
-  no_turns : {L : Uses} (m : ℕ) (a : AfterMark) (c : Position) (w : World) (cells : Cells) → m ≤ 0 → Keeps L w.store cells → After (mark_stage m a c (scene_of w cells)) (endings.OutOfMarks w)
+  no_turns : {L : Uses} (m : ℕ) (a : AfterMark) (c : Position) (w : World) (cells : Cells) → m ≤ 0 → Keeps L w.store cells
+      → After (mark_stage m a c (scene_of w cells)) (endings.OutOfMarks w)
   no_turns {L} zero a c w cells le h = record {
     steps = 0;
     rest = record { how = halts.Marked; control = free c; scene = scene_of w cells };
@@ -167,17 +194,23 @@ module _ (p : Program) where
 
   module _ {L : Uses} {body : Option ℕ} {fs : List Frame} where
     -- what follows a phrase
-    pub then_carries : {A B : Type 0} {Good : Uses → A → Type 0} {Fine : Uses → B → Type 0} (b : ℕ) (c : Position) (run : World → Outcome A) (mid : A → Position) (f : A → World → Outcome B) (to : B → Position) → Carries L body fs Good b c run mid → ((a : A) → Good L a → Carries L body fs Fine b (mid a) (f a) to) → Carries L body fs Fine b c (λ w. bind (run w) f) to
+    pub then_carries : {A B : Type 0} {Good : Uses → A → Type 0} {Fine : Uses → B → Type 0} (b : ℕ) (c : Position) (run : World → Outcome A)
+        (mid : A → Position) (f : A → World → Outcome B) (to : B → Position) → Carries L body fs Good b c run mid
+        → ((a : A) → Good L a → Carries L body fs Fine b (mid a) (f a) to) → Carries L body fs Fine b c (λ w. bind (run w) f) to
     then_carries b c run mid f to r s = record {
-      by = λ k l hk hl w le. subst (Ends L c w) (sym (finish_bind (run w) f k l)) (r.by (λ a w. finish (f a w) k l) l (λ a w good le. (s a good).by k l hk hl w le) hl w le);
+      by =
+          λ k l hk hl w le. subst (Ends L c w) (sym (finish_bind (run w) f k l))
+          (r.by (λ a w. finish (f a w) k l) l (λ a w good le. (s a good).by k l hk hl w le) hl w le);
     }
 
     -- an instruction before a phrase
-    pub lead_carries : {A : Type 0} {Good : Uses → A → Type 0} (b : ℕ) (c c' : Position) (run : World → Outcome A) (to : A → Position) → Leads c c' → Carries L body fs Good b c' run to → Carries L body fs Good b c run to
+    pub lead_carries : {A : Type 0} {Good : Uses → A → Type 0} (b : ℕ) (c c' : Position) (run : World → Outcome A) (to : A → Position) → Leads c c'
+        → Carries L body fs Good b c' run to → Carries L body fs Good b c run to
     lead_carries b c c' run to e r = record { by = λ k l hk hl w le. lead_ends L c c' w _ e (r.by k l hk hl w le) }
 
     -- an instruction after a phrase
-    pub carries_lead : {A : Type 0} {Good : Uses → A → Type 0} (b : ℕ) (c : Position) (run : World → Outcome A) (mid to : A → Position) → ((a : A) → Leads (mid a) (to a)) → Carries L body fs Good b c run mid → Carries L body fs Good b c run to
+    pub carries_lead : {A : Type 0} {Good : Uses → A → Type 0} (b : ℕ) (c : Position) (run : World → Outcome A) (mid to : A → Position)
+        → ((a : A) → Leads (mid a) (to a)) → Carries L body fs Good b c run mid → Carries L body fs Good b c run to
     carries_lead b c run mid to e r = record { by = λ k l hk hl w le. r.by k l (λ a w good le. lead_ends L (mid a) (to a) w _ (e a) (hk a w good le)) hl w le }
 
     -- no instruction
@@ -185,17 +218,30 @@ module _ (p : Program) where
     none_carries b a to good = record { by = λ k l hk hl w le. hk a w good le }
 
     -- an instruction that delivers what it reads in the cells, where it has room
-    pub reads_carries : {A : Type 0} {Good : Uses → A → Type 0} (b : ℕ) (c : Position) (give : World → A) (fits : World → Bool) (to : A → Position) → ((w : World) (cells : Cells) → Keeps L w.store cells → Good L (give w) × (step p c cells ≡ cond (fits w) (Goes (to (give w)) cells) (Halts OperandRoom))) → Carries L body fs Good b c (λ w. branch (fits w) (Gives (give w)) (Stopped OperandRoom) w) to
-    reads_carries b c give fits to e = record { by = λ k l hk hl w le cells h. let x = e w cells h in read_ends c (give w) (fits w) to k l w cells h (hk (give w) w x.0 le) x.1 }
+    pub reads_carries : {A : Type 0} {Good : Uses → A → Type 0} (b : ℕ) (c : Position) (give : World → A) (fits : World → Bool) (to : A → Position)
+        → ((w : World) (cells : Cells) → Keeps L w.store cells
+        → Good L (give w) × (step p c cells ≡ cond (fits w) (Goes (to (give w)) cells) (Halts OperandRoom)))
+        → Carries L body fs Good b c (λ w. branch (fits w) (Gives (give w)) (Stopped OperandRoom) w) to
+    reads_carries b c give fits to e =
+        record { by = λ k l hk hl w le cells h. let x = e w cells h in read_ends c (give w) (fits w) to k l w cells h (hk (give w) w x.0 le) x.1 }
 
-    pub branch_carries : {A : Type 0} {Good : Uses → A → Type 0} (b : ℕ) (t : Bool) (c : Bool → Position) (f g : World → Outcome A) (to : A → Position) → Carries L body fs Good b (c true) f to → Carries L body fs Good b (c false) g to → Carries L body fs Good b (c t) (branch t f g) to
+    pub branch_carries : {A : Type 0} {Good : Uses → A → Type 0} (b : ℕ) (t : Bool) (c : Bool → Position) (f g : World → Outcome A) (to : A → Position)
+        → Carries L body fs Good b (c true) f to → Carries L body fs Good b (c false) g to → Carries L body fs Good b (c t) (branch t f g) to
     branch_carries b true c f g to r s = r
     branch_carries b false c f g to r s = s
 
-    pub to_goes : {A : Type 0} {Good : Uses → A → Type 0} (b : ℕ) (c c' : Position) (run : World → Outcome A) (to : A → Position) → Carries L body fs Good b c' run to → Goes' L body fs Good b c (λ cells. To c' cells) run to
-    to_goes b c c' run to r = record { by = λ k l hk hl w le cells h. let a = r.by k l hk hl w le cells h in record { steps = a.steps; rest = a.rest; comes = a.comes; shows = a.shows } }
+    pub to_goes : {A : Type 0} {Good : Uses → A → Type 0} (b : ℕ) (c c' : Position) (run : World → Outcome A) (to : A → Position)
+        → Carries L body fs Good b c' run to → Goes' L body fs Good b c (λ cells. To c' cells) run to
+    to_goes b c c' run to r =
+        record {
+          by =
+              λ k l hk hl w le cells h. let a = r.by k l hk hl w le cells h in record { steps = a.steps; rest = a.rest; comes = a.comes; shows = a.shows };
+        }
 
-    spent : {A : Type 0} {Good : Uses → A → Type 0} (b m : ℕ) (c : Position) (a : Cells → AfterMark) (run : World → Outcome A) (to : A → Position) → ((b' : ℕ) → b' < b → Goes' L body fs Good b' c a run to) → (k : A → World → Ending) (l : Exit → Option Value → World → Ending) → ((a : A) (w : World) → Good L a → w.marks ≤ b → Ends L (to a) w (k a w)) → Exits L b body fs l → (w : World) → m ≤ b → (cells : Cells) → Keeps L w.store cells → m ≡ w.marks → After (mark_stage m (a cells) c (scene_of w cells)) (finish (spend_at m w run) k l)
+    spent : {A : Type 0} {Good : Uses → A → Type 0} (b m : ℕ) (c : Position) (a : Cells → AfterMark) (run : World → Outcome A) (to : A → Position)
+        → ((b' : ℕ) → b' < b → Goes' L body fs Good b' c a run to) → (k : A → World → Ending) (l : Exit → Option Value → World → Ending)
+        → ((a : A) (w : World) → Good L a → w.marks ≤ b → Ends L (to a) w (k a w)) → Exits L b body fs l → (w : World) → m ≤ b → (cells : Cells)
+        → Keeps L w.store cells → m ≡ w.marks → After (mark_stage m (a cells) c (scene_of w cells)) (finish (spend_at m w run) k l)
     spent b zero c a run to r k l hk hl w le cells h is = record {
       steps = 0;
       rest = record { how = halts.Marked; control = free c; scene = scene_of w cells };
@@ -203,18 +249,26 @@ module _ (p : Program) where
       shows = record { how = refl; marks = refl; replies = refl; cells = image L w.store cells h };
     }
     spent b (suc m) c a run to r k l hk hl w le cells h is =
-        (r m (omega arith)).by k l (λ a w good le'. hk a w good (omega (arith, le, le'))) (fewer (omega (arith, le)) hl) (record w { marks = m }) (omega arith) cells h
+        (r m (omega arith)).by k l (λ a w good le'. hk a w good (omega (arith, le, le'))) (fewer (omega (arith, le)) hl) (record w { marks = m }) (omega arith)
+        cells h
 
-    pub spend_carries : {A : Type 0} {Good : Uses → A → Type 0} (b : ℕ) (c : Position) (a : Cells → AfterMark) (run : World → Outcome A) (to : A → Position) → ((cells : Cells) → step p c cells ≡ Spends (a cells)) → ((b' : ℕ) → b' < b → Goes' L body fs Good b' c a run to) → Carries L body fs Good b c (spend run) to
+    pub spend_carries : {A : Type 0} {Good : Uses → A → Type 0} (b : ℕ) (c : Position) (a : Cells → AfterMark) (run : World → Outcome A) (to : A → Position)
+        → ((cells : Cells) → step p c cells ≡ Spends (a cells)) → ((b' : ℕ) → b' < b → Goes' L body fs Good b' c a run to)
+        → Carries L body fs Good b c (spend run) to
     spend_carries b c a run to e r = record {
       by = λ k l hk hl w le cells h. on_move c (scene_of w cells) (Spends (a cells)) _ (e cells) (spent b w.marks c a run to r k l hk hl w le cells h refl);
     }
 
     -- a mark, and then a phrase
-    pub mark_carries : {A : Type 0} {Good : Uses → A → Type 0} (b : ℕ) (c c' : Position) (run : World → Outcome A) (to : A → Position) → ((cells : Cells) → step p c cells ≡ Spends (To c' cells)) → ((b' : ℕ) → b' < b → Carries L body fs Good b' c' run to) → Carries L body fs Good b c (spend run) to
+    pub mark_carries : {A : Type 0} {Good : Uses → A → Type 0} (b : ℕ) (c c' : Position) (run : World → Outcome A) (to : A → Position)
+        → ((cells : Cells) → step p c cells ≡ Spends (To c' cells)) → ((b' : ℕ) → b' < b → Carries L body fs Good b' c' run to)
+        → Carries L body fs Good b c (spend run) to
     mark_carries b c c' run to e r = spend_carries b c (λ cells. To c' cells) run to e (λ b' lt. to_goes b' c c' run to (r b' lt))
 
-    replied : {A : Type 0} {Good : Uses → A → Type 0} (b : ℕ) (rs : List Reply) (q : Request) (c : Position) (run : Reply → World → Outcome A) (to : A → Position) → ((r : Reply) → Carries L body fs Good b c (run r) to) → (k : A → World → Ending) (l : Exit → Option Value → World → Ending) → ((a : A) (w : World) → Good L a → w.marks ≤ b → Ends L (to a) w (k a w)) → Exits L b body fs l → (w : World) → w.marks ≤ b → (cells : Cells) → Keeps L w.store cells → After (reply_stage rs q c (scene_of w cells)) (finish (ask_at rs q w run) k l)
+    replied : {A : Type 0} {Good : Uses → A → Type 0} (b : ℕ) (rs : List Reply) (q : Request) (c : Position) (run : Reply → World → Outcome A)
+        (to : A → Position) → ((r : Reply) → Carries L body fs Good b c (run r) to) → (k : A → World → Ending) (l : Exit → Option Value → World → Ending)
+        → ((a : A) (w : World) → Good L a → w.marks ≤ b → Ends L (to a) w (k a w)) → Exits L b body fs l → (w : World) → w.marks ≤ b → (cells : Cells)
+        → Keeps L w.store cells → After (reply_stage rs q c (scene_of w cells)) (finish (ask_at rs q w run) k l)
     replied b [] q c run to h k l hk hl w le cells keeps = record {
       steps = 0;
       rest = record { how = halts.Asks q; control = asking c q; scene = scene_of w cells };
@@ -226,7 +280,9 @@ module _ (p : Program) where
         record { steps = a.steps; rest = a.rest; comes = a.comes; shows = a.shows }
 
     -- a request
-    pub ask_carries : {A : Type 0} {Good : Uses → A → Type 0} (b : ℕ) (q : Request) (c c' : Position) (run : Reply → World → Outcome A) (to : A → Position) → ((cells : Cells) → step p c cells ≡ Spends (AsksFor c' q cells)) → ((b' : ℕ) (r : Reply) → b' < b → Carries L body fs Good b' c' (run r) to) → Carries L body fs Good b c (ask q run) to
+    pub ask_carries : {A : Type 0} {Good : Uses → A → Type 0} (b : ℕ) (q : Request) (c c' : Position) (run : Reply → World → Outcome A) (to : A → Position)
+        → ((cells : Cells) → step p c cells ≡ Spends (AsksFor c' q cells)) → ((b' : ℕ) (r : Reply) → b' < b → Carries L body fs Good b' c' (run r) to)
+        → Carries L body fs Good b c (ask q run) to
     ask_carries b q c c' run to e r = spend_carries b c (λ cells. AsksFor c' q cells) (λ w. ask_at w.replies q w run) to e (λ b' lt. record {
       by = λ k l hk hl w le cells h.
           let a = replied b' w.replies q c' run to (λ x. r b' x lt) k l hk hl w le cells h in
@@ -234,36 +290,46 @@ module _ (p : Program) where
     })
 
     -- no marks, and so no turns and no calls
-    pub out_carries : {A : Type 0} {Good : Uses → A → Type 0} (b : ℕ) (c : Position) (a : Cells → AfterMark) (to : A → Position) → b ≤ 0 → ((cells : Cells) → step p c cells ≡ Spends (a cells)) → Carries L body fs Good b c OutOfMarks to
+    pub out_carries : {A : Type 0} {Good : Uses → A → Type 0} (b : ℕ) (c : Position) (a : Cells → AfterMark) (to : A → Position) → b ≤ 0
+        → ((cells : Cells) → step p c cells ≡ Spends (a cells)) → Carries L body fs Good b c OutOfMarks to
     out_carries b c a to le e = record {
       by = λ k l hk hl w le' cells h. on_move c (scene_of w cells) (Spends (a cells)) _ (e cells) (no_turns w.marks (a cells) c w cells (omega arith) h);
     }
 
     -- a loop
-    pub turns_carries : (m b : ℕ) (turn : World → Outcome Bool) (top body' exit : Position) → ((cells : Cells) → step p top cells ≡ Spends (To body' cells)) → ((b' : ℕ) → b' ≤ b → Carries L body fs Any b' body' turn (λ on. cond on top exit)) → b ≤ m → Carries L body fs Any b top (turns m turn) (λ _. exit)
+    pub turns_carries : (m b : ℕ) (turn : World → Outcome Bool) (top body' exit : Position) → ((cells : Cells) → step p top cells ≡ Spends (To body' cells))
+        → ((b' : ℕ) → b' ≤ b → Carries L body fs Any b' body' turn (λ on. cond on top exit)) → b ≤ m → Carries L body fs Any b top (turns m turn) (λ _. exit)
     turns_carries zero b turn top body' exit e r le = out_carries b top (λ cells. To body' cells) (λ _. exit) le e
     turns_carries (suc m) b turn top body' exit e r le =
         mark_carries b top body' (λ w. bind (turn w) (λ on. branch on (turns m turn) (Gives (tt {0})))) (λ _. exit) e (λ b' lt.
         then_carries b' body' turn (λ on. cond on top exit) (λ on. branch on (turns m turn) (Gives (tt {0}))) (λ _. exit) (r b' (omega arith)) (λ on _.
-        branch_carries b' on (λ t. cond t top exit) (turns m turn) (Gives (tt {0})) (λ _. exit) (turns_carries m b' turn top body' exit e (λ b'' le''. r b'' (omega arith)) (omega arith)) (none_carries b' tt (λ _. exit) tt)))
+        branch_carries b' on (λ t. cond t top exit) (turns m turn) (Gives (tt {0})) (λ _. exit)
+        (turns_carries m b' turn top body' exit e (λ b'' le''. r b'' (omega arith)) (omega arith)) (none_carries b' tt (λ _. exit) tt)))
 
     -- the place behind, under another name
-    pub ends_at : {A : Type 0} {Good : Uses → A → Type 0} (b : ℕ) (from c : Position) (run : World → Outcome A) (m n : ℕ) (push : A → List Operand) → m ≡ n → Carries L body fs Good b from run (λ a. at c m (push a)) → Carries L body fs Good b from run (λ a. at c n (push a))
+    pub ends_at : {A : Type 0} {Good : Uses → A → Type 0} (b : ℕ) (from c : Position) (run : World → Outcome A) (m n : ℕ) (push : A → List Operand) → m ≡ n
+        → Carries L body fs Good b from run (λ a. at c m (push a)) → Carries L body fs Good b from run (λ a. at c n (push a))
     ends_at {A} {Good} b from c run m n push e r = subst (λ n. Carries L body fs Good b from run (λ a. at c n (push a))) e r
 
     -- a result of an operation, or a stop
-    pub or_carries : {A : Type 0} {Good : Uses → A → Type 0} (b : ℕ) (c : Position) (g : Given) (go : Value → World → Outcome A) (to : A → Position) → ((s : Stop) → g ≡ Err s → (w : World) → Ends L c w (endings.Stopped s w)) → ((v : Value) → g ≡ Ok v → Carries L body fs Good b c (go v) to) → Carries L body fs Good b c (or_stop g go) to
+    pub or_carries : {A : Type 0} {Good : Uses → A → Type 0} (b : ℕ) (c : Position) (g : Given) (go : Value → World → Outcome A) (to : A → Position)
+        → ((s : Stop) → g ≡ Err s → (w : World) → Ends L c w (endings.Stopped s w)) → ((v : Value) → g ≡ Ok v → Carries L body fs Good b c (go v) to)
+        → Carries L body fs Good b c (or_stop g go) to
     or_carries b c (Ok v) go to bad good = good v refl
     or_carries b c (Err s) go to bad good = record { by = λ k l hk hl w le. bad s refl w }
 
   -- the instruction at a place
-  pub here : (pc : ℕ) (i : Instr) (ks : List OperandKind) (m : Spot) → slice_get p.lines pc ≡ Some (line_of i ks m) → (c : Position) (ops : List Operand) (cells : Cells) → step p (at c pc ops) cells ≡ instruction p (Some i) (at c pc ops) cells
+  pub here : (pc : ℕ) (i : Instr) (ks : List OperandKind) (m : Spot) → slice_get p.lines pc ≡ Some (line_of i ks m)
+      → (c : Position) (ops : List Operand) (cells : Cells) → step p (at c pc ops) cells ≡ instruction p (Some i) (at c pc ops) cells
   here pc i ks m h c ops cells = ap (λ o. instruction p (instr_of o) (at c pc ops) cells) h
 
   -- two stretches, one after the other
-  pub join_carries : {L : Uses} {A B : Type 0} {Good : Uses → A → Type 0} {Fine : Uses → B → Type 0} (f g : Stretch) (b pc : ℕ) (ks : List OperandKind) (m : Spot) (c : Position) (ops : List Operand) (run : World → Outcome A) (more : A → World → Outcome B) (mid : A → List Operand) (push : B → List Operand) → ((ks : List OperandKind) (m : Spot) (at' : ℕ) → length (f.lines ks m at') ≡ f.size) → HasAt p.lines pc ((join f g).lines ks m pc)
+  pub join_carries : {L : Uses} {A B : Type 0} {Good : Uses → A → Type 0} {Fine : Uses → B → Type 0} (f g : Stretch) (b pc : ℕ) (ks : List OperandKind)
+      (m : Spot) (c : Position) (ops : List Operand) (run : World → Outcome A) (more : A → World → Outcome B) (mid : A → List Operand) (push : B → List Operand)
+      → ((ks : List OperandKind) (m : Spot) (at' : ℕ) → length (f.lines ks m at') ≡ f.size) → HasAt p.lines pc ((join f g).lines ks m pc)
       → (HasAt p.lines pc (f.lines ks m pc) → Carries L m.body c.frames Good b (at c pc ops) run (λ a. at c (pc + f.size) (mid a)))
-      → (HasAt p.lines (pc + f.size) (g.lines (f.leaves ks) m (pc + f.size)) → (a : A) → Good L a → Carries L m.body c.frames Fine b (at c (pc + f.size) (mid a)) (more a) (λ x. at c (pc + f.size + g.size) (push x)))
+      → (HasAt p.lines (pc + f.size) (g.lines (f.leaves ks) m (pc + f.size)) → (a : A) → Good L a
+      → Carries L m.body c.frames Fine b (at c (pc + f.size) (mid a)) (more a) (λ x. at c (pc + f.size + g.size) (push x)))
       → Carries L m.body c.frames Fine b (at c pc ops) (λ w. bind (run w) more) (λ x. at c (pc + (f.size + g.size)) (push x))
   join_carries f g b pc ks m c ops run more mid push sized has r s =
       ends_at b (at c pc ops) c (λ w. bind (run w) more) (pc + f.size + g.size) (pc + (f.size + g.size)) push (omega arith)
@@ -300,10 +366,15 @@ module _ (p : Program) where
 
   -- calls do in the code what they do
   pub record CallsCarry (calls : Calls) (n : ℕ) : Type 0 where
-    pub call : (L : Uses) (b pc q : ℕ) (ks : List OperandKind) (m : Spot) (c : Position) (ops : List Operand) (e : Entry) (parameters : List OperandKind) (variables : List Kind) (args : List Slot) → b ≤ n → Stands L m c → slice_get p.lines pc ≡ Some (line_of (Call q) ks m) → slice_get p.bodies q ≡ Some e → e.layout ≡ layouts.Own parameters variables → TakeAll parameters L args
-        → Carries L m.body c.frames (λ _. Result e.delivers) b (at c pc (pushed_slots args ops)) (calls.call q args (bytes_on ops (bytes_of c.frames))) (λ v. at c (pc + 1) (result_ops v ++ ops))
-    pub refer : (L : Uses) (b pc q : ℕ) (ks : List OperandKind) (m : Spot) (c : Position) (ops : List Operand) (e : Entry) → b ≤ n → Stands L m c → slice_get p.lines pc ≡ Some (line_of (Refer q) ks m) → slice_get p.bodies q ≡ Some e → owner p (Some q) ≡ owner p m.body
-        → Carries L m.body c.frames (λ _. Result e.delivers) b (at c pc ops) (calls.refer q (base_of c.frames) (bytes_on ops (bytes_of c.frames))) (λ v. at c (pc + 1) (result_ops v ++ ops))
+    pub call : (L : Uses) (b pc q : ℕ) (ks : List OperandKind) (m : Spot) (c : Position) (ops : List Operand) (e : Entry) (parameters : List OperandKind)
+        (variables : List Kind) (args : List Slot) → b ≤ n → Stands L m c → slice_get p.lines pc ≡ Some (line_of (Call q) ks m) → slice_get p.bodies q ≡ Some e
+        → e.layout ≡ layouts.Own parameters variables → TakeAll parameters L args
+        → Carries L m.body c.frames (λ _. Result e.delivers) b (at c pc (pushed_slots args ops)) (calls.call q args (bytes_on ops (bytes_of c.frames)))
+        (λ v. at c (pc + 1) (result_ops v ++ ops))
+    pub refer : (L : Uses) (b pc q : ℕ) (ks : List OperandKind) (m : Spot) (c : Position) (ops : List Operand) (e : Entry) → b ≤ n → Stands L m c
+        → slice_get p.lines pc ≡ Some (line_of (Refer q) ks m) → slice_get p.bodies q ≡ Some e → owner p (Some q) ≡ owner p m.body
+        → Carries L m.body c.frames (λ _. Result e.delivers) b (at c pc ops) (calls.refer q (base_of c.frames) (bytes_on ops (bytes_of c.frames)))
+        (λ v. at c (pc + 1) (result_ops v ++ ops))
 
   -- a phrase with at most b marks is within the reach of calls and turns
   pub record Within (calls : Calls) (n b : ℕ) (L : Uses) (m : Spot) (c : Position) : Type 0 where

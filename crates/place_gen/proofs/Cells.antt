@@ -88,14 +88,16 @@ image L store cells h room x s e =
     by OfNothing g = subst (StandsFor (cells (run_cell x))) (sym g) tt
 
 -- what a variable holds is read out of its cell
-pub reads : (L : Uses) (store : List Slot) (cells : Cells) (x : ℕ) (k : Kind) → Keeps L store cells → slice_get L x ≡ Some (OfValue k) → IsOf k (value_of (slot_at store x)) × (value_in k (cells (run_cell x)) ≡ value_of (slot_at store x))
+pub reads : (L : Uses) (store : List Slot) (cells : Cells) (x : ℕ) (k : Kind) → Keeps L store cells → slice_get L x ≡ Some (OfValue k)
+    → IsOf k (value_of (slot_at store x)) × (value_in k (cells (run_cell x)) ≡ value_of (slot_at store x))
 reads L store cells x k h e =
     let g = h.each x (OfValue k) e in
     let same : value_of (slot_at store x) ≡ g.0 = ap value_of g.1 in
     (subst (IsOf k) (sym same) g.2, ap (value_in k) g.3 ∙ value_in-cell_of k g.0 g.2 ∙ sym same)
 
 -- and the place that a VAR parameter holds
-pub refers : (L : Uses) (store : List Slot) (cells : Cells) (x : ℕ) (k : Kind) → length L ≤ CELLS → Keeps L store cells → slice_get L x ≡ Some (OfPlace k) → (slice_get L (place_of (slot_at store x)).variable ≡ Some (OfValue k)) × (place_in (cells (run_cell x)) ≡ run_cell (place_of (slot_at store x)).variable)
+pub refers : (L : Uses) (store : List Slot) (cells : Cells) (x : ℕ) (k : Kind) → length L ≤ CELLS → Keeps L store cells → slice_get L x ≡ Some (OfPlace k)
+    → (slice_get L (place_of (slot_at store x)).variable ≡ Some (OfValue k)) × (place_in (cells (run_cell x)) ≡ run_cell (place_of (slot_at store x)).variable)
 refers L store cells x k room h e =
     let g = h.each x (OfPlace k) e in
     let same : place_of (slot_at store x) ≡ g.0 = ap place_of g.1 in
@@ -106,7 +108,8 @@ refers L store cells x k room h e =
     (is, ap place_in n ∙ ap run_cell m)
 
 -- a value of its kind is written to a variable
-pub writes : (L : Uses) (store : List Slot) (cells : Cells) (x : ℕ) (k : Kind) (v : Value) → Keeps L store cells → slice_get L x ≡ Some (OfValue k) → IsOf k v → Keeps L (slice_set store x (Holds v)) (written cells (run_cell x) (cell_of v))
+pub writes : (L : Uses) (store : List Slot) (cells : Cells) (x : ℕ) (k : Kind) (v : Value) → Keeps L store cells → slice_get L x ≡ Some (OfValue k) → IsOf k v
+    → Keeps L (slice_set store x (Holds v)) (written cells (run_cell x) (cell_of v))
 writes L store cells x k v h e ok =
     let within : x < length store = omega (arith, slice_get_within L x (OfValue k) e, h.as_many) in
     record {
@@ -114,13 +117,16 @@ writes L store cells x k v h e ok =
       each = λ y k' e'. ⊎_elim
           (λ t.
           let used_for : OfValue k ≡ k' = some_is (OfValue k) k' (sym e ∙ ap (slice_get L) (sym t.1) ∙ e') in
-          let slot : slot_at (slice_set store x (Holds v)) y ≡ Holds v = ap (slot_at (slice_set store x (Holds v))) t.1 ∙ get_or-set_same store x (Holds v) Taken within in
+          let slot : slot_at (slice_set store x (Holds v)) y ≡ Holds v =
+          ap (slot_at (slice_set store x (Holds v))) t.1 ∙ get_or-set_same store x (Holds v) Taken within in
           let number : written cells (run_cell x) (cell_of v) (run_cell y) ≡ cell_of v = ap (λ b. cond b (cell_of v) (cells (run_cell y))) t.0 in
-          subst (λ k'. Kept L y k' (slot_at (slice_set store x (Holds v)) y) (written cells (run_cell x) (cell_of v) (run_cell y))) used_for (v, slot, ok, number))
+          subst (λ k'. Kept L y k' (slot_at (slice_set store x (Holds v)) y) (written cells (run_cell x) (cell_of v) (run_cell y))) used_for
+          (v, slot, ok, number))
           (λ t.
           let slot : slot_at (slice_set store x (Holds v)) y ≡ slot_at store y = get_or-set_other store x y (Holds v) Taken t.1 in
           let number : written cells (run_cell x) (cell_of v) (run_cell y) ≡ cells (run_cell y) = ap (λ b. cond b (cell_of v) (cells (run_cell y))) t.0 in
-          subst (λ n. Kept L y k' (slot_at (slice_set store x (Holds v)) y) n) (sym number) (subst (λ s. Kept L y k' s (cells (run_cell y))) (sym slot) (h.each y k' e')))
+          subst (λ n. Kept L y k' (slot_at (slice_set store x (Holds v)) y) n) (sym number)
+          (subst (λ s. Kept L y k' s (cells (run_cell y))) (sym slot) (h.each y k' e')))
           (eqb_tells y x);
     }
 
@@ -158,7 +164,8 @@ kept_wider L M at (OfPlace k) s n g = (g.0, g.1, g.2, get_left L M g.0.variable 
 kept_wider L M at (OfLimit l) s n g = g
 kept_wider L M at OfNothing s n g = g
 
-pub extends_one : (L : Uses) (store : List Slot) (cells : Cells) (k : Use) (s : Slot) (n : ℕ) → Keeps L store cells → Kept L (length L) k s n → Keeps (L ++ k ∷ []) (store ++ s ∷ []) (written cells (run_cell (length L)) n)
+pub extends_one : (L : Uses) (store : List Slot) (cells : Cells) (k : Use) (s : Slot) (n : ℕ) → Keeps L store cells → Kept L (length L) k s n
+    → Keeps (L ++ k ∷ []) (store ++ s ∷ []) (written cells (run_cell (length L)) n)
 extends_one L store cells k s n h g = record {
   as_many = omega (arith, h.as_many, length-append store (s ∷ []), length-append L (k ∷ []));
   each = λ x k' e. ⊎_elim
@@ -168,14 +175,17 @@ extends_one L store cells k s n h g = record {
       let number : written cells (run_cell (length L)) n (run_cell x) ≡ n = ap (λ b. cond b n (cells (run_cell x))) t.0 in
       let kept = kept_wider L (k ∷ []) (length L) k s n g in
       subst (λ k'. Kept (L ++ k ∷ []) x k' (slot_at (store ++ s ∷ []) x) (written cells (run_cell (length L)) n (run_cell x))) used_for
-      (subst (λ m. Kept (L ++ k ∷ []) x k (slot_at (store ++ s ∷ []) x) m) (sym number) (subst (λ s'. Kept (L ++ k ∷ []) x k s' n) (sym slot) (subst (λ at. Kept (L ++ k ∷ []) at k s n) (sym t.1) kept))))
+      (subst (λ m. Kept (L ++ k ∷ []) x k (slot_at (store ++ s ∷ []) x) m) (sym number)
+      (subst (λ s'. Kept (L ++ k ∷ []) x k s' n) (sym slot) (subst (λ at. Kept (L ++ k ∷ []) at k s n) (sym t.1) kept))))
       (λ t.
       let most : x < length L + 1 = omega (arith, slice_get_within (L ++ k ∷ []) x k' e, length-append L (k ∷ [])) in
       let within : x < length L = less x (length L) t.1 most in
       let old : slice_get L x ≡ Some k' = sym (get_back L (k ∷ []) x within) ∙ e in
       let slot : slot_at (store ++ s ∷ []) x ≡ slot_at store x = get_or_append_left store (s ∷ []) Taken x (omega (arith, within, h.as_many)) in
       let number : written cells (run_cell (length L)) n (run_cell x) ≡ cells (run_cell x) = ap (λ b. cond b n (cells (run_cell x))) t.0 in
-      subst (λ m. Kept (L ++ k ∷ []) x k' (slot_at (store ++ s ∷ []) x) m) (sym number) (subst (λ s'. Kept (L ++ k ∷ []) x k' s' (cells (run_cell x))) (sym slot) (kept_wider L (k ∷ []) x k' (slot_at store x) (cells (run_cell x)) (h.each x k' old))))
+      subst (λ m. Kept (L ++ k ∷ []) x k' (slot_at (store ++ s ∷ []) x) m) (sym number)
+      (subst (λ s'. Kept (L ++ k ∷ []) x k' s' (cells (run_cell x))) (sym slot)
+      (kept_wider L (k ∷ []) x k' (slot_at store x) (cells (run_cell x)) (h.each x k' old))))
       (eqb_tells x (length L));
 }
   where
@@ -185,7 +195,8 @@ extends_one L store cells k s n h g = record {
     less : (a b : ℕ) → (a ≡ b → ⊥) → a < b + 1 → a < b
     less a b ne lt = ⊎_elim (λ l. l) (λ le. let e : a ≡ b = omega (arith, lt, le) in absurd (ne e)) (cases_lt a b)
 
-pub extends : (M : Uses) (L : Uses) (store more : List Slot) (cells : Cells) (numbers : List ℕ) → Keeps L store cells → AllKept L (length L) M more numbers → Keeps (L ++ M) (store ++ more) (written_from (length L) numbers cells)
+pub extends : (M : Uses) (L : Uses) (store more : List Slot) (cells : Cells) (numbers : List ℕ) → Keeps L store cells → AllKept L (length L) M more numbers
+    → Keeps (L ++ M) (store ++ more) (written_from (length L) numbers cells)
 extends [] L store [] cells [] h g = subst (λ U. Keeps U (store ++ []) cells) (sym (append-[] L)) (subst (λ t. Keeps L t cells) (sym (append-[] store)) h)
 extends [] L store (s ∷ more) cells ns h g = absurd g
 extends [] L store [] cells (n ∷ ns) h g = absurd g
@@ -194,10 +205,13 @@ extends (k ∷ M) L store (s ∷ more) cells [] h g = absurd g
 extends (k ∷ M) L store (s ∷ more) cells (n ∷ ns) h g =
     let one = extends_one L store cells k s n h g.0 in
     let size : length (L ++ k ∷ []) ≡ suc (length L) = omega (arith, length-append L (k ∷ [])) in
-    let rest = extends M (L ++ k ∷ []) (store ++ s ∷ []) more (written cells (run_cell (length L)) n) ns one (subst (λ at. AllKept (L ++ k ∷ []) at M more ns) (sym size) (wider M (suc (length L)) more ns g.1)) in
+    let rest =
+    extends M (L ++ k ∷ []) (store ++ s ∷ []) more (written cells (run_cell (length L)) n) ns one
+    (subst (λ at. AllKept (L ++ k ∷ []) at M more ns) (sym size) (wider M (suc (length L)) more ns g.1)) in
     let rest' = subst (λ at. Keeps ((L ++ k ∷ []) ++ M) ((store ++ s ∷ []) ++ more) (written_from at ns (written cells (run_cell (length L)) n))) size rest in
     subst (λ U. Keeps U (store ++ s ∷ more) (written_from (suc (length L)) ns (written cells (run_cell (length L)) n))) (append_assoc L (k ∷ []) M)
-    (subst (λ t. Keeps ((L ++ k ∷ []) ++ M) t (written_from (suc (length L)) ns (written cells (run_cell (length L)) n))) (append_assoc store (s ∷ []) more) rest')
+    (subst (λ t. Keeps ((L ++ k ∷ []) ++ M) t (written_from (suc (length L)) ns (written cells (run_cell (length L)) n))) (append_assoc store (s ∷ []) more)
+    rest')
   where
     wider : (M : Uses) (at : ℕ) (more : List Slot) (ns : List ℕ) → AllKept L at M more ns → AllKept (L ++ k ∷ []) at M more ns
     wider [] at [] [] g = tt

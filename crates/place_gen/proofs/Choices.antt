@@ -31,13 +31,22 @@ use Rattle.place_gen.proofs.Carry.{finish, Any, AtKind, reach, Ends, Carries, Wi
 use Rattle.place_gen.proofs.Forms.{keep_place, Is, IsValue, IsAction, place_is}
 
 module _ (p : Program) (body : Option ℕ) where
-  pub if_is : {A : Type 0} {Good : Uses → A → Type 0} {push : A → List Operand → List Operand} {t : Run Value} {x y : Run A} {f g h : Stretch} → IsValue p body kinds.Truth t f → Is p body Good push x g → Is p body Good push y h → Is p body Good push (λ r w. bind (t r w) (λ v. branch (truth_of v) (x r) (y r))) (if_code f g h)
+  pub if_is : {A : Type 0} {Good : Uses → A → Type 0} {push : A → List Operand → List Operand} {t : Run Value} {x y : Run A} {f g h : Stretch}
+      → IsValue p body kinds.Truth t f → Is p body Good push x g → Is p body Good push y h
+      → Is p body Good push (λ r w. bind (t r w) (λ v. branch (truth_of v) (x r) (y r))) (if_code f g h)
   if_is {A} {Good} {push} {t} {x} {y} {f} {g} {h} i j k = record {
     sized = λ ks m pc.
         let p1 = pc + f.size in
         let p2 = p1 + 1 + g.size in
         let b = line_of (Jump (p2 + 1 + h.size)) (g.leaves ks) m ∷ h.lines ks m (p2 + 1) in
-        omega (arith, length-append (f.lines ks m pc) (line_of (False (p2 + 1)) (f.leaves ks) m ∷ (g.lines ks m (p1 + 1) ++ b)), length-append (g.lines ks m (p1 + 1)) b, i.sized ks m pc, j.sized ks m (p1 + 1), k.sized ks m (p2 + 1));
+        omega (
+          arith,
+          length-append (f.lines ks m pc) (line_of (False (p2 + 1)) (f.leaves ks) m ∷ (g.lines ks m (p1 + 1) ++ b)),
+          length-append (g.lines ks m (p1 + 1)) b,
+          i.sized ks m pc,
+          j.sized ks m (p1 + 1),
+          k.sized ks m (p2 + 1),
+        );
     goes = λ calls n b pc L ks m c ops home le has. let r = reach calls n c ops in
         let p1 = pc + f.size in
         let p2 = p1 + 1 + g.size in
@@ -47,33 +56,47 @@ module _ (p : Program) (body : Option ℕ) where
         let to = λ (a : _). at c p3 (push a ops) in
         let run = λ (v : Value). branch (truth_of v) (x r) (y r) in
         ends_at p b (at c pc ops) c (λ w. bind (t r w) run) p3 (pc + (f.size + (1 + (g.size + (1 + h.size))))) (λ a. push a ops) (omega arith)
-        (then_carries p b (at c pc ops) (t r) (λ v. at c p1 (Of v ∷ ops)) run to (i.goes calls n b pc L ks m c ops home le (has_front p.lines pc (f.lines ks m pc) _ has)) (λ v ok.
-        lead_carries p b (at c p1 (Of v ∷ ops)) (at c (cond (truth_of v) (p1 + 1) (p2 + 1)) ops) (run v) to (λ cells. here p p1 (False (p2 + 1)) (f.leaves ks) m h1.0 c (Of v ∷ ops) cells)
+        (then_carries p b (at c pc ops) (t r) (λ v. at c p1 (Of v ∷ ops)) run to
+        (i.goes calls n b pc L ks m c ops home le (has_front p.lines pc (f.lines ks m pc) _ has)) (λ v ok.
+        lead_carries p b (at c p1 (Of v ∷ ops)) (at c (cond (truth_of v) (p1 + 1) (p2 + 1)) ops) (run v) to
+        (λ cells. here p p1 (False (p2 + 1)) (f.leaves ks) m h1.0 c (Of v ∷ ops) cells)
         (branch_carries p b (truth_of v) (λ t. at c (cond t (p1 + 1) (p2 + 1)) ops) (x r) (y r) to
-        (carries_lead p b (at c (p1 + 1) ops) (x r) (λ a. at c p2 (push a ops)) to (λ a cells. here p p2 (Jump p3) (g.leaves ks) m h2.0 c (push a ops) cells) (j.goes calls n b (p1 + 1) L ks m c ops home le (has_front p.lines (p1 + 1) (g.lines ks m (p1 + 1)) _ h1.1)))
+        (carries_lead p b (at c (p1 + 1) ops) (x r) (λ a. at c p2 (push a ops)) to (λ a cells. here p p2 (Jump p3) (g.leaves ks) m h2.0 c (push a ops) cells)
+        (j.goes calls n b (p1 + 1) L ks m c ops home le (has_front p.lines (p1 + 1) (g.lines ks m (p1 + 1)) _ h1.1)))
         (k.goes calls n b (p2 + 1) L ks m c ops home le h2.1))));
   }
 
   -- the code chooses by the number on top, and takes it
   pub record IsChoice {A : Type 0} (Good : Uses → A → Type 0) (push : A → List Operand → List Operand) (run : ℤ → Run A) (f : Stretch) : Type 0 where
     pub sized : (ks : List OperandKind) (m : Spot) (pc : ℕ) → length (f.lines ks m pc) ≡ f.size
-    pub goes : (calls : Calls) (n b pc : ℕ) (L : Uses) (ks : List OperandKind) (m : Spot) (c : Position) (v : Value) (ops : List Operand) → m.body ≡ body → Within p calls n b L m c → HasAt p.lines pc (f.lines ks m pc) → Carries p L m.body c.frames Good b (at c pc (Of v ∷ ops)) (run (number_of v) (reach calls n c ops)) (λ a. at c (pc + f.size) (push a ops))
+    pub goes : (calls : Calls) (n b pc : ℕ) (L : Uses) (ks : List OperandKind) (m : Spot) (c : Position) (v : Value) (ops : List Operand) → m.body ≡ body
+        → Within p calls n b L m c → HasAt p.lines pc (f.lines ks m pc)
+        → Carries p L m.body c.frames Good b (at c pc (Of v ∷ ops)) (run (number_of v) (reach calls n c ops)) (λ a. at c (pc + f.size) (push a ops))
 
-  pub otherwise_is : {A : Type 0} {Good : Uses → A → Type 0} {push : A → List Operand → List Operand} {x : Run A} {f : Stretch} → Is p body Good push x f → IsChoice Good push (λ z. x) (join (one Drop (drop 1)) f)
+  pub otherwise_is : {A : Type 0} {Good : Uses → A → Type 0} {push : A → List Operand → List Operand} {x : Run A} {f : Stretch} → Is p body Good push x f
+      → IsChoice Good push (λ z. x) (join (one Drop (drop 1)) f)
   otherwise_is {A} {Good} {push} {x} {f} i = record {
     sized = join_sized (one Drop (drop 1)) f (λ ks m pc. refl) i.sized;
     goes = λ calls n b pc L ks m c v ops home le has. let r = reach calls n c ops in
         ends_at p b (at c pc (Of v ∷ ops)) c (x r) (pc + 1 + f.size) (pc + (1 + f.size)) (λ a. push a ops) (omega arith)
-        (lead_carries p b (at c pc (Of v ∷ ops)) (at c (pc + 1) ops) (x r) (λ a. at c (pc + 1 + f.size) (push a ops)) (λ cells. here p pc Drop ks m has.0 c (Of v ∷ ops) cells) (i.goes calls n b (pc + 1) L (drop 1 ks) m c ops home le has.1));
+        (lead_carries p b (at c pc (Of v ∷ ops)) (at c (pc + 1) ops) (x r) (λ a. at c (pc + 1 + f.size) (push a ops))
+        (λ cells. here p pc Drop ks m has.0 c (Of v ∷ ops) cells) (i.goes calls n b (pc + 1) L (drop 1 ks) m c ops home le has.1));
   }
 
-  whens_carry : {L : Uses} {A : Type 0} {Good : Uses → A → Type 0} (zs : List ℤ) (a b q : ℕ) (ks : List OperandKind) (m : Spot) (c : Position) (v : Value) (ops : List Operand) (x y : World → Outcome A) (to : A → Position) → HasAt p.lines q (whens zs a ks m) → Carries p L m.body c.frames Good b (at c a ops) x to → Carries p L m.body c.frames Good b (at c (q + length zs) (Of v ∷ ops)) y to → Carries p L m.body c.frames Good b (at c q (Of v ∷ ops)) (branch (holds zs (number_of v)) x y) to
-  whens_carry {L} {A} {Good} [] a b q ks m c v ops x y to has i j = let e : q + 0 ≡ q = omega arith in subst (λ n. Carries p L m.body c.frames Good b (at c n (Of v ∷ ops)) y to) e j
+  whens_carry : {L : Uses} {A : Type 0} {Good : Uses → A → Type 0} (zs : List ℤ) (a b q : ℕ) (ks : List OperandKind) (m : Spot) (c : Position) (v : Value)
+      (ops : List Operand) (x y : World → Outcome A) (to : A → Position) → HasAt p.lines q (whens zs a ks m)
+      → Carries p L m.body c.frames Good b (at c a ops) x to → Carries p L m.body c.frames Good b (at c (q + length zs) (Of v ∷ ops)) y to
+      → Carries p L m.body c.frames Good b (at c q (Of v ∷ ops)) (branch (holds zs (number_of v)) x y) to
+  whens_carry {L} {A} {Good} [] a b q ks m c v ops x y to has i j =
+      let e : q + 0 ≡ q = omega arith in subst (λ n. Carries p L m.body c.frames Good b (at c n (Of v ∷ ops)) y to) e j
   whens_carry {L} {A} {Good} (z ∷ zs) a b q ks m c v ops x y to has i j =
       let e : q + length (z ∷ zs) ≡ q + 1 + length zs = omega arith in
-      by (int_eq (number_of v) z) (λ cells. here p q (When z a) ks m has.0 c (Of v ∷ ops) cells) (whens_carry zs a b (q + 1) ks m c v ops x y to has.1 i (subst (λ n. Carries p L m.body c.frames Good b (at c n (Of v ∷ ops)) y to) e j))
+      by (int_eq (number_of v) z) (λ cells. here p q (When z a) ks m has.0 c (Of v ∷ ops) cells)
+      (whens_carry zs a b (q + 1) ks m c v ops x y to has.1 i (subst (λ n. Carries p L m.body c.frames Good b (at c n (Of v ∷ ops)) y to) e j))
     where
-      by : (t : Bool) → ((cells : Cells) → step p (at c q (Of v ∷ ops)) cells ≡ cond t (Goes (at c a ops) cells) (Goes (at c (q + 1) (Of v ∷ ops)) cells)) → Carries p L m.body c.frames Good b (at c (q + 1) (Of v ∷ ops)) (branch (holds zs (number_of v)) x y) to → Carries p L m.body c.frames Good b (at c q (Of v ∷ ops)) (branch (t || holds zs (number_of v)) x y) to
+      by : (t : Bool) → ((cells : Cells) → step p (at c q (Of v ∷ ops)) cells ≡ cond t (Goes (at c a ops) cells) (Goes (at c (q + 1) (Of v ∷ ops)) cells))
+          → Carries p L m.body c.frames Good b (at c (q + 1) (Of v ∷ ops)) (branch (holds zs (number_of v)) x y) to
+          → Carries p L m.body c.frames Good b (at c q (Of v ∷ ops)) (branch (t || holds zs (number_of v)) x y) to
       by true e k = lead_carries p b (at c q (Of v ∷ ops)) (at c a ops) x to e i
       by false e k = lead_carries p b (at c q (Of v ∷ ops)) (at c (q + 1) (Of v ∷ ops)) (branch (holds zs (number_of v)) x y) to e k
 
@@ -81,13 +104,21 @@ module _ (p : Program) (body : Option ℕ) where
   whens_sized [] a ks m = refl
   whens_sized (z ∷ zs) a ks m = ap suc (whens_sized zs a ks m)
 
-  pub arm_is : {A : Type 0} {Good : Uses → A → Type 0} {push : A → List Operand → List Operand} {x : Run A} {y : ℤ → Run A} {f g : Stretch} (zs : List ℤ) → Is p body Good push x f → IsChoice Good push y g → IsChoice Good push (λ z r w. branch (holds zs z) (x r) (y z r) w) (arm_code zs f g)
+  pub arm_is : {A : Type 0} {Good : Uses → A → Type 0} {push : A → List Operand → List Operand} {x : Run A} {y : ℤ → Run A} {f g : Stretch} (zs : List ℤ)
+      → Is p body Good push x f → IsChoice Good push y g → IsChoice Good push (λ z r w. branch (holds zs z) (x r) (y z r) w) (arm_code zs f g)
   arm_is {A} {Good} {push} {x} {y} {f} {g} zs i j = record {
     sized = λ ks m pc.
         let p1 = pc + length zs in
         let p2 = p1 + 1 + f.size in
         let b = line_of (Jump (p2 + 1 + g.size)) (f.leaves (drop 1 ks)) m ∷ g.lines ks m (p2 + 1) in
-        omega (arith, length-append (whens zs (p1 + 1) ks m) (line_of (Jump (p2 + 1)) ks m ∷ (f.lines (drop 1 ks) m (p1 + 1) ++ b)), length-append (f.lines (drop 1 ks) m (p1 + 1)) b, whens_sized zs (p1 + 1) ks m, i.sized (drop 1 ks) m (p1 + 1), j.sized ks m (p2 + 1));
+        omega (
+          arith,
+          length-append (whens zs (p1 + 1) ks m) (line_of (Jump (p2 + 1)) ks m ∷ (f.lines (drop 1 ks) m (p1 + 1) ++ b)),
+          length-append (f.lines (drop 1 ks) m (p1 + 1)) b,
+          whens_sized zs (p1 + 1) ks m,
+          i.sized (drop 1 ks) m (p1 + 1),
+          j.sized ks m (p2 + 1),
+        );
     goes = λ calls n b pc L ks m c v ops home le has. let r = reach calls n c ops in
         let p1 = pc + length zs in
         let p2 = p1 + 1 + f.size in
@@ -95,65 +126,99 @@ module _ (p : Program) (body : Option ℕ) where
         let h1 = has_rest p.lines pc (length zs) (whens zs (p1 + 1) ks m) _ (whens_sized zs (p1 + 1) ks m) has in
         let h2 = has_rest p.lines (p1 + 1) f.size (f.lines (drop 1 ks) m (p1 + 1)) _ (i.sized (drop 1 ks) m (p1 + 1)) h1.1 in
         let to = λ (a : _). at c p3 (push a ops) in
-        ends_at p b (at c pc (Of v ∷ ops)) c (branch (holds zs (number_of v)) (x r) (y (number_of v) r)) p3 (pc + (length zs + (1 + (f.size + (1 + g.size))))) (λ a. push a ops) (omega arith)
+        ends_at p b (at c pc (Of v ∷ ops)) c (branch (holds zs (number_of v)) (x r) (y (number_of v) r)) p3 (pc + (length zs + (1 + (f.size + (1 + g.size)))))
+        (λ a. push a ops) (omega arith)
         (whens_carry zs (p1 + 1) b pc ks m c v ops (x r) (y (number_of v) r) to (has_front p.lines pc (whens zs (p1 + 1) ks m) _ has)
-        (carries_lead p b (at c (p1 + 1) ops) (x r) (λ a. at c p2 (push a ops)) to (λ a cells. here p p2 (Jump p3) (f.leaves (drop 1 ks)) m h2.0 c (push a ops) cells) (i.goes calls n b (p1 + 1) L (drop 1 ks) m c ops home le (has_front p.lines (p1 + 1) (f.lines (drop 1 ks) m (p1 + 1)) _ h1.1)))
-        (lead_carries p b (at c p1 (Of v ∷ ops)) (at c (p2 + 1) (Of v ∷ ops)) (y (number_of v) r) to (λ cells. here p p1 (Jump (p2 + 1)) ks m h1.0 c (Of v ∷ ops) cells) (j.goes calls n b (p2 + 1) L ks m c v ops home le h2.1)));
+        (carries_lead p b (at c (p1 + 1) ops) (x r) (λ a. at c p2 (push a ops)) to
+        (λ a cells. here p p2 (Jump p3) (f.leaves (drop 1 ks)) m h2.0 c (push a ops) cells)
+        (i.goes calls n b (p1 + 1) L (drop 1 ks) m c ops home le (has_front p.lines (p1 + 1) (f.lines (drop 1 ks) m (p1 + 1)) _ h1.1)))
+        (lead_carries p b (at c p1 (Of v ∷ ops)) (at c (p2 + 1) (Of v ∷ ops)) (y (number_of v) r) to
+        (λ cells. here p p1 (Jump (p2 + 1)) ks m h1.0 c (Of v ∷ ops) cells) (j.goes calls n b (p2 + 1) L ks m c v ops home le h2.1)));
   }
 
-  pub select_is : {A : Type 0} {Good : Uses → A → Type 0} {push : A → List Operand → List Operand} {t : Run Value} {y : ℤ → Run A} {f g : Stretch} → IsValue p body kinds.Int t f → IsChoice Good push y g → Is p body Good push (λ r w. bind (t r w) (λ v. y (number_of v) r)) (join f g)
+  pub select_is : {A : Type 0} {Good : Uses → A → Type 0} {push : A → List Operand → List Operand} {t : Run Value} {y : ℤ → Run A} {f g : Stretch}
+      → IsValue p body kinds.Int t f → IsChoice Good push y g → Is p body Good push (λ r w. bind (t r w) (λ v. y (number_of v) r)) (join f g)
   select_is {A} {Good} {push} {t} {y} {f} {g} i j = record {
     sized = join_sized f g i.sized j.sized;
-    goes = λ calls n b pc L ks m c ops home le has. let r = reach calls n c ops in join_carries p f g b pc ks m c ops (t r) (λ v. y (number_of v) r) (λ v. Of v ∷ ops) (λ a. push a ops) i.sized has (λ h. i.goes calls n b pc L ks m c ops home le h) (λ h v ok. j.goes calls n b (pc + f.size) L (f.leaves ks) m c v ops home le h);
+    goes =
+        λ calls n b pc L ks m c ops home le has. let r = reach calls n c ops in
+        join_carries p f g b pc ks m c ops (t r) (λ v. y (number_of v) r) (λ v. Of v ∷ ops) (λ a. push a ops) i.sized has
+        (λ h. i.goes calls n b pc L ks m c ops home le h) (λ h v ok. j.goes calls n b (pc + f.size) L (f.leaves ks) m c v ops home le h);
   }
 
   -- a mark before a phrase
-  pub unit_is : {A : Type 0} {Good : Uses → A → Type 0} {push : A → List Operand → List Operand} {x : Run A} {f : Stretch} → Is p body Good push x f → Is p body Good push (λ r. spend (x r)) (join (one Mark keeps) f)
+  pub unit_is : {A : Type 0} {Good : Uses → A → Type 0} {push : A → List Operand → List Operand} {x : Run A} {f : Stretch} → Is p body Good push x f
+      → Is p body Good push (λ r. spend (x r)) (join (one Mark keeps) f)
   unit_is {A} {Good} {push} {x} {f} i = record {
     sized = join_sized (one Mark keeps) f (λ ks m pc. refl) i.sized;
     goes = λ calls n b pc L ks m c ops home le has. let r = reach calls n c ops in
         ends_at p b (at c pc ops) c (spend (x r)) (pc + 1 + f.size) (pc + (1 + f.size)) (λ a. push a ops) (omega arith)
-        (mark_carries p b (at c pc ops) (at c (pc + 1) ops) (x r) (λ a. at c (pc + 1 + f.size) (push a ops)) (λ cells. here p pc Mark ks m has.0 c ops cells) (λ b' lt. i.goes calls n b' (pc + 1) L ks m c ops home (less p le (omega arith)) has.1));
+        (mark_carries p b (at c pc ops) (at c (pc + 1) ops) (x r) (λ a. at c (pc + 1 + f.size) (push a ops)) (λ cells. here p pc Mark ks m has.0 c ops cells)
+        (λ b' lt. i.goes calls n b' (pc + 1) L ks m c ops home (less p le (omega arith)) has.1));
   }
 
   -- INCR and DECR, at the instruction
-  modified : {A : Type 0} {L : Uses} (g : Given) (x : Place) (a : A) (c c' : Position) (w : World) (cells : Cells) (k : A → World → Ending) (l : Exit → Option Value → World → Ending) → AtKind kinds.Int L x → ((v : Value) → g ≡ Ok v → IsOf kinds.Int v) → Keeps L w.store cells → step p c cells ≡ or_halt g (λ v. Goes c' (written cells (run_cell x.variable) (cell_of v))) → ((v : Value) → Ends p L c' (assign x v w) (k a (assign x v w))) → Comes p (free c) (scene_of w cells) (finish (or_stop g (λ v w. Gives a (assign x v w)) w) k l)
+  modified : {A : Type 0} {L : Uses} (g : Given) (x : Place) (a : A) (c c' : Position) (w : World) (cells : Cells) (k : A → World → Ending)
+      (l : Exit → Option Value → World → Ending) → AtKind kinds.Int L x → ((v : Value) → g ≡ Ok v → IsOf kinds.Int v) → Keeps L w.store cells
+      → step p c cells ≡ or_halt g (λ v. Goes c' (written cells (run_cell x.variable) (cell_of v)))
+      → ((v : Value) → Ends p L c' (assign x v w) (k a (assign x v w)))
+      → Comes p (free c) (scene_of w cells) (finish (or_stop g (λ v w. Gives a (assign x v w)) w) k l)
   modified {A} {L} (Ok v) x a c c' w cells k l is gives kept e hk = write_ends p c c' w x kinds.Int v _ cells is (gives v refl) kept e (hk v)
   modified {A} {L} (Err s) x a c c' w cells k l is gives kept e hk = stop_comes p L c w s cells kept e
 
   -- INCR and DECR where number and place are on top
-  pub modify_carries : {A : Type 0} {L : Uses} (change : Change) (x : Place) (v : Value) (a : A) (b q : ℕ) (ks : List OperandKind) (m : Spot) (c : Position) (ops : List Operand) (to : A → Position) → to a ≡ at c (q + 1) ops → AtKind kinds.Int L x → HasAt p.lines q ((one (Modify change) (drop 2)).lines ks m q) → Carries p L m.body c.frames Any b (at c q (Of v ∷ keep_place x ops)) (modify change x (number_of v) a) to
+  pub modify_carries : {A : Type 0} {L : Uses} (change : Change) (x : Place) (v : Value) (a : A) (b q : ℕ) (ks : List OperandKind) (m : Spot) (c : Position)
+      (ops : List Operand) (to : A → Position) → to a ≡ at c (q + 1) ops → AtKind kinds.Int L x → HasAt p.lines q ((one (Modify change) (drop 2)).lines ks m q)
+      → Carries p L m.body c.frames Any b (at c q (Of v ∷ keep_place x ops)) (modify change x (number_of v) a) to
   modify_carries {A} {L} change x v a b q ks m c ops to to_is is has = record {
     by = λ k l hk hl w le cells keeps.
         let now = at c q (Of v ∷ keep_place x ops) in
         let next = at c (q + 1) ops in
         let r = reads L w.store cells x.variable kinds.Int keeps is in
         modified (changed change (number_of (fetch x w)) (number_of v)) x a now next w cells k l is (λ y e. changed_gives change _ _ y e) keeps
-        (here p q (Modify change) ks m has.0 c (Of v ∷ keep_place x ops) cells ∙ ap (λ y. or_halt (changed change (number_of y) (number_of v)) (λ y. Goes next (written cells (run_cell x.variable) (cell_of y)))) r.1)
+        (here p q (Modify change) ks m has.0 c (Of v ∷ keep_place x ops) cells
+        ∙ ap (λ y. or_halt (changed change (number_of y) (number_of v)) (λ y. Goes next (written cells (run_cell x.variable) (cell_of y)))) r.1)
         (λ y. subst (λ d. Ends p L d (assign x y w) (k a (assign x y w))) to_is (hk a (assign x y w) tt le));
   }
 
-  pub modify_is : {t : Run Value} {f : Stretch} (change : Change) (q : PlacePhrase) → HasPlace p body q kinds.Int → IsValue p body kinds.Int t f → IsAction p body (λ r w. bind (place q r w) (λ x w. bind (t (holding_place r) w) (λ v. modify change x (number_of v) tt))) (modify_code q change f)
+  pub modify_is : {t : Run Value} {f : Stretch} (change : Change) (q : PlacePhrase) → HasPlace p body q kinds.Int → IsValue p body kinds.Int t f
+      → IsAction p body (λ r w. bind (place q r w) (λ x w. bind (t (holding_place r) w) (λ v. modify change x (number_of v) tt))) (modify_code q change f)
   modify_is {t} {f} change q is i =
       let g = one (Modify change) (drop 2) in
       let j = place_is p body q kinds.Int is in record {
         sized = join_sized (place_code q kinds.Int) (join f g) j.sized (join_sized f g i.sized (λ ks m pc. refl));
-        goes = λ calls n b pc L ks m c ops home le has. join_carries p (place_code q kinds.Int) (join f g) b pc ks m c ops (place q (reach calls n c ops)) (λ x w. bind (t (holding_place (reach calls n c ops)) w) (λ v. modify change x (number_of v) (tt {0}))) (λ x. keep_place x ops) (λ _. ops) j.sized has (λ h. j.goes calls n b pc L ks m c ops home le h) (λ h x at_x.
-            join_carries p f g b (pc + 1) (operand.Place kinds.Int ∷ ks) m c (keep_place x ops) (t (reach calls n c (keep_place x ops))) (λ v. modify change x (number_of v) (tt {0})) (λ v. Of v ∷ keep_place x ops) (λ _. ops) i.sized h (λ h. i.goes calls n b (pc + 1) L (operand.Place kinds.Int ∷ ks) m c (keep_place x ops) home le h) (λ h v ok.
-            modify_carries change x v (tt {0}) b (pc + 1 + f.size) (f.leaves (operand.Place kinds.Int ∷ ks)) m c ops (λ _. at c (pc + 1 + f.size + 1) ops) refl at_x h));
+        goes =
+            λ calls n b pc L ks m c ops home le has.
+            join_carries p (place_code q kinds.Int) (join f g) b pc ks m c ops (place q (reach calls n c ops))
+            (λ x w. bind (t (holding_place (reach calls n c ops)) w) (λ v. modify change x (number_of v) (tt {0}))) (λ x. keep_place x ops) (λ _. ops)
+            j.sized has (λ h. j.goes calls n b pc L ks m c ops home le h) (λ h x at_x.
+            join_carries p f g b (pc + 1) (operand.Place kinds.Int ∷ ks) m c (keep_place x ops) (t (reach calls n c (keep_place x ops)))
+            (λ v. modify change x (number_of v) (tt {0})) (λ v. Of v ∷ keep_place x ops) (λ _. ops) i.sized h
+            (λ h. i.goes calls n b (pc + 1) L (operand.Place kinds.Int ∷ ks) m c (keep_place x ops) home le h) (λ h v ok.
+            modify_carries change x v (tt {0}) b (pc + 1 + f.size) (f.leaves (operand.Place kinds.Int ∷ ks)) m c ops (λ _. at c (pc + 1 + f.size + 1) ops) refl
+            at_x h));
       }
 
   pub line_is : IsAction p body (λ r. ask line_request (λ _. Gives tt)) (one (Ask requests.Line) keeps)
   line_is = record {
     sized = λ ks m pc. refl;
-    goes = λ calls n b pc L ks m c ops home le has. ask_carries p b line_request (at c pc ops) (at c (pc + 1) ops) (λ _. Gives (tt {0})) (λ _. at c (pc + 1) ops) (λ cells. here p pc (Ask requests.Line) ks m has.0 c ops cells) (λ b' r lt. none_carries p b' tt (λ _. at c (pc + 1) ops) tt);
+    goes =
+        λ calls n b pc L ks m c ops home le has.
+        ask_carries p b line_request (at c pc ops) (at c (pc + 1) ops) (λ _. Gives (tt {0})) (λ _. at c (pc + 1) ops)
+        (λ cells. here p pc (Ask requests.Line) ks m has.0 c ops cells) (λ b' r lt. none_carries p b' tt (λ _. at c (pc + 1) ops) tt);
   }
 
-  pub put_is : {t : Run Value} {f : Stretch} → IsValue p body kinds.Int t f → IsAction p body (λ r w. bind (t r w) (λ v. ask (put_request (number_of v)) (λ _. Gives tt))) (join f (one (Ask requests.PutNumber) (drop 1)))
+  pub put_is : {t : Run Value} {f : Stretch} → IsValue p body kinds.Int t f
+      → IsAction p body (λ r w. bind (t r w) (λ v. ask (put_request (number_of v)) (λ _. Gives tt))) (join f (one (Ask requests.PutNumber) (drop 1)))
   put_is {t} {f} i =
       let g = one (Ask requests.PutNumber) (drop 1) in record {
         sized = join_sized f g i.sized (λ ks m pc. refl);
-        goes = λ calls n b pc L ks m c ops home le has. join_carries p f g b pc ks m c ops (t (reach calls n c ops)) (λ v. ask (put_request (number_of v)) (λ _. Gives (tt {0}))) (λ v. Of v ∷ ops) (λ _. ops) i.sized has (λ h. i.goes calls n b pc L ks m c ops home le h) (λ h v ok.
+        goes =
+            λ calls n b pc L ks m c ops home le has.
+            join_carries p f g b pc ks m c ops (t (reach calls n c ops)) (λ v. ask (put_request (number_of v)) (λ _. Gives (tt {0}))) (λ v. Of v ∷ ops)
+            (λ _. ops) i.sized has (λ h. i.goes calls n b pc L ks m c ops home le h) (λ h v ok.
             let q = pc + f.size in
-            ask_carries p b (put_request (number_of v)) (at c q (Of v ∷ ops)) (at c (q + 1) ops) (λ _. Gives (tt {0})) (λ _. at c (q + 1) ops) (λ cells. here p q (Ask requests.PutNumber) (f.leaves ks) m h.0 c (Of v ∷ ops) cells) (λ b' r lt. none_carries p b' tt (λ _. at c (q + 1) ops) tt));
+            ask_carries p b (put_request (number_of v)) (at c q (Of v ∷ ops)) (at c (q + 1) ops) (λ _. Gives (tt {0})) (λ _. at c (q + 1) ops)
+            (λ cells. here p q (Ask requests.PutNumber) (f.leaves ks) m h.0 c (Of v ∷ ops) cells)
+            (λ b' r lt. none_carries p b' tt (λ _. at c (q + 1) ops) tt));
       }

@@ -127,33 +127,40 @@ module _ (p : Program) (variables : List ElanType) (bodies : List Body) (agrees 
   owner_is None is = refl
   owner_is (Some n) is =
       let e = agrees.each n is.0 is.1 in
-      ap (λ o. program.owner_at n (program.layout_of o)) e.has ∙ ap (program.owner_in n) e.layout ∙ owner_same n is.0.scope ∙ sym (ap (λ o. typing.owner_at n (scope_of o)) is.1)
+      ap (λ o. program.owner_at n (program.layout_of o)) e.has ∙ ap (program.owner_in n) e.layout ∙ owner_same n is.0.scope
+      ∙ sym (ap (λ o. typing.owner_at n (scope_of o)) is.1)
 
   -- what stands in a cell of a frame
-  frame_cell : (n : ℕ) (x : ℕ) (f : Formal) (o : Option Body) → slice_get bodies n ≡ o → slice_get (frame_at (scope_of o)) x ≡ Some f → slice_get (cells_in p (Some n)) x ≡ Some (parameter_kind f)
+  frame_cell : (n : ℕ) (x : ℕ) (f : Formal) (o : Option Body) → slice_get bodies n ≡ o → slice_get (frame_at (scope_of o)) x ≡ Some f
+      → slice_get (cells_in p (Some n)) x ≡ Some (parameter_kind f)
   frame_cell n x f None is e = let g : ⊥ = cc in absurd g
   frame_cell n x f (Some b) is e =
       let t = agrees.each n b is in
-      ap (λ o. slice_get (program.cells_at (program.layout_of o)) x) t.has ∙ ap (λ l. slice_get (cells_of l) x) t.layout ∙ ap (λ l. slice_get l x) (scope_cells b.scope) ∙ slice_get-map parameter_kind (frame_of b.scope) x ∙ ap (option_map parameter_kind) e
+      ap (λ o. slice_get (program.cells_at (program.layout_of o)) x) t.has ∙ ap (λ l. slice_get (cells_of l) x) t.layout
+      ∙ ap (λ l. slice_get l x) (scope_cells b.scope) ∙ slice_get-map parameter_kind (frame_of b.scope) x ∙ ap (option_map parameter_kind) e
 
   cell_in : (owner : Home) (x : ℕ) (f : Formal) → slice_get (frame_in bodies owner) x ≡ Some f → slice_get (cells_in p owner) x ≡ Some (parameter_kind f)
   cell_in None x f e = let g : ⊥ = cc in absurd g
   cell_in (Some n) x f e = frame_cell n x f (slice_get bodies n) refl e
 
   -- a place with an access
-  as_is : (access : Access) (u : ElanType) (o : Option Formal) → type_as access o ≡ Some u → (f : Formal) × (o ≡ Some f) × (parameter_kind f ≡ taken_as access (kind_in u))
+  as_is : (access : Access) (u : ElanType) (o : Option Formal) → type_as access o ≡ Some u
+      → (f : Formal) × (o ≡ Some f) × (parameter_kind f ≡ taken_as access (kind_in u))
   as_is access u None e = let g : ⊥ = cc in absurd g
   as_is access u (Some f) e =
       let g = only_if_is _ _ u e in
       let h = some_same f.of u g.1 in
       (f, refl, ap (λ a. taken_as a (kind_in f.of)) (sym (access_is access f.access g.0)) ∙ ap (λ u. taken_as access (kind_in u)) h)
 
-  held : (home : Home) → IsHome bodies home → (access : Access) (x : ℕ) (u : ElanType) → type_as access (slice_get (frame_in bodies (typing.owner bodies home)) x) ≡ Some u → slice_get (frame_cells p home) x ≡ Some (taken_as access (kind_in u))
+  held : (home : Home) → IsHome bodies home → (access : Access) (x : ℕ) (u : ElanType)
+      → type_as access (slice_get (frame_in bodies (typing.owner bodies home)) x) ≡ Some u
+      → slice_get (frame_cells p home) x ≡ Some (taken_as access (kind_in u))
   held home is access x u e =
       let g = as_is access u _ e in
       ap (λ o. slice_get (cells_in p o) x) (owner_is home is) ∙ cell_in (typing.owner bodies home) x g.0 g.1 ∙ ap Some g.2
 
-  pub place_is : (home : Home) → IsHome bodies home → (q : PlacePhrase) (u : ElanType) → place_type variables bodies home q ≡ Some u → HasPlace p home q (kind_in u)
+  pub place_is : (home : Home) → IsHome bodies home → (q : PlacePhrase) (u : ElanType) → place_type variables bodies home q ≡ Some u
+      → HasPlace p home q (kind_in u)
   place_is home is (places.Variable x) u e = ap (λ l. slice_get l x) agrees.level ∙ slice_get-map kind_in variables x ∙ ap (option_map kind_in) e
   place_is home is (places.Local x) u e = held home is Const x u e
   place_is home is (places.Parameter x) u e = held home is Var x u e
@@ -168,18 +175,30 @@ module _ (p : Program) (variables : List ElanType) (bodies : List Body) (agrees 
     pub takes : take_all parameters given ≡ true
     pub delivers : entry.delivers ≡ d
 
-  own_proc : (q : ℕ) (given : List Taken) (b : Body) (d : Typed) (s : Scope) → slice_get bodies q ≡ Some b → b.scope ≡ s → taken_by (Some s) given ≡ true → result_of_content b.content ≡ d → IsProc q given (option_map kind_in d)
+  own_proc : (q : ℕ) (given : List Taken) (b : Body) (d : Typed) (s : Scope) → slice_get bodies q ≡ Some b → b.scope ≡ s → taken_by (Some s) given ≡ true
+      → result_of_content b.content ≡ d → IsProc q given (option_map kind_in d)
   own_proc q given b d (scopes.Own ps vs) is s e r =
       let t = agrees.each q b is in
-      record { entry = t.entry; has = t.has; parameters = ps; cells = map kind_in vs; own = t.layout ∙ ap layout_of s; takes = e; delivers = t.delivers ∙ ap (option_map kind_in) r }
+      record {
+        entry = t.entry;
+        has = t.has;
+        parameters = ps;
+        cells = map kind_in vs;
+        own = t.layout ∙ ap layout_of s;
+        takes = e;
+        delivers =
+            t.delivers ∙ ap (option_map kind_in) r;
+      }
   own_proc q given b d (scopes.Of n) is s e r = let g : ⊥ = cc in absurd g
   own_proc q given b d scopes.Level is s e r = let g : ⊥ = cc in absurd g
 
-  some_proc : (q : ℕ) (given : List Taken) (d : Typed) (o : Option Body) → slice_get bodies q ≡ o → taken_by (scope_of o) given ≡ true → delivered_by o ≡ d → IsProc q given (option_map kind_in d)
+  some_proc : (q : ℕ) (given : List Taken) (d : Typed) (o : Option Body) → slice_get bodies q ≡ o → taken_by (scope_of o) given ≡ true → delivered_by o ≡ d
+      → IsProc q given (option_map kind_in d)
   some_proc q given d None is e r = let g : ⊥ = cc in absurd g
   some_proc q given d (Some b) is e r = own_proc q given b d b.scope is refl e r
 
-  pub proc_is : (q : ℕ) (given : List Taken) (d : Typed) → taken_by (scope_of (slice_get bodies q)) given ≡ true → delivered_by (slice_get bodies q) ≡ d → IsProc q given (option_map kind_in d)
+  pub proc_is : (q : ℕ) (given : List Taken) (d : Typed) → taken_by (scope_of (slice_get bodies q)) given ≡ true → delivered_by (slice_get bodies q) ≡ d
+      → IsProc q given (option_map kind_in d)
   proc_is q given d e r = some_proc q given d (slice_get bodies q) refl e r
 
   -- a refinement of what a phrase stands in
@@ -202,7 +221,8 @@ module _ (p : Program) (variables : List ElanType) (bodies : List Body) (agrees 
   none_refined None e = cc
   none_refined (Some n) e = cc
 
-  some_part : (q : ℕ) (home : Home) → IsHome bodies home → (d : Typed) (o : Option Body) → slice_get bodies q ≡ o → refines (typing.owner bodies home) (scope_of o) ≡ true → delivered_by o ≡ d → IsPart q home (option_map kind_in d)
+  some_part : (q : ℕ) (home : Home) → IsHome bodies home → (d : Typed) (o : Option Body) → slice_get bodies q ≡ o
+      → refines (typing.owner bodies home) (scope_of o) ≡ true → delivered_by o ≡ d → IsPart q home (option_map kind_in d)
   some_part q home is d None e f r = absurd (none_refined (typing.owner bodies home) f)
   some_part q home is d (Some b) e f r =
       let t = agrees.each q b e in
@@ -211,11 +231,13 @@ module _ (p : Program) (variables : List ElanType) (bodies : List Body) (agrees 
         entry = t.entry;
         has = t.has;
         refinement = subst IsRefinement (sym t.layout) g.0;
-        owned = ap (λ o. program.owner_at q (program.layout_of o)) t.has ∙ ap (program.owner_in q) t.layout ∙ owner_same q b.scope ∙ g.1 ∙ sym (owner_is home is);
+        owned =
+            ap (λ o. program.owner_at q (program.layout_of o)) t.has ∙ ap (program.owner_in q) t.layout ∙ owner_same q b.scope ∙ g.1 ∙ sym (owner_is home is);
         delivers = t.delivers ∙ ap (option_map kind_in) r;
       }
 
-  pub part_is : (q : ℕ) (home : Home) → IsHome bodies home → (d : Typed) → refines (typing.owner bodies home) (scope_of (slice_get bodies q)) ≡ true → delivered_by (slice_get bodies q) ≡ d → IsPart q home (option_map kind_in d)
+  pub part_is : (q : ℕ) (home : Home) → IsHome bodies home → (d : Typed) → refines (typing.owner bodies home) (scope_of (slice_get bodies q)) ≡ true
+      → delivered_by (slice_get bodies q) ≡ d → IsPart q home (option_map kind_in d)
   part_is q home is d e r = some_part q home is d (slice_get bodies q) refl e r
 
   -- what is left by an exit
@@ -226,7 +248,8 @@ module _ (p : Program) (variables : List ElanType) (bodies : List Body) (agrees 
       let g : result_of_content b.content ≡ d = cc in
       (t.entry, t.has, t.delivers ∙ ap (option_map kind_in) g)
 
-  left_around : (n : ℕ) (d : Typed) (b : Body) (s : Scope) → slice_get bodies n ≡ Some b → b.scope ≡ s → around bodies (Some s) ≡ Some d → Delivers p (program.owner p (Some n)) (option_map kind_in d)
+  left_around : (n : ℕ) (d : Typed) (b : Body) (s : Scope) → slice_get bodies n ≡ Some b → b.scope ≡ s → around bodies (Some s) ≡ Some d
+      → Delivers p (program.owner p (Some n)) (option_map kind_in d)
   left_around n d b (scopes.Own ps vs) is s e = let g : ⊥ = cc in absurd g
   left_around n d b (scopes.Of q) is s e =
       let o : typing.owner bodies (Some n) ≡ Some q = ap (λ o. typing.owner_at n (scope_of o)) is ∙ ap (typing.owner_in n) s in

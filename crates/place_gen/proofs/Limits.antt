@@ -40,7 +40,8 @@ use Rattle.place_gen.proofs.Loops.{IsExit, Under, number_fits, turns_are, turns_
 
 module _ (p : Program) (body : Option ℕ) where
   -- with one cell more in use
-  stands_wider : (L : Uses) (k : Use) (m : Spot) (c : Position) → cells_fit (c.used + 1) ≡ true → Stands p L m c → Stands p (L ++ k ∷ []) (deeper m) (using c (c.used + 1))
+  stands_wider : (L : Uses) (k : Use) (m : Spot) (c : Position) → cells_fit (c.used + 1) ≡ true → Stands p L m c
+      → Stands p (L ++ k ∷ []) (deeper m) (using c (c.used + 1))
   stands_wider L k m c fits h =
       let most : c.used + 1 ≤ CELLS = leb-true (c.used + 1) CELLS fits in record {
         used = omega (arith, h.used, length-append L (k ∷ []));
@@ -50,21 +51,34 @@ module _ (p : Program) (body : Option ℕ) where
       }
 
   -- a cell is taken for the limit, where it has room
-  taken : {L : Uses} (t : Bool) (c c' : Position) (w : World) (cells now : Cells) (go : World → Outcome (Unit {0})) (k : Unit {0} → World → Ending) (l : Exit' → Option Value → World → Ending) → Keeps L w.store cells → step p c cells ≡ cond t (Goes c' now) (Halts CellRoom) → (t ≡ true → Comes p (free c') (scene_of w now) (finish (go (record w { store = w.store ++ Taken ∷ [] })) k l)) → Comes p (free c) (scene_of w cells) (finish (branch t (λ w. go (record w { store = w.store ++ Taken ∷ [] })) (Stopped CellRoom) w) k l)
+  taken : {L : Uses} (t : Bool) (c c' : Position) (w : World) (cells now : Cells) (go : World → Outcome (Unit {0})) (k : Unit {0} → World → Ending)
+      (l : Exit' → Option Value → World → Ending) → Keeps L w.store cells → step p c cells ≡ cond t (Goes c' now) (Halts CellRoom)
+      → (t ≡ true → Comes p (free c') (scene_of w now) (finish (go (record w { store = w.store ++ Taken ∷ [] })) k l))
+      → Comes p (free c) (scene_of w cells) (finish (branch t (λ w. go (record w { store = w.store ++ Taken ∷ [] })) (Stopped CellRoom) w) k l)
   taken {L} true c c' w cells now go k l keeps e h = on_step p c c' (scene_of w cells) now _ e (h refl)
   taken {L} false c c' w cells now go k l keeps e h = stop_comes p L c w CellRoom cells keeps e
 
   -- the cell is given back
-  given_back : (L : Uses) (limit : ℤ) (b end : ℕ) (c c1 : Position) (ops : List Operand) (k : Unit {0} → World → Ending) → c1.used ≡ c.used + 1 → c1.frames ≡ c.frames → ((cells : Cells) → step p (at c1 end ops) cells ≡ Goes (at c (end + 1) ops) cells) → ((a : Unit {0}) (w : World) → Any L a → w.marks ≤ b → Ends p L (at c (end + 1) ops) w (k a w)) → (a : Unit {0}) (w : World) → Any (L ++ OfLimit limit ∷ []) a → w.marks ≤ b → Ends p (L ++ OfLimit limit ∷ []) (at c1 end ops) w (k tt (cut (length w.store - 1) w))
+  given_back : (L : Uses) (limit : ℤ) (b end : ℕ) (c c1 : Position) (ops : List Operand) (k : Unit {0} → World → Ending) → c1.used ≡ c.used + 1
+      → c1.frames ≡ c.frames → ((cells : Cells) → step p (at c1 end ops) cells ≡ Goes (at c (end + 1) ops) cells)
+      → ((a : Unit {0}) (w : World) → Any L a → w.marks ≤ b → Ends p L (at c (end + 1) ops) w (k a w)) → (a : Unit {0}) (w : World)
+      → Any (L ++ OfLimit limit ∷ []) a → w.marks ≤ b → Ends p (L ++ OfLimit limit ∷ []) (at c1 end ops) w (k tt (cut (length w.store - 1) w))
   given_back L limit b end c c1 ops k e e' s hk a w good le cells keeps =
       let n : length w.store - 1 ≡ length L = omega (arith, keeps.as_many, length-append L (OfLimit limit ∷ [])) in
-      on_step p (at c1 end ops) (at c (end + 1) ops) (scene_of w cells) cells _ (s cells) (hk tt (cut (length w.store - 1) w) tt le cells (cuts L (OfLimit limit ∷ []) w.store cells (length w.store - 1) n keeps))
+      on_step p (at c1 end ops) (at c (end + 1) ops) (scene_of w cells) cells _ (s cells)
+      (hk tt (cut (length w.store - 1) w) tt le cells (cuts L (OfLimit limit ∷ []) w.store cells (length w.store - 1) n keeps))
 
-  limit_sized : (way : Way) (ts : Stretch) → ((ks : List OperandKind) (m : Spot) (pc : ℕ) → length (ts.lines ks m pc) ≡ ts.size) → (ks : List OperandKind) (m : Spot) (pc : ℕ) → length ((limit_code way ts).lines ks m pc) ≡ (limit_code way ts).size
-  limit_sized way ts e ks m pc = omega (arith, length-append (ts.lines (drop 2 ks) (deeper m) (pc + 1)) (line_of Unlimit (drop 2 ks) (deeper m) ∷ []), e (drop 2 ks) (deeper m) (pc + 1))
+  limit_sized : (way : Way) (ts : Stretch) → ((ks : List OperandKind) (m : Spot) (pc : ℕ) → length (ts.lines ks m pc) ≡ ts.size)
+      → (ks : List OperandKind) (m : Spot) (pc : ℕ) → length ((limit_code way ts).lines ks m pc) ≡ (limit_code way ts).size
+  limit_sized way ts e ks m pc =
+      omega (arith, length-append (ts.lines (drop 2 ks) (deeper m) (pc + 1)) (line_of Unlimit (drop 2 ks) (deeper m) ∷ []), e (drop 2 ks) (deeper m) (pc + 1))
 
   -- the turns under a limit
-  limited_carries : {t : Run Bool} {f : Exit} (way : Way) (v : Value) (x : Place) → IsOf kinds.Int v → IsExit p body (Under p body (number_of v)) t f → (calls : Calls) (n b pc : ℕ) (L : Uses) (ks : List OperandKind) (m : Spot) (c : Position) (ops : List Operand) → m.body ≡ body → Within p calls n b L m c → AtKind kinds.Int L x → HasAt p.lines pc ((limit_code way (turns_code f)).lines ks m pc) → Carries p L m.body c.frames Any b (at c pc (Of v ∷ keep_place x ops)) (limited x way (number_of v) t (reach calls n c ops)) (λ _. at c (pc + 1 + (turns_code f).size + 1) ops)
+  limited_carries : {t : Run Bool} {f : Exit} (way : Way) (v : Value) (x : Place) → IsOf kinds.Int v → IsExit p body (Under p body (number_of v)) t f
+      → (calls : Calls) (n b pc : ℕ) (L : Uses) (ks : List OperandKind) (m : Spot) (c : Position) (ops : List Operand) → m.body ≡ body
+      → Within p calls n b L m c → AtKind kinds.Int L x → HasAt p.lines pc ((limit_code way (turns_code f)).lines ks m pc)
+      → Carries p L m.body c.frames Any b (at c pc (Of v ∷ keep_place x ops)) (limited x way (number_of v) t (reach calls n c ops))
+      (λ _. at c (pc + 1 + (turns_code f).size + 1) ops)
   limited_carries {t} {f} way v x ok i calls n b pc L ks m c ops home le at_x has =
       let z = number_of v in
       let ts = turns_code f in
@@ -82,32 +96,53 @@ module _ (p : Program) (body : Option ℕ) where
             let now_cells = written cells (run_cell c.used) (cell_of (item.Int z)) in
             let w' : World = record w { store = w.store ++ Taken ∷ [] } in
             let read = reads L w.store cells x.variable kinds.Int keeps at_x in
-            let go = λ (u : Value). cond (cells_fit (c.used + 1)) (Goes (using (at c (cond (is_past way z (number_of u)) end (pc + 1)) ops) (c.used + 1)) now_cells) (Halts CellRoom) in
+            let go =
+            λ (u : Value). cond (cells_fit (c.used + 1)) (Goes (using (at c (cond (is_past way z (number_of u)) end (pc + 1)) ops) (c.used + 1)) now_cells)
+            (Halts CellRoom) in
             let does : step p now cells ≡ go (fetch x w) = here p pc (Limit way end) ks m has.0 c (Of v ∷ keep_place x ops) cells ∙ ap go read.1 in
-            let run = λ (w : World). bind (branch (is_past way z (number_of (fetch x w))) (Gives (tt {0})) (turns n (t r)) w) (λ _ w. Gives (tt {0}) (cut (length w.store - 1) w)) in
+            let run =
+            λ (w : World). bind (branch (is_past way z (number_of (fetch x w))) (Gives (tt {0})) (turns n (t r)) w)
+            (λ _ w. Gives (tt {0}) (cut (length w.store - 1) w)) in
             let within : x.variable < length w.store = omega (arith, slice_get_within L x.variable (OfValue kinds.Int) at_x, keeps.as_many) in
-            let kept : Keeps M w'.store now_cells = subst (λ n. Keeps M w'.store (written cells (run_cell n) (cell_of (item.Int z)))) (sym used) (extends_one L w.store cells (OfLimit z) Taken (cell_of (item.Int z)) keeps (refl, number_fits p body v ok, refl)) in
+            let kept : Keeps M w'.store now_cells =
+            subst (λ n. Keeps M w'.store (written cells (run_cell n) (cell_of (item.Int z)))) (sym used)
+            (extends_one L w.store cells (OfLimit z) Taken (cell_of (item.Int z)) keeps (refl, number_fits p body v ok, refl)) in
             let same_x : fetch x w' ≡ fetch x w = ap value_of (get_or_append_left w.store (Taken ∷ []) Taken x.variable within) in
             let fuller = λ (e : cells_fit (c.used + 1) ≡ true).
             let le' : Within p calls n b M (deeper m) c1 = record { turns = le.turns; stands = stands_wider L (OfLimit z) m c e le.stands; carry = le.carry } in
-            let inner = branch_carries p {L = M} {body = m.body} {fs = c.frames} b past (λ (t : Bool). at c1 (cond t end (pc + 1)) ops) (Gives (tt {0})) (turns n (t r)) (λ _. at c1 end ops) (none_carries p b tt (λ _. at c1 end ops) tt) (turns_are p body i calls n b (pc + 1) M (drop 2 ks) (deeper m) c1 ops home le' (L, refl) (has_front p.lines (pc + 1) (ts.lines (drop 2 ks) (deeper m) (pc + 1)) _ has.1)) in
+            let inner =
+            branch_carries p {L = M} {body = m.body} {fs = c.frames} b past (λ (t : Bool). at c1 (cond t end (pc + 1)) ops) (Gives (tt {0})) (turns n (t r))
+            (λ _. at c1 end ops) (none_carries p b tt (λ _. at c1 end ops) tt)
+            (turns_are p body i calls n b (pc + 1) M (drop 2 ks) (deeper m) c1 ops home le' (L, refl)
+            (has_front p.lines (pc + 1) (ts.lines (drop 2 ks) (deeper m) (pc + 1)) _ has.1)) in
             let drops = λ (cells : Cells).
             let n : c.used + 1 - 1 ≡ c.used = omega arith in
             here p end Unlimit (drop 2 ks) (deeper m) h1.0 c1 ops cells ∙ ap (λ n. Goes (using (at c (end + 1) ops) n) cells) n in
-            let ends = inner.by (λ _ w. k tt (cut (length w.store - 1) w)) l (given_back L z b end c c1 ops k refl refl drops hk) (wider p L (OfLimit z ∷ []) hl) w' lw now_cells kept in
-            subst (Comes p (free (at c1 (cond past end (pc + 1)) ops)) (scene_of w now_cells)) (sym (finish_bind (branch past (Gives (tt {0})) (turns n (t r)) w') (λ _ w. Gives (tt {0}) (cut (length w.store - 1) w)) k l) ∙ ap (λ (u : Value). finish (bind (branch (is_past way z (number_of u)) (Gives (tt {0})) (turns n (t r)) w') (λ _ w. Gives (tt {0}) (cut (length w.store - 1) w))) k l) (sym same_x)) ends in
-            subst (λ (n : ℕ). Comes p (free now) (scene_of w cells) (finish (branch (cells_fit n) (λ w. run (record w { store = w.store ++ Taken ∷ [] })) (Stopped CellRoom) w) k l)) (sym same)
+            let ends =
+            inner.by (λ _ w. k tt (cut (length w.store - 1) w)) l (given_back L z b end c c1 ops k refl refl drops hk) (wider p L (OfLimit z ∷ []) hl) w' lw
+            now_cells kept in
+            subst (Comes p (free (at c1 (cond past end (pc + 1)) ops)) (scene_of w now_cells))
+            (sym (finish_bind (branch past (Gives (tt {0})) (turns n (t r)) w') (λ _ w. Gives (tt {0}) (cut (length w.store - 1) w)) k l)
+            ∙ ap (λ (u : Value). finish
+            (bind (branch (is_past way z (number_of u)) (Gives (tt {0})) (turns n (t r)) w') (λ _ w. Gives (tt {0}) (cut (length w.store - 1) w))) k l)
+            (sym same_x)) ends in
+            subst (λ (n : ℕ). Comes p (free now) (scene_of w cells)
+            (finish (branch (cells_fit n) (λ w. run (record w { store = w.store ++ Taken ∷ [] })) (Stopped CellRoom) w) k l)) (sym same)
             (taken (cells_fit (c.used + 1)) now (at c1 (cond past end (pc + 1)) ops) w cells now_cells run k l keeps does fuller);
       }
 
   -- a loop whose counter has its first value, without a limit and with one
-  pub counted_none_is : (turn' : Run Bool → Run Bool) (tf : Exit → Exit) (q : PlacePhrase) (way : Way) → IsExit p body (λ _. Unit {0}) (turn' (step_on q)) (tf (step_code q)) → IsAction p body (counted q way None turn') (counted_code q way None tf)
+  pub counted_none_is : (turn' : Run Bool → Run Bool) (tf : Exit → Exit) (q : PlacePhrase) (way : Way)
+      → IsExit p body (λ _. Unit {0}) (turn' (step_on q)) (tf (step_code q)) → IsAction p body (counted q way None turn') (counted_code q way None tf)
   counted_none_is turn' tf q way i = record {
     sized = λ ks m pc. turns_sized p body i ks m pc;
     goes = λ calls n b pc L ks m c ops home le has. turns_are p body i calls n b pc L ks m c ops home le tt has;
   }
 
-  pub counted_some_is : {t : Run Value} {f : Stretch} (turn' : Run Bool → Run Bool) (tf : Exit → Exit) (q : PlacePhrase) (way : Way) → HasPlace p body q kinds.Int → IsValue p body kinds.Int t f → ((limit : ℤ) → FitsSigned w16 limit → IsExit p body (Under p body limit) (turn' (step_to q way limit)) (tf (step_to_code q way))) → IsAction p body (counted q way (Some t) turn') (counted_code q way (Some f) tf)
+  pub counted_some_is : {t : Run Value} {f : Stretch} (turn' : Run Bool → Run Bool) (tf : Exit → Exit) (q : PlacePhrase) (way : Way)
+      → HasPlace p body q kinds.Int → IsValue p body kinds.Int t f
+      → ((limit : ℤ) → FitsSigned w16 limit → IsExit p body (Under p body limit) (turn' (step_to q way limit)) (tf (step_to_code q way)))
+      → IsAction p body (counted q way (Some t) turn') (counted_code q way (Some f) tf)
   counted_some_is {t} {f} turn' tf q way is i j =
       let ts = turns_code (tf (step_to_code q way)) in
       let g = limit_code way ts in
@@ -118,9 +153,11 @@ module _ (p : Program) (body : Option ℕ) where
         goes = λ calls n b pc L ks m c ops home le has.
             let r = reach calls n c ops in
             let rest = λ (x : Place) (v : Value). limited x way (number_of v) (turn' (step_to q way (number_of v))) r in
-            join_carries p (place_code q kinds.Int) (join f g) b pc ks m c ops (place q r) (λ x w. bind (t (holding_place r) w) (rest x)) (λ x. keep_place x ops) (λ _. ops) y.sized has (λ h. y.goes calls n b pc L ks m c ops home le h) (λ h x at_x.
+            join_carries p (place_code q kinds.Int) (join f g) b pc ks m c ops (place q r) (λ x w. bind (t (holding_place r) w) (rest x))
+            (λ x. keep_place x ops) (λ _. ops) y.sized has (λ h. y.goes calls n b pc L ks m c ops home le h) (λ h x at_x.
             let kp = operand.Place kinds.Int ∷ ks in
-            join_carries p f g b (pc + 1) kp m c (keep_place x ops) (t (reach calls n c (keep_place x ops))) (rest x) (λ v. Of v ∷ keep_place x ops) (λ _. ops) i.sized h (λ h. i.goes calls n b (pc + 1) L kp m c (keep_place x ops) home le h) (λ h v ok.
+            join_carries p f g b (pc + 1) kp m c (keep_place x ops) (t (reach calls n c (keep_place x ops))) (rest x) (λ v. Of v ∷ keep_place x ops) (λ _. ops)
+            i.sized h (λ h. i.goes calls n b (pc + 1) L kp m c (keep_place x ops) home le h) (λ h v ok.
             let z = pc + 1 + f.size in
             ends_at p b (at c z (Of v ∷ keep_place x ops)) c (rest x v) (z + 1 + ts.size + 1) (z + (1 + (ts.size + 1))) (λ _. ops) (omega arith)
             (limited_carries way v x ok (j (number_of v) (number_fits p body v ok)) calls n b z L (f.leaves kp) m c ops home le at_x h)));

@@ -41,19 +41,25 @@ module _ (p : Program) (body : Option ℕ) where
   -- a part of a turn, where the limits are such
   pub record IsExit (L : Uses → Type 0) (run : Run Bool) (f : Exit) : Type 0 where
     pub sized : (end : ℕ) (ks : List OperandKind) (m : Spot) (pc : ℕ) → length (f.lines end ks m pc) ≡ f.size
-    pub goes : (calls : Calls) (n b pc end : ℕ) (U : Uses) (ks : List OperandKind) (m : Spot) (c : Position) (ops : List Operand) → m.body ≡ body → Within p calls n b U m c → L U → HasAt p.lines pc (f.lines end ks m pc) → Parts U m.body b c (pc + f.size) ops end (run (reach calls n c ops)) (at c pc ops)
+    pub goes : (calls : Calls) (n b pc end : ℕ) (U : Uses) (ks : List OperandKind) (m : Spot) (c : Position) (ops : List Operand) → m.body ≡ body
+        → Within p calls n b U m c → L U → HasAt p.lines pc (f.lines end ks m pc)
+        → Parts U m.body b c (pc + f.size) ops end (run (reach calls n c ops)) (at c pc ops)
 
-  exits_at : {U : Uses} {home : Option ℕ} (b : ℕ) (c : Position) (m n : ℕ) (ops : List Operand) (end : ℕ) (run : World → Outcome Bool) (from : Position) → m ≡ n → Parts U home b c m ops end run from → Parts U home b c n ops end run from
+  exits_at : {U : Uses} {home : Option ℕ} (b : ℕ) (c : Position) (m n : ℕ) (ops : List Operand) (end : ℕ) (run : World → Outcome Bool) (from : Position) → m ≡ n
+      → Parts U home b c m ops end run from → Parts U home b c n ops end run from
   exits_at {U} {home} b c m n ops end run from e i = subst (λ n. Parts U home b c n ops end run from) e i
 
-  gives_truth : {U : Uses} {home : Option ℕ} (b : ℕ) (t : Bool) (c : Position) (q : ℕ) (ops : List Operand) (end : ℕ) → Parts U home b c q ops end (Gives t) (at c (cond t q end) ops)
+  gives_truth : {U : Uses} {home : Option ℕ} (b : ℕ) (t : Bool) (c : Position) (q : ℕ) (ops : List Operand) (end : ℕ)
+      → Parts U home b c q ops end (Gives t) (at c (cond t q end) ops)
   gives_truth b true c q ops end = none_carries p b true (λ on. cond on (at c q ops) (at c end ops)) tt
   gives_truth b false c q ops end = none_carries p b false (λ on. cond on (at c q ops) (at c end ops)) tt
 
   nothing_exits : (L : Uses → Type 0) → IsExit L (λ r. Gives true) (stays none)
   nothing_exits L = record {
     sized = λ end ks m pc. refl;
-    goes = λ calls n b pc end U ks m c ops home le l has. let r = reach calls n c ops in exits_at b c pc (pc + 0) ops end (Gives true) (at c pc ops) (omega arith) (gives_truth b true c pc ops end);
+    goes =
+        λ calls n b pc end U ks m c ops home le l has. let r = reach calls n c ops in
+        exits_at b c pc (pc + 0) ops end (Gives true) (at c pc ops) (omega arith) (gives_truth b true c pc ops end);
   }
 
   pub while_none : (L : Uses → Type 0) → IsExit L (while_true None) (while_code None)
@@ -73,24 +79,38 @@ module _ (p : Program) (body : Option ℕ) where
         let to = λ (on : Bool). cond on (at c (q + 1) ops) (at c end ops) in
         let h = has_rest p.lines pc f.size (f.lines ks m pc) _ (i.sized ks m pc) has in
         exits_at b c (q + 1) (pc + (f.size + 1)) ops end (while_true (Some t) r) (at c pc ops) (omega arith)
-        (then_carries p b (at c pc ops) (t r) (λ v. at c q (Of v ∷ ops)) (λ v. Gives (truth_of v)) to (i.goes calls n b pc U ks m c ops home le (has_front p.lines pc (f.lines ks m pc) _ has)) (λ v ok.
-        lead_carries p b (at c q (Of v ∷ ops)) (at c (cond (truth_of v) (q + 1) end) ops) (Gives (truth_of v)) to (λ cells. here p q (False end) (f.leaves ks) m h.0 c (Of v ∷ ops) cells) (gives_truth b (truth_of v) c (q + 1) ops end)));
+        (then_carries p b (at c pc ops) (t r) (λ v. at c q (Of v ∷ ops)) (λ v. Gives (truth_of v)) to
+        (i.goes calls n b pc U ks m c ops home le (has_front p.lines pc (f.lines ks m pc) _ has)) (λ v ok.
+        lead_carries p b (at c q (Of v ∷ ops)) (at c (cond (truth_of v) (q + 1) end) ops) (Gives (truth_of v)) to
+        (λ cells. here p q (False end) (f.leaves ks) m h.0 c (Of v ∷ ops) cells) (gives_truth b (truth_of v) c (q + 1) ops end)));
   }
 
   pub until_some : {t : Run Value} {f : Stretch} (L : Uses → Type 0) → IsValue p body kinds.Truth t f → IsExit L (until_true (Some t)) (until_code (Some f))
   until_some {t} {f} L i = record {
-    sized = λ end ks m pc. omega (arith, length-append (f.lines ks m pc) (line_of (False (pc + f.size + 1 + 1)) (f.leaves ks) m ∷ (line_of (Jump end) ks m ∷ [])), i.sized ks m pc);
+    sized =
+        λ end ks m pc. omega (
+          arith,
+          length-append (f.lines ks m pc) (line_of (False (pc + f.size + 1 + 1)) (f.leaves ks) m ∷ (line_of (Jump end) ks m ∷ [])),
+          i.sized ks m pc,
+        );
     goes = λ calls n b pc end U ks m c ops home le l has. let r = reach calls n c ops in
         let q = pc + f.size in
         let to = λ (on : Bool). cond on (at c (q + 1 + 1) ops) (at c end ops) in
         let h = has_rest p.lines pc f.size (f.lines ks m pc) _ (i.sized ks m pc) has in
         exits_at b c (q + 1 + 1) (pc + (f.size + (1 + 1))) ops end (until_true (Some t) r) (at c pc ops) (omega arith)
-        (then_carries p b (at c pc ops) (t r) (λ v. at c q (Of v ∷ ops)) (λ v. Gives (not (truth_of v))) to (i.goes calls n b pc U ks m c ops home le (has_front p.lines pc (f.lines ks m pc) _ has)) (λ v ok.
-        lead_carries p b (at c q (Of v ∷ ops)) (at c (cond (truth_of v) (q + 1) (q + 1 + 1)) ops) (Gives (not (truth_of v))) to (λ cells. here p q (False (q + 1 + 1)) (f.leaves ks) m h.0 c (Of v ∷ ops) cells) (by (truth_of v) b c ops q end (λ cells. here p (q + 1) (Jump end) ks m h.1.0 c ops cells))));
+        (then_carries p b (at c pc ops) (t r) (λ v. at c q (Of v ∷ ops)) (λ v. Gives (not (truth_of v))) to
+        (i.goes calls n b pc U ks m c ops home le (has_front p.lines pc (f.lines ks m pc) _ has)) (λ v ok.
+        lead_carries p b (at c q (Of v ∷ ops)) (at c (cond (truth_of v) (q + 1) (q + 1 + 1)) ops) (Gives (not (truth_of v))) to
+        (λ cells. here p q (False (q + 1 + 1)) (f.leaves ks) m h.0 c (Of v ∷ ops) cells)
+        (by (truth_of v) b c ops q end (λ cells. here p (q + 1) (Jump end) ks m h.1.0 c ops cells))));
   }
     where
-      by : {U : Uses} {home : Option ℕ} (t : Bool) (b : ℕ) (c : Position) (ops : List Operand) (q end : ℕ) → ((cells : Cells) → step p (at c (q + 1) ops) cells ≡ Goes (at c end ops) cells) → Parts U home b c (q + 1 + 1) ops end (Gives (not t)) (at c (cond t (q + 1) (q + 1 + 1)) ops)
-      by true b c ops q end e = lead_carries p b (at c (q + 1) ops) (at c end ops) (Gives false) (λ on. cond on (at c (q + 1 + 1) ops) (at c end ops)) e (none_carries p b false (λ on. cond on (at c (q + 1 + 1) ops) (at c end ops)) tt)
+      by : {U : Uses} {home : Option ℕ} (t : Bool) (b : ℕ) (c : Position) (ops : List Operand) (q end : ℕ)
+          → ((cells : Cells) → step p (at c (q + 1) ops) cells ≡ Goes (at c end ops) cells)
+          → Parts U home b c (q + 1 + 1) ops end (Gives (not t)) (at c (cond t (q + 1) (q + 1 + 1)) ops)
+      by true b c ops q end e =
+          lead_carries p b (at c (q + 1) ops) (at c end ops) (Gives false) (λ on. cond on (at c (q + 1 + 1) ops) (at c end ops)) e
+          (none_carries p b false (λ on. cond on (at c (q + 1 + 1) ops) (at c end ops)) tt)
       by false b c ops q end e = none_carries p b true (λ on. cond on (at c (q + 1 + 1) ops) (at c end ops)) tt
 
   pub units_are : {x : Run (Unit {0})} {f : Stretch} (L : Uses → Type 0) → IsAction p body x f → IsExit L (done x) (stays f)
@@ -98,27 +118,35 @@ module _ (p : Program) (body : Option ℕ) where
     sized = λ end ks m pc. i.sized ks m pc;
     goes = λ calls n b pc end U ks m c ops home le l has. let r = reach calls n c ops in
         let to = λ (on : Bool). cond on (at c (pc + f.size) ops) (at c end ops) in
-        then_carries p b (at c pc ops) (x r) (λ _. at c (pc + f.size) ops) (λ _. Gives true) to (i.goes calls n b pc U ks m c ops home le has) (λ _ _. none_carries p b true to tt);
+        then_carries p b (at c pc ops) (x r) (λ _. at c (pc + f.size) ops) (λ _. Gives true) to (i.goes calls n b pc U ks m c ops home le has)
+        (λ _ _. none_carries p b true to tt);
   }
 
   pub then_exits : {x y : Run Bool} {f g : Exit} {L : Uses → Type 0} → IsExit L x f → IsExit L y g → IsExit L (then_on x y) (exit_join f g)
   then_exits {x} {y} {f} {g} {L} i j = record {
-    sized = λ end ks m pc. omega (arith, length-append (f.lines end ks m pc) (g.lines end ks m (pc + f.size)), i.sized end ks m pc, j.sized end ks m (pc + f.size));
+    sized =
+        λ end ks m pc. omega (arith, length-append (f.lines end ks m pc) (g.lines end ks m (pc + f.size)), i.sized end ks m pc, j.sized end ks m (pc + f.size));
     goes = λ calls n b pc end U ks m c ops home le l has. let r = reach calls n c ops in
         let q = pc + f.size in
         let to = λ (on : Bool). cond on (at c (q + g.size) ops) (at c end ops) in
         exits_at b c (q + g.size) (pc + (f.size + g.size)) ops end (then_on x y r) (at c pc ops) (omega arith)
-        (then_carries p b (at c pc ops) (x r) (λ on. cond on (at c q ops) (at c end ops)) (λ on. branch on (y r) (Gives false)) to (i.goes calls n b pc end U ks m c ops home le l (has_front p.lines pc (f.lines end ks m pc) _ has)) (λ on _.
+        (then_carries p b (at c pc ops) (x r) (λ on. cond on (at c q ops) (at c end ops)) (λ on. branch on (y r) (Gives false)) to
+        (i.goes calls n b pc end U ks m c ops home le l (has_front p.lines pc (f.lines end ks m pc) _ has)) (λ on _.
         branch_carries p b on (λ t. cond t (at c q ops) (at c end ops)) (y r) (Gives false) to
         (j.goes calls n b q end U ks m c ops home le l (has_rest p.lines pc f.size (f.lines end ks m pc) _ (i.sized end ks m pc) has))
         (none_carries p b false to tt)));
   }
 
-  pub turn_is : (w u : Option (Run Value)) {x : Run (Unit {0})} {s : Run Bool} (wf uf : Option Stretch) {f : Stretch} {sf : Exit} {L : Uses → Type 0} → IsExit L (while_true w) (while_code wf) → IsAction p body x f → IsExit L (until_true u) (until_code uf) → IsExit L s sf → IsExit L (turn w x u s) (turn_code wf f uf sf)
+  pub turn_is : (w u : Option (Run Value)) {x : Run (Unit {0})} {s : Run Bool} (wf uf : Option Stretch) {f : Stretch} {sf : Exit} {L : Uses → Type 0}
+      → IsExit L (while_true w) (while_code wf) → IsAction p body x f → IsExit L (until_true u) (until_code uf) → IsExit L s sf
+      → IsExit L (turn w x u s) (turn_code wf f uf sf)
   turn_is w u wf uf {L = L} a b c d = then_exits a (then_exits (units_are L b) (then_exits c d))
 
   -- the turns of a loop
-  pub turns_are : {t : Run Bool} {f : Exit} {L : Uses → Type 0} → IsExit L t f → (calls : Calls) (n b pc : ℕ) (U : Uses) (ks : List OperandKind) (m : Spot) (c : Position) (ops : List Operand) → m.body ≡ body → Within p calls n b U m c → L U → HasAt p.lines pc ((turns_code f).lines ks m pc) → Carries p U m.body c.frames Any b (at c pc ops) (turns n (t (reach calls n c ops))) (λ _. at c (pc + (turns_code f).size) ops)
+  pub turns_are : {t : Run Bool} {f : Exit} {L : Uses → Type 0} → IsExit L t f
+      → (calls : Calls) (n b pc : ℕ) (U : Uses) (ks : List OperandKind) (m : Spot) (c : Position) (ops : List Operand) → m.body ≡ body
+      → Within p calls n b U m c → L U → HasAt p.lines pc ((turns_code f).lines ks m pc)
+      → Carries p U m.body c.frames Any b (at c pc ops) (turns n (t (reach calls n c ops))) (λ _. at c (pc + (turns_code f).size) ops)
   turns_are {t} {f} {L} i calls n b pc U ks m c ops home le l has =
       let end = pc + 1 + f.size + 1 in
       let q = pc + 1 + f.size in
@@ -128,16 +156,22 @@ module _ (p : Program) (body : Option ℕ) where
       let r = reach calls n c ops in
       ends_at p b top c (turns n (t r)) end (pc + (1 + (f.size + 1))) (λ _. ops) (omega arith)
       (turns_carries p n b (t r) top (at c (pc + 1) ops) exit (λ cells. here p pc Mark ks m has.0 c ops cells) (λ b' lb.
-      jumps_back {U = U} {home = m.body} {fs = c.frames} b' (at c (pc + 1) ops) (at c q ops) top exit (t r) (λ cells. here p q (Jump pc) ks m h.0 c ops cells) (i.goes calls n b' (pc + 1) end U ks m c ops home (less p le lb) l (has_front p.lines (pc + 1) (f.lines end ks m (pc + 1)) _ has.1))) le.turns)
+      jumps_back {U = U} {home = m.body} {fs = c.frames} b' (at c (pc + 1) ops) (at c q ops) top exit (t r) (λ cells. here p q (Jump pc) ks m h.0 c ops cells)
+      (i.goes calls n b' (pc + 1) end U ks m c ops home (less p le lb) l (has_front p.lines (pc + 1) (f.lines end ks m (pc + 1)) _ has.1))) le.turns)
     where
-      back : {U : Uses} (b : ℕ) (mid top exit : Position) (k : Bool → World → Ending) → ((cells : Cells) → step p mid cells ≡ Goes top cells) → ((a : Bool) (w : World) → Any U a → w.marks ≤ b → Ends p U (cond a top exit) w (k a w)) → (a : Bool) (w : World) → w.marks ≤ b → Ends p U (cond a mid exit) w (k a w)
+      back : {U : Uses} (b : ℕ) (mid top exit : Position) (k : Bool → World → Ending) → ((cells : Cells) → step p mid cells ≡ Goes top cells)
+          → ((a : Bool) (w : World) → Any U a → w.marks ≤ b → Ends p U (cond a top exit) w (k a w)) → (a : Bool) (w : World) → w.marks ≤ b
+          → Ends p U (cond a mid exit) w (k a w)
       back {U} b mid top exit k e hk true w le = lead_ends p U mid top w _ e (hk true w tt le)
       back {U} b mid top exit k e hk false w le = hk false w tt le
 
-      jumps_back : {U : Uses} {home : Option ℕ} {fs : List Frame} (b : ℕ) (from mid top exit : Position) (t : World → Outcome Bool) → ((cells : Cells) → step p mid cells ≡ Goes top cells) → Carries p U home fs Any b from t (λ on. cond on mid exit) → Carries p U home fs Any b from t (λ on. cond on top exit)
+      jumps_back : {U : Uses} {home : Option ℕ} {fs : List Frame} (b : ℕ) (from mid top exit : Position) (t : World → Outcome Bool)
+          → ((cells : Cells) → step p mid cells ≡ Goes top cells) → Carries p U home fs Any b from t (λ on. cond on mid exit)
+          → Carries p U home fs Any b from t (λ on. cond on top exit)
       jumps_back b from mid top exit t e i = record { by = λ k l hk hl w le. i.by k l (λ a w _ le. back b mid top exit k e hk a w le) hl w le }
 
-  pub turns_sized : {t : Run Bool} {f : Exit} {L : Uses → Type 0} → IsExit L t f → (ks : List OperandKind) (m : Spot) (pc : ℕ) → length ((turns_code f).lines ks m pc) ≡ (turns_code f).size
+  pub turns_sized : {t : Run Bool} {f : Exit} {L : Uses → Type 0} → IsExit L t f → (ks : List OperandKind) (m : Spot) (pc : ℕ)
+      → length ((turns_code f).lines ks m pc) ≡ (turns_code f).size
   turns_sized {t} {f} i ks m pc =
       let end = pc + 1 + f.size + 1 in
       omega (arith, length-append (f.lines end ks m (pc + 1)) (line_of (Jump pc) ks m ∷ []), i.sized end ks m (pc + 1))
@@ -160,8 +194,12 @@ module _ (p : Program) (body : Option ℕ) where
         goes = λ calls n b pc end U ks m c ops home le l has. let r = reach calls n c ops in
             let to = λ (on : Bool). cond on (at c (pc + 1 + 1 + 1) ops) (at c end ops) in
             exits_at b c (pc + 1 + 1 + 1) (pc + (1 + (1 + 1))) ops end (step_on q r) (at c pc ops) (omega arith)
-            (then_carries p b (at c pc ops) (place q r) (λ x. at c (pc + 1) (keep_place x ops)) (λ x w. bind (deliver (item.Int (pos 1)) (holding_place r) w) (λ v. modify Increase x (number_of v) true)) to (j.goes calls n b pc U ks m c ops home le (has.0, tt)) (λ x at_x.
-            then_carries p b (at c (pc + 1) (keep_place x ops)) (deliver (item.Int (pos 1)) (holding_place r)) (λ v. at c (pc + 1 + 1) (Of v ∷ keep_place x ops)) (λ v. modify Increase x (number_of v) true) to (i.goes calls n b (pc + 1) U (operand.Place kinds.Int ∷ ks) m c (keep_place x ops) home le (has.1.0, tt)) (λ v ok.
+            (then_carries p b (at c pc ops) (place q r) (λ x. at c (pc + 1) (keep_place x ops))
+            (λ x w. bind (deliver (item.Int (pos 1)) (holding_place r) w) (λ v. modify Increase x (number_of v) true)) to
+            (j.goes calls n b pc U ks m c ops home le (has.0, tt)) (λ x at_x.
+            then_carries p b (at c (pc + 1) (keep_place x ops)) (deliver (item.Int (pos 1)) (holding_place r))
+            (λ v. at c (pc + 1 + 1) (Of v ∷ keep_place x ops)) (λ v. modify Increase x (number_of v) true) to
+            (i.goes calls n b (pc + 1) U (operand.Place kinds.Int ∷ ks) m c (keep_place x ops) home le (has.1.0, tt)) (λ v ok.
             modify_carries p body Increase x v true b (pc + 1 + 1) (operand.Value kinds.Int ∷ operand.Place kinds.Int ∷ ks) m c ops to refl at_x has.1.1)));
       }
 
@@ -174,33 +212,47 @@ module _ (p : Program) (body : Option ℕ) where
   number_fits (item.Truth b) h = absurd h
 
   -- the limit is read out of its cell
-  limit_read : (limit : ℤ) (U : Uses) (c : Position) (store : List Slot) (cells : Cells) → Under limit U → c.used ≡ length U → Keeps U store cells → limit_in c cells ≡ limit
+  limit_read : (limit : ℤ) (U : Uses) (c : Position) (store : List Slot) (cells : Cells) → Under limit U → c.used ≡ length U → Keeps U store cells
+      → limit_in c cells ≡ limit
   limit_read limit U c store cells l used h =
       let n : c.used - 1 ≡ length l.0 = omega (arith, used, ap length l.1, length-append l.0 (OfLimit limit ∷ [])) in
-      let is : slice_get U (length l.0) ≡ Some (OfLimit limit) = ap (λ U. slice_get U (length l.0)) l.1 ∙ (let e : length l.0 ≡ length l.0 + 0 = omega arith in ap (slice_get (l.0 ++ OfLimit limit ∷ [])) e ∙ get_right l.0 (OfLimit limit ∷ []) 0) in
+      let is : slice_get U (length l.0) ≡ Some (OfLimit limit) =
+      ap (λ U. slice_get U (length l.0)) l.1
+      ∙ (let e : length l.0 ≡ length l.0 + 0 = omega arith in ap (slice_get (l.0 ++ OfLimit limit ∷ [])) e ∙ get_right l.0 (OfLimit limit ∷ []) 0) in
       let g = h.each (length l.0) (OfLimit limit) is in
-      ap (λ n. number_of (value_in kinds.Int (cells (run_cell n)))) n ∙ ap (λ n. number_of (value_in kinds.Int n)) g.2 ∙ ap number_of (value_in-cell_of kinds.Int (item.Int limit) g.1)
+      ap (λ n. number_of (value_in kinds.Int (cells (run_cell n)))) n ∙ ap (λ n. number_of (value_in kinds.Int n)) g.2
+      ∙ ap number_of (value_in-cell_of kinds.Int (item.Int limit) g.1)
 
-  stepped : {U : Uses} (t : Bool) (way : Way) (limit z : ℤ) (x : Place) (b : ℕ) (c next exit : Position) (k : Bool → World → Ending) (l : Exit' → Option Value → World → Ending) → ((a : Bool) (w : World) → Any U a → w.marks ≤ b → Ends p U (cond a next exit) w (k a w)) → (w : World) → w.marks ≤ b → (cells : Cells) → Keeps U w.store cells → AtKind kinds.Int U x → FitsSigned w16 limit → FitsSigned w16 z → has_reached way limit z ≡ t → step p c cells ≡ cond t (Goes exit cells) (Goes next (written cells (run_cell x.variable) (cell_of (item.Int (next_number way z))))) → Comes p (free c) (scene_of w cells) (finish (branch t (Gives false) (λ w. Gives true (assign x (item.Int (next_number way z)) w)) w) k l)
+  stepped : {U : Uses} (t : Bool) (way : Way) (limit z : ℤ) (x : Place) (b : ℕ) (c next exit : Position) (k : Bool → World → Ending)
+      (l : Exit' → Option Value → World → Ending) → ((a : Bool) (w : World) → Any U a → w.marks ≤ b → Ends p U (cond a next exit) w (k a w)) → (w : World)
+      → w.marks ≤ b → (cells : Cells) → Keeps U w.store cells → AtKind kinds.Int U x → FitsSigned w16 limit → FitsSigned w16 z → has_reached way limit z ≡ t
+      → step p c cells ≡ cond t (Goes exit cells) (Goes next (written cells (run_cell x.variable) (cell_of (item.Int (next_number way z)))))
+      → Comes p (free c) (scene_of w cells) (finish (branch t (Gives false) (λ w. Gives true (assign x (item.Int (next_number way z)) w)) w) k l)
   stepped true way limit z x b c next exit k l hk w le cells h is f g t e = on_step p c exit (scene_of w cells) cells _ e (hk false w tt le cells h)
   stepped {U} false way limit z x b c next exit k l hk w le cells h is f g t e =
-      write_ends p c next w x kinds.Int (item.Int (next_number way z)) _ cells is (next_fits way limit z f g t) h e (hk true (assign x (item.Int (next_number way z)) w) tt le)
+      write_ends p c next w x kinds.Int (item.Int (next_number way z)) _ cells is (next_fits way limit z f g t) h e
+      (hk true (assign x (item.Int (next_number way z)) w) tt le)
 
-  pub step_to_is : (q : PlacePhrase) (way : Way) (limit : ℤ) → HasPlace p body q kinds.Int → FitsSigned w16 limit → IsExit (Under limit) (step_to q way limit) (step_to_code q way)
+  pub step_to_is : (q : PlacePhrase) (way : Way) (limit : ℤ) → HasPlace p body q kinds.Int → FitsSigned w16 limit
+      → IsExit (Under limit) (step_to q way limit) (step_to_code q way)
   step_to_is q way limit is fits =
       let j = place_is p body q kinds.Int is in record {
         sized = λ end ks m pc. refl;
         goes = λ calls n b pc end U ks m c ops home le l has. let r = reach calls n c ops in
             let to = λ (on : Bool). cond on (at c (pc + 1 + 1) ops) (at c end ops) in
             exits_at b c (pc + 1 + 1) (pc + (1 + 1)) ops end (step_to q way limit r) (at c pc ops) (omega arith)
-            (then_carries p b (at c pc ops) (place q r) (λ x. at c (pc + 1) (keep_place x ops)) (λ x w. step_from x way limit (number_of (fetch x w)) w) to (j.goes calls n b pc U ks m c ops home le (has.0, tt)) (λ x at_x. record {
+            (then_carries p b (at c pc ops) (place q r) (λ x. at c (pc + 1) (keep_place x ops)) (λ x w. step_from x way limit (number_of (fetch x w)) w) to
+            (j.goes calls n b pc U ks m c ops home le (has.0, tt)) (λ x at_x. record {
               by = λ k e hk hl w le' cells h.
                   let now = at c (pc + 1) (keep_place x ops) in
                   let next = at c (pc + 1 + 1) ops in
                   let exit = at c end ops in
                   let z = number_of (fetch x w) in
                   let read = reads U w.store cells x.variable kinds.Int h at_x in
-                  let go = λ (v : Value) (lim : ℤ). cond (has_reached way lim (number_of v)) (Goes exit cells) (Goes next (written cells (run_cell x.variable) (cell_of (item.Int (next_number way (number_of v)))))) in
+                  let go =
+                  λ (v : Value) (lim : ℤ).
+                  cond (has_reached way lim (number_of v)) (Goes exit cells)
+                  (Goes next (written cells (run_cell x.variable) (cell_of (item.Int (next_number way (number_of v)))))) in
                   stepped (has_reached way limit z) way limit z x b now next exit k e hk w le' cells h at_x fits (number_fits (fetch x w) read.0) refl
                   (here p (pc + 1) (Step way end) (operand.Place kinds.Int ∷ ks) m has.1.0 c (keep_place x ops) cells
                   ∙ ap (go (value_in kinds.Int (cells (run_cell x.variable)))) (limit_read limit U now w.store cells l le.stands.used h)

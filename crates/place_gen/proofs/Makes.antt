@@ -94,15 +94,6 @@ same_exit {f} {end} {a} {b} {c} r x = record {
       (p.0, (all, omega (arith, q.1.1, n), q.1.2 ∙ k, q.1.3 ∙ s));
 }
 
-pub while_makes : {f : Stretch} {end : ℕ} {ks : List OperandKind} {d0 a b c d : Draft} → ComesBack d0.pending d0 a → (a.wanted ≡ false → ks ≡ d0.pending)
-    → Makes f a b → Makes (one (False end) (drop 1)) b c → ComesBack ks c d → MakesExit (while_code (Some f)) end d0 d
-while_makes {f} {end} {ks} {d0} {a} {b} {c} {d} r e x y z = same_exit r (record {
-  met = λ h.
-      let w = z.met h in let q = y.met w.0 in let p = x.met q.0 in
-      let j = join_adds f (one (False end) (drop 1)) a b c p.1 q.1 in
-      (p.0, (w.1.0 ∙ j.0, ap length w.1.0 ∙ j.1, w.1.1 ∙ e p.0 ∙ sym ((r.met p.0).1.1), w.1.2 ∙ j.3));
-})
-
 pub until_makes : {f : Stretch} {end : ℕ} {ks : List OperandKind} {d0 a b c d : Draft} → ComesBack d0.pending d0 a → (a.wanted ≡ false → ks ≡ d0.pending)
     → Makes f a b → MakesTurn (False (length b.lines + 1 + 0 + 1)) ks b c → Makes (one (Jump end) keeps) c d → MakesExit (until_code (Some f)) end d0 d
 until_makes {f} {end} {ks} {d0} {a} {b} {c} {d} r e x y z = same_exit r (record {
@@ -128,21 +119,6 @@ turns_makes {turn} {end} {top} {d0} {d1} {d2} {d3} {d4} r e t x2 x3 x4 = same_ma
       let z = x4.met h in let y = x3.met z.0 in let x = x2.met y.0 in
       let n : length d1.lines ≡ length d0.lines = ap length (r.met x.0).1.0 in
       (x.0, turns_adds turn end top d1 d2 d3 d4 x.1 y.1 z.1 (t ∙ sym n) (e x.0 ∙ ap (λ m. m + (turns_code turn).size) (sym n)));
-})
-
-pub limit_makes : {turns : Stretch} {end : ℕ} (way : Way) {d0 a b c d e g : Draft} → ComesBack d0.pending d0 a
-    → (a.wanted ≡ false → end ≡ length d0.lines + (turns.size + 1)) → Makes (one (Limit way end) (drop 2)) a b
-    → (c.wanted ≡ false → (b.wanted ≡ false) × (c.lines ≡ b.lines) × (c.pending ≡ b.pending) × (c.spot ≡ deeper b.spot)) → Makes turns c d
-    → Makes (one Unlimit keeps) d e → (g.lines ≡ e.lines) × (g.pending ≡ e.pending) × (g.spot ≡ d0.spot) × (g.wanted ≡ e.wanted)
-    → ((ks : List OperandKind) → turns.leaves ks ≡ ks) → Makes (limit_code way turns) d0 g
-limit_makes {turns} {end} way {d0} {a} {b} {c} {d} {e} {g} r p x y z w v k = same_makes r (record {
-  met = λ h.
-      let w' = w.met (sym v.3 ∙ h) in let z' = z.met w'.0 in let y' = y z'.0 in let x' = x.met y'.0 in let r' = r.met x'.0 in
-      let n : length a.lines ≡ length d0.lines = ap length r'.1.0 in (
-        x'.0,
-        limit_adds way turns end a b c d e g x'.1 (y'.1, y'.2, y'.3) z'.1 w'.1 (v.0, v.1, v.2 ∙ sym r'.1.2) k
-            (p x'.0 ∙ ap (λ m. m + (turns.size + 1)) (sym n)),
-      );
 })
 
 pub arm_makes : (arm : Labelled Stretch) {end past : ℕ} {ks : List OperandKind} {d0 a b c d e g h : Draft} → ComesBack d0.pending d0 a

@@ -43,8 +43,12 @@ fst x = x.0
 takes_is : (f : Formal) (a : Taken) → takes f a ≡ true → (g : Formal) × (a ≡ Some g) × (parameter_kind g ≡ parameter_kind f)
 takes_is f None e = let h : ⊥ = cc in absurd h
 takes_is f (Some g) e =
-    let h = both _ _ e in
-    (g, refl, ap (λ a. taken_as a (kind_in g.of)) (sym (access_is f.access g.access h.1)) ∙ ap (λ u. taken_as f.access (kind_in u)) (sym (same_is f.of g.of h.0)))
+    let h = both _ _ e in (
+      g,
+      refl,
+      ap (λ a. taken_as a (kind_in g.of)) (sym (access_is f.access g.access h.1))
+          ∙ ap (λ u. taken_as f.access (kind_in u)) (sym (same_is f.of g.of h.0)),
+    )
 
 module _ (p : Program) (variables : List ElanType) (bodies : List Body) (agrees : Agrees p variables bodies) (home : Home) (is_home : IsHome bodies home) where
   abbrev T : (List OperandKind → List OperandKind) → (List OperandKind → List OperandKind) → Stretch → Type 0
@@ -63,13 +67,19 @@ module _ (p : Program) (variables : List ElanType) (bodies : List Body) (agrees 
   typ = type_of variables bodies home
 
   abbrev given : Actual → Taken
-  given = fold-Actual Bool Taken Typed Bool Typed (action_typed_step variables bodies home) (actual_type_step variables bodies home) (value_type_step variables bodies home) (arm_typed_step variables bodies home) (value_arm_type_step variables bodies home)
+  given =
+      fold-Actual Bool Taken Typed Bool Typed (action_typed_step variables bodies home) (actual_type_step variables bodies home)
+      (value_type_step variables bodies home) (arm_typed_step variables bodies home) (value_arm_type_step variables bodies home)
 
   abbrev arm_typed : Arm → Bool
-  arm_typed = fold-Arm Bool Taken Typed Bool Typed (action_typed_step variables bodies home) (actual_type_step variables bodies home) (value_type_step variables bodies home) (arm_typed_step variables bodies home) (value_arm_type_step variables bodies home)
+  arm_typed =
+      fold-Arm Bool Taken Typed Bool Typed (action_typed_step variables bodies home) (actual_type_step variables bodies home)
+      (value_type_step variables bodies home) (arm_typed_step variables bodies home) (value_arm_type_step variables bodies home)
 
   abbrev arm_type : ValueArm → Typed
-  arm_type = fold-ValueArm Bool Taken Typed Bool Typed (action_typed_step variables bodies home) (actual_type_step variables bodies home) (value_type_step variables bodies home) (arm_typed_step variables bodies home) (value_arm_type_step variables bodies home)
+  arm_type =
+      fold-ValueArm Bool Taken Typed Bool Typed (action_typed_step variables bodies home) (actual_type_step variables bodies home)
+      (value_type_step variables bodies home) (arm_typed_step variables bodies home) (value_arm_type_step variables bodies home)
 
   abbrev Q : Action → Type 0
   Q a = typed a ≡ true → AT (action_code a)
@@ -97,7 +107,8 @@ module _ (p : Program) (variables : List ElanType) (bodies : List Body) (agrees 
   actions_are [] e = none_table p home keeps
   actions_are (x ∷ xs) e = let f = both _ _ e in join_table p home (x.1 f.0) (actions_are xs f.1)
 
-  values_are : (ks : List Kind) (xs : List ((e : ValuePhrase) × P e)) → have (map type_in ks) (map typ (map fst xs)) ≡ true → T keeps (pushed_kinds ks) (all_code (map value_code (map fst xs)))
+  values_are : (ks : List Kind) (xs : List ((e : ValuePhrase) × P e)) → have (map type_in ks) (map typ (map fst xs)) ≡ true
+      → T keeps (pushed_kinds ks) (all_code (map value_code (map fst xs)))
   values_are [] [] e = none_table p home keeps
   values_are [] (x ∷ xs) e = let f : ⊥ = cc in absurd f
   values_are (k ∷ ks) [] e = let f : ⊥ = cc in absurd f
@@ -110,7 +121,8 @@ module _ (p : Program) (variables : List ElanType) (bodies : List Body) (agrees 
     pub as_many : length fs ≡ length taken
     pub table : T keeps (pushed_operands taken) (all_code fs)
 
-  actuals_are : (fs : List Formal) (xs : List ((a : Actual) × N a)) → take_all fs (map given (map fst xs)) ≡ true → Actuals (map parameter_kind fs) (map actual_code (map fst xs))
+  actuals_are : (fs : List Formal) (xs : List ((a : Actual) × N a)) → take_all fs (map given (map fst xs)) ≡ true
+      → Actuals (map parameter_kind fs) (map actual_code (map fst xs))
   actuals_are [] [] e = record { as_many = refl; table = none_table p home keeps }
   actuals_are [] (x ∷ xs) e = let f : ⊥ = cc in absurd f
   actuals_are (k ∷ ks) [] e = let f : ⊥ = cc in absurd f
@@ -121,11 +133,13 @@ module _ (p : Program) (variables : List ElanType) (bodies : List Body) (agrees 
       let j = actuals_are ks xs f.1 in
       record { as_many = omega (arith, j.as_many); table = join_table p home i (above p home (pushes (parameter_kind k)) j.table) }
 
-  arms_are : (xs : List ((a : Arm) × R a)) (g : Stretch) → all_true (map arm_typed (map fst xs)) ≡ true → AT g → T (pushes (OfKind kinds.Int)) keeps (select_code (map arm_code_of (map fst xs)) g)
+  arms_are : (xs : List ((a : Arm) × R a)) (g : Stretch) → all_true (map arm_typed (map fst xs)) ≡ true → AT g
+      → T (pushes (OfKind kinds.Int)) keeps (select_code (map arm_code_of (map fst xs)) g)
   arms_are [] g e i = otherwise_table p home i
   arms_are (x ∷ xs) g e i = let f = both _ _ e in arm_table p home (arm_code_of x.0).labels (x.1 f.0) (arms_are xs g f.1 i)
 
-  value_arms_are : (u : ElanType) (xs : List ((a : ValueArm) × S a)) (g : Stretch) (a : Typed) → a ≡ Some u → all_agree a (map arm_type (map fst xs)) ≡ true → VT (kind_in u) g → T (pushes (OfKind kinds.Int)) (pushes (OfKind (kind_in u))) (select_code (map value_arm_code (map fst xs)) g)
+  value_arms_are : (u : ElanType) (xs : List ((a : ValueArm) × S a)) (g : Stretch) (a : Typed) → a ≡ Some u → all_agree a (map arm_type (map fst xs)) ≡ true
+      → VT (kind_in u) g → T (pushes (OfKind kinds.Int)) (pushes (OfKind (kind_in u))) (select_code (map value_arm_code (map fst xs)) g)
   value_arms_are u [] g a h e i = otherwise_table p home i
   value_arms_are u (x ∷ xs) g a h e i =
       let f = both _ _ e in
@@ -157,26 +171,32 @@ module _ (p : Program) (variables : List ElanType) (bodies : List Body) (agrees 
   until_is M None e = stays_table p home M (none_table p home keeps)
   until_is M (Some x) e = until_table p home M (x.1 types.Bool (has_is types.Bool _ e))
 
-  turn_is' : (M : _) (w : MaybeValue) (us : Actions) (u : MaybeValue) (s : Exit) → typed_if types.Bool w ≡ true → all_typed us ≡ true → typed_if types.Bool u ≡ true → ExitTable p home M s → ExitTable p home M (turn_code (code_if w) (codes us) (code_if u) s)
+  turn_is' : (M : _) (w : MaybeValue) (us : Actions) (u : MaybeValue) (s : Exit) → typed_if types.Bool w ≡ true → all_typed us ≡ true
+      → typed_if types.Bool u ≡ true → ExitTable p home M s → ExitTable p home M (turn_code (code_if w) (codes us) (code_if u) s)
   turn_is' M w us u s ew eus eu step = turn_table p home (code_if w) (code_if u) (while_is M w ew) (actions_are us eus) (until_is M u eu) step
 
-  looped_is : (w : MaybeValue) (us : Actions) (u : MaybeValue) → (typed_if types.Bool w && (all_typed us && typed_if types.Bool u)) ≡ true → AT (turns_code (turn_code (code_if w) (codes us) (code_if u) (stays none)))
+  looped_is : (w : MaybeValue) (us : Actions) (u : MaybeValue) → (typed_if types.Bool w && (all_typed us && typed_if types.Bool u)) ≡ true
+      → AT (turns_code (turn_code (code_if w) (codes us) (code_if u) (stays none)))
   looped_is w us u e =
       let f = both _ _ e in
       let g = both _ _ f.1 in
       loop_table p home (turn_is' (λ _. Unit {0}) w us u (stays none) f.0 g.0 g.1 (stays_table p home (λ _. Unit {0}) (none_table p home keeps)))
 
-  counted_is : (q : PlacePhrase) (way : Way) (limit w : MaybeValue) (us : Actions) (u : MaybeValue) → has types.Int (place_type variables bodies home q) ≡ true → typed_if types.Int limit ≡ true → typed_if types.Bool w ≡ true → all_typed us ≡ true → typed_if types.Bool u ≡ true
+  counted_is : (q : PlacePhrase) (way : Way) (limit w : MaybeValue) (us : Actions) (u : MaybeValue) → has types.Int (place_type variables bodies home q) ≡ true
+      → typed_if types.Int limit ≡ true → typed_if types.Bool w ≡ true → all_typed us ≡ true → typed_if types.Bool u ≡ true
       → AT (counted_code q way (code_if limit) (turn_code (code_if w) (codes us) (code_if u)))
   counted_is q way None w us u is e ew eus eu =
       let place = place_is p variables bodies agrees home is_home q types.Int (has_is types.Int _ is) in
-      counted_none_table p home (turn_code (code_if w) (codes us) (code_if u)) q way (turn_is' (λ _. Unit {0}) w us u _ ew eus eu (step_table p home (λ _. Unit {0}) q place))
+      counted_none_table p home (turn_code (code_if w) (codes us) (code_if u)) q way
+      (turn_is' (λ _. Unit {0}) w us u _ ew eus eu (step_table p home (λ _. Unit {0}) q place))
   counted_is q way (Some a) w us u is e ew eus eu =
       let place = place_is p variables bodies agrees home is_home q types.Int (has_is types.Int _ is) in
-      counted_some_table p home (turn_code (code_if w) (codes us) (code_if u)) q way place (a.1 types.Int (has_is types.Int _ e)) (turn_is' (AtLeastOne p home) w us u _ ew eus eu (step_to_table p home q way place))
+      counted_some_table p home (turn_code (code_if w) (codes us) (code_if u)) q way place (a.1 types.Int (has_is types.Int _ e))
+      (turn_is' (AtLeastOne p home) w us u _ ew eus eu (step_to_table p home q way place))
 
   counts_is : (q : PlacePhrase) (from : (e : ValuePhrase) × P e) (way : Way) (limit w : MaybeValue) (us : Actions) (u : MaybeValue)
-      → (has types.Int (place_type variables bodies home q) && (has types.Int (typ from.0) && (typed_if types.Int limit && (typed_if types.Bool w && (all_typed us && typed_if types.Bool u))))) ≡ true
+      → (has types.Int (place_type variables bodies home q)
+      && (has types.Int (typ from.0) && (typed_if types.Int limit && (typed_if types.Bool w && (all_typed us && typed_if types.Bool u))))) ≡ true
       → AT (join (store_code q kinds.Int (value_code from.0)) (counted_code q way (code_if limit) (turn_code (code_if w) (codes us) (code_if u))))
   counts_is q from way limit w us u e =
       let f0 = both _ _ e in
@@ -185,14 +205,18 @@ module _ (p : Program) (variables : List ElanType) (bodies : List Body) (agrees 
       let f3 = both _ _ f2.1 in
       let f4 = both _ _ f3.1 in
       let place = place_is p variables bodies agrees home is_home q types.Int (has_is types.Int _ f0.0) in
-      join_table p home (store_table p home q kinds.Int place (from.1 types.Int (has_is types.Int _ f1.0))) (counted_is q way limit w us u f0.0 f2.0 f3.0 f4.0 f4.1)
+      join_table p home (store_table p home q kinds.Int place (from.1 types.Int (has_is types.Int _ f1.0)))
+      (counted_is q way limit w us u f0.0 f2.0 f3.0 f4.0 f4.1)
 
   abbrev VLayer : Type 0
   VLayer = ValuePhrase-F ((a : Action) × Q a) ((a : Actual) × N a) ((e : ValuePhrase) × P e) ((a : Arm) × R a) ((a : ValueArm) × S a)
 
   value_parts : (y : VLayer) (u : ElanType)
-      → value_type_step variables bodies home (map-ValuePhrase _ _ _ _ _ _ _ _ _ _ typed given typ arm_typed arm_type (map-ValuePhrase _ _ _ _ _ _ _ _ _ _ fst fst fst fst fst y)) ≡ Some u
-      → VT (kind_in u) (value_code_step (map-ValuePhrase _ _ _ _ _ _ _ _ _ _ action_code actual_code value_code arm_code_of value_arm_code (map-ValuePhrase _ _ _ _ _ _ _ _ _ _ fst fst fst fst fst y)))
+      → value_type_step variables bodies home
+      (map-ValuePhrase _ _ _ _ _ _ _ _ _ _ typed given typ arm_typed arm_type (map-ValuePhrase _ _ _ _ _ _ _ _ _ _ fst fst fst fst fst y)) ≡ Some u
+      → VT (kind_in u) (value_code_step
+      (map-ValuePhrase _ _ _ _ _ _ _ _ _ _ action_code actual_code value_code arm_code_of value_arm_code
+      (map-ValuePhrase _ _ _ _ _ _ _ _ _ _ fst fst fst fst fst y)))
   value_parts (t.Number z) u e = let f = only_if_is _ _ u e in of_type types.Int u f.1 (number_table p home z)
   value_parts (t.Truth b) u e = of_type types.Bool u e (truth_table p home b)
   value_parts (t.Load q v) u e =
@@ -204,7 +228,8 @@ module _ (p : Program) (variables : List ElanType) (bodies : List Body) (agrees 
   value_parts (t.Cand a b) u e =
       let f = only_if_is _ _ u e in
       let g = both _ _ f.0 in
-      of_type types.Bool u f.1 (if_table p home (a.1 types.Bool (has_is types.Bool _ g.0)) (b.1 types.Bool (has_is types.Bool _ g.1)) (truth_table p home false))
+      of_type types.Bool u f.1
+      (if_table p home (a.1 types.Bool (has_is types.Bool _ g.0)) (b.1 types.Bool (has_is types.Bool _ g.1)) (truth_table p home false))
   value_parts (t.Cor a b) u e =
       let f = only_if_is _ _ u e in
       let g = both _ _ f.0 in
@@ -224,7 +249,8 @@ module _ (p : Program) (variables : List ElanType) (bodies : List Body) (agrees 
       let g = both _ _ f.0 in
       let i = proc_is p variables bodies agrees q _ (Some v) g.0 (has_is v _ g.1) in
       let j = actuals_are i.parameters as' i.takes in
-      of_type v u f.1 (call_table p home q i.entry (map parameter_kind i.parameters) i.cells (Some (kind_in v)) (map actual_code (map fst as')) i.has i.own i.delivers j.as_many j.table)
+      of_type v u f.1 (call_table p home q i.entry (map parameter_kind i.parameters) i.cells (Some (kind_in v)) (map actual_code (map fst as')) i.has i.own
+      i.delivers j.as_many j.table)
   value_parts (t.ValuePhrase::Refer q v) u e =
       let f = only_if_is _ _ u e in
       let g = both _ _ f.0 in
@@ -235,34 +261,44 @@ module _ (p : Program) (variables : List ElanType) (bodies : List Body) (agrees 
   NLayer = Actual-F ((a : Action) × Q a) ((a : Actual) × N a) ((e : ValuePhrase) × P e) ((a : Arm) × R a) ((a : ValueArm) × S a)
 
   actual_parts : (y : NLayer) (f : Formal)
-      → actual_type_step variables bodies home (map-Actual _ _ _ _ _ _ _ _ _ _ typed given typ arm_typed arm_type (map-Actual _ _ _ _ _ _ _ _ _ _ fst fst fst fst fst y)) ≡ Some f
-      → T keeps (pushes (parameter_kind f)) (actual_code_step (map-Actual _ _ _ _ _ _ _ _ _ _ action_code actual_code value_code arm_code_of value_arm_code (map-Actual _ _ _ _ _ _ _ _ _ _ fst fst fst fst fst y)))
+      → actual_type_step variables bodies home
+      (map-Actual _ _ _ _ _ _ _ _ _ _ typed given typ arm_typed arm_type (map-Actual _ _ _ _ _ _ _ _ _ _ fst fst fst fst fst y)) ≡ Some f
+      → T keeps (pushes (parameter_kind f))
+      (actual_code_step (map-Actual _ _ _ _ _ _ _ _ _ _ action_code actual_code value_code arm_code_of value_arm_code
+      (map-Actual _ _ _ _ _ _ _ _ _ _ fst fst fst fst fst y)))
   actual_parts (t.Value a) f e = value_given a (typ a.0) refl f e
     where
-      value_given : (a : (e : ValuePhrase) × P e) (o : Typed) → typ a.0 ≡ o → (f : Formal) → given_as Const o ≡ Some f → T keeps (pushes (parameter_kind f)) (value_code a.0)
+      value_given : (a : (e : ValuePhrase) × P e) (o : Typed) → typ a.0 ≡ o → (f : Formal) → given_as Const o ≡ Some f
+          → T keeps (pushes (parameter_kind f)) (value_code a.0)
       value_given a None is f e = let g : ⊥ = cc in absurd g
-      value_given a (Some u) is f e = let g : record { of = u; access = Const } ≡ f = cc in subst (λ f. T keeps (pushes (parameter_kind f)) (value_code a.0)) g (a.1 u is)
+      value_given a (Some u) is f e =
+          let g : record { of = u; access = Const } ≡ f = cc in subst (λ f. T keeps (pushes (parameter_kind f)) (value_code a.0)) g (a.1 u is)
   actual_parts (t.Place q u) f e = place_given (has u (place_type variables bodies home q)) refl f e
     where
-      place_given : (b : Bool) → has u (place_type variables bodies home q) ≡ b → (f : Formal) → given_as Var (only_if b (Some u)) ≡ Some f → T keeps (pushes (parameter_kind f)) (place_code q (kind_in u))
+      place_given : (b : Bool) → has u (place_type variables bodies home q) ≡ b → (f : Formal) → given_as Var (only_if b (Some u)) ≡ Some f
+          → T keeps (pushes (parameter_kind f)) (place_code q (kind_in u))
       place_given false is f e = let g : ⊥ = cc in absurd g
       place_given true is f e =
           let g : record { of = u; access = Var } ≡ f = cc in
-          subst (λ f. T keeps (pushes (parameter_kind f)) (place_code q (kind_in u))) g (place_table p home q (kind_in u) (place_is p variables bodies agrees home is_home q u (has_is u _ is)))
+          subst (λ f. T keeps (pushes (parameter_kind f)) (place_code q (kind_in u))) g
+          (place_table p home q (kind_in u) (place_is p variables bodies agrees home is_home q u (has_is u _ is)))
 
   abbrev ALayer : Type 0
   ALayer = Action-F ((a : Action) × Q a) ((a : Actual) × N a) ((e : ValuePhrase) × P e) ((a : Arm) × R a) ((a : ValueArm) × S a)
 
   action_parts : (y : ALayer)
-      → action_typed_step variables bodies home (map-Action _ _ _ _ _ _ _ _ _ _ typed given typ arm_typed arm_type (map-Action _ _ _ _ _ _ _ _ _ _ fst fst fst fst fst y)) ≡ true
-      → AT (action_code_step (map-Action _ _ _ _ _ _ _ _ _ _ action_code actual_code value_code arm_code_of value_arm_code (map-Action _ _ _ _ _ _ _ _ _ _ fst fst fst fst fst y)))
+      → action_typed_step variables bodies home
+      (map-Action _ _ _ _ _ _ _ _ _ _ typed given typ arm_typed arm_type (map-Action _ _ _ _ _ _ _ _ _ _ fst fst fst fst fst y)) ≡ true
+      → AT (action_code_step (map-Action _ _ _ _ _ _ _ _ _ _ action_code actual_code value_code arm_code_of value_arm_code
+      (map-Action _ _ _ _ _ _ _ _ _ _ fst fst fst fst fst y)))
   action_parts (t.Action::Unit us) e = join_table p home (mark_table p home) (actions_are us e)
   action_parts (t.Store q u a) e =
       let f = both _ _ e in
       store_table p home q (kind_in u) (place_is p variables bodies agrees home is_home q u (has_is u _ f.0)) (a.1 u (has_is u _ f.1))
   action_parts (t.Modify change q a) e =
       let f = both _ _ e in
-      modify_table p home change q (place_is p variables bodies agrees home is_home q types.Int (has_is types.Int _ f.0)) (a.1 types.Int (has_is types.Int _ f.1))
+      modify_table p home change q (place_is p variables bodies agrees home is_home q types.Int (has_is types.Int _ f.0))
+      (a.1 types.Int (has_is types.Int _ f.1))
   action_parts (t.Action::If c us vs) e =
       let f = both _ _ e in
       let g = both _ _ f.1 in
@@ -300,13 +336,18 @@ module _ (p : Program) (variables : List ElanType) (bodies : List Body) (agrees 
       leave_with_table p home x (kind_in u) (left_is p variables bodies agrees x home (Some u) is_home (with_is u _ f.1)) (a.1 u (has_is u _ f.0))
 
   arm_parts : (y : Arm-F ((a : Action) × Q a) ((a : Actual) × N a) ((e : ValuePhrase) × P e) ((a : Arm) × R a) ((a : ValueArm) × S a))
-      → arm_typed_step variables bodies home (map-Arm _ _ _ _ _ _ _ _ _ _ typed given typ arm_typed arm_type (map-Arm _ _ _ _ _ _ _ _ _ _ fst fst fst fst fst y)) ≡ true
-      → AT (arm_code_step (map-Arm _ _ _ _ _ _ _ _ _ _ action_code actual_code value_code arm_code_of value_arm_code (map-Arm _ _ _ _ _ _ _ _ _ _ fst fst fst fst fst y))).part
+      → arm_typed_step variables bodies home
+      (map-Arm _ _ _ _ _ _ _ _ _ _ typed given typ arm_typed arm_type (map-Arm _ _ _ _ _ _ _ _ _ _ fst fst fst fst fst y)) ≡ true
+      → AT (arm_code_step (map-Arm _ _ _ _ _ _ _ _ _ _ action_code actual_code value_code arm_code_of value_arm_code
+      (map-Arm _ _ _ _ _ _ _ _ _ _ fst fst fst fst fst y))).part
   arm_parts y e = actions_are y.units e
 
   value_arm_parts : (y : ValueArm-F ((a : Action) × Q a) ((a : Actual) × N a) ((e : ValuePhrase) × P e) ((a : Arm) × R a) ((a : ValueArm) × S a)) (u : ElanType)
-      → value_arm_type_step variables bodies home (map-ValueArm _ _ _ _ _ _ _ _ _ _ typed given typ arm_typed arm_type (map-ValueArm _ _ _ _ _ _ _ _ _ _ fst fst fst fst fst y)) ≡ Some u
-      → VT (kind_in u) (value_arm_code_step (map-ValueArm _ _ _ _ _ _ _ _ _ _ action_code actual_code value_code arm_code_of value_arm_code (map-ValueArm _ _ _ _ _ _ _ _ _ _ fst fst fst fst fst y))).part
+      → value_arm_type_step variables bodies home
+      (map-ValueArm _ _ _ _ _ _ _ _ _ _ typed given typ arm_typed arm_type (map-ValueArm _ _ _ _ _ _ _ _ _ _ fst fst fst fst fst y)) ≡ Some u
+      → VT (kind_in u) (value_arm_code_step
+      (map-ValueArm _ _ _ _ _ _ _ _ _ _ action_code actual_code value_code arm_code_of value_arm_code
+      (map-ValueArm _ _ _ _ _ _ _ _ _ _ fst fst fst fst fst y))).part
   value_arm_parts y u e = y.value.1 u e
 
   -- each action and each value, by induction
@@ -344,7 +385,8 @@ module _ (p : Program) (variables : List ElanType) (bodies : List Body) (agrees 
     pub sized : IsSized f
     pub good : (pc : ℕ) (m : Spot) → m.body ≡ home → HasAt p.lines pc (f.lines [] m pc) → Next p.lines pc [] m × Each p pc (f.lines [] m pc)
 
-  pub content_is : (c : Content) → is_content_typed variables bodies home c ≡ true → Delivers p home (option_map kind_in (result_of_content c)) → IsGood (content_code c)
+  pub content_is : (c : Content) → is_content_typed variables bodies home c ≡ true → Delivers p home (option_map kind_in (result_of_content c))
+      → IsGood (content_code c)
   content_is (contents.Units us) e left =
       let i = all_are us e in
       record {
@@ -356,5 +398,7 @@ module _ (p : Program) (variables : List ElanType) (bodies : List Body) (agrees 
       let k = kind_in u in
       record {
         sized = join_sized (value_code a) (one (Back (Some k)) (drop 1)) i.sized (λ ks m pc. refl);
-        good = λ pc m is has. ends_good p home (Back (Some k)) (drop 1) i pc [] m is (λ q. leave_fine p home exits.Body (Some k) left q (OfKind k ∷ []) m is ([], refl)) has;
+        good =
+            λ pc m is has. ends_good p home (Back (Some k)) (drop 1) i pc [] m is
+            (λ q. leave_fine p home exits.Body (Some k) left q (OfKind k ∷ []) m is ([], refl)) has;
       }

@@ -51,7 +51,8 @@ module _ (p : Program) where
 
   each_append : (pc : ℕ) (a b : List Line) → Each pc a → Each (pc + length a) b → Each pc (a ++ b)
   each_append pc [] b x y = let e : pc + 0 ≡ pc = omega arith in subst (λ n. Each n b) e y
-  each_append pc (l ∷ a) b x y = let e : pc + length (l ∷ a) ≡ pc + 1 + length a = omega arith in (x.0, each_append (pc + 1) a b x.1 (subst (λ n. Each n b) e y))
+  each_append pc (l ∷ a) b x y =
+      let e : pc + length (l ∷ a) ≡ pc + 1 + length a = omega arith in (x.0, each_append (pc + 1) a b x.1 (subst (λ n. Each n b) e y))
 
   pub each_rest : (pc n : ℕ) (a b : List Line) → length a ≡ n → Each pc a → Each (pc + n) b → Each pc (a ++ b)
   each_rest pc n a b e x y = each_append pc a b x (subst (λ n. Each (pc + n) b) (sym e) y)
@@ -67,7 +68,8 @@ module _ (p : Program) (body : Option ℕ) where
   pub record Table (before after : List OperandKind → List OperandKind) (f : Stretch) : Type 0 where
     pub sized : IsSized f
     pub leaves : (ks : List OperandKind) → f.leaves (before ks) ≡ after ks
-    pub good : (pc : ℕ) (ks : List OperandKind) (m : Spot) → m.body ≡ body → HasAt p.lines pc (f.lines (before ks) m pc) → Next p.lines (pc + f.size) (after ks) m → Next p.lines pc (before ks) m × Each p pc (f.lines (before ks) m pc)
+    pub good : (pc : ℕ) (ks : List OperandKind) (m : Spot) → m.body ≡ body → HasAt p.lines pc (f.lines (before ks) m pc)
+        → Next p.lines (pc + f.size) (after ks) m → Next p.lines pc (before ks) m × Each p pc (f.lines (before ks) m pc)
 
   abbrev pub ValueTable : Kind → Stretch → Type 0
   ValueTable k = Table keeps (pushes (OfKind k))
@@ -76,7 +78,8 @@ module _ (p : Program) (body : Option ℕ) where
   ActionTable = Table keeps keeps
 
   -- with something pending below
-  pub above : {before after : List OperandKind → List OperandKind} {f : Stretch} (h : List OperandKind → List OperandKind) → Table before after f → Table (λ ks. before (h ks)) (λ ks. after (h ks)) f
+  pub above : {before after : List OperandKind → List OperandKind} {f : Stretch} (h : List OperandKind → List OperandKind) → Table before after f
+      → Table (λ ks. before (h ks)) (λ ks. after (h ks)) f
   above h i = record { sized = i.sized; leaves = λ ks. i.leaves (h ks); good = λ pc ks m home. i.good pc (h ks) m home }
 
   pub none_table : (before : List OperandKind → List OperandKind) → Table before before none
@@ -86,14 +89,17 @@ module _ (p : Program) (body : Option ℕ) where
     good = λ pc ks m home has next. (moved p m (pc + 0) pc (before ks) (before ks) (omega arith) refl next, tt);
   }
 
-  pub one_table : (i : Instr) (leaves before after : List OperandKind → List OperandKind) → ((ks : List OperandKind) → leaves (before ks) ≡ after ks) → ((pc : ℕ) (ks : List OperandKind) (m : Spot) → m.body ≡ body → Next p.lines (pc + 1) (after ks) m → IsFine p pc i (before ks) m) → Table before after (one i leaves)
+  pub one_table : (i : Instr) (leaves before after : List OperandKind → List OperandKind) → ((ks : List OperandKind) → leaves (before ks) ≡ after ks)
+      → ((pc : ℕ) (ks : List OperandKind) (m : Spot) → m.body ≡ body → Next p.lines (pc + 1) (after ks) m → IsFine p pc i (before ks) m)
+      → Table before after (one i leaves)
   one_table i leaves before after e fine = record {
     sized = λ ks m pc. refl;
     leaves = e;
     good = λ pc ks m home has next. ((i, has.0), (fine pc ks m home next, tt));
   }
 
-  pub join_table : {before mid after : List OperandKind → List OperandKind} {f g : Stretch} → Table before mid f → Table mid after g → Table before after (join f g)
+  pub join_table : {before mid after : List OperandKind → List OperandKind} {f g : Stretch} → Table before mid f → Table mid after g
+      → Table before after (join f g)
   join_table {before} {mid} {after} {f} {g} i j = record {
     sized = join_sized f g i.sized j.sized;
     leaves = λ ks. ap g.leaves (i.leaves ks) ∙ j.leaves ks;
@@ -102,8 +108,11 @@ module _ (p : Program) (body : Option ℕ) where
         let e = i.leaves ks in
         let has' = subst (λ l. HasAt p.lines q (g.lines l m q)) e (has_rest p.lines pc f.size (f.lines (before ks) m pc) _ (i.sized (before ks) m pc) has) in
         let y = j.good q ks m home has' (moved p m _ _ (after ks) (after ks) (omega arith) refl next) in
-        let x = i.good pc ks m home (has_front p.lines pc (f.lines (before ks) m pc) _ has) y.0 in
-        (x.0, each_rest p pc f.size (f.lines (before ks) m pc) (g.lines (f.leaves (before ks)) m q) (i.sized (before ks) m pc) x.1 (subst (λ l. Each p q (g.lines l m q)) (sym e) y.1));
+        let x = i.good pc ks m home (has_front p.lines pc (f.lines (before ks) m pc) _ has) y.0 in (
+          x.0,
+          each_rest p pc f.size (f.lines (before ks) m pc) (g.lines (f.leaves (before ks)) m q) (i.sized (before ks) m pc) x.1
+              (subst (λ l. Each p q (g.lines l m q)) (sym e) y.1),
+        );
   }
 
   -- single instructions
@@ -116,7 +125,8 @@ module _ (p : Program) (body : Option ℕ) where
   pub truth_table : (b : Bool) → ValueTable kinds.Truth (one (Truth b) (pushes (OfKind kinds.Truth)))
   truth_table b = one_table (Truth b) _ keeps _ (λ ks. refl) (λ pc ks m home n. n)
 
-  pub place_fine : (q : PlacePhrase) (k : Kind) → HasPlace p body q k → (pc : ℕ) (ks : List OperandKind) (m : Spot) → m.body ≡ body → Next p.lines (pc + 1) (AtKind k ∷ ks) m → IsFine p pc (place_instr q) ks m
+  pub place_fine : (q : PlacePhrase) (k : Kind) → HasPlace p body q k → (pc : ℕ) (ks : List OperandKind) (m : Spot) → m.body ≡ body
+      → Next p.lines (pc + 1) (AtKind k ∷ ks) m → IsFine p pc (place_instr q) ks m
   place_fine (places.Variable x) k is pc ks m home n = (k, is, n)
   place_fine (places.Local x) k is pc ks m home n = (k, subst (λ o. HasPlace p o (places.Local x) k) (sym home) is, n)
   place_fine (places.Parameter x) k is pc ks m home n = (k, subst (λ o. HasPlace p o (places.Parameter x) k) (sym home) is, n)
@@ -125,13 +135,22 @@ module _ (p : Program) (body : Option ℕ) where
   place_table q k is = one_table (place_instr q) _ keeps _ (λ ks. refl) (λ pc ks m home n. place_fine q k is pc ks m home n)
 
   pub load_table : (q : PlacePhrase) (k : Kind) → HasPlace p body q k → ValueTable k (join (place_code q k) (one (Load k) (λ ks. OfKind k ∷ drop 1 ks)))
-  load_table q k is = join_table (place_table q k is) (one_table (Load k) (λ ks. OfKind k ∷ drop 1 ks) (pushes (AtKind k)) (pushes (OfKind k)) (λ ks. refl) (λ pc ks m home n. (ks, refl, n)))
+  load_table q k is =
+      join_table (place_table q k is)
+      (one_table (Load k) (λ ks. OfKind k ∷ drop 1 ks) (pushes (AtKind k)) (pushes (OfKind k)) (λ ks. refl) (λ pc ks m home n. (ks, refl, n)))
 
   pub store_table : {f : Stretch} (q : PlacePhrase) (k : Kind) → HasPlace p body q k → ValueTable k f → ActionTable (store_code q k f)
-  store_table q k is i = join_table (place_table q k is) (join_table (above (pushes (AtKind k)) i) (one_table (Store k) (drop 2) (λ ks. OfKind k ∷ AtKind k ∷ ks) keeps (λ ks. refl) (λ pc ks m home n. (ks, refl, n))))
+  store_table q k is i =
+      join_table (place_table q k is)
+      (join_table (above (pushes (AtKind k)) i)
+      (one_table (Store k) (drop 2) (λ ks. OfKind k ∷ AtKind k ∷ ks) keeps (λ ks. refl) (λ pc ks m home n. (ks, refl, n))))
 
-  pub modify_table : {f : Stretch} (change : Change) (q : PlacePhrase) → HasPlace p body q kinds.Int → ValueTable kinds.Int f → ActionTable (modify_code q change f)
-  modify_table change q is i = join_table (place_table q kinds.Int is) (join_table (above (pushes (AtKind kinds.Int)) i) (one_table (Modify change) (drop 2) (λ ks. OfKind kinds.Int ∷ AtKind kinds.Int ∷ ks) keeps (λ ks. refl) (λ pc ks m home n. (ks, refl, n))))
+  pub modify_table : {f : Stretch} (change : Change) (q : PlacePhrase) → HasPlace p body q kinds.Int → ValueTable kinds.Int f
+      → ActionTable (modify_code q change f)
+  modify_table change q is i =
+      join_table (place_table q kinds.Int is)
+      (join_table (above (pushes (AtKind kinds.Int)) i)
+      (one_table (Modify change) (drop 2) (λ ks. OfKind kinds.Int ∷ AtKind kinds.Int ∷ ks) keeps (λ ks. refl) (λ pc ks m home n. (ks, refl, n))))
 
   pub put_table : {f : Stretch} → ValueTable kinds.Int f → ActionTable (join f (one (Ask calls.PutNumber) (drop 1)))
   put_table i = join_table i (one_table (Ask calls.PutNumber) (drop 1) (pushes (OfKind kinds.Int)) keeps (λ ks. refl) (λ pc ks m home n. (ks, refl, n)))
@@ -139,18 +158,37 @@ module _ (p : Program) (body : Option ℕ) where
   pub line_table : ActionTable (one (Ask calls.Line) keeps)
   line_table = one_table (Ask calls.Line) keeps keeps keeps (λ ks. refl) (λ pc ks m home n. (ks, refl, n))
 
-  pub apply_table : {f : Stretch} (op : Operation) → Table keeps (pushed_kinds (operand_kinds op)) f → ValueTable (result_kind op) (join f (one (Do op) (λ ks. OfKind (result_kind op) ∷ drop (length (operand_kinds op)) ks)))
-  apply_table op i = join_table i (one_table (Do op) (λ ks. OfKind (result_kind op) ∷ drop (length (operand_kinds op)) ks) (pushed_kinds (operand_kinds op)) (pushes (OfKind (result_kind op)))
-      (λ ks. let e : length (operand_kinds op) ≡ length (operand_kinds op) + 0 = omega arith in ap (λ n. OfKind (result_kind op) ∷ drop n (pushed_kinds (operand_kinds op) ks)) e ∙ ap (λ l. OfKind (result_kind op) ∷ l) (drop_kinds (operand_kinds op) ks 0))
+  pub apply_table : {f : Stretch} (op : Operation) → Table keeps (pushed_kinds (operand_kinds op)) f
+      → ValueTable (result_kind op) (join f (one (Do op) (λ ks. OfKind (result_kind op) ∷ drop (length (operand_kinds op)) ks)))
+  apply_table op i =
+      join_table i (one_table (Do op) (λ ks. OfKind (result_kind op) ∷ drop (length (operand_kinds op)) ks) (pushed_kinds (operand_kinds op))
+      (pushes (OfKind (result_kind op)))
+      (λ ks. let e : length (operand_kinds op) ≡ length (operand_kinds op) + 0 = omega arith in
+      ap (λ n. OfKind (result_kind op) ∷ drop n (pushed_kinds (operand_kinds op) ks)) e
+      ∙ ap (λ l. OfKind (result_kind op) ∷ l) (drop_kinds (operand_kinds op) ks 0))
       (λ pc ks m home n. (ks, refl, n)))
 
   -- a call finds what its parameters take, and leaves what the PROC delivers
-  pub call_table : (q : ℕ) (e : Entry) (taken : List OperandKind) (vs : List Kind) (d : Option Kind) (fs : List Stretch) → slice_get p.bodies q ≡ Some e → e.layout ≡ layouts.Own taken vs → e.delivers ≡ d → length fs ≡ length taken → Table keeps (pushed_operands taken) (all_code fs) → Table keeps (with_result d) (call_code q d fs)
-  call_table q e taken vs d fs has own gives as_many i = join_table i (one_table (Call q) (λ ks. with_result d (drop (length fs) ks)) (pushed_operands taken) (with_result d)
+  pub call_table : (q : ℕ) (e : Entry) (taken : List OperandKind) (vs : List Kind) (d : Option Kind) (fs : List Stretch) → slice_get p.bodies q ≡ Some e
+      → e.layout ≡ layouts.Own taken vs → e.delivers ≡ d → length fs ≡ length taken → Table keeps (pushed_operands taken) (all_code fs)
+      → Table keeps (with_result d) (call_code q d fs)
+  call_table q e taken vs d fs has own gives as_many i =
+      join_table i (one_table (Call q) (λ ks. with_result d (drop (length fs) ks)) (pushed_operands taken) (with_result d)
       (λ ks. ap (with_result d) (all_dropped taken ks (length fs) as_many))
-      (λ pc ks m home n. record { entry = e; has = has; parameters = taken; variables = vs; own = own; rest = ks; taken = refl; next = subst (λ d. Next p.lines (pc + 1) (with_result d ks) m) (sym gives) n }))
+      (λ pc ks m home n. record {
+        entry = e;
+        has = has;
+        parameters = taken;
+        variables = vs;
+        own = own;
+        rest = ks;
+        taken = refl;
+        next =
+            subst (λ d. Next p.lines (pc + 1) (with_result d ks) m) (sym gives) n;
+      }))
 
-  pub refer_table : (q : ℕ) (e : Entry) (d : Option Kind) → slice_get p.bodies q ≡ Some e → IsRefinement e.layout → owner p (Some q) ≡ owner p body → e.delivers ≡ d → Table keeps (with_result d) (refer_code q d)
+  pub refer_table : (q : ℕ) (e : Entry) (d : Option Kind) → slice_get p.bodies q ≡ Some e → IsRefinement e.layout → owner p (Some q) ≡ owner p body
+      → e.delivers ≡ d → Table keeps (with_result d) (refer_code q d)
   refer_table q e d has refinement owned gives = one_table (Refer q) (with_result d) keeps (with_result d) (λ ks. refl) (λ pc ks m home n. record {
     entry = e;
     has = has;
@@ -160,7 +198,8 @@ module _ (p : Program) (body : Option ℕ) where
   })
 
   -- LEAVE finds what it delivers
-  pub leave_fine : (e : Exit) (d : Option Kind) → LeftBy p body e d → (pc : ℕ) (ks : List OperandKind) (m : Spot) → m.body ≡ body → HasResult d ks → IsFine p pc (leave_instr e d) ks m
+  pub leave_fine : (e : Exit) (d : Option Kind) → LeftBy p body e d → (pc : ℕ) (ks : List OperandKind) (m : Spot) → m.body ≡ body → HasResult d ks
+      → IsFine p pc (leave_instr e d) ks m
   leave_fine exits.Body d left pc ks m home top = back body left home
     where
       back : (o : Option ℕ) → Delivers p o d → m.body ≡ o → IsFine p pc (Back d) ks m
@@ -175,11 +214,16 @@ module _ (p : Program) (body : Option ℕ) where
   pub leave_table : (e : Exit) → LeftBy p body e None → ActionTable (one (leave_instr e None) keeps)
   leave_table e left = one_table (leave_instr e None) keeps keeps keeps (λ ks. refl) (λ pc ks m home n. leave_fine e None left pc ks m home tt)
 
-  pub leave_with_table : {f : Stretch} (e : Exit) (k : Kind) → LeftBy p body e (Some k) → ValueTable k f → ActionTable (join f (one (leave_instr e (Some k)) (drop 1)))
-  leave_with_table e k left i = join_table i (one_table (leave_instr e (Some k)) (drop 1) (pushes (OfKind k)) keeps (λ ks. refl) (λ pc ks m home n. leave_fine e (Some k) left pc (OfKind k ∷ ks) m home (ks, refl)))
+  pub leave_with_table : {f : Stretch} (e : Exit) (k : Kind) → LeftBy p body e (Some k) → ValueTable k f
+      → ActionTable (join f (one (leave_instr e (Some k)) (drop 1)))
+  leave_with_table e k left i =
+      join_table i (one_table (leave_instr e (Some k)) (drop 1) (pushes (OfKind k)) keeps (λ ks. refl)
+      (λ pc ks m home n. leave_fine e (Some k) left pc (OfKind k ∷ ks) m home (ks, refl)))
 
   -- a stretch, and behind it an instruction from which nothing goes on to the next
-  pub ends_good : {mid : List OperandKind → List OperandKind} {f : Stretch} (i : Instr) (leaves : List OperandKind → List OperandKind) → Table keeps mid f → (pc : ℕ) (ks : List OperandKind) (m : Spot) → m.body ≡ body → ((pc : ℕ) → IsFine p pc i (mid ks) m) → HasAt p.lines pc ((join f (one i leaves)).lines ks m pc) → Next p.lines pc ks m × Each p pc ((join f (one i leaves)).lines ks m pc)
+  pub ends_good : {mid : List OperandKind → List OperandKind} {f : Stretch} (i : Instr) (leaves : List OperandKind → List OperandKind) → Table keeps mid f
+      → (pc : ℕ) (ks : List OperandKind) (m : Spot) → m.body ≡ body → ((pc : ℕ) → IsFine p pc i (mid ks) m)
+      → HasAt p.lines pc ((join f (one i leaves)).lines ks m pc) → Next p.lines pc ks m × Each p pc ((join f (one i leaves)).lines ks m pc)
   ends_good {mid} {f} i leaves t pc ks m home fine has =
       let q = pc + f.size in
       let e = t.leaves ks in

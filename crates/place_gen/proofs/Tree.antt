@@ -53,22 +53,34 @@ module _ (p : Program) (variables : List ElanType) (bodies : List Body) (agrees 
   Layer F = F Bool Taken Typed Bool Typed
 
   abbrev actual_type : Actual → Taken
-  actual_type = fold-Actual Bool Taken Typed Bool Typed (action_typed_step variables bodies home) (actual_type_step variables bodies home) (value_type_step variables bodies home) (arm_typed_step variables bodies home) (value_arm_type_step variables bodies home)
+  actual_type =
+      fold-Actual Bool Taken Typed Bool Typed (action_typed_step variables bodies home) (actual_type_step variables bodies home)
+      (value_type_step variables bodies home) (arm_typed_step variables bodies home) (value_arm_type_step variables bodies home)
 
   abbrev arm_typed : Arm → Bool
-  arm_typed = fold-Arm Bool Taken Typed Bool Typed (action_typed_step variables bodies home) (actual_type_step variables bodies home) (value_type_step variables bodies home) (arm_typed_step variables bodies home) (value_arm_type_step variables bodies home)
+  arm_typed =
+      fold-Arm Bool Taken Typed Bool Typed (action_typed_step variables bodies home) (actual_type_step variables bodies home)
+      (value_type_step variables bodies home) (arm_typed_step variables bodies home) (value_arm_type_step variables bodies home)
 
   abbrev arm_type : ValueArm → Typed
-  arm_type = fold-ValueArm Bool Taken Typed Bool Typed (action_typed_step variables bodies home) (actual_type_step variables bodies home) (value_type_step variables bodies home) (arm_typed_step variables bodies home) (value_arm_type_step variables bodies home)
+  arm_type =
+      fold-ValueArm Bool Taken Typed Bool Typed (action_typed_step variables bodies home) (actual_type_step variables bodies home)
+      (value_type_step variables bodies home) (arm_typed_step variables bodies home) (value_arm_type_step variables bodies home)
 
   abbrev actual_run : Actual → Run Slot
-  actual_run = fold-Actual (Run (Unit {0})) (Run Slot) (Run Value) (Labelled (Run (Unit {0}))) (Labelled (Run Value)) action_step actual_step value_step arm_step value_arm_step
+  actual_run =
+      fold-Actual (Run (Unit {0})) (Run Slot) (Run Value) (Labelled (Run (Unit {0}))) (Labelled (Run Value)) action_step actual_step value_step arm_step
+      value_arm_step
 
   abbrev arm_run : Arm → Labelled (Run (Unit {0}))
-  arm_run = fold-Arm (Run (Unit {0})) (Run Slot) (Run Value) (Labelled (Run (Unit {0}))) (Labelled (Run Value)) action_step actual_step value_step arm_step value_arm_step
+  arm_run =
+      fold-Arm (Run (Unit {0})) (Run Slot) (Run Value) (Labelled (Run (Unit {0}))) (Labelled (Run Value)) action_step actual_step value_step arm_step
+      value_arm_step
 
   abbrev value_arm_run : ValueArm → Labelled (Run Value)
-  value_arm_run = fold-ValueArm (Run (Unit {0})) (Run Slot) (Run Value) (Labelled (Run (Unit {0}))) (Labelled (Run Value)) action_step actual_step value_step arm_step value_arm_step
+  value_arm_run =
+      fold-ValueArm (Run (Unit {0})) (Run Slot) (Run Value) (Labelled (Run (Unit {0}))) (Labelled (Run Value)) action_step actual_step value_step arm_step
+      value_arm_step
 
   abbrev ValueOk : Kind → Run Value → Stretch → Type 0
   ValueOk = IsValue p home
@@ -109,30 +121,41 @@ module _ (p : Program) (variables : List ElanType) (bodies : List Body) (agrees 
   actions_are [] e = nothing_is p home
   actions_are (x ∷ xs) e = let f = both _ _ e in then_is p home (x.1 f.0) (actions_are xs f.1)
 
-  values_are : (ks : List Kind) (xs : List ((e : ValuePhrase) × P e)) → have (map type_in ks) (map type (map fst xs)) ≡ true → Is p home (AllOf ks) pushed (values (map value (map fst xs))) (all_code (map value_code (map fst xs)))
+  values_are : (ks : List Kind) (xs : List ((e : ValuePhrase) × P e)) → have (map type_in ks) (map type (map fst xs)) ≡ true
+      → Is p home (AllOf ks) pushed (values (map value (map fst xs))) (all_code (map value_code (map fst xs)))
   values_are [] [] e = no_values_are p home
   values_are [] (x ∷ xs) e = let f : ⊥ = cc in absurd f
   values_are (k ∷ ks) [] e = let f : ⊥ = cc in absurd f
   values_are (k ∷ ks) (x ∷ xs) e =
       let f = both _ _ e in
-      more_values_are p home k ks (value x.0) (map value (map fst xs)) (of_kind (kind_type k) (x.1 (type_in k) (has_is (type_in k) _ f.0))) (values_are ks xs f.1)
+      more_values_are p home k ks (value x.0) (map value (map fst xs)) (of_kind (kind_type k) (x.1 (type_in k) (has_is (type_in k) _ f.0)))
+      (values_are ks xs f.1)
 
-  actuals_are : (fs : List Formal) (xs : List ((a : Actual) × O a)) → take_all fs (map actual_type (map fst xs)) ≡ true → AreActuals p home (map parameter_kind fs) (map actual_run (map fst xs)) (all_code (map actual_code (map fst xs)))
+  actuals_are : (fs : List Formal) (xs : List ((a : Actual) × O a)) → take_all fs (map actual_type (map fst xs)) ≡ true
+      → AreActuals p home (map parameter_kind fs) (map actual_run (map fst xs)) (all_code (map actual_code (map fst xs)))
   actuals_are [] [] e = no_actuals_are p home
   actuals_are [] (x ∷ xs) e = let f : ⊥ = cc in absurd f
   actuals_are (f ∷ fs) [] e = let f : ⊥ = cc in absurd f
   actuals_are (f ∷ fs) (x ∷ xs) e =
       let g = both _ _ e in
-      more_actuals_are p home (parameter_kind f) (map parameter_kind fs) (actual_run x.0) (map actual_run (map fst xs)) (x.1 f (takes_is f _ g.0)) (actuals_are fs xs g.1)
+      more_actuals_are p home (parameter_kind f) (map parameter_kind fs) (actual_run x.0) (map actual_run (map fst xs)) (x.1 f (takes_is f _ g.0))
+      (actuals_are fs xs g.1)
 
-  arm_choice : {A : Type 0} {Good : Uses → A → Type 0} {push : A → List Operand → List Operand} {y : ℤ → Run A} {g : Stretch} (x : Labelled (Run A)) (f : Labelled Stretch) → ArmIs Good push x f → IsChoice p home Good push y g → IsChoice p home Good push (λ z n w. branch (holds x.labels z) (x.part n) (y z n) w) (arm_code f.labels f.part g)
-  arm_choice {A} {Good} {push} {y} {g} x f i j = subst (λ ls. IsChoice p home Good push (λ z n w. branch (holds ls z) (x.part n) (y z n) w) (arm_code f.labels f.part g)) (sym i.labels) (arm_is p home f.labels i.part j)
+  arm_choice : {A : Type 0} {Good : Uses → A → Type 0} {push : A → List Operand → List Operand} {y : ℤ → Run A} {g : Stretch} (x : Labelled (Run A))
+      (f : Labelled Stretch) → ArmIs Good push x f → IsChoice p home Good push y g
+      → IsChoice p home Good push (λ z n w. branch (holds x.labels z) (x.part n) (y z n) w) (arm_code f.labels f.part g)
+  arm_choice {A} {Good} {push} {y} {g} x f i j =
+      subst (λ ls. IsChoice p home Good push (λ z n w. branch (holds ls z) (x.part n) (y z n) w) (arm_code f.labels f.part g)) (sym i.labels)
+      (arm_is p home f.labels i.part j)
 
-  arms_are : (xs : List ((a : Arm) × R a)) (y : Run (Unit {0})) (g : Stretch) → all_true (map arm_typed (map fst xs)) ≡ true → ActionOk y g → IsChoice p home Any no_more (λ z. selected z (map arm_run (map fst xs)) y) (select_code (map arm_code_of (map fst xs)) g)
+  arms_are : (xs : List ((a : Arm) × R a)) (y : Run (Unit {0})) (g : Stretch) → all_true (map arm_typed (map fst xs)) ≡ true → ActionOk y g
+      → IsChoice p home Any no_more (λ z. selected z (map arm_run (map fst xs)) y) (select_code (map arm_code_of (map fst xs)) g)
   arms_are [] y g e i = otherwise_is p home i
   arms_are (x ∷ xs) y g e i = let f = both _ _ e in arm_choice (arm_run x.0) (arm_code_of x.0) (x.1 f.0) (arms_are xs y g f.1 i)
 
-  value_arms_are : (u : ElanType) (xs : List ((a : ValueArm) × S a)) (y : Run Value) (g : Stretch) (a : Typed) → a ≡ Some u → all_agree a (map arm_type (map fst xs)) ≡ true → ValueOk (kind_in u) y g → IsChoice p home (OfKind (kind_in u)) keep (λ z. selected z (map value_arm_run (map fst xs)) y) (select_code (map value_arm_code (map fst xs)) g)
+  value_arms_are : (u : ElanType) (xs : List ((a : ValueArm) × S a)) (y : Run Value) (g : Stretch) (a : Typed) → a ≡ Some u
+      → all_agree a (map arm_type (map fst xs)) ≡ true → ValueOk (kind_in u) y g
+      → IsChoice p home (OfKind (kind_in u)) keep (λ z. selected z (map value_arm_run (map fst xs)) y) (select_code (map value_arm_code (map fst xs)) g)
   value_arms_are u [] y g a h e i = otherwise_is p home i
   value_arms_are u (x ∷ xs) y g a h e i =
       let f = both _ _ e in
@@ -168,25 +191,34 @@ module _ (p : Program) (variables : List ElanType) (bodies : List Body) (agrees 
   until_is L None e = until_none p home L
   until_is L (Some x) e = until_some p home L (x.1 types.Bool (has_is types.Bool _ e))
 
-  looped_is : (w : MaybeValue) (us : Actions) (u : MaybeValue) → (typed_if types.Bool w && (all_typed us && typed_if types.Bool u)) ≡ true → ActionOk (λ r. turns r.turns (turn (run_if w) (runs us) (run_if u) go_on r)) (turns_code (turn_code (code_if w) (codes us) (code_if u) (stays none)))
+  looped_is : (w : MaybeValue) (us : Actions) (u : MaybeValue) → (typed_if types.Bool w && (all_typed us && typed_if types.Bool u)) ≡ true
+      → ActionOk (λ r. turns r.turns (turn (run_if w) (runs us) (run_if u) go_on r)) (turns_code (turn_code (code_if w) (codes us) (code_if u) (stays none)))
   looped_is w us u e =
       let f = both _ _ e in
       let g = both _ _ f.1 in
-      loop_is p home (turn_is p home (run_if w) (run_if u) (code_if w) (code_if u) (while_is (λ _. Unit {0}) w f.0) (actions_are us g.0) (until_is (λ _. Unit {0}) u g.1) (go_on_is p home (λ _. Unit {0})))
+      loop_is p home (turn_is p home (run_if w) (run_if u) (code_if w) (code_if u) (while_is (λ _. Unit {0}) w f.0) (actions_are us g.0)
+      (until_is (λ _. Unit {0}) u g.1) (go_on_is p home (λ _. Unit {0})))
 
-  counted_is : (q : PlacePhrase) (way : Way) (limit w : MaybeValue) (us : Actions) (u : MaybeValue) → place_type variables bodies home q ≡ Some types.Int → typed_if types.Int limit ≡ true → typed_if types.Bool w ≡ true → all_typed us ≡ true → typed_if types.Bool u ≡ true
-      → ActionOk (counted q way (run_if limit) (turn (run_if w) (runs us) (run_if u))) (counted_code q way (code_if limit) (turn_code (code_if w) (codes us) (code_if u)))
+  counted_is : (q : PlacePhrase) (way : Way) (limit w : MaybeValue) (us : Actions) (u : MaybeValue) → place_type variables bodies home q ≡ Some types.Int
+      → typed_if types.Int limit ≡ true → typed_if types.Bool w ≡ true → all_typed us ≡ true → typed_if types.Bool u ≡ true
+      → ActionOk (counted q way (run_if limit) (turn (run_if w) (runs us) (run_if u)))
+      (counted_code q way (code_if limit) (turn_code (code_if w) (codes us) (code_if u)))
   counted_is q way None w us u is e ew eus eu =
       counted_none_is p home (turn (run_if w) (runs us) (run_if u)) (turn_code (code_if w) (codes us) (code_if u)) q way
-      (turn_is p home (run_if w) (run_if u) (code_if w) (code_if u) (while_is (λ _. Unit {0}) w ew) (actions_are us eus) (until_is (λ _. Unit {0}) u eu) (step_is p home (λ _. Unit {0}) q (has_place p variables bodies agrees home is_home q types.Int is)))
+      (turn_is p home (run_if w) (run_if u) (code_if w) (code_if u) (while_is (λ _. Unit {0}) w ew) (actions_are us eus) (until_is (λ _. Unit {0}) u eu)
+      (step_is p home (λ _. Unit {0}) q (has_place p variables bodies agrees home is_home q types.Int is)))
   counted_is q way (Some a) w us u is e ew eus eu =
       let at' = has_place p variables bodies agrees home is_home q types.Int is in
-      counted_some_is p home (turn (run_if w) (runs us) (run_if u)) (turn_code (code_if w) (codes us) (code_if u)) q way at' (a.1 types.Int (has_is types.Int _ e)) (λ (limit : ℤ) (fits : FitsSigned w16 limit).
-      turn_is p home (run_if w) (run_if u) (code_if w) (code_if u) (while_is (Under p home limit) w ew) (actions_are us eus) (until_is (Under p home limit) u eu) (step_to_is p home q way limit at' fits))
+      counted_some_is p home (turn (run_if w) (runs us) (run_if u)) (turn_code (code_if w) (codes us) (code_if u)) q way at'
+      (a.1 types.Int (has_is types.Int _ e)) (λ (limit : ℤ) (fits : FitsSigned w16 limit).
+      turn_is p home (run_if w) (run_if u) (code_if w) (code_if u) (while_is (Under p home limit) w ew) (actions_are us eus)
+      (until_is (Under p home limit) u eu) (step_to_is p home q way limit at' fits))
 
   counts_is : (q : PlacePhrase) (from : (e : ValuePhrase) × P e) (way : Way) (limit w : MaybeValue) (us : Actions) (u : MaybeValue)
-      → (has types.Int (place_type variables bodies home q) && (has types.Int (type from.0) && (typed_if types.Int limit && (typed_if types.Bool w && (all_typed us && typed_if types.Bool u))))) ≡ true
-      → ActionOk (λ r w'. bind (stored q (value from.0) r w') (λ _. counted q way (run_if limit) (turn (run_if w) (runs us) (run_if u)) r)) (join (store_code q kinds.Int (value_code from.0)) (counted_code q way (code_if limit) (turn_code (code_if w) (codes us) (code_if u))))
+      → (has types.Int (place_type variables bodies home q)
+      && (has types.Int (type from.0) && (typed_if types.Int limit && (typed_if types.Bool w && (all_typed us && typed_if types.Bool u))))) ≡ true
+      → ActionOk (λ r w'. bind (stored q (value from.0) r w') (λ _. counted q way (run_if limit) (turn (run_if w) (runs us) (run_if u)) r))
+      (join (store_code q kinds.Int (value_code from.0)) (counted_code q way (code_if limit) (turn_code (code_if w) (codes us) (code_if u))))
   counts_is q from way limit w us u e =
       let f0 = both _ _ e in
       let f1 = both _ _ f0.1 in
@@ -194,7 +226,8 @@ module _ (p : Program) (variables : List ElanType) (bodies : List Body) (agrees 
       let f3 = both _ _ f2.1 in
       let f4 = both _ _ f3.1 in
       let is = has_is types.Int _ f0.0 in
-      then_is p home (store_is p home q kinds.Int (has_place p variables bodies agrees home is_home q types.Int is) (from.1 types.Int (has_is types.Int _ f1.0))) (counted_is q way limit w us u is f2.0 f3.0 f4.0 f4.1)
+      then_is p home (store_is p home q kinds.Int (has_place p variables bodies agrees home is_home q types.Int is)
+      (from.1 types.Int (has_is types.Int _ f1.0))) (counted_is q way limit w us u is f2.0 f3.0 f4.0 f4.1)
 
   -- what is known of the layer of a phrase, where its parts are known
   abbrev Known : (Type 0 → Type 0 → Type 0 → Type 0 → Type 0 → Type 0) → Type 0
@@ -208,7 +241,8 @@ module _ (p : Program) (variables : List ElanType) (bodies : List Body) (agrees 
 
   value_parts : (y : Known ValuePhrase-F) (u : ElanType)
       → value_type_step variables bodies home (map-ValuePhrase _ _ _ _ _ _ _ _ _ _ typed actual_type type arm_typed arm_type (bare_value y)) ≡ Some u
-      → ValueOk (kind_in u) (value_step (map-ValuePhrase _ _ _ _ _ _ _ _ _ _ act actual_run value arm_run value_arm_run (bare_value y))) (value_code_step (map-ValuePhrase _ _ _ _ _ _ _ _ _ _ action_code actual_code value_code arm_code_of value_arm_code (bare_value y)))
+      → ValueOk (kind_in u) (value_step (map-ValuePhrase _ _ _ _ _ _ _ _ _ _ act actual_run value arm_run value_arm_run (bare_value y)))
+      (value_code_step (map-ValuePhrase _ _ _ _ _ _ _ _ _ _ action_code actual_code value_code arm_code_of value_arm_code (bare_value y)))
   value_parts (t.Number z) u e = let f = only_if_is _ _ u e in of_type types.Int u f.1 (number_is p home z (fits_in_range z f.0))
   value_parts (t.Truth b) u e = of_type types.Bool u e (truth_is p home b)
   value_parts (t.Load q v) u e =
@@ -216,7 +250,8 @@ module _ (p : Program) (variables : List ElanType) (bodies : List Body) (agrees 
       of_type v u f.1 (load_is p home q (kind_in v) (has_place p variables bodies agrees home is_home q v (has_is v _ f.0)))
   value_parts (t.Apply op es) u e =
       let f = only_if_is _ _ u e in
-      of_type (type_in (result_kind op)) u f.1 (of_kind (sym (kind_type (result_kind op))) (apply_is p home (map value (map fst es)) op (values_are (operand_kinds op) es f.0)))
+      of_type (type_in (result_kind op)) u f.1
+      (of_kind (sym (kind_type (result_kind op))) (apply_is p home (map value (map fst es)) op (values_are (operand_kinds op) es f.0)))
   value_parts (t.Cand a b) u e =
       let f = only_if_is _ _ u e in
       let g = both _ _ f.0 in
@@ -239,7 +274,8 @@ module _ (p : Program) (variables : List ElanType) (bodies : List Body) (agrees 
       let f = only_if_is _ _ u e in
       let g = both _ _ f.0 in
       let x = proc_is p variables bodies agrees q _ (Some v) g.0 (has_is v _ g.1) in
-      of_type v u f.1 (call_value_is p home q x.entry (map parameter_kind x.parameters) x.cells (kind_in v) (map actual_run (map fst as')) (map actual_code (map fst as')) x.has x.own x.delivers (actuals_are x.parameters as' x.takes))
+      of_type v u f.1 (call_value_is p home q x.entry (map parameter_kind x.parameters) x.cells (kind_in v) (map actual_run (map fst as'))
+      (map actual_code (map fst as')) x.has x.own x.delivers (actuals_are x.parameters as' x.takes))
   value_parts (t.ValuePhrase::Refer q v) u e =
       let f = only_if_is _ _ u e in
       let g = both _ _ f.0 in
@@ -254,24 +290,31 @@ module _ (p : Program) (variables : List ElanType) (bodies : List Body) (agrees 
       formal_is f g e = cc
 
   actual_parts : (y : Known Actual-F) (f : Formal)
-      → actual_type_step variables bodies home (map-Actual _ _ _ _ _ _ _ _ _ _ typed actual_type type arm_typed arm_type (map-Actual _ _ _ _ _ _ _ _ _ _ fst fst fst fst fst y)) ≡ Some f
-      → IsActual p home (parameter_kind f) (actual_step (map-Actual _ _ _ _ _ _ _ _ _ _ act actual_run value arm_run value_arm_run (map-Actual _ _ _ _ _ _ _ _ _ _ fst fst fst fst fst y))) (actual_code_step (map-Actual _ _ _ _ _ _ _ _ _ _ action_code actual_code value_code arm_code_of value_arm_code (map-Actual _ _ _ _ _ _ _ _ _ _ fst fst fst fst fst y)))
+      → actual_type_step variables bodies home
+      (map-Actual _ _ _ _ _ _ _ _ _ _ typed actual_type type arm_typed arm_type (map-Actual _ _ _ _ _ _ _ _ _ _ fst fst fst fst fst y)) ≡ Some f
+      → IsActual p home (parameter_kind f)
+      (actual_step (map-Actual _ _ _ _ _ _ _ _ _ _ act actual_run value arm_run value_arm_run (map-Actual _ _ _ _ _ _ _ _ _ _ fst fst fst fst fst y)))
+      (actual_code_step (map-Actual _ _ _ _ _ _ _ _ _ _ action_code actual_code value_code arm_code_of value_arm_code
+      (map-Actual _ _ _ _ _ _ _ _ _ _ fst fst fst fst fst y)))
   actual_parts (t.Value a) f e =
       let g = given_is Const _ f e in
-      subst (λ (f : Formal). IsActual p home (parameter_kind f) (actual_step (t.Value (value a.0))) (actual_code_step (t.Value (value_code a.0)))) g.2 (value_actual p home (kind_in g.0) (a.1 g.0 g.1))
+      subst (λ (f : Formal). IsActual p home (parameter_kind f) (actual_step (t.Value (value a.0))) (actual_code_step (t.Value (value_code a.0)))) g.2
+      (value_actual p home (kind_in g.0) (a.1 g.0 g.1))
   actual_parts (t.Place q v) f e =
       let g = given_is Var _ f e in
       let h = only_if_is _ _ g.0 g.1 in
       let same : v ≡ g.0 = type_is v g.0 h.1 in
       let is = place_actual p home (kind_in v) (place_is p home q (kind_in v) (has_place p variables bodies agrees home is_home q v (has_is v _ h.0))) in
-      subst (λ (f : Formal). IsActual p home (parameter_kind f) (actual_step (t.Place q v)) (actual_code_step (t.Place q v))) (ap (λ (u : ElanType). record { of = u; access = Var }) same ∙ g.2) is
+      subst (λ (f : Formal). IsActual p home (parameter_kind f) (actual_step (t.Place q v)) (actual_code_step (t.Place q v)))
+      (ap (λ (u : ElanType). record { of = u; access = Var }) same ∙ g.2) is
     where
       type_is : (u v : ElanType) → Some u ≡ Some v → u ≡ v
       type_is u v e = cc
 
   action_parts : (y : Known Action-F)
       → action_typed_step variables bodies home (map-Action _ _ _ _ _ _ _ _ _ _ typed actual_type type arm_typed arm_type (bare_action y)) ≡ true
-      → ActionOk (action_step (map-Action _ _ _ _ _ _ _ _ _ _ act actual_run value arm_run value_arm_run (bare_action y))) (action_code_step (map-Action _ _ _ _ _ _ _ _ _ _ action_code actual_code value_code arm_code_of value_arm_code (bare_action y)))
+      → ActionOk (action_step (map-Action _ _ _ _ _ _ _ _ _ _ act actual_run value arm_run value_arm_run (bare_action y)))
+      (action_code_step (map-Action _ _ _ _ _ _ _ _ _ _ action_code actual_code value_code arm_code_of value_arm_code (bare_action y)))
   action_parts (t.Action::Unit us) e = unit_is p home (actions_are us e)
   action_parts (t.Store q u a) e =
       let f = both _ _ e in
@@ -304,7 +347,8 @@ module _ (p : Program) (variables : List ElanType) (bodies : List Body) (agrees 
   action_parts (t.Action::Call q as') e =
       let g = both _ _ e in
       let x = proc_is p variables bodies agrees q _ None g.0 (none_is _ g.1) in
-      call_action_is p home q x.entry (map parameter_kind x.parameters) x.cells (map actual_run (map fst as')) (map actual_code (map fst as')) x.has x.own x.delivers (actuals_are x.parameters as' x.takes)
+      call_action_is p home q x.entry (map parameter_kind x.parameters) x.cells (map actual_run (map fst as')) (map actual_code (map fst as')) x.has x.own
+      x.delivers (actuals_are x.parameters as' x.takes)
   action_parts (t.Action::Refer q) e =
       let g = both _ _ e in
       let x = part_is p variables bodies agrees q home is_home None g.0 (none_is _ g.1) in
@@ -315,13 +359,22 @@ module _ (p : Program) (variables : List ElanType) (bodies : List Body) (agrees 
       leave_with_is p home x (kind_in u) (left_is p variables bodies agrees x home (Some u) is_home (with_is u _ f.1)) (a.1 u (has_is u _ f.0))
 
   arm_parts : (y : Known Arm-F)
-      → arm_typed_step variables bodies home (map-Arm _ _ _ _ _ _ _ _ _ _ typed actual_type type arm_typed arm_type (map-Arm _ _ _ _ _ _ _ _ _ _ fst fst fst fst fst y)) ≡ true
-      → ArmIs Any no_more (arm_step (map-Arm _ _ _ _ _ _ _ _ _ _ act actual_run value arm_run value_arm_run (map-Arm _ _ _ _ _ _ _ _ _ _ fst fst fst fst fst y))) (arm_code_step (map-Arm _ _ _ _ _ _ _ _ _ _ action_code actual_code value_code arm_code_of value_arm_code (map-Arm _ _ _ _ _ _ _ _ _ _ fst fst fst fst fst y)))
+      → arm_typed_step variables bodies home
+      (map-Arm _ _ _ _ _ _ _ _ _ _ typed actual_type type arm_typed arm_type (map-Arm _ _ _ _ _ _ _ _ _ _ fst fst fst fst fst y)) ≡ true
+      → ArmIs Any no_more (arm_step
+      (map-Arm _ _ _ _ _ _ _ _ _ _ act actual_run value arm_run value_arm_run (map-Arm _ _ _ _ _ _ _ _ _ _ fst fst fst fst fst y)))
+      (arm_code_step (map-Arm _ _ _ _ _ _ _ _ _ _ action_code actual_code value_code arm_code_of value_arm_code
+      (map-Arm _ _ _ _ _ _ _ _ _ _ fst fst fst fst fst y)))
   arm_parts y e = record { labels = refl; part = actions_are y.units e }
 
   value_arm_parts : (y : Known ValueArm-F) (u : ElanType)
-      → value_arm_type_step variables bodies home (map-ValueArm _ _ _ _ _ _ _ _ _ _ typed actual_type type arm_typed arm_type (map-ValueArm _ _ _ _ _ _ _ _ _ _ fst fst fst fst fst y)) ≡ Some u
-      → ArmIs (OfKind (kind_in u)) keep (value_arm_step (map-ValueArm _ _ _ _ _ _ _ _ _ _ act actual_run value arm_run value_arm_run (map-ValueArm _ _ _ _ _ _ _ _ _ _ fst fst fst fst fst y))) (value_arm_code_step (map-ValueArm _ _ _ _ _ _ _ _ _ _ action_code actual_code value_code arm_code_of value_arm_code (map-ValueArm _ _ _ _ _ _ _ _ _ _ fst fst fst fst fst y)))
+      → value_arm_type_step variables bodies home
+      (map-ValueArm _ _ _ _ _ _ _ _ _ _ typed actual_type type arm_typed arm_type (map-ValueArm _ _ _ _ _ _ _ _ _ _ fst fst fst fst fst y)) ≡ Some u
+      → ArmIs (OfKind (kind_in u)) keep
+      (value_arm_step (map-ValueArm _ _ _ _ _ _ _ _ _ _ act actual_run value arm_run value_arm_run
+      (map-ValueArm _ _ _ _ _ _ _ _ _ _ fst fst fst fst fst y)))
+      (value_arm_code_step (map-ValueArm _ _ _ _ _ _ _ _ _ _ action_code actual_code value_code arm_code_of value_arm_code
+      (map-ValueArm _ _ _ _ _ _ _ _ _ _ fst fst fst fst fst y)))
   value_arm_parts y u e = record { labels = refl; part = y.value.1 u e }
 
   -- each action, and each value, by induction
@@ -352,4 +405,5 @@ module _ (p : Program) (variables : List ElanType) (bodies : List Body) (agrees 
   pub all_are : (us : List Action) → all_true (map typed us) ≡ true → ActionOk (all (map act us)) (all_code (map action_code us))
   all_are us e =
       let same' = firsts us in
-      subst (λ us. ActionOk (all (map act us)) (all_code (map action_code us))) same' (actions_are (map with_proof us) (subst (λ us. all_true (map typed us) ≡ true) (sym same') e))
+      subst (λ us. ActionOk (all (map act us)) (all_code (map action_code us))) same'
+      (actions_are (map with_proof us) (subst (λ us. all_true (map typed us) ≡ true) (sym same') e))

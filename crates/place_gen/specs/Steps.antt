@@ -21,7 +21,8 @@ use Rattle.place_gen.specs.Stretch.{Stretch, none, one, keeps, pushes, join, all
 abbrev pub step_exit : Step → Exit
 step_exit steps.None = stays none
 step_exit (steps.Free place) =
-    stays (join (one place (pushes (operand.Place kinds.Int))) (join (one (instrs.Number (pos 1)) (pushes (operand.Value kinds.Int))) (one (instrs.Modify Increase) (drop 2))))
+    stays (join (one place (pushes (operand.Place kinds.Int)))
+    (join (one (instrs.Number (pos 1)) (pushes (operand.Value kinds.Int))) (one (instrs.Modify Increase) (drop 2))))
 step_exit (steps.To place way) = record {
   size = 1 + 1;
   lines = λ end ks m at. line_of place ks m ∷ (line_of (instrs.Step way end) (operand.Place kinds.Int ∷ ks) m ∷ []);
@@ -30,7 +31,8 @@ step_exit (steps.To place way) = record {
 -- a counted loop; nothing for another action
 abbrev pub count_step : Action-F Action Actual ValuePhrase Arm ValueArm → Stretch
 count_step (t.Count p from way limit w us u) =
-    join (store_code p kinds.Int (value_code from)) (counted_code p way (option_map value_code limit) (turn_code (option_map value_code w) (all_code (map action_code us)) (option_map value_code u)))
+    join (store_code p kinds.Int (value_code from))
+    (counted_code p way (option_map value_code limit) (turn_code (option_map value_code w) (all_code (map action_code us)) (option_map value_code u)))
 count_step _ = none
 
 abbrev pub count_code : Action → Stretch

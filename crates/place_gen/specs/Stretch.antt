@@ -225,13 +225,19 @@ abbrev pub arm_code_step : Layer Arm-F → Labelled Stretch
 arm_code_step arm = record { labels = arm.labels; part = all_code arm.units }
 
 abbrev pub value_code : ValuePhrase → Stretch
-value_code = fold-ValuePhrase Stretch Stretch Stretch (Labelled Stretch) (Labelled Stretch) action_code_step actual_code_step value_code_step arm_code_step value_arm_code_step
+value_code =
+    fold-ValuePhrase Stretch Stretch Stretch (Labelled Stretch) (Labelled Stretch) action_code_step actual_code_step value_code_step arm_code_step
+    value_arm_code_step
 
 abbrev pub action_code : Action → Stretch
-action_code = fold-Action Stretch Stretch Stretch (Labelled Stretch) (Labelled Stretch) action_code_step actual_code_step value_code_step arm_code_step value_arm_code_step
+action_code =
+    fold-Action Stretch Stretch Stretch (Labelled Stretch) (Labelled Stretch) action_code_step actual_code_step value_code_step arm_code_step
+    value_arm_code_step
 
 abbrev pub actual_code : Actual → Stretch
-actual_code = fold-Actual Stretch Stretch Stretch (Labelled Stretch) (Labelled Stretch) action_code_step actual_code_step value_code_step arm_code_step value_arm_code_step
+actual_code =
+    fold-Actual Stretch Stretch Stretch (Labelled Stretch) (Labelled Stretch) action_code_step actual_code_step value_code_step arm_code_step
+    value_arm_code_step
 
 -- what a body does, and the instruction that leaves it with its result
 abbrev pub content_code : Content → Stretch
@@ -240,10 +246,13 @@ content_code (contents.Value u a) = join (value_code a) (one (Back (Some (kind_i
 
 -- the code of a part of a SELECT, with its labels
 abbrev pub value_arm_code : ValueArm → Labelled Stretch
-value_arm_code = fold-ValueArm Stretch Stretch Stretch (Labelled Stretch) (Labelled Stretch) action_code_step actual_code_step value_code_step arm_code_step value_arm_code_step
+value_arm_code =
+    fold-ValueArm Stretch Stretch Stretch (Labelled Stretch) (Labelled Stretch) action_code_step actual_code_step value_code_step arm_code_step
+    value_arm_code_step
 
 abbrev pub arm_code_of : Arm → Labelled Stretch
-arm_code_of = fold-Arm Stretch Stretch Stretch (Labelled Stretch) (Labelled Stretch) action_code_step actual_code_step value_code_step arm_code_step value_arm_code_step
+arm_code_of =
+    fold-Arm Stretch Stretch Stretch (Labelled Stretch) (Labelled Stretch) action_code_step actual_code_step value_code_step arm_code_step value_arm_code_step
 
 -- how many lines the parts of a SELECT have, without the last
 abbrev pub arms_length : List (Labelled Stretch) → ℕ
@@ -267,7 +276,8 @@ choice_code v = choice_step (out-ValuePhrase v)
 -- the turns of a loop with such a step; nothing for another action
 abbrev pub loop_step : Action-F Action Actual ValuePhrase Arm ValueArm → Exit → Stretch
 loop_step (t.Loop w us u) step = turns_code (turn_code (option_map value_code w) (all_code (map action_code us)) (option_map value_code u) step)
-loop_step (t.Count p from way limit w us u) step = turns_code (turn_code (option_map value_code w) (all_code (map action_code us)) (option_map value_code u) step)
+loop_step (t.Count p from way limit w us u) step =
+    turns_code (turn_code (option_map value_code w) (all_code (map action_code us)) (option_map value_code u) step)
 loop_step _ step = none
 
 abbrev pub loop_code : Action → Exit → Stretch

@@ -53,8 +53,3 @@ proc_inside (f ∷ fs) e = record { frame = f; below = fs; inside = refl }
 pub leaves_more : (fs : List Frame) (f : Frame) (below : List Frame) (ops : List Operand) (cells : Cells) → fs ≡ f ∷ below → f.refines ≡ true → out_to ops fs cells ≡ out_to ops below cells
 leaves_more fs f below ops cells e r = ap (λ fs. out_to ops fs cells) e ∙ ap (λ t. cond t (out_to ops below cells) (back_into ops f below cells)) r
 
-pub leaves_last : (fs : List Frame) (f : Frame) (below : List Frame) (ops : List Operand) (cells : Cells) → fs ≡ f ∷ below → f.refines ≡ false → out_to ops fs cells ≡ back_into ops f below cells
-leaves_last fs f below ops cells e r = ap (λ fs. out_to ops fs cells) e ∙ ap (λ t. cond t (out_to ops below cells) (back_into ops f below cells)) r
-
-pub still_inside : (fs : List Frame) (f : Frame) (below : List Frame) → fs ≡ f ∷ below → f.refines ≡ true → is_in_proc fs ≡ true → is_in_proc below ≡ true
-still_inside fs f below e r inside = sym (ap is_in_proc e ∙ ap (λ t. cond t (is_in_proc below) true) r) ∙ inside

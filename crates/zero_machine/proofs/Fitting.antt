@@ -57,12 +57,6 @@ step_fits p c (Ok h) c' cells marks s' valid f i e goes =
     stage_fits p c (scene_of cells marks) (step p c cells) (stays_fit.steps p c cells valid f) f (halt_of h) c' s' (goes ∙ ap (λ m. stage m c (scene_of cells marks)) (sym m))
 step_fits p c (Err x) c' cells marks s' valid f i e goes = tt
 
--- what the machine does is the step where nothing is waited for
-pub advances : {E : Type 0} (p : Program) (c : Control) (result : Result Next E) (c' : Control) (cells : Cells) (marks : ℕ) (s' : Scene) → c.waits ≡ Nothing → (i : Instr) → Some i ≡ instr_of (slice_get p.lines c.position.pc)
-    → IfOk result (λ h. stage_of (halt_of h) c' s' ≡ stage (instruction p (Some i) c.position cells) c.position (scene_of cells marks)) → IfOk result (λ h. stage_of (halt_of h) c' s' ≡ advance p c (scene_of cells marks))
-advances p c (Ok h) c' cells marks s' none i e goes = goes ∙ sym (step_is p c cells marks i none e)
-advances p c (Err x) c' cells marks s' none i e goes = tt
-
 -- where something is waited for, the machine rests so
 pub rests_due : (p : Program) (c : Control) (cells : Cells) (marks : ℕ) (h : Halt) → due c.waits ≡ Some h → Over (rest_at h c (scene_of cells marks)) ≡ advance p c (scene_of cells marks)
 rests_due p c cells marks h e = by c.waits e

@@ -63,13 +63,6 @@ frame_written at args variables cells =
     let f : at + 2 + length ns ≡ at + 2 + length args = ap (λ k. at + 2 + k) (length-map args number_of_operand) in
     ap (λ k. written_from k (ns ++ ms) before) e ∙ written_append (at + 2) ns ms before ∙ ap (λ k. written_from k ms (written_from (at + 2) ns before)) f
 
-pub frame_length : (args : List Operand) (variables : List Kind) → length (frame_numbers args variables) ≡ 2 + length args + length variables
-frame_length args variables =
-    let e = length-append (map number_of_operand args) (map (λ k. cell_of (blank_of k)) variables) in
-    let f = length-map args number_of_operand in
-    let g = length-map variables (λ k. cell_of (blank_of k)) in
-    omega (arith, e, f, g)
-
 pub frame_so : (at : ℕ) (args : List Operand) (variables : List Kind) (before link with_args : Cells) → link ≡ written_from at link_numbers before → with_args ≡ written_from (at + 2) (map number_of_operand args) link
     → written_from (at + 2 + length args) (map (λ k. cell_of (blank_of k)) variables) with_args ≡ written_from at (frame_numbers args variables) before
 frame_so at args variables before link with_args e f =

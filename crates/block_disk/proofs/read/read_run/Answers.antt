@@ -11,7 +11,8 @@ pub returns-in_err-read-clause-step : goal.returns-in_err-read-clause-step
 returns-in_err-read-clause-step g c = λ s told.
     let d = g.D.Disk in
     let before = c.loop-k.invariant.step s told in
-    step_within d.state d.moment d.left_since (c.loop-k.k + 1) 0 0 (blocks_in c.args.into.now) 0 0 c.args.disk.now c.read.new.self Nowhere Nowhere s (λ block none. none)
+    step_within d.state d.moment d.left_since (c.loop-k.k + 1) 0 0 (blocks_in c.args.into.now) 0 0 c.args.disk.now c.read.new.self Nowhere Nowhere s
+    (λ block none. none)
     (omega (arith, c.loop-k.invariant.count, c.loop-k-test.true)) (omega arith) (omega arith)
     (step_more d.state d.moment d.left_since c.loop-k.k 0 0 1 0 0 c.args.disk.now c.loop-k.disk c.read.new.self Nowhere s before
     (read_step d.state d.moment d.left_since c.loop-k.disk c.read.new.self Nowhere before.reached before.told c.read.ensures.state c.read.ensures.time))
@@ -40,5 +41,6 @@ loop-k-preserved g c =
 pub returns-clause-step : goal.returns-clause-step
 returns-clause-step g c = λ s told.
     let d = g.D.Disk in
-    step_within d.state d.moment d.left_since c.loop-k.k 0 0 (blocks_in c.args.into.now) 0 0 c.args.disk.now c.loop-k.disk Nowhere Nowhere s (λ block none. none)
+    step_within d.state d.moment d.left_since c.loop-k.k 0 0 (blocks_in c.args.into.now) 0 0 c.args.disk.now c.loop-k.disk Nowhere Nowhere s
+    (λ block none. none)
     (omega (arith, c.loop-k.invariant.count, c.loop-k.auto.k-end)) (omega arith) (omega arith) (c.loop-k.invariant.step s told)

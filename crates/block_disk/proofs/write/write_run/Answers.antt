@@ -18,7 +18,8 @@ returns-in_err-write-clause-step g c = λ s told.
     step_within d.state d.moment d.left_since 0 (k + 1) 0 0 (blocks_in c.args.from.now) 0 c.args.disk.now c.write.new.self run run s (λ block in_run. in_run)
     (omega arith) (omega (arith, low)) (omega arith)
     (step_more d.state d.moment d.left_since 0 k 0 0 1 0 c.args.disk.now c.loop-k.disk c.write.new.self run s before
-    (failed_step d.state d.moment d.left_since c.loop-k.disk c.write.new.self run (at + k) _ before.reached there before.told c.in_err-write.ensures.err c.write.ensures.time))
+    (failed_step d.state d.moment d.left_since c.loop-k.disk c.write.new.self run (at + k) _ before.reached there before.told c.in_err-write.ensures.err
+    c.write.ensures.time))
 
 pub loop-k-preserved : goal.loop-k-preserved
 loop-k-preserved g c =
@@ -33,7 +34,9 @@ loop-k-preserved g c =
     let same : block ≡ block_of k bytes = search rules in
     record {
       count = refl;
-      state = writes_next k at bytes block (d.state c.args.disk.now) (d.state c.loop-k.disk) (d.state c.write.new.self) same c.loop-k.invariant.state c.in_ok-write.ensures.ok;
+      state =
+          writes_next k at bytes block (d.state c.args.disk.now) (d.state c.loop-k.disk) (d.state c.write.new.self) same c.loop-k.invariant.state
+          c.in_ok-write.ensures.ok;
       bytes = λ s told.
           let from = mapped (after_write (at + k) block) (d.state c.loop-k.disk) (d.state c.write.new.self) s c.in_ok-write.ensures.ok told in
           subst (λ (t : DiskState). HoldsRun t.content at (k + 1) bytes) (ap (λ b. after_write (at + k) b from.from) (sym same) ∙ sym from.is)
@@ -41,7 +44,8 @@ loop-k-preserved g c =
       step = λ s told.
           let before = c.loop-k.invariant.step s told in
           step_more d.state d.moment d.left_since 0 k 0 0 1 0 c.args.disk.now c.loop-k.disk c.write.new.self run s before
-          (wrote_step d.state d.moment d.left_since c.loop-k.disk c.write.new.self run (at + k) block before.reached there before.told c.in_ok-write.ensures.ok c.write.ensures.time);
+          (wrote_step d.state d.moment d.left_since c.loop-k.disk c.write.new.self run (at + k) block before.reached there before.told c.in_ok-write.ensures.ok
+          c.write.ensures.time);
       later = omega (arith, c.loop-k.invariant.later, c.write.ensures.cause.later);
     }
 

@@ -12,7 +12,8 @@ returns-clause-step g c = λ s told.
     let d = g.D.Disk in
     let count = blocks_in c.args.from.now in
     let one : count ≤ 1 = omega (arith, one_block c.args.from.now c.told-from) in
-    step_within d.state d.moment d.left_since 0 count 0 0 1 0 c.args.disk.now c.write_run.new.disk (IsInRun c.args.at count) (λ (block : ℕ). block ≡ c.args.at) s
+    step_within d.state d.moment d.left_since 0 count 0 0 1 0 c.args.disk.now c.write_run.new.disk (IsInRun c.args.at count) (λ (block : ℕ). block ≡ c.args.at)
+    s
     (λ block there. run_of_one c.args.at c.args.from.now block c.told-from there) (omega arith) one (omega arith) (c.write_run.ensures.step s told)
 
 pub returns-in_err-write_run-clause-step : goal.returns-in_err-write_run-clause-step
@@ -20,5 +21,6 @@ returns-in_err-write_run-clause-step g c = λ s told.
     let d = g.D.Disk in
     let count = blocks_in c.args.from.now in
     let one : count ≤ 1 = omega (arith, one_block c.args.from.now c.told-from) in
-    step_within d.state d.moment d.left_since 0 count 0 0 1 0 c.args.disk.now c.write_run.new.disk (IsInRun c.args.at count) (λ (block : ℕ). block ≡ c.args.at) s
+    step_within d.state d.moment d.left_since 0 count 0 0 1 0 c.args.disk.now c.write_run.new.disk (IsInRun c.args.at count) (λ (block : ℕ). block ≡ c.args.at)
+    s
     (λ block there. run_of_one c.args.at c.args.from.now block c.told-from there) (omega arith) one (omega arith) (c.write_run.ensures.step s told)

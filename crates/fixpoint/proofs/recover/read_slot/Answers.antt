@@ -7,30 +7,35 @@ use Rattle.fixpoint.proofs.recover.read_slot.Goals as goal
 pub returns-in_err-read_block-clause-step : goal.returns-in_err-read_block-clause-step
 returns-in_err-read_block-clause-step g c = λ s told.
     let d = g.D.Disk in
-    step_within d.state d.moment d.left_since 1 0 0 2 0 0 c.args.disk.now c.read_block.new.disk Nowhere Nowhere s (λ block none. none) (omega arith) (omega arith) (omega arith) (c.read_block.ensures.step s told)
+    step_within d.state d.moment d.left_since 1 0 0 2 0 0 c.args.disk.now c.read_block.new.disk Nowhere Nowhere s (λ block none. none) (omega arith)
+    (omega arith) (omega arith) (c.read_block.ensures.step s told)
 
 pub returns-then-block-ne1-clause-step : goal.returns-then-block-ne1-clause-step
 returns-then-block-ne1-clause-step g c = λ s told.
     let d = g.D.Disk in
-    step_within d.state d.moment d.left_since 1 0 0 2 0 0 c.args.disk.now c.read_block.new.disk Nowhere Nowhere s (λ block none. none) (omega arith) (omega arith) (omega arith) (c.read_block.ensures.step s told)
+    step_within d.state d.moment d.left_since 1 0 0 2 0 0 c.args.disk.now c.read_block.new.disk Nowhere Nowhere s (λ block none. none) (omega arith)
+    (omega arith) (omega arith) (c.read_block.ensures.step s told)
 
 pub returns-in_err-read_block-2-clause-step : goal.returns-in_err-read_block-2-clause-step
 returns-in_err-read_block-2-clause-step g c = λ s told.
     let d = g.D.Disk in
     let first = c.read_block.ensures.step s told in
-    step_more d.state d.moment d.left_since 1 0 0 1 0 0 c.args.disk.now c.read_block.new.disk c.read_block-2.new.disk Nowhere s first (c.read_block-2.ensures.step first.reached first.told)
+    step_more d.state d.moment d.left_since 1 0 0 1 0 0 c.args.disk.now c.read_block.new.disk c.read_block-2.new.disk Nowhere s first
+    (c.read_block-2.ensures.step first.reached first.told)
 
 pub returns-in-Some-clause-step : goal.returns-in-Some-clause-step
 returns-in-Some-clause-step g c = λ s told.
     let d = g.D.Disk in
     let first = c.read_block.ensures.step s told in
-    step_more d.state d.moment d.left_since 1 0 0 1 0 0 c.args.disk.now c.read_block.new.disk c.read_block-2.new.disk Nowhere s first (c.read_block-2.ensures.step first.reached first.told)
+    step_more d.state d.moment d.left_since 1 0 0 1 0 0 c.args.disk.now c.read_block.new.disk c.read_block-2.new.disk Nowhere s first
+    (c.read_block-2.ensures.step first.reached first.told)
 
 pub returns-in-None-clause-step : goal.returns-in-None-clause-step
 returns-in-None-clause-step g c = λ s told.
     let d = g.D.Disk in
     let first = c.read_block.ensures.step s told in
-    step_more d.state d.moment d.left_since 1 0 0 1 0 0 c.args.disk.now c.read_block.new.disk c.read_block-2.new.disk Nowhere s first (c.read_block-2.ensures.step first.reached first.told)
+    step_more d.state d.moment d.left_since 1 0 0 1 0 0 c.args.disk.now c.read_block.new.disk c.read_block-2.new.disk Nowhere s first
+    (c.read_block-2.ensures.step first.reached first.told)
 
 pub returns-in-Some-clause-found : goal.returns-in-Some-clause-found
 returns-in-Some-clause-found g c = λ s told.

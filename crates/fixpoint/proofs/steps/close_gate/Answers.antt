@@ -12,7 +12,8 @@ pub returns-then-not-was_open-clause-step : goal.returns-then-not-was_open-claus
 returns-then-not-was_open-clause-step g c = λ s told.
     let d = g.D.Disk in
     let here = λ (block : ℕ). (block ≡ c.args.gate) × IsTrue c.args.was_open in
-    step_within d.state d.moment d.left_since 0 0 1 0 (gate_writes c.args.was_open) 1 c.args.disk.now c.sync.new.disk Nowhere here s (λ block none. absurd none) (omega arith) (omega arith) (omega arith)
+    step_within d.state d.moment d.left_since 0 0 1 0 (gate_writes c.args.was_open) 1 c.args.disk.now c.sync.new.disk Nowhere here s (λ block none. absurd none)
+    (omega arith) (omega arith) (omega arith)
     (c.sync.ensures.step s told)
 
 pub returns-in_err-write_block-clause-step : goal.returns-in_err-write_block-clause-step
@@ -21,7 +22,8 @@ returns-in_err-write_block-clause-step g c = λ s told.
     let here = λ (block : ℕ). (block ≡ c.args.gate) × IsTrue c.args.was_open in
     let was : c.args.was_open ≡ true = search rules in
     let open_one : IsTrue c.args.was_open = search rules in
-    step_within d.state d.moment d.left_since 0 1 0 0 (gate_writes c.args.was_open) 1 c.args.disk.now c.write_block.new.disk (λ (block : ℕ). block ≡ c.args.gate) here s
+    step_within d.state d.moment d.left_since 0 1 0 0 (gate_writes c.args.was_open) 1 c.args.disk.now c.write_block.new.disk
+    (λ (block : ℕ). block ≡ c.args.gate) here s
     (λ block there. (there, open_one)) (omega arith) (one_write c.args.was_open was) (omega arith) (c.write_block.ensures.step s told)
 
 pub returns-clause-step : goal.returns-clause-step
@@ -31,9 +33,13 @@ returns-clause-step g c = λ s told.
     let was : c.args.was_open ≡ true = search rules in
     let open_one : IsTrue c.args.was_open = search rules in
     let first = c.write_block.ensures.step s told in
-    let wrote = step_within d.state d.moment d.left_since 0 1 0 0 (gate_writes c.args.was_open) 0 c.args.disk.now c.write_block.new.disk (λ (block : ℕ). block ≡ c.args.gate) here s
+    let wrote =
+    step_within d.state d.moment d.left_since 0 1 0 0 (gate_writes c.args.was_open) 0 c.args.disk.now c.write_block.new.disk
+    (λ (block : ℕ). block ≡ c.args.gate) here s
     (λ block there. (there, open_one)) (omega arith) (one_write c.args.was_open was) (omega arith) first in
-    step_within d.state d.moment d.left_since 0 _ 1 0 (gate_writes c.args.was_open) 1 c.args.disk.now c.sync-2.new.disk here here s (λ block there. there) (omega arith) (omega arith) (omega arith)
+    step_within d.state d.moment d.left_since 0 _ 1 0 (gate_writes c.args.was_open) 1 c.args.disk.now c.sync-2.new.disk here here s (λ block there. there)
+    (omega arith) (omega arith) (omega arith)
     (step_more d.state d.moment d.left_since 0 (gate_writes c.args.was_open) 0 0 0 1 c.args.disk.now c.write_block.new.disk c.sync-2.new.disk here s wrote
-    (step_within d.state d.moment d.left_since 0 0 1 0 0 1 c.write_block.new.disk c.sync-2.new.disk Nowhere here wrote.reached (λ block none. absurd none) (omega arith) (omega arith) (omega arith)
+    (step_within d.state d.moment d.left_since 0 0 1 0 0 1 c.write_block.new.disk c.sync-2.new.disk Nowhere here wrote.reached (λ block none. absurd none)
+    (omega arith) (omega arith) (omega arith)
     (c.sync-2.ensures.step wrote.reached wrote.told)))

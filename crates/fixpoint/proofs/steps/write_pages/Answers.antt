@@ -18,7 +18,8 @@ returns-in_err-write_block-clause-step g c = λ s told.
     let places = IsPlace count (i.place_of c.args.image.now) in
     let before = c.loop-k.invariant.step s told in
     let low : k < count = omega (arith, c.loop-k.invariant.count) in
-    step_within d.state d.moment d.left_since 0 (k + 1) 0 0 count 0 c.args.disk.now c.write_block.new.disk places places s (λ block there. there) (omega arith) (omega (arith, low)) (omega arith)
+    step_within d.state d.moment d.left_since 0 (k + 1) 0 0 count 0 c.args.disk.now c.write_block.new.disk places places s (λ block there. there) (omega arith)
+    (omega (arith, low)) (omega arith)
     (step_more d.state d.moment d.left_since 0 k 0 0 1 0 c.args.disk.now c.loop-k.disk c.write_block.new.disk places s before
     (step_within d.state d.moment d.left_since 0 1 0 0 1 0 c.loop-k.disk c.write_block.new.disk (λ (block : ℕ). block ≡ c.place.result) places before.reached
     (λ block same. (k, low, sym (same ∙ c.place.ensures))) (omega arith) (omega arith) (omega arith) (c.write_block.ensures.step before.reached before.told)))
@@ -40,13 +41,16 @@ loop-k-preserved g c =
       step = λ s told.
           let before = c.loop-k.invariant.step s told in
           step_more d.state d.moment d.left_since 0 k 0 0 1 0 c.args.disk.now c.loop-k.disk c.write_block.new.disk places s before
-          (step_within d.state d.moment d.left_since 0 1 0 0 1 0 c.loop-k.disk c.write_block.new.disk (λ (block : ℕ). block ≡ c.place.result) places before.reached
-          (λ block same. (k, low, sym (same ∙ c.place.ensures))) (omega arith) (omega arith) (omega arith) (c.write_block.ensures.step before.reached before.told));
+          (step_within d.state d.moment d.left_since 0 1 0 0 1 0 c.loop-k.disk c.write_block.new.disk (λ (block : ℕ). block ≡ c.place.result) places
+          before.reached
+          (λ block same. (k, low, sym (same ∙ c.place.ensures))) (omega arith) (omega arith) (omega arith)
+          (c.write_block.ensures.step before.reached before.told));
       calls = λ s told t told_new.
           let from = mapped (after_write (place_of k) (page_of k)) (d.state c.loop-k.disk) (d.state c.write_block.new.disk) t wrote told_new in
           let after = after_write (place_of k) (page_of k) from.from in
           let one : HasMade 0 1 0 from.from after = record { reads = refl; writes = refl; syncs = refl } in
-          subst (λ (u : DiskState). HasMade 0 (k + 1) 0 s u) (sym from.is) (made_more 0 k 0 0 1 0 s from.from after (c.loop-k.invariant.calls s told from.from from.was) one);
+          subst (λ (u : DiskState). HasMade 0 (k + 1) 0 s u) (sym from.is)
+          (made_more 0 k 0 0 1 0 s from.from after (c.loop-k.invariant.calls s told from.from from.was) one);
       pages = λ t told.
           let from = mapped (after_write (place_of k) (page_of k)) (d.state c.loop-k.disk) (d.state c.write_block.new.disk) t wrote told in
           subst (λ (u : DiskState). HasPages (k + 1) place_of page_of u.content) (sym from.is)
@@ -60,7 +64,8 @@ returns-clause-step g c = λ s told.
     let i = g.I.Image in
     let count = i.count_of c.args.image.now in
     let places = IsPlace count (i.place_of c.args.image.now) in
-    step_within d.state d.moment d.left_since 0 c.loop-k.k 0 0 count 0 c.args.disk.now c.loop-k.disk places places s (λ block there. there) (omega arith) (omega (arith, c.loop-k.invariant.count)) (omega arith)
+    step_within d.state d.moment d.left_since 0 c.loop-k.k 0 0 count 0 c.args.disk.now c.loop-k.disk places places s (λ block there. there) (omega arith)
+    (omega (arith, c.loop-k.invariant.count)) (omega arith)
     (c.loop-k.invariant.step s told)
 
 pub returns-clause-calls : goal.returns-clause-calls

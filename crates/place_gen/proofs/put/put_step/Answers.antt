@@ -9,8 +9,10 @@ returns-in-None c = rw c.in-None.is none_exit
 
 pub returns-in-Free : goal.returns-in-Free
 returns-in-Free c =
-    rw c.in-Free.is (stretch_exit (step_exit (steps.Free c.in-Free.place)) c.args.end (λ ks m at. refl) refl (λ ks. refl) (join_makes c.put_place.ensures (join_makes c.put_number.ensures c.add.ensures)))
+    rw c.in-Free.is (stretch_exit (step_exit (steps.Free c.in-Free.place)) c.args.end (λ ks m at. refl) refl (λ ks. refl)
+    (join_makes c.put_place.ensures (join_makes c.put_number.ensures c.add.ensures)))
 
 pub returns-in-To : goal.returns-in-To
 returns-in-To c =
-    rw c.in-To.is (stretch_exit (step_exit (steps.To c.in-To.place c.in-To.way)) c.args.end (λ ks m at. refl) refl (λ ks. refl) (join_makes c.put_place-in-To.ensures c.add-in-To.ensures))
+    rw c.in-To.is (stretch_exit (step_exit (steps.To c.in-To.place c.in-To.way)) c.args.end (λ ks m at. refl) refl (λ ks. refl)
+    (join_makes c.put_place-in-To.ensures c.add-in-To.ensures))

@@ -15,10 +15,13 @@ loop-label-init c new m = m
 pub loop-label-preserved : goal.loop-label-preserved
 loop-label-preserved c new m =
     let i = c.loop-label.label-index in
-    let rest : drop i c.args.labels.now ≡ get_or c.args.labels.now i (pos 0) ∷ drop (i + 1) c.args.labels.now = let within : i < length c.args.labels.now = omega arith in rw (add-one, drop-cons c.args.labels.now i (pos 0) within) refl in
+    let rest : drop i c.args.labels.now ≡ get_or c.args.labels.now i (pos 0) ∷ drop (i + 1) c.args.labels.now = let within : i < length c.args.labels.now =
+    omega arith in rw (add-one, drop-cons c.args.labels.now i (pos 0) within) refl in
     let z = get_or c.args.labels.now i (pos 0) in
-    let h : Makes (one (When z c.args.to) keeps) c.loop-label.out c.add.new.self = let fits : FitsSigned w16 z = search rules in simp to_z-of_z at c.add.ensures in
-    c.loop-label.invariant new (subst (λ zs. Makes (whens_code zs c.args.to) c.loop-label.out new) (sym rest) (whens_makes z (drop (i + 1) c.args.labels.now) c.args.to h m))
+    let h : Makes (one (When z c.args.to) keeps) c.loop-label.out c.add.new.self = let fits : FitsSigned w16 z = search rules in
+    simp to_z-of_z at c.add.ensures in
+    c.loop-label.invariant new
+    (subst (λ zs. Makes (whens_code zs c.args.to) c.loop-label.out new) (sym rest) (whens_makes z (drop (i + 1) c.args.labels.now) c.args.to h m))
 
 pub returns : goal.returns
 returns c =

@@ -11,7 +11,8 @@ pub returns-in_err-close_gate-clause-any_moment : goal.returns-in_err-close_gate
 returns-in_err-close_gate-clause-any_moment g c = rw (← c.self.view_is) (λ s told fits.
     let d = g.D.Disk in
     let i = g.I.Image in
-    let fix : Fixpoint = record { slot = c.self.inside.slot; sequence = c.self.inside.sequence; root = c.self.inside.root; other_open = c.self.inside.other_open } in
+    let fix : Fixpoint =
+    record { slot = c.self.inside.slot; sequence = c.self.inside.sequence; root = c.self.inside.root; other_open = c.self.inside.other_open } in
     let root = i.root_of c.args.image.now in
     let count = i.count_of c.args.image.now in
     let place = i.place_of c.args.image.now in
@@ -20,13 +21,15 @@ returns-in_err-close_gate-clause-any_moment g c = rw (← c.self.view_is) (λ s 
     let written = gate_writes fix.other_open in
     let step1 = c.close_gate.ensures.step s told in
     from_start d.state d.moment d.left_since g.met.D.Disk.only_now c.args.disk.now c.close_gate.new.disk s (IsOldOrNew fix root count place page s.content) told
-    (at_start fix root count place page are s fits) (upto1 fix root count place page are s fits d.state d.moment d.left_since written c.args.disk.now c.close_gate.new.disk step1))
+    (at_start fix root count place page are s fits)
+    (upto1 fix root count place page are s fits d.state d.moment d.left_since written c.args.disk.now c.close_gate.new.disk step1))
 
 pub returns-in_err-write_pages-clause-any_moment : goal.returns-in_err-write_pages-clause-any_moment
 returns-in_err-write_pages-clause-any_moment g c = rw (← c.self.view_is) (λ s told fits.
     let d = g.D.Disk in
     let i = g.I.Image in
-    let fix : Fixpoint = record { slot = c.self.inside.slot; sequence = c.self.inside.sequence; root = c.self.inside.root; other_open = c.self.inside.other_open } in
+    let fix : Fixpoint =
+    record { slot = c.self.inside.slot; sequence = c.self.inside.sequence; root = c.self.inside.root; other_open = c.self.inside.other_open } in
     let root = i.root_of c.args.image.now in
     let count = i.count_of c.args.image.now in
     let place = i.place_of c.args.image.now in
@@ -37,14 +40,18 @@ returns-in_err-write_pages-clause-any_moment g c = rw (← c.self.view_is) (λ s
     let settled1 = c.in_ok-close_gate.ensures.settled step1.reached step1.told in
     let shut1 = λ (is : IsTrue fix.other_open). c.in_ok-close_gate.ensures.closed is step1.reached step1.told in
     let step2 = c.write_pages.ensures.step step1.reached step1.told in
-    from_start d.state d.moment d.left_since g.met.D.Disk.only_now c.args.disk.now c.write_pages.new.disk s (IsOldOrNew fix root count place page s.content) told
-    (at_start fix root count place page are s fits) (upto2 fix root count place page are s fits d.state d.moment d.left_since written c.args.disk.now c.close_gate.new.disk step1 settled1 shut1 c.write_pages.new.disk step2))
+    from_start d.state d.moment d.left_since g.met.D.Disk.only_now c.args.disk.now c.write_pages.new.disk s (IsOldOrNew fix root count place page s.content)
+    told
+    (at_start fix root count place page are s fits)
+    (upto2 fix root count place page are s fits d.state d.moment d.left_since written c.args.disk.now c.close_gate.new.disk step1 settled1 shut1
+    c.write_pages.new.disk step2))
 
 pub returns-in_err-write_head-clause-any_moment : goal.returns-in_err-write_head-clause-any_moment
 returns-in_err-write_head-clause-any_moment g c = rw (← c.self.view_is) (λ s told fits.
     let d = g.D.Disk in
     let i = g.I.Image in
-    let fix : Fixpoint = record { slot = c.self.inside.slot; sequence = c.self.inside.sequence; root = c.self.inside.root; other_open = c.self.inside.other_open } in
+    let fix : Fixpoint =
+    record { slot = c.self.inside.slot; sequence = c.self.inside.sequence; root = c.self.inside.root; other_open = c.self.inside.other_open } in
     let root = i.root_of c.args.image.now in
     let count = i.count_of c.args.image.now in
     let place = i.place_of c.args.image.now in
@@ -57,13 +64,16 @@ returns-in_err-write_head-clause-any_moment g c = rw (← c.self.view_is) (λ s 
     let step2 = c.write_pages.ensures.step step1.reached step1.told in
     let step3 = c.write_head.ensures.step step2.reached step2.told in
     from_start d.state d.moment d.left_since g.met.D.Disk.only_now c.args.disk.now c.write_head.new.disk s (IsOldOrNew fix root count place page s.content) told
-    (at_start fix root count place page are s fits) (upto3 fix root count place page are s fits d.state d.moment d.left_since written c.args.disk.now c.close_gate.new.disk step1 settled1 shut1 c.write_pages.new.disk step2 c.write_head.new.disk step3))
+    (at_start fix root count place page are s fits)
+    (upto3 fix root count place page are s fits d.state d.moment d.left_since written c.args.disk.now c.close_gate.new.disk step1 settled1 shut1
+    c.write_pages.new.disk step2 c.write_head.new.disk step3))
 
 pub returns-in_err-open_gate-clause-any_moment : goal.returns-in_err-open_gate-clause-any_moment
 returns-in_err-open_gate-clause-any_moment g c = rw (← c.self.view_is) (λ s told fits.
     let d = g.D.Disk in
     let i = g.I.Image in
-    let fix : Fixpoint = record { slot = c.self.inside.slot; sequence = c.self.inside.sequence; root = c.self.inside.root; other_open = c.self.inside.other_open } in
+    let fix : Fixpoint =
+    record { slot = c.self.inside.slot; sequence = c.self.inside.sequence; root = c.self.inside.root; other_open = c.self.inside.other_open } in
     let root = i.root_of c.args.image.now in
     let count = i.count_of c.args.image.now in
     let place = i.place_of c.args.image.now in
@@ -80,13 +90,16 @@ returns-in_err-open_gate-clause-any_moment g c = rw (← c.self.view_is) (λ s t
     let head = c.in_ok-write_head.ensures.head step3.reached step3.told ∙ (λ k. head_of (c.next-sequence.ensures k) (c.root-root.ensures k)) in
     let step4 = c.open_gate.ensures.step step3.reached step3.told in
     from_start d.state d.moment d.left_since g.met.D.Disk.only_now c.args.disk.now c.open_gate.new.disk s (IsOldOrNew fix root count place page s.content) told
-    (at_start fix root count place page are s fits) (upto4 fix root count place page are s fits d.state d.moment d.left_since written c.args.disk.now c.close_gate.new.disk step1 settled1 shut1 c.write_pages.new.disk step2 c.write_head.new.disk step3 pages settled3 head c.open_gate.new.disk step4))
+    (at_start fix root count place page are s fits)
+    (upto4 fix root count place page are s fits d.state d.moment d.left_since written c.args.disk.now c.close_gate.new.disk step1 settled1 shut1
+    c.write_pages.new.disk step2 c.write_head.new.disk step3 pages settled3 head c.open_gate.new.disk step4))
 
 pub returns-clause-any_moment : goal.returns-clause-any_moment
 returns-clause-any_moment g c = rw (← c.self.view_is) (λ s told fits.
     let d = g.D.Disk in
     let i = g.I.Image in
-    let fix : Fixpoint = record { slot = c.self.inside.slot; sequence = c.self.inside.sequence; root = c.self.inside.root; other_open = c.self.inside.other_open } in
+    let fix : Fixpoint =
+    record { slot = c.self.inside.slot; sequence = c.self.inside.sequence; root = c.self.inside.root; other_open = c.self.inside.other_open } in
     let root = i.root_of c.args.image.now in
     let count = i.count_of c.args.image.now in
     let place = i.place_of c.args.image.now in
@@ -103,7 +116,9 @@ returns-clause-any_moment g c = rw (← c.self.view_is) (λ s told fits.
     let head = c.in_ok-write_head.ensures.head step3.reached step3.told ∙ (λ k. head_of (c.next-sequence.ensures k) (c.root-root.ensures k)) in
     let step4 = c.open_gate.ensures.step step3.reached step3.told in
     from_start d.state d.moment d.left_since g.met.D.Disk.only_now c.args.disk.now c.open_gate.new.disk s (IsOldOrNew fix root count place page s.content) told
-    (at_start fix root count place page are s fits) (upto4 fix root count place page are s fits d.state d.moment d.left_since written c.args.disk.now c.close_gate.new.disk step1 settled1 shut1 c.write_pages.new.disk step2 c.write_head.new.disk step3 pages settled3 head c.open_gate.new.disk step4))
+    (at_start fix root count place page are s fits)
+    (upto4 fix root count place page are s fits d.state d.moment d.left_since written c.args.disk.now c.close_gate.new.disk step1 settled1 shut1
+    c.write_pages.new.disk step2 c.write_head.new.disk step3 pages settled3 head c.open_gate.new.disk step4))
 
 pub returns-in_err-close_gate-clause-at_most : goal.returns-in_err-close_gate-clause-at_most
 returns-in_err-close_gate-clause-at_most g c = rw (← c.self.view_is) (λ s told.
@@ -124,7 +139,9 @@ returns-in_err-write_pages-clause-at_most g c = rw (← c.self.view_is) (λ s to
     let total = count + 2 + gate in
     let step1 = c.close_gate.ensures.step s told in
     let step2 = c.write_pages.ensures.step step1.reached step1.told in
-    let second = so_far d.state d.moment d.left_since gate 1 count 0 (gate + count) 1 c.close_gate.new.disk c.write_pages.new.disk _ s step1.reached step1.calls step2 (omega arith) (omega arith) in
+    let second =
+    so_far d.state d.moment d.left_since gate 1 count 0 (gate + count) 1 c.close_gate.new.disk c.write_pages.new.disk _ s step1.reached step1.calls step2
+    (omega arith) (omega arith) in
     (step2.reached, step2.told, at_most_of 0 (gate + count) 1 0 total 3 s step2.reached (omega arith) (omega arith) (omega arith) second))
 
 pub returns-in_err-write_head-clause-at_most : goal.returns-in_err-write_head-clause-at_most
@@ -136,9 +153,13 @@ returns-in_err-write_head-clause-at_most g c = rw (← c.self.view_is) (λ s tol
     let total = count + 2 + gate in
     let step1 = c.close_gate.ensures.step s told in
     let step2 = c.write_pages.ensures.step step1.reached step1.told in
-    let second = so_far d.state d.moment d.left_since gate 1 count 0 (gate + count) 1 c.close_gate.new.disk c.write_pages.new.disk _ s step1.reached step1.calls step2 (omega arith) (omega arith) in
+    let second =
+    so_far d.state d.moment d.left_since gate 1 count 0 (gate + count) 1 c.close_gate.new.disk c.write_pages.new.disk _ s step1.reached step1.calls step2
+    (omega arith) (omega arith) in
     let step3 = c.write_head.ensures.step step2.reached step2.told in
-    let third = so_far d.state d.moment d.left_since (gate + count) 1 1 1 (gate + count + 1) 2 c.write_pages.new.disk c.write_head.new.disk _ s step2.reached second step3 (omega arith) (omega arith) in
+    let third =
+    so_far d.state d.moment d.left_since (gate + count) 1 1 1 (gate + count + 1) 2 c.write_pages.new.disk c.write_head.new.disk _ s step2.reached second
+    step3 (omega arith) (omega arith) in
     (step3.reached, step3.told, at_most_of 0 (gate + count + 1) 2 0 total 3 s step3.reached (omega arith) (omega arith) (omega arith) third))
 
 pub returns-in_err-open_gate-clause-at_most : goal.returns-in_err-open_gate-clause-at_most
@@ -150,11 +171,17 @@ returns-in_err-open_gate-clause-at_most g c = rw (← c.self.view_is) (λ s told
     let total = count + 2 + gate in
     let step1 = c.close_gate.ensures.step s told in
     let step2 = c.write_pages.ensures.step step1.reached step1.told in
-    let second = so_far d.state d.moment d.left_since gate 1 count 0 (gate + count) 1 c.close_gate.new.disk c.write_pages.new.disk _ s step1.reached step1.calls step2 (omega arith) (omega arith) in
+    let second =
+    so_far d.state d.moment d.left_since gate 1 count 0 (gate + count) 1 c.close_gate.new.disk c.write_pages.new.disk _ s step1.reached step1.calls step2
+    (omega arith) (omega arith) in
     let step3 = c.write_head.ensures.step step2.reached step2.told in
-    let third = so_far d.state d.moment d.left_since (gate + count) 1 1 1 (gate + count + 1) 2 c.write_pages.new.disk c.write_head.new.disk _ s step2.reached second step3 (omega arith) (omega arith) in
+    let third =
+    so_far d.state d.moment d.left_since (gate + count) 1 1 1 (gate + count + 1) 2 c.write_pages.new.disk c.write_head.new.disk _ s step2.reached second
+    step3 (omega arith) (omega arith) in
     let step4 = c.open_gate.ensures.step step3.reached step3.told in
-    let fourth = so_far d.state d.moment d.left_since (gate + count + 1) 2 1 1 (gate + count + 2) 3 c.write_head.new.disk c.open_gate.new.disk _ s step3.reached third step4 (omega arith) (omega arith) in
+    let fourth =
+    so_far d.state d.moment d.left_since (gate + count + 1) 2 1 1 (gate + count + 2) 3 c.write_head.new.disk c.open_gate.new.disk _ s step3.reached third
+    step4 (omega arith) (omega arith) in
     (step4.reached, step4.told, at_most_of 0 (gate + count + 2) 3 0 total 3 s step4.reached (omega arith) (omega arith) (omega arith) fourth))
 
 pub returns-clause-at_most : goal.returns-clause-at_most
@@ -166,11 +193,17 @@ returns-clause-at_most g c = rw (← c.self.view_is) (λ s told.
     let total = count + 2 + gate in
     let step1 = c.close_gate.ensures.step s told in
     let step2 = c.write_pages.ensures.step step1.reached step1.told in
-    let second = so_far d.state d.moment d.left_since gate 1 count 0 (gate + count) 1 c.close_gate.new.disk c.write_pages.new.disk _ s step1.reached step1.calls step2 (omega arith) (omega arith) in
+    let second =
+    so_far d.state d.moment d.left_since gate 1 count 0 (gate + count) 1 c.close_gate.new.disk c.write_pages.new.disk _ s step1.reached step1.calls step2
+    (omega arith) (omega arith) in
     let step3 = c.write_head.ensures.step step2.reached step2.told in
-    let third = so_far d.state d.moment d.left_since (gate + count) 1 1 1 (gate + count + 1) 2 c.write_pages.new.disk c.write_head.new.disk _ s step2.reached second step3 (omega arith) (omega arith) in
+    let third =
+    so_far d.state d.moment d.left_since (gate + count) 1 1 1 (gate + count + 1) 2 c.write_pages.new.disk c.write_head.new.disk _ s step2.reached second
+    step3 (omega arith) (omega arith) in
     let step4 = c.open_gate.ensures.step step3.reached step3.told in
-    let fourth = so_far d.state d.moment d.left_since (gate + count + 1) 2 1 1 (gate + count + 2) 3 c.write_head.new.disk c.open_gate.new.disk _ s step3.reached third step4 (omega arith) (omega arith) in
+    let fourth =
+    so_far d.state d.moment d.left_since (gate + count + 1) 2 1 1 (gate + count + 2) 3 c.write_head.new.disk c.open_gate.new.disk _ s step3.reached third
+    step4 (omega arith) (omega arith) in
     (step4.reached, step4.told, at_most_of 0 (gate + count + 2) 3 0 total 3 s step4.reached (omega arith) (omega arith) (omega arith) fourth))
 
 pub returns-clause-calls : goal.returns-clause-calls
@@ -195,7 +228,8 @@ pub returns-clause-ok : goal.returns-clause-ok
 returns-clause-ok g c = rw (← c.self.view_is) (λ s told fits.
     let d = g.D.Disk in
     let i = g.I.Image in
-    let fix : Fixpoint = record { slot = c.self.inside.slot; sequence = c.self.inside.sequence; root = c.self.inside.root; other_open = c.self.inside.other_open } in
+    let fix : Fixpoint =
+    record { slot = c.self.inside.slot; sequence = c.self.inside.sequence; root = c.self.inside.root; other_open = c.self.inside.other_open } in
     let root = i.root_of c.args.image.now in
     let count = i.count_of c.args.image.now in
     let place = i.place_of c.args.image.now in
@@ -213,8 +247,11 @@ returns-clause-ok g c = rw (← c.self.view_is) (λ s told fits.
     let step4 = c.open_gate.ensures.step step3.reached step3.told in
     let settled4 = c.in_ok-open_gate.ensures.settled step4.reached step4.told in
     let opened = c.in_ok-open_gate.ensures.opened step4.reached step4.told in
-    let new = all_new fix root count place page are s fits d.state d.moment d.left_since written c.args.disk.now c.close_gate.new.disk step1 settled1 shut1 c.write_pages.new.disk step2 c.write_head.new.disk step3 pages settled3 head c.open_gate.new.disk step4 settled4 opened in (
+    let new =
+    all_new fix root count place page are s fits d.state d.moment d.left_since written c.args.disk.now c.close_gate.new.disk step1 settled1 shut1
+    c.write_pages.new.disk step2 c.write_head.new.disk step3 pages settled3 head c.open_gate.new.disk step4 settled4 opened in (
       step4.reached,
       step4.told,
-      subst (λ (f : Fixpoint). HasNew f count place page s step4.reached) (λ k. record { slot = 1 - fix.slot; sequence = sym c.next-sequence.ensures k; root = sym c.root-root.ensures k; other_open = true }) new,
+      subst (λ (f : Fixpoint). HasNew f count place page s step4.reached)
+          (λ k. record { slot = 1 - fix.slot; sequence = sym c.next-sequence.ensures k; root = sym c.root-root.ensures k; other_open = true }) new,
     ))

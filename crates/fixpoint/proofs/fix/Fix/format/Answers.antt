@@ -22,7 +22,9 @@ returns-in_err-close_gate-clause-at_most g c = λ s told.
     let count = g.I.Image.count_of c.args.image.now in
     let step0 = c.write_block.ensures.step s told in
     let step1 = c.close_gate.ensures.step step0.reached step0.told in
-    let first = so_far d.state d.moment d.left_since 1 0 1 1 2 1 c.write_block.new.disk c.close_gate.new.disk _ s step0.reached step0.calls step1 (omega arith) (omega arith) in
+    let first =
+    so_far d.state d.moment d.left_since 1 0 1 1 2 1 c.write_block.new.disk c.close_gate.new.disk _ s step0.reached step0.calls step1 (omega arith)
+    (omega arith) in
     (step1.reached, step1.told, at_most_of 0 2 1 0 (count + 4) 3 s step1.reached (omega arith) (omega arith) (omega arith) first)
 
 pub returns-in_err-write_pages-clause-at_most : goal.returns-in_err-write_pages-clause-at_most
@@ -31,9 +33,13 @@ returns-in_err-write_pages-clause-at_most g c = λ s told.
     let count = g.I.Image.count_of c.args.image.now in
     let step0 = c.write_block.ensures.step s told in
     let step1 = c.close_gate.ensures.step step0.reached step0.told in
-    let first = so_far d.state d.moment d.left_since 1 0 1 1 2 1 c.write_block.new.disk c.close_gate.new.disk _ s step0.reached step0.calls step1 (omega arith) (omega arith) in
+    let first =
+    so_far d.state d.moment d.left_since 1 0 1 1 2 1 c.write_block.new.disk c.close_gate.new.disk _ s step0.reached step0.calls step1 (omega arith)
+    (omega arith) in
     let step2 = c.write_pages.ensures.step step1.reached step1.told in
-    let second = so_far d.state d.moment d.left_since 2 1 count 0 (count + 2) 1 c.close_gate.new.disk c.write_pages.new.disk _ s step1.reached first step2 (omega arith) (omega arith) in
+    let second =
+    so_far d.state d.moment d.left_since 2 1 count 0 (count + 2) 1 c.close_gate.new.disk c.write_pages.new.disk _ s step1.reached first step2 (omega arith)
+    (omega arith) in
     (step2.reached, step2.told, at_most_of 0 (count + 2) 1 0 (count + 4) 3 s step2.reached (omega arith) (omega arith) (omega arith) second)
 
 pub returns-in_err-write_head-clause-at_most : goal.returns-in_err-write_head-clause-at_most
@@ -42,11 +48,17 @@ returns-in_err-write_head-clause-at_most g c = λ s told.
     let count = g.I.Image.count_of c.args.image.now in
     let step0 = c.write_block.ensures.step s told in
     let step1 = c.close_gate.ensures.step step0.reached step0.told in
-    let first = so_far d.state d.moment d.left_since 1 0 1 1 2 1 c.write_block.new.disk c.close_gate.new.disk _ s step0.reached step0.calls step1 (omega arith) (omega arith) in
+    let first =
+    so_far d.state d.moment d.left_since 1 0 1 1 2 1 c.write_block.new.disk c.close_gate.new.disk _ s step0.reached step0.calls step1 (omega arith)
+    (omega arith) in
     let step2 = c.write_pages.ensures.step step1.reached step1.told in
-    let second = so_far d.state d.moment d.left_since 2 1 count 0 (count + 2) 1 c.close_gate.new.disk c.write_pages.new.disk _ s step1.reached first step2 (omega arith) (omega arith) in
+    let second =
+    so_far d.state d.moment d.left_since 2 1 count 0 (count + 2) 1 c.close_gate.new.disk c.write_pages.new.disk _ s step1.reached first step2 (omega arith)
+    (omega arith) in
     let step3 = c.write_head.ensures.step step2.reached step2.told in
-    let third = so_far d.state d.moment d.left_since (count + 2) 1 1 1 (count + 3) 2 c.write_pages.new.disk c.write_head.new.disk _ s step2.reached second step3 (omega arith) (omega arith) in
+    let third =
+    so_far d.state d.moment d.left_since (count + 2) 1 1 1 (count + 3) 2 c.write_pages.new.disk c.write_head.new.disk _ s step2.reached second step3
+    (omega arith) (omega arith) in
     (step3.reached, step3.told, at_most_of 0 (count + 3) 2 0 (count + 4) 3 s step3.reached (omega arith) (omega arith) (omega arith) third)
 
 pub returns-clause-at_most : goal.returns-clause-at_most
@@ -55,13 +67,21 @@ returns-clause-at_most g c = λ s told.
     let count = g.I.Image.count_of c.args.image.now in
     let step0 = c.write_block.ensures.step s told in
     let step1 = c.close_gate.ensures.step step0.reached step0.told in
-    let first = so_far d.state d.moment d.left_since 1 0 1 1 2 1 c.write_block.new.disk c.close_gate.new.disk _ s step0.reached step0.calls step1 (omega arith) (omega arith) in
+    let first =
+    so_far d.state d.moment d.left_since 1 0 1 1 2 1 c.write_block.new.disk c.close_gate.new.disk _ s step0.reached step0.calls step1 (omega arith)
+    (omega arith) in
     let step2 = c.write_pages.ensures.step step1.reached step1.told in
-    let second = so_far d.state d.moment d.left_since 2 1 count 0 (count + 2) 1 c.close_gate.new.disk c.write_pages.new.disk _ s step1.reached first step2 (omega arith) (omega arith) in
+    let second =
+    so_far d.state d.moment d.left_since 2 1 count 0 (count + 2) 1 c.close_gate.new.disk c.write_pages.new.disk _ s step1.reached first step2 (omega arith)
+    (omega arith) in
     let step3 = c.write_head.ensures.step step2.reached step2.told in
-    let third = so_far d.state d.moment d.left_since (count + 2) 1 1 1 (count + 3) 2 c.write_pages.new.disk c.write_head.new.disk _ s step2.reached second step3 (omega arith) (omega arith) in
+    let third =
+    so_far d.state d.moment d.left_since (count + 2) 1 1 1 (count + 3) 2 c.write_pages.new.disk c.write_head.new.disk _ s step2.reached second step3
+    (omega arith) (omega arith) in
     let step4 = c.open_gate.ensures.step step3.reached step3.told in
-    let fourth = so_far d.state d.moment d.left_since (count + 3) 2 1 1 (count + 4) 3 c.write_head.new.disk c.open_gate.new.disk _ s step3.reached third step4 (omega arith) (omega arith) in
+    let fourth =
+    so_far d.state d.moment d.left_since (count + 3) 2 1 1 (count + 4) 3 c.write_head.new.disk c.open_gate.new.disk _ s step3.reached third step4
+    (omega arith) (omega arith) in
     (step4.reached, step4.told, at_most_of 0 (count + 4) 3 0 (count + 4) 3 s step4.reached (omega arith) (omega arith) (omega arith) fourth)
 
 pub returns-in_err-open_gate-clause-at_most : goal.returns-in_err-open_gate-clause-at_most
@@ -70,13 +90,21 @@ returns-in_err-open_gate-clause-at_most g c = λ s told.
     let count = g.I.Image.count_of c.args.image.now in
     let step0 = c.write_block.ensures.step s told in
     let step1 = c.close_gate.ensures.step step0.reached step0.told in
-    let first = so_far d.state d.moment d.left_since 1 0 1 1 2 1 c.write_block.new.disk c.close_gate.new.disk _ s step0.reached step0.calls step1 (omega arith) (omega arith) in
+    let first =
+    so_far d.state d.moment d.left_since 1 0 1 1 2 1 c.write_block.new.disk c.close_gate.new.disk _ s step0.reached step0.calls step1 (omega arith)
+    (omega arith) in
     let step2 = c.write_pages.ensures.step step1.reached step1.told in
-    let second = so_far d.state d.moment d.left_since 2 1 count 0 (count + 2) 1 c.close_gate.new.disk c.write_pages.new.disk _ s step1.reached first step2 (omega arith) (omega arith) in
+    let second =
+    so_far d.state d.moment d.left_since 2 1 count 0 (count + 2) 1 c.close_gate.new.disk c.write_pages.new.disk _ s step1.reached first step2 (omega arith)
+    (omega arith) in
     let step3 = c.write_head.ensures.step step2.reached step2.told in
-    let third = so_far d.state d.moment d.left_since (count + 2) 1 1 1 (count + 3) 2 c.write_pages.new.disk c.write_head.new.disk _ s step2.reached second step3 (omega arith) (omega arith) in
+    let third =
+    so_far d.state d.moment d.left_since (count + 2) 1 1 1 (count + 3) 2 c.write_pages.new.disk c.write_head.new.disk _ s step2.reached second step3
+    (omega arith) (omega arith) in
     let step4 = c.open_gate.ensures.step step3.reached step3.told in
-    let fourth = so_far d.state d.moment d.left_since (count + 3) 2 1 1 (count + 4) 3 c.write_head.new.disk c.open_gate.new.disk _ s step3.reached third step4 (omega arith) (omega arith) in
+    let fourth =
+    so_far d.state d.moment d.left_since (count + 3) 2 1 1 (count + 4) 3 c.write_head.new.disk c.open_gate.new.disk _ s step3.reached third step4
+    (omega arith) (omega arith) in
     (step4.reached, step4.told, at_most_of 0 (count + 4) 3 0 (count + 4) 3 s step4.reached (omega arith) (omega arith) (omega arith) fourth)
 
 pub returns-clause-ok : goal.returns-clause-ok
@@ -98,7 +126,8 @@ returns-clause-ok g c = λ s told.
     let opened = c.in_ok-open_gate.ensures.opened step4.reached step4.told in (
       step4.reached,
       step4.told,
-      formatted root count place page c.requires.places s step0.reached step1.reached step2.reached step3.reached step4.reached step0.only step1.only step2.only step3.only step4.only shut pages head settled opened,
+      formatted root count place page c.requires.places s step0.reached step1.reached step2.reached step3.reached step4.reached step0.only step1.only step2.only
+          step3.only step4.only shut pages head settled opened,
     )
 
 pub returns-clause-calls : goal.returns-clause-calls
@@ -113,7 +142,8 @@ returns-clause-calls g c = λ s told.
     let same : after_write 0 zeros s ≡ step0.reached =
     same_Some (after_write 0 zeros s) step0.reached (sym (c.in_ok-write_block.ensures.ok ∙ ap (option_map (after_write 0 zeros)) told) ∙ step0.told) in
     let zero : HasMade 0 1 0 s step0.reached = subst (HasMade 0 1 0 s) same (record { reads = refl; writes = refl; syncs = refl }) in
-    let rest : HasMade 0 (count + 3) 3 step0.reached step4.reached = four_parts 1 1 count (count + 3) 3 step0.reached step1.reached step2.reached step3.reached step4.reached
+    let rest : HasMade 0 (count + 3) 3 step0.reached step4.reached =
+    four_parts 1 1 count (count + 3) 3 step0.reached step1.reached step2.reached step3.reached step4.reached
     (c.in_ok-close_gate.ensures.calls step0.reached step0.told step1.reached step1.told)
     (c.in_ok-write_pages.ensures.calls step1.reached step1.told step2.reached step2.told)
     (c.in_ok-write_head.ensures.calls step2.reached step2.told step3.reached step3.told)

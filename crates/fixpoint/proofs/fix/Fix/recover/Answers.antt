@@ -10,25 +10,29 @@ use Rattle.fixpoint.proofs.fix.Fix.recover.Goals as goal
 pub returns-in_default-clause-step : goal.returns-in_default-clause-step
 returns-in_default-clause-step g c = λ s told.
     let d = g.D.Disk in
-    step_within d.state d.moment d.left_since 2 0 0 4 0 0 c.args.disk.now c.read_slot.new.disk Nowhere Nowhere s (λ block none. none) (omega arith) (omega arith) (omega arith) (c.read_slot.ensures.step s told)
+    step_within d.state d.moment d.left_since 2 0 0 4 0 0 c.args.disk.now c.read_slot.new.disk Nowhere Nowhere s (λ block none. none) (omega arith)
+    (omega arith) (omega arith) (c.read_slot.ensures.step s told)
 
 pub returns-in_default-read_slot-clause-step : goal.returns-in_default-read_slot-clause-step
 returns-in_default-read_slot-clause-step g c = λ s told.
     let d = g.D.Disk in
     let first = c.read_slot.ensures.step s told in
-    step_more d.state d.moment d.left_since 2 0 0 2 0 0 c.args.disk.now c.read_slot.new.disk c.read_slot-2.new.disk Nowhere s first (c.read_slot-2.ensures.step first.reached first.told)
+    step_more d.state d.moment d.left_since 2 0 0 2 0 0 c.args.disk.now c.read_slot.new.disk c.read_slot-2.new.disk Nowhere s first
+    (c.read_slot-2.ensures.step first.reached first.told)
 
 pub returns-in-Some-clause-step : goal.returns-in-Some-clause-step
 returns-in-Some-clause-step g c = λ s told.
     let d = g.D.Disk in
     let first = c.read_slot.ensures.step s told in
-    step_more d.state d.moment d.left_since 2 0 0 2 0 0 c.args.disk.now c.read_slot.new.disk c.read_slot-2.new.disk Nowhere s first (c.read_slot-2.ensures.step first.reached first.told)
+    step_more d.state d.moment d.left_since 2 0 0 2 0 0 c.args.disk.now c.read_slot.new.disk c.read_slot-2.new.disk Nowhere s first
+    (c.read_slot-2.ensures.step first.reached first.told)
 
 pub returns-in-None-clause-step : goal.returns-in-None-clause-step
 returns-in-None-clause-step g c = λ s told.
     let d = g.D.Disk in
     let first = c.read_slot.ensures.step s told in
-    step_more d.state d.moment d.left_since 2 0 0 2 0 0 c.args.disk.now c.read_slot.new.disk c.read_slot-2.new.disk Nowhere s first (c.read_slot-2.ensures.step first.reached first.told)
+    step_more d.state d.moment d.left_since 2 0 0 2 0 0 c.args.disk.now c.read_slot.new.disk c.read_slot-2.new.disk Nowhere s first
+    (c.read_slot-2.ensures.step first.reached first.told)
 
 pub returns-in-Some-clause-ok : goal.returns-in-Some-clause-ok
 returns-in-Some-clause-ok g c = λ s told.
