@@ -1,5 +1,5 @@
 -- A program has as many evaluations as it needs, since each of its requests costs a mark.
-use Rattle.std.proofs.Common.{◌≡◌, ℕ, zero, suc, ◌+◌, ◌≤◌, Bool, true, false, cond, List, [], ◌∷◌, ◌++◌, map, length, Some, refl, ap, ◌∙◌, subst, length-append, arith}
+use Rattle.std.proofs.Common.{◌≡◌, ℕ, zero, suc, ◌+◌, ◌≤◌, Bool, true, false, cond, List, [], ◌∷◌, ◌++◌, length, Some, refl, ap, ◌∙◌, subst, length-append, arith}
 use Rattle.eu_base.specs.declared.value.Kind.{Kind}
 use Rattle.eu_base.specs.declared.value.Kind.TheVariants as kinds
 use Rattle.eu_base.specs.declared.stop.Stop.TheVariants.{CellRoom}
@@ -51,7 +51,9 @@ move_pays (Spends a) c s = by s.marks
   where
     by : (n : ℕ) → Pays (n + 0) (length s.replies) (mark_stage n a c s)
     by zero = λ q is. absurd (cc is)
-    by (suc n) = let e : suc n ≡ suc n + 0 = omega arith in subst (λ k. Pays k (length s.replies) (after_stage a c (record s { marks = n }))) e (after_pays n a c s)
+    by (suc n) =
+        let e : suc n ≡ suc n + 0 = omega arith in
+        subst (λ k. Pays k (length s.replies) (after_stage a c (record s { marks = n }))) e (after_pays n a c s)
 move_pays (Halts stop) c s = λ q is. absurd (cc is)
 move_pays Ends c s = λ q is. absurd (cc is)
 move_pays Stuck c s = tt
