@@ -1,18 +1,16 @@
 -- What several steps of the making of code make together, where memory was not wanted.
 use Rattle.std.proofs.Common.{◌≡◌, ℕ, ◌+◌, ◌<◌, List, [], ◌∷◌, ◌++◌, length, drop, get_or, false, Some, refl, sym, ap, ◌∙◌, subst, arith, add-one, drop-cons, append-nil}
 use Rattle.std.specs.Prelude.{ℤ, suc}
-use Rattle.eu_base.specs.declared.operation.Way.{Way}
 use Rattle.code_form.specs.declared.operand.OperandKind.{OperandKind}
 use Rattle.code_form.specs.declared.code.Spot.{Spot}
 use Rattle.code_form.specs.declared.instr.Instr.{Instr}
-use Rattle.code_form.specs.declared.instr.Instr.TheVariants.{Mark, Jump, False, When, Limit, Unlimit}
-use Rattle.code_form.specs.Program.{deeper}
+use Rattle.code_form.specs.declared.instr.Instr.TheVariants.{Mark, Jump, False, When}
 use Rattle.elan_types.specs.Eval.{Labelled}
 use Rattle.place_gen.specs.declared.draft.Draft.{Draft}
-use Rattle.place_gen.specs.Stretch.{Stretch, none, one, keeps, join, if_code, whens_code, select_code, Exit, stays, exit_join, while_code, until_code, turns_code, limit_code}
+use Rattle.place_gen.specs.Stretch.{Stretch, none, one, keeps, join, if_code, whens_code, select_code, Exit, stays, exit_join, until_code, turns_code}
 use Rattle.place_gen.specs.Adds.{Adds}
 use Rattle.place_gen.specs.Makes.{Makes, MakesExit, MakesArm, MakesTurn, ComesBack}
-use Rattle.place_gen.proofs.Adds.{join_adds, same_adds, if_adds, exit_adds, until_adds, turns_adds, limit_adds, arm_adds, select_adds}
+use Rattle.place_gen.proofs.Adds.{join_adds, same_adds, if_adds, exit_adds, until_adds, turns_adds, arm_adds, select_adds}
 
 -- what is left of a list, from one of its items on
 pub rest_of : {A : Type 0} (xs : List A) (i : ℕ) (x : A) → i < length xs → x ≡ get_or xs i x → drop i xs ≡ x ∷ drop (i + 1) xs
