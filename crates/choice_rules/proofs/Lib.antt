@@ -1,2 +1,1 @@
-mod Chosen
 mod Lists

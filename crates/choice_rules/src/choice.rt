@@ -1,53 +1,21 @@
 //! IF: conditions, and parts that deliver the same.
 
 ghost use Rattle.std.specs.Prelude.{◌≡◌, ◌∷◌, [], IfOk, Some};
-ghost use Rattle.elan_meant.specs.declared.meant.Meant.TheVariants as means;
-ghost use Rattle.elan_scope.specs.Ruled.{gives};
+ghost use Rattle.elan_meant.specs.Parts as meanings;
 ghost use Rattle.choice_rules.specs.Choices as spec;
 ghost use Rattle.elan_scope.specs.Answer.{Is};
 
-use crate::parts::{delivery_in, joined, part_actions, part_value};
-use elan_meant::meant::{Guarded, Meant, Part};
+use crate::parts::{delivery_in, joined, part_actions, part_for_none, part_value};
+use elan_meant::arity::pairs_of;
+use elan_meant::meant::{Meant, Part};
 use elan_meant::operands::delivers;
 use elan_meant::part::{one, part_of, value_of};
-use elan_meant::row::{Judged, appended, both};
+use elan_meant::row::{Judged, both};
 use elan_scope::delivery::Delivery;
 use elan_scope::trouble::Trouble;
 use elan_types::{Action, ElanType, ValuePhrase, Why};
 use eu_base::{Boxed, List, NoMemory};
 use std::alloc::Global;
-
-fn truth(alloc: Global, condition: Meant) -> Result<Option<Boxed<ValuePhrase>>, NoMemory>
-    ensures { IfOk result (λ value. value ≡ spec.truth condition) }
-{
-    if delivers(ElanType::Bool, &condition) {
-        let value = value_of(alloc, condition)?;
-        Ok(Some(value))
-    } else {
-        condition.let_go();
-        Ok(None)
-    }
-}
-
-/// A condition, and the units that it guards.
-pub fn guarded(alloc: Global, condition: Meant, units: Meant) -> Judged
-    ensures { Is result (gives (means.Branches (spec.guarded condition units ∷ []))) }
-{
-    match truth(alloc, condition) {
-        Err(_refusal) => {
-            units.let_go();
-            Err(Trouble::NoMemory)
-        }
-        Ok(condition) => {
-            let mut branches = List::new(alloc);
-            branches.push(Guarded {
-                condition,
-                part: part_of(alloc, units),
-            })?;
-            Ok(Meant::Branches(branches))
-        }
-    }
-}
 
 // What IF does by parts that deliver nothing.
 fn if_actions(
@@ -80,7 +48,6 @@ fn if_value(
 }
 
 // One of two parts, which deliver the same. One that ends with a LEAVE agrees with every type.
-#[tactic(auto, using(crate::proofs::Chosen::chosen_is))]
 fn chosen_of(
     alloc: Global,
     condition: Boxed<ValuePhrase>,
@@ -111,23 +78,50 @@ fn chosen_of(
     }
 }
 
-fn branched(alloc: Global, branch: Guarded, rest: Option<Part>) -> Result<Option<Part>, NoMemory>
+// One of two parts, the first of which a truth value guards.
+fn guarded(
+    alloc: Global,
+    condition: Meant,
+    units: Meant,
+    rest: Part,
+) -> Result<Option<Part>, NoMemory>
+    ensures { IfOk result (λ p. p ≡ spec.chosen_of (meanings.value_of condition) (meanings.part_of units) rest) }
+{
+    let first = part_of(alloc, units);
+    match value_of(alloc, condition) {
+        Err(refusal) => {
+            first.let_go();
+            rest.let_go();
+            Err(refusal)
+        }
+        Ok(condition) => chosen_of(alloc, condition, first, rest),
+    }
+}
+
+fn branched(
+    alloc: Global,
+    branch: (Meant, Meant),
+    rest: Option<Part>,
+) -> Result<Option<Part>, NoMemory>
     ensures { IfOk result (λ p. p ≡ spec.branched branch rest) }
 {
-    let Guarded { condition, part } = branch;
+    let (condition, units) = branch;
     match rest {
         None => {
-            part.let_go();
+            condition.let_go();
+            units.let_go();
             Ok(None)
         }
-        Some(rest) => match condition {
-            None => {
-                part.let_go();
+        Some(rest) => {
+            if delivers(ElanType::Bool, &condition) {
+                guarded(alloc, condition, units, rest)
+            } else {
+                condition.let_go();
+                units.let_go();
                 rest.let_go();
                 Ok(None)
             }
-            Some(condition) => chosen_of(alloc, condition, part, rest),
-        },
+        }
     }
 }
 
@@ -135,7 +129,7 @@ fn branched(alloc: Global, branch: Guarded, rest: Option<Part>) -> Result<Option
 #[tactic(auto, using(crate::proofs::Lists::chain_push))]
 fn chain(
     alloc: Global,
-    mut branches: List<Guarded>,
+    mut branches: List<(Meant, Meant)>,
     otherwise: Part,
 ) -> Result<Option<Part>, NoMemory>
     ensures { IfOk result (λ p. p ≡ spec.chain branches (Some otherwise)) }
@@ -158,34 +152,11 @@ fn delivered(at: u32, part: Option<Part>) -> Judged
     }
 }
 
-fn branches_in(alloc: Global, meant: Meant) -> List<Guarded>
-    ensures { result ≡ spec.branches_in meant }
+/// Conditions, each before its units, and the units of ELSE.
+pub fn choice(alloc: Global, at: u32, parts: List<Meant>) -> Judged
+    ensures { Is result (spec.choice at parts) }
 {
-    match meant {
-        Meant::Branches(branches) => branches,
-        other => {
-            other.let_go();
-            List::new(alloc)
-        }
-    }
-}
-
-/// The branches of parts, one after another.
-pub fn branches_of(alloc: Global, parts: List<Meant>) -> Result<List<Guarded>, NoMemory>
-    ensures { IfOk result (λ branches. branches ≡ spec.branches_of parts) }
-{
-    let mut branches = Ok(List::new(alloc));
-    for part in parts.into_vec() {
-        branches = appended(branches, branches_in(alloc, part));
-    }
-    branches
-}
-
-/// Branches, and the units of ELSE.
-pub fn choice(alloc: Global, at: u32, branches: Meant, otherwise: Meant) -> Judged
-    ensures { Is result (spec.choice at branches otherwise) }
-{
-    let branches = branches_in(alloc, branches);
-    let part = chain(alloc, branches, part_of(alloc, otherwise))?;
+    let (branches, otherwise) = pairs_of(alloc, parts)?;
+    let part = chain(alloc, branches, part_for_none(alloc, otherwise))?;
     delivered(at, part)
 }

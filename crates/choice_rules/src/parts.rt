@@ -3,8 +3,8 @@
 ghost use Rattle.std.specs.Prelude.{◌≡◌, IfOk};
 ghost use Rattle.choice_rules.specs.Choices as spec;
 
-use elan_meant::meant::Part;
-use elan_meant::part::{blank, unreached};
+use elan_meant::meant::{Meant, Part};
+use elan_meant::part::{blank, part_of, unreached};
 use elan_scope::delivery::Delivery;
 use elan_types::{Action, ElanType, ValuePhrase};
 use eu_base::{Boxed, List, NoMemory};
@@ -67,5 +67,15 @@ pub fn part_value(alloc: Global, of: ElanType, part: Part) -> Result<Boxed<Value
         }
         Part::Left(actions) => unreached(alloc, actions, of),
         Part::Value(_of, value) => Ok(value),
+    }
+}
+
+/// The units of ELSE or OTHERWISE as a part: where there are none, nothing is done.
+pub fn part_for_none(alloc: Global, units: Option<Meant>) -> Part
+    ensures { result ≡ spec.otherwise units }
+{
+    match units {
+        None => Part::Done(List::new(alloc)),
+        Some(units) => part_of(alloc, units),
     }
 }

@@ -1,16 +1,18 @@
 //! SELECT: labels, and parts that deliver the same.
 
-ghost use Rattle.std.specs.Prelude.{◌≡◌, ◌∷◌, [], IfOk, Some};
+ghost use Rattle.std.specs.Prelude.{◌≡◌, ◌∷◌, [], IfOk, Some, map};
+ghost use Rattle.elan_meant.specs.Parts as meanings;
 ghost use Rattle.elan_meant.specs.declared.meant.Meant.TheVariants as means;
 ghost use Rattle.choice_rules.specs.Choices as spec;
 ghost use Rattle.elan_scope.specs.Answer.{Is, Gives};
 
-use crate::parts::{delivery_in, joined, part_actions, part_value};
-use elan_meant::meant::{Labelled, Meant, Part};
+use crate::parts::{delivery_in, joined, part_actions, part_for_none, part_value};
+use elan_meant::arity::pairs_of;
+use elan_meant::meant::{Meant, Part};
 use elan_meant::operands::delivers;
 use elan_meant::part::{one, part_of, value_of};
 use elan_meant::predefined::exists;
-use elan_meant::row::{Judged, appended, both, pushed};
+use elan_meant::row::{Judged, both, pushed};
 use elan_scope::delivery::Delivery;
 use elan_scope::scope::Found;
 use elan_scope::trouble::Trouble;
@@ -68,78 +70,55 @@ fn labels_in(alloc: Global, meant: Meant) -> List<i16>
     }
 }
 
-/// Labels, and the units that they choose.
-pub fn labelled(alloc: Global, labels: Meant, units: Meant) -> Judged
-    ensures { Is result (spec.labelled labels units) }
+// What the units of a part deliver.
+fn delivery_of(units: &Meant) -> Delivery
+    ensures { result ≡ spec.delivery_in (meanings.part_of units.now) }
 {
-    let mut arms = List::new(alloc);
-    arms.push(Labelled {
-        labels: labels_in(alloc, labels),
-        part: part_of(alloc, units),
-    })?;
-    Ok(Meant::Arms(arms))
-}
-
-fn arms_in(alloc: Global, meant: Meant) -> List<Labelled>
-    ensures { result ≡ spec.arms_in meant }
-{
-    match meant {
-        Meant::Arms(arms) => arms,
-        other => {
-            other.let_go();
-            List::new(alloc)
-        }
+    match units {
+        Meant::Value { of, .. } => Delivery::Of(*of),
+        Meant::Left(_) => Delivery::Open,
+        _ => Delivery::Nothing,
     }
-}
-
-/// The arms of parts, one after another.
-pub fn arms_of(alloc: Global, parts: List<Meant>) -> Result<List<Labelled>, NoMemory>
-    ensures { IfOk result (λ arms. arms ≡ spec.arms_of parts) }
-{
-    let mut arms = Ok(List::new(alloc));
-    for part in parts.into_vec() {
-        arms = appended(arms, arms_in(alloc, part));
-    }
-    arms
 }
 
 // What all parts deliver, if they agree.
-fn agreed(delivery: Delivery, arms: &[Labelled]) -> Option<Delivery>
+fn agreed(delivery: Delivery, arms: &[(Meant, Meant)]) -> Option<Delivery>
     ensures { result ≡ spec.agreed (Some delivery) arms.now }
 {
     let mut agreed = Some(delivery);
     for arm in arms {
         agreed = match agreed {
             None => None,
-            Some(delivery) => joined(delivery, delivery_in(&arm.part)),
+            Some(delivery) => joined(delivery, delivery_of(&arm.1)),
         };
     }
     agreed
 }
 
-fn action_arm(alloc: Global, arm: Labelled) -> Arm
+fn action_arm(alloc: Global, arm: (Meant, Meant)) -> Arm
     ensures { result ≡ spec.action_arm arm }
 {
-    let Labelled { labels, part } = arm;
+    let (labels, units) = arm;
     Arm {
-        labels,
-        units: part_actions(alloc, part),
+        labels: labels_in(alloc, labels),
+        units: part_actions(alloc, part_of(alloc, units)),
     }
 }
 
-fn value_arm(alloc: Global, of: ElanType, arm: Labelled) -> Result<ValueArm, NoMemory>
+fn value_arm(alloc: Global, of: ElanType, arm: (Meant, Meant)) -> Result<ValueArm, NoMemory>
     ensures { IfOk result (λ a. a ≡ spec.value_arm of arm) }
 {
-    let Labelled { labels, part } = arm;
-    let value = part_value(alloc, of, part)?;
+    let (labels, units) = arm;
+    let labels = labels_in(alloc, labels);
+    let value = part_value(alloc, of, part_of(alloc, units))?;
     Ok(ValueArm {
         labels,
         value: value.into_inner(),
     })
 }
 
-fn action_arms(alloc: Global, arms: List<Labelled>) -> Result<List<Arm>, NoMemory>
-    ensures { IfOk result (λ list. list ≡ spec.action_arms arms) }
+fn action_arms(alloc: Global, arms: List<(Meant, Meant)>) -> Result<List<Arm>, NoMemory>
+    ensures { IfOk result (λ list. list ≡ map spec.action_arm arms) }
 {
     let mut list = Ok(List::new(alloc));
     for arm in arms.into_vec() {
@@ -148,8 +127,12 @@ fn action_arms(alloc: Global, arms: List<Labelled>) -> Result<List<Arm>, NoMemor
     list
 }
 
-fn value_arms(alloc: Global, of: ElanType, arms: List<Labelled>) -> Result<List<ValueArm>, NoMemory>
-    ensures { IfOk result (λ list. list ≡ spec.value_arms of arms) }
+fn value_arms(
+    alloc: Global,
+    of: ElanType,
+    arms: List<(Meant, Meant)>,
+) -> Result<List<ValueArm>, NoMemory>
+    ensures { IfOk result (λ list. list ≡ map (spec.value_arm of) arms) }
 {
     let mut list = Ok(List::new(alloc));
     for arm in arms.into_vec() {
@@ -161,7 +144,7 @@ fn value_arms(alloc: Global, of: ElanType, arms: List<Labelled>) -> Result<List<
 fn select_actions(
     alloc: Global,
     value: Boxed<ValuePhrase>,
-    arms: List<Labelled>,
+    arms: List<(Meant, Meant)>,
     otherwise: Part,
 ) -> Result<List<Action>, NoMemory>
     ensures { IfOk result (λ actions. actions ≡ spec.select_actions value arms otherwise) }
@@ -175,7 +158,7 @@ fn select_value(
     alloc: Global,
     of: ElanType,
     value: Boxed<ValuePhrase>,
-    arms: List<Labelled>,
+    arms: List<(Meant, Meant)>,
     otherwise: Part,
 ) -> Result<Boxed<ValuePhrase>, NoMemory>
     ensures { IfOk result (λ v. v ≡ spec.select_value of value arms otherwise) }
@@ -189,7 +172,7 @@ fn selected_by(
     alloc: Global,
     at: u32,
     value: Boxed<ValuePhrase>,
-    arms: List<Labelled>,
+    arms: List<(Meant, Meant)>,
     otherwise: Part,
 ) -> Judged
     ensures { Is result (spec.selected_by at value arms otherwise) }
@@ -197,6 +180,7 @@ fn selected_by(
     match agreed(delivery_in(&otherwise), arms.as_slice()) {
         None => {
             value.into_inner().let_go();
+            Meant::pairs_let_go(arms);
             otherwise.let_go();
             Err(Trouble::Breaks(at, Why::WrongType))
         }
@@ -215,23 +199,36 @@ fn selected_by(
     }
 }
 
-/// The value to choose by, arms, and the units of OTHERWISE.
-pub fn selected(alloc: Global, at: u32, value: Meant, arms: Meant, otherwise: Meant) -> Judged
-    ensures { Is result (spec.selected at value arms otherwise) }
+// The parts behind the value.
+fn selected_among(alloc: Global, at: u32, value: Boxed<ValuePhrase>, parts: List<Meant>) -> Judged
+    ensures { Is result (spec.selected_by at value (meanings.pairs parts) (spec.otherwise (meanings.odd parts))) }
+{
+    match pairs_of(alloc, parts) {
+        Err(_) => {
+            value.into_inner().let_go();
+            Err(Trouble::NoMemory)
+        }
+        Ok((arms, otherwise)) => {
+            selected_by(alloc, at, value, arms, part_for_none(alloc, otherwise))
+        }
+    }
+}
+
+/// The value to choose by; then labels, each before their units, and the units of OTHERWISE.
+pub fn selected(alloc: Global, at: u32, value: Meant, parts: List<Meant>) -> Judged
+    ensures { Is result (spec.selected at value parts) }
 {
     if delivers(ElanType::Int, &value) {
-        let arms = arms_in(alloc, arms);
         match value_of(alloc, value) {
-            Err(_refusal) => {
-                otherwise.let_go();
+            Err(_) => {
+                Meant::all_let_go(parts);
                 Err(Trouble::NoMemory)
             }
-            Ok(value) => selected_by(alloc, at, value, arms, part_of(alloc, otherwise)),
+            Ok(value) => selected_among(alloc, at, value, parts),
         }
     } else {
         value.let_go();
-        arms.let_go();
-        otherwise.let_go();
+        Meant::all_let_go(parts);
         Err(Trouble::Breaks(at, Why::WrongType))
     }
 }

@@ -63,23 +63,22 @@ two_parts : (p q : Phrase) → calls (part p (part q none)) ≡ called_in p ++ c
 two_parts p q = first_part p (part q none) ∙ ap (λ (ns : List ℕ). called_in p ++ ns) (one_part q)
 
 three_parts : (p q r : Phrase) → calls (part p (part q (part r none))) ≡ called_in p ++ called_in q ++ called_in r
-three_parts p q r = first_part p (part q (part r none)) ∙ ap (λ (ns : List ℕ). called_in p ++ ns) (two_parts q r) ∙ sym (assoc (called_in p) (called_in q) (called_in r))
+three_parts p q r =
+    first_part p (part q (part r none)) ∙ ap (λ (ns : List ℕ). called_in p ++ ns) (two_parts q r) ∙ sym (assoc (called_in p) (called_in q) (called_in r))
 
-four_parts : (p q r v : Phrase) → calls (part p (part q (part r (part v none)))) ≡ called_in p ++ called_in q ++ called_in r ++ called_in v
-four_parts p q r v =
-    first_part p (part q (part r (part v none))) ∙ ap (λ (ns : List ℕ). called_in p ++ ns) (three_parts q r v)
-    ∙ sym (assoc (called_in p) (called_in q ++ called_in r) (called_in v)) ∙ ap (λ (ns : List ℕ). ns ++ called_in v) (sym (assoc (called_in p) (called_in q) (called_in r)))
+-- parts, and behind them others
+append_parts : (ps qs : List Phrase) → calls (all_of (ps ++ qs)) ≡ calls (all_of ps) ++ calls (all_of qs)
+append_parts [] qs = refl
+append_parts (p ∷ ps) qs =
+    first_part p (all_of (ps ++ qs)) ∙ ap (λ (ns : List ℕ). called_in p ++ ns) (append_parts ps qs)
+    ∙ sym (assoc (called_in p) (calls (all_of ps)) (calls (all_of qs))) ∙ ap (λ (ns : List ℕ). ns ++ calls (all_of qs)) (sym (first_part p (all_of ps)))
 
 one_calls : (f : Form) (p : Phrase) → called_by (around f p) ≡ [] → called_in (around f p) ≡ called_in p
 one_calls f p h = whole f (part p none) h ∙ one_part p
 
-two_call : (f : Form) (p q : Phrase) (xs ys : List ℕ) → called_by (phrase f (part p (part q none))) ≡ [] → called_in p ≡ xs → called_in q ≡ ys → called_in (phrase f (part p (part q none))) ≡ xs ++ ys
+two_call : (f : Form) (p q : Phrase) (xs ys : List ℕ) → called_by (phrase f (part p (part q none))) ≡ [] → called_in p ≡ xs → called_in q ≡ ys
+    → called_in (phrase f (part p (part q none))) ≡ xs ++ ys
 two_call f p q xs ys h e g = whole f (part p (part q none)) h ∙ two_parts p q ∙ both (called_in p) xs (called_in q) ys e g
-
-three_call : (f : Form) (p q r : Phrase) (xs ys zs : List ℕ) → called_by (phrase f (part p (part q (part r none)))) ≡ [] → called_in p ≡ xs → called_in q ≡ ys → called_in r ≡ zs → called_in (phrase f (part p (part q (part r none)))) ≡ xs ++ ys ++ zs
-three_call f p q r xs ys zs h e g i =
-    whole f (part p (part q (part r none))) h ∙ three_parts p q r
-    ∙ both (called_in p ++ called_in q) (xs ++ ys) (called_in r) zs (both (called_in p) xs (called_in q) ys e g) i
 
 module _ (s : Scope) where
   -- what the phrase of a unit calls, if it has one
@@ -96,14 +95,27 @@ module _ (s : Scope) where
   abbrev U : Statement → Type 0
   U u = unit_calls_of (shape.unit s u) ≡ uses.in_unit s u
 
+  abbrev pair_calls : Phrase × Phrase → List ℕ
+  pair_calls p = called_in p.0 ++ called_in p.1
+
+  abbrev counter_calls_of : shape.Counted → List ℕ
+  counter_calls_of k = called_in k.1 ++ called_in k.2
+
+  abbrev may_calls : Option shape.Counted → List ℕ
+  may_calls None = []
+  may_calls (Some k) = counter_calls_of k
+
   abbrev B : Branch → Type 0
-  B b = called_in (shape.branch s b) ≡ uses.in_branch s b
+  B b = pair_calls (shape.branch s b) ≡ uses.in_branch s b
 
   abbrev C : Case → Type 0
   C c = called_in (shape.case s c).1 ≡ uses.in_case s c
 
+  abbrev CounterCalls : shape.Counted → List ℕ → Type 0
+  CounterCalls k ns = (called_in k.0 ≡ []) × (counter_calls_of k ≡ ns)
+
   abbrev K : Counter → Type 0
-  K k = called_in (shape.counter s k) ≡ uses.in_counter s k
+  K k = CounterCalls (shape.counter s k) (uses.in_counter s k)
 
   abbrev I : Item → Type 0
   I i = called_in (shape.item s i) ≡ uses.in_item s i
@@ -112,18 +124,27 @@ module _ (s : Scope) where
 
   exprs_call : (es : List ((e : Expr) × E e)) → calls (all_of (map (shape.expr s) (map fst es))) ≡ uses.all (map (uses.in_expr s) (map fst es))
   exprs_call [] = refl
-  exprs_call (e ∷ es) = first_part (shape.expr s e.0) (all_of (map (shape.expr s) (map fst es))) ∙ both (called_in (shape.expr s e.0)) (uses.in_expr s e.0) (calls (all_of (map (shape.expr s) (map fst es)))) _ e.1 (exprs_call es)
+  exprs_call (e ∷ es) =
+      first_part (shape.expr s e.0) (all_of (map (shape.expr s) (map fst es)))
+      ∙ both (called_in (shape.expr s e.0)) (uses.in_expr s e.0) (calls (all_of (map (shape.expr s) (map fst es)))) _ e.1 (exprs_call es)
 
-  branch_row : (bs : List ((b : Branch) × B b)) → calls (all_of (map (shape.branch s) (map fst bs))) ≡ uses.all (map (uses.in_branch s) (map fst bs))
-  branch_row [] = refl
-  branch_row (b ∷ bs) = first_part (shape.branch s b.0) (all_of (map (shape.branch s) (map fst bs))) ∙ both (called_in (shape.branch s b.0)) (uses.in_branch s b.0) (calls (all_of (map (shape.branch s) (map fst bs)))) _ b.1 (branch_row bs)
+  guarded_calls : (p q : Phrase) (ps : Parts) → calls (part p (part q ps)) ≡ pair_calls (p, q) ++ calls ps
+  guarded_calls p q ps =
+      first_part p (part q ps) ∙ ap (λ (ns : List ℕ). called_in p ++ ns) (first_part q ps) ∙ sym (assoc (called_in p) (called_in q) (calls ps))
 
-  branches_call : (bs : List ((b : Branch) × B b)) → called_in (phrase form.branches (all_of (map (shape.branch s) (map fst bs)))) ≡ uses.all (map (uses.in_branch s) (map fst bs))
-  branches_call bs = whole form.branches (all_of (map (shape.branch s) (map fst bs))) refl ∙ branch_row bs
+  branches_call : (bs : List ((b : Branch) × B b))
+      → calls (all_of (shape.branches (map (shape.branch s) (map fst bs)))) ≡ uses.all (map (uses.in_branch s) (map fst bs))
+  branches_call [] = refl
+  branches_call (b ∷ bs) =
+      let p = shape.branch s b.0 in
+      let rest = all_of (shape.branches (map (shape.branch s) (map fst bs))) in
+      guarded_calls p.0 p.1 rest ∙ both (pair_calls p) (uses.in_branch s b.0) (calls rest) _ b.1 (branches_call bs)
 
   items_call : (is : List ((i : Item) × I i)) → calls (all_of (map (shape.item s) (map fst is))) ≡ uses.all (map (uses.in_item s) (map fst is))
   items_call [] = refl
-  items_call (i ∷ is) = first_part (shape.item s i.0) (all_of (map (shape.item s) (map fst is))) ∙ both (called_in (shape.item s i.0)) (uses.in_item s i.0) (calls (all_of (map (shape.item s) (map fst is)))) _ i.1 (items_call is)
+  items_call (i ∷ is) =
+      first_part (shape.item s i.0) (all_of (map (shape.item s) (map fst is)))
+      ∙ both (called_in (shape.item s i.0)) (uses.in_item s i.0) (calls (all_of (map (shape.item s) (map fst is)))) _ i.1 (items_call is)
 
   role_calls : (d : Delivery) (p : Phrase) → called_in (shape.role d p) ≡ called_in p
   role_calls Open p = refl
@@ -149,7 +170,8 @@ module _ (s : Scope) where
       let rest = map (shape.unit s) (map fst us) in
       filled_call (shape.unit s u.0) rest ∙ both (unit_calls_of (shape.unit s u.0)) (uses.in_unit s u.0) (calls (all_of (shape.filled rest))) _ u.1 (us_call us)
 
-  units_call : (d : Delivery) (us : List ((u : Statement) × U u)) → called_in (shape.units d (map (shape.unit s) (map fst us))) ≡ uses.all (map (uses.in_unit s) (map fst us))
+  units_call : (d : Delivery) (us : List ((u : Statement) × U u))
+      → called_in (shape.units d (map (shape.unit s) (map fst us))) ≡ uses.all (map (uses.in_unit s) (map fst us))
   units_call d us =
       let ps = shape.filled (map (shape.unit s) (map fst us)) in
       whole form.units (all_of (shape.roles d ps)) refl ∙ roles_call d ps ∙ us_call us
@@ -159,19 +181,21 @@ module _ (s : Scope) where
   labels_call ns (label.Number at n ∷ ls) = labels_call (ns ++ n ∷ []) ls
   labels_call ns (label.Named n ∷ ls) = labels_call (ns ++ []) ls
 
-  arm_calls : (ns : List ℤ) (ls : List Label) (p : Phrase) (xs : List ℕ) → called_in p ≡ xs → called_in (shape.arm_phrase s ns (ls, p)) ≡ xs
-  arm_calls ns ls p xs e = two_call form.arm (phrase form.labels (all_of (shape.label_phrases s ns ls))) p [] xs refl (whole form.labels (all_of (shape.label_phrases s ns ls)) refl ∙ labels_call ns ls) e
-
-  arm_row : (ns : List ℤ) (cs : List ((c : Case) × C c)) → calls (all_of (shape.arm_phrases s ns (map (shape.case s) (map fst cs)))) ≡ uses.all (map (uses.in_case s) (map fst cs))
-  arm_row ns [] = refl
-  arm_row ns (c ∷ cs) =
+  arms_call : (ns : List ℤ) (cs : List ((c : Case) × C c))
+      → calls (all_of (shape.arms s ns (map (shape.case s) (map fst cs)))) ≡ uses.all (map (uses.in_case s) (map fst cs))
+  arms_call ns [] = refl
+  arms_call ns (c ∷ cs) =
       let ls = (shape.case s c.0).0 in
-      let rest = all_of (shape.arm_phrases s (ns ++ shape.numbers ls) (map (shape.case s) (map fst cs))) in
-      first_part (shape.arm_phrase s ns (shape.case s c.0)) rest
-      ∙ both (called_in (shape.arm_phrase s ns (shape.case s c.0))) (uses.in_case s c.0) (calls rest) _ (arm_calls ns ls (shape.case s c.0).1 (uses.in_case s c.0) c.1) (arm_row (ns ++ shape.numbers ls) cs)
+      let labels = shape.labels_phrase s ns ls in
+      let rest = all_of (shape.arms s (ns ++ shape.numbers ls) (map (shape.case s) (map fst cs))) in
+      let none_called : called_in labels ≡ [] = whole form.labels (all_of (shape.label_phrases s ns ls)) refl ∙ labels_call ns ls in
+      guarded_calls labels (shape.case s c.0).1 rest
+      ∙ both (called_in labels ++ called_in (shape.case s c.0).1) (uses.in_case s c.0) (calls rest) _
+      (both (called_in labels) [] (called_in (shape.case s c.0).1) (uses.in_case s c.0) none_called c.1) (arms_call (ns ++ shape.numbers ls) cs)
 
-  arms_call : (cs : List ((c : Case) × C c)) → called_in (phrase form.arms (all_of (shape.arm_phrases s [] (map (shape.case s) (map fst cs))))) ≡ uses.all (map (uses.in_case s) (map fst cs))
-  arms_call cs = whole form.arms (all_of (shape.arm_phrases s [] (map (shape.case s) (map fst cs)))) refl ∙ arm_row [] cs
+  -- a part behind others
+  behind_calls : (ps : List Phrase) (p : Phrase) (xs ys : List ℕ) → calls (all_of ps) ≡ xs → called_in p ≡ ys → calls (all_of (ps ++ p ∷ [])) ≡ xs ++ ys
+  behind_calls ps p xs ys e h = append_parts ps (p ∷ []) ∙ both (calls (all_of ps)) xs (calls (all_of (p ∷ []))) ys e (one_part p ∙ h)
 
   -- ---- one layer
 
@@ -181,7 +205,12 @@ module _ (s : Scope) where
   abbrev absent : Phrase
   absent = form.leaf form.absent
 
-  expr_calls : (y : Below Expr-F) → called_in (shape.expr_step s (map-Expr _ _ _ _ _ _ _ _ _ _ _ _ _ _ (shape.expr s) (shape.limit s) (shape.unit s) (shape.branch s) (shape.case s) (shape.counter s) (shape.item s) (map-Expr _ _ _ _ _ _ _ _ _ _ _ _ _ _ fst fst fst fst fst fst fst y))) ≡ uses.expr_step s (map-Expr _ _ _ _ _ _ _ _ _ _ _ _ _ _ (uses.in_expr s) (uses.in_limit s) (uses.in_unit s) (uses.in_branch s) (uses.in_case s) (uses.in_counter s) (uses.in_item s) (map-Expr _ _ _ _ _ _ _ _ _ _ _ _ _ _ fst fst fst fst fst fst fst y))
+  expr_calls : (y : Below Expr-F)
+      → called_in (shape.expr_step s
+      (map-Expr _ _ _ _ _ _ _ _ _ _ _ _ _ _ (shape.expr s) (shape.limit s) (shape.unit s) (shape.branch s) (shape.case s) (shape.counter s) (shape.item s)
+      (map-Expr _ _ _ _ _ _ _ _ _ _ _ _ _ _ fst fst fst fst fst fst fst y)))
+      ≡ uses.expr_step s (map-Expr _ _ _ _ _ _ _ _ _ _ _ _ _ _ (uses.in_expr s) (uses.in_limit s) (uses.in_unit s) (uses.in_branch s) (uses.in_case s)
+      (uses.in_counter s) (uses.in_item s) (map-Expr _ _ _ _ _ _ _ _ _ _ _ _ _ _ fst fst fst fst fst fst fst y))
   expr_calls (t.Number at n) = refl
   expr_calls (t.Text at x) = refl
   expr_calls (t.Truth at b) = refl
@@ -190,10 +219,26 @@ module _ (s : Scope) where
   expr_calls (t.Procedure at n) = refl
   expr_calls (t.Concr at a) = refl
   expr_calls (t.Bracket at a) = one_calls (form.bracket at) (shape.expr s a.0) refl ∙ a.1
-  expr_calls (t.If at branches None) = two_call (form.choice at) (phrase form.branches (all_of (map (shape.branch s) (map fst branches)))) absent _ [] refl (branches_call branches) refl
-  expr_calls (t.If at branches (Some us)) = two_call (form.choice at) (phrase form.branches (all_of (map (shape.branch s) (map fst branches)))) (shape.units Open (map (shape.unit s) (map fst us))) _ _ refl (branches_call branches) (units_call Open us)
-  expr_calls (t.Select at of cases None) = three_call (form.selection at) (shape.expr s of.0) (phrase form.arms (all_of (shape.arm_phrases s [] (map (shape.case s) (map fst cases))))) absent (uses.in_expr s of.0) _ [] refl of.1 (arms_call cases) refl
-  expr_calls (t.Select at of cases (Some us)) = three_call (form.selection at) (shape.expr s of.0) (phrase form.arms (all_of (shape.arm_phrases s [] (map (shape.case s) (map fst cases))))) (shape.units Open (map (shape.unit s) (map fst us))) (uses.in_expr s of.0) _ _ refl of.1 (arms_call cases) (units_call Open us)
+  expr_calls (t.If at branches None) =
+      let ps = shape.branches (map (shape.branch s) (map fst branches)) in
+      whole (form.choice at) (all_of (ps ++ absent ∷ [])) refl ∙ behind_calls ps absent _ [] (branches_call branches) refl
+  expr_calls (t.If at branches (Some us)) =
+      let ps = shape.branches (map (shape.branch s) (map fst branches)) in
+      let p = shape.units Open (map (shape.unit s) (map fst us)) in
+      whole (form.choice at) (all_of (ps ++ p ∷ [])) refl ∙ behind_calls ps p _ _ (branches_call branches) (units_call Open us)
+  expr_calls (t.Select at of cases None) =
+      let ps = shape.arms s [] (map (shape.case s) (map fst cases)) in
+      let rest = all_of (ps ++ absent ∷ []) in
+      whole (form.selection at) (part (shape.expr s of.0) rest) refl ∙ first_part (shape.expr s of.0) rest
+      ∙ both (called_in (shape.expr s of.0)) (uses.in_expr s of.0) (calls rest) _ of.1 (behind_calls ps absent _ [] (arms_call [] cases) refl)
+      ∙ sym (assoc (uses.in_expr s of.0) _ [])
+  expr_calls (t.Select at of cases (Some us)) =
+      let ps = shape.arms s [] (map (shape.case s) (map fst cases)) in
+      let p = shape.units Open (map (shape.unit s) (map fst us)) in
+      let rest = all_of (ps ++ p ∷ []) in
+      whole (form.selection at) (part (shape.expr s of.0) rest) refl ∙ first_part (shape.expr s of.0) rest
+      ∙ both (called_in (shape.expr s of.0)) (uses.in_expr s of.0) (calls rest) _ of.1 (behind_calls ps p _ _ (arms_call [] cases) (units_call Open us))
+      ∙ sym (assoc (uses.in_expr s of.0) _ _)
   expr_calls (t.Index at of index) = refl
   expr_calls (t.Field at of field) = refl
   expr_calls (t.Monadic at o a) = one_calls _ (shape.expr s a.0) refl ∙ a.1
@@ -201,20 +246,49 @@ module _ (s : Scope) where
   expr_calls (t.Cand at a b) = two_call (form.cand at) (shape.expr s a.0) (shape.expr s b.0) (uses.in_expr s a.0) (uses.in_expr s b.0) refl a.1 b.1
   expr_calls (t.Cor at a b) = two_call (form.cor at) (shape.expr s a.0) (shape.expr s b.0) (uses.in_expr s a.0) (uses.in_expr s b.0) refl a.1 b.1
 
-  limit_calls : (y : Below Limit-F) → called_in (shape.limit_step s (map-Limit _ _ _ _ _ _ _ _ _ _ _ _ _ _ (shape.expr s) (shape.limit s) (shape.unit s) (shape.branch s) (shape.case s) (shape.counter s) (shape.item s) (map-Limit _ _ _ _ _ _ _ _ _ _ _ _ _ _ fst fst fst fst fst fst fst y))).1 ≡ uses.limit_step s (map-Limit _ _ _ _ _ _ _ _ _ _ _ _ _ _ (uses.in_expr s) (uses.in_limit s) (uses.in_unit s) (uses.in_branch s) (uses.in_case s) (uses.in_counter s) (uses.in_item s) (map-Limit _ _ _ _ _ _ _ _ _ _ _ _ _ _ fst fst fst fst fst fst fst y))
+  limit_calls : (y : Below Limit-F)
+      → called_in (shape.limit_step s
+      (map-Limit _ _ _ _ _ _ _ _ _ _ _ _ _ _ (shape.expr s) (shape.limit s) (shape.unit s) (shape.branch s) (shape.case s) (shape.counter s) (shape.item s)
+      (map-Limit _ _ _ _ _ _ _ _ _ _ _ _ _ _ fst fst fst fst fst fst fst y))).1
+      ≡ uses.limit_step s (map-Limit _ _ _ _ _ _ _ _ _ _ _ _ _ _ (uses.in_expr s) (uses.in_limit s) (uses.in_unit s) (uses.in_branch s) (uses.in_case s)
+      (uses.in_counter s) (uses.in_item s) (map-Limit _ _ _ _ _ _ _ _ _ _ _ _ _ _ fst fst fst fst fst fst fst y))
   limit_calls t.Without = refl
   limit_calls (t.Upto a) = a.1
   limit_calls (t.Downto a) = a.1
 
-  loop_calls : (at : ℕ) (k c v : Phrase) (us : List ((u : Statement) × U u)) (xs ys zs : List ℕ) → called_in k ≡ xs → called_in c ≡ ys → called_in v ≡ zs →
-      called_in (phrase (form.loop at) (part k (part c (part (shape.units Nothing (map (shape.unit s) (map fst us))) (part v none))))) ≡ xs ++ ys ++ uses.all (map (uses.in_unit s) (map fst us)) ++ zs
-  loop_calls at k c v us xs ys zs e g h =
+  turns_call : (c v : Phrase) (us : List ((u : Statement) × U u)) (ys zs : List ℕ) → called_in c ≡ ys → called_in v ≡ zs →
+      calls (part c (part (shape.units Nothing (map (shape.unit s) (map fst us))) (part v none))) ≡ ys ++ uses.all (map (uses.in_unit s) (map fst us)) ++ zs
+  turns_call c v us ys zs g h =
+      let body = shape.units Nothing (map (shape.unit s) (map fst us)) in
+      three_parts c body v ∙ both (called_in c ++ called_in body) (ys ++ uses.all (map (uses.in_unit s) (map fst us))) (called_in v) zs
+      (both (called_in c) ys (called_in body) _ g (units_call Nothing us)) h
+
+  abbrev NameCallsNothing : Option shape.Counted → Type 0
+  NameCallsNothing None = Unit {0}
+  NameCallsNothing (Some k) = called_in k.0 ≡ []
+
+  loop_calls : (at : ℕ) (k : Option shape.Counted) (c v : Phrase) (us : List ((u : Statement) × U u)) (xs ys zs : List ℕ) → NameCallsNothing k
+      → may_calls k ≡ xs → called_in c ≡ ys → called_in v ≡ zs →
+      called_in (shape.loop at k c (shape.units Nothing (map (shape.unit s) (map fst us))) v) ≡ xs ++ ys ++ uses.all (map (uses.in_unit s) (map fst us)) ++ zs
+  loop_calls at None c v us xs ys zs n e g h =
       let body = shape.units Nothing (map (shape.unit s) (map fst us)) in
       let inside = uses.all (map (uses.in_unit s) (map fst us)) in
-      whole (form.loop at) (part k (part c (part body (part v none)))) refl ∙ four_parts k c body v
-      ∙ both (called_in k ++ called_in c ++ called_in body) (xs ++ ys ++ inside) (called_in v) zs (both (called_in k ++ called_in c) (xs ++ ys) (called_in body) inside (both (called_in k) xs (called_in c) ys e g) (units_call Nothing us)) h
+      whole (form.loop at) (part c (part body (part v none))) refl ∙ turns_call c v us ys zs g h ∙ ap (λ (ns : List ℕ). ns ++ ys ++ inside ++ zs) e
+  loop_calls at (Some k) c v us xs ys zs n e g h =
+      let body = shape.units Nothing (map (shape.unit s) (map fst us)) in
+      let inside = uses.all (map (uses.in_unit s) (map fst us)) in
+      let turns = part c (part body (part v none)) in
+      whole (form.count at k.3) (part k.0 (part k.1 (part k.2 turns))) refl ∙ first_part k.0 (part k.1 (part k.2 turns))
+      ∙ both (called_in k.0) [] (calls (part k.1 (part k.2 turns))) (counter_calls_of k ++ calls turns) n (guarded_calls k.1 k.2 turns)
+      ∙ both (counter_calls_of k) xs (calls turns) (ys ++ inside ++ zs) e (turns_call c v us ys zs g h)
+      ∙ sym (assoc xs (ys ++ inside) zs) ∙ ap (λ (ns : List ℕ). ns ++ zs) (sym (assoc xs ys inside))
 
-  unit_calls : (y : Below Unit-F) → unit_calls_of (shape.unit_step s (map-Unit _ _ _ _ _ _ _ _ _ _ _ _ _ _ (shape.expr s) (shape.limit s) (shape.unit s) (shape.branch s) (shape.case s) (shape.counter s) (shape.item s) (map-Unit _ _ _ _ _ _ _ _ _ _ _ _ _ _ fst fst fst fst fst fst fst y))) ≡ uses.unit_step s (map-Unit _ _ _ _ _ _ _ _ _ _ _ _ _ _ (uses.in_expr s) (uses.in_limit s) (uses.in_unit s) (uses.in_branch s) (uses.in_case s) (uses.in_counter s) (uses.in_item s) (map-Unit _ _ _ _ _ _ _ _ _ _ _ _ _ _ fst fst fst fst fst fst fst y))
+  unit_calls : (y : Below Unit-F)
+      → unit_calls_of (shape.unit_step s
+      (map-Unit _ _ _ _ _ _ _ _ _ _ _ _ _ _ (shape.expr s) (shape.limit s) (shape.unit s) (shape.branch s) (shape.case s) (shape.counter s) (shape.item s)
+      (map-Unit _ _ _ _ _ _ _ _ _ _ _ _ _ _ fst fst fst fst fst fst fst y)))
+      ≡ uses.unit_step s (map-Unit _ _ _ _ _ _ _ _ _ _ _ _ _ _ (uses.in_expr s) (uses.in_limit s) (uses.in_unit s) (uses.in_branch s) (uses.in_case s)
+      (uses.in_counter s) (uses.in_item s) (map-Unit _ _ _ _ _ _ _ _ _ _ _ _ _ _ fst fst fst fst fst fst fst y))
   unit_calls t.Empty = refl
   unit_calls (t.Let at items) = refl
   unit_calls (t.Variables at of items) = whole (form.declaration at) (all_of (map (shape.item s) (map fst items))) refl ∙ items_call items
@@ -222,41 +296,78 @@ module _ (s : Scope) where
   unit_calls (t.Bound at of items) = refl
   unit_calls (t.Value a) = one_calls form.statement (shape.expr s a.0) refl ∙ a.1
   unit_calls (t.Becomes at a b) = two_call (form.assignment at s) (shape.expr s a.0) (shape.expr s b.0) (uses.in_expr s a.0) (uses.in_expr s b.0) refl a.1 b.1
-  unit_calls (t.Loop at None None us None) = loop_calls at absent absent absent us [] [] [] refl refl refl
-  unit_calls (t.Loop at None None us (Some v)) = loop_calls at absent absent (shape.expr s v.0) us [] [] (uses.in_expr s v.0) refl refl v.1
-  unit_calls (t.Loop at None (Some c) us None) = loop_calls at absent (shape.expr s c.0) absent us [] (uses.in_expr s c.0) [] refl c.1 refl
-  unit_calls (t.Loop at None (Some c) us (Some v)) = loop_calls at absent (shape.expr s c.0) (shape.expr s v.0) us [] (uses.in_expr s c.0) (uses.in_expr s v.0) refl c.1 v.1
-  unit_calls (t.Loop at (Some k) None us None) = loop_calls at (shape.counter s k.0) absent absent us (uses.in_counter s k.0) [] [] k.1 refl refl
-  unit_calls (t.Loop at (Some k) None us (Some v)) = loop_calls at (shape.counter s k.0) absent (shape.expr s v.0) us (uses.in_counter s k.0) [] (uses.in_expr s v.0) k.1 refl v.1
-  unit_calls (t.Loop at (Some k) (Some c) us None) = loop_calls at (shape.counter s k.0) (shape.expr s c.0) absent us (uses.in_counter s k.0) (uses.in_expr s c.0) [] k.1 c.1 refl
-  unit_calls (t.Loop at (Some k) (Some c) us (Some v)) = loop_calls at (shape.counter s k.0) (shape.expr s c.0) (shape.expr s v.0) us (uses.in_counter s k.0) (uses.in_expr s c.0) (uses.in_expr s v.0) k.1 c.1 v.1
+  unit_calls (t.Loop at None None us None) = loop_calls at None absent absent us [] [] [] tt refl refl refl
+  unit_calls (t.Loop at None None us (Some v)) = loop_calls at None absent (shape.expr s v.0) us [] [] (uses.in_expr s v.0) tt refl refl v.1
+  unit_calls (t.Loop at None (Some c) us None) = loop_calls at None (shape.expr s c.0) absent us [] (uses.in_expr s c.0) [] tt refl c.1 refl
+  unit_calls (t.Loop at None (Some c) us (Some v)) =
+      loop_calls at None (shape.expr s c.0) (shape.expr s v.0) us [] (uses.in_expr s c.0) (uses.in_expr s v.0) tt refl c.1 v.1
+  unit_calls (t.Loop at (Some k) None us None) = loop_calls at (Some (shape.counter s k.0)) absent absent us (uses.in_counter s k.0) [] [] k.1.0 k.1.1 refl refl
+  unit_calls (t.Loop at (Some k) None us (Some v)) =
+      loop_calls at (Some (shape.counter s k.0)) absent (shape.expr s v.0) us (uses.in_counter s k.0) [] (uses.in_expr s v.0) k.1.0 k.1.1 refl v.1
+  unit_calls (t.Loop at (Some k) (Some c) us None) =
+      loop_calls at (Some (shape.counter s k.0)) (shape.expr s c.0) absent us (uses.in_counter s k.0) (uses.in_expr s c.0) [] k.1.0 k.1.1 c.1 refl
+  unit_calls (t.Loop at (Some k) (Some c) us (Some v)) =
+      loop_calls at (Some (shape.counter s k.0)) (shape.expr s c.0) (shape.expr s v.0) us (uses.in_counter s k.0) (uses.in_expr s c.0) (uses.in_expr s v.0)
+      k.1.0 k.1.1 c.1 v.1
   unit_calls (t.Leave at n None) = refl
   unit_calls (t.Leave at n (Some v)) = one_calls _ (shape.expr s v.0) refl ∙ v.1
 
-  branch_calls : (y : Below Branch-F) → called_in (shape.branch_step s (map-Branch _ _ _ _ _ _ _ _ _ _ _ _ _ _ (shape.expr s) (shape.limit s) (shape.unit s) (shape.branch s) (shape.case s) (shape.counter s) (shape.item s) (map-Branch _ _ _ _ _ _ _ _ _ _ _ _ _ _ fst fst fst fst fst fst fst y))) ≡ uses.branch_step s (map-Branch _ _ _ _ _ _ _ _ _ _ _ _ _ _ (uses.in_expr s) (uses.in_limit s) (uses.in_unit s) (uses.in_branch s) (uses.in_case s) (uses.in_counter s) (uses.in_item s) (map-Branch _ _ _ _ _ _ _ _ _ _ _ _ _ _ fst fst fst fst fst fst fst y))
-  branch_calls y = two_call form.branch (shape.expr s y.condition.0) (shape.units Open (map (shape.unit s) (map fst y.units))) (uses.in_expr s y.condition.0) _ refl y.condition.1 (units_call Open y.units)
+  branch_calls : (y : Below Branch-F)
+      → pair_calls (shape.branch_step s
+      (map-Branch _ _ _ _ _ _ _ _ _ _ _ _ _ _ (shape.expr s) (shape.limit s) (shape.unit s) (shape.branch s) (shape.case s) (shape.counter s) (shape.item s)
+      (map-Branch _ _ _ _ _ _ _ _ _ _ _ _ _ _ fst fst fst fst fst fst fst y)))
+      ≡ uses.branch_step s (map-Branch _ _ _ _ _ _ _ _ _ _ _ _ _ _ (uses.in_expr s) (uses.in_limit s) (uses.in_unit s) (uses.in_branch s) (uses.in_case s)
+      (uses.in_counter s) (uses.in_item s) (map-Branch _ _ _ _ _ _ _ _ _ _ _ _ _ _ fst fst fst fst fst fst fst y))
+  branch_calls y =
+      both (called_in (shape.expr s y.condition.0)) (uses.in_expr s y.condition.0) (called_in (shape.units Open (map (shape.unit s) (map fst y.units)))) _
+      y.condition.1 (units_call Open y.units)
 
-  case_calls : (y : Below Case-F) → called_in (shape.case_step s (map-Case _ _ _ _ _ _ _ _ _ _ _ _ _ _ (shape.expr s) (shape.limit s) (shape.unit s) (shape.branch s) (shape.case s) (shape.counter s) (shape.item s) (map-Case _ _ _ _ _ _ _ _ _ _ _ _ _ _ fst fst fst fst fst fst fst y))).1 ≡ uses.case_step s (map-Case _ _ _ _ _ _ _ _ _ _ _ _ _ _ (uses.in_expr s) (uses.in_limit s) (uses.in_unit s) (uses.in_branch s) (uses.in_case s) (uses.in_counter s) (uses.in_item s) (map-Case _ _ _ _ _ _ _ _ _ _ _ _ _ _ fst fst fst fst fst fst fst y))
+  case_calls : (y : Below Case-F)
+      → called_in (shape.case_step s
+      (map-Case _ _ _ _ _ _ _ _ _ _ _ _ _ _ (shape.expr s) (shape.limit s) (shape.unit s) (shape.branch s) (shape.case s) (shape.counter s) (shape.item s)
+      (map-Case _ _ _ _ _ _ _ _ _ _ _ _ _ _ fst fst fst fst fst fst fst y))).1
+      ≡ uses.case_step s (map-Case _ _ _ _ _ _ _ _ _ _ _ _ _ _ (uses.in_expr s) (uses.in_limit s) (uses.in_unit s) (uses.in_branch s) (uses.in_case s)
+      (uses.in_counter s) (uses.in_item s) (map-Case _ _ _ _ _ _ _ _ _ _ _ _ _ _ fst fst fst fst fst fst fst y))
   case_calls y = units_call Open y.units
 
   abbrev counter_with : Name → Option ((e : Expr) × E e) → (l : Limit) × L l → Below Counter-F
   counter_with n from l = record { name = n; from = from; limit = l }
 
-  counter_of : (n : Name) (from : Option ((e : Expr) × E e)) (l : (l : Limit) × L l) → called_in (shape.counter_step s (map-Counter _ _ _ _ _ _ _ _ _ _ _ _ _ _ (shape.expr s) (shape.limit s) (shape.unit s) (shape.branch s) (shape.case s) (shape.counter s) (shape.item s) (map-Counter _ _ _ _ _ _ _ _ _ _ _ _ _ _ fst fst fst fst fst fst fst (counter_with n from l)))) ≡ uses.counter_step s (map-Counter _ _ _ _ _ _ _ _ _ _ _ _ _ _ (uses.in_expr s) (uses.in_limit s) (uses.in_unit s) (uses.in_branch s) (uses.in_case s) (uses.in_counter s) (uses.in_item s) (map-Counter _ _ _ _ _ _ _ _ _ _ _ _ _ _ fst fst fst fst fst fst fst (counter_with n from l)))
-  counter_of n None l = three_call _ (form.leaf (form.named Counts n.at s n.text)) absent (shape.limit s l.0).1 [] [] (uses.in_limit s l.0) refl refl refl l.1
-  counter_of n (Some e) l = three_call _ (form.leaf (form.named Counts n.at s n.text)) (shape.expr s e.0) (shape.limit s l.0).1 [] (uses.in_expr s e.0) (uses.in_limit s l.0) refl refl e.1 l.1
+  counter_of : (n : Name) (from : Option ((e : Expr) × E e)) (l : (l : Limit) × L l)
+      → CounterCalls (shape.counter_step s
+      (map-Counter _ _ _ _ _ _ _ _ _ _ _ _ _ _ (shape.expr s) (shape.limit s) (shape.unit s) (shape.branch s) (shape.case s) (shape.counter s) (shape.item s)
+      (map-Counter _ _ _ _ _ _ _ _ _ _ _ _ _ _ fst fst fst fst fst fst fst (counter_with n from l))))
+      (uses.counter_step s (map-Counter _ _ _ _ _ _ _ _ _ _ _ _ _ _ (uses.in_expr s) (uses.in_limit s) (uses.in_unit s) (uses.in_branch s) (uses.in_case s)
+      (uses.in_counter s) (uses.in_item s) (map-Counter _ _ _ _ _ _ _ _ _ _ _ _ _ _ fst fst fst fst fst fst fst (counter_with n from l))))
+  counter_of n None l = (refl, l.1)
+  counter_of n (Some e) l = (refl, both (called_in (shape.expr s e.0)) (uses.in_expr s e.0) (called_in (shape.limit s l.0).1) (uses.in_limit s l.0) e.1 l.1)
 
-  counter_calls : (y : Below Counter-F) → called_in (shape.counter_step s (map-Counter _ _ _ _ _ _ _ _ _ _ _ _ _ _ (shape.expr s) (shape.limit s) (shape.unit s) (shape.branch s) (shape.case s) (shape.counter s) (shape.item s) (map-Counter _ _ _ _ _ _ _ _ _ _ _ _ _ _ fst fst fst fst fst fst fst y))) ≡ uses.counter_step s (map-Counter _ _ _ _ _ _ _ _ _ _ _ _ _ _ (uses.in_expr s) (uses.in_limit s) (uses.in_unit s) (uses.in_branch s) (uses.in_case s) (uses.in_counter s) (uses.in_item s) (map-Counter _ _ _ _ _ _ _ _ _ _ _ _ _ _ fst fst fst fst fst fst fst y))
+  counter_calls : (y : Below Counter-F)
+      → CounterCalls (shape.counter_step s
+      (map-Counter _ _ _ _ _ _ _ _ _ _ _ _ _ _ (shape.expr s) (shape.limit s) (shape.unit s) (shape.branch s) (shape.case s) (shape.counter s) (shape.item s)
+      (map-Counter _ _ _ _ _ _ _ _ _ _ _ _ _ _ fst fst fst fst fst fst fst y)))
+      (uses.counter_step s (map-Counter _ _ _ _ _ _ _ _ _ _ _ _ _ _ (uses.in_expr s) (uses.in_limit s) (uses.in_unit s) (uses.in_branch s) (uses.in_case s)
+      (uses.in_counter s) (uses.in_item s) (map-Counter _ _ _ _ _ _ _ _ _ _ _ _ _ _ fst fst fst fst fst fst fst y)))
   counter_calls y = counter_of y.name y.from y.limit
 
   abbrev item_with : Name → Option ((e : Expr) × E e) → Below Item-F
   item_with n init = record { name = n; init = init }
 
-  item_of : (n : Name) (init : Option ((e : Expr) × E e)) → called_in (shape.item_step s (map-Item _ _ _ _ _ _ _ _ _ _ _ _ _ _ (shape.expr s) (shape.limit s) (shape.unit s) (shape.branch s) (shape.case s) (shape.counter s) (shape.item s) (map-Item _ _ _ _ _ _ _ _ _ _ _ _ _ _ fst fst fst fst fst fst fst (item_with n init)))) ≡ uses.item_step s (map-Item _ _ _ _ _ _ _ _ _ _ _ _ _ _ (uses.in_expr s) (uses.in_limit s) (uses.in_unit s) (uses.in_branch s) (uses.in_case s) (uses.in_counter s) (uses.in_item s) (map-Item _ _ _ _ _ _ _ _ _ _ _ _ _ _ fst fst fst fst fst fst fst (item_with n init)))
+  item_of : (n : Name) (init : Option ((e : Expr) × E e))
+      → called_in (shape.item_step s
+      (map-Item _ _ _ _ _ _ _ _ _ _ _ _ _ _ (shape.expr s) (shape.limit s) (shape.unit s) (shape.branch s) (shape.case s) (shape.counter s) (shape.item s)
+      (map-Item _ _ _ _ _ _ _ _ _ _ _ _ _ _ fst fst fst fst fst fst fst (item_with n init))))
+      ≡ uses.item_step s (map-Item _ _ _ _ _ _ _ _ _ _ _ _ _ _ (uses.in_expr s) (uses.in_limit s) (uses.in_unit s) (uses.in_branch s) (uses.in_case s)
+      (uses.in_counter s) (uses.in_item s) (map-Item _ _ _ _ _ _ _ _ _ _ _ _ _ _ fst fst fst fst fst fst fst (item_with n init)))
   item_of n None = refl
   item_of n (Some e) = two_call (form.initial n.at) (form.leaf (form.declares n.at s n.text)) (shape.expr s e.0) [] (uses.in_expr s e.0) refl refl e.1
 
-  item_calls : (y : Below Item-F) → called_in (shape.item_step s (map-Item _ _ _ _ _ _ _ _ _ _ _ _ _ _ (shape.expr s) (shape.limit s) (shape.unit s) (shape.branch s) (shape.case s) (shape.counter s) (shape.item s) (map-Item _ _ _ _ _ _ _ _ _ _ _ _ _ _ fst fst fst fst fst fst fst y))) ≡ uses.item_step s (map-Item _ _ _ _ _ _ _ _ _ _ _ _ _ _ (uses.in_expr s) (uses.in_limit s) (uses.in_unit s) (uses.in_branch s) (uses.in_case s) (uses.in_counter s) (uses.in_item s) (map-Item _ _ _ _ _ _ _ _ _ _ _ _ _ _ fst fst fst fst fst fst fst y))
+  item_calls : (y : Below Item-F)
+      → called_in (shape.item_step s
+      (map-Item _ _ _ _ _ _ _ _ _ _ _ _ _ _ (shape.expr s) (shape.limit s) (shape.unit s) (shape.branch s) (shape.case s) (shape.counter s) (shape.item s)
+      (map-Item _ _ _ _ _ _ _ _ _ _ _ _ _ _ fst fst fst fst fst fst fst y)))
+      ≡ uses.item_step s (map-Item _ _ _ _ _ _ _ _ _ _ _ _ _ _ (uses.in_expr s) (uses.in_limit s) (uses.in_unit s) (uses.in_branch s) (uses.in_case s)
+      (uses.in_counter s) (uses.in_item s) (map-Item _ _ _ _ _ _ _ _ _ _ _ _ _ _ fst fst fst fst fst fst fst y))
   item_calls y = item_of y.name y.init
 
   -- ---- all of them
@@ -275,7 +386,8 @@ module _ (s : Scope) where
   all_called [] = refl
   all_called (u ∷ us) =
       let rest = map (shape.unit s) us in
-      filled_call (shape.unit s u) rest ∙ both (unit_calls_of (shape.unit s u)) (uses.in_unit s u) (calls (all_of (shape.filled rest))) (uses.in_units s us) (unit_called u) (all_called us)
+      filled_call (shape.unit s u) rest
+      ∙ both (unit_calls_of (shape.unit s u)) (uses.in_unit s u) (calls (all_of (shape.filled rest))) (uses.in_units s us) (unit_called u) (all_called us)
 
   -- the units of a body
   pub units_called : (d : Delivery) (us : List Statement) → called_in (shape.units d (map (shape.unit s) us)) ≡ uses.in_units s us

@@ -9,7 +9,7 @@ use Rattle.elan_scope.specs.declared.delivery.Delivery.TheVariants.{Open, Nothin
 use Rattle.elan_scope.specs.declared.scope.Denotes.{Denotes}
 use Rattle.elan_scope.specs.declared.scope.Denotes.TheVariants as denotes
 use Rattle.elan_meant.specs.declared.meant.Meant.{Meant}
-use Rattle.elan_meant.specs.declared.meant.Meant.TheVariants.{Absent, Variable, Value, Done, Left, Labels, Branches, Arms, Counter, Bodies, Level}
+use Rattle.elan_meant.specs.declared.meant.Meant.TheVariants.{Absent, Variable, Value, Done, Left, Labels, Bodies, Level}
 use Rattle.elan_scope.specs.declared.scope.Usage.{Usage}
 use Rattle.elan_scope.specs.declared.scope.Usage.TheVariants as usage
 use Rattle.elan_scope.specs.Scope.{find, left, refinement_named}
@@ -41,9 +41,6 @@ module _ (kn : Known) where
   kept (Done as') m e = ap (or_last Absent) (sym (gives_is (Done as') m e))
   kept (Left as') m e = ap (or_last Absent) (sym (gives_is (Done as') m e))
   kept (Labels ns) m e = ap (or_last Absent) (sym (gives_is (Labels ns) m e))
-  kept (Branches gs) m e = ap (or_last Absent) (sym (gives_is (Branches gs) m e))
-  kept (Arms ls) m e = ap (or_last Absent) (sym (gives_is (Arms ls) m e))
-  kept (Counter k) m e = ap (or_last Absent) (sym (gives_is (Counter k) m e))
   kept (Bodies bs) m e = absurd cc
   kept (Level us bs) m e = ap (or_last Absent) (sym (gives_is (Level us bs) m e))
 
@@ -67,14 +64,12 @@ module _ (kn : Known) where
   first_delivers (Done as') = refl
   first_delivers (Left as') = refl
   first_delivers (Labels ns) = refl
-  first_delivers (Branches gs) = refl
-  first_delivers (Arms ls) = refl
-  first_delivers (Counter k) = refl
   first_delivers (Bodies bs) = refl
   first_delivers (Level us bs) = refl
 
   -- The last unit of a list that may deliver what it will delivers what the list delivers.
-  last_of_all : (ps : List Phrase) (ms : List Meant) → judged_all kn (all_of (roles Open ps)) ≡ gives ms → Last (last_part (all_of (roles Open ps))) (last_value Absent ms)
+  last_of_all : (ps : List Phrase) (ms : List Meant) → judged_all kn (all_of (roles Open ps)) ≡ gives ms
+      → Last (last_part (all_of (roles Open ps))) (last_value Absent ms)
   last_of_all [] ms h = subst (λ (ks : List Meant). Last None (last_value Absent ks)) (gives_is [] ms h) refl
   last_of_all (p ∷ []) ms h =
       let q = before_gives (judged kn p) (judged_all kn none) ms h in
@@ -94,9 +89,6 @@ module _ (kn : Known) where
   ended_delivers as' (Done bs) = refl
   ended_delivers as' (Left bs) = refl
   ended_delivers as' (Labels ns) = refl
-  ended_delivers as' (Branches gs) = refl
-  ended_delivers as' (Arms ls) = refl
-  ended_delivers as' (Counter k) = refl
   ended_delivers as' (Bodies bs) = refl
   ended_delivers as' (Level us bs) = refl
 
@@ -109,7 +101,8 @@ module _ (kn : Known) where
   last_delivers us m e =
       let b = bind_gives (judged_all kn (all_of (roles Open (filled us)))) (rule kn form.units) m e in
       last_as (last_unit (units Open us)) (last_value Absent b.0) m
-      (ap delivery_of (sym (gives_is (ended (actions_of b.0) (last_value Absent b.0)) m b.2)) ∙ ended_delivers (actions_of b.0) (last_value Absent b.0)) (last_of_all (filled us) b.0 b.1)
+      (ap delivery_of (sym (gives_is (ended (actions_of b.0) (last_value Absent b.0)) m b.2)) ∙ ended_delivers (actions_of b.0) (last_value Absent b.0))
+      (last_of_all (filled us) b.0 b.1)
 
 -- ---- what is known of more
 
@@ -134,31 +127,37 @@ module _ (j k : Known) (below : Below j k) where
         | inr e ↦ gives_is m n (sym h ∙ ap (r.referred at i) e ∙ g)
       ]
 
-  as_referred : (at i : ℕ) (d : Delivery) (a : Bool) (m : Meant) → (if a then breaks (at, WrongPlace) else r.referred at i d) ≡ gives m → r.referred at i d ≡ gives m
+  as_referred : (at i : ℕ) (d : Delivery) (a : Bool) (m : Meant) → (if a then breaks (at, WrongPlace) else r.referred at i d) ≡ gives m
+      → r.referred at i d ≡ gives m
   as_referred at i d true m h = absurd cc
   as_referred at i d false m h = h
 
   refined_same : (at : ℕ) (s : Scope) (o : Option ℕ) (m n : Meant) → r.refined j at s o ≡ gives m → r.refined k at s o ≡ gives n → m ≡ n
   refined_same at s None m n h g = absurd cc
   refined_same at s (Some i) m n h g =
-      referred_same at i m n (as_referred at i (delivery_at j i) (leads_back j i s.refinement) m h) (as_referred at i (delivery_at k i) (leads_back k i s.refinement) n g)
+      referred_same at i m n (as_referred at i (delivery_at j i) (leads_back j i s.refinement) m h)
+      (as_referred at i (delivery_at k i) (leads_back k i s.refinement) n g)
 
   used_same : (u : Usage) (at : ℕ) (s : Scope) (o : Option ℕ) (m n : Meant) → r.refined_as j u at s o ≡ gives m → r.refined_as k u at s o ≡ gives n → m ≡ n
   used_same usage.Expression at s o m n h g = refined_same at s o m n h g
   used_same usage.Counter at s o m n h g = absurd cc
 
-  denoted_same : (u : Usage) (at : ℕ) (s : Scope) (x : List ℕ) (home : Home) (i : ℕ) (d : Denotes) (m n : Meant) → r.denoted j u at s x home i d ≡ gives m → r.denoted k u at s x home i d ≡ gives n → m ≡ n
+  denoted_same : (u : Usage) (at : ℕ) (s : Scope) (x : List ℕ) (home : Home) (i : ℕ) (d : Denotes) (m n : Meant) → r.denoted j u at s x home i d ≡ gives m
+      → r.denoted k u at s x home i d ≡ gives n → m ≡ n
   denoted_same u at s x home i (denotes.Variable t) m n h g = gives_is m n (sym h ∙ g)
   denoted_same u at s x home i (denotes.Constant t) m n h g = gives_is m n (sym h ∙ g)
   denoted_same u at s x home i (denotes.Parameter p) m n h g = gives_is m n (sym h ∙ g)
   denoted_same u at s x home i denotes.Procedure m n h g = gives_is m n (sym h ∙ g)
   denoted_same u at s x home i denotes.Refinement m n h g = used_same u at s (refinement_named s x) m n h g
 
-  named_same : (u : Usage) (at : ℕ) (s : Scope) (x : List ℕ) (o : Option Found) (m n : Meant) → r.named j u at s x o ≡ gives m → r.named k u at s x o ≡ gives n → m ≡ n
+  named_same : (u : Usage) (at : ℕ) (s : Scope) (x : List ℕ) (o : Option Found) (m n : Meant) → r.named j u at s x o ≡ gives m → r.named k u at s x o ≡ gives n
+      → m ≡ n
   named_same u at s x None m n h g = gives_is m n (sym h ∙ g)
   named_same u at s x (Some f) m n h g = denoted_same u at s x f.home f.number f.denotes m n h g
 
-  left_by : (at : ℕ) (e : Exit) (v : Meant) (a b : Bool) (m n : Meant) → (if a then gives (Left (action.Unit (r.leave_of e v ∷ []) ∷ [])) else breaks (at, WrongType)) ≡ gives m → (if b then gives (Left (action.Unit (r.leave_of e v ∷ []) ∷ [])) else breaks (at, WrongType)) ≡ gives n → m ≡ n
+  left_by : (at : ℕ) (e : Exit) (v : Meant) (a b : Bool) (m n : Meant)
+      → (if a then gives (Left (action.Unit (r.leave_of e v ∷ []) ∷ [])) else breaks (at, WrongType)) ≡ gives m
+      → (if b then gives (Left (action.Unit (r.leave_of e v ∷ []) ∷ [])) else breaks (at, WrongType)) ≡ gives n → m ≡ n
   left_by at e v true true m n h g = gives_is m n (sym h ∙ g)
   left_by at e v true false m n h g = absurd cc
   left_by at e v false b m n h g = absurd cc
@@ -167,7 +166,8 @@ module _ (j k : Known) (below : Below j k) where
   leaving_same at None v m n h g = absurd cc
   leaving_same at (Some e) v m n h g = left_by at e.0 v (r.agrees (delivery_at j e.1) v) (r.agrees (delivery_at k e.1) v) m n h g
 
-  leave_same : (at : ℕ) (o : Option (Exit × ℕ)) (q : Option Meant) (m n : Meant) → on_one q (r.leaving j at o) ≡ gives m → on_one q (r.leaving k at o) ≡ gives n → m ≡ n
+  leave_same : (at : ℕ) (o : Option (Exit × ℕ)) (q : Option Meant) (m n : Meant) → on_one q (r.leaving j at o) ≡ gives m → on_one q (r.leaving k at o) ≡ gives n
+      → m ≡ n
   leave_same at o None m n h g = absurd cc
   leave_same at o (Some v) m n h g = leaving_same at o v m n h g
 
@@ -181,23 +181,19 @@ module _ (j k : Known) (below : Below j k) where
   rule_same (form.bracket a0) ms m n h i = gives_is m n (sym h ∙ i)
   rule_same (form.cand a0) ms m n h i = gives_is m n (sym h ∙ i)
   rule_same (form.cor a0) ms m n h i = gives_is m n (sym h ∙ i)
-  rule_same form.branch ms m n h i = gives_is m n (sym h ∙ i)
-  rule_same form.branches ms m n h i = gives_is m n (sym h ∙ i)
   rule_same (form.choice a0) ms m n h i = gives_is m n (sym h ∙ i)
   rule_same (form.label a0 a1 a2) ms m n h i = gives_is m n (sym h ∙ i)
   rule_same (form.label_name a0 a1 a2) ms m n h i = gives_is m n (sym h ∙ i)
   rule_same form.labels ms m n h i = gives_is m n (sym h ∙ i)
-  rule_same form.arm ms m n h i = gives_is m n (sym h ∙ i)
-  rule_same form.arms ms m n h i = gives_is m n (sym h ∙ i)
-  rule_same (form.selection a0) ms m n h i = gives_is m n (sym h ∙ i)
+  rule_same (form.selection a0) [] m n h i = absurd cc
+  rule_same (form.selection a0) (v ∷ ms) m n h i = gives_is m n (sym h ∙ i)
   rule_same (form.declares a0 a1 a2) ms m n h i = gives_is m n (sym h ∙ i)
-  rule_same form.item ms m n h i = gives_is m n (sym h ∙ i)
   rule_same (form.initial a0) ms m n h i = gives_is m n (sym h ∙ i)
   rule_same (form.declaration a0) ms m n h i = gives_is m n (sym h ∙ i)
   rule_same form.statement ms m n h i = gives_is m n (sym h ∙ i)
   rule_same (form.assignment a0 s0) ms m n h i = gives_is m n (sym h ∙ i)
-  rule_same (form.counter a0) ms m n h i = gives_is m n (sym h ∙ i)
   rule_same (form.loop a0) ms m n h i = gives_is m n (sym h ∙ i)
+  rule_same (form.count a0 a1) ms m n h i = gives_is m n (sym h ∙ i)
   rule_same (form.leave a0 a1 a2) ms m n h i = leave_same a0 (left a1 a2) (one_of ms) m n h i
   rule_same form.without_value ms m n h i = gives_is m n (sym h ∙ i)
   rule_same (form.must_deliver a0 a1) ms m n h i = gives_is m n (sym h ∙ i)

@@ -8,7 +8,7 @@ use Rattle.elan_tree.specs.declared.tree.LevelUnit.TheVariants as level
 use Rattle.elan_scope.specs.declared.heading.Sort.TheVariants.{Procedure, Operator}
 use Rattle.elan_scope.specs.declared.heading.Heading.{Heading}
 use Rattle.elan_meant.specs.declared.meant.Meant.{Meant}
-use Rattle.elan_meant.specs.declared.meant.Meant.TheVariants.{Absent, Variable, Value, Done, Left, Labels, Branches, Arms, Counter, Bodies, Level}
+use Rattle.elan_meant.specs.declared.meant.Meant.TheVariants.{Absent, Variable, Value, Done, Left, Labels, Bodies, Level}
 use Rattle.elan_scope.specs.declared.scope.Scope.{Scope}
 use Rattle.elan_levels.specs.Bodies as b
 use Rattle.elan_levels.specs.Bodies.{headings, level_names}
@@ -70,9 +70,6 @@ module _ (kn : Known) (s : Scope) (all : List Body) where
   no_bodies (Done as') m e = ap u.bodies_in (sym (gives_is (Done as') m e))
   no_bodies (Left as') m e = ap u.bodies_in (sym (gives_is (Done as') m e))
   no_bodies (Labels ns) m e = ap u.bodies_in (sym (gives_is (Labels ns) m e))
-  no_bodies (Branches gs) m e = ap u.bodies_in (sym (gives_is (Branches gs) m e))
-  no_bodies (Arms ls) m e = ap u.bodies_in (sym (gives_is (Arms ls) m e))
-  no_bodies (Counter c) m e = ap u.bodies_in (sym (gives_is (Counter c) m e))
   no_bodies (Bodies bs) m e = absurd cc
   no_bodies (Level us bs) m e = ap u.bodies_in (sym (gives_is (Level us bs) m e))
 

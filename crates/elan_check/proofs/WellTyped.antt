@@ -27,7 +27,7 @@ use Rattle.elan_scope.specs.declared.heading.What.{What}
 use Rattle.elan_scope.specs.declared.heading.What.TheVariants.{Routine, Refinement}
 use Rattle.elan_scope.specs.declared.heading.Heading.{Heading}
 use Rattle.elan_meant.specs.declared.meant.Meant.{Meant}
-use Rattle.elan_meant.specs.declared.meant.Meant.TheVariants.{Absent, Variable, Value, Done, Left, Labels, Branches, Arms, Counter, Bodies, Level}
+use Rattle.elan_meant.specs.declared.meant.Meant.TheVariants.{Absent, Variable, Value, Done, Left, Labels, Bodies, Level}
 use Rattle.elan_scope.specs.Scope.{number_of, all_held, or_else, variables_of}
 use Rattle.elan_scope.specs.declared.scope.Scope.{Scope}
 use Rattle.elan_scope.specs.declared.scope.Within.{Within}
@@ -79,9 +79,6 @@ content_delivers (Value at t v) c e = ap result_of_content e
 content_delivers (Done as') c e = ap result_of_content e
 content_delivers (Left as') c e = ap result_of_content e
 content_delivers (Labels ns) c e = ap result_of_content e
-content_delivers (Branches gs) c e = ap result_of_content e
-content_delivers (Arms ls) c e = ap result_of_content e
-content_delivers (Counter k) c e = ap result_of_content e
 content_delivers (Bodies bs) c e = ap result_of_content e
 content_delivers (Level us bs) c e = ap result_of_content e
 

@@ -62,14 +62,20 @@ module _ (s : Scope) where
   abbrev U : Statement → Type 0
   U u = MayIn (shape.unit s u)
 
+  abbrev PairIn : Phrase × Phrase → Type 0
+  PairIn p = InScope p.0 × InScope p.1
+
   abbrev B : Branch → Type 0
-  B b = InScope (shape.branch s b)
+  B b = PairIn (shape.branch s b)
 
   abbrev C : Case → Type 0
   C c = InScope (shape.case s c).1
 
+  abbrev CounterIn : shape.Counted → Type 0
+  CounterIn k = InScope k.0 × InScope k.1 × InScope k.2
+
   abbrev K : Counter → Type 0
-  K k = InScope (shape.counter s k)
+  K k = CounterIn (shape.counter s k)
 
   abbrev I : Item → Type 0
   I i = InScope (shape.item s i)
@@ -80,9 +86,14 @@ module _ (s : Scope) where
   exprs_in [] = tt
   exprs_in (e ∷ es) = (e.1, exprs_in es)
 
-  branches_in : (bs : List ((b : Branch) × B b)) → AllIn (all_of (map (shape.branch s) (map fst bs)))
+  -- parts, and behind them those that may be left out
+  append_in : (ps qs : List Phrase) → AllIn (all_of ps) → AllIn (all_of qs) → AllIn (all_of (ps ++ qs))
+  append_in [] qs h g = g
+  append_in (p ∷ ps) qs h g = (h.0, append_in ps qs h.1 g)
+
+  branches_in : (bs : List ((b : Branch) × B b)) → AllIn (all_of (shape.branches (map (shape.branch s) (map fst bs))))
   branches_in [] = tt
-  branches_in (b ∷ bs) = (b.1, branches_in bs)
+  branches_in (b ∷ bs) = (b.1.0, (b.1.1, branches_in bs))
 
   items_in : (is : List ((i : Item) × I i)) → AllIn (all_of (map (shape.item s) (map fst is)))
   items_in [] = tt
@@ -122,18 +133,21 @@ module _ (s : Scope) where
   labels_in ns (label.Number at n ∷ ls) = ((tt, tt), labels_in (ns ++ n ∷ []) ls)
   labels_in ns (label.Named n ∷ ls) = ((tt, tt), labels_in (ns ++ []) ls)
 
-  arms_in : (ns : List ℤ) (cs : List ((c : Case) × C c)) → AllIn (all_of (shape.arm_phrases s ns (map (shape.case s) (map fst cs))))
+  arms_in : (ns : List ℤ) (cs : List ((c : Case) × C c)) → AllIn (all_of (shape.arms s ns (map (shape.case s) (map fst cs))))
   arms_in ns [] = tt
   arms_in ns (c ∷ cs) =
       let ls = (shape.case s c.0).0 in
-      ((tt, ((tt, labels_in ns ls), (c.1, tt))), arms_in (ns ++ shape.numbers ls) cs)
+      ((tt, labels_in ns ls), (c.1, arms_in (ns ++ shape.numbers ls) cs))
 
   -- ---- one layer
 
   abbrev Below : (Type 0 → Type 0 → Type 0 → Type 0 → Type 0 → Type 0 → Type 0 → Type 0) → Type 0
   Below F = F ((e : Expr) × E e) ((l : Limit) × L l) ((u : Statement) × U u) ((b : Branch) × B b) ((c : Case) × C c) ((k : Counter) × K k) ((i : Item) × I i)
 
-  expr_in : (y : Below Expr-F) → InScope (shape.expr_step s (map-Expr _ _ _ _ _ _ _ _ _ _ _ _ _ _ (shape.expr s) (shape.limit s) (shape.unit s) (shape.branch s) (shape.case s) (shape.counter s) (shape.item s) (map-Expr _ _ _ _ _ _ _ _ _ _ _ _ _ _ fst fst fst fst fst fst fst y)))
+  expr_in : (y : Below Expr-F)
+      → InScope (shape.expr_step s
+      (map-Expr _ _ _ _ _ _ _ _ _ _ _ _ _ _ (shape.expr s) (shape.limit s) (shape.unit s) (shape.branch s) (shape.case s) (shape.counter s) (shape.item s)
+      (map-Expr _ _ _ _ _ _ _ _ _ _ _ _ _ _ fst fst fst fst fst fst fst y)))
   expr_in (t.Number at n) = (tt, tt)
   expr_in (t.Text at x) = (tt, tt)
   expr_in (t.Truth at b) = (tt, tt)
@@ -142,10 +156,23 @@ module _ (s : Scope) where
   expr_in (t.Procedure at n) = (tt, tt)
   expr_in (t.Concr at a) = (tt, tt)
   expr_in (t.Bracket at a) = (tt, (a.1, tt))
-  expr_in (t.If at branches None) = (tt, ((tt, branches_in branches), ((tt, tt), tt)))
-  expr_in (t.If at branches (Some us)) = (tt, ((tt, branches_in branches), (units_in Open us, tt)))
-  expr_in (t.Select at of cases None) = (tt, (of.1, ((tt, arms_in [] cases), ((tt, tt), tt))))
-  expr_in (t.Select at of cases (Some us)) = (tt, (of.1, ((tt, arms_in [] cases), (units_in Open us, tt))))
+  expr_in (t.If at branches None) =
+      (tt, append_in (shape.branches (map (shape.branch s) (map fst branches))) (form.leaf form.absent ∷ []) (branches_in branches) ((tt, tt), tt))
+  expr_in (t.If at branches (Some us)) = (
+    tt,
+    append_in (shape.branches (map (shape.branch s) (map fst branches))) (shape.units Open (map (shape.unit s) (map fst us)) ∷ []) (branches_in branches)
+        (units_in Open us, tt),
+  )
+  expr_in (t.Select at of cases None) =
+      (tt, (of.1, append_in (shape.arms s [] (map (shape.case s) (map fst cases))) (form.leaf form.absent ∷ []) (arms_in [] cases) ((tt, tt), tt)))
+  expr_in (t.Select at of cases (Some us)) = (
+    tt,
+    (
+      of.1,
+      append_in (shape.arms s [] (map (shape.case s) (map fst cases))) (shape.units Open (map (shape.unit s) (map fst us)) ∷ []) (arms_in [] cases)
+          (units_in Open us, tt),
+    ),
+  )
   expr_in (t.Index at of index) = (tt, tt)
   expr_in (t.Field at of field) = (tt, tt)
   expr_in (t.Monadic at o a) = (refl, (a.1, tt))
@@ -153,7 +180,10 @@ module _ (s : Scope) where
   expr_in (t.Cand at a b) = (tt, (a.1, (b.1, tt)))
   expr_in (t.Cor at a b) = (tt, (a.1, (b.1, tt)))
 
-  limit_in : (y : Below Limit-F) → InScope (shape.limit_step s (map-Limit _ _ _ _ _ _ _ _ _ _ _ _ _ _ (shape.expr s) (shape.limit s) (shape.unit s) (shape.branch s) (shape.case s) (shape.counter s) (shape.item s) (map-Limit _ _ _ _ _ _ _ _ _ _ _ _ _ _ fst fst fst fst fst fst fst y))).1
+  limit_in : (y : Below Limit-F)
+      → InScope (shape.limit_step s
+      (map-Limit _ _ _ _ _ _ _ _ _ _ _ _ _ _ (shape.expr s) (shape.limit s) (shape.unit s) (shape.branch s) (shape.case s) (shape.counter s) (shape.item s)
+      (map-Limit _ _ _ _ _ _ _ _ _ _ _ _ _ _ fst fst fst fst fst fst fst y))).1
   limit_in t.Without = (tt, tt)
   limit_in (t.Upto a) = a.1
   limit_in (t.Downto a) = a.1
@@ -161,10 +191,19 @@ module _ (s : Scope) where
   abbrev absent : Phrase
   absent = form.leaf form.absent
 
-  loop_in : (at : ℕ) (k c : Phrase) (us : List ((u : Statement) × U u)) (v : Phrase) → InScope k → InScope c → InScope v → InScope (phrase (form.loop at) (part k (part c (part (shape.units Nothing (map (shape.unit s) (map fst us))) (part v none)))))
-  loop_in at k c us v hk hc hv = (tt, (hk, (hc, (units_in Nothing us, (hv, tt)))))
+  abbrev MayCount : Option shape.Counted → Type 0
+  MayCount None = Unit {0}
+  MayCount (Some k) = CounterIn k
 
-  unit_in_layer : (y : Below Unit-F) → MayIn (shape.unit_step s (map-Unit _ _ _ _ _ _ _ _ _ _ _ _ _ _ (shape.expr s) (shape.limit s) (shape.unit s) (shape.branch s) (shape.case s) (shape.counter s) (shape.item s) (map-Unit _ _ _ _ _ _ _ _ _ _ _ _ _ _ fst fst fst fst fst fst fst y)))
+  loop_in : (at : ℕ) (k : Option shape.Counted) (c : Phrase) (us : List ((u : Statement) × U u)) (v : Phrase) → MayCount k → InScope c → InScope v
+      → InScope (shape.loop at k c (shape.units Nothing (map (shape.unit s) (map fst us))) v)
+  loop_in at None c us v hk hc hv = (tt, (hc, (units_in Nothing us, (hv, tt))))
+  loop_in at (Some k) c us v hk hc hv = (tt, (hk.0, (hk.1, (hk.2, (hc, (units_in Nothing us, (hv, tt)))))))
+
+  unit_in_layer : (y : Below Unit-F)
+      → MayIn (shape.unit_step s
+      (map-Unit _ _ _ _ _ _ _ _ _ _ _ _ _ _ (shape.expr s) (shape.limit s) (shape.unit s) (shape.branch s) (shape.case s) (shape.counter s) (shape.item s)
+      (map-Unit _ _ _ _ _ _ _ _ _ _ _ _ _ _ fst fst fst fst fst fst fst y)))
   unit_in_layer t.Empty = tt
   unit_in_layer (t.Let at items) = (tt, tt)
   unit_in_layer (t.Variables at of items) = (tt, items_in items)
@@ -172,41 +211,59 @@ module _ (s : Scope) where
   unit_in_layer (t.Bound at of items) = (tt, tt)
   unit_in_layer (t.Value a) = (tt, (a.1, tt))
   unit_in_layer (t.Becomes at a b) = (refl, (a.1, (b.1, tt)))
-  unit_in_layer (t.Loop at None None us None) = loop_in at absent absent us absent (tt, tt) (tt, tt) (tt, tt)
-  unit_in_layer (t.Loop at None None us (Some v)) = loop_in at absent absent us (shape.expr s v.0) (tt, tt) (tt, tt) v.1
-  unit_in_layer (t.Loop at None (Some c) us None) = loop_in at absent (shape.expr s c.0) us absent (tt, tt) c.1 (tt, tt)
-  unit_in_layer (t.Loop at None (Some c) us (Some v)) = loop_in at absent (shape.expr s c.0) us (shape.expr s v.0) (tt, tt) c.1 v.1
-  unit_in_layer (t.Loop at (Some k) None us None) = loop_in at (shape.counter s k.0) absent us absent k.1 (tt, tt) (tt, tt)
-  unit_in_layer (t.Loop at (Some k) None us (Some v)) = loop_in at (shape.counter s k.0) absent us (shape.expr s v.0) k.1 (tt, tt) v.1
-  unit_in_layer (t.Loop at (Some k) (Some c) us None) = loop_in at (shape.counter s k.0) (shape.expr s c.0) us absent k.1 c.1 (tt, tt)
-  unit_in_layer (t.Loop at (Some k) (Some c) us (Some v)) = loop_in at (shape.counter s k.0) (shape.expr s c.0) us (shape.expr s v.0) k.1 c.1 v.1
+  unit_in_layer (t.Loop at None None us None) = loop_in at None absent us absent tt (tt, tt) (tt, tt)
+  unit_in_layer (t.Loop at None None us (Some v)) = loop_in at None absent us (shape.expr s v.0) tt (tt, tt) v.1
+  unit_in_layer (t.Loop at None (Some c) us None) = loop_in at None (shape.expr s c.0) us absent tt c.1 (tt, tt)
+  unit_in_layer (t.Loop at None (Some c) us (Some v)) = loop_in at None (shape.expr s c.0) us (shape.expr s v.0) tt c.1 v.1
+  unit_in_layer (t.Loop at (Some k) None us None) = loop_in at (Some (shape.counter s k.0)) absent us absent k.1 (tt, tt) (tt, tt)
+  unit_in_layer (t.Loop at (Some k) None us (Some v)) = loop_in at (Some (shape.counter s k.0)) absent us (shape.expr s v.0) k.1 (tt, tt) v.1
+  unit_in_layer (t.Loop at (Some k) (Some c) us None) = loop_in at (Some (shape.counter s k.0)) (shape.expr s c.0) us absent k.1 c.1 (tt, tt)
+  unit_in_layer (t.Loop at (Some k) (Some c) us (Some v)) = loop_in at (Some (shape.counter s k.0)) (shape.expr s c.0) us (shape.expr s v.0) k.1 c.1 v.1
   unit_in_layer (t.Leave at n None) = (refl, ((tt, tt), tt))
   unit_in_layer (t.Leave at n (Some v)) = (refl, (v.1, tt))
 
-  branch_in : (y : Below Branch-F) → InScope (shape.branch_step s (map-Branch _ _ _ _ _ _ _ _ _ _ _ _ _ _ (shape.expr s) (shape.limit s) (shape.unit s) (shape.branch s) (shape.case s) (shape.counter s) (shape.item s) (map-Branch _ _ _ _ _ _ _ _ _ _ _ _ _ _ fst fst fst fst fst fst fst y)))
-  branch_in y = (tt, (y.condition.1, (units_in Open y.units, tt)))
+  branch_in : (y : Below Branch-F)
+      → PairIn (shape.branch_step s
+      (map-Branch _ _ _ _ _ _ _ _ _ _ _ _ _ _ (shape.expr s) (shape.limit s) (shape.unit s) (shape.branch s) (shape.case s) (shape.counter s) (shape.item s)
+      (map-Branch _ _ _ _ _ _ _ _ _ _ _ _ _ _ fst fst fst fst fst fst fst y)))
+  branch_in y = (y.condition.1, units_in Open y.units)
 
-  case_in : (y : Below Case-F) → InScope (shape.case_step s (map-Case _ _ _ _ _ _ _ _ _ _ _ _ _ _ (shape.expr s) (shape.limit s) (shape.unit s) (shape.branch s) (shape.case s) (shape.counter s) (shape.item s) (map-Case _ _ _ _ _ _ _ _ _ _ _ _ _ _ fst fst fst fst fst fst fst y))).1
+  case_in : (y : Below Case-F)
+      → InScope (shape.case_step s
+      (map-Case _ _ _ _ _ _ _ _ _ _ _ _ _ _ (shape.expr s) (shape.limit s) (shape.unit s) (shape.branch s) (shape.case s) (shape.counter s) (shape.item s)
+      (map-Case _ _ _ _ _ _ _ _ _ _ _ _ _ _ fst fst fst fst fst fst fst y))).1
   case_in y = units_in Open y.units
 
   abbrev counter_with : Name → Option ((e : Expr) × E e) → (l : Limit) × L l → Below Counter-F
   counter_with n from l = record { name = n; from = from; limit = l }
 
-  counter_of : (n : Name) (from : Option ((e : Expr) × E e)) (l : (l : Limit) × L l) → InScope (shape.counter_step s (map-Counter _ _ _ _ _ _ _ _ _ _ _ _ _ _ (shape.expr s) (shape.limit s) (shape.unit s) (shape.branch s) (shape.case s) (shape.counter s) (shape.item s) (map-Counter _ _ _ _ _ _ _ _ _ _ _ _ _ _ fst fst fst fst fst fst fst (counter_with n from l))))
-  counter_of n None l = (tt, ((refl, tt), ((tt, tt), (l.1, tt))))
-  counter_of n (Some e) l = (tt, ((refl, tt), (e.1, (l.1, tt))))
+  counter_of : (n : Name) (from : Option ((e : Expr) × E e)) (l : (l : Limit) × L l)
+      → CounterIn (shape.counter_step s
+      (map-Counter _ _ _ _ _ _ _ _ _ _ _ _ _ _ (shape.expr s) (shape.limit s) (shape.unit s) (shape.branch s) (shape.case s) (shape.counter s) (shape.item s)
+      (map-Counter _ _ _ _ _ _ _ _ _ _ _ _ _ _ fst fst fst fst fst fst fst (counter_with n from l))))
+  counter_of n None l = ((refl, tt), (tt, tt), l.1)
+  counter_of n (Some e) l = ((refl, tt), e.1, l.1)
 
-  counter_in : (y : Below Counter-F) → InScope (shape.counter_step s (map-Counter _ _ _ _ _ _ _ _ _ _ _ _ _ _ (shape.expr s) (shape.limit s) (shape.unit s) (shape.branch s) (shape.case s) (shape.counter s) (shape.item s) (map-Counter _ _ _ _ _ _ _ _ _ _ _ _ _ _ fst fst fst fst fst fst fst y)))
+  counter_in : (y : Below Counter-F)
+      → CounterIn (shape.counter_step s
+      (map-Counter _ _ _ _ _ _ _ _ _ _ _ _ _ _ (shape.expr s) (shape.limit s) (shape.unit s) (shape.branch s) (shape.case s) (shape.counter s) (shape.item s)
+      (map-Counter _ _ _ _ _ _ _ _ _ _ _ _ _ _ fst fst fst fst fst fst fst y)))
   counter_in y = counter_of y.name y.from y.limit
 
   abbrev item_with : Name → Option ((e : Expr) × E e) → Below Item-F
   item_with n init = record { name = n; init = init }
 
-  item_of : (n : Name) (init : Option ((e : Expr) × E e)) → InScope (shape.item_step s (map-Item _ _ _ _ _ _ _ _ _ _ _ _ _ _ (shape.expr s) (shape.limit s) (shape.unit s) (shape.branch s) (shape.case s) (shape.counter s) (shape.item s) (map-Item _ _ _ _ _ _ _ _ _ _ _ _ _ _ fst fst fst fst fst fst fst (item_with n init))))
-  item_of n None = (tt, ((refl, tt), tt))
+  item_of : (n : Name) (init : Option ((e : Expr) × E e))
+      → InScope (shape.item_step s
+      (map-Item _ _ _ _ _ _ _ _ _ _ _ _ _ _ (shape.expr s) (shape.limit s) (shape.unit s) (shape.branch s) (shape.case s) (shape.counter s) (shape.item s)
+      (map-Item _ _ _ _ _ _ _ _ _ _ _ _ _ _ fst fst fst fst fst fst fst (item_with n init))))
+  item_of n None = (refl, tt)
   item_of n (Some e) = (tt, ((refl, tt), (e.1, tt)))
 
-  item_in : (y : Below Item-F) → InScope (shape.item_step s (map-Item _ _ _ _ _ _ _ _ _ _ _ _ _ _ (shape.expr s) (shape.limit s) (shape.unit s) (shape.branch s) (shape.case s) (shape.counter s) (shape.item s) (map-Item _ _ _ _ _ _ _ _ _ _ _ _ _ _ fst fst fst fst fst fst fst y)))
+  item_in : (y : Below Item-F)
+      → InScope (shape.item_step s
+      (map-Item _ _ _ _ _ _ _ _ _ _ _ _ _ _ (shape.expr s) (shape.limit s) (shape.unit s) (shape.branch s) (shape.case s) (shape.counter s) (shape.item s)
+      (map-Item _ _ _ _ _ _ _ _ _ _ _ _ _ _ fst fst fst fst fst fst fst y)))
   item_in y = item_of y.name y.init
 
   -- ---- all of them

@@ -3,8 +3,8 @@ use Rattle.std.proofs.Common.{◌≡◌, ℤ, List, [], ◌∷◌, ◌++◌, map
 use Rattle.std.proofs.lemmas.List.{append-nil, take_all, map_more, at_drop_all}
 use Rattle.std.proofs.lemmas.Result.{err_from_is_err_and}
 use Rattle.elan_tree.specs.declared.phrase.Unit.{Unit as Statement}
-use Rattle.elan_tree.specs.declared.phrase.Case.{Case, rolls-Case'}
-use Rattle.elan_tree.specs.declared.phrase.Expr.TheFolds.{fold-roll-Case}
+use Rattle.elan_tree.specs.declared.phrase.Branch.{Branch}
+use Rattle.elan_tree.specs.declared.phrase.Case.{Case}
 use Rattle.elan_tree.specs.declared.written_type.Label.{Label}
 use Rattle.elan_scope.specs.declared.known.Known.{Known}
 use Rattle.elan_meant.specs.declared.meant.Meant.{Meant}
@@ -18,12 +18,18 @@ use Rattle.elan_rules.specs.Meaning.{judged, judged_all}
 use Rattle.elan_scope.specs.declared.delivery.Delivery.{Delivery}
 use Rattle.elan_scope.specs.declared.delivery.Delivery.TheVariants.{Nothing}
 use Rattle.elan_scope.specs.Phrase.{Form, Phrase, phrase, Parts, none, part, around, all_of}
-use Rattle.elan_scope.specs.Ruled.{Ruled, gives, breaks, hangs, ◌>>=◌, before, joined}
+use Rattle.elan_scope.specs.Ruled.{Ruled, gives, breaks, hangs, ◌>>=◌, before, beside, joined}
 use Rattle.elan_rules.specs.Rules.{rule}
 use Rattle.elan_meant.proofs.Beside.{before_joined, single_joined}
-use Rattle.elan_judge.specs.Shape.{written, unit, case, role, roles, filled, is_empty, all_empty, asked, in_role, numbers, arm_phrase, arm_phrases}
+use Rattle.elan_judge.specs.Shape.{written, unit, branch, case, role, roles, filled, is_empty, all_empty, asked, in_role, numbers, branches, arms}
+use Rattle.elan_judge.proofs.Shapes.{case_labels}
 
 -- ---- what a function hands on
+
+pub fails_is : {A : Type 0} (out : Result A Trouble) (d : Trouble) (r : Ruled A) → IsErr out × IsErrAnd out (λ e. e ≡ d) → Fails d r → Is out r
+fails_is {A} out d r e h =
+    let given = err_from_is_err_and out e.1 in
+    subst (λ (o : Result A Trouble). Is o r) (sym given.1) (subst (λ (b : Trouble). Fails b r) (sym given.2) h)
 
 -- ---- a phrase, by what its parts mean
 
@@ -36,10 +42,21 @@ module _ (k : Known) (f : Form) (ps : Parts) where
   pub whole_fails : (d : Trouble) → Fails d (judged_all k ps) → Fails d (judged k (phrase f ps))
   whole_fails d h = bind_fails d (judged_all k ps) (rule k f) h
 
+  pub whole_ends : (out : Result Meant Trouble) (d : Trouble) → IsErr out × IsErrAnd out (λ e. e ≡ d) → Fails d (judged_all k ps)
+      → Is out (judged k (phrase f ps))
+  whole_ends out d e h = fails_is out d (judged k (phrase f ps)) e (whole_fails d h)
+
   pub whole_is : (out : Result Meant Trouble) (ms : List Meant) → judged_all k ps ≡ gives ms → Is out (rule k f ms) → Is out (judged k (phrase f ps))
   whole_is out ms e h = subst (λ (z : Ruled (List Meant)). Is out (z >>= rule k f)) (sym e) h
 
+alone_fails : (d : Trouble) (r : Ruled Meant) → Fails d r → Fails d (before r (gives []))
+alone_fails NoMemory r h = tt
+alone_fails (Breaks at why) r h = ap (λ z. before z (gives [])) h
+alone_fails Hangs r h = ap (λ z. before z (gives [])) h
+
 module _ (k : Known) (f : Form) (p : Phrase) where
+  pub one_fails : (d : Trouble) → Fails d (judged k p) → Fails d (judged k (around f p))
+  one_fails d h = whole_fails k f (part p none) d (alone_fails d (judged k p) h)
 
   pub one_is : (out : Result Meant Trouble) (m : Meant) → judged k p ≡ gives m → Is out (rule k f (m ∷ [])) → Is out (judged k (around f p))
   one_is out m e h = subst (λ (z : Ruled Meant). Is out (before z (gives []) >>= rule k f)) (sym e) h
@@ -51,14 +68,33 @@ module _ (k : Known) where
   row_push [] p = single_joined (judged k p)
   row_push (q ∷ ps) p = ap (before (judged k q)) (row_push ps p) ∙ before_joined (judged k q) (judged_all k (all_of ps)) (judged k p)
 
-  pub row_is : (q : Result (List Meant) Trouble) (ps : List Phrase) (p : Phrase) → Is q (joined (judged_all k (all_of ps)) (judged k p)) → Is q (judged_all k (all_of (ps ++ p ∷ [])))
+  pub row_is : (q : Result (List Meant) Trouble) (ps : List Phrase) (p : Phrase) → Is q (joined (judged_all k (all_of ps)) (judged k p))
+      → Is q (judged_all k (all_of (ps ++ p ∷ [])))
   row_is q ps p h = subst (λ (z : Ruled (List Meant)). Is q z) (sym (row_push ps p)) h
+
+  -- two and three phrases more
+  pub two_more : (q r : Result (List Meant) Trouble) (done : List Phrase) (x y : Phrase) → Is q (joined (judged_all k (all_of done)) (judged k x)) →
+      ((rs : Ruled (List Meant)) → Is q rs → Is r (joined rs (judged k y))) → Is r (judged_all k (all_of (done ++ x ∷ y ∷ [])))
+  two_more q r done x y h g =
+      let first = row_is q done x h in
+      subst (λ (ps : List Phrase). Is r (judged_all k (all_of ps))) (append_assoc done (x ∷ []) (y ∷ []))
+      (row_is r (done ++ x ∷ []) y (g (judged_all k (all_of (done ++ x ∷ []))) first))
+
+  pub three_more : (q r o : Result (List Meant) Trouble) (done : List Phrase) (x y z : Phrase) → Is q (joined (judged_all k (all_of done)) (judged k x)) →
+      ((rs : Ruled (List Meant)) → Is q rs → Is r (joined rs (judged k y))) → ((rs : Ruled (List Meant)) → Is r rs → Is o (joined rs (judged k z))) →
+      Is o (judged_all k (all_of (done ++ x ∷ y ∷ z ∷ [])))
+  three_more q r o done x y z h g i =
+      let first = two_more q r done x y h g in
+      subst (λ (ps : List Phrase). Is o (judged_all k (all_of ps))) (append_assoc done (x ∷ y ∷ []) (z ∷ []))
+      (row_is o (done ++ x ∷ y ∷ []) z (i (judged_all k (all_of (done ++ x ∷ y ∷ []))) first))
 
   -- ---- a row of phrases, one for each element
 
-  pub row_goes : {X : Type 0} (f : X → Phrase) (xs : List X) (i : ℕ) (x : X) (q : Result (List Meant) Trouble) → i < length xs → x ≡ get_or xs i x → Is q (joined (judged_all k (all_of (map f (take i xs)))) (judged k (f x))) → Is q (judged_all k (all_of (map f (take (i + 1) xs))))
+  pub row_goes : {X : Type 0} (f : X → Phrase) (xs : List X) (i : ℕ) (x : X) (q : Result (List Meant) Trouble) → i < length xs → x ≡ get_or xs i x
+      → Is q (joined (judged_all k (all_of (map f (take i xs)))) (judged k (f x))) → Is q (judged_all k (all_of (map f (take (i + 1) xs))))
   row_goes f xs i x q lt e h =
-      subst (λ (ps : List Phrase). Is q (judged_all k (all_of ps))) (sym (map_more f xs i x lt ∙ ap (λ y. map f (take i xs) ++ f y ∷ []) (sym e))) (row_is q (map f (take i xs)) (f x) h)
+      subst (λ (ps : List Phrase). Is q (judged_all k (all_of ps))) (sym (map_more f xs i x lt ∙ ap (λ y. map f (take i xs) ++ f y ∷ []) (sym e)))
+      (row_is q (map f (take i xs)) (f x) h)
 
 -- ---- a row that grows behind phrases: those that are judged, and those that are left
 
@@ -121,7 +157,8 @@ module _ (k : Known) (s : Scope) (d : Delivery) where
   abbrev pub left_roles : List Statement → List Phrase
   left_roles us = roles d (filled (map (unit s) us))
 
-  pub roles_go : (row next : Result (List Meant) Trouble) (us : List Statement) (i : ℕ) (u : Statement) (w : Option Delivery) (whole : List Phrase) → i < length us → u ≡ get_or us i u →
+  pub roles_go : (row next : Result (List Meant) Trouble) (us : List Statement) (i : ℕ) (u : Statement) (w : Option Delivery) (whole : List Phrase)
+      → i < length us → u ≡ get_or us i u →
       w ≡ asked d (unit s u) (map (unit s) (take (length us - (i + 1)) (drop (i + 1) us))) →
       ((done : List Phrase) → Is row (judged_all k (all_of done)) → Is next (judged_all k (all_of (done ++ in_role w (written (unit s u)))))) →
       Grown k row (left_roles (drop i us)) whole → Grown k next (left_roles (drop (i + 1) us)) whole
@@ -137,47 +174,72 @@ module _ (k : Known) (s : Scope) (d : Delivery) where
       let next_one : Grown k row (in_role w (written (unit s u)) ++ left_roles rest) whole = subst (λ (ps : List Phrase). Grown k row ps whole) split here in
       grows_all k row next (in_role w (written (unit s u))) (left_roles rest) whole next_one (h next_one.done next_one.means)
 
-  pub roles_end : (row : Result (List Meant) Trouble) (us : List Statement) (i : ℕ) (whole : List Phrase) → length us ≤ i → Grown k row (left_roles (drop i us)) whole → Is row (judged_all k (all_of whole))
+  pub roles_end : (row : Result (List Meant) Trouble) (us : List Statement) (i : ℕ) (whole : List Phrase) → length us ≤ i
+      → Grown k row (left_roles (drop i us)) whole → Is row (judged_all k (all_of whole))
   roles_end row us i whole le g = left_none left_roles k row us i whole le refl g
 
--- ---- a row of arms, each with the labels before it
-
-abbrev pub all_numbers : List (List Label × Phrase) → List ℤ
-all_numbers [] = []
-all_numbers (c ∷ cs) = numbers c.0 ++ all_numbers cs
-
-numbers_push : (cs : List (List Label × Phrase)) (c : List Label × Phrase) → all_numbers (cs ++ c ∷ []) ≡ all_numbers cs ++ numbers c.0
-numbers_push [] c = append-nil (numbers c.0)
-numbers_push (d ∷ cs) c = ap (λ (ns : List ℤ). numbers d.0 ++ ns) (numbers_push cs c) ∙ sym (append_assoc (numbers d.0) (all_numbers cs) (numbers c.0))
-
-module _ (s : Scope) where
-  arms_push : (e : List ℤ) (cs : List (List Label × Phrase)) (c : List Label × Phrase) → arm_phrases s e (cs ++ c ∷ []) ≡ arm_phrases s e cs ++ arm_phrase s (e ++ all_numbers cs) c ∷ []
-  arms_push e [] c = ap (λ (ns : List ℤ). arm_phrase s ns c ∷ []) (sym (append-nil e))
-  arms_push e (d ∷ cs) c =
-      ap (λ (l : List Phrase). arm_phrase s e d ∷ l)
-      (arms_push (e ++ numbers d.0) cs c
-      ∙ ap (λ (ns : List ℤ). arm_phrases s (e ++ numbers d.0) cs ++ arm_phrase s ns c ∷ []) (append_assoc e (numbers d.0) (all_numbers cs)))
-
-  case_labels : (c : Case) → (case s c).0 ≡ c.labels
-  case_labels c = ap (λ (d : Case). (case s d).0) (sym (rolls-Case' (record { labels = c.labels; units = c.units }))) ∙ rw fold-roll-Case refl
-
-  cases_more : (cs : List Case) (i : ℕ) (c : Case) → i < length cs → c ≡ get_or cs i c → map (case s) (take (i + 1) cs) ≡ map (case s) (take i cs) ++ case s c ∷ []
-  cases_more cs i c lt e = map_more (case s) cs i c lt ∙ ap (λ (d : Case). map (case s) (take i cs) ++ case s d ∷ []) (sym e)
-
-  pub numbers_go : (cs : List Case) (i : ℕ) (c : Case) (earlier later : List ℤ) → i < length cs → c ≡ get_or cs i c → earlier ≡ all_numbers (map (case s) (take i cs)) →
-      later ≡ earlier ++ numbers c.labels → later ≡ all_numbers (map (case s) (take (i + 1) cs))
-  numbers_go cs i c earlier later lt e he h =
-      h ∙ ap (λ (ns : List ℤ). ns ++ numbers c.labels) he
-      ∙ sym (ap all_numbers (cases_more cs i c lt e) ∙ numbers_push (map (case s) (take i cs)) (case s c) ∙ ap (λ (ls : List Label). all_numbers (map (case s) (take i cs)) ++ numbers ls) (case_labels c))
+-- ---- a row of conditions, or of labels, each before its units
 
 module _ (k : Known) (s : Scope) where
-  pub cases_go : (cs : List Case) (i : ℕ) (c : Case) (earlier : List ℤ) (q : Result (List Meant) Trouble) → i < length cs → c ≡ get_or cs i c → earlier ≡ all_numbers (map (case s) (take i cs)) →
-      Is q (joined (judged_all k (all_of (arm_phrases s [] (map (case s) (take i cs))))) (judged k (arm_phrase s earlier (case s c)))) →
-      Is q (judged_all k (all_of (arm_phrases s [] (map (case s) (take (i + 1) cs)))))
-  cases_go cs i c earlier q lt e he h =
-      let before_it = map (case s) (take i cs) in
-      subst (λ (ps : List Phrase). Is q (judged_all k (all_of ps)))
-      (ap (λ (ns : List ℤ). arm_phrases s [] before_it ++ arm_phrase s ns (case s c) ∷ []) he ∙ sym (ap (arm_phrases s []) (cases_more s cs i c lt e) ∙ arms_push s [] before_it (case s c))) (row_is k q (arm_phrases s [] before_it) (arm_phrase s earlier (case s c)) h)
+  abbrev pub left_branches : List Branch → List Phrase
+  left_branches bs = branches (map (branch s) bs)
+
+  pub branches_go : (row next : Result (List Meant) Trouble) (bs : List Branch) (i : ℕ) (b : Branch) (whole : List Phrase) → i < length bs → b ≡ get_or bs i b →
+      ((done : List Phrase) → Is row (judged_all k (all_of done)) → Is next (judged_all k (all_of (done ++ branches (branch s b ∷ []))))) →
+      Grown k row (left_branches (drop i bs)) whole → Grown k next (left_branches (drop (i + 1) bs)) whole
+  branches_go row next bs i b whole lt e h g =
+      let here : Grown k row (branches (branch s b ∷ []) ++ left_branches (drop (suc i) bs)) whole = left_at left_branches k row bs i b whole lt e g in
+      let index : suc i ≡ i + 1 = omega arith in
+      subst (λ (j : ℕ). Grown k next (left_branches (drop j bs)) whole) index
+      (grows_all k row next (branches (branch s b ∷ [])) (left_branches (drop (suc i) bs)) whole here (h here.done here.means))
+
+  pub branches_end : (row : Result (List Meant) Trouble) (bs : List Branch) (i : ℕ) (whole : List Phrase) → length bs ≤ i
+      → Grown k row (left_branches (drop i bs)) whole → Is row (judged_all k (all_of whole))
+  branches_end row bs i whole le g = left_none left_branches k row bs i whole le refl g
+
+  -- Labels are compared with those before them.
+  abbrev pub left_cases : List ℤ → List Case → List Phrase
+  left_cases earlier cs = arms s earlier (map (case s) cs)
+
+  pub cases_go : (row next : Result (List Meant) Trouble) (cs : List Case) (i : ℕ) (c : Case) (earlier later : List ℤ) (whole : List Phrase) → i < length cs
+      → c ≡ get_or cs i c →
+      later ≡ earlier ++ numbers c.labels →
+      ((done : List Phrase) → Is row (judged_all k (all_of done)) → Is next (judged_all k (all_of (done ++ arms s earlier (case s c ∷ []))))) →
+      Grown k row (left_cases earlier (drop i cs)) whole → Grown k next (left_cases later (drop (i + 1) cs)) whole
+  cases_go row next cs i c earlier later whole lt e n h g =
+      let here : Grown k row (arms s earlier (case s c ∷ []) ++ left_cases (earlier ++ numbers (case s c).0) (drop (suc i) cs)) whole =
+      left_at (left_cases earlier) k row cs i c whole lt e g in
+      let index : suc i ≡ i + 1 = omega arith in
+      let behind : earlier ++ numbers (case s c).0 ≡ later = ap (λ (ls : List Label). earlier ++ numbers ls) (case_labels s c) ∙ sym n in
+      let next_one : Grown k next (left_cases (earlier ++ numbers (case s c).0) (drop (suc i) cs)) whole =
+      grows_all k row next (arms s earlier (case s c ∷ [])) (left_cases (earlier ++ numbers (case s c).0) (drop (suc i) cs)) whole here (h here.done here.means)
+      in
+      subst (λ (j : ℕ). Grown k next (left_cases later (drop j cs)) whole) index
+      (subst (λ (ns : List ℤ). Grown k next (left_cases ns (drop (suc i) cs)) whole) behind next_one)
+
+  pub cases_end : (row : Result (List Meant) Trouble) (cs : List Case) (i : ℕ) (earlier : List ℤ) (whole : List Phrase) → length cs ≤ i
+      → Grown k row (left_cases earlier (drop i cs)) whole → Is row (judged_all k (all_of whole))
+  cases_end row cs i earlier whole le g = left_none (left_cases earlier) k row cs i whole le refl g
+
+-- ---- a phrase before a row
+
+module _ (k : Known) (p : Phrase) (ps : Parts) where
+  before_beside : (r : Ruled Meant) (rs : Ruled (List Meant)) → beside r rs >>= (λ b. gives (b.0 ∷ b.1)) ≡ before r rs
+  before_beside (gives m) (gives ms) = refl
+  before_beside (gives m) (breaks f) = refl
+  before_beside (gives m) hangs = refl
+  before_beside (breaks f) rs = refl
+  before_beside hangs (gives ms) = refl
+  before_beside hangs (breaks f) = refl
+  before_beside hangs hangs = refl
+
+  pub first_fails : (d : Trouble) → Fails d (beside (judged k p) (judged_all k ps)) → Fails d (judged_all k (part p ps))
+  first_fails d h =
+      subst (λ (z : Ruled (List Meant)). Fails d z) (before_beside (judged k p) (judged_all k ps))
+      (bind_fails d (beside (judged k p) (judged_all k ps)) (λ b. gives (b.0 ∷ b.1)) h)
+
+  pub first_is : (m : Meant) (ms : List Meant) → beside (judged k p) (judged_all k ps) ≡ gives (m, ms) → judged_all k (part p ps) ≡ gives (m ∷ ms)
+  first_is m ms h = sym (before_beside (judged k p) (judged_all k ps)) ∙ ap (λ (z : Ruled (Meant × List Meant)). z >>= (λ b. gives (b.0 ∷ b.1))) h
 
 -- ---- labels, before those that are left
 
@@ -195,7 +257,8 @@ prefixed_none (breaks f) = refl
 prefixed_none hangs = refl
 
 -- when nothing is left
-pub list_done : {X : Type 0} (single : X → Meant) (xs : List X) (rest r : Ruled (List Meant)) → rest ≡ gives [] → prefixed (map single xs) rest ≡ r → r ≡ gives (map single xs)
+pub list_done : {X : Type 0} (single : X → Meant) (xs : List X) (rest r : Ruled (List Meant)) → rest ≡ gives [] → prefixed (map single xs) rest ≡ r
+    → r ≡ gives (map single xs)
 list_done single xs rest r e h =
     sym h ∙ ap (λ (q : Ruled (List Meant)). prefixed (map single xs) q) e ∙ ap (λ (l : List Meant). gives l) (append-nil (map single xs))
 
@@ -209,12 +272,14 @@ cut : {X : Type 0} (xs : List X) (i : ℕ) (x : X) → i < length xs → x ≡ g
 cut xs i x lt e = drop-cons xs i x lt ∙ ap (λ y. y ∷ drop (suc i) xs) (sym e)
 
 module _ (s : Scope) where
-  pub stops : (us : List Statement) (i : ℕ) (u : Statement) → i < length us → u ≡ get_or us i u → false ≡ is_empty (unit s u) → all_empty (map (unit s) (drop i us)) ≡ all_empty (map (unit s) us) → false ≡ all_empty (map (unit s) us)
+  pub stops : (us : List Statement) (i : ℕ) (u : Statement) → i < length us → u ≡ get_or us i u → false ≡ is_empty (unit s u)
+      → all_empty (map (unit s) (drop i us)) ≡ all_empty (map (unit s) us) → false ≡ all_empty (map (unit s) us)
   stops us i u lt e f h =
       ap (λ (b : Bool). b && all_empty (map (unit s) (drop (suc i) us))) f
       ∙ ap (λ (l : List Statement). all_empty (map (unit s) l)) (sym (cut us i u lt e)) ∙ h
 
-  pub goes_on : (us : List Statement) (i : ℕ) (u : Statement) → i < length us → u ≡ get_or us i u → true ≡ is_empty (unit s u) → all_empty (map (unit s) (drop i us)) ≡ all_empty (map (unit s) us) → all_empty (map (unit s) (drop (i + 1) us)) ≡ all_empty (map (unit s) us)
+  pub goes_on : (us : List Statement) (i : ℕ) (u : Statement) → i < length us → u ≡ get_or us i u → true ≡ is_empty (unit s u)
+      → all_empty (map (unit s) (drop i us)) ≡ all_empty (map (unit s) us) → all_empty (map (unit s) (drop (i + 1) us)) ≡ all_empty (map (unit s) us)
   goes_on us i u lt e f h =
       rw (add-one)
       (ap (λ (b : Bool). b && all_empty (map (unit s) (drop (suc i) us))) f

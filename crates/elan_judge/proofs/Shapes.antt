@@ -1,5 +1,5 @@
 -- The phrases of forms some of whose parts may be left out.
-use Rattle.std.proofs.Common.{◌≡◌, ℕ, ℤ, List, [], map, Option, Some, None, Result, Ok, true, false, refl, sym, ap, subst, ◌∙◌}
+use Rattle.std.proofs.Common.{◌≡◌, ℕ, ℤ, List, [], ◌∷◌, ◌++◌, map, Option, Some, None, Result, Ok, refl, sym, ap, subst, ◌∙◌}
 use Rattle.std.specs.Prelude.{option_map}
 use Rattle.elan_tree.specs.declared.phrase.Expr.{Expr, roll-Expr}
 use Rattle.elan_tree.specs.declared.phrase.Expr.TheVariants as expression
@@ -15,7 +15,6 @@ use Rattle.elan_tree.specs.declared.phrase.Unit.{Unit as Statement, roll-Unit}
 use Rattle.elan_tree.specs.declared.phrase.Unit.TheVariants as statement
 use Rattle.elan_tree.specs.declared.phrase.Expr.TheOpen as t
 use Rattle.elan_tree.specs.declared.phrase.Expr.TheFolds.{fold-roll-Expr, fold-roll-Unit, fold-roll-Branch, fold-roll-Case, fold-roll-Counter, fold-roll-Item}
-use Rattle.eu_base.specs.declared.operation.Way.{Way}
 use Rattle.elan_scope.specs.declared.trouble.Trouble.{Trouble}
 use Rattle.elan_meant.specs.declared.meant.Meant.{Meant}
 use Rattle.elan_meant.specs.declared.meant.Meant.TheVariants.{Absent}
@@ -26,37 +25,47 @@ use Rattle.elan_scope.specs.declared.known.Known.{Known}
 use Rattle.elan_scope.specs.declared.scope.Scope.{Scope}
 use Rattle.elan_scope.specs.declared.scope.Usage.TheVariants.{Counter as Counts}
 use Rattle.elan_scope.specs.Phrase as form
-use Rattle.elan_scope.specs.Phrase.{Form, Phrase, phrase, none, part, leaf, pair, three, all_of}
+use Rattle.elan_scope.specs.Phrase.{Phrase, phrase, Parts, none, part, leaf, pair, all_of}
 use Rattle.elan_judge.specs.Shape as shape
-
-abbrev pub four : Form → Phrase → Phrase → Phrase → Phrase → Phrase
-four f k c us u = phrase f (part k (part c (part us (part u none))))
 
 module _ (s : Scope) where
   abbrev pub units_of : Option (List Statement) → Phrase
   units_of o = shape.otherwise (option_map (λ us. map (shape.unit s) us) o)
 
-  abbrev pub branches_of : List Branch → Phrase
-  branches_of bs = phrase form.branches (all_of (map (shape.branch s) bs))
+  abbrev pub choice_parts : List Branch → Option (List Statement) → Parts
+  choice_parts bs o = all_of (shape.branches (map (shape.branch s) bs) ++ units_of o ∷ [])
 
-  abbrev pub arms_of : List Case → Phrase
-  arms_of cs = phrase form.arms (all_of (shape.arm_phrases s [] (map (shape.case s) cs)))
+  abbrev pub case_parts : List Case → Option (List Statement) → Parts
+  case_parts cs o = all_of (shape.arms s [] (map (shape.case s) cs) ++ units_of o ∷ [])
 
-  choice_rolled : (at : ℕ) (bs : List Branch) (o : Option (List Statement)) → shape.expr s (roll-Expr (t.If at bs o)) ≡ pair (form.choice at) (branches_of bs) (units_of o)
+  abbrev pub loop_parts : Option Counter → Option Expr → List Statement → Option Expr → Parts
+  loop_parts k c us u =
+      all_of (shape.counter_parts (shape.optional_counter s k) ++ shape.optional_expr s c ∷ shape.units Nothing (map (shape.unit s) us)
+      ∷ shape.optional_expr s u ∷ [])
+
+  choice_rolled : (at : ℕ) (bs : List Branch) (o : Option (List Statement))
+      → shape.expr s (roll-Expr (t.If at bs o)) ≡ phrase (form.choice at) (choice_parts bs o)
   choice_rolled at bs None = rw fold-roll-Expr refl
   choice_rolled at bs (Some us) = rw fold-roll-Expr refl
 
-  pub choice_shape : (at : ℕ) (bs : List Branch) (o : Option (List Statement)) → shape.expr s (expression.If at bs o) ≡ pair (form.choice at) (branches_of bs) (units_of o)
+  pub choice_shape : (at : ℕ) (bs : List Branch) (o : Option (List Statement))
+      → shape.expr s (expression.If at bs o) ≡ phrase (form.choice at) (choice_parts bs o)
   choice_shape at bs o = ap (shape.expr s) (sym (expression.rolls-If at bs o)) ∙ choice_rolled at bs o
 
-  selection_rolled : (at : ℕ) (v : Expr) (cs : List Case) (o : Option (List Statement)) → shape.expr s (roll-Expr (t.Select at v cs o)) ≡ three (form.selection at) (shape.expr s v) (arms_of cs) (units_of o)
+  selection_rolled : (at : ℕ) (v : Expr) (cs : List Case) (o : Option (List Statement))
+      → shape.expr s (roll-Expr (t.Select at v cs o)) ≡ phrase (form.selection at) (part (shape.expr s v) (case_parts cs o))
   selection_rolled at v cs None = rw fold-roll-Expr refl
   selection_rolled at v cs (Some us) = rw fold-roll-Expr refl
 
-  pub selection_shape : (at : ℕ) (v : Expr) (cs : List Case) (o : Option (List Statement)) → shape.expr s (expression.Select at v cs o) ≡ three (form.selection at) (shape.expr s v) (arms_of cs) (units_of o)
+  pub selection_shape : (at : ℕ) (v : Expr) (cs : List Case) (o : Option (List Statement))
+      → shape.expr s (expression.Select at v cs o) ≡ phrase (form.selection at) (part (shape.expr s v) (case_parts cs o))
   selection_shape at v cs o = ap (shape.expr s) (sym (expression.rolls-Select at v cs o)) ∙ selection_rolled at v cs o
 
-  loop_rolled : (at : ℕ) (k : Option Counter) (c : Option Expr) (us : List Statement) (u : Option Expr) → shape.unit s (roll-Unit (t.Loop at k c us u)) ≡ Some (four (form.loop at) (shape.optional_counter s k) (shape.optional_expr s c) (shape.units Nothing (map (shape.unit s) us)) (shape.optional_expr s u))
+  abbrev pub loop_of : ℕ → Option Counter → Option Expr → List Statement → Option Expr → Phrase
+  loop_of at k c us u = phrase (shape.loop_form at (shape.optional_counter s k)) (loop_parts k c us u)
+
+  loop_rolled : (at : ℕ) (k : Option Counter) (c : Option Expr) (us : List Statement) (u : Option Expr)
+      → shape.unit s (roll-Unit (t.Loop at k c us u)) ≡ Some (loop_of at k c us u)
   loop_rolled at None None us None = rw fold-roll-Unit refl
   loop_rolled at None None us (Some u) = rw fold-roll-Unit refl
   loop_rolled at None (Some c) us None = rw fold-roll-Unit refl
@@ -66,98 +75,123 @@ module _ (s : Scope) where
   loop_rolled at (Some k) (Some c) us None = rw fold-roll-Unit refl
   loop_rolled at (Some k) (Some c) us (Some u) = rw fold-roll-Unit refl
 
-  pub loop_shape : (at : ℕ) (k : Option Counter) (c : Option Expr) (us : List Statement) (u : Option Expr) → shape.unit s (statement.Loop at k c us u) ≡ Some (four (form.loop at) (shape.optional_counter s k) (shape.optional_expr s c) (shape.units Nothing (map (shape.unit s) us)) (shape.optional_expr s u))
+  pub loop_shape : (at : ℕ) (k : Option Counter) (c : Option Expr) (us : List Statement) (u : Option Expr)
+      → shape.unit s (statement.Loop at k c us u) ≡ Some (loop_of at k c us u)
   loop_shape at k c us u = ap (shape.unit s) (sym (statement.rolls-Loop at k c us u)) ∙ loop_rolled at k c us u
+
+  branch_pair : (b : Branch) → shape.branch s b ≡ (shape.expr s b.condition, shape.units Open (map (shape.unit s) b.units))
+  branch_pair b = ap (shape.branch s) (sym (rolls-Branch' (record { condition = b.condition; units = b.units }))) ∙ rw fold-roll-Branch refl
+
+  pub branch_shape : (b : Branch) (us' : List Statement) → us' ≡ b.units
+      → shape.expr s b.condition ∷ shape.units Open (map (shape.unit s) us') ∷ [] ≡ shape.branches (shape.branch s b ∷ [])
+  branch_shape b us' e =
+      ap (λ (l : List Statement). shape.expr s b.condition ∷ shape.units Open (map (shape.unit s) l) ∷ []) e
+      ∙ sym (ap (λ (p : Phrase × Phrase). shape.branches (p ∷ [])) (branch_pair b))
+
+  case_pair : (c : Case) → shape.case s c ≡ (c.labels, shape.units Open (map (shape.unit s) c.units))
+  case_pair c = ap (shape.case s) (sym (rolls-Case' (record { labels = c.labels; units = c.units }))) ∙ rw fold-roll-Case refl
+
+  pub case_labels : (c : Case) → (shape.case s c).0 ≡ c.labels
+  case_labels c = ap (λ (p : List Label × Phrase). p.0) (case_pair c)
+
+  pub case_shape : (earlier : List ℤ) (c : Case) (ls' : List Label) (us' : List Statement) → ls' ≡ c.labels → us' ≡ c.units →
+      shape.labels_phrase s earlier ls' ∷ shape.units Open (map (shape.unit s) us') ∷ [] ≡ shape.arms s earlier (shape.case s c ∷ [])
+  case_shape earlier c ls' us' d e =
+      ap (λ (l : List Label). shape.labels_phrase s earlier l ∷ shape.units Open (map (shape.unit s) us') ∷ []) d
+      ∙ ap (λ (l : List Statement). shape.labels_phrase s earlier c.labels ∷ shape.units Open (map (shape.unit s) l) ∷ []) e
+      ∙ sym (ap (λ (p : List Label × Phrase). shape.arms s earlier (p ∷ [])) (case_pair c))
+
+  counter_rolled : (n : Name) (from : Option Expr) (l : Limit)
+      → shape.counter s (roll-Counter (record { name = n; from = from; limit = l }))
+      ≡ (leaf (form.named Counts n.at s n.text), shape.optional_expr s from, (shape.limit s l).1, (shape.limit s l).0)
+  counter_rolled n None l = rw fold-roll-Counter refl
+  counter_rolled n (Some a) l = rw fold-roll-Counter refl
+
+  pub counter_shape : (k : Counter)
+      → shape.counter s k ≡ (
+        leaf (form.named Counts k.name.at s k.name.text),
+        shape.optional_expr s k.from,
+        (shape.limit s k.limit).1,
+        (shape.limit s k.limit).0,
+      )
+  counter_shape k =
+      ap (shape.counter s) (sym (rolls-Counter' (record { name = k.name; from = k.from; limit = k.limit }))) ∙ counter_rolled k.name k.from k.limit
 
   -- ---- what is said of the parts, said of the whole
 
   module _ (known : Known) where
     pub units_absent : (r : Result Meant Trouble) (o : Option (List Statement)) → o ≡ None → r ≡ Ok Absent → Is r (judged known (units_of o))
-    units_absent r o i e = subst (λ (w : Option (List Statement)). Is r (judged known (units_of w))) (sym i) (subst (λ (z : Result Meant Trouble). Is z (judged known (leaf form.absent))) (sym e) refl)
+    units_absent r o i e =
+        subst (λ (w : Option (List Statement)). Is r (judged known (units_of w))) (sym i)
+        (subst (λ (z : Result Meant Trouble). Is z (judged known (leaf form.absent))) (sym e) refl)
 
-    pub units_written : (r r' : Result Meant Trouble) (o : Option (List Statement)) (us us' : List Statement) → o ≡ Some us → us' ≡ us → r ≡ r' → Is r' (judged known (shape.units Open (map (shape.unit s) us'))) → Is r (judged known (units_of o))
+    pub units_written : (r r' : Result Meant Trouble) (o : Option (List Statement)) (us us' : List Statement) → o ≡ Some us → us' ≡ us → r ≡ r'
+        → Is r' (judged known (shape.units Open (map (shape.unit s) us'))) → Is r (judged known (units_of o))
     units_written r r' o us us' i e f h =
         subst (λ (w : Option (List Statement)). Is r (judged known (units_of w))) (sym i)
         (subst (λ (l : List Statement). Is r (judged known (shape.units Open (map (shape.unit s) l)))) e
         (subst (λ (z : Result Meant Trouble). Is z (judged known (shape.units Open (map (shape.unit s) us')))) (sym f) h))
 
   module _ (known : Known) (q : Result Meant Trouble) where
-    choice_goes : (at : ℕ) (bs bs' : List Branch) (o : Option (List Statement)) → bs' ≡ bs → Is q (judged known (pair (form.choice at) (branches_of bs') (units_of o))) → Is q (judged known (shape.expr s (expression.If at bs o)))
-    choice_goes at bs bs' o e h =
-        subst (λ (p : Phrase). Is q (judged known p)) (ap (λ (l : List Branch). pair (form.choice at) (branches_of l) (units_of o)) e ∙ sym (choice_shape at bs o)) h
+    pub choice_is : (w : Expr) (at : ℕ) (bs bs' : List Branch) (o : Option (List Statement)) → w ≡ expression.If at bs o → bs' ≡ bs
+        → Is q (judged known (phrase (form.choice at) (choice_parts bs' o))) → Is q (judged known (shape.expr s w))
+    choice_is w at bs bs' o i e h =
+        subst (λ (p : Phrase). Is q (judged known p))
+        (ap (λ (l : List Branch). phrase (form.choice at) (choice_parts l o)) e ∙ sym (ap (shape.expr s) i ∙ choice_shape at bs o)) h
 
-    pub choice_is : (w : Expr) (at : ℕ) (bs bs' : List Branch) (o : Option (List Statement)) → w ≡ expression.If at bs o → bs' ≡ bs → Is q (judged known (pair (form.choice at) (branches_of bs') (units_of o))) → Is q (judged known (shape.expr s w))
-    choice_is w at bs bs' o i e h = subst (λ (x : Expr). Is q (judged known (shape.expr s x))) (sym i) (choice_goes at bs bs' o e h)
-
-    pub selection_is : (w : Expr) (at : ℕ) (v v' : Expr) (cs cs' : List Case) (o : Option (List Statement)) → w ≡ expression.Select at v cs o → v' ≡ v → cs' ≡ cs → Is q (judged known (three (form.selection at) (shape.expr s v') (arms_of cs') (units_of o))) → Is q (judged known (shape.expr s w))
+    pub selection_is : (w : Expr) (at : ℕ) (v v' : Expr) (cs cs' : List Case) (o : Option (List Statement)) → w ≡ expression.Select at v cs o → v' ≡ v
+        → cs' ≡ cs → Is q (judged known (phrase (form.selection at) (part (shape.expr s v') (case_parts cs' o)))) → Is q (judged known (shape.expr s w))
     selection_is w at v v' cs cs' o i e f h =
         subst (λ (p : Phrase). Is q (judged known p))
-        (ap (λ (x : Expr). three (form.selection at) (shape.expr s x) (arms_of cs') (units_of o)) e
-        ∙ ap (λ (l : List Case). three (form.selection at) (shape.expr s v) (arms_of l) (units_of o)) f
+        (ap (λ (x : Expr). phrase (form.selection at) (part (shape.expr s x) (case_parts cs' o))) e
+        ∙ ap (λ (l : List Case). phrase (form.selection at) (part (shape.expr s v) (case_parts l o))) f
         ∙ sym (ap (shape.expr s) i ∙ selection_shape at v cs o)) h
 
-    pub cand_is : (w : Expr) (at : ℕ) (l l' r r' : Expr) → w ≡ expression.Cand at l r → l' ≡ l → r' ≡ r → Is q (judged known (pair (form.cand at) (shape.expr s l') (shape.expr s r'))) → Is q (judged known (shape.expr s w))
+    pub cand_is : (w : Expr) (at : ℕ) (l l' r r' : Expr) → w ≡ expression.Cand at l r → l' ≡ l → r' ≡ r
+        → Is q (judged known (pair (form.cand at) (shape.expr s l') (shape.expr s r'))) → Is q (judged known (shape.expr s w))
     cand_is w at l l' r r' i e f h =
         subst (λ (p : Phrase). Is q (judged known p))
         (ap (λ (y : Expr). pair (form.cand at) (shape.expr s y) (shape.expr s r')) e
         ∙ ap (λ (y : Expr). pair (form.cand at) (shape.expr s l) (shape.expr s y)) f
         ∙ sym (ap (shape.expr s) (i ∙ sym (expression.rolls-Cand at l r)) ∙ rw fold-roll-Expr refl)) h
 
-    pub cor_is : (w : Expr) (at : ℕ) (l l' r r' : Expr) → w ≡ expression.Cor at l r → l' ≡ l → r' ≡ r → Is q (judged known (pair (form.cor at) (shape.expr s l') (shape.expr s r'))) → Is q (judged known (shape.expr s w))
+    pub cor_is : (w : Expr) (at : ℕ) (l l' r r' : Expr) → w ≡ expression.Cor at l r → l' ≡ l → r' ≡ r
+        → Is q (judged known (pair (form.cor at) (shape.expr s l') (shape.expr s r'))) → Is q (judged known (shape.expr s w))
     cor_is w at l l' r r' i e f h =
         subst (λ (p : Phrase). Is q (judged known p))
         (ap (λ (y : Expr). pair (form.cor at) (shape.expr s y) (shape.expr s r')) e
         ∙ ap (λ (y : Expr). pair (form.cor at) (shape.expr s l) (shape.expr s y)) f
         ∙ sym (ap (shape.expr s) (i ∙ sym (expression.rolls-Cor at l r)) ∙ rw fold-roll-Expr refl)) h
 
-    pub loop_is : (w : Statement) (at : ℕ) (k : Option Counter) (c : Option Expr) (us us' : List Statement) (u : Option Expr) → w ≡ statement.Loop at k c us u → us' ≡ us
-        → Is q (judged known (four (form.loop at) (shape.optional_counter s k) (shape.optional_expr s c) (shape.units Nothing (map (shape.unit s) us')) (shape.optional_expr s u))) → Is q (judged known (shape.written (shape.unit s w)))
+    pub loop_is : (w : Statement) (at : ℕ) (k : Option Counter) (c : Option Expr) (us us' : List Statement) (u : Option Expr) → w ≡ statement.Loop at k c us u
+        → us' ≡ us
+        → Is q (judged known (loop_of at k c us' u)) → Is q (judged known (shape.written (shape.unit s w)))
     loop_is w at k c us us' u i e h =
         subst (λ (o : Option Phrase). Is q (judged known (shape.written o)))
-        (ap (λ (l : List Statement). Some (four (form.loop at) (shape.optional_counter s k) (shape.optional_expr s c) (shape.units Nothing (map (shape.unit s) l)) (shape.optional_expr s u))) e
-        ∙ sym (ap (shape.unit s) i ∙ loop_shape at k c us u)) h
+        (ap (λ (l : List Statement). Some (loop_of at k c l u)) e ∙ sym (ap (shape.unit s) i ∙ loop_shape at k c us u)) h
 
-    pub branch_is : (b : Branch) (us' : List Statement) → us' ≡ b.units → Is q (judged known (pair form.branch (shape.expr s b.condition) (shape.units Open (map (shape.unit s) us')))) → Is q (judged known (shape.branch s b))
-    branch_is b us' e h =
-        subst (λ (p : Phrase). Is q (judged known p))
-        (ap (λ (l : List Statement). pair form.branch (shape.expr s b.condition) (shape.units Open (map (shape.unit s) l))) e
-        ∙ sym (ap (shape.branch s) (sym (rolls-Branch' (record { condition = b.condition; units = b.units }))) ∙ rw fold-roll-Branch refl)) h
-
-    pub case_is : (earlier : List ℤ) (c : Case) (ls' : List Label) (us' : List Statement) → ls' ≡ c.labels → us' ≡ c.units
-        → Is q (judged known (pair form.arm (phrase form.labels (all_of (shape.label_phrases s earlier ls'))) (shape.units Open (map (shape.unit s) us')))) → Is q (judged known (shape.arm_phrase s earlier (shape.case s c)))
-    case_is earlier c ls' us' d e h =
-        subst (λ (p : Phrase). Is q (judged known p))
-        (ap (λ (l : List Label). pair form.arm (phrase form.labels (all_of (shape.label_phrases s earlier l))) (shape.units Open (map (shape.unit s) us'))) d
-        ∙ ap (λ (l : List Statement). pair form.arm (phrase form.labels (all_of (shape.label_phrases s earlier c.labels))) (shape.units Open (map (shape.unit s) l))) e
-        ∙ sym (ap (λ (d : Case). shape.arm_phrase s earlier (shape.case s d)) (sym (rolls-Case' (record { labels = c.labels; units = c.units }))) ∙ rw fold-roll-Case refl)) h
-
-    counter_rolled : (n : Name) (from : Option Expr) (l : Limit) → shape.counter s (roll-Counter (record { name = n; from = from; limit = l })) ≡ three (form.counter (shape.limit s l).0) (leaf (form.named Counts n.at s n.text)) (shape.optional_expr s from) (shape.limit s l).1
-    counter_rolled n None l = rw fold-roll-Counter refl
-    counter_rolled n (Some a) l = rw fold-roll-Counter refl
-
-    pub counter_is : (k : Counter) (w : Way) → w ≡ (shape.limit s k.limit).0 → Is q (judged known (three (form.counter w) (leaf (form.named Counts k.name.at s k.name.text)) (shape.optional_expr s k.from) (shape.limit s k.limit).1)) → Is q (judged known (shape.counter s k))
-    counter_is k w e h =
-        subst (λ (p : Phrase). Is q (judged known p))
-        (ap (λ (v : Way). three (form.counter v) (leaf (form.named Counts k.name.at s k.name.text)) (shape.optional_expr s k.from) (shape.limit s k.limit).1) e
-        ∙ sym (ap (shape.counter s) (sym (rolls-Counter' (record { name = k.name; from = k.from; limit = k.limit }))) ∙ counter_rolled k.name k.from k.limit)) h
-
-    item_rolled : (n : Name) (i : Option Expr) → shape.item s (roll-Item (record { name = n; init = i })) ≡ shape.item_with s n (leaf (form.declares n.at s n.text)) (option_map (shape.expr s) i)
+    item_rolled : (n : Name) (i : Option Expr)
+        → shape.item s (roll-Item (record { name = n; init = i })) ≡ shape.item_with s n (leaf (form.declares n.at s n.text)) (option_map (shape.expr s) i)
     item_rolled n None = rw fold-roll-Item refl
     item_rolled n (Some a) = rw fold-roll-Item refl
 
-    pub item_is : (i : Item) (o : Option Expr) → i.init ≡ o → Is q (judged known (shape.item_with s i.name (leaf (form.declares i.name.at s i.name.text)) (option_map (shape.expr s) o))) → Is q (judged known (shape.item s i))
+    pub item_is : (i : Item) (o : Option Expr) → i.init ≡ o
+        → Is q (judged known (shape.item_with s i.name (leaf (form.declares i.name.at s i.name.text)) (option_map (shape.expr s) o)))
+        → Is q (judged known (shape.item s i))
     item_is i o e h =
         subst (λ (p : Phrase). Is q (judged known p))
         (ap (λ (z : Option Expr). shape.item_with s i.name (leaf (form.declares i.name.at s i.name.text)) (option_map (shape.expr s) z)) (sym e)
         ∙ sym (ap (shape.item s) (sym (rolls-Item' (record { name = i.name; init = i.init }))) ∙ item_rolled i.name i.init)) h
 
-    pub variables_is : (w : Statement) (at : ℕ) (of : TypePhrase) (xs xs' : List Item) → w ≡ statement.Variables at of xs → xs' ≡ xs → Is q (judged known (phrase (form.declaration at) (all_of (map (shape.item s) xs')))) → Is q (judged known (shape.written (shape.unit s w)))
+    pub variables_is : (w : Statement) (at : ℕ) (of : TypePhrase) (xs xs' : List Item) → w ≡ statement.Variables at of xs → xs' ≡ xs
+        → Is q (judged known (phrase (form.declaration at) (all_of (map (shape.item s) xs')))) → Is q (judged known (shape.written (shape.unit s w)))
     variables_is w at of xs xs' i e h =
         subst (λ (o : Option Phrase). Is q (judged known (shape.written o)))
         (ap (λ (l : List Item). Some (phrase (form.declaration at) (all_of (map (shape.item s) l)))) e
         ∙ sym (ap (shape.unit s) (i ∙ sym (statement.rolls-Variables at of xs)) ∙ rw fold-roll-Unit refl)) h
 
-    pub constants_is : (w : Statement) (at : ℕ) (of : TypePhrase) (xs xs' : List Item) → w ≡ statement.Constants at of xs → xs' ≡ xs → Is q (judged known (phrase (form.declaration at) (all_of (map (shape.item s) xs')))) → Is q (judged known (shape.written (shape.unit s w)))
+    pub constants_is : (w : Statement) (at : ℕ) (of : TypePhrase) (xs xs' : List Item) → w ≡ statement.Constants at of xs → xs' ≡ xs
+        → Is q (judged known (phrase (form.declaration at) (all_of (map (shape.item s) xs')))) → Is q (judged known (shape.written (shape.unit s w)))
     constants_is w at of xs xs' i e h =
         subst (λ (o : Option Phrase). Is q (judged known (shape.written o)))
         (ap (λ (l : List Item). Some (phrase (form.declaration at) (all_of (map (shape.item s) l)))) e
@@ -166,5 +200,6 @@ module _ (s : Scope) where
 -- An expression that stands alone is placed as it is itself.
 pub value_place : (s : Scope) (u : Statement) (e : Expr) → u ≡ statement.Value e → form.place (shape.expr s e) ≡ form.place (shape.written (shape.unit s u))
 value_place s u e i =
-    let is : shape.unit s u ≡ Some (form.around form.statement (shape.expr s e)) = ap (shape.unit s) (i ∙ sym (statement.rolls-Value e)) ∙ rw fold-roll-Unit refl in
+    let is : shape.unit s u ≡ Some (form.around form.statement (shape.expr s e)) =
+    ap (shape.unit s) (i ∙ sym (statement.rolls-Value e)) ∙ rw fold-roll-Unit refl in
     sym (ap (λ (o : Option Phrase). form.place (shape.written o)) is)

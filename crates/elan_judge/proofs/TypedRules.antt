@@ -1,5 +1,5 @@
 -- What a phrase means has the types that it asks for.
-use Rattle.std.proofs.Common.{◌≡◌, ℕ, List, [], Option, Some, None, refl, sym, subst}
+use Rattle.std.proofs.Common.{◌≡◌, ℕ, List, [], ◌∷◌, Option, Some, None, refl, sym, subst}
 use Rattle.elan_meant.specs.declared.meant.Meant.{Meant}
 use Rattle.elan_scope.specs.Ruled.{Ruled, gives}
 use Rattle.elan_scope.specs.Scope as scope
@@ -24,7 +24,7 @@ use Rattle.elan_rules.proofs.Typed as ty
 use Rattle.elan_rules.proofs.Typed.{Gives, on_if, on_bind}
 use Rattle.elan_rules.proofs.TypeEquations.{Stand, truth_is}
 use Rattle.elan_rules.proofs.TypedUnits.{number_good, bracketed_good, cand_good, cor_good, assigned_good, initial_good, in_order_good, alone_good, without_value_good, must_deliver_good}
-use Rattle.elan_rules.proofs.TypedChoices.{truth_good, branches_good, choice_good, arms_good, selected_good, label_named_good}
+use Rattle.elan_rules.proofs.TypedChoices.{choice_good, selected_good, label_named_good}
 use Rattle.elan_rules.proofs.TypedLoops.{counted_good, loop_good}
 use Rattle.elan_rules.proofs.TypedCalls.{Fits, named_good, applied_good, declared_good, leaving_good}
 
@@ -38,13 +38,15 @@ module _ (here : Stand) (s : Scope) (k : Known) (fits : Fits here s k) where
   in_scope : (f : Scope → Ruled Meant) (z : Scope) → z ≡ s → Gives Good (f s) → Gives Good (f z)
   in_scope f z e h = subst (λ (y : Scope). Gives Good (f y)) (sym e) h
 
-  assignment_by : (at : ℕ) (ms : List Meant) (o : Option (ℕ × Heading)) → AllGood ms → Gives Good (r.applied_as at s Operator becomes ms o) → Gives Good (all.assignment_as at ms o)
+  assignment_by : (at : ℕ) (ms : List Meant) (o : Option (ℕ × Heading)) → AllGood ms → Gives Good (r.applied_as at s Operator becomes ms o)
+      → Gives Good (all.assignment_as at ms o)
   assignment_by at ms (Some b) g h = on_bind Good Good (r.called at b.0 b.1.what ms) u.alone h (alone_good here)
   assignment_by at ms None g h = ty.two here ms (u.assigned at) g (assigned_good here at)
 
   -- An own operator is called as operators are.
   assignment_good : (at : ℕ) (ms : List Meant) → AllGood ms → Gives Good (all.assignment at s ms)
-  assignment_good at ms g = assignment_by at ms (scope.first_heading (r.takes Operator becomes ms) s.headings) g (applied_good here s k fits at Operator becomes ms g)
+  assignment_good at ms g =
+      assignment_by at ms (scope.first_heading (r.takes Operator becomes ms) s.headings) g (applied_good here s k fits at Operator becomes ms g)
 
   rules : (f : Form) (ms : List Meant) → Names s f → AllGood ms → Gives Good (rule k f ms)
   rules form.absent ms i g = tt
@@ -56,23 +58,19 @@ module _ (here : Stand) (s : Scope) (k : Known) (fits : Fits here s k) where
   rules (form.bracket at) ms i g = ty.one here ms (all.bracketed at) g (bracketed_good here at)
   rules (form.cand at) ms i g = ty.two here ms (all.cand at) g (cand_good here at)
   rules (form.cor at) ms i g = ty.two here ms (all.cor at) g (cor_good here at)
-  rules form.branch ms i g = ty.two here ms _ g (λ c m h j. ((truth_good here c h, ty.part_good here m j), tt))
-  rules form.branches ms i g = branches_good here ms g
-  rules (form.choice at) ms i g = ty.two here ms (c.choice at) g (choice_good here at)
+  rules (form.choice at) ms i g = choice_good here at ms g
   rules (form.label at earlier n) ms i g = on_if Good (c.is_in earlier n) _ _ (λ e. tt) (λ e. tt)
   rules (form.label_name at z x) ms i g = label_named_good here at x (scope.find z x)
   rules form.labels ms i g = tt
-  rules form.arm ms i g = ty.two here ms c.labelled g (λ l m h j. (ty.part_good here m j, tt))
-  rules form.arms ms i g = arms_good here ms g
-  rules (form.selection at) ms i g = ty.three here ms (c.selected at) g (selected_good here at)
+  rules (form.selection at) [] i g = tt
+  rules (form.selection at) (m ∷ ms) i g = selected_good here at m ms g.0 g.1
   rules (form.declares at z x) ms i g = in_scope (λ y. r.declared at (scope.find_own y x)) z i (declared_good here s k fits at x)
-  rules form.item ms i g = refl
   rules (form.initial at) ms i g = ty.two here ms (u.initial at) g (initial_good here at)
   rules (form.declaration at) ms i g = ty.unit_typed here (p.actions_of ms) (ty.actions_of_typed here ms g)
   rules form.statement ms i g = ty.one here ms u.alone g (alone_good here)
   rules (form.assignment at z) ms i g = in_scope (λ y. all.assignment at y ms) z i (assignment_good at ms g)
-  rules (form.counter w) ms i g = ty.three here ms _ g (counted_good here w)
-  rules (form.loop at) ms i g = ty.four here ms (l.loop at) g (loop_good here at)
+  rules (form.loop at) ms i g = ty.three here ms (l.loop at) g (loop_good here at)
+  rules (form.count at w) ms i g = ty.six here ms (l.counted at w) g (counted_good here at w)
   rules form.without_value ms i g = ty.one here ms u.without_value g (without_value_good here)
   rules (form.must_deliver at t) ms i g = ty.one here ms (u.must_deliver at t) g (must_deliver_good here at t)
   rules (form.leave at z x) ms i g = ty.one here ms _ g (λ m h. in_scope (λ y. r.leaving k at (scope.left y x) m) z i (leaving_good here s k fits at x m h))

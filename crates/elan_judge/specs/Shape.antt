@@ -1,5 +1,5 @@
 -- The phrases of expressions and units.
-use Rattle.std.specs.Prelude.{ℤ, Bool, true, false, ◌&&◌, List, [], ◌∷◌, ◌++◌, Option, Some, None, if◌then◌else◌}
+use Rattle.std.specs.Prelude.{ℕ, ℤ, Bool, true, false, ◌&&◌, List, [], ◌∷◌, ◌++◌, Option, Some, None, if◌then◌else◌}
 use Rattle.eu_base.specs.declared.operation.Way.{Way}
 use Rattle.eu_base.specs.declared.operation.Way.TheVariants.{Up, Down}
 use Rattle.elan_tree.specs.declared.written_type.Name.{Name}
@@ -22,7 +22,7 @@ use Rattle.elan_scope.specs.declared.scope.Scope.{Scope}
 use Rattle.elan_unbuilt.specs.Operators.{operator_text}
 use Rattle.elan_scope.specs.declared.scope.Usage.TheVariants.{Expression, Counter as Counts}
 use Rattle.elan_scope.specs.Phrase as form
-use Rattle.elan_scope.specs.Phrase.{Phrase, phrase, Parts, none, part, leaf, around, pair, three, all_of, place}
+use Rattle.elan_scope.specs.Phrase.{Form, Phrase, phrase, leaf, around, pair, all_of, place}
 
 -- a part that may be left out
 abbrev pub written : Option Phrase → Phrase
@@ -72,6 +72,29 @@ abbrev pub in_role : Option Delivery → Phrase → List Phrase
 in_role None p = []
 in_role (Some d) p = role d p ∷ []
 
+-- ---- conditions, each before its units
+
+abbrev pub branches : List (Phrase × Phrase) → List Phrase
+branches [] = []
+branches (b ∷ bs) = b.0 ∷ b.1 ∷ branches bs
+
+-- ---- loops
+
+-- the counter of a loop: the name, what it begins with, the limit, and the way to it
+abbrev pub Counted : Type 0
+Counted = Phrase × Phrase × Phrase × Way
+
+abbrev pub loop_form : ℕ → Option Counted → Form
+loop_form at None = form.loop at
+loop_form at (Some k) = form.count at k.3
+
+abbrev pub counter_parts : Option Counted → List Phrase
+counter_parts None = []
+counter_parts (Some k) = k.0 ∷ k.1 ∷ k.2 ∷ []
+
+abbrev pub loop : ℕ → Option Counted → Phrase → Phrase → Phrase → Phrase
+loop at k c us u = phrase (loop_form at k) (all_of (counter_parts k ++ c ∷ us ∷ u ∷ []))
+
 -- ---- labels
 
 -- the number of a label, if it has one
@@ -92,24 +115,25 @@ module _ (s : Scope) where
   label_phrases earlier [] = []
   label_phrases earlier (l ∷ ls) = label_phrase earlier l ∷ label_phrases (earlier ++ number l) ls
 
-  abbrev pub arm_phrase : List ℤ → (List Label × Phrase) → Phrase
-  arm_phrase earlier c = pair form.arm (phrase form.labels (all_of (label_phrases earlier c.0))) c.1
+  -- the labels of a case after others, each compared with all before it
+  abbrev pub labels_phrase : List ℤ → List Label → Phrase
+  labels_phrase earlier ls = phrase form.labels (all_of (label_phrases earlier ls))
 
-  -- A label is compared with all labels before it.
-  abbrev pub arm_phrases : List ℤ → List (List Label × Phrase) → List Phrase
-  arm_phrases earlier [] = []
-  arm_phrases earlier (c ∷ cs) = arm_phrase earlier c ∷ arm_phrases (earlier ++ numbers c.0) cs
+  -- labels, each before the units that they choose
+  abbrev pub arms : List ℤ → List (List Label × Phrase) → List Phrase
+  arms earlier [] = []
+  arms earlier (c ∷ cs) = labels_phrase earlier c.0 ∷ c.1 ∷ arms (earlier ++ numbers c.0) cs
 
   -- ---- the tree; an empty unit has no phrase
 
-  abbrev pub expr_step : Expr-F Phrase (Way × Phrase) (Option Phrase) Phrase (List Label × Phrase) Phrase Phrase → Phrase
+  abbrev pub expr_step : Expr-F Phrase (Way × Phrase) (Option Phrase) (Phrase × Phrase) (List Label × Phrase) Counted Phrase → Phrase
   expr_step (t.Number at n) = leaf (form.number at n)
   expr_step (t.Truth at b) = leaf (form.truth at b)
   expr_step (t.Named n) = leaf (form.named Expression n.at s n.text)
   expr_step (t.Call n actuals) = phrase (form.applied n.at s Procedure n.text) (all_of actuals)
   expr_step (t.Bracket at a) = around (form.bracket at) a
-  expr_step (t.If at branches other) = pair (form.choice at) (phrase form.branches (all_of branches)) (otherwise other)
-  expr_step (t.Select at of cases other) = three (form.selection at) of (phrase form.arms (all_of (arm_phrases [] cases))) (otherwise other)
+  expr_step (t.If at bs other) = phrase (form.choice at) (all_of (branches bs ++ otherwise other ∷ []))
+  expr_step (t.Select at of cases other) = phrase (form.selection at) (all_of (of ∷ arms [] cases ++ otherwise other ∷ []))
   expr_step (t.Monadic at o a) = around (form.applied at s Operator (operator_text o)) a
   expr_step (t.Dyadic at o a b) = pair (form.applied at s Operator (operator_text o)) a b
   expr_step (t.Cand at a b) = pair (form.cand at) a b
@@ -121,64 +145,77 @@ module _ (s : Scope) where
   expr_step (t.Field at of field) = leaf form.not_built
 
   -- Without a limit a counter goes up.
-  abbrev pub limit_step : Limit-F Phrase (Way × Phrase) (Option Phrase) Phrase (List Label × Phrase) Phrase Phrase → Way × Phrase
+  abbrev pub limit_step : Limit-F Phrase (Way × Phrase) (Option Phrase) (Phrase × Phrase) (List Label × Phrase) Counted Phrase → Way × Phrase
   limit_step t.Without = (Up, leaf form.absent)
   limit_step (t.Upto a) = (Up, a)
   limit_step (t.Downto a) = (Down, a)
 
-  abbrev pub unit_step : Unit-F Phrase (Way × Phrase) (Option Phrase) Phrase (List Label × Phrase) Phrase Phrase → Option Phrase
+  abbrev pub unit_step : Unit-F Phrase (Way × Phrase) (Option Phrase) (Phrase × Phrase) (List Label × Phrase) Counted Phrase → Option Phrase
   unit_step t.Empty = None
   unit_step (t.Variables at of items) = Some (phrase (form.declaration at) (all_of items))
   unit_step (t.Constants at of items) = Some (phrase (form.declaration at) (all_of items))
   unit_step (t.Value a) = Some (around form.statement a)
   unit_step (t.Becomes at a b) = Some (pair (form.assignment at s) a b)
-  unit_step (t.Loop at counter condition us until) =
-      Some (phrase (form.loop at) (part (written counter) (part (written condition) (part (units Nothing us) (part (written until) none)))))
+  unit_step (t.Loop at counter condition us until) = Some (loop at counter (written condition) (units Nothing us) (written until))
   unit_step (t.Let at items) = Some (leaf form.not_built)
   unit_step (t.Bound at of items) = Some (leaf form.not_built)
   unit_step (t.Leave at n value) = Some (around (form.leave at s n.text) (written value))
 
-  abbrev pub branch_step : Branch-F Phrase (Way × Phrase) (Option Phrase) Phrase (List Label × Phrase) Phrase Phrase → Phrase
-  branch_step b = pair form.branch b.condition (units Open b.units)
+  abbrev pub branch_step : Branch-F Phrase (Way × Phrase) (Option Phrase) (Phrase × Phrase) (List Label × Phrase) Counted Phrase → Phrase × Phrase
+  branch_step b = (b.condition, units Open b.units)
 
-  abbrev pub case_step : Case-F Phrase (Way × Phrase) (Option Phrase) Phrase (List Label × Phrase) Phrase Phrase → List Label × Phrase
+  abbrev pub case_step : Case-F Phrase (Way × Phrase) (Option Phrase) (Phrase × Phrase) (List Label × Phrase) Counted Phrase → List Label × Phrase
   case_step c = (c.labels, units Open c.units)
 
-  abbrev pub counter_step : Counter-F Phrase (Way × Phrase) (Option Phrase) Phrase (List Label × Phrase) Phrase Phrase → Phrase
-  counter_step c = three (form.counter c.limit.0) (leaf (form.named Counts c.name.at s c.name.text)) (written c.from) c.limit.1
+  abbrev pub counter_step : Counter-F Phrase (Way × Phrase) (Option Phrase) (Phrase × Phrase) (List Label × Phrase) Counted Phrase → Counted
+  counter_step c = (leaf (form.named Counts c.name.at s c.name.text), written c.from, c.limit.1, c.limit.0)
 
   abbrev pub item_with : Name → Phrase → Option Phrase → Phrase
-  item_with n p None = around form.item p
+  item_with n p None = p
   item_with n p (Some a) = pair (form.initial n.at) p a
 
-  abbrev pub item_step : Item-F Phrase (Way × Phrase) (Option Phrase) Phrase (List Label × Phrase) Phrase Phrase → Phrase
+  abbrev pub item_step : Item-F Phrase (Way × Phrase) (Option Phrase) (Phrase × Phrase) (List Label × Phrase) Counted Phrase → Phrase
   item_step i = item_with i.name (leaf (form.declares i.name.at s i.name.text)) i.init
 
   abbrev pub expr : Expr → Phrase
-  expr = fold-Expr Phrase (Way × Phrase) (Option Phrase) Phrase (List Label × Phrase) Phrase Phrase expr_step limit_step unit_step branch_step case_step counter_step item_step
+  expr =
+      fold-Expr Phrase (Way × Phrase) (Option Phrase) (Phrase × Phrase) (List Label × Phrase) Counted Phrase expr_step limit_step unit_step branch_step
+      case_step counter_step item_step
 
   abbrev pub limit : Limit → Way × Phrase
-  limit = fold-Limit Phrase (Way × Phrase) (Option Phrase) Phrase (List Label × Phrase) Phrase Phrase expr_step limit_step unit_step branch_step case_step counter_step item_step
+  limit =
+      fold-Limit Phrase (Way × Phrase) (Option Phrase) (Phrase × Phrase) (List Label × Phrase) Counted Phrase expr_step limit_step unit_step branch_step
+      case_step counter_step item_step
 
   abbrev pub unit : Statement → Option Phrase
-  unit = fold-Unit Phrase (Way × Phrase) (Option Phrase) Phrase (List Label × Phrase) Phrase Phrase expr_step limit_step unit_step branch_step case_step counter_step item_step
+  unit =
+      fold-Unit Phrase (Way × Phrase) (Option Phrase) (Phrase × Phrase) (List Label × Phrase) Counted Phrase expr_step limit_step unit_step branch_step
+      case_step counter_step item_step
 
-  abbrev pub branch : Branch → Phrase
-  branch = fold-Branch Phrase (Way × Phrase) (Option Phrase) Phrase (List Label × Phrase) Phrase Phrase expr_step limit_step unit_step branch_step case_step counter_step item_step
+  abbrev pub branch : Branch → Phrase × Phrase
+  branch =
+      fold-Branch Phrase (Way × Phrase) (Option Phrase) (Phrase × Phrase) (List Label × Phrase) Counted Phrase expr_step limit_step unit_step branch_step
+      case_step counter_step item_step
 
   abbrev pub case : Case → List Label × Phrase
-  case = fold-Case Phrase (Way × Phrase) (Option Phrase) Phrase (List Label × Phrase) Phrase Phrase expr_step limit_step unit_step branch_step case_step counter_step item_step
+  case =
+      fold-Case Phrase (Way × Phrase) (Option Phrase) (Phrase × Phrase) (List Label × Phrase) Counted Phrase expr_step limit_step unit_step branch_step
+      case_step counter_step item_step
 
-  abbrev pub counter : Counter → Phrase
-  counter = fold-Counter Phrase (Way × Phrase) (Option Phrase) Phrase (List Label × Phrase) Phrase Phrase expr_step limit_step unit_step branch_step case_step counter_step item_step
+  abbrev pub counter : Counter → Counted
+  counter =
+      fold-Counter Phrase (Way × Phrase) (Option Phrase) (Phrase × Phrase) (List Label × Phrase) Counted Phrase expr_step limit_step unit_step branch_step
+      case_step counter_step item_step
 
   abbrev pub item : Item → Phrase
-  item = fold-Item Phrase (Way × Phrase) (Option Phrase) Phrase (List Label × Phrase) Phrase Phrase expr_step limit_step unit_step branch_step case_step counter_step item_step
+  item =
+      fold-Item Phrase (Way × Phrase) (Option Phrase) (Phrase × Phrase) (List Label × Phrase) Counted Phrase expr_step limit_step unit_step branch_step
+      case_step counter_step item_step
 
   abbrev pub optional_expr : Option Expr → Phrase
   optional_expr None = leaf form.absent
   optional_expr (Some a) = expr a
 
-  abbrev pub optional_counter : Option Counter → Phrase
-  optional_counter None = leaf form.absent
-  optional_counter (Some k) = counter k
+  abbrev pub optional_counter : Option Counter → Option Counted
+  optional_counter None = None
+  optional_counter (Some k) = Some (counter k)

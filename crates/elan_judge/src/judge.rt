@@ -1,26 +1,25 @@
 //! The meaning of expressions and units, from left to right.
 
-ghost use Rattle.std.specs.Prelude.{ℕ, ◌≡◌, ◌++◌, [], List, map};
+ghost use Rattle.std.specs.Prelude.{ℕ, ◌≡◌, ◌++◌, ◌∷◌, [], List, map};
+ghost use Rattle.elan_scope.specs.declared.known.Known.{Known};
 ghost use Rattle.elan_scope.specs.declared.scope.Scope.{Scope};
 ghost use Rattle.elan_scope.specs.Phrase as form;
 ghost use Rattle.elan_scope.specs.Phrase.{Phrase, phrase, all_of};
 ghost use Rattle.elan_rules.specs.Meaning.{judged, judged_all};
+ghost use Rattle.elan_rules.specs.Rules.{rule};
 ghost use Rattle.elan_scope.specs.Answer.{Is};
 ghost use Rattle.elan_judge.specs.Shape as shape;
 
 use crate::label::{add_numbers, judge_labels};
 use crate::place::unit_place;
 use crate::role::asked;
-use choice_rules::choice::branches_of;
-use choice_rules::selection::arms_of;
+use choice_rules::choice::choice;
+use choice_rules::selection::selected;
 use elan_meant::meant::Meant;
 use elan_meant::row::{Judged, Row};
-use elan_rows::{four, let_go, let_meant_go, none, one, pair, three, with};
+use elan_rows::{before, let_go, none, one, pair, three, with};
 use elan_rules::assignment::assignment;
-use elan_rules::whole::{
-    arm_parts, branch_parts, cand_parts, choice_parts, cor_parts, counter_parts, initial_parts,
-    loop_parts, selection_parts,
-};
+use elan_rules::whole::{cand_parts, cor_parts, count_parts, initial_parts, loop_parts};
 use elan_scope::delivery::Delivery;
 use elan_scope::heading::Sort;
 use elan_scope::known::Known;
@@ -79,14 +78,14 @@ fn judge(alloc: Global, known: &Known, scope: &Scope, expr: &Expr) -> Judged
             branches,
             otherwise,
         } => {
-            let branches = judge_branches(alloc, known, scope, branches.as_slice());
+            let row = judge_branches(alloc, known, scope, branches.as_slice());
             let otherwise = match otherwise {
                 None => Ok(Meant::Absent),
                 Some(units) => judge_units(alloc, known, scope, Delivery::Open, units.as_slice()),
             };
-            match pair(alloc, branches, otherwise) {
+            match with(row, otherwise) {
                 Err(trouble) => Err(trouble),
-                Ok(parts) => choice_parts(alloc, *at, parts),
+                Ok(parts) => choice(alloc, *at, parts),
             }
         }
         Expr::Select {
@@ -96,14 +95,15 @@ fn judge(alloc: Global, known: &Known, scope: &Scope, expr: &Expr) -> Judged
             otherwise,
         } => {
             let of = judge(alloc, known, scope, of.get());
-            let arms = judge_cases(alloc, known, scope, cases.as_slice());
+            let row = judge_cases(alloc, known, scope, cases.as_slice());
             let otherwise = match otherwise {
                 None => Ok(Meant::Absent),
                 Some(units) => judge_units(alloc, known, scope, Delivery::Open, units.as_slice()),
             };
-            match three(alloc, of, arms, otherwise) {
+            let row = with(row, otherwise);
+            match before(of, row) {
                 Err(trouble) => Err(trouble),
-                Ok(parts) => selection_parts(alloc, *at, parts),
+                Ok((of, parts)) => selected(alloc, *at, of, parts),
             }
         }
         Expr::Monadic {
@@ -190,62 +190,54 @@ fn judge_optional(alloc: Global, known: &Known, scope: &Scope, expr: &Option<Exp
     }
 }
 
+// A row, and behind it a condition and the units that it guards.
 #[cycle(judge)]
-fn judge_branch(alloc: Global, known: &Known, scope: &Scope, branch: &Branch) -> Judged
-    ensures { Is result (judged known.now (shape.branch scope.now branch.now)) }
+fn add_branch(alloc: Global, known: &Known, scope: &Scope, row: Row, branch: &Branch) -> Row
+    ensures { (done : List Phrase) → Is row (judged_all known.now (all_of done)) → Is result (judged_all known.now (all_of (done ++ shape.branches (shape.branch scope.now branch.now ∷ [])))) }
 {
-    let condition = judge(alloc, known, scope, &branch.condition);
-    let units = judge_units(alloc, known, scope, Delivery::Open, branch.units.as_slice());
-    match pair(alloc, condition, units) {
-        Err(trouble) => Err(trouble),
-        Ok(parts) => branch_parts(alloc, parts),
-    }
+    let row = with(row, judge(alloc, known, scope, &branch.condition));
+    let units = branch.units.as_slice();
+    with(row, judge_units(alloc, known, scope, Delivery::Open, units))
 }
 
 #[cycle(judge)]
-fn branch_row(alloc: Global, known: &Known, scope: &Scope, branches: &[Branch]) -> Row
-    ensures { Is result (judged_all known.now (all_of (map (shape.branch scope.now) branches.now))) }
+fn judge_branches(alloc: Global, known: &Known, scope: &Scope, branches: &[Branch]) -> Row
+    ensures { Is result (judged_all known.now (all_of (shape.branches (map (shape.branch scope.now) branches.now)))) }
 {
     let mut row = none(alloc);
     for branch in branches {
-        row = with(row, judge_branch(alloc, known, scope, branch));
+        row = add_branch(alloc, known, scope, row, branch);
     }
     row
 }
 
+// A row, and behind it labels and the units that they choose.
 #[cycle(judge)]
-fn judge_branches(alloc: Global, known: &Known, scope: &Scope, branches: &[Branch]) -> Judged
-    ensures { Is result (judged known.now (phrase form.branches (all_of (map (shape.branch scope.now) branches.now)))) }
+fn add_case(
+    alloc: Global,
+    known: &Known,
+    scope: &Scope,
+    row: Row,
+    earlier: &[i16],
+    case: &Case,
+) -> Row
+    ensures { (done : List Phrase) → Is row (judged_all known.now (all_of done)) → Is result (judged_all known.now (all_of (done ++ shape.arms scope.now earlier.now (shape.case scope.now case.now ∷ [])))) }
 {
-    let row = branch_row(alloc, known, scope, branches)?;
-    let branches = branches_of(alloc, row)?;
-    Ok(Meant::Branches(branches))
-}
-
-#[cycle(judge)]
-fn judge_case(alloc: Global, known: &Known, scope: &Scope, earlier: &[i16], case: &Case) -> Judged
-    ensures { Is result (judged known.now (shape.arm_phrase scope.now earlier.now (shape.case scope.now case.now))) }
-{
-    let labels = judge_labels(alloc, known, scope, earlier, case.labels.as_slice());
-    let units = judge_units(alloc, known, scope, Delivery::Open, case.units.as_slice());
-    match pair(alloc, labels, units) {
-        Err(trouble) => Err(trouble),
-        Ok(parts) => arm_parts(alloc, parts),
-    }
+    let labels = case.labels.as_slice();
+    let row = with(row, judge_labels(alloc, known, scope, earlier, labels));
+    let units = case.units.as_slice();
+    with(row, judge_units(alloc, known, scope, Delivery::Open, units))
 }
 
 // Each label is compared with all before it.
 #[cycle(judge)]
-fn case_row(alloc: Global, known: &Known, scope: &Scope, cases: &[Case]) -> Row
-    ensures { Is result (judged_all known.now (all_of (shape.arm_phrases scope.now [] (map (shape.case scope.now) cases.now)))) }
+fn judge_cases(alloc: Global, known: &Known, scope: &Scope, cases: &[Case]) -> Row
+    ensures { Is result (judged_all known.now (all_of (shape.arms scope.now [] (map (shape.case scope.now) cases.now)))) }
 {
     let mut row = none(alloc);
     let mut earlier = List::new(alloc);
     for case in cases {
-        row = with(
-            row,
-            judge_case(alloc, known, scope, earlier.as_slice(), case),
-        );
+        row = add_case(alloc, known, scope, row, earlier.as_slice(), case);
         let Ok(()) = add_numbers(&mut earlier, case.labels.as_slice()) else {
             let_go(row);
             return Err(Trouble::NoMemory);
@@ -255,30 +247,13 @@ fn case_row(alloc: Global, known: &Known, scope: &Scope, cases: &[Case]) -> Row
 }
 
 #[cycle(judge)]
-fn judge_cases(alloc: Global, known: &Known, scope: &Scope, cases: &[Case]) -> Judged
-    ensures { Is result (judged known.now (phrase form.arms (all_of (shape.arm_phrases scope.now [] (map (shape.case scope.now) cases.now))))) }
-{
-    let row = case_row(alloc, known, scope, cases)?;
-    let arms = arms_of(alloc, row)?;
-    Ok(Meant::Arms(arms))
-}
-
-#[cycle(judge)]
 fn judge_item(alloc: Global, known: &Known, scope: &Scope, item: &Item) -> Judged
     ensures { Is result (judged known.now (shape.item scope.now item.now)) }
 {
     let at = item.name.at;
     let name = declared(alloc, at, scope, item.name.text.as_slice());
     match &item.init {
-        None => {
-            match name {
-                Err(trouble) => Err(trouble),
-                Ok(name) => {
-                    let_meant_go(name);
-                    Ok(Meant::Done(List::new(alloc)))
-                }
-            }
-        }
+        None => name,
         Some(expr) => {
             let value = judge(alloc, known, scope, expr);
             match pair(alloc, name, value) {
@@ -320,32 +295,36 @@ fn judge_limit(alloc: Global, known: &Known, scope: &Scope, limit: &Limit) -> Ju
     }
 }
 
+// The counter of a loop, its first value and its limit, if it has one.
 #[cycle(judge)]
-fn judge_counter(alloc: Global, known: &Known, scope: &Scope, counter: &Counter) -> Judged
-    ensures { Is result (judged known.now (shape.counter scope.now counter.now)) }
-{
-    let text = counter.name.text.as_slice();
-    let name = named(alloc, known, Usage::Counter, counter.name.at, scope, text);
-    let from = judge_optional(alloc, known, scope, &counter.from);
-    let limit = judge_limit(alloc, known, scope, &counter.limit);
-    match three(alloc, name, from, limit) {
-        Err(trouble) => Err(trouble),
-        Ok(parts) => counter_parts(alloc, way(&counter.limit), parts),
-    }
-}
-
-#[cycle(judge)]
-fn judge_optional_counter(
+fn judge_counter(
     alloc: Global,
     known: &Known,
     scope: &Scope,
     counter: &Option<Boxed<Counter>>,
-) -> Judged
-    ensures { Is result (judged known.now (shape.optional_counter scope.now counter.now)) }
+) -> Row
+    ensures { Is result (judged_all known.now (all_of (shape.counter_parts (shape.optional_counter scope.now counter.now)))) }
 {
     match counter {
-        None => Ok(Meant::Absent),
-        Some(counter) => judge_counter(alloc, known, scope, counter.get()),
+        None => none(alloc),
+        Some(counter) => {
+            let counter = counter.get();
+            let text = counter.name.text.as_slice();
+            let name = named(alloc, known, Usage::Counter, counter.name.at, scope, text);
+            let from = judge_optional(alloc, known, scope, &counter.from);
+            let limit = judge_limit(alloc, known, scope, &counter.limit);
+            three(alloc, name, from, limit)
+        }
+    }
+}
+
+// A loop, by what its parts mean.
+fn looped(alloc: Global, at: u32, counter: &Option<Boxed<Counter>>, parts: List<Meant>) -> Judged
+    ensures { (k : Known) → (s : Scope) → Is result (rule k (shape.loop_form at (shape.optional_counter s counter.now)) parts) }
+{
+    match counter {
+        None => loop_parts(alloc, at, parts),
+        Some(counter) => count_parts(alloc, at, way(&counter.get().limit), parts),
     }
 }
 
@@ -377,13 +356,15 @@ fn judge_unit(alloc: Global, known: &Known, scope: &Scope, unit: &Unit) -> Judge
             units,
             until,
         } => {
-            let counter = judge_optional_counter(alloc, known, scope, counter);
+            let row = judge_counter(alloc, known, scope, counter);
             let condition = judge_optional(alloc, known, scope, condition);
             let units = judge_units(alloc, known, scope, Delivery::Nothing, units.as_slice());
             let until = judge_optional(alloc, known, scope, until);
-            match four(alloc, counter, condition, units, until) {
+            let row = with(row, condition);
+            let row = with(row, units);
+            match with(row, until) {
                 Err(trouble) => Err(trouble),
-                Ok(parts) => loop_parts(alloc, *at, parts),
+                Ok(parts) => looped(alloc, *at, counter, parts),
             }
         }
         Unit::Let(_, _) | Unit::Bound(_, _, _) => Err(Trouble::Breaks(0, Why::Unknown)),

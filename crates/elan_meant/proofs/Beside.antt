@@ -25,13 +25,10 @@ single_joined (gives m) = refl
 single_joined (breaks f) = refl
 single_joined hangs = refl
 
--- ---- a row of two, three and four
+-- ---- a row of two and three
 
 pub two_row : {A : Type 0} (r q : Ruled A) → joined (before r (gives [])) q ≡ before r (before q (gives []))
 two_row r q = sym (before_joined r (gives []) q) ∙ ap (before r) (sym (single_joined q))
 
 pub three_row : {A : Type 0} (r q s : Ruled A) → joined (before r (before q (gives []))) s ≡ before r (before q (before s (gives [])))
 three_row r q s = sym (before_joined r (before q (gives [])) s) ∙ ap (before r) (two_row q s)
-
-pub four_row : {A : Type 0} (r q s u : Ruled A) → joined (before r (before q (before s (gives [])))) u ≡ before r (before q (before s (before u (gives []))))
-four_row r q s u = sym (before_joined r (before q (before s (gives []))) u) ∙ ap (before r) (three_row q s u)

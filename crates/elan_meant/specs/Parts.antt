@@ -103,9 +103,20 @@ abbrev pub three_of : {A : Type 0} → List A → Option (A × A × A)
 three_of (x ∷ y ∷ z ∷ []) = Some (x, y, z)
 three_of _ = None
 
-abbrev pub four_of : {A : Type 0} → List A → Option (A × A × A × A)
-four_of (w ∷ x ∷ y ∷ z ∷ []) = Some (w, x, y, z)
-four_of _ = None
+abbrev pub six_of : {A : Type 0} → List A → Option (A × A × A × A × A × A)
+six_of (u ∷ v ∷ w ∷ x ∷ y ∷ z ∷ []) = Some (u, v, w, x, y, z)
+six_of _ = None
+
+-- each two parts, and the last of an odd number
+abbrev pub pairs : {A : Type 0} → List A → List (A × A)
+pairs [] = []
+pairs (x ∷ []) = []
+pairs (x ∷ y ∷ xs) = (x, y) ∷ pairs xs
+
+abbrev pub odd : {A : Type 0} → List A → Option A
+odd [] = None
+odd (x ∷ []) = Some x
+odd (x ∷ y ∷ xs) = odd xs
 
 abbrev pub on_one : Option Meant → (Meant → Ruled Meant) → Ruled Meant
 on_one None f = unasked
@@ -119,6 +130,6 @@ abbrev pub on_three : Option (Meant × Meant × Meant) → (Meant → Meant → 
 on_three None f = unasked
 on_three (Some p) f = f p.0 p.1 p.2
 
-abbrev pub on_four : Option (Meant × Meant × Meant × Meant) → (Meant → Meant → Meant → Meant → Ruled Meant) → Ruled Meant
-on_four None f = unasked
-on_four (Some p) f = f p.0 p.1 p.2 p.3
+abbrev pub on_six : Option (Meant × Meant × Meant × Meant × Meant × Meant) → (Meant → Meant → Meant → Meant → Meant → Meant → Ruled Meant) → Ruled Meant
+on_six None f = unasked
+on_six (Some p) f = f p.0 p.1 p.2 p.3 p.4 p.5

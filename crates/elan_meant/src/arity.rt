@@ -1,9 +1,10 @@
 //! Parts, by their number.
 
-ghost use Rattle.std.specs.Prelude.{◌≡◌};
+ghost use Rattle.std.specs.Prelude.{◌≡◌, IfOk};
 ghost use Rattle.elan_meant.specs.Parts as spec;
 
-use eu_base::List;
+use eu_base::{List, NoMemory};
+use std::alloc::Global;
 
 /// The only part, where there is one.
 pub fn one_of<T: Drop>(mut parts: List<T>) -> Option<T>
@@ -40,16 +41,40 @@ pub fn three_of<T: Drop>(mut parts: List<T>) -> Option<(T, T, T)>
     }
 }
 
-/// Four parts, where there are four.
-pub fn four_of<T: Drop>(mut parts: List<T>) -> Option<(T, T, T, T)>
-    ensures { result ≡ spec.four_of parts }
+/// Six parts, where there are six.
+pub fn six_of<T: Drop>(mut parts: List<T>) -> Option<(T, T, T, T, T, T)>
+    ensures { result ≡ spec.six_of parts }
 {
-    if parts.len() != 4 {
+    if parts.len() != 6 {
         return None;
     }
-    let last = parts.pop();
-    match three_of(parts).zip(last) {
+    let sixth = parts.pop();
+    let fifth = parts.pop();
+    let fourth = parts.pop();
+    match three_of(parts).zip(fourth.zip(fifth.zip(sixth))) {
         None => None,
-        Some(((first, second, third), last)) => Some((first, second, third, last)),
+        Some(((first, second, third), (fourth, (fifth, sixth)))) => {
+            Some((first, second, third, fourth, fifth, sixth))
+        }
     }
+}
+
+/// Each two parts, and the last of an odd number.
+#[tactic(auto, using(crate::proofs::Pairs::pairs_push, crate::proofs::Pairs::odd_push))]
+pub fn pairs_of<T: Drop>(
+    alloc: Global,
+    parts: List<T>,
+) -> Result<(List<(T, T)>, Option<T>), NoMemory>
+    ensures pairs { IfOk result (λ p. p.0 ≡ spec.pairs parts) }
+    ensures odd { IfOk result (λ p. p.1 ≡ spec.odd parts) }
+{
+    let mut pairs = List::new(alloc);
+    let mut first = None;
+    for part in parts.into_vec() {
+        match first.take() {
+            None => first = Some(part),
+            Some(before) => pairs.push((before, part))?,
+        }
+    }
+    Ok((pairs, first))
 }

@@ -1,6 +1,6 @@
 //! What is known of a phrase that has meaning.
 
-use elan_types::{Action, Body, Change, ElanType, Operation, PlacePhrase, ValuePhrase, Way};
+use elan_types::{Action, Body, Change, ElanType, Operation, PlacePhrase, ValuePhrase};
 use eu_base::{Boxed, List};
 
 /// What a predefined operator or procedure does.
@@ -25,33 +25,6 @@ pub enum Part {
     Left(List<Action>),
 }
 
-/// A condition, if it is a truth value, and the units that it guards.
-#[derive(Drop)]
-pub struct Guarded {
-    pub condition: Option<Boxed<ValuePhrase>>,
-    pub part: Part,
-}
-
-/// Labels, and the units that they choose.
-#[derive(Drop)]
-pub struct Labelled {
-    pub labels: List<i16>,
-    pub part: Part,
-}
-
-/// The counter of a loop.
-#[derive(Drop)]
-pub struct Counted {
-    pub at: u32,
-    /// Its place, if it is a variable.
-    pub place: Option<PlacePhrase>,
-    pub from: ValuePhrase,
-    pub way: Way,
-    pub limit: Option<ValuePhrase>,
-    /// Counter, first value and limit are numbers.
-    pub are_numbers: bool,
-}
-
 /// What a phrase means.
 #[derive(Drop)]
 pub enum Meant {
@@ -74,9 +47,6 @@ pub enum Meant {
     /// A phrase that ends with a LEAVE: it delivers nothing, and agrees with every type.
     Left(List<Action>),
     Labels(List<i16>),
-    Branches(List<Guarded>),
-    Arms(List<Labelled>),
-    Counter(Boxed<Counted>),
     /// PROCs, OPs and refinements.
     Bodies(List<Body>),
     /// The units of a level, and its bodies.
@@ -94,4 +64,10 @@ impl Part {
 impl Meant {
     /// Lets it go, here and not inline in a caller, whose proof would be long with it.
     pub fn let_go(self) {}
+
+    /// Lets the parts of a phrase go.
+    pub fn all_let_go(_parts: List<Meant>) {}
+
+    /// Lets pairs of parts go.
+    pub fn pairs_let_go(_pairs: List<(Meant, Meant)>) {}
 }

@@ -85,19 +85,6 @@ pub fn three<T: Drop>(
     and(pair(alloc, first, second), third)
 }
 
-/// What four phrases mean, one after another.
-pub fn four<T: Drop>(
-    alloc: Global,
-    first: Result<T, Trouble>,
-    second: Result<T, Trouble>,
-    third: Result<T, Trouble>,
-    fourth: Result<T, Trouble>,
-) -> Result<List<T>, Trouble>
-    ensures { (r : Ruled T) → (q : Ruled T) → (s : Ruled T) → (u : Ruled T) → Is first r → Is second q → Is third s → Is fourth u → Is result (before r (before q (before s (before u (gives []))))) }
-{
-    and(three(alloc, first, second, third), fourth)
-}
-
 /// Two things that were made, unless memory ran out for one of them.
 pub fn both<A: Drop, B: Drop>(
     first: Result<A, NoMemory>,

@@ -4,4 +4,4 @@
 
 mod row;
 
-pub use row::{four, let_go, let_meant_go, none, one, pair, three, with};
+pub use row::{before, let_go, let_meant_go, none, one, pair, three, with};

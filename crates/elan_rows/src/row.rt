@@ -2,12 +2,13 @@
 
 ghost use Rattle.std.specs.Prelude.{[], List};
 ghost use Rattle.elan_meant.specs.declared.meant.Meant.{Meant};
-ghost use Rattle.elan_scope.specs.Ruled.{Ruled, gives, before, joined};
+ghost use Rattle.elan_scope.specs.Ruled.{Ruled, gives, before, beside, joined};
 ghost use Rattle.elan_scope.specs.Answer.{Is};
 
 use elan_meant::meant::Meant;
 use elan_meant::row as rows;
 use elan_meant::row::{Judged, Row};
+use elan_scope::trouble::Trouble;
 use eu_base::List;
 use std::alloc::Global;
 
@@ -46,15 +47,15 @@ pub fn three(alloc: Global, first: Judged, second: Judged, third: Judged) -> Row
     rows::three(alloc, first, second, third)
 }
 
-/// What four phrases mean, one after another.
-pub fn four(alloc: Global, first: Judged, second: Judged, third: Judged, fourth: Judged) -> Row
-    ensures { (r : Ruled Meant) → (q : Ruled Meant) → (s : Ruled Meant) → (u : Ruled Meant) → Is first r → Is second q → Is third s → Is fourth u → Is result (before r (before q (before s (before u (gives []))))) }
-{
-    rows::four(alloc, first, second, third, fourth)
-}
-
 /// Lets a row go.
 pub fn let_go(_row: Row) {}
 
 /// Lets what a phrase means go.
 pub fn let_meant_go(_meant: Meant) {}
+
+/// What a phrase means, and those behind it.
+pub fn before(first: Judged, rest: Row) -> Result<(Meant, List<Meant>), Trouble>
+    ensures { (r : Ruled Meant) → (rs : Ruled (List Meant)) → Is first r → Is rest rs → Is result (beside r rs) }
+{
+    rows::two(first, rest)
+}

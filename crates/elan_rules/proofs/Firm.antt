@@ -1,7 +1,7 @@
 -- Only an identifier hangs on a phrase elsewhere: one that denotes a refinement of which nothing is known.
 use Rattle.std.specs.Prelude.{nat_eq}
 use Rattle.eu_base.specs.Operations.{in_range}
-use Rattle.std.proofs.Common.{◌≡◌, ℕ, Bool, true, false, if◌then◌else◌, List, [], ◌∷◌, Option, Some, None, length, refl}
+use Rattle.std.proofs.Common.{◌≡◌, ℕ, Bool, true, false, ◌&&◌, if◌then◌else◌, List, [], ◌∷◌, Option, Some, None, length, refl}
 use Rattle.elan_types.specs.declared.elan_type.ElanType.{ElanType}
 use Rattle.elan_types.specs.declared.elan_type.ElanType.TheVariants.{Int}
 use Rattle.elan_types.specs.declared.core_phrase.PlacePhrase.{PlacePhrase}
@@ -13,6 +13,7 @@ use Rattle.elan_types.specs.declared.core_phrase.Parameter.{Parameter}
 use Rattle.elan_types.specs.declared.core_phrase.Exit.{Exit}
 use Rattle.elan_types.specs.declared.why.Why.TheVariants.{WrongPlace}
 use Rattle.eu_base.specs.declared.operation.Change.{Change}
+use Rattle.eu_base.specs.declared.operation.Way.{Way}
 use Rattle.elan_scope.specs.declared.delivery.Delivery.{Delivery}
 use Rattle.elan_scope.specs.declared.delivery.Delivery.TheVariants.{Open, Nothing, Of}
 use Rattle.elan_scope.specs.declared.scope.Denotes.{Denotes}
@@ -28,10 +29,8 @@ use Rattle.elan_scope.specs.declared.scope.Usage.{Usage}
 use Rattle.elan_scope.specs.declared.scope.Usage.TheVariants as usage
 use Rattle.elan_meant.specs.declared.meant.Part.{Part}
 use Rattle.elan_meant.specs.declared.meant.Part.TheVariants as part
-use Rattle.elan_meant.specs.declared.meant.Counted.{Counted}
-use Rattle.elan_meant.specs.declared.meant.Labelled.{Labelled}
 use Rattle.elan_meant.specs.declared.meant.Meant.{Meant}
-use Rattle.elan_meant.specs.declared.meant.Meant.TheVariants.{Absent, Variable, Value, Done, Left, Labels, Branches, Arms, Counter, Bodies, Level}
+use Rattle.elan_meant.specs.declared.meant.Meant.TheVariants.{Absent, Variable, Value, Done, Left, Labels, Bodies, Level}
 use Rattle.elan_scope.specs.Scope.{find, find_own, left, first_heading, types_of, is_alike, refinement_named}
 use Rattle.elan_scope.specs.declared.scope.Scope.{Scope}
 use Rattle.elan_scope.specs.declared.scope.Home.{Home}
@@ -84,9 +83,10 @@ three : (o : Option (Meant × Meant × Meant)) (f : Meant → Meant → Meant �
 three None f h = refl
 three (Some p) f h = h p.0 p.1 p.2
 
-four : (o : Option (Meant × Meant × Meant × Meant)) (f : Meant → Meant → Meant → Meant → Ruled Meant) → ((m n k l : Meant) → IsFirm (f m n k l)) → IsFirm (p.on_four o f)
-four None f h = refl
-four (Some p) f h = h p.0 p.1 p.2 p.3
+six : (o : Option (Meant × Meant × Meant × Meant × Meant × Meant)) (f : Meant → Meant → Meant → Meant → Meant → Meant → Ruled Meant)
+    → ((m n k l i j : Meant) → IsFirm (f m n k l i j)) → IsFirm (p.on_six o f)
+six None f h = refl
+six (Some p) f h = h p.0 p.1 p.2 p.3 p.4 p.5
 
 changed_at : (ch : Change) (at : ℕ) (x : Option PlacePhrase) (v : ValuePhrase) → IsFirm (c.changed_at ch at x v)
 changed_at ch at None v = refl
@@ -148,9 +148,6 @@ bracketed_value at (Value p t v) = refl
 bracketed_value at (Done as') = refl
 bracketed_value at (Left as') = refl
 bracketed_value at (Labels ns) = refl
-bracketed_value at (Branches gs) = refl
-bracketed_value at (Arms ls) = refl
-bracketed_value at (Counter k) = refl
 bracketed_value at (Bodies bs) = refl
 bracketed_value at (Level us bs) = refl
 
@@ -176,9 +173,6 @@ alone_value (Value p t v) = refl
 alone_value (Done as') = refl
 alone_value (Left as') = refl
 alone_value (Labels ns) = refl
-alone_value (Branches gs) = refl
-alone_value (Arms ls) = refl
-alone_value (Counter k) = refl
 alone_value (Bodies bs) = refl
 alone_value (Level us bs) = refl
 
@@ -192,9 +186,6 @@ without_value (Value p t v) = refl
 without_value (Done as') = refl
 without_value (Left as') = refl
 without_value (Labels ns) = refl
-without_value (Branches gs) = refl
-without_value (Arms ls) = refl
-without_value (Counter k) = refl
 without_value (Bodies bs) = refl
 without_value (Level us bs) = refl
 
@@ -208,23 +199,21 @@ label_named : (at : ℕ) (x : List ℕ) (o : Option Found) → IsFirm (h.label_n
 label_named at x (Some f) = refl
 label_named at x None = on_if (exists predefined x 0) _ _ refl refl
 
-selected_as : (at : ℕ) (v : ValuePhrase) (ls : List Labelled) (a : Part) (o : Option Delivery) → IsFirm (h.selected_as at v ls a o)
+selected_as : (at : ℕ) (v : ValuePhrase) (ls : List h.Guard) (a : Part) (o : Option Delivery) → IsFirm (h.selected_as at v ls a o)
 selected_as at v ls a None = refl
 selected_as at v ls a (Some Open) = refl
 selected_as at v ls a (Some Nothing) = refl
 selected_as at v ls a (Some (Of t)) = refl
 
-counting : (k : Counted) (x : Option PlacePhrase) (c : Option ValuePhrase) (us : List Action) (u : Option ValuePhrase) → IsFirm (l.counting k x c us u)
-counting k None c us u = refl
-counting k (Some x) c us u = refl
-
-looped : (at : ℕ) (k : Option Counted) (c : Option ValuePhrase) (us : List Action) (u : Option ValuePhrase) → IsFirm (l.looped at k c us u)
-looped at None c us u = refl
-looped at (Some k) c us u = on_bind (l.in_numbers at k) _ (on_if k.are_numbers _ _ refl refl) (λ n. counting n n.place c us u)
+counting : (w : Way) (a : ℕ) (x : Option PlacePhrase) (f k c us v : Meant) → IsFirm (l.counting w a x f k c us v)
+counting w a None f k c us v = refl
+counting w a (Some x) f k c us v = refl
 
 assignment_as : (at : ℕ) (ms : List Meant) (o : Option (ℕ × Heading)) → IsFirm (r.assignment_as at ms o)
 assignment_as at ms (Some b) = on_bind (c.called at b.0 b.1.what ms) _ (called at b.0 b.1.what ms) (λ m. alone m)
-assignment_as at ms None = two (p.two_of ms) (u.assigned at) (λ m n. on_bind (u.agreed at m n) _ (agreed_as at (p.type_in m) n) (λ t. assigned_to (p.variable_of m) (p.place_of m) t (p.value_of n)))
+assignment_as at ms None =
+    two (p.two_of ms) (u.assigned at)
+    (λ m n. on_bind (u.agreed at m n) _ (agreed_as at (p.type_in m) n) (λ t. assigned_to (p.variable_of m) (p.place_of m) t (p.value_of n)))
 
 -- the rules but that of identifiers
 abbrev pub Firm : Form → Type 0
@@ -241,23 +230,24 @@ rules kn (form.applied at s sort x) ms i = applied at s sort x ms
 rules kn (form.bracket at) ms i = one (p.one_of ms) (r.bracketed at) (bracketed at)
 rules kn (form.cand at) ms i = two (p.two_of ms) (r.cand at) (λ m n. on_if (r.are_truths m n) _ _ refl refl)
 rules kn (form.cor at) ms i = two (p.two_of ms) (r.cor at) (λ m n. on_if (r.are_truths m n) _ _ refl refl)
-rules kn form.branch ms i = two (p.two_of ms) _ (λ m n. refl)
-rules kn form.branches ms i = refl
-rules kn (form.choice at) ms i = two (p.two_of ms) (h.choice at) (λ m n. delivered at (h.chain (h.branches_in m) (Some (h.part_of n))))
+rules kn (form.choice at) ms i = delivered at (h.chain (p.pairs ms) (Some (h.otherwise (p.odd ms))))
 rules kn (form.label at earlier n) ms i = on_if (h.is_in earlier n) _ _ refl refl
 rules kn (form.label_name at s x) ms i = label_named at x (find s x)
 rules kn form.labels ms i = refl
-rules kn form.arm ms i = two (p.two_of ms) h.labelled (λ m n. refl)
-rules kn form.arms ms i = refl
-rules kn (form.selection at) ms i = three (p.three_of ms) (h.selected at) (λ m n k. on_if (delivers Int m) _ _ (selected_as at (p.value_of m) (h.arms_in n) (h.part_of k) (h.agreed (Some (h.delivery_in (h.part_of k))) (h.arms_in n))) refl)
+rules kn (form.selection at) [] i = refl
+rules kn (form.selection at) (m ∷ ms) i =
+    on_if (delivers Int m) _ _
+    (selected_as at (p.value_of m) (p.pairs ms) (h.otherwise (p.odd ms)) (h.agreed (Some (h.delivery_in (h.otherwise (p.odd ms)))) (p.pairs ms))) refl
 rules kn (form.declares at s x) ms i = declared at (find_own s x)
-rules kn form.item ms i = refl
-rules kn (form.initial at) ms i = two (p.two_of ms) (u.initial at) (λ m n. on_bind (u.agreed at m n) _ (agreed_as at (p.type_in m) n) (λ t. initial_to (p.variable_of m) t (p.value_of n)))
+rules kn (form.initial at) ms i =
+    two (p.two_of ms) (u.initial at) (λ m n. on_bind (u.agreed at m n) _ (agreed_as at (p.type_in m) n) (λ t. initial_to (p.variable_of m) t (p.value_of n)))
 rules kn (form.declaration at) ms i = refl
 rules kn form.statement ms i = one (p.one_of ms) u.alone alone
 rules kn (form.assignment at s) ms i = assignment_as at ms (first_heading (c.takes Operator becomes ms) s.headings)
-rules kn (form.counter w) ms i = three (p.three_of ms) _ (λ m n k. refl)
-rules kn (form.loop at) ms i = four (p.four_of ms) (l.loop at) (λ m n k j. on_if (l.conditions n j) _ _ (looped at (l.counter_in m) (p.written n) (p.actions k) (p.written j)) refl)
+rules kn (form.loop at) ms i = three (p.three_of ms) (l.loop at) (λ c us v. on_if (l.conditions c v) _ _ refl refl)
+rules kn (form.count at w) ms i =
+    six (p.six_of ms) (l.counted at w)
+    (λ n f k c us v. on_if (l.are_numbers n f k && l.conditions c v) _ _ (counting w (p.place_of n) (p.variable_of n) f k c us v) refl)
 rules kn form.without_value ms i = one (p.one_of ms) u.without_value without_value
 rules kn (form.must_deliver at t) ms i = one (p.one_of ms) (u.must_deliver at t) (λ m. on_if (u.agrees_with t m) _ _ refl refl)
 rules kn form.units ms i = refl
@@ -288,7 +278,8 @@ module _ (kn : Known) (at : ℕ) (s : Scope) (x : List ℕ) where
   refined_open None i e = absurd cc
   refined_open (Some n) i e = by_test (leads_back kn n s.refinement) refl e
     where
-      by_test : (b : Bool) → leads_back kn n s.refinement ≡ b → (if b then breaks (at, WrongPlace) else c.referred at n (delivery_at kn n)) ≡ hangs → IsOpen kn s x
+      by_test : (b : Bool) → leads_back kn n s.refinement ≡ b → (if b then breaks (at, WrongPlace) else c.referred at n (delivery_at kn n)) ≡ hangs
+          → IsOpen kn s x
       by_test true j g = absurd cc
       by_test false j g = (n, i, referred_open n (delivery_at kn n) g, j)
 

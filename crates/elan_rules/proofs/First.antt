@@ -28,7 +28,8 @@ bind_breaks hangs f d e = absurd cc
 pub gives_is : {A : Type 0} (x y : A) → gives x ≡ gives y → x ≡ y
 gives_is x y e = cc
 
-pub before_gives : {A : Type 0} (r : Ruled A) (rs : Ruled (List A)) (ys : List A) → before r rs ≡ gives ys → (x : A) × (xs : List A) × (r ≡ gives x) × (rs ≡ gives xs) × (ys ≡ x ∷ xs)
+pub before_gives : {A : Type 0} (r : Ruled A) (rs : Ruled (List A)) (ys : List A) → before r rs ≡ gives ys
+    → (x : A) × (xs : List A) × (r ≡ gives x) × (rs ≡ gives xs) × (ys ≡ x ∷ xs)
 before_gives (gives x) rs ys e =
     let b = bind_gives rs (λ xs. gives (x ∷ xs)) ys e in
     (x, b.0, refl, b.1, sym (gives_is (x ∷ b.0) ys b.2))
@@ -184,7 +185,8 @@ module _ (kn : Known) where
   same_fault : (p : Phrase) (f g : Fault) → Breaks kn p f → Breaks kn p g → f ≡ g
   same_fault p f g h k = fault_is f g (sym (judged_breaks p f h) ∙ judged_breaks p g k)
 
-  same_place : (b1 b2 a1 a2 : List Phrase) (p q : Phrase) (f g : Fault) → b1 ++ p ∷ a1 ≡ b2 ++ q ∷ a2 → NoneBreaks kn b1 → NoneBreaks kn b2 → Breaks kn p f → Breaks kn q g → f ≡ g
+  same_place : (b1 b2 a1 a2 : List Phrase) (p q : Phrase) (f g : Fault) → b1 ++ p ∷ a1 ≡ b2 ++ q ∷ a2 → NoneBreaks kn b1 → NoneBreaks kn b2 → Breaks kn p f
+      → Breaks kn q g → f ≡ g
   same_place [] [] a1 a2 p q f g e n1 n2 h k = let pq : p ≡ q = cc in same_fault q f g (subst (λ (r : Phrase). Breaks kn r f) pq h) k
   same_place [] (r ∷ b2) a1 a2 p q f g e n1 n2 h k = let pr : p ≡ r = cc in absurd (n2.0 f (subst (λ (r : Phrase). Breaks kn r f) pr h))
   same_place (r ∷ b1) [] a1 a2 p q f g e n1 n2 h k = let qr : q ≡ r = cc in absurd (n1.0 g (subst (λ (r : Phrase). Breaks kn r g) qr k))

@@ -41,23 +41,38 @@ module _ (here : Stand) where
   lies = place_type here.variables here.bodies here.home
 
   abbrev pub arm_typed : Arm → Bool
-  arm_typed = fold-Arm Bool Taken Typed Bool Typed (action_typed_step here.variables here.bodies here.home) (actual_type_step here.variables here.bodies here.home) (value_type_step here.variables here.bodies here.home) (arm_typed_step here.variables here.bodies here.home) (value_arm_type_step here.variables here.bodies here.home)
+  arm_typed =
+      fold-Arm Bool Taken Typed Bool Typed (action_typed_step here.variables here.bodies here.home) (actual_type_step here.variables here.bodies here.home)
+      (value_type_step here.variables here.bodies here.home) (arm_typed_step here.variables here.bodies here.home)
+      (value_arm_type_step here.variables here.bodies here.home)
 
   abbrev pub arm_type : ValueArm → Typed
-  arm_type = fold-ValueArm Bool Taken Typed Bool Typed (action_typed_step here.variables here.bodies here.home) (actual_type_step here.variables here.bodies here.home) (value_type_step here.variables here.bodies here.home) (arm_typed_step here.variables here.bodies here.home) (value_arm_type_step here.variables here.bodies here.home)
+  arm_type =
+      fold-ValueArm Bool Taken Typed Bool Typed (action_typed_step here.variables here.bodies here.home) (actual_type_step here.variables here.bodies here.home)
+      (value_type_step here.variables here.bodies here.home) (arm_typed_step here.variables here.bodies here.home)
+      (value_arm_type_step here.variables here.bodies here.home)
 
   abbrev pub actual_type : Actual → Taken
-  actual_type = fold-Actual Bool Taken Typed Bool Typed (action_typed_step here.variables here.bodies here.home) (actual_type_step here.variables here.bodies here.home) (value_type_step here.variables here.bodies here.home) (arm_typed_step here.variables here.bodies here.home) (value_arm_type_step here.variables here.bodies here.home)
+  actual_type =
+      fold-Actual Bool Taken Typed Bool Typed (action_typed_step here.variables here.bodies here.home) (actual_type_step here.variables here.bodies here.home)
+      (value_type_step here.variables here.bodies here.home) (arm_typed_step here.variables here.bodies here.home)
+      (value_arm_type_step here.variables here.bodies here.home)
 
   -- ---- one layer
 
-  of_action : (y : Action-F Action Actual ValuePhrase Arm ValueArm) → typed (roll-Action y) ≡ action_typed_step here.variables here.bodies here.home (map-Action _ _ _ _ _ _ _ _ _ _ typed actual_type type arm_typed arm_type y)
+  of_action : (y : Action-F Action Actual ValuePhrase Arm ValueArm)
+      → typed (roll-Action y) ≡ action_typed_step here.variables here.bodies here.home
+      (map-Action _ _ _ _ _ _ _ _ _ _ typed actual_type type arm_typed arm_type y)
   of_action y = rw fold-roll-Action refl
 
-  of_value : (y : ValuePhrase-F Action Actual ValuePhrase Arm ValueArm) → type (roll-ValuePhrase y) ≡ value_type_step here.variables here.bodies here.home (map-ValuePhrase _ _ _ _ _ _ _ _ _ _ typed actual_type type arm_typed arm_type y)
+  of_value : (y : ValuePhrase-F Action Actual ValuePhrase Arm ValueArm)
+      → type (roll-ValuePhrase y)
+      ≡ value_type_step here.variables here.bodies here.home (map-ValuePhrase _ _ _ _ _ _ _ _ _ _ typed actual_type type arm_typed arm_type y)
   of_value y = rw fold-roll-ValuePhrase refl
 
-  of_actual : (y : Actual-F Action Actual ValuePhrase Arm ValueArm) → actual_type (roll-Actual y) ≡ actual_type_step here.variables here.bodies here.home (map-Actual _ _ _ _ _ _ _ _ _ _ typed actual_type type arm_typed arm_type y)
+  of_actual : (y : Actual-F Action Actual ValuePhrase Arm ValueArm)
+      → actual_type (roll-Actual y)
+      ≡ actual_type_step here.variables here.bodies here.home (map-Actual _ _ _ _ _ _ _ _ _ _ typed actual_type type arm_typed arm_type y)
   of_actual y = rw fold-roll-Actual refl
 
   -- ---- values
@@ -71,7 +86,8 @@ module _ (here : Stand) where
   pub load_is : (p : PlacePhrase) (u : ElanType) → type (value.Load p u) ≡ only_if (has u (lies p)) (Some u)
   load_is p u = ap type (sym (value.rolls-Load p u)) ∙ of_value (t.Load p u)
 
-  pub apply_is : (op : Operation) (as' : List ValuePhrase) → type (value.Apply op as') ≡ only_if (have (map type_in (operand_kinds op)) (map type as')) (Some (type_in (result_kind op)))
+  pub apply_is : (op : Operation) (as' : List ValuePhrase)
+      → type (value.Apply op as') ≡ only_if (have (map type_in (operand_kinds op)) (map type as')) (Some (type_in (result_kind op)))
   apply_is op as' = ap type (sym (value.rolls-Apply op as')) ∙ of_value (t.Apply op as')
 
   pub cand_is : (a b : ValuePhrase) → type (value.Cand a b) ≡ only_if (has Truths (type a) && has Truths (type b)) (Some Truths)
@@ -83,7 +99,8 @@ module _ (here : Stand) where
   pub value_if_is : (c a b : ValuePhrase) → type (value.If c a b) ≡ only_if (has Truths (type c) && agree (type a) (type b)) (type a)
   value_if_is c a b = ap type (sym (value.rolls-If c a b)) ∙ of_value (t.ValuePhrase::If c a b)
 
-  pub value_select_is : (v : ValuePhrase) (arms : List ValueArm) (other : ValuePhrase) → type (value.Select v arms other) ≡ only_if (has Int (type v) && all_agree (type other) (map arm_type arms)) (type other)
+  pub value_select_is : (v : ValuePhrase) (arms : List ValueArm) (other : ValuePhrase)
+      → type (value.Select v arms other) ≡ only_if (has Int (type v) && all_agree (type other) (map arm_type arms)) (type other)
   value_select_is v arms other = ap type (sym (value.rolls-Select v arms other)) ∙ of_value (t.ValuePhrase::Select v arms other)
 
   pub value_unit_is : (a : ValuePhrase) → type (value.Unit a) ≡ type a
@@ -92,10 +109,14 @@ module _ (here : Stand) where
   pub after_is : (us : List Action) (a : ValuePhrase) → type (value.After us a) ≡ only_if (all_true (map typed us)) (type a)
   after_is us a = ap type (sym (value.rolls-After us a)) ∙ of_value (t.After us a)
 
-  pub call_is : (n : ℕ) (as' : List Actual) (u : ElanType) → type (value.Call n as' u) ≡ only_if (taken_by (scope_of (slice_get here.bodies n)) (map actual_type as') && has u (delivered_by (slice_get here.bodies n))) (Some u)
+  pub call_is : (n : ℕ) (as' : List Actual) (u : ElanType)
+      → type (value.Call n as' u)
+      ≡ only_if (taken_by (scope_of (slice_get here.bodies n)) (map actual_type as') && has u (delivered_by (slice_get here.bodies n))) (Some u)
   call_is n as' u = ap type (sym (value.rolls-Call n as' u)) ∙ of_value (t.ValuePhrase::Call n as' u)
 
-  pub refer_is : (n : ℕ) (u : ElanType) → type (value.Refer n u) ≡ only_if (refines (owner here.bodies here.home) (scope_of (slice_get here.bodies n)) && has u (delivered_by (slice_get here.bodies n))) (Some u)
+  pub refer_is : (n : ℕ) (u : ElanType)
+      → type (value.Refer n u)
+      ≡ only_if (refines (owner here.bodies here.home) (scope_of (slice_get here.bodies n)) && has u (delivered_by (slice_get here.bodies n))) (Some u)
   refer_is n u = ap type (sym (value.rolls-Refer n u)) ∙ of_value (t.ValuePhrase::Refer n u)
 
   pub value_arm_is : (ns : List ℤ) (a : ValuePhrase) → arm_type (record { labels = ns; value = a }) ≡ type a
@@ -112,10 +133,12 @@ module _ (here : Stand) where
   pub modify_is : (c : Change) (p : PlacePhrase) (a : ValuePhrase) → typed (action.Modify c p a) ≡ (has Int (lies p) && has Int (type a))
   modify_is c p a = ap typed (sym (action.rolls-Modify c p a)) ∙ of_action (t.Modify c p a)
 
-  pub if_is : (c : ValuePhrase) (us ws : List Action) → typed (action.If c us ws) ≡ (has Truths (type c) && (all_true (map typed us) && all_true (map typed ws)))
+  pub if_is : (c : ValuePhrase) (us ws : List Action)
+      → typed (action.If c us ws) ≡ (has Truths (type c) && (all_true (map typed us) && all_true (map typed ws)))
   if_is c us ws = ap typed (sym (action.rolls-If c us ws)) ∙ of_action (t.Action::If c us ws)
 
-  pub select_is : (a : ValuePhrase) (arms : List Arm) (ws : List Action) → typed (action.Select a arms ws) ≡ (has Int (type a) && (all_true (map arm_typed arms) && all_true (map typed ws)))
+  pub select_is : (a : ValuePhrase) (arms : List Arm) (ws : List Action)
+      → typed (action.Select a arms ws) ≡ (has Int (type a) && (all_true (map arm_typed arms) && all_true (map typed ws)))
   select_is a arms ws = ap typed (sym (action.rolls-Select a arms ws)) ∙ of_action (t.Action::Select a arms ws)
 
   pub put_is : (a : ValuePhrase) → typed (action.Put a) ≡ has Int (type a)
@@ -127,16 +150,20 @@ module _ (here : Stand) where
   pub arm_is : (ns : List ℤ) (us : List Action) → arm_typed (record { labels = ns; units = us }) ≡ all_true (map typed us)
   arm_is ns us = ap arm_typed (sym (rolls-Arm' (record { labels = ns; units = us }))) ∙ rw fold-roll-Arm refl
 
-  pub action_call_is : (n : ℕ) (as' : List Actual) → typed (action.Call n as') ≡ (taken_by (scope_of (slice_get here.bodies n)) (map actual_type as') && is_none (delivered_by (slice_get here.bodies n)))
+  pub action_call_is : (n : ℕ) (as' : List Actual)
+      → typed (action.Call n as') ≡ (taken_by (scope_of (slice_get here.bodies n)) (map actual_type as') && is_none (delivered_by (slice_get here.bodies n)))
   action_call_is n as' = ap typed (sym (action.rolls-Call n as')) ∙ of_action (t.Action::Call n as')
 
-  pub action_refer_is : (n : ℕ) → typed (action.Refer n) ≡ (refines (owner here.bodies here.home) (scope_of (slice_get here.bodies n)) && is_none (delivered_by (slice_get here.bodies n)))
+  pub action_refer_is : (n : ℕ)
+      → typed (action.Refer n)
+      ≡ (refines (owner here.bodies here.home) (scope_of (slice_get here.bodies n)) && is_none (delivered_by (slice_get here.bodies n)))
   action_refer_is n = ap typed (sym (action.rolls-Refer n)) ∙ of_action (t.Action::Refer n)
 
   pub leave_is : (e : Exit) → typed (action.Leave e) ≡ leaves_without (left_from here.bodies e here.home)
   leave_is e = ap typed (sym (action.rolls-Leave e)) ∙ of_action (t.Leave e)
 
-  pub leave_with_is : (e : Exit) (u : ElanType) (a : ValuePhrase) → typed (action.LeaveWith e u a) ≡ (has u (type a) && leaves_with u (left_from here.bodies e here.home))
+  pub leave_with_is : (e : Exit) (u : ElanType) (a : ValuePhrase)
+      → typed (action.LeaveWith e u a) ≡ (has u (type a) && leaves_with u (left_from here.bodies e here.home))
   leave_with_is e u a = ap typed (sym (action.rolls-LeaveWith e u a)) ∙ of_action (t.LeaveWith e u a)
 
   -- ---- what parameters are given
@@ -153,16 +180,20 @@ module _ (here : Stand) where
   has_written u None = true
   has_written u (Some a) = has u (type a)
 
-  pub loop_is : (c : Option ValuePhrase) (us : List Action) (u : Option ValuePhrase) → typed (action.Loop c us u) ≡ (has_written Truths c && (all_true (map typed us) && has_written Truths u))
+  pub loop_is : (c : Option ValuePhrase) (us : List Action) (u : Option ValuePhrase)
+      → typed (action.Loop c us u) ≡ (has_written Truths c && (all_true (map typed us) && has_written Truths u))
   loop_is None us None = ap typed (sym (action.rolls-Loop None us None)) ∙ of_action (t.Loop None us None)
   loop_is None us (Some u) = ap typed (sym (action.rolls-Loop None us (Some u))) ∙ of_action (t.Loop None us (Some u))
   loop_is (Some c) us None = ap typed (sym (action.rolls-Loop (Some c) us None)) ∙ of_action (t.Loop (Some c) us None)
   loop_is (Some c) us (Some u) = ap typed (sym (action.rolls-Loop (Some c) us (Some u))) ∙ of_action (t.Loop (Some c) us (Some u))
 
   abbrev counts : PlacePhrase → ValuePhrase → Option ValuePhrase → Option ValuePhrase → List Action → Option ValuePhrase → Bool
-  counts p from limit c us u = has Int (lies p) && (has Int (type from) && (has_written Int limit && (has_written Truths c && (all_true (map typed us) && has_written Truths u))))
+  counts p from limit c us u =
+      has Int (lies p) && (has Int (type from) && (has_written Int limit && (has_written Truths c && (all_true (map typed us) && has_written Truths u))))
 
-  layer : (p : PlacePhrase) (from : ValuePhrase) (w : Way) (l c : Option ValuePhrase) (us : List Action) (u : Option ValuePhrase) → action_typed_step here.variables here.bodies here.home (map-Action _ _ _ _ _ _ _ _ _ _ typed actual_type type arm_typed arm_type (t.Count p from w l c us u)) ≡ counts p from l c us u
+  layer : (p : PlacePhrase) (from : ValuePhrase) (w : Way) (l c : Option ValuePhrase) (us : List Action) (u : Option ValuePhrase)
+      → action_typed_step here.variables here.bodies here.home
+      (map-Action _ _ _ _ _ _ _ _ _ _ typed actual_type type arm_typed arm_type (t.Count p from w l c us u)) ≡ counts p from l c us u
   layer p from w None None us None = refl
   layer p from w None None us (Some u) = refl
   layer p from w None (Some c) us None = refl
@@ -172,5 +203,7 @@ module _ (here : Stand) where
   layer p from w (Some l) (Some c) us None = refl
   layer p from w (Some l) (Some c) us (Some u) = refl
 
-  pub count_is : (p : PlacePhrase) (from : ValuePhrase) (w : Way) (l c : Option ValuePhrase) (us : List Action) (u : Option ValuePhrase) → typed (action.Count p from w l c us u) ≡ (has Int (lies p) && (has Int (type from) && (has_written Int l && (has_written Truths c && (all_true (map typed us) && has_written Truths u)))))
+  pub count_is : (p : PlacePhrase) (from : ValuePhrase) (w : Way) (l c : Option ValuePhrase) (us : List Action) (u : Option ValuePhrase)
+      → typed (action.Count p from w l c us u)
+      ≡ (has Int (lies p) && (has Int (type from) && (has_written Int l && (has_written Truths c && (all_true (map typed us) && has_written Truths u)))))
   count_is p from w l c us u = ap typed (sym (action.rolls-Count p from w l c us u)) ∙ of_action (t.Count p from w l c us u) ∙ layer p from w l c us u

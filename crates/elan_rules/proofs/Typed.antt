@@ -9,11 +9,8 @@ use Rattle.elan_types.specs.declared.core_phrase.Action.{Action}
 use Rattle.elan_types.specs.declared.core_phrase.Action.TheVariants as action
 use Rattle.elan_meant.specs.declared.meant.Part.{Part}
 use Rattle.elan_meant.specs.declared.meant.Part.TheVariants as piece
-use Rattle.elan_meant.specs.declared.meant.Guarded.{Guarded}
-use Rattle.elan_meant.specs.declared.meant.Labelled.{Labelled}
-use Rattle.elan_meant.specs.declared.meant.Counted.{Counted}
 use Rattle.elan_meant.specs.declared.meant.Meant.{Meant}
-use Rattle.elan_meant.specs.declared.meant.Meant.TheVariants.{Absent, Variable, Value, Done, Left, Labels, Branches, Arms, Counter, Bodies, Level}
+use Rattle.elan_meant.specs.declared.meant.Meant.TheVariants.{Absent, Variable, Value, Done, Left, Labels, Bodies, Level}
 use Rattle.elan_scope.specs.Ruled.{Ruled, gives, breaks, hangs, ◌>>=◌}
 use Rattle.elan_types.specs.Typing.{Typed, same_type, has, agree, only_if, have, all_true}
 use Rattle.elan_meant.specs.Predefined.{delivers, fit}
@@ -87,22 +84,6 @@ module _ (here : Stand) where
   PartGood (piece.Value t v) = Has t v
   PartGood (piece.Left as') = AllTyped as'
 
-  abbrev pub GuardedGood : Guarded → Type 0
-  GuardedGood g = MayHave Truths g.condition × PartGood g.part
-
-  abbrev pub GuardsGood : List Guarded → Type 0
-  GuardsGood [] = Unit {0}
-  GuardsGood (g ∷ gs) = GuardedGood g × GuardsGood gs
-
-  abbrev pub ArmsGood : List Labelled → Type 0
-  ArmsGood [] = Unit {0}
-  ArmsGood (l ∷ ls) = PartGood l.part × ArmsGood ls
-
-  pub record CountedGood (k : Counted) : Type 0 where
-    pub lies : MayLie Int k.place
-    pub from : Has Int k.from
-    pub limit : MayHave Int k.limit
-
   abbrev pub Good : Meant → Type 0
   Good Absent = Unit {0}
   Good (Variable at t x) = lies here x ≡ Some t
@@ -110,9 +91,6 @@ module _ (here : Stand) where
   Good (Done as') = AllTyped as'
   Good (Left as') = AllTyped as'
   Good (Labels ns) = Unit {0}
-  Good (Branches gs) = GuardsGood gs
-  Good (Arms ls) = ArmsGood ls
-  Good (Counter k) = k.are_numbers ≡ true → CountedGood k
   Good (Bodies bs) = Unit {0}
   Good (Level us bs) = Unit {0}
 
@@ -125,26 +103,45 @@ module _ (here : Stand) where
   one (m ∷ []) f g h = h m g.0
   one (m ∷ n ∷ ms) f g h = tt
 
-  pub two : (ms : List Meant) (f : Meant → Meant → Ruled Meant) → AllGood ms → ((m n : Meant) → Good m → Good n → Gives Good (f m n)) → Gives Good (r.on_two (r.two_of ms) f)
+  pub two : (ms : List Meant) (f : Meant → Meant → Ruled Meant) → AllGood ms → ((m n : Meant) → Good m → Good n → Gives Good (f m n))
+      → Gives Good (r.on_two (r.two_of ms) f)
   two [] f g h = tt
   two (m ∷ []) f g h = tt
   two (m ∷ n ∷ []) f g h = h m n g.0 g.1.0
   two (m ∷ n ∷ k ∷ ms) f g h = tt
 
-  pub three : (ms : List Meant) (f : Meant → Meant → Meant → Ruled Meant) → AllGood ms → ((m n k : Meant) → Good m → Good n → Good k → Gives Good (f m n k)) → Gives Good (r.on_three (r.three_of ms) f)
+  pub three : (ms : List Meant) (f : Meant → Meant → Meant → Ruled Meant) → AllGood ms → ((m n k : Meant) → Good m → Good n → Good k → Gives Good (f m n k))
+      → Gives Good (r.on_three (r.three_of ms) f)
   three [] f g h = tt
   three (m ∷ []) f g h = tt
   three (m ∷ n ∷ []) f g h = tt
   three (m ∷ n ∷ k ∷ []) f g h = h m n k g.0 g.1.0 g.1.1.0
   three (m ∷ n ∷ k ∷ l ∷ ms) f g h = tt
 
-  pub four : (ms : List Meant) (f : Meant → Meant → Meant → Meant → Ruled Meant) → AllGood ms → ((m n k l : Meant) → Good m → Good n → Good k → Good l → Gives Good (f m n k l)) → Gives Good (r.on_four (r.four_of ms) f)
-  four [] f g h = tt
-  four (m ∷ []) f g h = tt
-  four (m ∷ n ∷ []) f g h = tt
-  four (m ∷ n ∷ k ∷ []) f g h = tt
-  four (m ∷ n ∷ k ∷ l ∷ []) f g h = h m n k l g.0 g.1.0 g.1.1.0 g.1.1.1.0
-  four (m ∷ n ∷ k ∷ l ∷ p ∷ ms) f g h = tt
+  pub six : (ms : List Meant) (f : Meant → Meant → Meant → Meant → Meant → Meant → Ruled Meant) → AllGood ms →
+      ((m n k l i j : Meant) → Good m → Good n → Good k → Good l → Good i → Good j → Gives Good (f m n k l i j)) → Gives Good (r.on_six (r.six_of ms) f)
+  six [] f g h = tt
+  six (m ∷ []) f g h = tt
+  six (m ∷ n ∷ []) f g h = tt
+  six (m ∷ n ∷ k ∷ []) f g h = tt
+  six (m ∷ n ∷ k ∷ l ∷ []) f g h = tt
+  six (m ∷ n ∷ k ∷ l ∷ i ∷ []) f g h = tt
+  six (m ∷ n ∷ k ∷ l ∷ i ∷ j ∷ []) f g h = h m n k l i j g.0 g.1.0 g.1.1.0 g.1.1.1.0 g.1.1.1.1.0 g.1.1.1.1.1.0
+  six (m ∷ n ∷ k ∷ l ∷ i ∷ j ∷ p ∷ ms) f g h = tt
+
+  -- each two parts
+  abbrev pub PairsGood : List (Meant × Meant) → Type 0
+  PairsGood [] = Unit {0}
+  PairsGood (p ∷ ps) = (Good p.0 × Good p.1) × PairsGood ps
+
+  abbrev pub MayGood : Option Meant → Type 0
+  MayGood None = Unit {0}
+  MayGood (Some m) = Good m
+
+  pub pairs_good : (ms : List Meant) → AllGood ms → PairsGood (r.pairs ms) × MayGood (r.odd ms)
+  pairs_good [] g = (tt, tt)
+  pairs_good (m ∷ []) g = (tt, g.0)
+  pairs_good (m ∷ n ∷ ms) g = let h = pairs_good ms g.1.1 in (((g.0, g.1.0), h.0), h.1)
 
   -- ---- what parts deliver
 
@@ -159,9 +156,6 @@ module _ (here : Stand) where
   loaded_good (Done as') g = g
   loaded_good (Left as') g = g
   loaded_good (Labels ns) g = g
-  loaded_good (Branches gs) g = g
-  loaded_good (Arms ls) g = g
-  loaded_good (Counter k) g = g
   loaded_good (Bodies bs) g = g
   loaded_good (Level us bs) g = g
 
@@ -172,9 +166,6 @@ module _ (here : Stand) where
   value_typed t (Done as') g e = absurd cc
   value_typed t (Left as') g e = absurd cc
   value_typed t (Labels ns) g e = absurd cc
-  value_typed t (Branches gs) g e = absurd cc
-  value_typed t (Arms ls) g e = absurd cc
-  value_typed t (Counter k) g e = absurd cc
   value_typed t (Bodies bs) g e = absurd cc
   value_typed t (Level us bs) g e = absurd cc
 
@@ -185,9 +176,6 @@ module _ (here : Stand) where
   lies_typed t (Done as') g e = absurd cc
   lies_typed t (Left as') g e = absurd cc
   lies_typed t (Labels ns) g e = absurd cc
-  lies_typed t (Branches gs) g e = absurd cc
-  lies_typed t (Arms ls) g e = absurd cc
-  lies_typed t (Counter k) g e = absurd cc
   lies_typed t (Bodies bs) g e = absurd cc
   lies_typed t (Level us bs) g e = absurd cc
 
@@ -198,9 +186,6 @@ module _ (here : Stand) where
   may_typed t (Done as') g e = absurd cc
   may_typed t (Left as') g e = absurd cc
   may_typed t (Labels ns) g e = absurd cc
-  may_typed t (Branches gs) g e = absurd cc
-  may_typed t (Arms ls) g e = absurd cc
-  may_typed t (Counter k) g e = absurd cc
   may_typed t (Bodies bs) g e = absurd cc
   may_typed t (Level us bs) g e = absurd cc
 
@@ -211,9 +196,6 @@ module _ (here : Stand) where
   actions_typed (Done as') g = g
   actions_typed (Left as') g = g
   actions_typed (Labels ns) g = refl
-  actions_typed (Branches gs) g = refl
-  actions_typed (Arms ls) g = refl
-  actions_typed (Counter k) g = refl
   actions_typed (Bodies bs) g = refl
   actions_typed (Level us bs) g = refl
 
@@ -224,9 +206,6 @@ module _ (here : Stand) where
   part_good (Done as') g = g
   part_good (Left as') g = g
   part_good (Labels ns) g = refl
-  part_good (Branches gs) g = refl
-  part_good (Arms ls) g = refl
-  part_good (Counter k) g = refl
   part_good (Bodies bs) g = refl
   part_good (Level us bs) g = refl
 

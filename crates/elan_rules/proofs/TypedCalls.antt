@@ -10,7 +10,7 @@ use Rattle.elan_types.specs.declared.core_phrase.Action.TheVariants as action
 use Rattle.elan_meant.specs.declared.meant.Meant.{Meant}
 use Rattle.elan_scope.specs.declared.scope.Usage.{Usage}
 use Rattle.elan_scope.specs.declared.scope.Usage.TheVariants as usage
-use Rattle.elan_meant.specs.declared.meant.Meant.TheVariants.{Absent, Variable, Value, Done, Left, Labels, Branches, Arms, Counter, Bodies, Level}
+use Rattle.elan_meant.specs.declared.meant.Meant.TheVariants.{Absent, Variable, Value, Done, Left, Labels, Bodies, Level}
 use Rattle.elan_scope.specs.Ruled.{Ruled, gives, breaks, hangs, before}
 use Rattle.std.specs.Prelude.{slice_get, nat_eq}
 use Rattle.std.specs.Str.{bytes_eq}
@@ -57,7 +57,8 @@ use Rattle.elan_rules.proofs.TypeEquations.{Stand, typed, lies, actual_type, loa
 
 -- ---- look-ups
 
-on_before : {A : Type 0} (P : A → Type 0) (Q : List A → Type 0) (q : Ruled A) (qs : Ruled (List A)) → Gives P q → Gives Q qs → (S : List A → Type 0) → ((x : A) (xs : List A) → P x → Q xs → S (x ∷ xs)) → Gives S (before q qs)
+on_before : {A : Type 0} (P : A → Type 0) (Q : List A → Type 0) (q : Ruled A) (qs : Ruled (List A)) → Gives P q → Gives Q qs → (S : List A → Type 0)
+    → ((x : A) (xs : List A) → P x → Q xs → S (x ∷ xs)) → Gives S (before q qs)
 on_before P Q (gives x) (gives xs) h k S f = f x xs h k
 on_before P Q (gives x) (breaks d) h k S f = tt
 on_before P Q (gives x) hangs h k S f = tt
@@ -83,14 +84,21 @@ held_behind : (ps ys xs : List Parameter) (i : ℕ) → HeldAt ps xs i → HeldA
 held_behind [] ys xs i h = tt
 held_behind (q ∷ ps) ys xs i h = behind ys xs i ∙ h
 
-found_held : (k : ℕ) (es : List Entry) (x : List ℕ) (f : ℕ × Entry) → scope.first_from k es x ≡ Some f → (i : ℕ) × (f.0 ≡ k + i) × HeldAt (held f.1.denotes) (all_held es) i
+found_held : (k : ℕ) (es : List Entry) (x : List ℕ) (f : ℕ × Entry) → scope.first_from k es x ≡ Some f
+    → (i : ℕ) × (f.0 ≡ k + i) × HeldAt (held f.1.denotes) (all_held es) i
 found_held k [] x f e = absurd cc
 found_held k (d ∷ es) x f e = by_name (found_held (k + length (held d.denotes)) es x f) (bytes_eq d.name x) e
   where
-    by_name : (scope.first_from (k + length (held d.denotes)) es x ≡ Some f → (i : ℕ) × (f.0 ≡ k + length (held d.denotes) + i) × HeldAt (held f.1.denotes) (all_held es) i) → (b : Bool) → (if b then Some (k, d) else scope.first_from (k + length (held d.denotes)) es x) ≡ Some f → (i : ℕ) × (f.0 ≡ k + i) × HeldAt (held f.1.denotes) (all_held (d ∷ es)) i
+    by_name : (scope.first_from (k + length (held d.denotes)) es x ≡ Some f
+        → (i : ℕ) × (f.0 ≡ k + length (held d.denotes) + i) × HeldAt (held f.1.denotes) (all_held es) i) → (b : Bool)
+        → (if b then Some (k, d) else scope.first_from (k + length (held d.denotes)) es x) ≡ Some f
+        → (i : ℕ) × (f.0 ≡ k + i) × HeldAt (held f.1.denotes) (all_held (d ∷ es)) i
     by_name rest true h =
-        let g : (k, d) ≡ f = cc in
-        (0, (let i : f.0 ≡ k = sym (ap (λ (q : ℕ × Entry). q.0) g) in omega arith), subst (λ (q : ℕ × Entry). HeldAt (held q.1.denotes) (all_held (d ∷ es)) 0) g (held_first (held d.denotes) (all_held es)))
+        let g : (k, d) ≡ f = cc in (
+          0,
+          (let i : f.0 ≡ k = sym (ap (λ (q : ℕ × Entry). q.0) g) in omega arith),
+          subst (λ (q : ℕ × Entry). HeldAt (held q.1.denotes) (all_held (d ∷ es)) 0) g (held_first (held d.denotes) (all_held es)),
+        )
     by_name rest false h =
         let g = rest h in
         (length (held d.denotes) + g.0, (let i = g.1 in omega arith), held_behind (held f.1.denotes) (held d.denotes) (all_held es) g.0 g.2)
@@ -100,17 +108,25 @@ types_at [] i q e = absurd cc
 types_at (a ∷ ps) zero q e = let h : a ≡ q = cc in ap (λ (b : Parameter). Some b.of) h
 types_at (a ∷ ps) (suc i) q e = types_at ps i q e
 
-heading_at : (k : ℕ) (test : Heading → Bool) (hs : List Heading) (b : ℕ × Heading) → scope.first_heading_from k test hs ≡ Some b → (i : ℕ) × (b.0 ≡ k + i) × (slice_get hs i ≡ Some b.1) × (test b.1 ≡ true)
+heading_at : (k : ℕ) (test : Heading → Bool) (hs : List Heading) (b : ℕ × Heading) → scope.first_heading_from k test hs ≡ Some b
+    → (i : ℕ) × (b.0 ≡ k + i) × (slice_get hs i ≡ Some b.1) × (test b.1 ≡ true)
 heading_at k test [] b e = absurd cc
 heading_at k test (h ∷ hs) b e = by_test (heading_at (k + 1) test hs b) (test h) refl e
   where
-    by_test : (scope.first_heading_from (k + 1) test hs ≡ Some b → (i : ℕ) × (b.0 ≡ k + 1 + i) × (slice_get hs i ≡ Some b.1) × (test b.1 ≡ true)) → (c : Bool) → test h ≡ c → (if c then Some (k, h) else scope.first_heading_from (k + 1) test hs) ≡ Some b → (i : ℕ) × (b.0 ≡ k + i) × (slice_get (h ∷ hs) i ≡ Some b.1) × (test b.1 ≡ true)
+    by_test : (scope.first_heading_from (k + 1) test hs ≡ Some b → (i : ℕ) × (b.0 ≡ k + 1 + i) × (slice_get hs i ≡ Some b.1) × (test b.1 ≡ true)) → (c : Bool)
+        → test h ≡ c → (if c then Some (k, h) else scope.first_heading_from (k + 1) test hs) ≡ Some b
+        → (i : ℕ) × (b.0 ≡ k + i) × (slice_get (h ∷ hs) i ≡ Some b.1) × (test b.1 ≡ true)
     by_test rest true t g =
-        let j : (k, h) ≡ b = cc in
-        (0, (let i : b.0 ≡ k = sym (ap (λ (q : ℕ × Heading). q.0) j) in omega arith), ap (λ (q : ℕ × Heading). Some q.1) j, subst (λ (q : ℕ × Heading). test q.1 ≡ true) j t)
+        let j : (k, h) ≡ b = cc in (
+          0,
+          (let i : b.0 ≡ k = sym (ap (λ (q : ℕ × Heading). q.0) j) in omega arith),
+          ap (λ (q : ℕ × Heading). Some q.1) j,
+          subst (λ (q : ℕ × Heading). test q.1 ≡ true) j t,
+        )
     by_test rest false t g = let j = rest g in (suc j.0, (let i = j.1 in omega arith), j.2, j.3)
 
-pub first_at : (test : Heading → Bool) (hs : List Heading) (b : ℕ × Heading) → scope.first_heading test hs ≡ Some b → (slice_get hs b.0 ≡ Some b.1) × (test b.1 ≡ true)
+pub first_at : (test : Heading → Bool) (hs : List Heading) (b : ℕ × Heading) → scope.first_heading test hs ≡ Some b
+    → (slice_get hs b.0 ≡ Some b.1) × (test b.1 ≡ true)
 first_at test hs b e =
     let h = heading_at 0 test hs b e in
     let i : b.0 ≡ h.0 = (let j = h.1 in omega arith) in
@@ -197,7 +213,8 @@ module _ (here : Stand) where
   chosen_suits [] x ms d g e = absurd cc
   chosen_suits (l ∷ ls) x ms d g e = by_test (chosen_suits ls x ms d g.1) (bytes_eq l.0 x && fit l.1 ms) refl e
     where
-      by_test : (chosen ls x ms ≡ Some d → Suits d ms) → (b : Bool) → (bytes_eq l.0 x && fit l.1 ms) ≡ b → (if b then Some l.2 else chosen ls x ms) ≡ Some d → Suits d ms
+      by_test : (chosen ls x ms ≡ Some d → Suits d ms) → (b : Bool) → (bytes_eq l.0 x && fit l.1 ms) ≡ b → (if b then Some l.2 else chosen ls x ms) ≡ Some d
+          → Suits d ms
       by_test rest true t h = let i : l.2 ≡ d = cc in subst (λ (k : Does). Suits k ms) i (row_suits l.1 l.2 ms g.0 (both _ _ t).1)
       by_test rest false t h = rest h
 
@@ -216,18 +233,71 @@ module _ (here : Stand) where
 
   puts_good : (ms : List Meant) → AllGood ms → fit (Int ∷ []) ms ≡ true → Gives Good (p.on_one (p.one_of ms) r.put)
   puts_good [] g e = tt
-  puts_good (m ∷ []) g e = ty.single_typed here (action.Put (p.value_of m)) (put_is here (p.value_of m) ∙ has_self Int _ (ty.value_typed here Int m g.0 (both _ _ e).0))
+  puts_good (m ∷ []) g e =
+      ty.single_typed here (action.Put (p.value_of m)) (put_is here (p.value_of m) ∙ has_self Int _ (ty.value_typed here Int m g.0 (both _ _ e).0))
   puts_good (m ∷ n ∷ ms) g e = tt
 
   done_good : (at : ℕ) (d : Does) (ms : List Meant) → AllGood ms → Suits d ms → Gives Good (r.done at d ms)
-  done_good at (Delivers op t) ms g e = apply_is here op (p.values_of ms) ∙ only_if_holds _ _ t (ty.values_typed here _ ms g e.0) (ap (λ (u : ElanType). Some u) (sym e.1))
+  done_good at (Delivers op t) ms g e =
+      apply_is here op (p.values_of ms) ∙ only_if_holds _ _ t (ty.values_typed here _ ms g e.0) (ap (λ (u : ElanType). Some u) (sym e.1))
   done_good at (Changes c) ms g e = changes_good c ms g e
   done_good at Puts ms g e = puts_good ms g e
   done_good at EndsLine ms g e = ty.single_typed here action.Line (line_is here)
 
   rows_good : RowsGood predefined
   unfolding predefined
-  rows_good = ((refl, refl), ((refl, refl), ((refl, refl), ((refl, refl), ((refl, refl), ((refl, refl), ((refl, refl), (refl, (refl, ((refl, refl), ((refl, refl), ((refl, refl), ((refl, refl), ((refl, refl), ((refl, refl), ((refl, refl), ((refl, refl), ((refl, refl), ((refl, refl), ((refl, refl), ((refl, refl), ((refl, refl), ((refl, refl), ((refl, refl), (refl, (tt, tt))))))))))))))))))))))))))
+  rows_good = (
+    (refl, refl),
+    (
+      (refl, refl),
+      (
+        (refl, refl),
+        (
+          (refl, refl),
+          (
+            (refl, refl),
+            (
+              (refl, refl),
+              (
+                (refl, refl),
+                (
+                  refl,
+                  (
+                    refl,
+                    (
+                      (refl, refl),
+                      (
+                        (refl, refl),
+                        (
+                          (refl, refl),
+                          (
+                            (refl, refl),
+                            (
+                              (refl, refl),
+                              (
+                                (refl, refl),
+                                (
+                                  (refl, refl),
+                                  (
+                                    (refl, refl),
+                                    ((refl, refl), ((refl, refl), ((refl, refl), ((refl, refl), ((refl, refl), ((refl, refl), ((refl, refl), (refl, (tt, tt))))))))),
+                                  ),
+                                ),
+                              ),
+                            ),
+                          ),
+                        ),
+                      ),
+                    ),
+                  ),
+                ),
+              ),
+            ),
+          ),
+        ),
+      ),
+    ),
+  )
 
   -- ---- what parameters are given
 
@@ -261,30 +331,39 @@ module _ (here : Stand) where
   given_good (q ∷ ps) [] g e = absurd cc
   given_good (q ∷ ps) (m ∷ ms) g e =
       let b = both _ _ e in
-      on_before (GivenFor q) (AllGiven ps) (r.given_as q.access q.of m) (r.given ps ms) (given_as_good q.access q.of m g.0 b.0) (given_good ps ms g.1 b.1) (AllGiven (q ∷ ps)) (λ x xs h i. and_true _ _ h i)
+      on_before (GivenFor q) (AllGiven ps) (r.given_as q.access q.of m) (r.given ps ms) (given_as_good q.access q.of m g.0 b.0) (given_good ps ms g.1 b.1)
+      (AllGiven (q ∷ ps)) (λ x xs h i. and_true _ _ h i)
 
   -- ---- calls
 
-  taken_holds : (n : ℕ) (b : Body) (ps : List Parameter) (vs : List ElanType) (as' : List Taken) → slice_get here.bodies n ≡ Some b → b.scope ≡ owner.Own ps vs → take_all ps as' ≡ true → taken_by (scope_of (slice_get here.bodies n)) as' ≡ true
+  taken_holds : (n : ℕ) (b : Body) (ps : List Parameter) (vs : List ElanType) (as' : List Taken) → slice_get here.bodies n ≡ Some b → b.scope ≡ owner.Own ps vs
+      → take_all ps as' ≡ true → taken_by (scope_of (slice_get here.bodies n)) as' ≡ true
   taken_holds n b ps vs as' e o h =
       ap (λ (c : Option Body). taken_by (scope_of c) as') e ∙ ap (λ (z : Owner). taken_by (Some z) as') o ∙ h
 
-  none_holds : (n : ℕ) (b : Body) → slice_get here.bodies n ≡ Some b → result_of_content b.content ≡ None → is_none (delivered_by (slice_get here.bodies n)) ≡ true
+  none_holds : (n : ℕ) (b : Body) → slice_get here.bodies n ≡ Some b → result_of_content b.content ≡ None
+      → is_none (delivered_by (slice_get here.bodies n)) ≡ true
   none_holds n b e o = ap (λ (c : Option Body). is_none (delivered_by c)) e ∙ ap is_none o
 
-  has_holds : (n : ℕ) (b : Body) (t : ElanType) → slice_get here.bodies n ≡ Some b → result_of_content b.content ≡ Some t → has t (delivered_by (slice_get here.bodies n)) ≡ true
+  has_holds : (n : ℕ) (b : Body) (t : ElanType) → slice_get here.bodies n ≡ Some b → result_of_content b.content ≡ Some t
+      → has t (delivered_by (slice_get here.bodies n)) ≡ true
   has_holds n b t e o = has_self t _ (ap delivered_by e ∙ o)
 
-  call_good : (at n : ℕ) (b : Body) (ps : List Parameter) (vs : List ElanType) (o : Option ElanType) (as' : List Actual) → slice_get here.bodies n ≡ Some b → b.scope ≡ owner.Own ps vs → result_of_content b.content ≡ o → AllGiven ps as' → Good (r.call at n o as')
-  call_good at n b ps vs None as' e z d h = ty.single_typed here (action.Call n as') (action_call_is here n as' ∙ and_true _ _ (taken_holds n b ps vs _ e z h) (none_holds n b e d))
-  call_good at n b ps vs (Some t) as' e z d h = call_is here n as' t ∙ only_if_holds _ _ t (and_true _ _ (taken_holds n b ps vs _ e z h) (has_holds n b t e d)) refl
+  call_good : (at n : ℕ) (b : Body) (ps : List Parameter) (vs : List ElanType) (o : Option ElanType) (as' : List Actual) → slice_get here.bodies n ≡ Some b
+      → b.scope ≡ owner.Own ps vs → result_of_content b.content ≡ o → AllGiven ps as' → Good (r.call at n o as')
+  call_good at n b ps vs None as' e z d h =
+      ty.single_typed here (action.Call n as') (action_call_is here n as' ∙ and_true _ _ (taken_holds n b ps vs _ e z h) (none_holds n b e d))
+  call_good at n b ps vs (Some t) as' e z d h =
+      call_is here n as' t ∙ only_if_holds _ _ t (and_true _ _ (taken_holds n b ps vs _ e z h) (has_holds n b t e d)) refl
 
-  called_good : (at n : ℕ) (b : Body) (w : What) (sort : Sort) (ms : List Meant) → slice_get here.bodies n ≡ Some b → Headed w b → AllGood ms → scope.is_routine sort (λ ps. fit (types_of ps) ms) w ≡ true → Gives Good (r.called at n w ms)
+  called_good : (at n : ℕ) (b : Body) (w : What) (sort : Sort) (ms : List Meant) → slice_get here.bodies n ≡ Some b → Headed w b → AllGood ms
+      → scope.is_routine sort (λ ps. fit (types_of ps) ms) w ≡ true → Gives Good (r.called at n w ms)
   called_good at n b (Routine other ps o) sort ms e h g t =
       on_bind (AllGiven ps) Good (r.given ps ms) _ (given_good ps ms g (both _ _ t).1) (λ as' i. call_good at n b ps h.0 o as' e h.1 h.2 i)
   called_good at n b (Refinement home) sort ms e h g t = tt
 
-  predefined_good : (at : ℕ) (known : Bool) (ms : List Meant) (o : Option Does) → AllGood ms → ((d : Does) → o ≡ Some d → Suits d ms) → Gives Good (r.predefined_as at known ms o)
+  predefined_good : (at : ℕ) (known : Bool) (ms : List Meant) (o : Option Does) → AllGood ms → ((d : Does) → o ≡ Some d → Suits d ms)
+      → Gives Good (r.predefined_as at known ms o)
   predefined_good at known ms (Some d) g h = done_good at d ms g (h d refl)
   predefined_good at known ms None g h = on_if Good known _ _ (λ e. tt) (λ e. tt)
 
@@ -328,7 +407,8 @@ module _ (here : Stand) where
     as_lies n [] h = tt
     as_lies n (q ∷ ps) h = h
 
-    routine_found : (es : List Entry) (f : ℕ × Entry) (x : List ℕ) → frame_in here.bodies (owner_in here.bodies here.home) ≡ all_held es → scope.first_named es x ≡ Some f → Lies of_routine f.0 (held f.1.denotes)
+    routine_found : (es : List Entry) (f : ℕ × Entry) (x : List ℕ) → frame_in here.bodies (owner_in here.bodies here.home) ≡ all_held es
+        → scope.first_named es x ≡ Some f → Lies of_routine f.0 (held f.1.denotes)
     routine_found es f x fe e =
         let h = found_held 0 es x f e in
         let i : f.0 ≡ h.0 = (let j = h.1 in omega arith) in
@@ -350,7 +430,8 @@ module _ (here : Stand) where
         by_test true = tt
         by_test false = level_found f x e
 
-    routine_lies : (es : List Entry) (o : Option (ℕ × Entry)) (x : List ℕ) → frame_in here.bodies (owner_in here.bodies here.home) ≡ all_held es → scope.first_named es x ≡ o → FoundLies (scope.found_in of_routine o)
+    routine_lies : (es : List Entry) (o : Option (ℕ × Entry)) (x : List ℕ) → frame_in here.bodies (owner_in here.bodies here.home) ≡ all_held es
+        → scope.first_named es x ≡ o → FoundLies (scope.found_in of_routine o)
     routine_lies es None x fe e = tt
     routine_lies es (Some f) x fe e = routine_found es f x fe e
 
@@ -358,23 +439,29 @@ module _ (here : Stand) where
     else_lies None q h i = i
     else_lies (Some f) q h i = h
 
-    find_lies_from : (v : Option Within) (x : List ℕ) → FrameIs (frame_in here.bodies (owner_in here.bodies here.home)) v → FoundLies (scope.find_from s.level v x)
+    find_lies_from : (v : Option Within) (x : List ℕ) → FrameIs (frame_in here.bodies (owner_in here.bodies here.home)) v
+        → FoundLies (scope.find_from s.level v x)
     find_lies_from None x h = level_lies (scope.first_named s.level x) x refl
-    find_lies_from (Some v) x h = else_lies (scope.found_in of_routine (scope.first_named v.names x)) (scope.found_in of_level (scope.from_inside (scope.first_named s.level x))) (routine_lies v.names (scope.first_named v.names x) x h refl) (inside_lies (scope.first_named s.level x) x refl)
+    find_lies_from (Some v) x h =
+        else_lies (scope.found_in of_routine (scope.first_named v.names x)) (scope.found_in of_level (scope.from_inside (scope.first_named s.level x)))
+        (routine_lies v.names (scope.first_named v.names x) x h refl) (inside_lies (scope.first_named s.level x) x refl)
 
     find_lies : (x : List ℕ) → FoundLies (scope.find s x)
     find_lies x = find_lies_from s.routine x fits.frame
 
-    own_lies_from : (v : Option Within) (x : List ℕ) → FrameIs (frame_in here.bodies (owner_in here.bodies here.home)) v → FoundLies (scope.find_own_from s.level v x)
+    own_lies_from : (v : Option Within) (x : List ℕ) → FrameIs (frame_in here.bodies (owner_in here.bodies here.home)) v
+        → FoundLies (scope.find_own_from s.level v x)
     own_lies_from None x h = level_lies (scope.first_named s.level x) x refl
     own_lies_from (Some v) x h = routine_lies v.names (scope.first_named v.names x) x h refl
 
     -- ---- PROCs and OPs
 
-    routine_test : (sort : Sort) (x : List ℕ) (ms : List Meant) (h : Heading) → r.takes sort x ms h ≡ true → scope.is_routine sort (λ ps. fit (types_of ps) ms) h.what ≡ true
+    routine_test : (sort : Sort) (x : List ℕ) (ms : List Meant) (h : Heading) → r.takes sort x ms h ≡ true
+        → scope.is_routine sort (λ ps. fit (types_of ps) ms) h.what ≡ true
     routine_test sort x ms h e = (both _ _ e).1
 
-    applied_as_good : (at : ℕ) (sort : Sort) (x : List ℕ) (ms : List Meant) (o : Option (ℕ × Heading)) → scope.first_heading (r.takes sort x ms) s.headings ≡ o → AllGood ms → Gives Good (r.applied_as at s sort x ms o)
+    applied_as_good : (at : ℕ) (sort : Sort) (x : List ℕ) (ms : List Meant) (o : Option (ℕ × Heading)) → scope.first_heading (r.takes sort x ms) s.headings ≡ o
+        → AllGood ms → Gives Good (r.applied_as at s sort x ms o)
     applied_as_good at sort x ms (Some b) e g =
         let h = first_at (r.takes sort x ms) s.headings b e in
         let f = fits.bodies b.0 b.1 h.0 in
@@ -393,18 +480,22 @@ module _ (here : Stand) where
     refines_same (Some n) None e = absurd cc
     refines_same (Some n) (Some m) e = e
 
-    refined_owner : (w : What) (b : Body) → scope.is_refinement_of (number_of s.routine) w ≡ true → Headed w b → refines (number_of s.routine) (Some b.scope) ≡ true
+    refined_owner : (w : What) (b : Body) → scope.is_refinement_of (number_of s.routine) w ≡ true → Headed w b
+        → refines (number_of s.routine) (Some b.scope) ≡ true
     refined_owner (Routine sort ps o) b e h = absurd cc
     refined_owner (Refinement home) b e h = ap (λ (z : Owner). refines (number_of s.routine) (Some z)) h ∙ refines_same (number_of s.routine) home e
 
-    refines_holds : (n : ℕ) (b : Body) → slice_get here.bodies n ≡ Some b → refines (number_of s.routine) (Some b.scope) ≡ true → refines (owner_in here.bodies here.home) (scope_of (slice_get here.bodies n)) ≡ true
+    refines_holds : (n : ℕ) (b : Body) → slice_get here.bodies n ≡ Some b → refines (number_of s.routine) (Some b.scope) ≡ true
+        → refines (owner_in here.bodies here.home) (scope_of (slice_get here.bodies n)) ≡ true
     refines_holds n b e h =
         ap (λ (o : Option ℕ). refines o (scope_of (slice_get here.bodies n))) fits.owner_is
         ∙ ap (λ (c : Option Body). refines (number_of s.routine) (scope_of c)) e ∙ h
 
-    referred_good : (at n : ℕ) (b : Body) (d : Delivery) → slice_get here.bodies n ≡ Some b → refines (number_of s.routine) (Some b.scope) ≡ true → Delivering d b → Gives Good (r.referred at n d)
+    referred_good : (at n : ℕ) (b : Body) (d : Delivery) → slice_get here.bodies n ≡ Some b → refines (number_of s.routine) (Some b.scope) ≡ true
+        → Delivering d b → Gives Good (r.referred at n d)
     referred_good at n b Open e o h = tt
-    referred_good at n b Nothing e o h = ty.single_typed here (action.Refer n) (action_refer_is here n ∙ and_true _ _ (refines_holds n b e o) (none_holds n b e h))
+    referred_good at n b Nothing e o h =
+        ty.single_typed here (action.Refer n) (action_refer_is here n ∙ and_true _ _ (refines_holds n b e o) (none_holds n b e h))
     referred_good at n b (Of t) e o h = refer_is here n t ∙ only_if_holds _ _ t (and_true _ _ (refines_holds n b e o) (has_holds n b t e h)) refl
 
     -- a name that denotes a refinement has one of the scope
@@ -412,7 +503,8 @@ module _ (here : Stand) where
     IsRefined None = Unit {0}
     IsRefined (Some n) = (h : Heading) × (slice_get s.headings n ≡ Some h) × (scope.is_refinement_of (number_of s.routine) h.what ≡ true)
 
-    number_refined : (x : List ℕ) (o : Option (ℕ × Heading)) → scope.first_heading (scope.is_refined (number_of s.routine) x) s.headings ≡ o → IsRefined (scope.number_in o)
+    number_refined : (x : List ℕ) (o : Option (ℕ × Heading)) → scope.first_heading (scope.is_refined (number_of s.routine) x) s.headings ≡ o
+        → IsRefined (scope.number_in o)
     number_refined x None e = tt
     number_refined x (Some b) e = let h = first_at (scope.is_refined (number_of s.routine) x) s.headings b e in (b.1, h.0, (both _ _ h.1).1)
 
@@ -428,7 +520,8 @@ module _ (here : Stand) where
     refined_good at None h = tt
     refined_good at (Some n) h =
         let f = fits.bodies n h.0 h.1 in
-        on_if Good (leads_back k n s.refinement) _ _ (λ e. tt) (λ e. referred_good at n f.body (delivery_at k n) f.is (refined_owner h.0.what f.body h.2 f.headed) f.delivers)
+        on_if Good (leads_back k n s.refinement) _ _ (λ e. tt)
+        (λ e. referred_good at n f.body (delivery_at k n) f.is (refined_owner h.0.what f.body h.2 f.headed) f.delivers)
 
     used_good : (u : Usage) (at : ℕ) (o : Option ℕ) → IsRefined o → Gives Good (r.refined_as k u at s o)
     used_good usage.Expression at o h = refined_good at o h
@@ -470,11 +563,13 @@ module _ (here : Stand) where
     Leaves None = Unit {0}
     Leaves (Some e) = (h : Heading) × (slice_get s.headings e.1 ≡ Some h) × (left_from here.bodies e.0 here.home ≡ result_of (slice_get here.bodies e.1))
 
-    named_heading : (o : Option ℕ) (x : List ℕ) (n : ℕ) → scope.body_named s.headings o x ≡ Some n → (h : Heading) × (slice_get s.headings n ≡ Some h) × (o ≡ Some n)
+    named_heading : (o : Option ℕ) (x : List ℕ) (n : ℕ) → scope.body_named s.headings o x ≡ Some n
+        → (h : Heading) × (slice_get s.headings n ≡ Some h) × (o ≡ Some n)
     named_heading None x n e = absurd cc
     named_heading (Some m) x n e = by_heading (slice_get s.headings m) refl e
       where
-        by_heading : (q : Option Heading) → slice_get s.headings m ≡ q → (if scope.is_named x q then Some m else None) ≡ Some n → (h : Heading) × (slice_get s.headings n ≡ Some h) × (Some m ≡ Some n)
+        by_heading : (q : Option Heading) → slice_get s.headings m ≡ q → (if scope.is_named x q then Some m else None) ≡ Some n
+            → (h : Heading) × (slice_get s.headings n ≡ Some h) × (Some m ≡ Some n)
         by_heading None i j = absurd cc
         by_heading (Some h) i j = by_test (bytes_eq h.name x) j
           where
@@ -482,16 +577,19 @@ module _ (here : Stand) where
             by_test true c = let d : m ≡ n = cc in (h, subst (λ (l : ℕ). slice_get s.headings l ≡ Some h) d i, c)
             by_test false c = absurd cc
 
-    body_left : (o : Option ℕ) (x : List ℕ) (q : Option ℕ) → scope.body_named s.headings o x ≡ q → ((n : ℕ) → o ≡ Some n → here.home ≡ Some n) → Leaves (scope.left_by exits.Body q)
+    body_left : (o : Option ℕ) (x : List ℕ) (q : Option ℕ) → scope.body_named s.headings o x ≡ q → ((n : ℕ) → o ≡ Some n → here.home ≡ Some n)
+        → Leaves (scope.left_by exits.Body q)
     body_left o x None e i = tt
     body_left o x (Some n) e i =
         let h = named_heading o x n e in
         (h.0, h.1, ap (λ (z : InBody). left_from here.bodies exits.Body z) (i n h.2))
 
-    around_left : (n m : ℕ) → here.home ≡ Some m → scope_of (slice_get here.bodies m) ≡ Some (owner.Of n) → left_from here.bodies exits.Around here.home ≡ result_of (slice_get here.bodies n)
+    around_left : (n m : ℕ) → here.home ≡ Some m → scope_of (slice_get here.bodies m) ≡ Some (owner.Of n)
+        → left_from here.bodies exits.Around here.home ≡ result_of (slice_get here.bodies n)
     around_left n m e o = ap (λ (z : InBody). left_from here.bodies exits.Around z) e ∙ ap (around here.bodies) o
 
-    routine_left : (z : Option ℕ) (x : List ℕ) (q : Option ℕ) → s.refinement ≡ z → scope.body_named s.headings (number_of s.routine) x ≡ q → Leaves (scope.left_by (scope.exit_from z) q)
+    routine_left : (z : Option ℕ) (x : List ℕ) (q : Option ℕ) → s.refinement ≡ z → scope.body_named s.headings (number_of s.routine) x ≡ q
+        → Leaves (scope.left_by (scope.exit_from z) q)
     routine_left z x None i e = tt
     routine_left None x (Some n) i e =
         let h = named_heading (number_of s.routine) x n e in
@@ -508,33 +606,37 @@ module _ (here : Stand) where
     else_leaves (Some e) q h i = h
 
     left_leaves : (x : List ℕ) → Leaves (scope.left s x)
-    left_leaves x = else_leaves (scope.left_by exits.Body (scope.body_named s.headings s.refinement x)) (scope.left_by (scope.exit_from s.refinement) (scope.body_named s.headings (number_of s.routine) x))
+    left_leaves x =
+        else_leaves (scope.left_by exits.Body (scope.body_named s.headings s.refinement x))
+        (scope.left_by (scope.exit_from s.refinement) (scope.body_named s.headings (number_of s.routine) x))
         (body_left s.refinement x (scope.body_named s.headings s.refinement x) refl refinement_home)
         (routine_left s.refinement x (scope.body_named s.headings (number_of s.routine) x) refl refl)
 
-    left_result : (e : Exit) (n : ℕ) (b : Body) (o : Option ElanType) → left_from here.bodies e here.home ≡ result_of (slice_get here.bodies n) → slice_get here.bodies n ≡ Some b → result_of_content b.content ≡ o → left_from here.bodies e here.home ≡ Some o
+    left_result : (e : Exit) (n : ℕ) (b : Body) (o : Option ElanType) → left_from here.bodies e here.home ≡ result_of (slice_get here.bodies n)
+        → slice_get here.bodies n ≡ Some b → result_of_content b.content ≡ o → left_from here.bodies e here.home ≡ Some o
     left_result e n b o h i j = h ∙ ap result_of i ∙ ap (λ (t : Option ElanType). Some t) j
 
     leave_typed : (e : Exit) → left_from here.bodies e here.home ≡ Some None → typed here (action.Leave e) ≡ true
     leave_typed e h = leave_is here e ∙ ap leaves_without h
 
-    leave_with_typed : (e : Exit) (t : ElanType) (v : ValuePhrase) → left_from here.bodies e here.home ≡ Some (Some t) → Has t v → typed here (action.LeaveWith e t v) ≡ true
+    leave_with_typed : (e : Exit) (t : ElanType) (v : ValuePhrase) → left_from here.bodies e here.home ≡ Some (Some t) → Has t v
+        → typed here (action.LeaveWith e t v) ≡ true
     leave_with_typed e t v h g = leave_with_is here e t v ∙ and_true _ _ (has_self t _ g) (ap (leaves_with t) h ∙ same_self t)
 
-    delivered_leave : (e : Exit) (t : ElanType) (m : Meant) → left_from here.bodies e here.home ≡ Some (Some t) → Good m → delivers t m ≡ true → typed here (r.leave_of e m) ≡ true
+    delivered_leave : (e : Exit) (t : ElanType) (m : Meant) → left_from here.bodies e here.home ≡ Some (Some t) → Good m → delivers t m ≡ true
+        → typed here (r.leave_of e m) ≡ true
     delivered_leave e t Absent h g d = absurd cc
-    delivered_leave e t (Variable at u x) h g d = leave_with_typed e u (value.Load x u) (h ∙ ap (λ (z : ElanType). Some (Some z)) (same_is t u d)) (ty.load_typed here u x g)
+    delivered_leave e t (Variable at u x) h g d =
+        leave_with_typed e u (value.Load x u) (h ∙ ap (λ (z : ElanType). Some (Some z)) (same_is t u d)) (ty.load_typed here u x g)
     delivered_leave e t (Value at u v) h g d = leave_with_typed e u v (h ∙ ap (λ (z : ElanType). Some (Some z)) (same_is t u d)) g
     delivered_leave e t (Done as') h g d = absurd cc
     delivered_leave e t (Left as') h g d = absurd cc
     delivered_leave e t (Labels ns) h g d = absurd cc
-    delivered_leave e t (Branches gs) h g d = absurd cc
-    delivered_leave e t (Arms ls) h g d = absurd cc
-    delivered_leave e t (Counter c) h g d = absurd cc
     delivered_leave e t (Bodies bs) h g d = absurd cc
     delivered_leave e t (Level us bs) h g d = absurd cc
 
-    leave_of_typed : (e : Exit) (n : ℕ) (b : Body) (d : Delivery) (m : Meant) → left_from here.bodies e here.home ≡ result_of (slice_get here.bodies n) → slice_get here.bodies n ≡ Some b → Delivering d b → Good m → r.agrees d m ≡ true → typed here (r.leave_of e m) ≡ true
+    leave_of_typed : (e : Exit) (n : ℕ) (b : Body) (d : Delivery) (m : Meant) → left_from here.bodies e here.home ≡ result_of (slice_get here.bodies n)
+        → slice_get here.bodies n ≡ Some b → Delivering d b → Good m → r.agrees d m ≡ true → typed here (r.leave_of e m) ≡ true
     leave_of_typed e n b Open m h i j g a = absurd j
     leave_of_typed e n b Nothing Absent h i j g a = leave_typed e (left_result e n b None h i j)
     leave_of_typed e n b Nothing (Variable at u x) h i j g a = absurd cc
@@ -542,9 +644,6 @@ module _ (here : Stand) where
     leave_of_typed e n b Nothing (Done as') h i j g a = absurd cc
     leave_of_typed e n b Nothing (Left as') h i j g a = absurd cc
     leave_of_typed e n b Nothing (Labels ns) h i j g a = absurd cc
-    leave_of_typed e n b Nothing (Branches gs) h i j g a = absurd cc
-    leave_of_typed e n b Nothing (Arms ls) h i j g a = absurd cc
-    leave_of_typed e n b Nothing (Counter c) h i j g a = absurd cc
     leave_of_typed e n b Nothing (Bodies bs) h i j g a = absurd cc
     leave_of_typed e n b Nothing (Level us bs) h i j g a = absurd cc
     leave_of_typed e n b (Of t) m h i j g a = delivered_leave e t m (left_result e n b (Some t) h i j) g a
@@ -553,7 +652,9 @@ module _ (here : Stand) where
     leaving_as_good at None m h g = tt
     leaving_as_good at (Some e) m h g =
         let f = fits.bodies e.1 h.0 h.1 in
-        on_if Good (r.agrees (delivery_at k e.1) m) _ _ (λ a. ty.unit_typed here (r.leave_of e.0 m ∷ []) (ty.single_typed here (r.leave_of e.0 m) (leave_of_typed e.0 e.1 f.body (delivery_at k e.1) m h.2 f.is f.delivers g a))) (λ a. tt)
+        on_if Good (r.agrees (delivery_at k e.1) m) _ _
+        (λ a. ty.unit_typed here (r.leave_of e.0 m ∷ [])
+        (ty.single_typed here (r.leave_of e.0 m) (leave_of_typed e.0 e.1 f.body (delivery_at k e.1) m h.2 f.is f.delivers g a))) (λ a. tt)
 
     pub leaving_good : (at : ℕ) (x : List ℕ) (m : Meant) → Good m → Gives Good (r.leaving k at (scope.left s x) m)
     leaving_good at x m g = leaving_as_good at (scope.left s x) m (left_leaves x) g

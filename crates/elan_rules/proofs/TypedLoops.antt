@@ -1,14 +1,13 @@
 -- Loops have the types that they ask for.
-use Rattle.std.proofs.Common.{◌≡◌, ℕ, true, List, [], ◌∷◌, Option, Some, None, ◌∙◌}
+use Rattle.std.proofs.Common.{◌≡◌, ℕ, true, ◌&&◌, List, [], ◌∷◌, Option, Some, None, ◌∙◌}
 use Rattle.elan_types.specs.declared.elan_type.ElanType.{ElanType}
 use Rattle.elan_types.specs.declared.elan_type.ElanType.TheVariants.{Int, Bool as Truths}
 use Rattle.elan_types.specs.declared.core_phrase.PlacePhrase.{PlacePhrase}
 use Rattle.elan_types.specs.declared.core_phrase.ValuePhrase.{ValuePhrase}
 use Rattle.elan_types.specs.declared.core_phrase.Action.{Action}
 use Rattle.elan_types.specs.declared.core_phrase.Action.TheVariants as action
-use Rattle.elan_meant.specs.declared.meant.Counted.{Counted}
 use Rattle.elan_meant.specs.declared.meant.Meant.{Meant}
-use Rattle.elan_meant.specs.declared.meant.Meant.TheVariants.{Absent, Variable, Value, Done, Left, Labels, Branches, Arms, Counter, Bodies, Level}
+use Rattle.elan_meant.specs.declared.meant.Meant.TheVariants.{Absent, Variable, Value, Done, Left, Labels, Bodies, Level}
 use Rattle.std.specs.Prelude.{pos}
 use Rattle.eu_base.specs.declared.operation.Way.{Way}
 use Rattle.elan_rules.proofs.Typed as ty
@@ -42,45 +41,40 @@ module _ (here : Stand) where
   first_typed None h = number_is here (pos 1)
   first_typed (Some v) h = h
 
-  pub counted_good : (w : Way) (n f l : Meant) → Good n → Good f → Good l → Good (Counter (r.counted w n f l))
-  counted_good w n f l g h i e =
-      let b = both _ _ e in
-      let d = both _ _ b.1 in
-      record { lies = ty.lies_typed here Int n g b.0; from = first_typed (p.written f) (ty.may_typed here Int f h d.0); limit = ty.may_typed here Int l i d.1 }
-
-  pub loop_typed : (c : Option ValuePhrase) (us : List Action) (u : Option ValuePhrase) → MayHave Truths c → AllTyped us → MayHave Truths u → AllTyped (action.Unit (action.Loop c us u ∷ []) ∷ [])
+  pub loop_typed : (c : Option ValuePhrase) (us : List Action) (u : Option ValuePhrase) → MayHave Truths c → AllTyped us → MayHave Truths u
+      → AllTyped (action.Unit (action.Loop c us u ∷ []) ∷ [])
   loop_typed c us u hc hs hu =
-      ty.unit_typed here _ (ty.single_typed here (action.Loop c us u) (loop_is here c us u ∙ and_true _ _ (ty.written_typed here Truths c hc) (and_true _ _ hs (ty.written_typed here Truths u hu))))
+      ty.unit_typed here _ (ty.single_typed here (action.Loop c us u)
+      (loop_is here c us u ∙ and_true _ _ (ty.written_typed here Truths c hc) (and_true _ _ hs (ty.written_typed here Truths u hu))))
 
-  pub counting_good : (k : Counted) → ty.CountedGood here k → (x : Option PlacePhrase) → MayLie Int x → (c : Option ValuePhrase) (us : List Action) (u : Option ValuePhrase) → MayHave Truths c → AllTyped us → MayHave Truths u → Gives Good (r.counting k x c us u)
-  counting_good k g None l c us u hc hs hu = tt
-  counting_good k g (Some x) l c us u hc hs hu =
-      ty.unit_typed here _ (ty.single_typed here (action.Count x k.from k.way k.limit c us u) (count_is here x k.from k.way k.limit c us u
-      ∙ (and_true _ _ (has_self Int _ l) (and_true _ _ (has_self Int _ g.from) (and_true _ _ (ty.written_typed here Int k.limit g.limit)
+  pub loop_good : (at : ℕ) (c us u : Meant) → Good c → Good us → Good u → Gives Good (r.loop at c us u)
+  loop_good at c us u h i j =
+      on_if Good (r.conditions c u) _ _
+      (λ e. let b = both _ _ e in
+      loop_typed (p.written c) (p.actions us) (p.written u) (ty.may_typed here Truths c h b.0) (ty.actions_typed here us i)
+      (ty.may_typed here Truths u j b.1)) (λ e. tt)
+
+  count_typed : (x : PlacePhrase) (v : ValuePhrase) (w : Way) (l c : Option ValuePhrase) (us : List Action) (u : Option ValuePhrase) →
+      MayLie Int (Some x) → Has Int v → MayHave Int l → MayHave Truths c → AllTyped us → MayHave Truths u
+      → AllTyped (action.Unit (action.Count x v w l c us u ∷ []) ∷ [])
+  count_typed x v w l c us u hx hv hl hc hs hu =
+      ty.unit_typed here _ (ty.single_typed here (action.Count x v w l c us u) (count_is here x v w l c us u
+      ∙ (and_true _ _ (has_self Int _ hx) (and_true _ _ (has_self Int _ hv) (and_true _ _ (ty.written_typed here Int l hl)
       (and_true _ _ (ty.written_typed here Truths c hc) (and_true _ _ hs (ty.written_typed here Truths u hu))))))))
 
-  abbrev MayCount : Option Counted → Type 0
-  MayCount None = Unit {0}
-  MayCount (Some k) = k.are_numbers ≡ true → ty.CountedGood here k
+  counting_good : (w : Way) (a : ℕ) (x : Option PlacePhrase) (f l c us u : Meant) → MayLie Int x → MayHave Int (p.written f) → MayHave Int (p.written l) →
+      MayHave Truths (p.written c) → AllTyped (p.actions us) → MayHave Truths (p.written u) → Gives Good (r.counting w a x f l c us u)
+  counting_good w a None f l c us u hx hf hl hc hs hu = tt
+  counting_good w a (Some x) f l c us u hx hf hl hc hs hu =
+      count_typed x (r.first_value (p.written f)) w (p.written l) (p.written c) (p.actions us) (p.written u) hx (first_typed (p.written f) hf) hl hc hs hu
 
-  pub counter_in_good : (m : Meant) → Good m → MayCount (r.counter_in m)
-  counter_in_good Absent g = tt
-  counter_in_good (Variable at t x) g = tt
-  counter_in_good (Value at t v) g = tt
-  counter_in_good (Done as') g = tt
-  counter_in_good (Left as') g = tt
-  counter_in_good (Labels ns) g = tt
-  counter_in_good (Branches gs) g = tt
-  counter_in_good (Arms ls) g = tt
-  counter_in_good (Counter k) g = g
-  counter_in_good (Bodies bs) g = g
-  counter_in_good (Level us bs) g = g
-
-  pub looped_good : (at : ℕ) (k : Option Counted) → MayCount k → (c : Option ValuePhrase) (us : List Action) (u : Option ValuePhrase) → MayHave Truths c → AllTyped us → MayHave Truths u → Gives Good (r.looped at k c us u)
-  looped_good at None g c us u hc hs hu = loop_typed c us u hc hs hu
-  looped_good at (Some k) g c us u hc hs hu =
-      on_bind (ty.CountedGood here) Good (r.in_numbers at k) _ (on_if (ty.CountedGood here) k.are_numbers _ _ g (λ e. tt)) (λ n h. counting_good n h n.place h.lies c us u hc hs hu)
-
-  pub loop_good : (at : ℕ) (k c us u : Meant) → Good k → Good c → Good us → Good u → Gives Good (r.loop at k c us u)
-  loop_good at k c us u g h i j =
-      on_if Good (r.conditions c u) _ _ (λ e. let b = both _ _ e in looped_good at (r.counter_in k) (counter_in_good k g) (p.written c) (p.actions us) (p.written u) (ty.may_typed here Truths c h b.0) (ty.actions_typed here us i) (ty.may_typed here Truths u j b.1)) (λ e. tt)
+  pub counted_good : (at : ℕ) (w : Way) (n f l c us u : Meant) → Good n → Good f → Good l → Good c → Good us → Good u → Gives Good (r.counted at w n f l c us u)
+  counted_good at w n f l c us u gn gf gl gc gs gu =
+      on_if Good (r.are_numbers n f l && r.conditions c u) _ _ (λ e.
+      let b = both _ _ e in
+      let numbers = both _ _ b.0 in
+      let bounds = both _ _ numbers.1 in
+      let truths = both _ _ b.1 in
+      counting_good w (p.place_of n) (p.variable_of n) f l c us u (ty.lies_typed here Int n gn numbers.0) (ty.may_typed here Int f gf bounds.0)
+      (ty.may_typed here Int l gl bounds.1)
+      (ty.may_typed here Truths c gc truths.0) (ty.actions_typed here us gs) (ty.may_typed here Truths u gu truths.1)) (λ e. tt)

@@ -8,7 +8,7 @@ use Rattle.elan_types.specs.declared.core_phrase.ValuePhrase.TheVariants as valu
 use Rattle.elan_types.specs.declared.core_phrase.Action.{Action}
 use Rattle.elan_types.specs.declared.core_phrase.Action.TheVariants as action
 use Rattle.elan_meant.specs.declared.meant.Meant.{Meant}
-use Rattle.elan_meant.specs.declared.meant.Meant.TheVariants.{Absent, Variable, Value, Done, Left, Labels, Branches, Arms, Counter, Bodies, Level}
+use Rattle.elan_meant.specs.declared.meant.Meant.TheVariants.{Absent, Variable, Value, Done, Left, Labels, Bodies, Level}
 use Rattle.elan_types.specs.Typing.{same_type, has, is_content_typed}
 use Rattle.std.specs.Prelude.{pos}
 use Rattle.eu_base.specs.Operations.{in_range}
@@ -52,23 +52,24 @@ module _ (here : Stand) where
   bracketed_value_good at (Done as') g = g
   bracketed_value_good at (Left as') g = g
   bracketed_value_good at (Labels ns) g = tt
-  bracketed_value_good at (Branches gs) g = tt
-  bracketed_value_good at (Arms ls) g = tt
-  bracketed_value_good at (Counter k) g = tt
   bracketed_value_good at (Bodies bs) g = tt
   bracketed_value_good at (Level us bs) g = tt
 
   pub bracketed_good : (at : ℕ) (m : Meant) → Good m → Gives Good (rules.bracketed at m)
   bracketed_good at m g = bracketed_value_good at (p.loaded m) (ty.loaded_good here m g)
 
-  pub truths_typed : (l m : Meant) → Good l → Good m → rules.are_truths l m ≡ true → (has Truths (type here (p.value_of l)) && has Truths (type here (p.value_of m))) ≡ true
-  truths_typed l m g h e = let b = both _ _ e in and_true _ _ (has_self Truths _ (ty.value_typed here Truths l g b.0)) (has_self Truths _ (ty.value_typed here Truths m h b.1))
+  pub truths_typed : (l m : Meant) → Good l → Good m → rules.are_truths l m ≡ true
+      → (has Truths (type here (p.value_of l)) && has Truths (type here (p.value_of m))) ≡ true
+  truths_typed l m g h e =
+      let b = both _ _ e in and_true _ _ (has_self Truths _ (ty.value_typed here Truths l g b.0)) (has_self Truths _ (ty.value_typed here Truths m h b.1))
 
   pub cand_good : (at : ℕ) (l m : Meant) → Good l → Good m → Gives Good (rules.cand at l m)
-  cand_good at l m g h = on_if Good (rules.are_truths l m) _ _ (λ e. cand_is here (p.value_of l) (p.value_of m) ∙ only_if_holds _ _ Truths (truths_typed l m g h e) refl) (λ e. tt)
+  cand_good at l m g h =
+      on_if Good (rules.are_truths l m) _ _ (λ e. cand_is here (p.value_of l) (p.value_of m) ∙ only_if_holds _ _ Truths (truths_typed l m g h e) refl) (λ e. tt)
 
   pub cor_good : (at : ℕ) (l m : Meant) → Good l → Good m → Gives Good (rules.cor at l m)
-  cor_good at l m g h = on_if Good (rules.are_truths l m) _ _ (λ e. cor_is here (p.value_of l) (p.value_of m) ∙ only_if_holds _ _ Truths (truths_typed l m g h e) refl) (λ e. tt)
+  cor_good at l m g h =
+      on_if Good (rules.are_truths l m) _ _ (λ e. cor_is here (p.value_of l) (p.value_of m) ∙ only_if_holds _ _ Truths (truths_typed l m g h e) refl) (λ e. tt)
 
   -- ---- stores
 
@@ -82,9 +83,6 @@ module _ (here : Stand) where
   agreed_good at (Done as') m g h = tt
   agreed_good at (Left as') m g h = tt
   agreed_good at (Labels ns) m g h = tt
-  agreed_good at (Branches gs) m g h = tt
-  agreed_good at (Arms ls) m g h = tt
-  agreed_good at (Counter k) m g h = tt
   agreed_good at (Bodies bs) m g h = tt
   agreed_good at (Level us bs) m g h = tt
 
@@ -96,14 +94,16 @@ module _ (here : Stand) where
   assigned_to_good (Some x) p t v l h = ty.unit_typed here (action.Store x t v ∷ []) (store_typed x t v l h)
 
   pub assigned_good : (at : ℕ) (l m : Meant) → Good l → Good m → Gives Good (r.assigned at l m)
-  assigned_good at l m g h = on_bind (Agreed l m) Good (r.agreed at l m) _ (agreed_good at l m g h) (λ t a. assigned_to_good (p.variable_of l) (p.place_of l) t (p.value_of m) a.0 a.1)
+  assigned_good at l m g h =
+      on_bind (Agreed l m) Good (r.agreed at l m) _ (agreed_good at l m g h) (λ t a. assigned_to_good (p.variable_of l) (p.place_of l) t (p.value_of m) a.0 a.1)
 
   pub initial_to_good : (x : Option PlacePhrase) (t : ElanType) (v : ValuePhrase) → MayLie t x → Has t v → Gives Good (r.initial_to x t v)
   initial_to_good None t v l h = tt
   initial_to_good (Some x) t v l h = store_typed x t v l h
 
   pub initial_good : (at : ℕ) (l m : Meant) → Good l → Good m → Gives Good (r.initial at l m)
-  initial_good at l m g h = on_bind (Agreed l m) Good (r.agreed at l m) _ (agreed_good at l m g h) (λ t a. initial_to_good (p.variable_of l) t (p.value_of m) a.0 a.1)
+  initial_good at l m g h =
+      on_bind (Agreed l m) Good (r.agreed at l m) _ (agreed_good at l m g h) (λ t a. initial_to_good (p.variable_of l) t (p.value_of m) a.0 a.1)
 
   -- ---- lists of units
 
@@ -114,9 +114,6 @@ module _ (here : Stand) where
   or_last_good n (Done as') g h = g
   or_last_good n (Left as') g h = refl
   or_last_good n (Labels ns) g h = g
-  or_last_good n (Branches gs) g h = g
-  or_last_good n (Arms ls) g h = g
-  or_last_good n (Counter k) g h = g
   or_last_good n (Bodies bs) g h = g
   or_last_good n (Level us bs) g h = g
 
@@ -131,9 +128,6 @@ module _ (here : Stand) where
   ended_good as' (Done bs) h g = h
   ended_good as' (Left bs) h g = h
   ended_good as' (Labels ns) h g = h
-  ended_good as' (Branches gs) h g = h
-  ended_good as' (Arms ls) h g = h
-  ended_good as' (Counter k) h g = h
   ended_good as' (Bodies bs) h g = h
   ended_good as' (Level us bs) h g = h
 
@@ -147,9 +141,6 @@ module _ (here : Stand) where
   alone_value_good (Done as') g = ty.unit_typed here as' g
   alone_value_good (Left as') g = ty.unit_typed here as' g
   alone_value_good (Labels ns) g = tt
-  alone_value_good (Branches gs) g = tt
-  alone_value_good (Arms ls) g = tt
-  alone_value_good (Counter k) g = tt
   alone_value_good (Bodies bs) g = tt
   alone_value_good (Level us bs) g = tt
 
@@ -163,9 +154,6 @@ module _ (here : Stand) where
   without_value_good (Done as') g = g
   without_value_good (Left as') g = g
   without_value_good (Labels ns) g = g
-  without_value_good (Branches gs) g = g
-  without_value_good (Arms ls) g = g
-  without_value_good (Counter k) g = g
   without_value_good (Bodies bs) g = tt
   without_value_good (Level us bs) g = g
 
@@ -200,8 +188,5 @@ module _ (here : Stand) where
   content_of_good (Done as') g = g
   content_of_good (Left as') g = g
   content_of_good (Labels ns) g = refl
-  content_of_good (Branches gs) g = refl
-  content_of_good (Arms ls) g = refl
-  content_of_good (Counter k) g = refl
   content_of_good (Bodies bs) g = refl
   content_of_good (Level us bs) g = refl

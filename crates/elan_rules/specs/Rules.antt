@@ -4,17 +4,17 @@ use Rattle.elan_types.specs.declared.elan_type.ElanType.TheVariants.{Bool as Tru
 use Rattle.elan_types.specs.declared.core_phrase.ValuePhrase.TheVariants as value
 pub use Rattle.value_rules.specs.Values.{number, bracketed_value, bracketed, are_truths, cand_of, cor_of, cand, cor}
 use Rattle.elan_meant.specs.declared.meant.Meant.{Meant}
-use Rattle.elan_meant.specs.declared.meant.Meant.TheVariants.{Absent, Value, Done, Labels, Branches, Arms, Counter, Bodies, Level}
+use Rattle.elan_meant.specs.declared.meant.Meant.TheVariants.{Absent, Value, Labels, Bodies, Level}
 use Rattle.elan_scope.specs.Scope.{find, find_own, left, first_heading, is_alike, types_of}
 use Rattle.elan_meant.specs.Predefined.{becomes}
 use Rattle.elan_scope.specs.declared.known.Known.{Known}
-use Rattle.elan_meant.specs.Parts.{unasked, unit_of, actions_of, one_of, two_of, three_of, four_of, on_one, on_two, on_three, on_four}
+use Rattle.elan_meant.specs.Parts.{unasked, unit_of, actions_of, one_of, two_of, three_of, six_of, on_one, on_two, on_three, on_six}
 use Rattle.elan_scope.specs.declared.scope.Scope.{Scope}
 use Rattle.elan_scope.specs.declared.heading.Sort.TheVariants.{Operator}
 use Rattle.elan_scope.specs.declared.heading.Heading.{Heading}
 use Rattle.value_rules.specs.Calls.{named, applied, takes, called, declared, headed, leaving}
 use Rattle.unit_rules.specs.Units.{assigned, initial, in_order, alone, without_value, must_deliver, body_with, content_as, content_of, bodies_of}
-use Rattle.choice_rules.specs.Choices.{guarded, branches_of, choice, label_is, label_named, labels_of, labelled, arms_of, selected}
+use Rattle.choice_rules.specs.Choices.{choice, label_is, label_named, labels_of, selected}
 use Rattle.unit_rules.specs.Loops.{counted, loop}
 use Rattle.elan_scope.specs.Phrase as form
 use Rattle.elan_scope.specs.Phrase.{Form}
@@ -42,23 +42,19 @@ rule k (form.applied at s sort x) ms = applied at s sort x ms
 rule k (form.bracket at) ms = on_one (one_of ms) (bracketed at)
 rule k (form.cand at) ms = on_two (two_of ms) (cand at)
 rule k (form.cor at) ms = on_two (two_of ms) (cor at)
-rule k form.branch ms = on_two (two_of ms) (λ c m. gives (Branches (guarded c m ∷ [])))
-rule k form.branches ms = gives (Branches (branches_of ms))
-rule k (form.choice at) ms = on_two (two_of ms) (choice at)
+rule k (form.choice at) ms = choice at ms
 rule k (form.label at earlier n) ms = label_is at earlier n
 rule k (form.label_name at s x) ms = label_named at x (find s x)
 rule k form.labels ms = gives (Labels (labels_of ms))
-rule k form.arm ms = on_two (two_of ms) labelled
-rule k form.arms ms = gives (Arms (arms_of ms))
-rule k (form.selection at) ms = on_three (three_of ms) (selected at)
+rule k (form.selection at) [] = unasked
+rule k (form.selection at) (m ∷ ms) = selected at m ms
 rule k (form.declares at s x) ms = declared at (find_own s x)
-rule k form.item ms = gives (Done [])
 rule k (form.initial at) ms = on_two (two_of ms) (initial at)
 rule k (form.declaration at) ms = gives (unit_of (actions_of ms))
 rule k form.statement ms = on_one (one_of ms) alone
 rule k (form.assignment at s) ms = assignment at s ms
-rule k (form.counter w) ms = on_three (three_of ms) (λ n f l. gives (Counter (counted w n f l)))
-rule k (form.loop at) ms = on_four (four_of ms) (loop at)
+rule k (form.loop at) ms = on_three (three_of ms) (loop at)
+rule k (form.count at w) ms = on_six (six_of ms) (counted at w)
 rule k (form.leave at s x) ms = on_one (one_of ms) (leaving k at (left s x))
 rule k form.without_value ms = on_one (one_of ms) without_value
 rule k (form.must_deliver at t) ms = on_one (one_of ms) (must_deliver at t)

@@ -23,33 +23,25 @@ pub data Form : Type 0 where
   bracket : ℕ → Form
   cand : ℕ → Form
   cor : ℕ → Form
-  -- a condition and units
-  branch : Form
-  branches : Form
-  -- branches, and the units of ELSE
+  -- conditions, each before its units, and the units of ELSE
   choice : ℕ → Form
   -- a label after these numbers
   label : ℕ → List ℤ → ℤ → Form
   label_name : ℕ → Scope → List ℕ → Form
   labels : Form
-  -- labels and units
-  arm : Form
-  arms : Form
-  -- a value, arms, and the units of OTHERWISE
+  -- a value, labels, each before their units, and the units of OTHERWISE
   selection : ℕ → Form
   -- a name in its declaration
   declares : ℕ → Scope → List ℕ → Form
-  -- a name that is declared without an initial value, and with one
-  item : Form
+  -- a name and its initial value
   initial : ℕ → Form
   declaration : ℕ → Form
   -- an expression that stands alone
   statement : Form
   assignment : ℕ → Scope → Form
-  -- a name, its first value, and its limit
-  counter : Way → Form
-  -- a counter, a condition, units, and a condition
+  -- a condition, units, and a condition; before them a counter, its first value and its limit
   loop : ℕ → Form
+  count : ℕ → Way → Form
   -- a LEAVE with the name of what it leaves, and the value of WITH
   leave : ℕ → Scope → List ℕ → Form
   -- a unit that may deliver nothing, and one that has to deliver this type
@@ -107,6 +99,7 @@ abbrev mutual
   place (phrase statement ps) = first_place ps
   place (phrase (assignment at s) ps) = at
   place (phrase (loop at) ps) = at
+  place (phrase (count at w) ps) = at
   place (phrase (leave at s x) ps) = at
   place p = 0
 

@@ -5,108 +5,43 @@ ghost use Rattle.unit_rules.specs.Loops as spec;
 ghost use Rattle.elan_meant.specs.Parts as parts;
 ghost use Rattle.elan_scope.specs.Answer.{Is};
 ghost use Rattle.elan_scope.specs.Ruled.{gives};
-ghost use Rattle.elan_meant.specs.declared.meant.Meant.TheVariants as means;
 
-use elan_meant::meant::{Counted, Meant};
+use elan_meant::meant::Meant;
 use elan_meant::operands::delivers;
 use elan_meant::part::{actions, may_deliver, place_of, unit_doing, variable_of, written};
 use elan_meant::row::Judged;
 use elan_scope::trouble::Trouble;
 use elan_types::{Action, ElanType, PlacePhrase, ValuePhrase, Way, Why};
-use eu_base::{Boxed, List};
 use std::alloc::Global;
 
-fn are_numbers(name: &Meant, from: &Meant, limit: &Meant) -> bool
-    ensures { result ≡ spec.are_numbers name.now from.now limit.now }
-{
-    delivers(ElanType::Int, name)
-        && may_deliver(ElanType::Int, from)
-        && may_deliver(ElanType::Int, limit)
-}
-
-fn first_value(from: Option<ValuePhrase>) -> ValuePhrase
-    ensures { result ≡ spec.first_value from }
-{
-    match from {
-        None => ValuePhrase::Number(1),
-        Some(value) => value,
-    }
-}
-
-/// A counter, its first value, and its limit.
-pub fn counted(alloc: Global, way: Way, name: Meant, from: Meant, limit: Meant) -> Judged
-    ensures { Is result (gives (means.Counter (spec.counted way name from limit))) }
-{
-    let are_numbers = are_numbers(&name, &from, &limit);
-    let at = place_of(&name);
-    let place = variable_of(name);
-    let limit = written(limit);
-    let from = first_value(written(from));
-    let counter = Boxed::new(
-        alloc,
-        Counted {
-            are_numbers,
-            at,
-            place,
-            from,
-            way,
-            limit,
-        },
-    )?;
-    Ok(Meant::Counter(counter))
-}
-
-// What a loop does in its turns.
+/// What a loop does in its turns: the condition of WHILE, its units, and the condition of UNTIL.
 #[derive(Drop)]
-struct Turns {
-    condition: Option<ValuePhrase>,
-    units: List<Action>,
-    until: Option<ValuePhrase>,
+pub struct Turns {
+    pub condition: Meant,
+    pub units: Meant,
+    pub until: Meant,
 }
 
 impl Turns {
     fn let_go(self) {}
 }
 
-fn in_turns(alloc: Global, condition: Meant, units: Meant, until: Meant) -> Turns
-    ensures condition { result.condition ≡ parts.written condition }
-    ensures units { result.units ≡ parts.actions units }
-    ensures until { result.until ≡ parts.written until }
-{
-    Turns {
-        condition: written(condition),
-        units: actions(alloc, units),
-        until: written(until),
-    }
+/// The counter of a loop, its first value, and its limit.
+#[derive(Drop)]
+pub struct Bounds {
+    pub name: Meant,
+    pub from: Meant,
+    pub limit: Meant,
 }
 
-fn count(
-    alloc: Global,
-    counter: PlacePhrase,
-    from: ValuePhrase,
-    way: Way,
-    limit: Option<ValuePhrase>,
-    turns: Turns,
-) -> Judged
-    ensures { Is result (gives (spec.count counter from way limit turns.condition turns.units turns.until)) }
+impl Bounds {
+    fn let_go(self) {}
+}
+
+fn conditions(turns: &Turns) -> bool
+    ensures { result ≡ spec.conditions turns.now.condition turns.now.until }
 {
-    let Turns {
-        condition,
-        units,
-        until,
-    } = turns;
-    unit_doing(
-        alloc,
-        Action::Count {
-            counter,
-            from,
-            way,
-            limit,
-            condition,
-            units,
-            until,
-        },
-    )
+    may_deliver(ElanType::Bool, &turns.condition) && may_deliver(ElanType::Bool, &turns.until)
 }
 
 fn uncounted(alloc: Global, turns: Turns) -> Judged
@@ -120,97 +55,97 @@ fn uncounted(alloc: Global, turns: Turns) -> Judged
     unit_doing(
         alloc,
         Action::Loop {
-            condition,
-            units,
-            until,
+            condition: written(condition),
+            units: actions(alloc, units),
+            until: written(until),
+        },
+    )
+}
+
+/// A loop without counter.
+pub fn repeated(alloc: Global, at: u32, turns: Turns) -> Judged
+    ensures { Is result (spec.loop at turns.condition turns.units turns.until) }
+{
+    if conditions(&turns) {
+        uncounted(alloc, turns)
+    } else {
+        turns.let_go();
+        Err(Trouble::Breaks(at, Why::WrongType))
+    }
+}
+
+fn first_value(from: Option<ValuePhrase>) -> ValuePhrase
+    ensures { result ≡ spec.first_value from }
+{
+    match from {
+        None => ValuePhrase::Number(1),
+        Some(value) => value,
+    }
+}
+
+fn are_numbers(bounds: &Bounds) -> bool
+    ensures { result ≡ spec.are_numbers bounds.now.name bounds.now.from bounds.now.limit }
+{
+    delivers(ElanType::Int, &bounds.name)
+        && may_deliver(ElanType::Int, &bounds.from)
+        && may_deliver(ElanType::Int, &bounds.limit)
+}
+
+fn count(
+    alloc: Global,
+    counter: PlacePhrase,
+    from: Meant,
+    way: Way,
+    limit: Meant,
+    turns: Turns,
+) -> Judged
+    ensures { Is result (gives (spec.count counter (spec.first_value (parts.written from)) way (parts.written limit) (parts.written turns.condition) (parts.actions turns.units) (parts.written turns.until))) }
+{
+    let Turns {
+        condition,
+        units,
+        until,
+    } = turns;
+    unit_doing(
+        alloc,
+        Action::Count {
+            counter,
+            from: first_value(written(from)),
+            way,
+            limit: written(limit),
+            condition: written(condition),
+            units: actions(alloc, units),
+            until: written(until),
         },
     )
 }
 
 // A variable is needed as a counter.
-fn counting(alloc: Global, counter: Boxed<Counted>, turns: Turns) -> Judged
-    ensures { Is result (spec.counting counter counter.place turns.condition turns.units turns.until) }
+fn counting(alloc: Global, way: Way, bounds: Bounds, turns: Turns) -> Judged
+    ensures { Is result (spec.counting way (parts.place_of bounds.name) (parts.variable_of bounds.name) bounds.from bounds.limit turns.condition turns.units turns.until) }
 {
-    let Counted {
-        at,
-        place,
-        from,
-        way,
-        limit,
-        ..
-    } = counter.into_inner();
-    match place {
+    let Bounds { name, from, limit } = bounds;
+    let at = place_of(&name);
+    match variable_of(name) {
         None => {
+            from.let_go();
+            limit.let_go();
             turns.let_go();
             Err(Trouble::Breaks(at, Why::NoVariable))
         }
-        Some(place) => count(alloc, place, from, way, limit, turns),
+        Some(counter) => count(alloc, counter, from, way, limit, turns),
     }
 }
 
-// The counter, if it and its bounds are numbers.
-fn in_numbers(at: u32, counter: Boxed<Counted>) -> Result<Boxed<Counted>, Trouble>
-    ensures { Is result (spec.in_numbers at counter) }
+/// A loop with a counter.
+pub fn counted(alloc: Global, at: u32, way: Way, bounds: Bounds, turns: Turns) -> Judged
+    ensures { Is result (spec.counted at way bounds.name bounds.from bounds.limit turns.condition turns.units turns.until) }
 {
-    if counter.get().are_numbers {
-        Ok(counter)
+    if are_numbers(&bounds) && conditions(&turns) {
+        counting(alloc, way, bounds, turns)
     } else {
-        Err(Trouble::Breaks(at, Why::WrongType))
-    }
-}
-
-fn looped(alloc: Global, at: u32, counter: Option<Boxed<Counted>>, turns: Turns) -> Judged
-    ensures { Is result (spec.looped at counter turns.condition turns.units turns.until) }
-{
-    match counter {
-        None => uncounted(alloc, turns),
-        Some(counter) => match in_numbers(at, counter) {
-            Err(trouble) => {
-                turns.let_go();
-                Err(trouble)
-            }
-            Ok(counter) => counting(alloc, counter, turns),
-        },
-    }
-}
-
-fn conditions(condition: &Meant, until: &Meant) -> bool
-    ensures { result ≡ spec.conditions condition.now until.now }
-{
-    may_deliver(ElanType::Bool, condition) && may_deliver(ElanType::Bool, until)
-}
-
-fn counter_in(meant: Meant) -> Option<Boxed<Counted>>
-    ensures { result ≡ spec.counter_in meant }
-{
-    match meant {
-        Meant::Counter(counter) => Some(counter),
-        other => {
-            other.let_go();
-            None
-        }
-    }
-}
-
-/// A loop: its counter, the condition of WHILE, its units, and the condition of UNTIL.
-pub fn repeated(
-    alloc: Global,
-    at: u32,
-    counter: Meant,
-    condition: Meant,
-    units: Meant,
-    until: Meant,
-) -> Judged
-    ensures { Is result (spec.loop at counter condition units until) }
-{
-    if conditions(&condition, &until) {
-        let turns = in_turns(alloc, condition, units, until);
-        looped(alloc, at, counter_in(counter), turns)
-    } else {
-        counter.let_go();
-        condition.let_go();
-        units.let_go();
-        until.let_go();
+        bounds.let_go();
+        turns.let_go();
         Err(Trouble::Breaks(at, Why::WrongType))
     }
 }

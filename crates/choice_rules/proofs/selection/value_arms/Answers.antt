@@ -1,10 +1,11 @@
-use Rattle.std.proofs.Common.{◌≡◌, IfOk, List, sym, subst}
+use Rattle.std.proofs.Common.{◌≡◌, ◌∷◌, [], IfOk, List, map, sym, subst}
+use Rattle.std.proofs.lemmas.List.{map-append}
 use Rattle.elan_types.specs.declared.core_phrase.ValueArm.{ValueArm}
-use Rattle.choice_rules.specs.Choices.{value_arm, value_arms}
-use Rattle.choice_rules.proofs.Lists.{value_arms_push}
+use Rattle.choice_rules.specs.Choices.{value_arm}
 use Rattle.choice_rules.proofs.selection.value_arms.Goals as goal
 
 pub loop-arm-preserved : goal.loop-arm-preserved
 loop-arm-preserved c =
-    subst (λ (l : List ValueArm). IfOk c.pushed-list.result (λ (x : List ValueArm). x ≡ l)) (sym (value_arms_push c.args.of c.loop-arm.yielded c.in-Some.arm))
-    (c.pushed-list.ensures (value_arms c.args.of c.loop-arm.yielded) (value_arm c.args.of c.in-Some.arm) c.loop-arm.invariant c.value_arm.ensures)
+    subst (λ (l : List ValueArm). IfOk c.pushed-list.result (λ (x : List ValueArm). x ≡ l))
+    (sym (map-append (value_arm c.args.of) c.loop-arm.yielded (c.in-Some.arm ∷ [])))
+    (c.pushed-list.ensures (map (value_arm c.args.of) c.loop-arm.yielded) (value_arm c.args.of c.in-Some.arm) c.loop-arm.invariant c.value_arm.ensures)

@@ -1,9 +1,9 @@
-use Rattle.std.proofs.Common.{◌≡◌, [], map, take, drop}
+use Rattle.std.proofs.Common.{[], map, take, drop}
 use Rattle.elan_scope.specs.Answer.{Is}
 use Rattle.elan_rules.specs.Meaning.{judged_all}
 use Rattle.elan_scope.specs.Phrase.{all_of}
-use Rattle.elan_judge.specs.Shape.{expr, branch, case, item, arm_phrases}
-use Rattle.elan_judge.proofs.Rows.{all_numbers, Grown, left_roles}
+use Rattle.elan_judge.specs.Shape.{expr, item}
+use Rattle.elan_judge.proofs.Rows.{Grown, left_roles, left_branches, left_cases}
 use Rattle.elan_judge.proofs.judge.+judge.Given as goal
 
 abbrev pub invariant-judge_exprs-loop-expr : goal.invariant-judge_exprs-loop-expr
@@ -12,13 +12,13 @@ invariant-judge_exprs-loop-expr l = Is l.row (judged_all l.known (all_of (map (e
 abbrev pub invariant-judge_items-loop-item : goal.invariant-judge_items-loop-item
 invariant-judge_items-loop-item l = Is l.row (judged_all l.known (all_of (map (item l.scope) (take l.item-index l.items))))
 
-abbrev pub invariant-branch_row-loop-branch : goal.invariant-branch_row-loop-branch
-invariant-branch_row-loop-branch l = Is l.row (judged_all l.known (all_of (map (branch l.scope) (take l.branch-index l.branches))))
+abbrev pub invariant-judge_branches-loop-branch : goal.invariant-judge_branches-loop-branch
+invariant-judge_branches-loop-branch l =
+    Grown l.known l.row (left_branches l.known l.scope (drop l.branch-index l.branches)) (left_branches l.known l.scope l.branches)
+
+abbrev pub invariant-judge_cases-loop-case : goal.invariant-judge_cases-loop-case
+invariant-judge_cases-loop-case l =
+    Grown l.known l.row (left_cases l.known l.scope l.earlier (drop l.case-index l.cases)) (left_cases l.known l.scope [] l.cases)
 
 abbrev pub invariant-judge_roles-loop-i : goal.invariant-judge_roles-loop-i
 invariant-judge_roles-loop-i l = Grown l.known l.row (left_roles l.known l.scope l.wanted (drop l.i l.units)) (left_roles l.known l.scope l.wanted l.units)
-
-abbrev pub invariant-case_row-loop-case : goal.invariant-case_row-loop-case
-invariant-case_row-loop-case l =
-    (l.earlier ≡ all_numbers (map (case l.scope) (take l.case-index l.cases)))
-    × Is l.row (judged_all l.known (all_of (arm_phrases l.scope [] (map (case l.scope) (take l.case-index l.cases)))))
