@@ -4,4 +4,3 @@ pub mod Level
 pub mod Bodies
 pub mod Whole
 pub mod Plays
-pub mod Typed

@@ -51,12 +51,18 @@ use Rattle.elan_rules.proofs.TypedCalls.{owner_with}
 
 -- ---- lists
 
-pub split : (kn : Known) (xs ys : List Phrase) (ms : List Meant) → judged_all kn (all_of (xs ++ ys)) ≡ gives ms → (as' : List Meant) × (bs : List Meant) × (judged_all kn (all_of xs) ≡ gives as') × (judged_all kn (all_of ys) ≡ gives bs) × (ms ≡ as' ++ bs)
+pub split : (kn : Known) (xs ys : List Phrase) (ms : List Meant) → judged_all kn (all_of (xs ++ ys)) ≡ gives ms
+    → (as' : List Meant) × (bs : List Meant) × (judged_all kn (all_of xs) ≡ gives as') × (judged_all kn (all_of ys) ≡ gives bs) × (ms ≡ as' ++ bs)
 split kn [] ys ms e = ([], ms, refl, e, refl)
 split kn (x ∷ xs) ys ms e =
     let q = before_gives (judged kn x) (judged_all kn (all_of (xs ++ ys))) ms e in
-    let r = split kn xs ys q.1 q.3 in
-    (q.0 ∷ r.0, r.1, ap (λ (c : Ruled Meant). before c (judged_all kn (all_of xs))) q.2 ∙ ap (λ (c : Ruled (List Meant)). before (gives q.0) c) r.2, r.3, q.4 ∙ ap (λ (ns : List Meant). q.0 ∷ ns) r.4)
+    let r = split kn xs ys q.1 q.3 in (
+      q.0 ∷ r.0,
+      r.1,
+      ap (λ (c : Ruled Meant). before c (judged_all kn (all_of xs))) q.2 ∙ ap (λ (c : Ruled (List Meant)). before (gives q.0) c) r.2,
+      r.3,
+      q.4 ∙ ap (λ (ns : List Meant). q.0 ∷ ns) r.4,
+    )
 
 append_assoc' : {A : Type 0} (xs ys zs : List A) → xs ++ ys ++ zs ≡ xs ++ (ys ++ zs)
 append_assoc' [] ys zs = refl
@@ -64,11 +70,13 @@ append_assoc' (x ∷ xs) ys zs = ap (λ l. x ∷ l) (append_assoc' xs ys zs)
 
 pub bodies_append : (ms ns : List Meant) → u.bodies_of (ms ++ ns) ≡ u.bodies_of ms ++ u.bodies_of ns
 bodies_append [] ns = refl
-bodies_append (m ∷ ms) ns = ap (λ (bs : List Body). u.bodies_in m ++ bs) (bodies_append ms ns) ∙ sym (append_assoc' (u.bodies_in m) (u.bodies_of ms) (u.bodies_of ns))
+bodies_append (m ∷ ms) ns =
+    ap (λ (bs : List Body). u.bodies_in m ++ bs) (bodies_append ms ns) ∙ sym (append_assoc' (u.bodies_in m) (u.bodies_of ms) (u.bodies_of ns))
 
 held_append : (xs ys : List Entry) → all_held (xs ++ ys) ≡ all_held xs ++ all_held ys
 held_append [] ys = refl
-held_append (x ∷ xs) ys = ap (λ (l : List Parameter). held x.denotes ++ l) (held_append xs ys) ∙ sym (append_assoc' (held x.denotes) (all_held xs) (all_held ys))
+held_append (x ∷ xs) ys =
+    ap (λ (l : List Parameter). held x.denotes ++ l) (held_append xs ys) ∙ sym (append_assoc' (held x.denotes) (all_held xs) (all_held ys))
 
 -- ---- parameters
 
@@ -105,7 +113,8 @@ Inside k bs all = (i : ℕ) (b : Body) → slice_get bs i ≡ Some b → slice_g
 -- the PROC or OP has what its names hold
 abbrev pub Frames : List Body → Option Within → Type 0
 Frames all None = Unit {0}
-Frames all (Some v) = (ps : List Parameter) × (vs : List ElanType) × (scope_of (slice_get all v.number) ≡ Some (owner.Own ps vs)) × (ps ++ map held_const vs ≡ all_held v.names)
+Frames all (Some v) =
+    (ps : List Parameter) × (vs : List ElanType) × (scope_of (slice_get all v.number) ≡ Some (owner.Own ps vs)) × (ps ++ map held_const vs ≡ all_held v.names)
 
 abbrev pub within : ℕ → List Entry → Option Within
 within n names = Some (record { number = n; names = names })
@@ -135,9 +144,11 @@ module _ (kn : Known) (s : Scope) (all : List Body) where
   Rows n (h ∷ hs) [] bs = ⊥
   Rows n (h ∷ hs) (p ∷ ps) [] = ⊥
 
-  pub rows_append : (n m : ℕ) (hs gs : List Heading) (ps qs : List Phrase) (bs cs : List Body) → m ≡ n + length bs → Rows n hs ps bs → Rows m gs qs cs → Rows n (hs ++ gs) (ps ++ qs) (bs ++ cs)
+  pub rows_append : (n m : ℕ) (hs gs : List Heading) (ps qs : List Phrase) (bs cs : List Body) → m ≡ n + length bs → Rows n hs ps bs → Rows m gs qs cs
+      → Rows n (hs ++ gs) (ps ++ qs) (bs ++ cs)
   rows_append n m [] gs [] qs [] cs e h k = subst (λ (i : ℕ). Rows i gs qs cs) (let z : n + 0 ≡ n = omega arith in e ∙ z) k
-  rows_append n m (g ∷ hs) gs (p ∷ ps) qs (b ∷ bs) cs e h k = (h.0, rows_append (suc n) m hs gs ps qs bs cs (let z : n + suc (length bs) ≡ suc n + length bs = omega arith in e ∙ z) h.1 k)
+  rows_append n m (g ∷ hs) gs (p ∷ ps) qs (b ∷ bs) cs e h k =
+      (h.0, rows_append (suc n) m hs gs ps qs bs cs (let z : n + suc (length bs) ≡ suc n + length bs = omega arith in e ∙ z) h.1 k)
   rows_append n m [] gs [] qs (b ∷ bs) cs e h k = absurd h
   rows_append n m [] gs (p ∷ ps) qs bs cs e h k = absurd h
   rows_append n m (g ∷ hs) gs [] qs bs cs e h k = absurd h
@@ -153,17 +164,21 @@ module _ (kn : Known) (s : Scope) (all : List Body) where
   two_bodies o ms m n v e h = sym (gives_is (u.body_with o (u.content_of v)) m (ap (rule kn (form.refinement o)) (sym e) ∙ h))
 
   pub refinement_rows : (z : Scope) (k : ℕ) (rs : List Refined) (ms : List Meant) → z.headings ≡ s.headings → z.level ≡ s.level → Frames all z.routine →
-      judged_all kn (all_of (l.refinements z k rs)) ≡ gives ms → Rows k (refinement_headings (number_of z.routine) rs) (l.all_refined_units z k rs) (u.bodies_of ms)
+      judged_all kn (all_of (l.refinements z k rs)) ≡ gives ms
+      → Rows k (refinement_headings (number_of z.routine) rs) (l.all_refined_units z k rs) (u.bodies_of ms)
   refinement_rows z k [] ms hh hl fr e = subst (λ (ns : List Meant). Rows k [] [] (u.bodies_of ns)) (gives_is [] ms e) tt
   refinement_rows z k (r ∷ rs) ms hh hl fr e =
       let q = before_gives (judged kn (l.refinement z k r)) (judged_all kn (all_of (l.refinements z (suc k) rs))) ms e in
-      let a = bind_gives (judged_all kn (part (l.declares z r.name) (part (l.refined_units z k r) none))) (rule kn (form.refinement (l.owner_of z.routine))) q.0 q.2 in
+      let a =
+      bind_gives (judged_all kn (part (l.declares z r.name) (part (l.refined_units z k r) none))) (rule kn (form.refinement (l.owner_of z.routine))) q.0 q.2
+      in
       let c = before_gives (judged kn (l.declares z r.name)) (judged_all kn (part (l.refined_units z k r) none)) a.0 a.1 in
       let d = before_gives (judged kn (l.refined_units z k r)) (gives []) c.1 c.3 in
       let two : a.0 ≡ c.0 ∷ d.0 ∷ [] = c.4 ∙ ap (λ (ns : List Meant). c.0 ∷ ns) (d.4 ∙ ap (λ (ns : List Meant). d.0 ∷ ns) (sym (gives_is [] d.1 d.3))) in
       let made : q.0 ≡ u.body_with (l.owner_of z.routine) (u.content_of d.0) = two_bodies (l.owner_of z.routine) a.0 q.0 c.0 d.0 two a.2 in
       subst (λ (ns : List Meant). Rows k (refinement_headings (number_of z.routine) (r ∷ rs)) (l.all_refined_units z k (r ∷ rs)) (u.bodies_of ns)) (sym q.4)
-      (subst (λ (m : Meant). Rows k (refinement_headings (number_of z.routine) (r ∷ rs)) (l.all_refined_units z k (r ∷ rs)) (u.bodies_in m ++ u.bodies_of q.1)) (sym made) (
+      (subst (λ (m : Meant). Rows k (refinement_headings (number_of z.routine) (r ∷ rs)) (l.all_refined_units z k (r ∷ rs)) (u.bodies_in m ++ u.bodies_of q.1))
+      (sym made) (
         record {
           meant = d.0;
           means = d.2;
@@ -246,15 +261,25 @@ module _ (kn : Known) (s : Scope) (all : List Body) where
     abbrev inner : Scope
     inner = l.inner s k at x t fs w
 
-    one_body : (r : Option ElanType) (ms : List Meant) (m v : Meant) → ms ≡ v ∷ [] → rule kn (form.body own r) ms ≡ gives m → m ≡ u.body_with own (u.content_as r v)
+    one_body : (r : Option ElanType) (ms : List Meant) (m v : Meant) → ms ≡ v ∷ [] → rule kn (form.body own r) ms ≡ gives m
+        → m ≡ u.body_with own (u.content_as r v)
     one_body r ms m v e h = sym (gives_is (u.body_with own (u.content_as r v)) m (ap (rule kn (form.body own r)) (sym e) ∙ h))
 
-    pub routine_rows : (sort : Sort) (names : List Phrase) (m : Meant) → AllQuiet names → judged kn (l.routine s k at x t fs w sort names) ≡ gives m → Inside k (u.bodies_in m) all →
+    pub routine_rows : (sort : Sort) (names : List Phrase) (m : Meant) → AllQuiet names → judged kn (l.routine s k at x t fs w sort names) ≡ gives m
+        → Inside k (u.bodies_in m) all →
         Rows k (b.routine_heading sort at x fs t ∷ refinement_headings (Some k) w.refinements) (l.routine_units s k at x t fs w) (u.bodies_in m)
     routine_rows sort names m quiet e inside =
-        let q = bind_gives (judged_all kn (all_of (l.heading_phrases s k at x t fs w sort names ++ l.body_phrases s k at x t fs w))) (rule kn form.routine) m e in
+        let q =
+        bind_gives (judged_all kn (all_of (l.heading_phrases s k at x t fs w sort names ++ l.body_phrases s k at x t fs w))) (rule kn form.routine) m e in
         let p = split kn (l.heading_phrases s k at x t fs w sort names) (l.body_phrases s k at x t fs w) q.0 q.1 in
-        let silent : u.bodies_of p.0 ≡ [] = quiet_bodies (l.heading_phrases s k at x t fs w sort names) p.0 (quiet_append names (leaf (form.heading at s sort x (parameters fs) (l.is_missing (result t) (l.body_units s k at x t fs w))) ∷ l.declare_parameters inner fs) quiet (headed_quiet at (l.is_missing (result t) (l.body_units s k at x t fs w)) (scope.first_heading (scope.is_alike sort x (scope.types_of (parameters fs))) s.headings), parameters_quiet inner fs)) p.2 in
+        let silent : u.bodies_of p.0 ≡ [] =
+        quiet_bodies (l.heading_phrases s k at x t fs w sort names) p.0
+        (quiet_append names (leaf (form.heading at s sort x (parameters fs) (l.is_missing (result t) (l.body_units s k at x t fs w)))
+        ∷ l.declare_parameters inner fs) quiet (
+          headed_quiet at (l.is_missing (result t) (l.body_units s k at x t fs w))
+              (scope.first_heading (scope.is_alike sort x (scope.types_of (parameters fs))) s.headings),
+          parameters_quiet inner fs,
+        )) p.2 in
         let a = before_gives (judged kn (l.own_body s k at x t fs w)) (judged_all kn (all_of (l.refinements inner (suc k) w.refinements))) p.1 p.3 in
         let c = bind_gives (judged_all kn (part (l.own_units s k at x t fs w) none)) (rule kn (form.body own (result t))) a.0 a.2 in
         let d = before_gives (judged kn (l.own_units s k at x t fs w)) (gives []) c.0 c.1 in
@@ -264,8 +289,10 @@ module _ (kn : Known) (s : Scope) (all : List Body) where
         let is : u.bodies_in m ≡ body ∷ u.bodies_of a.1 =
         ap u.bodies_in (sym (gives_is (Bodies (u.bodies_of q.0)) m q.2)) ∙ ap u.bodies_of p.4 ∙ bodies_append p.0 p.1
         ∙ ap (λ (bs : List Body). bs ++ u.bodies_of p.1) silent ∙ ap u.bodies_of a.4 ∙ ap (λ (n : Meant). u.bodies_in n ++ u.bodies_of a.1) made in
-        let here : slice_get all k ≡ Some body = (let z : k + 0 ≡ k = omega arith in ap (slice_get all) (sym z) ∙ inside 0 body (ap (λ (bs : List Body). slice_get bs 0) is)) in
-        subst (λ (bs : List Body). Rows k (b.routine_heading sort at x fs t ∷ refinement_headings (Some k) w.refinements) (l.routine_units s k at x t fs w) bs) (sym is) (
+        let here : slice_get all k ≡ Some body =
+        (let z : k + 0 ≡ k = omega arith in ap (slice_get all) (sym z) ∙ inside 0 body (ap (λ (bs : List Body). slice_get bs 0) is)) in
+        subst (λ (bs : List Body). Rows k (b.routine_heading sort at x fs t ∷ refinement_headings (Some k) w.refinements) (l.routine_units s k at x t fs w) bs)
+        (sym is) (
           record {
             meant = d.0;
             means = d.2;

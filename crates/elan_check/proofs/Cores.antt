@@ -33,13 +33,16 @@ module _ (w : Level) (k : Known) (is : k ≡ known_of (headings w) (level_bodies
   level_is : (r : Ruled (List Meant)) → judged_all k (all_of (level_parts w)) ≡ r → judged kn (level_phrase w) ≡ (r >>= rule kn form.level)
   level_is r e = ap (λ (q : Ruled (List Meant)). q >>= rule kn form.level) (ap (λ (j : Known). judged_all j (all_of (level_parts w))) (sym is) ∙ e)
 
-  pub core_is : (ms : List Meant) (core : Core) → judged_all k (all_of (level_parts w)) ≡ gives ms → core.variables ≡ variables_of (level_names w) → core.units ≡ actions_of ms → core.bodies ≡ bodies_of ms → Answers w (Ok core)
+  pub core_is : (ms : List Meant) (core : Core) → judged_all k (all_of (level_parts w)) ≡ gives ms → core.variables ≡ variables_of (level_names w)
+      → core.units ≡ actions_of ms → core.bodies ≡ bodies_of ms → Answers w (Ok core)
   core_is ms core e v u b =
       let m : judged kn (level_phrase w) ≡ gives (means.Level core.units core.bodies) =
-      level_is (gives ms) e ∙ ap (λ (as' : List Action). gives (means.Level as' (bodies_of ms))) (sym u) ∙ ap (λ (bs : List Body). gives (means.Level core.units bs)) (sym b) in (
+      level_is (gives ms) e ∙ ap (λ (as' : List Action). gives (means.Level as' (bodies_of ms))) (sym u)
+      ∙ ap (λ (bs : List Body). gives (means.Level core.units bs)) (sym b) in (
         v,
         m,
-        subst (λ (ts : List ElanType). IsWellTyped (record { variables = ts; bodies = core.bodies; units = core.units })) (sym v) (level_typed w core.units core.bodies m),
+        subst (λ (ts : List ElanType). IsWellTyped (record { variables = ts; bodies = core.bodies; units = core.units })) (sym v)
+            (level_typed w core.units core.bodies m),
       )
 
   pub fault_is : (at : ℕ) (why : Why) → judged_all k (all_of (level_parts w)) ≡ breaks (at, why) → Answers w (Err (NoMeaning at why))

@@ -83,7 +83,8 @@ and_right : (a b : Bool) → (a && b) ≡ true → b ≡ true
 and_right true b e = e
 and_right false b e = absurd cc
 
-number_headed : (z : Scope) (x : List ℕ) (o : Option (ℕ × Heading)) (n : ℕ) → scope.first_heading (scope.is_refined (number_of z.routine) x) z.headings ≡ o → scope.number_in o ≡ Some n → IsHeaded z.headings n
+number_headed : (z : Scope) (x : List ℕ) (o : Option (ℕ × Heading)) (n : ℕ) → scope.first_heading (scope.is_refined (number_of z.routine) x) z.headings ≡ o
+    → scope.number_in o ≡ Some n → IsHeaded z.headings n
 number_headed z x None n e f = absurd cc
 number_headed z x (Some m) n e f =
     let h = first_at (scope.is_refined (number_of z.routine) x) z.headings m e in
@@ -94,7 +95,8 @@ named_headed : (z : Scope) (x : List ℕ) (o : Option Found) (n : ℕ) → scope
 named_headed z x None n e = absurd cc
 named_headed z x (Some f) n e = by_test (scope.is_refinement f.denotes) e
   where
-    by_test : (d : Bool) → (if d then scope.number_in (scope.first_heading (scope.is_refined (number_of z.routine) x) z.headings) else None) ≡ Some n → IsHeaded z.headings n
+    by_test : (d : Bool) → (if d then scope.number_in (scope.first_heading (scope.is_refined (number_of z.routine) x) z.headings) else None) ≡ Some n
+        → IsHeaded z.headings n
     by_test true g = number_headed z x (scope.first_heading (scope.is_refined (number_of z.routine) x) z.headings) n refl g
     by_test false g = absurd cc
 
@@ -103,7 +105,8 @@ module _ (kn : Known) where
   abbrev pub Leaf : Scope → List ℕ → Type 0
   Leaf z ns = (n : ℕ) × In n ns × (delivery_at kn n ≡ Open) × (leads_back kn n z.refinement ≡ false) × IsHeaded z.headings n
 
-  named_leaf : (z : Scope) (u : Usage) (at : ℕ) (s : Scope) (x : List ℕ) (ps : Parts) → s ≡ z → c.named kn u at s x (scope.find s x) ≡ hangs → Leaf z (called_by_all (phrase (form.named u at s x) ps ∷ []))
+  named_leaf : (z : Scope) (u : Usage) (at : ℕ) (s : Scope) (x : List ℕ) (ps : Parts) → s ≡ z → c.named kn u at s x (scope.find s x) ≡ hangs
+      → Leaf z (called_by_all (phrase (form.named u at s x) ps ∷ []))
   named_leaf z u at s x ps i e =
       let w = named_open kn at s x u (scope.find s x) e in
       let o = w.1 in
@@ -138,7 +141,8 @@ module _ (kn : Known) where
   form_leaf z form.without_value ps i ms e = absurd (not_hung (rule kn form.without_value ms) e (rules kn form.without_value ms tt))
   form_leaf z (form.must_deliver a0 a1) ps i ms e = absurd (not_hung (rule kn (form.must_deliver a0 a1) ms) e (rules kn (form.must_deliver a0 a1) ms tt))
   form_leaf z form.units ps i ms e = absurd (not_hung (rule kn form.units ms) e (rules kn form.units ms tt))
-  form_leaf z (form.heading a0 a1 a2 a3 a4 a5) ps i ms e = absurd (not_hung (rule kn (form.heading a0 a1 a2 a3 a4 a5) ms) e (rules kn (form.heading a0 a1 a2 a3 a4 a5) ms tt))
+  form_leaf z (form.heading a0 a1 a2 a3 a4 a5) ps i ms e =
+      absurd (not_hung (rule kn (form.heading a0 a1 a2 a3 a4 a5) ms) e (rules kn (form.heading a0 a1 a2 a3 a4 a5) ms tt))
   form_leaf z (form.body a0 a1) ps i ms e = absurd (not_hung (rule kn (form.body a0 a1) ms) e (rules kn (form.body a0 a1) ms tt))
   form_leaf z form.routine ps i ms e = absurd (not_hung (rule kn form.routine ms) e (rules kn form.routine ms tt))
   form_leaf z (form.refinement a0) ps i ms e = absurd (not_hung (rule kn (form.refinement a0) ms) e (rules kn (form.refinement a0) ms tt))
@@ -151,8 +155,10 @@ module _ (kn : Known) where
     pub leaf_of : (z : Scope) (p : Phrase) → InScope z p → judged kn p ≡ hangs → Leaf z (called_in p)
     leaf_of z (phrase f ps) i e =
         elim (bind_hangs (judged_all kn ps) (rule kn f) e) [
-          | inl h ↦ wider z (called_by_all (phrases_of ps)) (called_in (phrase f ps)) (λ n g. in_left n (phrases_of ps) (phrase f ps ∷ []) g) (leaf_all z ps i.1 h)
-          | inr h ↦ wider z (called_by_all (phrase f ps ∷ [])) (called_in (phrase f ps)) (λ n g. in_right n (phrases_of ps) (phrase f ps ∷ []) g) (form_leaf z f ps i.0 h.0 h.1)
+          | inl h ↦ wider z (called_by_all (phrases_of ps)) (called_in (phrase f ps)) (λ n g. in_left n (phrases_of ps) (phrase f ps ∷ []) g)
+              (leaf_all z ps i.1 h)
+          | inr h ↦ wider z (called_by_all (phrase f ps ∷ [])) (called_in (phrase f ps)) (λ n g. in_right n (phrases_of ps) (phrase f ps ∷ []) g)
+              (form_leaf z f ps i.0 h.0 h.1)
         ]
 
     leaf_all : (z : Scope) (ps : Parts) → AllIn z ps → judged_all kn ps ≡ hangs → Leaf z (called_by_all (phrases_of ps))
@@ -160,7 +166,8 @@ module _ (kn : Known) where
     leaf_all z (part p ps) i e =
         elim (before_hangs (judged kn p) (judged_all kn ps) e) [
           | inl h ↦ wider z (called_in p) (called_by_all (phrases_of (part p ps))) (λ n g. in_left n (phrases p) (phrases_of ps) g) (leaf_of z p i.0 h)
-          | inr h ↦ wider z (called_by_all (phrases_of ps)) (called_by_all (phrases_of (part p ps))) (λ n g. in_right n (phrases p) (phrases_of ps) g) (leaf_all z ps i.1 h)
+          | inr h ↦ wider z (called_by_all (phrases_of ps)) (called_by_all (phrases_of (part p ps))) (λ n g. in_right n (phrases p) (phrases_of ps) g)
+              (leaf_all z ps i.1 h)
         ]
 
   -- ---- the last unit
@@ -173,7 +180,8 @@ module _ (kn : Known) where
   MayFine z ns None = Unit {0}
   MayFine z ns (Some p) = Fine z ns p
 
-  last_fine : (z : Scope) (ns : List ℕ) (ps : Parts) → AllIn z ps → Faultless (judged_all kn ps) → ((n : ℕ) → In n (called_by_all (phrases_of ps)) → In n ns) → MayFine z ns (last_part ps)
+  last_fine : (z : Scope) (ns : List ℕ) (ps : Parts) → AllIn z ps → Faultless (judged_all kn ps) → ((n : ℕ) → In n (called_by_all (phrases_of ps)) → In n ns)
+      → MayFine z ns (last_part ps)
   last_fine z ns none i f h = tt
   last_fine z ns (part p none) i f h =
       let g = before_faultless kn (judged kn p) (judged_all kn none) f in
@@ -192,4 +200,7 @@ module _ (kn : Known) where
       by_outcome hangs i = wider z (called_in p) ns m.2 (leaf_of z p m.0 i)
 
   pub body_leaf : (z : Scope) (p : Phrase) → InScope z p → Faultless (judged kn p) → unit_delivery kn (last_unit p) ≡ Open → Leaf z (called_in p)
-  body_leaf z (phrase f ps) i g e = unit_leaf z (called_in (phrase f ps)) (last_unit (phrase f ps)) (last_fine z (called_in (phrase f ps)) ps i.1 (bind_faultless kn (judged_all kn ps) (rule kn f) g) (λ n k. in_left n (phrases_of ps) (phrase f ps ∷ []) k)) e
+  body_leaf z (phrase f ps) i g e =
+      unit_leaf z (called_in (phrase f ps)) (last_unit (phrase f ps))
+      (last_fine z (called_in (phrase f ps)) ps i.1 (bind_faultless kn (judged_all kn ps) (rule kn f) g)
+      (λ n k. in_left n (phrases_of ps) (phrase f ps ∷ []) k)) e

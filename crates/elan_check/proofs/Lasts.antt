@@ -25,7 +25,9 @@ module _ (d : Delivery) where
   -- Behind the first unit the last is another one, or there is none.
   last_first : (p : Phrase) (ps : List Phrase) → last_of (p ∷ ps) ≡ or_else (last_of ps) (Some (role d p))
   last_first p [] = refl
-  last_first p (q ∷ ps) = behind (role Nothing p) q ps ∙ last_first q ps ∙ sym (absorbed (last_of ps)) ∙ ap (λ (o : Option Phrase). or_else o (Some (role d p))) (sym (last_first q ps))
+  last_first p (q ∷ ps) =
+      behind (role Nothing p) q ps ∙ last_first q ps ∙ sym (absorbed (last_of ps))
+      ∙ ap (λ (o : Option Phrase). or_else o (Some (role d p))) (sym (last_first q ps))
     where
       absorbed : (o : Option Phrase) → or_else (or_else o (Some (role d q))) (Some (role d p)) ≡ or_else o (Some (role d q))
       absorbed None = refl
@@ -35,7 +37,8 @@ module _ (d : Delivery) where
   abbrev pub last_behind : Option Phrase → List (Option Phrase) → Option Phrase
   last_behind o us = or_else (last_unit (units d us)) o
 
-  last_after : (u : Option Phrase) (us : List (Option Phrase)) (o : Option Phrase) → last_behind o (u ∷ us) ≡ last_behind (if is_empty u then o else Some (role d (written u))) us
+  last_after : (u : Option Phrase) (us : List (Option Phrase)) (o : Option Phrase)
+      → last_behind o (u ∷ us) ≡ last_behind (if is_empty u then o else Some (role d (written u))) us
   last_after None us o = refl
   last_after (Some p) us o = ap (λ (q : Option Phrase). or_else q o) (last_first p (filled us)) ∙ absorbed (last_of (filled us))
     where

@@ -81,26 +81,36 @@ module _ (kn : Known) (s : Scope) (all : List Body) where
   plain_quiet : (q : Phrase) (m : Meant) → judged kn (around form.without_value q) ≡ gives m → u.bodies_in m ≡ []
   plain_quiet q m e = let r = bind_gives (judged_all kn (part q none)) (rule kn form.without_value) m e in no_bodies_in r.0 m r.2
 
-  unit_rows : (k : ℕ) (v : LevelUnit) (m : Meant) → judged kn (l.level_unit s k v) ≡ gives m → Inside k (u.bodies_in m) all → Rows kn s all k (b.unit_headings k v) (l.unit_bodies s k v) (u.bodies_in m)
+  unit_rows : (k : ℕ) (v : LevelUnit) (m : Meant) → judged kn (l.level_unit s k v) ≡ gives m → Inside k (u.bodies_in m) all
+      → Rows kn s all k (b.unit_headings k v) (l.unit_bodies s k v) (u.bodies_in m)
   unit_rows k (level.Plain v) m e h = subst (λ (bs : List Body). Rows kn s all k [] [] bs) (sym (plain_quiet (shape.written (shape.unit s v)) m e)) tt
-  unit_rows k (level.Proc at r n fs w) m e h = routine_rows kn s all k n.at n.text r fs w Procedure (l.procedure_name s n fs) m (procedure_quiet kn s all n fs) e h
+  unit_rows k (level.Proc at r n fs w) m e h =
+      routine_rows kn s all k n.at n.text r fs w Procedure (l.procedure_name s n fs) m (procedure_quiet kn s all n fs) e h
   unit_rows k (level.Op at r n fs w) m e h = routine_rows kn s all k n.at (operator_text n.operator) r fs w Operator [] m tt e h
   unit_rows k (level.NewType at n of) m e h = absurd cc
 
-  pub units_rows : (k : ℕ) (vs : List LevelUnit) (ms : List Meant) → judged_all kn (all_of (l.level_units s k vs)) ≡ gives ms → Inside k (u.bodies_of ms) all → Rows kn s all k (b.all_headings k vs) (l.all_unit_bodies s k vs) (u.bodies_of ms)
+  pub units_rows : (k : ℕ) (vs : List LevelUnit) (ms : List Meant) → judged_all kn (all_of (l.level_units s k vs)) ≡ gives ms → Inside k (u.bodies_of ms) all
+      → Rows kn s all k (b.all_headings k vs) (l.all_unit_bodies s k vs) (u.bodies_of ms)
   units_rows k [] ms e h = subst (λ (ns : List Meant). Rows kn s all k [] [] (u.bodies_of ns)) (gives_is [] ms e) tt
   units_rows k (v ∷ vs) ms e h =
       let q = before_gives (judged kn (l.level_unit s k v)) (judged_all kn (all_of (l.level_units s (k + b.bodies_in v) vs))) ms e in
       let h' : Inside k (u.bodies_in q.0 ++ u.bodies_of q.1) all = subst (λ (ns : List Meant). Inside k (u.bodies_of ns) all) q.4 h in
       let first = unit_rows k v q.0 q.2 (inside_first k (u.bodies_in q.0) (u.bodies_of q.1) all h') in
-      let count : length (u.bodies_in q.0) ≡ b.bodies_in v = rows_count k (b.unit_headings k v) (l.unit_bodies s k v) (u.bodies_in q.0) first ∙ headings_count k v in
-      let rest = units_rows (k + b.bodies_in v) vs q.1 q.3 (subst (λ (n : ℕ). Inside (k + n) (u.bodies_of q.1) all) count (inside_rest k (u.bodies_in q.0) (u.bodies_of q.1) all h')) in
+      let count : length (u.bodies_in q.0) ≡ b.bodies_in v =
+      rows_count k (b.unit_headings k v) (l.unit_bodies s k v) (u.bodies_in q.0) first ∙ headings_count k v in
+      let rest =
+      units_rows (k + b.bodies_in v) vs q.1 q.3
+      (subst (λ (n : ℕ). Inside (k + n) (u.bodies_of q.1) all) count (inside_rest k (u.bodies_in q.0) (u.bodies_of q.1) all h')) in
       subst (λ (ns : List Meant). Rows kn s all k (b.all_headings k (v ∷ vs)) (l.all_unit_bodies s k (v ∷ vs)) (u.bodies_of ns)) (sym q.4)
-      (rows_append kn s all k (k + b.bodies_in v) (b.unit_headings k v) (b.all_headings (k + b.bodies_in v) vs) (l.unit_bodies s k v) (l.all_unit_bodies s (k + b.bodies_in v) vs) (u.bodies_in q.0) (u.bodies_of q.1) (ap (λ (n : ℕ). k + n) (sym count)) first rest)
+      (rows_append kn s all k (k + b.bodies_in v) (b.unit_headings k v) (b.all_headings (k + b.bodies_in v) vs) (l.unit_bodies s k v)
+      (l.all_unit_bodies s (k + b.bodies_in v) vs) (u.bodies_in q.0) (u.bodies_of q.1) (ap (λ (n : ℕ). k + n) (sym count)) first rest)
 
   pub all_count : (k : ℕ) (vs : List LevelUnit) → length (b.all_headings k vs) ≡ b.bodies_of_units vs
   all_count k [] = refl
-  all_count k (v ∷ vs) = both (b.unit_headings k v) (b.all_headings (k + b.bodies_in v) vs) ∙ ap (λ (n : ℕ). n + length (b.all_headings (k + b.bodies_in v) vs)) (headings_count k v) ∙ ap (λ (n : ℕ). b.bodies_in v + n) (all_count (k + b.bodies_in v) vs)
+  all_count k (v ∷ vs) =
+      both (b.unit_headings k v) (b.all_headings (k + b.bodies_in v) vs)
+      ∙ ap (λ (n : ℕ). n + length (b.all_headings (k + b.bodies_in v) vs)) (headings_count k v)
+      ∙ ap (λ (n : ℕ). b.bodies_in v + n) (all_count (k + b.bodies_in v) vs)
     where
       both : (xs ys : List Heading) → length (xs ++ ys) ≡ length xs + length ys
       both [] ys = let z : 0 + length ys ≡ length ys = omega arith in sym z
@@ -108,7 +118,8 @@ module _ (kn : Known) (s : Scope) (all : List Body) where
 
   -- ---- rows by their numbers
 
-  pub row_of_heading : (n : ℕ) (hs : List Heading) (ps : List Phrase) (bs : List Body) (i : ℕ) (h : Heading) → Rows kn s all n hs ps bs → slice_get hs i ≡ Some h → (q : Phrase) × (c : Body) × (slice_get ps i ≡ Some q) × (slice_get bs i ≡ Some c) × Row kn s all (n + i) h q c
+  pub row_of_heading : (n : ℕ) (hs : List Heading) (ps : List Phrase) (bs : List Body) (i : ℕ) (h : Heading) → Rows kn s all n hs ps bs
+      → slice_get hs i ≡ Some h → (q : Phrase) × (c : Body) × (slice_get ps i ≡ Some q) × (slice_get bs i ≡ Some c) × Row kn s all (n + i) h q c
   row_of_heading n [] ps bs i h r e = absurd cc
   row_of_heading n (g ∷ hs) [] bs i h r e = absurd r
   row_of_heading n (g ∷ hs) (q ∷ ps) [] i h r e = absurd r
@@ -121,7 +132,8 @@ module _ (kn : Known) (s : Scope) (all : List Body) where
       let z : n + suc i ≡ suc n + i = omega arith in
       (k.0, k.1, k.2, k.3, subst (λ (m : ℕ). Row kn s all m h k.0 k.1) (sym z) k.4)
 
-  pub heading_of_body : (n : ℕ) (hs : List Heading) (ps : List Phrase) (bs : List Body) (i : ℕ) (c : Body) → Rows kn s all n hs ps bs → slice_get bs i ≡ Some c → (h : Heading) × (slice_get hs i ≡ Some h)
+  pub heading_of_body : (n : ℕ) (hs : List Heading) (ps : List Phrase) (bs : List Body) (i : ℕ) (c : Body) → Rows kn s all n hs ps bs → slice_get bs i ≡ Some c
+      → (h : Heading) × (slice_get hs i ≡ Some h)
   heading_of_body n hs ps [] i c r e = absurd cc
   heading_of_body n [] [] (d ∷ bs) i c r e = absurd r
   heading_of_body n [] (q ∷ ps) (d ∷ bs) i c r e = absurd r

@@ -53,7 +53,8 @@ meant_is_not_refused env t c f h r = first.meant_is_not_refused (known t) (text 
 
 -- ---- there is an answer
 
-level_gives : (k : Known) (ps : List Phrase) (m : Meant) → judged k (phrase form.level (all_of ps)) ≡ gives m → (us : List Action) × (bs : List Body) × (m ≡ Level us bs)
+level_gives : (k : Known) (ps : List Phrase) (m : Meant) → judged k (phrase form.level (all_of ps)) ≡ gives m
+    → (us : List Action) × (bs : List Body) × (m ≡ Level us bs)
 level_gives k ps m e =
     let q = first.bind_gives (judged_all k (all_of ps)) (rule k form.level) m e in
     (actions_of q.0, bodies_of q.0, sym (first.gives_is (Level (actions_of q.0) (bodies_of q.0)) m q.2))

@@ -42,7 +42,8 @@ module _ (k : Known) (row : Result (List Meant) Trouble) (one : Result Meant Tro
   pub grows_by : (p : Phrase) (left whole : List Phrase) → Grown k row (p ∷ left) whole → Is one (judged k p) → Grown k next left whole
   grows_by p left whole g h = grows k row next p left whole g (joins (judged_all k (all_of g.done)) (judged k p) g.means h)
 
-  pub refinements_go : (s z : Scope) (rs : List Refinement) (i : ℕ) (r : Refinement) (n m : ℕ) (whole : List Phrase) → i < length rs → r ≡ get_or rs i r → m ≡ n + 1 → z ≡ s →
+  pub refinements_go : (s z : Scope) (rs : List Refinement) (i : ℕ) (r : Refinement) (n m : ℕ) (whole : List Phrase) → i < length rs → r ≡ get_or rs i r
+      → m ≡ n + 1 → z ≡ s →
       Grown k row (l.refinements s n (drop i rs)) whole → Is one (judged k (l.refinement z n r)) → Grown k next (l.refinements s m (drop (i + 1) rs)) whole
   refinements_go s z rs i r n m whole lt e em ez g h =
       let here : Is one (judged k (l.refinement s n r)) = subst (λ (y : Scope). Is one (judged k (l.refinement y n r))) ez h in
@@ -59,7 +60,8 @@ module _ (k : Known) (row : Result (List Meant) Trouble) (one : Result Meant Tro
       subst (λ (j : ℕ). Grown k next (l.declare_all s (drop j ns)) whole) index
       (grows_by (l.declares s n) (l.declare_all s (drop (suc i) ns)) whole (left_at (l.declare_all s) k row ns i n whole lt e g) h)
 
-  pub units_go : (s z : Scope) (us : List LevelUnit) (i : ℕ) (u : LevelUnit) (n m : ℕ) (whole : List Phrase) → i < length us → u ≡ get_or us i u → m ≡ n + bodies_in u → z ≡ s →
+  pub units_go : (s z : Scope) (us : List LevelUnit) (i : ℕ) (u : LevelUnit) (n m : ℕ) (whole : List Phrase) → i < length us → u ≡ get_or us i u
+      → m ≡ n + bodies_in u → z ≡ s →
       Grown k row (l.level_units s n (drop i us)) whole → Is one (judged k (l.level_unit z n u)) → Grown k next (l.level_units s m (drop (i + 1) us)) whole
   units_go s z us i u n m whole lt e em ez g h =
       let here : Is one (judged k (l.level_unit s n u)) = subst (λ (y : Scope). Is one (judged k (l.level_unit y n u))) ez h in
@@ -68,8 +70,11 @@ module _ (k : Known) (row : Result (List Meant) Trouble) (one : Result Meant Tro
       (subst (λ (j : ℕ). Grown k next (l.level_units s (n + bodies_in u) (drop j us)) whole) index
       (grows_by (l.level_unit s n u) (l.level_units s (n + bodies_in u) (drop (suc i) us)) whole (left_at (l.level_units s n) k row us i u whole lt e g) here))
 
-pub formals_go : (k : Known) (row next : Result (List Meant) Trouble) (s : Scope) (fs : List Formal) (i : ℕ) (f : Formal) (whole : List Phrase) → i < length fs → f ≡ get_or fs i f →
-    Grown k row (l.declare_parameters s (drop i fs)) whole → ((qs : List Phrase) → Is row (judged_all k (all_of qs)) → Is next (judged_all k (all_of (qs ++ l.declare_all s f.names)))) → Grown k next (l.declare_parameters s (drop (i + 1) fs)) whole
+pub formals_go : (k : Known) (row next : Result (List Meant) Trouble) (s : Scope) (fs : List Formal) (i : ℕ) (f : Formal) (whole : List Phrase) → i < length fs
+    → f ≡ get_or fs i f →
+    Grown k row (l.declare_parameters s (drop i fs)) whole
+    → ((qs : List Phrase) → Is row (judged_all k (all_of qs)) → Is next (judged_all k (all_of (qs ++ l.declare_all s f.names))))
+    → Grown k next (l.declare_parameters s (drop (i + 1) fs)) whole
 formals_go k row next s fs i f whole lt e g h =
     let index : suc i ≡ i + 1 = omega arith in
     let here = left_at (l.declare_parameters s) k row fs i f whole lt e g in
@@ -86,45 +91,56 @@ regroup : (ps qs : List Phrase) (p q : Phrase) (rs : List Phrase) → (ps ++ p �
 regroup ps qs p q rs = append_assoc ps (p ∷ []) (qs ++ q ∷ rs) ∙ sym (append_assoc ps (p ∷ qs) (q ∷ rs))
 
 -- what stands in its scope, behind phrases
-pub inside_goes : (k : Known) (row : Result (List Meant) Trouble) (ps : List Phrase) (s : Scope) (n m : ℕ) (r : Option TypePhrase) (fs : List Formal) (b : Body) (rs : List Refinement) → m ≡ n + 1 → rs ≡ b.refinements →
-    Is row (judged_all k (all_of (((ps ++ l.declare_parameters s fs) ++ body_in s r fs b ∷ []) ++ l.refinements s m rs))) → Is row (judged_all k (all_of (ps ++ l.inside s n r fs b)))
+pub inside_goes : (k : Known) (row : Result (List Meant) Trouble) (ps : List Phrase) (s : Scope) (n m : ℕ) (r : Option TypePhrase) (fs : List Formal) (b : Body)
+    (rs : List Refinement) → m ≡ n + 1 → rs ≡ b.refinements →
+    Is row (judged_all k (all_of (((ps ++ l.declare_parameters s fs) ++ body_in s r fs b ∷ []) ++ l.refinements s m rs)))
+    → Is row (judged_all k (all_of (ps ++ l.inside s n r fs b)))
 inside_goes k row ps s n m r fs b rs em er h =
     let qs = l.declare_parameters s fs in
     let q = body_in s r fs b in
     let number : m ≡ suc n = omega (arith, em) in
-    let left : l.refinements s m rs ≡ l.refinements s (suc n) b.refinements = ap (λ (j : ℕ). l.refinements s j rs) number ∙ ap (λ (vs : List Refinement). l.refinements s (suc n) vs) er in
+    let left : l.refinements s m rs ≡ l.refinements s (suc n) b.refinements =
+    ap (λ (j : ℕ). l.refinements s j rs) number ∙ ap (λ (vs : List Refinement). l.refinements s (suc n) vs) er in
     subst (λ (all : List Phrase). Is row (judged_all k (all_of all)))
     (ap (λ (vs : List Phrase). ((ps ++ qs) ++ q ∷ []) ++ vs) left
     ∙ append_assoc (ps ++ qs) (q ∷ []) (l.refinements s (suc n) b.refinements) ∙ append_assoc ps qs (q ∷ l.refinements s (suc n) b.refinements)) h
 
-pub body_is : (k : Known) (s : Scope) (o o' : Owner) (r r' : Option ElanType) (d : Delivery) (us us' : List Statement) (m : Meant) (out : Result Meant Trouble) → us' ≡ us → d ≡ delivered r → judged k (shape.units d (map (shape.unit s) us')) ≡ gives m →
-    o' ≡ o → r' ≡ r → Is out (gives (u.body_with o' (u.content_as r' m))) → Is out (judged k (around (form.body o r) (shape.units (delivered r) (map (shape.unit s) us))))
+pub body_is : (k : Known) (s : Scope) (o o' : Owner) (r r' : Option ElanType) (d : Delivery) (us us' : List Statement) (m : Meant) (out : Result Meant Trouble)
+    → us' ≡ us → d ≡ delivered r → judged k (shape.units d (map (shape.unit s) us')) ≡ gives m →
+    o' ≡ o → r' ≡ r → Is out (gives (u.body_with o' (u.content_as r' m)))
+    → Is out (judged k (around (form.body o r) (shape.units (delivered r) (map (shape.unit s) us))))
 body_is k s o o' r r' d us us' m out eu ed e eo er h =
     let here : judged k (shape.units (delivered r) (map (shape.unit s) us)) ≡ gives m =
-    subst (λ (vs : List Statement). judged k (shape.units (delivered r) (map (shape.unit s) vs)) ≡ gives m) eu (subst (λ (c : Delivery). judged k (shape.units c (map (shape.unit s) us')) ≡ gives m) ed e) in
+    subst (λ (vs : List Statement). judged k (shape.units (delivered r) (map (shape.unit s) vs)) ≡ gives m) eu
+    (subst (λ (c : Delivery). judged k (shape.units c (map (shape.unit s) us')) ≡ gives m) ed e) in
     one_is k (form.body o r) (shape.units (delivered r) (map (shape.unit s) us)) out m here
     (subst (λ (x : Option ElanType). Is out (gives (u.body_with o (u.content_as x m)))) er
     (subst (λ (x : Owner). Is out (gives (u.body_with x (u.content_as r' m)))) eo h))
 
-pub heading_is : (k : Known) (s : Scope) (at : ℕ) (sort : Sort) (x : List ℕ) (ps ps' : List Parameter) (b b' : Bool) (out : Result Meant Trouble) → ps' ≡ ps → b' ≡ b →
+pub heading_is : (k : Known) (s : Scope) (at : ℕ) (sort : Sort) (x : List ℕ) (ps ps' : List Parameter) (b b' : Bool) (out : Result Meant Trouble) → ps' ≡ ps
+    → b' ≡ b →
     Is out (calls.headed at b' (first_heading (is_alike sort x (types_of ps')) s.headings)) → Is out (judged k (leaf (form.heading at s sort x ps b)))
 heading_is k s at sort x ps ps' b b' out ep eb h =
     subst (λ (qs : List Parameter). Is out (calls.headed at b (first_heading (is_alike sort x (types_of qs)) s.headings))) ep
     (subst (λ (c : Bool). Is out (calls.headed at c (first_heading (is_alike sort x (types_of ps')) s.headings))) eb h)
 
-pub procedure_at : (k : Known) (s : Scope) (n : ℕ) (name : Name) (x : List ℕ) (r : Option TypePhrase) (fs fs' : List Formal) (b : Body) (out : Result Meant Trouble) → x ≡ name.text → fs' ≡ fs →
-    Is out (judged k (l.routine s n name.at x r fs' b Procedure (l.procedure_name s name fs'))) → Is out (judged k (l.routine s n name.at name.text r fs b Procedure (l.procedure_name s name fs)))
+pub procedure_at : (k : Known) (s : Scope) (n : ℕ) (name : Name) (x : List ℕ) (r : Option TypePhrase) (fs fs' : List Formal) (b : Body)
+    (out : Result Meant Trouble) → x ≡ name.text → fs' ≡ fs →
+    Is out (judged k (l.routine s n name.at x r fs' b Procedure (l.procedure_name s name fs')))
+    → Is out (judged k (l.routine s n name.at name.text r fs b Procedure (l.procedure_name s name fs)))
 procedure_at k s n name x r fs fs' b out ex ef h =
     subst (λ (gs : List Formal). Is out (judged k (l.routine s n name.at name.text r gs b Procedure (l.procedure_name s name gs)))) ef
     (subst (λ (y : List ℕ). Is out (judged k (l.routine s n name.at y r fs' b Procedure (l.procedure_name s name fs')))) ex h)
 
-pub operator_at : (k : Known) (s : Scope) (n at : ℕ) (x x' : List ℕ) (r : Option TypePhrase) (fs fs' : List Formal) (b : Body) (sort : Sort) (out : Result Meant Trouble) → x' ≡ x → fs' ≡ fs →
+pub operator_at : (k : Known) (s : Scope) (n at : ℕ) (x x' : List ℕ) (r : Option TypePhrase) (fs fs' : List Formal) (b : Body) (sort : Sort)
+    (out : Result Meant Trouble) → x' ≡ x → fs' ≡ fs →
     Is out (judged k (l.routine s n at x' r fs' b sort [])) → Is out (judged k (l.routine s n at x r fs b sort []))
 operator_at k s n at x x' r fs fs' b sort out ex ef h =
     subst (λ (gs : List Formal). Is out (judged k (l.routine s n at x r gs b sort []))) ef
     (subst (λ (y : List ℕ). Is out (judged k (l.routine s n at y r fs' b sort []))) ex h)
 
-module _ (k : Known) (row : Result (List Meant) Trouble) (s : Scope) (n at : ℕ) (x : List ℕ) (r : Option TypePhrase) (fs : List Formal) (b : Body) (sort : Sort) (ps : List Phrase) where
+module _ (k : Known) (row : Result (List Meant) Trouble) (s : Scope) (n at : ℕ) (x : List ℕ) (r : Option TypePhrase) (fs : List Formal) (b : Body) (sort : Sort)
+    (ps : List Phrase) where
   abbrev pub headed : Phrase
   headed = form.leaf (form.heading at s sort x (parameters fs) (l.is_missing (result r) (l.body_units s n at x r fs b)))
 
@@ -132,5 +148,7 @@ module _ (k : Known) (row : Result (List Meant) Trouble) (s : Scope) (n at : ℕ
       Is row (judged_all k (all_of (l.heading_phrases s n at x r fs b sort ps ++ l.body_phrases s n at x r fs b)))
   routine_row z e h =
       let inner = l.routine_scope s n (body_names fs b) in
-      let here : Is row (judged_all k (all_of ((ps ++ headed ∷ []) ++ l.inside inner n r fs b))) = subst (λ (y : Scope). Is row (judged_all k (all_of ((ps ++ headed ∷ []) ++ l.inside y n r fs b)))) e h in
-      subst (λ (qs : List Phrase). Is row (judged_all k (all_of qs))) (regroup ps (l.declare_parameters inner fs) headed (l.own_body s n at x r fs b) (l.refinements inner (suc n) b.refinements)) here
+      let here : Is row (judged_all k (all_of ((ps ++ headed ∷ []) ++ l.inside inner n r fs b))) =
+      subst (λ (y : Scope). Is row (judged_all k (all_of ((ps ++ headed ∷ []) ++ l.inside y n r fs b)))) e h in
+      subst (λ (qs : List Phrase). Is row (judged_all k (all_of qs)))
+      (regroup ps (l.declare_parameters inner fs) headed (l.own_body s n at x r fs b) (l.refinements inner (suc n) b.refinements)) here

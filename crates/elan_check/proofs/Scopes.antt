@@ -12,7 +12,8 @@ abbrev pub within : ℕ → List Entry → Option Within
 within n names = Some (record { number = n; names = names })
 
 -- in a PROC or OP
-pub entered : (s : Scope) (n : ℕ) (names own : List Entry) → s.refinement ≡ None → names ≡ own → scope_with s (within n names) s.refinement ≡ l.routine_scope s n own
+pub entered : (s : Scope) (n : ℕ) (names own : List Entry) → s.refinement ≡ None → names ≡ own
+    → scope_with s (within n names) s.refinement ≡ l.routine_scope s n own
 entered s n names own e h = ap (λ (o : Option ℕ). scope_with s (within n names) o) e ∙ ap (λ (es : List Entry). scope_with s (within n es) None) h
 
 pub left_refinement : (s : Scope) → s.refinement ≡ None → scope_with s s.routine None ≡ s

@@ -96,7 +96,8 @@ next_steps k (Of t ∷ ds) (u ∷ us) = with_head (Of t) ds (next_all k ds us) (
 
 -- ---- places in the lists
 
-next_below : (k : Known) (ds : List Delivery) (us : List Phrase) (i : ℕ) → (slice_index_or ds i Open ≡ Open) ⊎ (slice_index_or ds i Open ≡ slice_index_or (next_all k ds us) i Open)
+next_below : (k : Known) (ds : List Delivery) (us : List Phrase) (i : ℕ)
+    → (slice_index_or ds i Open ≡ Open) ⊎ (slice_index_or ds i Open ≡ slice_index_or (next_all k ds us) i Open)
 next_below k [] us i = inl refl
 next_below k (d ∷ ds) [] i = inr refl
 next_below k (Open ∷ ds) (u ∷ us) zero = inl refl
@@ -106,12 +107,16 @@ next_below k (Open ∷ ds) (u ∷ us) (suc i) = next_below k ds us i
 next_below k (Nothing ∷ ds) (u ∷ us) (suc i) = next_below k ds us i
 next_below k (Of t ∷ ds) (u ∷ us) (suc i) = next_below k ds us i
 
-next_at : (k : Known) (ds : List Delivery) (us : List Phrase) (i : ℕ) (d : Delivery) (u : Phrase) → slice_get ds i ≡ Some d → slice_get us i ≡ Some u → slice_get (next_all k ds us) i ≡ Some (next k d u)
+next_at : (k : Known) (ds : List Delivery) (us : List Phrase) (i : ℕ) (d : Delivery) (u : Phrase) → slice_get ds i ≡ Some d → slice_get us i ≡ Some u
+    → slice_get (next_all k ds us) i ≡ Some (next k d u)
 next_at k [] us i d u e g = absurd cc
 next_at k (c ∷ ds) [] i d u e g = absurd cc
-next_at k (Open ∷ ds) (v ∷ us) zero d u e g = let h : Open ≡ d = cc in let j : v ≡ u = cc in ap (λ (x : Delivery). Some (next k x v)) h ∙ ap (λ (x : Phrase). Some (next k d x)) j
-next_at k (Nothing ∷ ds) (v ∷ us) zero d u e g = let h : Nothing ≡ d = cc in let j : v ≡ u = cc in ap (λ (x : Delivery). Some (next k x v)) h ∙ ap (λ (x : Phrase). Some (next k d x)) j
-next_at k (Of t ∷ ds) (v ∷ us) zero d u e g = let h : Of t ≡ d = cc in let j : v ≡ u = cc in ap (λ (x : Delivery). Some (next k x v)) h ∙ ap (λ (x : Phrase). Some (next k d x)) j
+next_at k (Open ∷ ds) (v ∷ us) zero d u e g =
+    let h : Open ≡ d = cc in let j : v ≡ u = cc in ap (λ (x : Delivery). Some (next k x v)) h ∙ ap (λ (x : Phrase). Some (next k d x)) j
+next_at k (Nothing ∷ ds) (v ∷ us) zero d u e g =
+    let h : Nothing ≡ d = cc in let j : v ≡ u = cc in ap (λ (x : Delivery). Some (next k x v)) h ∙ ap (λ (x : Phrase). Some (next k d x)) j
+next_at k (Of t ∷ ds) (v ∷ us) zero d u e g =
+    let h : Of t ≡ d = cc in let j : v ≡ u = cc in ap (λ (x : Delivery). Some (next k x v)) h ∙ ap (λ (x : Phrase). Some (next k d x)) j
 next_at k (Open ∷ ds) (v ∷ us) (suc i) d u e g = next_at k ds us i d u e g
 next_at k (Nothing ∷ ds) (v ∷ us) (suc i) d u e g = next_at k ds us i d u e g
 next_at k (Of t ∷ ds) (v ∷ us) (suc i) d u e g = next_at k ds us i d u e g
@@ -131,7 +136,8 @@ at_index (c ∷ ds) (suc i) d e = at_index ds i d e
 below_trans : (j k l : Known) → Below j k → Below k l → Below j l
 below_trans j k l h g = (h.0 ∙ g.0, λ n. both n (h.1 n) (g.1 n))
   where
-    both : (n : ℕ) → (delivery_at j n ≡ Open) ⊎ (delivery_at j n ≡ delivery_at k n) → (delivery_at k n ≡ Open) ⊎ (delivery_at k n ≡ delivery_at l n) → (delivery_at j n ≡ Open) ⊎ (delivery_at j n ≡ delivery_at l n)
+    both : (n : ℕ) → (delivery_at j n ≡ Open) ⊎ (delivery_at j n ≡ delivery_at k n) → (delivery_at k n ≡ Open) ⊎ (delivery_at k n ≡ delivery_at l n)
+        → (delivery_at j n ≡ Open) ⊎ (delivery_at j n ≡ delivery_at l n)
     both n a b =
         elim a [
           | inl e ↦ inl e
@@ -185,7 +191,8 @@ module _ (hs : List Heading) (us : List Phrase) where
   settled =
       elim (settles (length hs)) [
         | inl e ↦ e
-        | inr l ↦ absurd (let i : suc (length hs) + opens (D (suc (length hs))) ≤ opens (D 0) = l in let j : opens (D 0) ≤ length (told_by hs) = few (told_by hs) in let k = told_length hs in omega arith)
+        | inr l ↦ absurd (let i : suc (length hs) + opens (D (suc (length hs))) ≤ opens (D 0) = l in
+            let j : opens (D 0) ≤ length (told_by hs) = few (told_by hs) in let k = told_length hs in omega arith)
       ]
 
   -- ---- one body
@@ -232,17 +239,20 @@ module _ (hs : List Heading) (us : List Phrase) where
     last_is None m l = l
     last_is (Some p) m l = ap outcome l.1 ∙ l.2
 
-    outcome_is : (j : ℕ) (p : Phrase) (m n : Meant) (q : Ruled Meant) (d : Delivery) → judged (K j) p ≡ q → Below (K j) (K N) → d ≡ outcome q → (d ≡ Open → ⊥) → judged (K N) p ≡ gives n → delivery_of n ≡ delivery_of m → d ≡ delivery_of m
+    outcome_is : (j : ℕ) (p : Phrase) (m n : Meant) (q : Ruled Meant) (d : Delivery) → judged (K j) p ≡ q → Below (K j) (K N) → d ≡ outcome q → (d ≡ Open → ⊥)
+        → judged (K N) p ≡ gives n → delivery_of n ≡ delivery_of m → d ≡ delivery_of m
     outcome_is j p m n (gives l) d g b e f i k = e ∙ ap delivery_of (same_meaning (K j) (K N) b p l n g i) ∙ k
     outcome_is j p m n (breaks z) d g b e f i k = absurd (f e)
     outcome_is j p m n hangs d g b e f i k = absurd (f e)
 
-    earlier_is : (j : ℕ) (o : Option Phrase) (m : Meant) (d : Delivery) → Below (K j) (K N) → d ≡ unit_delivery (K j) o → (d ≡ Open → ⊥) → Last (K N) o m → d ≡ delivery_of m
+    earlier_is : (j : ℕ) (o : Option Phrase) (m : Meant) (d : Delivery) → Below (K j) (K N) → d ≡ unit_delivery (K j) o → (d ≡ Open → ⊥) → Last (K N) o m
+        → d ≡ delivery_of m
     earlier_is j None m d b e f l = e ∙ l
     earlier_is j (Some p) m d b e f l = outcome_is j p m l.0 (judged (K j) p) d refl b e f l.1 l.2
 
     -- a refinement delivers what its units deliver
-    pub refinement_found : (ps : List (Option Phrase)) (m : Meant) → told h.what ≡ Open → u ≡ units Open ps → judged (K N) u ≡ gives m → delivery_at (K N) i ≡ delivery_of m
+    pub refinement_found : (ps : List (Option Phrase)) (m : Meant) → told h.what ≡ Open → u ≡ units Open ps → judged (K N) u ≡ gives m
+        → delivery_at (K N) i ≡ delivery_of m
     refinement_found ps m untold is e =
         let f = from N in
         at_index (D N) i f.0 f.1 ∙ by_delivery f.0 f.1 f.2

@@ -57,7 +57,8 @@ module _ (kn : Known) (s : Scope) where
 
   spots_append : (n m : ℕ) (hs gs : List Heading) (ps qs : List Phrase) → m ≡ n + length hs → Spots n hs ps → Spots m gs qs → Spots n (hs ++ gs) (ps ++ qs)
   spots_append n m [] gs [] qs e h k = subst (λ (i : ℕ). Spots i gs qs) (let z : n + 0 ≡ n = omega arith in e ∙ z) k
-  spots_append n m (g ∷ hs) gs (p ∷ ps) qs e h k = (h.0, spots_append (suc n) m hs gs ps qs (let z : n + suc (length hs) ≡ suc n + length hs = omega arith in e ∙ z) h.1 k)
+  spots_append n m (g ∷ hs) gs (p ∷ ps) qs e h k =
+      (h.0, spots_append (suc n) m hs gs ps qs (let z : n + suc (length hs) ≡ suc n + length hs = omega arith in e ∙ z) h.1 k)
   spots_append n m [] gs (p ∷ ps) qs e h k = absurd h
   spots_append n m (g ∷ hs) gs [] qs e h k = absurd h
 
@@ -67,7 +68,8 @@ module _ (kn : Known) (s : Scope) where
   spots_count n [] (p ∷ ps) h = absurd h
   spots_count n (g ∷ hs) [] h = absurd h
 
-  pub spot_at : (n : ℕ) (hs : List Heading) (ps : List Phrase) (i : ℕ) (h : Heading) → Spots n hs ps → slice_get hs i ≡ Some h → (p : Phrase) × (slice_get ps i ≡ Some p) × Spot (n + i) h p
+  pub spot_at : (n : ℕ) (hs : List Heading) (ps : List Phrase) (i : ℕ) (h : Heading) → Spots n hs ps → slice_get hs i ≡ Some h
+      → (p : Phrase) × (slice_get ps i ≡ Some p) × Spot (n + i) h p
   spot_at n [] ps i h r e = absurd cc
   spot_at n (g ∷ hs) [] i h r e = absurd r
   spot_at n (g ∷ hs) (p ∷ ps) zero h r e =
@@ -91,11 +93,14 @@ module _ (kn : Known) (s : Scope) where
 
   -- ---- refinements
 
-  refinement_spots : (z : Scope) (k : ℕ) (home : Option ℕ) (rs : List Refined) → z.headings ≡ s.headings → Faultless (judged_all kn (all_of (l.refinements z k rs))) → Spots k (b.refinement_headings home rs) (l.all_refined_units z k rs)
+  refinement_spots : (z : Scope) (k : ℕ) (home : Option ℕ) (rs : List Refined) → z.headings ≡ s.headings
+      → Faultless (judged_all kn (all_of (l.refinements z k rs))) → Spots k (b.refinement_headings home rs) (l.all_refined_units z k rs)
   refinement_spots z k home [] hh f = tt
   refinement_spots z k home (r ∷ rs) hh f =
       let g = before_faultless kn (judged kn (l.refinement z k r)) (judged_all kn (all_of (l.refinements z (suc k) rs))) f in
-      let a = bind_faultless kn (judged_all kn (part (l.declares z r.name) (part (l.refined_units z k r) none))) (rule kn (form.refinement (l.owner_of z.routine))) g.0 in
+      let a =
+      bind_faultless kn (judged_all kn (part (l.declares z r.name) (part (l.refined_units z k r) none))) (rule kn (form.refinement (l.owner_of z.routine)))
+      g.0 in
       let c = before_faultless kn (judged kn (l.declares z r.name)) (judged_all kn (part (l.refined_units z k r) none)) a in
       let d = before_faultless kn (judged kn (l.refined_units z k r)) (judged_all kn none) c.1 in (
         record {
@@ -170,9 +175,12 @@ module _ (kn : Known) (s : Scope) where
     abbrev inner : Scope
     inner = l.inner s k at x t fs w
 
-    routine_spots : (sort : Sort) (names : List Phrase) → Faultless (judged kn (l.routine s k at x t fs w sort names)) → Spots k (b.routine_heading sort at x fs t ∷ b.refinement_headings (Some k) w.refinements) (l.routine_units s k at x t fs w)
+    routine_spots : (sort : Sort) (names : List Phrase) → Faultless (judged kn (l.routine s k at x t fs w sort names))
+        → Spots k (b.routine_heading sort at x fs t ∷ b.refinement_headings (Some k) w.refinements) (l.routine_units s k at x t fs w)
     routine_spots sort names f =
-        let g = bind_faultless kn (judged_all kn (all_of (l.heading_phrases s k at x t fs w sort names ++ l.body_phrases s k at x t fs w))) (rule kn form.routine) f in
+        let g =
+        bind_faultless kn (judged_all kn (all_of (l.heading_phrases s k at x t fs w sort names ++ l.body_phrases s k at x t fs w))) (rule kn form.routine) f
+        in
         let h = split (l.heading_phrases s k at x t fs w sort names) (l.body_phrases s k at x t fs w) g in
         let a = before_faultless kn (judged kn (l.own_body s k at x t fs w)) (judged_all kn (all_of (l.refinements inner (suc k) w.refinements))) h.1 in
         let c = bind_faultless kn (judged_all kn (part (l.own_units s k at x t fs w) none)) (rule kn (form.body own_owner (result t))) a.0 in
@@ -194,8 +202,11 @@ module _ (kn : Known) (s : Scope) where
     routine_lead sort names h e =
         phrase_hangs form.routine (l.heading_phrases s k at x t fs w sort names ++ l.body_phrases s k at x t fs w) tt
         (lead_append (l.heading_phrases s k at x t fs w sort names) (l.body_phrases s k at x t fs w)
-        (lead_append names (heading_leaf ∷ l.declare_parameters inner fs) h ((λ i. phrase_hangs heading_form [] tt tt i), parameters_lead inner fs))
-        ((λ i. phrase_hangs body_form (l.own_units s k at x t fs w ∷ []) tt ((λ j. (inner, l.own_units s k at x t fs w, body_units_in inner (delivered (result t)) w.units, refl, j)), tt) i), refinements_lead inner (suc k) w.refinements refl)) e
+        (lead_append names (heading_leaf ∷ l.declare_parameters inner fs) h ((λ i. phrase_hangs heading_form [] tt tt i), parameters_lead inner fs)) (
+          (λ i. phrase_hangs body_form (l.own_units s k at x t fs w ∷ []) tt
+              ((λ j. (inner, l.own_units s k at x t fs w, body_units_in inner (delivered (result t)) w.units, refl, j)), tt) i),
+          refinements_lead inner (suc k) w.refinements refl,
+        )) e
       where
         heading_form : Form
         heading_form = form.heading at s sort x (parameters fs) (l.is_missing (result t) (l.body_units s k at x t fs w))
@@ -224,11 +235,14 @@ module _ (kn : Known) (s : Scope) where
   unit_spots k (level.Op at r n fs w) f = routine_spots k n.at (operator_text n.operator) r fs w Operator [] f
   unit_spots k (level.NewType at n of) f = tt
 
-  units_spots : (k : ℕ) (vs : List LevelUnit) → Faultless (judged_all kn (all_of (l.level_units s k vs))) → Spots k (b.all_headings k vs) (l.all_unit_bodies s k vs)
+  units_spots : (k : ℕ) (vs : List LevelUnit) → Faultless (judged_all kn (all_of (l.level_units s k vs)))
+      → Spots k (b.all_headings k vs) (l.all_unit_bodies s k vs)
   units_spots k [] f = tt
   units_spots k (v ∷ vs) f =
       let g = before_faultless kn (judged kn (l.level_unit s k v)) (judged_all kn (all_of (l.level_units s (k + b.bodies_in v) vs))) f in
-      spots_append k (k + b.bodies_in v) (b.unit_headings k v) (b.all_headings (k + b.bodies_in v) vs) (l.unit_bodies s k v) (l.all_unit_bodies s (k + b.bodies_in v) vs) (ap (λ (n : ℕ). k + n) (sym (headings_count k v))) (unit_spots k v g.0) (units_spots (k + b.bodies_in v) vs g.1)
+      spots_append k (k + b.bodies_in v) (b.unit_headings k v) (b.all_headings (k + b.bodies_in v) vs) (l.unit_bodies s k v)
+      (l.all_unit_bodies s (k + b.bodies_in v) vs) (ap (λ (n : ℕ). k + n) (sym (headings_count k v))) (unit_spots k v g.0)
+      (units_spots (k + b.bodies_in v) vs g.1)
 
   unit_lead : (k : ℕ) (v : LevelUnit) → judged kn (l.level_unit s k v) ≡ hangs → HangsIn
   unit_lead k (level.Plain v) e = (s, shape.role Nothing (shape.written (shape.unit s v)), statement_in s Nothing v, refl, e)
@@ -240,8 +254,12 @@ module _ (kn : Known) (s : Scope) where
   units_lead k [] = tt
   units_lead k (v ∷ vs) = (unit_lead k v, units_lead (k + b.bodies_in v) vs)
 
-  pub level_lead : (w : Level) → judged kn (phrase form.level (all_of (l.level_units s 0 w.units ++ l.refinements s (b.bodies_of_units w.units) w.refinements))) ≡ hangs → HangsIn
-  level_lead w e = phrase_hangs form.level (l.level_units s 0 w.units ++ l.refinements s (b.bodies_of_units w.units) w.refinements) tt (lead_append (l.level_units s 0 w.units) (l.refinements s (b.bodies_of_units w.units) w.refinements) (units_lead 0 w.units) (refinements_lead s (b.bodies_of_units w.units) w.refinements refl)) e
+  pub level_lead : (w : Level)
+      → judged kn (phrase form.level (all_of (l.level_units s 0 w.units ++ l.refinements s (b.bodies_of_units w.units) w.refinements))) ≡ hangs → HangsIn
+  level_lead w e =
+      phrase_hangs form.level (l.level_units s 0 w.units ++ l.refinements s (b.bodies_of_units w.units) w.refinements) tt
+      (lead_append (l.level_units s 0 w.units) (l.refinements s (b.bodies_of_units w.units) w.refinements) (units_lead 0 w.units)
+      (refinements_lead s (b.bodies_of_units w.units) w.refinements refl)) e
 
   count_append : (xs ys : List Heading) → length (xs ++ ys) ≡ length xs + length ys
   count_append [] ys = let z : 0 + length ys ≡ length ys = omega arith in sym z
@@ -249,14 +267,24 @@ module _ (kn : Known) (s : Scope) where
 
   all_count : (k : ℕ) (vs : List LevelUnit) → length (b.all_headings k vs) ≡ b.bodies_of_units vs
   all_count k [] = refl
-  all_count k (v ∷ vs) = count_append (b.unit_headings k v) (b.all_headings (k + b.bodies_in v) vs) ∙ ap (λ (n : ℕ). n + length (b.all_headings (k + b.bodies_in v) vs)) (headings_count k v) ∙ ap (λ (n : ℕ). b.bodies_in v + n) (all_count (k + b.bodies_in v) vs)
+  all_count k (v ∷ vs) =
+      count_append (b.unit_headings k v) (b.all_headings (k + b.bodies_in v) vs)
+      ∙ ap (λ (n : ℕ). n + length (b.all_headings (k + b.bodies_in v) vs)) (headings_count k v)
+      ∙ ap (λ (n : ℕ). b.bodies_in v + n) (all_count (k + b.bodies_in v) vs)
 
-  pub level_spots : (w : Level) → Faultless (judged kn (phrase form.level (all_of (l.level_units s 0 w.units ++ l.refinements s (b.bodies_of_units w.units) w.refinements)))) → Spots 0 (b.all_headings 0 w.units ++ b.refinement_headings None w.refinements) (l.all_unit_bodies s 0 w.units ++ l.all_refined_units s (b.bodies_of_units w.units) w.refinements)
+  pub level_spots : (w : Level)
+      → Faultless (judged kn (phrase form.level (all_of (l.level_units s 0 w.units ++ l.refinements s (b.bodies_of_units w.units) w.refinements))))
+      → Spots 0 (b.all_headings 0 w.units ++ b.refinement_headings None w.refinements)
+      (l.all_unit_bodies s 0 w.units ++ l.all_refined_units s (b.bodies_of_units w.units) w.refinements)
   level_spots w f =
-      let g = bind_faultless kn (judged_all kn (all_of (l.level_units s 0 w.units ++ l.refinements s (b.bodies_of_units w.units) w.refinements))) (rule kn form.level) f in
+      let g =
+      bind_faultless kn (judged_all kn (all_of (l.level_units s 0 w.units ++ l.refinements s (b.bodies_of_units w.units) w.refinements)))
+      (rule kn form.level) f in
       let h = split (l.level_units s 0 w.units) (l.refinements s (b.bodies_of_units w.units) w.refinements) g in
       let z : 0 + length (b.all_headings 0 w.units) ≡ length (b.all_headings 0 w.units) = omega arith in
-      spots_append 0 (b.bodies_of_units w.units) (b.all_headings 0 w.units) (b.refinement_headings None w.refinements) (l.all_unit_bodies s 0 w.units) (l.all_refined_units s (b.bodies_of_units w.units) w.refinements) (sym (all_count 0 w.units) ∙ sym z) (units_spots 0 w.units h.0) (refinement_spots s (b.bodies_of_units w.units) None w.refinements refl h.1)
+      spots_append 0 (b.bodies_of_units w.units) (b.all_headings 0 w.units) (b.refinement_headings None w.refinements) (l.all_unit_bodies s 0 w.units)
+      (l.all_refined_units s (b.bodies_of_units w.units) w.refinements) (sym (all_count 0 w.units) ∙ sym z) (units_spots 0 w.units h.0)
+      (refinement_spots s (b.bodies_of_units w.units) None w.refinements refl h.1)
 
 -- ---- a level
 

@@ -28,18 +28,23 @@ known_with ds cs = record { deliveries = ds; calls = cs }
 
 pub all_append : (k out : Known) (n : ℕ) (us vs : List Phrase) → all_known k out n (us ++ vs) ≡ all_known k (all_known k out n us) (n + length us) vs
 all_append k out n [] vs = let z : n + 0 ≡ n = omega arith in ap (λ (m : ℕ). all_known k out m vs) (sym z)
-all_append k out n (u ∷ us) vs = let z : n + suc (length us) ≡ suc n + length us = omega arith in all_append k (more_known k out n u) (suc n) us vs ∙ ap (λ (m : ℕ). all_known k (all_known k (more_known k out n u) (suc n) us) m vs) (sym z)
+all_append k out n (u ∷ us) vs =
+    let z : n + suc (length us) ≡ suc n + length us = omega arith in
+    all_append k (more_known k out n u) (suc n) us vs ∙ ap (λ (m : ℕ). all_known k (all_known k (more_known k out n u) (suc n) us) m vs) (sym z)
 
 abbrev found_from : Known → ℕ → List Phrase → List Delivery
 found_from k n [] = []
 found_from k n (u ∷ us) = next k (delivery_at k n) u ∷ found_from k (suc n) us
 
 all_found : (k out : Known) (n : ℕ) (us : List Phrase) → all_known k out n us ≡ known_with (out.deliveries ++ found_from k n us) (out.calls ++ map called_in us)
-all_found k out n [] = ap (λ (ds : List Delivery). known_with ds out.calls) (sym (append-nil out.deliveries)) ∙ ap (λ (cs : List (List ℕ)). known_with (out.deliveries ++ []) cs) (sym (append-nil out.calls))
+all_found k out n [] =
+    ap (λ (ds : List Delivery). known_with ds out.calls) (sym (append-nil out.deliveries))
+    ∙ ap (λ (cs : List (List ℕ)). known_with (out.deliveries ++ []) cs) (sym (append-nil out.calls))
 all_found k out n (u ∷ us) =
     let d = next k (delivery_at k n) u in
     all_found k (more_known k out n u) (suc n) us
-    ∙ ap (λ (ds : List Delivery). known_with ds (out.calls ++ called_in u ∷ [] ++ map called_in us)) (append_assoc out.deliveries (d ∷ []) (found_from k (suc n) us))
+    ∙ ap (λ (ds : List Delivery). known_with ds (out.calls ++ called_in u ∷ [] ++ map called_in us))
+    (append_assoc out.deliveries (d ∷ []) (found_from k (suc n) us))
     ∙ ap (λ (cs : List (List ℕ)). known_with (out.deliveries ++ d ∷ found_from k (suc n) us) cs) (append_assoc out.calls (called_in u ∷ []) (map called_in us))
 
 -- the deliveries from this number on
@@ -58,8 +63,12 @@ same_next k n (d ∷ ds) (u ∷ us) e h =
     ap (λ (c : Delivery). next k c u ∷ found_from k (suc n) us) first ∙ ap (λ (l : List Delivery). next k d u ∷ l) (same_next k (suc n) ds us few rest)
 
 -- a step, taken one body after another
-pub one_step : (k : Known) (us : List Phrase) → length k.deliveries ≡ length us → all_known k nothing_known 0 us ≡ known_with (next_all k k.deliveries us) (map called_in us)
-one_step k us e = all_found k nothing_known 0 us ∙ ap (λ (ds : List Delivery). known_with ds (map called_in us)) (same_next k 0 k.deliveries us e (λ i. ap (delivery_at k) (let z : i ≡ 0 + i = omega arith in z)))
+pub one_step : (k : Known) (us : List Phrase) → length k.deliveries ≡ length us
+    → all_known k nothing_known 0 us ≡ known_with (next_all k k.deliveries us) (map called_in us)
+one_step k us e =
+    all_found k nothing_known 0 us
+    ∙ ap (λ (ds : List Delivery). known_with ds (map called_in us))
+    (same_next k 0 k.deliveries us e (λ i. ap (delivery_at k) (let z : i ≡ 0 + i = omega arith in z)))
 
 pub all_calls : (k : Known) (us : List Phrase) → (all_known k nothing_known 0 us).calls ≡ map called_in us
 all_calls k us = ap (λ (j : Known). j.calls) (all_found k nothing_known 0 us)
@@ -170,19 +179,24 @@ module _ (w : Level) where
       by_rest d i = sym (ap (λ (j : ℕ). known_after j hs us) i ∙ stays d n (known_same (suc n) n e))
 
 -- What a step does not change is all that can be known.
-pub found_all : (w : Level) (n : ℕ) (known next : Known) → known ≡ known_after n (b.headings w) (l.level_bodies w) → next ≡ all_known known nothing_known 0 (l.level_bodies w) → next.deliveries ≡ known.deliveries → n ≤ length (b.headings w) → known ≡ known_of (b.headings w) (l.level_bodies w)
+pub found_all : (w : Level) (n : ℕ) (known next : Known) → known ≡ known_after n (b.headings w) (l.level_bodies w)
+    → next ≡ all_known known nothing_known 0 (l.level_bodies w) → next.deliveries ≡ known.deliveries → n ≤ length (b.headings w)
+    → known ≡ known_of (b.headings w) (l.level_bodies w)
 found_all w n known next ek en ed h =
-    let e : next ≡ known_after (suc n) (b.headings w) (l.level_bodies w) = en ∙ ap (λ (k : Known). all_known k nothing_known 0 (l.level_bodies w)) ek ∙ step_is w n in
+    let e : next ≡ known_after (suc n) (b.headings w) (l.level_bodies w) =
+    en ∙ ap (λ (k : Known). all_known k nothing_known 0 (l.level_bodies w)) ek ∙ step_is w n in
     ek ∙ stops w n (length (b.headings w)) (sym (ap (λ (k : Known). k.deliveries) e) ∙ ed ∙ ap (λ (k : Known). k.deliveries) ek) h
 
-pub found_next : (w : Level) (n : ℕ) (known next : Known) → known ≡ known_after n (b.headings w) (l.level_bodies w) → next ≡ all_known known nothing_known 0 (l.level_bodies w) → next ≡ known_after (n + 1) (b.headings w) (l.level_bodies w)
+pub found_next : (w : Level) (n : ℕ) (known next : Known) → known ≡ known_after n (b.headings w) (l.level_bodies w)
+    → next ≡ all_known known nothing_known 0 (l.level_bodies w) → next ≡ known_after (n + 1) (b.headings w) (l.level_bodies w)
 found_next w n known next ek en =
     let z : suc n ≡ n + 1 = omega arith in
     en ∙ ap (λ (k : Known). all_known k nothing_known 0 (l.level_bodies w)) ek ∙ step_is w n ∙ ap (λ (i : ℕ). known_after i (b.headings w) (l.level_bodies w)) z
 
 -- ---- the walk over a level
 
-pub body_found : {E : Type 0} (q : Result (Unit {0}) E) (k out : Known) (n : ℕ) (v : Phrase) (d : Delivery) (c : List ℕ) (ds : List Delivery) (cs : List (List ℕ)) → d ≡ next k (delivery_at k n) v → c ≡ called_in v → ds ≡ out.deliveries ++ d ∷ [] →
+pub body_found : {E : Type 0} (q : Result (Unit {0}) E) (k out : Known) (n : ℕ) (v : Phrase) (d : Delivery) (c : List ℕ) (ds : List Delivery)
+    (cs : List (List ℕ)) → d ≡ next k (delivery_at k n) v → c ≡ called_in v → ds ≡ out.deliveries ++ d ∷ [] →
     OnOk q (cs ≡ out.calls ++ c ∷ []) → OnOk q (known_with ds cs ≡ more_known k out n v)
 body_found (Err e) k out n v d c ds cs ed ec es h = tt
 body_found (Ok x) k out n v d c ds cs ed ec es h =
@@ -190,7 +204,8 @@ body_found (Ok x) k out n v d c ds cs ed ec es h =
     ∙ ap (λ (l : List (List ℕ)). known_with (out.deliveries ++ next k (delivery_at k n) v ∷ []) l) (h ∙ ap (λ (y : List ℕ). out.calls ++ y ∷ []) ec)
 
 module _ (k : Known) where
-  pub refinement_found : (s z : Scope) (rs : List Refined) (i : ℕ) (r : Refined) (n m : ℕ) (out new whole : Known) → i < length rs → r ≡ get_or rs i r → m ≡ n + 1 → z ≡ s → new ≡ more_known k out n (l.refined_units z n r) →
+  pub refinement_found : (s z : Scope) (rs : List Refined) (i : ℕ) (r : Refined) (n m : ℕ) (out new whole : Known) → i < length rs → r ≡ get_or rs i r
+      → m ≡ n + 1 → z ≡ s → new ≡ more_known k out n (l.refined_units z n r) →
       all_known k out n (l.all_refined_units s n (drop i rs)) ≡ whole → all_known k new m (l.all_refined_units s m (drop (i + 1) rs)) ≡ whole
   refinement_found s z rs i r n m out new whole lt e em ez en h =
       let rest = drop (i + 1) rs in
@@ -200,7 +215,8 @@ module _ (k : Known) where
       ∙ ap (λ (x : Refined). all_known k out n (l.all_refined_units s n (x ∷ rest))) e
       ∙ sym (at_drop_more (λ ys. all_known k out n (l.all_refined_units s n ys)) rs i r lt) ∙ h
 
-  pub unit_found : (s z : Scope) (vs : List LevelUnit) (i : ℕ) (v : LevelUnit) (n m : ℕ) (out new whole : Known) → i < length vs → v ≡ get_or vs i v → m ≡ n + b.bodies_in v → z ≡ s → new ≡ all_known k out n (l.unit_bodies z n v) →
+  pub unit_found : (s z : Scope) (vs : List LevelUnit) (i : ℕ) (v : LevelUnit) (n m : ℕ) (out new whole : Known) → i < length vs → v ≡ get_or vs i v
+      → m ≡ n + b.bodies_in v → z ≡ s → new ≡ all_known k out n (l.unit_bodies z n v) →
       all_known k out n (l.all_unit_bodies s n (drop i vs)) ≡ whole → all_known k new m (l.all_unit_bodies s m (drop (i + 1) vs)) ≡ whole
   unit_found s z vs i v n m out new whole lt e em ez en h =
       let rest = drop (i + 1) vs in
@@ -213,16 +229,20 @@ module _ (k : Known) where
       ∙ sym (at_drop_more (λ ys. all_known k out n (l.all_unit_bodies s n ys)) vs i v lt) ∙ h
 
   -- a PROC or OP, in whose scope its body is looked at
-  pub routine_found : (s z : Scope) (n m : ℕ) (r : Option TypePhrase) (fs : List Formal) (w : Body) (out first new : Known) → z ≡ l.routine_scope s n (b.body_names fs w) → m ≡ n + 1 →
-      first ≡ more_known k out n (units (delivered (b.result r)) (map (unit z) w.units)) → new ≡ all_known k first m (l.all_refined_units z m w.refinements) → new ≡ all_known k out n (l.inside_units s n r fs w)
+  pub routine_found : (s z : Scope) (n m : ℕ) (r : Option TypePhrase) (fs : List Formal) (w : Body) (out first new : Known)
+      → z ≡ l.routine_scope s n (b.body_names fs w) → m ≡ n + 1 →
+      first ≡ more_known k out n (units (delivered (b.result r)) (map (unit z) w.units)) → new ≡ all_known k first m (l.all_refined_units z m w.refinements)
+      → new ≡ all_known k out n (l.inside_units s n r fs w)
   routine_found s z n m r fs w out first new ez em ef en =
       let next_number : m ≡ suc n = omega (arith, em) in
       en ∙ ap (λ (j : ℕ). all_known k first j (l.all_refined_units z j w.refinements)) next_number
       ∙ ap (λ (o : Known). all_known k o (suc n) (l.all_refined_units z (suc n) w.refinements)) ef
-      ∙ ap (λ (y : Scope). all_known k (more_known k out n (units (delivered (b.result r)) (map (unit y) w.units))) (suc n) (l.all_refined_units y (suc n) w.refinements)) ez
+      ∙ ap (λ (y : Scope). all_known k (more_known k out n (units (delivered (b.result r)) (map (unit y) w.units))) (suc n)
+      (l.all_refined_units y (suc n) w.refinements)) ez
 
   pub level_found : (w : Level) (s z : Scope) (m : ℕ) (first new : Known) → s ≡ l.level_scope w → z ≡ s → m ≡ b.bodies_of_units w.units →
-      first ≡ all_known k nothing_known 0 (l.all_unit_bodies s 0 w.units) → new ≡ all_known k first m (l.all_refined_units z m w.refinements) → new ≡ all_known k nothing_known 0 (l.level_bodies w)
+      first ≡ all_known k nothing_known 0 (l.all_unit_bodies s 0 w.units) → new ≡ all_known k first m (l.all_refined_units z m w.refinements)
+      → new ≡ all_known k nothing_known 0 (l.level_bodies w)
   level_found w s z m first new es ez em ef en =
       let here = l.level_scope w in
       let before = l.all_unit_bodies here 0 w.units in
@@ -230,12 +250,14 @@ module _ (k : Known) where
       let length_is : 0 + length before ≡ count = (let c = units_count here 0 w.units in omega (arith, c)) in
       en ∙ ap (λ (j : ℕ). all_known k first j (l.all_refined_units z j w.refinements)) em
       ∙ ap (λ (y : Scope). all_known k first count (l.all_refined_units y count w.refinements)) (ez ∙ es)
-      ∙ ap (λ (o : Known). all_known k o count (l.all_refined_units here count w.refinements)) (ef ∙ ap (λ (y : Scope). all_known k nothing_known 0 (l.all_unit_bodies y 0 w.units)) es)
+      ∙ ap (λ (o : Known). all_known k o count (l.all_refined_units here count w.refinements))
+      (ef ∙ ap (λ (y : Scope). all_known k nothing_known 0 (l.all_unit_bodies y 0 w.units)) es)
       ∙ ap (λ (j : ℕ). all_known k (all_known k nothing_known 0 before) j (l.all_refined_units here count w.refinements)) (sym length_is)
       ∙ sym (all_append k nothing_known 0 before (l.all_refined_units here count w.refinements))
 
 -- what the headings tell, and which refinements are called
-pub first_is : (w : Level) (told next : Known) (ds : List Delivery) (cs : List (List ℕ)) → ds ≡ told_by (b.headings w) → next ≡ all_known told nothing_known 0 (l.level_bodies w) → cs ≡ next.calls → known_with ds cs ≡ known_after 0 (b.headings w) (l.level_bodies w)
+pub first_is : (w : Level) (told next : Known) (ds : List Delivery) (cs : List (List ℕ)) → ds ≡ told_by (b.headings w)
+    → next ≡ all_known told nothing_known 0 (l.level_bodies w) → cs ≡ next.calls → known_with ds cs ≡ known_after 0 (b.headings w) (l.level_bodies w)
 first_is w told next ds cs ed en ec =
     ap (λ (l : List Delivery). known_with l cs) ed
     ∙ ap (λ (c : List (List ℕ)). known_with (told_by (b.headings w)) c) (ec ∙ ap (λ (j : Known). j.calls) en ∙ all_calls told (l.level_bodies w))

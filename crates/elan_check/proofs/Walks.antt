@@ -133,13 +133,16 @@ pub record Call (calls : List (List ℕ)) (n : ℕ) (Goes : ℕ → Type 0) (c :
   pub away : leads n calls to c ≡ false
   pub goes : Goes to
 
-module _ (calls : List (List ℕ)) (n : ℕ) (Goes : ℕ → Type 0) (step : (c : ℕ) → Goes c → Call calls n Goes c) (small : (c : ℕ) → Goes c → (marks : List Bool) → length marks ≡ n → (b : Bool) × (slice_get marks c ≡ Some b)) where
+module _ (calls : List (List ℕ)) (n : ℕ) (Goes : ℕ → Type 0) (step : (c : ℕ) → Goes c → Call calls n Goes c)
+    (small : (c : ℕ) → Goes c → (marks : List Bool) → length marks ≡ n → (b : Bool) × (slice_get marks c ≡ Some b)) where
   -- a number that was passed: its call led here in so many calls
   abbrev Passed : ℕ → ℕ → ℕ → Type 0
   Passed m c i = (k : Call calls n Goes m) × (leads i calls k.to c ≡ true)
 
   not_back : (i f c : ℕ) → i + f ≡ n → Passed c c i → ⊥
-  not_back i f c e h = both (leads n calls h.0.to c) (let z : f + i ≡ n = (let j = e in omega arith) in ap (λ (m : ℕ). leads m calls h.0.to c) (sym z) ∙ leads_by calls f i h.0.to c h.1) h.0.away
+  not_back i f c e h =
+      both (leads n calls h.0.to c)
+      (let z : f + i ≡ n = (let j = e in omega arith) in ap (λ (m : ℕ). leads m calls h.0.to c) (sym z) ∙ leads_by calls f i h.0.to c h.1) h.0.away
     where
       both : (b : Bool) → b ≡ true → b ≡ false → ⊥
       both b h g = cc
@@ -165,7 +168,8 @@ module _ (calls : List (List ℕ)) (n : ℕ) (Goes : ℕ → Type 0) (step : (c 
       by_mark false t = let z : suc (frees (mark c marks)) ≡ 0 = mark_frees c marks t ∙ e in absurd (omega (arith, z))
   walk (suc j) marks c i e g l p h = by_mark (walk j (mark c marks) (step c h).to (suc i)) (small c h marks l).0 (small c h marks l).1
     where
-      by_mark : (frees (mark c marks) ≡ j → suc i + j ≡ n → length (mark c marks) ≡ n → AllPassed (mark c marks) (step c h).to (suc i) → Goes (step c h).to → ⊥) → (b : Bool) → slice_get marks c ≡ Some b → ⊥
+      by_mark : (frees (mark c marks) ≡ j → suc i + j ≡ n → length (mark c marks) ≡ n → AllPassed (mark c marks) (step c h).to (suc i) → Goes (step c h).to → ⊥)
+          → (b : Bool) → slice_get marks c ≡ Some b → ⊥
       by_mark rest true t = not_back i (suc j) c g (p c t)
       by_mark rest false t =
           let z : suc (frees (mark c marks)) ≡ suc j = mark_frees c marks t ∙ e in
@@ -174,4 +178,5 @@ module _ (calls : List (List ℕ)) (n : ℕ) (Goes : ℕ → Type 0) (step : (c 
           rest y x (mark_length c marks ∙ l) (passed marks c i (step c h) p) (step c h).goes
 
   pub no_walk : {A : Type 0} (xs : List A) → length xs ≡ n → (c : ℕ) → Goes c → ⊥
-  no_walk xs l c h = walk n (unmarked xs) c 0 (unmarked_frees xs ∙ l) (let z : 0 + n ≡ n = omega arith in z) (unmarked_length xs ∙ l) (λ m e. absurd (none_marked xs m e)) h
+  no_walk xs l c h =
+      walk n (unmarked xs) c 0 (unmarked_frees xs ∙ l) (let z : 0 + n ≡ n = omega arith in z) (unmarked_length xs ∙ l) (λ m e. absurd (none_marked xs m e)) h

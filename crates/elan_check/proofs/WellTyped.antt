@@ -116,11 +116,15 @@ module _ (w : Written) (us : List Action) (all : List Body) where
 
   -- the meanings of the units, and of the refinements
   abbrev Parts2 : Type 0
-  Parts2 = (ms : List Meant) × (ns : List Meant) × (judged_all kn (all_of (l.level_units s 0 w.units)) ≡ gives ms) × (judged_all kn (all_of (l.refinements s after_units w.refinements)) ≡ gives ns) × (us ≡ p.actions_of ms ++ p.actions_of ns) × (all ≡ u.bodies_of ms ++ u.bodies_of ns)
+  Parts2 =
+      (ms : List Meant) × (ns : List Meant) × (judged_all kn (all_of (l.level_units s 0 w.units)) ≡ gives ms)
+      × (judged_all kn (all_of (l.refinements s after_units w.refinements)) ≡ gives ns) × (us ≡ p.actions_of ms ++ p.actions_of ns)
+      × (all ≡ u.bodies_of ms ++ u.bodies_of ns)
 
   actions_append : (ms ns : List Meant) → p.actions_of (ms ++ ns) ≡ p.actions_of ms ++ p.actions_of ns
   actions_append [] ns = refl
-  actions_append (m ∷ ms) ns = ap (λ (as' : List Action). p.actions m ++ as') (actions_append ms ns) ∙ sym (assoc (p.actions m) (p.actions_of ms) (p.actions_of ns))
+  actions_append (m ∷ ms) ns =
+      ap (λ (as' : List Action). p.actions m ++ as') (actions_append ms ns) ∙ sym (assoc (p.actions m) (p.actions_of ms) (p.actions_of ns))
     where
       assoc : (xs ys zs : List Action) → xs ++ ys ++ zs ≡ xs ++ (ys ++ zs)
       assoc [] ys zs = refl
@@ -134,35 +138,50 @@ module _ (w : Written) (us : List Action) (all : List Body) where
 
   parts : MeansLevel → Parts2
   parts e =
-      let q = bind_gives (judged_all kn (all_of (l.level_units s 0 w.units ++ l.refinements s after_units w.refinements))) (rule kn form.level) (Level us all) e in
+      let q =
+      bind_gives (judged_all kn (all_of (l.level_units s 0 w.units ++ l.refinements s after_units w.refinements))) (rule kn form.level) (Level us all) e in
       let r = split kn (l.level_units s 0 w.units) (l.refinements s after_units w.refinements) q.0 q.1 in
-      let whole = gives_is (Level (p.actions_of q.0) (u.bodies_of q.0)) (Level us all) q.2 in
-      (r.0, r.1, r.2, r.3, units_is (p.actions_of q.0) us (u.bodies_of q.0) all whole ∙ ap p.actions_of r.4 ∙ actions_append r.0 r.1, bodies_is (p.actions_of q.0) us (u.bodies_of q.0) all whole ∙ ap u.bodies_of r.4 ∙ bodies_append r.0 r.1)
+      let whole = gives_is (Level (p.actions_of q.0) (u.bodies_of q.0)) (Level us all) q.2 in (
+        r.0,
+        r.1,
+        r.2,
+        r.3,
+        units_is (p.actions_of q.0) us (u.bodies_of q.0) all whole ∙ ap p.actions_of r.4 ∙ actions_append r.0 r.1,
+        bodies_is (p.actions_of q.0) us (u.bodies_of q.0) all whole ∙ ap u.bodies_of r.4 ∙ bodies_append r.0 r.1,
+      )
 
   rows : Parts2 → Rows kn s all 0 hs ps all
   rows q =
-      let inside : Inside 0 (u.bodies_of q.0 ++ u.bodies_of q.1) all = subst (λ (bs : List Body). Inside 0 bs all) q.5 (λ i b e. let z : 0 + i ≡ i = omega arith in ap (slice_get all) z ∙ e) in
+      let inside : Inside 0 (u.bodies_of q.0 ++ u.bodies_of q.1) all =
+      subst (λ (bs : List Body). Inside 0 bs all) q.5 (λ i b e. let z : 0 + i ≡ i = omega arith in ap (slice_get all) z ∙ e) in
       let first = units_rows kn s all 0 w.units q.0 q.2 (inside_first 0 (u.bodies_of q.0) (u.bodies_of q.1) all inside) in
-      let count : length (u.bodies_of q.0) ≡ after_units = rows_count kn s all 0 (b.all_headings 0 w.units) (l.all_unit_bodies s 0 w.units) (u.bodies_of q.0) first ∙ all_count kn s all 0 w.units in
+      let count : length (u.bodies_of q.0) ≡ after_units =
+      rows_count kn s all 0 (b.all_headings 0 w.units) (l.all_unit_bodies s 0 w.units) (u.bodies_of q.0) first ∙ all_count kn s all 0 w.units in
       let rest = refinement_rows kn s all s after_units w.refinements q.1 refl refl tt q.3 in
       let z : 0 + length (u.bodies_of q.0) ≡ length (u.bodies_of q.0) = omega arith in
       subst (λ (bs : List Body). Rows kn s all 0 hs ps bs) (sym q.5)
-      (rows_append kn s all 0 after_units (b.all_headings 0 w.units) (b.refinement_headings None w.refinements) (l.all_unit_bodies s 0 w.units) (l.all_refined_units s after_units w.refinements) (u.bodies_of q.0) (u.bodies_of q.1) (sym count ∙ sym z) first rest)
+      (rows_append kn s all 0 after_units (b.all_headings 0 w.units) (b.refinement_headings None w.refinements) (l.all_unit_bodies s 0 w.units)
+      (l.all_refined_units s after_units w.refinements) (u.bodies_of q.0) (u.bodies_of q.1) (sym count ∙ sym z) first rest)
 
   -- ---- bodies as their headings tell
 
-  row_at : Rows kn s all 0 hs ps all → (n : ℕ) (h : Heading) → slice_get hs n ≡ Some h → (q : Phrase) × (c : Body) × (slice_get ps n ≡ Some q) × (slice_get all n ≡ Some c) × Row kn s all n h q c
+  row_at : Rows kn s all 0 hs ps all → (n : ℕ) (h : Heading) → slice_get hs n ≡ Some h
+      → (q : Phrase) × (c : Body) × (slice_get ps n ≡ Some q) × (slice_get all n ≡ Some c) × Row kn s all n h q c
   row_at rs n h e =
       let r = row_of_heading kn s all 0 hs ps all n h rs e in
       let z : 0 + n ≡ n = omega arith in
       (r.0, r.1, r.2, r.3, subst (λ (m : ℕ). Row kn s all m h r.0 r.1) z r.4)
 
-  delivers_as : (n : ℕ) (h : Heading) (q : Phrase) (c : Body) (m : Meant) (list : List (Option Phrase)) (what : What) → h.what ≡ what → slice_get hs n ≡ Some h → slice_get ps n ≡ Some q → judged kn q ≡ gives m → q ≡ shape.units (told h.what) list → Made what m c → Delivering (delivery_at kn n) c
+  delivers_as : (n : ℕ) (h : Heading) (q : Phrase) (c : Body) (m : Meant) (list : List (Option Phrase)) (what : What) → h.what ≡ what → slice_get hs n ≡ Some h
+      → slice_get ps n ≡ Some q → judged kn q ≡ gives m → q ≡ shape.units (told h.what) list → Made what m c → Delivering (delivery_at kn n) c
   delivers_as n h q c m list (Routine sort params r) e i j g is made =
-      let known : delivery_at kn n ≡ told (Routine sort params r) = told_found hs ps n h q i j (λ o. told_known sort params r (ap told (sym e) ∙ o)) ∙ ap told e in
+      let known : delivery_at kn n ≡ told (Routine sort params r) =
+      told_found hs ps n h q i j (λ o. told_known sort params r (ap told (sym e) ∙ o)) ∙ ap told e in
       subst (λ (d : Delivery). Delivering d c) (told_routine sort params r ∙ sym known) (told_delivers r c (content_result r m c.content made.2))
   delivers_as n h q c m list (Refinement home) e i j g is made =
-      subst (λ (d : Delivery). Delivering d c) (sym (refinement_found hs ps n h q i j list m (ap told e) (is ∙ ap (λ (d : Delivery). shape.units d list) (ap told e)) g)) (content_delivers m c made.1)
+      subst (λ (d : Delivery). Delivering d c)
+      (sym (refinement_found hs ps n h q i j list m (ap told e) (is ∙ ap (λ (d : Delivery). shape.units d list) (ap told e)) g))
+      (content_delivers m c made.1)
 
   bodies_fit : Rows kn s all 0 hs ps all → (n : ℕ) (h : Heading) → slice_get hs n ≡ Some h → BodyFits (slice_get all n) h (delivery_at kn n)
   bodies_fit rs n h e =
@@ -191,7 +210,9 @@ module _ (w : Written) (us : List Action) (all : List Body) where
   frame_here : (n : ℕ) (c : Body) → slice_get all n ≡ Some c → frame_in all (Some n) ≡ frame_of c.scope
   frame_here n c e = ap (λ (o : Option Body). frame_at (scope_of o)) e
 
-  routine_fits : Rows kn s all 0 hs ps all → (n : ℕ) (c : Body) (z : Scope) (params : List Parameter) (ts : List ElanType) (names : List Entry) → slice_get all n ≡ Some c → z.headings ≡ s.headings → z.level ≡ s.level → c.scope ≡ owner.Own params ts → z.routine ≡ within n names → z.refinement ≡ None → frame_of c.scope ≡ all_held names → Fits (stand n) z kn
+  routine_fits : Rows kn s all 0 hs ps all → (n : ℕ) (c : Body) (z : Scope) (params : List Parameter) (ts : List ElanType) (names : List Entry)
+      → slice_get all n ≡ Some c → z.headings ≡ s.headings → z.level ≡ s.level → c.scope ≡ owner.Own params ts → z.routine ≡ within n names
+      → z.refinement ≡ None → frame_of c.scope ≡ all_held names → Fits (stand n) z kn
   routine_fits rs n c z params ts names i zh zl own rt rf fr =
       let owned : owner_in all (Some n) ≡ Some n = owner_here n c i ∙ ap (λ (o : Owner). owner_at n (Some o)) own in
       record {
@@ -206,7 +227,8 @@ module _ (w : Written) (us : List Action) (all : List Body) where
       none_some : (r : ℕ) → None ≡ Some r → ⊥
       none_some r e = cc
 
-  refined_frame : (n : ℕ) (home : Option ℕ) (v : Option Within) → number_of v ≡ home → Frames all v → FrameIs (frame_in all (owner_at n (Some (owner_with home)))) v
+  refined_frame : (n : ℕ) (home : Option ℕ) (v : Option Within) → number_of v ≡ home → Frames all v
+      → FrameIs (frame_in all (owner_at n (Some (owner_with home)))) v
   refined_frame n home None e f = tt
   refined_frame n home (Some v) e f =
       subst (λ (o : Option ℕ). frame_in all (owner_at n (Some (owner_with o))) ≡ all_held v.names) e
@@ -216,7 +238,8 @@ module _ (w : Written) (us : List Action) (all : List Body) where
   refined_owner n None = refl
   refined_owner n (Some q) = refl
 
-  refinement_fits : Rows kn s all 0 hs ps all → (n : ℕ) (c : Body) (z : Scope) (home : Option ℕ) → slice_get all n ≡ Some c → z.headings ≡ s.headings → z.level ≡ s.level → c.scope ≡ owner_with home → z.refinement ≡ Some n → number_of z.routine ≡ home → Frames all z.routine → Fits (stand n) z kn
+  refinement_fits : Rows kn s all 0 hs ps all → (n : ℕ) (c : Body) (z : Scope) (home : Option ℕ) → slice_get all n ≡ Some c → z.headings ≡ s.headings
+      → z.level ≡ s.level → c.scope ≡ owner_with home → z.refinement ≡ Some n → number_of z.routine ≡ home → Frames all z.routine → Fits (stand n) z kn
   refinement_fits rs n c z home i zh zl own rf rt fr =
       let owned : owner_in all (Some n) ≡ owner_at n (Some (owner_with home)) = owner_here n c i ∙ ap (λ (o : Owner). owner_at n (Some o)) own in
       record {
@@ -224,21 +247,25 @@ module _ (w : Written) (us : List Action) (all : List Body) where
         frame = subst (λ (o : Home). FrameIs (frame_in all o) z.routine) (sym owned) (refined_frame n home z.routine rt fr);
         owner_is = owned ∙ refined_owner n home ∙ sym rt;
         home_is = sym (ap (λ (o : Option ℕ). or_else o (number_of z.routine)) rf);
-        part_of = λ r q e f. ap (λ (m : ℕ). scope_of (slice_get all m)) (same r (sym e ∙ rf)) ∙ ap scope_of i ∙ ap (λ (o : Owner). Some o) (own ∙ ap owner_with (sym rt ∙ f));
+        part_of =
+            λ r q e f. ap (λ (m : ℕ). scope_of (slice_get all m)) (same r (sym e ∙ rf)) ∙ ap scope_of i
+            ∙ ap (λ (o : Owner). Some o) (own ∙ ap owner_with (sym rt ∙ f));
         bodies = λ m h e. bodies_fit rs m h (ap (λ (g : List Heading). slice_get g m) (sym zh) ∙ e);
       }
     where
       same : (r : ℕ) → Some r ≡ Some n → r ≡ n
       same r e = cc
 
-  row_fits : Rows kn s all 0 hs ps all → (n : ℕ) (what : What) (m : Meant) (c : Body) (z : Scope) → slice_get all n ≡ Some c → z.headings ≡ s.headings → z.level ≡ s.level → Made what m c → Stands all n what z c → Fits (stand n) z kn
+  row_fits : Rows kn s all 0 hs ps all → (n : ℕ) (what : What) (m : Meant) (c : Body) (z : Scope) → slice_get all n ≡ Some c → z.headings ≡ s.headings
+      → z.level ≡ s.level → Made what m c → Stands all n what z c → Fits (stand n) z kn
   row_fits rs n (Routine sort params r) m c z i zh zl made st = routine_fits rs n c z params made.0 st.0 i zh zl made.1 st.1 st.2 st.3
   row_fits rs n (Refinement home) m c z i zh zl made st = refinement_fits rs n c z home i zh zl made.0 st.0 st.1 st.2
 
   -- ---- the content of bodies
 
   content_typed : (n : ℕ) (what : What) (m : Meant) (c : Body) → Made what m c → ty.Good (stand n) m → is_content_typed vs all (Some n) c.content ≡ true
-  content_typed n (Routine sort params r) m c made g = subst (λ (x : Content). is_content_typed vs all (Some n) x ≡ true) (sym made.2) (content_as_good (stand n) r m g)
+  content_typed n (Routine sort params r) m c made g =
+      subst (λ (x : Content). is_content_typed vs all (Some n) x ≡ true) (sym made.2) (content_as_good (stand n) r m g)
   content_typed n (Refinement home) m c made g = subst (λ (x : Content). is_content_typed vs all (Some n) x ≡ true) (sym made.1) (content_of_good (stand n) m g)
 
   body_typed : Rows kn s all 0 hs ps all → (n : ℕ) (c : Body) → slice_get all n ≡ Some c → is_content_typed vs all (Some n) c.content ≡ true
@@ -247,19 +274,23 @@ module _ (w : Written) (us : List Action) (all : List Body) where
       let r = row_at rs n g.0 g.1 in
       let same : r.1 ≡ c = same_body r.1 c (sym r.3 ∙ e) in
       subst (λ (d : Body). is_content_typed vs all (Some n) d.content ≡ true) same
-      (content_typed n g.0.what r.4.meant r.1 r.4.made (good (stand n) r.4.scope kn (row_fits rs n g.0.what r.4.meant r.1 r.4.scope r.3 r.4.headings r.4.level r.4.made r.4.stands) r.0 r.4.meant r.4.in_scope r.4.means))
+      (content_typed n g.0.what r.4.meant r.1 r.4.made
+      (good (stand n) r.4.scope kn (row_fits rs n g.0.what r.4.meant r.1 r.4.scope r.3 r.4.headings r.4.level r.4.made r.4.stands) r.0 r.4.meant
+      r.4.in_scope r.4.means))
     where
       same_body : (d f : Body) → Some d ≡ Some f → d ≡ f
       same_body d f e = cc
 
-  owned : (q : ℕ) (o : Option Body) (params : List Parameter) (ts : List ElanType) → slice_get all q ≡ o → scope_of o ≡ Some (owner.Own params ts) → IsScope all (owner.Of q)
+  owned : (q : ℕ) (o : Option Body) (params : List Parameter) (ts : List ElanType) → slice_get all q ≡ o → scope_of o ≡ Some (owner.Own params ts)
+      → IsScope all (owner.Of q)
   owned q None params ts e f = absurd cc
   owned q (Some d) params ts e f = let g : d.scope ≡ owner.Own params ts = cc in (d, (params, (ts, e, g)))
 
   refined_scope : (home : Option ℕ) (v : Option Within) → number_of v ≡ home → Frames all v → IsScope all (owner_with home)
   refined_scope None v e f = tt
   refined_scope (Some q) None e f = absurd cc
-  refined_scope (Some q) (Some v) e f = let g : v.number ≡ q = cc in subst (λ (n : ℕ). IsScope all (owner.Of n)) g (owned v.number (slice_get all v.number) f.0 f.1 refl f.2)
+  refined_scope (Some q) (Some v) e f =
+      let g : v.number ≡ q = cc in subst (λ (n : ℕ). IsScope all (owner.Of n)) g (owned v.number (slice_get all v.number) f.0 f.1 refl f.2)
 
   row_scope : (n : ℕ) (what : What) (m : Meant) (c : Body) (z : Scope) → Made what m c → Stands all n what z c → IsScope all c.scope
   row_scope n (Routine sort params r) m c z made st = subst (IsScope all) (sym made.1) tt
@@ -284,16 +315,27 @@ module _ (w : Written) (us : List Action) (all : List Body) where
   bodies_typed m bs e = subst (λ (n : Meant). AllTyped (p.actions n)) (gives_is (Bodies bs) m e) refl
 
   unit_typed : Fits level_stand s kn → (k : ℕ) (v : LevelUnit) (m : Meant) → judged kn (l.level_unit s k v) ≡ gives m → AllTyped (p.actions m)
-  unit_typed f k (level.Plain v) m e = ty.actions_typed level_stand m (good level_stand s kn f (shape.role Nothing (shape.written (shape.unit s v))) m (statement_in s Nothing v) e)
-  unit_typed f k (level.Proc at r n fs x) m e = let q = bind_gives (judged_all kn (all_of (l.heading_phrases s k n.at n.text r fs x Procedure (l.procedure_name s n fs) ++ l.body_phrases s k n.at n.text r fs x))) (rule kn form.routine) m e in bodies_typed m (u.bodies_of q.0) q.2
-  unit_typed f k (level.Op at r n fs x) m e = let q = bind_gives (judged_all kn (all_of (l.heading_phrases s k n.at (operator_text n.operator) r fs x Operator [] ++ l.body_phrases s k n.at (operator_text n.operator) r fs x))) (rule kn form.routine) m e in bodies_typed m (u.bodies_of q.0) q.2
+  unit_typed f k (level.Plain v) m e =
+      ty.actions_typed level_stand m (good level_stand s kn f (shape.role Nothing (shape.written (shape.unit s v))) m (statement_in s Nothing v) e)
+  unit_typed f k (level.Proc at r n fs x) m e =
+      let q =
+      bind_gives (judged_all kn
+      (all_of (l.heading_phrases s k n.at n.text r fs x Procedure (l.procedure_name s n fs) ++ l.body_phrases s k n.at n.text r fs x)))
+      (rule kn form.routine) m e in bodies_typed m (u.bodies_of q.0) q.2
+  unit_typed f k (level.Op at r n fs x) m e =
+      let q =
+      bind_gives (judged_all kn
+      (all_of (l.heading_phrases s k n.at (operator_text n.operator) r fs x Operator [] ++ l.body_phrases s k n.at (operator_text n.operator) r fs x)))
+      (rule kn form.routine) m e in bodies_typed m (u.bodies_of q.0) q.2
   unit_typed f k (level.NewType at n of) m e = absurd cc
 
-  units_typed : Fits level_stand s kn → (k : ℕ) (ws : List LevelUnit) (ms : List Meant) → judged_all kn (all_of (l.level_units s k ws)) ≡ gives ms → AllTyped (p.actions_of ms)
+  units_typed : Fits level_stand s kn → (k : ℕ) (ws : List LevelUnit) (ms : List Meant) → judged_all kn (all_of (l.level_units s k ws)) ≡ gives ms
+      → AllTyped (p.actions_of ms)
   units_typed f k [] ms e = subst (λ (ns : List Meant). AllTyped (p.actions_of ns)) (gives_is [] ms e) refl
   units_typed f k (v ∷ ws) ms e =
       let q = before_gives (judged kn (l.level_unit s k v)) (judged_all kn (all_of (l.level_units s (k + b.bodies_in v) ws))) ms e in
-      subst (λ (ns : List Meant). AllTyped (p.actions_of ns)) (sym q.4) (ty.append_typed level_stand (p.actions q.0) (p.actions_of q.1) (unit_typed f k v q.0 q.2) (units_typed f (k + b.bodies_in v) ws q.1 q.3))
+      subst (λ (ns : List Meant). AllTyped (p.actions_of ns)) (sym q.4)
+      (ty.append_typed level_stand (p.actions q.0) (p.actions_of q.1) (unit_typed f k v q.0 q.2) (units_typed f (k + b.bodies_in v) ws q.1 q.3))
 
   refined_typed : (o : Owner) (ms : List Meant) (m : Meant) → rule kn (form.refinement o) ms ≡ gives m → AllTyped (p.actions m)
   refined_typed o [] m e = absurd cc
@@ -305,15 +347,22 @@ module _ (w : Written) (us : List Action) (all : List Body) where
   refinements_typed k [] ms e = subst (λ (ns : List Meant). AllTyped (p.actions_of ns)) (gives_is [] ms e) refl
   refinements_typed k (r ∷ rs) ms e =
       let q = before_gives (judged kn (l.refinement s k r)) (judged_all kn (all_of (l.refinements s (suc k) rs))) ms e in
-      let c = bind_gives (judged_all kn (part (l.declares s r.name) (part (l.refined_units s k r) none))) (rule kn (form.refinement (l.owner_of s.routine))) q.0 q.2 in
-      subst (λ (ns : List Meant). AllTyped (p.actions_of ns)) (sym q.4) (ty.append_typed level_stand (p.actions q.0) (p.actions_of q.1) (refined_typed (l.owner_of s.routine) c.0 q.0 c.2) (refinements_typed (suc k) rs q.1 q.3))
+      let c =
+      bind_gives (judged_all kn (part (l.declares s r.name) (part (l.refined_units s k r) none))) (rule kn (form.refinement (l.owner_of s.routine))) q.0 q.2
+      in
+      subst (λ (ns : List Meant). AllTyped (p.actions_of ns)) (sym q.4)
+      (ty.append_typed level_stand (p.actions q.0) (p.actions_of q.1) (refined_typed (l.owner_of s.routine) c.0 q.0 c.2)
+      (refinements_typed (suc k) rs q.1 q.3))
 
   pub level_typed : MeansLevel → IsWellTyped (record { variables = vs; bodies = all; units = us })
   level_typed e =
       let q = parts e in
       let rs = rows q in
       record {
-        typed = subst AllTyped (sym q.4) (ty.append_typed level_stand (p.actions_of q.0) (p.actions_of q.1) (units_typed (level_fits rs) 0 w.units q.0 q.2) (refinements_typed after_units w.refinements q.1 q.3));
+        typed =
+            subst AllTyped (sym q.4)
+            (ty.append_typed level_stand (p.actions_of q.0) (p.actions_of q.1) (units_typed (level_fits rs) 0 w.units q.0 q.2)
+            (refinements_typed after_units w.refinements q.1 q.3));
         scopes = body_scope rs;
         bodies = body_typed rs;
       }

@@ -130,7 +130,8 @@ inside s k r fs b =
 -- the units of its body, and of its refinements
 abbrev pub inside_units : Scope → ℕ → Option TypePhrase → List Formal → Body → List Phrase
 inside_units s k r fs b =
-    units (delivered (result r)) (map (unit (routine_scope s k (body_names fs b))) b.units) ∷ all_refined_units (routine_scope s k (body_names fs b)) (suc k) b.refinements
+    units (delivered (result r)) (map (unit (routine_scope s k (body_names fs b))) b.units)
+    ∷ all_refined_units (routine_scope s k (body_names fs b)) (suc k) b.refinements
 
 -- ---- the level
 

@@ -37,14 +37,19 @@ all_of-at p (y ∷ xs) (suc n) x h d e = all_of-at p xs n x h d (both_second (p 
 abbrev kinds : List Kind
 kinds =
     k.Ident ∷ k.Number ∷ k.Text ∷ k.Selects ∷ k.Refines ∷ k.GoesOn ∷ k.Nothing ∷ (k.Bold tier.Times) ∷
-    (k.Bold tier.And) ∷ (k.Bold tier.Or) ∷ (k.Bold tier.Other) ∷ (k.TypeName tier.Times) ∷ (k.TypeName tier.And) ∷ (k.TypeName tier.Or) ∷ (k.TypeName tier.Other) ∷ (k.Key key.Packet) ∷
+    (k.Bold tier.And) ∷ (k.Bold tier.Or) ∷ (k.Bold tier.Other) ∷ (k.TypeName tier.Times) ∷ (k.TypeName tier.And) ∷ (k.TypeName tier.Or)
+    ∷ (k.TypeName tier.Other) ∷ (k.Key key.Packet) ∷
     (k.Key key.Defines) ∷ (k.Key key.End) ∷ (k.Key key.Proc) ∷ (k.Key key.Op) ∷ (k.Key key.TypeWord) ∷ (k.Key key.Let) ∷ (k.Key key.Const) ∷ (k.Key key.Var) ∷
-    (k.Key key.Row) ∷ (k.Key key.Struct) ∷ (k.Key key.Bound) ∷ (k.Key key.Int) ∷ (k.Key key.Bool) ∷ (k.Key key.Text) ∷ (k.Key key.Task) ∷ (k.Key key.Dataspace) ∷
+    (k.Key key.Row) ∷ (k.Key key.Struct) ∷ (k.Key key.Bound) ∷ (k.Key key.Int) ∷ (k.Key key.Bool) ∷ (k.Key key.Text) ∷ (k.Key key.Task) ∷ (k.Key key.Dataspace)
+    ∷
     (k.Key key.If) ∷ (k.Key key.Then) ∷ (k.Key key.Elif) ∷ (k.Key key.Else) ∷ (k.Key key.Fi) ∷ (k.Key key.Select) ∷ (k.Key key.Of) ∷ (k.Key key.Case) ∷
-    (k.Key key.Otherwise) ∷ (k.Key key.For) ∷ (k.Key key.From) ∷ (k.Key key.Upto) ∷ (k.Key key.Downto) ∷ (k.Key key.While) ∷ (k.Key key.Rep) ∷ (k.Key key.Repeat) ∷
+    (k.Key key.Otherwise) ∷ (k.Key key.For) ∷ (k.Key key.From) ∷ (k.Key key.Upto) ∷ (k.Key key.Downto) ∷ (k.Key key.While) ∷ (k.Key key.Rep)
+    ∷ (k.Key key.Repeat) ∷
     (k.Key key.Until) ∷ (k.Key key.Per) ∷ (k.Key key.Leave) ∷ (k.Key key.With) ∷ (k.Key key.True) ∷ (k.Key key.False) ∷ (k.Key key.Concr) ∷ (k.Key key.Cand) ∷
-    (k.Key key.Cor) ∷ (k.Sign sign.LeftRound) ∷ (k.Sign sign.RightRound) ∷ (k.Sign sign.LeftSquare) ∷ (k.Sign sign.RightSquare) ∷ (k.Sign sign.Comma) ∷ (k.Sign sign.Semicolon) ∷ (k.Sign sign.Point) ∷
-    (k.Sign sign.Colon) ∷ (k.Sign sign.DoubleColon) ∷ (k.Sign sign.Becomes) ∷ (k.Sign sign.Equal) ∷ (k.Sign sign.Unequal) ∷ (k.Sign sign.Less) ∷ (k.Sign sign.LessEqual) ∷ (k.Sign sign.Greater) ∷
+    (k.Key key.Cor) ∷ (k.Sign sign.LeftRound) ∷ (k.Sign sign.RightRound) ∷ (k.Sign sign.LeftSquare) ∷ (k.Sign sign.RightSquare) ∷ (k.Sign sign.Comma)
+    ∷ (k.Sign sign.Semicolon) ∷ (k.Sign sign.Point) ∷
+    (k.Sign sign.Colon) ∷ (k.Sign sign.DoubleColon) ∷ (k.Sign sign.Becomes) ∷ (k.Sign sign.Equal) ∷ (k.Sign sign.Unequal) ∷ (k.Sign sign.Less)
+    ∷ (k.Sign sign.LessEqual) ∷ (k.Sign sign.Greater) ∷
     (k.Sign sign.GreaterEqual) ∷ (k.Sign sign.Plus) ∷ (k.Sign sign.Minus) ∷ (k.Sign sign.Times) ∷ []
 
 abbrev pub every : Set → Bool

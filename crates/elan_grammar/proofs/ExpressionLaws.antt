@@ -75,7 +75,8 @@ module _ (inner : Language) (n : ℕ) (laws : LanguageLaws inner) where
   actuals_law : Full (g.actuals inner n) begins_actual (is_sign sign.RightRound)
   unfolding g.actuals
   actuals_law = listed_law is_comma _ _ is_comma begins_actual (ends_level 6) (is_sign sign.RightRound) (comma_law begins_actual) actual_law
-      (λ x h. h) (within is_comma (ends_level 6) refl) (within (is_sign sign.RightRound) (ends_level 6) refl) (apart (is_sign sign.RightRound) is_comma refl) refl
+      (λ x h. h) (within is_comma (ends_level 6) refl) (within (is_sign sign.RightRound) (ends_level 6) refl) (apart (is_sign sign.RightRound) is_comma refl)
+      refl
 
   branch_law : Full (g.branch inner n) begins ends_units
   unfolding g.branch
@@ -119,7 +120,9 @@ module _ (inner : Language) (n : ℕ) (laws : LanguageLaws inner) where
       pure_law _ ends_units))))
 
   further_case_law : (xs : List _) → Eats (further nothing (g.a_case inner n) xs) (is_key key.Case) ends_units
-  further_case_law xs = eats_pure tt _ (is_key key.Case) ends_units (λ _. bind_same _ _ _ _ _ a_case_law (λ c. pure_law _ ends_units)) (λ _. eats_then (g.a_case inner n) _ (is_key key.Case) ends_units ends_units a_case_eats (λ c. pure_law _ ends_units))
+  further_case_law xs =
+      eats_pure tt _ (is_key key.Case) ends_units (λ _. bind_same _ _ _ _ _ a_case_law (λ c. pure_law _ ends_units))
+      (λ _. eats_then (g.a_case inner n) _ (is_key key.Case) ends_units ends_units a_case_eats (λ c. pure_law _ ends_units))
 
   abbrev ends_cases : Set
   ends_cases x = is_key key.Otherwise x || is_key key.End x
@@ -137,7 +140,8 @@ module _ (inner : Language) (n : ℕ) (laws : LanguageLaws inner) where
   otherwise_part_law =
       optional_law (is_key key.Otherwise) _ (is_key key.Otherwise) (is_key key.End) ends_cases
       (bind_same _ _ _ _ _ (keyword_law key.Otherwise after_otherwise) (λ _.
-      bind_same _ _ _ _ _ (optional_law is_colon _ is_colon begins_unit after_otherwise (mark_law sign.Colon begins_unit refl).laws (λ x h. h) (apart begins_unit is_colon refl) (within is_colon after_otherwise refl) (within begins_unit after_otherwise refl)) (λ _.
+      bind_same _ _ _ _ _ (optional_law is_colon _ is_colon begins_unit after_otherwise (mark_law sign.Colon begins_unit refl).laws (λ x h. h)
+      (apart begins_unit is_colon refl) (within is_colon after_otherwise refl) (within begins_unit after_otherwise refl)) (λ _.
       narrower _ _ _ (is_key key.End) laws.bodies (within (is_key key.End) ends_units refl)))).laws
       (λ x h. h) (apart (is_key key.End) (is_key key.Otherwise) refl) (within (is_key key.Otherwise) ends_cases refl) (within (is_key key.End) ends_cases refl)
 
@@ -314,6 +318,7 @@ module _ (inner : Language) (n : ℕ) (laws : nat_lt 0 n ≡ true → LanguageLa
   level_law zero le = operand_law
   level_law (suc i) le =
       bind_same _ _ _ _ _ (level_law i (omega arith)) (λ a.
-      iterate_law (g.dyadic inner n i) (is_level (suc i)) (is_level (suc i)) (ends_level i) (ends_level (suc i)) (λ r. (dyadic_law i (omega arith) r).laws) (λ x h. h)
+      iterate_law (g.dyadic inner n i) (is_level (suc i)) (is_level (suc i)) (ends_level i) (ends_level (suc i)) (λ r. (dyadic_law i (omega arith) r).laws)
+      (λ x h. h)
       (λ x h. operator_ends i (loose x) h) (λ x h. later_ends i (loose x) h) (λ x h. later_apart i (loose x) h) (no_operator i (omega arith))
       (λ r s xs ys h. (dyadic_law i (omega arith) r).eats xs ys s h) _ (ends_level i) (λ x h. operator_ends i (loose x) h) (λ x h. later_ends i (loose x) h))

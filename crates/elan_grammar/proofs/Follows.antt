@@ -36,7 +36,8 @@ ends_unit x = is_sign sign.Semicolon x || ends_units x
 
 -- a unit with no type at its front may begin with it, an empty one too
 abbrev pub begins_plain : Set
-begins_plain x = is_key key.Let x || (is_key key.Bound x || (is_key key.Leave x || (is_key key.For x || (is_key key.While x || (is_rep x || (begins x || ends_unit x))))))
+begins_plain x =
+    is_key key.Let x || (is_key key.Bound x || (is_key key.Leave x || (is_key key.For x || (is_key key.While x || (is_rep x || (begins x || ends_unit x))))))
 
 abbrev pub begins_unit : Set
 begins_unit x = begins_typed x || begins_plain x

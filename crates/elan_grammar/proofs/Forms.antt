@@ -17,7 +17,17 @@ part_same r f r1 f1 f2 lr lf = bind_part r f r1 f1 f1 f2 lr lf (λ x h. h)
 
 -- what may begin with more kinds
 pub wider_part : {A : Type 0} (r : Rule A) (p q stop : Set) → Laws r p stop → Within p q → Laws r q stop
-wider_part r p q stop l w = record { sound = l.sound; whole = l.whole; starts = λ xs ys a h s. w (ahead xs) (l.starts xs ys a h s); splits = l.splits; stuck = l.stuck; reads_on = l.reads_on; stops = l.stops }
+wider_part r p q stop l w =
+    record {
+      sound = l.sound;
+      whole = l.whole;
+      starts =
+          λ xs ys a h s. w (ahead xs) (l.starts xs ys a h s);
+      splits = l.splits;
+      stuck = l.stuck;
+      reads_on = l.reads_on;
+      stops = l.stops;
+    }
 
 -- what may be followed by fewer kinds
 narrower_part : {A : Type 0} (r : Rule A) (first p q : Set) → Laws r first p → Within q p → Laws r first q
@@ -35,10 +45,13 @@ pub narrower : {A : Type 0} (r : Rule A) (first p q : Set) → Full r first p �
 narrower r first p q l w = record { laws = narrower_part r first p q l.laws w; sample = l.sample }
 
 -- by another look at where it begins
-refirst_part : {A : Type 0} (r : Rule A) (p q stop : Set) → Laws r p stop → ((xs ys : Tokens) (a : A) → r.reads a xs ys → stop (ahead ys) ≡ true → q (ahead xs) ≡ true) → Laws r q stop
-refirst_part r p q stop l starts = record { sound = l.sound; whole = l.whole; starts = starts; splits = l.splits; stuck = l.stuck; reads_on = l.reads_on; stops = l.stops }
+refirst_part : {A : Type 0} (r : Rule A) (p q stop : Set) → Laws r p stop
+    → ((xs ys : Tokens) (a : A) → r.reads a xs ys → stop (ahead ys) ≡ true → q (ahead xs) ≡ true) → Laws r q stop
+refirst_part r p q stop l starts =
+    record { sound = l.sound; whole = l.whole; starts = starts; splits = l.splits; stuck = l.stuck; reads_on = l.reads_on; stops = l.stops }
 
-pub refirst : {A : Type 0} (r : Rule A) (p q stop : Set) → Full r p stop → ((xs ys : Tokens) (a : A) → r.reads a xs ys → stop (ahead ys) ≡ true → q (ahead xs) ≡ true) → Full r q stop
+pub refirst : {A : Type 0} (r : Rule A) (p q stop : Set) → Full r p stop
+    → ((xs ys : Tokens) (a : A) → r.reads a xs ys → stop (ahead ys) ≡ true → q (ahead xs) ≡ true) → Full r q stop
 refirst r p q stop l starts = record { laws = refirst_part r p q stop l.laws starts; sample = l.sample }
 
 -- ---- rules that read at least one token
@@ -47,7 +60,8 @@ pub record Eats {A : Type 0} (r : Rule A) (first stop : Kind → Bool) : Type 0 
   pub laws : Laws r first stop
   pub eats : (xs ys : Tokens) (a : A) → r.reads a xs ys → length ys < length xs
 
-pub eats_terminal : {A B : Type 0} (f : Token → Option A) (then : A → Rule B) (r1 f1 f2 : Set) → Laws (terminal f) r1 f1 → ((a : A) → Full (then a) f1 f2) → Eats (terminal f >>= then) r1 f2
+pub eats_terminal : {A B : Type 0} (f : Token → Option A) (then : A → Rule B) (r1 f1 f2 : Set) → Laws (terminal f) r1 f1 → ((a : A) → Full (then a) f1 f2)
+    → Eats (terminal f >>= then) r1 f2
 eats_terminal f then r1 f1 f2 lr lf = record {
   laws = part_same (terminal f) then r1 f1 f2 lr lf;
   eats = λ xs ys b h. omega (arith, terminal_eats f xs h.1 h.0 h.2, keeps (then h.0) f1 f2 (lf h.0).laws h.1 ys b h.3);
@@ -67,7 +81,8 @@ eats_then r then r1 f1 f2 e lf = record {
 }
 
 -- nothing before it
-pub eats_pure : {A B : Type 0} (a : A) (then : A → Rule B) (first stop : Set) → ((a : A) → Full (then a) first stop) → ((a : A) → Eats (then a) first stop) → Eats (pure a >>= then) first stop
+pub eats_pure : {A B : Type 0} (a : A) (then : A → Rule B) (first stop : Set) → ((a : A) → Full (then a) first stop) → ((a : A) → Eats (then a) first stop)
+    → Eats (pure a >>= then) first stop
 eats_pure a then first stop l e = record {
   laws = (bind_same (pure a) then first first stop (pure_law a first) l).laws;
   eats = λ xs ys b h. omega (arith, ap length h.2.1, (e h.0).eats h.1 ys b h.3);
@@ -80,20 +95,24 @@ eats_choose b r s r1 s1 first stop lr ls wr ws fr fs = record {
   eats = λ xs ys a h. elim h [ inl x ↦ lr.eats xs ys a x | inr x ↦ ls.eats xs ys a x ];
 }
 
-pub eats_refirst : {A : Type 0} (r : Rule A) (p q stop : Set) → Eats r p stop → ((xs ys : Tokens) (a : A) → r.reads a xs ys → stop (ahead ys) ≡ true → q (ahead xs) ≡ true) → Eats r q stop
+pub eats_refirst : {A : Type 0} (r : Rule A) (p q stop : Set) → Eats r p stop
+    → ((xs ys : Tokens) (a : A) → r.reads a xs ys → stop (ahead ys) ≡ true → q (ahead xs) ≡ true) → Eats r q stop
 eats_refirst r p q stop e starts = record { laws = refirst_part r p q stop e.laws starts; eats = e.eats }
 
 -- ---- what may be left out
 
-pub optional_law : {A : Type 0} (b : Set) (r : Rule A) (r1 stop first : Set) → Laws r r1 stop → Within r1 b → Apart stop b → Within r1 first → Within stop first → Full (optional b r) first stop
+pub optional_law : {A : Type 0} (b : Set) (r : Rule A) (r1 stop first : Set) → Laws r r1 stop → Within r1 b → Apart stop b → Within r1 first → Within stop first
+    → Full (optional b r) first stop
 optional_law b r r1 stop first l wr ws fr fs = choose_law b _ _ r1 stop first stop (part_same _ _ _ _ _ l (λ a. pure_law _ stop)) (pure_law _ stop) wr ws fr fs
 
 -- ---- lists
 
-pub further_law : {X A : Type 0} (f : Token → Option X) (item : Rule A) (m1 i1 i2 : Set) → Laws (terminal f) m1 i1 → Full item i1 i2 → (xs : List A) → Eats (further (terminal f) item xs) m1 i2
+pub further_law : {X A : Type 0} (f : Token → Option X) (item : Rule A) (m1 i1 i2 : Set) → Laws (terminal f) m1 i1 → Full item i1 i2 → (xs : List A)
+    → Eats (further (terminal f) item xs) m1 i2
 further_law f item m1 i1 i2 lm li xs = eats_terminal f _ m1 i1 i2 lm (λ _. bind_same _ _ _ _ _ li (λ a. pure_law _ i2))
 
-pub listed_by : {X A : Type 0} (b : Set) (mark : Rule X) (item : Rule A) (m1 i1 i2 stop : Set) → Full item i1 i2 → ((xs : List A) → Eats (further mark item xs) m1 i2)
+pub listed_by : {X A : Type 0} (b : Set) (mark : Rule X) (item : Rule A) (m1 i1 i2 stop : Set) → Full item i1 i2
+    → ((xs : List A) → Eats (further mark item xs) m1 i2)
     → Within m1 b → Within m1 i2 → Within stop i2 → Apart stop b → b k.Nothing ≡ false → Full (listed b mark item) i1 stop
 listed_by b mark item m1 i1 i2 stop li lf wb wi ws ap nothing =
     bind_same _ _ i1 i2 stop li (λ a.
@@ -101,4 +120,5 @@ listed_by b mark item m1 i1 i2 stop li lf wb wi ws ap nothing =
 
 pub listed_law : {X A : Type 0} (b : Set) (f : Token → Option X) (item : Rule A) (m1 i1 i2 stop : Set) → Full (terminal f) m1 i1 → Full item i1 i2
     → Within m1 b → Within m1 i2 → Within stop i2 → Apart stop b → b k.Nothing ≡ false → Full (listed b (terminal f) item) i1 stop
-listed_law b f item m1 i1 i2 stop lm li wb wi ws ap nothing = listed_by b (terminal f) item m1 i1 i2 stop li (further_law f item m1 i1 i2 lm.laws li) wb wi ws ap nothing
+listed_law b f item m1 i1 i2 stop lm li wb wi ws ap nothing =
+    listed_by b (terminal f) item m1 i1 i2 stop li (further_law f item m1 i1 i2 lm.laws li) wb wi ws ap nothing

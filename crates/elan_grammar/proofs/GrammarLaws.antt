@@ -66,10 +66,12 @@ refinement_begins n r zs ys h =
     let d : is_colon (kind_of c.2.0.what) ≡ true = given (is_colon (kind_of c.2.0.what)) c.2.0.at c.0 c.2.2 in
     rw (h.2.1, c.2.1) (refining (kind_of h.2.0.what) (kind_of c.2.0.what) i d)
 
-point_refines : (t : Token) (a : ℕ) (zs : Tokens) → cond (is_sign sign.Point (kind_of t.what)) (Some t.at) None ≡ Some a → point_by (kind zs) (second zs) ≡ k.Refines → ahead (t ∷ zs) ≡ k.Refines
+point_refines : (t : Token) (a : ℕ) (zs : Tokens) → cond (is_sign sign.Point (kind_of t.what)) (Some t.at) None ≡ Some a
+    → point_by (kind zs) (second zs) ≡ k.Refines → ahead (t ∷ zs) ≡ k.Refines
 point_refines t a zs h e = ahead-point t zs (given (is_sign sign.Point (kind_of t.what)) t.at a h) ∙ e
 
-point_alone : (t : Token) (a : ℕ) (zs : Tokens) → cond (is_sign sign.Point (kind_of t.what)) (Some t.at) None ≡ Some a → is_ident (ahead zs) ≡ false → is_sign sign.Point (ahead (t ∷ zs)) ≡ true
+point_alone : (t : Token) (a : ℕ) (zs : Tokens) → cond (is_sign sign.Point (kind_of t.what)) (Some t.at) None ≡ Some a → is_ident (ahead zs) ≡ false
+    → is_sign sign.Point (ahead (t ∷ zs)) ≡ true
 point_alone t a zs h e = rw (ahead-point t zs (given (is_sign sign.Point (kind_of t.what)) t.at a h)) (alone (kind zs) (second zs) (sym (ident_ahead zs) ∙ e))
 
 next_refinement_law : (n : ℕ) → nat_lt 0 n ≡ true → (xs : List Refinement) → Eats (further (mark sign.Point) (g.refinement n) xs) is_refines ends_units
@@ -78,9 +80,11 @@ next_refinement_law n some xs =
     (eats_terminal _ _ _ _ _ leading_law.laws (λ _. bind_same _ _ _ _ _ (refinement_law n some) (λ r. pure_law _ ends_units)))
     (λ xs ys b h s. rw (h.2.1, point_refines h.2.0 h.0 h.1 h.2.2 (refinement_begins n h.3.0 h.1 h.3.1 h.3.2)) refl)
 
-last_point_law : (stop : Set) → Apart stop is_ident → Apart stop (is_sign sign.Point) → (first : Set) → Within (is_sign sign.Point) first → Within stop first → Full g.last_point first stop
+last_point_law : (stop : Set) → Apart stop is_ident → Apart stop (is_sign sign.Point) → (first : Set) → Within (is_sign sign.Point) first → Within stop first
+    → Full g.last_point first stop
 unfolding g.last_point
-last_point_law stop no_ident no_point first fx fs = optional_law (is_sign sign.Point) _ (is_sign sign.Point) stop first (alone_law stop no_ident).laws (λ x h. h) no_point fx fs
+last_point_law stop no_ident no_point first fx fs =
+    optional_law (is_sign sign.Point) _ (is_sign sign.Point) stop first (alone_law stop no_ident).laws (λ x h. h) no_point fx fs
 
 refinement_list_law : (n : ℕ) → nat_lt 0 n ≡ true → Full (g.refinement_list n) is_ident last_points
 unfolding g.refinement_list
@@ -91,7 +95,8 @@ refinements_law : (n : ℕ) → nat_lt 0 n ≡ true → Full (g.refinements n) i
 unfolding g.refinements
 refinements_law n some =
     bind_same _ _ _ _ _ (refinement_list_law n some) (λ rs.
-    bind_same _ _ _ _ _ (last_point_law ends_text (apart ends_text is_ident refl) (apart ends_text (is_sign sign.Point) refl) last_points (within (is_sign sign.Point) last_points refl) (within ends_text last_points refl)) (λ _.
+    bind_same _ _ _ _ _ (last_point_law ends_text (apart ends_text is_ident refl) (apart ends_text (is_sign sign.Point) refl) last_points
+    (within (is_sign sign.Point) last_points refl) (within ends_text last_points refl)) (λ _.
     pure_law _ ends_text))
 
 list_begins : (n : ℕ) (rs : List Refinement) (zs ys : Tokens) → (g.refinement_list n).reads rs zs ys → point_by (kind zs) (second zs) ≡ k.Refines
@@ -121,7 +126,8 @@ point_tail_law n some =
     (λ x h. h) (apart ends_text is_ident refl) (within is_ident ident_or_end refl) (within ends_text ident_or_end refl)))
     (λ xs ys b h s. elim h.3 [
       | inl r ↦ rw (h.2.1, point_refines h.2.0 h.0 h.1 h.2.2 (refinements_begin n b h.1 ys r)) refl
-      | inr r ↦ rw h.2.1 (or_right (is_refines (ahead (h.2.0 ∷ h.1))) (is_sign sign.Point (ahead (h.2.0 ∷ h.1))) (point_alone h.2.0 h.0 h.1 h.2.2 (subst (λ (z : Tokens). is_ident (ahead z) ≡ false) (sym r.1) (apart ends_text is_ident refl (ahead ys) s))))
+      | inr r ↦ rw h.2.1 (or_right (is_refines (ahead (h.2.0 ∷ h.1))) (is_sign sign.Point (ahead (h.2.0 ∷ h.1)))
+          (point_alone h.2.0 h.0 h.1 h.2.2 (subst (λ (z : Tokens). is_ident (ahead z) ≡ false) (sym r.1) (apart ends_text is_ident refl (ahead ys) s))))
     ])
 
 tail_law : (n : ℕ) → nat_lt 0 n ≡ true → Full (g.tail n) after_body_units ends_text
@@ -154,7 +160,9 @@ after_end_op x = is_operator x || after_level_unit x
 
 end_operator_law : (o : OperatorName) → Full (g.end_operator o) after_end_op after_level_unit
 unfolding g.end_operator
-end_operator_law o = optional_law is_operator _ is_operator after_level_unit after_end_op (same_operator_law o after_level_unit) (λ y h. h) (apart after_level_unit is_operator refl) (within is_operator after_end_op refl) (within after_level_unit after_end_op refl)
+end_operator_law o =
+    optional_law is_operator _ is_operator after_level_unit after_end_op (same_operator_law o after_level_unit) (λ y h. h)
+    (apart after_level_unit is_operator refl) (within is_operator after_end_op refl) (within after_level_unit after_end_op refl)
 
 formal_list_law : (stop : Set) → Full (g.formal_list 400 399) (is_sign sign.LeftRound) stop
 unfolding g.formal_list
@@ -169,7 +177,8 @@ after_proc_name x = is_sign sign.LeftRound x || is_colon x
 
 optional_formals_law : Full (g.optional_formals 400 399) after_proc_name is_colon
 unfolding g.optional_formals
-optional_formals_law = choose_law (is_sign sign.LeftRound) _ _ (is_sign sign.LeftRound) is_colon after_proc_name is_colon (formal_list_law is_colon).laws (pure_law _ is_colon)
+optional_formals_law =
+    choose_law (is_sign sign.LeftRound) _ _ (is_sign sign.LeftRound) is_colon after_proc_name is_colon (formal_list_law is_colon).laws (pure_law _ is_colon)
     (λ y h. h) (apart is_colon (is_sign sign.LeftRound) refl) (within (is_sign sign.LeftRound) after_proc_name refl) (within is_colon after_proc_name refl)
 
 proc_parts_law : Full (g.proc_parts 400 399) (is_key key.Proc) after_level_unit
@@ -181,7 +190,8 @@ proc_parts_law =
     bind_same _ _ _ _ _ (mark_law sign.Colon begins_unit refl) (λ _.
     bind_law _ _ _ _ (is_key key.End) after_level_unit body_law (λ b.
     bind_same _ _ _ _ _ (end_law key.Proc after_end_proc) (λ _.
-    bind_same _ _ _ _ _ (end_name_law x after_level_unit after_end_proc (apart after_level_unit is_ident refl) (within is_ident after_end_proc refl) (within after_level_unit after_end_proc refl)) (λ _.
+    bind_same _ _ _ _ _ (end_name_law x after_level_unit after_end_proc (apart after_level_unit is_ident refl) (within is_ident after_end_proc refl)
+    (within after_level_unit after_end_proc refl)) (λ _.
     pure_law _ after_level_unit))) (within (is_key key.End) ends_text refl)))))
 
 proc_law : (t : Option TypePhrase) → Full (g.proc 400 399 t) (is_key key.Proc) after_level_unit
@@ -314,8 +324,11 @@ level_unit_law =
 
 pub level_units_law : Full (g.level_units 400 399) begins_level after_body_units
 unfolding g.level_units
-level_units_law = listed_law (is_sign sign.Semicolon) _ _ (is_sign sign.Semicolon) begins_level after_level_unit after_body_units (mark_law sign.Semicolon begins_level refl) level_unit_law
-    (λ x h. h) (within (is_sign sign.Semicolon) after_level_unit refl) (within after_body_units after_level_unit refl) (apart after_body_units (is_sign sign.Semicolon) refl) refl
+level_units_law =
+    listed_law (is_sign sign.Semicolon) _ _ (is_sign sign.Semicolon) begins_level after_level_unit after_body_units (mark_law sign.Semicolon begins_level refl)
+    level_unit_law
+    (λ x h. h) (within (is_sign sign.Semicolon) after_level_unit refl) (within after_body_units after_level_unit refl)
+    (apart after_body_units (is_sign sign.Semicolon) refl) refl
 
 a_level_law : Full (g.a_level 400 399) begins_level ends_text
 unfolding g.a_level
@@ -361,7 +374,8 @@ unfolding g.last_mark
 last_mark_law =
     choose_law (is_sign sign.Semicolon) _ _ (is_sign sign.Semicolon) after_point last_marks is_nothing
     (bind_same _ _ _ _ _ (mark_law sign.Semicolon is_nothing refl) (λ at. pure_law _ is_nothing)).laws
-    (last_point_law is_nothing (apart is_nothing is_ident refl) (apart is_nothing (is_sign sign.Point) refl) after_point (within (is_sign sign.Point) after_point refl) (within is_nothing after_point refl))
+    (last_point_law is_nothing (apart is_nothing is_ident refl) (apart is_nothing (is_sign sign.Point) refl) after_point
+    (within (is_sign sign.Point) after_point refl) (within is_nothing after_point refl))
     (λ x h. h) (apart after_point (is_sign sign.Semicolon) refl) (within (is_sign sign.Semicolon) last_marks refl) (within after_point last_marks refl)
 
 abbrev after_end_packet : Set
@@ -376,7 +390,8 @@ packet_law =
     bind_same _ _ _ _ _ (mark_law sign.Colon begins_level refl) (λ _.
     bind_law _ _ _ _ (is_key key.End) is_nothing a_level_law (λ l.
     bind_same _ _ _ _ _ (end_law key.Packet after_end_packet) (λ _.
-    bind_same _ _ _ _ _ (end_name_law x last_marks after_end_packet (apart last_marks is_ident refl) (within is_ident after_end_packet refl) (within last_marks after_end_packet refl)) (λ _.
+    bind_same _ _ _ _ _ (end_name_law x last_marks after_end_packet (apart last_marks is_ident refl) (within is_ident after_end_packet refl)
+    (within last_marks after_end_packet refl)) (λ _.
     bind_same _ _ _ _ _ last_mark_law (λ _.
     pure_law _ is_nothing)))) (within (is_key key.End) ends_text refl)))))
 
@@ -410,7 +425,8 @@ more_left t u x rest h = not_empty x rest (same_value t u (x ∷ rest) [] h).1
 pub refused_run : (p : Bool) (tokens : Tokens) (e : ParseError) → (text p).run tokens ≡ Err e → (t : Tree) → Reads p tokens t → ⊥
 refused_run p tokens e h t r = let q = reads_is p tokens t r in cc
 
-pub some_left : (p : Bool) (tokens : Tokens) (t : Tree) (rest : Tokens) → (text p).run tokens ≡ Ok (t, rest) → (rest ≡ [] → ⊥) → (u : Tree) → Reads p tokens u → ⊥
+pub some_left : (p : Bool) (tokens : Tokens) (t : Tree) (rest : Tokens) → (text p).run tokens ≡ Ok (t, rest) → (rest ≡ [] → ⊥) → (u : Tree) → Reads p tokens u
+    → ⊥
 some_left p tokens t [] h some u r = some refl
 some_left p tokens t (x ∷ rest) h some u r = more_left t u x rest (sym h ∙ reads_is p tokens u r)
 

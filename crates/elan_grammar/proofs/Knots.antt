@@ -13,7 +13,8 @@ use Rattle.elan_grammar.specs.Units.{units, phrases}
 use Rattle.elan_grammar.specs.Depth.{type_depth, expr_depth, units_depth}
 
 -- what parses a rule from where a reading of another ended parses all of it
-pub parses_from : {A : Type 0} (r s : Rule A) (depth : A → ℕ) (P Q : ℕ → Type 0) (all old new : Tokens) (result : Result (Tall A) ParseError) → s.run all ≡ r.run old → ((h : ℕ) → P h → Q h)
+pub parses_from : {A : Type 0} (r s : Rule A) (depth : A → ℕ) (P Q : ℕ → Type 0) (all old new : Tokens) (result : Result (Tall A) ParseError)
+    → s.run all ≡ r.run old → ((h : ℕ) → P h → Q h)
     → Parses r depth P old result new → Parses s depth Q all result new
 parses_from r s depth P Q all old new (Ok a) e more h = (e ∙ h.0, (h.1.0, more a.height h.1.1))
 parses_from r s depth P Q all old new (Err d) e more h = λ n. e ∙ h n
@@ -26,8 +27,10 @@ pub types_more : (d j : ℕ) (xs : Tokens) → d ≡ suc j → (types d).run xs 
 unfolding types
 types_more d j xs h = rw h refl
 
-pub types_parse : (d j : ℕ) (old new : Tokens) (result : Result (Tall TypePhrase) ParseError) → d ≡ suc j → Parses (a_type (types j) j) type_depth (AtMost (j + 1)) old result new → Parses (types d) type_depth (AtMost d) old result new
-types_parse d j old new result e h = parses_from (a_type (types j) j) (types d) type_depth (AtMost (j + 1)) (AtMost d) old old new result (types_more d j old e) (λ k le. omega (arith, e, le)) h
+pub types_parse : (d j : ℕ) (old new : Tokens) (result : Result (Tall TypePhrase) ParseError) → d ≡ suc j
+    → Parses (a_type (types j) j) type_depth (AtMost (j + 1)) old result new → Parses (types d) type_depth (AtMost d) old result new
+types_parse d j old new result e h =
+    parses_from (a_type (types j) j) (types d) type_depth (AtMost (j + 1)) (AtMost d) old old new result (types_more d j old e) (λ k le. omega (arith, e, le)) h
 
 -- ---- levels of operators
 
@@ -62,8 +65,14 @@ pub units_more : (d j : ℕ) (xs : Tokens) → d ≡ suc j → (phrases d).units
 unfolding phrases
 units_more d j xs h = rw h refl
 
-pub expr_parse : (d j i : ℕ) (old new : Tokens) (result : Result (Tall Expr) ParseError) → d ≡ suc j → Parses (level (phrases j) j i) expr_depth (AtMost j) old result new → Parses ((phrases d).level i) expr_depth (Below d) old result new
-expr_parse d j i old new result e h = parses_from (level (phrases j) j i) ((phrases d).level i) expr_depth (AtMost j) (Below d) old old new result (expr_more d j i old e) (λ k le. omega (arith, e, le)) h
+pub expr_parse : (d j i : ℕ) (old new : Tokens) (result : Result (Tall Expr) ParseError) → d ≡ suc j
+    → Parses (level (phrases j) j i) expr_depth (AtMost j) old result new → Parses ((phrases d).level i) expr_depth (Below d) old result new
+expr_parse d j i old new result e h =
+    parses_from (level (phrases j) j i) ((phrases d).level i) expr_depth (AtMost j) (Below d) old old new result (expr_more d j i old e)
+    (λ k le. omega (arith, e, le)) h
 
-pub units_parse : (d j : ℕ) (old new : Tokens) (result : Result (Tall (List Phrase)) ParseError) → d ≡ suc j → Parses (units (phrases j) j) units_depth (AtMost j) old result new → Parses (phrases d).units units_depth (Below d) old result new
-units_parse d j old new result e h = parses_from (units (phrases j) j) (phrases d).units units_depth (AtMost j) (Below d) old old new result (units_more d j old e) (λ k le. omega (arith, e, le)) h
+pub units_parse : (d j : ℕ) (old new : Tokens) (result : Result (Tall (List Phrase)) ParseError) → d ≡ suc j
+    → Parses (units (phrases j) j) units_depth (AtMost j) old result new → Parses (phrases d).units units_depth (Below d) old result new
+units_parse d j old new result e h =
+    parses_from (units (phrases j) j) (phrases d).units units_depth (AtMost j) (Below d) old old new result (units_more d j old e)
+    (λ k le. omega (arith, e, le)) h

@@ -48,7 +48,8 @@ pub record Laws {A : Type 0} (r : Rule A) (first stop : Kind → Bool) : Type 0 
   pub stuck : (xs : Tokens) (e : ParseError) → r.run xs ≡ Err e → Stuck r xs e
   -- what comes behind the place where the parser stops doesn't matter to it
   pub reads_on : (front us vs : Tokens) (a : A) → r.run (front ++ us) ≡ Ok (a, us) → LooksSame front us vs → r.run (front ++ vs) ≡ Ok (a, vs)
-  pub stops : (front us vs : Tokens) (t : Token) → r.run (front ++ (t ∷ us)) ≡ Err (refusal (t ∷ us)) → LooksSame front (t ∷ us) (t ∷ vs) → r.run (front ++ (t ∷ vs)) ≡ Err (refusal (t ∷ vs))
+  pub stops : (front us vs : Tokens) (t : Token) → r.run (front ++ (t ∷ us)) ≡ Err (refusal (t ∷ us)) → LooksSame front (t ∷ us) (t ∷ vs)
+      → r.run (front ++ (t ∷ vs)) ≡ Err (refusal (t ∷ vs))
 
 -- the laws of a rule that reads something
 pub record Full {A : Type 0} (r : Rule A) (first stop : Kind → Bool) : Type 0 where
@@ -64,26 +65,42 @@ abbrev pub stuck_here : {A : Type 0} (r : Rule A) (xs : Tokens) (e : ParseError)
 stuck_here r xs e h = record { front = []; rest = xs; whole = refl; place = h; viable = λ some. absurd (omega arith) }
 
 -- What r completes to, and a reading of what follows.
-pub bind_completes : {A B : Type 0} (r : Rule A) (f : A → Rule B) (front : Tokens) → Completes r front → ((a : A) → Completes (f a) []) → Completes (r >>= f) front
+pub bind_completes : {A B : Type 0} (r : Rule A) (f : A → Rule B) (front : Tokens) → Completes r front → ((a : A) → Completes (f a) [])
+    → Completes (r >>= f) front
 bind_completes r f front c sf =
     let s = sf c.value in
     record {
       more = c.more ++ s.more;
       value = s.value;
-      reads = λ zs. (c.value, s.more ++ zs, subst (λ (z : Tokens). r.reads c.value z (s.more ++ zs)) (ap (λ (z : Tokens). front ++ z) (sym (append_assoc c.more s.more zs))) (c.reads (s.more ++ zs)), s.reads zs);
+      reads =
+          λ zs. (
+            c.value,
+            s.more ++ zs,
+            subst (λ (z : Tokens). r.reads c.value z (s.more ++ zs)) (ap (λ (z : Tokens). front ++ z) (sym (append_assoc c.more s.more zs)))
+                (c.reads (s.more ++ zs)),
+            s.reads zs,
+          );
     }
 
 -- What r read, and what completes the rest.
-pub after_completes : {A B : Type 0} (r : Rule A) (f : A → Rule B) (first front : Tokens) (a : A) → ((zs : Tokens) → r.reads a (first ++ zs) zs) → Completes (f a) front → Completes (r >>= f) (first ++ front)
+pub after_completes : {A B : Type 0} (r : Rule A) (f : A → Rule B) (first front : Tokens) (a : A) → ((zs : Tokens) → r.reads a (first ++ zs) zs)
+    → Completes (f a) front → Completes (r >>= f) (first ++ front)
 after_completes r f first front a free c = record {
   more = c.more;
   value = c.value;
-  reads = λ zs. (a, front ++ (c.more ++ zs), subst (λ (z : Tokens). r.reads a z (front ++ (c.more ++ zs))) (sym (append_assoc first front (c.more ++ zs))) (free (front ++ (c.more ++ zs))), c.reads zs);
+  reads =
+      λ zs. (
+        a,
+        front ++ (c.more ++ zs),
+        subst (λ (z : Tokens). r.reads a z (front ++ (c.more ++ zs))) (sym (append_assoc first front (c.more ++ zs))) (free (front ++ (c.more ++ zs))),
+        c.reads zs,
+      );
 }
 
 -- ---- outcomes
 
-pub and_then_ok : {A B : Type 0} (o : Outcome A) (g : A → Tokens → Outcome B) (y : B × Tokens) → and_then o g ≡ Ok y → (p : A × Tokens) × (o ≡ Ok p) × (g p.0 p.1 ≡ Ok y)
+pub and_then_ok : {A B : Type 0} (o : Outcome A) (g : A → Tokens → Outcome B) (y : B × Tokens) → and_then o g ≡ Ok y
+    → (p : A × Tokens) × (o ≡ Ok p) × (g p.0 p.1 ≡ Ok y)
 and_then_ok (Ok p) g y e = (p, refl, e)
 and_then_ok (Err d) g y e = absurd cc
 
@@ -93,7 +110,8 @@ failed e = Err e
 pub left_is : {X : Type 0} (d e : ParseError) → failed {X = X} d ≡ failed {X = X} e → d ≡ e
 left_is d e h = cc
 
-pub and_then_err : {A B : Type 0} (o : Outcome A) (g : A → Tokens → Outcome B) (e : ParseError) → and_then o g ≡ Err e → (o ≡ Err e) ⊎ ((p : A × Tokens) × (o ≡ Ok p) × (g p.0 p.1 ≡ Err e))
+pub and_then_err : {A B : Type 0} (o : Outcome A) (g : A → Tokens → Outcome B) (e : ParseError) → and_then o g ≡ Err e
+    → (o ≡ Err e) ⊎ ((p : A × Tokens) × (o ≡ Ok p) × (g p.0 p.1 ≡ Err e))
 and_then_err (Ok p) g e h = inr (p, refl, h)
 and_then_err (Err d) g e h = inl (ap (λ (x : ParseError). Err x) (left_is d e h))
 
@@ -137,7 +155,8 @@ same_here (x ∷ front) us vs h = h.0
 
 pub same_first : (a b us vs : Tokens) → LooksSame (a ++ b) us vs → LooksSame a (b ++ us) (b ++ vs)
 same_first [] b us vs h = same_here b us vs h
-same_first (x ∷ a) b us vs h = (ap (λ (z : Tokens). ahead (x ∷ z)) (sym (append_assoc a b us)) ∙ h.0 ∙ ap (λ (z : Tokens). ahead (x ∷ z)) (append_assoc a b vs), same_first a b us vs h.1)
+same_first (x ∷ a) b us vs h =
+    (ap (λ (z : Tokens). ahead (x ∷ z)) (sym (append_assoc a b us)) ∙ h.0 ∙ ap (λ (z : Tokens). ahead (x ∷ z)) (append_assoc a b vs), same_first a b us vs h.1)
 
 pub same_second : (a b us vs : Tokens) → LooksSame (a ++ b) us vs → LooksSame b us vs
 same_second [] b us vs h = h
@@ -150,7 +169,8 @@ keeps r first stop l xs ys a h =
 
 -- ---- nothing is read
 
-stays_on : {A : Type 0} (r : Rule A) (a : A) → ((xs : Tokens) → r.run xs ≡ Ok (a, xs)) → (front us vs : Tokens) (b : A) → r.run (front ++ us) ≡ Ok (b, us) → r.run (front ++ vs) ≡ Ok (b, vs)
+stays_on : {A : Type 0} (r : Rule A) (a : A) → ((xs : Tokens) → r.run xs ≡ Ok (a, xs)) → (front us vs : Tokens) (b : A) → r.run (front ++ us) ≡ Ok (b, us)
+    → r.run (front ++ vs) ≡ Ok (b, vs)
 stays_on r a now front us vs b e =
     let p = same_value a b (front ++ us) us (sym (now (front ++ us)) ∙ e) in
     rw (no_front front us p.1, p.0) (now vs)
@@ -169,7 +189,8 @@ pure_laws a p = record {
 pub pure_law : {A : Type 0} (a : A) (p : Set) → Full (pure a) p p
 pure_law a p = record { laws = pure_laws a p; sample = record { more = []; value = a; reads = λ zs. (refl, refl) } }
 
-refuses_on : {A : Type 0} (r : Rule A) → ((xs : Tokens) → r.run xs ≡ Err (refusal xs)) → (front us vs : Tokens) (t : Token) → r.run (front ++ (t ∷ us)) ≡ Err (refusal (t ∷ us)) → r.run (front ++ (t ∷ vs)) ≡ Err (refusal (t ∷ vs))
+refuses_on : {A : Type 0} (r : Rule A) → ((xs : Tokens) → r.run xs ≡ Err (refusal xs)) → (front us vs : Tokens) (t : Token)
+    → r.run (front ++ (t ∷ us)) ≡ Err (refusal (t ∷ us)) → r.run (front ++ (t ∷ vs)) ≡ Err (refusal (t ∷ vs))
 refuses_on r now front us vs t e =
     let l = refused_length (front ++ (t ∷ us)) (t ∷ us) (left_is (refusal (front ++ (t ∷ us))) (refusal (t ∷ us)) (sym (now (front ++ (t ∷ us))) ∙ e)) in
     rw (no_front_by front (t ∷ us) vs l) (now (t ∷ vs))
@@ -200,7 +221,8 @@ only_on : (c : Bool) (front us vs : Tokens) (u : Unit {0}) → (only c).run (fro
 only_on true front us vs u e = stays_on (only true) tt (λ xs. refl) front us vs u e
 only_on false front us vs u e = absurd cc
 
-only_stops : (c : Bool) (front us vs : Tokens) (t : Token) → (only c).run (front ++ (t ∷ us)) ≡ Err (refusal (t ∷ us)) → (only c).run (front ++ (t ∷ vs)) ≡ Err (refusal (t ∷ vs))
+only_stops : (c : Bool) (front us vs : Tokens) (t : Token) → (only c).run (front ++ (t ∷ us)) ≡ Err (refusal (t ∷ us))
+    → (only c).run (front ++ (t ∷ vs)) ≡ Err (refusal (t ∷ vs))
 only_stops true front us vs t e = absurd cc
 only_stops false front us vs t e = refuses_on (only false) (λ xs. refl) front us vs t e
 
@@ -217,7 +239,8 @@ only_law c p = record {
 
 -- ---- one token
 
-taken_sound : {A : Type 0} (f : Token → Option A) (t : Token) (ts ys : Tokens) (a : A) (o : Option A) → f t ≡ o → taken o (t ∷ ts) ts ≡ Ok (a, ys) → (u : Token) × (t ∷ ts ≡ u ∷ ys) × (f u ≡ Some a)
+taken_sound : {A : Type 0} (f : Token → Option A) (t : Token) (ts ys : Tokens) (a : A) (o : Option A) → f t ≡ o → taken o (t ∷ ts) ts ≡ Ok (a, ys)
+    → (u : Token) × (t ∷ ts ≡ u ∷ ys) × (f u ≡ Some a)
 taken_sound f t ts ys a None h e = absurd cc
 taken_sound f t ts ys a (Some x) h e =
     let p = same_value x a ts ys e in
@@ -235,7 +258,8 @@ terminal_place : {A : Type 0} (f : Token → Option A) (xs : Tokens) (e : ParseE
 terminal_place f [] e h = sym (left_is (refusal []) e h)
 terminal_place f (t ∷ ts) e h = taken_place (f t) (t ∷ ts) ts e h
 
-terminal_on : {A : Type 0} (f : Token → Option A) (front us vs : Tokens) (a : A) → terminal_run f (front ++ us) ≡ Ok (a, us) → terminal_run f (front ++ vs) ≡ Ok (a, vs)
+terminal_on : {A : Type 0} (f : Token → Option A) (front us vs : Tokens) (a : A) → terminal_run f (front ++ us) ≡ Ok (a, us)
+    → terminal_run f (front ++ vs) ≡ Ok (a, vs)
 terminal_on f [] us vs a e =
     let h = terminal_sound f us us a e in
     absurd (omega (arith, ap length h.1))
@@ -246,11 +270,13 @@ terminal_on f (x ∷ front) us vs a e =
     let is : f x ≡ Some a = first_of (cc (here, h.2)) in
     rw (none, is) refl
 
-taken_stops : {A : Type 0} (o : Option A) (all others rest more : Tokens) (e : ParseError) → taken o all rest ≡ Err e → taken o others more ≡ Err (refusal others)
+taken_stops : {A : Type 0} (o : Option A) (all others rest more : Tokens) (e : ParseError) → taken o all rest ≡ Err e
+    → taken o others more ≡ Err (refusal others)
 taken_stops (Some a) all others rest more e h = absurd cc
 taken_stops None all others rest more e h = refl
 
-terminal_stops : {A : Type 0} (f : Token → Option A) (front us vs : Tokens) (t : Token) → terminal_run f (front ++ (t ∷ us)) ≡ Err (refusal (t ∷ us)) → terminal_run f (front ++ (t ∷ vs)) ≡ Err (refusal (t ∷ vs))
+terminal_stops : {A : Type 0} (f : Token → Option A) (front us vs : Tokens) (t : Token) → terminal_run f (front ++ (t ∷ us)) ≡ Err (refusal (t ∷ us))
+    → terminal_run f (front ++ (t ∷ vs)) ≡ Err (refusal (t ∷ vs))
 terminal_stops f [] us vs t e = taken_stops (f t) (t ∷ us) (t ∷ vs) us vs (refusal (t ∷ us)) e
 terminal_stops f (x ∷ front) us vs t e =
     let p = refused_length (t ∷ us) (x ∷ (front ++ (t ∷ us))) (terminal_place f (x ∷ (front ++ (t ∷ us))) (refusal (t ∷ us)) e) in
@@ -286,7 +312,13 @@ bind_splits r f xs ys b sr sf h =
     record {
       front = s.front ++ t.front;
       whole = s.whole ∙ ap (λ (z : Tokens). s.front ++ z) t.whole ∙ sym (append_assoc s.front t.front ys);
-      free = λ zs. (h.0, t.front ++ zs, subst (λ (z : Tokens). r.reads h.0 z (t.front ++ zs)) (sym (append_assoc s.front t.front zs)) (s.free (t.front ++ zs)), t.free zs);
+      free =
+          λ zs. (
+            h.0,
+            t.front ++ zs,
+            subst (λ (z : Tokens). r.reads h.0 z (t.front ++ zs)) (sym (append_assoc s.front t.front zs)) (s.free (t.front ++ zs)),
+            t.free zs,
+          );
     }
 
 pub same_end : (a b x y : Tokens) → a ++ x ≡ b ++ y → length x ≡ length y → x ≡ y
@@ -295,21 +327,26 @@ same_end a b x y e l =
     sym (drop-append_seam a x) ∙ ap (λ (z : Tokens). drop (length a) z) e ∙ ap (λ (m : ℕ). drop m (b ++ y)) k ∙ drop-append_seam b y
 
 -- A first part reads on before another second part.
-pub first_part : {A : Type 0} (r : Rule A) (first stop : Set) → Laws r first stop → (front second us vs mid : Tokens) (a : A) → r.run (front ++ us) ≡ Ok (a, mid) → mid ≡ second ++ us → LooksSame front us vs
+pub first_part : {A : Type 0} (r : Rule A) (first stop : Set) → Laws r first stop → (front second us vs mid : Tokens) (a : A)
+    → r.run (front ++ us) ≡ Ok (a, mid) → mid ≡ second ++ us → LooksSame front us vs
     → (r.run (front ++ vs) ≡ Ok (a, second ++ vs)) × LooksSame second us vs
 first_part r first stop l front second us vs mid a run is h =
     let s = l.splits (front ++ us) mid a (l.sound (front ++ us) mid a run) in
-    let eq : front ≡ s.front ++ second = append_cancel_right front (s.front ++ second) us (s.whole ∙ ap (λ (z : Tokens). s.front ++ z) is ∙ sym (append_assoc s.front second us)) in
+    let eq : front ≡ s.front ++ second =
+    append_cancel_right front (s.front ++ second) us (s.whole ∙ ap (λ (z : Tokens). s.front ++ z) is ∙ sym (append_assoc s.front second us)) in
     let k : LooksSame (s.front ++ second) us vs = subst (λ (z : Tokens). LooksSame z us vs) eq h in
-    let here : r.run (s.front ++ (second ++ us)) ≡ Ok (a, second ++ us) = ap (λ (z : Tokens). r.run (s.front ++ z)) (sym is) ∙ ap (λ (z : Tokens). r.run z) (sym s.whole) ∙ run ∙ ap (λ (z : Tokens). Ok (a, z)) is in
+    let here : r.run (s.front ++ (second ++ us)) ≡ Ok (a, second ++ us) =
+    ap (λ (z : Tokens). r.run (s.front ++ z)) (sym is) ∙ ap (λ (z : Tokens). r.run z) (sym s.whole) ∙ run ∙ ap (λ (z : Tokens). Ok (a, z)) is in
     let there = l.reads_on s.front (second ++ us) (second ++ vs) a here (same_first s.front second us vs k) in
     (ap (λ (z : Tokens). r.run z) (ap (λ (z : Tokens). z ++ vs) eq ∙ append_assoc s.front second vs) ∙ there, same_second s.front second us vs k)
 
 -- The place where the second part is stuck lies behind the first part.
-pub place_behind : {A B : Type 0} (r : Rule A) (q : Rule B) (first stop : Set) → Laws r first stop → (front us mid : Tokens) (a : A) → r.run (front ++ us) ≡ Ok (a, mid) → Stuck q mid (refusal us) → (second : Tokens) × (mid ≡ second ++ us)
+pub place_behind : {A B : Type 0} (r : Rule A) (q : Rule B) (first stop : Set) → Laws r first stop → (front us mid : Tokens) (a : A)
+    → r.run (front ++ us) ≡ Ok (a, mid) → Stuck q mid (refusal us) → (second : Tokens) × (mid ≡ second ++ us)
 place_behind r other first stop l front us mid a run q =
     let s = l.splits (front ++ us) mid a (l.sound (front ++ us) mid a run) in
-    let whole : front ++ us ≡ (s.front ++ q.front) ++ q.rest = s.whole ∙ ap (λ (z : Tokens). s.front ++ z) q.whole ∙ sym (append_assoc s.front q.front q.rest) in
+    let whole : front ++ us ≡ (s.front ++ q.front) ++ q.rest =
+    s.whole ∙ ap (λ (z : Tokens). s.front ++ z) q.whole ∙ sym (append_assoc s.front q.front q.rest) in
     let rest : us ≡ q.rest = same_end front (s.front ++ q.front) us q.rest whole (refused_length us q.rest q.place) in
     (q.front, q.whole ∙ ap (λ (z : Tokens). q.front ++ z) (sym rest))
 
@@ -345,7 +382,8 @@ module _ {A B : Type 0} (r : Rule A) (f : A → Rule B) (r1 r2 f1 f2 : Set) (lr 
       let later = (lf a).reads_on t.front us vs b (ap (λ (z : Tokens). (f a).run z) (sym t.whole) ∙ o.2) p.1 in
       rw p.0 later
 
-  bind_stops : (front us vs : Tokens) (t : Token) → (r >>= f).run (front ++ (t ∷ us)) ≡ Err (refusal (t ∷ us)) → LooksSame front (t ∷ us) (t ∷ vs) → (r >>= f).run (front ++ (t ∷ vs)) ≡ Err (refusal (t ∷ vs))
+  bind_stops : (front us vs : Tokens) (t : Token) → (r >>= f).run (front ++ (t ∷ us)) ≡ Err (refusal (t ∷ us)) → LooksSame front (t ∷ us) (t ∷ vs)
+      → (r >>= f).run (front ++ (t ∷ vs)) ≡ Err (refusal (t ∷ vs))
   bind_stops front us vs t e h =
       elim (and_then_err (r.run (front ++ (t ∷ us))) (λ a zs. (f a).run zs) (refusal (t ∷ us)) e) [
         | inl x ↦ rw (lr.stops front us vs t x h) refl
@@ -374,14 +412,17 @@ module _ {A B : Type 0} (r : Rule A) (f : A → Rule B) (r1 r2 f1 f2 : Set) (lr 
   }
 
 -- a rule and one that reads something behind it
-pub bind_part : {A B : Type 0} (r : Rule A) (f : A → Rule B) (r1 r2 f1 f2 : Set) → Laws r r1 r2 → ((a : A) → Full (f a) f1 f2) → Within f1 r2 → Laws (r >>= f) r1 f2
+pub bind_part : {A B : Type 0} (r : Rule A) (f : A → Rule B) (r1 r2 f1 f2 : Set) → Laws r r1 r2 → ((a : A) → Full (f a) f1 f2) → Within f1 r2
+    → Laws (r >>= f) r1 f2
 bind_part r f r1 r2 f1 f2 lr lf w = bind_by r f r1 r2 f1 f2 lr (λ a. (lf a).laws) (bind_stuck r f r1 r2 f1 f2 lr (λ a. (lf a).laws) (λ a. (lf a).sample)) w
 
-pub bind_law : {A B : Type 0} (r : Rule A) (f : A → Rule B) (r1 r2 f1 f2 : Set) → Full r r1 r2 → ((a : A) → Full (f a) f1 f2) → Within f1 r2 → Full (r >>= f) r1 f2
+pub bind_law : {A B : Type 0} (r : Rule A) (f : A → Rule B) (r1 r2 f1 f2 : Set) → Full r r1 r2 → ((a : A) → Full (f a) f1 f2) → Within f1 r2
+    → Full (r >>= f) r1 f2
 bind_law r f r1 r2 f1 f2 lr lf w = record { laws = bind_part r f r1 r2 f1 f2 lr.laws lf w; sample = bind_completes r f [] lr.sample (λ a. (lf a).sample) }
 
 -- A guard is asked before any token is read, so what follows may rest on it.
-guarded_stuck : {B : Type 0} (r : Rule B) (first stop : Set) → Laws r first stop → (xs : Tokens) (e : ParseError) → (only true >>= (λ _. r)).run xs ≡ Err e → Stuck (only true >>= (λ _. r)) xs e
+guarded_stuck : {B : Type 0} (r : Rule B) (first stop : Set) → Laws r first stop → (xs : Tokens) (e : ParseError) → (only true >>= (λ _. r)).run xs ≡ Err e
+    → Stuck (only true >>= (λ _. r)) xs e
 guarded_stuck r first stop l xs e h =
     let s = l.stuck xs e h in
     record {
@@ -398,7 +439,8 @@ pub no_guard : {X : Type 0} → false ≡ true → X
 no_guard e = absurd cc
 
 pub guard_law : {B : Type 0} (c : Bool) (r : Rule B) (first stop : Set) → (c ≡ true → Laws r first stop) → Laws (only c >>= (λ _. r)) first stop
-guard_law true r first stop l = bind_by (only true) (λ _. r) first first first stop (only_law true first) (λ _. l refl) (guarded_stuck r first stop (l refl)) (λ x h. h)
+guard_law true r first stop l =
+    bind_by (only true) (λ _. r) first first first stop (only_law true first) (λ _. l refl) (guarded_stuck r first stop (l refl)) (λ x h. h)
 guard_law false r first stop l = record {
   sound = λ xs ys b e. absurd (refuses_ok xs ys b e);
   whole = λ xs ys b h s. no_guard h.2.0;
@@ -450,18 +492,24 @@ choose_part b r s r1 s1 first stop lr ls wr ws fr fs = record {
         let p = ls.stuck xs e x.1 in
         record { front = p.front; rest = p.rest; whole = p.whole; place = p.place; viable = λ some. second_completes b r s p.front (p.viable some) }
   ];
-  reads_on = λ front us vs a e h. on_test (b (ahead (front ++ us))) (b (ahead (front ++ vs))) (r.run (front ++ us)) (s.run (front ++ us)) (r.run (front ++ vs)) (s.run (front ++ vs)) (Ok (a, us)) (Ok (a, vs))
+  reads_on =
+      λ front us vs a e h. on_test (b (ahead (front ++ us))) (b (ahead (front ++ vs))) (r.run (front ++ us)) (s.run (front ++ us)) (r.run (front ++ vs))
+      (s.run (front ++ vs)) (Ok (a, us)) (Ok (a, vs))
       (ap b (same_here front us vs h)) (λ x. lr.reads_on front us vs a x h) (λ x. ls.reads_on front us vs a x h) e;
-  stops = λ front us vs t e h. on_test (b (ahead (front ++ (t ∷ us)))) (b (ahead (front ++ (t ∷ vs)))) (r.run (front ++ (t ∷ us))) (s.run (front ++ (t ∷ us))) (r.run (front ++ (t ∷ vs))) (s.run (front ++ (t ∷ vs))) (Err (refusal (t ∷ us))) (Err (refusal (t ∷ vs)))
+  stops =
+      λ front us vs t e h. on_test (b (ahead (front ++ (t ∷ us)))) (b (ahead (front ++ (t ∷ vs)))) (r.run (front ++ (t ∷ us))) (s.run (front ++ (t ∷ us)))
+      (r.run (front ++ (t ∷ vs))) (s.run (front ++ (t ∷ vs))) (Err (refusal (t ∷ us))) (Err (refusal (t ∷ vs)))
       (ap b (same_here front (t ∷ us) (t ∷ vs) h)) (λ x. lr.stops front us vs t x h) (λ x. ls.stops front us vs t x h) e;
 }
 
 -- Where the second reads something, so does the choice.
 pub choose_law : {A : Type 0} (b : Set) (r s : Rule A) (r1 s1 first stop : Set) → Laws r r1 stop → Full s s1 stop
     → Within r1 b → Apart s1 b → Within r1 first → Within s1 first → Full (choose b r s) first stop
-choose_law b r s r1 s1 first stop lr ls wr ws fr fs = record { laws = choose_part b r s r1 s1 first stop lr ls.laws wr ws fr fs; sample = second_completes b r s [] ls.sample }
+choose_law b r s r1 s1 first stop lr ls wr ws fr fs =
+    record { laws = choose_part b r s r1 s1 first stop lr ls.laws wr ws fr fs; sample = second_completes b r s [] ls.sample }
 
 -- the same where the first does
 pub choose_first : {A : Type 0} (b : Set) (r s : Rule A) (r1 s1 first stop : Set) → Full r r1 stop → Laws s s1 stop
     → Within r1 b → Apart s1 b → Within r1 first → Within s1 first → Full (choose b r s) first stop
-choose_first b r s r1 s1 first stop lr ls wr ws fr fs = record { laws = choose_part b r s r1 s1 first stop lr.laws ls wr ws fr fs; sample = first_completes b r s [] lr.sample }
+choose_first b r s r1 s1 first stop lr ls wr ws fr fs =
+    record { laws = choose_part b r s r1 s1 first stop lr.laws ls wr ws fr fs; sample = first_completes b r s [] lr.sample }

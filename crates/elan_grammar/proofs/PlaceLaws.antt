@@ -100,7 +100,8 @@ abbrev SeesSame : Tokens → Tokens → Tokens → Type 0
 SeesSame [] us vs = Unit {0}
 SeesSame (x ∷ front) us vs = (ahead (x ∷ (front ++ us)) ≡ ahead (x ∷ (front ++ vs))) × SeesSame front us vs
 
-same_next : (v : Kind) (us vs : Tokens) → point_by (kind us) (second us) ≡ point_by (kind vs) (second vs) → comma_by (kind us) ≡ comma_by (kind vs) → ((t : Tier) → bold_by t (kind us) ≡ bold_by t (kind vs)) → by_next v us ≡ by_next v vs
+same_next : (v : Kind) (us vs : Tokens) → point_by (kind us) (second us) ≡ point_by (kind vs) (second vs) → comma_by (kind us) ≡ comma_by (kind vs)
+    → ((t : Tier) → bold_by t (kind us) ≡ bold_by t (kind vs)) → by_next v us ≡ by_next v vs
 same_next (k.Sign sign.Point) us vs p c b = p
 same_next (k.Sign sign.Comma) us vs p c b = c
 same_next (k.Bold t) us vs p c b = b t
@@ -118,7 +119,10 @@ sees_same (x ∷ front) us vs l = (same_ahead x front us vs l, sees_same front u
 
 looks_there : (front u us vs : Tokens) (t : Token) → SeesSame (front ++ (t ∷ u)) us vs → LooksSame front (t ∷ (u ++ us)) (t ∷ (u ++ vs))
 looks_there [] u us vs t h = h.0
-looks_there (x ∷ front) u us vs t h = (ap (λ (z : Tokens). ahead (x ∷ z)) (sym (append_assoc front (t ∷ u) us)) ∙ h.0 ∙ ap (λ (z : Tokens). ahead (x ∷ z)) (append_assoc front (t ∷ u) vs), looks_there front u us vs t h.1)
+looks_there (x ∷ front) u us vs t h = (
+  ap (λ (z : Tokens). ahead (x ∷ z)) (sym (append_assoc front (t ∷ u) us)) ∙ h.0 ∙ ap (λ (z : Tokens). ahead (x ∷ z)) (append_assoc front (t ∷ u) vs),
+  looks_there front u us vs t h.1,
+)
 
 -- ---- A front before whose end the parser stops cannot go on.
 
@@ -142,25 +146,32 @@ same_left : (n m : ℕ) → NotElan n ≡ NotElan m → n ≡ m
 same_left n m e = cc
 
 -- what the parser does behind the cut does not depend on what follows the front
-early_read : (p : Bool) (front us rest a b : Tokens) (t u : Tree) → SameLook us rest → front ++ us ≡ a ++ b → length us < length b → (text p).run (front ++ us) ≡ Ok (t, b) → a ++ b ≡ front ++ us → Reads p (front ++ rest) u → ⊥
+early_read : (p : Bool) (front us rest a b : Tokens) (t u : Tree) → SameLook us rest → front ++ us ≡ a ++ b → length us < length b
+    → (text p).run (front ++ us) ≡ Ok (t, b) → a ++ b ≡ front ++ us → Reads p (front ++ rest) u → ⊥
 early_read p front us rest a b t u look e lt run back r =
     let c = cut front us a b e lt in
-    let here : (text p).run (a ++ (c.token ∷ (c.more ++ us))) ≡ Ok (t, c.token ∷ (c.more ++ us)) = ap (λ (z : Tokens). (text p).run (a ++ z)) (sym c.left_is) ∙ ap (λ (z : Tokens). (text p).run z) back ∙ run ∙ ap (λ (z : Tokens). done t z) c.left_is in
+    let here : (text p).run (a ++ (c.token ∷ (c.more ++ us))) ≡ Ok (t, c.token ∷ (c.more ++ us)) =
+    ap (λ (z : Tokens). (text p).run (a ++ z)) (sym c.left_is) ∙ ap (λ (z : Tokens). (text p).run z) back ∙ run ∙ ap (λ (z : Tokens). done t z) c.left_is in
     let sees : SeesSame (a ++ (c.token ∷ c.more)) us rest = subst (λ (z : Tokens). SeesSame z us rest) c.front_is (sees_same front us rest look) in
     let there = (text_law p).laws.reads_on a (c.token ∷ (c.more ++ us)) (c.token ∷ (c.more ++ rest)) t here (looks_there a c.more us rest c.token sees) in
     let whole : front ++ rest ≡ a ++ (c.token ∷ (c.more ++ rest)) = ap (λ (z : Tokens). z ++ rest) c.front_is ∙ append_assoc a (c.token ∷ c.more) rest in
-    some_left p (a ++ (c.token ∷ (c.more ++ rest))) t (c.token ∷ (c.more ++ rest)) there (λ none. not_empty c.token (c.more ++ rest) none) u (subst (λ (z : Tokens). Reads p z u) whole r)
+    some_left p (a ++ (c.token ∷ (c.more ++ rest))) t (c.token ∷ (c.more ++ rest)) there (λ none. not_empty c.token (c.more ++ rest) none) u
+    (subst (λ (z : Tokens). Reads p z u) whole r)
 
-early_stop : (p : Bool) (front us rest a b : Tokens) (u : Tree) → SameLook us rest → front ++ us ≡ a ++ b → length us < length b → (text p).run (front ++ us) ≡ Err (refusal b) → a ++ b ≡ front ++ us → Reads p (front ++ rest) u → ⊥
+early_stop : (p : Bool) (front us rest a b : Tokens) (u : Tree) → SameLook us rest → front ++ us ≡ a ++ b → length us < length b
+    → (text p).run (front ++ us) ≡ Err (refusal b) → a ++ b ≡ front ++ us → Reads p (front ++ rest) u → ⊥
 early_stop p front us rest a b u look e lt run back r =
     let c = cut front us a b e lt in
-    let here : (text p).run (a ++ (c.token ∷ (c.more ++ us))) ≡ Err (refusal (c.token ∷ (c.more ++ us))) = ap (λ (z : Tokens). (text p).run (a ++ z)) (sym c.left_is) ∙ ap (λ (z : Tokens). (text p).run z) back ∙ run ∙ ap (λ (z : Tokens). failed (refusal z)) c.left_is in
+    let here : (text p).run (a ++ (c.token ∷ (c.more ++ us))) ≡ Err (refusal (c.token ∷ (c.more ++ us))) =
+    ap (λ (z : Tokens). (text p).run (a ++ z)) (sym c.left_is) ∙ ap (λ (z : Tokens). (text p).run z) back ∙ run
+    ∙ ap (λ (z : Tokens). failed (refusal z)) c.left_is in
     let sees : SeesSame (a ++ (c.token ∷ c.more)) us rest = subst (λ (z : Tokens). SeesSame z us rest) c.front_is (sees_same front us rest look) in
     let there = (text_law p).laws.stops a (c.more ++ us) (c.more ++ rest) c.token here (looks_there a c.more us rest c.token sees) in
     let whole : front ++ rest ≡ a ++ (c.token ∷ (c.more ++ rest)) = ap (λ (z : Tokens). z ++ rest) c.front_is ∙ append_assoc a (c.token ∷ c.more) rest in
     refused_run p (a ++ (c.token ∷ (c.more ++ rest))) (refusal (c.token ∷ (c.more ++ rest))) there u (subst (λ (z : Tokens). Reads p z u) whole r)
 
-early_by : (p : Bool) (front us rest : Tokens) (u : Tree) (o : Outcome Tree) → (text p).run (front ++ us) ≡ o → length us < left_by o → SameLook us rest → Reads p (front ++ rest) u → ⊥
+early_by : (p : Bool) (front us rest : Tokens) (u : Tree) (o : Outcome Tree) → (text p).run (front ++ us) ≡ o → length us < left_by o → SameLook us rest
+    → Reads p (front ++ rest) u → ⊥
 early_by p front us rest u (Ok q) run lt look r =
     let s = (text_law p).laws.splits (front ++ us) q.1 q.0 ((text_law p).laws.sound (front ++ us) q.1 q.0 run) in
     early_read p front us rest s.front q.1 q.0 u look s.whole lt run (sym s.whole) r
@@ -188,8 +199,14 @@ some_program : CanGoOn false []
 unfolding g.program g.a_level g.tail g.point_tail
 some_program =
     let c = level_units_law.sample in
-    let l : Level = record { units = c.value; refinements = [] } in
-    (c.more ++ (a_point ∷ []), tree.Program l, (λ e. some_more c.more [] a_point e, (l, [], (c.value, a_point ∷ [], c.reads (a_point ∷ []), ([], [], inl (1, [], (a_point, refl, refl), inr (refl, refl)), (refl, refl))), (refl, refl))))
+    let l : Level = record { units = c.value; refinements = [] } in (
+      c.more ++ (a_point ∷ []),
+      tree.Program l,
+      (
+        λ e. some_more c.more [] a_point e,
+        (l, [], (c.value, a_point ∷ [], c.reads (a_point ∷ []), ([], [], inl (1, [], (a_point, refl, refl), inr (refl, refl)), (refl, refl))), (refl, refl)),
+      ),
+    )
 
 packet_some : (t : Tree) (xs ys : Tokens) → (g.packet 400 399).reads t xs ys → xs ≡ [] → ⊥
 unfolding g.packet
@@ -293,10 +310,12 @@ reaches_or_not : (p : Bool) (front : Tokens) (c : Continuation) → Reaches p fr
 reaches_or_not p front c = in_order (left p (front ++ tokens_of c)) (length (tokens_of c))
 
 -- before each continuation
-pub each_early : (p : Bool) (front : Tokens) → Early p front behind.End → Early p front behind.Name → Early p front behind.Refinement → Early p front behind.Colon → Early p front behind.Declaration → CanGoOn p front → ⊥
+pub each_early : (p : Bool) (front : Tokens) → Early p front behind.End → Early p front behind.Name → Early p front behind.Refinement
+    → Early p front behind.Colon → Early p front behind.Declaration → CanGoOn p front → ⊥
 each_early p front e n r c d = cannot_go_on p front (by p front e n r c d)
   where
-    by : (p : Bool) (front : Tokens) → Early p front behind.End → Early p front behind.Name → Early p front behind.Refinement → Early p front behind.Colon → Early p front behind.Declaration → (x : Continuation) → Early p front x
+    by : (p : Bool) (front : Tokens) → Early p front behind.End → Early p front behind.Name → Early p front behind.Refinement → Early p front behind.Colon
+        → Early p front behind.Declaration → (x : Continuation) → Early p front x
     by p front e n r c d behind.End = e
     by p front e n r c d behind.Name = n
     by p front e n r c d behind.Refinement = r
@@ -333,7 +352,9 @@ some_place p tokens = some_place_from p tokens (length tokens) 0 (omega arith) (
 
 not_later : (p : Bool) (tokens : Tokens) (n m : ℕ) → IsPlace p tokens n → IsPlace p tokens m → n < m → ⊥
 not_later p tokens n m is also lt =
-    let whole : take m tokens ≡ take (suc n) tokens ++ drop (suc n) (take m tokens) = sym (take-append-drop (suc n) (take m tokens)) ∙ ap (λ (z : Tokens). z ++ drop (suc n) (take m tokens)) (take-take (suc n) m tokens (omega (arith, lt))) in
+    let whole : take m tokens ≡ take (suc n) tokens ++ drop (suc n) (take m tokens) =
+    sym (take-append-drop (suc n) (take m tokens))
+    ∙ ap (λ (z : Tokens). z ++ drop (suc n) (take m tokens)) (take-take (suc n) m tokens (omega (arith, lt))) in
     is.2 (omega (arith, also.0, lt)) (shorter p (take (suc n) tokens) (drop (suc n) (take m tokens)) (subst (λ (z : Tokens). CanGoOn p z) whole also.1))
 
 pub one_place : (p : Bool) (tokens : Tokens) (n m : ℕ) → IsPlace p tokens n → IsPlace p tokens m → n ≡ m

@@ -20,7 +20,8 @@ nothing_ahead : ahead [] ≡ k.Nothing
 unfolding ahead
 nothing_ahead = refl
 
-module _ {S : Type 0} (body : S → Rule S) (b b1 b2 stop : Set) (laws : (s : S) → Laws (body s) b1 b2) (begins : Within b1 b) (follows : Within b1 b2) (ends : Within stop b2) (apart : Apart stop b)
+module _ {S : Type 0} (body : S → Rule S) (b b1 b2 stop : Set) (laws : (s : S) → Laws (body s) b1 b2) (begins : Within b1 b) (follows : Within b1 b2)
+    (ends : Within stop b2) (apart : Apart stop b)
     (nothing : b k.Nothing ≡ false) (eats : (s t : S) (xs ys : Tokens) → (body s).reads t xs ys → length ys < length xs) where
   abbrev reads_body : S → S → Tokens → Tokens → Type 0
   reads_body s = (body s).reads
@@ -36,12 +37,14 @@ module _ {S : Type 0} (body : S → Rule S) (b b1 b2 stop : Set) (laws : (s : S)
         | inr w ↦ (0, same_value s e xs ys w.1)
       ]
 
-  steps_start : (p : Set) → Within b1 p → Within stop p → (n : ℕ) (s e : S) (xs ys : Tokens) → steps (λ a. (body a).reads) n s e xs ys → stop (ahead ys) ≡ true → p (ahead xs) ≡ true
+  steps_start : (p : Set) → Within b1 p → Within stop p → (n : ℕ) (s e : S) (xs ys : Tokens) → steps (λ a. (body a).reads) n s e xs ys → stop (ahead ys) ≡ true
+      → p (ahead xs) ≡ true
   steps_start p w v zero s e xs ys h t = v (ahead xs) (subst (λ (z : Tokens). stop (ahead z) ≡ true) (sym h.1) t)
   steps_start p w v (suc n) s e xs ys h t =
       w (ahead xs) ((laws s).starts xs h.1 h.0 h.2 (steps_start b2 follows ends n h.0 e h.1 ys h.3 t))
 
-  steps_whole : (n m : ℕ) (s e : S) (xs ys : Tokens) → steps (λ a. (body a).reads) n s e xs ys → stop (ahead ys) ≡ true → length xs ≤ m → steps_run body b m s xs ≡ Ok (e, ys)
+  steps_whole : (n m : ℕ) (s e : S) (xs ys : Tokens) → steps (λ a. (body a).reads) n s e xs ys → stop (ahead ys) ≡ true → length xs ≤ m
+      → steps_run body b m s xs ≡ Ok (e, ys)
   steps_whole zero zero s e xs ys h t le = cc (h.0, h.1)
   steps_whole zero (suc m) s e xs ys h t le =
       let off : b (ahead xs) ≡ false = apart (ahead xs) (subst (λ (z : Tokens). stop (ahead z) ≡ true) (sym h.1) t) in
@@ -52,7 +55,8 @@ module _ {S : Type 0} (body : S → Rule S) (b b1 b2 stop : Set) (laws : (s : S)
       let on : b (ahead xs) ≡ true = begins (ahead xs) ((laws s).starts xs h.1 h.0 h.2 next) in
       rw (on, (laws s).whole xs h.1 h.0 h.2 next) (steps_whole n m h.0 e h.1 ys h.3 t (omega (arith, eats s h.0 xs h.1 h.2)))
 
-  steps_split : (n : ℕ) (s e : S) (xs ys : Tokens) → steps reads_body n s e xs ys → (front : Tokens) × (xs ≡ front ++ ys) × ((zs : Tokens) → steps reads_body n s e (front ++ zs) zs)
+  steps_split : (n : ℕ) (s e : S) (xs ys : Tokens) → steps reads_body n s e xs ys
+      → (front : Tokens) × (xs ≡ front ++ ys) × ((zs : Tokens) → steps reads_body n s e (front ++ zs) zs)
   steps_split zero s e xs ys h = ([], h.1, λ zs. (h.0, refl))
   steps_split (suc n) s e xs ys h =
       let p = (laws s).splits xs h.1 h.0 h.2 in
@@ -67,13 +71,22 @@ module _ {S : Type 0} (body : S → Rule S) (b b1 b2 stop : Set) (laws : (s : S)
   last_step s front c = record { more = c.more; value = c.value; reads = λ zs. (1, (c.value, zs, c.reads zs, (refl, refl))) }
 
   -- a step that was read, and what completes the rest
-  next_step : (s t : S) (first front : Tokens) → ((zs : Tokens) → (body s).reads t (first ++ zs) zs) → Completes (iterate body b t) front → Completes (iterate body b s) (first ++ front)
+  next_step : (s t : S) (first front : Tokens) → ((zs : Tokens) → (body s).reads t (first ++ zs) zs) → Completes (iterate body b t) front
+      → Completes (iterate body b s) (first ++ front)
   next_step s t first front free c = record {
     more = c.more;
     value = c.value;
     reads = λ zs.
-        let later = c.reads zs in
-        (suc later.0, (t, front ++ (c.more ++ zs), subst (λ (z : Tokens). (body s).reads t z (front ++ (c.more ++ zs))) (sym (append_assoc first front (c.more ++ zs))) (free (front ++ (c.more ++ zs))), later.1));
+        let later = c.reads zs in (
+          suc later.0,
+          (
+            t,
+            front ++ (c.more ++ zs),
+            subst (λ (z : Tokens). (body s).reads t z (front ++ (c.more ++ zs))) (sym (append_assoc first front (c.more ++ zs)))
+                (free (front ++ (c.more ++ zs))),
+            later.1,
+          ),
+        );
   }
 
   pub no_step : (s : S) → Completes (iterate body b s) []
@@ -114,8 +127,11 @@ module _ {S : Type 0} (body : S → Rule S) (b b1 b2 stop : Set) (laws : (s : S)
   steps_end (suc m) s xs h = rw h refl
 
   -- one step, and how the rest reads on
-  step_on : (n m : ℕ) (s e : S) (front us vs : Tokens) → ((t : S) (second : Tokens) → steps_run body b n t (second ++ us) ≡ Ok (e, us) → LooksSame second us vs → length (second ++ us) ≤ n → length (second ++ vs) ≤ m → steps_run body b m t (second ++ vs) ≡ Ok (e, vs))
-      → b (ahead (front ++ vs)) ≡ true → and_then ((body s).run (front ++ us)) (steps_run body b n) ≡ Ok (e, us) → LooksSame front us vs → length (front ++ us) ≤ suc n → length (front ++ vs) ≤ suc m
+  step_on : (n m : ℕ) (s e : S) (front us vs : Tokens)
+      → ((t : S) (second : Tokens) → steps_run body b n t (second ++ us) ≡ Ok (e, us) → LooksSame second us vs → length (second ++ us) ≤ n
+      → length (second ++ vs) ≤ m → steps_run body b m t (second ++ vs) ≡ Ok (e, vs))
+      → b (ahead (front ++ vs)) ≡ true → and_then ((body s).run (front ++ us)) (steps_run body b n) ≡ Ok (e, us) → LooksSame front us vs
+      → length (front ++ us) ≤ suc n → length (front ++ vs) ≤ suc m
       → steps_run body b (suc m) s (front ++ vs) ≡ Ok (e, vs)
   step_on n m s e front us vs more on h w le lm =
       let o = and_then_ok ((body s).run (front ++ us)) (steps_run body b n) (e, us) h in
@@ -129,7 +145,8 @@ module _ {S : Type 0} (body : S → Rule S) (b b1 b2 stop : Set) (laws : (s : S)
       let later = more t q.0 (ap (λ (z : Tokens). steps_run body b n t z) (sym q.1) ∙ o.2) p.1 (omega arith) (omega arith) in
       rw (on, p.0) later
 
-  steps_on : (n m : ℕ) (s e : S) (front us vs : Tokens) → steps_run body b n s (front ++ us) ≡ Ok (e, us) → LooksSame front us vs → length (front ++ us) ≤ n → length (front ++ vs) ≤ m → steps_run body b m s (front ++ vs) ≡ Ok (e, vs)
+  steps_on : (n m : ℕ) (s e : S) (front us vs : Tokens) → steps_run body b n s (front ++ us) ≡ Ok (e, us) → LooksSame front us vs → length (front ++ us) ≤ n
+      → length (front ++ vs) ≤ m → steps_run body b m s (front ++ vs) ≡ Ok (e, vs)
   steps_on zero m s e front us vs h w le lm =
       let none = both_empty front us le in
       let v = same_value s e (front ++ us) us h in
@@ -153,8 +170,11 @@ module _ {S : Type 0} (body : S → Rule S) (b b1 b2 stop : Set) (laws : (s : S)
             rw (none, v.0) (steps_end (suc m) s vs off)
       ]
 
-  step_stop : (n m : ℕ) (s : S) (front us vs : Tokens) (u : Token) → ((t : S) (second : Tokens) → steps_run body b n t (second ++ (u ∷ us)) ≡ Err (refusal (u ∷ us)) → LooksSame second (u ∷ us) (u ∷ vs) → length (second ++ (u ∷ vs)) ≤ m → steps_run body b m t (second ++ (u ∷ vs)) ≡ Err (refusal (u ∷ vs)))
-      → b (ahead (front ++ (u ∷ vs))) ≡ true → and_then ((body s).run (front ++ (u ∷ us))) (steps_run body b n) ≡ Err (refusal (u ∷ us)) → LooksSame front (u ∷ us) (u ∷ vs) → length (front ++ (u ∷ vs)) ≤ suc m
+  step_stop : (n m : ℕ) (s : S) (front us vs : Tokens) (u : Token)
+      → ((t : S) (second : Tokens) → steps_run body b n t (second ++ (u ∷ us)) ≡ Err (refusal (u ∷ us)) → LooksSame second (u ∷ us) (u ∷ vs)
+      → length (second ++ (u ∷ vs)) ≤ m → steps_run body b m t (second ++ (u ∷ vs)) ≡ Err (refusal (u ∷ vs)))
+      → b (ahead (front ++ (u ∷ vs))) ≡ true → and_then ((body s).run (front ++ (u ∷ us))) (steps_run body b n) ≡ Err (refusal (u ∷ us))
+      → LooksSame front (u ∷ us) (u ∷ vs) → length (front ++ (u ∷ vs)) ≤ suc m
       → steps_run body b (suc m) s (front ++ (u ∷ vs)) ≡ Err (refusal (u ∷ vs))
   step_stop n m s front us vs u more on h w lm =
       elim (and_then_err ((body s).run (front ++ (u ∷ us))) (steps_run body b n) (refusal (u ∷ us)) h) [
@@ -169,12 +189,14 @@ module _ {S : Type 0} (body : S → Rule S) (b b1 b2 stop : Set) (laws : (s : S)
             rw (on, p.0) later
       ]
 
-  steps_stop : (n m : ℕ) (s : S) (front us vs : Tokens) (u : Token) → steps_run body b n s (front ++ (u ∷ us)) ≡ Err (refusal (u ∷ us)) → LooksSame front (u ∷ us) (u ∷ vs) → length (front ++ (u ∷ vs)) ≤ m
+  steps_stop : (n m : ℕ) (s : S) (front us vs : Tokens) (u : Token) → steps_run body b n s (front ++ (u ∷ us)) ≡ Err (refusal (u ∷ us))
+      → LooksSame front (u ∷ us) (u ∷ vs) → length (front ++ (u ∷ vs)) ≤ m
       → steps_run body b m s (front ++ (u ∷ vs)) ≡ Err (refusal (u ∷ vs))
   steps_stop zero m s front us vs u h w lm = absurd cc
   steps_stop (suc n) zero s front us vs u h w lm = absurd (omega (arith, length-append front (u ∷ vs)))
   steps_stop (suc n) (suc m) s front us vs u h w lm =
-      elim (chosen (b (ahead (front ++ (u ∷ us)))) (and_then ((body s).run (front ++ (u ∷ us))) (steps_run body b n)) (Ok (s, front ++ (u ∷ us))) (Err (refusal (u ∷ us))) h) [
+      elim (chosen (b (ahead (front ++ (u ∷ us)))) (and_then ((body s).run (front ++ (u ∷ us))) (steps_run body b n)) (Ok (s, front ++ (u ∷ us)))
+      (Err (refusal (u ∷ us))) h) [
         | inl x ↦ step_stop n m s front us vs u (λ t second. steps_stop n m t second us vs u) (ap b (sym (same_here front (u ∷ us) (u ∷ vs) w)) ∙ x.0) x.1 w lm
         | inr x ↦ absurd cc
       ]

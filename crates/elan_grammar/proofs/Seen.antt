@@ -53,21 +53,24 @@ pub ahead-is : (t : Token) (ts : Tokens) → is_special (kind_of t.what) ≡ fal
 unfolding ahead
 ahead-is t ts h = by_next-is (kind_of t.what) ts h
 
-bold_stays : (p : Set) → ((t : Tier) → p (k.Bold t) ≡ true → p (k.TypeName t) ≡ true) → (t : Tier) (next : Kind) → p (k.Bold t) ≡ true → p (bold_by t next) ≡ true
+bold_stays : (p : Set) → ((t : Tier) → p (k.Bold t) ≡ true → p (k.TypeName t) ≡ true) → (t : Tier) (next : Kind) → p (k.Bold t) ≡ true
+    → p (bold_by t next) ≡ true
 bold_stays p h t (k.Key key.Var) e = h t e
 bold_stays p h t (k.Key key.Const) e = h t e
 bold_stays p h t (k.Key key.Proc) e = h t e
 bold_stays p h t (k.Key key.Op) e = h t e
 bold_stays p h t _ e = e
 
-stays_by : (p : Set) → ((t : Tier) → p (k.Bold t) ≡ true → p (k.TypeName t) ≡ true) → Apart p is_mark → (v : Kind) (ts : Tokens) → p v ≡ true → p (by_next v ts) ≡ true
+stays_by : (p : Set) → ((t : Tier) → p (k.Bold t) ≡ true → p (k.TypeName t) ≡ true) → Apart p is_mark → (v : Kind) (ts : Tokens) → p v ≡ true
+    → p (by_next v ts) ≡ true
 stays_by p h a (k.Sign sign.Point) ts e = let c = a (k.Sign sign.Point) e in absurd cc
 stays_by p h a (k.Sign sign.Comma) ts e = let c = a (k.Sign sign.Comma) e in absurd cc
 stays_by p h a (k.Bold t) ts e = bold_stays p h t (kind ts) e
 stays_by p h a _ ts e = e
 
 -- a set that doesn't look at what follows a bold word
-pub stays : (p : Set) → ((t : Tier) → p (k.Bold t) ≡ true → p (k.TypeName t) ≡ true) → Apart p is_mark → (t : Token) (ts : Tokens) → p (kind_of t.what) ≡ true → p (ahead (t ∷ ts)) ≡ true
+pub stays : (p : Set) → ((t : Tier) → p (k.Bold t) ≡ true → p (k.TypeName t) ≡ true) → Apart p is_mark → (t : Token) (ts : Tokens) → p (kind_of t.what) ≡ true
+    → p (ahead (t ∷ ts)) ≡ true
 unfolding ahead
 stays p h a t ts e = stays_by p h a (kind_of t.what) ts e
 

@@ -46,13 +46,15 @@ pub given : {A : Type 0} (b : Bool) (x y : A) → cond b (Some x) None ≡ Some 
 given true x y e = refl
 given false x y e = absurd cc
 
-plain_law : {A : Type 0} (f : Token → Option A) (first stop : Set) → ((t : Token) (a : A) → f t ≡ Some a → first (kind_of t.what) ≡ true) → Apart first is_special → Laws (terminal f) first stop
+plain_law : {A : Type 0} (f : Token → Option A) (first stop : Set) → ((t : Token) (a : A) → f t ≡ Some a → first (kind_of t.what) ≡ true)
+    → Apart first is_special → Laws (terminal f) first stop
 plain_law f first stop shows apart = terminal_law f first stop (λ t ts a h s.
     let is = shows t a h in
     rw (ahead-is t ts (apart (kind_of t.what) is)) is)
 
 -- of a token that may be a bold word
-loose_law : {A : Type 0} (f : Token → Option A) (first stop : Set) → ((t : Token) (a : A) → f t ≡ Some a → first (kind_of t.what) ≡ true) → ((r : Tier) → first (k.Bold r) ≡ true → first (k.TypeName r) ≡ true) → Apart first is_mark → Laws (terminal f) first stop
+loose_law : {A : Type 0} (f : Token → Option A) (first stop : Set) → ((t : Token) (a : A) → f t ≡ Some a → first (kind_of t.what) ≡ true)
+    → ((r : Tier) → first (k.Bold r) ≡ true → first (k.TypeName r) ≡ true) → Apart first is_mark → Laws (terminal f) first stop
 loose_law f first stop shows same apart = terminal_law f first stop (λ t ts a h s. stays first same apart t ts (shows t a h))
 
 -- ---- rules of one token read something
@@ -61,7 +63,8 @@ loose_law f first stop shows same apart = terminal_law f first stop (λ t ts a h
 abbrev pub a_token : Word → Token
 a_token v = record { what = v; at = 1; len = 1 }
 
-full : {A : Type 0} (f : Token → Option A) (first stop : Set) (v : Word) (a : A) → f (a_token v) ≡ Some a → Laws (terminal f) first stop → Full (terminal f) first stop
+full : {A : Type 0} (f : Token → Option A) (first stop : Set) (v : Word) (a : A) → f (a_token v) ≡ Some a → Laws (terminal f) first stop
+    → Full (terminal f) first stop
 full f first stop v a h l = record { laws = l; sample = taking f (a_token v) a h }
 
 key_taken : (x : Key) → terminals.place_if (is_key x) (a_token (w.Key x)) ≡ Some 1
@@ -77,20 +80,29 @@ key_apart x (k.Key y) h = refl
 key_apart x _ h = absurd cc
 
 pub keyword_law : (x : Key) (stop : Set) → Full (terminals.keyword x) (is_key x) stop
-keyword_law x stop = full (terminals.place_if (is_key x)) (is_key x) stop (w.Key x) 1 (key_taken x) (plain_law (terminals.place_if (is_key x)) (is_key x) stop (λ t a h. given (is_key x (kind_of t.what)) t.at a h) (key_apart x))
+keyword_law x stop =
+    full (terminals.place_if (is_key x)) (is_key x) stop (w.Key x) 1 (key_taken x)
+    (plain_law (terminals.place_if (is_key x)) (is_key x) stop (λ t a h. given (is_key x (kind_of t.what)) t.at a h) (key_apart x))
 
 pub end_law : (x : Key) (stop : Set) → Full (terminals.end_of x) (is_key key.End) stop
 unfolding terminals.end_of
-end_law x stop = bind_law (terminals.keyword key.End) _ (is_key key.End) (is_key x) (is_key x) stop (keyword_law key.End (is_key x)) (λ _. keyword_law x stop) (λ k h. h)
+end_law x stop =
+    bind_law (terminals.keyword key.End) _ (is_key key.End) (is_key x) (is_key x) stop (keyword_law key.End (is_key x)) (λ _. keyword_law x stop) (λ k h. h)
 
 pub mark_law : (x : Sign) (stop : Set) → every (λ y. implies (is_sign x y) (not (is_special y))) ≡ true → Full (terminals.mark x) (is_sign x) stop
-mark_law x stop e = full _ (is_sign x) stop (w.Sign x) 1 (sign_taken x) (plain_law (terminals.place_if (is_sign x)) (is_sign x) stop (λ t a h. given (is_sign x (kind_of t.what)) t.at a h) (apart (is_sign x) is_special e))
+mark_law x stop e =
+    full _ (is_sign x) stop (w.Sign x) 1 (sign_taken x)
+    (plain_law (terminals.place_if (is_sign x)) (is_sign x) stop (λ t a h. given (is_sign x (kind_of t.what)) t.at a h) (apart (is_sign x) is_special e))
 
 pub init_law : (stop : Set) → Full terminals.init_mark is_init stop
-init_law stop = full _ is_init stop (w.Sign sign.Becomes) 1 refl (plain_law (terminals.place_if is_init) is_init stop (λ t a h. given (is_init (kind_of t.what)) t.at a h) (apart is_init is_special refl))
+init_law stop =
+    full _ is_init stop (w.Sign sign.Becomes) 1 refl
+    (plain_law (terminals.place_if is_init) is_init stop (λ t a h. given (is_init (kind_of t.what)) t.at a h) (apart is_init is_special refl))
 
 pub rep_law : (stop : Set) → Full terminals.rep is_rep stop
-rep_law stop = full _ is_rep stop (w.Key key.Rep) 1 refl (plain_law (terminals.place_if is_rep) is_rep stop (λ t a h. given (is_rep (kind_of t.what)) t.at a h) (apart is_rep is_special refl))
+rep_law stop =
+    full _ is_rep stop (w.Key key.Rep) 1 refl
+    (plain_law (terminals.place_if is_rep) is_rep stop (λ t a h. given (is_rep (kind_of t.what)) t.at a h) (apart is_rep is_special refl))
 
 -- ---- points and commas
 
@@ -98,27 +110,44 @@ point_shows : (t : Token) (a : ℕ) → terminals.place_if (is_sign sign.Point) 
 point_shows t a h = given (is_sign sign.Point (kind_of t.what)) t.at a h
 
 pub point_law : (stop : Set) → Full (terminals.mark sign.Point) is_point stop
-point_law stop = full _ is_point stop (w.Sign sign.Point) 1 refl (terminal_law (terminals.place_if (is_sign sign.Point)) is_point stop (λ t ts a h s. rw (ahead-point t ts (point_shows t a h)) (pointed (kind ts) (second ts))))
+point_law stop =
+    full _ is_point stop (w.Sign sign.Point) 1 refl
+    (terminal_law (terminals.place_if (is_sign sign.Point)) is_point stop
+    (λ t ts a h s. rw (ahead-point t ts (point_shows t a h)) (pointed (kind ts) (second ts))))
 
 -- before an identifier
 pub leading_law : Full (terminals.mark sign.Point) leads is_ident
-leading_law = full _ leads is_ident (w.Sign sign.Point) 1 refl (terminal_law (terminals.place_if (is_sign sign.Point)) leads is_ident (λ t ts a h s. rw (ahead-point t ts (point_shows t a h)) (leading (kind ts) (second ts) (sym (ident_ahead ts) ∙ s))))
+leading_law =
+    full _ leads is_ident (w.Sign sign.Point) 1 refl
+    (terminal_law (terminals.place_if (is_sign sign.Point)) leads is_ident
+    (λ t ts a h s. rw (ahead-point t ts (point_shows t a h)) (leading (kind ts) (second ts) (sym (ident_ahead ts) ∙ s))))
 
 -- before anything else
 pub alone_law : (stop : Set) → Apart stop is_ident → Full (terminals.mark sign.Point) (is_sign sign.Point) stop
-alone_law stop e = full _ (is_sign sign.Point) stop (w.Sign sign.Point) 1 refl (terminal_law (terminals.place_if (is_sign sign.Point)) (is_sign sign.Point) stop (λ t ts a h s. rw (ahead-point t ts (point_shows t a h)) (alone (kind ts) (second ts) (sym (ident_ahead ts) ∙ e (ahead ts) s))))
+alone_law stop e =
+    full _ (is_sign sign.Point) stop (w.Sign sign.Point) 1 refl
+    (terminal_law (terminals.place_if (is_sign sign.Point)) (is_sign sign.Point) stop
+    (λ t ts a h s. rw (ahead-point t ts (point_shows t a h)) (alone (kind ts) (second ts) (sym (ident_ahead ts) ∙ e (ahead ts) s))))
 
 comma_shows : (t : Token) (a : ℕ) → terminals.place_if (is_sign sign.Comma) t ≡ Some a → is_sign sign.Comma (kind_of t.what) ≡ true
 comma_shows t a h = given (is_sign sign.Comma (kind_of t.what)) t.at a h
 
 pub comma_law : (stop : Set) → Full (terminals.mark sign.Comma) is_comma stop
-comma_law stop = full _ is_comma stop (w.Sign sign.Comma) 1 refl (terminal_law (terminals.place_if (is_sign sign.Comma)) is_comma stop (λ t ts a h s. rw (ahead-comma t ts (comma_shows t a h)) (commaed (kind ts))))
+comma_law stop =
+    full _ is_comma stop (w.Sign sign.Comma) 1 refl
+    (terminal_law (terminals.place_if (is_sign sign.Comma)) is_comma stop (λ t ts a h s. rw (ahead-comma t ts (comma_shows t a h)) (commaed (kind ts))))
 
 pub going_law : Full (terminals.mark sign.Comma) goes_on is_ident
-going_law = full _ goes_on is_ident (w.Sign sign.Comma) 1 refl (terminal_law (terminals.place_if (is_sign sign.Comma)) goes_on is_ident (λ t ts a h s. rw (ahead-comma t ts (comma_shows t a h)) (going_on (kind ts) (sym (ident_ahead ts) ∙ s))))
+going_law =
+    full _ goes_on is_ident (w.Sign sign.Comma) 1 refl
+    (terminal_law (terminals.place_if (is_sign sign.Comma)) goes_on is_ident
+    (λ t ts a h s. rw (ahead-comma t ts (comma_shows t a h)) (going_on (kind ts) (sym (ident_ahead ts) ∙ s))))
 
 pub parting_law : (stop : Set) → Apart stop is_ident → Full (terminals.mark sign.Comma) (is_sign sign.Comma) stop
-parting_law stop e = full _ (is_sign sign.Comma) stop (w.Sign sign.Comma) 1 refl (terminal_law (terminals.place_if (is_sign sign.Comma)) (is_sign sign.Comma) stop (λ t ts a h s. rw (ahead-comma t ts (comma_shows t a h)) (parting (kind ts) (sym (ident_ahead ts) ∙ e (ahead ts) s))))
+parting_law stop e =
+    full _ (is_sign sign.Comma) stop (w.Sign sign.Comma) 1 refl
+    (terminal_law (terminals.place_if (is_sign sign.Comma)) (is_sign sign.Comma) stop
+    (λ t ts a h s. rw (ahead-comma t ts (comma_shows t a h)) (parting (kind ts) (sym (ident_ahead ts) ∙ e (ahead ts) s))))
 
 -- ---- names
 
@@ -127,18 +156,25 @@ ident_shows at (w.Ident b) a e = refl
 ident_shows at _ a e = absurd cc
 
 pub ident_law : (stop : Set) → Full terminals.ident is_ident stop
-ident_law stop = full _ is_ident stop (w.Ident []) (terminals.named_at 1 []) refl (plain_law (terminals.in_word terminals.ident_of) is_ident stop (λ t a h. ident_shows t.at t.what a h) (apart is_ident is_special refl))
+ident_law stop =
+    full _ is_ident stop (w.Ident []) (terminals.named_at 1 []) refl
+    (plain_law (terminals.in_word terminals.ident_of) is_ident stop (λ t a h. ident_shows t.at t.what a h) (apart is_ident is_special refl))
 
 bold_shows : (at : ℕ) (v : Word) (a : Name) → terminals.bold_of at v ≡ Some a → is_bold (kind_of v) ≡ true
 bold_shows at (w.Bold b) a e = refl
 bold_shows at _ a e = absurd cc
 
 pub bold_law : (stop : Set) → Full terminals.bold is_bold stop
-bold_law stop = full _ is_bold stop (w.Bold []) (terminals.named_at 1 []) refl (loose_law (terminals.in_word terminals.bold_of) is_bold stop (λ t a h. bold_shows t.at t.what a h) (λ r e. refl) (apart is_bold is_mark refl))
+bold_law stop =
+    full _ is_bold stop (w.Bold []) (terminals.named_at 1 []) refl
+    (loose_law (terminals.in_word terminals.bold_of) is_bold stop (λ t a h. bold_shows t.at t.what a h) (λ r e. refl) (apart is_bold is_mark refl))
 
 -- before VAR, CONST, PROC or OP
 pub type_name_law : (stop : Set) → Within stop declares → Full terminals.bold is_type_name stop
-type_name_law stop e = full _ is_type_name stop (w.Bold []) (terminals.named_at 1 []) refl (terminal_law (terminals.in_word terminals.bold_of) is_type_name stop (λ t ts a h s. type_named t ts (bold_shows t.at t.what a h) (sym (declares_ahead ts) ∙ e (ahead ts) s)))
+type_name_law stop e =
+    full _ is_type_name stop (w.Bold []) (terminals.named_at 1 []) refl
+    (terminal_law (terminals.in_word terminals.bold_of) is_type_name stop
+    (λ t ts a h s. type_named t ts (bold_shows t.at t.what a h) (sym (declares_ahead ts) ∙ e (ahead ts) s)))
 
 abbrev pub is_leaving : Set
 is_leaving k.Ident = true
@@ -152,7 +188,10 @@ leaving_shows at (w.Bold b) a e = refl
 leaving_shows at _ a e = absurd cc
 
 pub leaving_law : (stop : Set) → Full (terminals.word terminals.leaving_of) is_leaving stop
-leaving_law stop = full _ is_leaving stop (w.Ident []) (terminals.named_at 1 []) refl (loose_law (terminals.in_word terminals.leaving_of) is_leaving stop (λ t a h. leaving_shows t.at t.what a h) (λ r e. refl) (apart is_leaving is_mark refl))
+leaving_law stop =
+    full _ is_leaving stop (w.Ident []) (terminals.named_at 1 []) refl
+    (loose_law (terminals.in_word terminals.leaving_of) is_leaving stop (λ t a h. leaving_shows t.at t.what a h) (λ r e. refl)
+    (apart is_leaving is_mark refl))
 
 same_shows : (x : Name) (at : ℕ) (v : Word) (a : Unit {0}) → terminals.same_of x at v ≡ Some a → is_ident (kind_of v) ≡ true
 same_shows x at (w.Ident b) a e = refl
@@ -190,7 +229,9 @@ simple_shows at (w.Key key.Dataspace) a e = refl
 simple_shows at _ a e = absurd cc
 
 pub simple_law : (stop : Set) → Full (terminals.word terminals.simple_of) is_simple stop
-simple_law stop = full _ is_simple stop (w.Key key.Int) (ty.Int 1) refl (plain_law (terminals.in_word terminals.simple_of) is_simple stop (λ t a h. simple_shows t.at t.what a h) (apart is_simple is_special refl))
+simple_law stop =
+    full _ is_simple stop (w.Key key.Int) (ty.Int 1) refl
+    (plain_law (terminals.in_word terminals.simple_of) is_simple stop (λ t a h. simple_shows t.at t.what a h) (apart is_simple is_special refl))
 
 size_shows : (at : ℕ) (v : Word) (a : Size) → terminals.size_of at v ≡ Some a → is_size (kind_of v) ≡ true
 size_shows at (w.Number n) a e = refl
@@ -198,7 +239,9 @@ size_shows at (w.Ident b) a e = refl
 size_shows at _ a e = absurd cc
 
 pub size_law : (stop : Set) → Full (terminals.word terminals.size_of) is_size stop
-size_law stop = full _ is_size stop (w.Ident []) (size.Named (terminals.named_at 1 [])) refl (plain_law (terminals.in_word terminals.size_of) is_size stop (λ t a h. size_shows t.at t.what a h) (apart is_size is_special refl))
+size_law stop =
+    full _ is_size stop (w.Ident []) (size.Named (terminals.named_at 1 [])) refl
+    (plain_law (terminals.in_word terminals.size_of) is_size stop (λ t a h. size_shows t.at t.what a h) (apart is_size is_special refl))
 
 access_shows : (at : ℕ) (v : Word) (a : Access) → terminals.access_of at v ≡ Some a → is_access (kind_of v) ≡ true
 access_shows at (w.Key key.Const) a e = refl
@@ -206,7 +249,9 @@ access_shows at (w.Key key.Var) a e = refl
 access_shows at _ a e = absurd cc
 
 pub access_law : (stop : Set) → Full (terminals.word terminals.access_of) is_access stop
-access_law stop = full _ is_access stop (w.Key key.Const) (access.Const) refl (plain_law (terminals.in_word terminals.access_of) is_access stop (λ t a h. access_shows t.at t.what a h) (apart is_access is_special refl))
+access_law stop =
+    full _ is_access stop (w.Key key.Const) (access.Const) refl
+    (plain_law (terminals.in_word terminals.access_of) is_access stop (λ t a h. access_shows t.at t.what a h) (apart is_access is_special refl))
 
 constant_shows : (at : ℕ) (v : Word) (a : Constant) → terminals.constant_of at v ≡ Some a → is_literal (kind_of v) ≡ true
 constant_shows at (w.Number n) a e = refl
@@ -216,7 +261,9 @@ constant_shows at (w.Key key.False) a e = refl
 constant_shows at _ a e = absurd cc
 
 pub constant_law : (stop : Set) → Full (terminals.word terminals.constant_of) is_literal stop
-constant_law stop = full _ is_literal stop (w.Key key.True) (constant.Truth 1 true) refl (plain_law (terminals.in_word terminals.constant_of) is_literal stop (λ t a h. constant_shows t.at t.what a h) (apart is_literal is_special refl))
+constant_law stop =
+    full _ is_literal stop (w.Key key.True) (constant.Truth 1 true) refl
+    (plain_law (terminals.in_word terminals.constant_of) is_literal stop (λ t a h. constant_shows t.at t.what a h) (apart is_literal is_special refl))
 
 label_shows : (at : ℕ) (v : Word) (a : Label) → terminals.label_of at v ≡ Some a → is_size (kind_of v) ≡ true
 label_shows at (w.Number n) a e = refl
@@ -224,7 +271,9 @@ label_shows at (w.Ident b) a e = refl
 label_shows at _ a e = absurd cc
 
 pub label_law : (stop : Set) → Full (terminals.word terminals.label_of) is_size stop
-label_law stop = full _ is_size stop (w.Ident []) (label.Named (terminals.named_at 1 [])) refl (plain_law (terminals.in_word terminals.label_of) is_size stop (λ t a h. label_shows t.at t.what a h) (apart is_size is_special refl))
+label_law stop =
+    full _ is_size stop (w.Ident []) (label.Named (terminals.named_at 1 [])) refl
+    (plain_law (terminals.in_word terminals.label_of) is_size stop (λ t a h. label_shows t.at t.what a h) (apart is_size is_special refl))
 
 literal_shows : (at : ℕ) (v : Word) (a : Expr) → terminals.literal_of at v ≡ Some a → is_literal (kind_of v) ≡ true
 literal_shows at (w.Number n) a e = refl
@@ -234,14 +283,18 @@ literal_shows at (w.Key key.False) a e = refl
 literal_shows at _ a e = absurd cc
 
 pub literal_law : (stop : Set) → Full (terminals.word terminals.literal_of) is_literal stop
-literal_law stop = full _ is_literal stop (w.Key key.True) (e.Truth 1 true) refl (plain_law (terminals.in_word terminals.literal_of) is_literal stop (λ t a h. literal_shows t.at t.what a h) (apart is_literal is_special refl))
+literal_law stop =
+    full _ is_literal stop (w.Key key.True) (e.Truth 1 true) refl
+    (plain_law (terminals.in_word terminals.literal_of) is_literal stop (λ t a h. literal_shows t.at t.what a h) (apart is_literal is_special refl))
 
 negated_shows : (at : ℕ) (v : Word) (a : ℤ) → terminals.negated_of at v ≡ Some a → is_number (kind_of v) ≡ true
 negated_shows at (w.Number n) a e = refl
 negated_shows at _ a e = absurd cc
 
 pub negated_law : (stop : Set) → Full (terminals.word terminals.negated_of) is_number stop
-negated_law stop = full _ is_number stop (w.Number (pos 0)) (neg_ℤ (pos 0)) refl (plain_law (terminals.in_word terminals.negated_of) is_number stop (λ t a h. negated_shows t.at t.what a h) (apart is_number is_special refl))
+negated_law stop =
+    full _ is_number stop (w.Number (pos 0)) (neg_ℤ (pos 0)) refl
+    (plain_law (terminals.in_word terminals.negated_of) is_number stop (λ t a h. negated_shows t.at t.what a h) (apart is_number is_special refl))
 
 -- ---- operators
 
@@ -290,7 +343,9 @@ operator_apart : Apart is_operator is_mark
 operator_apart = apart is_operator is_mark refl
 
 pub operator_law : (stop : Set) → Full (terminals.word terminals.operator_of) is_operator stop
-operator_law stop = full _ is_operator stop (w.Bold []) (record { at = 1; operator = op.Named [] }) refl (loose_law (terminals.in_word terminals.operator_of) is_operator stop (λ t a h. operator_shows t.at t.what a h) (λ r e. refl) operator_apart)
+operator_law stop =
+    full _ is_operator stop (w.Bold []) (record { at = 1; operator = op.Named [] }) refl
+    (loose_law (terminals.in_word terminals.operator_of) is_operator stop (λ t a h. operator_shows t.at t.what a h) (λ r e. refl) operator_apart)
 
 and_first : (a b : Bool) → (a && b) ≡ true → a ≡ true
 and_first true b e = refl
@@ -302,7 +357,9 @@ same_operator_shows (op.Sign x) (w.Sign y) e = and_first (is_symbol y) (same_sig
 same_operator_shows _ _ e = absurd cc
 
 pub same_operator_law : (o : OperatorName) (stop : Set) → Laws (terminals.word (terminals.same_operator_of o)) is_operator stop
-same_operator_law o stop = loose_law (terminals.in_word (terminals.same_operator_of o)) is_operator stop (λ t a h. same_operator_shows o.operator t.what (given (terminals.same_operator o.operator t.what) tt a h)) (λ r e. refl) operator_apart
+same_operator_law o stop =
+    loose_law (terminals.in_word (terminals.same_operator_of o)) is_operator stop
+    (λ t a h. same_operator_shows o.operator t.what (given (terminals.same_operator o.operator t.what) tt a h)) (λ r e. refl) operator_apart
 
 abbrev pub is_export : Set
 is_export k.Ident = true
@@ -318,4 +375,6 @@ export_shows at (w.Sign x) a e = given (is_symbol x) (export.Sign at x) a e
 export_shows at _ a e = absurd cc
 
 pub export_law : (stop : Set) → Full (terminals.word terminals.export_of) is_export stop
-export_law stop = full _ is_export stop (w.Ident []) (export.Ident (terminals.named_at 1 [])) refl (loose_law (terminals.in_word terminals.export_of) is_export stop (λ t a h. export_shows t.at t.what a h) (λ r e. refl) (apart is_export is_mark refl))
+export_law stop =
+    full _ is_export stop (w.Ident []) (export.Ident (terminals.named_at 1 [])) refl
+    (loose_law (terminals.in_word terminals.export_of) is_export stop (λ t a h. export_shows t.at t.what a h) (λ r e. refl) (apart is_export is_mark refl))

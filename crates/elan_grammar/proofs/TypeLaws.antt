@@ -63,8 +63,11 @@ module _ (inner : Rule TypePhrase) (laws : (stop : Set) → Full inner any_type 
 
   fields_law : Full (g.fields inner) any_type (is_sign sign.RightRound)
   unfolding g.fields
-  fields_law = listed_law is_comma _ _ (is_sign sign.Comma) any_type after_field (is_sign sign.RightRound) (parting_law any_type (apart any_type is_ident refl)) field_law
-      (within (is_sign sign.Comma) is_comma refl) (within (is_sign sign.Comma) after_field refl) (within (is_sign sign.RightRound) after_field refl) (apart (is_sign sign.RightRound) is_comma refl) refl
+  fields_law =
+      listed_law is_comma _ _ (is_sign sign.Comma) any_type after_field (is_sign sign.RightRound) (parting_law any_type (apart any_type is_ident refl))
+      field_law
+      (within (is_sign sign.Comma) is_comma refl) (within (is_sign sign.Comma) after_field refl) (within (is_sign sign.RightRound) after_field refl)
+      (apart (is_sign sign.RightRound) is_comma refl) refl
 
 module _ (inner : Rule TypePhrase) (n : ℕ) (laws : nat_lt 0 n ≡ true → (stop : Set) → Full inner any_type stop) where
   named_type_law : (p stop : Set) → Full bold p stop → Full (g.named_type inner) p stop
@@ -115,7 +118,9 @@ type_law n some stop = types_law n some is_bold stop (bold_law stop) (λ x h. h)
 
 -- before VAR, CONST, PROC and OP
 pub typed_law : (n : ℕ) (stop : Set) → Within stop declares → Laws (g.types n) begins_typed stop
-typed_law n stop w = wider_part _ _ _ stop (types_part n is_type_name stop (type_name_law stop w) (within is_type_name is_bold refl)) (within (type_first is_type_name) begins_typed refl)
+typed_law n stop w =
+    wider_part _ _ _ stop (types_part n is_type_name stop (type_name_law stop w) (within is_type_name is_bold refl))
+    (within (type_first is_type_name) begins_typed refl)
 
 formal_law : (n : ℕ) → nat_lt 0 n ≡ true → Full (g.formal n) any_type after_field
 unfolding g.formal
@@ -127,8 +132,11 @@ formal_law n some =
 
 pub formals_law : (n : ℕ) → nat_lt 0 n ≡ true → Full (g.formals n) any_type (is_sign sign.RightRound)
 unfolding g.formals
-formals_law n some = listed_law is_comma _ _ (is_sign sign.Comma) any_type after_field (is_sign sign.RightRound) (parting_law any_type (apart any_type is_ident refl)) (formal_law n some)
-    (within (is_sign sign.Comma) is_comma refl) (within (is_sign sign.Comma) after_field refl) (within (is_sign sign.RightRound) after_field refl) (apart (is_sign sign.RightRound) is_comma refl) refl
+formals_law n some =
+    listed_law is_comma _ _ (is_sign sign.Comma) any_type after_field (is_sign sign.RightRound) (parting_law any_type (apart any_type is_ident refl))
+    (formal_law n some)
+    (within (is_sign sign.Comma) is_comma refl) (within (is_sign sign.Comma) after_field refl) (within (is_sign sign.RightRound) after_field refl)
+    (apart (is_sign sign.RightRound) is_comma refl) refl
 
 negative_law : (stop : Set) → Full g.negative (is_sign sign.Minus) stop
 unfolding g.negative
@@ -174,7 +182,9 @@ let_item_law n stop =
 
 pub let_items_law : (n : ℕ) (stop : Set) → Apart stop is_comma → Full (g.let_items n) begins_let_item stop
 unfolding g.let_items
-let_items_law n stop ap = listed_law is_comma _ _ is_comma begins_let_item always stop (comma_law begins_let_item) (let_item_law n always) (λ x h. h) (λ x h. refl) (λ x h. refl) ap refl
+let_items_law n stop ap =
+    listed_law is_comma _ _ is_comma begins_let_item always stop (comma_law begins_let_item) (let_item_law n always) (λ x h. h) (λ x h. refl) (λ x h. refl)
+    ap refl
 
 negative_label_law : (stop : Set) → Full g.negative_label (is_sign sign.Minus) stop
 unfolding g.negative_label
@@ -194,4 +204,5 @@ label_rule_law stop =
 
 pub labels_law : (stop : Set) → Apart stop is_comma → Full g.labels begins_label stop
 unfolding g.labels
-labels_law stop ap = listed_law is_comma _ _ is_comma begins_label always stop (comma_law begins_label) (label_rule_law always) (λ x h. h) (λ x h. refl) (λ x h. refl) ap refl
+labels_law stop ap =
+    listed_law is_comma _ _ is_comma begins_label always stop (comma_law begins_label) (label_rule_law always) (λ x h. h) (λ x h. refl) (λ x h. refl) ap refl

@@ -66,24 +66,30 @@ module _ (inner : Language) (n : ℕ) (laws : LanguageLaws inner) where
   inner_law = laws.levels 6 (omega arith)
 
   -- a keyword and an expression that may be left out
-  part_law : (x : _) (stop first : Set) → Within stop (ends_level 6) → Apart stop (is_key x) → Within (is_key x) first → Within stop first → Full (optional (is_key x) (keyword x >> inner.level 6)) first stop
+  part_law : (x : _) (stop first : Set) → Within stop (ends_level 6) → Apart stop (is_key x) → Within (is_key x) first → Within stop first
+      → Full (optional (is_key x) (keyword x >> inner.level 6)) first stop
   part_law x stop first w ap fx fs =
-      optional_law (is_key x) _ (is_key x) stop first (bind_same _ _ _ _ _ (keyword_law x begins) (λ _. narrower _ _ _ stop inner_law w)).laws (λ y h. h) ap fx fs
+      optional_law (is_key x) _ (is_key x) stop first (bind_same _ _ _ _ _ (keyword_law x begins) (λ _. narrower _ _ _ stop inner_law w)).laws (λ y h. h) ap fx
+      fs
 
   with_part_law : Full (g.with_part inner n) after_leaving ends_unit
   unfolding g.key_part
-  with_part_law = part_law key.With ends_unit after_leaving (within ends_unit (ends_level 6) refl) (apart ends_unit (is_key key.With) refl) (within (is_key key.With) after_leaving refl) (within ends_unit after_leaving refl)
+  with_part_law =
+      part_law key.With ends_unit after_leaving (within ends_unit (ends_level 6) refl) (apart ends_unit (is_key key.With) refl)
+      (within (is_key key.With) after_leaving refl) (within ends_unit after_leaving refl)
 
   upto_law : Full (g.upto inner n) (is_key key.Upto) after_limit
   unfolding g.upto
   upto_law =
-      bind_same _ _ _ _ _ (bind_same _ _ _ _ _ (keyword_law key.Upto begins) (λ _. narrower _ _ _ after_limit inner_law (within after_limit (ends_level 6) refl))) (λ a.
+      bind_same _ _ _ _ _ (bind_same _ _ _ _ _ (keyword_law key.Upto begins)
+      (λ _. narrower _ _ _ after_limit inner_law (within after_limit (ends_level 6) refl))) (λ a.
       pure_law _ after_limit)
 
   downto_law : Full (g.downto inner n) (is_key key.Downto) after_limit
   unfolding g.downto
   downto_law =
-      bind_same _ _ _ _ _ (bind_same _ _ _ _ _ (keyword_law key.Downto begins) (λ _. narrower _ _ _ after_limit inner_law (within after_limit (ends_level 6) refl))) (λ a.
+      bind_same _ _ _ _ _ (bind_same _ _ _ _ _ (keyword_law key.Downto begins)
+      (λ _. narrower _ _ _ after_limit inner_law (within after_limit (ends_level 6) refl))) (λ a.
       pure_law _ after_limit)
 
   a_limit_law : Full (g.a_limit inner n) after_from after_limit
@@ -96,7 +102,9 @@ module _ (inner : Language) (n : ℕ) (laws : LanguageLaws inner) where
 
   from_part_law : Full (g.from_part inner n) after_counter_name after_from
   unfolding g.key_part
-  from_part_law = part_law key.From after_from after_counter_name (within after_from (ends_level 6) refl) (apart after_from (is_key key.From) refl) (within (is_key key.From) after_counter_name refl) (within after_from after_counter_name refl)
+  from_part_law =
+      part_law key.From after_from after_counter_name (within after_from (ends_level 6) refl) (apart after_from (is_key key.From) refl)
+      (within (is_key key.From) after_counter_name refl) (within after_from after_counter_name refl)
 
   counter_law : Full (g.counter inner n) is_ident after_limit
   unfolding g.counter
@@ -108,7 +116,9 @@ module _ (inner : Language) (n : ℕ) (laws : LanguageLaws inner) where
 
   until_part_law : Full (g.until_part inner n) after_turns is_loop_end
   unfolding g.key_part
-  until_part_law = part_law key.Until is_loop_end after_turns (within is_loop_end (ends_level 6) refl) (apart is_loop_end (is_key key.Until) refl) (within (is_key key.Until) after_turns refl) (within is_loop_end after_turns refl)
+  until_part_law =
+      part_law key.Until is_loop_end after_turns (within is_loop_end (ends_level 6) refl) (apart is_loop_end (is_key key.Until) refl)
+      (within (is_key key.Until) after_turns refl) (within is_loop_end after_turns refl)
 
   turn_parts_law : (stop : Set) → Full (g.turn_parts inner n) is_rep stop
   unfolding g.turn_parts
@@ -125,7 +135,9 @@ module _ (inner : Language) (n : ℕ) (laws : LanguageLaws inner) where
 
   while_part_law : Full (g.while_part inner n) after_limit is_rep
   unfolding g.key_part
-  while_part_law = part_law key.While is_rep after_limit (within is_rep (ends_level 6) refl) (apart is_rep (is_key key.While) refl) (within (is_key key.While) after_limit refl) (within is_rep after_limit refl)
+  while_part_law =
+      part_law key.While is_rep after_limit (within is_rep (ends_level 6) refl) (apart is_rep (is_key key.While) refl)
+      (within (is_key key.While) after_limit refl) (within is_rep after_limit refl)
 
 module _ (inner : Language) (n : ℕ) (laws : nat_lt 0 n ≡ true → LanguageLaws inner) where
   e1_law : Full (level inner n 6) begins (ends_level 6)
@@ -149,7 +161,8 @@ module _ (inner : Language) (n : ℕ) (laws : nat_lt 0 n ≡ true → LanguageLa
   unfolding g.item
   item_law =
       bind_same _ _ _ _ _ (ident_law after_item_name) (λ x.
-      bind_same _ _ _ _ _ (optional_law is_init _ is_init after_item after_item_name init_item_law.laws (λ x h. h) (apart after_item is_init refl) (within is_init after_item_name refl) (within after_item after_item_name refl)) (λ i.
+      bind_same _ _ _ _ _ (optional_law is_init _ is_init after_item after_item_name init_item_law.laws (λ x h. h) (apart after_item is_init refl)
+      (within is_init after_item_name refl) (within after_item after_item_name refl)) (λ i.
       pure_law _ after_item))
 
   items_law : Full (g.items inner n) is_ident ends_unit
@@ -187,7 +200,8 @@ module _ (inner : Language) (n : ℕ) (laws : nat_lt 0 n ≡ true → LanguageLa
   unfolding g.declared
   declared_law t =
       choose_law (is_key key.Var) _ _ (is_key key.Var) (is_key key.Const) begins_declared ends_unit (variables_law t).laws (constants_law t)
-      (λ x h. h) (apart (is_key key.Const) (is_key key.Var) refl) (within (is_key key.Var) begins_declared refl) (within (is_key key.Const) begins_declared refl)
+      (λ x h. h) (apart (is_key key.Const) (is_key key.Var) refl) (within (is_key key.Var) begins_declared refl)
+      (within (is_key key.Const) begins_declared refl)
 
   declaration_law : Laws (g.declaration inner n) begins_typed ends_unit
   unfolding g.declaration
@@ -296,7 +310,8 @@ module _ (inner : Language) (n : ℕ) (laws : nat_lt 0 n ≡ true → LanguageLa
 
   units_law : Full (g.units inner n) begins_unit ends_units
   unfolding g.units
-  units_law = listed_law (is_sign sign.Semicolon) _ _ (is_sign sign.Semicolon) begins_unit ends_unit ends_units (mark_law sign.Semicolon begins_unit refl) unit_law
+  units_law =
+      listed_law (is_sign sign.Semicolon) _ _ (is_sign sign.Semicolon) begins_unit ends_unit ends_units (mark_law sign.Semicolon begins_unit refl) unit_law
       (λ x h. h) (within (is_sign sign.Semicolon) ends_unit refl) (within ends_units ends_unit refl) (apart ends_units (is_sign sign.Semicolon) refl) refl
 
 pub phrases_law : (n : ℕ) → nat_lt 0 n ≡ true → LanguageLaws (g.phrases n)

@@ -18,7 +18,8 @@ use Rattle.elan_grammar.specs.Terminals.{word, keyword, end_of, mark, ident, lit
 use Rattle.elan_grammar.specs.Types.{labels}
 use Rattle.elan_grammar.specs.Depth.{expr_depth, expr_place}
 
--- Phrases of some depth: expressions whose operators hold as tightly as a level or more tightly (6 for all, 0 for none that stands between two operands), and lists of units.
+-- Phrases of some depth: expressions whose operators hold as tightly as a level or more tightly (6 for all, 0 for none that stands between
+-- two operands), and lists of units.
 pub record Language : Type 1 where
   pub level : ℕ → Rule Expr
   pub units : Rule (List Phrase)
@@ -163,7 +164,10 @@ module _ (inner : Language) (n : ℕ) where
 
   -- number | textdenoter | TRUE | FALSE | "(" e1 ")" | CONCR "(" e1 ")" | if | select | ident [ "(" actuals ")" ]
   unfoldable pub head : Rule Expr
-  head = choose is_literal (word literal_of) (choose (is_sign sign.LeftRound) bracket (choose (is_key key.Concr) concr (choose (is_key key.If) choice (choose (is_key key.Select) selection named))))
+  head =
+      choose is_literal (word literal_of)
+      (choose (is_sign sign.LeftRound) bracket
+      (choose (is_key key.Concr) concr (choose (is_key key.If) choice (choose (is_key key.Select) selection named))))
 
   -- "[" e1 "]", behind an expression of this depth
   unfoldable pub index_part : ℕ → Rule Expr

@@ -221,7 +221,9 @@ module _ (most in_body : ℕ) where
 
   -- lunit | TYPE BOLD "=" type | proc | op
   unfoldable pub level_unit : Rule LevelUnit
-  level_unit = choose begins_typed typed_unit (choose (is_key key.TypeWord) new_type (choose (is_key key.Proc) (proc None) (choose (is_key key.Op) (operator None) plain_unit)))
+  level_unit =
+      choose begins_typed typed_unit
+      (choose (is_key key.TypeWord) new_type (choose (is_key key.Proc) (proc None) (choose (is_key key.Op) (operator None) plain_unit)))
 
   -- unit { ";" unit }
   unfoldable pub level_units : Rule (List LevelUnit)

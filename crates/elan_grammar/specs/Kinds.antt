@@ -45,7 +45,9 @@ word_mod = 77 ∷ 79 ∷ 68 ∷ []
 
 -- where a bold word stands as an operator
 abbrev pub tier_of : List ℕ → Tier
-tier_of b = if bytes_eq b word_and then tier.And else (if bytes_eq b word_or then tier.Or else (if bytes_eq b word_div || bytes_eq b word_mod then tier.Times else tier.Other))
+tier_of b =
+    if bytes_eq b word_and then tier.And
+    else (if bytes_eq b word_or then tier.Or else (if bytes_eq b word_div || bytes_eq b word_mod then tier.Times else tier.Other))
 
 abbrev pub kind_of : Word → Kind
 kind_of (w.Ident b) = k.Ident

@@ -26,11 +26,6 @@ use Rattle.elan_judge.proofs.Shapes.{case_labels}
 
 -- ---- what a function hands on
 
-pub fails_is : {A : Type 0} (out : Result A Trouble) (d : Trouble) (r : Ruled A) → IsErr out × IsErrAnd out (λ e. e ≡ d) → Fails d r → Is out r
-fails_is {A} out d r e h =
-    let given = err_from_is_err_and out e.1 in
-    subst (λ (o : Result A Trouble). Is o r) (sym given.1) (subst (λ (b : Trouble). Fails b r) (sym given.2) h)
-
 -- ---- a phrase, by what its parts mean
 
 pub bind_fails : {A B : Type 0} (d : Trouble) (r : Ruled A) (f : A → Ruled B) → Fails d r → Fails d (r >>= f)
@@ -42,22 +37,10 @@ module _ (k : Known) (f : Form) (ps : Parts) where
   pub whole_fails : (d : Trouble) → Fails d (judged_all k ps) → Fails d (judged k (phrase f ps))
   whole_fails d h = bind_fails d (judged_all k ps) (rule k f) h
 
-  pub whole_ends : (out : Result Meant Trouble) (d : Trouble) → IsErr out × IsErrAnd out (λ e. e ≡ d) → Fails d (judged_all k ps)
-      → Is out (judged k (phrase f ps))
-  whole_ends out d e h = fails_is out d (judged k (phrase f ps)) e (whole_fails d h)
-
   pub whole_is : (out : Result Meant Trouble) (ms : List Meant) → judged_all k ps ≡ gives ms → Is out (rule k f ms) → Is out (judged k (phrase f ps))
   whole_is out ms e h = subst (λ (z : Ruled (List Meant)). Is out (z >>= rule k f)) (sym e) h
 
-alone_fails : (d : Trouble) (r : Ruled Meant) → Fails d r → Fails d (before r (gives []))
-alone_fails NoMemory r h = tt
-alone_fails (Breaks at why) r h = ap (λ z. before z (gives [])) h
-alone_fails Hangs r h = ap (λ z. before z (gives [])) h
-
 module _ (k : Known) (f : Form) (p : Phrase) where
-  pub one_fails : (d : Trouble) → Fails d (judged k p) → Fails d (judged k (around f p))
-  one_fails d h = whole_fails k f (part p none) d (alone_fails d (judged k p) h)
-
   pub one_is : (out : Result Meant Trouble) (m : Meant) → judged k p ≡ gives m → Is out (rule k f (m ∷ [])) → Is out (judged k (around f p))
   one_is out m e h = subst (λ (z : Ruled Meant). Is out (before z (gives []) >>= rule k f)) (sym e) h
 

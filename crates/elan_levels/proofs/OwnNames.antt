@@ -102,7 +102,9 @@ entry_plain n (Some d) h = (h, tt)
 abbrev Below : (Type 0 → Type 0 → Type 0 → Type 0 → Type 0 → Type 0 → Type 0 → Type 0) → Type 0
 Below F = F ((e : Expr) × E e) ((l : Limit) × L l) ((u : Statement) × U u) ((b : Branch) × B b) ((c : Case) × C c) ((k : Counter) × K k) ((i : Item) × I i)
 
-expr_plain : (y : Below Expr-F) → Plain (d.expr_step (map-Expr _ _ _ _ _ _ _ _ _ _ _ _ _ _ d.in_expr d.in_limit d.in_unit d.in_branch d.in_case d.in_counter d.in_item (map-Expr _ _ _ _ _ _ _ _ _ _ _ _ _ _ fst fst fst fst fst fst fst y)))
+expr_plain : (y : Below Expr-F)
+    → Plain (d.expr_step (map-Expr _ _ _ _ _ _ _ _ _ _ _ _ _ _ d.in_expr d.in_limit d.in_unit d.in_branch d.in_case d.in_counter d.in_item
+    (map-Expr _ _ _ _ _ _ _ _ _ _ _ _ _ _ fst fst fst fst fst fst fst y)))
 expr_plain (t.Number at n) = tt
 expr_plain (t.Text at x) = tt
 expr_plain (t.Truth at b) = tt
@@ -113,8 +115,12 @@ expr_plain (t.Concr at a) = tt
 expr_plain (t.Bracket at a) = a.1
 expr_plain (t.If at branches None) = append (d.all (map d.in_branch (map fst branches))) [] (branches_plain branches) tt
 expr_plain (t.If at branches (Some us)) = append (d.all (map d.in_branch (map fst branches))) _ (branches_plain branches) (units_plain us)
-expr_plain (t.Select at of cases None) = append (d.in_expr of.0 ++ d.all (map d.in_case (map fst cases))) [] (append (d.in_expr of.0) (d.all (map d.in_case (map fst cases))) of.1 (cases_plain cases)) tt
-expr_plain (t.Select at of cases (Some us)) = append (d.in_expr of.0 ++ d.all (map d.in_case (map fst cases))) (d.all (map d.in_unit (map fst us))) (append (d.in_expr of.0) (d.all (map d.in_case (map fst cases))) of.1 (cases_plain cases)) (units_plain us)
+expr_plain (t.Select at of cases None) =
+    append (d.in_expr of.0 ++ d.all (map d.in_case (map fst cases))) []
+    (append (d.in_expr of.0) (d.all (map d.in_case (map fst cases))) of.1 (cases_plain cases)) tt
+expr_plain (t.Select at of cases (Some us)) =
+    append (d.in_expr of.0 ++ d.all (map d.in_case (map fst cases))) (d.all (map d.in_unit (map fst us)))
+    (append (d.in_expr of.0) (d.all (map d.in_case (map fst cases))) of.1 (cases_plain cases)) (units_plain us)
 expr_plain (t.Index at of index) = tt
 expr_plain (t.Field at of field) = tt
 expr_plain (t.Monadic at o a) = a.1
@@ -122,15 +128,20 @@ expr_plain (t.Dyadic at o a b) = append (d.in_expr a.0) (d.in_expr b.0) a.1 b.1
 expr_plain (t.Cand at a b) = append (d.in_expr a.0) (d.in_expr b.0) a.1 b.1
 expr_plain (t.Cor at a b) = append (d.in_expr a.0) (d.in_expr b.0) a.1 b.1
 
-limit_plain : (y : Below Limit-F) → Plain (d.limit_step (map-Limit _ _ _ _ _ _ _ _ _ _ _ _ _ _ d.in_expr d.in_limit d.in_unit d.in_branch d.in_case d.in_counter d.in_item (map-Limit _ _ _ _ _ _ _ _ _ _ _ _ _ _ fst fst fst fst fst fst fst y)))
+limit_plain : (y : Below Limit-F)
+    → Plain (d.limit_step (map-Limit _ _ _ _ _ _ _ _ _ _ _ _ _ _ d.in_expr d.in_limit d.in_unit d.in_branch d.in_case d.in_counter d.in_item
+    (map-Limit _ _ _ _ _ _ _ _ _ _ _ _ _ _ fst fst fst fst fst fst fst y)))
 limit_plain t.Without = tt
 limit_plain (t.Upto a) = a.1
 limit_plain (t.Downto a) = a.1
 
 loop_plain : (k c v : List Entry) (us : List ((u : Statement) × U u)) → Plain k → Plain c → Plain v → Plain (k ++ c ++ d.all (map d.in_unit (map fst us)) ++ v)
-loop_plain k c v us hk hc hv = append (k ++ c ++ d.all (map d.in_unit (map fst us))) v (append (k ++ c) (d.all (map d.in_unit (map fst us))) (append k c hk hc) (units_plain us)) hv
+loop_plain k c v us hk hc hv =
+    append (k ++ c ++ d.all (map d.in_unit (map fst us))) v (append (k ++ c) (d.all (map d.in_unit (map fst us))) (append k c hk hc) (units_plain us)) hv
 
-unit_plain : (y : Below Unit-F) → Plain (d.unit_step (map-Unit _ _ _ _ _ _ _ _ _ _ _ _ _ _ d.in_expr d.in_limit d.in_unit d.in_branch d.in_case d.in_counter d.in_item (map-Unit _ _ _ _ _ _ _ _ _ _ _ _ _ _ fst fst fst fst fst fst fst y)))
+unit_plain : (y : Below Unit-F)
+    → Plain (d.unit_step (map-Unit _ _ _ _ _ _ _ _ _ _ _ _ _ _ d.in_expr d.in_limit d.in_unit d.in_branch d.in_case d.in_counter d.in_item
+    (map-Unit _ _ _ _ _ _ _ _ _ _ _ _ _ _ fst fst fst fst fst fst fst y)))
 unit_plain t.Empty = tt
 unit_plain (t.Let at items) = tt
 unit_plain (t.Variables at of items) = items_plain (d.variables (d.written_type of)) (variables_kind (d.written_type of)) items
@@ -149,30 +160,42 @@ unit_plain (t.Loop at (Some k) (Some c) us (Some v)) = loop_plain (d.in_counter 
 unit_plain (t.Leave at n None) = tt
 unit_plain (t.Leave at n (Some v)) = v.1
 
-branch_plain : (y : Below Branch-F) → Plain (d.branch_step (map-Branch _ _ _ _ _ _ _ _ _ _ _ _ _ _ d.in_expr d.in_limit d.in_unit d.in_branch d.in_case d.in_counter d.in_item (map-Branch _ _ _ _ _ _ _ _ _ _ _ _ _ _ fst fst fst fst fst fst fst y)))
+branch_plain : (y : Below Branch-F)
+    → Plain (d.branch_step (map-Branch _ _ _ _ _ _ _ _ _ _ _ _ _ _ d.in_expr d.in_limit d.in_unit d.in_branch d.in_case d.in_counter d.in_item
+    (map-Branch _ _ _ _ _ _ _ _ _ _ _ _ _ _ fst fst fst fst fst fst fst y)))
 branch_plain y = append (d.in_expr y.condition.0) _ y.condition.1 (units_plain y.units)
 
-case_plain : (y : Below Case-F) → Plain (d.case_step (map-Case _ _ _ _ _ _ _ _ _ _ _ _ _ _ d.in_expr d.in_limit d.in_unit d.in_branch d.in_case d.in_counter d.in_item (map-Case _ _ _ _ _ _ _ _ _ _ _ _ _ _ fst fst fst fst fst fst fst y)))
+case_plain : (y : Below Case-F)
+    → Plain (d.case_step (map-Case _ _ _ _ _ _ _ _ _ _ _ _ _ _ d.in_expr d.in_limit d.in_unit d.in_branch d.in_case d.in_counter d.in_item
+    (map-Case _ _ _ _ _ _ _ _ _ _ _ _ _ _ fst fst fst fst fst fst fst y)))
 case_plain y = units_plain y.units
 
 abbrev counter_with : Name → Option ((e : Expr) × E e) → (l : Limit) × L l → Below Counter-F
 counter_with n from l = record { name = n; from = from; limit = l }
 
-counter_of : (n : Name) (from : Option ((e : Expr) × E e)) (l : (l : Limit) × L l) → Plain (d.counter_step (map-Counter _ _ _ _ _ _ _ _ _ _ _ _ _ _ d.in_expr d.in_limit d.in_unit d.in_branch d.in_case d.in_counter d.in_item (map-Counter _ _ _ _ _ _ _ _ _ _ _ _ _ _ fst fst fst fst fst fst fst (counter_with n from l))))
+counter_of : (n : Name) (from : Option ((e : Expr) × E e)) (l : (l : Limit) × L l)
+    → Plain (d.counter_step (map-Counter _ _ _ _ _ _ _ _ _ _ _ _ _ _ d.in_expr d.in_limit d.in_unit d.in_branch d.in_case d.in_counter d.in_item
+    (map-Counter _ _ _ _ _ _ _ _ _ _ _ _ _ _ fst fst fst fst fst fst fst (counter_with n from l))))
 counter_of n None l = l.1
 counter_of n (Some e) l = append (d.in_expr e.0) (d.in_limit l.0) e.1 l.1
 
-counter_plain : (y : Below Counter-F) → Plain (d.counter_step (map-Counter _ _ _ _ _ _ _ _ _ _ _ _ _ _ d.in_expr d.in_limit d.in_unit d.in_branch d.in_case d.in_counter d.in_item (map-Counter _ _ _ _ _ _ _ _ _ _ _ _ _ _ fst fst fst fst fst fst fst y)))
+counter_plain : (y : Below Counter-F)
+    → Plain (d.counter_step (map-Counter _ _ _ _ _ _ _ _ _ _ _ _ _ _ d.in_expr d.in_limit d.in_unit d.in_branch d.in_case d.in_counter d.in_item
+    (map-Counter _ _ _ _ _ _ _ _ _ _ _ _ _ _ fst fst fst fst fst fst fst y)))
 counter_plain y = counter_of y.name y.from y.limit
 
 abbrev item_with : Name → Option ((e : Expr) × E e) → Below Item-F
 item_with n init = record { name = n; init = init }
 
-item_of : (n : Name) (init : Option ((e : Expr) × E e)) (o : Option Denotes) → Kind o → Plain (d.item_step (map-Item _ _ _ _ _ _ _ _ _ _ _ _ _ _ d.in_expr d.in_limit d.in_unit d.in_branch d.in_case d.in_counter d.in_item (map-Item _ _ _ _ _ _ _ _ _ _ _ _ _ _ fst fst fst fst fst fst fst (item_with n init))) o)
+item_of : (n : Name) (init : Option ((e : Expr) × E e)) (o : Option Denotes) → Kind o
+    → Plain (d.item_step (map-Item _ _ _ _ _ _ _ _ _ _ _ _ _ _ d.in_expr d.in_limit d.in_unit d.in_branch d.in_case d.in_counter d.in_item
+    (map-Item _ _ _ _ _ _ _ _ _ _ _ _ _ _ fst fst fst fst fst fst fst (item_with n init))) o)
 item_of n None o h = append (d.entry n o) [] (entry_plain n o h) tt
 item_of n (Some e) o h = append (d.entry n o) (d.in_expr e.0) (entry_plain n o h) e.1
 
-item_plain : (y : Below Item-F) (o : Option Denotes) → Kind o → Plain (d.item_step (map-Item _ _ _ _ _ _ _ _ _ _ _ _ _ _ d.in_expr d.in_limit d.in_unit d.in_branch d.in_case d.in_counter d.in_item (map-Item _ _ _ _ _ _ _ _ _ _ _ _ _ _ fst fst fst fst fst fst fst y)) o)
+item_plain : (y : Below Item-F) (o : Option Denotes) → Kind o
+    → Plain (d.item_step (map-Item _ _ _ _ _ _ _ _ _ _ _ _ _ _ d.in_expr d.in_limit d.in_unit d.in_branch d.in_case d.in_counter d.in_item
+    (map-Item _ _ _ _ _ _ _ _ _ _ _ _ _ _ fst fst fst fst fst fst fst y)) o)
 item_plain y o h = item_of y.name y.init o h
 
 in_unit_plain : (u : Statement) → U u
@@ -212,5 +235,6 @@ all_held_plain (e ∷ es) h =
     ∙ sym (ap (map held_const) (types_append (held e.denotes) (all_held es)) ∙ map_append (types_of (held e.denotes)) (types_of (all_held es)))
 
 -- what a body declares is held as variables and constants are
-pub own_held : (us : List Statement) (rs : List Refinement) → all_held (d.in_units us ++ refinement_names rs) ≡ map held_const (types_of (all_held (d.in_units us ++ refinement_names rs)))
+pub own_held : (us : List Statement) (rs : List Refinement)
+    → all_held (d.in_units us ++ refinement_names rs) ≡ map held_const (types_of (all_held (d.in_units us ++ refinement_names rs)))
 own_held us rs = all_held_plain (d.in_units us ++ refinement_names rs) (append (d.in_units us) (refinement_names rs) (in_units_plain us) (refinements_plain rs))

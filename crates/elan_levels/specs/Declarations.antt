@@ -105,25 +105,39 @@ abbrev pub item_step : Item-F (List Entry) (List Entry) (List Entry) (List Entry
 item_step i d = entry i.name d ++ written i.init
 
 abbrev pub in_expr : Expr → List Entry
-in_expr = fold-Expr (List Entry) (List Entry) (List Entry) (List Entry) (List Entry) (List Entry) OfKind expr_step limit_step unit_step branch_step case_step counter_step item_step
+in_expr =
+    fold-Expr (List Entry) (List Entry) (List Entry) (List Entry) (List Entry) (List Entry) OfKind expr_step limit_step unit_step branch_step case_step
+    counter_step item_step
 
 abbrev pub in_limit : Limit → List Entry
-in_limit = fold-Limit (List Entry) (List Entry) (List Entry) (List Entry) (List Entry) (List Entry) OfKind expr_step limit_step unit_step branch_step case_step counter_step item_step
+in_limit =
+    fold-Limit (List Entry) (List Entry) (List Entry) (List Entry) (List Entry) (List Entry) OfKind expr_step limit_step unit_step branch_step case_step
+    counter_step item_step
 
 abbrev pub in_unit : Statement → List Entry
-in_unit = fold-Unit (List Entry) (List Entry) (List Entry) (List Entry) (List Entry) (List Entry) OfKind expr_step limit_step unit_step branch_step case_step counter_step item_step
+in_unit =
+    fold-Unit (List Entry) (List Entry) (List Entry) (List Entry) (List Entry) (List Entry) OfKind expr_step limit_step unit_step branch_step case_step
+    counter_step item_step
 
 abbrev pub in_branch : Branch → List Entry
-in_branch = fold-Branch (List Entry) (List Entry) (List Entry) (List Entry) (List Entry) (List Entry) OfKind expr_step limit_step unit_step branch_step case_step counter_step item_step
+in_branch =
+    fold-Branch (List Entry) (List Entry) (List Entry) (List Entry) (List Entry) (List Entry) OfKind expr_step limit_step unit_step branch_step case_step
+    counter_step item_step
 
 abbrev pub in_case : Case → List Entry
-in_case = fold-Case (List Entry) (List Entry) (List Entry) (List Entry) (List Entry) (List Entry) OfKind expr_step limit_step unit_step branch_step case_step counter_step item_step
+in_case =
+    fold-Case (List Entry) (List Entry) (List Entry) (List Entry) (List Entry) (List Entry) OfKind expr_step limit_step unit_step branch_step case_step
+    counter_step item_step
 
 abbrev pub in_counter : Counter → List Entry
-in_counter = fold-Counter (List Entry) (List Entry) (List Entry) (List Entry) (List Entry) (List Entry) OfKind expr_step limit_step unit_step branch_step case_step counter_step item_step
+in_counter =
+    fold-Counter (List Entry) (List Entry) (List Entry) (List Entry) (List Entry) (List Entry) OfKind expr_step limit_step unit_step branch_step case_step
+    counter_step item_step
 
 abbrev pub in_item : Item → OfKind
-in_item = fold-Item (List Entry) (List Entry) (List Entry) (List Entry) (List Entry) (List Entry) OfKind expr_step limit_step unit_step branch_step case_step counter_step item_step
+in_item =
+    fold-Item (List Entry) (List Entry) (List Entry) (List Entry) (List Entry) (List Entry) OfKind expr_step limit_step unit_step branch_step case_step
+    counter_step item_step
 
 abbrev pub in_optional : Option Expr → List Entry
 in_optional None = []

@@ -86,19 +86,22 @@ module _ (s : Scope) where
   in_expr = fold-Expr (List ℕ) (List ℕ) (List ℕ) (List ℕ) (List ℕ) (List ℕ) (List ℕ) expr_step limit_step unit_step branch_step case_step counter_step item_step
 
   abbrev pub in_limit : Limit → List ℕ
-  in_limit = fold-Limit (List ℕ) (List ℕ) (List ℕ) (List ℕ) (List ℕ) (List ℕ) (List ℕ) expr_step limit_step unit_step branch_step case_step counter_step item_step
+  in_limit =
+      fold-Limit (List ℕ) (List ℕ) (List ℕ) (List ℕ) (List ℕ) (List ℕ) (List ℕ) expr_step limit_step unit_step branch_step case_step counter_step item_step
 
   abbrev pub in_unit : Statement → List ℕ
   in_unit = fold-Unit (List ℕ) (List ℕ) (List ℕ) (List ℕ) (List ℕ) (List ℕ) (List ℕ) expr_step limit_step unit_step branch_step case_step counter_step item_step
 
   abbrev pub in_branch : Branch → List ℕ
-  in_branch = fold-Branch (List ℕ) (List ℕ) (List ℕ) (List ℕ) (List ℕ) (List ℕ) (List ℕ) expr_step limit_step unit_step branch_step case_step counter_step item_step
+  in_branch =
+      fold-Branch (List ℕ) (List ℕ) (List ℕ) (List ℕ) (List ℕ) (List ℕ) (List ℕ) expr_step limit_step unit_step branch_step case_step counter_step item_step
 
   abbrev pub in_case : Case → List ℕ
   in_case = fold-Case (List ℕ) (List ℕ) (List ℕ) (List ℕ) (List ℕ) (List ℕ) (List ℕ) expr_step limit_step unit_step branch_step case_step counter_step item_step
 
   abbrev pub in_counter : Counter → List ℕ
-  in_counter = fold-Counter (List ℕ) (List ℕ) (List ℕ) (List ℕ) (List ℕ) (List ℕ) (List ℕ) expr_step limit_step unit_step branch_step case_step counter_step item_step
+  in_counter =
+      fold-Counter (List ℕ) (List ℕ) (List ℕ) (List ℕ) (List ℕ) (List ℕ) (List ℕ) expr_step limit_step unit_step branch_step case_step counter_step item_step
 
   abbrev pub in_item : Item → List ℕ
   in_item = fold-Item (List ℕ) (List ℕ) (List ℕ) (List ℕ) (List ℕ) (List ℕ) (List ℕ) expr_step limit_step unit_step branch_step case_step counter_step item_step

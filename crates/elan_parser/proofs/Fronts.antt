@@ -25,8 +25,10 @@ pub front_fits : (all front behind : Tokens) → all ≡ front ++ behind → len
 front_fits all front behind e = omega (arith, ap length e, length-append front behind)
 
 -- the token behind the front cannot follow
-pub place_here : (p : Bool) (tokens front : Tokens) (n : ℕ) → n < length tokens → CanGoOn p (take n tokens) → front ≡ take (n + 1) tokens → (CanGoOn p front → ⊥) → IsPlace p tokens n
-place_here p tokens front n lt can is none = (omega (arith, lt), can, λ _ more. none (subst (λ (z : Tokens). CanGoOn p z) (ap (λ (m : ℕ). take m tokens) (sym (add-one n)) ∙ sym is) more))
+pub place_here : (p : Bool) (tokens front : Tokens) (n : ℕ) → n < length tokens → CanGoOn p (take n tokens) → front ≡ take (n + 1) tokens
+    → (CanGoOn p front → ⊥) → IsPlace p tokens n
+place_here p tokens front n lt can is none =
+    (omega (arith, lt), can, λ _ more. none (subst (λ (z : Tokens). CanGoOn p z) (ap (λ (m : ℕ). take m tokens) (sym (add-one n)) ∙ sym is) more))
 
 -- all tokens can go on
 pub place_behind : (p : Bool) (tokens : Tokens) (n : ℕ) → n ≡ length tokens → CanGoOn p (take n tokens) → IsPlace p tokens (length tokens)
@@ -46,8 +48,11 @@ left_fits p tokens n e = omega (arith, e, left_most p tokens)
 pub at_next : (tokens : Tokens) (n : ℕ) (t : Token) → Some t ≡ slice_get tokens n → t.at ≡ place_of tokens n
 at_next tokens n t e = ap (λ (o : Option Token). next_or_end o (slice_get tokens (length tokens - 1))) e
 
-pub behind_last : (tokens : Tokens) (n : ℕ) (t : Token) → None ≡ slice_get tokens n → Some t ≡ slice_get tokens (length tokens - 1) → min (t.at + t.len) 4294967295 ≡ place_of tokens n
+pub behind_last : (tokens : Tokens) (n : ℕ) (t : Token) → None ≡ slice_get tokens n → Some t ≡ slice_get tokens (length tokens - 1)
+    → min (t.at + t.len) 4294967295 ≡ place_of tokens n
 behind_last tokens n t e f = ap (λ (o : Option Token). next_or_end None o) f ∙ ap (λ (o : Option Token). next_or_end o (slice_get tokens (length tokens - 1))) e
 
-pub without_tokens : (tokens : Tokens) (n : ℕ) → ◌≡◌ {A = Option Token} None (slice_get tokens n) → ◌≡◌ {A = Option Token} None (slice_get tokens (length tokens - 1)) → 1 ≡ place_of tokens n
-without_tokens tokens n e f = ap (λ (o : Option Token). next_or_end None o) f ∙ ap (λ (o : Option Token). next_or_end o (slice_get tokens (length tokens - 1))) e
+pub without_tokens : (tokens : Tokens) (n : ℕ) → ◌≡◌ {A = Option Token} None (slice_get tokens n)
+    → ◌≡◌ {A = Option Token} None (slice_get tokens (length tokens - 1)) → 1 ≡ place_of tokens n
+without_tokens tokens n e f =
+    ap (λ (o : Option Token). next_or_end None o) f ∙ ap (λ (o : Option Token). next_or_end o (slice_get tokens (length tokens - 1))) e

@@ -280,7 +280,13 @@ module _ (here : Stand) where
                                   (refl, refl),
                                   (
                                     (refl, refl),
-                                    ((refl, refl), ((refl, refl), ((refl, refl), ((refl, refl), ((refl, refl), ((refl, refl), ((refl, refl), (refl, (tt, tt))))))))),
+                                    (
+                                      (refl, refl),
+                                      (
+                                        (refl, refl),
+                                        ((refl, refl), ((refl, refl), ((refl, refl), ((refl, refl), ((refl, refl), (refl, (tt, tt))))))),
+                                      ),
+                                    ),
                                   ),
                                 ),
                               ),

@@ -10,7 +10,8 @@ or_false false = refl
 
 -- ---- the marks, one by one
 
-marks_at : (k : ℕ) (marks : List Bool) (r : ℕ) (calls : List (List ℕ)) (n j : ℕ) → j ≡ k + n → slice_index_or (marks_from k marks r calls) n (j == r) ≡ (j == r || any_marked marks r (slice_index_or calls n []))
+marks_at : (k : ℕ) (marks : List Bool) (r : ℕ) (calls : List (List ℕ)) (n j : ℕ) → j ≡ k + n
+    → slice_index_or (marks_from k marks r calls) n (j == r) ≡ (j == r || any_marked marks r (slice_index_or calls n []))
 marks_at k marks r [] n j e = or_false (j == r)
 marks_at k marks r (cs ∷ rest) zero j e = ap (λ (m : ℕ). m == r || any_marked marks r cs) (let f : k ≡ j = omega (arith, e) in f)
 marks_at k marks r (cs ∷ rest) (suc n) j e = marks_at (k + 1) marks r rest n j (omega (arith, e))
@@ -52,18 +53,21 @@ module _ (calls : List (List ℕ)) (r : ℕ) where
 equal_open : (k count r : ℕ) → k < count → equal_from k (count - k) r ≡ (k == r) ∷ equal_from (k + 1) (count - (k + 1)) r
 equal_open k count r lt = ap (λ (m : ℕ). equal_from k m r) (let e : count - k ≡ suc (count - (k + 1)) = omega arith in e)
 
-pub first_step : (all marks marks' : List Bool) (b : Bool) (k count r : ℕ) → k < count → marks' ≡ marks ++ b ∷ [] → b ≡ (k == r) → marks ++ equal_from k (count - k) r ≡ all → marks' ++ equal_from (k + 1) (count - (k + 1)) r ≡ all
+pub first_step : (all marks marks' : List Bool) (b : Bool) (k count r : ℕ) → k < count → marks' ≡ marks ++ b ∷ [] → b ≡ (k == r)
+    → marks ++ equal_from k (count - k) r ≡ all → marks' ++ equal_from (k + 1) (count - (k + 1)) r ≡ all
 first_step all marks marks' b k count r lt e f h =
     ap (λ (l : List Bool). l ++ equal_from (k + 1) (count - (k + 1)) r) (e ∙ ap (λ (c : Bool). marks ++ c ∷ []) f)
     ∙ append_assoc marks ((k == r) ∷ []) (equal_from (k + 1) (count - (k + 1)) r)
     ∙ ap (λ (l : List Bool). marks ++ l) (sym (equal_open k count r lt)) ∙ h
 
-marks_open : (k : ℕ) (marks : List Bool) (r : ℕ) (calls : List (List ℕ)) (i : ℕ) (cs : List ℕ) → i < length calls → cs ≡ get_or calls i cs → marks_from k marks r (drop i calls) ≡ (k == r || any_marked marks r cs) ∷ marks_from (k + 1) marks r (drop (i + 1) calls)
+marks_open : (k : ℕ) (marks : List Bool) (r : ℕ) (calls : List (List ℕ)) (i : ℕ) (cs : List ℕ) → i < length calls → cs ≡ get_or calls i cs
+    → marks_from k marks r (drop i calls) ≡ (k == r || any_marked marks r cs) ∷ marks_from (k + 1) marks r (drop (i + 1) calls)
 marks_open k marks r calls i cs lt e =
     ap (marks_from k marks r) (drop-cons calls i cs lt ∙ ap (λ (l : List ℕ). l ∷ drop (suc i) calls) (sym e))
     ∙ ap (λ (m : ℕ). (k == r || any_marked marks r cs) ∷ marks_from (k + 1) marks r (drop m calls)) (let f : suc i ≡ i + 1 = omega arith in f)
 
-pub next_step : (all next next' marks : List Bool) (b : Bool) (k r : ℕ) (calls : List (List ℕ)) (cs : List ℕ) → k < length calls → cs ≡ get_or calls k cs → next' ≡ next ++ b ∷ [] → b ≡ (k == r || any_marked marks r cs)
+pub next_step : (all next next' marks : List Bool) (b : Bool) (k r : ℕ) (calls : List (List ℕ)) (cs : List ℕ) → k < length calls → cs ≡ get_or calls k cs
+    → next' ≡ next ++ b ∷ [] → b ≡ (k == r || any_marked marks r cs)
     → next ++ marks_from k marks r (drop k calls) ≡ all → next' ++ marks_from (k + 1) marks r (drop (k + 1) calls) ≡ all
 next_step all next next' marks b k r calls cs lt i e f h =
     ap (λ (l : List Bool). l ++ marks_from (k + 1) marks r (drop (k + 1) calls)) (e ∙ ap (λ (c : Bool). next ++ c ∷ []) f)

@@ -76,9 +76,6 @@ around form p = phrase form (part p none)
 abbrev pub pair : Form → Phrase → Phrase → Phrase
 pair form p q = phrase form (part p (part q none))
 
-abbrev pub three : Form → Phrase → Phrase → Phrase → Phrase
-three form p q r = phrase form (part p (part q (part r none)))
-
 abbrev pub all_of : List Phrase → Parts
 all_of [] = none
 all_of (p ∷ ps) = part p (all_of ps)

@@ -178,4 +178,5 @@ exit_from (Some n) = exits.Around
 
 -- the body that a LEAVE of that name leaves: the refinement in which it stands, or the PROC or OP
 abbrev pub left : Scope → List ℕ → Option (Exit × ℕ)
-left s x = or_else (left_by exits.Body (body_named s.headings s.refinement x)) (left_by (exit_from s.refinement) (body_named s.headings (number_of s.routine) x))
+left s x =
+    or_else (left_by exits.Body (body_named s.headings s.refinement x)) (left_by (exit_from s.refinement) (body_named s.headings (number_of s.routine) x))

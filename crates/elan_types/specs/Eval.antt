@@ -247,7 +247,8 @@ step_to p way limit n w = bind (place p n w) (λ x. load x (λ v. step_from x wa
 -- the turns under a limit, which has a cell meanwhile; x is the place at which the counter is tested first
 abbrev pub limited : Place → Way → ℤ → Run Bool → Run (Unit {0})
 limited x way limit turn' n =
-    with_room (Taken ∷ []) (λ w. bind (load x (λ v. branch (is_past way limit (number_of v)) (Gives tt) (turns n.turns (turn' n))) w) (λ _ w. Gives tt (cut (length w.store - 1) w)))
+    with_room (Taken ∷ []) (λ w.
+    bind (load x (λ v. branch (is_past way limit (number_of v)) (Gives tt) (turns n.turns (turn' n))) w) (λ _ w. Gives tt (cut (length w.store - 1) w)))
 
 -- the turns of a counted loop, whose counter has its first value. The limit is evaluated once
 abbrev pub counted : PlacePhrase → Way → Option (Run Value) → (Run Bool → Run Bool) → Run (Unit {0})
@@ -310,11 +311,15 @@ arm_step arm = record { labels = arm.labels; part = all arm.units }
 
 -- what a phrase that delivers a value does
 abbrev pub value : ValuePhrase → Run Value
-value = fold-ValuePhrase (Run (Unit {0})) (Run Slot) (Run Value) (Labelled (Run (Unit {0}))) (Labelled (Run Value)) action_step actual_step value_step arm_step value_arm_step
+value =
+    fold-ValuePhrase (Run (Unit {0})) (Run Slot) (Run Value) (Labelled (Run (Unit {0}))) (Labelled (Run Value)) action_step actual_step value_step arm_step
+    value_arm_step
 
 -- what an action does
 abbrev pub act : Action → Run (Unit {0})
-act = fold-Action (Run (Unit {0})) (Run Slot) (Run Value) (Labelled (Run (Unit {0}))) (Labelled (Run Value)) action_step actual_step value_step arm_step value_arm_step
+act =
+    fold-Action (Run (Unit {0})) (Run Slot) (Run Value) (Labelled (Run (Unit {0}))) (Labelled (Run Value)) action_step actual_step value_step arm_step
+    value_arm_step
 
 -- what a body does when it is entered
 abbrev pub content : Content → Run (Option Value)
@@ -355,7 +360,8 @@ own_variables _ = []
 abbrev pub run_called : Calls → ℕ → Option Body → List Slot → ℕ → World → Outcome (Option Value)
 run_called calls n None xs held w = OutOfMarks w
 run_called calls n (Some b) xs held w =
-    with_room (frame xs (own_variables b.scope)) (λ w'. called (length w.store) (content b.content (record { calls = calls; turns = n; base = length w.store + 2; held = held }) w')) w
+    with_room (frame xs (own_variables b.scope))
+    (λ w'. called (length w.store) (content b.content (record { calls = calls; turns = n; base = length w.store + 2; held = held }) w')) w
 
 abbrev pub run_referred : Calls → ℕ → Option Body → ℕ → ℕ → World → Outcome (Option Value)
 run_referred calls n None base held w = OutOfMarks w

@@ -226,7 +226,8 @@ module _ (variables : List ElanType) (bodies : List Body) (home : Home) where
   value_type_step (t.ValuePhrase::Unit a) = a
   value_type_step (t.After us a) = only_if (all_true us) a
   value_type_step (t.ValuePhrase::Call p as' u) = only_if (taken_by (scope_of (slice_get bodies p)) as' && has u (delivered_by (slice_get bodies p))) (Some u)
-  value_type_step (t.ValuePhrase::Refer p u) = only_if (refines (owner bodies home) (scope_of (slice_get bodies p)) && has u (delivered_by (slice_get bodies p))) (Some u)
+  value_type_step (t.ValuePhrase::Refer p u) =
+      only_if (refines (owner bodies home) (scope_of (slice_get bodies p)) && has u (delivered_by (slice_get bodies p))) (Some u)
 
   abbrev pub actual_type_step : Layer Actual-F → Taken
   actual_type_step (t.Value a) = given_as Const a
@@ -244,7 +245,8 @@ module _ (variables : List ElanType) (bodies : List Body) (home : Home) where
   action_typed_step (t.Action::Select a arms vs) = has types.Int a && (all_true arms && all_true vs)
   action_typed_step (t.Loop c us u) = has_if_written types.Bool c && (all_true us && has_if_written types.Bool u)
   action_typed_step (t.Count p from way limit c us u) =
-      has types.Int (place_type p) && (has types.Int from && (has_if_written types.Int limit && (has_if_written types.Bool c && (all_true us && has_if_written types.Bool u))))
+      has types.Int (place_type p)
+      && (has types.Int from && (has_if_written types.Int limit && (has_if_written types.Bool c && (all_true us && has_if_written types.Bool u))))
   action_typed_step (t.Put a) = has types.Int a
   action_typed_step t.Line = true
   action_typed_step (t.Action::Call p as') = taken_by (scope_of (slice_get bodies p)) as' && is_none (delivered_by (slice_get bodies p))
@@ -269,7 +271,8 @@ module _ (variables : List ElanType) (bodies : List Body) (home : Home) where
 
 -- a refinement is one of a PROC, or of the level
 abbrev pub IsScope : List Body → Scope → Type 0
-IsScope bodies (Of p) = (b : Body) × ((parameters : List Formal) × ((variables : List ElanType) × (slice_get bodies p ≡ Some b) × (b.scope ≡ Own parameters variables)))
+IsScope bodies (Of p) =
+    (b : Body) × ((parameters : List Formal) × ((variables : List ElanType) × (slice_get bodies p ≡ Some b) × (b.scope ≡ Own parameters variables)))
 IsScope bodies _ = Unit {0}
 
 -- the core of a text: each phrase has the types that it asks for

@@ -117,33 +117,6 @@ turns_adds turn end top a b c d x y z e e' =
     let flat : ((a.lines ++ mark ∷ []) ++ body) ++ back ∷ [] ≡ a.lines ++ mark ∷ (body ++ back ∷ []) = simp append_assoc in
     (all ∙ flat, omega (arith, x.1, y.1, z.1), z.2 ∙ k2, z.3 ∙ s2)
 
--- a limit, what runs under it, and the end of the limit
-pub limit_adds : (way : Way) (turns : Stretch) (end : ℕ) (a b c d e g : Draft) → Adds (one (Limit way end) (drop 2)) a b
-    → (c.lines ≡ b.lines) × (c.pending ≡ b.pending) × (c.spot ≡ deeper b.spot) → Adds turns c d → Adds (one Unlimit keeps) d e
-    → (g.lines ≡ e.lines) × (g.pending ≡ e.pending) × (g.spot ≡ a.spot) → ((ks : List OperandKind) → turns.leaves ks ≡ ks)
-    → end ≡ length a.lines + (turns.size + 1) → Adds (limit_code way turns) a g
-limit_adds way turns end a b c d e g x y z w v keeps' at' =
-    let at = length a.lines in
-    let n : end ≡ at + 1 + turns.size = omega (arith, at') in
-    let k : c.pending ≡ drop 2 a.pending = y.1 ∙ x.2 in
-    let s : c.spot ≡ deeper a.spot = y.2 ∙ ap deeper x.3 in
-    let lc : length c.lines ≡ length b.lines = ap length y.0 in
-    let l : length c.lines ≡ at + 1 = omega (arith, lc, x.1) in
-    let k2 : d.pending ≡ drop 2 a.pending = z.2 ∙ keeps' c.pending ∙ k in
-    let s2 : d.spot ≡ deeper a.spot = z.3 ∙ s in
-    let first = line_of (Limit way (at + 1 + turns.size)) a.pending a.spot in
-    let body = turns.lines (drop 2 a.pending) (deeper a.spot) (at + 1) in
-    let last = line_of Unlimit (drop 2 a.pending) (deeper a.spot) in
-    let v1 : line_of (Limit way end) a.pending a.spot ≡ first = cc in
-    let v2 : turns.lines c.pending c.spot (length c.lines) ≡ body = cc in
-    let v3 : line_of Unlimit d.pending d.spot ≡ last = cc in
-    let c1 : c.lines ≡ a.lines ++ first ∷ [] = y.0 ∙ x.0 ∙ ap (λ i. a.lines ++ i ∷ []) v1 in
-    let d1 : d.lines ≡ (a.lines ++ first ∷ []) ++ body = z.0 ∙ ap (λ l. c.lines ++ l) v2 ∙ ap (λ l. l ++ body) c1 in
-    let all : g.lines ≡ ((a.lines ++ first ∷ []) ++ body) ++ last ∷ [] = v.0 ∙ w.0 ∙ ap (λ i. d.lines ++ i ∷ []) v3 ∙ ap (λ l. l ++ last ∷ []) d1 in
-    let flat : ((a.lines ++ first ∷ []) ++ body) ++ last ∷ [] ≡ a.lines ++ first ∷ (body ++ last ∷ []) = simp append_assoc in
-    let lg : length g.lines ≡ length e.lines = ap length v.0 in
-    (all ∙ flat, omega (arith, lg, w.1, z.1, l), v.1 ∙ w.2 ∙ k2, v.2)
-
 -- a part of a SELECT: tests, the way past it, the part, and the way to the end
 pub arm_adds : (arm : Labelled Stretch) (end past : ℕ) (ks : List OperandKind) (a b c d e g h : Draft) → Adds (whens_code arm.labels past) a b
     → Adds (one (Jump (length b.lines + 1 + (arm.part.size + 1))) keeps) b c → Restores (drop 1 ks) c d → Adds arm.part d e → Adds (one (Jump end) keeps) e g

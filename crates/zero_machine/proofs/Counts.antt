@@ -32,16 +32,19 @@ module _ (operands : List Operand) (frames : List Kept) (s : Stacked) (view : st
   as_many = subst (λ (s : Stacked). length s.ops ≡ length operands) view (length-reverse operands)
 
   -- the newest operands stand last
-  pub on_top : (all : List Operand) (count n : ℕ) → all ≡ operands → n ≡ length operands → count ≤ length s.ops → take (length all - (n - count)) (drop (n - count) all) ≡ reverse (take count s.ops)
+  pub on_top : (all : List Operand) (count n : ℕ) → all ≡ operands → n ≡ length operands → count ≤ length s.ops
+      → take (length all - (n - count)) (drop (n - count) all) ≡ reverse (take count s.ops)
   on_top all count n same m le =
       let within : count ≤ length operands = omega (arith, le, as_many) in
       let k : n - count ≡ length operands - count = ap (λ n. n - count) m in
-      let top : reverse (take count (reverse operands)) ≡ drop (length operands - count) operands = ap reverse (newest operands count within) ∙ reverse-reverse (drop (length operands - count) operands) in
+      let top : reverse (take count (reverse operands)) ≡ drop (length operands - count) operands =
+      ap reverse (newest operands count within) ∙ reverse-reverse (drop (length operands - count) operands) in
       let here : reverse (take count s.ops) ≡ drop (length operands - count) operands = ap (λ (s : Stacked). reverse (take count s.ops)) (sym view) ∙ top in
       take_rest all (n - count) ∙ ap (λ k. drop k all) k ∙ ap (drop (length operands - count)) same ∙ sym here
 
   -- a new frame keeps the older ones
-  pub entered : (all : List Kept) (link : Link) (kept : List Operand) (count n : ℕ) → all ≡ frames ++ record { link = link; operands = kept } ∷ [] → kept ≡ take (n - count) operands → n ≡ length operands → count ≤ length s.ops
+  pub entered : (all : List Kept) (link : Link) (kept : List Operand) (count n : ℕ) → all ≡ frames ++ record { link = link; operands = kept } ∷ []
+      → kept ≡ take (n - count) operands → n ≡ length operands → count ≤ length s.ops
       → frames_of all ≡ linked link (drop count s.ops) ∷ s.frames
   entered all link kept count n same is m le =
       let within : count ≤ length operands = omega (arith, le, as_many) in
@@ -51,16 +54,19 @@ module _ (operands : List Operand) (frames : List Kept) (s : Stacked) (view : st
       ∙ ap (λ (s : Stacked). linked link (drop count s.ops) ∷ s.frames) view
 
 -- what the last frame holds
-pub held_is : (frames : List Kept) (f : Kept) (all : List Kept) (n : ℕ) → all ≡ frames ++ f ∷ [] → n ≡ length f.operands → bytes_of (frames_of all) ≡ 8 * n + bytes_of (frames_of frames)
+pub held_is : (frames : List Kept) (f : Kept) (all : List Kept) (n : ℕ) → all ≡ frames ++ f ∷ [] → n ≡ length f.operands
+    → bytes_of (frames_of all) ≡ 8 * n + bytes_of (frames_of frames)
 held_is frames f all n same m =
-    let e : bytes_of (frames_of all) ≡ bytes_on (reverse f.operands) (bytes_of (frames_of frames)) = ap (λ fs. bytes_of (frames_of fs)) same ∙ ap bytes_of (last_frame frames f) in
+    let e : bytes_of (frames_of all) ≡ bytes_on (reverse f.operands) (bytes_of (frames_of frames)) =
+    ap (λ fs. bytes_of (frames_of fs)) same ∙ ap bytes_of (last_frame frames f) in
     let g = turned f.operands (bytes_of (frames_of frames)) in
     omega (arith, e, g, m)
 
 abbrev stack_of : List Operand → List Frame → Stacked
 stack_of ops frames = record { ops = ops; frames = frames }
 
-pub stacked_is : (operands : List Operand) (frames : List Kept) (fs : List Frame) → operands ≡ [] → frames_of frames ≡ fs → stacked operands frames ≡ record { ops = []; frames = fs }
+pub stacked_is : (operands : List Operand) (frames : List Kept) (fs : List Frame) → operands ≡ [] → frames_of frames ≡ fs
+    → stacked operands frames ≡ record { ops = []; frames = fs }
 stacked_is operands frames fs e f = ap (λ l. stack_of (reverse l) (frames_of frames)) e ∙ ap (stack_of []) f
 
 -- what is kept is no more than there was

@@ -23,17 +23,23 @@ module _ {E : Type 0} (result : Result Next E) (c : Position) (c' : Control) (ce
   abbrev Leads : Move → Type 0
   Leads m = IfOk result (λ next. stage_of (halt_of next) c' s' ≡ stage m c s)
 
-  pub call_so : (n : ℕ) (d : Entry) → instr ≡ Call n → Finds p.bodies instr c → d ≡ get_or p.bodies n d → Leads (call_move c (Some d) cells) → Leads (instruction p (Some instr) c cells)
+  pub call_so : (n : ℕ) (d : Entry) → instr ≡ Call n → Finds p.bodies instr c → d ≡ get_or p.bodies n d → Leads (call_move c (Some d) cells)
+      → Leads (instruction p (Some instr) c cells)
   call_so n d is finds read h =
       let proc : HasProc p.bodies n c.ops = subst (λ i. Finds p.bodies i c) is finds in
-      subst (λ i. Leads (instruction p (Some i) c cells)) (sym is) (subst (λ o. Leads (call_move c o cells)) (sym (found p.bodies n proc.entry d proc.has read)) h)
+      subst (λ i. Leads (instruction p (Some i) c cells)) (sym is)
+      (subst (λ o. Leads (call_move c o cells)) (sym (found p.bodies n proc.entry d proc.has read)) h)
 
-  pub refer_so : (n : ℕ) (d : Entry) → instr ≡ Refer n → Finds p.bodies instr c → d ≡ get_or p.bodies n d → Leads (refer_move c (Some d) cells) → Leads (instruction p (Some instr) c cells)
+  pub refer_so : (n : ℕ) (d : Entry) → instr ≡ Refer n → Finds p.bodies instr c → d ≡ get_or p.bodies n d → Leads (refer_move c (Some d) cells)
+      → Leads (instruction p (Some instr) c cells)
   refer_so n d is finds read h =
       let body : HasBody p.bodies n = subst (λ i. Finds p.bodies i c) is finds in
-      subst (λ i. Leads (instruction p (Some i) c cells)) (sym is) (subst (λ o. Leads (refer_move c o cells)) (sym (found p.bodies n body.entry d body.has read)) h)
+      subst (λ i. Leads (instruction p (Some i) c cells)) (sym is)
+      (subst (λ o. Leads (refer_move c o cells)) (sym (found p.bodies n body.entry d body.has read)) h)
 
-pub steps_so : {E : Type 0} (result : Result Next E) (c : Position) (c' : Control) (cells cells' : Cells) (marks : ℕ) (p : Program) (instr i : Instr) → instr ≡ i → IfOk result (StepsSo i c cells c' cells')
+pub steps_so : {E : Type 0} (result : Result Next E) (c : Position) (c' : Control) (cells cells' : Cells) (marks : ℕ) (p : Program) (instr i : Instr)
+    → instr ≡ i → IfOk result (StepsSo i c cells c' cells')
     → IfOk result (λ next. stage_of (halt_of next) c' (scene_of cells' marks) ≡ stage (instruction p (Some instr) c cells) c (scene_of cells marks))
-steps_so (Ok h) c c' cells cells' marks p instr i is steps = subst (λ i. stage_of (halt_of h) c' (scene_of cells' marks) ≡ stage (instruction p (Some i) c cells) c (scene_of cells marks)) (sym is) (steps p marks)
+steps_so (Ok h) c c' cells cells' marks p instr i is steps =
+    subst (λ i. stage_of (halt_of h) c' (scene_of cells' marks) ≡ stage (instruction p (Some i) c cells) c (scene_of cells marks)) (sym is) (steps p marks)
 steps_so (Err e) c c' cells cells' marks p instr i is steps = tt

@@ -43,7 +43,8 @@ top_both (Of v ∷ ops) k j rest f =
     let b = top_place ops j rest f.1 in
     record { value = v; place = b.place; rest = b.rest; top = ap (λ l. Of v ∷ l) b.top; cell = b.cell }
 
-top_values : (more : List Kind) (n : ℕ) (rest : List OperandKind) (ops : List Operand) → FitsKinds ops (pushed_kinds more rest) → ((ops : List Operand) → FitsKinds ops rest → TopValues n ops) → TopValues (length more + n) ops
+top_values : (more : List Kind) (n : ℕ) (rest : List OperandKind) (ops : List Operand) → FitsKinds ops (pushed_kinds more rest)
+    → ((ops : List Operand) → FitsKinds ops rest → TopValues n ops) → TopValues (length more + n) ops
 top_values [] n rest ops f h = let e : 0 + n ≡ n = omega arith in subst (λ n. TopValues n ops) (sym e) (h ops f)
 top_values (k ∷ more) n rest ops f h =
     let e : suc (length more) + n ≡ length more + suc n = omega arith in
@@ -107,7 +108,12 @@ module _ (p : Program) (valid : IsValid p) where
   has_proc n pc ks m ops f k =
       let a = as_many ops ks k in
       let b : length ks ≡ length f.parameters + length f.rest = ap length f.taken ∙ pushed_many f.parameters f.rest in
-      record { entry = f.entry; has = f.has; callable = record { parameters = f.parameters; variables = f.variables; own = f.own; taken = omega (arith, a, b) } }
+      record {
+        entry = f.entry;
+        has = f.has;
+        callable =
+            record { parameters = f.parameters; variables = f.variables; own = f.own; taken = omega (arith, a, b) };
+      }
 
   module _ (c : Position) (fits : Fits p (free c)) where
     abbrev ks : List OperandKind

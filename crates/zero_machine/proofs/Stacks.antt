@@ -36,14 +36,17 @@ bytes_many (Of v ∷ ops) held = omega (arith, bytes_many ops held)
 bytes_many (At a ∷ ops) held = omega (arith, bytes_many ops held)
 
 -- a call takes the newest operands, the oldest of them first
-pub taken : (n : ℕ) (acc ops : List Operand) (go : List Operand → List Operand → Move) → n ≤ length ops → on_operands n acc ops go ≡ go (reverse (take n ops) ++ acc) (drop n ops)
+pub taken : (n : ℕ) (acc ops : List Operand) (go : List Operand → List Operand → Move) → n ≤ length ops
+    → on_operands n acc ops go ≡ go (reverse (take n ops) ++ acc) (drop n ops)
 taken zero acc ops go le = refl
 taken (suc n) acc [] go le = absurd (omega arith)
 taken (suc n) acc (o ∷ ops) go le =
-    let e : reverse (o ∷ take n ops) ++ acc ≡ reverse (take n ops) ++ (o ∷ acc) = ap (λ l. l ++ acc) (reverse-append (o ∷ []) (take n ops)) ∙ append_assoc (reverse (take n ops)) (o ∷ []) acc in
+    let e : reverse (o ∷ take n ops) ++ acc ≡ reverse (take n ops) ++ (o ∷ acc) =
+    ap (λ l. l ++ acc) (reverse-append (o ∷ []) (take n ops)) ∙ append_assoc (reverse (take n ops)) (o ∷ []) acc in
     taken n (o ∷ acc) ops go (omega arith) ∙ ap (λ l. go l (drop n ops)) (sym e)
 
-pub taken_all : (n : ℕ) (ops : List Operand) (go : List Operand → List Operand → Move) → n ≤ length ops → on_operands n [] ops go ≡ go (reverse (take n ops)) (drop n ops)
+pub taken_all : (n : ℕ) (ops : List Operand) (go : List Operand → List Operand → Move) → n ≤ length ops
+    → on_operands n [] ops go ≡ go (reverse (take n ops)) (drop n ops)
 taken_all n ops go le = taken n [] ops go le ∙ ap (λ l. go l (drop n ops)) (append-nil (reverse (take n ops)))
 
 written_append : (at : ℕ) (ns ms : List ℕ) (cells : Cells) → written_from at (ns ++ ms) cells ≡ written_from (at + length ns) ms (written_from at ns cells)
@@ -54,7 +57,9 @@ written_append at (n ∷ ns) ms cells =
 
 -- the cells of the call, then what the parameters hold, then the variables
 pub frame_written : (at : ℕ) (args : List Operand) (variables : List Kind) (cells : Cells)
-    → written_from at (frame_numbers args variables) cells ≡ written_from (at + 2 + length args) (map (λ k. cell_of (blank_of k)) variables) (written_from (at + 2) (map number_of_operand args) (written_from at link_numbers cells))
+    → written_from at (frame_numbers args variables) cells
+    ≡ written_from (at + 2 + length args) (map (λ k. cell_of (blank_of k)) variables)
+    (written_from (at + 2) (map number_of_operand args) (written_from at link_numbers cells))
 frame_written at args variables cells =
     let ns = map number_of_operand args in
     let ms = map (λ k. cell_of (blank_of k)) variables in
@@ -63,7 +68,9 @@ frame_written at args variables cells =
     let f : at + 2 + length ns ≡ at + 2 + length args = ap (λ k. at + 2 + k) (length-map args number_of_operand) in
     ap (λ k. written_from k (ns ++ ms) before) e ∙ written_append (at + 2) ns ms before ∙ ap (λ k. written_from k ms (written_from (at + 2) ns before)) f
 
-pub frame_so : (at : ℕ) (args : List Operand) (variables : List Kind) (before link with_args : Cells) → link ≡ written_from at link_numbers before → with_args ≡ written_from (at + 2) (map number_of_operand args) link
+pub frame_so : (at : ℕ) (args : List Operand) (variables : List Kind) (before link with_args : Cells) → link ≡ written_from at link_numbers before
+    → with_args ≡ written_from (at + 2) (map number_of_operand args) link
     → written_from (at + 2 + length args) (map (λ k. cell_of (blank_of k)) variables) with_args ≡ written_from at (frame_numbers args variables) before
 frame_so at args variables before link with_args e f =
-    ap (written_from (at + 2 + length args) (map (λ k. cell_of (blank_of k)) variables)) (f ∙ ap (written_from (at + 2) (map number_of_operand args)) e) ∙ sym (frame_written at args variables before)
+    ap (written_from (at + 2 + length args) (map (λ k. cell_of (blank_of k)) variables)) (f ∙ ap (written_from (at + 2) (map number_of_operand args)) e)
+    ∙ sym (frame_written at args variables before)

@@ -29,11 +29,13 @@ start_fits p valid = record {
     has_room false e = let f : ⊥ = cc in absurd f
 
 -- so does the state with these parts
-pub starts : (p : Program) → IsValid p → (used : ℕ) (w : Waits) (s : Stacked) (made kinds : List Kind) → kinds ≡ p.variables → made ≡ p.variables → used ≡ length kinds → w ≡ cond (cells_fit (length made)) Nothing (Refused CellRoom) → s ≡ record { ops = []; frames = [] }
+pub starts : (p : Program) → IsValid p → (used : ℕ) (w : Waits) (s : Stacked) (made kinds : List Kind) → kinds ≡ p.variables → made ≡ p.variables
+    → used ≡ length kinds → w ≡ cond (cells_fit (length made)) Nothing (Refused CellRoom) → s ≡ record { ops = []; frames = [] }
     → Fits p (record { position = record { pc = 0; ops = s.ops; used = used; frames = s.frames }; waits = w })
 starts p valid used w s made kinds same made_same count room empty =
     let u : length p.variables ≡ used = ap length (sym same) ∙ sym count in
-    let r : cond (cells_fit (length p.variables)) Nothing (Refused CellRoom) ≡ w = ap (λ (l : List Kind). cond (cells_fit (length l)) Nothing (Refused CellRoom)) (sym made_same) ∙ sym room in
+    let r : cond (cells_fit (length p.variables)) Nothing (Refused CellRoom) ≡ w =
+    ap (λ (l : List Kind). cond (cells_fit (length l)) Nothing (Refused CellRoom)) (sym made_same) ∙ sym room in
     subst (λ (s : Stacked). Fits p (record { position = record { pc = 0; ops = s.ops; used = used; frames = s.frames }; waits = w })) (sym empty)
     (subst (λ n. Fits p (record { position = record { pc = 0; ops = []; used = n; frames = [] }; waits = w })) u
     (subst (λ w. Fits p (record { position = record { pc = 0; ops = []; used = length p.variables; frames = [] }; waits = w })) r (start_fits p valid)))

@@ -69,7 +69,8 @@ due (Refused stop) = Some (halts.Stopped stop)
 
 -- an instruction that spends no mark leads so on, or comes so to rest
 abbrev pub StepsSo : Instr → Position → Cells → Control → Cells → Next → Type 0
-StepsSo i c cells c' cells' next = (p : Program) (marks : ℕ) → stage_of (halt_of next) c' (scene_of cells' marks) ≡ stage (instruction p (Some i) c cells) c (scene_of cells marks)
+StepsSo i c cells c' cells' next =
+    (p : Program) (marks : ℕ) → stage_of (halt_of next) c' (scene_of cells' marks) ≡ stage (instruction p (Some i) c cells) c (scene_of cells marks)
 
 -- an instruction goes on so
 abbrev pub GoesOn : Instr → Position → Cells → Control → Cells → Type 0

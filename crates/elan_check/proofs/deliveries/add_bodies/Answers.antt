@@ -13,9 +13,12 @@ returns-clause-found c =
     let s = c.args.scope.now in
     let k = c.args.known.now in
     let vs = c.args.level.now.units in
-    level_found k c.args.level.now s c.add_units.new.scope c.in_ok-first.first c.add_units.new.out c.add_refinements.new.out c.requires.scope c.in_ok-add_units.ensures.kept
+    level_found k c.args.level.now s c.add_units.new.scope c.in_ok-first.first c.add_units.new.out c.add_refinements.new.out c.requires.scope
+    c.in_ok-add_units.ensures.kept
     (c.in_ok-first.ensures ∙ ap bodies_of_units c.as_slice-units.ensures)
     (c.in_ok-add_units.ensures.found
     ∙ ap (λ (us : List LevelUnit). all_known k c.args.out.now 0 (all_unit_bodies s 0 us)) c.as_slice-units.ensures
     ∙ ap (λ (o : Known). all_known k o 0 (all_unit_bodies s 0 vs)) c.requires.out)
-    (c.in_ok-add_refinements.ensures.found ∙ ap (λ (rs : List Refinement). all_known k c.add_units.new.out c.in_ok-first.first (all_refined_units c.add_units.new.scope c.in_ok-first.first rs)) c.as_slice-refinements.ensures)
+    (c.in_ok-add_refinements.ensures.found
+    ∙ ap (λ (rs : List Refinement). all_known k c.add_units.new.out c.in_ok-first.first (all_refined_units c.add_units.new.scope c.in_ok-first.first rs))
+    c.as_slice-refinements.ensures)

@@ -9,7 +9,8 @@ pub returns : goal.returns
 returns c =
     let s = c.args.scope.now in
     let us = c.args.units.now in
-    body_found c.push-2.result c.args.known.now c.args.out.now c.args.number (shape.units c.args.wanted (map (shape.unit s) us)) c.in_ok-delivery.delivery c.in_units.new.out c.push.new.self c.push-2.new.self
+    body_found c.push-2.result c.args.known.now c.args.out.now c.args.number (shape.units c.args.wanted (map (shape.unit s) us)) c.in_ok-delivery.delivery
+    c.in_units.new.out c.push.new.self c.push-2.new.self
     c.in_ok-delivery.ensures
     (c.in_ok-in_units.ensures ∙ ap (λ (ns : List ℕ). ns ++ uses.in_units s us) c.new-calls.ensures ∙ sym (units_called s c.args.wanted us))
     c.in_ok-push.ensures.ok c.push-2.ensures.ok

@@ -15,8 +15,12 @@ loop-refinement-preserved c =
     let n = c.loop-refinement.number in
     let k = c.args.known.now in record {
       scope = left_refinement z (ap (λ (y : Scope). y.refinement) c.loop-refinement.invariant.scope ∙ c.requires) ∙ c.loop-refinement.invariant.scope;
-      found = refinement_found k c.args.scope.now z c.args.refinements.now c.loop-refinement.refinement-index c.refinement-item.result n c.in_ok-number.number c.loop-refinement.out c.add_body.new.out _
+      found =
+          refinement_found k c.args.scope.now z c.args.refinements.now c.loop-refinement.refinement-index c.refinement-item.result n c.in_ok-number.number
+          c.loop-refinement.out c.add_body.new.out _
           c.loop-refinement-test.true c.refinement-item.is c.in_ok-number.ensures c.loop-refinement.invariant.scope
-          (c.in_ok-add_body.ensures ∙ ap (λ (us : List Statement). more_known k c.loop-refinement.out n (shape.units Open (map (shape.unit (refinement_scope z n)) us))) c.as_slice.ensures)
+          (c.in_ok-add_body.ensures
+          ∙ ap (λ (us : List Statement). more_known k c.loop-refinement.out n (shape.units Open (map (shape.unit (refinement_scope z n)) us)))
+          c.as_slice.ensures)
           c.loop-refinement.invariant.found;
     }

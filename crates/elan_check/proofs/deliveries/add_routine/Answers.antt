@@ -17,10 +17,14 @@ returns-clause-found c =
     let n = c.args.number in
     let k = c.args.known.now in
     let z = scope_with s (within n c.in_ok-names.names) s.refinement in
-    routine_found k s z n c.in_ok-first.first c.args.delivered.now c.args.formals.now c.args.body.now c.args.out.now c.add_body.new.out c.add_refinements.new.out
+    routine_found k s z n c.in_ok-first.first c.args.delivered.now c.args.formals.now c.args.body.now c.args.out.now c.add_body.new.out
+    c.add_refinements.new.out
     (entered s n c.in_ok-names.names (body_names c.args.formals.now c.args.body.now) c.requires.unit c.in_ok-names.ensures)
     c.in_ok-first.ensures
     (c.in_ok-add_body.ensures
-    ∙ ap (λ (d : Delivery). more_known k c.args.out.now n (shape.units d (map (shape.unit z) c.as_slice.result.now))) (c.of-wanted.ensures ∙ ap delivered c.result_type.ensures)
-    ∙ ap (λ (us : List Statement). more_known k c.args.out.now n (shape.units (delivered (result c.args.delivered.now)) (map (shape.unit z) us))) c.as_slice.ensures)
-    (c.in_ok-add_refinements.ensures.found ∙ ap (λ (rs : List Refinement). all_known k c.add_body.new.out c.in_ok-first.first (all_refined_units z c.in_ok-first.first rs)) c.as_slice-2.ensures)
+    ∙ ap (λ (d : Delivery). more_known k c.args.out.now n (shape.units d (map (shape.unit z) c.as_slice.result.now)))
+    (c.of-wanted.ensures ∙ ap delivered c.result_type.ensures)
+    ∙ ap (λ (us : List Statement). more_known k c.args.out.now n (shape.units (delivered (result c.args.delivered.now)) (map (shape.unit z) us)))
+    c.as_slice.ensures)
+    (c.in_ok-add_refinements.ensures.found
+    ∙ ap (λ (rs : List Refinement). all_known k c.add_body.new.out c.in_ok-first.first (all_refined_units z c.in_ok-first.first rs)) c.as_slice-2.ensures)

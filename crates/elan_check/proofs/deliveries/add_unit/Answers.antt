@@ -9,11 +9,21 @@ use Rattle.elan_check.proofs.deliveries.add_unit.Goals as goal
 pub returns-in-Proc-clause-found : goal.returns-in-Proc-clause-found
 returns-in-Proc-clause-found c =
     let s = c.args.scope.now in
-    subst (λ (v : LevelUnit). OnOk c.add_routine.result (c.add_routine.new.out ≡ all_known c.args.known.now c.args.out.now c.args.number (unit_bodies s c.args.number v))) (sym c.in-Proc.is)
-    (subst (λ (fs : List Formal). OnOk c.add_routine.result (c.add_routine.new.out ≡ all_known c.args.known.now c.args.out.now c.args.number (inside_units s c.args.number c.in-Proc.result fs c.in-Proc.body))) c.as_slice.ensures c.add_routine.ensures.found)
+    subst (λ (v : LevelUnit).
+    OnOk c.add_routine.result (c.add_routine.new.out ≡ all_known c.args.known.now c.args.out.now c.args.number (unit_bodies s c.args.number v)))
+    (sym c.in-Proc.is)
+    (subst (λ (fs : List Formal).
+    OnOk c.add_routine.result
+    (c.add_routine.new.out ≡ all_known c.args.known.now c.args.out.now c.args.number (inside_units s c.args.number c.in-Proc.result fs c.in-Proc.body)))
+    c.as_slice.ensures c.add_routine.ensures.found)
 
 pub returns-in-Op-clause-found : goal.returns-in-Op-clause-found
 returns-in-Op-clause-found c =
     let s = c.args.scope.now in
-    subst (λ (v : LevelUnit). OnOk c.add_routine-in-Op.result (c.add_routine-in-Op.new.out ≡ all_known c.args.known.now c.args.out.now c.args.number (unit_bodies s c.args.number v))) (sym c.in-Op.is)
-    (subst (λ (fs : List Formal). OnOk c.add_routine-in-Op.result (c.add_routine-in-Op.new.out ≡ all_known c.args.known.now c.args.out.now c.args.number (inside_units s c.args.number c.in-Op.result fs c.in-Op.body))) c.as_slice-in-Op.ensures c.add_routine-in-Op.ensures.found)
+    subst (λ (v : LevelUnit).
+    OnOk c.add_routine-in-Op.result (c.add_routine-in-Op.new.out ≡ all_known c.args.known.now c.args.out.now c.args.number (unit_bodies s c.args.number v)))
+    (sym c.in-Op.is)
+    (subst (λ (fs : List Formal).
+    OnOk c.add_routine-in-Op.result
+    (c.add_routine-in-Op.new.out ≡ all_known c.args.known.now c.args.out.now c.args.number (inside_units s c.args.number c.in-Op.result fs c.in-Op.body)))
+    c.as_slice-in-Op.ensures c.add_routine-in-Op.ensures.found)

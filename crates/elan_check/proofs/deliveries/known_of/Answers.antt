@@ -8,10 +8,13 @@ use Rattle.elan_check.proofs.deliveries.known_of.Goals as goal
 
 pub returns-then-eq-clause-found : goal.returns-then-eq-clause-found
 returns-then-eq-clause-found c =
-    let count : c.len-end.result ≡ length (headings c.args.level.now) = c.len-end.ensures ∙ ap (λ (z : Scope). length z.headings) (c.in_ok-known.ensures.kept ∙ c.requires) in
+    let count : c.len-end.result ≡ length (headings c.args.level.now) =
+    c.len-end.ensures ∙ ap (λ (z : Scope). length z.headings) (c.in_ok-known.ensures.kept ∙ c.requires) in
     let few : c.loop.counter ≤ length (headings c.args.level.now) = omega (arith, count) in
-    let same : c.as_slice.result.now ≡ c.as_slice-in-loop.result.now = (slice_eq-Decides delivery_Decides c.as_slice.result.now c.as_slice-in-loop.result.now true c.if-eq.ensures).0 refl in
-    found_all c.args.level.now c.loop.counter c.loop.known c.in_ok-next.next c.loop.invariant.found c.in_ok-next.ensures.found (sym c.as_slice.ensures ∙ same ∙ c.as_slice-in-loop.ensures) few
+    let same : c.as_slice.result.now ≡ c.as_slice-in-loop.result.now =
+    (slice_eq-Decides delivery_Decides c.as_slice.result.now c.as_slice-in-loop.result.now true c.if-eq.ensures).0 refl in
+    found_all c.args.level.now c.loop.counter c.loop.known c.in_ok-next.next c.loop.invariant.found c.in_ok-next.ensures.found
+    (sym c.as_slice.ensures ∙ same ∙ c.as_slice-in-loop.ensures) few
 
 pub loop-preserved : goal.loop-preserved
 loop-preserved c = record {

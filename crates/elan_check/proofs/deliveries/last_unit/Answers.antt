@@ -24,5 +24,6 @@ loop-unit-preserved c = λ s d.
 
 pub returns : goal.returns
 returns c = λ s d.
-    sym (at_drop_all (λ us. last_behind d (option_map (λ u. shape.role d (shape.written (shape.unit s u.now))) c.loop-unit.last) (map (shape.unit s) us)) c.args.units.now c.loop-unit.unit-index c.loop-unit-test.false)
+    sym (at_drop_all (λ us. last_behind d (option_map (λ u. shape.role d (shape.written (shape.unit s u.now))) c.loop-unit.last) (map (shape.unit s) us))
+    c.args.units.now c.loop-unit.unit-index c.loop-unit-test.false)
     ∙ c.loop-unit.invariant s d

@@ -10,4 +10,5 @@ use Rattle.elan_check.proofs.deliveries.last_unit.Given as goal
 abbrev pub invariant-loop-unit : goal.invariant-loop-unit
 invariant-loop-unit l =
     (s : Scope) → (d : Delivery) →
-    last_behind d (option_map (λ u. shape.role d (shape.written (shape.unit s u.now))) l.last) (map (shape.unit s) (drop l.unit-index l.units)) ≡ last_unit (shape.units d (map (shape.unit s) l.units))
+    last_behind d (option_map (λ u. shape.role d (shape.written (shape.unit s u.now))) l.last) (map (shape.unit s) (drop l.unit-index l.units))
+    ≡ last_unit (shape.units d (map (shape.unit s) l.units))

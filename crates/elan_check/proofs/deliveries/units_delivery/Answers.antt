@@ -12,4 +12,5 @@ returns-in-None c = ap (λ (o : Option Phrase). unit_delivery c.args.known.now o
 pub returns-in-Some : goal.returns-in-Some
 returns-in-Some c =
     subst (λ (o : Option Phrase). IfOk c.outcome.result (λ d. d ≡ unit_delivery c.args.known.now o)) (c.in-Some.ensures c.args.scope.now c.args.wanted)
-    (c.outcome.ensures (judged c.args.known.now (shape.role c.args.wanted (shape.written (shape.unit c.args.scope.now c.in-Some.unit.now)))) c.judge_role.ensures)
+    (c.outcome.ensures (judged c.args.known.now (shape.role c.args.wanted (shape.written (shape.unit c.args.scope.now c.in-Some.unit.now))))
+    c.judge_role.ensures)

@@ -9,4 +9,5 @@ use Rattle.elan_check.proofs.routine.declare_all.Given as goal
 
 abbrev pub invariant-loop-name : goal.invariant-loop-name
 invariant-loop-name l =
-    (k : Known) → (ps : List Phrase) → Is l.fn.before (judged_all k (all_of ps)) → Grown k l.row (declare_all l.scope (drop l.name-index l.names)) (ps ++ declare_all l.scope l.names)
+    (k : Known) → (ps : List Phrase) → Is l.fn.before (judged_all k (all_of ps))
+    → Grown k l.row (declare_all l.scope (drop l.name-index l.names)) (ps ++ declare_all l.scope l.names)

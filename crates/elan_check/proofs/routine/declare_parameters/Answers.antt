@@ -9,6 +9,8 @@ use Rattle.elan_check.proofs.routine.declare_parameters.Goals as goal
 
 pub loop-formal-preserved : goal.loop-formal-preserved
 loop-formal-preserved c = λ k ps h.
-    formals_go k c.loop-formal.row c.declare_all-row.result c.args.scope.now c.args.formals.now c.loop-formal.formal-index c.formal-item.result _ c.loop-formal-test.true c.formal-item.is
+    formals_go k c.loop-formal.row c.declare_all-row.result c.args.scope.now c.args.formals.now c.loop-formal.formal-index c.formal-item.result _
+    c.loop-formal-test.true c.formal-item.is
     (c.loop-formal.invariant k ps h)
-    (λ qs g. subst (λ (ns : List Name). Is c.declare_all-row.result (judged_all k (all_of (qs ++ declare_all c.args.scope.now ns)))) c.as_slice.ensures (c.declare_all-row.ensures k qs g))
+    (λ qs g. subst (λ (ns : List Name). Is c.declare_all-row.result (judged_all k (all_of (qs ++ declare_all c.args.scope.now ns)))) c.as_slice.ensures
+    (c.declare_all-row.ensures k qs g))

@@ -9,4 +9,5 @@ use Rattle.elan_check.proofs.routine.declare_parameters.Given as goal
 
 abbrev pub invariant-loop-formal : goal.invariant-loop-formal
 invariant-loop-formal l =
-    (k : Known) → (ps : List Phrase) → Is l.fn.before (judged_all k (all_of ps)) → Grown k l.row (declare_parameters l.scope (drop l.formal-index l.formals)) (ps ++ declare_parameters l.scope l.formals)
+    (k : Known) → (ps : List Phrase) → Is l.fn.before (judged_all k (all_of ps))
+    → Grown k l.row (declare_parameters l.scope (drop l.formal-index l.formals)) (ps ++ declare_parameters l.scope l.formals)

@@ -10,5 +10,7 @@ pub returns : goal.returns
 returns c =
     let of = c.args.of in
     let s = c.args.scope.now in
-    body_is c.args.known.now s (owner.Own (parameters of.formals.now) (own_types of.body.now)) c.in-Ok.owner (result of.result.now) c.result_type-of_type.result c.of-wanted.result
-    of.body.now.units c.as_slice.result.now c.in_ok-meant.meant c.body.result c.as_slice.ensures (c.of-wanted.ensures ∙ ap delivered c.result_type-of_type.ensures) c.in_ok-meant.ensures c.in-Ok.ensures c.result_type-of_type.ensures c.body.ensures
+    body_is c.args.known.now s (owner.Own (parameters of.formals.now) (own_types of.body.now)) c.in-Ok.owner (result of.result.now) c.result_type-of_type.result
+    c.of-wanted.result
+    of.body.now.units c.as_slice.result.now c.in_ok-meant.meant c.body.result c.as_slice.ensures
+    (c.of-wanted.ensures ∙ ap delivered c.result_type-of_type.ensures) c.in_ok-meant.ensures c.in-Ok.ensures c.result_type-of_type.ensures c.body.ensures

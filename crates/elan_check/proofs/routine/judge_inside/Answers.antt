@@ -13,6 +13,8 @@ returns-clause-meaning c = λ ps h.
     let k = c.args.known.now in
     let qs = declare_parameters s of.formals.now in
     let q = body_in s of.result.now of.formals.now of.body.now in
-    inside_goes k c.judge_refinements.result ps s of.number c.in-Ok.first of.result.now of.formals.now of.body.now c.as_slice-refinements.result.now c.in-Ok.ensures c.as_slice-refinements.ensures
+    inside_goes k c.judge_refinements.result ps s of.number c.in-Ok.first of.result.now of.formals.now of.body.now c.as_slice-refinements.result.now
+    c.in-Ok.ensures c.as_slice-refinements.ensures
     (c.judge_refinements.ensures.meaning ((ps ++ qs) ++ q ∷ [])
-    (row_is k c.with-row.result (ps ++ qs) q (c.with-row.ensures (judged_all k (all_of (ps ++ qs))) (judged k q) (c.declare_parameters-row.ensures k ps h) c.judge_body.ensures)))
+    (row_is k c.with-row.result (ps ++ qs) q
+    (c.with-row.ensures (judged_all k (all_of (ps ++ qs))) (judged k q) (c.declare_parameters-row.ensures k ps h) c.judge_body.ensures)))

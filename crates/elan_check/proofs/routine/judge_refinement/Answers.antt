@@ -19,7 +19,10 @@ returns-in-Ok-clause-meaning c =
     let r = c.args.refinement.now in
     let inner = l.refinement_scope s c.args.number in
     let name = subst (λ (x : List ℕ). Is c.declared-name.result (judged k (leaf (form.declares r.name.at s x)))) c.as_slice.ensures c.declared-name.ensures in
-    let units = subst (λ (us : List Statement). Is c.judge_units-units.result (judged k (shape.units Open (map (shape.unit inner) us)))) c.as_slice-2.ensures c.judge_units-units.ensures in
-    whole_is k (form.refinement (l.owner_of s.routine)) (part (l.declares s r.name) (part (l.refined_units s c.args.number r) none)) c.refinement_parts.result c.in-Ok.parts
+    let units =
+    subst (λ (us : List Statement). Is c.judge_units-units.result (judged k (shape.units Open (map (shape.unit inner) us)))) c.as_slice-2.ensures
+    c.judge_units-units.ensures in
+    whole_is k (form.refinement (l.owner_of s.routine)) (part (l.declares s r.name) (part (l.refined_units s c.args.number r) none)) c.refinement_parts.result
+    c.in-Ok.parts
     (c.in-Ok.ensures (judged k (l.declares s r.name)) (judged k (l.refined_units s c.args.number r)) name units)
     (subst (λ (o : Owner). Is c.refinement_parts.result (rule k (form.refinement o) c.in-Ok.parts)) c.owner_of.ensures (c.refinement_parts.ensures k))

@@ -6,6 +6,9 @@ pub loop-refinement-preserved : goal.loop-refinement-preserved
 loop-refinement-preserved c = record {
   scope = c.judge_refinement-next.ensures.kept ∙ c.loop-refinement.invariant.scope;
   row = λ ps h.
-      refinements_go c.args.known.now c.loop-refinement.row c.judge_refinement-next.result c.with-row.result c.with-row.ensures c.args.scope.now c.loop-refinement.scope c.args.refinements.now c.loop-refinement.refinement-index c.refinement-item.result c.loop-refinement.number c.in-Ok.following _
-      c.loop-refinement-test.true c.refinement-item.is c.in-Ok.ensures c.loop-refinement.invariant.scope (c.loop-refinement.invariant.row ps h) c.judge_refinement-next.ensures.meaning;
+      refinements_go c.args.known.now c.loop-refinement.row c.judge_refinement-next.result c.with-row.result c.with-row.ensures c.args.scope.now
+      c.loop-refinement.scope c.args.refinements.now c.loop-refinement.refinement-index c.refinement-item.result c.loop-refinement.number c.in-Ok.following
+      _
+      c.loop-refinement-test.true c.refinement-item.is c.in-Ok.ensures c.loop-refinement.invariant.scope (c.loop-refinement.invariant.row ps h)
+      c.judge_refinement-next.ensures.meaning;
 }

@@ -13,4 +13,5 @@ pub record Kept (P Q : Type 0) : Type 0 where
 abbrev pub invariant-loop-refinement : goal.invariant-loop-refinement
 invariant-loop-refinement l =
     Kept (l.scope ≡ l.fn.scope)
-    ((ps : List Phrase) → Is l.fn.before (judged_all l.known (all_of ps)) → Grown l.known l.row (refinements l.fn.scope l.number (drop l.refinement-index l.refinements)) (ps ++ refinements l.fn.scope l.first l.refinements))
+    ((ps : List Phrase) → Is l.fn.before (judged_all l.known (all_of ps))
+    → Grown l.known l.row (refinements l.fn.scope l.number (drop l.refinement-index l.refinements)) (ps ++ refinements l.fn.scope l.first l.refinements))

@@ -15,8 +15,11 @@ returns-clause-meaning c = λ ps h.
     let k = c.args.known.now in
     let own = body_names of.formals.now of.body.now in
     let p = headed k c.judge_inside-row.result s of.number of.at of.name.now of.result.now of.formals.now of.body.now of.sort ps in
-    c.routine_of.ensures k (l.heading_phrases s of.number of.at of.name.now of.result.now of.formals.now of.body.now of.sort ps ++ l.body_phrases s of.number of.at of.name.now of.result.now of.formals.now of.body.now)
-    (routine_row k c.judge_inside-row.result s of.number of.at of.name.now of.result.now of.formals.now of.body.now of.sort ps (scope_with s (within of.number c.in-Ok.own) s.refinement)
+    c.routine_of.ensures k (l.heading_phrases s of.number of.at of.name.now of.result.now of.formals.now of.body.now of.sort ps
+    ++ l.body_phrases s of.number of.at of.name.now of.result.now of.formals.now of.body.now)
+    (routine_row k c.judge_inside-row.result s of.number of.at of.name.now of.result.now of.formals.now of.body.now of.sort ps
+    (scope_with s (within of.number c.in-Ok.own) s.refinement)
     (entered s of.number c.in-Ok.own own c.requires.unit c.in-Ok.ensures)
     (c.judge_inside-row.ensures.meaning (ps ++ p ∷ [])
-    (row_is k c.with-row.result ps p (c.with-row.ensures (judged_all k (all_of ps)) (judged k p) h (c.judge_heading.ensures k (l.routine_scope s of.number own))))))
+    (row_is k c.with-row.result ps p
+    (c.with-row.ensures (judged_all k (all_of ps)) (judged k p) h (c.judge_heading.ensures k (l.routine_scope s of.number own))))))

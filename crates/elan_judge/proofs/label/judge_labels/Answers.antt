@@ -15,6 +15,7 @@ pub returns : goal.returns
 returns c =
     ap (λ (r : Ruled (List Meant)). r >>= rule c.args.known.now form.labels)
     (list_done (λ n. Labels (n ∷ [])) c.loop-label.numbers _ _
-    (at_drop_all (λ ls. judged_all c.args.known.now (all_of (label_phrases c.args.scope.now c.loop-label.before ls))) c.args.labels.now c.loop-label.label-index c.loop-label-test.false)
+    (at_drop_all (λ ls. judged_all c.args.known.now (all_of (label_phrases c.args.scope.now c.loop-label.before ls))) c.args.labels.now c.loop-label.label-index
+    c.loop-label-test.false)
     c.loop-label.invariant)
     ∙ ap (λ (ns : List ℤ). gives (Labels ns)) (labels_single c.loop-label.numbers)

@@ -9,8 +9,10 @@ returns-then-is_empty c = λ s. asked_none c.args.wanted (shape.unit s c.args.un
 
 pub returns-then-all_empty : goal.returns-then-all_empty
 returns-then-all_empty c = λ s.
-    asked_some c.args.wanted (shape.unit s c.args.unit.now) (map (shape.unit s) c.args.rest.now) true (Some c.args.wanted) (c.if-is_empty.ensures s) (c.if-all_empty.ensures s) refl
+    asked_some c.args.wanted (shape.unit s c.args.unit.now) (map (shape.unit s) c.args.rest.now) true (Some c.args.wanted) (c.if-is_empty.ensures s)
+    (c.if-all_empty.ensures s) refl
 
 pub returns-else-all_empty : goal.returns-else-all_empty
 returns-else-all_empty c = λ s.
-    asked_some c.args.wanted (shape.unit s c.args.unit.now) (map (shape.unit s) c.args.rest.now) false (Some Nothing) (c.if-is_empty.ensures s) (c.if-all_empty.ensures s) refl
+    asked_some c.args.wanted (shape.unit s c.args.unit.now) (map (shape.unit s) c.args.rest.now) false (Some Nothing) (c.if-is_empty.ensures s)
+    (c.if-all_empty.ensures s) refl

@@ -6,7 +6,8 @@ abbrev pub invariant-in_exprs-loop-expr : goal.invariant-in_exprs-loop-expr
 invariant-in_exprs-loop-expr l = l.out ++ all (map (in_expr l.scope) (drop l.expr-index l.exprs)) ≡ l.fn.out ++ all (map (in_expr l.scope) l.exprs)
 
 abbrev pub invariant-in_branches-loop-branch : goal.invariant-in_branches-loop-branch
-invariant-in_branches-loop-branch l = l.out ++ all (map (in_branch l.scope) (drop l.branch-index l.branches)) ≡ l.fn.out ++ all (map (in_branch l.scope) l.branches)
+invariant-in_branches-loop-branch l =
+    l.out ++ all (map (in_branch l.scope) (drop l.branch-index l.branches)) ≡ l.fn.out ++ all (map (in_branch l.scope) l.branches)
 
 abbrev pub invariant-in_cases-loop-case : goal.invariant-in_cases-loop-case
 invariant-in_cases-loop-case l = l.out ++ all (map (in_case l.scope) (drop l.case-index l.cases)) ≡ l.fn.out ++ all (map (in_case l.scope) l.cases)

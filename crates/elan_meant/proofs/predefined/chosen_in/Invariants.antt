@@ -3,7 +3,8 @@ use Rattle.elan_meant.specs.Predefined.{chosen}
 use Rattle.elan_meant.proofs.predefined.chosen_in.Given as goal
 
 abbrev pub invariant-loop-rows : goal.invariant-loop-rows
-invariant-loop-rows l = chosen (map (λ r. (r.0.now, r.1.now, r.2)) l.rows) l.name l.operands ≡ chosen (map (λ r. (r.0.now, r.1.now, r.2)) l.initial.rows) l.name l.operands
+invariant-loop-rows l =
+    chosen (map (λ r. (r.0.now, r.1.now, r.2)) l.rows) l.name l.operands ≡ chosen (map (λ r. (r.0.now, r.1.now, r.2)) l.initial.rows) l.name l.operands
 
 abbrev pub decreases-loop-rows : goal.decreases-loop-rows
 decreases-loop-rows l = length l.rows

@@ -4,7 +4,8 @@ use Rattle.elan_grammar.proofs.Knots.{expr_zero, expr_parse, units_zero, units_p
 use Rattle.phrase_parser.proofs.knot.+phrases.Goals as goal
 
 pub expression-returns-then-depth-eq0 : goal.expression-returns-then-depth-eq0
-expression-returns-then-depth-eq0 t c = λ _. expr_zero c.args.depth c.args.level c.args.cursor.now.rest.now (omega arith) ∙ ap (λ (e : ParseError). Err e) (sym c.refuse.ensures)
+expression-returns-then-depth-eq0 t c =
+    λ _. expr_zero c.args.depth c.args.level c.args.cursor.now.rest.now (omega arith) ∙ ap (λ (e : ParseError). Err e) (sym c.refuse.ensures)
 
 pub expression-returns : goal.expression-returns
 expression-returns t c = expr_parse c.args.depth (c.args.depth - 1) c.args.level _ _ _ (omega arith) c.level.ensures

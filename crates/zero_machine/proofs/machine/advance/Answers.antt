@@ -21,4 +21,5 @@ returns-clause-fits g c =
     let p = c.args.code.now in
     let s = position_of c.args.s.now in
     let fits : Fits p (free s) = subst (λ (w : Waits). Fits p (record { position = s; waits = w })) c.requires.free c.requires.fits in
-    step_fits p s c.execute.result (control_of c.execute.new.s) (g.M.Memory.cells c.args.m.now) c.args.marks.now (scene_of (g.M.Memory.cells c.execute.new.m) c.execute.new.marks) c.len-size.ensures.valid fits c.instr.result c.instr.ensures c.execute.ensures.goes
+    step_fits p s c.execute.result (control_of c.execute.new.s) (g.M.Memory.cells c.args.m.now) c.args.marks.now
+    (scene_of (g.M.Memory.cells c.execute.new.m) c.execute.new.marks) c.len-size.ensures.valid fits c.instr.result c.instr.ensures c.execute.ensures.goes

@@ -10,7 +10,8 @@ returns-in-Some-clause-rests g c =
     let s = control_of c.loop-halt.s in
     let t = scene_of (g.M.Memory.cells c.loop-halt.m) c.loop-halt.marks in
     c.loop-halt.invariant.rests (rest_at c.in-Some.halt s t)
-    (last_step c.args.code.now s t (rest_at c.in-Some.halt s t) (rests_due c.args.code.now s (g.M.Memory.cells c.loop-halt.m) c.loop-halt.marks c.in-Some.halt (sym c.in_ok-halt.ensures ∙ c.in-Some.is)))
+    (last_step c.args.code.now s t (rest_at c.in-Some.halt s t)
+    (rests_due c.args.code.now s (g.M.Memory.cells c.loop-halt.m) c.loop-halt.marks c.in-Some.halt (sym c.in_ok-halt.ensures ∙ c.in-Some.is)))
 
 pub returns-in-Some-halt-clause-rests : goal.returns-in-Some-halt-clause-rests
 returns-in-Some-halt-clause-rests g c =
@@ -25,14 +26,16 @@ pub loop-halt-smaller : goal.loop-halt-smaller
 loop-halt-smaller g c =
     let d = control_of c.advance.new.s in
     let t = scene_of (g.M.Memory.cells c.advance.new.m) c.advance.new.marks in
-    nearer_here c.args.code.now (control_of c.loop-halt.s) d t (g.M.Memory.cells c.loop-halt.m) c.loop-halt.marks c.advance.ensures.valid (ap (λ o. stage_of o d t) (sym c.in_default-halt.is ∙ c.halt.ensures) ∙ c.in_ok-next.ensures.goes)
+    nearer_here c.args.code.now (control_of c.loop-halt.s) d t (g.M.Memory.cells c.loop-halt.m) c.loop-halt.marks c.advance.ensures.valid
+    (ap (λ o. stage_of o d t) (sym c.in_default-halt.is ∙ c.halt.ensures) ∙ c.in_ok-next.ensures.goes)
 
 pub loop-halt-preserved : goal.loop-halt-preserved
 loop-halt-preserved g c =
     let d = control_of c.advance.new.s in
     let t = scene_of (g.M.Memory.cells c.advance.new.m) c.advance.new.marks in
     let s = scene_of (g.M.Memory.cells c.loop-halt.m) c.loop-halt.marks in
-    let e : On d t ≡ advance c.args.code.now (control_of c.loop-halt.s) s = ap (λ o. stage_of o d t) (sym c.in_default-halt.is ∙ c.halt.ensures) ∙ c.in_ok-next.ensures.goes in
+    let e : On d t ≡ advance c.args.code.now (control_of c.loop-halt.s) s =
+    ap (λ o. stage_of o d t) (sym c.in_default-halt.is ∙ c.halt.ensures) ∙ c.in_ok-next.ensures.goes in
     record {
       rests = λ r h. c.loop-halt.invariant.rests r (one_step c.args.code.now (control_of c.loop-halt.s) d s t r e h);
       fits = c.in_ok-next.ensures.fits;

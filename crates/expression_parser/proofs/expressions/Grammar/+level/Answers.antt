@@ -16,8 +16,10 @@ operand_alone : (inner : Language) (n i : ℕ) (old new : Tokens) (result : Resu
 operand_alone inner n i old new result e h =
     parses_from (operand inner n) (level inner n i) expr_depth (AtMost n) (AtMost n) old old new result (level_zero inner n i old e) (λ k le. le) h
 
-with_operators : (inner : Language) (n i j : ℕ) (all old new : Tokens) (left : Expr) (result : Result (Tall Expr) ParseError) → i ≡ suc j → (level inner n j).run all ≡ Ok (left, old)
-    → Parses (iterate (dyadic inner n j) (is_level (j + 1)) left) expr_depth (AtMost n) old result new → Parses (level inner n i) expr_depth (AtMost n) all result new
+with_operators : (inner : Language) (n i j : ℕ) (all old new : Tokens) (left : Expr) (result : Result (Tall Expr) ParseError) → i ≡ suc j
+    → (level inner n j).run all ≡ Ok (left, old)
+    → Parses (iterate (dyadic inner n j) (is_level (j + 1)) left) expr_depth (AtMost n) old result new
+    → Parses (level inner n i) expr_depth (AtMost n) all result new
 with_operators inner n i j all old new left result e run h =
     parses_from (iterate (dyadic inner n j) (is_level (j + 1)) left) (level inner n i) expr_depth (AtMost n) (AtMost n) all old new result
     (level_ok inner n i j all old left e run) (λ k le. le) h
@@ -37,4 +39,5 @@ returns-in_err-left g t c =
 pub returns : goal.returns
 returns g t c =
     let k : c.args.level ≡ suc (c.args.level - 1) = omega arith in
-    with_operators (phrases c.args.self.now.depth) c.args.self.now.depth c.args.level (c.args.level - 1) c.args.cursor.now.rest.now _ _ _ _ k c.in_ok-left.ensures.0 c.more_dyadic.ensures
+    with_operators (phrases c.args.self.now.depth) c.args.self.now.depth c.args.level (c.args.level - 1) c.args.cursor.now.rest.now _ _ _ _ k
+    c.in_ok-left.ensures.0 c.more_dyadic.ensures

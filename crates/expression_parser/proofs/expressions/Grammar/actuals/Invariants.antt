@@ -11,5 +11,6 @@ use Rattle.expression_parser.proofs.expressions.Grammar.actuals.Given as goal
 abbrev pub invariant-loop-turn : goal.invariant-loop-turn
 invariant-loop-turn g l =
     ((expressions.actuals (units.phrases l.self.depth) l.self.depth).run l.fn.cursor.rest.now
-    ≡ steps_run (further (mark sign.Comma) (expressions.actual (units.phrases l.self.depth) l.self.depth)) (is_comma) (l._turn-end - l._turn) l.row.tree l.cursor.rest.now)
+    ≡ steps_run (further (mark sign.Comma) (expressions.actual (units.phrases l.self.depth) l.self.depth)) (is_comma) (l._turn-end - l._turn) l.row.tree
+    l.cursor.rest.now)
     × (l.row.height ≡ exprs_depth l.row.tree) × (l.row.height < l.self.depth)

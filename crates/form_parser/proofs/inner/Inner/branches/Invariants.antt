@@ -11,5 +11,6 @@ use Rattle.form_parser.proofs.inner.Inner.branches.Given as goal
 abbrev pub invariant-loop-turn : goal.invariant-loop-turn
 invariant-loop-turn g l =
     ((expressions.branches (units.phrases l.self.depth) l.self.depth).run l.fn.cursor.rest.now
-    ≡ steps_run (further (keyword key.Elif) (expressions.branch (units.phrases l.self.depth) l.self.depth)) (is_key key.Elif) (l._turn-end - l._turn) l.row.tree l.cursor.rest.now)
+    ≡ steps_run (further (keyword key.Elif) (expressions.branch (units.phrases l.self.depth) l.self.depth)) (is_key key.Elif) (l._turn-end - l._turn) l.row.tree
+    l.cursor.rest.now)
     × (l.row.height ≡ branches_depth l.row.tree) × (l.row.height < l.self.depth)

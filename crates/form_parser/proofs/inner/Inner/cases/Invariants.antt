@@ -10,5 +10,6 @@ use Rattle.form_parser.proofs.inner.Inner.cases.Given as goal
 abbrev pub invariant-loop-turn : goal.invariant-loop-turn
 invariant-loop-turn g l =
     ((expressions.cases (units.phrases l.self.depth) l.self.depth).run l.fn.cursor.rest.now
-    ≡ steps_run (further nothing (expressions.a_case (units.phrases l.self.depth) l.self.depth)) (is_key key.Case) (l._turn-end - l._turn) l.row.tree l.cursor.rest.now)
+    ≡ steps_run (further nothing (expressions.a_case (units.phrases l.self.depth) l.self.depth)) (is_key key.Case) (l._turn-end - l._turn) l.row.tree
+    l.cursor.rest.now)
     × (l.row.height ≡ cases_depth l.row.tree) × (l.row.height < l.self.depth)

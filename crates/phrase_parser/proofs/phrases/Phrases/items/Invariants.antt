@@ -10,5 +10,6 @@ use Rattle.phrase_parser.proofs.phrases.Phrases.items.Given as goal
 abbrev pub invariant-loop-turn : goal.invariant-loop-turn
 invariant-loop-turn g l =
     ((units.items (units.phrases l.self.depth) l.self.depth).run l.fn.cursor.rest.now
-    ≡ steps_run (further (mark sign.Comma) (units.item (units.phrases l.self.depth) l.self.depth)) (is_comma) (l._turn-end - l._turn) l.row.tree l.cursor.rest.now)
+    ≡ steps_run (further (mark sign.Comma) (units.item (units.phrases l.self.depth) l.self.depth)) (is_comma) (l._turn-end - l._turn) l.row.tree
+    l.cursor.rest.now)
     × (l.row.height ≡ items_depth l.row.tree) × (l.row.height ≤ l.self.depth)

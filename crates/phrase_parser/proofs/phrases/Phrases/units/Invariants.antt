@@ -10,5 +10,6 @@ use Rattle.phrase_parser.proofs.phrases.Phrases.units.Given as goal
 abbrev pub invariant-loop-turn : goal.invariant-loop-turn
 invariant-loop-turn g l =
     ((units.units (units.phrases l.self.depth) l.self.depth).run l.fn.cursor.rest.now
-    ≡ steps_run (further (mark sign.Semicolon) (units.unit (units.phrases l.self.depth) l.self.depth)) (is_sign sign.Semicolon) (l._turn-end - l._turn) l.row.tree l.cursor.rest.now)
+    ≡ steps_run (further (mark sign.Semicolon) (units.unit (units.phrases l.self.depth) l.self.depth)) (is_sign sign.Semicolon) (l._turn-end - l._turn)
+    l.row.tree l.cursor.rest.now)
     × (l.row.height ≡ units_depth l.row.tree) × (l.row.height ≤ l.self.depth)

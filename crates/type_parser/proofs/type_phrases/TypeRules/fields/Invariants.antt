@@ -9,5 +9,6 @@ use Rattle.type_parser.proofs.type_phrases.TypeRules.fields.Given as goal
 
 abbrev pub invariant-loop-turn : goal.invariant-loop-turn
 invariant-loop-turn g l =
-    ((fields (types l.self.depth)).run l.fn.cursor.rest.now ≡ steps_run (further (mark sign.Comma) (field (types l.self.depth))) is_comma (l._turn-end - l._turn) l.row.tree l.cursor.rest.now)
+    ((fields (types l.self.depth)).run l.fn.cursor.rest.now
+    ≡ steps_run (further (mark sign.Comma) (field (types l.self.depth))) is_comma (l._turn-end - l._turn) l.row.tree l.cursor.rest.now)
     × (l.row.height ≡ fields_depth l.row.tree) × (l.row.height ≤ l.self.depth)
