@@ -7,7 +7,8 @@ use Rattle.code_form.specs.declared.halt.Halt.TheVariants as halts
 use Rattle.code_form.specs.declared.waits.Waits.{Waits}
 use Rattle.code_form.specs.declared.waits.Waits.TheVariants.{Nothing, Asked, Refused}
 use Rattle.code_form.specs.Program.{Program}
-use Rattle.code_form.specs.Machine.{Position, Control, After, To, Asks, Stops, Move, Goes, Spends, Halts, Ends, Stuck, Scene, Rest, rest_at, step, Stage, On, Over, Lost, after_stage, mark_stage, reply_stage, stage, stage_at, advance, carry_on, exec}
+use Rattle.code_form.specs.Machine.{Position, Control, After, To, Asks, Stops, Move, Goes, Spends, Halts, Ends, Stuck, Scene, Rest, rest_at, step, Stage, On}
+use Rattle.code_form.specs.Machine.{Over, Lost, after_stage, mark_stage, reply_stage, stage, stage_at, advance, carry_on, exec}
 use Rattle.code_form.specs.Runs.{asked}
 
 -- a request that waits for its reply has cost a mark
@@ -46,11 +47,13 @@ stage_fair p (Asked q) c s = by s.replies
 stage_fair p (Refused stop) c s = λ q is. absurd (cc is)
 
 -- a run that rests at a request
-pub asks_fair : (p : Program) (n : ℕ) (c : Control) (s : Scene) (r : Rest) (q : Request) → exec p n c s ≡ Some r → r.how ≡ halts.Asks q → (r.control.waits ≡ Asked q) × (r.scene.marks + 1 ≤ s.marks + paid c.waits)
+pub asks_fair : (p : Program) (n : ℕ) (c : Control) (s : Scene) (r : Rest) (q : Request) → exec p n c s ≡ Some r → r.how ≡ halts.Asks q
+    → (r.control.waits ≡ Asked q) × (r.scene.marks + 1 ≤ s.marks + paid c.waits)
 asks_fair p zero c s r q e is = absurd (cc e)
 asks_fair p (suc n) c s r q e is = by (advance p c s) (λ c s e. asks_fair p n c s r q e is) (stage_fair p c.waits c.position s) e
   where
-    by : (st : Stage) → ((c : Control) (s : Scene) → exec p n c s ≡ Some r → (r.control.waits ≡ Asked q) × (r.scene.marks + 1 ≤ s.marks + paid c.waits)) → IsFair (s.marks + paid c.waits) st → carry_on st (exec p n) ≡ Some r → (r.control.waits ≡ Asked q) × (r.scene.marks + 1 ≤ s.marks + paid c.waits)
+    by : (st : Stage) → ((c : Control) (s : Scene) → exec p n c s ≡ Some r → (r.control.waits ≡ Asked q) × (r.scene.marks + 1 ≤ s.marks + paid c.waits))
+        → IsFair (s.marks + paid c.waits) st → carry_on st (exec p n) ≡ Some r → (r.control.waits ≡ Asked q) × (r.scene.marks + 1 ≤ s.marks + paid c.waits)
     by (On c' s') ih f e = let x = ih c' s' e in (x.0, omega (arith, x.1, f))
     by (Over x) ih f e =
         let same : x ≡ r = cc e in
@@ -58,7 +61,8 @@ asks_fair p (suc n) c s r q e is = by (advance p c s) (λ c s e. asks_fair p n c
     by Lost ih f e = absurd (cc e)
 
 -- where it waited for no reply at its start, it has fewer marks than it began with
-pub asks_spends : (p : Program) (c : Control) (s : Scene) (r : Rest) (q : Request) (n : ℕ) → asked c.waits ≡ None → exec p n c s ≡ Some r → r.how ≡ halts.Asks q → r.scene.marks + 1 ≤ s.marks
+pub asks_spends : (p : Program) (c : Control) (s : Scene) (r : Rest) (q : Request) (n : ℕ) → asked c.waits ≡ None → exec p n c s ≡ Some r → r.how ≡ halts.Asks q
+    → r.scene.marks + 1 ≤ s.marks
 asks_spends p c s r q n none e is =
     let fair = asks_fair p n c s r q e is in
     omega (arith, fair.1, unpaid c.waits none)

@@ -8,7 +8,8 @@ use Rattle.code_form.specs.declared.halt.Halt.TheVariants as halts
 use Rattle.code_form.specs.Program.{Program}
 use Rattle.code_form.specs.declared.waits.Waits.{Waits}
 use Rattle.code_form.specs.declared.waits.Waits.TheVariants.{Nothing, Asked, Refused}
-use Rattle.code_form.specs.Machine.{Position, Control, free, After, To, Asks, Stops, Move, Goes, Spends, Halts, Ends, Stuck, Scene, Rest, step, Stage, On, Over, Lost, after_stage, mark_stage, reply_stage, stage, stage_at, advance, carry_on, exec}
+use Rattle.code_form.specs.Machine.{Position, Control, free, After, To, Asks, Stops, Move, Goes, Spends, Halts, Ends, Stuck, Scene, Rest, step, Stage, On, Over}
+use Rattle.code_form.specs.Machine.{Lost, after_stage, mark_stage, reply_stage, stage, stage_at, advance, carry_on, exec}
 use Rattle.code_form.specs.Runs.{IsPaused, Rests, wider, Resumes, Replies, IsOne}
 
 the_some : {A : Type 0} (a b : A) → Some a ≡ Some b → a ≡ b
@@ -20,7 +21,8 @@ longer p zero n c s r le e = let f : ⊥ = cc in absurd f
 longer p (suc m) zero c s r le e = absurd (omega arith)
 longer p (suc m) (suc n) c s r le e = by (λ c s e. longer p m n c s r (omega arith) e) (advance p c s) e
   where
-    by : ((c : Control) (s : Scene) → exec p m c s ≡ Some r → exec p n c s ≡ Some r) → (st : Stage) → carry_on st (exec p m) ≡ Some r → carry_on st (exec p n) ≡ Some r
+    by : ((c : Control) (s : Scene) → exec p m c s ≡ Some r → exec p n c s ≡ Some r) → (st : Stage) → carry_on st (exec p m) ≡ Some r
+        → carry_on st (exec p n) ≡ Some r
     by ih (On c s) e = ih c s e
     by ih (Over x) e = e
     by ih Lost e = e
@@ -38,12 +40,14 @@ Widens marks replies (On c' s') c s st = st ≡ On c' (wider s' marks replies)
 Widens marks replies (Over r) c s st = IsPaused r.how → (r.control ≡ c) × (r.scene ≡ s)
 Widens marks replies Lost c s st = Unit {0}
 
-after_widens : (marks : ℕ) (replies : List Reply) (a : After) (c : Position) (s : Scene) → Widens marks replies (after_stage a c s) (free c) s (after_stage a c (wider s marks replies))
+after_widens : (marks : ℕ) (replies : List Reply) (a : After) (c : Position) (s : Scene)
+    → Widens marks replies (after_stage a c s) (free c) s (after_stage a c (wider s marks replies))
 after_widens marks replies (To c' cells) c s = refl
 after_widens marks replies (Asks c' q cells) c s = refl
 after_widens marks replies (Stops stop) c s = λ paused. absurd paused
 
-of_marks : (marks : ℕ) (replies : List Reply) (st st' : Stage) (c : Control) (s s' : Scene) → ((r : Rest) → st ≡ Over r → IsPaused r.how → ⊥) → Widens marks replies st c s st' → Widens marks replies st c s' st'
+of_marks : (marks : ℕ) (replies : List Reply) (st st' : Stage) (c : Control) (s s' : Scene) → ((r : Rest) → st ≡ Over r → IsPaused r.how → ⊥)
+    → Widens marks replies st c s st' → Widens marks replies st c s' st'
 of_marks marks replies (On c' x) st' c s s' never w = w
 of_marks marks replies (Over r) st' c s s' never w = λ paused. absurd (never r refl paused)
 of_marks marks replies Lost st' c s s' never w = tt
@@ -55,32 +59,40 @@ never_paused (Stops stop) c s r e paused =
     let f : record { how = halts.Stopped stop; control = free c; scene = s } ≡ r = cc in
     subst (λ (x : Rest). IsPaused x.how) (sym f) paused
 
-mark_widens : (marks : ℕ) (replies : List Reply) (m : ℕ) (a : After) (c : Position) (s : Scene) → Widens marks replies (mark_stage m a c s) (free c) s (mark_stage (m + marks) a c (wider s marks replies))
+mark_widens : (marks : ℕ) (replies : List Reply) (m : ℕ) (a : After) (c : Position) (s : Scene)
+    → Widens marks replies (mark_stage m a c s) (free c) s (mark_stage (m + marks) a c (wider s marks replies))
 mark_widens marks replies zero a c s = λ paused. (refl, refl)
 mark_widens marks replies (suc m) a c s =
     let e : suc m + marks ≡ suc (m + marks) = omega arith in
     let s' = record s { marks = m } in
     subst (λ n. Widens marks replies (after_stage a c s') (free c) s (mark_stage n a c (wider s marks replies))) (sym e)
-    (of_marks marks replies (after_stage a c s') (after_stage a c (wider s' marks replies)) (free c) s' s (never_paused a c s') (after_widens marks replies a c s'))
+    (of_marks marks replies (after_stage a c s') (after_stage a c (wider s' marks replies)) (free c) s' s (never_paused a c s')
+    (after_widens marks replies a c s'))
 
-move_widens : (marks : ℕ) (replies : List Reply) (m : Move) (c : Position) (s : Scene) → Widens marks replies (stage m c s) (free c) s (stage m c (wider s marks replies))
+move_widens : (marks : ℕ) (replies : List Reply) (m : Move) (c : Position) (s : Scene)
+    → Widens marks replies (stage m c s) (free c) s (stage m c (wider s marks replies))
 move_widens marks replies (Goes c' cells) c s = refl
 move_widens marks replies (Spends a) c s = mark_widens marks replies s.marks a c s
 move_widens marks replies (Halts stop) c s = λ paused. (refl, refl)
 move_widens marks replies Ends c s = λ paused. (refl, refl)
 move_widens marks replies Stuck c s = tt
 
-stage_widens : (p : Program) (marks : ℕ) (replies : List Reply) (w : Waits) (c : Position) (s : Scene) → Widens marks replies (stage_at w p c s) (record { position = c; waits = w }) s (stage_at w p c (wider s marks replies))
+stage_widens : (p : Program) (marks : ℕ) (replies : List Reply) (w : Waits) (c : Position) (s : Scene)
+    → Widens marks replies (stage_at w p c s) (record { position = c; waits = w }) s (stage_at w p c (wider s marks replies))
 stage_widens p marks replies Nothing c s = move_widens marks replies (step p c s.cells) c s
 stage_widens p marks replies (Asked q) c s = asks s.replies
   where
-    asks : (rs : List Reply) → Widens marks replies (reply_stage rs q c s) (record { position = c; waits = Asked q }) s (reply_stage (rs ++ replies) q c (wider s marks replies))
+    asks : (rs : List Reply)
+        → Widens marks replies (reply_stage rs q c s) (record { position = c; waits = Asked q }) s (reply_stage (rs ++ replies) q c (wider s marks replies))
     asks [] = λ paused. (refl, refl)
     asks (r ∷ rs) = refl
 stage_widens p marks replies (Refused stop) c s = λ paused. (refl, refl)
 
 module _ (p : Program) (marks : ℕ) (replies : List Reply) (last : Rest) where
-  resume_stage : (j : ℕ) (st : Stage) (c : Control) (s : Scene) (r : Rest) → IsPaused r.how → ((c : Control) (s : Scene) → exec p j c s ≡ Some r → Rests p c (wider s marks replies) last) → carry_on st (exec p j) ≡ Some r → Rests p r.control (wider r.scene marks replies) last → Widens marks replies st c s (advance p c (wider s marks replies)) → Rests p c (wider s marks replies) last
+  resume_stage : (j : ℕ) (st : Stage) (c : Control) (s : Scene) (r : Rest) → IsPaused r.how
+      → ((c : Control) (s : Scene) → exec p j c s ≡ Some r → Rests p c (wider s marks replies) last) → carry_on st (exec p j) ≡ Some r
+      → Rests p r.control (wider r.scene marks replies) last → Widens marks replies st c s (advance p c (wider s marks replies))
+      → Rests p c (wider s marks replies) last
   resume_stage j (On c' s') c s r paused ih e h w =
       let a = ih c' s' e in
       (suc a.0, ap (λ st. carry_on st (exec p a.0)) w ∙ a.1)
@@ -88,12 +100,15 @@ module _ (p : Program) (marks : ℕ) (replies : List Reply) (last : Rest) where
       let f : x ≡ r = the_some x r e in
       let at_rest = w (subst (λ (y : Rest). IsPaused y.how) (sym f) paused) in
       let g : Rests p x.control (wider x.scene marks replies) last = subst (λ (y : Rest). Rests p y.control (wider y.scene marks replies) last) (sym f) h in
-      subst (λ (d : Control). Rests p d (wider s marks replies) last) at_rest.0 (subst (λ (u : Scene). Rests p x.control (wider u marks replies) last) at_rest.1 g)
+      subst (λ (d : Control). Rests p d (wider s marks replies) last) at_rest.0
+      (subst (λ (u : Scene). Rests p x.control (wider u marks replies) last) at_rest.1 g)
   resume_stage j Lost c s r paused ih e h w = let f : ⊥ = cc in absurd f
 
-  resume : (j : ℕ) (c : Control) (s : Scene) (r : Rest) → IsPaused r.how → exec p j c s ≡ Some r → Rests p r.control (wider r.scene marks replies) last → Rests p c (wider s marks replies) last
+  resume : (j : ℕ) (c : Control) (s : Scene) (r : Rest) → IsPaused r.how → exec p j c s ≡ Some r → Rests p r.control (wider r.scene marks replies) last
+      → Rests p c (wider s marks replies) last
   resume zero c s r paused e h = let f : ⊥ = cc in absurd f
-  resume (suc j) c s r paused e h = resume_stage j (advance p c s) c s r paused (λ c s e. resume j c s r paused e h) e h (stage_widens p marks replies c.waits c.position s)
+  resume (suc j) c s r paused e h =
+      resume_stage j (advance p c s) c s r paused (λ c s e. resume j c s r paused e h) e h (stage_widens p marks replies c.waits c.position s)
 
 pub resumed : Resumes
 resumed p c s r last marks replies paused a h = resume p marks replies last a.0 c s r paused a.1 h

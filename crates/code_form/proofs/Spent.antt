@@ -1,6 +1,7 @@
 -- A run that came to rest with marks left would have come there with none more than it spent. This holds of a rest for want of
 -- marks or replies, and of every rest of a run that had no marks.
-use Rattle.std.proofs.Common.{◌≡◌, ℕ, zero, suc, ◌+◌, ◌-◌, ◌≤◌, List, [], ◌∷◌, ◌++◌, Some, refl, sym, ap, ◌∙◌, subst, arith, append_assoc, ◌⊎◌, inl, inr, ⊎_elim}
+use Rattle.std.proofs.Common.{◌≡◌, ℕ, zero, suc, ◌+◌, ◌-◌, ◌≤◌, List, [], ◌∷◌, ◌++◌, Some, refl, sym, ap, ◌∙◌, subst, arith, append_assoc, ◌⊎◌, inl, inr}
+use Rattle.std.proofs.Common.{⊎_elim}
 use Rattle.eu_base.specs.declared.request.Request.{Request}
 use Rattle.eu_base.specs.declared.request.Reply.{Reply}
 use Rattle.eu_base.specs.Cells.{Cells}
@@ -8,7 +9,8 @@ use Rattle.code_form.specs.declared.halt.Halt.TheVariants as halts
 use Rattle.code_form.specs.Program.{Program}
 use Rattle.code_form.specs.declared.waits.Waits.{Waits}
 use Rattle.code_form.specs.declared.waits.Waits.TheVariants.{Nothing, Asked, Refused}
-use Rattle.code_form.specs.Machine.{Position, Control, free, asking, answered, After, To, Asks, Stops, Move, Goes, Spends, Halts, Ends, Stuck, Scene, Rest, step, Stage, On, Over, Lost, after_stage, mark_stage, reply_stage, stage, stage_at, advance, carry_on, exec}
+use Rattle.code_form.specs.Machine.{Position, Control, free, asking, answered, After, To, Asks, Stops, Move, Goes, Spends, Halts, Ends, Stuck, Scene, Rest}
+use Rattle.code_form.specs.Machine.{step, Stage, On, Over, Lost, after_stage, mark_stage, reply_stage, stage, stage_at, advance, carry_on, exec}
 use Rattle.code_form.specs.Runs.{IsPaused, Rests, Stands, StandsOn}
 use Rattle.code_form.proofs.Resume.{replied}
 
@@ -22,14 +24,16 @@ Shifts rs (On c' s') c s f = (s'.marks ≤ s.marks) × ((k : ℕ) → f ((s.mark
 Shifts rs (Over r) c s f = IsPaused r.how ⊎ (s.marks ≡ 0) → (r.control ≡ c) × (r.scene ≡ s)
 Shifts rs Lost c s f = Unit {0}
 
-paid_shifts : (rs : List Reply) (m : ℕ) (a : After) (c : Position) (s : Scene) → s.marks ≡ suc m → Shifts rs (after_stage a c (record s { marks = m })) (free c) s (λ n. mark_stage n a c (at_marks rs n s))
+paid_shifts : (rs : List Reply) (m : ℕ) (a : After) (c : Position) (s : Scene) → s.marks ≡ suc m
+    → Shifts rs (after_stage a c (record s { marks = m })) (free c) s (λ n. mark_stage n a c (at_marks rs n s))
 paid_shifts rs m (To c' cells) c s e =
     (omega (arith, e), λ k. let f : (s.marks - m) + k ≡ suc k = omega (arith, e) in ap (λ n. mark_stage n (To c' cells) c (at_marks rs n s)) f)
 paid_shifts rs m (Asks c' q cells) c s e =
     (omega (arith, e), λ k. let f : (s.marks - m) + k ≡ suc k = omega (arith, e) in ap (λ n. mark_stage n (Asks c' q cells) c (at_marks rs n s)) f)
 paid_shifts rs m (Stops stop) c s e = λ calm. absurd (⊎_elim (λ paused. paused) (λ none. omega (arith, e, none)) calm)
 
-mark_shifts : (rs : List Reply) (m : ℕ) (a : After) (c : Position) (s : Scene) → s.marks ≡ m → Shifts rs (mark_stage m a c s) (free c) s (λ n. mark_stage n a c (at_marks rs n s))
+mark_shifts : (rs : List Reply) (m : ℕ) (a : After) (c : Position) (s : Scene) → s.marks ≡ m
+    → Shifts rs (mark_stage m a c s) (free c) s (λ n. mark_stage n a c (at_marks rs n s))
 mark_shifts rs zero a c s e = λ paused. (refl, refl)
 mark_shifts rs (suc m) a c s e = paid_shifts rs m a c s e
 
@@ -41,7 +45,8 @@ move_shifts rs (Halts stop) c s = λ paused. (refl, refl)
 move_shifts rs Ends c s = λ paused. (refl, refl)
 move_shifts rs Stuck c s = tt
 
-stage_shifts : (p : Program) (rs : List Reply) (w : Waits) (c : Position) (s : Scene) → Shifts rs (stage_at w p c s) (record { position = c; waits = w }) s (λ n. stage_at w p c (at_marks rs n s))
+stage_shifts : (p : Program) (rs : List Reply) (w : Waits) (c : Position) (s : Scene)
+    → Shifts rs (stage_at w p c s) (record { position = c; waits = w }) s (λ n. stage_at w p c (at_marks rs n s))
 stage_shifts p rs Nothing c s = move_shifts rs (step p c s.cells) c s
 stage_shifts p rs (Asked q) c s = asks s.replies
   where
@@ -85,7 +90,8 @@ pub falls : (p : Program) (n : ℕ) (c : Control) (s : Scene) (r : Rest) → exe
 falls p zero c s r e = absurd (cc e)
 falls p (suc n) c s r e = by (λ c s e. falls p n c s r e) (advance p c s) (stage_falls p c.waits c.position s) e
   where
-    by : ((c : Control) (s : Scene) → exec p n c s ≡ Some r → r.scene.marks ≤ s.marks) → (st : Stage) → Falls s.marks st → carry_on st (exec p n) ≡ Some r → r.scene.marks ≤ s.marks
+    by : ((c : Control) (s : Scene) → exec p n c s ≡ Some r → r.scene.marks ≤ s.marks) → (st : Stage) → Falls s.marks st → carry_on st (exec p n) ≡ Some r
+        → r.scene.marks ≤ s.marks
     by ih (On c' s') f e = let g : r.scene.marks ≤ s'.marks = ih c' s' e in omega (arith, f, g)
     by ih (Over x) f e = let same : x ≡ r = cc e in subst (λ (x : Rest). x.scene.marks ≤ s.marks) same f
     by ih Lost f e = absurd (cc e)
@@ -96,7 +102,8 @@ pub record Leads (p : Program) (rs : List Reply) (c : Control) (s : Scene) (r : 
   pub goes : (k : ℕ) (last : Rest) → Rests p r.control (at_marks rs k r.scene) last → Rests p c (at_marks rs ((s.marks - r.scene.marks) + k) s) last
 
 module _ (p : Program) (rs : List Reply) where
-  leads_stage : (j : ℕ) (st : Stage) (c : Control) (s : Scene) (r : Rest) → IsPaused r.how ⊎ (s.marks ≡ 0) → ((c : Control) (s : Scene) → IsPaused r.how ⊎ (s.marks ≡ 0) → exec p j c s ≡ Some r → Leads p rs c s r) →
+  leads_stage : (j : ℕ) (st : Stage) (c : Control) (s : Scene) (r : Rest) → IsPaused r.how ⊎ (s.marks ≡ 0)
+      → ((c : Control) (s : Scene) → IsPaused r.how ⊎ (s.marks ≡ 0) → exec p j c s ≡ Some r → Leads p rs c s r) →
       carry_on st (exec p j) ≡ Some r → Shifts rs st c s (λ n. advance p c (at_marks rs n s)) → Leads p rs c s r
   leads_stage j (On c' s') c s r paused ih e w =
       let a = ih c' s' (⊎_elim (λ p. inl p) (λ none. inr (omega (arith, w.0, none))) paused) e in
@@ -132,20 +139,25 @@ stands_run p first cells spent left replies c now r paused k h none = record {
   goes = λ marks more last g.
       let s : Scene = record { cells = now; marks = left; replies = [] } in
       let l : Leads p more c s r = leads p more h.0 c s r paused h.1 in
-      let g' : Rests p r.control (at_marks more marks r.scene) last = subst (λ rs. Rests p r.control (record { cells = r.scene.cells; marks = marks; replies = rs ++ more }) last) (sym none) g in
+      let g' : Rests p r.control (at_marks more marks r.scene) last =
+      subst (λ rs. Rests p r.control (record { cells = r.scene.cells; marks = marks; replies = rs ++ more }) last) (sym none) g in
       let e : spent + ((left - r.scene.marks) + marks) ≡ (spent + (left - r.scene.marks)) + marks = omega arith in
-      subst (λ n. Rests p first (record { cells = cells; marks = n; replies = replies ++ more }) last) e (k.goes ((left - r.scene.marks) + marks) more last (l.goes marks last g'));
+      subst (λ n. Rests p first (record { cells = cells; marks = n; replies = replies ++ more }) last) e
+      (k.goes ((left - r.scene.marks) + marks) more last (l.goes marks last g'));
 }
 
 module _ (p : Program) (first : Control) (cells : Cells) where
   -- at the start nothing was spent
   pub stands_first : Stands p first cells 0 [] first cells
   stands_first = record {
-    goes = λ marks more last h. let e : marks ≡ 0 + marks = omega arith in subst (λ n. Rests p first (record { cells = cells; marks = n; replies = more }) last) e h;
+    goes =
+        λ marks more last h. let e : marks ≡ 0 + marks = omega arith in
+        subst (λ n. Rests p first (record { cells = cells; marks = n; replies = more }) last) e h;
   }
 
   -- after a reply
-  pub stands_reply : (spent : ℕ) (replies : List Reply) (c : Position) (now : Cells) (q : Request) (reply : Reply) → Stands p first cells spent replies (asking c q) now → Stands p first cells spent (replies ++ reply ∷ []) (answered q reply c) now
+  pub stands_reply : (spent : ℕ) (replies : List Reply) (c : Position) (now : Cells) (q : Request) (reply : Reply)
+      → Stands p first cells spent replies (asking c q) now → Stands p first cells spent (replies ++ reply ∷ []) (answered q reply c) now
   stands_reply spent replies c now q reply k = record {
     goes = λ marks more last g.
         let same : replies ++ reply ∷ more ≡ (replies ++ reply ∷ []) ++ more = sym (append_assoc replies (reply ∷ []) more) in

@@ -1,5 +1,6 @@
 -- Each step brings the end nearer.
-use Rattle.std.proofs.Common.{◌≡◌, ℕ, zero, suc, ◌+◌, ◌-◌, ◌*◌, ◌<◌, ◌≤◌, List, [], ◌∷◌, length, Option, Some, None, Bool, true, false, cond, refl, sym, ap, ◌∙◌, subst, arith, ⊎_elim}
+use Rattle.std.proofs.Common.{◌≡◌, ℕ, zero, suc, ◌+◌, ◌-◌, ◌*◌, ◌<◌, ◌≤◌, List, [], ◌∷◌, length, Option, Some, None, Bool, true, false, cond, refl, sym, ap}
+use Rattle.std.proofs.Common.{◌∙◌, subst, arith, ⊎_elim}
 use Rattle.std.specs.Prelude.{slice_get, Ok, Err}
 use Rattle.std.specs.Ordering.{int_eq}
 use Rattle.std.proofs.lemmas.Option.{slice_get_within}
@@ -15,16 +16,20 @@ use Rattle.eu_base.specs.Values.{number_of, truth_of, value_in}
 use Rattle.eu_base.specs.Operations.{Given, operand_kinds, result_of, changed, is_past, has_reached}
 use Rattle.code_form.specs.declared.operand.Operand.{Operand}
 use Rattle.code_form.specs.declared.operand.Operand.TheVariants.{Value as Of, Place as At}
-use Rattle.code_form.specs.declared.instr.Call.TheVariants as calls
+use Rattle.code_form.specs.declared.instr.Requested.TheVariants as calls
 use Rattle.code_form.specs.declared.instr.Instr.{Instr}
-use Rattle.code_form.specs.declared.instr.Instr.TheVariants.{Mark, Number, Truth, Outer, Local, Param, Load, Store, Do, Modify, Jump, False, When, Drop, Limit, Unlimit, Step, Ask, Call, Refer, Back, Out, End}
+use Rattle.code_form.specs.declared.instr.Instr.TheVariants.{Mark, Number, Truth, Outer, Local, Param, Load, Store, Do, Modify, Jump, False, When, Drop, Limit}
+use Rattle.code_form.specs.declared.instr.Instr.TheVariants.{Unlimit, Step, Ask, Call, Refer, Back, Out, End}
 use Rattle.code_form.specs.declared.code.Line.{Line}
 use Rattle.code_form.specs.declared.code.Entry.{Entry}
 use Rattle.code_form.specs.declared.code.Layout.{Layout}
 use Rattle.code_form.specs.declared.code.Layout.TheVariants.{Own}
 use Rattle.code_form.specs.declared.code.Layout.TheVariants as layouts
 use Rattle.code_form.specs.Program.{Program, instr_of}
-use Rattle.code_form.specs.Machine.{Frame, Position, Control, free, After, To, Asks, Stops, Move, Scene, Stage, On, Over, Lost, Rest, operand_bytes, bytes_on, bytes_of, base_of, pushes, on_value, on_place, on_values, on_operands, on_result, or_halt, number_in, limit_in, frame_numbers, link_numbers, written_from, enters, calls_to, call_move, refer_move, back_to, out_to, instruction, step, mark_stage, stage, advance, carry_on, exec}
+use Rattle.code_form.specs.Machine.{Frame, Position, Control, free, After, To, Asks, Stops, Move, Scene, Stage, On, Over, Lost, Rest, operand_bytes, bytes_on}
+use Rattle.code_form.specs.Machine.{bytes_of, base_of, pushes, on_value, on_place, on_values, on_operands, on_result, or_halt, number_in, limit_in}
+use Rattle.code_form.specs.Machine.{frame_numbers, link_numbers, written_from, enters, calls_to, call_move, refer_move, back_to, out_to, instruction, step}
+use Rattle.code_form.specs.Machine.{mark_stage, stage, advance, carry_on, exec}
 use Rattle.code_form.specs.Valid.{is_mark, IsFine, IsValid}
 use Rattle.code_form.specs.Runs.{Rests, ahead, steps_left}
 
@@ -56,11 +61,13 @@ module _ (p : Program) (valid : IsValid p) where
   on_next : (pc : ℕ) (l : Line) → slice_get p.lines pc ≡ Some l → is_mark (Some l.instr) ≡ false → ahead p.lines (pc + 1) < ahead p.lines pc
   on_next pc l e n = omega (arith, ahead_is pc l e n, ahead_not (pc + 1), slice_get_within p.lines pc l e)
 
-  on_jump : (pc a : ℕ) (l : Line) → slice_get p.lines pc ≡ Some l → is_mark (Some l.instr) ≡ false → (a ≤ pc → is_mark (instr_of (slice_get p.lines a)) ≡ true) → ahead p.lines a < ahead p.lines pc
+  on_jump : (pc a : ℕ) (l : Line) → slice_get p.lines pc ≡ Some l → is_mark (Some l.instr) ≡ false → (a ≤ pc → is_mark (instr_of (slice_get p.lines a)) ≡ true)
+      → ahead p.lines a < ahead p.lines pc
   on_jump pc a l e n t =
       ⊎_elim
       (λ lt. omega (arith, ahead_is pc l e n, ahead_not a, slice_get_within p.lines pc l e))
-      (λ le. let z : ahead p.lines a ≡ 0 = ap (λ b. cond b 0 (length p.lines - a)) (t le) in omega (arith, ahead_is pc l e n, slice_get_within p.lines pc l e, z))
+      (λ le. let z : ahead p.lines a ≡ 0 = ap (λ b. cond b 0 (length p.lines - a)) (t le) in
+      omega (arith, ahead_is pc l e n, slice_get_within p.lines pc l e, z))
       (cases_lt pc a)
 
   module _ (c : Position) (s : Scene) where
@@ -96,7 +103,8 @@ module _ (p : Program) (valid : IsValid p) where
     go : (pc : ℕ) → ahead p.lines pc < ahead p.lines c.pc → steps_left p.lines s.marks depth pc < steps_left p.lines s.marks depth c.pc
     go pc lt = omega arith
 
-    go_if : (b : Bool) (x y : ℕ) → ahead p.lines x < ahead p.lines c.pc → ahead p.lines y < ahead p.lines c.pc → steps_left p.lines s.marks depth (cond b x y) < steps_left p.lines s.marks depth c.pc
+    go_if : (b : Bool) (x y : ℕ) → ahead p.lines x < ahead p.lines c.pc → ahead p.lines y < ahead p.lines c.pc
+        → steps_left p.lines s.marks depth (cond b x y) < steps_left p.lines s.marks depth c.pc
     go_if true x y f g = go x f
     go_if false x y f g = go y g
 
@@ -135,13 +143,15 @@ module _ (p : Program) (valid : IsValid p) where
     near_place f h (Of v ∷ r) = tt
     near_place f h (At a ∷ r) = h a r
 
-    near_values : (n : ℕ) (f : List Value → List Operand → Move) → ((vs : List Value) (r : List Operand) → Near (f vs r)) → (acc : List Value) (ops : List Operand) → Near (on_values n acc ops f)
+    near_values : (n : ℕ) (f : List Value → List Operand → Move) → ((vs : List Value) (r : List Operand) → Near (f vs r))
+        → (acc : List Value) (ops : List Operand) → Near (on_values n acc ops f)
     near_values zero f h acc ops = h acc ops
     near_values (suc n) f h acc [] = tt
     near_values (suc n) f h acc (Of v ∷ r) = near_values n f h (v ∷ acc) r
     near_values (suc n) f h acc (At a ∷ r) = tt
 
-    near_operands : (n : ℕ) (f : List Operand → List Operand → Move) → ((os r : List Operand) → Near (f os r)) → (acc ops : List Operand) → Near (on_operands n acc ops f)
+    near_operands : (n : ℕ) (f : List Operand → List Operand → Move) → ((os r : List Operand) → Near (f os r)) → (acc ops : List Operand)
+        → Near (on_operands n acc ops f)
     near_operands zero f h acc ops = h acc ops
     near_operands (suc n) f h acc [] = tt
     near_operands (suc n) f h acc (o ∷ r) = near_operands n f h (o ∷ acc) r
@@ -154,7 +164,15 @@ module _ (p : Program) (valid : IsValid p) where
     enters_deeper : (first base : ℕ) (refines : Bool) (ops : List Operand) (ns : List ℕ) → Deeper (enters c first base refines ops ns s.cells)
     enters_deeper first base refines ops ns = by (cells_fit (c.used + length ns))
       where
-        by : (b : Bool) → Deeper (cond b (To (record { pc = first; ops = []; used = c.used + length ns; frames = record { back = c.pc + 1; base = base; used = c.used; refines = refines; ops = ops } ∷ c.frames }) (written_from c.used ns s.cells)) (Stops CellRoom))
+        by : (b : Bool) → Deeper
+            (cond b (To (record {
+              pc = first;
+              ops = [];
+              used = c.used + length ns;
+              frames =
+                  record { back = c.pc + 1; base = base; used = c.used; refines = refines; ops = ops } ∷ c.frames;
+            }) (written_from c.used ns s.cells))
+            (Stops CellRoom))
         by true = omega arith
         by false = tt
 
@@ -163,7 +181,8 @@ module _ (p : Program) (valid : IsValid p) where
     call_near (Some e) = by e.layout
       where
         by : (l : Layout) → Near (calls_to c e.first l s.cells)
-        by (Own parameters variables) = near_operands (length parameters) _ (λ os r. marked s.marks _ (enters_deeper e.first (c.used + 2) false r (frame_numbers os variables))) [] c.ops
+        by (Own parameters variables) =
+            near_operands (length parameters) _ (λ os r. marked s.marks _ (enters_deeper e.first (c.used + 2) false r (frame_numbers os variables))) [] c.ops
         by (layouts.Of q) = tt
         by layouts.Level = tt
 
@@ -172,14 +191,16 @@ module _ (p : Program) (valid : IsValid p) where
     refer_near (Some e) = marked s.marks _ (enters_deeper e.first (base_of c.frames) true c.ops link_numbers)
 
     -- one operand more
-    push_near : (l : Line) → slice_get p.lines c.pc ≡ Some l → is_mark (Some l.instr) ≡ false → (o : Operand) (ops : List Operand) → Near (pushes c o ops s.cells)
+    push_near : (l : Line) → slice_get p.lines c.pc ≡ Some l → is_mark (Some l.instr) ≡ false → (o : Operand) (ops : List Operand)
+        → Near (pushes c o ops s.cells)
     push_near l e is o ops = near_if (bytes_fit (operand_bytes o + bytes_on ops (bytes_of c.frames))) _ _ (go (c.pc + 1) (on_next c.pc l e is)) tt
 
     near_or : (f : Value → Move) → ((v : Value) → Near (f v)) → (g : Given) → Near (or_halt g f)
     near_or f h (Ok v) = h v
     near_or f h (Err e) = tt
 
-    at_instr : (l : Line) → slice_get p.lines c.pc ≡ Some l → (i : Instr) → l.instr ≡ i → IsFine p c.pc i l.operands l.spot → Near (instruction p (Some i) c s.cells)
+    at_instr : (l : Line) → slice_get p.lines c.pc ≡ Some l → (i : Instr) → l.instr ≡ i → IsFine p c.pc i l.operands l.spot
+        → Near (instruction p (Some i) c s.cells)
     at_instr l e Mark is f = marked s.marks _ (omega arith)
     at_instr l e (Number z) is f = push_near l e (ap (λ i. is_mark (Some i)) is) (Of (item.Int z)) c.ops
     at_instr l e (Truth b) is f = push_near l e (ap (λ i. is_mark (Some i)) is) (Of (item.Truth b)) c.ops
@@ -188,18 +209,28 @@ module _ (p : Program) (valid : IsValid p) where
     at_instr l e (Param x) is f = push_near l e (ap (λ i. is_mark (Some i)) is) (At (place_in (s.cells (run_cell (base_of c.frames + x))))) c.ops
     at_instr l e (Load k) is f = near_place _ (λ a r. push_near l e (ap (λ i. is_mark (Some i)) is) (Of (value_in k (s.cells a))) r) c.ops
     at_instr l e (Store k) is f = near_value _ (λ v r. near_place _ (λ a r. go (c.pc + 1) (on_next c.pc l e (ap (λ i. is_mark (Some i)) is))) r) c.ops
-    at_instr l e (Do op) is f = near_values (length (operand_kinds op)) _ (λ vs r. near_or _ (λ v. push_near l e (ap (λ i. is_mark (Some i)) is) (Of v) r) (result_of op vs)) [] c.ops
-    at_instr l e (Modify ch) is f = near_value _ (λ v r. near_place _ (λ a r. near_or _ (λ x. go (c.pc + 1) (on_next c.pc l e (ap (λ i. is_mark (Some i)) is))) (changed ch (number_in s.cells a) (number_of v))) r) c.ops
+    at_instr l e (Do op) is f =
+        near_values (length (operand_kinds op)) _ (λ vs r. near_or _ (λ v. push_near l e (ap (λ i. is_mark (Some i)) is) (Of v) r) (result_of op vs)) [] c.ops
+    at_instr l e (Modify ch) is f =
+        near_value _ (λ v r. near_place _
+        (λ a r. near_or _ (λ x. go (c.pc + 1) (on_next c.pc l e (ap (λ i. is_mark (Some i)) is))) (changed ch (number_in s.cells a) (number_of v))) r) c.ops
     at_instr l e (Jump a) is f = go a (on_jump c.pc a l e (ap (λ i. is_mark (Some i)) is) f.spaced)
-    at_instr l e (False a) is f = near_value _ (λ v r. go_if (truth_of v) (c.pc + 1) a (on_next c.pc l e (ap (λ i. is_mark (Some i)) is)) (on_jump c.pc a l e (ap (λ i. is_mark (Some i)) is) f.3.spaced)) c.ops
+    at_instr l e (False a) is f =
+        near_value _ (λ v r. go_if (truth_of v) (c.pc + 1) a (on_next c.pc l e (ap (λ i. is_mark (Some i)) is))
+        (on_jump c.pc a l e (ap (λ i. is_mark (Some i)) is) f.3.spaced)) c.ops
     at_instr l e (When z a) is f =
-        near_value _ (λ v r. near_if (int_eq (number_of v) z) _ _ (go a (on_jump c.pc a l e (ap (λ i. is_mark (Some i)) is) f.3.spaced)) (go (c.pc + 1) (on_next c.pc l e (ap (λ i. is_mark (Some i)) is)))) c.ops
+        near_value _ (λ v r. near_if (int_eq (number_of v) z) _ _ (go a (on_jump c.pc a l e (ap (λ i. is_mark (Some i)) is) f.3.spaced))
+        (go (c.pc + 1) (on_next c.pc l e (ap (λ i. is_mark (Some i)) is)))) c.ops
     at_instr l e Drop is f = near_value _ (λ v r. go (c.pc + 1) (on_next c.pc l e (ap (λ i. is_mark (Some i)) is))) c.ops
     at_instr l e (Limit way a) is f =
-        near_value _ (λ v r. near_place _ (λ q r. near_if (cells_fit (c.used + 1)) _ _ (go_if (is_past way (number_of v) (number_in s.cells q)) a (c.pc + 1) (on_jump c.pc a l e (ap (λ i. is_mark (Some i)) is) f.3.spaced) (on_next c.pc l e (ap (λ i. is_mark (Some i)) is))) tt) r) c.ops
+        near_value _ (λ v r. near_place _
+        (λ q r. near_if (cells_fit (c.used + 1)) _ _
+        (go_if (is_past way (number_of v) (number_in s.cells q)) a (c.pc + 1) (on_jump c.pc a l e (ap (λ i. is_mark (Some i)) is) f.3.spaced)
+        (on_next c.pc l e (ap (λ i. is_mark (Some i)) is))) tt) r) c.ops
     at_instr l e Unlimit is f = go (c.pc + 1) (on_next c.pc l e (ap (λ i. is_mark (Some i)) is))
     at_instr l e (Step way a) is f =
-        near_place _ (λ q r. near_if (has_reached way (limit_in c s.cells) (number_in s.cells q)) _ _ (go a (on_jump c.pc a l e (ap (λ i. is_mark (Some i)) is) f.2.3.spaced)) (go (c.pc + 1) (on_next c.pc l e (ap (λ i. is_mark (Some i)) is)))) c.ops
+        near_place _ (λ q r. near_if (has_reached way (limit_in c s.cells) (number_in s.cells q)) _ _
+        (go a (on_jump c.pc a l e (ap (λ i. is_mark (Some i)) is) f.2.3.spaced)) (go (c.pc + 1) (on_next c.pc l e (ap (λ i. is_mark (Some i)) is)))) c.ops
     at_instr l e (Ask calls.PutNumber) is f = near_value _ (λ v r. marked s.marks _ (omega arith)) c.ops
     at_instr l e (Ask calls.Line) is f = marked s.marks _ (omega arith)
     at_instr l e (Call n) is f = call_near (slice_get p.bodies n)
@@ -213,7 +244,8 @@ module _ (p : Program) (valid : IsValid p) where
     at_line (Some l) e = at_instr l e l.instr refl (valid.each c.pc l e)
 
   -- where a step goes on, the end is nearer
-  pub nearer : (c : Position) (c' : Control) (s s' : Scene) → On c' s' ≡ stage (step p c s.cells) c s → steps_left p.lines s'.marks (length c'.position.frames) c'.position.pc < steps_left p.lines s.marks (length c.frames) c.pc
+  pub nearer : (c : Position) (c' : Control) (s s' : Scene) → On c' s' ≡ stage (step p c s.cells) c s
+      → steps_left p.lines s'.marks (length c'.position.frames) c'.position.pc < steps_left p.lines s.marks (length c.frames) c.pc
   nearer c c' s s' e = subst (Nearer p.lines s.marks (length c.frames) c.pc) (sym e) (at_line c s (slice_get p.lines c.pc) refl)
 
 -- a step, and then the rest

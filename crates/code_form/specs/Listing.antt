@@ -4,15 +4,17 @@ use Rattle.std.specs.Fmt.{decimal, signed_decimal}
 use Rattle.eu_base.specs.declared.value.Kind.{Kind}
 use Rattle.eu_base.specs.declared.value.Kind.TheVariants as kinds
 use Rattle.eu_base.specs.declared.operation.Operation.{Operation}
-use Rattle.eu_base.specs.declared.operation.Operation.TheVariants.{Plus, Negate, Add, Subtract, Multiply, Divide, Modulo, Equal, Unequal, Less, LessEqual, Greater, GreaterEqual, Same, Different, And, Or, Not, Absolute, Minimum, Maximum, Largest}
+use Rattle.eu_base.specs.declared.operation.Operation.TheVariants.{Plus, Negate, Add, Subtract, Multiply, Divide, Modulo, Equal, Unequal, Less, LessEqual}
+use Rattle.eu_base.specs.declared.operation.Operation.TheVariants.{Greater, GreaterEqual, Same, Different, And, Or, Not, Absolute, Minimum, Maximum, Largest}
 use Rattle.eu_base.specs.declared.operation.Change.{Change}
 use Rattle.eu_base.specs.declared.operation.Change.TheVariants.{Increase, Decrease}
 use Rattle.eu_base.specs.declared.operation.Way.{Way}
 use Rattle.eu_base.specs.declared.operation.Way.TheVariants as ways
-use Rattle.code_form.specs.declared.instr.Call.{Call as Requested}
-use Rattle.code_form.specs.declared.instr.Call.TheVariants as calls
+use Rattle.code_form.specs.declared.instr.Requested.{Requested}
+use Rattle.code_form.specs.declared.instr.Requested.TheVariants as calls
 use Rattle.code_form.specs.declared.instr.Instr.{Instr}
-use Rattle.code_form.specs.declared.instr.Instr.TheVariants.{Mark, Number, Truth, Outer, Local, Param, Load, Store, Do, Modify, Jump, False, When, Drop, Limit, Unlimit, Step, Ask, Call, Refer, Back, Out, End}
+use Rattle.code_form.specs.declared.instr.Instr.TheVariants.{Mark, Number, Truth, Outer, Local, Param, Load, Store, Do, Modify, Jump, False, When, Drop, Limit}
+use Rattle.code_form.specs.declared.instr.Instr.TheVariants.{Unlimit, Step, Ask, Call, Refer, Back, Out, End}
 use Rattle.code_form.specs.declared.code.Line.{Line}
 use Rattle.code_form.specs.declared.code.Entry.{Entry}
 use Rattle.code_form.specs.Program.{Program, layout_of, cells_at}

@@ -21,10 +21,11 @@ use Rattle.code_form.specs.declared.halt.Halt.{Halt}
 use Rattle.code_form.specs.declared.halt.Halt.TheVariants as halts
 use Rattle.code_form.specs.declared.waits.Waits.{Waits}
 use Rattle.code_form.specs.declared.waits.Waits.TheVariants.{Nothing, Asked, Refused}
-use Rattle.code_form.specs.declared.instr.Call.{Call as Requested}
-use Rattle.code_form.specs.declared.instr.Call.TheVariants as calls
+use Rattle.code_form.specs.declared.instr.Requested.{Requested}
+use Rattle.code_form.specs.declared.instr.Requested.TheVariants as calls
 use Rattle.code_form.specs.declared.instr.Instr.{Instr}
-use Rattle.code_form.specs.declared.instr.Instr.TheVariants.{Mark, Number, Truth, Outer, Local, Param, Load, Store, Do, Modify, Jump, False, When, Drop, Limit, Unlimit, Step, Ask, Call, Refer, Back, Out, End}
+use Rattle.code_form.specs.declared.instr.Instr.TheVariants.{Mark, Number, Truth, Outer, Local, Param, Load, Store, Do, Modify, Jump, False, When, Drop, Limit}
+use Rattle.code_form.specs.declared.instr.Instr.TheVariants.{Unlimit, Step, Ask, Call, Refer, Back, Out, End}
 use Rattle.code_form.specs.declared.code.Entry.{Entry}
 use Rattle.code_form.specs.declared.code.Layout.{Layout}
 use Rattle.code_form.specs.declared.code.Layout.TheVariants.{Own}
@@ -159,11 +160,18 @@ written_from at (n ∷ ns) cells = written_from (suc at) ns (written cells (run_
 abbrev pub enters : Position → ℕ → ℕ → Bool → List Operand → List ℕ → Cells → After
 enters c first base refines ops numbers cells =
     cond (cells_fit (c.used + length numbers))
-    (To (record { pc = first; ops = []; used = c.used + length numbers; frames = record { back = c.pc + 1; base = base; used = c.used; refines = refines; ops = ops } ∷ c.frames }) (written_from c.used numbers cells))
+    (To (record {
+      pc = first;
+      ops = [];
+      used = c.used + length numbers;
+      frames =
+          record { back = c.pc + 1; base = base; used = c.used; refines = refines; ops = ops } ∷ c.frames;
+    }) (written_from c.used numbers cells))
     (Stops CellRoom)
 
 abbrev pub calls_to : Position → ℕ → Layout → Cells → Move
-calls_to c first (Own parameters variables) cells = on_operands (length parameters) [] c.ops (λ args ops. Spends (enters c first (c.used + 2) false ops (frame_numbers args variables) cells))
+calls_to c first (Own parameters variables) cells =
+    on_operands (length parameters) [] c.ops (λ args ops. Spends (enters c first (c.used + 2) false ops (frame_numbers args variables) cells))
 calls_to c first _ cells = Stuck
 
 abbrev pub call_move : Position → Option Entry → Cells → Move
@@ -195,7 +203,8 @@ out_to result (f ∷ fs) cells = cond f.refines (out_to result fs cells) (back_i
 abbrev pub limit_to : Position → Way → ℕ → ℤ → Addr → List Operand → Cells → Move
 limit_to c way a limit x ops cells =
     cond (cells_fit (c.used + 1))
-    (Goes (using (at c (cond (is_past way limit (number_in cells x)) a (c.pc + 1)) ops) (c.used + 1)) (written cells (run_cell c.used) (cell_of (item.Int limit))))
+    (Goes (using (at c (cond (is_past way limit (number_in cells x)) a (c.pc + 1)) ops) (c.used + 1))
+    (written cells (run_cell c.used) (cell_of (item.Int limit))))
     (Halts CellRoom)
 
 -- the innermost limit
@@ -226,7 +235,8 @@ instruction p (Some (Limit way a)) c cells = on_value c.ops (λ v ops. on_place 
 instruction p (Some Unlimit) c cells = Goes (using (at c (c.pc + 1) c.ops) (c.used - 1)) cells
 instruction p (Some (Step way a)) c cells =
     on_place c.ops (λ x ops.
-    cond (has_reached way (limit_in c cells) (number_in cells x)) (Goes (at c a ops) cells) (goes c ops (written cells x (cell_of (item.Int (next_number way (number_in cells x)))))))
+    cond (has_reached way (limit_in c cells) (number_in cells x)) (Goes (at c a ops) cells)
+    (goes c ops (written cells x (cell_of (item.Int (next_number way (number_in cells x)))))))
 instruction p (Some (Ask call)) c cells = on_call call c.ops (λ q ops. Spends (Asks (at c (c.pc + 1) ops) q cells))
 instruction p (Some (Call n)) c cells = call_move c (slice_get p.bodies n) cells
 instruction p (Some (Refer n)) c cells = refer_move c (slice_get p.bodies n) cells

@@ -29,11 +29,15 @@ IsPaused (halts.Stopped s) = ⊥
 
 -- what has come to rest for want of marks or replies goes on as if it had had them from the start
 abbrev pub Resumes : Type 0
-Resumes = (p : Program) (c : Control) (s : Scene) (r last : Rest) (marks : ℕ) (replies : List Reply) → IsPaused r.how → Rests p c s r → Rests p r.control (wider r.scene marks replies) last → Rests p c (wider s marks replies) last
+Resumes =
+    (p : Program) (c : Control) (s : Scene) (r last : Rest) (marks : ℕ) (replies : List Reply) → IsPaused r.how → Rests p c s r
+    → Rests p r.control (wider r.scene marks replies) last → Rests p c (wider s marks replies) last
 
 -- a reply given is the next of the replies
 abbrev pub Replies : Type 0
-Replies = (p : Program) (c : Position) (s : Scene) (q : Request) (reply : Reply) (last : Rest) → Rests p (answered q reply c) s last → Rests p (asking c q) (record s { replies = reply ∷ s.replies }) last
+Replies =
+    (p : Program) (c : Position) (s : Scene) (q : Request) (reply : Reply) (last : Rest) → Rests p (answered q reply c) s last
+    → Rests p (asking c q) (record s { replies = reply ∷ s.replies }) last
 
 -- there is one way to come to rest
 abbrev pub IsOne : Type 0
@@ -71,9 +75,13 @@ steps_left lines marks frames pc = marks * (length lines + 1) + marks * (length 
 -- A state stands so after a start: so many marks were spent and these replies were given, and with more of both the machine goes on
 -- from it as from the start with all of them.
 pub record Stands (p : Program) (first : Control) (cells : Cells) (spent : ℕ) (replies : List Reply) (c : Control) (now : Cells) : Type 0 where
-  pub goes : (marks : ℕ) (more : List Reply) (last : Rest) → Rests p c (record { cells = now; marks = marks; replies = more }) last → Rests p first (record { cells = cells; marks = spent + marks; replies = replies ++ more }) last
+  pub goes : (marks : ℕ) (more : List Reply) (last : Rest) → Rests p c (record { cells = now; marks = marks; replies = more }) last
+      → Rests p first (record { cells = cells; marks = spent + marks; replies = replies ++ more }) last
 
 -- a run from there for want of marks or replies, and one that had no marks however it came to rest, spends marks and leaves it so
 abbrev pub StandsOn : Type 0
-StandsOn = (p : Program) (first : Control) (cells : Cells) (spent left : ℕ) (replies : List Reply) (c : Control) (now : Cells) (r : Rest) → IsPaused r.how ⊎ (left ≡ 0) → Stands p first cells spent replies c now
-    → Rests p c (record { cells = now; marks = left; replies = [] }) r → r.scene.replies ≡ [] → Stands p first cells (spent + (left - r.scene.marks)) replies r.control r.scene.cells
+StandsOn =
+    (p : Program) (first : Control) (cells : Cells) (spent left : ℕ) (replies : List Reply) (c : Control) (now : Cells) (r : Rest) → IsPaused r.how ⊎ (left ≡ 0)
+    → Stands p first cells spent replies c now
+    → Rests p c (record { cells = now; marks = left; replies = [] }) r → r.scene.replies ≡ []
+    → Stands p first cells (spent + (left - r.scene.marks)) replies r.control r.scene.cells

@@ -10,10 +10,11 @@ use Rattle.code_form.specs.declared.operand.Operand.{Operand}
 use Rattle.code_form.specs.declared.operand.Operand.TheVariants.{Value as Of, Place as At}
 use Rattle.code_form.specs.declared.operand.OperandKind.{OperandKind}
 use Rattle.code_form.specs.declared.operand.OperandKind.TheVariants.{Value, Place}
-use Rattle.code_form.specs.declared.instr.Call.{Call as Requested}
-use Rattle.code_form.specs.declared.instr.Call.TheVariants as calls
+use Rattle.code_form.specs.declared.instr.Requested.{Requested}
+use Rattle.code_form.specs.declared.instr.Requested.TheVariants as calls
 use Rattle.code_form.specs.declared.instr.Instr.{Instr}
-use Rattle.code_form.specs.declared.instr.Instr.TheVariants.{Mark, Number, Truth, Outer, Local, Param, Load, Store, Do, Modify, Jump, False, When, Drop, Limit, Unlimit, Step, Ask, Call, Refer, Back, Out, End}
+use Rattle.code_form.specs.declared.instr.Instr.TheVariants.{Mark, Number, Truth, Outer, Local, Param, Load, Store, Do, Modify, Jump, False, When, Drop, Limit}
+use Rattle.code_form.specs.declared.instr.Instr.TheVariants.{Unlimit, Step, Ask, Call, Refer, Back, Out, End}
 use Rattle.code_form.specs.declared.code.Line.{Line}
 use Rattle.code_form.specs.declared.code.Spot.{Spot}
 use Rattle.code_form.specs.declared.code.Entry.{Entry}
@@ -132,7 +133,9 @@ IsFine p pc End ks m = Unit {0}
 
 -- a refinement is one of the level, or of a PROC
 abbrev pub IsOwned : Program → Layout → Type 0
-IsOwned p (layouts.Of q) = (e : Entry) × ((parameters : List OperandKind) × ((variables : List Kind) × (slice_get p.bodies q ≡ Some e) × (e.layout ≡ layouts.Own parameters variables)))
+IsOwned p (layouts.Of q) =
+    (e : Entry) × ((parameters : List OperandKind)
+    × ((variables : List Kind) × (slice_get p.bodies q ≡ Some e) × (e.layout ≡ layouts.Own parameters variables)))
 IsOwned p _ = Unit {0}
 
 pub record IsValid (p : Program) : Type 0 where
@@ -157,7 +160,8 @@ FitsKinds _ _ = ⊥
 -- `below` is the first cell of the frame below
 abbrev pub MadeSo : Program → Layout → ℕ → ℕ → List OperandKind → Spot → Frame → ℕ → ℕ → Type 0
 MadeSo p (layouts.Own parameters variables) n pc rest m f floor below =
-    (slice_get p.lines pc ≡ Some (line_of (Call n) (pushed_operands parameters rest) m)) × (f.refines ≡ false) × (f.base ≡ f.used + 2) × (floor ≡ f.base + length parameters + length variables)
+    (slice_get p.lines pc ≡ Some (line_of (Call n) (pushed_operands parameters rest) m)) × (f.refines ≡ false) × (f.base ≡ f.used + 2)
+    × (floor ≡ f.base + length parameters + length variables)
 MadeSo p _ n pc rest m f floor below =
     (slice_get p.lines pc ≡ Some (line_of (Refer n) rest m)) × (f.refines ≡ true) × (f.base ≡ below) × (floor ≡ f.used + 2)
 

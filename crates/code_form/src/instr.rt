@@ -41,7 +41,7 @@ pub enum Instr {
     /// Takes a place, and jumps where the number there has reached the innermost limit; else steps it.
     Step(Way, usize),
     /// Spends a mark, and makes a request.
-    Ask(Call),
+    Ask(Requested),
     /// Spends a mark, and goes to the PROC with this number, whose parameters it takes, with a new frame.
     Call(usize),
     /// Spends a mark, and goes to the refinement with this number, with a new frame over the same cells.
@@ -54,9 +54,9 @@ pub enum Instr {
     End,
 }
 
-/// The call that makes a request.
+/// What is requested.
 #[derive(Clone, Copy, PartialEq, Eq)]
-pub enum Call {
+pub enum Requested {
     /// `put` of a number, which it takes.
     PutNumber,
     /// `line`

@@ -1,11 +1,12 @@
 //! Code as text.
 ghost use Rattle.std.specs.Prelude.{◌≡◌, ◌++◌, IfOk, OnOk, length, slice_get, codes};
 ghost use Rattle.std.specs.Fmt.{decimal, signed_decimal};
-ghost use Rattle.code_form.specs.Listing.{truth_word, kind_word, way_word, operation_name, change_name, call_name, first_of, cells_of_frame, instr_text, line_text, listing_text};
+ghost use Rattle.code_form.specs.Listing.{truth_word, kind_word, way_word, operation_name, change_name, call_name, first_of, cells_of_frame, instr_text};
+ghost use Rattle.code_form.specs.Listing.{line_text, listing_text};
 ghost use Rattle.code_form.specs.Program.{cells_of};
 
 use crate::code::{Code, Entry, Layout};
-use crate::instr::{Call, Instr};
+use crate::instr::{Instr, Requested};
 use eu_base::{Bytes, Change, Kind, NoMemory, Operation, Way};
 use itoa::Buffer;
 use std::alloc::Global;
@@ -220,11 +221,11 @@ fn change_name(change: Change) -> &'static [u8]
     }
 }
 
-fn call_name(call: Call) -> &'static [u8]
+fn call_name(call: Requested) -> &'static [u8]
     ensures { result.now ≡ call_name call }
 {
     match call {
-        Call::PutNumber => b"put(INT)",
-        Call::Line => b"line",
+        Requested::PutNumber => b"put(INT)",
+        Requested::Line => b"line",
     }
 }

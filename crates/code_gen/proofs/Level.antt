@@ -1,5 +1,6 @@
 -- Calls of bodies do in the code what they do, since each costs a mark.
-use Rattle.std.proofs.Common.{◌≡◌, ℕ, zero, suc, ◌+◌, ◌≤◌, List, [], ◌∷◌, ◌++◌, map, length, Option, Some, Bool, true, false, cond, refl, sym, ap, ◌∙◌, subst, arith, append_assoc, length-append}
+use Rattle.std.proofs.Common.{◌≡◌, ℕ, zero, suc, ◌+◌, ◌≤◌, List, [], ◌∷◌, ◌++◌, map, length, Option, Some, Bool, true, false, cond, refl, sym, ap, ◌∙◌, subst}
+use Rattle.std.proofs.Common.{arith, append_assoc, length-append}
 use Rattle.std.specs.Prelude.{slice_get, option_map}
 use Rattle.std.proofs.lemmas.Option.{slice_get-map}
 use Rattle.std.proofs.lemmas.Bool.{leb-true}
@@ -19,7 +20,8 @@ use Rattle.code_form.specs.declared.code.Layout.TheVariants as layouts
 use Rattle.code_form.specs.declared.instr.Instr.TheVariants.{Call, Refer}
 use Rattle.code_form.specs.Program as tables
 use Rattle.code_form.specs.Program.{Program, line_of, in_body, owner, cells_in, frame_cells}
-use Rattle.code_form.specs.Machine.{Position, free, To, Stops, Spends, at, base_of, bytes_on, bytes_of, enters, calls_to, call_move, refer_move, frame_numbers, link_numbers, after_stage, written_from, step}
+use Rattle.code_form.specs.Machine.{Position, free, To, Stops, Spends, at, base_of, bytes_on, bytes_of, enters, calls_to, call_move, refer_move, frame_numbers}
+use Rattle.code_form.specs.Machine.{link_numbers, after_stage, written_from, step}
 use Rattle.elan_types.specs.declared.core_phrase.Exit.{Exit}
 use Rattle.elan_types.specs.declared.core_phrase.Exit.TheVariants as exits
 use Rattle.elan_types.specs.declared.core_phrase.Scope.{Scope}
@@ -28,13 +30,15 @@ use Rattle.elan_types.specs.declared.core_phrase.Content.{Content}
 use Rattle.elan_types.specs.declared.core_phrase.Body.{Body}
 use Rattle.elan_types.specs.declared.elan_type.ElanType.{ElanType}
 use Rattle.elan_types.specs.Typing.{kind_in}
-use Rattle.elan_types.specs.Eval.{Slot, World, Outcome, Gives, Left, Stopped, OutOfMarks, Asks, branch, with_room, cut, called, referred, content, frame, link, own_variables, run_called, run_referred, level, Calls}
+use Rattle.elan_types.specs.Eval.{Slot, World, Outcome, Gives, Left, Stopped, OutOfMarks, Asks, branch, with_room, cut, called, referred, content, frame, link}
+use Rattle.elan_types.specs.Eval.{own_variables, run_called, run_referred, level, Calls}
 use Rattle.elan_types.specs.Command.{Ending}
 use Rattle.place_gen.specs.Correct.{scene_of}
 use Rattle.place_gen.specs.Layouts.{layout_of}
 use Rattle.place_gen.proofs.Homes.{Delivers}
 use Rattle.place_gen.proofs.Cells.{OfValue, Uses, Keeps, AllKept, image, get_left, get_right, cuts, extends}
-use Rattle.place_gen.proofs.Carry.{use_of, finish, Result, result_ops, reach, After, Ends, Exits, CallsCarry, Stands, Within, TakeAll, pushed_slots, here, out_carries, spend_carries}
+use Rattle.place_gen.proofs.Carry.{use_of, finish, Result, result_ops, reach, After, Ends, Exits, CallsCarry, Stands, Within, TakeAll, pushed_slots, here}
+use Rattle.place_gen.proofs.Carry.{out_carries, spend_carries}
 use Rattle.code_gen.proofs.Entered.{slot_operand, frame_uses, link_uses, all_taken, frame_kept, kept_lengths}
 
 -- what comes of a call, and of a reference, as what comes of the body

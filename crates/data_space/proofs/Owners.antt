@@ -35,11 +35,23 @@ module _ {T : Type 0} (roots : T → Names) (none : T) where
       let s = split_set ts k u (omega (arith, low)) in
       record {
         long =
-            omega (arith, s.long, length-append (roots t) (all (set ts k u)), length-append (roots u) (all (without k ts)),
-                length-append (roots u) (roots t ++ all (without k ts)), length-append (roots t) (all (without k ts)));
+            omega (
+              arith,
+              s.long,
+              length-append (roots t) (all (set ts k u)),
+              length-append (roots u) (all (without k ts)),
+              length-append (roots u) (roots t ++ all (without k ts)),
+              length-append (roots t) (all (without k ts)),
+            );
         occs =
-            λ p. omega (arith, s.occs p, occ-append p (roots t) (all (set ts k u)), occ-append p (roots u) (all (without k ts)),
-                occ-append p (roots u) (roots t ++ all (without k ts)), occ-append p (roots t) (all (without k ts)));
+            λ p. omega (
+              arith,
+              s.occs p,
+              occ-append p (roots t) (all (set ts k u)),
+              occ-append p (roots u) (all (without k ts)),
+              occ-append p (roots u) (roots t ++ all (without k ts)),
+              occ-append p (roots t) (all (without k ts)),
+            );
       }
 
   set_get : (ts : List T) (k : ℕ) → k < length ts → set ts k (get_or ts k none) ≡ ts
@@ -72,11 +84,23 @@ module _ {T : Type 0} (roots : T → Names) (none : T) where
       let rest : Names = all (without k ts) in
       record {
         long =
-            omega (arith, s.long, length-append hand (all (set ts k u)), length-append (hand ++ roots u) rest, length-append hand (roots u),
-                length-append (roots u) rest);
+            omega (
+              arith,
+              s.long,
+              length-append hand (all (set ts k u)),
+              length-append (hand ++ roots u) rest,
+              length-append hand (roots u),
+              length-append (roots u) rest,
+            );
         occs =
-            λ p. omega (arith, s.occs p, occ-append p hand (all (set ts k u)), occ-append p (hand ++ roots u) rest, occ-append p hand (roots u),
-                occ-append p (roots u) rest);
+            λ p. omega (
+              arith,
+              s.occs p,
+              occ-append p hand (all (set ts k u)),
+              occ-append p (hand ++ roots u) rest,
+              occ-append p hand (roots u),
+              occ-append p (roots u) rest,
+            );
       }
 
   -- an owner that stands at k, with names in hand
@@ -85,7 +109,7 @@ module _ {T : Type 0} (roots : T → Names) (none : T) where
     pub apart : Same (hand ++ all ts) ((hand ++ roots t) ++ all (without k ts))
     apart =
         subst (λ (l : List T). Same (hand ++ all l) ((hand ++ roots t) ++ all (without k ts)))
-            (subst (λ (u : T). set ts k u ≡ ts) (sym (get_or_read ts k t low read none)) (set_get ts k low)) (in_hand hand ts k t low)
+        (subst (λ (u : T). set ts k u ≡ ts) (sym (get_or_read ts k t low read none)) (set_get ts k low)) (in_hand hand ts k t low)
 
     pub own : Stands pages (hand ++ roots t) 0
     own = record { some = ∥∥₁_map some (λ a. (all (without k ts), reorder pages _ _ apart a, omega (arith, a.few, apart.long))) }
@@ -103,7 +127,7 @@ module _ {T : Type 0} (roots : T → Names) (none : T) where
       others_keep j there ne i n =
           let named = nth_named (roots (get_or ts j none)) i in
           equal _ _ some (λ a. (framed a).same _
-              (λ (x : ℕ) (e : get_or (roots (get_or ts j none)) i None ≡ Some x). omega (arith, named x e, in_others ts k j x there ne)) n)
+          (λ (x : ℕ) (e : get_or (roots (get_or ts j none)) i None ≡ Some x). omega (arith, named x e, in_others ts k j x there ne)) n)
 
   put_back : (ts : List T) (k : ℕ) (u : T) → k < length ts → Same (roots u ++ all (without k ts)) (all (set ts k u))
   put_back ts k u low = let s = split_set ts k u low in record { long = sym s.long; occs = λ p. sym (s.occs p) }
@@ -117,8 +141,15 @@ module _ {T : Type 0} (roots : T → Names) (none : T) where
     module _ (u : T) (fewer : length (roots u) ≤ length (hand ++ roots t)) (frames : Frames old new (hand ++ roots t) (roots u)) where
       set_fits : length (hand ++ all ts) ≤ most_spaces → length (all (set ts k u)) ≤ most_spaces
       set_fits few =
-          omega (arith, few, fewer, (apart old hand ts k t low read some).long, length-append (hand ++ roots t) (all (without k ts)),
-              (split_set ts k u low).long, length-append (roots u) (all (without k ts)))
+          omega (
+            arith,
+            few,
+            fewer,
+            (apart old hand ts k t low read some).long,
+            length-append (hand ++ roots t) (all (without k ts)),
+            (split_set ts k u low).long,
+            length-append (roots u) (all (without k ts)),
+          )
 
       pub set_agree : ∥ Agree new (all (set ts k u)) ∥₁
       set_agree = agree_one old hand ts k t low read some new (roots u) _ frames (put_back ts k u low) set_fits
@@ -154,7 +185,7 @@ module _ {T : Type 0} (roots : T → Names) (none : T) where
       copy_agree copy is = subst (λ (o : Option ℕ). ∥ Agree new (o ∷ all ts) ∥₁) (sym is)
           (agree_same new _ _ (record { long = omega (arith, split.long); occs = λ p. omega (arith, split.occs p) })
           (agree_after old new (mine ∷ []) (mine ∷ mine ∷ []) (more ++ all (without k ts)) (omega (arith, room, split.long)) frames
-              (agree_same old _ _ split some)))
+          (agree_same old _ _ split some)))
 
       pub copy_keeps : (j : ℕ) → j < length ts → Keeps roots old new (get_or ts j none)
       copy_keeps j there i =

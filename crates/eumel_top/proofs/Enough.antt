@@ -1,5 +1,6 @@
 -- A program has as many evaluations as it needs, since each of its requests costs a mark.
-use Rattle.std.proofs.Common.{◌≡◌, ℕ, zero, suc, ◌+◌, ◌≤◌, Bool, true, false, cond, List, [], ◌∷◌, ◌++◌, length, Some, refl, ap, ◌∙◌, subst, length-append, arith}
+use Rattle.std.proofs.Common.{◌≡◌, ℕ, zero, suc, ◌+◌, ◌≤◌, Bool, true, false, cond, List, [], ◌∷◌, ◌++◌, length, Some, refl, ap, ◌∙◌, subst, length-append}
+use Rattle.std.proofs.Common.{arith}
 use Rattle.eu_base.specs.declared.value.Kind.{Kind}
 use Rattle.eu_base.specs.declared.value.Kind.TheVariants as kinds
 use Rattle.eu_base.specs.declared.stop.Stop.TheVariants.{CellRoom}
@@ -13,7 +14,8 @@ use Rattle.code_form.specs.declared.halt.Halt.TheVariants as halts
 use Rattle.code_form.specs.declared.waits.Waits.{Waits}
 use Rattle.code_form.specs.declared.waits.Waits.TheVariants.{Nothing, Asked, Refused}
 use Rattle.code_form.specs.Program.{Program}
-use Rattle.code_form.specs.Machine.{Position, Control, After, To, Stops, Move, Goes, Spends, Halts, Ends, Stuck, Scene, Rest, step, Stage, On, Over, Lost, after_stage, mark_stage, reply_stage, stage, stage_at, advance, carry_on, exec, start}
+use Rattle.code_form.specs.Machine.{Position, Control, After, To, Stops, Move, Goes, Spends, Halts, Ends, Stuck, Scene, Rest, step, Stage, On, Over, Lost}
+use Rattle.code_form.specs.Machine.{after_stage, mark_stage, reply_stage, stage, stage_at, advance, carry_on, exec, start}
 use Rattle.code_form.specs.Machine as machine
 use Rattle.place_gen.specs.Correct.{Shows, Comes, scene_of}
 use Rattle.code_gen.specs.Program.{program_of}

@@ -19,7 +19,8 @@ use Rattle.eumel_top.specs.declared.meaning.TextError.{TextError}
 use Rattle.eumel_top.specs.declared.refusal.Refusal.{Refusal}
 use Rattle.eumel_top.specs.declared.refusal.Refusal.TheVariants.{NotElan}
 use Rattle.eumel_top.specs.Refusal.{refusal_line}
-use Rattle.eumel_top.specs.Meaning.{alone, HasTokens, no_token, too_many, no_tree, not_built, no_meaning, of_lexer, of_parser, of_check, IsCause, IsRefused, TextWrites, refused}
+use Rattle.eumel_top.specs.Meaning.{alone, HasTokens, no_token, too_many, no_tree, not_built, no_meaning, of_lexer, of_parser, of_check, IsCause, IsRefused}
+use Rattle.eumel_top.specs.Meaning.{TextWrites, refused}
 
 -- what `?` hands on is the cause
 pub handed_on : (text : List ℕ) (cause : TextError) (r : Result Core TextError) → IsErr r × IsErrAnd r (λ e. e ≡ cause) → IsCause text cause

@@ -1,5 +1,6 @@
 -- A program that is served writes what its evaluation says.
-use Rattle.std.proofs.Common.{◌≡◌, Bool, true, false, cond, inl, ℕ, zero, suc, ◌+◌, ◌-◌, ◌<◌, ◌≤◌, List, [], ◌∷◌, ◌++◌, Option, Some, None, refl, sym, ap, ◌∙◌, subst, append_assoc, append-nil, length, length-append, arith}
+use Rattle.std.proofs.Common.{◌≡◌, Bool, true, false, cond, inl, ℕ, zero, suc, ◌+◌, ◌-◌, ◌<◌, ◌≤◌, List, [], ◌∷◌, ◌++◌, Option, Some, None, refl, sym, ap, ◌∙◌}
+use Rattle.std.proofs.Common.{subst, append_assoc, append-nil, length, length-append, arith}
 use Rattle.std.specs.Prelude.{IsSome}
 use Rattle.eu_base.specs.declared.stop.Stop.{Stop}
 use Rattle.eu_base.specs.declared.stop.Stop.TheVariants.{CellRoom, LineMarks}

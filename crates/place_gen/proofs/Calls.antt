@@ -23,7 +23,8 @@ use Rattle.place_gen.specs.Correct.{scene_of}
 use Rattle.place_gen.proofs.Lines.{HasAt, join_sized}
 use Rattle.place_gen.proofs.Homes.{Delivers, LeftBy}
 use Rattle.place_gen.proofs.Cells.{Uses}
-use Rattle.place_gen.proofs.Carry.{Any, OfKind, Result, result_ops, reach, Ends, Carries, Takes, TakeAll, operand_of, pushed_slots, on_step, then_carries, none_carries, here, ends_at, join_carries}
+use Rattle.place_gen.proofs.Carry.{Any, OfKind, Result, result_ops, reach, Ends, Carries, Takes, TakeAll, operand_of, pushed_slots, on_step, then_carries}
+use Rattle.place_gen.proofs.Carry.{none_carries, here, ends_at, join_carries}
 use Rattle.place_gen.proofs.Forms.{keep, keep_place, Is, IsValue, IsPlace, IsAction}
 
 append-[] : {A : Type 0} (l : List A) → l ++ [] ≡ l

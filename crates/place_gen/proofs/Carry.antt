@@ -1,5 +1,6 @@
 -- How the machine follows a run, whatever phrase the run comes from.
-use Rattle.std.proofs.Common.{◌≡◌, ℕ, zero, suc, ◌+◌, ◌<◌, ◌≤◌, List, [], ◌∷◌, ◌++◌, length, Option, Some, None, Bool, true, false, cond, refl, sym, ap, ◌∙◌, subst, arith, append_assoc}
+use Rattle.std.proofs.Common.{◌≡◌, ℕ, zero, suc, ◌+◌, ◌<◌, ◌≤◌, List, [], ◌∷◌, ◌++◌, length, Option, Some, None, Bool, true, false, cond, refl, sym, ap, ◌∙◌}
+use Rattle.std.proofs.Common.{subst, arith, append_assoc}
 use Rattle.std.specs.Prelude.{slice_get, Ok, Err}
 use Rattle.eu_base.specs.declared.address.TheConstants.{CELLS}
 use Rattle.eu_base.specs.declared.value.Kind.{Kind}
@@ -22,10 +23,13 @@ use Rattle.code_form.specs.declared.code.Spot.{Spot}
 use Rattle.code_form.specs.declared.code.Entry.{Entry}
 use Rattle.code_form.specs.declared.code.Layout.TheVariants as layouts
 use Rattle.code_form.specs.Program.{Program, line_of, instr_of, owner, frame_cells}
-use Rattle.code_form.specs.Machine.{Frame, Position, free, asking, After as AfterMark, To, Asks as AsksFor, Move, Goes, Spends, Halts, Ends as EndsHere, at, bytes_on, bytes_of, base_of, back_to, out_to, instruction, step, Scene, Rest, Stage, after_stage, mark_stage, reply_stage, stage, carry_on, exec}
+use Rattle.code_form.specs.Machine.{Frame, Position, free, asking, After as AfterMark, To, Asks as AsksFor, Move, Goes, Spends, Halts, Ends as EndsHere, at}
+use Rattle.code_form.specs.Machine.{bytes_on, bytes_of, base_of, back_to, out_to, instruction, step, Scene, Rest, Stage, after_stage, mark_stage, reply_stage}
+use Rattle.code_form.specs.Machine.{stage, carry_on, exec}
 use Rattle.elan_types.specs.declared.core_phrase.Exit.{Exit}
 use Rattle.elan_types.specs.declared.core_phrase.Exit.TheVariants as exits
-use Rattle.elan_types.specs.Eval.{Place, Slot, Holds, Refers, Taken, World, Outcome, Gives, Left, Stopped, OutOfMarks, Asks, bind, spend_at, spend, ask_at, ask, branch, or_stop, assign, turns, Calls, Reach}
+use Rattle.elan_types.specs.Eval.{Place, Slot, Holds, Refers, Taken, World, Outcome, Gives, Left, Stopped, OutOfMarks, Asks, bind, spend_at, spend, ask_at, ask}
+use Rattle.elan_types.specs.Eval.{branch, or_stop, assign, turns, Calls, Reach}
 use Rattle.elan_types.specs.Command as endings
 use Rattle.elan_types.specs.Command.{Ending}
 use Rattle.place_gen.specs.Stretch.{Stretch, join}

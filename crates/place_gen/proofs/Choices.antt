@@ -1,5 +1,6 @@
 -- What choices, units and stores do, whatever their parts are.
-use Rattle.std.proofs.Common.{◌≡◌, ℕ, suc, ◌+◌, List, [], ◌∷◌, ◌++◌, length, drop, Option, Bool, true, false, cond, ◌||◌, refl, ap, ◌∙◌, subst, arith, length-append}
+use Rattle.std.proofs.Common.{◌≡◌, ℕ, suc, ◌+◌, List, [], ◌∷◌, ◌++◌, length, drop, Option, Bool, true, false, cond, ◌||◌, refl, ap, ◌∙◌, subst, arith}
+use Rattle.std.proofs.Common.{length-append}
 use Rattle.std.specs.Prelude.{Ok, Err, ℤ}
 use Rattle.std.specs.Ordering.{int_eq}
 use Rattle.eu_base.specs.declared.value.Kind.TheVariants as kinds
@@ -13,13 +14,14 @@ use Rattle.code_form.specs.declared.operand.Operand.TheVariants.{Value as Of}
 use Rattle.code_form.specs.declared.operand.OperandKind.{OperandKind}
 use Rattle.code_form.specs.declared.operand.OperandKind.TheVariants as operand
 use Rattle.code_form.specs.declared.instr.Instr.TheVariants.{Mark, Modify, Jump, False, When, Drop, Ask}
-use Rattle.code_form.specs.declared.instr.Call.TheVariants as requests
+use Rattle.code_form.specs.declared.instr.Requested.TheVariants as requests
 use Rattle.code_form.specs.declared.code.Spot.{Spot}
 use Rattle.code_form.specs.Program.{Program, line_of}
 use Rattle.code_form.specs.Machine.{Position, free, Goes, at, or_halt, step}
 use Rattle.elan_types.specs.declared.core_phrase.Exit.{Exit}
 use Rattle.elan_types.specs.declared.core_phrase.PlacePhrase.{PlacePhrase}
-use Rattle.elan_types.specs.Eval.{Place, World, Outcome, Gives, bind, spend, ask, branch, or_stop, fetch, assign, modify, place, holding_place, Calls, Run, holds}
+use Rattle.elan_types.specs.Eval.{Place, World, Outcome, Gives, bind, spend, ask, branch, or_stop, fetch, assign, modify, place, holding_place, Calls, Run}
+use Rattle.elan_types.specs.Eval.{holds}
 use Rattle.elan_types.specs.Command.{Ending}
 use Rattle.place_gen.specs.Stretch.{Stretch, one, keeps, join, if_code, whens, arm_code, place_code, modify_code}
 use Rattle.place_gen.specs.Correct.{Comes, scene_of}
@@ -27,7 +29,8 @@ use Rattle.place_gen.proofs.Lines.{HasAt, has_front, has_rest, join_sized}
 use Rattle.place_gen.proofs.Homes.{HasPlace}
 use Rattle.place_gen.proofs.Cells.{Uses, Keeps, reads}
 use Rattle.eu_base.proofs.Results.{changed_gives}
-use Rattle.place_gen.proofs.Carry.{finish, Any, AtKind, reach, Ends, Carries, Within, less, stop_comes, then_carries, lead_carries, carries_lead, write_ends, branch_carries, mark_carries, ask_carries, none_carries, here, ends_at, join_carries}
+use Rattle.place_gen.proofs.Carry.{finish, Any, AtKind, reach, Ends, Carries, Within, less, stop_comes, then_carries, lead_carries, carries_lead, write_ends}
+use Rattle.place_gen.proofs.Carry.{branch_carries, mark_carries, ask_carries, none_carries, here, ends_at, join_carries}
 use Rattle.place_gen.proofs.Forms.{keep_place, Is, IsValue, IsAction, place_is}
 
 module _ (p : Program) (body : Option ℕ) where

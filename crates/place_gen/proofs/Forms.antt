@@ -21,13 +21,15 @@ use Rattle.code_form.specs.Program.{Program, frame_cells}
 use Rattle.code_form.specs.Machine.{Position, Move, at, pushes as push_move, or_halt, on_values, base_of, bytes_on, bytes_of, instruction}
 use Rattle.elan_types.specs.declared.core_phrase.PlacePhrase.{PlacePhrase}
 use Rattle.elan_types.specs.declared.core_phrase.PlacePhrase.TheVariants as places
-use Rattle.elan_types.specs.Eval.{Place, slot_at, place_of, Gives, bind, or_stop, fetch, assign, deliver, place, holding, holding_place, stored, Calls, Run, all, values}
+use Rattle.elan_types.specs.Eval.{Place, slot_at, place_of, Gives, bind, or_stop, fetch, assign, deliver, place, holding, holding_place, stored, Calls, Run}
+use Rattle.elan_types.specs.Eval.{all, values}
 use Rattle.place_gen.specs.Stretch.{Stretch, none, one, pushes, join, place_code, store_code}
 use Rattle.place_gen.proofs.Lines.{HasAt, join_sized}
 use Rattle.place_gen.proofs.Homes.{HasPlace}
 use Rattle.place_gen.proofs.Cells.{Uses, reads, refers}
 use Rattle.eu_base.proofs.Results.{result_gives}
-use Rattle.place_gen.proofs.Carry.{Any, OfKind, AtKind, use_of, reach, Carries, Stands, Within, stop_ends, then_carries, none_carries, reads_carries, write_ends, or_carries, here, ends_at, join_carries}
+use Rattle.place_gen.proofs.Carry.{Any, OfKind, AtKind, use_of, reach, Carries, Stands, Within, stop_ends, then_carries, none_carries, reads_carries}
+use Rattle.place_gen.proofs.Carry.{write_ends, or_carries, here, ends_at, join_carries}
 
 abbrev pub keep : Value → List Operand → List Operand
 keep v ops = Of v ∷ ops

@@ -1,5 +1,6 @@
 -- What loops with a counter do, whatever their parts are. A limit has a cell meanwhile.
-use Rattle.std.proofs.Common.{◌≡◌, ℕ, ◌+◌, ◌-◌, ◌<◌, ◌≤◌, List, [], ◌∷◌, ◌++◌, length, drop, Option, Some, None, Bool, true, false, cond, refl, sym, ap, ◌∙◌, subst, arith, length-append}
+use Rattle.std.proofs.Common.{◌≡◌, ℕ, ◌+◌, ◌-◌, ◌<◌, ◌≤◌, List, [], ◌∷◌, ◌++◌, length, drop, Option, Some, None, Bool, true, false, cond, refl, sym, ap, ◌∙◌}
+use Rattle.std.proofs.Common.{subst, arith, length-append}
 use Rattle.std.specs.Prelude.{ℤ, pos}
 use Rattle.std.proofs.lemmas.Bool.{leb-true}
 use Rattle.std.proofs.lemmas.List.{get_or_append_left}
@@ -26,7 +27,8 @@ use Rattle.code_form.specs.Program.{Program, line_of, deeper}
 use Rattle.code_form.specs.Machine.{Position, free, Goes, Halts, at, using, base_of, step}
 use Rattle.elan_types.specs.declared.core_phrase.Exit.{Exit as Exit'}
 use Rattle.elan_types.specs.declared.core_phrase.PlacePhrase.{PlacePhrase}
-use Rattle.elan_types.specs.Eval.{Place, Taken, value_of, World, Outcome, Gives, Stopped, bind, branch, fetch, place, holding_place, cut, Calls, Run, turns, step as step_on, step_to, limited, counted}
+use Rattle.elan_types.specs.Eval.{Place, Taken, value_of, World, Outcome, Gives, Stopped, bind, branch, fetch, place, holding_place, cut, Calls, Run, turns}
+use Rattle.elan_types.specs.Eval.{step as step_on, step_to, limited, counted}
 use Rattle.elan_types.specs.Command.{Ending}
 use Rattle.place_gen.specs.Stretch.{Stretch, join, Exit, step_code, step_to_code, place_code, turns_code, limit_code, counted_code}
 use Rattle.place_gen.specs.Correct.{Comes, scene_of}
@@ -34,7 +36,8 @@ use Rattle.place_gen.proofs.Lines.{HasAt, has_front, has_rest, join_sized}
 use Rattle.place_gen.proofs.Homes.{HasPlace}
 use Rattle.place_gen.proofs.Cells.{Use, OfValue, OfLimit, Uses, Keeps, get_left, reads, cuts, extends_one}
 use Rattle.eu_base.proofs.Results.{fits_in_range}
-use Rattle.place_gen.proofs.Carry.{finish, finish_bind, Any, AtKind, use_of, reach, Ends, wider, Carries, Stands, Within, on_step, stop_comes, branch_carries, none_carries, here, ends_at, join_carries}
+use Rattle.place_gen.proofs.Carry.{finish, finish_bind, Any, AtKind, use_of, reach, Ends, wider, Carries, Stands, Within, on_step, stop_comes, branch_carries}
+use Rattle.place_gen.proofs.Carry.{none_carries, here, ends_at, join_carries}
 use Rattle.place_gen.proofs.Forms.{keep_place, IsValue, IsAction, place_is}
 use Rattle.place_gen.proofs.Loops.{IsExit, Under, number_fits, turns_are, turns_sized}
 

@@ -11,10 +11,12 @@ use Rattle.code_form.specs.declared.code.Spot.{Spot}
 use Rattle.code_form.specs.Program.{Program, line_of, instr_of, deeper}
 use Rattle.elan_types.specs.declared.core_phrase.PlacePhrase.{PlacePhrase}
 use Rattle.code_form.specs.Valid.{Next, is_mark, Lands, IsFine}
-use Rattle.place_gen.specs.Stretch.{Stretch, one, keeps, pushes, join, if_code, whens, arm_code, Exit, stays, exit_join, while_code, until_code, step_code, step_to_code, turn_code, turns_code, limit_code, counted_code, place_instr}
+use Rattle.place_gen.specs.Stretch.{Stretch, one, keeps, pushes, join, if_code, whens, arm_code, Exit, stays, exit_join, while_code, until_code, step_code}
+use Rattle.place_gen.specs.Stretch.{step_to_code, turn_code, turns_code, limit_code, counted_code, place_instr}
 use Rattle.place_gen.proofs.Lines.{HasAt, has_front, has_rest, IsSized}
 use Rattle.place_gen.proofs.Homes.{HasPlace}
-use Rattle.place_gen.proofs.Tables.{Each, each_rest, moved, forth, Table, ValueTable, ActionTable, above, join_table, one_table, number_table, place_table, place_fine}
+use Rattle.place_gen.proofs.Tables.{Each, each_rest, moved, forth, Table, ValueTable, ActionTable, above, join_table, one_table, number_table, place_table}
+use Rattle.place_gen.proofs.Tables.{place_fine}
 
 module _ (p : Program) (body : Option ℕ) where
   pub if_table : {after : List OperandKind → List OperandKind} {f g h : Stretch} → ValueTable p body kinds.Truth f → Table p body keeps after g

@@ -8,7 +8,7 @@ use Rattle.eu_base.specs.declared.operation.Change.{Change}
 use Rattle.eu_base.specs.Operations.{operand_kinds, result_kind}
 use Rattle.code_form.specs.declared.operand.OperandKind.{OperandKind}
 use Rattle.code_form.specs.declared.operand.OperandKind.TheVariants.{Value as OfKind, Place as AtKind}
-use Rattle.code_form.specs.declared.instr.Call.TheVariants as calls
+use Rattle.code_form.specs.declared.instr.Requested.TheVariants as calls
 use Rattle.code_form.specs.declared.instr.Instr.{Instr}
 use Rattle.code_form.specs.declared.instr.Instr.TheVariants.{Mark, Number, Truth, Load, Store, Do, Modify, Ask, Call, Refer, Back, Out}
 use Rattle.code_form.specs.declared.code.Line.{Line}
@@ -21,7 +21,8 @@ use Rattle.elan_types.specs.declared.core_phrase.PlacePhrase.{PlacePhrase}
 use Rattle.elan_types.specs.declared.core_phrase.PlacePhrase.TheVariants as places
 use Rattle.elan_types.specs.declared.core_phrase.Exit.{Exit}
 use Rattle.elan_types.specs.declared.core_phrase.Exit.TheVariants as exits
-use Rattle.place_gen.specs.Stretch.{Stretch, none, one, keeps, pushes, join, all_code, place_instr, place_code, store_code, modify_code, call_code, refer_code, leave_instr}
+use Rattle.place_gen.specs.Stretch.{Stretch, none, one, keeps, pushes, join, all_code, place_instr, place_code, store_code, modify_code, call_code, refer_code}
+use Rattle.place_gen.specs.Stretch.{leave_instr}
 use Rattle.place_gen.proofs.Lines.{HasAt, has_front, has_rest, IsSized, join_sized}
 use Rattle.place_gen.proofs.Homes.{Delivers, HasPlace, LeftBy}
 

@@ -1,4 +1,4 @@
--- The code of a well typed phrase does what the phrase does.
+-- The code of a well typed phrase does what the phrase does. One induction over the phrases, so it stands in one file.
 use Rattle.std.proofs.Common.{◌≡◌, List, [], ◌∷◌, map, Option, Some, None, Bool, true, false, ◌&&◌, refl, sym, ap, ◌∙◌, subst}
 use Rattle.std.specs.Prelude.{ℤ, option_map}
 use Rattle.eu_base.specs.declared.value.Kind.{Kind}
@@ -25,19 +25,28 @@ use Rattle.elan_types.specs.declared.core_phrase.Arm.{Arm}
 use Rattle.elan_types.specs.declared.core_phrase.ValueArm.{ValueArm}
 use Rattle.elan_types.specs.declared.core_phrase.Action.TheOpen as t
 use Rattle.elan_types.specs.declared.core_phrase.Action.TheOpen.{Action-F, Actual-F, ValuePhrase-F, Arm-F, ValueArm-F}
-use Rattle.elan_types.specs.declared.core_phrase.Action.TheFolds.{fold-Actual, fold-Arm, fold-ValueArm, ind-Action, ind-ValuePhrase, map-Action, map-Actual, map-ValuePhrase, map-Arm, map-ValueArm, fold-roll-Action, fold-roll-Actual, fold-roll-ValuePhrase, fold-roll-Arm, fold-roll-ValueArm}
-use Rattle.elan_types.specs.Typing.{Typed, Home, has, has_if_written, have, all_agree, all_true, type_in, kind_in, Taken, take_all, given_as, place_type, type_of, is_typed, value_type_step, value_arm_type_step, actual_type_step, action_typed_step, arm_typed_step}
-use Rattle.elan_types.specs.Eval.{Run, Slot, Labelled, bind, stored, turns, holds, branch, counted, all, values, selected, while_true, until_true, turn, go_on, act, value, action_step, actual_step, value_step, arm_step, value_arm_step}
-use Rattle.place_gen.specs.Stretch.{Stretch, none, join, stays, turns_code, store_code, all_code, arm_code, select_code, while_code, until_code, turn_code, counted_code, action_code, actual_code, value_code, action_code_step, actual_code_step, value_code_step, arm_code_step, value_arm_code_step, arm_code_of, value_arm_code}
+use Rattle.elan_types.specs.declared.core_phrase.Action.TheFolds.{fold-Actual, fold-Arm, fold-ValueArm, ind-Action, ind-ValuePhrase, map-Action, map-Actual}
+use Rattle.elan_types.specs.declared.core_phrase.Action.TheFolds.{map-ValuePhrase, map-Arm, map-ValueArm, fold-roll-Action, fold-roll-Actual}
+use Rattle.elan_types.specs.declared.core_phrase.Action.TheFolds.{fold-roll-ValuePhrase, fold-roll-Arm, fold-roll-ValueArm}
+use Rattle.elan_types.specs.Typing.{Typed, Home, has, has_if_written, have, all_agree, all_true, type_in, kind_in, Taken, take_all, given_as, place_type}
+use Rattle.elan_types.specs.Typing.{type_of, is_typed, value_type_step, value_arm_type_step, actual_type_step, action_typed_step, arm_typed_step}
+use Rattle.elan_types.specs.Eval.{Run, Slot, Labelled, bind, stored, turns, holds, branch, counted, all, values, selected, while_true, until_true, turn, go_on}
+use Rattle.elan_types.specs.Eval.{act, value, action_step, actual_step, value_step, arm_step, value_arm_step}
+use Rattle.place_gen.specs.Stretch.{Stretch, none, join, stays, turns_code, store_code, all_code, arm_code, select_code, while_code, until_code, turn_code}
+use Rattle.place_gen.specs.Stretch.{counted_code, action_code, actual_code, value_code, action_code_step, actual_code_step, value_code_step, arm_code_step}
+use Rattle.place_gen.specs.Stretch.{value_arm_code_step, arm_code_of, value_arm_code}
 use Rattle.place_gen.specs.Layouts.{parameter_kind}
 use Rattle.place_gen.proofs.Cells.{Uses}
 use Rattle.place_gen.proofs.Carry.{Any, OfKind}
-use Rattle.place_gen.proofs.Forms.{Is, IsValue, IsAction, AllOf, pushed, keep, no_more, nothing_is, then_is, number_is, truth_is, place_is, load_is, store_is, no_values_are, more_values_are, apply_is}
+use Rattle.place_gen.proofs.Forms.{Is, IsValue, IsAction, AllOf, pushed, keep, no_more, nothing_is, then_is, number_is, truth_is, place_is, load_is, store_is}
+use Rattle.place_gen.proofs.Forms.{no_values_are, more_values_are, apply_is}
 use Rattle.place_gen.proofs.Choices.{if_is, IsChoice, otherwise_is, arm_is, select_is, unit_is, modify_is, put_is, line_is}
-use Rattle.place_gen.proofs.Calls.{IsActual, AreActuals, value_actual, place_actual, no_actuals_are, more_actuals_are, call_value_is, call_action_is, refer_value_is, refer_action_is, leave_is, leave_with_is}
+use Rattle.place_gen.proofs.Calls.{IsActual, AreActuals, value_actual, place_actual, no_actuals_are, more_actuals_are, call_value_is, call_action_is}
+use Rattle.place_gen.proofs.Calls.{refer_value_is, refer_action_is, leave_is, leave_with_is}
 use Rattle.place_gen.proofs.Loops.{IsExit, Under, while_none, while_some, until_none, until_some, go_on_is, turn_is, loop_is, step_is, step_to_is}
 use Rattle.place_gen.proofs.Limits.{counted_none_is, counted_some_is}
-use Rattle.place_gen.proofs.Homes.{Agrees, IsHome, place_is as has_place, proc_is, part_is, left_is, only_if_is, both, has_is, agree_is, kind_type, takes_is, without_is, with_is, none_is}
+use Rattle.place_gen.proofs.Homes.{Agrees, IsHome, place_is as has_place, proc_is, part_is, left_is, only_if_is, both, has_is, agree_is, kind_type, takes_is}
+use Rattle.place_gen.proofs.Homes.{without_is, with_is, none_is}
 
 abbrev fst : {A : Type 0} {B : A → Type 0} → (a : A) × B a → A
 fst x = x.0

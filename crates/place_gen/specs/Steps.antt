@@ -15,7 +15,8 @@ use Rattle.elan_types.specs.declared.core_phrase.Action.TheOpen.{Action-F}
 use Rattle.elan_types.specs.Typing.{kind_in}
 use Rattle.place_gen.specs.declared.put.Step.{Step}
 use Rattle.place_gen.specs.declared.put.Step.TheVariants as steps
-use Rattle.place_gen.specs.Stretch.{Stretch, none, one, keeps, pushes, join, all_code, Exit, stays, turn_code, store_code, counted_code, call_code, refer_code, leave_instr, value_code, action_code, actual_code}
+use Rattle.place_gen.specs.Stretch.{Stretch, none, one, keeps, pushes, join, all_code, Exit, stays, turn_code, store_code, counted_code, call_code, refer_code}
+use Rattle.place_gen.specs.Stretch.{leave_instr, value_code, action_code, actual_code}
 
 -- the counter's place is pushed by the instruction that a step knows
 abbrev pub step_exit : Step → Exit

@@ -1,7 +1,8 @@
 //! How many instructions a phrase has. More than the largest number count as that, so that no count fails.
 ghost use Rattle.std.specs.Prelude.{◌≡◌, ◌+◌, map, option_map};
 ghost use Rattle.place_gen.specs.Counted.{counted};
-ghost use Rattle.place_gen.specs.Stretch.{all_code, while_code, until_code, value_code, action_code, actual_code, value_arm_code, arm_code_of, arms_length, Exit, loop_code};
+ghost use Rattle.place_gen.specs.Stretch.{all_code, while_code, until_code, value_code, action_code, actual_code, value_arm_code, arm_code_of, arms_length};
+ghost use Rattle.place_gen.specs.Stretch.{Exit, loop_code};
 ghost use Rattle.place_gen.specs.Steps.{count_code};
 
 use elan_types::{Action, Actual, Arm, ValueArm, ValuePhrase};

@@ -1,8 +1,10 @@
-//! The instructions of phrases. Want of memory is kept in the draft and told at the end.
+//! The instructions of phrases. Want of memory is kept in the draft and told at the end. The functions call each other in one
+//! cycle, so they stand in one file.
 ghost use Rattle.std.specs.Prelude.{◌≡◌, OnOk, map, drop, option_map};
 ghost use Rattle.code_form.specs.declared.operand.OperandKind.TheVariants as operand;
 ghost use Rattle.code_form.specs.declared.instr.Instr.TheVariants as instrs;
-ghost use Rattle.place_gen.specs.Stretch.{one, pushes, join, all_code, while_code, until_code, limit_code, call_code, value_code, action_code, actual_code, content_code, value_arm_code, arm_code_of, choice_code, loop_code, turn_of, value_parts, action_parts};
+ghost use Rattle.place_gen.specs.Stretch.{one, pushes, join, all_code, while_code, until_code, limit_code, call_code, value_code, action_code, actual_code};
+ghost use Rattle.place_gen.specs.Stretch.{content_code, value_arm_code, arm_code_of, choice_code, loop_code, turn_of, value_parts, action_parts};
 ghost use Rattle.place_gen.specs.Adds.{Adds};
 ghost use Rattle.place_gen.specs.Makes.{Makes, MakesExit, MakesArm};
 ghost use Rattle.place_gen.specs.Steps.{step_exit, count_code, transfer_code};
@@ -15,7 +17,7 @@ use crate::put::{
     put_operation, put_place, put_refer, put_step, put_test, put_truth, put_whens, step_size,
     without_first,
 };
-use code_form::{Call, Instr, OperandKind};
+use code_form::{Instr, OperandKind, Requested};
 use elan_types::{Action, Actual, Arm, Content, ValueArm, ValuePhrase};
 use eu_base::{Kind, NoMemory, Way};
 
@@ -227,9 +229,9 @@ fn add_action(out: &mut Draft, action: &Action)
         }
         Action::Put(value) => {
             add_value(out, value);
-            out.add(Instr::Ask(Call::PutNumber), 1, None);
+            out.add(Instr::Ask(Requested::PutNumber), 1, None);
         }
-        Action::Line => out.add(Instr::Ask(Call::Line), 0, None),
+        Action::Line => out.add(Instr::Ask(Requested::Line), 0, None),
         Action::Loop { .. } => add_turns(out, action, Step::None),
         Action::Count { .. } => add_count(out, action),
         Action::Call(_, _) | Action::Refer(_) | Action::Leave(_) | Action::LeaveWith(_, _, _) => {

@@ -12,7 +12,8 @@ use Rattle.code_form.specs.Runs.{Stands, asked}
 use Rattle.code_form.proofs.Spent.{stands_reply}
 
 module _ (p : Program) (first : Control) (cells : Cells) (spent : ℕ) (replies : List Reply) (r : Reply) where
-  pub stands_answered : (w : Waits) (before after : Control) (now now' : Cells) → before.waits ≡ w → IsSome (asked w) → ((q : Request) → before.waits ≡ Asked q → after ≡ answered q r before.position) → now' ≡ now →
+  pub stands_answered : (w : Waits) (before after : Control) (now now' : Cells) → before.waits ≡ w → IsSome (asked w)
+      → ((q : Request) → before.waits ≡ Asked q → after ≡ answered q r before.position) → now' ≡ now →
       Stands p first cells spent replies before now → Stands p first cells spent (replies ++ r ∷ []) after now'
   stands_answered Nothing before after now now' e some is same k = let f : ⊥ = cc in absurd f
   stands_answered (Refused stop) before after now now' e some is same k = let f : ⊥ = cc in absurd f

@@ -1,5 +1,6 @@
 -- Calls and how they are left.
-use Rattle.std.proofs.Common.{◌≡◌, ℕ, zero, suc, ◌+◌, ◌-◌, ◌≤◌, ◌<◌, true, false, cond, List, [], ◌∷◌, length, take, drop, Option, refl, sym, ap, ◌∙◌, subst, arith}
+use Rattle.std.proofs.Common.{◌≡◌, ℕ, zero, suc, ◌+◌, ◌-◌, ◌≤◌, ◌<◌, true, false, cond, List, [], ◌∷◌, length, take, drop, Option, refl, sym, ap, ◌∙◌, subst}
+use Rattle.std.proofs.Common.{arith}
 use Rattle.std.specs.Prelude.{Result, Ok, Err, IfOk, reverse}
 use Rattle.eu_base.specs.declared.value.Kind.{Kind}
 use Rattle.eu_base.specs.Cells.{Cells}
@@ -9,7 +10,8 @@ use Rattle.code_form.specs.declared.code.Layout.{Layout}
 use Rattle.code_form.specs.declared.code.Layout.TheVariants.{Own}
 use Rattle.code_form.specs.declared.operand.Operand.{Operand}
 use Rattle.code_form.specs.declared.operand.OperandKind.{OperandKind}
-use Rattle.code_form.specs.Machine.{Frame, Position, Control, free, After, Spends, Over, rest_at, enters, calls_to, frame_numbers, back_into, out_to, after_stage, mark_stage, stage}
+use Rattle.code_form.specs.Machine.{Frame, Position, Control, free, After, Spends, Over, rest_at, enters, calls_to, frame_numbers, back_into, out_to}
+use Rattle.code_form.specs.Machine.{after_stage, mark_stage, stage}
 use Rattle.zero_machine.specs.Finds.{IsCallable, IsInside, is_in_proc}
 use Rattle.zero_machine.specs.Running.{scene_of, stage_of, halt_of, EntersSo}
 use Rattle.zero_machine.proofs.Stacks.{taken_all}

@@ -10,7 +10,8 @@ use Rattle.code_form.specs.declared.halt.Halt.TheVariants as halts
 use Rattle.code_form.specs.declared.waits.Waits.{Waits}
 use Rattle.code_form.specs.declared.waits.Waits.TheVariants.{Nothing, Asked, Refused}
 use Rattle.code_form.specs.Program.{Program, instr_of}
-use Rattle.code_form.specs.Machine.{Position, Control, free, asking, After, To, Asks, Stops, Move, Goes, Spends, Halts, Ends, Stuck, Scene, Rest, Stage, On, Over, answered, after_stage, mark_stage, stage, stage_at, advance, rest_at, instruction, step}
+use Rattle.code_form.specs.Machine.{Position, Control, free, asking, After, To, Asks, Stops, Move, Goes, Spends, Halts, Ends, Stuck, Scene, Rest, Stage, On}
+use Rattle.code_form.specs.Machine.{Over, answered, after_stage, mark_stage, stage, stage_at, advance, rest_at, instruction, step}
 use Rattle.code_form.specs.Valid.{IsValid, Fits}
 use Rattle.code_form.specs.Runs.{IsSafe, steps_left}
 use Rattle.code_form.proofs.Safe.{stays_fit}

@@ -9,12 +9,12 @@ ghost use Rattle.zero_machine.specs.Running.{position_of, control_of, scene_of, 
 
 use crate::next::Next;
 use crate::state::State;
-use code_form::{Call, Waits};
+use code_form::{Requested, Waits};
 use eu_base::{Bytes, NoMemory, Request, decimal};
 use std::alloc::Global;
 
 /// Spends a mark, and makes a request.
-pub fn ask(s: &mut State, call: Call, marks: &mut u32) -> Result<Next, NoMemory>
+pub fn ask(s: &mut State, call: Requested, marks: &mut u32) -> Result<Next, NoMemory>
     requires ready { IsReady s.old }
     requires finds { Finds [] (instrs.Ask call) (position_of s.old) }
     ensures { IfOk result (λ next. (p : Program) (cells : Cells) → stage_of (halt_of next) (control_of s.new) (scene_of cells marks.new) ≡ stage (instruction p (Some (instrs.Ask call)) (position_of s.old) cells) (position_of s.old) (scene_of cells marks.old)) }
@@ -23,13 +23,13 @@ pub fn ask(s: &mut State, call: Call, marks: &mut u32) -> Result<Next, NoMemory>
         return Ok(Next::Marked);
     }
     let request = match call {
-        Call::PutNumber => {
+        Requested::PutNumber => {
             let number = s.stack.pop_value().number();
             let mut bytes = decimal(s.alloc, i64::from(number))?;
             bytes.append(b" ")?;
             Request::Out { bytes, ends: false }
         }
-        Call::Line => Request::Out {
+        Requested::Line => Request::Out {
             bytes: Bytes::new(s.alloc),
             ends: true,
         },

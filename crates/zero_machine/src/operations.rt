@@ -120,10 +120,9 @@ fn quotient(a: i16, b: i16) -> i32
 fn fitted(number: i32) -> Result<Value, Fault>
     ensures { given_of result ≡ fitted number }
 {
-    if -32768 <= number && number <= 32767 {
-        Ok(Value::Int(number as i16))
-    } else {
-        Err(Fault::Overflow)
+    match i16::try_from(number) {
+        Ok(number) => Ok(Value::Int(number)),
+        Err(_) => Err(Fault::Overflow),
     }
 }
 

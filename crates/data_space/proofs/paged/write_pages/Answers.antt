@@ -22,14 +22,14 @@ loop-done-preserved c =
       within = omega (arith, least, c.loop-done-test.true);
       written = then_pasted _ _ _ c.args.at _ (take c.loop-done.done c.args.from.now) _ (take (c.loop-done.done + c.min-len.result) c.args.from.now)
           c.loop-done.invariant.written (omega (arith, front)) c.in_ok-write_page.ensures.written
-              (next_chunk c.loop-done.done c.min-len.result c.args.from.now);
+          (next_chunk c.loop-done.done c.min-len.result c.args.from.now);
       frames = frames_then _ _ _ _ _ _ (omega arith) c.loop-done.invariant.frames c.in_ok-write_page.ensures.frames;
       changes =
           path_then _ _ _ _ _ (c.args.at / 512) ((c.args.at + c.loop-done.done) / 512) (pages_met c.args.at (c.loop-done.done + c.min-len.result)) changed owned
           c.in_ok-write_page.ensures.keeps c.in_ok-write_page.ensures.changes (omega arith) (omega (arith, least, met, c.loop-done-test.true));
       changed_page =
           λ more. path_then _ _ _ _ _ (c.args.at / 512) ((c.args.at + c.loop-done.done) / 512)
-              ((c.args.at + (c.loop-done.done + c.min-len.result)) / 512 - c.args.at / 512) changed owned
+          ((c.args.at + (c.loop-done.done + c.min-len.result)) / 512 - c.args.at / 512) changed owned
           c.in_ok-write_page.ensures.keeps c.in_ok-write_page.ensures.changes (omega arith) (omega (arith, least, more, c.loop-done-test.true));
       owned = λ more k from low. elim (cases_eq k ((c.args.at + c.loop-done.done) / 512)) [
         | inl e ↦ subst (Owns c.write_page.new.pool 2 c.write_page.new.table) (sym e) c.in_ok-write_page.ensures.owned

@@ -10,11 +10,14 @@ use Rattle.eu_base.specs.Operations.{operand_kinds, result_kind}
 use Rattle.code_form.specs.declared.operand.OperandKind.TheVariants as operand
 use Rattle.code_form.specs.declared.instr.Instr.TheVariants.{Mark, Truth, Do, Jump, False}
 use Rattle.place_gen.specs.Counted.{counted}
-use Rattle.place_gen.specs.Stretch.{Stretch, one, keeps, pushes, join, if_code, all_code, select_code, whens_code, while_code, until_code, exit_join, stays, turns_code, choice_code, loop_code, turn_of, value_parts, action_parts, value_code, action_code, actual_code, value_arm_code, arm_code_of}
+use Rattle.place_gen.specs.Stretch.{Stretch, one, keeps, pushes, join, if_code, all_code, select_code, whens_code, while_code, until_code, exit_join, stays}
+use Rattle.place_gen.specs.Stretch.{turns_code, choice_code, loop_code, turn_of, value_parts, action_parts, value_code, action_code, actual_code}
+use Rattle.place_gen.specs.Stretch.{value_arm_code, arm_code_of}
 use Rattle.place_gen.specs.Steps.{step_exit}
 use Rattle.place_gen.specs.Makes.{Makes, MakesExit, MakesArm, MakesTurn, ComesBack}
 use Rattle.place_gen.proofs.Select.{select_size}
-use Rattle.place_gen.proofs.Makes.{rest_of, none_makes, same_makes, join_makes, if_makes, until_makes, turn_exit, turns_makes, arm_makes, IsAt, arm_at, select_makes}
+use Rattle.place_gen.proofs.Makes.{rest_of, none_makes, same_makes, join_makes, if_makes, until_makes, turn_exit, turns_makes, arm_makes, IsAt, arm_at}
+use Rattle.place_gen.proofs.Makes.{select_makes}
 use Rattle.place_gen.proofs.emit.+emit.Goals as goal
 
 pub add_actions-loop-action-init : goal.add_actions-loop-action-init

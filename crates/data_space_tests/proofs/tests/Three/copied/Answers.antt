@@ -11,9 +11,11 @@ forget-requires c = record { agree = third_stands _ _ _ _ c.args.self.agree }
 pub copy-requires : goal.copy-requires
 copy-requires c =
     let rest = c.args.self.first.root ∷ c.args.self.second.root ∷ [] in
-    record { agree =
-        stands_of _ _ (c.args.self.second.root ∷ []) 1 (omega arith)
-        (agree_after _ _ _ _ rest (omega arith) c.forget.ensures.frames (third_first _ _ _ _ c.args.self.agree)) }
+    record {
+      agree =
+          stands_of _ _ (c.args.self.second.root ∷ []) 1 (omega arith)
+          (agree_after _ _ _ _ rest (omega arith) c.forget.ensures.frames (third_first _ _ _ _ c.args.self.agree));
+    }
 
 pub invariant_of-result : goal.invariant_of-result
 invariant_of-result c =
@@ -23,6 +25,6 @@ invariant_of-result c =
     record {
       agree =
           subst (λ (space : SpaceData). ∥ Agree c.copy.new.pool (c.args.self.first.root ∷ c.args.self.second.root ∷ space.root ∷ []) ∥₁)
-              (sym c.in_ok-third.ensures.same)
+          (sym c.in_ok-third.ensures.same)
           (agree_same _ _ _ (record { long = refl; occs = λ p. omega arith }) both);
     }

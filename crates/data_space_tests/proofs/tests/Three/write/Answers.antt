@@ -8,5 +8,7 @@ write-requires-clause-agree c = first_stands _ _ _ _ c.args.self.now.agree
 
 pub invariant_of-self : goal.invariant_of-self
 invariant_of-self c =
-    record { agree =
-        agree_after _ _ _ _ (c.args.self.now.second.root ∷ c.args.self.now.third.root ∷ []) (omega arith) c.write.ensures.frames c.args.self.now.agree }
+    record {
+      agree =
+          agree_after _ _ _ _ (c.args.self.now.second.root ∷ c.args.self.now.third.root ∷ []) (omega arith) c.write.ensures.frames c.args.self.now.agree;
+    }

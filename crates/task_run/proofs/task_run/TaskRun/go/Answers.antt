@@ -9,7 +9,8 @@ use Rattle.task_run.proofs.task_run.TaskRun.go.Goals as goal
 pub returns-clause-marks : goal.returns-clause-marks
 returns-clause-marks g c =
     let r : Rest = rest_at c.in_ok-halt.halt (control_of c.run.new.s) (scene_of (g.M.Memory.cells c.run.new.m) c.run.new.marks) in
-    falls c.args.c.now c.in_ok-halt.ensures.rests.0 (control_of c.self.inside.state) (scene_of (g.M.Memory.cells c.args.m.now) c.args.marks.now) r c.in_ok-halt.ensures.rests.1
+    falls c.args.c.now c.in_ok-halt.ensures.rests.0 (control_of c.self.inside.state) (scene_of (g.M.Memory.cells c.args.m.now) c.args.marks.now) r
+    c.in_ok-halt.ensures.rests.1
 
 pub returns-clause-stands : goal.returns-clause-stands
 returns-clause-stands g c paused first cells spent replies k =
@@ -22,11 +23,14 @@ returns-clause-stands g c paused first cells spent replies k =
 pub returns-clause-asks : goal.returns-clause-asks
 returns-clause-asks g c q is =
     let r : Rest = rest_at c.in_ok-halt.halt (control_of c.run.new.s) (scene_of (g.M.Memory.cells c.run.new.m) c.run.new.marks) in
-    (asks_fair c.args.c.now c.in_ok-halt.ensures.rests.0 (control_of c.self.inside.state) (scene_of (g.M.Memory.cells c.args.m.now) c.args.marks.now) r q c.in_ok-halt.ensures.rests.1 is).0
+    (asks_fair c.args.c.now c.in_ok-halt.ensures.rests.0 (control_of c.self.inside.state) (scene_of (g.M.Memory.cells c.args.m.now) c.args.marks.now) r q
+    c.in_ok-halt.ensures.rests.1 is).0
 
 pub returns-clause-pays : goal.returns-clause-pays
 returns-clause-pays g c q is free =
     let r : Rest = rest_at c.in_ok-halt.halt (control_of c.run.new.s) (scene_of (g.M.Memory.cells c.run.new.m) c.run.new.marks) in
     let none : asked (control_of c.self.inside.state).waits ≡ None = subst (λ (d : Control). asked d.waits ≡ None) (sym c.self.view_is) free in
-    let less = asks_spends c.args.c.now (control_of c.self.inside.state) (scene_of (g.M.Memory.cells c.args.m.now) c.args.marks.now) r q c.in_ok-halt.ensures.rests.0 none c.in_ok-halt.ensures.rests.1 is in
+    let less =
+    asks_spends c.args.c.now (control_of c.self.inside.state) (scene_of (g.M.Memory.cells c.args.m.now) c.args.marks.now) r q c.in_ok-halt.ensures.rests.0
+    none c.in_ok-halt.ensures.rests.1 is in
     omega (arith, less)
