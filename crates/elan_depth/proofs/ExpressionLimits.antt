@@ -1,4 +1,4 @@
--- Expressions with a limit.
+-- Expressions with a limit. One induction over the trees of expressions, so it stands in one file.
 use Rattle.std.proofs.Common.{◌≡◌, ℕ, zero, suc, ◌+◌, ◌≤◌, max, inl, inr, Bool, true, false, List, Option, Some, None, ap, rules, arith}
 use Rattle.std.specs.Prelude.{ℤ}
 use Rattle.std.proofs.lemmas.Bool.{lt-ltb, ltb-true}
@@ -23,7 +23,8 @@ use Rattle.elan_grammar.specs.Terminals.{keyword, mark, literal_of}
 use Rattle.elan_grammar.specs.Expressions as g
 use Rattle.elan_grammar.specs.Expressions.{Language, joined_by}
 use Rattle.elan_grammar.specs.Units.{phrases}
-use Rattle.elan_grammar.specs.Depth.{expr_depth, exprs_depth, branch_depth, branches_depth, case_depth, cases_depth, units_depth, option_units_depth, expr_place}
+use Rattle.elan_grammar.specs.Depth.{expr_depth, exprs_depth, branch_depth, branches_depth, case_depth, cases_depth, units_depth, option_units_depth}
+use Rattle.elan_grammar.specs.Depth.{expr_place}
 use Rattle.elan_depth.proofs.Limits.{Fits, lift, drop_one, no_room, room, steps_fit, listed_fits}
 
 -- ---- depths
