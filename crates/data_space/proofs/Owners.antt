@@ -1,5 +1,6 @@
 -- Owners of spaces over one pool: what a call on one of them leaves of the others. An owner is anything with roots.
-use Rattle.std.proofs.Common.{◌≡◌, ◌≢◌, ℕ, zero, suc, ◌<◌, ◌≤◌, List, [], ◌∷◌, ◌++◌, length, get_or, set, Option, None, Some, refl, sym, ap, subst, arith, get_or-set_same}
+use Rattle.std.proofs.Common.{◌≡◌, ◌≢◌, ℕ, zero, suc, ◌<◌, ◌≤◌, List, [], ◌∷◌, ◌++◌, length, get_or, set, Option, None, Some, refl, sym, ap, subst, arith}
+use Rattle.std.proofs.Common.{get_or-set_same}
 use Rattle.std.proofs.Math.Logic.{∥∥₁_map}
 use Rattle.std.proofs.lemmas.List.{length-append, get_or_read}
 use Rattle.std.specs.List.{flat_map, remove}

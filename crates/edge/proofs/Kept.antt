@@ -1,5 +1,6 @@
 -- What a crash leaves of the writes to a disk in memory.
-use Rattle.std.proofs.Common.{◌≡◌, ◌==◌, ℕ, zero, suc, ◌||◌, if◌then◌else◌, Bool, true, false, List, [], ◌∷◌, ◌++◌, length, get_or, set, refl, sym, ◌∙◌, ap, subst, arith}
+use Rattle.std.proofs.Common.{◌≡◌, ◌==◌, ℕ, zero, suc, ◌||◌, if◌then◌else◌, Bool, true, false, List, [], ◌∷◌, ◌++◌, length, get_or, set, refl, sym, ◌∙◌, ap}
+use Rattle.std.proofs.Common.{subst, arith}
 use Rattle.edge.specs.declared.log.Written.{Written}
 use Rattle.edge.specs.Disk.{Blocks, DiskState, IsImage, with_block, with_mark}
 use Rattle.edge.specs.Log.{now_from, now_of, step, block_after, blank, mark_last, any_synced, synced_part}

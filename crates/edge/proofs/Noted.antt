@@ -1,5 +1,6 @@
 -- One more write, or the sync after it, joins those that a disk in memory has had.
-use Rattle.std.proofs.Common.{◌≡◌, ◌⊎◌, inl, inr, ⊎_elim, ℕ, zero, suc, ◌≤◌, Bool, true, false, List, [], ◌∷◌, ◌++◌, length, drop, refl, sym, ◌∙◌, ap, subst, arith, append_assoc, length-append}
+use Rattle.std.proofs.Common.{◌≡◌, ◌⊎◌, inl, inr, ⊎_elim, ℕ, zero, suc, ◌≤◌, Bool, true, false, List, [], ◌∷◌, ◌++◌, length, drop, refl, sym, ◌∙◌, ap, subst}
+use Rattle.std.proofs.Common.{arith, append_assoc, length-append}
 use Rattle.edge.specs.declared.log.Written.{Written}
 use Rattle.edge.specs.Disk.{Blocks, DiskState, IsImage, Elapses}
 use Rattle.edge.specs.Log.{now_from, past_from, now_of, past_of, written_at, wrote, step, before_sync, settled, blank, HadImage, LeftSince, mark_last}

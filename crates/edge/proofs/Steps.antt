@@ -1,7 +1,8 @@
 -- How a run of disk calls goes on.
 use Rattle.std.proofs.Common.{◌≡◌, inl, inr, ⊎_elim, ℕ, ◌+◌, ◌≤◌, List, Option, Some, Result, Ok, Err, OnOk, OnErr, refl, ◌∙◌, ap, subst, arith}
 use Rattle.std.specs.Option.{option_map}
-use Rattle.edge.specs.Disk.{Blocks, DiskState, after_read, after_write, after_lost_write, after_sync, after_failed_sync, IsFailedWrite, IsImage, MayLeave, Elapses}
+use Rattle.edge.specs.Disk.{Blocks, DiskState, after_read, after_write, after_lost_write, after_sync, after_failed_sync, IsFailedWrite, IsImage, MayLeave}
+use Rattle.edge.specs.Disk.{Elapses}
 use Rattle.edge.specs.Moments.{ChangesOnly, AgreesOutside, Leaves, LeavesOnly, Nowhere, Step, HasMade}
 use Rattle.edge.proofs.Changes.{changes_nothing, changes_written, changes_lost, changes_more, changes_within, image_agrees, agrees_before}
 use Rattle.edge.proofs.Counts.{made_none, at_most, at_most_more, at_most_of}

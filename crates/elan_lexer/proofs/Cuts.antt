@@ -1,5 +1,6 @@
 -- The turns of the loop over the pieces of a text.
-use Rattle.std.proofs.Common.{◌≡◌, ℕ, zero, suc, ◌+◌, ◌-◌, ◌<◌, ◌≤◌, inl, inr, true, false, List, [], ◌∷◌, ◌++◌, length, take, drop, drop-drop, length-drop, length-append, length-take-le, Result, Ok, Err, refl, ap, ◌∙◌, subst, arith, append_assoc, le_refl, lt-ltb, le-ltb}
+use Rattle.std.proofs.Common.{◌≡◌, ℕ, zero, suc, ◌+◌, ◌-◌, ◌<◌, ◌≤◌, inl, inr, true, false, List, [], ◌∷◌, ◌++◌, length, take, drop, drop-drop, length-drop}
+use Rattle.std.proofs.Common.{length-append, length-take-le, Result, Ok, Err, refl, ap, ◌∙◌, subst, arith, append_assoc, le_refl, lt-ltb, le-ltb}
 use Rattle.std.specs.Prelude.{nat_lt}
 use Rattle.std.proofs.lemmas.List.{append-nil, drop_all, take_rest}
 use Rattle.std.proofs.lemmas.Bool.{cases_Bool, ltb-true, ltb-false, or_right}

@@ -1,5 +1,6 @@
 -- What the reading of each form finds is the longest piece.
-use Rattle.std.proofs.Common.{◌≡◌, ℕ, zero, suc, ◌+◌, ◌<◌, ◌≤◌, inl, inr, Bool, true, false, not, [], ◌∷◌, length, take, Option, Some, None, refl, ap, arith, add-one, eq-eqb, take_all, length-take-le, le_refl}
+use Rattle.std.proofs.Common.{◌≡◌, ℕ, zero, suc, ◌+◌, ◌<◌, ◌≤◌, inl, inr, Bool, true, false, not, [], ◌∷◌, length, take, Option, Some, None, refl, ap, arith}
+use Rattle.std.proofs.Common.{add-one, eq-eqb, take_all, length-take-le, le_refl}
 use Rattle.std.specs.Prelude.{◌==◌, nat_le, filter}
 use Rattle.std.specs.List.{prefix_len, suffix_len, list_all}
 use Rattle.std.proofs.lemmas.Bool.{cases_Bool, cases_lt, ne_eqb}

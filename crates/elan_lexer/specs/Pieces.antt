@@ -1,5 +1,6 @@
 -- The pieces of a text: blanks, comments, tokens, and what begins like one of these and can't be read.
-use Rattle.std.specs.Prelude.{ℕ, zero, suc, ◌+◌, ◌-◌, ◌*◌, Bool, true, false, not, ◌&&◌, if◌then◌else◌, ◌==◌, nat_le, nat_lt, List, [], ◌∷◌, length, take, filter, fold, slice_index, Option, Some, None, pos}
+use Rattle.std.specs.Prelude.{ℕ, zero, suc, ◌+◌, ◌-◌, ◌*◌, Bool, true, false, not, ◌&&◌, if◌then◌else◌, ◌==◌, nat_le, nat_lt, List, [], ◌∷◌, length, take}
+use Rattle.std.specs.Prelude.{filter, fold, slice_index, Option, Some, None, pos}
 use Rattle.std.specs.List.{prefix_len, suffix_len, list_all}
 use Rattle.elan_tree.specs.declared.token.Key.{Key}
 use Rattle.elan_tree.specs.declared.token.Key.TheVariants as key

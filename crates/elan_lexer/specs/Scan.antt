@@ -1,5 +1,6 @@
 -- What reading on byte by byte finds at the front of a text: the longest piece, as the proofs show.
-use Rattle.std.specs.Prelude.{◌≡◌, ◌≤◌, ◌<◌, ℕ, suc, ◌+◌, ◌-◌, Bool, true, false, not, if◌then◌else◌, ◌==◌, nat_le, [], ◌∷◌, length, take, drop, filter, Option, Some, None, pos}
+use Rattle.std.specs.Prelude.{◌≡◌, ◌≤◌, ◌<◌, ℕ, suc, ◌+◌, ◌-◌, Bool, true, false, not, if◌then◌else◌, ◌==◌, nat_le, [], ◌∷◌, length, take, drop, filter}
+use Rattle.std.specs.Prelude.{Option, Some, None, pos}
 use Rattle.std.specs.List.{prefix_len, suffix_len}
 use Rattle.elan_tree.specs.declared.token.Key.{Key}
 use Rattle.elan_tree.specs.declared.token.Key.TheVariants as key

@@ -4,7 +4,8 @@ use Rattle.std.specs.Prelude.{◌==◌}
 use Rattle.elan_lexer.specs.Pieces.{comment_end, opens_at, closes_at}
 use Rattle.elan_lexer.proofs.Turns.{comment_second, comment_opens, comment_closes, comment_other}
 use Rattle.elan_lexer.proofs.reading.comment_end.Goals as goal
-use Rattle.elan_lexer.proofs.reading.comment_end.Goals.{then-second, else-second+else-depth-eq0+then-opens, else-second+else-depth-eq0+else-opens+then-closes, else-second+else-depth-eq0+else-opens+else-closes}
+use Rattle.elan_lexer.proofs.reading.comment_end.Goals.{then-second, else-second+else-depth-eq0+then-opens, else-second+else-depth-eq0+else-opens+then-closes}
+use Rattle.elan_lexer.proofs.reading.comment_end.Goals.{else-second+else-depth-eq0+else-opens+else-closes}
 
 pub loop-i-preserved : goal.loop-i-preserved
 loop-i-preserved c =
