@@ -7,8 +7,7 @@ use Rattle.code_form.specs.declared.halt.Halt.TheVariants as halts
 use Rattle.code_form.specs.declared.waits.Waits.{Waits}
 use Rattle.code_form.specs.declared.waits.Waits.TheVariants.{Nothing, Asked, Refused}
 use Rattle.code_form.specs.Program.{Program}
-use Rattle.code_form.specs.Machine.{Position, Control, After, To, Asks, Stops, Move, Goes, Spends, Halts, Ends, Stuck, Scene, Rest, rest_at, step, Stage, On}
-use Rattle.code_form.specs.Machine.{Over, Lost, after_stage, mark_stage, reply_stage, stage, stage_at, advance, carry_on, exec}
+use Rattle.code_form.specs.Machine.{Position, Control, After, To, Asks, Stops, Unsaid, Move, Goes, Spends, Halts, Ends, Unknown, Stuck, Scene, Rest, rest_at, step, Stage, On, Over, Lost, after_stage, mark_stage, reply_stage, stage, stage_at, advance, carry_on, exec}
 use Rattle.code_form.specs.Runs.{asked}
 
 -- a request that waits for its reply has cost a mark
@@ -25,6 +24,7 @@ after_fair : (n : ℕ) (a : After) (c : Position) (s : Scene) → IsFair (suc n)
 after_fair n (To c' cells) c s = omega arith
 after_fair n (Asks c' q cells) c s = omega arith
 after_fair n (Stops stop) c s = λ q is. absurd (cc is)
+after_fair n Unsaid c s = tt
 
 move_fair : (m : Move) (c : Position) (s : Scene) → IsFair (s.marks + 0) (stage m c s)
 move_fair (Goes c' cells) c s = omega arith
@@ -35,6 +35,7 @@ move_fair (Spends a) c s = by s.marks
     by (suc n) = let e : suc n ≡ suc n + 0 = omega arith in subst (λ k. IsFair k (after_stage a c (record s { marks = n }))) e (after_fair n a c s)
 move_fair (Halts stop) c s = λ q is. absurd (cc is)
 move_fair Ends c s = λ q is. absurd (cc is)
+move_fair Unknown c s = tt
 move_fair Stuck c s = tt
 
 stage_fair : (p : Program) (w : Waits) (c : Position) (s : Scene) → IsFair (s.marks + paid w) (stage_at w p c s)

@@ -8,8 +8,7 @@ use Rattle.code_form.specs.declared.halt.Halt.TheVariants as halts
 use Rattle.code_form.specs.Program.{Program}
 use Rattle.code_form.specs.declared.waits.Waits.{Waits}
 use Rattle.code_form.specs.declared.waits.Waits.TheVariants.{Nothing, Asked, Refused}
-use Rattle.code_form.specs.Machine.{Position, Control, free, After, To, Asks, Stops, Move, Goes, Spends, Halts, Ends, Stuck, Scene, Rest, step, Stage, On, Over}
-use Rattle.code_form.specs.Machine.{Lost, after_stage, mark_stage, reply_stage, stage, stage_at, advance, carry_on, exec}
+use Rattle.code_form.specs.Machine.{Position, Control, free, After, To, Asks, Stops, Unsaid, Move, Goes, Spends, Halts, Ends, Unknown, Stuck, Scene, Rest, step, Stage, On, Over, Lost, after_stage, mark_stage, reply_stage, stage, stage_at, advance, carry_on, exec}
 use Rattle.code_form.specs.Runs.{IsPaused, Rests, wider, Resumes, Replies, IsOne}
 
 the_some : {A : Type 0} (a b : A) → Some a ≡ Some b → a ≡ b
@@ -45,6 +44,7 @@ after_widens : (marks : ℕ) (replies : List Reply) (a : After) (c : Position) (
 after_widens marks replies (To c' cells) c s = refl
 after_widens marks replies (Asks c' q cells) c s = refl
 after_widens marks replies (Stops stop) c s = λ paused. absurd paused
+after_widens marks replies Unsaid c s = tt
 
 of_marks : (marks : ℕ) (replies : List Reply) (st st' : Stage) (c : Control) (s s' : Scene) → ((r : Rest) → st ≡ Over r → IsPaused r.how → ⊥)
     → Widens marks replies st c s st' → Widens marks replies st c s' st'
@@ -58,6 +58,7 @@ never_paused (Asks c' q cells) c s r e paused = let f : ⊥ = cc in f
 never_paused (Stops stop) c s r e paused =
     let f : record { how = halts.Stopped stop; control = free c; scene = s } ≡ r = cc in
     subst (λ (x : Rest). IsPaused x.how) (sym f) paused
+never_paused Unsaid c s r e paused = let f : ⊥ = cc in f
 
 mark_widens : (marks : ℕ) (replies : List Reply) (m : ℕ) (a : After) (c : Position) (s : Scene)
     → Widens marks replies (mark_stage m a c s) (free c) s (mark_stage (m + marks) a c (wider s marks replies))
@@ -67,7 +68,7 @@ mark_widens marks replies (suc m) a c s =
     let s' = record s { marks = m } in
     subst (λ n. Widens marks replies (after_stage a c s') (free c) s (mark_stage n a c (wider s marks replies))) (sym e)
     (of_marks marks replies (after_stage a c s') (after_stage a c (wider s' marks replies)) (free c) s' s (never_paused a c s')
-    (after_widens marks replies a c s'))
+        (after_widens marks replies a c s'))
 
 move_widens : (marks : ℕ) (replies : List Reply) (m : Move) (c : Position) (s : Scene)
     → Widens marks replies (stage m c s) (free c) s (stage m c (wider s marks replies))
@@ -75,6 +76,7 @@ move_widens marks replies (Goes c' cells) c s = refl
 move_widens marks replies (Spends a) c s = mark_widens marks replies s.marks a c s
 move_widens marks replies (Halts stop) c s = λ paused. (refl, refl)
 move_widens marks replies Ends c s = λ paused. (refl, refl)
+move_widens marks replies Unknown c s = tt
 move_widens marks replies Stuck c s = tt
 
 stage_widens : (p : Program) (marks : ℕ) (replies : List Reply) (w : Waits) (c : Position) (s : Scene)
@@ -101,7 +103,7 @@ module _ (p : Program) (marks : ℕ) (replies : List Reply) (last : Rest) where
       let at_rest = w (subst (λ (y : Rest). IsPaused y.how) (sym f) paused) in
       let g : Rests p x.control (wider x.scene marks replies) last = subst (λ (y : Rest). Rests p y.control (wider y.scene marks replies) last) (sym f) h in
       subst (λ (d : Control). Rests p d (wider s marks replies) last) at_rest.0
-      (subst (λ (u : Scene). Rests p x.control (wider u marks replies) last) at_rest.1 g)
+          (subst (λ (u : Scene). Rests p x.control (wider u marks replies) last) at_rest.1 g)
   resume_stage j Lost c s r paused ih e h w = let f : ⊥ = cc in absurd f
 
   resume : (j : ℕ) (c : Control) (s : Scene) (r : Rest) → IsPaused r.how → exec p j c s ≡ Some r → Rests p r.control (wider r.scene marks replies) last

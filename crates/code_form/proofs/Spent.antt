@@ -1,7 +1,6 @@
 -- A run that came to rest with marks left would have come there with none more than it spent. This holds of a rest for want of
 -- marks or replies, and of every rest of a run that had no marks.
-use Rattle.std.proofs.Common.{◌≡◌, ℕ, zero, suc, ◌+◌, ◌-◌, ◌≤◌, List, [], ◌∷◌, ◌++◌, Some, refl, sym, ap, ◌∙◌, subst, arith, append_assoc, ◌⊎◌, inl, inr}
-use Rattle.std.proofs.Common.{⊎_elim}
+use Rattle.std.proofs.Common.{◌≡◌, ℕ, zero, suc, ◌+◌, ◌-◌, ◌≤◌, List, [], ◌∷◌, ◌++◌, Some, refl, sym, ap, ◌∙◌, subst, arith, append_assoc, ◌⊎◌, inl, inr, ⊎_elim}
 use Rattle.eu_base.specs.declared.request.Request.{Request}
 use Rattle.eu_base.specs.declared.request.Reply.{Reply}
 use Rattle.eu_base.specs.Cells.{Cells}
@@ -9,8 +8,7 @@ use Rattle.code_form.specs.declared.halt.Halt.TheVariants as halts
 use Rattle.code_form.specs.Program.{Program}
 use Rattle.code_form.specs.declared.waits.Waits.{Waits}
 use Rattle.code_form.specs.declared.waits.Waits.TheVariants.{Nothing, Asked, Refused}
-use Rattle.code_form.specs.Machine.{Position, Control, free, asking, answered, After, To, Asks, Stops, Move, Goes, Spends, Halts, Ends, Stuck, Scene, Rest}
-use Rattle.code_form.specs.Machine.{step, Stage, On, Over, Lost, after_stage, mark_stage, reply_stage, stage, stage_at, advance, carry_on, exec}
+use Rattle.code_form.specs.Machine.{Position, Control, free, asking, answered, After, To, Asks, Stops, Unsaid, Move, Goes, Spends, Halts, Ends, Unknown, Stuck, Scene, Rest, step, Stage, On, Over, Lost, after_stage, mark_stage, reply_stage, stage, stage_at, advance, carry_on, exec}
 use Rattle.code_form.specs.Runs.{IsPaused, Rests, Stands, StandsOn}
 use Rattle.code_form.proofs.Resume.{replied}
 
@@ -31,6 +29,7 @@ paid_shifts rs m (To c' cells) c s e =
 paid_shifts rs m (Asks c' q cells) c s e =
     (omega (arith, e), λ k. let f : (s.marks - m) + k ≡ suc k = omega (arith, e) in ap (λ n. mark_stage n (Asks c' q cells) c (at_marks rs n s)) f)
 paid_shifts rs m (Stops stop) c s e = λ calm. absurd (⊎_elim (λ paused. paused) (λ none. omega (arith, e, none)) calm)
+paid_shifts rs m Unsaid c s e = tt
 
 mark_shifts : (rs : List Reply) (m : ℕ) (a : After) (c : Position) (s : Scene) → s.marks ≡ m
     → Shifts rs (mark_stage m a c s) (free c) s (λ n. mark_stage n a c (at_marks rs n s))
@@ -43,6 +42,7 @@ move_shifts rs (Goes c' cells) c s =
 move_shifts rs (Spends a) c s = mark_shifts rs s.marks a c s refl
 move_shifts rs (Halts stop) c s = λ paused. (refl, refl)
 move_shifts rs Ends c s = λ paused. (refl, refl)
+move_shifts rs Unknown c s = tt
 move_shifts rs Stuck c s = tt
 
 stage_shifts : (p : Program) (rs : List Reply) (w : Waits) (c : Position) (s : Scene)
@@ -65,6 +65,7 @@ after_falls : (m : ℕ) (a : After) (c : Position) (s : Scene) → Falls (suc m)
 after_falls m (To c' cells) c s = omega arith
 after_falls m (Asks c' q cells) c s = omega arith
 after_falls m (Stops stop) c s = omega arith
+after_falls m Unsaid c s = tt
 
 move_falls : (m : Move) (c : Position) (s : Scene) → Falls s.marks (stage m c s)
 move_falls (Goes c' cells) c s = omega arith
@@ -75,6 +76,7 @@ move_falls (Spends a) c s = by s.marks refl
     by (suc n) e = after_falls n a c s
 move_falls (Halts stop) c s = omega arith
 move_falls Ends c s = omega arith
+move_falls Unknown c s = tt
 move_falls Stuck c s = tt
 
 stage_falls : (p : Program) (w : Waits) (c : Position) (s : Scene) → Falls s.marks (stage_at w p c s)
@@ -140,10 +142,10 @@ stands_run p first cells spent left replies c now r paused k h none = record {
       let s : Scene = record { cells = now; marks = left; replies = [] } in
       let l : Leads p more c s r = leads p more h.0 c s r paused h.1 in
       let g' : Rests p r.control (at_marks more marks r.scene) last =
-      subst (λ rs. Rests p r.control (record { cells = r.scene.cells; marks = marks; replies = rs ++ more }) last) (sym none) g in
+          subst (λ rs. Rests p r.control (record { cells = r.scene.cells; marks = marks; replies = rs ++ more }) last) (sym none) g in
       let e : spent + ((left - r.scene.marks) + marks) ≡ (spent + (left - r.scene.marks)) + marks = omega arith in
       subst (λ n. Rests p first (record { cells = cells; marks = n; replies = replies ++ more }) last) e
-      (k.goes ((left - r.scene.marks) + marks) more last (l.goes marks last g'));
+          (k.goes ((left - r.scene.marks) + marks) more last (l.goes marks last g'));
 }
 
 module _ (p : Program) (first : Control) (cells : Cells) where
@@ -152,7 +154,7 @@ module _ (p : Program) (first : Control) (cells : Cells) where
   stands_first = record {
     goes =
         λ marks more last h. let e : marks ≡ 0 + marks = omega arith in
-        subst (λ n. Rests p first (record { cells = cells; marks = n; replies = more }) last) e h;
+            subst (λ n. Rests p first (record { cells = cells; marks = n; replies = more }) last) e h;
   }
 
   -- after a reply

@@ -1,6 +1,5 @@
 -- Each step brings the end nearer.
-use Rattle.std.proofs.Common.{◌≡◌, ℕ, zero, suc, ◌+◌, ◌-◌, ◌*◌, ◌<◌, ◌≤◌, List, [], ◌∷◌, length, Option, Some, None, Bool, true, false, cond, refl, sym, ap}
-use Rattle.std.proofs.Common.{◌∙◌, subst, arith, ⊎_elim}
+use Rattle.std.proofs.Common.{◌≡◌, ℕ, zero, suc, ◌+◌, ◌-◌, ◌*◌, ◌<◌, ◌≤◌, List, [], ◌∷◌, length, Option, Some, None, Bool, true, false, cond, refl, sym, ap, ◌∙◌, subst, arith, ⊎_elim}
 use Rattle.std.specs.Prelude.{slice_get, Ok, Err}
 use Rattle.std.specs.Ordering.{int_eq}
 use Rattle.std.proofs.lemmas.Option.{slice_get_within}
@@ -8,7 +7,8 @@ use Rattle.std.proofs.lemmas.Bool.{cases_lt}
 use Rattle.eu_base.specs.declared.address.Addr.{Addr}
 use Rattle.eu_base.specs.declared.value.Kind.{Kind}
 use Rattle.eu_base.specs.declared.stop.Stop.TheVariants.{CellRoom}
-use Rattle.eu_base.specs.Cells.{run_cell, place_in}
+use Rattle.eu_base.specs.declared.value.Kind.TheVariants as kinds
+use Rattle.eu_base.specs.Cells.{Cell, Free, Word, run_cell, place_in}
 use Rattle.eu_base.specs.Room.{cells_fit, bytes_fit}
 use Rattle.eu_base.specs.declared.value.Value.{Value}
 use Rattle.eu_base.specs.declared.value.Value.TheVariants as item
@@ -18,18 +18,14 @@ use Rattle.code_form.specs.declared.operand.Operand.{Operand}
 use Rattle.code_form.specs.declared.operand.Operand.TheVariants.{Value as Of, Place as At}
 use Rattle.code_form.specs.declared.instr.Requested.TheVariants as calls
 use Rattle.code_form.specs.declared.instr.Instr.{Instr}
-use Rattle.code_form.specs.declared.instr.Instr.TheVariants.{Mark, Number, Truth, Outer, Local, Param, Load, Store, Do, Modify, Jump, False, When, Drop, Limit}
-use Rattle.code_form.specs.declared.instr.Instr.TheVariants.{Unlimit, Step, Ask, Call, Refer, Back, Out, End}
+use Rattle.code_form.specs.declared.instr.Instr.TheVariants.{Mark, Number, Truth, Outer, Local, Param, Load, Store, Do, Modify, Jump, False, When, Drop, Limit, Unlimit, Step, Ask, Call, Refer, Back, Out, End}
 use Rattle.code_form.specs.declared.code.Line.{Line}
 use Rattle.code_form.specs.declared.code.Entry.{Entry}
 use Rattle.code_form.specs.declared.code.Layout.{Layout}
 use Rattle.code_form.specs.declared.code.Layout.TheVariants.{Own}
 use Rattle.code_form.specs.declared.code.Layout.TheVariants as layouts
 use Rattle.code_form.specs.Program.{Program, instr_of}
-use Rattle.code_form.specs.Machine.{Frame, Position, Control, free, After, To, Asks, Stops, Move, Scene, Stage, On, Over, Lost, Rest, operand_bytes, bytes_on}
-use Rattle.code_form.specs.Machine.{bytes_of, base_of, pushes, on_value, on_place, on_values, on_operands, on_result, or_halt, number_in, limit_in}
-use Rattle.code_form.specs.Machine.{frame_numbers, link_numbers, written_from, enters, calls_to, call_move, refer_move, back_to, out_to, instruction, step}
-use Rattle.code_form.specs.Machine.{mark_stage, stage, advance, carry_on, exec}
+use Rattle.code_form.specs.Machine.{Frame, Position, Control, free, After, To, Asks, Stops, Unsaid, Move, Scene, Stage, On, Over, Lost, Rest, operand_bytes, bytes_on, bytes_of, base_of, pushes, on_value, on_place, on_values, on_operands, on_result, or_halt, on_word, is_free, are_free, limit_cell, frame_contents, link_contents, written_from, enters, calls_to, call_move, refer_move, back_to, out_to, instruction, step, mark_stage, stage, advance, carry_on, exec}
 use Rattle.code_form.specs.Valid.{is_mark, IsFine, IsValid}
 use Rattle.code_form.specs.Runs.{Rests, ahead, steps_left}
 
@@ -67,7 +63,7 @@ module _ (p : Program) (valid : IsValid p) where
       ⊎_elim
       (λ lt. omega (arith, ahead_is pc l e n, ahead_not a, slice_get_within p.lines pc l e))
       (λ le. let z : ahead p.lines a ≡ 0 = ap (λ b. cond b 0 (length p.lines - a)) (t le) in
-      omega (arith, ahead_is pc l e n, slice_get_within p.lines pc l e, z))
+          omega (arith, ahead_is pc l e n, slice_get_within p.lines pc l e, z))
       (cases_lt pc a)
 
   module _ (c : Position) (s : Scene) where
@@ -93,12 +89,14 @@ module _ (p : Program) (valid : IsValid p) where
     Deeper (To c' cells) = length c'.frames ≤ suc depth
     Deeper (Asks c' q cells) = length c'.frames ≤ suc depth
     Deeper (Stops stop) = Unit {0}
+    Deeper Unsaid = Unit {0}
 
     marked : (m : ℕ) (a : After) → Deeper a → Nearer p.lines m depth c.pc (mark_stage m a c s)
     marked zero a d = tt
     marked (suc m) (To c' cells) d = spent_less m (length c'.frames) c'.pc d
     marked (suc m) (Asks c' q cells) d = spent_less m (length c'.frames) c'.pc d
     marked (suc m) (Stops stop) d = tt
+    marked (suc m) Unsaid d = tt
 
     go : (pc : ℕ) → ahead p.lines pc < ahead p.lines c.pc → steps_left p.lines s.marks depth pc < steps_left p.lines s.marks depth c.pc
     go pc lt = omega arith
@@ -117,11 +115,11 @@ module _ (p : Program) (valid : IsValid p) where
             let f : (suc frames + d) * (length p.lines + 1) ≡ depth * (length p.lines + 1) = ap (λ n. n * (length p.lines + 1)) e in
             omega (arith, ahead_le pc, f)
 
-    back_near : (result : List Operand) (fs : List Frame) → length fs ≤ depth → Near (back_to result fs s.cells)
+    back_near : (result : List Operand) (fs : List Frame) → length fs ≤ depth → Near (back_to result c.used fs s.cells)
     back_near result [] le = tt
     back_near result (f ∷ fs) le = back (length fs) f.back le
 
-    out_near : (result : List Operand) (fs : List Frame) → length fs ≤ depth → Near (out_to result fs s.cells)
+    out_near : (result : List Operand) (fs : List Frame) → length fs ≤ depth → Near (out_to result c.used fs s.cells)
     out_near result [] le = tt
     out_near result (f ∷ fs) le = near_cond f.refines _ _ (out_near result fs (omega arith)) (back (length fs) f.back le)
       where
@@ -132,6 +130,10 @@ module _ (p : Program) (valid : IsValid p) where
     near_if : (b : Bool) (m m' : Move) → Near m → Near m' → Near (cond b m m')
     near_if true m m' x y = x
     near_if false m m' x y = y
+
+    near_word : (f : ℕ → Move) → ((n : ℕ) → Near (f n)) → (x : Cell) → Near (on_word x f)
+    near_word f h Free = tt
+    near_word f h (Word n) = h n
 
     near_value : (f : Value → List Operand → Move) → ((v : Value) (r : List Operand) → Near (f v r)) → (ops : List Operand) → Near (on_value ops f)
     near_value f h [] = tt
@@ -161,34 +163,31 @@ module _ (p : Program) (valid : IsValid p) where
     near_result (Some k) f h ops = near_value (λ v r. f (Of v ∷ [])) (λ v r. h (Of v ∷ [])) ops
 
     -- a CALL and a REFER
-    enters_deeper : (first base : ℕ) (refines : Bool) (ops : List Operand) (ns : List ℕ) → Deeper (enters c first base refines ops ns s.cells)
-    enters_deeper first base refines ops ns = by (cells_fit (c.used + length ns))
+    enters_deeper : (first base : ℕ) (refines : Bool) (body : ℕ) (ops : List Operand) (ns : List Cell)
+        → Deeper (enters c first base refines body ops ns s.cells)
+    enters_deeper first base refines body ops ns = by (are_free c.used ns s.cells) (cells_fit (c.used + length ns))
       where
-        by : (b : Bool) → Deeper
-            (cond b (To (record {
-              pc = first;
-              ops = [];
-              used = c.used + length ns;
-              frames =
-                  record { back = c.pc + 1; base = base; used = c.used; refines = refines; ops = ops } ∷ c.frames;
-            }) (written_from c.used ns s.cells))
-            (Stops CellRoom))
-        by true = omega arith
-        by false = tt
+        by : (free b : Bool) → Deeper
+            (cond free (cond b (To (record { pc = first; ops = []; used = c.used + length ns; frames =
+            record { back = c.pc + 1; base = base; used = c.used; refines = refines; body = body; ops = ops } ∷ c.frames }) (written_from c.used ns s.cells))
+            (Stops CellRoom)) Unsaid)
+        by true true = omega arith
+        by true false = tt
+        by false b = tt
 
-    call_near : (e : Option Entry) → Near (call_move c e s.cells)
-    call_near None = tt
-    call_near (Some e) = by e.layout
+    call_near : (n : ℕ) (e : Option Entry) → Near (call_move c n e s.cells)
+    call_near n None = tt
+    call_near n (Some e) = by e.layout
       where
-        by : (l : Layout) → Near (calls_to c e.first l s.cells)
+        by : (l : Layout) → Near (calls_to c n e.first l s.cells)
         by (Own parameters variables) =
-            near_operands (length parameters) _ (λ os r. marked s.marks _ (enters_deeper e.first (c.used + 2) false r (frame_numbers os variables))) [] c.ops
+            near_operands (length parameters) _ (λ os r. marked s.marks _ (enters_deeper e.first (c.used + 2) false n r (frame_contents os variables))) [] c.ops
         by (layouts.Of q) = tt
         by layouts.Level = tt
 
-    refer_near : (e : Option Entry) → Near (refer_move c e s.cells)
-    refer_near None = tt
-    refer_near (Some e) = marked s.marks _ (enters_deeper e.first (base_of c.frames) true c.ops link_numbers)
+    refer_near : (n : ℕ) (e : Option Entry) → Near (refer_move c n e s.cells)
+    refer_near n None = tt
+    refer_near n (Some e) = marked s.marks _ (enters_deeper e.first (base_of c.frames) true n c.ops link_contents)
 
     -- one operand more
     push_near : (l : Line) → slice_get p.lines c.pc ≡ Some l → is_mark (Some l.instr) ≡ false → (o : Operand) (ops : List Operand)
@@ -206,35 +205,41 @@ module _ (p : Program) (valid : IsValid p) where
     at_instr l e (Truth b) is f = push_near l e (ap (λ i. is_mark (Some i)) is) (Of (item.Truth b)) c.ops
     at_instr l e (Outer x) is f = push_near l e (ap (λ i. is_mark (Some i)) is) (At (run_cell x)) c.ops
     at_instr l e (Local x) is f = push_near l e (ap (λ i. is_mark (Some i)) is) (At (run_cell (base_of c.frames + x))) c.ops
-    at_instr l e (Param x) is f = push_near l e (ap (λ i. is_mark (Some i)) is) (At (place_in (s.cells (run_cell (base_of c.frames + x))))) c.ops
-    at_instr l e (Load k) is f = near_place _ (λ a r. push_near l e (ap (λ i. is_mark (Some i)) is) (Of (value_in k (s.cells a))) r) c.ops
+    at_instr l e (Param x) is f =
+        near_word _ (λ n. push_near l e (ap (λ i. is_mark (Some i)) is) (At (place_in n)) c.ops) (s.cells (run_cell (base_of c.frames + x)))
+    at_instr l e (Load k) is f = near_place _ (λ a r. near_word _ (λ n. push_near l e (ap (λ i. is_mark (Some i)) is) (Of (value_in k n)) r) (s.cells a)) c.ops
     at_instr l e (Store k) is f = near_value _ (λ v r. near_place _ (λ a r. go (c.pc + 1) (on_next c.pc l e (ap (λ i. is_mark (Some i)) is))) r) c.ops
     at_instr l e (Do op) is f =
         near_values (length (operand_kinds op)) _ (λ vs r. near_or _ (λ v. push_near l e (ap (λ i. is_mark (Some i)) is) (Of v) r) (result_of op vs)) [] c.ops
     at_instr l e (Modify ch) is f =
         near_value _ (λ v r. near_place _
-        (λ a r. near_or _ (λ x. go (c.pc + 1) (on_next c.pc l e (ap (λ i. is_mark (Some i)) is))) (changed ch (number_in s.cells a) (number_of v))) r) c.ops
+            (λ a r. near_word _ (λ n.
+            near_or _ (λ x. go (c.pc + 1) (on_next c.pc l e (ap (λ i. is_mark (Some i)) is))) (changed ch (number_of (value_in kinds.Int n)) (number_of v)))
+            (s.cells a)) r) c.ops
     at_instr l e (Jump a) is f = go a (on_jump c.pc a l e (ap (λ i. is_mark (Some i)) is) f.spaced)
     at_instr l e (False a) is f =
         near_value _ (λ v r. go_if (truth_of v) (c.pc + 1) a (on_next c.pc l e (ap (λ i. is_mark (Some i)) is))
-        (on_jump c.pc a l e (ap (λ i. is_mark (Some i)) is) f.3.spaced)) c.ops
+            (on_jump c.pc a l e (ap (λ i. is_mark (Some i)) is) f.3.spaced)) c.ops
     at_instr l e (When z a) is f =
         near_value _ (λ v r. near_if (int_eq (number_of v) z) _ _ (go a (on_jump c.pc a l e (ap (λ i. is_mark (Some i)) is) f.3.spaced))
-        (go (c.pc + 1) (on_next c.pc l e (ap (λ i. is_mark (Some i)) is)))) c.ops
+            (go (c.pc + 1) (on_next c.pc l e (ap (λ i. is_mark (Some i)) is)))) c.ops
     at_instr l e Drop is f = near_value _ (λ v r. go (c.pc + 1) (on_next c.pc l e (ap (λ i. is_mark (Some i)) is))) c.ops
     at_instr l e (Limit way a) is f =
         near_value _ (λ v r. near_place _
-        (λ q r. near_if (cells_fit (c.used + 1)) _ _
-        (go_if (is_past way (number_of v) (number_in s.cells q)) a (c.pc + 1) (on_jump c.pc a l e (ap (λ i. is_mark (Some i)) is) f.3.spaced)
-        (on_next c.pc l e (ap (λ i. is_mark (Some i)) is))) tt) r) c.ops
+            (λ q r. near_if (cells_fit (c.used + 1)) _ _
+            (near_if (is_free (s.cells (run_cell c.used))) _ _
+            (near_word _ (λ n. go_if (is_past way (number_of v) (number_of (value_in kinds.Int n))) a (c.pc + 1)
+            (on_jump c.pc a l e (ap (λ i. is_mark (Some i)) is) f.3.spaced) (on_next c.pc l e (ap (λ i. is_mark (Some i)) is))) (s.cells q)) tt) tt) r) c.ops
     at_instr l e Unlimit is f = go (c.pc + 1) (on_next c.pc l e (ap (λ i. is_mark (Some i)) is))
     at_instr l e (Step way a) is f =
-        near_place _ (λ q r. near_if (has_reached way (limit_in c s.cells) (number_in s.cells q)) _ _
-        (go a (on_jump c.pc a l e (ap (λ i. is_mark (Some i)) is) f.2.3.spaced)) (go (c.pc + 1) (on_next c.pc l e (ap (λ i. is_mark (Some i)) is)))) c.ops
+        near_place _ (λ q r. near_word _
+            (λ k. near_word _ (λ n. near_if (has_reached way (number_of (value_in kinds.Int k)) (number_of (value_in kinds.Int n))) _ _
+            (go a (on_jump c.pc a l e (ap (λ i. is_mark (Some i)) is) f.2.3.spaced)) (go (c.pc + 1) (on_next c.pc l e (ap (λ i. is_mark (Some i)) is))))
+            (s.cells q)) (limit_cell c s.cells)) c.ops
     at_instr l e (Ask calls.PutNumber) is f = near_value _ (λ v r. marked s.marks _ (omega arith)) c.ops
     at_instr l e (Ask calls.Line) is f = marked s.marks _ (omega arith)
-    at_instr l e (Call n) is f = call_near (slice_get p.bodies n)
-    at_instr l e (Refer n) is f = refer_near (slice_get p.bodies n)
+    at_instr l e (Call n) is f = call_near n (slice_get p.bodies n)
+    at_instr l e (Refer n) is f = refer_near n (slice_get p.bodies n)
     at_instr l e (Back k) is f = near_result k _ (λ os. back_near os c.frames (omega arith)) c.ops
     at_instr l e (Out k) is f = near_result k _ (λ os. out_near os c.frames (omega arith)) c.ops
     at_instr l e End is f = tt

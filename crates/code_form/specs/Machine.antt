@@ -1,5 +1,5 @@
 -- What the machine does with a list of instructions, one by one.
-use Rattle.std.specs.Prelude.{ℕ, zero, suc, ◌+◌, ◌-◌, Bool, true, false, cond, List, [], ◌∷◌, ◌++◌, map, length, Option, Some, None, Ok, Err, slice_get, ℤ}
+use Rattle.std.specs.Prelude.{ℕ, zero, suc, ◌+◌, ◌-◌, Bool, true, false, ◌&&◌, cond, List, [], ◌∷◌, ◌++◌, map, length, Option, Some, None, Ok, Err, slice_get, ℤ}
 use Rattle.std.specs.Ordering.{int_eq}
 use Rattle.eu_base.specs.declared.address.Addr.{Addr}
 use Rattle.eu_base.specs.declared.value.Kind.{Kind}
@@ -11,10 +11,10 @@ use Rattle.eu_base.specs.declared.stop.Stop.TheVariants.{CellRoom, OperandRoom}
 use Rattle.eu_base.specs.declared.operation.Way.{Way}
 use Rattle.eu_base.specs.declared.request.Request.{Request}
 use Rattle.eu_base.specs.declared.request.Reply.{Reply}
-use Rattle.eu_base.specs.Values.{number_of, truth_of, blank_of, cell_of, value_in}
+use Rattle.eu_base.specs.Values.{number_of, truth_of, blank_of, value_in}
 use Rattle.eu_base.specs.Room.{value_bytes, place_bytes, cells_fit, bytes_fit}
 use Rattle.eu_base.specs.Operations.{Given, operand_kinds, result_of, changed, is_past, has_reached, next_number, put_request, line_request}
-use Rattle.eu_base.specs.Cells.{Cells, run_cell, place_number, place_in, written}
+use Rattle.eu_base.specs.Cells.{Cell, Free, Word, Cells, held_of, run_cell, place_number, place_in, written, without}
 use Rattle.code_form.specs.declared.operand.Operand.{Operand}
 use Rattle.code_form.specs.declared.operand.Operand.TheVariants.{Value as Of, Place as At}
 use Rattle.code_form.specs.declared.halt.Halt.{Halt}
@@ -24,20 +24,20 @@ use Rattle.code_form.specs.declared.waits.Waits.TheVariants.{Nothing, Asked, Ref
 use Rattle.code_form.specs.declared.instr.Requested.{Requested}
 use Rattle.code_form.specs.declared.instr.Requested.TheVariants as calls
 use Rattle.code_form.specs.declared.instr.Instr.{Instr}
-use Rattle.code_form.specs.declared.instr.Instr.TheVariants.{Mark, Number, Truth, Outer, Local, Param, Load, Store, Do, Modify, Jump, False, When, Drop, Limit}
-use Rattle.code_form.specs.declared.instr.Instr.TheVariants.{Unlimit, Step, Ask, Call, Refer, Back, Out, End}
+use Rattle.code_form.specs.declared.instr.Instr.TheVariants.{Mark, Number, Truth, Outer, Local, Param, Load, Store, Do, Modify, Jump, False, When, Drop, Limit, Unlimit, Step, Ask, Call, Refer, Back, Out, End}
 use Rattle.code_form.specs.declared.code.Entry.{Entry}
 use Rattle.code_form.specs.declared.code.Layout.{Layout}
 use Rattle.code_form.specs.declared.code.Layout.TheVariants.{Own}
 use Rattle.code_form.specs.Program.{Program, instr_of}
 
 -- a live call or refinement: the instruction to which it returns, its first cell, which is that of the frame below for a refinement,
--- the cells that were in use before it, and what is pending in the frame below
+-- the cells that were in use before it, its body, and what is pending in the frame below
 pub record Frame : Type 0 where
   pub back : ℕ
   pub base : ℕ
   pub used : ℕ
   pub refines : Bool
+  pub body : ℕ
   pub ops : List Operand
 
 -- where the machine stands: its instruction, the pending operands, the newest first, the cells in use, and the live frames, the
@@ -59,18 +59,21 @@ free c = record { position = c; waits = Nothing }
 abbrev pub asking : Position → Request → Control
 asking c q = record { position = c; waits = Asked q }
 
--- where an instruction leads once its mark is spent: on, to a request, or to a stop
+-- where an instruction leads once its mark is spent: on, to a request, or to a stop; or it is not known that the cells that it takes are free
 pub data After : Type 0 where
   To : Position → Cells → After
   Asks : Position → Request → Cells → After
   Stops : Stop → After
+  Unsaid : After
 
--- what an instruction does: it goes on, spends a mark and then does more, stops, ends the command, or cannot be done
+-- what an instruction does: it goes on, spends a mark and then does more, stops, ends the command; or what it reads is not known; or it
+-- cannot be done
 pub data Move : Type 0 where
   Goes : Position → Cells → Move
   Spends : After → Move
   Halts : Stop → Move
   Ends : Move
+  Unknown : Move
   Stuck : Move
 
 -- another instruction and other operands
@@ -131,85 +134,100 @@ abbrev pub or_halt : Given → (Value → Move) → Move
 or_halt (Ok v) go = go v
 or_halt (Err s) go = Halts s
 
-abbrev pub number_in : Cells → Addr → ℤ
-number_in cells a = number_of (value_in kinds.Int (cells a))
+-- what a cell holds, and the number that it stands for
+abbrev pub on_word : Cell → (ℕ → Move) → Move
+on_word (Word n) go = go n
+on_word Free go = Unknown
+
+abbrev pub on_number : Cell → (ℤ → Move) → Move
+on_number cell go = on_word cell (λ n. go (number_of (value_in kinds.Int n)))
 
 -- the request that a call makes of its operands
 abbrev pub on_call : Requested → List Operand → (Request → List Operand → Move) → Move
 on_call calls.PutNumber ops go = on_value ops (λ v. go (put_request (number_of v)))
 on_call calls.Line ops go = go line_request ops
 
--- the number of an operand in a cell
-abbrev pub number_of_operand : Operand → ℕ
-number_of_operand (Of v) = cell_of v
-number_of_operand (At a) = place_number a
+-- what stands for an operand in a cell
+abbrev pub held_of_operand : Operand → Cell
+held_of_operand (Of v) = held_of v
+held_of_operand (At a) = Word (place_number a)
 
--- the numbers in the cells of a frame: two for the call, what the parameters hold, and the variables
-abbrev pub frame_numbers : List Operand → List Kind → List ℕ
-frame_numbers args variables = 0 ∷ 0 ∷ (map number_of_operand args ++ map (λ k. cell_of (blank_of k)) variables)
+-- what the cells of a frame hold: two for the call, what the parameters hold, and the variables
+abbrev pub frame_contents : List Operand → List Kind → List Cell
+frame_contents args variables = Word 0 ∷ Word 0 ∷ (map held_of_operand args ++ map (λ k. held_of (blank_of k)) variables)
 
-abbrev pub link_numbers : List ℕ
-link_numbers = 0 ∷ 0 ∷ []
+abbrev pub link_contents : List Cell
+link_contents = Word 0 ∷ Word 0 ∷ []
 
--- numbers in cells, one after another
-abbrev pub written_from : ℕ → List ℕ → Cells → Cells
+-- it is put into cells, one after another
+abbrev pub written_from : ℕ → List Cell → Cells → Cells
 written_from at [] cells = cells
 written_from at (n ∷ ns) cells = written_from (suc at) ns (written cells (run_cell at) n)
 
--- goes to a body, with a frame that has these numbers in its cells
-abbrev pub enters : Position → ℕ → ℕ → Bool → List Operand → List ℕ → Cells → After
-enters c first base refines ops numbers cells =
-    cond (cells_fit (c.used + length numbers))
-    (To (record {
-      pc = first;
-      ops = [];
-      used = c.used + length numbers;
-      frames =
-          record { back = c.pc + 1; base = base; used = c.used; refines = refines; ops = ops } ∷ c.frames;
-    }) (written_from c.used numbers cells))
+-- nothing is known of a cell, and of as many as these from one on
+abbrev pub is_free : Cell → Bool
+is_free Free = true
+is_free (Word n) = false
+
+abbrev pub are_free : ℕ → List Cell → Cells → Bool
+are_free at [] cells = true
+are_free at (n ∷ ns) cells = is_free (cells (run_cell at)) && are_free (suc at) ns cells
+
+-- goes to a body, with a frame that has this in its cells, which were free
+abbrev pub entering : Position → ℕ → ℕ → Bool → ℕ → List Operand → List Cell → Cells → After
+entering c first base refines body ops contents cells =
+    cond (cells_fit (c.used + length contents))
+    (To (record { pc = first; ops = []; used = c.used + length contents; frames =
+        record { back = c.pc + 1; base = base; used = c.used; refines = refines; body = body; ops = ops } ∷ c.frames }) (written_from c.used contents cells))
     (Stops CellRoom)
 
-abbrev pub calls_to : Position → ℕ → Layout → Cells → Move
-calls_to c first (Own parameters variables) cells =
-    on_operands (length parameters) [] c.ops (λ args ops. Spends (enters c first (c.used + 2) false ops (frame_numbers args variables) cells))
-calls_to c first _ cells = Stuck
+abbrev pub enters : Position → ℕ → ℕ → Bool → ℕ → List Operand → List Cell → Cells → After
+enters c first base refines body ops contents cells = cond (are_free c.used contents cells) (entering c first base refines body ops contents cells) Unsaid
 
-abbrev pub call_move : Position → Option Entry → Cells → Move
-call_move c (Some e) cells = calls_to c e.first e.layout cells
-call_move c None cells = Stuck
+abbrev pub calls_to : Position → ℕ → ℕ → Layout → Cells → Move
+calls_to c n first (Own parameters variables) cells =
+    on_operands (length parameters) [] c.ops (λ args ops. Spends (enters c first (c.used + 2) false n ops (frame_contents args variables) cells))
+calls_to c n first _ cells = Stuck
 
-abbrev pub refer_move : Position → Option Entry → Cells → Move
-refer_move c (Some e) cells = Spends (enters c e.first (base_of c.frames) true c.ops link_numbers cells)
-refer_move c None cells = Stuck
+abbrev pub call_move : Position → ℕ → Option Entry → Cells → Move
+call_move c n (Some e) cells = calls_to c n e.first e.layout cells
+call_move c n None cells = Stuck
+
+abbrev pub refer_move : Position → ℕ → Option Entry → Cells → Move
+refer_move c n (Some e) cells = Spends (enters c e.first (base_of c.frames) true n c.ops link_contents cells)
+refer_move c n None cells = Stuck
 
 -- the result, where there is one
 abbrev pub on_result : Option Kind → List Operand → (List Operand → Move) → Move
 on_result None ops go = go []
 on_result (Some k) ops go = on_value ops (λ v rest. go (Of v ∷ []))
 
--- leaves a frame, and leaves those of refinements and that of their PROC
-abbrev pub back_into : List Operand → Frame → List Frame → Cells → Move
-back_into result f fs cells = Goes (record { pc = f.back; ops = result ++ f.ops; used = f.used; frames = fs }) cells
+-- leaves a frame, and leaves those of refinements and that of their PROC; so many cells were in use, and nothing is known of those of
+-- the frames then
+abbrev pub back_into : List Operand → ℕ → Frame → List Frame → Cells → Move
+back_into result used f fs cells = Goes (record { pc = f.back; ops = result ++ f.ops; used = f.used; frames = fs }) (without f.used used cells)
 
-abbrev pub back_to : List Operand → List Frame → Cells → Move
-back_to result [] cells = Stuck
-back_to result (f ∷ fs) cells = back_into result f fs cells
+abbrev pub back_to : List Operand → ℕ → List Frame → Cells → Move
+back_to result used [] cells = Stuck
+back_to result used (f ∷ fs) cells = back_into result used f fs cells
 
-abbrev pub out_to : List Operand → List Frame → Cells → Move
-out_to result [] cells = Stuck
-out_to result (f ∷ fs) cells = cond f.refines (out_to result fs cells) (back_into result f fs cells)
+abbrev pub out_to : List Operand → ℕ → List Frame → Cells → Move
+out_to result used [] cells = Stuck
+out_to result used (f ∷ fs) cells = cond f.refines (out_to result used fs cells) (back_into result used f fs cells)
 
 -- keeps a limit in a cell, and looks whether the counter is past it
 abbrev pub limit_to : Position → Way → ℕ → ℤ → Addr → List Operand → Cells → Move
 limit_to c way a limit x ops cells =
     cond (cells_fit (c.used + 1))
-    (Goes (using (at c (cond (is_past way limit (number_in cells x)) a (c.pc + 1)) ops) (c.used + 1))
-    (written cells (run_cell c.used) (cell_of (item.Int limit))))
+    (cond (is_free (cells (run_cell c.used)))
+    (on_number (cells x) (λ z.
+        Goes (using (at c (cond (is_past way limit z) a (c.pc + 1)) ops) (c.used + 1)) (written cells (run_cell c.used) (held_of (item.Int limit)))))
+    Unknown)
     (Halts CellRoom)
 
--- the innermost limit
-abbrev pub limit_in : Position → Cells → ℤ
-limit_in c cells = number_in cells (run_cell (c.used - 1))
+-- the cell of the innermost limit
+abbrev pub limit_cell : Position → Cells → Cell
+limit_cell c cells = cells (run_cell (c.used - 1))
 
 -- what an instruction of a program does. It looks at where bodies begin and what frames they have, not at the other tables
 abbrev pub instruction : Program → Option Instr → Position → Cells → Move
@@ -219,36 +237,36 @@ instruction p (Some (Number z)) c cells = pushes c (Of (item.Int z)) c.ops cells
 instruction p (Some (Truth b)) c cells = pushes c (Of (item.Truth b)) c.ops cells
 instruction p (Some (Outer k)) c cells = pushes c (At (run_cell k)) c.ops cells
 instruction p (Some (Local k)) c cells = pushes c (At (run_cell (base_of c.frames + k))) c.ops cells
-instruction p (Some (Param k)) c cells = pushes c (At (place_in (cells (run_cell (base_of c.frames + k))))) c.ops cells
-instruction p (Some (Load kind)) c cells = on_place c.ops (λ a ops. pushes c (Of (value_in kind (cells a))) ops cells)
-instruction p (Some (Store kind)) c cells = on_value c.ops (λ v ops. on_place ops (λ a ops. goes c ops (written cells a (cell_of v))))
+instruction p (Some (Param k)) c cells = on_word (cells (run_cell (base_of c.frames + k))) (λ n. pushes c (At (place_in n)) c.ops cells)
+instruction p (Some (Load kind)) c cells = on_place c.ops (λ a ops. on_word (cells a) (λ n. pushes c (Of (value_in kind n)) ops cells))
+instruction p (Some (Store kind)) c cells = on_value c.ops (λ v ops. on_place ops (λ a ops. goes c ops (written cells a (held_of v))))
 instruction p (Some (Do op)) c cells =
     on_values (length (operand_kinds op)) [] c.ops (λ vs ops. or_halt (result_of op vs) (λ v. pushes c (Of v) ops cells))
 instruction p (Some (Modify change)) c cells =
-    on_value c.ops (λ v ops. on_place ops (λ a ops. or_halt (changed change (number_in cells a) (number_of v)) (λ x. goes c ops (written cells a (cell_of x)))))
+    on_value c.ops (λ v ops.
+        on_place ops (λ a ops. on_number (cells a) (λ z. or_halt (changed change z (number_of v)) (λ x. goes c ops (written cells a (held_of x))))))
 instruction p (Some (Jump a)) c cells = Goes (at c a c.ops) cells
 instruction p (Some (False a)) c cells = on_value c.ops (λ v ops. Goes (at c (cond (truth_of v) (c.pc + 1) a) ops) cells)
 instruction p (Some (When z a)) c cells =
     on_value c.ops (λ v ops. cond (int_eq (number_of v) z) (Goes (at c a ops) cells) (goes c (Of v ∷ ops) cells))
 instruction p (Some Drop) c cells = on_value c.ops (λ v ops. goes c ops cells)
 instruction p (Some (Limit way a)) c cells = on_value c.ops (λ v ops. on_place ops (λ x ops. limit_to c way a (number_of v) x ops cells))
-instruction p (Some Unlimit) c cells = Goes (using (at c (c.pc + 1) c.ops) (c.used - 1)) cells
+instruction p (Some Unlimit) c cells = Goes (using (at c (c.pc + 1) c.ops) (c.used - 1)) (without (c.used - 1) c.used cells)
 instruction p (Some (Step way a)) c cells =
-    on_place c.ops (λ x ops.
-    cond (has_reached way (limit_in c cells) (number_in cells x)) (Goes (at c a ops) cells)
-    (goes c ops (written cells x (cell_of (item.Int (next_number way (number_in cells x)))))))
+    on_place c.ops (λ x ops. on_number (limit_cell c cells) (λ limit. on_number (cells x) (λ z.
+    cond (has_reached way limit z) (Goes (at c a ops) cells) (goes c ops (written cells x (held_of (item.Int (next_number way z))))))))
 instruction p (Some (Ask call)) c cells = on_call call c.ops (λ q ops. Spends (Asks (at c (c.pc + 1) ops) q cells))
-instruction p (Some (Call n)) c cells = call_move c (slice_get p.bodies n) cells
-instruction p (Some (Refer n)) c cells = refer_move c (slice_get p.bodies n) cells
-instruction p (Some (Back kind)) c cells = on_result kind c.ops (λ result. back_to result c.frames cells)
-instruction p (Some (Out kind)) c cells = on_result kind c.ops (λ result. out_to result c.frames cells)
+instruction p (Some (Call n)) c cells = call_move c n (slice_get p.bodies n) cells
+instruction p (Some (Refer n)) c cells = refer_move c n (slice_get p.bodies n) cells
+instruction p (Some (Back kind)) c cells = on_result kind c.ops (λ result. back_to result c.used c.frames cells)
+instruction p (Some (Out kind)) c cells = on_result kind c.ops (λ result. out_to result c.used c.frames cells)
 instruction p (Some End) c cells = Ends
 
 -- one step, where nothing is waited for
 abbrev pub step : Program → Position → Cells → Move
 step p c cells = instruction p (instr_of (slice_get p.lines c.pc)) c cells
 
--- what the machine runs on: a number in each cell, the marks that are left, and the replies that are left
+-- what the machine runs on: what is known of the cells, the marks that are left, and the replies that are left
 pub record Scene : Type 0 where
   pub cells : Cells
   pub marks : ℕ
@@ -277,6 +295,7 @@ abbrev pub after_stage : After → Position → Scene → Stage
 after_stage (To c' cells) c s = On (free c') (record s { cells = cells })
 after_stage (Asks c' q cells) c s = On (asking c' q) (record s { cells = cells })
 after_stage (Stops stop) c s = Over (rest_at (halts.Stopped stop) (free c) s)
+after_stage Unsaid c s = Lost
 
 abbrev pub mark_stage : ℕ → After → Position → Scene → Stage
 mark_stage zero a c s = Over (rest_at halts.Marked (free c) s)
@@ -287,6 +306,7 @@ stage (Goes c' cells) c s = On (free c') (record s { cells = cells })
 stage (Spends a) c s = mark_stage s.marks a c s
 stage (Halts stop) c s = Over (rest_at (halts.Stopped stop) (free c) s)
 stage Ends c s = Over (rest_at halts.Ended (free c) s)
+stage Unknown c s = Lost
 stage Stuck c s = Lost
 
 abbrev pub reply_stage : List Reply → Request → Position → Scene → Stage

@@ -9,7 +9,7 @@ use Rattle.code_form.specs.declared.waits.Waits.{Waits}
 use Rattle.code_form.specs.declared.waits.Waits.TheVariants.{Nothing, Asked, Refused}
 use Rattle.code_form.specs.declared.code.Line.{Line}
 use Rattle.code_form.specs.Program.{Program, instr_of}
-use Rattle.code_form.specs.Machine.{Position, Control, free, asking, To, Asks, Stops, Move, Goes, Spends, Halts, Ends, Stuck, Scene, Rest, step, exec, answered}
+use Rattle.code_form.specs.Machine.{Position, Control, free, asking, To, Asks, Stops, Move, Goes, Spends, Halts, Ends, Unknown, Unsaid, Stuck, Scene, Rest, step, exec, answered}
 use Rattle.code_form.specs.Valid.{IsValid, Fits, is_mark}
 
 -- the machine comes to rest so
@@ -49,8 +49,10 @@ IsSafe p (Goes c cells) = Fits p (free c)
 IsSafe p (Spends (To c cells)) = Fits p (free c)
 IsSafe p (Spends (Asks c q cells)) = Fits p (asking c q)
 IsSafe p (Spends (Stops s)) = Unit {0}
+IsSafe p (Spends Unsaid) = Unit {0}
 IsSafe p (Halts s) = Unit {0}
 IsSafe p Ends = Unit {0}
+IsSafe p Unknown = Unit {0}
 IsSafe p Stuck = ⊥
 
 -- each state that code reaches fits, and the machine is never stuck

@@ -90,12 +90,6 @@ module _ (here : Stand) where
       → type (value.Apply op as') ≡ only_if (have (map type_in (operand_kinds op)) (map type as')) (Some (type_in (result_kind op)))
   apply_is op as' = ap type (sym (value.rolls-Apply op as')) ∙ of_value (t.Apply op as')
 
-  pub cand_is : (a b : ValuePhrase) → type (value.Cand a b) ≡ only_if (has Truths (type a) && has Truths (type b)) (Some Truths)
-  cand_is a b = ap type (sym (value.rolls-Cand a b)) ∙ of_value (t.Cand a b)
-
-  pub cor_is : (a b : ValuePhrase) → type (value.Cor a b) ≡ only_if (has Truths (type a) && has Truths (type b)) (Some Truths)
-  cor_is a b = ap type (sym (value.rolls-Cor a b)) ∙ of_value (t.Cor a b)
-
   pub value_if_is : (c a b : ValuePhrase) → type (value.If c a b) ≡ only_if (has Truths (type c) && agree (type a) (type b)) (type a)
   value_if_is c a b = ap type (sym (value.rolls-If c a b)) ∙ of_value (t.ValuePhrase::If c a b)
 

@@ -4,7 +4,6 @@ use Rattle.elan_types.specs.declared.elan_type.ElanType.{ElanType}
 use Rattle.elan_types.specs.declared.elan_type.ElanType.TheVariants.{Int, Bool as Truths}
 use Rattle.elan_types.specs.declared.core_phrase.PlacePhrase.{PlacePhrase}
 use Rattle.elan_types.specs.declared.core_phrase.ValuePhrase.{ValuePhrase}
-use Rattle.elan_types.specs.declared.core_phrase.ValuePhrase.TheVariants as value
 use Rattle.elan_types.specs.declared.core_phrase.Action.{Action}
 use Rattle.elan_types.specs.declared.core_phrase.Action.TheVariants as action
 use Rattle.elan_meant.specs.declared.meant.Part.{Part}
@@ -21,8 +20,8 @@ use Rattle.elan_rules.proofs.Typed as ty
 use Rattle.elan_rules.proofs.Typed.{same_is, same_self, has_self, agree_self, only_if_holds, both, and_true, Gives, on_if, on_bind}
 use Rattle.elan_meant.specs.Parts as p
 use Rattle.choice_rules.specs.Choices as r
-use Rattle.elan_rules.proofs.TypedUnits.{unreached_typed}
-use Rattle.elan_rules.proofs.TypeEquations.{Stand, arm_typed, arm_type, if_is, select_is, value_if_is, value_select_is, value_arm_is, arm_is}
+use Rattle.elan_rules.proofs.TypedUnits.{unreached_typed, if_value_typed}
+use Rattle.elan_rules.proofs.TypeEquations.{Stand, arm_typed, arm_type, if_is, select_is, value_select_is, value_arm_is, arm_is}
 
 module _ (here : Stand) where
   abbrev Has : ElanType → ValuePhrase → Type 0
@@ -106,9 +105,6 @@ module _ (here : Stand) where
   pub if_typed : (c : ValuePhrase) (as' bs : List Action) → Has Truths c → AllTyped as' → AllTyped bs → AllTyped (r.if_actions c as' bs)
   if_typed c as' bs h g k = ty.single_typed here (action.If c as' bs) (if_is here c as' bs ∙ and_true _ _ (has_self Truths _ h) (and_true _ _ g k))
 
-  pub if_value_typed : (c : ValuePhrase) (t : ElanType) (v w : ValuePhrase) → Has Truths c → Has t v → Has t w → Has t (value.If c v w)
-  if_value_typed c t v w h g k = value_if_is here c v w ∙ only_if_holds _ _ t (and_true _ _ (has_self Truths _ h) (agree_self t _ _ g k)) g
-
   chosen_as_good : (c : ValuePhrase) (a b : Part) (o : Option Delivery) → Has Truths c → PartGood a → PartGood b
       → ((t : ElanType) → AllowsSome t o → CanBe t a × CanBe t b) → MayBe (r.chosen_as c a b o)
   chosen_as_good c a b None h g k can = tt
@@ -116,7 +112,7 @@ module _ (here : Stand) where
   chosen_as_good c a b (Some Open) h g k can = if_typed c (r.part_actions a) (r.part_actions b) h (part_actions_typed a g) (part_actions_typed b k)
   chosen_as_good c a b (Some (Of t)) h g k can =
       let d = can t refl in
-      if_value_typed c t (r.part_value t a) (r.part_value t b) h (part_value_typed t a g d.0) (part_value_typed t b k d.1)
+      if_value_typed here c t (r.part_value t a) (r.part_value t b) h (part_value_typed t a g d.0) (part_value_typed t b k d.1)
 
   chosen_good : (c : ValuePhrase) (a b : Part) → Has Truths c → PartGood a → PartGood b → MayBe (r.chosen_of c a b)
   chosen_good c a b h g k =

@@ -1,5 +1,5 @@
 -- Values, stores, lists of units and bodies have the types that they ask for.
-use Rattle.std.proofs.Common.{◌≡◌, ℤ, ℕ, Bool, true, false, ◌&&◌, if◌then◌else◌, List, [], ◌∷◌, Option, Some, None, refl, sym, subst, ◌∙◌}
+use Rattle.std.proofs.Common.{◌≡◌, ℤ, ℕ, Bool, true, false, if◌then◌else◌, List, [], ◌∷◌, Option, Some, None, refl, sym, subst, ◌∙◌}
 use Rattle.elan_types.specs.declared.elan_type.ElanType.{ElanType}
 use Rattle.elan_types.specs.declared.elan_type.ElanType.TheVariants.{Int, Bool as Truths}
 use Rattle.elan_types.specs.declared.core_phrase.PlacePhrase.{PlacePhrase}
@@ -19,7 +19,7 @@ use Rattle.elan_rules.proofs.Typed.{same_is, same_self, has_self, agree_self, on
 use Rattle.elan_meant.specs.Parts as p
 use Rattle.unit_rules.specs.Units as r
 use Rattle.elan_rules.specs.Rules as rules
-use Rattle.elan_rules.proofs.TypeEquations.{Stand, type, number_is, truth_is, cand_is, cor_is, value_unit_is, after_is, store_is}
+use Rattle.elan_rules.proofs.TypeEquations.{Stand, type, number_is, truth_is, value_if_is, value_unit_is, after_is, store_is}
 
 module _ (here : Stand) where
   abbrev Has : ElanType → ValuePhrase → Type 0
@@ -58,18 +58,21 @@ module _ (here : Stand) where
   pub bracketed_good : (at : ℕ) (m : Meant) → Good m → Gives Good (rules.bracketed at m)
   bracketed_good at m g = bracketed_value_good at (p.loaded m) (ty.loaded_good here m g)
 
-  pub truths_typed : (l m : Meant) → Good l → Good m → rules.are_truths l m ≡ true
-      → (has Truths (type here (p.value_of l)) && has Truths (type here (p.value_of m))) ≡ true
-  truths_typed l m g h e =
-      let b = both _ _ e in and_true _ _ (has_self Truths _ (ty.value_typed here Truths l g b.0)) (has_self Truths _ (ty.value_typed here Truths m h b.1))
+  pub if_value_typed : (c : ValuePhrase) (t : ElanType) (v w : ValuePhrase) → Has Truths c → Has t v → Has t w → Has t (value.If c v w)
+  if_value_typed c t v w h g k = value_if_is here c v w ∙ only_if_holds _ _ t (and_true _ _ (has_self Truths _ h) (agree_self t _ _ g k)) g
+
+  truths_typed : (l m : Meant) → Good l → Good m → rules.are_truths l m ≡ true → Has Truths (p.value_of l) × Has Truths (p.value_of m)
+  truths_typed l m g h e = let b = both _ _ e in (ty.value_typed here Truths l g b.0, ty.value_typed here Truths m h b.1)
 
   pub cand_good : (at : ℕ) (l m : Meant) → Good l → Good m → Gives Good (rules.cand at l m)
   cand_good at l m g h =
-      on_if Good (rules.are_truths l m) _ _ (λ e. cand_is here (p.value_of l) (p.value_of m) ∙ only_if_holds _ _ Truths (truths_typed l m g h e) refl) (λ e. tt)
+      on_if Good (rules.are_truths l m) _ _
+      (λ e. let b = truths_typed l m g h e in if_value_typed _ Truths _ _ b.0 b.1 (truth_is here false)) (λ e. tt)
 
   pub cor_good : (at : ℕ) (l m : Meant) → Good l → Good m → Gives Good (rules.cor at l m)
   cor_good at l m g h =
-      on_if Good (rules.are_truths l m) _ _ (λ e. cor_is here (p.value_of l) (p.value_of m) ∙ only_if_holds _ _ Truths (truths_typed l m g h e) refl) (λ e. tt)
+      on_if Good (rules.are_truths l m) _ _
+      (λ e. let b = truths_typed l m g h e in if_value_typed _ Truths _ _ b.0 (truth_is here true) b.1) (λ e. tt)
 
   -- ---- stores
 

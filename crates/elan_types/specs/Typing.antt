@@ -219,8 +219,6 @@ module _ (variables : List ElanType) (bodies : List Body) (home : Home) where
   value_type_step (t.Truth b) = Some types.Bool
   value_type_step (t.Load p u) = only_if (has u (place_type p)) (Some u)
   value_type_step (t.Apply op as') = only_if (have (map type_in (operand_kinds op)) as') (Some (type_in (result_kind op)))
-  value_type_step (t.Cand a b) = only_if (has types.Bool a && has types.Bool b) (Some types.Bool)
-  value_type_step (t.Cor a b) = only_if (has types.Bool a && has types.Bool b) (Some types.Bool)
   value_type_step (t.ValuePhrase::If c a b) = only_if (has types.Bool c && agree a b) a
   value_type_step (t.ValuePhrase::Select v arms other) = only_if (has types.Int v && all_agree other arms) other
   value_type_step (t.ValuePhrase::Unit a) = a

@@ -86,11 +86,7 @@ pub enum ValuePhrase {
     Load(PlacePhrase, ElanType),
     /// The result of an operation, its operands from left to right.
     Apply(Operation, List<ValuePhrase>),
-    /// Its right side is evaluated only where the left one is TRUE.
-    Cand(Boxed<ValuePhrase>, Boxed<ValuePhrase>),
-    /// Its right side is evaluated only where the left one is FALSE.
-    Cor(Boxed<ValuePhrase>, Boxed<ValuePhrase>),
-    /// Condition, and the values for TRUE and FALSE.
+    /// Condition, and the values for TRUE and FALSE. `a CAND b` is b, or else FALSE; `a COR b` is TRUE, or else b.
     If(Boxed<ValuePhrase>, Boxed<ValuePhrase>, Boxed<ValuePhrase>),
     /// The value to choose by, the arms, and the value where no label holds it.
     Select(Boxed<ValuePhrase>, List<ValueArm>, Boxed<ValuePhrase>),

@@ -2,7 +2,7 @@
 ghost use Rattle.std.specs.Prelude.{◌≡◌, ◌≢◌, ℕ, Err, IfOk, OnOk};
 ghost use Rattle.eu_base.specs.declared.cells.MemFault.TheVariants as fault;
 ghost use Rattle.eu_base.specs.declared.address.Addr.{Addr};
-ghost use Rattle.eu_base.specs.Cells.{IsCell, IsSame, IsWritten, HasFaultCause};
+ghost use Rattle.eu_base.specs.Cells.{Word, Cells, IsCell, written, Within, HasFaultCause};
 
 use crate::NoMemory;
 use crate::address::Addr;
@@ -26,10 +26,10 @@ impl From<NoMemory> for MemFault {
     }
 }
 
-/// A memory of cells, each of which holds a number.
+/// A memory of cells, each of which holds a number. Contracts say what it is known to hold: each call speaks of all that may be known.
 pub trait Memory {
-    /// The number in each cell of an area.
-    ghost cells: { Self → Addr → ℕ };
+    /// It holds these numbers; of other cells nothing is known.
+    ghost holds: { Self → Cells → Type 0 };
 
     /// How often it failed.
     ghost faults: { Self → ℕ };
@@ -40,8 +40,8 @@ pub trait Memory {
     /// The number in a cell. It takes no memory.
     fn cell(&mut self, at: Addr) -> Result<u64, MemFault>
         requires { IsCell at }
-        ensures number { IfOk result (λ number. number ≡ cells self.old at) }
-        ensures kept { OnOk result (IsSame (cells self.old) (cells self.new)) }
+        ensures number { IfOk result (λ number. (cells : Cells) (n : ℕ) → holds self.old cells → cells at ≡ Word n → number ≡ n) }
+        ensures kept { OnOk result ((cells : Cells) → holds self.old cells → holds self.new cells) }
         ensures memory { result ≢ Err fault.NoMemory }
         ensures cause { HasFaultCause (faults self.old) (faults self.new) result }
         ensures follows { follows self.old self.new };
@@ -49,9 +49,12 @@ pub trait Memory {
     /// Puts a number into a cell.
     fn set_cell(&mut self, at: Addr, number: u64) -> Result<(), MemFault>
         requires { IsCell at }
-        ensures written { OnOk result (IsWritten (cells self.old) (cells self.new) at number) }
+        ensures written { OnOk result ((cells : Cells) → holds self.old cells → holds self.new (written cells at (Word number))) }
         ensures cause { HasFaultCause (faults self.old) (faults self.new) result }
         ensures follows { follows self.old self.new };
+
+    /// What is known may be forgotten.
+    ghost forgets: { (memory : Self) (cells fewer : Cells) → holds memory cells → Within fewer cells → holds memory fewer };
 
     ghost reflexive: { (memory : Self) → follows memory memory };
 

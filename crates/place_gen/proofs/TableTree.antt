@@ -235,15 +235,6 @@ module _ (p : Program) (variables : List ElanType) (bodies : List Body) (agrees 
   value_parts (t.Apply op es) u e =
       let f = only_if_is _ _ u e in
       of_type (type_in (result_kind op)) u f.1 (of_kind (sym (kind_type (result_kind op))) (apply_table p home op (values_are (operand_kinds op) es f.0)))
-  value_parts (t.Cand a b) u e =
-      let f = only_if_is _ _ u e in
-      let g = both _ _ f.0 in
-      of_type types.Bool u f.1
-      (if_table p home (a.1 types.Bool (has_is types.Bool _ g.0)) (b.1 types.Bool (has_is types.Bool _ g.1)) (truth_table p home false))
-  value_parts (t.Cor a b) u e =
-      let f = only_if_is _ _ u e in
-      let g = both _ _ f.0 in
-      of_type types.Bool u f.1 (if_table p home (a.1 types.Bool (has_is types.Bool _ g.0)) (truth_table p home true) (b.1 types.Bool (has_is types.Bool _ g.1)))
   value_parts (t.ValuePhrase::If c a b) u e =
       let f = only_if_is _ _ u e in
       let g = both _ _ f.0 in

@@ -1,5 +1,5 @@
 -- The code of a well typed phrase does what the phrase does. One induction over the phrases, so it stands in one file.
-use Rattle.std.proofs.Common.{◌≡◌, List, [], ◌∷◌, map, Option, Some, None, Bool, true, false, ◌&&◌, refl, sym, ap, ◌∙◌, subst}
+use Rattle.std.proofs.Common.{◌≡◌, List, [], ◌∷◌, map, Option, Some, None, Bool, true, ◌&&◌, refl, sym, ap, ◌∙◌, subst}
 use Rattle.std.specs.Prelude.{ℤ, option_map}
 use Rattle.eu_base.specs.declared.value.Kind.{Kind}
 use Rattle.eu_base.specs.declared.value.Kind.TheVariants as kinds
@@ -261,14 +261,6 @@ module _ (p : Program) (variables : List ElanType) (bodies : List Body) (agrees 
       let f = only_if_is _ _ u e in
       of_type (type_in (result_kind op)) u f.1
       (of_kind (sym (kind_type (result_kind op))) (apply_is p home (map value (map fst es)) op (values_are (operand_kinds op) es f.0)))
-  value_parts (t.Cand a b) u e =
-      let f = only_if_is _ _ u e in
-      let g = both _ _ f.0 in
-      of_type types.Bool u f.1 (if_is p home (a.1 types.Bool (has_is types.Bool _ g.0)) (b.1 types.Bool (has_is types.Bool _ g.1)) (truth_is p home false))
-  value_parts (t.Cor a b) u e =
-      let f = only_if_is _ _ u e in
-      let g = both _ _ f.0 in
-      of_type types.Bool u f.1 (if_is p home (a.1 types.Bool (has_is types.Bool _ g.0)) (truth_is p home true) (b.1 types.Bool (has_is types.Bool _ g.1)))
   value_parts (t.ValuePhrase::If c a b) u e =
       let f = only_if_is _ _ u e in
       let g = both _ _ f.0 in

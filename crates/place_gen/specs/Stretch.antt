@@ -1,5 +1,5 @@
 -- The instructions of a phrase.
-use Rattle.std.specs.Prelude.{ℕ, ◌+◌, true, false, List, [], ◌∷◌, ◌++◌, map, length, drop, option_map, Option, Some, None, ℤ, pos}
+use Rattle.std.specs.Prelude.{ℕ, ◌+◌, List, [], ◌∷◌, ◌++◌, map, length, drop, option_map, Option, Some, None, ℤ, pos}
 use Rattle.eu_base.specs.declared.value.Kind.{Kind}
 use Rattle.eu_base.specs.declared.value.Kind.TheVariants as kinds
 use Rattle.eu_base.specs.declared.operation.Change.{Change}
@@ -190,8 +190,6 @@ value_code_step (t.Number z) = one (Number z) (pushes (Value kinds.Int))
 value_code_step (t.Truth b) = one (Truth b) (pushes (Value kinds.Truth))
 value_code_step (t.Load p u) = join (place_code p (kind_in u)) (one (Load (kind_in u)) (λ ks. Value (kind_in u) ∷ drop 1 ks))
 value_code_step (t.Apply op as') = join (all_code as') (one (Do op) (λ ks. Value (result_kind op) ∷ drop (length (operand_kinds op)) ks))
-value_code_step (t.Cand a b) = if_code a b (one (Truth false) (pushes (Value kinds.Truth)))
-value_code_step (t.Cor a b) = if_code a (one (Truth true) (pushes (Value kinds.Truth))) b
 value_code_step (t.ValuePhrase::If c a b) = if_code c a b
 value_code_step (t.ValuePhrase::Select a arms other) = join a (select_code arms other)
 value_code_step (t.ValuePhrase::Unit a) = join (one Mark keeps) a
@@ -263,16 +261,6 @@ arms_length (arm ∷ arms) = length arm.labels + (arm.part.size + 2) + arms_leng
 -- a test for each label
 abbrev pub whens_code : List ℤ → ℕ → Stretch
 whens_code zs a = record { size = length zs; leaves = keeps; lines = λ ks m at. whens zs a ks m }
-
--- IF, CAND and COR; nothing for another phrase
-abbrev pub choice_step : ValuePhrase-F Action Actual ValuePhrase Arm ValueArm → Stretch
-choice_step (t.Cand a b) = if_code (value_code a) (value_code b) (one (Truth false) (pushes (Value kinds.Truth)))
-choice_step (t.Cor a b) = if_code (value_code a) (one (Truth true) (pushes (Value kinds.Truth))) (value_code b)
-choice_step (t.ValuePhrase::If c a b) = if_code (value_code c) (value_code a) (value_code b)
-choice_step _ = none
-
-abbrev pub choice_code : ValuePhrase → Stretch
-choice_code v = choice_step (out-ValuePhrase v)
 
 -- the turns of a loop with such a step; nothing for another action
 abbrev pub loop_step : Action-F Action Actual ValuePhrase Arm ValueArm → Exit → Stretch

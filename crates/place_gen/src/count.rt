@@ -25,8 +25,6 @@ pub fn count_value(v: &ValuePhrase) -> usize
         ValuePhrase::Truth(_) => 1,
         ValuePhrase::Load(_, _) => 2,
         ValuePhrase::Apply(_, operands) => count_values(operands.as_slice()).saturating_add(1),
-        ValuePhrase::Cand(a, b) => count_if(count_value(a.get()), count_value(b.get()), 1),
-        ValuePhrase::Cor(a, b) => count_if(count_value(a.get()), 1, count_value(b.get())),
         ValuePhrase::If(c, a, b) => count_if(
             count_value(c.get()),
             count_value(a.get()),

@@ -4,7 +4,7 @@ ghost use Rattle.std.specs.Prelude.{◌≡◌, OnOk, map, drop, option_map};
 ghost use Rattle.code_form.specs.declared.operand.OperandKind.TheVariants as operand;
 ghost use Rattle.code_form.specs.declared.instr.Instr.TheVariants as instrs;
 ghost use Rattle.place_gen.specs.Stretch.{one, pushes, join, all_code, while_code, until_code, limit_code, call_code, value_code, action_code, actual_code};
-ghost use Rattle.place_gen.specs.Stretch.{content_code, value_arm_code, arm_code_of, choice_code, loop_code, turn_of, value_parts, action_parts};
+ghost use Rattle.place_gen.specs.Stretch.{content_code, value_arm_code, arm_code_of, loop_code, turn_of, value_parts, action_parts};
 ghost use Rattle.place_gen.specs.Adds.{Adds};
 ghost use Rattle.place_gen.specs.Makes.{Makes, MakesExit, MakesArm};
 ghost use Rattle.place_gen.specs.Steps.{step_exit, count_code, transfer_code};
@@ -65,8 +65,13 @@ fn add_value(out: &mut Draft, phrase: &ValuePhrase)
             add_values(out, operands.as_slice());
             put_operation(out, *operation);
         }
-        ValuePhrase::Cand(_, _) | ValuePhrase::Cor(_, _) | ValuePhrase::If(_, _, _) => {
-            add_choice(out, phrase)
+        ValuePhrase::If(c, a, b) => {
+            let below = out.kept();
+            add_value(out, c.get());
+            put_test(out, below.as_slice(), count_value(a.get()));
+            add_value(out, a.get());
+            put_else(out, below.as_slice(), count_value(b.get()));
+            add_value(out, b.get());
         }
         ValuePhrase::Select(v, _, _) => {
             add_value(out, v.get());
@@ -121,40 +126,6 @@ fn add_values(out: &mut Draft, values: &[ValuePhrase])
 {
     for value in values {
         add_value(out, value);
-    }
-}
-
-// IF, CAND and COR; nothing for another phrase.
-#[cycle(emit)]
-fn add_choice(out: &mut Draft, v: &ValuePhrase)
-    ensures { Makes (choice_code v.now) out.old out.new }
-{
-    match v {
-        ValuePhrase::Cand(a, b) => {
-            let below = out.kept();
-            add_value(out, a.get());
-            put_test(out, below.as_slice(), count_value(b.get()));
-            add_value(out, b.get());
-            put_else(out, below.as_slice(), 1);
-            put_truth(out, false);
-        }
-        ValuePhrase::Cor(a, b) => {
-            let below = out.kept();
-            add_value(out, a.get());
-            put_test(out, below.as_slice(), 1);
-            put_truth(out, true);
-            put_else(out, below.as_slice(), count_value(b.get()));
-            add_value(out, b.get());
-        }
-        ValuePhrase::If(c, a, b) => {
-            let below = out.kept();
-            add_value(out, c.get());
-            put_test(out, below.as_slice(), count_value(a.get()));
-            add_value(out, a.get());
-            put_else(out, below.as_slice(), count_value(b.get()));
-            add_value(out, b.get());
-        }
-        _ => {}
     }
 }
 

@@ -23,5 +23,7 @@ pub lent_transitive : (first second third : Lent) → LentFollows first second �
 lent_transitive first second third f g = record {
   memory_name = g.memory_name ∙ f.memory_name;
   pool_name = g.pool_name ∙ f.pool_name;
-  frames = frames_then first.pool.now second.pool.now third.pool.now (roots first.memory.now) (roots second.memory.now) (roots third.memory.now) (omega arith) f.frames g.frames;
+  frames =
+      frames_then first.pool.now second.pool.now third.pool.now (roots first.memory.now) (roots second.memory.now) (roots third.memory.now) (omega arith)
+          f.frames g.frames;
 }

@@ -30,14 +30,16 @@ impl SpaceMemory {
 
 impl<'a> Memory for Lent<'a> {
     ghost use Rattle.page_table.specs.Frames.{content_at};
-    ghost use Rattle.cell_layout.specs.Layout.{cell_in};
+    ghost use Rattle.space_memory.specs.Known.{HoldsCells, still_held};
     ghost use Rattle.space_memory.specs.Lent.{LentFollows, lent_reflexive, lent_transitive};
 
-    ghost cells = { λ lent at. cell_in (content_at lent.pool.now lent.memory.now.run.root) at.cell };
+    ghost holds = { λ lent cells. HoldsCells (content_at lent.pool.now lent.memory.now.run.root) cells };
 
     ghost faults = { λ _. 0 };
 
     ghost follows = { LentFollows };
+
+    ghost forgets = { λ lent cells fewer holds within. still_held (content_at lent.pool.now lent.memory.now.run.root) cells fewer holds within };
 
     ghost reflexive = { lent_reflexive };
 

@@ -1,3 +1,4 @@
 mod Given
 mod Lists
 mod Numbers
+pub mod Pairs

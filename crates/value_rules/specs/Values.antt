@@ -1,5 +1,5 @@
 -- Numbers, brackets, CAND and COR.
-use Rattle.std.specs.Prelude.{ℕ, ℤ, Bool, ◌&&◌, if◌then◌else◌}
+use Rattle.std.specs.Prelude.{ℕ, ℤ, Bool, true, false, ◌&&◌, if◌then◌else◌}
 use Rattle.elan_types.specs.declared.elan_type.ElanType.TheVariants.{Int, Bool as Truths}
 use Rattle.elan_types.specs.declared.core_phrase.ValuePhrase.{ValuePhrase}
 use Rattle.elan_types.specs.declared.core_phrase.ValuePhrase.TheVariants as value
@@ -28,11 +28,12 @@ bracketed at m = bracketed_value at (loaded m)
 abbrev pub are_truths : Meant → Meant → Bool
 are_truths l r = delivers Truths l && delivers Truths r
 
+-- The right side is the value only where it decides.
 abbrev pub cand_of : ℕ → ValuePhrase → ValuePhrase → Meant
-cand_of at v w = Value at Truths (value.Cand v w)
+cand_of at v w = Value at Truths (value.If v w (value.Truth false))
 
 abbrev pub cor_of : ℕ → ValuePhrase → ValuePhrase → Meant
-cor_of at v w = Value at Truths (value.Cor v w)
+cor_of at v w = Value at Truths (value.If v (value.Truth true) w)
 
 abbrev pub cand : ℕ → Meant → Meant → Ruled Meant
 cand at l r = if are_truths l r then gives (cand_of at (value_of l) (value_of r)) else breaks (at, WrongType)

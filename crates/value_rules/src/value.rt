@@ -15,6 +15,7 @@ use elan_meant::part::{delivering, loaded, value_of};
 use elan_meant::row::{Judged, both};
 use elan_scope::trouble::Trouble;
 use elan_types::{ElanType, ValuePhrase, Why};
+use eu_base::Boxed;
 use std::alloc::Global;
 
 /// A number that is written.
@@ -63,15 +64,17 @@ fn are_truths(left: &Meant, right: &Meant) -> bool
 fn cand_of(alloc: Global, at: u32, left: Meant, right: Meant) -> Judged
     ensures { Is result (gives (spec.cand_of at (parts.value_of left) (parts.value_of right))) }
 {
-    let (left, right) = both(value_of(alloc, left), value_of(alloc, right))?;
-    delivering(alloc, at, ElanType::Bool, ValuePhrase::Cand(left, right))
+    let values = both(value_of(alloc, left), value_of(alloc, right));
+    let ((left, right), no) = both(values, Boxed::new(alloc, ValuePhrase::Truth(false)))?;
+    delivering(alloc, at, ElanType::Bool, ValuePhrase::If(left, right, no))
 }
 
 fn cor_of(alloc: Global, at: u32, left: Meant, right: Meant) -> Judged
     ensures { Is result (gives (spec.cor_of at (parts.value_of left) (parts.value_of right))) }
 {
-    let (left, right) = both(value_of(alloc, left), value_of(alloc, right))?;
-    delivering(alloc, at, ElanType::Bool, ValuePhrase::Cor(left, right))
+    let values = both(value_of(alloc, left), value_of(alloc, right));
+    let ((left, right), yes) = both(values, Boxed::new(alloc, ValuePhrase::Truth(true)))?;
+    delivering(alloc, at, ElanType::Bool, ValuePhrase::If(left, yes, right))
 }
 
 /// CAND, of two truth values.

@@ -5,13 +5,12 @@ use Rattle.std.proofs.lemmas.Grind.{common_steps}
 use borrow.Author.Tests.{tests}
 use Rattle.elan_types.specs.Eval.{Labelled}
 use Rattle.elan_types.specs.declared.core_phrase.Action.TheFolds.{the_lemmas}
-use Rattle.eu_base.specs.declared.value.Kind.TheVariants as kinds
 use Rattle.eu_base.specs.Operations.{operand_kinds, result_kind}
 use Rattle.code_form.specs.declared.operand.OperandKind.TheVariants as operand
-use Rattle.code_form.specs.declared.instr.Instr.TheVariants.{Mark, Truth, Do, Jump, False}
+use Rattle.code_form.specs.declared.instr.Instr.TheVariants.{Mark, Do, Jump, False}
 use Rattle.place_gen.specs.Counted.{counted}
-use Rattle.place_gen.specs.Stretch.{Stretch, one, keeps, pushes, join, if_code, all_code, select_code, whens_code, while_code, until_code, exit_join, stays}
-use Rattle.place_gen.specs.Stretch.{turns_code, choice_code, loop_code, turn_of, value_parts, action_parts, value_code, action_code, actual_code}
+use Rattle.place_gen.specs.Stretch.{Stretch, one, keeps, join, if_code, all_code, select_code, whens_code, while_code, until_code, exit_join, stays}
+use Rattle.place_gen.specs.Stretch.{turns_code, loop_code, turn_of, value_parts, action_parts, value_code, action_code, actual_code}
 use Rattle.place_gen.specs.Stretch.{value_arm_code, arm_code_of}
 use Rattle.place_gen.specs.Steps.{step_exit}
 use Rattle.place_gen.specs.Makes.{Makes, MakesExit, MakesArm, MakesTurn, ComesBack}
@@ -69,11 +68,33 @@ add_value-returns-in-Apply t c =
     ≡ value_code c.args.phrase.now = search (rules, the_lemmas, c.in-Apply.is, c.as_slice.ensures) in
     subst (λ f. Makes f c.args.out.now c.put_operation.new.out) e (join_makes c.add_values.ensures c.put_operation.ensures)
 
+pub add_value-returns-in-If : goal.add_value-returns-in-If
+add_value-returns-in-If t c =
+    let f = value_code c.in-If.c in
+    let g = value_code c.in-If.a in
+    let h = value_code c.in-If.b in
+    let d1 = c.add_value.new.out in
+    let d3 = c.add_value-in-If.new.out in
+    let x1 = subst (λ v. Makes (value_code v) c.kept-below.new.self d1) c.get.ensures c.add_value.ensures in
+    let k2 = subst (λ v. c.count_value.result ≡ counted (value_code v).size) c.get-in-If.ensures c.count_value.ensures in
+    let x2 =
+    subst (λ ks. MakesTurn (False (length d1.lines + 1 + g.size + 1)) ks d1 c.put_test.new.out) c.as_slice-in-If.ensures
+    (c.put_test.ensures g.size k2) in
+    let x3 = subst (λ v. Makes (value_code v) c.put_test.new.out d3) c.get-in-If-2.ensures c.add_value-in-If.ensures in
+    let k4 = subst (λ v. c.count_value-in-If.result ≡ counted (value_code v).size) c.get-in-If-3.ensures c.count_value-in-If.ensures in
+    let x4 =
+    subst (λ ks. MakesTurn (Jump (length d3.lines + 1 + h.size)) ks d3 c.put_else.new.out) c.as_slice-in-If-2.ensures
+    (c.put_else.ensures h.size k4) in
+    let x5 = subst (λ v. Makes (value_code v) c.put_else.new.out c.add_value-in-If-2.new.out) c.get-in-If-4.ensures c.add_value-in-If-2.ensures in
+    let e : if_code f g h ≡ value_code c.args.phrase.now = search (rules, the_lemmas, c.in-If.is) in
+    subst (λ f. Makes f c.args.out.now c.add_value-in-If-2.new.out) e
+    (if_makes c.kept-below.ensures.draft c.kept-below.ensures.kinds x1 x2 x3 x4 x5)
+
 pub add_value-returns-in-Select : goal.add_value-returns-in-Select
 add_value-returns-in-Select t c =
-    let e : join (value_code c.get.result.now) (value_parts c.args.phrase.now) ≡ value_code c.args.phrase.now =
-    search (rules, the_lemmas, c.in-Select.is, c.get.ensures) in
-    subst (λ f. Makes f c.args.out.now c.add_value_parts.new.out) e (join_makes c.add_value.ensures c.add_value_parts.ensures)
+    let e : join (value_code c.get-in-Select.result.now) (value_parts c.args.phrase.now) ≡ value_code c.args.phrase.now =
+    search (rules, the_lemmas, c.in-Select.is, c.get-in-Select.ensures) in
+    subst (λ f. Makes f c.args.out.now c.add_value_parts.new.out) e (join_makes c.add_value-in-Select.ensures c.add_value_parts.ensures)
 
 pub add_value-returns-in-Unit : goal.add_value-returns-in-Unit
 add_value-returns-in-Unit t c =
@@ -86,63 +107,6 @@ add_value-returns-in-After t c =
     let e : join (all_code (map action_code c.as_slice-in-After.result.now)) (value_code c.get-in-After.result.now) ≡ value_code c.args.phrase.now =
     search (rules, the_lemmas, c.in-After.is, c.as_slice-in-After.ensures, c.get-in-After.ensures) in
     subst (λ f. Makes f c.args.out.now c.add_value-in-After.new.out) e (join_makes c.add_actions.ensures c.add_value-in-After.ensures)
-
-pub add_choice-returns-in-Cand : goal.add_choice-returns-in-Cand
-add_choice-returns-in-Cand t c =
-    let f = value_code c.in-Cand.a in
-    let g = value_code c.in-Cand.b in
-    let h = one (Truth false) (pushes (operand.Value kinds.Truth)) in
-    let d1 = c.add_value.new.out in
-    let d3 = c.add_value-in-Cand.new.out in
-    let x1 = subst (λ v. Makes (value_code v) c.kept-below.new.self d1) c.get.ensures c.add_value.ensures in
-    let k = subst (λ v. c.count_value.result ≡ counted (value_code v).size) c.get-in-Cand.ensures c.count_value.ensures in
-    let x2 = subst (λ ks. MakesTurn (False (length d1.lines + 1 + g.size + 1)) ks d1 c.put_test.new.out) c.as_slice.ensures (c.put_test.ensures g.size k) in
-    let x3 = subst (λ v. Makes (value_code v) c.put_test.new.out d3) c.get-in-Cand-2.ensures c.add_value-in-Cand.ensures in
-    let x4 = subst (λ ks. MakesTurn (Jump (length d3.lines + 1 + h.size)) ks d3 c.put_else.new.out) c.as_slice-in-Cand.ensures (c.put_else.ensures 1 refl) in
-    let e : if_code f g h ≡ choice_code c.args.v.now = search (rules, the_lemmas, c.in-Cand.is) in
-    subst (λ f. Makes f c.args.out.now c.put_truth.new.out) e (if_makes c.kept-below.ensures.draft c.kept-below.ensures.kinds x1 x2 x3 x4 c.put_truth.ensures)
-
-pub add_choice-returns-in-Cor : goal.add_choice-returns-in-Cor
-add_choice-returns-in-Cor t c =
-    let f = value_code c.in-Cor.a in
-    let g = one (Truth true) (pushes (operand.Value kinds.Truth)) in
-    let h = value_code c.in-Cor.b in
-    let d1 = c.add_value-in-Cor.new.out in
-    let d3 = c.put_truth-in-Cor.new.out in
-    let x1 = subst (λ v. Makes (value_code v) c.kept-below-in-Cor.new.self d1) c.get-in-Cor.ensures c.add_value-in-Cor.ensures in
-    let x2 =
-    subst (λ ks. MakesTurn (False (length d1.lines + 1 + g.size + 1)) ks d1 c.put_test-in-Cor.new.out) c.as_slice-in-Cor.ensures
-    (c.put_test-in-Cor.ensures 1 refl) in
-    let k = subst (λ v. c.count_value-in-Cor.result ≡ counted (value_code v).size) c.get-in-Cor-2.ensures c.count_value-in-Cor.ensures in
-    let x4 =
-    subst (λ ks. MakesTurn (Jump (length d3.lines + 1 + h.size)) ks d3 c.put_else-in-Cor.new.out) c.as_slice-in-Cor-2.ensures
-    (c.put_else-in-Cor.ensures h.size k) in
-    let x5 = subst (λ v. Makes (value_code v) c.put_else-in-Cor.new.out c.add_value-in-Cor-2.new.out) c.get-in-Cor-3.ensures c.add_value-in-Cor-2.ensures in
-    let e : if_code f g h ≡ choice_code c.args.v.now = search (rules, the_lemmas, c.in-Cor.is) in
-    subst (λ f. Makes f c.args.out.now c.add_value-in-Cor-2.new.out) e
-    (if_makes c.kept-below-in-Cor.ensures.draft c.kept-below-in-Cor.ensures.kinds x1 x2 c.put_truth-in-Cor.ensures x4 x5)
-
-pub add_choice-returns-in-If : goal.add_choice-returns-in-If
-add_choice-returns-in-If t c =
-    let f = value_code c.in-If.c in
-    let g = value_code c.in-If.a in
-    let h = value_code c.in-If.b in
-    let d1 = c.add_value-in-If.new.out in
-    let d3 = c.add_value-in-If-2.new.out in
-    let x1 = subst (λ v. Makes (value_code v) c.kept-below-in-If.new.self d1) c.get-in-If.ensures c.add_value-in-If.ensures in
-    let k2 = subst (λ v. c.count_value-in-If.result ≡ counted (value_code v).size) c.get-in-If-2.ensures c.count_value-in-If.ensures in
-    let x2 =
-    subst (λ ks. MakesTurn (False (length d1.lines + 1 + g.size + 1)) ks d1 c.put_test-in-If.new.out) c.as_slice-in-If.ensures
-    (c.put_test-in-If.ensures g.size k2) in
-    let x3 = subst (λ v. Makes (value_code v) c.put_test-in-If.new.out d3) c.get-in-If-3.ensures c.add_value-in-If-2.ensures in
-    let k4 = subst (λ v. c.count_value-in-If-2.result ≡ counted (value_code v).size) c.get-in-If-4.ensures c.count_value-in-If-2.ensures in
-    let x4 =
-    subst (λ ks. MakesTurn (Jump (length d3.lines + 1 + h.size)) ks d3 c.put_else-in-If.new.out) c.as_slice-in-If-2.ensures
-    (c.put_else-in-If.ensures h.size k4) in
-    let x5 = subst (λ v. Makes (value_code v) c.put_else-in-If.new.out c.add_value-in-If-3.new.out) c.get-in-If-5.ensures c.add_value-in-If-3.ensures in
-    let e : if_code f g h ≡ choice_code c.args.v.now = search (rules, the_lemmas, c.in-If.is) in
-    subst (λ f. Makes f c.args.out.now c.add_value-in-If-3.new.out) e
-    (if_makes c.kept-below-in-If.ensures.draft c.kept-below-in-If.ensures.kinds x1 x2 x3 x4 x5)
 
 pub add_until-returns-in-Some : goal.add_until-returns-in-Some
 add_until-returns-in-Some t c =
