@@ -1,40 +1,31 @@
 -- The code of bodies stands where the tables say, and does what the bodies do.
-use Rattle.std.proofs.Common.{◌≡◌, ℕ, zero, suc, ◌+◌, ◌≤◌, List, [], ◌∷◌, ◌++◌, map, length, drop, Option, Some, None, true, refl, sym, ap, ◌∙◌, subst, arith}
+use Rattle.std.proofs.Common.{◌≡◌, ℕ, zero, suc, ◌+◌, List, [], ◌∷◌, map, length, drop, Some, None, true, refl, sym, ap, subst, arith}
 use Rattle.std.specs.Prelude.{slice_get}
-use Rattle.eu_base.specs.declared.value.Kind.{Kind}
 use Rattle.eu_base.specs.declared.value.Value.{Value}
-use Rattle.eu_base.specs.Cells.{Cells}
 use Rattle.code_form.specs.declared.operand.OperandKind.{OperandKind}
 use Rattle.code_form.specs.declared.instr.Instr.{Instr}
 use Rattle.code_form.specs.declared.instr.Instr.TheVariants.{Back}
 use Rattle.code_form.specs.declared.code.Line.{Line}
 use Rattle.code_form.specs.declared.code.Spot.{Spot}
 use Rattle.code_form.specs.declared.code.Entry.{Entry}
-use Rattle.code_form.specs.Program.{Program, line_of, in_body}
-use Rattle.code_form.specs.Machine.{Position, at, on_result, back_to}
+use Rattle.code_form.specs.Program.{Program, in_body}
+use Rattle.code_form.specs.Machine.{at}
 use Rattle.elan_types.specs.declared.elan_type.ElanType.{ElanType}
-use Rattle.elan_types.specs.declared.core_phrase.Exit.{Exit}
 use Rattle.elan_types.specs.declared.core_phrase.Exit.TheVariants as exits
 use Rattle.elan_types.specs.declared.core_phrase.Content.{Content}
 use Rattle.elan_types.specs.declared.core_phrase.Content.TheVariants as contents
 use Rattle.elan_types.specs.declared.core_phrase.Body.{Body}
 use Rattle.elan_types.specs.Typing.{kind_in, has, is_content_typed}
-use Rattle.elan_types.specs.Eval.{World, Gives, all, act, value}
-use Rattle.elan_types.specs.Command.{Ending}
+use Rattle.elan_types.specs.Eval.{Gives, all, act, value}
 use Rattle.place_gen.specs.Stretch.{one, keeps, all_code, action_code, value_code, content_code}
-use Rattle.place_gen.specs.Correct.{scene_of}
 use Rattle.place_gen.specs.Layouts.{delivered_kind}
 use Rattle.place_gen.proofs.Lines.{HasAt, has_front, has_rest, IsSized, join_sized}
 use Rattle.place_gen.proofs.Homes.{Delivers, Agrees, IsHome, has_is}
-use Rattle.place_gen.proofs.Cells.{Uses}
-use Rattle.place_gen.proofs.Carry.{finish_bind, Result, result_ops, reach, Ends, Exits, on_step, here}
+use Rattle.place_gen.proofs.Carry.{finish_bind, reach, Ends}
+use Rattle.place_gen.proofs.Calls.{leave_ends}
 use Rattle.place_gen.proofs.Tree.{all_are, value_is}
 use Rattle.code_gen.specs.Program.{entry_of, entries, body_lines}
 use Rattle.code_gen.proofs.Level.{ContentCarries}
-
-append-[] : {A : Type 0} (l : List A) → l ++ [] ≡ l
-append-[] [] = refl
-append-[] (x ∷ l) = ap (λ l. x ∷ l) (append-[] l)
 
 abbrev pub IsContentSized : Content → Type 0
 IsContentSized con = (m : Spot) (at : ℕ) → length ((content_code con).lines [] m at) ≡ (content_code con).size
@@ -71,22 +62,6 @@ module _ (p : Program) (variables : List ElanType) (bodies : List Body) (agrees 
       join_sized (value_code a) (one (Back (Some (kind_in u))) (drop 1)) (value_is p variables bodies agrees (Some q) home a u (has_is u _ e)).sized
       (one_sized (Back (Some (kind_in u))) (drop 1)) [] m at
 
-  -- the end of a body is an exit from it
-  back_ends : (b z : ℕ) (k : Option Kind) (v : Option Value) (ks : List OperandKind) (m : Spot) (L : Uses) (c : Position)
-      (l : Exit → Option Value → World → Ending) → slice_get p.lines z ≡ Some (line_of (Back k) ks m) → Delivers p (Some q) k → Result k v
-      → Exits p L b (Some q) c.frames l → (w : World) → w.marks ≤ b → Ends p L (at c z (result_ops v)) w (l exits.Body v w)
-  back_ends b z k v ks m L c l has gives r hl w le =
-      let x = hl.self k gives [] v w r le in λ cells keeps.
-      on_step p (at c z (result_ops v)) x.0 (scene_of w cells) cells _ (here p z (Back k) ks m has c (result_ops v) cells ∙ by k v r cells ∙ x.1 cells)
-      (subst (λ U. Ends p U x.0 w (l exits.Body v w)) (append-[] L) x.2 cells keeps)
-    where
-      by : (k : Option Kind) (v : Option Value) → Result k v → (cells : Cells)
-          → on_result k (result_ops v) (λ result. back_to result c.frames cells) ≡ back_to (result_ops v) c.frames cells
-      by None None r cells = refl
-      by None (Some v) r cells = absurd r
-      by (Some k) None r cells = absurd r
-      by (Some k) (Some v) r cells = refl
-
   pub content_carries : (first : ℕ) (con : Content) → is_content_typed variables bodies (Some q) con ≡ true
       → HasAt p.lines first ((content_code con).lines [] (in_body q) first) → Delivers p (Some q) (delivered_kind con) → ContentCarries p q first con
   content_carries first (contents.Units us) e has gives =
@@ -96,7 +71,8 @@ module _ (p : Program) (variables : List ElanType) (bodies : List Body) (agrees 
         ends = λ calls n b L c le l hl w lw.
             subst (Ends p L (at c first []) w) (sym (finish_bind (all (map act us) (reach calls n c []) w) (λ _. Gives None) (l exits.Body) l))
             ((i.goes calls n b first L [] (in_body q) c [] refl le (has_front p.lines first (f.lines [] (in_body q) first) _ has)).by
-            (λ _ w. l exits.Body None w) l (λ _ w _ le. back_ends b (first + f.size) None None (f.leaves []) (in_body q) L c l h.0 gives tt hl w le) hl w
+            (λ _ w. l exits.Body None w) l
+            (λ _ w _ le'. leave_ends p exits.Body None None L b (first + f.size) (f.leaves []) (in_body q) c [] l tt gives h.0 le.stands.used hl w le') hl w
             lw);
       }
   content_carries first (contents.Value u a) e has gives =
@@ -107,5 +83,6 @@ module _ (p : Program) (variables : List ElanType) (bodies : List Body) (agrees 
             subst (Ends p L (at c first []) w) (sym (finish_bind (value a (reach calls n c []) w) (λ v. Gives (Some v)) (l exits.Body) l))
             ((i.goes calls n b first L [] (in_body q) c [] refl le (has_front p.lines first (f.lines [] (in_body q) first) _ has)).by
             (λ v w. l exits.Body (Some v) w) l
-            (λ v w ok le. back_ends b (first + f.size) (Some (kind_in u)) (Some v) (f.leaves []) (in_body q) L c l h.0 gives ok hl w le) hl w lw);
+            (λ v w ok le'. leave_ends p exits.Body (Some (kind_in u)) (Some v) L b (first + f.size) (f.leaves []) (in_body q) c [] l ok gives h.0
+            le.stands.used hl w le') hl w lw);
       }

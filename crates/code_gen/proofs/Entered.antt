@@ -5,15 +5,15 @@ use Rattle.std.proofs.lemmas.Option.{slice_get_within}
 use Rattle.eu_base.specs.declared.value.Kind.{Kind}
 use Rattle.eu_base.specs.declared.value.Kind.TheVariants as kinds
 use Rattle.eu_base.specs.declared.value.Value.TheVariants as item
-use Rattle.eu_base.specs.Values.{IsOf, blank_of, cell_of}
-use Rattle.eu_base.specs.Cells.{run_cell}
+use Rattle.eu_base.specs.Values.{IsOf, blank_of}
+use Rattle.eu_base.specs.Cells.{Cell, held_of, run_cell}
 use Rattle.eu_base.proofs.Results.{fits_in_range}
 use Rattle.code_form.specs.declared.operand.Operand.{Operand}
 use Rattle.code_form.specs.declared.operand.Operand.TheVariants.{Value as Of, Place as At}
 use Rattle.code_form.specs.declared.operand.OperandKind.{OperandKind}
 use Rattle.code_form.specs.declared.operand.OperandKind.TheVariants as operand
 use Rattle.code_form.specs.Program.{Program}
-use Rattle.code_form.specs.Machine.{Move, on_operands, number_of_operand, frame_numbers}
+use Rattle.code_form.specs.Machine.{Move, on_operands, held_of_operand, frame_contents}
 use Rattle.elan_types.specs.declared.elan_type.ElanType.{ElanType}
 use Rattle.elan_types.specs.Typing.{kind_in}
 use Rattle.elan_types.specs.Eval.{Slot, Holds, Refers, Taken, frame}
@@ -63,20 +63,20 @@ module _ (p : Program) (L : Uses) where
       let e : length ks ≡ length ks + 0 = omega arith in
       ap (λ n. on_operands n [] (pushed_slots p ss ops) go) e ∙ taken ks ss 0 [] ops go t ∙ ap (λ l. go l ops) (append-[] (map slot_operand ss))
 
-  one_kept : (k : OperandKind) (s : Slot) (at : ℕ) → length L ≤ at → Takes p k L s → Kept L at (use_of k) s (number_of_operand (slot_operand s))
-  one_kept (operand.Value k) s at le t = (t.0, t.1, t.2, ap (λ s. number_of_operand (slot_operand s)) t.1)
+  one_kept : (k : OperandKind) (s : Slot) (at : ℕ) → length L ≤ at → Takes p k L s → Kept L at (use_of k) s (held_of_operand (slot_operand s))
+  one_kept (operand.Value k) s at le t = (t.0, t.1, t.2, ap (λ s. held_of_operand (slot_operand s)) t.1)
   one_kept (operand.Place k) s at le t =
-      (t.0, t.1, omega (arith, le, slice_get_within L t.0.variable (OfValue k) t.2), t.2, ap (λ s. number_of_operand (slot_operand s)) t.1)
+      (t.0, t.1, omega (arith, le, slice_get_within L t.0.variable (OfValue k) t.2), t.2, ap (λ s. held_of_operand (slot_operand s)) t.1)
 
   blank_kept : (vs : List ElanType) (at : ℕ)
       → AllKept L at (map use_of (map operand.Value (map kind_in vs))) (map (λ (u : ElanType). Holds (blank_of (kind_in u))) vs)
-      (map (λ (k : Kind). cell_of (blank_of k)) (map kind_in vs))
+      (map (λ (k : Kind). held_of (blank_of k)) (map kind_in vs))
   blank_kept [] at = tt
   blank_kept (v ∷ vs) at = ((blank_of (kind_in v), refl, blank_is (kind_in v), refl), blank_kept vs (suc at))
 
   rest_kept : (ks : List OperandKind) (ss : List Slot) (vs : List ElanType) (at : ℕ) → length L ≤ at → TakeAll p ks L ss
       → AllKept L at (map use_of (ks ++ map operand.Value (map kind_in vs))) (ss ++ map (λ (u : ElanType). Holds (blank_of (kind_in u))) vs)
-      (map number_of_operand (map slot_operand ss) ++ map (λ (k : Kind). cell_of (blank_of k)) (map kind_in vs))
+      (map held_of_operand (map slot_operand ss) ++ map (λ (k : Kind). held_of (blank_of k)) (map kind_in vs))
   rest_kept [] [] vs at le t = blank_kept vs at
   rest_kept [] (s ∷ ss) vs at le t = absurd t
   rest_kept (k ∷ ks) [] vs at le t = absurd t
@@ -84,10 +84,10 @@ module _ (p : Program) (L : Uses) where
 
   -- the cells of a call hold what its slots have
   pub frame_kept : (ks : List OperandKind) (ss : List Slot) (vs : List ElanType) → TakeAll p ks L ss
-      → AllKept L (length L) (frame_uses (ks ++ map operand.Value (map kind_in vs))) (frame ss vs) (frame_numbers (map slot_operand ss) (map kind_in vs))
-  frame_kept ks ss vs t = (refl, (refl, rest_kept ks ss vs (suc (suc (length L))) (omega arith) t))
+      → AllKept L (length L) (frame_uses (ks ++ map operand.Value (map kind_in vs))) (frame ss vs) (frame_contents (map slot_operand ss) (map kind_in vs))
+  frame_kept ks ss vs t = ((refl, refl), ((refl, refl), rest_kept ks ss vs (suc (suc (length L))) (omega arith) t))
 
-pub kept_lengths : (L M : Uses) (at : ℕ) (more : List Slot) (ns : List ℕ) → AllKept L at M more ns → (length more ≡ length M) × (length ns ≡ length M)
+pub kept_lengths : (L M : Uses) (at : ℕ) (more : List Slot) (ns : List Cell) → AllKept L at M more ns → (length more ≡ length M) × (length ns ≡ length M)
 kept_lengths L [] at [] [] h = (refl, refl)
 kept_lengths L [] at (s ∷ more) ns h = absurd h
 kept_lengths L [] at [] (n ∷ ns) h = absurd h

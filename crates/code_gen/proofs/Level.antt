@@ -9,7 +9,7 @@ use Rattle.eu_base.specs.declared.stop.Stop.TheVariants.{CellRoom}
 use Rattle.eu_base.specs.declared.value.Kind.{Kind}
 use Rattle.eu_base.specs.declared.value.Value.{Value}
 use Rattle.eu_base.specs.Room.{cells_fit}
-use Rattle.eu_base.specs.Cells.{Cells}
+use Rattle.eu_base.specs.Cells.{Cell, Cells, without}
 use Rattle.code_form.specs.declared.halt.Halt.TheVariants as halts
 use Rattle.code_form.specs.declared.operand.Operand.{Operand}
 use Rattle.code_form.specs.declared.operand.OperandKind.{OperandKind}
@@ -20,8 +20,8 @@ use Rattle.code_form.specs.declared.code.Layout.TheVariants as layouts
 use Rattle.code_form.specs.declared.instr.Instr.TheVariants.{Call, Refer}
 use Rattle.code_form.specs.Program as tables
 use Rattle.code_form.specs.Program.{Program, line_of, in_body, owner, cells_in, frame_cells}
-use Rattle.code_form.specs.Machine.{Position, free, To, Stops, Spends, at, base_of, bytes_on, bytes_of, enters, calls_to, call_move, refer_move, frame_numbers}
-use Rattle.code_form.specs.Machine.{link_numbers, after_stage, written_from, step}
+use Rattle.code_form.specs.Machine.{Frame, Position, free, To, Stops, Unsaid, Spends, at, base_of, bytes_on, bytes_of, entering, enters, calls_to, call_move}
+use Rattle.code_form.specs.Machine.{refer_move, frame_contents, link_contents, back_into, out_to, after_stage, stage, written_from, step}
 use Rattle.elan_types.specs.declared.core_phrase.Exit.{Exit}
 use Rattle.elan_types.specs.declared.core_phrase.Exit.TheVariants as exits
 use Rattle.elan_types.specs.declared.core_phrase.Scope.{Scope}
@@ -35,10 +35,10 @@ use Rattle.elan_types.specs.Eval.{own_variables, run_called, run_referred, level
 use Rattle.elan_types.specs.Command.{Ending}
 use Rattle.place_gen.specs.Correct.{scene_of}
 use Rattle.place_gen.specs.Layouts.{layout_of}
-use Rattle.place_gen.proofs.Homes.{Delivers}
-use Rattle.place_gen.proofs.Cells.{OfValue, Uses, Keeps, AllKept, image, get_left, get_right, cuts, extends}
-use Rattle.place_gen.proofs.Carry.{use_of, finish, Result, result_ops, reach, After, Ends, Exits, CallsCarry, Stands, Within, TakeAll, pushed_slots, here}
-use Rattle.place_gen.proofs.Carry.{out_carries, spend_carries}
+use Rattle.place_gen.proofs.Homes.{Delivers, LeftBy}
+use Rattle.place_gen.proofs.Cells.{OfValue, Uses, Keeps, AllKept, image, get_left, get_right, cuts, extends, free_beyond}
+use Rattle.place_gen.proofs.Carry.{use_of, finish, Result, result_ops, way_out, reach, After, after_goes, Ends, Exits, wider, CallsCarry, Stands, Within}
+use Rattle.place_gen.proofs.Carry.{TakeAll, pushed_slots, here, out_carries, spend_carries}
 use Rattle.code_gen.proofs.Entered.{slot_operand, frame_uses, link_uses, all_taken, frame_kept, kept_lengths}
 
 -- what comes of a call, and of a reference, as what comes of the body
@@ -72,7 +72,7 @@ module _ (p : Program) where
         → Ends p L (at c first []) w (finish (content con (reach calls n c []) w) (l exits.Body) l)
 
   -- cells are taken for a frame where there is room, and the machine goes into the body
-  room_ends : (L M : Uses) (more : List Slot) (ns : List ℕ) (c inner : Position) (go : World → Outcome (Option Value)) (k : Option Value → World → Ending)
+  room_ends : (L M : Uses) (more : List Slot) (ns : List Cell) (c inner : Position) (go : World → Outcome (Option Value)) (k : Option Value → World → Ending)
       (l : Exit → Option Value → World → Ending) (w : World) (cells : Cells) → c.used ≡ length L → AllKept L (length L) M more ns → Keeps L w.store cells
       → (t : Bool) → (t ≡ true → Ends p (L ++ M) inner (record w { store = w.store ++ more }) (finish (go (record w { store = w.store ++ more })) k l))
       → After p (after_stage (cond t (To inner (written_from c.used ns cells)) (Stops CellRoom)) c (scene_of w cells))
@@ -90,39 +90,47 @@ module _ (p : Program) where
       record { steps = x.steps; rest = x.rest; comes = x.comes; shows = x.shows }
 
   -- a body is entered with these cells
-  abbrev entered : Position → ℕ → ℕ → Bool → List Operand → List ℕ → Position
-  entered c first base refines ops ns =
-      record {
-        pc = first;
-        ops = [];
-        used = c.used + length ns;
-        frames =
-            record { back = c.pc + 1; base = base; used = c.used; refines = refines; ops = ops } ∷ c.frames;
-      }
+  abbrev entered : Position → ℕ → ℕ → Bool → ℕ → List Operand → List Cell → Position
+  entered c first base refines body ops ns = record {
+    pc = first;
+    ops = [];
+    used = c.used + length ns;
+    frames =
+        record { back = c.pc + 1; base = base; used = c.used; refines = refines; body = body; ops = ops } ∷ c.frames;
+  }
 
   -- with the cells of a frame in use, that those of the frame below are where they were
-  enter_ends : (L M : Uses) (more : List Slot) (ns : List ℕ) (c : Position) (first base : ℕ) (refines : Bool) (ops : List Operand)
+  enter_ends : (L M : Uses) (more : List Slot) (ns : List Cell) (c : Position) (first base : ℕ) (refines : Bool) (body : ℕ) (ops : List Operand)
       (go : World → Outcome (Option Value)) (k : Option Value → World → Ending) (l : Exit → Option Value → World → Ending) (w : World) (cells : Cells)
       → c.used ≡ length L → AllKept L (length L) M more ns → Keeps L w.store cells
       → (length (L ++ M) ≤ CELLS
-      → Ends p (L ++ M) (entered c first base refines ops ns) (record w { store = w.store ++ more })
+      → Ends p (L ++ M) (entered c first base refines body ops ns) (record w { store = w.store ++ more })
       (finish (go (record w { store = w.store ++ more })) k l))
-      → After p (after_stage (enters c first base refines ops ns cells) c (scene_of w cells)) (finish (with_room more go w) k l)
-  enter_ends L M more ns c first base refines ops go k l w cells used kept h e =
+      → After p (after_stage (enters c first base refines body ops ns cells) c (scene_of w cells)) (finish (with_room more go w) k l)
+  enter_ends L M more ns c first base refines body ops go k l w cells used kept h e =
       let lengths = kept_lengths L M (length L) more ns kept in
       let same : c.used + length ns ≡ length w.store + length more = omega (arith, used, h.as_many, lengths.0, lengths.1) in
       let all : length (L ++ M) ≡ c.used + length ns = omega (arith, used, lengths.1, length-append L M) in
-      let inner = entered c first base refines ops ns in
-      subst (λ n. After p (after_stage (enters c first base refines ops ns cells) c (scene_of w cells))
+      let free' = free_beyond ns c.used cells (λ x le. h.beyond x (omega (arith, le, used))) in
+      let inner = entered c first base refines body ops ns in
+      subst (λ t. After p (after_stage (cond t (entering c first base refines body ops ns cells) Unsaid) c (scene_of w cells))
+      (finish (with_room more go w) k l)) (sym free')
+      (subst (λ n. After p (after_stage (entering c first base refines body ops ns cells) c (scene_of w cells))
       (finish (branch (cells_fit n) (λ w. go (record w { store = w.store ++ more })) (Stopped CellRoom) w) k l)) same
       (room_ends L M more ns c inner go k l w cells used kept h (cells_fit (c.used + length ns))
-      (λ t. e (subst (λ n. n ≤ CELLS) (sym all) (leb-true (c.used + length ns) CELLS t))))
+      (λ t. e (subst (λ n. n ≤ CELLS) (sym all) (leb-true (c.used + length ns) CELLS t)))))
 
   -- what comes after a body, with its cells given back
-  cut_ends : (L M more : Uses) (n : ℕ) (c : Position) (v : Option Value) (w : World) (k : Option Value → World → Ending) → n ≡ length L
-      → Ends p L c (cut n w) (k v (cut n w)) → Ends p ((L ++ M) ++ more) c w (k v (cut n w))
-  cut_ends L M more n c v w k is e cells keeps =
-      e cells (cuts L (M ++ more) w.store cells n is (subst (λ U. Keeps U w.store cells) (append_assoc L M more) keeps))
+  back_after : (L M more : Uses) (n : ℕ) (f : Frame) (fs : List Frame) (c : Position) (v : Option Value) (w : World) (k : Option Value → World → Ending)
+      → n ≡ length L → f.used ≡ length L → c.used ≡ length (L ++ M) + length more
+      → Ends p L (record { pc = f.back; ops = result_ops v ++ f.ops; used = f.used; frames = fs }) (cut n w) (k v (cut n w)) → (cells : Cells)
+      → Keeps ((L ++ M) ++ more) w.store cells → After p (stage (back_into (result_ops v) c.used f fs cells) c (scene_of w cells)) (k v (cut n w))
+  back_after L M more n f fs c v w k is f_is used e cells keeps =
+      let next : Position = record { pc = f.back; ops = result_ops v ++ f.ops; used = f.used; frames = fs } in
+      let all : c.used ≡ length (L ++ (M ++ more)) = omega (arith, used, length-append L M, length-append M more, length-append L (M ++ more)) in
+      let now = without f.used c.used cells in
+      after_goes p c next (scene_of w cells) now (k v (cut n w)) (e now
+      (cuts L (M ++ more) w.store cells n f.used c.used is f_is all (subst (λ U. Keeps U w.store cells) (append_assoc L M more) keeps)))
 
 -- an entry of the tables is that of a body, whose code does what the body does
 pub record IsMade (p : Program) (bodies : List Body) (q : ℕ) (e : Entry) : Type 0 where
@@ -152,6 +160,45 @@ module _ (bodies : List Body) (p : Program) where
   frame_own : (q : ℕ) (e : Entry) (ks : List OperandKind) (vs : List Kind) → slice_get p.bodies q ≡ Some e → e.layout ≡ layouts.Own ks vs
       → frame_cells p (Some q) ≡ ks ++ map operand.Value vs
   frame_own q e ks vs is own = ap (cells_in p) (owner_own q e ks vs is own) ∙ ap (λ o. tables.cells_at (tables.layout_of o)) is ∙ ap tables.cells_of own
+
+  -- a PROC is left by both exits to where it was called
+  call_exits : (L M : Uses) (q n b : ℕ) (e : Entry) (ks : List OperandKind) (vs : List Kind) (f : Frame) (fs : List Frame)
+      (k : Option Value → World → Ending) → slice_get p.bodies q ≡ Some e → e.layout ≡ layouts.Own ks vs → f.refines ≡ false → n ≡ length L
+      → f.used ≡ length L → ((v : Option Value) (w : World) → Result e.delivers v → w.marks ≤ b
+      → Ends p L (record { pc = f.back; ops = result_ops v ++ f.ops; used = f.used; frames = fs }) w (k v w))
+      → Exits p (L ++ M) b (Some q) (f ∷ fs) (λ x v w. k v (cut n w))
+  call_exits L M q n b e ks vs f fs k is own calls n_is f_is hk = record {
+    by = λ x d gives more v w r le c used cells keeps.
+        let r' = subst (λ d. Result d v) (sym (delivers_is q e d is (gives_own x d gives))) r in
+        subst (λ m. After p (stage m c (scene_of w cells)) (k v (cut n w))) (sym (way x (result_ops v) c.used cells))
+        (back_after p L M more n f fs c v w k n_is f_is used (hk v (cut n w) r' le) cells keeps);
+  }
+    where
+      gives_own : (x : Exit) (d : Option Kind) → LeftBy p (Some q) x d → Delivers p (Some q) d
+      gives_own exits.Body d gives = gives
+      gives_own exits.Around d gives = subst (λ o. Delivers p o d) (owner_own q e ks vs is own) gives
+
+      way : (x : Exit) (result : List Operand) (used : ℕ) (cells : Cells) → way_out x result used (f ∷ fs) cells ≡ back_into result used f fs cells
+      way exits.Body result used cells = refl
+      way exits.Around result used cells = ap (λ t. cond t (out_to result used fs cells) (back_into result used f fs cells)) calls
+
+  -- a refinement is left to where it was named, and with the frames around it by the exit around
+  refer_exits : (L M : Uses) (q n b : ℕ) (home : Option ℕ) (e : Entry) (f : Frame) (fs : List Frame) (k : Option Value → World → Ending)
+      (l : Exit → Option Value → World → Ending) → slice_get p.bodies q ≡ Some e → owner p (Some q) ≡ owner p home → f.refines ≡ true → n ≡ length L
+      → f.used ≡ length L → ((v : Option Value) (w : World) → Result e.delivers v → w.marks ≤ b
+      → Ends p L (record { pc = f.back; ops = result_ops v ++ f.ops; used = f.used; frames = fs }) w (k v w)) → Exits p L b home fs l
+      → Exits p (L ++ M) b (Some q) (f ∷ fs) (from_refinement n k l)
+  refer_exits L M q n b home e f fs k l is owned refines n_is f_is hk hl = record { by = by }
+    where
+      by : (x : Exit) (d : Option Kind) → LeftBy p (Some q) x d → (more : Uses) (v : Option Value) (w : World) → Result d v → w.marks ≤ b → (c : Position)
+          → c.used ≡ length (L ++ M) + length more → (cells : Cells) → Keeps ((L ++ M) ++ more) w.store cells
+          → After p (stage (way_out x (result_ops v) c.used (f ∷ fs) cells) c (scene_of w cells)) (from_refinement n k l x v w)
+      by exits.Body d gives more v w r le c used cells keeps =
+          back_after p L M more n f fs c v w k n_is f_is used (hk v (cut n w) (subst (λ d. Result d v) (sym (delivers_is q e d is gives)) r) le) cells keeps
+      by exits.Around d gives more v w r le c used cells keeps =
+          subst (λ t. After p (stage (cond t (out_to (result_ops v) c.used fs cells) (back_into (result_ops v) c.used f fs cells)) c (scene_of w cells))
+          (l exits.Around v w)) (sym refines)
+          ((wider p L M hl).by exits.Around d (subst (λ o. Delivers p o d) owned gives) more v w r le c used cells keeps)
 
   -- the cells in use behind the frame below are those of the call
   stands_called : (L : Uses) (m : Spot) (c c' : Position) (q : ℕ) (cells : List OperandKind) → Stands p L m c → length (L ++ frame_uses cells) ≤ CELLS
@@ -186,8 +233,8 @@ module _ (bodies : List Body) (p : Program) where
         → (k : Option Value → World → Ending) (l : Exit → Option Value → World → Ending)
         → ((v : Option Value) (w : World) → Result e.delivers v → w.marks ≤ b → Ends p L (at c (pc + 1) (result_ops v ++ ops)) w (k v w)) → (w : World)
         → w.marks ≤ b → (cells : Cells) → Keeps L w.store cells
-        → After p (after_stage (enters (at c pc (pushed_slots p args ops)) e.first (c.used + 2) false ops
-        (frame_numbers (map slot_operand args) (map kind_in us)) cells) (at c pc (pushed_slots p args ops)) (scene_of w cells))
+        → After p (after_stage (enters (at c pc (pushed_slots p args ops)) e.first (c.used + 2) false q ops
+        (frame_contents (map slot_operand args) (map kind_in us)) cells) (at c pc (pushed_slots p args ops)) (scene_of w cells))
         (finish (with_room (frame args us)
         (λ w'. called (length w.store)
         (content con (record { calls = level bodies n; turns = n; base = length w.store + 2; held = bytes_on ops (bytes_of c.frames) }) w')) w) k l)
@@ -195,29 +242,21 @@ module _ (bodies : List Body) (p : Program) where
         let now = at c pc (pushed_slots p args ops) in
         let N = length w.store in
         let same : c.used ≡ N = omega (arith, h.used, keeps.as_many) in
-        let long : N ≡ length L = keeps.as_many in
         let frame' = ks ++ map operand.Value (map kind_in us) in
         let M = frame_uses frame' in
-        let ns = frame_numbers (map slot_operand args) (map kind_in us) in
+        let ns = frame_contents (map slot_operand args) (map kind_in us) in
         let kept = frame_kept p L ks args us takes in
         let w' : World = record w { store = w.store ++ frame args us } in
-        let inner = entered p now e.first (c.used + 2) false ops ns in
+        let inner = entered p now e.first (c.used + 2) false q ops ns in
         let l' = λ (x : Exit) (v : Option Value) (w : World). k v (cut N w) in
-        let to = λ (v : Option Value). at c (pc + 1) (result_ops v ++ ops) in
         let go = λ (z : ℕ) (w : World). content con (record { calls = level bodies n; turns = n; base = z + 2; held = bytes_on ops (bytes_of c.frames) }) w in
-        let back = λ (d : Option Kind) (gives : Delivers p (Some q) d) (more : Uses) (v : Option Value) (w : World) (r : Result d v) (lw : w.marks ≤ b).
-        cut_ends p L M more N (to v) v w k long (hk v (cut N w) (subst (λ d. Result d v) (sym (delivers_is q e d is gives)) r) lw) in
-        enter_ends p L M (frame args us) ns now e.first (c.used + 2) false ops (λ w. called N (go N w)) k l w cells h.used kept keeps (λ room.
+        let f : Frame = record { back = pc + 1; base = c.used + 2; used = c.used; refines = false; body = q; ops = ops } in
+        enter_ends p L M (frame args us) ns now e.first (c.used + 2) false q ops (λ w. called N (go N w)) k l w cells h.used kept keeps (λ room.
         let base : c.used + 2 ≡ length L + 2 = omega (arith, h.used) in
         let used : c.used + length ns ≡ length (L ++ M) = omega (arith, h.used, length-append L M, (kept_lengths L M (length L) (frame args us) ns kept).1) in
         let within : Within p (level bodies n) n b (L ++ M) (in_body q) inner =
         record { turns = le; stands = stands_called L m c inner q frame' h room used base (frame_own q e ks (map kind_in us) is own); carry = calls } in
-        let exits' : Exits p (L ++ M) b (Some q) inner.frames l' = record {
-          self = λ d gives more v w r lw. (to v, λ cells. refl, back d gives more v w r lw);
-          around =
-              λ d gives more v w r lw.
-              (to v, λ cells. refl, back d (subst (λ o. Delivers p o d) (owner_own q e ks (map kind_in us) is own) gives) more v w r lw);
-        } in
+        let exits' = call_exits L M q N b e ks (map kind_in us) f c.frames k is own refl keeps.as_many h.used hk in
         subst (λ o. Ends p (L ++ M) inner w' o) (sym (finish_called N (go N w') k l))
         (subst (λ z. Ends p (L ++ M) inner w' (finish (go z w') (λ v w. k v (cut N w)) l')) same
         (body.ends (level bodies n) n b (L ++ M) inner within l' exits' w' lw)))
@@ -228,7 +267,7 @@ module _ (bodies : List Body) (p : Program) where
         → (k : Option Value → World → Ending) (l : Exit → Option Value → World → Ending)
         → ((v : Option Value) (w : World) → Result e.delivers v → w.marks ≤ b → Ends p L (at c (pc + 1) (result_ops v ++ ops)) w (k v w))
         → Exits p L b m.body c.frames l → (w : World) → w.marks ≤ b → (cells : Cells) → Keeps L w.store cells
-        → After p (after_stage (enters (at c pc ops) e.first (base_of c.frames) true ops link_numbers cells) (at c pc ops) (scene_of w cells))
+        → After p (after_stage (enters (at c pc ops) e.first (base_of c.frames) true q ops link_contents cells) (at c pc ops) (scene_of w cells))
         (finish (with_room link (λ w'.
         referred (length w.store)
         (content con (record { calls = level bodies n; turns = n; base = base_of c.frames; held = bytes_on ops (bytes_of c.frames) }) w')) w) k l)
@@ -237,53 +276,44 @@ module _ (bodies : List Body) (p : Program) where
         let N = length w.store in
         let M = link_uses in
         let w' : World = record w { store = w.store ++ link } in
-        let inner = entered p now e.first (base_of c.frames) true ops link_numbers in
-        let l' = from_refinement N k l in
-        let to = λ (v : Option Value). at c (pc + 1) (result_ops v ++ ops) in
+        let inner = entered p now e.first (base_of c.frames) true q ops link_contents in
         let go =
         λ (w : World). content con (record { calls = level bodies n; turns = n; base = base_of c.frames; held = bytes_on ops (bytes_of c.frames) }) w in
-        enter_ends p L M link link_numbers now e.first (base_of c.frames) true ops (λ w. referred N (go w)) k l w cells h.used (refl, (refl, tt)) keeps (λ room.
-        let used : c.used + length link_numbers ≡ length (L ++ M) = omega (arith, h.used, length-append L M) in
+        let f : Frame = record { back = pc + 1; base = base_of c.frames; used = c.used; refines = true; body = q; ops = ops } in
+        enter_ends p L M link link_contents now e.first (base_of c.frames) true q ops (λ w. referred N (go w)) k l w cells h.used
+        ((refl, refl), ((refl, refl), tt)) keeps
+        (λ room.
+        let used : c.used + length link_contents ≡ length (L ++ M) = omega (arith, h.used, length-append L M) in
         let within : Within p (level bodies n) n b (L ++ M) (in_body q) inner =
         record { turns = le; stands = stands_referred L m c inner q h room used refl owned; carry = calls } in
-        let exits' : Exits p (L ++ M) b (Some q) inner.frames l' = record {
-          self =
-              λ d gives more v w r lw. (
-                to v,
-                λ cells. refl,
-                cut_ends p L M more N (to v) v w k keeps.as_many
-                    (hk v (cut N w) (subst (λ d. Result d v) (sym (delivers_is q e d is gives)) r) lw),
-              );
-          around = λ d gives more v w r lw.
-              let x = hl.around d (subst (λ o. Delivers p o d) owned gives) (M ++ more) v w r lw in
-              (x.0, x.1, subst (λ U. Ends p U x.0 w (l exits.Around v w)) (sym (append_assoc L M more)) x.2);
-        } in
-        subst (λ o. Ends p (L ++ M) inner w' o) (sym (finish_referred N (go w') k l)) (body.ends (level bodies n) n b (L ++ M) inner within l' exits' w' lw))
+        let exits' = refer_exits L M q N b m.body e f c.frames k l is owned refl keeps.as_many h.used hk hl in
+        subst (λ o. Ends p (L ++ M) inner w' o) (sym (finish_referred N (go w') k l))
+        (body.ends (level bodies n) n b (L ++ M) inner within (from_refinement N k l) exits' w' lw))
 
     call_step : (pc q : ℕ) (L : Uses) (ks : List OperandKind) (m : Spot) (c : Position) (ops : List Operand) (e : Entry) (parameters : List OperandKind)
         (vs : List Kind) (args : List Slot) → slice_get p.lines pc ≡ Some (line_of (Call q) ks m) → slice_get p.bodies q ≡ Some e
         → e.layout ≡ layouts.Own parameters vs → TakeAll p parameters L args → (cells : Cells)
         → step p (at c pc (pushed_slots p args ops)) cells
-        ≡ Spends (enters (at c pc (pushed_slots p args ops)) e.first (c.used + 2) false ops (frame_numbers (map slot_operand args) vs) cells)
+        ≡ Spends (enters (at c pc (pushed_slots p args ops)) e.first (c.used + 2) false q ops (frame_contents (map slot_operand args) vs) cells)
     call_step pc q L ks m c ops e parameters vs args has is own takes cells =
         let now = at c pc (pushed_slots p args ops) in
-        here p pc (Call q) ks m has c (pushed_slots p args ops) cells ∙ ap (λ o. call_move now o cells) is ∙ ap (λ x. calls_to now e.first x cells) own
-        ∙ all_taken p L parameters args ops (λ args ops. Spends (enters now e.first (c.used + 2) false ops (frame_numbers args vs) cells)) takes
+        here p pc (Call q) ks m has c (pushed_slots p args ops) cells ∙ ap (λ o. call_move now q o cells) is ∙ ap (λ x. calls_to now q e.first x cells) own
+        ∙ all_taken p L parameters args ops (λ args ops. Spends (enters now e.first (c.used + 2) false q ops (frame_contents args vs) cells)) takes
 
     refer_step : (pc q : ℕ) (ks : List OperandKind) (m : Spot) (c : Position) (ops : List Operand) (e : Entry)
         → slice_get p.lines pc ≡ Some (line_of (Refer q) ks m) → slice_get p.bodies q ≡ Some e → (cells : Cells)
-        → step p (at c pc ops) cells ≡ Spends (enters (at c pc ops) e.first (base_of c.frames) true ops link_numbers cells)
-    refer_step pc q ks m c ops e has is cells = here p pc (Refer q) ks m has c ops cells ∙ ap (λ o. refer_move (at c pc ops) o cells) is
+        → step p (at c pc ops) cells ≡ Spends (enters (at c pc ops) e.first (base_of c.frames) true q ops link_contents cells)
+    refer_step pc q ks m c ops e has is cells = here p pc (Refer q) ks m has c ops cells ∙ ap (λ o. refer_move (at c pc ops) q o cells) is
 
     -- so calls are carried, however many marks there are
     pub level_carries : (n : ℕ) → CallsCarry p (level bodies n) n
     level_carries zero = record {
       call = λ L b pc q ks m c ops e parameters vs args le h has is own takes.
           out_carries p b (at c pc (pushed_slots p args ops))
-          (λ cells. enters (at c pc (pushed_slots p args ops)) e.first (c.used + 2) false ops (frame_numbers (map slot_operand args) vs) cells)
+          (λ cells. enters (at c pc (pushed_slots p args ops)) e.first (c.used + 2) false q ops (frame_contents (map slot_operand args) vs) cells)
           (λ v. at c (pc + 1) (result_ops v ++ ops)) le (call_step pc q L ks m c ops e parameters vs args has is own takes);
       refer = λ L b pc q ks m c ops e le h has is owned.
-          out_carries p b (at c pc ops) (λ cells. enters (at c pc ops) e.first (base_of c.frames) true ops link_numbers cells)
+          out_carries p b (at c pc ops) (λ cells. enters (at c pc ops) e.first (base_of c.frames) true q ops link_contents cells)
           (λ v. at c (pc + 1) (result_ops v ++ ops)) le (refer_step pc q ks m c ops e has is);
     }
     level_carries (suc n) = record {
@@ -294,11 +324,12 @@ module _ (bodies : List Body) (p : Program) where
           let own' : e.layout ≡ layouts.Own parameters (map kind_in us) = own ∙ ap (layouts.Own parameters) (sym vs_are) in
           let held = bytes_on ops (bytes_of c.frames) in
           let now = at c pc (pushed_slots p args ops) in
-          spend_carries p b now (λ cells. enters now e.first (c.used + 2) false ops (frame_numbers (map slot_operand args) (map kind_in us)) cells)
+          spend_carries p b now (λ cells. enters now e.first (c.used + 2) false q ops (frame_contents (map slot_operand args) (map kind_in us)) cells)
           (run_called (level bodies n) n (slice_get bodies q) args held) (λ v. at c (pc + 1) (result_ops v ++ ops))
           (call_step pc q L ks m c ops e parameters (map kind_in us) args has is own' takes) (λ b' lt. record {
             by = λ k l hk hl w lw cells keeps.
-                subst (λ o. After p (after_stage (enters now e.first (c.used + 2) false ops (frame_numbers (map slot_operand args) (map kind_in us)) cells) now
+                subst (λ o. After p (after_stage (enters now e.first (c.used + 2) false q ops (frame_contents (map slot_operand args) (map kind_in us)) cells)
+                now
                 (scene_of w cells)) (finish (run_called (level bodies n) n o args held w) k l)) (sym x.is)
                 (call_ends n b' pc q L m c ops e parameters us args x.body.content (level_carries n) (omega (arith, le, lt)) h is own' takes x.carry k l hk w lw
                 cells keeps);
@@ -307,11 +338,11 @@ module _ (bodies : List Body) (p : Program) where
           let x = made q e is in
           let held = bytes_on ops (bytes_of c.frames) in
           let now = at c pc ops in
-          spend_carries p b now (λ cells. enters now e.first (base_of c.frames) true ops link_numbers cells)
+          spend_carries p b now (λ cells. enters now e.first (base_of c.frames) true q ops link_contents cells)
           (run_referred (level bodies n) n (slice_get bodies q) (base_of c.frames) held) (λ v. at c (pc + 1) (result_ops v ++ ops))
           (refer_step pc q ks m c ops e has is) (λ b' lt. record {
             by = λ k l hk hl w lw cells keeps.
-                subst (λ o. After p (after_stage (enters now e.first (base_of c.frames) true ops link_numbers cells) now (scene_of w cells))
+                subst (λ o. After p (after_stage (enters now e.first (base_of c.frames) true q ops link_contents cells) now (scene_of w cells))
                 (finish (run_referred (level bodies n) n o (base_of c.frames) held w) k l)) (sym x.is)
                 (refer_ends n b' pc q L m c ops e x.body.content (level_carries n) (omega (arith, le, lt)) h is owned x.carry k l hk hl w lw cells keeps);
           });

@@ -1,5 +1,5 @@
 -- A command that is run in pieces shows what it does.
-use Rattle.std.proofs.Common.{◌≡◌, ℕ, zero, suc, ◌+◌, List, [], ◌∷◌, ◌++◌, map, length, Some, true, refl, sym, ap, ◌∙◌, subst}
+use Rattle.std.proofs.Common.{◌≡◌, ℕ, zero, suc, ◌+◌, ◌≤◌, List, [], ◌∷◌, ◌++◌, map, length, Some, true, refl, sym, ap, ◌∙◌, subst}
 use Rattle.std.specs.Prelude.{slice_get}
 use Rattle.std.proofs.lemmas.List.{length-map}
 use Rattle.eu_base.specs.declared.value.Kind.{Kind}
@@ -8,7 +8,7 @@ use Rattle.eu_base.specs.declared.value.Value.{Value}
 use Rattle.eu_base.specs.declared.request.Reply.{Reply}
 use Rattle.eu_base.specs.Values.{IsOf, blank_of}
 use Rattle.eu_base.specs.Room.{cells_fit}
-use Rattle.eu_base.specs.Cells.{Cells, IsBlank, run_cell}
+use Rattle.eu_base.specs.Cells.{Free, Cells, IsBlank, run_cell}
 use Rattle.eu_base.proofs.Results.{fits_in_range}
 use Rattle.code_form.specs.Program.{Program}
 use Rattle.code_form.specs.Machine.{Control, Rest, start}
@@ -40,10 +40,11 @@ blank_slot [] x s e = let f : ⊥ = cc in absurd f
 blank_slot (u ∷ us) zero s e = let f : s ≡ Holds (blank_of (kind_in u)) = cc in (kind_in u, refl, f)
 blank_slot (u ∷ us) (suc x) s e = blank_slot us x s e
 
--- variables that were made hold the values that a command starts with
+-- variables that were made hold the values that a command starts with, where nothing is known of the cells behind
 pub has_blank : (core : Core) (cells : Cells) → (cells_fit (length (map kind_in core.variables)) ≡ true → IsBlank (map kind_in core.variables) cells)
+    → ((x : ℕ) → length (map kind_in core.variables) ≤ x → cells (run_cell x) ≡ Free)
     → HasVariables (map kind_in core.variables) (blank_store core) cells
-has_blank core cells blank =
+has_blank core cells blank beyond =
     let as_many : length (blank_store core) ≡ length (map kind_in core.variables) =
     length-map core.variables (λ (u : ElanType). Holds (blank_of (kind_in u))) ∙ sym (length-map core.variables kind_in) in record {
       as_many = as_many;
@@ -51,6 +52,7 @@ has_blank core cells blank =
       image = λ room x s e.
           let f = blank_slot core.variables x s e in
           subst (StandsFor (cells (run_cell x))) (sym f.2) (blank (subst (λ n. cells_fit n ≡ true) as_many room) x f.0 f.1);
+      beyond = beyond;
     }
 
 -- where a command comes to rest that was run in pieces, it shows what evaluation gives with the marks that were spent and those that

@@ -20,6 +20,7 @@ use Rattle.code_form.proofs.Resume.{one_rest}
 use Rattle.elan_types.specs.declared.core_phrase.Body.{Body}
 use Rattle.elan_types.specs.declared.core_phrase.Core.{Core}
 use Rattle.elan_types.specs.declared.core_phrase.Exit.{Exit}
+use Rattle.elan_types.specs.declared.core_phrase.Exit.TheVariants as exits
 use Rattle.elan_types.specs.Typing.{kind_in, IsWellTyped}
 use Rattle.elan_types.specs.Eval.{Slot, Holds, Taken, slot_at, World, Outcome, Gives, Left, Stopped, OutOfMarks, Asks, branch, all, act, level}
 use Rattle.elan_types.specs.Command as endings
@@ -28,7 +29,7 @@ use Rattle.place_gen.specs.Stretch.{Stretch, keeps, all_code, action_code, conte
 use Rattle.place_gen.specs.Correct.{HasVariables, Shows, Comes, scene_of}
 use Rattle.place_gen.specs.Layouts.{delivered_kind}
 use Rattle.place_gen.proofs.Lines.{HasAt, has_front, has_rest}
-use Rattle.place_gen.proofs.Homes.{Delivers}
+use Rattle.place_gen.proofs.Homes.{Delivers, LeftBy}
 use Rattle.place_gen.proofs.Cells.{Use, OfValue, Uses, Kept, Keeps}
 use Rattle.place_gen.proofs.Carry.{finish, Exits, Stands, Within, end_ends, here}
 use Rattle.place_gen.proofs.Forms.{IsAction}
@@ -59,6 +60,7 @@ level_kept : (kinds : List Kind) (store : List Slot) (cells : Cells) → HasVari
 level_kept kinds store cells h room = record {
   as_many = h.as_many ∙ sym (length-map kinds OfValue);
   each = λ x u e. by x u (slice_get kinds x) refl (sym (slice_get-map OfValue kinds x) ∙ e);
+  beyond = λ x past. h.beyond x (omega (arith, past, length-map kinds OfValue));
 }
   where
     by : (x : ℕ) (u : Use) (k : Option Kind) → slice_get kinds x ≡ k → option_map OfValue k ≡ Some u
@@ -108,7 +110,11 @@ module _ (core : Core) (typed : IsWellTyped core) where
   top = record { pc = 0; ops = []; used = number; frames = [] }
 
   no_exits : (b : ℕ) (l : Exit → Option Value → World → Ending) → Exits p (level_uses p.variables) b None [] l
-  no_exits b l = record { self = λ k d more v w r le. absurd d; around = λ k d more v w r le. absurd d }
+  no_exits b l = record { by = λ e k d. absurd (none e k d) }
+    where
+      none : (e : Exit) (k : Option Kind) → LeftBy p None e k → ⊥
+      none exits.Body k d = d
+      none exits.Around k d = d
 
   stands : number ≤ CELLS → Stands p (level_uses p.variables) at_level top
   stands room = record {

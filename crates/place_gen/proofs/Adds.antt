@@ -1,12 +1,11 @@
 -- What several steps of the making of code add together.
 use Rattle.std.proofs.Common.{◌≡◌, ℕ, ◌+◌, List, [], ◌∷◌, ◌++◌, length, drop, Some, ap, ◌∙◌, arith, append_assoc, sym}
-use Rattle.eu_base.specs.declared.operation.Way.{Way}
 use Rattle.code_form.specs.declared.operand.OperandKind.{OperandKind}
-use Rattle.code_form.specs.declared.instr.Instr.TheVariants.{Mark, Jump, False, Limit, Unlimit}
-use Rattle.code_form.specs.Program.{line_of, deeper}
+use Rattle.code_form.specs.declared.instr.Instr.TheVariants.{Mark, Jump, False}
+use Rattle.code_form.specs.Program.{line_of}
 use Rattle.elan_types.specs.Eval.{Labelled}
 use Rattle.place_gen.specs.declared.draft.Draft.{Draft}
-use Rattle.place_gen.specs.Stretch.{Stretch, one, keeps, join, if_code, whens, whens_code, arm_code, Exit, exit_join, until_code, turns_code, limit_code}
+use Rattle.place_gen.specs.Stretch.{Stretch, one, keeps, join, if_code, whens, whens_code, arm_code, Exit, exit_join, until_code, turns_code}
 use Rattle.place_gen.specs.Adds.{Adds, AddsExit, AddsArm, Restores, Turns}
 
 -- two stretches, one after the other

@@ -1,35 +1,61 @@
 -- What calls, references to refinements and LEAVE do, whatever the actuals are and whatever calls do.
-use Rattle.std.proofs.Common.{◌≡◌, ℕ, ◌+◌, List, [], ◌∷◌, ◌++◌, length, drop, Option, Some, None, refl, sym, ap, ◌∙◌, subst, arith}
+use Rattle.std.proofs.Common.{◌≡◌, ℕ, ◌+◌, ◌≤◌, List, [], ◌∷◌, ◌++◌, length, drop, Option, Some, None, refl, sym, ap, ◌∙◌, subst, arith}
 use Rattle.std.specs.Prelude.{slice_get}
 use Rattle.eu_base.specs.declared.value.Kind.{Kind}
 use Rattle.eu_base.specs.declared.value.Value.{Value}
-use Rattle.eu_base.specs.Values.{IsOf}
+use Rattle.eu_base.specs.Cells.{Cells}
 use Rattle.code_form.specs.declared.operand.Operand.{Operand}
 use Rattle.code_form.specs.declared.operand.Operand.TheVariants.{Value as Of}
 use Rattle.code_form.specs.declared.operand.OperandKind.{OperandKind}
 use Rattle.code_form.specs.declared.operand.OperandKind.TheVariants as operand
-use Rattle.code_form.specs.declared.instr.Instr.TheVariants.{Call, Back, Out}
+use Rattle.code_form.specs.declared.instr.Instr.TheVariants.{Call}
 use Rattle.code_form.specs.declared.code.Spot.{Spot}
 use Rattle.code_form.specs.declared.code.Entry.{Entry}
 use Rattle.code_form.specs.declared.code.Layout.TheVariants as layouts
-use Rattle.code_form.specs.Program.{Program, owner}
-use Rattle.code_form.specs.Machine.{Position, at, base_of, bytes_on, bytes_of}
+use Rattle.code_form.specs.Program.{Program, owner, line_of}
+use Rattle.code_form.specs.Machine.{Position, Move, at, base_of, bytes_on, bytes_of, on_result, instruction}
 use Rattle.code_form.specs.Valid.{with_result}
 use Rattle.elan_types.specs.declared.core_phrase.Exit.{Exit}
 use Rattle.elan_types.specs.declared.core_phrase.Exit.TheVariants as exits
-use Rattle.elan_types.specs.Eval.{Place, Slot, Holds, Refers, Taken, Gives, Left, bind, holding_slot, actuals, delivered, Calls, Run}
+use Rattle.elan_types.specs.Eval.{Place, Slot, Holds, Refers, Taken, World, Gives, Left, bind, holding_slot, actuals, delivered, Calls, Run}
 use Rattle.place_gen.specs.Stretch.{Stretch, none, one, keeps, join, all_code, call_code, refer_code, leave_instr}
+use Rattle.elan_types.specs.Command.{Ending}
 use Rattle.place_gen.specs.Correct.{scene_of}
-use Rattle.place_gen.proofs.Lines.{HasAt, join_sized}
-use Rattle.place_gen.proofs.Homes.{Delivers, LeftBy}
-use Rattle.place_gen.proofs.Cells.{Uses}
-use Rattle.place_gen.proofs.Carry.{Any, OfKind, Result, result_ops, reach, Ends, Carries, Takes, TakeAll, operand_of, pushed_slots, on_step, then_carries}
-use Rattle.place_gen.proofs.Carry.{none_carries, here, ends_at, join_carries}
+use Rattle.place_gen.proofs.Lines.{join_sized}
+use Rattle.place_gen.proofs.Homes.{LeftBy}
+use Rattle.place_gen.proofs.Cells.{Uses, Keeps}
+use Rattle.place_gen.proofs.Carry.{Any, OfKind, Result, result_ops, way_out, reach, Ends, Exits, Carries, Takes, TakeAll, operand_of, pushed_slots, on_move}
+use Rattle.place_gen.proofs.Carry.{then_carries, none_carries, here, ends_at, join_carries}
 use Rattle.place_gen.proofs.Forms.{keep, keep_place, Is, IsValue, IsPlace, IsAction}
 
 append-[] : {A : Type 0} (l : List A) → l ++ [] ≡ l
 append-[] [] = refl
 append-[] (x ∷ l) = ap (λ l. x ∷ l) (append-[] l)
+
+-- the instruction that leaves a body
+module _ (p : Program) where
+  leave_move : (e : Exit) (k : Option Kind) (c : Position) (cells : Cells)
+      → instruction p (Some (leave_instr e k)) c cells ≡ on_result k c.ops (λ result. way_out e result c.used c.frames cells)
+  leave_move exits.Body k c cells = refl
+  leave_move exits.Around k c cells = refl
+
+  result_taken : (k : Option Kind) (v : Option Value) (ops : List Operand) (go : List Operand → Move) → Result k v
+      → on_result k (result_ops v ++ ops) go ≡ go (result_ops v)
+  result_taken None None ops go r = refl
+  result_taken None (Some v) ops go r = absurd r
+  result_taken (Some k) None ops go r = absurd r
+  result_taken (Some k) (Some v) ops go r = refl
+
+  pub leave_ends : (e : Exit) (k : Option Kind) (v : Option Value) (L : Uses) (b pc : ℕ) (ks : List OperandKind) (m : Spot) (c : Position)
+      (ops : List Operand) (l : Exit → Option Value → World → Ending) → Result k v → LeftBy p m.body e k
+      → slice_get p.lines pc ≡ Some (line_of (leave_instr e k) ks m) → c.used ≡ length L → Exits p L b m.body c.frames l → (w : World) → w.marks ≤ b
+      → Ends p L (at c pc (result_ops v ++ ops)) w (l e v w)
+  leave_ends e k v L b pc ks m c ops l r d has used hl w le = λ cells keeps.
+      let now = at c pc (result_ops v ++ ops) in
+      on_move p now (scene_of w cells) (way_out e (result_ops v) c.used c.frames cells) (l e v w)
+      (here p pc (leave_instr e k) ks m has c (result_ops v ++ ops) cells ∙ leave_move e k now cells
+      ∙ result_taken k v ops (λ result. way_out e result c.used c.frames cells) r)
+      (hl.by e k d [] v w r le now (omega (arith, used)) cells (subst (λ U. Keeps U w.store cells) (sym (append-[] L)) keeps))
 
 module _ (p : Program) (body : Option ℕ) where
   -- what a parameter is given, and what parameters are given
@@ -160,43 +186,19 @@ module _ (p : Program) (body : Option ℕ) where
         no_result e.delivers b (pc + 1) c ops v gives ok);
   }
 
-  -- the instruction of LEAVE, with nothing and with a value on top
-  leaves : {A : Type 0} {Good : Uses → A → Type 0} (e : Exit) (L : Uses) (b pc : ℕ) (ks : List OperandKind) (m : Spot) (c : Position) (ops : List Operand)
-      (to : A → Position) → m.body ≡ body → LeftBy p body e None → HasAt p.lines pc ((one (leave_instr e None) keeps).lines ks m pc)
-      → Carries p L m.body c.frames Good b (at c pc ops) (Left e None) to
-  leaves exits.Body L b pc ks m c ops to home d has = record {
-    by = λ k l hk hl w le cells keeps'.
-        let x = hl.self None (subst (λ o. Delivers p o None) (sym home) d) [] None w tt le in
-        on_step p (at c pc ops) x.0 (scene_of w cells) cells _ (here p pc (Back None) ks m has.0 c ops cells ∙ x.1 cells)
-        (subst (λ U. Ends p U x.0 w (l exits.Body None w)) (append-[] L) x.2 cells keeps');
-  }
-  leaves exits.Around L b pc ks m c ops to home d has = record {
-    by = λ k l hk hl w le cells keeps'.
-        let x = hl.around None (subst (λ o. Delivers p (owner p o) None) (sym home) d) [] None w tt le in
-        on_step p (at c pc ops) x.0 (scene_of w cells) cells _ (here p pc (Out None) ks m has.0 c ops cells ∙ x.1 cells)
-        (subst (λ U. Ends p U x.0 w (l exits.Around None w)) (append-[] L) x.2 cells keeps');
-  }
-
-  leaves_with : {A : Type 0} {Good : Uses → A → Type 0} (e : Exit) (q : Kind) (v : Value) (L : Uses) (b pc : ℕ) (ks : List OperandKind) (m : Spot)
-      (c : Position) (ops : List Operand) (to : A → Position) → IsOf q v → m.body ≡ body → LeftBy p body e (Some q)
-      → HasAt p.lines pc ((one (leave_instr e (Some q)) (drop 1)).lines ks m pc)
-      → Carries p L m.body c.frames Good b (at c pc (Of v ∷ ops)) (Left e (Some v)) to
-  leaves_with exits.Body q v L b pc ks m c ops to ok home d has = record {
-    by = λ k l hk hl w le cells keeps'.
-        let x = hl.self (Some q) (subst (λ o. Delivers p o (Some q)) (sym home) d) [] (Some v) w ok le in
-        on_step p (at c pc (Of v ∷ ops)) x.0 (scene_of w cells) cells _ (here p pc (Back (Some q)) ks m has.0 c (Of v ∷ ops) cells ∙ x.1 cells)
-        (subst (λ U. Ends p U x.0 w (l exits.Body (Some v) w)) (append-[] L) x.2 cells keeps');
-  }
-  leaves_with exits.Around q v L b pc ks m c ops to ok home d has = record {
-    by = λ k l hk hl w le cells keeps'.
-        let x = hl.around (Some q) (subst (λ o. Delivers p (owner p o) (Some q)) (sym home) d) [] (Some v) w ok le in
-        on_step p (at c pc (Of v ∷ ops)) x.0 (scene_of w cells) cells _ (here p pc (Out (Some q)) ks m has.0 c (Of v ∷ ops) cells ∙ x.1 cells)
-        (subst (λ U. Ends p U x.0 w (l exits.Around (Some v) w)) (append-[] L) x.2 cells keeps');
+  leaves : {A : Type 0} {Good : Uses → A → Type 0} (e : Exit) (k : Option Kind) (v : Option Value) (L : Uses) (b pc : ℕ) (ks : List OperandKind) (m : Spot)
+      (c : Position) (ops : List Operand) (to : A → Position) → Result k v → m.body ≡ body → LeftBy p body e k
+      → slice_get p.lines pc ≡ Some (line_of (leave_instr e k) ks m) → c.used ≡ length L
+      → Carries p L m.body c.frames Good b (at c pc (result_ops v ++ ops)) (Left e v) to
+  leaves e k v L b pc ks m c ops to r home d has used = record {
+    by = λ k' l hk hl w le. leave_ends p e k v L b pc ks m c ops l r (subst (λ o. LeftBy p o e k) (sym home) d) has used hl w le;
   }
 
   pub leave_is : (e : Exit) → LeftBy p body e None → IsAction p body (λ r. Left e None) (one (leave_instr e None) keeps)
-  leave_is e d =
-      record { sized = λ ks m pc. refl; goes = λ calls n b pc L ks m c ops home le has. leaves e L b pc ks m c ops (λ _. at c (pc + 1) ops) home d has }
+  leave_is e d = record {
+    sized = λ ks m pc. refl;
+    goes = λ calls n b pc L ks m c ops home le has. leaves e None None L b pc ks m c ops (λ _. at c (pc + 1) ops) tt home d has.0 le.stands.used;
+  }
 
   pub leave_with_is : {x : Run Value} {f : Stretch} (e : Exit) (k : Kind) → LeftBy p body e (Some k) → IsValue p body k x f
       → IsAction p body (λ r w. bind (x r w) (λ v. Left e (Some v))) (join f (one (leave_instr e (Some k)) (drop 1)))
@@ -207,5 +209,5 @@ module _ (p : Program) (body : Option ℕ) where
             λ calls n b pc L ks m c ops home le has.
             join_carries p f g b pc ks m c ops (x (reach calls n c ops)) (λ v. Left e (Some v)) (λ v. Of v ∷ ops) (λ _. ops) i.sized has
             (λ h. i.goes calls n b pc L ks m c ops home le h) (λ h v ok.
-            leaves_with e k v L b (pc + f.size) (f.leaves ks) m c ops (λ _. at c (pc + f.size + 1) ops) ok home d h);
+            leaves e (Some k) (Some v) L b (pc + f.size) (f.leaves ks) m c ops (λ _. at c (pc + f.size + 1) ops) ok home d h.0 le.stands.used);
       }

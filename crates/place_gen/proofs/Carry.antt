@@ -1,6 +1,6 @@
 -- How the machine follows a run, whatever phrase the run comes from.
 use Rattle.std.proofs.Common.{◌≡◌, ℕ, zero, suc, ◌+◌, ◌<◌, ◌≤◌, List, [], ◌∷◌, ◌++◌, length, Option, Some, None, Bool, true, false, cond, refl, sym, ap, ◌∙◌}
-use Rattle.std.proofs.Common.{subst, arith, append_assoc}
+use Rattle.std.proofs.Common.{subst, arith, append_assoc, length-append}
 use Rattle.std.specs.Prelude.{slice_get, Ok, Err}
 use Rattle.eu_base.specs.declared.address.TheConstants.{CELLS}
 use Rattle.eu_base.specs.declared.value.Kind.{Kind}
@@ -9,9 +9,9 @@ use Rattle.eu_base.specs.declared.stop.Stop.{Stop}
 use Rattle.eu_base.specs.declared.stop.Stop.TheVariants.{OperandRoom}
 use Rattle.eu_base.specs.declared.request.Request.{Request}
 use Rattle.eu_base.specs.declared.request.Reply.{Reply}
-use Rattle.eu_base.specs.Values.{IsOf, cell_of}
+use Rattle.eu_base.specs.Values.{IsOf}
 use Rattle.eu_base.specs.Operations.{Given}
-use Rattle.eu_base.specs.Cells.{Cells, run_cell, written}
+use Rattle.eu_base.specs.Cells.{Cells, held_of, run_cell, written}
 use Rattle.code_form.specs.declared.operand.Operand.{Operand}
 use Rattle.code_form.specs.declared.operand.Operand.TheVariants.{Value as Of, Place as At}
 use Rattle.code_form.specs.declared.operand.OperandKind.{OperandKind}
@@ -35,7 +35,7 @@ use Rattle.elan_types.specs.Command.{Ending}
 use Rattle.place_gen.specs.Stretch.{Stretch, join}
 use Rattle.place_gen.specs.Correct.{Shows, Comes, scene_of}
 use Rattle.place_gen.proofs.Lines.{HasAt, has_front, has_rest}
-use Rattle.place_gen.proofs.Homes.{Delivers}
+use Rattle.place_gen.proofs.Homes.{LeftBy}
 use Rattle.place_gen.proofs.Cells.{Use, OfValue, OfPlace, Uses, Keeps, image, writes}
 
 -- what an outcome goes on to, after a result and by an exit
@@ -75,6 +75,11 @@ abbrev pub result_ops : Option Value → List Operand
 result_ops None = []
 result_ops (Some v) = Of v ∷ []
 
+-- how a body is left
+abbrev pub way_out : Exit → List Operand → ℕ → List Frame → Cells → Move
+way_out exits.Body = back_to
+way_out exits.Around = out_to
+
 -- the phrase's bytes pending and the frame's first cell are those of the machine
 abbrev pub reach : Calls → ℕ → Position → List Operand → Reach
 reach calls n c ops = record { calls = calls; turns = n; base = base_of c.frames; held = bytes_on ops (bytes_of c.frames) }
@@ -100,9 +105,13 @@ module _ (p : Program) where
   pub on_move : (c : Position) (s : Scene) (m : Move) (e : Ending) → step p c s.cells ≡ m → After (stage m c s) e → Comes p (free c) s e
   on_move c s m e h a = record { steps = suc a.steps; rest = a.rest; comes = ap (λ m. carry_on (stage m c s) (exec p a.steps)) h ∙ a.comes; shows = a.shows }
 
+  pub after_goes : (c c' : Position) (s : Scene) (cells : Cells) (e : Ending) → Comes p (free c') (record s { cells = cells }) e
+      → After (stage (Goes c' cells) c s) e
+  after_goes c c' s cells e a = record { steps = a.steps; rest = a.rest; comes = a.comes; shows = a.shows }
+
   pub on_step : (c c' : Position) (s : Scene) (cells : Cells) (e : Ending) → step p c s.cells ≡ Goes c' cells → Comes p (free c') (record s { cells = cells }) e
       → Comes p (free c) s e
-  on_step c c' s cells e h a = on_move c s (Goes c' cells) e h (record { steps = a.steps; rest = a.rest; comes = a.comes; shows = a.shows })
+  on_step c c' s cells e h a = on_move c s (Goes c' cells) e h (after_goes c c' s cells e a)
 
   -- the machine goes from one place to another and changes nothing else
   abbrev pub Leads : Position → Position → Type 0
@@ -139,37 +148,28 @@ module _ (p : Program) where
 
   -- an instruction that writes to the cell of a variable
   pub write_ends : {L : Uses} (c c' : Position) (w : World) (x : Place) (k : Kind) (v : Value) (e : Ending) (cells : Cells) → AtKind k L x → IsOf k v
-      → Keeps L w.store cells → step p c cells ≡ Goes c' (written cells (run_cell x.variable) (cell_of v)) → Ends L c' (assign x v w) e
+      → Keeps L w.store cells → step p c cells ≡ Goes c' (written cells (run_cell x.variable) (held_of v)) → Ends L c' (assign x v w) e
       → Comes p (free c) (scene_of w cells) e
   write_ends {L} c c' w x k v e cells is ok h m a =
-      on_step c c' (scene_of w cells) (written cells (run_cell x.variable) (cell_of v)) e m (a _ (writes L w.store cells x.variable k v h is ok))
+      on_step c c' (scene_of w cells) (written cells (run_cell x.variable) (held_of v)) e m (a _ (writes L w.store cells x.variable k v h is ok))
 
   -- where a body is left, the machine goes to the frame below, and on as the exit says, whatever cells were taken meanwhile
   pub record Exits (L : Uses) (b : ℕ) (body : Option ℕ) (fs : List Frame) (l : Exit → Option Value → World → Ending) : Type 0 where
-    pub self : (k : Option Kind) → Delivers p body k → (more : Uses) (v : Option Value) (w : World) → Result k v → w.marks ≤ b
-        → (c' : Position) × ((cells : Cells) → back_to (result_ops v) fs cells ≡ Goes c' cells) × Ends (L ++ more) c' w (l exits.Body v w)
-    pub around : (k : Option Kind) → Delivers p (owner p body) k → (more : Uses) (v : Option Value) (w : World) → Result k v → w.marks ≤ b
-        → (c' : Position) × ((cells : Cells) → out_to (result_ops v) fs cells ≡ Goes c' cells) × Ends (L ++ more) c' w (l exits.Around v w)
+    pub by : (e : Exit) (k : Option Kind) → LeftBy p body e k → (more : Uses) (v : Option Value) (w : World) → Result k v → w.marks ≤ b → (c : Position)
+        → c.used ≡ length L + length more → (cells : Cells) → Keeps (L ++ more) w.store cells
+        → After (stage (way_out e (result_ops v) c.used fs cells) c (scene_of w cells)) (l e v w)
 
   pub fewer : {L : Uses} {b b' : ℕ} {body : Option ℕ} {fs : List Frame} {l : Exit → Option Value → World → Ending} → b' ≤ b → Exits L b body fs l
       → Exits L b' body fs l
-  fewer le h =
-      record {
-        self =
-            λ k d more v w r m. h.self k d more v w r (omega (arith, le, m));
-        around = λ k d more v w r m. h.around k d more v w r (omega (arith, le, m));
-      }
+  fewer le h = record { by = λ e k d more v w r m. h.by e k d more v w r (omega (arith, le, m)) }
 
   -- with more cells in use
   pub wider : {b : ℕ} {body : Option ℕ} {fs : List Frame} {l : Exit → Option Value → World → Ending} (L M : Uses) → Exits L b body fs l
       → Exits (L ++ M) b body fs l
-  wider {b} {body} {fs} {l} L M h = record {
-    self =
-        λ k d more v w r m. let x = h.self k d (M ++ more) v w r m in
-        (x.0, x.1, subst (λ U. Ends U x.0 w (l exits.Body v w)) (sym (append_assoc L M more)) x.2);
-    around =
-        λ k d more v w r m. let x = h.around k d (M ++ more) v w r m in
-        (x.0, x.1, subst (λ U. Ends U x.0 w (l exits.Around v w)) (sym (append_assoc L M more)) x.2);
+  wider L M h = record {
+    by = λ e k d more v w r m c used cells keeps.
+        h.by e k d (M ++ more) v w r m c (omega (arith, used, length-append L M, length-append M more)) cells
+        (subst (λ U. Keeps U w.store cells) (append_assoc L M more) keeps);
   }
 
   -- where the cells are in use so, with at most b marks and in a body over these frames, the machine goes from a place as the phrase

@@ -1,23 +1,24 @@
 -- What the cells in use hold, and how it changes when a variable is written and when cells are taken and given back.
-use Rattle.std.proofs.Common.{◌≡◌, ℕ, zero, suc, ◌+◌, ◌<◌, ◌≤◌, ◌%◌, List, [], ◌∷◌, ◌++◌, length, take, Some, true, false, cond, refl, sym, ap, ◌∙◌, subst}
-use Rattle.std.proofs.Common.{arith, append_assoc, get_or-set_other, get_or-set_same, length-set, length-append, ⊎_elim}
+use Rattle.std.proofs.Common.{◌≡◌, ℕ, zero, suc, ◌+◌, ◌<◌, ◌≤◌, ◌%◌, List, [], ◌∷◌, ◌++◌, length, take, Some, Bool, true, false, cond}
+use Rattle.std.proofs.Common.{nat_le, nat_lt, ◌&&◌, refl, sym, ap, ◌∙◌, subst, arith, append_assoc, get_or-set_other, get_or-set_same, length-set, length-append, ⊎_elim}
 use Rattle.std.specs.Prelude.{slice_get, slice_set, slice_index_or, ℤ}
 use Rattle.std.proofs.lemmas.List.{length-take-le, get_or-take, get_or_append_left}
 use Rattle.std.proofs.lemmas.Bool.{cases_lt}
 use Rattle.std.proofs.Math.Seq.{get_or-append_seam}
 use Rattle.std.proofs.lemmas.Option.{slice_get_within, slice_get-get_or}
 use Rattle.std.proofs.lemmas.Int.{ints, to_z-of_z}
-use Rattle.std.proofs.lemmas.Bool.Decides.{eqb_tells}
+use Rattle.std.proofs.lemmas.Bool.Decides.{eqb_tells, nat_tests}
 use Rattle.std.specs.Int.{cast_signed, cast_unsigned, w16}
 use Rattle.std.specs.Int.RustNames.{FitsSigned}
 use Rattle.eu_base.specs.declared.address.TheConstants.{CELLS}
+use Rattle.eu_base.specs.declared.address.Addr.{Addr}
 use Rattle.eu_base.specs.declared.value.Kind.{Kind}
 use Rattle.eu_base.specs.declared.value.Kind.TheVariants as kinds
 use Rattle.eu_base.specs.declared.value.Value.{Value}
 use Rattle.eu_base.specs.declared.value.Value.TheVariants.{Int, Truth}
 use Rattle.eu_base.specs.Values.{IsOf, cell_of, value_in}
-use Rattle.eu_base.specs.Cells.{Cells, run_cell, written, place_in}
-use Rattle.code_form.specs.Machine.{written_from}
+use Rattle.eu_base.specs.Cells.{Cell, Free, Word, Cells, held_of, run_cell, written, without, place_in}
+use Rattle.code_form.specs.Machine.{Move, on_word, written_from, is_free, are_free}
 use Rattle.elan_types.specs.Eval.{Place, Slot, Holds, Refers, Taken, slot_at, value_of, place_of}
 use Rattle.place_gen.specs.Correct.{StandsFor, Image}
 
@@ -25,7 +26,7 @@ bits : (z : ℤ) → FitsSigned w16 z → cast_unsigned w16 z < 65536
 bits z f = omega (arith, ints)
 
 -- a value comes back out of its cell
-pub value_in-cell_of : (k : Kind) (v : Value) → IsOf k v → value_in k (cell_of v) ≡ v
+value_in-cell_of : (k : Kind) (v : Value) → IsOf k v → value_in k (cell_of v) ≡ v
 value_in-cell_of kinds.Int (Int z) f =
     let small = bits z f in
     let e : cast_unsigned w16 z % 65536 ≡ cast_unsigned w16 z = omega arith in
@@ -45,17 +46,18 @@ pub data Use : Type 0 where
 abbrev pub Uses : Type 0
 Uses = List Use
 
--- a slot with this number, and the number in its cell. A VAR parameter refers to a variable before it
-abbrev pub Kept : Uses → ℕ → Use → Slot → ℕ → Type 0
-Kept L at (OfValue k) s n = (v : Value) × (s ≡ Holds v) × IsOf k v × (n ≡ cell_of v)
-Kept L at (OfPlace k) s n = (x : Place) × (s ≡ Refers x) × (x.variable < at) × (slice_get L x.variable ≡ Some (OfValue k)) × (n ≡ x.variable)
-Kept L at (OfLimit l) s n = (s ≡ Taken) × FitsSigned w16 l × (n ≡ cell_of (Int l))
-Kept L at OfNothing s n = s ≡ Taken
+-- a slot with this number, and what its cell holds. A VAR parameter refers to a variable before it
+abbrev pub Kept : Uses → ℕ → Use → Slot → Cell → Type 0
+Kept L at (OfValue k) s n = (v : Value) × (s ≡ Holds v) × IsOf k v × (n ≡ held_of v)
+Kept L at (OfPlace k) s n = (x : Place) × (s ≡ Refers x) × (x.variable < at) × (slice_get L x.variable ≡ Some (OfValue k)) × (n ≡ Word x.variable)
+Kept L at (OfLimit l) s n = (s ≡ Taken) × FitsSigned w16 l × (n ≡ held_of (Int l))
+Kept L at OfNothing s n = (s ≡ Taken) × (n ≡ Word 0)
 
--- the store has what the cells in use are for, and the cells hold it
+-- the store has what the cells in use are for, the cells hold it, and nothing is known of the others
 pub record Keeps (L : Uses) (store : List Slot) (cells : Cells) : Type 0 where
   pub as_many : length store ≡ length L
   pub each : (x : ℕ) (k : Use) → slice_get L x ≡ Some k → Kept L x k (slot_at store x) (cells (run_cell x))
+  pub beyond : (x : ℕ) → length L ≤ x → cells (run_cell x) ≡ Free
 
 pub get_left : {A : Type 0} (xs ys : List A) (i : ℕ) (x : A) → slice_get xs i ≡ Some x → slice_get (xs ++ ys) i ≡ Some x
 get_left [] ys i x e = let f : ⊥ = cc in absurd f
@@ -86,31 +88,45 @@ image L store cells h room x s e =
     by (OfValue k) g = subst (StandsFor (cells (run_cell x))) (sym g.1) g.3
     by (OfPlace k) g = subst (StandsFor (cells (run_cell x))) (sym g.1) g.4
     by (OfLimit l) g = subst (StandsFor (cells (run_cell x))) (sym g.0) tt
-    by OfNothing g = subst (StandsFor (cells (run_cell x))) (sym g) tt
+    by OfNothing g = subst (StandsFor (cells (run_cell x))) (sym g.0) tt
 
 -- what a variable holds is read out of its cell
-pub reads : (L : Uses) (store : List Slot) (cells : Cells) (x : ℕ) (k : Kind) → Keeps L store cells → slice_get L x ≡ Some (OfValue k)
-    → IsOf k (value_of (slot_at store x)) × (value_in k (cells (run_cell x)) ≡ value_of (slot_at store x))
-reads L store cells x k h e =
+pub reads : (L : Uses) (store : List Slot) (cells : Cells) (x : ℕ) (k : Kind) (go : Value → Move) → Keeps L store cells → slice_get L x ≡ Some (OfValue k)
+    → IsOf k (value_of (slot_at store x)) × (on_word (cells (run_cell x)) (λ n. go (value_in k n)) ≡ go (value_of (slot_at store x)))
+reads L store cells x k go h e =
     let g = h.each x (OfValue k) e in
     let same : value_of (slot_at store x) ≡ g.0 = ap value_of g.1 in
-    (subst (IsOf k) (sym same) g.2, ap (value_in k) g.3 ∙ value_in-cell_of k g.0 g.2 ∙ sym same)
+    (subst (IsOf k) (sym same) g.2, ap (λ c. on_word c (λ n. go (value_in k n))) g.3 ∙ ap go (value_in-cell_of k g.0 g.2 ∙ sym same))
 
 -- and the place that a VAR parameter holds
-pub refers : (L : Uses) (store : List Slot) (cells : Cells) (x : ℕ) (k : Kind) → length L ≤ CELLS → Keeps L store cells → slice_get L x ≡ Some (OfPlace k)
-    → (slice_get L (place_of (slot_at store x)).variable ≡ Some (OfValue k)) × (place_in (cells (run_cell x)) ≡ run_cell (place_of (slot_at store x)).variable)
-refers L store cells x k room h e =
+pub refers : (L : Uses) (store : List Slot) (cells : Cells) (x : ℕ) (k : Kind) (go : Addr → Move) → length L ≤ CELLS → Keeps L store cells
+    → slice_get L x ≡ Some (OfPlace k) → (slice_get L (place_of (slot_at store x)).variable ≡ Some (OfValue k))
+    × (on_word (cells (run_cell x)) (λ n. go (place_in n)) ≡ go (run_cell (place_of (slot_at store x)).variable))
+refers L store cells x k go room h e =
     let g = h.each x (OfPlace k) e in
     let same : place_of (slot_at store x) ≡ g.0 = ap place_of g.1 in
     let is : slice_get L (place_of (slot_at store x)).variable ≡ Some (OfValue k) = ap (λ (y : Place). slice_get L y.variable) same ∙ g.3 in
     let small : (place_of (slot_at store x)).variable < CELLS = omega (arith, slice_get_within L (place_of (slot_at store x)).variable (OfValue k) is, room) in
-    let n : cells (run_cell x) ≡ (place_of (slot_at store x)).variable = g.4 ∙ ap (λ (y : Place). y.variable) (sym same) in
+    let n : cells (run_cell x) ≡ Word (place_of (slot_at store x)).variable = g.4 ∙ ap (λ (y : Place). Word y.variable) (sym same) in
     let m : (place_of (slot_at store x)).variable % CELLS ≡ (place_of (slot_at store x)).variable = omega arith in
-    (is, ap place_in n ∙ ap run_cell m)
+    (is, ap (λ c. on_word c (λ n. go (place_in n))) n ∙ ap (λ n. go (run_cell n)) m)
+
+-- and a limit
+pub reads_limit : (L : Uses) (store : List Slot) (cells : Cells) (x : ℕ) (l : ℤ) (go : Value → Move) → Keeps L store cells
+    → slice_get L x ≡ Some (OfLimit l) → on_word (cells (run_cell x)) (λ n. go (value_in kinds.Int n)) ≡ go (Int l)
+reads_limit L store cells x l go h e =
+    let g = h.each x (OfLimit l) e in
+    ap (λ c. on_word c (λ n. go (value_in kinds.Int n))) g.2 ∙ ap go (value_in-cell_of kinds.Int (Int l) g.1)
+
+-- the cells behind those in use are free
+pub free_beyond : (ns : List Cell) (at : ℕ) (cells : Cells) → ((x : ℕ) → at ≤ x → cells (run_cell x) ≡ Free) → are_free at ns cells ≡ true
+free_beyond [] at cells h = refl
+free_beyond (n ∷ ns) at cells h =
+    ap (λ c. is_free c && are_free (suc at) ns cells) (h at (omega arith)) ∙ free_beyond ns (suc at) cells (λ x le. h x (omega (arith, le)))
 
 -- a value of its kind is written to a variable
 pub writes : (L : Uses) (store : List Slot) (cells : Cells) (x : ℕ) (k : Kind) (v : Value) → Keeps L store cells → slice_get L x ≡ Some (OfValue k) → IsOf k v
-    → Keeps L (slice_set store x (Holds v)) (written cells (run_cell x) (cell_of v))
+    → Keeps L (slice_set store x (Holds v)) (written cells (run_cell x) (held_of v))
 writes L store cells x k v h e ok =
     let within : x < length store = omega (arith, slice_get_within L x (OfValue k) e, h.as_many) in
     record {
@@ -120,15 +136,17 @@ writes L store cells x k v h e ok =
           let used_for : OfValue k ≡ k' = some_is (OfValue k) k' (sym e ∙ ap (slice_get L) (sym t.1) ∙ e') in
           let slot : slot_at (slice_set store x (Holds v)) y ≡ Holds v =
           ap (slot_at (slice_set store x (Holds v))) t.1 ∙ get_or-set_same store x (Holds v) Taken within in
-          let number : written cells (run_cell x) (cell_of v) (run_cell y) ≡ cell_of v = ap (λ b. cond b (cell_of v) (cells (run_cell y))) t.0 in
-          subst (λ k'. Kept L y k' (slot_at (slice_set store x (Holds v)) y) (written cells (run_cell x) (cell_of v) (run_cell y))) used_for
+          let number : written cells (run_cell x) (held_of v) (run_cell y) ≡ held_of v = ap (λ b. cond b (held_of v) (cells (run_cell y))) t.0 in
+          subst (λ k'. Kept L y k' (slot_at (slice_set store x (Holds v)) y) (written cells (run_cell x) (held_of v) (run_cell y))) used_for
           (v, slot, ok, number))
           (λ t.
           let slot : slot_at (slice_set store x (Holds v)) y ≡ slot_at store y = get_or-set_other store x y (Holds v) Taken t.1 in
-          let number : written cells (run_cell x) (cell_of v) (run_cell y) ≡ cells (run_cell y) = ap (λ b. cond b (cell_of v) (cells (run_cell y))) t.0 in
+          let number : written cells (run_cell x) (held_of v) (run_cell y) ≡ cells (run_cell y) = ap (λ b. cond b (held_of v) (cells (run_cell y))) t.0 in
           subst (λ n. Kept L y k' (slot_at (slice_set store x (Holds v)) y) n) (sym number)
           (subst (λ s. Kept L y k' s (cells (run_cell y))) (sym slot) (h.each y k' e')))
           (eqb_tells y x);
+      beyond = λ y past. ⊎_elim (λ t. absurd (omega (arith, past, within, h.as_many, t.1)))
+          (λ t. ap (λ b. cond b (held_of v) (cells (run_cell y))) t.0 ∙ h.beyond y past) (eqb_tells y x);
     }
 
 append-[] : {A : Type 0} (l : List A) → l ++ [] ≡ l
@@ -136,15 +154,22 @@ append-[] [] = refl
 append-[] (x ∷ l) = ap (λ l. x ∷ l) (append-[] l)
 
 -- the cells behind some are given back
-pub cuts : (L M : Uses) (store : List Slot) (cells : Cells) (n : ℕ) → n ≡ length L → Keeps (L ++ M) store cells → Keeps L (take n store) cells
-cuts L M store cells n is h =
+pub cuts : (L M : Uses) (store : List Slot) (cells : Cells) (n from used : ℕ) → n ≡ length L → from ≡ length L → used ≡ length (L ++ M)
+    → Keeps (L ++ M) store cells → Keeps L (take n store) (without from used cells)
+cuts L M store cells n from used is from_is used_is h =
     let long : length L ≤ length store = omega (arith, h.as_many, length-append L M) in
     record {
       as_many = length-take-le n store (omega arith) ∙ is;
       each = λ x k e.
           let within = slice_get_within L x k e in
           let slot : slot_at (take n store) x ≡ slot_at store x = get_or-take n store x Taken (omega arith) in
-          subst (λ s. Kept L x k s (cells (run_cell x))) (sym slot) (by x k within (h.each x k (get_left L M x k e)));
+          let low : nat_le from x ≡ false = grind (arith, nat_tests) in
+          let same : without from used cells (run_cell x) ≡ cells (run_cell x) = ap (λ b. cond (b && nat_lt x used) Free (cells (run_cell x))) low in
+          subst (Kept L x k (slot_at (take n store) x)) (sym same)
+          (subst (λ s. Kept L x k s (cells (run_cell x))) (sym slot) (by x k within (h.each x k (get_left L M x k e))));
+      beyond = λ x past.
+          let high : nat_le from x ≡ true = grind (arith, nat_tests) in
+          ap (λ b. cond (b && nat_lt x used) Free (cells (run_cell x))) high ∙ gone x (nat_lt x used) refl;
     }
   where
     by : (x : ℕ) (k : Use) → x < length L → Kept (L ++ M) x k (slot_at store x) (cells (run_cell x)) → Kept L x k (slot_at store x) (cells (run_cell x))
@@ -153,19 +178,23 @@ cuts L M store cells n is h =
     by x (OfLimit l) lt g = g
     by x OfNothing lt g = g
 
+    gone : (x : ℕ) (b : Bool) → nat_lt x used ≡ b → cond b Free (cells (run_cell x)) ≡ Free
+    gone x true e = refl
+    gone x false e = let past : used ≤ x = grind (arith, nat_tests, e) in h.beyond x (omega (arith, past, used_is))
+
 -- more cells are taken, and hold what is for them
-abbrev pub AllKept : Uses → ℕ → Uses → List Slot → List ℕ → Type 0
+abbrev pub AllKept : Uses → ℕ → Uses → List Slot → List Cell → Type 0
 AllKept L at [] [] [] = Unit {0}
 AllKept L at (k ∷ M) (s ∷ more) (n ∷ numbers) = Kept L at k s n × AllKept L (suc at) M more numbers
 AllKept L at _ _ _ = ⊥
 
-kept_wider : (L M : Uses) (at : ℕ) (k : Use) (s : Slot) (n : ℕ) → Kept L at k s n → Kept (L ++ M) at k s n
+kept_wider : (L M : Uses) (at : ℕ) (k : Use) (s : Slot) (n : Cell) → Kept L at k s n → Kept (L ++ M) at k s n
 kept_wider L M at (OfValue k) s n g = g
 kept_wider L M at (OfPlace k) s n g = (g.0, g.1, g.2, get_left L M g.0.variable (OfValue k) g.3, g.4)
 kept_wider L M at (OfLimit l) s n g = g
 kept_wider L M at OfNothing s n g = g
 
-pub extends_one : (L : Uses) (store : List Slot) (cells : Cells) (k : Use) (s : Slot) (n : ℕ) → Keeps L store cells → Kept L (length L) k s n
+pub extends_one : (L : Uses) (store : List Slot) (cells : Cells) (k : Use) (s : Slot) (n : Cell) → Keeps L store cells → Kept L (length L) k s n
     → Keeps (L ++ k ∷ []) (store ++ s ∷ []) (written cells (run_cell (length L)) n)
 extends_one L store cells k s n h g = record {
   as_many = omega (arith, h.as_many, length-append store (s ∷ []), length-append L (k ∷ []));
@@ -188,6 +217,8 @@ extends_one L store cells k s n h g = record {
       (subst (λ s'. Kept (L ++ k ∷ []) x k' s' (cells (run_cell x))) (sym slot)
       (kept_wider L (k ∷ []) x k' (slot_at store x) (cells (run_cell x)) (h.each x k' old))))
       (eqb_tells x (length L));
+  beyond = λ x past. ⊎_elim (λ t. absurd (omega (arith, past, length-append L (k ∷ []), t.1)))
+      (λ t. ap (λ b. cond b n (cells (run_cell x))) t.0 ∙ h.beyond x (omega (arith, past, length-append L (k ∷ [])))) (eqb_tells x (length L));
 }
   where
     last : (L : Uses) (k : Use) → slice_get (L ++ k ∷ []) (length L) ≡ Some k
@@ -196,7 +227,7 @@ extends_one L store cells k s n h g = record {
     less : (a b : ℕ) → (a ≡ b → ⊥) → a < b + 1 → a < b
     less a b ne lt = ⊎_elim (λ l. l) (λ le. let e : a ≡ b = omega (arith, lt, le) in absurd (ne e)) (cases_lt a b)
 
-pub extends : (M : Uses) (L : Uses) (store more : List Slot) (cells : Cells) (numbers : List ℕ) → Keeps L store cells → AllKept L (length L) M more numbers
+pub extends : (M : Uses) (L : Uses) (store more : List Slot) (cells : Cells) (numbers : List Cell) → Keeps L store cells → AllKept L (length L) M more numbers
     → Keeps (L ++ M) (store ++ more) (written_from (length L) numbers cells)
 extends [] L store [] cells [] h g = subst (λ U. Keeps U (store ++ []) cells) (sym (append-[] L)) (subst (λ t. Keeps L t cells) (sym (append-[] store)) h)
 extends [] L store (s ∷ more) cells ns h g = absurd g
@@ -214,7 +245,7 @@ extends (k ∷ M) L store (s ∷ more) cells (n ∷ ns) h g =
     (subst (λ t. Keeps ((L ++ k ∷ []) ++ M) t (written_from (suc (length L)) ns (written cells (run_cell (length L)) n))) (append_assoc store (s ∷ []) more)
     rest')
   where
-    wider : (M : Uses) (at : ℕ) (more : List Slot) (ns : List ℕ) → AllKept L at M more ns → AllKept (L ++ k ∷ []) at M more ns
+    wider : (M : Uses) (at : ℕ) (more : List Slot) (ns : List Cell) → AllKept L at M more ns → AllKept (L ++ k ∷ []) at M more ns
     wider [] at [] [] g = tt
     wider [] at (s ∷ more) ns g = absurd g
     wider [] at [] (n ∷ ns) g = absurd g

@@ -6,9 +6,9 @@ use Rattle.std.specs.Ordering.{int_eq}
 use Rattle.eu_base.specs.declared.value.Kind.TheVariants as kinds
 use Rattle.eu_base.specs.declared.value.Value.{Value}
 use Rattle.eu_base.specs.declared.operation.Change.{Change}
-use Rattle.eu_base.specs.Values.{IsOf, number_of, truth_of, cell_of}
+use Rattle.eu_base.specs.Values.{IsOf, number_of, truth_of}
 use Rattle.eu_base.specs.Operations.{Given, changed, put_request, line_request}
-use Rattle.eu_base.specs.Cells.{Cells, run_cell, written}
+use Rattle.eu_base.specs.Cells.{Cells, held_of, run_cell, written}
 use Rattle.code_form.specs.declared.operand.Operand.{Operand}
 use Rattle.code_form.specs.declared.operand.Operand.TheVariants.{Value as Of}
 use Rattle.code_form.specs.declared.operand.OperandKind.{OperandKind}
@@ -163,7 +163,7 @@ module _ (p : Program) (body : Option ℕ) where
   -- INCR and DECR, at the instruction
   modified : {A : Type 0} {L : Uses} (g : Given) (x : Place) (a : A) (c c' : Position) (w : World) (cells : Cells) (k : A → World → Ending)
       (l : Exit → Option Value → World → Ending) → AtKind kinds.Int L x → ((v : Value) → g ≡ Ok v → IsOf kinds.Int v) → Keeps L w.store cells
-      → step p c cells ≡ or_halt g (λ v. Goes c' (written cells (run_cell x.variable) (cell_of v)))
+      → step p c cells ≡ or_halt g (λ v. Goes c' (written cells (run_cell x.variable) (held_of v)))
       → ((v : Value) → Ends p L c' (assign x v w) (k a (assign x v w)))
       → Comes p (free c) (scene_of w cells) (finish (or_stop g (λ v w. Gives a (assign x v w)) w) k l)
   modified {A} {L} (Ok v) x a c c' w cells k l is gives kept e hk = write_ends p c c' w x kinds.Int v _ cells is (gives v refl) kept e (hk v)
@@ -177,10 +177,10 @@ module _ (p : Program) (body : Option ℕ) where
     by = λ k l hk hl w le cells keeps.
         let now = at c q (Of v ∷ keep_place x ops) in
         let next = at c (q + 1) ops in
-        let r = reads L w.store cells x.variable kinds.Int keeps is in
+        let go = λ (y : Value). or_halt (changed change (number_of y) (number_of v)) (λ y. Goes next (written cells (run_cell x.variable) (held_of y))) in
+        let r = reads L w.store cells x.variable kinds.Int go keeps is in
         modified (changed change (number_of (fetch x w)) (number_of v)) x a now next w cells k l is (λ y e. changed_gives change _ _ y e) keeps
-        (here p q (Modify change) ks m has.0 c (Of v ∷ keep_place x ops) cells
-        ∙ ap (λ y. or_halt (changed change (number_of y) (number_of v)) (λ y. Goes next (written cells (run_cell x.variable) (cell_of y)))) r.1)
+        (here p q (Modify change) ks m has.0 c (Of v ∷ keep_place x ops) cells ∙ r.1)
         (λ y. subst (λ d. Ends p L d (assign x y w) (k a (assign x y w))) to_is (hk a (assign x y w) tt le));
   }
 

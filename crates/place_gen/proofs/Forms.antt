@@ -151,8 +151,10 @@ module _ (p : Program) (body : Option ℕ) where
   place_carries (places.Parameter x) k calls n b pc L ks m c ops home is le has =
       reads_carries p b (at c pc ops) (λ w. place_of (slot_at w.store (base_of c.frames + x))) (λ w. bytes_fit (place_bytes + bytes_on ops (bytes_of c.frames)))
       (λ x. at c (pc + 1) (keep_place x ops)) (λ w cells h.
-      let r = refers L w.store cells (base_of c.frames + x) k le.stands.room h (in_frame m c L x (operand.Place k) home le.stands is) in
-      (r.0, here p pc (Param x) ks m has.0 c ops cells ∙ ap (λ a. push_move (at c pc ops) (At a) ops cells) r.1))
+      let r =
+      refers L w.store cells (base_of c.frames + x) k (λ a. push_move (at c pc ops) (At a) ops cells) le.stands.room h
+      (in_frame m c L x (operand.Place k) home le.stands is) in
+      (r.0, here p pc (Param x) ks m has.0 c ops cells ∙ r.1))
 
   pub place_is : (q : PlacePhrase) (k : Kind) → HasPlace p body q k → IsPlace k (place q) (place_code q k)
   place_is q k is =
@@ -171,8 +173,8 @@ module _ (p : Program) (body : Option ℕ) where
             let now = at c (pc + 1) (keep_place x ops) in
             reads_carries p b now (fetch x) (λ w. bytes_fit (value_bytes (fetch x w) + bytes_on ops (bytes_of c.frames))) (λ v. at c (pc + 1 + 1) (Of v ∷ ops))
             (λ w cells keeps.
-            let r = reads L w.store cells x.variable k keeps at_x in
-            (r.0, here p (pc + 1) (Load k) (operand.Place k ∷ ks) m h.0 c (keep_place x ops) cells ∙ ap (λ v. push_move now (Of v) ops cells) r.1)));
+            let r = reads L w.store cells x.variable k (λ v. push_move now (Of v) ops cells) keeps at_x in
+            (r.0, here p (pc + 1) (Load k) (operand.Place k ∷ ks) m h.0 c (keep_place x ops) cells ∙ r.1)));
       }
 
   pub store_is : {t : Run Value} {f : Stretch} (q : PlacePhrase) (k : Kind) → HasPlace p body q k → IsValue k t f → IsAction (stored q t) (store_code q k f)

@@ -25,7 +25,7 @@ use Rattle.elan_types.specs.declared.core_phrase.PlacePhrase.{PlacePhrase}
 use Rattle.elan_types.specs.declared.core_phrase.PlacePhrase.TheVariants as places
 use Rattle.place_gen.specs.Layouts.{taken_as, parameter_kind, layout_of}
 use Rattle.elan_types.specs.Typing as typing
-use Rattle.elan_types.specs.Typing.{Typed, has, agree, takes, type_in, only_if, same_type, same_access, kind_in, held_const, type_as, frame_of, frame_at}
+use Rattle.elan_types.specs.Typing.{Typed, has, agree, takes, type_in, only_if, same_type, same_access, kind_in, type_as, frame_of, frame_at}
 use Rattle.elan_types.specs.Typing.{frame_in, scope_of, result_of, result_of_content, delivered_by, taken_by, take_all, Taken, refines, around, left_from}
 use Rattle.elan_types.specs.Typing.{leaves_without, leaves_with, is_none, place_type, Home}
 

@@ -14,9 +14,9 @@ use Rattle.eu_base.specs.declared.value.Value.TheVariants as item
 use Rattle.eu_base.specs.declared.stop.Stop.TheVariants.{CellRoom}
 use Rattle.eu_base.specs.declared.operation.Way.{Way}
 use Rattle.eu_base.specs.Room.{cells_fit}
-use Rattle.eu_base.specs.Values.{IsOf, number_of, cell_of}
+use Rattle.eu_base.specs.Values.{IsOf, number_of, value_in}
 use Rattle.eu_base.specs.Operations.{is_past}
-use Rattle.eu_base.specs.Cells.{Cells, run_cell, written}
+use Rattle.eu_base.specs.Cells.{Cells, held_of, run_cell, written, without}
 use Rattle.code_form.specs.declared.operand.Operand.{Operand}
 use Rattle.code_form.specs.declared.operand.Operand.TheVariants.{Value as Of}
 use Rattle.code_form.specs.declared.operand.OperandKind.{OperandKind}
@@ -24,7 +24,7 @@ use Rattle.code_form.specs.declared.operand.OperandKind.TheVariants as operand
 use Rattle.code_form.specs.declared.instr.Instr.TheVariants.{Limit, Unlimit}
 use Rattle.code_form.specs.declared.code.Spot.{Spot}
 use Rattle.code_form.specs.Program.{Program, line_of, deeper}
-use Rattle.code_form.specs.Machine.{Position, free, Goes, Halts, at, using, base_of, step}
+use Rattle.code_form.specs.Machine.{Position, free, Goes, Halts, Unknown, at, using, on_word, is_free, base_of, step}
 use Rattle.elan_types.specs.declared.core_phrase.Exit.{Exit as Exit'}
 use Rattle.elan_types.specs.declared.core_phrase.PlacePhrase.{PlacePhrase}
 use Rattle.elan_types.specs.Eval.{Place, Taken, value_of, World, Outcome, Gives, Stopped, bind, branch, fetch, place, holding_place, cut, Calls, Run, turns}
@@ -63,13 +63,16 @@ module _ (p : Program) (body : Option ℕ) where
 
   -- the cell is given back
   given_back : (L : Uses) (limit : ℤ) (b end : ℕ) (c c1 : Position) (ops : List Operand) (k : Unit {0} → World → Ending) → c1.used ≡ c.used + 1
-      → c1.frames ≡ c.frames → ((cells : Cells) → step p (at c1 end ops) cells ≡ Goes (at c (end + 1) ops) cells)
+      → c1.frames ≡ c.frames → c.used ≡ length L
+      → ((cells : Cells) → step p (at c1 end ops) cells ≡ Goes (at c (end + 1) ops) (without c.used (c.used + 1) cells))
       → ((a : Unit {0}) (w : World) → Any L a → w.marks ≤ b → Ends p L (at c (end + 1) ops) w (k a w)) → (a : Unit {0}) (w : World)
       → Any (L ++ OfLimit limit ∷ []) a → w.marks ≤ b → Ends p (L ++ OfLimit limit ∷ []) (at c1 end ops) w (k tt (cut (length w.store - 1) w))
-  given_back L limit b end c c1 ops k e e' s hk a w good le cells keeps =
+  given_back L limit b end c c1 ops k e e' used s hk a w good le cells keeps =
       let n : length w.store - 1 ≡ length L = omega (arith, keeps.as_many, length-append L (OfLimit limit ∷ [])) in
-      on_step p (at c1 end ops) (at c (end + 1) ops) (scene_of w cells) cells _ (s cells)
-      (hk tt (cut (length w.store - 1) w) tt le cells (cuts L (OfLimit limit ∷ []) w.store cells (length w.store - 1) n keeps))
+      let m : c.used + 1 ≡ length (L ++ OfLimit limit ∷ []) = omega (arith, used, length-append L (OfLimit limit ∷ [])) in
+      on_step p (at c1 end ops) (at c (end + 1) ops) (scene_of w cells) (without c.used (c.used + 1) cells) _ (s cells)
+      (hk tt (cut (length w.store - 1) w) tt le (without c.used (c.used + 1) cells)
+      (cuts L (OfLimit limit ∷ []) w.store cells (length w.store - 1) c.used (c.used + 1) n used m keeps))
 
   limit_sized : (way : Way) (ts : Stretch) → ((ks : List OperandKind) (m : Spot) (pc : ℕ) → length (ts.lines ks m pc) ≡ ts.size)
       → (ks : List OperandKind) (m : Spot) (pc : ℕ) → length ((limit_code way ts).lines ks m pc) ≡ (limit_code way ts).size
@@ -96,20 +99,23 @@ module _ (p : Program) (body : Option ℕ) where
             let used : c.used ≡ length L = le.stands.used in
             let same : length w.store + 1 ≡ c.used + 1 = omega (arith, used, keeps.as_many) in
             let past = is_past way z (number_of (fetch x w)) in
-            let now_cells = written cells (run_cell c.used) (cell_of (item.Int z)) in
+            let now_cells = written cells (run_cell c.used) (held_of (item.Int z)) in
             let w' : World = record w { store = w.store ++ Taken ∷ [] } in
-            let read = reads L w.store cells x.variable kinds.Int keeps at_x in
-            let go =
-            λ (u : Value). cond (cells_fit (c.used + 1)) (Goes (using (at c (cond (is_past way z (number_of u)) end (pc + 1)) ops) (c.used + 1)) now_cells)
-            (Halts CellRoom) in
-            let does : step p now cells ≡ go (fetch x w) = here p pc (Limit way end) ks m has.0 c (Of v ∷ keep_place x ops) cells ∙ ap go read.1 in
+            let goes_on =
+            λ (u : Value). Goes (using (at c (cond (is_past way z (number_of u)) end (pc + 1)) ops) (c.used + 1)) now_cells in
+            let read = reads L w.store cells x.variable kinds.Int goes_on keeps at_x in
+            let is_free' : is_free (cells (run_cell c.used)) ≡ true = ap is_free (keeps.beyond c.used (omega (arith, used))) in
+            let does : step p now cells ≡ cond (cells_fit (c.used + 1)) (goes_on (fetch x w)) (Halts CellRoom) =
+            here p pc (Limit way end) ks m has.0 c (Of v ∷ keep_place x ops) cells
+            ∙ ap (λ t. cond (cells_fit (c.used + 1)) (cond t (on_word (cells (run_cell x.variable)) (λ n. goes_on (value_in kinds.Int n))) Unknown)
+            (Halts CellRoom)) is_free' ∙ ap (λ go. cond (cells_fit (c.used + 1)) go (Halts CellRoom)) read.1 in
             let run =
             λ (w : World). bind (branch (is_past way z (number_of (fetch x w))) (Gives (tt {0})) (turns n (t r)) w)
             (λ _ w. Gives (tt {0}) (cut (length w.store - 1) w)) in
             let within : x.variable < length w.store = omega (arith, slice_get_within L x.variable (OfValue kinds.Int) at_x, keeps.as_many) in
             let kept : Keeps M w'.store now_cells =
-            subst (λ n. Keeps M w'.store (written cells (run_cell n) (cell_of (item.Int z)))) (sym used)
-            (extends_one L w.store cells (OfLimit z) Taken (cell_of (item.Int z)) keeps (refl, number_fits p body v ok, refl)) in
+            subst (λ n. Keeps M w'.store (written cells (run_cell n) (held_of (item.Int z)))) (sym used)
+            (extends_one L w.store cells (OfLimit z) Taken (held_of (item.Int z)) keeps (refl, number_fits p body v ok, refl)) in
             let same_x : fetch x w' ≡ fetch x w = ap value_of (get_or_append_left w.store (Taken ∷ []) Taken x.variable within) in
             let fuller = λ (e : cells_fit (c.used + 1) ≡ true).
             let le' : Within p calls n b M (deeper m) c1 = record { turns = le.turns; stands = stands_wider L (OfLimit z) m c e le.stands; carry = le.carry } in
@@ -120,9 +126,10 @@ module _ (p : Program) (body : Option ℕ) where
             (has_front p.lines (pc + 1) (ts.lines (drop 2 ks) (deeper m) (pc + 1)) _ has.1)) in
             let drops = λ (cells : Cells).
             let n : c.used + 1 - 1 ≡ c.used = omega arith in
-            here p end Unlimit (drop 2 ks) (deeper m) h1.0 c1 ops cells ∙ ap (λ n. Goes (using (at c (end + 1) ops) n) cells) n in
+            here p end Unlimit (drop 2 ks) (deeper m) h1.0 c1 ops cells ∙ ap (λ n. Goes (using (at c (end + 1) ops) n) (without n (c.used + 1) cells)) n in
             let ends =
-            inner.by (λ _ w. k tt (cut (length w.store - 1) w)) l (given_back L z b end c c1 ops k refl refl drops hk) (wider p L (OfLimit z ∷ []) hl) w' lw
+            inner.by (λ _ w. k tt (cut (length w.store - 1) w)) l (given_back L z b end c c1 ops k refl refl used drops hk) (wider p L (OfLimit z ∷ []) hl) w'
+            lw
             now_cells kept in
             subst (Comes p (free (at c1 (cond past end (pc + 1)) ops)) (scene_of w now_cells))
             (sym (finish_bind (branch past (Gives (tt {0})) (turns n (t r)) w') (λ _ w. Gives (tt {0}) (cut (length w.store - 1) w)) k l)

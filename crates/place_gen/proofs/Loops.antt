@@ -9,9 +9,9 @@ use Rattle.eu_base.specs.declared.value.Value.{Value}
 use Rattle.eu_base.specs.declared.value.Value.TheVariants as item
 use Rattle.eu_base.specs.declared.operation.Change.TheVariants.{Increase}
 use Rattle.eu_base.specs.declared.operation.Way.{Way}
-use Rattle.eu_base.specs.Values.{IsOf, number_of, truth_of, cell_of, value_in}
+use Rattle.eu_base.specs.Values.{IsOf, number_of, truth_of}
 use Rattle.eu_base.specs.Operations.{has_reached, next_number}
-use Rattle.eu_base.specs.Cells.{Cells, run_cell, written}
+use Rattle.eu_base.specs.Cells.{Cells, held_of, run_cell, written}
 use Rattle.code_form.specs.declared.operand.Operand.{Operand}
 use Rattle.code_form.specs.declared.operand.Operand.TheVariants.{Value as Of}
 use Rattle.code_form.specs.declared.operand.OperandKind.{OperandKind}
@@ -19,7 +19,7 @@ use Rattle.code_form.specs.declared.operand.OperandKind.TheVariants as operand
 use Rattle.code_form.specs.declared.instr.Instr.TheVariants.{Mark, Number, Modify, Jump, False, Step}
 use Rattle.code_form.specs.declared.code.Spot.{Spot}
 use Rattle.code_form.specs.Program.{Program, line_of}
-use Rattle.code_form.specs.Machine.{Frame, Position, free, Goes, at, limit_in, step}
+use Rattle.code_form.specs.Machine.{Frame, Position, Move, free, Goes, at, on_number, limit_cell, step}
 use Rattle.elan_types.specs.declared.core_phrase.Exit.{Exit as Exit'}
 use Rattle.elan_types.specs.declared.core_phrase.PlacePhrase.{PlacePhrase}
 use Rattle.elan_types.specs.Eval.{Place, Slot, World, Outcome, Gives, bind, branch, fetch, assign, deliver, place, holding_place, modify, Calls, Run, turns}
@@ -29,7 +29,7 @@ use Rattle.place_gen.specs.Stretch.{Stretch, none, one, pushes, Exit, stays, exi
 use Rattle.place_gen.specs.Correct.{Comes, scene_of}
 use Rattle.place_gen.proofs.Lines.{HasAt, has_front, has_rest}
 use Rattle.place_gen.proofs.Homes.{HasPlace}
-use Rattle.place_gen.proofs.Cells.{OfLimit, Uses, Keeps, reads, get_right, value_in-cell_of}
+use Rattle.place_gen.proofs.Cells.{OfLimit, Uses, Keeps, reads, reads_limit, get_right}
 use Rattle.eu_base.proofs.Results.{next_fits, fits_in_range}
 use Rattle.place_gen.proofs.Carry.{finish, Any, AtKind, reach, Ends, Carries, Within, less, on_step, lead_ends, then_carries, lead_carries, write_ends}
 use Rattle.place_gen.proofs.Carry.{branch_carries, none_carries, turns_carries, here, ends_at}
@@ -215,21 +215,19 @@ module _ (p : Program) (body : Option ℕ) where
   number_fits (item.Truth b) h = absurd h
 
   -- the limit is read out of its cell
-  limit_read : (limit : ℤ) (U : Uses) (c : Position) (store : List Slot) (cells : Cells) → Under limit U → c.used ≡ length U → Keeps U store cells
-      → limit_in c cells ≡ limit
-  limit_read limit U c store cells l used h =
+  limit_read : (limit : ℤ) (U : Uses) (c : Position) (store : List Slot) (cells : Cells) (go : ℤ → Move) → Under limit U → c.used ≡ length U
+      → Keeps U store cells → on_number (limit_cell c cells) go ≡ go limit
+  limit_read limit U c store cells go l used h =
       let n : c.used - 1 ≡ length l.0 = omega (arith, used, ap length l.1, length-append l.0 (OfLimit limit ∷ [])) in
       let is : slice_get U (length l.0) ≡ Some (OfLimit limit) =
       ap (λ U. slice_get U (length l.0)) l.1
       ∙ (let e : length l.0 ≡ length l.0 + 0 = omega arith in ap (slice_get (l.0 ++ OfLimit limit ∷ [])) e ∙ get_right l.0 (OfLimit limit ∷ []) 0) in
-      let g = h.each (length l.0) (OfLimit limit) is in
-      ap (λ n. number_of (value_in kinds.Int (cells (run_cell n)))) n ∙ ap (λ n. number_of (value_in kinds.Int n)) g.2
-      ∙ ap number_of (value_in-cell_of kinds.Int (item.Int limit) g.1)
+      ap (λ n. on_number (cells (run_cell n)) go) n ∙ reads_limit U store cells (length l.0) limit (λ v. go (number_of v)) h is
 
   stepped : {U : Uses} (t : Bool) (way : Way) (limit z : ℤ) (x : Place) (b : ℕ) (c next exit : Position) (k : Bool → World → Ending)
       (l : Exit' → Option Value → World → Ending) → ((a : Bool) (w : World) → Any U a → w.marks ≤ b → Ends p U (cond a next exit) w (k a w)) → (w : World)
       → w.marks ≤ b → (cells : Cells) → Keeps U w.store cells → AtKind kinds.Int U x → FitsSigned w16 limit → FitsSigned w16 z → has_reached way limit z ≡ t
-      → step p c cells ≡ cond t (Goes exit cells) (Goes next (written cells (run_cell x.variable) (cell_of (item.Int (next_number way z)))))
+      → step p c cells ≡ cond t (Goes exit cells) (Goes next (written cells (run_cell x.variable) (held_of (item.Int (next_number way z)))))
       → Comes p (free c) (scene_of w cells) (finish (branch t (Gives false) (λ w. Gives true (assign x (item.Int (next_number way z)) w)) w) k l)
   stepped true way limit z x b c next exit k l hk w le cells h is f g t e = on_step p c exit (scene_of w cells) cells _ e (hk false w tt le cells h)
   stepped {U} false way limit z x b c next exit k l hk w le cells h is f g t e =
@@ -251,14 +249,13 @@ module _ (p : Program) (body : Option ℕ) where
                   let next = at c (pc + 1 + 1) ops in
                   let exit = at c end ops in
                   let z = number_of (fetch x w) in
-                  let read = reads U w.store cells x.variable kinds.Int h at_x in
                   let go =
-                  λ (v : Value) (lim : ℤ).
-                  cond (has_reached way lim (number_of v)) (Goes exit cells)
-                  (Goes next (written cells (run_cell x.variable) (cell_of (item.Int (next_number way (number_of v)))))) in
+                  λ (lim z : ℤ).
+                  cond (has_reached way lim z) (Goes exit cells)
+                  (Goes next (written cells (run_cell x.variable) (held_of (item.Int (next_number way z))))) in
+                  let read = reads U w.store cells x.variable kinds.Int (λ v. go limit (number_of v)) h at_x in
                   stepped (has_reached way limit z) way limit z x b now next exit k e hk w le' cells h at_x fits (number_fits (fetch x w) read.0) refl
                   (here p (pc + 1) (Step way end) (operand.Place kinds.Int ∷ ks) m has.1.0 c (keep_place x ops) cells
-                  ∙ ap (go (value_in kinds.Int (cells (run_cell x.variable)))) (limit_read limit U now w.store cells l le.stands.used h)
-                  ∙ ap (λ v. go v limit) read.1);
+                  ∙ limit_read limit U now w.store cells (λ lim. on_number (cells (run_cell x.variable)) (go lim)) l le.stands.used h ∙ read.1);
             }));
       }

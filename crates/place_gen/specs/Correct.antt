@@ -1,10 +1,10 @@
 -- What it means that cells hold a store, and that the machine comes to rest as an ending says.
-use Rattle.std.specs.Prelude.{◌≡◌, ℕ, true, List, length, Some, slice_get}
+use Rattle.std.specs.Prelude.{◌≡◌, ℕ, ◌≤◌, true, List, length, Some, slice_get}
 use Rattle.eu_base.specs.declared.value.Kind.{Kind}
-use Rattle.eu_base.specs.Values.{IsOf, cell_of}
+use Rattle.eu_base.specs.Values.{IsOf}
 use Rattle.eu_base.specs.declared.value.Value.{Value}
 use Rattle.eu_base.specs.Room.{cells_fit}
-use Rattle.eu_base.specs.Cells.{Cells, run_cell}
+use Rattle.eu_base.specs.Cells.{Cell, Free, Word, Cells, held_of, run_cell}
 use Rattle.code_form.specs.declared.halt.Halt.{Halt}
 use Rattle.code_form.specs.declared.halt.Halt.TheVariants as halts
 use Rattle.code_form.specs.Program.{Program}
@@ -12,21 +12,22 @@ use Rattle.code_form.specs.Machine.{Control, Scene, Rest, exec}
 use Rattle.elan_types.specs.Eval.{Slot, Holds, Refers, Taken, World}
 use Rattle.elan_types.specs.Command.{Ending, Ended, Stopped, OutOfMarks, Asks}
 
--- the number in a cell stands for what a slot has
-abbrev pub StandsFor : ℕ → Slot → Type 0
-StandsFor n (Holds v) = n ≡ cell_of v
-StandsFor n (Refers x) = n ≡ x.variable
+-- what a cell holds stands for what a slot has
+abbrev pub StandsFor : Cell → Slot → Type 0
+StandsFor n (Holds v) = n ≡ held_of v
+StandsFor n (Refers x) = n ≡ Word x.variable
 StandsFor n Taken = Unit {0}
 
 -- the cells hold the store, where it has room. Variables that have no room at the start of a command have no cells
 abbrev pub Image : List Slot → Cells → Type 0
 Image store cells = cells_fit (length store) ≡ true → (x : ℕ) (s : Slot) → slice_get store x ≡ Some s → StandsFor (cells (run_cell x)) s
 
--- the cells hold a store that has a value of its kind for each variable
+-- the cells hold a store that has a value of its kind for each variable, and nothing is known of the cells behind
 pub record HasVariables (variables : List Kind) (store : List Slot) (cells : Cells) : Type 0 where
   pub as_many : length store ≡ length variables
   pub each : (x : ℕ) (k : Kind) → slice_get variables x ≡ Some k → (v : Value) × (slice_get store x ≡ Some (Holds v)) × IsOf k v
   pub image : Image store cells
+  pub beyond : (x : ℕ) → length variables ≤ x → cells (run_cell x) ≡ Free
 
 -- a run rests so, with the same marks and replies left, and with the store in the cells
 pub record RestsAs (h : Halt) (w : World) (r : Rest) : Type 0 where
