@@ -1,24 +1,35 @@
--- A command stands so after a reply.
-use Rattle.std.proofs.Common.{◌≡◌, ℕ, List, [], ◌∷◌, ◌++◌, Some, sym, ap, subst}
+-- A command stands so after a run, and after a reply.
+use Rattle.std.proofs.Common.{◌≡◌, ◌⊎◌, ℕ, ◌+◌, ◌-◌, List, [], ◌∷◌, ◌++◌, sym, ap, subst}
 use Rattle.std.specs.Prelude.{IsSome}
 use Rattle.eu_base.specs.declared.request.Request.{Request}
 use Rattle.eu_base.specs.declared.request.Reply.{Reply}
 use Rattle.eu_base.specs.Cells.{Cells}
+use Rattle.code_form.specs.declared.halt.Halt.{Halt}
 use Rattle.code_form.specs.declared.waits.Waits.{Waits}
 use Rattle.code_form.specs.declared.waits.Waits.TheVariants.{Nothing, Asked, Refused}
 use Rattle.code_form.specs.Program.{Program}
-use Rattle.code_form.specs.Machine.{Control, answered}
-use Rattle.code_form.specs.Runs.{Stands, asked}
-use Rattle.code_form.proofs.Spent.{stands_reply}
+use Rattle.code_form.specs.Machine.{Control, Rest, rest_at, answered}
+use Rattle.code_form.specs.Runs.{IsPaused, Rests, Stands, asked}
+use Rattle.code_form.proofs.Spent.{stands_run, stands_reply}
+use Rattle.zero_machine.specs.Running.{scene_of}
+
+module _ (p : Program) (first : Control) (before : Cells) (spent : ℕ) (replies : List Reply) where
+  pub stands_there : (c c' : Control) (cells : Cells) (left marks : ℕ) (how : Halt) (r : Rest) → r ≡ rest_at how c' (scene_of r.scene.cells marks)
+      → IsPaused how ⊎ (left ≡ 0) → Stands p first before spent replies c cells → Rests p c (scene_of cells left) r
+      → Stands p first before (spent + (left - marks)) replies c' r.scene.cells
+  stands_there c c' cells left marks how r is paused k rests =
+      let calm = subst (λ h. IsPaused h ⊎ (left ≡ 0)) (sym (ap (λ (r : Rest). r.how) is)) paused in
+      let on = stands_run p first before spent left replies c cells r calm k rests (ap (λ (r : Rest). r.scene.replies) is) in
+      subst (λ n. Stands p first before (spent + (left - n)) replies c' r.scene.cells) (ap (λ (r : Rest). r.scene.marks) is)
+      (subst (λ (d : Control). Stands p first before (spent + (left - r.scene.marks)) replies d r.scene.cells) (ap (λ (r : Rest). r.control) is) on)
 
 module _ (p : Program) (first : Control) (cells : Cells) (spent : ℕ) (replies : List Reply) (r : Reply) where
-  pub stands_answered : (w : Waits) (before after : Control) (now now' : Cells) → before.waits ≡ w → IsSome (asked w)
-      → ((q : Request) → before.waits ≡ Asked q → after ≡ answered q r before.position) → now' ≡ now →
-      Stands p first cells spent replies before now → Stands p first cells spent (replies ++ r ∷ []) after now'
-  stands_answered Nothing before after now now' e some is same k = let f : ⊥ = cc in absurd f
-  stands_answered (Refused stop) before after now now' e some is same k = let f : ⊥ = cc in absurd f
-  stands_answered (Asked q) before after now now' e some is same k =
+  pub stands_answered : (w : Waits) (before after : Control) (now : Cells) → before.waits ≡ w → IsSome (asked w)
+      → ((q : Request) → before.waits ≡ Asked q → after ≡ answered q r before.position) →
+      Stands p first cells spent replies before now → Stands p first cells spent (replies ++ r ∷ []) after now
+  stands_answered Nothing before after now e some is k = let f : ⊥ = cc in absurd f
+  stands_answered (Refused stop) before after now e some is k = let f : ⊥ = cc in absurd f
+  stands_answered (Asked q) before after now e some is k =
       let k' = subst (λ w. Stands p first cells spent replies (record { position = before.position; waits = w }) now) e k in
-      subst (λ (d : Control). Stands p first cells spent (replies ++ r ∷ []) d now') (sym (is q e))
-      (subst (λ (n : Cells). Stands p first cells spent (replies ++ r ∷ []) (answered q r before.position) n) (sym same)
-      (stands_reply p first cells spent replies before.position now q r k'))
+      subst (λ (d : Control). Stands p first cells spent (replies ++ r ∷ []) d now) (sym (is q e))
+      (stands_reply p first cells spent replies before.position now q r k')

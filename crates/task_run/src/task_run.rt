@@ -4,13 +4,13 @@ ghost use Rattle.eu_base.specs.declared.request.Request.{Request};
 ghost use Rattle.eu_base.specs.declared.request.Reply.{Reply};
 ghost use Rattle.code_form.specs.declared.halt.Halt.TheVariants as halts;
 ghost use Rattle.code_form.specs.declared.waits.Waits.TheVariants as waits;
-ghost use Rattle.eu_base.specs.Values.{blank_of, cell_of};
+ghost use Rattle.eu_base.specs.Values.{blank_of};
 ghost use Rattle.eu_base.specs.Room.{cells_fit};
-ghost use Rattle.eu_base.specs.Cells.{Cells, HasFaultCause, IsBlank};
-ghost use Rattle.code_form.specs.Machine.{Control, start, rest_at, answered, written_from};
+ghost use Rattle.eu_base.specs.Cells.{Cells, held_of, HasFaultCause};
+ghost use Rattle.code_form.specs.Machine.{Control, Rest, start, answered, written_from};
 ghost use Rattle.code_form.specs.Valid.{Fits};
 ghost use Rattle.code_form.specs.Runs.{IsPaused, Rests, Stands, asked};
-ghost use Rattle.zero_machine.specs.Running.{scene_of};
+ghost use Rattle.zero_machine.specs.Running.{scene_of, RestsSo};
 
 use code_form::{Code, Halt, Waits};
 use eu_base::{MemFault, Memory, Reply, Request};
@@ -38,10 +38,9 @@ impl TaskRun {
     pub fn start<M: Memory>(alloc: Global, c: &Code, m: &mut M) -> Result<TaskRun, MemFault>
         ensures control { IfOk result (λ command. command ≡ start (length c.now.variables)) }
         ensures fits { IfOk result (λ command. Fits c.now command) }
-        ensures blank { OnOk result (cells_fit (length c.now.variables) ≡ true → IsBlank c.now.variables (M.cells m.new)) }
-        ensures written { OnOk result (cells_fit (length c.now.variables) ≡ true →
-            M.cells m.new ≡ written_from 0 (map (λ k. cell_of (blank_of k)) c.now.variables) (M.cells m.old)) }
-        ensures kept { OnOk result (cells_fit (length c.now.variables) ≡ false → M.cells m.new ≡ M.cells m.old) }
+        ensures written { OnOk result (cells_fit (length c.now.variables) ≡ true → (cells : Cells) → M.holds m.old cells →
+            M.holds m.new (written_from 0 (map (λ k. held_of (blank_of k)) c.now.variables) cells)) }
+        ensures kept { OnOk result (cells_fit (length c.now.variables) ≡ false → (cells : Cells) → M.holds m.old cells → M.holds m.new cells) }
         ensures cause { HasFaultCause (M.faults m.old) (M.faults m.new) result }
         ensures follows { M.follows m.old m.new }
     {
@@ -51,15 +50,17 @@ impl TaskRun {
 
     /// Goes on until a mark is due and none is left, something is asked, or the command ends or stops. However the
     /// marks are divided over the calls, they make one run. A call without marks asks nothing: after it the command
-    /// stands right before its next mark, its end or its stop.
+    /// stands right before its next mark, its end or its stop. Where it comes to rest is said of all that memory is known
+    /// to hold, and memory then holds the cells of that rest.
     pub fn go<M: Memory>(&mut self, c: &Code, m: &mut M, marks: &mut u32) -> Result<Halt, MemFault>
         requires { Fits c.now self.old }
-        ensures rests { IfOk result (λ halt. Rests c.now self.old (scene_of (M.cells m.old) marks.old)
-            (rest_at halt self.new (scene_of (M.cells m.new) marks.new))) }
+        ensures rests { IfOk result (λ halt. (cells : Cells) (r : Rest) → M.holds m.old cells → Rests c.now self.old (scene_of cells marks.old) r →
+            RestsSo (M.holds m.new) halt self.new marks.new r) }
         ensures marks { OnOk result (marks.new ≤ marks.old) }
-        ensures stands { IfOk result (λ halt. IsPaused halt ⊎ (marks.old ≡ 0) → (first : Control) (cells : Cells) (spent : ℕ) (replies : List Reply) →
-            Stands c.now first cells spent replies self.old (M.cells m.old) →
-            Stands c.now first cells (spent + (marks.old - marks.new)) replies self.new (M.cells m.new)) }
+        ensures stands { IfOk result (λ halt. IsPaused halt ⊎ (marks.old ≡ 0) → (cells : Cells) (r : Rest) → M.holds m.old cells →
+            Rests c.now self.old (scene_of cells marks.old) r → (first : Control) (before : Cells) (spent : ℕ) (replies : List Reply) →
+            Stands c.now first before spent replies self.old cells →
+            Stands c.now first before (spent + (marks.old - marks.new)) replies self.new r.scene.cells) }
         ensures asks { IfOk result (λ halt. (request : Request) → halt ≡ halts.Asks request → self.new.waits ≡ waits.Asked request) }
         ensures pays { IfOk result (λ halt. (request : Request) → halt ≡ halts.Asks request → asked self.old.waits ≡ None → marks.new < marks.old) }
         ensures fits { OnOk result (Fits c.now self.new) }
@@ -85,11 +86,10 @@ impl TaskRun {
         requires fits { Fits c.now self.old }
         requires asks { IsSome (asked self.old.waits) }
         ensures answered { OnOk result ((request : Request) → self.old.waits ≡ waits.Asked request → self.new ≡ answered request r self.old.position) }
-        ensures stands { OnOk result ((first : Control) (cells : Cells) (spent : ℕ) (replies : List Reply) →
-            Stands c.now first cells spent replies self.old (M.cells m.old) →
-            Stands c.now first cells spent (replies ++ r ∷ []) self.new (M.cells m.new)) }
+        ensures stands { OnOk result ((first : Control) (before cells : Cells) (spent : ℕ) (replies : List Reply) →
+            Stands c.now first before spent replies self.old cells → Stands c.now first before spent (replies ++ r ∷ []) self.new cells) }
         ensures fits { OnOk result (Fits c.now self.new) }
-        ensures kept { M.cells m.new ≡ M.cells m.old }
+        ensures kept { OnOk result ((cells : Cells) → M.holds m.old cells → M.holds m.new cells) }
         ensures cause { HasFaultCause (M.faults m.old) (M.faults m.new) result }
         ensures follows { M.follows m.old m.new }
     {

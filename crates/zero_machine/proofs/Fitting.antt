@@ -1,90 +1,137 @@
--- A step from a state that fits leaves one that fits.
-use Rattle.std.proofs.Common.{◌≡◌, ℕ, zero, suc, ◌<◌, List, [], ◌∷◌, length, Option, Some, None, sym, ap, ◌∙◌, subst}
+-- A step from a state that fits leaves one that fits, nearer to the end.
+use Rattle.std.proofs.Common.{◌≡◌, ℕ, zero, suc, ◌<◌, refl, length, Option, Some, None, sym, ap, ◌∙◌, subst, arith}
 use Rattle.std.specs.Prelude.{Result, Ok, Err, IfOk, OnOk, slice_get}
-use Rattle.eu_base.specs.declared.request.Request.{Request}
-use Rattle.eu_base.specs.declared.request.Reply.{Reply}
 use Rattle.eu_base.specs.Cells.{Cells}
 use Rattle.code_form.specs.declared.instr.Instr.{Instr}
 use Rattle.code_form.specs.declared.halt.Halt.{Halt}
 use Rattle.code_form.specs.declared.halt.Halt.TheVariants as halts
 use Rattle.code_form.specs.declared.waits.Waits.{Waits}
-use Rattle.code_form.specs.declared.waits.Waits.TheVariants.{Nothing, Asked, Refused}
+use Rattle.code_form.specs.declared.waits.Waits.TheVariants.{Nothing}
 use Rattle.code_form.specs.Program.{Program, instr_of}
-use Rattle.code_form.specs.Machine.{Position, Control, free, asking, After, To, Asks, Stops, Move, Goes, Spends, Halts, Ends, Stuck, Scene, Rest, Stage, On}
-use Rattle.code_form.specs.Machine.{Over, answered, after_stage, mark_stage, stage, stage_at, advance, rest_at, instruction, step}
+use Rattle.code_form.specs.Machine.{Position, Control, free, asking, After, To, Asks, Stops, Unsaid, Move, Goes, Spends as Pays, Halts, Ends, Unknown}
+use Rattle.code_form.specs.Machine.{Stuck, Scene, Rest, On}
+use Rattle.code_form.specs.Machine.{Over, Lost, after_stage, mark_stage, stage, stage_at, advance, rest_at, instruction, step}
 use Rattle.code_form.specs.Valid.{IsValid, Fits}
 use Rattle.code_form.specs.Runs.{IsSafe, steps_left}
 use Rattle.code_form.proofs.Safe.{stays_fit}
 use Rattle.code_form.proofs.Steps.{nearer}
-use Rattle.zero_machine.specs.Running.{stage_of, halt_of, due, scene_of}
+use Rattle.zero_machine.specs.Running.{stage_of, stage_by, halt_of, scene_of, Does, Spends, Steps}
 use Rattle.zero_machine.specs.declared.next.Next.{Next}
 
-module _ (p : Program) where
-  on : (d : Control) (t : Scene) → Fits p d → (h : Option Halt) (c' : Control) (s' : Scene) → stage_of h c' s' ≡ On d t → Fits p c'
-  on d t f None c' s' e = let g : d ≡ c' = cc in subst (Fits p) g f
-  on d t f (Some h) c' s' e = let g : ⊥ = cc in absurd g
+-- where nothing is waited for
+pub fits_free : (p : Program) (c : Control) → c.waits ≡ Nothing → Fits p c → Fits p (free c.position)
+fits_free p c none fits = subst (λ (w : Waits). Fits p (record { position = c.position; waits = w })) none fits
 
-  over : (how : Halt) (d : Control) (t : Scene) → Fits p d → (h : Option Halt) (c' : Control) (s' : Scene) → stage_of h c' s' ≡ Over (rest_at how d t)
-      → Fits p c'
-  over how d t f None c' s' e = let g : ⊥ = cc in absurd g
+-- what a step answers, of the stage that it leads to
+module _ (P : Control → ℕ → Type 0) where
+  on : (d : Control) (t : Scene) → P d t.marks → (h : Option Halt) (c' : Control) (s' : Scene) → stage_of h c' s' ≡ On d t → P c' s'.marks
+  on d t f None c' s' e =
+      let g : (c' ≡ d) × (s' ≡ t) = (cc e, cc e) in subst (λ (d : Control). P d s'.marks) (sym g.0) (subst (λ (t : Scene). P d t.marks) (sym g.1) f)
+  on d t f (Some h) c' s' e = absurd (cc e)
+
+  over : (how : Halt) (d : Control) (t : Scene) → P d t.marks → (h : Option Halt) (c' : Control) (s' : Scene) → stage_of h c' s' ≡ Over (rest_at how d t)
+      → P c' s'.marks
+  over how d t f None c' s' e = absurd (cc e)
   over how d t f (Some h) c' s' e =
-      let g : rest_at h c' s' ≡ rest_at how d t = cc in
-      subst (Fits p) (sym (ap (λ (r : Rest). r.control) g)) f
+      let g : rest_at h c' s' ≡ rest_at how d t = cc e in
+      subst (λ (r : Rest). P r.control r.scene.marks) (sym g) f
 
-  after : (c : Position) (s : Scene) (a : After) → IsSafe p (Spends a) → Fits p (free c) → (h : Option Halt) (c' : Control) (s' : Scene)
-      → stage_of h c' s' ≡ after_stage a c s → Fits p c'
-  after c s (To d cells) safe f h c' s' e = on (free d) (record s { cells = cells }) safe h c' s' e
-  after c s (Asks d q cells) safe f h c' s' e = on (asking d q) (record s { cells = cells }) safe h c' s' e
-  after c s (Stops stop) safe f h c' s' e = over (halts.Stopped stop) (free c) s f h c' s' e
+  lost : (h : Option Halt) (c' : Control) (s' : Scene) → stage_of h c' s' ≡ Lost → P c' s'.marks
+  lost None c' s' e = absurd (cc e)
+  lost (Some h) c' s' e = absurd (cc e)
 
-  pub stage_fits : (c : Position) (s : Scene) (m : Move) → IsSafe p m → Fits p (free c) → (h : Option Halt) (c' : Control) (s' : Scene)
-      → stage_of h c' s' ≡ stage m c s → Fits p c'
-  stage_fits c s (Goes d cells) safe f h c' s' e = on (free d) (record s { cells = cells }) safe h c' s' e
-  stage_fits c s (Spends a) safe f h c' s' e = by s.marks e
+-- a step leads to a state that fits, with no more marks, and with one less where something is asked
+module _ (p : Program) (c : Position) (s : Scene) (fits : Fits p (free c)) where
+  abbrev Good : Control → ℕ → Type 0
+  Good d marks = Fits p d × Spends s.marks marks d.waits
+
+  here : Good (free c) s.marks
+  here = (fits, record { fewer = omega arith; paid = λ some. absurd (cc some) })
+
+  after_good : (m : ℕ) → s.marks ≡ suc m → (a : After) → IsSafe p (Pays a) → (h : Option Halt) (c' : Control) (s' : Scene)
+      → stage_of h c' s' ≡ after_stage a c (record s { marks = m }) → Good c' s'.marks
+  after_good m e (To d cells) safe =
+      on Good (free d) (record s { cells = cells; marks = m }) (safe, record { fewer = omega (arith, e); paid = λ some. absurd (cc some) })
+  after_good m e (Asks d q cells) safe =
+      on Good (asking d q) (record s { cells = cells; marks = m }) (safe, record { fewer = omega (arith, e); paid = λ some. omega (arith, e) })
+  after_good m e (Stops stop) safe =
+      over Good (halts.Stopped stop) (free c) (record s { marks = m }) (fits, record { fewer = omega (arith, e); paid = λ some. absurd (cc some) })
+  after_good m e Unsaid safe = lost Good
+
+  pub stage_good : (m : Move) → IsSafe p m → (h : Option Halt) (c' : Control) (s' : Scene) → stage_of h c' s' ≡ stage m c s → Good c' s'.marks
+  stage_good (Goes d cells) safe = on Good (free d) (record s { cells = cells }) (safe, record { fewer = omega arith; paid = λ some. absurd (cc some) })
+  stage_good (Pays a) safe = by s.marks refl
     where
-      by : (m : ℕ) → stage_of h c' s' ≡ mark_stage m a c s → Fits p c'
-      by zero e = over halts.Marked (free c) s f h c' s' e
-      by (suc m) e = after c (record s { marks = m }) a safe f h c' s' e
-  stage_fits c s (Halts stop) safe f h c' s' e = over (halts.Stopped stop) (free c) s f h c' s' e
-  stage_fits c s Ends safe f h c' s' e = over halts.Ended (free c) s f h c' s' e
-  stage_fits c s Stuck safe f h c' s' e = absurd safe
+      by : (m : ℕ) → s.marks ≡ m → (h : Option Halt) (c' : Control) (s' : Scene) → stage_of h c' s' ≡ mark_stage m a c s → Good c' s'.marks
+      by zero none = over Good halts.Marked (free c) s here
+      by (suc m) some = after_good m some a safe
+  stage_good (Halts stop) safe = over Good (halts.Stopped stop) (free c) s here
+  stage_good Ends safe = over Good halts.Ended (free c) s here
+  stage_good Unknown safe = lost Good
+  stage_good Stuck safe = absurd safe
 
+module _ {E : Type 0} (p : Program) (c : Control) (result : Result Next E) (before after : Cells → Type 0) (c' : Control) (marks marks' : ℕ) (i : Instr)
+    (valid : IsValid p) (fits : Fits p (free c.position)) (none : c.waits ≡ Nothing) (is : Some i ≡ instr_of (slice_get p.lines c.position.pc)) where
   -- what a step is, where nothing is waited for
-  pub step_is : (c : Control) (cells : Cells) (marks : ℕ) (i : Instr) → c.waits ≡ Nothing → Some i ≡ instr_of (slice_get p.lines c.position.pc)
-      → advance p c (scene_of cells marks) ≡ stage (instruction p (Some i) c.position cells) c.position (scene_of cells marks)
-  step_is c cells marks i none e =
-      ap (λ w. stage_at w p c.position (scene_of cells marks)) none
-      ∙ ap (λ o. stage (instruction p o c.position cells) c.position (scene_of cells marks)) (sym e)
+  step_is : (cells : Cells) → stage_by p i marks c.position cells ≡ advance p c (scene_of cells marks)
+  step_is cells =
+      ap (λ o. stage (instruction p o c.position cells) c.position (scene_of cells marks)) is
+      ∙ ap (λ w. stage_at w p c.position (scene_of cells marks)) (sym none)
 
--- the same, of the instruction that the machine executes
-pub step_fits : {E : Type 0} (p : Program) (c : Position) (result : Result Next E) (c' : Control) (cells : Cells) (marks : ℕ) (s' : Scene) → IsValid p
-    → Fits p (free c) → (i : Instr) → Some i ≡ instr_of (slice_get p.lines c.pc)
-    → IfOk result (λ h. stage_of (halt_of h) c' s' ≡ stage (instruction p (Some i) c cells) c (scene_of cells marks)) → OnOk result (Fits p c')
-step_fits p c (Ok h) c' cells marks s' valid f i e goes =
-    let m : step p c cells ≡ instruction p (Some i) c cells = ap (λ o. instruction p o c cells) (sym e) in
-    stage_fits p c (scene_of cells marks) (step p c cells) (stays_fit.steps p c cells valid f) f (halt_of h) c' s'
-    (goes ∙ ap (λ m. stage m c (scene_of cells marks)) (sym m))
-step_fits p c (Err x) c' cells marks s' valid f i e goes = tt
+  abbrev Made : Next → Type 0
+  Made = Steps before after (stage_by p i marks) c.position c' marks'
 
--- where something is waited for, the machine rests so
-pub rests_due : (p : Program) (c : Control) (cells : Cells) (marks : ℕ) (h : Halt) → due c.waits ≡ Some h
-    → Over (rest_at h c (scene_of cells marks)) ≡ advance p c (scene_of cells marks)
-rests_due p c cells marks h e = by c.waits e
-  where
-    by : (w : Waits) → due w ≡ Some h
-        → Over (rest_at h (record { position = c.position; waits = w }) (scene_of cells marks)) ≡ stage_at w p c.position (scene_of cells marks)
-    by Nothing e = absurd (cc e)
-    by (Asked q) e = let f : h ≡ halts.Asks q = cc e in ap (λ h. Over (rest_at h (asking c.position q) (scene_of cells marks))) f
-    by (Refused stop) e =
-        let f : h ≡ halts.Stopped stop = cc e in ap (λ h. Over (rest_at h (record { position = c.position; waits = Refused stop }) (scene_of cells marks))) f
+  pub step_goes : IfOk result Made
+      → IfOk result (λ next. (cells : Cells) → before cells → Does after (halt_of next) c' marks' (advance p c (scene_of cells marks)))
+  step_goes h = by result h
+    where
+      by : (result : Result Next E) → IfOk result Made
+          → IfOk result (λ next. (cells : Cells) → before cells → Does after (halt_of next) c' marks' (advance p c (scene_of cells marks)))
+      by (Ok next) h = λ cells held. subst (Does after (halt_of next) c' marks') (step_is cells) (h.does cells held)
+      by (Err e) h = tt
 
--- where a step goes on, the end is nearer
-pub nearer_here : (p : Program) (c c' : Control) (s' : Scene) (cells : Cells) (marks : ℕ) → IsValid p → On c' s' ≡ advance p c (scene_of cells marks)
-    → steps_left p.lines s'.marks (length c'.position.frames) c'.position.pc < steps_left p.lines marks (length c.position.frames) c.position.pc
-nearer_here p c c' s' cells marks valid e = by c.waits e
-  where
-    by : (w : Waits) → On c' s' ≡ stage_at w p c.position (scene_of cells marks)
-        → steps_left p.lines s'.marks (length c'.position.frames) c'.position.pc < steps_left p.lines marks (length c.position.frames) c.position.pc
-    by Nothing e = nearer p valid c.position c' (scene_of cells marks) s' e
-    by (Asked q) e = absurd (cc e)
-    by (Refused stop) e = absurd (cc e)
+  -- it is a step from a position that fits
+  module _ (next : Next) (h : Made next) where
+    abbrev at_from : Scene
+    at_from = scene_of h.cells marks
+
+    leads : stage_of (halt_of next) c' (scene_of h.now marks') ≡ stage (step p h.from h.cells) h.from at_from
+    leads =
+        h.leads ∙ ap (λ o. stage (instruction p o h.from h.cells) h.from at_from) (is ∙ ap (λ pc. instr_of (slice_get p.lines pc)) (sym h.like.pc))
+
+    good : Fits p c' × Spends marks marks' c'.waits
+    good =
+        let f : Fits p (free h.from) = h.like.fits p fits in
+        stage_good p h.from at_from f (step p h.from h.cells) (stays_fit.steps p h.from h.cells valid f) (halt_of next) c' (scene_of h.now marks') leads
+
+    near : halt_of next ≡ None
+        → steps_left p.lines marks' (length c'.position.frames) c'.position.pc < steps_left p.lines marks (length c.position.frames) c.position.pc
+    near on =
+        let e : On c' (scene_of h.now marks') ≡ stage (step p h.from h.cells) h.from at_from =
+        ap (λ how. stage_of how c' (scene_of h.now marks')) (sym on) ∙ leads in
+        subst (λ n. steps_left p.lines marks' (length c'.position.frames) c'.position.pc < steps_left p.lines marks n c.position.pc) h.like.frames
+        (subst (λ pc. steps_left p.lines marks' (length c'.position.frames) c'.position.pc < steps_left p.lines marks (length h.from.frames) pc) h.like.pc
+        (nearer p valid h.from c' at_from (scene_of h.now marks') e))
+
+  pub step_fits : IfOk result Made → OnOk result (Fits p c')
+  step_fits h = by result h
+    where
+      by : (result : Result Next E) → IfOk result Made → OnOk result (Fits p c')
+      by (Ok next) h = (good next h).0
+      by (Err e) h = tt
+
+  pub step_spends : IfOk result Made → OnOk result (Spends marks marks' c'.waits)
+  step_spends h = by result h
+    where
+      by : (result : Result Next E) → IfOk result Made → OnOk result (Spends marks marks' c'.waits)
+      by (Ok next) h = (good next h).1
+      by (Err e) h = tt
+
+  pub step_nears : IfOk result Made → IfOk result (λ next. halt_of next ≡ None
+      → steps_left p.lines marks' (length c'.position.frames) c'.position.pc < steps_left p.lines marks (length c.position.frames) c.position.pc)
+  step_nears h = by result h
+    where
+      by : (result : Result Next E) → IfOk result Made → IfOk result (λ next. halt_of next ≡ None
+          → steps_left p.lines marks' (length c'.position.frames) c'.position.pc < steps_left p.lines marks (length c.position.frames) c.position.pc)
+      by (Ok next) h = near next h
+      by (Err e) h = tt

@@ -2,7 +2,9 @@ pub mod Stacks
 pub mod Counts
 pub mod Finds
 pub mod Fitting
-pub mod Blanks
+pub mod Running
 pub mod Calling
 pub mod Executing
 pub mod Starting
+pub mod Making
+pub mod Accessing

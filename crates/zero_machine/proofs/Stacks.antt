@@ -1,14 +1,17 @@
 -- Operands on a stack, and the cells of a frame.
-use Rattle.std.proofs.Common.{◌≡◌, ℕ, zero, suc, ◌+◌, ◌-◌, ◌*◌, ◌≤◌, List, [], ◌∷◌, ◌++◌, map, length, take, drop, refl, sym, ap, ◌∙◌, arith, append_assoc}
-use Rattle.std.proofs.Common.{append-nil, length-append, length-drop}
-use Rattle.std.specs.Prelude.{reverse}
+use Rattle.std.proofs.Common.{◌≡◌, ℕ, zero, suc, ◌+◌, ◌-◌, ◌*◌, ◌≤◌, List, [], ◌∷◌, ◌++◌, map, length, take, drop, refl, sym, ap, ◌∙◌, subst, arith}
+use Rattle.std.proofs.Common.{append_assoc}
+use Rattle.std.proofs.Common.{append-nil, length-drop}
+use Rattle.std.proofs.Math.Seq.{take-length}
+use Rattle.std.specs.Prelude.{reverse, slice_get, Some, option_map, get_or, ◌<◌, Result, Ok, Err, OnOk}
+use Rattle.std.proofs.lemmas.Option.{slice_get-map, slice_get-get_or}
 use Rattle.std.proofs.lemmas.List.{reverse-append, length-reverse, length-map, take-append-drop, take_at, drop_at}
 use Rattle.eu_base.specs.declared.value.Kind.{Kind}
-use Rattle.eu_base.specs.Values.{blank_of, cell_of}
-use Rattle.eu_base.specs.Cells.{Cells, run_cell, written}
+use Rattle.eu_base.specs.Values.{blank_of}
+use Rattle.eu_base.specs.Cells.{Cell, Cells, held_of, run_cell, written}
 use Rattle.code_form.specs.declared.operand.Operand.{Operand}
 use Rattle.code_form.specs.declared.operand.Operand.TheVariants.{Value as Of, Place as At}
-use Rattle.code_form.specs.Machine.{Move, bytes_on, on_operands, number_of_operand, link_numbers, frame_numbers, written_from}
+use Rattle.code_form.specs.Machine.{Move, bytes_on, on_operands, held_of_operand, link_contents, frame_contents, written_from}
 
 -- the newest of a list come first when it is turned round
 module _ {X : Type 0} (xs : List X) (n : ℕ) (le : n ≤ length xs) where
@@ -50,7 +53,7 @@ pub taken_all : (n : ℕ) (ops : List Operand) (go : List Operand → List Opera
     → on_operands n [] ops go ≡ go (reverse (take n ops)) (drop n ops)
 taken_all n ops go le = taken n [] ops go le ∙ ap (λ l. go l (drop n ops)) (append-nil (reverse (take n ops)))
 
-written_append : (at : ℕ) (ns ms : List ℕ) (cells : Cells) → written_from at (ns ++ ms) cells ≡ written_from (at + length ns) ms (written_from at ns cells)
+written_append : (at : ℕ) (ns ms : List Cell) (cells : Cells) → written_from at (ns ++ ms) cells ≡ written_from (at + length ns) ms (written_from at ns cells)
 written_append at [] ms cells = let e : at ≡ at + 0 = omega arith in ap (λ k. written_from k ms cells) e
 written_append at (n ∷ ns) ms cells =
     let e : suc at + length ns ≡ at + suc (length ns) = omega arith in
@@ -58,20 +61,53 @@ written_append at (n ∷ ns) ms cells =
 
 -- the cells of the call, then what the parameters hold, then the variables
 pub frame_written : (at : ℕ) (args : List Operand) (variables : List Kind) (cells : Cells)
-    → written_from at (frame_numbers args variables) cells
-    ≡ written_from (at + 2 + length args) (map (λ k. cell_of (blank_of k)) variables)
-    (written_from (at + 2) (map number_of_operand args) (written_from at link_numbers cells))
+    → written_from at (frame_contents args variables) cells
+    ≡ written_from (at + 2 + length args) (map (λ k. held_of (blank_of k)) variables)
+    (written_from (at + 2) (map held_of_operand args) (written_from at link_contents cells))
 frame_written at args variables cells =
-    let ns = map number_of_operand args in
-    let ms = map (λ k. cell_of (blank_of k)) variables in
-    let before = written_from at link_numbers cells in
+    let ns = map held_of_operand args in
+    let ms = map (λ k. held_of (blank_of k)) variables in
+    let before = written_from at link_contents cells in
     let e : suc (suc at) ≡ at + 2 = omega arith in
-    let f : at + 2 + length ns ≡ at + 2 + length args = ap (λ k. at + 2 + k) (length-map args number_of_operand) in
+    let f : at + 2 + length ns ≡ at + 2 + length args = ap (λ k. at + 2 + k) (length-map args held_of_operand) in
     ap (λ k. written_from k (ns ++ ms) before) e ∙ written_append (at + 2) ns ms before ∙ ap (λ k. written_from k ms (written_from (at + 2) ns before)) f
 
-pub frame_so : (at : ℕ) (args : List Operand) (variables : List Kind) (before link with_args : Cells) → link ≡ written_from at link_numbers before
-    → with_args ≡ written_from (at + 2) (map number_of_operand args) link
-    → written_from (at + 2 + length args) (map (λ k. cell_of (blank_of k)) variables) with_args ≡ written_from at (frame_numbers args variables) before
-frame_so at args variables before link with_args e f =
-    ap (written_from (at + 2 + length args) (map (λ k. cell_of (blank_of k)) variables)) (f ∙ ap (written_from (at + 2) (map number_of_operand args)) e)
-    ∙ sym (frame_written at args variables before)
+-- so it holds a frame when all of it was written
+pub frame_so : {T E : Type 0} (result : Result T E) (before linked written after : Cells → Type 0) (at : ℕ) (args : List Operand) (variables : List Kind)
+    → ((cells : Cells) → before cells → linked (written_from at link_contents cells))
+    → ((cells : Cells) → linked cells → written (written_from (at + 2) (map held_of_operand args) cells))
+    → OnOk result ((cells : Cells) → written cells → after (written_from (at + 2 + length args) (map (λ k. held_of (blank_of k)) variables) cells))
+    → OnOk result ((cells : Cells) → before cells → after (written_from at (frame_contents args variables) cells))
+frame_so (Ok x) before linked written after at args variables link params made =
+    λ cells h. subst after (sym (frame_written at args variables cells)) (made _ (params _ (link cells h)))
+frame_so (Err e) before linked written after at args variables link params made = tt
+
+-- what was put into cells so far, and one more
+pub written_next : (at k : ℕ) (ns : List Cell) (x : Cell) (cells : Cells) → slice_get ns k ≡ Some x
+    → written (written_from at (take k ns) cells) (run_cell (at + k)) x ≡ written_from at (take (suc k) ns) cells
+written_next at k [] x cells e = absurd (cc e)
+written_next at zero (n ∷ ns) x cells e =
+    let same : n ≡ x = cc e in
+    let here : at + 0 ≡ at = omega arith in
+    ap (λ k. written cells (run_cell k) x) here ∙ ap (written cells (run_cell at)) (sym same)
+written_next at (suc k) (n ∷ ns) x cells e =
+    let here : at + suc k ≡ suc at + k = omega arith in
+    ap (λ j. written (written_from (suc at) (take k ns) (written cells (run_cell at) n)) (run_cell j) x) here
+    ∙ written_next (suc at) k ns x (written cells (run_cell at) n) e
+
+-- of a list of what is put into cells
+pub written_more : {A : Type 0} (f : A → Cell) (at k : ℕ) (xs : List A) (d : A) (n : Cell) (cells : Cells) → k < length xs → n ≡ f (get_or xs k d)
+    → written (written_from at (take k (map f xs)) cells) (run_cell (at + k)) n ≡ written_from at (take (k + 1) (map f xs)) cells
+written_more f at k xs d n cells lt held =
+    let e : k + 1 ≡ suc k = omega arith in
+    ap (written (written_from at (take k (map f xs)) cells) (run_cell (at + k))) held
+    ∙ written_next at k (map f xs) (f (get_or xs k d)) cells (slice_get-map f xs k ∙ ap (option_map f) (slice_get-get_or xs k d lt))
+    ∙ ap (λ j. written_from at (take j (map f xs)) cells) (sym e)
+
+-- all of it
+pub written_all : {A : Type 0} (f : A → Cell) (at k : ℕ) (xs : List A) (cells : Cells) → length xs ≤ k → k ≤ length xs
+    → written_from at (take k (map f xs)) cells ≡ written_from at (map f xs) cells
+written_all f at k xs cells le within =
+    let e : length xs ≡ length (map f xs) = sym (length-map xs f) in
+    let same : k ≡ length (map f xs) = omega (arith, e, le, within) in
+    ap (λ ns. written_from at ns cells) (ap (λ k. take k (map f xs)) same ∙ take-length (map f xs))

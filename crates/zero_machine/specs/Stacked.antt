@@ -12,7 +12,7 @@ pub record Stacked : Type 0 where
 
 -- a frame, with what is pending in the frame below
 abbrev pub linked : Link → List Operand → Frame
-linked link ops = record { back = link.back; base = link.base; used = link.used; refines = link.refines; ops = ops }
+linked link ops = record { back = link.back; base = link.base; used = link.used; refines = link.refines; body = link.body; ops = ops }
 
 abbrev pub frame_of : Kept → Frame
 frame_of f = linked f.link (reverse f.operands)

@@ -1,12 +1,12 @@
 //! Calls, refinements, and how they are left.
 ghost use Rattle.std.specs.Prelude.{◌≡◌, ℕ, ◌+◌, ◌-◌, ◌^◌, min, ◌≤◌, ◌∷◌, ◌++◌, [], List, take, drop, length, reverse, true, false, Some, OnOk, IfOk};
-ghost use Rattle.eu_base.specs.Cells.{Cells, HasFaultCause};
+ghost use Rattle.eu_base.specs.Cells.{Cells, without, HasFaultCause};
 ghost use Rattle.code_form.specs.declared.instr.Instr.TheVariants as instrs;
 ghost use Rattle.code_form.specs.declared.operand.Operand.{Operand};
-ghost use Rattle.code_form.specs.Machine.{Move, enters, frame_numbers, call_move, refer_move, on_result, back_into, out_to, stage};
+ghost use Rattle.code_form.specs.Machine.{Move, enters, frame_contents, call_move, refer_move, on_result, back_into, out_to, stage};
 ghost use Rattle.zero_machine.specs.Finds.{TopResult, IsCallable, IsInside, is_in_proc};
 ghost use Rattle.zero_machine.specs.Stacked.{linked};
-ghost use Rattle.zero_machine.specs.Running.{position_of, control_of, scene_of, stage_of, halt_of, result_ops, IsReady, GoesOn, EntersSo};
+ghost use Rattle.zero_machine.specs.Running.{position_of, control_of, scene_of, result_ops, IsReady, GoesOn, Steps, EntersSo};
 
 use crate::cells::{have_room, write_frame};
 use crate::next::Next;
@@ -17,6 +17,7 @@ use eu_base::{Kind, MemFault, Memory, NoMemory, Value};
 
 /// CALL
 pub fn call<M: Memory>(
+    body: usize,
     entry: &Entry,
     s: &mut State,
     m: &mut M,
@@ -24,8 +25,8 @@ pub fn call<M: Memory>(
 ) -> Result<Next, MemFault>
     requires ready { IsReady s.old }
     requires finds { IsCallable entry.now.layout s.old.stack.ops }
-    ensures goes { IfOk result (λ next. stage_of (halt_of next) (control_of s.new) (scene_of (M.cells m.new) marks.new)
-        ≡ stage (call_move (position_of s.old) (Some entry.now) (M.cells m.old)) (position_of s.old) (scene_of (M.cells m.old) marks.old)) }
+    ensures goes { IfOk result (Steps (M.holds m.old) (M.holds m.new)
+        (λ _ cells. stage (call_move (position_of s.old) body (Some entry.now) cells) (position_of s.old) (scene_of cells marks.old)) (position_of s.old) (control_of s.new) marks.new) }
     ensures cause { HasFaultCause (M.faults m.old) (M.faults m.new) result }
     ensures follows { M.follows m.old m.new }
 {
@@ -45,6 +46,7 @@ pub fn call<M: Memory>(
                 entry.first,
                 base,
                 false,
+                body,
                 parameters.len(),
                 variables.as_slice(),
             )
@@ -55,14 +57,15 @@ pub fn call<M: Memory>(
 
 /// REFER
 pub fn refer<M: Memory>(
+    body: usize,
     entry: &Entry,
     s: &mut State,
     m: &mut M,
     marks: &mut u32,
 ) -> Result<Next, MemFault>
     requires ready { IsReady s.old }
-    ensures goes { IfOk result (λ next. stage_of (halt_of next) (control_of s.new) (scene_of (M.cells m.new) marks.new)
-        ≡ stage (refer_move (position_of s.old) (Some entry.now) (M.cells m.old)) (position_of s.old) (scene_of (M.cells m.old) marks.old)) }
+    ensures goes { IfOk result (Steps (M.holds m.old) (M.holds m.new)
+        (λ _ cells. stage (refer_move (position_of s.old) body (Some entry.now) cells) (position_of s.old) (scene_of cells marks.old)) (position_of s.old) (control_of s.new) marks.new) }
     ensures cause { HasFaultCause (M.faults m.old) (M.faults m.new) result }
     ensures follows { M.follows m.old m.new }
 {
@@ -71,7 +74,7 @@ pub fn refer<M: Memory>(
     }
     *marks -= 1;
     let base = s.stack.base();
-    enter(s, m, entry.first, base, true, 0, &[])
+    enter(s, m, entry.first, base, true, body, 0, &[])
 }
 
 // Goes to a body with a new frame, which takes the newest operands, where its cells have room.
@@ -81,13 +84,15 @@ fn enter<M: Memory>(
     first: usize,
     base: usize,
     refines: bool,
+    body: usize,
     count: usize,
     variables: &[Kind],
 ) -> Result<Next, MemFault>
     requires ready { IsReady s.old }
     requires many { count ≤ length s.old.stack.ops }
-    ensures goes { IfOk result (EntersSo (enters (position_of s.old) first base refines (drop count s.old.stack.ops) (frame_numbers (reverse (take count s.old.stack.ops)) variables.now) (M.cells m.old))
-        (position_of s.old) (M.cells m.old) (control_of s.new) (M.cells m.new)) }
+    ensures goes { IfOk result (EntersSo (M.holds m.old) (M.holds m.new)
+        (enters (position_of s.old) first base refines body (drop count s.old.stack.ops) (frame_contents (reverse (take count s.old.stack.ops)) variables.now))
+        (position_of s.old) (control_of s.new)) }
     ensures cause { HasFaultCause (M.faults m.old) (M.faults m.new) result }
     ensures follows { M.follows m.old m.new }
 {
@@ -101,6 +106,7 @@ fn enter<M: Memory>(
         base,
         used: s.used,
         refines,
+        body,
     };
     s.stack.enter(s.alloc, link, count)?;
     s.used += more;
@@ -120,7 +126,7 @@ pub fn back(s: &mut State, kind: Option<Kind>) -> Result<(), NoMemory>
     requires ready { IsReady s.old }
     requires result { TopResult kind s.old.stack.ops }
     requires inside { IsInside s.old.stack.frames }
-    ensures { OnOk result ((cells : Cells) → GoesOn (instrs.Back kind) (position_of s.old) cells (control_of s.new) cells) }
+    ensures { OnOk result ((cells : Cells) → GoesOn (instrs.Back kind) (position_of s.old) cells (control_of s.new) (without s.new.used s.old.used cells)) }
 {
     let result = take_result(&mut s.stack, kind);
     let link = leave(&mut s.stack);
@@ -132,7 +138,7 @@ pub fn out(s: &mut State, kind: Option<Kind>) -> Result<(), NoMemory>
     requires ready { IsReady s.old }
     requires result { TopResult kind s.old.stack.ops }
     requires inside { is_in_proc s.old.stack.frames ≡ true }
-    ensures { OnOk result ((cells : Cells) → GoesOn (instrs.Out kind) (position_of s.old) cells (control_of s.new) cells) }
+    ensures { OnOk result ((cells : Cells) → GoesOn (instrs.Out kind) (position_of s.old) cells (control_of s.new) (without s.new.used s.old.used cells)) }
 {
     let result = take_result(&mut s.stack, kind);
     let link = leave_proc(&mut s.stack);
@@ -165,7 +171,7 @@ fn leave(stack: &mut Stack) -> Link
 // Leaves the frames of refinements and that of their PROC.
 fn leave_proc(stack: &mut Stack) -> Link
     requires { is_in_proc stack.old.frames ≡ true }
-    ensures { (ops : List Operand) (cells : Cells) → out_to ops stack.old.frames cells ≡ back_into ops (linked result stack.new.ops) stack.new.frames cells }
+    ensures { (ops : List Operand) (used : ℕ) (cells : Cells) → out_to ops used stack.old.frames cells ≡ back_into ops used (linked result stack.new.ops) stack.new.frames cells }
 {
     loop {
         let link = leave(stack);

@@ -1,14 +1,13 @@
 //! Numbers in cells.
-ghost use Rattle.std.specs.Prelude.{◌≡◌, ◌≢◌, Err, ◌+◌, ◌≤◌, ◌<◌, ◌++◌, map, length, true, IfOk, OnOk};
+ghost use Rattle.std.specs.Prelude.{◌≡◌, ◌+◌, ◌≤◌, ◌<◌, map, length, true, OnOk};
 ghost use Rattle.eu_base.specs.declared.address.TheConstants.{CELLS};
-ghost use Rattle.eu_base.specs.declared.cells.MemFault.TheVariants.{NoMemory};
 ghost use Rattle.eu_base.specs.Room.{cells_fit};
-ghost use Rattle.eu_base.specs.Values.{blank_of, cell_of, value_in};
-ghost use Rattle.eu_base.specs.Cells.{IsCell, run_cell, place_in, written, HasFaultCause};
-ghost use Rattle.code_form.specs.Machine.{number_of_operand, link_numbers, frame_numbers, written_from};
+ghost use Rattle.eu_base.specs.Values.{blank_of};
+ghost use Rattle.eu_base.specs.Cells.{Word, Cells, held_of, run_cell, place_in, written, HasFaultCause};
+ghost use Rattle.code_form.specs.Machine.{held_of_operand, link_contents, frame_contents, written_from};
 
 use code_form::Operand;
-use eu_base::{Addr, Area, CELLS, Kind, MemFault, Memory, Value};
+use eu_base::{Addr, Area, CELLS, Kind, MemFault, Memory};
 
 /// The place of a cell by its number.
 pub fn run_cell(cell: usize) -> Addr
@@ -29,43 +28,14 @@ pub fn have_room(used: usize, more: usize) -> bool
     more <= usize::from(CELLS) - used
 }
 
-/// The value in a cell.
-pub fn read<M: Memory>(m: &mut M, at: Addr, kind: Kind) -> Result<Value, MemFault>
-    requires { IsCell at }
-    ensures value { IfOk result (λ value. value ≡ value_in kind (M.cells m.old at)) }
-    ensures kept { OnOk result (M.cells m.new ≡ M.cells m.old) }
-    ensures memory { result ≢ Err NoMemory }
-    ensures cause { HasFaultCause (M.faults m.old) (M.faults m.new) result }
-    ensures follows { M.follows m.old m.new }
+/// The place that a number in a cell stands for.
+pub fn place_in(number: u64) -> Addr
+    ensures { result ≡ place_in number }
 {
-    let number = m.cell(at)?;
-    Ok(kind.value_in(number))
-}
-
-/// The place that a cell holds.
-pub fn read_place<M: Memory>(m: &mut M, at: Addr) -> Result<Addr, MemFault>
-    requires { IsCell at }
-    ensures place { IfOk result (λ place. place ≡ place_in (M.cells m.old at)) }
-    ensures kept { OnOk result (M.cells m.new ≡ M.cells m.old) }
-    ensures memory { result ≢ Err NoMemory }
-    ensures cause { HasFaultCause (M.faults m.old) (M.faults m.new) result }
-    ensures follows { M.follows m.old m.new }
-{
-    let number = m.cell(at)?;
-    Ok(Addr {
+    Addr {
         area: Area::Run,
         cell: (number % u64::from(CELLS)) as u16,
-    })
-}
-
-/// Writes a value to a cell.
-pub fn write<M: Memory>(m: &mut M, at: Addr, value: Value) -> Result<(), MemFault>
-    requires { IsCell at }
-    ensures written { OnOk result (M.cells m.new ≡ written (M.cells m.old) at (cell_of value)) }
-    ensures cause { HasFaultCause (M.faults m.old) (M.faults m.new) result }
-    ensures follows { M.follows m.old m.new }
-{
-    m.set_cell(at, value.cell())
+    }
 }
 
 /// Writes the cells of a new frame: two for the call, what its parameters hold, and its variables.
@@ -76,7 +46,7 @@ pub fn write_frame<M: Memory>(
     variables: &[Kind],
 ) -> Result<(), MemFault>
     requires { at + (2 + length operands.now + length variables.now) ≤ CELLS }
-    ensures written { OnOk result (M.cells m.new ≡ written_from at (frame_numbers operands.now variables.now) (M.cells m.old)) }
+    ensures written { OnOk result ((cells : Cells) → M.holds m.old cells → M.holds m.new (written_from at (frame_contents operands.now variables.now) cells)) }
     ensures cause { HasFaultCause (M.faults m.old) (M.faults m.new) result }
     ensures follows { M.follows m.old m.new }
 {
@@ -88,7 +58,7 @@ pub fn write_frame<M: Memory>(
 // The cells of the call.
 fn write_link<M: Memory>(m: &mut M, at: usize) -> Result<(), MemFault>
     requires { at + 2 ≤ CELLS }
-    ensures written { OnOk result (M.cells m.new ≡ written_from at link_numbers (M.cells m.old)) }
+    ensures written { OnOk result ((cells : Cells) → M.holds m.old cells → M.holds m.new (written_from at link_contents cells)) }
     ensures cause { HasFaultCause (M.faults m.old) (M.faults m.new) result }
     ensures follows { M.follows m.old m.new }
 {
@@ -98,7 +68,7 @@ fn write_link<M: Memory>(m: &mut M, at: usize) -> Result<(), MemFault>
 
 fn write_operands<M: Memory>(m: &mut M, at: usize, operands: &[Operand]) -> Result<(), MemFault>
     requires { at + length operands.now ≤ CELLS }
-    ensures written { OnOk result (M.cells m.new ≡ written_from at (map number_of_operand operands.now) (M.cells m.old)) }
+    ensures written { OnOk result ((cells : Cells) → M.holds m.old cells → M.holds m.new (written_from at (map held_of_operand operands.now) cells)) }
     ensures cause { HasFaultCause (M.faults m.old) (M.faults m.new) result }
     ensures follows { M.follows m.old m.new }
 {
@@ -111,7 +81,7 @@ fn write_operands<M: Memory>(m: &mut M, at: usize, operands: &[Operand]) -> Resu
 /// Writes what variables hold before anything was stored.
 pub fn write_blanks<M: Memory>(m: &mut M, at: usize, variables: &[Kind]) -> Result<(), MemFault>
     requires { at + length variables.now ≤ CELLS }
-    ensures written { OnOk result (M.cells m.new ≡ written_from at (map (λ k. cell_of (blank_of k)) variables.now) (M.cells m.old)) }
+    ensures written { OnOk result ((cells : Cells) → M.holds m.old cells → M.holds m.new (written_from at (map (λ k. held_of (blank_of k)) variables.now) cells)) }
     ensures cause { HasFaultCause (M.faults m.old) (M.faults m.new) result }
     ensures follows { M.follows m.old m.new }
 {
@@ -123,7 +93,7 @@ pub fn write_blanks<M: Memory>(m: &mut M, at: usize, variables: &[Kind]) -> Resu
 
 fn write_number<M: Memory>(m: &mut M, cell: usize, number: u64) -> Result<(), MemFault>
     requires { cell < CELLS }
-    ensures written { OnOk result (M.cells m.new ≡ written (M.cells m.old) (run_cell cell) number) }
+    ensures written { OnOk result ((cells : Cells) → M.holds m.old cells → M.holds m.new (written cells (run_cell cell) (Word number))) }
     ensures cause { HasFaultCause (M.faults m.old) (M.faults m.new) result }
     ensures follows { M.follows m.old m.new }
 {
@@ -132,7 +102,7 @@ fn write_number<M: Memory>(m: &mut M, cell: usize, number: u64) -> Result<(), Me
 
 // The number that stands for an operand in a cell.
 fn number_of(operand: Operand) -> u64
-    ensures { result ≡ number_of_operand operand }
+    ensures { Word result ≡ held_of_operand operand }
 {
     match operand {
         Operand::Value(value) => value.cell(),

@@ -1,10 +1,10 @@
 //! One step of the machine.
 ghost use Rattle.std.specs.Prelude.{◌≡◌, ◌+◌, ◌∷◌, [], IfOk, OnOk, Some, None, true};
-ghost use Rattle.eu_base.specs.Cells.{Cells, HasFaultCause};
+ghost use Rattle.eu_base.specs.Cells.{Cells, Within, HasFaultCause};
 ghost use Rattle.code_form.specs.declared.operand.Operand.TheVariants as operand;
-ghost use Rattle.code_form.specs.Machine.{instruction, stage};
+ghost use Rattle.zero_machine.specs.declared.next.Next.TheVariants as nexts;
 ghost use Rattle.zero_machine.specs.Finds.{Finds, is_plain, is_push, is_access};
-ghost use Rattle.zero_machine.specs.Running.{position_of, control_of, scene_of, stage_of, halt_of, IsReady, GoesOn, StepsSo};
+ghost use Rattle.zero_machine.specs.Running.{position_of, control_of, stage_by, IsReady, GoesOn, StepsSo, Steps, Accesses};
 
 use crate::ask::ask;
 use crate::calls::{back, call, out, refer};
@@ -28,8 +28,7 @@ pub fn execute<M: Memory>(
 ) -> Result<Next, MemFault>
     requires ready { IsReady s.old }
     requires finds { Finds code.now.bodies instr (position_of s.old) }
-    ensures goes { IfOk result (λ next. stage_of (halt_of next) (control_of s.new) (scene_of (M.cells m.new) marks.new)
-        ≡ stage (instruction code.now (Some instr) (position_of s.old) (M.cells m.old)) (position_of s.old) (scene_of (M.cells m.old) marks.old)) }
+    ensures goes { IfOk result (Steps (M.holds m.old) (M.holds m.new) (stage_by code.now instr marks.old) (position_of s.old) (control_of s.new) marks.new) }
     ensures cause { HasFaultCause (M.faults m.old) (M.faults m.new) result }
     ensures follows { M.follows m.old m.new }
 {
@@ -43,8 +42,8 @@ pub fn execute<M: Memory>(
             Ok(Next::On)
         }
         Instr::Ask(request) => Ok(ask(s, request, marks)?),
-        Instr::Call(body) => call(&code.bodies()[body], s, m, marks),
-        Instr::Refer(body) => refer(&code.bodies()[body], s, m, marks),
+        Instr::Call(body) => call(body, &code.bodies()[body], s, m, marks),
+        Instr::Refer(body) => refer(body, &code.bodies()[body], s, m, marks),
         Instr::Number(_) | Instr::Truth(_) | Instr::Outer(_) | Instr::Local(_) => {
             Ok(push_constant(instr, s)?)
         }
@@ -85,7 +84,7 @@ fn access<M: Memory>(instr: Instr, s: &mut State, m: &mut M) -> Result<(), MemFa
     requires ready { IsReady s.old }
     requires accesses { is_access instr ≡ true }
     requires finds { Finds [] instr (position_of s.old) }
-    ensures goes { OnOk result (GoesOn instr (position_of s.old) (M.cells m.old) (control_of s.new) (M.cells m.new)) }
+    ensures goes { OnOk result (Accesses (M.holds m.old) (M.holds m.new) instr (position_of s.old) (control_of s.new) nexts.On) }
     ensures cause { HasFaultCause (M.faults m.old) (M.faults m.new) result }
     ensures follows { M.follows m.old m.new }
 {
@@ -102,7 +101,7 @@ fn go_on(instr: Instr, s: &mut State) -> Result<(), NoMemory>
     requires ready { IsReady s.old }
     requires plain { is_plain instr ≡ true }
     requires finds { Finds [] instr (position_of s.old) }
-    ensures { OnOk result ((cells : Cells) → GoesOn instr (position_of s.old) cells (control_of s.new) cells) }
+    ensures { OnOk result ((cells : Cells) → (now : Cells) × (Within now cells × GoesOn instr (position_of s.old) cells (control_of s.new) now)) }
 {
     match instr {
         Instr::Jump(to) => {

@@ -1,15 +1,16 @@
 //! Runs of code.
-ghost use Rattle.std.specs.Prelude.{◌≡◌, ◌≤◌, ◌<◌, ℕ, List, [], length, map, true, false, cond, IfOk, OnOk, IsSome, Some};
+ghost use Rattle.std.specs.Prelude.{◌≡◌, ◌≤◌, ◌<◌, ℕ, List, [], length, map, true, false, cond, IfOk, OnOk, IsSome, Some, None};
 ghost use Rattle.eu_base.specs.Room.{cells_fit};
-ghost use Rattle.eu_base.specs.Values.{blank_of, cell_of};
-ghost use Rattle.eu_base.specs.Cells.{HasFaultCause, IsBlank};
+ghost use Rattle.eu_base.specs.Values.{blank_of};
+ghost use Rattle.eu_base.specs.Cells.{Cells, held_of, HasFaultCause};
 ghost use Rattle.eu_base.specs.declared.stop.Stop.TheVariants as stop;
 ghost use Rattle.eu_base.specs.declared.request.Request.{Request};
+ghost use Rattle.code_form.specs.declared.halt.Halt.TheVariants as halts;
 ghost use Rattle.code_form.specs.declared.waits.Waits.TheVariants as waits;
-ghost use Rattle.code_form.specs.Machine.{start, advance, rest_at, answered, written_from};
-ghost use Rattle.code_form.specs.Valid.{Fits, IsValid};
-ghost use Rattle.code_form.specs.Runs.{Rests, Resumes, Replies, IsOne, StaysFit, asked};
-ghost use Rattle.zero_machine.specs.Running.{position_of, control_of, scene_of, stage_of, halt_of};
+ghost use Rattle.code_form.specs.Machine.{Rest, start, advance, answered, written_from};
+ghost use Rattle.code_form.specs.Valid.{Fits};
+ghost use Rattle.code_form.specs.Runs.{Rests, Resumes, Replies, IsOne, StaysFit, asked, steps_left};
+ghost use Rattle.zero_machine.specs.Running.{position_of, control_of, scene_of, halt_of, Does, Spends, RestsSo};
 
 use crate::cells::write_blanks;
 use crate::execute::execute;
@@ -29,10 +30,12 @@ fn advance<M: Memory>(
 ) -> Result<Next, MemFault>
     requires fits { Fits code.now (control_of s.old) }
     requires free { s.old.waits ≡ waits.Nothing }
-    ensures goes { IfOk result (λ next. stage_of (halt_of next) (control_of s.new) (scene_of (M.cells m.new) marks.new)
-        ≡ advance code.now (control_of s.old) (scene_of (M.cells m.old) marks.old)) }
+    ensures goes { IfOk result (λ next. (cells : Cells) → M.holds m.old cells →
+        Does (M.holds m.new) (halt_of next) (control_of s.new) marks.new (advance code.now (control_of s.old) (scene_of cells marks.old))) }
     ensures fits { OnOk result (Fits code.now (control_of s.new)) }
-    ensures valid { IsValid code.now }
+    ensures spends { OnOk result (Spends marks.old marks.new s.new.waits) }
+    ensures nearer { IfOk result (λ next. halt_of next ≡ None → steps_left code.now.lines marks.new (length s.new.stack.frames) s.new.pc
+        < steps_left code.now.lines marks.old (length s.old.stack.frames) s.old.pc) }
     ensures cause { HasFaultCause (M.faults m.old) (M.faults m.new) result }
     ensures follows { M.follows m.old m.new }
 {
@@ -45,10 +48,9 @@ fn advance<M: Memory>(
 pub fn start<M: Memory>(alloc: Global, code: &Code, m: &mut M) -> Result<State, MemFault>
     ensures control { IfOk result (λ s. control_of s ≡ start (length code.now.variables)) }
     ensures fits { IfOk result (λ s. Fits code.now (control_of s)) }
-    ensures blank { OnOk result (cells_fit (length code.now.variables) ≡ true → IsBlank code.now.variables (M.cells m.new)) }
-    ensures written { OnOk result (cells_fit (length code.now.variables) ≡ true →
-        M.cells m.new ≡ written_from 0 (map (λ k. cell_of (blank_of k)) code.now.variables) (M.cells m.old)) }
-    ensures kept { OnOk result (cells_fit (length code.now.variables) ≡ false → M.cells m.new ≡ M.cells m.old) }
+    ensures written { OnOk result (cells_fit (length code.now.variables) ≡ true → (cells : Cells) → M.holds m.old cells →
+        M.holds m.new (written_from 0 (map (λ k. held_of (blank_of k)) code.now.variables) cells)) }
+    ensures kept { OnOk result (cells_fit (length code.now.variables) ≡ false → (cells : Cells) → M.holds m.old cells → M.holds m.new cells) }
     ensures cause { HasFaultCause (M.faults m.old) (M.faults m.new) result }
     ensures follows { M.follows m.old m.new }
 {
@@ -66,10 +68,9 @@ pub fn start<M: Memory>(alloc: Global, code: &Code, m: &mut M) -> Result<State, 
 // Makes the variables. Where they have no room, the command stops at its start.
 fn make_variables<M: Memory>(m: &mut M, variables: &[Kind]) -> Result<Waits, MemFault>
     ensures waits { IfOk result (λ waiting. waiting ≡ cond (cells_fit (length variables.now)) waits.Nothing (waits.Refused stop.CellRoom)) }
-    ensures blank { OnOk result (cells_fit (length variables.now) ≡ true → IsBlank variables.now (M.cells m.new)) }
-    ensures written { OnOk result (cells_fit (length variables.now) ≡ true →
-        M.cells m.new ≡ written_from 0 (map (λ k. cell_of (blank_of k)) variables.now) (M.cells m.old)) }
-    ensures kept { OnOk result (cells_fit (length variables.now) ≡ false → M.cells m.new ≡ M.cells m.old) }
+    ensures written { OnOk result (cells_fit (length variables.now) ≡ true → (cells : Cells) → M.holds m.old cells →
+        M.holds m.new (written_from 0 (map (λ k. held_of (blank_of k)) variables.now) cells)) }
+    ensures kept { OnOk result (cells_fit (length variables.now) ≡ false → (cells : Cells) → M.holds m.old cells → M.holds m.new cells) }
     ensures cause { HasFaultCause (M.faults m.old) (M.faults m.new) result }
     ensures follows { M.follows m.old m.new }
 {
@@ -86,7 +87,7 @@ pub fn reply<M: Memory>(_code: &Code, s: &mut State, _m: &mut M, r: Reply) -> Re
     requires asks { IsSome (asked s.old.waits) }
     ensures answered { OnOk result ((request : Request) → s.old.waits ≡ waits.Asked request → control_of s.new ≡ answered request r (position_of s.old)) }
     ensures fits { OnOk result (Fits _code.now (control_of s.new)) }
-    ensures kept { M.cells _m.new ≡ M.cells _m.old }
+    ensures kept { OnOk result ((cells : Cells) → M.holds _m.old cells → M.holds _m.new cells) }
     ensures cause { HasFaultCause (M.faults _m.old) (M.faults _m.new) result }
     ensures follows { M.follows _m.old _m.new }
 {
@@ -105,7 +106,8 @@ pub fn laws()
     ensures fits { StaysFit }
 {}
 
-/// Runs until a mark is due and none is left, something is asked, or the command ends or stops.
+/// Runs until a mark is due and none is left, something is asked, or the command ends or stops. From all that memory is known to
+/// hold it comes to the rest to which the definition comes; whatever memory holds, it comes to rest, and a request has cost a mark.
 pub fn run<M: Memory>(
     code: &Code,
     s: &mut State,
@@ -113,8 +115,11 @@ pub fn run<M: Memory>(
     marks: &mut u32,
 ) -> Result<Halt, MemFault>
     requires { Fits code.now (control_of s.old) }
-    ensures rests { IfOk result (λ halt. Rests code.now (control_of s.old) (scene_of (M.cells m.old) marks.old)
-        (rest_at halt (control_of s.new) (scene_of (M.cells m.new) marks.new))) }
+    ensures rests { IfOk result (λ halt. (cells : Cells) (r : Rest) → M.holds m.old cells → Rests code.now (control_of s.old) (scene_of cells marks.old) r →
+        RestsSo (M.holds m.new) halt (control_of s.new) marks.new r) }
+    ensures marks { OnOk result (marks.new ≤ marks.old) }
+    ensures asks { IfOk result (λ halt. (request : Request) → halt ≡ halts.Asks request → s.new.waits ≡ waits.Asked request) }
+    ensures pays { IfOk result (λ halt. (request : Request) → halt ≡ halts.Asks request → asked s.old.waits ≡ None → marks.new < marks.old) }
     ensures fits { OnOk result (Fits code.now (control_of s.new)) }
     ensures cause { HasFaultCause (M.faults m.old) (M.faults m.new) result }
     ensures follows { M.follows m.old m.new }

@@ -25,6 +25,8 @@ pub struct Link {
     /// The cells that were in use before it.
     pub used: usize,
     pub refines: bool,
+    /// The number of its body.
+    pub body: usize,
 }
 
 /// A live call or refinement.

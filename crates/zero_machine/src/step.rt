@@ -1,14 +1,15 @@
 //! What single instructions do.
 ghost use Rattle.std.specs.Prelude.{◌≡◌, ℕ, ◌+◌, ◌≤◌, ◌∷◌, OnOk, IfOk, Some, None, false};
-ghost use Rattle.eu_base.specs.Cells.{Cells, IsCell, run_cell, HasFaultCause};
+ghost use Rattle.eu_base.specs.Cells.{Cells, IsCell, run_cell, without, HasFaultCause};
 ghost use Rattle.eu_base.specs.Operations.{operand_kinds, has_reached, next_number};
 ghost use Rattle.code_form.specs.declared.operand.Operand.TheVariants as operand;
 ghost use Rattle.code_form.specs.declared.instr.Instr.TheVariants as instrs;
 ghost use Rattle.code_form.specs.Machine.{base_of, pushes, instruction, stage};
+ghost use Rattle.zero_machine.specs.declared.next.Next.TheVariants as nexts;
 ghost use Rattle.zero_machine.specs.Finds.{TopValue, TopPlace, TopBoth};
-ghost use Rattle.zero_machine.specs.Running.{position_of, control_of, scene_of, stage_of, halt_of, IsReady, GoesOn, StepsSo};
+ghost use Rattle.zero_machine.specs.Running.{position_of, control_of, scene_of, stage_of, halt_of, IsReady, GoesOn, StepsSo, Accesses};
 
-use crate::cells::{have_room, read, read_place, run_cell, write};
+use crate::cells::{have_room, place_in, run_cell};
 use crate::next::Next;
 use crate::operations::{change, has_reached, is_past};
 use crate::state::State;
@@ -51,12 +52,12 @@ pub fn local(s: &mut State, cell: usize) -> Result<Next, NoMemory>
 pub fn param<M: Memory>(s: &mut State, m: &mut M, cell: usize) -> Result<Next, MemFault>
     requires ready { IsReady s.old }
     requires finds { IsCell (run_cell (base_of s.old.stack.frames + cell)) }
-    ensures goes { IfOk result (StepsSo (instrs.Param cell) (position_of s.old) (M.cells m.old) (control_of s.new) (M.cells m.new)) }
+    ensures goes { IfOk result (Accesses (M.holds m.old) (M.holds m.new) (instrs.Param cell) (position_of s.old) (control_of s.new)) }
     ensures cause { HasFaultCause (M.faults m.old) (M.faults m.new) result }
     ensures follows { M.follows m.old m.new }
 {
     let at = run_cell(s.stack.base() + cell);
-    let place = read_place(m, at)?;
+    let place = place_in(m.cell(at)?);
     let next = push_on(s, Operand::Place(place))?;
     Ok(next)
 }
@@ -65,12 +66,12 @@ pub fn param<M: Memory>(s: &mut State, m: &mut M, cell: usize) -> Result<Next, M
 pub fn load<M: Memory>(s: &mut State, m: &mut M, kind: Kind) -> Result<(), MemFault>
     requires ready { IsReady s.old }
     requires finds { TopPlace s.old.stack.ops }
-    ensures goes { OnOk result (GoesOn (instrs.Load kind) (position_of s.old) (M.cells m.old) (control_of s.new) (M.cells m.new)) }
+    ensures goes { OnOk result (Accesses (M.holds m.old) (M.holds m.new) (instrs.Load kind) (position_of s.old) (control_of s.new) nexts.On) }
     ensures cause { HasFaultCause (M.faults m.old) (M.faults m.new) result }
     ensures follows { M.follows m.old m.new }
 {
     let at = s.stack.pop_place();
-    let value = read(m, at, kind)?;
+    let value = kind.value_in(m.cell(at)?);
     s.stack.push(Operand::Value(value))?;
     s.pc += 1;
     Ok(())
@@ -80,13 +81,13 @@ pub fn load<M: Memory>(s: &mut State, m: &mut M, kind: Kind) -> Result<(), MemFa
 pub fn store<M: Memory>(s: &mut State, m: &mut M, kind: Kind) -> Result<(), MemFault>
     requires ready { IsReady s.old }
     requires finds { TopBoth s.old.stack.ops }
-    ensures goes { OnOk result (GoesOn (instrs.Store kind) (position_of s.old) (M.cells m.old) (control_of s.new) (M.cells m.new)) }
+    ensures goes { OnOk result (Accesses (M.holds m.old) (M.holds m.new) (instrs.Store kind) (position_of s.old) (control_of s.new) nexts.On) }
     ensures cause { HasFaultCause (M.faults m.old) (M.faults m.new) result }
     ensures follows { M.follows m.old m.new }
 {
     let value = s.stack.pop_value();
     let at = s.stack.pop_place();
-    write(m, at, value)?;
+    m.set_cell(at, value.cell())?;
     s.pc += 1;
     Ok(())
 }
@@ -134,7 +135,7 @@ pub fn drop_value(s: &mut State)
 pub fn limit<M: Memory>(s: &mut State, m: &mut M, way: Way, to: usize) -> Result<Next, MemFault>
     requires ready { IsReady s.old }
     requires finds { TopBoth s.old.stack.ops }
-    ensures goes { IfOk result (StepsSo (instrs.Limit way to) (position_of s.old) (M.cells m.old) (control_of s.new) (M.cells m.new)) }
+    ensures goes { IfOk result (Accesses (M.holds m.old) (M.holds m.new) (instrs.Limit way to) (position_of s.old) (control_of s.new)) }
     ensures cause { HasFaultCause (M.faults m.old) (M.faults m.new) result }
     ensures follows { M.follows m.old m.new }
 {
@@ -143,8 +144,8 @@ pub fn limit<M: Memory>(s: &mut State, m: &mut M, way: Way, to: usize) -> Result
     }
     let limit = s.stack.pop_value().number();
     let at = s.stack.pop_place();
-    let number = read(m, at, Kind::Int)?.number();
-    write(m, run_cell(s.used), Value::Int(limit))?;
+    let number = Kind::Int.value_in(m.cell(at)?).number();
+    m.set_cell(run_cell(s.used), Value::Int(limit).cell())?;
     s.used += 1;
     if is_past(way, limit, number) {
         s.pc = to;
@@ -158,7 +159,7 @@ pub fn limit<M: Memory>(s: &mut State, m: &mut M, way: Way, to: usize) -> Result
 pub fn unlimit(s: &mut State)
     requires ready { IsReady s.old }
     requires finds { 1 ≤ s.old.used }
-    ensures { (cells : Cells) → GoesOn instrs.Unlimit (position_of s.old) cells (control_of s.new) cells }
+    ensures { (cells : Cells) → GoesOn instrs.Unlimit (position_of s.old) cells (control_of s.new) (without s.new.used s.old.used cells) }
 {
     s.used -= 1;
     s.pc += 1;
@@ -169,18 +170,18 @@ pub fn step<M: Memory>(s: &mut State, m: &mut M, way: Way, to: usize) -> Result<
     requires ready { IsReady s.old }
     requires finds { TopPlace s.old.stack.ops }
     requires limit { 1 ≤ s.old.used }
-    ensures goes { OnOk result (GoesOn (instrs.Step way to) (position_of s.old) (M.cells m.old) (control_of s.new) (M.cells m.new)) }
+    ensures goes { OnOk result (Accesses (M.holds m.old) (M.holds m.new) (instrs.Step way to) (position_of s.old) (control_of s.new) nexts.On) }
     ensures cause { HasFaultCause (M.faults m.old) (M.faults m.new) result }
     ensures follows { M.follows m.old m.new }
 {
     let at = s.stack.pop_place();
-    let number = read(m, at, Kind::Int)?.number();
-    let limit = read(m, run_cell(s.used - 1), Kind::Int)?.number();
+    let number = Kind::Int.value_in(m.cell(at)?).number();
+    let limit = Kind::Int.value_in(m.cell(run_cell(s.used - 1))?).number();
     if has_reached(way, limit, number) {
         s.pc = to;
         return Ok(());
     }
-    write(m, at, Value::Int(next(way, limit, number)))?;
+    m.set_cell(at, Value::Int(next(way, limit, number)).cell())?;
     s.pc += 1;
     Ok(())
 }
@@ -199,16 +200,16 @@ fn next(way: Way, limit: i16, number: i16) -> i16
 pub fn modify<M: Memory>(s: &mut State, m: &mut M, by: Change) -> Result<Next, MemFault>
     requires ready { IsReady s.old }
     requires finds { TopBoth s.old.stack.ops }
-    ensures goes { IfOk result (StepsSo (instrs.Modify by) (position_of s.old) (M.cells m.old) (control_of s.new) (M.cells m.new)) }
+    ensures goes { IfOk result (Accesses (M.holds m.old) (M.holds m.new) (instrs.Modify by) (position_of s.old) (control_of s.new)) }
     ensures cause { HasFaultCause (M.faults m.old) (M.faults m.new) result }
     ensures follows { M.follows m.old m.new }
 {
     let operand = s.stack.pop_value();
     let at = s.stack.pop_place();
-    let number = read(m, at, Kind::Int)?.number();
+    let number = Kind::Int.value_in(m.cell(at)?).number();
     match change(by, number, operand.number()) {
         Ok(value) => {
-            write(m, at, value)?;
+            m.set_cell(at, value.cell())?;
             s.pc += 1;
             Ok(Next::On)
         }

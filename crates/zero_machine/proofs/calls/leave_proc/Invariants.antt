@@ -1,4 +1,4 @@
-use Rattle.std.proofs.Common.{◌≡◌, List, true, length}
+use Rattle.std.proofs.Common.{◌≡◌, ℕ, List, true, length}
 use Rattle.eu_base.specs.Cells.{Cells}
 use Rattle.code_form.specs.declared.operand.Operand.{Operand}
 use Rattle.code_form.specs.Machine.{out_to}
@@ -8,7 +8,7 @@ use Rattle.zero_machine.proofs.calls.leave_proc.Given as goal
 -- what is left to leave leads to where all leads
 abbrev pub invariant-loop-link : goal.invariant-loop-link
 invariant-loop-link l = record {
-  leads : (ops : List Operand) (cells : Cells) → out_to ops l.fn.stack.frames cells ≡ out_to ops l.stack.frames cells;
+  leads : (ops : List Operand) (used : ℕ) (cells : Cells) → out_to ops used l.fn.stack.frames cells ≡ out_to ops used l.stack.frames cells;
   inside : is_in_proc l.stack.frames ≡ true;
 }
 

@@ -1,13 +1,14 @@
-use Rattle.std.proofs.Common.{◌≡◌, ◌+◌, ◌≤◌, map, drop}
-use Rattle.eu_base.specs.Values.{blank_of, cell_of}
+use Rattle.std.proofs.Common.{◌≤◌, map, take}
+use Rattle.eu_base.specs.Values.{blank_of}
+use Rattle.eu_base.specs.Cells.{Cells, held_of}
 use Rattle.code_form.specs.Machine.{written_from}
 use Rattle.zero_machine.proofs.cells.write_blanks.Given as goal
 
--- with the rest of the variables, the cells are as they shall be
+-- the variables so far are written
 abbrev pub invariant-loop-index : goal.invariant-loop-index
 invariant-loop-index g l = record {
-  written : written_from (l.at + l.index) (map (λ k. cell_of (blank_of k)) (drop l.index l.variables)) (g.M.Memory.cells l.m)
-      ≡ written_from l.at (map (λ k. cell_of (blank_of k)) l.variables) (g.M.Memory.cells l.fn.m);
+  written : (cells : Cells) → g.M.Memory.holds l.fn.m cells
+      → g.M.Memory.holds l.m (written_from l.at (take l.index (map (λ k. held_of (blank_of k)) l.variables)) cells);
   later : g.M.Memory.faults l.fn.m ≤ g.M.Memory.faults l.m;
   follows : g.M.Memory.follows l.fn.m l.m;
 }

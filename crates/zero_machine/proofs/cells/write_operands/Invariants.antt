@@ -1,12 +1,12 @@
-use Rattle.std.proofs.Common.{◌≡◌, ◌+◌, ◌≤◌, map, drop}
-use Rattle.code_form.specs.Machine.{number_of_operand, written_from}
+use Rattle.std.proofs.Common.{◌≤◌, map, take}
+use Rattle.eu_base.specs.Cells.{Cells}
+use Rattle.code_form.specs.Machine.{held_of_operand, written_from}
 use Rattle.zero_machine.proofs.cells.write_operands.Given as goal
 
--- with the rest of the operands, the cells are as they shall be
+-- the operands so far are written
 abbrev pub invariant-loop-index : goal.invariant-loop-index
 invariant-loop-index g l = record {
-  written : written_from (l.at + l.index) (map number_of_operand (drop l.index l.operands)) (g.M.Memory.cells l.m)
-      ≡ written_from l.at (map number_of_operand l.operands) (g.M.Memory.cells l.fn.m);
+  written : (cells : Cells) → g.M.Memory.holds l.fn.m cells → g.M.Memory.holds l.m (written_from l.at (take l.index (map held_of_operand l.operands)) cells);
   later : g.M.Memory.faults l.fn.m ≤ g.M.Memory.faults l.m;
   follows : g.M.Memory.follows l.fn.m l.m;
 }

@@ -1,16 +1,20 @@
-use Rattle.std.proofs.Common.{◌≤◌, length}
+use Rattle.std.proofs.Common.{◌≡◌, ◌<◌, ◌≤◌, None, length}
+use Rattle.std.specs.Prelude.{IsSome}
+use Rattle.eu_base.specs.Cells.{Cells}
 use Rattle.code_form.specs.Machine.{Rest}
 use Rattle.code_form.specs.Valid.{Fits}
-use Rattle.code_form.specs.Runs.{Rests, steps_left}
+use Rattle.code_form.specs.Runs.{Rests, asked, steps_left}
 use Rattle.zero_machine.specs.Running.{control_of, scene_of}
 use Rattle.zero_machine.proofs.machine.run.Given as goal
 
--- what the run comes to from here it comes to from its start
+-- from here it comes to the rest to which it comes from its start
 abbrev pub invariant-loop-halt : goal.invariant-loop-halt
 invariant-loop-halt g l = record {
-  rests : (r : Rest) → Rests l.code (control_of l.s) (scene_of (g.M.Memory.cells l.m) l.marks) r
-      → Rests l.fn.code (control_of l.fn.s) (scene_of (g.M.Memory.cells l.fn.m) l.fn.marks) r;
+  rests : (cells : Cells) (r : Rest) → g.M.Memory.holds l.fn.m cells → Rests l.fn.code (control_of l.fn.s) (scene_of cells l.fn.marks) r
+      → (now : Cells) × (g.M.Memory.holds l.m now × Rests l.code (control_of l.s) (scene_of now l.marks) r);
   fits : Fits l.code (control_of l.s);
+  fewer : l.marks ≤ l.fn.marks;
+  pays : IsSome (asked l.s.waits) → asked l.fn.s.waits ≡ None → l.marks < l.fn.marks;
   later : g.M.Memory.faults l.fn.m ≤ g.M.Memory.faults l.m;
   follows : g.M.Memory.follows l.fn.m l.m;
 }
