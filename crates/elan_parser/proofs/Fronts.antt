@@ -11,12 +11,6 @@ use Rattle.elan_grammar.proofs.PlaceLaws.{read_front}
 abbrev Tokens : Type 0
 Tokens = List Token
 
-pub none_behind : (all front : Tokens) → all ≡ front → all ≡ front ++ []
-none_behind all front e = e ∙ sym (append-nil front)
-
-pub two_behind : (front : Tokens) (a b : Token) → (front ++ (a ∷ [])) ++ (b ∷ []) ≡ front ++ (a ∷ b ∷ [])
-two_behind front a b = append_assoc front (a ∷ []) (b ∷ [])
-
 -- the tokens behind a front, counted
 pub added : (all front behind : Tokens) → all ≡ front ++ behind → length all - length front ≡ length behind
 added all front behind e = omega (arith, ap length e, length-append front behind)

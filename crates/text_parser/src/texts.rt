@@ -8,8 +8,10 @@ ghost use Rattle.elan_grammar.specs.Reads.{Reads};
 ghost use Rattle.elan_grammar.specs.Stops.{left};
 ghost use Rattle.elan_grammar.specs.Depth.{type_depth, level_unit_depth, level_units_depth, level_depth, tree_depth};
 
-use crate::bodies::{MOST, end_name, last_point, operator, proc, tail};
-use containers::List;
+use crate::bodies::{MOST, last_point, tail};
+use crate::operators::operator;
+use crate::procs::{end_name, proc};
+use containers::{List, NoMemory};
 use elan_cursor::Cursor;
 use elan_cursor::kind::{begins_typed, is_comma, is_key};
 use elan_grammar::ParseError;
@@ -210,11 +212,7 @@ fn packet(alloc: Global, cursor: &mut Cursor<'_>) -> Result<Tall<Tree>, ParseErr
 }
 
 /// A packet, or a program.
-pub(crate) fn text(
-    alloc: Global,
-    cursor: &mut Cursor<'_>,
-    is_packet: bool,
-) -> Result<Tall<Tree>, ParseError>
+fn text(alloc: Global, cursor: &mut Cursor<'_>, is_packet: bool) -> Result<Tall<Tree>, ParseError>
     ensures { Parses (whole.text is_packet) tree_depth (AtMost 400) cursor.old.rest.now result cursor.new.rest.now }
 {
     if is_packet {
@@ -226,7 +224,7 @@ pub(crate) fn text(
 
 /// The tree that all these tokens spell, or how many the parser leaves.
 #[tactic(auto, using(elan_grammar::proofs::GrammarLaws::is_read, elan_grammar::proofs::GrammarLaws::refused_run, elan_grammar::proofs::GrammarLaws::left_empty, elan_grammar::proofs::GrammarLaws::left_err, elan_grammar::proofs::GrammarLaws::left_ok))]
-pub(crate) fn whole(alloc: Global, tokens: &[Token], packet: bool) -> Result<Tree, ParseError>
+pub fn whole(alloc: Global, tokens: &[Token], packet: bool) -> Result<Tree, ParseError>
     ensures ok { IfOk result (λ t. Reads packet tokens.now t) }
     ensures deep { IfOk result (λ t. tree_depth t ≤ 400) }
     ensures refused { (n : ℕ) → result ≡ Err (ParseError.NotElan n) → (t : Tree) → Reads packet tokens.now t → ⊥ }
@@ -241,4 +239,17 @@ pub(crate) fn whole(alloc: Global, tokens: &[Token], packet: bool) -> Result<Tre
         return Err(cursor.refuse());
     }
     Ok(found.tree)
+}
+
+/// How many tokens the parser leaves.
+#[tactic(auto, using(elan_grammar::proofs::GrammarLaws::left_err, elan_grammar::proofs::GrammarLaws::left_ok))]
+pub fn left(alloc: Global, tokens: &[Token], packet: bool) -> Result<usize, NoMemory>
+    ensures { IfOk result (λ n. n ≡ left packet tokens.now) }
+{
+    let mut cursor = Cursor { rest: tokens };
+    match text(alloc, &mut cursor, packet) {
+        Ok(_) => Ok(cursor.rest.len()),
+        Err(ParseError::NotElan(left)) => Ok(left),
+        Err(ParseError::NoMemory) => Err(NoMemory),
+    }
 }

@@ -5,7 +5,7 @@ use Rattle.elan_grammar.specs.Kinds.{is_sign}
 use Rattle.elan_grammar.specs.Terminals.{mark}
 use Rattle.elan_grammar.specs.Grammar as grammar
 use Rattle.elan_grammar.specs.Depth.{level_units_depth}
-use Rattle.elan_parser.proofs.texts.level_units.Given as goal
+use Rattle.text_parser.proofs.texts.level_units.Given as goal
 
 abbrev pub invariant-loop-turn : goal.invariant-loop-turn
 invariant-loop-turn l =
