@@ -3,7 +3,7 @@
 ghost use Rattle.std.specs.Prelude.{◌≡◌, ◌+◌, max, IfOk};
 ghost use Rattle.elan_grammar.specs.Rule.{Gives, Parses, AtMost};
 ghost use Rattle.elan_grammar.specs.Grammar as spec;
-ghost use Rattle.elan_grammar.specs.Depth.{refinement_depth, refinements_depth, body_depth};
+ghost use Rattle.elan_grammar.specs.Depth.{refinement_depth, body_depth, deepest_of};
 
 use containers::List;
 use elan_cursor::Cursor;
@@ -52,13 +52,13 @@ pub fn last_point(cursor: &mut Cursor<'_>) -> Result<Option<u32>, ParseError>
     Ok(Some(cursor.mark(Sign::Point)?))
 }
 
-#[tactic(auto, unfolding(elan_grammar::specs::Grammar::refinement_list), using(elan_grammar::proofs::Turns::turn_on, elan_grammar::proofs::Turns::turn_off, elan_grammar::proofs::Turns::turn_end, elan_grammar::proofs::Deepest::deepest_one, elan_grammar::proofs::Deepest::deepest_push))]
+#[tactic(auto, unfolding(elan_grammar::specs::Grammar::refinement_list), using(elan_grammar::proofs::Turns::turns, elan_grammar::proofs::Deepest::deepens))]
 fn refinement_list(
     alloc: Global,
     cursor: &mut Cursor<'_>,
     depth: u16,
 ) -> Result<Tall<List<Refinement>>, ParseError>
-    ensures { Parses (spec.refinement_list depth) refinements_depth (AtMost depth) cursor.old.rest.now result cursor.new.rest.now }
+    ensures { Parses (spec.refinement_list depth) (deepest_of refinement_depth) (AtMost depth) cursor.old.rest.now result cursor.new.rest.now }
 {
     let mut row = single(alloc, refinement(alloc, cursor, depth))?;
     for _turn in 0..cursor.rest.len() {
@@ -77,7 +77,7 @@ fn refinements(
     cursor: &mut Cursor<'_>,
     depth: u16,
 ) -> Result<Tall<List<Refinement>>, ParseError>
-    ensures { Parses (spec.refinements depth) refinements_depth (AtMost depth) cursor.old.rest.now result cursor.new.rest.now }
+    ensures { Parses (spec.refinements depth) (deepest_of refinement_depth) (AtMost depth) cursor.old.rest.now result cursor.new.rest.now }
 {
     let row = refinement_list(alloc, cursor, depth)?;
     let (row, _) = and(row, last_point(cursor))?;
@@ -90,7 +90,7 @@ fn point_tail(
     cursor: &mut Cursor<'_>,
     depth: u16,
 ) -> Result<Tall<List<Refinement>>, ParseError>
-    ensures { Parses (spec.point_tail depth) refinements_depth (AtMost depth) cursor.old.rest.now result cursor.new.rest.now }
+    ensures { Parses (spec.point_tail depth) (deepest_of refinement_depth) (AtMost depth) cursor.old.rest.now result cursor.new.rest.now }
 {
     cursor.mark(Sign::Point)?;
     if is_ident(cursor.ahead()) {
@@ -109,7 +109,7 @@ pub fn tail(
     cursor: &mut Cursor<'_>,
     depth: u16,
 ) -> Result<Tall<List<Refinement>>, ParseError>
-    ensures { Parses (spec.tail depth) refinements_depth (AtMost depth) cursor.old.rest.now result cursor.new.rest.now }
+    ensures { Parses (spec.tail depth) (deepest_of refinement_depth) (AtMost depth) cursor.old.rest.now result cursor.new.rest.now }
 {
     if is_point(cursor.ahead()) {
         return point_tail(alloc, cursor, depth);

@@ -3,7 +3,7 @@
 ghost use Rattle.std.specs.Prelude.{◌≡◌, ◌+◌, max, IfOk};
 ghost use Rattle.elan_grammar.specs.Rule.{Gives, Parses, AtMost, IsTall};
 ghost use Rattle.elan_grammar.specs.Grammar as spec;
-ghost use Rattle.elan_grammar.specs.Depth.{formal_depth, formals_depth, option_type_depth, body_depth, level_unit_depth};
+ghost use Rattle.elan_grammar.specs.Depth.{formal_depth, body_depth, level_unit_depth, type_depth, deepest_of, if_any};
 
 use crate::bodies::{MOST_IN_BODY, body};
 use crate::procs::start;
@@ -64,7 +64,7 @@ fn same_typed(
     first: Tall<Formal>,
 ) -> Result<Tall<List<Formal>>, ParseError>
     requires tall { IsTall formal_depth (AtMost 399) first }
-    ensures { Parses (spec.same_typed first.tree) formals_depth (AtMost 399) cursor.old.rest.now result cursor.new.rest.now }
+    ensures { Parses (spec.same_typed first.tree) (deepest_of formal_depth) (AtMost 399) cursor.old.rest.now result cursor.new.rest.now }
 {
     let (first, _) = and(first, cursor.mark(Sign::Comma))?;
     let (first, second) = and(first, cursor.ident(alloc))?;
@@ -75,14 +75,14 @@ fn same_typed(
     single(alloc, Ok(Tall { tree, height }))
 }
 
-#[tactic(auto, unfolding(elan_grammar::specs::Grammar::other_typed), using(elan_grammar::proofs::Deepest::deepest_one, elan_grammar::proofs::Deepest::deepest_push))]
+#[tactic(auto, unfolding(elan_grammar::specs::Grammar::other_typed), using(elan_grammar::proofs::Deepest::deepens))]
 fn other_typed(
     alloc: Global,
     cursor: &mut Cursor<'_>,
     first: Tall<Formal>,
 ) -> Result<Tall<List<Formal>>, ParseError>
     requires tall { IsTall formal_depth (AtMost 399) first }
-    ensures { Parses (spec.other_typed 400 399 first.tree) formals_depth (AtMost 399) cursor.old.rest.now result cursor.new.rest.now }
+    ensures { Parses (spec.other_typed 400 399 first.tree) (deepest_of formal_depth) (AtMost 399) cursor.old.rest.now result cursor.new.rest.now }
 {
     let (first, _) = and(first, cursor.mark(Sign::Comma))?;
     let row = single(alloc, Ok(first))?;
@@ -97,7 +97,7 @@ fn one_operand(
     first: Tall<Formal>,
 ) -> Result<Tall<List<Formal>>, ParseError>
     requires tall { IsTall formal_depth (AtMost 399) first }
-    ensures { Parses (spec.one_operand operator.now first.tree) formals_depth (AtMost 399) cursor.old.rest.now result cursor.new.rest.now }
+    ensures { Parses (spec.one_operand operator.now first.tree) (deepest_of formal_depth) (AtMost 399) cursor.old.rest.now result cursor.new.rest.now }
 {
     if !takes_one(operator) {
         return Err(cursor.refuse());
@@ -112,7 +112,7 @@ fn operands(
     cursor: &mut Cursor<'_>,
     operator: &Operator,
 ) -> Result<Tall<List<Formal>>, ParseError>
-    ensures { Parses (spec.operands 400 399 operator.now) formals_depth (AtMost 399) cursor.old.rest.now result cursor.new.rest.now }
+    ensures { Parses (spec.operands 400 399 operator.now) (deepest_of formal_depth) (AtMost 399) cursor.old.rest.now result cursor.new.rest.now }
 {
     let first = operand(alloc, cursor)?;
     let kind = cursor.ahead();
@@ -127,7 +127,8 @@ fn operands(
 
 #[tactic(auto, unfolding(elan_grammar::specs::Grammar::operator_parts))]
 fn operator_parts(alloc: Global, cursor: &mut Cursor<'_>) -> Result<Tall<OperatorParts>, ParseError>
-    ensures { Parses (spec.operator_parts 400 399) (λ t. max (formals_depth t.formals) (body_depth t.body) + 1) (AtMost 400) cursor.old.rest.now result cursor.new.rest.now }
+    ensures { Parses (spec.operator_parts 400 399) (λ t. max (deepest_of formal_depth t.formals) (body_depth t.body) + 1) (AtMost 400)
+        cursor.old.rest.now result cursor.new.rest.now }
 {
     let at = cursor.keyword(Key::Op)?;
     let name = cursor.operator(alloc)?;
@@ -158,7 +159,7 @@ pub fn operator(
     cursor: &mut Cursor<'_>,
     of: Tall<Option<TypePhrase>>,
 ) -> Result<Tall<LevelUnit>, ParseError>
-    requires tall { IsTall option_type_depth (AtMost 400) of }
+    requires tall { IsTall (if_any type_depth) (AtMost 400) of }
     ensures { Parses (spec.operator 400 399 of.tree) level_unit_depth (AtMost 400) cursor.old.rest.now result cursor.new.rest.now }
 {
     let (of, parts) = and(of, operator_parts(alloc, cursor))?;

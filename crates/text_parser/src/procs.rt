@@ -3,7 +3,7 @@
 ghost use Rattle.std.specs.Prelude.{◌≡◌, ◌+◌, max};
 ghost use Rattle.elan_grammar.specs.Rule.{Gives, Parses, AtMost, IsTall};
 ghost use Rattle.elan_grammar.specs.Grammar as spec;
-ghost use Rattle.elan_grammar.specs.Depth.{formals_depth, option_type_depth, body_depth, level_unit_depth};
+ghost use Rattle.elan_grammar.specs.Depth.{body_depth, level_unit_depth, type_depth, type_place, formal_depth, deepest_of, if_any};
 
 use crate::bodies::{MOST_IN_BODY, body};
 use containers::List;
@@ -29,7 +29,7 @@ pub fn end_name(cursor: &mut Cursor<'_>, name: &Name) -> Result<Option<()>, Pars
 
 #[tactic(auto, unfolding(elan_grammar::specs::Grammar::formal_list))]
 fn formal_list(alloc: Global, cursor: &mut Cursor<'_>) -> Result<Tall<List<Formal>>, ParseError>
-    ensures { Parses (spec.formal_list 400 399) formals_depth (AtMost 399) cursor.old.rest.now result cursor.new.rest.now }
+    ensures { Parses (spec.formal_list 400 399) (deepest_of formal_depth) (AtMost 399) cursor.old.rest.now result cursor.new.rest.now }
 {
     cursor.mark(Sign::LeftRound)?;
     let row = formals(alloc, cursor, MOST_IN_BODY)?;
@@ -42,7 +42,7 @@ fn optional_formals(
     alloc: Global,
     cursor: &mut Cursor<'_>,
 ) -> Result<Tall<List<Formal>>, ParseError>
-    ensures { Parses (spec.optional_formals 400 399) formals_depth (AtMost 399) cursor.old.rest.now result cursor.new.rest.now }
+    ensures { Parses (spec.optional_formals 400 399) (deepest_of formal_depth) (AtMost 399) cursor.old.rest.now result cursor.new.rest.now }
 {
     if cursor.sees_sign(Sign::LeftRound) {
         return formal_list(alloc, cursor);
@@ -65,7 +65,8 @@ pub fn start(of: &Option<TypePhrase>, at: u32) -> u32
 
 #[tactic(auto, unfolding(elan_grammar::specs::Grammar::proc_parts))]
 fn proc_parts(alloc: Global, cursor: &mut Cursor<'_>) -> Result<Tall<ProcParts>, ParseError>
-    ensures { Parses (spec.proc_parts 400 399) (λ t. max (formals_depth t.formals) (body_depth t.body) + 1) (AtMost 400) cursor.old.rest.now result cursor.new.rest.now }
+    ensures { Parses (spec.proc_parts 400 399) (λ t. max (deepest_of formal_depth t.formals) (body_depth t.body) + 1) (AtMost 400)
+        cursor.old.rest.now result cursor.new.rest.now }
 {
     let at = cursor.keyword(Key::Proc)?;
     let name = cursor.ident(alloc)?;
@@ -93,7 +94,7 @@ pub fn proc(
     cursor: &mut Cursor<'_>,
     of: Tall<Option<TypePhrase>>,
 ) -> Result<Tall<LevelUnit>, ParseError>
-    requires tall { IsTall option_type_depth (AtMost 400) of }
+    requires tall { IsTall (if_any type_depth) (AtMost 400) of }
     ensures { Parses (spec.proc 400 399 of.tree) level_unit_depth (AtMost 400) cursor.old.rest.now result cursor.new.rest.now }
 {
     let (of, parts) = and(of, proc_parts(alloc, cursor))?;
