@@ -122,6 +122,69 @@ pub fn ahead(tokens: &[Token]) -> Kind
     }
 }
 
+// ---- the levels of operators: those of a lower level hold more tightly
+
+/// No operator stands between two operands.
+pub const OPERAND_LEVEL: u8 = 0;
+
+const TIMES_LEVEL: u8 = 1;
+
+const PLUS_LEVEL: u8 = 2;
+
+const COMPARE_LEVEL: u8 = 3;
+
+const AND_LEVEL: u8 = 4;
+
+const OR_LEVEL: u8 = 5;
+/// The level of bold words, and so of each expression.
+pub const WORD_LEVEL: u8 = 6;
+
+fn tier_level(tier: Tier) -> u8
+    ensures { result ≡ kinds.tier_level tier }
+{
+    match tier {
+        Tier::Times => TIMES_LEVEL,
+        Tier::And => AND_LEVEL,
+        Tier::Or => OR_LEVEL,
+        Tier::Other => WORD_LEVEL,
+    }
+}
+
+fn sign_level(sign: Sign) -> u8
+    ensures { result ≡ kinds.loose (Kind.Sign sign) }
+{
+    match sign {
+        Sign::Times => TIMES_LEVEL,
+        Sign::Plus | Sign::Minus => PLUS_LEVEL,
+        Sign::Equal
+        | Sign::Unequal
+        | Sign::Less
+        | Sign::LessEqual
+        | Sign::Greater
+        | Sign::GreaterEqual => COMPARE_LEVEL,
+        _ => 0,
+    }
+}
+
+fn loose(kind: Kind) -> u8
+    ensures { result ≡ kinds.loose kind }
+{
+    match kind {
+        Kind::Bold(tier) | Kind::TypeName(tier) => tier_level(tier),
+        Kind::Key(Key::Cand) => AND_LEVEL,
+        Kind::Key(Key::Cor) => OR_LEVEL,
+        Kind::Sign(sign) => sign_level(sign),
+        _ => 0,
+    }
+}
+
+/// An operator of this level.
+pub fn is_level(level: u8, kind: Kind) -> bool
+    ensures { result ≡ kinds.is_level level kind }
+{
+    loose(kind) == level
+}
+
 // ---- sets of kinds
 
 /// REP or REPEAT.
@@ -194,19 +257,10 @@ pub fn is_init(kind: Kind) -> bool
 pub fn is_symbol(sign: Sign) -> bool
     ensures { result ≡ kinds.is_symbol sign }
 {
-    matches!(
-        sign,
-        Sign::Plus
-            | Sign::Minus
-            | Sign::Times
-            | Sign::Equal
-            | Sign::Unequal
-            | Sign::Less
-            | Sign::LessEqual
-            | Sign::Greater
-            | Sign::GreaterEqual
-            | Sign::Becomes
-    )
+    match sign {
+        Sign::Becomes => true,
+        other => sign_level(other) > 0,
+    }
 }
 
 /// What may name an operator: a bold word or such a sign.
@@ -272,81 +326,4 @@ pub fn begins(kind: Kind) -> bool
             | Kind::Sign(Sign::Plus | Sign::Minus | Sign::LeftRound)
             | Kind::Key(Key::True | Key::False | Key::Concr | Key::If | Key::Select)
     )
-}
-
-fn tier_level(tier: Tier) -> u8
-    ensures { result ≡ kinds.tier_level tier }
-{
-    match tier {
-        Tier::Times => 1,
-        Tier::And => 4,
-        Tier::Or => 5,
-        Tier::Other => 6,
-    }
-}
-
-fn key_level(key: Key) -> u8
-    ensures { result ≡ kinds.loose (Kind.Key key) }
-{
-    match key {
-        Key::Cand => 4,
-        Key::Cor => 5,
-        Key::Then
-        | Key::Elif
-        | Key::Else
-        | Key::Fi
-        | Key::End
-        | Key::Of
-        | Key::Case
-        | Key::Otherwise
-        | Key::Upto
-        | Key::Downto
-        | Key::While
-        | Key::Rep
-        | Key::Repeat
-        | Key::Until
-        | Key::Per => 7,
-        _ => 0,
-    }
-}
-
-fn sign_level(sign: Sign) -> u8
-    ensures { result ≡ kinds.loose (Kind.Sign sign) }
-{
-    match sign {
-        Sign::Times => 1,
-        Sign::Plus | Sign::Minus => 2,
-        Sign::Equal
-        | Sign::Unequal
-        | Sign::Less
-        | Sign::LessEqual
-        | Sign::Greater
-        | Sign::GreaterEqual => 3,
-        Sign::RightRound
-        | Sign::RightSquare
-        | Sign::Comma
-        | Sign::Semicolon
-        | Sign::Point
-        | Sign::Becomes => 7,
-        _ => 0,
-    }
-}
-
-fn loose(kind: Kind) -> u8
-    ensures { result ≡ kinds.loose kind }
-{
-    match kind {
-        Kind::Bold(tier) | Kind::TypeName(tier) => tier_level(tier),
-        Kind::Key(key) => key_level(key),
-        Kind::Sign(sign) => sign_level(sign),
-        Kind::GoesOn | Kind::Refines | Kind::Nothing => 7,
-        _ => 0,
-    }
-}
-
-/// An operator of this level.
-pub fn is_level(level: u8, kind: Kind) -> bool
-    ensures { result ≡ kinds.is_level level kind }
-{
-    loose(kind) == level
 }

@@ -23,8 +23,7 @@ use Rattle.elan_grammar.specs.Terminals.{keyword, mark, literal_of}
 use Rattle.elan_grammar.specs.Expressions as g
 use Rattle.elan_grammar.specs.Expressions.{Language, joined_by}
 use Rattle.elan_grammar.specs.Units.{phrases}
-use Rattle.elan_grammar.specs.Depth.{expr_depth, exprs_depth, branch_depth, branches_depth, case_depth, cases_depth, units_depth, option_units_depth}
-use Rattle.elan_grammar.specs.Depth.{expr_place}
+use Rattle.elan_grammar.specs.Depth.{expr_depth, branch_depth, case_depth, unit_depth, expr_place, deepest_of, if_any}
 use Rattle.elan_depth.proofs.Limits.{Fits, lift, drop_one, no_room, room, steps_fit, listed_fits}
 
 -- ---- depths
@@ -41,21 +40,22 @@ bracket_depth at a = search (rules, the_lemmas)
 concr_depth : (at : ℕ) (a : Expr) → expr_depth (e.Concr at a) ≡ expr_depth a + 1
 concr_depth at a = search (rules, the_lemmas)
 
-call_depth : (x : Name) (xs : List Expr) → expr_depth (e.Call x xs) ≡ exprs_depth xs + 1
+call_depth : (x : Name) (xs : List Expr) → expr_depth (e.Call x xs) ≡ deepest_of expr_depth xs + 1
 call_depth x xs = search (rules, the_lemmas)
 
-one_branch_depth : (a : Expr) (us : List Phrase) → branch_depth (record { condition = a; units = us }) ≡ max (expr_depth a) (units_depth us)
+one_branch_depth : (a : Expr) (us : List Phrase) → branch_depth (record { condition = a; units = us }) ≡ max (expr_depth a) (deepest_of unit_depth us)
 one_branch_depth a us = search (rules, the_lemmas)
 
-one_case_depth : (ls : List Label) (us : List Phrase) → case_depth (record { labels = ls; units = us }) ≡ units_depth us
+one_case_depth : (ls : List Label) (us : List Phrase) → case_depth (record { labels = ls; units = us }) ≡ deepest_of unit_depth us
 one_case_depth ls us = search (rules, the_lemmas)
 
-if_depth : (at : ℕ) (bs : List Branch) (o : Option (List Phrase)) → expr_depth (e.If at bs o) ≡ max (branches_depth bs) (option_units_depth o) + 1
+if_depth : (at : ℕ) (bs : List Branch) (o : Option (List Phrase))
+    → expr_depth (e.If at bs o) ≡ max (deepest_of branch_depth bs) (if_any (deepest_of unit_depth) o) + 1
 if_depth at bs None = search (rules, the_lemmas)
 if_depth at bs (Some us) = search (rules, the_lemmas)
 
 select_depth : (at : ℕ) (a : Expr) (cs : List Case) (o : Option (List Phrase))
-    → expr_depth (e.Select at a cs o) ≡ max (expr_depth a) (max (cases_depth cs) (option_units_depth o)) + 1
+    → expr_depth (e.Select at a cs o) ≡ max (expr_depth a) (max (deepest_of case_depth cs) (if_any (deepest_of unit_depth) o)) + 1
 select_depth at a cs None = search (rules, the_lemmas)
 select_depth at a cs (Some us) = search (rules, the_lemmas)
 
@@ -111,13 +111,14 @@ FitsIn {A = A} rule depth m = (a : A) (xs ys : Tokens) → (In rule m).reads a x
 -- what less deep phrases do
 pub record Inner (m : ℕ) : Type 0 where
   pub level : (i : ℕ) (a : Expr) (xs ys : Tokens) → ((phrases m).level i).reads a xs ys → Fits (λ n. ((phrases n).level i).reads a xs ys) (expr_depth a + 1) m
-  pub units : (us : List Phrase) (xs ys : Tokens) → (phrases m).units.reads us xs ys → Fits (λ n. (phrases n).units.reads us xs ys) (units_depth us + 1) m
+  pub units : (us : List Phrase) (xs ys : Tokens) → (phrases m).units.reads us xs ys
+      → Fits (λ n. (phrases n).units.reads us xs ys) (deepest_of unit_depth us + 1) m
 
 pub expr_in : (m : ℕ) → Inner (suc m) → (i : ℕ) → FitsIn (λ inner n. inner.level i) expr_depth m
 expr_in m inner i a xs ys h = drop_one (λ n. ((phrases n).level i).reads a xs ys) (expr_depth a) m (inner.level i a xs ys h)
 
-pub units_in : (m : ℕ) → Inner (suc m) → FitsIn (λ inner n. inner.units) units_depth m
-units_in m inner us xs ys h = drop_one (λ n. (phrases n).units.reads us xs ys) (units_depth us) m (inner.units us xs ys h)
+pub units_in : (m : ℕ) → Inner (suc m) → FitsIn (λ inner n. inner.units) (deepest_of unit_depth) m
+units_in m inner us xs ys h = drop_one (λ n. (phrases n).units.reads us xs ys) (deepest_of unit_depth us) m (inner.units us xs ys h)
 
 -- ---- heads
 
@@ -151,7 +152,7 @@ actual_in m inner a xs ys h = elim h [
       (f.0, λ n le. inr (f.1 n le))
 ]
 
-actuals_in : (m : ℕ) → Inner (suc m) → FitsIn g.actuals exprs_depth m
+actuals_in : (m : ℕ) → Inner (suc m) → FitsIn g.actuals (deepest_of expr_depth) m
 unfolding g.actuals
 actuals_in m inner row xs ys h = (listed_fits (mark sign.Comma) (In g.actual) expr_depth m (actual_in m inner) h.3.0 h.0 row xs h.1 ys h.2 h.3.1).1
 
@@ -161,7 +162,7 @@ call_fits zero inner x a xs ys h = no_room 0 h.2.0
 call_fits (suc m) inner x a xs ys h =
     let p = h.3.3 in
     let f = actuals_in m inner p.0 h.3.1 p.1 p.2 in
-    lift (λ n. (g.call (phrases n) n x).reads a xs ys) (exprs_depth p.0) (expr_depth a) m (rw p.3.3.0 (call_depth x p.0))
+    lift (λ n. (g.call (phrases n) n x).reads a xs ys) (deepest_of expr_depth p.0) (expr_depth a) m (rw p.3.3.0 (call_depth x p.0))
     (f.0, λ n le. (h.0, h.1, (room n, h.2.1), (h.3.0, h.3.1, h.3.2, (p.0, p.1, f.1 n le, p.3))))
 
 named_fits : (m : ℕ) → Inner m → FitsAt g.named expr_depth m
@@ -183,23 +184,23 @@ branch_in m inner b xs ys h =
     let p = h.3.3 in
     let a = expr_in m inner 6 h.0 xs h.1 h.2 in
     let u = units_in m inner p.0 h.3.1 p.1 p.2 in
-    let is : branch_depth b ≡ max (expr_depth h.0) (units_depth p.0) = rw p.3.0 (one_branch_depth h.0 p.0) in
+    let is : branch_depth b ≡ max (expr_depth h.0) (deepest_of unit_depth p.0) = rw p.3.0 (one_branch_depth h.0 p.0) in
     (omega (arith, is, a.0, u.0), λ n le. (h.0, h.1, a.1 n (omega (arith, is, le)), (h.3.0, h.3.1, h.3.2, (p.0, p.1, u.1 n (omega (arith, is, le)), p.3))))
 
-branches_in : (m : ℕ) → Inner (suc m) → FitsIn g.branches branches_depth m
+branches_in : (m : ℕ) → Inner (suc m) → FitsIn g.branches (deepest_of branch_depth) m
 unfolding g.branches
 branches_in m inner bs xs ys h = (listed_fits (keyword key.Elif) (In g.branch) branch_depth m (branch_in m inner) h.3.0 h.0 bs xs h.1 ys h.2 h.3.1).1
 
-else_in : (m : ℕ) → Inner (suc m) → FitsIn g.else_part option_units_depth m
+else_in : (m : ℕ) → Inner (suc m) → FitsIn g.else_part (if_any (deepest_of unit_depth)) m
 unfolding g.else_part
 else_in m inner o xs ys h = elim h [
   | inl r ↦
       let p = r.2 in
       let u = units_in m inner r.0 p.1 r.1 p.3 in
-      let is : option_units_depth o ≡ units_depth r.0 = ap option_units_depth r.3.0 in
+      let is : if_any (deepest_of unit_depth) o ≡ deepest_of unit_depth r.0 = ap (if_any (deepest_of unit_depth)) r.3.0 in
       (omega (arith, is, u.0), λ n le. inl (r.0, r.1, (p.0, p.1, p.2, u.1 n (omega (arith, is, le))), r.3))
   | inr r ↦
-      let is : option_units_depth o ≡ 0 = ap option_units_depth r.0 in
+      let is : if_any (deepest_of unit_depth) o ≡ 0 = ap (if_any (deepest_of unit_depth)) r.0 in
       (omega (arith, is), λ n le. inr r)
 ]
 
@@ -211,7 +212,8 @@ choice_fits (suc m) inner a xs ys h =
     let q = p.3 in
     let b = branches_in m inner p.0 h.3.1 p.1 p.2 in
     let o = else_in m inner q.0 p.1 q.1 q.2 in
-    lift (λ n. (At g.choice n).reads a xs ys) (max (branches_depth p.0) (option_units_depth q.0)) (expr_depth a) m (rw q.3.3.0 (if_depth h.3.0 p.0 q.0)) (
+    lift (λ n. (At g.choice n).reads a xs ys) (max (deepest_of branch_depth p.0) (if_any (deepest_of unit_depth) q.0)) (expr_depth a) m
+    (rw q.3.3.0 (if_depth h.3.0 p.0 q.0)) (
       omega (arith, b.0, o.0),
       λ n le. (h.0, h.1, (room n, h.2.1), (h.3.0, h.3.1, h.3.2, (p.0, p.1, b.1 n (omega (arith, le)), (q.0, q.1, o.1 n (omega (arith, le)), q.3)))),
     )
@@ -224,29 +226,29 @@ case_in m inner c xs ys h =
     let p = h.3.3 in
     let q = p.3 in
     let u = units_in m inner q.0 p.1 q.1 q.2 in
-    let is : case_depth c ≡ units_depth q.0 = rw q.3.0 (one_case_depth h.3.0 q.0) in
+    let is : case_depth c ≡ deepest_of unit_depth q.0 = rw q.3.0 (one_case_depth h.3.0 q.0) in
     (omega (arith, is, u.0), λ n le. (h.0, h.1, h.2, (h.3.0, h.3.1, h.3.2, (p.0, p.1, p.2, (q.0, q.1, u.1 n (omega (arith, is, le)), q.3)))))
 
-cases_in : (m : ℕ) → Inner (suc m) → FitsIn g.cases cases_depth m
+cases_in : (m : ℕ) → Inner (suc m) → FitsIn g.cases (deepest_of case_depth) m
 unfolding g.cases
 cases_in m inner cs xs ys h = (listed_fits nothing (In g.a_case) case_depth m (case_in m inner) h.3.0 h.0 cs xs h.1 ys h.2 h.3.1).1
 
-otherwise_in : (m : ℕ) → Inner (suc m) → FitsIn g.otherwise_part option_units_depth m
+otherwise_in : (m : ℕ) → Inner (suc m) → FitsIn g.otherwise_part (if_any (deepest_of unit_depth)) m
 unfolding g.otherwise_part
 otherwise_in m inner o xs ys h = elim h [
   | inl r ↦
       let p = r.2 in
       let q = p.3 in
       let u = units_in m inner r.0 q.1 r.1 q.3 in
-      let is : option_units_depth o ≡ units_depth r.0 = ap option_units_depth r.3.0 in
+      let is : if_any (deepest_of unit_depth) o ≡ deepest_of unit_depth r.0 = ap (if_any (deepest_of unit_depth)) r.3.0 in
       (omega (arith, is, u.0), λ n le. inl (r.0, r.1, (p.0, p.1, p.2, (q.0, q.1, q.2, u.1 n (omega (arith, is, le)))), r.3))
   | inr r ↦
-      let is : option_units_depth o ≡ 0 = ap option_units_depth r.0 in
+      let is : if_any (deepest_of unit_depth) o ≡ 0 = ap (if_any (deepest_of unit_depth)) r.0 in
       (omega (arith, is), λ n le. inr r)
 ]
 
 abbrev parts_depth : SelectParts → ℕ
-parts_depth p = max (cases_depth p.cases) (option_units_depth p.otherwise)
+parts_depth p = max (deepest_of case_depth p.cases) (if_any (deepest_of unit_depth) p.otherwise)
 
 parts_in : (m : ℕ) → Inner (suc m) → FitsIn g.select_parts parts_depth m
 unfolding g.select_parts
@@ -254,7 +256,7 @@ parts_in m inner b xs ys h =
     let p = h.3 in
     let c = cases_in m inner h.0 xs h.1 h.2 in
     let o = otherwise_in m inner p.0 h.1 p.1 p.2 in
-    let is : parts_depth b ≡ max (cases_depth h.0) (option_units_depth p.0) = ap parts_depth p.3.3.0 in
+    let is : parts_depth b ≡ max (deepest_of case_depth h.0) (if_any (deepest_of unit_depth) p.0) = ap parts_depth p.3.3.0 in
     (omega (arith, is, c.0, o.0), λ n le. (h.0, h.1, c.1 n (omega (arith, is, le)), (p.0, p.1, o.1 n (omega (arith, is, le)), p.3)))
 
 selection_fits : (m : ℕ) → Inner m → FitsAt g.selection expr_depth m

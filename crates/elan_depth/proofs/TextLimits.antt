@@ -15,8 +15,7 @@ use Rattle.elan_grammar.specs.Rule.{Tokens, Rule}
 use Rattle.elan_grammar.specs.Terminals.{mark}
 use Rattle.elan_grammar.specs.Grammar as g
 use Rattle.elan_grammar.specs.Reads.{text_within, Reads, ReadsAtAnyDepth}
-use Rattle.elan_grammar.specs.Depth.{type_depth, formal_depth, formals_depth, units_depth, refinement_depth, refinements_depth, body_depth, option_type_depth}
-use Rattle.elan_grammar.specs.Depth.{level_unit_depth, level_units_depth, level_depth, tree_depth}
+use Rattle.elan_grammar.specs.Depth.{type_depth, formal_depth, refinement_depth, body_depth, unit_depth, level_unit_depth, level_depth, tree_depth, deepest_of, if_any}
 use Rattle.elan_depth.proofs.Limits.{Fits, lift, listed_fits}
 use Rattle.elan_depth.proofs.TypeLimits.{types_fit, formals_fit}
 use Rattle.elan_depth.proofs.UnitLimits.{declared_fits, plain_fits, phrases_fit}
@@ -28,33 +27,34 @@ unfolding g.refinement
 refinement_fits m r xs ys h =
     let p = h.3.3 in
     let f = (phrases_fit m).units p.0 h.3.1 p.1 p.2 in
-    let is : refinement_depth r ≡ units_depth p.0 + 1 = ap refinement_depth p.3.0 in
+    let is : refinement_depth r ≡ deepest_of unit_depth p.0 + 1 = ap refinement_depth p.3.0 in
     (omega (arith, is, f.0), λ n le. (h.0, h.1, h.2, (h.3.0, h.3.1, h.3.2, (p.0, p.1, f.1 n (omega (arith, is, le)), p.3))))
 
 refinement_list_fits : (m : ℕ) (rs : List Refinement) (xs ys : Tokens) → (g.refinement_list m).reads rs xs ys
-    → Fits (λ n. (g.refinement_list n).reads rs xs ys) (refinements_depth rs) m
+    → Fits (λ n. (g.refinement_list n).reads rs xs ys) (deepest_of refinement_depth rs) m
 unfolding g.refinement_list
 refinement_list_fits m rs xs ys h = (listed_fits (mark sign.Point) g.refinement refinement_depth m (refinement_fits m) h.3.0 h.0 rs xs h.1 ys h.2 h.3.1).1
 
 refinements_fit : (m : ℕ) (rs : List Refinement) (xs ys : Tokens) → (g.refinements m).reads rs xs ys
-    → Fits (λ n. (g.refinements n).reads rs xs ys) (refinements_depth rs) m
+    → Fits (λ n. (g.refinements n).reads rs xs ys) (deepest_of refinement_depth rs) m
 unfolding g.refinements
 refinements_fit m rs xs ys h =
     let f = refinement_list_fits m h.0 xs h.1 h.2 in
-    let is : refinements_depth rs ≡ refinements_depth h.0 = ap refinements_depth h.3.3.0 in
+    let is : deepest_of refinement_depth rs ≡ deepest_of refinement_depth h.0 = ap (deepest_of refinement_depth) h.3.3.0 in
     (omega (arith, is, f.0), λ n le. (h.0, h.1, f.1 n (omega (arith, is, le)), h.3))
 
-tail_fits : (m : ℕ) (rs : List Refinement) (xs ys : Tokens) → (g.tail m).reads rs xs ys → Fits (λ n. (g.tail n).reads rs xs ys) (refinements_depth rs) m
+tail_fits : (m : ℕ) (rs : List Refinement) (xs ys : Tokens) → (g.tail m).reads rs xs ys
+    → Fits (λ n. (g.tail n).reads rs xs ys) (deepest_of refinement_depth rs) m
 unfolding g.tail g.point_tail
 tail_fits m rs xs ys h = elim h [
   | inl r ↦ elim r.3 [
     | inl q ↦ let f = refinements_fit m rs r.1 ys q in (f.0, λ n le. inl (r.0, r.1, r.2, inl (f.1 n le)))
     | inr q ↦
-        let is : refinements_depth rs ≡ 0 = ap refinements_depth q.0 in
+        let is : deepest_of refinement_depth rs ≡ 0 = ap (deepest_of refinement_depth) q.0 in
         (omega (arith, is), λ n le. inl (r.0, r.1, r.2, inr q))
   ]
   | inr r ↦
-      let is : refinements_depth rs ≡ 0 = ap refinements_depth r.0 in
+      let is : deepest_of refinement_depth rs ≡ 0 = ap (deepest_of refinement_depth) r.0 in
       (omega (arith, is), λ n le. inr r)
 ]
 
@@ -64,7 +64,7 @@ body_fits m b xs ys h =
     let p = h.3 in
     let f = (phrases_fit (suc m)).units h.0 xs h.1 h.2 in
     let t = tail_fits m p.0 h.1 p.1 p.2 in
-    let is : body_depth b ≡ max (units_depth h.0) (refinements_depth p.0) = ap body_depth p.3.0 in
+    let is : body_depth b ≡ max (deepest_of unit_depth h.0) (deepest_of refinement_depth p.0) = ap body_depth p.3.0 in
     (omega (arith, is, f.0, t.0), λ n le. (h.0, h.1, f.1 (suc n) (omega (arith, is, le)), (p.0, p.1, t.1 n (omega (arith, is, le)), p.3)))
 
 -- no body without a depth
@@ -75,21 +75,21 @@ no_body n b xs ys h = absurd (omega (arith, ((phrases_fit 0).units h.0 xs h.1 h.
 -- ---- PROC
 
 formal_list_fits : (m : ℕ) (fs : List Formal) (xs ys : Tokens) → (g.formal_list (suc m) m).reads fs xs ys
-    → Fits (λ n. (g.formal_list (suc n) n).reads fs xs ys) (formals_depth fs) m
+    → Fits (λ n. (g.formal_list (suc n) n).reads fs xs ys) (deepest_of formal_depth fs) m
 unfolding g.formal_list
 formal_list_fits m fs xs ys h =
     let p = h.3 in
     let f = formals_fit m p.0 h.1 p.1 p.2 in
-    let is : formals_depth fs ≡ formals_depth p.0 = ap formals_depth p.3.3.0 in
+    let is : deepest_of formal_depth fs ≡ deepest_of formal_depth p.0 = ap (deepest_of formal_depth) p.3.3.0 in
     (omega (arith, is, f.0), λ n le. (h.0, h.1, h.2, (p.0, p.1, f.1 n (omega (arith, is, le)), p.3)))
 
 optional_formals_fit : (m : ℕ) (fs : List Formal) (xs ys : Tokens) → (g.optional_formals (suc m) m).reads fs xs ys
-    → Fits (λ n. (g.optional_formals (suc n) n).reads fs xs ys) (formals_depth fs) m
+    → Fits (λ n. (g.optional_formals (suc n) n).reads fs xs ys) (deepest_of formal_depth fs) m
 unfolding g.optional_formals
 optional_formals_fit m fs xs ys h = elim h [
   | inl r ↦ let f = formal_list_fits m fs xs ys r in (f.0, λ n le. inl (f.1 n le))
   | inr r ↦
-      let is : formals_depth fs ≡ 0 = ap formals_depth r.0 in
+      let is : deepest_of formal_depth fs ≡ 0 = ap (deepest_of formal_depth) r.0 in
       (omega (arith, is), λ n le. inr r)
 ]
 
@@ -99,7 +99,7 @@ less zero = zero
 less (suc n) = n
 
 abbrev proc_parts_depth : ProcParts → ℕ
-proc_parts_depth p = max (formals_depth p.formals) (body_depth p.body)
+proc_parts_depth p = max (deepest_of formal_depth p.formals) (body_depth p.body)
 
 proc_parts_fit : (m : ℕ) (v : ProcParts) (xs ys : Tokens) → (g.proc_parts m (less m)).reads v xs ys
     → Fits (λ n. (g.proc_parts n (less n)).reads v xs ys) (proc_parts_depth v + 1) m
@@ -113,7 +113,7 @@ proc_parts_fit (suc m) v xs ys h =
     let b = k.3 in
     let f = optional_formals_fit m p.0 h.3.1 p.1 p.2 in
     let c = body_fits m b.0 k.1 b.1 b.2 in
-    let is : proc_parts_depth v ≡ max (formals_depth p.0) (body_depth b.0) = ap proc_parts_depth b.3.3.3.0 in
+    let is : proc_parts_depth v ≡ max (deepest_of formal_depth p.0) (body_depth b.0) = ap proc_parts_depth b.3.3.3.0 in
     lift (λ n. (g.proc_parts n (less n)).reads v xs ys) (proc_parts_depth v) (proc_parts_depth v + 1) m refl (
       omega (arith, is, f.0, c.0),
       λ n le.
@@ -122,14 +122,14 @@ proc_parts_fit (suc m) v xs ys h =
 
 -- behind the type of a result
 abbrev BehindResult : (ℕ → ℕ → Option TypePhrase → Rule LevelUnit) → ℕ → Type 0
-BehindResult rule m = (t : Option TypePhrase) → option_type_depth t ≤ m → (v : LevelUnit) (xs ys : Tokens) → (rule m (less m) t).reads v xs ys
-    → (option_type_depth t ≤ level_unit_depth v) × Fits (λ n. (rule n (less n) t).reads v xs ys) (level_unit_depth v) m
+BehindResult rule m = (t : Option TypePhrase) → if_any type_depth t ≤ m → (v : LevelUnit) (xs ys : Tokens) → (rule m (less m) t).reads v xs ys
+    → (if_any type_depth t ≤ level_unit_depth v) × Fits (λ n. (rule n (less n) t).reads v xs ys) (level_unit_depth v) m
 
 proc_fits : (m : ℕ) → BehindResult g.proc m
 unfolding g.proc
 proc_fits m t low v xs ys h =
     let f = proc_parts_fit m h.0 xs h.1 h.2 in
-    let is : level_unit_depth v ≡ max (option_type_depth t) (proc_parts_depth h.0 + 1) = ap level_unit_depth h.3.0 in
+    let is : level_unit_depth v ≡ max (if_any type_depth t) (proc_parts_depth h.0 + 1) = ap level_unit_depth h.3.0 in
     (omega (arith, is), (omega (arith, is, low, f.0), λ n le. (h.0, h.1, f.1 n (omega (arith, is, le)), h.3)))
 
 -- ---- OP
@@ -142,30 +142,30 @@ operand_fits m f xs ys h =
     (omega (arith, is, t.0), λ n le. (h.0, h.1, t.1 n (omega (arith, is, le)), h.3))
 
 operands_fit : (m : ℕ) (o : Operator) (fs : List Formal) (xs ys : Tokens) → (g.operands (suc m) m o).reads fs xs ys
-    → Fits (λ n. (g.operands (suc n) n o).reads fs xs ys) (formals_depth fs) m
+    → Fits (λ n. (g.operands (suc n) n o).reads fs xs ys) (deepest_of formal_depth fs) m
 unfolding g.operands g.same_typed g.other_typed g.one_operand
 operands_fit m o fs xs ys h =
     let f = operand_fits m h.0 xs h.1 h.2 in
     elim h.3 [
       | inl r ↦
-          let is : formals_depth fs ≡ max (formal_depth h.0) 0 = ap formals_depth r.3.3.0 in
+          let is : deepest_of formal_depth fs ≡ max (formal_depth h.0) 0 = ap (deepest_of formal_depth) r.3.3.0 in
           (omega (arith, is, f.0), λ n le. (h.0, h.1, f.1 n (omega (arith, is, le)), inl r))
       | inr q ↦ elim q [
         | inl r ↦
             let p = r.3 in
             let s = operand_fits m p.0 r.1 p.1 p.2 in
-            let is : formals_depth fs ≡ max (formal_depth h.0) (max (formal_depth p.0) 0) = ap formals_depth p.3.0 in (
+            let is : deepest_of formal_depth fs ≡ max (formal_depth h.0) (max (formal_depth p.0) 0) = ap (deepest_of formal_depth) p.3.0 in (
               omega (arith, is, f.0, s.0),
               λ n le. (h.0, h.1, f.1 n (omega (arith, is, le)), inr (inl (r.0, r.1, r.2, (p.0, p.1, s.1 n (omega (arith, is, le)), p.3)))),
             )
         | inr r ↦
-            let is : formals_depth fs ≡ max (formal_depth h.0) 0 = ap formals_depth r.3.0 in
+            let is : deepest_of formal_depth fs ≡ max (formal_depth h.0) 0 = ap (deepest_of formal_depth) r.3.0 in
             (omega (arith, is, f.0), λ n le. (h.0, h.1, f.1 n (omega (arith, is, le)), inr (inr r)))
       ]
     ]
 
 abbrev operator_parts_depth : OperatorParts → ℕ
-operator_parts_depth p = max (formals_depth p.formals) (body_depth p.body)
+operator_parts_depth p = max (deepest_of formal_depth p.formals) (body_depth p.body)
 
 operator_parts_fit : (m : ℕ) (v : OperatorParts) (xs ys : Tokens) → (g.operator_parts m (less m)).reads v xs ys
     → Fits (λ n. (g.operator_parts n (less n)).reads v xs ys) (operator_parts_depth v + 1) m
@@ -182,7 +182,7 @@ operator_parts_fit (suc m) v xs ys h =
     let b = l.3 in
     let f = operands_fit m i.0.operator p.0 j.1 p.1 p.2 in
     let c = body_fits m b.0 l.1 b.1 b.2 in
-    let is : operator_parts_depth v ≡ max (formals_depth p.0) (body_depth b.0) = ap operator_parts_depth b.3.3.3.0 in
+    let is : operator_parts_depth v ≡ max (deepest_of formal_depth p.0) (body_depth b.0) = ap operator_parts_depth b.3.3.3.0 in
     lift (λ n. (g.operator_parts n (less n)).reads v xs ys) (operator_parts_depth v) (operator_parts_depth v + 1) m refl (
       omega (arith, is, f.0, c.0),
       λ n le. (
@@ -202,7 +202,7 @@ operator_fits : (m : ℕ) → BehindResult g.operator m
 unfolding g.operator
 operator_fits m t low v xs ys h =
     let f = operator_parts_fit m h.0 xs h.1 h.2 in
-    let is : level_unit_depth v ≡ max (option_type_depth t) (operator_parts_depth h.0 + 1) = ap level_unit_depth h.3.0 in
+    let is : level_unit_depth v ≡ max (if_any type_depth t) (operator_parts_depth h.0 + 1) = ap level_unit_depth h.3.0 in
     (omega (arith, is), (omega (arith, is, low, f.0), λ n le. (h.0, h.1, f.1 n (omega (arith, is, le)), h.3)))
 
 -- ---- units of a level
@@ -261,7 +261,7 @@ level_unit_fits m v xs ys h = elim h [
   ]
 ]
 
-level_units_fit : (m : ℕ) → FitsText g.level_units level_units_depth m
+level_units_fit : (m : ℕ) → FitsText g.level_units (deepest_of level_unit_depth) m
 unfolding g.level_units
 level_units_fit m us xs ys h =
     (listed_fits (mark sign.Semicolon) (λ n. g.level_unit n (less n)) level_unit_depth m (level_unit_fits m) h.3.0 h.0 us xs h.1 ys h.2 h.3.1).1
@@ -272,7 +272,7 @@ level_fits m l xs ys h =
     let p = h.3 in
     let f = level_units_fit m h.0 xs h.1 h.2 in
     let t = tail_fits m p.0 h.1 p.1 p.2 in
-    let is : level_depth l ≡ max (level_units_depth h.0) (refinements_depth p.0) = ap level_depth p.3.0 in
+    let is : level_depth l ≡ max (deepest_of level_unit_depth h.0) (deepest_of refinement_depth p.0) = ap level_depth p.3.0 in
     (omega (arith, is, f.0, t.0), λ n le. (h.0, h.1, f.1 n (omega (arith, is, le)), (p.0, p.1, t.1 n (omega (arith, is, le)), p.3)))
 
 -- ---- texts

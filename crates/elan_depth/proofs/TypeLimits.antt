@@ -16,7 +16,7 @@ use Rattle.elan_tree.specs.declared.written_type.LetItem.{LetItem}
 use Rattle.elan_grammar.specs.Rule.{Tokens}
 use Rattle.elan_grammar.specs.Terminals.{mark, simple_of}
 use Rattle.elan_grammar.specs.Types as g
-use Rattle.elan_grammar.specs.Depth.{type_depth, field_depth, fields_depth, formal_depth, formals_depth, let_item_depth, let_items_depth}
+use Rattle.elan_grammar.specs.Depth.{type_depth, field_depth, formal_depth, let_item_depth, deepest_of}
 use Rattle.elan_depth.proofs.Limits.{Fits, lift, listed_fits}
 
 -- ---- depths
@@ -27,7 +27,7 @@ named_depth x = search (rules, the_lemmas)
 row_depth : (at : ℕ) (s : Size) (t : TypePhrase) → type_depth (ty.Row at s t) ≡ type_depth t + 1
 row_depth at s t = search (rules, the_lemmas)
 
-structure_depth : (at : ℕ) (fs : List Field) → type_depth (ty.Struct at fs) ≡ fields_depth fs + 1
+structure_depth : (at : ℕ) (fs : List Field) → type_depth (ty.Struct at fs) ≡ deepest_of field_depth fs + 1
 structure_depth at fs = search (rules, the_lemmas)
 
 one_field_depth : (t : TypePhrase) (xs : List Name) → field_depth (record { of = t; names = xs }) ≡ type_depth t
@@ -59,7 +59,7 @@ field_fits m inner f xs ys h =
     (omega (arith, is, t.0), (omega (arith, is, t.1.0), λ n le. (h.0, h.1, t.1.1 n (omega (arith, is, le)), h.3)))
 
 fields_fit : (m : ℕ) → TypeFits m → (fs : List Field) (xs ys : Tokens) → (g.fields (g.types m)).reads fs xs ys
-    → (1 ≤ fields_depth fs) × Fits (λ n. (g.fields (g.types n)).reads fs xs ys) (fields_depth fs) m
+    → (1 ≤ (deepest_of field_depth) fs) × Fits (λ n. (g.fields (g.types n)).reads fs xs ys) (deepest_of field_depth fs) m
 unfolding g.fields
 fields_fit m inner fs xs ys h =
     let first = field_fits m inner h.0 xs h.1 h.2 in
@@ -91,7 +91,7 @@ unfolding g.a_type g.structure
 structure_part m inner t xs ys h =
     let p = h.3.3.3 in
     let f = fields_fit m inner p.0 h.3.3.1 p.1 p.2 in (
-      fields_depth p.0,
+      (deepest_of field_depth) p.0,
       rw p.3.3.0 (structure_depth h.3.0 p.0),
       (
         f.1.0,
@@ -129,7 +129,8 @@ formal_fits m f xs ys h =
     let is : formal_depth f ≡ type_depth h.0 = ap formal_depth h.3.3.3.0 in
     (omega (arith, is, t.0), λ n le. (h.0, h.1, t.1 n (omega (arith, is, le)), h.3))
 
-pub formals_fit : (m : ℕ) (fs : List Formal) (xs ys : Tokens) → (g.formals m).reads fs xs ys → Fits (λ n. (g.formals n).reads fs xs ys) (formals_depth fs) m
+pub formals_fit : (m : ℕ) (fs : List Formal) (xs ys : Tokens) → (g.formals m).reads fs xs ys
+    → Fits (λ n. (g.formals n).reads fs xs ys) (deepest_of formal_depth fs) m
 unfolding g.formals
 formals_fit m fs xs ys h = (listed_fits (mark sign.Comma) g.formal formal_depth m (formal_fits m) h.3.0 h.0 fs xs h.1 ys h.2 h.3.1).1
 
@@ -155,6 +156,6 @@ let_item_fits m x xs ys h = elim h [
 ]
 
 pub let_items_fit : (m : ℕ) (is : List LetItem) (xs ys : Tokens) → (g.let_items m).reads is xs ys
-    → Fits (λ n. (g.let_items n).reads is xs ys) (let_items_depth is) m
+    → Fits (λ n. (g.let_items n).reads is xs ys) (deepest_of let_item_depth is) m
 unfolding g.let_items
 let_items_fit m is xs ys h = (listed_fits (mark sign.Comma) g.let_item let_item_depth m (let_item_fits m) h.3.0 h.0 is xs h.1 ys h.2 h.3.1).1

@@ -21,15 +21,14 @@ use Rattle.elan_grammar.specs.Terminals.{mark}
 use Rattle.elan_grammar.specs.Units as g
 use Rattle.elan_grammar.specs.Expressions.{Language}
 use Rattle.elan_grammar.specs.Units.{phrases, counter_of}
-use Rattle.elan_grammar.specs.Depth.{type_depth, let_items_depth, expr_depth, item_depth, items_depth, limit_depth, counter_depth, unit_depth, units_depth}
-use Rattle.elan_grammar.specs.Depth.{option_depth, option_counter_depth, expr_place, type_place}
+use Rattle.elan_grammar.specs.Depth.{type_depth, expr_depth, item_depth, limit_depth, counter_depth, unit_depth, type_place, let_item_depth, expr_place, deepest_of, if_any}
 use Rattle.elan_depth.proofs.Limits.{Fits, lift, no_room, room, listed_fits}
 use Rattle.elan_depth.proofs.TypeLimits.{types_fit, let_items_fit}
 use Rattle.elan_depth.proofs.ExpressionLimits.{At, FitsAt, FitsIn, Inner, expr_in, units_in, level_fits}
 
 -- ---- depths
 
-let_depth : (at : ℕ) (xs : List LetItem) → unit_depth (u.Let at xs) ≡ let_items_depth xs
+let_depth : (at : ℕ) (xs : List LetItem) → unit_depth (u.Let at xs) ≡ deepest_of let_item_depth xs
 let_depth at xs = search (rules, the_lemmas)
 
 some_item_depth : (x : Name) (a : Expr) → item_depth (record { name = x; init = Some a }) ≡ expr_depth a
@@ -38,13 +37,13 @@ some_item_depth x a = search (rules, the_lemmas)
 no_item_depth : (x : Name) → item_depth (record { name = x; init = None }) ≡ 0
 no_item_depth x = search (rules, the_lemmas)
 
-variables_depth : (at : ℕ) (t : TypePhrase) (xs : List Item) → unit_depth (u.Variables at t xs) ≡ max (type_depth t) (items_depth xs)
+variables_depth : (at : ℕ) (t : TypePhrase) (xs : List Item) → unit_depth (u.Variables at t xs) ≡ max (type_depth t) (deepest_of item_depth xs)
 variables_depth at t xs = search (rules, the_lemmas)
 
-constants_depth : (at : ℕ) (t : TypePhrase) (xs : List Item) → unit_depth (u.Constants at t xs) ≡ max (type_depth t) (items_depth xs)
+constants_depth : (at : ℕ) (t : TypePhrase) (xs : List Item) → unit_depth (u.Constants at t xs) ≡ max (type_depth t) (deepest_of item_depth xs)
 constants_depth at t xs = search (rules, the_lemmas)
 
-bound_depth : (at : ℕ) (t : TypePhrase) (xs : List Item) → unit_depth (u.Bound at t xs) ≡ max (type_depth t) (items_depth xs)
+bound_depth : (at : ℕ) (t : TypePhrase) (xs : List Item) → unit_depth (u.Bound at t xs) ≡ max (type_depth t) (deepest_of item_depth xs)
 bound_depth at t xs = search (rules, the_lemmas)
 
 value_depth : (a : Expr) → unit_depth (u.Value a) ≡ expr_depth a
@@ -53,7 +52,7 @@ value_depth a = search (rules, the_lemmas)
 becomes_depth : (at : ℕ) (a b : Expr) → unit_depth (u.Becomes at a b) ≡ max (expr_depth a) (expr_depth b) + 1
 becomes_depth at a b = search (rules, the_lemmas)
 
-leave_depth : (at : ℕ) (x : Name) (a : Option Expr) → unit_depth (u.Leave at x a) ≡ option_depth a + 1
+leave_depth : (at : ℕ) (x : Name) (a : Option Expr) → unit_depth (u.Leave at x a) ≡ if_any expr_depth a + 1
 leave_depth at x None = search (rules, the_lemmas)
 leave_depth at x (Some a) = search (rules, the_lemmas)
 
@@ -66,12 +65,12 @@ downto_depth a = search (rules, the_lemmas)
 without_depth : limit_depth limit.Without ≡ 0
 without_depth = search (rules, the_lemmas)
 
-one_counter_depth : (x : Name) (f : Option Expr) (l : Limit) → counter_depth (counter_of x f l) ≡ max (option_depth f) (limit_depth l)
+one_counter_depth : (x : Name) (f : Option Expr) (l : Limit) → counter_depth (counter_of x f l) ≡ max (if_any expr_depth f) (limit_depth l)
 one_counter_depth x None l = search (rules, the_lemmas)
 one_counter_depth x (Some a) l = search (rules, the_lemmas)
 
 loop_depth : (at : ℕ) (c : Option Counter) (w : Option Expr) (us : List Phrase) (a : Option Expr)
-    → unit_depth (u.Loop at c w us a) ≡ max (option_counter_depth c) (max (option_depth w) (max (units_depth us) (option_depth a))) + 1
+    → unit_depth (u.Loop at c w us a) ≡ max (if_any counter_depth c) (max (if_any expr_depth w) (max (deepest_of unit_depth us) (if_any expr_depth a))) + 1
 loop_depth at None None us None = search (rules, the_lemmas)
 loop_depth at None None us (Some a) = search (rules, the_lemmas)
 loop_depth at None (Some w) us None = search (rules, the_lemmas)
@@ -91,7 +90,7 @@ unfolding g.a_let
 let_fits m v xs ys h =
     let p = h.3 in
     let f = let_items_fit m p.0 h.1 p.1 p.2 in
-    let is : unit_depth v ≡ let_items_depth p.0 = rw p.3.0 (let_depth h.0 p.0) in
+    let is : unit_depth v ≡ deepest_of let_item_depth p.0 = rw p.3.0 (let_depth h.0 p.0) in
     (omega (arith, is, f.0), λ n le. (h.0, h.1, h.2, (p.0, p.1, f.1 n (omega (arith, is, le)), p.3)))
 
 init_fits : (m : ℕ) → Inner m → FitsAt g.init expr_depth m
@@ -114,7 +113,7 @@ item_fits m inner i xs ys h =
           (omega (arith, is), λ n le. (h.0, h.1, h.2, (p.0, p.1, inr r, p.3)))
     ]
 
-items_fit : (m : ℕ) → Inner m → FitsAt g.items items_depth m
+items_fit : (m : ℕ) → Inner m → FitsAt g.items (deepest_of item_depth) m
 unfolding g.items
 items_fit m inner is xs ys h = (listed_fits (mark sign.Comma) (At g.item) item_depth m (item_fits m inner) h.3.0 h.0 is xs h.1 ys h.2 h.3.1).1
 
@@ -126,7 +125,7 @@ constant_fits m inner i xs ys h =
     let is : item_depth i ≡ expr_depth p.0 = rw p.3.0 (some_item_depth h.0 p.0) in
     (omega (arith, is, f.0), λ n le. (h.0, h.1, h.2, (p.0, p.1, f.1 n (omega (arith, is, le)), p.3)))
 
-constants_fit : (m : ℕ) → Inner m → FitsAt g.constant_items items_depth m
+constants_fit : (m : ℕ) → Inner m → FitsAt g.constant_items (deepest_of item_depth) m
 unfolding g.constant_items
 constants_fit m inner is xs ys h = (listed_fits (mark sign.Comma) (At g.constant_item) item_depth m (constant_fits m inner) h.3.0 h.0 is xs h.1 ys h.2 h.3.1).1
 
@@ -140,7 +139,7 @@ unfolding g.variables
 variables_fit m inner t low v xs ys h =
     let p = h.3 in
     let f = items_fit m inner p.0 h.1 p.1 p.2 in
-    let is : unit_depth v ≡ max (type_depth t) (items_depth p.0) = rw p.3.0 (variables_depth (type_place t) t p.0) in
+    let is : unit_depth v ≡ max (type_depth t) (deepest_of item_depth p.0) = rw p.3.0 (variables_depth (type_place t) t p.0) in
     (omega (arith, is), (omega (arith, is, low, f.0), λ n le. (h.0, h.1, h.2, (p.0, p.1, f.1 n (omega (arith, is, le)), p.3))))
 
 behind_const_fits : (m : ℕ) → Inner m → BehindType g.constants m
@@ -148,7 +147,7 @@ unfolding g.constants
 behind_const_fits m inner t low v xs ys h =
     let p = h.3 in
     let f = constants_fit m inner p.0 h.1 p.1 p.2 in
-    let is : unit_depth v ≡ max (type_depth t) (items_depth p.0) = rw p.3.0 (constants_depth (type_place t) t p.0) in
+    let is : unit_depth v ≡ max (type_depth t) (deepest_of item_depth p.0) = rw p.3.0 (constants_depth (type_place t) t p.0) in
     (omega (arith, is), (omega (arith, is, low, f.0), λ n le. (h.0, h.1, h.2, (p.0, p.1, f.1 n (omega (arith, is, le)), p.3))))
 
 pub declared_fits : (m : ℕ) → Inner m → BehindType g.declared m
@@ -173,7 +172,7 @@ bound_fits m inner v xs ys h =
     let s = q.3 in
     let t = types_fit m p.0 h.3.1 p.1 p.2 in
     let f = items_fit m inner s.0 q.1 s.1 s.2 in
-    let is : unit_depth v ≡ max (type_depth p.0) (items_depth s.0) = rw s.3.0 (bound_depth h.3.0 p.0 s.0) in (
+    let is : unit_depth v ≡ max (type_depth p.0) (deepest_of item_depth s.0) = rw s.3.0 (bound_depth h.3.0 p.0 s.0) in (
       omega (arith, is, t.1.0, f.0),
       λ n le. (
         h.0,
@@ -185,16 +184,16 @@ bound_fits m inner v xs ys h =
 
 -- ---- statements
 
-key_in : (m : ℕ) → Inner (suc m) → (x : Key) → FitsIn (λ inner n. g.key_part inner n x) option_depth m
+key_in : (m : ℕ) → Inner (suc m) → (x : Key) → FitsIn (λ inner n. g.key_part inner n x) (if_any expr_depth) m
 unfolding g.key_part
 key_in m inner x o xs ys h = elim h [
   | inl r ↦
       let p = r.2 in
       let f = expr_in m inner 6 r.0 p.1 r.1 p.3 in
-      let is : option_depth o ≡ expr_depth r.0 = ap option_depth r.3.0 in
+      let is : if_any expr_depth o ≡ expr_depth r.0 = ap (if_any expr_depth) r.3.0 in
       (omega (arith, is, f.0), λ n le. inl (r.0, r.1, (p.0, p.1, p.2, f.1 n (omega (arith, is, le))), r.3))
   | inr r ↦
-      let is : option_depth o ≡ 0 = ap option_depth r.0 in
+      let is : if_any expr_depth o ≡ 0 = ap (if_any expr_depth) r.0 in
       (omega (arith, is), λ n le. inr r)
 ]
 
@@ -234,7 +233,7 @@ leave_fits (suc m) inner v xs ys h =
     let p = h.3.3 in
     let q = p.3 in
     let f = key_in m inner key.With q.0 p.1 q.1 q.2 in
-    lift (λ n. (At g.leave n).reads v xs ys) (option_depth q.0) (unit_depth v) m (rw q.3.0 (leave_depth h.3.0 p.0 q.0))
+    lift (λ n. (At g.leave n).reads v xs ys) (if_any expr_depth q.0) (unit_depth v) m (rw q.3.0 (leave_depth h.3.0 p.0 q.0))
     (f.0, λ n le. (h.0, h.1, (room n, h.2.1), (h.3.0, h.3.1, h.3.2, (p.0, p.1, p.2, (q.0, q.1, f.1 n le, q.3)))))
 
 -- ---- loops
@@ -267,18 +266,18 @@ limit_in m inner l xs ys h = elim h [
   ]
 ]
 
-counter_in : (m : ℕ) → Inner (suc m) → FitsIn g.counter option_counter_depth m
+counter_in : (m : ℕ) → Inner (suc m) → FitsIn g.counter (if_any counter_depth) m
 unfolding g.counter
 counter_in m inner c xs ys h =
     let p = h.3 in
     let q = p.3 in
     let f = key_in m inner key.From p.0 h.1 p.1 p.2 in
     let l = limit_in m inner q.0 p.1 q.1 q.2 in
-    let is : option_counter_depth c ≡ max (option_depth p.0) (limit_depth q.0) = rw q.3.0 (one_counter_depth h.0 p.0 q.0) in
+    let is : if_any counter_depth c ≡ max (if_any expr_depth p.0) (limit_depth q.0) = rw q.3.0 (one_counter_depth h.0 p.0 q.0) in
     (omega (arith, is, f.0, l.0), λ n le. (h.0, h.1, h.2, (p.0, p.1, f.1 n (omega (arith, is, le)), (q.0, q.1, l.1 n (omega (arith, is, le)), q.3))))
 
 abbrev parts_depth : LoopParts → ℕ
-parts_depth p = max (units_depth p.units) (option_depth p.until)
+parts_depth p = max (deepest_of unit_depth p.units) (if_any expr_depth p.until)
 
 parts_in : (m : ℕ) → Inner (suc m) → FitsIn g.turn_parts parts_depth m
 unfolding g.turn_parts
@@ -287,24 +286,24 @@ parts_in m inner b xs ys h =
     let q = p.3 in
     let v = units_in m inner p.0 h.1 p.1 p.2 in
     let a = key_in m inner key.Until q.0 p.1 q.1 q.2 in
-    let is : parts_depth b ≡ max (units_depth p.0) (option_depth q.0) = ap parts_depth q.3.3.0 in
+    let is : parts_depth b ≡ max (deepest_of unit_depth p.0) (if_any expr_depth q.0) = ap parts_depth q.3.3.0 in
     (omega (arith, is, v.0, a.0), λ n le. (h.0, h.1, h.2, (p.0, p.1, v.1 n (omega (arith, is, le)), (q.0, q.1, a.1 n (omega (arith, is, le)), q.3))))
 
 -- a loop's parts, with what stands before them
 record Turns (at : Option ℕ) (c : Option Counter) (w : Option Expr) (v : Phrase) (xs ys : Tokens) (m : ℕ) : Type 0 where
   depth : ℕ
   whole : unit_depth v ≡ depth + 1
-  counter : option_counter_depth c ≤ depth
-  condition : option_depth w ≤ depth
+  counter : if_any counter_depth c ≤ depth
+  condition : if_any expr_depth w ≤ depth
   fits : Fits (λ n. (g.turns (phrases (suc n)) (suc n) at c w).reads v xs ys) depth m
 
-turns_in : (m : ℕ) → Inner (suc m) → (at : Option ℕ) (c : Option Counter) (w : Option Expr) → option_counter_depth c ≤ m → option_depth w ≤ m
+turns_in : (m : ℕ) → Inner (suc m) → (at : Option ℕ) (c : Option Counter) (w : Option Expr) → if_any counter_depth c ≤ m → if_any expr_depth w ≤ m
     → (v : Phrase) (xs ys : Tokens) → (g.turns (phrases (suc m)) (suc m) at c w).reads v xs ys → Turns at c w v xs ys m
 unfolding g.turns
 turns_in m inner at c w lc lw v xs ys h =
     let f = parts_in m inner h.0 xs h.1 h.2 in
     record {
-      depth = max (option_counter_depth c) (max (option_depth w) (parts_depth h.0));
+      depth = max (if_any counter_depth c) (max (if_any expr_depth w) (parts_depth h.0));
       whole = rw h.3.0 (loop_depth _ c w h.0.units h.0.until);
       counter = omega arith;
       condition = omega arith;
@@ -386,7 +385,7 @@ unit_fits m inner v xs ys h = elim h [
   | inr r ↦ let f = plain_fits m inner v xs ys r in (f.0, λ n le. inr (f.1 n le))
 ]
 
-units_fit : (m : ℕ) → Inner m → FitsAt g.units units_depth m
+units_fit : (m : ℕ) → Inner m → FitsAt g.units (deepest_of unit_depth) m
 unfolding g.units
 units_fit m inner us xs ys h = (listed_fits (mark sign.Semicolon) (At g.unit) unit_depth m (unit_fits m inner) h.3.0 h.0 us xs h.1 ys h.2 h.3.1).1
 
@@ -395,5 +394,7 @@ unfolding g.phrases
 phrases_fit zero = record { level = λ i a xs ys h. absurd h; units = λ us xs ys h. absurd h }
 phrases_fit (suc m) = record {
   level = λ i a xs ys h. lift (λ n. ((phrases n).level i).reads a xs ys) (expr_depth a) (expr_depth a + 1) m refl (level_fits m (phrases_fit m) i a xs ys h);
-  units = λ us xs ys h. lift (λ n. (phrases n).units.reads us xs ys) (units_depth us) (units_depth us + 1) m refl (units_fit m (phrases_fit m) us xs ys h);
+  units =
+      λ us xs ys h. lift (λ n. (phrases n).units.reads us xs ys) (deepest_of unit_depth us) (deepest_of unit_depth us + 1) m refl
+      (units_fit m (phrases_fit m) us xs ys h);
 }

@@ -10,3 +10,5 @@ deepest_push d [] x = omega arith
 deepest_push d (y ∷ xs) x =
     let h = deepest_push d xs x in
     omega (arith, h)
+
+pub ruleset deepens = (deepest_one, deepest_push)

@@ -1,5 +1,5 @@
 -- What holds of the productions of expressions.
-use Rattle.std.proofs.Common.{◌≡◌, ℕ, zero, suc, ◌<◌, ◌≤◌, true, false, List, ◌∷◌, refl, sym, ◌∙◌, arith}
+use Rattle.std.proofs.Common.{◌≡◌, ℕ, zero, suc, ◌<◌, ◌≤◌, ◌⊎◌, inl, inr, Bool, true, false, List, ◌∷◌, refl, sym, ◌∙◌, arith}
 use Rattle.std.specs.Prelude.{◌||◌, nat_lt, ◌==◌}
 use Rattle.std.proofs.lemmas.Bool.{eqb-true, ltb-true, lt-ltb}
 use Rattle.std.proofs.lemmas.Bool.Decides.{nat_tests}
@@ -7,36 +7,54 @@ use Rattle.elan_tree.specs.declared.token.Key.TheVariants as key
 use Rattle.elan_tree.specs.declared.token.Sign.TheVariants as sign
 use Rattle.elan_tree.specs.declared.written_type.Name.{Name}
 use Rattle.elan_tree.specs.declared.phrase.Expr.{Expr}
+use Rattle.elan_grammar.specs.declared.kind.Kind.{Kind}
 use Rattle.elan_grammar.specs.declared.kind.Kind.TheVariants as k
 use Rattle.elan_grammar.specs.Kinds.{ahead, kind, kind_of, is_key, is_sign, is_ident, is_comma, is_point, is_literal, is_monadic, is_level, lengthens, begins, loose}
 use Rattle.elan_grammar.specs.Rule.{nothing, further}
 use Rattle.elan_grammar.specs.Depth.{expr_depth}
 use Rattle.elan_grammar.specs.Expressions as g
 use Rattle.elan_grammar.specs.Expressions.{Language}
-use Rattle.elan_grammar.proofs.Laws.{Set, Laws, Full, pure_law, bind_law, guard_law, choose_law}
+use Rattle.elan_grammar.proofs.Laws.{Set, Laws, Full, pure_law}
+use Rattle.elan_grammar.proofs.Sequences.{bind_law, guard_law, choose_law}
 use Rattle.elan_grammar.proofs.Repeats.{iterate_law}
 use Rattle.elan_grammar.proofs.Every.{within, apart}
 use Rattle.elan_grammar.proofs.Seen.{is_colon, colon_ahead, ahead-point, selecting}
 use Rattle.elan_grammar.proofs.Tokens.{given, keyword_law, end_law, mark_law, point_law, comma_law, ident_law, ident_shows, literal_law, monadic_law, applies, joint_law}
 use Rattle.elan_grammar.proofs.Forms.{bind_same, part_same, narrower, Eats, eats_terminal, eats_guard, eats_pure, eats_then, eats_choose, eats_refirst, optional_law, listed_law, listed_by}
 use Rattle.elan_grammar.proofs.TypeLaws.{labels_law, begins_label}
-use Rattle.elan_grammar.proofs.Follows.{ends_level, after_head, after_name, ends_units, begins_unit}
+use Rattle.elan_grammar.proofs.Follows.{reach, ends_level, after_head, after_name, ends_units, begins_unit}
 
 pub record LanguageLaws (inner : Language) : Type 0 where
   pub levels : (i : ℕ) → i ≤ 6 → Full (inner.level i) begins (ends_level i)
   pub bodies : Full inner.units begins_unit ends_units
 
-operator_ends : (i l : ℕ) → (l == suc i) ≡ true → nat_lt i l ≡ true
-operator_ends i l h = lt-ltb i l (omega (arith, eqb-true l (suc i) h))
+-- an operator has its level there
+reach_is : (x : Kind) → nat_lt 0 (loose x) ≡ true → reach x ≡ loose x
+reach_is x h = eqb-true (reach x) (loose x) (within (λ y. nat_lt 0 (loose y)) (λ y. reach y == loose y) refl x h)
 
-later_ends : (i l : ℕ) → nat_lt (suc i) l ≡ true → nat_lt i l ≡ true
-later_ends i l h = lt-ltb i l (omega (arith, ltb-true (suc i) l h))
+operator_reach : (i : ℕ) (x : Kind) → is_level (suc i) x ≡ true → reach x ≡ suc i
+operator_reach i x h =
+    let e : loose x ≡ suc i = eqb-true (loose x) (suc i) h in
+    reach_is x (lt-ltb 0 (loose x) (omega (arith, e))) ∙ e
 
-later_apart : (i l : ℕ) → nat_lt (suc i) l ≡ true → (l == suc i) ≡ false
-later_apart i l h = grind (arith, nat_tests, ltb-true (suc i) l h)
+test : (b : Bool) → (b ≡ true) ⊎ (b ≡ false)
+test true = inl refl
+test false = inr refl
 
-no_operator : (i : ℕ) → i < 6 → is_level (suc i) k.Nothing ≡ false
-no_operator i lt = grind (arith, nat_tests)
+operator_ends : (i : ℕ) (x : Kind) → is_level (suc i) x ≡ true → ends_level i x ≡ true
+operator_ends i x h = lt-ltb i (reach x) (omega (arith, operator_reach i x h))
+
+later_ends : (i : ℕ) (x : Kind) → ends_level (suc i) x ≡ true → ends_level i x ≡ true
+later_ends i x h = lt-ltb i (reach x) (omega (arith, ltb-true (suc i) (reach x) h))
+
+no_operator : (i : ℕ) → is_level (suc i) k.Nothing ≡ false
+no_operator i = grind (arith, nat_tests)
+
+later_apart : (i : ℕ) (x : Kind) → ends_level (suc i) x ≡ true → is_level (suc i) x ≡ false
+later_apart i x h = elim (test (is_level (suc i) x)) [
+  | inl is ↦ absurd (omega (arith, ltb-true (suc i) (reach x) h, operator_reach i x is))
+  | inr not ↦ not
+]
 
 abbrev is_selecting : Set
 is_selecting k.Selects = true
@@ -305,7 +323,7 @@ module _ (inner : Language) (n : ℕ) (laws : nat_lt 0 n ≡ true → LanguageLa
   unfolding g.right_part
   right_part_law i lt depth =
       eats_guard _ _ _ _ (λ some.
-      eats_terminal _ _ _ _ _ (joint_law (suc i) begins (omega arith)) (λ o.
+      eats_terminal _ _ _ _ _ (joint_law i begins) (λ o.
       bind_same _ _ _ _ _ ((laws (deeper depth n some)).levels i (omega arith)) (λ b.
       pure_law _ (ends_level i))))
 
@@ -320,5 +338,5 @@ module _ (inner : Language) (n : ℕ) (laws : nat_lt 0 n ≡ true → LanguageLa
       bind_same _ _ _ _ _ (level_law i (omega arith)) (λ a.
       iterate_law (g.dyadic inner n i) (is_level (suc i)) (is_level (suc i)) (ends_level i) (ends_level (suc i)) (λ r. (dyadic_law i (omega arith) r).laws)
       (λ x h. h)
-      (λ x h. operator_ends i (loose x) h) (λ x h. later_ends i (loose x) h) (λ x h. later_apart i (loose x) h) (no_operator i (omega arith))
-      (λ r s xs ys h. (dyadic_law i (omega arith) r).eats xs ys s h) _ (ends_level i) (λ x h. operator_ends i (loose x) h) (λ x h. later_ends i (loose x) h))
+      (λ x h. operator_ends i x h) (λ x h. later_ends i x h) (λ x h. later_apart i x h) (no_operator i)
+      (λ r s xs ys h. (dyadic_law i (omega arith) r).eats xs ys s h) _ (ends_level i) (λ x h. operator_ends i x h) (λ x h. later_ends i x h))

@@ -3,15 +3,44 @@ use Rattle.std.proofs.Common.{ℕ, true, false}
 use Rattle.std.specs.Prelude.{◌||◌, nat_lt}
 use Rattle.elan_tree.specs.declared.token.Key.TheVariants as key
 use Rattle.elan_tree.specs.declared.token.Sign.TheVariants as sign
+use Rattle.elan_grammar.specs.declared.kind.Kind.{Kind}
 use Rattle.elan_grammar.specs.declared.kind.Kind.TheVariants as k
 use Rattle.elan_grammar.specs.Kinds.{is_key, is_sign, is_rep, begins, begins_typed, lengthens, loose}
 use Rattle.elan_grammar.proofs.Laws.{Set}
 
+-- The level of an operator, and a greater one for what ends each expression; 0 for what can't follow an operand or goes on with it.
+abbrev pub reach : Kind → ℕ
+reach (k.Sign sign.RightRound) = 7
+reach (k.Sign sign.RightSquare) = 7
+reach (k.Sign sign.Comma) = 7
+reach (k.Sign sign.Semicolon) = 7
+reach (k.Sign sign.Point) = 7
+reach (k.Sign sign.Becomes) = 7
+reach (k.Key key.Then) = 7
+reach (k.Key key.Elif) = 7
+reach (k.Key key.Else) = 7
+reach (k.Key key.Fi) = 7
+reach (k.Key key.End) = 7
+reach (k.Key key.Of) = 7
+reach (k.Key key.Case) = 7
+reach (k.Key key.Otherwise) = 7
+reach (k.Key key.Upto) = 7
+reach (k.Key key.Downto) = 7
+reach (k.Key key.While) = 7
+reach (k.Key key.Rep) = 7
+reach (k.Key key.Repeat) = 7
+reach (k.Key key.Until) = 7
+reach (k.Key key.Per) = 7
+reach k.GoesOn = 7
+reach k.Refines = 7
+reach k.Nothing = 7
+reach x = loose x
+
 abbrev pub ends_level : ℕ → Set
-ends_level i x = nat_lt i (loose x)
+ends_level i x = nat_lt i (reach x)
 
 abbrev pub after_head : Set
-after_head x = lengthens x || nat_lt 0 (loose x)
+after_head x = lengthens x || nat_lt 0 (reach x)
 
 abbrev pub after_name : Set
 after_name x = is_sign sign.LeftRound x || after_head x

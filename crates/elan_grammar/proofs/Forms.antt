@@ -5,7 +5,8 @@ use Rattle.elan_grammar.specs.declared.kind.Kind.{Kind}
 use Rattle.elan_grammar.specs.declared.kind.Kind.TheVariants as k
 use Rattle.elan_grammar.specs.Kinds.{ahead}
 use Rattle.elan_grammar.specs.Rule.{Tokens, Rule, pure, ◌>>=◌, terminal, only, choose, optional, further, listed}
-use Rattle.elan_grammar.proofs.Laws.{Set, Within, Apart, Laws, Full, keeps, pure_law, bind_part, bind_law, terminal_eats, guard_law, choose_part, choose_law}
+use Rattle.elan_grammar.proofs.Laws.{Set, Within, Apart, Laws, Full, keeps, pure_law, terminal_eats}
+use Rattle.elan_grammar.proofs.Sequences.{bind_part, bind_law, guard_law, choose_part, choose_law}
 use Rattle.elan_grammar.proofs.Repeats.{iterate_law}
 
 pub bind_same : {A B : Type 0} (r : Rule A) (f : A → Rule B) (r1 f1 f2 : Set) → Full r r1 f1 → ((a : A) → Full (f a) f1 f2) → Full (r >>= f) r1 f2

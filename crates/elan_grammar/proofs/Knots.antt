@@ -10,7 +10,7 @@ use Rattle.elan_grammar.specs.Rule.{Tokens, refusal, Rule, iterate, Parses, AtMo
 use Rattle.elan_grammar.specs.Types.{types, a_type}
 use Rattle.elan_grammar.specs.Expressions.{Language, operand, dyadic, level}
 use Rattle.elan_grammar.specs.Units.{units, phrases}
-use Rattle.elan_grammar.specs.Depth.{type_depth, expr_depth, units_depth}
+use Rattle.elan_grammar.specs.Depth.{type_depth, expr_depth, unit_depth, deepest_of}
 
 -- what parses a rule from where a reading of another ended parses all of it
 pub parses_from : {A : Type 0} (r s : Rule A) (depth : A → ℕ) (P Q : ℕ → Type 0) (all old new : Tokens) (result : Result (Tall A) ParseError)
@@ -72,7 +72,7 @@ expr_parse d j i old new result e h =
     (λ k le. omega (arith, e, le)) h
 
 pub units_parse : (d j : ℕ) (old new : Tokens) (result : Result (Tall (List Phrase)) ParseError) → d ≡ suc j
-    → Parses (units (phrases j) j) units_depth (AtMost j) old result new → Parses (phrases d).units units_depth (Below d) old result new
+    → Parses (units (phrases j) j) (deepest_of unit_depth) (AtMost j) old result new → Parses (phrases d).units (deepest_of unit_depth) (Below d) old result new
 units_parse d j old new result e h =
-    parses_from (units (phrases j) j) (phrases d).units units_depth (AtMost j) (Below d) old old new result (units_more d j old e)
+    parses_from (units (phrases j) j) (phrases d).units (deepest_of unit_depth) (AtMost j) (Below d) old old new result (units_more d j old e)
     (λ k le. omega (arith, e, le)) h

@@ -1,7 +1,9 @@
+pub mod Looks
 pub mod Turns
 pub mod Deepest
 pub mod Knots
 pub mod Laws
+pub mod Sequences
 pub mod Repeats
 pub mod Every
 pub mod Seen
@@ -11,5 +13,6 @@ pub mod Follows
 pub mod TypeLaws
 pub mod ExpressionLaws
 pub mod UnitLaws
+pub mod LevelLaws
 pub mod GrammarLaws
 pub mod PlaceLaws

@@ -16,14 +16,15 @@ use Rattle.elan_grammar.specs.declared.kind.Tier.{Tier}
 use Rattle.elan_grammar.specs.declared.kind.Kind.{Kind}
 use Rattle.elan_grammar.specs.declared.kind.Kind.TheVariants as k
 use Rattle.elan_grammar.specs.Kinds.{kind, second, kind_of, point_by, comma_by, bold_by, by_next, ahead}
-use Rattle.elan_grammar.specs.Looks.{LooksSame}
+use Rattle.elan_grammar.proofs.Looks.{LooksSame}
 use Rattle.elan_grammar.specs.Rule.{Tokens, Outcome, refusal}
 use Rattle.elan_grammar.specs.Grammar as g
 use Rattle.elan_grammar.specs.Reads.{text, Reads}
 use Rattle.elan_grammar.specs.Place.{CanGoOn, IsPlace}
 use Rattle.elan_grammar.specs.Stops.{left, left_by, tokens_of, token_of}
 use Rattle.elan_grammar.proofs.Laws.{done, failed, some_or_none}
-use Rattle.elan_grammar.proofs.GrammarLaws.{text_law, level_units_law, not_empty, some_left, refused_run}
+use Rattle.elan_grammar.proofs.GrammarLaws.{text_law, not_empty, some_left, refused_run}
+use Rattle.elan_grammar.proofs.LevelLaws.{level_units_law}
 
 -- ---- What stands behind a front looks to it like one of the continuations.
 

@@ -1,5 +1,5 @@
 -- What holds of the rules of one token.
-use Rattle.std.proofs.Common.{◌≡◌, ℕ, ◌<◌, Bool, true, false, cond, Option, Some, None, refl, sym, ◌∙◌, arith}
+use Rattle.std.proofs.Common.{◌≡◌, ℕ, suc, Bool, true, false, cond, Option, Some, None, refl, sym, ◌∙◌, arith}
 use Rattle.std.specs.Prelude.{not, ◌==◌, ◌&&◌, ℤ, neg_ℤ, pos, []}
 use Rattle.std.proofs.lemmas.Bool.{eqb-true}
 use denote.Enum.Bare.{true_same}
@@ -37,7 +37,8 @@ use Rattle.elan_grammar.specs.declared.joint.Joint.TheVariants as joint
 use Rattle.elan_grammar.specs.Kinds.{ahead, kind, second, kind_of, is_key, is_sign, is_ident, is_number, is_bold, is_comma, goes_on, is_point, leads, is_init, is_rep, is_symbol, is_operator, is_literal, begins, is_level, loose, tier_of, tier_level, same_sign}
 use Rattle.elan_grammar.specs.Rule.{terminal}
 use Rattle.elan_grammar.specs.Terminals as terminals
-use Rattle.elan_grammar.proofs.Laws.{Set, Within, Apart, Laws, Full, taking, bind_law, terminal_law}
+use Rattle.elan_grammar.proofs.Laws.{Set, Within, Apart, Laws, Full, taking, terminal_law}
+use Rattle.elan_grammar.proofs.Sequences.{bind_law}
 use Rattle.elan_grammar.proofs.Every.{every, implies, apart}
 use Rattle.elan_grammar.proofs.Seen.{is_special, is_mark, is_type_name, declares, ahead-is, stays, ident_ahead, declares_ahead, ahead-point, pointed, leading, alone, ahead-comma, commaed, going_on, parting, type_named, ahead-plain}
 
@@ -326,13 +327,14 @@ joint_shows i at (w.Ident b) a e = absurd cc
 joint_shows i at (w.Number n) a e = absurd cc
 joint_shows i at (w.Text b) a e = absurd cc
 
-no_mark : (i : ℕ) → i < 7 → Apart (is_level i) is_mark
-no_mark i lt (k.Sign sign.Point) h = absurd (omega (arith, eqb-true 7 i h))
-no_mark i lt (k.Sign sign.Comma) h = absurd (omega (arith, eqb-true 7 i h))
-no_mark i lt _ h = refl
+no_mark : (i : ℕ) → Apart (is_level (suc i)) is_mark
+no_mark i (k.Sign sign.Point) h = absurd (omega (arith, eqb-true 0 (suc i) h))
+no_mark i (k.Sign sign.Comma) h = absurd (omega (arith, eqb-true 0 (suc i) h))
+no_mark i _ h = refl
 
-pub joint_law : (i : ℕ) (stop : Set) → i < 7 → Laws (terminals.word (terminals.joint_of i)) (is_level i) stop
-joint_law i stop lt = loose_law (terminals.in_word (terminals.joint_of i)) (is_level i) stop (λ t a h. joint_shows i t.at t.what a h) (λ r e. e) (no_mark i lt)
+pub joint_law : (i : ℕ) (stop : Set) → Laws (terminals.word (terminals.joint_of (suc i))) (is_level (suc i)) stop
+joint_law i stop =
+    loose_law (terminals.in_word (terminals.joint_of (suc i))) (is_level (suc i)) stop (λ t a h. joint_shows (suc i) t.at t.what a h) (λ r e. e) (no_mark i)
 
 operator_shows : (at : ℕ) (v : Word) (a : OperatorName) → terminals.operator_of at v ≡ Some a → is_operator (kind_of v) ≡ true
 operator_shows at (w.Bold b) a e = refl

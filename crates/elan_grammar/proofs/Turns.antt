@@ -20,3 +20,5 @@ pub turn_end : {S : Type 0} (body : S → Rule S) (b : Kind → Bool) (n at : �
 turn_end body b n at s xs le =
     let k : n - at ≡ 0 = omega arith in
     rw k refl
+
+pub ruleset turns = (turn_on, turn_off, turn_end)

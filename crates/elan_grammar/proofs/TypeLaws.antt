@@ -9,7 +9,8 @@ use Rattle.elan_grammar.specs.Kinds.{is_key, is_sign, is_ident, is_number, is_bo
 use Rattle.elan_grammar.specs.Rule.{Rule}
 use Rattle.elan_grammar.specs.Terminals.{bold}
 use Rattle.elan_grammar.specs.Types as g
-use Rattle.elan_grammar.proofs.Laws.{Set, Within, Apart, Laws, Full, pure_law, fail_law, no_guard, guard_law, choose_law, choose_first}
+use Rattle.elan_grammar.proofs.Laws.{Set, Within, Apart, Laws, Full, pure_law, fail_law}
+use Rattle.elan_grammar.proofs.Sequences.{no_guard, guard_law, choose_law, choose_first}
 use Rattle.elan_grammar.proofs.Every.{within, apart}
 use Rattle.elan_grammar.proofs.Seen.{declares, is_type_name}
 use Rattle.elan_grammar.proofs.Tokens.{keyword_law, mark_law, comma_law, going_law, parting_law, ident_law, bold_law, type_name_law, simple_law, size_law, access_law, constant_law, label_law, negated_law, is_simple, is_size, is_access}

@@ -12,7 +12,8 @@ use Rattle.elan_grammar.specs.Terminals.{keyword}
 use Rattle.elan_grammar.specs.Expressions.{Language, level}
 use Rattle.elan_grammar.specs.Depth.{expr_depth}
 use Rattle.elan_grammar.specs.Units as g
-use Rattle.elan_grammar.proofs.Laws.{Set, Within, Apart, Laws, Full, pure_law, no_guard, guard_law, bind_law, choose_law}
+use Rattle.elan_grammar.proofs.Laws.{Set, Within, Apart, Laws, Full, pure_law}
+use Rattle.elan_grammar.proofs.Sequences.{no_guard, guard_law, bind_law, choose_law}
 use Rattle.elan_grammar.proofs.Every.{within, apart}
 use Rattle.elan_grammar.proofs.Seen.{declares}
 use Rattle.elan_grammar.proofs.Tokens.{keyword_law, mark_law, comma_law, ident_law, init_law, rep_law, leaving_law, is_leaving}
@@ -72,7 +73,7 @@ module _ (inner : Language) (n : ℕ) (laws : LanguageLaws inner) where
       optional_law (is_key x) _ (is_key x) stop first (bind_same _ _ _ _ _ (keyword_law x begins) (λ _. narrower _ _ _ stop inner_law w)).laws (λ y h. h) ap fx
       fs
 
-  with_part_law : Full (g.with_part inner n) after_leaving ends_unit
+  with_part_law : Full (g.key_part inner n key.With) after_leaving ends_unit
   unfolding g.key_part
   with_part_law =
       part_law key.With ends_unit after_leaving (within ends_unit (ends_level 6) refl) (apart ends_unit (is_key key.With) refl)
@@ -100,7 +101,7 @@ module _ (inner : Language) (n : ℕ) (laws : LanguageLaws inner) where
       (λ x h. h) (apart after_limit (is_key key.Downto) refl) (within (is_key key.Downto) after_downto refl) (within after_limit after_downto refl))
       (λ x h. h) (apart after_downto (is_key key.Upto) refl) (within (is_key key.Upto) after_from refl) (within after_downto after_from refl)
 
-  from_part_law : Full (g.from_part inner n) after_counter_name after_from
+  from_part_law : Full (g.key_part inner n key.From) after_counter_name after_from
   unfolding g.key_part
   from_part_law =
       part_law key.From after_from after_counter_name (within after_from (ends_level 6) refl) (apart after_from (is_key key.From) refl)
@@ -114,7 +115,7 @@ module _ (inner : Language) (n : ℕ) (laws : LanguageLaws inner) where
       bind_same _ _ _ _ _ a_limit_law (λ l.
       pure_law _ after_limit)))
 
-  until_part_law : Full (g.until_part inner n) after_turns is_loop_end
+  until_part_law : Full (g.key_part inner n key.Until) after_turns is_loop_end
   unfolding g.key_part
   until_part_law =
       part_law key.Until is_loop_end after_turns (within is_loop_end (ends_level 6) refl) (apart is_loop_end (is_key key.Until) refl)
@@ -133,7 +134,7 @@ module _ (inner : Language) (n : ℕ) (laws : LanguageLaws inner) where
   unfolding g.turns
   turns_law at c w stop = bind_same _ _ _ _ _ (turn_parts_law stop) (λ p. pure_law _ stop)
 
-  while_part_law : Full (g.while_part inner n) after_limit is_rep
+  while_part_law : Full (g.key_part inner n key.While) after_limit is_rep
   unfolding g.key_part
   while_part_law =
       part_law key.While is_rep after_limit (within is_rep (ends_level 6) refl) (apart is_rep (is_key key.While) refl)

@@ -32,6 +32,15 @@ abbrev pub deepest : List ℕ → ℕ
 deepest [] = 0
 deepest (n ∷ ns) = max n (deepest ns)
 
+-- of some items, by the depth of each
+abbrev pub deepest_of : {A : Type 0} → (A → ℕ) → List A → ℕ
+deepest_of depth xs = deepest (map depth xs)
+
+-- of what may be left out
+abbrev pub if_any : {A : Type 0} → (A → ℕ) → Option A → ℕ
+if_any depth (Some a) = depth a
+if_any depth None = 0
+
 -- ---- types: each adds one
 
 abbrev pub type_step : TypePhrase-F ℕ ℕ → ℕ
@@ -59,26 +68,21 @@ type_start (ty.Struct at fields) = at
 abbrev pub type_place : TypePhrase → ℕ
 type_place t = type_start (out-TypePhrase t)
 
+abbrev pub formal_depth : Formal → ℕ
+formal_depth f = type_depth f.of
+
 abbrev pub let_item_depth : LetItem → ℕ
 let_item_depth (let_item.Constant name c) = 0
 let_item_depth (let_item.Abbreviation name t) = type_depth t
 
 -- ---- expressions and units: each application, call, bracket, selection and statement form adds one
 
-abbrev pub of_option : Option ℕ → ℕ
-of_option (Some n) = n
-of_option None = 0
-
-abbrev pub of_units : Option (List ℕ) → ℕ
-of_units (Some ns) = deepest ns
-of_units None = 0
-
 abbrev pub expr_step : Expr-F ℕ ℕ ℕ ℕ ℕ ℕ ℕ → ℕ
 expr_step (e.Call name actuals) = deepest actuals + 1
 expr_step (e.Concr at a) = a + 1
 expr_step (e.Bracket at a) = a + 1
-expr_step (e.If at branches otherwise) = max (deepest branches) (of_units otherwise) + 1
-expr_step (e.Select at of cases otherwise) = max of (max (deepest cases) (of_units otherwise)) + 1
+expr_step (e.If at branches otherwise) = max (deepest branches) (if_any deepest otherwise) + 1
+expr_step (e.Select at of cases otherwise) = max of (max (deepest cases) (if_any deepest otherwise)) + 1
 expr_step (e.Index at of index) = max of index + 1
 expr_step (e.Field at of field) = of + 1
 expr_step (e.Monadic at operator operand) = operand + 1
@@ -94,10 +98,10 @@ abbrev pub case_step : Case-F ℕ ℕ ℕ ℕ ℕ ℕ ℕ → ℕ
 case_step c = deepest c.units
 
 abbrev pub item_step : Item-F ℕ ℕ ℕ ℕ ℕ ℕ ℕ → ℕ
-item_step i = of_option i.init
+item_step i = if_any (λ n. n) i.init
 
 abbrev pub counter_step : Counter-F ℕ ℕ ℕ ℕ ℕ ℕ ℕ → ℕ
-counter_step c = max (of_option c.from) c.limit
+counter_step c = max (if_any (λ n. n) c.from) c.limit
 
 abbrev pub limit_step : Limit-F ℕ ℕ ℕ ℕ ℕ ℕ ℕ → ℕ
 limit_step e.Without = 0
@@ -106,14 +110,15 @@ limit_step (e.Downto a) = a
 
 abbrev pub unit_step : Unit-F ℕ ℕ ℕ ℕ ℕ ℕ ℕ → ℕ
 unit_step e.Empty = 0
-unit_step (e.Let at items) = deepest (map let_item_depth items)
+unit_step (e.Let at items) = deepest_of let_item_depth items
 unit_step (e.Variables at of items) = max (type_depth of) (deepest items)
 unit_step (e.Constants at of items) = max (type_depth of) (deepest items)
 unit_step (e.Bound at of items) = max (type_depth of) (deepest items)
 unit_step (e.Value a) = a
 unit_step (e.Becomes at left right) = max left right + 1
-unit_step (e.Loop at counter condition units until) = max (of_option counter) (max (of_option condition) (max (deepest units) (of_option until))) + 1
-unit_step (e.Leave at name value) = of_option value + 1
+unit_step (e.Loop at counter condition units until) =
+    max (if_any (λ n. n) counter) (max (if_any (λ n. n) condition) (max (deepest units) (if_any (λ n. n) until))) + 1
+unit_step (e.Leave at name value) = if_any (λ n. n) value + 1
 
 abbrev pub expr_depth : Expr → ℕ
 expr_depth = fold-Expr ℕ ℕ ℕ ℕ ℕ ℕ ℕ expr_step limit_step unit_step branch_step case_step counter_step item_step
@@ -158,75 +163,22 @@ expr_start (e.Cor at left right) = at
 abbrev pub expr_place : Expr → ℕ
 expr_place a = expr_start (out-Expr a)
 
--- ---- lists
-
-abbrev pub fields_depth : List Field → ℕ
-fields_depth xs = deepest (map field_depth xs)
-
-abbrev pub let_items_depth : List LetItem → ℕ
-let_items_depth xs = deepest (map let_item_depth xs)
-
-abbrev pub exprs_depth : List Expr → ℕ
-exprs_depth xs = deepest (map expr_depth xs)
-
-abbrev pub branches_depth : List Branch → ℕ
-branches_depth xs = deepest (map branch_depth xs)
-
-abbrev pub cases_depth : List Case → ℕ
-cases_depth xs = deepest (map case_depth xs)
-
-abbrev pub items_depth : List Item → ℕ
-items_depth xs = deepest (map item_depth xs)
-
-abbrev pub units_depth : List Phrase → ℕ
-units_depth xs = deepest (map unit_depth xs)
-
-abbrev pub formal_depth : Formal → ℕ
-formal_depth f = type_depth f.of
-
-abbrev pub formals_depth : List Formal → ℕ
-formals_depth xs = deepest (map formal_depth xs)
-
--- ---- what may be left out
-
-abbrev pub option_depth : Option Expr → ℕ
-option_depth (Some a) = expr_depth a
-option_depth None = 0
-
-abbrev pub option_units_depth : Option (List Phrase) → ℕ
-option_units_depth (Some us) = units_depth us
-option_units_depth None = 0
-
-abbrev pub option_counter_depth : Option Counter → ℕ
-option_counter_depth (Some c) = counter_depth c
-option_counter_depth None = 0
-
 -- ---- texts: each body of a PROC, OP or refinement adds one
 
 abbrev pub refinement_depth : Refinement → ℕ
-refinement_depth r = units_depth r.units + 1
-
-abbrev pub refinements_depth : List Refinement → ℕ
-refinements_depth xs = deepest (map refinement_depth xs)
+refinement_depth r = deepest_of unit_depth r.units + 1
 
 abbrev pub body_depth : Body → ℕ
-body_depth b = max (units_depth b.units) (refinements_depth b.refinements)
-
-abbrev pub option_type_depth : Option TypePhrase → ℕ
-option_type_depth (Some t) = type_depth t
-option_type_depth None = 0
+body_depth b = max (deepest_of unit_depth b.units) (deepest_of refinement_depth b.refinements)
 
 abbrev pub level_unit_depth : LevelUnit → ℕ
 level_unit_depth (lu.Plain v) = unit_depth v
 level_unit_depth (lu.NewType at name of) = type_depth of
-level_unit_depth (lu.Proc at result name formals body) = max (option_type_depth result) (max (formals_depth formals) (body_depth body) + 1)
-level_unit_depth (lu.Op at result name formals body) = max (option_type_depth result) (max (formals_depth formals) (body_depth body) + 1)
-
-abbrev pub level_units_depth : List LevelUnit → ℕ
-level_units_depth xs = deepest (map level_unit_depth xs)
+level_unit_depth (lu.Proc at result name formals body) = max (if_any type_depth result) (max (deepest_of formal_depth formals) (body_depth body) + 1)
+level_unit_depth (lu.Op at result name formals body) = max (if_any type_depth result) (max (deepest_of formal_depth formals) (body_depth body) + 1)
 
 abbrev pub level_depth : Level → ℕ
-level_depth l = max (level_units_depth l.units) (refinements_depth l.refinements)
+level_depth l = max (deepest_of level_unit_depth l.units) (deepest_of refinement_depth l.refinements)
 
 abbrev pub tree_depth : Tree → ℕ
 tree_depth (tree.Program level) = level_depth level

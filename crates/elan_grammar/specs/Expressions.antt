@@ -1,5 +1,5 @@
 -- Expressions.
-use Rattle.std.specs.Prelude.{ℕ, zero, suc, nat_lt, List, Option}
+use Rattle.std.specs.Prelude.{ℕ, zero, suc, List, Option}
 use Rattle.elan_tree.specs.declared.token.Key.TheVariants as key
 use Rattle.elan_tree.specs.declared.token.Sign.TheVariants as sign
 use Rattle.elan_tree.specs.declared.written_type.Name.{Name}
@@ -13,7 +13,7 @@ use Rattle.elan_grammar.specs.declared.joint.Joint.{Joint}
 use Rattle.elan_grammar.specs.declared.joint.Joint.TheVariants as joint
 use Rattle.elan_grammar.specs.declared.joint.Right.{Right}
 use Rattle.elan_grammar.specs.Kinds.{is_key, is_sign, is_comma, is_literal, is_monadic, is_level, lengthens, word_level, operand_level}
-use Rattle.elan_grammar.specs.Rule.{Rule, pure, nothing, ◌>>=◌, ◌>>◌, only, choose, iterate, optional, listed}
+use Rattle.elan_grammar.specs.Rule.{Rule, pure, nothing, ◌>>=◌, ◌>>◌, below, choose, iterate, optional, listed}
 use Rattle.elan_grammar.specs.Terminals.{word, keyword, end_of, mark, ident, literal_of, monadic_of, joint_of}
 use Rattle.elan_grammar.specs.Types.{labels}
 use Rattle.elan_grammar.specs.Depth.{expr_depth, expr_place}
@@ -38,21 +38,13 @@ choice_end = choose (is_key key.End) (end_of key.If) (keyword key.Fi)
 
 -- The expressions at most n deep. What stands in them is less than n deep.
 module _ (inner : Language) (n : ℕ) where
-  -- there is a depth between
-  abbrev room : Rule (Unit {0})
-  room = only (nat_lt 0 n)
-
-  -- there is a depth above this one
-  abbrev below : ℕ → Rule (Unit {0})
-  below depth = only (nat_lt depth n)
-
   abbrev e1 : Rule Expr
   e1 = inner.level word_level
 
   -- "(" e1 ")"
   unfoldable pub bracket : Rule Expr
   bracket = do
-    room
+    below 0 n
     at ← mark sign.LeftRound
     a ← e1
     mark sign.RightRound
@@ -61,7 +53,7 @@ module _ (inner : Language) (n : ℕ) where
   -- CONCR "(" e1 ")"
   unfoldable pub concr : Rule Expr
   concr = do
-    room
+    below 0 n
     at ← keyword key.Concr
     mark sign.LeftRound
     a ← e1
@@ -86,7 +78,7 @@ module _ (inner : Language) (n : ℕ) where
   -- "(" actuals ")"
   unfoldable pub call : Name → Rule Expr
   call x = do
-    room
+    below 0 n
     mark sign.LeftRound
     xs ← actuals
     mark sign.RightRound
@@ -117,7 +109,7 @@ module _ (inner : Language) (n : ℕ) where
   -- IF branches [ ELSE units ] ( FI | END IF )
   unfoldable pub choice : Rule Expr
   choice = do
-    room
+    below 0 n
     at ← keyword key.If
     bs ← branches
     o ← else_part
@@ -155,7 +147,7 @@ module _ (inner : Language) (n : ℕ) where
   -- SELECT e1 OF cases [ OTHERWISE [ ":" ] units ] END SELECT
   unfoldable pub selection : Rule Expr
   selection = do
-    room
+    below 0 n
     at ← keyword key.Select
     a ← e1
     keyword key.Of
@@ -172,7 +164,7 @@ module _ (inner : Language) (n : ℕ) where
   -- "[" e1 "]", behind an expression of this depth
   unfoldable pub index_part : ℕ → Rule Expr
   index_part depth = do
-    below depth
+    below depth n
     mark sign.LeftSquare
     b ← e1
     mark sign.RightSquare
@@ -186,7 +178,7 @@ module _ (inner : Language) (n : ℕ) where
   -- "." ident, behind an expression of this depth
   unfoldable pub field_part : ℕ → Rule Name
   field_part depth = do
-    below depth
+    below depth n
     mark sign.Point
     ident
 
@@ -207,7 +199,7 @@ module _ (inner : Language) (n : ℕ) where
   -- ( "+" | "-" | BOLD ) m
   unfoldable pub applied : Rule Expr
   applied = do
-    room
+    below 0 n
     o ← word monadic_of
     a ← inner.level operand_level
     pure (e.Monadic o.0 o.1 a)
@@ -219,7 +211,7 @@ module _ (inner : Language) (n : ℕ) where
   -- an operator of level i + 1 and its right operand, behind an expression of this depth
   unfoldable pub right_part : ℕ → ℕ → Rule Right
   right_part i depth = do
-    below depth
+    below depth n
     o ← word (joint_of (suc i))
     b ← inner.level i
     pure (record { joint = o; operand = b })

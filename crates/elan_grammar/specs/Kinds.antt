@@ -1,5 +1,5 @@
 -- The kinds of tokens: what the parser looks at.
-use Rattle.std.specs.Prelude.{ℕ, Bool, true, false, ◌||◌, if◌then◌else◌, ◌==◌, List, [], ◌∷◌, bytes_eq}
+use Rattle.std.specs.Prelude.{ℕ, nat_lt, Bool, true, false, ◌||◌, if◌then◌else◌, ◌==◌, List, [], ◌∷◌, bytes_eq}
 use denote.Enum.Bare.{sameb}
 use Rattle.elan_tree.specs.contracts.token.Key as of_key
 use Rattle.elan_tree.specs.contracts.token.Sign as of_sign
@@ -95,119 +95,6 @@ unfoldable pub ahead : List Token → Kind
 ahead [] = k.Nothing
 ahead (t ∷ ts) = by_next (kind_of t.what) ts
 
--- ---- sets of kinds
-
-abbrev pub is_ident : Kind → Bool
-is_ident k.Ident = true
-is_ident _ = false
-
-abbrev pub is_number : Kind → Bool
-is_number k.Number = true
-is_number _ = false
-
-abbrev pub is_bold : Kind → Bool
-is_bold (k.Bold t) = true
-is_bold (k.TypeName t) = true
-is_bold _ = false
-
-abbrev pub is_comma : Kind → Bool
-is_comma k.GoesOn = true
-is_comma (k.Sign sign.Comma) = true
-is_comma _ = false
-
-abbrev pub goes_on : Kind → Bool
-goes_on k.GoesOn = true
-goes_on _ = false
-
-abbrev pub is_point : Kind → Bool
-is_point k.Selects = true
-is_point k.Refines = true
-is_point (k.Sign sign.Point) = true
-is_point _ = false
-
--- a point with an identifier behind it
-abbrev pub leads : Kind → Bool
-leads k.Selects = true
-leads k.Refines = true
-leads _ = false
-
-abbrev pub lengthens : Kind → Bool
-lengthens k.Selects = true
-lengthens (k.Sign sign.LeftSquare) = true
-lengthens _ = false
-
-abbrev pub is_init : Kind → Bool
-is_init (k.Sign sign.DoubleColon) = true
-is_init (k.Sign sign.Becomes) = true
-is_init _ = false
-
--- a name of an operator that may be defined
-abbrev pub is_symbol : Sign → Bool
-is_symbol sign.Plus = true
-is_symbol sign.Minus = true
-is_symbol sign.Times = true
-is_symbol sign.Equal = true
-is_symbol sign.Unequal = true
-is_symbol sign.Less = true
-is_symbol sign.LessEqual = true
-is_symbol sign.Greater = true
-is_symbol sign.GreaterEqual = true
-is_symbol sign.Becomes = true
-is_symbol _ = false
-
-abbrev pub is_operator : Kind → Bool
-is_operator (k.Bold t) = true
-is_operator (k.TypeName t) = true
-is_operator (k.Sign x) = is_symbol x
-is_operator _ = false
-
-abbrev pub is_monadic : Kind → Bool
-is_monadic (k.Bold t) = true
-is_monadic (k.TypeName t) = true
-is_monadic (k.Sign sign.Plus) = true
-is_monadic (k.Sign sign.Minus) = true
-is_monadic _ = false
-
-abbrev pub is_literal : Kind → Bool
-is_literal k.Number = true
-is_literal k.Text = true
-is_literal (k.Key key.True) = true
-is_literal (k.Key key.False) = true
-is_literal _ = false
-
-abbrev pub is_rep : Kind → Bool
-is_rep (k.Key key.Rep) = true
-is_rep (k.Key key.Repeat) = true
-is_rep _ = false
-
--- a unit that begins with it begins with a type
-abbrev pub begins_typed : Kind → Bool
-begins_typed (k.TypeName t) = true
-begins_typed (k.Key key.Int) = true
-begins_typed (k.Key key.Bool) = true
-begins_typed (k.Key key.Text) = true
-begins_typed (k.Key key.Task) = true
-begins_typed (k.Key key.Dataspace) = true
-begins_typed (k.Key key.Row) = true
-begins_typed (k.Key key.Struct) = true
-begins_typed _ = false
-
--- an expression may begin with it
-abbrev pub begins : Kind → Bool
-begins k.Ident = true
-begins k.Number = true
-begins k.Text = true
-begins (k.Bold t) = true
-begins (k.Sign sign.Plus) = true
-begins (k.Sign sign.Minus) = true
-begins (k.Sign sign.LeftRound) = true
-begins (k.Key key.True) = true
-begins (k.Key key.False) = true
-begins (k.Key key.Concr) = true
-begins (k.Key key.If) = true
-begins (k.Key key.Select) = true
-begins _ = false
-
 -- ---- The levels of operators: those of a lower level hold more tightly.
 
 -- no operator between two operands
@@ -233,17 +120,13 @@ or_level = 5
 abbrev pub word_level : ℕ
 word_level = 6
 
--- what ends each expression
-abbrev pub end_level : ℕ
-end_level = 7
-
 abbrev pub tier_level : Tier → ℕ
 tier_level tier.Times = times_level
 tier_level tier.And = and_level
 tier_level tier.Or = or_level
 tier_level tier.Other = word_level
 
--- The level of an operator and of what ends an expression; 0 for what can't follow an operand or goes on with it.
+-- The level of an operator; 0 for what is none.
 abbrev pub loose : Kind → ℕ
 loose (k.Bold t) = tier_level t
 loose (k.TypeName t) = tier_level t
@@ -258,31 +141,88 @@ loose (k.Sign sign.Greater) = compare_level
 loose (k.Sign sign.GreaterEqual) = compare_level
 loose (k.Key key.Cand) = and_level
 loose (k.Key key.Cor) = or_level
-loose (k.Sign sign.RightRound) = end_level
-loose (k.Sign sign.RightSquare) = end_level
-loose (k.Sign sign.Comma) = end_level
-loose (k.Sign sign.Semicolon) = end_level
-loose (k.Sign sign.Point) = end_level
-loose (k.Sign sign.Becomes) = end_level
-loose (k.Key key.Then) = end_level
-loose (k.Key key.Elif) = end_level
-loose (k.Key key.Else) = end_level
-loose (k.Key key.Fi) = end_level
-loose (k.Key key.End) = end_level
-loose (k.Key key.Of) = end_level
-loose (k.Key key.Case) = end_level
-loose (k.Key key.Otherwise) = end_level
-loose (k.Key key.Upto) = end_level
-loose (k.Key key.Downto) = end_level
-loose (k.Key key.While) = end_level
-loose (k.Key key.Rep) = end_level
-loose (k.Key key.Repeat) = end_level
-loose (k.Key key.Until) = end_level
-loose (k.Key key.Per) = end_level
-loose k.GoesOn = end_level
-loose k.Refines = end_level
-loose k.Nothing = end_level
 loose _ = 0
 
 abbrev pub is_level : ℕ → Kind → Bool
 is_level i k = loose k == i
+
+-- ---- sets of kinds, the greater ones made of the smaller
+
+abbrev pub is_ident : Kind → Bool
+is_ident k.Ident = true
+is_ident _ = false
+
+abbrev pub is_number : Kind → Bool
+is_number k.Number = true
+is_number _ = false
+
+abbrev pub is_bold : Kind → Bool
+is_bold (k.Bold t) = true
+is_bold (k.TypeName t) = true
+is_bold _ = false
+
+-- a comma with an identifier behind it
+abbrev pub goes_on : Kind → Bool
+goes_on k.GoesOn = true
+goes_on _ = false
+
+abbrev pub is_comma : Kind → Bool
+is_comma k.GoesOn = true
+is_comma x = is_sign sign.Comma x
+
+-- a point with an identifier behind it
+abbrev pub leads : Kind → Bool
+leads k.Selects = true
+leads k.Refines = true
+leads _ = false
+
+abbrev pub is_point : Kind → Bool
+is_point (k.Sign x) = same_sign sign.Point x
+is_point x = leads x
+
+abbrev pub lengthens : Kind → Bool
+lengthens k.Selects = true
+lengthens x = is_sign sign.LeftSquare x
+
+abbrev pub is_init : Kind → Bool
+is_init (k.Sign x) = same_sign sign.DoubleColon x || same_sign sign.Becomes x
+is_init _ = false
+
+abbrev pub is_rep : Kind → Bool
+is_rep (k.Key x) = same_key key.Rep x || same_key key.Repeat x
+is_rep _ = false
+
+-- a name of an operator that may be defined
+abbrev pub is_symbol : Sign → Bool
+is_symbol sign.Becomes = true
+is_symbol x = nat_lt 0 (loose (k.Sign x))
+
+abbrev pub is_operator : Kind → Bool
+is_operator (k.Sign x) = is_symbol x
+is_operator x = is_bold x
+
+abbrev pub is_monadic : Kind → Bool
+is_monadic (k.Sign x) = same_sign sign.Plus x || same_sign sign.Minus x
+is_monadic x = is_bold x
+
+abbrev pub is_literal : Kind → Bool
+is_literal k.Text = true
+is_literal (k.Key x) = same_key key.True x || same_key key.False x
+is_literal x = is_number x
+
+abbrev pub is_among : List Key → Key → Bool
+is_among [] x = false
+is_among (y ∷ ys) x = same_key y x || is_among ys x
+
+-- a unit that begins with it begins with a type
+abbrev pub begins_typed : Kind → Bool
+begins_typed (k.TypeName t) = true
+begins_typed (k.Key x) = is_among (key.Int ∷ key.Bool ∷ key.Text ∷ key.Task ∷ key.Dataspace ∷ key.Row ∷ key.Struct ∷ []) x
+begins_typed _ = false
+
+-- An expression may begin with it: with an operator before its operand, a literal, an identifier, or one of these.
+abbrev pub begins : Kind → Bool
+begins (k.TypeName t) = false
+begins (k.Sign x) = is_monadic (k.Sign x) || same_sign sign.LeftRound x
+begins (k.Key x) = is_literal (k.Key x) || is_among (key.Concr ∷ key.If ∷ key.Select ∷ []) x
+begins x = is_monadic x || (is_literal x || is_ident x)

@@ -8,6 +8,5 @@ pub mod Expressions
 pub mod Units
 pub mod Grammar
 pub mod Reads
-pub mod Looks
 pub mod Place
 pub mod Stops

@@ -1,5 +1,5 @@
 -- Rules of a grammar: what each reads, and how.
-use Rattle.std.specs.Prelude.{◌≡◌, ◌≢◌, ℕ, zero, suc, ◌≤◌, ◌<◌, ◌⊎◌, Bool, true, if◌then◌else◌, List, [], ◌∷◌, ◌++◌, Option, Some, None, Result, Ok, Err, length}
+use Rattle.std.specs.Prelude.{◌≡◌, ◌≢◌, ℕ, nat_lt, zero, suc, ◌≤◌, ◌<◌, ◌⊎◌, Bool, true, if◌then◌else◌, List, [], ◌∷◌, ◌++◌, Option, Some, None, Result, Ok, Err, length}
 use Rattle.elan_tree.specs.declared.token.Token.{Token}
 use Rattle.elan_grammar.specs.declared.error.ParseError.{ParseError}
 use Rattle.elan_grammar.specs.declared.error.ParseError.TheVariants.{NoMemory, NotElan}
@@ -64,6 +64,10 @@ terminal f = record { reads = λ a xs ys. (t : Token) × (xs ≡ t ∷ ys) × (f
 -- reads nothing, where the test is true
 abbrev pub only : Bool → Rule (Unit {0})
 only c = record { reads = λ u xs ys. (c ≡ true) × (xs ≡ ys); run = λ xs. if c then Ok (tt, xs) else Err (refusal xs) }
+
+-- There is a depth above a phrase so deep: asked before the first token of what needs one.
+abbrev pub below : ℕ → ℕ → Rule (Unit {0})
+below depth n = only (nat_lt depth n)
 
 -- One or the other. The parser knows by the next token which.
 abbrev pub choose : {A : Type 0} → (Kind → Bool) → Rule A → Rule A → Rule A

@@ -1,5 +1,5 @@
 -- What holds no expression: types, parameters, constants, labels, LET.
-use Rattle.std.specs.Prelude.{ℕ, zero, suc, nat_lt, List}
+use Rattle.std.specs.Prelude.{ℕ, zero, suc, List}
 use Rattle.elan_tree.specs.declared.token.Key.TheVariants as key
 use Rattle.elan_tree.specs.declared.token.Sign.TheVariants as sign
 use Rattle.elan_tree.specs.declared.written_type.Name.{Name}
@@ -14,16 +14,12 @@ use Rattle.elan_tree.specs.declared.written_type.LetItem.TheVariants as let_form
 use Rattle.elan_tree.specs.declared.written_type.Label.{Label}
 use Rattle.elan_tree.specs.declared.written_type.Label.TheVariants as label_form
 use Rattle.elan_grammar.specs.Kinds.{is_bold, is_key, is_sign, is_ident, is_comma, goes_on}
-use Rattle.elan_grammar.specs.Rule.{Rule, pure, fail, ◌>>=◌, ◌>>◌, only, choose, listed}
+use Rattle.elan_grammar.specs.Rule.{Rule, pure, fail, ◌>>=◌, ◌>>◌, below, choose, listed}
 use Rattle.elan_grammar.specs.Terminals.{word, keyword, mark, ident, bold, simple_of, size_of, access_of, constant_of, negated_of, label_of}
 
 -- ident { "," ident }
 unfoldable pub names : Rule (List Name)
 names = listed goes_on (mark sign.Comma) ident
-
--- There is room for a type: asked before the first token of what needs one.
-abbrev pub type_room : ℕ → Rule (Unit {0})
-type_room n = only (nat_lt 0 n)
 
 -- The types of the language stand in others.
 module _ (inner : Rule TypePhrase) where
@@ -49,7 +45,7 @@ module _ (inner : Rule TypePhrase) (n : ℕ) where
   -- ROW size type
   unfoldable pub row : Rule TypePhrase
   row = do
-    type_room n
+    below 0 n
     at ← keyword key.Row
     s ← word size_of
     t ← inner
@@ -58,7 +54,7 @@ module _ (inner : Rule TypePhrase) (n : ℕ) where
   -- STRUCT "(" fields ")"
   unfoldable pub structure : Rule TypePhrase
   structure = do
-    type_room n
+    below 0 n
     at ← keyword key.Struct
     mark sign.LeftRound
     fs ← fields inner
@@ -108,7 +104,7 @@ let_constant = do
 -- BOLD "=" type
 unfoldable pub abbreviation : ℕ → Rule LetItem
 abbreviation n = do
-  type_room n
+  below 0 n
   x ← bold
   mark sign.Equal
   t ← types n

@@ -1,5 +1,5 @@
 -- Units: what stands in every list of units.
-use Rattle.std.specs.Prelude.{ℕ, zero, suc, nat_lt, List, Option, Some, None}
+use Rattle.std.specs.Prelude.{ℕ, zero, suc, List, Option, Some, None}
 use Rattle.std.specs.Option.{unwrap_or}
 use Rattle.elan_tree.specs.declared.token.Key.{Key}
 use Rattle.elan_tree.specs.declared.token.Key.TheVariants as key
@@ -15,7 +15,7 @@ use Rattle.elan_tree.specs.declared.phrase.Unit.{Unit as Phrase}
 use Rattle.elan_tree.specs.declared.phrase.Unit.TheVariants as u
 use Rattle.elan_grammar.specs.declared.heading.LoopParts.{LoopParts}
 use Rattle.elan_grammar.specs.Kinds.{is_key, is_sign, is_comma, is_init, is_rep, begins, begins_typed, word_level}
-use Rattle.elan_grammar.specs.Rule.{Rule, pure, fail, ◌>>=◌, ◌>>◌, only, choose, optional, listed}
+use Rattle.elan_grammar.specs.Rule.{Rule, pure, fail, ◌>>=◌, ◌>>◌, below, choose, optional, listed}
 use Rattle.elan_grammar.specs.Terminals.{word, keyword, mark, ident, init_mark, rep, leaving_of}
 use Rattle.elan_grammar.specs.Types.{types, let_items}
 use Rattle.elan_grammar.specs.Expressions.{Language, level}
@@ -30,12 +30,6 @@ loop_end = choose (is_key key.End) (do keyword key.End; rep) (keyword key.Per)
 
 -- The units at most n deep. What stands in their forms is less than n deep.
 module _ (inner : Language) (n : ℕ) where
-  abbrev room : Rule (Unit {0})
-  room = only (nat_lt 0 n)
-
-  abbrev above : Expr → Rule (Unit {0})
-  above a = only (nat_lt (expr_depth a) n)
-
   -- e1 in a form
   abbrev inner_e1 : Rule Expr
   inner_e1 = inner.level word_level
@@ -116,7 +110,7 @@ module _ (inner : Language) (n : ℕ) where
   -- BOUND type VAR items
   unfoldable pub bound : Rule Phrase
   bound = do
-    room
+    below 0 n
     at ← keyword key.Bound
     t ← types n
     keyword key.Var
@@ -126,7 +120,7 @@ module _ (inner : Language) (n : ℕ) where
   -- ":=" e1
   unfoldable pub assigned : Expr → Rule Phrase
   assigned a = do
-    above a
+    below (expr_depth a) n
     mark sign.Becomes
     b ← inner_e1
     pure (u.Becomes (expr_place a) a b)
@@ -137,17 +131,13 @@ module _ (inner : Language) (n : ℕ) where
     a ← e1
     choose (is_sign sign.Becomes) (assigned a) (pure (u.Value a))
 
-  -- [ WITH e1 ]
-  abbrev pub with_part : Rule (Option Expr)
-  with_part = key_part key.With
-
   -- LEAVE ( ident | BOLD ) [ WITH e1 ]
   unfoldable pub leave : Rule Phrase
   leave = do
-    room
+    below 0 n
     at ← keyword key.Leave
     x ← word leaving_of
-    a ← with_part
+    a ← key_part key.With
     pure (u.Leave at x a)
 
   -- UPTO e1
@@ -166,28 +156,20 @@ module _ (inner : Language) (n : ℕ) where
   unfoldable pub a_limit : Rule Limit
   a_limit = choose (is_key key.Upto) upto (choose (is_key key.Downto) downto (pure limit.Without))
 
-  -- [ FROM e1 ]
-  abbrev pub from_part : Rule (Option Expr)
-  from_part = key_part key.From
-
   -- ident [ FROM e1 ] [ ( UPTO | DOWNTO ) e1 ]
   unfoldable pub counter : Rule (Option Counter)
   counter = do
     x ← ident
-    f ← from_part
+    f ← key_part key.From
     l ← a_limit
     pure (Some (counter_of x f l))
-
-  -- [ UNTIL e1 ]
-  abbrev pub until_part : Rule (Option Expr)
-  until_part = key_part key.Until
 
   -- ( REP | REPEAT ) units [ UNTIL e1 ] ( PER | END REP | END REPEAT )
   unfoldable pub turn_parts : Rule LoopParts
   turn_parts = do
     r ← rep
     us ← inner.units
-    a ← until_part
+    a ← key_part key.Until
     loop_end
     pure (record { start = r; units = us; until = a })
 
@@ -197,23 +179,19 @@ module _ (inner : Language) (n : ℕ) where
     p ← turn_parts
     pure (u.Loop (unwrap_or at p.start) c w p.units p.until)
 
-  -- [ WHILE e1 ]
-  abbrev pub while_part : Rule (Option Expr)
-  while_part = key_part key.While
-
   -- FOR counter [ WHILE e1 ] turns
   unfoldable pub counted : Rule Phrase
   counted = do
-    room
+    below 0 n
     at ← keyword key.For
     c ← counter
-    w ← while_part
+    w ← key_part key.While
     turns (Some at) c w
 
   -- WHILE e1 turns
   unfoldable pub guarded : Rule Phrase
   guarded = do
-    room
+    below 0 n
     at ← keyword key.While
     w ← inner_e1
     turns (Some at) None (Some w)
@@ -221,7 +199,7 @@ module _ (inner : Language) (n : ℕ) where
   -- turns, with nothing before them
   unfoldable pub repeated : Rule Phrase
   repeated = do
-    room
+    below 0 n
     turns None None None
 
   -- [ let | BOUND type VAR items | LEAVE .. | loop | e1 [ ":=" e1 ] ]

@@ -1,7 +1,7 @@
 //! What was read, and how deep it is.
 
-ghost use Rattle.std.specs.Prelude.{◌≡◌, IfOk};
-ghost use Rattle.elan_grammar.specs.Pairs.{second_of, IsOne, IsOneMore, IsSingle, IsWithNext, IsPassedOn};
+ghost use Rattle.std.specs.Prelude.{◌≡◌, [], ◌∷◌, ◌++◌, max, IfOk};
+ghost use Rattle.elan_grammar.specs.Pairs.{second_of, IsMade};
 
 use crate::error::ParseError;
 use containers::{Boxed, List};
@@ -16,7 +16,7 @@ pub struct Tall<T> {
 
 /// A list of the one item that was read.
 pub fn one<T: Drop>(alloc: Global, first: Result<T, ParseError>) -> Result<List<T>, ParseError>
-    ensures { IsOne first result }
+    ensures { IsMade (λ x list. list ≡ x ∷ []) first result }
 {
     let mut row = List::new(alloc);
     row.push(first?)?;
@@ -25,7 +25,7 @@ pub fn one<T: Drop>(alloc: Global, first: Result<T, ParseError>) -> Result<List<
 
 /// A list with one more. Where that could not be read the list is let go here.
 pub fn one_more<T: Drop>(row: List<T>, next: Result<T, ParseError>) -> Result<List<T>, ParseError>
-    ensures { IsOneMore row next result }
+    ensures { IsMade (λ x list. list ≡ row ++ x ∷ []) next result }
 {
     let mut row = row;
     row.push(next?)?;
@@ -37,7 +37,7 @@ pub fn single<T: Drop>(
     alloc: Global,
     first: Result<Tall<T>, ParseError>,
 ) -> Result<Tall<List<T>>, ParseError>
-    ensures { IsSingle first result }
+    ensures { IsMade (λ x list. (list.tree ≡ x.tree ∷ []) × (list.height ≡ x.height)) first result }
 {
     let first = first?;
     let mut tree = List::new(alloc);
@@ -53,7 +53,7 @@ pub fn with_next<T: Drop>(
     row: Tall<List<T>>,
     next: Result<Tall<T>, ParseError>,
 ) -> Result<Tall<List<T>>, ParseError>
-    ensures { IsWithNext row next result }
+    ensures { IsMade (λ x list. (list.tree ≡ row.tree ++ x.tree ∷ []) × (list.height ≡ max row.height x.height)) next result }
 {
     let last = next?;
     let mut tree = row.tree;
@@ -69,7 +69,7 @@ pub fn boxed<T: Drop>(
     alloc: Global,
     read: Result<Tall<T>, ParseError>,
 ) -> Result<Tall<Boxed<T>>, ParseError>
-    ensures { IsPassedOn read result }
+    ensures { IsMade (λ x box. box ≡ x) read result }
 {
     let Tall { tree, height } = read?;
     let tree = Boxed::new(alloc, tree)?;

@@ -1,6 +1,6 @@
 -- Fronts, and the place of a refusal.
-use Rattle.std.proofs.Common.{◌≡◌, ℕ, suc, ◌+◌, ◌-◌, ◌<◌, ◌≤◌, Bool, List, [], ◌∷◌, ◌++◌, length, take, min, Option, Some, None, refl, sym, ap, subst, ◌∙◌, arith, append_assoc, add-one}
-use Rattle.std.proofs.lemmas.List.{append-nil, length-append}
+use Rattle.std.proofs.Common.{◌≡◌, ℕ, ◌+◌, ◌-◌, ◌<◌, ◌≤◌, Bool, List, ◌++◌, length, take, min, Option, Some, None, sym, ap, subst, ◌∙◌, arith, add-one}
+use Rattle.std.proofs.lemmas.List.{length-append}
 use Rattle.std.specs.List.{slice_get}
 use Rattle.elan_tree.specs.declared.token.Token.{Token}
 use Rattle.elan_grammar.specs.Place.{CanGoOn, IsPlace, place_of, next_or_end}
@@ -10,12 +10,6 @@ use Rattle.elan_grammar.proofs.PlaceLaws.{read_front}
 
 abbrev Tokens : Type 0
 Tokens = List Token
-
-pub none_behind : (all front : Tokens) → all ≡ front → all ≡ front ++ []
-none_behind all front e = e ∙ sym (append-nil front)
-
-pub two_behind : (front : Tokens) (a b : Token) → (front ++ (a ∷ [])) ++ (b ∷ []) ≡ front ++ (a ∷ b ∷ [])
-two_behind front a b = append_assoc front (a ∷ []) (b ∷ [])
 
 -- the tokens behind a front, counted
 pub added : (all front behind : Tokens) → all ≡ front ++ behind → length all - length front ≡ length behind

@@ -1,11 +1,8 @@
 //! The parser of ELAN: from tokens to the tree that they spell.
 #![tactic(auto)]
 
-mod bodies;
-mod copies;
 mod error;
 mod place;
-mod texts;
 
 ghost use Rattle.std.specs.Prelude.{◌≡◌, ℕ, Err, ◌≤◌, IfOk};
 ghost use Rattle.elan_grammar.specs.Reads.{Reads};
@@ -17,6 +14,7 @@ pub use elan_grammar::{one_place, one_tree};
 use elan_tree::{Token, Tree};
 pub use error::ParseError;
 use std::alloc::Global;
+use text_parser::whole;
 
 /// The tree that the tokens spell, as a packet or as a program; else the place where they stop being a text of the grammar.
 pub fn parse(alloc: Global, tokens: &[Token], packet: bool) -> Result<Tree, ParseError>
@@ -25,7 +23,7 @@ pub fn parse(alloc: Global, tokens: &[Token], packet: bool) -> Result<Tree, Pars
     ensures refused { (at : ℕ) → result ≡ Err (ParseError.NotElan at) → (t : Tree) → Reads packet tokens.now t → ⊥ }
     ensures place { (at : ℕ) → result ≡ Err (ParseError.NotElan at) → (n : ℕ) × IsPlace packet tokens.now n × (at ≡ place_of tokens.now n) }
 {
-    match texts::whole(alloc, tokens, packet) {
+    match whole(alloc, tokens, packet) {
         Ok(tree) => Ok(tree),
         Err(ReadError::NoMemory) => Err(ParseError::NoMemory),
         Err(ReadError::NotElan(left)) => Err(ParseError::NotElan(place::refusal_place(

@@ -7,26 +7,11 @@ ghost use Rattle.elan_grammar.specs.Place as place;
 ghost use Rattle.elan_grammar.specs.Place.{CanGoOn, IsPlace};
 ghost use Rattle.elan_grammar.specs.Stops.{left, tokens_of};
 
-use crate::copies::continued;
-use crate::texts::text;
 use containers::NoMemory;
-use elan_cursor::Cursor;
-use elan_grammar::{Continuation, ParseError};
+use elan_grammar::Continuation;
 use elan_tree::Token;
 use std::alloc::Global;
-
-/// How many tokens the parser leaves.
-#[tactic(auto, using(elan_grammar::proofs::GrammarLaws::left_err, elan_grammar::proofs::GrammarLaws::left_ok))]
-fn left(alloc: Global, tokens: &[Token], packet: bool) -> Result<usize, NoMemory>
-    ensures { IfOk result (λ n. n ≡ left packet tokens.now) }
-{
-    let mut cursor = Cursor { rest: tokens };
-    match text(alloc, &mut cursor, packet) {
-        Ok(_) => Ok(cursor.rest.len()),
-        Err(ParseError::NotElan(left)) => Ok(left),
-        Err(ParseError::NoMemory) => Err(NoMemory),
-    }
-}
+use text_parser::{continued, left};
 
 /// Whether the parser reads a front to its end, before what stands behind it.
 #[tactic(auto, using(crate::proofs::Fronts::added, crate::proofs::Fronts::front_fits))]

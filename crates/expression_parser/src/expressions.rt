@@ -2,21 +2,21 @@
 
 ghost use Rattle.std.specs.Prelude.{◌≡◌, ◌<◌, ◌≤◌, ◌+◌, max, IfOk};
 ghost use Rattle.elan_grammar.specs.Rule as rule;
-ghost use Rattle.elan_grammar.specs.Rule.{Gives, Parses, AtMost, Below, IsTall};
+ghost use Rattle.elan_grammar.specs.Rule.{Parses, AtMost, Below, IsTall};
 ghost use Rattle.elan_grammar.specs.Kinds as kinds;
 ghost use Rattle.elan_grammar.specs.Kinds.{word_level};
 ghost use Rattle.elan_grammar.specs.Expressions as spec;
 ghost use Rattle.elan_grammar.specs.Units as units;
 ghost use Rattle.form_parser.specs.Nests.{Nests};
-ghost use Rattle.elan_grammar.specs.Depth.{expr_depth, exprs_depth, expr_place};
+ghost use Rattle.elan_grammar.specs.Depth.{expr_depth, expr_place};
 
 use containers::{Boxed, List};
 use elan_cursor::Cursor;
-use elan_cursor::kind::{is_comma, is_key, is_level, is_literal, is_monadic, is_sign, lengthens};
-use elan_grammar::tall::{Tall, and, single, with_next};
+use elan_cursor::kind::{OPERAND_LEVEL, WORD_LEVEL, is_level, is_monadic};
+use elan_grammar::tall::{Tall, and};
 use elan_grammar::{Joint, ParseError, Right};
-use elan_tree::{Expr, Key, Name, Sign, Unit};
-use form_parser::{Inner, OPERAND_LEVEL, WORD_LEVEL};
+use elan_tree::{Expr, Unit};
+use form_parser::Inner;
 use std::alloc::Global;
 
 /// The rules of phrases whose parts are less than `depth` deep, which the two functions parse.
@@ -74,7 +74,7 @@ impl<
     U: Fn(Global, &mut Cursor<'_>, u16) -> Result<Tall<List<Unit>>, ParseError> + Copy,
 > Grammar<E, U> {
     /// The rules of IF, SELECT and loops over the same parts.
-    fn forms(&self) -> Inner<E, U>
+    pub fn forms(&self) -> Inner<E, U>
         ensures alloc { result.alloc ≡ self.now.alloc }
         ensures depth { result.depth ≡ self.now.depth }
         ensures expression { result.expression ≡ self.now.expression }
@@ -89,7 +89,7 @@ impl<
     }
 
     /// An expression in another phrase.
-    fn inner(&self, cursor: &mut Cursor<'_>, level: u8) -> Result<Tall<Expr>, ParseError>
+    pub fn inner(&self, cursor: &mut Cursor<'_>, level: u8) -> Result<Tall<Expr>, ParseError>
         requires nests { Nests self.now.depth (E.pre self.now.expression) (E.post self.now.expression) (U.pre self.now.units) (U.post self.now.units) }
         requires level { level ≤ word_level }
         ensures { Parses ((units.phrases self.now.depth).level level) expr_depth (Below self.now.depth) cursor.old.rest.now result cursor.new.rest.now }
@@ -97,220 +97,11 @@ impl<
         (self.expression)(self.alloc, cursor, self.depth, level)
     }
 
-    #[tactic(auto, unfolding(elan_grammar::specs::Expressions::bracket))]
-    fn bracket(&self, cursor: &mut Cursor<'_>) -> Result<Tall<Expr>, ParseError>
-        requires { Nests self.now.depth (E.pre self.now.expression) (E.post self.now.expression) (U.pre self.now.units) (U.post self.now.units) }
-        ensures { Parses (spec.bracket (units.phrases self.now.depth) self.now.depth) expr_depth (AtMost self.now.depth) cursor.old.rest.now result cursor.new.rest.now }
-    {
-        cursor.below(0, self.depth)?;
-        let at = cursor.mark(Sign::LeftRound)?;
-        let a = self.inner(cursor, WORD_LEVEL)?;
-        let inner = Boxed::new(self.alloc, a.tree)?;
-        cursor.mark(Sign::RightRound)?;
-        Ok(Tall {
-            tree: Expr::Bracket(at, inner),
-            height: a.height + 1,
-        })
-    }
-
-    #[tactic(auto, unfolding(elan_grammar::specs::Expressions::concr))]
-    fn concr(&self, cursor: &mut Cursor<'_>) -> Result<Tall<Expr>, ParseError>
-        requires { Nests self.now.depth (E.pre self.now.expression) (E.post self.now.expression) (U.pre self.now.units) (U.post self.now.units) }
-        ensures { Parses (spec.concr (units.phrases self.now.depth) self.now.depth) expr_depth (AtMost self.now.depth) cursor.old.rest.now result cursor.new.rest.now }
-    {
-        cursor.below(0, self.depth)?;
-        let at = cursor.keyword(Key::Concr)?;
-        cursor.mark(Sign::LeftRound)?;
-        let a = self.inner(cursor, WORD_LEVEL)?;
-        let inner = Boxed::new(self.alloc, a.tree)?;
-        cursor.mark(Sign::RightRound)?;
-        Ok(Tall {
-            tree: Expr::Concr(at, inner),
-            height: a.height + 1,
-        })
-    }
-
-    #[tactic(auto, unfolding(elan_grammar::specs::Expressions::procedure))]
-    fn procedure(&self, cursor: &mut Cursor<'_>) -> Result<Expr, ParseError>
-        ensures { Gives ((spec.procedure (units.phrases self.now.depth) self.now.depth).run cursor.old.rest.now) result cursor.new.rest.now }
-    {
-        let at = cursor.keyword(Key::Proc)?;
-        let name = cursor.ident(self.alloc)?;
-        Ok(Expr::Procedure(at, name))
-    }
-
-    #[tactic(auto, unfolding(elan_grammar::specs::Expressions::actual, elan_grammar::specs::Expressions::procedure))]
-    fn actual(&self, cursor: &mut Cursor<'_>) -> Result<Tall<Expr>, ParseError>
-        requires nests { Nests self.now.depth (E.pre self.now.expression) (E.post self.now.expression) (U.pre self.now.units) (U.post self.now.units) }
-        requires room { 0 < self.now.depth }
-        ensures { Parses (spec.actual (units.phrases self.now.depth) self.now.depth) expr_depth (Below self.now.depth) cursor.old.rest.now result cursor.new.rest.now }
-    {
-        if cursor.sees_key(Key::Proc) {
-            let tree = self.procedure(cursor)?;
-            return Ok(Tall { tree, height: 0 });
-        }
-        self.inner(cursor, WORD_LEVEL)
-    }
-
-    #[tactic(auto, unfolding(elan_grammar::specs::Expressions::actuals), using(elan_grammar::proofs::Turns::turn_on, elan_grammar::proofs::Turns::turn_off, elan_grammar::proofs::Turns::turn_end, elan_grammar::proofs::Deepest::deepest_one, elan_grammar::proofs::Deepest::deepest_push))]
-    fn actuals(&self, cursor: &mut Cursor<'_>) -> Result<Tall<List<Expr>>, ParseError>
-        requires nests { Nests self.now.depth (E.pre self.now.expression) (E.post self.now.expression) (U.pre self.now.units) (U.post self.now.units) }
-        requires room { 0 < self.now.depth }
-        ensures { Parses (spec.actuals (units.phrases self.now.depth) self.now.depth) exprs_depth (Below self.now.depth) cursor.old.rest.now result cursor.new.rest.now }
-    {
-        let mut row = single(self.alloc, self.actual(cursor))?;
-        for _turn in 0..cursor.rest.len() {
-            if !is_comma(cursor.ahead()) {
-                return Ok(row);
-            }
-            let (items, _) = and(row, cursor.mark(Sign::Comma))?;
-            row = with_next(items, self.actual(cursor))?;
-        }
-        Ok(row)
-    }
-
-    #[tactic(auto, unfolding(elan_grammar::specs::Expressions::call))]
-    fn call(&self, cursor: &mut Cursor<'_>, name: Name) -> Result<Tall<Expr>, ParseError>
-        requires { Nests self.now.depth (E.pre self.now.expression) (E.post self.now.expression) (U.pre self.now.units) (U.post self.now.units) }
-        ensures { Parses (spec.call (units.phrases self.now.depth) self.now.depth name) expr_depth (AtMost self.now.depth) cursor.old.rest.now result cursor.new.rest.now }
-    {
-        cursor.below(0, self.depth)?;
-        cursor.mark(Sign::LeftRound)?;
-        let row = self.actuals(cursor)?;
-        let (row, _) = and(row, cursor.mark(Sign::RightRound))?;
-        let tree = Expr::Call(name, row.tree);
-        Ok(Tall {
-            tree,
-            height: row.height + 1,
-        })
-    }
-
-    #[tactic(auto, unfolding(elan_grammar::specs::Expressions::named))]
-    fn named(&self, cursor: &mut Cursor<'_>) -> Result<Tall<Expr>, ParseError>
-        requires { Nests self.now.depth (E.pre self.now.expression) (E.post self.now.expression) (U.pre self.now.units) (U.post self.now.units) }
-        ensures { Parses (spec.named (units.phrases self.now.depth) self.now.depth) expr_depth (AtMost self.now.depth) cursor.old.rest.now result cursor.new.rest.now }
-    {
-        let name = cursor.ident(self.alloc)?;
-        if cursor.sees_sign(Sign::LeftRound) {
-            return self.call(cursor, name);
-        }
-        Ok(Tall {
-            tree: Expr::Named(name),
-            height: 0,
-        })
-    }
-
-    #[tactic(auto, unfolding(elan_grammar::specs::Expressions::head))]
-    fn head(&self, cursor: &mut Cursor<'_>) -> Result<Tall<Expr>, ParseError>
-        requires { Nests self.now.depth (E.pre self.now.expression) (E.post self.now.expression) (U.pre self.now.units) (U.post self.now.units) }
-        ensures { Parses (spec.head (units.phrases self.now.depth) self.now.depth) expr_depth (AtMost self.now.depth) cursor.old.rest.now result cursor.new.rest.now }
-    {
-        let kind = cursor.ahead();
-        if is_literal(kind) {
-            let tree = cursor.literal(self.alloc)?;
-            Ok(Tall { tree, height: 0 })
-        } else if is_sign(Sign::LeftRound, kind) {
-            self.bracket(cursor)
-        } else if is_key(Key::Concr, kind) {
-            self.concr(cursor)
-        } else if is_key(Key::If, kind) {
-            self.forms().choice(cursor)
-        } else if is_key(Key::Select, kind) {
-            self.forms().selection(cursor)
-        } else {
-            self.named(cursor)
-        }
-    }
-
-    #[tactic(auto, unfolding(elan_grammar::specs::Expressions::index_part))]
-    fn index_part(&self, cursor: &mut Cursor<'_>, height: u32) -> Result<Tall<Expr>, ParseError>
-        requires { Nests self.now.depth (E.pre self.now.expression) (E.post self.now.expression) (U.pre self.now.units) (U.post self.now.units) }
-        ensures parses { Parses (spec.index_part (units.phrases self.now.depth) self.now.depth height) expr_depth (Below self.now.depth) cursor.old.rest.now result cursor.new.rest.now }
-        ensures below { IfOk result (λ _. height < self.now.depth) }
-    {
-        cursor.below(height, self.depth)?;
-        cursor.mark(Sign::LeftSquare)?;
-        let index = self.inner(cursor, WORD_LEVEL)?;
-        let (index, _) = and(index, cursor.mark(Sign::RightSquare))?;
-        Ok(index)
-    }
-
-    #[tactic(auto, unfolding(elan_grammar::specs::Expressions::index))]
-    fn index(&self, cursor: &mut Cursor<'_>, of: Tall<Expr>) -> Result<Tall<Expr>, ParseError>
-        requires nests { Nests self.now.depth (E.pre self.now.expression) (E.post self.now.expression) (U.pre self.now.units) (U.post self.now.units) }
-        requires tall { of.height ≡ expr_depth of.tree }
-        ensures { Parses (spec.index (units.phrases self.now.depth) self.now.depth of.tree) expr_depth (AtMost self.now.depth) cursor.old.rest.now result cursor.new.rest.now }
-    {
-        let at = expr_place(&of.tree);
-        let height = of.height;
-        let of = Boxed::new(self.alloc, of.tree)?;
-        let (of, index) = and(of, self.index_part(cursor, height))?;
-        let height = height.max(index.height) + 1;
-        let index = Boxed::new(self.alloc, index.tree)?;
-        Ok(Tall {
-            tree: Expr::Index { at, of, index },
-            height,
-        })
-    }
-
-    #[tactic(auto, unfolding(elan_grammar::specs::Expressions::field_part))]
-    fn field_part(&self, cursor: &mut Cursor<'_>, height: u32) -> Result<Name, ParseError>
-        ensures parses { Gives ((spec.field_part (units.phrases self.now.depth) self.now.depth height).run cursor.old.rest.now) result cursor.new.rest.now }
-        ensures below { IfOk result (λ _. height < self.now.depth) }
-    {
-        cursor.below(height, self.depth)?;
-        cursor.mark(Sign::Point)?;
-        cursor.ident(self.alloc)
-    }
-
-    #[tactic(auto, unfolding(elan_grammar::specs::Expressions::field_of))]
-    fn field_of(&self, cursor: &mut Cursor<'_>, of: Tall<Expr>) -> Result<Tall<Expr>, ParseError>
-        requires nests { Nests self.now.depth (E.pre self.now.expression) (E.post self.now.expression) (U.pre self.now.units) (U.post self.now.units) }
-        requires tall { of.height ≡ expr_depth of.tree }
-        ensures { Parses (spec.field_of (units.phrases self.now.depth) self.now.depth of.tree) expr_depth (AtMost self.now.depth) cursor.old.rest.now result cursor.new.rest.now }
-    {
-        let height = of.height;
-        let at = expr_place(&of.tree);
-        let of = Boxed::new(self.alloc, of.tree)?;
-        let (of, field) = and(of, self.field_part(cursor, height))?;
-        Ok(Tall {
-            tree: Expr::Field { at, of, field },
-            height: height + 1,
-        })
-    }
-
-    #[tactic(auto, unfolding(elan_grammar::specs::Expressions::longer))]
-    fn longer(&self, cursor: &mut Cursor<'_>, of: Tall<Expr>) -> Result<Tall<Expr>, ParseError>
-        requires nests { Nests self.now.depth (E.pre self.now.expression) (E.post self.now.expression) (U.pre self.now.units) (U.post self.now.units) }
-        requires tall { of.height ≡ expr_depth of.tree }
-        ensures { Parses (spec.longer (units.phrases self.now.depth) self.now.depth of.tree) expr_depth (AtMost self.now.depth) cursor.old.rest.now result cursor.new.rest.now }
-    {
-        if cursor.sees_sign(Sign::LeftSquare) {
-            self.index(cursor, of)
-        } else {
-            self.field_of(cursor, of)
-        }
-    }
-
-    #[tactic(auto, unfolding(elan_grammar::specs::Expressions::prim), using(elan_grammar::proofs::Turns::turn_on, elan_grammar::proofs::Turns::turn_off, elan_grammar::proofs::Turns::turn_end))]
-    fn prim(&self, cursor: &mut Cursor<'_>) -> Result<Tall<Expr>, ParseError>
-        requires { Nests self.now.depth (E.pre self.now.expression) (E.post self.now.expression) (U.pre self.now.units) (U.post self.now.units) }
-        ensures { Parses (spec.prim (units.phrases self.now.depth) self.now.depth) expr_depth (AtMost self.now.depth) cursor.old.rest.now result cursor.new.rest.now }
-    {
-        let mut of = self.head(cursor)?;
-        for _turn in 0..cursor.rest.len() {
-            if !lengthens(cursor.ahead()) {
-                return Ok(of);
-            }
-            of = self.longer(cursor, of)?;
-        }
-        Ok(of)
-    }
-
     #[tactic(auto, unfolding(elan_grammar::specs::Expressions::applied))]
     fn applied(&self, cursor: &mut Cursor<'_>) -> Result<Tall<Expr>, ParseError>
         requires { Nests self.now.depth (E.pre self.now.expression) (E.post self.now.expression) (U.pre self.now.units) (U.post self.now.units) }
-        ensures { Parses (spec.applied (units.phrases self.now.depth) self.now.depth) expr_depth (AtMost self.now.depth) cursor.old.rest.now result cursor.new.rest.now }
+        ensures { Parses (spec.applied (units.phrases self.now.depth) self.now.depth) expr_depth (AtMost self.now.depth)
+            cursor.old.rest.now result cursor.new.rest.now }
     {
         cursor.below(0, self.depth)?;
         let (at, operator) = cursor.monadic(self.alloc)?;
@@ -329,7 +120,8 @@ impl<
     #[tactic(auto, unfolding(elan_grammar::specs::Expressions::operand))]
     fn operand(&self, cursor: &mut Cursor<'_>) -> Result<Tall<Expr>, ParseError>
         requires { Nests self.now.depth (E.pre self.now.expression) (E.post self.now.expression) (U.pre self.now.units) (U.post self.now.units) }
-        ensures { Parses (spec.operand (units.phrases self.now.depth) self.now.depth) expr_depth (AtMost self.now.depth) cursor.old.rest.now result cursor.new.rest.now }
+        ensures { Parses (spec.operand (units.phrases self.now.depth) self.now.depth) expr_depth (AtMost self.now.depth)
+            cursor.old.rest.now result cursor.new.rest.now }
     {
         if is_monadic(cursor.ahead()) {
             self.applied(cursor)
@@ -347,7 +139,8 @@ impl<
     ) -> Result<Tall<Right>, ParseError>
         requires nests { Nests self.now.depth (E.pre self.now.expression) (E.post self.now.expression) (U.pre self.now.units) (U.post self.now.units) }
         requires level { level < word_level }
-        ensures parses { Parses (spec.right_part (units.phrases self.now.depth) self.now.depth level height) (λ t. expr_depth t.operand) (Below self.now.depth) cursor.old.rest.now result cursor.new.rest.now }
+        ensures parses { Parses (spec.right_part (units.phrases self.now.depth) self.now.depth level height) (λ t. expr_depth t.operand) (Below self.now.depth)
+            cursor.old.rest.now result cursor.new.rest.now }
         ensures below { IfOk result (λ _. height < self.now.depth) }
     {
         cursor.below(height, self.depth)?;
@@ -373,7 +166,8 @@ impl<
         requires nests { Nests self.now.depth (E.pre self.now.expression) (E.post self.now.expression) (U.pre self.now.units) (U.post self.now.units) }
         requires level { level < word_level }
         requires tall { left.height ≡ expr_depth left.tree }
-        ensures { Parses (spec.dyadic (units.phrases self.now.depth) self.now.depth level left.tree) expr_depth (AtMost self.now.depth) cursor.old.rest.now result cursor.new.rest.now }
+        ensures { Parses (spec.dyadic (units.phrases self.now.depth) self.now.depth level left.tree) expr_depth (AtMost self.now.depth)
+            cursor.old.rest.now result cursor.new.rest.now }
     {
         let at = expr_place(&left.tree);
         let height = left.height;
@@ -387,7 +181,7 @@ impl<
         })
     }
 
-    #[tactic(auto, using(elan_grammar::proofs::Turns::turn_on, elan_grammar::proofs::Turns::turn_off, elan_grammar::proofs::Turns::turn_end))]
+    #[tactic(auto, using(elan_grammar::proofs::Turns::turns))]
     fn more_dyadic(
         &self,
         cursor: &mut Cursor<'_>,
@@ -397,7 +191,8 @@ impl<
         requires nests { Nests self.now.depth (E.pre self.now.expression) (E.post self.now.expression) (U.pre self.now.units) (U.post self.now.units) }
         requires tall { IsTall expr_depth (AtMost self.now.depth) left }
         requires level { level < word_level }
-        ensures { Parses (rule.iterate (spec.dyadic (units.phrases self.now.depth) self.now.depth level) (kinds.is_level (level + 1)) left.tree) expr_depth (AtMost self.now.depth) cursor.old.rest.now result cursor.new.rest.now }
+        ensures { Parses (rule.iterate (spec.dyadic (units.phrases self.now.depth) self.now.depth level) (kinds.is_level (level + 1)) left.tree)
+            expr_depth (AtMost self.now.depth) cursor.old.rest.now result cursor.new.rest.now }
     {
         for _turn in 0..cursor.rest.len() {
             if !is_level(level + 1, cursor.ahead()) {
@@ -412,7 +207,8 @@ impl<
     pub fn level(&self, cursor: &mut Cursor<'_>, level: u8) -> Result<Tall<Expr>, ParseError>
         requires nests { Nests self.now.depth (E.pre self.now.expression) (E.post self.now.expression) (U.pre self.now.units) (U.post self.now.units) }
         requires level { level ≤ word_level }
-        ensures { Parses (spec.level (units.phrases self.now.depth) self.now.depth level) expr_depth (AtMost self.now.depth) cursor.old.rest.now result cursor.new.rest.now }
+        ensures { Parses (spec.level (units.phrases self.now.depth) self.now.depth level) expr_depth (AtMost self.now.depth)
+            cursor.old.rest.now result cursor.new.rest.now }
     {
         if level == OPERAND_LEVEL {
             return self.operand(cursor);

@@ -2,5 +2,6 @@
 #![tactic(auto)]
 
 mod expressions;
+mod primaries;
 
 pub use expressions::{Grammar, expr_place};

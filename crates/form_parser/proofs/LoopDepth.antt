@@ -5,10 +5,10 @@ use Rattle.elan_tree.specs.declared.phrase.Expr.TheFolds.{the_lemmas}
 use Rattle.elan_tree.specs.declared.phrase.Counter.{Counter}
 use Rattle.elan_tree.specs.declared.phrase.Unit.{Unit as Phrase}
 use Rattle.elan_tree.specs.declared.phrase.Unit.TheVariants as u
-use Rattle.elan_grammar.specs.Depth.{unit_depth, units_depth, option_depth, option_counter_depth}
+use Rattle.elan_grammar.specs.Depth.{unit_depth, expr_depth, counter_depth, deepest_of, if_any}
 
 pub loop_depth : (at : ℕ) (c : Option Counter) (w : Option Expr) (us : List Phrase) (a : Option Expr)
-    → unit_depth (u.Loop at c w us a) ≡ max (option_counter_depth c) (max (option_depth w) (max (units_depth us) (option_depth a))) + 1
+    → unit_depth (u.Loop at c w us a) ≡ max (if_any counter_depth c) (max (if_any expr_depth w) (max (deepest_of unit_depth us) (if_any expr_depth a))) + 1
 loop_depth at None None us None = search (rules, the_lemmas)
 loop_depth at None None us (Some a) = search (rules, the_lemmas)
 loop_depth at None (Some w) us None = search (rules, the_lemmas)

@@ -10,7 +10,7 @@ use Rattle.elan_grammar.specs.declared.tall.Tall.{Tall}
 use Rattle.elan_grammar.specs.Kinds.{word_level}
 use Rattle.elan_grammar.specs.Rule.{Parses, Below}
 use Rattle.elan_grammar.specs.Units.{phrases}
-use Rattle.elan_grammar.specs.Depth.{expr_depth, units_depth}
+use Rattle.elan_grammar.specs.Depth.{expr_depth, unit_depth, deepest_of}
 
 -- They parse expressions and units less deep than a depth.
 pub record Nests (depth : ℕ) (expr_pre : Global → MutBor Cursor → ℕ → ℕ → Type 0)
@@ -22,4 +22,4 @@ pub record Nests (depth : ℕ) (expr_pre : Global → MutBor Cursor → ℕ → 
       → Parses ((phrases depth).level level) expr_depth (Below depth) old.now.rest.now r new.now.rest.now
   pub unit_callable : (alloc : Global) (old : MutBor Cursor) → unit_pre alloc old depth
   pub unit_parses : (alloc : Global) (old new : MutBor Cursor) (r : Result (Tall (List Phrase)) ParseError) → unit_post alloc old depth r new
-      → Parses (phrases depth).units units_depth (Below depth) old.now.rest.now r new.now.rest.now
+      → Parses (phrases depth).units (deepest_of unit_depth) (Below depth) old.now.rest.now r new.now.rest.now

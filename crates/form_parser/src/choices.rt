@@ -5,12 +5,13 @@ ghost use Rattle.elan_grammar.specs.Rule.{Gives, Parses, AtMost, Below};
 ghost use Rattle.elan_grammar.specs.Expressions as spec;
 ghost use Rattle.elan_grammar.specs.Units as units;
 ghost use Rattle.form_parser.specs.Nests.{Nests};
-ghost use Rattle.elan_grammar.specs.Depth.{expr_depth, branch_depth, branches_depth, case_depth, cases_depth, option_units_depth};
+ghost use Rattle.elan_grammar.specs.Depth.{expr_depth, branch_depth, case_depth, unit_depth, deepest_of, if_any};
 
-use crate::inner::{Inner, WORD_LEVEL};
+use crate::inner::Inner;
 use crate::labels::labels;
 use containers::List;
 use elan_cursor::Cursor;
+use elan_cursor::kind::WORD_LEVEL;
 use elan_grammar::tall::{Tall, and, boxed, single, with_next};
 use elan_grammar::{ParseError, SelectParts};
 use elan_tree::{Branch, Case, Expr, Key, Sign, Unit};
@@ -23,7 +24,8 @@ impl<
     #[tactic(auto, unfolding(elan_grammar::specs::Expressions::branch))]
     fn branch(&self, cursor: &mut Cursor<'_>) -> Result<Tall<Branch>, ParseError>
         requires { Nests self.now.depth (E.pre self.now.expression) (E.post self.now.expression) (U.pre self.now.units) (U.post self.now.units) }
-        ensures { Parses (spec.branch (units.phrases self.now.depth) self.now.depth) branch_depth (Below self.now.depth) cursor.old.rest.now result cursor.new.rest.now }
+        ensures { Parses (spec.branch (units.phrases self.now.depth) self.now.depth) branch_depth (Below self.now.depth)
+            cursor.old.rest.now result cursor.new.rest.now }
     {
         let condition = self.expression(cursor, WORD_LEVEL)?;
         let (condition, _) = and(condition, cursor.keyword(Key::Then))?;
@@ -36,10 +38,11 @@ impl<
         Ok(Tall { tree, height })
     }
 
-    #[tactic(auto, unfolding(elan_grammar::specs::Expressions::branches), using(elan_grammar::proofs::Turns::turn_on, elan_grammar::proofs::Turns::turn_off, elan_grammar::proofs::Turns::turn_end, elan_grammar::proofs::Deepest::deepest_one, elan_grammar::proofs::Deepest::deepest_push))]
+    #[tactic(auto, unfolding(elan_grammar::specs::Expressions::branches), using(elan_grammar::proofs::Turns::turns, elan_grammar::proofs::Deepest::deepens))]
     fn branches(&self, cursor: &mut Cursor<'_>) -> Result<Tall<List<Branch>>, ParseError>
         requires { Nests self.now.depth (E.pre self.now.expression) (E.post self.now.expression) (U.pre self.now.units) (U.post self.now.units) }
-        ensures { Parses (spec.branches (units.phrases self.now.depth) self.now.depth) branches_depth (Below self.now.depth) cursor.old.rest.now result cursor.new.rest.now }
+        ensures { Parses (spec.branches (units.phrases self.now.depth) self.now.depth) (deepest_of branch_depth) (Below self.now.depth)
+            cursor.old.rest.now result cursor.new.rest.now }
     {
         let mut row = single(self.alloc, self.branch(cursor))?;
         for _turn in 0..cursor.rest.len() {
@@ -56,7 +59,8 @@ impl<
     fn else_part(&self, cursor: &mut Cursor<'_>) -> Result<Tall<Option<List<Unit>>>, ParseError>
         requires nests { Nests self.now.depth (E.pre self.now.expression) (E.post self.now.expression) (U.pre self.now.units) (U.post self.now.units) }
         requires room { 0 < self.now.depth }
-        ensures { Parses (spec.else_part (units.phrases self.now.depth) self.now.depth) option_units_depth (Below self.now.depth) cursor.old.rest.now result cursor.new.rest.now }
+        ensures { Parses (spec.else_part (units.phrases self.now.depth) self.now.depth) (if_any (deepest_of unit_depth)) (Below self.now.depth)
+            cursor.old.rest.now result cursor.new.rest.now }
     {
         if !cursor.sees_key(Key::Else) {
             return Ok(Tall {
@@ -87,7 +91,8 @@ impl<
     #[tactic(auto, unfolding(elan_grammar::specs::Expressions::choice, elan_grammar::specs::Expressions::choice_end))]
     pub fn choice(&self, cursor: &mut Cursor<'_>) -> Result<Tall<Expr>, ParseError>
         requires { Nests self.now.depth (E.pre self.now.expression) (E.post self.now.expression) (U.pre self.now.units) (U.post self.now.units) }
-        ensures { Parses (spec.choice (units.phrases self.now.depth) self.now.depth) expr_depth (AtMost self.now.depth) cursor.old.rest.now result cursor.new.rest.now }
+        ensures { Parses (spec.choice (units.phrases self.now.depth) self.now.depth) expr_depth (AtMost self.now.depth)
+            cursor.old.rest.now result cursor.new.rest.now }
     {
         cursor.below(0, self.depth)?;
         let at = cursor.keyword(Key::If)?;
@@ -109,7 +114,8 @@ impl<
     #[tactic(auto, unfolding(elan_grammar::specs::Expressions::a_case))]
     fn a_case(&self, cursor: &mut Cursor<'_>) -> Result<Tall<Case>, ParseError>
         requires { Nests self.now.depth (E.pre self.now.expression) (E.post self.now.expression) (U.pre self.now.units) (U.post self.now.units) }
-        ensures { Parses (spec.a_case (units.phrases self.now.depth) self.now.depth) case_depth (Below self.now.depth) cursor.old.rest.now result cursor.new.rest.now }
+        ensures { Parses (spec.a_case (units.phrases self.now.depth) self.now.depth) case_depth (Below self.now.depth)
+            cursor.old.rest.now result cursor.new.rest.now }
     {
         cursor.keyword(Key::Case)?;
         let labels = labels(self.alloc, cursor)?;
@@ -125,10 +131,11 @@ impl<
         })
     }
 
-    #[tactic(auto, unfolding(elan_grammar::specs::Expressions::cases), using(elan_grammar::proofs::Turns::turn_on, elan_grammar::proofs::Turns::turn_off, elan_grammar::proofs::Turns::turn_end, elan_grammar::proofs::Deepest::deepest_one, elan_grammar::proofs::Deepest::deepest_push))]
+    #[tactic(auto, unfolding(elan_grammar::specs::Expressions::cases), using(elan_grammar::proofs::Turns::turns, elan_grammar::proofs::Deepest::deepens))]
     fn cases(&self, cursor: &mut Cursor<'_>) -> Result<Tall<List<Case>>, ParseError>
         requires { Nests self.now.depth (E.pre self.now.expression) (E.post self.now.expression) (U.pre self.now.units) (U.post self.now.units) }
-        ensures { Parses (spec.cases (units.phrases self.now.depth) self.now.depth) cases_depth (Below self.now.depth) cursor.old.rest.now result cursor.new.rest.now }
+        ensures { Parses (spec.cases (units.phrases self.now.depth) self.now.depth) (deepest_of case_depth) (Below self.now.depth)
+            cursor.old.rest.now result cursor.new.rest.now }
     {
         let mut row = single(self.alloc, self.a_case(cursor))?;
         for _turn in 0..cursor.rest.len() {
@@ -147,7 +154,8 @@ impl<
     ) -> Result<Tall<Option<List<Unit>>>, ParseError>
         requires nests { Nests self.now.depth (E.pre self.now.expression) (E.post self.now.expression) (U.pre self.now.units) (U.post self.now.units) }
         requires room { 0 < self.now.depth }
-        ensures { Parses (spec.otherwise_part (units.phrases self.now.depth) self.now.depth) option_units_depth (Below self.now.depth) cursor.old.rest.now result cursor.new.rest.now }
+        ensures { Parses (spec.otherwise_part (units.phrases self.now.depth) self.now.depth) (if_any (deepest_of unit_depth)) (Below self.now.depth)
+            cursor.old.rest.now result cursor.new.rest.now }
     {
         if !cursor.sees_key(Key::Otherwise) {
             return Ok(Tall {
@@ -170,7 +178,9 @@ impl<
     fn select_parts(&self, cursor: &mut Cursor<'_>) -> Result<Tall<SelectParts>, ParseError>
         requires nests { Nests self.now.depth (E.pre self.now.expression) (E.post self.now.expression) (U.pre self.now.units) (U.post self.now.units) }
         requires room { 0 < self.now.depth }
-        ensures { Parses (spec.select_parts (units.phrases self.now.depth) self.now.depth) (λ t. max (cases_depth t.cases) (option_units_depth t.otherwise)) (Below self.now.depth) cursor.old.rest.now result cursor.new.rest.now }
+        ensures { Parses (spec.select_parts (units.phrases self.now.depth) self.now.depth)
+            (λ t. max (deepest_of case_depth t.cases) (if_any (deepest_of unit_depth) t.otherwise)) (Below self.now.depth)
+            cursor.old.rest.now result cursor.new.rest.now }
     {
         let cases = self.cases(cursor)?;
         let (cases, otherwise) = and(cases, self.otherwise_part(cursor))?;
@@ -187,7 +197,8 @@ impl<
     #[tactic(auto, unfolding(elan_grammar::specs::Expressions::selection))]
     pub fn selection(&self, cursor: &mut Cursor<'_>) -> Result<Tall<Expr>, ParseError>
         requires { Nests self.now.depth (E.pre self.now.expression) (E.post self.now.expression) (U.pre self.now.units) (U.post self.now.units) }
-        ensures { Parses (spec.selection (units.phrases self.now.depth) self.now.depth) expr_depth (AtMost self.now.depth) cursor.old.rest.now result cursor.new.rest.now }
+        ensures { Parses (spec.selection (units.phrases self.now.depth) self.now.depth) expr_depth (AtMost self.now.depth)
+            cursor.old.rest.now result cursor.new.rest.now }
     {
         cursor.below(0, self.depth)?;
         let at = cursor.keyword(Key::Select)?;

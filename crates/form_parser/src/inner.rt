@@ -5,7 +5,7 @@ ghost use Rattle.elan_grammar.specs.Kinds.{word_level};
 ghost use Rattle.elan_grammar.specs.Rule.{Parses, Below};
 ghost use Rattle.elan_grammar.specs.Units as units;
 ghost use Rattle.form_parser.specs.Nests.{Nests};
-ghost use Rattle.elan_grammar.specs.Depth.{expr_depth, units_depth};
+ghost use Rattle.elan_grammar.specs.Depth.{expr_depth, unit_depth, deepest_of};
 
 use containers::List;
 use elan_cursor::Cursor;
@@ -13,12 +13,6 @@ use elan_grammar::ParseError;
 use elan_grammar::tall::Tall;
 use elan_tree::{Expr, Unit};
 use std::alloc::Global;
-
-/// The level of every expression: that of bold words between two operands.
-pub const WORD_LEVEL: u8 = 6;
-
-/// The level of an expression without an operator between two operands.
-pub const OPERAND_LEVEL: u8 = 0;
 
 /// The phrases less than `depth` deep, which the two functions parse.
 #[derive(Drop)]
@@ -45,7 +39,7 @@ impl<
     /// Units in another phrase.
     pub fn units(&self, cursor: &mut Cursor<'_>) -> Result<Tall<List<Unit>>, ParseError>
         requires { Nests self.now.depth (E.pre self.now.expression) (E.post self.now.expression) (U.pre self.now.units) (U.post self.now.units) }
-        ensures { Parses ((units.phrases self.now.depth).units) units_depth (Below self.now.depth) cursor.old.rest.now result cursor.new.rest.now }
+        ensures { Parses ((units.phrases self.now.depth).units) (deepest_of unit_depth) (Below self.now.depth) cursor.old.rest.now result cursor.new.rest.now }
     {
         (self.units)(self.alloc, cursor, self.depth)
     }

@@ -32,7 +32,7 @@ fn label(alloc: Global, cursor: &mut Cursor<'_>) -> Result<Label, ParseError>
 }
 
 /// Labels with commas between them.
-#[tactic(auto, unfolding(elan_grammar::specs::Types::labels), using(elan_grammar::proofs::Turns::turn_on, elan_grammar::proofs::Turns::turn_off, elan_grammar::proofs::Turns::turn_end))]
+#[tactic(auto, unfolding(elan_grammar::specs::Types::labels), using(elan_grammar::proofs::Turns::turns))]
 pub fn labels(alloc: Global, cursor: &mut Cursor<'_>) -> Result<List<Label>, ParseError>
     ensures { Gives ((spec.labels).run cursor.old.rest.now) result cursor.new.rest.now }
 {

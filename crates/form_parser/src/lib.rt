@@ -6,4 +6,4 @@ mod inner;
 mod labels;
 mod loops;
 
-pub use inner::{Inner, OPERAND_LEVEL, WORD_LEVEL};
+pub use inner::Inner;

@@ -4,12 +4,12 @@ ghost use Rattle.std.specs.Prelude.{◌<◌, max, Some};
 ghost use Rattle.elan_grammar.specs.Rule.{Gives, Parses, AtMost, Below, IsTall};
 ghost use Rattle.elan_grammar.specs.Units as units;
 ghost use Rattle.form_parser.specs.Nests.{Nests};
-ghost use Rattle.elan_grammar.specs.Depth.{expr_depth, unit_depth, units_depth, limit_depth, option_depth, option_counter_depth};
+ghost use Rattle.elan_grammar.specs.Depth.{expr_depth, unit_depth, limit_depth, counter_depth, deepest_of, if_any};
 
-use crate::inner::{Inner, WORD_LEVEL};
+use crate::inner::Inner;
 use containers::{Boxed, List};
 use elan_cursor::Cursor;
-use elan_cursor::kind::is_key;
+use elan_cursor::kind::{WORD_LEVEL, is_key};
 use elan_grammar::tall::{Tall, and};
 use elan_grammar::{LoopParts, ParseError};
 use elan_tree::{Counter, Expr, Key, Limit, Unit};
@@ -22,7 +22,8 @@ impl<
     /// A keyword, and an expression behind it.
     fn behind(&self, cursor: &mut Cursor<'_>, key: Key) -> Result<Tall<Expr>, ParseError>
         requires { Nests self.now.depth (E.pre self.now.expression) (E.post self.now.expression) (U.pre self.now.units) (U.post self.now.units) }
-        ensures { Parses (units.behind (units.phrases self.now.depth) self.now.depth key) expr_depth (Below self.now.depth) cursor.old.rest.now result cursor.new.rest.now }
+        ensures { Parses (units.behind (units.phrases self.now.depth) self.now.depth key) expr_depth (Below self.now.depth)
+            cursor.old.rest.now result cursor.new.rest.now }
     {
         cursor.keyword(key)?;
         self.expression(cursor, WORD_LEVEL)
@@ -32,7 +33,8 @@ impl<
     fn a_limit(&self, cursor: &mut Cursor<'_>) -> Result<Tall<Limit>, ParseError>
         requires nests { Nests self.now.depth (E.pre self.now.expression) (E.post self.now.expression) (U.pre self.now.units) (U.post self.now.units) }
         requires room { 0 < self.now.depth }
-        ensures { Parses (units.a_limit (units.phrases self.now.depth) self.now.depth) limit_depth (Below self.now.depth) cursor.old.rest.now result cursor.new.rest.now }
+        ensures { Parses (units.a_limit (units.phrases self.now.depth) self.now.depth) limit_depth (Below self.now.depth)
+            cursor.old.rest.now result cursor.new.rest.now }
     {
         let kind = cursor.ahead();
         if is_key(Key::Upto, kind) {
@@ -64,7 +66,8 @@ impl<
     ) -> Result<Tall<Option<Expr>>, ParseError>
         requires nests { Nests self.now.depth (E.pre self.now.expression) (E.post self.now.expression) (U.pre self.now.units) (U.post self.now.units) }
         requires room { 0 < self.now.depth }
-        ensures { Parses (units.key_part (units.phrases self.now.depth) self.now.depth key) option_depth (Below self.now.depth) cursor.old.rest.now result cursor.new.rest.now }
+        ensures { Parses (units.key_part (units.phrases self.now.depth) self.now.depth key) (if_any expr_depth) (Below self.now.depth)
+            cursor.old.rest.now result cursor.new.rest.now }
     {
         if !cursor.sees_key(key) {
             return Ok(Tall {
@@ -83,7 +86,8 @@ impl<
     fn counter(&self, cursor: &mut Cursor<'_>) -> Result<Tall<Option<Boxed<Counter>>>, ParseError>
         requires nests { Nests self.now.depth (E.pre self.now.expression) (E.post self.now.expression) (U.pre self.now.units) (U.post self.now.units) }
         requires room { 0 < self.now.depth }
-        ensures { Parses (units.counter (units.phrases self.now.depth) self.now.depth) option_counter_depth (Below self.now.depth) cursor.old.rest.now result cursor.new.rest.now }
+        ensures { Parses (units.counter (units.phrases self.now.depth) self.now.depth) (if_any counter_depth) (Below self.now.depth)
+            cursor.old.rest.now result cursor.new.rest.now }
     {
         let name = cursor.ident(self.alloc)?;
         let (name, from) = and(name, self.key_part(cursor, Key::From))?;
@@ -116,7 +120,8 @@ impl<
     fn turn_parts(&self, cursor: &mut Cursor<'_>) -> Result<Tall<LoopParts>, ParseError>
         requires nests { Nests self.now.depth (E.pre self.now.expression) (E.post self.now.expression) (U.pre self.now.units) (U.post self.now.units) }
         requires room { 0 < self.now.depth }
-        ensures { Parses (units.turn_parts (units.phrases self.now.depth) self.now.depth) (λ t. max (units_depth t.units) (option_depth t.until)) (Below self.now.depth) cursor.old.rest.now result cursor.new.rest.now }
+        ensures { Parses (units.turn_parts (units.phrases self.now.depth) self.now.depth)
+            (λ t. max (deepest_of unit_depth t.units) (if_any expr_depth t.until)) (Below self.now.depth) cursor.old.rest.now result cursor.new.rest.now }
     {
         let start = cursor.rep()?;
         let units = self.units(cursor)?;
@@ -141,9 +146,10 @@ impl<
     ) -> Result<Tall<Unit>, ParseError>
         requires nests { Nests self.now.depth (E.pre self.now.expression) (E.post self.now.expression) (U.pre self.now.units) (U.post self.now.units) }
         requires room { 0 < self.now.depth }
-        requires counter { IsTall option_counter_depth (Below self.now.depth) counter }
-        requires condition { IsTall option_depth (Below self.now.depth) condition }
-        ensures { Parses (units.turns (units.phrases self.now.depth) self.now.depth at counter.tree condition.tree) unit_depth (AtMost self.now.depth) cursor.old.rest.now result cursor.new.rest.now }
+        requires counter { IsTall (if_any counter_depth) (Below self.now.depth) counter }
+        requires condition { IsTall (if_any expr_depth) (Below self.now.depth) condition }
+        ensures { Parses (units.turns (units.phrases self.now.depth) self.now.depth at counter.tree condition.tree) unit_depth (AtMost self.now.depth)
+            cursor.old.rest.now result cursor.new.rest.now }
     {
         let (before, parts) = and((counter, condition), self.turn_parts(cursor))?;
         let (counter, condition) = before;
@@ -171,7 +177,8 @@ impl<
     #[tactic(auto, unfolding(elan_grammar::specs::Units::counted))]
     pub fn counted(&self, cursor: &mut Cursor<'_>) -> Result<Tall<Unit>, ParseError>
         requires { Nests self.now.depth (E.pre self.now.expression) (E.post self.now.expression) (U.pre self.now.units) (U.post self.now.units) }
-        ensures { Parses (units.counted (units.phrases self.now.depth) self.now.depth) unit_depth (AtMost self.now.depth) cursor.old.rest.now result cursor.new.rest.now }
+        ensures { Parses (units.counted (units.phrases self.now.depth) self.now.depth) unit_depth (AtMost self.now.depth)
+            cursor.old.rest.now result cursor.new.rest.now }
     {
         cursor.below(0, self.depth)?;
         let at = cursor.keyword(Key::For)?;
@@ -184,7 +191,8 @@ impl<
     #[tactic(auto, unfolding(elan_grammar::specs::Units::guarded))]
     pub fn guarded(&self, cursor: &mut Cursor<'_>) -> Result<Tall<Unit>, ParseError>
         requires { Nests self.now.depth (E.pre self.now.expression) (E.post self.now.expression) (U.pre self.now.units) (U.post self.now.units) }
-        ensures { Parses (units.guarded (units.phrases self.now.depth) self.now.depth) unit_depth (AtMost self.now.depth) cursor.old.rest.now result cursor.new.rest.now }
+        ensures { Parses (units.guarded (units.phrases self.now.depth) self.now.depth) unit_depth (AtMost self.now.depth)
+            cursor.old.rest.now result cursor.new.rest.now }
     {
         cursor.below(0, self.depth)?;
         let at = cursor.keyword(Key::While)?;
@@ -204,7 +212,8 @@ impl<
     #[tactic(auto, unfolding(elan_grammar::specs::Units::repeated))]
     pub fn repeated(&self, cursor: &mut Cursor<'_>) -> Result<Tall<Unit>, ParseError>
         requires { Nests self.now.depth (E.pre self.now.expression) (E.post self.now.expression) (U.pre self.now.units) (U.post self.now.units) }
-        ensures { Parses (units.repeated (units.phrases self.now.depth) self.now.depth) unit_depth (AtMost self.now.depth) cursor.old.rest.now result cursor.new.rest.now }
+        ensures { Parses (units.repeated (units.phrases self.now.depth) self.now.depth) unit_depth (AtMost self.now.depth)
+            cursor.old.rest.now result cursor.new.rest.now }
     {
         cursor.below(0, self.depth)?;
         let counter = Tall {

@@ -4,7 +4,7 @@ ghost use Rattle.std.specs.Prelude.{◌≤◌};
 ghost use Rattle.elan_grammar.specs.Kinds.{word_level};
 ghost use Rattle.elan_grammar.specs.Rule.{Parses, AtMost, Below, IsTall};
 ghost use Rattle.elan_grammar.specs.Units as spec;
-ghost use Rattle.elan_grammar.specs.Depth.{type_depth, expr_depth, unit_depth, units_depth};
+ghost use Rattle.elan_grammar.specs.Depth.{type_depth, expr_depth, unit_depth, deepest_of};
 
 use crate::phrases::Phrases;
 use containers::List;
@@ -45,7 +45,7 @@ pub fn units(
     cursor: &mut Cursor<'_>,
     depth: u16,
 ) -> Result<Tall<List<Unit>>, ParseError>
-    ensures { Parses (spec.phrases depth).units units_depth (Below depth) cursor.old.rest.now result cursor.new.rest.now }
+    ensures { Parses (spec.phrases depth).units (deepest_of unit_depth) (Below depth) cursor.old.rest.now result cursor.new.rest.now }
 {
     if depth == 0 {
         return Err(cursor.refuse());

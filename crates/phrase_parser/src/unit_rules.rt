@@ -4,17 +4,16 @@ ghost use Rattle.std.specs.Prelude.{◌≡◌};
 ghost use Rattle.elan_grammar.specs.Rule.{Parses, AtMost, IsTall};
 ghost use Rattle.elan_grammar.specs.Units as units;
 ghost use Rattle.form_parser.specs.Nests.{Nests};
-ghost use Rattle.elan_grammar.specs.Depth.{type_depth, expr_depth, item_depth, items_depth, unit_depth, units_depth};
+ghost use Rattle.elan_grammar.specs.Depth.{type_depth, expr_depth, item_depth, unit_depth, type_place, expr_place, deepest_of};
 
 use crate::phrases::Phrases;
 use containers::List;
 use elan_cursor::Cursor;
-use elan_cursor::kind::{begins, begins_typed, is_comma, is_init, is_key, is_rep};
+use elan_cursor::kind::{WORD_LEVEL, begins, begins_typed, is_comma, is_init, is_key, is_rep};
 use elan_grammar::ParseError;
 use elan_grammar::tall::{Tall, and, single, with_next};
 use elan_tree::{Expr, Item, Key, Sign, TypePhrase, Unit};
 use expression_parser::expr_place;
-use form_parser::WORD_LEVEL;
 use std::alloc::Global;
 use type_parser::{let_items, type_place, types};
 
@@ -24,7 +23,8 @@ impl<
 > Phrases<E, U> {
     #[tactic(auto, unfolding(elan_grammar::specs::Units::a_let))]
     fn a_let(&self, cursor: &mut Cursor<'_>) -> Result<Tall<Unit>, ParseError>
-        ensures { Parses (units.a_let (units.phrases self.now.depth) self.now.depth) unit_depth (AtMost self.now.depth) cursor.old.rest.now result cursor.new.rest.now }
+        ensures { Parses (units.a_let (units.phrases self.now.depth) self.now.depth) unit_depth (AtMost self.now.depth)
+            cursor.old.rest.now result cursor.new.rest.now }
     {
         let at = cursor.keyword(Key::Let)?;
         let row = let_items(self.alloc, cursor, self.depth)?;
@@ -37,7 +37,8 @@ impl<
     #[tactic(auto, unfolding(elan_grammar::specs::Units::init))]
     fn init(&self, cursor: &mut Cursor<'_>) -> Result<Tall<Expr>, ParseError>
         requires { Nests self.now.depth (E.pre self.now.expression) (E.post self.now.expression) (U.pre self.now.units) (U.post self.now.units) }
-        ensures { Parses (units.init (units.phrases self.now.depth) self.now.depth) expr_depth (AtMost self.now.depth) cursor.old.rest.now result cursor.new.rest.now }
+        ensures { Parses (units.init (units.phrases self.now.depth) self.now.depth) expr_depth (AtMost self.now.depth)
+            cursor.old.rest.now result cursor.new.rest.now }
     {
         cursor.init_mark()?;
         self.expressions().level(cursor, WORD_LEVEL)
@@ -46,7 +47,8 @@ impl<
     #[tactic(auto, unfolding(elan_grammar::specs::Units::item))]
     fn item(&self, cursor: &mut Cursor<'_>) -> Result<Tall<Item>, ParseError>
         requires { Nests self.now.depth (E.pre self.now.expression) (E.post self.now.expression) (U.pre self.now.units) (U.post self.now.units) }
-        ensures { Parses (units.item (units.phrases self.now.depth) self.now.depth) item_depth (AtMost self.now.depth) cursor.old.rest.now result cursor.new.rest.now }
+        ensures { Parses (units.item (units.phrases self.now.depth) self.now.depth) item_depth (AtMost self.now.depth)
+            cursor.old.rest.now result cursor.new.rest.now }
     {
         let name = cursor.ident(self.alloc)?;
         if !is_init(cursor.ahead()) {
@@ -66,10 +68,11 @@ impl<
         })
     }
 
-    #[tactic(auto, unfolding(elan_grammar::specs::Units::items), using(elan_grammar::proofs::Turns::turn_on, elan_grammar::proofs::Turns::turn_off, elan_grammar::proofs::Turns::turn_end, elan_grammar::proofs::Deepest::deepest_one, elan_grammar::proofs::Deepest::deepest_push))]
+    #[tactic(auto, unfolding(elan_grammar::specs::Units::items), using(elan_grammar::proofs::Turns::turns, elan_grammar::proofs::Deepest::deepens))]
     fn items(&self, cursor: &mut Cursor<'_>) -> Result<Tall<List<Item>>, ParseError>
         requires { Nests self.now.depth (E.pre self.now.expression) (E.post self.now.expression) (U.pre self.now.units) (U.post self.now.units) }
-        ensures { Parses (units.items (units.phrases self.now.depth) self.now.depth) items_depth (AtMost self.now.depth) cursor.old.rest.now result cursor.new.rest.now }
+        ensures { Parses (units.items (units.phrases self.now.depth) self.now.depth) (deepest_of item_depth) (AtMost self.now.depth)
+            cursor.old.rest.now result cursor.new.rest.now }
     {
         let mut row = single(self.alloc, self.item(cursor))?;
         for _turn in 0..cursor.rest.len() {
@@ -85,7 +88,8 @@ impl<
     #[tactic(auto, unfolding(elan_grammar::specs::Units::constant_item))]
     fn constant_item(&self, cursor: &mut Cursor<'_>) -> Result<Tall<Item>, ParseError>
         requires { Nests self.now.depth (E.pre self.now.expression) (E.post self.now.expression) (U.pre self.now.units) (U.post self.now.units) }
-        ensures { Parses (units.constant_item (units.phrases self.now.depth) self.now.depth) item_depth (AtMost self.now.depth) cursor.old.rest.now result cursor.new.rest.now }
+        ensures { Parses (units.constant_item (units.phrases self.now.depth) self.now.depth) item_depth (AtMost self.now.depth)
+            cursor.old.rest.now result cursor.new.rest.now }
     {
         let name = cursor.ident(self.alloc)?;
         let (name, init) = and(name, self.init(cursor))?;
@@ -99,10 +103,11 @@ impl<
         })
     }
 
-    #[tactic(auto, unfolding(elan_grammar::specs::Units::constant_items), using(elan_grammar::proofs::Turns::turn_on, elan_grammar::proofs::Turns::turn_off, elan_grammar::proofs::Turns::turn_end, elan_grammar::proofs::Deepest::deepest_one, elan_grammar::proofs::Deepest::deepest_push))]
+    #[tactic(auto, unfolding(elan_grammar::specs::Units::constant_items), using(elan_grammar::proofs::Turns::turns, elan_grammar::proofs::Deepest::deepens))]
     fn constant_items(&self, cursor: &mut Cursor<'_>) -> Result<Tall<List<Item>>, ParseError>
         requires { Nests self.now.depth (E.pre self.now.expression) (E.post self.now.expression) (U.pre self.now.units) (U.post self.now.units) }
-        ensures { Parses (units.constant_items (units.phrases self.now.depth) self.now.depth) items_depth (AtMost self.now.depth) cursor.old.rest.now result cursor.new.rest.now }
+        ensures { Parses (units.constant_items (units.phrases self.now.depth) self.now.depth) (deepest_of item_depth) (AtMost self.now.depth)
+            cursor.old.rest.now result cursor.new.rest.now }
     {
         let mut row = single(self.alloc, self.constant_item(cursor))?;
         for _turn in 0..cursor.rest.len() {
@@ -123,7 +128,8 @@ impl<
     ) -> Result<Tall<Unit>, ParseError>
         requires nests { Nests self.now.depth (E.pre self.now.expression) (E.post self.now.expression) (U.pre self.now.units) (U.post self.now.units) }
         requires tall { IsTall type_depth (AtMost self.now.depth) of }
-        ensures { Parses (units.variables (units.phrases self.now.depth) self.now.depth of.tree) unit_depth (AtMost self.now.depth) cursor.old.rest.now result cursor.new.rest.now }
+        ensures { Parses (units.variables (units.phrases self.now.depth) self.now.depth of.tree) unit_depth (AtMost self.now.depth)
+            cursor.old.rest.now result cursor.new.rest.now }
     {
         let at = type_place(&of.tree);
         let (of, _) = and(of, cursor.keyword(Key::Var))?;
@@ -143,7 +149,8 @@ impl<
     ) -> Result<Tall<Unit>, ParseError>
         requires nests { Nests self.now.depth (E.pre self.now.expression) (E.post self.now.expression) (U.pre self.now.units) (U.post self.now.units) }
         requires tall { IsTall type_depth (AtMost self.now.depth) of }
-        ensures { Parses (units.constants (units.phrases self.now.depth) self.now.depth of.tree) unit_depth (AtMost self.now.depth) cursor.old.rest.now result cursor.new.rest.now }
+        ensures { Parses (units.constants (units.phrases self.now.depth) self.now.depth of.tree) unit_depth (AtMost self.now.depth)
+            cursor.old.rest.now result cursor.new.rest.now }
     {
         let at = type_place(&of.tree);
         let (of, _) = and(of, cursor.keyword(Key::Const))?;
@@ -164,7 +171,8 @@ impl<
     ) -> Result<Tall<Unit>, ParseError>
         requires nests { Nests self.now.depth (E.pre self.now.expression) (E.post self.now.expression) (U.pre self.now.units) (U.post self.now.units) }
         requires tall { IsTall type_depth (AtMost self.now.depth) of }
-        ensures { Parses (units.declared (units.phrases self.now.depth) self.now.depth of.tree) unit_depth (AtMost self.now.depth) cursor.old.rest.now result cursor.new.rest.now }
+        ensures { Parses (units.declared (units.phrases self.now.depth) self.now.depth of.tree) unit_depth (AtMost self.now.depth)
+            cursor.old.rest.now result cursor.new.rest.now }
     {
         if cursor.sees_key(Key::Var) {
             self.variables(cursor, of)
@@ -176,7 +184,8 @@ impl<
     #[tactic(auto, unfolding(elan_grammar::specs::Units::declaration))]
     fn declaration(&self, cursor: &mut Cursor<'_>) -> Result<Tall<Unit>, ParseError>
         requires { Nests self.now.depth (E.pre self.now.expression) (E.post self.now.expression) (U.pre self.now.units) (U.post self.now.units) }
-        ensures { Parses (units.declaration (units.phrases self.now.depth) self.now.depth) unit_depth (AtMost self.now.depth) cursor.old.rest.now result cursor.new.rest.now }
+        ensures { Parses (units.declaration (units.phrases self.now.depth) self.now.depth) unit_depth (AtMost self.now.depth)
+            cursor.old.rest.now result cursor.new.rest.now }
     {
         let of = types(self.alloc, cursor, self.depth)?;
         self.declared(cursor, of)
@@ -185,7 +194,8 @@ impl<
     #[tactic(auto, unfolding(elan_grammar::specs::Units::bound))]
     fn bound(&self, cursor: &mut Cursor<'_>) -> Result<Tall<Unit>, ParseError>
         requires { Nests self.now.depth (E.pre self.now.expression) (E.post self.now.expression) (U.pre self.now.units) (U.post self.now.units) }
-        ensures { Parses (units.bound (units.phrases self.now.depth) self.now.depth) unit_depth (AtMost self.now.depth) cursor.old.rest.now result cursor.new.rest.now }
+        ensures { Parses (units.bound (units.phrases self.now.depth) self.now.depth) unit_depth (AtMost self.now.depth)
+            cursor.old.rest.now result cursor.new.rest.now }
     {
         cursor.below(0, self.depth)?;
         let at = cursor.keyword(Key::Bound)?;
@@ -203,7 +213,8 @@ impl<
     fn assigned(&self, cursor: &mut Cursor<'_>, left: Tall<Expr>) -> Result<Tall<Unit>, ParseError>
         requires nests { Nests self.now.depth (E.pre self.now.expression) (E.post self.now.expression) (U.pre self.now.units) (U.post self.now.units) }
         requires tall { left.height ≡ expr_depth left.tree }
-        ensures { Parses (units.assigned (units.phrases self.now.depth) self.now.depth left.tree) unit_depth (AtMost self.now.depth) cursor.old.rest.now result cursor.new.rest.now }
+        ensures { Parses (units.assigned (units.phrases self.now.depth) self.now.depth left.tree) unit_depth (AtMost self.now.depth)
+            cursor.old.rest.now result cursor.new.rest.now }
     {
         let height = left.height;
         let (left, _) = and(left, cursor.below(height, self.depth))?;
@@ -224,7 +235,8 @@ impl<
     #[tactic(auto, unfolding(elan_grammar::specs::Units::statement))]
     fn statement(&self, cursor: &mut Cursor<'_>) -> Result<Tall<Unit>, ParseError>
         requires { Nests self.now.depth (E.pre self.now.expression) (E.post self.now.expression) (U.pre self.now.units) (U.post self.now.units) }
-        ensures { Parses (units.statement (units.phrases self.now.depth) self.now.depth) unit_depth (AtMost self.now.depth) cursor.old.rest.now result cursor.new.rest.now }
+        ensures { Parses (units.statement (units.phrases self.now.depth) self.now.depth) unit_depth (AtMost self.now.depth)
+            cursor.old.rest.now result cursor.new.rest.now }
     {
         let a = self.expressions().level(cursor, WORD_LEVEL)?;
         if cursor.sees_sign(Sign::Becomes) {
@@ -239,7 +251,8 @@ impl<
     #[tactic(auto, unfolding(elan_grammar::specs::Units::leave))]
     fn leave(&self, cursor: &mut Cursor<'_>) -> Result<Tall<Unit>, ParseError>
         requires { Nests self.now.depth (E.pre self.now.expression) (E.post self.now.expression) (U.pre self.now.units) (U.post self.now.units) }
-        ensures { Parses (units.leave (units.phrases self.now.depth) self.now.depth) unit_depth (AtMost self.now.depth) cursor.old.rest.now result cursor.new.rest.now }
+        ensures { Parses (units.leave (units.phrases self.now.depth) self.now.depth) unit_depth (AtMost self.now.depth)
+            cursor.old.rest.now result cursor.new.rest.now }
     {
         cursor.below(0, self.depth)?;
         let at = cursor.keyword(Key::Leave)?;
@@ -260,7 +273,8 @@ impl<
     #[tactic(auto, unfolding(elan_grammar::specs::Units::plain))]
     pub fn plain(&self, cursor: &mut Cursor<'_>) -> Result<Tall<Unit>, ParseError>
         requires { Nests self.now.depth (E.pre self.now.expression) (E.post self.now.expression) (U.pre self.now.units) (U.post self.now.units) }
-        ensures { Parses (units.plain (units.phrases self.now.depth) self.now.depth) unit_depth (AtMost self.now.depth) cursor.old.rest.now result cursor.new.rest.now }
+        ensures { Parses (units.plain (units.phrases self.now.depth) self.now.depth) unit_depth (AtMost self.now.depth)
+            cursor.old.rest.now result cursor.new.rest.now }
     {
         let kind = cursor.ahead();
         if is_key(Key::Let, kind) {
@@ -288,7 +302,8 @@ impl<
     #[tactic(auto, unfolding(elan_grammar::specs::Units::unit))]
     fn unit(&self, cursor: &mut Cursor<'_>) -> Result<Tall<Unit>, ParseError>
         requires { Nests self.now.depth (E.pre self.now.expression) (E.post self.now.expression) (U.pre self.now.units) (U.post self.now.units) }
-        ensures { Parses (units.unit (units.phrases self.now.depth) self.now.depth) unit_depth (AtMost self.now.depth) cursor.old.rest.now result cursor.new.rest.now }
+        ensures { Parses (units.unit (units.phrases self.now.depth) self.now.depth) unit_depth (AtMost self.now.depth)
+            cursor.old.rest.now result cursor.new.rest.now }
     {
         if begins_typed(cursor.ahead()) {
             self.declaration(cursor)
@@ -298,10 +313,11 @@ impl<
     }
 
     /// Units with semicolons between them; there may be nothing between two.
-    #[tactic(auto, unfolding(elan_grammar::specs::Units::units), using(elan_grammar::proofs::Turns::turn_on, elan_grammar::proofs::Turns::turn_off, elan_grammar::proofs::Turns::turn_end, elan_grammar::proofs::Deepest::deepest_one, elan_grammar::proofs::Deepest::deepest_push))]
+    #[tactic(auto, unfolding(elan_grammar::specs::Units::units), using(elan_grammar::proofs::Turns::turns, elan_grammar::proofs::Deepest::deepens))]
     pub fn units(&self, cursor: &mut Cursor<'_>) -> Result<Tall<List<Unit>>, ParseError>
         requires { Nests self.now.depth (E.pre self.now.expression) (E.post self.now.expression) (U.pre self.now.units) (U.post self.now.units) }
-        ensures { Parses (units.units (units.phrases self.now.depth) self.now.depth) units_depth (AtMost self.now.depth) cursor.old.rest.now result cursor.new.rest.now }
+        ensures { Parses (units.units (units.phrases self.now.depth) self.now.depth) (deepest_of unit_depth) (AtMost self.now.depth)
+            cursor.old.rest.now result cursor.new.rest.now }
     {
         let mut row = single(self.alloc, self.unit(cursor))?;
         for _turn in 0..cursor.rest.len() {

@@ -3,7 +3,7 @@
 ghost use Rattle.std.specs.Prelude.{◌≡◌, ◌≤◌, IfOk};
 ghost use Rattle.elan_grammar.specs.Rule.{Gives, Parses, AtMost};
 ghost use Rattle.elan_grammar.specs.Types as spec;
-ghost use Rattle.elan_grammar.specs.Depth.{formal_depth, formals_depth, let_item_depth, let_items_depth};
+ghost use Rattle.elan_grammar.specs.Depth.{formal_depth, let_item_depth, deepest_of};
 
 use crate::type_phrases::{names, types};
 use containers::List;
@@ -33,13 +33,13 @@ fn formal(alloc: Global, cursor: &mut Cursor<'_>, depth: u16) -> Result<Tall<For
 }
 
 /// Parameters, their types at most `depth` deep.
-#[tactic(auto, unfolding(elan_grammar::specs::Types::formals), using(elan_grammar::proofs::Turns::turn_on, elan_grammar::proofs::Turns::turn_off, elan_grammar::proofs::Turns::turn_end, elan_grammar::proofs::Deepest::deepest_one, elan_grammar::proofs::Deepest::deepest_push))]
+#[tactic(auto, unfolding(elan_grammar::specs::Types::formals), using(elan_grammar::proofs::Turns::turns, elan_grammar::proofs::Deepest::deepens))]
 pub fn formals(
     alloc: Global,
     cursor: &mut Cursor<'_>,
     depth: u16,
 ) -> Result<Tall<List<Formal>>, ParseError>
-    ensures { Parses (spec.formals depth) formals_depth (AtMost depth) cursor.old.rest.now result cursor.new.rest.now }
+    ensures { Parses (spec.formals depth) (deepest_of formal_depth) (AtMost depth) cursor.old.rest.now result cursor.new.rest.now }
 {
     let mut row = single(alloc, formal(alloc, cursor, depth))?;
     for _turn in 0..cursor.rest.len() {
@@ -112,13 +112,13 @@ fn let_item(alloc: Global, cursor: &mut Cursor<'_>, depth: u16) -> Result<Tall<L
 }
 
 /// The names that a LET defines, their types at most `depth` deep.
-#[tactic(auto, unfolding(elan_grammar::specs::Types::let_items), using(elan_grammar::proofs::Turns::turn_on, elan_grammar::proofs::Turns::turn_off, elan_grammar::proofs::Turns::turn_end, elan_grammar::proofs::Deepest::deepest_one, elan_grammar::proofs::Deepest::deepest_push))]
+#[tactic(auto, unfolding(elan_grammar::specs::Types::let_items), using(elan_grammar::proofs::Turns::turns, elan_grammar::proofs::Deepest::deepens))]
 pub fn let_items(
     alloc: Global,
     cursor: &mut Cursor<'_>,
     depth: u16,
 ) -> Result<Tall<List<LetItem>>, ParseError>
-    ensures { Parses (spec.let_items depth) let_items_depth (AtMost depth) cursor.old.rest.now result cursor.new.rest.now }
+    ensures { Parses (spec.let_items depth) (deepest_of let_item_depth) (AtMost depth) cursor.old.rest.now result cursor.new.rest.now }
 {
     let mut row = single(alloc, let_item(alloc, cursor, depth))?;
     for _turn in 0..cursor.rest.len() {

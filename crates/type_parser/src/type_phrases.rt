@@ -3,7 +3,7 @@
 ghost use Rattle.std.specs.Prelude.{◌≡◌, ◌<◌, ◌≤◌, ◌+◌, ◌-◌, ◌==◌, IfOk};
 ghost use Rattle.elan_grammar.specs.Rule.{Gives, Parses, AtMost};
 ghost use Rattle.elan_grammar.specs.Types as spec;
-ghost use Rattle.elan_grammar.specs.Depth.{type_depth, field_depth, fields_depth, type_place};
+ghost use Rattle.elan_grammar.specs.Depth.{type_depth, field_depth, type_place, deepest_of};
 ghost use Rattle.type_parser.specs.Nests.{TypeNests};
 
 use containers::List;
@@ -15,7 +15,7 @@ use elan_tree::{Field, Key, Name, Sign, TypePhrase};
 use std::alloc::Global;
 
 /// Identifiers with commas between them.
-#[tactic(auto, unfolding(elan_grammar::specs::Types::names), using(elan_grammar::proofs::Turns::turn_on, elan_grammar::proofs::Turns::turn_off, elan_grammar::proofs::Turns::turn_end))]
+#[tactic(auto, unfolding(elan_grammar::specs::Types::names), using(elan_grammar::proofs::Turns::turns))]
 pub fn names(alloc: Global, cursor: &mut Cursor<'_>) -> Result<List<Name>, ParseError>
     ensures { Gives (spec.names.run cursor.old.rest.now) result cursor.new.rest.now }
 {
@@ -84,7 +84,8 @@ impl<F: Fn(Global, &mut Cursor<'_>, u16) -> Result<Tall<TypePhrase>, ParseError>
     #[tactic(auto, unfolding(elan_grammar::specs::Types::row))]
     fn row(&self, cursor: &mut Cursor<'_>) -> Result<Tall<TypePhrase>, ParseError>
         requires { TypeNests self.now.depth (F.pre self.now.inner) (F.post self.now.inner) }
-        ensures { Parses (spec.row (spec.types self.now.depth) self.now.depth) type_depth (AtMost (self.now.depth + 1)) cursor.old.rest.now result cursor.new.rest.now }
+        ensures { Parses (spec.row (spec.types self.now.depth) self.now.depth) type_depth (AtMost (self.now.depth + 1))
+            cursor.old.rest.now result cursor.new.rest.now }
     {
         cursor.below(0, self.depth)?;
         let at = cursor.keyword(Key::Row)?;
@@ -113,10 +114,11 @@ impl<F: Fn(Global, &mut Cursor<'_>, u16) -> Result<Tall<TypePhrase>, ParseError>
         })
     }
 
-    #[tactic(auto, unfolding(elan_grammar::specs::Types::fields), using(elan_grammar::proofs::Turns::turn_on, elan_grammar::proofs::Turns::turn_off, elan_grammar::proofs::Turns::turn_end, elan_grammar::proofs::Deepest::deepest_one, elan_grammar::proofs::Deepest::deepest_push))]
+    #[tactic(auto, unfolding(elan_grammar::specs::Types::fields), using(elan_grammar::proofs::Turns::turns, elan_grammar::proofs::Deepest::deepens))]
     fn fields(&self, cursor: &mut Cursor<'_>) -> Result<Tall<List<Field>>, ParseError>
         requires { TypeNests self.now.depth (F.pre self.now.inner) (F.post self.now.inner) }
-        ensures { Parses (spec.fields (spec.types self.now.depth)) fields_depth (AtMost self.now.depth) cursor.old.rest.now result cursor.new.rest.now }
+        ensures { Parses (spec.fields (spec.types self.now.depth)) (deepest_of field_depth) (AtMost self.now.depth)
+            cursor.old.rest.now result cursor.new.rest.now }
     {
         let mut row = single(self.alloc, self.field(cursor))?;
         for _turn in 0..cursor.rest.len() {
@@ -132,7 +134,8 @@ impl<F: Fn(Global, &mut Cursor<'_>, u16) -> Result<Tall<TypePhrase>, ParseError>
     #[tactic(auto, unfolding(elan_grammar::specs::Types::structure))]
     fn structure(&self, cursor: &mut Cursor<'_>) -> Result<Tall<TypePhrase>, ParseError>
         requires { TypeNests self.now.depth (F.pre self.now.inner) (F.post self.now.inner) }
-        ensures { Parses (spec.structure (spec.types self.now.depth) self.now.depth) type_depth (AtMost (self.now.depth + 1)) cursor.old.rest.now result cursor.new.rest.now }
+        ensures { Parses (spec.structure (spec.types self.now.depth) self.now.depth) type_depth (AtMost (self.now.depth + 1))
+            cursor.old.rest.now result cursor.new.rest.now }
     {
         cursor.below(0, self.depth)?;
         let at = cursor.keyword(Key::Struct)?;
@@ -151,7 +154,8 @@ impl<F: Fn(Global, &mut Cursor<'_>, u16) -> Result<Tall<TypePhrase>, ParseError>
     #[tactic(auto, unfolding(elan_grammar::specs::Types::a_type, elan_grammar::specs::Types::named_type))]
     fn a_type(&self, cursor: &mut Cursor<'_>) -> Result<Tall<TypePhrase>, ParseError>
         requires { TypeNests self.now.depth (F.pre self.now.inner) (F.post self.now.inner) }
-        ensures { Parses (spec.a_type (spec.types self.now.depth) self.now.depth) type_depth (AtMost (self.now.depth + 1)) cursor.old.rest.now result cursor.new.rest.now }
+        ensures { Parses (spec.a_type (spec.types self.now.depth) self.now.depth) type_depth (AtMost (self.now.depth + 1))
+            cursor.old.rest.now result cursor.new.rest.now }
     {
         let kind = cursor.ahead();
         if is_bold(kind) {

@@ -4,11 +4,11 @@ use Rattle.elan_grammar.specs.Rule.{steps_run, further}
 use Rattle.elan_grammar.specs.Kinds.{is_comma}
 use Rattle.elan_grammar.specs.Terminals.{mark}
 use Rattle.elan_grammar.specs.Types.{formal, formals}
-use Rattle.elan_grammar.specs.Depth.{formals_depth}
+use Rattle.elan_grammar.specs.Depth.{formal_depth, deepest_of}
 use Rattle.type_parser.proofs.parts.formals.Given as goal
 
 abbrev pub invariant-loop-turn : goal.invariant-loop-turn
 invariant-loop-turn l =
     ((formals l.depth).run l.fn.cursor.rest.now
     ≡ steps_run (further (mark sign.Comma) (formal l.depth)) is_comma (l._turn-end - l._turn) l.row.tree l.cursor.rest.now)
-    × (l.row.height ≡ formals_depth l.row.tree) × (l.row.height ≤ l.depth)
+    × (l.row.height ≡ deepest_of formal_depth l.row.tree) × (l.row.height ≤ l.depth)

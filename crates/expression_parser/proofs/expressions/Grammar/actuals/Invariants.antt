@@ -5,7 +5,7 @@ use Rattle.elan_grammar.specs.Kinds.{is_comma}
 use Rattle.elan_grammar.specs.Terminals.{mark}
 use Rattle.elan_grammar.specs.Expressions as expressions
 use Rattle.elan_grammar.specs.Units as units
-use Rattle.elan_grammar.specs.Depth.{exprs_depth}
+use Rattle.elan_grammar.specs.Depth.{expr_depth, deepest_of}
 use Rattle.expression_parser.proofs.expressions.Grammar.actuals.Given as goal
 
 abbrev pub invariant-loop-turn : goal.invariant-loop-turn
@@ -13,4 +13,4 @@ invariant-loop-turn g l =
     ((expressions.actuals (units.phrases l.self.depth) l.self.depth).run l.fn.cursor.rest.now
     ≡ steps_run (further (mark sign.Comma) (expressions.actual (units.phrases l.self.depth) l.self.depth)) (is_comma) (l._turn-end - l._turn) l.row.tree
     l.cursor.rest.now)
-    × (l.row.height ≡ exprs_depth l.row.tree) × (l.row.height < l.self.depth)
+    × (l.row.height ≡ deepest_of expr_depth l.row.tree) × (l.row.height < l.self.depth)

@@ -5,7 +5,7 @@ use Rattle.elan_grammar.specs.Kinds.{is_key}
 use Rattle.elan_grammar.specs.Terminals.{keyword}
 use Rattle.elan_grammar.specs.Expressions as expressions
 use Rattle.elan_grammar.specs.Units as units
-use Rattle.elan_grammar.specs.Depth.{branches_depth}
+use Rattle.elan_grammar.specs.Depth.{branch_depth, deepest_of}
 use Rattle.form_parser.proofs.inner.Inner.branches.Given as goal
 
 abbrev pub invariant-loop-turn : goal.invariant-loop-turn
@@ -13,4 +13,4 @@ invariant-loop-turn g l =
     ((expressions.branches (units.phrases l.self.depth) l.self.depth).run l.fn.cursor.rest.now
     ≡ steps_run (further (keyword key.Elif) (expressions.branch (units.phrases l.self.depth) l.self.depth)) (is_key key.Elif) (l._turn-end - l._turn) l.row.tree
     l.cursor.rest.now)
-    × (l.row.height ≡ branches_depth l.row.tree) × (l.row.height < l.self.depth)
+    × (l.row.height ≡ deepest_of branch_depth l.row.tree) × (l.row.height < l.self.depth)

@@ -4,7 +4,7 @@ use Rattle.elan_grammar.specs.Rule.{steps_run, further, nothing}
 use Rattle.elan_grammar.specs.Kinds.{is_key}
 use Rattle.elan_grammar.specs.Expressions as expressions
 use Rattle.elan_grammar.specs.Units as units
-use Rattle.elan_grammar.specs.Depth.{cases_depth}
+use Rattle.elan_grammar.specs.Depth.{case_depth, deepest_of}
 use Rattle.form_parser.proofs.inner.Inner.cases.Given as goal
 
 abbrev pub invariant-loop-turn : goal.invariant-loop-turn
@@ -12,4 +12,4 @@ invariant-loop-turn g l =
     ((expressions.cases (units.phrases l.self.depth) l.self.depth).run l.fn.cursor.rest.now
     ≡ steps_run (further nothing (expressions.a_case (units.phrases l.self.depth) l.self.depth)) (is_key key.Case) (l._turn-end - l._turn) l.row.tree
     l.cursor.rest.now)
-    × (l.row.height ≡ cases_depth l.row.tree) × (l.row.height < l.self.depth)
+    × (l.row.height ≡ deepest_of case_depth l.row.tree) × (l.row.height < l.self.depth)

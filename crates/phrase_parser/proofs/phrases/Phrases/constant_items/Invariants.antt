@@ -4,7 +4,7 @@ use Rattle.elan_grammar.specs.Rule.{steps_run, further}
 use Rattle.elan_grammar.specs.Kinds.{is_comma}
 use Rattle.elan_grammar.specs.Terminals.{mark}
 use Rattle.elan_grammar.specs.Units as units
-use Rattle.elan_grammar.specs.Depth.{items_depth}
+use Rattle.elan_grammar.specs.Depth.{item_depth, deepest_of}
 use Rattle.phrase_parser.proofs.phrases.Phrases.constant_items.Given as goal
 
 abbrev pub invariant-loop-turn : goal.invariant-loop-turn
@@ -12,4 +12,4 @@ invariant-loop-turn g l =
     ((units.constant_items (units.phrases l.self.depth) l.self.depth).run l.fn.cursor.rest.now
     ≡ steps_run (further (mark sign.Comma) (units.constant_item (units.phrases l.self.depth) l.self.depth)) (is_comma) (l._turn-end - l._turn) l.row.tree
     l.cursor.rest.now)
-    × (l.row.height ≡ items_depth l.row.tree) × (l.row.height ≤ l.self.depth)
+    × (l.row.height ≡ deepest_of item_depth l.row.tree) × (l.row.height ≤ l.self.depth)

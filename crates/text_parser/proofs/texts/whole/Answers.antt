@@ -3,7 +3,7 @@ use Rattle.std.proofs.lemmas.Grind.{common_steps}
 use Rattle.elan_tree.specs.declared.token.Token.{Token}
 use Rattle.elan_grammar.specs.Reads.{text}
 use Rattle.elan_grammar.proofs.GrammarLaws.{is_read, some_left, no_tokens}
-use Rattle.elan_parser.proofs.texts.whole.Goals as goal
+use Rattle.text_parser.proofs.texts.whole.Goals as goal
 
 pub returns-then-is_empty-clause-left : goal.returns-then-is_empty-clause-left
 returns-then-is_empty-clause-left c =

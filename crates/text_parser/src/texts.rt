@@ -6,10 +6,12 @@ ghost use Rattle.elan_grammar.specs.Grammar as spec;
 ghost use Rattle.elan_grammar.specs.Reads as whole;
 ghost use Rattle.elan_grammar.specs.Reads.{Reads};
 ghost use Rattle.elan_grammar.specs.Stops.{left};
-ghost use Rattle.elan_grammar.specs.Depth.{type_depth, level_unit_depth, level_units_depth, level_depth, tree_depth};
+ghost use Rattle.elan_grammar.specs.Depth.{type_depth, level_unit_depth, level_depth, tree_depth, deepest_of};
 
-use crate::bodies::{MOST, end_name, last_point, operator, proc, tail};
-use containers::List;
+use crate::bodies::{MOST, last_point, tail};
+use crate::operators::operator;
+use crate::procs::{end_name, proc};
+use containers::{List, NoMemory};
 use elan_cursor::Cursor;
 use elan_cursor::kind::{begins_typed, is_comma, is_key};
 use elan_grammar::ParseError;
@@ -90,26 +92,36 @@ fn level_unit(alloc: Global, cursor: &mut Cursor<'_>) -> Result<Tall<LevelUnit>,
     ensures { Parses (spec.level_unit 400 399) level_unit_depth (AtMost 400) cursor.old.rest.now result cursor.new.rest.now }
 {
     let kind = cursor.ahead();
-    let none = Tall {
-        tree: None,
-        height: 0,
-    };
     if begins_typed(kind) {
         typed_unit(alloc, cursor)
     } else if is_key(Key::TypeWord, kind) {
         new_type(alloc, cursor)
     } else if is_key(Key::Proc, kind) {
-        proc(alloc, cursor, none)
+        proc(
+            alloc,
+            cursor,
+            Tall {
+                tree: None,
+                height: 0,
+            },
+        )
     } else if is_key(Key::Op, kind) {
-        operator(alloc, cursor, none)
+        operator(
+            alloc,
+            cursor,
+            Tall {
+                tree: None,
+                height: 0,
+            },
+        )
     } else {
         plain_unit(alloc, cursor)
     }
 }
 
-#[tactic(auto, unfolding(elan_grammar::specs::Grammar::level_units), using(elan_grammar::proofs::Turns::turn_on, elan_grammar::proofs::Turns::turn_off, elan_grammar::proofs::Turns::turn_end, elan_grammar::proofs::Deepest::deepest_one, elan_grammar::proofs::Deepest::deepest_push))]
+#[tactic(auto, unfolding(elan_grammar::specs::Grammar::level_units), using(elan_grammar::proofs::Turns::turns, elan_grammar::proofs::Deepest::deepens))]
 fn level_units(alloc: Global, cursor: &mut Cursor<'_>) -> Result<Tall<List<LevelUnit>>, ParseError>
-    ensures { Parses (spec.level_units 400 399) level_units_depth (AtMost 400) cursor.old.rest.now result cursor.new.rest.now }
+    ensures { Parses (spec.level_units 400 399) (deepest_of level_unit_depth) (AtMost 400) cursor.old.rest.now result cursor.new.rest.now }
 {
     let mut row = single(alloc, level_unit(alloc, cursor))?;
     for _turn in 0..cursor.rest.len() {
@@ -147,7 +159,7 @@ fn program(alloc: Global, cursor: &mut Cursor<'_>) -> Result<Tall<Tree>, ParseEr
     })
 }
 
-#[tactic(auto, unfolding(elan_grammar::specs::Grammar::export_list), using(elan_grammar::proofs::Turns::turn_on, elan_grammar::proofs::Turns::turn_off, elan_grammar::proofs::Turns::turn_end))]
+#[tactic(auto, unfolding(elan_grammar::specs::Grammar::export_list), using(elan_grammar::proofs::Turns::turns))]
 fn export_list(alloc: Global, cursor: &mut Cursor<'_>) -> Result<List<Export>, ParseError>
     ensures { Gives ((spec.export_list).run cursor.old.rest.now) result cursor.new.rest.now }
 {
@@ -210,11 +222,7 @@ fn packet(alloc: Global, cursor: &mut Cursor<'_>) -> Result<Tall<Tree>, ParseErr
 }
 
 /// A packet, or a program.
-pub(crate) fn text(
-    alloc: Global,
-    cursor: &mut Cursor<'_>,
-    is_packet: bool,
-) -> Result<Tall<Tree>, ParseError>
+fn text(alloc: Global, cursor: &mut Cursor<'_>, is_packet: bool) -> Result<Tall<Tree>, ParseError>
     ensures { Parses (whole.text is_packet) tree_depth (AtMost 400) cursor.old.rest.now result cursor.new.rest.now }
 {
     if is_packet {
@@ -225,8 +233,8 @@ pub(crate) fn text(
 }
 
 /// The tree that all these tokens spell, or how many the parser leaves.
-#[tactic(auto, using(elan_grammar::proofs::GrammarLaws::is_read, elan_grammar::proofs::GrammarLaws::refused_run, elan_grammar::proofs::GrammarLaws::left_empty, elan_grammar::proofs::GrammarLaws::left_err, elan_grammar::proofs::GrammarLaws::left_ok))]
-pub(crate) fn whole(alloc: Global, tokens: &[Token], packet: bool) -> Result<Tree, ParseError>
+#[tactic(auto, using(elan_grammar::proofs::GrammarLaws::of_whole_texts))]
+pub fn whole(alloc: Global, tokens: &[Token], packet: bool) -> Result<Tree, ParseError>
     ensures ok { IfOk result (λ t. Reads packet tokens.now t) }
     ensures deep { IfOk result (λ t. tree_depth t ≤ 400) }
     ensures refused { (n : ℕ) → result ≡ Err (ParseError.NotElan n) → (t : Tree) → Reads packet tokens.now t → ⊥ }
@@ -241,4 +249,17 @@ pub(crate) fn whole(alloc: Global, tokens: &[Token], packet: bool) -> Result<Tre
         return Err(cursor.refuse());
     }
     Ok(found.tree)
+}
+
+/// How many tokens the parser leaves.
+#[tactic(auto, using(elan_grammar::proofs::GrammarLaws::left_err, elan_grammar::proofs::GrammarLaws::left_ok))]
+pub fn left(alloc: Global, tokens: &[Token], packet: bool) -> Result<usize, NoMemory>
+    ensures { IfOk result (λ n. n ≡ left packet tokens.now) }
+{
+    let mut cursor = Cursor { rest: tokens };
+    match text(alloc, &mut cursor, packet) {
+        Ok(_) => Ok(cursor.rest.len()),
+        Err(ParseError::NotElan(left)) => Ok(left),
+        Err(ParseError::NoMemory) => Err(NoMemory),
+    }
 }

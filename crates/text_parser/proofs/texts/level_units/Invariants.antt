@@ -4,11 +4,11 @@ use Rattle.elan_grammar.specs.Rule.{steps_run, further}
 use Rattle.elan_grammar.specs.Kinds.{is_sign}
 use Rattle.elan_grammar.specs.Terminals.{mark}
 use Rattle.elan_grammar.specs.Grammar as grammar
-use Rattle.elan_grammar.specs.Depth.{level_units_depth}
-use Rattle.elan_parser.proofs.texts.level_units.Given as goal
+use Rattle.elan_grammar.specs.Depth.{level_unit_depth, deepest_of}
+use Rattle.text_parser.proofs.texts.level_units.Given as goal
 
 abbrev pub invariant-loop-turn : goal.invariant-loop-turn
 invariant-loop-turn l =
     ((grammar.level_units 400 399).run l.fn.cursor.rest.now
     ≡ steps_run (further (mark sign.Semicolon) (grammar.level_unit 400 399)) (is_sign sign.Semicolon) (l._turn-end - l._turn) l.row.tree l.cursor.rest.now)
-    × (l.row.height ≡ level_units_depth l.row.tree) × (l.row.height ≤ 400)
+    × (l.row.height ≡ deepest_of level_unit_depth l.row.tree) × (l.row.height ≤ 400)

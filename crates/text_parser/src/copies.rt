@@ -66,7 +66,7 @@ fn a_name(alloc: Global) -> Result<Token, NoMemory>
 
 /// A front, and what stands behind it.
 #[tactic(auto, using(crate::proofs::Fronts::none_behind, crate::proofs::Fronts::two_behind))]
-pub(crate) fn continued(
+pub fn continued(
     alloc: Global,
     front: &[Token],
     behind: Continuation,

@@ -4,11 +4,11 @@ use Rattle.elan_grammar.specs.Rule.{steps_run, further}
 use Rattle.elan_grammar.specs.Kinds.{leads}
 use Rattle.elan_grammar.specs.Terminals.{mark}
 use Rattle.elan_grammar.specs.Grammar as grammar
-use Rattle.elan_grammar.specs.Depth.{refinements_depth}
-use Rattle.elan_parser.proofs.bodies.refinement_list.Given as goal
+use Rattle.elan_grammar.specs.Depth.{refinement_depth, deepest_of}
+use Rattle.text_parser.proofs.bodies.refinement_list.Given as goal
 
 abbrev pub invariant-loop-turn : goal.invariant-loop-turn
 invariant-loop-turn l =
     ((grammar.refinement_list l.depth).run l.fn.cursor.rest.now
     ≡ steps_run (further (mark sign.Point) (grammar.refinement l.depth)) (leads) (l._turn-end - l._turn) l.row.tree l.cursor.rest.now)
-    × (l.row.height ≡ refinements_depth l.row.tree) × (l.row.height ≤ l.depth)
+    × (l.row.height ≡ deepest_of refinement_depth l.row.tree) × (l.row.height ≤ l.depth)

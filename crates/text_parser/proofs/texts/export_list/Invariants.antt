@@ -4,7 +4,7 @@ use Rattle.elan_grammar.specs.Rule.{steps_run, further}
 use Rattle.elan_grammar.specs.Kinds.{is_comma}
 use Rattle.elan_grammar.specs.Terminals.{word, mark, export_of}
 use Rattle.elan_grammar.specs.Grammar as grammar
-use Rattle.elan_parser.proofs.texts.export_list.Given as goal
+use Rattle.text_parser.proofs.texts.export_list.Given as goal
 
 abbrev pub invariant-loop-turn : goal.invariant-loop-turn
 invariant-loop-turn l =

@@ -1,0 +1,245 @@
+//! What stands beside operators: calls, brackets, choices, and what selects in them.
+
+ghost use Rattle.std.specs.Prelude.{◌≡◌, ◌<◌, ◌+◌, max, IfOk};
+ghost use Rattle.elan_grammar.specs.Rule.{Gives, Parses, AtMost, Below, IsTall};
+ghost use Rattle.elan_grammar.specs.Expressions as spec;
+ghost use Rattle.elan_grammar.specs.Units as units;
+ghost use Rattle.form_parser.specs.Nests.{Nests};
+ghost use Rattle.elan_grammar.specs.Depth.{expr_depth, deepest_of};
+
+use crate::expressions::{Grammar, expr_place};
+use containers::{Boxed, List};
+use elan_cursor::Cursor;
+use elan_cursor::kind::{WORD_LEVEL, is_comma, is_key, is_literal, is_sign, lengthens};
+use elan_grammar::ParseError;
+use elan_grammar::tall::{Tall, and, single, with_next};
+use elan_tree::{Expr, Key, Name, Sign, Unit};
+use std::alloc::Global;
+
+impl<
+    E: Fn(Global, &mut Cursor<'_>, u16, u8) -> Result<Tall<Expr>, ParseError> + Copy,
+    U: Fn(Global, &mut Cursor<'_>, u16) -> Result<Tall<List<Unit>>, ParseError> + Copy,
+> Grammar<E, U> {
+    #[tactic(auto, unfolding(elan_grammar::specs::Expressions::bracket))]
+    fn bracket(&self, cursor: &mut Cursor<'_>) -> Result<Tall<Expr>, ParseError>
+        requires { Nests self.now.depth (E.pre self.now.expression) (E.post self.now.expression) (U.pre self.now.units) (U.post self.now.units) }
+        ensures { Parses (spec.bracket (units.phrases self.now.depth) self.now.depth) expr_depth (AtMost self.now.depth)
+            cursor.old.rest.now result cursor.new.rest.now }
+    {
+        cursor.below(0, self.depth)?;
+        let at = cursor.mark(Sign::LeftRound)?;
+        let a = self.inner(cursor, WORD_LEVEL)?;
+        let inner = Boxed::new(self.alloc, a.tree)?;
+        cursor.mark(Sign::RightRound)?;
+        Ok(Tall {
+            tree: Expr::Bracket(at, inner),
+            height: a.height + 1,
+        })
+    }
+
+    #[tactic(auto, unfolding(elan_grammar::specs::Expressions::concr))]
+    fn concr(&self, cursor: &mut Cursor<'_>) -> Result<Tall<Expr>, ParseError>
+        requires { Nests self.now.depth (E.pre self.now.expression) (E.post self.now.expression) (U.pre self.now.units) (U.post self.now.units) }
+        ensures { Parses (spec.concr (units.phrases self.now.depth) self.now.depth) expr_depth (AtMost self.now.depth)
+            cursor.old.rest.now result cursor.new.rest.now }
+    {
+        cursor.below(0, self.depth)?;
+        let at = cursor.keyword(Key::Concr)?;
+        cursor.mark(Sign::LeftRound)?;
+        let a = self.inner(cursor, WORD_LEVEL)?;
+        let inner = Boxed::new(self.alloc, a.tree)?;
+        cursor.mark(Sign::RightRound)?;
+        Ok(Tall {
+            tree: Expr::Concr(at, inner),
+            height: a.height + 1,
+        })
+    }
+
+    #[tactic(auto, unfolding(elan_grammar::specs::Expressions::procedure))]
+    fn procedure(&self, cursor: &mut Cursor<'_>) -> Result<Expr, ParseError>
+        ensures { Gives ((spec.procedure (units.phrases self.now.depth) self.now.depth).run cursor.old.rest.now) result cursor.new.rest.now }
+    {
+        let at = cursor.keyword(Key::Proc)?;
+        let name = cursor.ident(self.alloc)?;
+        Ok(Expr::Procedure(at, name))
+    }
+
+    #[tactic(auto, unfolding(elan_grammar::specs::Expressions::actual, elan_grammar::specs::Expressions::procedure))]
+    fn actual(&self, cursor: &mut Cursor<'_>) -> Result<Tall<Expr>, ParseError>
+        requires nests { Nests self.now.depth (E.pre self.now.expression) (E.post self.now.expression) (U.pre self.now.units) (U.post self.now.units) }
+        requires room { 0 < self.now.depth }
+        ensures { Parses (spec.actual (units.phrases self.now.depth) self.now.depth) expr_depth (Below self.now.depth)
+            cursor.old.rest.now result cursor.new.rest.now }
+    {
+        if cursor.sees_key(Key::Proc) {
+            let tree = self.procedure(cursor)?;
+            return Ok(Tall { tree, height: 0 });
+        }
+        self.inner(cursor, WORD_LEVEL)
+    }
+
+    #[tactic(auto, unfolding(elan_grammar::specs::Expressions::actuals), using(elan_grammar::proofs::Turns::turns, elan_grammar::proofs::Deepest::deepens))]
+    fn actuals(&self, cursor: &mut Cursor<'_>) -> Result<Tall<List<Expr>>, ParseError>
+        requires nests { Nests self.now.depth (E.pre self.now.expression) (E.post self.now.expression) (U.pre self.now.units) (U.post self.now.units) }
+        requires room { 0 < self.now.depth }
+        ensures { Parses (spec.actuals (units.phrases self.now.depth) self.now.depth) (deepest_of expr_depth) (Below self.now.depth)
+            cursor.old.rest.now result cursor.new.rest.now }
+    {
+        let mut row = single(self.alloc, self.actual(cursor))?;
+        for _turn in 0..cursor.rest.len() {
+            if !is_comma(cursor.ahead()) {
+                return Ok(row);
+            }
+            let (items, _) = and(row, cursor.mark(Sign::Comma))?;
+            row = with_next(items, self.actual(cursor))?;
+        }
+        Ok(row)
+    }
+
+    #[tactic(auto, unfolding(elan_grammar::specs::Expressions::call))]
+    fn call(&self, cursor: &mut Cursor<'_>, name: Name) -> Result<Tall<Expr>, ParseError>
+        requires { Nests self.now.depth (E.pre self.now.expression) (E.post self.now.expression) (U.pre self.now.units) (U.post self.now.units) }
+        ensures { Parses (spec.call (units.phrases self.now.depth) self.now.depth name) expr_depth (AtMost self.now.depth)
+            cursor.old.rest.now result cursor.new.rest.now }
+    {
+        cursor.below(0, self.depth)?;
+        cursor.mark(Sign::LeftRound)?;
+        let row = self.actuals(cursor)?;
+        let (row, _) = and(row, cursor.mark(Sign::RightRound))?;
+        let tree = Expr::Call(name, row.tree);
+        Ok(Tall {
+            tree,
+            height: row.height + 1,
+        })
+    }
+
+    #[tactic(auto, unfolding(elan_grammar::specs::Expressions::named))]
+    fn named(&self, cursor: &mut Cursor<'_>) -> Result<Tall<Expr>, ParseError>
+        requires { Nests self.now.depth (E.pre self.now.expression) (E.post self.now.expression) (U.pre self.now.units) (U.post self.now.units) }
+        ensures { Parses (spec.named (units.phrases self.now.depth) self.now.depth) expr_depth (AtMost self.now.depth)
+            cursor.old.rest.now result cursor.new.rest.now }
+    {
+        let name = cursor.ident(self.alloc)?;
+        if cursor.sees_sign(Sign::LeftRound) {
+            return self.call(cursor, name);
+        }
+        Ok(Tall {
+            tree: Expr::Named(name),
+            height: 0,
+        })
+    }
+
+    #[tactic(auto, unfolding(elan_grammar::specs::Expressions::head))]
+    fn head(&self, cursor: &mut Cursor<'_>) -> Result<Tall<Expr>, ParseError>
+        requires { Nests self.now.depth (E.pre self.now.expression) (E.post self.now.expression) (U.pre self.now.units) (U.post self.now.units) }
+        ensures { Parses (spec.head (units.phrases self.now.depth) self.now.depth) expr_depth (AtMost self.now.depth)
+            cursor.old.rest.now result cursor.new.rest.now }
+    {
+        let kind = cursor.ahead();
+        if is_literal(kind) {
+            let tree = cursor.literal(self.alloc)?;
+            Ok(Tall { tree, height: 0 })
+        } else if is_sign(Sign::LeftRound, kind) {
+            self.bracket(cursor)
+        } else if is_key(Key::Concr, kind) {
+            self.concr(cursor)
+        } else if is_key(Key::If, kind) {
+            self.forms().choice(cursor)
+        } else if is_key(Key::Select, kind) {
+            self.forms().selection(cursor)
+        } else {
+            self.named(cursor)
+        }
+    }
+
+    #[tactic(auto, unfolding(elan_grammar::specs::Expressions::index_part))]
+    fn index_part(&self, cursor: &mut Cursor<'_>, height: u32) -> Result<Tall<Expr>, ParseError>
+        requires { Nests self.now.depth (E.pre self.now.expression) (E.post self.now.expression) (U.pre self.now.units) (U.post self.now.units) }
+        ensures parses { Parses (spec.index_part (units.phrases self.now.depth) self.now.depth height) expr_depth (Below self.now.depth)
+            cursor.old.rest.now result cursor.new.rest.now }
+        ensures below { IfOk result (λ _. height < self.now.depth) }
+    {
+        cursor.below(height, self.depth)?;
+        cursor.mark(Sign::LeftSquare)?;
+        let index = self.inner(cursor, WORD_LEVEL)?;
+        let (index, _) = and(index, cursor.mark(Sign::RightSquare))?;
+        Ok(index)
+    }
+
+    #[tactic(auto, unfolding(elan_grammar::specs::Expressions::index))]
+    fn index(&self, cursor: &mut Cursor<'_>, of: Tall<Expr>) -> Result<Tall<Expr>, ParseError>
+        requires nests { Nests self.now.depth (E.pre self.now.expression) (E.post self.now.expression) (U.pre self.now.units) (U.post self.now.units) }
+        requires tall { of.height ≡ expr_depth of.tree }
+        ensures { Parses (spec.index (units.phrases self.now.depth) self.now.depth of.tree) expr_depth (AtMost self.now.depth)
+            cursor.old.rest.now result cursor.new.rest.now }
+    {
+        let at = expr_place(&of.tree);
+        let height = of.height;
+        let of = Boxed::new(self.alloc, of.tree)?;
+        let (of, index) = and(of, self.index_part(cursor, height))?;
+        let height = height.max(index.height) + 1;
+        let index = Boxed::new(self.alloc, index.tree)?;
+        Ok(Tall {
+            tree: Expr::Index { at, of, index },
+            height,
+        })
+    }
+
+    #[tactic(auto, unfolding(elan_grammar::specs::Expressions::field_part))]
+    fn field_part(&self, cursor: &mut Cursor<'_>, height: u32) -> Result<Name, ParseError>
+        ensures parses { Gives ((spec.field_part (units.phrases self.now.depth) self.now.depth height).run cursor.old.rest.now) result cursor.new.rest.now }
+        ensures below { IfOk result (λ _. height < self.now.depth) }
+    {
+        cursor.below(height, self.depth)?;
+        cursor.mark(Sign::Point)?;
+        cursor.ident(self.alloc)
+    }
+
+    #[tactic(auto, unfolding(elan_grammar::specs::Expressions::field_of))]
+    fn field_of(&self, cursor: &mut Cursor<'_>, of: Tall<Expr>) -> Result<Tall<Expr>, ParseError>
+        requires nests { Nests self.now.depth (E.pre self.now.expression) (E.post self.now.expression) (U.pre self.now.units) (U.post self.now.units) }
+        requires tall { of.height ≡ expr_depth of.tree }
+        ensures { Parses (spec.field_of (units.phrases self.now.depth) self.now.depth of.tree) expr_depth (AtMost self.now.depth)
+            cursor.old.rest.now result cursor.new.rest.now }
+    {
+        let height = of.height;
+        let at = expr_place(&of.tree);
+        let of = Boxed::new(self.alloc, of.tree)?;
+        let (of, field) = and(of, self.field_part(cursor, height))?;
+        Ok(Tall {
+            tree: Expr::Field { at, of, field },
+            height: height + 1,
+        })
+    }
+
+    #[tactic(auto, unfolding(elan_grammar::specs::Expressions::longer))]
+    fn longer(&self, cursor: &mut Cursor<'_>, of: Tall<Expr>) -> Result<Tall<Expr>, ParseError>
+        requires nests { Nests self.now.depth (E.pre self.now.expression) (E.post self.now.expression) (U.pre self.now.units) (U.post self.now.units) }
+        requires tall { of.height ≡ expr_depth of.tree }
+        ensures { Parses (spec.longer (units.phrases self.now.depth) self.now.depth of.tree) expr_depth (AtMost self.now.depth)
+            cursor.old.rest.now result cursor.new.rest.now }
+    {
+        if cursor.sees_sign(Sign::LeftSquare) {
+            self.index(cursor, of)
+        } else {
+            self.field_of(cursor, of)
+        }
+    }
+
+    /// What no operator takes apart, with the indices and fields behind it.
+    #[tactic(auto, unfolding(elan_grammar::specs::Expressions::prim), using(elan_grammar::proofs::Turns::turns))]
+    pub fn prim(&self, cursor: &mut Cursor<'_>) -> Result<Tall<Expr>, ParseError>
+        requires { Nests self.now.depth (E.pre self.now.expression) (E.post self.now.expression) (U.pre self.now.units) (U.post self.now.units) }
+        ensures { Parses (spec.prim (units.phrases self.now.depth) self.now.depth) expr_depth (AtMost self.now.depth)
+            cursor.old.rest.now result cursor.new.rest.now }
+    {
+        let mut of = self.head(cursor)?;
+        for _turn in 0..cursor.rest.len() {
+            if !lengthens(cursor.ahead()) {
+                return Ok(of);
+            }
+            of = self.longer(cursor, of)?;
+        }
+        Ok(of)
+    }
+}
