@@ -1,5 +1,5 @@
 -- The refinements that phrases call, as they are found in the tree.
-use Rattle.std.proofs.Common.{◌≡◌, ℤ, ℕ, List, [], ◌∷◌, ◌++◌, map, Option, Some, None, refl, sym, ap, ◌∙◌}
+use Rattle.std.proofs.Common.{◌≡◌, ℤ, ℕ, List, [], ◌∷◌, ◌++◌, map, Option, Some, None, refl, sym, ap, ◌∙◌, append_assoc}
 use Rattle.elan_tree.specs.declared.written_type.Name.{Name}
 use Rattle.elan_tree.specs.declared.written_type.Label.{Label}
 use Rattle.elan_tree.specs.declared.written_type.Label.TheVariants as label
@@ -12,7 +12,9 @@ use Rattle.elan_tree.specs.declared.phrase.Item.{Item}
 use Rattle.elan_tree.specs.declared.phrase.Unit.{Unit as Statement}
 use Rattle.elan_tree.specs.declared.phrase.Expr.TheOpen as t
 use Rattle.elan_tree.specs.declared.phrase.Expr.TheOpen.{Expr-F, Limit-F, Unit-F, Branch-F, Case-F, Counter-F, Item-F}
-use Rattle.elan_tree.specs.declared.phrase.Expr.TheFolds.{ind-Unit, map-Expr, map-Limit, map-Unit, map-Branch, map-Case, map-Counter, map-Item, fold-roll-Expr, fold-roll-Limit, fold-roll-Unit, fold-roll-Branch, fold-roll-Case, fold-roll-Counter, fold-roll-Item}
+use Rattle.elan_tree.specs.declared.phrase.Expr.TheFolds.{ind-Unit, map-Expr, map-Limit, map-Unit, map-Branch, map-Case, map-Counter, map-Item}
+use Rattle.elan_tree.specs.declared.phrase.Expr.TheFolds.{fold-roll-Expr, fold-roll-Limit, fold-roll-Unit, fold-roll-Branch, fold-roll-Case}
+use Rattle.elan_tree.specs.declared.phrase.Expr.TheFolds.{fold-roll-Counter, fold-roll-Item}
 use Rattle.elan_scope.specs.declared.delivery.Delivery.{Delivery}
 use Rattle.elan_scope.specs.declared.delivery.Delivery.TheVariants.{Open, Nothing, Of}
 use Rattle.elan_scope.specs.declared.scope.Scope.{Scope}
@@ -21,7 +23,12 @@ use Rattle.elan_scope.specs.Phrase as form
 use Rattle.elan_scope.specs.Phrase.{Form, Phrase, phrase, Parts, none, part, all_of, around}
 use Rattle.elan_rules.specs.Meaning.{phrases, phrases_of}
 use Rattle.elan_judge.specs.Shape as shape
-use Rattle.elan_levels.specs.Uses as uses
+use Rattle.elan_tree.specs.declared.written_type.TypePhrase.{TypePhrase}
+use Rattle.elan_walk.specs.declared.node.Held.{Held}
+use Rattle.elan_walk.specs.declared.node.Held.TheVariants as held
+use Rattle.elan_walk.specs.Nodes as nodes
+use Rattle.elan_walk.specs.Nodes.{Node, sign}
+use Rattle.elan_levels.specs.walks.Uses as uses
 use Rattle.elan_check.specs.Refinements.{called_by, called_by_all, called_in}
 
 -- ---- lists
@@ -81,19 +88,33 @@ two_call : (f : Form) (p q : Phrase) (xs ys : List ℕ) → called_by (phrase f 
 two_call f p q xs ys h e g = whole f (part p (part q none)) h ∙ two_parts p q ∙ both (called_in p) xs (called_in q) ys e g
 
 module _ (s : Scope) where
+  abbrev found : List Node → List ℕ
+  found ns = uses.all_called s ns
+
+  split : (xs ys : List ℕ) (ms ns : List Node) → xs ≡ found ms → ys ≡ found ns → xs ++ ys ≡ found (ms ++ ns)
+  split xs ys ms ns e g = both xs (found ms) ys (found ns) e g ∙ sym (found_append ms)
+    where
+      found_append : (ms : List Node) → found (ms ++ ns) ≡ found ms ++ found ns
+      found_append [] = refl
+      found_append (m ∷ ms) = ap (λ (l : List ℕ). uses.called s m ++ l) (found_append ms) ∙ sym (assoc (uses.called s m) (found ms) (found ns))
+
+  two_found : (f : Form) (p q : Phrase) (ms ns : List Node) → called_by (phrase f (part p (part q none))) ≡ [] → called_in p ≡ found ms → called_in q ≡ found ns
+      → called_in (phrase f (part p (part q none))) ≡ found (ms ++ ns)
+  two_found f p q ms ns h e g = two_call f p q (called_in p) (called_in q) h refl refl ∙ split (called_in p) (called_in q) ms ns e g
+
   -- what the phrase of a unit calls, if it has one
   abbrev unit_calls_of : Option Phrase → List ℕ
   unit_calls_of None = []
   unit_calls_of (Some p) = called_in p
 
   abbrev E : Expr → Type 0
-  E e = called_in (shape.expr s e) ≡ uses.in_expr s e
+  E e = called_in (shape.expr s e) ≡ found (nodes.in_expr e)
 
   abbrev L : Limit → Type 0
-  L l = called_in (shape.limit s l).1 ≡ uses.in_limit s l
+  L l = called_in (shape.limit s l).1 ≡ found (nodes.in_limit l)
 
   abbrev U : Statement → Type 0
-  U u = unit_calls_of (shape.unit s u) ≡ uses.in_unit s u
+  U u = unit_calls_of (shape.unit s u) ≡ found (nodes.in_unit u)
 
   abbrev pair_calls : Phrase × Phrase → List ℕ
   pair_calls p = called_in p.0 ++ called_in p.1
@@ -101,50 +122,47 @@ module _ (s : Scope) where
   abbrev counter_calls_of : shape.Counted → List ℕ
   counter_calls_of k = called_in k.1 ++ called_in k.2
 
-  abbrev may_calls : Option shape.Counted → List ℕ
-  may_calls None = []
-  may_calls (Some k) = counter_calls_of k
-
   abbrev B : Branch → Type 0
-  B b = pair_calls (shape.branch s b) ≡ uses.in_branch s b
+  B b = pair_calls (shape.branch s b) ≡ found (nodes.in_branch b)
 
   abbrev C : Case → Type 0
-  C c = called_in (shape.case s c).1 ≡ uses.in_case s c
+  C c = called_in (shape.case s c).1 ≡ found (nodes.in_case c)
 
-  abbrev CounterCalls : shape.Counted → List ℕ → Type 0
-  CounterCalls k ns = (called_in k.0 ≡ []) × (counter_calls_of k ≡ ns)
+  abbrev CounterCalls : shape.Counted → List Node → Type 0
+  CounterCalls k ns = (called_in k.0 ≡ []) × (counter_calls_of k ≡ found ns)
 
   abbrev K : Counter → Type 0
-  K k = CounterCalls (shape.counter s k) (uses.in_counter s k)
+  K k = CounterCalls (shape.counter s k) (nodes.in_counter k)
 
   abbrev I : Item → Type 0
-  I i = called_in (shape.item s i) ≡ uses.in_item s i
+  I i = (h : Held) (of : TypePhrase) → called_in (shape.item s i) ≡ found (nodes.in_item i h of)
 
   -- ---- rows
 
-  exprs_call : (es : List ((e : Expr) × E e)) → calls (all_of (map (shape.expr s) (map fst es))) ≡ uses.all (map (uses.in_expr s) (map fst es))
+  exprs_call : (es : List ((e : Expr) × E e)) → calls (all_of (map (shape.expr s) (map fst es))) ≡ found (nodes.all (map nodes.in_expr (map fst es)))
   exprs_call [] = refl
   exprs_call (e ∷ es) =
       first_part (shape.expr s e.0) (all_of (map (shape.expr s) (map fst es)))
-      ∙ both (called_in (shape.expr s e.0)) (uses.in_expr s e.0) (calls (all_of (map (shape.expr s) (map fst es)))) _ e.1 (exprs_call es)
+      ∙ split (called_in (shape.expr s e.0)) (calls (all_of (map (shape.expr s) (map fst es)))) (nodes.in_expr e.0) _ e.1 (exprs_call es)
 
   guarded_calls : (p q : Phrase) (ps : Parts) → calls (part p (part q ps)) ≡ pair_calls (p, q) ++ calls ps
   guarded_calls p q ps =
       first_part p (part q ps) ∙ ap (λ (ns : List ℕ). called_in p ++ ns) (first_part q ps) ∙ sym (assoc (called_in p) (called_in q) (calls ps))
 
   branches_call : (bs : List ((b : Branch) × B b))
-      → calls (all_of (shape.branches (map (shape.branch s) (map fst bs)))) ≡ uses.all (map (uses.in_branch s) (map fst bs))
+      → calls (all_of (shape.branches (map (shape.branch s) (map fst bs)))) ≡ found (nodes.all (map nodes.in_branch (map fst bs)))
   branches_call [] = refl
   branches_call (b ∷ bs) =
       let p = shape.branch s b.0 in
       let rest = all_of (shape.branches (map (shape.branch s) (map fst bs))) in
-      guarded_calls p.0 p.1 rest ∙ both (pair_calls p) (uses.in_branch s b.0) (calls rest) _ b.1 (branches_call bs)
+      guarded_calls p.0 p.1 rest ∙ split (pair_calls p) (calls rest) (nodes.in_branch b.0) _ b.1 (branches_call bs)
 
-  items_call : (is : List ((i : Item) × I i)) → calls (all_of (map (shape.item s) (map fst is))) ≡ uses.all (map (uses.in_item s) (map fst is))
-  items_call [] = refl
-  items_call (i ∷ is) =
-      first_part (shape.item s i.0) (all_of (map (shape.item s) (map fst is)))
-      ∙ both (called_in (shape.item s i.0)) (uses.in_item s i.0) (calls (all_of (map (shape.item s) (map fst is)))) _ i.1 (items_call is)
+  items_call : (h : Held) (of : TypePhrase) (is : List ((i : Item) × I i))
+      → calls (all_of (map (shape.item s) (map fst is))) ≡ found (nodes.all_items h of (map nodes.in_item (map fst is)))
+  items_call h of [] = refl
+  items_call h of (i ∷ is) =
+      let rest = all_of (map (shape.item s) (map fst is)) in
+      first_part (shape.item s i.0) rest ∙ split (called_in (shape.item s i.0)) (calls rest) (nodes.in_item i.0 h of) _ (i.1 h of) (items_call h of is)
 
   role_calls : (d : Delivery) (p : Phrase) → called_in (shape.role d p) ≡ called_in p
   role_calls Open p = refl
@@ -164,14 +182,15 @@ module _ (s : Scope) where
   filled_call None us = refl
   filled_call (Some p) us = first_part p (all_of (shape.filled us))
 
-  us_call : (us : List ((u : Statement) × U u)) → calls (all_of (shape.filled (map (shape.unit s) (map fst us)))) ≡ uses.all (map (uses.in_unit s) (map fst us))
+  us_call : (us : List ((u : Statement) × U u))
+      → calls (all_of (shape.filled (map (shape.unit s) (map fst us)))) ≡ found (nodes.all (map nodes.in_unit (map fst us)))
   us_call [] = refl
   us_call (u ∷ us) =
       let rest = map (shape.unit s) (map fst us) in
-      filled_call (shape.unit s u.0) rest ∙ both (unit_calls_of (shape.unit s u.0)) (uses.in_unit s u.0) (calls (all_of (shape.filled rest))) _ u.1 (us_call us)
+      filled_call (shape.unit s u.0) rest ∙ split (unit_calls_of (shape.unit s u.0)) (calls (all_of (shape.filled rest))) (nodes.in_unit u.0) _ u.1 (us_call us)
 
   units_call : (d : Delivery) (us : List ((u : Statement) × U u))
-      → called_in (shape.units d (map (shape.unit s) (map fst us))) ≡ uses.all (map (uses.in_unit s) (map fst us))
+      → called_in (shape.units d (map (shape.unit s) (map fst us))) ≡ found (nodes.all (map nodes.in_unit (map fst us)))
   units_call d us =
       let ps = shape.filled (map (shape.unit s) (map fst us)) in
       whole form.units (all_of (shape.roles d ps)) refl ∙ roles_call d ps ∙ us_call us
@@ -182,7 +201,7 @@ module _ (s : Scope) where
   labels_call ns (label.Named n ∷ ls) = labels_call (ns ++ []) ls
 
   arms_call : (ns : List ℤ) (cs : List ((c : Case) × C c))
-      → calls (all_of (shape.arms s ns (map (shape.case s) (map fst cs)))) ≡ uses.all (map (uses.in_case s) (map fst cs))
+      → calls (all_of (shape.arms s ns (map (shape.case s) (map fst cs)))) ≡ found (nodes.all (map nodes.in_case (map fst cs)))
   arms_call ns [] = refl
   arms_call ns (c ∷ cs) =
       let ls = (shape.case s c.0).0 in
@@ -190,12 +209,13 @@ module _ (s : Scope) where
       let rest = all_of (shape.arms s (ns ++ shape.numbers ls) (map (shape.case s) (map fst cs))) in
       let none_called : called_in labels ≡ [] = whole form.labels (all_of (shape.label_phrases s ns ls)) refl ∙ labels_call ns ls in
       guarded_calls labels (shape.case s c.0).1 rest
-      ∙ both (called_in labels ++ called_in (shape.case s c.0).1) (uses.in_case s c.0) (calls rest) _
-      (both (called_in labels) [] (called_in (shape.case s c.0).1) (uses.in_case s c.0) none_called c.1) (arms_call (ns ++ shape.numbers ls) cs)
+      ∙ split (called_in labels ++ called_in (shape.case s c.0).1) (calls rest) (nodes.in_case c.0) _
+      (both (called_in labels) [] (called_in (shape.case s c.0).1) (found (nodes.in_case c.0)) none_called c.1) (arms_call (ns ++ shape.numbers ls) cs)
 
   -- a part behind others
-  behind_calls : (ps : List Phrase) (p : Phrase) (xs ys : List ℕ) → calls (all_of ps) ≡ xs → called_in p ≡ ys → calls (all_of (ps ++ p ∷ [])) ≡ xs ++ ys
-  behind_calls ps p xs ys e h = append_parts ps (p ∷ []) ∙ both (calls (all_of ps)) xs (calls (all_of (p ∷ []))) ys e (one_part p ∙ h)
+  behind_calls : (ps : List Phrase) (p : Phrase) (ms ns : List Node) → calls (all_of ps) ≡ found ms → called_in p ≡ found ns
+      → calls (all_of (ps ++ p ∷ [])) ≡ found (ms ++ ns)
+  behind_calls ps p ms ns e h = append_parts ps (p ∷ []) ∙ split (calls (all_of ps)) (calls (all_of (p ∷ []))) ms ns e (one_part p ∙ h)
 
   -- ---- one layer
 
@@ -205,110 +225,120 @@ module _ (s : Scope) where
   abbrev absent : Phrase
   absent = form.leaf form.absent
 
+  selected : (at : ℕ) (of : (e : Expr) × E e) (rest : Parts) (ms ns : List Node) → calls rest ≡ found (ms ++ ns)
+      → called_in (phrase (form.selection at) (part (shape.expr s of.0) rest)) ≡ found (nodes.in_expr of.0 ++ ms ++ ns)
+  selected at of rest ms ns h =
+      whole (form.selection at) (part (shape.expr s of.0) rest) refl ∙ first_part (shape.expr s of.0) rest
+      ∙ split (called_in (shape.expr s of.0)) (calls rest) (nodes.in_expr of.0) (ms ++ ns) of.1 h
+      ∙ ap found (sym (append_assoc (nodes.in_expr of.0) ms ns))
+
   expr_calls : (y : Below Expr-F)
       → called_in (shape.expr_step s
       (map-Expr _ _ _ _ _ _ _ _ _ _ _ _ _ _ (shape.expr s) (shape.limit s) (shape.unit s) (shape.branch s) (shape.case s) (shape.counter s) (shape.item s)
       (map-Expr _ _ _ _ _ _ _ _ _ _ _ _ _ _ fst fst fst fst fst fst fst y)))
-      ≡ uses.expr_step s (map-Expr _ _ _ _ _ _ _ _ _ _ _ _ _ _ (uses.in_expr s) (uses.in_limit s) (uses.in_unit s) (uses.in_branch s) (uses.in_case s)
-      (uses.in_counter s) (uses.in_item s) (map-Expr _ _ _ _ _ _ _ _ _ _ _ _ _ _ fst fst fst fst fst fst fst y))
+      ≡ found (nodes.expr_step
+      (map-Expr _ _ _ _ _ _ _ _ _ _ _ _ _ _ nodes.in_expr nodes.in_limit nodes.in_unit nodes.in_branch nodes.in_case nodes.in_counter nodes.in_item
+      (map-Expr _ _ _ _ _ _ _ _ _ _ _ _ _ _ fst fst fst fst fst fst fst y)))
   expr_calls (t.Number at n) = refl
   expr_calls (t.Text at x) = refl
   expr_calls (t.Truth at b) = refl
-  expr_calls (t.Named n) = nil (uses.in_name s n)
+  expr_calls (t.Named n) = refl
   expr_calls (t.Call n actuals) = whole _ (all_of (map (shape.expr s) (map fst actuals))) refl ∙ exprs_call actuals
   expr_calls (t.Procedure at n) = refl
   expr_calls (t.Concr at a) = refl
   expr_calls (t.Bracket at a) = one_calls (form.bracket at) (shape.expr s a.0) refl ∙ a.1
   expr_calls (t.If at branches None) =
       let ps = shape.branches (map (shape.branch s) (map fst branches)) in
-      whole (form.choice at) (all_of (ps ++ absent ∷ [])) refl ∙ behind_calls ps absent _ [] (branches_call branches) refl
+      whole (form.choice at) (all_of (ps ++ absent ∷ [])) refl
+      ∙ behind_calls ps absent (nodes.all (map nodes.in_branch (map fst branches))) [] (branches_call branches) refl
   expr_calls (t.If at branches (Some us)) =
       let ps = shape.branches (map (shape.branch s) (map fst branches)) in
       let p = shape.units Open (map (shape.unit s) (map fst us)) in
-      whole (form.choice at) (all_of (ps ++ p ∷ [])) refl ∙ behind_calls ps p _ _ (branches_call branches) (units_call Open us)
+      whole (form.choice at) (all_of (ps ++ p ∷ [])) refl
+      ∙ behind_calls ps p (nodes.all (map nodes.in_branch (map fst branches))) (nodes.all (map nodes.in_unit (map fst us))) (branches_call branches)
+      (units_call Open us)
   expr_calls (t.Select at of cases None) =
       let ps = shape.arms s [] (map (shape.case s) (map fst cases)) in
       let rest = all_of (ps ++ absent ∷ []) in
-      whole (form.selection at) (part (shape.expr s of.0) rest) refl ∙ first_part (shape.expr s of.0) rest
-      ∙ both (called_in (shape.expr s of.0)) (uses.in_expr s of.0) (calls rest) _ of.1 (behind_calls ps absent _ [] (arms_call [] cases) refl)
-      ∙ sym (assoc (uses.in_expr s of.0) _ [])
+      let inside = nodes.all (map nodes.in_case (map fst cases)) in
+      selected at of rest inside [] (behind_calls ps absent inside [] (arms_call [] cases) refl)
   expr_calls (t.Select at of cases (Some us)) =
       let ps = shape.arms s [] (map (shape.case s) (map fst cases)) in
       let p = shape.units Open (map (shape.unit s) (map fst us)) in
       let rest = all_of (ps ++ p ∷ []) in
-      whole (form.selection at) (part (shape.expr s of.0) rest) refl ∙ first_part (shape.expr s of.0) rest
-      ∙ both (called_in (shape.expr s of.0)) (uses.in_expr s of.0) (calls rest) _ of.1 (behind_calls ps p _ _ (arms_call [] cases) (units_call Open us))
-      ∙ sym (assoc (uses.in_expr s of.0) _ _)
+      let inside = nodes.all (map nodes.in_case (map fst cases)) in
+      let other = nodes.all (map nodes.in_unit (map fst us)) in
+      selected at of rest inside other (behind_calls ps p inside other (arms_call [] cases) (units_call Open us))
   expr_calls (t.Index at of index) = refl
   expr_calls (t.Field at of field) = refl
   expr_calls (t.Monadic at o a) = one_calls _ (shape.expr s a.0) refl ∙ a.1
-  expr_calls (t.Dyadic at o a b) = two_call _ (shape.expr s a.0) (shape.expr s b.0) (uses.in_expr s a.0) (uses.in_expr s b.0) refl a.1 b.1
-  expr_calls (t.Cand at a b) = two_call (form.cand at) (shape.expr s a.0) (shape.expr s b.0) (uses.in_expr s a.0) (uses.in_expr s b.0) refl a.1 b.1
-  expr_calls (t.Cor at a b) = two_call (form.cor at) (shape.expr s a.0) (shape.expr s b.0) (uses.in_expr s a.0) (uses.in_expr s b.0) refl a.1 b.1
+  expr_calls (t.Dyadic at o a b) = two_found _ (shape.expr s a.0) (shape.expr s b.0) (nodes.in_expr a.0) (sign o ∷ nodes.in_expr b.0) refl a.1 b.1
+  expr_calls (t.Cand at a b) = two_found (form.cand at) (shape.expr s a.0) (shape.expr s b.0) (nodes.in_expr a.0) (nodes.in_expr b.0) refl a.1 b.1
+  expr_calls (t.Cor at a b) = two_found (form.cor at) (shape.expr s a.0) (shape.expr s b.0) (nodes.in_expr a.0) (nodes.in_expr b.0) refl a.1 b.1
 
   limit_calls : (y : Below Limit-F)
       → called_in (shape.limit_step s
       (map-Limit _ _ _ _ _ _ _ _ _ _ _ _ _ _ (shape.expr s) (shape.limit s) (shape.unit s) (shape.branch s) (shape.case s) (shape.counter s) (shape.item s)
       (map-Limit _ _ _ _ _ _ _ _ _ _ _ _ _ _ fst fst fst fst fst fst fst y))).1
-      ≡ uses.limit_step s (map-Limit _ _ _ _ _ _ _ _ _ _ _ _ _ _ (uses.in_expr s) (uses.in_limit s) (uses.in_unit s) (uses.in_branch s) (uses.in_case s)
-      (uses.in_counter s) (uses.in_item s) (map-Limit _ _ _ _ _ _ _ _ _ _ _ _ _ _ fst fst fst fst fst fst fst y))
+      ≡ found (nodes.limit_step
+      (map-Limit _ _ _ _ _ _ _ _ _ _ _ _ _ _ nodes.in_expr nodes.in_limit nodes.in_unit nodes.in_branch nodes.in_case nodes.in_counter nodes.in_item
+      (map-Limit _ _ _ _ _ _ _ _ _ _ _ _ _ _ fst fst fst fst fst fst fst y)))
   limit_calls t.Without = refl
   limit_calls (t.Upto a) = a.1
   limit_calls (t.Downto a) = a.1
 
-  turns_call : (c v : Phrase) (us : List ((u : Statement) × U u)) (ys zs : List ℕ) → called_in c ≡ ys → called_in v ≡ zs →
-      calls (part c (part (shape.units Nothing (map (shape.unit s) (map fst us))) (part v none))) ≡ ys ++ uses.all (map (uses.in_unit s) (map fst us)) ++ zs
-  turns_call c v us ys zs g h =
+  turns_call : (c v : Phrase) (us : List ((u : Statement) × U u)) (ms ns : List Node) → called_in c ≡ found ms → called_in v ≡ found ns →
+      calls (part c (part (shape.units Nothing (map (shape.unit s) (map fst us))) (part v none)))
+      ≡ found (ms ++ nodes.all (map nodes.in_unit (map fst us)) ++ ns)
+  turns_call c v us ms ns g h =
       let body = shape.units Nothing (map (shape.unit s) (map fst us)) in
-      three_parts c body v ∙ both (called_in c ++ called_in body) (ys ++ uses.all (map (uses.in_unit s) (map fst us))) (called_in v) zs
-      (both (called_in c) ys (called_in body) _ g (units_call Nothing us)) h
+      let inside = nodes.all (map nodes.in_unit (map fst us)) in
+      three_parts c body v
+      ∙ split (called_in c ++ called_in body) (called_in v) (ms ++ inside) ns (split (called_in c) (called_in body) ms inside g (units_call Nothing us)) h
 
-  abbrev NameCallsNothing : Option shape.Counted → Type 0
-  NameCallsNothing None = Unit {0}
-  NameCallsNothing (Some k) = called_in k.0 ≡ []
+  loop_calls : (at : ℕ) (c v : Phrase) (us : List ((u : Statement) × U u)) (ms ns : List Node) → called_in c ≡ found ms → called_in v ≡ found ns →
+      called_in (shape.loop at None c (shape.units Nothing (map (shape.unit s) (map fst us))) v)
+      ≡ found (ms ++ nodes.all (map nodes.in_unit (map fst us)) ++ ns)
+  loop_calls at c v us ms ns g h =
+      whole (form.loop at) (part c (part (shape.units Nothing (map (shape.unit s) (map fst us))) (part v none))) refl ∙ turns_call c v us ms ns g h
 
-  loop_calls : (at : ℕ) (k : Option shape.Counted) (c v : Phrase) (us : List ((u : Statement) × U u)) (xs ys zs : List ℕ) → NameCallsNothing k
-      → may_calls k ≡ xs → called_in c ≡ ys → called_in v ≡ zs →
-      called_in (shape.loop at k c (shape.units Nothing (map (shape.unit s) (map fst us))) v) ≡ xs ++ ys ++ uses.all (map (uses.in_unit s) (map fst us)) ++ zs
-  loop_calls at None c v us xs ys zs n e g h =
-      let body = shape.units Nothing (map (shape.unit s) (map fst us)) in
-      let inside = uses.all (map (uses.in_unit s) (map fst us)) in
-      whole (form.loop at) (part c (part body (part v none))) refl ∙ turns_call c v us ys zs g h ∙ ap (λ (ns : List ℕ). ns ++ ys ++ inside ++ zs) e
-  loop_calls at (Some k) c v us xs ys zs n e g h =
-      let body = shape.units Nothing (map (shape.unit s) (map fst us)) in
-      let inside = uses.all (map (uses.in_unit s) (map fst us)) in
-      let turns = part c (part body (part v none)) in
-      whole (form.count at k.3) (part k.0 (part k.1 (part k.2 turns))) refl ∙ first_part k.0 (part k.1 (part k.2 turns))
-      ∙ both (called_in k.0) [] (calls (part k.1 (part k.2 turns))) (counter_calls_of k ++ calls turns) n (guarded_calls k.1 k.2 turns)
-      ∙ both (counter_calls_of k) xs (calls turns) (ys ++ inside ++ zs) e (turns_call c v us ys zs g h)
-      ∙ sym (assoc xs (ys ++ inside) zs) ∙ ap (λ (ns : List ℕ). ns ++ zs) (sym (assoc xs ys inside))
+  count_calls : (at : ℕ) (k : (k : Counter) × K k) (c v : Phrase) (us : List ((u : Statement) × U u)) (ms ns : List Node) → called_in c ≡ found ms
+      → called_in v ≡ found ns →
+      called_in (shape.loop at (Some (shape.counter s k.0)) c (shape.units Nothing (map (shape.unit s) (map fst us))) v)
+      ≡ found (nodes.in_counter k.0 ++ ms ++ nodes.all (map nodes.in_unit (map fst us)) ++ ns)
+  count_calls at k c v us ms ns g h =
+      let d = shape.counter s k.0 in
+      let inside = nodes.all (map nodes.in_unit (map fst us)) in
+      let turns = part c (part (shape.units Nothing (map (shape.unit s) (map fst us))) (part v none)) in
+      let counts = nodes.in_counter k.0 in
+      whole (form.count at d.3) (part d.0 (part d.1 (part d.2 turns))) refl ∙ first_part d.0 (part d.1 (part d.2 turns))
+      ∙ both (called_in d.0) [] (calls (part d.1 (part d.2 turns))) (counter_calls_of d ++ calls turns) k.1.0 (guarded_calls d.1 d.2 turns)
+      ∙ split (counter_calls_of d) (calls turns) counts (ms ++ inside ++ ns) k.1.1 (turns_call c v us ms ns g h)
+      ∙ ap found (sym (append_assoc counts (ms ++ inside) ns) ∙ ap (λ (l : List Node). l ++ ns) (sym (append_assoc counts ms inside)))
 
   unit_calls : (y : Below Unit-F)
       → unit_calls_of (shape.unit_step s
       (map-Unit _ _ _ _ _ _ _ _ _ _ _ _ _ _ (shape.expr s) (shape.limit s) (shape.unit s) (shape.branch s) (shape.case s) (shape.counter s) (shape.item s)
       (map-Unit _ _ _ _ _ _ _ _ _ _ _ _ _ _ fst fst fst fst fst fst fst y)))
-      ≡ uses.unit_step s (map-Unit _ _ _ _ _ _ _ _ _ _ _ _ _ _ (uses.in_expr s) (uses.in_limit s) (uses.in_unit s) (uses.in_branch s) (uses.in_case s)
-      (uses.in_counter s) (uses.in_item s) (map-Unit _ _ _ _ _ _ _ _ _ _ _ _ _ _ fst fst fst fst fst fst fst y))
+      ≡ found (nodes.unit_step
+      (map-Unit _ _ _ _ _ _ _ _ _ _ _ _ _ _ nodes.in_expr nodes.in_limit nodes.in_unit nodes.in_branch nodes.in_case nodes.in_counter nodes.in_item
+      (map-Unit _ _ _ _ _ _ _ _ _ _ _ _ _ _ fst fst fst fst fst fst fst y)))
   unit_calls t.Empty = refl
   unit_calls (t.Let at items) = refl
-  unit_calls (t.Variables at of items) = whole (form.declaration at) (all_of (map (shape.item s) (map fst items))) refl ∙ items_call items
-  unit_calls (t.Constants at of items) = whole (form.declaration at) (all_of (map (shape.item s) (map fst items))) refl ∙ items_call items
+  unit_calls (t.Variables at of items) = whole (form.declaration at) (all_of (map (shape.item s) (map fst items))) refl ∙ items_call held.Variable of items
+  unit_calls (t.Constants at of items) = whole (form.declaration at) (all_of (map (shape.item s) (map fst items))) refl ∙ items_call held.Constant of items
   unit_calls (t.Bound at of items) = refl
   unit_calls (t.Value a) = one_calls form.statement (shape.expr s a.0) refl ∙ a.1
-  unit_calls (t.Becomes at a b) = two_call (form.assignment at s) (shape.expr s a.0) (shape.expr s b.0) (uses.in_expr s a.0) (uses.in_expr s b.0) refl a.1 b.1
-  unit_calls (t.Loop at None None us None) = loop_calls at None absent absent us [] [] [] tt refl refl refl
-  unit_calls (t.Loop at None None us (Some v)) = loop_calls at None absent (shape.expr s v.0) us [] [] (uses.in_expr s v.0) tt refl refl v.1
-  unit_calls (t.Loop at None (Some c) us None) = loop_calls at None (shape.expr s c.0) absent us [] (uses.in_expr s c.0) [] tt refl c.1 refl
-  unit_calls (t.Loop at None (Some c) us (Some v)) =
-      loop_calls at None (shape.expr s c.0) (shape.expr s v.0) us [] (uses.in_expr s c.0) (uses.in_expr s v.0) tt refl c.1 v.1
-  unit_calls (t.Loop at (Some k) None us None) = loop_calls at (Some (shape.counter s k.0)) absent absent us (uses.in_counter s k.0) [] [] k.1.0 k.1.1 refl refl
-  unit_calls (t.Loop at (Some k) None us (Some v)) =
-      loop_calls at (Some (shape.counter s k.0)) absent (shape.expr s v.0) us (uses.in_counter s k.0) [] (uses.in_expr s v.0) k.1.0 k.1.1 refl v.1
-  unit_calls (t.Loop at (Some k) (Some c) us None) =
-      loop_calls at (Some (shape.counter s k.0)) (shape.expr s c.0) absent us (uses.in_counter s k.0) (uses.in_expr s c.0) [] k.1.0 k.1.1 c.1 refl
+  unit_calls (t.Becomes at a b) = two_found (form.assignment at s) (shape.expr s a.0) (shape.expr s b.0) (nodes.in_expr a.0) (nodes.in_expr b.0) refl a.1 b.1
+  unit_calls (t.Loop at None None us None) = loop_calls at absent absent us [] [] refl refl
+  unit_calls (t.Loop at None None us (Some v)) = loop_calls at absent (shape.expr s v.0) us [] (nodes.in_expr v.0) refl v.1
+  unit_calls (t.Loop at None (Some c) us None) = loop_calls at (shape.expr s c.0) absent us (nodes.in_expr c.0) [] c.1 refl
+  unit_calls (t.Loop at None (Some c) us (Some v)) = loop_calls at (shape.expr s c.0) (shape.expr s v.0) us (nodes.in_expr c.0) (nodes.in_expr v.0) c.1 v.1
+  unit_calls (t.Loop at (Some k) None us None) = count_calls at k absent absent us [] [] refl refl
+  unit_calls (t.Loop at (Some k) None us (Some v)) = count_calls at k absent (shape.expr s v.0) us [] (nodes.in_expr v.0) refl v.1
+  unit_calls (t.Loop at (Some k) (Some c) us None) = count_calls at k (shape.expr s c.0) absent us (nodes.in_expr c.0) [] c.1 refl
   unit_calls (t.Loop at (Some k) (Some c) us (Some v)) =
-      loop_calls at (Some (shape.counter s k.0)) (shape.expr s c.0) (shape.expr s v.0) us (uses.in_counter s k.0) (uses.in_expr s c.0) (uses.in_expr s v.0)
-      k.1.0 k.1.1 c.1 v.1
+      count_calls at k (shape.expr s c.0) (shape.expr s v.0) us (nodes.in_expr c.0) (nodes.in_expr v.0) c.1 v.1
   unit_calls (t.Leave at n None) = refl
   unit_calls (t.Leave at n (Some v)) = one_calls _ (shape.expr s v.0) refl ∙ v.1
 
@@ -316,19 +346,26 @@ module _ (s : Scope) where
       → pair_calls (shape.branch_step s
       (map-Branch _ _ _ _ _ _ _ _ _ _ _ _ _ _ (shape.expr s) (shape.limit s) (shape.unit s) (shape.branch s) (shape.case s) (shape.counter s) (shape.item s)
       (map-Branch _ _ _ _ _ _ _ _ _ _ _ _ _ _ fst fst fst fst fst fst fst y)))
-      ≡ uses.branch_step s (map-Branch _ _ _ _ _ _ _ _ _ _ _ _ _ _ (uses.in_expr s) (uses.in_limit s) (uses.in_unit s) (uses.in_branch s) (uses.in_case s)
-      (uses.in_counter s) (uses.in_item s) (map-Branch _ _ _ _ _ _ _ _ _ _ _ _ _ _ fst fst fst fst fst fst fst y))
+      ≡ found (nodes.branch_step
+      (map-Branch _ _ _ _ _ _ _ _ _ _ _ _ _ _ nodes.in_expr nodes.in_limit nodes.in_unit nodes.in_branch nodes.in_case nodes.in_counter nodes.in_item
+      (map-Branch _ _ _ _ _ _ _ _ _ _ _ _ _ _ fst fst fst fst fst fst fst y)))
   branch_calls y =
-      both (called_in (shape.expr s y.condition.0)) (uses.in_expr s y.condition.0) (called_in (shape.units Open (map (shape.unit s) (map fst y.units)))) _
+      split (called_in (shape.expr s y.condition.0)) (called_in (shape.units Open (map (shape.unit s) (map fst y.units)))) (nodes.in_expr y.condition.0) _
       y.condition.1 (units_call Open y.units)
+
+  no_labels : (ls : List Label) (ns : List Node) → found (nodes.labels ls ++ ns) ≡ found ns
+  no_labels [] ns = refl
+  no_labels (label.Number at n ∷ ls) ns = no_labels ls ns
+  no_labels (label.Named n ∷ ls) ns = no_labels ls ns
 
   case_calls : (y : Below Case-F)
       → called_in (shape.case_step s
       (map-Case _ _ _ _ _ _ _ _ _ _ _ _ _ _ (shape.expr s) (shape.limit s) (shape.unit s) (shape.branch s) (shape.case s) (shape.counter s) (shape.item s)
       (map-Case _ _ _ _ _ _ _ _ _ _ _ _ _ _ fst fst fst fst fst fst fst y))).1
-      ≡ uses.case_step s (map-Case _ _ _ _ _ _ _ _ _ _ _ _ _ _ (uses.in_expr s) (uses.in_limit s) (uses.in_unit s) (uses.in_branch s) (uses.in_case s)
-      (uses.in_counter s) (uses.in_item s) (map-Case _ _ _ _ _ _ _ _ _ _ _ _ _ _ fst fst fst fst fst fst fst y))
-  case_calls y = units_call Open y.units
+      ≡ found (nodes.case_step
+      (map-Case _ _ _ _ _ _ _ _ _ _ _ _ _ _ nodes.in_expr nodes.in_limit nodes.in_unit nodes.in_branch nodes.in_case nodes.in_counter nodes.in_item
+      (map-Case _ _ _ _ _ _ _ _ _ _ _ _ _ _ fst fst fst fst fst fst fst y)))
+  case_calls y = units_call Open y.units ∙ sym (no_labels y.labels (nodes.all (map nodes.in_unit (map fst y.units))))
 
   abbrev counter_with : Name → Option ((e : Expr) × E e) → (l : Limit) × L l → Below Counter-F
   counter_with n from l = record { name = n; from = from; limit = l }
@@ -337,38 +374,44 @@ module _ (s : Scope) where
       → CounterCalls (shape.counter_step s
       (map-Counter _ _ _ _ _ _ _ _ _ _ _ _ _ _ (shape.expr s) (shape.limit s) (shape.unit s) (shape.branch s) (shape.case s) (shape.counter s) (shape.item s)
       (map-Counter _ _ _ _ _ _ _ _ _ _ _ _ _ _ fst fst fst fst fst fst fst (counter_with n from l))))
-      (uses.counter_step s (map-Counter _ _ _ _ _ _ _ _ _ _ _ _ _ _ (uses.in_expr s) (uses.in_limit s) (uses.in_unit s) (uses.in_branch s) (uses.in_case s)
-      (uses.in_counter s) (uses.in_item s) (map-Counter _ _ _ _ _ _ _ _ _ _ _ _ _ _ fst fst fst fst fst fst fst (counter_with n from l))))
+      (nodes.counter_step
+      (map-Counter _ _ _ _ _ _ _ _ _ _ _ _ _ _ nodes.in_expr nodes.in_limit nodes.in_unit nodes.in_branch nodes.in_case nodes.in_counter nodes.in_item
+      (map-Counter _ _ _ _ _ _ _ _ _ _ _ _ _ _ fst fst fst fst fst fst fst (counter_with n from l))))
   counter_of n None l = (refl, l.1)
-  counter_of n (Some e) l = (refl, both (called_in (shape.expr s e.0)) (uses.in_expr s e.0) (called_in (shape.limit s l.0).1) (uses.in_limit s l.0) e.1 l.1)
+  counter_of n (Some e) l =
+      (refl, split (called_in (shape.expr s e.0)) (called_in (shape.limit s l.0).1) (nodes.in_expr e.0) (nodes.in_limit l.0) e.1 l.1)
 
   counter_calls : (y : Below Counter-F)
       → CounterCalls (shape.counter_step s
       (map-Counter _ _ _ _ _ _ _ _ _ _ _ _ _ _ (shape.expr s) (shape.limit s) (shape.unit s) (shape.branch s) (shape.case s) (shape.counter s) (shape.item s)
       (map-Counter _ _ _ _ _ _ _ _ _ _ _ _ _ _ fst fst fst fst fst fst fst y)))
-      (uses.counter_step s (map-Counter _ _ _ _ _ _ _ _ _ _ _ _ _ _ (uses.in_expr s) (uses.in_limit s) (uses.in_unit s) (uses.in_branch s) (uses.in_case s)
-      (uses.in_counter s) (uses.in_item s) (map-Counter _ _ _ _ _ _ _ _ _ _ _ _ _ _ fst fst fst fst fst fst fst y)))
+      (nodes.counter_step
+      (map-Counter _ _ _ _ _ _ _ _ _ _ _ _ _ _ nodes.in_expr nodes.in_limit nodes.in_unit nodes.in_branch nodes.in_case nodes.in_counter nodes.in_item
+      (map-Counter _ _ _ _ _ _ _ _ _ _ _ _ _ _ fst fst fst fst fst fst fst y)))
   counter_calls y = counter_of y.name y.from y.limit
 
   abbrev item_with : Name → Option ((e : Expr) × E e) → Below Item-F
   item_with n init = record { name = n; init = init }
 
-  item_of : (n : Name) (init : Option ((e : Expr) × E e))
+  item_of : (n : Name) (init : Option ((e : Expr) × E e)) (h : Held) (of : TypePhrase)
       → called_in (shape.item_step s
       (map-Item _ _ _ _ _ _ _ _ _ _ _ _ _ _ (shape.expr s) (shape.limit s) (shape.unit s) (shape.branch s) (shape.case s) (shape.counter s) (shape.item s)
       (map-Item _ _ _ _ _ _ _ _ _ _ _ _ _ _ fst fst fst fst fst fst fst (item_with n init))))
-      ≡ uses.item_step s (map-Item _ _ _ _ _ _ _ _ _ _ _ _ _ _ (uses.in_expr s) (uses.in_limit s) (uses.in_unit s) (uses.in_branch s) (uses.in_case s)
-      (uses.in_counter s) (uses.in_item s) (map-Item _ _ _ _ _ _ _ _ _ _ _ _ _ _ fst fst fst fst fst fst fst (item_with n init)))
-  item_of n None = refl
-  item_of n (Some e) = two_call (form.initial n.at) (form.leaf (form.declares n.at s n.text)) (shape.expr s e.0) [] (uses.in_expr s e.0) refl refl e.1
+      ≡ found (nodes.item_step
+      (map-Item _ _ _ _ _ _ _ _ _ _ _ _ _ _ nodes.in_expr nodes.in_limit nodes.in_unit nodes.in_branch nodes.in_case nodes.in_counter nodes.in_item
+      (map-Item _ _ _ _ _ _ _ _ _ _ _ _ _ _ fst fst fst fst fst fst fst (item_with n init))) h of)
+  item_of n None h of = refl
+  item_of n (Some e) h of =
+      two_call (form.initial n.at) (form.leaf (form.declares n.at s n.text)) (shape.expr s e.0) [] (found (nodes.in_expr e.0)) refl refl e.1
 
-  item_calls : (y : Below Item-F)
+  item_calls : (y : Below Item-F) (h : Held) (of : TypePhrase)
       → called_in (shape.item_step s
       (map-Item _ _ _ _ _ _ _ _ _ _ _ _ _ _ (shape.expr s) (shape.limit s) (shape.unit s) (shape.branch s) (shape.case s) (shape.counter s) (shape.item s)
       (map-Item _ _ _ _ _ _ _ _ _ _ _ _ _ _ fst fst fst fst fst fst fst y)))
-      ≡ uses.item_step s (map-Item _ _ _ _ _ _ _ _ _ _ _ _ _ _ (uses.in_expr s) (uses.in_limit s) (uses.in_unit s) (uses.in_branch s) (uses.in_case s)
-      (uses.in_counter s) (uses.in_item s) (map-Item _ _ _ _ _ _ _ _ _ _ _ _ _ _ fst fst fst fst fst fst fst y))
-  item_calls y = item_of y.name y.init
+      ≡ found (nodes.item_step
+      (map-Item _ _ _ _ _ _ _ _ _ _ _ _ _ _ nodes.in_expr nodes.in_limit nodes.in_unit nodes.in_branch nodes.in_case nodes.in_counter nodes.in_item
+      (map-Item _ _ _ _ _ _ _ _ _ _ _ _ _ _ fst fst fst fst fst fst fst y)) h of)
+  item_calls y h of = item_of y.name y.init h of
 
   -- ---- all of them
 
@@ -387,7 +430,7 @@ module _ (s : Scope) where
   all_called (u ∷ us) =
       let rest = map (shape.unit s) us in
       filled_call (shape.unit s u) rest
-      ∙ both (unit_calls_of (shape.unit s u)) (uses.in_unit s u) (calls (all_of (shape.filled rest))) (uses.in_units s us) (unit_called u) (all_called us)
+      ∙ split (unit_calls_of (shape.unit s u)) (calls (all_of (shape.filled rest))) (nodes.in_unit u) (nodes.in_units us) (unit_called u) (all_called us)
 
   -- the units of a body
   pub units_called : (d : Delivery) (us : List Statement) → called_in (shape.units d (map (shape.unit s) us)) ≡ uses.in_units s us

@@ -21,7 +21,7 @@ use Rattle.value_rules.specs.Calls as c
 use Rattle.elan_rules.specs.Rules.{rule}
 use Rattle.elan_rules.specs.Meaning.{judged, judged_all, phrases, phrases_of}
 use Rattle.elan_check.specs.Refinements.{told, last_unit, last_part, unit_delivery, outcome, called_by, called_by_all, called_in}
-use Rattle.elan_levels.specs.Uses.{number_list}
+use Rattle.elan_levels.specs.Called.{number_list}
 use Rattle.elan_rules.proofs.First.{Faultless, whole, open_one, bind_faultless, before_faultless, breaks_has_fault}
 use Rattle.elan_check.proofs.Calls.{called_append}
 use Rattle.elan_judge.proofs.InScope.{Names, InScope, AllIn}

@@ -9,8 +9,7 @@ use Rattle.elan_meant.specs.declared.meant.Meant.{Meant}
 use Rattle.elan_meant.specs.declared.meant.Meant.TheVariants.{Value}
 use Rattle.elan_scope.specs.Known.{delivered, delivery_at}
 use Rattle.elan_scope.specs.declared.scope.Usage.TheVariants.{Expression}
-use Rattle.elan_scope.specs.Scope.{refinement_named}
-use Rattle.elan_levels.specs.Uses.{number_list}
+use Rattle.elan_levels.specs.Called.{called_under}
 use Rattle.elan_scope.specs.Phrase as form
 use Rattle.elan_scope.specs.Phrase.{Form, Phrase, phrase, Parts, none, part}
 use Rattle.elan_scope.specs.Ruled.{Ruled, gives, breaks, hangs}
@@ -21,7 +20,7 @@ use Rattle.elan_rules.specs.Meaning.{judged, phrases}
 
 -- the refinement that a phrase calls
 abbrev pub called_by : Phrase → List ℕ
-called_by (phrase (form.named Expression at s x) ps) = number_list (refinement_named s x)
+called_by (phrase (form.named Expression at s x) ps) = called_under s x
 called_by p = []
 
 abbrev pub called_by_all : List Phrase → List ℕ

@@ -16,7 +16,7 @@ use elan_judge::judge::judge_role;
 use elan_judge::role::is_empty;
 use elan_levels::bodies::body_names;
 use elan_levels::heading::{first_refinement, next_number, number_behind, result_type};
-use elan_levels::uses::in_units;
+use elan_levels::uses::called_in;
 use elan_meant::meant::Meant;
 use elan_meant::row::Judged;
 use elan_rows::let_meant_go;
@@ -133,8 +133,7 @@ fn add_body(
     ensures { OnOk result (out.new ≡ spec.more_known known.now out.old number (shape.units wanted (map (shape.unit scope.now) units.now))) }
 {
     let delivery = next(alloc, known, scope, number, wanted, units)?;
-    let mut calls = List::new(alloc);
-    in_units(scope, &mut calls, units)?;
+    let calls = called_in(alloc, scope, units)?;
     out.deliveries.push(delivery)?;
     out.calls.push(calls)
 }

@@ -1,3 +1,4 @@
 pub mod Declarations
 pub mod Bodies
-pub mod Uses
+pub mod Called
+pub mod walks

@@ -4,7 +4,7 @@ ghost use Rattle.std.specs.Prelude.{◌≡◌, ◌++◌, IfOk, OnOk};
 ghost use Rattle.elan_scope.specs.Scope as scopes;
 ghost use Rattle.elan_levels.specs.Bodies as spec;
 
-use crate::declare::{add, in_unit, in_units, written_type};
+use crate::declare::{Names, written_type};
 use elan_scope::scope::{Denotes, Entry};
 use elan_tree::{Access as Given, Body, Formal, Level, LevelUnit, Name, Refinement};
 use elan_types::{Access, ElanType, Parameter};
@@ -69,44 +69,31 @@ fn as_parameter(parameter: Option<Parameter>) -> Option<Denotes>
     }
 }
 
-fn named_as(
-    alloc: Global,
-    out: &mut List<Entry>,
-    names: &[Name],
-    denotes: Option<Denotes>,
-) -> Result<(), NoMemory>
-    ensures { OnOk result (out.new ≡ out.old ++ spec.named_as names.now denotes) }
+fn named_as(out: &mut Names, names: &[Name], denotes: Option<Denotes>) -> Result<(), NoMemory>
+    ensures { OnOk result (out.new.entries ≡ out.old.entries ++ spec.named_as names.now denotes) }
 {
     for name in names {
-        add(alloc, out, name, denotes)?;
+        out.add(name, denotes)?;
     }
     Ok(())
 }
 
-fn parameter_names(alloc: Global, out: &mut List<Entry>, formals: &[Formal]) -> Result<(), NoMemory>
-    ensures { OnOk result (out.new ≡ out.old ++ spec.parameter_names formals.now) }
+fn parameter_names(out: &mut Names, formals: &[Formal]) -> Result<(), NoMemory>
+    ensures { OnOk result (out.new.entries ≡ out.old.entries ++ spec.parameter_names formals.now) }
 {
     for formal in formals {
-        named_as(
-            alloc,
-            out,
-            formal.names.as_slice(),
-            as_parameter(parameter(formal)),
-        )?;
+        let denotes = as_parameter(parameter(formal));
+        named_as(out, formal.names.as_slice(), denotes)?;
     }
     Ok(())
 }
 
-fn refinement_names(
-    alloc: Global,
-    out: &mut List<Entry>,
-    refinements: &[Refinement],
-) -> Result<(), NoMemory>
-    ensures { OnOk result (out.new ≡ out.old ++ spec.refinement_names refinements.now) }
+fn refinement_names(out: &mut Names, refinements: &[Refinement]) -> Result<(), NoMemory>
+    ensures { OnOk result (out.new.entries ≡ out.old.entries ++ spec.refinement_names refinements.now) }
 {
     for refinement in refinements {
-        add(alloc, out, &refinement.name, Some(Denotes::Refinement))?;
-        in_units(alloc, out, refinement.units.as_slice())?;
+        out.add(&refinement.name, Some(Denotes::Refinement))?;
+        out.add_units(refinement.units.as_slice())?;
     }
     Ok(())
 }
@@ -115,20 +102,21 @@ fn refinement_names(
 pub fn body_names(alloc: Global, formals: &[Formal], body: &Body) -> Result<List<Entry>, NoMemory>
     ensures { IfOk result (λ names. names ≡ spec.body_names formals.now body.now) }
 {
-    let mut names = List::new(alloc);
-    parameter_names(alloc, &mut names, formals)?;
-    in_units(alloc, &mut names, body.units.as_slice())?;
-    refinement_names(alloc, &mut names, body.refinements.as_slice())?;
-    Ok(names)
+    let mut names = Names::new(alloc);
+    parameter_names(&mut names, formals)?;
+    names.add_units(body.units.as_slice())?;
+    refinement_names(&mut names, body.refinements.as_slice())?;
+    let Names { entries, .. } = names;
+    Ok(entries)
 }
 
-fn unit_names(alloc: Global, out: &mut List<Entry>, unit: &LevelUnit) -> Result<(), NoMemory>
-    ensures { OnOk result (out.new ≡ out.old ++ spec.unit_names unit.now) }
+fn unit_names(out: &mut Names, unit: &LevelUnit) -> Result<(), NoMemory>
+    ensures { OnOk result (out.new.entries ≡ out.old.entries ++ spec.unit_names unit.now) }
 {
     match unit {
-        LevelUnit::Plain(unit) => in_unit(alloc, out, unit),
+        LevelUnit::Plain(unit) => out.add_unit(unit),
         LevelUnit::Proc { name, formals, .. } => match formals.as_slice() {
-            [] => add(alloc, out, name, Some(Denotes::Procedure)),
+            [] => out.add(name, Some(Denotes::Procedure)),
             [_first, _others @ ..] => Ok(()),
         },
         LevelUnit::NewType { .. } => Ok(()),
@@ -136,11 +124,11 @@ fn unit_names(alloc: Global, out: &mut List<Entry>, unit: &LevelUnit) -> Result<
     }
 }
 
-fn all_unit_names(alloc: Global, out: &mut List<Entry>, units: &[LevelUnit]) -> Result<(), NoMemory>
-    ensures { OnOk result (out.new ≡ out.old ++ spec.all_unit_names units.now) }
+fn all_unit_names(out: &mut Names, units: &[LevelUnit]) -> Result<(), NoMemory>
+    ensures { OnOk result (out.new.entries ≡ out.old.entries ++ spec.all_unit_names units.now) }
 {
     for unit in units {
-        unit_names(alloc, out, unit)?;
+        unit_names(out, unit)?;
     }
     Ok(())
 }
@@ -149,20 +137,22 @@ fn all_unit_names(alloc: Global, out: &mut List<Entry>, units: &[LevelUnit]) -> 
 pub fn level_names(alloc: Global, level: &Level) -> Result<List<Entry>, NoMemory>
     ensures { IfOk result (λ names. names ≡ spec.level_names level.now) }
 {
-    let mut names = List::new(alloc);
-    all_unit_names(alloc, &mut names, level.units.as_slice())?;
-    refinement_names(alloc, &mut names, level.refinements.as_slice())?;
-    Ok(names)
+    let mut names = Names::new(alloc);
+    all_unit_names(&mut names, level.units.as_slice())?;
+    refinement_names(&mut names, level.refinements.as_slice())?;
+    let Names { entries, .. } = names;
+    Ok(entries)
 }
 
 /// What a body declares beside its parameters.
 pub fn own_names(alloc: Global, body: &Body) -> Result<List<Entry>, NoMemory>
     ensures { IfOk result (λ names. names ≡ spec.own_names body.now) }
 {
-    let mut names = List::new(alloc);
-    in_units(alloc, &mut names, body.units.as_slice())?;
-    refinement_names(alloc, &mut names, body.refinements.as_slice())?;
-    Ok(names)
+    let mut names = Names::new(alloc);
+    names.add_units(body.units.as_slice())?;
+    refinement_names(&mut names, body.refinements.as_slice())?;
+    let Names { entries, .. } = names;
+    Ok(entries)
 }
 
 // Adds the type of what is held under a name.

@@ -1,11 +1,12 @@
 //! The declarations of a text, in text order.
 
-ghost use Rattle.std.specs.Prelude.{◌≡◌, ◌++◌, map, IfOk, OnOk};
+ghost use Rattle.std.specs.Prelude.{◌≡◌, ◌++◌, OnOk};
 ghost use Rattle.elan_levels.specs.Declarations as spec;
 
 use elan_scope::scope::{Denotes, Entry};
-use elan_tree::{Branch, Case, Counter, Expr, Item, Limit, Name, TypePhrase, Unit};
+use elan_tree::{Name, TypePhrase, Unit};
 use elan_types::ElanType;
+use elan_walk::{Held, Node, Visitor, visit_unit, visit_units};
 use eu_base::{Bytes, List, NoMemory};
 use std::alloc::Global;
 
@@ -38,197 +39,69 @@ fn constants(of: &TypePhrase) -> Option<Denotes>
     }
 }
 
-/// Adds the declaration of a name.
-pub fn add(
-    alloc: Global,
-    out: &mut List<Entry>,
-    name: &Name,
-    denotes: Option<Denotes>,
-) -> Result<(), NoMemory>
-    ensures { OnOk result (out.new ≡ out.old ++ spec.entry name.now denotes) }
-{
-    match denotes {
-        None => Ok(()),
-        Some(denotes) => out.push(Entry {
-            at: name.at,
-            name: Bytes::from(alloc, name.text.as_slice())?,
-            denotes,
-        }),
-    }
+/// Names that are declared, in text order.
+#[derive(Drop)]
+pub struct Names {
+    pub alloc: Global,
+    pub entries: List<Entry>,
 }
 
-#[cycle(declare)]
-fn in_expr(alloc: Global, out: &mut List<Entry>, expr: &Expr) -> Result<(), NoMemory>
-    ensures { OnOk result (out.new ≡ out.old ++ spec.in_expr expr.now) }
-{
-    match expr {
-        Expr::Call(_, actuals) => in_exprs(alloc, out, actuals.as_slice()),
-        Expr::Bracket(_, inner) => in_expr(alloc, out, inner.get()),
-        Expr::If {
-            branches,
-            otherwise,
-            ..
-        } => {
-            in_branches(alloc, out, branches.as_slice())?;
-            match otherwise {
-                None => Ok(()),
-                Some(units) => in_units(alloc, out, units.as_slice()),
-            }
+impl Names {
+    ghost use Rattle.std.specs.Prelude.{[]};
+    ghost use Rattle.elan_levels.specs.walks.Seen.{with_entries};
+
+    pub fn new(alloc: Global) -> Names
+        ensures { result.entries ≡ [] }
+    {
+        Names {
+            alloc,
+            entries: List::new(alloc),
         }
-        Expr::Select {
-            of,
-            cases,
-            otherwise,
-            ..
-        } => {
-            in_expr(alloc, out, of.get())?;
-            in_cases(alloc, out, cases.as_slice())?;
-            match otherwise {
-                None => Ok(()),
-                Some(units) => in_units(alloc, out, units.as_slice()),
-            }
+    }
+
+    /// Adds the declaration of a name.
+    pub fn add(&mut self, name: &Name, denotes: Option<Denotes>) -> Result<(), NoMemory>
+        ensures { OnOk result (self.new ≡ with_entries self.old (spec.entry name.now denotes)) }
+    {
+        match denotes {
+            None => Ok(()),
+            Some(denotes) => self.entries.push(Entry {
+                at: name.at,
+                name: Bytes::from(self.alloc, name.text.as_slice())?,
+                denotes,
+            }),
         }
-        Expr::Monadic { operand, .. } => in_expr(alloc, out, operand.get()),
-        Expr::Dyadic { left, right, .. } => {
-            in_expr(alloc, out, left.get())?;
-            in_expr(alloc, out, right.get())
+    }
+
+    /// Adds what a unit declares.
+    #[tactic(auto, using(crate::proofs::Seen::declarations))]
+    pub fn add_unit(&mut self, unit: &Unit) -> Result<(), NoMemory>
+        ensures { OnOk result (self.new.entries ≡ self.old.entries ++ spec.in_unit unit.now) }
+    {
+        visit_unit(self, unit)
+    }
+
+    /// Adds what units declare.
+    #[tactic(auto, using(crate::proofs::Seen::declarations))]
+    pub fn add_units(&mut self, units: &[Unit]) -> Result<(), NoMemory>
+        ensures { OnOk result (self.new.entries ≡ self.old.entries ++ spec.in_units units.now) }
+    {
+        visit_units(self, units)
+    }
+}
+
+impl Visitor for Names {
+    ghost use Rattle.elan_levels.specs.walks.Seen.{with_entries};
+
+    ghost after = { λ s n. with_entries s (spec.declared n) };
+
+    ghost grows = { Unit {0} };
+
+    fn visit(&mut self, node: Node<'_>) -> Result<(), NoMemory> {
+        match node {
+            Node::Item(Held::Variable, of, name) => self.add(name, variables(of)),
+            Node::Item(Held::Constant, of, name) => self.add(name, constants(of)),
+            _ => Ok(()),
         }
-        Expr::Cand { left, right, .. } => {
-            in_expr(alloc, out, left.get())?;
-            in_expr(alloc, out, right.get())
-        }
-        Expr::Cor { left, right, .. } => {
-            in_expr(alloc, out, left.get())?;
-            in_expr(alloc, out, right.get())
-        }
-        _ => Ok(()),
     }
-}
-
-#[cycle(declare)]
-fn in_exprs(alloc: Global, out: &mut List<Entry>, exprs: &[Expr]) -> Result<(), NoMemory>
-    ensures { OnOk result (out.new ≡ out.old ++ spec.all (map spec.in_expr exprs.now)) }
-{
-    for expr in exprs {
-        in_expr(alloc, out, expr)?;
-    }
-    Ok(())
-}
-
-#[cycle(declare)]
-fn in_optional(alloc: Global, out: &mut List<Entry>, expr: &Option<Expr>) -> Result<(), NoMemory>
-    ensures { OnOk result (out.new ≡ out.old ++ spec.in_optional expr.now) }
-{
-    match expr {
-        None => Ok(()),
-        Some(expr) => in_expr(alloc, out, expr),
-    }
-}
-
-#[cycle(declare)]
-fn in_branches(alloc: Global, out: &mut List<Entry>, branches: &[Branch]) -> Result<(), NoMemory>
-    ensures { OnOk result (out.new ≡ out.old ++ spec.all (map spec.in_branch branches.now)) }
-{
-    for branch in branches {
-        in_expr(alloc, out, &branch.condition)?;
-        in_units(alloc, out, branch.units.as_slice())?;
-    }
-    Ok(())
-}
-
-#[cycle(declare)]
-fn in_cases(alloc: Global, out: &mut List<Entry>, cases: &[Case]) -> Result<(), NoMemory>
-    ensures { OnOk result (out.new ≡ out.old ++ spec.all (map spec.in_case cases.now)) }
-{
-    for case in cases {
-        in_units(alloc, out, case.units.as_slice())?;
-    }
-    Ok(())
-}
-
-#[cycle(declare)]
-fn in_items(
-    alloc: Global,
-    out: &mut List<Entry>,
-    denotes: Option<Denotes>,
-    items: &[Item],
-) -> Result<(), NoMemory>
-    ensures { OnOk result (out.new ≡ out.old ++ spec.all_of denotes (map spec.in_item items.now)) }
-{
-    for item in items {
-        add(alloc, out, &item.name, denotes)?;
-        in_optional(alloc, out, &item.init)?;
-    }
-    Ok(())
-}
-
-#[cycle(declare)]
-fn in_limit(alloc: Global, out: &mut List<Entry>, limit: &Limit) -> Result<(), NoMemory>
-    ensures { OnOk result (out.new ≡ out.old ++ spec.in_limit limit.now) }
-{
-    match limit {
-        Limit::Without => Ok(()),
-        Limit::Upto(expr) => in_expr(alloc, out, expr),
-        Limit::Downto(expr) => in_expr(alloc, out, expr),
-    }
-}
-
-#[cycle(declare)]
-fn in_counter(alloc: Global, out: &mut List<Entry>, counter: &Counter) -> Result<(), NoMemory>
-    ensures { OnOk result (out.new ≡ out.old ++ spec.in_counter counter.now) }
-{
-    in_optional(alloc, out, &counter.from)?;
-    in_limit(alloc, out, &counter.limit)
-}
-
-/// Adds what a unit declares.
-#[cycle(declare)]
-pub fn in_unit(alloc: Global, out: &mut List<Entry>, unit: &Unit) -> Result<(), NoMemory>
-    ensures { OnOk result (out.new ≡ out.old ++ spec.in_unit unit.now) }
-{
-    match unit {
-        Unit::Variables(_, of, items) => in_items(alloc, out, variables(of), items.as_slice()),
-        Unit::Constants(_, of, items) => in_items(alloc, out, constants(of), items.as_slice()),
-        Unit::Value(expr) => in_expr(alloc, out, expr),
-        Unit::Becomes { left, right, .. } => {
-            in_expr(alloc, out, left)?;
-            in_expr(alloc, out, right)
-        }
-        Unit::Loop {
-            counter: None,
-            condition,
-            units,
-            until,
-            ..
-        } => {
-            in_optional(alloc, out, condition)?;
-            in_units(alloc, out, units.as_slice())?;
-            in_optional(alloc, out, until)
-        }
-        Unit::Loop {
-            counter: Some(counter),
-            condition,
-            units,
-            until,
-            ..
-        } => {
-            in_counter(alloc, out, counter.get())?;
-            in_optional(alloc, out, condition)?;
-            in_units(alloc, out, units.as_slice())?;
-            in_optional(alloc, out, until)
-        }
-        Unit::Leave { value, .. } => in_optional(alloc, out, value),
-        _ => Ok(()),
-    }
-}
-
-/// Adds what units declare.
-#[cycle(declare)]
-pub fn in_units(alloc: Global, out: &mut List<Entry>, units: &[Unit]) -> Result<(), NoMemory>
-    ensures { OnOk result (out.new ≡ out.old ++ spec.all (map spec.in_unit units.now)) }
-{
-    for unit in units {
-        in_unit(alloc, out, unit)?;
-    }
-    Ok(())
 }

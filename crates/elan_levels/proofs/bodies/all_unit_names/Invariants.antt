@@ -3,4 +3,4 @@ use Rattle.elan_levels.specs.Bodies.{all_unit_names}
 use Rattle.elan_levels.proofs.bodies.all_unit_names.Given as goal
 
 abbrev pub invariant-loop-unit : goal.invariant-loop-unit
-invariant-loop-unit l = l.out ++ all_unit_names (drop l.unit-index l.units) ≡ l.fn.out ++ all_unit_names l.units
+invariant-loop-unit l = l.out.entries ++ all_unit_names (drop l.unit-index l.units) ≡ l.fn.out.entries ++ all_unit_names l.units

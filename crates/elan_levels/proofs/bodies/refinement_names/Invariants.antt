@@ -3,4 +3,4 @@ use Rattle.elan_levels.specs.Bodies.{refinement_names}
 use Rattle.elan_levels.proofs.bodies.refinement_names.Given as goal
 
 abbrev pub invariant-loop-refinement : goal.invariant-loop-refinement
-invariant-loop-refinement l = l.out ++ refinement_names (drop l.refinement-index l.refinements) ≡ l.fn.out ++ refinement_names l.refinements
+invariant-loop-refinement l = l.out.entries ++ refinement_names (drop l.refinement-index l.refinements) ≡ l.fn.out.entries ++ refinement_names l.refinements

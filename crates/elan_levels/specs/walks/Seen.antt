@@ -1,0 +1,11 @@
+-- What was found on a walk, and more behind it.
+use Rattle.std.specs.Prelude.{ℕ, List, ◌++◌}
+use Rattle.elan_scope.specs.declared.scope.Entry.{Entry}
+use Rattle.elan_levels.specs.declared.declare.Names.{Names}
+use Rattle.elan_levels.specs.declared.uses.Called.{Called}
+
+abbrev pub with_entries : Names → List Entry → Names
+with_entries s es = record { alloc = s.alloc; entries = s.entries ++ es }
+
+abbrev pub with_numbers : Called → List ℕ → Called
+with_numbers s ns = record { scope = s.scope; numbers = s.numbers ++ ns }

@@ -1,0 +1,24 @@
+-- The refinements that the nodes of phrases call, in text order, by their numbers.
+use Rattle.std.specs.Prelude.{ℕ, List, [], ◌∷◌, ◌++◌}
+use Rattle.elan_tree.specs.declared.phrase.Unit.{Unit as Statement}
+use Rattle.elan_walk.specs.Nodes as nodes
+use Rattle.elan_walk.specs.Nodes.{Node, alone, other, sign, of_type, item, unbuilt}
+use Rattle.elan_scope.specs.declared.scope.Scope.{Scope}
+use Rattle.elan_levels.specs.Called.{called_under}
+
+module _ (s : Scope) where
+  -- The identifier after FOR is no call.
+  abbrev pub called : Node → List ℕ
+  called (alone n) = called_under s n.text
+  called (other n) = []
+  called (sign o) = []
+  called (of_type of) = []
+  called (item h of n) = []
+  called unbuilt = []
+
+  abbrev pub all_called : List Node → List ℕ
+  all_called [] = []
+  all_called (n ∷ ns) = called n ++ all_called ns
+
+  abbrev pub in_units : List Statement → List ℕ
+  in_units us = all_called (nodes.in_units us)

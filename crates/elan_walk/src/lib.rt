@@ -1,0 +1,10 @@
+//! One walk over trees, for whoever looks at their nodes.
+#![tactic(auto, using(crate::proofs::Went::went_append))]
+
+mod node;
+mod walk;
+mod whole;
+
+pub use node::{Held, Node, Visitor};
+pub use walk::{visit_unit, visit_units};
+pub use whole::visit_tree;
