@@ -9,7 +9,7 @@ limit="${1:-120}"
 work="$(mktemp -d)"
 trap 'rm -rf "$work"' EXIT
 crates="containers eu_base elan_tree elan_lexer elan_grammar elan_cursor type_parser form_parser expression_parser phrase_parser text_parser
-    elan_parser elan_types elan_scope elan_meant value_rules unit_rules choice_rules elan_rules elan_unbuilt elan_levels elan_rows
+    elan_parser elan_types elan_scope elan_meant value_rules unit_rules choice_rules elan_rules elan_walk elan_unbuilt elan_levels elan_rows
     elan_judge elan_check"
 
 mkdir -p "$work/crates/parts/src"
@@ -104,8 +104,11 @@ END
 
 # instructions that the program executes for a part of the way of a text, or nothing where the limit is past
 instructions() {
-    timeout "$limit" valgrind --tool=callgrind --callgrind-out-file=/dev/null "$program" "$1" "$2" 2>&1 >/dev/null |
-        sed -n 's/.*Collected : \([0-9]*\).*/\1/p'
+    local said status=0
+    said=$(timeout "$limit" valgrind --tool=callgrind --callgrind-out-file=/dev/null "$program" "$1" "$2" 2>&1 >/dev/null) || status=$?
+    if [[ "$status" -ne 124 ]]; then
+        sed -n 's/.*Collected : \([0-9]*\).*/\1/p' <<<"$said"
+    fi
 }
 
 # one line: instructions for each size, and how they grow
@@ -113,8 +116,8 @@ line() {
     local shape="$1" part="$2" before="$3" last="" shown="" tokens count base
     for tokens in 80 800 7900; do
         text "$shape" "$tokens" >"$work/text"
-        base=$(instructions "$before" "$work/text" || true)
-        count=$(instructions "$part" "$work/text" || true)
+        base=$(instructions "$before" "$work/text")
+        count=$(instructions "$part" "$work/text")
         if [[ -z "$base" || -z "$count" ]]; then
             shown+=" past-the-limit"
             break

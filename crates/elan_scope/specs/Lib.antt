@@ -3,3 +3,4 @@ pub mod Phrase
 pub mod Ruled
 pub mod Known
 pub mod Answer
+pub mod Apart

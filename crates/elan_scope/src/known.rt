@@ -3,6 +3,7 @@
 ghost use Rattle.std.specs.Prelude.{◌≡◌, ◌||◌, IfOk, length};
 ghost use Rattle.elan_scope.specs.Known as spec;
 
+use crate::apart::is_apart;
 use crate::delivery::Delivery;
 use eu_base::{List, NoMemory};
 use std::alloc::Global;
@@ -92,6 +93,9 @@ fn first_marks(alloc: Global, count: usize, to: usize) -> Result<List<bool>, NoM
 fn leads(alloc: Global, calls: &[List<usize>], from: usize, to: usize) -> Result<bool, NoMemory>
     ensures { IfOk result (λ back. back ≡ spec.leads (length calls.now) calls.now from to) }
 {
+    if is_apart(alloc, calls, from, to)? {
+        return Ok(false);
+    }
     let mut marks = first_marks(alloc, calls.len(), to)?;
     for _turn in 0..calls.len() {
         let next = next_marks(alloc, calls, marks.as_slice(), to)?;

@@ -1,6 +1,7 @@
 //! Where a phrase stands, what names denote there, and what is known of bodies.
 #![tactic(auto)]
 
+mod apart;
 pub mod delivery;
 pub mod heading;
 pub mod known;
