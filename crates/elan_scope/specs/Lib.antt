@@ -1,5 +1,7 @@
+pub mod Predefined
 pub mod Scope
 pub mod Phrase
 pub mod Ruled
 pub mod Known
 pub mod Answer
+pub mod Seen

@@ -1,8 +1,10 @@
 //! Where a phrase stands, what names denote there, and what is known of bodies.
 #![tactic(auto)]
 
+pub mod callable;
 pub mod delivery;
 pub mod heading;
 pub mod known;
+pub mod predefined;
 pub mod scope;
 pub mod trouble;
