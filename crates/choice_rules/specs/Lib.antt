@@ -1,5 +1,5 @@
 pub use Rattle.elan_scope.specs.Ruled
 pub use Rattle.elan_scope.specs.Answer
-pub use Rattle.elan_meant.specs.Predefined
+pub use Rattle.elan_meant.specs.Operands
 pub use Rattle.elan_meant.specs.Parts
 pub mod Choices

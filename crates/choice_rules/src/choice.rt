@@ -1,15 +1,16 @@
 //! IF: conditions, and parts that deliver the same.
 
-ghost use Rattle.std.specs.Prelude.{◌≡◌, ◌∷◌, [], IfOk, Some};
+ghost use Rattle.std.specs.Prelude.{◌≡◌, IfOk};
+ghost use Rattle.elan_scope.specs.Ruled.{gives};
 ghost use Rattle.elan_meant.specs.Parts as meanings;
 ghost use Rattle.choice_rules.specs.Choices as spec;
 ghost use Rattle.elan_scope.specs.Answer.{Is};
 
-use crate::parts::{delivery_in, joined, part_actions, part_for_none, part_value};
+use crate::parts::{delivery_in, joined, part_for_none, value_as};
 use elan_meant::arity::pairs_of;
-use elan_meant::meant::{Meant, Part};
+use elan_meant::meant::Meant;
 use elan_meant::operands::delivers;
-use elan_meant::part::{one, part_of, value_of};
+use elan_meant::part::{actions, one, value_of};
 use elan_meant::row::{Judged, both};
 use elan_scope::delivery::Delivery;
 use elan_scope::trouble::Trouble;
@@ -21,135 +22,107 @@ use std::alloc::Global;
 fn if_actions(
     alloc: Global,
     condition: Boxed<ValuePhrase>,
-    first: Part,
-    second: Part,
+    first: Meant,
+    second: Meant,
 ) -> Result<List<Action>, NoMemory>
-    ensures { IfOk result (λ actions. actions ≡ spec.if_actions condition (spec.part_actions first) (spec.part_actions second)) }
+    ensures { IfOk result (λ actions. actions ≡ spec.if_actions condition first second) }
 {
-    let first = part_actions(alloc, first);
-    let second = part_actions(alloc, second);
+    let first = actions(alloc, first);
+    let second = actions(alloc, second);
     one(alloc, Action::If(condition.into_inner(), first, second))
 }
 
 // What IF delivers by parts that deliver a value of this type.
 fn if_value(
     alloc: Global,
-    of: ElanType,
     condition: Boxed<ValuePhrase>,
-    first: Part,
-    second: Part,
-) -> Result<Part, NoMemory>
-    ensures { IfOk result (λ p. p ≡ spec.if_value of condition (spec.part_value of first) (spec.part_value of second)) }
+    first: Meant,
+    second: Meant,
+    of: ElanType,
+) -> Result<Boxed<ValuePhrase>, NoMemory>
+    ensures { IfOk result (λ value. value ≡ spec.if_value condition first second of) }
 {
-    let first = part_value(alloc, of, first);
-    let (first, second) = both(first, part_value(alloc, of, second))?;
-    let value = Boxed::new(alloc, ValuePhrase::If(condition, first, second))?;
-    Ok(Part::Value(of, value))
+    let first = value_as(alloc, of, first);
+    let (first, second) = both(first, value_as(alloc, of, second))?;
+    Boxed::new(alloc, ValuePhrase::If(condition, first, second))
 }
 
 // One of two parts, which deliver the same. One that ends with a LEAVE agrees with every type.
 fn chosen_of(
     alloc: Global,
+    at: u32,
     condition: Boxed<ValuePhrase>,
-    first: Part,
-    second: Part,
-) -> Result<Option<Part>, NoMemory>
-    ensures { IfOk result (λ p. p ≡ spec.chosen_of condition first second) }
+    first: Meant,
+    second: Meant,
+) -> Judged
+    ensures { Is result (spec.chosen_of at condition first second) }
 {
     match joined(delivery_in(&first), delivery_in(&second)) {
         None => {
             condition.into_inner().let_go();
             first.let_go();
             second.let_go();
-            Ok(None)
+            Err(Trouble::Breaks(at, Why::WrongType))
         }
         Some(Delivery::Nothing) => {
             let actions = if_actions(alloc, condition, first, second)?;
-            Ok(Some(Part::Done(actions)))
+            Ok(Meant::Done(actions))
         }
         Some(Delivery::Open) => {
             let actions = if_actions(alloc, condition, first, second)?;
-            Ok(Some(Part::Left(actions)))
+            Ok(Meant::Left(actions))
         }
         Some(Delivery::Of(of)) => {
-            let part = if_value(alloc, of, condition, first, second)?;
-            Ok(Some(part))
+            let value = if_value(alloc, condition, first, second, of)?;
+            Ok(Meant::Value { at, of, value })
         }
     }
 }
 
 // One of two parts, the first of which a truth value guards.
-fn guarded(
-    alloc: Global,
-    condition: Meant,
-    units: Meant,
-    rest: Part,
-) -> Result<Option<Part>, NoMemory>
-    ensures { IfOk result (λ p. p ≡ spec.chosen_of (meanings.value_of condition) (meanings.part_of units) rest) }
+fn guarded(alloc: Global, at: u32, condition: Meant, units: Meant, rest: Meant) -> Judged
+    ensures { Is result (spec.chosen_of at (meanings.value_of condition) units rest) }
 {
-    let first = part_of(alloc, units);
     match value_of(alloc, condition) {
-        Err(refusal) => {
-            first.let_go();
+        Err(_refusal) => {
+            units.let_go();
             rest.let_go();
-            Err(refusal)
+            Err(Trouble::NoMemory)
         }
-        Ok(condition) => chosen_of(alloc, condition, first, rest),
+        Ok(condition) => chosen_of(alloc, at, condition, units, rest),
     }
 }
 
-fn branched(
-    alloc: Global,
-    branch: (Meant, Meant),
-    rest: Option<Part>,
-) -> Result<Option<Part>, NoMemory>
-    ensures { IfOk result (λ p. p ≡ spec.branched branch rest) }
+fn branched(alloc: Global, at: u32, branch: (Meant, Meant), rest: Meant) -> Judged
+    ensures { Is result (spec.branched at branch rest) }
 {
     let (condition, units) = branch;
-    match rest {
-        None => {
-            condition.let_go();
-            units.let_go();
-            Ok(None)
-        }
-        Some(rest) => {
-            if delivers(ElanType::Bool, &condition) {
-                guarded(alloc, condition, units, rest)
-            } else {
-                condition.let_go();
-                units.let_go();
-                rest.let_go();
-                Ok(None)
-            }
-        }
+    if delivers(ElanType::Bool, &condition) {
+        guarded(alloc, at, condition, units, rest)
+    } else {
+        condition.let_go();
+        units.let_go();
+        rest.let_go();
+        Err(Trouble::Breaks(at, Why::WrongType))
     }
 }
 
 // Branches, from the first one on, and the part for none of them.
 #[tactic(auto, using(crate::proofs::Lists::chain_push))]
-fn chain(
-    alloc: Global,
-    mut branches: List<(Meant, Meant)>,
-    otherwise: Part,
-) -> Result<Option<Part>, NoMemory>
-    ensures { IfOk result (λ p. p ≡ spec.chain branches (Some otherwise)) }
+fn chain(alloc: Global, at: u32, mut branches: List<(Meant, Meant)>, otherwise: Meant) -> Judged
+    ensures { Is result (spec.chain at branches (gives otherwise)) }
 {
-    let mut rest = Some(otherwise);
+    let mut rest = otherwise;
     while let Some(branch) = branches.pop() {
-        rest = branched(alloc, branch, rest)?;
+        match branched(alloc, at, branch, rest) {
+            Err(trouble) => {
+                Meant::pairs_let_go(branches);
+                return Err(trouble);
+            }
+            Ok(part) => rest = part,
+        }
     }
     Ok(rest)
-}
-
-fn delivered(at: u32, part: Option<Part>) -> Judged
-    ensures { Is result (spec.delivered at part) }
-{
-    match part {
-        None => Err(Trouble::Breaks(at, Why::WrongType)),
-        Some(Part::Done(actions)) => Ok(Meant::Done(actions)),
-        Some(Part::Value(of, value)) => Ok(Meant::Value { at, of, value }),
-        Some(Part::Left(actions)) => Ok(Meant::Left(actions)),
-    }
 }
 
 /// Conditions, each before its units, and the units of ELSE.
@@ -157,6 +130,5 @@ pub fn choice(alloc: Global, at: u32, parts: List<Meant>) -> Judged
     ensures { Is result (spec.choice at parts) }
 {
     let (branches, otherwise) = pairs_of(alloc, parts)?;
-    let part = chain(alloc, branches, part_for_none(alloc, otherwise))?;
-    delivered(at, part)
+    chain(alloc, at, branches, part_for_none(alloc, otherwise))
 }

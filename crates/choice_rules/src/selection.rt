@@ -6,12 +6,11 @@ ghost use Rattle.elan_meant.specs.declared.meant.Meant.TheVariants as means;
 ghost use Rattle.choice_rules.specs.Choices as spec;
 ghost use Rattle.elan_scope.specs.Answer.{Is, Gives};
 
-use crate::parts::{delivery_in, joined, part_actions, part_for_none, part_value};
+use crate::parts::{delivery_in, joined, part_for_none, value_as};
 use elan_meant::arity::pairs_of;
-use elan_meant::meant::{Meant, Part};
+use elan_meant::meant::Meant;
 use elan_meant::operands::delivers;
-use elan_meant::part::{one, part_of, value_of};
-use elan_meant::predefined::exists;
+use elan_meant::part::{actions, one, value_of};
 use elan_meant::row::{Judged, both, pushed};
 use elan_scope::delivery::Delivery;
 use elan_scope::scope::Found;
@@ -42,14 +41,14 @@ pub fn label_is(at: u32, earlier: &[i16], number: i16) -> Result<i16, Trouble>
     }
 }
 
-/// An identifier as a label, and the declaration that it denotes.
-pub fn label_named(at: u32, name: &[u8], found: Option<Found>) -> Result<i16, Trouble>
-    ensures { Gives (λ n. means.Labels (n ∷ [])) result (spec.label_named at name.now found) }
+/// An identifier as a label, whether it can be called, and the declaration that it denotes.
+pub fn label_named(at: u32, is_known: bool, found: Option<Found>) -> Result<i16, Trouble>
+    ensures { Gives (λ n. means.Labels (n ∷ [])) result (spec.label_named at is_known found) }
 {
     match found {
         Some(_) => Err(Trouble::Breaks(at, Why::WrongType)),
         None => {
-            if exists(name, 0) {
+            if is_known {
                 Err(Trouble::Breaks(at, Why::WrongType))
             } else {
                 Err(Trouble::Breaks(at, Why::Unknown))
@@ -70,17 +69,6 @@ fn labels_in(alloc: Global, meant: Meant) -> List<i16>
     }
 }
 
-// What the units of a part deliver.
-fn delivery_of(units: &Meant) -> Delivery
-    ensures { result ≡ spec.delivery_in (meanings.part_of units.now) }
-{
-    match units {
-        Meant::Value { of, .. } => Delivery::Of(*of),
-        Meant::Left(_) => Delivery::Open,
-        _ => Delivery::Nothing,
-    }
-}
-
 // What all parts deliver, if they agree.
 fn agreed(delivery: Delivery, arms: &[(Meant, Meant)]) -> Option<Delivery>
     ensures { result ≡ spec.agreed (Some delivery) arms.now }
@@ -89,7 +77,7 @@ fn agreed(delivery: Delivery, arms: &[(Meant, Meant)]) -> Option<Delivery>
     for arm in arms {
         agreed = match agreed {
             None => None,
-            Some(delivery) => joined(delivery, delivery_of(&arm.1)),
+            Some(delivery) => joined(delivery, delivery_in(&arm.1)),
         };
     }
     agreed
@@ -101,7 +89,7 @@ fn action_arm(alloc: Global, arm: (Meant, Meant)) -> Arm
     let (labels, units) = arm;
     Arm {
         labels: labels_in(alloc, labels),
-        units: part_actions(alloc, part_of(alloc, units)),
+        units: actions(alloc, units),
     }
 }
 
@@ -110,7 +98,7 @@ fn value_arm(alloc: Global, of: ElanType, arm: (Meant, Meant)) -> Result<ValueAr
 {
     let (labels, units) = arm;
     let labels = labels_in(alloc, labels);
-    let value = part_value(alloc, of, part_of(alloc, units))?;
+    let value = value_as(alloc, of, units)?;
     Ok(ValueArm {
         labels,
         value: value.into_inner(),
@@ -145,26 +133,26 @@ fn select_actions(
     alloc: Global,
     value: Boxed<ValuePhrase>,
     arms: List<(Meant, Meant)>,
-    otherwise: Part,
+    otherwise: Meant,
 ) -> Result<List<Action>, NoMemory>
     ensures { IfOk result (λ actions. actions ≡ spec.select_actions value arms otherwise) }
 {
-    let units = part_actions(alloc, otherwise);
+    let units = actions(alloc, otherwise);
     let arms = action_arms(alloc, arms)?;
     one(alloc, Action::Select(value.into_inner(), arms, units))
 }
 
 fn select_value(
     alloc: Global,
-    of: ElanType,
     value: Boxed<ValuePhrase>,
     arms: List<(Meant, Meant)>,
-    otherwise: Part,
+    otherwise: Meant,
+    of: ElanType,
 ) -> Result<Boxed<ValuePhrase>, NoMemory>
-    ensures { IfOk result (λ v. v ≡ spec.select_value of value arms otherwise) }
+    ensures { IfOk result (λ v. v ≡ spec.select_value value arms otherwise of) }
 {
     let arms = value_arms(alloc, of, arms);
-    let (arms, last) = both(arms, part_value(alloc, of, otherwise))?;
+    let (arms, last) = both(arms, value_as(alloc, of, otherwise))?;
     Boxed::new(alloc, ValuePhrase::Select(value, arms, last))
 }
 
@@ -173,7 +161,7 @@ fn selected_by(
     at: u32,
     value: Boxed<ValuePhrase>,
     arms: List<(Meant, Meant)>,
-    otherwise: Part,
+    otherwise: Meant,
 ) -> Judged
     ensures { Is result (spec.selected_by at value arms otherwise) }
 {
@@ -193,7 +181,7 @@ fn selected_by(
             Ok(Meant::Left(actions))
         }
         Some(Delivery::Of(of)) => {
-            let value = select_value(alloc, of, value, arms, otherwise)?;
+            let value = select_value(alloc, value, arms, otherwise, of)?;
             Ok(Meant::Value { at, of, value })
         }
     }

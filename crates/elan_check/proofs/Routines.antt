@@ -1,6 +1,6 @@
 -- What PROCs, OPs and refinements mean, from what their parts mean.
-use Rattle.std.proofs.Common.{◌≡◌, ℕ, suc, ◌+◌, ◌<◌, ◌≤◌, List, [], ◌∷◌, ◌++◌, map, length, get_or, drop, drop-cons, Result, Option, arith, Bool}
-use Rattle.std.proofs.Common.{true, refl, sym, ap, subst, ◌∙◌, append_assoc}
+use Rattle.std.proofs.Common.{◌≡◌, ℕ, suc, ◌+◌, ◌<◌, ◌≤◌, List, [], ◌∷◌, ◌++◌, map, length, get_or, drop, drop-cons, Result, Option, arith, Bool, true, refl}
+use Rattle.std.proofs.Common.{sym, ap, subst, ◌∙◌, append_assoc}
 use Rattle.std.proofs.lemmas.List.{append-nil, at_drop_all}
 use Rattle.elan_types.specs.declared.elan_type.ElanType.{ElanType}
 use Rattle.elan_types.specs.declared.core_phrase.Parameter.{Parameter}
@@ -33,7 +33,7 @@ use Rattle.elan_judge.specs.Shape as shape
 use Rattle.elan_levels.specs.Bodies.{parameters, result, body_names, bodies_in}
 use Rattle.elan_check.specs.Level as l
 pub use Rattle.elan_judge.proofs.Rows.{Grown, starts, grows, grows_all, ends, left_at, left_none}
-use Rattle.elan_judge.proofs.Rows.{row_is, one_is}
+use Rattle.elan_judge.proofs.Rows.{one_is}
 
 -- what is said of a row and the next phrase
 abbrev Joins : Result (List Meant) Trouble → Result Meant Trouble → Result (List Meant) Trouble → Type 0

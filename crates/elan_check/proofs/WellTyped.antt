@@ -1,12 +1,10 @@
 -- The core of a text is well typed.
-use Rattle.std.proofs.Common.{◌≡◌, ℕ, suc, ◌+◌, true, false, List, [], ◌∷◌, ◌++◌, length, Option, Some, None, refl, sym, ap, subst, ◌∙◌, arith}
+use Rattle.std.proofs.Common.{◌≡◌, ℕ, suc, ◌+◌, true, List, [], ◌∷◌, ◌++◌, length, Option, Some, None, refl, sym, ap, subst, ◌∙◌, arith}
 use Rattle.std.specs.Prelude.{slice_get}
 use Rattle.elan_types.specs.declared.elan_type.ElanType.{ElanType}
 use Rattle.elan_types.specs.declared.core_phrase.Parameter.{Parameter}
 use Rattle.elan_types.specs.declared.core_phrase.Action.{Action}
 use Rattle.elan_types.specs.declared.core_phrase.Content.{Content}
-use Rattle.elan_types.specs.declared.core_phrase.Content.TheVariants as content
-use Rattle.elan_types.specs.declared.core_phrase.ValuePhrase.{ValuePhrase}
 use Rattle.elan_types.specs.declared.core_phrase.Scope.{Scope as Owner}
 use Rattle.elan_types.specs.declared.core_phrase.Scope.TheVariants as owner
 use Rattle.elan_types.specs.declared.core_phrase.Body.{Body}
@@ -52,7 +50,8 @@ use Rattle.elan_judge.proofs.InScope.{statement_in}
 use Rattle.elan_rules.proofs.TypeEquations.{Stand}
 use Rattle.elan_rules.proofs.Typed as ty
 use Rattle.elan_rules.proofs.TypedUnits.{content_as_good, content_of_good}
-use Rattle.elan_rules.proofs.TypedCalls.{owner_with, Headed, Delivering, BodyFits, FrameIs, Fits}
+use Rattle.elan_rules.proofs.TypedPerformed.{owner_with, Headed, Delivering, BodyFits}
+use Rattle.elan_rules.proofs.TypedCalls.{FrameIs, Fits}
 use Rattle.elan_judge.proofs.TypedRules.{good}
 use Rattle.elan_check.proofs.Settled.{told_found, refinement_found}
 use Rattle.elan_check.proofs.Aligned.{Made, Inside, Frames, within, Stands, Row, Rows, rows_append, refinement_rows, split, bodies_append}

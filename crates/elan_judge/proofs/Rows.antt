@@ -1,7 +1,6 @@
 -- Rows of phrases: what their parts mean together.
-use Rattle.std.proofs.Common.{◌≡◌, ℤ, List, [], ◌∷◌, ◌++◌, map, Result, IsErr, IsErrAnd, refl, ap, sym, ◌∙◌, append_assoc, ℕ, ◌+◌, ◌<◌, suc, Bool, true, false, ◌&&◌, if◌then◌else◌, Option, Some, None, length, get_or, drop, take, drop-cons, add-one, ◌-◌, ◌≤◌, zero, subst, arith, length-drop}
+use Rattle.std.proofs.Common.{◌≡◌, ℤ, List, [], ◌∷◌, ◌++◌, map, Result, refl, ap, sym, ◌∙◌, append_assoc, ℕ, ◌+◌, ◌<◌, suc, Bool, true, false, ◌&&◌, if◌then◌else◌, Option, Some, None, length, get_or, drop, take, drop-cons, add-one, ◌-◌, ◌≤◌, subst, arith, length-drop}
 use Rattle.std.proofs.lemmas.List.{append-nil, take_all, map_more, at_drop_all}
-use Rattle.std.proofs.lemmas.Result.{err_from_is_err_and}
 use Rattle.elan_tree.specs.declared.phrase.Unit.{Unit as Statement}
 use Rattle.elan_tree.specs.declared.phrase.Branch.{Branch}
 use Rattle.elan_tree.specs.declared.phrase.Case.{Case}
@@ -17,7 +16,7 @@ use Rattle.choice_rules.specs.Choices.{labels_of}
 use Rattle.elan_rules.specs.Meaning.{judged, judged_all}
 use Rattle.elan_scope.specs.declared.delivery.Delivery.{Delivery}
 use Rattle.elan_scope.specs.declared.delivery.Delivery.TheVariants.{Nothing}
-use Rattle.elan_scope.specs.Phrase.{Form, Phrase, phrase, Parts, none, part, around, all_of}
+use Rattle.elan_scope.specs.Phrase.{Form, Phrase, phrase, Parts, part, around, all_of}
 use Rattle.elan_scope.specs.Ruled.{Ruled, gives, breaks, hangs, ◌>>=◌, before, beside, joined}
 use Rattle.elan_rules.specs.Rules.{rule}
 use Rattle.elan_meant.proofs.Beside.{before_joined, single_joined}

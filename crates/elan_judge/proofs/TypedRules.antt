@@ -1,13 +1,13 @@
 -- What a phrase means has the types that it asks for.
-use Rattle.std.proofs.Common.{◌≡◌, ℕ, List, [], ◌∷◌, Option, Some, None, refl, sym, subst}
+use Rattle.std.proofs.Common.{◌≡◌, ℕ, Bool, List, [], ◌∷◌, length, Option, Some, None, sym, subst}
 use Rattle.elan_meant.specs.declared.meant.Meant.{Meant}
 use Rattle.elan_scope.specs.Ruled.{Ruled, gives}
 use Rattle.elan_scope.specs.Scope as scope
 use Rattle.elan_scope.specs.declared.scope.Scope.{Scope}
 use Rattle.elan_scope.specs.declared.known.Known.{Known}
-use Rattle.elan_scope.specs.declared.heading.Sort.TheVariants.{Operator}
-use Rattle.elan_scope.specs.declared.heading.Heading.{Heading}
-use Rattle.elan_meant.specs.Predefined.{becomes}
+use Rattle.elan_scope.specs.declared.heading.Sort.TheVariants.{Procedure, Operator}
+use Rattle.elan_scope.specs.Scope.{Callable}
+use Rattle.elan_meant.specs.Operands.{chosen, becomes}
 use Rattle.elan_scope.specs.Phrase as form
 use Rattle.elan_scope.specs.Phrase.{Form, Phrase, phrase, Parts, none, part}
 use Rattle.elan_meant.specs.Parts as p
@@ -38,15 +38,16 @@ module _ (here : Stand) (s : Scope) (k : Known) (fits : Fits here s k) where
   in_scope : (f : Scope → Ruled Meant) (z : Scope) → z ≡ s → Gives Good (f s) → Gives Good (f z)
   in_scope f z e h = subst (λ (y : Scope). Gives Good (f y)) (sym e) h
 
-  assignment_by : (at : ℕ) (ms : List Meant) (o : Option (ℕ × Heading)) → AllGood ms → Gives Good (r.applied_as at s Operator becomes ms o)
+  assignment_by : (at : ℕ) (known : Bool) (ms : List Meant) (o : Option Callable) → AllGood ms → Gives Good (r.applied_as at known ms o)
       → Gives Good (all.assignment_as at ms o)
-  assignment_by at ms (Some b) g h = on_bind Good Good (r.called at b.0 b.1.what ms) u.alone h (alone_good here)
-  assignment_by at ms None g h = ty.two here ms (u.assigned at) g (assigned_good here at)
+  assignment_by at known ms (Some c) g h = on_bind Good Good (r.called at c ms) u.alone h (alone_good here)
+  assignment_by at known ms None g h = ty.two here ms (u.assigned at) g (assigned_good here at)
 
   -- An own operator is called as operators are.
   assignment_good : (at : ℕ) (ms : List Meant) → AllGood ms → Gives Good (all.assignment at s ms)
   assignment_good at ms g =
-      assignment_by at ms (scope.first_heading (r.takes Operator becomes ms) s.headings) g (applied_good here s k fits at Operator becomes ms g)
+      assignment_by at (scope.is_known s Operator becomes (length ms)) ms (chosen s Operator becomes ms) g
+      (applied_good here s k fits at Operator becomes ms g)
 
   rules : (f : Form) (ms : List Meant) → Names s f → AllGood ms → Gives Good (rule k f ms)
   rules form.absent ms i g = tt
@@ -60,7 +61,7 @@ module _ (here : Stand) (s : Scope) (k : Known) (fits : Fits here s k) where
   rules (form.cor at) ms i g = ty.two here ms (all.cor at) g (cor_good here at)
   rules (form.choice at) ms i g = choice_good here at ms g
   rules (form.label at earlier n) ms i g = on_if Good (c.is_in earlier n) _ _ (λ e. tt) (λ e. tt)
-  rules (form.label_name at z x) ms i g = label_named_good here at x (scope.find z x)
+  rules (form.label_name at z x) ms i g = label_named_good here at (scope.is_known z Procedure x 0) (scope.find z x)
   rules form.labels ms i g = tt
   rules (form.selection at) [] i g = tt
   rules (form.selection at) (m ∷ ms) i g = selected_good here at m ms g.0 g.1

@@ -11,6 +11,7 @@ ghost use Rattle.elan_judge.specs.Shape as shape;
 use choice_rules::selection::{label_is, label_named};
 use elan_meant::meant::Meant;
 use elan_meant::row::Judged;
+use elan_scope::heading::Sort;
 use elan_scope::known::Known;
 use elan_scope::scope::Scope;
 use elan_scope::trouble::Trouble;
@@ -44,7 +45,8 @@ fn judge_label(known: &Known, scope: &Scope, earlier: &[i16], label: &Label) -> 
         Label::Number(at, number) => label_is(*at, earlier, *number),
         Label::Named(name) => {
             let text = name.text.as_slice();
-            label_named(name.at, text, scope.find(text))
+            let is_known = scope.is_known(Sort::Procedure, text, 0);
+            label_named(name.at, is_known, scope.find(text))
         }
     }
 }

@@ -1,6 +1,5 @@
 pub use Rattle.elan_scope.specs.Scope
 pub use Rattle.elan_scope.specs.Ruled
 pub use Rattle.elan_scope.specs.Answer
-pub mod Predefined
 pub mod Operands
 pub mod Parts

@@ -1,11 +1,11 @@
 -- Operands: what they deliver, and what takes them.
-use Rattle.std.specs.Prelude.{ℕ, Bool, true, false, ◌&&◌, List, [], ◌∷◌}
-use Rattle.std.specs.Str.{bytes_eq}
+use Rattle.std.specs.Prelude.{ℕ, Bool, true, false, ◌&&◌, List, [], ◌∷◌, Option, codes}
 use Rattle.elan_types.specs.declared.elan_type.ElanType.{ElanType}
+use Rattle.elan_types.specs.declared.core_phrase.Parameter.{Parameter}
 use Rattle.elan_types.specs.Typing.{same_type}
 use Rattle.elan_scope.specs.declared.heading.Sort.{Sort}
-use Rattle.elan_scope.specs.declared.heading.Heading.{Heading}
-use Rattle.elan_scope.specs.Scope.{is_routine, types_of}
+use Rattle.elan_scope.specs.declared.scope.Scope.{Scope}
+use Rattle.elan_scope.specs.Scope.{Callable, is_called, called_by}
 use Rattle.elan_meant.specs.declared.meant.Meant.{Meant}
 use Rattle.elan_meant.specs.declared.meant.Meant.TheVariants.{Variable, Value}
 
@@ -14,12 +14,20 @@ delivers t (Variable at u p) = same_type t u
 delivers t (Value at u v) = same_type t u
 delivers t _ = false
 
-abbrev pub fit : List ElanType → List Meant → Bool
+abbrev pub fit : List Parameter → List Meant → Bool
 fit [] [] = true
 fit [] (m ∷ ms) = false
-fit (t ∷ ts) [] = false
-fit (t ∷ ts) (m ∷ ms) = delivers t m && fit ts ms
+fit (p ∷ ps) [] = false
+fit (p ∷ ps) (m ∷ ms) = delivers p.of m && fit ps ms
 
--- A PROC or OP of that name takes these operands.
-abbrev pub takes : Sort → List ℕ → List Meant → Heading → Bool
-takes sort x ms h = bytes_eq h.name x && is_routine sort (λ ps. fit (types_of ps) ms) h.what
+-- It is called so, and takes exactly these operands.
+abbrev pub takes : Sort → List ℕ → List Meant → Callable → Bool
+takes sort x ms c = is_called sort x c && fit c.parameters ms
+
+-- what is called by a name with these operands
+abbrev pub chosen : Scope → Sort → List ℕ → List Meant → Option Callable
+chosen s sort x ms = called_by (takes sort x ms) s
+
+-- the operator of assignments, for which a text can have one of its own
+abbrev pub becomes : List ℕ
+becomes = codes ":="

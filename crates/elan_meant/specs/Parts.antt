@@ -1,5 +1,5 @@
 -- What the parts of a phrase deliver, where they have meaning.
-use Rattle.std.specs.Prelude.{ℕ, pos, Bool, true, false, List, [], ◌∷◌, ◌++◌, Option, Some, None}
+use Rattle.std.specs.Prelude.{pos, Bool, true, false, List, [], ◌∷◌, ◌++◌, Option, Some, None}
 use Rattle.elan_types.specs.declared.elan_type.ElanType.{ElanType}
 use Rattle.elan_types.specs.declared.elan_type.ElanType.TheVariants.{Int, Bool as Truths}
 use Rattle.elan_types.specs.declared.core_phrase.PlacePhrase.{PlacePhrase}
@@ -7,13 +7,11 @@ use Rattle.elan_types.specs.declared.core_phrase.ValuePhrase.{ValuePhrase}
 use Rattle.elan_types.specs.declared.core_phrase.ValuePhrase.TheVariants as value
 use Rattle.elan_types.specs.declared.core_phrase.Action.{Action}
 use Rattle.elan_types.specs.declared.core_phrase.Action.TheVariants as action
-use Rattle.elan_types.specs.declared.why.Why.TheVariants.{Unknown}
-use Rattle.elan_meant.specs.declared.meant.Part.{Part}
-use Rattle.elan_meant.specs.declared.meant.Part.TheVariants as part
+use Rattle.elan_types.specs.declared.why.Why.TheVariants.{Unknown, NoVariable}
 use Rattle.elan_meant.specs.declared.meant.Meant.{Meant}
 use Rattle.elan_meant.specs.declared.meant.Meant.TheVariants.{Absent, Variable, Value, Done, Left}
 use Rattle.elan_meant.specs.Operands.{delivers}
-use Rattle.elan_scope.specs.Ruled.{Ruled, breaks}
+use Rattle.elan_scope.specs.Ruled.{Ruled, gives, breaks}
 
 -- what no text asks for
 abbrev pub unasked : {A : Type 0} → Ruled A
@@ -27,19 +25,16 @@ value_of (Variable at t p) = value.Load p t
 value_of (Value at t v) = v
 value_of _ = value.Truth false
 
-abbrev pub variable_of : Meant → Option PlacePhrase
-variable_of (Variable at t p) = Some p
-variable_of _ = None
+-- A variable is needed.
+abbrev pub variable : Meant → Ruled PlacePhrase
+variable (Variable at t p) = gives p
+variable (Value at t v) = breaks (at, NoVariable)
+variable _ = unasked
 
 abbrev pub type_in : Meant → Option ElanType
 type_in (Variable at t p) = Some t
 type_in (Value at t v) = Some t
 type_in _ = None
-
-abbrev pub place_of : Meant → ℕ
-place_of (Variable at t p) = at
-place_of (Value at t v) = at
-place_of _ = 0
 
 -- what a phrase means where a value is asked for
 abbrev pub loaded : Meant → Meant
@@ -65,10 +60,6 @@ written _ = None
 abbrev pub unit_of : List Action → Meant
 unit_of as' = Done (action.Unit as' ∷ [])
 
-abbrev pub values_of : List Meant → List ValuePhrase
-values_of [] = []
-values_of (m ∷ ms) = value_of m ∷ values_of ms
-
 -- what phrases do that deliver nothing, one after another
 abbrev pub actions_of : List Meant → List Action
 actions_of [] = []
@@ -78,12 +69,6 @@ actions_of (m ∷ ms) = actions m ++ actions_of ms
 abbrev pub blank : ElanType → ValuePhrase
 blank Int = value.Number (pos 0)
 blank Truths = value.Truth false
-
--- a list of units as a part of IF or SELECT
-abbrev pub part_of : Meant → Part
-part_of (Value at t v) = part.Value t v
-part_of (Left as') = part.Left as'
-part_of m = part.Done (actions m)
 
 -- behind a LEAVE any value of the type that is asked for
 abbrev pub unreached : List Action → ElanType → ValuePhrase

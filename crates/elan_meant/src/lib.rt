@@ -1,9 +1,8 @@
-//! What is known of phrases that have meaning, and the predefined names that their types choose among.
+//! What is known of phrases that have meaning, and what their types choose.
 #![tactic(auto)]
 
 pub mod arity;
 pub mod meant;
 pub mod operands;
 pub mod part;
-pub mod predefined;
 pub mod row;

@@ -1,29 +1,7 @@
 //! What is known of a phrase that has meaning.
 
-use elan_types::{Action, Body, Change, ElanType, Operation, PlacePhrase, ValuePhrase};
+use elan_types::{Action, Body, ElanType, PlacePhrase, ValuePhrase};
 use eu_base::{Boxed, List};
-
-/// What a predefined operator or procedure does.
-#[derive(Clone, Copy)]
-pub enum Does {
-    /// Delivers the result of an operation, of this type.
-    Delivers(Operation, ElanType),
-    /// Changes the variable that is its first operand.
-    Changes(Change),
-    /// `put` of a number
-    Puts,
-    /// `line`
-    EndsLine,
-}
-
-/// A list of units that is a part of IF or SELECT.
-#[derive(Drop)]
-pub enum Part {
-    Done(List<Action>),
-    Value(ElanType, Boxed<ValuePhrase>),
-    /// It ends with a LEAVE.
-    Left(List<Action>),
-}
 
 /// What a phrase means.
 #[derive(Drop)]
@@ -54,11 +32,6 @@ pub enum Meant {
         units: List<Action>,
         bodies: List<Body>,
     },
-}
-
-impl Part {
-    /// Lets it go, here and not inline in a caller, whose proof would be long with it.
-    pub fn let_go(self) {}
 }
 
 impl Meant {

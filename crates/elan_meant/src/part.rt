@@ -5,10 +5,11 @@ ghost use Rattle.elan_meant.specs.Parts as spec;
 ghost use Rattle.elan_scope.specs.Ruled.{gives};
 ghost use Rattle.elan_scope.specs.Answer.{Is};
 
-use crate::meant::{Meant, Part};
+use crate::meant::Meant;
 use crate::operands::delivers;
 use crate::row::Judged;
-use elan_types::{Action, ElanType, PlacePhrase, ValuePhrase};
+use elan_scope::trouble::Trouble;
+use elan_types::{Action, ElanType, PlacePhrase, ValuePhrase, Why};
 use eu_base::{Boxed, List, NoMemory};
 use std::alloc::Global;
 
@@ -50,19 +51,23 @@ pub fn value_in(meant: Meant) -> ValuePhrase
     }
 }
 
-/// The variable that a part is, if it is one.
-pub fn variable_of(meant: Meant) -> Option<PlacePhrase>
-    ensures { result ≡ spec.variable_of meant }
+/// The variable that a part is; another value breaks the rule that a variable is needed.
+pub fn variable(meant: Meant) -> Result<PlacePhrase, Trouble>
+    ensures { Is result (spec.variable meant) }
 {
     match meant {
         Meant::Variable {
             at: _at,
             of: _of,
             place,
-        } => Some(place),
+        } => Ok(place),
+        Meant::Value { at, of: _of, value } => {
+            value.into_inner().let_go();
+            Err(Trouble::Breaks(at, Why::NoVariable))
+        }
         other => {
             other.let_go();
-            None
+            Err(Trouble::Breaks(0, Why::Unknown))
         }
     }
 }
@@ -78,17 +83,6 @@ pub fn type_in(meant: &Meant) -> Option<ElanType>
     }
 }
 
-/// The place of a part that delivers a value or is a variable.
-pub fn place_of(meant: &Meant) -> u32
-    ensures { result ≡ spec.place_of meant.now }
-{
-    match meant {
-        Meant::Variable { at, .. } => *at,
-        Meant::Value { at, .. } => *at,
-        _ => 0,
-    }
-}
-
 /// The actions of a part that delivers nothing.
 pub fn actions(alloc: Global, meant: Meant) -> List<Action>
     ensures { result ≡ spec.actions meant }
@@ -99,21 +93,6 @@ pub fn actions(alloc: Global, meant: Meant) -> List<Action>
         other => {
             other.let_go();
             List::new(alloc)
-        }
-    }
-}
-
-/// A list of units as a part of IF or SELECT.
-pub fn part_of(alloc: Global, meant: Meant) -> Part
-    ensures { result ≡ spec.part_of meant }
-{
-    match meant {
-        Meant::Value { at: _at, of, value } => Part::Value(of, value),
-        Meant::Done(actions) => Part::Done(actions),
-        Meant::Left(actions) => Part::Left(actions),
-        other => {
-            other.let_go();
-            Part::Done(List::new(alloc))
         }
     }
 }

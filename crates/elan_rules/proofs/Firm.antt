@@ -3,8 +3,7 @@ use Rattle.std.specs.Prelude.{nat_eq}
 use Rattle.eu_base.specs.Operations.{in_range}
 use Rattle.std.proofs.Common.{◌≡◌, ℕ, Bool, true, false, ◌&&◌, if◌then◌else◌, List, [], ◌∷◌, Option, Some, None, length, refl}
 use Rattle.elan_types.specs.declared.elan_type.ElanType.{ElanType}
-use Rattle.elan_types.specs.declared.elan_type.ElanType.TheVariants.{Int}
-use Rattle.elan_types.specs.declared.core_phrase.PlacePhrase.{PlacePhrase}
+use Rattle.elan_types.specs.declared.elan_type.ElanType.TheVariants.{Int, Bool as Truths}
 use Rattle.elan_types.specs.declared.core_phrase.ValuePhrase.{ValuePhrase}
 use Rattle.elan_types.specs.declared.core_phrase.Action.{Action}
 use Rattle.elan_types.specs.declared.core_phrase.Access.{Access}
@@ -12,30 +11,27 @@ use Rattle.elan_types.specs.declared.core_phrase.Access.TheVariants.{Const, Var}
 use Rattle.elan_types.specs.declared.core_phrase.Parameter.{Parameter}
 use Rattle.elan_types.specs.declared.core_phrase.Exit.{Exit}
 use Rattle.elan_types.specs.declared.why.Why.TheVariants.{WrongPlace}
-use Rattle.eu_base.specs.declared.operation.Change.{Change}
-use Rattle.eu_base.specs.declared.operation.Way.{Way}
 use Rattle.elan_scope.specs.declared.delivery.Delivery.{Delivery}
 use Rattle.elan_scope.specs.declared.delivery.Delivery.TheVariants.{Open, Nothing, Of}
 use Rattle.elan_scope.specs.declared.scope.Denotes.{Denotes}
 use Rattle.elan_scope.specs.declared.scope.Denotes.TheVariants as denotes
 use Rattle.elan_scope.specs.declared.heading.Sort.{Sort}
 use Rattle.elan_scope.specs.declared.heading.Sort.TheVariants.{Procedure, Operator}
-use Rattle.elan_scope.specs.declared.heading.What.{What}
-use Rattle.elan_scope.specs.declared.heading.What.TheVariants.{Routine, Refinement}
 use Rattle.elan_scope.specs.declared.heading.Heading.{Heading}
-use Rattle.elan_meant.specs.declared.meant.Does.{Does}
-use Rattle.elan_meant.specs.declared.meant.Does.TheVariants.{Delivers, Changes, Puts, EndsLine}
 use Rattle.elan_scope.specs.declared.scope.Usage.{Usage}
 use Rattle.elan_scope.specs.declared.scope.Usage.TheVariants as usage
-use Rattle.elan_meant.specs.declared.meant.Part.{Part}
-use Rattle.elan_meant.specs.declared.meant.Part.TheVariants as part
 use Rattle.elan_meant.specs.declared.meant.Meant.{Meant}
 use Rattle.elan_meant.specs.declared.meant.Meant.TheVariants.{Absent, Variable, Value, Done, Left, Labels, Bodies, Level}
-use Rattle.elan_scope.specs.Scope.{find, find_own, left, first_heading, types_of, is_alike, refinement_named}
+use Rattle.elan_scope.specs.Scope.{Callable, find, find_own, is_known, left, first_heading, types_of, is_alike, refinement_named}
 use Rattle.elan_scope.specs.declared.scope.Scope.{Scope}
 use Rattle.elan_scope.specs.declared.scope.Home.{Home}
 use Rattle.elan_scope.specs.declared.scope.Found.{Found}
-use Rattle.elan_meant.specs.Predefined.{predefined, chosen, exists, delivers, becomes}
+use Rattle.elan_meant.specs.Operands.{chosen, delivers, becomes}
+use Rattle.elan_types.specs.declared.core_phrase.Actual.{Actual}
+use Rattle.elan_types.specs.declared.core_phrase.Actual.TheVariants as actual
+use Rattle.elan_scope.specs.declared.callable.Callee.{Callee}
+use Rattle.elan_scope.specs.declared.callable.Callee.TheVariants.{Predefined, Body}
+use Rattle.elan_scope.specs.declared.predefined.Predefined.TheVariants.{Operation, Change, Put, Line}
 use Rattle.elan_scope.specs.Phrase as form
 use Rattle.elan_scope.specs.Phrase.{Form}
 use Rattle.elan_scope.specs.Ruled.{Ruled, gives, breaks, hangs, ◌>>=◌, before}
@@ -88,43 +84,51 @@ six : (o : Option (Meant × Meant × Meant × Meant × Meant × Meant)) (f : Mea
 six None f h = refl
 six (Some p) f h = h p.0 p.1 p.2 p.3 p.4 p.5
 
-changed_at : (ch : Change) (at : ℕ) (x : Option PlacePhrase) (v : ValuePhrase) → IsFirm (c.changed_at ch at x v)
-changed_at ch at None v = refl
-changed_at ch at (Some x) v = refl
-
-done : (at : ℕ) (d : Does) (ms : List Meant) → IsFirm (c.done at d ms)
-done at (Delivers op t) ms = refl
-done at (Changes ch) ms = two (p.two_of ms) (c.changed ch) (λ m n. changed_at ch (p.place_of m) (p.variable_of m) (p.value_of n))
-done at Puts ms = one (p.one_of ms) c.put (λ m. refl)
-done at EndsLine ms = refl
-
-predefined_as : (at : ℕ) (known : Bool) (ms : List Meant) (o : Option Does) → IsFirm (c.predefined_as at known ms o)
-predefined_as at known ms (Some d) = done at d ms
-predefined_as at known ms None = on_if known _ _ refl refl
-
-given_place : (t : ElanType) (at : ℕ) (x : Option PlacePhrase) → IsFirm (c.given_place t at x)
-given_place t at None = refl
-given_place t at (Some x) = refl
+variable : (m : Meant) → IsFirm (p.variable m)
+variable Absent = refl
+variable (Variable at t x) = refl
+variable (Value at t v) = refl
+variable (Done as') = refl
+variable (Left as') = refl
+variable (Labels ns) = refl
+variable (Bodies bs) = refl
+variable (Level us bs) = refl
 
 given_as : (a : Access) (t : ElanType) (m : Meant) → IsFirm (c.given_as a t m)
 given_as Const t m = refl
-given_as Var t m = given_place t (p.place_of m) (p.variable_of m)
+given_as Var t m = on_bind (p.variable m) _ (variable m) (λ x. refl)
 
 given : (ps : List Parameter) (ms : List Meant) → IsFirm (c.given ps ms)
 given [] ms = refl
 given (q ∷ ps) [] = refl
 given (q ∷ ps) (m ∷ ms) = on_before (c.given_as q.access q.of m) (c.given ps ms) (given_as q.access q.of m) (given ps ms)
 
-called : (at n : ℕ) (w : What) (ms : List Meant) → IsFirm (c.called at n w ms)
-called at n (Routine sort ps o) ms = on_bind (c.given ps ms) _ (given ps ms) (λ as'. refl)
-called at n (Refinement home) ms = refl
+performed : (at : ℕ) (f : Callee) (o : Option ElanType) (as' : List Actual) → IsFirm (c.performed at f o as')
+performed at (Predefined (Operation op)) None as' = refl
+performed at (Predefined (Operation op)) (Some t) as' = refl
+performed at (Predefined (Change ch)) o [] = refl
+performed at (Predefined (Change ch)) o (actual.Value v ∷ as') = refl
+performed at (Predefined (Change ch)) o (actual.Place x t ∷ []) = refl
+performed at (Predefined (Change ch)) o (actual.Place x t ∷ actual.Value v ∷ []) = refl
+performed at (Predefined (Change ch)) o (actual.Place x t ∷ actual.Value v ∷ a ∷ as') = refl
+performed at (Predefined (Change ch)) o (actual.Place x t ∷ actual.Place y u ∷ as') = refl
+performed at (Predefined Put) o [] = refl
+performed at (Predefined Put) o (actual.Value v ∷ []) = refl
+performed at (Predefined Put) o (actual.Value v ∷ a ∷ as') = refl
+performed at (Predefined Put) o (actual.Place x t ∷ as') = refl
+performed at (Predefined Line) o as' = refl
+performed at (Body n) None as' = refl
+performed at (Body n) (Some t) as' = refl
 
-applied_as : (at : ℕ) (s : Scope) (sort : Sort) (x : List ℕ) (ms : List Meant) (o : Option (ℕ × Heading)) → IsFirm (c.applied_as at s sort x ms o)
-applied_as at s sort x ms (Some b) = called at b.0 b.1.what ms
-applied_as at s sort x ms None = predefined_as at (c.is_known s.headings sort x (length ms)) ms (chosen predefined x ms)
+called : (at : ℕ) (f : Callable) (ms : List Meant) → IsFirm (c.called at f ms)
+called at f ms = on_bind (c.given f.parameters ms) _ (given f.parameters ms) (λ as'. performed at f.callee f.result as')
+
+applied_as : (at : ℕ) (known : Bool) (ms : List Meant) (o : Option Callable) → IsFirm (c.applied_as at known ms o)
+applied_as at known ms (Some f) = called at f ms
+applied_as at known ms None = on_if known _ _ refl refl
 
 applied : (at : ℕ) (s : Scope) (sort : Sort) (x : List ℕ) (ms : List Meant) → IsFirm (c.applied at s sort x ms)
-applied at s sort x ms = applied_as at s sort x ms (first_heading (c.takes sort x ms) s.headings)
+applied at s sort x ms = applied_as at (is_known s sort x (length ms)) ms (chosen s sort x ms)
 
 declared : (at : ℕ) (o : Option Found) → IsFirm (c.declared at o)
 declared at None = refl
@@ -158,13 +162,8 @@ agreed_as : (at : ℕ) (o : Option ElanType) (m : Meant) → IsFirm (u.agreed_as
 agreed_as at None m = refl
 agreed_as at (Some t) m = on_if (delivers t m) _ _ refl refl
 
-assigned_to : (x : Option PlacePhrase) (p : ℕ) (t : ElanType) (v : ValuePhrase) → IsFirm (u.assigned_to x p t v)
-assigned_to None p t v = refl
-assigned_to (Some x) p t v = refl
-
-initial_to : (x : Option PlacePhrase) (t : ElanType) (v : ValuePhrase) → IsFirm (u.initial_to x t v)
-initial_to None t v = refl
-initial_to (Some x) t v = refl
+stored : (at : ℕ) (l m : Meant) → IsFirm (u.stored at l m)
+stored at l m = on_bind (u.agreed at l m) _ (agreed_as at (p.type_in l) m) (λ t. on_bind (p.variable l) _ (variable l) (λ x. refl))
 
 alone_value : (m : Meant) → IsFirm (u.alone_value m)
 alone_value Absent = refl
@@ -189,31 +188,25 @@ without_value (Labels ns) = refl
 without_value (Bodies bs) = refl
 without_value (Level us bs) = refl
 
-delivered : (at : ℕ) (o : Option Part) → IsFirm (h.delivered at o)
-delivered at None = refl
-delivered at (Some (part.Done as')) = refl
-delivered at (Some (part.Value t v)) = refl
-delivered at (Some (part.Left as')) = refl
+delivering : (at : ℕ) (as' : List Action) (f : ElanType → ValuePhrase) (o : Option Delivery) → IsFirm (h.delivering at as' f o)
+delivering at as' f None = refl
+delivering at as' f (Some Open) = refl
+delivering at as' f (Some Nothing) = refl
+delivering at as' f (Some (Of t)) = refl
 
-label_named : (at : ℕ) (x : List ℕ) (o : Option Found) → IsFirm (h.label_named at x o)
-label_named at x (Some f) = refl
-label_named at x None = on_if (exists predefined x 0) _ _ refl refl
+chain : (at : ℕ) (gs : List h.Guard) (q : Ruled Meant) → IsFirm q → IsFirm (h.chain at gs q)
+chain at [] q k = k
+chain at (g ∷ gs) q k =
+    on_bind (h.chain at gs q) (h.branched at g) (chain at gs q k) (λ m. on_if (delivers Truths g.0) _ _
+    (delivering at (h.if_actions (p.value_of g.0) g.1 m) (h.if_value (p.value_of g.0) g.1 m) (h.joined (h.delivery_in g.1) (h.delivery_in m))) refl)
 
-selected_as : (at : ℕ) (v : ValuePhrase) (ls : List h.Guard) (a : Part) (o : Option Delivery) → IsFirm (h.selected_as at v ls a o)
-selected_as at v ls a None = refl
-selected_as at v ls a (Some Open) = refl
-selected_as at v ls a (Some Nothing) = refl
-selected_as at v ls a (Some (Of t)) = refl
+label_named : (at : ℕ) (known : Bool) (o : Option Found) → IsFirm (h.label_named at known o)
+label_named at known (Some f) = refl
+label_named at known None = on_if known _ _ refl refl
 
-counting : (w : Way) (a : ℕ) (x : Option PlacePhrase) (f k c us v : Meant) → IsFirm (l.counting w a x f k c us v)
-counting w a None f k c us v = refl
-counting w a (Some x) f k c us v = refl
-
-assignment_as : (at : ℕ) (ms : List Meant) (o : Option (ℕ × Heading)) → IsFirm (r.assignment_as at ms o)
-assignment_as at ms (Some b) = on_bind (c.called at b.0 b.1.what ms) _ (called at b.0 b.1.what ms) (λ m. alone m)
-assignment_as at ms None =
-    two (p.two_of ms) (u.assigned at)
-    (λ m n. on_bind (u.agreed at m n) _ (agreed_as at (p.type_in m) n) (λ t. assigned_to (p.variable_of m) (p.place_of m) t (p.value_of n)))
+assignment_as : (at : ℕ) (ms : List Meant) (o : Option Callable) → IsFirm (r.assignment_as at ms o)
+assignment_as at ms (Some f) = on_bind (c.called at f ms) _ (called at f ms) (λ m. alone m)
+assignment_as at ms None = two (p.two_of ms) (u.assigned at) (λ m n. on_bind (u.stored at m n) _ (stored at m n) (λ a. refl))
 
 -- the rules but that of identifiers
 abbrev pub Firm : Form → Type 0
@@ -230,24 +223,24 @@ rules kn (form.applied at s sort x) ms i = applied at s sort x ms
 rules kn (form.bracket at) ms i = one (p.one_of ms) (r.bracketed at) (bracketed at)
 rules kn (form.cand at) ms i = two (p.two_of ms) (r.cand at) (λ m n. on_if (r.are_truths m n) _ _ refl refl)
 rules kn (form.cor at) ms i = two (p.two_of ms) (r.cor at) (λ m n. on_if (r.are_truths m n) _ _ refl refl)
-rules kn (form.choice at) ms i = delivered at (h.chain (p.pairs ms) (Some (h.otherwise (p.odd ms))))
+rules kn (form.choice at) ms i = chain at (p.pairs ms) (gives (h.otherwise (p.odd ms))) refl
 rules kn (form.label at earlier n) ms i = on_if (h.is_in earlier n) _ _ refl refl
-rules kn (form.label_name at s x) ms i = label_named at x (find s x)
+rules kn (form.label_name at s x) ms i = label_named at (is_known s Procedure x 0) (find s x)
 rules kn form.labels ms i = refl
 rules kn (form.selection at) [] i = refl
 rules kn (form.selection at) (m ∷ ms) i =
     on_if (delivers Int m) _ _
-    (selected_as at (p.value_of m) (p.pairs ms) (h.otherwise (p.odd ms)) (h.agreed (Some (h.delivery_in (h.otherwise (p.odd ms)))) (p.pairs ms))) refl
+    (delivering at (h.select_actions (p.value_of m) (p.pairs ms) (h.otherwise (p.odd ms)))
+    (h.select_value (p.value_of m) (p.pairs ms) (h.otherwise (p.odd ms))) (h.agreed (Some (h.delivery_in (h.otherwise (p.odd ms)))) (p.pairs ms))) refl
 rules kn (form.declares at s x) ms i = declared at (find_own s x)
-rules kn (form.initial at) ms i =
-    two (p.two_of ms) (u.initial at) (λ m n. on_bind (u.agreed at m n) _ (agreed_as at (p.type_in m) n) (λ t. initial_to (p.variable_of m) t (p.value_of n)))
+rules kn (form.initial at) ms i = two (p.two_of ms) (u.initial at) (λ m n. on_bind (u.stored at m n) _ (stored at m n) (λ a. refl))
 rules kn (form.declaration at) ms i = refl
 rules kn form.statement ms i = one (p.one_of ms) u.alone alone
-rules kn (form.assignment at s) ms i = assignment_as at ms (first_heading (c.takes Operator becomes ms) s.headings)
+rules kn (form.assignment at s) ms i = assignment_as at ms (chosen s Operator becomes ms)
 rules kn (form.loop at) ms i = three (p.three_of ms) (l.loop at) (λ c us v. on_if (l.conditions c v) _ _ refl refl)
 rules kn (form.count at w) ms i =
     six (p.six_of ms) (l.counted at w)
-    (λ n f k c us v. on_if (l.are_numbers n f k && l.conditions c v) _ _ (counting w (p.place_of n) (p.variable_of n) f k c us v) refl)
+    (λ n f k c us v. on_if (l.are_numbers n f k && l.conditions c v) _ _ (on_bind (p.variable n) _ (variable n) (λ x. refl)) refl)
 rules kn form.without_value ms i = one (p.one_of ms) u.without_value without_value
 rules kn (form.must_deliver at t) ms i = one (p.one_of ms) (u.must_deliver at t) (λ m. on_if (u.agrees_with t m) _ _ refl refl)
 rules kn form.units ms i = refl

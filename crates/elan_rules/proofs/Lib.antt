@@ -4,5 +4,6 @@ pub mod Typed
 pub mod TypedUnits
 pub mod TypedLoops
 pub mod TypedChoices
+pub mod TypedPerformed
 pub mod TypedCalls
 pub mod Firm

@@ -7,15 +7,12 @@ use Rattle.elan_types.specs.declared.core_phrase.ValuePhrase.{ValuePhrase}
 use Rattle.elan_types.specs.declared.core_phrase.ValuePhrase.TheVariants as value
 use Rattle.elan_types.specs.declared.core_phrase.Action.{Action}
 use Rattle.elan_types.specs.declared.core_phrase.Action.TheVariants as action
-use Rattle.elan_meant.specs.declared.meant.Part.{Part}
-use Rattle.elan_meant.specs.declared.meant.Part.TheVariants as piece
 use Rattle.elan_meant.specs.declared.meant.Meant.{Meant}
 use Rattle.elan_meant.specs.declared.meant.Meant.TheVariants.{Absent, Variable, Value, Done, Left, Labels, Bodies, Level}
 use Rattle.elan_scope.specs.Ruled.{Ruled, gives, breaks, hangs, ◌>>=◌}
-use Rattle.elan_types.specs.Typing.{Typed, same_type, has, agree, only_if, have, all_true}
-use Rattle.elan_meant.specs.Predefined.{delivers, fit}
+use Rattle.elan_types.specs.Typing.{Typed, same_type, has, agree, only_if, all_true}
+use Rattle.elan_meant.specs.Operands.{delivers}
 use Rattle.elan_meant.specs.Parts as r
-use Rattle.choice_rules.specs.Choices.{part_of}
 use Rattle.elan_rules.proofs.TypeEquations.{Stand, type, typed, lies, load_is, unit_is, has_written}
 
 -- ---- types
@@ -72,17 +69,8 @@ module _ (here : Stand) where
   MayHave t None = Unit {0}
   MayHave t (Some v) = Has t v
 
-  abbrev pub MayLie : ElanType → Option PlacePhrase → Type 0
-  MayLie t None = Unit {0}
-  MayLie t (Some p) = lies here p ≡ Some t
-
   abbrev pub AllTyped : List Action → Type 0
   AllTyped as' = all_true (map (typed here) as') ≡ true
-
-  abbrev pub PartGood : Part → Type 0
-  PartGood (piece.Done as') = AllTyped as'
-  PartGood (piece.Value t v) = Has t v
-  PartGood (piece.Left as') = AllTyped as'
 
   abbrev pub Good : Meant → Type 0
   Good Absent = Unit {0}
@@ -169,15 +157,19 @@ module _ (here : Stand) where
   value_typed t (Bodies bs) g e = absurd cc
   value_typed t (Level us bs) g e = absurd cc
 
-  pub lies_typed : (t : ElanType) (m : Meant) → Good m → delivers t m ≡ true → MayLie t (r.variable_of m)
-  lies_typed t Absent g e = absurd cc
-  lies_typed t (Variable at u x) g e = subst (λ (w : ElanType). MayLie w (Some x)) (sym (same_is t u e)) g
-  lies_typed t (Value at u v) g e = tt
-  lies_typed t (Done as') g e = absurd cc
-  lies_typed t (Left as') g e = absurd cc
-  lies_typed t (Labels ns) g e = absurd cc
-  lies_typed t (Bodies bs) g e = absurd cc
-  lies_typed t (Level us bs) g e = absurd cc
+  abbrev pub Lies : ElanType → PlacePhrase → Type 0
+  Lies t x = lies here x ≡ Some t
+
+  -- A variable that is needed is one of this type.
+  pub variable_good : (t : ElanType) (m : Meant) → Good m → delivers t m ≡ true → Gives (Lies t) (r.variable m)
+  variable_good t Absent g e = tt
+  variable_good t (Variable at u x) g e = subst (λ (w : ElanType). Lies w x) (sym (same_is t u e)) g
+  variable_good t (Value at u v) g e = tt
+  variable_good t (Done as') g e = tt
+  variable_good t (Left as') g e = tt
+  variable_good t (Labels ns) g e = tt
+  variable_good t (Bodies bs) g e = tt
+  variable_good t (Level us bs) g e = tt
 
   pub may_typed : (t : ElanType) (m : Meant) → Good m → r.may_deliver t m ≡ true → MayHave t (r.written m)
   may_typed t Absent g e = tt
@@ -199,16 +191,6 @@ module _ (here : Stand) where
   actions_typed (Bodies bs) g = refl
   actions_typed (Level us bs) g = refl
 
-  pub part_good : (m : Meant) → Good m → PartGood (part_of m)
-  part_good Absent g = refl
-  part_good (Variable at t x) g = refl
-  part_good (Value at t v) g = g
-  part_good (Done as') g = g
-  part_good (Left as') g = g
-  part_good (Labels ns) g = refl
-  part_good (Bodies bs) g = refl
-  part_good (Level us bs) g = refl
-
   -- ---- lists of actions
 
   pub append_typed : (as' bs : List Action) → AllTyped as' → AllTyped bs → AllTyped (as' ++ bs)
@@ -224,12 +206,6 @@ module _ (here : Stand) where
 
   pub unit_typed : (as' : List Action) → AllTyped as' → AllTyped (action.Unit as' ∷ [])
   unit_typed as' h = single_typed (action.Unit as') (unit_is here as' ∙ h)
-
-  pub values_typed : (ts : List ElanType) (ms : List Meant) → AllGood ms → fit ts ms ≡ true → have ts (map (type here) (r.values_of ms)) ≡ true
-  values_typed [] [] g e = refl
-  values_typed [] (m ∷ ms) g e = absurd cc
-  values_typed (t ∷ ts) [] g e = absurd cc
-  values_typed (t ∷ ts) (m ∷ ms) g e = let b = both _ _ e in and_true _ _ (has_self t _ (value_typed t m g.0 b.0)) (values_typed ts ms g.1 b.1)
 
   pub written_typed : (t : ElanType) (o : Option ValuePhrase) → MayHave t o → has_written here t o ≡ true
   written_typed t None h = refl

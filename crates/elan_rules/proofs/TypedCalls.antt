@@ -1,7 +1,7 @@
 -- Names, calls and LEAVE have the types that they ask for.
-use Rattle.std.proofs.Common.{◌≡◌, ℕ, Bool, true, false, ◌&&◌, if◌then◌else◌, List, [], ◌∷◌, ◌++◌, ◌+◌, zero, suc, length, arith, map, Option, Some, None, refl, sym, ap, subst, ◌∙◌}
+-- This file is long since one record, what a scope tells of the bodies, is the premise of all that stands in it.
+use Rattle.std.proofs.Common.{◌≡◌, ℕ, Bool, true, false, if◌then◌else◌, List, [], ◌∷◌, ◌++◌, ◌+◌, zero, suc, length, arith, map, Option, Some, None, refl, sym, ap, subst, ◌∙◌}
 use Rattle.elan_types.specs.declared.elan_type.ElanType.{ElanType}
-use Rattle.elan_types.specs.declared.elan_type.ElanType.TheVariants.{Int}
 use Rattle.elan_types.specs.declared.core_phrase.PlacePhrase.{PlacePhrase}
 use Rattle.elan_types.specs.declared.core_phrase.ValuePhrase.{ValuePhrase}
 use Rattle.elan_types.specs.declared.core_phrase.ValuePhrase.TheVariants as value
@@ -11,23 +11,17 @@ use Rattle.elan_meant.specs.declared.meant.Meant.{Meant}
 use Rattle.elan_scope.specs.declared.scope.Usage.{Usage}
 use Rattle.elan_scope.specs.declared.scope.Usage.TheVariants as usage
 use Rattle.elan_meant.specs.declared.meant.Meant.TheVariants.{Absent, Variable, Value, Done, Left, Labels, Bodies, Level}
-use Rattle.elan_scope.specs.Ruled.{Ruled, gives, breaks, hangs, before}
 use Rattle.std.specs.Prelude.{slice_get, nat_eq}
 use Rattle.std.specs.Str.{bytes_eq}
-use Rattle.eu_base.specs.declared.operation.Change.{Change}
-use Rattle.eu_base.specs.Operations.{operand_kinds, result_kind}
 use Rattle.elan_types.specs.declared.core_phrase.Access.{Access}
 use Rattle.elan_types.specs.declared.core_phrase.Access.TheVariants.{Const, Var}
 use Rattle.elan_types.specs.declared.core_phrase.Parameter.{Parameter}
-use Rattle.elan_types.specs.declared.core_phrase.Actual.{Actual}
 use Rattle.elan_types.specs.declared.core_phrase.Exit.{Exit}
 use Rattle.elan_types.specs.declared.core_phrase.Exit.TheVariants as exits
 use Rattle.elan_types.specs.declared.core_phrase.Scope.{Scope as Owner}
 use Rattle.elan_types.specs.declared.core_phrase.Scope.TheVariants as owner
 use Rattle.elan_types.specs.declared.core_phrase.Body.{Body}
-use Rattle.elan_types.specs.Typing.{Typed, Taken, Home as InBody, same_access, has, type_in, type_as, takes, take_all, taken_by, given_as, result_of_content, result_of, delivered_by, scope_of, refines, is_none, leaves_without, leaves_with, left_from, around, frame_in, owner as owner_in}
-use Rattle.elan_meant.specs.declared.meant.Does.{Does}
-use Rattle.elan_meant.specs.declared.meant.Does.TheVariants.{Delivers, Changes, Puts, EndsLine}
+use Rattle.elan_types.specs.Typing.{Home as InBody, same_home, type_as, result_of_content, result_of, scope_of, refines, leaves_without, leaves_with, left_from, around, frame_in, owner as owner_in}
 use Rattle.elan_scope.specs.declared.delivery.Delivery.{Delivery}
 use Rattle.elan_scope.specs.declared.delivery.Delivery.TheVariants.{Open, Nothing, Of}
 use Rattle.elan_scope.specs.declared.scope.Denotes.{Denotes}
@@ -39,7 +33,7 @@ use Rattle.elan_scope.specs.declared.heading.What.{What}
 use Rattle.elan_scope.specs.declared.heading.What.TheVariants.{Routine, Refinement}
 use Rattle.elan_scope.specs.declared.heading.Heading.{Heading}
 use Rattle.elan_scope.specs.Scope as scope
-use Rattle.elan_scope.specs.Scope.{number_of, held, all_held, types_of, variables_of, or_else}
+use Rattle.elan_scope.specs.Scope.{Callable, number_of, held, all_held, types_of, variables_of, or_else}
 use Rattle.elan_scope.specs.declared.scope.Scope.{Scope}
 use Rattle.elan_scope.specs.declared.scope.Within.{Within}
 use Rattle.elan_scope.specs.declared.scope.Home.{Home}
@@ -47,25 +41,16 @@ use Rattle.elan_scope.specs.declared.scope.Found.{Found}
 use Rattle.elan_scope.specs.declared.scope.Home.TheVariants.{Level as of_level, Routine as of_routine}
 use Rattle.elan_scope.specs.Known.{delivery_at, leads_back}
 use Rattle.elan_scope.specs.declared.known.Known.{Known}
-use Rattle.elan_meant.specs.Predefined.{Line, predefined, chosen}
-use Rattle.elan_meant.specs.Predefined.{delivers, fit}
+use Rattle.elan_scope.specs.Predefined.{predefined}
+use Rattle.elan_scope.proofs.Layers.{called_as}
+use Rattle.elan_meant.specs.Operands.{delivers, takes, chosen}
 use Rattle.elan_rules.proofs.Typed as ty
 use Rattle.elan_rules.proofs.Typed.{same_is, same_self, has_self, agree_self, only_if_holds, both, and_true, Gives, on_if, on_bind}
-use Rattle.elan_meant.specs.Parts as p
 use Rattle.value_rules.specs.Calls as r
-use Rattle.elan_rules.proofs.TypeEquations.{Stand, typed, lies, actual_type, load_is, apply_is, modify_is, put_is, line_is, call_is, refer_is, action_call_is, action_refer_is, leave_is, leave_with_is, given_value_is, given_place_is}
+use Rattle.elan_rules.proofs.TypeEquations.{Stand, typed, lies, refer_is, action_refer_is, leave_is, leave_with_is}
+use Rattle.elan_rules.proofs.TypedPerformed.{owner_with, Headed, Delivering, BodyFits, Fitting, MayCall, none_holds, has_holds, own_calls, predefined_calls, first_calls, else_calls, called_good}
 
 -- ---- look-ups
-
-on_before : {A : Type 0} (P : A → Type 0) (Q : List A → Type 0) (q : Ruled A) (qs : Ruled (List A)) → Gives P q → Gives Q qs → (S : List A → Type 0)
-    → ((x : A) (xs : List A) → P x → Q xs → S (x ∷ xs)) → Gives S (before q qs)
-on_before P Q (gives x) (gives xs) h k S f = f x xs h k
-on_before P Q (gives x) (breaks d) h k S f = tt
-on_before P Q (gives x) hangs h k S f = tt
-on_before P Q (breaks d) qs h k S f = tt
-on_before P Q hangs (gives xs) h k S f = tt
-on_before P Q hangs (breaks d) h k S f = tt
-on_before P Q hangs hangs h k S f = tt
 
 behind : {A : Type 0} (ys xs : List A) (i : ℕ) → slice_get (ys ++ xs) (length ys + i) ≡ slice_get xs i
 behind {A = A} [] xs i = let z : 0 + i ≡ i = omega arith in ap (λ (n : ℕ). slice_get xs n) z
@@ -134,25 +119,6 @@ first_at test hs b e =
 
 -- ---- bodies as their headings tell
 
-abbrev pub owner_with : Option ℕ → Owner
-owner_with None = owner.Level
-owner_with (Some n) = owner.Of n
-
-abbrev pub Headed : What → Body → Type 0
-Headed (Routine sort ps r) b = (vs : List ElanType) × (b.scope ≡ owner.Own ps vs) × (result_of_content b.content ≡ r)
-Headed (Refinement home) b = b.scope ≡ owner_with home
-
-abbrev pub Delivering : Delivery → Body → Type 0
-Delivering Open b = ⊥
-Delivering Nothing b = result_of_content b.content ≡ None
-Delivering (Of t) b = result_of_content b.content ≡ Some t
-
-pub record BodyFits (o : Option Body) (h : Heading) (d : Delivery) : Type 0 where
-  pub body : Body
-  pub is : o ≡ Some body
-  pub headed : Headed h.what body
-  pub delivers : Delivering d body
-
 abbrev pub FrameIs : List Parameter → Option Within → Type 0
 FrameIs frame None = Unit {0}
 FrameIs frame (Some v) = frame ≡ all_held v.names
@@ -170,12 +136,6 @@ module _ (here : Stand) where
   abbrev Has : ElanType → ValuePhrase → Type 0
   Has = ty.Has here
 
-  abbrev MayHave : ElanType → Option ValuePhrase → Type 0
-  MayHave = ty.MayHave here
-
-  abbrev MayLie : ElanType → Option PlacePhrase → Type 0
-  MayLie = ty.MayLie here
-
   abbrev AllTyped : List Action → Type 0
   AllTyped = ty.AllTyped here
 
@@ -184,194 +144,6 @@ module _ (here : Stand) where
 
   abbrev AllGood : List Meant → Type 0
   AllGood = ty.AllGood here
-
-  -- ---- predefined operators and procedures
-
-  abbrev Suits : Does → List Meant → Type 0
-  Suits (Delivers op t) ms = (fit (map type_in (operand_kinds op)) ms ≡ true) × (t ≡ type_in (result_kind op))
-  Suits (Changes c) ms = fit (Int ∷ Int ∷ []) ms ≡ true
-  Suits Puts ms = fit (Int ∷ []) ms ≡ true
-  Suits EndsLine ms = Unit {0}
-
-  abbrev RowFor : List ElanType → Does → Type 0
-  RowFor ts (Delivers op t) = (ts ≡ map type_in (operand_kinds op)) × (t ≡ type_in (result_kind op))
-  RowFor ts (Changes c) = ts ≡ Int ∷ Int ∷ []
-  RowFor ts Puts = ts ≡ Int ∷ []
-  RowFor ts EndsLine = Unit {0}
-
-  abbrev RowsGood : List Line → Type 0
-  RowsGood [] = Unit {0}
-  RowsGood (l ∷ ls) = RowFor l.1 l.2 × RowsGood ls
-
-  row_suits : (ts : List ElanType) (d : Does) (ms : List Meant) → RowFor ts d → fit ts ms ≡ true → Suits d ms
-  row_suits ts (Delivers op t) ms g e = (subst (λ (us : List ElanType). fit us ms ≡ true) g.0 e, g.1)
-  row_suits ts (Changes c) ms g e = subst (λ (us : List ElanType). fit us ms ≡ true) g e
-  row_suits ts Puts ms g e = subst (λ (us : List ElanType). fit us ms ≡ true) g e
-  row_suits ts EndsLine ms g e = tt
-
-  chosen_suits : (ls : List Line) (x : List ℕ) (ms : List Meant) (d : Does) → RowsGood ls → chosen ls x ms ≡ Some d → Suits d ms
-  chosen_suits [] x ms d g e = absurd cc
-  chosen_suits (l ∷ ls) x ms d g e = by_test (chosen_suits ls x ms d g.1) (bytes_eq l.0 x && fit l.1 ms) refl e
-    where
-      by_test : (chosen ls x ms ≡ Some d → Suits d ms) → (b : Bool) → (bytes_eq l.0 x && fit l.1 ms) ≡ b → (if b then Some l.2 else chosen ls x ms) ≡ Some d
-          → Suits d ms
-      by_test rest true t h = let i : l.2 ≡ d = cc in subst (λ (k : Does). Suits k ms) i (row_suits l.1 l.2 ms g.0 (both _ _ t).1)
-      by_test rest false t h = rest h
-
-  changed_good : (c : Change) (at : ℕ) (x : Option PlacePhrase) (v : ValuePhrase) → MayLie Int x → Has Int v → Gives Good (r.changed_at c at x v)
-  changed_good c at None v l h = tt
-  changed_good c at (Some x) v l h = ty.single_typed here (action.Modify c x v) (modify_is here c x v ∙ and_true _ _ (has_self Int _ l) (has_self Int _ h))
-
-  changes_good : (c : Change) (ms : List Meant) → AllGood ms → fit (Int ∷ Int ∷ []) ms ≡ true → Gives Good (p.on_two (p.two_of ms) (r.changed c))
-  changes_good c [] g e = tt
-  changes_good c (m ∷ []) g e = tt
-  changes_good c (m ∷ n ∷ []) g e =
-      let b = both _ _ e in
-      let d = both _ _ b.1 in
-      changed_good c (p.place_of m) (p.variable_of m) (p.value_of n) (ty.lies_typed here Int m g.0 b.0) (ty.value_typed here Int n g.1.0 d.0)
-  changes_good c (m ∷ n ∷ k ∷ ms) g e = tt
-
-  puts_good : (ms : List Meant) → AllGood ms → fit (Int ∷ []) ms ≡ true → Gives Good (p.on_one (p.one_of ms) r.put)
-  puts_good [] g e = tt
-  puts_good (m ∷ []) g e =
-      ty.single_typed here (action.Put (p.value_of m)) (put_is here (p.value_of m) ∙ has_self Int _ (ty.value_typed here Int m g.0 (both _ _ e).0))
-  puts_good (m ∷ n ∷ ms) g e = tt
-
-  done_good : (at : ℕ) (d : Does) (ms : List Meant) → AllGood ms → Suits d ms → Gives Good (r.done at d ms)
-  done_good at (Delivers op t) ms g e =
-      apply_is here op (p.values_of ms) ∙ only_if_holds _ _ t (ty.values_typed here _ ms g e.0) (ap (λ (u : ElanType). Some u) (sym e.1))
-  done_good at (Changes c) ms g e = changes_good c ms g e
-  done_good at Puts ms g e = puts_good ms g e
-  done_good at EndsLine ms g e = ty.single_typed here action.Line (line_is here)
-
-  rows_good : RowsGood predefined
-  unfolding predefined
-  rows_good = (
-    (refl, refl),
-    (
-      (refl, refl),
-      (
-        (refl, refl),
-        (
-          (refl, refl),
-          (
-            (refl, refl),
-            (
-              (refl, refl),
-              (
-                (refl, refl),
-                (
-                  refl,
-                  (
-                    refl,
-                    (
-                      (refl, refl),
-                      (
-                        (refl, refl),
-                        (
-                          (refl, refl),
-                          (
-                            (refl, refl),
-                            (
-                              (refl, refl),
-                              (
-                                (refl, refl),
-                                (
-                                  (refl, refl),
-                                  (
-                                    (refl, refl),
-                                    (
-                                      (refl, refl),
-                                      (
-                                        (refl, refl),
-                                        ((refl, refl), ((refl, refl), ((refl, refl), ((refl, refl), ((refl, refl), (refl, (tt, tt))))))),
-                                      ),
-                                    ),
-                                  ),
-                                ),
-                              ),
-                            ),
-                          ),
-                        ),
-                      ),
-                    ),
-                  ),
-                ),
-              ),
-            ),
-          ),
-        ),
-      ),
-    ),
-  )
-
-  -- ---- what parameters are given
-
-  abbrev GivenFor : Parameter → Actual → Type 0
-  GivenFor q a = takes q (actual_type here a) ≡ true
-
-  same_access_self : (a : Access) → same_access a a ≡ true
-  same_access_self Const = refl
-  same_access_self Var = refl
-
-  takes_self : (t : ElanType) (a : Access) (b : Taken) → b ≡ Some (record { of = t; access = a }) → takes (record { of = t; access = a }) b ≡ true
-  takes_self t a b e = subst (λ (c : Taken). takes (record { of = t; access = a }) c ≡ true) (sym e) (and_true _ _ (same_self t) (same_access_self a))
-
-  given_as_typed : (a : Access) (t : ElanType) (b : Typed) → b ≡ Some t → given_as a b ≡ Some (record { of = t; access = a })
-  given_as_typed a t b e = ap (given_as a) e
-
-  given_place_good : (t : ElanType) (at : ℕ) (x : Option PlacePhrase) → MayLie t x → Gives (GivenFor (record { of = t; access = Var })) (r.given_place t at x)
-  given_place_good t at None l = tt
-  given_place_good t at (Some x) l = takes_self t Var _ (given_place_is here x t ∙ given_as_typed Var t _ (only_if_holds _ _ t (has_self t _ l) refl))
-
-  given_as_good : (a : Access) (t : ElanType) (m : Meant) → Good m → delivers t m ≡ true → Gives (GivenFor (record { of = t; access = a })) (r.given_as a t m)
-  given_as_good Const t m g e = takes_self t Const _ (given_value_is here (p.value_of m) ∙ given_as_typed Const t _ (ty.value_typed here t m g e))
-  given_as_good Var t m g e = given_place_good t (p.place_of m) (p.variable_of m) (ty.lies_typed here t m g e)
-
-  abbrev AllGiven : List Parameter → List Actual → Type 0
-  AllGiven ps as' = take_all ps (map (actual_type here) as') ≡ true
-
-  given_good : (ps : List Parameter) (ms : List Meant) → AllGood ms → fit (types_of ps) ms ≡ true → Gives (AllGiven ps) (r.given ps ms)
-  given_good [] [] g e = refl
-  given_good [] (m ∷ ms) g e = absurd cc
-  given_good (q ∷ ps) [] g e = absurd cc
-  given_good (q ∷ ps) (m ∷ ms) g e =
-      let b = both _ _ e in
-      on_before (GivenFor q) (AllGiven ps) (r.given_as q.access q.of m) (r.given ps ms) (given_as_good q.access q.of m g.0 b.0) (given_good ps ms g.1 b.1)
-      (AllGiven (q ∷ ps)) (λ x xs h i. and_true _ _ h i)
-
-  -- ---- calls
-
-  taken_holds : (n : ℕ) (b : Body) (ps : List Parameter) (vs : List ElanType) (as' : List Taken) → slice_get here.bodies n ≡ Some b → b.scope ≡ owner.Own ps vs
-      → take_all ps as' ≡ true → taken_by (scope_of (slice_get here.bodies n)) as' ≡ true
-  taken_holds n b ps vs as' e o h =
-      ap (λ (c : Option Body). taken_by (scope_of c) as') e ∙ ap (λ (z : Owner). taken_by (Some z) as') o ∙ h
-
-  none_holds : (n : ℕ) (b : Body) → slice_get here.bodies n ≡ Some b → result_of_content b.content ≡ None
-      → is_none (delivered_by (slice_get here.bodies n)) ≡ true
-  none_holds n b e o = ap (λ (c : Option Body). is_none (delivered_by c)) e ∙ ap is_none o
-
-  has_holds : (n : ℕ) (b : Body) (t : ElanType) → slice_get here.bodies n ≡ Some b → result_of_content b.content ≡ Some t
-      → has t (delivered_by (slice_get here.bodies n)) ≡ true
-  has_holds n b t e o = has_self t _ (ap delivered_by e ∙ o)
-
-  call_good : (at n : ℕ) (b : Body) (ps : List Parameter) (vs : List ElanType) (o : Option ElanType) (as' : List Actual) → slice_get here.bodies n ≡ Some b
-      → b.scope ≡ owner.Own ps vs → result_of_content b.content ≡ o → AllGiven ps as' → Good (r.call at n o as')
-  call_good at n b ps vs None as' e z d h =
-      ty.single_typed here (action.Call n as') (action_call_is here n as' ∙ and_true _ _ (taken_holds n b ps vs _ e z h) (none_holds n b e d))
-  call_good at n b ps vs (Some t) as' e z d h =
-      call_is here n as' t ∙ only_if_holds _ _ t (and_true _ _ (taken_holds n b ps vs _ e z h) (has_holds n b t e d)) refl
-
-  called_good : (at n : ℕ) (b : Body) (w : What) (sort : Sort) (ms : List Meant) → slice_get here.bodies n ≡ Some b → Headed w b → AllGood ms
-      → scope.is_routine sort (λ ps. fit (types_of ps) ms) w ≡ true → Gives Good (r.called at n w ms)
-  called_good at n b (Routine other ps o) sort ms e h g t =
-      on_bind (AllGiven ps) Good (r.given ps ms) _ (given_good ps ms g (both _ _ t).1) (λ as' i. call_good at n b ps h.0 o as' e h.1 h.2 i)
-  called_good at n b (Refinement home) sort ms e h g t = tt
-
-  predefined_good : (at : ℕ) (known : Bool) (ms : List Meant) (o : Option Does) → AllGood ms → ((d : Does) → o ≡ Some d → Suits d ms)
-      → Gives Good (r.predefined_as at known ms o)
-  predefined_good at known ms (Some d) g h = done_good at d ms g (h d refl)
-  predefined_good at known ms None g h = on_if Good known _ _ (λ e. tt) (λ e. tt)
 
   -- ---- what stands at places
 
@@ -428,13 +200,13 @@ module _ (here : Stand) where
     level_lies None x e = tt
     level_lies (Some f) x e = level_found f x e
 
-    inside_lies : (o : Option (ℕ × Entry)) (x : List ℕ) → scope.first_named s.level x ≡ o → FoundLies (scope.found_in of_level (scope.from_inside o))
-    inside_lies None x e = tt
-    inside_lies (Some f) x e = by_test (scope.is_refinement f.1.denotes)
+    inside_lies : (o : Option Found) → FoundLies o → FoundLies (scope.from_inside o)
+    inside_lies None h = tt
+    inside_lies (Some f) h = by_test (scope.is_refinement f.denotes)
       where
-        by_test : (b : Bool) → FoundLies (scope.found_in of_level (if b then None else Some f))
+        by_test : (b : Bool) → FoundLies (if b then None else Some f)
         by_test true = tt
-        by_test false = level_found f x e
+        by_test false = h
 
     routine_lies : (es : List Entry) (o : Option (ℕ × Entry)) (x : List ℕ) → frame_in here.bodies (owner_in here.bodies here.home) ≡ all_held es
         → scope.first_named es x ≡ o → FoundLies (scope.found_in of_routine o)
@@ -446,41 +218,49 @@ module _ (here : Stand) where
     else_lies (Some f) q h i = h
 
     find_lies_from : (v : Option Within) (x : List ℕ) → FrameIs (frame_in here.bodies (owner_in here.bodies here.home)) v
-        → FoundLies (scope.find_from s.level v x)
-    find_lies_from None x h = level_lies (scope.first_named s.level x) x refl
+        → FoundLies (scope.find_in x (scope.layers_in v (scope.outer_layers s.level s.headings)))
+    find_lies_from None x h = else_lies (scope.found_in of_level (scope.first_named s.level x)) None (level_lies (scope.first_named s.level x) x refl) tt
     find_lies_from (Some v) x h =
-        else_lies (scope.found_in of_routine (scope.first_named v.names x)) (scope.found_in of_level (scope.from_inside (scope.first_named s.level x)))
-        (routine_lies v.names (scope.first_named v.names x) x h refl) (inside_lies (scope.first_named s.level x) x refl)
+        else_lies (scope.found_in of_routine (scope.first_named v.names x))
+        (or_else (scope.from_inside (scope.found_in of_level (scope.first_named s.level x))) None) (routine_lies v.names (scope.first_named v.names x) x h refl)
+        (else_lies (scope.from_inside (scope.found_in of_level (scope.first_named s.level x))) None
+        (inside_lies (scope.found_in of_level (scope.first_named s.level x)) (level_lies (scope.first_named s.level x) x refl)) tt)
 
     find_lies : (x : List ℕ) → FoundLies (scope.find s x)
     find_lies x = find_lies_from s.routine x fits.frame
 
     own_lies_from : (v : Option Within) (x : List ℕ) → FrameIs (frame_in here.bodies (owner_in here.bodies here.home)) v
-        → FoundLies (scope.find_own_from s.level v x)
+        → FoundLies (scope.find_first x (scope.layers_in v (scope.outer_layers s.level s.headings)))
     own_lies_from None x h = level_lies (scope.first_named s.level x) x refl
     own_lies_from (Some v) x h = routine_lies v.names (scope.first_named v.names x) x h refl
 
-    -- ---- PROCs and OPs
+    -- ---- what is called
 
-    routine_test : (sort : Sort) (x : List ℕ) (ms : List Meant) (h : Heading) → r.takes sort x ms h ≡ true
-        → scope.is_routine sort (λ ps. fit (types_of ps) ms) h.what ≡ true
-    routine_test sort x ms h e = (both _ _ e).1
+    headings_fit : Fitting here 0 s.headings
+    headings_fit i h e =
+        let z : i ≡ 0 + i = omega arith in
+        (delivery_at k i, subst (λ (n : ℕ). BodyFits (slice_get here.bodies n) h (delivery_at k i)) z (fits.bodies i h e))
 
-    applied_as_good : (at : ℕ) (sort : Sort) (x : List ℕ) (ms : List Meant) (o : Option (ℕ × Heading)) → scope.first_heading (r.takes sort x ms) s.headings ≡ o
-        → AllGood ms → Gives Good (r.applied_as at s sort x ms o)
-    applied_as_good at sort x ms (Some b) e g =
-        let h = first_at (r.takes sort x ms) s.headings b e in
-        let f = fits.bodies b.0 b.1 h.0 in
-        called_good at b.0 f.body b.1.what sort ms f.is f.headed g (routine_test sort x ms b.1 h.1)
-    applied_as_good at sort x ms None e g =
-        predefined_good at (r.is_known s.headings sort x (length ms)) ms (chosen predefined x ms) g (λ d i. chosen_suits predefined x ms d rows_good i)
+    chosen_good : (sort : Sort) (x : List ℕ) (ms : List Meant) → MayCall here (takes sort x ms) (chosen s sort x ms)
+    chosen_good sort x ms =
+        subst (MayCall here (takes sort x ms)) (sym (called_as (takes sort x ms) s))
+        (else_calls here (takes sort x ms) (scope.first (takes sort x ms) (scope.own_callables 0 s.headings))
+        (scope.first (takes sort x ms) (map scope.predefined_callable predefined))
+        (first_calls here (takes sort x ms) (scope.own_callables 0 s.headings) (own_calls here 0 s.headings headings_fit))
+        (first_calls here (takes sort x ms) (map scope.predefined_callable predefined) (predefined_calls here predefined)))
+
+    applied_as_good : (at : ℕ) (known : Bool) (sort : Sort) (x : List ℕ) (ms : List Meant) (o : Option Callable) → MayCall here (takes sort x ms) o
+        → AllGood ms → Gives Good (r.applied_as at known ms o)
+    applied_as_good at known sort x ms (Some c) h g = called_good here at c ms h.0 g (both _ _ h.1).1
+    applied_as_good at known sort x ms None h g = on_if Good known _ _ (λ e. tt) (λ e. tt)
 
     pub applied_good : (at : ℕ) (sort : Sort) (x : List ℕ) (ms : List Meant) → AllGood ms → Gives Good (r.applied at s sort x ms)
-    applied_good at sort x ms g = applied_as_good at sort x ms (scope.first_heading (r.takes sort x ms) s.headings) refl g
+    applied_good at sort x ms g =
+        applied_as_good at (scope.is_known s sort x (length ms)) sort x ms (chosen s sort x ms) (chosen_good sort x ms) g
 
     -- ---- refinements
 
-    refines_same : (o q : Option ℕ) → scope.same_number o q ≡ true → refines o (Some (owner_with q)) ≡ true
+    refines_same : (o q : Option ℕ) → same_home o q ≡ true → refines o (Some (owner_with q)) ≡ true
     refines_same None None e = refl
     refines_same None (Some n) e = absurd cc
     refines_same (Some n) None e = absurd cc
@@ -501,8 +281,8 @@ module _ (here : Stand) where
         → Delivering d b → Gives Good (r.referred at n d)
     referred_good at n b Open e o h = tt
     referred_good at n b Nothing e o h =
-        ty.single_typed here (action.Refer n) (action_refer_is here n ∙ and_true _ _ (refines_holds n b e o) (none_holds n b e h))
-    referred_good at n b (Of t) e o h = refer_is here n t ∙ only_if_holds _ _ t (and_true _ _ (refines_holds n b e o) (has_holds n b t e h)) refl
+        ty.single_typed here (action.Refer n) (action_refer_is here n ∙ and_true _ _ (refines_holds n b e o) (none_holds here n b e h))
+    referred_good at n b (Of t) e o h = refer_is here n t ∙ only_if_holds _ _ t (and_true _ _ (refines_holds n b e o) (has_holds here n b t e h)) refl
 
     -- a name that denotes a refinement has one of the scope
     abbrev IsRefined : Option ℕ → Type 0

@@ -1,5 +1,5 @@
 -- Loops have the types that they ask for.
-use Rattle.std.proofs.Common.{◌≡◌, ℕ, true, ◌&&◌, List, [], ◌∷◌, Option, Some, None, ◌∙◌}
+use Rattle.std.proofs.Common.{ℕ, ◌&&◌, List, [], ◌∷◌, Option, Some, None, ◌∙◌}
 use Rattle.elan_types.specs.declared.elan_type.ElanType.{ElanType}
 use Rattle.elan_types.specs.declared.elan_type.ElanType.TheVariants.{Int, Bool as Truths}
 use Rattle.elan_types.specs.declared.core_phrase.PlacePhrase.{PlacePhrase}
@@ -7,7 +7,6 @@ use Rattle.elan_types.specs.declared.core_phrase.ValuePhrase.{ValuePhrase}
 use Rattle.elan_types.specs.declared.core_phrase.Action.{Action}
 use Rattle.elan_types.specs.declared.core_phrase.Action.TheVariants as action
 use Rattle.elan_meant.specs.declared.meant.Meant.{Meant}
-use Rattle.elan_meant.specs.declared.meant.Meant.TheVariants.{Absent, Variable, Value, Done, Left, Labels, Bodies, Level}
 use Rattle.std.specs.Prelude.{pos}
 use Rattle.eu_base.specs.declared.operation.Way.{Way}
 use Rattle.elan_rules.proofs.Typed as ty
@@ -23,8 +22,8 @@ module _ (here : Stand) where
   abbrev MayHave : ElanType → Option ValuePhrase → Type 0
   MayHave = ty.MayHave here
 
-  abbrev MayLie : ElanType → Option PlacePhrase → Type 0
-  MayLie = ty.MayLie here
+  abbrev Lies : ElanType → PlacePhrase → Type 0
+  Lies = ty.Lies here
 
   abbrev AllTyped : List Action → Type 0
   AllTyped = ty.AllTyped here
@@ -55,18 +54,12 @@ module _ (here : Stand) where
       (ty.may_typed here Truths u j b.1)) (λ e. tt)
 
   count_typed : (x : PlacePhrase) (v : ValuePhrase) (w : Way) (l c : Option ValuePhrase) (us : List Action) (u : Option ValuePhrase) →
-      MayLie Int (Some x) → Has Int v → MayHave Int l → MayHave Truths c → AllTyped us → MayHave Truths u
+      Lies Int x → Has Int v → MayHave Int l → MayHave Truths c → AllTyped us → MayHave Truths u
       → AllTyped (action.Unit (action.Count x v w l c us u ∷ []) ∷ [])
   count_typed x v w l c us u hx hv hl hc hs hu =
       ty.unit_typed here _ (ty.single_typed here (action.Count x v w l c us u) (count_is here x v w l c us u
       ∙ (and_true _ _ (has_self Int _ hx) (and_true _ _ (has_self Int _ hv) (and_true _ _ (ty.written_typed here Int l hl)
       (and_true _ _ (ty.written_typed here Truths c hc) (and_true _ _ hs (ty.written_typed here Truths u hu))))))))
-
-  counting_good : (w : Way) (a : ℕ) (x : Option PlacePhrase) (f l c us u : Meant) → MayLie Int x → MayHave Int (p.written f) → MayHave Int (p.written l) →
-      MayHave Truths (p.written c) → AllTyped (p.actions us) → MayHave Truths (p.written u) → Gives Good (r.counting w a x f l c us u)
-  counting_good w a None f l c us u hx hf hl hc hs hu = tt
-  counting_good w a (Some x) f l c us u hx hf hl hc hs hu =
-      count_typed x (r.first_value (p.written f)) w (p.written l) (p.written c) (p.actions us) (p.written u) hx (first_typed (p.written f) hf) hl hc hs hu
 
   pub counted_good : (at : ℕ) (w : Way) (n f l c us u : Meant) → Good n → Good f → Good l → Good c → Good us → Good u → Gives Good (r.counted at w n f l c us u)
   counted_good at w n f l c us u gn gf gl gc gs gu =
@@ -75,6 +68,7 @@ module _ (here : Stand) where
       let numbers = both _ _ b.0 in
       let bounds = both _ _ numbers.1 in
       let truths = both _ _ b.1 in
-      counting_good w (p.place_of n) (p.variable_of n) f l c us u (ty.lies_typed here Int n gn numbers.0) (ty.may_typed here Int f gf bounds.0)
-      (ty.may_typed here Int l gl bounds.1)
-      (ty.may_typed here Truths c gc truths.0) (ty.actions_typed here us gs) (ty.may_typed here Truths u gu truths.1)) (λ e. tt)
+      on_bind (Lies Int) Good (p.variable n) _ (ty.variable_good here Int n gn numbers.0)
+      (λ x k. count_typed x (r.first_value (p.written f)) w (p.written l) (p.written c) (p.actions us) (p.written u) k
+      (first_typed (p.written f) (ty.may_typed here Int f gf bounds.0)) (ty.may_typed here Int l gl bounds.1) (ty.may_typed here Truths c gc truths.0)
+      (ty.actions_typed here us gs) (ty.may_typed here Truths u gu truths.1))) (λ e. tt)

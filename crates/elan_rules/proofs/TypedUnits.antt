@@ -1,25 +1,23 @@
 -- Values, stores, lists of units and bodies have the types that they ask for.
-use Rattle.std.proofs.Common.{◌≡◌, ℤ, ℕ, Bool, true, false, if◌then◌else◌, List, [], ◌∷◌, Option, Some, None, refl, sym, subst, ◌∙◌}
+use Rattle.std.proofs.Common.{◌≡◌, ℤ, ℕ, Bool, true, false, if◌then◌else◌, List, [], ◌∷◌, Option, Some, None, refl, sym, subst, ◌∙◌, ◌&&◌}
 use Rattle.elan_types.specs.declared.elan_type.ElanType.{ElanType}
 use Rattle.elan_types.specs.declared.elan_type.ElanType.TheVariants.{Int, Bool as Truths}
 use Rattle.elan_types.specs.declared.core_phrase.PlacePhrase.{PlacePhrase}
 use Rattle.elan_types.specs.declared.core_phrase.ValuePhrase.{ValuePhrase}
 use Rattle.elan_types.specs.declared.core_phrase.ValuePhrase.TheVariants as value
 use Rattle.elan_types.specs.declared.core_phrase.Action.{Action}
-use Rattle.elan_types.specs.declared.core_phrase.Action.TheVariants as action
 use Rattle.elan_meant.specs.declared.meant.Meant.{Meant}
 use Rattle.elan_meant.specs.declared.meant.Meant.TheVariants.{Absent, Variable, Value, Done, Left, Labels, Bodies, Level}
-use Rattle.elan_types.specs.Typing.{same_type, has, is_content_typed}
+use Rattle.elan_types.specs.Typing.{has, is_content_typed}
 use Rattle.std.specs.Prelude.{pos}
 use Rattle.eu_base.specs.Operations.{in_range}
-use Rattle.elan_types.specs.declared.core_phrase.Content.{Content}
-use Rattle.elan_meant.specs.Predefined.{delivers}
+use Rattle.elan_meant.specs.Operands.{delivers}
 use Rattle.elan_rules.proofs.Typed as ty
 use Rattle.elan_rules.proofs.Typed.{same_is, same_self, has_self, agree_self, only_if_holds, both, and_true, Gives, on_if, on_bind}
 use Rattle.elan_meant.specs.Parts as p
 use Rattle.unit_rules.specs.Units as r
 use Rattle.elan_rules.specs.Rules as rules
-use Rattle.elan_rules.proofs.TypeEquations.{Stand, type, number_is, truth_is, value_if_is, value_unit_is, after_is, store_is}
+use Rattle.elan_rules.proofs.TypeEquations.{Stand, type, typed, number_is, truth_is, value_if_is, value_unit_is, after_is, store_is}
 
 module _ (here : Stand) where
   abbrev Has : ElanType → ValuePhrase → Type 0
@@ -28,8 +26,8 @@ module _ (here : Stand) where
   abbrev MayHave : ElanType → Option ValuePhrase → Type 0
   MayHave = ty.MayHave here
 
-  abbrev MayLie : ElanType → Option PlacePhrase → Type 0
-  MayLie = ty.MayLie here
+  abbrev Lies : ElanType → PlacePhrase → Type 0
+  Lies = ty.Lies here
 
   abbrev AllTyped : List Action → Type 0
   AllTyped = ty.AllTyped here
@@ -77,7 +75,7 @@ module _ (here : Stand) where
   -- ---- stores
 
   abbrev Agreed : Meant → Meant → ElanType → Type 0
-  Agreed l m t = MayLie t (p.variable_of l) × Has t (p.value_of m)
+  Agreed l m t = Gives (Lies t) (p.variable l) × Has t (p.value_of m)
 
   pub agreed_good : (at : ℕ) (l m : Meant) → Good l → Good m → Gives (Agreed l m) (r.agreed at l m)
   agreed_good at Absent m g h = tt
@@ -89,24 +87,20 @@ module _ (here : Stand) where
   agreed_good at (Bodies bs) m g h = tt
   agreed_good at (Level us bs) m g h = tt
 
-  pub store_typed : (x : PlacePhrase) (t : ElanType) (v : ValuePhrase) → MayLie t (Some x) → Has t v → AllTyped (action.Store x t v ∷ [])
-  store_typed x t v l h = ty.single_typed here (action.Store x t v) (store_is here x t v ∙ and_true _ _ (has_self t _ l) (has_self t _ h))
+  abbrev IsTyped : Action → Type 0
+  IsTyped a = typed here a ≡ true
 
-  pub assigned_to_good : (x : Option PlacePhrase) (p : ℕ) (t : ElanType) (v : ValuePhrase) → MayLie t x → Has t v → Gives Good (r.assigned_to x p t v)
-  assigned_to_good None p t v l h = tt
-  assigned_to_good (Some x) p t v l h = ty.unit_typed here (action.Store x t v ∷ []) (store_typed x t v l h)
+  pub stored_good : (at : ℕ) (l m : Meant) → Good l → Good m → Gives IsTyped (r.stored at l m)
+  stored_good at l m g h =
+      on_bind (Agreed l m) IsTyped (r.agreed at l m) _ (agreed_good at l m g h) (λ t a.
+      on_bind (Lies t) IsTyped (p.variable l) _ a.0 (λ x k. store_is here x t (p.value_of m) ∙ and_true _ _ (has_self t _ k) (has_self t _ a.1)))
 
   pub assigned_good : (at : ℕ) (l m : Meant) → Good l → Good m → Gives Good (r.assigned at l m)
   assigned_good at l m g h =
-      on_bind (Agreed l m) Good (r.agreed at l m) _ (agreed_good at l m g h) (λ t a. assigned_to_good (p.variable_of l) (p.place_of l) t (p.value_of m) a.0 a.1)
-
-  pub initial_to_good : (x : Option PlacePhrase) (t : ElanType) (v : ValuePhrase) → MayLie t x → Has t v → Gives Good (r.initial_to x t v)
-  initial_to_good None t v l h = tt
-  initial_to_good (Some x) t v l h = store_typed x t v l h
+      on_bind IsTyped Good (r.stored at l m) _ (stored_good at l m g h) (λ a k. ty.unit_typed here (a ∷ []) (ty.single_typed here a k))
 
   pub initial_good : (at : ℕ) (l m : Meant) → Good l → Good m → Gives Good (r.initial at l m)
-  initial_good at l m g h =
-      on_bind (Agreed l m) Good (r.agreed at l m) _ (agreed_good at l m g h) (λ t a. initial_to_good (p.variable_of l) t (p.value_of m) a.0 a.1)
+  initial_good at l m g h = on_bind IsTyped Good (r.stored at l m) _ (stored_good at l m g h) (λ a k. ty.single_typed here a k)
 
   -- ---- lists of units
 

@@ -5,14 +5,13 @@ use Rattle.elan_types.specs.declared.core_phrase.ValuePhrase.TheVariants as valu
 pub use Rattle.value_rules.specs.Values.{number, bracketed_value, bracketed, are_truths, cand_of, cor_of, cand, cor}
 use Rattle.elan_meant.specs.declared.meant.Meant.{Meant}
 use Rattle.elan_meant.specs.declared.meant.Meant.TheVariants.{Absent, Value, Labels, Bodies, Level}
-use Rattle.elan_scope.specs.Scope.{find, find_own, left, first_heading, is_alike, types_of}
-use Rattle.elan_meant.specs.Predefined.{becomes}
+use Rattle.elan_scope.specs.Scope.{Callable, find, find_own, is_known, left, first_heading, is_alike, types_of}
+use Rattle.elan_meant.specs.Operands.{chosen, becomes}
 use Rattle.elan_scope.specs.declared.known.Known.{Known}
 use Rattle.elan_meant.specs.Parts.{unasked, unit_of, actions_of, one_of, two_of, three_of, six_of, on_one, on_two, on_three, on_six}
 use Rattle.elan_scope.specs.declared.scope.Scope.{Scope}
-use Rattle.elan_scope.specs.declared.heading.Sort.TheVariants.{Operator}
-use Rattle.elan_scope.specs.declared.heading.Heading.{Heading}
-use Rattle.value_rules.specs.Calls.{named, applied, takes, called, declared, headed, leaving}
+use Rattle.elan_scope.specs.declared.heading.Sort.TheVariants.{Procedure, Operator}
+use Rattle.value_rules.specs.Calls.{named, applied, called, declared, headed, leaving}
 use Rattle.unit_rules.specs.Units.{assigned, initial, in_order, alone, without_value, must_deliver, body_with, content_as, content_of, bodies_of}
 use Rattle.choice_rules.specs.Choices.{choice, label_is, label_named, labels_of, selected}
 use Rattle.unit_rules.specs.Loops.{counted, loop}
@@ -23,12 +22,12 @@ use Rattle.elan_scope.specs.Ruled.{Ruled, gives, ◌>>=◌}
 -- ---- assignments
 
 -- An own operator `:=` is looked at first. It is called, and the assignment delivers what it delivers.
-abbrev pub assignment_as : ℕ → List Meant → Option (ℕ × Heading) → Ruled Meant
-assignment_as at ms (Some b) = called at b.0 b.1.what ms >>= alone
+abbrev pub assignment_as : ℕ → List Meant → Option Callable → Ruled Meant
+assignment_as at ms (Some c) = called at c ms >>= alone
 assignment_as at ms None = on_two (two_of ms) (assigned at)
 
 abbrev pub assignment : ℕ → Scope → List Meant → Ruled Meant
-assignment at s ms = assignment_as at ms (first_heading (takes Operator becomes ms) s.headings)
+assignment at s ms = assignment_as at ms (chosen s Operator becomes ms)
 
 -- ---- the rules
 
@@ -44,7 +43,7 @@ rule k (form.cand at) ms = on_two (two_of ms) (cand at)
 rule k (form.cor at) ms = on_two (two_of ms) (cor at)
 rule k (form.choice at) ms = choice at ms
 rule k (form.label at earlier n) ms = label_is at earlier n
-rule k (form.label_name at s x) ms = label_named at x (find s x)
+rule k (form.label_name at s x) ms = label_named at (is_known s Procedure x 0) (find s x)
 rule k form.labels ms = gives (Labels (labels_of ms))
 rule k (form.selection at) [] = unasked
 rule k (form.selection at) (m ∷ ms) = selected at m ms

@@ -7,7 +7,7 @@ ghost use Rattle.elan_scope.specs.Answer.{Is};
 
 use elan_meant::arity::two_of;
 use elan_meant::meant::Meant;
-use elan_meant::operands::first_taking;
+use elan_meant::operands::chosen;
 use elan_meant::row::Judged;
 use elan_scope::heading::Sort;
 use elan_scope::scope::Scope;
@@ -32,10 +32,9 @@ fn stored(alloc: Global, at: u32, operands: List<Meant>) -> Judged
 pub fn assignment(alloc: Global, at: u32, scope: &Scope, operands: List<Meant>) -> Judged
     ensures { Is result (spec.assignment at scope.now operands) }
 {
-    let headings = scope.headings.as_slice();
-    match first_taking(headings, Sort::Operator, b":=", operands.as_slice()) {
-        Some((number, heading)) => {
-            let meant = called(alloc, at, number, &heading.what, operands)?;
+    match chosen(scope, Sort::Operator, b":=", operands.as_slice()) {
+        Some(callable) => {
+            let meant = called(alloc, at, callable, operands)?;
             alone(alloc, meant)
         }
         None => stored(alloc, at, operands),

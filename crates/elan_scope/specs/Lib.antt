@@ -1,6 +1,8 @@
+pub mod Predefined
 pub mod Scope
 pub mod Phrase
 pub mod Ruled
 pub mod Known
 pub mod Answer
 pub mod Apart
+pub mod Seen

@@ -1,11 +1,12 @@
 -- What names denote where a phrase stands.
-use Rattle.std.specs.Prelude.{ℕ, ◌+◌, Bool, true, false, ◌&&◌, ◌==◌, List, [], ◌∷◌, ◌++◌, length, Option, Some, None, if◌then◌else◌, slice_get}
+use Rattle.std.specs.Prelude.{ℕ, ◌+◌, Bool, true, false, ◌&&◌, ◌==◌, List, [], ◌∷◌, ◌++◌, map, length, Option, Some, None, if◌then◌else◌, slice_get}
+use Rattle.std.specs.Option.{is_some}
 use Rattle.std.specs.Str.{bytes_eq}
 use Rattle.elan_types.specs.declared.elan_type.ElanType.{ElanType}
 use Rattle.elan_types.specs.declared.core_phrase.Parameter.{Parameter}
 use Rattle.elan_types.specs.declared.core_phrase.Exit.{Exit}
 use Rattle.elan_types.specs.declared.core_phrase.Exit.TheVariants as exits
-use Rattle.elan_types.specs.Typing.{same_type, held_const}
+use Rattle.elan_types.specs.Typing.{same_type, same_home, held_const}
 use Rattle.elan_scope.specs.declared.scope.Denotes.{Denotes}
 use Rattle.elan_scope.specs.declared.scope.Denotes.TheVariants as denotes
 use Rattle.elan_scope.specs.declared.scope.Entry.{Entry}
@@ -19,6 +20,9 @@ use Rattle.elan_scope.specs.declared.heading.Sort.TheVariants.{Procedure, Operat
 use Rattle.elan_scope.specs.declared.heading.What.{What}
 use Rattle.elan_scope.specs.declared.heading.What.TheVariants.{Routine, Refinement}
 use Rattle.elan_scope.specs.declared.heading.Heading.{Heading}
+use Rattle.elan_scope.specs.declared.callable.Callee.{Callee}
+use Rattle.elan_scope.specs.declared.callable.Callee.TheVariants.{Predefined, Body}
+use Rattle.elan_scope.specs.Predefined.{Row, predefined, parameters, result}
 
 -- the number of the PROC or OP
 abbrev pub number_of : Option Within → Option ℕ
@@ -61,35 +65,109 @@ abbrev pub is_refinement : Denotes → Bool
 is_refinement denotes.Refinement = true
 is_refinement _ = false
 
--- The refinements of a level are for its own units and refinements alone.
-abbrev pub from_inside : Option (ℕ × Entry) → Option (ℕ × Entry)
-from_inside None = None
-from_inside (Some f) = if is_refinement f.1.denotes then None else Some f
+abbrev pub or_else : {A : Type 0} → Option A → Option A → Option A
+or_else None other = other
+or_else (Some x) other = Some x
+
+-- ---- what can be called
+
+abbrev pub same_sort : Sort → Sort → Bool
+same_sort Procedure Procedure = true
+same_sort Operator Operator = true
+same_sort _ _ = false
+
+-- what it is called by, what it is given, what it delivers, and what it is
+pub record Callable : Type 0 where
+  pub sort : Sort
+  pub name : List ℕ
+  pub parameters : List Parameter
+  pub result : Option ElanType
+  pub callee : Callee
+
+-- A PROC or OP is called by its number.
+abbrev pub own_callable : ℕ → List ℕ → What → List Callable
+own_callable n x (Routine sort ps r) = record { sort = sort; name = x; parameters = ps; result = r; callee = Body n } ∷ []
+own_callable n x (Refinement home) = []
+
+abbrev pub own_callables : ℕ → List Heading → List Callable
+own_callables n [] = []
+own_callables n (h ∷ hs) = own_callable n h.name h.what ++ own_callables (n + 1) hs
+
+abbrev pub predefined_callable : Row → Callable
+predefined_callable r = record { sort = r.0; name = r.1; parameters = parameters r.2; result = result r.2; callee = Predefined r.2 }
+
+abbrev pub first : (Callable → Bool) → List Callable → Option Callable
+first test [] = None
+first test (c ∷ cs) = if test c then Some c else first test cs
+
+-- ---- layers
+
+-- the names that are declared somewhere around a phrase, and what can be called from there
+pub record Layer : Type 0 where
+  pub home : Home
+  pub names : List Entry
+  pub callables : List Callable
+
+-- the level, and what is predefined
+abbrev pub outer_layers : List Entry → List Heading → List Layer
+outer_layers names hs =
+    record { home = of_level; names = names; callables = own_callables 0 hs }
+    ∷ record { home = of_level; names = []; callables = map predefined_callable predefined } ∷ []
+
+abbrev pub layers_in : Option Within → List Layer → List Layer
+layers_in None ls = ls
+layers_in (Some w) ls = record { home = of_routine; names = w.names; callables = [] } ∷ ls
+
+-- the layers around a phrase, from the inmost
+abbrev pub layers : Scope → List Layer
+layers s = layers_in s.routine (outer_layers s.level s.headings)
+
+-- what the first layer gives that has it
+abbrev pub first_in : {A : Type 0} → (Layer → Option A) → List Layer → Option A
+first_in look [] = None
+first_in look (l ∷ ls) = or_else (look l) (first_in look ls)
 
 abbrev pub found_in : Home → Option (ℕ × Entry) → Option Found
 found_in home None = None
 found_in home (Some f) = Some (record { home = home; number = f.0; at = f.1.at; denotes = f.1.denotes })
 
-abbrev pub or_else : {A : Type 0} → Option A → Option A → Option A
-or_else None other = other
-or_else (Some x) other = Some x
+abbrev pub found : List ℕ → Layer → Option Found
+found x l = found_in l.home (first_named l.names x)
 
--- The body is looked at first, and then the level.
-abbrev pub find_from : List Entry → Option Within → List ℕ → Option Found
-find_from level None x = found_in of_level (first_named level x)
-find_from level (Some w) x = or_else (found_in of_routine (first_named w.names x)) (found_in of_level (from_inside (first_named level x)))
+-- The refinements of a layer are for its own units and refinements alone.
+abbrev pub from_inside : Option Found → Option Found
+from_inside None = None
+from_inside (Some f) = if is_refinement f.denotes then None else Some f
 
--- what a name denotes, without the predefined names
+abbrev pub find_in : List ℕ → List Layer → Option Found
+find_in x [] = None
+find_in x (l ∷ ls) = or_else (found x l) (first_in (λ m. from_inside (found x m)) ls)
+
+-- what an identifier without actuals denotes
 abbrev pub find : Scope → List ℕ → Option Found
-find s x = find_from s.level s.routine x
+find s x = find_in x (layers s)
+
+abbrev pub find_first : List ℕ → List Layer → Option Found
+find_first x [] = None
+find_first x (l ∷ ls) = found x l
 
 -- what a name denotes in the scope that declares it
-abbrev pub find_own_from : List Entry → Option Within → List ℕ → Option Found
-find_own_from level None x = found_in of_level (first_named level x)
-find_own_from level (Some w) x = found_in of_routine (first_named w.names x)
-
 abbrev pub find_own : Scope → List ℕ → Option Found
-find_own s x = find_own_from s.level s.routine x
+find_own s x = find_first x (layers s)
+
+-- what is called by a name with operands
+unfoldable pub called_by : (Callable → Bool) → Scope → Option Callable
+called_by test s = first_in (λ l. first test l.callables) (layers s)
+
+abbrev pub is_called : Sort → List ℕ → Callable → Bool
+is_called sort x c = same_sort sort c.sort && bytes_eq c.name x
+
+abbrev pub has_as_many : Sort → List ℕ → ℕ → Callable → Bool
+has_as_many sort x n c = is_called sort x c && length c.parameters == n
+
+-- The name can be called with that number of operands.
+abbrev pub is_known : Scope → Sort → List ℕ → ℕ → Bool
+is_known s sort x n = is_some (called_by (has_as_many sort x n) s)
 
 -- ---- bodies
 
@@ -101,41 +179,22 @@ first_heading_from n test (h ∷ hs) = if test h then Some (n, h) else first_hea
 abbrev pub first_heading : (Heading → Bool) → List Heading → Option (ℕ × Heading)
 first_heading = first_heading_from 0
 
-abbrev pub any_heading : (Heading → Bool) → List Heading → Bool
-any_heading test [] = false
-any_heading test (h ∷ hs) = if test h then true else any_heading test hs
-
-abbrev pub same_sort : Sort → Sort → Bool
-same_sort Procedure Procedure = true
-same_sort Operator Operator = true
-same_sort _ _ = false
-
 abbrev pub same_types : List ElanType → List ElanType → Bool
 same_types [] [] = true
 same_types (t ∷ ts) (u ∷ us) = same_type t u && same_types ts us
 same_types _ _ = false
 
-abbrev pub same_number : Option ℕ → Option ℕ → Bool
-same_number None None = true
-same_number (Some a) (Some b) = a == b
-same_number _ _ = false
-
--- a PROC or OP whose parameters pass a test
-abbrev pub is_routine : Sort → (List Parameter → Bool) → What → Bool
-is_routine sort test (Routine other ps r) = same_sort sort other && test ps
-is_routine sort test (Refinement home) = false
+abbrev pub is_routine : Sort → List ElanType → What → Bool
+is_routine sort ts (Routine other ps r) = same_sort sort other && same_types (types_of ps) ts
+is_routine sort ts (Refinement home) = false
 
 abbrev pub is_refinement_of : Option ℕ → What → Bool
 is_refinement_of home (Routine sort ps r) = false
-is_refinement_of home (Refinement other) = same_number home other
+is_refinement_of home (Refinement other) = same_home home other
 
 -- a PROC or OP of that name and with these types of parameters
 abbrev pub is_alike : Sort → List ℕ → List ElanType → Heading → Bool
-is_alike sort x ts h = bytes_eq h.name x && is_routine sort (λ ps. same_types (types_of ps) ts) h.what
-
--- a PROC or OP of that name and with that number of parameters
-abbrev pub has_as_many : Sort → List ℕ → ℕ → Heading → Bool
-has_as_many sort x n h = bytes_eq h.name x && is_routine sort (λ ps. length ps == n) h.what
+is_alike sort x ts h = bytes_eq h.name x && is_routine sort ts h.what
 
 -- the refinement of that name, of the PROC or OP with this number, or of the level
 abbrev pub is_refined : Option ℕ → List ℕ → Heading → Bool

@@ -1,6 +1,7 @@
 //! The headings of bodies, and the look-up among them.
 
 ghost use Rattle.std.specs.Prelude.{◌≡◌, option_map};
+ghost use Rattle.elan_types.specs.Typing.{same_home};
 ghost use Rattle.elan_scope.specs.Scope as spec;
 
 use elan_types::{ElanType, Parameter};
@@ -55,7 +56,7 @@ fn same_types(parameters: &[Parameter], others: &[Parameter]) -> bool
 }
 
 fn same_home(home: Option<usize>, other: Option<usize>) -> bool
-    ensures { result ≡ spec.same_number home other }
+    ensures { result ≡ same_home home other }
 {
     match (home, other) {
         (None, None) => true,
@@ -71,17 +72,6 @@ fn is_alike(heading: &Heading, sort: Sort, name: &[u8], parameters: &[Parameter]
         && match &heading.what {
             What::Routine(other, own, _) => sort.is_same(*other)
                 && same_types(own.as_slice(), parameters),
-            What::Refinement(_) => false,
-        }
-}
-
-fn has_as_many(heading: &Heading, sort: Sort, name: &[u8], count: usize) -> bool
-    ensures { result ≡ spec.has_as_many sort name.now count heading.now }
-{
-    heading.name.as_slice() == name
-        && match &heading.what {
-            What::Routine(other, parameters, _) => sort.is_same(*other)
-                && parameters.len() == count,
             What::Refinement(_) => false,
         }
 }
@@ -115,20 +105,6 @@ pub fn first_alike<'a>(
         rest = others;
     }
     None
-}
-
-/// Whether there is a PROC or OP of a name with that number of parameters.
-pub fn any_with_as_many(headings: &[Heading], sort: Sort, name: &[u8], count: usize) -> bool
-    ensures { result ≡ spec.any_heading (spec.has_as_many sort name.now count) headings.now }
-{
-    let mut rest = headings;
-    while let [heading, others @ ..] = rest {
-        if has_as_many(heading, sort, name, count) {
-            return true;
-        }
-        rest = others;
-    }
-    false
 }
 
 /// The number of the refinement of this name, of the PROC or OP with this number or of the level; `None` exactly where

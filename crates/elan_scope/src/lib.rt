@@ -2,8 +2,10 @@
 #![tactic(auto)]
 
 mod apart;
+pub mod callable;
 pub mod delivery;
 pub mod heading;
 pub mod known;
+pub mod predefined;
 pub mod scope;
 pub mod trouble;

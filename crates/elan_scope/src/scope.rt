@@ -1,7 +1,6 @@
 //! Where a phrase stands, and what names denote there.
 
 ghost use Rattle.std.specs.Prelude.{◌≡◌, ◌≤◌, option_map, length};
-ghost use Rattle.elan_scope.specs.declared.scope.Home.TheVariants as homes;
 ghost use Rattle.elan_scope.specs.Scope as spec;
 
 use crate::heading::{Heading, first_refined};
@@ -127,36 +126,32 @@ fn found_in(home: Home, names: &[Entry], name: &[u8]) -> Option<Found>
 }
 
 // The refinements of a level are for its own units and refinements alone.
-fn found_from_inside(names: &[Entry], name: &[u8]) -> Option<Found>
-    ensures { result ≡ spec.found_in homes.Level (spec.from_inside (spec.first_named names.now name.now)) }
+fn from_inside(found: Option<Found>) -> Option<Found>
+    ensures { result ≡ spec.from_inside found }
 {
-    match first_named(names, name) {
+    match found {
         None => None,
-        Some((number, entry)) => {
-            if entry.denotes.is_refinement() {
+        Some(found) => {
+            if found.denotes.is_refinement() {
                 return None;
             }
-            Some(Found {
-                home: Home::Level,
-                number,
-                at: entry.at,
-                denotes: entry.denotes,
-            })
+            Some(found)
         }
     }
 }
 
 impl Scope {
-    /// What an identifier without actuals denotes: the body is looked at first, and then the level. `None` exactly where
-    /// neither declares it.
+    /// What an identifier without actuals denotes in the first layer that declares it: the body is looked at first, and then
+    /// the level. `None` exactly where neither declares it.
+    #[tactic(auto, using(crate::proofs::Layers::or_none))]
     pub fn find(&self, name: &[u8]) -> Option<Found>
         ensures { result ≡ spec.find self.now name.now }
     {
-        let level = self.level.as_slice();
+        let level = found_in(Home::Level, self.level.as_slice(), name);
         match &self.routine {
-            None => found_in(Home::Level, level, name),
+            None => level,
             Some(within) => match found_in(Home::Routine, within.names.as_slice(), name) {
-                None => found_from_inside(level, name),
+                None => from_inside(level),
                 Some(found) => Some(found),
             },
         }

@@ -1,7 +1,6 @@
 -- Stores, lists of units, and bodies.
 use Rattle.std.specs.Prelude.{ℕ, Bool, true, List, [], ◌∷◌, ◌++◌, Option, Some, None, if◌then◌else◌}
 use Rattle.elan_types.specs.declared.elan_type.ElanType.{ElanType}
-use Rattle.elan_types.specs.declared.core_phrase.PlacePhrase.{PlacePhrase}
 use Rattle.elan_types.specs.declared.core_phrase.ValuePhrase.{ValuePhrase}
 use Rattle.elan_types.specs.declared.core_phrase.ValuePhrase.TheVariants as value
 use Rattle.elan_types.specs.declared.core_phrase.Action.{Action}
@@ -10,11 +9,11 @@ use Rattle.elan_types.specs.declared.core_phrase.Scope.{Scope as Owner}
 use Rattle.elan_types.specs.declared.core_phrase.Content.{Content}
 use Rattle.elan_types.specs.declared.core_phrase.Content.TheVariants as content
 use Rattle.elan_types.specs.declared.core_phrase.Body.{Body}
-use Rattle.elan_types.specs.declared.why.Why.TheVariants.{WrongType, NoVariable}
+use Rattle.elan_types.specs.declared.why.Why.TheVariants.{WrongType}
 use Rattle.elan_meant.specs.declared.meant.Meant.{Meant}
 use Rattle.elan_meant.specs.declared.meant.Meant.TheVariants.{Absent, Value, Done, Left, Bodies}
 use Rattle.elan_meant.specs.Operands.{delivers}
-use Rattle.elan_meant.specs.Parts.{unasked, value_of, variable_of, type_in, place_of, actions, actions_of, loaded, unit_of, unreached}
+use Rattle.elan_meant.specs.Parts.{unasked, value_of, variable, type_in, actions, actions_of, loaded, unit_of, unreached}
 use Rattle.elan_scope.specs.Ruled.{Ruled, gives, breaks, ◌>>=◌}
 
 -- ---- stores
@@ -28,20 +27,15 @@ abbrev pub agreed : ℕ → Meant → Meant → Ruled ElanType
 agreed at l r = agreed_as at (type_in l) r
 
 -- A variable is needed at the left.
-abbrev pub assigned_to : Option PlacePhrase → ℕ → ElanType → ValuePhrase → Ruled Meant
-assigned_to None p t v = breaks (p, NoVariable)
-assigned_to (Some x) p t v = gives (unit_of (action.Store x t v ∷ []))
+abbrev pub stored : ℕ → Meant → Meant → Ruled Action
+stored at l r = agreed at l r >>= (λ t. variable l >>= (λ x. gives (action.Store x t (value_of r))))
 
 abbrev pub assigned : ℕ → Meant → Meant → Ruled Meant
-assigned at l r = agreed at l r >>= (λ t. assigned_to (variable_of l) (place_of l) t (value_of r))
-
-abbrev pub initial_to : Option PlacePhrase → ElanType → ValuePhrase → Ruled Meant
-initial_to None t v = unasked
-initial_to (Some x) t v = gives (Done (action.Store x t v ∷ []))
+assigned at l r = stored at l r >>= (λ a. gives (unit_of (a ∷ [])))
 
 -- a name in its declaration, and its initial value
 abbrev pub initial : ℕ → Meant → Meant → Ruled Meant
-initial at n m = agreed at n m >>= (λ t. initial_to (variable_of n) t (value_of m))
+initial at n m = stored at n m >>= (λ a. gives (Done (a ∷ [])))
 
 -- ---- lists of units
 

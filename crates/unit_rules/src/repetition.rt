@@ -4,11 +4,11 @@ ghost use Rattle.std.specs.Prelude.{◌≡◌};
 ghost use Rattle.unit_rules.specs.Loops as spec;
 ghost use Rattle.elan_meant.specs.Parts as parts;
 ghost use Rattle.elan_scope.specs.Answer.{Is};
-ghost use Rattle.elan_scope.specs.Ruled.{gives};
+ghost use Rattle.elan_scope.specs.Ruled.{gives, ◌>>=◌ as and_then};
 
 use elan_meant::meant::Meant;
 use elan_meant::operands::delivers;
-use elan_meant::part::{actions, may_deliver, place_of, unit_doing, variable_of, written};
+use elan_meant::part::{actions, may_deliver, unit_doing, variable, written};
 use elan_meant::row::Judged;
 use elan_scope::trouble::Trouble;
 use elan_types::{Action, ElanType, PlacePhrase, ValuePhrase, Way, Why};
@@ -93,13 +93,13 @@ fn are_numbers(bounds: &Bounds) -> bool
 
 fn count(
     alloc: Global,
-    counter: PlacePhrase,
-    from: Meant,
     way: Way,
+    from: Meant,
     limit: Meant,
     turns: Turns,
+    counter: PlacePhrase,
 ) -> Judged
-    ensures { Is result (gives (spec.count counter (spec.first_value (parts.written from)) way (parts.written limit) (parts.written turns.condition) (parts.actions turns.units) (parts.written turns.until))) }
+    ensures { Is result (gives (spec.count way from limit turns.condition turns.units turns.until counter)) }
 {
     let Turns {
         condition,
@@ -122,18 +122,17 @@ fn count(
 
 // A variable is needed as a counter.
 fn counting(alloc: Global, way: Way, bounds: Bounds, turns: Turns) -> Judged
-    ensures { Is result (spec.counting way (parts.place_of bounds.name) (parts.variable_of bounds.name) bounds.from bounds.limit turns.condition turns.units turns.until) }
+    ensures { Is result (and_then (parts.variable bounds.name) (λ x. gives (spec.count way bounds.from bounds.limit turns.condition turns.units turns.until x))) }
 {
     let Bounds { name, from, limit } = bounds;
-    let at = place_of(&name);
-    match variable_of(name) {
-        None => {
+    match variable(name) {
+        Err(trouble) => {
             from.let_go();
             limit.let_go();
             turns.let_go();
-            Err(Trouble::Breaks(at, Why::NoVariable))
+            Err(trouble)
         }
-        Some(counter) => count(alloc, counter, from, way, limit, turns),
+        Ok(counter) => count(alloc, way, from, limit, turns, counter),
     }
 }
 

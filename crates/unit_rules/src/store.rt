@@ -6,30 +6,11 @@ ghost use Rattle.elan_scope.specs.Answer.{Is};
 
 use elan_meant::meant::Meant;
 use elan_meant::operands::delivers;
-use elan_meant::part::{done, place_of, type_in, unit_doing, value_in, variable_of};
+use elan_meant::part::{done, type_in, unit_doing, value_in, variable};
 use elan_meant::row::Judged;
 use elan_scope::trouble::Trouble;
-use elan_types::{Action, ElanType, PlacePhrase, ValuePhrase, Why};
+use elan_types::{Action, ElanType, Why};
 use std::alloc::Global;
-
-// A variable is needed at the left.
-fn assigned_to(
-    alloc: Global,
-    place: Option<PlacePhrase>,
-    at: u32,
-    of: ElanType,
-    value: ValuePhrase,
-) -> Judged
-    ensures { Is result (spec.assigned_to place at of value) }
-{
-    match place {
-        None => {
-            value.let_go();
-            Err(Trouble::Breaks(at, Why::NoVariable))
-        }
-        Some(place) => unit_doing(alloc, Action::Store(place, of, value)),
-    }
-}
 
 // The type that both deliver.
 fn agreed(at: u32, left: &Meant, right: &Meant) -> Result<ElanType, Trouble>
@@ -47,9 +28,9 @@ fn agreed(at: u32, left: &Meant, right: &Meant) -> Result<ElanType, Trouble>
     }
 }
 
-/// An assignment.
-pub fn assigned(alloc: Global, at: u32, left: Meant, right: Meant) -> Judged
-    ensures { Is result (spec.assigned at left right) }
+// Both deliver one type, and a variable is needed at the left.
+fn stored(at: u32, left: Meant, right: Meant) -> Result<Action, Trouble>
+    ensures { Is result (spec.stored at left right) }
 {
     match agreed(at, &left, &right) {
         Err(trouble) => {
@@ -57,39 +38,28 @@ pub fn assigned(alloc: Global, at: u32, left: Meant, right: Meant) -> Judged
             right.let_go();
             Err(trouble)
         }
-        Ok(of) => {
-            let at = place_of(&left);
-            let place = variable_of(left);
-            assigned_to(alloc, place, at, of, value_in(right))
-        }
+        Ok(of) => match variable(left) {
+            Err(trouble) => {
+                right.let_go();
+                Err(trouble)
+            }
+            Ok(place) => Ok(Action::Store(place, of, value_in(right))),
+        },
     }
 }
 
-fn initial_to(alloc: Global, place: Option<PlacePhrase>, of: ElanType, value: ValuePhrase) -> Judged
-    ensures { Is result (spec.initial_to place of value) }
+/// An assignment.
+pub fn assigned(alloc: Global, at: u32, left: Meant, right: Meant) -> Judged
+    ensures { Is result (spec.assigned at left right) }
 {
-    match place {
-        None => {
-            value.let_go();
-            Err(Trouble::Breaks(0, Why::Unknown))
-        }
-        Some(place) => done(alloc, Action::Store(place, of, value)),
-    }
+    let action = stored(at, left, right)?;
+    unit_doing(alloc, action)
 }
 
 /// A name in its declaration, and its initial value.
 pub fn initial(alloc: Global, at: u32, name: Meant, init: Meant) -> Judged
     ensures { Is result (spec.initial at name init) }
 {
-    match agreed(at, &name, &init) {
-        Err(trouble) => {
-            name.let_go();
-            init.let_go();
-            Err(trouble)
-        }
-        Ok(of) => {
-            let place = variable_of(name);
-            initial_to(alloc, place, of, value_in(init))
-        }
-    }
+    let action = stored(at, name, init)?;
+    done(alloc, action)
 }

@@ -1,11 +1,19 @@
 -- What parameters are given, one operand more.
-use Rattle.std.proofs.Common.{◌≡◌, List, [], ◌∷◌, ◌++◌, length, drop, refl, ap, ◌∙◌}
+use Rattle.std.proofs.Common.{◌≡◌, ℕ, List, [], ◌∷◌, ◌++◌, Option, Some, length, drop, refl, ap, ◌∙◌}
+use Rattle.eu_base.specs.declared.operation.Change.{Change}
+use Rattle.elan_types.specs.declared.elan_type.ElanType.{ElanType}
+use Rattle.elan_types.specs.declared.core_phrase.Action.TheVariants as action
+use Rattle.elan_types.specs.declared.core_phrase.Actual.TheVariants as actual
+use Rattle.elan_scope.specs.declared.callable.Callee.TheVariants.{Predefined}
+use Rattle.elan_scope.specs.declared.predefined.Predefined.TheVariants as names
+use Rattle.elan_meant.specs.declared.meant.Meant.TheVariants.{Done}
+use Rattle.elan_meant.specs.Parts.{unasked, one_of, two_of}
 use Rattle.elan_types.specs.declared.core_phrase.Parameter.{Parameter}
 use Rattle.elan_types.specs.declared.core_phrase.Actual.{Actual}
 use Rattle.elan_scope.specs.Ruled.{Ruled, gives, before}
 use Rattle.elan_meant.specs.declared.meant.Meant.{Meant}
 use Rattle.elan_meant.proofs.Beside.{before_joined, single_joined}
-use Rattle.value_rules.specs.Calls.{given, given_as, given_next}
+use Rattle.value_rules.specs.Calls.{given, given_as, given_next, performed}
 
 pub given_none : (ps : List Parameter) → given ps [] ≡ gives []
 given_none [] = refl
@@ -31,3 +39,32 @@ pub behind : (ms : List Meant) (m : Meant) (ps : List Parameter) → drop 1 (dro
 behind [] m ps = refl
 behind (n ∷ ms) m [] = refl
 behind (n ∷ ms) m (p ∷ ps) = behind ms m ps
+
+-- ---- what a callee does, by the number of what it is given
+
+abbrev pub changed_by : Change → Option (Actual × Actual) → Ruled Meant
+changed_by c (Some (actual.Place x t, actual.Value v)) = gives (Done (action.Modify c x v ∷ []))
+changed_by c o = unasked
+
+pub changed_is : (c : Change) (at : ℕ) (r : Option ElanType) (as' : List Actual)
+    → performed at (Predefined (names.Change c)) r as' ≡ changed_by c (two_of as')
+changed_is c at r [] = refl
+changed_is c at r (actual.Place x t ∷ []) = refl
+changed_is c at r (actual.Value w ∷ []) = refl
+changed_is c at r (actual.Place x t ∷ actual.Value v ∷ []) = refl
+changed_is c at r (actual.Place x t ∷ actual.Place y u ∷ []) = refl
+changed_is c at r (actual.Value w ∷ a ∷ []) = refl
+changed_is c at r (actual.Place x t ∷ actual.Value v ∷ d ∷ as') = refl
+changed_is c at r (actual.Place x t ∷ actual.Place y u ∷ d ∷ as') = refl
+changed_is c at r (actual.Value w ∷ a ∷ d ∷ as') = refl
+
+abbrev pub put_by : Option Actual → Ruled Meant
+put_by (Some (actual.Value v)) = gives (Done (action.Put v ∷ []))
+put_by o = unasked
+
+pub put_is : (at : ℕ) (r : Option ElanType) (as' : List Actual) → performed at (Predefined names.Put) r as' ≡ put_by (one_of as')
+put_is at r [] = refl
+put_is at r (actual.Value v ∷ []) = refl
+put_is at r (actual.Place x t ∷ []) = refl
+put_is at r (actual.Value v ∷ b ∷ as') = refl
+put_is at r (actual.Place x t ∷ b ∷ as') = refl

@@ -1,8 +1,18 @@
 -- One more part of a list.
 use Rattle.std.proofs.Common.{◌≡◌, List, [], ◌∷◌, ◌++◌, refl, ap}
-use Rattle.elan_meant.specs.declared.meant.Meant.{Meant}
-use Rattle.elan_meant.specs.Parts.{value_of, values_of}
+use Rattle.elan_types.specs.declared.core_phrase.Actual.{Actual}
+use Rattle.elan_types.specs.declared.core_phrase.Actual.TheVariants as actual
+use Rattle.elan_types.specs.declared.core_phrase.PlacePhrase.{PlacePhrase}
+use Rattle.elan_types.specs.declared.core_phrase.ValuePhrase.{ValuePhrase}
+use Rattle.elan_types.specs.declared.elan_type.ElanType.{ElanType}
+use Rattle.value_rules.specs.Calls.{values_in}
 
-pub values_push : (ms : List Meant) (m : Meant) → values_of (ms ++ m ∷ []) ≡ values_of ms ++ value_of m ∷ []
-values_push [] m = refl
-values_push (n ∷ ms) m = ap (λ l. value_of n ∷ l) (values_push ms m)
+pub value_more : (as' : List Actual) (v : ValuePhrase) → values_in (as' ++ actual.Value v ∷ []) ≡ values_in as' ++ v ∷ []
+value_more [] v = refl
+value_more (actual.Value w ∷ as') v = ap (λ l. w ∷ l) (value_more as' v)
+value_more (actual.Place x t ∷ as') v = value_more as' v
+
+pub place_more : (as' : List Actual) (x : PlacePhrase) (t : ElanType) → values_in (as' ++ actual.Place x t ∷ []) ≡ values_in as'
+place_more [] x t = refl
+place_more (actual.Value w ∷ as') x t = ap (λ l. w ∷ l) (place_more as' x t)
+place_more (actual.Place y u ∷ as') x t = place_more as' x t

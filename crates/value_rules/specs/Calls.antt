@@ -1,5 +1,5 @@
 -- Names, calls of PROCs, OPs and refinements, and LEAVE.
-use Rattle.std.specs.Prelude.{ℕ, Bool, true, false, List, [], ◌∷◌, length, Option, Some, None, if◌then◌else◌, nat_eq, ◌||◌}
+use Rattle.std.specs.Prelude.{ℕ, Bool, true, false, List, [], ◌∷◌, length, Option, Some, None, if◌then◌else◌, nat_eq}
 use Rattle.elan_types.specs.declared.elan_type.ElanType.{ElanType}
 use Rattle.elan_types.specs.declared.core_phrase.PlacePhrase.{PlacePhrase}
 use Rattle.elan_types.specs.declared.core_phrase.PlacePhrase.TheVariants as place
@@ -14,33 +14,29 @@ use Rattle.elan_types.specs.declared.core_phrase.Actual.{Actual}
 use Rattle.elan_types.specs.declared.core_phrase.Actual.TheVariants as actual
 use Rattle.elan_types.specs.declared.core_phrase.Exit.{Exit}
 use Rattle.elan_types.specs.declared.why.Why.TheVariants.{Unknown, Doubled, WrongType, NoVariable, WrongPlace}
-use Rattle.eu_base.specs.declared.operation.Change.{Change}
 use Rattle.elan_scope.specs.declared.scope.Denotes.{Denotes}
 use Rattle.elan_scope.specs.declared.scope.Denotes.TheVariants as denotes
 use Rattle.elan_scope.specs.declared.delivery.Delivery.{Delivery}
 use Rattle.elan_scope.specs.declared.delivery.Delivery.TheVariants.{Open, Nothing, Of}
 use Rattle.elan_scope.specs.declared.heading.Sort.{Sort}
 use Rattle.elan_scope.specs.declared.heading.Sort.TheVariants.{Procedure}
-use Rattle.elan_scope.specs.declared.heading.What.{What}
-use Rattle.elan_scope.specs.declared.heading.What.TheVariants.{Routine, Refinement}
 use Rattle.elan_scope.specs.declared.heading.Heading.{Heading}
-use Rattle.elan_meant.specs.declared.meant.Does.{Does}
-use Rattle.elan_meant.specs.declared.meant.Does.TheVariants.{Delivers, Changes, Puts, EndsLine}
 use Rattle.elan_meant.specs.declared.meant.Meant.{Meant}
 use Rattle.elan_meant.specs.declared.meant.Meant.TheVariants.{Absent, Variable, Value, Done, Left}
-use Rattle.elan_scope.specs.Scope.{first_heading, any_heading, has_as_many, refinement_named}
+use Rattle.elan_scope.specs.declared.callable.Callee.{Callee}
+use Rattle.elan_scope.specs.declared.callable.Callee.TheVariants.{Predefined, Body}
+use Rattle.elan_scope.specs.declared.predefined.Predefined.TheVariants.{Operation, Change, Put, Line}
+use Rattle.elan_scope.specs.Scope.{Callable, is_known, refinement_named}
 use Rattle.elan_scope.specs.declared.scope.Scope.{Scope}
 use Rattle.elan_scope.specs.declared.scope.Found.{Found}
 use Rattle.elan_scope.specs.declared.scope.Home.{Home}
 use Rattle.elan_scope.specs.declared.scope.Home.TheVariants.{Level as of_level, Routine as of_routine}
-use Rattle.elan_meant.specs.Predefined.{predefined, chosen, exists}
-use Rattle.elan_meant.specs.Operands.{delivers}
-pub use Rattle.elan_meant.specs.Operands.{takes}
+use Rattle.elan_meant.specs.Operands.{delivers, chosen}
 use Rattle.elan_scope.specs.Known.{leads_back, delivery_at}
 use Rattle.elan_scope.specs.declared.known.Known.{Known}
 use Rattle.elan_scope.specs.declared.scope.Usage.{Usage}
 use Rattle.elan_scope.specs.declared.scope.Usage.TheVariants.{Expression, Counter}
-use Rattle.elan_meant.specs.Parts.{unasked, value_of, values_of, variable_of, type_in, place_of, two_of, one_of, on_two, on_one}
+use Rattle.elan_meant.specs.Parts.{unasked, value_of, variable, type_in}
 use Rattle.elan_scope.specs.Ruled.{Ruled, gives, breaks, hangs, ◌>>=◌, before, joined}
 
 -- ---- variables, constants and parameters
@@ -60,35 +56,12 @@ abbrev pub parameter : ℕ → ElanType → Access → PlacePhrase → Meant
 parameter at t Const p = constant at t p
 parameter at t Var p = Variable at t p
 
--- ---- predefined operators and procedures
-
--- A variable is needed at the left.
-abbrev pub changed_at : Change → ℕ → Option PlacePhrase → ValuePhrase → Ruled Meant
-changed_at c at None v = breaks (at, NoVariable)
-changed_at c at (Some x) v = gives (Done (action.Modify c x v ∷ []))
-
-abbrev pub changed : Change → Meant → Meant → Ruled Meant
-changed c l r = changed_at c (place_of l) (variable_of l) (value_of r)
-
-abbrev pub put : Meant → Ruled Meant
-put m = gives (Done (action.Put (value_of m) ∷ []))
-
-abbrev pub done : ℕ → Does → List Meant → Ruled Meant
-done at (Delivers op t) ms = gives (Value at t (value.Apply op (values_of ms)))
-done at (Changes c) ms = on_two (two_of ms) (changed c)
-done at Puts ms = on_one (one_of ms) put
-done at EndsLine ms = gives (Done (action.Line ∷ []))
-
--- ---- own PROCs and OPs
+-- ---- calls
 
 -- A variable is needed for a VAR parameter.
-abbrev pub given_place : ElanType → ℕ → Option PlacePhrase → Ruled Actual
-given_place t at None = breaks (at, NoVariable)
-given_place t at (Some x) = gives (actual.Place x t)
-
 abbrev pub given_as : Access → ElanType → Meant → Ruled Actual
 given_as Const t m = gives (actual.Value (value_of m))
-given_as Var t m = given_place t (place_of m) (variable_of m)
+given_as Var t m = variable m >>= (λ x. gives (actual.Place x t))
 
 -- what parameters are given, from left to right
 abbrev pub given : List Parameter → List Meant → Ruled (List Actual)
@@ -101,33 +74,33 @@ abbrev pub given_next : List Parameter → Meant → Ruled (List Actual) → Rul
 given_next [] m r = r
 given_next (p ∷ ps) m r = joined r (given_as p.access p.of m)
 
-abbrev pub call : ℕ → ℕ → Option ElanType → List Actual → Meant
-call at n None as' = Done (action.Call n as' ∷ [])
-call at n (Some t) as' = Value at t (value.Call n as' t)
+abbrev pub values_in : List Actual → List ValuePhrase
+values_in [] = []
+values_in (actual.Value v ∷ as') = v ∷ values_in as'
+values_in (actual.Place x t ∷ as') = values_in as'
 
--- a call of the body with this number
-abbrev pub called : ℕ → ℕ → What → List Meant → Ruled Meant
-called at n (Routine sort ps r) ms = given ps ms >>= (λ as'. gives (call at n r as'))
-called at n (Refinement home) ms = unasked
+-- what a callee that delivers this, or nothing, does with what it is given
+abbrev pub performed : ℕ → Callee → Option ElanType → List Actual → Ruled Meant
+performed at (Predefined (Operation o)) (Some t) as' = gives (Value at t (value.Apply o (values_in as')))
+performed at (Predefined (Change c)) r (actual.Place x t ∷ actual.Value v ∷ []) = gives (Done (action.Modify c x v ∷ []))
+performed at (Predefined Put) r (actual.Value v ∷ []) = gives (Done (action.Put v ∷ []))
+performed at (Predefined Line) r as' = gives (Done (action.Line ∷ []))
+performed at (Body n) (Some t) as' = gives (Value at t (value.Call n as' t))
+performed at (Body n) None as' = gives (Done (action.Call n as' ∷ []))
+performed at c r as' = unasked
+
+abbrev pub called : ℕ → Callable → List Meant → Ruled Meant
+called at c ms = given c.parameters ms >>= performed at c.callee c.result
 
 -- ---- operators, and identifiers with actuals
 
--- The name exists with that number of operands.
-abbrev pub is_known : List Heading → Sort → List ℕ → ℕ → Bool
-is_known hs sort x n = any_heading (has_as_many sort x n) hs || exists predefined x n
-
 -- A name that exists with that number of operands, but not for these types, has the wrong type.
-abbrev pub predefined_as : ℕ → Bool → List Meant → Option Does → Ruled Meant
-predefined_as at known ms (Some d) = done at d ms
-predefined_as at known ms None = if known then breaks (at, WrongType) else breaks (at, Unknown)
+abbrev pub applied_as : ℕ → Bool → List Meant → Option Callable → Ruled Meant
+applied_as at known ms (Some c) = called at c ms
+applied_as at known ms None = if known then breaks (at, WrongType) else breaks (at, Unknown)
 
-abbrev pub applied_as : ℕ → Scope → Sort → List ℕ → List Meant → Option (ℕ × Heading) → Ruled Meant
-applied_as at s sort x ms (Some b) = called at b.0 b.1.what ms
-applied_as at s sort x ms None = predefined_as at (is_known s.headings sort x (length ms)) ms (chosen predefined x ms)
-
--- The PROCs and OPs of the level are looked at first, and then the predefined ones.
 abbrev pub applied : ℕ → Scope → Sort → List ℕ → List Meant → Ruled Meant
-applied at s sort x ms = applied_as at s sort x ms (first_heading (takes sort x ms) s.headings)
+applied at s sort x ms = applied_as at (is_known s sort x (length ms)) ms (chosen s sort x ms)
 
 -- ---- refinements
 
@@ -166,9 +139,7 @@ named k u at s x None = applied at s Procedure x []
 abbrev pub declared_as : ℕ → Home → ℕ → Denotes → Meant
 declared_as at home n (denotes.Variable t) = Variable at t (place_in home n Const)
 declared_as at home n (denotes.Constant t) = Variable at t (place_in home n Const)
-declared_as at home n (denotes.Parameter p) = Done []
-declared_as at home n denotes.Procedure = Done []
-declared_as at home n denotes.Refinement = Done []
+declared_as at home n d = Done []
 
 -- A name is declared where the first declaration of that name is this one.
 abbrev pub declared : ℕ → Option Found → Ruled Meant

@@ -1,108 +1,33 @@
 //! Calls: operators with their operands, and procedures with their actuals.
 
-ghost use Rattle.std.specs.Prelude.{◌≡◌, IfOk, None, List, drop};
-ghost use Rattle.elan_types.specs.declared.core_phrase.Actual.{Actual as ActualPhrase};
-ghost use Rattle.elan_scope.specs.Ruled.{Ruled, gives};
-ghost use Rattle.elan_meant.specs.declared.meant.Does.TheVariants as does_what;
+ghost use Rattle.std.specs.Prelude.{ℕ, ◌≡◌, ◌++◌, ◌∷◌, [], IfOk, Option, Some, List, drop};
+ghost use Rattle.elan_types.specs.declared.elan_type.ElanType.{ElanType as ElanTypes};
+ghost use Rattle.elan_types.specs.declared.core_phrase.Actual.{Actual as Actuals};
+ghost use Rattle.elan_scope.specs.declared.callable.Callee.TheVariants as callees;
+ghost use Rattle.elan_scope.specs.declared.heading.Sort.TheVariants as sorts;
+ghost use Rattle.elan_scope.specs.declared.predefined.Predefined.TheVariants as names;
+ghost use Rattle.elan_scope.specs.Ruled.{Ruled};
+ghost use Rattle.elan_scope.specs.Seen as seen;
 ghost use Rattle.value_rules.specs.Calls as spec;
-ghost use Rattle.elan_meant.specs.Parts as parts;
 ghost use Rattle.elan_scope.specs.Answer.{Is};
 
 use elan_meant::arity::{one_of, two_of};
-use elan_meant::meant::{Does, Meant};
-use elan_meant::operands::first_taking;
-use elan_meant::part::{delivering, done, place_of, value_in, variable_of};
-use elan_meant::predefined::{chosen, exists};
+use elan_meant::meant::Meant;
+use elan_meant::operands::chosen;
+use elan_meant::part::{delivering, done, value_in, variable};
 use elan_meant::row::{Judged, and, pushed};
-use elan_scope::heading::{Sort, What, any_with_as_many};
+use elan_scope::callable::{Callable, Callee};
+use elan_scope::heading::Sort;
+use elan_scope::predefined::Predefined;
 use elan_scope::scope::Scope;
 use elan_scope::trouble::Trouble;
 use elan_types::{
-    Access, Action, Actual, Change, ElanType, Operation, Parameter, PlacePhrase, ValuePhrase, Why,
+    Access, Action, Actual, Change, ElanType, Operation, Parameter, ValuePhrase, Why,
 };
 use eu_base::{List, NoMemory};
 use std::alloc::Global;
 
-// ---- predefined operators and procedures
-
-// The values of parts.
-fn values_of(alloc: Global, operands: List<Meant>) -> Result<List<ValuePhrase>, NoMemory>
-    ensures { IfOk result (λ values. values ≡ parts.values_of operands) }
-{
-    let mut values = Ok(List::new(alloc));
-    for operand in operands.into_vec() {
-        values = pushed(values, Ok(value_in(operand)));
-    }
-    values
-}
-
-// A variable is needed at the left.
-fn changed_at(
-    alloc: Global,
-    change: Change,
-    at: u32,
-    place: Option<PlacePhrase>,
-    value: ValuePhrase,
-) -> Judged
-    ensures { Is result (spec.changed_at change at place value) }
-{
-    match place {
-        None => {
-            value.let_go();
-            Err(Trouble::Breaks(at, Why::NoVariable))
-        }
-        Some(place) => done(alloc, Action::Modify(change, place, value)),
-    }
-}
-
-fn changed(alloc: Global, change: Change, operands: List<Meant>) -> Judged
-    ensures { Is result (parts.on_two (parts.two_of operands) (spec.changed change)) }
-{
-    match two_of(operands) {
-        None => Err(Trouble::Breaks(0, Why::Unknown)),
-        Some((left, right)) => {
-            let at = place_of(&left);
-            let place = variable_of(left);
-            changed_at(alloc, change, at, place, value_in(right))
-        }
-    }
-}
-
-fn delivered(
-    alloc: Global,
-    at: u32,
-    operation: Operation,
-    of: ElanType,
-    operands: List<Meant>,
-) -> Judged
-    ensures { Is result (spec.done at (does_what.Delivers operation of) operands) }
-{
-    let values = values_of(alloc, operands)?;
-    let value = ValuePhrase::Apply(operation, values);
-    delivering(alloc, at, of, value)
-}
-
-fn put(alloc: Global, operands: List<Meant>) -> Judged
-    ensures { Is result (parts.on_one (parts.one_of operands) spec.put) }
-{
-    match one_of(operands) {
-        None => Err(Trouble::Breaks(0, Why::Unknown)),
-        Some(operand) => done(alloc, Action::Put(value_in(operand))),
-    }
-}
-
-fn performed(alloc: Global, at: u32, does: Does, operands: List<Meant>) -> Judged
-    ensures { Is result (spec.done at does operands) }
-{
-    match does {
-        Does::Delivers(operation, of) => delivered(alloc, at, operation, of, operands),
-        Does::Changes(change) => changed(alloc, change, operands),
-        Does::Puts => put(alloc, operands),
-        Does::EndsLine => done(alloc, Action::Line),
-    }
-}
-
-// ---- own PROCs and OPs
+// ---- what is given
 
 // A VAR parameter needs a variable.
 fn given_as(parameter: Parameter, operand: Meant) -> Result<Actual, Trouble>
@@ -111,11 +36,8 @@ fn given_as(parameter: Parameter, operand: Meant) -> Result<Actual, Trouble>
     match parameter.access {
         Access::Const => Ok(Actual::Value(value_in(operand))),
         Access::Var => {
-            let at = place_of(&operand);
-            match variable_of(operand) {
-                None => Err(Trouble::Breaks(at, Why::NoVariable)),
-                Some(place) => Ok(Actual::Place(place, parameter.of)),
-            }
+            let place = variable(operand)?;
+            Ok(Actual::Place(place, parameter.of))
         }
     }
 }
@@ -126,7 +48,7 @@ fn give(
     rest: &[Parameter],
     operand: Meant,
 ) -> Result<List<Actual>, Trouble>
-    ensures { (given : Ruled (List ActualPhrase)) → Is actuals given → Is result (spec.given_next rest.now operand given) }
+    ensures { (given : Ruled (List Actuals)) → Is actuals given → Is result (spec.given_next rest.now operand given) }
 {
     match rest {
         [] => {
@@ -163,68 +85,120 @@ fn given(
     actuals
 }
 
-fn call(
+// ---- what a callee does with it
+
+fn add_value(
+    values: Result<List<ValuePhrase>, NoMemory>,
+    actual: Actual,
+) -> Result<List<ValuePhrase>, NoMemory>
+    ensures { (done : List Actuals) → IfOk values (λ list. list ≡ spec.values_in done) → IfOk result (λ list. list ≡ spec.values_in (done ++ actual ∷ [])) }
+{
+    match actual {
+        Actual::Value(value) => pushed(values, Ok(value)),
+        Actual::Place(_place, _of) => values,
+    }
+}
+
+fn values_in(alloc: Global, actuals: List<Actual>) -> Result<List<ValuePhrase>, NoMemory>
+    ensures { IfOk result (λ values. values ≡ spec.values_in actuals) }
+{
+    let mut values = Ok(List::new(alloc));
+    for actual in actuals.into_vec() {
+        values = add_value(values, actual);
+    }
+    values
+}
+
+// The result of an operation.
+fn operated(
     alloc: Global,
     at: u32,
-    number: usize,
+    operation: Operation,
+    of: ElanType,
+    actuals: List<Actual>,
+) -> Judged
+    ensures { Is result (spec.performed at (callees.Predefined (names.Operation operation)) (Some of) actuals) }
+{
+    let values = values_in(alloc, actuals)?;
+    delivering(alloc, at, of, ValuePhrase::Apply(operation, values))
+}
+
+#[tactic(auto, using(crate::proofs::Given::changed_is))]
+fn changed(alloc: Global, change: Change, actuals: List<Actual>) -> Judged
+    ensures { (at : ℕ) → (r : Option ElanTypes) → Is result (spec.performed at (callees.Predefined (names.Change change)) r actuals) }
+{
+    match two_of(actuals) {
+        None => Err(Trouble::Breaks(0, Why::Unknown)),
+        Some((first, second)) => match first {
+            Actual::Value(_value) => Err(Trouble::Breaks(0, Why::Unknown)),
+            Actual::Place(place, _of) => match second {
+                Actual::Place(_other, _of) => Err(Trouble::Breaks(0, Why::Unknown)),
+                Actual::Value(value) => done(alloc, Action::Modify(change, place, value)),
+            },
+        },
+    }
+}
+
+#[tactic(auto, using(crate::proofs::Given::put_is))]
+fn put(alloc: Global, actuals: List<Actual>) -> Judged
+    ensures { (at : ℕ) → (r : Option ElanTypes) → Is result (spec.performed at (callees.Predefined names.Put) r actuals) }
+{
+    match one_of(actuals) {
+        Some(Actual::Value(value)) => done(alloc, Action::Put(value)),
+        _ => Err(Trouble::Breaks(0, Why::Unknown)),
+    }
+}
+
+fn predefined(
+    alloc: Global,
+    at: u32,
+    callee: Predefined,
     result_type: Option<ElanType>,
     actuals: List<Actual>,
 ) -> Judged
-    ensures { Is result (gives (spec.call at number result_type actuals)) }
+    ensures { Is result (spec.performed at (callees.Predefined callee) result_type actuals) }
 {
-    match result_type {
-        None => done(alloc, Action::Call(number, actuals)),
-        Some(of) => delivering(alloc, at, of, ValuePhrase::Call(number, actuals, of)),
+    match callee {
+        Predefined::Operation(operation) => match result_type {
+            None => Err(Trouble::Breaks(0, Why::Unknown)),
+            Some(of) => operated(alloc, at, operation, of, actuals),
+        },
+        Predefined::Change(change) => changed(alloc, change, actuals),
+        Predefined::Put => put(alloc, actuals),
+        Predefined::Line => done(alloc, Action::Line),
     }
 }
 
-/// A call of the body with this number.
-pub fn called(alloc: Global, at: u32, number: usize, what: &What, operands: List<Meant>) -> Judged
-    ensures { Is result (spec.called at number what.now operands) }
-{
-    match what {
-        What::Routine(_, parameters, delivered) => {
-            let actuals = given(alloc, parameters.as_slice(), operands)?;
-            call(alloc, at, number, *delivered, actuals)
-        }
-        What::Refinement(_) => Err(Trouble::Breaks(0, Why::Unknown)),
-    }
-}
-
-// ---- operators, and identifiers with actuals
-
-// Whether a name exists with that number of operands.
-fn is_known(scope: &Scope, sort: Sort, name: &[u8], count: usize) -> bool
-    ensures { result ≡ spec.is_known scope.now.headings sort name.now count }
-{
-    any_with_as_many(scope.headings.as_slice(), sort, name, count) || exists(name, count)
-}
-
-// A predefined name. One that exists with that number of operands, but not for these types, has the wrong type.
-fn predefined_as(
+fn performed(
     alloc: Global,
     at: u32,
-    scope: &Scope,
-    sort: Sort,
-    name: &[u8],
-    operands: List<Meant>,
+    callee: Callee,
+    result_type: Option<ElanType>,
+    actuals: List<Actual>,
 ) -> Judged
-    ensures { Is result (spec.applied_as at scope.now sort name.now operands None) }
+    ensures { Is result (spec.performed at callee result_type actuals) }
 {
-    match chosen(name, operands.as_slice()) {
-        Some(does) => performed(alloc, at, does, operands),
-        None => {
-            if is_known(scope, sort, name, operands.len()) {
-                Err(Trouble::Breaks(at, Why::WrongType))
-            } else {
-                Err(Trouble::Breaks(at, Why::Unknown))
-            }
+    match (callee, result_type) {
+        (Callee::Predefined(callee), result_type) => {
+            predefined(alloc, at, callee, result_type, actuals)
+        }
+        (Callee::Body(number), None) => done(alloc, Action::Call(number, actuals)),
+        (Callee::Body(number), Some(of)) => {
+            delivering(alloc, at, of, ValuePhrase::Call(number, actuals, of))
         }
     }
 }
 
-/// An operator with its operands, or an identifier with its actuals. The PROCs and OPs of the level are looked at first, and
-/// then the predefined ones.
+/// A call with these operands.
+pub fn called(alloc: Global, at: u32, callable: Callable<'_>, operands: List<Meant>) -> Judged
+    ensures { Is result (spec.called at (seen.callable callable.entry) operands) }
+{
+    let actuals = given(alloc, callable.parameters, operands)?;
+    performed(alloc, at, callable.callee, callable.result, actuals)
+}
+
+/// An operator with its operands, or an identifier with its actuals. A name that exists with that number of operands, but not
+/// for these types, has the wrong type.
 pub fn applied(
     alloc: Global,
     at: u32,
@@ -235,8 +209,21 @@ pub fn applied(
 ) -> Judged
     ensures { Is result (spec.applied at scope.now sort name.now operands) }
 {
-    match first_taking(scope.headings.as_slice(), sort, name, operands.as_slice()) {
-        Some((number, heading)) => called(alloc, at, number, &heading.what, operands),
-        None => predefined_as(alloc, at, scope, sort, name, operands),
+    match chosen(scope, sort, name, operands.as_slice()) {
+        Some(callable) => called(alloc, at, callable, operands),
+        None => {
+            if scope.is_known(sort, name, operands.len()) {
+                Err(Trouble::Breaks(at, Why::WrongType))
+            } else {
+                Err(Trouble::Breaks(at, Why::Unknown))
+            }
+        }
     }
+}
+
+/// An identifier without actuals that denotes no variable, constant, parameter or refinement.
+pub fn applied_alone(alloc: Global, at: u32, scope: &Scope, name: &[u8]) -> Judged
+    ensures { Is result (spec.applied at scope.now sorts.Procedure name.now []) }
+{
+    applied(alloc, at, scope, Sort::Procedure, name, List::new(alloc))
 }

@@ -8,7 +8,7 @@ ghost use Rattle.value_rules.specs.Calls as spec;
 ghost use Rattle.elan_scope.specs.Scope as scopes;
 ghost use Rattle.elan_scope.specs.Answer.{Is};
 
-use crate::call::applied;
+use crate::call::applied_alone;
 use elan_meant::meant::Meant;
 use elan_meant::part::{delivering, done};
 use elan_meant::row::Judged;
@@ -146,10 +146,7 @@ fn denoted(
         Denotes::Variable(of) => Ok(variable(at, of, plainly_held(found))),
         Denotes::Constant(of) => constant(alloc, at, of, plainly_held(found)),
         Denotes::Parameter(given) => parameter(alloc, at, found.home, found.number, given),
-        Denotes::Procedure => {
-            let actuals = List::new(alloc);
-            applied(alloc, at, scope, Sort::Procedure, name, actuals)
-        }
+        Denotes::Procedure => applied_alone(alloc, at, scope, name),
         Denotes::Refinement => refined_as(alloc, known, usage, at, scope, name),
     }
 }
@@ -180,7 +177,7 @@ pub fn named(
 {
     match scope.find(name) {
         Some(found) => denoted(alloc, known, usage, at, scope, name, found),
-        None => applied(alloc, at, scope, Sort::Procedure, name, List::new(alloc)),
+        None => applied_alone(alloc, at, scope, name),
     }
 }
 

@@ -1,14 +1,11 @@
-use Rattle.std.proofs.Common.{◌∙◌, ap}
+use Rattle.std.proofs.Common.{◌≡◌, IfOk, subst}
 use Rattle.elan_types.specs.declared.core_phrase.ValuePhrase.{ValuePhrase}
 use Rattle.elan_types.specs.declared.core_phrase.ValuePhrase.TheVariants as value
-use Rattle.elan_meant.specs.declared.meant.Part.TheVariants as part
-use Rattle.choice_rules.specs.Choices.{part_value}
+use Rattle.choice_rules.specs.Choices.{value_as}
 use Rattle.choice_rules.proofs.choice.if_value.Goals as goal
 
 pub returns : goal.returns
 returns c =
-    let made = c.in_ok-first.ensures (part_value c.args.of c.args.first) (part_value c.args.of c.args.second) c.part_value-first.ensures c.part_value.ensures in
-    ap (λ (v : ValuePhrase). part.Value c.args.of v)
-    (c.in_ok-value.ensures
-    ∙ ap (λ (f : ValuePhrase). value.If c.args.condition f c.in_ok-first.second) made.0
-    ∙ ap (λ (s : ValuePhrase). value.If c.args.condition (part_value c.args.of c.args.first) s) made.1)
+    let made = c.in_ok-first.ensures (value_as c.args.of c.args.first) (value_as c.args.of c.args.second) c.value_as-first.ensures c.value_as.ensures in
+    subst (λ (f : ValuePhrase). IfOk c.new.result (λ (v : ValuePhrase). v ≡ value.If c.args.condition f (value_as c.args.of c.args.second))) made.0
+    (subst (λ (s : ValuePhrase). IfOk c.new.result (λ (v : ValuePhrase). v ≡ value.If c.args.condition c.in_ok-first.first s)) made.1 c.new.ensures)

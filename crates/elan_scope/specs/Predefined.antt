@@ -1,0 +1,68 @@
+-- The table of the predefined operators and procedures, with `put` of a number and `line`.
+use Rattle.std.specs.Prelude.{ℕ, List, [], ◌∷◌, map, Option, Some, None, codes}
+use Rattle.eu_base.specs.declared.operation.Operation.{Operation as Op}
+use Rattle.eu_base.specs.declared.operation.Operation.TheVariants as op
+use Rattle.eu_base.specs.declared.operation.Change.TheVariants as change
+use Rattle.eu_base.specs.Operations.{operand_kinds, result_kind}
+use Rattle.elan_types.specs.declared.elan_type.ElanType.{ElanType}
+use Rattle.elan_types.specs.declared.elan_type.ElanType.TheVariants.{Int}
+use Rattle.elan_types.specs.declared.core_phrase.Access.TheVariants.{Var}
+use Rattle.elan_types.specs.declared.core_phrase.Parameter.{Parameter}
+use Rattle.elan_types.specs.Typing.{type_in, held_const}
+use Rattle.elan_scope.specs.declared.heading.Sort.{Sort}
+use Rattle.elan_scope.specs.declared.heading.Sort.TheVariants.{Procedure, Operator}
+use Rattle.elan_scope.specs.declared.predefined.Predefined.{Predefined}
+use Rattle.elan_scope.specs.declared.predefined.Predefined.TheVariants.{Operation, Change, Put, Line}
+
+-- an operator or a procedure, its name, and what it is
+abbrev pub Row : Type 0
+Row = Sort × List ℕ × Predefined
+
+unfoldable pub predefined : List Row
+predefined =
+    (Operator, codes "+", Operation op.Plus)
+    ∷ (Operator, codes "-", Operation op.Negate)
+    ∷ (Operator, codes "+", Operation op.Add)
+    ∷ (Operator, codes "-", Operation op.Subtract)
+    ∷ (Operator, codes "*", Operation op.Multiply)
+    ∷ (Operator, codes "DIV", Operation op.Divide)
+    ∷ (Operator, codes "MOD", Operation op.Modulo)
+    ∷ (Operator, codes "INCR", Change change.Increase)
+    ∷ (Operator, codes "DECR", Change change.Decrease)
+    ∷ (Operator, codes "=", Operation op.Equal)
+    ∷ (Operator, codes "<>", Operation op.Unequal)
+    ∷ (Operator, codes "=", Operation op.Same)
+    ∷ (Operator, codes "<>", Operation op.Different)
+    ∷ (Operator, codes "<", Operation op.Less)
+    ∷ (Operator, codes "<=", Operation op.LessEqual)
+    ∷ (Operator, codes ">", Operation op.Greater)
+    ∷ (Operator, codes ">=", Operation op.GreaterEqual)
+    ∷ (Operator, codes "AND", Operation op.And)
+    ∷ (Operator, codes "OR", Operation op.Or)
+    ∷ (Operator, codes "NOT", Operation op.Not)
+    ∷ (Procedure, codes "abs", Operation op.Absolute)
+    ∷ (Procedure, codes "min", Operation op.Minimum)
+    ∷ (Procedure, codes "max", Operation op.Maximum)
+    ∷ (Procedure, codes "maxint", Operation op.Largest)
+    ∷ (Procedure, codes "put", Put)
+    ∷ (Procedure, codes "line", Line)
+    ∷ []
+
+-- The operands of an operation are values, of the types of its kinds.
+abbrev pub operands : Op → List Parameter
+operands o = map (λ k. held_const (type_in k)) (operand_kinds o)
+
+abbrev pub variable : ElanType → Parameter
+variable t = record { of = t; access = Var }
+
+-- what each is given
+abbrev pub parameters : Predefined → List Parameter
+parameters (Operation o) = operands o
+parameters (Change c) = variable Int ∷ held_const Int ∷ []
+parameters Put = held_const Int ∷ []
+parameters Line = []
+
+-- the type that each delivers, or nothing
+abbrev pub result : Predefined → Option ElanType
+result (Operation o) = Some (type_in (result_kind o))
+result _ = None

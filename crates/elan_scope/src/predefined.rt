@@ -1,0 +1,213 @@
+//! The predefined operators and procedures.
+
+ghost use Rattle.std.specs.Prelude.{◌≡◌, map};
+ghost use Rattle.elan_types.specs.Typing.{type_in};
+ghost use Rattle.elan_scope.specs.Predefined as spec;
+
+use crate::heading::Sort;
+use elan_types::{Access, Change, ElanType, Operation, Parameter};
+use eu_base::Kind;
+
+/// What a predefined name is.
+#[derive(Clone, Copy)]
+pub enum Predefined {
+    /// It delivers the result of an operation.
+    Operation(Operation),
+    /// It changes the variable that is its first operand.
+    Change(Change),
+    /// `put` of a number
+    Put,
+    /// `line`
+    Line,
+}
+
+/// Whether it is an operator or a procedure, its name, and what it is.
+pub type Row = (Sort, &'static [u8], Predefined);
+
+const PREDEFINED: [Row; 26] = [
+    (Sort::Operator, b"+", Predefined::Operation(Operation::Plus)),
+    (
+        Sort::Operator,
+        b"-",
+        Predefined::Operation(Operation::Negate),
+    ),
+    (Sort::Operator, b"+", Predefined::Operation(Operation::Add)),
+    (
+        Sort::Operator,
+        b"-",
+        Predefined::Operation(Operation::Subtract),
+    ),
+    (
+        Sort::Operator,
+        b"*",
+        Predefined::Operation(Operation::Multiply),
+    ),
+    (
+        Sort::Operator,
+        b"DIV",
+        Predefined::Operation(Operation::Divide),
+    ),
+    (
+        Sort::Operator,
+        b"MOD",
+        Predefined::Operation(Operation::Modulo),
+    ),
+    (
+        Sort::Operator,
+        b"INCR",
+        Predefined::Change(Change::Increase),
+    ),
+    (
+        Sort::Operator,
+        b"DECR",
+        Predefined::Change(Change::Decrease),
+    ),
+    (
+        Sort::Operator,
+        b"=",
+        Predefined::Operation(Operation::Equal),
+    ),
+    (
+        Sort::Operator,
+        b"<>",
+        Predefined::Operation(Operation::Unequal),
+    ),
+    (Sort::Operator, b"=", Predefined::Operation(Operation::Same)),
+    (
+        Sort::Operator,
+        b"<>",
+        Predefined::Operation(Operation::Different),
+    ),
+    (Sort::Operator, b"<", Predefined::Operation(Operation::Less)),
+    (
+        Sort::Operator,
+        b"<=",
+        Predefined::Operation(Operation::LessEqual),
+    ),
+    (
+        Sort::Operator,
+        b">",
+        Predefined::Operation(Operation::Greater),
+    ),
+    (
+        Sort::Operator,
+        b">=",
+        Predefined::Operation(Operation::GreaterEqual),
+    ),
+    (
+        Sort::Operator,
+        b"AND",
+        Predefined::Operation(Operation::And),
+    ),
+    (Sort::Operator, b"OR", Predefined::Operation(Operation::Or)),
+    (
+        Sort::Operator,
+        b"NOT",
+        Predefined::Operation(Operation::Not),
+    ),
+    (
+        Sort::Procedure,
+        b"abs",
+        Predefined::Operation(Operation::Absolute),
+    ),
+    (
+        Sort::Procedure,
+        b"min",
+        Predefined::Operation(Operation::Minimum),
+    ),
+    (
+        Sort::Procedure,
+        b"max",
+        Predefined::Operation(Operation::Maximum),
+    ),
+    (
+        Sort::Procedure,
+        b"maxint",
+        Predefined::Operation(Operation::Largest),
+    ),
+    (Sort::Procedure, b"put", Predefined::Put),
+    (Sort::Procedure, b"line", Predefined::Line),
+];
+
+/// A row for each predefined operator and procedure.
+#[tactic(auto, unfolding(crate::specs::Predefined::predefined))]
+pub fn rows() -> &'static [Row]
+    ensures { map (λ r. (r.0, r.1.now, r.2)) result.now ≡ spec.predefined }
+{
+    &PREDEFINED
+}
+
+const INT: Parameter = Parameter {
+    of: ElanType::Int,
+    access: Access::Const,
+};
+
+const BOOL: Parameter = Parameter {
+    of: ElanType::Bool,
+    access: Access::Const,
+};
+
+const INT_VAR: Parameter = Parameter {
+    of: ElanType::Int,
+    access: Access::Var,
+};
+
+// The operands of an operation are values.
+fn operands(operation: Operation) -> &'static [Parameter]
+    ensures { result.now ≡ spec.operands operation }
+{
+    match operation {
+        Operation::Largest => &[],
+        Operation::Plus | Operation::Negate | Operation::Absolute => &[INT],
+        Operation::Not => &[BOOL],
+        Operation::Same | Operation::Different | Operation::And | Operation::Or => &[BOOL, BOOL],
+        Operation::Add
+        | Operation::Subtract
+        | Operation::Multiply
+        | Operation::Divide
+        | Operation::Modulo
+        | Operation::Equal
+        | Operation::Unequal
+        | Operation::Less
+        | Operation::LessEqual
+        | Operation::Greater
+        | Operation::GreaterEqual
+        | Operation::Minimum
+        | Operation::Maximum => &[INT, INT],
+    }
+}
+
+fn type_in(kind: Kind) -> ElanType
+    ensures { result ≡ type_in kind }
+{
+    match kind {
+        Kind::Int => ElanType::Int,
+        Kind::Truth => ElanType::Bool,
+    }
+}
+
+impl Predefined {
+    /// What it is given.
+    pub fn parameters(self) -> &'static [Parameter]
+        ensures { result.now ≡ spec.parameters self }
+    {
+        match self {
+            Predefined::Operation(operation) => operands(operation),
+            Predefined::Change(_) => &[INT_VAR, INT],
+            Predefined::Put => &[INT],
+            Predefined::Line => &[],
+        }
+    }
+
+    /// The type that it delivers; `None` where it delivers nothing.
+    pub fn result(self) -> Option<ElanType>
+        ensures { result ≡ spec.result self }
+    {
+        match self {
+            Predefined::Operation(operation) => Some(type_in(operation.result_kind())),
+            Predefined::Change(_) => None,
+            Predefined::Put => None,
+            Predefined::Line => None,
+        }
+    }
+}
