@@ -436,3 +436,11 @@ module _ (s : Scope) where
   units_called d us =
       let ps = shape.filled (map (shape.unit s) us) in
       whole form.units (all_of (shape.roles d ps)) refl ∙ roles_call d ps ∙ all_called us
+
+  written_calls : (o : Option Phrase) → called_in (shape.written o) ≡ unit_calls_of o
+  written_calls None = refl
+  written_calls (Some p) = refl
+
+  -- a unit of a body, in its role
+  pub last_called : (d : Delivery) (u : Statement) → called_in (shape.role d (shape.written (shape.unit s u))) ≡ uses.in_unit s u
+  last_called d u = role_calls d (shape.written (shape.unit s u)) ∙ written_calls (shape.unit s u) ∙ unit_called u

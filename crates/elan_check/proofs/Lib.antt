@@ -10,6 +10,7 @@ pub mod Scopes
 pub mod Routines
 pub mod Lasts
 pub mod Same
+pub mod Opened
 pub mod Walks
 pub mod Calls
 pub mod Steps

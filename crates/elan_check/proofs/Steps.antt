@@ -1,8 +1,8 @@
 -- What is found out of one body after another is what a step finds out of all of them.
-use Rattle.std.proofs.Common.{◌≡◌, ℕ, zero, suc, ◌+◌, ◌-◌, ◌≤◌, ◌<◌, get_or, drop, List, [], ◌∷◌, ◌++◌, map, length, Option, Some, None, Result, Ok}
-use Rattle.std.proofs.Common.{Err, refl, sym, ap, ◌∙◌, arith, append_assoc}
+use Rattle.std.proofs.Common.{◌≡◌, ℕ, zero, suc, ◌+◌, ◌-◌, ◌≤◌, ◌<◌, get_or, drop, List, [], ◌∷◌, ◌++◌, map, length, Option, Some, None, Result, Ok, Err}
+use Rattle.std.proofs.Common.{Bool, true, false, if◌then◌else◌, refl, sym, ap, ◌∙◌, arith, append_assoc}
 use Rattle.std.specs.Prelude.{slice_index_or, OnOk}
-use Rattle.std.proofs.lemmas.List.{append-nil, at_drop_more, at_drop_all}
+use Rattle.std.proofs.lemmas.List.{append-nil, at_drop_more}
 use Rattle.elan_tree.specs.declared.written_type.TypePhrase.{TypePhrase}
 use Rattle.elan_tree.specs.declared.written_type.Formal.{Formal}
 use Rattle.elan_tree.specs.declared.tree.Body.{Body}
@@ -11,7 +11,7 @@ use Rattle.elan_tree.specs.declared.tree.Level.{Level}
 use Rattle.elan_tree.specs.declared.tree.LevelUnit.{LevelUnit}
 use Rattle.elan_tree.specs.declared.tree.LevelUnit.TheVariants as level
 use Rattle.elan_scope.specs.declared.delivery.Delivery.{Delivery}
-use Rattle.elan_scope.specs.declared.delivery.Delivery.TheVariants.{Open}
+use Rattle.elan_scope.specs.declared.delivery.Delivery.TheVariants.{Open, Nothing, Of}
 use Rattle.elan_scope.specs.declared.heading.Heading.{Heading}
 use Rattle.elan_scope.specs.declared.known.Known.{Known}
 use Rattle.elan_scope.specs.declared.scope.Scope.{Scope}
@@ -20,59 +20,95 @@ use Rattle.elan_scope.specs.Phrase.{Phrase}
 use Rattle.elan_levels.specs.Bodies as b
 use Rattle.elan_check.specs.Level as l
 use Rattle.elan_judge.specs.Shape.{unit, units}
-use Rattle.elan_check.specs.Refinements.{told_by, next, next_all, called_in, known_after, known_of, more_known, all_known, nothing_known}
+use Rattle.elan_check.specs.declared.deliveries.Calls.{Calls}
+use Rattle.elan_check.specs.declared.deliveries.Round.{Round}
+use Rattle.elan_check.specs.Refinements.{told_by, last_unit, next, next_all, called_in, known_after, known_of}
+use Rattle.elan_check.specs.walks.Seen.{all_seen}
+use Rattle.elan_check.specs.walks.Rounds.{called_last, with_calls, any_open, found, found_from, with_found}
+use Rattle.elan_check.proofs.Opened.{waiting}
 
 abbrev pub known_with : List Delivery → List (List ℕ) → Known
 known_with ds cs = record { deliveries = ds; calls = cs }
 
 -- ---- one after another
 
-pub all_append : (k out : Known) (n : ℕ) (us vs : List Phrase) → all_known k out n (us ++ vs) ≡ all_known k (all_known k out n us) (n + length us) vs
-all_append k out n [] vs = let z : n + 0 ≡ n = omega arith in ap (λ (m : ℕ). all_known k out m vs) (sym z)
-all_append k out n (u ∷ us) vs =
+pub all_append : {S : Type 0} (after : S → ℕ → Phrase → S) (s : S) (n : ℕ) (us vs : List Phrase)
+    → all_seen after s n (us ++ vs) ≡ all_seen after (all_seen after s n us) (n + length us) vs
+all_append after s n [] vs = let z : n + 0 ≡ n = omega arith in ap (λ (m : ℕ). all_seen after s m vs) (sym z)
+all_append after s n (u ∷ us) vs =
     let z : n + suc (length us) ≡ suc n + length us = omega arith in
-    all_append k (more_known k out n u) (suc n) us vs ∙ ap (λ (m : ℕ). all_known k (all_known k (more_known k out n u) (suc n) us) m vs) (sym z)
+    all_append after (after s n u) (suc n) us vs ∙ ap (λ (m : ℕ). all_seen after (all_seen after (after s n u) (suc n) us) m vs) (sym z)
 
-abbrev found_from : Known → ℕ → List Phrase → List Delivery
-found_from k n [] = []
-found_from k n (u ∷ us) = next k (delivery_at k n) u ∷ found_from k (suc n) us
+abbrev pub calls_with : List (List ℕ) → List (List ℕ) → Calls
+calls_with all last = record { all = all; last = last }
 
-all_found : (k out : Known) (n : ℕ) (us : List Phrase) → all_known k out n us ≡ known_with (out.deliveries ++ found_from k n us) (out.calls ++ map called_in us)
-all_found k out n [] =
-    ap (λ (ds : List Delivery). known_with ds out.calls) (sym (append-nil out.deliveries))
-    ∙ ap (λ (cs : List (List ℕ)). known_with (out.deliveries ++ []) cs) (sym (append-nil out.calls))
-all_found k out n (u ∷ us) =
-    let d = next k (delivery_at k n) u in
-    all_found k (more_known k out n u) (suc n) us
-    ∙ ap (λ (ds : List Delivery). known_with ds (out.calls ++ called_in u ∷ [] ++ map called_in us))
-    (append_assoc out.deliveries (d ∷ []) (found_from k (suc n) us))
-    ∙ ap (λ (cs : List (List ℕ)). known_with (out.deliveries ++ d ∷ found_from k (suc n) us) cs) (append_assoc out.calls (called_in u ∷ []) (map called_in us))
+pub all_calls : (s : Calls) (n : ℕ) (us : List Phrase)
+    → all_seen (λ (s : Calls) (n : ℕ) units. with_calls s units) s n us ≡ calls_with (s.all ++ map called_in us) (s.last ++ map called_last us)
+all_calls s n [] =
+    ap (λ (cs : List (List ℕ)). calls_with cs s.last) (sym (append-nil s.all))
+    ∙ ap (λ (cs : List (List ℕ)). calls_with (s.all ++ []) cs) (sym (append-nil s.last))
+all_calls s n (u ∷ us) =
+    all_calls (with_calls s u) (suc n) us
+    ∙ ap (λ (cs : List (List ℕ)). calls_with cs ((s.last ++ called_last u ∷ []) ++ map called_last us))
+    (append_assoc s.all (called_in u ∷ []) (map called_in us))
+    ∙ ap (λ (cs : List (List ℕ)). calls_with (s.all ++ called_in u ∷ map called_in us) cs) (append_assoc s.last (called_last u ∷ []) (map called_last us))
 
--- the deliveries from this number on
+pub calls_found : {E : Type 0} (q : Result (Unit {0}) E) (s : Calls) (v : Phrase) (c d : List ℕ) (cs ds : List (List ℕ)) → c ≡ called_in v → d ≡ called_last v
+    → cs ≡ s.all ++ c ∷ [] → OnOk q (ds ≡ s.last ++ d ∷ []) → OnOk q (calls_with cs ds ≡ with_calls s v)
+calls_found (Err e) s v c d cs ds ec ed es h = tt
+calls_found (Ok x) s v c d cs ds ec ed es h =
+    ap (λ (l : List (List ℕ)). calls_with l ds) (es ∙ ap (λ (ns : List ℕ). s.all ++ ns ∷ []) ec)
+    ∙ ap (λ (l : List (List ℕ)). calls_with (s.all ++ called_in v ∷ []) l) (h ∙ ap (λ (ns : List ℕ). s.last ++ ns ∷ []) ed)
+
+pub all_found : (s : Round) (n : ℕ) (us : List Phrase)
+    → (all_seen with_found s n us).deliveries ≡ s.deliveries ++ found_from s.known.now s.last.now n us
+all_found s n [] = sym (append-nil s.deliveries)
+all_found s n (u ∷ us) =
+    all_found (with_found s n u) (suc n) us
+    ∙ append_assoc s.deliveries (found s.known.now s.last.now n u ∷ []) (found_from s.known.now s.last.now (suc n) us)
+
+-- the deliveries, and the calls of last units, from this number on
 abbrev Has : Known → ℕ → List Delivery → Type 0
 Has k n ds = (i : ℕ) → slice_index_or ds i Open ≡ delivery_at k (n + i)
 
-same_next : (k : Known) (n : ℕ) (ds : List Delivery) (us : List Phrase) → length ds ≡ length us → Has k n ds → found_from k n us ≡ next_all k ds us
-same_next k n [] [] e h = refl
-same_next k n [] (u ∷ us) e h = absurd (let z : 0 ≡ suc (length us) = e in omega (arith, z))
-same_next k n (d ∷ ds) [] e h = absurd (let z : suc (length ds) ≡ 0 = e in omega (arith, z))
-same_next k n (d ∷ ds) (u ∷ us) e h =
+abbrev Calling : List (List ℕ) → ℕ → List Phrase → Type 0
+Calling last n us = (i : ℕ) → slice_index_or (map called_last us) i [] ≡ slice_index_or last (n + i) []
+
+-- What is not looked at tells nothing.
+found_next_of : (k : Known) (last : List (List ℕ)) (n : ℕ) (d : Delivery) (u : Phrase) → delivery_at k n ≡ d → slice_index_or last n [] ≡ called_last u
+    → found k last n u ≡ next k d u
+found_next_of k last n d u e h =
+    ap (λ (cs : List ℕ). if any_open k cs then delivery_at k n else next k (delivery_at k n) u) h
+    ∙ ap (λ (c : Delivery). if any_open k (called_last u) then c else next k c u) e ∙ by_test d (any_open k (called_last u)) refl
+  where
+    by_test : (c : Delivery) (b : Bool) → any_open k (called_last u) ≡ b → (if b then c else next k c u) ≡ next k c u
+    by_test Open true f = sym (waiting k (last_unit u) f)
+    by_test Nothing true f = refl
+    by_test (Of t) true f = refl
+    by_test c false f = refl
+
+same_next : (k : Known) (last : List (List ℕ)) (n : ℕ) (ds : List Delivery) (us : List Phrase) → length ds ≡ length us → Has k n ds → Calling last n us
+    → found_from k last n us ≡ next_all k ds us
+same_next k last n [] [] e h g = refl
+same_next k last n [] (u ∷ us) e h g = absurd (let z : 0 ≡ suc (length us) = e in omega (arith, z))
+same_next k last n (d ∷ ds) [] e h g = absurd (let z : suc (length ds) ≡ 0 = e in omega (arith, z))
+same_next k last n (d ∷ ds) (u ∷ us) e h g =
     let z : n + 0 ≡ n = omega arith in
     let first : delivery_at k n ≡ d = sym (h 0 ∙ ap (delivery_at k) z) in
+    let calling : slice_index_or last n [] ≡ called_last u = sym (g 0 ∙ ap (λ (m : ℕ). slice_index_or last m []) z) in
     let few : length ds ≡ length us = (let i : suc (length ds) ≡ suc (length us) = e in omega (arith, i)) in
     let rest : Has k (suc n) ds = λ i. h (suc i) ∙ ap (delivery_at k) (let y : n + suc i ≡ suc n + i = omega arith in y) in
-    ap (λ (c : Delivery). next k c u ∷ found_from k (suc n) us) first ∙ ap (λ (l : List Delivery). next k d u ∷ l) (same_next k (suc n) ds us few rest)
+    let more : Calling last (suc n) us =
+    λ i. g (suc i) ∙ ap (λ (m : ℕ). slice_index_or last m []) (let y : n + suc i ≡ suc n + i = omega arith in y) in
+    ap (λ (c : Delivery). c ∷ found_from k last (suc n) us) (found_next_of k last n d u first calling)
+    ∙ ap (λ (l : List Delivery). next k d u ∷ l) (same_next k last (suc n) ds us few rest more)
 
 -- a step, taken one body after another
-pub one_step : (k : Known) (us : List Phrase) → length k.deliveries ≡ length us
-    → all_known k nothing_known 0 us ≡ known_with (next_all k k.deliveries us) (map called_in us)
-one_step k us e =
-    all_found k nothing_known 0 us
-    ∙ ap (λ (ds : List Delivery). known_with ds (map called_in us))
-    (same_next k 0 k.deliveries us e (λ i. ap (delivery_at k) (let z : i ≡ 0 + i = omega arith in z)))
-
-pub all_calls : (k : Known) (us : List Phrase) → (all_known k nothing_known 0 us).calls ≡ map called_in us
-all_calls k us = ap (λ (j : Known). j.calls) (all_found k nothing_known 0 us)
+one_step : (k : Known) (last : List (List ℕ)) (us : List Phrase) → length k.deliveries ≡ length us → last ≡ map called_last us
+    → found_from k last 0 us ≡ next_all k k.deliveries us
+one_step k last us e h =
+    same_next k last 0 k.deliveries us e (λ i. ap (delivery_at k) (let z : i ≡ 0 + i = omega arith in z))
+    (λ i. ap (λ (l : List (List ℕ)). slice_index_or l i []) (sym h) ∙ ap (λ (m : ℕ). slice_index_or last m []) (let z : i ≡ 0 + i = omega arith in z))
 
 -- ---- lengths
 
@@ -152,8 +188,9 @@ module _ (w : Level) where
   abbrev us : List Phrase
   us = l.level_bodies w
 
-  pub step_is : (n : ℕ) → all_known (known_after n hs us) nothing_known 0 us ≡ known_after (suc n) hs us
-  step_is n = one_step (known_after n hs us) us (after_length n hs us ∙ level_count w)
+  pub step_is : (n : ℕ) (last : List (List ℕ)) → last ≡ map called_last us
+      → found_from (known_after n hs us) last 0 us ≡ (known_after (suc n) hs us).deliveries
+  step_is n last h = one_step (known_after n hs us) last us (after_length n hs us ∙ level_count w) h
 
   calls_are : (n : ℕ) → known_after n hs us ≡ known_with (known_after n hs us).deliveries (map called_in us)
   calls_are zero = refl
@@ -179,86 +216,75 @@ module _ (w : Level) where
       by_rest : (d : ℕ) → m ≡ d + n → known_after n hs us ≡ known_after m hs us
       by_rest d i = sym (ap (λ (j : ℕ). known_after j hs us) i ∙ stays d n (known_same (suc n) n e))
 
--- What a step does not change is all that can be known.
-pub found_all : (w : Level) (n : ℕ) (known next : Known) → known ≡ known_after n (b.headings w) (l.level_bodies w)
-    → next ≡ all_known known nothing_known 0 (l.level_bodies w) → next.deliveries ≡ known.deliveries → n ≤ length (b.headings w)
-    → known ≡ known_of (b.headings w) (l.level_bodies w)
-found_all w n known next ek en ed h =
-    let e : next ≡ known_after (suc n) (b.headings w) (l.level_bodies w) =
-    en ∙ ap (λ (k : Known). all_known k nothing_known 0 (l.level_bodies w)) ek ∙ step_is w n in
-    ek ∙ stops w n (length (b.headings w)) (sym (ap (λ (k : Known). k.deliveries) e) ∙ ed ∙ ap (λ (k : Known). k.deliveries) ek) h
+module _ (w : Level) (n : ℕ) (known : Known) (last : List (List ℕ)) (ds : List Delivery) (ek : known ≡ known_after n (hs w) (us w))
+    (el : last ≡ map called_last (us w)) (en : ds ≡ found_from known last 0 (us w)) where
+  next_is : ds ≡ (known_after (suc n) (hs w) (us w)).deliveries
+  next_is = en ∙ ap (λ (k : Known). found_from k last 0 (us w)) ek ∙ step_is w n last el
 
-pub found_next : (w : Level) (n : ℕ) (known next : Known) → known ≡ known_after n (b.headings w) (l.level_bodies w)
-    → next ≡ all_known known nothing_known 0 (l.level_bodies w) → next ≡ known_after (n + 1) (b.headings w) (l.level_bodies w)
-found_next w n known next ek en =
-    let z : suc n ≡ n + 1 = omega arith in
-    en ∙ ap (λ (k : Known). all_known k nothing_known 0 (l.level_bodies w)) ek ∙ step_is w n ∙ ap (λ (i : ℕ). known_after i (b.headings w) (l.level_bodies w)) z
+  -- What a step does not change is all that can be known.
+  pub found_all : ds ≡ known.deliveries → n ≤ length (hs w) → known ≡ known_of (hs w) (us w)
+  found_all ed h = ek ∙ stops w n (length (hs w)) (sym next_is ∙ ed ∙ ap (λ (k : Known). k.deliveries) ek) h
+
+  pub found_next : (cs : List (List ℕ)) → cs ≡ known.calls → known_with ds cs ≡ known_after (n + 1) (hs w) (us w)
+  found_next cs ec =
+      let z : suc n ≡ n + 1 = omega arith in
+      ap (λ (c : List (List ℕ)). known_with ds c) (ec ∙ ap (λ (k : Known). k.calls) (ek ∙ calls_are w n))
+      ∙ ap (λ (e : List Delivery). known_with e (map called_in (us w))) next_is
+      ∙ ap (λ (i : ℕ). known_after i (hs w) (us w)) z
 
 -- ---- the walk over a level
 
-pub body_found : {E : Type 0} (q : Result (Unit {0}) E) (k out : Known) (n : ℕ) (v : Phrase) (d : Delivery) (c : List ℕ) (ds : List Delivery)
-    (cs : List (List ℕ)) → d ≡ next k (delivery_at k n) v → c ≡ called_in v → ds ≡ out.deliveries ++ d ∷ [] →
-    OnOk q (cs ≡ out.calls ++ c ∷ []) → OnOk q (known_with ds cs ≡ more_known k out n v)
-body_found (Err e) k out n v d c ds cs ed ec es h = tt
-body_found (Ok x) k out n v d c ds cs ed ec es h =
-    ap (λ (l : List Delivery). known_with l cs) (es ∙ ap (λ (y : Delivery). out.deliveries ++ y ∷ []) ed)
-    ∙ ap (λ (l : List (List ℕ)). known_with (out.deliveries ++ next k (delivery_at k n) v ∷ []) l) (h ∙ ap (λ (y : List ℕ). out.calls ++ y ∷ []) ec)
+module _ {S : Type 0} (after : S → ℕ → Phrase → S) where
+  abbrev all : S → ℕ → List Phrase → S
+  all s n us = all_seen after s n us
 
-module _ (k : Known) where
-  pub refinement_found : (s z : Scope) (rs : List Refined) (i : ℕ) (r : Refined) (n m : ℕ) (out new whole : Known) → i < length rs → r ≡ get_or rs i r
-      → m ≡ n + 1 → z ≡ s → new ≡ more_known k out n (l.refined_units z n r) →
-      all_known k out n (l.all_refined_units s n (drop i rs)) ≡ whole → all_known k new m (l.all_refined_units s m (drop (i + 1) rs)) ≡ whole
+  pub refinement_found : (s z : Scope) (rs : List Refined) (i : ℕ) (r : Refined) (n m : ℕ) (out new whole : S) → i < length rs → r ≡ get_or rs i r
+      → m ≡ n + 1 → z ≡ s → new ≡ after out n (l.refined_units z n r) →
+      all out n (l.all_refined_units s n (drop i rs)) ≡ whole → all new m (l.all_refined_units s m (drop (i + 1) rs)) ≡ whole
   refinement_found s z rs i r n m out new whole lt e em ez en h =
       let rest = drop (i + 1) rs in
       let next_number : m ≡ suc n = omega (arith, em) in
-      ap (λ (j : ℕ). all_known k new j (l.all_refined_units s j rest)) next_number
-      ∙ ap (λ (o : Known). all_known k o (suc n) (l.all_refined_units s (suc n) rest)) (en ∙ ap (λ (y : Scope). more_known k out n (l.refined_units y n r)) ez)
-      ∙ ap (λ (x : Refined). all_known k out n (l.all_refined_units s n (x ∷ rest))) e
-      ∙ sym (at_drop_more (λ ys. all_known k out n (l.all_refined_units s n ys)) rs i r lt) ∙ h
+      ap (λ (j : ℕ). all new j (l.all_refined_units s j rest)) next_number
+      ∙ ap (λ (o : S). all o (suc n) (l.all_refined_units s (suc n) rest)) (en ∙ ap (λ (y : Scope). after out n (l.refined_units y n r)) ez)
+      ∙ ap (λ (x : Refined). all out n (l.all_refined_units s n (x ∷ rest))) e
+      ∙ sym (at_drop_more (λ ys. all out n (l.all_refined_units s n ys)) rs i r lt) ∙ h
 
-  pub unit_found : (s z : Scope) (vs : List LevelUnit) (i : ℕ) (v : LevelUnit) (n m : ℕ) (out new whole : Known) → i < length vs → v ≡ get_or vs i v
-      → m ≡ n + b.bodies_in v → z ≡ s → new ≡ all_known k out n (l.unit_bodies z n v) →
-      all_known k out n (l.all_unit_bodies s n (drop i vs)) ≡ whole → all_known k new m (l.all_unit_bodies s m (drop (i + 1) vs)) ≡ whole
+  pub unit_found : (s z : Scope) (vs : List LevelUnit) (i : ℕ) (v : LevelUnit) (n m : ℕ) (out new whole : S) → i < length vs → v ≡ get_or vs i v
+      → m ≡ n + b.bodies_in v → z ≡ s → new ≡ all out n (l.unit_bodies z n v) →
+      all out n (l.all_unit_bodies s n (drop i vs)) ≡ whole → all new m (l.all_unit_bodies s m (drop (i + 1) vs)) ≡ whole
   unit_found s z vs i v n m out new whole lt e em ez en h =
       let rest = drop (i + 1) vs in
       let behind = n + b.bodies_in v in
-      ap (λ (j : ℕ). all_known k new j (l.all_unit_bodies s j rest)) em
-      ∙ ap (λ (o : Known). all_known k o behind (l.all_unit_bodies s behind rest)) (en ∙ ap (λ (y : Scope). all_known k out n (l.unit_bodies y n v)) ez)
-      ∙ ap (λ (j : ℕ). all_known k (all_known k out n (l.unit_bodies s n v)) (n + j) (l.all_unit_bodies s behind rest)) (sym (unit_count s n v))
-      ∙ sym (all_append k out n (l.unit_bodies s n v) (l.all_unit_bodies s behind rest))
-      ∙ ap (λ (x : LevelUnit). all_known k out n (l.all_unit_bodies s n (x ∷ rest))) e
-      ∙ sym (at_drop_more (λ ys. all_known k out n (l.all_unit_bodies s n ys)) vs i v lt) ∙ h
+      ap (λ (j : ℕ). all new j (l.all_unit_bodies s j rest)) em
+      ∙ ap (λ (o : S). all o behind (l.all_unit_bodies s behind rest)) (en ∙ ap (λ (y : Scope). all out n (l.unit_bodies y n v)) ez)
+      ∙ ap (λ (j : ℕ). all (all out n (l.unit_bodies s n v)) (n + j) (l.all_unit_bodies s behind rest)) (sym (unit_count s n v))
+      ∙ sym (all_append after out n (l.unit_bodies s n v) (l.all_unit_bodies s behind rest))
+      ∙ ap (λ (x : LevelUnit). all out n (l.all_unit_bodies s n (x ∷ rest))) e
+      ∙ sym (at_drop_more (λ ys. all out n (l.all_unit_bodies s n ys)) vs i v lt) ∙ h
 
   -- a PROC or OP, in whose scope its body is looked at
-  pub routine_found : (s z : Scope) (n m : ℕ) (r : Option TypePhrase) (fs : List Formal) (w : Body) (out first new : Known)
+  pub routine_found : (s z : Scope) (n m : ℕ) (r : Option TypePhrase) (fs : List Formal) (w : Body) (out first new : S)
       → z ≡ l.routine_scope s n (b.body_names fs w) → m ≡ n + 1 →
-      first ≡ more_known k out n (units (delivered (b.result r)) (map (unit z) w.units)) → new ≡ all_known k first m (l.all_refined_units z m w.refinements)
-      → new ≡ all_known k out n (l.inside_units s n r fs w)
+      first ≡ after out n (units (delivered (b.result r)) (map (unit z) w.units)) → new ≡ all first m (l.all_refined_units z m w.refinements)
+      → new ≡ all out n (l.inside_units s n r fs w)
   routine_found s z n m r fs w out first new ez em ef en =
       let next_number : m ≡ suc n = omega (arith, em) in
-      en ∙ ap (λ (j : ℕ). all_known k first j (l.all_refined_units z j w.refinements)) next_number
-      ∙ ap (λ (o : Known). all_known k o (suc n) (l.all_refined_units z (suc n) w.refinements)) ef
-      ∙ ap (λ (y : Scope). all_known k (more_known k out n (units (delivered (b.result r)) (map (unit y) w.units))) (suc n)
+      en ∙ ap (λ (j : ℕ). all first j (l.all_refined_units z j w.refinements)) next_number
+      ∙ ap (λ (o : S). all o (suc n) (l.all_refined_units z (suc n) w.refinements)) ef
+      ∙ ap (λ (y : Scope). all (after out n (units (delivered (b.result r)) (map (unit y) w.units))) (suc n)
       (l.all_refined_units y (suc n) w.refinements)) ez
 
-  pub level_found : (w : Level) (s z : Scope) (m : ℕ) (first new : Known) → s ≡ l.level_scope w → z ≡ s → m ≡ b.bodies_of_units w.units →
-      first ≡ all_known k nothing_known 0 (l.all_unit_bodies s 0 w.units) → new ≡ all_known k first m (l.all_refined_units z m w.refinements)
-      → new ≡ all_known k nothing_known 0 (l.level_bodies w)
-  level_found w s z m first new es ez em ef en =
+  pub level_found : (w : Level) (s z : Scope) (m : ℕ) (start first new : S) → s ≡ l.level_scope w → z ≡ s → m ≡ b.bodies_of_units w.units →
+      first ≡ all start 0 (l.all_unit_bodies s 0 w.units) → new ≡ all first m (l.all_refined_units z m w.refinements)
+      → new ≡ all start 0 (l.level_bodies w)
+  level_found w s z m start first new es ez em ef en =
       let here = l.level_scope w in
       let before = l.all_unit_bodies here 0 w.units in
       let count = b.bodies_of_units w.units in
       let length_is : 0 + length before ≡ count = (let c = units_count here 0 w.units in omega (arith, c)) in
-      en ∙ ap (λ (j : ℕ). all_known k first j (l.all_refined_units z j w.refinements)) em
-      ∙ ap (λ (y : Scope). all_known k first count (l.all_refined_units y count w.refinements)) (ez ∙ es)
-      ∙ ap (λ (o : Known). all_known k o count (l.all_refined_units here count w.refinements))
-      (ef ∙ ap (λ (y : Scope). all_known k nothing_known 0 (l.all_unit_bodies y 0 w.units)) es)
-      ∙ ap (λ (j : ℕ). all_known k (all_known k nothing_known 0 before) j (l.all_refined_units here count w.refinements)) (sym length_is)
-      ∙ sym (all_append k nothing_known 0 before (l.all_refined_units here count w.refinements))
-
--- what the headings tell, and which refinements are called
-pub first_is : (w : Level) (told next : Known) (ds : List Delivery) (cs : List (List ℕ)) → ds ≡ told_by (b.headings w)
-    → next ≡ all_known told nothing_known 0 (l.level_bodies w) → cs ≡ next.calls → known_with ds cs ≡ known_after 0 (b.headings w) (l.level_bodies w)
-first_is w told next ds cs ed en ec =
-    ap (λ (l : List Delivery). known_with l cs) ed
-    ∙ ap (λ (c : List (List ℕ)). known_with (told_by (b.headings w)) c) (ec ∙ ap (λ (j : Known). j.calls) en ∙ all_calls told (l.level_bodies w))
+      en ∙ ap (λ (j : ℕ). all first j (l.all_refined_units z j w.refinements)) em
+      ∙ ap (λ (y : Scope). all first count (l.all_refined_units y count w.refinements)) (ez ∙ es)
+      ∙ ap (λ (o : S). all o count (l.all_refined_units here count w.refinements))
+      (ef ∙ ap (λ (y : Scope). all start 0 (l.all_unit_bodies y 0 w.units)) es)
+      ∙ ap (λ (j : ℕ). all (all start 0 before) j (l.all_refined_units here count w.refinements)) (sym length_is)
+      ∙ sym (all_append after start 0 before (l.all_refined_units here count w.refinements))

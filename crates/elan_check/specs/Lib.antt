@@ -1,3 +1,4 @@
 pub mod Level
 pub mod Refinements
 pub mod Text
+pub mod walks

@@ -7,7 +7,7 @@ use Rattle.elan_scope.specs.declared.heading.What.TheVariants.{Routine, Refineme
 use Rattle.elan_scope.specs.declared.heading.Heading.{Heading}
 use Rattle.elan_meant.specs.declared.meant.Meant.{Meant}
 use Rattle.elan_meant.specs.declared.meant.Meant.TheVariants.{Value}
-use Rattle.elan_scope.specs.Known.{delivered, delivery_at}
+use Rattle.elan_scope.specs.Known.{delivered}
 use Rattle.elan_scope.specs.declared.scope.Usage.TheVariants.{Expression}
 use Rattle.elan_levels.specs.Called.{called_under}
 use Rattle.elan_scope.specs.Phrase as form
@@ -87,16 +87,3 @@ known_after (suc n) hs us = record {
 -- Each step finds what a further refinement delivers, or all that can be found is known.
 abbrev pub known_of : List Heading → List Phrase → Known
 known_of hs us = known_after (length hs) hs us
-
--- ---- one body after another
-
--- what is found out of the body with this number, from what is known, behind what was found out of the bodies before it
-abbrev pub more_known : Known → Known → ℕ → Phrase → Known
-more_known k out n units = record { deliveries = out.deliveries ++ next k (delivery_at k n) units ∷ []; calls = out.calls ++ called_in units ∷ [] }
-
-abbrev pub all_known : Known → Known → ℕ → List Phrase → Known
-all_known k out n [] = out
-all_known k out n (u ∷ us) = all_known k (more_known k out n u) (suc n) us
-
-abbrev pub nothing_known : Known
-nothing_known = record { deliveries = []; calls = [] }

@@ -1,6 +1,6 @@
 //! What bodies deliver: a refinement delivers what its last unit delivers, which is found out in steps.
 
-ghost use Rattle.std.specs.Prelude.{◌≡◌, ◌++◌, map, option_map, None, IfOk, OnOk};
+ghost use Rattle.std.specs.Prelude.{◌≡◌, [], map, option_map, slice_index_or, IfOk};
 ghost use Rattle.elan_scope.specs.declared.delivery.Delivery.{Delivery as Wanted};
 ghost use Rattle.elan_scope.specs.declared.scope.Scope.{Scope};
 ghost use Rattle.elan_meant.specs.declared.meant.Meant.{Meant};
@@ -10,22 +10,22 @@ ghost use Rattle.elan_scope.specs.Known as knowledge;
 ghost use Rattle.elan_levels.specs.Bodies as bodies;
 ghost use Rattle.elan_check.specs.Level as level_spec;
 ghost use Rattle.elan_check.specs.Refinements as spec;
+ghost use Rattle.elan_check.specs.walks.Rounds as walks;
 ghost use Rattle.elan_judge.specs.Shape as shape;
 
+use crate::walk::{EachBody, each_body};
 use elan_judge::judge::judge_role;
 use elan_judge::role::is_empty;
-use elan_levels::bodies::body_names;
-use elan_levels::heading::{first_refinement, next_number, number_behind, result_type};
-use elan_levels::uses::called_in;
+use elan_levels::uses::{called_in, called_in_unit};
 use elan_meant::meant::Meant;
 use elan_meant::row::Judged;
 use elan_rows::let_meant_go;
 use elan_scope::delivery::Delivery;
 use elan_scope::heading::{Heading, What};
 use elan_scope::known::Known;
-use elan_scope::scope::{Scope, Within};
+use elan_scope::scope::Scope;
 use elan_scope::trouble::Trouble;
-use elan_tree::{Body, Formal, Level, LevelUnit, Refinement, TypePhrase, Unit};
+use elan_tree::{Level, Unit};
 use eu_base::{List, NoMemory};
 use std::alloc::Global;
 
@@ -120,212 +120,134 @@ fn next(
     }
 }
 
-// Adds what is found out of the body with this number, and the refinements that its units call.
-fn add_body(
-    alloc: Global,
-    known: &Known,
-    scope: &Scope,
-    out: &mut Known,
-    number: usize,
-    wanted: Delivery,
-    units: &[Unit],
-) -> Result<(), NoMemory>
-    ensures { OnOk result (out.new ≡ spec.more_known known.now out.old number (shape.units wanted (map (shape.unit scope.now) units.now))) }
+// The refinements that the last unit calls.
+fn called_in_last(alloc: Global, scope: &Scope, units: &[Unit]) -> Result<List<usize>, NoMemory>
+    ensures { (d : Wanted) → IfOk result (λ called. called ≡ walks.called_last (shape.units d (map (shape.unit scope.now) units.now))) }
 {
-    let delivery = next(alloc, known, scope, number, wanted, units)?;
-    let calls = called_in(alloc, scope, units)?;
-    out.deliveries.push(delivery)?;
-    out.calls.push(calls)
-}
-
-fn add_refinements(
-    alloc: Global,
-    known: &Known,
-    scope: &mut Scope,
-    out: &mut Known,
-    first: usize,
-    refinements: &[Refinement],
-) -> Result<(), NoMemory>
-    requires { scope.old.refinement ≡ None }
-    ensures found { OnOk result (out.new ≡ spec.all_known known.now out.old first (level_spec.all_refined_units scope.old first refinements.now)) }
-    ensures kept { OnOk result (scope.new ≡ scope.old) }
-{
-    let mut number = first;
-    for refinement in refinements {
-        scope.refinement = Some(number);
-        add_body(
-            alloc,
-            known,
-            scope,
-            out,
-            number,
-            Delivery::Open,
-            refinement.units.as_slice(),
-        )?;
-        scope.refinement = None;
-        number = next_number(number)?;
-    }
-    Ok(())
-}
-
-// Adds what is found out of a PROC or OP, and of its refinements.
-fn add_routine(
-    alloc: Global,
-    known: &Known,
-    scope: &mut Scope,
-    out: &mut Known,
-    number: usize,
-    delivered: &Option<TypePhrase>,
-    formals: &[Formal],
-    body: &Body,
-) -> Result<(), NoMemory>
-    requires level { scope.old.routine ≡ None }
-    requires unit { scope.old.refinement ≡ None }
-    ensures found { OnOk result (out.new ≡ spec.all_known known.now out.old number (level_spec.inside_units scope.old number delivered.now formals.now body.now)) }
-    ensures kept { OnOk result (scope.new ≡ scope.old) }
-{
-    let first = next_number(number)?;
-    let names = body_names(alloc, formals, body)?;
-    scope.routine = Some(Within { number, names });
-    let wanted = Delivery::of(result_type(delivered));
-    add_body(
-        alloc,
-        known,
-        scope,
-        out,
-        number,
-        wanted,
-        body.units.as_slice(),
-    )?;
-    add_refinements(alloc, known, scope, out, first, body.refinements.as_slice())?;
-    scope.routine = None;
-    Ok(())
-}
-
-fn add_unit(
-    alloc: Global,
-    known: &Known,
-    scope: &mut Scope,
-    out: &mut Known,
-    number: usize,
-    unit: &LevelUnit,
-) -> Result<(), NoMemory>
-    requires level { scope.old.routine ≡ None }
-    requires unit { scope.old.refinement ≡ None }
-    ensures found { OnOk result (out.new ≡ spec.all_known known.now out.old number (level_spec.unit_bodies scope.old number unit.now)) }
-    ensures kept { OnOk result (scope.new ≡ scope.old) }
-{
-    match unit {
-        LevelUnit::Plain(_) => Ok(()),
-        LevelUnit::NewType { .. } => Ok(()),
-        LevelUnit::Proc {
-            result,
-            formals,
-            body,
-            ..
-        } => add_routine(
-            alloc,
-            known,
-            scope,
-            out,
-            number,
-            result,
-            formals.as_slice(),
-            body,
-        ),
-        LevelUnit::Op {
-            result,
-            formals,
-            body,
-            ..
-        } => add_routine(
-            alloc,
-            known,
-            scope,
-            out,
-            number,
-            result,
-            formals.as_slice(),
-            body,
-        ),
+    match last_unit(units) {
+        None => Ok(List::new(alloc)),
+        Some(unit) => called_in_unit(alloc, scope, unit),
     }
 }
 
-fn add_units(
-    alloc: Global,
-    known: &Known,
-    scope: &mut Scope,
-    out: &mut Known,
-    units: &[LevelUnit],
-) -> Result<(), NoMemory>
-    requires level { scope.old.routine ≡ None }
-    requires unit { scope.old.refinement ≡ None }
-    ensures found { OnOk result (out.new ≡ spec.all_known known.now out.old 0 (level_spec.all_unit_bodies scope.old 0 units.now)) }
-    ensures kept { OnOk result (scope.new ≡ scope.old) }
-{
-    let mut number = 0;
-    for unit in units {
-        add_unit(alloc, known, scope, out, number, unit)?;
-        number = number_behind(number, unit)?;
+// ---- calls
+
+// The refinements that bodies call: in all their units, and in their last ones.
+#[derive(Drop)]
+struct Calls {
+    all: List<List<usize>>,
+    last: List<List<usize>>,
+}
+
+impl EachBody for Calls {
+    ghost after = { λ s n units. walks.with_calls s units };
+
+    fn body(
+        &mut self,
+        alloc: Global,
+        scope: &Scope,
+        _number: usize,
+        _wanted: Delivery,
+        units: &[Unit],
+    ) -> Result<(), NoMemory> {
+        let all = called_in(alloc, scope, units)?;
+        let last = called_in_last(alloc, scope, units)?;
+        self.all.push(all)?;
+        self.last.push(last)
     }
-    Ok(())
 }
 
-// Adds what is found out of all bodies.
-fn add_bodies(
-    alloc: Global,
-    known: &Known,
-    scope: &mut Scope,
-    out: &mut Known,
-    level: &Level,
-) -> Result<(), NoMemory>
-    requires scope { scope.old ≡ level_spec.level_scope level.now }
-    requires out { out.old ≡ spec.nothing_known }
-    ensures found { OnOk result (out.new ≡ spec.all_known known.now spec.nothing_known 0 (level_spec.level_bodies level.now)) }
-    ensures kept { OnOk result (scope.new ≡ scope.old) }
-{
-    let units = level.units.as_slice();
-    add_units(alloc, known, scope, out, units)?;
-    let first = first_refinement(units)?;
-    let refinements = level.refinements.as_slice();
-    add_refinements(alloc, known, scope, out, first, refinements)?;
-    Ok(())
-}
-
-// One step further.
-fn next_known(
-    alloc: Global,
-    known: &Known,
-    scope: &mut Scope,
-    level: &Level,
-) -> Result<Known, NoMemory>
+fn calls_of(alloc: Global, scope: &mut Scope, level: &Level) -> Result<Calls, NoMemory>
     requires { scope.old ≡ level_spec.level_scope level.now }
-    ensures found { IfOk result (λ next. next ≡ spec.all_known known.now spec.nothing_known 0 (level_spec.level_bodies level.now)) }
+    ensures all { IfOk result (λ calls. calls.all ≡ map spec.called_in (level_spec.level_bodies level.now)) }
+    ensures last { IfOk result (λ calls. calls.last ≡ map walks.called_last (level_spec.level_bodies level.now)) }
+    ensures kept { IfOk result (λ calls. scope.new ≡ scope.old) }
+{
+    let mut calls = Calls {
+        all: List::new(alloc),
+        last: List::new(alloc),
+    };
+    match each_body(alloc, &mut calls, scope, level) {
+        Err(refusal) => Err(refusal),
+        Ok(()) => Ok(calls),
+    }
+}
+
+// ---- rounds
+
+fn any_open(known: &Known, called: &[usize]) -> bool
+    ensures { result ≡ walks.any_open known.now called.now }
+{
+    for number in called {
+        if known.delivery_at(*number) == Delivery::Open {
+            return true;
+        }
+    }
+    false
+}
+
+// Whether the last unit of a body calls a refinement of which nothing is known.
+fn waits(known: &Known, last: &[List<usize>], number: usize) -> bool
+    ensures { result ≡ walks.any_open known.now (slice_index_or last.now number []) }
+{
+    match last.get(number) {
+        None => false,
+        Some(called) => any_open(known, called.as_slice()),
+    }
+}
+
+// One step further, from what is known and from what last units call. A body whose last unit calls a refinement of which
+// nothing is known is not looked at, so that each is looked at about once.
+#[derive(Drop)]
+struct Round<'a> {
+    known: &'a Known,
+    last: &'a List<List<usize>>,
+    deliveries: List<Delivery>,
+}
+
+impl EachBody for Round<'_> {
+    ghost after = { walks.with_found };
+
+    fn body(
+        &mut self,
+        alloc: Global,
+        scope: &Scope,
+        number: usize,
+        wanted: Delivery,
+        units: &[Unit],
+    ) -> Result<(), NoMemory> {
+        let delivery = if waits(self.known, self.last.as_slice(), number) {
+            self.known.delivery_at(number)
+        } else {
+            next(alloc, self.known, scope, number, wanted, units)?
+        };
+        self.deliveries.push(delivery)
+    }
+}
+
+fn next_deliveries(
+    alloc: Global,
+    known: &Known,
+    last: &List<List<usize>>,
+    scope: &mut Scope,
+    level: &Level,
+) -> Result<List<Delivery>, NoMemory>
+    requires { scope.old ≡ level_spec.level_scope level.now }
+    ensures found { IfOk result (λ next. next ≡ walks.found_from known.now last.now 0 (level_spec.level_bodies level.now)) }
     ensures kept { IfOk result (λ next. scope.new ≡ scope.old) }
 {
-    let mut next = Known {
+    let mut round = Round {
+        known,
+        last,
         deliveries: List::new(alloc),
-        calls: List::new(alloc),
     };
-    match add_bodies(alloc, known, scope, &mut next, level) {
+    match each_body(alloc, &mut round, scope, level) {
         Err(refusal) => Err(refusal),
-        Ok(()) => Ok(next),
+        Ok(()) => {
+            let Round { deliveries, .. } = round;
+            Ok(deliveries)
+        }
     }
-}
-
-// What the headings tell, and which refinements the units of bodies call.
-fn first_known(alloc: Global, scope: &mut Scope, level: &Level) -> Result<Known, NoMemory>
-    requires { scope.old ≡ level_spec.level_scope level.now }
-    ensures found { IfOk result (λ known. known ≡ spec.known_after 0 (bodies.headings level.now) (level_spec.level_bodies level.now)) }
-    ensures kept { IfOk result (λ known. scope.new ≡ scope.old) }
-{
-    let told = Known {
-        deliveries: told_by(alloc, scope.headings.as_slice())?,
-        calls: List::new(alloc),
-    };
-    let Known { calls, .. } = next_known(alloc, &told, scope, level)?;
-    let Known { deliveries, .. } = told;
-    Ok(Known { deliveries, calls })
 }
 
 /// What is known of the bodies of a level, step by step until no step finds more.
@@ -334,13 +256,17 @@ pub fn known_of(alloc: Global, scope: &mut Scope, level: &Level) -> Result<Known
     ensures found { IfOk result (λ known. known ≡ spec.known_of (bodies.headings level.now) (level_spec.level_bodies level.now)) }
     ensures kept { IfOk result (λ known. scope.new ≡ scope.old) }
 {
-    let mut known = first_known(alloc, scope, level)?;
+    let Calls { all, last } = calls_of(alloc, scope, level)?;
+    let mut known = Known {
+        deliveries: told_by(alloc, scope.headings.as_slice())?,
+        calls: all,
+    };
     for _ in 0..scope.headings.len() {
-        let next = next_known(alloc, &known, scope, level)?;
-        if next.deliveries.as_slice() == known.deliveries.as_slice() {
+        let next = next_deliveries(alloc, &known, &last, scope, level)?;
+        if next.as_slice() == known.deliveries.as_slice() {
             return Ok(known);
         }
-        known = next;
+        known.deliveries = next;
     }
     Ok(known)
 }

@@ -7,6 +7,7 @@ mod laws;
 mod level;
 mod routine;
 mod text;
+mod walk;
 
 pub use error::CheckError;
 pub use laws::{

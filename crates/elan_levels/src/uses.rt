@@ -5,7 +5,7 @@ ghost use Rattle.elan_levels.specs.walks.Uses as spec;
 
 use elan_scope::scope::Scope;
 use elan_tree::Unit;
-use elan_walk::{Node, Visitor, visit_units};
+use elan_walk::{Node, Visitor, visit_unit, visit_units};
 use eu_base::{List, NoMemory};
 use std::alloc::Global;
 
@@ -44,6 +44,20 @@ pub fn called_in(alloc: Global, scope: &Scope, units: &[Unit]) -> Result<List<us
         numbers: List::new(alloc),
     };
     visit_units(&mut called, units)?;
+    let Called { numbers, .. } = called;
+    Ok(numbers)
+}
+
+/// The refinements that a unit calls.
+#[tactic(auto, using(crate::proofs::Seen::calls))]
+pub fn called_in_unit(alloc: Global, scope: &Scope, unit: &Unit) -> Result<List<usize>, NoMemory>
+    ensures { IfOk result (λ numbers. numbers ≡ spec.in_unit scope.now unit.now) }
+{
+    let mut called = Called {
+        scope,
+        numbers: List::new(alloc),
+    };
+    visit_unit(&mut called, unit)?;
     let Called { numbers, .. } = called;
     Ok(numbers)
 }

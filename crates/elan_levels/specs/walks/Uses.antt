@@ -20,5 +20,8 @@ module _ (s : Scope) where
   all_called [] = []
   all_called (n ∷ ns) = called n ++ all_called ns
 
+  abbrev pub in_unit : Statement → List ℕ
+  in_unit u = all_called (nodes.in_unit u)
+
   abbrev pub in_units : List Statement → List ℕ
   in_units us = all_called (nodes.in_units us)
