@@ -1,32 +1,30 @@
 -- A program has as many evaluations as it needs, since each of its requests costs a mark.
-use Rattle.std.proofs.Common.{◌≡◌, ℕ, zero, suc, ◌+◌, ◌≤◌, Bool, true, false, cond, List, [], ◌∷◌, ◌++◌, length, Some, refl, ap, ◌∙◌, subst, length-append}
+use Rattle.std.proofs.Common.{◌≡◌, ℕ, zero, suc, ◌+◌, ◌≤◌, Bool, true, false, cond, List, [], ◌∷◌, ◌++◌, map, length, Some, refl, ap, ◌∙◌, subst, length-append}
 use Rattle.std.proofs.Common.{arith}
-use Rattle.eu_base.specs.declared.value.Kind.{Kind}
-use Rattle.eu_base.specs.declared.value.Kind.TheVariants as kinds
 use Rattle.eu_base.specs.declared.stop.Stop.TheVariants.{CellRoom}
 use Rattle.eu_base.specs.declared.request.Request.{Request}
 use Rattle.eu_base.specs.declared.request.Reply.{Reply}
 use Rattle.eu_base.specs.declared.request.Reply.TheVariants.{Done}
 use Rattle.eu_base.specs.Room.{cells_fit}
-use Rattle.eu_base.specs.Values.{blank_of, cell_of}
 use Rattle.eu_base.specs.Cells.{Cells}
 use Rattle.code_form.specs.declared.halt.Halt.TheVariants as halts
 use Rattle.code_form.specs.declared.waits.Waits.{Waits}
 use Rattle.code_form.specs.declared.waits.Waits.TheVariants.{Nothing, Asked, Refused}
 use Rattle.code_form.specs.Program.{Program}
-use Rattle.code_form.specs.Machine.{Position, Control, After, To, Stops, Move, Goes, Spends, Halts, Ends, Stuck, Scene, Rest, step, Stage, On, Over, Lost}
+use Rattle.code_form.specs.Machine.{Position, Control, After, To, Stops, Unsaid, Move, Goes, Spends, Halts, Ends, Unknown, Stuck, Scene, Rest, step, Stage}
+use Rattle.code_form.specs.Machine.{On, Over, Lost}
 use Rattle.code_form.specs.Machine.{after_stage, mark_stage, reply_stage, stage, stage_at, advance, carry_on, exec, start}
 use Rattle.code_form.specs.Machine as machine
 use Rattle.place_gen.specs.Correct.{Shows, Comes, scene_of}
 use Rattle.code_gen.specs.Program.{program_of}
 use Rattle.code_gen.proofs.Whole.{behaves}
-use Rattle.code_gen.proofs.Plays.{has_blank}
 use Rattle.elan_tree.specs.declared.tree.Tree.{Tree}
 use Rattle.elan_types.specs.declared.env.Env.{Env}
 use Rattle.elan_types.specs.declared.core_phrase.Core.{Core}
-use Rattle.elan_types.specs.Typing.{IsWellTyped}
+use Rattle.elan_types.specs.Typing.{IsWellTyped, kind_in}
 use Rattle.elan_types.specs.Command.{Ending, Ended, Stopped, OutOfMarks, Asks, evaluate, at_start}
 use Rattle.elan_check.specs.Text as tree
+use Rattle.eumel_top.proofs.Begun.{begun, has_begun}
 use Rattle.eumel_top.specs.Meaning.{alone, Means, means}
 use Rattle.eumel_top.specs.Program.{line_marks, AsksOnly, Suffices}
 
@@ -46,6 +44,7 @@ after_pays : (n : ℕ) (a : After) (c : Position) (s : Scene) → Pays (suc n) (
 after_pays n (To c' cells) c s = omega arith
 after_pays n (machine.Asks c' q cells) c s = omega arith
 after_pays n (Stops stop) c s = λ q is. absurd (cc is)
+after_pays n Unsaid c s = tt
 
 move_pays : (m : Move) (c : Position) (s : Scene) → Pays (s.marks + 0) (length s.replies) (stage m c s)
 move_pays (Goes c' cells) c s = omega arith
@@ -58,6 +57,7 @@ move_pays (Spends a) c s = by s.marks
         subst (λ k. Pays k (length s.replies) (after_stage a c (record s { marks = n }))) e (after_pays n a c s)
 move_pays (Halts stop) c s = λ q is. absurd (cc is)
 move_pays Ends c s = λ q is. absurd (cc is)
+move_pays Unknown c s = tt
 move_pays Stuck c s = tt
 
 stage_pays : (p : Program) (w : Waits) (c : Position) (s : Scene) → Pays (s.marks + owed w) (length s.replies) (stage_at w p c s)
@@ -88,21 +88,16 @@ start_owes n = by (cells_fit n)
     by true = refl
     by false = refl
 
--- cells of zeros hold the variables of a command at its start
-abbrev zeros : Cells
-zeros = λ at. 0
-
-zero_blank : (k : Kind) → 0 ≡ cell_of (blank_of k)
-zero_blank kinds.Int = refl
-zero_blank kinds.Truth = refl
-
 module _ (core : Core) (typed : IsWellTyped core) (marks : ℕ) where
+  abbrev first : Cells
+  first = begun (map kind_in core.variables)
+
   -- where its evaluation stands at a request, it has spent more marks than it got replies
   fewer_replies : (replies : List Reply) → AsksOnly (evaluate core marks replies) (length replies + 1 ≤ marks)
   fewer_replies replies = by (evaluate core marks replies) comes.shows
     where
-      comes : Comes (program_of core) (start (length (program_of core).variables)) (scene_of (at_start core marks replies) zeros) (evaluate core marks replies)
-      comes = (behaves core typed).ends (at_start core marks replies) zeros (has_blank core zeros (λ room x k is. zero_blank k))
+      comes : Comes (program_of core) (start (length (program_of core).variables)) (scene_of (at_start core marks replies) first) (evaluate core marks replies)
+      comes = (behaves core typed).ends (at_start core marks replies) first (has_begun core)
 
       by : (e : Ending) → Shows e comes.rest → AsksOnly e (length replies + 1 ≤ marks)
       by (Ended w) h = tt
@@ -110,7 +105,7 @@ module _ (core : Core) (typed : IsWellTyped core) (marks : ℕ) where
       by (OutOfMarks w) h = tt
       by (Asks q w) h =
           let p = program_of core in
-          let paid = asks_pay p comes.steps (start (length p.variables)) (scene_of (at_start core marks replies) zeros) comes.rest q comes.comes h.how in
+          let paid = asks_pay p comes.steps (start (length p.variables)) (scene_of (at_start core marks replies) first) comes.rest q comes.comes h.how in
           omega (arith, paid, start_owes (length p.variables))
 
   suffices : (n : ℕ) (replies : List Reply) → marks + 1 ≤ n + length replies → length replies ≤ marks → Suffices n core marks replies

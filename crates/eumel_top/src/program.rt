@@ -1,6 +1,6 @@
 //! Programs that run.
 ghost use Rattle.std.specs.Prelude.{◌≡◌, length, IfOk};
-ghost use Rattle.eu_base.specs.Cells.{HasFaultCause};
+ghost use Rattle.eu_base.specs.Cells.{Free, Cells, HasFaultCause};
 ghost use Rattle.code_form.specs.Machine.{start};
 ghost use Rattle.code_form.specs.Valid.{Fits};
 ghost use Rattle.place_gen.specs.Correct.{HasVariables};
@@ -21,13 +21,14 @@ use task_run::TaskRun;
 /// How many marks a line may spend.
 const MARKS: u32 = 100_000;
 
-/// What a program shows with the marks of a line, its variables in this memory.
+/// What a program shows with the marks of a line, its variables in this memory, of which nothing need be known.
 pub(crate) fn shown<M: Memory>(
     alloc: Global,
     core: &Core,
     memory: &mut M,
 ) -> Result<Bytes, MemFault>
-    requires { IsWellTyped core.now }
+    requires typed { IsWellTyped core.now }
+    requires nothing { M.holds memory.old (λ _. Free) }
     ensures shows { IfOk result (Shows core.now) }
     ensures cause { HasFaultCause (M.faults memory.old) (M.faults memory.new) result }
 {
@@ -45,7 +46,8 @@ fn serve<M: Memory>(
 ) -> Result<Bytes, MemFault>
     requires starts { command.old ≡ start (length code.now.variables) }
     requires fits { Fits code.now command.old }
-    ensures shows { (core : Core) → Behaves core code.now → HasVariables code.now.variables (blank_store core) (M.cells memory.old) → IfOk result (Shows core) }
+    ensures shows { (core : Core) (first : Cells) → M.holds memory.old first → Behaves core code.now →
+        HasVariables code.now.variables (blank_store core) first → IfOk result (Shows core) }
     ensures cause { HasFaultCause (M.faults memory.old) (M.faults memory.new) result }
 {
     let mut marks = MARKS;

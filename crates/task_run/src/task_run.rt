@@ -89,7 +89,7 @@ impl TaskRun {
         ensures stands { OnOk result ((first : Control) (before cells : Cells) (spent : ℕ) (replies : List Reply) →
             Stands c.now first before spent replies self.old cells → Stands c.now first before spent (replies ++ r ∷ []) self.new cells) }
         ensures fits { OnOk result (Fits c.now self.new) }
-        ensures kept { OnOk result ((cells : Cells) → M.holds m.old cells → M.holds m.new cells) }
+        ensures kept { (cells : Cells) → M.holds m.old cells → M.holds m.new cells }
         ensures cause { HasFaultCause (M.faults m.old) (M.faults m.new) result }
         ensures follows { M.follows m.old m.new }
     {

@@ -87,7 +87,7 @@ pub fn reply<M: Memory>(_code: &Code, s: &mut State, _m: &mut M, r: Reply) -> Re
     requires asks { IsSome (asked s.old.waits) }
     ensures answered { OnOk result ((request : Request) → s.old.waits ≡ waits.Asked request → control_of s.new ≡ answered request r (position_of s.old)) }
     ensures fits { OnOk result (Fits _code.now (control_of s.new)) }
-    ensures kept { OnOk result ((cells : Cells) → M.holds _m.old cells → M.holds _m.new cells) }
+    ensures kept { (cells : Cells) → M.holds _m.old cells → M.holds _m.new cells }
     ensures cause { HasFaultCause (M.faults _m.old) (M.faults _m.new) result }
     ensures follows { M.follows _m.old _m.new }
 {
