@@ -7,7 +7,8 @@ use Rattle.code_form.specs.declared.halt.Halt.TheVariants as halts
 use Rattle.code_form.specs.declared.waits.Waits.{Waits}
 use Rattle.code_form.specs.declared.waits.Waits.TheVariants.{Nothing, Asked, Refused}
 use Rattle.code_form.specs.Program.{Program}
-use Rattle.code_form.specs.Machine.{Position, Control, After, To, Asks, Stops, Unsaid, Move, Goes, Spends, Halts, Ends, Unknown, Stuck, Scene, Rest, rest_at, step, Stage, On, Over, Lost, after_stage, mark_stage, reply_stage, stage, stage_at, advance, carry_on, exec}
+use Rattle.code_form.specs.Machine.{Position, Control, After, To, Asks, Stops, Unsaid, Move, Goes, Spends, Halts, Ends, Unknown, Stuck, Scene, Rest, rest_at}
+use Rattle.code_form.specs.Machine.{step, Stage, On, Over, Lost, after_stage, mark_stage, reply_stage, stage, stage_at, advance, carry_on, exec}
 use Rattle.code_form.specs.Runs.{asked}
 
 -- a request that waits for its reply has cost a mark

@@ -8,7 +8,8 @@ use Rattle.code_form.specs.declared.halt.Halt.TheVariants as halts
 use Rattle.code_form.specs.Program.{Program}
 use Rattle.code_form.specs.declared.waits.Waits.{Waits}
 use Rattle.code_form.specs.declared.waits.Waits.TheVariants.{Nothing, Asked, Refused}
-use Rattle.code_form.specs.Machine.{Position, Control, free, After, To, Asks, Stops, Unsaid, Move, Goes, Spends, Halts, Ends, Unknown, Stuck, Scene, Rest, step, Stage, On, Over, Lost, after_stage, mark_stage, reply_stage, stage, stage_at, advance, carry_on, exec}
+use Rattle.code_form.specs.Machine.{Position, Control, free, After, To, Asks, Stops, Unsaid, Move, Goes, Spends, Halts, Ends, Unknown, Stuck, Scene, Rest}
+use Rattle.code_form.specs.Machine.{step, Stage, On, Over, Lost, after_stage, mark_stage, reply_stage, stage, stage_at, advance, carry_on, exec}
 use Rattle.code_form.specs.Runs.{IsPaused, Rests, wider, Resumes, Replies, IsOne}
 
 the_some : {A : Type 0} (a b : A) → Some a ≡ Some b → a ≡ b
@@ -68,7 +69,7 @@ mark_widens marks replies (suc m) a c s =
     let s' = record s { marks = m } in
     subst (λ n. Widens marks replies (after_stage a c s') (free c) s (mark_stage n a c (wider s marks replies))) (sym e)
     (of_marks marks replies (after_stage a c s') (after_stage a c (wider s' marks replies)) (free c) s' s (never_paused a c s')
-        (after_widens marks replies a c s'))
+    (after_widens marks replies a c s'))
 
 move_widens : (marks : ℕ) (replies : List Reply) (m : Move) (c : Position) (s : Scene)
     → Widens marks replies (stage m c s) (free c) s (stage m c (wider s marks replies))
@@ -103,7 +104,7 @@ module _ (p : Program) (marks : ℕ) (replies : List Reply) (last : Rest) where
       let at_rest = w (subst (λ (y : Rest). IsPaused y.how) (sym f) paused) in
       let g : Rests p x.control (wider x.scene marks replies) last = subst (λ (y : Rest). Rests p y.control (wider y.scene marks replies) last) (sym f) h in
       subst (λ (d : Control). Rests p d (wider s marks replies) last) at_rest.0
-          (subst (λ (u : Scene). Rests p x.control (wider u marks replies) last) at_rest.1 g)
+      (subst (λ (u : Scene). Rests p x.control (wider u marks replies) last) at_rest.1 g)
   resume_stage j Lost c s r paused ih e h w = let f : ⊥ = cc in absurd f
 
   resume : (j : ℕ) (c : Control) (s : Scene) (r : Rest) → IsPaused r.how → exec p j c s ≡ Some r → Rests p r.control (wider r.scene marks replies) last

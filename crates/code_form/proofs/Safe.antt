@@ -1,5 +1,6 @@
 -- A step from a state that fits can be made, and leads to one that fits. One induction over the instructions, so it stands in one file.
-use Rattle.std.proofs.Common.{◌≡◌, ℕ, suc, ◌+◌, ◌-◌, ◌<◌, ◌≤◌, ◌%◌, List, [], ◌∷◌, ◌++◌, map, length, Option, Some, None, Bool, true, false, cond, refl, sym, ap, ◌∙◌, subst, arith, length-append}
+use Rattle.std.proofs.Common.{◌≡◌, ℕ, suc, ◌+◌, ◌-◌, ◌<◌, ◌≤◌, ◌%◌, List, [], ◌∷◌, ◌++◌, map, length, Option, Some, None, Bool, true, false, cond, refl, sym}
+use Rattle.std.proofs.Common.{ap, ◌∙◌, subst, arith, length-append}
 use Rattle.std.specs.Prelude.{slice_get, Ok, Err}
 use Rattle.std.specs.Ordering.{int_eq}
 use Rattle.std.proofs.lemmas.List.{length-map}
@@ -27,15 +28,21 @@ use Rattle.code_form.specs.declared.waits.Waits.{Waits}
 use Rattle.code_form.specs.declared.waits.Waits.TheVariants.{Nothing}
 use Rattle.code_form.specs.declared.instr.Requested.TheVariants as calls
 use Rattle.code_form.specs.declared.instr.Instr.{Instr}
-use Rattle.code_form.specs.declared.instr.Instr.TheVariants.{Mark, Number, Truth, Outer, Local, Param, Load, Store, Do, Modify, Jump, False, When, Drop, Limit, Unlimit, Step, Ask, Call, Refer, Back, Out, End}
+use Rattle.code_form.specs.declared.instr.Instr.TheVariants.{Mark, Number, Truth, Outer, Local, Param, Load, Store, Do, Modify, Jump, False, When, Drop}
+use Rattle.code_form.specs.declared.instr.Instr.TheVariants.{Limit, Unlimit, Step, Ask, Call, Refer, Back, Out, End}
 use Rattle.code_form.specs.declared.code.Line.{Line}
 use Rattle.code_form.specs.declared.code.Spot.{Spot}
 use Rattle.code_form.specs.declared.code.Entry.{Entry}
 use Rattle.code_form.specs.declared.code.Layout.{Layout}
 use Rattle.code_form.specs.declared.code.Layout.TheVariants as layouts
-use Rattle.code_form.specs.Program.{Program, line_of, instr_of, in_body, deeper, owner, owner_in, owner_at, layout_of, cells_of, cells_in, cells_at, frame_cells}
-use Rattle.code_form.specs.Machine.{Frame, Position, free, asking, To, Stops, Unsaid, Move, Goes, Spends, operand_bytes, bytes_on, bytes_of, base_of, at, using, goes, pushes, on_value, on_place, on_values, on_operands, on_result, or_halt, on_word, is_free, are_free, limit_cell, held_of_operand, frame_contents, link_contents, written_from, enters, calls_to, call_move, refer_move, back_into, back_to, out_to, limit_to, instruction, step}
-use Rattle.code_form.specs.Valid.{Next, pushed_kinds, pushed_operands, with_result, HasResult, IsRefinement, IsCalled, IsReferred, IsFine, IsValid, FitsKind, FitsKinds, MadeSo, IsMade, FitsFrames, Fits}
+use Rattle.code_form.specs.Program.{Program, line_of, instr_of, in_body, deeper, owner, owner_in, owner_at, layout_of, cells_of, cells_in, cells_at}
+use Rattle.code_form.specs.Program.{frame_cells}
+use Rattle.code_form.specs.Machine.{Frame, Position, free, asking, To, Stops, Unsaid, Move, Goes, Spends, operand_bytes, bytes_on, bytes_of, base_of, at}
+use Rattle.code_form.specs.Machine.{using, goes, pushes, on_value, on_place, on_values, on_operands, on_result, or_halt, on_word, is_free, are_free}
+use Rattle.code_form.specs.Machine.{limit_cell, held_of_operand, frame_contents, link_contents, written_from, enters, calls_to, call_move, refer_move}
+use Rattle.code_form.specs.Machine.{back_into, back_to, out_to, limit_to, instruction, step}
+use Rattle.code_form.specs.Valid.{Next, pushed_kinds, pushed_operands, with_result, HasResult, IsRefinement, IsCalled, IsReferred, IsFine, IsValid, FitsKind}
+use Rattle.code_form.specs.Valid.{FitsKinds, MadeSo, IsMade, FitsFrames, Fits}
 use Rattle.code_form.specs.Runs.{IsSafe, StaysFit}
 use Rattle.eu_base.proofs.Results.{result_gives, kind_is}
 
@@ -103,25 +110,25 @@ module _ (p : Program) (valid : IsValid p) where
     used_below : f.used ≤ floor
     used_below =
         by_layout (λ _. f.used ≤ floor) (λ ps vs e. let h = as_proc ps vs e in omega (arith, h.2, h.3))
-            (λ l e r. let h = as_refined l e r in omega (arith, h.3)) made.entry.layout refl
+        (λ l e r. let h = as_refined l e r in omega (arith, h.3)) made.entry.layout refl
 
     -- where it returns to, its result is pending
     returns : Next p.lines f.back (with_result made.entry.delivers made.rest) m
     returns =
         subst (λ n. Next p.lines n (with_result made.entry.delivers made.rest) m) (sym made.back)
-            (by_layout (λ _. Next p.lines (made.pc + 1) (with_result made.entry.delivers made.rest) m) proc refinement made.entry.layout refl)
+        (by_layout (λ _. Next p.lines (made.pc + 1) (with_result made.entry.delivers made.rest) m) proc refinement made.entry.layout refl)
       where
         proc : (ps : List OperandKind) (vs : List Kind) → made.entry.layout ≡ layouts.Own ps vs
             → Next p.lines (made.pc + 1) (with_result made.entry.delivers made.rest) m
         proc ps vs e =
             let c : IsCalled p made.pc made.number (pushed_operands ps made.rest) m =
-                made_line made.pc (Call made.number) (pushed_operands ps made.rest) m (as_proc ps vs e).0 in
+            made_line made.pc (Call made.number) (pushed_operands ps made.rest) m (as_proc ps vs e).0 in
             let same : c.entry ≡ made.entry = some_is c.entry made.entry (sym c.has ∙ made.has) in
             let l : layouts.Own c.parameters c.variables ≡ layouts.Own ps vs = sym c.own ∙ ap (λ (x : Entry). x.layout) same ∙ e in
             let q : c.parameters ≡ ps = cc in
             let rest : c.rest ≡ made.rest = operands_inj ps c.rest made.rest (ap (λ ps. pushed_operands ps c.rest) (sym q) ∙ sym c.taken) in
             subst (λ rest. Next p.lines (made.pc + 1) (with_result made.entry.delivers rest) m) rest
-                (subst (λ (x : Entry). Next p.lines (made.pc + 1) (with_result x.delivers c.rest) m) same c.next)
+            (subst (λ (x : Entry). Next p.lines (made.pc + 1) (with_result x.delivers c.rest) m) same c.next)
 
         refinement : (l : Layout) → made.entry.layout ≡ l → IsRefinement l → Next p.lines (made.pc + 1) (with_result made.entry.delivers made.rest) m
         refinement l e r =
@@ -153,7 +160,7 @@ module _ (p : Program) (valid : IsValid p) where
       (λ l q r.
       let x = as_refined f body floor (base_of fs) h.0 h.1.0 made l q r in
       let o : length (frame_cells p (Some made.number)) ≡ length (frame_cells p h.0.body) =
-          ap (λ o. length (cells_in p o)) (same_owner f body floor (base_of fs) h.0 h.1.0 made l q r) in
+      ap (λ o. length (cells_in p o)) (same_owner f body floor (base_of fs) h.0 h.1.0 made l q r) in
       omega (arith, e, o, below, x.2, x.3, made.used))
       made.entry.layout refl
 
@@ -265,8 +272,18 @@ module _ (p : Program) (valid : IsValid p) (pc : ℕ) (ops : List Operand) (used
         cond_safe (is_free (cells (run_cell used))) _ _ (λ _.
         word_safe (cells x) _ (λ n.
         let t = is_past way (number_of v) (number_of (value_in kinds.Int n)) in
-        record { kinds = ks; spot = deeper m; floor = floor; next = chosen t a (pc + 1) ks (deeper m) lands next; operands = f.0; frames = made; used =
-            omega (arith, used_is); cells = λ _. e; bytes = f.1 })) tt) tt
+        record {
+          kinds = ks;
+          spot = deeper m;
+          floor = floor;
+          next = chosen t a (pc + 1) ks (deeper m) lands next;
+          operands = f.0;
+          frames = made;
+          used =
+              omega (arith, used_is);
+          cells = λ _. e;
+          bytes = f.1;
+        })) tt) tt
 
     unlimit_safe : (outer : Spot) (ks : List OperandKind) → m ≡ deeper outer → Next p.lines (pc + 1) ks outer → Has ops ks
         → Fits p (free (using (at now (pc + 1) ops) (used - 1)))
@@ -288,11 +305,16 @@ module _ (p : Program) (valid : IsValid p) (pc : ℕ) (ops : List Operand) (used
     enters_safe : (n : ℕ) (e : Entry) (base floor' : ℕ) (refines : Bool) (r : List Operand) (rest : List OperandKind) (ns : List Cell)
         → slice_get p.bodies n ≡ Some e → Has r rest → floor' ≡ used + length ns
         → MadeSo p e.layout n pc rest m (record { back = pc + 1; base = base; used = used; refines = refines; body = n; ops = r }) floor' (base_of frames)
-            → (free t : Bool) → cells_fit (used + length ns) ≡ t
+        → (free t : Bool) → cells_fit (used + length ns) ≡ t
         → IsSafe p (Spends (cond free
-            (cond t (To (record { pc = e.first; ops = []; used = used + length ns; frames =
-            record { back = pc + 1; base = base; used = used; refines = refines; body = n; ops = r } ∷ frames }) (written_from used ns cells)) (Stops CellRoom))
-            Unsaid))
+        (cond t (To (record {
+          pc = e.first;
+          ops = [];
+          used = used + length ns;
+          frames =
+              record { back = pc + 1; base = base; used = used; refines = refines; body = n; ops = r } ∷ frames;
+        }) (written_from used ns cells)) (Stops CellRoom))
+        Unsaid))
     enters_safe n e base floor' refines r rest ns has f is so false t fit = tt
     enters_safe n e base floor' refines r rest ns has f is so true false fit = tt
     enters_safe n e base floor' refines r rest ns has f is so true true fit = record {
@@ -301,9 +323,16 @@ module _ (p : Program) (valid : IsValid p) (pc : ℕ) (ops : List Operand) (used
       floor = floor';
       next = valid.bodies n e has;
       operands = tt;
-      frames =
-          (m, (floor, (record { number = n; is = refl; entry = e; has = has; pc = pc; rest = rest; back = refl; used = used_is; operands = f.0; made = so },
-              made)));
+      frames = (
+        m,
+        (
+          floor,
+          (
+            record { number = n; is = refl; entry = e; has = has; pc = pc; rest = rest; back = refl; used = used_is; operands = f.0; made = so },
+            made,
+          ),
+        ),
+      );
       used = omega (arith, is);
       cells = λ _. fit;
       bytes = f.1;
@@ -316,26 +345,31 @@ module _ (p : Program) (valid : IsValid p) (pc : ℕ) (ops : List Operand) (used
         (subst (λ l. Safe (calls_to now n c.entry.first l cells)) (sym c.own)
         (let e : length c.parameters ≡ length c.parameters + 0 = omega arith in
         subst (λ k. Safe (on_operands k [] ops (λ args ops. Spends (enters now c.entry.first (used + 2) false n ops (frame_contents args c.variables) cells))))
-            (sym e)
+        (sym e)
         (some_operands c.parameters 0 c.rest [] ops _ (subst (Has ops) c.taken f) (λ args r many g.
         let numbers : length (frame_contents args c.variables) ≡ 2 + length c.parameters + length c.variables =
-            omega (arith, length-append (map held_of_operand args) (map (λ k. held_of (blank_of k)) c.variables), length-map args held_of_operand,
-            length-map c.variables (λ k. held_of (blank_of k)), many) in
+        omega (
+          arith,
+          length-append (map held_of_operand args) (map (λ k. held_of (blank_of k)) c.variables),
+          length-map args held_of_operand,
+          length-map c.variables (λ k. held_of (blank_of k)),
+          many,
+        ) in
         let so : MadeSo p (layouts.Own c.parameters c.variables) n pc c.rest m
-            (record { back = pc + 1; base = used + 2; used = used; refines = false; body = n; ops = r }) (used + 2 + length c.parameters + length c.variables)
-            (base_of frames) = (subst (λ ks. slice_get p.lines pc ≡ Some (line_of (Call n) ks m)) c.taken line, refl, refl, refl) in
+        (record { back = pc + 1; base = used + 2; used = used; refines = false; body = n; ops = r }) (used + 2 + length c.parameters + length c.variables)
+        (base_of frames) = (subst (λ ks. slice_get p.lines pc ≡ Some (line_of (Call n) ks m)) c.taken line, refl, refl, refl) in
         enters_safe n c.entry (used + 2) (used + 2 + length c.parameters + length c.variables) false r c.rest (frame_contents args c.variables) c.has g
-            (omega (arith, numbers))
+        (omega (arith, numbers))
         (subst (λ l. MadeSo p l n pc c.rest m (record { back = pc + 1; base = used + 2; used = used; refines = false; body = n; ops = r })
-            (used + 2 + length c.parameters + length c.variables) (base_of frames)) (sym c.own) so) (are_free used (frame_contents args c.variables) cells)
-            (cells_fit (used + length (frame_contents args c.variables))) refl))))
+        (used + 2 + length c.parameters + length c.variables) (base_of frames)) (sym c.own) so) (are_free used (frame_contents args c.variables) cells)
+        (cells_fit (used + length (frame_contents args c.variables))) refl))))
 
     refer_safe : (n : ℕ) (ks : List OperandKind) → slice_get p.lines pc ≡ Some (line_of (Refer n) ks m) → IsReferred p pc n ks m → Has ops ks
         → Safe (refer_move now n (slice_get p.bodies n) cells)
     refer_safe n ks line c f =
         subst (λ o. Safe (refer_move now n o cells)) (sym c.has)
         (enters_safe n c.entry (base_of frames) (used + 2) true ops ks link_contents c.has f refl (so c.entry.layout c.refinement)
-            (are_free used link_contents cells) (cells_fit (used + length link_contents)) refl)
+        (are_free used link_contents cells) (cells_fit (used + length link_contents)) refl)
       where
         so : (l : Layout) → IsRefinement l
             → MadeSo p l n pc ks m (record { back = pc + 1; base = base_of frames; used = used; refines = true; body = n; ops = ops }) (used + 2)
@@ -351,7 +385,7 @@ module _ (p : Program) (valid : IsValid p) (pc : ℕ) (ops : List Operand) (used
         → Safe (on_result k ops go)
     result_safe None ks go t f h =
         h [] (λ r rest g. g) (λ r held le.
-            bytes_fewer (bytes_on r held) (bytes_on ops (bytes_of frames)) (omega (arith, le, bytes_below ops (bytes_of frames))) f.1)
+        bytes_fewer (bytes_on r held) (bytes_on ops (bytes_of frames)) (omega (arith, le, bytes_below ops (bytes_of frames))) f.1)
     result_safe (Some k) ks go t f h = by ops (subst (Has ops) t.1 f)
       where
         by : (ops' : List Operand) → Has ops' (OfKind k ∷ t.0) → Safe (on_value ops' (λ v rest. go (Of v ∷ [])))
@@ -359,15 +393,15 @@ module _ (p : Program) (valid : IsValid p) (pc : ℕ) (ops : List Operand) (used
         by (At a ∷ r) f = absurd f.0.0
         by (Of v ∷ r) f =
             h (Of v ∷ []) (λ r' rest g. (f.0.0, g))
-                (λ r' held le. bytes_fewer (operand_bytes (Of v) + bytes_on r' held) (operand_bytes (Of v) + bytes_on r (bytes_of frames))
-                (omega (arith, le, bytes_below r (bytes_of frames))) f.1)
+            (λ r' held le. bytes_fewer (operand_bytes (Of v) + bytes_on r' held) (operand_bytes (Of v) + bytes_on r (bytes_of frames))
+            (omega (arith, le, bytes_below r (bytes_of frames))) f.1)
 
     -- a frame is left for the one below
     into_safe : (f : Frame) (fs : List Frame) (body : Option ℕ) (floor' : ℕ) (k : Option Kind) (os : List Operand) (h : FitsFrames p (f ∷ fs) body floor')
         → floor' ≤ used → bytes_of (f ∷ fs) ≤ bytes_of frames → h.1.1.0.entry.delivers ≡ k
         → ((r : List Operand) (rest : List OperandKind) → FitsKinds r rest → FitsKinds (os ++ r) (with_result k rest))
-            → ((r : List Operand) (held : ℕ) → bytes_on r held ≤ bytes_of frames → bytes_fit (bytes_on (os ++ r) held) ≡ true)
-            → Safe (back_into os used f fs cells)
+        → ((r : List Operand) (held : ℕ) → bytes_on r held ≤ bytes_of frames → bytes_fit (bytes_on (os ++ r) held) ≡ true)
+        → Safe (back_into os used f fs cells)
     into_safe f fs body floor' k os h le bytes is fits room' =
         let made' = h.1.1.0 in record {
           kinds = with_result k made'.rest;
@@ -384,7 +418,7 @@ module _ (p : Program) (valid : IsValid p) (pc : ℕ) (ops : List Operand) (used
     back_safe : (fs : List Frame) (k : Option Kind) (os : List Operand) (n : ℕ) (e : Entry) (floor' : ℕ) (body : Option ℕ) → FitsFrames p fs body floor'
         → body ≡ Some n → slice_get p.bodies n ≡ Some e → e.delivers ≡ k → floor' ≤ used → bytes_of fs ≤ bytes_of frames
         → ((r : List Operand) (rest : List OperandKind) → FitsKinds r rest → FitsKinds (os ++ r) (with_result k rest))
-            → ((r : List Operand) (held : ℕ) → bytes_on r held ≤ bytes_of frames → bytes_fit (bytes_on (os ++ r) held) ≡ true) → Safe (back_to os used fs cells)
+        → ((r : List Operand) (held : ℕ) → bytes_on r held ≤ bytes_of frames → bytes_fit (bytes_on (os ++ r) held) ≡ true) → Safe (back_to os used fs cells)
     back_safe [] k os n e floor' body h b has is le bytes fits room' = let f : ⊥ = cc (b, h.0) in absurd f
     back_safe (f ∷ fs) k os n e floor' body h b has is le bytes fits room' =
         let made' = h.1.1.0 in
@@ -395,7 +429,7 @@ module _ (p : Program) (valid : IsValid p) (pc : ℕ) (ops : List Operand) (used
     out_safe : (fs : List Frame) (k : Option Kind) (os : List Operand) (n : ℕ) (e : Entry) (floor' : ℕ) (body : Option ℕ) → FitsFrames p fs body floor'
         → owner p body ≡ Some n → slice_get p.bodies n ≡ Some e → e.delivers ≡ k → floor' ≤ used → bytes_of fs ≤ bytes_of frames
         → ((r : List Operand) (rest : List OperandKind) → FitsKinds r rest → FitsKinds (os ++ r) (with_result k rest))
-            → ((r : List Operand) (held : ℕ) → bytes_on r held ≤ bytes_of frames → bytes_fit (bytes_on (os ++ r) held) ≡ true) → Safe (out_to os used fs cells)
+        → ((r : List Operand) (held : ℕ) → bytes_on r held ≤ bytes_of frames → bytes_fit (bytes_on (os ++ r) held) ≡ true) → Safe (out_to os used fs cells)
     out_safe [] k os n e floor' body h o has is le bytes fits room' = let f : None ≡ Some n = sym (ap (owner p) h.0) ∙ o in let g : ⊥ = cc in absurd g
     out_safe (f ∷ fs) k os n e floor' body h o has is le bytes fits room' =
         let made' = h.1.1.0 in
@@ -407,13 +441,13 @@ module _ (p : Program) (valid : IsValid p) (pc : ℕ) (ops : List Operand) (used
         let same : made'.number ≡ n = some_is made'.number n own in
         let entry : made'.entry ≡ e = some_is made'.entry e (sym made'.has ∙ ap (slice_get p.bodies) same ∙ has) in
         subst (λ t. Safe (cond t (out_to os used fs cells) (back_into os used f fs cells)))
-            (sym (as_proc p valid f body floor' (base_of fs) h.0 h.1.0 made' ps vs l).1)
+        (sym (as_proc p valid f body floor' (base_of fs) h.0 h.1.0 made' ps vs l).1)
         (into_safe f fs body floor' k os h le bytes (ap (λ (x : Entry). x.delivers) entry ∙ is) fits room'))
         (λ l q r.
         subst (λ t. Safe (cond t (out_to os used fs cells) (back_into os used f fs cells)))
-            (sym (as_refined p valid f body floor' (base_of fs) h.0 h.1.0 made' l q r).1)
+        (sym (as_refined p valid f body floor' (base_of fs) h.0 h.1.0 made' l q r).1)
         (out_safe fs k os n e h.1.0 h.0.body h.1.1.1 (sym (same_owner p valid f body floor' (base_of fs) h.0 h.1.0 made' l q r) ∙ number) has is
-            (omega (arith, le, under, made'.used)) (omega (arith, bytes, bytes_below f.ops (bytes_of fs))) fits room'))
+        (omega (arith, le, under, made'.used)) (omega (arith, bytes, bytes_below f.ops (bytes_of fs))) fits room'))
         made'.entry.layout refl
 
     safe : (i : Instr) (ks : List OperandKind) → slice_get p.lines pc ≡ Some (line_of i ks m) → IsFine p pc i ks m → Has ops ks
@@ -429,7 +463,7 @@ module _ (p : Program) (valid : IsValid p) (pc : ℕ) (ops : List Operand) (used
         push_safe (At (place_in n)) (AtKind f.0) ops ks small f.2 k.0)
     safe (Load kind) ks line f k =
         one_place ops kind f.0 _ (subst (Has ops) f.1 k)
-            (λ a r g. word_safe (cells a) _ (λ n. push_safe (Of (value_in kind n)) (OfKind kind) r f.0 (read_kind kind n) f.2 g.0))
+        (λ a r g. word_safe (cells a) _ (λ n. push_safe (Of (value_in kind n)) (OfKind kind) r f.0 (read_kind kind n) f.2 g.0))
     safe (Store kind) ks line f k = value_place ops kind kind f.0 _ (subst (Has ops) f.1 k) (λ v a r g. fit (pc + 1) f.0 r f.2 g)
     safe (Do op) ks line f k =
         let e : length (operand_kinds op) ≡ length (operand_kinds op) + 0 = omega arith in
@@ -438,12 +472,12 @@ module _ (p : Program) (valid : IsValid p) (pc : ℕ) (ops : List Operand) (used
         or_safe (result_of op vs) _ (λ v is. push_safe (Of v) (OfKind (result_kind op)) r f.0 (kind_is _ v (result_gives op vs v is)) f.2 g.0)))
     safe (Modify change) ks line f k =
         value_place ops kinds.Int kinds.Int f.0 _ (subst (Has ops) f.1 k)
-            (λ v a r g. word_safe (cells a) _
-            (λ n. or_safe (changed change (number_of (value_in kinds.Int n)) (number_of v)) _ (λ x _. fit (pc + 1) f.0 r f.2 g)))
+        (λ v a r g. word_safe (cells a) _
+        (λ n. or_safe (changed change (number_of (value_in kinds.Int n)) (number_of v)) _ (λ x _. fit (pc + 1) f.0 r f.2 g)))
     safe (Jump a) ks line f k = fit a ks ops f.next k
     safe (False a) ks line f k =
         one_value ops kinds.Truth f.0 _ (subst (Has ops) f.1 k)
-            (λ v r e g. fit (cond (truth_of v) (pc + 1) a) f.0 r (chosen (truth_of v) (pc + 1) a f.0 m f.2 f.3.next) g)
+        (λ v r e g. fit (cond (truth_of v) (pc + 1) a) f.0 r (chosen (truth_of v) (pc + 1) a f.0 m f.2 f.3.next) g)
     safe (When z a) ks line f k = by ops (subst (Has ops) f.1 k)
       where
         by : (ops' : List Operand) → Has ops' (OfKind kinds.Int ∷ f.0)
@@ -452,7 +486,7 @@ module _ (p : Program) (valid : IsValid p) (pc : ℕ) (ops : List Operand) (used
         by (At x ∷ r) g = absurd g.0.0
         by (Of v ∷ r) g =
             cond_safe (int_eq (number_of v) z) _ _ (λ _. fit a f.0 r f.3.next (g.0.1, fewer (Of v) r g.1))
-                (fit (pc + 1) ks (Of v ∷ r) f.2 (subst (Has (Of v ∷ r)) (sym f.1) g))
+            (fit (pc + 1) ks (Of v ∷ r) f.2 (subst (Has (Of v ∷ r)) (sym f.1) g))
     safe Drop ks line f k = one_value ops f.0 f.1.0 _ (subst (Has ops) f.1.1 k) (λ v r e g. fit (pc + 1) f.1.0 r f.1.2 g)
     safe (Limit way a) ks line f k = value_place ops kinds.Int kinds.Int f.0 _ (subst (Has ops) f.1 k) (λ v q r g. limit_safe way a v q r f.0 f.2 f.3.next g)
     safe Unlimit ks line f k = unlimit_safe f.0 ks f.1 f.2 k
@@ -460,18 +494,18 @@ module _ (p : Program) (valid : IsValid p) (pc : ℕ) (ops : List Operand) (used
         one_place ops kinds.Int f.2.0 _ (subst (Has ops) f.2.1 k) (λ q r g.
         word_safe (limit_cell now cells) _ (λ l. word_safe (cells q) _ (λ n.
         cond_safe (has_reached way (number_of (value_in kinds.Int l)) (number_of (value_in kinds.Int n))) _ _ (λ _. fit a f.2.0 r f.2.3.next g)
-            (fit (pc + 1) f.2.0 r f.2.2 g))))
+        (fit (pc + 1) f.2.0 r f.2.2 g))))
     safe (Ask calls.PutNumber) ks line f k = one_value ops kinds.Int f.0 _ (subst (Has ops) f.1 k) (λ v r e g. fits_at (pc + 1) f.0 r _ f.2 g)
     safe (Ask calls.Line) ks line f k = fits_at (pc + 1) f.0 ops _ f.2 (subst (Has ops) f.1 k)
     safe (Call n) ks line f k = call_safe n ks line f k
     safe (Refer n) ks line f k = refer_safe n ks line f k
     safe (Back r) ks line f k =
         result_safe r ks _ f.top k
-            (λ os fits room'. back_safe frames r os f.number f.entry floor m.body made f.here f.has f.delivers (omega (arith, used_is)) (omega arith) fits
-            room')
+        (λ os fits room'. back_safe frames r os f.number f.entry floor m.body made f.here f.has f.delivers (omega (arith, used_is)) (omega arith) fits
+        room')
     safe (Out r) ks line f k =
         result_safe r ks _ f.top k
-            (λ os fits room'. out_safe frames r os f.number f.entry floor m.body made f.proc f.has f.delivers (omega (arith, used_is)) (omega arith) fits room')
+        (λ os fits room'. out_safe frames r os f.number f.entry floor m.body made f.proc f.has f.delivers (omega (arith, used_is)) (omega arith) fits room')
     safe End ks line f k = tt
 
 step_safe : (p : Program) (c : Position) (cells : Cells) → IsValid p → Fits p (free c) → IsSafe p (step p c cells)
@@ -479,14 +513,24 @@ step_safe p c cells valid fits =
     let i = fits.next.0 in
     let fine = valid.each c.pc (line_of i fits.kinds fits.spot) fits.next.1 in
     let made =
-        safe p valid c.pc c.ops c.used c.frames cells fits.spot fits.floor fits.frames fits.used (fits.cells refl) i fits.kinds fits.next.1 fine
-        (fits.operands, fits.bytes) in
+    safe p valid c.pc c.ops c.used c.frames cells fits.spot fits.floor fits.frames fits.used (fits.cells refl) i fits.kinds fits.next.1 fine
+    (fits.operands, fits.bytes) in
     subst (λ (o : Option Line). IsSafe p (instruction p (instr_of o) c cells)) (sym fits.next.1) made
 
 pub stays_fit : StaysFit
 stays_fit = record {
   steps = step_safe;
   replies =
-      λ p c q r fits. record { kinds = fits.kinds; spot = fits.spot; floor = fits.floor; next = fits.next; operands = fits.operands; frames =
-          fits.frames; used = fits.used; cells = fits.cells; bytes = fits.bytes };
+      λ p c q r fits. record {
+        kinds = fits.kinds;
+        spot = fits.spot;
+        floor = fits.floor;
+        next = fits.next;
+        operands = fits.operands;
+        frames =
+            fits.frames;
+        used = fits.used;
+        cells = fits.cells;
+        bytes = fits.bytes;
+      };
 }

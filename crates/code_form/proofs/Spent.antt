@@ -1,6 +1,7 @@
 -- A run that came to rest with marks left would have come there with none more than it spent. This holds of a rest for want of
 -- marks or replies, and of every rest of a run that had no marks.
-use Rattle.std.proofs.Common.{◌≡◌, ℕ, zero, suc, ◌+◌, ◌-◌, ◌≤◌, List, [], ◌∷◌, ◌++◌, Some, refl, sym, ap, ◌∙◌, subst, arith, append_assoc, ◌⊎◌, inl, inr, ⊎_elim}
+use Rattle.std.proofs.Common.{◌≡◌, ℕ, zero, suc, ◌+◌, ◌-◌, ◌≤◌, List, [], ◌∷◌, ◌++◌, Some, refl, sym, ap, ◌∙◌, subst, arith, append_assoc, ◌⊎◌, inl, inr}
+use Rattle.std.proofs.Common.{⊎_elim}
 use Rattle.eu_base.specs.declared.request.Request.{Request}
 use Rattle.eu_base.specs.declared.request.Reply.{Reply}
 use Rattle.eu_base.specs.Cells.{Cells}
@@ -8,7 +9,9 @@ use Rattle.code_form.specs.declared.halt.Halt.TheVariants as halts
 use Rattle.code_form.specs.Program.{Program}
 use Rattle.code_form.specs.declared.waits.Waits.{Waits}
 use Rattle.code_form.specs.declared.waits.Waits.TheVariants.{Nothing, Asked, Refused}
-use Rattle.code_form.specs.Machine.{Position, Control, free, asking, answered, After, To, Asks, Stops, Unsaid, Move, Goes, Spends, Halts, Ends, Unknown, Stuck, Scene, Rest, step, Stage, On, Over, Lost, after_stage, mark_stage, reply_stage, stage, stage_at, advance, carry_on, exec}
+use Rattle.code_form.specs.Machine.{Position, Control, free, asking, answered, After, To, Asks, Stops, Unsaid, Move, Goes, Spends, Halts, Ends, Unknown}
+use Rattle.code_form.specs.Machine.{Stuck, Scene, Rest, step, Stage, On, Over, Lost, after_stage, mark_stage, reply_stage, stage, stage_at, advance, carry_on}
+use Rattle.code_form.specs.Machine.{exec}
 use Rattle.code_form.specs.Runs.{IsPaused, Rests, Stands, StandsOn}
 use Rattle.code_form.proofs.Resume.{replied}
 
@@ -142,10 +145,10 @@ stands_run p first cells spent left replies c now r paused k h none = record {
       let s : Scene = record { cells = now; marks = left; replies = [] } in
       let l : Leads p more c s r = leads p more h.0 c s r paused h.1 in
       let g' : Rests p r.control (at_marks more marks r.scene) last =
-          subst (λ rs. Rests p r.control (record { cells = r.scene.cells; marks = marks; replies = rs ++ more }) last) (sym none) g in
+      subst (λ rs. Rests p r.control (record { cells = r.scene.cells; marks = marks; replies = rs ++ more }) last) (sym none) g in
       let e : spent + ((left - r.scene.marks) + marks) ≡ (spent + (left - r.scene.marks)) + marks = omega arith in
       subst (λ n. Rests p first (record { cells = cells; marks = n; replies = replies ++ more }) last) e
-          (k.goes ((left - r.scene.marks) + marks) more last (l.goes marks last g'));
+      (k.goes ((left - r.scene.marks) + marks) more last (l.goes marks last g'));
 }
 
 module _ (p : Program) (first : Control) (cells : Cells) where
@@ -154,7 +157,7 @@ module _ (p : Program) (first : Control) (cells : Cells) where
   stands_first = record {
     goes =
         λ marks more last h. let e : marks ≡ 0 + marks = omega arith in
-            subst (λ n. Rests p first (record { cells = cells; marks = n; replies = more }) last) e h;
+        subst (λ n. Rests p first (record { cells = cells; marks = n; replies = more }) last) e h;
   }
 
   -- after a reply

@@ -1,5 +1,6 @@
 -- Each step brings the end nearer.
-use Rattle.std.proofs.Common.{◌≡◌, ℕ, zero, suc, ◌+◌, ◌-◌, ◌*◌, ◌<◌, ◌≤◌, List, [], ◌∷◌, length, Option, Some, None, Bool, true, false, cond, refl, sym, ap, ◌∙◌, subst, arith, ⊎_elim}
+use Rattle.std.proofs.Common.{◌≡◌, ℕ, zero, suc, ◌+◌, ◌-◌, ◌*◌, ◌<◌, ◌≤◌, List, [], ◌∷◌, length, Option, Some, None, Bool, true, false, cond, refl, sym, ap}
+use Rattle.std.proofs.Common.{◌∙◌, subst, arith, ⊎_elim}
 use Rattle.std.specs.Prelude.{slice_get, Ok, Err}
 use Rattle.std.specs.Ordering.{int_eq}
 use Rattle.std.proofs.lemmas.Option.{slice_get_within}
@@ -18,14 +19,18 @@ use Rattle.code_form.specs.declared.operand.Operand.{Operand}
 use Rattle.code_form.specs.declared.operand.Operand.TheVariants.{Value as Of, Place as At}
 use Rattle.code_form.specs.declared.instr.Requested.TheVariants as calls
 use Rattle.code_form.specs.declared.instr.Instr.{Instr}
-use Rattle.code_form.specs.declared.instr.Instr.TheVariants.{Mark, Number, Truth, Outer, Local, Param, Load, Store, Do, Modify, Jump, False, When, Drop, Limit, Unlimit, Step, Ask, Call, Refer, Back, Out, End}
+use Rattle.code_form.specs.declared.instr.Instr.TheVariants.{Mark, Number, Truth, Outer, Local, Param, Load, Store, Do, Modify, Jump, False, When, Drop}
+use Rattle.code_form.specs.declared.instr.Instr.TheVariants.{Limit, Unlimit, Step, Ask, Call, Refer, Back, Out, End}
 use Rattle.code_form.specs.declared.code.Line.{Line}
 use Rattle.code_form.specs.declared.code.Entry.{Entry}
 use Rattle.code_form.specs.declared.code.Layout.{Layout}
 use Rattle.code_form.specs.declared.code.Layout.TheVariants.{Own}
 use Rattle.code_form.specs.declared.code.Layout.TheVariants as layouts
 use Rattle.code_form.specs.Program.{Program, instr_of}
-use Rattle.code_form.specs.Machine.{Frame, Position, Control, free, After, To, Asks, Stops, Unsaid, Move, Scene, Stage, On, Over, Lost, Rest, operand_bytes, bytes_on, bytes_of, base_of, pushes, on_value, on_place, on_values, on_operands, on_result, or_halt, on_word, is_free, are_free, limit_cell, frame_contents, link_contents, written_from, enters, calls_to, call_move, refer_move, back_to, out_to, instruction, step, mark_stage, stage, advance, carry_on, exec}
+use Rattle.code_form.specs.Machine.{Frame, Position, Control, free, After, To, Asks, Stops, Unsaid, Move, Scene, Stage, On, Over, Lost, Rest, operand_bytes}
+use Rattle.code_form.specs.Machine.{bytes_on, bytes_of, base_of, pushes, on_value, on_place, on_values, on_operands, on_result, or_halt, on_word, is_free}
+use Rattle.code_form.specs.Machine.{are_free, limit_cell, frame_contents, link_contents, written_from, enters, calls_to, call_move, refer_move, back_to}
+use Rattle.code_form.specs.Machine.{out_to, instruction, step, mark_stage, stage, advance, carry_on, exec}
 use Rattle.code_form.specs.Valid.{is_mark, IsFine, IsValid}
 use Rattle.code_form.specs.Runs.{Rests, ahead, steps_left}
 
@@ -63,7 +68,7 @@ module _ (p : Program) (valid : IsValid p) where
       ⊎_elim
       (λ lt. omega (arith, ahead_is pc l e n, ahead_not a, slice_get_within p.lines pc l e))
       (λ le. let z : ahead p.lines a ≡ 0 = ap (λ b. cond b 0 (length p.lines - a)) (t le) in
-          omega (arith, ahead_is pc l e n, slice_get_within p.lines pc l e, z))
+      omega (arith, ahead_is pc l e n, slice_get_within p.lines pc l e, z))
       (cases_lt pc a)
 
   module _ (c : Position) (s : Scene) where
@@ -168,8 +173,13 @@ module _ (p : Program) (valid : IsValid p) where
     enters_deeper first base refines body ops ns = by (are_free c.used ns s.cells) (cells_fit (c.used + length ns))
       where
         by : (free b : Bool) → Deeper
-            (cond free (cond b (To (record { pc = first; ops = []; used = c.used + length ns; frames =
-            record { back = c.pc + 1; base = base; used = c.used; refines = refines; body = body; ops = ops } ∷ c.frames }) (written_from c.used ns s.cells))
+            (cond free (cond b (To (record {
+              pc = first;
+              ops = [];
+              used = c.used + length ns;
+              frames =
+                  record { back = c.pc + 1; base = base; used = c.used; refines = refines; body = body; ops = ops } ∷ c.frames;
+            }) (written_from c.used ns s.cells))
             (Stops CellRoom)) Unsaid)
         by true true = omega arith
         by true false = tt
@@ -213,29 +223,29 @@ module _ (p : Program) (valid : IsValid p) where
         near_values (length (operand_kinds op)) _ (λ vs r. near_or _ (λ v. push_near l e (ap (λ i. is_mark (Some i)) is) (Of v) r) (result_of op vs)) [] c.ops
     at_instr l e (Modify ch) is f =
         near_value _ (λ v r. near_place _
-            (λ a r. near_word _ (λ n.
-            near_or _ (λ x. go (c.pc + 1) (on_next c.pc l e (ap (λ i. is_mark (Some i)) is))) (changed ch (number_of (value_in kinds.Int n)) (number_of v)))
-            (s.cells a)) r) c.ops
+        (λ a r. near_word _ (λ n.
+        near_or _ (λ x. go (c.pc + 1) (on_next c.pc l e (ap (λ i. is_mark (Some i)) is))) (changed ch (number_of (value_in kinds.Int n)) (number_of v)))
+        (s.cells a)) r) c.ops
     at_instr l e (Jump a) is f = go a (on_jump c.pc a l e (ap (λ i. is_mark (Some i)) is) f.spaced)
     at_instr l e (False a) is f =
         near_value _ (λ v r. go_if (truth_of v) (c.pc + 1) a (on_next c.pc l e (ap (λ i. is_mark (Some i)) is))
-            (on_jump c.pc a l e (ap (λ i. is_mark (Some i)) is) f.3.spaced)) c.ops
+        (on_jump c.pc a l e (ap (λ i. is_mark (Some i)) is) f.3.spaced)) c.ops
     at_instr l e (When z a) is f =
         near_value _ (λ v r. near_if (int_eq (number_of v) z) _ _ (go a (on_jump c.pc a l e (ap (λ i. is_mark (Some i)) is) f.3.spaced))
-            (go (c.pc + 1) (on_next c.pc l e (ap (λ i. is_mark (Some i)) is)))) c.ops
+        (go (c.pc + 1) (on_next c.pc l e (ap (λ i. is_mark (Some i)) is)))) c.ops
     at_instr l e Drop is f = near_value _ (λ v r. go (c.pc + 1) (on_next c.pc l e (ap (λ i. is_mark (Some i)) is))) c.ops
     at_instr l e (Limit way a) is f =
         near_value _ (λ v r. near_place _
-            (λ q r. near_if (cells_fit (c.used + 1)) _ _
-            (near_if (is_free (s.cells (run_cell c.used))) _ _
-            (near_word _ (λ n. go_if (is_past way (number_of v) (number_of (value_in kinds.Int n))) a (c.pc + 1)
-            (on_jump c.pc a l e (ap (λ i. is_mark (Some i)) is) f.3.spaced) (on_next c.pc l e (ap (λ i. is_mark (Some i)) is))) (s.cells q)) tt) tt) r) c.ops
+        (λ q r. near_if (cells_fit (c.used + 1)) _ _
+        (near_if (is_free (s.cells (run_cell c.used))) _ _
+        (near_word _ (λ n. go_if (is_past way (number_of v) (number_of (value_in kinds.Int n))) a (c.pc + 1)
+        (on_jump c.pc a l e (ap (λ i. is_mark (Some i)) is) f.3.spaced) (on_next c.pc l e (ap (λ i. is_mark (Some i)) is))) (s.cells q)) tt) tt) r) c.ops
     at_instr l e Unlimit is f = go (c.pc + 1) (on_next c.pc l e (ap (λ i. is_mark (Some i)) is))
     at_instr l e (Step way a) is f =
         near_place _ (λ q r. near_word _
-            (λ k. near_word _ (λ n. near_if (has_reached way (number_of (value_in kinds.Int k)) (number_of (value_in kinds.Int n))) _ _
-            (go a (on_jump c.pc a l e (ap (λ i. is_mark (Some i)) is) f.2.3.spaced)) (go (c.pc + 1) (on_next c.pc l e (ap (λ i. is_mark (Some i)) is))))
-            (s.cells q)) (limit_cell c s.cells)) c.ops
+        (λ k. near_word _ (λ n. near_if (has_reached way (number_of (value_in kinds.Int k)) (number_of (value_in kinds.Int n))) _ _
+        (go a (on_jump c.pc a l e (ap (λ i. is_mark (Some i)) is) f.2.3.spaced)) (go (c.pc + 1) (on_next c.pc l e (ap (λ i. is_mark (Some i)) is))))
+        (s.cells q)) (limit_cell c s.cells)) c.ops
     at_instr l e (Ask calls.PutNumber) is f = near_value _ (λ v r. marked s.marks _ (omega arith)) c.ops
     at_instr l e (Ask calls.Line) is f = marked s.marks _ (omega arith)
     at_instr l e (Call n) is f = call_near n (slice_get p.bodies n)

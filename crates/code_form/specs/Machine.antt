@@ -1,5 +1,6 @@
 -- What the machine does with a list of instructions, one by one.
-use Rattle.std.specs.Prelude.{ℕ, zero, suc, ◌+◌, ◌-◌, Bool, true, false, ◌&&◌, cond, List, [], ◌∷◌, ◌++◌, map, length, Option, Some, None, Ok, Err, slice_get, ℤ}
+use Rattle.std.specs.Prelude.{ℕ, zero, suc, ◌+◌, ◌-◌, Bool, true, false, ◌&&◌, cond, List, [], ◌∷◌, ◌++◌, map, length, Option, Some, None, Ok, Err, slice_get}
+use Rattle.std.specs.Prelude.{ℤ}
 use Rattle.std.specs.Ordering.{int_eq}
 use Rattle.eu_base.specs.declared.address.Addr.{Addr}
 use Rattle.eu_base.specs.declared.value.Kind.{Kind}
@@ -24,7 +25,8 @@ use Rattle.code_form.specs.declared.waits.Waits.TheVariants.{Nothing, Asked, Ref
 use Rattle.code_form.specs.declared.instr.Requested.{Requested}
 use Rattle.code_form.specs.declared.instr.Requested.TheVariants as calls
 use Rattle.code_form.specs.declared.instr.Instr.{Instr}
-use Rattle.code_form.specs.declared.instr.Instr.TheVariants.{Mark, Number, Truth, Outer, Local, Param, Load, Store, Do, Modify, Jump, False, When, Drop, Limit, Unlimit, Step, Ask, Call, Refer, Back, Out, End}
+use Rattle.code_form.specs.declared.instr.Instr.TheVariants.{Mark, Number, Truth, Outer, Local, Param, Load, Store, Do, Modify, Jump, False, When, Drop}
+use Rattle.code_form.specs.declared.instr.Instr.TheVariants.{Limit, Unlimit, Step, Ask, Call, Refer, Back, Out, End}
 use Rattle.code_form.specs.declared.code.Entry.{Entry}
 use Rattle.code_form.specs.declared.code.Layout.{Layout}
 use Rattle.code_form.specs.declared.code.Layout.TheVariants.{Own}
@@ -177,8 +179,13 @@ are_free at (n ∷ ns) cells = is_free (cells (run_cell at)) && are_free (suc at
 abbrev pub entering : Position → ℕ → ℕ → Bool → ℕ → List Operand → List Cell → Cells → After
 entering c first base refines body ops contents cells =
     cond (cells_fit (c.used + length contents))
-    (To (record { pc = first; ops = []; used = c.used + length contents; frames =
-        record { back = c.pc + 1; base = base; used = c.used; refines = refines; body = body; ops = ops } ∷ c.frames }) (written_from c.used contents cells))
+    (To (record {
+      pc = first;
+      ops = [];
+      used = c.used + length contents;
+      frames =
+          record { back = c.pc + 1; base = base; used = c.used; refines = refines; body = body; ops = ops } ∷ c.frames;
+    }) (written_from c.used contents cells))
     (Stops CellRoom)
 
 abbrev pub enters : Position → ℕ → ℕ → Bool → ℕ → List Operand → List Cell → Cells → After
@@ -221,7 +228,7 @@ limit_to c way a limit x ops cells =
     cond (cells_fit (c.used + 1))
     (cond (is_free (cells (run_cell c.used)))
     (on_number (cells x) (λ z.
-        Goes (using (at c (cond (is_past way limit z) a (c.pc + 1)) ops) (c.used + 1)) (written cells (run_cell c.used) (held_of (item.Int limit)))))
+    Goes (using (at c (cond (is_past way limit z) a (c.pc + 1)) ops) (c.used + 1)) (written cells (run_cell c.used) (held_of (item.Int limit)))))
     Unknown)
     (Halts CellRoom)
 
@@ -244,7 +251,7 @@ instruction p (Some (Do op)) c cells =
     on_values (length (operand_kinds op)) [] c.ops (λ vs ops. or_halt (result_of op vs) (λ v. pushes c (Of v) ops cells))
 instruction p (Some (Modify change)) c cells =
     on_value c.ops (λ v ops.
-        on_place ops (λ a ops. on_number (cells a) (λ z. or_halt (changed change z (number_of v)) (λ x. goes c ops (written cells a (held_of x))))))
+    on_place ops (λ a ops. on_number (cells a) (λ z. or_halt (changed change z (number_of v)) (λ x. goes c ops (written cells a (held_of x))))))
 instruction p (Some (Jump a)) c cells = Goes (at c a c.ops) cells
 instruction p (Some (False a)) c cells = on_value c.ops (λ v ops. Goes (at c (cond (truth_of v) (c.pc + 1) a) ops) cells)
 instruction p (Some (When z a)) c cells =

@@ -9,7 +9,8 @@ use Rattle.code_form.specs.declared.waits.Waits.{Waits}
 use Rattle.code_form.specs.declared.waits.Waits.TheVariants.{Nothing, Asked, Refused}
 use Rattle.code_form.specs.declared.code.Line.{Line}
 use Rattle.code_form.specs.Program.{Program, instr_of}
-use Rattle.code_form.specs.Machine.{Position, Control, free, asking, To, Asks, Stops, Move, Goes, Spends, Halts, Ends, Unknown, Unsaid, Stuck, Scene, Rest, step, exec, answered}
+use Rattle.code_form.specs.Machine.{Position, Control, free, asking, To, Asks, Stops, Move, Goes, Spends, Halts, Ends, Unknown, Unsaid, Stuck, Scene, Rest}
+use Rattle.code_form.specs.Machine.{step, exec, answered}
 use Rattle.code_form.specs.Valid.{IsValid, Fits, is_mark}
 
 -- the machine comes to rest so

@@ -9,7 +9,8 @@ use Rattle.elan_types.specs.declared.core_phrase.Scope.{Scope as Owner}
 use Rattle.elan_types.specs.declared.core_phrase.Scope.TheVariants as owner
 use Rattle.elan_types.specs.declared.core_phrase.Body.{Body}
 use Rattle.elan_types.specs.declared.core_phrase.Core.{Core}
-use Rattle.elan_types.specs.Typing.{Home, frame_of, frame_at, frame_in, scope_of, owner_at, owner as owner_in, result_of_content, is_content_typed, IsScope, IsWellTyped}
+use Rattle.elan_types.specs.Typing.{Home, frame_of, frame_at, frame_in, scope_of, owner_at, owner as owner_in, result_of_content, is_content_typed, IsScope}
+use Rattle.elan_types.specs.Typing.{IsWellTyped}
 use Rattle.elan_tree.specs.declared.tree.Refinement.{Refinement as Refined}
 use Rattle.elan_tree.specs.declared.tree.Level.{Level as Written}
 use Rattle.elan_tree.specs.declared.tree.LevelUnit.{LevelUnit}

@@ -15,7 +15,8 @@ use Rattle.elan_grammar.specs.Rule.{Tokens, Rule}
 use Rattle.elan_grammar.specs.Terminals.{mark}
 use Rattle.elan_grammar.specs.Grammar as g
 use Rattle.elan_grammar.specs.Reads.{text_within, Reads, ReadsAtAnyDepth}
-use Rattle.elan_grammar.specs.Depth.{type_depth, formal_depth, refinement_depth, body_depth, unit_depth, level_unit_depth, level_depth, tree_depth, deepest_of, if_any}
+use Rattle.elan_grammar.specs.Depth.{type_depth, formal_depth, refinement_depth, body_depth, unit_depth, level_unit_depth, level_depth, tree_depth}
+use Rattle.elan_grammar.specs.Depth.{deepest_of, if_any}
 use Rattle.elan_depth.proofs.Limits.{Fits, lift, listed_fits}
 use Rattle.elan_depth.proofs.TypeLimits.{types_fit, formals_fit}
 use Rattle.elan_depth.proofs.UnitLimits.{declared_fits, plain_fits, phrases_fit}

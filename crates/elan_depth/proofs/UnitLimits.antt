@@ -21,7 +21,8 @@ use Rattle.elan_grammar.specs.Terminals.{mark}
 use Rattle.elan_grammar.specs.Units as g
 use Rattle.elan_grammar.specs.Expressions.{Language}
 use Rattle.elan_grammar.specs.Units.{phrases, counter_of}
-use Rattle.elan_grammar.specs.Depth.{type_depth, expr_depth, item_depth, limit_depth, counter_depth, unit_depth, type_place, let_item_depth, expr_place, deepest_of, if_any}
+use Rattle.elan_grammar.specs.Depth.{type_depth, expr_depth, item_depth, limit_depth, counter_depth, unit_depth, type_place, let_item_depth, expr_place}
+use Rattle.elan_grammar.specs.Depth.{deepest_of, if_any}
 use Rattle.elan_depth.proofs.Limits.{Fits, lift, no_room, room, listed_fits}
 use Rattle.elan_depth.proofs.TypeLimits.{types_fit, let_items_fit}
 use Rattle.elan_depth.proofs.ExpressionLimits.{At, FitsAt, FitsIn, Inner, expr_in, units_in, level_fits}

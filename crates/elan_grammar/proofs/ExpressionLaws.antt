@@ -9,7 +9,8 @@ use Rattle.elan_tree.specs.declared.written_type.Name.{Name}
 use Rattle.elan_tree.specs.declared.phrase.Expr.{Expr}
 use Rattle.elan_grammar.specs.declared.kind.Kind.{Kind}
 use Rattle.elan_grammar.specs.declared.kind.Kind.TheVariants as k
-use Rattle.elan_grammar.specs.Kinds.{ahead, kind, kind_of, is_key, is_sign, is_ident, is_comma, is_point, is_literal, is_monadic, is_level, lengthens, begins, loose}
+use Rattle.elan_grammar.specs.Kinds.{ahead, kind, kind_of, is_key, is_sign, is_ident, is_comma, is_point, is_literal, is_monadic, is_level, lengthens, begins}
+use Rattle.elan_grammar.specs.Kinds.{loose}
 use Rattle.elan_grammar.specs.Rule.{nothing, further}
 use Rattle.elan_grammar.specs.Depth.{expr_depth}
 use Rattle.elan_grammar.specs.Expressions as g
@@ -19,8 +20,10 @@ use Rattle.elan_grammar.proofs.Sequences.{bind_law, guard_law, choose_law}
 use Rattle.elan_grammar.proofs.Repeats.{iterate_law}
 use Rattle.elan_grammar.proofs.Every.{within, apart}
 use Rattle.elan_grammar.proofs.Seen.{is_colon, colon_ahead, ahead-point, selecting}
-use Rattle.elan_grammar.proofs.Tokens.{given, keyword_law, end_law, mark_law, point_law, comma_law, ident_law, ident_shows, literal_law, monadic_law, applies, joint_law}
-use Rattle.elan_grammar.proofs.Forms.{bind_same, part_same, narrower, Eats, eats_terminal, eats_guard, eats_pure, eats_then, eats_choose, eats_refirst, optional_law, listed_law, listed_by}
+use Rattle.elan_grammar.proofs.Tokens.{given, keyword_law, end_law, mark_law, point_law, comma_law, ident_law, ident_shows, literal_law, monadic_law, applies}
+use Rattle.elan_grammar.proofs.Tokens.{joint_law}
+use Rattle.elan_grammar.proofs.Forms.{bind_same, part_same, narrower, Eats, eats_terminal, eats_guard, eats_pure, eats_then, eats_choose, eats_refirst}
+use Rattle.elan_grammar.proofs.Forms.{optional_law, listed_law, listed_by}
 use Rattle.elan_grammar.proofs.TypeLaws.{labels_law, begins_label}
 use Rattle.elan_grammar.proofs.Follows.{reach, ends_level, after_head, after_name, ends_units, begins_unit}
 

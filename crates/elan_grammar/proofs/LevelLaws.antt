@@ -11,7 +11,8 @@ use Rattle.elan_tree.specs.declared.phrase.Operator.{Operator}
 use Rattle.elan_tree.specs.declared.tree.OperatorName.{OperatorName}
 use Rattle.elan_tree.specs.declared.tree.Refinement.{Refinement}
 use Rattle.elan_grammar.specs.declared.kind.Kind.TheVariants as k
-use Rattle.elan_grammar.specs.Kinds.{kind, second, kind_of, point_by, ahead, is_key, is_sign, is_ident, is_bold, goes_on, is_point, leads, is_operator, begins_typed}
+use Rattle.elan_grammar.specs.Kinds.{kind, second, kind_of, point_by, ahead, is_key, is_sign, is_ident, is_bold, goes_on, is_point, leads, is_operator}
+use Rattle.elan_grammar.specs.Kinds.{begins_typed}
 use Rattle.elan_grammar.specs.Rule.{Tokens, further}
 use Rattle.elan_grammar.specs.Terminals.{mark}
 use Rattle.elan_grammar.specs.Units.{phrases}
@@ -20,7 +21,8 @@ use Rattle.elan_grammar.proofs.Laws.{Set, Within, Apart, Laws, Full, pure_law}
 use Rattle.elan_grammar.proofs.Sequences.{bind_law, guard_law, choose_part, choose_law, choose_first}
 use Rattle.elan_grammar.proofs.Every.{within, apart}
 use Rattle.elan_grammar.proofs.Seen.{is_colon, is_refines, declares, ident_ahead, ahead-point, refining, alone}
-use Rattle.elan_grammar.proofs.Tokens.{given, keyword_law, end_law, mark_law, point_law, leading_law, alone_law, going_law, parting_law, ident_law, ident_shows, bold_law, same_law, access_law, is_access, operator_law, same_operator_law}
+use Rattle.elan_grammar.proofs.Tokens.{given, keyword_law, end_law, mark_law, point_law, leading_law, alone_law, going_law, parting_law, ident_law}
+use Rattle.elan_grammar.proofs.Tokens.{ident_shows, bold_law, same_law, access_law, is_access, operator_law, same_operator_law}
 use Rattle.elan_grammar.proofs.Forms.{bind_same, part_same, refirst, Eats, eats_terminal, eats_refirst, optional_law, listed_law, listed_by}
 use Rattle.elan_grammar.proofs.TypeLaws.{type_law, typed_law, any_type, formals_law}
 use Rattle.elan_grammar.proofs.Follows.{ends_units, ends_unit, begins_plain, begins_unit}

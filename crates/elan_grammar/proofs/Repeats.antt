@@ -1,5 +1,6 @@
 -- What holds of a rule that is repeated.
-use Rattle.std.proofs.Common.{◌≡◌, ℕ, zero, suc, ◌<◌, ◌≤◌, inl, inr, true, false, [], ◌∷◌, ◌++◌, length, Ok, Err, refl, sym, ap, subst, ◌∙◌, arith, append_assoc}
+use Rattle.std.proofs.Common.{◌≡◌, ℕ, zero, suc, ◌<◌, ◌≤◌, inl, inr, true, false, [], ◌∷◌, ◌++◌, length, Ok, Err, refl, sym, ap, subst, ◌∙◌, arith}
+use Rattle.std.proofs.Common.{append_assoc}
 use Rattle.std.proofs.lemmas.List.{length-append}
 use Rattle.elan_tree.specs.declared.token.Token.{Token}
 use Rattle.elan_grammar.specs.declared.kind.Kind.TheVariants as k
@@ -7,7 +8,8 @@ use Rattle.elan_grammar.specs.declared.error.ParseError.{ParseError}
 use Rattle.elan_grammar.specs.Kinds.{ahead}
 use Rattle.elan_grammar.proofs.Looks.{LooksSame}
 use Rattle.elan_grammar.specs.Rule.{Tokens, and_then, refusal, Rule, steps, steps_run, iterate}
-use Rattle.elan_grammar.proofs.Laws.{Set, Within, Apart, Laws, Full, Completes, Stuck, some_or_none, same_here, same_value, and_then_ok, and_then_err, chosen, no_front}
+use Rattle.elan_grammar.proofs.Laws.{Set, Within, Apart, Laws, Full, Completes, Stuck, some_or_none, same_here, same_value, and_then_ok, and_then_err, chosen}
+use Rattle.elan_grammar.proofs.Laws.{no_front}
 use Rattle.elan_grammar.proofs.Sequences.{first_part, place_behind}
 
 empty_by : (xs : Tokens) → length xs ≤ 0 → xs ≡ []

@@ -7,7 +7,9 @@ use Rattle.elan_grammar.specs.declared.error.ParseError.{ParseError}
 use Rattle.elan_grammar.specs.Kinds.{ahead}
 use Rattle.elan_grammar.proofs.Looks.{LooksSame}
 use Rattle.elan_grammar.specs.Rule.{Tokens, refusal, Rule, ◌>>=◌, only, choose}
-use Rattle.elan_grammar.proofs.Laws.{Apart, Completes, Full, Laws, Set, Splits, Stuck, Within, after_completes, and_then_err, and_then_ok, bind_completes, chosen, left_is, only_law, refused_length, refuses_ok, refuses_on, same_first, same_here, same_second, some_or_none, stuck_here}
+use Rattle.elan_grammar.proofs.Laws.{Apart, Completes, Full, Laws, Set, Splits, Stuck, Within, after_completes, and_then_err, and_then_ok, bind_completes}
+use Rattle.elan_grammar.proofs.Laws.{chosen, left_is, only_law, refused_length, refuses_ok, refuses_on, same_first, same_here, same_second, some_or_none}
+use Rattle.elan_grammar.proofs.Laws.{stuck_here}
 
 -- ---- one rule after another
 

@@ -34,13 +34,15 @@ use Rattle.elan_grammar.specs.declared.kind.Tier.{Tier}
 use Rattle.elan_grammar.specs.declared.kind.Kind.TheVariants as k
 use Rattle.elan_grammar.specs.declared.joint.Joint.{Joint}
 use Rattle.elan_grammar.specs.declared.joint.Joint.TheVariants as joint
-use Rattle.elan_grammar.specs.Kinds.{ahead, kind, second, kind_of, is_key, is_sign, is_ident, is_number, is_bold, is_comma, goes_on, is_point, leads, is_init, is_rep, is_symbol, is_operator, is_literal, begins, is_level, loose, tier_of, tier_level, same_sign}
+use Rattle.elan_grammar.specs.Kinds.{ahead, kind, second, kind_of, is_key, is_sign, is_ident, is_number, is_bold, is_comma, goes_on, is_point, leads, is_init}
+use Rattle.elan_grammar.specs.Kinds.{is_rep, is_symbol, is_operator, is_literal, begins, is_level, loose, tier_of, tier_level, same_sign}
 use Rattle.elan_grammar.specs.Rule.{terminal}
 use Rattle.elan_grammar.specs.Terminals as terminals
 use Rattle.elan_grammar.proofs.Laws.{Set, Within, Apart, Laws, Full, taking, terminal_law}
 use Rattle.elan_grammar.proofs.Sequences.{bind_law}
 use Rattle.elan_grammar.proofs.Every.{every, implies, apart}
-use Rattle.elan_grammar.proofs.Seen.{is_special, is_mark, is_type_name, declares, ahead-is, stays, ident_ahead, declares_ahead, ahead-point, pointed, leading, alone, ahead-comma, commaed, going_on, parting, type_named, ahead-plain}
+use Rattle.elan_grammar.proofs.Seen.{is_special, is_mark, is_type_name, declares, ahead-is, stays, ident_ahead, declares_ahead, ahead-point, pointed, leading}
+use Rattle.elan_grammar.proofs.Seen.{alone, ahead-comma, commaed, going_on, parting, type_named, ahead-plain}
 
 -- what a test accepts
 pub given : {A : Type 0} (b : Bool) (x y : A) → cond b (Some x) None ≡ Some y → b ≡ true

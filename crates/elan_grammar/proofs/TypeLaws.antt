@@ -13,7 +13,8 @@ use Rattle.elan_grammar.proofs.Laws.{Set, Within, Apart, Laws, Full, pure_law, f
 use Rattle.elan_grammar.proofs.Sequences.{no_guard, guard_law, choose_law, choose_first}
 use Rattle.elan_grammar.proofs.Every.{within, apart}
 use Rattle.elan_grammar.proofs.Seen.{declares, is_type_name}
-use Rattle.elan_grammar.proofs.Tokens.{keyword_law, mark_law, comma_law, going_law, parting_law, ident_law, bold_law, type_name_law, simple_law, size_law, access_law, constant_law, label_law, negated_law, is_simple, is_size, is_access}
+use Rattle.elan_grammar.proofs.Tokens.{keyword_law, mark_law, comma_law, going_law, parting_law, ident_law, bold_law, type_name_law, simple_law, size_law}
+use Rattle.elan_grammar.proofs.Tokens.{access_law, constant_law, label_law, negated_law, is_simple, is_size, is_access}
 use Rattle.elan_grammar.proofs.Forms.{bind_same, wider_part, listed_law}
 
 -- a depth above none

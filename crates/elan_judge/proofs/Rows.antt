@@ -1,5 +1,6 @@
 -- Rows of phrases: what their parts mean together.
-use Rattle.std.proofs.Common.{◌≡◌, ℤ, List, [], ◌∷◌, ◌++◌, map, Result, refl, ap, sym, ◌∙◌, append_assoc, ℕ, ◌+◌, ◌<◌, suc, Bool, true, false, ◌&&◌, if◌then◌else◌, Option, Some, None, length, get_or, drop, take, drop-cons, add-one, ◌-◌, ◌≤◌, subst, arith, length-drop}
+use Rattle.std.proofs.Common.{◌≡◌, ℤ, List, [], ◌∷◌, ◌++◌, map, Result, refl, ap, sym, ◌∙◌, append_assoc, ℕ, ◌+◌, ◌<◌, suc, Bool, true, false, ◌&&◌}
+use Rattle.std.proofs.Common.{if◌then◌else◌, Option, Some, None, length, get_or, drop, take, drop-cons, add-one, ◌-◌, ◌≤◌, subst, arith, length-drop}
 use Rattle.std.proofs.lemmas.List.{append-nil, take_all, map_more, at_drop_all}
 use Rattle.elan_tree.specs.declared.phrase.Unit.{Unit as Statement}
 use Rattle.elan_tree.specs.declared.phrase.Branch.{Branch}

@@ -23,7 +23,8 @@ use Rattle.elan_judge.proofs.InScope.{Names, InScope, AllIn}
 use Rattle.elan_rules.proofs.Typed as ty
 use Rattle.elan_rules.proofs.Typed.{Gives, on_if, on_bind}
 use Rattle.elan_rules.proofs.TypeEquations.{Stand, truth_is}
-use Rattle.elan_rules.proofs.TypedUnits.{number_good, bracketed_good, cand_good, cor_good, assigned_good, initial_good, in_order_good, alone_good, without_value_good, must_deliver_good}
+use Rattle.elan_rules.proofs.TypedUnits.{number_good, bracketed_good, cand_good, cor_good, assigned_good, initial_good, in_order_good, alone_good}
+use Rattle.elan_rules.proofs.TypedUnits.{without_value_good, must_deliver_good}
 use Rattle.elan_rules.proofs.TypedChoices.{choice_good, selected_good, label_named_good}
 use Rattle.elan_rules.proofs.TypedLoops.{counted_good, loop_good}
 use Rattle.elan_rules.proofs.TypedCalls.{Fits, named_good, applied_good, declared_good, leaving_good}

@@ -21,8 +21,12 @@ use Rattle.elan_types.specs.declared.core_phrase.Arm.{Arm, rolls-Arm'}
 use Rattle.elan_types.specs.declared.core_phrase.ValueArm.{ValueArm, rolls-ValueArm'}
 use Rattle.elan_types.specs.declared.core_phrase.Action.TheOpen as t
 use Rattle.elan_types.specs.declared.core_phrase.Action.TheOpen.{Action-F, Actual-F, ValuePhrase-F, Arm-F, ValueArm-F}
-use Rattle.elan_types.specs.declared.core_phrase.Action.TheFolds.{fold-Actual, fold-Arm, fold-ValueArm, map-Action, map-Actual, map-ValuePhrase, fold-roll-Action, fold-roll-Actual, fold-roll-ValuePhrase, fold-roll-Arm, fold-roll-ValueArm}
-use Rattle.elan_types.specs.Typing.{Typed, Taken, Home, given_as, taken_by, scope_of, delivered_by, refines, owner, is_none, leaves_without, leaves_with, left_from, actual_type_step, has, agree, only_if, have, all_agree, all_true, type_in, place_type, type_of, is_typed, action_typed_step, value_type_step, arm_typed_step, value_arm_type_step}
+use Rattle.elan_types.specs.declared.core_phrase.Action.TheFolds.{fold-Actual, fold-Arm, fold-ValueArm, map-Action, map-Actual, map-ValuePhrase}
+use Rattle.elan_types.specs.declared.core_phrase.Action.TheFolds.{fold-roll-Action, fold-roll-Actual, fold-roll-ValuePhrase, fold-roll-Arm}
+use Rattle.elan_types.specs.declared.core_phrase.Action.TheFolds.{fold-roll-ValueArm}
+use Rattle.elan_types.specs.Typing.{Typed, Taken, Home, given_as, taken_by, scope_of, delivered_by, refines, owner, is_none, leaves_without, leaves_with}
+use Rattle.elan_types.specs.Typing.{left_from, actual_type_step, has, agree, only_if, have, all_agree, all_true, type_in, place_type, type_of, is_typed}
+use Rattle.elan_types.specs.Typing.{action_typed_step, value_type_step, arm_typed_step, value_arm_type_step}
 
 -- where a phrase stands: the variables of the level, all bodies, and the body
 pub record Stand : Type 0 where

@@ -1,6 +1,7 @@
 -- Names, calls and LEAVE have the types that they ask for.
 -- This file is long since one record, what a scope tells of the bodies, is the premise of all that stands in it.
-use Rattle.std.proofs.Common.{◌≡◌, ℕ, Bool, true, false, if◌then◌else◌, List, [], ◌∷◌, ◌++◌, ◌+◌, zero, suc, length, arith, map, Option, Some, None, refl, sym, ap, subst, ◌∙◌}
+use Rattle.std.proofs.Common.{◌≡◌, ℕ, Bool, true, false, if◌then◌else◌, List, [], ◌∷◌, ◌++◌, ◌+◌, zero, suc, length, arith, map, Option, Some, None, refl}
+use Rattle.std.proofs.Common.{sym, ap, subst, ◌∙◌}
 use Rattle.elan_types.specs.declared.elan_type.ElanType.{ElanType}
 use Rattle.elan_types.specs.declared.core_phrase.PlacePhrase.{PlacePhrase}
 use Rattle.elan_types.specs.declared.core_phrase.ValuePhrase.{ValuePhrase}
@@ -21,7 +22,8 @@ use Rattle.elan_types.specs.declared.core_phrase.Exit.TheVariants as exits
 use Rattle.elan_types.specs.declared.core_phrase.Scope.{Scope as Owner}
 use Rattle.elan_types.specs.declared.core_phrase.Scope.TheVariants as owner
 use Rattle.elan_types.specs.declared.core_phrase.Body.{Body}
-use Rattle.elan_types.specs.Typing.{Home as InBody, same_home, type_as, result_of_content, result_of, scope_of, refines, leaves_without, leaves_with, left_from, around, frame_in, owner as owner_in}
+use Rattle.elan_types.specs.Typing.{Home as InBody, same_home, type_as, result_of_content, result_of, scope_of, refines, leaves_without, leaves_with}
+use Rattle.elan_types.specs.Typing.{left_from, around, frame_in, owner as owner_in}
 use Rattle.elan_scope.specs.declared.delivery.Delivery.{Delivery}
 use Rattle.elan_scope.specs.declared.delivery.Delivery.TheVariants.{Open, Nothing, Of}
 use Rattle.elan_scope.specs.declared.scope.Denotes.{Denotes}
@@ -48,7 +50,8 @@ use Rattle.elan_rules.proofs.Typed as ty
 use Rattle.elan_rules.proofs.Typed.{same_is, same_self, has_self, agree_self, only_if_holds, both, and_true, Gives, on_if, on_bind}
 use Rattle.value_rules.specs.Calls as r
 use Rattle.elan_rules.proofs.TypeEquations.{Stand, typed, lies, refer_is, action_refer_is, leave_is, leave_with_is}
-use Rattle.elan_rules.proofs.TypedPerformed.{owner_with, Headed, Delivering, BodyFits, Fitting, MayCall, none_holds, has_holds, own_calls, predefined_calls, first_calls, else_calls, called_good}
+use Rattle.elan_rules.proofs.TypedPerformed.{owner_with, Headed, Delivering, BodyFits, Fitting, MayCall, none_holds, has_holds, own_calls, predefined_calls}
+use Rattle.elan_rules.proofs.TypedPerformed.{first_calls, else_calls, called_good}
 
 -- ---- look-ups
 

@@ -1,5 +1,6 @@
 -- What can be called means what has the types that it asks for.
-use Rattle.std.proofs.Common.{◌≡◌, ℕ, Bool, true, false, if◌then◌else◌, List, [], ◌∷◌, ◌++◌, ◌+◌, suc, arith, map, Option, Some, None, refl, sym, ap, subst, ◌∙◌}
+use Rattle.std.proofs.Common.{◌≡◌, ℕ, Bool, true, false, if◌then◌else◌, List, [], ◌∷◌, ◌++◌, ◌+◌, suc, arith, map, Option, Some, None, refl, sym, ap, subst}
+use Rattle.std.proofs.Common.{◌∙◌}
 use Rattle.elan_types.specs.declared.elan_type.ElanType.{ElanType}
 use Rattle.elan_types.specs.declared.elan_type.ElanType.TheVariants.{Int}
 use Rattle.elan_types.specs.declared.core_phrase.PlacePhrase.{PlacePhrase}
@@ -17,7 +18,8 @@ use Rattle.elan_types.specs.declared.core_phrase.Actual.TheVariants as actual
 use Rattle.elan_types.specs.declared.core_phrase.Scope.{Scope as Owner}
 use Rattle.elan_types.specs.declared.core_phrase.Scope.TheVariants as owner
 use Rattle.elan_types.specs.declared.core_phrase.Body.{Body}
-use Rattle.elan_types.specs.Typing.{Typed, Taken, same_type, same_access, held_const, only_if, have, has, type_in, takes, take_all, taken_by, given_as, result_of_content, delivered_by, scope_of, is_none}
+use Rattle.elan_types.specs.Typing.{Typed, Taken, same_type, same_access, held_const, only_if, have, has, type_in, takes, take_all, taken_by, given_as}
+use Rattle.elan_types.specs.Typing.{result_of_content, delivered_by, scope_of, is_none}
 use Rattle.elan_scope.specs.declared.delivery.Delivery.{Delivery}
 use Rattle.elan_scope.specs.declared.delivery.Delivery.TheVariants.{Open, Nothing, Of}
 use Rattle.elan_scope.specs.declared.heading.What.{What}
@@ -37,7 +39,8 @@ use Rattle.elan_rules.proofs.Typed as ty
 use Rattle.elan_rules.proofs.Typed.{same_is, same_self, has_self, agree_self, only_if_holds, both, and_true, Gives, on_if, on_bind}
 use Rattle.elan_meant.specs.Parts as p
 use Rattle.value_rules.specs.Calls as r
-use Rattle.elan_rules.proofs.TypeEquations.{Stand, type, lies, actual_type, apply_is, modify_is, put_is, line_is, call_is, action_call_is, given_value_is, given_place_is}
+use Rattle.elan_rules.proofs.TypeEquations.{Stand, type, lies, actual_type, apply_is, modify_is, put_is, line_is, call_is, action_call_is, given_value_is}
+use Rattle.elan_rules.proofs.TypeEquations.{given_place_is}
 
 on_before : {A : Type 0} (P : A → Type 0) (Q : List A → Type 0) (q : Ruled A) (qs : Ruled (List A)) → Gives P q → Gives Q qs → (S : List A → Type 0)
     → ((x : A) (xs : List A) → P x → Q xs → S (x ∷ xs)) → Gives S (before q qs)

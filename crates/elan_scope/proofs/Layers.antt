@@ -5,7 +5,8 @@ use Rattle.elan_scope.specs.declared.heading.Sort.{Sort}
 use Rattle.elan_scope.specs.declared.scope.Scope.{Scope}
 use Rattle.elan_scope.specs.declared.scope.Within.{Within}
 use Rattle.elan_scope.specs.Predefined.{predefined}
-use Rattle.elan_scope.specs.Scope.{Callable, or_else, own_callables, predefined_callable, first, outer_layers, layers_in, first_in, called_by, has_as_many, is_known}
+use Rattle.elan_scope.specs.Scope.{Callable, or_else, own_callables, predefined_callable, first, outer_layers, layers_in, first_in, called_by, has_as_many}
+use Rattle.elan_scope.specs.Scope.{is_known}
 
 pub or_none : {A : Type 0} (o : Option A) → or_else o None ≡ o
 or_none None = refl

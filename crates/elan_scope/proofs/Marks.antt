@@ -1,5 +1,6 @@
 -- Marks, one call further in each turn: they tell from which refinements a chain of so many calls leads to one.
-use Rattle.std.proofs.Common.{◌≡◌, ℕ, zero, suc, ◌+◌, ◌-◌, ◌<◌, Bool, true, false, ◌||◌, List, [], ◌∷◌, ◌++◌, map, length, refl, sym, ap, subst, ◌∙◌, arith, append_assoc, drop, get_or, drop-cons}
+use Rattle.std.proofs.Common.{◌≡◌, ℕ, zero, suc, ◌+◌, ◌-◌, ◌<◌, Bool, true, false, ◌||◌, List, [], ◌∷◌, ◌++◌, map, length, refl, sym, ap, subst, ◌∙◌, arith}
+use Rattle.std.proofs.Common.{append_assoc, drop, get_or, drop-cons}
 use Rattle.std.specs.Prelude.{slice_index_or, ◌==◌}
 use Rattle.elan_scope.specs.Known.{any, leads, mark_at, any_marked, marks_from, next_marks, equal_from, first_marks}
 

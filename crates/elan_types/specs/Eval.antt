@@ -1,5 +1,6 @@
 -- What a program does. Evaluation knows the values of variables, the marks and the replies that are left, and no code.
-use Rattle.std.specs.Prelude.{ℕ, zero, suc, ◌+◌, ◌-◌, Bool, true, false, not, ◌||◌, List, [], ◌∷◌, ◌++◌, map, length, take, Option, Some, None, Ok, Err, slice_get, slice_index_or, slice_set, ℤ, pos}
+use Rattle.std.specs.Prelude.{ℕ, zero, suc, ◌+◌, ◌-◌, Bool, true, false, not, ◌||◌, List, [], ◌∷◌, ◌++◌, map, length, take, Option, Some, None, Ok, Err}
+use Rattle.std.specs.Prelude.{slice_get, slice_index_or, slice_set, ℤ, pos}
 use Rattle.std.specs.Ordering.{int_eq}
 use Rattle.eu_base.specs.declared.value.Value.{Value}
 use Rattle.eu_base.specs.declared.value.Value.TheVariants.{Int, Truth}

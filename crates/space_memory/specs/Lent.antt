@@ -25,5 +25,5 @@ lent_transitive first second third f g = record {
   pool_name = g.pool_name ∙ f.pool_name;
   frames =
       frames_then first.pool.now second.pool.now third.pool.now (roots first.memory.now) (roots second.memory.now) (roots third.memory.now) (omega arith)
-          f.frames g.frames;
+      f.frames g.frames;
 }

@@ -11,8 +11,10 @@ use Rattle.elan_scope.specs.declared.scope.Usage.TheVariants.{Counter as Counts}
 use Rattle.elan_scope.specs.Phrase as form
 use Rattle.elan_scope.specs.Phrase.{Phrase, leaf, phrase, all_of, part, none}
 use Rattle.elan_judge.specs.Shape as shape
-use Rattle.elan_judge.proofs.Rows.{row_goes, two_more, three_more, roles_go, roles_end, row_is, one_is, branches_go, branches_end, cases_go, cases_end, first_fails, first_is, whole_fails, whole_is}
-use Rattle.elan_judge.proofs.Shapes.{units_of, units_absent, units_written, choice_parts, case_parts, loop_parts, choice_is, selection_is, cand_is, cor_is, loop_is, branch_shape, case_shape, counter_shape, item_is, variables_is, constants_is}
+use Rattle.elan_judge.proofs.Rows.{row_goes, two_more, three_more, roles_go, roles_end, row_is, one_is, branches_go, branches_end, cases_go, cases_end}
+use Rattle.elan_judge.proofs.Rows.{first_fails, first_is, whole_fails, whole_is}
+use Rattle.elan_judge.proofs.Shapes.{units_of, units_absent, units_written, choice_parts, case_parts, loop_parts, choice_is, selection_is, cand_is, cor_is}
+use Rattle.elan_judge.proofs.Shapes.{loop_is, branch_shape, case_shape, counter_shape, item_is, variables_is, constants_is}
 use Rattle.elan_judge.proofs.judge.+judge.Goals as goal
 use Rattle.elan_judge.proofs.judge.+judge.Goals.{judge-in-None, judge-in-Some, judge-in-None-otherwise, judge-in-Some-otherwise}
 

@@ -29,9 +29,10 @@ stayed = (stay_none_ref (0 ∷ []) tt (plain (λ _. Trail.the_row)) yes, (stay_n
 pub then_spec : {M : Type 1} → statement M
 then_spec 𝓤 𝓛 𝓜 𝓡 wired =
     let c = f.clauses 𝓛 𝓜.mem 𝓡.returns in let W = walk_of 𝓛 f.ended stayed c in let 𝓣 = tables 𝓤 𝓛.H 𝓜 𝓡 𝓡.env in
-    proved 𝓛 f.ended stayed c 𝓜 𝓡
-    (Goes-none_ref 𝓛 3 (0 ∷ []) tt (plain (λ _. Trail.the_row)) yes,
-        (Goes-none_ref 𝓛 3 (1 ∷ []) tt (plain (λ κs. Event.the_row (named_lft 3 2 tt κs))) yes, tt))
+    proved 𝓛 f.ended stayed c 𝓜 𝓡 (
+      Goes-none_ref 𝓛 3 (0 ∷ []) tt (plain (λ _. Trail.the_row)) yes,
+      (Goes-none_ref 𝓛 3 (1 ∷ []) tt (plain (λ κs. Event.the_row (named_lft 3 2 tt κs))) yes, tt),
+    )
     f.Key.name code.function (code.unfolded 𝓤 𝓛.H 𝓜 𝓡 wired) (λ κs. (shr_vals, (shr_vals, tt)))
     (λ κs. (shr_Tells (named 0) κs.0 Trail.the_row, (shr_Tells (named 1) κs.1.0 (Event.the_row (named_lft 3 2 tt κs)), tt)))
     (λ κs qs bounds a g are.
