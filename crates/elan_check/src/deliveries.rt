@@ -51,7 +51,8 @@ fn told_by(alloc: Global, headings: &[Heading]) -> Result<List<Delivery>, NoMemo
 
 // The last unit that is not empty.
 fn last_unit(units: &[Unit]) -> Option<&Unit>
-    ensures { (s : Scope) → (d : Wanted) → option_map (λ u. shape.role d (shape.written (shape.unit s u.now))) result ≡ spec.last_unit (shape.units d (map (shape.unit s) units.now)) }
+    ensures { (s : Scope) → (d : Wanted) → option_map (λ u. shape.role d (shape.written (shape.unit s u.now))) result ≡ spec.last_unit
+        (shape.units d (map (shape.unit s) units.now)) }
 {
     let mut last = None;
     for unit in units {

@@ -99,7 +99,8 @@ pub fn judge_refinements(
     refinements: &[Refinement],
 ) -> Row
     requires { scope.old.refinement ≡ None }
-    ensures meaning { (ps : List Phrase) → Is before (judged_all known.now (all_of ps)) → Is result (judged_all known.now (all_of (ps ++ spec.refinements scope.old first refinements.now))) }
+    ensures meaning { (ps : List Phrase) → Is before (judged_all known.now (all_of ps)) → Is result
+        (judged_all known.now (all_of (ps ++ spec.refinements scope.old first refinements.now))) }
     ensures kept { scope.new ≡ scope.old }
 {
     let mut row = before;
@@ -119,7 +120,8 @@ pub fn judge_refinements(
 // ---- PROCs and OPs
 
 fn declare_all(alloc: Global, scope: &Scope, before: Row, names: &[Name]) -> Row
-    ensures { (k : Known) → (ps : List Phrase) → Is before (judged_all k (all_of ps)) → Is result (judged_all k (all_of (ps ++ spec.declare_all scope.now names.now))) }
+    ensures { (k : Known) → (ps : List Phrase) → Is before (judged_all k (all_of ps)) → Is result
+        (judged_all k (all_of (ps ++ spec.declare_all scope.now names.now))) }
 {
     let mut row = before;
     for name in names {
@@ -129,7 +131,8 @@ fn declare_all(alloc: Global, scope: &Scope, before: Row, names: &[Name]) -> Row
 }
 
 fn declare_parameters(alloc: Global, scope: &Scope, before: Row, formals: &[Formal]) -> Row
-    ensures { (k : Known) → (ps : List Phrase) → Is before (judged_all k (all_of ps)) → Is result (judged_all k (all_of (ps ++ spec.declare_parameters scope.now formals.now))) }
+    ensures { (k : Known) → (ps : List Phrase) → Is before (judged_all k (all_of ps)) → Is result
+        (judged_all k (all_of (ps ++ spec.declare_parameters scope.now formals.now))) }
 {
     let mut row = before;
     for formal in formals {
@@ -153,7 +156,10 @@ fn frame(alloc: Global, of: Routine<'_>) -> Result<Owner, NoMemory>
 
 // Its body, in its own scope.
 fn judge_body(alloc: Global, known: &Known, scope: &Scope, of: Routine<'_>) -> Judged
-    ensures { Is result (judged known.now (around (form.body (owner.Own (bodies.parameters of.entry.formals.now) (spec.own_types of.entry.body.now)) (bodies.result of.entry.result.now)) (shape.units (delivered (bodies.result of.entry.result.now)) (map (shape.unit scope.now) of.entry.body.now.units)))) }
+    ensures { Is result (judged known.now
+        (around (form.body (owner.Own (bodies.parameters of.entry.formals.now) (spec.own_types of.entry.body.now))
+        (bodies.result of.entry.result.now))
+        (shape.units (delivered (bodies.result of.entry.result.now)) (map (shape.unit scope.now) of.entry.body.now.units)))) }
 {
     let of_type = result_type(of.result);
     let wanted = Delivery::of(of_type);
@@ -176,7 +182,9 @@ fn is_missing(of: &Option<TypePhrase>, units: &[Unit]) -> bool
 
 // Its heading, in the scope of the level.
 fn judge_heading(alloc: Global, scope: &Scope, of: Routine<'_>) -> Judged
-    ensures { (k : Known) → (s : Scope) → Is result (judged k (form.leaf (form.heading of.entry.at scope.now of.entry.sort of.entry.name.now (bodies.parameters of.entry.formals.now) (spec.is_missing (bodies.result of.entry.result.now) (map (shape.unit s) of.entry.body.now.units))))) }
+    ensures { (k : Known) → (s : Scope) → Is result
+        (judged k (form.leaf (form.heading of.entry.at scope.now of.entry.sort of.entry.name.now (bodies.parameters of.entry.formals.now)
+        (spec.is_missing (bodies.result of.entry.result.now) (map (shape.unit s) of.entry.body.now.units))))) }
 {
     let parameters = parameters(alloc, of.formals)?;
     let missing = is_missing(of.result, of.body.units.as_slice());
@@ -200,7 +208,8 @@ fn judge_inside(
     before: Row,
 ) -> Row
     requires { scope.old.refinement ≡ None }
-    ensures meaning { (ps : List Phrase) → Is before (judged_all known.now (all_of ps)) → Is result (judged_all known.now (all_of (ps ++ spec.inside scope.old of.entry.number of.entry.result.now of.entry.formals.now of.entry.body.now))) }
+    ensures meaning { (ps : List Phrase) → Is before (judged_all known.now (all_of ps)) → Is result
+        (judged_all known.now (all_of (ps ++ spec.inside scope.old of.entry.number of.entry.result.now of.entry.formals.now of.entry.body.now))) }
     ensures kept { scope.new ≡ scope.old }
 {
     let Ok(first) = next_number(of.number) else {
@@ -236,7 +245,9 @@ pub fn judge_routine(
 ) -> Judged
     requires level { scope.old.routine ≡ None }
     requires unit { scope.old.refinement ≡ None }
-    ensures meaning { (ps : List Phrase) → Is names (judged_all known.now (all_of ps)) → Is result (judged known.now (spec.routine scope.old of.entry.number of.entry.at of.entry.name.now of.entry.result.now of.entry.formals.now of.entry.body.now of.entry.sort ps)) }
+    ensures meaning { (ps : List Phrase) → Is names (judged_all known.now (all_of ps)) → Is result
+        (judged known.now (spec.routine scope.old of.entry.number of.entry.at of.entry.name.now of.entry.result.now of.entry.formals.now
+        of.entry.body.now of.entry.sort ps)) }
     ensures kept { scope.new ≡ scope.old }
 {
     let Ok(own) = body_names(alloc, of.formals, of.body) else {

@@ -193,7 +193,8 @@ fn judge_optional(alloc: Global, known: &Known, scope: &Scope, expr: &Option<Exp
 // A row, and behind it a condition and the units that it guards.
 #[cycle(judge)]
 fn add_branch(alloc: Global, known: &Known, scope: &Scope, row: Row, branch: &Branch) -> Row
-    ensures { (done : List Phrase) → Is row (judged_all known.now (all_of done)) → Is result (judged_all known.now (all_of (done ++ shape.branches (shape.branch scope.now branch.now ∷ [])))) }
+    ensures { (done : List Phrase) → Is row (judged_all known.now (all_of done)) → Is result
+        (judged_all known.now (all_of (done ++ shape.branches (shape.branch scope.now branch.now ∷ [])))) }
 {
     let row = with(row, judge(alloc, known, scope, &branch.condition));
     let units = branch.units.as_slice();
@@ -221,7 +222,8 @@ fn add_case(
     earlier: &[i16],
     case: &Case,
 ) -> Row
-    ensures { (done : List Phrase) → Is row (judged_all known.now (all_of done)) → Is result (judged_all known.now (all_of (done ++ shape.arms scope.now earlier.now (shape.case scope.now case.now ∷ [])))) }
+    ensures { (done : List Phrase) → Is row (judged_all known.now (all_of done)) → Is result
+        (judged_all known.now (all_of (done ++ shape.arms scope.now earlier.now (shape.case scope.now case.now ∷ [])))) }
 {
     let labels = case.labels.as_slice();
     let row = with(row, judge_labels(alloc, known, scope, earlier, labels));
@@ -409,7 +411,8 @@ fn add_role(
     wanted: Option<Delivery>,
     unit: &Unit,
 ) -> Row
-    ensures { (done : List Phrase) → Is row (judged_all known.now (all_of done)) → Is result (judged_all known.now (all_of (done ++ shape.in_role wanted (shape.written (shape.unit scope.now unit.now))))) }
+    ensures { (done : List Phrase) → Is row (judged_all known.now (all_of done)) → Is result
+        (judged_all known.now (all_of (done ++ shape.in_role wanted (shape.written (shape.unit scope.now unit.now))))) }
 {
     match wanted {
         None => row,

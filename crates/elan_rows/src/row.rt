@@ -42,7 +42,8 @@ pub fn pair(alloc: Global, first: Judged, second: Judged) -> Row
 
 /// What three phrases mean, one after another.
 pub fn three(alloc: Global, first: Judged, second: Judged, third: Judged) -> Row
-    ensures { (r : Ruled Meant) → (q : Ruled Meant) → (s : Ruled Meant) → Is first r → Is second q → Is third s → Is result (before r (before q (before s (gives [])))) }
+    ensures { (r : Ruled Meant) → (q : Ruled Meant) → (s : Ruled Meant) → Is first r → Is second q → Is third s → Is result
+        (before r (before q (before s (gives [])))) }
 {
     rows::three(alloc, first, second, third)
 }

@@ -24,7 +24,8 @@ pub fn eumel<D: Disk, S: Source, K: Sink>(
     ensures bad_words { (result ≡ Status.BadWords) ↔ NamesNone (map string_bytes words.now) }
     ensures bad_words_leaves { result ≡ Status.BadWords → (source.new ≡ source.old) × (sink.new ≡ sink.old) × (disk.new ≡ disk.old) }
     // A fault is answered only where the faults of its object rose in this call, and no count falls.
-    ensures cause { HasCause (Rose (S.faults source.old) (S.faults source.new)) (Rose (K.faults sink.old) (K.faults sink.new)) (Rose (D.faults disk.old) (D.faults disk.new)) result }
+    ensures cause { HasCause (Rose (S.faults source.old) (S.faults source.new)) (Rose (K.faults sink.old) (K.faults sink.new))
+        (Rose (D.faults disk.old) (D.faults disk.new)) result }
     ensures source_later { S.faults source.old ≤ S.faults source.new }
     ensures sink_later { K.faults sink.old ≤ K.faults sink.new }
     ensures disk_later { D.faults disk.old ≤ D.faults disk.new }

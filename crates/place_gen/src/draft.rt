@@ -140,7 +140,8 @@ impl Draft {
 
     /// Goes on in the same body, under one limit more.
     pub fn deepen(&mut self)
-        ensures { self.new.wanted ≡ false → (self.old.wanted ≡ false) × (self.new.lines ≡ self.old.lines) × (self.new.pending ≡ self.old.pending) × (self.new.spot ≡ deeper self.old.spot) }
+        ensures { self.new.wanted ≡ false → (self.old.wanted ≡ false) × (self.new.lines ≡ self.old.lines) × (self.new.pending ≡ self.old.pending) ×
+            (self.new.spot ≡ deeper self.old.spot) }
     {
         match self.spot.limits.checked_add(1) {
             Some(limits) => self.spot.limits = limits,

@@ -122,7 +122,8 @@ fn count(
 
 // A variable is needed as a counter.
 fn counting(alloc: Global, way: Way, bounds: Bounds, turns: Turns) -> Judged
-    ensures { Is result (and_then (parts.variable bounds.name) (λ x. gives (spec.count way bounds.from bounds.limit turns.condition turns.units turns.until x))) }
+    ensures { Is result (and_then (parts.variable bounds.name)
+        (λ x. gives (spec.count way bounds.from bounds.limit turns.condition turns.units turns.until x))) }
 {
     let Bounds { name, from, limit } = bounds;
     match variable(name) {

@@ -17,7 +17,8 @@ use std::alloc::Global;
 pub fn ask(s: &mut State, call: Requested, marks: &mut u32) -> Result<Next, NoMemory>
     requires ready { IsReady s.old }
     requires finds { Finds [] (instrs.Ask call) (position_of s.old) }
-    ensures { IfOk result (λ next. (p : Program) (cells : Cells) → stage_of (halt_of next) (control_of s.new) (scene_of cells marks.new) ≡ stage (instruction p (Some (instrs.Ask call)) (position_of s.old) cells) (position_of s.old) (scene_of cells marks.old)) }
+    ensures { IfOk result (λ next. (p : Program) (cells : Cells) → stage_of (halt_of next) (control_of s.new) (scene_of cells marks.new) ≡ stage
+        (instruction p (Some (instrs.Ask call)) (position_of s.old) cells) (position_of s.old) (scene_of cells marks.old)) }
 {
     if *marks == 0 {
         return Ok(Next::Marked);

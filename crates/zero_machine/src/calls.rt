@@ -26,7 +26,8 @@ pub fn call<M: Memory>(
     requires ready { IsReady s.old }
     requires finds { IsCallable entry.now.layout s.old.stack.ops }
     ensures goes { IfOk result (Steps (M.holds m.old) (M.holds m.new)
-        (λ _ cells. stage (call_move (position_of s.old) body (Some entry.now) cells) (position_of s.old) (scene_of cells marks.old)) (position_of s.old) (control_of s.new) marks.new) }
+        (λ _ cells. stage (call_move (position_of s.old) body (Some entry.now) cells) (position_of s.old) (scene_of cells marks.old))
+        (position_of s.old) (control_of s.new) marks.new) }
     ensures cause { HasFaultCause (M.faults m.old) (M.faults m.new) result }
     ensures follows { M.follows m.old m.new }
 {
@@ -65,7 +66,8 @@ pub fn refer<M: Memory>(
 ) -> Result<Next, MemFault>
     requires ready { IsReady s.old }
     ensures goes { IfOk result (Steps (M.holds m.old) (M.holds m.new)
-        (λ _ cells. stage (refer_move (position_of s.old) body (Some entry.now) cells) (position_of s.old) (scene_of cells marks.old)) (position_of s.old) (control_of s.new) marks.new) }
+        (λ _ cells. stage (refer_move (position_of s.old) body (Some entry.now) cells) (position_of s.old) (scene_of cells marks.old))
+        (position_of s.old) (control_of s.new) marks.new) }
     ensures cause { HasFaultCause (M.faults m.old) (M.faults m.new) result }
     ensures follows { M.follows m.old m.new }
 {
@@ -171,7 +173,8 @@ fn leave(stack: &mut Stack) -> Link
 // Leaves the frames of refinements and that of their PROC.
 fn leave_proc(stack: &mut Stack) -> Link
     requires { is_in_proc stack.old.frames ≡ true }
-    ensures { (ops : List Operand) (used : ℕ) (cells : Cells) → out_to ops used stack.old.frames cells ≡ back_into ops used (linked result stack.new.ops) stack.new.frames cells }
+    ensures { (ops : List Operand) (used : ℕ) (cells : Cells) → out_to ops used stack.old.frames cells ≡ back_into ops used
+        (linked result stack.new.ops) stack.new.frames cells }
 {
     loop {
         let link = leave(stack);
@@ -183,7 +186,8 @@ fn leave_proc(stack: &mut Stack) -> Link
 
 // Goes on where a frame was made, with the result.
 fn return_with(s: &mut State, link: Link, value: Option<Value>) -> Result<(), NoMemory>
-    ensures { OnOk result (control_of s.new ≡ record { position = record (position_of s.old) { pc = link.back; ops = result_ops value ++ s.old.stack.ops; used = link.used }; waits = s.old.waits }) }
+    ensures { OnOk result (control_of s.new ≡
+        record { position = record (position_of s.old) { pc = link.back; ops = result_ops value ++ s.old.stack.ops; used = link.used }; waits = s.old.waits }) }
 {
     s.pc = link.back;
     s.used = link.used;

@@ -81,7 +81,8 @@ fn write_operands<M: Memory>(m: &mut M, at: usize, operands: &[Operand]) -> Resu
 /// Writes what variables hold before anything was stored.
 pub fn write_blanks<M: Memory>(m: &mut M, at: usize, variables: &[Kind]) -> Result<(), MemFault>
     requires { at + length variables.now ≤ CELLS }
-    ensures written { OnOk result ((cells : Cells) → M.holds m.old cells → M.holds m.new (written_from at (map (λ k. held_of (blank_of k)) variables.now) cells)) }
+    ensures written { OnOk result ((cells : Cells) → M.holds m.old cells → M.holds m.new
+        (written_from at (map (λ k. held_of (blank_of k)) variables.now) cells)) }
     ensures cause { HasFaultCause (M.faults m.old) (M.faults m.new) result }
     ensures follows { M.follows m.old m.new }
 {

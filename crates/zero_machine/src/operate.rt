@@ -77,7 +77,12 @@ fn operate_on_two(s: &mut State, operation: Operation) -> Result<Next, NoMemory>
 // Pushes a result, which has the room of the operands that were taken.
 fn push_result(s: &mut State, value: Value) -> Result<Next, NoMemory>
     requires { s.old.pc + 1 < 2 ^ 64 }
-    ensures { IfOk result (λ next. (next ≡ nexts.On) × (control_of s.new ≡ record { position = record (position_of s.old) { pc = s.old.pc + 1; ops = operand.Value value ∷ s.old.stack.ops }; waits = s.old.waits })) }
+    ensures { IfOk result (λ next. (next ≡ nexts.On) ×
+        (control_of s.new ≡ record {
+          position = record (position_of s.old) { pc = s.old.pc + 1; ops = operand.Value value ∷ s.old.stack.ops };
+          waits =
+              s.old.waits;
+        })) }
 {
     s.stack.push(Operand::Value(value))?;
     s.pc += 1;

@@ -19,7 +19,8 @@ use eu_base::{Change, Kind, MemFault, Memory, NoMemory, Value, Way};
 /// Pushes an operand where it has room.
 pub fn push_on(s: &mut State, operand: Operand) -> Result<Next, NoMemory>
     requires { IsReady s.old }
-    ensures { IfOk result (λ next. (cells : Cells) (marks : ℕ) → stage_of (halt_of next) (control_of s.new) (scene_of cells marks) ≡ stage (pushes (position_of s.old) operand s.old.stack.ops cells) (position_of s.old) (scene_of cells marks)) }
+    ensures { IfOk result (λ next. (cells : Cells) (marks : ℕ) → stage_of (halt_of next) (control_of s.new) (scene_of cells marks) ≡ stage
+        (pushes (position_of s.old) operand s.old.stack.ops cells) (position_of s.old) (scene_of cells marks)) }
 {
     if !s.stack.has_room(operand) {
         return Ok(Next::OperandRoom);

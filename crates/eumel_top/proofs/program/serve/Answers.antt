@@ -66,7 +66,8 @@ loop-screen-preserved g c =
             (
               c.in_ok-answer-in-Asks.ensures.kept r.scene.cells so.0,
               served_on core c.args.code.now first c.loop-screen.command x.0 c.loop-screen.marks c.loop-screen.screen x.1.1 b has (g.M.Memory.holds c.go.new.m)
-                  c.in_ok-go.field-0 c.go.new.self c.go.new.marks so c.in-Asks.request c.show.new.self c.answer.new.self c.in-Asks.is c.in_ok-show-in-Asks.ensures waits
+                  c.in_ok-go.field-0 c.go.new.self c.go.new.marks so c.in-Asks.request c.show.new.self c.answer.new.self c.in-Asks.is
+                  c.in_ok-show-in-Asks.ensures waits
                   answer less,
             ),
           );

@@ -7,7 +7,8 @@ use Rattle.value_rules.proofs.call.add_value.Goals as goal
 
 pub returns-in-Value : goal.returns-in-Value
 returns-in-Value c =
-    λ done h. subst (λ (l : List ValuePhrase). IfOk c.pushed.result (λ (list : List ValuePhrase). list ≡ l)) (sym (ap (λ (a : Actual). values_in (done ++ a ∷ [])) c.in-Value.is ∙ value_more done c.in-Value.value))
+    λ done h. subst (λ (l : List ValuePhrase). IfOk c.pushed.result (λ (list : List ValuePhrase). list ≡ l))
+    (sym (ap (λ (a : Actual). values_in (done ++ a ∷ [])) c.in-Value.is ∙ value_more done c.in-Value.value))
     (c.pushed.ensures (values_in done) c.in-Value.value h refl)
 
 pub returns-in-Place : goal.returns-in-Place

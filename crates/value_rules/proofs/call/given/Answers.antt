@@ -12,7 +12,8 @@ loop-operand-init c = (refl, given_none c.args.parameters.now ∙ ap (λ (l : Li
 
 pub loop-operand-preserved : goal.loop-operand-preserved
 loop-operand-preserved c = (
-  c.behind_first-rest.ensures ∙ ap (λ (ps : List Parameter). drop 1 ps) c.loop-operand.invariant.0 ∙ behind c.loop-operand.yielded c.in-Some.operand c.args.parameters.now,
+  c.behind_first-rest.ensures ∙ ap (λ (ps : List Parameter). drop 1 ps) c.loop-operand.invariant.0 ∙
+      behind c.loop-operand.yielded c.in-Some.operand c.args.parameters.now,
   subst (λ (r : Ruled (List Actual)). Is c.give-actuals.result r)
       (ap (λ (ps : List Parameter). given_next ps c.in-Some.operand (given c.args.parameters.now c.loop-operand.yielded)) c.loop-operand.invariant.0
       ∙ sym (given_more c.args.parameters.now c.loop-operand.yielded c.in-Some.operand))
