@@ -1,0 +1,16 @@
+-- The ready list: the numbers of the ready tasks, that of the next turn first.
+use Rattle.std.specs.Prelude.{Bool, not, List, [], ◌∷◌, ◌++◌, filter}
+use Rattle.std.specs.List.{list_any}
+use Rattle.task_numbers.specs.declared.number.TaskNo.{TaskNo}
+use Rattle.task_numbers.specs.Numbers.{is_task}
+
+-- a task that becomes ready, or whose turn ended, comes last
+abbrev pub at_back : TaskNo → List TaskNo → List TaskNo
+at_back t ready = ready ++ t ∷ []
+
+abbrev pub is_ready : TaskNo → List TaskNo → Bool
+is_ready t ready = list_any (λ u. is_task u t) ready
+
+-- a task that is not ready any more; the others keep their order
+abbrev pub without : TaskNo → List TaskNo → List TaskNo
+without t ready = filter (λ u. not (is_task u t)) ready
