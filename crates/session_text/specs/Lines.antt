@@ -3,7 +3,8 @@ use Rattle.std.specs.Prelude.{ℕ, ◌+◌, ◌-◌, ◌*◌, Bool, false, ◌&&
 use Rattle.std.specs.List.{list_all}
 use Rattle.session_text.specs.declared.events.Event.{Event}
 use Rattle.session_text.specs.declared.events.Event.TheVariants.{Line, Supervisor, Turns, Fixpoint, Shut}
-use Rattle.session_text.specs.declared.lines.TheConstants.{LONGEST_LINE, PLAIN_TURNS, MOST_TURNS}
+use Rattle.session_text.specs.declared.lines.TheConstants.{PLAIN_TURNS, MOST_TURNS}
+use Rattle.task_numbers.specs.declared.limits.TheConstants.{LONGEST_LINE}
 
 abbrev pub is_digit : ℕ → Bool
 is_digit b = nat_le 48 b && nat_le b 57

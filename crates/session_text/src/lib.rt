@@ -6,5 +6,5 @@ mod lines;
 mod pieces;
 
 pub use events::{Event, LineError};
-pub use lines::{LONGEST_LINE, PLAIN_TURNS, event};
+pub use lines::{PLAIN_TURNS, event};
 pub use pieces::piece;

@@ -6,9 +6,7 @@ ghost use Rattle.session_text.specs.Lines as spec;
 use crate::{Event, LineError};
 use containers::{Bytes, List};
 use std::alloc::Global;
-
-/// How many bytes a line for a task has at most.
-pub const LONGEST_LINE: usize = 250;
+use task_numbers::LONGEST_LINE;
 
 /// How many turns follow a line in the plain form.
 pub const PLAIN_TURNS: u16 = 20;

@@ -18,7 +18,7 @@ impl Model for Slicer {
     ghost use Rattle.std.specs.Prelude.{List, ◌≤◌};
     ghost use Rattle.std.specs.VecDeque.{deque_capacity};
     ghost use Rattle.task_numbers.specs.declared.number.TaskNo.{TaskNo};
-    ghost use Rattle.task_numbers.specs.declared.number.TheConstants.{TASKS};
+    ghost use Rattle.task_numbers.specs.declared.limits.TheConstants.{TASKS};
 
     ghost Value = { List TaskNo };
 

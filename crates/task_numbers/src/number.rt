@@ -2,9 +2,6 @@
 ghost use Rattle.std.specs.Prelude.{◌≡◌};
 ghost use Rattle.task_numbers.specs.Numbers.{is_nil, is_task};
 
-/// How many tasks can live at a time.
-pub const TASKS: usize = 16;
-
 /// The number of a task, from 1 to 4,294,967,295; 0 is niltask, which no task has.
 #[derive(Clone, Copy, PartialEq, Eq)]
 pub struct TaskNo(pub u32);
