@@ -4,6 +4,7 @@ ghost use Rattle.std.specs.List.{list_any};
 ghost use Rattle.std.specs.Option.{option_copied};
 ghost use Rattle.task_numbers.specs.Numbers.{niltask};
 ghost use Rattle.task_tree.specs.Tree as spec;
+ghost use Rattle.task_tree.specs.Trees.{IsTree};
 
 use crate::{BeginError, Task};
 use containers::{Bytes, NoMemory};
@@ -27,6 +28,10 @@ impl Model for TaskTree {
     ghost Value = { spec.Tree };
 
     ghost view = { λ tree. record { tasks = tree.tasks.items; last = tree.last } };
+
+    ghost use Rattle.task_tree.specs.Trees.{IsTree};
+
+    ghost invariant = { λ tree. IsTree (record { tasks = tree.tasks.items; last = tree.last }) };
 }
 
 impl TaskTree {
@@ -169,6 +174,14 @@ impl TaskTree {
         self.tasks
             .iter()
             .find(|other| is_younger_brother(task, other))
+    }
+
+    /// What holds of every tree: at most 16 tasks, by age, no two with one number or one name, each with a living father but
+    /// `UR`; and a number that was given is not given again.
+    pub fn law(&self)
+        ensures { IsTree self.now }
+    {
+        let _tasks = &self.tasks;
     }
 
     fn is_taken(&self, name: &[u8]) -> bool
