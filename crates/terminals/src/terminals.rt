@@ -3,6 +3,7 @@ ghost use Rattle.std.specs.Prelude.{◌≡◌, ◌<◌, ◌≤◌, None, length,
 ghost use Rattle.std.specs.Result.{is_err};
 ghost use Rattle.task_numbers.specs.Numbers.{niltask};
 ghost use Rattle.terminals.specs.Channels as spec;
+ghost use Rattle.terminals.specs.Couplings.{IsOneToOne};
 
 use crate::QueueFull;
 use crate::channel::Channel;
@@ -28,6 +29,10 @@ impl Model for Terminals {
     ghost Value = { List spec.Channel };
 
     ghost view = { λ terminals. terminals.channels };
+
+    ghost use Rattle.terminals.specs.Couplings.{IsOneToOne};
+
+    ghost invariant = { λ terminals. IsOneToOne terminals.channels };
 }
 
 impl Terminals {
@@ -73,7 +78,7 @@ impl Terminals {
         self.channels[channel as usize - 1].uncouple();
     }
 
-    /// The channel that a task is coupled to; `None` exactly where there is none.
+    /// The channel that a task is coupled to, which is the only one; `None` exactly where there is none.
     pub fn channel_of(&self, task: TaskNo) -> Option<u8>
         ensures { result ≡ spec.channel_of task self.now }
     {
@@ -124,6 +129,13 @@ impl Terminals {
         ensures queue { self.new ≡ spec.unqueued channel self.old }
     {
         self.channels[channel as usize - 1].pop()
+    }
+
+    /// What holds of all channels: no two are coupled to one task.
+    pub fn law(&self)
+        ensures { IsOneToOne self.now }
+    {
+        let _channels = &self.channels;
     }
 
     fn place_of(&self, task: TaskNo) -> Option<usize>
