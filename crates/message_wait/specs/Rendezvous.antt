@@ -1,6 +1,7 @@
 -- Who waits for whom.
 use Rattle.std.specs.Prelude.{ℕ, Bool, true, false, not, ◌&&◌, ◌||◌, nat_lt, List, [], ◌∷◌, ◌++◌, filter, insert, map, position, remove, slice_get, Option, None, Some, if◌then◌else◌}
 use Rattle.std.specs.List.{list_any, position_or_len}
+use Rattle.std.specs.List.Sorted.{IsNonDecreasingBy}
 use Rattle.task_numbers.specs.declared.number.TaskNo.{TaskNo}
 use Rattle.task_numbers.specs.Numbers.{is_task}
 use Rattle.message_wait.specs.declared.waits.Caller.{Caller}
@@ -12,6 +13,13 @@ use Rattle.message_wait.specs.declared.waits.Offer.TheVariants.{Taken, NotReady,
 pub record Waits : Type 0 where
   pub callers : List Caller
   pub receivers : List Receiver
+
+abbrev pub number_of : Receiver → ℕ
+number_of r = r.task.0
+
+-- no receiver has a greater number than a later one
+abbrev pub AreByNumber : List Receiver → Type 0
+AreByNumber receivers = IsNonDecreasingBy number_of receivers
 
 abbrev pub nobody : Waits
 nobody = record { callers = []; receivers = [] }
@@ -89,12 +97,13 @@ callers_of t w = map (λ (c : Caller). c.from) (filter (λ c. is_task c.to t) w.
 abbrev pub waiting_for : TaskNo → Waits → List TaskNo
 waiting_for t w = answered_by t w ++ callers_of t w
 
--- they wait no longer
+-- those that wait for the answer of t wait no longer
+abbrev pub answered : TaskNo → Waits → Waits
+answered t w = record w { receivers = filter (λ r. not (is_answer t r)) w.receivers }
+
+-- nobody waits for t any more
 abbrev pub released : TaskNo → Waits → Waits
-released t w = record {
-  callers = filter (λ c. not (is_task c.to t)) w.callers;
-  receivers = filter (λ r. not (is_answer t r)) w.receivers;
-}
+released t w = record (answered t w) { callers = filter (λ c. not (is_task c.to t)) w.callers }
 
 -- t itself waits no longer
 abbrev pub left : TaskNo → Waits → Waits

@@ -56,7 +56,7 @@ impl Model for Waits {
 
     ghost view = { λ w. record { callers = w.callers.items; receivers = w.receivers.items } };
 
-    ghost invariant = { λ w. (TASKS ≤ vec_capacity w.callers) × (TASKS ≤ vec_capacity w.receivers) };
+    ghost invariant = { λ w. (TASKS ≤ vec_capacity w.callers) × (TASKS ≤ vec_capacity w.receivers) × spec.AreByNumber w.receivers.items };
 }
 
 impl Waits {
@@ -125,7 +125,7 @@ impl Waits {
         ensures unchanged { OnErr result (self.new ≡ self.old) }
     {
         let tasks = self.waiting_for(alloc, task)?;
-        self.receivers.retain(|receiver| !is_answer(task, receiver));
+        self.release(task);
         self.callers.retain(|caller| !caller.to.is(task));
         Ok(tasks)
     }
@@ -136,6 +136,13 @@ impl Waits {
     {
         self.receive(task);
         self.callers.retain(|caller| !caller.from.is(task));
+    }
+
+    /// What holds of all that wait: the receivers stand by number.
+    pub fn law(&self)
+        ensures { spec.AreByNumber self.now.receivers }
+    {
+        let _receivers = &self.receivers;
     }
 
     fn first_call(&self, task: TaskNo) -> Option<usize>
@@ -175,6 +182,12 @@ impl Waits {
         ensures { self.new ≡ spec.received task self.old }
     {
         self.receivers.retain(|receiver| !receiver.task.is(task));
+    }
+
+    fn release(&mut self, task: TaskNo)
+        ensures { self.new ≡ spec.answered task self.old }
+    {
+        self.receivers.retain(|receiver| !is_answer(task, receiver));
     }
 
     fn waiting_for(&self, alloc: Global, task: TaskNo) -> Result<List<TaskNo>, NoMemory>

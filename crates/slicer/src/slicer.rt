@@ -1,6 +1,6 @@
 //! The ready tasks in rotation.
 ghost use Rattle.std.specs.Prelude.{◌≡◌, ◌<◌, false, [], length, drop, slice_get, IfOk};
-ghost use Rattle.slicer.specs.Rotation.{at_back, is_ready, without};
+ghost use Rattle.slicer.specs.Rotation.{IsRotation, at_back, is_ready, without};
 
 use containers::NoMemory;
 use std::alloc::Global;
@@ -24,8 +24,10 @@ impl Model for Slicer {
 
     ghost view = { λ slicer. slicer.ready.items };
 
+    ghost use Rattle.slicer.specs.Rotation.{IsRotation};
+
     // Room for all tasks was taken at the beginning.
-    ghost invariant = { λ slicer. TASKS ≤ deque_capacity slicer.ready };
+    ghost invariant = { λ slicer. (TASKS ≤ deque_capacity slicer.ready) × IsRotation slicer.ready.items };
 }
 
 impl Slicer {
@@ -68,5 +70,12 @@ impl Slicer {
         ensures { self.new ≡ without task self.old }
     {
         self.ready.retain(|other| !other.is(task));
+    }
+
+    /// What holds of every ready list: no task stands twice, and there are at most 16.
+    pub fn law(&self)
+        ensures { IsRotation self.now }
+    {
+        let _ready = &self.ready;
     }
 }

@@ -17,11 +17,13 @@ module _ {Z : Type 0} where
   lookup_kept name [] = refl
   lookup_kept name (e ∷ es) = ap (cond (bytes_eq name e.0.items) (Some e.1)) (lookup_kept name es)
 
-  chosen : (b : Bool) (e : Vec ℕ Z × SpaceNo) (es rest : List (Vec ℕ Z × SpaceNo)) → directory_of (cond b es (e ∷ rest)) ≡ cond b (directory_of es) (directory_of (e ∷ rest))
+  chosen : (b : Bool) (e : Vec ℕ Z × SpaceNo) (es rest : List (Vec ℕ Z × SpaceNo))
+      → directory_of (cond b es (e ∷ rest)) ≡ cond b (directory_of es) (directory_of (e ∷ rest))
   chosen true e es rest = refl
   chosen false e es rest = refl
 
-  pub without_kept : (name : List ℕ) (es : List (Vec ℕ Z × SpaceNo)) → directory_of (remove_entry (λ k. bytes_eq name k.items) es) ≡ spec.without name (directory_of es)
+  pub without_kept : (name : List ℕ) (es : List (Vec ℕ Z × SpaceNo))
+      → directory_of (remove_entry (λ k. bytes_eq name k.items) es) ≡ spec.without name (directory_of es)
   without_kept name [] = refl
   without_kept name (e ∷ es) =
       chosen (bytes_eq name e.0.items) e es _
@@ -31,5 +33,6 @@ module _ {Z : Type 0} where
   put_kept [] name s = refl
   put_kept (e ∷ es) name s = ap (λ rest. (e.0.items, e.1) ∷ rest) (put_kept es name s)
 
-  pub put_new : {S : Type 0} (m : IndexMap (Vec ℕ Z) SpaceNo S) (k : Vec ℕ Z) (s : SpaceNo) → spec.get k.items (directory_of m.entries) ≡ None → directory_of (insert_entry same m.entries k s) ≡ spec.put k.items s (directory_of m.entries)
+  pub put_new : {S : Type 0} (m : IndexMap (Vec ℕ Z) SpaceNo S) (k : Vec ℕ Z) (s : SpaceNo) → spec.get k.items (directory_of m.entries) ≡ None
+      → directory_of (insert_entry same m.entries k s) ≡ spec.put k.items s (directory_of m.entries)
   put_new m k s free = ap directory_of (insert_entry-new same m k s (lookup_kept k.items m.entries ∙ free)) ∙ put_kept m.entries k s

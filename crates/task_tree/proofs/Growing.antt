@@ -18,7 +18,8 @@ use Rattle.task_tree.specs.Tree as spec
 use Rattle.task_tree.specs.Trees.{IsYounger, IsGiven, has_live_father, IsTree}
 
 -- a name that no task has is another than that of each
-other_name : (name : List ℕ) (xs : List Task) (k : ℕ) (d : Task) → list_any (spec.has_name name) xs ≡ false → k < length xs → bytes_eq (get_or xs k d).name name ≡ false
+other_name : (name : List ℕ) (xs : List Task) (k : ℕ) (d : Task) → list_any (spec.has_name name) xs ≡ false → k < length xs
+    → bytes_eq (get_or xs k d).name name ≡ false
 other_name name xs k d free lt = by (bytes_eq (get_or xs k d).name name) refl
   where
     by : (b : Bool) → bytes_eq (get_or xs k d).name name ≡ b → b ≡ false
@@ -26,18 +27,23 @@ other_name name xs k d free lt = by (bytes_eq (get_or xs k d).name name) refl
     by true e = absurd (false≢true (sym free ∙ list_any_at (spec.has_name name) xs k d lt e))
 
 -- where no task passes that has a number, none passes
-childless : (p : Task → Bool) (xs : List Task) → ((k : ℕ) (d : Task) → k < length xs → 0 < (get_or xs k d).number.0) → spec.number_of (find p xs) ≡ niltask → (k : ℕ) (d : Task) → k < length xs → p (get_or xs k d) ≡ false
+childless : (p : Task → Bool) (xs : List Task) → ((k : ℕ) (d : Task) → k < length xs → 0 < (get_or xs k d).number.0) → spec.number_of (find p xs) ≡ niltask
+    → (k : ℕ) (d : Task) → k < length xs → p (get_or xs k d) ≡ false
 childless p [] given none k d lt = absurd (omega (arith, lt))
 childless p (x ∷ xs) given none k d lt =
     by (p x) refl none (λ n. childless p xs (λ j c less. given (suc j) c (omega (arith, less))) n) k lt
   where
-    by : (b : Bool) → p x ≡ b → spec.number_of (cond b (Some x) (find p xs)) ≡ niltask → (spec.number_of (find p xs) ≡ niltask → (k : ℕ) (d : Task) → k < length xs → p (get_or xs k d) ≡ false) → (k : ℕ) → k < length (x ∷ xs) → p (get_or (x ∷ xs) k d) ≡ false
-    by true e n rest k lt = let zero_number : x.number.0 ≡ 0 = ap (λ (t : TaskNo). t.0) n in let more = given 0 x (omega arith) in absurd (omega (arith, zero_number, more))
+    by : (b : Bool) → p x ≡ b → spec.number_of (cond b (Some x) (find p xs)) ≡ niltask
+        → (spec.number_of (find p xs) ≡ niltask → (k : ℕ) (d : Task) → k < length xs → p (get_or xs k d) ≡ false) → (k : ℕ) → k < length (x ∷ xs)
+        → p (get_or (x ∷ xs) k d) ≡ false
+    by true e n rest k lt =
+        let zero_number : x.number.0 ≡ 0 = ap (λ (t : TaskNo). t.0) n in let more = given 0 x (omega arith) in absurd (omega (arith, zero_number, more))
     by false e n rest zero lt = e
     by false e n rest (suc k) lt = rest n k d (omega (arith, lt))
 
 -- a father that lives still lives beside a new task
-still_lives : (s : spec.Tree) (u v : Task) (last : ℕ) → has_live_father s u ≡ true → has_live_father (record { tasks = s.tasks ++ v ∷ []; last = last }) u ≡ true
+still_lives : (s : spec.Tree) (u v : Task) (last : ℕ) → has_live_father s u ≡ true
+    → has_live_father (record { tasks = s.tasks ++ v ∷ []; last = last }) u ≡ true
 still_lives s u v last e = by (is_nil u.father) refl
   where
     by : (b : Bool) → is_nil u.father ≡ b → (is_nil u.father || list_any (spec.has_number u.father) (s.tasks ++ v ∷ [])) ≡ true
@@ -50,7 +56,8 @@ lives_without s t u other e =
     let kept = any-filter_same (spec.has_number u.father) (λ v. not (spec.has_number t v)) true (λ v same. grind (arith, same, other)) s.tasks in
     grind (arith, kept, e)
 
-pub begun_is_tree : (s : spec.Tree) (name : List ℕ) (father : TaskNo) → IsTree s → list_any (spec.has_name name) s.tasks ≡ false → length s.tasks < TASKS → spec.lives father s ≡ true → IsTree (spec.begun name father s)
+pub begun_is_tree : (s : spec.Tree) (name : List ℕ) (father : TaskNo) → IsTree s → list_any (spec.has_name name) s.tasks ≡ false → length s.tasks < TASKS
+    → spec.lives father s ≡ true → IsTree (spec.begun name father s)
 begun_is_tree s name father tree free room live = record {
   few = grind (arith, common_steps, room);
   apart = all_pairs_push IsYounger s.tasks (spec.task (spec.next s) name father) tree.apart

@@ -31,7 +31,8 @@ module _ (s : List Channel) (k : ℕ) (x : Channel) (within : k < length s) wher
       by (inr e) (inr f) = one i j (subst (λ t. is_nil t ≡ false) (beside i e) coupled) (sym (beside i e) ∙ alike ∙ beside j f)
 
 -- a channel gets a task which is at none
-pub coupled_one_to_one : (s : List Channel) (k : ℕ) (x : Channel) → IsOneToOne s → (is_nil x.task ≡ false → (j : ℕ) → is_task (task_at j s) x.task ≡ false) → IsOneToOne (set s k x)
+pub coupled_one_to_one : (s : List Channel) (k : ℕ) (x : Channel) → IsOneToOne s → (is_nil x.task ≡ false → (j : ℕ) → is_task (task_at j s) x.task ≡ false)
+    → IsOneToOne (set s k x)
 coupled_one_to_one s k x one apart = by (cases_lt k (length s))
   where
     by : (k < length s) ⊎ (length s ≤ k) → IsOneToOne (set s k x)
