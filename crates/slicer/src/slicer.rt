@@ -1,0 +1,81 @@
+//! The ready tasks in rotation.
+ghost use Rattle.std.specs.Prelude.{◌≡◌, ◌<◌, false, [], length, drop, slice_get, IfOk};
+ghost use Rattle.slicer.specs.Rotation.{IsRotation, at_back, is_ready, without};
+
+use containers::NoMemory;
+use std::alloc::Global;
+use std::collections::VecDeque;
+use std::marker::Model;
+use task_numbers::{TASKS, TaskNo};
+
+/// The ready tasks, which contracts see as the list of their numbers, that of the next turn first.
+#[derive(Drop)]
+pub struct Slicer {
+    ready: VecDeque<TaskNo>,
+}
+
+impl Model for Slicer {
+    ghost use Rattle.std.specs.Prelude.{List, ◌≤◌};
+    ghost use Rattle.std.specs.VecDeque.{deque_capacity};
+    ghost use Rattle.task_numbers.specs.declared.number.TaskNo.{TaskNo};
+    ghost use Rattle.task_numbers.specs.declared.limits.TheConstants.{TASKS};
+
+    ghost Value = { List TaskNo };
+
+    ghost view = { λ slicer. slicer.ready.items };
+
+    ghost use Rattle.slicer.specs.Rotation.{IsRotation};
+
+    // Room for all tasks was taken at the beginning.
+    ghost invariant = { λ slicer. (TASKS ≤ deque_capacity slicer.ready) × IsRotation slicer.ready.items };
+}
+
+impl Slicer {
+    /// No task is ready. It takes the room for all tasks, so that no other call takes any.
+    pub fn new(alloc: Global) -> Result<Slicer, NoMemory>
+        ensures { IfOk result (λ made. made ≡ []) }
+    {
+        let ready = VecDeque::with_capacity(alloc, TASKS)?;
+        Ok(Slicer { ready })
+    }
+
+    /// Takes the task whose turn is next out of the list; `None` exactly where none is ready.
+    pub fn next(&mut self) -> Option<TaskNo>
+        ensures task { result ≡ slice_get self.old 0 }
+        ensures others { self.new ≡ drop 1 self.old }
+    {
+        self.ready.pop_front()
+    }
+
+    /// A task that waited, or whose command begins, comes to the list's back.
+    pub fn wake(&mut self, task: TaskNo)
+        requires apart { is_ready task self.old ≡ false }
+        requires room { length self.old < TASKS }
+        ensures { self.new ≡ at_back task self.old }
+    {
+        self.ready.push_back_reserved(task);
+    }
+
+    /// A task whose turn ended and that is still ready comes to the list's back.
+    pub fn back(&mut self, task: TaskNo)
+        requires apart { is_ready task self.old ≡ false }
+        requires room { length self.old < TASKS }
+        ensures { self.new ≡ at_back task self.old }
+    {
+        self.ready.push_back_reserved(task);
+    }
+
+    /// A task is no longer in the list, wherever it stood; the others stay in their order.
+    pub fn leave(&mut self, task: TaskNo)
+        ensures { self.new ≡ without task self.old }
+    {
+        self.ready.retain(|other| !other.is(task));
+    }
+
+    /// What holds of every ready list: no task stands twice, and there are at most 16.
+    pub fn law(&self)
+        ensures { IsRotation self.now }
+    {
+        let _ready = &self.ready;
+    }
+}

@@ -1,0 +1,219 @@
+//! The live tasks.
+ghost use Rattle.std.specs.Prelude.{◌≡◌, ◌≢◌, ◌<◌, true, None, Some, find, IfErr, IfOk, OnErr, OnOk};
+ghost use Rattle.std.specs.List.{list_any};
+ghost use Rattle.std.specs.Option.{option_copied};
+ghost use Rattle.task_numbers.specs.Numbers.{niltask};
+ghost use Rattle.task_tree.specs.Tree as spec;
+ghost use Rattle.task_tree.specs.Trees.{IsTree};
+
+use crate::{BeginError, Task};
+use containers::{Bytes, NoMemory};
+use std::alloc::Global;
+use std::marker::Model;
+use task_numbers::{TASKS, TaskNo};
+
+/// The last number that a task can have.
+const LAST_NUMBER: u32 = u32::MAX;
+
+/// The tree of tasks: the live ones by age, and the last number that was given.
+#[derive(Drop)]
+pub struct TaskTree {
+    tasks: Vec<Task>,
+    last: u32,
+}
+
+impl Model for TaskTree {
+    ghost use Rattle.task_tree.specs.Tree as spec;
+
+    ghost Value = { spec.Tree };
+
+    ghost view = { λ tree. record { tasks = tree.tasks.items; last = tree.last } };
+
+    ghost use Rattle.task_tree.specs.Trees.{IsTree};
+
+    ghost invariant = { λ tree. IsTree (record { tasks = tree.tasks.items; last = tree.last }) };
+}
+
+impl TaskTree {
+    /// `UR` with number 1, and its son `PUBLIC` with number 2.
+    pub fn opening(alloc: Global) -> Result<TaskTree, NoMemory>
+        ensures { IfOk result (λ made. made ≡ spec.opening) }
+    {
+        let mut tasks = Vec::new(alloc);
+        tasks.push(Task {
+            number: TaskNo(1),
+            name: Bytes::from(alloc, b"UR")?,
+            father: TaskNo::NIL,
+        })?;
+        tasks.push(Task {
+            number: TaskNo(2),
+            name: Bytes::from(alloc, b"PUBLIC")?,
+            father: TaskNo(1),
+        })?;
+        Ok(TaskTree { tasks, last: 2 })
+    }
+
+    /// Whether a task lives.
+    pub fn lives(&self, task: TaskNo) -> bool
+        ensures { result ≡ spec.lives task self.now }
+    {
+        self.tasks.iter().any(|other| other.number.is(task))
+    }
+
+    /// The number of the task of this name, or niltask.
+    pub fn named(&self, name: &[u8]) -> TaskNo
+        ensures { result ≡ spec.named name.now self.now }
+    {
+        number_of(self.with_name(name))
+    }
+
+    /// The name of a task; no bytes where it does not live.
+    pub fn name(&self, task: TaskNo) -> &[u8]
+        ensures { result.now ≡ spec.name task self.now }
+    {
+        match self.with_number(task) {
+            Some(task) => task.name.as_slice(),
+            None => &[],
+        }
+    }
+
+    /// The father of a task, or niltask.
+    pub fn father(&self, task: TaskNo) -> TaskNo
+        ensures { result ≡ spec.father task self.now }
+    {
+        match self.with_number(task) {
+            Some(task) => task.father,
+            None => TaskNo::NIL,
+        }
+    }
+
+    /// The oldest son of a task, or niltask.
+    pub fn son(&self, task: TaskNo) -> TaskNo
+        ensures { result ≡ spec.son task self.now }
+    {
+        if task.is_nil() {
+            return TaskNo::NIL;
+        }
+        number_of(self.oldest_son(task))
+    }
+
+    /// The next younger son of the task's father, or niltask.
+    pub fn brother(&self, task: TaskNo) -> TaskNo
+        ensures { result ≡ spec.brother task self.now }
+    {
+        match self.with_number(task) {
+            Some(task) => number_of(self.younger_brother(task)),
+            None => TaskNo::NIL,
+        }
+    }
+
+    /// A son of a live task begins: it gets the next number, which is the result. `NameTaken`, `TreeFull` and `NumbersSpent`
+    /// come exactly where a live task has the name, 16 tasks live, or the last number was used, and none of those before holds.
+    /// A refusal changes nothing.
+    pub fn begin(
+        &mut self,
+        alloc: Global,
+        name: &[u8],
+        father: TaskNo,
+    ) -> Result<TaskNo, BeginError>
+        requires { spec.lives father self.old ≡ true }
+        ensures free { OnOk result (spec.refusal name.now self.old ≡ None) }
+        ensures number { IfOk result (λ task. task ≡ spec.next self.old) }
+        ensures begun { OnOk result (self.new ≡ spec.begun name.now father self.old) }
+        ensures refused { IfErr result (λ cause. cause ≢ BeginError.NoMemory → spec.refusal name.now self.old ≡ Some cause) }
+        ensures unchanged { OnErr result (self.new ≡ self.old) }
+    {
+        if self.is_taken(name) {
+            return Err(BeginError::NameTaken);
+        }
+        if self.tasks.len() >= TASKS {
+            return Err(BeginError::TreeFull);
+        }
+        if self.last == LAST_NUMBER {
+            return Err(BeginError::NumbersSpent);
+        }
+        let number = TaskNo(self.last + 1);
+        let name = Bytes::from(alloc, name)?;
+        let task = Task {
+            number,
+            name,
+            father,
+        };
+        if self.tasks.push(task).is_err() {
+            return Err(BeginError::NoMemory);
+        }
+        self.last += 1;
+        Ok(number)
+    }
+
+    /// A task without sons ends, which is neither `UR` nor `PUBLIC`.
+    pub fn end(&mut self, task: TaskNo)
+        requires live { spec.lives task self.old ≡ true }
+        requires childless { spec.son task self.old ≡ niltask }
+        requires later { 2 < task.0 }
+        ensures { self.new ≡ spec.ended task self.old }
+    {
+        self.tasks.retain(|other| !other.number.is(task));
+    }
+
+    fn with_name(&self, name: &[u8]) -> Option<&Task>
+        ensures { option_copied result ≡ find (spec.has_name name.now) self.now.tasks }
+    {
+        self.tasks.iter().find(|task| has_name(name, task))
+    }
+
+    fn oldest_son(&self, father: TaskNo) -> Option<&Task>
+        ensures { option_copied result ≡ find (spec.has_father father) self.now.tasks }
+    {
+        self.tasks.iter().find(|task| task.father.is(father))
+    }
+
+    fn younger_brother(&self, task: &Task) -> Option<&Task>
+        ensures { option_copied result ≡ find (spec.is_younger_brother task.now) self.now.tasks }
+    {
+        self.tasks
+            .iter()
+            .find(|other| is_younger_brother(task, other))
+    }
+
+    /// What holds of every tree: at most 16 tasks, by age, no two with one number or one name, each with a living father but
+    /// `UR`; and a number that was given is not given again.
+    pub fn law(&self)
+        ensures { IsTree self.now }
+    {
+        let _tasks = &self.tasks;
+    }
+
+    fn is_taken(&self, name: &[u8]) -> bool
+        ensures { result ≡ list_any (spec.has_name name.now) self.now.tasks }
+    {
+        self.tasks.iter().any(|task| has_name(name, task))
+    }
+
+    fn with_number(&self, task: TaskNo) -> Option<&Task>
+        ensures { option_copied result ≡ spec.with_number task self.now }
+    {
+        self.tasks.iter().find(|other| other.number.is(task))
+    }
+}
+
+fn number_of(task: Option<&Task>) -> TaskNo
+    ensures { result ≡ spec.number_of (option_copied task.entry) }
+{
+    match task {
+        Some(task) => task.number,
+        None => TaskNo::NIL,
+    }
+}
+
+fn has_name(name: &[u8], task: &Task) -> bool
+    ensures { result ≡ spec.has_name name.now task.now }
+{
+    task.name.as_slice() == name
+}
+
+fn is_younger_brother(task: &Task, other: &Task) -> bool
+    ensures { result ≡ spec.is_younger_brother task.now other.now }
+{
+    other.father.is(task.father) && task.number.0 < other.number.0
+}

@@ -1,0 +1,103 @@
+//! One channel.
+ghost use Rattle.std.specs.Prelude.{◌≡◌, slice_get, IfOk};
+ghost use Rattle.std.specs.Result.{is_err};
+ghost use Rattle.terminals.specs.Channels as spec;
+
+use circular_buffer::HeapCircularBuffer;
+use containers::{Bytes, NoMemory};
+use std::alloc::Global;
+use std::marker::Model;
+use task_numbers::TaskNo;
+
+/// How many lines can wait at a channel.
+pub const QUEUED_LINES: usize = 16;
+
+/// A line found no place: as many wait as can.
+#[derive(Clone, Copy, PartialEq, Eq)]
+pub struct QueueFull;
+
+/// A channel: its task, its last task, and the lines that wait, the oldest first.
+#[derive(Drop)]
+pub(crate) struct Channel {
+    task: TaskNo,
+    last: TaskNo,
+    queue: HeapCircularBuffer<Bytes>,
+}
+
+impl Model for Channel {
+    ghost use Rattle.std.specs.Prelude.{◌≡◌};
+    ghost use Rattle.terminals.specs.Channels as spec;
+    ghost use Rattle.terminals.specs.declared.channel.TheConstants.{QUEUED_LINES};
+
+    ghost Value = { spec.Channel };
+
+    ghost view = { λ c. record { task = c.task; last = c.last; queue = c.queue.items } };
+
+    ghost invariant = { λ c. c.queue.capacity ≡ QUEUED_LINES };
+}
+
+impl Channel {
+    pub(crate) fn new(alloc: Global) -> Result<Channel, NoMemory>
+        ensures { IfOk result (λ made. made ≡ spec.unused) }
+    {
+        Ok(Channel {
+            task: TaskNo::NIL,
+            last: TaskNo::NIL,
+            queue: HeapCircularBuffer::with_capacity(alloc, QUEUED_LINES)?,
+        })
+    }
+
+    pub(crate) fn task(&self) -> TaskNo
+        ensures { result ≡ self.now.task }
+    {
+        self.task
+    }
+
+    pub(crate) fn is_at(&self, task: TaskNo) -> bool
+        ensures { result ≡ spec.is_at task self.now }
+    {
+        self.task.is(task)
+    }
+
+    pub(crate) fn last(&self) -> TaskNo
+        ensures { result ≡ self.now.last }
+    {
+        self.last
+    }
+
+    pub(crate) fn couple(&mut self, task: TaskNo)
+        ensures { self.new ≡ record self.old { task = task } }
+    {
+        self.task = task;
+    }
+
+    pub(crate) fn uncouple(&mut self)
+        ensures { self.new ≡ spec.alone self.old }
+    {
+        self.task = TaskNo::NIL;
+        self.queue.clear();
+    }
+
+    pub(crate) fn set_last(&mut self, task: TaskNo)
+        ensures { self.new ≡ record self.old { last = task } }
+    {
+        self.last = task;
+    }
+
+    pub(crate) fn push(&mut self, line: Bytes) -> Result<(), QueueFull>
+        ensures full { is_err result ≡ spec.is_queue_full self.old }
+        ensures queue { self.new ≡ spec.with_line line self.old }
+    {
+        match self.queue.try_push_back(line) {
+            Ok(()) => Ok(()),
+            Err(_) => Err(QueueFull),
+        }
+    }
+
+    pub(crate) fn pop(&mut self) -> Option<Bytes>
+        ensures line { result ≡ slice_get self.old.queue 0 }
+        ensures queue { self.new ≡ spec.without_line self.old }
+    {
+        self.queue.pop_front()
+    }
+}

@@ -1,0 +1,8 @@
+//! Four channels: which task each is coupled to, the lines that wait there, and its last task.
+#![tactic(auto)]
+
+mod channel;
+mod terminals;
+
+pub use channel::{QUEUED_LINES, QueueFull};
+pub use terminals::{CHANNELS, Terminals};

@@ -1,0 +1,147 @@
+//! The four channels.
+ghost use Rattle.std.specs.Prelude.{◌≡◌, ◌<◌, ◌≤◌, None, length, position, slice_get, IfOk, IfSome};
+ghost use Rattle.std.specs.Result.{is_err};
+ghost use Rattle.task_numbers.specs.Numbers.{niltask};
+ghost use Rattle.terminals.specs.Channels as spec;
+ghost use Rattle.terminals.specs.Couplings.{IsOneToOne};
+
+use crate::QueueFull;
+use crate::channel::Channel;
+use containers::{Bytes, NoMemory};
+use std::alloc::Global;
+use std::marker::Model;
+use task_numbers::{LONGEST_LINE, TaskNo};
+
+/// How many channels there are; their numbers are 1 to 4.
+pub const CHANNELS: usize = 4;
+
+/// The channels, with at most one task at each and at most one channel for each task. Room for all lines was taken at the
+/// beginning, so that no other call takes any.
+#[derive(Drop)]
+pub struct Terminals {
+    channels: [Channel; 4],
+}
+
+impl Model for Terminals {
+    ghost use Rattle.std.specs.Prelude.{List};
+    ghost use Rattle.terminals.specs.Channels as spec;
+
+    ghost Value = { List spec.Channel };
+
+    ghost view = { λ terminals. terminals.channels };
+
+    ghost use Rattle.terminals.specs.Couplings.{IsOneToOne};
+
+    ghost invariant = { λ terminals. IsOneToOne terminals.channels };
+}
+
+impl Terminals {
+    /// No channel is coupled, none has a last task, and no line waits.
+    pub fn new(alloc: Global) -> Result<Terminals, NoMemory>
+        ensures { IfOk result (λ made. made ≡ spec.opening) }
+    {
+        let first = Channel::new(alloc)?;
+        let second = Channel::new(alloc)?;
+        let third = Channel::new(alloc)?;
+        let fourth = Channel::new(alloc)?;
+        Ok(Terminals {
+            channels: [first, second, third, fourth],
+        })
+    }
+
+    /// The task that a channel is coupled to, or niltask.
+    pub fn task_of(&self, channel: u8) -> TaskNo
+        requires low { 1 ≤ channel }
+        requires high { channel ≤ CHANNELS }
+        ensures { result ≡ (spec.channel channel self.now).task }
+    {
+        self.channels[channel as usize - 1].task()
+    }
+
+    /// Couples a channel to a task; neither is coupled before.
+    pub fn couple(&mut self, channel: u8, task: TaskNo)
+        requires low { 1 ≤ channel }
+        requires high { channel ≤ CHANNELS }
+        requires free { (spec.channel channel self.old).task ≡ niltask }
+        requires apart { spec.channel_of task self.old ≡ None }
+        ensures { self.new ≡ spec.coupled channel task self.old }
+    {
+        self.channels[channel as usize - 1].couple(task);
+    }
+
+    /// Uncouples a channel and empties its queue; its last task stays.
+    pub fn uncouple(&mut self, channel: u8)
+        requires low { 1 ≤ channel }
+        requires high { channel ≤ CHANNELS }
+        ensures { self.new ≡ spec.uncoupled channel self.old }
+    {
+        self.channels[channel as usize - 1].uncouple();
+    }
+
+    /// The channel that a task is coupled to, which is the only one; `None` exactly where there is none.
+    pub fn channel_of(&self, task: TaskNo) -> Option<u8>
+        ensures { result ≡ spec.channel_of task self.now }
+    {
+        if task.is_nil() {
+            return None;
+        }
+        match self.place_of(task) {
+            Some(place) => Some(place as u8 + 1),
+            None => None,
+        }
+    }
+
+    /// The channel's last task, or niltask.
+    pub fn last(&self, channel: u8) -> TaskNo
+        requires low { 1 ≤ channel }
+        requires high { channel ≤ CHANNELS }
+        ensures { result ≡ (spec.channel channel self.now).last }
+    {
+        self.channels[channel as usize - 1].last()
+    }
+
+    /// Notes the channel's last task.
+    pub fn set_last(&mut self, channel: u8, task: TaskNo)
+        requires low { 1 ≤ channel }
+        requires high { channel ≤ CHANNELS }
+        ensures { self.new ≡ spec.with_last channel task self.old }
+    {
+        self.channels[channel as usize - 1].set_last(task);
+    }
+
+    /// A line of at most 250 bytes comes to the end of a channel's queue. `QueueFull` comes exactly where 16 lines stand there;
+    /// the line is then gone and nothing else changed.
+    pub fn line_in(&mut self, channel: u8, text: Bytes) -> Result<(), QueueFull>
+        requires low { 1 ≤ channel }
+        requires high { channel ≤ CHANNELS }
+        requires short { length text ≤ LONGEST_LINE }
+        ensures full { is_err result ≡ spec.is_queue_full (spec.channel channel self.old) }
+        ensures queue { self.new ≡ spec.queued channel text self.old }
+    {
+        self.channels[channel as usize - 1].push(text)
+    }
+
+    /// Takes the oldest line of a channel's queue; `None` exactly where there is none.
+    pub fn line_back(&mut self, channel: u8) -> Option<Bytes>
+        requires low { 1 ≤ channel }
+        requires high { channel ≤ CHANNELS }
+        ensures line { result ≡ slice_get (spec.channel channel self.old).queue 0 }
+        ensures queue { self.new ≡ spec.unqueued channel self.old }
+    {
+        self.channels[channel as usize - 1].pop()
+    }
+
+    /// What holds of all channels: no two are coupled to one task.
+    pub fn law(&self)
+        ensures { IsOneToOne self.now }
+    {
+        let _channels = &self.channels;
+    }
+
+    fn place_of(&self, task: TaskNo) -> Option<usize>
+        ensures place { result ≡ position (spec.is_at task) self.now }
+        ensures within { IfSome result (λ place. place < 4) }
+    {
+        self.channels.iter().position(|channel| channel.is_at(task))
+    }
+}
