@@ -1,0 +1,1 @@
+//! Texts of 16,000 bytes, and one more.
