@@ -1,7 +1,5 @@
-//! Tests of the operators and procedures on texts, a table for each.
+//! Tests of the operators and procedures on texts, in one table.
 #![tactic(auto)]
 
 #[cfg(test)]
-mod long;
-#[cfg(test)]
-mod tables;
+mod table;

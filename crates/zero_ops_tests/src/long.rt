@@ -1,1 +1,0 @@
-//! Texts of 16,000 bytes, and one more.
