@@ -1,6 +1,7 @@
 #!/usr/bin/env bash
-# What a text of 28 bytes costs over pages, through all layers, with 0, 1,000 and 4,000 used blocks in front of the first free one:
-# instructions of a turn, as callgrind counts them. No test, and no part of the gate.
+# What texts cost over pages, through all layers: instructions of a turn, as callgrind counts them. A text of 28 bytes is changed,
+# made and cleared, and made behind 0, 1,000 and 4,000 used blocks; one of 200 texts gets a length from 0 to 599 without order.
+# No test, and no part of the gate.
 # It proves and builds a small program in a folder of its own, over copies of the crates of pages and texts.
 set -euo pipefail
 top="$(cd "$(dirname "${BASH_SOURCE[0]}")/.." && pwd)"
@@ -43,6 +44,7 @@ use std::process::ExitCode;
 use text_heap::{clear, set};
 
 const TEXT: &[u8] = b"twenty-eight bytes of a text";
+const LONG: [u8; 600] = [97; 600];
 
 // Changes the last text.
 fn change<S: Space>(space: &mut S, last: u16) -> Result<(), MemFault>
@@ -71,6 +73,13 @@ fn make_behind<S: Space>(space: &mut S, last: u16) -> Result<(), MemFault>
     Ok(())
 }
 
+// Changes one of 200 texts to another length.
+fn mix<S: Space>(space: &mut S, turn: u32) -> Result<(), MemFault> {
+    let length = turn.wrapping_mul(1_664_525).wrapping_add(1_013_904_223) / 256 % 600;
+    set(space, (turn % 200) as u16, &LONG[..length as usize])?;
+    Ok(())
+}
+
 // Fills so many blocks behind the first one, and then does this so often.
 fn exercise<S: Space>(space: &mut S, what: &str, used: u16, turns: u32) -> Result<(), MemFault>
     requires { used < 5000 }
@@ -82,19 +91,20 @@ fn exercise<S: Space>(space: &mut S, what: &str, used: u16, turns: u32) -> Resul
         match what {
             "change" => change(space, used + 1)?,
             "make" => make(space, used + 1)?,
+            "mix" => mix(space, turn)?,
             _ => make_behind(space, used + 1)?,
         }
     }
     Ok(())
 }
 
-// The words: `change`, `make` or `behind`, the number of used blocks, and a third one for 1,000 turns more.
+// The words: `change`, `make`, `behind` or `mix`, the number of used blocks, and a third one for 1,000 turns more than 2,000.
 fn run(rt: &HostRuntime) -> Option<()> {
     let mut words = Vec::new(rt.alloc());
     for word in env::args(rt).ok()?.skip(1) {
         words.push(word).ok()?;
     }
-    let turns = if words.len() > 2 { 1_100 } else { 100 };
+    let turns = if words.len() > 2 { 3_000 } else { 2_000 };
     let used = words.get(1)?.as_str().parse::<u16>().ok()?.min(4_000);
     let mut pool = Pool::new(rt.alloc());
     let mut space = DataSpace::nil();
@@ -131,3 +141,4 @@ for what in change make behind; do
         printf '%s: %s instructions with %s used blocks in front\n' "$what" "$(turn "$what" "$used")" "$used"
     done
 done
+printf 'mix: %s instructions\n' "$(turn mix 0)"
