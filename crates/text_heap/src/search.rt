@@ -2,7 +2,7 @@
 ghost use Rattle.std.specs.Prelude.{ℕ, ◌≡◌, ◌≢◌, ◌<◌, length, Err, IfOk, OnOk, MatchOption, nat_le};
 ghost use Rattle.eu_base.specs.declared.cells.MemFault.TheVariants.{NoMemory};
 ghost use Rattle.eu_base.specs.Cells.{HasFaultCause};
-ghost use Rattle.text_heap.specs.Blocks.{met, blocks_of, free_in};
+ghost use Rattle.text_heap.specs.Blocks.{met, blocks_of, free_in, link_in};
 ghost use Rattle.text_heap.specs.Chains.{Filled};
 
 use crate::block::{BLOCKS, PAYLOAD, fill, link};
@@ -32,6 +32,28 @@ pub fn count_free<S: Space>(space: &mut S) -> Result<u16, MemFault>
         }
     }
     Ok(count)
+}
+
+/// The first free block from one on, so that a search for so many can begin there. Where none is wanted or free it is that one.
+pub fn first_free<S: Space>(space: &mut S, from: u16, wanted: usize) -> Result<u16, MemFault>
+    requires { from < BLOCKS }
+    ensures low { IfOk result (λ block. block < BLOCKS) }
+    ensures free { IfOk result (λ block. 0 < wanted → 0 < free_in (S.content space.old) 4096 → link_in (S.content space.old) block ≡ 0) }
+    ensures kept { OnOk result (S.content space.new ≡ S.content space.old) }
+    ensures memory { result ≢ Err NoMemory }
+    ensures cause { HasFaultCause (S.faults space.old) (S.faults space.new) result }
+    ensures follows { S.follows space.old space.new }
+{
+    if wanted == 0 {
+        return Ok(from);
+    }
+    for k in 0..BLOCKS {
+        let block = block_met(from, k);
+        if link(space, block)? == 0 {
+            return Ok(block);
+        }
+    }
+    Ok(from)
 }
 
 /// Whether so many blocks are free. It looks from one block on, until enough were seen.

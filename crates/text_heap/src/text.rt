@@ -9,7 +9,7 @@ ghost use Rattle.text_heap.specs.Texts.{Texts, Holds, Sets, KeepsCells, blocks_i
 use crate::block::{BLOCKS, blocks};
 use crate::entry::read_entry;
 use crate::hint::{hint_after, move_hint, read_hint};
-use crate::search::{count_free, has_free, spread};
+use crate::search::{count_free, first_free, has_free, spread};
 use crate::walk::{collect, release};
 use cell_layout::put;
 use eu_base::{Bytes, CELLS, MemFault, Set, Space};
@@ -57,15 +57,16 @@ pub fn set<S: Space>(space: &mut S, cell: u16, t: &[u8]) -> Result<Set, MemFault
     let needed = blocks(t.len());
     let wanted = needed.saturating_sub(had);
     let hint = read_hint(space)?;
-    let has_room = has_free(space, hint, wanted)?;
+    let start = first_free(space, hint, wanted)?;
+    let has_room = has_free(space, start, wanted)?;
     if !has_room {
         return Ok(Set::HeapFull);
     }
-    let from = release(space, old.first, had, hint)?;
+    let from = release(space, old.first, had, start)?;
     let Some(first) = spread(space, from, t)? else {
         return Ok(Set::HeapFull);
     };
-    move_hint(space, hint, hint_after(hint, from, first, had, needed))?;
+    move_hint(space, hint, hint_after(start, from, first, had, needed))?;
     let number = t.len() as u64 + 4_294_967_296 * u64::from(first);
     put(space, cell, number)?;
     Ok(Set::Done)

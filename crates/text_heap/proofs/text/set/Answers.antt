@@ -11,7 +11,7 @@ returns-then-not-has_room-clause-sets g c = λ texts h some.
     let content = g.S.Space.content in
     let before = content c.args.space.now in
     let had = c.blocks-had.result in
-    let kept : content c.read_hint.new.space ≡ before = c.in_ok-hint.ensures.kept ∙ c.in_ok-old.ensures.kept in
+    let kept : content c.first_free.new.space ≡ before = c.in_ok-start.ensures.kept ∙ c.in_ok-hint.ensures.kept ∙ c.in_ok-old.ensures.kept in
     let had_is : had ≡ blocks_of (length_in before c.args.cell) = c.blocks-had.ensures ∙ ap blocks_of c.in_ok-old.ensures.entry.0 in
     let has : c.in_ok-has_room.has_room ≡ nat_le c.saturating_sub-wanted.result (free_in before 4096) =
     c.in_ok-has_room.ensures.has ∙ ap (λ x. nat_le c.saturating_sub-wanted.result (free_in x 4096)) kept in
@@ -27,7 +27,7 @@ returns-in_default-clause-sets g c = λ texts h some.
     let middle = content c.release.new.space in
     let first = c.in_ok-old.old.first in
     let had = c.blocks-had.result in
-    let kept : content c.read_hint.new.space ≡ before = c.in_ok-hint.ensures.kept ∙ c.in_ok-old.ensures.kept in
+    let kept : content c.first_free.new.space ≡ before = c.in_ok-start.ensures.kept ∙ c.in_ok-hint.ensures.kept ∙ c.in_ok-old.ensures.kept in
     let freed : Released before middle c.args.cell first had =
     released before (content c.has_free.new.space) middle c.args.cell first had c.in_ok-old.old.length
     (c.in_ok-has_room.ensures.kept ∙ kept) c.in_ok-old.ensures.entry.0 c.in_ok-old.ensures.entry.1 c.blocks-had.ensures c.in_ok-from.ensures.releases in
@@ -45,7 +45,7 @@ returns-in_default-clause-cells g c =
     let middle = content c.release.new.space in
     let first = c.in_ok-old.old.first in
     let had = c.blocks-had.result in
-    let kept : content c.read_hint.new.space ≡ before = c.in_ok-hint.ensures.kept ∙ c.in_ok-old.ensures.kept in
+    let kept : content c.first_free.new.space ≡ before = c.in_ok-start.ensures.kept ∙ c.in_ok-hint.ensures.kept ∙ c.in_ok-old.ensures.kept in
     let freed : Released before middle c.args.cell first had =
     released before (content c.has_free.new.space) middle c.args.cell first had c.in_ok-old.old.length
     (c.in_ok-has_room.ensures.kept ∙ kept) c.in_ok-old.ensures.entry.0 c.in_ok-old.ensures.entry.1 c.blocks-had.ensures c.in_ok-from.ensures.releases in
@@ -58,7 +58,7 @@ returns-clause-sets g c = λ texts h some.
     let middle = content c.release.new.space in
     let first = c.in_ok-old.old.first in
     let had = c.blocks-had.result in
-    let kept : content c.read_hint.new.space ≡ before = c.in_ok-hint.ensures.kept ∙ c.in_ok-old.ensures.kept in
+    let kept : content c.first_free.new.space ≡ before = c.in_ok-start.ensures.kept ∙ c.in_ok-hint.ensures.kept ∙ c.in_ok-old.ensures.kept in
     let freed : Released before middle c.args.cell first had =
     released before (content c.has_free.new.space) middle c.args.cell first had c.in_ok-old.old.length
     (c.in_ok-has_room.ensures.kept ∙ kept) c.in_ok-old.ensures.entry.0 c.in_ok-old.ensures.entry.1 c.blocks-had.ensures c.in_ok-from.ensures.releases in
@@ -82,7 +82,7 @@ returns-clause-cells g c =
     let middle = content c.release.new.space in
     let first = c.in_ok-old.old.first in
     let had = c.blocks-had.result in
-    let kept : content c.read_hint.new.space ≡ before = c.in_ok-hint.ensures.kept ∙ c.in_ok-old.ensures.kept in
+    let kept : content c.first_free.new.space ≡ before = c.in_ok-start.ensures.kept ∙ c.in_ok-hint.ensures.kept ∙ c.in_ok-old.ensures.kept in
     let freed : Released before middle c.args.cell first had =
     released before (content c.has_free.new.space) middle c.args.cell first had c.in_ok-old.old.length
     (c.in_ok-has_room.ensures.kept ∙ kept) c.in_ok-old.ensures.entry.0 c.in_ok-old.ensures.entry.1 c.blocks-had.ensures c.in_ok-from.ensures.releases in

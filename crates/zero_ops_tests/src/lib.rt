@@ -1,0 +1,5 @@
+//! Tests of the operators and procedures on texts, in one table.
+#![tactic(auto)]
+
+#[cfg(test)]
+mod table;

@@ -1,0 +1,298 @@
+//! Operations with their operands, and what comes of them.
+
+use eu_base::{Bytes, NoMemory, Stop, decimal};
+use std::alloc::Global;
+use std::test::Fail;
+use zero_ops::{
+    OpError, append, byte_at, code_of, errorstop, is_equal, is_less, joined, length_of, number_in,
+    place_of, repeated, subtext, subtext_from, text_of_code, text_of_number, trimmed,
+};
+
+/// A row is an operation, its operands and its result. `~` stands for a line end, `4*ab` for `aaaab`, 1 for true, and the number
+/// of bytes for a text of more than 100. One text, since the check goes over each item of an array.
+const TABLE: &str = "\
+join|||
+join||a|a
+join|a||a
+join|ab|cd|abcd
+CAT|a||a
+CAT|ab|cd|abcd
+join|16000*a||16000 bytes
+join|15999*a|b|16000 bytes
+join|16000*a|b|Text zu lang
+join|15998*a|bcd|Text zu lang
+CAT|15999*a|b|16000 bytes
+CAT|16000*a|b|Text zu lang
+repeat|3|ab|ababab
+repeat|1|ab|ab
+repeat|0|ab|
+repeat|-1|ab|
+repeat|-32768|ab|
+repeat|32767||
+repeat|5334|abc|Text zu lang
+repeat|16001|a|Text zu lang
+repeat|32767|aaaa|Text zu lang
+repeat|16000|a|16000 bytes
+equal|||1
+less|||0
+equal||a|0
+less||a|1
+equal|a||0
+less|a||0
+equal|a|ab|0
+less|a|ab|1
+equal|ab|a|0
+less|ab|a|0
+equal|ab|b|0
+less|ab|b|1
+equal|b|ab|0
+less|b|ab|0
+equal|abc|abc|1
+less|abc|abc|0
+equal|\u{7f}|\u{80}|0
+less|\u{7f}|\u{80}|1
+equal|\u{ff}|z|0
+less|\u{ff}|z|0
+equal|a\u{ff}|b|0
+less|a\u{ff}|b|1
+less|15998*a|15998*ab|1
+less|15998*ab|15998*a|0
+equal|16000*a|16000*a|1
+equal|15999*ab|16000*a|0
+subtext|abc|1|3|abc
+subtext|abc|2|2|b
+subtext|abc|2|9|bc
+subtext|abc|0|2|ab
+subtext|abc|-1|2|ab
+subtext|abc|-32768|32767|abc
+subtext|abc|3|2|
+subtext|abc|4|4|
+subtext|abc|4|9|
+subtext|abc|9|4|
+subtext|abc|0|0|
+subtext|abc|1|0|
+subtext|abc|2|-1|
+subtext|abc|-5|-1|
+subtext||1|1|
+subtext||0|0|
+subtext|16000*a|2|16000|15999 bytes
+subtext|15999*ab|15999|16000|ab
+subtext|15999*ab|16000|32767|b
+subtext|15999*ab|16001|32767|
+from|abc|1|abc
+from|abc|3|c
+from|abc|4|
+from|abc|32767|
+from|abc|0|abc
+from|abc|-1|abc
+from||1|
+from||0|
+from|16000*a|1|16000 bytes
+from|15999*ab|15999|ab
+SUB|abc|1|a
+SUB|abc|3|c
+SUB|abc|4|
+SUB|abc|32767|
+SUB|abc|0|
+SUB|abc|-1|
+SUB||1|
+SUB||0|
+SUB|15999*ab|16000|b
+SUB|15999*ab|16001|
+LENGTH||0
+LENGTH|abc|3
+LENGTH|16000*a|16000
+pos|abcabc|abc|1
+pos|abcabc|bc|2
+pos|abcabc|ca|3
+pos|abc|c|3
+pos|abc|abc|1
+pos|aaab|aab|2
+pos|abc|d|0
+pos|abc|cb|0
+pos|abc|abcd|0
+pos|abc||0
+pos||a|0
+pos|||0
+pos|15999*ab|b|16000
+pos|15999*ab|aab|15998
+pos|16000*a|b|0
+pos|16000*a|16000*a|1
+int|5|5
+int|0|0
+int|32767|32767
+int|-32768|-32768
+int|+5|5
+int|-5|-5
+int|-0|0
+int|000000000000012|12
+int| 5|5
+int|5 |5
+int|\u{9}\u{d}~ -5 ~\u{d}\u{9}|-5
+int||0
+int| |0
+int|+|0
+int|-|0
+int|- 5|0
+int|+-5|0
+int|--5|0
+int|5-|0
+int|5 6|0
+int|5x|0
+int|x5|0
+int|1.5|0
+int|\u{c}5|0
+int|5\u{b}|0
+int|5\u{0}|0
+int|5\u{e9}|0
+int|\u{661}|0
+int|32768|0
+int|-32769|0
+int|99999999999999999999|0
+int|15998*012|12
+trim| a b |a b
+trim|\u{9}\u{d}~ a|a
+trim|a ~\u{d}\u{9}|a
+trim|\u{c}a\u{a0}|\u{c}a\u{a0}
+trim| \u{9}|
+trim||
+text|0|0
+text|7|7
+text|-1|-1
+text|32767|32767
+text|-32768|-32768
+code||-1
+code|\u{0}|0
+code|A|65
+code|ab|97
+code|\u{e9}|195
+char|0|\u{0}
+char|65|A
+char|127|\u{7f}
+char|-1|falscher Code
+char|256|falscher Code
+char|-256|falscher Code
+char|32767|falscher Code
+char|-32768|falscher Code
+coded|128|128
+coded|255|255
+stop|aus|aus
+stop||
+";
+
+fn split(text: &str) -> (&str, &str) {
+    text.split_once('|').unwrap_or((text, ""))
+}
+
+fn number(cell: &str) -> i16 {
+    cell.parse().unwrap_or(0)
+}
+
+// The text that a cell stands for.
+fn written(alloc: Global, cell: &str) -> Result<Bytes, NoMemory> {
+    let (times, rest) = cell.split_once('*').unwrap_or(("1", cell));
+    let first = &rest.as_bytes()[..1.min(rest.len())];
+    let mut text = Bytes::new(alloc);
+    for done in 1..number(times) {
+        text.append(first)?;
+    }
+    for byte in rest.as_bytes() {
+        text.append(&[if *byte == b'~' { b'\n' } else { *byte }])?;
+    }
+    Ok(text)
+}
+
+// What an operation gives whose result is a number or a truth value.
+fn number_given(name: &str, s: &[u8], t: &[u8]) -> Result<i16, Stop> {
+    match name {
+        "LENGTH" => length_of(s),
+        "pos" => place_of(s, t),
+        "code" => Ok(code_of(s)),
+        "int" => Ok(number_in(s)),
+        "equal" => Ok(i16::from(is_equal(s, t))),
+        _ => Ok(i16::from(is_less(s, t))),
+    }
+}
+
+fn shown(alloc: Global, number: Result<i16, Stop>) -> Result<Bytes, OpError> {
+    Ok(decimal(alloc, i64::from(number?))?)
+}
+
+fn appended(alloc: Global, s: &[u8], t: &[u8]) -> Result<Bytes, OpError> {
+    let mut text = Bytes::from(alloc, s)?;
+    append(&mut text, t)?;
+    Ok(text)
+}
+
+fn coded(alloc: Global, i: i16) -> Result<Bytes, OpError> {
+    let text = text_of_code(alloc, i)?;
+    shown(alloc, Ok(code_of(text.as_slice())))
+}
+
+fn stopped(alloc: Global, t: &[u8]) -> Result<Bytes, OpError> {
+    Err(OpError::Stop(errorstop(alloc, t)?))
+}
+
+fn given(alloc: Global, name: &str, x: &str, y: &str, z: &str) -> Result<Bytes, OpError> {
+    let s = written(alloc, x)?;
+    let t = written(alloc, y)?;
+    let (s, t) = (s.as_slice(), t.as_slice());
+    match name {
+        "join" => joined(alloc, s, t),
+        "CAT" => appended(alloc, s, t),
+        "repeat" => repeated(alloc, number(x), t),
+        "subtext" => subtext(alloc, s, number(y), number(z)),
+        "from" => subtext_from(alloc, s, number(y)),
+        "SUB" => byte_at(alloc, s, number(y)),
+        "text" => text_of_number(alloc, number(x)),
+        "char" => text_of_code(alloc, number(x)),
+        "coded" => coded(alloc, number(x)),
+        "trim" => Ok(Bytes::from(alloc, trimmed(s))?),
+        "stop" => stopped(alloc, s),
+        _ => shown(alloc, number_given(name, s, t)),
+    }
+}
+
+// A text, or the text of the stop.
+fn outcome(alloc: Global, given: Result<Bytes, OpError>) -> Result<Bytes, NoMemory> {
+    match given {
+        Ok(text) => Ok(text),
+        Err(OpError::Stop(stop)) => stop.text(alloc),
+        Err(OpError::NoMemory) => Err(NoMemory),
+    }
+}
+
+fn finish_row(alloc: Global, rows: &mut Bytes, text: &[u8]) -> Result<(), NoMemory> {
+    if text.len() > 100 {
+        let length = decimal(alloc, text.len().min(100_000) as i64)?;
+        rows.append(length.as_slice())?;
+        rows.append(b" bytes\n")?;
+    } else {
+        rows.append(text)?;
+        rows.append(b"\n")?;
+    }
+    Ok(())
+}
+
+// The table with the results that there are: the table again, where all is as it says.
+fn table_again(alloc: Global) -> Result<Bytes, NoMemory> {
+    let mut rows = Bytes::new(alloc);
+    for row in TABLE.lines() {
+        let (operation, _) = row.rsplit_once('|').unwrap_or((row, ""));
+        rows.append(operation.as_bytes())?;
+        rows.append(b"|")?;
+        let (name, cells) = split(operation);
+        let (x, cells) = split(cells);
+        let (y, z) = split(cells);
+        let text = outcome(alloc, given(alloc, name, x, y, z))?;
+        finish_row(alloc, &mut rows, text.as_slice())?;
+    }
+    Ok(rows)
+}
+
+#[test]
+fn each_operation_gives_what_the_table_says(rt: HostRuntime) -> Result<(), Fail> {
+    let rows = table_again(rt.alloc())?;
+    assert_eq!(rt; str::from_utf8(rows.as_slice()).unwrap_or("?"), TABLE);
+    Ok(())
+}
