@@ -9,7 +9,7 @@ work="$(mktemp -d)"
 trap 'rm -rf "$work"' EXIT
 crates="containers eu_base page_pool page_table data_space cell_layout space_memory"
 
-mkdir -p "$work/crates/cells/src" "$work/crates/cells/proofs/run"
+mkdir -p "$work/crates/cells/src" "$work/crates/cells/specs" "$work/crates/cells/proofs/run"
 for crate in $crates; do
     cp -r "$top/crates/$crate" "$work/crates/"
     grep "^$crate:" "$top/crates.txt" >>"$work/crates.txt"
@@ -25,11 +25,33 @@ pub over-lent-requires : goal.over-lent-requires
 over-lent-requires c = rw (c.new-pool.ensures, c.new-memory.ensures) (record { agree = new_stands })
 END
 
+echo "pub mod Known" >"$work/crates/cells/specs/Lib.antt"
+cat >"$work/crates/cells/specs/Known.antt" <<'END'
+-- What a plain map of cells is known to hold.
+use Rattle.std.specs.Prelude.{◌≡◌, ℕ, ◌⊎◌}
+use Rattle.std.proofs.Common.{inl, inr, sym, ◌∙◌}
+use Rattle.eu_base.specs.declared.address.Addr.{Addr}
+use Rattle.eu_base.specs.Cells.{Free, Word, Cells, Within}
+
+-- each cell of which a number is known has it
+abbrev pub HoldsNumbers : (Addr → ℕ) → Cells → Type 0
+HoldsNumbers numbers cells = (a : Addr) (n : ℕ) → cells a ≡ Word n → numbers a ≡ n
+
+-- what is known of fewer cells is still so
+pub still_held : (numbers : Addr → ℕ) (cells fewer : Cells) → HoldsNumbers numbers cells → Within fewer cells → HoldsNumbers numbers fewer
+still_held numbers cells fewer holds within a n is = by (within a)
+  where
+    by : (fewer a ≡ cells a) ⊎ (fewer a ≡ Free) → numbers a ≡ n
+    by (inl same) = holds a n (sym same ∙ is)
+    by (inr free) = let f : ⊥ = cc (free, is) in absurd f
+END
+
 cat >"$work/crates/cells/src/plain.rt" <<'END'
 //! Cells in memory.
 ghost use Rattle.std.specs.Prelude.{unwrap_or};
 ghost use Rattle.std.specs.Ordering.{nat_cmp};
 ghost use Rattle.std.specs.BTreeMap.{get};
+ghost use Rattle.cells.specs.Known.{HoldsNumbers, still_held};
 
 use eu_base::{Addr, MemFault, Memory};
 use std::alloc::Global;
@@ -50,11 +72,15 @@ impl PlainMemory {
 }
 
 impl Memory for PlainMemory {
-    ghost cells = { λ memory at. unwrap_or (get nat_cmp memory.cells at.cell) 0 };
+    ghost holds = { λ memory cells. HoldsNumbers (λ at. unwrap_or (get nat_cmp memory.cells at.cell) 0) cells };
 
     ghost faults = { λ _. 0 };
 
     ghost follows = { λ _ _. Unit {0} };
+
+    ghost forgets = {
+        λ memory cells fewer holds within. still_held (λ at. unwrap_or (get nat_cmp memory.cells at.cell) 0) cells fewer holds within
+    };
 
     ghost reflexive = { λ _. tt };
 
