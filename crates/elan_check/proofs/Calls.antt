@@ -1,4 +1,4 @@
--- The refinements that phrases call, as they are found in the tree.
+-- The refinements that phrases call, as they are found in the tree. One induction over trees, so it stands in one file.
 use Rattle.std.proofs.Common.{◌≡◌, ℤ, ℕ, List, [], ◌∷◌, ◌++◌, map, Option, Some, None, refl, sym, ap, ◌∙◌, append_assoc}
 use Rattle.elan_tree.specs.declared.written_type.Name.{Name}
 use Rattle.elan_tree.specs.declared.written_type.Label.{Label}

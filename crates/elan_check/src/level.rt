@@ -44,7 +44,7 @@ fn procedure_name(alloc: Global, scope: &Scope, name: &Name, formals: &[Formal])
     }
 }
 
-// A unit whose first body has this number.
+// A unit whose first body has this number. An arm a form of unit, so it is as long as their fields are.
 fn judge_level_unit(
     alloc: Global,
     known: &Known,

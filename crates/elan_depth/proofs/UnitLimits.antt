@@ -1,4 +1,4 @@
--- Units with a limit.
+-- Units with a limit. One induction over the trees of units, so it stands in one file.
 use Rattle.std.proofs.Common.{◌≡◌, ℕ, zero, suc, ◌+◌, ◌≤◌, max, inl, inr, List, Option, Some, None, refl, ap, rules, arith}
 use Rattle.std.proofs.lemmas.Bool.{lt-ltb, ltb-true}
 use Rattle.elan_tree.specs.declared.token.Key.{Key}

@@ -1,4 +1,4 @@
-//! The meaning of expressions and units, from left to right.
+//! The meaning of expressions and units, from left to right. One cycle of functions over both, so it stands in one file.
 
 ghost use Rattle.std.specs.Prelude.{ℕ, ◌≡◌, ◌++◌, ◌∷◌, [], List, map};
 ghost use Rattle.elan_scope.specs.declared.known.Known.{Known};
@@ -46,7 +46,7 @@ fn way(limit: &Limit) -> Way
     }
 }
 
-/// The meaning of an expression.
+/// The meaning of an expression. An arm a form of expression, so it is as long as there are forms.
 #[cycle(judge)]
 fn judge(alloc: Global, known: &Known, scope: &Scope, expr: &Expr) -> Judged
     ensures { Is result (judged known.now (shape.expr scope.now expr.now)) }

@@ -92,7 +92,7 @@ pub fn next_number(number: usize) -> Result<usize, NoMemory>
     behind(number, 1)
 }
 
-// Adds the headings of a unit whose first body has this number.
+// Adds the headings of a unit whose first body has this number. An arm a form of unit, so it is as long as their fields are.
 fn unit_headings(
     alloc: Global,
     out: &mut List<Heading>,

@@ -20,6 +20,7 @@ fn labels<V: Visitor>(visitor: &mut V, labels: &[Label]) -> Result<(), NoMemory>
     Ok(())
 }
 
+// An arm a form of expression, so it is as long as there are forms.
 #[cycle(walk)]
 fn in_expr<V: Visitor>(visitor: &mut V, expr: &Expr) -> Result<(), NoMemory>
     ensures after { OnOk result (visitor.new ≡ went V.after visitor.old (spec.in_expr expr.now)) }
@@ -173,7 +174,7 @@ fn in_counter<V: Visitor>(visitor: &mut V, counter: &Counter) -> Result<(), NoMe
     in_limit(visitor, &counter.limit)
 }
 
-/// Looks at the nodes of a unit, in text order.
+/// Looks at the nodes of a unit, in text order. An arm a form of unit, so it is as long as there are forms.
 #[cycle(walk)]
 pub fn visit_unit<V: Visitor>(visitor: &mut V, unit: &Unit) -> Result<(), NoMemory>
     ensures after { OnOk result (visitor.new ≡ went V.after visitor.old (spec.in_unit unit.now)) }
