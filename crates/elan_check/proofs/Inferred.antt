@@ -1,5 +1,5 @@
 -- What is found out about refinements: it is what their last units deliver, and in the end nothing more can be found.
-use Rattle.std.proofs.Common.{◌≡◌, ℕ, Bool, true, false, if◌then◌else◌, List, [], ◌∷◌, length, Option, Some, None, refl, sym, ap, subst, ◌∙◌, ◌⊎◌, inl, inr}
+use Rattle.std.proofs.Common.{◌≡◌, ℕ, Bool, true, false, if◌then◌else◌, List, [], ◌∷◌, Option, Some, None, refl, sym, ap, subst, ◌∙◌, ◌⊎◌, inl, inr}
 use Rattle.elan_types.specs.declared.core_phrase.Exit.{Exit}
 use Rattle.elan_types.specs.declared.why.Why.TheVariants.{WrongType, WrongPlace}
 use Rattle.elan_types.specs.declared.core_phrase.Action.{Action}
@@ -19,7 +19,7 @@ use Rattle.elan_scope.specs.declared.scope.Found.{Found}
 use Rattle.elan_scope.specs.Phrase as form
 use Rattle.elan_scope.specs.Phrase.{Form, Phrase, phrase, Parts, none, part, all_of, around}
 use Rattle.elan_scope.specs.Ruled.{gives, breaks, before}
-use Rattle.elan_scope.specs.Known.{delivery_at, leads, leads_back}
+use Rattle.elan_scope.specs.Known.{delivery_at, leads_back}
 use Rattle.elan_scope.specs.declared.known.Known.{Known}
 use Rattle.elan_meant.specs.Parts.{one_of, on_one, actions_of}
 use Rattle.value_rules.specs.Calls as r
@@ -111,10 +111,6 @@ Below j k = (j.calls ≡ k.calls) × ((n : ℕ) → (delivery_at j n ≡ Open) �
 
 -- A phrase that has a meaning keeps it where more is known, if it has one.
 module _ (j k : Known) (below : Below j k) where
-  lead_same : (n : ℕ) (o : Option ℕ) → leads_back j n o ≡ leads_back k n o
-  lead_same n None = refl
-  lead_same n (Some z) = ap (λ (calls : List (List ℕ)). leads (length calls) calls n z) below.0
-
   open_hangs : (at n : ℕ) (d : Delivery) (m : Meant) → d ≡ Open → r.referred at n d ≡ gives m → ⊥
   open_hangs at n Open m e h = absurd cc
   open_hangs at n Nothing m e h = absurd cc

@@ -1,7 +1,6 @@
 -- Steps make a run.
 use Rattle.std.proofs.Common.{◌≡◌, ℕ, zero, suc, Option, Some, None, refl, ap, ◌∙◌, subst}
 use Rattle.std.specs.Prelude.{IsSome}
-use Rattle.eu_base.specs.declared.request.Request.{Request}
 use Rattle.eu_base.specs.Cells.{Cells}
 use Rattle.code_form.specs.declared.halt.Halt.{Halt}
 use Rattle.code_form.specs.declared.halt.Halt.TheVariants as halts
@@ -70,9 +69,3 @@ pub unasked : (w : Waits) → asked w ≡ None → IsSome (asked w) → ⊥
 unasked Nothing e some = absurd (cc some)
 unasked (Asked q) e some = absurd (cc e)
 unasked (Refused stop) e some = absurd (cc some)
-
--- it rests at a request where it waits for the reply
-pub due_asks : (w : Waits) (h : Halt) (q : Request) → due w ≡ Some h → h ≡ halts.Asks q → w ≡ Asked q
-due_asks Nothing h q e is = absurd (cc e)
-due_asks (Asked q') h q e is = ap Asked (cc (e, is))
-due_asks (Refused stop) h q e is = absurd (cc (e, is))
