@@ -1,5 +1,6 @@
 -- The four channels: which task each is coupled to, its last task, and the lines that wait there, the oldest first.
-use Rattle.std.specs.Prelude.{ℕ, ◌+◌, ◌-◌, Bool, nat_le, List, [], ◌∷◌, ◌++◌, length, drop, slice_index_or, slice_set, position, Option, None, option_map, if◌then◌else◌}
+use Rattle.std.specs.Prelude.{ℕ, ◌+◌, ◌-◌, Bool, nat_le, List, [], ◌∷◌, ◌++◌, length, drop, slice_index_or, slice_set, position, Option, None, option_map}
+use Rattle.std.specs.Prelude.{if◌then◌else◌}
 use Rattle.task_numbers.specs.declared.number.TaskNo.{TaskNo}
 use Rattle.task_numbers.specs.Numbers.{niltask, is_nil, is_task}
 use Rattle.terminals.specs.declared.channel.TheConstants.{QUEUED_LINES}

@@ -1,5 +1,6 @@
 -- What the operators and procedures on texts give. A text is a list of bytes, and its first byte has place 1.
-use Rattle.std.specs.Prelude.{ℕ, suc, ◌-◌, Bool, true, false, cond, ◌&&◌, ◌||◌, ◌==◌, nat_eq, nat_lt, nat_le, List, [], ◌∷◌, ◌++◌, length, drop, reverse, find, replicate, unwrap_or, Result, Ok, Err, ℤ, pos, negsuc, int_le}
+use Rattle.std.specs.Prelude.{ℕ, suc, ◌-◌, Bool, true, false, cond, ◌&&◌, ◌||◌, ◌==◌, nat_eq, nat_lt, nat_le, List, [], ◌∷◌, ◌++◌, length, drop, reverse}
+use Rattle.std.specs.Prelude.{find, replicate, unwrap_or, Result, Ok, Err, ℤ, pos, negsuc, int_le}
 use Rattle.std.specs.List.{concat, range_with_len, starts_with}
 use Rattle.std.specs.Str.{all_ascii_digits, bytes_eq}
 use Rattle.std.specs.Str.Parse.{without_leading_sign, signed_digits_value}
