@@ -1,0 +1,3 @@
+pub mod Bracketed
+pub mod OneForm
+pub mod OneCommand
