@@ -14,11 +14,11 @@ use Rattle.eu_base.specs.declared.value.Kind.TheVariants as kinds
 use Rattle.eu_base.specs.declared.value.Value.{Value}
 use Rattle.eu_base.specs.declared.value.Value.TheVariants as item
 use Rattle.eu_base.specs.declared.operation.Way.{Way}
-use Rattle.eu_base.specs.declared.request.Request.{Request}
 use Rattle.eu_base.specs.declared.stop.Stop.TheVariants.{CellRoom}
-use Rattle.eu_base.specs.Values.{kind_of, number_of, truth_of, blank_of, cell_of, value_in}
+use Rattle.eu_base.specs.Values.{kind_of, number_of, truth_of, blank_of, value_in}
 use Rattle.eu_base.specs.Room.{cells_fit, bytes_fit}
 use Rattle.eu_base.specs.Operations.{Given, operand_kinds, result_kind, result_of, changed, is_past, has_reached}
+use Rattle.eu_base.specs.Requests.{request_kinds, request_of}
 use Rattle.eu_base.specs.Cells.{Cell, Free, Word, Cells, held_of, IsCell, run_cell, place_in}
 use Rattle.code_form.specs.declared.operand.Operand.{Operand}
 use Rattle.code_form.specs.declared.operand.Operand.TheVariants.{Value as Of, Place as At}
@@ -26,7 +26,6 @@ use Rattle.code_form.specs.declared.operand.OperandKind.{OperandKind}
 use Rattle.code_form.specs.declared.operand.OperandKind.TheVariants.{Value as OfKind, Place as AtKind}
 use Rattle.code_form.specs.declared.waits.Waits.{Waits}
 use Rattle.code_form.specs.declared.waits.Waits.TheVariants.{Nothing}
-use Rattle.code_form.specs.declared.instr.Requested.TheVariants as calls
 use Rattle.code_form.specs.declared.instr.Instr.{Instr}
 use Rattle.code_form.specs.declared.instr.Instr.TheVariants.{Mark, Number, Truth, Outer, Local, Param, Load, Store, Do, Modify, Jump, False, When, Drop}
 use Rattle.code_form.specs.declared.instr.Instr.TheVariants.{Limit, Unlimit, Step, Ask, Call, Refer, Back, Out, End}
@@ -37,7 +36,7 @@ use Rattle.code_form.specs.declared.code.Layout.{Layout}
 use Rattle.code_form.specs.declared.code.Layout.TheVariants as layouts
 use Rattle.code_form.specs.Program.{Program, line_of, instr_of, in_body, deeper, owner, owner_in, owner_at, layout_of, cells_of, cells_in, cells_at}
 use Rattle.code_form.specs.Program.{frame_cells}
-use Rattle.code_form.specs.Machine.{Frame, Position, free, asking, To, Stops, Unsaid, Move, Goes, Spends, operand_bytes, bytes_on, bytes_of, base_of, at}
+use Rattle.code_form.specs.Machine.{Frame, Position, free, To, Asks, Stops, Unsaid, Move, Goes, Spends, operand_bytes, bytes_on, bytes_of, base_of, at}
 use Rattle.code_form.specs.Machine.{using, goes, pushes, on_value, on_place, on_values, on_operands, on_result, or_halt, on_word, is_free, are_free}
 use Rattle.code_form.specs.Machine.{limit_cell, held_of_operand, frame_contents, link_contents, written_from, enters, calls_to, call_move, refer_move}
 use Rattle.code_form.specs.Machine.{back_into, back_to, out_to, limit_to, instruction, step}
@@ -495,8 +494,10 @@ module _ (p : Program) (valid : IsValid p) (pc : ℕ) (ops : List Operand) (used
         word_safe (limit_cell now cells) _ (λ l. word_safe (cells q) _ (λ n.
         cond_safe (has_reached way (number_of (value_in kinds.Int l)) (number_of (value_in kinds.Int n))) _ _ (λ _. fit a f.2.0 r f.2.3.next g)
         (fit (pc + 1) f.2.0 r f.2.2 g))))
-    safe (Ask calls.PutNumber) ks line f k = one_value ops kinds.Int f.0 _ (subst (Has ops) f.1 k) (λ v r e g. fits_at (pc + 1) f.0 r _ f.2 g)
-    safe (Ask calls.Line) ks line f k = fits_at (pc + 1) f.0 ops _ f.2 (subst (Has ops) f.1 k)
+    safe (Ask q) ks line f k =
+        let e : length (request_kinds q) ≡ length (request_kinds q) + 0 = omega arith in
+        subst (λ n. Safe (on_values n [] ops (λ vs ops. Spends (Asks (at now (pc + 1) ops) (request_of q vs) cells)))) (sym e)
+        (some_values (request_kinds q) 0 f.0 [] ops _ (subst (Has ops) f.1 k) (λ vs r g. fits_at (pc + 1) f.0 r _ f.2 g))
     safe (Call n) ks line f k = call_safe n ks line f k
     safe (Refer n) ks line f k = refer_safe n ks line f k
     safe (Back r) ks line f k =

@@ -15,9 +15,9 @@ use Rattle.eu_base.specs.declared.value.Value.{Value}
 use Rattle.eu_base.specs.declared.value.Value.TheVariants as item
 use Rattle.eu_base.specs.Values.{number_of, truth_of, value_in}
 use Rattle.eu_base.specs.Operations.{Given, operand_kinds, result_of, changed, is_past, has_reached}
+use Rattle.eu_base.specs.Requests.{request_kinds}
 use Rattle.code_form.specs.declared.operand.Operand.{Operand}
 use Rattle.code_form.specs.declared.operand.Operand.TheVariants.{Value as Of, Place as At}
-use Rattle.code_form.specs.declared.instr.Requested.TheVariants as calls
 use Rattle.code_form.specs.declared.instr.Instr.{Instr}
 use Rattle.code_form.specs.declared.instr.Instr.TheVariants.{Mark, Number, Truth, Outer, Local, Param, Load, Store, Do, Modify, Jump, False, When, Drop}
 use Rattle.code_form.specs.declared.instr.Instr.TheVariants.{Limit, Unlimit, Step, Ask, Call, Refer, Back, Out, End}
@@ -27,7 +27,7 @@ use Rattle.code_form.specs.declared.code.Layout.{Layout}
 use Rattle.code_form.specs.declared.code.Layout.TheVariants.{Own}
 use Rattle.code_form.specs.declared.code.Layout.TheVariants as layouts
 use Rattle.code_form.specs.Program.{Program, instr_of}
-use Rattle.code_form.specs.Machine.{Frame, Position, Control, free, After, To, Asks, Stops, Unsaid, Move, Scene, Stage, On, Over, Lost, Rest, operand_bytes}
+use Rattle.code_form.specs.Machine.{Frame, Position, Control, After, To, Asks, Stops, Unsaid, Move, Scene, Stage, On, Over, Lost, Rest, operand_bytes}
 use Rattle.code_form.specs.Machine.{bytes_on, bytes_of, base_of, pushes, on_value, on_place, on_values, on_operands, on_result, or_halt, on_word, is_free}
 use Rattle.code_form.specs.Machine.{are_free, limit_cell, frame_contents, link_contents, written_from, enters, calls_to, call_move, refer_move, back_to}
 use Rattle.code_form.specs.Machine.{out_to, instruction, step, mark_stage, stage, advance, carry_on, exec}
@@ -246,8 +246,7 @@ module _ (p : Program) (valid : IsValid p) where
         (λ k. near_word _ (λ n. near_if (has_reached way (number_of (value_in kinds.Int k)) (number_of (value_in kinds.Int n))) _ _
         (go a (on_jump c.pc a l e (ap (λ i. is_mark (Some i)) is) f.2.3.spaced)) (go (c.pc + 1) (on_next c.pc l e (ap (λ i. is_mark (Some i)) is))))
         (s.cells q)) (limit_cell c s.cells)) c.ops
-    at_instr l e (Ask calls.PutNumber) is f = near_value _ (λ v r. marked s.marks _ (omega arith)) c.ops
-    at_instr l e (Ask calls.Line) is f = marked s.marks _ (omega arith)
+    at_instr l e (Ask q) is f = near_values (length (request_kinds q)) _ (λ vs r. marked s.marks _ (omega arith)) [] c.ops
     at_instr l e (Call n) is f = call_near n (slice_get p.bodies n)
     at_instr l e (Refer n) is f = refer_near n (slice_get p.bodies n)
     at_instr l e (Back k) is f = near_result k _ (λ os. back_near os c.frames (omega arith)) c.ops

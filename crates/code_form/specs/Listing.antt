@@ -10,8 +10,8 @@ use Rattle.eu_base.specs.declared.operation.Change.{Change}
 use Rattle.eu_base.specs.declared.operation.Change.TheVariants.{Increase, Decrease}
 use Rattle.eu_base.specs.declared.operation.Way.{Way}
 use Rattle.eu_base.specs.declared.operation.Way.TheVariants as ways
-use Rattle.code_form.specs.declared.instr.Requested.{Requested}
-use Rattle.code_form.specs.declared.instr.Requested.TheVariants as calls
+use Rattle.eu_base.specs.declared.request.RequestName.{RequestName}
+use Rattle.eu_base.specs.declared.request.RequestName.TheVariants as requests
 use Rattle.code_form.specs.declared.instr.Instr.{Instr}
 use Rattle.code_form.specs.declared.instr.Instr.TheVariants.{Mark, Number, Truth, Outer, Local, Param, Load, Store, Do, Modify, Jump, False, When, Drop, Limit}
 use Rattle.code_form.specs.declared.instr.Instr.TheVariants.{Unlimit, Step, Ask, Call, Refer, Back, Out, End}
@@ -59,9 +59,9 @@ abbrev pub change_name : Change → List ℕ
 change_name Increase = codes "INCR"
 change_name Decrease = codes "DECR"
 
-abbrev pub call_name : Requested → List ℕ
-call_name calls.PutNumber = codes "put(INT)"
-call_name calls.Line = codes "line"
+abbrev pub request_name : RequestName → List ℕ
+request_name requests.PutNumber = codes "put(INT)"
+request_name requests.Line = codes "line"
 
 -- where a body begins, and how many cells its frame has for its parameters and variables
 abbrev pub first_of : Option Entry → ℕ
@@ -90,7 +90,7 @@ instr_text bodies Drop = codes "DROP"
 instr_text bodies (Limit way a) = codes "LIMIT " ++ way_word way ++ codes " " ++ decimal a
 instr_text bodies Unlimit = codes "UNLIMIT"
 instr_text bodies (Step way a) = way_word way ++ codes " " ++ decimal a
-instr_text bodies (Ask call) = codes "ASK " ++ call_name call
+instr_text bodies (Ask name) = codes "ASK " ++ request_name name
 instr_text bodies (Call n) = codes "CALL " ++ decimal (first_of (slice_get bodies n)) ++ codes " " ++ decimal (cells_of_frame (slice_get bodies n))
 instr_text bodies (Refer n) = codes "REFER " ++ decimal (first_of (slice_get bodies n))
 instr_text bodies (Back kind) = codes "BACK"

@@ -14,7 +14,8 @@ use Rattle.eu_base.specs.declared.request.Request.{Request}
 use Rattle.eu_base.specs.declared.request.Reply.{Reply}
 use Rattle.eu_base.specs.Values.{number_of, truth_of, blank_of, value_in}
 use Rattle.eu_base.specs.Room.{value_bytes, place_bytes, cells_fit, bytes_fit}
-use Rattle.eu_base.specs.Operations.{Given, operand_kinds, result_of, changed, is_past, has_reached, next_number, put_request, line_request}
+use Rattle.eu_base.specs.Operations.{Given, operand_kinds, result_of, changed, is_past, has_reached, next_number}
+use Rattle.eu_base.specs.Requests.{request_kinds, request_of}
 use Rattle.eu_base.specs.Cells.{Cell, Free, Word, Cells, held_of, run_cell, place_number, place_in, written, without}
 use Rattle.code_form.specs.declared.operand.Operand.{Operand}
 use Rattle.code_form.specs.declared.operand.Operand.TheVariants.{Value as Of, Place as At}
@@ -22,8 +23,6 @@ use Rattle.code_form.specs.declared.halt.Halt.{Halt}
 use Rattle.code_form.specs.declared.halt.Halt.TheVariants as halts
 use Rattle.code_form.specs.declared.waits.Waits.{Waits}
 use Rattle.code_form.specs.declared.waits.Waits.TheVariants.{Nothing, Asked, Refused}
-use Rattle.code_form.specs.declared.instr.Requested.{Requested}
-use Rattle.code_form.specs.declared.instr.Requested.TheVariants as calls
 use Rattle.code_form.specs.declared.instr.Instr.{Instr}
 use Rattle.code_form.specs.declared.instr.Instr.TheVariants.{Mark, Number, Truth, Outer, Local, Param, Load, Store, Do, Modify, Jump, False, When, Drop}
 use Rattle.code_form.specs.declared.instr.Instr.TheVariants.{Limit, Unlimit, Step, Ask, Call, Refer, Back, Out, End}
@@ -144,11 +143,6 @@ on_word Free go = Unknown
 abbrev pub on_number : Cell → (ℤ → Move) → Move
 on_number cell go = on_word cell (λ n. go (number_of (value_in kinds.Int n)))
 
--- the request that a call makes of its operands
-abbrev pub on_call : Requested → List Operand → (Request → List Operand → Move) → Move
-on_call calls.PutNumber ops go = on_value ops (λ v. go (put_request (number_of v)))
-on_call calls.Line ops go = go line_request ops
-
 -- what stands for an operand in a cell
 abbrev pub held_of_operand : Operand → Cell
 held_of_operand (Of v) = held_of v
@@ -262,7 +256,8 @@ instruction p (Some Unlimit) c cells = Goes (using (at c (c.pc + 1) c.ops) (c.us
 instruction p (Some (Step way a)) c cells =
     on_place c.ops (λ x ops. on_number (limit_cell c cells) (λ limit. on_number (cells x) (λ z.
     cond (has_reached way limit z) (Goes (at c a ops) cells) (goes c ops (written cells x (held_of (item.Int (next_number way z))))))))
-instruction p (Some (Ask call)) c cells = on_call call c.ops (λ q ops. Spends (Asks (at c (c.pc + 1) ops) q cells))
+instruction p (Some (Ask name)) c cells =
+    on_values (length (request_kinds name)) [] c.ops (λ vs ops. Spends (Asks (at c (c.pc + 1) ops) (request_of name vs) cells))
 instruction p (Some (Call n)) c cells = call_move c n (slice_get p.bodies n) cells
 instruction p (Some (Refer n)) c cells = refer_move c n (slice_get p.bodies n) cells
 instruction p (Some (Back kind)) c cells = on_result kind c.ops (λ result. back_to result c.used c.frames cells)

@@ -5,13 +5,12 @@ use Rattle.eu_base.specs.declared.value.Kind.TheVariants as kinds
 use Rattle.eu_base.specs.Values.{kind_of}
 use Rattle.eu_base.specs.Room.{cells_fit, bytes_fit}
 use Rattle.eu_base.specs.Operations.{operand_kinds, result_kind}
+use Rattle.eu_base.specs.Requests.{request_kinds}
 use Rattle.eu_base.specs.Cells.{IsCell}
 use Rattle.code_form.specs.declared.operand.Operand.{Operand}
 use Rattle.code_form.specs.declared.operand.Operand.TheVariants.{Value as Of, Place as At}
 use Rattle.code_form.specs.declared.operand.OperandKind.{OperandKind}
 use Rattle.code_form.specs.declared.operand.OperandKind.TheVariants.{Value, Place}
-use Rattle.code_form.specs.declared.instr.Requested.{Requested}
-use Rattle.code_form.specs.declared.instr.Requested.TheVariants as calls
 use Rattle.code_form.specs.declared.instr.Instr.{Instr}
 use Rattle.code_form.specs.declared.instr.Instr.TheVariants.{Mark, Number, Truth, Outer, Local, Param, Load, Store, Do, Modify, Jump, False, When, Drop, Limit}
 use Rattle.code_form.specs.declared.instr.Instr.TheVariants.{Unlimit, Step, Ask, Call, Refer, Back, Out, End}
@@ -46,11 +45,6 @@ pushed_kinds (k ∷ more) ks = pushed_kinds more (Value k ∷ ks)
 abbrev pub pushed_operands : List OperandKind → List OperandKind → List OperandKind
 pushed_operands [] ks = ks
 pushed_operands (k ∷ more) ks = pushed_operands more (k ∷ ks)
-
--- what a request takes
-abbrev pub call_kinds : Requested → List Kind
-call_kinds calls.PutNumber = kinds.Int ∷ []
-call_kinds calls.Line = []
 
 -- with a result, where there is one
 abbrev pub with_result : Option Kind → List OperandKind → List OperandKind
@@ -124,7 +118,7 @@ IsFine p pc (Limit way a) ks m =
 IsFine p pc Unlimit ks m = (outer : Spot) × (m ≡ deeper outer) × Next p.lines (pc + 1) ks outer
 IsFine p pc (Step way a) ks m =
     (outer : Spot) × (m ≡ deeper outer) × ((rest : List OperandKind) × (ks ≡ Place kinds.Int ∷ rest) × Next p.lines (pc + 1) rest m × Lands p.lines pc a rest m)
-IsFine p pc (Ask call) ks m = (rest : List OperandKind) × (ks ≡ pushed_kinds (call_kinds call) rest) × Next p.lines (pc + 1) rest m
+IsFine p pc (Ask name) ks m = (rest : List OperandKind) × (ks ≡ pushed_kinds (request_kinds name) rest) × Next p.lines (pc + 1) rest m
 IsFine p pc (Call n) ks m = IsCalled p pc n ks m
 IsFine p pc (Refer n) ks m = IsReferred p pc n ks m
 IsFine p pc (Back result) ks m = IsLeft p result ks m

@@ -1,6 +1,6 @@
 //! Instructions.
 
-use eu_base::{Change, Kind, Operation, Way};
+use eu_base::{Change, Kind, Operation, RequestName, Way};
 
 /// What one step of the machine does. A jump names the number of the instruction that it goes to.
 #[derive(Clone, Copy, PartialEq, Eq)]
@@ -40,8 +40,8 @@ pub enum Instr {
     Unlimit,
     /// Takes a place, and jumps where the number there has reached the innermost limit; else steps it.
     Step(Way, usize),
-    /// Spends a mark, and makes a request.
-    Ask(Requested),
+    /// Spends a mark, takes operands, and makes a request.
+    Ask(RequestName),
     /// Spends a mark, and goes to the PROC with this number, whose parameters it takes, with a new frame.
     Call(usize),
     /// Spends a mark, and goes to the refinement with this number, with a new frame over the same cells.
@@ -52,13 +52,4 @@ pub enum Instr {
     Out(Option<Kind>),
     /// Ends the command.
     End,
-}
-
-/// What is requested.
-#[derive(Clone, Copy, PartialEq, Eq)]
-pub enum Requested {
-    /// `put` of a number, which it takes.
-    PutNumber,
-    /// `line`
-    Line,
 }

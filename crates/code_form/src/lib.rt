@@ -10,7 +10,7 @@ mod waits;
 
 pub use code::{Code, Entry, Layout, Line, Spot};
 pub use halt::Halt;
-pub use instr::{Instr, Requested};
+pub use instr::Instr;
 pub use operand::{Operand, OperandKind};
 pub use text::listing;
 pub use waits::Waits;

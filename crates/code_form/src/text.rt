@@ -1,13 +1,13 @@
 //! Code as text.
 ghost use Rattle.std.specs.Prelude.{◌≡◌, ◌++◌, IfOk, OnOk, length, slice_get, codes};
 ghost use Rattle.std.specs.Fmt.{decimal, signed_decimal};
-ghost use Rattle.code_form.specs.Listing.{truth_word, kind_word, way_word, operation_name, change_name, call_name, first_of, cells_of_frame, instr_text};
+ghost use Rattle.code_form.specs.Listing.{truth_word, kind_word, way_word, operation_name, change_name, request_name, first_of, cells_of_frame, instr_text};
 ghost use Rattle.code_form.specs.Listing.{line_text, listing_text};
 ghost use Rattle.code_form.specs.Program.{cells_of};
 
 use crate::code::{Code, Entry, Layout};
-use crate::instr::{Instr, Requested};
-use eu_base::{Bytes, Change, Kind, NoMemory, Operation, Way};
+use crate::instr::Instr;
+use eu_base::{Bytes, Change, Kind, NoMemory, Operation, RequestName, Way};
 use itoa::Buffer;
 use std::alloc::Global;
 
@@ -88,9 +88,9 @@ fn append_instr(out: &mut Bytes, bodies: &[Entry], instr: Instr) -> Result<(), N
             out.append(way_word(way))?;
             append_with(out, b" ", to)
         }
-        Instr::Ask(call) => {
+        Instr::Ask(name) => {
             out.append(b"ASK ")?;
-            out.append(call_name(call))
+            out.append(request_name(name))
         }
         Instr::Call(body) => {
             append_with(out, b"CALL ", first_of(bodies, body))?;
@@ -221,11 +221,11 @@ fn change_name(change: Change) -> &'static [u8]
     }
 }
 
-fn call_name(call: Requested) -> &'static [u8]
-    ensures { result.now ≡ call_name call }
+fn request_name(name: RequestName) -> &'static [u8]
+    ensures { result.now ≡ request_name name }
 {
-    match call {
-        Requested::PutNumber => b"put(INT)",
-        Requested::Line => b"line",
+    match name {
+        RequestName::PutNumber => b"put(INT)",
+        RequestName::Line => b"line",
     }
 }

@@ -6,16 +6,6 @@ ghost use Rattle.elan_meant.specs.Parts as spec;
 use eu_base::{List, NoMemory};
 use std::alloc::Global;
 
-/// The only part, where there is one.
-pub fn one_of<T: Drop>(mut parts: List<T>) -> Option<T>
-    ensures { result ≡ spec.one_of parts }
-{
-    if parts.len() != 1 {
-        return None;
-    }
-    parts.pop()
-}
-
 /// Two parts, where there are two.
 pub fn two_of<T: Drop>(mut parts: List<T>) -> Option<(T, T)>
     ensures { result ≡ spec.two_of parts }

@@ -31,7 +31,7 @@ use Rattle.elan_types.specs.declared.core_phrase.Actual.{Actual}
 use Rattle.elan_types.specs.declared.core_phrase.Actual.TheVariants as actual
 use Rattle.elan_scope.specs.declared.callable.Callee.{Callee}
 use Rattle.elan_scope.specs.declared.callable.Callee.TheVariants.{Predefined, Body}
-use Rattle.elan_scope.specs.declared.predefined.Predefined.TheVariants.{Operation, Change, Put, Line}
+use Rattle.elan_scope.specs.declared.predefined.Predefined.TheVariants.{Operation, Change, Request}
 use Rattle.elan_scope.specs.Phrase as form
 use Rattle.elan_scope.specs.Phrase.{Form}
 use Rattle.elan_scope.specs.Ruled.{Ruled, gives, breaks, hangs, ◌>>=◌, before}
@@ -112,11 +112,7 @@ performed at (Predefined (Change ch)) o (actual.Place x t ∷ []) = refl
 performed at (Predefined (Change ch)) o (actual.Place x t ∷ actual.Value v ∷ []) = refl
 performed at (Predefined (Change ch)) o (actual.Place x t ∷ actual.Value v ∷ a ∷ as') = refl
 performed at (Predefined (Change ch)) o (actual.Place x t ∷ actual.Place y u ∷ as') = refl
-performed at (Predefined Put) o [] = refl
-performed at (Predefined Put) o (actual.Value v ∷ []) = refl
-performed at (Predefined Put) o (actual.Value v ∷ a ∷ as') = refl
-performed at (Predefined Put) o (actual.Place x t ∷ as') = refl
-performed at (Predefined Line) o as' = refl
+performed at (Predefined (Request q)) o as' = refl
 performed at (Body n) None as' = refl
 performed at (Body n) (Some t) as' = refl
 

@@ -4,6 +4,8 @@ use Rattle.eu_base.specs.Operations.{operand_kinds, result_kind, in_range}
 use Rattle.eu_base.specs.declared.operation.Operation.{Operation}
 use Rattle.eu_base.specs.declared.operation.Change.{Change}
 use Rattle.eu_base.specs.declared.operation.Way.{Way}
+use Rattle.eu_base.specs.declared.request.RequestName.{RequestName}
+use Rattle.eu_base.specs.Requests.{request_kinds}
 use Rattle.elan_types.specs.declared.elan_type.ElanType.{ElanType}
 use Rattle.elan_types.specs.declared.elan_type.ElanType.TheVariants.{Int, Bool as Truths}
 use Rattle.elan_types.specs.declared.core_phrase.PlacePhrase.{PlacePhrase}
@@ -139,11 +141,8 @@ module _ (here : Stand) where
       → typed (action.Select a arms ws) ≡ (has Int (type a) && (all_true (map arm_typed arms) && all_true (map typed ws)))
   select_is a arms ws = ap typed (sym (action.rolls-Select a arms ws)) ∙ of_action (t.Action::Select a arms ws)
 
-  pub put_is : (a : ValuePhrase) → typed (action.Put a) ≡ has Int (type a)
-  put_is a = ap typed (sym (action.rolls-Put a)) ∙ of_action (t.Put a)
-
-  pub line_is : typed action.Line ≡ true
-  line_is = ap typed (sym action.rolls-Line) ∙ of_action t.Line
+  pub ask_is : (q : RequestName) (as' : List ValuePhrase) → typed (action.Ask q as') ≡ have (map type_in (request_kinds q)) (map type as')
+  ask_is q as' = ap typed (sym (action.rolls-Ask q as')) ∙ of_action (t.Ask q as')
 
   pub arm_is : (ns : List ℤ) (us : List Action) → arm_typed (record { labels = ns; units = us }) ≡ all_true (map typed us)
   arm_is ns us = ap arm_typed (sym (rolls-Arm' (record { labels = ns; units = us }))) ∙ rw fold-roll-Arm refl

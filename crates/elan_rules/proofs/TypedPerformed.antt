@@ -29,17 +29,18 @@ use Rattle.elan_scope.specs.Scope as scope
 use Rattle.elan_scope.specs.Scope.{Callable, number_of, held, all_held, types_of, variables_of, or_else}
 use Rattle.eu_base.specs.declared.value.Kind.{Kind}
 use Rattle.eu_base.specs.Operations.{operand_kinds}
+use Rattle.eu_base.specs.Requests.{request_kinds}
 use Rattle.elan_scope.specs.declared.callable.Callee.{Callee}
 use Rattle.elan_scope.specs.declared.callable.Callee.TheVariants as Callees
 use Rattle.elan_scope.specs.declared.predefined.Predefined.{Predefined}
-use Rattle.elan_scope.specs.declared.predefined.Predefined.TheVariants.{Operation, Change, Put, Line}
+use Rattle.elan_scope.specs.declared.predefined.Predefined.TheVariants.{Operation, Change, Request}
 use Rattle.elan_scope.specs.Predefined.{Row, parameters, result, variable}
 use Rattle.elan_meant.specs.Operands.{delivers, fit}
 use Rattle.elan_rules.proofs.Typed as ty
 use Rattle.elan_rules.proofs.Typed.{same_is, same_self, has_self, agree_self, only_if_holds, both, and_true, Gives, on_if, on_bind}
 use Rattle.elan_meant.specs.Parts as p
 use Rattle.value_rules.specs.Calls as r
-use Rattle.elan_rules.proofs.TypeEquations.{Stand, type, lies, actual_type, apply_is, modify_is, put_is, line_is, call_is, action_call_is, given_value_is}
+use Rattle.elan_rules.proofs.TypeEquations.{Stand, type, lies, actual_type, apply_is, modify_is, ask_is, call_is, action_call_is, given_value_is}
 use Rattle.elan_rules.proofs.TypeEquations.{given_place_is}
 
 on_before : {A : Type 0} (P : A → Type 0) (Q : List A → Type 0) (q : Ruled A) (qs : Ruled (List A)) → Gives P q → Gives Q qs → (S : List A → Type 0)
@@ -193,12 +194,8 @@ module _ (here : Stand) where
       ty.single_typed here (action.Modify c x v) (modify_is here c x v ∙ and_true _ _ (place_lies Int t x b.0) (value_has Int v (both _ _ b.1).0))
   predefined_performs (Change c) (actual.Place x t ∷ actual.Value v ∷ a ∷ as') h at = tt
   predefined_performs (Change c) (actual.Place x t ∷ actual.Place y u ∷ as') h at = tt
-  predefined_performs Put [] h at = tt
-  predefined_performs Put (actual.Value v ∷ []) h at =
-      ty.single_typed here (action.Put v) (put_is here v ∙ value_has Int v (both _ _ h).0)
-  predefined_performs Put (actual.Value v ∷ a ∷ as') h at = tt
-  predefined_performs Put (actual.Place x t ∷ as') h at = tt
-  predefined_performs Line as' h at = ty.single_typed here action.Line (line_is here)
+  predefined_performs (Request q) as' h at =
+      ty.single_typed here (action.Ask q (r.values_in as')) (ask_is here q (r.values_in as') ∙ values_have (request_kinds q) as' h)
 
   -- ---- what can be called
 

@@ -1,9 +1,11 @@
--- The table of the predefined operators and procedures, with `put` of a number and `line`.
+-- The table of the predefined operators and procedures, requests among them.
 use Rattle.std.specs.Prelude.{ℕ, List, [], ◌∷◌, map, Option, Some, None, codes}
-use Rattle.eu_base.specs.declared.operation.Operation.{Operation as Op}
+use Rattle.eu_base.specs.declared.value.Kind.{Kind}
 use Rattle.eu_base.specs.declared.operation.Operation.TheVariants as op
 use Rattle.eu_base.specs.declared.operation.Change.TheVariants as change
+use Rattle.eu_base.specs.declared.request.RequestName.TheVariants as request
 use Rattle.eu_base.specs.Operations.{operand_kinds, result_kind}
+use Rattle.eu_base.specs.Requests.{request_kinds}
 use Rattle.elan_types.specs.declared.elan_type.ElanType.{ElanType}
 use Rattle.elan_types.specs.declared.elan_type.ElanType.TheVariants.{Int}
 use Rattle.elan_types.specs.declared.core_phrase.Access.TheVariants.{Var}
@@ -12,7 +14,7 @@ use Rattle.elan_types.specs.Typing.{type_in, held_const}
 use Rattle.elan_scope.specs.declared.heading.Sort.{Sort}
 use Rattle.elan_scope.specs.declared.heading.Sort.TheVariants.{Procedure, Operator}
 use Rattle.elan_scope.specs.declared.predefined.Predefined.{Predefined}
-use Rattle.elan_scope.specs.declared.predefined.Predefined.TheVariants.{Operation, Change, Put, Line}
+use Rattle.elan_scope.specs.declared.predefined.Predefined.TheVariants.{Operation, Change, Request}
 
 -- an operator or a procedure, its name, and what it is
 abbrev pub Row : Type 0
@@ -44,25 +46,25 @@ predefined =
     ∷ (Procedure, codes "min", Operation op.Minimum)
     ∷ (Procedure, codes "max", Operation op.Maximum)
     ∷ (Procedure, codes "maxint", Operation op.Largest)
-    ∷ (Procedure, codes "put", Put)
-    ∷ (Procedure, codes "line", Line)
+    ∷ (Procedure, codes "put", Request request.PutNumber)
+    ∷ (Procedure, codes "line", Request request.Line)
     ∷ []
 
--- The operands of an operation are values, of the types of its kinds.
-abbrev pub operands : Op → List Parameter
-operands o = map (λ k. held_const (type_in k)) (operand_kinds o)
+-- The operands of operations and requests are values, of the types of their kinds.
+abbrev pub values : List Kind → List Parameter
+values kinds = map (λ k. held_const (type_in k)) kinds
 
 abbrev pub variable : ElanType → Parameter
 variable t = record { of = t; access = Var }
 
 -- what each is given
 abbrev pub parameters : Predefined → List Parameter
-parameters (Operation o) = operands o
+parameters (Operation o) = values (operand_kinds o)
 parameters (Change c) = variable Int ∷ held_const Int ∷ []
-parameters Put = held_const Int ∷ []
-parameters Line = []
+parameters (Request name) = values (request_kinds name)
 
 -- the type that each delivers, or nothing
 abbrev pub result : Predefined → Option ElanType
 result (Operation o) = Some (type_in (result_kind o))
-result _ = None
+result (Change c) = None
+result (Request name) = None

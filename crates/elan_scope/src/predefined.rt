@@ -1,11 +1,13 @@
 //! The predefined operators and procedures.
 
 ghost use Rattle.std.specs.Prelude.{◌≡◌, map};
+ghost use Rattle.eu_base.specs.Operations.{operand_kinds};
+ghost use Rattle.eu_base.specs.Requests.{request_kinds};
 ghost use Rattle.elan_types.specs.Typing.{type_in};
 ghost use Rattle.elan_scope.specs.Predefined as spec;
 
 use crate::heading::Sort;
-use elan_types::{Access, Change, ElanType, Operation, Parameter};
+use elan_types::{Access, Change, ElanType, Operation, Parameter, RequestName};
 use eu_base::Kind;
 
 /// What a predefined name is.
@@ -15,10 +17,8 @@ pub enum Predefined {
     Operation(Operation),
     /// It changes the variable that is its first operand.
     Change(Change),
-    /// `put` of a number
-    Put,
-    /// `line`
-    Line,
+    /// It makes a request.
+    Request(RequestName),
 }
 
 /// Whether it is an operator or a procedure, its name, and what it is.
@@ -125,8 +125,16 @@ const PREDEFINED: [Row; 26] = [
         b"maxint",
         Predefined::Operation(Operation::Largest),
     ),
-    (Sort::Procedure, b"put", Predefined::Put),
-    (Sort::Procedure, b"line", Predefined::Line),
+    (
+        Sort::Procedure,
+        b"put",
+        Predefined::Request(RequestName::PutNumber),
+    ),
+    (
+        Sort::Procedure,
+        b"line",
+        Predefined::Request(RequestName::Line),
+    ),
 ];
 
 /// A row for each predefined operator and procedure.
@@ -154,7 +162,7 @@ const INT_VAR: Parameter = Parameter {
 
 // The operands of an operation are values.
 fn operands(operation: Operation) -> &'static [Parameter]
-    ensures { result.now ≡ spec.operands operation }
+    ensures { result.now ≡ spec.values (operand_kinds operation) }
 {
     match operation {
         Operation::Largest => &[],
@@ -177,6 +185,16 @@ fn operands(operation: Operation) -> &'static [Parameter]
     }
 }
 
+// The operands of a request are values.
+fn request_operands(name: RequestName) -> &'static [Parameter]
+    ensures { result.now ≡ spec.values (request_kinds name) }
+{
+    match name {
+        RequestName::PutNumber => &[INT],
+        RequestName::Line => &[],
+    }
+}
+
 fn type_in(kind: Kind) -> ElanType
     ensures { result ≡ type_in kind }
 {
@@ -194,8 +212,7 @@ impl Predefined {
         match self {
             Predefined::Operation(operation) => operands(operation),
             Predefined::Change(_) => &[INT_VAR, INT],
-            Predefined::Put => &[INT],
-            Predefined::Line => &[],
+            Predefined::Request(name) => request_operands(name),
         }
     }
 
@@ -206,8 +223,7 @@ impl Predefined {
         match self {
             Predefined::Operation(operation) => Some(type_in(operation.result_kind())),
             Predefined::Change(_) => None,
-            Predefined::Put => None,
-            Predefined::Line => None,
+            Predefined::Request(_) => None,
         }
     }
 }

@@ -13,7 +13,8 @@ use Rattle.eu_base.specs.declared.operation.Change.TheVariants.{Increase}
 use Rattle.eu_base.specs.declared.operation.Way.{Way}
 use Rattle.eu_base.specs.Values.{number_of, truth_of, blank_of}
 use Rattle.eu_base.specs.Room.{value_bytes, place_bytes, cells_fit, bytes_fit}
-use Rattle.eu_base.specs.Operations.{Given, result_of, changed, is_past, has_reached, next_number, put_request, line_request}
+use Rattle.eu_base.specs.Operations.{Given, result_of, changed, is_past, has_reached, next_number}
+use Rattle.eu_base.specs.Requests.{request_of}
 use Rattle.elan_types.specs.declared.core_phrase.PlacePhrase.{PlacePhrase}
 use Rattle.elan_types.specs.declared.core_phrase.PlacePhrase.TheVariants.{Variable, Local, Parameter}
 use Rattle.elan_types.specs.declared.core_phrase.Exit.{Exit}
@@ -298,8 +299,7 @@ action_step (t.Action::Select a arms us) n w = bind (a n w) (λ v. selected (num
 action_step (t.Loop while' us until) n w = turns n.turns (turn while' (all us) until go_on n) w
 action_step (t.Count p from way limit while' us until) n w =
     bind (stored p from n w) (λ _. counted p way limit (turn while' (all us) until) n)
-action_step (t.Put a) n w = bind (a n w) (λ v. ask (put_request (number_of v)) (λ _. Gives tt))
-action_step t.Line n w = ask line_request (λ _. Gives tt) w
+action_step (t.Ask name as') n w = bind (values as' n w) (λ vs. ask (request_of name vs) (λ _. Gives tt))
 action_step (t.Action::Call p as') n w = bind (actuals as' n w) (λ xs w. bind (n.calls.call p xs n.held w) (λ _. Gives tt))
 action_step (t.Action::Refer p) n w = bind (n.calls.refer p n.base n.held w) (λ _. Gives tt)
 action_step (t.Leave e) n w = Left e None w

@@ -5,6 +5,7 @@ use Rattle.elan_types.specs.declared.elan_type.ElanType.TheVariants as types
 use Rattle.eu_base.specs.declared.value.Kind.{Kind}
 use Rattle.eu_base.specs.declared.value.Kind.TheVariants as kinds
 use Rattle.eu_base.specs.Operations.{operand_kinds, result_kind, in_range}
+use Rattle.eu_base.specs.Requests.{request_kinds}
 use Rattle.elan_types.specs.declared.core_phrase.PlacePhrase.{PlacePhrase}
 use Rattle.elan_types.specs.declared.core_phrase.PlacePhrase.TheVariants.{Variable, Local, Parameter}
 use Rattle.elan_types.specs.declared.core_phrase.Access.{Access}
@@ -245,8 +246,7 @@ module _ (variables : List ElanType) (bodies : List Body) (home : Home) where
   action_typed_step (t.Count p from way limit c us u) =
       has types.Int (place_type p)
       && (has types.Int from && (has_if_written types.Int limit && (has_if_written types.Bool c && (all_true us && has_if_written types.Bool u))))
-  action_typed_step (t.Put a) = has types.Int a
-  action_typed_step t.Line = true
+  action_typed_step (t.Ask name as') = have (map type_in (request_kinds name)) as'
   action_typed_step (t.Action::Call p as') = taken_by (scope_of (slice_get bodies p)) as' && is_none (delivered_by (slice_get bodies p))
   action_typed_step (t.Action::Refer p) = refines (owner bodies home) (scope_of (slice_get bodies p)) && is_none (delivered_by (slice_get bodies p))
   action_typed_step (t.Leave e) = leaves_without (left_from bodies e home)

@@ -2,7 +2,7 @@
 //! making of code go by structure alone.
 
 use crate::elan_type::ElanType;
-use eu_base::{Boxed, Change, List, Operation, Way};
+use eu_base::{Boxed, Change, List, Operation, RequestName, Way};
 
 /// The meaning of a program.
 #[derive(Drop)]
@@ -161,10 +161,8 @@ pub enum Action {
         units: List<Action>,
         until: Option<ValuePhrase>,
     },
-    /// `put` of a number.
-    Put(ValuePhrase),
-    /// `line`
-    Line,
+    /// A request, its operands from left to right.
+    Ask(RequestName, List<ValuePhrase>),
     /// A call of a PROC that delivers nothing, its actuals from left to right.
     Call(usize, List<Actual>),
     /// A refinement that delivers nothing.

@@ -12,5 +12,5 @@ pub use core_phrase::{
 };
 pub use elan_type::ElanType;
 pub use env::Env;
-pub use eu_base::{Change, Operation, Way};
+pub use eu_base::{Change, Operation, RequestName, Way};
 pub use why::Why;

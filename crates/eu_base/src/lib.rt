@@ -18,7 +18,7 @@ pub use cells::{MemFault, Memory};
 pub use containers::{Boxed, Bytes, List, NoMemory};
 pub use number::decimal;
 pub use operation::{Change, Operation, Way};
-pub use request::{Reply, Request};
+pub use request::{Reply, Request, RequestName};
 pub use set::Set;
 pub use shape::Shape;
 pub use space::{SPACE_BYTES, Space};

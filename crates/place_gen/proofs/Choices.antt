@@ -7,21 +7,22 @@ use Rattle.eu_base.specs.declared.value.Kind.TheVariants as kinds
 use Rattle.eu_base.specs.declared.value.Value.{Value}
 use Rattle.eu_base.specs.declared.operation.Change.{Change}
 use Rattle.eu_base.specs.Values.{IsOf, number_of, truth_of}
-use Rattle.eu_base.specs.Operations.{Given, changed, put_request, line_request}
+use Rattle.eu_base.specs.Operations.{Given, changed}
+use Rattle.eu_base.specs.Requests.{request_kinds, request_of}
+use Rattle.eu_base.specs.declared.request.RequestName.{RequestName}
 use Rattle.eu_base.specs.Cells.{Cells, held_of, run_cell, written}
 use Rattle.code_form.specs.declared.operand.Operand.{Operand}
 use Rattle.code_form.specs.declared.operand.Operand.TheVariants.{Value as Of}
 use Rattle.code_form.specs.declared.operand.OperandKind.{OperandKind}
 use Rattle.code_form.specs.declared.operand.OperandKind.TheVariants as operand
 use Rattle.code_form.specs.declared.instr.Instr.TheVariants.{Mark, Modify, Jump, False, When, Drop, Ask}
-use Rattle.code_form.specs.declared.instr.Requested.TheVariants as requests
 use Rattle.code_form.specs.declared.code.Spot.{Spot}
 use Rattle.code_form.specs.Program.{Program, line_of}
-use Rattle.code_form.specs.Machine.{Position, free, Goes, at, or_halt, step}
+use Rattle.code_form.specs.Machine.{Position, free, Asks, Goes, Spends, at, or_halt, step}
 use Rattle.elan_types.specs.declared.core_phrase.Exit.{Exit}
 use Rattle.elan_types.specs.declared.core_phrase.PlacePhrase.{PlacePhrase}
 use Rattle.elan_types.specs.Eval.{Place, World, Outcome, Gives, bind, spend, ask, branch, or_stop, fetch, assign, modify, place, holding_place, Calls, Run}
-use Rattle.elan_types.specs.Eval.{holds}
+use Rattle.elan_types.specs.Eval.{holds, values}
 use Rattle.elan_types.specs.Command.{Ending}
 use Rattle.place_gen.specs.Stretch.{Stretch, one, keeps, join, if_code, whens, arm_code, place_code, modify_code}
 use Rattle.place_gen.specs.Correct.{Comes, scene_of}
@@ -31,7 +32,7 @@ use Rattle.place_gen.proofs.Cells.{Uses, Keeps, reads}
 use Rattle.eu_base.proofs.Results.{changed_gives}
 use Rattle.place_gen.proofs.Carry.{finish, Any, AtKind, reach, Ends, Carries, Within, less, stop_comes, then_carries, lead_carries, carries_lead, write_ends}
 use Rattle.place_gen.proofs.Carry.{branch_carries, mark_carries, ask_carries, none_carries, here, ends_at, join_carries}
-use Rattle.place_gen.proofs.Forms.{keep_place, Is, IsValue, IsAction, place_is}
+use Rattle.place_gen.proofs.Forms.{keep_place, pushed, AllOf, all_taken, Is, IsValue, IsAction, place_is}
 
 module _ (p : Program) (body : Option ℕ) where
   pub if_is : {A : Type 0} {Good : Uses → A → Type 0} {push : A → List Operand → List Operand} {t : Run Value} {x y : Run A} {f g h : Stretch}
@@ -202,26 +203,20 @@ module _ (p : Program) (body : Option ℕ) where
             at_x h));
       }
 
-  pub line_is : IsAction p body (λ r. ask line_request (λ _. Gives tt)) (one (Ask requests.Line) keeps)
-  line_is = record {
-    sized = λ ks m pc. refl;
-    goes =
-        λ calls n b pc L ks m c ops home le has.
-        ask_carries p b line_request (at c pc ops) (at c (pc + 1) ops) (λ _. Gives (tt {0})) (λ _. at c (pc + 1) ops)
-        (λ cells. here p pc (Ask requests.Line) ks m has.0 c ops cells) (λ b' r lt. none_carries p b' tt (λ _. at c (pc + 1) ops) tt);
-  }
-
-  pub put_is : {t : Run Value} {f : Stretch} → IsValue p body kinds.Int t f
-      → IsAction p body (λ r w. bind (t r w) (λ v. ask (put_request (number_of v)) (λ _. Gives tt))) (join f (one (Ask requests.PutNumber) (drop 1)))
-  put_is {t} {f} i =
-      let g = one (Ask requests.PutNumber) (drop 1) in record {
+  -- a request takes its operands, and brings nothing back
+  pub ask_is : (x : List (Run Value)) {f : Stretch} (name : RequestName) → Is p body (AllOf (request_kinds name)) pushed (values x) f
+      → IsAction p body (λ r w. bind (values x r w) (λ vs. ask (request_of name vs) (λ _. Gives tt)))
+      (join f (one (Ask name) (drop (length (request_kinds name)))))
+  ask_is x {f} name i =
+      let g = one (Ask name) (drop (length (request_kinds name))) in record {
         sized = join_sized f g i.sized (λ ks m pc. refl);
         goes =
             λ calls n b pc L ks m c ops home le has.
-            join_carries p f g b pc ks m c ops (t (reach calls n c ops)) (λ v. ask (put_request (number_of v)) (λ _. Gives (tt {0}))) (λ v. Of v ∷ ops)
-            (λ _. ops) i.sized has (λ h. i.goes calls n b pc L ks m c ops home le h) (λ h v ok.
+            join_carries p f g b pc ks m c ops (values x (reach calls n c ops)) (λ vs. ask (request_of name vs) (λ _. Gives (tt {0}))) (λ vs. pushed vs ops)
+            (λ _. ops) i.sized has (λ h. i.goes calls n b pc L ks m c ops home le h) (λ h vs oks.
             let q = pc + f.size in
-            ask_carries p b (put_request (number_of v)) (at c q (Of v ∷ ops)) (at c (q + 1) ops) (λ _. Gives (tt {0})) (λ _. at c (q + 1) ops)
-            (λ cells. here p q (Ask requests.PutNumber) (f.leaves ks) m h.0 c (Of v ∷ ops) cells)
+            ask_carries p b (request_of name vs) (at c q (pushed vs ops)) (at c (q + 1) ops) (λ _. Gives (tt {0})) (λ _. at c (q + 1) ops)
+            (λ cells. here p q (Ask name) (f.leaves ks) m h.0 c (pushed vs ops) cells
+            ∙ all_taken (request_kinds name) vs ops (λ vs ops. Spends (Asks (at c (q + 1) ops) (request_of name vs) cells)) oks)
             (λ b' r lt. none_carries p b' tt (λ _. at c (q + 1) ops) tt));
       }

@@ -57,7 +57,7 @@ AreOf-length [] (v ∷ vs) h = absurd h
 AreOf-length (k ∷ ks) [] h = absurd h
 AreOf-length (k ∷ ks) (v ∷ vs) h = ap suc (AreOf-length ks vs h.1)
 
--- an operation takes what was pushed for it
+-- an operation or a request takes what was pushed for it
 taken : (vs : List Value) (n : ℕ) (acc : List Value) (ops : List Operand) (go : List Value → List Operand → Move)
     → on_values (length vs + n) acc (pushed vs ops) go ≡ on_values n (vs ++ acc) ops go
 taken [] n acc ops go = let e : 0 + n ≡ n = omega arith in ap (λ n. on_values n acc ops go) e
@@ -65,7 +65,7 @@ taken (v ∷ vs) n acc ops go =
     let e : suc (length vs) + n ≡ length vs + suc n = omega arith in
     ap (λ n. on_values n acc (pushed vs (Of v ∷ ops)) go) e ∙ taken vs (suc n) acc (Of v ∷ ops) go
 
-all_taken : (ks : List Kind) (vs : List Value) (ops : List Operand) (go : List Value → List Operand → Move) → AreOf ks vs
+pub all_taken : (ks : List Kind) (vs : List Value) (ops : List Operand) (go : List Value → List Operand → Move) → AreOf ks vs
     → on_values (length ks) [] (pushed vs ops) go ≡ go vs ops
 all_taken ks vs ops go h =
     let e : length ks ≡ length vs + 0 = omega (arith, AreOf-length ks vs h) in

@@ -5,6 +5,7 @@ use Rattle.eu_base.specs.declared.value.Kind.{Kind}
 use Rattle.eu_base.specs.declared.value.Kind.TheVariants as kinds
 use Rattle.eu_base.specs.declared.operation.Way.{Way}
 use Rattle.eu_base.specs.Operations.{operand_kinds, result_kind}
+use Rattle.eu_base.specs.Requests.{request_kinds}
 use Rattle.code_form.specs.declared.operand.OperandKind.{OperandKind}
 use Rattle.code_form.specs.declared.operand.OperandKind.TheVariants.{Value as OfKind}
 use Rattle.code_form.specs.declared.instr.Instr.TheVariants.{Back}
@@ -41,7 +42,7 @@ use Rattle.place_gen.proofs.Homes.{Delivers, Agrees, IsHome, agree_is, kind_type
 use Rattle.place_gen.proofs.Homes.{access_is, without_is, with_is, none_is}
 use Rattle.place_gen.proofs.Lines.{HasAt, IsSized, join_sized}
 use Rattle.place_gen.proofs.Tables.{Each, ends_good, leave_fine, Table, ValueTable, ActionTable, above, none_table, join_table, mark_table, number_table}
-use Rattle.place_gen.proofs.Tables.{truth_table, place_table, load_table, store_table, modify_table, put_table, line_table, apply_table, call_table}
+use Rattle.place_gen.proofs.Tables.{truth_table, place_table, load_table, store_table, modify_table, apply_table, ask_table, call_table}
 use Rattle.place_gen.proofs.Tables.{refer_table, leave_table, leave_with_table}
 use Rattle.place_gen.proofs.LoopTables.{if_table, otherwise_table, arm_table, ExitTable, stays_table, while_table, until_table, step_table, AtLeastOne}
 use Rattle.place_gen.proofs.LoopTables.{step_to_table, turn_table, loop_table, counted_none_table, counted_some_table}
@@ -320,8 +321,7 @@ module _ (p : Program) (variables : List ElanType) (bodies : List Body) (agrees 
   action_parts (t.Count q from way (Some a) None us (Some u)) e = counts_is q from way (Some a) None us (Some u) e
   action_parts (t.Count q from way (Some a) (Some w) us None) e = counts_is q from way (Some a) (Some w) us None e
   action_parts (t.Count q from way (Some a) (Some w) us (Some u)) e = counts_is q from way (Some a) (Some w) us (Some u) e
-  action_parts (t.Put a) e = put_table p home (a.1 types.Int (has_is types.Int _ e))
-  action_parts t.Line e = line_table p home
+  action_parts (t.Ask name es) e = ask_table p home name (values_are (request_kinds name) es e)
   action_parts (t.Action::Call q as') e =
       let g = both _ _ e in
       let i = proc_is p variables bodies agrees q _ None g.0 (none_is _ g.1) in

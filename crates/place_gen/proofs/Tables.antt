@@ -6,9 +6,10 @@ use Rattle.eu_base.specs.declared.value.Kind.TheVariants as kinds
 use Rattle.eu_base.specs.declared.operation.Operation.{Operation}
 use Rattle.eu_base.specs.declared.operation.Change.{Change}
 use Rattle.eu_base.specs.Operations.{operand_kinds, result_kind}
+use Rattle.eu_base.specs.Requests.{request_kinds}
+use Rattle.eu_base.specs.declared.request.RequestName.{RequestName}
 use Rattle.code_form.specs.declared.operand.OperandKind.{OperandKind}
 use Rattle.code_form.specs.declared.operand.OperandKind.TheVariants.{Value as OfKind, Place as AtKind}
-use Rattle.code_form.specs.declared.instr.Requested.TheVariants as calls
 use Rattle.code_form.specs.declared.instr.Instr.{Instr}
 use Rattle.code_form.specs.declared.instr.Instr.TheVariants.{Mark, Number, Truth, Load, Store, Do, Modify, Ask, Call, Refer, Back, Out}
 use Rattle.code_form.specs.declared.code.Line.{Line}
@@ -153,12 +154,6 @@ module _ (p : Program) (body : Option ℕ) where
       (join_table (above (pushes (AtKind kinds.Int)) i)
       (one_table (Modify change) (drop 2) (λ ks. OfKind kinds.Int ∷ AtKind kinds.Int ∷ ks) keeps (λ ks. refl) (λ pc ks m home n. (ks, refl, n))))
 
-  pub put_table : {f : Stretch} → ValueTable kinds.Int f → ActionTable (join f (one (Ask calls.PutNumber) (drop 1)))
-  put_table i = join_table i (one_table (Ask calls.PutNumber) (drop 1) (pushes (OfKind kinds.Int)) keeps (λ ks. refl) (λ pc ks m home n. (ks, refl, n)))
-
-  pub line_table : ActionTable (one (Ask calls.Line) keeps)
-  line_table = one_table (Ask calls.Line) keeps keeps keeps (λ ks. refl) (λ pc ks m home n. (ks, refl, n))
-
   pub apply_table : {f : Stretch} (op : Operation) → Table keeps (pushed_kinds (operand_kinds op)) f
       → ValueTable (result_kind op) (join f (one (Do op) (λ ks. OfKind (result_kind op) ∷ drop (length (operand_kinds op)) ks)))
   apply_table op i =
@@ -167,6 +162,14 @@ module _ (p : Program) (body : Option ℕ) where
       (λ ks. let e : length (operand_kinds op) ≡ length (operand_kinds op) + 0 = omega arith in
       ap (λ n. OfKind (result_kind op) ∷ drop n (pushed_kinds (operand_kinds op) ks)) e
       ∙ ap (λ l. OfKind (result_kind op) ∷ l) (drop_kinds (operand_kinds op) ks 0))
+      (λ pc ks m home n. (ks, refl, n)))
+
+  pub ask_table : {f : Stretch} (name : RequestName) → Table keeps (pushed_kinds (request_kinds name)) f
+      → ActionTable (join f (one (Ask name) (drop (length (request_kinds name)))))
+  ask_table name i =
+      join_table i (one_table (Ask name) (drop (length (request_kinds name))) (pushed_kinds (request_kinds name)) keeps
+      (λ ks. let e : length (request_kinds name) ≡ length (request_kinds name) + 0 = omega arith in
+      ap (λ n. drop n (pushed_kinds (request_kinds name) ks)) e ∙ drop_kinds (request_kinds name) ks 0)
       (λ pc ks m home n. (ks, refl, n)))
 
   -- a call finds what its parameters take, and leaves what the PROC delivers

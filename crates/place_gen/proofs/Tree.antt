@@ -8,6 +8,7 @@ use Rattle.eu_base.specs.declared.operation.Way.{Way}
 use Rattle.std.specs.Int.{w16}
 use Rattle.std.specs.Int.RustNames.{FitsSigned}
 use Rattle.eu_base.specs.Operations.{operand_kinds, result_kind}
+use Rattle.eu_base.specs.Requests.{request_kinds}
 use Rattle.eu_base.proofs.Results.{fits_in_range}
 use Rattle.code_form.specs.declared.operand.Operand.{Operand}
 use Rattle.code_form.specs.Program.{Program}
@@ -40,7 +41,7 @@ use Rattle.place_gen.proofs.Cells.{Uses}
 use Rattle.place_gen.proofs.Carry.{Any, OfKind}
 use Rattle.place_gen.proofs.Forms.{Is, IsValue, IsAction, AllOf, pushed, keep, no_more, nothing_is, then_is, number_is, truth_is, place_is, load_is, store_is}
 use Rattle.place_gen.proofs.Forms.{no_values_are, more_values_are, apply_is}
-use Rattle.place_gen.proofs.Choices.{if_is, IsChoice, otherwise_is, arm_is, select_is, unit_is, modify_is, put_is, line_is}
+use Rattle.place_gen.proofs.Choices.{if_is, IsChoice, otherwise_is, arm_is, select_is, unit_is, modify_is, ask_is}
 use Rattle.place_gen.proofs.Calls.{IsActual, AreActuals, value_actual, place_actual, no_actuals_are, more_actuals_are, call_value_is, call_action_is}
 use Rattle.place_gen.proofs.Calls.{refer_value_is, refer_action_is, leave_is, leave_with_is}
 use Rattle.place_gen.proofs.Loops.{IsExit, Under, while_none, while_some, until_none, until_some, go_on_is, turn_is, loop_is, step_is, step_to_is}
@@ -343,8 +344,7 @@ module _ (p : Program) (variables : List ElanType) (bodies : List Body) (agrees 
   action_parts (t.Count q from way (Some a) None us (Some u)) e = counts_is q from way (Some a) None us (Some u) e
   action_parts (t.Count q from way (Some a) (Some w) us None) e = counts_is q from way (Some a) (Some w) us None e
   action_parts (t.Count q from way (Some a) (Some w) us (Some u)) e = counts_is q from way (Some a) (Some w) us (Some u) e
-  action_parts (t.Put a) e = put_is p home (a.1 types.Int (has_is types.Int _ e))
-  action_parts t.Line e = line_is p home
+  action_parts (t.Ask name es) e = ask_is p home (map value (map fst es)) name (values_are (request_kinds name) es e)
   action_parts (t.Action::Call q as') e =
       let g = both _ _ e in
       let x = proc_is p variables bodies agrees q _ None g.0 (none_is _ g.1) in

@@ -14,10 +14,10 @@ use crate::count::{count_actions, count_arms, count_loop, count_value, count_val
 use crate::draft::Draft;
 use crate::put::{
     Step, kind_in, leave_instr, place_instr, put_call, put_else, put_jump, put_load, put_number,
-    put_operation, put_place, put_refer, put_step, put_test, put_truth, put_whens, step_size,
-    without_first,
+    put_operation, put_place, put_refer, put_request, put_step, put_test, put_truth, put_whens,
+    step_size, without_first,
 };
-use code_form::{Instr, OperandKind, Requested};
+use code_form::{Instr, OperandKind};
 use elan_types::{Action, Actual, Arm, Content, ValueArm, ValuePhrase};
 use eu_base::{Kind, NoMemory, Way};
 
@@ -198,11 +198,10 @@ fn add_action(out: &mut Draft, action: &Action)
             add_value(out, v);
             add_parts(out, action);
         }
-        Action::Put(value) => {
-            add_value(out, value);
-            out.add(Instr::Ask(Requested::PutNumber), 1, None);
+        Action::Ask(name, operands) => {
+            add_values(out, operands.as_slice());
+            put_request(out, *name);
         }
-        Action::Line => out.add(Instr::Ask(Requested::Line), 0, None),
         Action::Loop { .. } => add_turns(out, action, Step::None),
         Action::Count { .. } => add_count(out, action),
         Action::Call(_, _) | Action::Refer(_) | Action::Leave(_) | Action::LeaveWith(_, _, _) => {

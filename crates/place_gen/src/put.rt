@@ -1,6 +1,7 @@
 //! Single instructions, and the few that always stand together.
 ghost use Rattle.std.specs.Prelude.{◌≡◌, ◌∷◌, ◌+◌, ℕ, length, drop};
 ghost use Rattle.eu_base.specs.Operations.{operand_kinds, result_kind};
+ghost use Rattle.eu_base.specs.Requests.{request_kinds};
 ghost use Rattle.eu_base.specs.declared.value.Kind.TheVariants as kinds;
 ghost use Rattle.code_form.specs.declared.operand.OperandKind.TheVariants as operand;
 ghost use Rattle.code_form.specs.declared.instr.Instr.TheVariants as instrs;
@@ -14,7 +15,7 @@ ghost use Rattle.place_gen.specs.Steps.{step_exit};
 use crate::draft::Draft;
 use code_form::{Instr, OperandKind};
 use elan_types::{ElanType, Exit, PlacePhrase};
-use eu_base::{Change, Kind, Operation, Way};
+use eu_base::{Change, Kind, Operation, RequestName, Way};
 
 /// How the counter of a loop is stepped, whose place an instruction pushes.
 #[derive(Clone, Copy)]
@@ -136,6 +137,13 @@ pub fn put_operation(out: &mut Draft, operation: Operation)
         operation.operand_kinds().len(),
         Some(OperandKind::Value(operation.result_kind())),
     );
+}
+
+/// A request with the operands on top.
+pub fn put_request(out: &mut Draft, name: RequestName)
+    ensures { Makes (one (instrs.Ask name) (drop (length (request_kinds name)))) out.old out.new }
+{
+    out.add(Instr::Ask(name), name.operand_kinds().len(), None);
 }
 
 /// A call of the PROC with this number, which takes so many operands.

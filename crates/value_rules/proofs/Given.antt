@@ -7,7 +7,7 @@ use Rattle.elan_types.specs.declared.core_phrase.Actual.TheVariants as actual
 use Rattle.elan_scope.specs.declared.callable.Callee.TheVariants.{Predefined}
 use Rattle.elan_scope.specs.declared.predefined.Predefined.TheVariants as names
 use Rattle.elan_meant.specs.declared.meant.Meant.TheVariants.{Done}
-use Rattle.elan_meant.specs.Parts.{unasked, one_of, two_of}
+use Rattle.elan_meant.specs.Parts.{unasked, two_of}
 use Rattle.elan_types.specs.declared.core_phrase.Parameter.{Parameter}
 use Rattle.elan_types.specs.declared.core_phrase.Actual.{Actual}
 use Rattle.elan_scope.specs.Ruled.{Ruled, gives, before}
@@ -57,14 +57,3 @@ changed_is c at r (actual.Value w ∷ a ∷ []) = refl
 changed_is c at r (actual.Place x t ∷ actual.Value v ∷ d ∷ as') = refl
 changed_is c at r (actual.Place x t ∷ actual.Place y u ∷ d ∷ as') = refl
 changed_is c at r (actual.Value w ∷ a ∷ d ∷ as') = refl
-
-abbrev pub put_by : Option Actual → Ruled Meant
-put_by (Some (actual.Value v)) = gives (Done (action.Put v ∷ []))
-put_by o = unasked
-
-pub put_is : (at : ℕ) (r : Option ElanType) (as' : List Actual) → performed at (Predefined names.Put) r as' ≡ put_by (one_of as')
-put_is at r [] = refl
-put_is at r (actual.Value v ∷ []) = refl
-put_is at r (actual.Place x t ∷ []) = refl
-put_is at r (actual.Value v ∷ b ∷ as') = refl
-put_is at r (actual.Place x t ∷ b ∷ as') = refl

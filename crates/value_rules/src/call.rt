@@ -11,7 +11,7 @@ ghost use Rattle.elan_scope.specs.Seen as seen;
 ghost use Rattle.value_rules.specs.Calls as spec;
 ghost use Rattle.elan_scope.specs.Answer.{Is};
 
-use elan_meant::arity::{one_of, two_of};
+use elan_meant::arity::two_of;
 use elan_meant::meant::Meant;
 use elan_meant::operands::chosen;
 use elan_meant::part::{delivering, done, value_in, variable};
@@ -22,7 +22,7 @@ use elan_scope::predefined::Predefined;
 use elan_scope::scope::Scope;
 use elan_scope::trouble::Trouble;
 use elan_types::{
-    Access, Action, Actual, Change, ElanType, Operation, Parameter, ValuePhrase, Why,
+    Access, Action, Actual, Change, ElanType, Operation, Parameter, RequestName, ValuePhrase, Why,
 };
 use eu_base::{List, NoMemory};
 use std::alloc::Global;
@@ -139,14 +139,11 @@ fn changed(alloc: Global, change: Change, actuals: List<Actual>) -> Judged
     }
 }
 
-#[tactic(auto, using(crate::proofs::Given::put_is))]
-fn put(alloc: Global, actuals: List<Actual>) -> Judged
-    ensures { (at : ℕ) → (r : Option ElanTypes) → Is result (spec.performed at (callees.Predefined names.Put) r actuals) }
+fn asked(alloc: Global, name: RequestName, actuals: List<Actual>) -> Judged
+    ensures { (at : ℕ) → (r : Option ElanTypes) → Is result (spec.performed at (callees.Predefined (names.Request name)) r actuals) }
 {
-    match one_of(actuals) {
-        Some(Actual::Value(value)) => done(alloc, Action::Put(value)),
-        _ => Err(Trouble::Breaks(0, Why::Unknown)),
-    }
+    let values = values_in(alloc, actuals)?;
+    done(alloc, Action::Ask(name, values))
 }
 
 fn predefined(
@@ -164,8 +161,7 @@ fn predefined(
             Some(of) => operated(alloc, at, operation, of, actuals),
         },
         Predefined::Change(change) => changed(alloc, change, actuals),
-        Predefined::Put => put(alloc, actuals),
-        Predefined::Line => done(alloc, Action::Line),
+        Predefined::Request(name) => asked(alloc, name, actuals),
     }
 }
 

@@ -7,12 +7,12 @@ use Rattle.eu_base.specs.declared.address.TheConstants.{CELLS}
 use Rattle.eu_base.specs.declared.value.Kind.{Kind}
 use Rattle.eu_base.specs.declared.value.Kind.TheVariants as kinds
 use Rattle.eu_base.specs.Operations.{operand_kinds}
+use Rattle.eu_base.specs.Requests.{request_kinds}
 use Rattle.eu_base.specs.Cells.{IsCell, run_cell}
 use Rattle.code_form.specs.declared.operand.Operand.{Operand}
 use Rattle.code_form.specs.declared.operand.Operand.TheVariants.{Value as Of, Place as At}
 use Rattle.code_form.specs.declared.operand.OperandKind.{OperandKind}
 use Rattle.code_form.specs.declared.operand.OperandKind.TheVariants.{Value as OfKind, Place as AtKind}
-use Rattle.code_form.specs.declared.instr.Requested.TheVariants as calls
 use Rattle.code_form.specs.declared.instr.Instr.{Instr}
 use Rattle.code_form.specs.declared.instr.Instr.TheVariants.{Mark, Number, Truth, Outer, Local, Param, Load, Store, Do, Modify, Jump, False, When, Drop, Limit}
 use Rattle.code_form.specs.declared.instr.Instr.TheVariants.{Unlimit, Step, Ask, Call, Refer, Back, Out, End}
@@ -128,6 +128,11 @@ module _ (p : Program) (valid : IsValid p) where
         let n : m.limits ≡ suc outer.limits = ap (λ (s : Spot). s.limits) e in
         omega (arith, n, fits.used)
 
+    all_values : (more : List Kind) (rest : List OperandKind) → ks ≡ pushed_kinds more rest → TopValues (length more) c.ops
+    all_values more rest is =
+        let e : length more + 0 ≡ length more = omega arith in
+        subst (λ n. TopValues n c.ops) e (top_values more 0 rest c.ops (subst (FitsKinds c.ops) is fits.operands) (λ ops f. tt))
+
     finds_at : (i : Instr) → IsFine p c.pc i ks m → Finds p.bodies i c
     finds_at Mark f = tt
     finds_at (Number z) f = tt
@@ -137,9 +142,7 @@ module _ (p : Program) (valid : IsValid p) where
     finds_at (Param x) f = local_cell c fits x (AtKind f.0) f.1
     finds_at (Load kind) f = top_place c.ops kind f.0 (subst (FitsKinds c.ops) f.1 fits.operands)
     finds_at (Store kind) f = top_both c.ops kind kind f.0 (subst (FitsKinds c.ops) f.1 fits.operands)
-    finds_at (Do op) f =
-        let e : length (operand_kinds op) + 0 ≡ length (operand_kinds op) = omega arith in
-        subst (λ n. TopValues n c.ops) e (top_values (operand_kinds op) 0 f.0 c.ops (subst (FitsKinds c.ops) f.1 fits.operands) (λ ops f. tt))
+    finds_at (Do op) f = all_values (operand_kinds op) f.0 f.1
     finds_at (Modify change) f = top_both c.ops kinds.Int kinds.Int f.0 (subst (FitsKinds c.ops) f.1 fits.operands)
     finds_at (Jump a) f = tt
     finds_at (False a) f = top_value c.ops kinds.Truth f.0 (subst (FitsKinds c.ops) f.1 fits.operands)
@@ -148,8 +151,7 @@ module _ (p : Program) (valid : IsValid p) where
     finds_at (Limit way a) f = top_both c.ops kinds.Int kinds.Int f.0 (subst (FitsKinds c.ops) f.1 fits.operands)
     finds_at Unlimit f = limited f.0 f.1
     finds_at (Step way a) f = (top_place c.ops kinds.Int f.2.0 (subst (FitsKinds c.ops) f.2.1 fits.operands), limited f.0 f.1)
-    finds_at (Ask calls.PutNumber) f = top_value c.ops kinds.Int f.0 (subst (FitsKinds c.ops) f.1 fits.operands)
-    finds_at (Ask calls.Line) f = tt
+    finds_at (Ask name) f = all_values (request_kinds name) f.0 f.1
     finds_at (Call n) f = has_proc n c.pc ks m c.ops f fits.operands
     finds_at (Refer n) f = record { entry = f.entry; has = f.has }
     finds_at (Back kind) f = (top_result kind ks c.ops f.top fits.operands, inside c.frames m.body f.number fits.floor f.here fits.frames)

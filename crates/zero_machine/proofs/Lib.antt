@@ -8,3 +8,4 @@ pub mod Executing
 pub mod Starting
 pub mod Making
 pub mod Accessing
+pub mod Asking

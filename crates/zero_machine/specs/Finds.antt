@@ -5,7 +5,7 @@ use Rattle.eu_base.specs.declared.value.Kind.{Kind}
 use Rattle.eu_base.specs.declared.value.Value.{Value}
 use Rattle.eu_base.specs.Cells.{IsCell, run_cell}
 use Rattle.eu_base.specs.Operations.{operand_kinds}
-use Rattle.code_form.specs.declared.instr.Requested.TheVariants as calls
+use Rattle.eu_base.specs.Requests.{request_kinds}
 use Rattle.code_form.specs.declared.instr.Instr.{Instr}
 use Rattle.code_form.specs.declared.instr.Instr.TheVariants.{Number, Truth, Outer, Local, Param, Jump, Load, Store, Do, Modify, False, When, Drop, Limit}
 use Rattle.code_form.specs.declared.instr.Instr.TheVariants.{Unlimit, Step, Ask, Call, Refer, Back, Out}
@@ -90,7 +90,7 @@ Finds bodies Drop c = TopValue c.ops
 Finds bodies (Limit way a) c = TopBoth c.ops
 Finds bodies Unlimit c = 1 ≤ c.used
 Finds bodies (Step way a) c = TopPlace c.ops × (1 ≤ c.used)
-Finds bodies (Ask calls.PutNumber) c = TopValue c.ops
+Finds bodies (Ask name) c = TopValues (length (request_kinds name)) c.ops
 Finds bodies (Call n) c = HasProc bodies n c.ops
 Finds bodies (Refer n) c = HasBody bodies n
 Finds bodies (Back kind) c = TopResult kind c.ops × IsInside c.frames

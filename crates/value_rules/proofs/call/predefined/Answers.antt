@@ -10,7 +10,7 @@ returns-in-Change c =
     subst (λ (p : Predefined). Is c.changed.result (performed c.args.at (callees.Predefined p) c.args.result_type c.args.actuals)) (sym c.in-Change.is)
     (c.changed.ensures c.args.at c.args.result_type)
 
-pub returns-in-Put : goal.returns-in-Put
-returns-in-Put c =
-    subst (λ (p : Predefined). Is c.put.result (performed c.args.at (callees.Predefined p) c.args.result_type c.args.actuals)) (sym c.in-Put.is)
-    (c.put.ensures c.args.at c.args.result_type)
+pub returns-in-Request : goal.returns-in-Request
+returns-in-Request c =
+    subst (λ (p : Predefined). Is c.asked.result (performed c.args.at (callees.Predefined p) c.args.result_type c.args.actuals)) (sym c.in-Request.is)
+    (c.asked.ensures c.args.at c.args.result_type)
