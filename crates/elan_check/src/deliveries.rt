@@ -20,6 +20,7 @@ use elan_levels::uses::{called_in, called_in_unit};
 use elan_meant::meant::Meant;
 use elan_meant::row::Judged;
 use elan_rows::let_meant_go;
+use elan_scope::call_graph::CallGraph;
 use elan_scope::delivery::Delivery;
 use elan_scope::heading::{Heading, What};
 use elan_scope::known::Known;
@@ -260,7 +261,7 @@ pub fn known_of(alloc: Global, scope: &mut Scope, level: &Level) -> Result<Known
     let Calls { all, last } = calls_of(alloc, scope, level)?;
     let mut known = Known {
         deliveries: told_by(alloc, scope.headings.as_slice())?,
-        calls: all,
+        calls: CallGraph::of(alloc, all)?,
     };
     for _ in 0..scope.headings.len() {
         let next = next_deliveries(alloc, &known, &last, scope, level)?;

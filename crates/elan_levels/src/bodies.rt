@@ -5,6 +5,7 @@ ghost use Rattle.elan_scope.specs.Scope as scopes;
 ghost use Rattle.elan_levels.specs.Bodies as spec;
 
 use crate::declare::{Names, written_type};
+use elan_scope::directory::Directory;
 use elan_scope::scope::{Denotes, Entry};
 use elan_tree::{Access as Given, Body, Formal, Level, LevelUnit, Name, Refinement};
 use elan_types::{Access, ElanType, Parameter};
@@ -99,7 +100,7 @@ fn refinement_names(out: &mut Names, refinements: &[Refinement]) -> Result<(), N
 }
 
 /// The names of a PROC or OP: its parameters, what its units declare, and its refinements.
-pub fn body_names(alloc: Global, formals: &[Formal], body: &Body) -> Result<List<Entry>, NoMemory>
+pub fn body_names(alloc: Global, formals: &[Formal], body: &Body) -> Result<Directory, NoMemory>
     ensures { IfOk result (λ names. names ≡ spec.body_names formals.now body.now) }
 {
     let mut names = Names::new(alloc);
@@ -107,7 +108,7 @@ pub fn body_names(alloc: Global, formals: &[Formal], body: &Body) -> Result<List
     names.add_units(body.units.as_slice())?;
     refinement_names(&mut names, body.refinements.as_slice())?;
     let Names { entries, .. } = names;
-    Ok(entries)
+    Directory::of(alloc, entries)
 }
 
 fn unit_names(out: &mut Names, unit: &LevelUnit) -> Result<(), NoMemory>
@@ -134,14 +135,14 @@ fn all_unit_names(out: &mut Names, units: &[LevelUnit]) -> Result<(), NoMemory>
 }
 
 /// The names of a level: what its units declare, and its refinements.
-pub fn level_names(alloc: Global, level: &Level) -> Result<List<Entry>, NoMemory>
+pub fn level_names(alloc: Global, level: &Level) -> Result<Directory, NoMemory>
     ensures { IfOk result (λ names. names ≡ spec.level_names level.now) }
 {
     let mut names = Names::new(alloc);
     all_unit_names(&mut names, level.units.as_slice())?;
     refinement_names(&mut names, level.refinements.as_slice())?;
     let Names { entries, .. } = names;
-    Ok(entries)
+    Directory::of(alloc, entries)
 }
 
 /// What a body declares beside its parameters.

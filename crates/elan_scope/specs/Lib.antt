@@ -1,8 +1,11 @@
 pub mod Predefined
+pub mod Names
+pub mod Firsts
 pub mod Scope
 pub mod Phrase
 pub mod Ruled
 pub mod Known
 pub mod Answer
 pub mod Apart
+pub mod Ranks
 pub mod Seen

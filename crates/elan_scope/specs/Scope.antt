@@ -6,7 +6,7 @@ use Rattle.elan_types.specs.declared.elan_type.ElanType.{ElanType}
 use Rattle.elan_types.specs.declared.core_phrase.Parameter.{Parameter}
 use Rattle.elan_types.specs.declared.core_phrase.Exit.{Exit}
 use Rattle.elan_types.specs.declared.core_phrase.Exit.TheVariants as exits
-use Rattle.elan_types.specs.Typing.{same_type, same_home, held_const}
+use Rattle.elan_types.specs.Typing.{same_type, same_home}
 use Rattle.elan_scope.specs.declared.scope.Denotes.{Denotes}
 use Rattle.elan_scope.specs.declared.scope.Denotes.TheVariants as denotes
 use Rattle.elan_scope.specs.declared.scope.Entry.{Entry}
@@ -23,6 +23,7 @@ use Rattle.elan_scope.specs.declared.heading.Heading.{Heading}
 use Rattle.elan_scope.specs.declared.callable.Callee.{Callee}
 use Rattle.elan_scope.specs.declared.callable.Callee.TheVariants.{Predefined, Body}
 use Rattle.elan_scope.specs.Predefined.{Row, predefined, parameters, result}
+pub use Rattle.elan_scope.specs.Names.{held, first_from, first_named}
 
 -- the number of the PROC or OP
 abbrev pub number_of : Option Within → Option ℕ
@@ -30,14 +31,6 @@ number_of None = None
 number_of (Some w) = Some w.number
 
 -- ---- variables, constants and parameters
-
--- what is held under a name: a variable or constant, or what a parameter is given; PROCs and refinements hold nothing
-abbrev pub held : Denotes → List Parameter
-held (denotes.Variable t) = held_const t ∷ []
-held (denotes.Constant t) = held_const t ∷ []
-held (denotes.Parameter p) = p ∷ []
-held denotes.Procedure = []
-held denotes.Refinement = []
 
 abbrev pub all_held : List Entry → List Parameter
 all_held [] = []
@@ -52,14 +45,6 @@ abbrev pub variables_of : List Entry → List ElanType
 variables_of es = types_of (all_held es)
 
 -- ---- identifiers without actuals
-
--- the first declaration of a name, with the number of variables, constants and parameters before it
-abbrev pub first_from : ℕ → List Entry → List ℕ → Option (ℕ × Entry)
-first_from k [] x = None
-first_from k (e ∷ es) x = if bytes_eq e.name x then Some (k, e) else first_from (k + length (held e.denotes)) es x
-
-abbrev pub first_named : List Entry → List ℕ → Option (ℕ × Entry)
-first_named = first_from 0
 
 abbrev pub is_refinement : Denotes → Bool
 is_refinement denotes.Refinement = true

@@ -6,7 +6,7 @@ ghost use Rattle.elan_scope.specs.Predefined.{predefined};
 ghost use Rattle.elan_scope.specs.Scope as spec;
 ghost use Rattle.elan_scope.specs.Seen as seen;
 
-use crate::heading::{Heading, Sort, What};
+use crate::heading::{Heading, Sort, What, is_one};
 use crate::predefined::{Predefined, Row, rows};
 use crate::scope::Scope;
 use elan_types::{ElanType, Parameter};
@@ -34,7 +34,7 @@ impl Callable<'_> {
     pub fn is_called(&self, sort: Sort, name: &[u8]) -> bool
         ensures { result ≡ spec.is_called sort name.now (seen.callable self.now) }
     {
-        sort.is_same(self.sort) && self.name == name
+        sort.is_same(self.sort) && is_one(self.name, name)
     }
 
     fn has_as_many(&self, sort: Sort, name: &[u8], count: usize) -> bool

@@ -1,6 +1,7 @@
 //! The headings of bodies, and the look-up among them.
 
-ghost use Rattle.std.specs.Prelude.{◌≡◌, option_map};
+ghost use Rattle.std.specs.Prelude.{◌≡◌, true, false, option_map};
+ghost use Rattle.std.specs.Str.{bytes_eq};
 ghost use Rattle.elan_types.specs.Typing.{same_home};
 ghost use Rattle.elan_scope.specs.Scope as spec;
 
@@ -43,6 +44,26 @@ pub struct Heading {
     pub what: What,
 }
 
+// Whether two names differ in their last bytes. Most names of a text do, so these are looked at first.
+fn differ_at_end(name: &[u8], other: &[u8]) -> bool
+    ensures { result ≡ true → bytes_eq name.now other.now ≡ false }
+{
+    match (name, other) {
+        ([.., last], [.., end]) => *last != *end,
+        _ => false,
+    }
+}
+
+/// Whether two names are one.
+pub fn is_one(name: &[u8], other: &[u8]) -> bool
+    ensures { result ≡ bytes_eq name.now other.now }
+{
+    if differ_at_end(name, other) {
+        return false;
+    }
+    name == other
+}
+
 fn same_types(parameters: &[Parameter], others: &[Parameter]) -> bool
     ensures { result ≡ spec.same_types (spec.types_of parameters.now) (spec.types_of others.now) }
 {
@@ -68,7 +89,7 @@ fn same_home(home: Option<usize>, other: Option<usize>) -> bool
 fn is_alike(heading: &Heading, sort: Sort, name: &[u8], parameters: &[Parameter]) -> bool
     ensures { result ≡ spec.is_alike sort name.now (spec.types_of parameters.now) heading.now }
 {
-    heading.name.as_slice() == name
+    is_one(heading.name.as_slice(), name)
         && match &heading.what {
             What::Routine(other, own, _) => sort.is_same(*other)
                 && same_types(own.as_slice(), parameters),
@@ -79,7 +100,7 @@ fn is_alike(heading: &Heading, sort: Sort, name: &[u8], parameters: &[Parameter]
 fn is_refined(heading: &Heading, home: Option<usize>, name: &[u8]) -> bool
     ensures { result ≡ spec.is_refined home name.now heading.now }
 {
-    heading.name.as_slice() == name
+    is_one(heading.name.as_slice(), name)
         && match &heading.what {
             What::Routine(_, _, _) => false,
             What::Refinement(other) => same_home(home, *other),

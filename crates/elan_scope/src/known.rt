@@ -3,7 +3,7 @@
 ghost use Rattle.std.specs.Prelude.{◌≡◌, ◌||◌, IfOk, length};
 ghost use Rattle.elan_scope.specs.Known as spec;
 
-use crate::apart::is_apart;
+use crate::call_graph::CallGraph;
 use crate::delivery::Delivery;
 use eu_base::{List, NoMemory};
 use std::alloc::Global;
@@ -12,7 +12,7 @@ use std::alloc::Global;
 #[derive(Drop)]
 pub struct Known {
     pub deliveries: List<Delivery>,
-    pub calls: List<List<usize>>,
+    pub calls: CallGraph,
 }
 
 impl Known {
@@ -37,7 +37,7 @@ impl Known {
     {
         match refinement {
             None => Ok(false),
-            Some(to) => leads(alloc, self.calls.as_slice(), number, to),
+            Some(to) => self.calls.leads(alloc, number, to),
         }
     }
 }
@@ -89,13 +89,10 @@ fn first_marks(alloc: Global, count: usize, to: usize) -> Result<List<bool>, NoM
     Ok(marks)
 }
 
-// Those that lead to a refinement are marked, one call further in each turn, until nothing changes.
-fn leads(alloc: Global, calls: &[List<usize>], from: usize, to: usize) -> Result<bool, NoMemory>
+/// Whether a chain leads to a refinement. Those from which one does are marked, one call further in each turn, until nothing changes.
+pub fn leads(alloc: Global, calls: &[List<usize>], from: usize, to: usize) -> Result<bool, NoMemory>
     ensures { IfOk result (λ back. back ≡ spec.leads (length calls.now) calls.now from to) }
 {
-    if is_apart(alloc, calls, from, to)? {
-        return Ok(false);
-    }
     let mut marks = first_marks(alloc, calls.len(), to)?;
     for _turn in 0..calls.len() {
         let next = next_marks(alloc, calls, marks.as_slice(), to)?;

@@ -3,6 +3,7 @@
 ghost use Rattle.std.specs.Prelude.{◌≡◌, ◌≤◌, option_map, length};
 ghost use Rattle.elan_scope.specs.Scope as spec;
 
+use crate::directory::Directory;
 use crate::heading::{Heading, first_refined};
 use elan_types::{ElanType, Exit, Parameter};
 use eu_base::{Bytes, List};
@@ -28,7 +29,7 @@ pub enum Denotes {
 
 impl Denotes {
     /// How many variables, constants and parameters it is.
-    fn count(self) -> usize
+    pub fn count(self) -> usize
         ensures held { result ≡ length (spec.held self) }
         ensures few { result ≤ 1 }
     {
@@ -63,7 +64,7 @@ pub struct Entry {
 #[derive(Drop)]
 pub struct Within {
     pub number: usize,
-    pub names: List<Entry>,
+    pub names: Directory,
 }
 
 /// Where a phrase stands.
@@ -72,7 +73,7 @@ pub struct Scope {
     /// The bodies of the level.
     pub headings: List<Heading>,
     /// The names that the level declares, in text order.
-    pub level: List<Entry>,
+    pub level: Directory,
     /// The PROC or OP in which the phrase stands.
     pub routine: Option<Within>,
     /// The number of the refinement in which it stands.
@@ -95,32 +96,16 @@ pub struct Found {
     pub denotes: Denotes,
 }
 
-// The first declaration of a name, with the number of variables, constants and parameters before it.
-fn first_named<'a>(names: &'a [Entry], name: &[u8]) -> Option<(usize, &'a Entry)>
-    ensures { option_map (λ f. (f.0, f.1.now)) result ≡ spec.first_named names.now name.now }
-{
-    let mut position = 0;
-    let mut rest = names;
-    while let [entry, others @ ..] = rest {
-        if entry.name.as_slice() == name {
-            return Some((position, entry));
-        }
-        position += entry.denotes.count();
-        rest = others;
-    }
-    None
-}
-
-fn found_in(home: Home, names: &[Entry], name: &[u8]) -> Option<Found>
+fn found_in(home: Home, names: &Directory, name: &[u8]) -> Option<Found>
     ensures { result ≡ spec.found_in home (spec.first_named names.now name.now) }
 {
-    match first_named(names, name) {
+    match names.first_named(name) {
         None => None,
-        Some((number, entry)) => Some(Found {
+        Some(first) => Some(Found {
             home,
-            number,
-            at: entry.at,
-            denotes: entry.denotes,
+            number: first.number,
+            at: first.at,
+            denotes: first.denotes,
         }),
     }
 }
@@ -147,10 +132,10 @@ impl Scope {
     pub fn find(&self, name: &[u8]) -> Option<Found>
         ensures { result ≡ spec.find self.now name.now }
     {
-        let level = found_in(Home::Level, self.level.as_slice(), name);
+        let level = found_in(Home::Level, &self.level, name);
         match &self.routine {
             None => level,
-            Some(within) => match found_in(Home::Routine, within.names.as_slice(), name) {
+            Some(within) => match found_in(Home::Routine, &within.names, name) {
                 None => from_inside(level),
                 Some(found) => Some(found),
             },
@@ -162,8 +147,8 @@ impl Scope {
         ensures { result ≡ spec.find_own self.now name.now }
     {
         match &self.routine {
-            None => found_in(Home::Level, self.level.as_slice(), name),
-            Some(within) => found_in(Home::Routine, within.names.as_slice(), name),
+            None => found_in(Home::Level, &self.level, name),
+            Some(within) => found_in(Home::Routine, &within.names, name),
         }
     }
 

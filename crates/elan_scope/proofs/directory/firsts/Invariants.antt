@@ -1,0 +1,9 @@
+use Rattle.std.proofs.Common.{◌≤◌, length, ◌+◌}
+use Rattle.elan_scope.proofs.Kept.{FindsRest}
+use Rattle.elan_scope.proofs.directory.firsts.Given as goal
+
+abbrev pub invariant-loop-rest : goal.invariant-loop-rest
+invariant-loop-rest l = (l.number + length l.rest ≤ length l.entries) × FindsRest l.firsts l.number l.rest l.entries
+
+abbrev pub decreases-loop-rest : goal.decreases-loop-rest
+decreases-loop-rest l = length l.rest

@@ -1,0 +1,24 @@
+-- Names in the order in which they are declared.
+use Rattle.std.specs.Prelude.{ℕ, ◌+◌, List, [], ◌∷◌, length, Option, Some, None, if◌then◌else◌}
+use Rattle.std.specs.Str.{bytes_eq}
+use Rattle.elan_types.specs.declared.core_phrase.Parameter.{Parameter}
+use Rattle.elan_types.specs.Typing.{held_const}
+use Rattle.elan_scope.specs.declared.scope.Denotes.{Denotes}
+use Rattle.elan_scope.specs.declared.scope.Denotes.TheVariants as denotes
+use Rattle.elan_scope.specs.declared.scope.Entry.{Entry}
+
+-- what is held under a name: a variable or constant, or what a parameter is given; PROCs and refinements hold nothing
+abbrev pub held : Denotes → List Parameter
+held (denotes.Variable t) = held_const t ∷ []
+held (denotes.Constant t) = held_const t ∷ []
+held (denotes.Parameter p) = p ∷ []
+held denotes.Procedure = []
+held denotes.Refinement = []
+
+-- the first declaration of a name, with the number of variables, constants and parameters before it
+abbrev pub first_from : ℕ → List Entry → List ℕ → Option (ℕ × Entry)
+first_from k [] x = None
+first_from k (e ∷ es) x = if bytes_eq e.name x then Some (k, e) else first_from (k + length (held e.denotes)) es x
+
+abbrev pub first_named : List Entry → List ℕ → Option (ℕ × Entry)
+first_named = first_from 0
