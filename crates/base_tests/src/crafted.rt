@@ -1,10 +1,9 @@
 //! Contents of gates and heads, and what is recovered of them.
 
 use edge::{Disk, Failed, MemDisk};
-use eu_base::List;
+use eu_base::{List, NoMemory};
 use fixpoint::{Fix, RecoverError};
 use std::alloc::Global;
-use std::test::Fail;
 
 // The gates of both slots, their heads, and the root that is recovered; 0 for a foreign disk. What follows the bytes
 // of a block is zeros.
@@ -112,13 +111,12 @@ fn craft(disk: &mut MemDisk, at: u8, front: &[u8]) -> Result<(), Failed> {
     disk.write(u32::from(at), &block)
 }
 
-fn crafted(alloc: Global, gates: [&[u8]; 2], heads: [&[u8]; 2]) -> Result<MemDisk, Failed> {
-    let mut disk = MemDisk::new(alloc, List::new(alloc));
-    craft(&mut disk, 0, gates[0])?;
-    craft(&mut disk, 1, gates[1])?;
-    craft(&mut disk, 2, heads[0])?;
-    craft(&mut disk, 3, heads[1])?;
-    Ok(disk)
+// The gates and heads of both slots.
+fn craft_all(disk: &mut MemDisk, gates: [&[u8]; 2], heads: [&[u8]; 2]) -> Result<(), Failed> {
+    craft(disk, 0, gates[0])?;
+    craft(disk, 1, gates[1])?;
+    craft(disk, 2, heads[0])?;
+    craft(disk, 3, heads[1])
 }
 
 // The root that is recovered; 0 for a foreign disk, and 1 for one that fails.
@@ -130,24 +128,32 @@ fn root_of(disk: &mut MemDisk) -> u32 {
     }
 }
 
-#[test]
-fn the_table_of_contents(rt: HostRuntime) -> Result<(), Fail> {
-    for (first_gate, second_gate, first_head, second_head, root) in &CASES {
-        let mut disk = crafted(
-            rt.alloc(),
-            [first_gate, second_gate],
-            [first_head, second_head],
-        )?;
-        assert_eq!(rt; root_of(&mut disk), *root);
+fn crafted_root(alloc: Global, gates: [&[u8]; 2], heads: [&[u8]; 2]) -> u32 {
+    let mut disk = MemDisk::new(alloc, List::new(alloc));
+    match craft_all(&mut disk, gates, heads) {
+        Ok(()) => root_of(&mut disk),
+        Err(Failed) => 1,
     }
-    Ok(())
 }
 
 #[test]
-fn a_disk_that_fails_is_not_foreign(rt: HostRuntime) -> Result<(), Fail> {
-    for call in 1..3u32 {
-        let mut disk = MemDisk::new(rt.alloc(), List::from_slice(rt.alloc(), &[call])?);
-        assert_eq!(rt; root_of(&mut disk), 1);
+fn the_table_of_contents(rt: HostRuntime) {
+    for (first_gate, second_gate, first_head, second_head, root) in &CASES {
+        let gates = [*first_gate, *second_gate];
+        let heads = [*first_head, *second_head];
+        assert!(rt; crafted_root(rt.alloc(), gates, heads) == *root);
     }
-    Ok(())
+}
+
+// The root that is recovered of an empty disk whose call of that number fails.
+fn failing_root(alloc: Global, call: u32) -> Result<u32, NoMemory> {
+    let mut disk = MemDisk::new(alloc, List::from_slice(alloc, &[call])?);
+    Ok(root_of(&mut disk))
+}
+
+#[test]
+fn a_disk_that_fails_is_not_foreign(rt: HostRuntime) {
+    for call in 1..3u32 {
+        assert!(rt; failing_root(rt.alloc(), call) == Ok(1));
+    }
 }
