@@ -19,7 +19,7 @@ use Rattle.eu_base.specs.Values.{kind_of, number_of, truth_of, blank_of, value_i
 use Rattle.eu_base.specs.Room.{cells_fit, bytes_fit}
 use Rattle.eu_base.specs.Operations.{Given, operand_kinds, result_kind, result_of, changed, is_past, has_reached}
 use Rattle.eu_base.specs.Requests.{request_kinds, request_of}
-use Rattle.eu_base.specs.Cells.{Cell, Free, Word, Cells, held_of, IsCell, run_cell, place_in}
+use Rattle.eu_base.specs.Cells.{Cell, Free, Word, Letters, Cells, held_of, IsCell, run_cell, place_in}
 use Rattle.code_form.specs.declared.operand.Operand.{Operand}
 use Rattle.code_form.specs.declared.operand.Operand.TheVariants.{Value as Of, Place as At}
 use Rattle.code_form.specs.declared.operand.OperandKind.{OperandKind}
@@ -39,7 +39,7 @@ use Rattle.code_form.specs.Program.{frame_cells}
 use Rattle.code_form.specs.Machine.{Frame, Position, free, To, Asks, Stops, Unsaid, Move, Goes, Spends, operand_bytes, bytes_on, bytes_of, base_of, at}
 use Rattle.code_form.specs.Machine.{using, goes, pushes, on_value, on_place, on_values, on_operands, on_result, or_halt, on_word, is_free, are_free}
 use Rattle.code_form.specs.Machine.{limit_cell, held_of_operand, frame_contents, link_contents, written_from, enters, calls_to, call_move, refer_move}
-use Rattle.code_form.specs.Machine.{back_into, back_to, out_to, limit_to, instruction, step}
+use Rattle.code_form.specs.Machine.{takes_number, back_into, back_to, out_to, limit_to, instruction, step}
 use Rattle.code_form.specs.Valid.{Next, pushed_kinds, pushed_operands, with_result, HasResult, IsRefinement, IsCalled, IsReferred, IsFine, IsValid, FitsKind}
 use Rattle.code_form.specs.Valid.{FitsKinds, MadeSo, IsMade, FitsFrames, Fits}
 use Rattle.code_form.specs.Runs.{IsSafe, StaysFit}
@@ -262,6 +262,7 @@ module _ (p : Program) (valid : IsValid p) (pc : ℕ) (ops : List Operand) (used
     word_safe : (x : Cell) (f : ℕ → Move) → ((n : ℕ) → Safe (f n)) → Safe (on_word x f)
     word_safe Free f h = tt
     word_safe (Word n) f h = h n
+    word_safe (Letters t) f h = tt
 
     -- more and fewer limits
     limit_safe : (way : Way) (a : ℕ) (v : Value) (x : Addr) (r : List Operand) (ks : List OperandKind) → Next p.lines (pc + 1) ks (deeper m)
@@ -463,7 +464,8 @@ module _ (p : Program) (valid : IsValid p) (pc : ℕ) (ops : List Operand) (used
     safe (Load kind) ks line f k =
         one_place ops kind f.0 _ (subst (Has ops) f.1 k)
         (λ a r g. word_safe (cells a) _ (λ n. push_safe (Of (value_in kind n)) (OfKind kind) r f.0 (read_kind kind n) f.2 g.0))
-    safe (Store kind) ks line f k = value_place ops kind kind f.0 _ (subst (Has ops) f.1 k) (λ v a r g. fit (pc + 1) f.0 r f.2 g)
+    safe (Store kind) ks line f k = value_place ops kind kind f.0 _ (subst (Has ops) f.1 k) (λ v a r g.
+        cond_safe (takes_number (cells a)) _ _ (λ _. fit (pc + 1) f.0 r f.2 g) tt)
     safe (Do op) ks line f k =
         let e : length (operand_kinds op) ≡ length (operand_kinds op) + 0 = omega arith in
         subst (λ n. Safe (on_values n [] ops (λ vs ops. or_halt (result_of op vs) (λ v. pushes now (Of v) ops cells)))) (sym e)

@@ -9,7 +9,7 @@ use Rattle.eu_base.specs.declared.address.Addr.{Addr}
 use Rattle.eu_base.specs.declared.value.Kind.{Kind}
 use Rattle.eu_base.specs.declared.stop.Stop.TheVariants.{CellRoom}
 use Rattle.eu_base.specs.declared.value.Kind.TheVariants as kinds
-use Rattle.eu_base.specs.Cells.{Cell, Free, Word, run_cell, place_in}
+use Rattle.eu_base.specs.Cells.{Cell, Free, Word, Letters, run_cell, place_in}
 use Rattle.eu_base.specs.Room.{cells_fit, bytes_fit}
 use Rattle.eu_base.specs.declared.value.Value.{Value}
 use Rattle.eu_base.specs.declared.value.Value.TheVariants as item
@@ -29,7 +29,7 @@ use Rattle.code_form.specs.declared.code.Layout.TheVariants as layouts
 use Rattle.code_form.specs.Program.{Program, instr_of}
 use Rattle.code_form.specs.Machine.{Frame, Position, Control, After, To, Asks, Stops, Unsaid, Move, Scene, Stage, On, Over, Lost, Rest, operand_bytes}
 use Rattle.code_form.specs.Machine.{bytes_on, bytes_of, base_of, pushes, on_value, on_place, on_values, on_operands, on_result, or_halt, on_word, is_free}
-use Rattle.code_form.specs.Machine.{are_free, limit_cell, frame_contents, link_contents, written_from, enters, calls_to, call_move, refer_move, back_to}
+use Rattle.code_form.specs.Machine.{takes_number, are_free, limit_cell, frame_contents, link_contents, written_from, enters, calls_to, call_move, refer_move, back_to}
 use Rattle.code_form.specs.Machine.{out_to, instruction, step, mark_stage, stage, advance, carry_on, exec}
 use Rattle.code_form.specs.Valid.{is_mark, IsFine, IsValid}
 use Rattle.code_form.specs.Runs.{Rests, ahead, steps_left}
@@ -139,6 +139,7 @@ module _ (p : Program) (valid : IsValid p) where
     near_word : (f : ℕ → Move) → ((n : ℕ) → Near (f n)) → (x : Cell) → Near (on_word x f)
     near_word f h Free = tt
     near_word f h (Word n) = h n
+    near_word f h (Letters t) = tt
 
     near_value : (f : Value → List Operand → Move) → ((v : Value) (r : List Operand) → Near (f v r)) → (ops : List Operand) → Near (on_value ops f)
     near_value f h [] = tt
@@ -218,7 +219,9 @@ module _ (p : Program) (valid : IsValid p) where
     at_instr l e (Param x) is f =
         near_word _ (λ n. push_near l e (ap (λ i. is_mark (Some i)) is) (At (place_in n)) c.ops) (s.cells (run_cell (base_of c.frames + x)))
     at_instr l e (Load k) is f = near_place _ (λ a r. near_word _ (λ n. push_near l e (ap (λ i. is_mark (Some i)) is) (Of (value_in k n)) r) (s.cells a)) c.ops
-    at_instr l e (Store k) is f = near_value _ (λ v r. near_place _ (λ a r. go (c.pc + 1) (on_next c.pc l e (ap (λ i. is_mark (Some i)) is))) r) c.ops
+    at_instr l e (Store k) is f =
+        near_value _ (λ v r. near_place _
+        (λ a r. near_if (takes_number (s.cells a)) _ _ (go (c.pc + 1) (on_next c.pc l e (ap (λ i. is_mark (Some i)) is))) tt) r) c.ops
     at_instr l e (Do op) is f =
         near_values (length (operand_kinds op)) _ (λ vs r. near_or _ (λ v. push_near l e (ap (λ i. is_mark (Some i)) is) (Of v) r) (result_of op vs)) [] c.ops
     at_instr l e (Modify ch) is f =

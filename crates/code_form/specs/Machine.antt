@@ -16,7 +16,7 @@ use Rattle.eu_base.specs.Values.{number_of, truth_of, blank_of, value_in}
 use Rattle.eu_base.specs.Room.{value_bytes, place_bytes, cells_fit, bytes_fit}
 use Rattle.eu_base.specs.Operations.{Given, operand_kinds, result_of, changed, is_past, has_reached, next_number}
 use Rattle.eu_base.specs.Requests.{request_kinds, request_of}
-use Rattle.eu_base.specs.Cells.{Cell, Free, Word, Cells, held_of, run_cell, place_number, place_in, written, without}
+use Rattle.eu_base.specs.Cells.{Cell, Free, Word, Letters, Cells, held_of, run_cell, place_number, place_in, written, without}
 use Rattle.code_form.specs.declared.operand.Operand.{Operand}
 use Rattle.code_form.specs.declared.operand.Operand.TheVariants.{Value as Of, Place as At}
 use Rattle.code_form.specs.declared.halt.Halt.{Halt}
@@ -135,13 +135,23 @@ abbrev pub or_halt : Given → (Value → Move) → Move
 or_halt (Ok v) go = go v
 or_halt (Err s) go = Halts s
 
--- what a cell holds, and the number that it stands for
+-- the number that a cell holds, and the one that this stands for
 abbrev pub on_word : Cell → (ℕ → Move) → Move
 on_word (Word n) go = go n
+on_word (Letters t) go = Unknown
 on_word Free go = Unknown
 
 abbrev pub on_number : Cell → (ℤ → Move) → Move
 on_number cell go = on_word cell (λ n. go (number_of (value_in kinds.Int n)))
+
+-- a number is put into a cell, which is not known to hold a text
+abbrev pub takes_number : Cell → Bool
+takes_number Free = true
+takes_number (Word n) = true
+takes_number (Letters t) = false
+
+abbrev pub puts : Position → Addr → Value → List Operand → Cells → Move
+puts c a v ops cells = cond (takes_number (cells a)) (goes c ops (written cells a (held_of v))) Unknown
 
 -- what stands for an operand in a cell
 abbrev pub held_of_operand : Operand → Cell
@@ -164,6 +174,7 @@ written_from at (n ∷ ns) cells = written_from (suc at) ns (written cells (run_
 abbrev pub is_free : Cell → Bool
 is_free Free = true
 is_free (Word n) = false
+is_free (Letters t) = false
 
 abbrev pub are_free : ℕ → List Cell → Cells → Bool
 are_free at [] cells = true
@@ -203,8 +214,8 @@ abbrev pub on_result : Option Kind → List Operand → (List Operand → Move) 
 on_result None ops go = go []
 on_result (Some k) ops go = on_value ops (λ v rest. go (Of v ∷ []))
 
--- leaves a frame, and leaves those of refinements and that of their PROC; so many cells were in use, and nothing is known of those of
--- the frames then
+-- leaves a frame, and leaves those of refinements and that of their PROC; so many cells were in use, and the numbers in those of the
+-- frames are forgotten
 abbrev pub back_into : List Operand → ℕ → Frame → List Frame → Cells → Move
 back_into result used f fs cells = Goes (record { pc = f.back; ops = result ++ f.ops; used = f.used; frames = fs }) (without f.used used cells)
 
@@ -240,7 +251,7 @@ instruction p (Some (Outer k)) c cells = pushes c (At (run_cell k)) c.ops cells
 instruction p (Some (Local k)) c cells = pushes c (At (run_cell (base_of c.frames + k))) c.ops cells
 instruction p (Some (Param k)) c cells = on_word (cells (run_cell (base_of c.frames + k))) (λ n. pushes c (At (place_in n)) c.ops cells)
 instruction p (Some (Load kind)) c cells = on_place c.ops (λ a ops. on_word (cells a) (λ n. pushes c (Of (value_in kind n)) ops cells))
-instruction p (Some (Store kind)) c cells = on_value c.ops (λ v ops. on_place ops (λ a ops. goes c ops (written cells a (held_of v))))
+instruction p (Some (Store kind)) c cells = on_value c.ops (λ v ops. on_place ops (λ a ops. puts c a v ops cells))
 instruction p (Some (Do op)) c cells =
     on_values (length (operand_kinds op)) [] c.ops (λ vs ops. or_halt (result_of op vs) (λ v. pushes c (Of v) ops cells))
 instruction p (Some (Modify change)) c cells =

@@ -1,11 +1,13 @@
 //! A memory of cells.
-ghost use Rattle.std.specs.Prelude.{◌≡◌, ◌≢◌, ℕ, Err, IfOk, OnOk};
+ghost use Rattle.std.specs.Prelude.{◌≡◌, ◌≢◌, ◌≤◌, ℕ, List, [], Err, IfOk, OnOk};
 ghost use Rattle.eu_base.specs.declared.cells.MemFault.TheVariants as fault;
 ghost use Rattle.eu_base.specs.declared.address.Addr.{Addr};
-ghost use Rattle.eu_base.specs.Cells.{Word, Cells, IsCell, written, Within, HasFaultCause};
+ghost use Rattle.eu_base.specs.Room.{most_blocks};
+ghost use Rattle.eu_base.specs.Cells.{Word, Letters, Cells, IsCell, written, cell_blocks, blocks_in, HasText, Within, Puts, HasFaultCause};
 
-use crate::NoMemory;
 use crate::address::Addr;
+use crate::set::Set;
+use crate::{Bytes, NoMemory};
 
 /// Why a memory did not do what it was asked for. Afterwards it is spent, and can only be dropped.
 #[derive(Clone, Copy, PartialEq, Eq, Debug)]
@@ -26,9 +28,10 @@ impl From<NoMemory> for MemFault {
     }
 }
 
-/// A memory of cells, each of which holds a number. Contracts say what it is known to hold: each call speaks of all that may be known.
+/// A memory of cells, each of which holds a number or a text. Which of them a cell holds cannot be seen from its bytes, so contracts
+/// say what a memory is known to hold: each call speaks of all that may be known.
 pub trait Memory {
-    /// It holds these numbers; of other cells nothing is known.
+    /// It holds these numbers and texts; of other cells nothing is known.
     ghost holds: { Self → Cells → Type 0 };
 
     /// How often it failed.
@@ -46,15 +49,37 @@ pub trait Memory {
         ensures cause { HasFaultCause (faults self.old) (faults self.new) result }
         ensures follows { follows self.old self.new };
 
-    /// Puts a number into a cell.
+    /// Puts a number into a cell that is not known to hold a text that has blocks.
     fn set_cell(&mut self, at: Addr, number: u64) -> Result<(), MemFault>
         requires { IsCell at }
-        ensures written { OnOk result ((cells : Cells) → holds self.old cells → holds self.new (written cells at (Word number))) }
+        ensures written { OnOk result ((cells : Cells) → holds self.old cells → cell_blocks (cells at) ≡ 0 → holds self.new (written cells at (Word number))) }
         ensures cause { HasFaultCause (faults self.old) (faults self.new) result }
         ensures follows { follows self.old self.new };
 
-    /// What is known may be forgotten.
+    /// The text in a cell.
+    fn text(&mut self, at: Addr) -> Result<Bytes, MemFault>
+        requires { IsCell at }
+        ensures text { IfOk result (λ text. (cells : Cells) (t : List ℕ) → holds self.old cells → cells at ≡ Letters t → text ≡ t) }
+        ensures kept { OnOk result ((cells : Cells) → holds self.old cells → holds self.new cells) }
+        ensures cause { HasFaultCause (faults self.old) (faults self.new) result }
+        ensures follows { follows self.old self.new };
+
+    /// Puts a text into a cell in the place of the one that it holds, where all texts then have room. Else nothing changes.
+    fn set_text(&mut self, at: Addr, t: &[u8]) -> Result<Set, MemFault>
+        requires { IsCell at }
+        ensures puts { IfOk result (λ set. (cells : Cells) → holds self.old cells → HasText (cells at) → Puts (holds self.new) cells at t.now set) }
+        ensures cause { HasFaultCause (faults self.old) (faults self.new) result }
+        ensures follows { follows self.old self.new };
+
+    /// What is known may be forgotten, but for a text that has blocks.
     ghost forgets: { (memory : Self) (cells fewer : Cells) → holds memory cells → Within fewer cells → holds memory fewer };
+
+    /// The number 0 is also the text "".
+    ghost empty: { (memory : Self) (cells : Cells) (at : Addr) → IsCell at → holds memory cells → cells at ≡ Word 0 →
+        holds memory (written cells at (Letters [])) };
+
+    /// All known texts together have room.
+    ghost room: { (memory : Self) (cells : Cells) → holds memory cells → blocks_in cells ≤ most_blocks };
 
     ghost reflexive: { (memory : Self) → follows memory memory };
 

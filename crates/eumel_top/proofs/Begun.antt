@@ -1,34 +1,27 @@
 -- What is known of the cells of a command at its start: its variables hold their first values, and of other cells nothing is known.
 use Rattle.std.proofs.Common.{◌≡◌, ℕ, zero, suc, ◌+◌, ◌<◌, ◌≤◌, Bool, true, false, cond, List, [], ◌∷◌, map, length, Some, refl, ap, ◌∙◌, arith}
 use Rattle.std.specs.Prelude.{slice_get}
-use Rattle.std.proofs.lemmas.Bool.{eq-eqb, ne_eqb}
+use Rattle.std.proofs.lemmas.Bool.{eq-eqb}
 use Rattle.std.proofs.lemmas.List.{length-map}
 use Rattle.eu_base.specs.declared.value.Kind.{Kind}
 use Rattle.eu_base.specs.Room.{cells_fit}
 use Rattle.eu_base.specs.Values.{blank_of}
-use Rattle.eu_base.specs.Cells.{Cell, Free, Cells, held_of, run_cell, written}
+use Rattle.eu_base.specs.Cells.{Cell, Free, Cells, held_of, run_cell, written, AreBare}
 use Rattle.code_form.specs.Machine.{written_from}
 use Rattle.elan_types.specs.declared.core_phrase.Core.{Core}
 use Rattle.elan_types.specs.Typing.{kind_in}
 use Rattle.elan_types.specs.Command.{blank_store}
 use Rattle.place_gen.specs.Correct.{HasVariables}
+use Rattle.zero_machine.proofs.Stacks.{at_other, behind}
 use Rattle.code_gen.proofs.Plays.{has_blank}
 
 at_same : (cells : Cells) (k : ℕ) (n : Cell) → written cells (run_cell k) n (run_cell k) ≡ n
 at_same cells k n = ap (λ (b : Bool). cond b n (cells (run_cell k))) (eq-eqb k k refl)
 
-at_other : (cells : Cells) (k x : ℕ) (n : Cell) → (x ≡ k → ⊥) → written cells (run_cell k) n (run_cell x) ≡ cells (run_cell x)
-at_other cells k x n ne = ap (λ (b : Bool). cond b n (cells (run_cell x))) (ne_eqb x k ne)
-
 before : (ns : List Cell) (at x : ℕ) (cells : Cells) → x < at → written_from at ns cells (run_cell x) ≡ cells (run_cell x)
 before [] at x cells lt = refl
 before (n ∷ ns) at x cells lt =
     before ns (suc at) x (written cells (run_cell at) n) (omega (arith, lt)) ∙ at_other cells at x n (λ e. omega (arith, lt, e))
-
-behind : (ns : List Cell) (at x : ℕ) (cells : Cells) → at + length ns ≤ x → written_from at ns cells (run_cell x) ≡ cells (run_cell x)
-behind [] at x cells le = refl
-behind (n ∷ ns) at x cells le =
-    behind ns (suc at) x (written cells (run_cell at) n) (omega (arith, le)) ∙ at_other cells at x n (λ e. omega (arith, le, e))
 
 abbrev blanks : List Kind → List Cell
 blanks kinds = map (λ k. held_of (blank_of k)) kinds
@@ -71,10 +64,10 @@ has_begun core =
 
 -- memory holds it when the variables were made, where they have room
 pub holds_begun : (kinds : List Kind) (before after : Cells → Type 0) → before none
-    → (cells_fit (length kinds) ≡ true → (cells : Cells) → before cells → after (written_from 0 (blanks kinds) cells))
+    → (cells_fit (length kinds) ≡ true → (cells : Cells) → before cells → AreBare 0 (length kinds) cells → after (written_from 0 (blanks kinds) cells))
     → (cells_fit (length kinds) ≡ false → (cells : Cells) → before cells → after cells) → after (begun kinds)
 holds_begun kinds before after nothing written kept = by (cells_fit (length kinds)) refl
   where
     by : (b : Bool) → cells_fit (length kinds) ≡ b → after (begun_if b kinds)
-    by true e = written e none nothing
+    by true e = written e none nothing (λ k le lt. refl)
     by false e = kept e none nothing

@@ -48,7 +48,7 @@ fn respond(alloc: Global, text: &[u8]) -> Result<Bytes, NoMemory>
     match meaning(alloc, text) {
         Ok(core) => {
             let mut pool = Pool::new(alloc);
-            let mut memory = SpaceMemory::new();
+            let mut memory = SpaceMemory::new(alloc);
             let mut lent = memory.over(&mut pool);
             match shown(alloc, &core, &mut lent) {
                 Ok(out) => Ok(out),

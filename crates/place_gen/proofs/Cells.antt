@@ -18,8 +18,8 @@ use Rattle.eu_base.specs.declared.value.Kind.TheVariants as kinds
 use Rattle.eu_base.specs.declared.value.Value.{Value}
 use Rattle.eu_base.specs.declared.value.Value.TheVariants.{Int, Truth}
 use Rattle.eu_base.specs.Values.{IsOf, cell_of, value_in}
-use Rattle.eu_base.specs.Cells.{Cell, Free, Word, Cells, held_of, run_cell, written, without, place_in}
-use Rattle.code_form.specs.Machine.{Move, on_word, written_from, is_free, are_free}
+use Rattle.eu_base.specs.Cells.{Cell, Free, Word, Cells, held_of, run_cell, written, forgotten, without, place_in}
+use Rattle.code_form.specs.Machine.{Move, on_word, takes_number, written_from, is_free, are_free}
 use Rattle.elan_types.specs.Eval.{Place, Slot, Holds, Refers, Taken, slot_at, value_of, place_of}
 use Rattle.place_gen.specs.Correct.{StandsFor, Image}
 
@@ -154,6 +154,17 @@ append-[] : {A : Type 0} (l : List A) → l ++ [] ≡ l
 append-[] [] = refl
 append-[] (x ∷ l) = ap (λ l. x ∷ l) (append-[] l)
 
+-- what is kept in cells are numbers, which can be forgotten, and be written over
+forgets : (L : Uses) (at : ℕ) (k : Use) (s : Slot) (n : Cell) → Kept L at k s n → forgotten n ≡ Free
+forgets L at (OfValue k) s n g = ap forgotten g.3
+forgets L at (OfPlace k) s n g = ap forgotten g.4
+forgets L at (OfLimit l) s n g = ap forgotten g.2
+forgets L at OfNothing s n g = ap forgotten g.1
+
+pub takes : (L : Uses) (store : List Slot) (cells : Cells) (x : ℕ) (k : Kind) → Keeps L store cells → slice_get L x ≡ Some (OfValue k)
+    → takes_number (cells (run_cell x)) ≡ true
+takes L store cells x k h e = ap takes_number (h.each x (OfValue k) e).3
+
 -- the cells behind some are given back
 pub cuts : (L M : Uses) (store : List Slot) (cells : Cells) (n from used : ℕ) → n ≡ length L → from ≡ length L → used ≡ length (L ++ M)
     → Keeps (L ++ M) store cells → Keeps L (take n store) (without from used cells)
@@ -165,12 +176,12 @@ cuts L M store cells n from used is from_is used_is h =
           let within = slice_get_within L x k e in
           let slot : slot_at (take n store) x ≡ slot_at store x = get_or-take n store x Taken (omega arith) in
           let low : nat_le from x ≡ false = grind (arith, nat_tests) in
-          let same : without from used cells (run_cell x) ≡ cells (run_cell x) = ap (λ b. cond (b && nat_lt x used) Free (cells (run_cell x))) low in
+          let same : without from used cells (run_cell x) ≡ cells (run_cell x) = ap (λ b. cond (b && nat_lt x used) (forgotten (cells (run_cell x))) (cells (run_cell x))) low in
           subst (Kept L x k (slot_at (take n store) x)) (sym same)
           (subst (λ s. Kept L x k s (cells (run_cell x))) (sym slot) (by x k within (h.each x k (get_left L M x k e))));
       beyond = λ x past.
           let high : nat_le from x ≡ true = grind (arith, nat_tests) in
-          ap (λ b. cond (b && nat_lt x used) Free (cells (run_cell x))) high ∙ gone x (nat_lt x used) refl;
+          ap (λ b. cond (b && nat_lt x used) (forgotten (cells (run_cell x))) (cells (run_cell x))) high ∙ gone x (nat_lt x used) refl;
     }
   where
     by : (x : ℕ) (k : Use) → x < length L → Kept (L ++ M) x k (slot_at store x) (cells (run_cell x)) → Kept L x k (slot_at store x) (cells (run_cell x))
@@ -179,8 +190,11 @@ cuts L M store cells n from used is from_is used_is h =
     by x (OfLimit l) lt g = g
     by x OfNothing lt g = g
 
-    gone : (x : ℕ) (b : Bool) → nat_lt x used ≡ b → cond b Free (cells (run_cell x)) ≡ Free
-    gone x true e = refl
+    gone : (x : ℕ) (b : Bool) → nat_lt x used ≡ b → cond b (forgotten (cells (run_cell x))) (cells (run_cell x)) ≡ Free
+    gone x true e =
+        let within : x < length (L ++ M) = grind (arith, nat_tests, e, used_is) in
+        let k = slice_index_or (L ++ M) x OfNothing in
+        forgets (L ++ M) x k (slot_at store x) (cells (run_cell x)) (h.each x k (slice_get-get_or (L ++ M) x OfNothing within))
     gone x false e = let past : used ≤ x = grind (arith, nat_tests, e) in h.beyond x (omega (arith, past, used_is))
 
 -- more cells are taken, and hold what is for them

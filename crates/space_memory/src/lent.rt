@@ -4,7 +4,7 @@ ghost use Rattle.page_table.specs.Frames.{Stands};
 ghost use Rattle.space_memory.specs.Memories.{roots};
 
 use crate::space_memory::SpaceMemory;
-use eu_base::{Addr, MemFault, Memory};
+use eu_base::{Addr, Bytes, MemFault, Memory, Set};
 use page_pool::Pool;
 
 /// The cells of a memory, over its pool.
@@ -30,7 +30,8 @@ impl SpaceMemory {
 
 impl<'a> Memory for Lent<'a> {
     ghost use Rattle.page_table.specs.Frames.{content_at};
-    ghost use Rattle.space_memory.specs.Known.{HoldsCells, still_held};
+    ghost use Rattle.text_heap.specs.Held.{HoldsCells};
+    ghost use Rattle.text_heap.proofs.Kept.{fewer_held, empty_held, room_held};
     ghost use Rattle.space_memory.specs.Lent.{LentFollows, lent_reflexive, lent_transitive};
 
     ghost holds = { λ lent cells. HoldsCells (content_at lent.pool.now lent.memory.now.run.root) cells };
@@ -39,7 +40,11 @@ impl<'a> Memory for Lent<'a> {
 
     ghost follows = { LentFollows };
 
-    ghost forgets = { λ lent cells fewer holds within. still_held (content_at lent.pool.now lent.memory.now.run.root) cells fewer holds within };
+    ghost forgets = { λ lent cells fewer. fewer_held (content_at lent.pool.now lent.memory.now.run.root) cells fewer };
+
+    ghost empty = { λ lent cells at. empty_held (content_at lent.pool.now lent.memory.now.run.root) cells at };
+
+    ghost room = { λ lent cells. room_held (content_at lent.pool.now lent.memory.now.run.root) cells };
 
     ghost reflexive = { lent_reflexive };
 
@@ -54,5 +59,15 @@ impl<'a> Memory for Lent<'a> {
     fn set_cell(&mut self, at: Addr, number: u64) -> Result<(), MemFault> {
         self.memory.set_run_cell(self.pool, at.cell, number)?;
         Ok(())
+    }
+
+    fn text(&mut self, at: Addr) -> Result<Bytes, MemFault> {
+        let text = self.memory.run_text(self.pool, at.cell)?;
+        Ok(text)
+    }
+
+    fn set_text(&mut self, at: Addr, t: &[u8]) -> Result<Set, MemFault> {
+        let set = self.memory.set_run_text(self.pool, at.cell, t)?;
+        Ok(set)
     }
 }

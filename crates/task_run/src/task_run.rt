@@ -6,7 +6,7 @@ ghost use Rattle.code_form.specs.declared.halt.Halt.TheVariants as halts;
 ghost use Rattle.code_form.specs.declared.waits.Waits.TheVariants as waits;
 ghost use Rattle.eu_base.specs.Values.{blank_of};
 ghost use Rattle.eu_base.specs.Room.{cells_fit};
-ghost use Rattle.eu_base.specs.Cells.{Cells, held_of, HasFaultCause};
+ghost use Rattle.eu_base.specs.Cells.{Cells, held_of, AreBare, HasFaultCause};
 ghost use Rattle.code_form.specs.Machine.{Control, Rest, start, answered, written_from};
 ghost use Rattle.code_form.specs.Valid.{Fits};
 ghost use Rattle.code_form.specs.Runs.{IsPaused, Rests, Stands, asked};
@@ -39,7 +39,7 @@ impl TaskRun {
         ensures control { IfOk result (λ command. command ≡ start (length c.now.variables)) }
         ensures fits { IfOk result (λ command. Fits c.now command) }
         ensures written { OnOk result (cells_fit (length c.now.variables) ≡ true → (cells : Cells) → M.holds m.old cells →
-            M.holds m.new (written_from 0 (map (λ k. held_of (blank_of k)) c.now.variables) cells)) }
+            AreBare 0 (length c.now.variables) cells → M.holds m.new (written_from 0 (map (λ k. held_of (blank_of k)) c.now.variables) cells)) }
         ensures kept { OnOk result (cells_fit (length c.now.variables) ≡ false → (cells : Cells) → M.holds m.old cells → M.holds m.new cells) }
         ensures cause { HasFaultCause (M.faults m.old) (M.faults m.new) result }
         ensures follows { M.follows m.old m.new }

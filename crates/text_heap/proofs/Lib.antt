@@ -6,3 +6,4 @@ pub mod Spread
 pub mod Stored
 pub mod Setting
 pub mod Zeros
+pub mod Kept

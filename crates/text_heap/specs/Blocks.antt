@@ -1,6 +1,8 @@
 -- Texts in the blocks of a data space.
 use Rattle.std.specs.Prelude.{◌≡◌, ℕ, zero, suc, ◌+◌, ◌-◌, ◌*◌, ◌/◌, ◌%◌, ◌<◌, ◌≤◌, ◌⊎◌, min, cond, ◌==◌, List, [], ◌∷◌, ◌++◌, length}
 use Rattle.eu_base.specs.Spaces.{Content}
+pub use Rattle.eu_base.specs.Room.{blocks_of}
+unfoldable pub use Rattle.eu_base.specs.Room.{total}
 use Rattle.cell_layout.specs.Layout.{cell_in}
 
 -- the number of a block's first byte; there are 4,096 blocks of 32 bytes
@@ -41,10 +43,6 @@ unfoldable pub gather : Content → ℕ → ℕ → ℕ → List ℕ
 gather content k left zero = []
 gather content k left (suc n) = bytes_from content (block_at k + 4) (min left 28) ++ gather content (next_in content k) (left - 28) n
 
--- the number of blocks that so many bytes take
-abbrev pub blocks_of : ℕ → ℕ
-blocks_of n = (n + 27) / 28
-
 -- the length of the text to which a cell leads, and its first block
 abbrev pub length_in : Content → ℕ → ℕ
 length_in content cell = min (cell_in content cell % 4294967296) 114688
@@ -63,11 +61,6 @@ text_in content cell = gather content (first_in content cell) (length_in content
 unfoldable pub times : ℕ → List ℕ → ℕ
 times k [] = 0
 times k (x ∷ xs) = cond (k == x) 1 0 + times k xs
-
--- the sum of the first values of a function
-unfoldable pub total : (ℕ → ℕ) → ℕ → ℕ
-total f zero = 0
-total f (suc n) = total f n + f n
 
 -- how many of the first blocks are free
 abbrev pub free_in : Content → ℕ → ℕ

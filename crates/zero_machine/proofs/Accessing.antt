@@ -18,7 +18,7 @@ use Rattle.eu_base.specs.declared.stop.Stop.TheVariants as stops
 use Rattle.eu_base.specs.Values.{number_of, cell_of, value_in}
 use Rattle.eu_base.specs.Room.{cells_fit, bytes_fit}
 use Rattle.eu_base.specs.Operations.{Given, changed, is_past, has_reached, next_number}
-use Rattle.eu_base.specs.Cells.{Cell, Free, Word, Cells, held_of, IsCell, run_cell, place_in, written}
+use Rattle.eu_base.specs.Cells.{Cell, Free, Word, Letters, Cells, held_of, IsCell, run_cell, place_in, written, cell_blocks}
 use Rattle.code_form.specs.declared.operand.Operand.{Operand}
 use Rattle.code_form.specs.declared.operand.Operand.TheVariants.{Value as Of, Place as At}
 use Rattle.code_form.specs.declared.operand.OperandKind.{OperandKind}
@@ -30,7 +30,7 @@ use Rattle.code_form.specs.declared.waits.Waits.TheVariants.{Nothing}
 use Rattle.code_form.specs.declared.instr.Instr.{Instr}
 use Rattle.code_form.specs.declared.instr.Instr.TheVariants.{Param, Load, Store, Modify, Limit, Step}
 use Rattle.code_form.specs.Machine.{Position, Control, free, Move, Goes, Halts, Unknown, Scene, On, bytes_on, bytes_of, base_of, on_value, on_place}
-use Rattle.code_form.specs.Machine.{limit_to, at, using, goes, pushes, or_halt, on_word, on_number, is_free, stage}
+use Rattle.code_form.specs.Machine.{takes_number, limit_to, at, using, goes, pushes, or_halt, on_word, on_number, is_free, stage}
 use Rattle.code_form.specs.Valid.{FitsKinds}
 use Rattle.zero_machine.specs.Finds.{TopBoth}
 use Rattle.zero_machine.specs.Stacked.{Stacked}
@@ -48,11 +48,11 @@ abbrev pub Keeps : (before after : Cells → Type 0) → Type 0
 Keeps before after = (cells : Cells) → before cells → after cells
 
 abbrev pub Writes : (before after : Cells → Type 0) → Addr → Value → Type 0
-Writes before after a v = (cells : Cells) → before cells → after (written cells a (held_of v))
+Writes before after a v = (cells : Cells) → before cells → cell_blocks (cells a) ≡ 0 → after (written cells a (held_of v))
 
 pub writes : (before between after : Cells → Type 0) (a : Addr) (v : Value) (n : ℕ) → n ≡ cell_of v → Keeps before between
-    → ((cells : Cells) → between cells → after (written cells a (Word n))) → Writes before after a v
-writes before between after a v n is kept put cells h = subst (λ n. after (written cells a (Word n))) is (put cells (kept cells h))
+    → ((cells : Cells) → between cells → cell_blocks (cells a) ≡ 0 → after (written cells a (Word n))) → Writes before after a v
+writes before between after a v n is kept put cells h bare = subst (λ n. after (written cells a (Word n))) is (put cells (kept cells h) bare)
 
 -- a number of 16 bits is what it stands for
 pub same_number : (z y : ℤ) → FitsSigned w16 z → z ≡ y → to_z w16 (of_z w16 z) ≡ y
@@ -63,7 +63,7 @@ pub same_word : (z : ℤ) (v : Value) (n : ℕ) → FitsSigned w16 z → z ≡ n
 same_word z v n fits is read = same_number z (number_of v) fits is ∙ ap number_of read
 
 pub writes_number : (before between after : Cells → Type 0) (a b : Addr) (z y : ℤ) (n : ℕ) → a ≡ b → z ≡ y → n ≡ cell_of (item.Int z) → Keeps before between
-    → ((cells : Cells) → between cells → after (written cells a (Word n))) → Writes before after b (item.Int y)
+    → ((cells : Cells) → between cells → cell_blocks (cells a) ≡ 0 → after (written cells a (Word n))) → Writes before after b (item.Int y)
 writes_number before between after a b z y n here is held kept put =
     subst (λ b. Writes before after b (item.Int y)) here
     (writes before between after a (item.Int y) n (held ∙ ap (λ z. cell_of (item.Int z)) is) kept put)
@@ -153,15 +153,24 @@ module _ (before after : Cells → Type 0) where
       (subst (λ (s' : Stacked). Accesses before after i (standing pc used t) (free (standing pc' used' s')) next) (sym e') h))
 
   module _ (how : Option Halt) (c' : Control) (marks : ℕ) (c : Position) (s : Scene) where
-    -- where a number is known, it is the one that was answered
-    on_known : (x : Cell) (go : ℕ → Move) (n : ℕ) → ((m : ℕ) → x ≡ Word m → n ≡ m) → Does after how c' marks (stage (go n) c s)
+    -- where a number is known, it is the one that was answered, and no text stands there
+    on_known : (x : Cell) (go : ℕ → Move) (n : ℕ) → ((m : ℕ) → x ≡ Word m → n ≡ m) → (cell_blocks x ≡ 0 → Does after how c' marks (stage (go n) c s))
         → Does after how c' marks (stage (on_word x go) c s)
     on_known Free go n is d = tt
-    on_known (Word m) go n is d = subst (λ k. Does after how c' marks (stage (go k) c s)) (is m refl) d
+    on_known (Word m) go n is d = subst (λ k. Does after how c' marks (stage (go k) c s)) (is m refl) (d refl)
+    on_known (Letters t) go n is d = tt
 
-    on_free : (x : Cell) (m : Move) → Does after how c' marks (stage m c s) → Does after how c' marks (stage (cond (is_free x) m Unknown) c s)
-    on_free Free m d = d
+    on_free : (x : Cell) (m : Move) → (cell_blocks x ≡ 0 → Does after how c' marks (stage m c s))
+        → Does after how c' marks (stage (cond (is_free x) m Unknown) c s)
+    on_free Free m d = d refl
     on_free (Word n) m d = tt
+    on_free (Letters t) m d = tt
+
+    on_number_cell : (x : Cell) (m : Move) → (cell_blocks x ≡ 0 → Does after how c' marks (stage m c s))
+        → Does after how c' marks (stage (cond (takes_number x) m Unknown) c s)
+    on_number_cell Free m d = d refl
+    on_number_cell (Word n) m d = d refl
+    on_number_cell (Letters t) m d = tt
 
   pub param_so : (k n : ℕ) (a place : Addr) (c : Position) (c' : Control) (next : Next) → a ≡ run_cell (base_of c.frames + k) → place ≡ place_in n
       → Answers before a n → Keeps before after
@@ -176,7 +185,7 @@ module _ (before after : Cells → Type 0) where
             subst (λ a. Does after (halt_of next) c' marks (stage (on_word (cells a) (λ n. pushes c (At (place_in n)) c.ops cells)) c (scene_of cells marks)))
             is
             (on_known (halt_of next) c' marks c (scene_of cells marks) (cells a) (λ n. pushes c (At (place_in n)) c.ops cells) n
-            (λ m e. answers cells m h e) (done after (halt_of next) c' marks _ cells (kept cells h) (pushed cells)));
+            (λ m e. answers cells m h e) (λ bare. done after (halt_of next) c' marks _ cells (kept cells h) (pushed cells)));
         from = c;
         like = alike c;
         cells = λ _. Word n;
@@ -197,7 +206,7 @@ module _ (before after : Cells → Type 0) where
       record {
         does = λ cells h.
             on_known None c' marks c (scene_of cells marks) (cells a) (λ n. pushes c (Of (value_in kind n)) t.ops cells) n (λ m e. answers cells m h e)
-            (done after None c' marks _ cells (kept cells h) (so cells));
+            (λ bare. done after None c' marks _ cells (kept cells h) (so cells));
         from = c;
         like = alike c;
         cells = λ _. Word n;
@@ -207,9 +216,19 @@ module _ (before after : Cells → Type 0) where
 
   pub store_so : (kind : Kind) (v : Value) (a : Addr) (pc used : ℕ) (t : Stacked) → Writes before after a v
       → Accesses before after (Store kind) (standing pc used (with_ops t (Of v ∷ At a ∷ t.ops))) (free (standing (pc + 1) used t)) On'
-  store_so kind v a pc used t writes =
-      plain before after (Store kind) (standing pc used (with_ops t (Of v ∷ At a ∷ t.ops))) (free (standing (pc + 1) used t)) On'
-      (λ cells. written cells a (held_of v)) (λ cells p marks. refl) writes
+  store_so kind v a pc used t writes p marks =
+      let c = standing pc used (with_ops t (Of v ∷ At a ∷ t.ops)) in
+      let c' = free (standing (pc + 1) used t) in
+      record {
+        does = λ cells h.
+            on_number_cell None c' marks c (scene_of cells marks) (cells a) (goes c t.ops (written cells a (held_of v)))
+            (λ bare. done after None c' marks _ (written cells a (held_of v)) (writes cells h bare) refl);
+        from = c;
+        like = alike c;
+        cells = λ _. Free;
+        now = written (λ _. Free) a (held_of v);
+        leads = refl;
+      }
 
   pub modify_so : (ch : Change) (n : ℕ) (v x : Value) (a : Addr) (pc used : ℕ) (t : Stacked) → Answers before a n → Writes before after a x
       → (z w : ℤ) → z ≡ number_of (value_in kinds.Int n) → w ≡ number_of v → Ok x ≡ changed ch z w
@@ -221,7 +240,7 @@ module _ (before after : Cells → Type 0) where
       record {
         does = λ cells h.
             on_known None c' marks c (scene_of cells marks) (cells a) _ n (λ m e. answers cells m h e)
-            (done after None c' marks _ (written cells a (held_of x)) (writes cells h) (ap (λ m. stage m c (scene_of cells marks)) (if_ok _ x _ is)));
+            (λ bare. done after None c' marks _ (written cells a (held_of x)) (writes cells h bare) (ap (λ m. stage m c (scene_of cells marks)) (if_ok _ x _ is)));
         from = c;
         like = alike c;
         cells = λ _. Word n;
@@ -244,7 +263,7 @@ module _ (before after : Cells → Type 0) where
       record {
         does = λ cells h.
             on_known (halt_of next) (free c) marks c (scene_of cells marks) (cells a) _ n (λ m e. answers cells m h e)
-            (done after (halt_of next) (free c) marks _ cells (kept cells h) (so cells));
+            (λ bare. done after (halt_of next) (free c) marks _ cells (kept cells h) (so cells));
         from = c;
         like = alike c;
         cells = λ _. Word n;
@@ -277,9 +296,9 @@ module _ (before after : Cells → Type 0) where
       record {
         does = λ cells h.
             subst (λ m. Does after None c' marks (stage m c (scene_of cells marks))) (if_true _ _ _ room)
-            (on_free None c' marks c (scene_of cells marks) (cells (run_cell used)) _
-            (on_known None c' marks c (scene_of cells marks) (cells a) _ n (λ m e. answers cells m h e)
-            (done after None c' marks _ (written cells (run_cell used) held) (writes cells h)
+            (on_free None c' marks c (scene_of cells marks) (cells (run_cell used)) _ (λ bare.
+            on_known None c' marks c (scene_of cells marks) (cells a) _ n (λ m e. answers cells m h e)
+            (λ read. done after None c' marks _ (written cells (run_cell used) held) (writes cells h bare)
             (ap (λ pc. On (free (standing pc (used + 1) t)) (scene_of (written cells (run_cell used) held) marks)) is))));
         from = d;
         like = like_at pc used t (Of v ∷ At a ∷ t.ops) (Of v ∷ At (beside used) ∷ t.ops) (below_fits v a (beside used) t.ops (beside_cell used)) refl;
@@ -320,12 +339,12 @@ module _ (before after : Cells → Type 0) where
     step_so : (c' : Control) (kept : Cells → Addr → Cells)
         → ((a : Addr) (marks : ℕ) (cells : Cells)
         → stage_of None c' (scene_of (kept cells a) marks) ≡ stage (steps cells a l n) (at_step a) (scene_of cells marks))
-        → ((cells : Cells) → before cells → after (kept cells a)) → Accesses before after (Step way to) (at_step a) c' On'
+        → ((cells : Cells) → before cells → cell_blocks (cells a) ≡ 0 → after (kept cells a)) → Accesses before after (Step way to) (at_step a) c' On'
     step_so c' kept so holds p marks = record {
       does = λ cells h.
-          on_known None c' marks (at_step a) (scene_of cells marks) (cells (run_cell (used - 1))) _ l (λ m e. limits cells m h e)
-          (on_known None c' marks (at_step a) (scene_of cells marks) (cells a) _ n (λ m e. answers cells m h e)
-          (done after None c' marks _ (kept cells a) (holds cells h) (so a marks cells)));
+          on_known None c' marks (at_step a) (scene_of cells marks) (cells (run_cell (used - 1))) _ l (λ m e. limits cells m h e) (λ read.
+          on_known None c' marks (at_step a) (scene_of cells marks) (cells a) _ n (λ m e. answers cells m h e)
+          (λ bare. done after None c' marks _ (kept cells a) (holds cells h bare) (so a marks cells)));
       from = at_step (beside (used - 1));
       like = like_at pc used t (At a ∷ t.ops) (At (beside (used - 1)) ∷ t.ops) (place_fits a (beside (used - 1)) t.ops (beside_cell (used - 1))) refl;
       cells = seen;
@@ -342,7 +361,8 @@ module _ (before after : Cells → Type 0) where
         → Accesses before after (Step way to) (at_step a) (free (standing to used t)) On'
     step_ends kept b e so =
         let is = reached b e ∙ so in
-        step_so (free (standing to used t)) (λ cells a. cells) (λ a marks cells. ap (λ m. stage m (at_step a) (scene_of cells marks)) (if_true _ _ _ is)) kept
+        step_so (free (standing to used t)) (λ cells a. cells) (λ a marks cells. ap (λ m. stage m (at_step a) (scene_of cells marks)) (if_true _ _ _ is))
+        (λ cells h bare. kept cells h)
 
     pub step_goes : Writes before after a (item.Int (next_number way (number_of (value_in kinds.Int n))))
         → (b : Bool) → b ≡ has_reached way z w → b ≡ false

@@ -10,7 +10,7 @@ use Rattle.eu_base.specs.declared.value.Kind.{Kind}
 use Rattle.eu_base.specs.declared.stop.Stop.TheVariants as stops
 use Rattle.eu_base.specs.Values.{blank_of}
 use Rattle.eu_base.specs.Room.{cells_fit}
-use Rattle.eu_base.specs.Cells.{Cell, Free, Cells, held_of}
+use Rattle.eu_base.specs.Cells.{Cell, Free, Cells, held_of, AreBare}
 use Rattle.zero_machine.specs.declared.next.Next.{Next}
 use Rattle.zero_machine.specs.declared.next.Next.TheVariants.{On as On', Marked, CellRoom}
 use Rattle.code_form.specs.declared.halt.Halt.TheVariants as halts
@@ -27,7 +27,7 @@ use Rattle.code_form.specs.Machine.{after_stage, mark_stage, stage}
 use Rattle.zero_machine.specs.Finds.{IsCallable, IsInside, is_in_proc}
 use Rattle.zero_machine.specs.Stacked.{Stacked}
 use Rattle.zero_machine.specs.Running.{scene_of, stage_of, halt_of, Does, Steps, EntersSo}
-use Rattle.zero_machine.proofs.Stacks.{taken_all}
+use Rattle.zero_machine.proofs.Stacks.{taken_all, bare_free}
 use Rattle.zero_machine.proofs.Making.{alike, done, plain_steps, steps_at}
 use Rattle.zero_machine.proofs.Accessing.{Keeps, standing}
 
@@ -64,9 +64,9 @@ module _ (before after : Cells → Type 0) (c : Position) (first base : ℕ) (re
   enters_so : (c' : Control) (next : Next) (now : Cells → Cells)
       → ((marks : ℕ) (cells : Cells) → stage_of (halt_of next) c' (scene_of (now cells) marks)
       ≡ after_stage (entering c first base refines body rest contents cells) c (scene_of cells marks))
-      → ((cells : Cells) → before cells → after (now cells)) → Goes_into c' next
+      → ((cells : Cells) → before cells → are_free c.used contents cells ≡ true → after (now cells)) → Goes_into c' next
   enters_so c' next now so kept marks = record {
-    does = λ cells h. by cells h (are_free c.used contents cells);
+    does = λ cells h. by cells h (are_free c.used contents cells) refl;
     from = c;
     like = alike c;
     cells = λ _. Free;
@@ -77,10 +77,10 @@ module _ (before after : Cells → Type 0) (c : Position) (first base : ℕ) (re
         (sym (all_free c.used contents));
   }
     where
-      by : (cells : Cells) → before cells → (b : Bool) → Does after (halt_of next) c' marks
+      by : (cells : Cells) → before cells → (b : Bool) → are_free c.used contents cells ≡ b → Does after (halt_of next) c' marks
           (after_stage (cond b (entering c first base refines body rest contents cells) Unsaid) c (scene_of cells marks))
-      by cells h true = done after (halt_of next) c' marks _ (now cells) (kept cells h) (so marks cells)
-      by cells h false = tt
+      by cells h true free = done after (halt_of next) c' marks _ (now cells) (kept cells h free) (so marks cells)
+      by cells h false free = tt
 
   abbrev inside : ℕ → Position
   inside n = record {
@@ -99,17 +99,17 @@ module _ (before after : Cells → Type 0) (c : Position) (first base : ℕ) (re
       ap (λ w. stage_of (halt_of CellRoom) (record { position = c; waits = w }) (scene_of cells marks)) none
       ∙ ap (λ b. after_stage (cond b (To (inside (c.used + length contents)) (written_from c.used contents cells)) (Stops stops.CellRoom)) c
       (scene_of cells marks))
-      (sym full)) kept
+      (sym full)) (λ cells h free. kept cells h)
 
   pub enter_has_room : (n : ℕ) → n ≡ c.used + length contents → cells_fit (c.used + length contents) ≡ true
-      → ((cells : Cells) → before cells → after (written_from c.used contents cells)) → Goes_into (free (inside n)) On'
+      → ((cells : Cells) → before cells → AreBare c.used (length contents) cells → after (written_from c.used contents cells)) → Goes_into (free (inside n)) On'
   enter_has_room n is room kept =
       enters_so (free (inside n)) On' (written_from c.used contents)
       (λ marks cells.
       ap (λ n. On (free (inside n)) (scene_of (written_from c.used contents cells) marks)) is
       ∙ ap (λ b. after_stage (cond b (To (inside (c.used + length contents)) (written_from c.used contents cells)) (Stops stops.CellRoom)) c
       (scene_of cells marks))
-      (sym room)) kept
+      (sym room)) (λ cells h free. kept cells h (bare_free c.used contents cells free))
 
 -- so is a call that takes its operands from what is pending
 module _ (before after : Cells → Type 0) (pc used first base : ℕ) (refines : Bool) (body count more : ℕ) (s : Stacked) (variables : List Kind)
@@ -132,7 +132,8 @@ module _ (before after : Cells → Type 0) (pc used first base : ℕ) (refines :
 
   pub entered_so : (s' : Stacked) (w : Waits) (now : List Operand) → w ≡ Nothing → true ≡ cells_fit (used + more)
       → s' ≡ record { ops = []; frames = record { back = pc + 1; base = base; used = used; refines = refines; body = body; ops = drop count s.ops } ∷ s.frames }
-      → now ≡ args → ((cells : Cells) → before cells → after (written_from used (frame_contents now variables) cells))
+      → now ≡ args → ((cells : Cells) → before cells → AreBare used (2 + length now + length variables) cells
+      → after (written_from used (frame_contents now variables) cells))
       → EntersSo before after (enters here first base refines body (drop count s.ops) (frame_contents args variables)) here
       (record { position = standing first (used + more) s'; waits = w }) On'
   entered_so s' w now none room stack is kept =
@@ -144,7 +145,8 @@ module _ (before after : Cells → Type 0) (pc used first base : ℕ) (refines :
       (free (standing first (used + more) t)) On') (sym stack)
       (enter_has_room before after here first base refines body (drop count s.ops) (frame_contents args variables) (used + more) n
       (le-leb (used + length (frame_contents args variables)) CELLS (omega (arith, n, fits)))
-      (λ cells h. subst (λ now. after (written_from used (frame_contents now variables) cells)) is (kept cells h))))
+      (λ cells h bare. subst (λ now. after (written_from used (frame_contents now variables) cells)) is
+      (kept cells h (subst (λ n. AreBare used n cells) (frame_length args variables ∙ ap (λ l. 2 + length l + length variables) (sym is)) bare)))))
 
 module _ (before after : Cells → Type 0) (c : Position) (n first : ℕ) (layout : Layout) (ps : List OperandKind) (vs : List Kind) (own : layout ≡ Own ps vs)
     (callable : IsCallable layout c.ops) where

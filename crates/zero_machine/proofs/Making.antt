@@ -1,7 +1,7 @@
 -- Steps of the machine are made of what its functions do.
 use Rattle.std.proofs.Common.{◌≡◌, ℕ, Bool, true, false, cond, Option, Some, None, refl, ◌∙◌, subst, ◌⊎◌, inl, inr}
 use Rattle.std.specs.Prelude.{nat_le, nat_lt, ◌&&◌, Result, Ok, Err, OnOk}
-use Rattle.eu_base.specs.Cells.{Cell, Free, Cells, without, Within}
+use Rattle.eu_base.specs.Cells.{Cell, Free, Word, Letters, Cells, cell_blocks, forgotten, without, Within}
 use Rattle.code_form.specs.declared.halt.Halt.{Halt}
 use Rattle.code_form.specs.declared.instr.Instr.{Instr}
 use Rattle.code_form.specs.Machine.{Position, Control, Stage}
@@ -61,8 +61,10 @@ pub fewer_cells : (i : Instr) (c : Position) (c' : Control) (from until : ℕ) �
     → GoesOver i c c'
 fewer_cells i c c' from until so cells = (without from until cells, ((λ a. within (nat_le from a.cell && nat_lt a.cell until) (cells a)), so cells))
   where
-    within : (b : Bool) (x : Cell) → (cond b Free x ≡ x) ⊎ (cond b Free x ≡ Free)
-    within true x = inr refl
+    within : (b : Bool) (x : Cell) → (cond b (forgotten x) x ≡ x) ⊎ ((cond b (forgotten x) x ≡ Free) × (cell_blocks x ≡ 0))
+    within true Free = inr (refl, refl)
+    within true (Word n) = inr (refl, refl)
+    within true (Letters t) = inl refl
     within false x = inl refl
 
 -- the same of a step that may want memory

@@ -1,17 +1,18 @@
 -- Operands on a stack, and the cells of a frame.
 use Rattle.std.proofs.Common.{◌≡◌, ℕ, zero, suc, ◌+◌, ◌-◌, ◌*◌, ◌≤◌, List, [], ◌∷◌, ◌++◌, map, length, take, drop, refl, sym, ap, ◌∙◌, subst, arith}
 use Rattle.std.proofs.Common.{append_assoc}
-use Rattle.std.proofs.Common.{append-nil, length-drop}
+use Rattle.std.proofs.Common.{append-nil, length-drop, true, cond, ⊎_elim}
 use Rattle.std.proofs.Math.Seq.{take-length}
-use Rattle.std.specs.Prelude.{reverse, slice_get, Some, option_map, get_or, ◌<◌, Result, Ok, Err, OnOk}
+use Rattle.std.specs.Prelude.{◌&&◌, reverse, slice_get, Some, option_map, get_or, ◌<◌, Result, Ok, Err, OnOk}
 use Rattle.std.proofs.lemmas.Option.{slice_get-map, slice_get-get_or}
-use Rattle.std.proofs.lemmas.List.{reverse-append, length-reverse, length-map, take-append-drop, take_at, drop_at}
+use Rattle.std.proofs.lemmas.List.{reverse-append, length-reverse, length-map, length-take, take-append-drop, take_at, drop_at}
+use Rattle.std.proofs.lemmas.Bool.{cases_eq, ne_eqb}
 use Rattle.eu_base.specs.declared.value.Kind.{Kind}
 use Rattle.eu_base.specs.Values.{blank_of}
-use Rattle.eu_base.specs.Cells.{Cell, Cells, held_of, run_cell, written}
+use Rattle.eu_base.specs.Cells.{Cell, Free, Word, Letters, Cells, held_of, run_cell, written, cell_blocks, AreBare}
 use Rattle.code_form.specs.declared.operand.Operand.{Operand}
 use Rattle.code_form.specs.declared.operand.Operand.TheVariants.{Value as Of, Place as At}
-use Rattle.code_form.specs.Machine.{Move, bytes_on, on_operands, held_of_operand, link_contents, frame_contents, written_from}
+use Rattle.code_form.specs.Machine.{Move, bytes_on, on_operands, held_of_operand, is_free, are_free, link_contents, frame_contents, written_from}
 
 -- the newest of a list come first when it is turned round
 module _ {X : Type 0} (xs : List X) (n : ℕ) (le : n ≤ length xs) where
@@ -72,14 +73,71 @@ frame_written at args variables cells =
     let f : at + 2 + length ns ≡ at + 2 + length args = ap (λ k. at + 2 + k) (length-map args held_of_operand) in
     ap (λ k. written_from k (ns ++ ms) before) e ∙ written_append (at + 2) ns ms before ∙ ap (λ k. written_from k ms (written_from (at + 2) ns before)) f
 
+-- what was written changes nothing of other cells
+pub at_other : (cells : Cells) (k x : ℕ) (n : Cell) → (x ≡ k → ⊥) → written cells (run_cell k) n (run_cell x) ≡ cells (run_cell x)
+at_other cells k x n ne = ap (λ b. cond b n (cells (run_cell x))) (ne_eqb x k ne)
+
+pub behind : (ns : List Cell) (at x : ℕ) (cells : Cells) → at + length ns ≤ x → written_from at ns cells (run_cell x) ≡ cells (run_cell x)
+behind [] at x cells le = refl
+behind (n ∷ ns) at x cells le =
+    behind ns (suc at) x (written cells (run_cell at) n) (omega (arith, le)) ∙ at_other cells at x n (λ e. omega (arith, le, e))
+
+-- so cells behind what was written have no more blocks than before
+pub bare_behind : (at from count from' count' : ℕ) (ns : List Cell) (cells : Cells) → at + length ns ≤ from' → from ≤ from' → from' + count' ≤ from + count
+    → AreBare from count cells → AreBare from' count' (written_from at ns cells)
+bare_behind at from count from' count' ns cells past low high bare k le lt =
+    ap cell_blocks (behind ns at k cells (omega (arith, past, le))) ∙ bare k (omega (arith, low, le)) (omega (arith, high, lt))
+
+pub bare_next : (at k n : ℕ) (ns : List Cell) (cells : Cells) → k < n → AreBare at n cells
+    → cell_blocks (written_from at (take k ns) cells (run_cell (at + k))) ≡ 0
+bare_next at k n ns cells lt bare =
+    bare_behind at at n (at + k) 1 (take k ns) cells (let short = length-take k ns in omega (arith, short)) (omega arith) (omega (arith, lt)) bare (at + k)
+    (omega arith) (omega arith)
+
+-- cells of which nothing is known have none
+pub bare_free : (at : ℕ) (ns : List Cell) (cells : Cells) → are_free at ns cells ≡ true → AreBare at (length ns) cells
+bare_free at [] cells free k le lt = absurd (omega (arith, le, lt))
+bare_free at (n ∷ ns) cells free k le lt = by (cells (run_cell at)) refl free (bare_free (suc at) ns cells) k le lt
+  where
+    by : (x : Cell) → cells (run_cell at) ≡ x → is_free x && are_free (suc at) ns cells ≡ true
+        → (are_free (suc at) ns cells ≡ true → AreBare (suc at) (length ns) cells) → AreBare at (suc (length ns)) cells
+    by Free e free rest k le lt = ⊎_elim (λ is. ap (λ k. cell_blocks (cells (run_cell k))) is ∙ ap cell_blocks e)
+        (λ ne. rest free k (grind (arith, ne, le)) (omega (arith, lt))) (cases_eq k at)
+    by (Word n) e free rest k le lt = absurd (cc free)
+    by (Letters t) e free rest k le lt = absurd (cc free)
+
+-- a link is two numbers
+pub link_so : {T E : Type 0} (result : Result T E) (before one two : Cells → Type 0) (at : ℕ)
+    → ((cells : Cells) → before cells → cell_blocks (cells (run_cell at)) ≡ 0 → one (written cells (run_cell at) (Word 0)))
+    → OnOk result ((cells : Cells) → one cells → cell_blocks (cells (run_cell (at + 1))) ≡ 0 → two (written cells (run_cell (at + 1)) (Word 0)))
+    → OnOk result ((cells : Cells) → before cells → AreBare at 2 cells → two (written_from at link_contents cells))
+link_so (Ok x) before one two at first second =
+    λ cells h bare.
+    let next : at + 1 ≡ suc at = omega arith in
+    let none = bare_behind at at 2 (at + 1) 1 (Word 0 ∷ []) cells (omega arith) (omega arith) (omega arith) bare (at + 1) (omega arith) (omega arith) in
+    subst (λ k. two (written (written cells (run_cell at) (Word 0)) (run_cell k) (Word 0))) next
+    (second (written cells (run_cell at) (Word 0)) (first cells h (bare at (omega arith) (omega arith))) none)
+link_so (Err e) before one two at first second = tt
+
 -- so it holds a frame when all of it was written
 pub frame_so : {T E : Type 0} (result : Result T E) (before linked written after : Cells → Type 0) (at : ℕ) (args : List Operand) (variables : List Kind)
-    → ((cells : Cells) → before cells → linked (written_from at link_contents cells))
-    → ((cells : Cells) → linked cells → written (written_from (at + 2) (map held_of_operand args) cells))
-    → OnOk result ((cells : Cells) → written cells → after (written_from (at + 2 + length args) (map (λ k. held_of (blank_of k)) variables) cells))
-    → OnOk result ((cells : Cells) → before cells → after (written_from at (frame_contents args variables) cells))
+    → ((cells : Cells) → before cells → AreBare at 2 cells → linked (written_from at link_contents cells))
+    → ((cells : Cells) → linked cells → AreBare (at + 2) (length args) cells → written (written_from (at + 2) (map held_of_operand args) cells))
+    → OnOk result ((cells : Cells) → written cells → AreBare (at + 2 + length args) (length variables) cells
+    → after (written_from (at + 2 + length args) (map (λ k. held_of (blank_of k)) variables) cells))
+    → OnOk result ((cells : Cells) → before cells → AreBare at (2 + length args + length variables) cells
+    → after (written_from at (frame_contents args variables) cells))
 frame_so (Ok x) before linked written after at args variables link params made =
-    λ cells h. subst after (sym (frame_written at args variables cells)) (made _ (params _ (link cells h)))
+    λ cells h bare.
+    let all = 2 + length args + length variables in
+    let more = length args + length variables in
+    let linked_cells = written_from at link_contents cells in
+    let rest = bare_behind at at all (at + 2) more link_contents cells (omega arith) (omega arith) (omega arith) bare in
+    let last =
+    bare_behind (at + 2) (at + 2) more (at + 2 + length args) (length variables) (map held_of_operand args) linked_cells
+    (let many = length-map args held_of_operand in omega (arith, many)) (omega arith) (omega arith) rest in
+    subst after (sym (frame_written at args variables cells))
+    (made _ (params _ (link cells h (λ k le lt. bare k le (omega (arith, lt)))) (λ k le lt. rest k le (omega (arith, lt)))) last)
 frame_so (Err e) before linked written after at args variables link params made = tt
 
 -- what was put into cells so far, and one more

@@ -1,9 +1,9 @@
-//! Numbers in cells.
+//! Numbers in cells that are not known to hold texts with blocks.
 ghost use Rattle.std.specs.Prelude.{◌≡◌, ◌+◌, ◌≤◌, ◌<◌, map, length, true, OnOk};
 ghost use Rattle.eu_base.specs.declared.address.TheConstants.{CELLS};
 ghost use Rattle.eu_base.specs.Room.{cells_fit};
 ghost use Rattle.eu_base.specs.Values.{blank_of};
-ghost use Rattle.eu_base.specs.Cells.{Word, Cells, held_of, run_cell, place_in, written, HasFaultCause};
+ghost use Rattle.eu_base.specs.Cells.{Word, Cells, held_of, run_cell, place_in, written, cell_blocks, AreBare, HasFaultCause};
 ghost use Rattle.code_form.specs.Machine.{held_of_operand, link_contents, frame_contents, written_from};
 
 use code_form::Operand;
@@ -46,7 +46,8 @@ pub fn write_frame<M: Memory>(
     variables: &[Kind],
 ) -> Result<(), MemFault>
     requires { at + (2 + length operands.now + length variables.now) ≤ CELLS }
-    ensures written { OnOk result ((cells : Cells) → M.holds m.old cells → M.holds m.new (written_from at (frame_contents operands.now variables.now) cells)) }
+    ensures written { OnOk result ((cells : Cells) → M.holds m.old cells → AreBare at (2 + length operands.now + length variables.now) cells →
+        M.holds m.new (written_from at (frame_contents operands.now variables.now) cells)) }
     ensures cause { HasFaultCause (M.faults m.old) (M.faults m.new) result }
     ensures follows { M.follows m.old m.new }
 {
@@ -58,7 +59,7 @@ pub fn write_frame<M: Memory>(
 // The cells of the call.
 fn write_link<M: Memory>(m: &mut M, at: usize) -> Result<(), MemFault>
     requires { at + 2 ≤ CELLS }
-    ensures written { OnOk result ((cells : Cells) → M.holds m.old cells → M.holds m.new (written_from at link_contents cells)) }
+    ensures written { OnOk result ((cells : Cells) → M.holds m.old cells → AreBare at 2 cells → M.holds m.new (written_from at link_contents cells)) }
     ensures cause { HasFaultCause (M.faults m.old) (M.faults m.new) result }
     ensures follows { M.follows m.old m.new }
 {
@@ -68,7 +69,8 @@ fn write_link<M: Memory>(m: &mut M, at: usize) -> Result<(), MemFault>
 
 fn write_operands<M: Memory>(m: &mut M, at: usize, operands: &[Operand]) -> Result<(), MemFault>
     requires { at + length operands.now ≤ CELLS }
-    ensures written { OnOk result ((cells : Cells) → M.holds m.old cells → M.holds m.new (written_from at (map held_of_operand operands.now) cells)) }
+    ensures written { OnOk result ((cells : Cells) → M.holds m.old cells → AreBare at (length operands.now) cells →
+        M.holds m.new (written_from at (map held_of_operand operands.now) cells)) }
     ensures cause { HasFaultCause (M.faults m.old) (M.faults m.new) result }
     ensures follows { M.follows m.old m.new }
 {
@@ -81,8 +83,8 @@ fn write_operands<M: Memory>(m: &mut M, at: usize, operands: &[Operand]) -> Resu
 /// Writes what variables hold before anything was stored.
 pub fn write_blanks<M: Memory>(m: &mut M, at: usize, variables: &[Kind]) -> Result<(), MemFault>
     requires { at + length variables.now ≤ CELLS }
-    ensures written { OnOk result ((cells : Cells) → M.holds m.old cells → M.holds m.new
-        (written_from at (map (λ k. held_of (blank_of k)) variables.now) cells)) }
+    ensures written { OnOk result ((cells : Cells) → M.holds m.old cells → AreBare at (length variables.now) cells →
+        M.holds m.new (written_from at (map (λ k. held_of (blank_of k)) variables.now) cells)) }
     ensures cause { HasFaultCause (M.faults m.old) (M.faults m.new) result }
     ensures follows { M.follows m.old m.new }
 {
@@ -94,7 +96,8 @@ pub fn write_blanks<M: Memory>(m: &mut M, at: usize, variables: &[Kind]) -> Resu
 
 fn write_number<M: Memory>(m: &mut M, cell: usize, number: u64) -> Result<(), MemFault>
     requires { cell < CELLS }
-    ensures written { OnOk result ((cells : Cells) → M.holds m.old cells → M.holds m.new (written cells (run_cell cell) (Word number))) }
+    ensures written { OnOk result ((cells : Cells) → M.holds m.old cells → cell_blocks (cells (run_cell cell)) ≡ 0 →
+        M.holds m.new (written cells (run_cell cell) (Word number))) }
     ensures cause { HasFaultCause (M.faults m.old) (M.faults m.new) result }
     ensures follows { M.follows m.old m.new }
 {

@@ -2,7 +2,7 @@
 ghost use Rattle.std.specs.Prelude.{◌≡◌, ◌≤◌, ◌<◌, ℕ, List, [], length, map, true, false, cond, IfOk, OnOk, IsSome, Some, None};
 ghost use Rattle.eu_base.specs.Room.{cells_fit};
 ghost use Rattle.eu_base.specs.Values.{blank_of};
-ghost use Rattle.eu_base.specs.Cells.{Cells, held_of, HasFaultCause};
+ghost use Rattle.eu_base.specs.Cells.{Cells, held_of, AreBare, HasFaultCause};
 ghost use Rattle.eu_base.specs.declared.stop.Stop.TheVariants as stop;
 ghost use Rattle.eu_base.specs.declared.request.Request.{Request};
 ghost use Rattle.code_form.specs.declared.halt.Halt.TheVariants as halts;
@@ -48,7 +48,7 @@ fn advance<M: Memory>(
 pub fn start<M: Memory>(alloc: Global, code: &Code, m: &mut M) -> Result<State, MemFault>
     ensures control { IfOk result (λ s. control_of s ≡ start (length code.now.variables)) }
     ensures fits { IfOk result (λ s. Fits code.now (control_of s)) }
-    ensures written { OnOk result (cells_fit (length code.now.variables) ≡ true → (cells : Cells) → M.holds m.old cells →
+    ensures written { OnOk result (cells_fit (length code.now.variables) ≡ true → (cells : Cells) → M.holds m.old cells → AreBare 0 (length code.now.variables) cells →
         M.holds m.new (written_from 0 (map (λ k. held_of (blank_of k)) code.now.variables) cells)) }
     ensures kept { OnOk result (cells_fit (length code.now.variables) ≡ false → (cells : Cells) → M.holds m.old cells → M.holds m.new cells) }
     ensures cause { HasFaultCause (M.faults m.old) (M.faults m.new) result }
@@ -68,7 +68,7 @@ pub fn start<M: Memory>(alloc: Global, code: &Code, m: &mut M) -> Result<State, 
 // Makes the variables. Where they have no room, the command stops at its start.
 fn make_variables<M: Memory>(m: &mut M, variables: &[Kind]) -> Result<Waits, MemFault>
     ensures waits { IfOk result (λ waiting. waiting ≡ cond (cells_fit (length variables.now)) waits.Nothing (waits.Refused stop.CellRoom)) }
-    ensures written { OnOk result (cells_fit (length variables.now) ≡ true → (cells : Cells) → M.holds m.old cells →
+    ensures written { OnOk result (cells_fit (length variables.now) ≡ true → (cells : Cells) → M.holds m.old cells → AreBare 0 (length variables.now) cells →
         M.holds m.new (written_from 0 (map (λ k. held_of (blank_of k)) variables.now) cells)) }
     ensures kept { OnOk result (cells_fit (length variables.now) ≡ false → (cells : Cells) → M.holds m.old cells → M.holds m.new cells) }
     ensures cause { HasFaultCause (M.faults m.old) (M.faults m.new) result }

@@ -4,7 +4,7 @@ use Rattle.eumel_top.proofs.Refusing.{refused_line}
 use Rattle.eumel_top.proofs.line.respond.Goals as goal
 
 pub over-lent-requires : goal.over-lent-requires
-over-lent-requires c = rw (c.new-pool.ensures, c.new-memory.ensures) (record { agree = new_stands })
+over-lent-requires c = rw (c.new-pool.ensures, c.new-memory.ensures.empty) (record { agree = new_stands })
 
 pub returns-in-Ok-shown : goal.returns-in-Ok-shown
 returns-in-Ok-shown c = runs c.in-Ok.ensures.meaning c.in-Ok-shown.ensures.shows

@@ -1,6 +1,10 @@
 use Rattle.std.proofs.Common.{arith}
 use Rattle.page_table.proofs.Framing.{stands_after}
+use Rattle.text_heap.proofs.Kept.{kept_held}
 use Rattle.space_memory.proofs.lent.LentMemory.cell.Goals as goal
 
 pub invariant_of-self : goal.invariant_of-self
 invariant_of-self c = record { agree = stands_after _ _ _ _ 0 0 (omega arith) c.run_cell.ensures.frames c.args.self.now.agree }
+
+pub returns-clause-kept : goal.returns-clause-kept
+returns-clause-kept c = λ cells h. kept_held _ _ cells c.in_ok-number.ensures.same h

@@ -1,0 +1,7 @@
+//! Tests of the memory of a task, over real pages.
+#![tactic(auto)]
+
+#[cfg(test)]
+mod scenes;
+#[cfg(test)]
+mod tests;
