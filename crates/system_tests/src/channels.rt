@@ -1,12 +1,12 @@
 //! Couplings and queues.
-use containers::Bytes;
-use std::test::Fail;
+use containers::{Bytes, NoMemory};
+use std::alloc::Global;
 use task_numbers::TaskNo;
-use terminals::{QUEUED_LINES, QueueFull, Terminals};
+use terminals::{QUEUED_LINES, Terminals};
 
-#[test]
-fn a_channel_has_one_task_and_a_task_one_channel(rt: HostRuntime) -> Result<(), Fail> {
-    let mut terminals = Terminals::new(rt.alloc())?;
+fn coupled_and_left(alloc: Global) -> Result<bool, NoMemory> {
+    let line = Bytes::from(alloc, b"put (1)")?;
+    let mut terminals = Terminals::new(alloc)?;
     terminals.couple(2, TaskNo(7));
     terminals.set_last(2, TaskNo(9));
     let coupled = (
@@ -14,8 +14,7 @@ fn a_channel_has_one_task_and_a_task_one_channel(rt: HostRuntime) -> Result<(), 
         terminals.channel_of(TaskNo(7)),
         terminals.channel_of(TaskNo::NIL),
     );
-    let line = Bytes::from(rt.alloc(), b"put (1)")?;
-    let taken = terminals.line_in(2, line);
+    let taken = terminals.line_in(2, line).is_ok();
     terminals.uncouple(2);
     let left = (
         terminals.task_of(2),
@@ -23,27 +22,60 @@ fn a_channel_has_one_task_and_a_task_one_channel(rt: HostRuntime) -> Result<(), 
         terminals.last(2),
     );
     let nothing = terminals.line_back(2).is_none();
-    assert!(rt; coupled == (TaskNo(7), Some(2), None));
-    assert!(rt; taken == Ok(()));
-    assert!(rt; left == (TaskNo::NIL, None, TaskNo(9)));
-    assert!(rt; nothing);
-    Ok(())
+    let coupled = coupled == (TaskNo(7), Some(2), None);
+    let left = left == (TaskNo::NIL, None, TaskNo(9));
+    Ok(coupled && taken && left && nothing)
 }
 
 #[test]
-fn sixteen_lines_wait_in_order(rt: HostRuntime) -> Result<(), Fail> {
-    let mut terminals = Terminals::new(rt.alloc())?;
-    for number in 0..16u8 {
-        let line = Bytes::from(rt.alloc(), &[number])?;
-        assert!(rt; terminals.line_in(1, line) == Ok(()));
+fn a_channel_has_one_task_and_a_task_one_channel(rt: HostRuntime) {
+    assert!(rt; coupled_and_left(rt.alloc()) == Ok(true));
+}
+
+// Whether a line of this one byte is taken.
+fn line_in(alloc: Global, terminals: &mut Terminals, byte: u8) -> Result<bool, NoMemory> {
+    let line = Bytes::from(alloc, &[byte])?;
+    Ok(terminals.line_in(1, line).is_ok())
+}
+
+// How many of so many lines are taken.
+fn lines_in(alloc: Global, terminals: &mut Terminals, lines: u8) -> Result<u8, NoMemory> {
+    let mut taken = 0u8;
+    for byte in 0..lines {
+        if line_in(alloc, terminals, byte)? {
+            taken = taken.saturating_add(1);
+        }
     }
-    let line = Bytes::from(rt.alloc(), &[16])?;
-    assert!(rt; terminals.line_in(1, line) == Err(QueueFull));
-    for number in 0..16u8 {
-        let line = terminals.line_back(1).unwrap_or(Bytes::new(rt.alloc()));
-        assert_eq!(rt; line.as_slice(), [number].as_slice());
+    Ok(taken)
+}
+
+fn gives_back(terminals: &mut Terminals, byte: u8) -> bool {
+    match terminals.line_back(1) {
+        Some(line) => line.as_slice() == [byte].as_slice(),
+        None => false,
     }
-    assert!(rt; terminals.line_back(1).is_none());
-    assert_eq!(rt; QUEUED_LINES, 16);
-    Ok(())
+}
+
+// Whether the first so many lines come back in order.
+fn lines_back(terminals: &mut Terminals, lines: u8) -> bool {
+    for byte in 0..lines {
+        if !gives_back(terminals, byte) {
+            return false;
+        }
+    }
+    true
+}
+
+// How many of seventeen lines are taken, and whether these and no others come back in order.
+fn seventeen_lines(alloc: Global) -> Result<(u8, bool), NoMemory> {
+    let mut terminals = Terminals::new(alloc)?;
+    let taken = lines_in(alloc, &mut terminals, 17)?;
+    let back = lines_back(&mut terminals, taken);
+    let no_more = terminals.line_back(1).is_none();
+    Ok((taken, back && no_more))
+}
+
+#[test]
+fn sixteen_lines_wait_in_order(rt: HostRuntime) {
+    assert!(rt; QUEUED_LINES == 16 && seventeen_lines(rt.alloc()) == Ok((16, true)));
 }

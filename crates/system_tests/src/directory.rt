@@ -1,30 +1,50 @@
 //! Names of data spaces.
-use containers::Bytes;
+use containers::{Bytes, NoMemory};
 use space_names::Names;
-use std::test::Fail;
+use std::alloc::Global;
 use task_numbers::SpaceNo;
 
-#[test]
-fn names_stand_in_order_of_entry(rt: HostRuntime) -> Result<(), Fail> {
-    let alloc = rt.alloc();
-    let mut names = Names::new(alloc);
-    for (name, space) in [
-        (b"b".as_slice(), 4),
-        (b"a".as_slice(), 2),
-        (b"c".as_slice(), 9),
-    ] {
-        let free = names.get(name).is_none();
-        assert!(rt; free);
-        if free {
-            names.put(Bytes::from(alloc, name)?, SpaceNo(space))?;
+// Enters a name, where it is free.
+fn entered(alloc: Global, names: &mut Names, name: &[u8], space: u32) -> Result<bool, NoMemory> {
+    let free = names.get(name).is_none();
+    if free {
+        names.put(Bytes::from(alloc, name)?, SpaceNo(space))?;
+    }
+    Ok(free)
+}
+
+fn three_names(alloc: Global, names: &mut Names) -> Result<bool, NoMemory> {
+    let first = entered(alloc, names, b"b", 4)?;
+    let second = entered(alloc, names, b"a", 2)?;
+    let third = entered(alloc, names, b"c", 9)?;
+    Ok(first && second && third)
+}
+
+fn is_taken_once(names: &mut Names, name: &[u8], space: u32) -> bool {
+    let first = names.take(name) == Some(SpaceNo(space));
+    first && names.take(name).is_none() && names.get(name).is_none()
+}
+
+fn has_entries(names: &Names, entries: &[(u32, &[u8], u32)]) -> bool {
+    for (place, name, space) in entries {
+        if names.entry(*place) != Some((*name, SpaceNo(*space))) {
+            return false;
         }
     }
-    let taken = (names.take(b"a"), names.take(b"a"), names.get(b"c"));
-    assert!(rt; taken == (Some(SpaceNo(2)), None, Some(SpaceNo(9))));
-    for (place, name, space) in [(0, b"b".as_slice(), 4), (1, b"c".as_slice(), 9)] {
-        let entry = names.entry(place) == Some((name, SpaceNo(space)));
-        assert!(rt; entry);
-    }
-    assert!(rt; names.entry(2).is_none());
-    Ok(())
+    true
+}
+
+// Three names are entered, and the second is taken out.
+fn are_in_order(alloc: Global) -> Result<bool, NoMemory> {
+    let mut names = Names::new(alloc);
+    let entered = three_names(alloc, &mut names)?;
+    let taken = is_taken_once(&mut names, b"a", 2);
+    let stay = names.get(b"c") == Some(SpaceNo(9));
+    let entries = has_entries(&names, &[(0, b"b", 4), (1, b"c", 9)]);
+    Ok(entered && taken && stay && entries && names.entry(2).is_none())
+}
+
+#[test]
+fn names_stand_in_order_of_entry(rt: HostRuntime) {
+    assert!(rt; are_in_order(rt.alloc()) == Ok(true));
 }

@@ -2,7 +2,6 @@
 use containers::{Bytes, List, NoMemory};
 use session_text::{Event, LineError, event, piece};
 use std::alloc::Global;
-use std::test::Fail;
 
 /// The events of a line as a text: a letter and what belongs to it, one after the other; `bad` for a line of no form.
 fn spelled(alloc: Global, line: &[u8], plain: bool) -> Result<Bytes, NoMemory> {
@@ -37,8 +36,18 @@ fn letters(alloc: Global, events: &List<Event>) -> Result<Bytes, NoMemory> {
     Ok(text)
 }
 
+// Whether each line has these events.
+fn are_spelled(alloc: Global, table: &[(&[u8], &[u8])], plain: bool) -> Result<bool, NoMemory> {
+    for (line, events) in table {
+        if spelled(alloc, line, plain)?.as_slice() != *events {
+            return Ok(false);
+        }
+    }
+    Ok(true)
+}
+
 #[test]
-fn lines_with_channels(rt: HostRuntime) -> Result<(), Fail> {
+fn lines_with_channels(rt: HostRuntime) {
     let table = [
         (b"".as_slice(), b"".as_slice()),
         (b"1>put (1)", b"L\x01put (1)"),
@@ -63,15 +72,11 @@ fn lines_with_channels(rt: HostRuntime) -> Result<(), Fail> {
         (b"..", b"bad"),
         (b" ", b"bad"),
     ];
-    for (line, events) in table {
-        let found = spelled(rt.alloc(), line, false)?;
-        assert_eq!(rt; found.as_slice(), events);
-    }
-    Ok(())
+    assert!(rt; are_spelled(rt.alloc(), &table, false) == Ok(true));
 }
 
 #[test]
-fn plain_lines(rt: HostRuntime) -> Result<(), Fail> {
+fn plain_lines(rt: HostRuntime) {
     let table = [
         (b"".as_slice(), b"T\x00\x14".as_slice()),
         (b"put (1)", b"L\x01put (1)T\x00\x14"),
@@ -82,41 +87,42 @@ fn plain_lines(rt: HostRuntime) -> Result<(), Fail> {
         (b"!x", b"bad"),
         (b"!!!", b"bad"),
     ];
-    for (line, events) in table {
-        let found = spelled(rt.alloc(), line, true)?;
-        assert_eq!(rt; found.as_slice(), events);
-    }
-    Ok(())
+    assert!(rt; are_spelled(rt.alloc(), &table, true) == Ok(true));
 }
 
-#[test]
-fn a_line_has_250_bytes_at_most(rt: HostRuntime) -> Result<(), Fail> {
-    let mut line = Bytes::from(rt.alloc(), b"3>")?;
-    for _ in 0..250u8 {
+// How long the events of a line are whose text has so many bytes.
+fn spelled_length(alloc: Global, bytes: u8) -> Result<usize, NoMemory> {
+    let mut line = Bytes::from(alloc, b"3>")?;
+    for _ in 0..bytes {
         line.append(b"x")?;
     }
-    let longest = spelled(rt.alloc(), line.as_slice(), false)?
-        .as_slice()
-        .len();
-    line.append(b"x")?;
-    let longer = spelled(rt.alloc(), line.as_slice(), false)?;
-    assert_eq!(rt; longest, 252);
-    assert_eq!(rt; longer.as_slice(), b"bad".as_slice());
-    Ok(())
+    Ok(spelled(alloc, line.as_slice(), false)?.as_slice().len())
 }
 
 #[test]
-fn pieces_of_output(rt: HostRuntime) -> Result<(), Fail> {
-    let mut out = Bytes::new(rt.alloc());
-    piece(rt.alloc(), 1, b"8 ", false, false, &mut out)?;
-    piece(rt.alloc(), 2, b"", true, false, &mut out)?;
-    piece(rt.alloc(), 2, b"", false, false, &mut out)?;
-    piece(rt.alloc(), 4, b"a\rb\x7f", true, false, &mut out)?;
-    piece(rt.alloc(), 1, b"x", true, true, &mut out)?;
-    piece(rt.alloc(), 3, b"y", true, true, &mut out)?;
-    assert_eq!(rt;
-        out.as_slice(),
-        b"1,8 \n2:\n4:a\"13\"b\"127\"\nx\n3:y\n".as_slice()
-    );
-    Ok(())
+fn a_line_has_250_bytes_at_most(rt: HostRuntime) {
+    let longest = spelled_length(rt.alloc(), 250) == Ok(252);
+    let bad = spelled_length(rt.alloc(), 251) == Ok(3);
+    assert!(rt; longest && bad);
+}
+
+fn pieces(alloc: Global, out: &mut Bytes) -> Result<(), NoMemory> {
+    piece(alloc, 1, b"8 ", false, false, out)?;
+    piece(alloc, 2, b"", true, false, out)?;
+    piece(alloc, 2, b"", false, false, out)?;
+    piece(alloc, 4, b"a\rb\x7f", true, false, out)?;
+    piece(alloc, 1, b"x", true, true, out)?;
+    piece(alloc, 3, b"y", true, true, out)
+}
+
+fn pieces_are(alloc: Global, lines: &[u8]) -> Result<bool, NoMemory> {
+    let mut out = Bytes::new(alloc);
+    pieces(alloc, &mut out)?;
+    Ok(out.as_slice() == lines)
+}
+
+#[test]
+fn pieces_of_output(rt: HostRuntime) {
+    let lines = b"1,8 \n2:\n4:a\"13\"b\"127\"\nx\n3:y\n";
+    assert!(rt; pieces_are(rt.alloc(), lines) == Ok(true));
 }

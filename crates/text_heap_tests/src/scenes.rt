@@ -1,4 +1,4 @@
-//! What is done with a space and its texts. Each scene answers whether all went as it should.
+//! What is done with a space and its texts.
 ghost use Rattle.std.specs.Prelude.{◌<◌, ◌≤◌};
 
 use eu_base::{Bytes, MemFault, NoMemory, Set, Space};
@@ -68,8 +68,8 @@ fn comes_back<S: Space>(alloc: Global, space: &mut S, cell: u16, t: &[u8]) -> Re
     Ok(done && there)
 }
 
-/// Texts of each length, one after another in the last cell.
-pub fn each_length<S: Space>(alloc: Global, space: &mut S) -> Result<bool, MemFault> {
+// Texts of each length, one after another in the last cell.
+fn each_length<S: Space>(alloc: Global, space: &mut S) -> Result<bool, MemFault> {
     let mut right = true;
     for (length, free) in LENGTHS {
         let bytes = text(alloc, length, 5)?;
@@ -93,8 +93,8 @@ fn is_full<S: Space>(space: &mut S, cell: u16, t: &[u8]) -> Result<bool, MemFaul
     Ok(full && after == before)
 }
 
-/// All blocks are taken, and then one more is wanted.
-pub fn all_blocks<S: Space>(alloc: Global, space: &mut S) -> Result<bool, MemFault> {
+// All blocks are taken, and then one more is wanted.
+fn all_blocks<S: Space>(alloc: Global, space: &mut S) -> Result<bool, MemFault> {
     let long = text(alloc, 114_689, 6)?;
     let long = long.as_slice();
     let too_long = is_full(space, 0, long)?;
@@ -128,8 +128,8 @@ fn of_round(round: u32, cell: u16) -> (usize, u32) {
     (length as usize, seed)
 }
 
-/// 200 texts, each changed in so many rounds, and read back in the end.
-pub fn many_texts<S: Space>(alloc: Global, space: &mut S, rounds: u32) -> Result<bool, MemFault> {
+// 200 texts, each changed in so many rounds, and read back in the end.
+fn many_texts<S: Space>(alloc: Global, space: &mut S, rounds: u32) -> Result<bool, MemFault> {
     let mut right = true;
     for round in 0..rounds {
         for cell in 0..200u16 {
@@ -149,8 +149,8 @@ pub fn many_texts<S: Space>(alloc: Global, space: &mut S, rounds: u32) -> Result
     Ok(right && taken.saturating_add(usize::from(left)) == 4096)
 }
 
-/// Every byte of a space gets some value.
-pub fn any_bytes<S: Space>(space: &mut S, seed: u32) -> Result<(), MemFault> {
+// Every byte of a space gets some value.
+fn any_bytes<S: Space>(space: &mut S, seed: u32) -> Result<(), MemFault> {
     let mut seed = seed;
     for cell in 0..32_768 {
         let high = u64::from(next(&mut seed));
@@ -161,15 +161,15 @@ pub fn any_bytes<S: Space>(space: &mut S, seed: u32) -> Result<(), MemFault> {
     Ok(())
 }
 
-/// A block that is linked to itself, to which the last cell leads with as many bytes as a space has room for.
-pub fn a_circle<S: Space>(space: &mut S) -> Result<(), MemFault> {
+// A block that is linked to itself, to which the last cell leads with as many bytes as a space has room for.
+fn a_circle<S: Space>(space: &mut S) -> Result<(), MemFault> {
     space.write(131_072, &[1, 0])?;
     space.write(131_064, &[0, 192, 1, 0, 0, 0, 0, 0])?;
     Ok(())
 }
 
-/// Each call returns where the space holds no texts, and changes no cell but the last.
-pub fn every_call_returns<S: Space>(alloc: Global, space: &mut S) -> Result<bool, MemFault> {
+// Each call returns where the space holds no texts, and changes no cell but the last.
+fn every_call_returns<S: Space>(alloc: Global, space: &mut S) -> Result<bool, MemFault> {
     let cells = digest(space, 16_383)?;
     let whole = digest(space, 32_768)?;
     let found = get(alloc, space, 16_383)?;
@@ -185,4 +185,38 @@ pub fn every_call_returns<S: Space>(alloc: Global, space: &mut S) -> Result<bool
     clear(space, 16_383)?;
     let same = digest(space, 16_383)? == cells;
     Ok(found.as_slice().len() <= 114_688 && left <= 4096 && read && short && same)
+}
+
+// The same where each byte has some value, and before that where a text leads in a circle.
+fn calls_return<S: Space>(alloc: Global, space: &mut S) -> Result<bool, MemFault> {
+    a_circle(space)?;
+    let mut right = every_call_returns(alloc, space)?;
+    for seed in 0..2 {
+        any_bytes(space, seed)?;
+        right = right && every_call_returns(alloc, space)?;
+    }
+    Ok(right)
+}
+
+/// What is done with a space that nothing was written to.
+#[derive(Clone, Copy)]
+pub enum Scene {
+    /// Texts come back until no block is free.
+    UntilFull,
+    /// 200 texts are changed again and again.
+    Changes,
+    /// Calls on a space that holds no texts return.
+    AnyBytes,
+}
+
+/// Whether all goes in a scene as it should.
+pub fn is_right<S: Space>(alloc: Global, space: &mut S, scene: Scene) -> Result<bool, MemFault> {
+    match scene {
+        Scene::UntilFull => {
+            let lengths = each_length(alloc, space)?;
+            Ok(lengths && all_blocks(alloc, space)?)
+        }
+        Scene::Changes => many_texts(alloc, space, 4),
+        Scene::AnyBytes => calls_return(alloc, space),
+    }
 }

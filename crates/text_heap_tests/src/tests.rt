@@ -1,42 +1,29 @@
 //! Scenes over real pages.
 
-use crate::scenes;
+use crate::scenes::{Scene, is_right};
 use data_space::DataSpace;
+use eu_base::MemFault;
 use page_pool::Pool;
-use std::test::Fail;
+use std::alloc::Global;
 
-#[test]
-fn texts_come_back_until_no_block_is_free(rt: HostRuntime) -> Result<(), Fail> {
-    let alloc = rt.alloc();
+fn over_pages(alloc: Global, scene: Scene) -> Result<bool, MemFault> {
     let mut pool = Pool::new(alloc);
     let mut space = DataSpace::nil();
     let mut lent = space.over(&mut pool);
-    assert!(rt; scenes::each_length(alloc, &mut lent)?);
-    assert!(rt; scenes::all_blocks(alloc, &mut lent)?);
-    Ok(())
+    is_right(alloc, &mut lent, scene)
 }
 
 #[test]
-fn two_hundred_texts_are_changed(rt: HostRuntime) -> Result<(), Fail> {
-    let alloc = rt.alloc();
-    let mut pool = Pool::new(alloc);
-    let mut space = DataSpace::nil();
-    let mut lent = space.over(&mut pool);
-    assert!(rt; scenes::many_texts(alloc, &mut lent, 4)?);
-    Ok(())
+fn texts_come_back_until_no_block_is_free(rt: HostRuntime) {
+    assert!(rt; over_pages(rt.alloc(), Scene::UntilFull) == Ok(true));
 }
 
 #[test]
-fn calls_return_on_any_bytes(rt: HostRuntime) -> Result<(), Fail> {
-    let alloc = rt.alloc();
-    let mut pool = Pool::new(alloc);
-    let mut space = DataSpace::nil();
-    let mut lent = space.over(&mut pool);
-    scenes::a_circle(&mut lent)?;
-    assert!(rt; scenes::every_call_returns(alloc, &mut lent)?);
-    for seed in 0..2 {
-        scenes::any_bytes(&mut lent, seed)?;
-        assert!(rt; scenes::every_call_returns(alloc, &mut lent)?);
-    }
-    Ok(())
+fn two_hundred_texts_are_changed(rt: HostRuntime) {
+    assert!(rt; over_pages(rt.alloc(), Scene::Changes) == Ok(true));
+}
+
+#[test]
+fn calls_return_on_any_bytes(rt: HostRuntime) {
+    assert!(rt; over_pages(rt.alloc(), Scene::AnyBytes) == Ok(true));
 }

@@ -8,9 +8,6 @@ ghost use Rattle.elan_grammar.specs.Reads.{Reads};
 ghost use Rattle.elan_grammar.specs.Stops.{left};
 ghost use Rattle.elan_grammar.specs.Depth.{type_depth, level_unit_depth, level_depth, tree_depth, deepest_of};
 
-use crate::bodies::{MOST, last_point, tail};
-use crate::operators::operator;
-use crate::procs::{end_name, proc};
 use containers::{List, NoMemory};
 use elan_cursor::Cursor;
 use elan_cursor::kind::{begins_typed, is_comma, is_key};
@@ -18,6 +15,7 @@ use elan_grammar::ParseError;
 use elan_grammar::tall::{Tall, and, one, one_more, single, with_next};
 use elan_tree::{Export, Key, Level, LevelUnit, Sign, Token, Tree, TypePhrase};
 use phrase_parser::{declared, plain};
+use procedure_parser::{MOST, end_name, last_point, operator, proc, tail};
 use std::alloc::Global;
 use type_parser::types;
 

@@ -5,7 +5,7 @@ use Rattle.elan_grammar.specs.Kinds.{leads}
 use Rattle.elan_grammar.specs.Terminals.{mark}
 use Rattle.elan_grammar.specs.Grammar as grammar
 use Rattle.elan_grammar.specs.Depth.{refinement_depth, deepest_of}
-use Rattle.text_parser.proofs.bodies.refinement_list.Given as goal
+use Rattle.procedure_parser.proofs.bodies.refinement_list.Given as goal
 
 abbrev pub invariant-loop-turn : goal.invariant-loop-turn
 invariant-loop-turn l =

@@ -1,0 +1,10 @@
+//! The parser of PROC and OP, and of bodies with their refinements.
+#![tactic(auto)]
+
+mod bodies;
+mod operators;
+mod procs;
+
+pub use bodies::{MOST, last_point, tail};
+pub use operators::operator;
+pub use procs::{end_name, proc};

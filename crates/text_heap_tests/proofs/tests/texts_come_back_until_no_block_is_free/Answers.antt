@@ -1,5 +1,0 @@
-use Rattle.text_heap_tests.proofs.Spaces.{nil_stands}
-use Rattle.text_heap_tests.proofs.tests.texts_come_back_until_no_block_is_free.Goals as goal
-
-pub over-lent-requires : goal.over-lent-requires
-over-lent-requires g c = record { agree = rw (c.new-pool.ensures, c.nil-space.ensures) nil_stands }
