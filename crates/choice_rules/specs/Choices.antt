@@ -16,9 +16,9 @@ use Rattle.elan_scope.specs.declared.delivery.Delivery.TheVariants.{Open, Nothin
 use Rattle.elan_meant.specs.declared.meant.Meant.{Meant}
 use Rattle.elan_meant.specs.declared.meant.Meant.TheVariants.{Value, Done, Left, Labels}
 use Rattle.elan_scope.specs.declared.scope.Found.{Found}
+use Rattle.elan_meant.specs.Verdict.{Verdict, gives, breaks, ◌>>=◌}
 use Rattle.elan_meant.specs.Operands.{delivers}
 use Rattle.elan_meant.specs.Parts.{value_of, actions, blank, unreached, pairs, odd}
-use Rattle.elan_scope.specs.Ruled.{Ruled, gives, breaks, ◌>>=◌}
 
 -- ---- what parts deliver, and whether they agree
 
@@ -44,7 +44,7 @@ value_as t (Left as') = unreached as' t
 value_as t m = blank t
 
 -- a choice of parts that deliver this together: it does this, or has this value
-abbrev pub delivering : ℕ → List Action → (ElanType → ValuePhrase) → Option Delivery → Ruled Meant
+abbrev pub delivering : ℕ → List Action → (ElanType → ValuePhrase) → Option Delivery → Verdict Meant
 delivering at as' value_of_type None = breaks (at, WrongType)
 delivering at as' value_of_type (Some Nothing) = gives (Done as')
 delivering at as' value_of_type (Some Open) = gives (Left as')
@@ -68,19 +68,19 @@ abbrev pub if_value : ValuePhrase → Meant → Meant → ElanType → ValuePhra
 if_value c m n t = value.If c (value_as t m) (value_as t n)
 
 -- one of two parts, which deliver the same
-abbrev pub chosen_of : ℕ → ValuePhrase → Meant → Meant → Ruled Meant
+abbrev pub chosen_of : ℕ → ValuePhrase → Meant → Meant → Verdict Meant
 chosen_of at c m n = delivering at (if_actions c m n) (if_value c m n) (joined (delivery_in m) (delivery_in n))
 
 -- A condition is a truth value.
-abbrev pub branched : ℕ → Guard → Meant → Ruled Meant
+abbrev pub branched : ℕ → Guard → Meant → Verdict Meant
 branched at g m = if delivers Truths g.0 then chosen_of at (value_of g.0) g.1 m else breaks (at, WrongType)
 
 -- branches from the first one on, and the part for none of them
-abbrev pub chain : ℕ → List Guard → Ruled Meant → Ruled Meant
+abbrev pub chain : ℕ → List Guard → Verdict Meant → Verdict Meant
 chain at [] r = r
 chain at (g ∷ gs) r = chain at gs r >>= branched at g
 
-abbrev pub choice : ℕ → List Meant → Ruled Meant
+abbrev pub choice : ℕ → List Meant → Verdict Meant
 choice at ms = chain at (pairs ms) (gives (otherwise (odd ms)))
 
 -- ---- SELECT
@@ -89,11 +89,11 @@ abbrev pub is_in : List ℤ → ℤ → Bool
 is_in [] n = false
 is_in (m ∷ ms) n = int_eq m n || is_in ms n
 
-abbrev pub label_is : ℕ → List ℤ → ℤ → Ruled Meant
+abbrev pub label_is : ℕ → List ℤ → ℤ → Verdict Meant
 label_is at earlier n = if is_in earlier n then breaks (at, Doubled) else gives (Labels (n ∷ []))
 
 -- An identifier as a label names a number of a LET, which is not built: all other names have the wrong type.
-abbrev pub label_named : ℕ → Bool → Option Found → Ruled Meant
+abbrev pub label_named : ℕ → Bool → Option Found → Verdict Meant
 label_named at known (Some f) = breaks (at, WrongType)
 label_named at known None = if known then breaks (at, WrongType) else breaks (at, Unknown)
 
@@ -126,8 +126,8 @@ select_actions v gs m = action.Select v (map action_arm gs) (actions m) ∷ []
 abbrev pub select_value : ValuePhrase → List Guard → Meant → ElanType → ValuePhrase
 select_value v gs m t = value.Select v (map (value_arm t) gs) (value_as t m)
 
-abbrev pub selected_by : ℕ → ValuePhrase → List Guard → Meant → Ruled Meant
+abbrev pub selected_by : ℕ → ValuePhrase → List Guard → Meant → Verdict Meant
 selected_by at v gs m = delivering at (select_actions v gs m) (select_value v gs m) (agreed (Some (delivery_in m)) gs)
 
-abbrev pub selected : ℕ → Meant → List Meant → Ruled Meant
+abbrev pub selected : ℕ → Meant → List Meant → Verdict Meant
 selected at m ms = if delivers Int m then selected_by at (value_of m) (pairs ms) (otherwise (odd ms)) else breaks (at, WrongType)

@@ -1,10 +1,9 @@
 //! IF: conditions, and parts that deliver the same.
 
 ghost use Rattle.std.specs.Prelude.{◌≡◌, IfOk};
-ghost use Rattle.elan_scope.specs.Ruled.{gives};
 ghost use Rattle.elan_meant.specs.Parts as meanings;
 ghost use Rattle.choice_rules.specs.Choices as spec;
-ghost use Rattle.elan_scope.specs.Answer.{Is};
+ghost use Rattle.elan_meant.specs.Verdict.{gives, Tells};
 
 use crate::parts::{delivery_in, joined, part_for_none, value_as};
 use elan_meant::arity::pairs_of;
@@ -55,7 +54,7 @@ fn chosen_of(
     first: Meant,
     second: Meant,
 ) -> Judged
-    ensures { Is result (spec.chosen_of at condition first second) }
+    ensures { Tells result (spec.chosen_of at condition first second) }
 {
     match joined(delivery_in(&first), delivery_in(&second)) {
         None => {
@@ -81,7 +80,7 @@ fn chosen_of(
 
 // One of two parts, the first of which a truth value guards.
 fn guarded(alloc: Global, at: u32, condition: Meant, units: Meant, rest: Meant) -> Judged
-    ensures { Is result (spec.chosen_of at (meanings.value_of condition) units rest) }
+    ensures { Tells result (spec.chosen_of at (meanings.value_of condition) units rest) }
 {
     match value_of(alloc, condition) {
         Err(_refusal) => {
@@ -94,7 +93,7 @@ fn guarded(alloc: Global, at: u32, condition: Meant, units: Meant, rest: Meant) 
 }
 
 fn branched(alloc: Global, at: u32, branch: (Meant, Meant), rest: Meant) -> Judged
-    ensures { Is result (spec.branched at branch rest) }
+    ensures { Tells result (spec.branched at branch rest) }
 {
     let (condition, units) = branch;
     if delivers(ElanType::Bool, &condition) {
@@ -108,9 +107,8 @@ fn branched(alloc: Global, at: u32, branch: (Meant, Meant), rest: Meant) -> Judg
 }
 
 // Branches, from the first one on, and the part for none of them.
-#[tactic(auto, using(crate::proofs::Lists::chain_push))]
 fn chain(alloc: Global, at: u32, mut branches: List<(Meant, Meant)>, otherwise: Meant) -> Judged
-    ensures { Is result (spec.chain at branches (gives otherwise)) }
+    ensures { Tells result (spec.chain at branches (gives otherwise)) }
 {
     let mut rest = otherwise;
     while let Some(branch) = branches.pop() {
@@ -127,7 +125,7 @@ fn chain(alloc: Global, at: u32, mut branches: List<(Meant, Meant)>, otherwise: 
 
 /// Conditions, each before its units, and the units of ELSE.
 pub fn choice(alloc: Global, at: u32, parts: List<Meant>) -> Judged
-    ensures { Is result (spec.choice at parts) }
+    ensures { Tells result (spec.choice at parts) }
 {
     let (branches, otherwise) = pairs_of(alloc, parts)?;
     chain(alloc, at, branches, part_for_none(alloc, otherwise))

@@ -4,7 +4,8 @@ ghost use Rattle.std.specs.Prelude.{◌≡◌, ◌∷◌, [], IfOk, Some, map};
 ghost use Rattle.elan_meant.specs.Parts as meanings;
 ghost use Rattle.elan_meant.specs.declared.meant.Meant.TheVariants as means;
 ghost use Rattle.choice_rules.specs.Choices as spec;
-ghost use Rattle.elan_scope.specs.Answer.{Is, Gives};
+ghost use Rattle.elan_scope.specs.Answer.{Gives};
+ghost use Rattle.elan_meant.specs.Verdict.{told, Tells};
 
 use crate::parts::{delivery_in, joined, part_for_none, value_as};
 use elan_meant::arity::pairs_of;
@@ -32,7 +33,7 @@ fn is_in(labels: &[i16], number: i16) -> bool
 
 /// A label after others.
 pub fn label_is(at: u32, earlier: &[i16], number: i16) -> Result<i16, Trouble>
-    ensures { Gives (λ n. means.Labels (n ∷ [])) result (spec.label_is at earlier.now number) }
+    ensures { Gives (λ n. means.Labels (n ∷ [])) result (told (spec.label_is at earlier.now number)) }
 {
     if is_in(earlier, number) {
         Err(Trouble::Breaks(at, Why::Doubled))
@@ -43,7 +44,7 @@ pub fn label_is(at: u32, earlier: &[i16], number: i16) -> Result<i16, Trouble>
 
 /// An identifier as a label, whether it can be called, and the declaration that it denotes.
 pub fn label_named(at: u32, is_known: bool, found: Option<Found>) -> Result<i16, Trouble>
-    ensures { Gives (λ n. means.Labels (n ∷ [])) result (spec.label_named at is_known found) }
+    ensures { Gives (λ n. means.Labels (n ∷ [])) result (told (spec.label_named at is_known found)) }
 {
     match found {
         Some(_) => Err(Trouble::Breaks(at, Why::WrongType)),
@@ -163,7 +164,7 @@ fn selected_by(
     arms: List<(Meant, Meant)>,
     otherwise: Meant,
 ) -> Judged
-    ensures { Is result (spec.selected_by at value arms otherwise) }
+    ensures { Tells result (spec.selected_by at value arms otherwise) }
 {
     match agreed(delivery_in(&otherwise), arms.as_slice()) {
         None => {
@@ -189,7 +190,7 @@ fn selected_by(
 
 // The parts behind the value.
 fn selected_among(alloc: Global, at: u32, value: Boxed<ValuePhrase>, parts: List<Meant>) -> Judged
-    ensures { Is result (spec.selected_by at value (meanings.pairs parts) (spec.otherwise (meanings.odd parts))) }
+    ensures { Tells result (spec.selected_by at value (meanings.pairs parts) (spec.otherwise (meanings.odd parts))) }
 {
     match pairs_of(alloc, parts) {
         Err(_) => {
@@ -204,7 +205,7 @@ fn selected_among(alloc: Global, at: u32, value: Boxed<ValuePhrase>, parts: List
 
 /// The value to choose by; then labels, each before their units, and the units of OTHERWISE.
 pub fn selected(alloc: Global, at: u32, value: Meant, parts: List<Meant>) -> Judged
-    ensures { Is result (spec.selected at value parts) }
+    ensures { Tells result (spec.selected at value parts) }
 {
     if delivers(ElanType::Int, &value) {
         match value_of(alloc, value) {

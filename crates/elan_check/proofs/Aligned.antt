@@ -32,15 +32,16 @@ use Rattle.elan_scope.specs.declared.scope.Found.{Found}
 use Rattle.elan_levels.specs.Bodies as b
 use Rattle.elan_levels.specs.Bodies.{parameters, result, parameter_names, own_names, body_names, refinement_headings, bodies_in, unit_headings, all_headings}
 use Rattle.elan_scope.specs.Phrase as form
-use Rattle.elan_scope.specs.Phrase.{Phrase, phrase, Parts, none, part, all_of, leaf}
-use Rattle.elan_scope.specs.Ruled.{Ruled, gives, breaks, before}
+use Rattle.elan_scope.specs.Phrase.{plain, Phrase, phrase, Parts, none, part, all_of, leaf}
+use Rattle.elan_scope.specs.Ruled.{Ruled, gives, before}
 use Rattle.elan_scope.specs.declared.delivery.Delivery.TheVariants.{Open}
 use Rattle.elan_scope.specs.Known.{delivered}
 use Rattle.elan_check.specs.Refinements.{told}
 use Rattle.elan_scope.specs.declared.known.Known.{Known}
 use Rattle.value_rules.specs.Calls as calls
 use Rattle.unit_rules.specs.Units as u
-use Rattle.elan_rules.specs.Rules.{rule}
+use Rattle.elan_meant.specs.Verdict as verdict
+use Rattle.elan_rules.specs.Rules.{ruled}
 use Rattle.elan_judge.specs.Shape as shape
 use Rattle.elan_check.specs.Level as l
 use Rattle.elan_rules.specs.Meaning.{judged, judged_all}
@@ -160,8 +161,9 @@ module _ (kn : Known) (s : Scope) (all : List Body) where
   owner_is None = refl
   owner_is (Some v) = refl
 
-  two_bodies : (o : Owner) (ms : List Meant) (m n v : Meant) → ms ≡ n ∷ v ∷ [] → rule kn (form.refinement o) ms ≡ gives m → m ≡ u.body_with o (u.content_of v)
-  two_bodies o ms m n v e h = sym (gives_is (u.body_with o (u.content_of v)) m (ap (rule kn (form.refinement o)) (sym e) ∙ h))
+  two_bodies : (o : Owner) (ms : List Meant) (m n v : Meant) → ms ≡ n ∷ v ∷ [] → ruled kn (plain (form.refinement o)) ms ≡ gives m
+      → m ≡ u.body_with o (u.content_of v)
+  two_bodies o ms m n v e h = sym (gives_is (u.body_with o (u.content_of v)) m (ap (ruled kn (plain (form.refinement o))) (sym e) ∙ h))
 
   pub refinement_rows : (z : Scope) (k : ℕ) (rs : List Refined) (ms : List Meant) → z.headings ≡ s.headings → z.level ≡ s.level → Frames all z.routine →
       judged_all kn (all_of (l.refinements z k rs)) ≡ gives ms
@@ -170,7 +172,8 @@ module _ (kn : Known) (s : Scope) (all : List Body) where
   refinement_rows z k (r ∷ rs) ms hh hl fr e =
       let q = before_gives (judged kn (l.refinement z k r)) (judged_all kn (all_of (l.refinements z (suc k) rs))) ms e in
       let a =
-      bind_gives (judged_all kn (part (l.declares z r.name) (part (l.refined_units z k r) none))) (rule kn (form.refinement (l.owner_of z.routine))) q.0 q.2
+      bind_gives (judged_all kn (part (l.declares z r.name) (part (l.refined_units z k r) none)))
+      (ruled kn (plain (form.refinement (l.owner_of z.routine)))) q.0 q.2
       in
       let c = before_gives (judged kn (l.declares z r.name)) (judged_all kn (part (l.refined_units z k r) none)) a.0 a.1 in
       let d = before_gives (judged kn (l.refined_units z k r)) (gives []) c.1 c.3 in
@@ -220,11 +223,12 @@ module _ (kn : Known) (s : Scope) (all : List Body) where
   declared_as_quiet at home n denotes.Procedure = refl
   declared_as_quiet at home n denotes.Refinement = refl
 
-  declared_quiet : (at : ℕ) (o : Option Found) (m : Meant) → calls.declared at o ≡ gives m → u.bodies_in m ≡ []
+  declared_quiet : (at : ℕ) (o : Option Found) (m : Meant) → verdict.told (calls.declared at o) ≡ gives m → u.bodies_in m ≡ []
   declared_quiet at None m e = absurd cc
   declared_quiet at (Some f) m e = by_test (nat_eq f.at at) e
     where
-      by_test : (c : Bool) → (if c then gives (calls.declared_as at f.home f.number f.denotes) else breaks (at, Doubled)) ≡ gives m → u.bodies_in m ≡ []
+      by_test : (c : Bool) → verdict.told (if c then verdict.gives (calls.declared_as at f.home f.number f.denotes) else verdict.breaks (at, Doubled)) ≡ gives m
+          → u.bodies_in m ≡ []
       by_test true h = ap u.bodies_in (sym (gives_is (calls.declared_as at f.home f.number f.denotes) m h)) ∙ declared_as_quiet at f.home f.number f.denotes
       by_test false h = absurd cc
 
@@ -239,11 +243,13 @@ module _ (kn : Known) (s : Scope) (all : List Body) where
   parameters_quiet z [] = tt
   parameters_quiet z (f ∷ fs) = quiet_append (l.declare_all z f.names) (l.declare_parameters z fs) (all_declare_quiet z f.names) (parameters_quiet z fs)
 
-  headed_quiet : (at : ℕ) (missing : Bool) (o : Option (ℕ × Heading)) (m : Meant) → calls.headed at missing o ≡ gives m → u.bodies_in m ≡ []
+  headed_quiet : (at : ℕ) (missing : Bool) (o : Option (ℕ × Heading)) (m : Meant) → verdict.told (calls.headed at missing o) ≡ gives m → u.bodies_in m ≡ []
   headed_quiet at missing None m e = absurd cc
   headed_quiet at missing (Some h) m e = by_tests (nat_eq h.1.at at) missing e
     where
-      by_tests : (c d : Bool) → (if c then (if d then breaks (at, WrongType) else gives (Done [])) else breaks (at, Doubled)) ≡ gives m → u.bodies_in m ≡ []
+      by_tests : (c d : Bool)
+          → verdict.told (if c then (if d then verdict.breaks (at, WrongType) else verdict.gives (Done [])) else verdict.breaks (at, Doubled)) ≡ gives m
+          → u.bodies_in m ≡ []
       by_tests true true h = absurd cc
       by_tests true false h = ap u.bodies_in (sym (gives_is (Done []) m h))
       by_tests false d h = absurd cc
@@ -261,16 +267,17 @@ module _ (kn : Known) (s : Scope) (all : List Body) where
     abbrev inner : Scope
     inner = l.inner s k at x t fs w
 
-    one_body : (r : Option ElanType) (ms : List Meant) (m v : Meant) → ms ≡ v ∷ [] → rule kn (form.body own r) ms ≡ gives m
+    one_body : (r : Option ElanType) (ms : List Meant) (m v : Meant) → ms ≡ v ∷ [] → ruled kn (plain (form.body own r)) ms ≡ gives m
         → m ≡ u.body_with own (u.content_as r v)
-    one_body r ms m v e h = sym (gives_is (u.body_with own (u.content_as r v)) m (ap (rule kn (form.body own r)) (sym e) ∙ h))
+    one_body r ms m v e h = sym (gives_is (u.body_with own (u.content_as r v)) m (ap (ruled kn (plain (form.body own r))) (sym e) ∙ h))
 
     pub routine_rows : (sort : Sort) (names : List Phrase) (m : Meant) → AllQuiet names → judged kn (l.routine s k at x t fs w sort names) ≡ gives m
         → Inside k (u.bodies_in m) all →
         Rows k (b.routine_heading sort at x fs t ∷ refinement_headings (Some k) w.refinements) (l.routine_units s k at x t fs w) (u.bodies_in m)
     routine_rows sort names m quiet e inside =
         let q =
-        bind_gives (judged_all kn (all_of (l.heading_phrases s k at x t fs w sort names ++ l.body_phrases s k at x t fs w))) (rule kn form.routine) m e in
+        bind_gives (judged_all kn (all_of (l.heading_phrases s k at x t fs w sort names ++ l.body_phrases s k at x t fs w)))
+        (ruled kn (plain form.routine)) m e in
         let p = split kn (l.heading_phrases s k at x t fs w sort names) (l.body_phrases s k at x t fs w) q.0 q.1 in
         let silent : u.bodies_of p.0 ≡ [] =
         quiet_bodies (l.heading_phrases s k at x t fs w sort names) p.0
@@ -281,7 +288,7 @@ module _ (kn : Known) (s : Scope) (all : List Body) where
           parameters_quiet inner fs,
         )) p.2 in
         let a = before_gives (judged kn (l.own_body s k at x t fs w)) (judged_all kn (all_of (l.refinements inner (suc k) w.refinements))) p.1 p.3 in
-        let c = bind_gives (judged_all kn (part (l.own_units s k at x t fs w) none)) (rule kn (form.body own (result t))) a.0 a.2 in
+        let c = bind_gives (judged_all kn (part (l.own_units s k at x t fs w) none)) (ruled kn (plain (form.body own (result t)))) a.0 a.2 in
         let d = before_gives (judged kn (l.own_units s k at x t fs w)) (gives []) c.0 c.1 in
         let one : c.0 ≡ d.0 ∷ [] = d.4 ∙ ap (λ (ns : List Meant). d.0 ∷ ns) (sym (gives_is [] d.1 d.3)) in
         let made = one_body (result t) c.0 a.0 d.0 one c.2 in

@@ -19,7 +19,7 @@ use Rattle.elan_scope.specs.declared.delivery.Delivery.{Delivery}
 use Rattle.elan_scope.specs.declared.delivery.Delivery.TheVariants.{Open, Nothing, Of}
 use Rattle.elan_scope.specs.declared.scope.Scope.{Scope}
 use Rattle.elan_scope.specs.Phrase as form
-use Rattle.elan_scope.specs.Phrase.{Form, Phrase, phrase, Parts, none, part, all_of, around}
+use Rattle.elan_scope.specs.Phrase.{Form, asking, Plain, plain, Phrase, phrase, Parts, none, part, all_of, around}
 use Rattle.elan_rules.specs.Meaning.{phrases, phrases_of}
 use Rattle.elan_judge.specs.Shape as shape
 use Rattle.elan_tree.specs.declared.written_type.TypePhrase.{TypePhrase}
@@ -56,8 +56,11 @@ abbrev calls : Parts → List ℕ
 calls ps = called_by_all (phrases_of ps)
 
 -- a phrase that is no call itself
-whole : (f : Form) (ps : Parts) → called_by (phrase f ps) ≡ [] → called_in (phrase f ps) ≡ calls ps
-whole f ps h = called_append (phrases_of ps) (phrase f ps ∷ []) ∙ ap (λ (ns : List ℕ). calls ps ++ (ns ++ [])) h ∙ nil (calls ps)
+whole_of : (f : Form) (ps : Parts) → called_by (phrase f ps) ≡ [] → called_in (phrase f ps) ≡ calls ps
+whole_of f ps h = called_append (phrases_of ps) (phrase f ps ∷ []) ∙ ap (λ (ns : List ℕ). calls ps ++ (ns ++ [])) h ∙ nil (calls ps)
+
+whole : (f : Plain) (ps : Parts) → called_by (phrase (plain f) ps) ≡ [] → called_in (phrase (plain f) ps) ≡ calls ps
+whole f ps h = whole_of (plain f) ps h
 
 first_part : (p : Phrase) (ps : Parts) → calls (part p ps) ≡ called_in p ++ calls ps
 first_part p ps = called_append (phrases p) (phrases_of ps)
@@ -79,11 +82,11 @@ append_parts (p ∷ ps) qs =
     first_part p (all_of (ps ++ qs)) ∙ ap (λ (ns : List ℕ). called_in p ++ ns) (append_parts ps qs)
     ∙ sym (assoc (called_in p) (calls (all_of ps)) (calls (all_of qs))) ∙ ap (λ (ns : List ℕ). ns ++ calls (all_of qs)) (sym (first_part p (all_of ps)))
 
-one_calls : (f : Form) (p : Phrase) → called_by (around f p) ≡ [] → called_in (around f p) ≡ called_in p
+one_calls : (f : Plain) (p : Phrase) → called_by (around f p) ≡ [] → called_in (around f p) ≡ called_in p
 one_calls f p h = whole f (part p none) h ∙ one_part p
 
-two_call : (f : Form) (p q : Phrase) (xs ys : List ℕ) → called_by (phrase f (part p (part q none))) ≡ [] → called_in p ≡ xs → called_in q ≡ ys
-    → called_in (phrase f (part p (part q none))) ≡ xs ++ ys
+two_call : (f : Plain) (p q : Phrase) (xs ys : List ℕ) → called_by (phrase (plain f) (part p (part q none))) ≡ [] → called_in p ≡ xs → called_in q ≡ ys
+    → called_in (phrase (plain f) (part p (part q none))) ≡ xs ++ ys
 two_call f p q xs ys h e g = whole f (part p (part q none)) h ∙ two_parts p q ∙ both (called_in p) xs (called_in q) ys e g
 
 module _ (s : Scope) where
@@ -97,8 +100,8 @@ module _ (s : Scope) where
       found_append [] = refl
       found_append (m ∷ ms) = ap (λ (l : List ℕ). uses.called s m ++ l) (found_append ms) ∙ sym (assoc (uses.called s m) (found ms) (found ns))
 
-  two_found : (f : Form) (p q : Phrase) (ms ns : List Node) → called_by (phrase f (part p (part q none))) ≡ [] → called_in p ≡ found ms → called_in q ≡ found ns
-      → called_in (phrase f (part p (part q none))) ≡ found (ms ++ ns)
+  two_found : (f : Plain) (p q : Phrase) (ms ns : List Node) → called_by (phrase (plain f) (part p (part q none))) ≡ [] → called_in p ≡ found ms
+      → called_in q ≡ found ns → called_in (phrase (plain f) (part p (part q none))) ≡ found (ms ++ ns)
   two_found f p q ms ns h e g = two_call f p q (called_in p) (called_in q) h refl refl ∙ split (called_in p) (called_in q) ms ns e g
 
   -- what the phrase of a unit calls, if it has one
@@ -225,7 +228,7 @@ module _ (s : Scope) where
   absent = form.leaf form.absent
 
   selected : (at : ℕ) (of : (e : Expr) × E e) (rest : Parts) (ms ns : List Node) → calls rest ≡ found (ms ++ ns)
-      → called_in (phrase (form.selection at) (part (shape.expr s of.0) rest)) ≡ found (nodes.in_expr of.0 ++ ms ++ ns)
+      → called_in (phrase (plain (form.selection at)) (part (shape.expr s of.0) rest)) ≡ found (nodes.in_expr of.0 ++ ms ++ ns)
   selected at of rest ms ns h =
       whole (form.selection at) (part (shape.expr s of.0) rest) refl ∙ first_part (shape.expr s of.0) rest
       ∙ split (called_in (shape.expr s of.0)) (calls rest) (nodes.in_expr of.0) (ms ++ ns) of.1 h
@@ -339,7 +342,8 @@ module _ (s : Scope) where
   unit_calls (t.Loop at (Some k) (Some c) us (Some v)) =
       count_calls at k (shape.expr s c.0) (shape.expr s v.0) us (nodes.in_expr c.0) (nodes.in_expr v.0) c.1 v.1
   unit_calls (t.Leave at n None) = refl
-  unit_calls (t.Leave at n (Some v)) = one_calls _ (shape.expr s v.0) refl ∙ v.1
+  unit_calls (t.Leave at n (Some v)) =
+      whole_of (asking (form.leave at s n.text)) (part (shape.expr s v.0) none) refl ∙ one_part (shape.expr s v.0) ∙ v.1
 
   branch_calls : (y : Below Branch-F)
       → pair_calls (shape.branch_step s

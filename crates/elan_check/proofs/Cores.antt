@@ -14,9 +14,9 @@ use Rattle.elan_scope.specs.Scope.{variables_of}
 use Rattle.elan_meant.specs.Parts.{actions_of}
 use Rattle.unit_rules.specs.Units.{bodies_of}
 use Rattle.elan_scope.specs.Phrase as form
-use Rattle.elan_scope.specs.Phrase.{all_of}
+use Rattle.elan_scope.specs.Phrase.{plain, all_of}
 use Rattle.elan_scope.specs.Ruled.{Ruled, gives, breaks, hangs, ◌>>=◌}
-use Rattle.elan_rules.specs.Rules.{rule}
+use Rattle.elan_rules.specs.Rules.{ruled}
 use Rattle.elan_rules.specs.Meaning.{judged, judged_all}
 use Rattle.elan_check.specs.declared.error.CheckError.TheVariants.{NoMeaning}
 use Rattle.elan_levels.specs.Bodies.{headings, level_names}
@@ -30,8 +30,8 @@ module _ (w : Level) (k : Known) (is : k ≡ known_of (headings w) (level_bodies
   abbrev kn : Known
   kn = known_of (headings w) (level_bodies w)
 
-  level_is : (r : Ruled (List Meant)) → judged_all k (all_of (level_parts w)) ≡ r → judged kn (level_phrase w) ≡ (r >>= rule kn form.level)
-  level_is r e = ap (λ (q : Ruled (List Meant)). q >>= rule kn form.level) (ap (λ (j : Known). judged_all j (all_of (level_parts w))) (sym is) ∙ e)
+  level_is : (r : Ruled (List Meant)) → judged_all k (all_of (level_parts w)) ≡ r → judged kn (level_phrase w) ≡ (r >>= ruled kn (plain form.level))
+  level_is r e = ap (λ (q : Ruled (List Meant)). q >>= ruled kn (plain form.level)) (ap (λ (j : Known). judged_all j (all_of (level_parts w))) (sym is) ∙ e)
 
   pub core_is : (ms : List Meant) (core : Core) → judged_all k (all_of (level_parts w)) ≡ gives ms → core.variables ≡ variables_of (level_names w)
       → core.units ≡ actions_of ms → core.bodies ≡ bodies_of ms → Answers w (Ok core)

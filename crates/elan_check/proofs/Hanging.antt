@@ -13,19 +13,21 @@ use Rattle.elan_scope.specs.Scope.{number_of, refinement_named}
 use Rattle.elan_scope.specs.declared.scope.Scope.{Scope}
 use Rattle.elan_scope.specs.declared.scope.Found.{Found}
 use Rattle.elan_scope.specs.Phrase as form
-use Rattle.elan_scope.specs.Phrase.{Form, Phrase, phrase, Parts, none, part, all_of, around, leaf}
+use Rattle.elan_scope.specs.Phrase.{Form, asking, plain, Phrase, phrase, Parts, none, part, all_of, around, leaf}
 use Rattle.elan_scope.specs.Ruled.{Ruled, gives, breaks, hangs, ◌>>=◌, before}
 use Rattle.elan_scope.specs.Known.{delivery_at, leads_back}
 use Rattle.elan_scope.specs.declared.known.Known.{Known}
 use Rattle.value_rules.specs.Calls as c
-use Rattle.elan_rules.specs.Rules.{rule}
+use Rattle.elan_rules.specs.Rules.{rule, ruled}
 use Rattle.elan_rules.specs.Meaning.{judged, judged_all, phrases, phrases_of}
 use Rattle.elan_check.specs.Refinements.{told, last_unit, last_part, unit_delivery, outcome, called_by, called_by_all, called_in}
 use Rattle.elan_levels.specs.Called.{number_list}
 use Rattle.elan_rules.proofs.First.{Faultless, whole, open_one, bind_faultless, before_faultless, breaks_has_fault}
 use Rattle.elan_check.proofs.Calls.{called_append}
 use Rattle.elan_judge.proofs.InScope.{Names, InScope, AllIn}
-use Rattle.elan_rules.proofs.Firm.{rules, not_hung, named_open}
+use Rattle.elan_rules.proofs.Hung.{named_open}
+use Rattle.elan_meant.proofs.Told.{told_never_hangs}
+use Rattle.elan_meant.specs.Parts.{one_of, on_one}
 use Rattle.elan_check.proofs.Walks.{In}
 use Rattle.elan_check.proofs.Settled.{not_open}
 use Rattle.elan_rules.proofs.TypedCalls.{first_at}
@@ -106,47 +108,20 @@ module _ (kn : Known) where
   Leaf z ns = (n : ℕ) × In n ns × (delivery_at kn n ≡ Open) × (leads_back kn n z.refinement ≡ false) × IsHeaded z.headings n
 
   named_leaf : (z : Scope) (u : Usage) (at : ℕ) (s : Scope) (x : List ℕ) (ps : Parts) → s ≡ z → c.named kn u at s x (scope.find s x) ≡ hangs
-      → Leaf z (called_by_all (phrase (form.named u at s x) ps ∷ []))
+      → Leaf z (called_by_all (phrase (asking (form.named u at s x)) ps ∷ []))
   named_leaf z u at s x ps i e =
       let w = named_open kn at s x u (scope.find s x) e in
       let o = w.1 in
-      let here : In o.0 (called_by (phrase (form.named usage.Expression at s x) ps)) = subst (λ (q : Option ℕ). In o.0 (number_list q)) (sym o.1) (inl refl) in
-      subst (λ (v : Usage). Leaf z (called_by_all (phrase (form.named v at s x) ps ∷ []))) (sym w.0)
-      (subst (λ (y : Scope). Leaf y (called_by_all (phrase (form.named usage.Expression at s x) ps ∷ []))) i
-      (o.0, in_first o.0 (called_by (phrase (form.named usage.Expression at s x) ps)) [] here, o.2, o.3, named_headed s x (scope.find s x) o.0 o.1))
+      let here : In o.0 (called_by (phrase (asking (form.named usage.Expression at s x)) ps)) =
+      subst (λ (q : Option ℕ). In o.0 (number_list q)) (sym o.1) (inl refl) in
+      subst (λ (v : Usage). Leaf z (called_by_all (phrase (asking (form.named v at s x)) ps ∷ []))) (sym w.0)
+      (subst (λ (y : Scope). Leaf y (called_by_all (phrase (asking (form.named usage.Expression at s x)) ps ∷ []))) i
+      (o.0, in_first o.0 (called_by (phrase (asking (form.named usage.Expression at s x)) ps)) [] here, o.2, o.3, named_headed s x (scope.find s x) o.0 o.1))
 
-  form_leaf : (z : Scope) (f : Form) (ps : Parts) → Names z f → (ms : List Meant) → rule kn f ms ≡ hangs → Leaf z (called_by_all (phrase f ps ∷ []))
-  form_leaf z form.absent ps i ms e = absurd (not_hung (rule kn form.absent ms) e (rules kn form.absent ms tt))
-  form_leaf z form.not_built ps i ms e = absurd (not_hung (rule kn form.not_built ms) e (rules kn form.not_built ms tt))
-  form_leaf z (form.number a0 a1) ps i ms e = absurd (not_hung (rule kn (form.number a0 a1) ms) e (rules kn (form.number a0 a1) ms tt))
-  form_leaf z (form.truth a0 a1) ps i ms e = absurd (not_hung (rule kn (form.truth a0 a1) ms) e (rules kn (form.truth a0 a1) ms tt))
-  form_leaf z (form.named u a0 a1 a2) ps i ms e = named_leaf z u a0 a1 a2 ps i e
-  form_leaf z (form.applied a0 a1 a2 a3) ps i ms e = absurd (not_hung (rule kn (form.applied a0 a1 a2 a3) ms) e (rules kn (form.applied a0 a1 a2 a3) ms tt))
-  form_leaf z (form.bracket a0) ps i ms e = absurd (not_hung (rule kn (form.bracket a0) ms) e (rules kn (form.bracket a0) ms tt))
-  form_leaf z (form.cand a0) ps i ms e = absurd (not_hung (rule kn (form.cand a0) ms) e (rules kn (form.cand a0) ms tt))
-  form_leaf z (form.cor a0) ps i ms e = absurd (not_hung (rule kn (form.cor a0) ms) e (rules kn (form.cor a0) ms tt))
-  form_leaf z (form.choice a0) ps i ms e = absurd (not_hung (rule kn (form.choice a0) ms) e (rules kn (form.choice a0) ms tt))
-  form_leaf z (form.label a0 a1 a2) ps i ms e = absurd (not_hung (rule kn (form.label a0 a1 a2) ms) e (rules kn (form.label a0 a1 a2) ms tt))
-  form_leaf z (form.label_name a0 a1 a2) ps i ms e = absurd (not_hung (rule kn (form.label_name a0 a1 a2) ms) e (rules kn (form.label_name a0 a1 a2) ms tt))
-  form_leaf z form.labels ps i ms e = absurd (not_hung (rule kn form.labels ms) e (rules kn form.labels ms tt))
-  form_leaf z (form.selection a0) ps i ms e = absurd (not_hung (rule kn (form.selection a0) ms) e (rules kn (form.selection a0) ms tt))
-  form_leaf z (form.declares a0 a1 a2) ps i ms e = absurd (not_hung (rule kn (form.declares a0 a1 a2) ms) e (rules kn (form.declares a0 a1 a2) ms tt))
-  form_leaf z (form.initial a0) ps i ms e = absurd (not_hung (rule kn (form.initial a0) ms) e (rules kn (form.initial a0) ms tt))
-  form_leaf z (form.declaration a0) ps i ms e = absurd (not_hung (rule kn (form.declaration a0) ms) e (rules kn (form.declaration a0) ms tt))
-  form_leaf z form.statement ps i ms e = absurd (not_hung (rule kn form.statement ms) e (rules kn form.statement ms tt))
-  form_leaf z (form.assignment a0 s0) ps i ms e = absurd (not_hung (rule kn (form.assignment a0 s0) ms) e (rules kn (form.assignment a0 s0) ms tt))
-  form_leaf z (form.loop a0) ps i ms e = absurd (not_hung (rule kn (form.loop a0) ms) e (rules kn (form.loop a0) ms tt))
-  form_leaf z (form.count a0 a1) ps i ms e = absurd (not_hung (rule kn (form.count a0 a1) ms) e (rules kn (form.count a0 a1) ms tt))
-  form_leaf z (form.leave a0 a1 a2) ps i ms e = absurd (not_hung (rule kn (form.leave a0 a1 a2) ms) e (rules kn (form.leave a0 a1 a2) ms tt))
-  form_leaf z form.without_value ps i ms e = absurd (not_hung (rule kn form.without_value ms) e (rules kn form.without_value ms tt))
-  form_leaf z (form.must_deliver a0 a1) ps i ms e = absurd (not_hung (rule kn (form.must_deliver a0 a1) ms) e (rules kn (form.must_deliver a0 a1) ms tt))
-  form_leaf z form.units ps i ms e = absurd (not_hung (rule kn form.units ms) e (rules kn form.units ms tt))
-  form_leaf z (form.heading a0 a1 a2 a3 a4 a5) ps i ms e =
-      absurd (not_hung (rule kn (form.heading a0 a1 a2 a3 a4 a5) ms) e (rules kn (form.heading a0 a1 a2 a3 a4 a5) ms tt))
-  form_leaf z (form.body a0 a1) ps i ms e = absurd (not_hung (rule kn (form.body a0 a1) ms) e (rules kn (form.body a0 a1) ms tt))
-  form_leaf z form.routine ps i ms e = absurd (not_hung (rule kn form.routine ms) e (rules kn form.routine ms tt))
-  form_leaf z (form.refinement a0) ps i ms e = absurd (not_hung (rule kn (form.refinement a0) ms) e (rules kn (form.refinement a0) ms tt))
-  form_leaf z form.level ps i ms e = absurd (not_hung (rule kn form.level ms) e (rules kn form.level ms tt))
+  form_leaf : (z : Scope) (f : Form) (ps : Parts) → Names z f → (ms : List Meant) → ruled kn f ms ≡ hangs → Leaf z (called_by_all (phrase f ps ∷ []))
+  form_leaf z (asking (form.named u at s x)) ps i ms e = named_leaf z u at s x ps i e
+  form_leaf z (asking (form.leave at s x)) ps i ms e = absurd (told_never_hangs (on_one (one_of ms) (c.leaving kn at (scope.left s x))) e)
+  form_leaf z (plain f) ps i ms e = absurd (told_never_hangs (rule f ms) e)
 
   wider : (z : Scope) (ns ms : List ℕ) → ((n : ℕ) → In n ns → In n ms) → Leaf z ns → Leaf z ms
   wider z ns ms h g = (g.0, h g.0 g.1, g.2, g.3, g.4)
@@ -154,7 +129,7 @@ module _ (kn : Known) where
   mutual
     pub leaf_of : (z : Scope) (p : Phrase) → InScope z p → judged kn p ≡ hangs → Leaf z (called_in p)
     leaf_of z (phrase f ps) i e =
-        elim (bind_hangs (judged_all kn ps) (rule kn f) e) [
+        elim (bind_hangs (judged_all kn ps) (ruled kn f) e) [
           | inl h ↦ wider z (called_by_all (phrases_of ps)) (called_in (phrase f ps)) (λ n g. in_left n (phrases_of ps) (phrase f ps ∷ []) g)
               (leaf_all z ps i.1 h)
           | inr h ↦ wider z (called_by_all (phrase f ps ∷ [])) (called_in (phrase f ps)) (λ n g. in_right n (phrases_of ps) (phrase f ps ∷ []) g)
@@ -202,5 +177,5 @@ module _ (kn : Known) where
   pub body_leaf : (z : Scope) (p : Phrase) → InScope z p → Faultless (judged kn p) → unit_delivery kn (last_unit p) ≡ Open → Leaf z (called_in p)
   body_leaf z (phrase f ps) i g e =
       unit_leaf z (called_in (phrase f ps)) (last_unit (phrase f ps))
-      (last_fine z (called_in (phrase f ps)) ps i.1 (bind_faultless kn (judged_all kn ps) (rule kn f) g)
+      (last_fine z (called_in (phrase f ps)) ps i.1 (bind_faultless kn (judged_all kn ps) (ruled kn f) g)
       (λ n k. in_left n (phrases_of ps) (phrase f ps ∷ []) k)) e

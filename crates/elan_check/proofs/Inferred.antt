@@ -17,14 +17,16 @@ use Rattle.elan_scope.specs.declared.scope.Scope.{Scope}
 use Rattle.elan_scope.specs.declared.scope.Home.{Home}
 use Rattle.elan_scope.specs.declared.scope.Found.{Found}
 use Rattle.elan_scope.specs.Phrase as form
-use Rattle.elan_scope.specs.Phrase.{Form, Phrase, phrase, Parts, none, part, all_of, around}
+use Rattle.elan_scope.specs.Phrase.{Form, asking, plain, Phrase, phrase, Parts, none, part, all_of, around}
 use Rattle.elan_scope.specs.Ruled.{gives, breaks, before}
+use Rattle.elan_meant.specs.Verdict as verdict
+use Rattle.elan_meant.specs.Verdict.{told}
 use Rattle.elan_scope.specs.Known.{delivery_at, leads_back}
 use Rattle.elan_scope.specs.declared.known.Known.{Known}
 use Rattle.elan_meant.specs.Parts.{one_of, on_one, actions_of}
 use Rattle.value_rules.specs.Calls as r
 use Rattle.unit_rules.specs.Units.{or_last, last_value, ended, without_value}
-use Rattle.elan_rules.specs.Rules.{rule}
+use Rattle.elan_rules.specs.Rules.{ruled}
 use Rattle.elan_judge.specs.Shape.{roles, filled, units}
 use Rattle.elan_rules.specs.Meaning.{judged, judged_all}
 use Rattle.elan_check.specs.Refinements.{last_unit, last_part, delivery_of}
@@ -34,7 +36,7 @@ use Rattle.elan_rules.proofs.First.{bind_gives, before_gives, gives_is}
 -- ---- the last unit
 
 module _ (kn : Known) where
-  kept : (k m : Meant) → without_value k ≡ gives m → or_last Absent m ≡ Absent
+  kept : (k m : Meant) → told (without_value k) ≡ gives m → or_last Absent m ≡ Absent
   kept Absent m e = ap (or_last Absent) (sym (gives_is Absent m e))
   kept (Variable at t x) m e = ap (or_last Absent) (sym (gives_is (Variable at t x) m e))
   kept (Value at t v) m e = absurd cc
@@ -44,13 +46,13 @@ module _ (kn : Known) where
   kept (Bodies bs) m e = absurd cc
   kept (Level us bs) m e = ap (or_last Absent) (sym (gives_is (Level us bs) m e))
 
-  kept_row : (ms : List Meant) (m : Meant) → rule kn form.without_value ms ≡ gives m → or_last Absent m ≡ Absent
+  kept_row : (ms : List Meant) (m : Meant) → ruled kn (plain form.without_value) ms ≡ gives m → or_last Absent m ≡ Absent
   kept_row [] m e = absurd cc
   kept_row (k ∷ []) m e = kept k m e
   kept_row (k ∷ l ∷ ms) m e = absurd cc
 
   no_value : (p : Phrase) (m : Meant) → judged kn (around form.without_value p) ≡ gives m → or_last Absent m ≡ Absent
-  no_value p m e = let b = bind_gives (before (judged kn p) (gives [])) (rule kn form.without_value) m e in kept_row b.0 m b.2
+  no_value p m e = let b = bind_gives (before (judged kn p) (gives [])) (ruled kn (plain form.without_value)) m e in kept_row b.0 m b.2
 
   -- the last unit is this one, or there is none, and delivers what is delivered
   abbrev pub Last : Option Phrase → Meant → Type 0
@@ -99,7 +101,7 @@ module _ (kn : Known) where
   -- the units of a refinement deliver what the last of them delivers
   pub last_delivers : (us : List (Option Phrase)) (m : Meant) → judged kn (units Open us) ≡ gives m → Last (last_unit (units Open us)) m
   last_delivers us m e =
-      let b = bind_gives (judged_all kn (all_of (roles Open (filled us)))) (rule kn form.units) m e in
+      let b = bind_gives (judged_all kn (all_of (roles Open (filled us)))) (ruled kn (plain form.units)) m e in
       last_as (last_unit (units Open us)) (last_value Absent b.0) m
       (ap delivery_of (sym (gives_is (ended (actions_of b.0) (last_value Absent b.0)) m b.2)) ∙ ended_delivers (actions_of b.0) (last_value Absent b.0))
       (last_of_all (filled us) b.0 b.1)
@@ -152,60 +154,32 @@ module _ (j k : Known) (below : Below j k) where
   named_same u at s x (Some f) m n h g = denoted_same u at s x f.home f.number f.denotes m n h g
 
   left_by : (at : ℕ) (e : Exit) (v : Meant) (a b : Bool) (m n : Meant)
-      → (if a then gives (Left (action.Unit (r.leave_of e v ∷ []) ∷ [])) else breaks (at, WrongType)) ≡ gives m
-      → (if b then gives (Left (action.Unit (r.leave_of e v ∷ []) ∷ [])) else breaks (at, WrongType)) ≡ gives n → m ≡ n
+      → told (if a then verdict.gives (Left (action.Unit (r.leave_of e v ∷ []) ∷ [])) else verdict.breaks (at, WrongType)) ≡ gives m
+      → told (if b then verdict.gives (Left (action.Unit (r.leave_of e v ∷ []) ∷ [])) else verdict.breaks (at, WrongType)) ≡ gives n → m ≡ n
   left_by at e v true true m n h g = gives_is m n (sym h ∙ g)
   left_by at e v true false m n h g = absurd cc
   left_by at e v false b m n h g = absurd cc
 
-  leaving_same : (at : ℕ) (o : Option (Exit × ℕ)) (v m n : Meant) → r.leaving j at o v ≡ gives m → r.leaving k at o v ≡ gives n → m ≡ n
+  leaving_same : (at : ℕ) (o : Option (Exit × ℕ)) (v m n : Meant) → told (r.leaving j at o v) ≡ gives m → told (r.leaving k at o v) ≡ gives n → m ≡ n
   leaving_same at None v m n h g = absurd cc
   leaving_same at (Some e) v m n h g = left_by at e.0 v (r.agrees (delivery_at j e.1) v) (r.agrees (delivery_at k e.1) v) m n h g
 
-  leave_same : (at : ℕ) (o : Option (Exit × ℕ)) (q : Option Meant) (m n : Meant) → on_one q (r.leaving j at o) ≡ gives m → on_one q (r.leaving k at o) ≡ gives n
-      → m ≡ n
+  leave_same : (at : ℕ) (o : Option (Exit × ℕ)) (q : Option Meant) (m n : Meant) → told (on_one q (r.leaving j at o)) ≡ gives m
+      → told (on_one q (r.leaving k at o)) ≡ gives n → m ≡ n
   leave_same at o None m n h g = absurd cc
   leave_same at o (Some v) m n h g = leaving_same at o v m n h g
 
-  rule_same : (f : Form) (ms : List Meant) (m n : Meant) → rule j f ms ≡ gives m → rule k f ms ≡ gives n → m ≡ n
-  rule_same form.absent ms m n h i = gives_is m n (sym h ∙ i)
-  rule_same form.not_built ms m n h i = absurd cc
-  rule_same (form.number a0 a1) ms m n h i = gives_is m n (sym h ∙ i)
-  rule_same (form.truth a0 a1) ms m n h i = gives_is m n (sym h ∙ i)
-  rule_same (form.named u a0 a1 a2) ms m n h i = named_same u a0 a1 a2 (find a1 a2) m n h i
-  rule_same (form.applied a0 a1 a2 a3) ms m n h i = gives_is m n (sym h ∙ i)
-  rule_same (form.bracket a0) ms m n h i = gives_is m n (sym h ∙ i)
-  rule_same (form.cand a0) ms m n h i = gives_is m n (sym h ∙ i)
-  rule_same (form.cor a0) ms m n h i = gives_is m n (sym h ∙ i)
-  rule_same (form.choice a0) ms m n h i = gives_is m n (sym h ∙ i)
-  rule_same (form.label a0 a1 a2) ms m n h i = gives_is m n (sym h ∙ i)
-  rule_same (form.label_name a0 a1 a2) ms m n h i = gives_is m n (sym h ∙ i)
-  rule_same form.labels ms m n h i = gives_is m n (sym h ∙ i)
-  rule_same (form.selection a0) [] m n h i = absurd cc
-  rule_same (form.selection a0) (v ∷ ms) m n h i = gives_is m n (sym h ∙ i)
-  rule_same (form.declares a0 a1 a2) ms m n h i = gives_is m n (sym h ∙ i)
-  rule_same (form.initial a0) ms m n h i = gives_is m n (sym h ∙ i)
-  rule_same (form.declaration a0) ms m n h i = gives_is m n (sym h ∙ i)
-  rule_same form.statement ms m n h i = gives_is m n (sym h ∙ i)
-  rule_same (form.assignment a0 s0) ms m n h i = gives_is m n (sym h ∙ i)
-  rule_same (form.loop a0) ms m n h i = gives_is m n (sym h ∙ i)
-  rule_same (form.count a0 a1) ms m n h i = gives_is m n (sym h ∙ i)
-  rule_same (form.leave a0 a1 a2) ms m n h i = leave_same a0 (left a1 a2) (one_of ms) m n h i
-  rule_same form.without_value ms m n h i = gives_is m n (sym h ∙ i)
-  rule_same (form.must_deliver a0 a1) ms m n h i = gives_is m n (sym h ∙ i)
-  rule_same form.units ms m n h i = gives_is m n (sym h ∙ i)
-  rule_same (form.heading a0 a1 a2 a3 a4 a5) ms m n h i = gives_is m n (sym h ∙ i)
-  rule_same (form.body a0 a1) ms m n h i = gives_is m n (sym h ∙ i)
-  rule_same form.routine ms m n h i = gives_is m n (sym h ∙ i)
-  rule_same (form.refinement a0) ms m n h i = gives_is m n (sym h ∙ i)
-  rule_same form.level ms m n h i = gives_is m n (sym h ∙ i)
+  rule_same : (f : Form) (ms : List Meant) (m n : Meant) → ruled j f ms ≡ gives m → ruled k f ms ≡ gives n → m ≡ n
+  rule_same (asking (form.named u at s x)) ms m n h i = named_same u at s x (find s x) m n h i
+  rule_same (asking (form.leave at s x)) ms m n h i = leave_same at (left s x) (one_of ms) m n h i
+  rule_same (plain f) ms m n h i = gives_is m n (sym h ∙ i)
 
   mutual
     pub same_meaning : (p : Phrase) (m n : Meant) → judged j p ≡ gives m → judged k p ≡ gives n → m ≡ n
     same_meaning (phrase f ps) m n h g =
-        let a = bind_gives (judged_all j ps) (rule j f) m h in
-        let b = bind_gives (judged_all k ps) (rule k f) n g in
-        rule_same f b.0 m n (subst (λ (ms : List Meant). rule j f ms ≡ gives m) (same_all ps a.0 b.0 a.1 b.1) a.2) b.2
+        let a = bind_gives (judged_all j ps) (ruled j f) m h in
+        let b = bind_gives (judged_all k ps) (ruled k f) n g in
+        rule_same f b.0 m n (subst (λ (ms : List Meant). ruled j f ms ≡ gives m) (same_all ps a.0 b.0 a.1 b.1) a.2) b.2
 
     same_all : (ps : Parts) (ms ns : List Meant) → judged_all j ps ≡ gives ms → judged_all k ps ≡ gives ns → ms ≡ ns
     same_all none ms ns h g = gives_is ms ns (sym h ∙ g)

@@ -13,12 +13,13 @@ use Rattle.elan_scope.specs.declared.scope.Scope.{Scope}
 use Rattle.elan_levels.specs.Bodies as b
 use Rattle.elan_levels.specs.Bodies.{headings, level_names}
 use Rattle.elan_scope.specs.Phrase as form
-use Rattle.elan_scope.specs.Phrase.{Phrase, phrase, Parts, none, part, all_of, around}
+use Rattle.elan_scope.specs.Phrase.{plain, Phrase, phrase, Parts, none, part, all_of, around}
 use Rattle.elan_scope.specs.Ruled.{gives}
 use Rattle.elan_scope.specs.declared.known.Known.{Known}
 use Rattle.elan_unbuilt.specs.Operators.{operator_text}
 use Rattle.unit_rules.specs.Units as u
-use Rattle.elan_rules.specs.Rules.{rule}
+use Rattle.elan_meant.specs.Verdict.{told}
+use Rattle.elan_rules.specs.Rules.{ruled}
 use Rattle.elan_judge.specs.Shape as shape
 use Rattle.elan_check.specs.Level as l
 use Rattle.elan_rules.specs.Meaning.{judged, judged_all}
@@ -63,7 +64,7 @@ module _ (kn : Known) (s : Scope) (all : List Body) where
   rows_count n (g ∷ hs) [] bs h = absurd h
   rows_count n (g ∷ hs) (q ∷ ps) [] h = absurd h
 
-  no_bodies : (v m : Meant) → u.without_value v ≡ gives m → u.bodies_in m ≡ []
+  no_bodies : (v m : Meant) → told (u.without_value v) ≡ gives m → u.bodies_in m ≡ []
   no_bodies Absent m e = ap u.bodies_in (sym (gives_is Absent m e))
   no_bodies (Variable at t x) m e = ap u.bodies_in (sym (gives_is (Variable at t x) m e))
   no_bodies (Value at t w) m e = absurd cc
@@ -73,13 +74,13 @@ module _ (kn : Known) (s : Scope) (all : List Body) where
   no_bodies (Bodies bs) m e = absurd cc
   no_bodies (Level us bs) m e = ap u.bodies_in (sym (gives_is (Level us bs) m e))
 
-  no_bodies_in : (ms : List Meant) (m : Meant) → rule kn form.without_value ms ≡ gives m → u.bodies_in m ≡ []
+  no_bodies_in : (ms : List Meant) (m : Meant) → ruled kn (plain form.without_value) ms ≡ gives m → u.bodies_in m ≡ []
   no_bodies_in [] m e = absurd cc
   no_bodies_in (v ∷ []) m e = no_bodies v m e
   no_bodies_in (v ∷ w ∷ ms) m e = absurd cc
 
   plain_quiet : (q : Phrase) (m : Meant) → judged kn (around form.without_value q) ≡ gives m → u.bodies_in m ≡ []
-  plain_quiet q m e = let r = bind_gives (judged_all kn (part q none)) (rule kn form.without_value) m e in no_bodies_in r.0 m r.2
+  plain_quiet q m e = let r = bind_gives (judged_all kn (part q none)) (ruled kn (plain form.without_value)) m e in no_bodies_in r.0 m r.2
 
   unit_rows : (k : ℕ) (v : LevelUnit) (m : Meant) → judged kn (l.level_unit s k v) ≡ gives m → Inside k (u.bodies_in m) all
       → Rows kn s all k (b.unit_headings k v) (l.unit_bodies s k v) (u.bodies_in m)

@@ -12,11 +12,11 @@ use Rattle.elan_scope.specs.Ruled.{Fault, Ruled, gives, breaks, hangs}
 use Rattle.elan_scope.specs.Scope.{variables_of}
 use Rattle.elan_levels.specs.Bodies.{level_names}
 use Rattle.elan_scope.specs.Phrase as form
-use Rattle.elan_scope.specs.Phrase.{Phrase, phrase, all_of}
+use Rattle.elan_scope.specs.Phrase.{plain, Phrase, phrase, all_of}
 use Rattle.elan_scope.specs.declared.known.Known.{Known}
 use Rattle.elan_meant.specs.Parts.{actions_of}
 use Rattle.unit_rules.specs.Units.{bodies_of}
-use Rattle.elan_rules.specs.Rules.{rule}
+use Rattle.elan_rules.specs.Rules.{ruled}
 use Rattle.elan_rules.specs.Meaning.{judged, judged_all}
 use Rattle.elan_check.proofs.Spots.{never_hangs}
 use Rattle.elan_unbuilt.specs.NotBuilt.{not_built}
@@ -53,10 +53,10 @@ meant_is_not_refused env t c f h r = first.meant_is_not_refused (known t) (text 
 
 -- ---- there is an answer
 
-level_gives : (k : Known) (ps : List Phrase) (m : Meant) → judged k (phrase form.level (all_of ps)) ≡ gives m
+level_gives : (k : Known) (ps : List Phrase) (m : Meant) → judged k (phrase (plain form.level) (all_of ps)) ≡ gives m
     → (us : List Action) × (bs : List Body) × (m ≡ Level us bs)
 level_gives k ps m e =
-    let q = first.bind_gives (judged_all k (all_of ps)) (rule k form.level) m e in
+    let q = first.bind_gives (judged_all k (all_of ps)) (ruled k (plain form.level)) m e in
     (actions_of q.0, bodies_of q.0, sym (first.gives_is (Level (actions_of q.0) (bodies_of q.0)) m q.2))
 
 module _ (env : Env) (t : Tree) where

@@ -12,13 +12,13 @@ use Rattle.elan_scope.specs.declared.scope.Usage.TheVariants.{Expression, Counte
 use Rattle.elan_scope.specs.Known.{delivery_at, leads_back}
 use Rattle.elan_scope.specs.Scope as scope
 use Rattle.elan_scope.specs.Phrase as form
-use Rattle.elan_scope.specs.Phrase.{Form, Phrase, phrase, Parts, none, part}
+use Rattle.elan_scope.specs.Phrase.{Form, asking, plain, Phrase, phrase, Parts, none, part}
 use Rattle.elan_scope.specs.declared.scope.Home.{Home}
 use Rattle.elan_scope.specs.Ruled.{Ruled, gives, breaks, hangs}
 use Rattle.elan_meant.specs.declared.meant.Meant.{Meant}
 use Rattle.value_rules.specs.Calls as c
 use Rattle.elan_levels.specs.Called.{number_list}
-use Rattle.elan_rules.specs.Rules.{rule}
+use Rattle.elan_rules.specs.Rules.{ruled}
 use Rattle.elan_rules.specs.Meaning.{judged, judged_all, phrases, phrases_of}
 use Rattle.elan_rules.proofs.First.{bind_gives, before_gives}
 use Rattle.elan_check.specs.Refinements.{called_by, called_by_all, called_in, outcome, unit_delivery}
@@ -76,45 +76,18 @@ module _ (k : Known) (n : ℕ) (untold : delivery_at k n ≡ Open) where
   named_open at s x None m g r h = absurd cc
   named_open at s x (Some f) m g r h = denoted_open at s x f.home f.number f.denotes _ m g r h
 
-  form_open : (f : Form) (ps : Parts) (ms : List Meant) (m : Meant) → In n (called_by (phrase f ps)) → rule k f ms ≡ gives m → ⊥
-  form_open (form.named Expression at s x) ps ms m h e =
+  form_open : (f : Form) (ps : Parts) (ms : List Meant) (m : Meant) → In n (called_by (phrase f ps)) → ruled k f ms ≡ gives m → ⊥
+  form_open (asking (form.named Expression at s x)) ps ms m h e =
       let r = in_one n (scope.refinement_named s x) h in
       named_open at s x (scope.find s x) m r r e
-  form_open (form.named Counter at s x) ps ms m h e = absurd h
-  form_open form.absent ps ms m h e = absurd h
-  form_open form.not_built ps ms m h e = absurd h
-  form_open (form.number a0 a1) ps ms m h e = absurd h
-  form_open (form.truth a0 a1) ps ms m h e = absurd h
-  form_open (form.applied a0 a1 a2 a3) ps ms m h e = absurd h
-  form_open (form.bracket a0) ps ms m h e = absurd h
-  form_open (form.cand a0) ps ms m h e = absurd h
-  form_open (form.cor a0) ps ms m h e = absurd h
-  form_open (form.choice a0) ps ms m h e = absurd h
-  form_open (form.label a0 a1 a2) ps ms m h e = absurd h
-  form_open (form.label_name a0 a1 a2) ps ms m h e = absurd h
-  form_open form.labels ps ms m h e = absurd h
-  form_open (form.selection a0) ps ms m h e = absurd h
-  form_open (form.declares a0 a1 a2) ps ms m h e = absurd h
-  form_open (form.initial a0) ps ms m h e = absurd h
-  form_open (form.declaration a0) ps ms m h e = absurd h
-  form_open form.statement ps ms m h e = absurd h
-  form_open (form.assignment a0 a1) ps ms m h e = absurd h
-  form_open (form.loop a0) ps ms m h e = absurd h
-  form_open (form.count a0 a1) ps ms m h e = absurd h
-  form_open (form.leave a0 a1 a2) ps ms m h e = absurd h
-  form_open form.without_value ps ms m h e = absurd h
-  form_open (form.must_deliver a0 a1) ps ms m h e = absurd h
-  form_open form.units ps ms m h e = absurd h
-  form_open (form.heading a0 a1 a2 a3 a4 a5) ps ms m h e = absurd h
-  form_open (form.body a0 a1) ps ms m h e = absurd h
-  form_open form.routine ps ms m h e = absurd h
-  form_open (form.refinement a0) ps ms m h e = absurd h
-  form_open form.level ps ms m h e = absurd h
+  form_open (asking (form.named Counter at s x)) ps ms m h e = absurd h
+  form_open (asking (form.leave at s x)) ps ms m h e = absurd h
+  form_open (plain f) ps ms m h e = absurd h
 
   mutual
     phrase_open : (p : Phrase) (m : Meant) → In n (called_in p) → judged k p ≡ gives m → ⊥
     phrase_open (phrase f ps) m h e =
-        let b = bind_gives (judged_all k ps) (rule k f) m e in
+        let b = bind_gives (judged_all k ps) (ruled k f) m e in
         elim (in_either n (called_by_all (phrases_of ps)) (called_by_all (phrase f ps ∷ []))
         (subst (In n) (called_append (phrases_of ps) (phrase f ps ∷ [])) h)) [
           | inl i ↦ parts_open ps b.0 i b.1

@@ -1,7 +1,6 @@
 -- What PROCs, OPs and refinements mean, from what their parts mean.
-use Rattle.std.proofs.Common.{◌≡◌, ℕ, suc, ◌+◌, ◌<◌, ◌≤◌, List, [], ◌∷◌, ◌++◌, map, length, get_or, drop, drop-cons, Result, Option, arith, Bool, true, refl}
+use Rattle.std.proofs.Common.{◌≡◌, ℕ, suc, ◌+◌, ◌<◌, List, [], ◌∷◌, ◌++◌, map, length, get_or, drop, Result, Option, arith, Bool}
 use Rattle.std.proofs.Common.{sym, ap, subst, ◌∙◌, append_assoc}
-use Rattle.std.proofs.lemmas.List.{append-nil, at_drop_all}
 use Rattle.elan_types.specs.declared.elan_type.ElanType.{ElanType}
 use Rattle.elan_types.specs.declared.core_phrase.Parameter.{Parameter}
 use Rattle.elan_types.specs.declared.core_phrase.Scope.{Scope as Owner}
@@ -24,6 +23,7 @@ use Rattle.elan_scope.specs.Known.{delivered}
 use Rattle.elan_scope.specs.declared.delivery.Delivery.{Delivery}
 use Rattle.elan_scope.specs.Phrase.{Phrase, all_of, around, leaf}
 use Rattle.elan_scope.specs.Answer.{Is}
+use Rattle.elan_meant.specs.Verdict.{Tells}
 use Rattle.elan_rules.specs.Meaning.{judged, judged_all}
 use Rattle.elan_scope.specs.Ruled.{Ruled, gives, joined}
 use Rattle.elan_scope.specs.Scope.{first_heading, is_alike, types_of}
@@ -120,10 +120,10 @@ body_is k s o o' r r' d us us' m out eu ed e eo er h =
 
 pub heading_is : (k : Known) (s : Scope) (at : ℕ) (sort : Sort) (x : List ℕ) (ps ps' : List Parameter) (b b' : Bool) (out : Result Meant Trouble) → ps' ≡ ps
     → b' ≡ b →
-    Is out (calls.headed at b' (first_heading (is_alike sort x (types_of ps')) s.headings)) → Is out (judged k (leaf (form.heading at s sort x ps b)))
+    Tells out (calls.headed at b' (first_heading (is_alike sort x (types_of ps')) s.headings)) → Is out (judged k (leaf (form.heading at s sort x ps b)))
 heading_is k s at sort x ps ps' b b' out ep eb h =
-    subst (λ (qs : List Parameter). Is out (calls.headed at b (first_heading (is_alike sort x (types_of qs)) s.headings))) ep
-    (subst (λ (c : Bool). Is out (calls.headed at c (first_heading (is_alike sort x (types_of ps')) s.headings))) eb h)
+    subst (λ (qs : List Parameter). Tells out (calls.headed at b (first_heading (is_alike sort x (types_of qs)) s.headings))) ep
+    (subst (λ (c : Bool). Tells out (calls.headed at c (first_heading (is_alike sort x (types_of ps')) s.headings))) eb h)
 
 pub procedure_at : (k : Known) (s : Scope) (n : ℕ) (name : Name) (x : List ℕ) (r : Option TypePhrase) (fs fs' : List Formal) (b : Body)
     (out : Result Meant Trouble) → x ≡ name.text → fs' ≡ fs →

@@ -1,5 +1,5 @@
 -- Where no phrase of a level breaks a rule, none hangs on another one.
-use Rattle.std.proofs.Common.{◌≡◌, ℕ, zero, suc, ◌+◌, Bool, true, false, List, [], ◌∷◌, ◌++◌, map, length, Option, Some, None, refl, sym, ap, subst, ◌∙◌, inl}
+use Rattle.std.proofs.Common.{◌≡◌, ℕ, zero, suc, ◌+◌, Bool, List, [], ◌∷◌, ◌++◌, map, length, Option, Some, None, refl, sym, ap, subst, ◌∙◌, inl}
 use Rattle.std.proofs.Common.{inr, arith}
 use Rattle.std.specs.Prelude.{slice_get, slice_index_or}
 use Rattle.elan_types.specs.declared.elan_type.ElanType.{ElanType}
@@ -25,18 +25,18 @@ use Rattle.elan_levels.specs.Bodies as b
 use Rattle.elan_levels.specs.Bodies.{headings, parameters, result}
 use Rattle.elan_unbuilt.specs.Operators.{operator_text}
 use Rattle.elan_scope.specs.Phrase as form
-use Rattle.elan_scope.specs.Phrase.{Form, Phrase, phrase, Parts, none, part, all_of, leaf}
+use Rattle.elan_scope.specs.Phrase.{Plain, plain, Phrase, none, part, all_of, row, leaf}
 use Rattle.elan_scope.specs.Ruled.{Ruled, hangs}
 use Rattle.elan_scope.specs.Known.{delivered, delivery_at, leads_back}
 use Rattle.elan_scope.specs.declared.known.Known.{Known}
-use Rattle.elan_rules.specs.Rules.{rule}
+use Rattle.elan_rules.specs.Rules.{rule, ruled}
 use Rattle.elan_judge.specs.Shape as shape
 use Rattle.elan_check.specs.Level as l
 use Rattle.elan_rules.specs.Meaning.{judged, judged_all}
 use Rattle.elan_check.specs.Refinements.{told, called_in, known_of}
 use Rattle.elan_rules.proofs.First.{Faultless, whole, open_one, bind_faultless, before_faultless}
 use Rattle.elan_judge.proofs.InScope.{InScope, body_units_in, statement_in}
-use Rattle.elan_rules.proofs.Firm.{Firm, rules, not_hung}
+use Rattle.elan_meant.proofs.Told.{told_never_hangs}
 use Rattle.elan_check.proofs.Walks.{In, Call, no_walk}
 use Rattle.elan_check.proofs.Settled.{open_last, calls_are}
 use Rattle.elan_check.proofs.Hanging.{before_both, bind_hangs, before_hangs, IsHeaded, Leaf, leaf_of, body_leaf}
@@ -100,7 +100,8 @@ module _ (kn : Known) (s : Scope) where
   refinement_spots z k home (r ∷ rs) hh f =
       let g = before_faultless kn (judged kn (l.refinement z k r)) (judged_all kn (all_of (l.refinements z (suc k) rs))) f in
       let a =
-      bind_faultless kn (judged_all kn (part (l.declares z r.name) (part (l.refined_units z k r) none))) (rule kn (form.refinement (l.owner_of z.routine)))
+      bind_faultless kn (judged_all kn (part (l.declares z r.name) (part (l.refined_units z k r) none)))
+      (ruled kn (plain (form.refinement (l.owner_of z.routine))))
       g.0 in
       let c = before_faultless kn (judged kn (l.declares z r.name)) (judged_all kn (part (l.refined_units z k r) none)) a in
       let d = before_faultless kn (judged kn (l.refined_units z k r)) (judged_all kn none) c.1 in (
@@ -140,15 +141,15 @@ module _ (kn : Known) (s : Scope) where
         | inr i ↦ list_hangs ps h.1 i
       ]
 
-  phrase_hangs : (f : Form) (ps : List Phrase) → Firm f → AllLead ps → judged kn (phrase f (all_of ps)) ≡ hangs → HangsIn
-  phrase_hangs f ps i h e =
-      elim (bind_hangs (judged_all kn (all_of ps)) (rule kn f) e) [
+  phrase_hangs : (f : Plain) (ps : List Phrase) → AllLead ps → judged kn (row f ps) ≡ hangs → HangsIn
+  phrase_hangs f ps h e =
+      elim (bind_hangs (judged_all kn (all_of ps)) (ruled kn (plain f)) e) [
         | inl g ↦ list_hangs ps h g
-        | inr g ↦ absurd (not_hung (rule kn f g.0) g.1 (rules kn f g.0 i))
+        | inr g ↦ absurd (told_never_hangs (rule f g.0) g.1)
       ]
 
   declares_lead : (z : Scope) (n : Name) → judged kn (l.declares z n) ≡ hangs → HangsIn
-  declares_lead z n e = phrase_hangs (form.declares n.at z n.text) [] tt tt e
+  declares_lead z n e = phrase_hangs (form.declares n.at z n.text) [] tt e
 
   all_declare_lead : (z : Scope) (ns : List Name) → AllLead (l.declare_all z ns)
   all_declare_lead z [] = tt
@@ -165,7 +166,7 @@ module _ (kn : Known) (s : Scope) where
   refinements_lead : (z : Scope) (k : ℕ) (rs : List Refined) → z.headings ≡ s.headings → AllLead (l.refinements z k rs)
   refinements_lead z k [] hh = tt
   refinements_lead z k (r ∷ rs) hh = (
-    λ e. phrase_hangs (form.refinement (l.owner_of z.routine)) (l.declares z r.name ∷ l.refined_units z k r ∷ []) tt
+    λ e. phrase_hangs (form.refinement (l.owner_of z.routine)) (l.declares z r.name ∷ l.refined_units z k r ∷ [])
         (declares_lead z r.name, ((λ i. (l.refinement_scope z k, l.refined_units z k r, body_units_in (l.refinement_scope z k) Open r.units, hh, i)), tt)) e,
     refinements_lead z (suc k) rs hh,
   )
@@ -180,11 +181,12 @@ module _ (kn : Known) (s : Scope) where
         → Spots k (b.routine_heading sort at x fs t ∷ b.refinement_headings (Some k) w.refinements) (l.routine_units s k at x t fs w)
     routine_spots sort names f =
         let g =
-        bind_faultless kn (judged_all kn (all_of (l.heading_phrases s k at x t fs w sort names ++ l.body_phrases s k at x t fs w))) (rule kn form.routine) f
+        bind_faultless kn (judged_all kn (all_of (l.heading_phrases s k at x t fs w sort names ++ l.body_phrases s k at x t fs w)))
+        (ruled kn (plain form.routine)) f
         in
         let h = split (l.heading_phrases s k at x t fs w sort names) (l.body_phrases s k at x t fs w) g in
         let a = before_faultless kn (judged kn (l.own_body s k at x t fs w)) (judged_all kn (all_of (l.refinements inner (suc k) w.refinements))) h.1 in
-        let c = bind_faultless kn (judged_all kn (part (l.own_units s k at x t fs w) none)) (rule kn (form.body own_owner (result t))) a.0 in
+        let c = bind_faultless kn (judged_all kn (part (l.own_units s k at x t fs w) none)) (ruled kn (plain (form.body own_owner (result t)))) a.0 in
         let d = before_faultless kn (judged kn (l.own_units s k at x t fs w)) (judged_all kn none) c in (
           record {
             scope = inner;
@@ -201,21 +203,21 @@ module _ (kn : Known) (s : Scope) where
 
     routine_lead : (sort : Sort) (names : List Phrase) → AllLead names → judged kn (l.routine s k at x t fs w sort names) ≡ hangs → HangsIn
     routine_lead sort names h e =
-        phrase_hangs form.routine (l.heading_phrases s k at x t fs w sort names ++ l.body_phrases s k at x t fs w) tt
+        phrase_hangs form.routine (l.heading_phrases s k at x t fs w sort names ++ l.body_phrases s k at x t fs w)
         (lead_append (l.heading_phrases s k at x t fs w sort names) (l.body_phrases s k at x t fs w)
-        (lead_append names (heading_leaf ∷ l.declare_parameters inner fs) h ((λ i. phrase_hangs heading_form [] tt tt i), parameters_lead inner fs)) (
-          (λ i. phrase_hangs body_form (l.own_units s k at x t fs w ∷ []) tt
+        (lead_append names (heading_leaf ∷ l.declare_parameters inner fs) h ((λ i. phrase_hangs heading_form [] tt i), parameters_lead inner fs)) (
+          (λ i. phrase_hangs body_form (l.own_units s k at x t fs w ∷ [])
               ((λ j. (inner, l.own_units s k at x t fs w, body_units_in inner (delivered (result t)) w.units, refl, j)), tt) i),
           refinements_lead inner (suc k) w.refinements refl,
         )) e
       where
-        heading_form : Form
+        heading_form : Plain
         heading_form = form.heading at s sort x (parameters fs) (l.is_missing (result t) (l.body_units s k at x t fs w))
 
         heading_leaf : Phrase
         heading_leaf = leaf heading_form
 
-        body_form : Form
+        body_form : Plain
         body_form = form.body (owner.Own (parameters fs) (l.own_types w)) (result t)
 
   -- ---- units
@@ -256,9 +258,9 @@ module _ (kn : Known) (s : Scope) where
   units_lead k (v ∷ vs) = (unit_lead k v, units_lead (k + b.bodies_in v) vs)
 
   pub level_lead : (w : Level)
-      → judged kn (phrase form.level (all_of (l.level_units s 0 w.units ++ l.refinements s (b.bodies_of_units w.units) w.refinements))) ≡ hangs → HangsIn
+      → judged kn (row form.level (l.level_units s 0 w.units ++ l.refinements s (b.bodies_of_units w.units) w.refinements)) ≡ hangs → HangsIn
   level_lead w e =
-      phrase_hangs form.level (l.level_units s 0 w.units ++ l.refinements s (b.bodies_of_units w.units) w.refinements) tt
+      phrase_hangs form.level (l.level_units s 0 w.units ++ l.refinements s (b.bodies_of_units w.units) w.refinements)
       (lead_append (l.level_units s 0 w.units) (l.refinements s (b.bodies_of_units w.units) w.refinements) (units_lead 0 w.units)
       (refinements_lead s (b.bodies_of_units w.units) w.refinements refl)) e
 
@@ -274,13 +276,13 @@ module _ (kn : Known) (s : Scope) where
       ∙ ap (λ (n : ℕ). b.bodies_in v + n) (all_count (k + b.bodies_in v) vs)
 
   pub level_spots : (w : Level)
-      → Faultless (judged kn (phrase form.level (all_of (l.level_units s 0 w.units ++ l.refinements s (b.bodies_of_units w.units) w.refinements))))
+      → Faultless (judged kn (row form.level (l.level_units s 0 w.units ++ l.refinements s (b.bodies_of_units w.units) w.refinements)))
       → Spots 0 (b.all_headings 0 w.units ++ b.refinement_headings None w.refinements)
       (l.all_unit_bodies s 0 w.units ++ l.all_refined_units s (b.bodies_of_units w.units) w.refinements)
   level_spots w f =
       let g =
       bind_faultless kn (judged_all kn (all_of (l.level_units s 0 w.units ++ l.refinements s (b.bodies_of_units w.units) w.refinements)))
-      (rule kn form.level) f in
+      (ruled kn (plain form.level)) f in
       let h = split (l.level_units s 0 w.units) (l.refinements s (b.bodies_of_units w.units) w.refinements) g in
       let z : 0 + length (b.all_headings 0 w.units) ≡ length (b.all_headings 0 w.units) = omega arith in
       spots_append 0 (b.bodies_of_units w.units) (b.all_headings 0 w.units) (b.refinement_headings None w.refinements) (l.all_unit_bodies s 0 w.units)

@@ -33,14 +33,14 @@ use Rattle.elan_scope.specs.declared.scope.Within.{Within}
 use Rattle.elan_levels.specs.Bodies as b
 use Rattle.elan_levels.specs.Bodies.{headings, level_names}
 use Rattle.elan_scope.specs.Phrase as form
-use Rattle.elan_scope.specs.Phrase.{Phrase, phrase, Parts, none, part, all_of, around}
+use Rattle.elan_scope.specs.Phrase.{plain, Phrase, phrase, Parts, none, part, all_of, around}
 use Rattle.elan_scope.specs.Ruled.{gives}
 use Rattle.elan_scope.specs.Known.{delivery_at}
 use Rattle.elan_scope.specs.declared.known.Known.{Known}
 use Rattle.elan_unbuilt.specs.Operators.{operator_text}
 use Rattle.elan_meant.specs.Parts as p
 use Rattle.unit_rules.specs.Units as u
-use Rattle.elan_rules.specs.Rules.{rule}
+use Rattle.elan_rules.specs.Rules.{ruled}
 use Rattle.elan_judge.specs.Shape as shape
 use Rattle.elan_check.specs.Level as l
 use Rattle.elan_rules.specs.Meaning.{judged, judged_all}
@@ -139,7 +139,8 @@ module _ (w : Written) (us : List Action) (all : List Body) where
   parts : MeansLevel → Parts2
   parts e =
       let q =
-      bind_gives (judged_all kn (all_of (l.level_units s 0 w.units ++ l.refinements s after_units w.refinements))) (rule kn form.level) (Level us all) e in
+      bind_gives (judged_all kn (all_of (l.level_units s 0 w.units ++ l.refinements s after_units w.refinements)))
+      (ruled kn (plain form.level)) (Level us all) e in
       let r = split kn (l.level_units s 0 w.units) (l.refinements s after_units w.refinements) q.0 q.1 in
       let whole = gives_is (Level (p.actions_of q.0) (u.bodies_of q.0)) (Level us all) q.2 in (
         r.0,
@@ -321,12 +322,12 @@ module _ (w : Written) (us : List Action) (all : List Body) where
       let q =
       bind_gives (judged_all kn
       (all_of (l.heading_phrases s k n.at n.text r fs x Procedure (l.procedure_name s n fs) ++ l.body_phrases s k n.at n.text r fs x)))
-      (rule kn form.routine) m e in bodies_typed m (u.bodies_of q.0) q.2
+      (ruled kn (plain form.routine)) m e in bodies_typed m (u.bodies_of q.0) q.2
   unit_typed f k (level.Op at r n fs x) m e =
       let q =
       bind_gives (judged_all kn
       (all_of (l.heading_phrases s k n.at (operator_text n.operator) r fs x Operator [] ++ l.body_phrases s k n.at (operator_text n.operator) r fs x)))
-      (rule kn form.routine) m e in bodies_typed m (u.bodies_of q.0) q.2
+      (ruled kn (plain form.routine)) m e in bodies_typed m (u.bodies_of q.0) q.2
   unit_typed f k (level.NewType at n of) m e = absurd cc
 
   units_typed : Fits level_stand s kn → (k : ℕ) (ws : List LevelUnit) (ms : List Meant) → judged_all kn (all_of (l.level_units s k ws)) ≡ gives ms
@@ -337,7 +338,7 @@ module _ (w : Written) (us : List Action) (all : List Body) where
       subst (λ (ns : List Meant). AllTyped (p.actions_of ns)) (sym q.4)
       (ty.append_typed level_stand (p.actions q.0) (p.actions_of q.1) (unit_typed f k v q.0 q.2) (units_typed f (k + b.bodies_in v) ws q.1 q.3))
 
-  refined_typed : (o : Owner) (ms : List Meant) (m : Meant) → rule kn (form.refinement o) ms ≡ gives m → AllTyped (p.actions m)
+  refined_typed : (o : Owner) (ms : List Meant) (m : Meant) → ruled kn (plain (form.refinement o)) ms ≡ gives m → AllTyped (p.actions m)
   refined_typed o [] m e = absurd cc
   refined_typed o (n ∷ []) m e = absurd cc
   refined_typed o (n ∷ v ∷ []) m e = subst (λ (x : Meant). AllTyped (p.actions x)) (gives_is (u.body_with o (u.content_of v)) m e) refl
@@ -348,7 +349,8 @@ module _ (w : Written) (us : List Action) (all : List Body) where
   refinements_typed k (r ∷ rs) ms e =
       let q = before_gives (judged kn (l.refinement s k r)) (judged_all kn (all_of (l.refinements s (suc k) rs))) ms e in
       let c =
-      bind_gives (judged_all kn (part (l.declares s r.name) (part (l.refined_units s k r) none))) (rule kn (form.refinement (l.owner_of s.routine))) q.0 q.2
+      bind_gives (judged_all kn (part (l.declares s r.name) (part (l.refined_units s k r) none)))
+      (ruled kn (plain (form.refinement (l.owner_of s.routine)))) q.0 q.2
       in
       subst (λ (ns : List Meant). AllTyped (p.actions_of ns)) (sym q.4)
       (ty.append_typed level_stand (p.actions q.0) (p.actions_of q.1) (refined_typed (l.owner_of s.routine) c.0 q.0 c.2)

@@ -24,7 +24,7 @@ use Rattle.elan_unbuilt.specs.Operators.{operator_text}
 use Rattle.elan_scope.specs.Phrase as form
 use Rattle.elan_scope.specs.Known.{delivered}
 use Rattle.elan_scope.specs.declared.delivery.Delivery.TheVariants.{Open, Nothing}
-use Rattle.elan_scope.specs.Phrase.{Phrase, phrase, Parts, none, part, leaf, around, pair, all_of}
+use Rattle.elan_scope.specs.Phrase.{Phrase, row, leaf, around, pair}
 use Rattle.elan_judge.specs.Shape.{written, role, unit, units, all_empty}
 
 -- ---- scopes
@@ -114,7 +114,7 @@ module _ (s : Scope) (k : ℕ) (at : ℕ) (x : List ℕ) (r : Option TypePhrase)
 
   -- the PROC or OP with this number, whose name is declared by these phrases
   abbrev pub routine : Sort → List Phrase → Phrase
-  routine sort names = phrase form.routine (all_of (heading_phrases sort names ++ body_phrases))
+  routine sort names = row form.routine (heading_phrases sort names ++ body_phrases)
 
   -- the units of its body, and of its refinements
   abbrev pub routine_units : List Phrase
@@ -163,7 +163,7 @@ abbrev pub level_parts : Level → List Phrase
 level_parts l = level_units (level_scope l) 0 l.units ++ refinements (level_scope l) (bodies_of_units l.units) l.refinements
 
 abbrev pub level_phrase : Level → Phrase
-level_phrase l = phrase form.level (all_of (level_parts l))
+level_phrase l = row form.level (level_parts l)
 
 abbrev pub level_bodies : Level → List Phrase
 level_bodies l = all_unit_bodies (level_scope l) 0 l.units ++ all_refined_units (level_scope l) (bodies_of_units l.units) l.refinements

@@ -20,7 +20,7 @@ use Rattle.elan_rules.specs.Meaning.{judged, phrases}
 
 -- the refinement that a phrase calls
 abbrev pub called_by : Phrase → List ℕ
-called_by (phrase (form.named Expression at s x) ps) = called_under s x
+called_by (phrase (form.asking (form.named Expression at s x)) ps) = called_under s x
 called_by p = []
 
 abbrev pub called_by_all : List Phrase → List ℕ

@@ -6,7 +6,7 @@ ghost use Rattle.elan_scope.specs.declared.known.Known.{Known};
 ghost use Rattle.elan_scope.specs.declared.scope.Scope.{Scope};
 ghost use Rattle.elan_scope.specs.Known.{delivered};
 ghost use Rattle.elan_scope.specs.Phrase as form;
-ghost use Rattle.elan_scope.specs.Phrase.{Phrase, phrase, around, all_of};
+ghost use Rattle.elan_scope.specs.Phrase.{Phrase, around, row, all_of};
 ghost use Rattle.elan_rules.specs.Meaning.{judged, judged_all};
 ghost use Rattle.elan_scope.specs.Answer.{Is};
 ghost use Rattle.elan_levels.specs.Bodies as bodies;
@@ -224,7 +224,7 @@ fn judge_inside(
 
 // A PROC or OP, from its parts.
 fn routine_of(alloc: Global, parts: Row) -> Judged
-    ensures { (k : Known) → (ps : List Phrase) → Is parts (judged_all k (all_of ps)) → Is result (judged k (phrase form.routine (all_of ps))) }
+    ensures { (k : Known) → (ps : List Phrase) → Is parts (judged_all k (all_of ps)) → Is result (judged k (row form.routine ps)) }
 {
     match parts {
         Err(trouble) => Err(trouble),

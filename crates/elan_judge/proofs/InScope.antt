@@ -19,7 +19,7 @@ use Rattle.elan_scope.specs.declared.delivery.Delivery.{Delivery}
 use Rattle.elan_scope.specs.declared.delivery.Delivery.TheVariants.{Open, Nothing, Of}
 use Rattle.elan_scope.specs.declared.scope.Scope.{Scope}
 use Rattle.elan_scope.specs.Phrase as form
-use Rattle.elan_scope.specs.Phrase.{Form, Phrase, phrase, Parts, none, part, all_of}
+use Rattle.elan_scope.specs.Phrase.{Form, asking, plain, Phrase, phrase, Parts, none, part, all_of}
 use Rattle.elan_judge.specs.Shape as shape
 
 abbrev fst : {A : Type 0} {B : A → Type 0} → (a : A) × B a → A
@@ -27,16 +27,16 @@ fst x = x.0
 
 module _ (s : Scope) where
   abbrev pub Names : Form → Type 0
-  Names (form.named u at z x) = z ≡ s
-  Names (form.applied at z sort x) = z ≡ s
-  Names (form.declares at z x) = z ≡ s
-  Names (form.assignment at z) = z ≡ s
-  Names (form.leave at z x) = z ≡ s
-  Names (form.heading at z sort x ps missing) = ⊥
-  Names (form.body o r) = ⊥
-  Names form.routine = ⊥
-  Names (form.refinement o) = ⊥
-  Names form.level = ⊥
+  Names (asking (form.named u at z x)) = z ≡ s
+  Names (plain (form.applied at z sort x)) = z ≡ s
+  Names (plain (form.declares at z x)) = z ≡ s
+  Names (plain (form.assignment at z)) = z ≡ s
+  Names (asking (form.leave at z x)) = z ≡ s
+  Names (plain (form.heading at z sort x ps missing)) = ⊥
+  Names (plain (form.body o r)) = ⊥
+  Names (plain form.routine) = ⊥
+  Names (plain (form.refinement o)) = ⊥
+  Names (plain form.level) = ⊥
   Names _ = Unit {0}
 
   abbrev mutual

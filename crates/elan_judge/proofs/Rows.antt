@@ -17,9 +17,10 @@ use Rattle.choice_rules.specs.Choices.{labels_of}
 use Rattle.elan_rules.specs.Meaning.{judged, judged_all}
 use Rattle.elan_scope.specs.declared.delivery.Delivery.{Delivery}
 use Rattle.elan_scope.specs.declared.delivery.Delivery.TheVariants.{Nothing}
-use Rattle.elan_scope.specs.Phrase.{Form, Phrase, phrase, Parts, part, around, all_of}
+use Rattle.elan_scope.specs.Phrase.{Plain, plain, Phrase, phrase, Parts, part, around, all_of}
 use Rattle.elan_scope.specs.Ruled.{Ruled, gives, breaks, hangs, ◌>>=◌, before, beside, joined}
-use Rattle.elan_rules.specs.Rules.{rule}
+use Rattle.elan_meant.specs.Verdict.{Tells}
+use Rattle.elan_rules.specs.Rules.{rule, ruled}
 use Rattle.elan_meant.proofs.Beside.{before_joined, single_joined}
 use Rattle.elan_judge.specs.Shape.{written, unit, branch, case, role, roles, filled, is_empty, all_empty, asked, in_role, numbers, branches, arms}
 use Rattle.elan_judge.proofs.Shapes.{case_labels}
@@ -33,16 +34,16 @@ bind_fails NoMemory r f h = tt
 bind_fails (Breaks at why) r f h = ap (λ z. z >>= f) h
 bind_fails Hangs r f h = ap (λ z. z >>= f) h
 
-module _ (k : Known) (f : Form) (ps : Parts) where
-  pub whole_fails : (d : Trouble) → Fails d (judged_all k ps) → Fails d (judged k (phrase f ps))
-  whole_fails d h = bind_fails d (judged_all k ps) (rule k f) h
+module _ (k : Known) (f : Plain) (ps : Parts) where
+  pub whole_fails : (d : Trouble) → Fails d (judged_all k ps) → Fails d (judged k (phrase (plain f) ps))
+  whole_fails d h = bind_fails d (judged_all k ps) (ruled k (plain f)) h
 
-  pub whole_is : (out : Result Meant Trouble) (ms : List Meant) → judged_all k ps ≡ gives ms → Is out (rule k f ms) → Is out (judged k (phrase f ps))
-  whole_is out ms e h = subst (λ (z : Ruled (List Meant)). Is out (z >>= rule k f)) (sym e) h
+  pub whole_is : (out : Result Meant Trouble) (ms : List Meant) → judged_all k ps ≡ gives ms → Tells out (rule f ms) → Is out (judged k (phrase (plain f) ps))
+  whole_is out ms e h = subst (λ (z : Ruled (List Meant)). Is out (z >>= ruled k (plain f))) (sym e) h
 
-module _ (k : Known) (f : Form) (p : Phrase) where
-  pub one_is : (out : Result Meant Trouble) (m : Meant) → judged k p ≡ gives m → Is out (rule k f (m ∷ [])) → Is out (judged k (around f p))
-  one_is out m e h = subst (λ (z : Ruled Meant). Is out (before z (gives []) >>= rule k f)) (sym e) h
+module _ (k : Known) (f : Plain) (p : Phrase) where
+  pub one_is : (out : Result Meant Trouble) (m : Meant) → judged k p ≡ gives m → Tells out (rule f (m ∷ [])) → Is out (judged k (around f p))
+  one_is out m e h = subst (λ (z : Ruled Meant). Is out (before z (gives []) >>= ruled k (plain f))) (sym e) h
 
 -- ---- a row with one more phrase
 

@@ -25,7 +25,7 @@ use Rattle.elan_scope.specs.declared.known.Known.{Known}
 use Rattle.elan_scope.specs.declared.scope.Scope.{Scope}
 use Rattle.elan_scope.specs.declared.scope.Usage.TheVariants.{Counter as Counts}
 use Rattle.elan_scope.specs.Phrase as form
-use Rattle.elan_scope.specs.Phrase.{Phrase, phrase, Parts, none, part, leaf, pair, all_of}
+use Rattle.elan_scope.specs.Phrase.{plain, Phrase, phrase, Parts, none, part, leaf, pair, name, all_of}
 use Rattle.elan_judge.specs.Shape as shape
 
 module _ (s : Scope) where
@@ -44,25 +44,25 @@ module _ (s : Scope) where
       ∷ shape.optional_expr s u ∷ [])
 
   choice_rolled : (at : ℕ) (bs : List Branch) (o : Option (List Statement))
-      → shape.expr s (roll-Expr (t.If at bs o)) ≡ phrase (form.choice at) (choice_parts bs o)
+      → shape.expr s (roll-Expr (t.If at bs o)) ≡ phrase (plain (form.choice at)) (choice_parts bs o)
   choice_rolled at bs None = rw fold-roll-Expr refl
   choice_rolled at bs (Some us) = rw fold-roll-Expr refl
 
   pub choice_shape : (at : ℕ) (bs : List Branch) (o : Option (List Statement))
-      → shape.expr s (expression.If at bs o) ≡ phrase (form.choice at) (choice_parts bs o)
+      → shape.expr s (expression.If at bs o) ≡ phrase (plain (form.choice at)) (choice_parts bs o)
   choice_shape at bs o = ap (shape.expr s) (sym (expression.rolls-If at bs o)) ∙ choice_rolled at bs o
 
   selection_rolled : (at : ℕ) (v : Expr) (cs : List Case) (o : Option (List Statement))
-      → shape.expr s (roll-Expr (t.Select at v cs o)) ≡ phrase (form.selection at) (part (shape.expr s v) (case_parts cs o))
+      → shape.expr s (roll-Expr (t.Select at v cs o)) ≡ phrase (plain (form.selection at)) (part (shape.expr s v) (case_parts cs o))
   selection_rolled at v cs None = rw fold-roll-Expr refl
   selection_rolled at v cs (Some us) = rw fold-roll-Expr refl
 
   pub selection_shape : (at : ℕ) (v : Expr) (cs : List Case) (o : Option (List Statement))
-      → shape.expr s (expression.Select at v cs o) ≡ phrase (form.selection at) (part (shape.expr s v) (case_parts cs o))
+      → shape.expr s (expression.Select at v cs o) ≡ phrase (plain (form.selection at)) (part (shape.expr s v) (case_parts cs o))
   selection_shape at v cs o = ap (shape.expr s) (sym (expression.rolls-Select at v cs o)) ∙ selection_rolled at v cs o
 
   abbrev pub loop_of : ℕ → Option Counter → Option Expr → List Statement → Option Expr → Phrase
-  loop_of at k c us u = phrase (shape.loop_form at (shape.optional_counter s k)) (loop_parts k c us u)
+  loop_of at k c us u = phrase (plain (shape.loop_form at (shape.optional_counter s k))) (loop_parts k c us u)
 
   loop_rolled : (at : ℕ) (k : Option Counter) (c : Option Expr) (us : List Statement) (u : Option Expr)
       → shape.unit s (roll-Unit (t.Loop at k c us u)) ≡ Some (loop_of at k c us u)
@@ -103,13 +103,13 @@ module _ (s : Scope) where
 
   counter_rolled : (n : Name) (from : Option Expr) (l : Limit)
       → shape.counter s (roll-Counter (record { name = n; from = from; limit = l }))
-      ≡ (leaf (form.named Counts n.at s n.text), shape.optional_expr s from, (shape.limit s l).1, (shape.limit s l).0)
+      ≡ (name Counts n.at s n.text, shape.optional_expr s from, (shape.limit s l).1, (shape.limit s l).0)
   counter_rolled n None l = rw fold-roll-Counter refl
   counter_rolled n (Some a) l = rw fold-roll-Counter refl
 
   pub counter_shape : (k : Counter)
       → shape.counter s k ≡ (
-        leaf (form.named Counts k.name.at s k.name.text),
+        name Counts k.name.at s k.name.text,
         shape.optional_expr s k.from,
         (shape.limit s k.limit).1,
         (shape.limit s k.limit).0,
@@ -134,17 +134,17 @@ module _ (s : Scope) where
 
   module _ (known : Known) (q : Result Meant Trouble) where
     pub choice_is : (w : Expr) (at : ℕ) (bs bs' : List Branch) (o : Option (List Statement)) → w ≡ expression.If at bs o → bs' ≡ bs
-        → Is q (judged known (phrase (form.choice at) (choice_parts bs' o))) → Is q (judged known (shape.expr s w))
+        → Is q (judged known (phrase (plain (form.choice at)) (choice_parts bs' o))) → Is q (judged known (shape.expr s w))
     choice_is w at bs bs' o i e h =
         subst (λ (p : Phrase). Is q (judged known p))
-        (ap (λ (l : List Branch). phrase (form.choice at) (choice_parts l o)) e ∙ sym (ap (shape.expr s) i ∙ choice_shape at bs o)) h
+        (ap (λ (l : List Branch). phrase (plain (form.choice at)) (choice_parts l o)) e ∙ sym (ap (shape.expr s) i ∙ choice_shape at bs o)) h
 
     pub selection_is : (w : Expr) (at : ℕ) (v v' : Expr) (cs cs' : List Case) (o : Option (List Statement)) → w ≡ expression.Select at v cs o → v' ≡ v
-        → cs' ≡ cs → Is q (judged known (phrase (form.selection at) (part (shape.expr s v') (case_parts cs' o)))) → Is q (judged known (shape.expr s w))
+        → cs' ≡ cs → Is q (judged known (phrase (plain (form.selection at)) (part (shape.expr s v') (case_parts cs' o)))) → Is q (judged known (shape.expr s w))
     selection_is w at v v' cs cs' o i e f h =
         subst (λ (p : Phrase). Is q (judged known p))
-        (ap (λ (x : Expr). phrase (form.selection at) (part (shape.expr s x) (case_parts cs' o))) e
-        ∙ ap (λ (l : List Case). phrase (form.selection at) (part (shape.expr s v) (case_parts l o))) f
+        (ap (λ (x : Expr). phrase (plain (form.selection at)) (part (shape.expr s x) (case_parts cs' o))) e
+        ∙ ap (λ (l : List Case). phrase (plain (form.selection at)) (part (shape.expr s v) (case_parts l o))) f
         ∙ sym (ap (shape.expr s) i ∙ selection_shape at v cs o)) h
 
     pub cand_is : (w : Expr) (at : ℕ) (l l' r r' : Expr) → w ≡ expression.Cand at l r → l' ≡ l → r' ≡ r
@@ -184,17 +184,17 @@ module _ (s : Scope) where
         ∙ sym (ap (shape.item s) (sym (rolls-Item' (record { name = i.name; init = i.init }))) ∙ item_rolled i.name i.init)) h
 
     pub variables_is : (w : Statement) (at : ℕ) (of : TypePhrase) (xs xs' : List Item) → w ≡ statement.Variables at of xs → xs' ≡ xs
-        → Is q (judged known (phrase (form.declaration at) (all_of (map (shape.item s) xs')))) → Is q (judged known (shape.written (shape.unit s w)))
+        → Is q (judged known (phrase (plain (form.declaration at)) (all_of (map (shape.item s) xs')))) → Is q (judged known (shape.written (shape.unit s w)))
     variables_is w at of xs xs' i e h =
         subst (λ (o : Option Phrase). Is q (judged known (shape.written o)))
-        (ap (λ (l : List Item). Some (phrase (form.declaration at) (all_of (map (shape.item s) l)))) e
+        (ap (λ (l : List Item). Some (phrase (plain (form.declaration at)) (all_of (map (shape.item s) l)))) e
         ∙ sym (ap (shape.unit s) (i ∙ sym (statement.rolls-Variables at of xs)) ∙ rw fold-roll-Unit refl)) h
 
     pub constants_is : (w : Statement) (at : ℕ) (of : TypePhrase) (xs xs' : List Item) → w ≡ statement.Constants at of xs → xs' ≡ xs
-        → Is q (judged known (phrase (form.declaration at) (all_of (map (shape.item s) xs')))) → Is q (judged known (shape.written (shape.unit s w)))
+        → Is q (judged known (phrase (plain (form.declaration at)) (all_of (map (shape.item s) xs')))) → Is q (judged known (shape.written (shape.unit s w)))
     constants_is w at of xs xs' i e h =
         subst (λ (o : Option Phrase). Is q (judged known (shape.written o)))
-        (ap (λ (l : List Item). Some (phrase (form.declaration at) (all_of (map (shape.item s) l)))) e
+        (ap (λ (l : List Item). Some (phrase (plain (form.declaration at)) (all_of (map (shape.item s) l)))) e
         ∙ sym (ap (shape.unit s) (i ∙ sym (statement.rolls-Constants at of xs)) ∙ rw fold-roll-Unit refl)) h
 
 -- An expression that stands alone is placed as it is itself.

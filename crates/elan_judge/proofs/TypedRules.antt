@@ -2,6 +2,7 @@
 use Rattle.std.proofs.Common.{◌≡◌, ℕ, Bool, List, [], ◌∷◌, length, Option, Some, None, sym, subst}
 use Rattle.elan_meant.specs.declared.meant.Meant.{Meant}
 use Rattle.elan_scope.specs.Ruled.{Ruled, gives}
+use Rattle.elan_meant.specs.Verdict.{Verdict}
 use Rattle.elan_scope.specs.Scope as scope
 use Rattle.elan_scope.specs.declared.scope.Scope.{Scope}
 use Rattle.elan_scope.specs.declared.known.Known.{Known}
@@ -9,19 +10,19 @@ use Rattle.elan_scope.specs.declared.heading.Sort.TheVariants.{Procedure, Operat
 use Rattle.elan_scope.specs.Scope.{Callable}
 use Rattle.elan_meant.specs.Operands.{chosen, becomes}
 use Rattle.elan_scope.specs.Phrase as form
-use Rattle.elan_scope.specs.Phrase.{Form, Phrase, phrase, Parts, none, part}
+use Rattle.elan_scope.specs.Phrase.{Form, asking, Plain, plain, Phrase, phrase, Parts, none, part}
 use Rattle.elan_meant.specs.Parts as p
 use Rattle.value_rules.specs.Calls as r
 use Rattle.unit_rules.specs.Units as u
 use Rattle.choice_rules.specs.Choices as c
 use Rattle.unit_rules.specs.Loops as l
 use Rattle.elan_rules.specs.Rules as all
-use Rattle.elan_rules.specs.Rules.{rule}
+use Rattle.elan_rules.specs.Rules.{rule, ruled}
 use Rattle.elan_rules.specs.Meaning.{judged, judged_all}
 use Rattle.elan_rules.proofs.First.{bind_gives, before_gives, gives_is}
 use Rattle.elan_judge.proofs.InScope.{Names, InScope, AllIn}
 use Rattle.elan_rules.proofs.Typed as ty
-use Rattle.elan_rules.proofs.Typed.{Gives, on_if, on_bind}
+use Rattle.elan_rules.proofs.Typed.{Gives, MayGive, on_if, on_bind, on_told}
 use Rattle.elan_rules.proofs.TypeEquations.{Stand, truth_is}
 use Rattle.elan_rules.proofs.TypedUnits.{number_good, bracketed_good, cand_good, cor_good, assigned_good, initial_good, in_order_good, alone_good}
 use Rattle.elan_rules.proofs.TypedUnits.{without_value_good, must_deliver_good}
@@ -36,7 +37,7 @@ module _ (here : Stand) (s : Scope) (k : Known) (fits : Fits here s k) where
   abbrev AllGood : List Meant → Type 0
   AllGood = ty.AllGood here
 
-  in_scope : (f : Scope → Ruled Meant) (z : Scope) → z ≡ s → Gives Good (f s) → Gives Good (f z)
+  in_scope : (f : Scope → Verdict Meant) (z : Scope) → z ≡ s → Gives Good (f s) → Gives Good (f z)
   in_scope f z e h = subst (λ (y : Scope). Gives Good (f y)) (sym e) h
 
   assignment_by : (at : ℕ) (known : Bool) (ms : List Meant) (o : Option Callable) → AllGood ms → Gives Good (r.applied_as at known ms o)
@@ -50,46 +51,51 @@ module _ (here : Stand) (s : Scope) (k : Known) (fits : Fits here s k) where
       assignment_by at (scope.is_known s Operator becomes (length ms)) ms (chosen s Operator becomes ms) g
       (applied_good here s k fits at Operator becomes ms g)
 
-  rules : (f : Form) (ms : List Meant) → Names s f → AllGood ms → Gives Good (rule k f ms)
-  rules form.absent ms i g = tt
-  rules form.not_built ms i g = tt
-  rules (form.number at n) ms i g = number_good here at n
-  rules (form.truth at b) ms i g = truth_is here b
-  rules (form.named u at z x) ms i g = in_scope (λ y. r.named k u at y x (scope.find y x)) z i (named_good here s k fits u at x)
-  rules (form.applied at z sort x) ms i g = in_scope (λ y. r.applied at y sort x ms) z i (applied_good here s k fits at sort x ms g)
-  rules (form.bracket at) ms i g = ty.one here ms (all.bracketed at) g (bracketed_good here at)
-  rules (form.cand at) ms i g = ty.two here ms (all.cand at) g (cand_good here at)
-  rules (form.cor at) ms i g = ty.two here ms (all.cor at) g (cor_good here at)
-  rules (form.choice at) ms i g = choice_good here at ms g
-  rules (form.label at earlier n) ms i g = on_if Good (c.is_in earlier n) _ _ (λ e. tt) (λ e. tt)
-  rules (form.label_name at z x) ms i g = label_named_good here at (scope.is_known z Procedure x 0) (scope.find z x)
-  rules form.labels ms i g = tt
-  rules (form.selection at) [] i g = tt
-  rules (form.selection at) (m ∷ ms) i g = selected_good here at m ms g.0 g.1
-  rules (form.declares at z x) ms i g = in_scope (λ y. r.declared at (scope.find_own y x)) z i (declared_good here s k fits at x)
-  rules (form.initial at) ms i g = ty.two here ms (u.initial at) g (initial_good here at)
-  rules (form.declaration at) ms i g = ty.unit_typed here (p.actions_of ms) (ty.actions_of_typed here ms g)
-  rules form.statement ms i g = ty.one here ms u.alone g (alone_good here)
-  rules (form.assignment at z) ms i g = in_scope (λ y. all.assignment at y ms) z i (assignment_good at ms g)
-  rules (form.loop at) ms i g = ty.three here ms (l.loop at) g (loop_good here at)
-  rules (form.count at w) ms i g = ty.six here ms (l.counted at w) g (counted_good here at w)
-  rules form.without_value ms i g = ty.one here ms u.without_value g (without_value_good here)
-  rules (form.must_deliver at t) ms i g = ty.one here ms (u.must_deliver at t) g (must_deliver_good here at t)
-  rules (form.leave at z x) ms i g = ty.one here ms _ g (λ m h. in_scope (λ y. r.leaving k at (scope.left y x) m) z i (leaving_good here s k fits at x m h))
-  rules form.units ms i g = in_order_good here ms g
-  rules (form.heading at z sort x ps missing) ms i g = absurd i
-  rules (form.body o q) ms i g = absurd i
-  rules form.routine ms i g = absurd i
-  rules (form.refinement o) ms i g = absurd i
-  rules form.level ms i g = absurd i
+  plain_rules : (f : Plain) (ms : List Meant) → Names s (plain f) → AllGood ms → Gives Good (rule f ms)
+  plain_rules form.absent ms i g = tt
+  plain_rules form.not_built ms i g = tt
+  plain_rules (form.number at n) ms i g = number_good here at n
+  plain_rules (form.truth at b) ms i g = truth_is here b
+  plain_rules (form.applied at z sort x) ms i g = in_scope (λ y. r.applied at y sort x ms) z i (applied_good here s k fits at sort x ms g)
+  plain_rules (form.bracket at) ms i g = ty.one here ms (all.bracketed at) g (bracketed_good here at)
+  plain_rules (form.cand at) ms i g = ty.two here ms (all.cand at) g (cand_good here at)
+  plain_rules (form.cor at) ms i g = ty.two here ms (all.cor at) g (cor_good here at)
+  plain_rules (form.choice at) ms i g = choice_good here at ms g
+  plain_rules (form.label at earlier n) ms i g = on_if Good (c.is_in earlier n) _ _ (λ e. tt) (λ e. tt)
+  plain_rules (form.label_name at z x) ms i g = label_named_good here at (scope.is_known z Procedure x 0) (scope.find z x)
+  plain_rules form.labels ms i g = tt
+  plain_rules (form.selection at) [] i g = tt
+  plain_rules (form.selection at) (m ∷ ms) i g = selected_good here at m ms g.0 g.1
+  plain_rules (form.declares at z x) ms i g = in_scope (λ y. r.declared at (scope.find_own y x)) z i (declared_good here s k fits at x)
+  plain_rules (form.initial at) ms i g = ty.two here ms (u.initial at) g (initial_good here at)
+  plain_rules (form.declaration at) ms i g = ty.unit_typed here (p.actions_of ms) (ty.actions_of_typed here ms g)
+  plain_rules form.statement ms i g = ty.one here ms u.alone g (alone_good here)
+  plain_rules (form.assignment at z) ms i g = in_scope (λ y. all.assignment at y ms) z i (assignment_good at ms g)
+  plain_rules (form.loop at) ms i g = ty.three here ms (l.loop at) g (loop_good here at)
+  plain_rules (form.count at w) ms i g = ty.six here ms (l.counted at w) g (counted_good here at w)
+  plain_rules form.without_value ms i g = ty.one here ms u.without_value g (without_value_good here)
+  plain_rules (form.must_deliver at t) ms i g = ty.one here ms (u.must_deliver at t) g (must_deliver_good here at t)
+  plain_rules form.units ms i g = in_order_good here ms g
+  plain_rules (form.heading at z sort x ps missing) ms i g = absurd i
+  plain_rules (form.body o q) ms i g = absurd i
+  plain_rules form.routine ms i g = absurd i
+  plain_rules (form.refinement o) ms i g = absurd i
+  plain_rules form.level ms i g = absurd i
+
+  rules : (f : Form) (ms : List Meant) → Names s f → AllGood ms → MayGive Good (ruled k f ms)
+  rules (asking (form.named u at z x)) ms i g =
+      subst (λ (y : Scope). MayGive Good (r.named k u at y x (scope.find y x))) (sym i) (named_good here s k fits u at x)
+  rules (asking (form.leave at z x)) ms i g =
+      on_told Good _ (ty.one here ms _ g (λ m h. in_scope (λ y. r.leaving k at (scope.left y x) m) z i (leaving_good here s k fits at x m h)))
+  rules (plain f) ms i g = on_told Good (rule f ms) (plain_rules f ms i g)
 
   -- ---- all phrases
 
   mutual
     pub good : (p : Phrase) (m : Meant) → InScope s p → judged k p ≡ gives m → Good m
     good (phrase f ps) m i e =
-        let b = bind_gives (judged_all k ps) (rule k f) m e in
-        subst (λ (q : Ruled Meant). Gives Good q) b.2 (rules f b.0 i.0 (all_good ps b.0 i.1 b.1))
+        let b = bind_gives (judged_all k ps) (ruled k f) m e in
+        subst (λ (q : Ruled Meant). MayGive Good q) b.2 (rules f b.0 i.0 (all_good ps b.0 i.1 b.1))
 
     pub all_good : (ps : Parts) (ms : List Meant) → AllIn s ps → judged_all k ps ≡ gives ms → AllGood ms
     all_good none ms i e = subst AllGood (gives_is [] ms e) tt

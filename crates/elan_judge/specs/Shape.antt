@@ -22,7 +22,7 @@ use Rattle.elan_scope.specs.declared.scope.Scope.{Scope}
 use Rattle.elan_unbuilt.specs.Operators.{operator_text}
 use Rattle.elan_scope.specs.declared.scope.Usage.TheVariants.{Expression, Counter as Counts}
 use Rattle.elan_scope.specs.Phrase as form
-use Rattle.elan_scope.specs.Phrase.{Form, Phrase, phrase, leaf, around, pair, all_of, place}
+use Rattle.elan_scope.specs.Phrase.{asking, Plain, Phrase, phrase, part, none, row, leaf, around, pair, name, place}
 
 -- a part that may be left out
 abbrev pub written : Option Phrase → Phrase
@@ -58,7 +58,7 @@ all_empty [] = true
 all_empty (u ∷ us) = is_empty u && all_empty us
 
 abbrev pub units : Delivery → List (Option Phrase) → Phrase
-units d us = phrase form.units (all_of (roles d (filled us)))
+units d us = row form.units (roles d (filled us))
 
 abbrev pub otherwise : Option (List (Option Phrase)) → Phrase
 otherwise None = leaf form.absent
@@ -84,7 +84,7 @@ branches (b ∷ bs) = b.0 ∷ b.1 ∷ branches bs
 abbrev pub Counted : Type 0
 Counted = Phrase × Phrase × Phrase × Way
 
-abbrev pub loop_form : ℕ → Option Counted → Form
+abbrev pub loop_form : ℕ → Option Counted → Plain
 loop_form at None = form.loop at
 loop_form at (Some k) = form.count at k.3
 
@@ -93,7 +93,7 @@ counter_parts None = []
 counter_parts (Some k) = k.0 ∷ k.1 ∷ k.2 ∷ []
 
 abbrev pub loop : ℕ → Option Counted → Phrase → Phrase → Phrase → Phrase
-loop at k c us u = phrase (loop_form at k) (all_of (counter_parts k ++ c ∷ us ∷ u ∷ []))
+loop at k c us u = row (loop_form at k) (counter_parts k ++ c ∷ us ∷ u ∷ [])
 
 -- ---- labels
 
@@ -117,7 +117,7 @@ module _ (s : Scope) where
 
   -- the labels of a case after others, each compared with all before it
   abbrev pub labels_phrase : List ℤ → List Label → Phrase
-  labels_phrase earlier ls = phrase form.labels (all_of (label_phrases earlier ls))
+  labels_phrase earlier ls = row form.labels (label_phrases earlier ls)
 
   -- labels, each before the units that they choose
   abbrev pub arms : List ℤ → List (List Label × Phrase) → List Phrase
@@ -129,11 +129,11 @@ module _ (s : Scope) where
   abbrev pub expr_step : Expr-F Phrase (Way × Phrase) (Option Phrase) (Phrase × Phrase) (List Label × Phrase) Counted Phrase → Phrase
   expr_step (t.Number at n) = leaf (form.number at n)
   expr_step (t.Truth at b) = leaf (form.truth at b)
-  expr_step (t.Named n) = leaf (form.named Expression n.at s n.text)
-  expr_step (t.Call n actuals) = phrase (form.applied n.at s Procedure n.text) (all_of actuals)
+  expr_step (t.Named n) = name Expression n.at s n.text
+  expr_step (t.Call n actuals) = row (form.applied n.at s Procedure n.text) actuals
   expr_step (t.Bracket at a) = around (form.bracket at) a
-  expr_step (t.If at bs other) = phrase (form.choice at) (all_of (branches bs ++ otherwise other ∷ []))
-  expr_step (t.Select at of cases other) = phrase (form.selection at) (all_of (of ∷ arms [] cases ++ otherwise other ∷ []))
+  expr_step (t.If at bs other) = row (form.choice at) (branches bs ++ otherwise other ∷ [])
+  expr_step (t.Select at of cases other) = row (form.selection at) (of ∷ arms [] cases ++ otherwise other ∷ [])
   expr_step (t.Monadic at o a) = around (form.applied at s Operator (operator_text o)) a
   expr_step (t.Dyadic at o a b) = pair (form.applied at s Operator (operator_text o)) a b
   expr_step (t.Cand at a b) = pair (form.cand at) a b
@@ -152,14 +152,14 @@ module _ (s : Scope) where
 
   abbrev pub unit_step : Unit-F Phrase (Way × Phrase) (Option Phrase) (Phrase × Phrase) (List Label × Phrase) Counted Phrase → Option Phrase
   unit_step t.Empty = None
-  unit_step (t.Variables at of items) = Some (phrase (form.declaration at) (all_of items))
-  unit_step (t.Constants at of items) = Some (phrase (form.declaration at) (all_of items))
+  unit_step (t.Variables at of items) = Some (row (form.declaration at) items)
+  unit_step (t.Constants at of items) = Some (row (form.declaration at) items)
   unit_step (t.Value a) = Some (around form.statement a)
   unit_step (t.Becomes at a b) = Some (pair (form.assignment at s) a b)
   unit_step (t.Loop at counter condition us until) = Some (loop at counter (written condition) (units Nothing us) (written until))
   unit_step (t.Let at items) = Some (leaf form.not_built)
   unit_step (t.Bound at of items) = Some (leaf form.not_built)
-  unit_step (t.Leave at n value) = Some (around (form.leave at s n.text) (written value))
+  unit_step (t.Leave at n value) = Some (phrase (asking (form.leave at s n.text)) (part (written value) none))
 
   abbrev pub branch_step : Branch-F Phrase (Way × Phrase) (Option Phrase) (Phrase × Phrase) (List Label × Phrase) Counted Phrase → Phrase × Phrase
   branch_step b = (b.condition, units Open b.units)
@@ -168,7 +168,7 @@ module _ (s : Scope) where
   case_step c = (c.labels, units Open c.units)
 
   abbrev pub counter_step : Counter-F Phrase (Way × Phrase) (Option Phrase) (Phrase × Phrase) (List Label × Phrase) Counted Phrase → Counted
-  counter_step c = (leaf (form.named Counts c.name.at s c.name.text), written c.from, c.limit.1, c.limit.0)
+  counter_step c = (name Counts c.name.at s c.name.text, written c.from, c.limit.1, c.limit.0)
 
   abbrev pub item_with : Name → Phrase → Option Phrase → Phrase
   item_with n p None = p

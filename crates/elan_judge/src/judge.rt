@@ -1,13 +1,13 @@
 //! The meaning of expressions and units, from left to right. One cycle of functions over both, so it stands in one file.
 
 ghost use Rattle.std.specs.Prelude.{ℕ, ◌≡◌, ◌++◌, ◌∷◌, [], List, map};
-ghost use Rattle.elan_scope.specs.declared.known.Known.{Known};
 ghost use Rattle.elan_scope.specs.declared.scope.Scope.{Scope};
 ghost use Rattle.elan_scope.specs.Phrase as form;
-ghost use Rattle.elan_scope.specs.Phrase.{Phrase, phrase, all_of};
+ghost use Rattle.elan_scope.specs.Phrase.{Phrase, row, all_of};
 ghost use Rattle.elan_rules.specs.Meaning.{judged, judged_all};
 ghost use Rattle.elan_rules.specs.Rules.{rule};
 ghost use Rattle.elan_scope.specs.Answer.{Is};
+ghost use Rattle.elan_meant.specs.Verdict.{Tells};
 ghost use Rattle.elan_judge.specs.Shape as shape;
 
 use crate::label::{add_numbers, judge_labels};
@@ -279,7 +279,7 @@ fn judge_items(alloc: Global, known: &Known, scope: &Scope, items: &[Item]) -> R
 
 #[cycle(judge)]
 fn judge_declaration(alloc: Global, known: &Known, scope: &Scope, items: &[Item]) -> Judged
-    ensures { (at : ℕ) → Is result (judged known.now (phrase (form.declaration at) (all_of (map (shape.item scope.now) items.now)))) }
+    ensures { (at : ℕ) → Is result (judged known.now (row (form.declaration at) (map (shape.item scope.now) items.now))) }
 {
     let items = judge_items(alloc, known, scope, items)?;
     let meant = declaration(alloc, items)?;
@@ -322,7 +322,7 @@ fn judge_counter(
 
 // A loop, by what its parts mean.
 fn looped(alloc: Global, at: u32, counter: &Option<Boxed<Counter>>, parts: List<Meant>) -> Judged
-    ensures { (k : Known) → (s : Scope) → Is result (rule k (shape.loop_form at (shape.optional_counter s counter.now)) parts) }
+    ensures { (s : Scope) → Tells result (rule (shape.loop_form at (shape.optional_counter s counter.now)) parts) }
 {
     match counter {
         None => loop_parts(alloc, at, parts),

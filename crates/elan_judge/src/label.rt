@@ -3,7 +3,7 @@
 ghost use Rattle.std.specs.Prelude.{◌≡◌, ◌++◌, ◌∷◌, [], OnOk};
 ghost use Rattle.elan_meant.specs.declared.meant.Meant.TheVariants as means;
 ghost use Rattle.elan_scope.specs.Phrase as form;
-ghost use Rattle.elan_scope.specs.Phrase.{phrase, all_of};
+ghost use Rattle.elan_scope.specs.Phrase.{row};
 ghost use Rattle.elan_rules.specs.Meaning.{judged};
 ghost use Rattle.elan_scope.specs.Answer.{Is, Gives};
 ghost use Rattle.elan_judge.specs.Shape as shape;
@@ -60,7 +60,7 @@ pub fn judge_labels(
     earlier: &[i16],
     labels: &[Label],
 ) -> Judged
-    ensures { Is result (judged known.now (phrase form.labels (all_of (shape.label_phrases scope.now earlier.now labels.now)))) }
+    ensures { Is result (judged known.now (row form.labels (shape.label_phrases scope.now earlier.now labels.now))) }
 {
     let mut numbers = List::new(alloc);
     let mut before = List::from_slice(alloc, earlier)?;

@@ -11,10 +11,10 @@ use Rattle.elan_types.specs.declared.why.Why.TheVariants.{Unknown, NoVariable}
 use Rattle.elan_meant.specs.declared.meant.Meant.{Meant}
 use Rattle.elan_meant.specs.declared.meant.Meant.TheVariants.{Absent, Variable, Value, Done, Left}
 use Rattle.elan_meant.specs.Operands.{delivers}
-use Rattle.elan_scope.specs.Ruled.{Ruled, gives, breaks}
+use Rattle.elan_meant.specs.Verdict.{Verdict, gives, breaks}
 
 -- what no text asks for
-abbrev pub unasked : {A : Type 0} → Ruled A
+abbrev pub unasked : {A : Type 0} → Verdict A
 unasked = breaks (0, Unknown)
 
 -- ---- what parts deliver
@@ -26,7 +26,7 @@ value_of (Value at t v) = v
 value_of _ = value.Truth false
 
 -- A variable is needed.
-abbrev pub variable : Meant → Ruled PlacePhrase
+abbrev pub variable : Meant → Verdict PlacePhrase
 variable (Variable at t p) = gives p
 variable (Value at t v) = breaks (at, NoVariable)
 variable _ = unasked
@@ -103,18 +103,18 @@ odd [] = None
 odd (x ∷ []) = Some x
 odd (x ∷ y ∷ xs) = odd xs
 
-abbrev pub on_one : Option Meant → (Meant → Ruled Meant) → Ruled Meant
+abbrev pub on_one : Option Meant → (Meant → Verdict Meant) → Verdict Meant
 on_one None f = unasked
 on_one (Some m) f = f m
 
-abbrev pub on_two : Option (Meant × Meant) → (Meant → Meant → Ruled Meant) → Ruled Meant
+abbrev pub on_two : Option (Meant × Meant) → (Meant → Meant → Verdict Meant) → Verdict Meant
 on_two None f = unasked
 on_two (Some p) f = f p.0 p.1
 
-abbrev pub on_three : Option (Meant × Meant × Meant) → (Meant → Meant → Meant → Ruled Meant) → Ruled Meant
+abbrev pub on_three : Option (Meant × Meant × Meant) → (Meant → Meant → Meant → Verdict Meant) → Verdict Meant
 on_three None f = unasked
 on_three (Some p) f = f p.0 p.1 p.2
 
-abbrev pub on_six : Option (Meant × Meant × Meant × Meant × Meant × Meant) → (Meant → Meant → Meant → Meant → Meant → Meant → Ruled Meant) → Ruled Meant
+abbrev pub on_six : Option (Meant × Meant × Meant × Meant × Meant × Meant) → (Meant → Meant → Meant → Meant → Meant → Meant → Verdict Meant) → Verdict Meant
 on_six None f = unasked
 on_six (Some p) f = f p.0 p.1 p.2 p.3 p.4 p.5

@@ -2,8 +2,7 @@
 
 ghost use Rattle.std.specs.Prelude.{◌≡◌, IfOk, [], ◌∷◌};
 ghost use Rattle.elan_meant.specs.Parts as spec;
-ghost use Rattle.elan_scope.specs.Ruled.{gives};
-ghost use Rattle.elan_scope.specs.Answer.{Is};
+ghost use Rattle.elan_meant.specs.Verdict.{gives, Tells};
 
 use crate::meant::Meant;
 use crate::operands::delivers;
@@ -53,7 +52,7 @@ pub fn value_in(meant: Meant) -> ValuePhrase
 
 /// The variable that a part is; another value breaks the rule that a variable is needed.
 pub fn variable(meant: Meant) -> Result<PlacePhrase, Trouble>
-    ensures { Is result (spec.variable meant) }
+    ensures { Tells result (spec.variable meant) }
 {
     match meant {
         Meant::Variable {
@@ -127,7 +126,7 @@ pub fn written(meant: Meant) -> Option<ValuePhrase>
 
 /// What a phrase means where a value is asked for.
 pub fn loaded(alloc: Global, meant: Meant) -> Judged
-    ensures { Is result (gives (spec.loaded meant)) }
+    ensures { Tells result (gives (spec.loaded meant)) }
 {
     match meant {
         Meant::Variable { at, of, place } => delivering(
@@ -142,7 +141,7 @@ pub fn loaded(alloc: Global, meant: Meant) -> Judged
 
 /// A phrase that delivers this value.
 pub fn delivering(alloc: Global, at: u32, of: ElanType, value: ValuePhrase) -> Judged
-    ensures { Is result (gives (Meant.Value at of value)) }
+    ensures { Tells result (gives (Meant.Value at of value)) }
 {
     let value = Boxed::new(alloc, value)?;
     Ok(Meant::Value { at, of, value })
@@ -159,7 +158,7 @@ pub fn one(alloc: Global, action: Action) -> Result<List<Action>, NoMemory>
 
 /// A unit that delivers nothing.
 pub fn unit_of(alloc: Global, actions: List<Action>) -> Judged
-    ensures { Is result (gives (spec.unit_of actions)) }
+    ensures { Tells result (gives (spec.unit_of actions)) }
 {
     let units = one(alloc, Action::Unit(actions))?;
     Ok(Meant::Done(units))
@@ -167,7 +166,7 @@ pub fn unit_of(alloc: Global, actions: List<Action>) -> Judged
 
 /// A phrase that delivers nothing, and does this.
 pub fn done(alloc: Global, action: Action) -> Judged
-    ensures { Is result (gives (Meant.Done (action ∷ []))) }
+    ensures { Tells result (gives (Meant.Done (action ∷ []))) }
 {
     let actions = one(alloc, action)?;
     Ok(Meant::Done(actions))
@@ -175,7 +174,7 @@ pub fn done(alloc: Global, action: Action) -> Judged
 
 /// A unit that delivers nothing, and does this.
 pub fn unit_doing(alloc: Global, action: Action) -> Judged
-    ensures { Is result (gives (spec.unit_of (action ∷ []))) }
+    ensures { Tells result (gives (spec.unit_of (action ∷ []))) }
 {
     let actions = one(alloc, action)?;
     unit_of(alloc, actions)

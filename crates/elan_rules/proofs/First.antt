@@ -4,7 +4,7 @@ use Rattle.elan_meant.specs.declared.meant.Meant.{Meant}
 use Rattle.elan_scope.specs.Phrase.{Phrase, phrase, Parts, none, part}
 use Rattle.elan_scope.specs.Ruled.{Fault, Ruled, gives, breaks, hangs, ◌>>=◌, before}
 use Rattle.elan_scope.specs.declared.known.Known.{Known}
-use Rattle.elan_rules.specs.Rules.{rule}
+use Rattle.elan_rules.specs.Rules.{ruled}
 use Rattle.elan_rules.specs.Meaning.{Means, AllMean, Breaks, phrases, phrases_of, NoneBreaks, IsFirst, judged, judged_all}
 
 -- ---- one step
@@ -66,7 +66,7 @@ module _ (kn : Known) where
   mutual
     pub means_of : (p : Phrase) (m : Meant) → judged kn p ≡ gives m → Means kn p m
     means_of (phrase form ps) m e =
-        let b = bind_gives (judged_all kn ps) (rule kn form) m e in
+        let b = bind_gives (judged_all kn ps) (ruled kn form) m e in
         (b.0, all_mean_of ps b.0 b.1, b.2)
 
     pub all_mean_of : (ps : Parts) (ms : List Meant) → judged_all kn ps ≡ gives ms → AllMean kn ps ms
@@ -77,7 +77,7 @@ module _ (kn : Known) where
 
   mutual
     pub judged_of : (p : Phrase) (m : Meant) → Means kn p m → judged kn p ≡ gives m
-    judged_of (phrase form ps) m h = ap (λ (r : Ruled (List Meant)). r >>= rule kn form) (judged_all_of ps h.0 h.1) ∙ h.2
+    judged_of (phrase form ps) m h = ap (λ (r : Ruled (List Meant)). r >>= ruled kn form) (judged_all_of ps h.0 h.1) ∙ h.2
 
     pub judged_all_of : (ps : Parts) (ms : List Meant) → AllMean kn ps ms → judged_all kn ps ≡ gives ms
     judged_all_of none ms h = ap (λ (l : List Meant). gives l) (sym h)
@@ -91,7 +91,7 @@ module _ (kn : Known) where
   one_meaning p m n h k = gives_is m n (sym (judged_of p m h) ∙ judged_of p n k)
 
   pub judged_breaks : (p : Phrase) (f : Fault) → Breaks kn p f → judged kn p ≡ breaks f
-  judged_breaks (phrase form ps) f h = ap (λ (r : Ruled (List Meant)). r >>= rule kn form) (judged_all_of ps h.0 h.1) ∙ h.2
+  judged_breaks (phrase form ps) f h = ap (λ (r : Ruled (List Meant)). r >>= ruled kn form) (judged_all_of ps h.0 h.1) ∙ h.2
 
   -- ---- phrases of which none breaks a rule
 
@@ -119,7 +119,7 @@ module _ (kn : Known) where
   mutual
     pub none_breaks : (p : Phrase) → Faultless (judged kn p) → NoneBreaks kn (phrases p)
     none_breaks (phrase form ps) e =
-        none_append (phrases_of ps) (phrase form ps ∷ []) (none_breaks_of ps (bind_faultless (judged_all kn ps) (rule kn form) e))
+        none_append (phrases_of ps) (phrase form ps ∷ []) (none_breaks_of ps (bind_faultless (judged_all kn ps) (ruled kn form) e))
         (λ f h. does_not_break (phrase form ps) f e h, tt)
 
     pub none_breaks_of : (ps : Parts) → Faultless (judged_all kn ps) → NoneBreaks kn (phrases_of ps)
@@ -162,7 +162,7 @@ module _ (kn : Known) where
   mutual
     pub refused_of : (p : Phrase) (f : Fault) → judged kn p ≡ breaks f → IsFirst kn (phrases p) f
     refused_of (phrase form ps) f e =
-        elim (bind_breaks (judged_all kn ps) (rule kn form) f e) [
+        elim (bind_breaks (judged_all kn ps) (ruled kn form) f e) [
           | inl h ↦ first_left (phrases_of ps) (phrase form ps ∷ []) f (refused_all_of ps f h)
           | inr h ↦ first_right (phrases_of ps) (phrase form ps ∷ []) f (none_breaks_of ps (faultless (judged_all kn ps) h.0 h.1))
               (alone (phrase form ps) f (h.0, all_mean_of ps h.0 h.1, h.2))

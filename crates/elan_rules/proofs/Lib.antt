@@ -6,4 +6,5 @@ pub mod TypedLoops
 pub mod TypedChoices
 pub mod TypedPerformed
 pub mod TypedCalls
-pub mod Firm
+pub mod Hung
+pub mod Assigned

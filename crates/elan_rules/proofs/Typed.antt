@@ -9,7 +9,9 @@ use Rattle.elan_types.specs.declared.core_phrase.Action.{Action}
 use Rattle.elan_types.specs.declared.core_phrase.Action.TheVariants as action
 use Rattle.elan_meant.specs.declared.meant.Meant.{Meant}
 use Rattle.elan_meant.specs.declared.meant.Meant.TheVariants.{Absent, Variable, Value, Done, Left, Labels, Bodies, Level}
-use Rattle.elan_scope.specs.Ruled.{Ruled, gives, breaks, hangs, ◌>>=◌}
+use Rattle.elan_scope.specs.Ruled as ruled
+use Rattle.elan_scope.specs.Ruled.{Ruled, hangs}
+use Rattle.elan_meant.specs.Verdict.{Verdict, gives, breaks, ◌>>=◌, told}
 use Rattle.elan_types.specs.Typing.{Typed, same_type, has, agree, only_if, all_true}
 use Rattle.elan_meant.specs.Operands.{delivers}
 use Rattle.elan_meant.specs.Parts as r
@@ -45,19 +47,32 @@ and_true a b e f = subst (λ (c : Bool). (c && b) ≡ true) (sym e) f
 
 -- ---- what a rule gives
 
-abbrev pub Gives : {A : Type 0} → (A → Type 0) → Ruled A → Type 0
+abbrev pub Gives : {A : Type 0} → (A → Type 0) → Verdict A → Type 0
 Gives P (gives x) = P x
 Gives P (breaks f) = Unit {0}
-Gives P hangs = Unit {0}
 
-pub on_if : {A : Type 0} (P : A → Type 0) (b : Bool) (x y : Ruled A) → (b ≡ true → Gives P x) → (b ≡ false → Gives P y) → Gives P (if b then x else y)
+pub on_if : {A : Type 0} (P : A → Type 0) (b : Bool) (x y : Verdict A) → (b ≡ true → Gives P x) → (b ≡ false → Gives P y) → Gives P (if b then x else y)
 on_if P true x y h k = h refl
 on_if P false x y h k = k refl
 
-pub on_bind : {A B : Type 0} (P : A → Type 0) (Q : B → Type 0) (q : Ruled A) (f : A → Ruled B) → Gives P q → ((x : A) → P x → Gives Q (f x)) → Gives Q (q >>= f)
+pub on_bind : {A B : Type 0} (P : A → Type 0) (Q : B → Type 0) (q : Verdict A) (f : A → Verdict B) → Gives P q → ((x : A) → P x → Gives Q (f x))
+    → Gives Q (q >>= f)
 on_bind P Q (gives x) f h k = k x h
 on_bind P Q (breaks d) f h k = tt
-on_bind P Q hangs f h k = tt
+
+-- among phrases that can hang
+abbrev pub MayGive : {A : Type 0} → (A → Type 0) → Ruled A → Type 0
+MayGive P (ruled.gives x) = P x
+MayGive P (ruled.breaks f) = Unit {0}
+MayGive P hangs = Unit {0}
+
+pub on_told : {A : Type 0} (P : A → Type 0) (v : Verdict A) → Gives P v → MayGive P (told v)
+on_told P (gives x) h = h
+on_told P (breaks f) h = tt
+
+pub on_either : {A : Type 0} (P : A → Type 0) (b : Bool) (x y : Ruled A) → MayGive P x → MayGive P y → MayGive P (if b then x else y)
+on_either P true x y h k = h
+on_either P false x y h k = k
 
 module _ (here : Stand) where
   -- ---- what is known of a meaning
@@ -86,19 +101,19 @@ module _ (here : Stand) where
   AllGood [] = Unit {0}
   AllGood (m ∷ ms) = Good m × AllGood ms
 
-  pub one : (ms : List Meant) (f : Meant → Ruled Meant) → AllGood ms → ((m : Meant) → Good m → Gives Good (f m)) → Gives Good (r.on_one (r.one_of ms) f)
+  pub one : (ms : List Meant) (f : Meant → Verdict Meant) → AllGood ms → ((m : Meant) → Good m → Gives Good (f m)) → Gives Good (r.on_one (r.one_of ms) f)
   one [] f g h = tt
   one (m ∷ []) f g h = h m g.0
   one (m ∷ n ∷ ms) f g h = tt
 
-  pub two : (ms : List Meant) (f : Meant → Meant → Ruled Meant) → AllGood ms → ((m n : Meant) → Good m → Good n → Gives Good (f m n))
+  pub two : (ms : List Meant) (f : Meant → Meant → Verdict Meant) → AllGood ms → ((m n : Meant) → Good m → Good n → Gives Good (f m n))
       → Gives Good (r.on_two (r.two_of ms) f)
   two [] f g h = tt
   two (m ∷ []) f g h = tt
   two (m ∷ n ∷ []) f g h = h m n g.0 g.1.0
   two (m ∷ n ∷ k ∷ ms) f g h = tt
 
-  pub three : (ms : List Meant) (f : Meant → Meant → Meant → Ruled Meant) → AllGood ms → ((m n k : Meant) → Good m → Good n → Good k → Gives Good (f m n k))
+  pub three : (ms : List Meant) (f : Meant → Meant → Meant → Verdict Meant) → AllGood ms → ((m n k : Meant) → Good m → Good n → Good k → Gives Good (f m n k))
       → Gives Good (r.on_three (r.three_of ms) f)
   three [] f g h = tt
   three (m ∷ []) f g h = tt
@@ -106,7 +121,7 @@ module _ (here : Stand) where
   three (m ∷ n ∷ k ∷ []) f g h = h m n k g.0 g.1.0 g.1.1.0
   three (m ∷ n ∷ k ∷ l ∷ ms) f g h = tt
 
-  pub six : (ms : List Meant) (f : Meant → Meant → Meant → Meant → Meant → Meant → Ruled Meant) → AllGood ms →
+  pub six : (ms : List Meant) (f : Meant → Meant → Meant → Meant → Meant → Meant → Verdict Meant) → AllGood ms →
       ((m n k l i j : Meant) → Good m → Good n → Good k → Good l → Good i → Good j → Gives Good (f m n k l i j)) → Gives Good (r.on_six (r.six_of ms) f)
   six [] f g h = tt
   six (m ∷ []) f g h = tt

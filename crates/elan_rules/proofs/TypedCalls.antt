@@ -47,7 +47,7 @@ use Rattle.elan_scope.specs.Predefined.{predefined}
 use Rattle.elan_scope.proofs.Layers.{called_as}
 use Rattle.elan_meant.specs.Operands.{delivers, takes, chosen}
 use Rattle.elan_rules.proofs.Typed as ty
-use Rattle.elan_rules.proofs.Typed.{same_is, same_self, has_self, agree_self, only_if_holds, both, and_true, Gives, on_if, on_bind}
+use Rattle.elan_rules.proofs.Typed.{same_is, same_self, has_self, agree_self, only_if_holds, both, and_true, Gives, MayGive, on_if, on_bind, on_told, on_either}
 use Rattle.value_rules.specs.Calls as r
 use Rattle.elan_rules.proofs.TypeEquations.{Stand, typed, lies, refer_is, action_refer_is, leave_is, leave_with_is}
 use Rattle.elan_rules.proofs.TypedPerformed.{owner_with, Headed, Delivering, BodyFits, Fitting, MayCall, none_holds, has_holds, own_calls, predefined_calls}
@@ -281,7 +281,7 @@ module _ (here : Stand) where
         ∙ ap (λ (c : Option Body). refines (number_of s.routine) (scope_of c)) e ∙ h
 
     referred_good : (at n : ℕ) (b : Body) (d : Delivery) → slice_get here.bodies n ≡ Some b → refines (number_of s.routine) (Some b.scope) ≡ true
-        → Delivering d b → Gives Good (r.referred at n d)
+        → Delivering d b → MayGive Good (r.referred at n d)
     referred_good at n b Open e o h = tt
     referred_good at n b Nothing e o h =
         ty.single_typed here (action.Refer n) (action_refer_is here n ∙ and_true _ _ (refines_holds n b e o) (none_holds here n b e h))
@@ -305,31 +305,31 @@ module _ (here : Stand) where
         by_test true = number_refined x (scope.first_heading (scope.is_refined (number_of s.routine) x) s.headings) refl
         by_test false = tt
 
-    refined_good : (at : ℕ) (o : Option ℕ) → IsRefined o → Gives Good (r.refined k at s o)
+    refined_good : (at : ℕ) (o : Option ℕ) → IsRefined o → MayGive Good (r.refined k at s o)
     refined_good at None h = tt
     refined_good at (Some n) h =
         let f = fits.bodies n h.0 h.1 in
-        on_if Good (leads_back k n s.refinement) _ _ (λ e. tt)
-        (λ e. referred_good at n f.body (delivery_at k n) f.is (refined_owner h.0.what f.body h.2 f.headed) f.delivers)
+        on_either Good (leads_back k n s.refinement) _ _ tt
+        (referred_good at n f.body (delivery_at k n) f.is (refined_owner h.0.what f.body h.2 f.headed) f.delivers)
 
-    used_good : (u : Usage) (at : ℕ) (o : Option ℕ) → IsRefined o → Gives Good (r.refined_as k u at s o)
+    used_good : (u : Usage) (at : ℕ) (o : Option ℕ) → IsRefined o → MayGive Good (r.refined_as k u at s o)
     used_good usage.Expression at o h = refined_good at o h
     used_good usage.Counter at o h = tt
 
     -- ---- identifiers
 
-    denoted_good : (u : Usage) (at : ℕ) (x : List ℕ) (home : Home) (n : ℕ) (d : Denotes) → Lies home n (held d) → Gives Good (r.denoted k u at s x home n d)
+    denoted_good : (u : Usage) (at : ℕ) (x : List ℕ) (home : Home) (n : ℕ) (d : Denotes) → Lies home n (held d) → MayGive Good (r.denoted k u at s x home n d)
     denoted_good u at x home n (denotes.Variable t) h = place_lies home n t Const h
     denoted_good u at x home n (denotes.Constant t) h = constant_good at t (r.place_in home n Const) (place_lies home n t Const h)
     denoted_good u at x home n (denotes.Parameter q) h = parameter_good at q.of q.access (r.place_in home n q.access) (place_lies home n q.of q.access h)
-    denoted_good u at x home n denotes.Procedure h = applied_good at Procedure x [] tt
+    denoted_good u at x home n denotes.Procedure h = on_told Good (r.applied at s Procedure x []) (applied_good at Procedure x [] tt)
     denoted_good u at x home n denotes.Refinement h = used_good u at (scope.refinement_named s x) (in_refined x (scope.find s x))
 
-    named_as_good : (u : Usage) (at : ℕ) (x : List ℕ) (o : Option Found) → FoundLies o → Gives Good (r.named k u at s x o)
-    named_as_good u at x None h = applied_good at Procedure x [] tt
+    named_as_good : (u : Usage) (at : ℕ) (x : List ℕ) (o : Option Found) → FoundLies o → MayGive Good (r.named k u at s x o)
+    named_as_good u at x None h = on_told Good (r.applied at s Procedure x []) (applied_good at Procedure x [] tt)
     named_as_good u at x (Some f) h = denoted_good u at x f.home f.number f.denotes h
 
-    pub named_good : (u : Usage) (at : ℕ) (x : List ℕ) → Gives Good (r.named k u at s x (scope.find s x))
+    pub named_good : (u : Usage) (at : ℕ) (x : List ℕ) → MayGive Good (r.named k u at s x (scope.find s x))
     named_good u at x = named_as_good u at x (scope.find s x) (find_lies x)
 
     declared_as_good : (at : ℕ) (home : Home) (n : ℕ) (d : Denotes) → Lies home n (held d) → Good (r.declared_as at home n d)

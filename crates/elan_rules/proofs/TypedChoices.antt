@@ -12,7 +12,7 @@ use Rattle.elan_scope.specs.declared.delivery.Delivery.{Delivery}
 use Rattle.elan_scope.specs.declared.delivery.Delivery.TheVariants.{Open, Nothing, Of}
 use Rattle.elan_scope.specs.declared.scope.Found.{Found}
 use Rattle.elan_meant.specs.Operands.{delivers}
-use Rattle.elan_scope.specs.Ruled.{Ruled, gives}
+use Rattle.elan_meant.specs.Verdict.{Verdict, gives}
 use Rattle.elan_rules.proofs.Typed as ty
 use Rattle.elan_rules.proofs.Typed.{same_is, same_self, has_self, agree_self, only_if_holds, both, and_true, Gives, on_if, on_bind}
 use Rattle.elan_meant.specs.Parts as p
@@ -105,7 +105,7 @@ module _ (here : Stand) where
   branched_good at b m g h =
       on_if Good (delivers Truths b.0) _ _ (λ e. chosen_good at (p.value_of b.0) b.1 m (ty.value_typed here Truths b.0 g.0 e) g.1 h) (λ e. tt)
 
-  chain_good : (at : ℕ) (gs : List r.Guard) (q : Ruled Meant) → PairsGood gs → Gives Good q → Gives Good (r.chain at gs q)
+  chain_good : (at : ℕ) (gs : List r.Guard) (q : Verdict Meant) → PairsGood gs → Gives Good q → Gives Good (r.chain at gs q)
   chain_good at [] q g h = h
   chain_good at (b ∷ gs) q g h = on_bind Good Good (r.chain at gs q) (r.branched at b) (chain_good at gs q g.1 h) (λ m k. branched_good at b m g.0 k)
 

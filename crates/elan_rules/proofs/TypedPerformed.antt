@@ -8,7 +8,6 @@ use Rattle.elan_types.specs.declared.core_phrase.ValuePhrase.{ValuePhrase}
 use Rattle.elan_types.specs.declared.core_phrase.Action.{Action}
 use Rattle.elan_types.specs.declared.core_phrase.Action.TheVariants as action
 use Rattle.elan_meant.specs.declared.meant.Meant.{Meant}
-use Rattle.elan_scope.specs.Ruled.{Ruled, gives, breaks, hangs, before}
 use Rattle.std.specs.Prelude.{slice_get}
 use Rattle.elan_types.specs.declared.core_phrase.Access.{Access}
 use Rattle.elan_types.specs.declared.core_phrase.Access.TheVariants.{Const, Var}
@@ -42,16 +41,6 @@ use Rattle.elan_meant.specs.Parts as p
 use Rattle.value_rules.specs.Calls as r
 use Rattle.elan_rules.proofs.TypeEquations.{Stand, type, lies, actual_type, apply_is, modify_is, ask_is, call_is, action_call_is, given_value_is}
 use Rattle.elan_rules.proofs.TypeEquations.{given_place_is}
-
-on_before : {A : Type 0} (P : A → Type 0) (Q : List A → Type 0) (q : Ruled A) (qs : Ruled (List A)) → Gives P q → Gives Q qs → (S : List A → Type 0)
-    → ((x : A) (xs : List A) → P x → Q xs → S (x ∷ xs)) → Gives S (before q qs)
-on_before P Q (gives x) (gives xs) h k S f = f x xs h k
-on_before P Q (gives x) (breaks d) h k S f = tt
-on_before P Q (gives x) hangs h k S f = tt
-on_before P Q (breaks d) qs h k S f = tt
-on_before P Q hangs (gives xs) h k S f = tt
-on_before P Q hangs (breaks d) h k S f = tt
-on_before P Q hangs hangs h k S f = tt
 
 -- ---- bodies as their headings tell
 
@@ -122,8 +111,8 @@ module _ (here : Stand) where
   given_good (q ∷ ps) [] g e = absurd cc
   given_good (q ∷ ps) (m ∷ ms) g e =
       let b = both _ _ e in
-      on_before (GivenFor q) (AllGiven ps) (r.given_as q.access q.of m) (r.given ps ms) (given_as_good q.access q.of m g.0 b.0) (given_good ps ms g.1 b.1)
-      (AllGiven (q ∷ ps)) (λ x xs h i. and_true _ _ h i)
+      on_bind (GivenFor q) (AllGiven (q ∷ ps)) (r.given_as q.access q.of m) _ (given_as_good q.access q.of m g.0 b.0)
+      (λ x h. on_bind (AllGiven ps) (AllGiven (q ∷ ps)) (r.given ps ms) _ (given_good ps ms g.1 b.1) (λ xs i. and_true _ _ h i))
 
   -- ---- calls
 

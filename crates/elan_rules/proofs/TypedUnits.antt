@@ -1,5 +1,5 @@
 -- Values, stores, lists of units and bodies have the types that they ask for.
-use Rattle.std.proofs.Common.{◌≡◌, ℤ, ℕ, Bool, true, false, if◌then◌else◌, List, [], ◌∷◌, Option, Some, None, refl, sym, subst, ◌∙◌, ◌&&◌}
+use Rattle.std.proofs.Common.{◌≡◌, ℤ, ℕ, Bool, true, false, if◌then◌else◌, List, [], ◌∷◌, Option, Some, None, refl, ◌∙◌}
 use Rattle.elan_types.specs.declared.elan_type.ElanType.{ElanType}
 use Rattle.elan_types.specs.declared.elan_type.ElanType.TheVariants.{Int, Bool as Truths}
 use Rattle.elan_types.specs.declared.core_phrase.PlacePhrase.{PlacePhrase}
@@ -8,7 +8,7 @@ use Rattle.elan_types.specs.declared.core_phrase.ValuePhrase.TheVariants as valu
 use Rattle.elan_types.specs.declared.core_phrase.Action.{Action}
 use Rattle.elan_meant.specs.declared.meant.Meant.{Meant}
 use Rattle.elan_meant.specs.declared.meant.Meant.TheVariants.{Absent, Variable, Value, Done, Left, Labels, Bodies, Level}
-use Rattle.elan_types.specs.Typing.{has, is_content_typed}
+use Rattle.elan_types.specs.Typing.{is_content_typed}
 use Rattle.std.specs.Prelude.{pos}
 use Rattle.eu_base.specs.Operations.{in_range}
 use Rattle.elan_meant.specs.Operands.{delivers}
@@ -17,7 +17,7 @@ use Rattle.elan_rules.proofs.Typed.{same_is, same_self, has_self, agree_self, on
 use Rattle.elan_meant.specs.Parts as p
 use Rattle.unit_rules.specs.Units as r
 use Rattle.elan_rules.specs.Rules as rules
-use Rattle.elan_rules.proofs.TypeEquations.{Stand, type, typed, number_is, truth_is, value_if_is, value_unit_is, after_is, store_is}
+use Rattle.elan_rules.proofs.TypeEquations.{Stand, typed, number_is, truth_is, value_if_is, value_unit_is, after_is, store_is}
 
 module _ (here : Stand) where
   abbrev Has : ElanType → ValuePhrase → Type 0

@@ -4,7 +4,7 @@ use Rattle.elan_meant.specs.declared.meant.Meant.{Meant}
 use Rattle.elan_scope.specs.Phrase.{Phrase, phrase, Parts, none, part}
 use Rattle.elan_scope.specs.Ruled.{Fault, Ruled, gives, breaks, ◌>>=◌, before}
 use Rattle.elan_scope.specs.declared.known.Known.{Known}
-use Rattle.elan_rules.specs.Rules.{rule}
+use Rattle.elan_rules.specs.Rules.{ruled}
 
 -- the phrases in text order, parts before what they are parts of
 abbrev mutual
@@ -20,7 +20,7 @@ module _ (k : Known) where
   -- A phrase has meaning where its parts have meaning and the rule of its form gives one.
   abbrev mutual
     pub Means : Phrase → Meant → Type 0
-    Means (phrase form ps) m = (ms : List Meant) × AllMean ps ms × (rule k form ms ≡ gives m)
+    Means (phrase form ps) m = (ms : List Meant) × AllMean ps ms × (ruled k form ms ≡ gives m)
 
     pub AllMean : Parts → List Meant → Type 0
     AllMean none ms = ms ≡ []
@@ -28,7 +28,7 @@ module _ (k : Known) where
 
   -- It breaks a rule though all its parts have meaning.
   abbrev pub Breaks : Phrase → Fault → Type 0
-  Breaks (phrase form ps) f = (ms : List Meant) × AllMean ps ms × (rule k form ms ≡ breaks f)
+  Breaks (phrase form ps) f = (ms : List Meant) × AllMean ps ms × (ruled k form ms ≡ breaks f)
 
   abbrev pub NoneBreaks : List Phrase → Type 0
   NoneBreaks [] = Unit {0}
@@ -47,7 +47,7 @@ module _ (k : Known) where
 
   abbrev mutual
     pub judged : Phrase → Ruled Meant
-    judged (phrase form ps) = judged_all ps >>= rule k form
+    judged (phrase form ps) = judged_all ps >>= ruled k form
 
     pub judged_all : Parts → Ruled (List Meant)
     judged_all none = gives []

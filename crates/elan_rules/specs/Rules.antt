@@ -6,6 +6,7 @@ pub use Rattle.value_rules.specs.Values.{number, bracketed_value, bracketed, are
 use Rattle.elan_meant.specs.declared.meant.Meant.{Meant}
 use Rattle.elan_meant.specs.declared.meant.Meant.TheVariants.{Absent, Value, Labels, Bodies, Level}
 use Rattle.elan_scope.specs.Scope.{Callable, find, find_own, is_known, left, first_heading, is_alike, types_of}
+use Rattle.elan_meant.specs.Verdict.{Verdict, gives, ◌>>=◌, told}
 use Rattle.elan_meant.specs.Operands.{chosen, becomes}
 use Rattle.elan_scope.specs.declared.known.Known.{Known}
 use Rattle.elan_meant.specs.Parts.{unasked, unit_of, actions_of, one_of, two_of, three_of, six_of, on_one, on_two, on_three, on_six}
@@ -16,50 +17,60 @@ use Rattle.unit_rules.specs.Units.{assigned, initial, in_order, alone, without_v
 use Rattle.choice_rules.specs.Choices.{choice, label_is, label_named, labels_of, selected}
 use Rattle.unit_rules.specs.Loops.{counted, loop}
 use Rattle.elan_scope.specs.Phrase as form
-use Rattle.elan_scope.specs.Phrase.{Form}
-use Rattle.elan_scope.specs.Ruled.{Ruled, gives, ◌>>=◌}
+use Rattle.elan_scope.specs.Phrase.{Asking, Plain, Form}
+use Rattle.elan_scope.specs.Ruled.{Ruled}
 
 -- ---- assignments
 
 -- An own operator `:=` is looked at first. It is called, and the assignment delivers what it delivers.
-abbrev pub assignment_as : ℕ → List Meant → Option Callable → Ruled Meant
+abbrev pub assignment_as : ℕ → List Meant → Option Callable → Verdict Meant
 assignment_as at ms (Some c) = called at c ms >>= alone
 assignment_as at ms None = on_two (two_of ms) (assigned at)
 
-abbrev pub assignment : ℕ → Scope → List Meant → Ruled Meant
+abbrev pub assignment : ℕ → Scope → List Meant → Verdict Meant
 assignment at s ms = assignment_as at ms (chosen s Operator becomes ms)
 
--- ---- the rules
+-- ---- the rules of forms that need to know nothing of bodies
 
-abbrev pub rule : Known → Form → List Meant → Ruled Meant
-rule k form.absent ms = gives Absent
-rule k form.not_built ms = unasked
-rule k (form.number at n) ms = number at n
-rule k (form.truth at b) ms = gives (Value at Truths (value.Truth b))
-rule k (form.named u at s x) ms = named k u at s x (find s x)
-rule k (form.applied at s sort x) ms = applied at s sort x ms
-rule k (form.bracket at) ms = on_one (one_of ms) (bracketed at)
-rule k (form.cand at) ms = on_two (two_of ms) (cand at)
-rule k (form.cor at) ms = on_two (two_of ms) (cor at)
-rule k (form.choice at) ms = choice at ms
-rule k (form.label at earlier n) ms = label_is at earlier n
-rule k (form.label_name at s x) ms = label_named at (is_known s Procedure x 0) (find s x)
-rule k form.labels ms = gives (Labels (labels_of ms))
-rule k (form.selection at) [] = unasked
-rule k (form.selection at) (m ∷ ms) = selected at m ms
-rule k (form.declares at s x) ms = declared at (find_own s x)
-rule k (form.initial at) ms = on_two (two_of ms) (initial at)
-rule k (form.declaration at) ms = gives (unit_of (actions_of ms))
-rule k form.statement ms = on_one (one_of ms) alone
-rule k (form.assignment at s) ms = assignment at s ms
-rule k (form.loop at) ms = on_three (three_of ms) (loop at)
-rule k (form.count at w) ms = on_six (six_of ms) (counted at w)
-rule k (form.leave at s x) ms = on_one (one_of ms) (leaving k at (left s x))
-rule k form.without_value ms = on_one (one_of ms) without_value
-rule k (form.must_deliver at t) ms = on_one (one_of ms) (must_deliver at t)
-rule k form.units ms = gives (in_order ms)
-rule k (form.heading at s sort x ps missing) ms = headed at missing (first_heading (is_alike sort x (types_of ps)) s.headings)
-rule k (form.body o r) ms = on_one (one_of ms) (λ m. gives (body_with o (content_as r m)))
-rule k form.routine ms = gives (Bodies (bodies_of ms))
-rule k (form.refinement o) ms = on_two (two_of ms) (λ n m. gives (body_with o (content_of m)))
-rule k form.level ms = gives (Level (actions_of ms) (bodies_of ms))
+abbrev pub rule : Plain → List Meant → Verdict Meant
+rule form.absent ms = gives Absent
+rule form.not_built ms = unasked
+rule (form.number at n) ms = number at n
+rule (form.truth at b) ms = gives (Value at Truths (value.Truth b))
+rule (form.applied at s sort x) ms = applied at s sort x ms
+rule (form.bracket at) ms = on_one (one_of ms) (bracketed at)
+rule (form.cand at) ms = on_two (two_of ms) (cand at)
+rule (form.cor at) ms = on_two (two_of ms) (cor at)
+rule (form.choice at) ms = choice at ms
+rule (form.label at earlier n) ms = label_is at earlier n
+rule (form.label_name at s x) ms = label_named at (is_known s Procedure x 0) (find s x)
+rule form.labels ms = gives (Labels (labels_of ms))
+rule (form.selection at) [] = unasked
+rule (form.selection at) (m ∷ ms) = selected at m ms
+rule (form.declares at s x) ms = declared at (find_own s x)
+rule (form.initial at) ms = on_two (two_of ms) (initial at)
+rule (form.declaration at) ms = gives (unit_of (actions_of ms))
+rule form.statement ms = on_one (one_of ms) alone
+rule (form.assignment at s) ms = assignment at s ms
+rule (form.loop at) ms = on_three (three_of ms) (loop at)
+rule (form.count at w) ms = on_six (six_of ms) (counted at w)
+rule form.without_value ms = on_one (one_of ms) without_value
+rule (form.must_deliver at t) ms = on_one (one_of ms) (must_deliver at t)
+rule form.units ms = gives (in_order ms)
+rule (form.heading at s sort x ps missing) ms = headed at missing (first_heading (is_alike sort x (types_of ps)) s.headings)
+rule (form.body o r) ms = on_one (one_of ms) (λ m. gives (body_with o (content_as r m)))
+rule form.routine ms = gives (Bodies (bodies_of ms))
+rule (form.refinement o) ms = on_two (two_of ms) (λ n m. gives (body_with o (content_of m)))
+rule form.level ms = gives (Level (actions_of ms) (bodies_of ms))
+
+-- ---- the rules of forms that ask what is known of bodies
+
+abbrev pub asked : Known → Asking → List Meant → Ruled Meant
+asked k (form.named u at s x) ms = named k u at s x (find s x)
+asked k (form.leave at s x) ms = told (on_one (one_of ms) (leaving k at (left s x)))
+
+-- ---- the rules of all forms
+
+abbrev pub ruled : Known → Form → List Meant → Ruled Meant
+ruled k (form.asking f) ms = asked k f ms
+ruled k (form.plain f) ms = told (rule f ms)

@@ -3,7 +3,7 @@
 ghost use Rattle.elan_rules.specs.Rules as spec;
 ghost use Rattle.unit_rules.specs.Units as units;
 ghost use Rattle.elan_meant.specs.Parts as parts;
-ghost use Rattle.elan_scope.specs.Answer.{Is};
+ghost use Rattle.elan_meant.specs.Verdict.{Tells};
 
 use elan_meant::arity::two_of;
 use elan_meant::meant::Meant;
@@ -20,7 +20,7 @@ use unit_rules::store::assigned;
 use value_rules::call::called;
 
 fn stored(alloc: Global, at: u32, operands: List<Meant>) -> Judged
-    ensures { Is result (parts.on_two (parts.two_of operands) (units.assigned at)) }
+    ensures { Tells result (parts.on_two (parts.two_of operands) (units.assigned at)) }
 {
     match two_of(operands) {
         None => Err(Trouble::Breaks(0, Why::Unknown)),
@@ -30,7 +30,7 @@ fn stored(alloc: Global, at: u32, operands: List<Meant>) -> Judged
 
 /// An assignment. An own operator `:=` for these operands is called.
 pub fn assignment(alloc: Global, at: u32, scope: &Scope, operands: List<Meant>) -> Judged
-    ensures { Is result (spec.assignment at scope.now operands) }
+    ensures { Tells result (spec.assignment at scope.now operands) }
 {
     match chosen(scope, Sort::Operator, b":=", operands.as_slice()) {
         Some(callable) => {

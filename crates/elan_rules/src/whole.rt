@@ -1,9 +1,8 @@
 //! The rules of phrases with several parts, over the list of these parts.
 
-ghost use Rattle.elan_scope.specs.declared.known.Known.{Known};
 ghost use Rattle.elan_scope.specs.Phrase as form;
 ghost use Rattle.elan_rules.specs.Rules.{rule};
-ghost use Rattle.elan_scope.specs.Answer.{Is};
+ghost use Rattle.elan_meant.specs.Verdict.{Tells};
 
 use elan_meant::arity::{six_of, three_of, two_of};
 use elan_meant::meant::Meant;
@@ -19,7 +18,7 @@ use value_rules::value::{cand, cor};
 
 /// CAND.
 pub fn cand_parts(alloc: Global, at: u32, parts: List<Meant>) -> Judged
-    ensures { (k : Known) → Is result (rule k (form.cand at) parts) }
+    ensures { Tells result (rule (form.cand at) parts) }
 {
     match two_of(parts) {
         None => Err(Trouble::Breaks(0, Why::Unknown)),
@@ -29,7 +28,7 @@ pub fn cand_parts(alloc: Global, at: u32, parts: List<Meant>) -> Judged
 
 /// COR.
 pub fn cor_parts(alloc: Global, at: u32, parts: List<Meant>) -> Judged
-    ensures { (k : Known) → Is result (rule k (form.cor at) parts) }
+    ensures { Tells result (rule (form.cor at) parts) }
 {
     match two_of(parts) {
         None => Err(Trouble::Breaks(0, Why::Unknown)),
@@ -39,7 +38,7 @@ pub fn cor_parts(alloc: Global, at: u32, parts: List<Meant>) -> Judged
 
 /// A name in its declaration, and its initial value.
 pub fn initial_parts(alloc: Global, at: u32, parts: List<Meant>) -> Judged
-    ensures { (k : Known) → Is result (rule k (form.initial at) parts) }
+    ensures { Tells result (rule (form.initial at) parts) }
 {
     match two_of(parts) {
         None => Err(Trouble::Breaks(0, Why::Unknown)),
@@ -49,7 +48,7 @@ pub fn initial_parts(alloc: Global, at: u32, parts: List<Meant>) -> Judged
 
 /// A loop: the condition of WHILE, its units, and the condition of UNTIL.
 pub fn loop_parts(alloc: Global, at: u32, parts: List<Meant>) -> Judged
-    ensures { (k : Known) → Is result (rule k (form.loop at) parts) }
+    ensures { Tells result (rule (form.loop at) parts) }
 {
     match three_of(parts) {
         None => Err(Trouble::Breaks(0, Why::Unknown)),
@@ -67,7 +66,7 @@ pub fn loop_parts(alloc: Global, at: u32, parts: List<Meant>) -> Judged
 
 /// A loop with a counter: the counter, its first value, its limit, and what a loop has.
 pub fn count_parts(alloc: Global, at: u32, way: Way, parts: List<Meant>) -> Judged
-    ensures { (k : Known) → Is result (rule k (form.count at way) parts) }
+    ensures { Tells result (rule (form.count at way) parts) }
 {
     match six_of(parts) {
         None => Err(Trouble::Breaks(0, Why::Unknown)),
@@ -87,7 +86,7 @@ pub fn count_parts(alloc: Global, at: u32, way: Way, parts: List<Meant>) -> Judg
 
 /// A refinement: its name, and its units.
 pub fn refinement_parts(alloc: Global, owner: Owner, parts: List<Meant>) -> Judged
-    ensures { (k : Known) → Is result (rule k (form.refinement owner) parts) }
+    ensures { Tells result (rule (form.refinement owner) parts) }
 {
     match two_of(parts) {
         None => Err(Trouble::Breaks(0, Why::Unknown)),

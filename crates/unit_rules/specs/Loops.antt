@@ -8,9 +8,9 @@ use Rattle.elan_types.specs.declared.core_phrase.Action.TheVariants as action
 use Rattle.elan_types.specs.declared.why.Why.TheVariants.{WrongType}
 use Rattle.eu_base.specs.declared.operation.Way.{Way}
 use Rattle.elan_meant.specs.declared.meant.Meant.{Meant}
+use Rattle.elan_meant.specs.Verdict.{Verdict, gives, breaks, ◌>>=◌}
 use Rattle.elan_meant.specs.Operands.{delivers}
 use Rattle.elan_meant.specs.Parts.{variable, actions, may_deliver, written, unit_of}
-use Rattle.elan_scope.specs.Ruled.{Ruled, gives, breaks, ◌>>=◌}
 
 abbrev pub conditions : Meant → Meant → Bool
 conditions c u = may_deliver Truths c && may_deliver Truths u
@@ -19,7 +19,7 @@ abbrev pub uncounted : Meant → Meant → Meant → Meant
 uncounted c us u = unit_of (action.Loop (written c) (actions us) (written u) ∷ [])
 
 -- a loop without counter
-abbrev pub loop : ℕ → Meant → Meant → Meant → Ruled Meant
+abbrev pub loop : ℕ → Meant → Meant → Meant → Verdict Meant
 loop at c us u = if conditions c u then gives (uncounted c us u) else breaks (at, WrongType)
 
 -- ---- a loop with a counter, its first value and its limit
@@ -35,7 +35,7 @@ abbrev pub count : Way → Meant → Meant → Meant → Meant → Meant → Pla
 count w f l c us u x = unit_of (action.Count x (first_value (written f)) w (written l) (written c) (actions us) (written u) ∷ [])
 
 -- A variable is needed as a counter.
-abbrev pub counted : ℕ → Way → Meant → Meant → Meant → Meant → Meant → Meant → Ruled Meant
+abbrev pub counted : ℕ → Way → Meant → Meant → Meant → Meant → Meant → Meant → Verdict Meant
 counted at w n f l c us u =
     if are_numbers n f l && conditions c u
     then variable n >>= (λ x. gives (count w f l c us u x))

@@ -12,29 +12,29 @@ use Rattle.elan_types.specs.declared.core_phrase.Body.{Body}
 use Rattle.elan_types.specs.declared.why.Why.TheVariants.{WrongType}
 use Rattle.elan_meant.specs.declared.meant.Meant.{Meant}
 use Rattle.elan_meant.specs.declared.meant.Meant.TheVariants.{Absent, Value, Done, Left, Bodies}
+use Rattle.elan_meant.specs.Verdict.{Verdict, gives, breaks, ◌>>=◌}
 use Rattle.elan_meant.specs.Operands.{delivers}
 use Rattle.elan_meant.specs.Parts.{unasked, value_of, variable, type_in, actions, actions_of, loaded, unit_of, unreached}
-use Rattle.elan_scope.specs.Ruled.{Ruled, gives, breaks, ◌>>=◌}
 
 -- ---- stores
 
-abbrev pub agreed_as : ℕ → Option ElanType → Meant → Ruled ElanType
+abbrev pub agreed_as : ℕ → Option ElanType → Meant → Verdict ElanType
 agreed_as at None m = breaks (at, WrongType)
 agreed_as at (Some t) m = if delivers t m then gives t else breaks (at, WrongType)
 
 -- Both deliver one type.
-abbrev pub agreed : ℕ → Meant → Meant → Ruled ElanType
+abbrev pub agreed : ℕ → Meant → Meant → Verdict ElanType
 agreed at l r = agreed_as at (type_in l) r
 
 -- A variable is needed at the left.
-abbrev pub stored : ℕ → Meant → Meant → Ruled Action
+abbrev pub stored : ℕ → Meant → Meant → Verdict Action
 stored at l r = agreed at l r >>= (λ t. variable l >>= (λ x. gives (action.Store x t (value_of r))))
 
-abbrev pub assigned : ℕ → Meant → Meant → Ruled Meant
+abbrev pub assigned : ℕ → Meant → Meant → Verdict Meant
 assigned at l r = stored at l r >>= (λ a. gives (unit_of (a ∷ [])))
 
 -- a name in its declaration, and its initial value
-abbrev pub initial : ℕ → Meant → Meant → Ruled Meant
+abbrev pub initial : ℕ → Meant → Meant → Verdict Meant
 initial at n m = stored at n m >>= (λ a. gives (Done (a ∷ [])))
 
 -- ---- lists of units
@@ -62,18 +62,18 @@ in_order ms = ended (actions_of ms) (last_value Absent ms)
 abbrev pub value_unit : ℕ → ElanType → ValuePhrase → Meant
 value_unit at t v = Value at t (value.Unit v)
 
-abbrev pub alone_value : Meant → Ruled Meant
+abbrev pub alone_value : Meant → Verdict Meant
 alone_value (Value at t v) = gives (value_unit at t v)
 alone_value (Done as') = gives (unit_of as')
 alone_value (Left as') = gives (Left (action.Unit as' ∷ []))
 alone_value m = unasked
 
 -- An expression that stands alone spends a mark. A variable is a value there.
-abbrev pub alone : Meant → Ruled Meant
+abbrev pub alone : Meant → Verdict Meant
 alone m = alone_value (loaded m)
 
 -- The value is superfluous. A LEAVE that is not the last unit agrees with nothing.
-abbrev pub without_value : Meant → Ruled Meant
+abbrev pub without_value : Meant → Verdict Meant
 without_value (Value at t v) = breaks (at, WrongType)
 without_value (Left as') = gives (Done as')
 without_value (Bodies bs) = unasked
@@ -85,7 +85,7 @@ agrees_with t (Left as') = true
 agrees_with t m = delivers t m
 
 -- The last unit of a body delivers what the body has to deliver.
-abbrev pub must_deliver : ℕ → ElanType → Meant → Ruled Meant
+abbrev pub must_deliver : ℕ → ElanType → Meant → Verdict Meant
 must_deliver at t m = if agrees_with t m then gives m else breaks (at, WrongType)
 
 -- ---- bodies

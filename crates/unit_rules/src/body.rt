@@ -4,8 +4,7 @@ ghost use Rattle.std.specs.Prelude.{◌≡◌, ◌++◌, IfOk, OnOk, if◌then�
 ghost use Rattle.elan_meant.specs.Operands.{delivers};
 ghost use Rattle.elan_meant.specs.Parts as parts_of;
 ghost use Rattle.unit_rules.specs.Units as spec;
-ghost use Rattle.elan_scope.specs.Answer.{Is};
-ghost use Rattle.elan_scope.specs.Ruled.{gives};
+ghost use Rattle.elan_meant.specs.Verdict.{gives, Tells};
 
 use elan_meant::meant::Meant;
 use elan_meant::operands::delivers;
@@ -41,7 +40,7 @@ fn content_as(alloc: Global, delivered: Option<ElanType>, units: Meant) -> Resul
 }
 
 fn body_with(alloc: Global, owner: Scope, content: Content) -> Judged
-    ensures { Is result (gives (spec.body_with owner content)) }
+    ensures { Tells result (gives (spec.body_with owner content)) }
 {
     let mut bodies = List::new(alloc);
     bodies.push(Body {
@@ -53,7 +52,7 @@ fn body_with(alloc: Global, owner: Scope, content: Content) -> Judged
 
 /// A PROC or OP that delivers this type, or nothing.
 pub fn body(alloc: Global, owner: Scope, delivered: Option<ElanType>, units: Meant) -> Judged
-    ensures { Is result (gives (spec.body_with owner (spec.content_as delivered units))) }
+    ensures { Tells result (gives (spec.body_with owner (spec.content_as delivered units))) }
 {
     match content_as(alloc, delivered, units) {
         Err(_refusal) => {
@@ -75,7 +74,7 @@ fn content_of(alloc: Global, units: Meant) -> Content
 
 /// A refinement, which delivers what its units deliver.
 pub fn refinement(alloc: Global, owner: Scope, units: Meant) -> Judged
-    ensures { Is result (gives (spec.body_with owner (spec.content_of units))) }
+    ensures { Tells result (gives (spec.body_with owner (spec.content_of units))) }
 {
     let content = content_of(alloc, units);
     body_with(alloc, owner, content)

@@ -4,7 +4,7 @@ ghost use Rattle.std.specs.Prelude.{◌≡◌, ◌++◌, OnOk, IfOk};
 ghost use Rattle.elan_meant.specs.declared.meant.Meant.TheVariants as means;
 ghost use Rattle.elan_meant.specs.Parts as part_specs;
 ghost use Rattle.unit_rules.specs.Units as spec;
-ghost use Rattle.elan_scope.specs.Answer.{Is};
+ghost use Rattle.elan_meant.specs.Verdict.{Tells};
 
 use elan_meant::meant::Meant;
 use elan_meant::operands::delivers;
@@ -98,7 +98,7 @@ pub fn declaration(alloc: Global, parts: List<Meant>) -> Result<Meant, NoMemory>
 }
 
 fn alone_value(alloc: Global, meant: Meant) -> Judged
-    ensures { Is result (spec.alone_value meant) }
+    ensures { Tells result (spec.alone_value meant) }
 {
     match meant {
         Meant::Value { at, of, value } => delivering(alloc, at, of, ValuePhrase::Unit(value)),
@@ -116,7 +116,7 @@ fn alone_value(alloc: Global, meant: Meant) -> Judged
 
 /// An expression that stands alone.
 pub fn alone(alloc: Global, meant: Meant) -> Judged
-    ensures { Is result (spec.alone meant) }
+    ensures { Tells result (spec.alone meant) }
 {
     let meant = loaded(alloc, meant)?;
     alone_value(alloc, meant)
@@ -124,7 +124,7 @@ pub fn alone(alloc: Global, meant: Meant) -> Judged
 
 /// A unit that may deliver nothing.
 pub fn without_value(meant: Meant) -> Judged
-    ensures { Is result (spec.without_value meant) }
+    ensures { Tells result (spec.without_value meant) }
 {
     match meant {
         Meant::Value { at, of: _of, value } => {
@@ -151,7 +151,7 @@ fn agrees_with(of: ElanType, meant: &Meant) -> bool
 
 /// The last unit of a body that has to deliver this type.
 pub fn must_deliver(at: u32, of: ElanType, meant: Meant) -> Judged
-    ensures { Is result (spec.must_deliver at of meant) }
+    ensures { Tells result (spec.must_deliver at of meant) }
 {
     if agrees_with(of, &meant) {
         Ok(meant)

@@ -3,8 +3,7 @@
 ghost use Rattle.std.specs.Prelude.{◌≡◌};
 ghost use Rattle.unit_rules.specs.Loops as spec;
 ghost use Rattle.elan_meant.specs.Parts as parts;
-ghost use Rattle.elan_scope.specs.Answer.{Is};
-ghost use Rattle.elan_scope.specs.Ruled.{gives, ◌>>=◌ as and_then};
+ghost use Rattle.elan_meant.specs.Verdict.{gives, ◌>>=◌ as and_then, Tells};
 
 use elan_meant::meant::Meant;
 use elan_meant::operands::delivers;
@@ -45,7 +44,7 @@ fn conditions(turns: &Turns) -> bool
 }
 
 fn uncounted(alloc: Global, turns: Turns) -> Judged
-    ensures { Is result (gives (spec.uncounted turns.condition turns.units turns.until)) }
+    ensures { Tells result (gives (spec.uncounted turns.condition turns.units turns.until)) }
 {
     let Turns {
         condition,
@@ -64,7 +63,7 @@ fn uncounted(alloc: Global, turns: Turns) -> Judged
 
 /// A loop without counter.
 pub fn repeated(alloc: Global, at: u32, turns: Turns) -> Judged
-    ensures { Is result (spec.loop at turns.condition turns.units turns.until) }
+    ensures { Tells result (spec.loop at turns.condition turns.units turns.until) }
 {
     if conditions(&turns) {
         uncounted(alloc, turns)
@@ -99,7 +98,7 @@ fn count(
     turns: Turns,
     counter: PlacePhrase,
 ) -> Judged
-    ensures { Is result (gives (spec.count way from limit turns.condition turns.units turns.until counter)) }
+    ensures { Tells result (gives (spec.count way from limit turns.condition turns.units turns.until counter)) }
 {
     let Turns {
         condition,
@@ -122,7 +121,7 @@ fn count(
 
 // A variable is needed as a counter.
 fn counting(alloc: Global, way: Way, bounds: Bounds, turns: Turns) -> Judged
-    ensures { Is result (and_then (parts.variable bounds.name)
+    ensures { Tells result (and_then (parts.variable bounds.name)
         (λ x. gives (spec.count way bounds.from bounds.limit turns.condition turns.units turns.until x))) }
 {
     let Bounds { name, from, limit } = bounds;
@@ -139,7 +138,7 @@ fn counting(alloc: Global, way: Way, bounds: Bounds, turns: Turns) -> Judged
 
 /// A loop with a counter.
 pub fn counted(alloc: Global, at: u32, way: Way, bounds: Bounds, turns: Turns) -> Judged
-    ensures { Is result (spec.counted at way bounds.name bounds.from bounds.limit turns.condition turns.units turns.until) }
+    ensures { Tells result (spec.counted at way bounds.name bounds.from bounds.limit turns.condition turns.units turns.until) }
 {
     if are_numbers(&bounds) && conditions(&turns) {
         counting(alloc, way, bounds, turns)

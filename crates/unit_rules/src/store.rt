@@ -2,7 +2,7 @@
 
 ghost use Rattle.std.specs.Prelude.{◌≡◌};
 ghost use Rattle.unit_rules.specs.Units as spec;
-ghost use Rattle.elan_scope.specs.Answer.{Is};
+ghost use Rattle.elan_meant.specs.Verdict.{Tells};
 
 use elan_meant::meant::Meant;
 use elan_meant::operands::delivers;
@@ -14,7 +14,7 @@ use std::alloc::Global;
 
 // The type that both deliver.
 fn agreed(at: u32, left: &Meant, right: &Meant) -> Result<ElanType, Trouble>
-    ensures { Is result (spec.agreed at left.now right.now) }
+    ensures { Tells result (spec.agreed at left.now right.now) }
 {
     match type_in(left) {
         None => Err(Trouble::Breaks(at, Why::WrongType)),
@@ -30,7 +30,7 @@ fn agreed(at: u32, left: &Meant, right: &Meant) -> Result<ElanType, Trouble>
 
 // Both deliver one type, and a variable is needed at the left.
 fn stored(at: u32, left: Meant, right: Meant) -> Result<Action, Trouble>
-    ensures { Is result (spec.stored at left right) }
+    ensures { Tells result (spec.stored at left right) }
 {
     match agreed(at, &left, &right) {
         Err(trouble) => {
@@ -50,7 +50,7 @@ fn stored(at: u32, left: Meant, right: Meant) -> Result<Action, Trouble>
 
 /// An assignment.
 pub fn assigned(alloc: Global, at: u32, left: Meant, right: Meant) -> Judged
-    ensures { Is result (spec.assigned at left right) }
+    ensures { Tells result (spec.assigned at left right) }
 {
     let action = stored(at, left, right)?;
     unit_doing(alloc, action)
@@ -58,7 +58,7 @@ pub fn assigned(alloc: Global, at: u32, left: Meant, right: Meant) -> Judged
 
 /// A name in its declaration, and its initial value.
 pub fn initial(alloc: Global, at: u32, name: Meant, init: Meant) -> Judged
-    ensures { Is result (spec.initial at name init) }
+    ensures { Tells result (spec.initial at name init) }
 {
     let action = stored(at, name, init)?;
     done(alloc, action)

@@ -1,5 +1,5 @@
 -- What parameters are given, one operand more.
-use Rattle.std.proofs.Common.{◌≡◌, ℕ, List, [], ◌∷◌, ◌++◌, Option, Some, length, drop, refl, ap, ◌∙◌}
+use Rattle.std.proofs.Common.{◌≡◌, ◌≤◌, ℕ, List, [], ◌∷◌, ◌++◌, Option, Some, Result, length, drop, get_or, refl, ap, subst, ◌∙◌, arith}
 use Rattle.eu_base.specs.declared.operation.Change.{Change}
 use Rattle.elan_types.specs.declared.elan_type.ElanType.{ElanType}
 use Rattle.elan_types.specs.declared.core_phrase.Action.TheVariants as action
@@ -10,22 +10,42 @@ use Rattle.elan_meant.specs.declared.meant.Meant.TheVariants.{Done}
 use Rattle.elan_meant.specs.Parts.{unasked, two_of}
 use Rattle.elan_types.specs.declared.core_phrase.Parameter.{Parameter}
 use Rattle.elan_types.specs.declared.core_phrase.Actual.{Actual}
-use Rattle.elan_scope.specs.Ruled.{Ruled, gives, before}
+use Rattle.elan_scope.specs.declared.trouble.Trouble.{Trouble}
+use Rattle.elan_scope.specs.Answer.{Is}
+use Rattle.elan_scope.specs.Ruled.{Ruled, joined}
+use Rattle.elan_meant.specs.Verdict.{Verdict, gives, breaks, ◌>>=◌, told, Tells}
 use Rattle.elan_meant.specs.declared.meant.Meant.{Meant}
-use Rattle.elan_meant.proofs.Beside.{before_joined, single_joined}
 use Rattle.value_rules.specs.Calls.{given, given_as, given_next, performed}
 
 pub given_none : (ps : List Parameter) → given ps [] ≡ gives []
 given_none [] = refl
 given_none (p ∷ ps) = refl
 
-before_next : (ps : List Parameter) (m : Meant) (q : Ruled Actual) (r : Ruled (List Actual)) → before q (given_next ps m r) ≡ given_next ps m (before q r)
+-- what is given to the first, and behind it what the others are given
+abbrev first_and : Verdict Actual → Verdict (List Actual) → Verdict (List Actual)
+first_and q r = q >>= (λ a. r >>= (λ as'. gives (a ∷ as')))
+
+abbrev and_last : Verdict (List Actual) → Verdict Actual → Verdict (List Actual)
+and_last r q = r >>= (λ as'. q >>= (λ a. gives (as' ++ a ∷ [])))
+
+first_last : (q : Verdict Actual) (r : Verdict (List Actual)) (l : Verdict Actual) → first_and q (and_last r l) ≡ and_last (first_and q r) l
+first_last (gives a) (gives as') (gives z) = refl
+first_last (gives a) (gives as') (breaks f) = refl
+first_last (gives a) (breaks f) l = refl
+first_last (breaks f) r l = refl
+
+single : (q : Verdict Actual) → first_and q (gives []) ≡ and_last (gives []) q
+single (gives a) = refl
+single (breaks f) = refl
+
+before_next : (ps : List Parameter) (m : Meant) (q : Verdict Actual) (r : Verdict (List Actual))
+    → first_and q (given_next ps m r) ≡ given_next ps m (first_and q r)
 before_next [] m q r = refl
-before_next (p ∷ ps) m q r = before_joined q r (given_as p.access p.of m)
+before_next (p ∷ ps) m q r = first_last q r (given_as p.access p.of m)
 
 first_given : (ps : List Parameter) (m : Meant) → given ps (m ∷ []) ≡ given_next ps m (given ps [])
 first_given [] m = refl
-first_given (p ∷ ps) m = ap (before (given_as p.access p.of m)) (given_none ps) ∙ single_joined (given_as p.access p.of m)
+first_given (p ∷ ps) m = ap (first_and (given_as p.access p.of m)) (given_none ps) ∙ single (given_as p.access p.of m)
 
 -- one operand more
 pub given_more : (ps : List Parameter) (ms : List Meant) (m : Meant) → given ps (ms ++ m ∷ []) ≡ given_next (drop (length ms) ps) m (given ps ms)
@@ -33,7 +53,20 @@ given_more [] [] m = refl
 given_more [] (n ∷ ms) m = refl
 given_more (p ∷ ps) [] m = first_given (p ∷ ps) m
 given_more (p ∷ ps) (n ∷ ms) m =
-    ap (before (given_as p.access p.of n)) (given_more ps ms m) ∙ before_next (drop (length ms) ps) m (given_as p.access p.of n) (given ps ms)
+    ap (first_and (given_as p.access p.of n)) (given_more ps ms m) ∙ before_next (drop (length ms) ps) m (given_as p.access p.of n) (given ps ms)
+
+told_joined : (r : Verdict (List Actual)) (q : Verdict Actual) → joined (told r) (told q) ≡ told (and_last r q)
+told_joined (gives as') (gives a) = refl
+told_joined (gives as') (breaks f) = refl
+told_joined (breaks f) q = refl
+
+-- what is given to the first of these parameters, behind what was given
+pub next_is : (out : Result (List Actual) Trouble) (next : Result Actual Trouble) (ps : List Parameter) (d : Parameter) (m : Meant) (r : Verdict (List Actual))
+    → 1 ≤ length ps → Tells next (given_as (get_or ps 0 d).access (get_or ps 0 d).of m) → ((q : Ruled Actual) → Is next q → Is out (joined (told r) q))
+    → Tells out (given_next ps m r)
+next_is out next [] d m r l h j = absurd (omega (arith, l))
+next_is out next (p ∷ ps) d m r l h j =
+    subst (λ (q : Ruled (List Actual)). Is out q) (told_joined r (given_as p.access p.of m)) (j (told (given_as p.access p.of m)) h)
 
 pub behind : (ms : List Meant) (m : Meant) (ps : List Parameter) → drop 1 (drop (length ms) ps) ≡ drop (length (ms ++ m ∷ [])) ps
 behind [] m ps = refl
@@ -42,7 +75,7 @@ behind (n ∷ ms) m (p ∷ ps) = behind ms m ps
 
 -- ---- what a callee does, by the number of what it is given
 
-abbrev pub changed_by : Change → Option (Actual × Actual) → Ruled Meant
+abbrev pub changed_by : Change → Option (Actual × Actual) → Verdict Meant
 changed_by c (Some (actual.Place x t, actual.Value v)) = gives (Done (action.Modify c x v ∷ []))
 changed_by c o = unasked
 

@@ -7,7 +7,7 @@ use Rattle.std.proofs.Common.{arith}
 use Rattle.eu_base.specs.Operations.{in_range}
 use Rattle.elan_types.specs.declared.elan_type.ElanType.TheVariants.{Int}
 use Rattle.elan_types.specs.declared.core_phrase.ValuePhrase.TheVariants as value
-use Rattle.elan_scope.specs.Ruled.{gives}
+use Rattle.elan_meant.specs.Verdict.{gives}
 use Rattle.value_rules.specs.Values as r
 use Rattle.elan_meant.specs.declared.meant.Meant.TheVariants.{Value}
 use Rattle.elan_meant.specs.Parts.{unasked}

@@ -1,5 +1,5 @@
 -- Names, calls of PROCs, OPs and refinements, and LEAVE.
-use Rattle.std.specs.Prelude.{ℕ, Bool, true, false, List, [], ◌∷◌, length, Option, Some, None, if◌then◌else◌, nat_eq}
+use Rattle.std.specs.Prelude.{ℕ, Bool, true, false, List, [], ◌∷◌, ◌++◌, length, Option, Some, None, if◌then◌else◌, nat_eq}
 use Rattle.elan_types.specs.declared.elan_type.ElanType.{ElanType}
 use Rattle.elan_types.specs.declared.core_phrase.PlacePhrase.{PlacePhrase}
 use Rattle.elan_types.specs.declared.core_phrase.PlacePhrase.TheVariants as place
@@ -31,13 +31,14 @@ use Rattle.elan_scope.specs.declared.scope.Scope.{Scope}
 use Rattle.elan_scope.specs.declared.scope.Found.{Found}
 use Rattle.elan_scope.specs.declared.scope.Home.{Home}
 use Rattle.elan_scope.specs.declared.scope.Home.TheVariants.{Level as of_level, Routine as of_routine}
+use Rattle.elan_meant.specs.Verdict.{Verdict, gives, breaks, ◌>>=◌, told}
 use Rattle.elan_meant.specs.Operands.{delivers, chosen}
 use Rattle.elan_scope.specs.Known.{leads_back, delivery_at}
 use Rattle.elan_scope.specs.declared.known.Known.{Known}
 use Rattle.elan_scope.specs.declared.scope.Usage.{Usage}
 use Rattle.elan_scope.specs.declared.scope.Usage.TheVariants.{Expression, Counter}
 use Rattle.elan_meant.specs.Parts.{unasked, value_of, variable, type_in}
-use Rattle.elan_scope.specs.Ruled.{Ruled, gives, breaks, hangs, ◌>>=◌, before, joined}
+use Rattle.elan_scope.specs.Ruled.{Ruled, hangs}
 
 -- ---- variables, constants and parameters
 
@@ -59,20 +60,20 @@ parameter at t Var p = Variable at t p
 -- ---- calls
 
 -- A variable is needed for a VAR parameter.
-abbrev pub given_as : Access → ElanType → Meant → Ruled Actual
+abbrev pub given_as : Access → ElanType → Meant → Verdict Actual
 given_as Const t m = gives (actual.Value (value_of m))
 given_as Var t m = variable m >>= (λ x. gives (actual.Place x t))
 
 -- what parameters are given, from left to right
-abbrev pub given : List Parameter → List Meant → Ruled (List Actual)
+abbrev pub given : List Parameter → List Meant → Verdict (List Actual)
 given [] ms = gives []
 given (p ∷ ps) [] = gives []
-given (p ∷ ps) (m ∷ ms) = before (given_as p.access p.of m) (given ps ms)
+given (p ∷ ps) (m ∷ ms) = given_as p.access p.of m >>= (λ a. given ps ms >>= (λ as'. gives (a ∷ as')))
 
 -- what was given, and behind it what the first of these parameters is given, if there is one
-abbrev pub given_next : List Parameter → Meant → Ruled (List Actual) → Ruled (List Actual)
+abbrev pub given_next : List Parameter → Meant → Verdict (List Actual) → Verdict (List Actual)
 given_next [] m r = r
-given_next (p ∷ ps) m r = joined r (given_as p.access p.of m)
+given_next (p ∷ ps) m r = r >>= (λ as'. given_as p.access p.of m >>= (λ a. gives (as' ++ a ∷ [])))
 
 abbrev pub values_in : List Actual → List ValuePhrase
 values_in [] = []
@@ -80,7 +81,7 @@ values_in (actual.Value v ∷ as') = v ∷ values_in as'
 values_in (actual.Place x t ∷ as') = values_in as'
 
 -- what a callee that delivers this, or nothing, does with what it is given
-abbrev pub performed : ℕ → Callee → Option ElanType → List Actual → Ruled Meant
+abbrev pub performed : ℕ → Callee → Option ElanType → List Actual → Verdict Meant
 performed at (Predefined (Operation o)) (Some t) as' = gives (Value at t (value.Apply o (values_in as')))
 performed at (Predefined (Change c)) r (actual.Place x t ∷ actual.Value v ∷ []) = gives (Done (action.Modify c x v ∷ []))
 performed at (Predefined (Request q)) r as' = gives (Done (action.Ask q (values_in as') ∷ []))
@@ -88,17 +89,17 @@ performed at (Body n) (Some t) as' = gives (Value at t (value.Call n as' t))
 performed at (Body n) None as' = gives (Done (action.Call n as' ∷ []))
 performed at c r as' = unasked
 
-abbrev pub called : ℕ → Callable → List Meant → Ruled Meant
+abbrev pub called : ℕ → Callable → List Meant → Verdict Meant
 called at c ms = given c.parameters ms >>= performed at c.callee c.result
 
 -- ---- operators, and identifiers with actuals
 
 -- A name that exists with that number of operands, but not for these types, has the wrong type.
-abbrev pub applied_as : ℕ → Bool → List Meant → Option Callable → Ruled Meant
+abbrev pub applied_as : ℕ → Bool → List Meant → Option Callable → Verdict Meant
 applied_as at known ms (Some c) = called at c ms
 applied_as at known ms None = if known then breaks (at, WrongType) else breaks (at, Unknown)
 
-abbrev pub applied : ℕ → Scope → Sort → List ℕ → List Meant → Ruled Meant
+abbrev pub applied : ℕ → Scope → Sort → List ℕ → List Meant → Verdict Meant
 applied at s sort x ms = applied_as at (is_known s sort x (length ms)) ms (chosen s sort x ms)
 
 -- ---- refinements
@@ -106,31 +107,31 @@ applied at s sort x ms = applied_as at (is_known s sort x (length ms)) ms (chose
 -- Where it is not known what a refinement delivers, a call of it hangs on that.
 abbrev pub referred : ℕ → ℕ → Delivery → Ruled Meant
 referred at n Open = hangs
-referred at n Nothing = gives (Done (action.Refer n ∷ []))
-referred at n (Of t) = gives (Value at t (value.Refer n t))
+referred at n Nothing = told (gives (Done (action.Refer n ∷ [])))
+referred at n (Of t) = told (gives (Value at t (value.Refer n t)))
 
 -- A refinement does not call itself through any chain.
 abbrev pub refined : Known → ℕ → Scope → Option ℕ → Ruled Meant
-refined k at s None = unasked
-refined k at s (Some n) = if leads_back k n s.refinement then breaks (at, WrongPlace) else referred at n (delivery_at k n)
+refined k at s None = told unasked
+refined k at s (Some n) = if leads_back k n s.refinement then told (breaks (at, WrongPlace)) else referred at n (delivery_at k n)
 
 -- The identifier after FOR is no call, and a refinement is no variable, whatever it delivers.
 abbrev pub refined_as : Known → Usage → ℕ → Scope → Option ℕ → Ruled Meant
 refined_as k Expression at s o = refined k at s o
-refined_as k Counter at s o = breaks (at, NoVariable)
+refined_as k Counter at s o = told (breaks (at, NoVariable))
 
 -- ---- identifiers without actuals
 
 abbrev pub denoted : Known → Usage → ℕ → Scope → List ℕ → Home → ℕ → Denotes → Ruled Meant
-denoted k u at s x home n (denotes.Variable t) = gives (Variable at t (place_in home n Const))
-denoted k u at s x home n (denotes.Constant t) = gives (constant at t (place_in home n Const))
-denoted k u at s x home n (denotes.Parameter p) = gives (parameter at p.of p.access (place_in home n p.access))
-denoted k u at s x home n denotes.Procedure = applied at s Procedure x []
+denoted k u at s x home n (denotes.Variable t) = told (gives (Variable at t (place_in home n Const)))
+denoted k u at s x home n (denotes.Constant t) = told (gives (constant at t (place_in home n Const)))
+denoted k u at s x home n (denotes.Parameter p) = told (gives (parameter at p.of p.access (place_in home n p.access)))
+denoted k u at s x home n denotes.Procedure = told (applied at s Procedure x [])
 denoted k u at s x home n denotes.Refinement = refined_as k u at s (refinement_named s x)
 
 abbrev pub named : Known → Usage → ℕ → Scope → List ℕ → Option Found → Ruled Meant
 named k u at s x (Some f) = denoted k u at s x f.home f.number f.denotes
-named k u at s x None = applied at s Procedure x []
+named k u at s x None = told (applied at s Procedure x [])
 
 -- ---- declarations
 
@@ -141,12 +142,12 @@ declared_as at home n (denotes.Constant t) = Variable at t (place_in home n Cons
 declared_as at home n d = Done []
 
 -- A name is declared where the first declaration of that name is this one.
-abbrev pub declared : ℕ → Option Found → Ruled Meant
+abbrev pub declared : ℕ → Option Found → Verdict Meant
 declared at None = unasked
 declared at (Some f) = if nat_eq f.at at then gives (declared_as at f.home f.number f.denotes) else breaks (at, Doubled)
 
 -- the heading of a PROC or OP, of which the first with equal name and types of parameters is this one. A value can be missing
-abbrev pub headed : ℕ → Bool → Option (ℕ × Heading) → Ruled Meant
+abbrev pub headed : ℕ → Bool → Option (ℕ × Heading) → Verdict Meant
 headed at missing None = unasked
 headed at missing (Some b) = if nat_eq b.1.at at then (if missing then breaks (at, WrongType) else gives (Done [])) else breaks (at, Doubled)
 
@@ -169,10 +170,10 @@ leave_with e (Some t) v = action.LeaveWith e t v
 abbrev pub leave_of : Exit → Meant → Action
 leave_of e m = leave_with e (type_in m) (value_of m)
 
-abbrev pub leave_as : ℕ → Exit → Delivery → Meant → Ruled Meant
+abbrev pub leave_as : ℕ → Exit → Delivery → Meant → Verdict Meant
 leave_as at e d m = if agrees d m then gives (Left (action.Unit (leave_of e m ∷ []) ∷ [])) else breaks (at, WrongType)
 
 -- It names the refinement, PROC or OP in which it stands.
-abbrev pub leaving : Known → ℕ → Option (Exit × ℕ) → Meant → Ruled Meant
+abbrev pub leaving : Known → ℕ → Option (Exit × ℕ) → Meant → Verdict Meant
 leaving k at None m = breaks (at, WrongPlace)
 leaving k at (Some e) m = leave_as at e.0 (delivery_at k e.1) m

@@ -5,24 +5,24 @@ use Rattle.elan_types.specs.declared.core_phrase.ValuePhrase.{ValuePhrase}
 use Rattle.elan_types.specs.declared.core_phrase.ValuePhrase.TheVariants as value
 use Rattle.elan_types.specs.declared.why.Why.TheVariants.{WrongType}
 use Rattle.eu_base.specs.Operations.{in_range}
-use Rattle.elan_scope.specs.Ruled.{Ruled, gives, breaks}
 use Rattle.elan_meant.specs.declared.meant.Meant.{Meant}
 use Rattle.elan_meant.specs.declared.meant.Meant.TheVariants.{Value, Done, Left}
+use Rattle.elan_meant.specs.Verdict.{Verdict, gives, breaks}
 use Rattle.elan_meant.specs.Operands.{delivers}
 use Rattle.elan_meant.specs.Parts.{unasked, value_of, loaded}
 
 -- No text has a number of more than 16 bits.
-abbrev pub number : ℕ → ℤ → Ruled Meant
+abbrev pub number : ℕ → ℤ → Verdict Meant
 number at n = if in_range n then gives (Value at Int (value.Number n)) else unasked
 
-abbrev pub bracketed_value : ℕ → Meant → Ruled Meant
+abbrev pub bracketed_value : ℕ → Meant → Verdict Meant
 bracketed_value at (Value p t v) = gives (Value at t v)
 bracketed_value at (Done as') = gives (Done as')
 bracketed_value at (Left as') = gives (Left as')
 bracketed_value at m = unasked
 
 -- A variable in brackets is a value.
-abbrev pub bracketed : ℕ → Meant → Ruled Meant
+abbrev pub bracketed : ℕ → Meant → Verdict Meant
 bracketed at m = bracketed_value at (loaded m)
 
 abbrev pub are_truths : Meant → Meant → Bool
@@ -35,8 +35,8 @@ cand_of at v w = Value at Truths (value.If v w (value.Truth false))
 abbrev pub cor_of : ℕ → ValuePhrase → ValuePhrase → Meant
 cor_of at v w = Value at Truths (value.If v (value.Truth true) w)
 
-abbrev pub cand : ℕ → Meant → Meant → Ruled Meant
+abbrev pub cand : ℕ → Meant → Meant → Verdict Meant
 cand at l r = if are_truths l r then gives (cand_of at (value_of l) (value_of r)) else breaks (at, WrongType)
 
-abbrev pub cor : ℕ → Meant → Meant → Ruled Meant
+abbrev pub cor : ℕ → Meant → Meant → Verdict Meant
 cor at l r = if are_truths l r then gives (cor_of at (value_of l) (value_of r)) else breaks (at, WrongType)

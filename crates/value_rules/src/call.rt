@@ -6,10 +6,9 @@ ghost use Rattle.elan_types.specs.declared.core_phrase.Actual.{Actual as Actuals
 ghost use Rattle.elan_scope.specs.declared.callable.Callee.TheVariants as callees;
 ghost use Rattle.elan_scope.specs.declared.heading.Sort.TheVariants as sorts;
 ghost use Rattle.elan_scope.specs.declared.predefined.Predefined.TheVariants as names;
-ghost use Rattle.elan_scope.specs.Ruled.{Ruled};
 ghost use Rattle.elan_scope.specs.Seen as seen;
 ghost use Rattle.value_rules.specs.Calls as spec;
-ghost use Rattle.elan_scope.specs.Answer.{Is};
+ghost use Rattle.elan_meant.specs.Verdict.{Verdict, Tells};
 
 use elan_meant::arity::two_of;
 use elan_meant::meant::Meant;
@@ -31,7 +30,7 @@ use std::alloc::Global;
 
 // A VAR parameter needs a variable.
 fn given_as(parameter: Parameter, operand: Meant) -> Result<Actual, Trouble>
-    ensures { Is result (spec.given_as parameter.access parameter.of operand) }
+    ensures { Tells result (spec.given_as parameter.access parameter.of operand) }
 {
     match parameter.access {
         Access::Const => Ok(Actual::Value(value_in(operand))),
@@ -48,7 +47,7 @@ fn give(
     rest: &[Parameter],
     operand: Meant,
 ) -> Result<List<Actual>, Trouble>
-    ensures { (given : Ruled (List Actuals)) → Is actuals given → Is result (spec.given_next rest.now operand given) }
+    ensures { (given : Verdict (List Actuals)) → Tells actuals given → Tells result (spec.given_next rest.now operand given) }
 {
     match rest {
         [] => {
@@ -74,7 +73,7 @@ fn given(
     parameters: &[Parameter],
     operands: List<Meant>,
 ) -> Result<List<Actual>, Trouble>
-    ensures { Is result (spec.given parameters.now operands) }
+    ensures { Tells result (spec.given parameters.now operands) }
 {
     let mut actuals = Ok(List::new(alloc));
     let mut rest = parameters;
@@ -117,7 +116,7 @@ fn operated(
     of: ElanType,
     actuals: List<Actual>,
 ) -> Judged
-    ensures { Is result (spec.performed at (callees.Predefined (names.Operation operation)) (Some of) actuals) }
+    ensures { Tells result (spec.performed at (callees.Predefined (names.Operation operation)) (Some of) actuals) }
 {
     let values = values_in(alloc, actuals)?;
     delivering(alloc, at, of, ValuePhrase::Apply(operation, values))
@@ -125,7 +124,7 @@ fn operated(
 
 #[tactic(auto, using(crate::proofs::Given::changed_is))]
 fn changed(alloc: Global, change: Change, actuals: List<Actual>) -> Judged
-    ensures { (at : ℕ) → (r : Option ElanTypes) → Is result (spec.performed at (callees.Predefined (names.Change change)) r actuals) }
+    ensures { (at : ℕ) → (r : Option ElanTypes) → Tells result (spec.performed at (callees.Predefined (names.Change change)) r actuals) }
 {
     match two_of(actuals) {
         None => Err(Trouble::Breaks(0, Why::Unknown)),
@@ -140,7 +139,7 @@ fn changed(alloc: Global, change: Change, actuals: List<Actual>) -> Judged
 }
 
 fn asked(alloc: Global, name: RequestName, actuals: List<Actual>) -> Judged
-    ensures { (at : ℕ) → (r : Option ElanTypes) → Is result (spec.performed at (callees.Predefined (names.Request name)) r actuals) }
+    ensures { (at : ℕ) → (r : Option ElanTypes) → Tells result (spec.performed at (callees.Predefined (names.Request name)) r actuals) }
 {
     let values = values_in(alloc, actuals)?;
     done(alloc, Action::Ask(name, values))
@@ -153,7 +152,7 @@ fn predefined(
     result_type: Option<ElanType>,
     actuals: List<Actual>,
 ) -> Judged
-    ensures { Is result (spec.performed at (callees.Predefined callee) result_type actuals) }
+    ensures { Tells result (spec.performed at (callees.Predefined callee) result_type actuals) }
 {
     match callee {
         Predefined::Operation(operation) => match result_type {
@@ -172,7 +171,7 @@ fn performed(
     result_type: Option<ElanType>,
     actuals: List<Actual>,
 ) -> Judged
-    ensures { Is result (spec.performed at callee result_type actuals) }
+    ensures { Tells result (spec.performed at callee result_type actuals) }
 {
     match (callee, result_type) {
         (Callee::Predefined(callee), result_type) => {
@@ -187,7 +186,7 @@ fn performed(
 
 /// A call with these operands.
 pub fn called(alloc: Global, at: u32, callable: Callable<'_>, operands: List<Meant>) -> Judged
-    ensures { Is result (spec.called at (seen.callable callable.entry) operands) }
+    ensures { Tells result (spec.called at (seen.callable callable.entry) operands) }
 {
     let actuals = given(alloc, callable.parameters, operands)?;
     performed(alloc, at, callable.callee, callable.result, actuals)
@@ -203,7 +202,7 @@ pub fn applied(
     name: &[u8],
     operands: List<Meant>,
 ) -> Judged
-    ensures { Is result (spec.applied at scope.now sort name.now operands) }
+    ensures { Tells result (spec.applied at scope.now sort name.now operands) }
 {
     match chosen(scope, sort, name, operands.as_slice()) {
         Some(callable) => called(alloc, at, callable, operands),
@@ -219,7 +218,7 @@ pub fn applied(
 
 /// An identifier without actuals that denotes no variable, constant, parameter or refinement.
 pub fn applied_alone(alloc: Global, at: u32, scope: &Scope, name: &[u8]) -> Judged
-    ensures { Is result (spec.applied at scope.now sorts.Procedure name.now []) }
+    ensures { Tells result (spec.applied at scope.now sorts.Procedure name.now []) }
 {
     applied(alloc, at, scope, Sort::Procedure, name, List::new(alloc))
 }

@@ -1,11 +1,10 @@
 //! LEAVE.
 
 ghost use Rattle.std.specs.Prelude.{◌≡◌, ◌∷◌, []};
-ghost use Rattle.elan_scope.specs.Ruled.{gives};
 ghost use Rattle.elan_types.specs.declared.core_phrase.Action.TheVariants as leaves;
 ghost use Rattle.elan_meant.specs.declared.meant.Meant.TheVariants as means;
 ghost use Rattle.value_rules.specs.Calls as spec;
-ghost use Rattle.elan_scope.specs.Answer.{Is};
+ghost use Rattle.elan_meant.specs.Verdict.{gives, Tells};
 
 use elan_meant::meant::Meant;
 use elan_meant::operands::delivers;
@@ -44,7 +43,7 @@ fn leave_of(exit: Exit, value: Meant) -> Action
 }
 
 fn leave_unit(alloc: Global, action: Action) -> Judged
-    ensures { Is result (gives (means.Left (leaves.Unit (action ∷ []) ∷ []))) }
+    ensures { Tells result (gives (means.Left (leaves.Unit (action ∷ []) ∷ []))) }
 {
     let actions = one(alloc, action)?;
     let units = one(alloc, Action::Unit(actions))?;
@@ -52,7 +51,7 @@ fn leave_unit(alloc: Global, action: Action) -> Judged
 }
 
 fn leave_as(alloc: Global, at: u32, exit: Exit, delivery: Delivery, value: Meant) -> Judged
-    ensures { Is result (spec.leave_as at exit delivery value) }
+    ensures { Tells result (spec.leave_as at exit delivery value) }
 {
     if agrees(delivery, &value) {
         leave_unit(alloc, leave_of(exit, value))
@@ -70,7 +69,7 @@ pub fn leaving(
     left: Option<(Exit, usize)>,
     value: Meant,
 ) -> Judged
-    ensures { Is result (spec.leaving known.now at left value) }
+    ensures { Tells result (spec.leaving known.now at left value) }
 {
     match left {
         None => {

@@ -1,12 +1,12 @@
 //! Identifiers without actuals, and names in their declarations.
 
 ghost use Rattle.std.specs.Prelude.{◌≡◌};
-ghost use Rattle.elan_scope.specs.Ruled.{gives};
 ghost use Rattle.elan_types.specs.declared.core_phrase.Access.TheVariants as accesses;
 ghost use Rattle.elan_meant.specs.declared.meant.Meant.TheVariants as means;
 ghost use Rattle.value_rules.specs.Calls as spec;
 ghost use Rattle.elan_scope.specs.Scope as scopes;
 ghost use Rattle.elan_scope.specs.Answer.{Is};
+ghost use Rattle.elan_meant.specs.Verdict.{gives, Tells};
 
 use crate::call::applied_alone;
 use elan_meant::meant::Meant;
@@ -59,14 +59,14 @@ fn variable(at: u32, of: ElanType, held: Held) -> Meant
 }
 
 fn constant(alloc: Global, at: u32, of: ElanType, held: Held) -> Judged
-    ensures { Is result (gives (spec.constant at of (spec.place_in held.home held.number held.access))) }
+    ensures { Tells result (gives (spec.constant at of (spec.place_in held.home held.number held.access))) }
 {
     delivering(alloc, at, of, ValuePhrase::Load(held.place(), of))
 }
 
 // A CONST parameter is a constant, a VAR parameter a variable.
 fn parameter(alloc: Global, at: u32, home: Home, number: usize, parameter: Parameter) -> Judged
-    ensures { Is result (gives (spec.parameter at parameter.of parameter.access (spec.place_in home number parameter.access))) }
+    ensures { Tells result (gives (spec.parameter at parameter.of parameter.access (spec.place_in home number parameter.access))) }
 {
     let held = Held {
         home,
@@ -185,7 +185,7 @@ pub fn named(
 
 // A variable or constant can be given its initial value; nothing else has to be done.
 fn declared_as(alloc: Global, at: u32, found: Found) -> Judged
-    ensures { Is result (gives (spec.declared_as at found.home found.number found.denotes)) }
+    ensures { Tells result (gives (spec.declared_as at found.home found.number found.denotes)) }
 {
     match found.denotes {
         Denotes::Variable(of) => Ok(variable(at, of, plainly_held(found))),
@@ -198,7 +198,7 @@ fn declared_as(alloc: Global, at: u32, found: Found) -> Judged
 
 /// A name in its declaration. It is declared where the first declaration of that name is this one.
 pub fn declared(alloc: Global, at: u32, scope: &Scope, name: &[u8]) -> Judged
-    ensures { Is result (spec.declared at (scopes.find_own scope.now name.now)) }
+    ensures { Tells result (spec.declared at (scopes.find_own scope.now name.now)) }
 {
     match scope.find_own(name) {
         None => Err(Trouble::Breaks(0, Why::Unknown)),
@@ -223,7 +223,7 @@ pub fn headed(
     parameters: &[Parameter],
     missing: bool,
 ) -> Judged
-    ensures { Is result (spec.headed at missing (scopes.first_heading (scopes.is_alike sort name.now (scopes.types_of parameters.now)) scope.now.headings)) }
+    ensures { Tells result (spec.headed at missing (scopes.first_heading (scopes.is_alike sort name.now (scopes.types_of parameters.now)) scope.now.headings)) }
 {
     match first_alike(scope.headings.as_slice(), sort, name, parameters) {
         None => Err(Trouble::Breaks(0, Why::Unknown)),

@@ -6,8 +6,7 @@ ghost use Rattle.elan_types.specs.declared.core_phrase.ValuePhrase.TheVariants a
 ghost use Rattle.elan_meant.specs.declared.meant.Meant.TheVariants as means;
 ghost use Rattle.elan_meant.specs.Parts as parts;
 ghost use Rattle.value_rules.specs.Values as spec;
-ghost use Rattle.elan_scope.specs.Ruled.{gives};
-ghost use Rattle.elan_scope.specs.Answer.{Is};
+ghost use Rattle.elan_meant.specs.Verdict.{gives, Tells};
 
 use elan_meant::meant::Meant;
 use elan_meant::operands::delivers;
@@ -21,20 +20,20 @@ use std::alloc::Global;
 /// A number that is written.
 #[tactic(auto, using(crate::proofs::Numbers::number_gives))]
 pub fn number(alloc: Global, at: u32, number: i16) -> Judged
-    ensures { Is result (spec.number at number) }
+    ensures { Tells result (spec.number at number) }
 {
     delivering(alloc, at, ElanType::Int, ValuePhrase::Number(number))
 }
 
 /// TRUE or FALSE.
 pub fn truth(alloc: Global, at: u32, truth: bool) -> Judged
-    ensures { Is result (gives (means.Value at types.Bool (values.Truth truth))) }
+    ensures { Tells result (gives (means.Value at types.Bool (values.Truth truth))) }
 {
     delivering(alloc, at, ElanType::Bool, ValuePhrase::Truth(truth))
 }
 
 fn bracketed_value(at: u32, meant: Meant) -> Judged
-    ensures { Is result (spec.bracketed_value at meant) }
+    ensures { Tells result (spec.bracketed_value at meant) }
 {
     match meant {
         Meant::Value { at: _at, of, value } => Ok(Meant::Value { at, of, value }),
@@ -49,7 +48,7 @@ fn bracketed_value(at: u32, meant: Meant) -> Judged
 
 /// A phrase in brackets: its value is no variable.
 pub fn bracketed(alloc: Global, at: u32, meant: Meant) -> Judged
-    ensures { Is result (spec.bracketed at meant) }
+    ensures { Tells result (spec.bracketed at meant) }
 {
     let meant = loaded(alloc, meant)?;
     bracketed_value(at, meant)
@@ -62,7 +61,7 @@ fn are_truths(left: &Meant, right: &Meant) -> bool
 }
 
 fn cand_of(alloc: Global, at: u32, left: Meant, right: Meant) -> Judged
-    ensures { Is result (gives (spec.cand_of at (parts.value_of left) (parts.value_of right))) }
+    ensures { Tells result (gives (spec.cand_of at (parts.value_of left) (parts.value_of right))) }
 {
     let values = both(value_of(alloc, left), value_of(alloc, right));
     let ((left, right), no) = both(values, Boxed::new(alloc, ValuePhrase::Truth(false)))?;
@@ -70,7 +69,7 @@ fn cand_of(alloc: Global, at: u32, left: Meant, right: Meant) -> Judged
 }
 
 fn cor_of(alloc: Global, at: u32, left: Meant, right: Meant) -> Judged
-    ensures { Is result (gives (spec.cor_of at (parts.value_of left) (parts.value_of right))) }
+    ensures { Tells result (gives (spec.cor_of at (parts.value_of left) (parts.value_of right))) }
 {
     let values = both(value_of(alloc, left), value_of(alloc, right));
     let ((left, right), yes) = both(values, Boxed::new(alloc, ValuePhrase::Truth(true)))?;
@@ -79,7 +78,7 @@ fn cor_of(alloc: Global, at: u32, left: Meant, right: Meant) -> Judged
 
 /// CAND, of two truth values.
 pub fn cand(alloc: Global, at: u32, left: Meant, right: Meant) -> Judged
-    ensures { Is result (spec.cand at left right) }
+    ensures { Tells result (spec.cand at left right) }
 {
     if are_truths(&left, &right) {
         cand_of(alloc, at, left, right)
@@ -92,7 +91,7 @@ pub fn cand(alloc: Global, at: u32, left: Meant, right: Meant) -> Judged
 
 /// COR, of two truth values.
 pub fn cor(alloc: Global, at: u32, left: Meant, right: Meant) -> Judged
-    ensures { Is result (spec.cor at left right) }
+    ensures { Tells result (spec.cor at left right) }
 {
     if are_truths(&left, &right) {
         cor_of(alloc, at, left, right)

@@ -1,5 +1,5 @@
 use Rattle.std.proofs.Common.{◌≡◌, length}
-use Rattle.elan_scope.specs.Ruled.{gives}
+use Rattle.elan_meant.specs.Verdict.{gives}
 use Rattle.choice_rules.specs.Choices.{chain}
 use Rattle.choice_rules.proofs.choice.chain.Given as goal
 

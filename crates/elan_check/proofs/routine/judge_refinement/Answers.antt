@@ -5,6 +5,7 @@ use Rattle.elan_scope.specs.declared.delivery.Delivery.TheVariants.{Open}
 use Rattle.elan_scope.specs.Phrase as form
 use Rattle.elan_scope.specs.Phrase.{leaf, part, none}
 use Rattle.elan_scope.specs.Answer.{Is}
+use Rattle.elan_meant.specs.Verdict.{Tells}
 use Rattle.elan_rules.specs.Rules.{rule}
 use Rattle.elan_rules.specs.Meaning.{judged}
 use Rattle.elan_judge.specs.Shape as shape
@@ -25,4 +26,4 @@ returns-in-Ok-clause-meaning c =
     whole_is k (form.refinement (l.owner_of s.routine)) (part (l.declares s r.name) (part (l.refined_units s c.args.number r) none)) c.refinement_parts.result
     c.in-Ok.parts
     (c.in-Ok.ensures (judged k (l.declares s r.name)) (judged k (l.refined_units s c.args.number r)) name units)
-    (subst (λ (o : Owner). Is c.refinement_parts.result (rule k (form.refinement o) c.in-Ok.parts)) c.owner_of.ensures (c.refinement_parts.ensures k))
+    (subst (λ (o : Owner). Tells c.refinement_parts.result (rule (form.refinement o) c.in-Ok.parts)) c.owner_of.ensures c.refinement_parts.ensures)

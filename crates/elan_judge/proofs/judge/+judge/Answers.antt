@@ -6,10 +6,11 @@ use Rattle.elan_scope.specs.declared.delivery.Delivery.{Delivery}
 use Rattle.elan_scope.specs.declared.delivery.Delivery.TheVariants.{Open, Nothing}
 use Rattle.unit_rules.specs.Units as units
 use Rattle.elan_scope.specs.Answer.{Is}
+use Rattle.elan_meant.specs.Verdict.{Tells}
 use Rattle.elan_rules.specs.Meaning.{judged, judged_all}
 use Rattle.elan_scope.specs.declared.scope.Usage.TheVariants.{Counter as Counts}
 use Rattle.elan_scope.specs.Phrase as form
-use Rattle.elan_scope.specs.Phrase.{Phrase, leaf, phrase, all_of, part, none}
+use Rattle.elan_scope.specs.Phrase.{Phrase, leaf, all_of, part, none}
 use Rattle.elan_judge.specs.Shape as shape
 use Rattle.elan_judge.proofs.Rows.{row_goes, two_more, three_more, roles_go, roles_end, row_is, one_is, branches_go, branches_end, cases_go, cases_end}
 use Rattle.elan_judge.proofs.Rows.{first_fails, first_is, whole_fails, whole_is}
@@ -117,7 +118,7 @@ judge-returns-in-Ok-pair-2 t c =
     c.in-Ok-pair-2.parts
     (c.in-Ok-pair-2.ensures (judged c.args.known.now (shape.expr c.args.scope.now c.get-in-Cand.result.now))
     (judged c.args.known.now (shape.expr c.args.scope.now c.get-in-Cand-2.result.now)) c.judge-left-in-Cand.ensures c.judge-right-in-Cand.ensures)
-    (c.cand_parts.ensures c.args.known.now))
+    c.cand_parts.ensures)
 
 pub judge-returns-in-Ok-pair-3 : goal.judge-returns-in-Ok-pair-3
 judge-returns-in-Ok-pair-3 t c =
@@ -128,7 +129,7 @@ judge-returns-in-Ok-pair-3 t c =
     c.in-Ok-pair-3.parts
     (c.in-Ok-pair-3.ensures (judged c.args.known.now (shape.expr c.args.scope.now c.get-in-Cor.result.now))
     (judged c.args.known.now (shape.expr c.args.scope.now c.get-in-Cor-2.result.now)) c.judge-left-in-Cor.ensures c.judge-right-in-Cor.ensures)
-    (c.cor_parts.ensures c.args.known.now))
+    c.cor_parts.ensures)
 
 pub judge_exprs-loop-expr-preserved : goal.judge_exprs-loop-expr-preserved
 judge_exprs-loop-expr-preserved t c =
@@ -203,7 +204,7 @@ judge_item-returns-in-Ok t c =
     (part (shape.expr c.args.scope.now c.in-Some.expr) none)) c.initial_parts.result c.in-Ok.parts
     (c.in-Ok.ensures (judged c.args.known.now (leaf (form.declares c.args.item.now.name.at c.args.scope.now c.args.item.now.name.text)))
     (judged c.args.known.now (shape.expr c.args.scope.now c.in-Some.expr)) name c.judge-value.ensures)
-    (c.initial_parts.ensures c.args.known.now))
+    c.initial_parts.ensures)
 
 pub judge_items-loop-item-preserved : goal.judge_items-loop-item-preserved
 judge_items-loop-item-preserved t c =
@@ -227,14 +228,14 @@ judge_counter-returns-in-None t c =
 pub judge_counter-returns-in-Some : goal.judge_counter-returns-in-Some
 judge_counter-returns-in-Some t c =
     let counter = c.get-counter.result.now in
-    let name : Is c.named-name.result (judged c.args.known.now (leaf (form.named Counts counter.name.at c.args.scope.now counter.name.text))) =
-    subst (λ (x : List ℕ). Is c.named-name.result (judged c.args.known.now (leaf (form.named Counts counter.name.at c.args.scope.now x))))
+    let name : Is c.named-name.result (judged c.args.known.now (form.name Counts counter.name.at c.args.scope.now counter.name.text)) =
+    subst (λ (x : List ℕ). Is c.named-name.result (judged c.args.known.now (form.name Counts counter.name.at c.args.scope.now x)))
     c.as_slice-text.ensures c.named-name.ensures in
     subst (λ (o : Option Counter). Is c.three.result (judged_all c.args.known.now (all_of (shape.counter_parts (shape.optional_counter c.args.scope.now o)))))
     (ap (λ (x : Counter). Some x) c.get-counter.ensures ∙ sym c.in-Some.is)
     (subst (λ (k : shape.Counted). Is c.three.result (judged_all c.args.known.now (all_of (shape.counter_parts (Some k)))))
     (sym (counter_shape c.args.scope.now counter))
-    (c.three.ensures (judged c.args.known.now (leaf (form.named Counts counter.name.at c.args.scope.now counter.name.text)))
+    (c.three.ensures (judged c.args.known.now (form.name Counts counter.name.at c.args.scope.now counter.name.text))
     (judged c.args.known.now (shape.optional_expr c.args.scope.now counter.from)) (judged c.args.known.now (shape.limit c.args.scope.now counter.limit).1)
     name c.judge_optional-from.ensures c.judge_limit-limit.ensures))
 
@@ -285,14 +286,14 @@ judge_unit-returns-in-Ok-with t c =
     (judged c.args.known.now (shape.optional_expr c.args.scope.now c.in-Loop.condition)) c.judge_counter-row.ensures c.judge_optional-condition.ensures)
     (λ rs e. c.with-row-in-Loop.ensures rs (judged c.args.known.now us) e c.judge_units-units.ensures)
     (λ rs e. c.in-Ok-with.ensures rs (judged c.args.known.now (shape.optional_expr c.args.scope.now c.in-Loop.until)) e c.judge_optional-until.ensures))
-    (c.looped.ensures c.args.known.now c.args.scope.now))
+    (c.looped.ensures c.args.scope.now))
 
 pub judge_role-returns-in_ok-meant-in-Of : goal.judge_role-returns-in_ok-meant-in-Of
 judge_role-returns-in_ok-meant-in-Of t c =
     let p = shape.written (shape.unit c.args.scope.now c.args.unit.now) in
     subst (λ (d : Delivery). Is c.must_deliver.result (judged c.args.known.now (shape.role d p))) (sym c.in-Of.is)
     (one_is c.args.known.now (form.must_deliver (form.place p) c.in-Of.of) p c.must_deliver.result c.in_ok-meant-in-Of.meant c.in_ok-meant-in-Of.ensures
-    (subst (λ (a : ℕ). Is c.must_deliver.result (units.must_deliver a c.in-Of.of c.in_ok-meant-in-Of.meant)) (c.unit_place.ensures c.args.scope.now)
+    (subst (λ (a : ℕ). Tells c.must_deliver.result (units.must_deliver a c.in-Of.of c.in_ok-meant-in-Of.meant)) (c.unit_place.ensures c.args.scope.now)
     c.must_deliver.ensures))
 
 pub add_role-returns-in-None : goal.add_role-returns-in-None

@@ -1,20 +1,20 @@
 use Rattle.std.proofs.Common.{List, drop, refl, sym, ap, subst, ◌∙◌}
 use Rattle.elan_types.specs.declared.core_phrase.Parameter.{Parameter}
 use Rattle.elan_types.specs.declared.core_phrase.Actual.{Actual}
-use Rattle.elan_scope.specs.Ruled.{Ruled, gives}
-use Rattle.elan_scope.specs.Answer.{Is}
+use Rattle.elan_meant.specs.Verdict.{Verdict, gives, told, Tells}
 use Rattle.value_rules.specs.Calls.{given, given_next}
 use Rattle.value_rules.proofs.Given.{given_none, given_more, behind}
 use Rattle.value_rules.proofs.call.given.Goals as goal
 
 pub loop-operand-init : goal.loop-operand-init
-loop-operand-init c = (refl, given_none c.args.parameters.now ∙ ap (λ (l : List Actual). gives l) (sym c.new.ensures))
+loop-operand-init c =
+    (refl, ap (λ (v : Verdict (List Actual)). told v) (given_none c.args.parameters.now ∙ ap (λ (l : List Actual). gives l) (sym c.new.ensures)))
 
 pub loop-operand-preserved : goal.loop-operand-preserved
 loop-operand-preserved c = (
   c.behind_first-rest.ensures ∙ ap (λ (ps : List Parameter). drop 1 ps) c.loop-operand.invariant.0 ∙
       behind c.loop-operand.yielded c.in-Some.operand c.args.parameters.now,
-  subst (λ (r : Ruled (List Actual)). Is c.give-actuals.result r)
+  subst (λ (r : Verdict (List Actual)). Tells c.give-actuals.result r)
       (ap (λ (ps : List Parameter). given_next ps c.in-Some.operand (given c.args.parameters.now c.loop-operand.yielded)) c.loop-operand.invariant.0
       ∙ sym (given_more c.args.parameters.now c.loop-operand.yielded c.in-Some.operand))
       (c.give-actuals.ensures (given c.args.parameters.now c.loop-operand.yielded) c.loop-operand.invariant.1),

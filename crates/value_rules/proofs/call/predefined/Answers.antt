@@ -1,16 +1,16 @@
 use Rattle.std.proofs.Common.{sym, subst}
 use Rattle.elan_scope.specs.declared.callable.Callee.TheVariants as callees
 use Rattle.elan_scope.specs.declared.predefined.Predefined.{Predefined}
-use Rattle.elan_scope.specs.Answer.{Is}
+use Rattle.elan_meant.specs.Verdict.{Tells}
 use Rattle.value_rules.specs.Calls.{performed}
 use Rattle.value_rules.proofs.call.predefined.Goals as goal
 
 pub returns-in-Change : goal.returns-in-Change
 returns-in-Change c =
-    subst (λ (p : Predefined). Is c.changed.result (performed c.args.at (callees.Predefined p) c.args.result_type c.args.actuals)) (sym c.in-Change.is)
+    subst (λ (p : Predefined). Tells c.changed.result (performed c.args.at (callees.Predefined p) c.args.result_type c.args.actuals)) (sym c.in-Change.is)
     (c.changed.ensures c.args.at c.args.result_type)
 
 pub returns-in-Request : goal.returns-in-Request
 returns-in-Request c =
-    subst (λ (p : Predefined). Is c.asked.result (performed c.args.at (callees.Predefined p) c.args.result_type c.args.actuals)) (sym c.in-Request.is)
+    subst (λ (p : Predefined). Tells c.asked.result (performed c.args.at (callees.Predefined p) c.args.result_type c.args.actuals)) (sym c.in-Request.is)
     (c.asked.ensures c.args.at c.args.result_type)
