@@ -1,5 +1,5 @@
 #!/usr/bin/env bash
-# What lexer, parser and check cost as texts grow: instructions for texts of some 80, 800 and 7,900 tokens of six shapes, as
+# What lexer, parser and check cost as texts grow: instructions for texts of some 80, 800 and 7,900 tokens of seven shapes, as
 # callgrind counts them, and how many times those of the shorter text they are. Where that is far above 10, the part grows
 # faster than the text. A part that counts longer than the limit (in seconds) is shown as such. No test, and no part of the gate.
 # It proves and builds a small program in a folder of its own, over copies of the crates of the parser and of meaning.
@@ -82,6 +82,9 @@ if shape == "refinements":
 elif shape == "refinements reversed":
     count = tokens // 4
     print("r0. " + " ".join(f"r{i}: r{i + 1}." for i in reversed(range(count))) + f" r{count}: line.")
+elif shape == "cycle":
+    count = tokens // 4
+    print("r0. " + " ".join(f"r{i}: r{(i + 1) % count}." for i in range(count)))
 elif shape == "procs":
     print("PROC p0: line END PROC p0; " + "; ".join(f"PROC p{i}: p{i - 1} END PROC p{i}" for i in range(1, tokens // 8)))
 elif shape == "names":
@@ -138,9 +141,10 @@ text names 80 >"$work/text"
     exit 1
 }
 program="$work/crates/parts/out/parts"
-for shape in refinements "refinements reversed" procs names overloads levels; do
+# Of a cycle there is no program: it is refused.
+for shape in refinements "refinements reversed" cycle procs names overloads levels; do
     text "$shape" 80 >"$work/text"
-    "$program" check "$work/text" >/dev/null || echo "$shape: no program ($?)"
+    "$program" check "$work/text" >/dev/null || [[ "$shape" == cycle ]] || echo "$shape: no program ($?)"
     line "$shape" lex start
     line "$shape" parse lex
     line "$shape" check parse

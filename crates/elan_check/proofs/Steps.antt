@@ -1,7 +1,7 @@
 -- What is found out of one body after another is what a step finds out of all of them.
 use Rattle.std.proofs.Common.{◌≡◌, ℕ, zero, suc, ◌+◌, ◌-◌, ◌≤◌, ◌<◌, get_or, drop, List, [], ◌∷◌, ◌++◌, map, length, Option, Some, None, Result, Ok, Err}
-use Rattle.std.proofs.Common.{Bool, true, false, if◌then◌else◌, refl, sym, ap, ◌∙◌, arith, append_assoc}
-use Rattle.std.specs.Prelude.{slice_index_or, OnOk}
+use Rattle.std.proofs.Common.{Bool, true, false, not, ◌||◌, if◌then◌else◌, refl, sym, ap, ◌∙◌, arith, append_assoc}
+use Rattle.std.specs.Prelude.{slice_index_or, slice_set, OnOk}
 use Rattle.std.proofs.lemmas.List.{append-nil, at_drop_more}
 use Rattle.elan_tree.specs.declared.written_type.TypePhrase.{TypePhrase}
 use Rattle.elan_tree.specs.declared.written_type.Formal.{Formal}
@@ -24,7 +24,7 @@ use Rattle.elan_check.specs.declared.deliveries.Calls.{Calls}
 use Rattle.elan_check.specs.declared.deliveries.Round.{Round}
 use Rattle.elan_check.specs.Refinements.{told_by, last_unit, next, next_all, called_in, known_after, known_of}
 use Rattle.elan_check.specs.walks.Seen.{all_seen}
-use Rattle.elan_check.specs.walks.Rounds.{called_last, with_calls, any_open, found, found_from, with_found}
+use Rattle.elan_check.specs.walks.Rounds.{called_last, with_calls, is_open, any_open, is_kept, looked_at, found, found_from, seen, with_found}
 use Rattle.elan_check.proofs.Opened.{waiting}
 
 abbrev pub known_with : List Delivery → List (List ℕ) → Known
@@ -60,13 +60,6 @@ calls_found (Ok x) s v c d cs ds ec ed es h =
     ap (λ (l : List (List ℕ)). calls_with l ds) (es ∙ ap (λ (ns : List ℕ). s.all ++ ns ∷ []) ec)
     ∙ ap (λ (l : List (List ℕ)). calls_with (s.all ++ called_in v ∷ []) l) (h ∙ ap (λ (ns : List ℕ). s.last ++ ns ∷ []) ed)
 
-pub all_found : (s : Round) (n : ℕ) (us : List Phrase)
-    → (all_seen with_found s n us).deliveries ≡ s.deliveries ++ found_from s.known.now s.last.now n us
-all_found s n [] = sym (append-nil s.deliveries)
-all_found s n (u ∷ us) =
-    all_found (with_found s n u) (suc n) us
-    ∙ append_assoc s.deliveries (found s.known.now s.last.now n u ∷ []) (found_from s.known.now s.last.now (suc n) us)
-
 -- the deliveries, and the calls of last units, from this number on
 abbrev Has : Known → ℕ → List Delivery → Type 0
 Has k n ds = (i : ℕ) → slice_index_or ds i Open ≡ delivery_at k (n + i)
@@ -78,14 +71,57 @@ Calling last n us = (i : ℕ) → slice_index_or (map called_last us) i [] ≡ s
 found_next_of : (k : Known) (last : List (List ℕ)) (n : ℕ) (d : Delivery) (u : Phrase) → delivery_at k n ≡ d → slice_index_or last n [] ≡ called_last u
     → found k last n u ≡ next k d u
 found_next_of k last n d u e h =
-    ap (λ (cs : List ℕ). if any_open k cs then delivery_at k n else next k (delivery_at k n) u) h
-    ∙ ap (λ (c : Delivery). if any_open k (called_last u) then c else next k c u) e ∙ by_test d (any_open k (called_last u)) refl
+    ap (λ (cs : List ℕ). if not (is_open (delivery_at k n)) || any_open k cs then delivery_at k n else looked_at k u) h
+    ∙ ap (λ (c : Delivery). if not (is_open c) || any_open k (called_last u) then c else looked_at k u) e ∙ by_test d (any_open k (called_last u)) refl
   where
-    by_test : (c : Delivery) (b : Bool) → any_open k (called_last u) ≡ b → (if b then c else next k c u) ≡ next k c u
+    by_test : (c : Delivery) (b : Bool) → any_open k (called_last u) ≡ b → (if not (is_open c) || b then c else looked_at k u) ≡ next k c u
     by_test Open true f = sym (waiting k (last_unit u) f)
-    by_test Nothing true f = refl
-    by_test (Of t) true f = refl
-    by_test c false f = refl
+    by_test Open false f = refl
+    by_test Nothing b f = refl
+    by_test (Of t) b f = refl
+
+-- ---- one body after another, each in its place
+
+set_at : (done : List Delivery) (d x : Delivery) (ds : List Delivery) → slice_set (done ++ d ∷ ds) (length done) x ≡ done ++ x ∷ ds
+set_at [] d x ds = refl
+set_at (c ∷ done) d x ds = ap (λ (l : List Delivery). c ∷ l) (set_at done d x ds)
+
+abbrev Goes : Round → ℕ → List Phrase → List Delivery → Delivery → List Delivery → Type 0
+Goes t n us done x ds = t.deliveries ≡ done ++ x ∷ ds → Has t.known.now (suc n) ds
+    → (all_seen with_found t (suc n) us).deliveries ≡ done ++ x ∷ found_from t.known.now t.last.now (suc n) us
+
+one_seen : (s : Round) (n : ℕ) (u : Phrase) (us : List Phrase) (done : List Delivery) (d : Delivery) (ds : List Delivery)
+    → s.deliveries ≡ done ++ d ∷ ds → length done ≡ n → delivery_at s.known.now n ≡ d → Has s.known.now (suc n) ds
+    → ((t : Round) (x : Delivery) → Goes t n us done x ds) → (b : Bool)
+    → (all_seen with_found (seen s n u b) (suc n) us).deliveries
+    ≡ done ++ (if b then delivery_at s.known.now n else looked_at s.known.now u) ∷ found_from s.known.now s.last.now (suc n) us
+one_seen s n u us done d ds ed en h rest goes true =
+    goes s d ed rest ∙ ap (λ (x : Delivery). done ++ x ∷ found_from s.known.now s.last.now (suc n) us) (sym h)
+one_seen s n u us done d ds ed en h rest goes false =
+    let x = looked_at s.known.now u in
+    goes (seen s n u false) x
+    (ap (λ (l : List Delivery). slice_set l n x) ed ∙ ap (λ (m : ℕ). slice_set (done ++ d ∷ ds) m x) (sym en) ∙ set_at done d x ds) rest
+
+more_done : (done : List Delivery) (x : Delivery) (n : ℕ) → length done ≡ n → length (done ++ x ∷ []) ≡ suc n
+more_done [] x n e = let z : 1 ≡ suc n = omega (arith, e) in z
+more_done (c ∷ done) x n e =
+    let z : length done ≡ n - 1 = (let y : suc (length done) ≡ n = e in omega (arith, y)) in
+    ap suc (more_done done x (n - 1) z) ∙ (let y : suc (length done) ≡ n = e in let w : suc (suc (n - 1)) ≡ suc n = omega (arith, y) in w)
+
+pub all_found : (s : Round) (n : ℕ) (us : List Phrase) (done ds : List Delivery) → s.deliveries ≡ done ++ ds → length done ≡ n → length ds ≡ length us
+    → Has s.known.now n ds → (all_seen with_found s n us).deliveries ≡ done ++ found_from s.known.now s.last.now n us
+all_found s n [] done [] ed en el h = ed
+all_found s n [] done (d ∷ ds) ed en el h = absurd (let z : suc (length ds) ≡ 0 = el in omega (arith, z))
+all_found s n (u ∷ us) done [] ed en el h = absurd (let z : 0 ≡ suc (length us) = el in omega (arith, z))
+all_found s n (u ∷ us) done (d ∷ ds) ed en el h =
+    let k = s.known.now in
+    let z : n + 0 ≡ n = omega arith in
+    let first : delivery_at k n ≡ d = sym (h 0 ∙ ap (delivery_at k) z) in
+    let few : length ds ≡ length us = (let i : suc (length ds) ≡ suc (length us) = el in omega (arith, i)) in
+    let rest : Has k (suc n) ds = λ i. h (suc i) ∙ ap (delivery_at k) (let y : n + suc i ≡ suc n + i = omega arith in y) in
+    one_seen s n u us done d ds ed en first rest
+    (λ t x e g. all_found t (suc n) us (done ++ x ∷ []) ds (e ∙ sym (append_assoc done (x ∷ []) ds)) (more_done done x n en) few g
+    ∙ append_assoc done (x ∷ []) (found_from t.known.now t.last.now (suc n) us)) (is_kept k s.last.now n)
 
 same_next : (k : Known) (last : List (List ℕ)) (n : ℕ) (ds : List Delivery) (us : List Phrase) → length ds ≡ length us → Has k n ds → Calling last n us
     → found_from k last n us ≡ next_all k ds us
@@ -192,6 +228,10 @@ module _ (w : Level) where
       → found_from (known_after n hs us) last 0 us ≡ (known_after (suc n) hs us).deliveries
   step_is n last h = one_step (known_after n hs us) last us (after_length n hs us ∙ level_count w) h
 
+  -- Each body has a delivery.
+  pub has_all : (n : ℕ) (known : Known) → known ≡ known_after n hs us → length known.deliveries ≡ length us
+  has_all n known e = ap (λ (k : Known). length k.deliveries) e ∙ after_length n hs us ∙ level_count w
+
   calls_are : (n : ℕ) → known_after n hs us ≡ known_with (known_after n hs us).deliveries (map called_in us)
   calls_are zero = refl
   calls_are (suc n) = refl
@@ -231,6 +271,12 @@ module _ (w : Level) (n : ℕ) (known : Known) (last : List (List ℕ)) (ds : Li
       ap (λ (c : List (List ℕ)). known_with ds c) (ec ∙ ap (λ (k : Known). k.calls) (ek ∙ calls_are w n))
       ∙ ap (λ (e : List Delivery). known_with e (map called_in (us w))) next_is
       ∙ ap (λ (i : ℕ). known_after i (hs w) (us w)) z
+
+-- a round, begun with what is known
+pub round_found : (s : Round) (us : List Phrase) → s.deliveries ≡ s.known.now.deliveries → length s.known.now.deliveries ≡ length us
+    → (all_seen with_found s 0 us).deliveries ≡ found_from s.known.now s.last.now 0 us
+round_found s us e h =
+    all_found s 0 us [] s.known.now.deliveries e refl h (λ i. ap (delivery_at s.known.now) (let z : i ≡ 0 + i = omega arith in z))
 
 -- ---- the walk over a level
 

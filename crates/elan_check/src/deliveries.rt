@@ -1,12 +1,11 @@
 //! What bodies deliver: a refinement delivers what its last unit delivers, which is found out in steps.
 
-ghost use Rattle.std.specs.Prelude.{◌≡◌, [], map, option_map, slice_index_or, IfOk};
+ghost use Rattle.std.specs.Prelude.{◌≡◌, [], map, length, option_map, slice_index_or, slice_set, IfOk};
 ghost use Rattle.elan_scope.specs.declared.delivery.Delivery.{Delivery as Wanted};
 ghost use Rattle.elan_scope.specs.declared.scope.Scope.{Scope};
 ghost use Rattle.elan_meant.specs.declared.meant.Meant.{Meant};
 ghost use Rattle.elan_scope.specs.Ruled.{Ruled};
 ghost use Rattle.elan_scope.specs.Answer.{Is};
-ghost use Rattle.elan_scope.specs.Known as knowledge;
 ghost use Rattle.elan_levels.specs.Bodies as bodies;
 ghost use Rattle.elan_check.specs.Level as level_spec;
 ghost use Rattle.elan_check.specs.Refinements as spec;
@@ -105,23 +104,6 @@ fn units_delivery(
     }
 }
 
-// What is known stays. What is not is looked for in the last unit.
-fn next(
-    alloc: Global,
-    known: &Known,
-    scope: &Scope,
-    number: usize,
-    wanted: Delivery,
-    units: &[Unit],
-) -> Result<Delivery, NoMemory>
-    ensures { IfOk result (λ d. d ≡ spec.next known.now (knowledge.delivery_at known.now number) (shape.units wanted (map (shape.unit scope.now) units.now))) }
-{
-    match known.delivery_at(number) {
-        Delivery::Open => units_delivery(alloc, known, scope, wanted, units),
-        found => Ok(found),
-    }
-}
-
 // The refinements that the last unit calls.
 fn called_in_last(alloc: Global, scope: &Scope, units: &[Unit]) -> Result<List<usize>, NoMemory>
     ensures { (d : Wanted) → IfOk result (λ called. called ≡ walks.called_last (shape.units d (map (shape.unit scope.now) units.now))) }
@@ -143,6 +125,10 @@ struct Calls {
 
 impl EachBody for Calls {
     ghost after = { λ s n units. walks.with_calls s units };
+
+    fn skips(&self, _number: usize) -> bool {
+        false
+    }
 
     fn body(
         &mut self,
@@ -198,8 +184,18 @@ fn waits(known: &Known, last: &[List<usize>], number: usize) -> bool
     }
 }
 
-// One step further, from what is known and from what last units call. A body whose last unit calls a refinement of which
-// nothing is known is not looked at, so that each is looked at about once.
+// Whether a body is not looked at.
+fn is_kept(known: &Known, last: &[List<usize>], number: usize) -> bool
+    ensures { result ≡ walks.is_kept known.now last.now number }
+{
+    match known.delivery_at(number) {
+        Delivery::Open => waits(known, last, number),
+        _ => true,
+    }
+}
+
+// One step further, from what is known and from what last units call. A body of which something is known is not looked at,
+// nor one whose last unit calls a refinement of which nothing is known, so that each is looked at about once.
 #[derive(Drop)]
 struct Round<'a> {
     known: &'a Known,
@@ -210,6 +206,10 @@ struct Round<'a> {
 impl EachBody for Round<'_> {
     ghost after = { walks.with_found };
 
+    fn skips(&self, number: usize) -> bool {
+        is_kept(self.known, self.last.as_slice(), number)
+    }
+
     fn body(
         &mut self,
         alloc: Global,
@@ -218,12 +218,21 @@ impl EachBody for Round<'_> {
         wanted: Delivery,
         units: &[Unit],
     ) -> Result<(), NoMemory> {
-        let delivery = if waits(self.known, self.last.as_slice(), number) {
-            self.known.delivery_at(number)
-        } else {
-            next(alloc, self.known, scope, number, wanted, units)?
-        };
-        self.deliveries.push(delivery)
+        if is_kept(self.known, self.last.as_slice(), number) {
+            return Ok(());
+        }
+        let delivery = units_delivery(alloc, self.known, scope, wanted, units)?;
+        put(&mut self.deliveries, number, delivery);
+        Ok(())
+    }
+}
+
+// Puts the delivery of a body in its place, if it has one.
+fn put(deliveries: &mut List<Delivery>, number: usize, delivery: Delivery)
+    ensures { deliveries.new ≡ slice_set deliveries.old number delivery }
+{
+    if number < deliveries.len() {
+        deliveries.set(number, delivery);
     }
 }
 
@@ -234,14 +243,16 @@ fn next_deliveries(
     scope: &mut Scope,
     level: &Level,
 ) -> Result<List<Delivery>, NoMemory>
-    requires { scope.old ≡ level_spec.level_scope level.now }
+    requires scope { scope.old ≡ level_spec.level_scope level.now }
+    requires count { length known.now.deliveries ≡ length (level_spec.level_bodies level.now) }
     ensures found { IfOk result (λ next. next ≡ walks.found_from known.now last.now 0 (level_spec.level_bodies level.now)) }
     ensures kept { IfOk result (λ next. scope.new ≡ scope.old) }
 {
+    let deliveries = List::from_slice(alloc, known.deliveries.as_slice())?;
     let mut round = Round {
         known,
         last,
-        deliveries: List::new(alloc),
+        deliveries,
     };
     match each_body(alloc, &mut round, scope, level) {
         Err(refusal) => Err(refusal),

@@ -14,12 +14,16 @@ use std::alloc::Global;
 
 /// Who looks at bodies.
 pub trait EachBody {
-    ghost use Rattle.std.specs.Prelude.{ℕ, map};
+    ghost use Rattle.std.specs.Prelude.{◌≡◌, true, ℕ, map};
     ghost use Rattle.elan_scope.specs.Phrase.{Phrase};
     ghost use Rattle.elan_judge.specs.Shape as shape;
 
     /// What it is when it has seen the units of the body with this number.
     ghost after: { Self → ℕ → Phrase → Self };
+
+    /// Whether it need not look at the body with this number, by which it would not change.
+    fn skips(&self, number: usize) -> bool
+        ensures { result ≡ true → (units : Phrase) → after self.now number units ≡ self.now };
 
     /// Looks at the units of the body with this number, in its scope.
     fn body(
@@ -31,6 +35,27 @@ pub trait EachBody {
         units: &[Unit],
     ) -> Result<(), NoMemory>
         ensures { OnOk result (self.new ≡ after self.old number (shape.units wanted (map (shape.unit scope.now) units.now))) };
+}
+
+fn see_refinement<B: EachBody>(
+    alloc: Global,
+    looks: &mut B,
+    scope: &mut Scope,
+    number: usize,
+    refinement: &Refinement,
+) -> Result<(), NoMemory>
+    requires { scope.old.refinement ≡ None }
+    ensures found { OnOk result (looks.new ≡ B.after looks.old number (spec.refined_units scope.old number refinement.now)) }
+    ensures kept { OnOk result (scope.new ≡ scope.old) }
+{
+    if looks.skips(number) {
+        return Ok(());
+    }
+    let units = refinement.units.as_slice();
+    scope.refinement = Some(number);
+    looks.body(alloc, scope, number, Delivery::Open, units)?;
+    scope.refinement = None;
+    Ok(())
 }
 
 fn see_refinements<B: EachBody>(
@@ -46,15 +71,7 @@ fn see_refinements<B: EachBody>(
 {
     let mut number = first;
     for refinement in refinements {
-        scope.refinement = Some(number);
-        looks.body(
-            alloc,
-            scope,
-            number,
-            Delivery::Open,
-            refinement.units.as_slice(),
-        )?;
-        scope.refinement = None;
+        see_refinement(alloc, looks, scope, number, refinement)?;
         number = next_number(number)?;
     }
     Ok(())

@@ -1,5 +1,5 @@
 -- What a round finds out of bodies, and which refinements they call.
-use Rattle.std.specs.Prelude.{ℕ, suc, Bool, true, false, ◌||◌, if◌then◌else◌, List, [], ◌∷◌, ◌++◌, Option, Some, None, slice_index_or}
+use Rattle.std.specs.Prelude.{ℕ, suc, Bool, true, false, not, ◌||◌, if◌then◌else◌, List, [], ◌∷◌, ◌++◌, Option, Some, None, slice_index_or, slice_set}
 use Rattle.elan_scope.specs.declared.delivery.Delivery.{Delivery}
 use Rattle.elan_scope.specs.declared.delivery.Delivery.TheVariants.{Open, Nothing, Of}
 use Rattle.elan_scope.specs.declared.known.Known.{Known}
@@ -7,7 +7,7 @@ use Rattle.elan_scope.specs.Known.{delivery_at}
 use Rattle.elan_scope.specs.Phrase.{Phrase}
 use Rattle.elan_check.specs.declared.deliveries.Calls.{Calls}
 use Rattle.elan_check.specs.declared.deliveries.Round.{Round}
-use Rattle.elan_check.specs.Refinements.{called_in, last_unit, next}
+use Rattle.elan_check.specs.Refinements.{called_in, last_unit, unit_delivery}
 
 -- ---- calls
 
@@ -33,13 +33,24 @@ abbrev pub any_open : Known → List ℕ → Bool
 any_open k [] = false
 any_open k (c ∷ cs) = is_open (delivery_at k c) || any_open k cs
 
--- Where the last unit of a body calls a refinement of which nothing is known, it is not looked at.
+-- A body of which something is known is not looked at, nor one whose last unit calls a refinement of which nothing is known.
+abbrev pub is_kept : Known → List (List ℕ) → ℕ → Bool
+is_kept k last n = not (is_open (delivery_at k n)) || any_open k (slice_index_or last n [])
+
+abbrev pub looked_at : Known → Phrase → Delivery
+looked_at k units = unit_delivery k (last_unit units)
+
 abbrev pub found : Known → List (List ℕ) → ℕ → Phrase → Delivery
-found k last n units = if any_open k (slice_index_or last n []) then delivery_at k n else next k (delivery_at k n) units
+found k last n units = if is_kept k last n then delivery_at k n else looked_at k units
 
 abbrev pub found_from : Known → List (List ℕ) → ℕ → List Phrase → List Delivery
 found_from k last n [] = []
 found_from k last n (u ∷ us) = found k last n u ∷ found_from k last (suc n) us
 
+-- The delivery of a body that is looked at is put in its place.
+abbrev pub seen : Round → ℕ → Phrase → Bool → Round
+seen s n units true = s
+seen s n units false = record { known = s.known; last = s.last; deliveries = slice_set s.deliveries n (looked_at s.known.now units) }
+
 abbrev pub with_found : Round → ℕ → Phrase → Round
-with_found s n units = record { known = s.known; last = s.last; deliveries = s.deliveries ++ found s.known.now s.last.now n units ∷ [] }
+with_found s n units = seen s n units (is_kept s.known.now s.last.now n)

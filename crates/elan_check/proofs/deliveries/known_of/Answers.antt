@@ -5,17 +5,20 @@ use Rattle.elan_scope.specs.declared.scope.Scope.{Scope}
 use Rattle.elan_levels.specs.Bodies.{headings}
 use Rattle.elan_check.specs.Refinements.{told_by}
 use Rattle.elan_check.proofs.Same.{delivery_Decides}
-use Rattle.elan_check.proofs.Steps.{known_with, found_all, found_next}
+use Rattle.elan_check.proofs.Steps.{known_with, has_all, found_all, found_next}
 use Rattle.elan_check.proofs.deliveries.known_of.Goals as goal
 
 pub loop-init : goal.loop-init
 loop-init c = record {
   scope = c.in_ok-all.ensures.kept;
   found =
-      ap (λ (ds : List Delivery). known_with ds c.in_ok-all.field-0.all)
+      ap (λ (ds : List Delivery). known_with ds c.in_ok-of.field-0)
       (c.in_ok-told_by.ensures ∙ ap told_by (c.as_slice.ensures ∙ ap (λ (z : Scope). z.headings) (c.in_ok-all.ensures.kept ∙ c.requires)))
-      ∙ ap (λ (cs : List (List ℕ)). known_with (told_by (headings c.args.level.now)) cs) c.in_ok-all.ensures.all;
+      ∙ ap (λ (cs : List (List ℕ)). known_with (told_by (headings c.args.level.now)) cs) (c.in_ok-of.ensures ∙ c.in_ok-all.ensures.all);
 }
+
+pub next_deliveries-requires-clause-count : goal.next_deliveries-requires-clause-count
+next_deliveries-requires-clause-count c = has_all c.args.level.now c.loop.counter c.loop.known c.loop.invariant.found
 
 pub returns-then-eq-clause-found : goal.returns-then-eq-clause-found
 returns-then-eq-clause-found c =
