@@ -27,7 +27,6 @@ use Rattle.elan_check.proofs.Calls.{called_append}
 use Rattle.elan_judge.proofs.InScope.{Names, InScope, AllIn}
 use Rattle.elan_rules.proofs.Hung.{named_open}
 use Rattle.elan_meant.proofs.Told.{told_never_hangs}
-use Rattle.elan_meant.specs.Parts.{one_of, on_one}
 use Rattle.elan_check.proofs.Walks.{In}
 use Rattle.elan_check.proofs.Settled.{not_open}
 use Rattle.elan_rules.proofs.TypedCalls.{first_at}
@@ -120,7 +119,9 @@ module _ (kn : Known) where
 
   form_leaf : (z : Scope) (f : Form) (ps : Parts) → Names z f → (ms : List Meant) → ruled kn f ms ≡ hangs → Leaf z (called_by_all (phrase f ps ∷ []))
   form_leaf z (asking (form.named u at s x)) ps i ms e = named_leaf z u at s x ps i e
-  form_leaf z (asking (form.leave at s x)) ps i ms e = absurd (told_never_hangs (on_one (one_of ms) (c.leaving kn at (scope.left s x))) e)
+  form_leaf z (asking (form.leave at s x)) ps i [] e = absurd cc
+  form_leaf z (asking (form.leave at s x)) ps i (m ∷ []) e = absurd (told_never_hangs (c.leaving kn at (scope.left s x) m) e)
+  form_leaf z (asking (form.leave at s x)) ps i (m ∷ n ∷ ms) e = absurd cc
   form_leaf z (plain f) ps i ms e = absurd (told_never_hangs (rule f ms) e)
 
   wider : (z : Scope) (ns ms : List ℕ) → ((n : ℕ) → In n ns → In n ms) → Leaf z ns → Leaf z ms

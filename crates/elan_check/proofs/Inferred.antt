@@ -23,7 +23,7 @@ use Rattle.elan_meant.specs.Verdict as verdict
 use Rattle.elan_meant.specs.Verdict.{told}
 use Rattle.elan_scope.specs.Known.{delivery_at, leads_back}
 use Rattle.elan_scope.specs.declared.known.Known.{Known}
-use Rattle.elan_meant.specs.Parts.{one_of, on_one, actions_of}
+use Rattle.elan_meant.specs.Parts.{actions_of}
 use Rattle.value_rules.specs.Calls as r
 use Rattle.unit_rules.specs.Units.{or_last, last_value, ended, without_value}
 use Rattle.elan_rules.specs.Rules.{ruled}
@@ -164,14 +164,11 @@ module _ (j k : Known) (below : Below j k) where
   leaving_same at None v m n h g = absurd cc
   leaving_same at (Some e) v m n h g = left_by at e.0 v (r.agrees (delivery_at j e.1) v) (r.agrees (delivery_at k e.1) v) m n h g
 
-  leave_same : (at : ℕ) (o : Option (Exit × ℕ)) (q : Option Meant) (m n : Meant) → told (on_one q (r.leaving j at o)) ≡ gives m
-      → told (on_one q (r.leaving k at o)) ≡ gives n → m ≡ n
-  leave_same at o None m n h g = absurd cc
-  leave_same at o (Some v) m n h g = leaving_same at o v m n h g
-
   rule_same : (f : Form) (ms : List Meant) (m n : Meant) → ruled j f ms ≡ gives m → ruled k f ms ≡ gives n → m ≡ n
   rule_same (asking (form.named u at s x)) ms m n h i = named_same u at s x (find s x) m n h i
-  rule_same (asking (form.leave at s x)) ms m n h i = leave_same at (left s x) (one_of ms) m n h i
+  rule_same (asking (form.leave at s x)) [] m n h i = absurd cc
+  rule_same (asking (form.leave at s x)) (v ∷ []) m n h i = leaving_same at (left s x) v m n h i
+  rule_same (asking (form.leave at s x)) (v ∷ w ∷ vs) m n h i = absurd cc
   rule_same (plain f) ms m n h i = gives_is m n (sym h ∙ i)
 
   mutual

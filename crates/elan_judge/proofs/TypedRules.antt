@@ -15,7 +15,6 @@ use Rattle.elan_meant.specs.Parts as p
 use Rattle.value_rules.specs.Calls as r
 use Rattle.unit_rules.specs.Units as u
 use Rattle.choice_rules.specs.Choices as c
-use Rattle.unit_rules.specs.Loops as l
 use Rattle.elan_rules.specs.Rules as all
 use Rattle.elan_rules.specs.Rules.{rule, ruled}
 use Rattle.elan_rules.specs.Meaning.{judged, judged_all}
@@ -43,7 +42,10 @@ module _ (here : Stand) (s : Scope) (k : Known) (fits : Fits here s k) where
   assignment_by : (at : ℕ) (known : Bool) (ms : List Meant) (o : Option Callable) → AllGood ms → Gives Good (r.applied_as at known ms o)
       → Gives Good (all.assignment_as at ms o)
   assignment_by at known ms (Some c) g h = on_bind Good Good (r.called at c ms) u.alone h (alone_good here)
-  assignment_by at known ms None g h = ty.two here ms (u.assigned at) g (assigned_good here at)
+  assignment_by at known [] None g h = tt
+  assignment_by at known (m ∷ []) None g h = tt
+  assignment_by at known (m ∷ n ∷ []) None g h = assigned_good here at m n g.0 g.1.0
+  assignment_by at known (m ∷ n ∷ l ∷ ms) None g h = tt
 
   -- An own operator is called as operators are.
   assignment_good : (at : ℕ) (ms : List Meant) → AllGood ms → Gives Good (all.assignment at s ms)
@@ -57,9 +59,17 @@ module _ (here : Stand) (s : Scope) (k : Known) (fits : Fits here s k) where
   plain_rules (form.number at n) ms i g = number_good here at n
   plain_rules (form.truth at b) ms i g = truth_is here b
   plain_rules (form.applied at z sort x) ms i g = in_scope (λ y. r.applied at y sort x ms) z i (applied_good here s k fits at sort x ms g)
-  plain_rules (form.bracket at) ms i g = ty.one here ms (all.bracketed at) g (bracketed_good here at)
-  plain_rules (form.cand at) ms i g = ty.two here ms (all.cand at) g (cand_good here at)
-  plain_rules (form.cor at) ms i g = ty.two here ms (all.cor at) g (cor_good here at)
+  plain_rules (form.bracket at) [] i g = tt
+  plain_rules (form.bracket at) (a ∷ []) i g = bracketed_good here at a g.0
+  plain_rules (form.bracket at) (a ∷ b ∷ ms) i g = tt
+  plain_rules (form.cand at) [] i g = tt
+  plain_rules (form.cand at) (a ∷ []) i g = tt
+  plain_rules (form.cand at) (a ∷ b ∷ []) i g = cand_good here at a b g.0 g.1.0
+  plain_rules (form.cand at) (a ∷ b ∷ c ∷ ms) i g = tt
+  plain_rules (form.cor at) [] i g = tt
+  plain_rules (form.cor at) (a ∷ []) i g = tt
+  plain_rules (form.cor at) (a ∷ b ∷ []) i g = cor_good here at a b g.0 g.1.0
+  plain_rules (form.cor at) (a ∷ b ∷ c ∷ ms) i g = tt
   plain_rules (form.choice at) ms i g = choice_good here at ms g
   plain_rules (form.label at earlier n) ms i g = on_if Good (c.is_in earlier n) _ _ (λ e. tt) (λ e. tt)
   plain_rules (form.label_name at z x) ms i g = label_named_good here at (scope.is_known z Procedure x 0) (scope.find z x)
@@ -67,14 +77,34 @@ module _ (here : Stand) (s : Scope) (k : Known) (fits : Fits here s k) where
   plain_rules (form.selection at) [] i g = tt
   plain_rules (form.selection at) (m ∷ ms) i g = selected_good here at m ms g.0 g.1
   plain_rules (form.declares at z x) ms i g = in_scope (λ y. r.declared at (scope.find_own y x)) z i (declared_good here s k fits at x)
-  plain_rules (form.initial at) ms i g = ty.two here ms (u.initial at) g (initial_good here at)
+  plain_rules (form.initial at) [] i g = tt
+  plain_rules (form.initial at) (a ∷ []) i g = tt
+  plain_rules (form.initial at) (a ∷ b ∷ []) i g = initial_good here at a b g.0 g.1.0
+  plain_rules (form.initial at) (a ∷ b ∷ c ∷ ms) i g = tt
   plain_rules (form.declaration at) ms i g = ty.unit_typed here (p.actions_of ms) (ty.actions_of_typed here ms g)
-  plain_rules form.statement ms i g = ty.one here ms u.alone g (alone_good here)
+  plain_rules form.statement [] i g = tt
+  plain_rules form.statement (a ∷ []) i g = alone_good here a g.0
+  plain_rules form.statement (a ∷ b ∷ ms) i g = tt
   plain_rules (form.assignment at z) ms i g = in_scope (λ y. all.assignment at y ms) z i (assignment_good at ms g)
-  plain_rules (form.loop at) ms i g = ty.three here ms (l.loop at) g (loop_good here at)
-  plain_rules (form.count at w) ms i g = ty.six here ms (l.counted at w) g (counted_good here at w)
-  plain_rules form.without_value ms i g = ty.one here ms u.without_value g (without_value_good here)
-  plain_rules (form.must_deliver at t) ms i g = ty.one here ms (u.must_deliver at t) g (must_deliver_good here at t)
+  plain_rules (form.loop at) [] i g = tt
+  plain_rules (form.loop at) (a ∷ []) i g = tt
+  plain_rules (form.loop at) (a ∷ b ∷ []) i g = tt
+  plain_rules (form.loop at) (a ∷ b ∷ c ∷ []) i g = loop_good here at a b c g.0 g.1.0 g.1.1.0
+  plain_rules (form.loop at) (a ∷ b ∷ c ∷ d ∷ ms) i g = tt
+  plain_rules (form.count at w) [] i g = tt
+  plain_rules (form.count at w) (a ∷ []) i g = tt
+  plain_rules (form.count at w) (a ∷ b ∷ []) i g = tt
+  plain_rules (form.count at w) (a ∷ b ∷ c ∷ []) i g = tt
+  plain_rules (form.count at w) (a ∷ b ∷ c ∷ d ∷ []) i g = tt
+  plain_rules (form.count at w) (a ∷ b ∷ c ∷ d ∷ e ∷ []) i g = tt
+  plain_rules (form.count at w) (a ∷ b ∷ c ∷ d ∷ e ∷ f ∷ []) i g = counted_good here at w a b c d e f g.0 g.1.0 g.1.1.0 g.1.1.1.0 g.1.1.1.1.0 g.1.1.1.1.1.0
+  plain_rules (form.count at w) (a ∷ b ∷ c ∷ d ∷ e ∷ f ∷ h ∷ ms) i g = tt
+  plain_rules form.without_value [] i g = tt
+  plain_rules form.without_value (a ∷ []) i g = without_value_good here a g.0
+  plain_rules form.without_value (a ∷ b ∷ ms) i g = tt
+  plain_rules (form.must_deliver at t) [] i g = tt
+  plain_rules (form.must_deliver at t) (a ∷ []) i g = must_deliver_good here at t a g.0
+  plain_rules (form.must_deliver at t) (a ∷ b ∷ ms) i g = tt
   plain_rules form.units ms i g = in_order_good here ms g
   plain_rules (form.heading at z sort x ps missing) ms i g = absurd i
   plain_rules (form.body o q) ms i g = absurd i
@@ -85,8 +115,10 @@ module _ (here : Stand) (s : Scope) (k : Known) (fits : Fits here s k) where
   rules : (f : Form) (ms : List Meant) → Names s f → AllGood ms → MayGive Good (ruled k f ms)
   rules (asking (form.named u at z x)) ms i g =
       subst (λ (y : Scope). MayGive Good (r.named k u at y x (scope.find y x))) (sym i) (named_good here s k fits u at x)
-  rules (asking (form.leave at z x)) ms i g =
-      on_told Good _ (ty.one here ms _ g (λ m h. in_scope (λ y. r.leaving k at (scope.left y x) m) z i (leaving_good here s k fits at x m h)))
+  rules (asking (form.leave at z x)) [] i g = tt
+  rules (asking (form.leave at z x)) (m ∷ []) i g =
+      on_told Good _ (in_scope (λ y. r.leaving k at (scope.left y x) m) z i (leaving_good here s k fits at x m g.0))
+  rules (asking (form.leave at z x)) (m ∷ n ∷ ms) i g = tt
   rules (plain f) ms i g = on_told Good (rule f ms) (plain_rules f ms i g)
 
   -- ---- all phrases

@@ -8,3 +8,4 @@ pub mod TypedPerformed
 pub mod TypedCalls
 pub mod Hung
 pub mod Assigned
+pub mod Arity

@@ -101,37 +101,6 @@ module _ (here : Stand) where
   AllGood [] = Unit {0}
   AllGood (m ∷ ms) = Good m × AllGood ms
 
-  pub one : (ms : List Meant) (f : Meant → Verdict Meant) → AllGood ms → ((m : Meant) → Good m → Gives Good (f m)) → Gives Good (r.on_one (r.one_of ms) f)
-  one [] f g h = tt
-  one (m ∷ []) f g h = h m g.0
-  one (m ∷ n ∷ ms) f g h = tt
-
-  pub two : (ms : List Meant) (f : Meant → Meant → Verdict Meant) → AllGood ms → ((m n : Meant) → Good m → Good n → Gives Good (f m n))
-      → Gives Good (r.on_two (r.two_of ms) f)
-  two [] f g h = tt
-  two (m ∷ []) f g h = tt
-  two (m ∷ n ∷ []) f g h = h m n g.0 g.1.0
-  two (m ∷ n ∷ k ∷ ms) f g h = tt
-
-  pub three : (ms : List Meant) (f : Meant → Meant → Meant → Verdict Meant) → AllGood ms → ((m n k : Meant) → Good m → Good n → Good k → Gives Good (f m n k))
-      → Gives Good (r.on_three (r.three_of ms) f)
-  three [] f g h = tt
-  three (m ∷ []) f g h = tt
-  three (m ∷ n ∷ []) f g h = tt
-  three (m ∷ n ∷ k ∷ []) f g h = h m n k g.0 g.1.0 g.1.1.0
-  three (m ∷ n ∷ k ∷ l ∷ ms) f g h = tt
-
-  pub six : (ms : List Meant) (f : Meant → Meant → Meant → Meant → Meant → Meant → Verdict Meant) → AllGood ms →
-      ((m n k l i j : Meant) → Good m → Good n → Good k → Good l → Good i → Good j → Gives Good (f m n k l i j)) → Gives Good (r.on_six (r.six_of ms) f)
-  six [] f g h = tt
-  six (m ∷ []) f g h = tt
-  six (m ∷ n ∷ []) f g h = tt
-  six (m ∷ n ∷ k ∷ []) f g h = tt
-  six (m ∷ n ∷ k ∷ l ∷ []) f g h = tt
-  six (m ∷ n ∷ k ∷ l ∷ i ∷ []) f g h = tt
-  six (m ∷ n ∷ k ∷ l ∷ i ∷ j ∷ []) f g h = h m n k l i j g.0 g.1.0 g.1.1.0 g.1.1.1.0 g.1.1.1.1.0 g.1.1.1.1.1.0
-  six (m ∷ n ∷ k ∷ l ∷ i ∷ j ∷ p ∷ ms) f g h = tt
-
   -- each two parts
   abbrev pub PairsGood : List (Meant × Meant) → Type 0
   PairsGood [] = Unit {0}

@@ -9,7 +9,7 @@ use Rattle.elan_scope.specs.Scope.{Callable, find, find_own, is_known, left, fir
 use Rattle.elan_meant.specs.Verdict.{Verdict, gives, ◌>>=◌, told}
 use Rattle.elan_meant.specs.Operands.{chosen, becomes}
 use Rattle.elan_scope.specs.declared.known.Known.{Known}
-use Rattle.elan_meant.specs.Parts.{unasked, unit_of, actions_of, one_of, two_of, three_of, six_of, on_one, on_two, on_three, on_six}
+use Rattle.elan_meant.specs.Parts.{unasked, unit_of, actions_of}
 use Rattle.elan_scope.specs.declared.scope.Scope.{Scope}
 use Rattle.elan_scope.specs.declared.heading.Sort.TheVariants.{Procedure, Operator}
 use Rattle.value_rules.specs.Calls.{named, applied, called, declared, headed, leaving}
@@ -25,7 +25,8 @@ use Rattle.elan_scope.specs.Ruled.{Ruled}
 -- An own operator `:=` is looked at first. It is called, and the assignment delivers what it delivers.
 abbrev pub assignment_as : ℕ → List Meant → Option Callable → Verdict Meant
 assignment_as at ms (Some c) = called at c ms >>= alone
-assignment_as at ms None = on_two (two_of ms) (assigned at)
+assignment_as at (l ∷ r ∷ []) None = assigned at l r
+assignment_as at ms None = unasked
 
 abbrev pub assignment : ℕ → Scope → List Meant → Verdict Meant
 assignment at s ms = assignment_as at ms (chosen s Operator becomes ms)
@@ -34,40 +35,41 @@ assignment at s ms = assignment_as at ms (chosen s Operator becomes ms)
 
 abbrev pub rule : Plain → List Meant → Verdict Meant
 rule form.absent ms = gives Absent
-rule form.not_built ms = unasked
 rule (form.number at n) ms = number at n
 rule (form.truth at b) ms = gives (Value at Truths (value.Truth b))
 rule (form.applied at s sort x) ms = applied at s sort x ms
-rule (form.bracket at) ms = on_one (one_of ms) (bracketed at)
-rule (form.cand at) ms = on_two (two_of ms) (cand at)
-rule (form.cor at) ms = on_two (two_of ms) (cor at)
+rule (form.bracket at) (m ∷ []) = bracketed at m
+rule (form.cand at) (l ∷ r ∷ []) = cand at l r
+rule (form.cor at) (l ∷ r ∷ []) = cor at l r
 rule (form.choice at) ms = choice at ms
 rule (form.label at earlier n) ms = label_is at earlier n
 rule (form.label_name at s x) ms = label_named at (is_known s Procedure x 0) (find s x)
 rule form.labels ms = gives (Labels (labels_of ms))
-rule (form.selection at) [] = unasked
 rule (form.selection at) (m ∷ ms) = selected at m ms
 rule (form.declares at s x) ms = declared at (find_own s x)
-rule (form.initial at) ms = on_two (two_of ms) (initial at)
+rule (form.initial at) (n ∷ m ∷ []) = initial at n m
 rule (form.declaration at) ms = gives (unit_of (actions_of ms))
-rule form.statement ms = on_one (one_of ms) alone
+rule form.statement (m ∷ []) = alone m
 rule (form.assignment at s) ms = assignment at s ms
-rule (form.loop at) ms = on_three (three_of ms) (loop at)
-rule (form.count at w) ms = on_six (six_of ms) (counted at w)
-rule form.without_value ms = on_one (one_of ms) without_value
-rule (form.must_deliver at t) ms = on_one (one_of ms) (must_deliver at t)
+rule (form.loop at) (c ∷ us ∷ u ∷ []) = loop at c us u
+rule (form.count at w) (n ∷ f ∷ l ∷ c ∷ us ∷ u ∷ []) = counted at w n f l c us u
+rule form.without_value (m ∷ []) = without_value m
+rule (form.must_deliver at t) (m ∷ []) = must_deliver at t m
 rule form.units ms = gives (in_order ms)
 rule (form.heading at s sort x ps missing) ms = headed at missing (first_heading (is_alike sort x (types_of ps)) s.headings)
-rule (form.body o r) ms = on_one (one_of ms) (λ m. gives (body_with o (content_as r m)))
+rule (form.body o r) (m ∷ []) = gives (body_with o (content_as r m))
 rule form.routine ms = gives (Bodies (bodies_of ms))
-rule (form.refinement o) ms = on_two (two_of ms) (λ n m. gives (body_with o (content_of m)))
+rule (form.refinement o) (n ∷ m ∷ []) = gives (body_with o (content_of m))
 rule form.level ms = gives (Level (actions_of ms) (bodies_of ms))
+-- No phrase has another number of parts, and what is not built has no meaning.
+rule f ms = unasked
 
 -- ---- the rules of forms that ask what is known of bodies
 
 abbrev pub asked : Known → Asking → List Meant → Ruled Meant
 asked k (form.named u at s x) ms = named k u at s x (find s x)
-asked k (form.leave at s x) ms = told (on_one (one_of ms) (leaving k at (left s x)))
+asked k (form.leave at s x) (m ∷ []) = told (leaving k at (left s x) m)
+asked k (form.leave at s x) ms = told unasked
 
 -- ---- the rules of all forms
 

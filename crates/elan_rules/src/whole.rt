@@ -17,6 +17,7 @@ use unit_rules::store::initial;
 use value_rules::value::{cand, cor};
 
 /// CAND.
+#[tactic(auto, using(crate::proofs::Arity::cand_parts))]
 pub fn cand_parts(alloc: Global, at: u32, parts: List<Meant>) -> Judged
     ensures { Tells result (rule (form.cand at) parts) }
 {
@@ -27,6 +28,7 @@ pub fn cand_parts(alloc: Global, at: u32, parts: List<Meant>) -> Judged
 }
 
 /// COR.
+#[tactic(auto, using(crate::proofs::Arity::cor_parts))]
 pub fn cor_parts(alloc: Global, at: u32, parts: List<Meant>) -> Judged
     ensures { Tells result (rule (form.cor at) parts) }
 {
@@ -37,6 +39,7 @@ pub fn cor_parts(alloc: Global, at: u32, parts: List<Meant>) -> Judged
 }
 
 /// A name in its declaration, and its initial value.
+#[tactic(auto, using(crate::proofs::Arity::initial_parts))]
 pub fn initial_parts(alloc: Global, at: u32, parts: List<Meant>) -> Judged
     ensures { Tells result (rule (form.initial at) parts) }
 {
@@ -47,6 +50,7 @@ pub fn initial_parts(alloc: Global, at: u32, parts: List<Meant>) -> Judged
 }
 
 /// A loop: the condition of WHILE, its units, and the condition of UNTIL.
+#[tactic(auto, using(crate::proofs::Arity::loop_parts))]
 pub fn loop_parts(alloc: Global, at: u32, parts: List<Meant>) -> Judged
     ensures { Tells result (rule (form.loop at) parts) }
 {
@@ -65,6 +69,7 @@ pub fn loop_parts(alloc: Global, at: u32, parts: List<Meant>) -> Judged
 }
 
 /// A loop with a counter: the counter, its first value, its limit, and what a loop has.
+#[tactic(auto, using(crate::proofs::Arity::count_parts))]
 pub fn count_parts(alloc: Global, at: u32, way: Way, parts: List<Meant>) -> Judged
     ensures { Tells result (rule (form.count at way) parts) }
 {
@@ -85,6 +90,7 @@ pub fn count_parts(alloc: Global, at: u32, way: Way, parts: List<Meant>) -> Judg
 }
 
 /// A refinement: its name, and its units.
+#[tactic(auto, using(crate::proofs::Arity::refinement_parts))]
 pub fn refinement_parts(alloc: Global, owner: Owner, parts: List<Meant>) -> Judged
     ensures { Tells result (rule (form.refinement owner) parts) }
 {
