@@ -4,13 +4,13 @@ use Rattle.elan_tree.specs.declared.written_type.TypePhrase.{TypePhrase}
 use Rattle.elan_tree.specs.declared.phrase.Expr.{Expr}
 use Rattle.elan_tree.specs.declared.phrase.Unit.{Unit as Phrase}
 use Rattle.elan_grammar.specs.declared.error.ParseError.{ParseError}
-use Rattle.elan_grammar.specs.Kinds.{is_level}
 use Rattle.elan_grammar.specs.declared.tall.Tall.{Tall}
 use Rattle.elan_grammar.specs.Rule.{Tokens, refusal, Rule, iterate, Parses, AtMost, Below}
 use Rattle.elan_grammar.specs.Types.{types, a_type}
 use Rattle.elan_grammar.specs.Expressions.{Language, operand, dyadic, level}
 use Rattle.elan_grammar.specs.Units.{units, phrases}
 use Rattle.elan_grammar.specs.Depth.{type_depth, expr_depth, unit_depth, deepest_of}
+use Rattle.elan_grammar.proofs.Sets.{is_level}
 
 -- what parses a rule from where a reading of another ended parses all of it
 pub parses_from : {A : Type 0} (r s : Rule A) (depth : A → ℕ) (P Q : ℕ → Type 0) (all old new : Tokens) (result : Result (Tall A) ParseError)
@@ -43,9 +43,9 @@ unfolding level
 level_err inner n i j xs e h r = rw (h, r) refl
 
 pub level_ok : (inner : Language) (n i j : ℕ) (xs ys : Tokens) (a : Expr) → i ≡ suc j → (level inner n j).run xs ≡ Ok (a, ys)
-    → (level inner n i).run xs ≡ (iterate (dyadic inner n j) (is_level (j + 1)) a).run ys
+    → (level inner n i).run xs ≡ (iterate (dyadic inner n j) a).run ys
 unfolding level
-level_ok inner n i j xs ys a h r = rw (h, r, add-one) refl
+level_ok inner n i j xs ys a h r = rw (h, r) refl
 
 -- ---- phrases
 
