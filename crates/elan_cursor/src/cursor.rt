@@ -1,6 +1,6 @@
 //! A cursor over tokens: it stands before the next one.
 
-ghost use Rattle.std.specs.Prelude.{◌≡◌, ◌<◌, nat_lt, Ok, Err, IfOk};
+ghost use Rattle.std.specs.Prelude.{◌≡◌, ◌<◌, ◌||◌, nat_lt, Ok, Err, IfOk};
 ghost use Rattle.elan_grammar.specs.Rule as rule;
 ghost use Rattle.elan_grammar.specs.Rule.{Gives};
 ghost use Rattle.elan_grammar.specs.Kinds as kinds;
@@ -147,6 +147,22 @@ impl<'a> Cursor<'a> {
         ensures { result ≡ (spec.word (spec.joint_of level)).starts self.now.rest.now }
     {
         sees!(self, word @ (Word::Bold(_) | Word::Sign(_) | Word::Key(Key::Cand | Key::Cor)) if is_level(level, kind_of(word)))
+    }
+
+    /// Whether something stands next that an expression begins with.
+    pub fn sees_expression(&self) -> bool
+        ensures { result ≡ (spec.word spec.monadic_of).starts self.now.rest.now || ((spec.word spec.literal_of).starts self.now.rest.now
+            || ((spec.mark Sign.LeftRound).starts self.now.rest.now || ((spec.keyword Key.Concr).starts self.now.rest.now
+            || ((spec.keyword Key.If).starts self.now.rest.now || ((spec.keyword Key.Select).starts self.now.rest.now
+            || (spec.ident).starts self.now.rest.now))))) }
+    {
+        self.sees_monadic()
+            || self.sees_literal()
+            || self.sees_sign(Sign::LeftRound)
+            || self.sees_key(Key::Concr)
+            || self.sees_key(Key::If)
+            || self.sees_key(Key::Select)
+            || self.sees_ident()
     }
 
     /// The refusal at this place.

@@ -29,7 +29,7 @@ impl<
         self.expression(cursor, WORD_LEVEL)
     }
 
-    #[tactic(auto, unfolding(elan_grammar::specs::Units::a_limit, elan_grammar::specs::Units::upto, elan_grammar::specs::Units::downto))]
+    #[tactic(auto, unfolding(elan_grammar::specs::Units::a_limit, elan_grammar::specs::Units::upto, elan_grammar::specs::Units::downto), using(elan_grammar::proofs::Starts::of_units))]
     fn a_limit(&self, cursor: &mut Cursor<'_>) -> Result<Tall<Limit>, ParseError>
         requires nests { Nests self.now.depth (E.pre self.now.expression) (E.post self.now.expression) (U.pre self.now.units) (U.post self.now.units) }
         requires room { 0 < self.now.depth }
