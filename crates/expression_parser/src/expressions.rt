@@ -6,7 +6,7 @@ ghost use Rattle.elan_grammar.specs.Rule.{Parses, AtMost, Below, IsTall};
 ghost use Rattle.elan_grammar.specs.Kinds.{word_level};
 ghost use Rattle.elan_grammar.specs.Expressions as spec;
 ghost use Rattle.elan_grammar.specs.Units as units;
-ghost use Rattle.form_parser.specs.Nests.{Nests};
+ghost use Rattle.expression_parser.specs.Nests.{Nests};
 ghost use Rattle.elan_grammar.specs.Depth.{expr_depth, expr_place};
 
 use containers::{Boxed, List};
@@ -89,7 +89,7 @@ impl<
 
     /// An expression in another phrase.
     pub fn inner(&self, cursor: &mut Cursor<'_>, level: u8) -> Result<Tall<Expr>, ParseError>
-        requires nests { Nests self.now.depth (E.pre self.now.expression) (E.post self.now.expression) (U.pre self.now.units) (U.post self.now.units) }
+        requires nests { Nests E.Fn U.Fn self.now }
         requires level { level ≤ word_level }
         ensures { Parses ((units.phrases self.now.depth).level level) expr_depth (Below self.now.depth) cursor.old.rest.now result cursor.new.rest.now }
     {
@@ -98,7 +98,7 @@ impl<
 
     #[tactic(auto, unfolding(elan_grammar::specs::Expressions::applied))]
     fn applied(&self, cursor: &mut Cursor<'_>) -> Result<Tall<Expr>, ParseError>
-        requires { Nests self.now.depth (E.pre self.now.expression) (E.post self.now.expression) (U.pre self.now.units) (U.post self.now.units) }
+        requires { Nests E.Fn U.Fn self.now }
         ensures { Parses (spec.applied (units.phrases self.now.depth) self.now.depth) expr_depth (AtMost self.now.depth)
             cursor.old.rest.now result cursor.new.rest.now }
     {
@@ -118,7 +118,7 @@ impl<
 
     #[tactic(auto, unfolding(elan_grammar::specs::Expressions::operand), using(elan_grammar::proofs::Starts::of_expressions))]
     fn operand(&self, cursor: &mut Cursor<'_>) -> Result<Tall<Expr>, ParseError>
-        requires { Nests self.now.depth (E.pre self.now.expression) (E.post self.now.expression) (U.pre self.now.units) (U.post self.now.units) }
+        requires { Nests E.Fn U.Fn self.now }
         ensures { Parses (spec.operand (units.phrases self.now.depth) self.now.depth) expr_depth (AtMost self.now.depth)
             cursor.old.rest.now result cursor.new.rest.now }
     {
@@ -136,7 +136,7 @@ impl<
         level: u8,
         height: u32,
     ) -> Result<Tall<Right>, ParseError>
-        requires nests { Nests self.now.depth (E.pre self.now.expression) (E.post self.now.expression) (U.pre self.now.units) (U.post self.now.units) }
+        requires nests { Nests E.Fn U.Fn self.now }
         requires level { level < word_level }
         ensures parses { Parses (spec.right_part (units.phrases self.now.depth) self.now.depth level height) (λ t. expr_depth t.operand) (Below self.now.depth)
             cursor.old.rest.now result cursor.new.rest.now }
@@ -162,7 +162,7 @@ impl<
         level: u8,
         left: Tall<Expr>,
     ) -> Result<Tall<Expr>, ParseError>
-        requires nests { Nests self.now.depth (E.pre self.now.expression) (E.post self.now.expression) (U.pre self.now.units) (U.post self.now.units) }
+        requires nests { Nests E.Fn U.Fn self.now }
         requires level { level < word_level }
         requires tall { left.height ≡ expr_depth left.tree }
         ensures { Parses (spec.dyadic (units.phrases self.now.depth) self.now.depth level left.tree) expr_depth (AtMost self.now.depth)
@@ -187,7 +187,7 @@ impl<
         level: u8,
         mut left: Tall<Expr>,
     ) -> Result<Tall<Expr>, ParseError>
-        requires nests { Nests self.now.depth (E.pre self.now.expression) (E.post self.now.expression) (U.pre self.now.units) (U.post self.now.units) }
+        requires nests { Nests E.Fn U.Fn self.now }
         requires tall { IsTall expr_depth (AtMost self.now.depth) left }
         requires level { level < word_level }
         ensures { Parses (rule.iterate (spec.dyadic (units.phrases self.now.depth) self.now.depth level) left.tree)
@@ -204,7 +204,7 @@ impl<
 
     /// An expression whose operators have at most this level, from 1 for those that hold most tightly to 6; at 0 an operand alone.
     pub fn level(&self, cursor: &mut Cursor<'_>, level: u8) -> Result<Tall<Expr>, ParseError>
-        requires nests { Nests self.now.depth (E.pre self.now.expression) (E.post self.now.expression) (U.pre self.now.units) (U.post self.now.units) }
+        requires nests { Nests E.Fn U.Fn self.now }
         requires level { level ≤ word_level }
         ensures { Parses (spec.level (units.phrases self.now.depth) self.now.depth level) expr_depth (AtMost self.now.depth)
             cursor.old.rest.now result cursor.new.rest.now }

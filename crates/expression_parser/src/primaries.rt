@@ -4,7 +4,7 @@ ghost use Rattle.std.specs.Prelude.{◌≡◌, ◌<◌, ◌+◌, max, IfOk};
 ghost use Rattle.elan_grammar.specs.Rule.{Gives, Parses, AtMost, Below, IsTall};
 ghost use Rattle.elan_grammar.specs.Expressions as spec;
 ghost use Rattle.elan_grammar.specs.Units as units;
-ghost use Rattle.form_parser.specs.Nests.{Nests};
+ghost use Rattle.expression_parser.specs.Nests.{Nests};
 ghost use Rattle.elan_grammar.specs.Depth.{expr_depth, deepest_of};
 
 use crate::expressions::{Grammar, expr_place};
@@ -22,7 +22,7 @@ impl<
 > Grammar<E, U> {
     #[tactic(auto, unfolding(elan_grammar::specs::Expressions::bracket))]
     fn bracket(&self, cursor: &mut Cursor<'_>) -> Result<Tall<Expr>, ParseError>
-        requires { Nests self.now.depth (E.pre self.now.expression) (E.post self.now.expression) (U.pre self.now.units) (U.post self.now.units) }
+        requires { Nests E.Fn U.Fn self.now }
         ensures { Parses (spec.bracket (units.phrases self.now.depth) self.now.depth) expr_depth (AtMost self.now.depth)
             cursor.old.rest.now result cursor.new.rest.now }
     {
@@ -39,7 +39,7 @@ impl<
 
     #[tactic(auto, unfolding(elan_grammar::specs::Expressions::concr))]
     fn concr(&self, cursor: &mut Cursor<'_>) -> Result<Tall<Expr>, ParseError>
-        requires { Nests self.now.depth (E.pre self.now.expression) (E.post self.now.expression) (U.pre self.now.units) (U.post self.now.units) }
+        requires { Nests E.Fn U.Fn self.now }
         ensures { Parses (spec.concr (units.phrases self.now.depth) self.now.depth) expr_depth (AtMost self.now.depth)
             cursor.old.rest.now result cursor.new.rest.now }
     {
@@ -66,7 +66,7 @@ impl<
 
     #[tactic(auto, unfolding(elan_grammar::specs::Expressions::actual, elan_grammar::specs::Expressions::procedure), using(elan_grammar::proofs::Starts::of_expressions))]
     fn actual(&self, cursor: &mut Cursor<'_>) -> Result<Tall<Expr>, ParseError>
-        requires nests { Nests self.now.depth (E.pre self.now.expression) (E.post self.now.expression) (U.pre self.now.units) (U.post self.now.units) }
+        requires nests { Nests E.Fn U.Fn self.now }
         requires room { 0 < self.now.depth }
         ensures { Parses (spec.actual (units.phrases self.now.depth) self.now.depth) expr_depth (Below self.now.depth)
             cursor.old.rest.now result cursor.new.rest.now }
@@ -80,7 +80,7 @@ impl<
 
     #[tactic(auto, unfolding(elan_grammar::specs::Expressions::actuals), using(elan_grammar::proofs::Turns::turns, elan_grammar::proofs::Deepest::deepens))]
     fn actuals(&self, cursor: &mut Cursor<'_>) -> Result<Tall<List<Expr>>, ParseError>
-        requires nests { Nests self.now.depth (E.pre self.now.expression) (E.post self.now.expression) (U.pre self.now.units) (U.post self.now.units) }
+        requires nests { Nests E.Fn U.Fn self.now }
         requires room { 0 < self.now.depth }
         ensures { Parses (spec.actuals (units.phrases self.now.depth) self.now.depth) (deepest_of expr_depth) (Below self.now.depth)
             cursor.old.rest.now result cursor.new.rest.now }
@@ -98,7 +98,7 @@ impl<
 
     #[tactic(auto, unfolding(elan_grammar::specs::Expressions::call))]
     fn call(&self, cursor: &mut Cursor<'_>, name: Name) -> Result<Tall<Expr>, ParseError>
-        requires { Nests self.now.depth (E.pre self.now.expression) (E.post self.now.expression) (U.pre self.now.units) (U.post self.now.units) }
+        requires { Nests E.Fn U.Fn self.now }
         ensures { Parses (spec.call (units.phrases self.now.depth) self.now.depth name) expr_depth (AtMost self.now.depth)
             cursor.old.rest.now result cursor.new.rest.now }
     {
@@ -115,7 +115,7 @@ impl<
 
     #[tactic(auto, unfolding(elan_grammar::specs::Expressions::named), using(elan_grammar::proofs::Starts::of_expressions))]
     fn named(&self, cursor: &mut Cursor<'_>) -> Result<Tall<Expr>, ParseError>
-        requires { Nests self.now.depth (E.pre self.now.expression) (E.post self.now.expression) (U.pre self.now.units) (U.post self.now.units) }
+        requires { Nests E.Fn U.Fn self.now }
         ensures { Parses (spec.named (units.phrases self.now.depth) self.now.depth) expr_depth (AtMost self.now.depth)
             cursor.old.rest.now result cursor.new.rest.now }
     {
@@ -131,7 +131,7 @@ impl<
 
     #[tactic(auto, unfolding(elan_grammar::specs::Expressions::head), using(elan_grammar::proofs::Starts::of_expressions))]
     fn head(&self, cursor: &mut Cursor<'_>) -> Result<Tall<Expr>, ParseError>
-        requires { Nests self.now.depth (E.pre self.now.expression) (E.post self.now.expression) (U.pre self.now.units) (U.post self.now.units) }
+        requires { Nests E.Fn U.Fn self.now }
         ensures { Parses (spec.head (units.phrases self.now.depth) self.now.depth) expr_depth (AtMost self.now.depth)
             cursor.old.rest.now result cursor.new.rest.now }
     {
@@ -153,7 +153,7 @@ impl<
 
     #[tactic(auto, unfolding(elan_grammar::specs::Expressions::index_part))]
     fn index_part(&self, cursor: &mut Cursor<'_>, height: u32) -> Result<Tall<Expr>, ParseError>
-        requires { Nests self.now.depth (E.pre self.now.expression) (E.post self.now.expression) (U.pre self.now.units) (U.post self.now.units) }
+        requires { Nests E.Fn U.Fn self.now }
         ensures parses { Parses (spec.index_part (units.phrases self.now.depth) self.now.depth height) expr_depth (Below self.now.depth)
             cursor.old.rest.now result cursor.new.rest.now }
         ensures below { IfOk result (λ _. height < self.now.depth) }
@@ -167,7 +167,7 @@ impl<
 
     #[tactic(auto, unfolding(elan_grammar::specs::Expressions::index))]
     fn index(&self, cursor: &mut Cursor<'_>, of: Tall<Expr>) -> Result<Tall<Expr>, ParseError>
-        requires nests { Nests self.now.depth (E.pre self.now.expression) (E.post self.now.expression) (U.pre self.now.units) (U.post self.now.units) }
+        requires nests { Nests E.Fn U.Fn self.now }
         requires tall { of.height ≡ expr_depth of.tree }
         ensures { Parses (spec.index (units.phrases self.now.depth) self.now.depth of.tree) expr_depth (AtMost self.now.depth)
             cursor.old.rest.now result cursor.new.rest.now }
@@ -196,7 +196,7 @@ impl<
 
     #[tactic(auto, unfolding(elan_grammar::specs::Expressions::field_of))]
     fn field_of(&self, cursor: &mut Cursor<'_>, of: Tall<Expr>) -> Result<Tall<Expr>, ParseError>
-        requires nests { Nests self.now.depth (E.pre self.now.expression) (E.post self.now.expression) (U.pre self.now.units) (U.post self.now.units) }
+        requires nests { Nests E.Fn U.Fn self.now }
         requires tall { of.height ≡ expr_depth of.tree }
         ensures { Parses (spec.field_of (units.phrases self.now.depth) self.now.depth of.tree) expr_depth (AtMost self.now.depth)
             cursor.old.rest.now result cursor.new.rest.now }
@@ -213,7 +213,7 @@ impl<
 
     #[tactic(auto, unfolding(elan_grammar::specs::Expressions::longer), using(elan_grammar::proofs::Starts::of_expressions))]
     fn longer(&self, cursor: &mut Cursor<'_>, of: Tall<Expr>) -> Result<Tall<Expr>, ParseError>
-        requires nests { Nests self.now.depth (E.pre self.now.expression) (E.post self.now.expression) (U.pre self.now.units) (U.post self.now.units) }
+        requires nests { Nests E.Fn U.Fn self.now }
         requires tall { of.height ≡ expr_depth of.tree }
         ensures { Parses (spec.longer (units.phrases self.now.depth) self.now.depth of.tree) expr_depth (AtMost self.now.depth)
             cursor.old.rest.now result cursor.new.rest.now }
@@ -228,7 +228,7 @@ impl<
     /// What no operator takes apart, with the indices and fields behind it.
     #[tactic(auto, unfolding(elan_grammar::specs::Expressions::prim), using(elan_grammar::proofs::Turns::turns, elan_grammar::proofs::Starts::of_expressions))]
     pub fn prim(&self, cursor: &mut Cursor<'_>) -> Result<Tall<Expr>, ParseError>
-        requires { Nests self.now.depth (E.pre self.now.expression) (E.post self.now.expression) (U.pre self.now.units) (U.post self.now.units) }
+        requires { Nests E.Fn U.Fn self.now }
         ensures { Parses (spec.prim (units.phrases self.now.depth) self.now.depth) expr_depth (AtMost self.now.depth)
             cursor.old.rest.now result cursor.new.rest.now }
     {

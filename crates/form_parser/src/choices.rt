@@ -23,7 +23,7 @@ impl<
 > Inner<E, U> {
     #[tactic(auto, unfolding(elan_grammar::specs::Expressions::branch))]
     fn branch(&self, cursor: &mut Cursor<'_>) -> Result<Tall<Branch>, ParseError>
-        requires { Nests self.now.depth (E.pre self.now.expression) (E.post self.now.expression) (U.pre self.now.units) (U.post self.now.units) }
+        requires { Nests E.Fn U.Fn self.now }
         ensures { Parses (spec.branch (units.phrases self.now.depth) self.now.depth) branch_depth (Below self.now.depth)
             cursor.old.rest.now result cursor.new.rest.now }
     {
@@ -40,7 +40,7 @@ impl<
 
     #[tactic(auto, unfolding(elan_grammar::specs::Expressions::branches), using(elan_grammar::proofs::Turns::turns, elan_grammar::proofs::Deepest::deepens))]
     fn branches(&self, cursor: &mut Cursor<'_>) -> Result<Tall<List<Branch>>, ParseError>
-        requires { Nests self.now.depth (E.pre self.now.expression) (E.post self.now.expression) (U.pre self.now.units) (U.post self.now.units) }
+        requires { Nests E.Fn U.Fn self.now }
         ensures { Parses (spec.branches (units.phrases self.now.depth) self.now.depth) (deepest_of branch_depth) (Below self.now.depth)
             cursor.old.rest.now result cursor.new.rest.now }
     {
@@ -57,7 +57,7 @@ impl<
 
     #[tactic(auto, unfolding(elan_grammar::specs::Expressions::else_part))]
     fn else_part(&self, cursor: &mut Cursor<'_>) -> Result<Tall<Option<List<Unit>>>, ParseError>
-        requires nests { Nests self.now.depth (E.pre self.now.expression) (E.post self.now.expression) (U.pre self.now.units) (U.post self.now.units) }
+        requires nests { Nests E.Fn U.Fn self.now }
         requires room { 0 < self.now.depth }
         ensures { Parses (spec.else_part (units.phrases self.now.depth) self.now.depth) (if_any (deepest_of unit_depth)) (Below self.now.depth)
             cursor.old.rest.now result cursor.new.rest.now }
@@ -90,7 +90,7 @@ impl<
     /// IF with its branches.
     #[tactic(auto, unfolding(elan_grammar::specs::Expressions::choice, elan_grammar::specs::Expressions::choice_end))]
     pub fn choice(&self, cursor: &mut Cursor<'_>) -> Result<Tall<Expr>, ParseError>
-        requires { Nests self.now.depth (E.pre self.now.expression) (E.post self.now.expression) (U.pre self.now.units) (U.post self.now.units) }
+        requires { Nests E.Fn U.Fn self.now }
         ensures { Parses (spec.choice (units.phrases self.now.depth) self.now.depth) expr_depth (AtMost self.now.depth)
             cursor.old.rest.now result cursor.new.rest.now }
     {
@@ -113,7 +113,7 @@ impl<
 
     #[tactic(auto, unfolding(elan_grammar::specs::Expressions::a_case))]
     fn a_case(&self, cursor: &mut Cursor<'_>) -> Result<Tall<Case>, ParseError>
-        requires { Nests self.now.depth (E.pre self.now.expression) (E.post self.now.expression) (U.pre self.now.units) (U.post self.now.units) }
+        requires { Nests E.Fn U.Fn self.now }
         ensures { Parses (spec.a_case (units.phrases self.now.depth) self.now.depth) case_depth (Below self.now.depth)
             cursor.old.rest.now result cursor.new.rest.now }
     {
@@ -133,7 +133,7 @@ impl<
 
     #[tactic(auto, unfolding(elan_grammar::specs::Expressions::cases), using(elan_grammar::proofs::Turns::turns, elan_grammar::proofs::Deepest::deepens, elan_grammar::proofs::Starts::of_expressions))]
     fn cases(&self, cursor: &mut Cursor<'_>) -> Result<Tall<List<Case>>, ParseError>
-        requires { Nests self.now.depth (E.pre self.now.expression) (E.post self.now.expression) (U.pre self.now.units) (U.post self.now.units) }
+        requires { Nests E.Fn U.Fn self.now }
         ensures { Parses (spec.cases (units.phrases self.now.depth) self.now.depth) (deepest_of case_depth) (Below self.now.depth)
             cursor.old.rest.now result cursor.new.rest.now }
     {
@@ -152,7 +152,7 @@ impl<
         &self,
         cursor: &mut Cursor<'_>,
     ) -> Result<Tall<Option<List<Unit>>>, ParseError>
-        requires nests { Nests self.now.depth (E.pre self.now.expression) (E.post self.now.expression) (U.pre self.now.units) (U.post self.now.units) }
+        requires nests { Nests E.Fn U.Fn self.now }
         requires room { 0 < self.now.depth }
         ensures { Parses (spec.otherwise_part (units.phrases self.now.depth) self.now.depth) (if_any (deepest_of unit_depth)) (Below self.now.depth)
             cursor.old.rest.now result cursor.new.rest.now }
@@ -176,7 +176,7 @@ impl<
 
     #[tactic(auto, unfolding(elan_grammar::specs::Expressions::select_parts))]
     fn select_parts(&self, cursor: &mut Cursor<'_>) -> Result<Tall<SelectParts>, ParseError>
-        requires nests { Nests self.now.depth (E.pre self.now.expression) (E.post self.now.expression) (U.pre self.now.units) (U.post self.now.units) }
+        requires nests { Nests E.Fn U.Fn self.now }
         requires room { 0 < self.now.depth }
         ensures { Parses (spec.select_parts (units.phrases self.now.depth) self.now.depth)
             (λ t. max (deepest_of case_depth t.cases) (if_any (deepest_of unit_depth) t.otherwise)) (Below self.now.depth)
@@ -196,7 +196,7 @@ impl<
     /// SELECT with its cases.
     #[tactic(auto, unfolding(elan_grammar::specs::Expressions::selection))]
     pub fn selection(&self, cursor: &mut Cursor<'_>) -> Result<Tall<Expr>, ParseError>
-        requires { Nests self.now.depth (E.pre self.now.expression) (E.post self.now.expression) (U.pre self.now.units) (U.post self.now.units) }
+        requires { Nests E.Fn U.Fn self.now }
         ensures { Parses (spec.selection (units.phrases self.now.depth) self.now.depth) expr_depth (AtMost self.now.depth)
             cursor.old.rest.now result cursor.new.rest.now }
     {

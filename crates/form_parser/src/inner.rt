@@ -29,7 +29,7 @@ impl<
 > Inner<E, U> {
     /// An expression in another phrase.
     pub fn expression(&self, cursor: &mut Cursor<'_>, level: u8) -> Result<Tall<Expr>, ParseError>
-        requires nests { Nests self.now.depth (E.pre self.now.expression) (E.post self.now.expression) (U.pre self.now.units) (U.post self.now.units) }
+        requires nests { Nests E.Fn U.Fn self.now }
         requires level { level ≤ word_level }
         ensures { Parses ((units.phrases self.now.depth).level level) expr_depth (Below self.now.depth) cursor.old.rest.now result cursor.new.rest.now }
     {
@@ -38,7 +38,7 @@ impl<
 
     /// Units in another phrase.
     pub fn units(&self, cursor: &mut Cursor<'_>) -> Result<Tall<List<Unit>>, ParseError>
-        requires { Nests self.now.depth (E.pre self.now.expression) (E.post self.now.expression) (U.pre self.now.units) (U.post self.now.units) }
+        requires { Nests E.Fn U.Fn self.now }
         ensures { Parses ((units.phrases self.now.depth).units) (deepest_of unit_depth) (Below self.now.depth) cursor.old.rest.now result cursor.new.rest.now }
     {
         (self.units)(self.alloc, cursor, self.depth)

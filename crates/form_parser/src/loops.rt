@@ -21,7 +21,7 @@ impl<
 > Inner<E, U> {
     /// A keyword, and an expression behind it.
     fn behind(&self, cursor: &mut Cursor<'_>, key: Key) -> Result<Tall<Expr>, ParseError>
-        requires { Nests self.now.depth (E.pre self.now.expression) (E.post self.now.expression) (U.pre self.now.units) (U.post self.now.units) }
+        requires { Nests E.Fn U.Fn self.now }
         ensures { Parses (units.behind (units.phrases self.now.depth) self.now.depth key) expr_depth (Below self.now.depth)
             cursor.old.rest.now result cursor.new.rest.now }
     {
@@ -31,7 +31,7 @@ impl<
 
     #[tactic(auto, unfolding(elan_grammar::specs::Units::a_limit, elan_grammar::specs::Units::upto, elan_grammar::specs::Units::downto), using(elan_grammar::proofs::Starts::of_units))]
     fn a_limit(&self, cursor: &mut Cursor<'_>) -> Result<Tall<Limit>, ParseError>
-        requires nests { Nests self.now.depth (E.pre self.now.expression) (E.post self.now.expression) (U.pre self.now.units) (U.post self.now.units) }
+        requires nests { Nests E.Fn U.Fn self.now }
         requires room { 0 < self.now.depth }
         ensures { Parses (units.a_limit (units.phrases self.now.depth) self.now.depth) limit_depth (Below self.now.depth)
             cursor.old.rest.now result cursor.new.rest.now }
@@ -63,7 +63,7 @@ impl<
         cursor: &mut Cursor<'_>,
         key: Key,
     ) -> Result<Tall<Option<Expr>>, ParseError>
-        requires nests { Nests self.now.depth (E.pre self.now.expression) (E.post self.now.expression) (U.pre self.now.units) (U.post self.now.units) }
+        requires nests { Nests E.Fn U.Fn self.now }
         requires room { 0 < self.now.depth }
         ensures { Parses (units.key_part (units.phrases self.now.depth) self.now.depth key) (if_any expr_depth) (Below self.now.depth)
             cursor.old.rest.now result cursor.new.rest.now }
@@ -83,7 +83,7 @@ impl<
 
     #[tactic(auto, unfolding(elan_grammar::specs::Units::counter))]
     fn counter(&self, cursor: &mut Cursor<'_>) -> Result<Tall<Option<Boxed<Counter>>>, ParseError>
-        requires nests { Nests self.now.depth (E.pre self.now.expression) (E.post self.now.expression) (U.pre self.now.units) (U.post self.now.units) }
+        requires nests { Nests E.Fn U.Fn self.now }
         requires room { 0 < self.now.depth }
         ensures { Parses (units.counter (units.phrases self.now.depth) self.now.depth) (if_any counter_depth) (Below self.now.depth)
             cursor.old.rest.now result cursor.new.rest.now }
@@ -117,7 +117,7 @@ impl<
 
     #[tactic(auto, unfolding(elan_grammar::specs::Units::turn_parts))]
     fn turn_parts(&self, cursor: &mut Cursor<'_>) -> Result<Tall<LoopParts>, ParseError>
-        requires nests { Nests self.now.depth (E.pre self.now.expression) (E.post self.now.expression) (U.pre self.now.units) (U.post self.now.units) }
+        requires nests { Nests E.Fn U.Fn self.now }
         requires room { 0 < self.now.depth }
         ensures { Parses (units.turn_parts (units.phrases self.now.depth) self.now.depth)
             (λ t. max (deepest_of unit_depth t.units) (if_any expr_depth t.until)) (Below self.now.depth) cursor.old.rest.now result cursor.new.rest.now }
@@ -143,7 +143,7 @@ impl<
         counter: Tall<Option<Boxed<Counter>>>,
         condition: Tall<Option<Expr>>,
     ) -> Result<Tall<Unit>, ParseError>
-        requires nests { Nests self.now.depth (E.pre self.now.expression) (E.post self.now.expression) (U.pre self.now.units) (U.post self.now.units) }
+        requires nests { Nests E.Fn U.Fn self.now }
         requires room { 0 < self.now.depth }
         requires counter { IsTall (if_any counter_depth) (Below self.now.depth) counter }
         requires condition { IsTall (if_any expr_depth) (Below self.now.depth) condition }
@@ -175,7 +175,7 @@ impl<
     /// A loop that begins with FOR.
     #[tactic(auto, unfolding(elan_grammar::specs::Units::counted))]
     pub fn counted(&self, cursor: &mut Cursor<'_>) -> Result<Tall<Unit>, ParseError>
-        requires { Nests self.now.depth (E.pre self.now.expression) (E.post self.now.expression) (U.pre self.now.units) (U.post self.now.units) }
+        requires { Nests E.Fn U.Fn self.now }
         ensures { Parses (units.counted (units.phrases self.now.depth) self.now.depth) unit_depth (AtMost self.now.depth)
             cursor.old.rest.now result cursor.new.rest.now }
     {
@@ -189,7 +189,7 @@ impl<
     /// A loop that begins with WHILE.
     #[tactic(auto, unfolding(elan_grammar::specs::Units::guarded))]
     pub fn guarded(&self, cursor: &mut Cursor<'_>) -> Result<Tall<Unit>, ParseError>
-        requires { Nests self.now.depth (E.pre self.now.expression) (E.post self.now.expression) (U.pre self.now.units) (U.post self.now.units) }
+        requires { Nests E.Fn U.Fn self.now }
         ensures { Parses (units.guarded (units.phrases self.now.depth) self.now.depth) unit_depth (AtMost self.now.depth)
             cursor.old.rest.now result cursor.new.rest.now }
     {
@@ -210,7 +210,7 @@ impl<
     /// A loop that begins with REP.
     #[tactic(auto, unfolding(elan_grammar::specs::Units::repeated))]
     pub fn repeated(&self, cursor: &mut Cursor<'_>) -> Result<Tall<Unit>, ParseError>
-        requires { Nests self.now.depth (E.pre self.now.expression) (E.post self.now.expression) (U.pre self.now.units) (U.post self.now.units) }
+        requires { Nests E.Fn U.Fn self.now }
         ensures { Parses (units.repeated (units.phrases self.now.depth) self.now.depth) unit_depth (AtMost self.now.depth)
             cursor.old.rest.now result cursor.new.rest.now }
     {

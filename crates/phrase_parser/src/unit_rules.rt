@@ -3,7 +3,7 @@
 ghost use Rattle.std.specs.Prelude.{◌≡◌};
 ghost use Rattle.elan_grammar.specs.Rule.{Parses, AtMost, IsTall};
 ghost use Rattle.elan_grammar.specs.Units as units;
-ghost use Rattle.form_parser.specs.Nests.{Nests};
+ghost use Rattle.phrase_parser.specs.Nests.{Nests};
 ghost use Rattle.elan_grammar.specs.Depth.{type_depth, expr_depth, item_depth, unit_depth, type_place, expr_place, deepest_of};
 
 use crate::phrases::Phrases;
@@ -36,7 +36,7 @@ impl<
 
     #[tactic(auto, unfolding(elan_grammar::specs::Units::init))]
     fn init(&self, cursor: &mut Cursor<'_>) -> Result<Tall<Expr>, ParseError>
-        requires { Nests self.now.depth (E.pre self.now.expression) (E.post self.now.expression) (U.pre self.now.units) (U.post self.now.units) }
+        requires { Nests E.Fn U.Fn self.now }
         ensures { Parses (units.init (units.phrases self.now.depth) self.now.depth) expr_depth (AtMost self.now.depth)
             cursor.old.rest.now result cursor.new.rest.now }
     {
@@ -46,7 +46,7 @@ impl<
 
     #[tactic(auto, unfolding(elan_grammar::specs::Units::item), using(elan_grammar::proofs::Starts::of_units))]
     fn item(&self, cursor: &mut Cursor<'_>) -> Result<Tall<Item>, ParseError>
-        requires { Nests self.now.depth (E.pre self.now.expression) (E.post self.now.expression) (U.pre self.now.units) (U.post self.now.units) }
+        requires { Nests E.Fn U.Fn self.now }
         ensures { Parses (units.item (units.phrases self.now.depth) self.now.depth) item_depth (AtMost self.now.depth)
             cursor.old.rest.now result cursor.new.rest.now }
     {
@@ -70,7 +70,7 @@ impl<
 
     #[tactic(auto, unfolding(elan_grammar::specs::Units::items), using(elan_grammar::proofs::Turns::turns, elan_grammar::proofs::Deepest::deepens))]
     fn items(&self, cursor: &mut Cursor<'_>) -> Result<Tall<List<Item>>, ParseError>
-        requires { Nests self.now.depth (E.pre self.now.expression) (E.post self.now.expression) (U.pre self.now.units) (U.post self.now.units) }
+        requires { Nests E.Fn U.Fn self.now }
         ensures { Parses (units.items (units.phrases self.now.depth) self.now.depth) (deepest_of item_depth) (AtMost self.now.depth)
             cursor.old.rest.now result cursor.new.rest.now }
     {
@@ -87,7 +87,7 @@ impl<
 
     #[tactic(auto, unfolding(elan_grammar::specs::Units::constant_item))]
     fn constant_item(&self, cursor: &mut Cursor<'_>) -> Result<Tall<Item>, ParseError>
-        requires { Nests self.now.depth (E.pre self.now.expression) (E.post self.now.expression) (U.pre self.now.units) (U.post self.now.units) }
+        requires { Nests E.Fn U.Fn self.now }
         ensures { Parses (units.constant_item (units.phrases self.now.depth) self.now.depth) item_depth (AtMost self.now.depth)
             cursor.old.rest.now result cursor.new.rest.now }
     {
@@ -105,7 +105,7 @@ impl<
 
     #[tactic(auto, unfolding(elan_grammar::specs::Units::constant_items), using(elan_grammar::proofs::Turns::turns, elan_grammar::proofs::Deepest::deepens))]
     fn constant_items(&self, cursor: &mut Cursor<'_>) -> Result<Tall<List<Item>>, ParseError>
-        requires { Nests self.now.depth (E.pre self.now.expression) (E.post self.now.expression) (U.pre self.now.units) (U.post self.now.units) }
+        requires { Nests E.Fn U.Fn self.now }
         ensures { Parses (units.constant_items (units.phrases self.now.depth) self.now.depth) (deepest_of item_depth) (AtMost self.now.depth)
             cursor.old.rest.now result cursor.new.rest.now }
     {
@@ -126,7 +126,7 @@ impl<
         cursor: &mut Cursor<'_>,
         of: Tall<TypePhrase>,
     ) -> Result<Tall<Unit>, ParseError>
-        requires nests { Nests self.now.depth (E.pre self.now.expression) (E.post self.now.expression) (U.pre self.now.units) (U.post self.now.units) }
+        requires nests { Nests E.Fn U.Fn self.now }
         requires tall { IsTall type_depth (AtMost self.now.depth) of }
         ensures { Parses (units.variables (units.phrases self.now.depth) self.now.depth of.tree) unit_depth (AtMost self.now.depth)
             cursor.old.rest.now result cursor.new.rest.now }
@@ -147,7 +147,7 @@ impl<
         cursor: &mut Cursor<'_>,
         of: Tall<TypePhrase>,
     ) -> Result<Tall<Unit>, ParseError>
-        requires nests { Nests self.now.depth (E.pre self.now.expression) (E.post self.now.expression) (U.pre self.now.units) (U.post self.now.units) }
+        requires nests { Nests E.Fn U.Fn self.now }
         requires tall { IsTall type_depth (AtMost self.now.depth) of }
         ensures { Parses (units.constants (units.phrases self.now.depth) self.now.depth of.tree) unit_depth (AtMost self.now.depth)
             cursor.old.rest.now result cursor.new.rest.now }
@@ -169,7 +169,7 @@ impl<
         cursor: &mut Cursor<'_>,
         of: Tall<TypePhrase>,
     ) -> Result<Tall<Unit>, ParseError>
-        requires nests { Nests self.now.depth (E.pre self.now.expression) (E.post self.now.expression) (U.pre self.now.units) (U.post self.now.units) }
+        requires nests { Nests E.Fn U.Fn self.now }
         requires tall { IsTall type_depth (AtMost self.now.depth) of }
         ensures { Parses (units.declared (units.phrases self.now.depth) self.now.depth of.tree) unit_depth (AtMost self.now.depth)
             cursor.old.rest.now result cursor.new.rest.now }
@@ -183,7 +183,7 @@ impl<
 
     #[tactic(auto, unfolding(elan_grammar::specs::Units::declaration))]
     fn declaration(&self, cursor: &mut Cursor<'_>) -> Result<Tall<Unit>, ParseError>
-        requires { Nests self.now.depth (E.pre self.now.expression) (E.post self.now.expression) (U.pre self.now.units) (U.post self.now.units) }
+        requires { Nests E.Fn U.Fn self.now }
         ensures { Parses (units.declaration (units.phrases self.now.depth) self.now.depth) unit_depth (AtMost self.now.depth)
             cursor.old.rest.now result cursor.new.rest.now }
     {
@@ -193,7 +193,7 @@ impl<
 
     #[tactic(auto, unfolding(elan_grammar::specs::Units::bound))]
     fn bound(&self, cursor: &mut Cursor<'_>) -> Result<Tall<Unit>, ParseError>
-        requires { Nests self.now.depth (E.pre self.now.expression) (E.post self.now.expression) (U.pre self.now.units) (U.post self.now.units) }
+        requires { Nests E.Fn U.Fn self.now }
         ensures { Parses (units.bound (units.phrases self.now.depth) self.now.depth) unit_depth (AtMost self.now.depth)
             cursor.old.rest.now result cursor.new.rest.now }
     {
@@ -211,7 +211,7 @@ impl<
 
     #[tactic(auto, unfolding(elan_grammar::specs::Units::assigned))]
     fn assigned(&self, cursor: &mut Cursor<'_>, left: Tall<Expr>) -> Result<Tall<Unit>, ParseError>
-        requires nests { Nests self.now.depth (E.pre self.now.expression) (E.post self.now.expression) (U.pre self.now.units) (U.post self.now.units) }
+        requires nests { Nests E.Fn U.Fn self.now }
         requires tall { left.height ≡ expr_depth left.tree }
         ensures { Parses (units.assigned (units.phrases self.now.depth) self.now.depth left.tree) unit_depth (AtMost self.now.depth)
             cursor.old.rest.now result cursor.new.rest.now }
@@ -234,7 +234,7 @@ impl<
 
     #[tactic(auto, unfolding(elan_grammar::specs::Units::statement), using(elan_grammar::proofs::Starts::of_units))]
     fn statement(&self, cursor: &mut Cursor<'_>) -> Result<Tall<Unit>, ParseError>
-        requires { Nests self.now.depth (E.pre self.now.expression) (E.post self.now.expression) (U.pre self.now.units) (U.post self.now.units) }
+        requires { Nests E.Fn U.Fn self.now }
         ensures { Parses (units.statement (units.phrases self.now.depth) self.now.depth) unit_depth (AtMost self.now.depth)
             cursor.old.rest.now result cursor.new.rest.now }
     {
@@ -250,7 +250,7 @@ impl<
 
     #[tactic(auto, unfolding(elan_grammar::specs::Units::leave))]
     fn leave(&self, cursor: &mut Cursor<'_>) -> Result<Tall<Unit>, ParseError>
-        requires { Nests self.now.depth (E.pre self.now.expression) (E.post self.now.expression) (U.pre self.now.units) (U.post self.now.units) }
+        requires { Nests E.Fn U.Fn self.now }
         ensures { Parses (units.leave (units.phrases self.now.depth) self.now.depth) unit_depth (AtMost self.now.depth)
             cursor.old.rest.now result cursor.new.rest.now }
     {
@@ -272,7 +272,7 @@ impl<
     /// A unit that begins with no type.
     #[tactic(auto, unfolding(elan_grammar::specs::Units::plain), using(elan_grammar::proofs::Starts::of_units))]
     pub fn plain(&self, cursor: &mut Cursor<'_>) -> Result<Tall<Unit>, ParseError>
-        requires { Nests self.now.depth (E.pre self.now.expression) (E.post self.now.expression) (U.pre self.now.units) (U.post self.now.units) }
+        requires { Nests E.Fn U.Fn self.now }
         ensures { Parses (units.plain (units.phrases self.now.depth) self.now.depth) unit_depth (AtMost self.now.depth)
             cursor.old.rest.now result cursor.new.rest.now }
     {
@@ -300,7 +300,7 @@ impl<
 
     #[tactic(auto, unfolding(elan_grammar::specs::Units::unit), using(elan_grammar::proofs::Starts::of_units))]
     fn unit(&self, cursor: &mut Cursor<'_>) -> Result<Tall<Unit>, ParseError>
-        requires { Nests self.now.depth (E.pre self.now.expression) (E.post self.now.expression) (U.pre self.now.units) (U.post self.now.units) }
+        requires { Nests E.Fn U.Fn self.now }
         ensures { Parses (units.unit (units.phrases self.now.depth) self.now.depth) unit_depth (AtMost self.now.depth)
             cursor.old.rest.now result cursor.new.rest.now }
     {
@@ -314,7 +314,7 @@ impl<
     /// Units with semicolons between them; there may be nothing between two.
     #[tactic(auto, unfolding(elan_grammar::specs::Units::units), using(elan_grammar::proofs::Turns::turns, elan_grammar::proofs::Deepest::deepens))]
     pub fn units(&self, cursor: &mut Cursor<'_>) -> Result<Tall<List<Unit>>, ParseError>
-        requires { Nests self.now.depth (E.pre self.now.expression) (E.post self.now.expression) (U.pre self.now.units) (U.post self.now.units) }
+        requires { Nests E.Fn U.Fn self.now }
         ensures { Parses (units.units (units.phrases self.now.depth) self.now.depth) (deepest_of unit_depth) (AtMost self.now.depth)
             cursor.old.rest.now result cursor.new.rest.now }
     {

@@ -5,7 +5,7 @@ ghost use Rattle.elan_grammar.specs.Rule.{Gives, Parses, AtMost};
 ghost use Rattle.elan_grammar.specs.Terminals.{word, simple_of};
 ghost use Rattle.elan_grammar.specs.Types as spec;
 ghost use Rattle.elan_grammar.specs.Depth.{type_depth, field_depth, type_place, deepest_of};
-ghost use Rattle.type_parser.specs.Nests.{TypeNests};
+ghost use Rattle.type_parser.specs.Nests.{Nests};
 
 use containers::List;
 use elan_cursor::Cursor;
@@ -76,7 +76,7 @@ pub struct TypeRules<F> {
 
 impl<F: Fn(Global, &mut Cursor<'_>, u16) -> Result<Tall<TypePhrase>, ParseError>> TypeRules<F> {
     fn inner(&self, cursor: &mut Cursor<'_>) -> Result<Tall<TypePhrase>, ParseError>
-        requires { TypeNests self.now.depth (F.pre self.now.inner) (F.post self.now.inner) }
+        requires { Nests F.Fn self.now }
         ensures { Parses (spec.types self.now.depth) type_depth (AtMost self.now.depth) cursor.old.rest.now result cursor.new.rest.now }
     {
         (self.inner)(self.alloc, cursor, self.depth)
@@ -84,7 +84,7 @@ impl<F: Fn(Global, &mut Cursor<'_>, u16) -> Result<Tall<TypePhrase>, ParseError>
 
     #[tactic(auto, unfolding(elan_grammar::specs::Types::row))]
     fn row(&self, cursor: &mut Cursor<'_>) -> Result<Tall<TypePhrase>, ParseError>
-        requires { TypeNests self.now.depth (F.pre self.now.inner) (F.post self.now.inner) }
+        requires { Nests F.Fn self.now }
         ensures { Parses (spec.row (spec.types self.now.depth) self.now.depth) type_depth (AtMost (self.now.depth + 1))
             cursor.old.rest.now result cursor.new.rest.now }
     {
@@ -104,7 +104,7 @@ impl<F: Fn(Global, &mut Cursor<'_>, u16) -> Result<Tall<TypePhrase>, ParseError>
 
     #[tactic(auto, unfolding(elan_grammar::specs::Types::field))]
     fn field(&self, cursor: &mut Cursor<'_>) -> Result<Tall<Field>, ParseError>
-        requires { TypeNests self.now.depth (F.pre self.now.inner) (F.post self.now.inner) }
+        requires { Nests F.Fn self.now }
         ensures { Parses (spec.field (spec.types self.now.depth)) field_depth (AtMost self.now.depth) cursor.old.rest.now result cursor.new.rest.now }
     {
         let of = self.inner(cursor)?;
@@ -117,7 +117,7 @@ impl<F: Fn(Global, &mut Cursor<'_>, u16) -> Result<Tall<TypePhrase>, ParseError>
 
     #[tactic(auto, unfolding(elan_grammar::specs::Types::fields), using(elan_grammar::proofs::Turns::turns, elan_grammar::proofs::Deepest::deepens))]
     fn fields(&self, cursor: &mut Cursor<'_>) -> Result<Tall<List<Field>>, ParseError>
-        requires { TypeNests self.now.depth (F.pre self.now.inner) (F.post self.now.inner) }
+        requires { Nests F.Fn self.now }
         ensures { Parses (spec.fields (spec.types self.now.depth)) (deepest_of field_depth) (AtMost self.now.depth)
             cursor.old.rest.now result cursor.new.rest.now }
     {
@@ -134,7 +134,7 @@ impl<F: Fn(Global, &mut Cursor<'_>, u16) -> Result<Tall<TypePhrase>, ParseError>
 
     #[tactic(auto, unfolding(elan_grammar::specs::Types::structure))]
     fn structure(&self, cursor: &mut Cursor<'_>) -> Result<Tall<TypePhrase>, ParseError>
-        requires { TypeNests self.now.depth (F.pre self.now.inner) (F.post self.now.inner) }
+        requires { Nests F.Fn self.now }
         ensures { Parses (spec.structure (spec.types self.now.depth) self.now.depth) type_depth (AtMost (self.now.depth + 1))
             cursor.old.rest.now result cursor.new.rest.now }
     {
@@ -161,7 +161,7 @@ impl<F: Fn(Global, &mut Cursor<'_>, u16) -> Result<Tall<TypePhrase>, ParseError>
 
     #[tactic(auto, unfolding(elan_grammar::specs::Types::a_type, elan_grammar::specs::Types::named_type), using(elan_grammar::proofs::Starts::of_types))]
     fn a_type(&self, cursor: &mut Cursor<'_>) -> Result<Tall<TypePhrase>, ParseError>
-        requires { TypeNests self.now.depth (F.pre self.now.inner) (F.post self.now.inner) }
+        requires { Nests F.Fn self.now }
         ensures { Parses (spec.a_type (spec.types self.now.depth) self.now.depth) type_depth (AtMost (self.now.depth + 1))
             cursor.old.rest.now result cursor.new.rest.now }
     {
