@@ -132,7 +132,10 @@ impl<'a> Cursor<'a> {
     pub fn sees_literal(&self) -> bool
         ensures { result ≡ (spec.word spec.literal_of).starts self.now.rest.now }
     {
-        sees!(self, Word::Number(_) | Word::Text(_) | Word::Key(Key::True | Key::False))
+        sees!(
+            self,
+            Word::Number(_) | Word::Text(_) | Word::Key(Key::True | Key::False)
+        )
     }
 
     /// Whether an operator stands next that may stand before its operand.

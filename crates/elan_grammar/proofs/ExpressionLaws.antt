@@ -2,13 +2,11 @@
 use Rattle.std.proofs.Common.{◌≡◌, ℕ, zero, suc, ◌<◌, ◌≤◌, ◌⊎◌, inl, inr, Bool, true, false, [], ◌∷◌, refl, sym, ap, ◌∙◌, arith}
 use Rattle.std.specs.Prelude.{◌||◌, nat_lt, ◌==◌}
 use Rattle.std.proofs.lemmas.Bool.{eqb-true, ltb-true, lt-ltb}
-use Rattle.std.proofs.lemmas.Bool.Decides.{nat_tests}
 use Rattle.elan_tree.specs.declared.token.Key.TheVariants as key
 use Rattle.elan_tree.specs.declared.token.Sign.TheVariants as sign
 use Rattle.elan_tree.specs.declared.written_type.Name.{Name}
 use Rattle.elan_tree.specs.declared.phrase.Expr.{Expr}
 use Rattle.elan_grammar.specs.declared.kind.Kind.{Kind}
-use Rattle.elan_grammar.specs.declared.kind.Kind.TheVariants as k
 use Rattle.elan_grammar.specs.Kinds.{ahead, kind, kind_of, is_key, is_sign, selects}
 use Rattle.elan_grammar.specs.Kinds.{loose}
 use Rattle.elan_grammar.specs.Terminals.{end_of}
@@ -21,10 +19,11 @@ use Rattle.elan_grammar.proofs.Sequences.{bind_law, guard_law, choose_law, Other
 use Rattle.elan_grammar.proofs.Repeats.{iterate_law}
 use Rattle.elan_grammar.proofs.Every.{within, apart}
 use Rattle.elan_grammar.proofs.Seen.{is_colon, colon_ahead, ahead-point, selecting}
-use Rattle.elan_grammar.proofs.Tokens.{given, keyword_law, end_law, mark_law, point_law, comma_law, ident_law, ident_shows, literal_law, monadic_law, applies, misses_key, misses_mark, misses_comma, misses_ident, misses_literal, misses_monadic, misses_joint}
+use Rattle.elan_grammar.proofs.Tokens.{given, keyword_law, end_law, mark_law, point_law, comma_law, ident_law, ident_shows, literal_law, monadic_law, applies}
+use Rattle.elan_grammar.proofs.Tokens.{misses_key, misses_mark, misses_comma, misses_ident, misses_literal, misses_monadic, misses_joint}
 use Rattle.elan_grammar.proofs.Tokens.{joint_law}
 use Rattle.elan_grammar.proofs.Forms.{bind_same, part_same, narrower, Eats, eats_terminal, eats_guard, eats_then, eats_choose, eats_refirst, row_law, eats_seen}
-use Rattle.elan_grammar.proofs.Forms.{optional_law, listed_law, listed_by}
+use Rattle.elan_grammar.proofs.Forms.{optional_law, listed_law}
 use Rattle.elan_grammar.proofs.TypeLaws.{labels_law, begins_label}
 use Rattle.elan_grammar.proofs.Follows.{reach, ends_level, after_head, after_name, ends_units, begins_unit, ends_unit}
 
@@ -65,7 +64,8 @@ unfolding g.choice_end end_of
 choice_end_law stop =
     choose_law _ _ (is_key key.End) (is_key key.Fi) is_choice_end stop
     (end_law key.If stop).laws (keyword_law key.Fi stop)
-    (misses_key key.End (is_key key.Fi) (apart (is_key key.Fi) (is_key key.End) refl)) (within (is_key key.End) is_choice_end refl) (within (is_key key.Fi) is_choice_end refl)
+    (misses_key key.End (is_key key.Fi) (apart (is_key key.Fi) (is_key key.End) refl)) (within (is_key key.End) is_choice_end refl)
+    (within (is_key key.Fi) is_choice_end refl)
 
 abbrev begins_actual : Set
 begins_actual x = is_key key.Proc x || begins x
@@ -90,7 +90,8 @@ module _ (inner : Language) (n : ℕ) (laws : LanguageLaws inner) where
   actuals_law : Full (g.actuals inner n) begins_actual (is_sign sign.RightRound)
   unfolding g.actuals
   actuals_law = listed_law _ _ is_comma begins_actual (ends_level 6) (is_sign sign.RightRound) (comma_law begins_actual) actual_law
-      (within is_comma (ends_level 6) refl) (within (is_sign sign.RightRound) (ends_level 6) refl) (misses_comma (is_sign sign.RightRound) (apart (is_sign sign.RightRound) is_comma refl))
+      (within is_comma (ends_level 6) refl) (within (is_sign sign.RightRound) (ends_level 6) refl) (misses_comma (is_sign sign.RightRound)
+      (apart (is_sign sign.RightRound) is_comma refl))
 
   branch_law : Full (g.branch inner n) begins ends_units
   unfolding g.branch
@@ -106,14 +107,16 @@ module _ (inner : Language) (n : ℕ) (laws : LanguageLaws inner) where
   branches_law : Full (g.branches inner n) begins ends_branches
   unfolding g.branches
   branches_law = listed_law _ _ (is_key key.Elif) begins ends_units ends_branches (keyword_law key.Elif begins) branch_law
-      (within (is_key key.Elif) ends_units refl) (within ends_branches ends_units refl) (misses_key key.Elif ends_branches (apart ends_branches (is_key key.Elif) refl))
+      (within (is_key key.Elif) ends_units refl) (within ends_branches ends_units refl) (misses_key key.Elif ends_branches
+      (apart ends_branches (is_key key.Elif) refl))
 
   else_part_law : Full (g.else_part inner n) ends_branches is_choice_end
   unfolding g.else_part
   else_part_law =
       optional_law _ (is_key key.Else) is_choice_end ends_branches
       (bind_same _ _ _ _ _ (keyword_law key.Else begins_unit) (λ _. narrower _ _ _ is_choice_end laws.bodies (within is_choice_end ends_units refl))).laws
-      (misses_key key.Else is_choice_end (apart is_choice_end (is_key key.Else) refl)) (within (is_key key.Else) ends_branches refl) (within is_choice_end ends_branches refl)
+      (misses_key key.Else is_choice_end (apart is_choice_end (is_key key.Else) refl)) (within (is_key key.Else) ends_branches refl)
+      (within is_choice_end ends_branches refl)
 
   a_case_law : Full (g.a_case inner n) (is_key key.Case) ends_units
   unfolding g.a_case
@@ -150,9 +153,12 @@ module _ (inner : Language) (n : ℕ) (laws : LanguageLaws inner) where
   otherwise_part_law =
       optional_law _ (is_key key.Otherwise) (is_key key.End) ends_cases
       (bind_same _ _ _ _ _ (keyword_law key.Otherwise after_otherwise) (λ _.
-      bind_same _ _ _ _ _ (optional_law _ is_colon begins_unit after_otherwise (mark_law sign.Colon begins_unit refl).laws (misses_mark sign.Colon begins_unit refl (apart begins_unit is_colon refl)) (within is_colon after_otherwise refl) (within begins_unit after_otherwise refl)) (λ _.
+      bind_same _ _ _ _ _ (optional_law _ is_colon begins_unit after_otherwise (mark_law sign.Colon begins_unit refl).laws
+      (misses_mark sign.Colon begins_unit refl (apart begins_unit is_colon refl)) (within is_colon after_otherwise refl)
+      (within begins_unit after_otherwise refl)) (λ _.
       narrower _ _ _ (is_key key.End) laws.bodies (within (is_key key.End) ends_units refl)))).laws
-      (misses_key key.Otherwise (is_key key.End) (apart (is_key key.End) (is_key key.Otherwise) refl)) (within (is_key key.Otherwise) ends_cases refl) (within (is_key key.End) ends_cases refl)
+      (misses_key key.Otherwise (is_key key.End) (apart (is_key key.End) (is_key key.Otherwise) refl))
+      (within (is_key key.Otherwise) ends_cases refl) (within (is_key key.End) ends_cases refl)
 
   select_parts_law : (stop : Set) → Full (g.select_parts inner n) (is_key key.Case) stop
   unfolding g.select_parts
@@ -200,7 +206,8 @@ module _ (inner : Language) (n : ℕ) (laws : nat_lt 0 n ≡ true → LanguageLa
   named_law =
       bind_same _ _ _ _ _ (ident_law after_name) (λ x.
       choose_law _ _ (is_sign sign.LeftRound) after_head after_name after_head (call_law x after_head) (pure_law _ after_head)
-      (misses_mark sign.LeftRound after_head refl (apart after_head (is_sign sign.LeftRound) refl)) (within (is_sign sign.LeftRound) after_name refl) (within after_head after_name refl))
+      (misses_mark sign.LeftRound after_head refl (apart after_head (is_sign sign.LeftRound) refl)) (within (is_sign sign.LeftRound) after_name refl)
+      (within after_head after_name refl))
 
   choice_law : (stop : Set) → Laws (g.choice inner n) (is_key key.If) stop
   unfolding g.choice
@@ -248,7 +255,8 @@ module _ (inner : Language) (n : ℕ) (laws : nat_lt 0 n ≡ true → LanguageLa
       (misses_key key.Select is_ident (apart is_ident (is_key key.Select) refl)) (within (is_key key.Select) head4 refl) (within is_ident head4 refl))
       (misses_key key.If head4 (apart head4 (is_key key.If) refl)) (within (is_key key.If) head3 refl) (within head4 head3 refl))
       (misses_key key.Concr head3 (apart head3 (is_key key.Concr) refl)) (within (is_key key.Concr) head2 refl) (within head3 head2 refl))
-      (misses_mark sign.LeftRound head2 refl (apart head2 (is_sign sign.LeftRound) refl)) (within (is_sign sign.LeftRound) head1 refl) (within head2 head1 refl))
+      (misses_mark sign.LeftRound head2 refl (apart head2 (is_sign sign.LeftRound) refl)) (within (is_sign sign.LeftRound) head1 refl)
+      (within head2 head1 refl))
       (misses_literal head1 (apart head1 is_literal refl)) (within is_literal head0 refl) (within head1 head0 refl)
 
   index_part_law : (depth : ℕ) (stop : Set) → Eats (g.index_part inner n depth) (is_sign sign.LeftSquare) stop
@@ -286,7 +294,8 @@ module _ (inner : Language) (n : ℕ) (laws : nat_lt 0 n ≡ true → LanguageLa
   unfolding g.longer g.index g.index_part
   longer_law a =
       eats_choose _ _ (is_sign sign.LeftSquare) selects lengthens after_head (index_law a after_head) (field_of_law a)
-      (misses_mark sign.LeftSquare selects refl (apart selects (is_sign sign.LeftSquare) refl)) (within (is_sign sign.LeftSquare) lengthens refl) (within selects lengthens refl)
+      (misses_mark sign.LeftSquare selects refl (apart selects (is_sign sign.LeftSquare) refl)) (within (is_sign sign.LeftSquare) lengthens refl)
+      (within selects lengthens refl)
 
   no_longer : (a : Expr) → Others (ends_level 0) (g.longer inner n a)
   unfolding g.longer g.index g.index_part g.field_of g.field_part

@@ -156,5 +156,6 @@ pub seen_listed : {X A : Type 0} (b : Set) (f : Token → Option X) (item : Rule
     → Within m1 b → Within m1 i2 → Within stop i2 → Apart stop b → b k.Nothing ≡ false → Full (listed (seen b (terminal f)) item) i1 stop
 unfolding ahead
 seen_listed b f item m1 i1 i2 stop lm li wb wi ws ap nothing =
-    listed_by (seen b (terminal f)) item m1 i1 i2 stop li (λ xs. eats_marked b f (λ _. one_more item xs) m1 i1 i2 lm.laws wb (λ _. bind_same _ _ _ _ _ li (λ a. pure_law _ i2)))
+    listed_by (seen b (terminal f)) item m1 i1 i2 stop li (λ xs. eats_marked b f (λ _. one_more item xs) m1 i1 i2 lm.laws wb (λ _. bind_same _ _ _ _ _ li
+    (λ a. pure_law _ i2)))
     wi ws (λ xs h. ap (ahead xs) h) nothing

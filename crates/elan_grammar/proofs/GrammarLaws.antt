@@ -46,7 +46,8 @@ unfolding g.exports
 exports_law =
     choose_law _ _ (is_key key.Defines) is_colon after_packet_name is_colon
     (bind_same _ _ _ _ _ (keyword_law key.Defines is_export) (λ _. export_list_law)).laws (pure_law _ is_colon)
-    (misses_key key.Defines is_colon (apart is_colon (is_key key.Defines) refl)) (within (is_key key.Defines) after_packet_name refl) (within is_colon after_packet_name refl)
+    (misses_key key.Defines is_colon (apart is_colon (is_key key.Defines) refl)) (within (is_key key.Defines) after_packet_name refl)
+    (within is_colon after_packet_name refl)
 
 abbrev after_point : Set
 after_point x = is_sign sign.Point x || is_nothing x
@@ -61,7 +62,8 @@ last_mark_law =
     (bind_same _ _ _ _ _ (mark_law sign.Semicolon is_nothing refl) (λ at. pure_law _ is_nothing)).laws
     (last_point_law is_nothing (apart is_nothing is_ident refl) (apart is_nothing is_point refl) after_point
     (within (is_sign sign.Point) after_point refl) (within is_nothing after_point refl))
-    (misses_mark sign.Semicolon after_point refl (apart after_point (is_sign sign.Semicolon) refl)) (within (is_sign sign.Semicolon) last_marks refl) (within after_point last_marks refl)
+    (misses_mark sign.Semicolon after_point refl (apart after_point (is_sign sign.Semicolon) refl)) (within (is_sign sign.Semicolon) last_marks refl)
+    (within after_point last_marks refl)
 
 abbrev after_end_packet : Set
 after_end_packet x = is_ident x || last_marks x

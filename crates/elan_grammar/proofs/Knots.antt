@@ -1,5 +1,5 @@
 -- One depth above another.
-use Rattle.std.proofs.Common.{◌≡◌, ℕ, suc, ◌+◌, List, Result, Ok, Err, refl, ◌∙◌, add-one, arith}
+use Rattle.std.proofs.Common.{◌≡◌, ℕ, suc, ◌+◌, List, Result, Ok, Err, refl, ◌∙◌, arith}
 use Rattle.elan_tree.specs.declared.written_type.TypePhrase.{TypePhrase}
 use Rattle.elan_tree.specs.declared.phrase.Expr.{Expr}
 use Rattle.elan_tree.specs.declared.phrase.Unit.{Unit as Phrase}
@@ -10,7 +10,6 @@ use Rattle.elan_grammar.specs.Types.{types, a_type}
 use Rattle.elan_grammar.specs.Expressions.{Language, operand, dyadic, level}
 use Rattle.elan_grammar.specs.Units.{units, phrases}
 use Rattle.elan_grammar.specs.Depth.{type_depth, expr_depth, unit_depth, deepest_of}
-use Rattle.elan_grammar.proofs.Sets.{is_level}
 
 -- what parses a rule from where a reading of another ended parses all of it
 pub parses_from : {A : Type 0} (r s : Rule A) (depth : A → ℕ) (P Q : ℕ → Type 0) (all old new : Tokens) (result : Result (Tall A) ParseError)

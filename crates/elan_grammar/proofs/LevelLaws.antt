@@ -19,12 +19,13 @@ use Rattle.elan_grammar.specs.Units.{phrases}
 use Rattle.elan_grammar.specs.Grammar as g
 use Rattle.elan_grammar.proofs.Sets.{is_ident, is_comma, is_bold, is_point, is_operator}
 use Rattle.elan_grammar.proofs.Laws.{Set, Within, Apart, Laws, Full, pure_law}
-use Rattle.elan_grammar.proofs.Sequences.{bind_law, guard_law, choose_part, choose_law, choose_first, only_then, seen_law, seen_full}
+use Rattle.elan_grammar.proofs.Sequences.{bind_law, choose_part, choose_law, choose_first, only_then, seen_law, seen_full}
 use Rattle.elan_grammar.proofs.Every.{within, apart}
 use Rattle.elan_grammar.proofs.Seen.{is_colon, is_refines, declares, ident_ahead, ahead-point, refining, alone}
-use Rattle.elan_grammar.proofs.Tokens.{given, keyword_law, end_law, mark_law, point_law, leading_law, alone_law, going_law, parting_law, ident_law, misses_key, misses_mark, misses_comma, misses_ident, misses_point, misses_same, misses_same_operator}
+use Rattle.elan_grammar.proofs.Tokens.{given, keyword_law, end_law, mark_law, point_law, leading_law, alone_law, going_law, parting_law, ident_law}
+use Rattle.elan_grammar.proofs.Tokens.{misses_key, misses_mark, misses_comma, misses_ident, misses_point, misses_same, misses_same_operator}
 use Rattle.elan_grammar.proofs.Tokens.{ident_shows, bold_law, same_law, access_law, is_access, operator_law, same_operator_law}
-use Rattle.elan_grammar.proofs.Forms.{bind_same, part_same, refirst, Eats, eats_terminal, eats_refirst, optional_law, listed_law, listed_by, eats_marked}
+use Rattle.elan_grammar.proofs.Forms.{bind_same, part_same, refirst, Eats, eats_refirst, optional_law, listed_law, listed_by, eats_marked}
 use Rattle.elan_grammar.proofs.TypeLaws.{type_law, typed_law, any_type, formals_law}
 use Rattle.elan_grammar.proofs.Follows.{ends_units, ends_unit, begins_plain, begins_unit}
 use Rattle.elan_grammar.proofs.UnitLaws.{declared_law, plain_law, phrases_law, begins_declared}
@@ -72,10 +73,12 @@ point_alone : (t : Token) (a : ℕ) (zs : Tokens) → cond (is_sign sign.Point (
     → is_sign sign.Point (ahead (t ∷ zs)) ≡ true
 point_alone t a zs h e = rw (ahead-point t zs (given (is_sign sign.Point (kind_of t.what)) t.at a h)) (alone (kind zs) (second zs) (sym (ident_ahead zs) ∙ e))
 
-next_refinement_law : (n : ℕ) → nat_lt 0 n ≡ true → (xs : List Refinement) → Eats (further (seen leads (mark sign.Point)) (g.refinement n) xs) is_refines ends_units
+next_refinement_law : (n : ℕ) → nat_lt 0 n ≡ true → (xs : List Refinement)
+    → Eats (further (seen leads (mark sign.Point)) (g.refinement n) xs) is_refines ends_units
 next_refinement_law n some xs =
     eats_refirst _ leads is_refines ends_units
-    (eats_marked leads _ _ leads is_ident ends_units leading_law.laws (λ x h. h) (λ _. bind_same _ _ _ _ _ (refinement_law n some) (λ r. pure_law _ ends_units)))
+    (eats_marked leads _ _ leads is_ident ends_units leading_law.laws (λ x h. h) (λ _. bind_same _ _ _ _ _ (refinement_law n some)
+    (λ r. pure_law _ ends_units)))
     (λ xs ys b h s. rw (h.2.1, point_refines h.2.0 h.0 h.1 h.2.2 (refinement_begins n h.3.0 h.1 h.3.1 h.3.2)) refl)
 
 pub last_point_law : (stop : Set) → Apart stop is_ident → Apart stop is_point → (first : Set) → Within (is_sign sign.Point) first
@@ -161,7 +164,8 @@ after_end_op x = is_operator x || after_level_unit x
 end_operator_law : (o : OperatorName) → Full (g.end_operator o) after_end_op after_level_unit
 unfolding g.end_operator
 end_operator_law o =
-    optional_law _ is_operator after_level_unit after_end_op (same_operator_law o after_level_unit) (misses_same_operator o after_level_unit (apart after_level_unit is_operator refl)) (within is_operator after_end_op refl) (within after_level_unit after_end_op refl)
+    optional_law _ is_operator after_level_unit after_end_op (same_operator_law o after_level_unit) (misses_same_operator o after_level_unit
+    (apart after_level_unit is_operator refl)) (within is_operator after_end_op refl) (within after_level_unit after_end_op refl)
 
 formal_list_law : (stop : Set) → Full (g.formal_list 400 399) (is_sign sign.LeftRound) stop
 unfolding g.formal_list
@@ -178,7 +182,8 @@ optional_formals_law : Full (g.optional_formals 400 399) after_proc_name is_colo
 unfolding g.optional_formals g.formal_list
 optional_formals_law =
     choose_law _ _ (is_sign sign.LeftRound) is_colon after_proc_name is_colon (formal_list_law is_colon).laws (pure_law _ is_colon)
-    (misses_mark sign.LeftRound is_colon refl (apart is_colon (is_sign sign.LeftRound) refl)) (within (is_sign sign.LeftRound) after_proc_name refl) (within is_colon after_proc_name refl)
+    (misses_mark sign.LeftRound is_colon refl (apart is_colon (is_sign sign.LeftRound) refl)) (within (is_sign sign.LeftRound) after_proc_name refl)
+    (within is_colon after_proc_name refl)
 
 proc_parts_law : Full (g.proc_parts 400 399) (is_key key.Proc) after_level_unit
 unfolding g.proc_parts
@@ -288,8 +293,10 @@ typed_unit_law =
     part_same _ _ _ _ _ (typed_law 400 after_type (within after_type declares refl)) (λ t.
     choose_law _ _ (is_key key.Proc) after_type2 after_type after_level_unit (proc_law (Some t)).laws
     (choose_law _ _ (is_key key.Op) begins_declared after_type2 after_level_unit (operator_rule_law (Some t)).laws (declared_unit_law t)
-    (misses_key key.Op begins_declared (apart begins_declared (is_key key.Op) refl)) (within (is_key key.Op) after_type2 refl) (within begins_declared after_type2 refl))
-    (misses_key key.Proc after_type2 (apart after_type2 (is_key key.Proc) refl)) (within (is_key key.Proc) after_type refl) (within after_type2 after_type refl))
+    (misses_key key.Op begins_declared (apart begins_declared (is_key key.Op) refl)) (within (is_key key.Op) after_type2 refl)
+    (within begins_declared after_type2 refl))
+    (misses_key key.Proc after_type2 (apart after_type2 (is_key key.Proc) refl)) (within (is_key key.Proc) after_type refl)
+    (within after_type2 after_type refl))
 
 plain_unit_law : Full (g.plain_unit 400 399) begins_plain after_level_unit
 unfolding g.plain_unit
@@ -326,7 +333,8 @@ unfolding g.level_units
 level_units_law =
     listed_law _ _ (is_sign sign.Semicolon) begins_level after_level_unit after_body_units (mark_law sign.Semicolon begins_level refl)
     level_unit_law
-    (within (is_sign sign.Semicolon) after_level_unit refl) (within after_body_units after_level_unit refl) (misses_mark sign.Semicolon after_body_units refl (apart after_body_units (is_sign sign.Semicolon) refl))
+    (within (is_sign sign.Semicolon) after_level_unit refl) (within after_body_units after_level_unit refl)
+    (misses_mark sign.Semicolon after_body_units refl (apart after_body_units (is_sign sign.Semicolon) refl))
 
 pub a_level_law : Full (g.a_level 400 399) begins_level ends_text
 unfolding g.a_level

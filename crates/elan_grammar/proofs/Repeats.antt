@@ -3,12 +3,11 @@ use Rattle.std.proofs.Common.{◌≡◌, ℕ, zero, suc, ◌<◌, ◌≤◌, inl
 use Rattle.std.proofs.Common.{append_assoc}
 use Rattle.std.proofs.lemmas.List.{length-append}
 use Rattle.elan_tree.specs.declared.token.Token.{Token}
-use Rattle.elan_grammar.specs.declared.kind.Kind.TheVariants as k
 use Rattle.elan_grammar.specs.declared.error.ParseError.{ParseError}
 use Rattle.elan_grammar.specs.Kinds.{ahead}
 use Rattle.elan_grammar.proofs.Looks.{SameAhead, LooksSame}
 use Rattle.elan_grammar.specs.Rule.{Tokens, and_then, refusal, Rule, steps, steps_run, iterate}
-use Rattle.elan_grammar.proofs.Laws.{Set, Within, Apart, Laws, Full, Completes, Stuck, some_or_none, same_ahead, same_value, and_then_ok, and_then_err, chosen}
+use Rattle.elan_grammar.proofs.Laws.{Set, Within, Laws, Full, Completes, Stuck, some_or_none, same_ahead, same_value, and_then_ok, and_then_err, chosen}
 use Rattle.elan_grammar.proofs.Laws.{no_front}
 use Rattle.elan_grammar.proofs.Sequences.{Others, first_part, place_behind}
 
@@ -161,7 +160,8 @@ module _ {S : Type 0} (body : S → Rule S) (b1 b2 stop : Set) (laws : (s : S) �
       rw (none.0, v.0) refl
   steps_on (suc n) (suc m) s e front us vs h w le lm =
       elim (chosen ((body s).starts (front ++ us)) (and_then ((body s).run (front ++ us)) (steps_run body n)) (Ok (s, front ++ us)) (Ok (e, us)) h) [
-        | inl x ↦ step_on n m s e front us vs (λ t second. steps_on n m t e second us vs) (sym ((laws s).same (front ++ us) (front ++ vs) (same_ahead front us vs w)) ∙ x.0) x.1 w le lm
+        | inl x ↦ step_on n m s e front us vs
+            (λ t second. steps_on n m t e second us vs) (sym ((laws s).same (front ++ us) (front ++ vs) (same_ahead front us vs w)) ∙ x.0) x.1 w le lm
         | inr x ↦
             let v = same_value s e (front ++ us) us x.1 in
             let none = no_front front us v.1 in
@@ -197,7 +197,9 @@ module _ {S : Type 0} (body : S → Rule S) (b1 b2 stop : Set) (laws : (s : S) �
   steps_stop (suc n) (suc m) s front us vs u h w lm =
       elim (chosen ((body s).starts (front ++ (u ∷ us))) (and_then ((body s).run (front ++ (u ∷ us))) (steps_run body n)) (Ok (s, front ++ (u ∷ us)))
       (Err (refusal (u ∷ us))) h) [
-        | inl x ↦ step_stop n m s front us vs u (λ t second. steps_stop n m t second us vs u) (sym ((laws s).same (front ++ (u ∷ us)) (front ++ (u ∷ vs)) (same_ahead front (u ∷ us) (u ∷ vs) w)) ∙ x.0) x.1 w lm
+        | inl x ↦ step_stop n m s front us vs u
+            (λ t second. steps_stop n m t second us vs u) (sym ((laws s).same (front ++ (u ∷ us)) (front ++ (u ∷ vs)) (same_ahead front (u ∷ us) (u ∷ vs) w))
+            ∙ x.0) x.1 w lm
         | inr x ↦ absurd cc
       ]
 

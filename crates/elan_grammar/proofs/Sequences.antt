@@ -8,7 +8,7 @@ use Rattle.elan_grammar.specs.declared.error.ParseError.{ParseError}
 use Rattle.elan_grammar.specs.Kinds.{ahead}
 use Rattle.elan_grammar.proofs.Looks.{SameAhead, LooksSame}
 use Rattle.elan_grammar.specs.Rule.{Tokens, refusal, Rule, ◌>>=◌, only, starting, seen, guard, choose}
-use Rattle.elan_grammar.proofs.Laws.{Apart, Completes, Full, Laws, Set, Splits, Stuck, Within, after_completes, and_then_err, and_then_ok, bind_completes}
+use Rattle.elan_grammar.proofs.Laws.{Completes, Full, Laws, Set, Splits, Stuck, Within, after_completes, and_then_err, and_then_ok, bind_completes}
 use Rattle.elan_grammar.proofs.Laws.{chosen, left_is, only_law, refused_length, refuses_ok, refuses_on, same_first, same_ahead, same_second, some_or_none}
 use Rattle.elan_grammar.proofs.Laws.{stuck_here}
 

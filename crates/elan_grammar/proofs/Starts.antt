@@ -69,7 +69,8 @@ pub selection_starts : (inner : Language) (n : ℕ) (xs : Tokens) → (expressio
 unfolding expressions.selection
 selection_starts inner n xs = refl
 
-pub index_starts : (inner : Language) (n : ℕ) (a : Expr) (xs : Tokens) → (expressions.index inner n a).starts xs ≡ accepts (place_if (is_sign sign.LeftSquare)) xs
+pub index_starts : (inner : Language) (n : ℕ) (a : Expr) (xs : Tokens)
+    → (expressions.index inner n a).starts xs ≡ accepts (place_if (is_sign sign.LeftSquare)) xs
 unfolding expressions.index expressions.index_part
 index_starts inner n a xs = refl
 
@@ -77,7 +78,8 @@ pub field_starts : (inner : Language) (n : ℕ) (a : Expr) (xs : Tokens) → (ex
 unfolding expressions.field_of expressions.field_part
 field_starts inner n a xs = refl
 
-pub longer_starts : (inner : Language) (n : ℕ) (a : Expr) (xs : Tokens) → (expressions.longer inner n a).starts xs ≡ (accepts (place_if (is_sign sign.LeftSquare)) xs || selects (ahead xs))
+pub longer_starts : (inner : Language) (n : ℕ) (a : Expr) (xs : Tokens)
+    → (expressions.longer inner n a).starts xs ≡ (accepts (place_if (is_sign sign.LeftSquare)) xs || selects (ahead xs))
 unfolding expressions.longer expressions.index expressions.index_part expressions.field_of expressions.field_part
 longer_starts inner n a xs = refl
 
@@ -85,7 +87,8 @@ pub applied_starts : (inner : Language) (n : ℕ) (xs : Tokens) → (expressions
 unfolding expressions.applied
 applied_starts inner n xs = refl
 
-pub dyadic_starts : (inner : Language) (n : ℕ) (i : ℕ) (a : Expr) (xs : Tokens) → (expressions.dyadic inner n i a).starts xs ≡ accepts (in_word (joint_of (suc i))) xs
+pub dyadic_starts : (inner : Language) (n : ℕ) (i : ℕ) (a : Expr) (xs : Tokens)
+    → (expressions.dyadic inner n i a).starts xs ≡ accepts (in_word (joint_of (suc i))) xs
 unfolding expressions.dyadic expressions.right_part
 dyadic_starts inner n i a xs = refl
 
@@ -95,7 +98,21 @@ case_starts inner n xs = refl
 
 pub ruleset of_types = (named_type_starts, row_starts, structure_starts, negative_starts, let_constant_starts, negative_label_starts)
 
-pub ruleset of_expressions = (end_starts, procedure_starts, call_starts, bracket_starts, concr_starts, choice_starts, selection_starts, index_starts, field_starts, longer_starts, applied_starts, dyadic_starts, case_starts)
+pub ruleset of_expressions = (
+  end_starts,
+  procedure_starts,
+  call_starts,
+  bracket_starts,
+  concr_starts,
+  choice_starts,
+  selection_starts,
+  index_starts,
+  field_starts,
+  longer_starts,
+  applied_starts,
+  dyadic_starts,
+  case_starts,
+)
 
 pub let_starts : (inner : Language) (n : ℕ) (xs : Tokens) → (units.a_let inner n).starts xs ≡ accepts (place_if (is_key key.Let)) xs
 unfolding units.a_let
@@ -133,7 +150,8 @@ pub init_starts : (inner : Language) (n : ℕ) (xs : Tokens) → (units.init inn
 unfolding units.init
 init_starts inner n xs = refl
 
-pub variables_starts : (inner : Language) (n : ℕ) (of : TypePhrase) (xs : Tokens) → (units.variables inner n of).starts xs ≡ accepts (place_if (is_key key.Var)) xs
+pub variables_starts : (inner : Language) (n : ℕ) (of : TypePhrase) (xs : Tokens)
+    → (units.variables inner n of).starts xs ≡ accepts (place_if (is_key key.Var)) xs
 unfolding units.variables
 variables_starts inner n of xs = refl
 
@@ -146,7 +164,8 @@ operand_starts : (inner : Language) (n : ℕ) (xs : Tokens) → (expressions.ope
     ≡ (accepts (in_word monadic_of) xs
     || (accepts (in_word literal_of) xs || (accepts (place_if (is_sign sign.LeftRound)) xs || (accepts (place_if (is_key key.Concr)) xs
     || (accepts (place_if (is_key key.If)) xs || (accepts (place_if (is_key key.Select)) xs || accepts (in_word ident_of) xs))))))
-unfolding expressions.operand expressions.applied expressions.prim expressions.head expressions.bracket expressions.concr expressions.choice expressions.selection expressions.named
+unfolding expressions.operand expressions.applied expressions.prim expressions.head expressions.bracket expressions.concr expressions.choice
+    expressions.selection expressions.named
 operand_starts inner n xs = refl
 
 level_starts : (inner : Language) (n i : ℕ) (xs : Tokens) → (expressions.level inner n i).starts xs ≡ (expressions.operand inner n).starts xs
@@ -173,15 +192,18 @@ pub formal_list_starts : (most : ℕ) (in_body : ℕ) (xs : Tokens) → (texts.f
 unfolding texts.formal_list
 formal_list_starts most in_body xs = refl
 
-pub other_typed_starts : (most : ℕ) (in_body : ℕ) (f : Formal) (xs : Tokens) → (texts.other_typed most in_body f).starts xs ≡ accepts (place_if (is_sign sign.Comma)) xs
+pub other_typed_starts : (most : ℕ) (in_body : ℕ) (f : Formal) (xs : Tokens)
+    → (texts.other_typed most in_body f).starts xs ≡ accepts (place_if (is_sign sign.Comma)) xs
 unfolding texts.other_typed
 other_typed_starts most in_body f xs = refl
 
-pub proc_starts : (most : ℕ) (in_body : ℕ) (of : Option TypePhrase) (xs : Tokens) → (texts.proc most in_body of).starts xs ≡ accepts (place_if (is_key key.Proc)) xs
+pub proc_starts : (most : ℕ) (in_body : ℕ) (of : Option TypePhrase) (xs : Tokens)
+    → (texts.proc most in_body of).starts xs ≡ accepts (place_if (is_key key.Proc)) xs
 unfolding texts.proc texts.proc_parts
 proc_starts most in_body of xs = refl
 
-pub operator_starts : (most : ℕ) (in_body : ℕ) (of : Option TypePhrase) (xs : Tokens) → (texts.operator most in_body of).starts xs ≡ accepts (place_if (is_key key.Op)) xs
+pub operator_starts : (most : ℕ) (in_body : ℕ) (of : Option TypePhrase) (xs : Tokens)
+    → (texts.operator most in_body of).starts xs ≡ accepts (place_if (is_key key.Op)) xs
 unfolding texts.operator texts.operator_parts
 operator_starts most in_body of xs = refl
 
@@ -189,6 +211,19 @@ pub new_type_starts : (most : ℕ) (in_body : ℕ) (xs : Tokens) → (texts.new_
 unfolding texts.new_type
 new_type_starts most in_body xs = refl
 
-pub ruleset of_units = (let_starts, bound_starts, leave_starts, counted_starts, guarded_starts, repeated_starts, upto_starts, downto_starts, init_starts, variables_starts, assigned_starts, statement_starts)
+pub ruleset of_units = (
+  let_starts,
+  bound_starts,
+  leave_starts,
+  counted_starts,
+  guarded_starts,
+  repeated_starts,
+  upto_starts,
+  downto_starts,
+  init_starts,
+  variables_starts,
+  assigned_starts,
+  statement_starts,
+)
 
 pub ruleset of_texts = (refinements_starts, point_tail_starts, formal_list_starts, other_typed_starts, proc_starts, operator_starts, new_type_starts)

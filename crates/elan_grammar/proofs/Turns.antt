@@ -1,5 +1,5 @@
 -- The turns of a loop that reads steps.
-use Rattle.std.proofs.Common.{◌≡◌, ℕ, suc, ◌+◌, ◌-◌, ◌<◌, ◌≤◌, Bool, true, false, Ok, refl, arith}
+use Rattle.std.proofs.Common.{◌≡◌, ℕ, suc, ◌+◌, ◌-◌, ◌<◌, ◌≤◌, true, false, Ok, refl, arith}
 use Rattle.elan_grammar.specs.Rule.{Tokens, and_then, Rule, steps_run}
 
 pub turn_on : {S : Type 0} (body : S → Rule S) (n at : ℕ) (s : S) (xs : Tokens) → at < n → (body s).starts xs ≡ true

@@ -14,7 +14,8 @@ use Rattle.elan_grammar.proofs.Laws.{Set, Within, Apart, Laws, Full, pure_law, f
 use Rattle.elan_grammar.proofs.Sequences.{no_guard, guard_law, choose_law, choose_first}
 use Rattle.elan_grammar.proofs.Every.{within, apart}
 use Rattle.elan_grammar.proofs.Seen.{declares, is_type_name}
-use Rattle.elan_grammar.proofs.Tokens.{keyword_law, mark_law, comma_law, going_law, parting_law, ident_law, bold_law, type_name_law, simple_law, size_law, misses_key, misses_mark, misses_comma, misses_ident, misses_bold}
+use Rattle.elan_grammar.proofs.Tokens.{keyword_law, mark_law, comma_law, going_law, parting_law, ident_law, bold_law, type_name_law, simple_law, size_law}
+use Rattle.elan_grammar.proofs.Tokens.{misses_key, misses_mark, misses_comma, misses_ident, misses_bold}
 use Rattle.elan_grammar.proofs.Tokens.{access_law, constant_law, label_law, negated_law, is_simple, is_size, is_access}
 use Rattle.elan_grammar.proofs.Forms.{bind_same, wider_part, listed_law, seen_listed}
 
@@ -69,7 +70,8 @@ module _ (inner : Rule TypePhrase) (laws : (stop : Set) → Full inner any_type 
   fields_law =
       listed_law _ _ (is_sign sign.Comma) any_type after_field (is_sign sign.RightRound) (parting_law any_type (apart any_type is_ident refl))
       field_law
-      (within (is_sign sign.Comma) after_field refl) (within (is_sign sign.RightRound) after_field refl) (misses_comma (is_sign sign.RightRound) (apart (is_sign sign.RightRound) is_comma refl))
+      (within (is_sign sign.Comma) after_field refl) (within (is_sign sign.RightRound) after_field refl) (misses_comma (is_sign sign.RightRound)
+      (apart (is_sign sign.RightRound) is_comma refl))
 
 module _ (inner : Rule TypePhrase) (n : ℕ) (laws : nat_lt 0 n ≡ true → (stop : Set) → Full inner any_type stop) where
   named_type_law : (p stop : Set) → Full bold p stop → Full (g.named_type inner) p stop
@@ -137,7 +139,8 @@ unfolding g.formals
 formals_law n some =
     listed_law _ _ (is_sign sign.Comma) any_type after_field (is_sign sign.RightRound) (parting_law any_type (apart any_type is_ident refl))
     (formal_law n some)
-    (within (is_sign sign.Comma) after_field refl) (within (is_sign sign.RightRound) after_field refl) (misses_comma (is_sign sign.RightRound) (apart (is_sign sign.RightRound) is_comma refl))
+    (within (is_sign sign.Comma) after_field refl) (within (is_sign sign.RightRound) after_field refl) (misses_comma (is_sign sign.RightRound)
+    (apart (is_sign sign.RightRound) is_comma refl))
 
 negative_law : (stop : Set) → Full g.negative (is_sign sign.Minus) stop
 unfolding g.negative
@@ -153,7 +156,8 @@ constant_rule_law : (stop : Set) → Full g.constant begins_constant stop
 unfolding g.constant g.negative
 constant_rule_law stop =
     choose_law _ _ (is_sign sign.Minus) is_literal begins_constant stop (negative_law stop).laws (constant_law stop)
-    (misses_mark sign.Minus is_literal refl (apart is_literal (is_sign sign.Minus) refl)) (within (is_sign sign.Minus) begins_constant refl) (within is_literal begins_constant refl)
+    (misses_mark sign.Minus is_literal refl (apart is_literal (is_sign sign.Minus) refl)) (within (is_sign sign.Minus) begins_constant refl)
+    (within is_literal begins_constant refl)
 
 let_constant_law : (stop : Set) → Full g.let_constant is_ident stop
 unfolding g.let_constant
@@ -201,7 +205,8 @@ label_rule_law : (stop : Set) → Full g.label begins_label stop
 unfolding g.label g.negative_label
 label_rule_law stop =
     choose_law _ _ (is_sign sign.Minus) is_size begins_label stop (negative_label_law stop).laws (label_law stop)
-    (misses_mark sign.Minus is_size refl (apart is_size (is_sign sign.Minus) refl)) (within (is_sign sign.Minus) begins_label refl) (within is_size begins_label refl)
+    (misses_mark sign.Minus is_size refl (apart is_size (is_sign sign.Minus) refl)) (within (is_sign sign.Minus) begins_label refl)
+    (within is_size begins_label refl)
 
 pub labels_law : (stop : Set) → Apart stop is_comma → Full g.labels begins_label stop
 unfolding g.labels

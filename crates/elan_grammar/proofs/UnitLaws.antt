@@ -17,7 +17,8 @@ use Rattle.elan_grammar.proofs.Laws.{Set, Within, Apart, Laws, Full, pure_law, t
 use Rattle.elan_grammar.proofs.Sequences.{no_guard, guard_law, bind_law, choose_law, Others, seen_law}
 use Rattle.elan_grammar.proofs.Every.{within, apart}
 use Rattle.elan_grammar.proofs.Seen.{declares}
-use Rattle.elan_grammar.proofs.Tokens.{keyword_law, mark_law, comma_law, ident_law, init_law, rep_law, leaving_law, is_leaving, misses_key, misses_mark, misses_comma, misses_init, misses_rep}
+use Rattle.elan_grammar.proofs.Tokens.{keyword_law, mark_law, comma_law, ident_law, init_law, rep_law, leaving_law, is_leaving, misses_key, misses_mark}
+use Rattle.elan_grammar.proofs.Tokens.{misses_comma, misses_init, misses_rep}
 use Rattle.elan_grammar.proofs.Forms.{bind_same, part_same, narrower, optional_law, listed_law}
 use Rattle.elan_grammar.proofs.TypeLaws.{let_items_law, begins_let_item, type_law, typed_law, any_type}
 use Rattle.elan_grammar.proofs.Follows.{ends_level, ends_units, ends_unit, begins_plain, begins_unit}
@@ -61,7 +62,8 @@ unfolding g.loop_end
 loop_end_law stop =
     choose_law _ _ (is_key key.End) (is_key key.Per) is_loop_end stop
     (bind_same _ _ _ _ _ (keyword_law key.End is_rep) (λ _. rep_law stop)).laws (keyword_law key.Per stop)
-    (misses_key key.End (is_key key.Per) (apart (is_key key.Per) (is_key key.End) refl)) (within (is_key key.End) is_loop_end refl) (within (is_key key.Per) is_loop_end refl)
+    (misses_key key.End (is_key key.Per) (apart (is_key key.Per) (is_key key.End) refl)) (within (is_key key.End) is_loop_end refl)
+    (within (is_key key.Per) is_loop_end refl)
 
 module _ (inner : Language) (n : ℕ) (laws : LanguageLaws inner) where
   inner_law : Full (inner.level 6) begins (ends_level 6)
@@ -99,8 +101,10 @@ module _ (inner : Language) (n : ℕ) (laws : LanguageLaws inner) where
   a_limit_law =
       choose_law _ _ (is_key key.Upto) after_downto after_from after_limit upto_law.laws
       (choose_law _ _ (is_key key.Downto) after_limit after_downto after_limit downto_law.laws (pure_law _ after_limit)
-      (misses_key key.Downto after_limit (apart after_limit (is_key key.Downto) refl)) (within (is_key key.Downto) after_downto refl) (within after_limit after_downto refl))
-      (misses_key key.Upto after_downto (apart after_downto (is_key key.Upto) refl)) (within (is_key key.Upto) after_from refl) (within after_downto after_from refl)
+      (misses_key key.Downto after_limit (apart after_limit (is_key key.Downto) refl)) (within (is_key key.Downto) after_downto refl)
+      (within after_limit after_downto refl))
+      (misses_key key.Upto after_downto (apart after_downto (is_key key.Upto) refl)) (within (is_key key.Upto) after_from refl)
+      (within after_downto after_from refl)
 
   from_part_law : Full (g.key_part inner n key.From) after_counter_name after_from
   unfolding g.key_part
@@ -233,7 +237,8 @@ module _ (inner : Language) (n : ℕ) (laws : nat_lt 0 n ≡ true → LanguageLa
   statement_law =
       bind_law _ _ _ _ after_statement ends_unit e1_law (λ a.
       choose_law _ _ (is_sign sign.Becomes) ends_unit after_statement ends_unit (assigned_law a) (pure_law _ ends_unit)
-      (misses_mark sign.Becomes ends_unit refl (apart ends_unit (is_sign sign.Becomes) refl)) (within (is_sign sign.Becomes) after_statement refl) (within ends_unit after_statement refl))
+      (misses_mark sign.Becomes ends_unit refl (apart ends_unit (is_sign sign.Becomes) refl)) (within (is_sign sign.Becomes) after_statement refl)
+      (within ends_unit after_statement refl))
       (within after_statement (ends_level 6) refl)
 
   leave_law : Laws (g.leave inner n) (is_key key.Leave) ends_unit
@@ -318,7 +323,8 @@ module _ (inner : Language) (n : ℕ) (laws : nat_lt 0 n ≡ true → LanguageLa
   unfolding g.units
   units_law =
       listed_law _ _ (is_sign sign.Semicolon) begins_unit ends_unit ends_units (mark_law sign.Semicolon begins_unit refl) unit_law
-      (within (is_sign sign.Semicolon) ends_unit refl) (within ends_units ends_unit refl) (misses_mark sign.Semicolon ends_units refl (apart ends_units (is_sign sign.Semicolon) refl))
+      (within (is_sign sign.Semicolon) ends_unit refl) (within ends_units ends_unit refl) (misses_mark sign.Semicolon ends_units refl
+      (apart ends_units (is_sign sign.Semicolon) refl))
 
 pub phrases_law : (n : ℕ) → nat_lt 0 n ≡ true → LanguageLaws (g.phrases n)
 unfolding g.phrases

@@ -1,5 +1,5 @@
 -- The kinds of tokens: what the parser looks at.
-use Rattle.std.specs.Prelude.{ℕ, nat_lt, Bool, true, false, ◌||◌, if◌then◌else◌, ◌==◌, List, [], ◌∷◌, bytes_eq}
+use Rattle.std.specs.Prelude.{ℕ, nat_lt, Bool, true, false, ◌||◌, if◌then◌else◌, List, [], ◌∷◌, bytes_eq}
 use denote.Enum.Bare.{sameb}
 use Rattle.elan_tree.specs.contracts.token.Key as of_key
 use Rattle.elan_tree.specs.contracts.token.Sign as of_sign

@@ -27,15 +27,12 @@ pub record Rule (A : Type 0) : Type 1 where
   -- the tokens from the first list up to the second spell the value
   pub reads : A → Tokens → Tokens → Type 0
   pub run : Tokens → Outcome A
-  -- The next token is one that it begins with. By this the parser chooses.
+  -- The next tokens can begin what it reads. By this the parser chooses.
   pub starts : Tokens → Bool
 
 -- reads nothing
 abbrev pub pure : {A : Type 0} → A → Rule A
 pure a = record { reads = λ b xs ys. (b ≡ a) × (xs ≡ ys); run = λ xs. Ok (a, xs); starts = λ xs. true }
-
-abbrev pub nothing : Rule (Unit {0})
-nothing = pure tt
 
 abbrev pub fail : {A : Type 0} → Rule A
 fail = record { reads = λ b xs ys. ⊥; run = λ xs. Err (refusal xs); starts = λ xs. false }

@@ -1,4 +1,4 @@
-use Rattle.std.proofs.Common.{◌≡◌, ◌≤◌, ◌-◌, ◌+◌, length}
+use Rattle.std.proofs.Common.{◌≡◌, ◌≤◌, ◌-◌, length}
 use Rattle.elan_grammar.specs.Rule.{steps_run}
 use Rattle.elan_grammar.specs.Expressions as expressions
 use Rattle.elan_grammar.specs.Units as units
