@@ -113,7 +113,7 @@ impl<
         })
     }
 
-    #[tactic(auto, unfolding(elan_grammar::specs::Expressions::named), using(elan_grammar::proofs::Starts::of_expressions))]
+    #[tactic(auto, unfolding(elan_grammar::specs::Expressions::named, elan_grammar::specs::Expressions::call))]
     fn named(&self, cursor: &mut Cursor<'_>) -> Result<Tall<Expr>, ParseError>
         requires { Nests E.Fn U.Fn self.now }
         ensures { Parses (spec.named (units.phrases self.now.depth) self.now.depth) expr_depth (AtMost self.now.depth)

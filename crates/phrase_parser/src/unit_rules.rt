@@ -44,7 +44,7 @@ impl<
         self.expressions().level(cursor, WORD_LEVEL)
     }
 
-    #[tactic(auto, unfolding(elan_grammar::specs::Units::item), using(elan_grammar::proofs::Starts::of_units))]
+    #[tactic(auto, unfolding(elan_grammar::specs::Units::item, elan_grammar::specs::Units::init))]
     fn item(&self, cursor: &mut Cursor<'_>) -> Result<Tall<Item>, ParseError>
         requires { Nests E.Fn U.Fn self.now }
         ensures { Parses (units.item (units.phrases self.now.depth) self.now.depth) item_depth (AtMost self.now.depth)
@@ -232,7 +232,7 @@ impl<
         })
     }
 
-    #[tactic(auto, unfolding(elan_grammar::specs::Units::statement), using(elan_grammar::proofs::Starts::of_units))]
+    #[tactic(auto, unfolding(elan_grammar::specs::Units::statement, elan_grammar::specs::Units::assigned))]
     fn statement(&self, cursor: &mut Cursor<'_>) -> Result<Tall<Unit>, ParseError>
         requires { Nests E.Fn U.Fn self.now }
         ensures { Parses (units.statement (units.phrases self.now.depth) self.now.depth) unit_depth (AtMost self.now.depth)
