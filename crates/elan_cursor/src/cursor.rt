@@ -1,6 +1,6 @@
 //! A cursor over tokens: it stands before the next one.
 
-ghost use Rattle.std.specs.Prelude.{◌≡◌, ◌<◌, nat_lt, Ok, Err, IfOk};
+ghost use Rattle.std.specs.Prelude.{◌≡◌, ◌<◌, ◌||◌, nat_lt, Ok, Err, IfOk};
 ghost use Rattle.elan_grammar.specs.Rule as rule;
 ghost use Rattle.elan_grammar.specs.Rule.{Gives};
 ghost use Rattle.elan_grammar.specs.Kinds as kinds;
@@ -45,6 +45,19 @@ macro_rules! take {
     };
 }
 
+/// Whether the next token is one of these.
+macro_rules! sees {
+    ($cursor:ident, $($word:pat $(if $test:expr)?),+) => {
+        match $cursor.rest {
+            [] => false,
+            [first, ..] => match &first.what {
+                $($word $(if $test)? => true,)+
+                _ => false,
+            },
+        }
+    };
+}
+
 /// The tokens that are left.
 #[derive(Drop)]
 pub struct Cursor<'a> {
@@ -61,16 +74,98 @@ impl<'a> Cursor<'a> {
 
     /// Whether this keyword stands next.
     pub fn sees_key(&self, key: Key) -> bool
-        ensures { result ≡ kinds.is_key key (kinds.ahead self.now.rest.now) }
+        ensures { result ≡ (spec.keyword key).starts self.now.rest.now }
     {
-        is_key(key, self.ahead())
+        sees!(self, word if is_key(key, kind_of(word)))
     }
 
     /// Whether this sign stands next.
     pub fn sees_sign(&self, sign: Sign) -> bool
-        ensures { result ≡ kinds.is_sign sign (kinds.ahead self.now.rest.now) }
+        ensures { result ≡ (spec.mark sign).starts self.now.rest.now }
     {
-        is_sign(sign, self.ahead())
+        sees!(self, word if is_sign(sign, kind_of(word)))
+    }
+
+    /// Whether `::` or `:=` stands next.
+    pub fn sees_init(&self) -> bool
+        ensures { result ≡ (spec.init_mark).starts self.now.rest.now }
+    {
+        sees!(self, word if is_init(kind_of(word)))
+    }
+
+    /// Whether REP or REPEAT stands next.
+    pub fn sees_rep(&self) -> bool
+        ensures { result ≡ (spec.rep).starts self.now.rest.now }
+    {
+        sees!(self, word if is_rep(kind_of(word)))
+    }
+
+    /// Whether an identifier stands next.
+    pub fn sees_ident(&self) -> bool
+        ensures { result ≡ (spec.ident).starts self.now.rest.now }
+    {
+        sees!(self, Word::Ident(_))
+    }
+
+    /// Whether a bold word stands next.
+    pub fn sees_bold(&self) -> bool
+        ensures { result ≡ (spec.bold).starts self.now.rest.now }
+    {
+        sees!(self, Word::Bold(_))
+    }
+
+    /// Whether this identifier stands next.
+    pub fn sees_same(&self, name: &Name) -> bool
+        ensures { result ≡ (spec.word (spec.same_of name.now)).starts self.now.rest.now }
+    {
+        sees!(self, Word::Ident(text) if text.as_slice() == name.text.as_slice())
+    }
+
+    /// Whether this name of an operator stands next.
+    pub fn sees_same_operator(&self, name: &OperatorName) -> bool
+        ensures { result ≡ (spec.word (spec.same_operator_of name.now)).starts self.now.rest.now }
+    {
+        sees!(self, word if is_operator_name(&name.operator, word))
+    }
+
+    /// Whether a number, a text, TRUE or FALSE stands next.
+    pub fn sees_literal(&self) -> bool
+        ensures { result ≡ (spec.word spec.literal_of).starts self.now.rest.now }
+    {
+        sees!(
+            self,
+            Word::Number(_) | Word::Text(_) | Word::Key(Key::True | Key::False)
+        )
+    }
+
+    /// Whether an operator stands next that may stand before its operand.
+    pub fn sees_monadic(&self) -> bool
+        ensures { result ≡ (spec.word spec.monadic_of).starts self.now.rest.now }
+    {
+        sees!(self, Word::Bold(_) | Word::Sign(Sign::Plus | Sign::Minus))
+    }
+
+    /// Whether an operator of a level stands next.
+    pub fn sees_joint(&self, level: u8) -> bool
+        ensures { result ≡ (spec.word (spec.joint_of level)).starts self.now.rest.now }
+    {
+        sees!(self, word @ (Word::Bold(_) | Word::Sign(_) | Word::Key(Key::Cand | Key::Cor)) if is_level(level, kind_of(word)))
+    }
+
+    /// Whether something stands next that an expression begins with.
+    pub fn sees_expression(&self) -> bool
+        ensures { result ≡ (spec.word spec.monadic_of).starts self.now.rest.now || ((spec.word spec.literal_of).starts self.now.rest.now
+            || ((spec.mark Sign.LeftRound).starts self.now.rest.now || ((spec.keyword Key.Concr).starts self.now.rest.now
+            || ((spec.keyword Key.If).starts self.now.rest.now || ((spec.keyword Key.Select).starts self.now.rest.now
+            || (spec.ident).starts self.now.rest.now))))) }
+    {
+        self.sees_monadic()
+            || self.sees_literal()
+            || self.sees_sign(Sign::LeftRound)
+            || self.sees_key(Key::Concr)
+            || self.sees_key(Key::If)
+            || self.sees_key(Key::Select)
+            || self.sees_ident()
     }
 
     /// The refusal at this place.

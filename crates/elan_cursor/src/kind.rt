@@ -180,7 +180,7 @@ fn loose(kind: Kind) -> u8
 
 /// An operator of this level.
 pub fn is_level(level: u8, kind: Kind) -> bool
-    ensures { result ≡ kinds.is_level level kind }
+    ensures { result ≡ (kinds.loose kind == level) }
 {
     loose(kind) == level
 }
@@ -194,42 +194,11 @@ pub fn is_rep(kind: Kind) -> bool
     matches!(kind, Kind::Key(Key::Rep | Key::Repeat))
 }
 
-/// An identifier.
-pub fn is_ident(kind: Kind) -> bool
-    ensures { result ≡ kinds.is_ident kind }
-{
-    matches!(kind, Kind::Ident)
-}
-
-/// A bold word.
-pub fn is_bold(kind: Kind) -> bool
-    ensures { result ≡ kinds.is_bold kind }
-{
-    matches!(kind, Kind::Bold(_) | Kind::TypeName(_))
-}
-
-/// A comma, whatever follows it.
-pub fn is_comma(kind: Kind) -> bool
-    ensures { result ≡ kinds.is_comma kind }
-{
-    matches!(kind, Kind::GoesOn | Kind::Sign(Sign::Comma))
-}
-
 /// A comma with an identifier behind it.
 pub fn goes_on(kind: Kind) -> bool
     ensures { result ≡ kinds.goes_on kind }
 {
     matches!(kind, Kind::GoesOn)
-}
-
-/// A point, whatever follows it.
-pub fn is_point(kind: Kind) -> bool
-    ensures { result ≡ kinds.is_point kind }
-{
-    matches!(
-        kind,
-        Kind::Selects | Kind::Refines | Kind::Sign(Sign::Point)
-    )
 }
 
 /// A point with an identifier behind it.
@@ -239,11 +208,11 @@ pub fn leads(kind: Kind) -> bool
     matches!(kind, Kind::Selects | Kind::Refines)
 }
 
-/// What goes on with a primary: `[`, or a point that selects.
-pub fn lengthens(kind: Kind) -> bool
-    ensures { result ≡ kinds.lengthens kind }
+/// A point with an identifier behind it, and no colon behind that.
+pub fn selects(kind: Kind) -> bool
+    ensures { result ≡ kinds.selects kind }
 {
-    matches!(kind, Kind::Selects | Kind::Sign(Sign::LeftSquare))
+    matches!(kind, Kind::Selects)
 }
 
 /// What an initial value stands behind: `::` or `:=`.
@@ -263,37 +232,6 @@ pub fn is_symbol(sign: Sign) -> bool
     }
 }
 
-/// What may name an operator: a bold word or such a sign.
-pub fn is_operator(kind: Kind) -> bool
-    ensures { result ≡ kinds.is_operator kind }
-{
-    match kind {
-        Kind::Bold(_) | Kind::TypeName(_) => true,
-        Kind::Sign(sign) => is_symbol(sign),
-        _ => false,
-    }
-}
-
-/// What may stand before its one operand.
-pub fn is_monadic(kind: Kind) -> bool
-    ensures { result ≡ kinds.is_monadic kind }
-{
-    matches!(
-        kind,
-        Kind::Bold(_) | Kind::TypeName(_) | Kind::Sign(Sign::Plus | Sign::Minus)
-    )
-}
-
-/// A number, a text, TRUE or FALSE.
-pub fn is_literal(kind: Kind) -> bool
-    ensures { result ≡ kinds.is_literal kind }
-{
-    matches!(
-        kind,
-        Kind::Number | Kind::Text | Kind::Key(Key::True | Key::False)
-    )
-}
-
 /// What a unit begins with that begins with a type.
 pub fn begins_typed(kind: Kind) -> bool
     ensures { result ≡ kinds.begins_typed kind }
@@ -310,20 +248,5 @@ pub fn begins_typed(kind: Kind) -> bool
                     | Key::Row
                     | Key::Struct
             )
-    )
-}
-
-/// What a statement begins with that begins with an expression.
-pub fn begins(kind: Kind) -> bool
-    ensures { result ≡ kinds.begins kind }
-{
-    matches!(
-        kind,
-        Kind::Ident
-            | Kind::Number
-            | Kind::Text
-            | Kind::Bold(_)
-            | Kind::Sign(Sign::Plus | Sign::Minus | Sign::LeftRound)
-            | Kind::Key(Key::True | Key::False | Key::Concr | Key::If | Key::Select)
     )
 }

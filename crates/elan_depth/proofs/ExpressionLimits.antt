@@ -18,13 +18,13 @@ use Rattle.elan_tree.specs.declared.phrase.Unit.{Unit as Phrase}
 use Rattle.elan_grammar.specs.declared.heading.SelectParts.{SelectParts}
 use Rattle.elan_grammar.specs.declared.joint.Joint.{Joint}
 use Rattle.elan_grammar.specs.declared.joint.Joint.TheVariants as joint
-use Rattle.elan_grammar.specs.Rule.{Tokens, Rule, nothing}
+use Rattle.elan_grammar.specs.Rule.{Tokens, Rule}
 use Rattle.elan_grammar.specs.Terminals.{keyword, mark, literal_of}
 use Rattle.elan_grammar.specs.Expressions as g
 use Rattle.elan_grammar.specs.Expressions.{Language, joined_by}
 use Rattle.elan_grammar.specs.Units.{phrases}
 use Rattle.elan_grammar.specs.Depth.{expr_depth, branch_depth, case_depth, unit_depth, expr_place, deepest_of, if_any}
-use Rattle.elan_depth.proofs.Limits.{Fits, lift, drop_one, no_room, room, steps_fit, listed_fits}
+use Rattle.elan_depth.proofs.Limits.{Fits, lift, drop_one, no_room, room, steps_fit, listed_fits, row_fits}
 
 -- ---- depths
 
@@ -231,7 +231,7 @@ case_in m inner c xs ys h =
 
 cases_in : (m : ℕ) → Inner (suc m) → FitsIn g.cases (deepest_of case_depth) m
 unfolding g.cases
-cases_in m inner cs xs ys h = (listed_fits nothing (In g.a_case) case_depth m (case_in m inner) h.3.0 h.0 cs xs h.1 ys h.2 h.3.1).1
+cases_in m inner cs xs ys h = (row_fits (In g.a_case) case_depth m (case_in m inner) h.3.0 h.0 cs xs h.1 ys h.2 h.3.1).1
 
 otherwise_in : (m : ℕ) → Inner (suc m) → FitsIn g.otherwise_part (if_any (deepest_of unit_depth)) m
 unfolding g.otherwise_part

@@ -2,7 +2,7 @@
 use Rattle.std.proofs.Common.{◌≡◌, ℕ, zero, suc, ◌+◌, ◌≤◌, max, true, List, [], ◌∷◌, map, ap, arith}
 use Rattle.std.specs.Prelude.{nat_lt}
 use Rattle.std.proofs.lemmas.Bool.{lt-ltb, ltb-true}
-use Rattle.elan_grammar.specs.Rule.{Tokens, Rule, steps, further}
+use Rattle.elan_grammar.specs.Rule.{Tokens, Rule, steps, one_more, further}
 use Rattle.elan_grammar.specs.Depth.{deepest}
 use Rattle.elan_grammar.proofs.Deepest.{deepest_one, deepest_push}
 
@@ -41,25 +41,53 @@ module _ {S : Type 0} (R : ℕ → S → S → Tokens → Tokens → Type 0) (d 
 
 -- ---- lists
 
-module _ {X A : Type 0} (mark : Rule X) (item : ℕ → Rule A) (d : A → ℕ) (m : ℕ)
+abbrev depth_by : {A : Type 0} → (A → ℕ) → List A → ℕ
+depth_by d xs = deepest (map d xs)
+
+module _ {A : Type 0} (item : ℕ → Rule A) (d : A → ℕ) (m : ℕ)
     (fits : (a : A) (xs ys : Tokens) → (item m).reads a xs ys → Fits (λ n. (item n).reads a xs ys) (d a) m) where
-  abbrev depth : List A → ℕ
-  depth xs = deepest (map d xs)
+  more_fits : (s t : List A) (xs ys : Tokens) → depth_by d s ≤ m → (one_more (item m) s).reads t xs ys
+      → (depth_by d s ≤ depth_by d t) × Fits (λ n. (one_more (item n) s).reads t xs ys) (depth_by d t) m
+  more_fits s t xs ys le h =
+      let one = fits h.0 xs h.1 h.2 in
+      let is : depth_by d t ≡ max (depth_by d s) (d h.0) = rw h.3.0 (deepest_push d s h.0) in
+      (omega (arith, is), (omega (arith, is, le, one.0), λ n fits. (h.0, h.1, one.1 n (omega (arith, is, fits)), h.3)))
 
-  further_fits : (s t : List A) (xs ys : Tokens) → depth s ≤ m → (further mark (item m) s).reads t xs ys
-      → (depth s ≤ depth t) × Fits (λ n. (further mark (item n) s).reads t xs ys) (depth t) m
-  further_fits s t xs ys le h =
-      let i = h.3 in
-      let one = fits i.0 h.1 i.1 i.2 in
-      let is : depth t ≡ max (depth s) (d i.0) = rw i.3.0 (deepest_push d s i.0) in
-      (omega (arith, is), (omega (arith, is, le, one.0), λ n fits. (h.0, h.1, h.2, (i.0, i.1, one.1 n (omega (arith, is, fits)), i.3))))
+  -- items, of which none is deeper than all of them
+  module _ (more : ℕ → List A → Rule (List A))
+      (more_fit : (s t : List A) (xs ys : Tokens) → depth_by d s ≤ m → (more m s).reads t xs ys
+      → (depth_by d s ≤ depth_by d t) × Fits (λ n. (more n s).reads t xs ys) (depth_by d t) m) where
+    all_fit : (j : ℕ) (x : A) (e : List A) (xs zs ys : Tokens) → (item m).reads x xs zs → steps (λ s. (more m s).reads) j (x ∷ []) e zs ys
+        → (d x ≤ depth_by d e)
+        × Fits (λ n. (y : A) × (us : Tokens) × (item n).reads y xs us × ((i : ℕ) × steps (λ s. (more n s).reads) i (y ∷ []) e us ys)) (depth_by d e) m
+    all_fit j x e xs zs ys r later =
+        let one = fits x xs zs r in
+        let is : depth_by d (x ∷ []) ≡ d x = deepest_one d x in
+        let rest = steps_fit (λ n s. (more n s).reads) (depth_by d) m more_fit j (x ∷ []) e zs ys (omega (arith, is, one.0)) later in
+        (omega (arith, is, rest.0), (rest.1.0, λ n fits. (x, zs, one.1 n (omega (arith, is, rest.0, fits)), (j, rest.1.1 n fits))))
 
-  -- with the first item, which is no deeper
-  pub listed_fits : (j : ℕ) (x : A) (e : List A) (xs zs ys : Tokens) → (item m).reads x xs zs → steps (λ s. (further mark (item m) s).reads) j (x ∷ []) e zs ys
-      → (d x ≤ depth e) × Fits
-      (λ n. (y : A) × (us : Tokens) × (item n).reads y xs us × ((i : ℕ) × steps (λ s. (further mark (item n) s).reads) i (y ∷ []) e us ys)) (depth e) m
-  listed_fits j x e xs zs ys r more =
-      let one = fits x xs zs r in
-      let is : depth (x ∷ []) ≡ d x = deepest_one d x in
-      let rest = steps_fit (λ n s. (further mark (item n) s).reads) depth m further_fits j (x ∷ []) e zs ys (omega (arith, is, one.0)) more in
-      (omega (arith, is, rest.0), (rest.1.0, λ n fits. (x, zs, one.1 n (omega (arith, is, rest.0, fits)), (j, rest.1.1 n fits))))
+  pub row_fits : (j : ℕ) (x : A) (e : List A) (xs zs ys : Tokens) → (item m).reads x xs zs → steps (λ s. (one_more (item m) s).reads) j (x ∷ []) e zs ys
+      → (d x ≤ depth_by d e) × Fits
+      (λ n. (y : A) × (us : Tokens) × (item n).reads y xs us × ((i : ℕ) × steps (λ s. (one_more (item n) s).reads) i (y ∷ []) e us ys)) (depth_by d e) m
+  row_fits = all_fit (λ n. one_more (item n)) more_fits
+
+  module _ {X : Type 0} (mark : Rule X) where
+    further_fits : (s t : List A) (xs ys : Tokens) → depth_by d s ≤ m → (further mark (item m) s).reads t xs ys
+        → (depth_by d s ≤ depth_by d t) × Fits (λ n. (further mark (item n) s).reads t xs ys) (depth_by d t) m
+    further_fits s t xs ys le h =
+        let one = more_fits s t h.1 ys le h.3 in
+        (one.0, (one.1.0, λ n fits. (h.0, h.1, h.2, one.1.1 n fits)))
+
+    pub listed_fits_by : (j : ℕ) (x : A) (e : List A) (xs zs ys : Tokens) → (item m).reads x xs zs
+        → steps (λ s. (further mark (item m) s).reads) j (x ∷ []) e zs ys
+        → (d x ≤ depth_by d e) × Fits
+        (λ n. (y : A) × (us : Tokens) × (item n).reads y xs us × ((i : ℕ) × steps (λ s. (further mark (item n) s).reads) i (y ∷ []) e us ys)) (depth_by d e) m
+    listed_fits_by = all_fit (λ n. further mark (item n)) further_fits
+
+-- with the first item, which is no deeper
+pub listed_fits : {X A : Type 0} (mark : Rule X) (item : ℕ → Rule A) (d : A → ℕ) (m : ℕ)
+    → ((a : A) (xs ys : Tokens) → (item m).reads a xs ys → Fits (λ n. (item n).reads a xs ys) (d a) m)
+    → (j : ℕ) (x : A) (e : List A) (xs zs ys : Tokens) → (item m).reads x xs zs → steps (λ s. (further mark (item m) s).reads) j (x ∷ []) e zs ys
+    → (d x ≤ depth_by d e) × Fits
+    (λ n. (y : A) × (us : Tokens) × (item n).reads y xs us × ((i : ℕ) × steps (λ s. (further mark (item n) s).reads) i (y ∷ []) e us ys)) (depth_by d e) m
+listed_fits mark item d m fits = listed_fits_by item d m fits mark

@@ -5,7 +5,8 @@ use Rattle.elan_tree.specs.declared.token.Key.TheVariants as key
 use Rattle.elan_tree.specs.declared.token.Sign.TheVariants as sign
 use Rattle.elan_grammar.specs.declared.kind.Kind.{Kind}
 use Rattle.elan_grammar.specs.declared.kind.Kind.TheVariants as k
-use Rattle.elan_grammar.specs.Kinds.{is_key, is_sign, is_rep, begins, begins_typed, lengthens, loose}
+use Rattle.elan_grammar.specs.Kinds.{is_key, is_sign, is_rep, begins_typed, loose}
+use Rattle.elan_grammar.proofs.Sets.{begins, lengthens}
 use Rattle.elan_grammar.proofs.Laws.{Set}
 
 -- The level of an operator, and a greater one for what ends each expression; 0 for what can't follow an operand or goes on with it.

@@ -8,16 +8,17 @@ use Rattle.elan_tree.specs.declared.token.Sign.TheVariants as sign
 use Rattle.elan_tree.specs.declared.tree.Tree.{Tree}
 use Rattle.elan_grammar.specs.declared.error.ParseError.{ParseError}
 use Rattle.elan_grammar.specs.declared.error.ParseError.TheVariants.{NoMemory, NotElan}
-use Rattle.elan_grammar.specs.Kinds.{ahead, is_key, is_sign, is_ident, is_comma}
+use Rattle.elan_grammar.specs.Kinds.{ahead, is_key, is_sign}
 use Rattle.elan_grammar.specs.Rule.{Tokens, Outcome}
 use Rattle.elan_grammar.specs.Grammar as g
 use Rattle.elan_grammar.specs.Reads.{text, Reads}
 use Rattle.elan_grammar.specs.Stops.{left, left_by}
+use Rattle.elan_grammar.proofs.Sets.{is_ident, is_comma, is_point}
 use Rattle.elan_grammar.proofs.Laws.{Set, Full, keeps, done, failed, left_is, same_value, pure_law}
 use Rattle.elan_grammar.proofs.Sequences.{bind_law, choose_law}
 use Rattle.elan_grammar.proofs.Every.{within, apart}
 use Rattle.elan_grammar.proofs.Seen.{is_colon}
-use Rattle.elan_grammar.proofs.Tokens.{keyword_law, end_law, mark_law, comma_law, ident_law, export_law, is_export}
+use Rattle.elan_grammar.proofs.Tokens.{keyword_law, end_law, mark_law, comma_law, ident_law, export_law, is_export, misses_key, misses_mark, misses_comma}
 use Rattle.elan_grammar.proofs.Forms.{bind_same, listed_law}
 use Rattle.elan_grammar.proofs.LevelLaws.{a_level_law, begins_level, end_name_law, ends_text, is_nothing, last_point_law}
 
@@ -34,8 +35,8 @@ after_exports x = is_comma x || is_colon x
 
 export_list_law : Full g.export_list is_export is_colon
 unfolding g.export_list
-export_list_law = listed_law is_comma _ _ is_comma is_export after_exports is_colon (comma_law is_export) (export_law after_exports)
-    (λ x h. h) (within is_comma after_exports refl) (within is_colon after_exports refl) (apart is_colon is_comma refl) refl
+export_list_law = listed_law _ _ is_comma is_export after_exports is_colon (comma_law is_export) (export_law after_exports)
+    (within is_comma after_exports refl) (within is_colon after_exports refl) (misses_comma is_colon (apart is_colon is_comma refl))
 
 abbrev after_packet_name : Set
 after_packet_name x = is_key key.Defines x || is_colon x
@@ -43,9 +44,10 @@ after_packet_name x = is_key key.Defines x || is_colon x
 exports_law : Full g.exports after_packet_name is_colon
 unfolding g.exports
 exports_law =
-    choose_law (is_key key.Defines) _ _ (is_key key.Defines) is_colon after_packet_name is_colon
+    choose_law _ _ (is_key key.Defines) is_colon after_packet_name is_colon
     (bind_same _ _ _ _ _ (keyword_law key.Defines is_export) (λ _. export_list_law)).laws (pure_law _ is_colon)
-    (λ y h. h) (apart is_colon (is_key key.Defines) refl) (within (is_key key.Defines) after_packet_name refl) (within is_colon after_packet_name refl)
+    (misses_key key.Defines is_colon (apart is_colon (is_key key.Defines) refl)) (within (is_key key.Defines) after_packet_name refl)
+    (within is_colon after_packet_name refl)
 
 abbrev after_point : Set
 after_point x = is_sign sign.Point x || is_nothing x
@@ -56,11 +58,12 @@ last_marks x = is_sign sign.Semicolon x || after_point x
 last_mark_law : Full g.last_mark last_marks is_nothing
 unfolding g.last_mark
 last_mark_law =
-    choose_law (is_sign sign.Semicolon) _ _ (is_sign sign.Semicolon) after_point last_marks is_nothing
+    choose_law _ _ (is_sign sign.Semicolon) after_point last_marks is_nothing
     (bind_same _ _ _ _ _ (mark_law sign.Semicolon is_nothing refl) (λ at. pure_law _ is_nothing)).laws
-    (last_point_law is_nothing (apart is_nothing is_ident refl) (apart is_nothing (is_sign sign.Point) refl) after_point
+    (last_point_law is_nothing (apart is_nothing is_ident refl) (apart is_nothing is_point refl) after_point
     (within (is_sign sign.Point) after_point refl) (within is_nothing after_point refl))
-    (λ x h. h) (apart after_point (is_sign sign.Semicolon) refl) (within (is_sign sign.Semicolon) last_marks refl) (within after_point last_marks refl)
+    (misses_mark sign.Semicolon after_point refl (apart after_point (is_sign sign.Semicolon) refl)) (within (is_sign sign.Semicolon) last_marks refl)
+    (within after_point last_marks refl)
 
 abbrev after_end_packet : Set
 after_end_packet x = is_ident x || last_marks x

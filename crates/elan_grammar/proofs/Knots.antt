@@ -1,10 +1,9 @@
 -- One depth above another.
-use Rattle.std.proofs.Common.{◌≡◌, ℕ, suc, ◌+◌, List, Result, Ok, Err, refl, ◌∙◌, add-one, arith}
+use Rattle.std.proofs.Common.{◌≡◌, ℕ, suc, ◌+◌, List, Result, Ok, Err, refl, ◌∙◌, arith}
 use Rattle.elan_tree.specs.declared.written_type.TypePhrase.{TypePhrase}
 use Rattle.elan_tree.specs.declared.phrase.Expr.{Expr}
 use Rattle.elan_tree.specs.declared.phrase.Unit.{Unit as Phrase}
 use Rattle.elan_grammar.specs.declared.error.ParseError.{ParseError}
-use Rattle.elan_grammar.specs.Kinds.{is_level}
 use Rattle.elan_grammar.specs.declared.tall.Tall.{Tall}
 use Rattle.elan_grammar.specs.Rule.{Tokens, refusal, Rule, iterate, Parses, AtMost, Below}
 use Rattle.elan_grammar.specs.Types.{types, a_type}
@@ -43,9 +42,9 @@ unfolding level
 level_err inner n i j xs e h r = rw (h, r) refl
 
 pub level_ok : (inner : Language) (n i j : ℕ) (xs ys : Tokens) (a : Expr) → i ≡ suc j → (level inner n j).run xs ≡ Ok (a, ys)
-    → (level inner n i).run xs ≡ (iterate (dyadic inner n j) (is_level (j + 1)) a).run ys
+    → (level inner n i).run xs ≡ (iterate (dyadic inner n j) a).run ys
 unfolding level
-level_ok inner n i j xs ys a h r = rw (h, r, add-one) refl
+level_ok inner n i j xs ys a h r = rw (h, r) refl
 
 -- ---- phrases
 

@@ -6,8 +6,8 @@ use Rattle.elan_tree.specs.declared.token.Token.{Token}
 use Rattle.elan_grammar.specs.declared.kind.Kind.{Kind}
 use Rattle.elan_grammar.specs.declared.error.ParseError.{ParseError}
 use Rattle.elan_grammar.specs.Kinds.{ahead}
-use Rattle.elan_grammar.proofs.Looks.{LooksSame}
-use Rattle.elan_grammar.specs.Rule.{Tokens, Outcome, and_then, refusal, Rule, pure, fail, ◌>>=◌, taken, terminal_run, terminal, only}
+use Rattle.elan_grammar.proofs.Looks.{next, SameAhead, LooksSame}
+use Rattle.elan_grammar.specs.Rule.{Tokens, Outcome, and_then, refusal, Rule, pure, fail, ◌>>=◌, taken, terminal_run, is_some, accepts, terminal, only}
 
 abbrev pub Set : Type 0
 Set = Kind → Bool
@@ -50,6 +50,9 @@ pub record Laws {A : Type 0} (r : Rule A) (first stop : Kind → Bool) : Type 0 
   pub reads_on : (front us vs : Tokens) (a : A) → r.run (front ++ us) ≡ Ok (a, us) → LooksSame front us vs → r.run (front ++ vs) ≡ Ok (a, vs)
   pub stops : (front us vs : Tokens) (t : Token) → r.run (front ++ (t ∷ us)) ≡ Err (refusal (t ∷ us)) → LooksSame front (t ∷ us) (t ∷ vs)
       → r.run (front ++ (t ∷ vs)) ≡ Err (refusal (t ∷ vs))
+  -- the parser chooses it where it reads something, and by the next token and what it sees ahead alone
+  pub shows : (xs ys : Tokens) (a : A) → r.reads a xs ys → stop (ahead ys) ≡ true → r.starts xs ≡ true
+  pub same : (us vs : Tokens) → SameAhead us vs → r.starts us ≡ r.starts vs
 
 -- the laws of a rule that reads something
 pub record Full {A : Type 0} (r : Rule A) (first stop : Kind → Bool) : Type 0 where
@@ -150,11 +153,15 @@ no_front_by [] us vs e = refl
 no_front_by (x ∷ front) us vs e = absurd (omega (arith, length-append front us))
 
 pub same_here : (front us vs : Tokens) → LooksSame front us vs → ahead (front ++ us) ≡ ahead (front ++ vs)
-same_here [] us vs h = h
+same_here [] us vs h = h.0
 same_here (x ∷ front) us vs h = h.0
 
+pub same_ahead : (front us vs : Tokens) → LooksSame front us vs → SameAhead (front ++ us) (front ++ vs)
+same_ahead [] us vs h = h
+same_ahead (x ∷ front) us vs h = (h.0, refl)
+
 pub same_first : (a b us vs : Tokens) → LooksSame (a ++ b) us vs → LooksSame a (b ++ us) (b ++ vs)
-same_first [] b us vs h = same_here b us vs h
+same_first [] b us vs h = same_ahead b us vs h
 same_first (x ∷ a) b us vs h =
     (ap (λ (z : Tokens). ahead (x ∷ z)) (sym (append_assoc a b us)) ∙ h.0 ∙ ap (λ (z : Tokens). ahead (x ∷ z)) (append_assoc a b vs), same_first a b us vs h.1)
 
@@ -184,6 +191,8 @@ pure_laws a p = record {
   stuck = λ xs e h. absurd cc;
   reads_on = λ front us vs b e h. stays_on (pure a) a (λ xs. refl) front us vs b e;
   stops = λ front us vs t e h. absurd cc;
+  shows = λ xs ys b h s. refl;
+  same = λ us vs h. refl;
 }
 
 pub pure_law : {A : Type 0} (a : A) (p : Set) → Full (pure a) p p
@@ -207,6 +216,8 @@ fail_law {A = A} first stop = record {
   stuck = λ xs e h. stuck_here fail xs e (sym (left_is (refusal xs) e h));
   reads_on = λ front us vs a e h. absurd (refuses_ok (front ++ us) us a e);
   stops = λ front us vs t e h. refuses_on (fail {A = A}) (λ xs. refl) front us vs t e;
+  shows = λ xs ys a h s. absurd h;
+  same = λ us vs h. refl;
 }
 
 only_sound : (c : Bool) (xs ys : Tokens) (u : Unit {0}) → (only c).run xs ≡ Ok (u, ys) → (c ≡ true) × (xs ≡ ys)
@@ -235,6 +246,8 @@ only_law c p = record {
   stuck = λ xs e h. only_stuck c xs e h;
   reads_on = λ front us vs u e h. only_on c front us vs u e;
   stops = λ front us vs t e h. only_stops c front us vs t e;
+  shows = λ xs ys u h s. refl;
+  same = λ us vs h. refl;
 }
 
 -- ---- one token
@@ -282,6 +295,23 @@ terminal_stops f (x ∷ front) us vs t e =
     let p = refused_length (t ∷ us) (x ∷ (front ++ (t ∷ us))) (terminal_place f (x ∷ (front ++ (t ∷ us))) (refusal (t ∷ us)) e) in
     absurd (omega (arith, p, length-append front (t ∷ us)))
 
+some_is : {A : Type 0} (o : Option A) (a : A) → o ≡ Some a → is_some o ≡ true
+some_is o a h = rw h refl
+
+pub accepts_by : {A : Type 0} (f : Token → Option A) (t : Token) (ts : Tokens) (o : Option A) → f t ≡ o → is_some o ≡ accepts f (t ∷ ts)
+accepts_by f t ts o h = rw h refl
+
+accepts_next : {A : Type 0} (f : Token → Option A) (us vs : Tokens) → next us ≡ next vs → accepts f us ≡ accepts f vs
+accepts_next f [] [] h = refl
+accepts_next f [] (v ∷ vs) h = absurd cc
+accepts_next f (u ∷ us) [] h = absurd cc
+accepts_next f (u ∷ us) (v ∷ vs) h =
+    let e : u ≡ v = cc in
+    rw e refl
+
+pub terminal_same : {A : Type 0} (f : Token → Option A) (us vs : Tokens) → SameAhead us vs → accepts f us ≡ accepts f vs
+terminal_same f us vs h = accepts_next f us vs h.1
+
 pub terminal_law : {A : Type 0} (f : Token → Option A) (first stop : Set)
     → ((t : Token) (ts : Tokens) (a : A) → f t ≡ Some a → stop (ahead ts) ≡ true → first (ahead (t ∷ ts)) ≡ true) → Laws (terminal f) first stop
 terminal_law f first stop begins = record {
@@ -292,7 +322,23 @@ terminal_law f first stop begins = record {
   stuck = λ xs e h. stuck_here (terminal f) xs e (terminal_place f xs e h);
   reads_on = λ front us vs a e h. terminal_on f front us vs a e;
   stops = λ front us vs t e h. terminal_stops f front us vs t e;
+  shows = λ xs ys a h s. rw h.1 (some_is (f h.0) a h.2);
+  same = λ us vs h. terminal_same f us vs h;
 }
+
+-- where the rule takes no token
+no_one : {A : Type 0} (f : Token → Option A) (p q : Set) → ((t : Token) (ts : Tokens) (a : A) → f t ≡ Some a → q (ahead (t ∷ ts)) ≡ true) → Apart p q
+    → (t : Token) (ts : Tokens) (o : Option A) → f t ≡ o → p (ahead (t ∷ ts)) ≡ true → is_some o ≡ false
+no_one f p q takes ap t ts None h e = refl
+no_one f p q takes ap t ts (Some a) h e =
+    let c = ap (ahead (t ∷ ts)) e in
+    let d = takes t ts a h in
+    absurd cc
+
+pub misses : {A : Type 0} (f : Token → Option A) (p q : Set) → ((t : Token) (ts : Tokens) (a : A) → f t ≡ Some a → q (ahead (t ∷ ts)) ≡ true) → Apart p q
+    → (xs : Tokens) → p (ahead xs) ≡ true → accepts f xs ≡ false
+misses f p q takes ap [] e = refl
+misses f p q takes ap (t ∷ ts) e = no_one f p q takes ap t ts (f t) refl e
 
 -- a token that the rule takes
 pub taking : {A : Type 0} (f : Token → Option A) (t : Token) (a : A) → f t ≡ Some a → Completes (terminal f) []

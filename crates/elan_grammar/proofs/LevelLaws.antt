@@ -11,19 +11,21 @@ use Rattle.elan_tree.specs.declared.phrase.Operator.{Operator}
 use Rattle.elan_tree.specs.declared.tree.OperatorName.{OperatorName}
 use Rattle.elan_tree.specs.declared.tree.Refinement.{Refinement}
 use Rattle.elan_grammar.specs.declared.kind.Kind.TheVariants as k
-use Rattle.elan_grammar.specs.Kinds.{kind, second, kind_of, point_by, ahead, is_key, is_sign, is_ident, is_bold, goes_on, is_point, leads, is_operator}
+use Rattle.elan_grammar.specs.Kinds.{kind, second, kind_of, point_by, ahead, is_key, is_sign, goes_on, leads}
 use Rattle.elan_grammar.specs.Kinds.{begins_typed}
-use Rattle.elan_grammar.specs.Rule.{Tokens, further}
+use Rattle.elan_grammar.specs.Rule.{Tokens, further, seen}
 use Rattle.elan_grammar.specs.Terminals.{mark}
 use Rattle.elan_grammar.specs.Units.{phrases}
 use Rattle.elan_grammar.specs.Grammar as g
+use Rattle.elan_grammar.proofs.Sets.{is_ident, is_comma, is_bold, is_point, is_operator}
 use Rattle.elan_grammar.proofs.Laws.{Set, Within, Apart, Laws, Full, pure_law}
-use Rattle.elan_grammar.proofs.Sequences.{bind_law, guard_law, choose_part, choose_law, choose_first}
+use Rattle.elan_grammar.proofs.Sequences.{bind_law, choose_part, choose_law, choose_first, only_then, seen_law, seen_full}
 use Rattle.elan_grammar.proofs.Every.{within, apart}
 use Rattle.elan_grammar.proofs.Seen.{is_colon, is_refines, declares, ident_ahead, ahead-point, refining, alone}
 use Rattle.elan_grammar.proofs.Tokens.{given, keyword_law, end_law, mark_law, point_law, leading_law, alone_law, going_law, parting_law, ident_law}
+use Rattle.elan_grammar.proofs.Tokens.{misses_key, misses_mark, misses_comma, misses_ident, misses_point, misses_same, misses_same_operator}
 use Rattle.elan_grammar.proofs.Tokens.{ident_shows, bold_law, same_law, access_law, is_access, operator_law, same_operator_law}
-use Rattle.elan_grammar.proofs.Forms.{bind_same, part_same, refirst, Eats, eats_terminal, eats_refirst, optional_law, listed_law, listed_by}
+use Rattle.elan_grammar.proofs.Forms.{bind_same, part_same, refirst, Eats, eats_refirst, optional_law, listed_law, listed_by, eats_marked}
 use Rattle.elan_grammar.proofs.TypeLaws.{type_law, typed_law, any_type, formals_law}
 use Rattle.elan_grammar.proofs.Follows.{ends_units, ends_unit, begins_plain, begins_unit}
 use Rattle.elan_grammar.proofs.UnitLaws.{declared_law, plain_law, phrases_law, begins_declared}
@@ -71,29 +73,32 @@ point_alone : (t : Token) (a : ℕ) (zs : Tokens) → cond (is_sign sign.Point (
     → is_sign sign.Point (ahead (t ∷ zs)) ≡ true
 point_alone t a zs h e = rw (ahead-point t zs (given (is_sign sign.Point (kind_of t.what)) t.at a h)) (alone (kind zs) (second zs) (sym (ident_ahead zs) ∙ e))
 
-next_refinement_law : (n : ℕ) → nat_lt 0 n ≡ true → (xs : List Refinement) → Eats (further (mark sign.Point) (g.refinement n) xs) is_refines ends_units
+next_refinement_law : (n : ℕ) → nat_lt 0 n ≡ true → (xs : List Refinement)
+    → Eats (further (seen leads (mark sign.Point)) (g.refinement n) xs) is_refines ends_units
 next_refinement_law n some xs =
     eats_refirst _ leads is_refines ends_units
-    (eats_terminal _ _ _ _ _ leading_law.laws (λ _. bind_same _ _ _ _ _ (refinement_law n some) (λ r. pure_law _ ends_units)))
+    (eats_marked leads _ _ leads is_ident ends_units leading_law.laws (λ x h. h) (λ _. bind_same _ _ _ _ _ (refinement_law n some)
+    (λ r. pure_law _ ends_units)))
     (λ xs ys b h s. rw (h.2.1, point_refines h.2.0 h.0 h.1 h.2.2 (refinement_begins n h.3.0 h.1 h.3.1 h.3.2)) refl)
 
-pub last_point_law : (stop : Set) → Apart stop is_ident → Apart stop (is_sign sign.Point) → (first : Set) → Within (is_sign sign.Point) first
+pub last_point_law : (stop : Set) → Apart stop is_ident → Apart stop is_point → (first : Set) → Within (is_sign sign.Point) first
     → Within stop first
     → Full g.last_point first stop
 unfolding g.last_point
 last_point_law stop no_ident no_point first fx fs =
-    optional_law (is_sign sign.Point) _ (is_sign sign.Point) stop first (alone_law stop no_ident).laws (λ x h. h) no_point fx fs
+    optional_law _ (is_sign sign.Point) stop first (alone_law stop no_ident).laws (misses_point stop no_point) fx fs
 
 refinement_list_law : (n : ℕ) → nat_lt 0 n ≡ true → Full (g.refinement_list n) is_ident last_points
-unfolding g.refinement_list
-refinement_list_law n some = listed_by leads _ _ is_refines is_ident ends_units last_points (refinement_law n some) (next_refinement_law n some)
-    (within is_refines leads refl) (within is_refines ends_units refl) (within last_points ends_units refl) (apart last_points leads refl) refl
+unfolding ahead g.refinement_list
+refinement_list_law n some =
+    listed_by _ _ is_refines is_ident ends_units last_points (refinement_law n some) (next_refinement_law n some) (within is_refines ends_units refl)
+    (within last_points ends_units refl) (λ xs h. apart last_points leads refl (ahead xs) h) refl
 
 refinements_law : (n : ℕ) → nat_lt 0 n ≡ true → Full (g.refinements n) is_ident ends_text
 unfolding g.refinements
 refinements_law n some =
     bind_same _ _ _ _ _ (refinement_list_law n some) (λ rs.
-    bind_same _ _ _ _ _ (last_point_law ends_text (apart ends_text is_ident refl) (apart ends_text (is_sign sign.Point) refl) last_points
+    bind_same _ _ _ _ _ (last_point_law ends_text (apart ends_text is_ident refl) (apart ends_text is_point refl) last_points
     (within (is_sign sign.Point) last_points refl) (within ends_text last_points refl)) (λ _.
     pure_law _ ends_text))
 
@@ -116,12 +121,12 @@ or_right true b h = refl
 or_right false b h = h
 
 point_tail_law : (n : ℕ) → nat_lt 0 n ≡ true → Full (g.point_tail n) ends_body ends_text
-unfolding g.point_tail
+unfolding g.point_tail g.refinements g.refinement_list g.refinement
 point_tail_law n some =
     refirst _ is_point ends_body ends_text
     (bind_same _ _ _ _ _ (point_law ident_or_end) (λ _.
-    choose_law is_ident _ _ is_ident ends_text ident_or_end ends_text (refinements_law n some).laws (pure_law _ ends_text)
-    (λ x h. h) (apart ends_text is_ident refl) (within is_ident ident_or_end refl) (within ends_text ident_or_end refl)))
+    choose_law _ _ is_ident ends_text ident_or_end ends_text (refinements_law n some).laws (pure_law _ ends_text)
+    (misses_ident ends_text (apart ends_text is_ident refl)) (within is_ident ident_or_end refl) (within ends_text ident_or_end refl)))
     (λ xs ys b h s. elim h.3 [
       | inl r ↦ rw (h.2.1, point_refines h.2.0 h.0 h.1 h.2.2 (refinements_begin n b h.1 ys r)) refl
       | inr r ↦ rw h.2.1 (or_right (is_refines (ahead (h.2.0 ∷ h.1))) (is_sign sign.Point (ahead (h.2.0 ∷ h.1)))
@@ -129,10 +134,10 @@ point_tail_law n some =
     ])
 
 tail_law : (n : ℕ) → nat_lt 0 n ≡ true → Full (g.tail n) after_body_units ends_text
-unfolding g.tail
+unfolding g.tail g.point_tail
 tail_law n some =
-    choose_law is_point _ _ ends_body ends_text after_body_units ends_text (point_tail_law n some).laws (pure_law _ ends_text)
-    (within ends_body is_point refl) (apart ends_text is_point refl) (within ends_body after_body_units refl) (within ends_text after_body_units refl)
+    choose_law _ _ ends_body ends_text after_body_units ends_text (point_tail_law n some).laws (pure_law _ ends_text)
+    (misses_point ends_text (apart ends_text is_point refl)) (within ends_body after_body_units refl) (within ends_text after_body_units refl)
 
 body_law : Full (g.body 400 399) begins_unit ends_text
 unfolding g.body
@@ -151,7 +156,7 @@ after_end_proc x = is_ident x || after_level_unit x
 
 pub end_name_law : (x : Name) (stop first : Set) → Apart stop is_ident → Within is_ident first → Within stop first → Full (g.end_name x) first stop
 unfolding g.end_name
-end_name_law x stop first ap fx fs = optional_law is_ident _ is_ident stop first (same_law x stop) (λ y h. h) ap fx fs
+end_name_law x stop first ap fx fs = optional_law _ is_ident stop first (same_law x stop) (misses_same x stop ap) fx fs
 
 abbrev after_end_op : Set
 after_end_op x = is_operator x || after_level_unit x
@@ -159,8 +164,8 @@ after_end_op x = is_operator x || after_level_unit x
 end_operator_law : (o : OperatorName) → Full (g.end_operator o) after_end_op after_level_unit
 unfolding g.end_operator
 end_operator_law o =
-    optional_law is_operator _ is_operator after_level_unit after_end_op (same_operator_law o after_level_unit) (λ y h. h)
-    (apart after_level_unit is_operator refl) (within is_operator after_end_op refl) (within after_level_unit after_end_op refl)
+    optional_law _ is_operator after_level_unit after_end_op (same_operator_law o after_level_unit) (misses_same_operator o after_level_unit
+    (apart after_level_unit is_operator refl)) (within is_operator after_end_op refl) (within after_level_unit after_end_op refl)
 
 formal_list_law : (stop : Set) → Full (g.formal_list 400 399) (is_sign sign.LeftRound) stop
 unfolding g.formal_list
@@ -174,10 +179,11 @@ abbrev after_proc_name : Set
 after_proc_name x = is_sign sign.LeftRound x || is_colon x
 
 optional_formals_law : Full (g.optional_formals 400 399) after_proc_name is_colon
-unfolding g.optional_formals
+unfolding g.optional_formals g.formal_list
 optional_formals_law =
-    choose_law (is_sign sign.LeftRound) _ _ (is_sign sign.LeftRound) is_colon after_proc_name is_colon (formal_list_law is_colon).laws (pure_law _ is_colon)
-    (λ y h. h) (apart is_colon (is_sign sign.LeftRound) refl) (within (is_sign sign.LeftRound) after_proc_name refl) (within is_colon after_proc_name refl)
+    choose_law _ _ (is_sign sign.LeftRound) is_colon after_proc_name is_colon (formal_list_law is_colon).laws (pure_law _ is_colon)
+    (misses_mark sign.LeftRound is_colon refl (apart is_colon (is_sign sign.LeftRound) refl)) (within (is_sign sign.LeftRound) after_proc_name refl)
+    (within is_colon after_proc_name refl)
 
 proc_parts_law : Full (g.proc_parts 400 399) (is_key key.Proc) after_level_unit
 unfolding g.proc_parts
@@ -224,7 +230,7 @@ other_typed_law f =
 one_operand_law : (o : Operator) (f : Formal) → Laws (g.one_operand o f) is_right is_right
 unfolding g.one_operand
 one_operand_law o f =
-    guard_law _ _ _ _ (λ one.
+    only_then _ _ _ _ (λ one.
     (pure_law _ is_right).laws)
 
 abbrev after_operand2 : Set
@@ -234,13 +240,13 @@ abbrev after_operand : Set
 after_operand x = goes_on x || after_operand2 x
 
 operands_law : (o : Operator) → Full (g.operands 400 399 o) any_type is_right
-unfolding g.operands
+unfolding g.operands g.other_typed
 operands_law o =
     bind_same _ _ _ _ _ (operand_law after_operand) (λ f.
-    choose_first goes_on _ _ goes_on after_operand2 after_operand is_right (same_typed_law f)
-    (choose_part (is_sign sign.Comma) _ _ (is_sign sign.Comma) is_right after_operand2 is_right (other_typed_law f).laws (one_operand_law o f)
-    (λ y h. h) (apart is_right (is_sign sign.Comma) refl) (within (is_sign sign.Comma) after_operand2 refl) (within is_right after_operand2 refl))
-    (λ y h. h) (apart after_operand2 goes_on refl) (within goes_on after_operand refl) (within after_operand2 after_operand refl))
+    choose_first _ _ goes_on after_operand2 after_operand is_right (seen_full goes_on _ goes_on is_right (same_typed_law f) (λ y h. h))
+    (choose_part _ _ (is_sign sign.Comma) is_right after_operand2 is_right (other_typed_law f).laws (one_operand_law o f)
+    (misses_comma is_right (apart is_right is_comma refl)) (within (is_sign sign.Comma) after_operand2 refl) (within is_right after_operand2 refl))
+    (λ xs h. apart after_operand2 goes_on refl (ahead xs) h) (within goes_on after_operand refl) (within after_operand2 after_operand refl))
 
 operator_parts_law : Full (g.operator_parts 400 399) (is_key key.Op) after_level_unit
 unfolding g.operator_parts
@@ -282,13 +288,15 @@ abbrev after_type : Set
 after_type x = is_key key.Proc x || after_type2 x
 
 typed_unit_law : Laws (g.typed_unit 400 399) begins_typed after_level_unit
-unfolding g.typed_unit
+unfolding g.typed_unit g.proc g.proc_parts g.operator g.operator_parts
 typed_unit_law =
     part_same _ _ _ _ _ (typed_law 400 after_type (within after_type declares refl)) (λ t.
-    choose_law (is_key key.Proc) _ _ (is_key key.Proc) after_type2 after_type after_level_unit (proc_law (Some t)).laws
-    (choose_law (is_key key.Op) _ _ (is_key key.Op) begins_declared after_type2 after_level_unit (operator_rule_law (Some t)).laws (declared_unit_law t)
-    (λ y h. h) (apart begins_declared (is_key key.Op) refl) (within (is_key key.Op) after_type2 refl) (within begins_declared after_type2 refl))
-    (λ y h. h) (apart after_type2 (is_key key.Proc) refl) (within (is_key key.Proc) after_type refl) (within after_type2 after_type refl))
+    choose_law _ _ (is_key key.Proc) after_type2 after_type after_level_unit (proc_law (Some t)).laws
+    (choose_law _ _ (is_key key.Op) begins_declared after_type2 after_level_unit (operator_rule_law (Some t)).laws (declared_unit_law t)
+    (misses_key key.Op begins_declared (apart begins_declared (is_key key.Op) refl)) (within (is_key key.Op) after_type2 refl)
+    (within begins_declared after_type2 refl))
+    (misses_key key.Proc after_type2 (apart after_type2 (is_key key.Proc) refl)) (within (is_key key.Proc) after_type refl)
+    (within after_type2 after_type refl))
 
 plain_unit_law : Full (g.plain_unit 400 399) begins_plain after_level_unit
 unfolding g.plain_unit
@@ -309,24 +317,24 @@ abbrev pub begins_level : Set
 begins_level x = begins_typed x || level1 x
 
 level_unit_law : Full (g.level_unit 400 399) begins_level after_level_unit
-unfolding g.level_unit
+unfolding g.level_unit g.new_type g.proc g.proc_parts g.operator g.operator_parts
 level_unit_law =
-    choose_law begins_typed _ _ begins_typed level1 begins_level after_level_unit typed_unit_law
-    (choose_law (is_key key.TypeWord) _ _ (is_key key.TypeWord) level2 level1 after_level_unit new_type_law.laws
-    (choose_law (is_key key.Proc) _ _ (is_key key.Proc) level3 level2 after_level_unit (proc_law None).laws
-    (choose_law (is_key key.Op) _ _ (is_key key.Op) begins_plain level3 after_level_unit (operator_rule_law None).laws plain_unit_law
-    (λ y h. h) (apart begins_plain (is_key key.Op) refl) (within (is_key key.Op) level3 refl) (within begins_plain level3 refl))
-    (λ y h. h) (apart level3 (is_key key.Proc) refl) (within (is_key key.Proc) level2 refl) (within level3 level2 refl))
-    (λ y h. h) (apart level2 (is_key key.TypeWord) refl) (within (is_key key.TypeWord) level1 refl) (within level2 level1 refl))
-    (λ y h. h) (apart level1 begins_typed refl) (within begins_typed begins_level refl) (within level1 begins_level refl)
+    choose_law _ _ begins_typed level1 begins_level after_level_unit (seen_law begins_typed _ begins_typed after_level_unit typed_unit_law (λ y h. h))
+    (choose_law _ _ (is_key key.TypeWord) level2 level1 after_level_unit new_type_law.laws
+    (choose_law _ _ (is_key key.Proc) level3 level2 after_level_unit (proc_law None).laws
+    (choose_law _ _ (is_key key.Op) begins_plain level3 after_level_unit (operator_rule_law None).laws plain_unit_law
+    (misses_key key.Op begins_plain (apart begins_plain (is_key key.Op) refl)) (within (is_key key.Op) level3 refl) (within begins_plain level3 refl))
+    (misses_key key.Proc level3 (apart level3 (is_key key.Proc) refl)) (within (is_key key.Proc) level2 refl) (within level3 level2 refl))
+    (misses_key key.TypeWord level2 (apart level2 (is_key key.TypeWord) refl)) (within (is_key key.TypeWord) level1 refl) (within level2 level1 refl))
+    (λ xs h. apart level1 begins_typed refl (ahead xs) h) (within begins_typed begins_level refl) (within level1 begins_level refl)
 
 pub level_units_law : Full (g.level_units 400 399) begins_level after_body_units
 unfolding g.level_units
 level_units_law =
-    listed_law (is_sign sign.Semicolon) _ _ (is_sign sign.Semicolon) begins_level after_level_unit after_body_units (mark_law sign.Semicolon begins_level refl)
+    listed_law _ _ (is_sign sign.Semicolon) begins_level after_level_unit after_body_units (mark_law sign.Semicolon begins_level refl)
     level_unit_law
-    (λ x h. h) (within (is_sign sign.Semicolon) after_level_unit refl) (within after_body_units after_level_unit refl)
-    (apart after_body_units (is_sign sign.Semicolon) refl) refl
+    (within (is_sign sign.Semicolon) after_level_unit refl) (within after_body_units after_level_unit refl)
+    (misses_mark sign.Semicolon after_body_units refl (apart after_body_units (is_sign sign.Semicolon) refl))
 
 pub a_level_law : Full (g.a_level 400 399) begins_level ends_text
 unfolding g.a_level

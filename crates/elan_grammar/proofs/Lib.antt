@@ -1,3 +1,4 @@
+pub mod Sets
 pub mod Looks
 pub mod Turns
 pub mod Deepest
@@ -16,3 +17,4 @@ pub mod UnitLaws
 pub mod LevelLaws
 pub mod GrammarLaws
 pub mod PlaceLaws
+pub mod Starts

@@ -120,7 +120,7 @@ sees_same [] us vs l = tt
 sees_same (x ∷ front) us vs l = (same_ahead x front us vs l, sees_same front us vs l)
 
 looks_there : (front u us vs : Tokens) (t : Token) → SeesSame (front ++ (t ∷ u)) us vs → LooksSame front (t ∷ (u ++ us)) (t ∷ (u ++ vs))
-looks_there [] u us vs t h = h.0
+looks_there [] u us vs t h = (h.0, refl)
 looks_there (x ∷ front) u us vs t h = (
   ap (λ (z : Tokens). ahead (x ∷ z)) (sym (append_assoc front (t ∷ u) us)) ∙ h.0 ∙ ap (λ (z : Tokens). ahead (x ∷ z)) (append_assoc front (t ∷ u) vs),
   looks_there front u us vs t h.1,

@@ -7,8 +7,9 @@ use Rattle.elan_grammar.specs.declared.kind.Tier.{Tier}
 use Rattle.elan_grammar.specs.declared.kind.Kind.{Kind}
 use Rattle.elan_grammar.specs.declared.kind.Kind.TheVariants as k
 use Rattle.elan_grammar.specs.Rule.{Tokens}
-use Rattle.elan_grammar.specs.Kinds.{kind, second, kind_of, point_by, comma_by, bold_by, by_next, ahead, is_ident, is_sign, is_comma, is_point, is_bold}
+use Rattle.elan_grammar.specs.Kinds.{kind, second, kind_of, point_by, comma_by, bold_by, by_next, ahead, is_sign}
 use Rattle.elan_grammar.specs.Kinds.{goes_on, leads}
+use Rattle.elan_grammar.proofs.Sets.{is_ident, is_comma, is_point, is_bold}
 use Rattle.elan_grammar.proofs.Laws.{Set, Apart}
 
 abbrev pub is_colon : Set

@@ -1,14 +1,15 @@
 -- What holds of one rule after another, and of one or the other.
+use Rattle.std.specs.Prelude.{◌||◌}
 use Rattle.std.proofs.Common.{◌≡◌, ℕ, inl, inr, Bool, true, false, cond, [], ◌∷◌, ◌++◌, length, drop, Ok, Err, refl, sym, ap, subst, ◌∙◌, arith, append_assoc}
 use Rattle.std.proofs.lemmas.List.{append_cancel_right, length-append}
 use Rattle.std.proofs.Math.Seq.{drop-append_seam}
 use Rattle.elan_tree.specs.declared.token.Token.{Token}
 use Rattle.elan_grammar.specs.declared.error.ParseError.{ParseError}
 use Rattle.elan_grammar.specs.Kinds.{ahead}
-use Rattle.elan_grammar.proofs.Looks.{LooksSame}
-use Rattle.elan_grammar.specs.Rule.{Tokens, refusal, Rule, ◌>>=◌, only, choose}
-use Rattle.elan_grammar.proofs.Laws.{Apart, Completes, Full, Laws, Set, Splits, Stuck, Within, after_completes, and_then_err, and_then_ok, bind_completes}
-use Rattle.elan_grammar.proofs.Laws.{chosen, left_is, only_law, refused_length, refuses_ok, refuses_on, same_first, same_here, same_second, some_or_none}
+use Rattle.elan_grammar.proofs.Looks.{SameAhead, LooksSame}
+use Rattle.elan_grammar.specs.Rule.{Tokens, refusal, Rule, ◌>>=◌, only, starting, seen, guard, choose}
+use Rattle.elan_grammar.proofs.Laws.{Completes, Full, Laws, Set, Splits, Stuck, Within, after_completes, and_then_err, and_then_ok, bind_completes}
+use Rattle.elan_grammar.proofs.Laws.{chosen, left_is, only_law, refused_length, refuses_ok, refuses_on, same_first, same_ahead, same_second, some_or_none}
 use Rattle.elan_grammar.proofs.Laws.{stuck_here}
 
 -- ---- one rule after another
@@ -119,6 +120,8 @@ module _ {A B : Type 0} (r : Rule A) (f : A → Rule B) (r1 r2 f1 f2 : Set) (lr 
     stuck = stuck;
     reads_on = bind_reads_on;
     stops = bind_stops;
+    shows = λ xs ys b h s. lr.shows xs h.1 h.0 h.2 (w (ahead h.1) ((lf h.0).starts h.1 ys b h.3 s));
+    same = lr.same;
   }
 
 -- a rule and one that reads something behind it
@@ -148,10 +151,10 @@ guarded_stuck r first stop l xs e h =
 pub no_guard : {X : Type 0} → false ≡ true → X
 no_guard e = absurd cc
 
-pub guard_law : {B : Type 0} (c : Bool) (r : Rule B) (first stop : Set) → (c ≡ true → Laws r first stop) → Laws (only c >>= (λ _. r)) first stop
-guard_law true r first stop l =
+pub only_then : {B : Type 0} (c : Bool) (r : Rule B) (first stop : Set) → (c ≡ true → Laws r first stop) → Laws (only c >>= (λ _. r)) first stop
+only_then true r first stop l =
     bind_by (only true) (λ _. r) first first first stop (only_law true first) (λ _. l refl) (guarded_stuck r first stop (l refl)) (λ x h. h)
-guard_law false r first stop l = record {
+only_then false r first stop l = record {
   sound = λ xs ys b e. absurd (refuses_ok xs ys b e);
   whole = λ xs ys b h s. no_guard h.2.0;
   starts = λ xs ys b h s. no_guard h.2.0;
@@ -159,7 +162,43 @@ guard_law false r first stop l = record {
   stuck = λ xs e h. stuck_here (only false >>= (λ _. r)) xs e (sym (left_is (refusal xs) e h));
   reads_on = λ front us vs b e h. absurd (refuses_ok (front ++ us) us b e);
   stops = λ front us vs t e h. refuses_on (only false >>= (λ _. r)) (λ xs. refl) front us vs t e;
+  shows = λ xs ys b h s. no_guard h.2.0;
+  same = λ us vs h. refl;
 }
+
+-- the same rule, chosen by another look
+restarted : {A : Type 0} (r : Rule A) (b : Tokens → Bool) (front : Tokens) → Completes r front → Completes (starting b r) front
+restarted r b front c = record { more = c.more; value = c.value; reads = c.reads }
+
+pub starting_law : {A : Type 0} (r : Rule A) (b : Tokens → Bool) (first stop : Set) → Laws r first stop
+    → ((xs ys : Tokens) (a : A) → r.reads a xs ys → stop (ahead ys) ≡ true → b xs ≡ true) → ((us vs : Tokens) → SameAhead us vs → b us ≡ b vs)
+    → Laws (starting b r) first stop
+starting_law r b first stop l shows same = record {
+  sound = l.sound;
+  whole = l.whole;
+  starts = l.starts;
+  splits = λ xs ys a h. let s = l.splits xs ys a h in record { front = s.front; whole = s.whole; free = s.free };
+  stuck = λ xs e h.
+      let s = l.stuck xs e h in
+      record { front = s.front; rest = s.rest; whole = s.whole; place = s.place; viable = λ some. restarted r b s.front (s.viable some) };
+  reads_on = l.reads_on;
+  stops = l.stops;
+  shows = shows;
+  same = same;
+}
+
+pub seen_law : {A : Type 0} (b : Set) (r : Rule A) (first stop : Set) → Laws r first stop → Within first b → Laws (seen b r) first stop
+seen_law b r first stop l w = starting_law r (λ xs. b (ahead xs)) first stop l (λ xs ys a h s. w (ahead xs) (l.starts xs ys a h s)) (λ us vs h. ap b h.0)
+
+pub seen_full : {A : Type 0} (b : Set) (r : Rule A) (first stop : Set) → Full r first stop → Within first b → Full (seen b r) first stop
+seen_full b r first stop l w =
+    record { laws = seen_law b r first stop l.laws w; sample = restarted r (λ xs. b (ahead xs)) [] l.sample }
+
+pub guard_law : {B : Type 0} (c : Bool) (r : Rule B) (first stop : Set) → ((us vs : Tokens) → SameAhead us vs → r.starts us ≡ r.starts vs)
+    → (c ≡ true → Laws r first stop) → Laws (guard c r) first stop
+guard_law c r first stop same l =
+    starting_law (only c >>= (λ _. r)) r.starts first stop (only_then c r first stop l)
+    (λ xs ys b h s. subst (λ (z : Tokens). r.starts z ≡ true) (sym h.2.1) ((l h.2.0).shows h.1 ys b h.3 s)) same
 
 -- ---- one or the other
 
@@ -169,22 +208,33 @@ on_test false false x y u v z w e f g h = g h
 on_test true false x y u v z w e f g h = absurd cc
 on_test false true x y u v z w e f g h = absurd cc
 
-first_completes : {A : Type 0} (b : Set) (r s : Rule A) (front : Tokens) → Completes r front → Completes (choose b r s) front
-first_completes b r s front c = record { more = c.more; value = c.value; reads = λ zs. inl (c.reads zs) }
+first_completes : {A : Type 0} (r s : Rule A) (front : Tokens) → Completes r front → Completes (choose r s) front
+first_completes r s front c = record { more = c.more; value = c.value; reads = λ zs. inl (c.reads zs) }
 
-second_completes : {A : Type 0} (b : Set) (r s : Rule A) (front : Tokens) → Completes s front → Completes (choose b r s) front
-second_completes b r s front c = record { more = c.more; value = c.value; reads = λ zs. inr (c.reads zs) }
+second_completes : {A : Type 0} (r s : Rule A) (front : Tokens) → Completes s front → Completes (choose r s) front
+second_completes r s front c = record { more = c.more; value = c.value; reads = λ zs. inr (c.reads zs) }
 
-pub choose_part : {A : Type 0} (b : Set) (r s : Rule A) (r1 s1 first stop : Set) → Laws r r1 stop → Laws s s1 stop
-    → Within r1 b → Apart s1 b → Within r1 first → Within s1 first → Laws (choose b r s) first stop
-choose_part b r s r1 s1 first stop lr ls wr ws fr fs = record {
-  sound = λ xs ys a e. elim (chosen (b (ahead xs)) (r.run xs) (s.run xs) (Ok (a, ys)) e) [
+pub or_false : (a b : Bool) → a ≡ false → b ≡ false → (a || b) ≡ false
+or_false a b e h = rw (e, h) refl
+
+or_true : (a b : Bool) → b ≡ true → (a || b) ≡ true
+or_true true b h = refl
+or_true false b h = h
+
+-- The second begins with what the first does not.
+abbrev pub Others : {A : Type 0} → Set → Rule A → Type 0
+Others p r = (xs : Tokens) → p (ahead xs) ≡ true → r.starts xs ≡ false
+
+pub choose_part : {A : Type 0} (r s : Rule A) (r1 s1 first stop : Set) → Laws r r1 stop → Laws s s1 stop
+    → Others s1 r → Within r1 first → Within s1 first → Laws (choose r s) first stop
+choose_part r s r1 s1 first stop lr ls others fr fs = record {
+  sound = λ xs ys a e. elim (chosen (r.starts xs) (r.run xs) (s.run xs) (Ok (a, ys)) e) [
     | inl h ↦ inl (lr.sound xs ys a h.1)
     | inr h ↦ inr (ls.sound xs ys a h.1)
   ];
   whole = λ xs ys a h t. elim h [
-    | inl x ↦ rw (wr (ahead xs) (lr.starts xs ys a x t)) (lr.whole xs ys a x t)
-    | inr x ↦ rw (ws (ahead xs) (ls.starts xs ys a x t)) (ls.whole xs ys a x t)
+    | inl x ↦ rw (lr.shows xs ys a x t) (lr.whole xs ys a x t)
+    | inr x ↦ rw (others xs (ls.starts xs ys a x t)) (ls.whole xs ys a x t)
   ];
   starts = λ xs ys a h t. elim h [
     | inl x ↦ fr (ahead xs) (lr.starts xs ys a x t)
@@ -194,32 +244,38 @@ choose_part b r s r1 s1 first stop lr ls wr ws fr fs = record {
     | inl x ↦ let p = lr.splits xs ys a x in record { front = p.front; whole = p.whole; free = λ zs. inl (p.free zs) }
     | inr x ↦ let p = ls.splits xs ys a x in record { front = p.front; whole = p.whole; free = λ zs. inr (p.free zs) }
   ];
-  stuck = λ xs e h. elim (chosen (b (ahead xs)) (r.run xs) (s.run xs) (Err e) h) [
+  stuck = λ xs e h. elim (chosen (r.starts xs) (r.run xs) (s.run xs) (Err e) h) [
     | inl x ↦
         let p = lr.stuck xs e x.1 in
-        record { front = p.front; rest = p.rest; whole = p.whole; place = p.place; viable = λ some. first_completes b r s p.front (p.viable some) }
+        record { front = p.front; rest = p.rest; whole = p.whole; place = p.place; viable = λ some. first_completes r s p.front (p.viable some) }
     | inr x ↦
         let p = ls.stuck xs e x.1 in
-        record { front = p.front; rest = p.rest; whole = p.whole; place = p.place; viable = λ some. second_completes b r s p.front (p.viable some) }
+        record { front = p.front; rest = p.rest; whole = p.whole; place = p.place; viable = λ some. second_completes r s p.front (p.viable some) }
   ];
   reads_on =
-      λ front us vs a e h. on_test (b (ahead (front ++ us))) (b (ahead (front ++ vs))) (r.run (front ++ us)) (s.run (front ++ us)) (r.run (front ++ vs))
+      λ front us vs a e h. on_test (r.starts (front ++ us)) (r.starts (front ++ vs)) (r.run (front ++ us)) (s.run (front ++ us)) (r.run (front ++ vs))
       (s.run (front ++ vs)) (Ok (a, us)) (Ok (a, vs))
-      (ap b (same_here front us vs h)) (λ x. lr.reads_on front us vs a x h) (λ x. ls.reads_on front us vs a x h) e;
+      (lr.same (front ++ us) (front ++ vs) (same_ahead front us vs h)) (λ x. lr.reads_on front us vs a x h) (λ x. ls.reads_on front us vs a x h) e;
   stops =
-      λ front us vs t e h. on_test (b (ahead (front ++ (t ∷ us)))) (b (ahead (front ++ (t ∷ vs)))) (r.run (front ++ (t ∷ us))) (s.run (front ++ (t ∷ us)))
+      λ front us vs t e h. on_test (r.starts (front ++ (t ∷ us))) (r.starts (front ++ (t ∷ vs))) (r.run (front ++ (t ∷ us))) (s.run (front ++ (t ∷ us)))
       (r.run (front ++ (t ∷ vs))) (s.run (front ++ (t ∷ vs))) (Err (refusal (t ∷ us))) (Err (refusal (t ∷ vs)))
-      (ap b (same_here front (t ∷ us) (t ∷ vs) h)) (λ x. lr.stops front us vs t x h) (λ x. ls.stops front us vs t x h) e;
+      (lr.same (front ++ (t ∷ us)) (front ++ (t ∷ vs)) (same_ahead front (t ∷ us) (t ∷ vs) h)) (λ x. lr.stops front us vs t x h)
+      (λ x. ls.stops front us vs t x h) e;
+  shows = λ xs ys a h t. elim h [
+    | inl x ↦ rw (lr.shows xs ys a x t) refl
+    | inr x ↦ or_true (r.starts xs) (s.starts xs) (ls.shows xs ys a x t)
+  ];
+  same = λ us vs h. rw (lr.same us vs h, ls.same us vs h) refl;
 }
 
 -- Where the second reads something, so does the choice.
-pub choose_law : {A : Type 0} (b : Set) (r s : Rule A) (r1 s1 first stop : Set) → Laws r r1 stop → Full s s1 stop
-    → Within r1 b → Apart s1 b → Within r1 first → Within s1 first → Full (choose b r s) first stop
-choose_law b r s r1 s1 first stop lr ls wr ws fr fs =
-    record { laws = choose_part b r s r1 s1 first stop lr ls.laws wr ws fr fs; sample = second_completes b r s [] ls.sample }
+pub choose_law : {A : Type 0} (r s : Rule A) (r1 s1 first stop : Set) → Laws r r1 stop → Full s s1 stop
+    → Others s1 r → Within r1 first → Within s1 first → Full (choose r s) first stop
+choose_law r s r1 s1 first stop lr ls others fr fs =
+    record { laws = choose_part r s r1 s1 first stop lr ls.laws others fr fs; sample = second_completes r s [] ls.sample }
 
 -- the same where the first does
-pub choose_first : {A : Type 0} (b : Set) (r s : Rule A) (r1 s1 first stop : Set) → Full r r1 stop → Laws s s1 stop
-    → Within r1 b → Apart s1 b → Within r1 first → Within s1 first → Full (choose b r s) first stop
-choose_first b r s r1 s1 first stop lr ls wr ws fr fs =
-    record { laws = choose_part b r s r1 s1 first stop lr.laws ls wr ws fr fs; sample = first_completes b r s [] lr.sample }
+pub choose_first : {A : Type 0} (r s : Rule A) (r1 s1 first stop : Set) → Full r r1 stop → Laws s s1 stop
+    → Others s1 r → Within r1 first → Within s1 first → Full (choose r s) first stop
+choose_first r s r1 s1 first stop lr ls others fr fs =
+    record { laws = choose_part r s r1 s1 first stop lr.laws ls others fr fs; sample = first_completes r s [] lr.sample }

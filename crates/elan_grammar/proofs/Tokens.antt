@@ -1,6 +1,6 @@
 -- What holds of the rules of one token.
 use Rattle.std.proofs.Common.{◌≡◌, ℕ, suc, Bool, true, false, cond, Option, Some, None, refl, sym, ◌∙◌, arith}
-use Rattle.std.specs.Prelude.{not, ◌==◌, ◌&&◌, ℤ, neg_ℤ, pos, []}
+use Rattle.std.specs.Prelude.{not, ◌==◌, ◌&&◌, ℤ, neg_ℤ, pos, [], ◌∷◌}
 use Rattle.std.proofs.lemmas.Bool.{eqb-true}
 use denote.Enum.Bare.{true_same}
 use Rattle.elan_tree.specs.contracts.token.Key as of_key
@@ -34,13 +34,14 @@ use Rattle.elan_grammar.specs.declared.kind.Tier.{Tier}
 use Rattle.elan_grammar.specs.declared.kind.Kind.TheVariants as k
 use Rattle.elan_grammar.specs.declared.joint.Joint.{Joint}
 use Rattle.elan_grammar.specs.declared.joint.Joint.TheVariants as joint
-use Rattle.elan_grammar.specs.Kinds.{ahead, kind, second, kind_of, is_key, is_sign, is_ident, is_number, is_bold, is_comma, goes_on, is_point, leads, is_init}
-use Rattle.elan_grammar.specs.Kinds.{is_rep, is_symbol, is_operator, is_literal, begins, is_level, loose, tier_of, tier_level, same_sign}
-use Rattle.elan_grammar.specs.Rule.{terminal}
+use Rattle.elan_grammar.specs.Kinds.{ahead, kind, second, kind_of, is_key, is_sign, goes_on, leads, is_init}
+use Rattle.elan_grammar.specs.Kinds.{is_rep, is_symbol, loose, tier_of, tier_level, same_sign}
+use Rattle.elan_grammar.specs.Rule.{Tokens, terminal}
 use Rattle.elan_grammar.specs.Terminals as terminals
-use Rattle.elan_grammar.proofs.Laws.{Set, Within, Apart, Laws, Full, taking, terminal_law}
-use Rattle.elan_grammar.proofs.Sequences.{bind_law}
-use Rattle.elan_grammar.proofs.Every.{every, implies, apart}
+use Rattle.elan_grammar.proofs.Sets.{is_ident, is_number, is_bold, is_comma, is_point, is_operator, is_literal, begins, is_level, is_monadic}
+use Rattle.elan_grammar.proofs.Laws.{Set, Within, Apart, Laws, Full, taking, misses, terminal_law}
+use Rattle.elan_grammar.proofs.Sequences.{Others, bind_law}
+use Rattle.elan_grammar.proofs.Every.{every, implies, within, apart}
 use Rattle.elan_grammar.proofs.Seen.{is_special, is_mark, is_type_name, declares, ahead-is, stays, ident_ahead, declares_ahead, ahead-point, pointed, leading}
 use Rattle.elan_grammar.proofs.Seen.{alone, ahead-comma, commaed, going_on, parting, type_named, ahead-plain}
 
@@ -49,16 +50,28 @@ pub given : {A : Type 0} (b : Bool) (x y : A) → cond b (Some x) None ≡ Some 
 given true x y e = refl
 given false x y e = absurd cc
 
+-- what a rule takes is seen as one of these kinds
+abbrev Takes : {A : Type 0} → (Token → Option A) → Set → Type 0
+Takes {A = A} f first = (t : Token) (ts : Tokens) (a : A) → f t ≡ Some a → first (ahead (t ∷ ts)) ≡ true
+
+plain_takes : {A : Type 0} (f : Token → Option A) (first : Set) → ((t : Token) (a : A) → f t ≡ Some a → first (kind_of t.what) ≡ true)
+    → Apart first is_special → Takes f first
+plain_takes f first shows apart t ts a h =
+    let is = shows t a h in
+    rw (ahead-is t ts (apart (kind_of t.what) is)) is
+
 plain_law : {A : Type 0} (f : Token → Option A) (first stop : Set) → ((t : Token) (a : A) → f t ≡ Some a → first (kind_of t.what) ≡ true)
     → Apart first is_special → Laws (terminal f) first stop
-plain_law f first stop shows apart = terminal_law f first stop (λ t ts a h s.
-    let is = shows t a h in
-    rw (ahead-is t ts (apart (kind_of t.what) is)) is)
+plain_law f first stop shows apart = terminal_law f first stop (λ t ts a h s. plain_takes f first shows apart t ts a h)
 
 -- of a token that may be a bold word
+loose_takes : {A : Type 0} (f : Token → Option A) (first : Set) → ((t : Token) (a : A) → f t ≡ Some a → first (kind_of t.what) ≡ true)
+    → ((r : Tier) → first (k.Bold r) ≡ true → first (k.TypeName r) ≡ true) → Apart first is_mark → Takes f first
+loose_takes f first shows same apart t ts a h = stays first same apart t ts (shows t a h)
+
 loose_law : {A : Type 0} (f : Token → Option A) (first stop : Set) → ((t : Token) (a : A) → f t ≡ Some a → first (kind_of t.what) ≡ true)
     → ((r : Tier) → first (k.Bold r) ≡ true → first (k.TypeName r) ≡ true) → Apart first is_mark → Laws (terminal f) first stop
-loose_law f first stop shows same apart = terminal_law f first stop (λ t ts a h s. stays first same apart t ts (shows t a h))
+loose_law f first stop shows same apart = terminal_law f first stop (λ t ts a h s. loose_takes f first shows same apart t ts a h)
 
 -- ---- rules of one token read something
 
@@ -87,6 +100,11 @@ keyword_law x stop =
     full (terminals.place_if (is_key x)) (is_key x) stop (w.Key x) 1 (key_taken x)
     (plain_law (terminals.place_if (is_key x)) (is_key x) stop (λ t a h. given (is_key x (kind_of t.what)) t.at a h) (key_apart x))
 
+pub misses_key : (x : Key) (p : Set) → Apart p (is_key x) → Others p (terminals.keyword x)
+misses_key x p ap =
+    misses (terminals.place_if (is_key x)) p (is_key x)
+    (plain_takes (terminals.place_if (is_key x)) (is_key x) (λ t a h. given (is_key x (kind_of t.what)) t.at a h) (key_apart x)) ap
+
 pub end_law : (x : Key) (stop : Set) → Full (terminals.end_of x) (is_key key.End) stop
 unfolding terminals.end_of
 end_law x stop =
@@ -97,15 +115,30 @@ mark_law x stop e =
     full _ (is_sign x) stop (w.Sign x) 1 (sign_taken x)
     (plain_law (terminals.place_if (is_sign x)) (is_sign x) stop (λ t a h. given (is_sign x (kind_of t.what)) t.at a h) (apart (is_sign x) is_special e))
 
+pub misses_mark : (x : Sign) (p : Set) → every (λ y. implies (is_sign x y) (not (is_special y))) ≡ true → Apart p (is_sign x) → Others p (terminals.mark x)
+misses_mark x p e ap =
+    misses (terminals.place_if (is_sign x)) p (is_sign x)
+    (plain_takes (terminals.place_if (is_sign x)) (is_sign x) (λ t a h. given (is_sign x (kind_of t.what)) t.at a h) (apart (is_sign x) is_special e)) ap
+
 pub init_law : (stop : Set) → Full terminals.init_mark is_init stop
 init_law stop =
     full _ is_init stop (w.Sign sign.Becomes) 1 refl
     (plain_law (terminals.place_if is_init) is_init stop (λ t a h. given (is_init (kind_of t.what)) t.at a h) (apart is_init is_special refl))
 
+pub misses_init : (p : Set) → Apart p is_init → Others p terminals.init_mark
+misses_init p ap =
+    misses (terminals.place_if is_init) p is_init
+    (plain_takes (terminals.place_if is_init) is_init (λ t a h. given (is_init (kind_of t.what)) t.at a h) (apart is_init is_special refl)) ap
+
 pub rep_law : (stop : Set) → Full terminals.rep is_rep stop
 rep_law stop =
     full _ is_rep stop (w.Key key.Rep) 1 refl
     (plain_law (terminals.place_if is_rep) is_rep stop (λ t a h. given (is_rep (kind_of t.what)) t.at a h) (apart is_rep is_special refl))
+
+pub misses_rep : (p : Set) → Apart p is_rep → Others p terminals.rep
+misses_rep p ap =
+    misses (terminals.place_if is_rep) p is_rep
+    (plain_takes (terminals.place_if is_rep) is_rep (λ t a h. given (is_rep (kind_of t.what)) t.at a h) (apart is_rep is_special refl)) ap
 
 -- ---- points and commas
 
@@ -117,6 +150,11 @@ point_law stop =
     full _ is_point stop (w.Sign sign.Point) 1 refl
     (terminal_law (terminals.place_if (is_sign sign.Point)) is_point stop
     (λ t ts a h s. rw (ahead-point t ts (point_shows t a h)) (pointed (kind ts) (second ts))))
+
+pub misses_point : (p : Set) → Apart p is_point → Others p (terminals.mark sign.Point)
+misses_point p ap =
+    misses (terminals.place_if (is_sign sign.Point)) p is_point
+    (λ t ts a h. rw (ahead-point t ts (point_shows t a h)) (pointed (kind ts) (second ts))) ap
 
 -- before an identifier
 pub leading_law : Full (terminals.mark sign.Point) leads is_ident
@@ -139,6 +177,10 @@ pub comma_law : (stop : Set) → Full (terminals.mark sign.Comma) is_comma stop
 comma_law stop =
     full _ is_comma stop (w.Sign sign.Comma) 1 refl
     (terminal_law (terminals.place_if (is_sign sign.Comma)) is_comma stop (λ t ts a h s. rw (ahead-comma t ts (comma_shows t a h)) (commaed (kind ts))))
+
+pub misses_comma : (p : Set) → Apart p is_comma → Others p (terminals.mark sign.Comma)
+misses_comma p ap =
+    misses (terminals.place_if (is_sign sign.Comma)) p is_comma (λ t ts a h. rw (ahead-comma t ts (comma_shows t a h)) (commaed (kind ts))) ap
 
 pub going_law : Full (terminals.mark sign.Comma) goes_on is_ident
 going_law =
@@ -163,6 +205,11 @@ ident_law stop =
     full _ is_ident stop (w.Ident []) (terminals.named_at 1 []) refl
     (plain_law (terminals.in_word terminals.ident_of) is_ident stop (λ t a h. ident_shows t.at t.what a h) (apart is_ident is_special refl))
 
+pub misses_ident : (p : Set) → Apart p is_ident → Others p terminals.ident
+misses_ident p ap =
+    misses (terminals.in_word terminals.ident_of) p is_ident
+    (plain_takes (terminals.in_word terminals.ident_of) is_ident (λ t a h. ident_shows t.at t.what a h) (apart is_ident is_special refl)) ap
+
 bold_shows : (at : ℕ) (v : Word) (a : Name) → terminals.bold_of at v ≡ Some a → is_bold (kind_of v) ≡ true
 bold_shows at (w.Bold b) a e = refl
 bold_shows at _ a e = absurd cc
@@ -171,6 +218,11 @@ pub bold_law : (stop : Set) → Full terminals.bold is_bold stop
 bold_law stop =
     full _ is_bold stop (w.Bold []) (terminals.named_at 1 []) refl
     (loose_law (terminals.in_word terminals.bold_of) is_bold stop (λ t a h. bold_shows t.at t.what a h) (λ r e. refl) (apart is_bold is_mark refl))
+
+pub misses_bold : (p : Set) → Apart p is_bold → Others p terminals.bold
+misses_bold p ap =
+    misses (terminals.in_word terminals.bold_of) p is_bold
+    (loose_takes (terminals.in_word terminals.bold_of) is_bold (λ t a h. bold_shows t.at t.what a h) (λ r e. refl) (apart is_bold is_mark refl)) ap
 
 -- before VAR, CONST, PROC or OP
 pub type_name_law : (stop : Set) → Within stop declares → Full terminals.bold is_type_name stop
@@ -202,6 +254,11 @@ same_shows x at _ a e = absurd cc
 
 pub same_law : (x : Name) (stop : Set) → Laws (terminals.word (terminals.same_of x)) is_ident stop
 same_law x stop = plain_law (terminals.in_word (terminals.same_of x)) is_ident stop (λ t a h. same_shows x t.at t.what a h) (apart is_ident is_special refl)
+
+pub misses_same : (x : Name) (p : Set) → Apart p is_ident → Others p (terminals.word (terminals.same_of x))
+misses_same x p ap =
+    misses (terminals.in_word (terminals.same_of x)) p is_ident
+    (plain_takes (terminals.in_word (terminals.same_of x)) is_ident (λ t a h. same_shows x t.at t.what a h) (apart is_ident is_special refl)) ap
 
 -- ---- what stands in types, constants, labels and expressions
 
@@ -290,6 +347,11 @@ literal_law stop =
     full _ is_literal stop (w.Key key.True) (e.Truth 1 true) refl
     (plain_law (terminals.in_word terminals.literal_of) is_literal stop (λ t a h. literal_shows t.at t.what a h) (apart is_literal is_special refl))
 
+pub misses_literal : (p : Set) → Apart p is_literal → Others p (terminals.word terminals.literal_of)
+misses_literal p ap =
+    misses (terminals.in_word terminals.literal_of) p is_literal
+    (plain_takes (terminals.in_word terminals.literal_of) is_literal (λ t a h. literal_shows t.at t.what a h) (apart is_literal is_special refl)) ap
+
 negated_shows : (at : ℕ) (v : Word) (a : ℤ) → terminals.negated_of at v ≡ Some a → is_number (kind_of v) ≡ true
 negated_shows at (w.Number n) a e = refl
 negated_shows at _ a e = absurd cc
@@ -319,6 +381,12 @@ monadic_law = terminal_law (terminals.in_word terminals.monadic_of) applies begi
     let is = monadic_shows t.at t.what a h in
     rw (ahead-plain t ts (apart applies is_mark refl (kind_of t.what) is) (sym (declares_ahead ts) ∙ apart begins declares refl (ahead ts) s)) is)
 
+pub misses_monadic : (p : Set) → Apart p is_monadic → Others p (terminals.word terminals.monadic_of)
+misses_monadic p ap =
+    misses (terminals.in_word terminals.monadic_of) p is_monadic
+    (loose_takes (terminals.in_word terminals.monadic_of) is_monadic
+    (λ t a h. within applies is_monadic refl (kind_of t.what) (monadic_shows t.at t.what a h)) (λ r e. refl) (apart is_monadic is_mark refl)) ap
+
 joint_shows : (i at : ℕ) (v : Word) (a : Joint) → terminals.joint_of i at v ≡ Some a → is_level i (kind_of v) ≡ true
 joint_shows i at (w.Bold b) a e = given (tier_level (tier_of b) == i) (joint.Operator (op.Named b)) a e
 joint_shows i at (w.Sign x) a e = given (loose (k.Sign x) == i) (joint.Operator (op.Sign x)) a e
@@ -337,6 +405,11 @@ no_mark i _ h = refl
 pub joint_law : (i : ℕ) (stop : Set) → Laws (terminals.word (terminals.joint_of (suc i))) (is_level (suc i)) stop
 joint_law i stop =
     loose_law (terminals.in_word (terminals.joint_of (suc i))) (is_level (suc i)) stop (λ t a h. joint_shows (suc i) t.at t.what a h) (λ r e. e) (no_mark i)
+
+pub misses_joint : (i : ℕ) (p : Set) → Apart p (is_level (suc i)) → Others p (terminals.word (terminals.joint_of (suc i)))
+misses_joint i p ap =
+    misses (terminals.in_word (terminals.joint_of (suc i))) p (is_level (suc i))
+    (loose_takes (terminals.in_word (terminals.joint_of (suc i))) (is_level (suc i)) (λ t a h. joint_shows (suc i) t.at t.what a h) (λ r e. e) (no_mark i)) ap
 
 operator_shows : (at : ℕ) (v : Word) (a : OperatorName) → terminals.operator_of at v ≡ Some a → is_operator (kind_of v) ≡ true
 operator_shows at (w.Bold b) a e = refl
@@ -364,6 +437,12 @@ pub same_operator_law : (o : OperatorName) (stop : Set) → Laws (terminals.word
 same_operator_law o stop =
     loose_law (terminals.in_word (terminals.same_operator_of o)) is_operator stop
     (λ t a h. same_operator_shows o.operator t.what (given (terminals.same_operator o.operator t.what) tt a h)) (λ r e. refl) operator_apart
+
+pub misses_same_operator : (o : OperatorName) (p : Set) → Apart p is_operator → Others p (terminals.word (terminals.same_operator_of o))
+misses_same_operator o p ap =
+    misses (terminals.in_word (terminals.same_operator_of o)) p is_operator
+    (loose_takes (terminals.in_word (terminals.same_operator_of o)) is_operator
+    (λ t a h. same_operator_shows o.operator t.what (given (terminals.same_operator o.operator t.what) tt a h)) (λ r e. refl) operator_apart) ap
 
 abbrev pub is_export : Set
 is_export k.Ident = true

@@ -6,21 +6,23 @@ use Rattle.elan_tree.specs.declared.token.Sign.TheVariants as sign
 use Rattle.elan_tree.specs.declared.written_type.TypePhrase.{TypePhrase}
 use Rattle.elan_tree.specs.declared.phrase.Expr.{Expr}
 use Rattle.elan_tree.specs.declared.phrase.Counter.{Counter}
-use Rattle.elan_grammar.specs.Kinds.{is_key, is_sign, is_ident, is_comma, is_init, is_rep, begins, begins_typed}
+use Rattle.elan_grammar.specs.Kinds.{is_key, is_sign, is_init, is_rep, begins_typed, ahead}
 use Rattle.elan_grammar.specs.Rule.{◌>>◌, optional}
 use Rattle.elan_grammar.specs.Terminals.{keyword}
 use Rattle.elan_grammar.specs.Expressions.{Language, level}
 use Rattle.elan_grammar.specs.Depth.{expr_depth}
 use Rattle.elan_grammar.specs.Units as g
-use Rattle.elan_grammar.proofs.Laws.{Set, Within, Apart, Laws, Full, pure_law}
-use Rattle.elan_grammar.proofs.Sequences.{no_guard, guard_law, bind_law, choose_law}
+use Rattle.elan_grammar.proofs.Sets.{is_ident, is_comma, begins}
+use Rattle.elan_grammar.proofs.Laws.{Set, Within, Apart, Laws, Full, pure_law, terminal_same}
+use Rattle.elan_grammar.proofs.Sequences.{no_guard, guard_law, bind_law, choose_law, Others, seen_law}
 use Rattle.elan_grammar.proofs.Every.{within, apart}
 use Rattle.elan_grammar.proofs.Seen.{declares}
-use Rattle.elan_grammar.proofs.Tokens.{keyword_law, mark_law, comma_law, ident_law, init_law, rep_law, leaving_law, is_leaving}
+use Rattle.elan_grammar.proofs.Tokens.{keyword_law, mark_law, comma_law, ident_law, init_law, rep_law, leaving_law, is_leaving, misses_key, misses_mark}
+use Rattle.elan_grammar.proofs.Tokens.{misses_comma, misses_init, misses_rep}
 use Rattle.elan_grammar.proofs.Forms.{bind_same, part_same, narrower, optional_law, listed_law}
 use Rattle.elan_grammar.proofs.TypeLaws.{let_items_law, begins_let_item, type_law, typed_law, any_type}
 use Rattle.elan_grammar.proofs.Follows.{ends_level, ends_units, ends_unit, begins_plain, begins_unit}
-use Rattle.elan_grammar.proofs.ExpressionLaws.{LanguageLaws, deeper, level_law}
+use Rattle.elan_grammar.proofs.ExpressionLaws.{LanguageLaws, deeper, level_law, no_level}
 
 abbrev pub begins_declared : Set
 begins_declared x = is_key key.Var x || is_key key.Const x
@@ -58,9 +60,10 @@ after_leaving x = is_key key.With x || ends_unit x
 loop_end_law : (stop : Set) → Full g.loop_end is_loop_end stop
 unfolding g.loop_end
 loop_end_law stop =
-    choose_law (is_key key.End) _ _ (is_key key.End) (is_key key.Per) is_loop_end stop
+    choose_law _ _ (is_key key.End) (is_key key.Per) is_loop_end stop
     (bind_same _ _ _ _ _ (keyword_law key.End is_rep) (λ _. rep_law stop)).laws (keyword_law key.Per stop)
-    (λ x h. h) (apart (is_key key.Per) (is_key key.End) refl) (within (is_key key.End) is_loop_end refl) (within (is_key key.Per) is_loop_end refl)
+    (misses_key key.End (is_key key.Per) (apart (is_key key.Per) (is_key key.End) refl)) (within (is_key key.End) is_loop_end refl)
+    (within (is_key key.Per) is_loop_end refl)
 
 module _ (inner : Language) (n : ℕ) (laws : LanguageLaws inner) where
   inner_law : Full (inner.level 6) begins (ends_level 6)
@@ -68,10 +71,10 @@ module _ (inner : Language) (n : ℕ) (laws : LanguageLaws inner) where
 
   -- a keyword and an expression that may be left out
   part_law : (x : _) (stop first : Set) → Within stop (ends_level 6) → Apart stop (is_key x) → Within (is_key x) first → Within stop first
-      → Full (optional (is_key x) (keyword x >> inner.level 6)) first stop
+      → Full (optional (keyword x >> inner.level 6)) first stop
   part_law x stop first w ap fx fs =
-      optional_law (is_key x) _ (is_key x) stop first (bind_same _ _ _ _ _ (keyword_law x begins) (λ _. narrower _ _ _ stop inner_law w)).laws (λ y h. h) ap fx
-      fs
+      optional_law _ (is_key x) stop first (bind_same _ _ _ _ _ (keyword_law x begins) (λ _. narrower _ _ _ stop inner_law w)).laws
+      (misses_key x stop ap) fx fs
 
   with_part_law : Full (g.key_part inner n key.With) after_leaving ends_unit
   unfolding g.key_part
@@ -94,12 +97,14 @@ module _ (inner : Language) (n : ℕ) (laws : LanguageLaws inner) where
       pure_law _ after_limit)
 
   a_limit_law : Full (g.a_limit inner n) after_from after_limit
-  unfolding g.a_limit
+  unfolding g.a_limit g.upto g.downto
   a_limit_law =
-      choose_law (is_key key.Upto) _ _ (is_key key.Upto) after_downto after_from after_limit upto_law.laws
-      (choose_law (is_key key.Downto) _ _ (is_key key.Downto) after_limit after_downto after_limit downto_law.laws (pure_law _ after_limit)
-      (λ x h. h) (apart after_limit (is_key key.Downto) refl) (within (is_key key.Downto) after_downto refl) (within after_limit after_downto refl))
-      (λ x h. h) (apart after_downto (is_key key.Upto) refl) (within (is_key key.Upto) after_from refl) (within after_downto after_from refl)
+      choose_law _ _ (is_key key.Upto) after_downto after_from after_limit upto_law.laws
+      (choose_law _ _ (is_key key.Downto) after_limit after_downto after_limit downto_law.laws (pure_law _ after_limit)
+      (misses_key key.Downto after_limit (apart after_limit (is_key key.Downto) refl)) (within (is_key key.Downto) after_downto refl)
+      (within after_limit after_downto refl))
+      (misses_key key.Upto after_downto (apart after_downto (is_key key.Upto) refl)) (within (is_key key.Upto) after_from refl)
+      (within after_downto after_from refl)
 
   from_part_law : Full (g.key_part inner n key.From) after_counter_name after_from
   unfolding g.key_part
@@ -159,17 +164,17 @@ module _ (inner : Language) (n : ℕ) (laws : nat_lt 0 n ≡ true → LanguageLa
   init_item_law = narrower _ _ _ after_item init_rule_law (within after_item (ends_level 6) refl)
 
   item_law : Full (g.item inner n) is_ident after_item
-  unfolding g.item
+  unfolding g.item g.init
   item_law =
       bind_same _ _ _ _ _ (ident_law after_item_name) (λ x.
-      bind_same _ _ _ _ _ (optional_law is_init _ is_init after_item after_item_name init_item_law.laws (λ x h. h) (apart after_item is_init refl)
+      bind_same _ _ _ _ _ (optional_law _ is_init after_item after_item_name init_item_law.laws (misses_init after_item (apart after_item is_init refl))
       (within is_init after_item_name refl) (within after_item after_item_name refl)) (λ i.
       pure_law _ after_item))
 
   items_law : Full (g.items inner n) is_ident ends_unit
   unfolding g.items
-  items_law = listed_law is_comma _ _ is_comma is_ident after_item ends_unit (comma_law is_ident) item_law
-      (λ x h. h) (within is_comma after_item refl) (within ends_unit after_item refl) (apart ends_unit is_comma refl) refl
+  items_law = listed_law _ _ is_comma is_ident after_item ends_unit (comma_law is_ident) item_law
+      (within is_comma after_item refl) (within ends_unit after_item refl) (misses_comma ends_unit (apart ends_unit is_comma refl))
 
   constant_item_law : Full (g.constant_item inner n) is_ident after_item
   unfolding g.constant_item
@@ -180,8 +185,8 @@ module _ (inner : Language) (n : ℕ) (laws : nat_lt 0 n ≡ true → LanguageLa
 
   constant_items_law : Full (g.constant_items inner n) is_ident ends_unit
   unfolding g.constant_items
-  constant_items_law = listed_law is_comma _ _ is_comma is_ident after_item ends_unit (comma_law is_ident) constant_item_law
-      (λ x h. h) (within is_comma after_item refl) (within ends_unit after_item refl) (apart ends_unit is_comma refl) refl
+  constant_items_law = listed_law _ _ is_comma is_ident after_item ends_unit (comma_law is_ident) constant_item_law
+      (within is_comma after_item refl) (within ends_unit after_item refl) (misses_comma ends_unit (apart ends_unit is_comma refl))
 
   variables_law : (t : TypePhrase) → Full (g.variables inner n t) (is_key key.Var) ends_unit
   unfolding g.variables
@@ -198,10 +203,10 @@ module _ (inner : Language) (n : ℕ) (laws : nat_lt 0 n ≡ true → LanguageLa
       pure_law _ ends_unit))
 
   pub declared_law : (t : TypePhrase) → Full (g.declared inner n t) begins_declared ends_unit
-  unfolding g.declared
+  unfolding g.declared g.variables
   declared_law t =
-      choose_law (is_key key.Var) _ _ (is_key key.Var) (is_key key.Const) begins_declared ends_unit (variables_law t).laws (constants_law t)
-      (λ x h. h) (apart (is_key key.Const) (is_key key.Var) refl) (within (is_key key.Var) begins_declared refl)
+      choose_law _ _ (is_key key.Var) (is_key key.Const) begins_declared ends_unit (variables_law t).laws (constants_law t)
+      (misses_key key.Var (is_key key.Const) (apart (is_key key.Const) (is_key key.Var) refl)) (within (is_key key.Var) begins_declared refl)
       (within (is_key key.Const) begins_declared refl)
 
   declaration_law : Laws (g.declaration inner n) begins_typed ends_unit
@@ -212,7 +217,7 @@ module _ (inner : Language) (n : ℕ) (laws : nat_lt 0 n ≡ true → LanguageLa
   bound_law : Laws (g.bound inner n) (is_key key.Bound) ends_unit
   unfolding g.bound
   bound_law =
-      guard_law _ _ _ _ (λ some. (
+      guard_law _ _ _ _ (terminal_same _) (λ some. (
       bind_same _ _ _ _ _ (keyword_law key.Bound any_type) (λ at.
       bind_same _ _ _ _ _ (type_law n some (is_key key.Var)) (λ t.
       bind_same _ _ _ _ _ (keyword_law key.Var is_ident) (λ _.
@@ -222,23 +227,24 @@ module _ (inner : Language) (n : ℕ) (laws : nat_lt 0 n ≡ true → LanguageLa
   assigned_law : (a : Expr) → Laws (g.assigned inner n a) (is_sign sign.Becomes) ends_unit
   unfolding g.assigned
   assigned_law a =
-      guard_law _ _ _ _ (λ some. (
+      guard_law _ _ _ _ (terminal_same _) (λ some. (
       bind_same _ _ _ _ _ (mark_law sign.Becomes begins refl) (λ _.
       bind_law _ _ _ _ ends_unit ends_unit (inner_law inner n (laws (deeper (expr_depth a) n some))) (λ b.
       pure_law _ ends_unit) (within ends_unit (ends_level 6) refl))).laws)
 
   statement_law : Full (g.statement inner n) begins ends_unit
-  unfolding g.statement
+  unfolding g.statement g.assigned
   statement_law =
       bind_law _ _ _ _ after_statement ends_unit e1_law (λ a.
-      choose_law (is_sign sign.Becomes) _ _ (is_sign sign.Becomes) ends_unit after_statement ends_unit (assigned_law a) (pure_law _ ends_unit)
-      (λ x h. h) (apart ends_unit (is_sign sign.Becomes) refl) (within (is_sign sign.Becomes) after_statement refl) (within ends_unit after_statement refl))
+      choose_law _ _ (is_sign sign.Becomes) ends_unit after_statement ends_unit (assigned_law a) (pure_law _ ends_unit)
+      (misses_mark sign.Becomes ends_unit refl (apart ends_unit (is_sign sign.Becomes) refl)) (within (is_sign sign.Becomes) after_statement refl)
+      (within ends_unit after_statement refl))
       (within after_statement (ends_level 6) refl)
 
   leave_law : Laws (g.leave inner n) (is_key key.Leave) ends_unit
   unfolding g.leave
   leave_law =
-      guard_law _ _ _ _ (λ some. (
+      guard_law _ _ _ _ (terminal_same _) (λ some. (
       bind_same _ _ _ _ _ (keyword_law key.Leave is_leaving) (λ at.
       bind_same _ _ _ _ _ (leaving_law after_leaving) (λ x.
       bind_same _ _ _ _ _ (with_part_law inner n (laws some)) (λ a.
@@ -247,7 +253,7 @@ module _ (inner : Language) (n : ℕ) (laws : nat_lt 0 n ≡ true → LanguageLa
   counted_law : (stop : Set) → Laws (g.counted inner n) (is_key key.For) stop
   unfolding g.counted
   counted_law stop =
-      guard_law _ _ _ _ (λ some. (
+      guard_law _ _ _ _ (terminal_same _) (λ some. (
       bind_same _ _ _ _ _ (keyword_law key.For is_ident) (λ at.
       bind_same _ _ _ _ _ (counter_law inner n (laws some)) (λ c.
       bind_same _ _ _ _ _ (while_part_law inner n (laws some)) (λ w.
@@ -256,15 +262,15 @@ module _ (inner : Language) (n : ℕ) (laws : nat_lt 0 n ≡ true → LanguageLa
   guarded_law : (stop : Set) → Laws (g.guarded inner n) (is_key key.While) stop
   unfolding g.guarded
   guarded_law stop =
-      guard_law _ _ _ _ (λ some. (
+      guard_law _ _ _ _ (terminal_same _) (λ some. (
       bind_same _ _ _ _ _ (keyword_law key.While begins) (λ at.
       bind_law _ _ _ _ is_rep stop (inner_law inner n (laws some)) (λ w.
       turns_law inner n (laws some) (Some at) None (Some w) stop) (within is_rep (ends_level 6) refl))).laws)
 
   repeated_law : (stop : Set) → Laws (g.repeated inner n) is_rep stop
-  unfolding g.repeated
+  unfolding g.repeated g.turns g.turn_parts
   repeated_law stop =
-      guard_law _ _ _ _ (λ some. (
+      guard_law _ _ _ _ (terminal_same _) (λ some. (
       turns_law inner n (laws some) None None None stop).laws)
 
   abbrev plain6 : Set
@@ -285,35 +291,40 @@ module _ (inner : Language) (n : ℕ) (laws : nat_lt 0 n ≡ true → LanguageLa
   abbrev plain1 : Set
   plain1 x = is_key key.Bound x || plain2 x
 
+  no_statement : Others ends_unit (g.statement inner n)
+  unfolding g.statement
+  no_statement = no_level inner n laws 6
+
   pub plain_law : Full (g.plain inner n) begins_plain ends_unit
-  unfolding g.plain
+  unfolding g.plain g.a_let g.bound g.leave g.counted g.guarded g.repeated g.turns g.turn_parts
   plain_law =
-      choose_law (is_key key.Let) _ _ (is_key key.Let) plain1 begins_plain ends_unit a_let_law.laws
-      (choose_law (is_key key.Bound) _ _ (is_key key.Bound) plain2 plain1 ends_unit bound_law
-      (choose_law (is_key key.Leave) _ _ (is_key key.Leave) plain3 plain2 ends_unit leave_law
-      (choose_law (is_key key.For) _ _ (is_key key.For) plain4 plain3 ends_unit (counted_law ends_unit)
-      (choose_law (is_key key.While) _ _ (is_key key.While) plain5 plain4 ends_unit (guarded_law ends_unit)
-      (choose_law is_rep _ _ is_rep plain6 plain5 ends_unit (repeated_law ends_unit)
-      (choose_law begins _ _ begins ends_unit plain6 ends_unit statement_law.laws (pure_law _ ends_unit)
-      (λ x h. h) (apart ends_unit begins refl) (within begins plain6 refl) (within ends_unit plain6 refl))
-      (λ x h. h) (apart plain6 is_rep refl) (within is_rep plain5 refl) (within plain6 plain5 refl))
-      (λ x h. h) (apart plain5 (is_key key.While) refl) (within (is_key key.While) plain4 refl) (within plain5 plain4 refl))
-      (λ x h. h) (apart plain4 (is_key key.For) refl) (within (is_key key.For) plain3 refl) (within plain4 plain3 refl))
-      (λ x h. h) (apart plain3 (is_key key.Leave) refl) (within (is_key key.Leave) plain2 refl) (within plain3 plain2 refl))
-      (λ x h. h) (apart plain2 (is_key key.Bound) refl) (within (is_key key.Bound) plain1 refl) (within plain2 plain1 refl))
-      (λ x h. h) (apart plain1 (is_key key.Let) refl) (within (is_key key.Let) begins_plain refl) (within plain1 begins_plain refl)
+      choose_law _ _ (is_key key.Let) plain1 begins_plain ends_unit a_let_law.laws
+      (choose_law _ _ (is_key key.Bound) plain2 plain1 ends_unit bound_law
+      (choose_law _ _ (is_key key.Leave) plain3 plain2 ends_unit leave_law
+      (choose_law _ _ (is_key key.For) plain4 plain3 ends_unit (counted_law ends_unit)
+      (choose_law _ _ (is_key key.While) plain5 plain4 ends_unit (guarded_law ends_unit)
+      (choose_law _ _ is_rep plain6 plain5 ends_unit (repeated_law ends_unit)
+      (choose_law _ _ begins ends_unit plain6 ends_unit statement_law.laws (pure_law _ ends_unit)
+      (no_statement) (within begins plain6 refl) (within ends_unit plain6 refl))
+      (misses_rep plain6 (apart plain6 is_rep refl)) (within is_rep plain5 refl) (within plain6 plain5 refl))
+      (misses_key key.While plain5 (apart plain5 (is_key key.While) refl)) (within (is_key key.While) plain4 refl) (within plain5 plain4 refl))
+      (misses_key key.For plain4 (apart plain4 (is_key key.For) refl)) (within (is_key key.For) plain3 refl) (within plain4 plain3 refl))
+      (misses_key key.Leave plain3 (apart plain3 (is_key key.Leave) refl)) (within (is_key key.Leave) plain2 refl) (within plain3 plain2 refl))
+      (misses_key key.Bound plain2 (apart plain2 (is_key key.Bound) refl)) (within (is_key key.Bound) plain1 refl) (within plain2 plain1 refl))
+      (misses_key key.Let plain1 (apart plain1 (is_key key.Let) refl)) (within (is_key key.Let) begins_plain refl) (within plain1 begins_plain refl)
 
   unit_law : Full (g.unit inner n) begins_unit ends_unit
   unfolding g.unit
   unit_law =
-      choose_law begins_typed _ _ begins_typed begins_plain begins_unit ends_unit declaration_law plain_law
-      (λ x h. h) (apart begins_plain begins_typed refl) (within begins_typed begins_unit refl) (within begins_plain begins_unit refl)
+      choose_law _ _ begins_typed begins_plain begins_unit ends_unit (seen_law begins_typed _ begins_typed ends_unit declaration_law (λ x h. h)) plain_law
+      (λ xs h. apart begins_plain begins_typed refl (ahead xs) h) (within begins_typed begins_unit refl) (within begins_plain begins_unit refl)
 
   units_law : Full (g.units inner n) begins_unit ends_units
   unfolding g.units
   units_law =
-      listed_law (is_sign sign.Semicolon) _ _ (is_sign sign.Semicolon) begins_unit ends_unit ends_units (mark_law sign.Semicolon begins_unit refl) unit_law
-      (λ x h. h) (within (is_sign sign.Semicolon) ends_unit refl) (within ends_units ends_unit refl) (apart ends_units (is_sign sign.Semicolon) refl) refl
+      listed_law _ _ (is_sign sign.Semicolon) begins_unit ends_unit ends_units (mark_law sign.Semicolon begins_unit refl) unit_law
+      (within (is_sign sign.Semicolon) ends_unit refl) (within ends_units ends_unit refl) (misses_mark sign.Semicolon ends_units refl
+      (apart ends_units (is_sign sign.Semicolon) refl))
 
 pub phrases_law : (n : ℕ) → nat_lt 0 n ≡ true → LanguageLaws (g.phrases n)
 unfolding g.phrases

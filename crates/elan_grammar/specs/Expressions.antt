@@ -12,8 +12,8 @@ use Rattle.elan_grammar.specs.declared.heading.SelectParts.{SelectParts}
 use Rattle.elan_grammar.specs.declared.joint.Joint.{Joint}
 use Rattle.elan_grammar.specs.declared.joint.Joint.TheVariants as joint
 use Rattle.elan_grammar.specs.declared.joint.Right.{Right}
-use Rattle.elan_grammar.specs.Kinds.{is_key, is_sign, is_comma, is_literal, is_monadic, is_level, lengthens, word_level, operand_level}
-use Rattle.elan_grammar.specs.Rule.{Rule, pure, nothing, ◌>>=◌, ◌>>◌, below, choose, iterate, optional, listed}
+use Rattle.elan_grammar.specs.Kinds.{word_level, operand_level, selects}
+use Rattle.elan_grammar.specs.Rule.{Rule, pure, ◌>>=◌, ◌>>◌, below, choose, iterate, optional, listed, seen, in_row}
 use Rattle.elan_grammar.specs.Terminals.{word, keyword, end_of, mark, ident, literal_of, monadic_of, joint_of}
 use Rattle.elan_grammar.specs.Types.{labels}
 use Rattle.elan_grammar.specs.Depth.{expr_depth, expr_place}
@@ -34,7 +34,7 @@ joined a r = joined_by r.joint a r.operand
 
 -- FI | END IF
 unfoldable pub choice_end : Rule ℕ
-choice_end = choose (is_key key.End) (end_of key.If) (keyword key.Fi)
+choice_end = choose (end_of key.If) (keyword key.Fi)
 
 -- The expressions at most n deep. What stands in them is less than n deep.
 module _ (inner : Language) (n : ℕ) where
@@ -43,22 +43,20 @@ module _ (inner : Language) (n : ℕ) where
 
   -- "(" e1 ")"
   unfoldable pub bracket : Rule Expr
-  bracket = do
-    below 0 n
+  bracket = below 0 n (do
     at ← mark sign.LeftRound
     a ← e1
     mark sign.RightRound
-    pure (e.Bracket at a)
+    pure (e.Bracket at a))
 
   -- CONCR "(" e1 ")"
   unfoldable pub concr : Rule Expr
-  concr = do
-    below 0 n
+  concr = below 0 n (do
     at ← keyword key.Concr
     mark sign.LeftRound
     a ← e1
     mark sign.RightRound
-    pure (e.Concr at a)
+    pure (e.Concr at a))
 
   -- PROC ident
   unfoldable pub procedure : Rule Expr
@@ -69,26 +67,25 @@ module _ (inner : Language) (n : ℕ) where
 
   -- e1 | PROC ident
   unfoldable pub actual : Rule Expr
-  actual = choose (is_key key.Proc) procedure e1
+  actual = choose procedure e1
 
   -- actual { "," actual }
   unfoldable pub actuals : Rule (List Expr)
-  actuals = listed is_comma (mark sign.Comma) actual
+  actuals = listed (mark sign.Comma) actual
 
   -- "(" actuals ")"
   unfoldable pub call : Name → Rule Expr
-  call x = do
-    below 0 n
+  call x = below 0 n (do
     mark sign.LeftRound
     xs ← actuals
     mark sign.RightRound
-    pure (e.Call x xs)
+    pure (e.Call x xs))
 
   -- ident [ "(" actuals ")" ]
   unfoldable pub named : Rule Expr
   named = do
     x ← ident
-    choose (is_sign sign.LeftRound) (call x) (pure (e.Named x))
+    choose (call x) (pure (e.Named x))
 
   -- e1 THEN units
   unfoldable pub branch : Rule Branch
@@ -100,21 +97,20 @@ module _ (inner : Language) (n : ℕ) where
 
   -- branch { ELIF branch }
   unfoldable pub branches : Rule (List Branch)
-  branches = listed (is_key key.Elif) (keyword key.Elif) branch
+  branches = listed (keyword key.Elif) branch
 
   -- [ ELSE units ]
   unfoldable pub else_part : Rule (Option (List Phrase))
-  else_part = optional (is_key key.Else) (do keyword key.Else; inner.units)
+  else_part = optional (do keyword key.Else; inner.units)
 
   -- IF branches [ ELSE units ] ( FI | END IF )
   unfoldable pub choice : Rule Expr
-  choice = do
-    below 0 n
+  choice = below 0 n (do
     at ← keyword key.If
     bs ← branches
     o ← else_part
     choice_end
-    pure (e.If at bs o)
+    pure (e.If at bs o))
 
   -- CASE label { "," label } ":" units
   unfoldable pub a_case : Rule Case
@@ -127,13 +123,13 @@ module _ (inner : Language) (n : ℕ) where
 
   -- case { case }
   unfoldable pub cases : Rule (List Case)
-  cases = listed (is_key key.Case) nothing a_case
+  cases = in_row a_case
 
   -- [ OTHERWISE [ ":" ] units ]
   unfoldable pub otherwise_part : Rule (Option (List Phrase))
-  otherwise_part = optional (is_key key.Otherwise) (do
+  otherwise_part = optional (do
     keyword key.Otherwise
-    optional (is_sign sign.Colon) (mark sign.Colon)
+    optional (mark sign.Colon)
     inner.units)
 
   -- cases [ OTHERWISE [ ":" ] units ] END SELECT
@@ -146,29 +142,27 @@ module _ (inner : Language) (n : ℕ) where
 
   -- SELECT e1 OF cases [ OTHERWISE [ ":" ] units ] END SELECT
   unfoldable pub selection : Rule Expr
-  selection = do
-    below 0 n
+  selection = below 0 n (do
     at ← keyword key.Select
     a ← e1
     keyword key.Of
     p ← select_parts
-    pure (e.Select at a p.cases p.otherwise)
+    pure (e.Select at a p.cases p.otherwise))
 
   -- number | textdenoter | TRUE | FALSE | "(" e1 ")" | CONCR "(" e1 ")" | if | select | ident [ "(" actuals ")" ]
   unfoldable pub head : Rule Expr
   head =
-      choose is_literal (word literal_of)
-      (choose (is_sign sign.LeftRound) bracket
-      (choose (is_key key.Concr) concr (choose (is_key key.If) choice (choose (is_key key.Select) selection named))))
+      choose (word literal_of)
+      (choose bracket
+      (choose concr (choose choice (choose selection named))))
 
   -- "[" e1 "]", behind an expression of this depth
   unfoldable pub index_part : ℕ → Rule Expr
-  index_part depth = do
-    below depth n
+  index_part depth = below depth n (do
     mark sign.LeftSquare
     b ← e1
     mark sign.RightSquare
-    pure b
+    pure b)
 
   unfoldable pub index : Expr → Rule Expr
   index a = do
@@ -177,10 +171,9 @@ module _ (inner : Language) (n : ℕ) where
 
   -- "." ident, behind an expression of this depth
   unfoldable pub field_part : ℕ → Rule Name
-  field_part depth = do
-    below depth n
+  field_part depth = below depth n (seen selects (do
     mark sign.Point
-    ident
+    ident))
 
   unfoldable pub field_of : Expr → Rule Expr
   field_of a = do
@@ -188,33 +181,31 @@ module _ (inner : Language) (n : ℕ) where
     pure (e.Field (expr_place a) a x)
 
   unfoldable pub longer : Expr → Rule Expr
-  longer a = choose (is_sign sign.LeftSquare) (index a) (field_of a)
+  longer a = choose (index a) (field_of a)
 
   -- head { "[" e1 "]" | "." ident }
   unfoldable pub prim : Rule Expr
   prim = do
     a ← head
-    iterate longer lengthens a
+    iterate longer a
 
   -- ( "+" | "-" | BOLD ) m
   unfoldable pub applied : Rule Expr
-  applied = do
-    below 0 n
+  applied = below 0 n (do
     o ← word monadic_of
     a ← inner.level operand_level
-    pure (e.Monadic o.0 o.1 a)
+    pure (e.Monadic o.0 o.1 a))
 
   -- m: ( "+" | "-" | BOLD ) m | prim
   unfoldable pub operand : Rule Expr
-  operand = choose is_monadic applied prim
+  operand = choose applied prim
 
   -- an operator of level i + 1 and its right operand, behind an expression of this depth
   unfoldable pub right_part : ℕ → ℕ → Rule Right
-  right_part i depth = do
-    below depth n
+  right_part i depth = below depth n (do
     o ← word (joint_of (suc i))
     b ← inner.level i
-    pure (record { joint = o; operand = b })
+    pure (record { joint = o; operand = b }))
 
   unfoldable pub dyadic : ℕ → Expr → Rule Expr
   dyadic i a = do
@@ -226,4 +217,4 @@ module _ (inner : Language) (n : ℕ) where
   level zero = operand
   level (suc i) = do
     a ← level i
-    iterate (dyadic i) (is_level (suc i)) a
+    iterate (dyadic i) a

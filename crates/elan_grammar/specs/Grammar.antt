@@ -19,8 +19,8 @@ use Rattle.elan_tree.specs.declared.tree.Tree.{Tree}
 use Rattle.elan_tree.specs.declared.tree.Tree.TheVariants as tree
 use Rattle.elan_grammar.specs.declared.heading.ProcParts.{ProcParts}
 use Rattle.elan_grammar.specs.declared.heading.OperatorParts.{OperatorParts}
-use Rattle.elan_grammar.specs.Kinds.{is_key, is_sign, is_ident, is_comma, goes_on, is_point, leads, is_operator, begins_typed}
-use Rattle.elan_grammar.specs.Rule.{Rule, pure, ◌>>=◌, ◌>>◌, only, choose, optional, listed}
+use Rattle.elan_grammar.specs.Kinds.{goes_on, leads, begins_typed}
+use Rattle.elan_grammar.specs.Rule.{Rule, pure, ◌>>=◌, ◌>>◌, only, choose, optional, listed, seen}
 use Rattle.elan_grammar.specs.Terminals.{word, keyword, end_of, mark, ident, bold, same_of, access_of, operator_of, same_operator_of, export_of}
 use Rattle.elan_grammar.specs.Types.{types, formals}
 use Rattle.elan_grammar.specs.Units.{declared, plain, phrases}
@@ -37,11 +37,11 @@ refinement n = do
 
 -- [ "." ]
 unfoldable pub last_point : Rule (Option ℕ)
-last_point = optional (is_sign sign.Point) (mark sign.Point)
+last_point = optional (mark sign.Point)
 
 -- refinement { "." refinement }
 unfoldable pub refinement_list : ℕ → Rule (List Refinement)
-refinement_list n = listed leads (mark sign.Point) (refinement n)
+refinement_list n = listed (seen leads (mark sign.Point)) (refinement n)
 
 -- refinement { "." refinement } [ "." ]
 unfoldable pub refinements : ℕ → Rule (List Refinement)
@@ -54,19 +54,19 @@ refinements n = do
 unfoldable pub point_tail : ℕ → Rule (List Refinement)
 point_tail n = do
   mark sign.Point
-  choose is_ident (refinements n) (pure [])
+  choose (refinements n) (pure [])
 
 -- [ "." [ refinement { "." refinement } [ "." ] ] ]
 unfoldable pub tail : ℕ → Rule (List Refinement)
-tail n = choose is_point (point_tail n) (pure [])
+tail n = choose (point_tail n) (pure [])
 
 -- [ ident ], which is this one
 unfoldable pub end_name : Name → Rule (Option (Unit {0}))
-end_name x = optional is_ident (word (same_of x))
+end_name x = optional (word (same_of x))
 
 -- [ opname ], which is this one
 unfoldable pub end_operator : OperatorName → Rule (Option (Unit {0}))
-end_operator o = optional is_operator (word (same_operator_of o))
+end_operator o = optional (word (same_operator_of o))
 
 -- the place where a PROC or OP begins
 abbrev pub start : Option TypePhrase → ℕ → ℕ
@@ -101,15 +101,15 @@ one_operand o f = do
 
 -- iname { "," iname }
 unfoldable pub export_list : Rule (List Export)
-export_list = listed is_comma (mark sign.Comma) (word export_of)
+export_list = listed (mark sign.Comma) (word export_of)
 
 -- [ DEFINES iname { "," iname } ]
 unfoldable pub exports : Rule (List Export)
-exports = choose (is_key key.Defines) (do keyword key.Defines; export_list) (pure [])
+exports = choose (do keyword key.Defines; export_list) (pure [])
 
 -- [ ";" | "." ]
 unfoldable pub last_mark : Rule (Option ℕ)
-last_mark = choose (is_sign sign.Semicolon) (do at ← mark sign.Semicolon; pure (Some at)) last_point
+last_mark = choose (do at ← mark sign.Semicolon; pure (Some at)) last_point
 
 -- A text is at most so deep. The body of a PROC or OP adds one to the depth of its units, refinements and parameters, which are at
 -- most `in_body` deep: one less.
@@ -131,7 +131,7 @@ module _ (most in_body : ℕ) where
 
   -- [ "(" formals ")" ]
   unfoldable pub optional_formals : Rule (List Formal)
-  optional_formals = choose (is_sign sign.LeftRound) formal_list (pure [])
+  optional_formals = choose formal_list (pure [])
 
   -- PROC ident [ "(" formals ")" ] ":" units tail END PROC [ ident ]
   unfoldable pub proc_parts : Rule ProcParts
@@ -170,7 +170,7 @@ module _ (most in_body : ℕ) where
   unfoldable pub operands : Operator → Rule (List Formal)
   operands o = do
     f ← operand
-    choose goes_on (same_typed f) (choose (is_sign sign.Comma) (other_typed f) (one_operand o f))
+    choose (seen goes_on (same_typed f)) (choose (other_typed f) (one_operand o f))
 
   -- OP opname "(" operands ")" ":" units tail END OP [ opname ]
   unfoldable pub operator_parts : Rule OperatorParts
@@ -211,7 +211,7 @@ module _ (most in_body : ℕ) where
   unfoldable pub typed_unit : Rule LevelUnit
   typed_unit = do
     t ← types most
-    choose (is_key key.Proc) (proc (Some t)) (choose (is_key key.Op) (operator (Some t)) (declared_unit t))
+    choose (proc (Some t)) (choose (operator (Some t)) (declared_unit t))
 
   -- a unit that begins with no type
   unfoldable pub plain_unit : Rule LevelUnit
@@ -222,12 +222,12 @@ module _ (most in_body : ℕ) where
   -- lunit | TYPE BOLD "=" type | proc | op
   unfoldable pub level_unit : Rule LevelUnit
   level_unit =
-      choose begins_typed typed_unit
-      (choose (is_key key.TypeWord) new_type (choose (is_key key.Proc) (proc None) (choose (is_key key.Op) (operator None) plain_unit)))
+      choose (seen begins_typed typed_unit)
+      (choose new_type (choose (proc None) (choose (operator None) plain_unit)))
 
   -- unit { ";" unit }
   unfoldable pub level_units : Rule (List LevelUnit)
-  level_units = listed (is_sign sign.Semicolon) (mark sign.Semicolon) level_unit
+  level_units = listed (mark sign.Semicolon) level_unit
 
   -- units tail
   unfoldable pub a_level : Rule Level

@@ -1,5 +1,5 @@
 -- The kinds of tokens: what the parser looks at.
-use Rattle.std.specs.Prelude.{ℕ, nat_lt, Bool, true, false, ◌||◌, if◌then◌else◌, ◌==◌, List, [], ◌∷◌, bytes_eq}
+use Rattle.std.specs.Prelude.{ℕ, nat_lt, Bool, true, false, ◌||◌, if◌then◌else◌, List, [], ◌∷◌, bytes_eq}
 use denote.Enum.Bare.{sameb}
 use Rattle.elan_tree.specs.contracts.token.Key as of_key
 use Rattle.elan_tree.specs.contracts.token.Sign as of_sign
@@ -143,46 +143,23 @@ loose (k.Key key.Cand) = and_level
 loose (k.Key key.Cor) = or_level
 loose _ = 0
 
-abbrev pub is_level : ℕ → Kind → Bool
-is_level i k = loose k == i
-
--- ---- sets of kinds, the greater ones made of the smaller
-
-abbrev pub is_ident : Kind → Bool
-is_ident k.Ident = true
-is_ident _ = false
-
-abbrev pub is_number : Kind → Bool
-is_number k.Number = true
-is_number _ = false
-
-abbrev pub is_bold : Kind → Bool
-is_bold (k.Bold t) = true
-is_bold (k.TypeName t) = true
-is_bold _ = false
+-- ---- sets of kinds
 
 -- a comma with an identifier behind it
 abbrev pub goes_on : Kind → Bool
 goes_on k.GoesOn = true
 goes_on _ = false
 
-abbrev pub is_comma : Kind → Bool
-is_comma k.GoesOn = true
-is_comma x = is_sign sign.Comma x
+-- the same, and no colon behind that
+abbrev pub selects : Kind → Bool
+selects k.Selects = true
+selects _ = false
 
 -- a point with an identifier behind it
 abbrev pub leads : Kind → Bool
 leads k.Selects = true
 leads k.Refines = true
 leads _ = false
-
-abbrev pub is_point : Kind → Bool
-is_point (k.Sign x) = same_sign sign.Point x
-is_point x = leads x
-
-abbrev pub lengthens : Kind → Bool
-lengthens k.Selects = true
-lengthens x = is_sign sign.LeftSquare x
 
 abbrev pub is_init : Kind → Bool
 is_init (k.Sign x) = same_sign sign.DoubleColon x || same_sign sign.Becomes x
@@ -197,19 +174,6 @@ abbrev pub is_symbol : Sign → Bool
 is_symbol sign.Becomes = true
 is_symbol x = nat_lt 0 (loose (k.Sign x))
 
-abbrev pub is_operator : Kind → Bool
-is_operator (k.Sign x) = is_symbol x
-is_operator x = is_bold x
-
-abbrev pub is_monadic : Kind → Bool
-is_monadic (k.Sign x) = same_sign sign.Plus x || same_sign sign.Minus x
-is_monadic x = is_bold x
-
-abbrev pub is_literal : Kind → Bool
-is_literal k.Text = true
-is_literal (k.Key x) = same_key key.True x || same_key key.False x
-is_literal x = is_number x
-
 abbrev pub is_among : List Key → Key → Bool
 is_among [] x = false
 is_among (y ∷ ys) x = same_key y x || is_among ys x
@@ -219,10 +183,3 @@ abbrev pub begins_typed : Kind → Bool
 begins_typed (k.TypeName t) = true
 begins_typed (k.Key x) = is_among (key.Int ∷ key.Bool ∷ key.Text ∷ key.Task ∷ key.Dataspace ∷ key.Row ∷ key.Struct ∷ []) x
 begins_typed _ = false
-
--- An expression may begin with it: with an operator before its operand, a literal, an identifier, or one of these.
-abbrev pub begins : Kind → Bool
-begins (k.TypeName t) = false
-begins (k.Sign x) = is_monadic (k.Sign x) || same_sign sign.LeftRound x
-begins (k.Key x) = is_literal (k.Key x) || is_among (key.Concr ∷ key.If ∷ key.Select ∷ []) x
-begins x = is_monadic x || (is_literal x || is_ident x)

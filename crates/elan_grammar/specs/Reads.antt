@@ -17,7 +17,7 @@ use Rattle.elan_grammar.specs.Grammar.{program, packet}
 -- These follow, and stand nowhere: a point before an identifier with a colon behind it ends a body, since no colon follows an
 -- expression; a comma before an identifier goes on with the same type, since no type begins with one; a unit that begins with a bold
 -- word begins with a type where VAR, CONST, PROC or OP follows, since none of these follows an operator. What the parser looks at to
--- find its way, the tests of `choose` and `iterate`, is no part of what is read.
+-- find its way, `starts` and `seen`, is no part of what is read.
 -- Said in rules are: the name behind END (end_name, end_operator), and how many operands an operator has (operands).
 
 -- A text at most so deep, and in bodies one less.

@@ -13,13 +13,13 @@ use Rattle.elan_tree.specs.declared.written_type.LetItem.{LetItem}
 use Rattle.elan_tree.specs.declared.written_type.LetItem.TheVariants as let_form
 use Rattle.elan_tree.specs.declared.written_type.Label.{Label}
 use Rattle.elan_tree.specs.declared.written_type.Label.TheVariants as label_form
-use Rattle.elan_grammar.specs.Kinds.{is_bold, is_key, is_sign, is_ident, is_comma, goes_on}
-use Rattle.elan_grammar.specs.Rule.{Rule, pure, fail, ◌>>=◌, ◌>>◌, below, choose, listed}
+use Rattle.elan_grammar.specs.Kinds.{goes_on}
+use Rattle.elan_grammar.specs.Rule.{Rule, pure, fail, ◌>>=◌, ◌>>◌, below, choose, listed, seen}
 use Rattle.elan_grammar.specs.Terminals.{word, keyword, mark, ident, bold, simple_of, size_of, access_of, constant_of, negated_of, label_of}
 
 -- ident { "," ident }
 unfoldable pub names : Rule (List Name)
-names = listed goes_on (mark sign.Comma) ident
+names = listed (seen goes_on (mark sign.Comma)) ident
 
 -- The types of the language stand in others.
 module _ (inner : Rule TypePhrase) where
@@ -38,32 +38,30 @@ module _ (inner : Rule TypePhrase) where
 
   -- field { "," field }
   unfoldable pub fields : Rule (List Field)
-  fields = listed is_comma (mark sign.Comma) field
+  fields = listed (mark sign.Comma) field
 
 -- those that hold others, which are at most n deep
 module _ (inner : Rule TypePhrase) (n : ℕ) where
   -- ROW size type
   unfoldable pub row : Rule TypePhrase
-  row = do
-    below 0 n
+  row = below 0 n (do
     at ← keyword key.Row
     s ← word size_of
     t ← inner
-    pure (ty.Row at s t)
+    pure (ty.Row at s t))
 
   -- STRUCT "(" fields ")"
   unfoldable pub structure : Rule TypePhrase
-  structure = do
-    below 0 n
+  structure = below 0 n (do
     at ← keyword key.Struct
     mark sign.LeftRound
     fs ← fields inner
     mark sign.RightRound
-    pure (ty.Struct at fs)
+    pure (ty.Struct at fs))
 
   -- INT | BOOL | TEXT | TASK | DATASPACE | BOLD | ROW size type | STRUCT "(" fields ")"
   unfoldable pub a_type : Rule TypePhrase
-  a_type = choose is_bold (named_type inner) (choose (is_key key.Row) row (choose (is_key key.Struct) structure (word simple_of)))
+  a_type = choose (named_type inner) (choose row (choose structure (word simple_of)))
 
 -- the types at most n deep
 unfoldable pub types : ℕ → Rule TypePhrase
@@ -80,7 +78,7 @@ formal n = do
 
 -- formal { "," formal }
 unfoldable pub formals : ℕ → Rule (List Formal)
-formals n = listed is_comma (mark sign.Comma) (formal n)
+formals n = listed (mark sign.Comma) (formal n)
 
 -- "-" number
 unfoldable pub negative : Rule Constant
@@ -91,7 +89,7 @@ negative = do
 
 -- [ "-" ] number | textdenoter | TRUE | FALSE
 unfoldable pub constant : Rule Constant
-constant = choose (is_sign sign.Minus) negative (word constant_of)
+constant = choose negative (word constant_of)
 
 -- ident "=" constant
 unfoldable pub let_constant : Rule LetItem
@@ -103,19 +101,18 @@ let_constant = do
 
 -- BOLD "=" type
 unfoldable pub abbreviation : ℕ → Rule LetItem
-abbreviation n = do
-  below 0 n
+abbreviation n = below 0 n (do
   x ← bold
   mark sign.Equal
   t ← types n
-  pure (let_form.Abbreviation x t)
+  pure (let_form.Abbreviation x t))
 
 unfoldable pub let_item : ℕ → Rule LetItem
-let_item n = choose is_ident let_constant (abbreviation n)
+let_item n = choose let_constant (abbreviation n)
 
 -- let_item { "," let_item }
 unfoldable pub let_items : ℕ → Rule (List LetItem)
-let_items n = listed is_comma (mark sign.Comma) (let_item n)
+let_items n = listed (mark sign.Comma) (let_item n)
 
 -- "-" number
 unfoldable pub negative_label : Rule Label
@@ -126,8 +123,8 @@ negative_label = do
 
 -- [ "-" ] number | ident
 unfoldable pub label : Rule Label
-label = choose (is_sign sign.Minus) negative_label (word label_of)
+label = choose negative_label (word label_of)
 
 -- label { "," label }
 unfoldable pub labels : Rule (List Label)
-labels = listed is_comma (mark sign.Comma) label
+labels = listed (mark sign.Comma) label

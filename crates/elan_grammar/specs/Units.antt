@@ -14,8 +14,8 @@ use Rattle.elan_tree.specs.declared.phrase.Limit.TheVariants as limit
 use Rattle.elan_tree.specs.declared.phrase.Unit.{Unit as Phrase}
 use Rattle.elan_tree.specs.declared.phrase.Unit.TheVariants as u
 use Rattle.elan_grammar.specs.declared.heading.LoopParts.{LoopParts}
-use Rattle.elan_grammar.specs.Kinds.{is_key, is_sign, is_comma, is_init, is_rep, begins, begins_typed, word_level}
-use Rattle.elan_grammar.specs.Rule.{Rule, pure, fail, ◌>>=◌, ◌>>◌, below, choose, optional, listed}
+use Rattle.elan_grammar.specs.Kinds.{begins_typed, word_level}
+use Rattle.elan_grammar.specs.Rule.{Rule, pure, fail, ◌>>=◌, ◌>>◌, below, choose, optional, listed, seen}
 use Rattle.elan_grammar.specs.Terminals.{word, keyword, mark, ident, init_mark, rep, leaving_of}
 use Rattle.elan_grammar.specs.Types.{types, let_items}
 use Rattle.elan_grammar.specs.Expressions.{Language, level}
@@ -26,7 +26,7 @@ counter_of x f l = record { name = x; from = f; limit = l }
 
 -- PER | END REP | END REPEAT
 unfoldable pub loop_end : Rule ℕ
-loop_end = choose (is_key key.End) (do keyword key.End; rep) (keyword key.Per)
+loop_end = choose (do keyword key.End; rep) (keyword key.Per)
 
 -- The units at most n deep. What stands in their forms is less than n deep.
 module _ (inner : Language) (n : ℕ) where
@@ -46,7 +46,7 @@ module _ (inner : Language) (n : ℕ) where
 
   -- [ key e1 ]
   unfoldable pub key_part : Key → Rule (Option Expr)
-  key_part x = optional (is_key x) (behind x)
+  key_part x = optional (behind x)
 
   -- LET let_item { "," let_item }
   unfoldable pub a_let : Rule Phrase
@@ -65,12 +65,12 @@ module _ (inner : Language) (n : ℕ) where
   unfoldable pub item : Rule Item
   item = do
     x ← ident
-    i ← optional is_init init
+    i ← optional init
     pure (record { name = x; init = i })
 
   -- item { "," item }
   unfoldable pub items : Rule (List Item)
-  items = listed is_comma (mark sign.Comma) item
+  items = listed (mark sign.Comma) item
 
   -- ident init
   unfoldable pub constant_item : Rule Item
@@ -81,7 +81,7 @@ module _ (inner : Language) (n : ℕ) where
 
   -- constant_item { "," constant_item }
   unfoldable pub constant_items : Rule (List Item)
-  constant_items = listed is_comma (mark sign.Comma) constant_item
+  constant_items = listed (mark sign.Comma) constant_item
 
   -- VAR items
   unfoldable pub variables : TypePhrase → Rule Phrase
@@ -99,7 +99,7 @@ module _ (inner : Language) (n : ℕ) where
 
   -- VAR items | CONST constant_items
   unfoldable pub declared : TypePhrase → Rule Phrase
-  declared t = choose (is_key key.Var) (variables t) (constants t)
+  declared t = choose (variables t) (constants t)
 
   -- type VAR items | type CONST constant_items
   unfoldable pub declaration : Rule Phrase
@@ -109,36 +109,33 @@ module _ (inner : Language) (n : ℕ) where
 
   -- BOUND type VAR items
   unfoldable pub bound : Rule Phrase
-  bound = do
-    below 0 n
+  bound = below 0 n (do
     at ← keyword key.Bound
     t ← types n
     keyword key.Var
     xs ← items
-    pure (u.Bound at t xs)
+    pure (u.Bound at t xs))
 
   -- ":=" e1
   unfoldable pub assigned : Expr → Rule Phrase
-  assigned a = do
-    below (expr_depth a) n
+  assigned a = below (expr_depth a) n (do
     mark sign.Becomes
     b ← inner_e1
-    pure (u.Becomes (expr_place a) a b)
+    pure (u.Becomes (expr_place a) a b))
 
   -- e1 [ ":=" e1 ]
   unfoldable pub statement : Rule Phrase
   statement = do
     a ← e1
-    choose (is_sign sign.Becomes) (assigned a) (pure (u.Value a))
+    choose (assigned a) (pure (u.Value a))
 
   -- LEAVE ( ident | BOLD ) [ WITH e1 ]
   unfoldable pub leave : Rule Phrase
-  leave = do
-    below 0 n
+  leave = below 0 n (do
     at ← keyword key.Leave
     x ← word leaving_of
     a ← key_part key.With
-    pure (u.Leave at x a)
+    pure (u.Leave at x a))
 
   -- UPTO e1
   unfoldable pub upto : Rule Limit
@@ -154,7 +151,7 @@ module _ (inner : Language) (n : ℕ) where
 
   -- [ ( UPTO | DOWNTO ) e1 ]
   unfoldable pub a_limit : Rule Limit
-  a_limit = choose (is_key key.Upto) upto (choose (is_key key.Downto) downto (pure limit.Without))
+  a_limit = choose upto (choose downto (pure limit.Without))
 
   -- ident [ FROM e1 ] [ ( UPTO | DOWNTO ) e1 ]
   unfoldable pub counter : Rule (Option Counter)
@@ -181,41 +178,38 @@ module _ (inner : Language) (n : ℕ) where
 
   -- FOR counter [ WHILE e1 ] turns
   unfoldable pub counted : Rule Phrase
-  counted = do
-    below 0 n
+  counted = below 0 n (do
     at ← keyword key.For
     c ← counter
     w ← key_part key.While
-    turns (Some at) c w
+    turns (Some at) c w)
 
   -- WHILE e1 turns
   unfoldable pub guarded : Rule Phrase
-  guarded = do
-    below 0 n
+  guarded = below 0 n (do
     at ← keyword key.While
     w ← inner_e1
-    turns (Some at) None (Some w)
+    turns (Some at) None (Some w))
 
   -- turns, with nothing before them
   unfoldable pub repeated : Rule Phrase
-  repeated = do
-    below 0 n
-    turns None None None
+  repeated = below 0 n (do
+    turns None None None)
 
   -- [ let | BOUND type VAR items | LEAVE .. | loop | e1 [ ":=" e1 ] ]
   unfoldable pub plain : Rule Phrase
   plain =
-      choose (is_key key.Let) a_let (choose (is_key key.Bound) bound (choose (is_key key.Leave) leave (
-      choose (is_key key.For) counted (choose (is_key key.While) guarded (choose is_rep repeated (
-      choose begins statement (pure u.Empty)))))))
+      choose a_let (choose bound (choose leave (
+      choose counted (choose guarded (choose repeated (
+      choose statement (pure u.Empty)))))))
 
   -- [ let | decl | stat ]
   unfoldable pub unit : Rule Phrase
-  unit = choose begins_typed declaration plain
+  unit = choose (seen begins_typed declaration) plain
 
   -- unit { ";" unit }
   unfoldable pub units : Rule (List Phrase)
-  units = listed (is_sign sign.Semicolon) (mark sign.Semicolon) unit
+  units = listed (mark sign.Semicolon) unit
 
 -- the phrases less than n deep
 unfoldable pub phrases : ℕ → Language

@@ -3,7 +3,6 @@
 ghost use Rattle.std.specs.Prelude.{◌≡◌, ◌<◌, ◌≤◌, ◌+◌, max, IfOk};
 ghost use Rattle.elan_grammar.specs.Rule as rule;
 ghost use Rattle.elan_grammar.specs.Rule.{Parses, AtMost, Below, IsTall};
-ghost use Rattle.elan_grammar.specs.Kinds as kinds;
 ghost use Rattle.elan_grammar.specs.Kinds.{word_level};
 ghost use Rattle.elan_grammar.specs.Expressions as spec;
 ghost use Rattle.elan_grammar.specs.Units as units;
@@ -12,7 +11,7 @@ ghost use Rattle.elan_grammar.specs.Depth.{expr_depth, expr_place};
 
 use containers::{Boxed, List};
 use elan_cursor::Cursor;
-use elan_cursor::kind::{OPERAND_LEVEL, WORD_LEVEL, is_level, is_monadic};
+use elan_cursor::kind::{OPERAND_LEVEL, WORD_LEVEL};
 use elan_grammar::tall::{Tall, and};
 use elan_grammar::{Joint, ParseError, Right};
 use elan_tree::{Expr, Unit};
@@ -117,13 +116,13 @@ impl<
         })
     }
 
-    #[tactic(auto, unfolding(elan_grammar::specs::Expressions::operand))]
+    #[tactic(auto, unfolding(elan_grammar::specs::Expressions::operand), using(elan_grammar::proofs::Starts::of_expressions))]
     fn operand(&self, cursor: &mut Cursor<'_>) -> Result<Tall<Expr>, ParseError>
         requires { Nests E.Fn U.Fn self.now }
         ensures { Parses (spec.operand (units.phrases self.now.depth) self.now.depth) expr_depth (AtMost self.now.depth)
             cursor.old.rest.now result cursor.new.rest.now }
     {
-        if is_monadic(cursor.ahead()) {
+        if cursor.sees_monadic() {
             self.applied(cursor)
         } else {
             self.prim(cursor)
@@ -181,7 +180,7 @@ impl<
         })
     }
 
-    #[tactic(auto, using(elan_grammar::proofs::Turns::turns))]
+    #[tactic(auto, using(elan_grammar::proofs::Turns::turns, elan_grammar::proofs::Starts::of_expressions))]
     fn more_dyadic(
         &self,
         cursor: &mut Cursor<'_>,
@@ -191,11 +190,11 @@ impl<
         requires nests { Nests E.Fn U.Fn self.now }
         requires tall { IsTall expr_depth (AtMost self.now.depth) left }
         requires level { level < word_level }
-        ensures { Parses (rule.iterate (spec.dyadic (units.phrases self.now.depth) self.now.depth level) (kinds.is_level (level + 1)) left.tree)
+        ensures { Parses (rule.iterate (spec.dyadic (units.phrases self.now.depth) self.now.depth level) left.tree)
             expr_depth (AtMost self.now.depth) cursor.old.rest.now result cursor.new.rest.now }
     {
         for _turn in 0..cursor.rest.len() {
-            if !is_level(level + 1, cursor.ahead()) {
+            if !cursor.sees_joint(level + 1) {
                 return Ok(left);
             }
             left = self.dyadic(cursor, level, left)?;

@@ -10,7 +10,7 @@ ghost use Rattle.elan_grammar.specs.Depth.{expr_depth, deepest_of};
 use crate::expressions::{Grammar, expr_place};
 use containers::{Boxed, List};
 use elan_cursor::Cursor;
-use elan_cursor::kind::{WORD_LEVEL, is_comma, is_key, is_literal, is_sign, lengthens};
+use elan_cursor::kind::{WORD_LEVEL, selects};
 use elan_grammar::ParseError;
 use elan_grammar::tall::{Tall, and, single, with_next};
 use elan_tree::{Expr, Key, Name, Sign, Unit};
@@ -64,7 +64,7 @@ impl<
         Ok(Expr::Procedure(at, name))
     }
 
-    #[tactic(auto, unfolding(elan_grammar::specs::Expressions::actual, elan_grammar::specs::Expressions::procedure))]
+    #[tactic(auto, unfolding(elan_grammar::specs::Expressions::actual, elan_grammar::specs::Expressions::procedure), using(elan_grammar::proofs::Starts::of_expressions))]
     fn actual(&self, cursor: &mut Cursor<'_>) -> Result<Tall<Expr>, ParseError>
         requires nests { Nests E.Fn U.Fn self.now }
         requires room { 0 < self.now.depth }
@@ -87,7 +87,7 @@ impl<
     {
         let mut row = single(self.alloc, self.actual(cursor))?;
         for _turn in 0..cursor.rest.len() {
-            if !is_comma(cursor.ahead()) {
+            if !cursor.sees_sign(Sign::Comma) {
                 return Ok(row);
             }
             let (items, _) = and(row, cursor.mark(Sign::Comma))?;
@@ -113,7 +113,7 @@ impl<
         })
     }
 
-    #[tactic(auto, unfolding(elan_grammar::specs::Expressions::named))]
+    #[tactic(auto, unfolding(elan_grammar::specs::Expressions::named, elan_grammar::specs::Expressions::call))]
     fn named(&self, cursor: &mut Cursor<'_>) -> Result<Tall<Expr>, ParseError>
         requires { Nests E.Fn U.Fn self.now }
         ensures { Parses (spec.named (units.phrases self.now.depth) self.now.depth) expr_depth (AtMost self.now.depth)
@@ -129,23 +129,22 @@ impl<
         })
     }
 
-    #[tactic(auto, unfolding(elan_grammar::specs::Expressions::head))]
+    #[tactic(auto, unfolding(elan_grammar::specs::Expressions::head), using(elan_grammar::proofs::Starts::of_expressions))]
     fn head(&self, cursor: &mut Cursor<'_>) -> Result<Tall<Expr>, ParseError>
         requires { Nests E.Fn U.Fn self.now }
         ensures { Parses (spec.head (units.phrases self.now.depth) self.now.depth) expr_depth (AtMost self.now.depth)
             cursor.old.rest.now result cursor.new.rest.now }
     {
-        let kind = cursor.ahead();
-        if is_literal(kind) {
+        if cursor.sees_literal() {
             let tree = cursor.literal(self.alloc)?;
             Ok(Tall { tree, height: 0 })
-        } else if is_sign(Sign::LeftRound, kind) {
+        } else if cursor.sees_sign(Sign::LeftRound) {
             self.bracket(cursor)
-        } else if is_key(Key::Concr, kind) {
+        } else if cursor.sees_key(Key::Concr) {
             self.concr(cursor)
-        } else if is_key(Key::If, kind) {
+        } else if cursor.sees_key(Key::If) {
             self.forms().choice(cursor)
-        } else if is_key(Key::Select, kind) {
+        } else if cursor.sees_key(Key::Select) {
             self.forms().selection(cursor)
         } else {
             self.named(cursor)
@@ -212,7 +211,7 @@ impl<
         })
     }
 
-    #[tactic(auto, unfolding(elan_grammar::specs::Expressions::longer))]
+    #[tactic(auto, unfolding(elan_grammar::specs::Expressions::longer), using(elan_grammar::proofs::Starts::of_expressions))]
     fn longer(&self, cursor: &mut Cursor<'_>, of: Tall<Expr>) -> Result<Tall<Expr>, ParseError>
         requires nests { Nests E.Fn U.Fn self.now }
         requires tall { of.height ≡ expr_depth of.tree }
@@ -227,7 +226,7 @@ impl<
     }
 
     /// What no operator takes apart, with the indices and fields behind it.
-    #[tactic(auto, unfolding(elan_grammar::specs::Expressions::prim), using(elan_grammar::proofs::Turns::turns))]
+    #[tactic(auto, unfolding(elan_grammar::specs::Expressions::prim), using(elan_grammar::proofs::Turns::turns, elan_grammar::proofs::Starts::of_expressions))]
     pub fn prim(&self, cursor: &mut Cursor<'_>) -> Result<Tall<Expr>, ParseError>
         requires { Nests E.Fn U.Fn self.now }
         ensures { Parses (spec.prim (units.phrases self.now.depth) self.now.depth) expr_depth (AtMost self.now.depth)
@@ -235,7 +234,7 @@ impl<
     {
         let mut of = self.head(cursor)?;
         for _turn in 0..cursor.rest.len() {
-            if !lengthens(cursor.ahead()) {
+            if !cursor.sees_sign(Sign::LeftSquare) && !selects(cursor.ahead()) {
                 return Ok(of);
             }
             of = self.longer(cursor, of)?;

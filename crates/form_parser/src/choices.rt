@@ -76,7 +76,7 @@ impl<
         })
     }
 
-    #[tactic(auto, unfolding(elan_grammar::specs::Expressions::choice_end))]
+    #[tactic(auto, unfolding(elan_grammar::specs::Expressions::choice_end), using(elan_grammar::proofs::Starts::of_expressions))]
     fn choice_end(&self, cursor: &mut Cursor<'_>) -> Result<u32, ParseError>
         ensures { Gives ((spec.choice_end).run cursor.old.rest.now) result cursor.new.rest.now }
     {
@@ -131,7 +131,7 @@ impl<
         })
     }
 
-    #[tactic(auto, unfolding(elan_grammar::specs::Expressions::cases), using(elan_grammar::proofs::Turns::turns, elan_grammar::proofs::Deepest::deepens))]
+    #[tactic(auto, unfolding(elan_grammar::specs::Expressions::cases), using(elan_grammar::proofs::Turns::turns, elan_grammar::proofs::Deepest::deepens, elan_grammar::proofs::Starts::of_expressions))]
     fn cases(&self, cursor: &mut Cursor<'_>) -> Result<Tall<List<Case>>, ParseError>
         requires { Nests E.Fn U.Fn self.now }
         ensures { Parses (spec.cases (units.phrases self.now.depth) self.now.depth) (deepest_of case_depth) (Below self.now.depth)

@@ -5,7 +5,6 @@ ghost use Rattle.elan_grammar.specs.Types as spec;
 
 use containers::List;
 use elan_cursor::Cursor;
-use elan_cursor::kind::is_comma;
 use elan_grammar::ParseError;
 use elan_grammar::tall::{and, one, one_more};
 use elan_tree::{Label, Sign};
@@ -20,7 +19,7 @@ fn negative_label(cursor: &mut Cursor<'_>) -> Result<Label, ParseError>
     Ok(Label::Number(at, number))
 }
 
-#[tactic(auto, unfolding(elan_grammar::specs::Types::label))]
+#[tactic(auto, unfolding(elan_grammar::specs::Types::label), using(elan_grammar::proofs::Starts::of_types))]
 fn label(alloc: Global, cursor: &mut Cursor<'_>) -> Result<Label, ParseError>
     ensures { Gives ((spec.label).run cursor.old.rest.now) result cursor.new.rest.now }
 {
@@ -38,7 +37,7 @@ pub fn labels(alloc: Global, cursor: &mut Cursor<'_>) -> Result<List<Label>, Par
 {
     let mut row = one(alloc, label(alloc, cursor))?;
     for _turn in 0..cursor.rest.len() {
-        if !is_comma(cursor.ahead()) {
+        if !cursor.sees_sign(Sign::Comma) {
             return Ok(row);
         }
         let (items, _) = and(row, cursor.mark(Sign::Comma))?;

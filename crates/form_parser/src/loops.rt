@@ -9,7 +9,7 @@ ghost use Rattle.elan_grammar.specs.Depth.{expr_depth, unit_depth, limit_depth, 
 use crate::inner::Inner;
 use containers::{Boxed, List};
 use elan_cursor::Cursor;
-use elan_cursor::kind::{WORD_LEVEL, is_key};
+use elan_cursor::kind::WORD_LEVEL;
 use elan_grammar::tall::{Tall, and};
 use elan_grammar::{LoopParts, ParseError};
 use elan_tree::{Counter, Expr, Key, Limit, Unit};
@@ -29,21 +29,20 @@ impl<
         self.expression(cursor, WORD_LEVEL)
     }
 
-    #[tactic(auto, unfolding(elan_grammar::specs::Units::a_limit, elan_grammar::specs::Units::upto, elan_grammar::specs::Units::downto))]
+    #[tactic(auto, unfolding(elan_grammar::specs::Units::a_limit, elan_grammar::specs::Units::upto, elan_grammar::specs::Units::downto), using(elan_grammar::proofs::Starts::of_units))]
     fn a_limit(&self, cursor: &mut Cursor<'_>) -> Result<Tall<Limit>, ParseError>
         requires nests { Nests E.Fn U.Fn self.now }
         requires room { 0 < self.now.depth }
         ensures { Parses (units.a_limit (units.phrases self.now.depth) self.now.depth) limit_depth (Below self.now.depth)
             cursor.old.rest.now result cursor.new.rest.now }
     {
-        let kind = cursor.ahead();
-        if is_key(Key::Upto, kind) {
+        if cursor.sees_key(Key::Upto) {
             let a = self.behind(cursor, Key::Upto)?;
             Ok(Tall {
                 tree: Limit::Upto(a.tree),
                 height: a.height,
             })
-        } else if is_key(Key::Downto, kind) {
+        } else if cursor.sees_key(Key::Downto) {
             let a = self.behind(cursor, Key::Downto)?;
             Ok(Tall {
                 tree: Limit::Downto(a.tree),

@@ -9,7 +9,7 @@ ghost use Rattle.elan_grammar.specs.Depth.{type_depth, expr_depth, item_depth, u
 use crate::phrases::Phrases;
 use containers::List;
 use elan_cursor::Cursor;
-use elan_cursor::kind::{WORD_LEVEL, begins, begins_typed, is_comma, is_init, is_key, is_rep};
+use elan_cursor::kind::{WORD_LEVEL, begins_typed};
 use elan_grammar::ParseError;
 use elan_grammar::tall::{Tall, and, single, with_next};
 use elan_tree::{Expr, Item, Key, Sign, TypePhrase, Unit};
@@ -44,14 +44,14 @@ impl<
         self.expressions().level(cursor, WORD_LEVEL)
     }
 
-    #[tactic(auto, unfolding(elan_grammar::specs::Units::item))]
+    #[tactic(auto, unfolding(elan_grammar::specs::Units::item, elan_grammar::specs::Units::init))]
     fn item(&self, cursor: &mut Cursor<'_>) -> Result<Tall<Item>, ParseError>
         requires { Nests E.Fn U.Fn self.now }
         ensures { Parses (units.item (units.phrases self.now.depth) self.now.depth) item_depth (AtMost self.now.depth)
             cursor.old.rest.now result cursor.new.rest.now }
     {
         let name = cursor.ident(self.alloc)?;
-        if !is_init(cursor.ahead()) {
+        if !cursor.sees_init() {
             return Ok(Tall {
                 tree: Item { name, init: None },
                 height: 0,
@@ -76,7 +76,7 @@ impl<
     {
         let mut row = single(self.alloc, self.item(cursor))?;
         for _turn in 0..cursor.rest.len() {
-            if !is_comma(cursor.ahead()) {
+            if !cursor.sees_sign(Sign::Comma) {
                 return Ok(row);
             }
             let (items, _) = and(row, cursor.mark(Sign::Comma))?;
@@ -111,7 +111,7 @@ impl<
     {
         let mut row = single(self.alloc, self.constant_item(cursor))?;
         for _turn in 0..cursor.rest.len() {
-            if !is_comma(cursor.ahead()) {
+            if !cursor.sees_sign(Sign::Comma) {
                 return Ok(row);
             }
             let (items, _) = and(row, cursor.mark(Sign::Comma))?;
@@ -163,7 +163,7 @@ impl<
     }
 
     /// A declaration behind its type.
-    #[tactic(auto, unfolding(elan_grammar::specs::Units::declared))]
+    #[tactic(auto, unfolding(elan_grammar::specs::Units::declared), using(elan_grammar::proofs::Starts::of_units))]
     pub fn declared(
         &self,
         cursor: &mut Cursor<'_>,
@@ -232,7 +232,7 @@ impl<
         })
     }
 
-    #[tactic(auto, unfolding(elan_grammar::specs::Units::statement))]
+    #[tactic(auto, unfolding(elan_grammar::specs::Units::statement, elan_grammar::specs::Units::assigned))]
     fn statement(&self, cursor: &mut Cursor<'_>) -> Result<Tall<Unit>, ParseError>
         requires { Nests E.Fn U.Fn self.now }
         ensures { Parses (units.statement (units.phrases self.now.depth) self.now.depth) unit_depth (AtMost self.now.depth)
@@ -270,26 +270,25 @@ impl<
     }
 
     /// A unit that begins with no type.
-    #[tactic(auto, unfolding(elan_grammar::specs::Units::plain))]
+    #[tactic(auto, unfolding(elan_grammar::specs::Units::plain), using(elan_grammar::proofs::Starts::of_units))]
     pub fn plain(&self, cursor: &mut Cursor<'_>) -> Result<Tall<Unit>, ParseError>
         requires { Nests E.Fn U.Fn self.now }
         ensures { Parses (units.plain (units.phrases self.now.depth) self.now.depth) unit_depth (AtMost self.now.depth)
             cursor.old.rest.now result cursor.new.rest.now }
     {
-        let kind = cursor.ahead();
-        if is_key(Key::Let, kind) {
+        if cursor.sees_key(Key::Let) {
             self.a_let(cursor)
-        } else if is_key(Key::Bound, kind) {
+        } else if cursor.sees_key(Key::Bound) {
             self.bound(cursor)
-        } else if is_key(Key::Leave, kind) {
+        } else if cursor.sees_key(Key::Leave) {
             self.leave(cursor)
-        } else if is_key(Key::For, kind) {
+        } else if cursor.sees_key(Key::For) {
             self.forms().counted(cursor)
-        } else if is_key(Key::While, kind) {
+        } else if cursor.sees_key(Key::While) {
             self.forms().guarded(cursor)
-        } else if is_rep(kind) {
+        } else if cursor.sees_rep() {
             self.forms().repeated(cursor)
-        } else if begins(kind) {
+        } else if cursor.sees_expression() {
             self.statement(cursor)
         } else {
             Ok(Tall {
@@ -299,7 +298,7 @@ impl<
         }
     }
 
-    #[tactic(auto, unfolding(elan_grammar::specs::Units::unit))]
+    #[tactic(auto, unfolding(elan_grammar::specs::Units::unit), using(elan_grammar::proofs::Starts::of_units))]
     fn unit(&self, cursor: &mut Cursor<'_>) -> Result<Tall<Unit>, ParseError>
         requires { Nests E.Fn U.Fn self.now }
         ensures { Parses (units.unit (units.phrases self.now.depth) self.now.depth) unit_depth (AtMost self.now.depth)

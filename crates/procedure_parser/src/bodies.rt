@@ -7,7 +7,7 @@ ghost use Rattle.elan_grammar.specs.Depth.{refinement_depth, body_depth, deepest
 
 use containers::List;
 use elan_cursor::Cursor;
-use elan_cursor::kind::{is_ident, is_point, leads};
+use elan_cursor::kind::leads;
 use elan_grammar::ParseError;
 use elan_grammar::tall::{Tall, and, single, with_next};
 use elan_tree::{Body, Refinement, Sign};
@@ -84,7 +84,7 @@ fn refinements(
     Ok(row)
 }
 
-#[tactic(auto, unfolding(elan_grammar::specs::Grammar::point_tail))]
+#[tactic(auto, unfolding(elan_grammar::specs::Grammar::point_tail), using(elan_grammar::proofs::Starts::of_texts))]
 fn point_tail(
     alloc: Global,
     cursor: &mut Cursor<'_>,
@@ -93,7 +93,7 @@ fn point_tail(
     ensures { Parses (spec.point_tail depth) (deepest_of refinement_depth) (AtMost depth) cursor.old.rest.now result cursor.new.rest.now }
 {
     cursor.mark(Sign::Point)?;
-    if is_ident(cursor.ahead()) {
+    if cursor.sees_ident() {
         return refinements(alloc, cursor, depth);
     }
     Ok(Tall {
@@ -103,7 +103,7 @@ fn point_tail(
 }
 
 /// What may end a list of units: its refinements.
-#[tactic(auto, unfolding(elan_grammar::specs::Grammar::tail))]
+#[tactic(auto, unfolding(elan_grammar::specs::Grammar::tail), using(elan_grammar::proofs::Starts::of_texts))]
 pub fn tail(
     alloc: Global,
     cursor: &mut Cursor<'_>,
@@ -111,7 +111,7 @@ pub fn tail(
 ) -> Result<Tall<List<Refinement>>, ParseError>
     ensures { Parses (spec.tail depth) (deepest_of refinement_depth) (AtMost depth) cursor.old.rest.now result cursor.new.rest.now }
 {
-    if is_point(cursor.ahead()) {
+    if cursor.sees_sign(Sign::Point) {
         return point_tail(alloc, cursor, depth);
     }
     Ok(Tall {

@@ -9,7 +9,7 @@ use crate::bodies::{MOST_IN_BODY, body};
 use crate::procs::start;
 use containers::{List, NoMemory};
 use elan_cursor::Cursor;
-use elan_cursor::kind::{goes_on, is_operator, is_sign};
+use elan_cursor::kind::goes_on;
 use elan_grammar::tall::{Tall, and, one_more, single, with_next};
 use elan_grammar::{OperatorParts, ParseError};
 use elan_tree::{Access, Formal, Key, LevelUnit, Name, Operator, OperatorName, Sign, TypePhrase};
@@ -20,7 +20,7 @@ use type_parser::types;
 fn end_operator(cursor: &mut Cursor<'_>, name: &OperatorName) -> Result<Option<()>, ParseError>
     ensures { Gives ((spec.end_operator name.now).run cursor.old.rest.now) result cursor.new.rest.now }
 {
-    if !is_operator(cursor.ahead()) {
+    if !cursor.sees_same_operator(name) {
         return Ok(None);
     }
     cursor.same_operator(name)?;
@@ -106,7 +106,7 @@ fn one_operand(
 }
 
 /// As many operands as an operator takes.
-#[tactic(auto, unfolding(elan_grammar::specs::Grammar::operands))]
+#[tactic(auto, unfolding(elan_grammar::specs::Grammar::operands), using(elan_grammar::proofs::Starts::of_texts))]
 fn operands(
     alloc: Global,
     cursor: &mut Cursor<'_>,
@@ -115,10 +115,9 @@ fn operands(
     ensures { Parses (spec.operands 400 399 operator.now) (deepest_of formal_depth) (AtMost 399) cursor.old.rest.now result cursor.new.rest.now }
 {
     let first = operand(alloc, cursor)?;
-    let kind = cursor.ahead();
-    if goes_on(kind) {
+    if goes_on(cursor.ahead()) {
         same_typed(alloc, cursor, first)
-    } else if is_sign(Sign::Comma, kind) {
+    } else if cursor.sees_sign(Sign::Comma) {
         other_typed(alloc, cursor, first)
     } else {
         one_operand(alloc, cursor, operator, first)

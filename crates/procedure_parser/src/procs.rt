@@ -8,7 +8,6 @@ ghost use Rattle.elan_grammar.specs.Depth.{body_depth, level_unit_depth, type_de
 use crate::bodies::{MOST_IN_BODY, body};
 use containers::List;
 use elan_cursor::Cursor;
-use elan_cursor::kind::is_ident;
 use elan_grammar::tall::{Tall, and};
 use elan_grammar::{ParseError, ProcParts};
 use elan_tree::{Formal, Key, LevelUnit, Name, Sign, TypePhrase};
@@ -20,7 +19,7 @@ use type_parser::{formals, type_place};
 pub fn end_name(cursor: &mut Cursor<'_>, name: &Name) -> Result<Option<()>, ParseError>
     ensures { Gives ((spec.end_name name.now).run cursor.old.rest.now) result cursor.new.rest.now }
 {
-    if !is_ident(cursor.ahead()) {
+    if !cursor.sees_same(name) {
         return Ok(None);
     }
     cursor.same(name)?;
@@ -37,7 +36,7 @@ fn formal_list(alloc: Global, cursor: &mut Cursor<'_>) -> Result<Tall<List<Forma
     Ok(row)
 }
 
-#[tactic(auto, unfolding(elan_grammar::specs::Grammar::optional_formals))]
+#[tactic(auto, unfolding(elan_grammar::specs::Grammar::optional_formals), using(elan_grammar::proofs::Starts::of_texts))]
 fn optional_formals(
     alloc: Global,
     cursor: &mut Cursor<'_>,

@@ -10,7 +10,7 @@ ghost use Rattle.elan_grammar.specs.Depth.{type_depth, level_unit_depth, level_d
 
 use containers::{List, NoMemory};
 use elan_cursor::Cursor;
-use elan_cursor::kind::{begins_typed, is_comma, is_key};
+use elan_cursor::kind::begins_typed;
 use elan_grammar::ParseError;
 use elan_grammar::tall::{Tall, and, one, one_more, single, with_next};
 use elan_tree::{Export, Key, Level, LevelUnit, Sign, Token, Tree, TypePhrase};
@@ -54,20 +54,20 @@ fn declared_unit(
     })
 }
 
-#[tactic(auto, unfolding(elan_grammar::specs::Grammar::typed_unit))]
+#[tactic(auto, unfolding(elan_grammar::specs::Grammar::typed_unit), using(elan_grammar::proofs::Starts::of_texts))]
 fn typed_unit(alloc: Global, cursor: &mut Cursor<'_>) -> Result<Tall<LevelUnit>, ParseError>
     ensures { Parses (spec.typed_unit 400 399) level_unit_depth (AtMost 400) cursor.old.rest.now result cursor.new.rest.now }
 {
     let of = types(alloc, cursor, MOST)?;
-    let kind = cursor.ahead();
-    if !is_key(Key::Proc, kind) && !is_key(Key::Op, kind) {
+    let is_proc = cursor.sees_key(Key::Proc);
+    if !is_proc && !cursor.sees_key(Key::Op) {
         return declared_unit(alloc, cursor, of);
     }
     let result = Tall {
         tree: Some(of.tree),
         height: of.height,
     };
-    if is_key(Key::Proc, kind) {
+    if is_proc {
         proc(alloc, cursor, result)
     } else {
         operator(alloc, cursor, result)
@@ -85,16 +85,15 @@ fn plain_unit(alloc: Global, cursor: &mut Cursor<'_>) -> Result<Tall<LevelUnit>,
     })
 }
 
-#[tactic(auto, unfolding(elan_grammar::specs::Grammar::level_unit))]
+#[tactic(auto, unfolding(elan_grammar::specs::Grammar::level_unit), using(elan_grammar::proofs::Starts::of_texts))]
 fn level_unit(alloc: Global, cursor: &mut Cursor<'_>) -> Result<Tall<LevelUnit>, ParseError>
     ensures { Parses (spec.level_unit 400 399) level_unit_depth (AtMost 400) cursor.old.rest.now result cursor.new.rest.now }
 {
-    let kind = cursor.ahead();
-    if begins_typed(kind) {
+    if begins_typed(cursor.ahead()) {
         typed_unit(alloc, cursor)
-    } else if is_key(Key::TypeWord, kind) {
+    } else if cursor.sees_key(Key::TypeWord) {
         new_type(alloc, cursor)
-    } else if is_key(Key::Proc, kind) {
+    } else if cursor.sees_key(Key::Proc) {
         proc(
             alloc,
             cursor,
@@ -103,7 +102,7 @@ fn level_unit(alloc: Global, cursor: &mut Cursor<'_>) -> Result<Tall<LevelUnit>,
                 height: 0,
             },
         )
-    } else if is_key(Key::Op, kind) {
+    } else if cursor.sees_key(Key::Op) {
         operator(
             alloc,
             cursor,
@@ -163,7 +162,7 @@ fn export_list(alloc: Global, cursor: &mut Cursor<'_>) -> Result<List<Export>, P
 {
     let mut row = one(alloc, cursor.export(alloc))?;
     for _turn in 0..cursor.rest.len() {
-        if !is_comma(cursor.ahead()) {
+        if !cursor.sees_sign(Sign::Comma) {
             return Ok(row);
         }
         let (items, _) = and(row, cursor.mark(Sign::Comma))?;

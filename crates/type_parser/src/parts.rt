@@ -8,7 +8,6 @@ ghost use Rattle.elan_grammar.specs.Depth.{formal_depth, let_item_depth, deepest
 use crate::type_phrases::{names, types};
 use containers::List;
 use elan_cursor::Cursor;
-use elan_cursor::kind::{is_comma, is_ident};
 use elan_grammar::ParseError;
 use elan_grammar::tall::{Tall, and, single, with_next};
 use elan_tree::{Constant, Formal, LetItem, Sign};
@@ -43,7 +42,7 @@ pub fn formals(
 {
     let mut row = single(alloc, formal(alloc, cursor, depth))?;
     for _turn in 0..cursor.rest.len() {
-        if !is_comma(cursor.ahead()) {
+        if !cursor.sees_sign(Sign::Comma) {
             return Ok(row);
         }
         let (items, _) = and(row, cursor.mark(Sign::Comma))?;
@@ -61,7 +60,7 @@ fn negative(cursor: &mut Cursor<'_>) -> Result<Constant, ParseError>
     Ok(Constant::Number(at, number))
 }
 
-#[tactic(auto, unfolding(elan_grammar::specs::Types::constant))]
+#[tactic(auto, unfolding(elan_grammar::specs::Types::constant), using(elan_grammar::proofs::Starts::of_types))]
 fn constant(alloc: Global, cursor: &mut Cursor<'_>) -> Result<Constant, ParseError>
     ensures { Gives ((spec.constant).run cursor.old.rest.now) result cursor.new.rest.now }
 {
@@ -100,11 +99,11 @@ fn abbreviation(
     })
 }
 
-#[tactic(auto, unfolding(elan_grammar::specs::Types::let_item, elan_grammar::specs::Types::let_constant))]
+#[tactic(auto, unfolding(elan_grammar::specs::Types::let_item, elan_grammar::specs::Types::let_constant), using(elan_grammar::proofs::Starts::of_types))]
 fn let_item(alloc: Global, cursor: &mut Cursor<'_>, depth: u16) -> Result<Tall<LetItem>, ParseError>
     ensures { Parses (spec.let_item depth) let_item_depth (AtMost depth) cursor.old.rest.now result cursor.new.rest.now }
 {
-    if is_ident(cursor.ahead()) {
+    if cursor.sees_ident() {
         let tree = let_constant(alloc, cursor)?;
         return Ok(Tall { tree, height: 0 });
     }
@@ -122,7 +121,7 @@ pub fn let_items(
 {
     let mut row = single(alloc, let_item(alloc, cursor, depth))?;
     for _turn in 0..cursor.rest.len() {
-        if !is_comma(cursor.ahead()) {
+        if !cursor.sees_sign(Sign::Comma) {
             return Ok(row);
         }
         let (items, _) = and(row, cursor.mark(Sign::Comma))?;

@@ -2,13 +2,14 @@
 
 ghost use Rattle.std.specs.Prelude.{◌≡◌, ◌<◌, ◌≤◌, ◌+◌, ◌-◌, ◌==◌, IfOk};
 ghost use Rattle.elan_grammar.specs.Rule.{Gives, Parses, AtMost};
+ghost use Rattle.elan_grammar.specs.Terminals.{word, simple_of};
 ghost use Rattle.elan_grammar.specs.Types as spec;
 ghost use Rattle.elan_grammar.specs.Depth.{type_depth, field_depth, type_place, deepest_of};
 ghost use Rattle.type_parser.specs.Nests.{Nests};
 
 use containers::List;
 use elan_cursor::Cursor;
-use elan_cursor::kind::{goes_on, is_bold, is_comma, is_key};
+use elan_cursor::kind::goes_on;
 use elan_grammar::ParseError;
 use elan_grammar::tall::{Tall, and, boxed, one, one_more, single, with_next};
 use elan_tree::{Field, Key, Name, Sign, TypePhrase};
@@ -122,7 +123,7 @@ impl<F: Fn(Global, &mut Cursor<'_>, u16) -> Result<Tall<TypePhrase>, ParseError>
     {
         let mut row = single(self.alloc, self.field(cursor))?;
         for _turn in 0..cursor.rest.len() {
-            if !is_comma(cursor.ahead()) {
+            if !cursor.sees_sign(Sign::Comma) {
                 return Ok(row);
             }
             let (fields, _) = and(row, cursor.mark(Sign::Comma))?;
@@ -151,23 +152,28 @@ impl<F: Fn(Global, &mut Cursor<'_>, u16) -> Result<Tall<TypePhrase>, ParseError>
         })
     }
 
-    #[tactic(auto, unfolding(elan_grammar::specs::Types::a_type, elan_grammar::specs::Types::named_type))]
+    fn simple(&self, cursor: &mut Cursor<'_>) -> Result<Tall<TypePhrase>, ParseError>
+        ensures { Parses (word simple_of) type_depth (AtMost (self.now.depth + 1)) cursor.old.rest.now result cursor.new.rest.now }
+    {
+        let tree = cursor.simple_type()?;
+        Ok(Tall { tree, height: 1 })
+    }
+
+    #[tactic(auto, unfolding(elan_grammar::specs::Types::a_type, elan_grammar::specs::Types::named_type), using(elan_grammar::proofs::Starts::of_types))]
     fn a_type(&self, cursor: &mut Cursor<'_>) -> Result<Tall<TypePhrase>, ParseError>
         requires { Nests F.Fn self.now }
         ensures { Parses (spec.a_type (spec.types self.now.depth) self.now.depth) type_depth (AtMost (self.now.depth + 1))
             cursor.old.rest.now result cursor.new.rest.now }
     {
-        let kind = cursor.ahead();
-        if is_bold(kind) {
+        if cursor.sees_bold() {
             let tree = TypePhrase::Named(cursor.bold(self.alloc)?);
             Ok(Tall { tree, height: 1 })
-        } else if is_key(Key::Row, kind) {
+        } else if cursor.sees_key(Key::Row) {
             self.row(cursor)
-        } else if is_key(Key::Struct, kind) {
+        } else if cursor.sees_key(Key::Struct) {
             self.structure(cursor)
         } else {
-            let tree = cursor.simple_type()?;
-            Ok(Tall { tree, height: 1 })
+            self.simple(cursor)
         }
     }
 }

@@ -1,6 +1,6 @@
 use Rattle.std.proofs.Common.{◌≡◌, ◌≤◌, ◌-◌}
 use Rattle.elan_tree.specs.declared.token.Sign.TheVariants as sign
-use Rattle.elan_grammar.specs.Rule.{steps_run, further}
+use Rattle.elan_grammar.specs.Rule.{steps_run, further, seen}
 use Rattle.elan_grammar.specs.Kinds.{leads}
 use Rattle.elan_grammar.specs.Terminals.{mark}
 use Rattle.elan_grammar.specs.Grammar as grammar
@@ -10,5 +10,5 @@ use Rattle.procedure_parser.proofs.bodies.refinement_list.Given as goal
 abbrev pub invariant-loop-turn : goal.invariant-loop-turn
 invariant-loop-turn l =
     ((grammar.refinement_list l.depth).run l.fn.cursor.rest.now
-    ≡ steps_run (further (mark sign.Point) (grammar.refinement l.depth)) (leads) (l._turn-end - l._turn) l.row.tree l.cursor.rest.now)
+    ≡ steps_run (further (seen leads (mark sign.Point)) (grammar.refinement l.depth)) (l._turn-end - l._turn) l.row.tree l.cursor.rest.now)
     × (l.row.height ≡ deepest_of refinement_depth l.row.tree) × (l.row.height ≤ l.depth)

@@ -1,7 +1,6 @@
 use Rattle.std.proofs.Common.{◌≡◌, ◌≤◌, ◌-◌}
 use Rattle.elan_tree.specs.declared.token.Sign.TheVariants as sign
 use Rattle.elan_grammar.specs.Rule.{steps_run, further}
-use Rattle.elan_grammar.specs.Kinds.{is_sign}
 use Rattle.elan_grammar.specs.Terminals.{mark}
 use Rattle.elan_grammar.specs.Grammar as grammar
 use Rattle.elan_grammar.specs.Depth.{level_unit_depth, deepest_of}
@@ -10,5 +9,5 @@ use Rattle.text_parser.proofs.texts.level_units.Given as goal
 abbrev pub invariant-loop-turn : goal.invariant-loop-turn
 invariant-loop-turn l =
     ((grammar.level_units 400 399).run l.fn.cursor.rest.now
-    ≡ steps_run (further (mark sign.Semicolon) (grammar.level_unit 400 399)) (is_sign sign.Semicolon) (l._turn-end - l._turn) l.row.tree l.cursor.rest.now)
+    ≡ steps_run (further (mark sign.Semicolon) (grammar.level_unit 400 399)) (l._turn-end - l._turn) l.row.tree l.cursor.rest.now)
     × (l.row.height ≡ deepest_of level_unit_depth l.row.tree) × (l.row.height ≤ 400)

@@ -1,9 +1,8 @@
-use Rattle.std.proofs.Common.{◌≡◌, ℕ, suc, ◌+◌, ◌-◌, rules, arith, Result, Ok, Err}
+use Rattle.std.proofs.Common.{◌≡◌, ℕ, suc, ◌-◌, rules, arith, Result, Ok, Err}
 use Rattle.std.proofs.lemmas.Grind.{common_steps}
 use Rattle.elan_tree.specs.declared.phrase.Expr.{Expr}
 use Rattle.elan_grammar.specs.declared.error.ParseError.{ParseError}
 use Rattle.elan_grammar.specs.declared.tall.Tall.{Tall}
-use Rattle.elan_grammar.specs.Kinds.{is_level}
 use Rattle.elan_grammar.specs.Rule.{Tokens, iterate, Parses, AtMost}
 use Rattle.elan_grammar.specs.Expressions.{Language, operand, dyadic, level}
 use Rattle.elan_grammar.specs.Units.{phrases}
@@ -18,10 +17,10 @@ operand_alone inner n i old new result e h =
 
 with_operators : (inner : Language) (n i j : ℕ) (all old new : Tokens) (left : Expr) (result : Result (Tall Expr) ParseError) → i ≡ suc j
     → (level inner n j).run all ≡ Ok (left, old)
-    → Parses (iterate (dyadic inner n j) (is_level (j + 1)) left) expr_depth (AtMost n) old result new
+    → Parses (iterate (dyadic inner n j) left) expr_depth (AtMost n) old result new
     → Parses (level inner n i) expr_depth (AtMost n) all result new
 with_operators inner n i j all old new left result e run h =
-    parses_from (iterate (dyadic inner n j) (is_level (j + 1)) left) (level inner n i) expr_depth (AtMost n) (AtMost n) all old new result
+    parses_from (iterate (dyadic inner n j) left) (level inner n i) expr_depth (AtMost n) (AtMost n) all old new result
     (level_ok inner n i j all old left e run) (λ k le. le) h
 
 pub returns-then-level-eq-OPERAND_LEVEL : goal.returns-then-level-eq-OPERAND_LEVEL

@@ -1,7 +1,6 @@
 use Rattle.std.proofs.Common.{◌≡◌, ◌<◌, ◌-◌}
 use Rattle.elan_tree.specs.declared.token.Sign.TheVariants as sign
 use Rattle.elan_grammar.specs.Rule.{steps_run, further}
-use Rattle.elan_grammar.specs.Kinds.{is_comma}
 use Rattle.elan_grammar.specs.Terminals.{mark}
 use Rattle.elan_grammar.specs.Expressions as expressions
 use Rattle.elan_grammar.specs.Units as units
@@ -11,6 +10,6 @@ use Rattle.expression_parser.proofs.expressions.Grammar.actuals.Given as goal
 abbrev pub invariant-loop-turn : goal.invariant-loop-turn
 invariant-loop-turn g l =
     ((expressions.actuals (units.phrases l.self.depth) l.self.depth).run l.fn.cursor.rest.now
-    ≡ steps_run (further (mark sign.Comma) (expressions.actual (units.phrases l.self.depth) l.self.depth)) (is_comma) (l._turn-end - l._turn) l.row.tree
+    ≡ steps_run (further (mark sign.Comma) (expressions.actual (units.phrases l.self.depth) l.self.depth)) (l._turn-end - l._turn) l.row.tree
     l.cursor.rest.now)
     × (l.row.height ≡ deepest_of expr_depth l.row.tree) × (l.row.height < l.self.depth)

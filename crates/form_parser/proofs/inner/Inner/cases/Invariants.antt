@@ -1,7 +1,5 @@
 use Rattle.std.proofs.Common.{◌≡◌, ◌<◌, ◌-◌}
-use Rattle.elan_tree.specs.declared.token.Key.TheVariants as key
-use Rattle.elan_grammar.specs.Rule.{steps_run, further, nothing}
-use Rattle.elan_grammar.specs.Kinds.{is_key}
+use Rattle.elan_grammar.specs.Rule.{steps_run, one_more}
 use Rattle.elan_grammar.specs.Expressions as expressions
 use Rattle.elan_grammar.specs.Units as units
 use Rattle.elan_grammar.specs.Depth.{case_depth, deepest_of}
@@ -10,6 +8,6 @@ use Rattle.form_parser.proofs.inner.Inner.cases.Given as goal
 abbrev pub invariant-loop-turn : goal.invariant-loop-turn
 invariant-loop-turn g l =
     ((expressions.cases (units.phrases l.self.depth) l.self.depth).run l.fn.cursor.rest.now
-    ≡ steps_run (further nothing (expressions.a_case (units.phrases l.self.depth) l.self.depth)) (is_key key.Case) (l._turn-end - l._turn) l.row.tree
+    ≡ steps_run (one_more (expressions.a_case (units.phrases l.self.depth) l.self.depth)) (l._turn-end - l._turn) l.row.tree
     l.cursor.rest.now)
     × (l.row.height ≡ deepest_of case_depth l.row.tree) × (l.row.height < l.self.depth)

@@ -1,7 +1,6 @@
 use Rattle.std.proofs.Common.{◌≡◌, ◌≤◌, ◌-◌}
 use Rattle.elan_tree.specs.declared.token.Sign.TheVariants as sign
 use Rattle.elan_grammar.specs.Rule.{steps_run, further}
-use Rattle.elan_grammar.specs.Kinds.{is_comma}
 use Rattle.elan_grammar.specs.Terminals.{mark}
 use Rattle.elan_grammar.specs.Types.{types, field, fields}
 use Rattle.elan_grammar.specs.Depth.{field_depth, deepest_of}
@@ -10,5 +9,5 @@ use Rattle.type_parser.proofs.type_phrases.TypeRules.fields.Given as goal
 abbrev pub invariant-loop-turn : goal.invariant-loop-turn
 invariant-loop-turn g l =
     ((fields (types l.self.depth)).run l.fn.cursor.rest.now
-    ≡ steps_run (further (mark sign.Comma) (field (types l.self.depth))) is_comma (l._turn-end - l._turn) l.row.tree l.cursor.rest.now)
+    ≡ steps_run (further (mark sign.Comma) (field (types l.self.depth))) (l._turn-end - l._turn) l.row.tree l.cursor.rest.now)
     × (l.row.height ≡ deepest_of field_depth l.row.tree) × (l.row.height ≤ l.self.depth)
