@@ -107,8 +107,8 @@ module _ (content : Content) (cells : Cells) (at : ℕ) (low : at < 16384) (h : 
   empty_there = record {
     words =
         by_number content with_empty (λ c n lt e. ⊎_elim
-            (λ t. let f : Letters [] ≡ Word n = sym (there cells at (Letters []) c t.1) ∙ e in let g : ⊥ = cc in absurd g)
-            (λ t. h.words (run_cell c) n lt (sym (else cells at (Letters []) c t.1) ∙ e)) (eqb_tells c at));
+        (λ t. let f : Letters [] ≡ Word n = sym (there cells at (Letters []) c t.1) ∙ e in let g : ⊥ = cc in absurd g)
+        (λ t. h.words (run_cell c) n lt (sym (else cells at (Letters []) c t.1) ∙ e)) (eqb_tells c at));
     texts = record {
       each = λ c t lt e. ⊎_elim
           (λ y.
@@ -191,10 +191,10 @@ module _ (before now : Content) (cells : Cells) (at n : ℕ) (low : at < 16384) 
   word_there = record {
     words =
         by_number now with_word (λ c m lt e. ⊎_elim
-            (λ t.
-            let same : n ≡ m = word_is m (sym (there cells at (Word n) c t.1) ∙ e) in
-            put c ∙ ap (λ b. cond b n (cell_in before c)) t.0 ∙ same)
-            (λ t. number c t.1 ∙ h.words (run_cell c) m lt (sym (else cells at (Word n) c t.1) ∙ e)) (eqb_tells c at));
+        (λ t.
+        let same : n ≡ m = word_is m (sym (there cells at (Word n) c t.1) ∙ e) in
+        put c ∙ ap (λ b. cond b n (cell_in before c)) t.0 ∙ same)
+        (λ t. number c t.1 ∙ h.words (run_cell c) m lt (sym (else cells at (Word n) c t.1) ∙ e)) (eqb_tells c at));
     texts = record {
       each = λ c t lt e. ⊎_elim (λ y. let f : None ≡ Some t = sym (here c y.1) ∙ e in let g : ⊥ = cc in absurd g)
           (λ y. text_same c y.1 ∙ less.texts.each c t lt (sym (other c y.1) ∙ e)) (eqb_tells c at);
@@ -250,10 +250,10 @@ module _ (before now : Content) (cells : Cells) (at : ℕ) (t : List ℕ) (low :
         record {
           words =
               by_number now with_text (λ c n lt e. ⊎_elim
-                  (λ y. let f : Letters t ≡ Word n = sym (there cells at (Letters t) c y.1) ∙ e in let g : ⊥ = cc in absurd g)
-                  (λ y.
-                  same_cell before now c (λ k in_it. kept (8 * c + k) (omega (arith, lt, in_it)) (apart c k y.1 in_it))
-                  ∙ h.words (run_cell c) n lt (sym (else cells at (Letters t) c y.1) ∙ e)) (eqb_tells c at));
+              (λ y. let f : Letters t ≡ Word n = sym (there cells at (Letters t) c y.1) ∙ e in let g : ⊥ = cc in absurd g)
+              (λ y.
+              same_cell before now c (λ k in_it. kept (8 * c + k) (omega (arith, lt, in_it)) (apart c k y.1 in_it))
+              ∙ h.words (run_cell c) n lt (sym (else cells at (Letters t) c y.1) ∙ e)) (eqb_tells c at));
           texts = subst (Holds now) (texts_written cells at t) x.1;
         },
       )

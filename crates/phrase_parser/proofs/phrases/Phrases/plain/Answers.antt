@@ -8,12 +8,13 @@ pub returns-else-sees_expression : goal.returns-else-sees_expression
 returns-else-sees_expression g c =
     let n = c.args.self.now.depth in
     let inner = units.phrases n in
-    let xs = c.args.cursor.now.rest.now in
-    (nothing_starts inner n xs (let_starts inner n xs ∙ sym c.sees_key.ensures ∙ c.if-sees_key.false)
-        (bound_starts inner n xs ∙ sym c.sees_key-else-sees_key.ensures ∙ c.if-sees_key-2.false)
-        (leave_starts inner n xs ∙ sym c.sees_key-else-sees_key-2.ensures ∙ c.if-sees_key-3.false)
-        (counted_starts inner n xs ∙ sym c.sees_key-else-sees_key-3.ensures ∙ c.if-sees_key-4.false)
-        (guarded_starts inner n xs ∙ sym c.sees_key-else-sees_key-4.ensures ∙ c.if-sees_key-5.false)
-        (repeated_starts inner n xs ∙ sym c.sees_rep.ensures ∙ c.if-sees_rep.false)
-        (statement_starts inner n xs ∙ sym c.sees_expression.ensures ∙ c.if-sees_expression.false),
-    (nothing_deep, omega arith))
+    let xs = c.args.cursor.now.rest.now in (
+      nothing_starts inner n xs (let_starts inner n xs ∙ sym c.sees_key.ensures ∙ c.if-sees_key.false)
+          (bound_starts inner n xs ∙ sym c.sees_key-else-sees_key.ensures ∙ c.if-sees_key-2.false)
+          (leave_starts inner n xs ∙ sym c.sees_key-else-sees_key-2.ensures ∙ c.if-sees_key-3.false)
+          (counted_starts inner n xs ∙ sym c.sees_key-else-sees_key-3.ensures ∙ c.if-sees_key-4.false)
+          (guarded_starts inner n xs ∙ sym c.sees_key-else-sees_key-4.ensures ∙ c.if-sees_key-5.false)
+          (repeated_starts inner n xs ∙ sym c.sees_rep.ensures ∙ c.if-sees_rep.false)
+          (statement_starts inner n xs ∙ sym c.sees_expression.ensures ∙ c.if-sees_expression.false),
+      (nothing_deep, omega arith),
+    )
