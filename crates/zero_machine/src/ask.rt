@@ -17,7 +17,8 @@ use code_form::Waits;
 use eu_base::{NoMemory, RequestName, Value};
 use std::alloc::Global;
 
-/// Spends a mark, takes the operands of a request, and makes it.
+/// Spends a mark, takes the operands of a request, and makes it. It is seldom, and the loop of a run is quicker without it inside.
+#[inline(never)]
 pub fn ask(s: &mut State, name: RequestName, marks: &mut u32) -> Result<Next, NoMemory>
     requires ready { IsReady s.old }
     requires finds { TopValues (length (request_kinds name)) s.old.stack.ops }
