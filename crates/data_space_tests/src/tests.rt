@@ -6,8 +6,7 @@ ghost use Rattle.page_table.specs.Sharing.{Agree};
 use data_space::DataSpace;
 use eu_base::{Boxed, Kind, List, MemFault, NoMemory, Shape, Space};
 use page_pool::Pool;
-use std::alloc::{AllocError, Global};
-use std::test::Fail;
+use std::alloc::Global;
 
 // Spaces over a pool, of which each call works on the first.
 #[derive(Drop)]
@@ -131,7 +130,7 @@ struct Beside {
     third: Vec<u8>,
 }
 
-fn blank(alloc: Global) -> Result<Beside, AllocError> {
+fn blank(alloc: Global) -> Result<Beside, NoMemory> {
     let first = Vec::from_elem(alloc, 0u8, 262_144)?;
     let second = first.clone()?;
     let third = first.clone()?;
@@ -171,7 +170,7 @@ impl Beside {
     }
 
     // The third space is a copy of the first.
-    fn copied(self, alloc: Global) -> Result<Beside, Fail> {
+    fn copied(self, alloc: Global) -> Result<Beside, NoMemory> {
         let Beside {
             spaces,
             first,
@@ -192,29 +191,37 @@ impl Beside {
     }
 }
 
-// After many writes and copies.
-fn written(alloc: Global) -> Result<Beside, Fail> {
+// Whether each space has its bytes, and no page is left where all are forgotten.
+fn all_agree(beside: Beside) -> bool {
+    let mut beside = beside;
+    let mut right = true;
+    for _ in 0..3 {
+        right = beside.agrees() && right;
+        beside = beside.turned();
+    }
+    let left = beside.spaces.ended();
+    right && left == 0
+}
+
+// Whether all is right after many writes and copies.
+fn is_right(alloc: Global) -> Result<bool, NoMemory> {
     let mut beside = blank(alloc)?;
     let mut seed = 7;
+    let mut done = true;
     for _ in 0..150 {
-        beside.write(&mut seed)?;
+        done = beside.write(&mut seed).is_ok() && done;
         if next(&mut seed) % 3 == 0 {
             beside = beside.copied(alloc)?;
         }
         beside = beside.turned();
     }
-    Ok(beside)
+    let right = all_agree(beside);
+    Ok(done && right)
 }
 
 #[test]
-fn each_space_has_the_bytes_that_were_written_to_it(rt: HostRuntime) -> Result<(), Fail> {
-    let mut beside = written(rt.alloc())?;
-    for _ in 0..3 {
-        assert!(rt; beside.agrees());
-        beside = beside.turned();
-    }
-    assert_eq!(rt; beside.spaces.ended(), 0);
-    Ok(())
+fn each_space_has_the_bytes_that_were_written_to_it(rt: HostRuntime) {
+    assert!(rt; is_right(rt.alloc()) == Ok(true));
 }
 
 // In the first page and in the last.
@@ -229,32 +236,32 @@ fn first_byte(spaces: &Three) -> u8 {
     byte[0]
 }
 
-// The third space is a copy of the first, and begins with other bytes.
-fn changed_copy(alloc: Global, spaces: Three) -> Result<Three, Fail> {
-    let mut spaces = spaces.copied(alloc)?.turned().turned();
-    spaces.write(0, b"c")?;
-    Ok(spaces.turned())
-}
-
-// The pages after each step, and the first byte of a space and of its changed copy.
-fn shared(alloc: Global) -> Result<([u32; 4], [u8; 2]), Fail> {
+// The pages after each step, and the first byte of a space and of its copy, which begins with another byte; zeros where a
+// write failed.
+fn shared(alloc: Global) -> Result<([u32; 4], [u8; 2]), NoMemory> {
     let mut spaces = untouched(alloc);
-    write_ends(&mut spaces)?;
+    let ends = write_ends(&mut spaces).is_ok();
     let written = spaces.pool.used();
     let spaces = spaces.copied(alloc)?;
     let copied = spaces.pool.used();
-    let spaces = changed_copy(alloc, spaces)?;
+    let mut spaces = spaces.copied(alloc)?.turned().turned();
+    let start = spaces.write(0, b"c").is_ok();
+    let spaces = spaces.turned();
     let changed = spaces.pool.used();
     let first = first_byte(&spaces);
     let spaces = spaces.turned().turned();
     let copy = first_byte(&spaces);
-    Ok(([written, copied, changed, spaces.ended()], [first, copy]))
+    let pages = [written, copied, changed, spaces.ended()];
+    if ends && start {
+        Ok((pages, [first, copy]))
+    } else {
+        Ok(([0; 4], [0; 2]))
+    }
 }
 
 #[test]
-fn pages_are_shared(rt: HostRuntime) -> Result<(), Fail> {
-    assert_eq!(rt; shared(rt.alloc())?, ([5, 5, 8, 0], *b"ac"));
-    Ok(())
+fn pages_are_shared(rt: HostRuntime) {
+    assert!(rt; shared(rt.alloc()) == Ok(([5, 5, 8, 0], *b"ac")));
 }
 
 // A row of four structs of one truth value.
@@ -284,11 +291,13 @@ fn told_by_copy(alloc: Global, kind: i16, shape: Shape) -> Result<(i16, u16, usi
     Ok(told(&spaces.third))
 }
 
+fn copy_tells(alloc: Global) -> Result<(i16, u16, usize), NoMemory> {
+    told_by_copy(alloc, 1003, shape(alloc)?)
+}
+
 #[test]
-fn a_copy_has_the_type_and_the_shape(rt: HostRuntime) -> Result<(), Fail> {
-    let alloc = rt.alloc();
-    assert_eq!(rt; told_by_copy(alloc, 1003, shape(alloc)?)?, (1003, 4, 1));
-    Ok(())
+fn a_copy_has_the_type_and_the_shape(rt: HostRuntime) {
+    assert!(rt; copy_tells(rt.alloc()) == Ok((1003, 4, 1)));
 }
 
 #[test]

@@ -14,55 +14,94 @@ fn run_cell(cell: u16) -> Addr
     }
 }
 
-// A text of this length, another for each first byte.
-fn text(alloc: Global, first: u8, length: usize) -> Result<Bytes, NoMemory> {
+/// A text is told by its first byte and its length.
+#[derive(Clone, Copy)]
+struct Content {
+    first: u8,
+    length: usize,
+}
+
+const EMPTY: Content = Content {
+    first: 0,
+    length: 0,
+};
+
+fn told(first: u8, length: usize) -> Content {
+    Content { first, length }
+}
+
+fn text(alloc: Global, content: Content) -> Result<Bytes, NoMemory> {
     let mut bytes = Bytes::new(alloc);
-    for index in 0..length {
-        bytes.append(&[first.wrapping_add((index % 251) as u8)])?;
+    for index in 0..content.length {
+        bytes.append(&[content.first.wrapping_add((index % 251) as u8)])?;
     }
     Ok(bytes)
 }
 
-fn has<M: Memory>(memory: &mut M, cell: u16, t: &[u8]) -> Result<bool, MemFault>
+fn put<M: Memory>(
+    alloc: Global,
+    memory: &mut M,
+    cell: u16,
+    content: Content,
+) -> Result<Set, MemFault>
     requires { cell < 16384 }
 {
+    let bytes = text(alloc, content)?;
+    memory.set_text(run_cell(cell), bytes.as_slice())
+}
+
+fn found<M: Memory>(
+    alloc: Global,
+    memory: &mut M,
+    cell: u16,
+    content: Content,
+) -> Result<bool, MemFault>
+    requires { cell < 16384 }
+{
+    let bytes = text(alloc, content)?;
     let found = memory.text(run_cell(cell))?;
-    Ok(found.as_slice() == t)
+    Ok(found.as_slice() == bytes.as_slice())
+}
+
+fn has<M: Memory>(alloc: Global, memory: &mut M, cell: u16, content: Content) -> bool
+    requires { cell < 16384 }
+{
+    found(alloc, memory, cell, content) == Ok(true)
 }
 
 // A text is put into a cell, and comes back from it.
-fn comes_back<M: Memory>(memory: &mut M, cell: u16, t: &[u8]) -> Result<bool, MemFault>
+fn comes_back<M: Memory>(alloc: Global, memory: &mut M, cell: u16, content: Content) -> bool
     requires { cell < 16384 }
 {
-    let done = memory.set_text(run_cell(cell), t)? == Set::Done;
-    let there = has(memory, cell, t)?;
-    Ok(done && there)
+    put(alloc, memory, cell, content) == Ok(Set::Done) && has(alloc, memory, cell, content)
+}
+
+fn is_refused<M: Memory>(alloc: Global, memory: &mut M, cell: u16, content: Content) -> bool
+    requires { cell < 16384 }
+{
+    put(alloc, memory, cell, content) == Ok(Set::HeapFull)
 }
 
 /// A text is put, read, replaced and emptied, beside a number.
-pub fn one_text<M: Memory>(alloc: Global, memory: &mut M) -> Result<bool, MemFault> {
-    let short = text(alloc, b'a', 3)?;
-    let long = text(alloc, b'b', 100)?;
-    memory.set_cell(run_cell(7), 65_535)?;
-    let put = comes_back(memory, 16_383, short.as_slice())?;
-    let replaced = comes_back(memory, 16_383, long.as_slice())?;
-    let emptied = comes_back(memory, 16_383, b"")?;
-    let zero = memory.cell(run_cell(16_383))? == 0;
-    let beside = memory.cell(run_cell(7))? == 65_535;
-    Ok(put && replaced && emptied && zero && beside)
+pub fn one_text<M: Memory>(alloc: Global, memory: &mut M) -> bool {
+    let number = memory.set_cell(run_cell(7), 65_535) == Ok(());
+    let put = comes_back(alloc, memory, 16_383, told(b'a', 3));
+    let replaced = comes_back(alloc, memory, 16_383, told(b'b', 100));
+    let emptied = comes_back(alloc, memory, 16_383, EMPTY);
+    let zero = memory.cell(run_cell(16_383)) == Ok(0);
+    let beside = memory.cell(run_cell(7)) == Ok(65_535);
+    number && put && replaced && emptied && zero && beside
 }
 
 /// All blocks but one are taken, then the last, and then one more is wanted; the text that is refused leaves the others.
-pub fn all_blocks<M: Memory>(alloc: Global, memory: &mut M) -> Result<bool, MemFault> {
-    let long = text(alloc, b'c', 114_660)?;
-    let one = text(alloc, b'd', 28)?;
-    let two = text(alloc, b'e', 29)?;
-    let almost = comes_back(memory, 0, long.as_slice())?;
-    let no_room = memory.set_text(run_cell(1), two.as_slice())? == Set::HeapFull;
-    let last = comes_back(memory, 1, one.as_slice())?;
-    let full = memory.set_text(run_cell(2), b"x")? == Set::HeapFull;
-    let still = has(memory, 0, long.as_slice())?;
-    let freed = comes_back(memory, 0, b"")?;
-    let again = comes_back(memory, 2, two.as_slice())?;
-    Ok(almost && no_room && last && full && still && freed && again)
+pub fn all_blocks<M: Memory>(alloc: Global, memory: &mut M) -> bool {
+    let (long, two) = (told(b'c', 114_660), told(b'e', 29));
+    let almost = comes_back(alloc, memory, 0, long);
+    let no_room = is_refused(alloc, memory, 1, two);
+    let last = comes_back(alloc, memory, 1, told(b'd', 28));
+    let full = is_refused(alloc, memory, 2, told(b'x', 1));
+    let still = has(alloc, memory, 0, long);
+    let freed = comes_back(alloc, memory, 0, EMPTY);
+    let again = comes_back(alloc, memory, 2, two);
+    almost && no_room && last && full && still && freed && again
 }

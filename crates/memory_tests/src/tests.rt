@@ -3,15 +3,17 @@
 use crate::scenes;
 use page_pool::Pool;
 use space_memory::SpaceMemory;
-use std::test::Fail;
+use std::alloc::Global;
 
-#[test]
-fn texts_stand_in_a_memory(rt: HostRuntime) -> Result<(), Fail> {
-    let alloc = rt.alloc();
+fn over_pages(alloc: Global) -> bool {
     let mut pool = Pool::new(alloc);
     let mut memory = SpaceMemory::new(alloc);
     let mut lent = memory.over(&mut pool);
-    assert!(rt; scenes::one_text(alloc, &mut lent)?);
-    assert!(rt; scenes::all_blocks(alloc, &mut lent)?);
-    Ok(())
+    let one = scenes::one_text(alloc, &mut lent);
+    one && scenes::all_blocks(alloc, &mut lent)
+}
+
+#[test]
+fn texts_stand_in_a_memory(rt: HostRuntime) {
+    assert!(rt; over_pages(rt.alloc()));
 }

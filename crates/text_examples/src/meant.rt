@@ -1,9 +1,9 @@
-use elan_check::check;
-use elan_lexer::tokens;
-use elan_parser::parse;
+use elan_check::{CheckError, check};
+use elan_lexer::{LexError, tokens};
+use elan_parser::{ParseError, parse};
+use elan_tree::{Token, Tree};
 use elan_types::Env;
 use std::alloc::{AllocError, Global};
-use std::test::Fail;
 
 // Texts, and behind the arrow whether they have a core, or at which place and for which reason they have none. A table is one
 // text, since the check goes over each item of an array.
@@ -241,78 +241,103 @@ OP := (INT CONST a, BOOL CONST b): END OP :=; 1 := TRUE => a core
 INT OP := (INT CONST a, BOOL CONST b): 1 END OP :=; 1 := TRUE => NoMeaning(53, WrongType)
 BOOL OP < (BOOL CONST a, b): b END OP <; IF TRUE < FALSE THEN line FI => a core";
 
-fn answer(alloc: Global, text: &str) -> Result<String, AllocError> {
-    if text.len() > 1000 {
-        return format!(in alloc; "too long");
-    }
-    let tokens = match tokens(alloc, text.as_bytes()) {
-        Ok(tokens) => tokens,
-        Err(error) => return format!(in alloc; "{error:?}"),
-    };
-    let tree = match parse(alloc, tokens.as_slice(), false) {
-        Ok(tree) => tree,
-        Err(error) => return format!(in alloc; "{error:?}"),
-    };
-    match check(alloc, &tree, &Env) {
-        Ok(_core) => format!(in alloc; "a core"),
-        Err(error) => format!(in alloc; "{error:?}"),
+/// What comes of a text.
+#[derive(Clone, Copy)]
+enum Outcome {
+    TooLong,
+    NoTokens(LexError),
+    NoTree(ParseError),
+    NoCore(CheckError),
+    Core,
+}
+
+fn of_tree(alloc: Global, tree: &Tree) -> Outcome {
+    match check(alloc, tree, &Env) {
+        Ok(_core) => Outcome::Core,
+        Err(error) => Outcome::NoCore(error),
     }
 }
 
-/// How many rows of a table are as it says, or the first that is not.
-fn compared(alloc: Global, table: &str) -> Result<String, AllocError> {
-    let mut rows = 0u32;
-    for line in table.lines() {
-        let Some((text, want)) = line.split_once(" => ") else {
-            return format!(in alloc; "no row: {line}");
-        };
-        let found = answer(alloc, text)?;
-        if found.as_str() != want {
-            return format!(in alloc; "{text} => {found}");
+fn of_tokens(alloc: Global, tokens: &[Token]) -> Outcome {
+    match parse(alloc, tokens, false) {
+        Ok(tree) => of_tree(alloc, &tree),
+        Err(error) => Outcome::NoTree(error),
+    }
+}
+
+fn of_text(alloc: Global, text: &str) -> Outcome {
+    if text.len() > 1000 {
+        return Outcome::TooLong;
+    }
+    match tokens(alloc, text.as_bytes()) {
+        Ok(found) => of_tokens(alloc, found.as_slice()),
+        Err(error) => Outcome::NoTokens(error),
+    }
+}
+
+fn describe(out: &mut String, outcome: Outcome) -> Result<(), AllocError> {
+    match outcome {
+        Outcome::TooLong => out.push_str("too long"),
+        Outcome::NoTokens(error) => write!(out, "{error:?}"),
+        Outcome::NoTree(error) => write!(out, "{error:?}"),
+        Outcome::NoCore(error) => write!(out, "{error:?}"),
+        Outcome::Core => out.push_str("a core"),
+    }
+}
+
+fn is_right(alloc: Global, row: &str) -> bool {
+    match row.split_once(" => ") {
+        Some((text, told)) => {
+            let mut out = String::new(alloc);
+            describe(&mut out, of_text(alloc, text)).is_ok() && out.as_str() == told
+        }
+        None => false,
+    }
+}
+
+/// How many rows of a table are as it says, before the first that is not.
+fn right_rows(alloc: Global, table: &str) -> usize {
+    let mut rows = 0usize;
+    for row in table.lines() {
+        if !is_right(alloc, row) {
+            return rows;
         }
         rows = rows.saturating_add(1);
     }
-    format!(in alloc; "{rows} rows")
+    rows
 }
 
 #[test]
-fn names_and_operators_have_these_meanings(rt: HostRuntime) -> Result<(), Fail> {
-    assert_eq!(rt; compared(rt.alloc(), NAMES)?.as_str(), "42 rows");
-    Ok(())
+fn names_and_operators_have_these_meanings(rt: HostRuntime) {
+    assert_eq!(rt; right_rows(rt.alloc(), NAMES), 42);
 }
 
 #[test]
-fn choices_have_these_meanings(rt: HostRuntime) -> Result<(), Fail> {
-    assert_eq!(rt; compared(rt.alloc(), CHOICES)?.as_str(), "32 rows");
-    Ok(())
+fn choices_have_these_meanings(rt: HostRuntime) {
+    assert_eq!(rt; right_rows(rt.alloc(), CHOICES), 32);
 }
 
 #[test]
-fn loops_and_calls_have_these_meanings(rt: HostRuntime) -> Result<(), Fail> {
-    assert_eq!(rt; compared(rt.alloc(), LOOPS)?.as_str(), "36 rows");
-    Ok(())
+fn loops_and_calls_have_these_meanings(rt: HostRuntime) {
+    assert_eq!(rt; right_rows(rt.alloc(), LOOPS), 36);
 }
 
 #[test]
-fn what_is_not_built_is_refused_first(rt: HostRuntime) -> Result<(), Fail> {
-    assert_eq!(rt; compared(rt.alloc(), UNBUILT)?.as_str(), "21 rows");
-    Ok(())
+fn what_is_not_built_is_refused_first(rt: HostRuntime) {
+    assert_eq!(rt; right_rows(rt.alloc(), UNBUILT), 21);
 }
 
 #[test]
-fn procedures_have_these_meanings(rt: HostRuntime) -> Result<(), Fail> {
-    assert_eq!(rt; compared(rt.alloc(), PROCEDURES)?.as_str(), "47 rows");
-    Ok(())
+fn procedures_have_these_meanings(rt: HostRuntime) {
+    assert_eq!(rt; right_rows(rt.alloc(), PROCEDURES), 47);
 }
 
 #[test]
-fn bodies_have_these_meanings(rt: HostRuntime) -> Result<(), Fail> {
-    assert_eq!(rt; compared(rt.alloc(), BODIES)?.as_str(), "22 rows");
-    Ok(())
+fn bodies_have_these_meanings(rt: HostRuntime) {
+    assert_eq!(rt; right_rows(rt.alloc(), BODIES), 22);
 }
 
 #[test]
-fn operators_have_these_meanings(rt: HostRuntime) -> Result<(), Fail> {
-    assert_eq!(rt; compared(rt.alloc(), OPERATORS)?.as_str(), "12 rows");
-    Ok(())
+fn operators_have_these_meanings(rt: HostRuntime) {
+    assert_eq!(rt; right_rows(rt.alloc(), OPERATORS), 12);
 }

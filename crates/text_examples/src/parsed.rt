@@ -1,11 +1,11 @@
 //! Which texts have trees.
 
+use crate::places::place;
 use crate::shown::unit;
 use elan_lexer::tokens;
 use elan_parser::{ParseError, parse};
-use elan_tree::{LevelUnit, Tree};
+use elan_tree::{LevelUnit, Token, Tree};
 use std::alloc::{AllocError, Global};
-use std::test::Fail;
 
 /// Programs that have a tree, a line each.
 const PROGRAMS: &str = "\
@@ -85,46 +85,26 @@ PACKET p DEFINES ( : END PACKET
 x
 PACKET p : END PACKET ; ;";
 
-/// The tree of a text, if it has one.
-pub fn tree_of(alloc: Global, text: &str, packet: bool) -> Result<Option<Tree>, Fail> {
-    if text.len() > 20_000 {
-        return Ok(None);
-    }
-    let found = tokens(alloc, text.as_bytes())?;
-    match parse(alloc, found.as_slice(), packet) {
-        Ok(tree) => Ok(Some(tree)),
-        Err(ParseError::NotElan(_)) => Ok(None),
-        Err(error) => Err(error)?,
-    }
-}
-
-/// Whether each line has a tree, or none has, and how many lines there are.
-fn each_has(alloc: Global, lines: &str, packet: bool, want: bool) -> Result<String, Fail> {
-    let mut rows = 0u32;
+/// How many lines have a tree, or have none, before the first that is otherwise.
+fn right_rows(alloc: Global, lines: &str, packet: bool, has_tree: bool) -> usize {
+    let mut rows = 0usize;
     for text in lines.lines() {
-        if tree_of(alloc, text, packet)?.is_some() != want {
-            return Ok(format!(in alloc; "not {text}")?);
+        if place(alloc, text, packet).map(|at| at == 0) != Some(has_tree) {
+            return rows;
         }
         rows = rows.saturating_add(1);
     }
-    Ok(format!(in alloc; "{rows} rows")?)
+    rows
 }
 
 #[test]
-fn texts_have_trees(rt: HostRuntime) -> Result<(), Fail> {
-    let alloc = rt.alloc();
-    assert_eq!(rt; each_has(alloc, PROGRAMS, false, true)?.as_str(), "36 rows");
-    assert_eq!(rt;
-        each_has(alloc, NO_PROGRAMS, false, false)?.as_str(),
-        "23 rows"
-    );
-    assert!(rt; tree_of(alloc, "", false)?.is_none());
-    assert_eq!(rt; each_has(alloc, PACKETS, true, true)?.as_str(), "3 rows");
-    assert_eq!(rt;
-        each_has(alloc, NO_PACKETS, true, false)?.as_str(),
-        "4 rows"
-    );
-    Ok(())
+fn texts_have_trees(rt: HostRuntime) {
+    let programs = right_rows(rt.alloc(), PROGRAMS, false, true) == 36;
+    let no_programs = right_rows(rt.alloc(), NO_PROGRAMS, false, false) == 23;
+    let empty = place(rt.alloc(), "", false).unwrap_or(0) > 0;
+    let packets = right_rows(rt.alloc(), PACKETS, true, true) == 3;
+    let no_packets = right_rows(rt.alloc(), NO_PACKETS, true, false) == 4;
+    assert!(rt; programs && no_programs && empty && packets && no_packets);
 }
 
 /// Programs of one unit, and behind the arrow how their operators hold.
@@ -154,32 +134,56 @@ a [1] := b := c => refused
 a.f := IF b THEN c FI => {{a.f} := IF b THEN c; FI}
 IF a THEN IF b THEN c ELSE d FI ELIF e THEN f; FI => IF a THEN IF b THEN c; ELSE d; FI; IF e THEN f;; FI";
 
-/// The first unit of a program.
-fn first_unit(alloc: Global, tree: &Tree) -> Result<String, AllocError> {
-    let mut out = String::new(alloc);
+/// Writes the first unit of a program.
+fn first_unit(out: &mut String, tree: &Tree) -> Result<(), AllocError> {
     if let Tree::Program(level) = tree {
         if let Some(LevelUnit::Plain(first)) = level.units.as_slice().first() {
-            unit(&mut out, first)?;
+            return unit(out, first);
         }
     }
-    Ok(out)
+    Ok(())
 }
 
-fn grouped(alloc: Global, text: &str) -> Result<String, Fail> {
-    match tree_of(alloc, text, false)? {
-        Some(tree) => Ok(first_unit(alloc, &tree)?),
-        None => Ok(String::from_str(alloc, "refused")?),
+fn group(alloc: Global, out: &mut String, tokens: &[Token]) -> Result<(), AllocError> {
+    match parse(alloc, tokens, false) {
+        Ok(tree) => first_unit(out, &tree),
+        Err(ParseError::NotElan(_)) => out.push_str("refused"),
+        Err(ParseError::NoMemory) => out.push_str("no memory"),
     }
+}
+
+fn group_text(alloc: Global, out: &mut String, text: &str) -> Result<(), AllocError> {
+    if text.len() > 1000 {
+        return out.push_str("too long");
+    }
+    match tokens(alloc, text.as_bytes()) {
+        Ok(found) => group(alloc, out, found.as_slice()),
+        Err(_) => out.push_str("no tokens"),
+    }
+}
+
+fn is_grouped(alloc: Global, row: &str) -> bool {
+    match row.split_once(" => ") {
+        Some((text, told)) => {
+            let mut out = String::new(alloc);
+            group_text(alloc, &mut out, text).is_ok() && out.as_str() == told
+        }
+        None => false,
+    }
+}
+
+fn grouped_rows(alloc: Global) -> usize {
+    let mut rows = 0usize;
+    for row in GROUPED.lines() {
+        if !is_grouped(alloc, row) {
+            return rows;
+        }
+        rows = rows.saturating_add(1);
+    }
+    rows
 }
 
 #[test]
-fn operators_hold_their_operands(rt: HostRuntime) -> Result<(), Fail> {
-    for line in GROUPED.lines() {
-        let found = match line.split_once(" => ") {
-            Some((text, _)) => format!(in rt.alloc(); "{text} => {}", grouped(rt.alloc(), text)?)?,
-            None => String::new(rt.alloc()),
-        };
-        assert_eq!(rt; found.as_str(), line);
-    }
-    Ok(())
+fn operators_hold_their_operands(rt: HostRuntime) {
+    assert_eq!(rt; grouped_rows(rt.alloc()), 24);
 }

@@ -2,8 +2,8 @@
 
 use elan_lexer::tokens;
 use elan_parser::{ParseError, parse};
-use std::alloc::Global;
-use std::test::Fail;
+use elan_tree::Token;
+use std::alloc::{AllocError, Global};
 
 /// Programs without a tree, each with `^` before the first token with which it cannot go on, or at its end.
 const PROGRAMS: &str = "\
@@ -57,57 +57,57 @@ PACKET p: x END PACKET p. ^r: 1
 PACKET p: END PACKET p.^;
 PACKET p: END PACKET; ^;";
 
-/// The place where a text is refused; 0 where it has a tree.
-pub fn place(alloc: Global, text: &str, packet: bool) -> Result<u32, Fail> {
+/// The place where a text is refused; 0 where it has a tree. None where it has no tokens, or memory was wanted.
+pub fn place(alloc: Global, text: &str, packet: bool) -> Option<u32> {
     if text.len() > 20_000 {
-        return Ok(0);
+        return None;
     }
-    let found = tokens(alloc, text.as_bytes())?;
-    match parse(alloc, found.as_slice(), packet) {
-        Ok(_) => Ok(0),
-        Err(ParseError::NotElan(place)) => Ok(place),
-        Err(error) => Err(error)?,
+    match tokens(alloc, text.as_bytes()) {
+        Ok(found) => place_in(alloc, found.as_slice(), packet),
+        Err(_) => None,
     }
 }
 
-/// A text with the mark at the place where it is refused.
-fn marked(alloc: Global, text: &str, packet: bool) -> Result<String, Fail> {
-    let before = place(alloc, text, packet)?.saturating_sub(1) as usize;
-    let mut out = String::new(alloc);
-    for (index, letter) in text.chars().enumerate() {
-        if index == before {
-            out.push('^')?;
-        }
-        out.push(letter)?;
+fn place_in(alloc: Global, tokens: &[Token], packet: bool) -> Option<u32> {
+    match parse(alloc, tokens, packet) {
+        Ok(_) => Some(0),
+        Err(ParseError::NotElan(place)) => Some(place),
+        Err(ParseError::NoMemory) => None,
     }
-    if before >= text.len() {
-        out.push('^')?;
-    }
-    Ok(out)
 }
 
-/// The lines with the marks where they belong.
-fn all_marked(alloc: Global, lines: &str, packet: bool) -> Result<String, Fail> {
-    let mut all = String::new(alloc);
-    for line in lines.split('\n') {
-        let mut text = String::new(alloc);
-        for letter in line.chars() {
-            if letter != '^' {
-                text.push(letter)?;
-            }
-        }
-        if !all.is_empty() {
-            all.push('\n')?;
-        }
-        all.push_str(marked(alloc, text.as_str(), packet)?.as_str())?;
+fn joined(alloc: Global, before: &str, behind: &str) -> Result<String, AllocError> {
+    let mut text = String::new(alloc);
+    text.push_str(before)?;
+    text.push_str(behind)?;
+    Ok(text)
+}
+
+/// Whether a text is refused where the mark stands.
+fn is_right(alloc: Global, line: &str, packet: bool) -> bool {
+    let (before, behind) = line.split_once('^').unwrap_or((line, ""));
+    let told = before.len().saturating_add(1);
+    match joined(alloc, before, behind) {
+        Ok(text) => place(alloc, text.as_str(), packet).unwrap_or(0) as usize == told,
+        Err(_) => false,
     }
-    Ok(all)
+}
+
+/// How many texts are refused where their marks stand, before the first that is not.
+fn right_rows(alloc: Global, lines: &str, packet: bool) -> usize {
+    let mut rows = 0usize;
+    for line in lines.lines() {
+        if !is_right(alloc, line, packet) {
+            return rows;
+        }
+        rows = rows.saturating_add(1);
+    }
+    rows
 }
 
 #[test]
-fn texts_stop_being_elan_at_their_places(rt: HostRuntime) -> Result<(), Fail> {
-    let alloc = rt.alloc();
-    assert_eq!(rt; all_marked(alloc, PROGRAMS, false)?.as_str(), PROGRAMS);
-    assert_eq!(rt; all_marked(alloc, PACKETS, true)?.as_str(), PACKETS);
-    Ok(())
+fn texts_stop_being_elan_at_their_places(rt: HostRuntime) {
+    let programs = right_rows(rt.alloc(), PROGRAMS, false);
+    let packets = right_rows(rt.alloc(), PACKETS, true);
+    assert!(rt; programs == 38 && packets == 8);
 }
