@@ -17,7 +17,7 @@ use code_form::Waits;
 use eu_base::{NoMemory, RequestName, Value};
 use std::alloc::Global;
 
-/// Spends a mark, takes the operands of a request, and makes it. It is seldom, and the loop of a run is quicker without it inside.
+/// Spends a mark, takes the operands of a request, and makes it. It stands outside the loop of a run, which is quicker so.
 #[inline(never)]
 pub fn ask(s: &mut State, name: RequestName, marks: &mut u32) -> Result<Next, NoMemory>
     requires ready { IsReady s.old }
