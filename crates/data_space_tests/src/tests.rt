@@ -236,8 +236,8 @@ fn first_byte(spaces: &Three) -> u8 {
     byte[0]
 }
 
-// The pages after each step, and the first byte of a space and of its copy, which begins with another byte; zeros where a
-// write failed.
+// The pages after each step, and the first byte of a space and of its copy, which begins with another byte; zeros where
+// a write failed.
 fn shared(alloc: Global) -> Result<([u32; 4], [u8; 2]), NoMemory> {
     let mut spaces = untouched(alloc);
     let ends = write_ends(&mut spaces).is_ok();
@@ -300,10 +300,14 @@ fn a_copy_has_the_type_and_the_shape(rt: HostRuntime) {
     assert!(rt; copy_tells(rt.alloc()) == Ok((1003, 4, 1)));
 }
 
+fn bare() -> (Option<u32>, i16) {
+    let space = DataSpace::of(5, None, DataSpace::nil().root());
+    (space.root(), space.kind())
+}
+
 #[test]
 fn a_space_without_bytes_has_no_root(rt: HostRuntime) {
-    let space = DataSpace::of(5, None, DataSpace::nil().root());
-    assert_eq!(rt; (space.root(), space.kind()), (None, 5));
+    assert!(rt; bare() == (None, 5));
 }
 
 // What a lent space reads where it wrote this.
@@ -317,14 +321,17 @@ fn lent(space: &mut DataSpace, pool: &mut Pool, from: &[u8; 15]) -> Result<[u8; 
     Ok(bytes)
 }
 
-#[test]
-fn a_lent_space_reads_what_it_wrote(rt: HostRuntime) {
+fn read_back(alloc: Global) -> Result<[u8; 15], MemFault> {
     let Three {
         mut pool,
         mut first,
         second: _,
         third: _,
-    } = untouched(rt.alloc());
-    let read = lent(&mut first, &mut pool, b"over the border");
-    assert_eq!(rt; read, Ok(*b"over the border"));
+    } = untouched(alloc);
+    lent(&mut first, &mut pool, b"over the border")
+}
+
+#[test]
+fn a_lent_space_reads_what_it_wrote(rt: HostRuntime) {
+    assert!(rt; read_back(rt.alloc()) == Ok(*b"over the border"));
 }

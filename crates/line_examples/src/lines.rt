@@ -1,53 +1,128 @@
 //! What no clause says: the printed bytes, and that memory suffices.
 
-use code_form::listing;
-use code_gen::generate;
+use crate::deep::listing_of;
 use edge::{MemDisk, MemSink, MemSource};
-use elan_check::check;
-use elan_lexer::tokens;
-use elan_parser::parse;
-use elan_types::Env;
-use eu_base::{Bytes, List};
+use eu_base::{Bytes, List, NoMemory};
 use eumel_top::{Status, eumel, one_output};
 use std::alloc::Global;
-use std::test::Fail;
 
-/// The status and the sink after these words over this input, which comes in pieces and fails where listed.
-fn outcome(
-    alloc: Global,
-    words: &[&str],
-    input: &[u8],
+/// How source and sink behave. Calls are counted from 1.
+#[derive(Clone, Copy)]
+struct Outside {
+    /// How many bytes the source gives at most in one call.
     piece: usize,
-    source_fails: List<u32>,
-    sink_fails: List<u32>,
-) -> Result<(Status, MemSink), Fail> {
+    /// The call of the source that fails; 0 for none.
+    source_fault: u32,
+    /// The same of the sink.
+    sink_fault: u32,
+}
+
+fn faultless(piece: usize) -> Outside {
+    Outside {
+        piece,
+        source_fault: 0,
+        sink_fault: 0,
+    }
+}
+
+fn word_list(alloc: Global, words: &[&str]) -> Result<Vec<String>, NoMemory> {
     let mut list = Vec::new(alloc);
     for word in words {
         list.push(String::from_str(alloc, word)?)?;
     }
-    let bytes = Bytes::from(alloc, input)?;
-    let mut source = MemSource::new(bytes, piece.max(1), source_fails);
-    let mut sink = MemSink::new(alloc, 1, sink_fails);
-    let mut disk = MemDisk::new(alloc, List::new(alloc));
-    let status = eumel(alloc, list.as_slice(), &mut disk, &mut source, &mut sink);
-    Ok((status, sink))
+    Ok(list)
 }
 
-/// Runs each line of a table, and returns it with what it writes behind it: the table again, where all is as it says.
-fn transcript(alloc: Global, table: &str, piece: usize) -> Result<Bytes, Fail> {
-    let mut text = Bytes::new(alloc);
-    for row in table.lines() {
-        if let Some(line) = row.strip_prefix("> ") {
-            let (none, no) = (List::new(alloc), List::new(alloc));
-            let (status, sink) = outcome(alloc, &["line"], line.as_bytes(), piece, none, no)?;
-            text.append(row.as_bytes())?;
-            text.append(b"\n")?;
-            if status == Status::Done {
-                text.append(sink.bytes())?;
-            }
-        }
+fn source_of(alloc: Global, input: &[u8], outside: Outside) -> Result<MemSource, NoMemory> {
+    let fails = List::from_slice(alloc, &[outside.source_fault])?;
+    let bytes = Bytes::from(alloc, input)?;
+    Ok(MemSource::new(bytes, outside.piece.max(1), fails))
+}
+
+fn sink_of(alloc: Global, outside: Outside) -> Result<MemSink, NoMemory> {
+    let fails = List::from_slice(alloc, &[outside.sink_fault])?;
+    Ok(MemSink::new(alloc, 1, fails))
+}
+
+fn over(
+    alloc: Global,
+    words: &[String],
+    input: &[u8],
+    outside: Outside,
+    sink: &mut MemSink,
+) -> Result<Status, NoMemory> {
+    let mut source = source_of(alloc, input, outside)?;
+    let mut disk = MemDisk::new(alloc, List::new(alloc));
+    Ok(eumel(alloc, words, &mut disk, &mut source, sink))
+}
+
+/// The status after these words over this input.
+fn status_of(
+    alloc: Global,
+    words: &[&str],
+    input: &[u8],
+    outside: Outside,
+    sink: &mut MemSink,
+) -> Result<Status, NoMemory> {
+    let words = word_list(alloc, words)?;
+    over(alloc, words.as_slice(), input, outside, sink)
+}
+
+/// Whether these words over this input end so, and write that.
+fn is_told(
+    alloc: Global,
+    words: &[&str],
+    input: &[u8],
+    outside: Outside,
+    told: (Status, &[u8]),
+) -> Result<bool, NoMemory> {
+    let (status, output) = told;
+    let mut sink = sink_of(alloc, outside)?;
+    let found = status_of(alloc, words, input, outside, &mut sink);
+    Ok(found == Ok(status) && sink.bytes() == output)
+}
+
+/// Adds what a line writes, or a mark where it does not end well.
+fn add_output(
+    alloc: Global,
+    text: &mut Bytes,
+    input: &[u8],
+    outside: Outside,
+) -> Result<(), NoMemory> {
+    let mut sink = sink_of(alloc, outside)?;
+    match status_of(alloc, &["line"], input, outside, &mut sink) {
+        Ok(Status::Done) => text.append(sink.bytes()),
+        _ => text.append(b"?\n"),
     }
-    Ok(text)
+}
+
+fn add_row(alloc: Global, text: &mut Bytes, row: &str, outside: Outside) -> Result<(), NoMemory> {
+    if let Some(line) = row.strip_prefix("> ") {
+        text.append(row.as_bytes())?;
+        text.append(b"\n")?;
+        add_output(alloc, text, line.as_bytes(), outside)?;
+    }
+    Ok(())
+}
+
+/// Runs each line of a table, and adds it with what it writes behind it: the table again, where all is as it says.
+fn add_rows(
+    alloc: Global,
+    text: &mut Bytes,
+    table: &str,
+    outside: Outside,
+) -> Result<(), NoMemory> {
+    for row in table.lines() {
+        add_row(alloc, text, row, outside)?;
+    }
+    Ok(())
+}
+
+/// Whether a table is as it says, where the source gives so many bytes at most in one call.
+pub fn is_right(alloc: Global, table: &str, piece: usize) -> bool {
+    let mut text = Bytes::new(alloc);
+    let done = add_rows(alloc, &mut text, table, faultless(piece)).is_ok();
+    done && text.as_slice() == table.as_bytes()
 }
 
 /// Lines, each with what it writes behind it. A table is one text, since the check goes over each item of an array.
@@ -97,52 +172,62 @@ FEHLER : kein ELAN-Text (Zeile 1, Stelle 251)
 ";
 
 #[test]
-fn the_table_of_lines(rt: HostRuntime) -> Result<(), Fail> {
+fn the_table_of_lines(rt: HostRuntime) {
+    let mut right = true;
     for piece in [1, 7, 64, 1000] {
-        let found = transcript(rt.alloc(), LINES, piece)?;
-        assert_eq!(rt; found.as_slice(), LINES.as_bytes());
+        right = is_right(rt.alloc(), LINES, piece) && right;
     }
     one_output();
-    Ok(())
+    assert!(rt; right);
+}
+
+/// A line of 251 bytes.
+const TOO_LONG: &str =
+    "put (                                                                                                                                                                                                                                                    1)";
+
+/// Words and input, with the status and the output.
+const CASES: [(&[&str], &str, Status, &str); 8] = [
+    (&["line"], "put (1 + 2 * 3)\n", Status::Done, "7 \n"),
+    (
+        &["line"],
+        "put (32767 + 1)\nput (1)",
+        Status::Done,
+        "FEHLER : INT-Ueberlauf\n",
+    ),
+    (
+        &["line"],
+        "",
+        Status::Done,
+        "FEHLER : kein ELAN-Text (Zeile 1, Stelle 1)\n",
+    ),
+    (
+        &["line"],
+        "\nput (1)\n",
+        Status::Done,
+        "FEHLER : kein ELAN-Text (Zeile 1, Stelle 1)\n",
+    ),
+    (&["line"], TOO_LONG, Status::BadLine(1), "! Zeile 1\n"),
+    (&[], "put (1)", Status::BadWords, ""),
+    (&["line", "x"], "put (1)", Status::BadWords, ""),
+    (&["drill", "007"], "put (1)", Status::BadWords, ""),
+];
+
+/// How many cases are right, before the first that is not.
+fn right_cases(alloc: Global) -> usize {
+    let mut count = 0usize;
+    for (words, input, status, output) in &CASES {
+        let told = (*status, output.as_bytes());
+        if is_told(alloc, words, input.as_bytes(), faultless(7), told) != Ok(true) {
+            return count;
+        }
+        count = count.saturating_add(1);
+    }
+    count
 }
 
 #[test]
-fn a_line_ends_and_words_are_known(rt: HostRuntime) -> Result<(), Fail> {
-    let too_long =
-        "put (                                                                                                                                                                                                                                                    1)";
-    let done = Status::Done;
-    let cases: [(&[&str], &str, Status, &str); 8] = [
-        (&["line"], "put (1 + 2 * 3)\n", done, "7 \n"),
-        (
-            &["line"],
-            "put (32767 + 1)\nput (1)",
-            done,
-            "FEHLER : INT-Ueberlauf\n",
-        ),
-        (
-            &["line"],
-            "",
-            done,
-            "FEHLER : kein ELAN-Text (Zeile 1, Stelle 1)\n",
-        ),
-        (
-            &["line"],
-            "\nput (1)\n",
-            done,
-            "FEHLER : kein ELAN-Text (Zeile 1, Stelle 1)\n",
-        ),
-        (&["line"], too_long, Status::BadLine(1), "! Zeile 1\n"),
-        (&[], "put (1)", Status::BadWords, ""),
-        (&["line", "x"], "put (1)", Status::BadWords, ""),
-        (&["drill", "007"], "put (1)", Status::BadWords, ""),
-    ];
-    for (words, input, status, output) in cases.iter() {
-        let (none, no) = (List::new(rt.alloc()), List::new(rt.alloc()));
-        let (got, sink) = outcome(rt.alloc(), words, input.as_bytes(), 7, none, no)?;
-        assert_eq!(rt; got, *status, "{input}");
-        assert_eq!(rt; sink.bytes(), output.as_bytes(), "{input}");
-    }
-    Ok(())
+fn a_line_ends_and_words_are_known(rt: HostRuntime) {
+    assert_eq!(rt; right_cases(rt.alloc()), 8);
 }
 
 /// Procedures, refinements and LEAVE, with the last depth that has room and the first that has none.
@@ -198,25 +283,28 @@ FEHLER : keine Variable (Zeile 1, Stelle 43)
 ";
 
 #[test]
-fn the_table_of_procedures(rt: HostRuntime) -> Result<(), Fail> {
-    let found = transcript(rt.alloc(), PROCEDURES, 64)?;
-    assert_eq!(rt; found.as_slice(), PROCEDURES.as_bytes());
-    Ok(())
+fn the_table_of_procedures(rt: HostRuntime) {
+    assert!(rt; is_right(rt.alloc(), PROCEDURES, 64));
 }
 
-#[test]
-fn an_endless_loop_writes_until_its_marks_are_spent(rt: HostRuntime) -> Result<(), Fail> {
-    let alloc = rt.alloc();
-    let (none, no) = (List::new(alloc), List::new(alloc));
-    let (status, sink) = outcome(alloc, &["line"], b"REP put (1) PER", 64, none, no)?;
+fn endless_output(alloc: Global) -> Result<Bytes, NoMemory> {
     let mut output = Bytes::new(alloc);
     for _ in 0..33_333 {
         output.append(b"1 ")?;
     }
     output.append(b"\nFEHLER : Zeitgrenze\n")?;
-    assert_eq!(rt; status, Status::Done);
-    assert_eq!(rt; sink.bytes(), output.as_slice());
-    Ok(())
+    Ok(output)
+}
+
+fn writes_until_spent(alloc: Global, input: &[u8]) -> Result<bool, NoMemory> {
+    let output = endless_output(alloc)?;
+    let told = (Status::Done, output.as_slice());
+    is_told(alloc, &["line"], input, faultless(64), told)
+}
+
+#[test]
+fn an_endless_loop_writes_until_its_marks_are_spent(rt: HostRuntime) {
+    assert!(rt; writes_until_spent(rt.alloc(), b"REP put (1) PER") == Ok(true));
 }
 
 /// Texts, and the listings of their code.
@@ -231,48 +319,66 @@ const LISTINGS: [(&str, &str); 2] = [
     ),
 ];
 
-#[test]
-fn the_table_of_listings(rt: HostRuntime) -> Result<(), Fail> {
-    let alloc = rt.alloc();
-    for (text, lines) in LISTINGS {
-        assert!(rt; text.len() < 1000);
-        let tokens = tokens(alloc, text.as_bytes())?;
-        let tree = parse(alloc, tokens.as_slice(), false)?;
-        let core = check(alloc, &tree, &Env)?;
-        let code = generate(alloc, &core)?;
-        let listed = listing(alloc, &code)?;
-        assert_eq!(rt; listed.as_slice(), lines.as_bytes(), "{text}");
+fn has_listing(alloc: Global, text: &str, lines: &str) -> bool {
+    match listing_of(alloc, text) {
+        Some(listed) => listed.as_slice() == lines.as_bytes(),
+        None => false,
     }
-    Ok(())
 }
 
 #[test]
-fn a_source_and_a_sink_that_fail_at_each_call(rt: HostRuntime) -> Result<(), Fail> {
-    let alloc = rt.alloc();
-    let (input, output) = (b"put (1 + 2 * 3)\nput (4)", b"7 \n");
+fn the_table_of_listings(rt: HostRuntime) {
+    let mut right = true;
+    for (text, lines) in LISTINGS {
+        right = has_listing(rt.alloc(), text, lines) && right;
+    }
+    assert!(rt; right);
+}
+
+/// What is read where calls fail, and what it writes: the second line is not run.
+const INPUT: &[u8] = b"put (1 + 2 * 3)\nput (4)";
+
+const OUTPUT: &[u8] = b"7 \n";
+
+/// Whether the source is blamed where it fails at this call, of which there are 16.
+fn is_source_told(alloc: Global, call: u32) -> bool {
+    let outside = Outside {
+        piece: 1,
+        source_fault: call,
+        sink_fault: 0,
+    };
+    let told = if call <= 16 {
+        (Status::SourceFault, b"".as_slice())
+    } else {
+        (Status::Done, OUTPUT)
+    };
+    is_told(alloc, &["line"], INPUT, outside, told) == Ok(true)
+}
+
+/// Whether the sink is blamed where it fails at this call, of which there are 3.
+fn is_sink_told(alloc: Global, call: u32) -> bool {
+    let outside = Outside {
+        piece: 64,
+        source_fault: 0,
+        sink_fault: call,
+    };
+    let told = match call {
+        1 => (Status::SinkFault, b"".as_slice()),
+        2 => (Status::SinkFault, b"7".as_slice()),
+        3 => (Status::SinkFault, b"7 ".as_slice()),
+        _ => (Status::Done, OUTPUT),
+    };
+    is_told(alloc, &["line"], INPUT, outside, told) == Ok(true)
+}
+
+#[test]
+fn a_source_and_a_sink_that_fail_at_each_call(rt: HostRuntime) {
+    let mut right = true;
     for call in 1..18u32 {
-        let mut fails = List::new(alloc);
-        fails.push(call)?;
-        let (status, sink) = outcome(alloc, &["line"], input, 1, fails, List::new(alloc))?;
-        if call <= 16 {
-            assert_eq!(rt; status, Status::SourceFault);
-            assert_eq!(rt; sink.bytes(), b"".as_slice());
-        } else {
-            assert_eq!(rt; status, Status::Done);
-        }
+        right = is_source_told(rt.alloc(), call) && right;
+        right = is_sink_told(rt.alloc(), call) && right;
     }
-    for call in 1..5u32 {
-        let mut fails = List::new(alloc);
-        fails.push(call)?;
-        let (status, sink) = outcome(alloc, &["line"], input, 64, List::new(alloc), fails)?;
-        if call <= 3 {
-            assert_eq!(rt; status, Status::SinkFault);
-            assert_eq!(rt; sink.bytes(), &output[..call as usize - 1]);
-        } else {
-            assert_eq!(rt; status, Status::Done);
-        }
-    }
-    Ok(())
+    assert!(rt; right);
 }
 
 #[test]

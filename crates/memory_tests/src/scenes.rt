@@ -93,7 +93,8 @@ pub fn one_text<M: Memory>(alloc: Global, memory: &mut M) -> bool {
     number && put && replaced && emptied && zero && beside
 }
 
-/// All blocks but one are taken, then the last, and then one more is wanted; the text that is refused leaves the others.
+/// All blocks but one are taken, then the last, and then one more is wanted; the text that is refused leaves the
+/// others.
 pub fn all_blocks<M: Memory>(alloc: Global, memory: &mut M) -> bool {
     let (long, two) = (told(b'c', 114_660), told(b'e', 29));
     let almost = comes_back(alloc, memory, 0, long);

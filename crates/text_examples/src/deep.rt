@@ -3,8 +3,8 @@
 use crate::places::place;
 use std::alloc::{AllocError, Global};
 
-/// Forms that nest, a row each: by how much less often than the innermost phrase is deep the form stands, what of it stands
-/// before what is in it, the innermost phrase, what stands behind, and what follows behind all.
+/// Forms that nest, a row each: by how much less often than the innermost phrase is deep the form stands, what of it
+/// stands before what is in it, the innermost phrase, what stands behind, and what follows behind all.
 const FORMS: &str = "\
 0|(|1|)|
 0|f (a, |1|)|
@@ -32,8 +32,9 @@ const FORMS: &str = "\
 1|ROW 1 |INT VAR x||
 1|STRUCT (|INT| a)| VAR x";
 
-/// Texts, a row each: a first part, a part that stands so often, a last part, and the place where the text is too deep, which
-/// is that of the token with which it is, or behind it where the text could have gone on otherwise; 0 where it has a tree.
+/// Texts, a row each: a first part, a part that stands so often, a last part, and the place where the text is too deep,
+/// which is that of the token with which it is, or behind it where the text could have gone on otherwise; 0 where it has
+/// a tree.
 const PLACES: &str = "\
 |;|7999||0
 |IF a THEN |400|(|4001

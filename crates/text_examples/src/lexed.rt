@@ -5,7 +5,8 @@ use elan_lexer::{LexError, tokens};
 use elan_tree::{Token, Word};
 use std::alloc::{AllocError, Global};
 
-/// Texts, and behind the arrow their tokens, each with its place and its length, or what refuses them. A bar ends a row.
+/// Texts, and behind the arrow their tokens, each with its place and its length, or what refuses them. A bar ends a
+/// row, since a text may have several lines.
 const TABLE: &str = "
  => |
  \t\r\n => |

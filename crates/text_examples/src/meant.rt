@@ -5,8 +5,8 @@ use elan_tree::{Token, Tree};
 use elan_types::Env;
 use std::alloc::{AllocError, Global};
 
-// Texts, and behind the arrow whether they have a core, or at which place and for which reason they have none. A table is one
-// text, since the check goes over each item of an array.
+// Texts, and behind the arrow whether they have a core, or at which place and for which reason they have none. A table
+// is one text, since the check goes over each item of an array.
 
 /// Names, operators and assignments.
 const NAMES: &str = "\

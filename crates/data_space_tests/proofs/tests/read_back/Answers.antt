@@ -1,5 +1,5 @@
 use Rattle.data_space_tests.proofs.Threes.{first_stands}
-use Rattle.data_space_tests.proofs.tests.a_lent_space_reads_what_it_wrote.Goals as goal
+use Rattle.data_space_tests.proofs.tests.read_back.Goals as goal
 
-pub lent-read-requires : goal.lent-read-requires
-lent-read-requires g c = record { agree = first_stands _ _ _ _ c.untouched-pool.result.agree }
+pub lent-requires : goal.lent-requires
+lent-requires g = record { agree = first_stands _ _ _ _ g.untouched-pool.result.agree }
