@@ -1,4 +1,2 @@
-pub mod Blocks
-pub mod Chains
 pub mod Texts
 pub mod Held

@@ -1,13 +1,8 @@
 //! Texts in the blocks of a data space, each owned by the cell that it stands in.
 #![tactic(auto)]
 
-mod block;
-mod entry;
-mod hint;
 mod law;
-mod search;
 mod text;
-mod walk;
 
 pub use law::zeros_hold_empty_texts;
 pub use text::{clear, get, rooms, set};

@@ -3,17 +3,16 @@ ghost use Rattle.std.specs.Prelude.{◌≡◌, ◌≢◌, ◌+◌, ◌<◌, Err,
 ghost use Rattle.eu_base.specs.declared.cells.MemFault.TheVariants.{NoMemory};
 ghost use Rattle.eu_base.specs.Cells.{HasFaultCause};
 ghost use Rattle.eu_base.specs.Spaces.{IsKept};
-ghost use Rattle.text_heap.specs.Blocks.{text_in, free_in};
+ghost use Rattle.text_blocks.specs.Blocks.{text_in, free_in};
 ghost use Rattle.text_heap.specs.Texts.{Texts, Holds, Sets, KeepsCells, blocks_in, stored};
 
-use crate::block::{BLOCKS, blocks};
-use crate::entry::read_entry;
-use crate::hint::{hint_after, move_hint, read_hint};
-use crate::search::{count_free, first_free, has_free, spread};
-use crate::walk::{collect, release};
 use cell_layout::put;
 use eu_base::{Bytes, CELLS, MemFault, Set, Space};
 use std::alloc::Global;
+use text_blocks::{
+    BLOCKS, blocks, collect, count_free, first_free, has_free, hint_after, move_hint, read_entry,
+    read_hint, release, spread,
+};
 
 /// The text of a cell. On bytes that hold no text it still answers some text.
 pub fn get<S: Space>(alloc: Global, space: &mut S, cell: u16) -> Result<Bytes, MemFault>

@@ -1,8 +1,8 @@
 use Rattle.std.proofs.Common.{arith, ◌≡◌, ◌+◌, ◌*◌, ◌<◌, ◌≤◌, nat_le, length, ap, ◌∙◌, subst}
 use Rattle.cell_layout.specs.Layout.{HoldsIn}
-use Rattle.text_heap.specs.Blocks.{blocks_of, length_in, free_in}
-use Rattle.text_heap.specs.Chains.{Filled}
-use Rattle.text_heap.proofs.Spread.{hinted}
+use Rattle.text_blocks.specs.Blocks.{blocks_of, length_in, free_in}
+use Rattle.text_blocks.specs.Chains.{Filled}
+use Rattle.text_blocks.proofs.Spreading.{hinted}
 use Rattle.text_heap.proofs.Setting.{Released, released, has_none, has_some, full, never_full, sets, hint_cells, keeps_cells, keeps_all}
 use Rattle.text_heap.proofs.text.set.Goals as goal
 

@@ -1,0 +1,5 @@
+pub mod Totals
+pub mod Chained
+pub mod Freed
+pub mod Pieces
+pub mod Spreading
