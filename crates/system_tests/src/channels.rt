@@ -4,27 +4,34 @@ use std::alloc::Global;
 use task_numbers::TaskNo;
 use terminals::{QUEUED_LINES, Terminals};
 
-fn coupled_and_left(alloc: Global) -> Result<bool, NoMemory> {
-    let line = Bytes::from(alloc, b"put (1)")?;
-    let mut terminals = Terminals::new(alloc)?;
-    terminals.couple(2, TaskNo(7));
-    terminals.set_last(2, TaskNo(9));
+fn is_coupled(terminals: &Terminals) -> bool {
     let coupled = (
-        terminals.task_of(2),
+        terminals.task_of(1),
         terminals.channel_of(TaskNo(7)),
         terminals.channel_of(TaskNo::NIL),
     );
-    let taken = terminals.line_in(2, line).is_ok();
-    terminals.uncouple(2);
+    coupled == (TaskNo(7), Some(1), None)
+}
+
+fn is_left(terminals: &Terminals) -> bool {
     let left = (
-        terminals.task_of(2),
+        terminals.task_of(1),
         terminals.channel_of(TaskNo(7)),
-        terminals.last(2),
+        terminals.last(1),
     );
-    let nothing = terminals.line_back(2).is_none();
-    let coupled = coupled == (TaskNo(7), Some(2), None);
-    let left = left == (TaskNo::NIL, None, TaskNo(9));
-    Ok(coupled && taken && left && nothing)
+    left == (TaskNo::NIL, None, TaskNo(9))
+}
+
+// A line is taken at a channel that is coupled, and is gone once it is not.
+fn coupled_and_left(alloc: Global) -> Result<bool, NoMemory> {
+    let mut terminals = Terminals::new(alloc)?;
+    terminals.couple(1, TaskNo(7));
+    terminals.set_last(1, TaskNo(9));
+    let coupled = is_coupled(&terminals);
+    let taken = line_in(alloc, &mut terminals, b'x')?;
+    terminals.uncouple(1);
+    let left = is_left(&terminals) && terminals.line_back(1).is_none();
+    Ok(coupled && taken && left)
 }
 
 #[test]

@@ -3,7 +3,7 @@ use containers::{Bytes, List, NoMemory};
 use session_text::{Event, LineError, event, piece};
 use std::alloc::Global;
 
-/// The events of a line as a text: a letter and what belongs to it, one after the other; `bad` for a line of no form.
+/// The events of a line as a text: a letter, two bytes of a number and a text, one after the other; `bad` for a line of no form.
 fn spelled(alloc: Global, line: &[u8], plain: bool) -> Result<Bytes, NoMemory> {
     match event(alloc, line, plain) {
         Ok(events) => letters(alloc, &events),
@@ -12,82 +12,94 @@ fn spelled(alloc: Global, line: &[u8], plain: bool) -> Result<Bytes, NoMemory> {
     }
 }
 
+/// The letter of an event, and the number that belongs to it.
+fn letter(event: &Event) -> [u8; 3] {
+    match event {
+        Event::Line { channel, .. } => [b'L', 0, *channel],
+        Event::Supervisor(channel) => [b'S', 0, *channel],
+        Event::Turns(count) => [b'T', (*count / 256) as u8, (*count % 256) as u8],
+        Event::Fixpoint => [b'F', 0, 0],
+        Event::Shut => [b'E', 0, 0],
+    }
+}
+
+fn text_of(event: &Event) -> &[u8] {
+    match event {
+        Event::Line { text, .. } => text.as_slice(),
+        _ => b"".as_slice(),
+    }
+}
+
 fn letters(alloc: Global, events: &List<Event>) -> Result<Bytes, NoMemory> {
     let mut text = Bytes::new(alloc);
     for event in events.as_slice() {
-        match event {
-            Event::Line {
-                channel,
-                text: line,
-            } => {
-                text.append(&[b'L', *channel])?;
-                text.append(line.as_slice())?;
-            }
-            Event::Supervisor(channel) => text.append(&[b'S', *channel])?,
-            Event::Turns(count) => text.append(&[
-                b'T',
-                (*count / 256) as u8,
-                (*count % 256) as u8,
-            ])?,
-            Event::Fixpoint => text.append(b"F")?,
-            Event::Shut => text.append(b"E")?,
-        }
+        text.append(&letter(event))?;
+        text.append(text_of(event))?;
     }
     Ok(text)
 }
 
-// Whether each line has these events.
-fn are_spelled(alloc: Global, table: &[(&[u8], &[u8])], plain: bool) -> Result<bool, NoMemory> {
-    for (line, events) in table {
-        if spelled(alloc, line, plain)?.as_slice() != *events {
-            return Ok(false);
-        }
+/// Lines in the form with channels, and behind the arrow their events. A bar ends a row.
+const TAGGED: &str = "
+ => |
+1>put (1) => L\u{0}\u{1}put (1)|
+4> => L\u{0}\u{4}|
+2^ => S\u{0}\u{2}|
+*1 => T\u{0}\u{1}|
+*10000 => T\u{27}\u{10}|
+! => F\u{0}\u{0}|
+. => E\u{0}\u{0}|
+*10001 => bad|
+*0 => bad|
+*01 => bad|
+* => bad|
+*1x => bad|
+*99999999999999999999 => bad|
+5>x => bad|
+0^ => bad|
+1 => bad|
+1^^ => bad|
+1<x => bad|
+!! => bad|
+.. => bad|
+  => bad";
+
+/// The same in the plain form.
+const PLAIN: &str = "
+ => T\u{0}\u{14}|
+put (1) => L\u{0}\u{1}put (1)T\u{0}\u{14}|
+. => L\u{0}\u{1}.T\u{0}\u{14}|
+! => F\u{0}\u{0}|
+!! => E\u{0}\u{0}|
+!^ => S\u{0}\u{1}|
+!x => bad|
+!!! => bad";
+
+fn is_right(alloc: Global, row: &str, plain: bool) -> bool {
+    let (line, told) = row.split_once(" => ").unwrap_or((row, ""));
+    match spelled(alloc, line.as_bytes(), plain) {
+        Ok(events) => events.as_slice() == told.as_bytes(),
+        Err(_) => false,
     }
-    Ok(true)
+}
+
+/// How many rows of a table are as it says, before the first that is not.
+fn right_rows(alloc: Global, table: &str, plain: bool) -> usize {
+    let mut rows = 0usize;
+    for row in table.split('|') {
+        if !is_right(alloc, row.strip_prefix("\n").unwrap_or(row), plain) {
+            return rows;
+        }
+        rows = rows.saturating_add(1);
+    }
+    rows
 }
 
 #[test]
-fn lines_with_channels(rt: HostRuntime) {
-    let table = [
-        (b"".as_slice(), b"".as_slice()),
-        (b"1>put (1)", b"L\x01put (1)"),
-        (b"4>", b"L\x04"),
-        (b"2^", b"S\x02"),
-        (b"*1", b"T\x00\x01"),
-        (b"*10000", b"T\x27\x10"),
-        (b"!", b"F"),
-        (b".", b"E"),
-        (b"*10001", b"bad"),
-        (b"*0", b"bad"),
-        (b"*01", b"bad"),
-        (b"*", b"bad"),
-        (b"*1x", b"bad"),
-        (b"*99999999999999999999", b"bad"),
-        (b"5>x", b"bad"),
-        (b"0^", b"bad"),
-        (b"1", b"bad"),
-        (b"1^^", b"bad"),
-        (b"1<x", b"bad"),
-        (b"!!", b"bad"),
-        (b"..", b"bad"),
-        (b" ", b"bad"),
-    ];
-    assert!(rt; are_spelled(rt.alloc(), &table, false) == Ok(true));
-}
-
-#[test]
-fn plain_lines(rt: HostRuntime) {
-    let table = [
-        (b"".as_slice(), b"T\x00\x14".as_slice()),
-        (b"put (1)", b"L\x01put (1)T\x00\x14"),
-        (b".", b"L\x01.T\x00\x14"),
-        (b"!", b"F"),
-        (b"!!", b"E"),
-        (b"!^", b"S\x01"),
-        (b"!x", b"bad"),
-        (b"!!!", b"bad"),
-    ];
-    assert!(rt; are_spelled(rt.alloc(), &table, true) == Ok(true));
+fn lines_have_these_events(rt: HostRuntime) {
+    let tagged = right_rows(rt.alloc(), TAGGED, false);
+    let plain = right_rows(rt.alloc(), PLAIN, true);
+    assert!(rt; tagged == 22 && plain == 8);
 }
 
 // How long the events of a line are whose text has so many bytes.
@@ -101,7 +113,7 @@ fn spelled_length(alloc: Global, bytes: u8) -> Result<usize, NoMemory> {
 
 #[test]
 fn a_line_has_250_bytes_at_most(rt: HostRuntime) {
-    let longest = spelled_length(rt.alloc(), 250) == Ok(252);
+    let longest = spelled_length(rt.alloc(), 250) == Ok(253);
     let bad = spelled_length(rt.alloc(), 251) == Ok(3);
     assert!(rt; longest && bad);
 }
