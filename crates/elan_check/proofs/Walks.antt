@@ -2,7 +2,7 @@
 use Rattle.std.proofs.Common.{◌≡◌, ℕ, zero, suc, ◌+◌, Bool, true, false, ◌||◌, List, [], ◌∷◌, map, length, Some, refl, sym, ap, subst, ◌∙◌, ◌⊎◌, inl}
 use Rattle.std.proofs.Common.{inr, arith, eq-eqb, eqb-true}
 use Rattle.std.specs.Prelude.{slice_get, slice_index_or, ◌==◌}
-use Rattle.elan_scope.specs.Known.{any, leads}
+use Rattle.call_graph.specs.Chains.{any, leads}
 
 abbrev pub In : ℕ → List ℕ → Type 0
 In n [] = ⊥

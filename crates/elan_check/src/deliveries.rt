@@ -19,7 +19,7 @@ use elan_levels::uses::{called_in, called_in_unit};
 use elan_meant::meant::Meant;
 use elan_meant::row::Judged;
 use elan_rows::let_meant_go;
-use elan_scope::call_graph::CallGraph;
+use call_graph::CallGraph;
 use elan_scope::delivery::Delivery;
 use elan_scope::heading::{Heading, What};
 use elan_scope::known::Known;

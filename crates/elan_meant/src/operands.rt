@@ -3,7 +3,7 @@
 ghost use Rattle.std.specs.Prelude.{◌≡◌, map, option_map};
 ghost use Rattle.elan_scope.specs.Predefined.{predefined};
 ghost use Rattle.elan_scope.specs.Scope as scopes;
-ghost use Rattle.elan_scope.specs.Seen as seen;
+ghost use Rattle.elan_scope.specs.walks.Seen as seen;
 ghost use Rattle.elan_meant.specs.Operands as spec;
 
 use crate::meant::Meant;

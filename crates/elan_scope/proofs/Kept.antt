@@ -10,7 +10,7 @@ use Rattle.std.proofs.lemmas.Cmp.{nat_list_eq_equiv}
 use Rattle.elan_scope.specs.declared.scope.Entry.{Entry}
 use Rattle.elan_scope.specs.declared.directory.First.{First}
 use Rattle.elan_scope.specs.Names.{held, first_from}
-use Rattle.elan_scope.specs.Firsts.{first_of, told, earlier, kept, HasFirsts, KeepsOne}
+use Rattle.elan_scope.specs.walks.Firsts.{first_of, first_kept, earlier, kept, HasFirsts, KeepsOne}
 
 -- ---- one declaration
 
@@ -63,12 +63,12 @@ module _ {S : Type 0} (m n : HashMap (Vec ℕ) First S) (name : List ℕ) (f : F
 
 -- what is kept, and what is found behind
 abbrev pub FindsRest : {S : Type 0} → HashMap (Vec ℕ) First S → ℕ → List Entry → List Entry → Type 0
-FindsRest m k rest es = (x : List ℕ) → earlier (kept m x) (told (first_from k rest x)) ≡ told (first_from 0 es x)
+FindsRest m k rest es = (x : List ℕ) → earlier (kept m x) (first_kept (first_from k rest x)) ≡ first_kept (first_from 0 es x)
 
 module _ {S : Type 0} where
   pub at_start : (m : HashMap (Vec ℕ) First S) (es : List Entry) → m.entries ≡ [] → FindsRest m 0 es es
   at_start m es e x =
-      ap (λ (ps : List (Vec ℕ × First)). earlier (lookup (λ k. bytes_eq x k.items) ps) (told (first_from 0 es x))) e
+      ap (λ (ps : List (Vec ℕ × First)). earlier (lookup (λ k. bytes_eq x k.items) ps) (first_kept (first_from 0 es x))) e
 
   pub at_end : (m : HashMap (Vec ℕ) First S) (k : ℕ) (es : List Entry) → FindsRest m k [] es → HasFirsts m es
   at_end m k es h x = sym (none_earlier (kept m x)) ∙ h x
@@ -76,12 +76,12 @@ module _ {S : Type 0} where
   pub one_more : (m n : HashMap (Vec ℕ) First S) (k : ℕ) (e : Entry) (rest es : List Entry) → KeepsOne m n k e → FindsRest m k (e ∷ rest) es
       → FindsRest n (k + length (held e.denotes)) rest es
   one_more m n k e rest es one h x =
-      ap (λ (o : Option First). earlier o (told (first_from (k + length (held e.denotes)) rest x))) (one x)
+      ap (λ (o : Option First). earlier o (first_kept (first_from (k + length (held e.denotes)) rest x))) (one x)
       ∙ by_kept (kept m x) (bytes_eq e.name x) ∙ h x
     where
       by_kept : (o : Option First) (b : Bool)
-          → earlier (earlier o (if b then Some (first_of k e) else None)) (told (first_from (k + length (held e.denotes)) rest x))
-          ≡ earlier o (told (if b then Some (k, e) else first_from (k + length (held e.denotes)) rest x))
+          → earlier (earlier o (if b then Some (first_of k e) else None)) (first_kept (first_from (k + length (held e.denotes)) rest x))
+          ≡ earlier o (first_kept (if b then Some (k, e) else first_from (k + length (held e.denotes)) rest x))
       by_kept None true = refl
       by_kept None false = refl
       by_kept (Some f) b = refl

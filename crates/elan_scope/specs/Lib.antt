@@ -1,11 +1,8 @@
 pub mod Predefined
 pub mod Names
-pub mod Firsts
 pub mod Scope
 pub mod Phrase
 pub mod Ruled
 pub mod Known
 pub mod Answer
-pub mod Apart
-pub mod Ranks
-pub mod Seen
+pub mod walks

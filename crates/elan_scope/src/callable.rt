@@ -4,7 +4,7 @@ ghost use Rattle.std.specs.Prelude.{◌≡◌, map};
 ghost use Rattle.std.specs.Option.{is_some};
 ghost use Rattle.elan_scope.specs.Predefined.{predefined};
 ghost use Rattle.elan_scope.specs.Scope as spec;
-ghost use Rattle.elan_scope.specs.Seen as seen;
+ghost use Rattle.elan_scope.specs.walks.Seen as seen;
 
 use crate::heading::{Heading, Sort, What, is_one};
 use crate::predefined::{Predefined, Row, rows};

@@ -2,7 +2,7 @@
 
 ghost use Rattle.std.specs.Prelude.{◌≡◌, IfOk, OnOk};
 ghost use Rattle.elan_scope.specs.Names as names;
-ghost use Rattle.elan_scope.specs.Firsts as spec;
+ghost use Rattle.elan_scope.specs.walks.Firsts as spec;
 
 use crate::heading::is_one;
 use crate::scope::{Denotes, Entry};
@@ -34,7 +34,7 @@ impl Model for Directory {
 
     ghost Value = { List Entry };
 
-    ghost use Rattle.elan_scope.specs.Firsts.{AreKept};
+    ghost use Rattle.elan_scope.specs.walks.Firsts.{AreKept};
 
     ghost view = { λ directory. directory.entries };
 
@@ -55,7 +55,7 @@ fn first_of(number: usize, entry: &Entry) -> First
 }
 
 fn first_named(entries: &[Entry], name: &[u8]) -> Option<First>
-    ensures { result ≡ spec.told (names.first_named entries.now name.now) }
+    ensures { result ≡ spec.first_kept (names.first_named entries.now name.now) }
 {
     let mut number = 0;
     let mut rest = entries;
@@ -126,7 +126,7 @@ impl Directory {
 
     /// The first declaration of a name; `None` exactly where there is none.
     pub fn first_named(&self, name: &[u8]) -> Option<First>
-        ensures { result ≡ spec.told (names.first_named self.now name.now) }
+        ensures { result ≡ spec.first_kept (names.first_named self.now name.now) }
     {
         match &self.firsts {
             None => first_named(self.entries.as_slice(), name),

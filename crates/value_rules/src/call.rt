@@ -6,7 +6,7 @@ ghost use Rattle.elan_types.specs.declared.core_phrase.Actual.{Actual as Actuals
 ghost use Rattle.elan_scope.specs.declared.callable.Callee.TheVariants as callees;
 ghost use Rattle.elan_scope.specs.declared.heading.Sort.TheVariants as sorts;
 ghost use Rattle.elan_scope.specs.declared.predefined.Predefined.TheVariants as names;
-ghost use Rattle.elan_scope.specs.Seen as seen;
+ghost use Rattle.elan_scope.specs.walks.Seen as seen;
 ghost use Rattle.value_rules.specs.Calls as spec;
 ghost use Rattle.elan_meant.specs.Verdict.{Verdict, Tells};
 

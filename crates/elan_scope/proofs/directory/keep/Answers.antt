@@ -2,7 +2,7 @@ use Rattle.std.proofs.Common.{◌≡◌, List, ℕ, Some, None, false, if◌then
 use Rattle.std.specs.Prelude.{is_some}
 use Rattle.std.specs.Str.{bytes_eq}
 use Rattle.elan_scope.specs.declared.directory.First.{First}
-use Rattle.elan_scope.specs.Firsts.{earlier, kept}
+use Rattle.elan_scope.specs.walks.Firsts.{earlier, kept}
 use Rattle.elan_scope.proofs.Kept.{is_kept}
 use Rattle.elan_scope.proofs.directory.keep.Goals as goal
 

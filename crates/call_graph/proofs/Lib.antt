@@ -1,0 +1,4 @@
+pub mod Turns
+pub mod Unreached
+pub mod Ranked
+pub mod Chains

@@ -1,0 +1,3 @@
+pub mod Apart
+pub mod Marks
+pub mod Ranks

@@ -1,6 +1,0 @@
-use Rattle.std.proofs.Common.{◌≡◌, drop}
-use Rattle.elan_scope.specs.Apart.{all_safe}
-use Rattle.elan_scope.proofs.apart.all_safe.Given as goal
-
-abbrev pub invariant-loop-number : goal.invariant-loop-number
-invariant-loop-number l = all_safe l.marks l.to (drop l.number-index l.called) ≡ all_safe l.marks l.to l.called

@@ -1,8 +1,0 @@
-use Rattle.std.proofs.Common.{length, sym, ◌∙◌}
-use Rattle.elan_scope.proofs.Unreached.{apart}
-use Rattle.elan_scope.proofs.apart.is_apart.Goals as goal
-
-pub returns : goal.returns
-returns c = λ e.
-    apart c.args.calls.now c.as_slice-marks.result.now c.args.to (sym c.is_closed.ensures ∙ e) (length c.args.calls.now) c.args.from
-    (sym c.is_safe.ensures ∙ c.if-not-is_safe.false)

@@ -1,6 +1,0 @@
-use Rattle.std.proofs.Common.{◌≡◌, drop}
-use Rattle.elan_scope.specs.Apart.{closed_from}
-use Rattle.elan_scope.proofs.apart.is_closed.Given as goal
-
-abbrev pub invariant-loop-number : goal.invariant-loop-number
-invariant-loop-number l = closed_from l.number l.marks l.to (drop l.number l.calls) ≡ closed_from 0 l.marks l.to l.calls

@@ -1,7 +1,0 @@
-use Rattle.std.proofs.Common.{List, ℕ, ap, ◌∙◌}
-use Rattle.elan_scope.specs.Ranks.{is_ranked}
-use Rattle.elan_scope.proofs.Ranked.{unranked}
-use Rattle.elan_scope.proofs.call_graph.CallGraph.of.Goals as goal
-
-pub invariant_of-result-2 : goal.invariant_of-result-2
-invariant_of-result-2 c = ap (λ (r : List ℕ). is_ranked r c.args.calls) c.new.ensures ∙ unranked 0 c.args.calls

@@ -1,6 +1,0 @@
-use Rattle.std.proofs.Common.{◌≡◌, drop}
-use Rattle.elan_scope.specs.Ranks.{ranked_from}
-use Rattle.elan_scope.proofs.call_graph.is_ranked.Given as goal
-
-abbrev pub invariant-loop-number : goal.invariant-loop-number
-invariant-loop-number l = ranked_from l.number l.ranks (drop l.number l.calls) ≡ ranked_from 0 l.ranks l.calls

@@ -1,6 +1,0 @@
-use Rattle.std.proofs.Common.{◌≡◌, drop}
-use Rattle.elan_scope.specs.Ranks.{none_above}
-use Rattle.elan_scope.proofs.call_graph.none_above.Given as goal
-
-abbrev pub invariant-loop-number : goal.invariant-loop-number
-invariant-loop-number l = none_above l.ranks l.rank (drop l.number-index l.called) ≡ none_above l.ranks l.rank l.called

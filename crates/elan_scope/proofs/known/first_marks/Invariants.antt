@@ -1,6 +1,0 @@
-use Rattle.std.proofs.Common.{◌≡◌, ◌++◌, ◌-◌}
-use Rattle.elan_scope.specs.Known.{equal_from}
-use Rattle.elan_scope.proofs.known.first_marks.Given as goal
-
-abbrev pub invariant-loop-number : goal.invariant-loop-number
-invariant-loop-number l = l.marks ++ equal_from l.number (l.count - l.number) l.to ≡ equal_from 0 l.count l.to
