@@ -7,10 +7,10 @@ use Rattle.std.proofs.lemmas.Option.{slice_get_within}
 use Rattle.std.proofs.lemmas.Bool.{cases_lt}
 use Rattle.eu_base.specs.declared.address.Addr.{Addr}
 use Rattle.eu_base.specs.declared.value.Kind.{Kind}
-use Rattle.eu_base.specs.declared.stop.Stop.TheVariants.{CellRoom}
+use Rattle.eu_base.specs.declared.stop.Stop.TheVariants.{CellRoom, TextRoom}
 use Rattle.eu_base.specs.declared.value.Kind.TheVariants as kinds
-use Rattle.eu_base.specs.Cells.{Cell, Free, Word, Letters, run_cell, place_in}
-use Rattle.eu_base.specs.Room.{cells_fit, bytes_fit}
+use Rattle.eu_base.specs.Cells.{Cell, Free, Word, Letters, run_cell, place_in, held_of, written, cell_blocks, blocks_in}
+use Rattle.eu_base.specs.Room.{cells_fit, bytes_fit, texts_fit}
 use Rattle.eu_base.specs.declared.value.Value.{Value}
 use Rattle.eu_base.specs.declared.value.Value.TheVariants as item
 use Rattle.eu_base.specs.Values.{number_of, truth_of, value_in}
@@ -29,7 +29,7 @@ use Rattle.code_form.specs.declared.code.Layout.TheVariants as layouts
 use Rattle.code_form.specs.Program.{Program, instr_of}
 use Rattle.code_form.specs.Machine.{Frame, Position, Control, After, To, Asks, Stops, Unsaid, Move, Scene, Stage, On, Over, Lost, Rest, operand_bytes}
 use Rattle.code_form.specs.Machine.{bytes_on, bytes_of, base_of, pushes, on_value, on_place, on_values, on_operands, on_result, or_halt, on_word, is_free}
-use Rattle.code_form.specs.Machine.{takes_number, are_free, limit_cell, frame_contents, link_contents, written_from, enters, calls_to, call_move, refer_move, back_to}
+use Rattle.code_form.specs.Machine.{takes, content_blocks, goes, Halts, are_free, limit_cell, frame_contents, link_contents, written_from, enters, calls_to, call_move, refer_move, back_to}
 use Rattle.code_form.specs.Machine.{out_to, instruction, step, mark_stage, stage, advance, carry_on, exec}
 use Rattle.code_form.specs.Valid.{is_mark, IsFine, IsValid}
 use Rattle.code_form.specs.Runs.{Rests, ahead, steps_left}
@@ -171,20 +171,22 @@ module _ (p : Program) (valid : IsValid p) where
     -- a CALL and a REFER
     enters_deeper : (first base : ℕ) (refines : Bool) (body : ℕ) (ops : List Operand) (ns : List Cell)
         → Deeper (enters c first base refines body ops ns s.cells)
-    enters_deeper first base refines body ops ns = by (are_free c.used ns s.cells) (cells_fit (c.used + length ns))
+    enters_deeper first base refines body ops ns =
+        by (are_free c.used ns s.cells) (cells_fit (c.used + length ns)) (texts_fit (content_blocks ns) (blocks_in (written_from c.used ns s.cells)))
       where
-        by : (free b : Bool) → Deeper
-            (cond free (cond b (To (record {
+        by : (free b texts : Bool) → Deeper
+            (cond free (cond b (cond texts (To (record {
               pc = first;
               ops = [];
               used = c.used + length ns;
               frames =
                   record { back = c.pc + 1; base = base; used = c.used; refines = refines; body = body; ops = ops } ∷ c.frames;
-            }) (written_from c.used ns s.cells))
+            }) (written_from c.used ns s.cells)) (Stops TextRoom))
             (Stops CellRoom)) Unsaid)
-        by true true = omega arith
-        by true false = tt
-        by false b = tt
+        by true true true = omega arith
+        by true true false = tt
+        by true false texts = tt
+        by false b texts = tt
 
     call_near : (n : ℕ) (e : Option Entry) → Near (call_move c n e s.cells)
     call_near n None = tt
@@ -221,7 +223,10 @@ module _ (p : Program) (valid : IsValid p) where
     at_instr l e (Load k) is f = near_place _ (λ a r. near_word _ (λ n. push_near l e (ap (λ i. is_mark (Some i)) is) (Of (value_in k n)) r) (s.cells a)) c.ops
     at_instr l e (Store k) is f =
         near_value _ (λ v r. near_place _
-        (λ a r. near_if (takes_number (s.cells a)) _ _ (go (c.pc + 1) (on_next c.pc l e (ap (λ i. is_mark (Some i)) is))) tt) r) c.ops
+        (λ a r. near_if (takes (held_of v) (s.cells a)) _ _
+        (let now = written s.cells a (held_of v) in
+        near_if (texts_fit (cell_blocks (held_of v)) (blocks_in now)) (goes c r now) (Halts TextRoom)
+        (go (c.pc + 1) (on_next c.pc l e (ap (λ i. is_mark (Some i)) is))) tt) tt) r) c.ops
     at_instr l e (Do op) is f =
         near_values (length (operand_kinds op)) _ (λ vs r. near_or _ (λ v. push_near l e (ap (λ i. is_mark (Some i)) is) (Of v) r) (result_of op vs)) [] c.ops
     at_instr l e (Modify ch) is f =

@@ -8,15 +8,15 @@ use Rattle.eu_base.specs.declared.value.Kind.TheVariants as kinds
 use Rattle.eu_base.specs.declared.value.Value.{Value}
 use Rattle.eu_base.specs.declared.value.Value.TheVariants as item
 use Rattle.eu_base.specs.declared.stop.Stop.{Stop}
-use Rattle.eu_base.specs.declared.stop.Stop.TheVariants.{CellRoom, OperandRoom}
+use Rattle.eu_base.specs.declared.stop.Stop.TheVariants.{CellRoom, OperandRoom, TextRoom}
 use Rattle.eu_base.specs.declared.operation.Way.{Way}
 use Rattle.eu_base.specs.declared.request.Request.{Request}
 use Rattle.eu_base.specs.declared.request.Reply.{Reply}
 use Rattle.eu_base.specs.Values.{number_of, truth_of, blank_of, value_in}
-use Rattle.eu_base.specs.Room.{value_bytes, place_bytes, cells_fit, bytes_fit}
+use Rattle.eu_base.specs.Room.{value_bytes, place_bytes, cells_fit, bytes_fit, texts_fit}
 use Rattle.eu_base.specs.Operations.{Given, operand_kinds, result_of, changed, is_past, has_reached, next_number}
 use Rattle.eu_base.specs.Requests.{request_kinds, request_of}
-use Rattle.eu_base.specs.Cells.{Cell, Free, Word, Letters, Cells, held_of, run_cell, place_number, place_in, written, without}
+use Rattle.eu_base.specs.Cells.{Cell, Free, Word, Letters, Cells, held_of, run_cell, place_number, place_in, written, without, cell_blocks, blocks_in}
 use Rattle.code_form.specs.declared.operand.Operand.{Operand}
 use Rattle.code_form.specs.declared.operand.Operand.TheVariants.{Value as Of, Place as At}
 use Rattle.code_form.specs.declared.halt.Halt.{Halt}
@@ -144,14 +144,26 @@ on_word Free go = Unknown
 abbrev pub on_number : Cell → (ℤ → Move) → Move
 on_number cell go = on_word cell (λ n. go (number_of (value_in kinds.Int n)))
 
--- a number is put into a cell, which is not known to hold a text
+-- a number is put into a cell that is not known to hold a text, and a text into one that is
 abbrev pub takes_number : Cell → Bool
 takes_number Free = true
 takes_number (Word n) = true
 takes_number (Letters t) = false
 
+abbrev pub takes_text : Cell → Bool
+takes_text Free = false
+takes_text (Word n) = false
+takes_text (Letters t) = true
+
+abbrev pub takes : Cell → Cell → Bool
+takes Free cell = false
+takes (Word n) cell = takes_number cell
+takes (Letters t) cell = takes_text cell
+
 abbrev pub puts : Position → Addr → Value → List Operand → Cells → Move
-puts c a v ops cells = cond (takes_number (cells a)) (goes c ops (written cells a (held_of v))) Unknown
+puts c a v ops cells =
+    cond (takes (held_of v) (cells a))
+    (cond (texts_fit (cell_blocks (held_of v)) (blocks_in (written cells a (held_of v)))) (goes c ops (written cells a (held_of v))) (Halts TextRoom)) Unknown
 
 -- what stands for an operand in a cell
 abbrev pub held_of_operand : Operand → Cell
@@ -164,6 +176,11 @@ frame_contents args variables = Word 0 ∷ Word 0 ∷ (map held_of_operand args 
 
 abbrev pub link_contents : List Cell
 link_contents = Word 0 ∷ Word 0 ∷ []
+
+-- the blocks of the texts in it
+abbrev pub content_blocks : List Cell → ℕ
+content_blocks [] = 0
+content_blocks (n ∷ ns) = cell_blocks n + content_blocks ns
 
 -- it is put into cells, one after another
 abbrev pub written_from : ℕ → List Cell → Cells → Cells
@@ -180,10 +197,11 @@ abbrev pub are_free : ℕ → List Cell → Cells → Bool
 are_free at [] cells = true
 are_free at (n ∷ ns) cells = is_free (cells (run_cell at)) && are_free (suc at) ns cells
 
--- goes to a body, with a frame that has this in its cells, which were free
+-- goes to a body, with a frame that has this in its cells, which were free, where the cells have room, and then the texts
 abbrev pub entering : Position → ℕ → ℕ → Bool → ℕ → List Operand → List Cell → Cells → After
 entering c first base refines body ops contents cells =
     cond (cells_fit (c.used + length contents))
+    (cond (texts_fit (content_blocks contents) (blocks_in (written_from c.used contents cells)))
     (To (record {
       pc = first;
       ops = [];
@@ -191,6 +209,7 @@ entering c first base refines body ops contents cells =
       frames =
           record { back = c.pc + 1; base = base; used = c.used; refines = refines; body = body; ops = ops } ∷ c.frames;
     }) (written_from c.used contents cells))
+    (Stops TextRoom))
     (Stops CellRoom)
 
 abbrev pub enters : Position → ℕ → ℕ → Bool → ℕ → List Operand → List Cell → Cells → After
