@@ -5,11 +5,12 @@ use Rattle.std.specs.Prelude.{slice_get, option_map}
 use Rattle.std.proofs.lemmas.Option.{slice_get-map}
 use Rattle.std.proofs.lemmas.Bool.{leb-true}
 use Rattle.eu_base.specs.declared.address.TheConstants.{CELLS}
-use Rattle.eu_base.specs.declared.stop.Stop.TheVariants.{CellRoom}
+use Rattle.eu_base.specs.declared.stop.Stop.{Stop}
+use Rattle.eu_base.specs.declared.stop.Stop.TheVariants.{CellRoom, TextRoom}
 use Rattle.eu_base.specs.declared.value.Kind.{Kind}
 use Rattle.eu_base.specs.declared.value.Value.{Value}
-use Rattle.eu_base.specs.Room.{cells_fit}
-use Rattle.eu_base.specs.Cells.{Cell, Cells, without}
+use Rattle.eu_base.specs.Room.{cells_fit, texts_fit}
+use Rattle.eu_base.specs.Cells.{Cell, Cells, without, blocks_in}
 use Rattle.code_form.specs.declared.halt.Halt.TheVariants as halts
 use Rattle.code_form.specs.declared.operand.Operand.{Operand}
 use Rattle.code_form.specs.declared.operand.OperandKind.{OperandKind}
@@ -21,7 +22,7 @@ use Rattle.code_form.specs.declared.instr.Instr.TheVariants.{Call, Refer}
 use Rattle.code_form.specs.Program as tables
 use Rattle.code_form.specs.Program.{Program, line_of, in_body, owner, cells_in, frame_cells}
 use Rattle.code_form.specs.Machine.{Frame, Position, free, To, Stops, Unsaid, Spends, at, base_of, bytes_on, bytes_of, entering, enters, calls_to, call_move}
-use Rattle.code_form.specs.Machine.{refer_move, frame_contents, link_contents, back_into, out_to, after_stage, stage, written_from, step}
+use Rattle.code_form.specs.Machine.{refer_move, frame_contents, link_contents, content_blocks, back_into, out_to, after_stage, stage, written_from, step}
 use Rattle.elan_types.specs.declared.core_phrase.Exit.{Exit}
 use Rattle.elan_types.specs.declared.core_phrase.Exit.TheVariants as exits
 use Rattle.elan_types.specs.declared.core_phrase.Scope.{Scope}
@@ -31,12 +32,13 @@ use Rattle.elan_types.specs.declared.core_phrase.Body.{Body}
 use Rattle.elan_types.specs.declared.elan_type.ElanType.{ElanType}
 use Rattle.elan_types.specs.Typing.{kind_in}
 use Rattle.elan_types.specs.Eval.{Slot, World, Outcome, Gives, Left, Stopped, OutOfMarks, Asks, branch, with_room, cut, called, referred, content, frame, link}
-use Rattle.elan_types.specs.Eval.{own_variables, run_called, run_referred, level, Calls}
+use Rattle.elan_types.specs.Eval.{store_blocks, own_variables, run_called, run_referred, level, Calls}
 use Rattle.elan_types.specs.Command.{Ending}
 use Rattle.place_gen.specs.Correct.{scene_of}
 use Rattle.place_gen.specs.Layouts.{layout_of}
 use Rattle.place_gen.proofs.Homes.{Delivers, LeftBy}
 use Rattle.place_gen.proofs.Cells.{OfValue, Uses, Keeps, AllKept, image, get_left, get_right, cuts, extends, free_beyond}
+use Rattle.place_gen.proofs.Blocks.{same_blocks, more_blocks}
 use Rattle.place_gen.proofs.Carry.{use_of, finish, Result, result_ops, way_out, reach, After, after_goes, Ends, Exits, wider, CallsCarry, Stands, Within}
 use Rattle.place_gen.proofs.Carry.{TakeAll, pushed_slots, here, out_carries, spend_carries}
 use Rattle.code_gen.proofs.Entered.{slot_operand, frame_uses, link_uses, all_taken, frame_kept, kept_lengths}
@@ -71,23 +73,48 @@ module _ (p : Program) where
         → Exits p L b (Some q) c.frames l → (w : World) → w.marks ≤ b
         → Ends p L (at c first []) w (finish (content con (reach calls n c []) w) (l exits.Body) l)
 
-  -- cells are taken for a frame where there is room, and the machine goes into the body
-  room_ends : (L M : Uses) (more : List Slot) (ns : List Cell) (c inner : Position) (go : World → Outcome (Option Value)) (k : Option Value → World → Ending)
-      (l : Exit → Option Value → World → Ending) (w : World) (cells : Cells) → c.used ≡ length L → AllKept L (length L) M more ns → Keeps L w.store cells
-      → (t : Bool) → (t ≡ true → Ends p (L ++ M) inner (record w { store = w.store ++ more }) (finish (go (record w { store = w.store ++ more })) k l))
-      → After p (after_stage (cond t (To inner (written_from c.used ns cells)) (Stops CellRoom)) c (scene_of w cells))
-      (finish (branch t (λ w. go (record w { store = w.store ++ more })) (Stopped CellRoom) w) k l)
-  room_ends L M more ns c inner go k l w cells used kept h false e = record {
+  -- a stop where a body is entered changes nothing
+  full_ends : (L : Uses) (c : Position) (s : Stop) (w : World) (cells : Cells) (k : Option Value → World → Ending) (l : Exit → Option Value → World → Ending)
+      → Keeps L w.store cells → After p (after_stage (Stops s) c (scene_of w cells)) (finish (Stopped s w) k l)
+  full_ends L c s w cells k l h = record {
     steps = 0;
-    rest = record { how = halts.Stopped CellRoom; control = free c; scene = scene_of w cells };
+    rest = record { how = halts.Stopped s; control = free c; scene = scene_of w cells };
     comes = refl;
     shows = record { how = refl; marks = refl; replies = refl; cells = image L w.store cells h };
   }
+
+  -- the texts of a frame have room, and the machine goes into the body; or it stops
+  texts_ends : (L U : Uses) (more : List Slot) (c inner : Position) (go : World → Outcome (Option Value)) (k : Option Value → World → Ending)
+      (l : Exit → Option Value → World → Ending) (w : World) (cells now : Cells) → Keeps L w.store cells → Keeps U (w.store ++ more) now → (t : Bool)
+      → Ends p U inner (record w { store = w.store ++ more }) (finish (go (record w { store = w.store ++ more })) k l)
+      → After p (after_stage (cond t (To inner now) (Stops TextRoom)) c (scene_of w cells))
+      (finish (branch t (λ w. go (record w { store = w.store ++ more })) (Stopped TextRoom) w) k l)
+  texts_ends L U more c inner go k l w cells now h later false e = full_ends L c TextRoom w cells k l h
+  texts_ends L U more c inner go k l w cells now h later true e =
+      let x = e now later in record { steps = x.steps; rest = x.rest; comes = x.comes; shows = x.shows }
+
+  -- cells are taken for a frame where there is room, and then its texts
+  room_ends : (L M : Uses) (more : List Slot) (ns : List Cell) (c inner : Position) (go : World → Outcome (Option Value)) (k : Option Value → World → Ending)
+      (l : Exit → Option Value → World → Ending) (w : World) (cells : Cells) → c.used ≡ length L → AllKept L (length L) M more ns → Keeps L w.store cells
+      → (t : Bool) → (t ≡ true
+      → (length (L ++ M) ≤ CELLS) × Ends p (L ++ M) inner (record w { store = w.store ++ more }) (finish (go (record w { store = w.store ++ more })) k l))
+      → After p (after_stage (cond t (cond (texts_fit (content_blocks ns) (blocks_in (written_from c.used ns cells)))
+      (To inner (written_from c.used ns cells)) (Stops TextRoom)) (Stops CellRoom)) c (scene_of w cells))
+      (finish (branch t (branch (texts_fit (store_blocks more) (store_blocks (w.store ++ more)))
+      (λ w. go (record w { store = w.store ++ more })) (Stopped TextRoom)) (Stopped CellRoom) w) k l)
+  room_ends L M more ns c inner go k l w cells used kept h false e = full_ends L c CellRoom w cells k l h
   room_ends L M more ns c inner go k l w cells used kept h true e =
-      let x =
-      e refl (written_from c.used ns cells)
-      (subst (λ n. Keeps (L ++ M) (w.store ++ more) (written_from n ns cells)) (sym used) (extends M L w.store more cells ns h kept)) in
-      record { steps = x.steps; rest = x.rest; comes = x.comes; shows = x.shows }
+      let now = written_from c.used ns cells in
+      let later : Keeps (L ++ M) (w.store ++ more) now =
+      subst (λ n. Keeps (L ++ M) (w.store ++ more) (written_from n ns cells)) (sym used) (extends M L w.store more cells ns h kept) in
+      let x = e refl in
+      let test = texts_fit (store_blocks more) (store_blocks (w.store ++ more)) in
+      let same : texts_fit (content_blocks ns) (blocks_in now) ≡ test =
+      sym (ap (λ n. texts_fit n (store_blocks (w.store ++ more))) (more_blocks L (length L) M more ns kept)
+      ∙ ap (texts_fit (content_blocks ns)) (same_blocks (L ++ M) (w.store ++ more) now x.0 later)) in
+      subst (λ t. After p (after_stage (cond t (To inner now) (Stops TextRoom)) c (scene_of w cells))
+      (finish (branch test (λ w. go (record w { store = w.store ++ more })) (Stopped TextRoom) w) k l)) (sym same)
+      (texts_ends L (L ++ M) more c inner go k l w cells now h later test x.1)
 
   -- a body is entered with these cells
   abbrev entered : Position → ℕ → ℕ → Bool → ℕ → List Operand → List Cell → Position
@@ -116,9 +143,10 @@ module _ (p : Program) where
       subst (λ t. After p (after_stage (cond t (entering c first base refines body ops ns cells) Unsaid) c (scene_of w cells))
       (finish (with_room more go w) k l)) (sym free')
       (subst (λ n. After p (after_stage (entering c first base refines body ops ns cells) c (scene_of w cells))
-      (finish (branch (cells_fit n) (λ w. go (record w { store = w.store ++ more })) (Stopped CellRoom) w) k l)) same
+      (finish (branch (cells_fit n) (branch (texts_fit (store_blocks more) (store_blocks (w.store ++ more)))
+      (λ w. go (record w { store = w.store ++ more })) (Stopped TextRoom)) (Stopped CellRoom) w) k l)) same
       (room_ends L M more ns c inner go k l w cells used kept h (cells_fit (c.used + length ns))
-      (λ t. e (subst (λ n. n ≤ CELLS) (sym all) (leb-true (c.used + length ns) CELLS t)))))
+      (λ t. let few = subst (λ n. n ≤ CELLS) (sym all) (leb-true (c.used + length ns) CELLS t) in (few, e few))))
 
   -- what comes after a body, with its cells given back
   back_after : (L M more : Uses) (n : ℕ) (f : Frame) (fs : List Frame) (c : Position) (v : Option Value) (w : World) (k : Option Value → World → Ending)

@@ -6,12 +6,13 @@ use Rattle.eu_base.specs.declared.address.TheConstants.{CELLS}
 use Rattle.eu_base.specs.declared.value.Kind.{Kind}
 use Rattle.eu_base.specs.declared.value.Value.{Value}
 use Rattle.eu_base.specs.declared.stop.Stop.{Stop}
-use Rattle.eu_base.specs.declared.stop.Stop.TheVariants.{OperandRoom}
+use Rattle.eu_base.specs.declared.stop.Stop.TheVariants.{OperandRoom, TextRoom}
 use Rattle.eu_base.specs.declared.request.Request.{Request}
 use Rattle.eu_base.specs.declared.request.Reply.{Reply}
 use Rattle.eu_base.specs.Values.{IsOf}
 use Rattle.eu_base.specs.Operations.{Given}
-use Rattle.eu_base.specs.Cells.{Cells, held_of, run_cell, written}
+use Rattle.eu_base.specs.Room.{value_blocks, texts_fit}
+use Rattle.eu_base.specs.Cells.{Cells, held_of, run_cell, written, cell_blocks, blocks_in}
 use Rattle.code_form.specs.declared.operand.Operand.{Operand}
 use Rattle.code_form.specs.declared.operand.Operand.TheVariants.{Value as Of, Place as At}
 use Rattle.code_form.specs.declared.operand.OperandKind.{OperandKind}
@@ -23,20 +24,21 @@ use Rattle.code_form.specs.declared.code.Spot.{Spot}
 use Rattle.code_form.specs.declared.code.Entry.{Entry}
 use Rattle.code_form.specs.declared.code.Layout.TheVariants as layouts
 use Rattle.code_form.specs.Program.{Program, line_of, instr_of, owner, frame_cells}
-use Rattle.code_form.specs.Machine.{Frame, Position, free, asking, After as AfterMark, To, Asks as AsksFor, Move, Goes, Spends, Halts, Ends as EndsHere, at}
+use Rattle.code_form.specs.Machine.{Frame, Position, free, asking, After as AfterMark, To, Asks as AsksFor, Move, Goes, Spends, Halts, Ends as EndsHere, Unknown, takes, at}
 use Rattle.code_form.specs.Machine.{bytes_on, bytes_of, base_of, back_to, out_to, instruction, step, Scene, Rest, Stage, after_stage, mark_stage, reply_stage}
 use Rattle.code_form.specs.Machine.{stage, carry_on, exec}
 use Rattle.elan_types.specs.declared.core_phrase.Exit.{Exit}
 use Rattle.elan_types.specs.declared.core_phrase.Exit.TheVariants as exits
 use Rattle.elan_types.specs.Eval.{Place, Slot, Holds, Refers, Taken, World, Outcome, Gives, Left, Stopped, OutOfMarks, Asks, bind, spend_at, spend, ask_at, ask}
-use Rattle.elan_types.specs.Eval.{branch, or_stop, assign, turns, Calls, Reach}
+use Rattle.elan_types.specs.Eval.{branch, or_stop, assign, save, store_blocks, turns, Calls, Reach}
 use Rattle.elan_types.specs.Command as endings
 use Rattle.elan_types.specs.Command.{Ending}
 use Rattle.place_gen.specs.Stretch.{Stretch, join}
 use Rattle.place_gen.specs.Correct.{Shows, Comes, scene_of}
 use Rattle.place_gen.proofs.Lines.{HasAt, has_front, has_rest}
 use Rattle.place_gen.proofs.Homes.{LeftBy}
-use Rattle.place_gen.proofs.Cells.{Use, OfValue, OfPlace, Uses, Keeps, image, writes}
+use Rattle.place_gen.proofs.Cells.{Use, OfValue, OfPlace, Uses, Keeps, image, writes, takes_value}
+use Rattle.place_gen.proofs.Blocks.{held_blocks, same_blocks}
 
 -- what an outcome goes on to, after a result and by an exit
 abbrev pub finish : {A : Type 0} → Outcome A → (A → World → Ending) → (Exit → Option Value → World → Ending) → Ending
@@ -152,6 +154,30 @@ module _ (p : Program) where
       → Comes p (free c) (scene_of w cells) e
   write_ends {L} c c' w x k v e cells is ok h m a =
       on_step c c' (scene_of w cells) (written cells (run_cell x.variable) (held_of v)) e m (a _ (writes L w.store cells x.variable k v h is ok))
+
+  put_by : {L : Uses} {A : Type 0} (c c' : Position) (w : World) (x : Place) (v : Value) (go : World → Outcome A) (k : A → World → Ending)
+      (l : Exit → Option Value → World → Ending) (cells now : Cells) (t : Bool) → Keeps L w.store cells → Keeps L (assign x v w).store now
+      → step p c cells ≡ cond t (Goes c' now) (Halts TextRoom) → Ends L c' (assign x v w) (finish (go (assign x v w)) k l)
+      → Comes p (free c) (scene_of w cells) (finish (branch t (λ w. go (assign x v w)) (Stopped TextRoom) w) k l)
+  put_by c c' w x v go k l cells now true h later m next = on_step c c' (scene_of w cells) now _ m (next now later)
+  put_by {L} c c' w x v go k l cells now false h later m next = stop_comes L c w TextRoom cells h m
+
+  -- an instruction that stores a value in a variable, where its text has room: both sides count the same blocks
+  pub put_ends : {L : Uses} {A : Type 0} (c c' : Position) (w : World) (x : Place) (kind : Kind) (v : Value) (go : World → Outcome A)
+      (k : A → World → Ending) (l : Exit → Option Value → World → Ending) (cells : Cells) → length L ≤ CELLS → AtKind kind L x → IsOf kind v
+      → Keeps L w.store cells
+      → step p c cells ≡ cond (takes (held_of v) (cells (run_cell x.variable)))
+      (cond (texts_fit (cell_blocks (held_of v)) (blocks_in (written cells (run_cell x.variable) (held_of v))))
+      (Goes c' (written cells (run_cell x.variable) (held_of v))) (Halts TextRoom)) Unknown
+      → Ends L c' (assign x v w) (finish (go (assign x v w)) k l) → Comes p (free c) (scene_of w cells) (finish (save x v go w) k l)
+  put_ends {L} c c' w x kind v go k l cells room is ok h m next =
+      let now = written cells (run_cell x.variable) (held_of v) in
+      let later = writes L w.store cells x.variable kind v h is ok in
+      let move = λ (own all : ℕ). cond (texts_fit own all) (Goes c' now) (Halts TextRoom) in
+      put_by c c' w x v go k l cells now (texts_fit (value_blocks v) (store_blocks (assign x v w).store)) h later
+      (m ∙ ap (λ t. cond t (move (cell_blocks (held_of v)) (blocks_in now)) Unknown) (takes_value L w.store cells x.variable kind v h is)
+      ∙ ap (λ n. move n (blocks_in now)) (held_blocks v)
+      ∙ ap (move (value_blocks v)) (sym (same_blocks L (assign x v w).store now room later))) next
 
   -- where a body is left, the machine goes to the frame below, and on as the exit says, whatever cells were taken meanwhile
   pub record Exits (L : Uses) (b : ℕ) (body : Option ℕ) (fs : List Frame) (l : Exit → Option Value → World → Ending) : Type 0 where
