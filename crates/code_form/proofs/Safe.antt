@@ -19,7 +19,7 @@ use Rattle.eu_base.specs.Values.{kind_of, number_of, truth_of, blank_of, value_i
 use Rattle.eu_base.specs.Room.{cells_fit, bytes_fit, texts_fit}
 use Rattle.eu_base.specs.Operations.{Given, operand_kinds, result_kind, result_of, changed, is_past, has_reached}
 use Rattle.eu_base.specs.Requests.{request_kinds, request_of}
-use Rattle.eu_base.specs.Cells.{Cell, Free, Word, Letters, Cells, held_of, IsCell, run_cell, place_in, written, cell_blocks, blocks_in}
+use Rattle.eu_base.specs.Cells.{Cell, Free, Word, Letters, Cells, held_of, IsCell, run_cell, place_in, written, cell_blocks, blocks_in, without}
 use Rattle.code_form.specs.declared.operand.Operand.{Operand}
 use Rattle.code_form.specs.declared.operand.Operand.TheVariants.{Value as Of, Place as At}
 use Rattle.code_form.specs.declared.operand.OperandKind.{OperandKind}
@@ -39,7 +39,7 @@ use Rattle.code_form.specs.Program.{frame_cells}
 use Rattle.code_form.specs.Machine.{Frame, Position, free, To, Asks, Stops, Unsaid, Move, Goes, Spends, operand_bytes, bytes_on, bytes_of, base_of, at}
 use Rattle.code_form.specs.Machine.{using, goes, pushes, on_value, on_place, on_values, on_operands, on_result, or_halt, on_word, is_free, are_free}
 use Rattle.code_form.specs.Machine.{limit_cell, held_of_operand, frame_contents, link_contents, written_from, enters, calls_to, call_move, refer_move}
-use Rattle.code_form.specs.Machine.{takes, content_blocks, goes, Halts, back_into, back_to, out_to, limit_to, instruction, step}
+use Rattle.code_form.specs.Machine.{takes, content_blocks, is_framed, Unknown, goes, Halts, back_into, back_to, out_to, limit_to, instruction, step}
 use Rattle.code_form.specs.Valid.{Next, pushed_kinds, pushed_operands, with_result, HasResult, IsRefinement, IsCalled, IsReferred, IsFine, IsValid, FitsKind}
 use Rattle.code_form.specs.Valid.{FitsKinds, MadeSo, IsMade, FitsFrames, Fits}
 use Rattle.code_form.specs.Runs.{IsSafe, StaysFit}
@@ -403,9 +403,11 @@ module _ (p : Program) (valid : IsValid p) (pc : ℕ) (ops : List Operand) (used
         → floor' ≤ used → bytes_of (f ∷ fs) ≤ bytes_of frames → h.1.1.0.entry.delivers ≡ k
         → ((r : List Operand) (rest : List OperandKind) → FitsKinds r rest → FitsKinds (os ++ r) (with_result k rest))
         → ((r : List Operand) (held : ℕ) → bytes_on r held ≤ bytes_of frames → bytes_fit (bytes_on (os ++ r) held) ≡ true)
-        → Safe (back_into os used f fs cells)
+        → Safe (back_into p os used f fs cells)
     into_safe f fs body floor' k os h le bytes is fits room' =
-        let made' = h.1.1.0 in record {
+        let made' = h.1.1.0 in
+        cond_safe (is_framed (slice_get p.bodies f.body) f.used used cells)
+        (Goes (record { pc = f.back; ops = os ++ f.ops; used = f.used; frames = fs }) (without f.used used cells)) Unknown (λ _. record {
           kinds = with_result k made'.rest;
           spot = h.0;
           floor = h.1.0;
@@ -415,12 +417,12 @@ module _ (p : Program) (valid : IsValid p) (pc : ℕ) (ops : List Operand) (used
           used = made'.used;
           cells = λ _. cells_fewer f.used used (omega (arith, le, used_below p valid f body floor' (base_of fs) h.0 h.1.0 made')) room;
           bytes = room' f.ops (bytes_of fs) bytes;
-        }
+        }) tt
 
     back_safe : (fs : List Frame) (k : Option Kind) (os : List Operand) (n : ℕ) (e : Entry) (floor' : ℕ) (body : Option ℕ) → FitsFrames p fs body floor'
         → body ≡ Some n → slice_get p.bodies n ≡ Some e → e.delivers ≡ k → floor' ≤ used → bytes_of fs ≤ bytes_of frames
         → ((r : List Operand) (rest : List OperandKind) → FitsKinds r rest → FitsKinds (os ++ r) (with_result k rest))
-        → ((r : List Operand) (held : ℕ) → bytes_on r held ≤ bytes_of frames → bytes_fit (bytes_on (os ++ r) held) ≡ true) → Safe (back_to os used fs cells)
+        → ((r : List Operand) (held : ℕ) → bytes_on r held ≤ bytes_of frames → bytes_fit (bytes_on (os ++ r) held) ≡ true) → Safe (back_to p os used fs cells)
     back_safe [] k os n e floor' body h b has is le bytes fits room' = let f : ⊥ = cc (b, h.0) in absurd f
     back_safe (f ∷ fs) k os n e floor' body h b has is le bytes fits room' =
         let made' = h.1.1.0 in
@@ -431,22 +433,22 @@ module _ (p : Program) (valid : IsValid p) (pc : ℕ) (ops : List Operand) (used
     out_safe : (fs : List Frame) (k : Option Kind) (os : List Operand) (n : ℕ) (e : Entry) (floor' : ℕ) (body : Option ℕ) → FitsFrames p fs body floor'
         → owner p body ≡ Some n → slice_get p.bodies n ≡ Some e → e.delivers ≡ k → floor' ≤ used → bytes_of fs ≤ bytes_of frames
         → ((r : List Operand) (rest : List OperandKind) → FitsKinds r rest → FitsKinds (os ++ r) (with_result k rest))
-        → ((r : List Operand) (held : ℕ) → bytes_on r held ≤ bytes_of frames → bytes_fit (bytes_on (os ++ r) held) ≡ true) → Safe (out_to os used fs cells)
+        → ((r : List Operand) (held : ℕ) → bytes_on r held ≤ bytes_of frames → bytes_fit (bytes_on (os ++ r) held) ≡ true) → Safe (out_to p os used fs cells)
     out_safe [] k os n e floor' body h o has is le bytes fits room' = let f : None ≡ Some n = sym (ap (owner p) h.0) ∙ o in let g : ⊥ = cc in absurd g
     out_safe (f ∷ fs) k os n e floor' body h o has is le bytes fits room' =
         let made' = h.1.1.0 in
         let number : owner p (Some made'.number) ≡ Some n = ap (owner p) (sym made'.is) ∙ o in
         let under = used_below p valid f body floor' (base_of fs) h.0 h.1.0 made' in
-        by_layout p valid f body floor' (base_of fs) h.0 h.1.0 made' (λ _. Safe (out_to os used (f ∷ fs) cells))
+        by_layout p valid f body floor' (base_of fs) h.0 h.1.0 made' (λ _. Safe (out_to p os used (f ∷ fs) cells))
         (λ ps vs l.
         let own : Some made'.number ≡ Some n = sym (owner_is p valid made'.number made'.entry made'.has ∙ ap (owner_in made'.number) l) ∙ number in
         let same : made'.number ≡ n = some_is made'.number n own in
         let entry : made'.entry ≡ e = some_is made'.entry e (sym made'.has ∙ ap (slice_get p.bodies) same ∙ has) in
-        subst (λ t. Safe (cond t (out_to os used fs cells) (back_into os used f fs cells)))
+        subst (λ t. Safe (cond t (out_to p os used fs cells) (back_into p os used f fs cells)))
         (sym (as_proc p valid f body floor' (base_of fs) h.0 h.1.0 made' ps vs l).1)
         (into_safe f fs body floor' k os h le bytes (ap (λ (x : Entry). x.delivers) entry ∙ is) fits room'))
         (λ l q r.
-        subst (λ t. Safe (cond t (out_to os used fs cells) (back_into os used f fs cells)))
+        subst (λ t. Safe (cond t (out_to p os used fs cells) (back_into p os used f fs cells)))
         (sym (as_refined p valid f body floor' (base_of fs) h.0 h.1.0 made' l q r).1)
         (out_safe fs k os n e h.1.0 h.0.body h.1.1.1 (sym (same_owner p valid f body floor' (base_of fs) h.0 h.1.0 made' l q r) ∙ number) has is
         (omega (arith, le, under, made'.used)) (omega (arith, bytes, bytes_below f.ops (bytes_of fs))) fits room'))

@@ -47,6 +47,21 @@ pub data Use : Type 0 where
 abbrev pub Uses : Type 0
 Uses = List Use
 
+-- a use that only counts, and uses that do
+abbrev pub IsCount : Use → Type 0
+IsCount (OfValue k) = ⊥
+IsCount (OfPlace k) = ⊥
+IsCount (OfLimit l) = Unit {0}
+IsCount OfNothing = Unit {0}
+
+abbrev pub AreCounts : Uses → Type 0
+AreCounts [] = Unit {0}
+AreCounts (k ∷ M) = IsCount k × AreCounts M
+
+pub counts_append : (M N : Uses) → AreCounts M → AreCounts N → AreCounts (M ++ N)
+counts_append [] N h g = g
+counts_append (k ∷ M) N h g = (h.0, counts_append M N h.1 g)
+
 -- a slot with this number, and what its cell holds. A VAR parameter refers to a variable before it
 abbrev pub Kept : Uses → ℕ → Use → Slot → Cell → Type 0
 Kept L at (OfValue k) s n = (v : Value) × (s ≡ Holds v) × IsOf k v × (n ≡ held_of v)
