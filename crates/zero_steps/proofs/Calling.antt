@@ -1,5 +1,5 @@
 -- Calls and how they are left.
-use Rattle.std.proofs.Common.{◌≡◌, ℕ, zero, suc, ◌+◌, ◌-◌, ◌≤◌, ◌<◌, ◌^◌, min, Bool, true, false, cond, List, [], ◌∷◌, map, length, take, drop, Some, refl}
+use Rattle.std.proofs.Common.{◌≡◌, ℕ, zero, suc, ◌+◌, ◌-◌, ◌≤◌, ◌<◌, ◌^◌, min, Bool, true, false, cond, List, [], ◌∷◌, ◌++◌, map, length, take, drop, Some, refl}
 use Rattle.std.proofs.Common.{sym, ap, ◌∙◌, subst}
 use Rattle.std.proofs.Common.{arith, length-append}
 use Rattle.std.specs.Prelude.{Result, Ok, Err, IfOk, not, reverse}
@@ -9,8 +9,8 @@ use Rattle.eu_base.specs.declared.address.TheConstants.{CELLS}
 use Rattle.eu_base.specs.declared.value.Kind.{Kind}
 use Rattle.eu_base.specs.declared.stop.Stop.TheVariants as stops
 use Rattle.eu_base.specs.Values.{blank_of}
-use Rattle.eu_base.specs.Room.{cells_fit}
-use Rattle.eu_base.specs.Cells.{Cell, Free, Cells, held_of, AreBare}
+use Rattle.eu_base.specs.Room.{cells_fit, texts_fit}
+use Rattle.eu_base.specs.Cells.{Cell, Free, Cells, held_of, blocks_in, AreBare}
 use Rattle.zero_steps.specs.declared.next.Next.{Next}
 use Rattle.zero_steps.specs.declared.next.Next.TheVariants.{On as On', Marked, CellRoom}
 use Rattle.code_form.specs.declared.halt.Halt.TheVariants as halts
@@ -20,9 +20,11 @@ use Rattle.code_form.specs.declared.code.Entry.{Entry}
 use Rattle.code_form.specs.declared.code.Layout.{Layout}
 use Rattle.code_form.specs.declared.code.Layout.TheVariants.{Own}
 use Rattle.code_form.specs.declared.operand.Operand.{Operand}
+use Rattle.code_form.specs.declared.operand.Operand.TheVariants.{Value as Of, Place as At}
 use Rattle.code_form.specs.declared.operand.OperandKind.{OperandKind}
 use Rattle.code_form.specs.Machine.{Frame, Position, Control, free, After, To, Stops, Unsaid, Spends, Stage, On, Over, rest_at, base_of, are_free, entering}
-use Rattle.code_form.specs.Machine.{enters, calls_to, refer_move, held_of_operand, frame_contents, link_contents, written_from, back_into, out_to}
+use Rattle.code_form.specs.Program.{Program}
+use Rattle.code_form.specs.Machine.{content_blocks, enters, calls_to, refer_move, held_of_operand, frame_contents, link_contents, written_from, back_into, out_to}
 use Rattle.code_form.specs.Machine.{after_stage, mark_stage, stage}
 use Rattle.zero_steps.specs.Finds.{IsCallable, IsInside, is_in_proc}
 use Rattle.zero_steps.specs.Stacked.{Stacked}
@@ -53,6 +55,19 @@ frame_length args variables =
       length-map args held_of_operand,
       length-map variables (λ k. held_of (blank_of k)),
     )
+
+-- a frame of numbers and places has no texts
+variables_bare : (variables : List Kind) → content_blocks (map (λ k. held_of (blank_of k)) variables) ≡ 0
+variables_bare [] = refl
+variables_bare (k ∷ variables) = let rest = variables_bare variables in omega (arith, rest)
+
+operands_bare : (args : List Operand) (rest : List Cell) → content_blocks rest ≡ 0 → content_blocks (map held_of_operand args ++ rest) ≡ 0
+operands_bare [] rest bare = bare
+operands_bare (Of v ∷ args) rest bare = let more = operands_bare args rest bare in omega (arith, more)
+operands_bare (At a ∷ args) rest bare = let more = operands_bare args rest bare in omega (arith, more)
+
+frame_bare : (args : List Operand) (variables : List Kind) → content_blocks (frame_contents args variables) ≡ 0
+frame_bare args variables = let rest = operands_bare args _ (variables_bare variables) in omega (arith, rest)
 
 module _ (before after : Cells → Type 0) (c : Position) (first base : ℕ) (refines : Bool) (body : ℕ) (rest : List Operand) (contents : List Cell) where
   abbrev into : Cells → After
@@ -91,25 +106,31 @@ module _ (before after : Cells → Type 0) (c : Position) (first base : ℕ) (re
         record { back = c.pc + 1; base = base; used = c.used; refines = refines; body = body; ops = rest } ∷ c.frames;
   }
 
+  -- the cells have room, and then the texts; both stop
+  abbrev placed : Cells → Bool → Bool → After
+  placed cells room texts =
+      cond room (cond texts (To (inside (c.used + length contents)) (written_from c.used contents cells)) (Stops stops.TextRoom)) (Stops stops.CellRoom)
+
+  abbrev texts_room : Cells → Bool
+  texts_room cells = texts_fit (content_blocks contents) (blocks_in (written_from c.used contents cells))
+
   pub enter_full : cells_fit (c.used + length contents) ≡ false → (w : Waits) → w ≡ Nothing → Keeps before after
       → Goes_into (record { position = c; waits = w }) CellRoom
   enter_full full w none kept =
       enters_so (record { position = c; waits = w }) CellRoom (λ cells. cells)
       (λ marks cells.
       ap (λ w. stage_of (halt_of CellRoom) (record { position = c; waits = w }) (scene_of cells marks)) none
-      ∙ ap (λ b. after_stage (cond b (To (inside (c.used + length contents)) (written_from c.used contents cells)) (Stops stops.CellRoom)) c
-      (scene_of cells marks))
-      (sym full)) (λ cells h free. kept cells h)
+      ∙ ap (λ b. after_stage (placed cells b (texts_room cells)) c (scene_of cells marks)) (sym full)) (λ cells h free. kept cells h)
 
-  pub enter_has_room : (n : ℕ) → n ≡ c.used + length contents → cells_fit (c.used + length contents) ≡ true
+  pub enter_has_room : (n : ℕ) → n ≡ c.used + length contents → cells_fit (c.used + length contents) ≡ true → content_blocks contents ≡ 0
       → ((cells : Cells) → before cells → AreBare c.used (length contents) cells → after (written_from c.used contents cells)) → Goes_into (free (inside n)) On'
-  enter_has_room n is room kept =
+  enter_has_room n is room bare kept =
       enters_so (free (inside n)) On' (written_from c.used contents)
       (λ marks cells.
       ap (λ n. On (free (inside n)) (scene_of (written_from c.used contents cells) marks)) is
-      ∙ ap (λ b. after_stage (cond b (To (inside (c.used + length contents)) (written_from c.used contents cells)) (Stops stops.CellRoom)) c
-      (scene_of cells marks))
-      (sym room)) (λ cells h free. kept cells h (bare_free c.used contents cells free))
+      ∙ ap (λ n. after_stage (placed cells true (texts_fit n (blocks_in (written_from c.used contents cells)))) c (scene_of cells marks)) (sym bare)
+      ∙ ap (λ b. after_stage (placed cells b (texts_room cells)) c (scene_of cells marks)) (sym room))
+      (λ cells h free. kept cells h (bare_free c.used contents cells free))
 
 -- so is a call that takes its operands from what is pending
 module _ (before after : Cells → Type 0) (pc used first base : ℕ) (refines : Bool) (body count more : ℕ) (s : Stacked) (variables : List Kind)
@@ -144,7 +165,7 @@ module _ (before after : Cells → Type 0) (pc used first base : ℕ) (refines :
       (subst (λ (t : Stacked). EntersSo before after (enters here first base refines body (drop count s.ops) (frame_contents args variables)) here
       (free (standing first (used + more) t)) On') (sym stack)
       (enter_has_room before after here first base refines body (drop count s.ops) (frame_contents args variables) (used + more) n
-      (le-leb (used + length (frame_contents args variables)) CELLS (omega (arith, n, fits)))
+      (le-leb (used + length (frame_contents args variables)) CELLS (omega (arith, n, fits))) (frame_bare args variables)
       (λ cells h bare. subst (λ now. after (written_from used (frame_contents now variables) cells)) is
       (kept cells h (subst (λ n. AreBare used n cells) (frame_length args variables ∙ ap (λ l. 2 + length l + length variables) (sym is)) bare)))))
 
@@ -214,10 +235,10 @@ does_refine true e = refl
 does_refine false e = absurd (cc e)
 
 -- leaving goes on below a frame of a refinement
-pub leaves_more : (fs : List Frame) (f : Frame) (below : List Frame) (ops : List Operand) (used : ℕ) (cells : Cells) → fs ≡ f ∷ below
-    → f.refines ≡ true → out_to ops used fs cells ≡ out_to ops used below cells
-leaves_more fs f below ops used cells e r =
-    ap (λ fs. out_to ops used fs cells) e ∙ ap (λ t. cond t (out_to ops used below cells) (back_into ops used f below cells)) r
+pub leaves_more : (p : Program) (fs : List Frame) (f : Frame) (below : List Frame) (ops : List Operand) (used : ℕ) (cells : Cells) → fs ≡ f ∷ below
+    → f.refines ≡ true → out_to p ops used fs cells ≡ out_to p ops used below cells
+leaves_more p fs f below ops used cells e r =
+    ap (λ fs. out_to p ops used fs cells) e ∙ ap (λ t. cond t (out_to p ops used below cells) (back_into p ops used f below cells)) r
 
 pub inside_more : (fs : List Frame) (f : Frame) (below : List Frame) → fs ≡ f ∷ below → f.refines ≡ true → is_in_proc fs ≡ true → is_in_proc below ≡ true
 inside_more fs f below e r inside = sym (ap is_in_proc e ∙ ap (λ t. cond t (is_in_proc below) true) r) ∙ inside

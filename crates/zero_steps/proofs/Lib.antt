@@ -4,6 +4,7 @@ pub mod Pushing
 pub mod Making
 pub mod Accessing
 pub mod Calling
+pub mod Leaving
 pub mod Executing
 pub mod Asking
 pub mod Operating

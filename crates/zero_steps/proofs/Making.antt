@@ -57,15 +57,19 @@ GoesOver i c c' = (cells : Cells) → (now : Cells) × (Within now cells × Goes
 pub same_cells : (i : Instr) (c : Position) (c' : Control) → ((cells : Cells) → GoesOn i c cells c' cells) → GoesOver i c c'
 same_cells i c c' so cells = (cells, ((λ a. inl refl), so cells))
 
+-- what is forgotten are numbers
+pub fewer_known : (from until : ℕ) (cells : Cells) → Within (without from until cells) cells
+fewer_known from until cells a = by (nat_le from a.cell && nat_lt a.cell until) (cells a)
+  where
+    by : (b : Bool) (x : Cell) → (cond b (forgotten x) x ≡ x) ⊎ ((cond b (forgotten x) x ≡ Free) × (cell_blocks x ≡ 0))
+    by true Free = inr (refl, refl)
+    by true (Word n) = inr (refl, refl)
+    by true (Letters t) = inl refl
+    by false x = inl refl
+
 pub fewer_cells : (i : Instr) (c : Position) (c' : Control) (from until : ℕ) → ((cells : Cells) → GoesOn i c cells c' (without from until cells))
     → GoesOver i c c'
-fewer_cells i c c' from until so cells = (without from until cells, ((λ a. within (nat_le from a.cell && nat_lt a.cell until) (cells a)), so cells))
-  where
-    within : (b : Bool) (x : Cell) → (cond b (forgotten x) x ≡ x) ⊎ ((cond b (forgotten x) x ≡ Free) × (cell_blocks x ≡ 0))
-    within true Free = inr (refl, refl)
-    within true (Word n) = inr (refl, refl)
-    within true (Letters t) = inl refl
-    within false x = inl refl
+fewer_cells i c c' from until so cells = (without from until cells, (fewer_known from until cells, so cells))
 
 -- the same of a step that may want memory
 pub made_over : {T E : Type 0} (result : Result T E) (i : Instr) (c : Position) (c' : Control) {P : Type 0} → (P → GoesOver i c c') → OnOk result P

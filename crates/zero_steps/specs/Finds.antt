@@ -104,8 +104,6 @@ is_plain (False a) = true
 is_plain (When z a) = true
 is_plain Drop = true
 is_plain Unlimit = true
-is_plain (Back kind) = true
-is_plain (Out kind) = true
 is_plain _ = false
 
 -- one that pushes what stands in it

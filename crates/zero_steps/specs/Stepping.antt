@@ -1,8 +1,9 @@
 -- What the machine's state stands for.
 use Rattle.std.specs.Prelude.{◌≡◌, ℕ, ◌+◌, ◌^◌, ◌<◌, Bool, true, false, List, [], ◌∷◌, length, Option, Some, None, Result, Ok, Err}
+use Rattle.std.specs.Prelude.{cond, slice_get}
 use Rattle.eu_base.specs.Room.{cells_fit, bytes_fit}
 use Rattle.eu_base.specs.declared.value.Value.{Value}
-use Rattle.eu_base.specs.Cells.{Cells}
+use Rattle.eu_base.specs.Cells.{Cells, without}
 use Rattle.code_form.specs.declared.halt.Halt.{Halt}
 use Rattle.code_form.specs.declared.halt.Halt.TheVariants as halts
 use Rattle.eu_base.specs.declared.stop.Stop.TheVariants as stops
@@ -13,7 +14,7 @@ use Rattle.code_form.specs.declared.waits.Waits.{Waits}
 use Rattle.code_form.specs.declared.waits.Waits.TheVariants.{Nothing, Asked, Refused}
 use Rattle.code_form.specs.Program.{Program}
 use Rattle.code_form.specs.Machine.{Position, Control, free, Halts, pushes, or_halt, After, Scene, Stage, On, Over, Lost, rest_at, bytes_on, bytes_of, instruction}
-use Rattle.code_form.specs.Machine.{after_stage, stage}
+use Rattle.code_form.specs.Machine.{is_framed, after_stage, stage}
 use Rattle.code_form.specs.Valid.{Fits}
 use Rattle.eu_base.specs.declared.stop.Stop.{Stop}
 use Rattle.eu_base.specs.Operations.{Given}
@@ -98,6 +99,11 @@ StepsSo i c cells c' cells' next = (p : Program) (marks : ℕ) → stage_of (hal
 -- an instruction goes on so
 abbrev pub GoesOn : Instr → Position → Cells → Control → Cells → Type 0
 GoesOn i c cells c' cells' = StepsSo i c cells c' cells' On'
+
+-- a body is left so: the machine goes on where it is known what the cells of the frames hold, which is forgotten then
+abbrev pub LeavesSo : Instr → Position → Control → Type 0
+LeavesSo i c c' = (body : ℕ) × ((p : Program) (marks : ℕ) (cells : Cells) → stage_by p i marks c cells ≡ cond
+    (is_framed (slice_get p.bodies body) c'.position.used c.used cells) (On c' (scene_of (without c'.position.used c.used cells) marks)) Lost)
 
 -- the machine goes on or rests so, over a memory that holds what the definition has there. Where the definition is lost, since memory is
 -- not known to hold what is asked, nothing is said

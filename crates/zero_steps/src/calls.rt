@@ -1,13 +1,14 @@
 //! Calls, refinements, and how they are left.
 ghost use Rattle.std.specs.Prelude.{◌≡◌, ℕ, ◌+◌, ◌-◌, ◌^◌, min, ◌≤◌, ◌∷◌, ◌++◌, [], List, take, drop, length, reverse, true, false, Some, OnOk, IfOk};
 ghost use Rattle.eu_base.specs.Room.{bytes_fit};
-ghost use Rattle.eu_base.specs.Cells.{Cells, without, HasFaultCause};
+ghost use Rattle.eu_base.specs.Cells.{Cells, HasFaultCause};
 ghost use Rattle.code_form.specs.declared.instr.Instr.TheVariants as instrs;
 ghost use Rattle.code_form.specs.declared.operand.Operand.{Operand};
+ghost use Rattle.code_form.specs.Program.{Program};
 ghost use Rattle.code_form.specs.Machine.{Move, bytes_on, bytes_of, enters, frame_contents, call_move, refer_move, on_result, back_into, out_to, stage};
 ghost use Rattle.zero_steps.specs.Finds.{TopResult, IsCallable, IsInside, is_in_proc};
 ghost use Rattle.zero_steps.specs.Stacked.{linked};
-ghost use Rattle.zero_steps.specs.Stepping.{position_of, control_of, scene_of, result_ops, IsReady, GoesOn, Steps, EntersSo};
+ghost use Rattle.zero_steps.specs.Stepping.{position_of, control_of, scene_of, result_ops, IsReady, LeavesSo, Steps, EntersSo};
 
 use crate::cells::{have_room, write_frame};
 use crate::next::Next;
@@ -129,7 +130,7 @@ pub fn back(s: &mut State, kind: Option<Kind>) -> Result<(), NoMemory>
     requires ready { IsReady s.old }
     requires result { TopResult kind s.old.stack.ops }
     requires inside { IsInside s.old.stack.frames }
-    ensures { OnOk result ((cells : Cells) → GoesOn (instrs.Back kind) (position_of s.old) cells (control_of s.new) (without s.new.used s.old.used cells)) }
+    ensures { OnOk result (LeavesSo (instrs.Back kind) (position_of s.old) (control_of s.new)) }
 {
     let result = take_result(&mut s.stack, kind);
     let link = leave(&mut s.stack);
@@ -137,11 +138,11 @@ pub fn back(s: &mut State, kind: Option<Kind>) -> Result<(), NoMemory>
 }
 
 /// OUT
-pub fn out(s: &mut State, kind: Option<Kind>) -> Result<(), NoMemory>
+pub fn back_around(s: &mut State, kind: Option<Kind>) -> Result<(), NoMemory>
     requires ready { IsReady s.old }
     requires result { TopResult kind s.old.stack.ops }
     requires inside { is_in_proc s.old.stack.frames ≡ true }
-    ensures { OnOk result ((cells : Cells) → GoesOn (instrs.Out kind) (position_of s.old) cells (control_of s.new) (without s.new.used s.old.used cells)) }
+    ensures { OnOk result (LeavesSo (instrs.Out kind) (position_of s.old) (control_of s.new)) }
 {
     let result = take_result(&mut s.stack, kind);
     let link = leave_proc(&mut s.stack);
@@ -176,7 +177,7 @@ fn leave(stack: &mut Stack) -> Link
 fn leave_proc(stack: &mut Stack) -> Link
     requires { is_in_proc stack.old.frames ≡ true }
     ensures fewer { bytes_on stack.new.ops (bytes_of stack.new.frames) ≤ bytes_of stack.old.frames }
-    ensures leads { (ops : List Operand) (used : ℕ) (cells : Cells) → out_to ops used stack.old.frames cells ≡ back_into ops used
+    ensures leads { (p : Program) (ops : List Operand) (used : ℕ) (cells : Cells) → out_to p ops used stack.old.frames cells ≡ back_into p ops used
         (linked result stack.new.ops) stack.new.frames cells }
 {
     loop {

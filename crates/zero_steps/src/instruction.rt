@@ -7,7 +7,7 @@ ghost use Rattle.zero_steps.specs.Finds.{Finds, is_plain, is_push, is_access};
 ghost use Rattle.zero_steps.specs.Stepping.{position_of, control_of, stage_by, IsReady, GoesOn, StepsSo, Steps, Accesses};
 
 use crate::ask::ask;
-use crate::calls::{back, call, out, refer};
+use crate::calls::{back, back_around, call, refer};
 use crate::next::Next;
 use crate::operate::operate;
 use crate::push::push_on;
@@ -54,6 +54,14 @@ pub fn execute<M: Memory>(
         Instr::Load(kind) => load(s, m, kind),
         Instr::Store(_) | Instr::Step(_, _) => {
             access(instr, s, m)?;
+            Ok(Next::On)
+        }
+        Instr::Back(kind) => {
+            back(s, kind)?;
+            Ok(Next::On)
+        }
+        Instr::Out(kind) => {
+            back_around(s, kind)?;
             Ok(Next::On)
         }
         Instr::End => Ok(Next::Ended),
@@ -121,8 +129,6 @@ fn go_on(instr: Instr, s: &mut State) -> Result<(), NoMemory>
             unlimit(s);
             Ok(())
         }
-        Instr::Back(kind) => back(s, kind),
-        Instr::Out(kind) => out(s, kind),
         _ => unreachable!(),
     }
 }

@@ -1,8 +1,10 @@
 use Rattle.std.proofs.Common.{◌≡◌, get_or, subst, arith}
+use Rattle.eu_base.specs.Cells.{without}
 use Rattle.code_form.specs.declared.instr.Instr.TheVariants.{Param, Load, Modify, Limit}
 use Rattle.zero_steps.specs.declared.next.Next.TheVariants.{On}
 use Rattle.zero_steps.specs.Stepping.{position_of, control_of, stage_by}
-use Rattle.zero_steps.proofs.Making.{plain, plain_steps}
+use Rattle.zero_steps.proofs.Making.{plain, plain_steps, fewer_known}
+use Rattle.zero_steps.proofs.Leaving.{leaves_step}
 use Rattle.zero_steps.proofs.Executing.{call_so, refer_so, accesses, mark_due, mark_spent, ends}
 use Rattle.zero_steps.proofs.instruction.execute.Goals as goal
 
@@ -86,3 +88,17 @@ returns-in_ok-go_on-in_default-clause-goes g c =
     let so = c.in_ok-go_on-in_default.ensures in
     plain holds holds c.args.instr (position_of c.args.s.now) (control_of c.go_on.new.s) On (λ cells. (so cells).0) (λ cells. (so cells).1.1)
     (λ cells h. g.met.M.Memory.forgets c.args.m.now cells (so cells).0 h (so cells).1.0) c.args.code.now c.args.marks.now
+
+pub returns-in_ok-back-in-Back-clause-goes : goal.returns-in_ok-back-in-Back-clause-goes
+returns-in_ok-back-in-Back-clause-goes g c =
+    let holds = g.M.Memory.holds c.args.m.now in
+    leaves_step holds holds c.args.instr (position_of c.args.s.now) (control_of c.back.new.s) (rw c.in-Back.is c.in_ok-back-in-Back.ensures)
+    (λ cells from until h. g.met.M.Memory.forgets c.args.m.now cells (without from until cells) h (fewer_known from until cells))
+    c.args.code.now c.args.marks.now
+
+pub returns-in_ok-back_around-in-Out-clause-goes : goal.returns-in_ok-back_around-in-Out-clause-goes
+returns-in_ok-back_around-in-Out-clause-goes g c =
+    let holds = g.M.Memory.holds c.args.m.now in
+    leaves_step holds holds c.args.instr (position_of c.args.s.now) (control_of c.back_around.new.s) (rw c.in-Out.is c.in_ok-back_around-in-Out.ensures)
+    (λ cells from until h. g.met.M.Memory.forgets c.args.m.now cells (without from until cells) h (fewer_known from until cells))
+    c.args.code.now c.args.marks.now

@@ -25,13 +25,3 @@ returns-in-Drop c = same_cells c.args.instr (position_of c.args.s.now) _ (rw c.i
 
 pub returns-in-Unlimit : goal.returns-in-Unlimit
 returns-in-Unlimit c = fewer_cells c.args.instr (position_of c.args.s.now) _ c.unlimit.new.s.used c.args.s.now.used (rw c.in-Unlimit.is c.unlimit.ensures)
-
-pub returns-in-Back : goal.returns-in-Back
-returns-in-Back c =
-    made_over c.back.result c.args.instr (position_of c.args.s.now) (control_of c.back.new.s)
-    (fewer_cells c.args.instr (position_of c.args.s.now) (control_of c.back.new.s) c.back.new.s.used c.args.s.now.used) (rw c.in-Back.is c.back.ensures)
-
-pub returns-in-Out : goal.returns-in-Out
-returns-in-Out c =
-    made_over c.out.result c.args.instr (position_of c.args.s.now) (control_of c.out.new.s)
-    (fewer_cells c.args.instr (position_of c.args.s.now) (control_of c.out.new.s) c.out.new.s.used c.args.s.now.used) (rw c.in-Out.is c.out.ensures)
