@@ -14,12 +14,12 @@ use Rattle.eu_base.specs.declared.value.Kind.TheVariants as kinds
 use Rattle.eu_base.specs.declared.value.Value.{Value}
 use Rattle.eu_base.specs.declared.value.Value.TheVariants as item
 use Rattle.eu_base.specs.declared.operation.Way.{Way}
-use Rattle.eu_base.specs.declared.stop.Stop.TheVariants.{CellRoom}
+use Rattle.eu_base.specs.declared.stop.Stop.TheVariants.{CellRoom, TextRoom}
 use Rattle.eu_base.specs.Values.{kind_of, number_of, truth_of, blank_of, value_in}
-use Rattle.eu_base.specs.Room.{cells_fit, bytes_fit}
+use Rattle.eu_base.specs.Room.{cells_fit, bytes_fit, texts_fit}
 use Rattle.eu_base.specs.Operations.{Given, operand_kinds, result_kind, result_of, changed, is_past, has_reached}
 use Rattle.eu_base.specs.Requests.{request_kinds, request_of}
-use Rattle.eu_base.specs.Cells.{Cell, Free, Word, Letters, Cells, held_of, IsCell, run_cell, place_in}
+use Rattle.eu_base.specs.Cells.{Cell, Free, Word, Letters, Cells, held_of, IsCell, run_cell, place_in, written, cell_blocks, blocks_in, without}
 use Rattle.code_form.specs.declared.operand.Operand.{Operand}
 use Rattle.code_form.specs.declared.operand.Operand.TheVariants.{Value as Of, Place as At}
 use Rattle.code_form.specs.declared.operand.OperandKind.{OperandKind}
@@ -39,7 +39,7 @@ use Rattle.code_form.specs.Program.{frame_cells}
 use Rattle.code_form.specs.Machine.{Frame, Position, free, To, Asks, Stops, Unsaid, Move, Goes, Spends, operand_bytes, bytes_on, bytes_of, base_of, at}
 use Rattle.code_form.specs.Machine.{using, goes, pushes, on_value, on_place, on_values, on_operands, on_result, or_halt, on_word, is_free, are_free}
 use Rattle.code_form.specs.Machine.{limit_cell, held_of_operand, frame_contents, link_contents, written_from, enters, calls_to, call_move, refer_move}
-use Rattle.code_form.specs.Machine.{takes_number, back_into, back_to, out_to, limit_to, instruction, step}
+use Rattle.code_form.specs.Machine.{takes, content_blocks, is_framed, Unknown, goes, Halts, back_into, back_to, out_to, limit_to, instruction, step}
 use Rattle.code_form.specs.Valid.{Next, pushed_kinds, pushed_operands, with_result, HasResult, IsRefinement, IsCalled, IsReferred, IsFine, IsValid, FitsKind}
 use Rattle.code_form.specs.Valid.{FitsKinds, MadeSo, IsMade, FitsFrames, Fits}
 use Rattle.code_form.specs.Runs.{IsSafe, StaysFit}
@@ -305,19 +305,20 @@ module _ (p : Program) (valid : IsValid p) (pc : ℕ) (ops : List Operand) (used
     enters_safe : (n : ℕ) (e : Entry) (base floor' : ℕ) (refines : Bool) (r : List Operand) (rest : List OperandKind) (ns : List Cell)
         → slice_get p.bodies n ≡ Some e → Has r rest → floor' ≡ used + length ns
         → MadeSo p e.layout n pc rest m (record { back = pc + 1; base = base; used = used; refines = refines; body = n; ops = r }) floor' (base_of frames)
-        → (free t : Bool) → cells_fit (used + length ns) ≡ t
+        → (free t texts : Bool) → cells_fit (used + length ns) ≡ t
         → IsSafe p (Spends (cond free
-        (cond t (To (record {
+        (cond t (cond texts (To (record {
           pc = e.first;
           ops = [];
           used = used + length ns;
           frames =
               record { back = pc + 1; base = base; used = used; refines = refines; body = n; ops = r } ∷ frames;
-        }) (written_from used ns cells)) (Stops CellRoom))
+        }) (written_from used ns cells)) (Stops TextRoom)) (Stops CellRoom))
         Unsaid))
-    enters_safe n e base floor' refines r rest ns has f is so false t fit = tt
-    enters_safe n e base floor' refines r rest ns has f is so true false fit = tt
-    enters_safe n e base floor' refines r rest ns has f is so true true fit = record {
+    enters_safe n e base floor' refines r rest ns has f is so false t texts fit = tt
+    enters_safe n e base floor' refines r rest ns has f is so true false texts fit = tt
+    enters_safe n e base floor' refines r rest ns has f is so true true false fit = tt
+    enters_safe n e base floor' refines r rest ns has f is so true true true fit = record {
       kinds = [];
       spot = in_body n;
       floor = floor';
@@ -362,14 +363,15 @@ module _ (p : Program) (valid : IsValid p) (pc : ℕ) (ops : List Operand) (used
         (omega (arith, numbers))
         (subst (λ l. MadeSo p l n pc c.rest m (record { back = pc + 1; base = used + 2; used = used; refines = false; body = n; ops = r })
         (used + 2 + length c.parameters + length c.variables) (base_of frames)) (sym c.own) so) (are_free used (frame_contents args c.variables) cells)
-        (cells_fit (used + length (frame_contents args c.variables))) refl))))
+        (cells_fit (used + length (frame_contents args c.variables)))
+        (texts_fit (content_blocks (frame_contents args c.variables)) (blocks_in (written_from used (frame_contents args c.variables) cells))) refl))))
 
     refer_safe : (n : ℕ) (ks : List OperandKind) → slice_get p.lines pc ≡ Some (line_of (Refer n) ks m) → IsReferred p pc n ks m → Has ops ks
         → Safe (refer_move now n (slice_get p.bodies n) cells)
     refer_safe n ks line c f =
         subst (λ o. Safe (refer_move now n o cells)) (sym c.has)
         (enters_safe n c.entry (base_of frames) (used + 2) true ops ks link_contents c.has f refl (so c.entry.layout c.refinement)
-        (are_free used link_contents cells) (cells_fit (used + length link_contents)) refl)
+        (are_free used link_contents cells) (cells_fit (used + length link_contents)) true refl)
       where
         so : (l : Layout) → IsRefinement l
             → MadeSo p l n pc ks m (record { back = pc + 1; base = base_of frames; used = used; refines = true; body = n; ops = ops }) (used + 2)
@@ -401,9 +403,11 @@ module _ (p : Program) (valid : IsValid p) (pc : ℕ) (ops : List Operand) (used
         → floor' ≤ used → bytes_of (f ∷ fs) ≤ bytes_of frames → h.1.1.0.entry.delivers ≡ k
         → ((r : List Operand) (rest : List OperandKind) → FitsKinds r rest → FitsKinds (os ++ r) (with_result k rest))
         → ((r : List Operand) (held : ℕ) → bytes_on r held ≤ bytes_of frames → bytes_fit (bytes_on (os ++ r) held) ≡ true)
-        → Safe (back_into os used f fs cells)
+        → Safe (back_into p os used f fs cells)
     into_safe f fs body floor' k os h le bytes is fits room' =
-        let made' = h.1.1.0 in record {
+        let made' = h.1.1.0 in
+        cond_safe (is_framed (slice_get p.bodies f.body) f.used used cells)
+        (Goes (record { pc = f.back; ops = os ++ f.ops; used = f.used; frames = fs }) (without f.used used cells)) Unknown (λ _. record {
           kinds = with_result k made'.rest;
           spot = h.0;
           floor = h.1.0;
@@ -413,12 +417,12 @@ module _ (p : Program) (valid : IsValid p) (pc : ℕ) (ops : List Operand) (used
           used = made'.used;
           cells = λ _. cells_fewer f.used used (omega (arith, le, used_below p valid f body floor' (base_of fs) h.0 h.1.0 made')) room;
           bytes = room' f.ops (bytes_of fs) bytes;
-        }
+        }) tt
 
     back_safe : (fs : List Frame) (k : Option Kind) (os : List Operand) (n : ℕ) (e : Entry) (floor' : ℕ) (body : Option ℕ) → FitsFrames p fs body floor'
         → body ≡ Some n → slice_get p.bodies n ≡ Some e → e.delivers ≡ k → floor' ≤ used → bytes_of fs ≤ bytes_of frames
         → ((r : List Operand) (rest : List OperandKind) → FitsKinds r rest → FitsKinds (os ++ r) (with_result k rest))
-        → ((r : List Operand) (held : ℕ) → bytes_on r held ≤ bytes_of frames → bytes_fit (bytes_on (os ++ r) held) ≡ true) → Safe (back_to os used fs cells)
+        → ((r : List Operand) (held : ℕ) → bytes_on r held ≤ bytes_of frames → bytes_fit (bytes_on (os ++ r) held) ≡ true) → Safe (back_to p os used fs cells)
     back_safe [] k os n e floor' body h b has is le bytes fits room' = let f : ⊥ = cc (b, h.0) in absurd f
     back_safe (f ∷ fs) k os n e floor' body h b has is le bytes fits room' =
         let made' = h.1.1.0 in
@@ -429,22 +433,22 @@ module _ (p : Program) (valid : IsValid p) (pc : ℕ) (ops : List Operand) (used
     out_safe : (fs : List Frame) (k : Option Kind) (os : List Operand) (n : ℕ) (e : Entry) (floor' : ℕ) (body : Option ℕ) → FitsFrames p fs body floor'
         → owner p body ≡ Some n → slice_get p.bodies n ≡ Some e → e.delivers ≡ k → floor' ≤ used → bytes_of fs ≤ bytes_of frames
         → ((r : List Operand) (rest : List OperandKind) → FitsKinds r rest → FitsKinds (os ++ r) (with_result k rest))
-        → ((r : List Operand) (held : ℕ) → bytes_on r held ≤ bytes_of frames → bytes_fit (bytes_on (os ++ r) held) ≡ true) → Safe (out_to os used fs cells)
+        → ((r : List Operand) (held : ℕ) → bytes_on r held ≤ bytes_of frames → bytes_fit (bytes_on (os ++ r) held) ≡ true) → Safe (out_to p os used fs cells)
     out_safe [] k os n e floor' body h o has is le bytes fits room' = let f : None ≡ Some n = sym (ap (owner p) h.0) ∙ o in let g : ⊥ = cc in absurd g
     out_safe (f ∷ fs) k os n e floor' body h o has is le bytes fits room' =
         let made' = h.1.1.0 in
         let number : owner p (Some made'.number) ≡ Some n = ap (owner p) (sym made'.is) ∙ o in
         let under = used_below p valid f body floor' (base_of fs) h.0 h.1.0 made' in
-        by_layout p valid f body floor' (base_of fs) h.0 h.1.0 made' (λ _. Safe (out_to os used (f ∷ fs) cells))
+        by_layout p valid f body floor' (base_of fs) h.0 h.1.0 made' (λ _. Safe (out_to p os used (f ∷ fs) cells))
         (λ ps vs l.
         let own : Some made'.number ≡ Some n = sym (owner_is p valid made'.number made'.entry made'.has ∙ ap (owner_in made'.number) l) ∙ number in
         let same : made'.number ≡ n = some_is made'.number n own in
         let entry : made'.entry ≡ e = some_is made'.entry e (sym made'.has ∙ ap (slice_get p.bodies) same ∙ has) in
-        subst (λ t. Safe (cond t (out_to os used fs cells) (back_into os used f fs cells)))
+        subst (λ t. Safe (cond t (out_to p os used fs cells) (back_into p os used f fs cells)))
         (sym (as_proc p valid f body floor' (base_of fs) h.0 h.1.0 made' ps vs l).1)
         (into_safe f fs body floor' k os h le bytes (ap (λ (x : Entry). x.delivers) entry ∙ is) fits room'))
         (λ l q r.
-        subst (λ t. Safe (cond t (out_to os used fs cells) (back_into os used f fs cells)))
+        subst (λ t. Safe (cond t (out_to p os used fs cells) (back_into p os used f fs cells)))
         (sym (as_refined p valid f body floor' (base_of fs) h.0 h.1.0 made' l q r).1)
         (out_safe fs k os n e h.1.0 h.0.body h.1.1.1 (sym (same_owner p valid f body floor' (base_of fs) h.0 h.1.0 made' l q r) ∙ number) has is
         (omega (arith, le, under, made'.used)) (omega (arith, bytes, bytes_below f.ops (bytes_of fs))) fits room'))
@@ -465,7 +469,9 @@ module _ (p : Program) (valid : IsValid p) (pc : ℕ) (ops : List Operand) (used
         one_place ops kind f.0 _ (subst (Has ops) f.1 k)
         (λ a r g. word_safe (cells a) _ (λ n. push_safe (Of (value_in kind n)) (OfKind kind) r f.0 (read_kind kind n) f.2 g.0))
     safe (Store kind) ks line f k = value_place ops kind kind f.0 _ (subst (Has ops) f.1 k) (λ v a r g.
-        cond_safe (takes_number (cells a)) _ _ (λ _. fit (pc + 1) f.0 r f.2 g) tt)
+        cond_safe (takes (held_of v) (cells a)) _ _ (λ _.
+        let now' = written cells a (held_of v) in
+        cond_safe (texts_fit (cell_blocks (held_of v)) (blocks_in now')) (goes now r now') (Halts TextRoom) (λ _. fit (pc + 1) f.0 r f.2 g) tt) tt)
     safe (Do op) ks line f k =
         let e : length (operand_kinds op) ≡ length (operand_kinds op) + 0 = omega arith in
         subst (λ n. Safe (on_values n [] ops (λ vs ops. or_halt (result_of op vs) (λ v. pushes now (Of v) ops cells)))) (sym e)

@@ -1,5 +1,5 @@
 -- Each step brings the end nearer.
-use Rattle.std.proofs.Common.{◌≡◌, ℕ, zero, suc, ◌+◌, ◌-◌, ◌*◌, ◌<◌, ◌≤◌, List, [], ◌∷◌, length, Option, Some, None, Bool, true, false, cond, refl, sym, ap}
+use Rattle.std.proofs.Common.{◌++◌, ◌≡◌, ℕ, zero, suc, ◌+◌, ◌-◌, ◌*◌, ◌<◌, ◌≤◌, List, [], ◌∷◌, length, Option, Some, None, Bool, true, false, cond, refl, sym, ap}
 use Rattle.std.proofs.Common.{◌∙◌, subst, arith, ⊎_elim}
 use Rattle.std.specs.Prelude.{slice_get, Ok, Err}
 use Rattle.std.specs.Ordering.{int_eq}
@@ -7,10 +7,10 @@ use Rattle.std.proofs.lemmas.Option.{slice_get_within}
 use Rattle.std.proofs.lemmas.Bool.{cases_lt}
 use Rattle.eu_base.specs.declared.address.Addr.{Addr}
 use Rattle.eu_base.specs.declared.value.Kind.{Kind}
-use Rattle.eu_base.specs.declared.stop.Stop.TheVariants.{CellRoom}
+use Rattle.eu_base.specs.declared.stop.Stop.TheVariants.{CellRoom, TextRoom}
 use Rattle.eu_base.specs.declared.value.Kind.TheVariants as kinds
-use Rattle.eu_base.specs.Cells.{Cell, Free, Word, Letters, run_cell, place_in}
-use Rattle.eu_base.specs.Room.{cells_fit, bytes_fit}
+use Rattle.eu_base.specs.Cells.{Cell, Free, Word, Letters, run_cell, place_in, held_of, written, cell_blocks, blocks_in, without}
+use Rattle.eu_base.specs.Room.{cells_fit, bytes_fit, texts_fit}
 use Rattle.eu_base.specs.declared.value.Value.{Value}
 use Rattle.eu_base.specs.declared.value.Value.TheVariants as item
 use Rattle.eu_base.specs.Values.{number_of, truth_of, value_in}
@@ -29,7 +29,7 @@ use Rattle.code_form.specs.declared.code.Layout.TheVariants as layouts
 use Rattle.code_form.specs.Program.{Program, instr_of}
 use Rattle.code_form.specs.Machine.{Frame, Position, Control, After, To, Asks, Stops, Unsaid, Move, Scene, Stage, On, Over, Lost, Rest, operand_bytes}
 use Rattle.code_form.specs.Machine.{bytes_on, bytes_of, base_of, pushes, on_value, on_place, on_values, on_operands, on_result, or_halt, on_word, is_free}
-use Rattle.code_form.specs.Machine.{takes_number, are_free, limit_cell, frame_contents, link_contents, written_from, enters, calls_to, call_move, refer_move, back_to}
+use Rattle.code_form.specs.Machine.{takes, content_blocks, is_framed, back_into, Goes, Unknown, goes, Halts, are_free, limit_cell, frame_contents, link_contents, written_from, enters, calls_to, call_move, refer_move, back_to}
 use Rattle.code_form.specs.Machine.{out_to, instruction, step, mark_stage, stage, advance, carry_on, exec}
 use Rattle.code_form.specs.Valid.{is_mark, IsFine, IsValid}
 use Rattle.code_form.specs.Runs.{Rests, ahead, steps_left}
@@ -120,21 +120,23 @@ module _ (p : Program) (valid : IsValid p) where
             let f : (suc frames + d) * (length p.lines + 1) ≡ depth * (length p.lines + 1) = ap (λ n. n * (length p.lines + 1)) e in
             omega (arith, ahead_le pc, f)
 
-    back_near : (result : List Operand) (fs : List Frame) → length fs ≤ depth → Near (back_to result c.used fs s.cells)
-    back_near result [] le = tt
-    back_near result (f ∷ fs) le = back (length fs) f.back le
-
-    out_near : (result : List Operand) (fs : List Frame) → length fs ≤ depth → Near (out_to result c.used fs s.cells)
-    out_near result [] le = tt
-    out_near result (f ∷ fs) le = near_cond f.refines _ _ (out_near result fs (omega arith)) (back (length fs) f.back le)
-      where
-        near_cond : (b : Bool) (m m' : Move) → Near m → Near m' → Near (cond b m m')
-        near_cond true m m' x y = x
-        near_cond false m m' x y = y
-
     near_if : (b : Bool) (m m' : Move) → Near m → Near m' → Near (cond b m m')
     near_if true m m' x y = x
     near_if false m m' x y = y
+
+    into_near : (result : List Operand) (f : Frame) (fs : List Frame) → length (f ∷ fs) ≤ depth → Near (back_into p result c.used f fs s.cells)
+    into_near result f fs le =
+        near_if (is_framed (slice_get p.bodies f.body) f.used c.used s.cells)
+        (Goes (record { pc = f.back; ops = result ++ f.ops; used = f.used; frames = fs }) (without f.used c.used s.cells)) Unknown
+        (back (length fs) f.back le) tt
+
+    back_near : (result : List Operand) (fs : List Frame) → length fs ≤ depth → Near (back_to p result c.used fs s.cells)
+    back_near result [] le = tt
+    back_near result (f ∷ fs) le = into_near result f fs le
+
+    out_near : (result : List Operand) (fs : List Frame) → length fs ≤ depth → Near (out_to p result c.used fs s.cells)
+    out_near result [] le = tt
+    out_near result (f ∷ fs) le = near_if f.refines _ _ (out_near result fs (omega arith)) (into_near result f fs le)
 
     near_word : (f : ℕ → Move) → ((n : ℕ) → Near (f n)) → (x : Cell) → Near (on_word x f)
     near_word f h Free = tt
@@ -171,20 +173,22 @@ module _ (p : Program) (valid : IsValid p) where
     -- a CALL and a REFER
     enters_deeper : (first base : ℕ) (refines : Bool) (body : ℕ) (ops : List Operand) (ns : List Cell)
         → Deeper (enters c first base refines body ops ns s.cells)
-    enters_deeper first base refines body ops ns = by (are_free c.used ns s.cells) (cells_fit (c.used + length ns))
+    enters_deeper first base refines body ops ns =
+        by (are_free c.used ns s.cells) (cells_fit (c.used + length ns)) (texts_fit (content_blocks ns) (blocks_in (written_from c.used ns s.cells)))
       where
-        by : (free b : Bool) → Deeper
-            (cond free (cond b (To (record {
+        by : (free b texts : Bool) → Deeper
+            (cond free (cond b (cond texts (To (record {
               pc = first;
               ops = [];
               used = c.used + length ns;
               frames =
                   record { back = c.pc + 1; base = base; used = c.used; refines = refines; body = body; ops = ops } ∷ c.frames;
-            }) (written_from c.used ns s.cells))
+            }) (written_from c.used ns s.cells)) (Stops TextRoom))
             (Stops CellRoom)) Unsaid)
-        by true true = omega arith
-        by true false = tt
-        by false b = tt
+        by true true true = omega arith
+        by true true false = tt
+        by true false texts = tt
+        by false b texts = tt
 
     call_near : (n : ℕ) (e : Option Entry) → Near (call_move c n e s.cells)
     call_near n None = tt
@@ -221,7 +225,10 @@ module _ (p : Program) (valid : IsValid p) where
     at_instr l e (Load k) is f = near_place _ (λ a r. near_word _ (λ n. push_near l e (ap (λ i. is_mark (Some i)) is) (Of (value_in k n)) r) (s.cells a)) c.ops
     at_instr l e (Store k) is f =
         near_value _ (λ v r. near_place _
-        (λ a r. near_if (takes_number (s.cells a)) _ _ (go (c.pc + 1) (on_next c.pc l e (ap (λ i. is_mark (Some i)) is))) tt) r) c.ops
+        (λ a r. near_if (takes (held_of v) (s.cells a)) _ _
+        (let now = written s.cells a (held_of v) in
+        near_if (texts_fit (cell_blocks (held_of v)) (blocks_in now)) (goes c r now) (Halts TextRoom)
+        (go (c.pc + 1) (on_next c.pc l e (ap (λ i. is_mark (Some i)) is))) tt) tt) r) c.ops
     at_instr l e (Do op) is f =
         near_values (length (operand_kinds op)) _ (λ vs r. near_or _ (λ v. push_near l e (ap (λ i. is_mark (Some i)) is) (Of v) r) (result_of op vs)) [] c.ops
     at_instr l e (Modify ch) is f =

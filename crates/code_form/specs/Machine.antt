@@ -8,17 +8,19 @@ use Rattle.eu_base.specs.declared.value.Kind.TheVariants as kinds
 use Rattle.eu_base.specs.declared.value.Value.{Value}
 use Rattle.eu_base.specs.declared.value.Value.TheVariants as item
 use Rattle.eu_base.specs.declared.stop.Stop.{Stop}
-use Rattle.eu_base.specs.declared.stop.Stop.TheVariants.{CellRoom, OperandRoom}
+use Rattle.eu_base.specs.declared.stop.Stop.TheVariants.{CellRoom, OperandRoom, TextRoom}
 use Rattle.eu_base.specs.declared.operation.Way.{Way}
 use Rattle.eu_base.specs.declared.request.Request.{Request}
 use Rattle.eu_base.specs.declared.request.Reply.{Reply}
 use Rattle.eu_base.specs.Values.{number_of, truth_of, blank_of, value_in}
-use Rattle.eu_base.specs.Room.{value_bytes, place_bytes, cells_fit, bytes_fit}
+use Rattle.eu_base.specs.Room.{value_bytes, place_bytes, cells_fit, bytes_fit, texts_fit}
 use Rattle.eu_base.specs.Operations.{Given, operand_kinds, result_of, changed, is_past, has_reached, next_number}
 use Rattle.eu_base.specs.Requests.{request_kinds, request_of}
-use Rattle.eu_base.specs.Cells.{Cell, Free, Word, Letters, Cells, held_of, run_cell, place_number, place_in, written, without}
+use Rattle.eu_base.specs.Cells.{Cell, Free, Word, Letters, Cells, held_of, run_cell, place_number, place_in, written, without, cell_blocks, blocks_in}
 use Rattle.code_form.specs.declared.operand.Operand.{Operand}
 use Rattle.code_form.specs.declared.operand.Operand.TheVariants.{Value as Of, Place as At}
+use Rattle.code_form.specs.declared.operand.OperandKind.{OperandKind}
+use Rattle.code_form.specs.declared.operand.OperandKind.TheVariants.{Value as OfKind, Place as AtKind}
 use Rattle.code_form.specs.declared.halt.Halt.{Halt}
 use Rattle.code_form.specs.declared.halt.Halt.TheVariants as halts
 use Rattle.code_form.specs.declared.waits.Waits.{Waits}
@@ -29,7 +31,7 @@ use Rattle.code_form.specs.declared.instr.Instr.TheVariants.{Limit, Unlimit, Ste
 use Rattle.code_form.specs.declared.code.Entry.{Entry}
 use Rattle.code_form.specs.declared.code.Layout.{Layout}
 use Rattle.code_form.specs.declared.code.Layout.TheVariants.{Own}
-use Rattle.code_form.specs.Program.{Program, instr_of}
+use Rattle.code_form.specs.Program.{Program, instr_of, layout_of, cells_at}
 
 -- a live call or refinement: the instruction to which it returns, its first cell, which is that of the frame below for a refinement,
 -- the cells that were in use before it, its body, and what is pending in the frame below
@@ -144,14 +146,26 @@ on_word Free go = Unknown
 abbrev pub on_number : Cell → (ℤ → Move) → Move
 on_number cell go = on_word cell (λ n. go (number_of (value_in kinds.Int n)))
 
--- a number is put into a cell, which is not known to hold a text
+-- a number is put into a cell that is not known to hold a text, and a text into one that is
 abbrev pub takes_number : Cell → Bool
 takes_number Free = true
 takes_number (Word n) = true
 takes_number (Letters t) = false
 
+abbrev pub takes_text : Cell → Bool
+takes_text Free = false
+takes_text (Word n) = false
+takes_text (Letters t) = true
+
+abbrev pub takes : Cell → Cell → Bool
+takes Free cell = false
+takes (Word n) cell = takes_number cell
+takes (Letters t) cell = takes_text cell
+
 abbrev pub puts : Position → Addr → Value → List Operand → Cells → Move
-puts c a v ops cells = cond (takes_number (cells a)) (goes c ops (written cells a (held_of v))) Unknown
+puts c a v ops cells =
+    cond (takes (held_of v) (cells a))
+    (cond (texts_fit (cell_blocks (held_of v)) (blocks_in (written cells a (held_of v)))) (goes c ops (written cells a (held_of v))) (Halts TextRoom)) Unknown
 
 -- what stands for an operand in a cell
 abbrev pub held_of_operand : Operand → Cell
@@ -164,6 +178,11 @@ frame_contents args variables = Word 0 ∷ Word 0 ∷ (map held_of_operand args 
 
 abbrev pub link_contents : List Cell
 link_contents = Word 0 ∷ Word 0 ∷ []
+
+-- the blocks of the texts in it
+abbrev pub content_blocks : List Cell → ℕ
+content_blocks [] = 0
+content_blocks (n ∷ ns) = cell_blocks n + content_blocks ns
 
 -- it is put into cells, one after another
 abbrev pub written_from : ℕ → List Cell → Cells → Cells
@@ -180,10 +199,11 @@ abbrev pub are_free : ℕ → List Cell → Cells → Bool
 are_free at [] cells = true
 are_free at (n ∷ ns) cells = is_free (cells (run_cell at)) && are_free (suc at) ns cells
 
--- goes to a body, with a frame that has this in its cells, which were free
+-- goes to a body, with a frame that has this in its cells, which were free, where the cells have room, and then the texts
 abbrev pub entering : Position → ℕ → ℕ → Bool → ℕ → List Operand → List Cell → Cells → After
 entering c first base refines body ops contents cells =
     cond (cells_fit (c.used + length contents))
+    (cond (texts_fit (content_blocks contents) (blocks_in (written_from c.used contents cells)))
     (To (record {
       pc = first;
       ops = [];
@@ -191,6 +211,7 @@ entering c first base refines body ops contents cells =
       frames =
           record { back = c.pc + 1; base = base; used = c.used; refines = refines; body = body; ops = ops } ∷ c.frames;
     }) (written_from c.used contents cells))
+    (Stops TextRoom))
     (Stops CellRoom)
 
 abbrev pub enters : Position → ℕ → ℕ → Bool → ℕ → List Operand → List Cell → Cells → After
@@ -214,18 +235,41 @@ abbrev pub on_result : Option Kind → List Operand → (List Operand → Move) 
 on_result None ops go = go []
 on_result (Some k) ops go = on_value ops (λ v rest. go (Of v ∷ []))
 
--- leaves a frame, and leaves those of refinements and that of their PROC; so many cells were in use, and the numbers in those of the
--- frames are forgotten
-abbrev pub back_into : List Operand → ℕ → Frame → List Frame → Cells → Move
-back_into result used f fs cells = Goes (record { pc = f.back; ops = result ++ f.ops; used = f.used; frames = fs }) (without f.used used cells)
+-- a cell is known to hold a number, and what stands for an operand of a kind
+abbrev pub is_word : Cell → Bool
+is_word Free = false
+is_word (Word n) = true
+is_word (Letters t) = false
 
-abbrev pub back_to : List Operand → ℕ → List Frame → Cells → Move
-back_to result used [] cells = Stuck
-back_to result used (f ∷ fs) cells = back_into result used f fs cells
+abbrev pub is_of : OperandKind → Cell → Bool
+is_of (OfKind kinds.Int) cell = is_word cell
+is_of (OfKind kinds.Truth) cell = is_word cell
+is_of (AtKind k) cell = is_word cell
 
-abbrev pub out_to : List Operand → ℕ → List Frame → Cells → Move
-out_to result used [] cells = Stuck
-out_to result used (f ∷ fs) cells = cond f.refines (out_to result used fs cells) (back_into result used f fs cells)
+-- so many cells from one on are known to hold what stands for operands of these kinds, and the others of them numbers
+abbrev pub are_of : List OperandKind → ℕ → ℕ → Cells → Bool
+are_of ks at zero cells = true
+are_of [] at (suc n) cells = is_word (cells (run_cell at)) && are_of [] (suc at) n cells
+are_of (k ∷ ks) at (suc n) cells = is_of k (cells (run_cell at)) && are_of ks (suc at) n cells
+
+-- a frame's cells are known to hold what the tables say: two numbers for the call, what its parameters and variables hold, and limits
+abbrev pub is_framed : Option Entry → ℕ → ℕ → Cells → Bool
+is_framed e from used cells = are_of (OfKind kinds.Int ∷ OfKind kinds.Int ∷ cells_at (layout_of e)) from (used - from) cells
+
+-- leaves a frame, and leaves those of refinements and that of their PROC; so many cells were in use, and what those of the frames hold is
+-- known, and forgotten
+abbrev pub back_into : Program → List Operand → ℕ → Frame → List Frame → Cells → Move
+back_into p result used f fs cells =
+    cond (is_framed (slice_get p.bodies f.body) f.used used cells)
+    (Goes (record { pc = f.back; ops = result ++ f.ops; used = f.used; frames = fs }) (without f.used used cells)) Unknown
+
+abbrev pub back_to : Program → List Operand → ℕ → List Frame → Cells → Move
+back_to p result used [] cells = Stuck
+back_to p result used (f ∷ fs) cells = back_into p result used f fs cells
+
+abbrev pub out_to : Program → List Operand → ℕ → List Frame → Cells → Move
+out_to p result used [] cells = Stuck
+out_to p result used (f ∷ fs) cells = cond f.refines (out_to p result used fs cells) (back_into p result used f fs cells)
 
 -- keeps a limit in a cell, and looks whether the counter is past it
 abbrev pub limit_to : Position → Way → ℕ → ℤ → Addr → List Operand → Cells → Move
@@ -271,8 +315,8 @@ instruction p (Some (Ask name)) c cells =
     on_values (length (request_kinds name)) [] c.ops (λ vs ops. Spends (Asks (at c (c.pc + 1) ops) (request_of name vs) cells))
 instruction p (Some (Call n)) c cells = call_move c n (slice_get p.bodies n) cells
 instruction p (Some (Refer n)) c cells = refer_move c n (slice_get p.bodies n) cells
-instruction p (Some (Back kind)) c cells = on_result kind c.ops (λ result. back_to result c.used c.frames cells)
-instruction p (Some (Out kind)) c cells = on_result kind c.ops (λ result. out_to result c.used c.frames cells)
+instruction p (Some (Back kind)) c cells = on_result kind c.ops (λ result. back_to p result c.used c.frames cells)
+instruction p (Some (Out kind)) c cells = on_result kind c.ops (λ result. out_to p result c.used c.frames cells)
 instruction p (Some End) c cells = Ends
 
 -- one step, where nothing is waited for

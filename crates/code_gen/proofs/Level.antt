@@ -5,23 +5,26 @@ use Rattle.std.specs.Prelude.{slice_get, option_map}
 use Rattle.std.proofs.lemmas.Option.{slice_get-map}
 use Rattle.std.proofs.lemmas.Bool.{leb-true}
 use Rattle.eu_base.specs.declared.address.TheConstants.{CELLS}
-use Rattle.eu_base.specs.declared.stop.Stop.TheVariants.{CellRoom}
+use Rattle.eu_base.specs.declared.stop.Stop.{Stop}
+use Rattle.eu_base.specs.declared.stop.Stop.TheVariants.{CellRoom, TextRoom}
 use Rattle.eu_base.specs.declared.value.Kind.{Kind}
 use Rattle.eu_base.specs.declared.value.Value.{Value}
-use Rattle.eu_base.specs.Room.{cells_fit}
-use Rattle.eu_base.specs.Cells.{Cell, Cells, without}
+use Rattle.eu_base.specs.Room.{cells_fit, texts_fit}
+use Rattle.eu_base.specs.Cells.{Cell, Cells, without, blocks_in}
 use Rattle.code_form.specs.declared.halt.Halt.TheVariants as halts
 use Rattle.code_form.specs.declared.operand.Operand.{Operand}
 use Rattle.code_form.specs.declared.operand.OperandKind.{OperandKind}
 use Rattle.code_form.specs.declared.operand.OperandKind.TheVariants as operand
 use Rattle.code_form.specs.declared.code.Spot.{Spot}
 use Rattle.code_form.specs.declared.code.Entry.{Entry}
+use Rattle.code_form.specs.declared.code.Layout.{Layout}
 use Rattle.code_form.specs.declared.code.Layout.TheVariants as layouts
 use Rattle.code_form.specs.declared.instr.Instr.TheVariants.{Call, Refer}
 use Rattle.code_form.specs.Program as tables
-use Rattle.code_form.specs.Program.{Program, line_of, in_body, owner, cells_in, frame_cells}
-use Rattle.code_form.specs.Machine.{Frame, Position, free, To, Stops, Unsaid, Spends, at, base_of, bytes_on, bytes_of, entering, enters, calls_to, call_move}
-use Rattle.code_form.specs.Machine.{refer_move, frame_contents, link_contents, back_into, out_to, after_stage, stage, written_from, step}
+use Rattle.code_form.specs.Program.{Program, line_of, in_body, owner, cells_in, cells_at, frame_cells}
+use Rattle.code_form.specs.Valid.{IsRefinement}
+use Rattle.code_form.specs.Machine.{Frame, Position, free, To, Stops, Unsaid, Goes, Unknown, Spends, at, base_of, bytes_on, bytes_of, entering, enters, calls_to, call_move}
+use Rattle.code_form.specs.Machine.{refer_move, frame_contents, link_contents, content_blocks, back_into, out_to, after_stage, stage, written_from, step}
 use Rattle.elan_types.specs.declared.core_phrase.Exit.{Exit}
 use Rattle.elan_types.specs.declared.core_phrase.Exit.TheVariants as exits
 use Rattle.elan_types.specs.declared.core_phrase.Scope.{Scope}
@@ -31,14 +34,16 @@ use Rattle.elan_types.specs.declared.core_phrase.Body.{Body}
 use Rattle.elan_types.specs.declared.elan_type.ElanType.{ElanType}
 use Rattle.elan_types.specs.Typing.{kind_in}
 use Rattle.elan_types.specs.Eval.{Slot, World, Outcome, Gives, Left, Stopped, OutOfMarks, Asks, branch, with_room, cut, called, referred, content, frame, link}
-use Rattle.elan_types.specs.Eval.{own_variables, run_called, run_referred, level, Calls}
+use Rattle.elan_types.specs.Eval.{store_blocks, own_variables, run_called, run_referred, level, Calls}
 use Rattle.elan_types.specs.Command.{Ending}
 use Rattle.place_gen.specs.Correct.{scene_of}
 use Rattle.place_gen.specs.Layouts.{layout_of}
 use Rattle.place_gen.proofs.Homes.{Delivers, LeftBy}
-use Rattle.place_gen.proofs.Cells.{OfValue, Uses, Keeps, AllKept, image, get_left, get_right, cuts, extends, free_beyond}
+use Rattle.place_gen.proofs.Cells.{OfValue, Uses, AreCounts, Keeps, AllKept, image, get_left, get_right, cuts, extends, free_beyond}
+use Rattle.place_gen.proofs.Blocks.{same_blocks, more_blocks}
 use Rattle.place_gen.proofs.Carry.{use_of, finish, Result, result_ops, way_out, reach, After, after_goes, Ends, Exits, wider, CallsCarry, Stands, Within}
 use Rattle.place_gen.proofs.Carry.{TakeAll, pushed_slots, here, out_carries, spend_carries}
+use Rattle.code_gen.proofs.Framed.{framed}
 use Rattle.code_gen.proofs.Entered.{slot_operand, frame_uses, link_uses, all_taken, frame_kept, kept_lengths}
 
 -- what comes of a call, and of a reference, as what comes of the body
@@ -71,23 +76,48 @@ module _ (p : Program) where
         → Exits p L b (Some q) c.frames l → (w : World) → w.marks ≤ b
         → Ends p L (at c first []) w (finish (content con (reach calls n c []) w) (l exits.Body) l)
 
-  -- cells are taken for a frame where there is room, and the machine goes into the body
-  room_ends : (L M : Uses) (more : List Slot) (ns : List Cell) (c inner : Position) (go : World → Outcome (Option Value)) (k : Option Value → World → Ending)
-      (l : Exit → Option Value → World → Ending) (w : World) (cells : Cells) → c.used ≡ length L → AllKept L (length L) M more ns → Keeps L w.store cells
-      → (t : Bool) → (t ≡ true → Ends p (L ++ M) inner (record w { store = w.store ++ more }) (finish (go (record w { store = w.store ++ more })) k l))
-      → After p (after_stage (cond t (To inner (written_from c.used ns cells)) (Stops CellRoom)) c (scene_of w cells))
-      (finish (branch t (λ w. go (record w { store = w.store ++ more })) (Stopped CellRoom) w) k l)
-  room_ends L M more ns c inner go k l w cells used kept h false e = record {
+  -- a stop where a body is entered changes nothing
+  full_ends : (L : Uses) (c : Position) (s : Stop) (w : World) (cells : Cells) (k : Option Value → World → Ending) (l : Exit → Option Value → World → Ending)
+      → Keeps L w.store cells → After p (after_stage (Stops s) c (scene_of w cells)) (finish (Stopped s w) k l)
+  full_ends L c s w cells k l h = record {
     steps = 0;
-    rest = record { how = halts.Stopped CellRoom; control = free c; scene = scene_of w cells };
+    rest = record { how = halts.Stopped s; control = free c; scene = scene_of w cells };
     comes = refl;
     shows = record { how = refl; marks = refl; replies = refl; cells = image L w.store cells h };
   }
+
+  -- the texts of a frame have room, and the machine goes into the body; or it stops
+  texts_ends : (L U : Uses) (more : List Slot) (c inner : Position) (go : World → Outcome (Option Value)) (k : Option Value → World → Ending)
+      (l : Exit → Option Value → World → Ending) (w : World) (cells now : Cells) → Keeps L w.store cells → Keeps U (w.store ++ more) now → (t : Bool)
+      → Ends p U inner (record w { store = w.store ++ more }) (finish (go (record w { store = w.store ++ more })) k l)
+      → After p (after_stage (cond t (To inner now) (Stops TextRoom)) c (scene_of w cells))
+      (finish (branch t (λ w. go (record w { store = w.store ++ more })) (Stopped TextRoom) w) k l)
+  texts_ends L U more c inner go k l w cells now h later false e = full_ends L c TextRoom w cells k l h
+  texts_ends L U more c inner go k l w cells now h later true e =
+      let x = e now later in record { steps = x.steps; rest = x.rest; comes = x.comes; shows = x.shows }
+
+  -- cells are taken for a frame where there is room, and then its texts
+  room_ends : (L M : Uses) (more : List Slot) (ns : List Cell) (c inner : Position) (go : World → Outcome (Option Value)) (k : Option Value → World → Ending)
+      (l : Exit → Option Value → World → Ending) (w : World) (cells : Cells) → c.used ≡ length L → AllKept L (length L) M more ns → Keeps L w.store cells
+      → (t : Bool) → (t ≡ true
+      → (length (L ++ M) ≤ CELLS) × Ends p (L ++ M) inner (record w { store = w.store ++ more }) (finish (go (record w { store = w.store ++ more })) k l))
+      → After p (after_stage (cond t (cond (texts_fit (content_blocks ns) (blocks_in (written_from c.used ns cells)))
+      (To inner (written_from c.used ns cells)) (Stops TextRoom)) (Stops CellRoom)) c (scene_of w cells))
+      (finish (branch t (branch (texts_fit (store_blocks more) (store_blocks (w.store ++ more)))
+      (λ w. go (record w { store = w.store ++ more })) (Stopped TextRoom)) (Stopped CellRoom) w) k l)
+  room_ends L M more ns c inner go k l w cells used kept h false e = full_ends L c CellRoom w cells k l h
   room_ends L M more ns c inner go k l w cells used kept h true e =
-      let x =
-      e refl (written_from c.used ns cells)
-      (subst (λ n. Keeps (L ++ M) (w.store ++ more) (written_from n ns cells)) (sym used) (extends M L w.store more cells ns h kept)) in
-      record { steps = x.steps; rest = x.rest; comes = x.comes; shows = x.shows }
+      let now = written_from c.used ns cells in
+      let later : Keeps (L ++ M) (w.store ++ more) now =
+      subst (λ n. Keeps (L ++ M) (w.store ++ more) (written_from n ns cells)) (sym used) (extends M L w.store more cells ns h kept) in
+      let x = e refl in
+      let test = texts_fit (store_blocks more) (store_blocks (w.store ++ more)) in
+      let same : texts_fit (content_blocks ns) (blocks_in now) ≡ test =
+      sym (ap (λ n. texts_fit n (store_blocks (w.store ++ more))) (more_blocks L (length L) M more ns kept)
+      ∙ ap (texts_fit (content_blocks ns)) (same_blocks (L ++ M) (w.store ++ more) now x.0 later)) in
+      subst (λ t. After p (after_stage (cond t (To inner now) (Stops TextRoom)) c (scene_of w cells))
+      (finish (branch test (λ w. go (record w { store = w.store ++ more })) (Stopped TextRoom) w) k l)) (sym same)
+      (texts_ends L (L ++ M) more c inner go k l w cells now h later test x.1)
 
   -- a body is entered with these cells
   abbrev entered : Position → ℕ → ℕ → Bool → ℕ → List Operand → List Cell → Position
@@ -116,21 +146,27 @@ module _ (p : Program) where
       subst (λ t. After p (after_stage (cond t (entering c first base refines body ops ns cells) Unsaid) c (scene_of w cells))
       (finish (with_room more go w) k l)) (sym free')
       (subst (λ n. After p (after_stage (entering c first base refines body ops ns cells) c (scene_of w cells))
-      (finish (branch (cells_fit n) (λ w. go (record w { store = w.store ++ more })) (Stopped CellRoom) w) k l)) same
+      (finish (branch (cells_fit n) (branch (texts_fit (store_blocks more) (store_blocks (w.store ++ more)))
+      (λ w. go (record w { store = w.store ++ more })) (Stopped TextRoom)) (Stopped CellRoom) w) k l)) same
       (room_ends L M more ns c inner go k l w cells used kept h (cells_fit (c.used + length ns))
-      (λ t. e (subst (λ n. n ≤ CELLS) (sym all) (leb-true (c.used + length ns) CELLS t)))))
+      (λ t. let few = subst (λ n. n ≤ CELLS) (sym all) (leb-true (c.used + length ns) CELLS t) in (few, e few))))
 
   -- what comes after a body, with its cells given back
-  back_after : (L M more : Uses) (n : ℕ) (f : Frame) (fs : List Frame) (c : Position) (v : Option Value) (w : World) (k : Option Value → World → Ending)
-      → n ≡ length L → f.used ≡ length L → c.used ≡ length (L ++ M) + length more
+  back_after : (L more : Uses) (ks : List OperandKind) (n : ℕ) (f : Frame) (fs : List Frame) (c : Position) (v : Option Value) (w : World)
+      (k : Option Value → World → Ending) → cells_at (tables.layout_of (slice_get p.bodies f.body)) ≡ ks → AreCounts more → n ≡ length L → f.used ≡ length L
+      → c.used ≡ length (L ++ frame_uses ks) + length more
       → Ends p L (record { pc = f.back; ops = result_ops v ++ f.ops; used = f.used; frames = fs }) (cut n w) (k v (cut n w)) → (cells : Cells)
-      → Keeps ((L ++ M) ++ more) w.store cells → After p (stage (back_into (result_ops v) c.used f fs cells) c (scene_of w cells)) (k v (cut n w))
-  back_after L M more n f fs c v w k is f_is used e cells keeps =
+      → Keeps ((L ++ frame_uses ks) ++ more) w.store cells
+      → After p (stage (back_into p (result_ops v) c.used f fs cells) c (scene_of w cells)) (k v (cut n w))
+  back_after L more ks n f fs c v w k kinds' counts is f_is used e cells keeps =
+      let M = frame_uses ks in
       let next : Position = record { pc = f.back; ops = result_ops v ++ f.ops; used = f.used; frames = fs } in
       let all : c.used ≡ length (L ++ (M ++ more)) = omega (arith, used, length-append L M, length-append M more, length-append L (M ++ more)) in
       let now = without f.used c.used cells in
-      after_goes p c next (scene_of w cells) now (k v (cut n w)) (e now
-      (cuts L (M ++ more) w.store cells n f.used c.used is f_is all (subst (λ U. Keeps U w.store cells) (append_assoc L M more) keeps)))
+      let held = subst (λ U. Keeps U w.store cells) (append_assoc L M more) keeps in
+      let known = framed L ks more w.store cells (slice_get p.bodies f.body) f.used c.used held counts kinds' f_is all in
+      subst (λ t. After p (stage (cond t (Goes next now) Unknown) c (scene_of w cells)) (k v (cut n w))) (sym known)
+      (after_goes p c next (scene_of w cells) now (k v (cut n w)) (e now (cuts L (M ++ more) w.store cells n f.used c.used is f_is all held)))
 
 -- an entry of the tables is that of a body, whose code does what the body does
 pub record IsMade (p : Program) (bodies : List Body) (q : ℕ) (e : Entry) : Type 0 where
@@ -161,44 +197,60 @@ module _ (bodies : List Body) (p : Program) where
       → frame_cells p (Some q) ≡ ks ++ map operand.Value vs
   frame_own q e ks vs is own = ap (cells_in p) (owner_own q e ks vs is own) ∙ ap (λ o. tables.cells_at (tables.layout_of o)) is ∙ ap tables.cells_of own
 
+  -- the cells that the tables give to a body
+  cells_own : (q : ℕ) (e : Entry) (ks : List OperandKind) (vs : List Kind) → slice_get p.bodies q ≡ Some e → e.layout ≡ layouts.Own ks vs
+      → cells_at (tables.layout_of (slice_get p.bodies q)) ≡ ks ++ map operand.Value vs
+  cells_own q e ks vs is own = ap (λ o. cells_at (tables.layout_of o)) is ∙ ap tables.cells_of own
+
+  cells_refined : (q : ℕ) (e : Entry) → slice_get p.bodies q ≡ Some e → IsRefinement e.layout → cells_at (tables.layout_of (slice_get p.bodies q)) ≡ []
+  cells_refined q e is refines = ap (λ o. cells_at (tables.layout_of o)) is ∙ by e.layout refines
+    where
+      by : (l : Layout) → IsRefinement l → tables.cells_of l ≡ []
+      by (layouts.Own ks vs) r = absurd r
+      by (layouts.Of q) r = refl
+      by layouts.Level r = refl
+
   -- a PROC is left by both exits to where it was called
-  call_exits : (L M : Uses) (q n b : ℕ) (e : Entry) (ks : List OperandKind) (vs : List Kind) (f : Frame) (fs : List Frame)
-      (k : Option Value → World → Ending) → slice_get p.bodies q ≡ Some e → e.layout ≡ layouts.Own ks vs → f.refines ≡ false → n ≡ length L
+  call_exits : (L : Uses) (q n b : ℕ) (e : Entry) (ks : List OperandKind) (vs : List Kind) (f : Frame) (fs : List Frame)
+      (k : Option Value → World → Ending) → slice_get p.bodies q ≡ Some e → e.layout ≡ layouts.Own ks vs → f.body ≡ q → f.refines ≡ false → n ≡ length L
       → f.used ≡ length L → ((v : Option Value) (w : World) → Result e.delivers v → w.marks ≤ b
       → Ends p L (record { pc = f.back; ops = result_ops v ++ f.ops; used = f.used; frames = fs }) w (k v w))
-      → Exits p (L ++ M) b (Some q) (f ∷ fs) (λ x v w. k v (cut n w))
-  call_exits L M q n b e ks vs f fs k is own calls n_is f_is hk = record {
-    by = λ x d gives more v w r le c used cells keeps.
+      → Exits p (L ++ frame_uses (ks ++ map operand.Value vs)) b (Some q) (f ∷ fs) (λ x v w. k v (cut n w))
+  call_exits L q n b e ks vs f fs k is own body calls n_is f_is hk = record {
+    by = λ x d gives more counts v w r le c used cells keeps.
         let r' = subst (λ d. Result d v) (sym (delivers_is q e d is (gives_own x d gives))) r in
+        let kinds' = ap (λ q. cells_at (tables.layout_of (slice_get p.bodies q))) body ∙ cells_own q e ks vs is own in
         subst (λ m. After p (stage m c (scene_of w cells)) (k v (cut n w))) (sym (way x (result_ops v) c.used cells))
-        (back_after p L M more n f fs c v w k n_is f_is used (hk v (cut n w) r' le) cells keeps);
+        (back_after p L more (ks ++ map operand.Value vs) n f fs c v w k kinds' counts n_is f_is used (hk v (cut n w) r' le) cells keeps);
   }
     where
       gives_own : (x : Exit) (d : Option Kind) → LeftBy p (Some q) x d → Delivers p (Some q) d
       gives_own exits.Body d gives = gives
       gives_own exits.Around d gives = subst (λ o. Delivers p o d) (owner_own q e ks vs is own) gives
 
-      way : (x : Exit) (result : List Operand) (used : ℕ) (cells : Cells) → way_out x result used (f ∷ fs) cells ≡ back_into result used f fs cells
+      way : (x : Exit) (result : List Operand) (used : ℕ) (cells : Cells) → way_out p x result used (f ∷ fs) cells ≡ back_into p result used f fs cells
       way exits.Body result used cells = refl
-      way exits.Around result used cells = ap (λ t. cond t (out_to result used fs cells) (back_into result used f fs cells)) calls
+      way exits.Around result used cells = ap (λ t. cond t (out_to p result used fs cells) (back_into p result used f fs cells)) calls
 
   -- a refinement is left to where it was named, and with the frames around it by the exit around
-  refer_exits : (L M : Uses) (q n b : ℕ) (home : Option ℕ) (e : Entry) (f : Frame) (fs : List Frame) (k : Option Value → World → Ending)
-      (l : Exit → Option Value → World → Ending) → slice_get p.bodies q ≡ Some e → owner p (Some q) ≡ owner p home → f.refines ≡ true → n ≡ length L
-      → f.used ≡ length L → ((v : Option Value) (w : World) → Result e.delivers v → w.marks ≤ b
+  refer_exits : (L : Uses) (q n b : ℕ) (home : Option ℕ) (e : Entry) (f : Frame) (fs : List Frame) (k : Option Value → World → Ending)
+      (l : Exit → Option Value → World → Ending) → slice_get p.bodies q ≡ Some e → IsRefinement e.layout → owner p (Some q) ≡ owner p home → f.body ≡ q
+      → f.refines ≡ true → n ≡ length L → f.used ≡ length L → ((v : Option Value) (w : World) → Result e.delivers v → w.marks ≤ b
       → Ends p L (record { pc = f.back; ops = result_ops v ++ f.ops; used = f.used; frames = fs }) w (k v w)) → Exits p L b home fs l
-      → Exits p (L ++ M) b (Some q) (f ∷ fs) (from_refinement n k l)
-  refer_exits L M q n b home e f fs k l is owned refines n_is f_is hk hl = record { by = by }
+      → Exits p (L ++ link_uses) b (Some q) (f ∷ fs) (from_refinement n k l)
+  refer_exits L q n b home e f fs k l is refined owned body refines n_is f_is hk hl = record { by = by }
     where
-      by : (x : Exit) (d : Option Kind) → LeftBy p (Some q) x d → (more : Uses) (v : Option Value) (w : World) → Result d v → w.marks ≤ b → (c : Position)
-          → c.used ≡ length (L ++ M) + length more → (cells : Cells) → Keeps ((L ++ M) ++ more) w.store cells
-          → After p (stage (way_out x (result_ops v) c.used (f ∷ fs) cells) c (scene_of w cells)) (from_refinement n k l x v w)
-      by exits.Body d gives more v w r le c used cells keeps =
-          back_after p L M more n f fs c v w k n_is f_is used (hk v (cut n w) (subst (λ d. Result d v) (sym (delivers_is q e d is gives)) r) le) cells keeps
-      by exits.Around d gives more v w r le c used cells keeps =
-          subst (λ t. After p (stage (cond t (out_to (result_ops v) c.used fs cells) (back_into (result_ops v) c.used f fs cells)) c (scene_of w cells))
+      by : (x : Exit) (d : Option Kind) → LeftBy p (Some q) x d → (more : Uses) → AreCounts more → (v : Option Value) (w : World) → Result d v → w.marks ≤ b
+          → (c : Position) → c.used ≡ length (L ++ link_uses) + length more → (cells : Cells) → Keeps ((L ++ link_uses) ++ more) w.store cells
+          → After p (stage (way_out p x (result_ops v) c.used (f ∷ fs) cells) c (scene_of w cells)) (from_refinement n k l x v w)
+      by exits.Body d gives more counts v w r le c used cells keeps =
+          let kinds' = ap (λ q. cells_at (tables.layout_of (slice_get p.bodies q))) body ∙ cells_refined q e is refined in
+          back_after p L more [] n f fs c v w k kinds' counts n_is f_is used
+          (hk v (cut n w) (subst (λ d. Result d v) (sym (delivers_is q e d is gives)) r) le) cells keeps
+      by exits.Around d gives more counts v w r le c used cells keeps =
+          subst (λ t. After p (stage (cond t (out_to p (result_ops v) c.used fs cells) (back_into p (result_ops v) c.used f fs cells)) c (scene_of w cells))
           (l exits.Around v w)) (sym refines)
-          ((wider p L M hl).by exits.Around d (subst (λ o. Delivers p o d) owned gives) more v w r le c used cells keeps)
+          ((wider p L link_uses (tt, (tt, tt)) hl).by exits.Around d (subst (λ o. Delivers p o d) owned gives) more counts v w r le c used cells keeps)
 
   -- the cells in use behind the frame below are those of the call
   stands_called : (L : Uses) (m : Spot) (c c' : Position) (q : ℕ) (cells : List OperandKind) → Stands p L m c → length (L ++ frame_uses cells) ≤ CELLS
@@ -256,14 +308,14 @@ module _ (bodies : List Body) (p : Program) where
         let used : c.used + length ns ≡ length (L ++ M) = omega (arith, h.used, length-append L M, (kept_lengths L M (length L) (frame args us) ns kept).1) in
         let within : Within p (level bodies n) n b (L ++ M) (in_body q) inner =
         record { turns = le; stands = stands_called L m c inner q frame' h room used base (frame_own q e ks (map kind_in us) is own); carry = calls } in
-        let exits' = call_exits L M q N b e ks (map kind_in us) f c.frames k is own refl keeps.as_many h.used hk in
+        let exits' = call_exits L q N b e ks (map kind_in us) f c.frames k is own refl refl keeps.as_many h.used hk in
         subst (λ o. Ends p (L ++ M) inner w' o) (sym (finish_called N (go N w') k l))
         (subst (λ z. Ends p (L ++ M) inner w' (finish (go z w') (λ v w. k v (cut N w)) l')) same
         (body.ends (level bodies n) n b (L ++ M) inner within l' exits' w' lw)))
 
     -- a refinement, which goes on over the cells of the frame below
     refer_ends : (n b pc q : ℕ) (L : Uses) (m : Spot) (c : Position) (ops : List Operand) (e : Entry) (con : Content) → CallsCarry p (level bodies n) n → b ≤ n
-        → Stands p L m c → slice_get p.bodies q ≡ Some e → owner p (Some q) ≡ owner p m.body → ContentCarries p q e.first con
+        → Stands p L m c → slice_get p.bodies q ≡ Some e → IsRefinement e.layout → owner p (Some q) ≡ owner p m.body → ContentCarries p q e.first con
         → (k : Option Value → World → Ending) (l : Exit → Option Value → World → Ending)
         → ((v : Option Value) (w : World) → Result e.delivers v → w.marks ≤ b → Ends p L (at c (pc + 1) (result_ops v ++ ops)) w (k v w))
         → Exits p L b m.body c.frames l → (w : World) → w.marks ≤ b → (cells : Cells) → Keeps L w.store cells
@@ -271,7 +323,7 @@ module _ (bodies : List Body) (p : Program) where
         (finish (with_room link (λ w'.
         referred (length w.store)
         (content con (record { calls = level bodies n; turns = n; base = base_of c.frames; held = bytes_on ops (bytes_of c.frames) }) w')) w) k l)
-    refer_ends n b pc q L m c ops e con calls le h is owned body k l hk hl w lw cells keeps =
+    refer_ends n b pc q L m c ops e con calls le h is refined owned body k l hk hl w lw cells keeps =
         let now = at c pc ops in
         let N = length w.store in
         let M = link_uses in
@@ -286,7 +338,7 @@ module _ (bodies : List Body) (p : Program) where
         let used : c.used + length link_contents ≡ length (L ++ M) = omega (arith, h.used, length-append L M) in
         let within : Within p (level bodies n) n b (L ++ M) (in_body q) inner =
         record { turns = le; stands = stands_referred L m c inner q h room used refl owned; carry = calls } in
-        let exits' = refer_exits L M q N b m.body e f c.frames k l is owned refl keeps.as_many h.used hk hl in
+        let exits' = refer_exits L q N b m.body e f c.frames k l is refined owned refl refl keeps.as_many h.used hk hl in
         subst (λ o. Ends p (L ++ M) inner w' o) (sym (finish_referred N (go w') k l))
         (body.ends (level bodies n) n b (L ++ M) inner within (from_refinement N k l) exits' w' lw))
 
@@ -312,7 +364,7 @@ module _ (bodies : List Body) (p : Program) where
           out_carries p b (at c pc (pushed_slots p args ops))
           (λ cells. enters (at c pc (pushed_slots p args ops)) e.first (c.used + 2) false q ops (frame_contents (map slot_operand args) vs) cells)
           (λ v. at c (pc + 1) (result_ops v ++ ops)) le (call_step pc q L ks m c ops e parameters vs args has is own takes);
-      refer = λ L b pc q ks m c ops e le h has is owned.
+      refer = λ L b pc q ks m c ops e le h has is refined owned.
           out_carries p b (at c pc ops) (λ cells. enters (at c pc ops) e.first (base_of c.frames) true q ops link_contents cells)
           (λ v. at c (pc + 1) (result_ops v ++ ops)) le (refer_step pc q ks m c ops e has is);
     }
@@ -334,7 +386,7 @@ module _ (bodies : List Body) (p : Program) where
                 (call_ends n b' pc q L m c ops e parameters us args x.body.content (level_carries n) (omega (arith, le, lt)) h is own' takes x.carry k l hk w lw
                 cells keeps);
           });
-      refer = λ L b pc q ks m c ops e le h has is owned.
+      refer = λ L b pc q ks m c ops e le h has is refined owned.
           let x = made q e is in
           let held = bytes_on ops (bytes_of c.frames) in
           let now = at c pc ops in
@@ -344,6 +396,6 @@ module _ (bodies : List Body) (p : Program) where
             by = λ k l hk hl w lw cells keeps.
                 subst (λ o. After p (after_stage (enters now e.first (base_of c.frames) true q ops link_contents cells) now (scene_of w cells))
                 (finish (run_referred (level bodies n) n o (base_of c.frames) held w) k l)) (sym x.is)
-                (refer_ends n b' pc q L m c ops e x.body.content (level_carries n) (omega (arith, le, lt)) h is owned x.carry k l hk hl w lw cells keeps);
+                (refer_ends n b' pc q L m c ops e x.body.content (level_carries n) (omega (arith, le, lt)) h is refined owned x.carry k l hk hl w lw cells keeps);
           });
     }

@@ -1,5 +1,6 @@
 pub mod Tables
 pub mod Entered
+pub mod Framed
 pub mod Level
 pub mod Bodies
 pub mod Whole

@@ -5,14 +5,14 @@ use Rattle.std.specs.Ordering.{int_eq}
 use Rattle.eu_base.specs.declared.value.Value.{Value}
 use Rattle.eu_base.specs.declared.value.Value.TheVariants.{Int, Truth}
 use Rattle.eu_base.specs.declared.stop.Stop.{Stop}
-use Rattle.eu_base.specs.declared.stop.Stop.TheVariants.{CellRoom, OperandRoom}
+use Rattle.eu_base.specs.declared.stop.Stop.TheVariants.{CellRoom, OperandRoom, TextRoom}
 use Rattle.eu_base.specs.declared.request.Request.{Request}
 use Rattle.eu_base.specs.declared.request.Reply.{Reply}
 use Rattle.eu_base.specs.declared.operation.Change.{Change}
 use Rattle.eu_base.specs.declared.operation.Change.TheVariants.{Increase}
 use Rattle.eu_base.specs.declared.operation.Way.{Way}
 use Rattle.eu_base.specs.Values.{number_of, truth_of, blank_of}
-use Rattle.eu_base.specs.Room.{value_bytes, place_bytes, cells_fit, bytes_fit}
+use Rattle.eu_base.specs.Room.{value_bytes, value_blocks, place_bytes, cells_fit, bytes_fit, texts_fit}
 use Rattle.eu_base.specs.Operations.{Given, result_of, changed, is_past, has_reached, next_number}
 use Rattle.eu_base.specs.Requests.{request_of}
 use Rattle.elan_types.specs.declared.core_phrase.PlacePhrase.{PlacePhrase}
@@ -113,13 +113,23 @@ fetch x w = value_of (slot_at w.store x.variable)
 abbrev pub assign : Place → Value → World → World
 assign x v w = record w { store = slice_set w.store x.variable (Holds v) }
 
--- goes on with what stands at a place, and after a value was stored there. Reads and stores are outcomes, as all steps that a
--- program can stop at
+-- the blocks that the texts of slots take. A pending text stands in none, and takes none
+abbrev pub slot_blocks : Slot → ℕ
+slot_blocks (Holds v) = value_blocks v
+slot_blocks _ = 0
+
+abbrev pub store_blocks : List Slot → ℕ
+store_blocks [] = 0
+store_blocks (s ∷ store) = slot_blocks s + store_blocks store
+
+-- goes on with what stands at a place, and after a value was stored there in place of another, where its text then has room. Reads and
+-- stores are outcomes, as all steps that a program can stop at
 abbrev pub load : {A : Type 0} → Place → (Value → World → Outcome A) → World → Outcome A
 load x go w = go (fetch x w) w
 
 abbrev pub save : {A : Type 0} → Place → Value → (World → Outcome A) → World → Outcome A
-save x v go w = go (assign x v w)
+save x v go w =
+    branch (texts_fit (value_blocks v) (store_blocks (assign x v w).store)) (λ w. go (assign x v w)) (Stopped TextRoom) w
 
 -- what calls of bodies do: of a PROC with what its parameters hold, and of a refinement from a body whose variables begin at a
 -- number in the store; each with so many bytes of operands pending. They deliver a value or nothing
@@ -164,9 +174,12 @@ place (Variable k) r w = deliver_place (record { variable = k }) r w
 place (Local k) r w = deliver_place (record { variable = r.base + k }) r w
 place (Parameter k) r w = deliver_place (place_of (slot_at w.store (r.base + k))) r w
 
--- goes on with more slots, where these have room
+-- goes on with more slots, where these have room, and then their texts
 abbrev pub with_room : {A : Type 0} → List Slot → (World → Outcome A) → World → Outcome A
-with_room more go w = branch (cells_fit (length w.store + length more)) (λ w. go (record w { store = w.store ++ more })) (Stopped CellRoom) w
+with_room more go w =
+    branch (cells_fit (length w.store + length more))
+    (branch (texts_fit (store_blocks more) (store_blocks (w.store ++ more))) (λ w. go (record w { store = w.store ++ more })) (Stopped TextRoom))
+    (Stopped CellRoom) w
 
 -- without the slots from n on
 abbrev pub cut : ℕ → World → World

@@ -23,4 +23,4 @@ pub use set::Set;
 pub use shape::Shape;
 pub use space::{SPACE_BYTES, Space};
 pub use stop::Stop;
-pub use value::{Kind, OPERAND_BYTES, Value};
+pub use value::{CELL_BYTES, Kind, OPERAND_BYTES, Value};

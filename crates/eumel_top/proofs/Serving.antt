@@ -19,7 +19,8 @@ use Rattle.code_form.specs.Runs.{Rests, IsPaused, asked}
 use Rattle.place_gen.specs.Correct.{HasVariables, Shows, Comes}
 use Rattle.place_gen.specs.Correct as place
 use Rattle.code_gen.specs.Correct.{Behaves}
-use Rattle.zero_machine.specs.Running.{scene_of, RestsSo}
+use Rattle.zero_steps.specs.Stepping.{scene_of}
+use Rattle.zero_machine.specs.Running.{RestsSo}
 use Rattle.elan_types.specs.declared.core_phrase.Core.{Core}
 use Rattle.elan_types.specs.Eval.{World}
 use Rattle.elan_types.specs.Command.{Ending, Ended, Stopped, OutOfMarks, Asks, evaluate, at_start, blank_store}

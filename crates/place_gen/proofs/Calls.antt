@@ -14,7 +14,7 @@ use Rattle.code_form.specs.declared.code.Entry.{Entry}
 use Rattle.code_form.specs.declared.code.Layout.TheVariants as layouts
 use Rattle.code_form.specs.Program.{Program, owner, line_of}
 use Rattle.code_form.specs.Machine.{Position, Move, at, base_of, bytes_on, bytes_of, on_result, instruction}
-use Rattle.code_form.specs.Valid.{with_result}
+use Rattle.code_form.specs.Valid.{IsRefinement, with_result}
 use Rattle.elan_types.specs.declared.core_phrase.Exit.{Exit}
 use Rattle.elan_types.specs.declared.core_phrase.Exit.TheVariants as exits
 use Rattle.elan_types.specs.Eval.{Place, Slot, Holds, Refers, Taken, World, Gives, Left, bind, holding_slot, actuals, delivered, Calls, Run}
@@ -35,7 +35,7 @@ append-[] (x ∷ l) = ap (λ l. x ∷ l) (append-[] l)
 -- the instruction that leaves a body
 module _ (p : Program) where
   leave_move : (e : Exit) (k : Option Kind) (c : Position) (cells : Cells)
-      → instruction p (Some (leave_instr e k)) c cells ≡ on_result k c.ops (λ result. way_out e result c.used c.frames cells)
+      → instruction p (Some (leave_instr e k)) c cells ≡ on_result k c.ops (λ result. way_out p e result c.used c.frames cells)
   leave_move exits.Body k c cells = refl
   leave_move exits.Around k c cells = refl
 
@@ -52,10 +52,10 @@ module _ (p : Program) where
       → Ends p L (at c pc (result_ops v ++ ops)) w (l e v w)
   leave_ends e k v L b pc ks m c ops l r d has used hl w le = λ cells keeps.
       let now = at c pc (result_ops v ++ ops) in
-      on_move p now (scene_of w cells) (way_out e (result_ops v) c.used c.frames cells) (l e v w)
+      on_move p now (scene_of w cells) (way_out p e (result_ops v) c.used c.frames cells) (l e v w)
       (here p pc (leave_instr e k) ks m has c (result_ops v ++ ops) cells ∙ leave_move e k now cells
-      ∙ result_taken k v ops (λ result. way_out e result c.used c.frames cells) r)
-      (hl.by e k d [] v w r le now (omega (arith, used)) cells (subst (λ U. Keeps U w.store cells) (sym (append-[] L)) keeps))
+      ∙ result_taken k v ops (λ result. way_out p e result c.used c.frames cells) r)
+      (hl.by e k d [] tt v w r le now (omega (arith, used)) cells (subst (λ U. Keeps U w.store cells) (sym (append-[] L)) keeps))
 
 module _ (p : Program) (body : Option ℕ) where
   -- what a parameter is given, and what parameters are given
@@ -164,25 +164,25 @@ module _ (p : Program) (body : Option ℕ) where
             no_result e.delivers b (z + 1) c ops v gives ok));
       }
 
-  pub refer_value_is : (q : ℕ) (e : Entry) (k : Kind) → slice_get p.bodies q ≡ Some e → owner p (Some q) ≡ owner p body → e.delivers ≡ Some k
+  pub refer_value_is : (q : ℕ) (e : Entry) (k : Kind) → slice_get p.bodies q ≡ Some e → IsRefinement e.layout → owner p (Some q) ≡ owner p body → e.delivers ≡ Some k
       → IsValue p body k (λ r w. bind (r.calls.refer q r.base r.held w) (λ v. Gives (delivered v))) (refer_code q (Some k))
-  refer_value_is q e k has_body owned gives = record {
+  refer_value_is q e k has_body refines owned gives = record {
     sized = λ ks m pc. refl;
     goes = λ calls n b pc L ks m c ops home le has.
         then_carries p b (at c pc ops) (calls.refer q (base_of c.frames) (bytes_on ops (bytes_of c.frames))) (λ v. at c (pc + 1) (result_ops v ++ ops))
         (λ v. Gives (delivered v)) (λ v. at c (pc + 1) (Of v ∷ ops))
-        (le.carry.refer L b pc q ks m c ops e le.turns le.stands has.0 has_body (owned ∙ ap (owner p) (sym home))) (λ v ok.
+        (le.carry.refer L b pc q ks m c ops e le.turns le.stands has.0 has_body refines (owned ∙ ap (owner p) (sym home))) (λ v ok.
         value_result k e.delivers b (pc + 1) c ops v gives ok);
   }
 
-  pub refer_action_is : (q : ℕ) (e : Entry) → slice_get p.bodies q ≡ Some e → owner p (Some q) ≡ owner p body → e.delivers ≡ None
+  pub refer_action_is : (q : ℕ) (e : Entry) → slice_get p.bodies q ≡ Some e → IsRefinement e.layout → owner p (Some q) ≡ owner p body → e.delivers ≡ None
       → IsAction p body (λ r w. bind (r.calls.refer q r.base r.held w) (λ _. Gives tt)) (refer_code q None)
-  refer_action_is q e has_body owned gives = record {
+  refer_action_is q e has_body refines owned gives = record {
     sized = λ ks m pc. refl;
     goes = λ calls n b pc L ks m c ops home le has.
         then_carries p b (at c pc ops) (calls.refer q (base_of c.frames) (bytes_on ops (bytes_of c.frames))) (λ v. at c (pc + 1) (result_ops v ++ ops))
         (λ _. Gives (tt {0})) (λ _. at c (pc + 1) ops)
-        (le.carry.refer L b pc q ks m c ops e le.turns le.stands has.0 has_body (owned ∙ ap (owner p) (sym home))) (λ v ok.
+        (le.carry.refer L b pc q ks m c ops e le.turns le.stands has.0 has_body refines (owned ∙ ap (owner p) (sym home))) (λ v ok.
         no_result e.delivers b (pc + 1) c ops v gives ok);
   }
 

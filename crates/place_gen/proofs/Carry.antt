@@ -6,12 +6,13 @@ use Rattle.eu_base.specs.declared.address.TheConstants.{CELLS}
 use Rattle.eu_base.specs.declared.value.Kind.{Kind}
 use Rattle.eu_base.specs.declared.value.Value.{Value}
 use Rattle.eu_base.specs.declared.stop.Stop.{Stop}
-use Rattle.eu_base.specs.declared.stop.Stop.TheVariants.{OperandRoom}
+use Rattle.eu_base.specs.declared.stop.Stop.TheVariants.{OperandRoom, TextRoom}
 use Rattle.eu_base.specs.declared.request.Request.{Request}
 use Rattle.eu_base.specs.declared.request.Reply.{Reply}
 use Rattle.eu_base.specs.Values.{IsOf}
 use Rattle.eu_base.specs.Operations.{Given}
-use Rattle.eu_base.specs.Cells.{Cells, held_of, run_cell, written}
+use Rattle.eu_base.specs.Room.{value_blocks, texts_fit}
+use Rattle.eu_base.specs.Cells.{Cells, held_of, run_cell, written, cell_blocks, blocks_in}
 use Rattle.code_form.specs.declared.operand.Operand.{Operand}
 use Rattle.code_form.specs.declared.operand.Operand.TheVariants.{Value as Of, Place as At}
 use Rattle.code_form.specs.declared.operand.OperandKind.{OperandKind}
@@ -23,20 +24,22 @@ use Rattle.code_form.specs.declared.code.Spot.{Spot}
 use Rattle.code_form.specs.declared.code.Entry.{Entry}
 use Rattle.code_form.specs.declared.code.Layout.TheVariants as layouts
 use Rattle.code_form.specs.Program.{Program, line_of, instr_of, owner, frame_cells}
-use Rattle.code_form.specs.Machine.{Frame, Position, free, asking, After as AfterMark, To, Asks as AsksFor, Move, Goes, Spends, Halts, Ends as EndsHere, at}
+use Rattle.code_form.specs.Machine.{Frame, Position, free, asking, After as AfterMark, To, Asks as AsksFor, Move, Goes, Spends, Halts, Ends as EndsHere, Unknown, takes, at}
 use Rattle.code_form.specs.Machine.{bytes_on, bytes_of, base_of, back_to, out_to, instruction, step, Scene, Rest, Stage, after_stage, mark_stage, reply_stage}
 use Rattle.code_form.specs.Machine.{stage, carry_on, exec}
+use Rattle.code_form.specs.Valid.{IsRefinement}
 use Rattle.elan_types.specs.declared.core_phrase.Exit.{Exit}
 use Rattle.elan_types.specs.declared.core_phrase.Exit.TheVariants as exits
 use Rattle.elan_types.specs.Eval.{Place, Slot, Holds, Refers, Taken, World, Outcome, Gives, Left, Stopped, OutOfMarks, Asks, bind, spend_at, spend, ask_at, ask}
-use Rattle.elan_types.specs.Eval.{branch, or_stop, assign, turns, Calls, Reach}
+use Rattle.elan_types.specs.Eval.{branch, or_stop, assign, save, store_blocks, turns, Calls, Reach}
 use Rattle.elan_types.specs.Command as endings
 use Rattle.elan_types.specs.Command.{Ending}
 use Rattle.place_gen.specs.Stretch.{Stretch, join}
 use Rattle.place_gen.specs.Correct.{Shows, Comes, scene_of}
 use Rattle.place_gen.proofs.Lines.{HasAt, has_front, has_rest}
 use Rattle.place_gen.proofs.Homes.{LeftBy}
-use Rattle.place_gen.proofs.Cells.{Use, OfValue, OfPlace, Uses, Keeps, image, writes}
+use Rattle.place_gen.proofs.Cells.{Use, OfValue, OfPlace, Uses, AreCounts, counts_append, Keeps, image, writes, takes_value}
+use Rattle.place_gen.proofs.Blocks.{held_blocks, same_blocks}
 
 -- what an outcome goes on to, after a result and by an exit
 abbrev pub finish : {A : Type 0} → Outcome A → (A → World → Ending) → (Exit → Option Value → World → Ending) → Ending
@@ -76,9 +79,9 @@ result_ops None = []
 result_ops (Some v) = Of v ∷ []
 
 -- how a body is left
-abbrev pub way_out : Exit → List Operand → ℕ → List Frame → Cells → Move
-way_out exits.Body = back_to
-way_out exits.Around = out_to
+abbrev pub way_out : Program → Exit → List Operand → ℕ → List Frame → Cells → Move
+way_out p exits.Body = back_to p
+way_out p exits.Around = out_to p
 
 -- the phrase's bytes pending and the frame's first cell are those of the machine
 abbrev pub reach : Calls → ℕ → Position → List Operand → Reach
@@ -153,22 +156,46 @@ module _ (p : Program) where
   write_ends {L} c c' w x k v e cells is ok h m a =
       on_step c c' (scene_of w cells) (written cells (run_cell x.variable) (held_of v)) e m (a _ (writes L w.store cells x.variable k v h is ok))
 
-  -- where a body is left, the machine goes to the frame below, and on as the exit says, whatever cells were taken meanwhile
+  put_by : {L : Uses} {A : Type 0} (c c' : Position) (w : World) (x : Place) (v : Value) (go : World → Outcome A) (k : A → World → Ending)
+      (l : Exit → Option Value → World → Ending) (cells now : Cells) (t : Bool) → Keeps L w.store cells → Keeps L (assign x v w).store now
+      → step p c cells ≡ cond t (Goes c' now) (Halts TextRoom) → Ends L c' (assign x v w) (finish (go (assign x v w)) k l)
+      → Comes p (free c) (scene_of w cells) (finish (branch t (λ w. go (assign x v w)) (Stopped TextRoom) w) k l)
+  put_by c c' w x v go k l cells now true h later m next = on_step c c' (scene_of w cells) now _ m (next now later)
+  put_by {L} c c' w x v go k l cells now false h later m next = stop_comes L c w TextRoom cells h m
+
+  -- an instruction that stores a value in a variable, where its text has room: both sides count the same blocks
+  pub put_ends : {L : Uses} {A : Type 0} (c c' : Position) (w : World) (x : Place) (kind : Kind) (v : Value) (go : World → Outcome A)
+      (k : A → World → Ending) (l : Exit → Option Value → World → Ending) (cells : Cells) → length L ≤ CELLS → AtKind kind L x → IsOf kind v
+      → Keeps L w.store cells
+      → step p c cells ≡ cond (takes (held_of v) (cells (run_cell x.variable)))
+      (cond (texts_fit (cell_blocks (held_of v)) (blocks_in (written cells (run_cell x.variable) (held_of v))))
+      (Goes c' (written cells (run_cell x.variable) (held_of v))) (Halts TextRoom)) Unknown
+      → Ends L c' (assign x v w) (finish (go (assign x v w)) k l) → Comes p (free c) (scene_of w cells) (finish (save x v go w) k l)
+  put_ends {L} c c' w x kind v go k l cells room is ok h m next =
+      let now = written cells (run_cell x.variable) (held_of v) in
+      let later = writes L w.store cells x.variable kind v h is ok in
+      let move = λ (own all : ℕ). cond (texts_fit own all) (Goes c' now) (Halts TextRoom) in
+      put_by c c' w x v go k l cells now (texts_fit (value_blocks v) (store_blocks (assign x v w).store)) h later
+      (m ∙ ap (λ t. cond t (move (cell_blocks (held_of v)) (blocks_in now)) Unknown) (takes_value L w.store cells x.variable kind v h is)
+      ∙ ap (λ n. move n (blocks_in now)) (held_blocks v)
+      ∙ ap (move (value_blocks v)) (sym (same_blocks L (assign x v w).store now room later))) next
+
+  -- where a body is left, the machine goes to the frame below, and on as the exit says, whatever cells were taken meanwhile to count
   pub record Exits (L : Uses) (b : ℕ) (body : Option ℕ) (fs : List Frame) (l : Exit → Option Value → World → Ending) : Type 0 where
-    pub by : (e : Exit) (k : Option Kind) → LeftBy p body e k → (more : Uses) (v : Option Value) (w : World) → Result k v → w.marks ≤ b → (c : Position)
-        → c.used ≡ length L + length more → (cells : Cells) → Keeps (L ++ more) w.store cells
-        → After (stage (way_out e (result_ops v) c.used fs cells) c (scene_of w cells)) (l e v w)
+    pub by : (e : Exit) (k : Option Kind) → LeftBy p body e k → (more : Uses) → AreCounts more → (v : Option Value) (w : World) → Result k v → w.marks ≤ b
+        → (c : Position) → c.used ≡ length L + length more → (cells : Cells) → Keeps (L ++ more) w.store cells
+        → After (stage (way_out p e (result_ops v) c.used fs cells) c (scene_of w cells)) (l e v w)
 
   pub fewer : {L : Uses} {b b' : ℕ} {body : Option ℕ} {fs : List Frame} {l : Exit → Option Value → World → Ending} → b' ≤ b → Exits L b body fs l
       → Exits L b' body fs l
-  fewer le h = record { by = λ e k d more v w r m. h.by e k d more v w r (omega (arith, le, m)) }
+  fewer le h = record { by = λ e k d more counts v w r m. h.by e k d more counts v w r (omega (arith, le, m)) }
 
   -- with more cells in use
-  pub wider : {b : ℕ} {body : Option ℕ} {fs : List Frame} {l : Exit → Option Value → World → Ending} (L M : Uses) → Exits L b body fs l
+  pub wider : {b : ℕ} {body : Option ℕ} {fs : List Frame} {l : Exit → Option Value → World → Ending} (L M : Uses) → AreCounts M → Exits L b body fs l
       → Exits (L ++ M) b body fs l
-  wider L M h = record {
-    by = λ e k d more v w r m c used cells keeps.
-        h.by e k d (M ++ more) v w r m c (omega (arith, used, length-append L M, length-append M more)) cells
+  wider L M all h = record {
+    by = λ e k d more counts v w r m c used cells keeps.
+        h.by e k d (M ++ more) (counts_append M more all counts) v w r m c (omega (arith, used, length-append L M, length-append M more)) cells
         (subst (λ U. Keeps U w.store cells) (append_assoc L M more) keeps);
   }
 
@@ -376,7 +403,7 @@ module _ (p : Program) where
         → Carries L m.body c.frames (λ _. Result e.delivers) b (at c pc (pushed_slots args ops)) (calls.call q args (bytes_on ops (bytes_of c.frames)))
         (λ v. at c (pc + 1) (result_ops v ++ ops))
     pub refer : (L : Uses) (b pc q : ℕ) (ks : List OperandKind) (m : Spot) (c : Position) (ops : List Operand) (e : Entry) → b ≤ n → Stands L m c
-        → slice_get p.lines pc ≡ Some (line_of (Refer q) ks m) → slice_get p.bodies q ≡ Some e → owner p (Some q) ≡ owner p m.body
+        → slice_get p.lines pc ≡ Some (line_of (Refer q) ks m) → slice_get p.bodies q ≡ Some e → IsRefinement e.layout → owner p (Some q) ≡ owner p m.body
         → Carries L m.body c.frames (λ _. Result e.delivers) b (at c pc ops) (calls.refer q (base_of c.frames) (bytes_on ops (bytes_of c.frames)))
         (λ v. at c (pc + 1) (result_ops v ++ ops))
 

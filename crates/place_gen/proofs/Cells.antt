@@ -19,7 +19,7 @@ use Rattle.eu_base.specs.declared.value.Value.{Value}
 use Rattle.eu_base.specs.declared.value.Value.TheVariants.{Int, Truth}
 use Rattle.eu_base.specs.Values.{IsOf, cell_of, value_in}
 use Rattle.eu_base.specs.Cells.{Cell, Free, Word, Cells, held_of, run_cell, written, forgotten, without, place_in}
-use Rattle.code_form.specs.Machine.{Move, on_word, takes_number, written_from, is_free, are_free}
+use Rattle.code_form.specs.Machine.{Move, on_word, takes, written_from, is_free, are_free}
 use Rattle.elan_types.specs.Eval.{Place, Slot, Holds, Refers, Taken, slot_at, value_of, place_of}
 use Rattle.place_gen.specs.Correct.{StandsFor, Image}
 
@@ -46,6 +46,21 @@ pub data Use : Type 0 where
 
 abbrev pub Uses : Type 0
 Uses = List Use
+
+-- a use that only counts, and uses that do
+abbrev pub IsCount : Use → Type 0
+IsCount (OfValue k) = ⊥
+IsCount (OfPlace k) = ⊥
+IsCount (OfLimit l) = Unit {0}
+IsCount OfNothing = Unit {0}
+
+abbrev pub AreCounts : Uses → Type 0
+AreCounts [] = Unit {0}
+AreCounts (k ∷ M) = IsCount k × AreCounts M
+
+pub counts_append : (M N : Uses) → AreCounts M → AreCounts N → AreCounts (M ++ N)
+counts_append [] N h g = g
+counts_append (k ∷ M) N h g = (h.0, counts_append M N h.1 g)
 
 -- a slot with this number, and what its cell holds. A VAR parameter refers to a variable before it
 abbrev pub Kept : Uses → ℕ → Use → Slot → Cell → Type 0
@@ -161,9 +176,10 @@ forgets L at (OfPlace k) s n g = ap forgotten g.4
 forgets L at (OfLimit l) s n g = ap forgotten g.2
 forgets L at OfNothing s n g = ap forgotten g.1
 
-pub takes : (L : Uses) (store : List Slot) (cells : Cells) (x : ℕ) (k : Kind) → Keeps L store cells → slice_get L x ≡ Some (OfValue k)
-    → takes_number (cells (run_cell x)) ≡ true
-takes L store cells x k h e = ap takes_number (h.each x (OfValue k) e).3
+-- a variable's cell takes each value
+pub takes_value : (L : Uses) (store : List Slot) (cells : Cells) (x : ℕ) (k : Kind) (v : Value) → Keeps L store cells → slice_get L x ≡ Some (OfValue k)
+    → takes (held_of v) (cells (run_cell x)) ≡ true
+takes_value L store cells x k v h e = ap (takes (held_of v)) (h.each x (OfValue k) e).3
 
 -- the cells behind some are given back
 pub cuts : (L M : Uses) (store : List Slot) (cells : Cells) (n from used : ℕ) → n ≡ length L → from ≡ length L → used ≡ length (L ++ M)

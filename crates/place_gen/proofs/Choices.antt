@@ -5,6 +5,7 @@ use Rattle.std.specs.Prelude.{Ok, Err, ℤ}
 use Rattle.std.specs.Ordering.{int_eq}
 use Rattle.eu_base.specs.declared.value.Kind.TheVariants as kinds
 use Rattle.eu_base.specs.declared.value.Value.{Value}
+use Rattle.eu_base.specs.declared.value.Value.TheVariants as item
 use Rattle.eu_base.specs.declared.operation.Change.{Change}
 use Rattle.eu_base.specs.Values.{IsOf, number_of, truth_of}
 use Rattle.eu_base.specs.Operations.{Given, changed}
@@ -21,7 +22,7 @@ use Rattle.code_form.specs.Program.{Program, line_of}
 use Rattle.code_form.specs.Machine.{Position, free, Asks, Goes, Spends, at, or_halt, step}
 use Rattle.elan_types.specs.declared.core_phrase.Exit.{Exit}
 use Rattle.elan_types.specs.declared.core_phrase.PlacePhrase.{PlacePhrase}
-use Rattle.elan_types.specs.Eval.{Place, World, Outcome, Gives, bind, spend, ask, branch, or_stop, fetch, assign, modify, place, holding_place, Calls, Run}
+use Rattle.elan_types.specs.Eval.{Place, World, Outcome, Gives, bind, spend, ask, branch, or_stop, fetch, assign, save, modify, place, holding_place, Calls, Run}
 use Rattle.elan_types.specs.Eval.{holds, values}
 use Rattle.elan_types.specs.Command.{Ending}
 use Rattle.place_gen.specs.Stretch.{Stretch, one, keeps, join, if_code, whens, arm_code, place_code, modify_code}
@@ -166,8 +167,10 @@ module _ (p : Program) (body : Option ℕ) where
       (l : Exit → Option Value → World → Ending) → AtKind kinds.Int L x → ((v : Value) → g ≡ Ok v → IsOf kinds.Int v) → Keeps L w.store cells
       → step p c cells ≡ or_halt g (λ v. Goes c' (written cells (run_cell x.variable) (held_of v)))
       → ((v : Value) → Ends p L c' (assign x v w) (k a (assign x v w)))
-      → Comes p (free c) (scene_of w cells) (finish (or_stop g (λ v w. Gives a (assign x v w)) w) k l)
-  modified {A} {L} (Ok v) x a c c' w cells k l is gives kept e hk = write_ends p c c' w x kinds.Int v _ cells is (gives v refl) kept e (hk v)
+      → Comes p (free c) (scene_of w cells) (finish (or_stop g (λ v. save x v (Gives a)) w) k l)
+  modified {A} {L} (Ok (item.Int z)) x a c c' w cells k l is gives kept e hk =
+      write_ends p c c' w x kinds.Int (item.Int z) _ cells is (gives (item.Int z) refl) kept e (hk (item.Int z))
+  modified {A} {L} (Ok (item.Truth b)) x a c c' w cells k l is gives kept e hk = absurd (gives (item.Truth b) refl)
   modified {A} {L} (Err s) x a c c' w cells k l is gives kept e hk = stop_comes p L c w s cells kept e
 
   -- INCR and DECR where number and place are on top

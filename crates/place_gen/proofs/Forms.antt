@@ -1,5 +1,5 @@
 -- What each form of phrase does, whatever its parts are.
-use Rattle.std.proofs.Common.{◌≡◌, ℕ, suc, ◌+◌, List, [], ◌∷◌, ◌++◌, length, drop, Option, Some, Bool, cond, refl, ap, ◌∙◌, arith}
+use Rattle.std.proofs.Common.{◌≡◌, ℕ, suc, ◌+◌, List, [], ◌∷◌, ◌++◌, length, drop, Option, Some, Bool, refl, ap, ◌∙◌, arith}
 use Rattle.std.specs.Prelude.{slice_get, ℤ}
 use Rattle.eu_base.specs.declared.value.Kind.{Kind}
 use Rattle.eu_base.specs.declared.value.Kind.TheVariants as kinds
@@ -9,7 +9,7 @@ use Rattle.eu_base.specs.declared.operation.Operation.{Operation}
 use Rattle.eu_base.specs.Values.{IsOf}
 use Rattle.eu_base.specs.Room.{value_bytes, place_bytes, bytes_fit}
 use Rattle.eu_base.specs.Operations.{operand_kinds, result_kind, result_of}
-use Rattle.eu_base.specs.Cells.{Cells, held_of, run_cell, written}
+use Rattle.eu_base.specs.Cells.{Cells, run_cell}
 use Rattle.code_form.specs.declared.operand.Operand.{Operand}
 use Rattle.code_form.specs.declared.operand.Operand.TheVariants.{Value as Of, Place as At}
 use Rattle.code_form.specs.declared.operand.OperandKind.{OperandKind}
@@ -18,18 +18,18 @@ use Rattle.code_form.specs.declared.instr.Instr.{Instr}
 use Rattle.code_form.specs.declared.instr.Instr.TheVariants.{Number, Truth, Outer, Local, Param, Load, Store, Do}
 use Rattle.code_form.specs.declared.code.Spot.{Spot}
 use Rattle.code_form.specs.Program.{Program, frame_cells}
-use Rattle.code_form.specs.Machine.{Position, Move, Goes, Unknown, at, pushes as push_move, or_halt, on_values, base_of, bytes_on, bytes_of, instruction}
+use Rattle.code_form.specs.Machine.{Position, Move, at, pushes as push_move, or_halt, on_values, base_of, bytes_on, bytes_of, instruction}
 use Rattle.elan_types.specs.declared.core_phrase.PlacePhrase.{PlacePhrase}
 use Rattle.elan_types.specs.declared.core_phrase.PlacePhrase.TheVariants as places
-use Rattle.elan_types.specs.Eval.{Place, slot_at, place_of, Gives, bind, or_stop, fetch, assign, deliver, place, holding, holding_place, stored, Calls, Run}
+use Rattle.elan_types.specs.Eval.{Place, slot_at, place_of, Gives, bind, or_stop, fetch, assign, save, deliver, place, holding, holding_place, stored, Calls, Run}
 use Rattle.elan_types.specs.Eval.{all, values}
 use Rattle.place_gen.specs.Stretch.{Stretch, none, one, pushes, join, place_code, store_code}
 use Rattle.place_gen.proofs.Lines.{HasAt, join_sized}
 use Rattle.place_gen.proofs.Homes.{HasPlace}
-use Rattle.place_gen.proofs.Cells.{Uses, reads, refers, takes}
+use Rattle.place_gen.proofs.Cells.{Uses, reads, refers}
 use Rattle.eu_base.proofs.Results.{result_gives}
 use Rattle.place_gen.proofs.Carry.{Any, OfKind, AtKind, use_of, reach, Carries, Stands, Within, stop_ends, then_carries, none_carries, reads_carries}
-use Rattle.place_gen.proofs.Carry.{write_ends, or_carries, here, ends_at, join_carries}
+use Rattle.place_gen.proofs.Carry.{put_ends, or_carries, here, ends_at, join_carries}
 
 abbrev pub keep : Value → List Operand → List Operand
 keep v ops = Of v ∷ ops
@@ -185,18 +185,16 @@ module _ (p : Program) (body : Option ℕ) where
         goes =
             λ calls n b pc L ks m c ops home le has.
             join_carries p (place_code q k) (join f g) b pc ks m c ops (place q (reach calls n c ops))
-            (λ x w. bind (t (holding_place (reach calls n c ops)) w) (λ v w. Gives (tt {0}) (assign x v w))) (λ x. keep_place x ops) (λ _. ops) j.sized has
+            (λ x w. bind (t (holding_place (reach calls n c ops)) w) (λ v. save x v (Gives (tt {0})))) (λ x. keep_place x ops) (λ _. ops) j.sized has
             (λ h. j.goes calls n b pc L ks m c ops home le h) (λ h x at_x.
             join_carries p f g b (pc + 1) (operand.Place k ∷ ks) m c (keep_place x ops) (t (reach calls n c (keep_place x ops)))
-            (λ v w. Gives (tt {0}) (assign x v w)) (λ v. Of v ∷ keep_place x ops) (λ _. ops) i.sized h
+            (λ v. save x v (Gives (tt {0}))) (λ v. Of v ∷ keep_place x ops) (λ _. ops) i.sized h
             (λ h. i.goes calls n b (pc + 1) L (operand.Place k ∷ ks) m c (keep_place x ops) home le h) (λ h v ok.
             let z = pc + 1 + f.size in record {
               by =
                   λ k' l hk hl w le' cells keeps.
-                  write_ends p (at c z (Of v ∷ keep_place x ops)) (at c (z + 1) ops) w x k v _ cells at_x ok keeps
-                  (here p z (Store k) (f.leaves (operand.Place k ∷ ks)) m h.0 c (Of v ∷ keep_place x ops) cells
-                  ∙ ap (λ t. cond t (Goes (at c (z + 1) ops) (written cells (run_cell x.variable) (held_of v))) Unknown)
-                  (takes L w.store cells x.variable k keeps at_x)) (hk tt (assign x v w) tt le');
+                  put_ends p (at c z (Of v ∷ keep_place x ops)) (at c (z + 1) ops) w x k v (Gives (tt {0})) k' l cells le.stands.room at_x ok keeps
+                  (here p z (Store k) (f.leaves (operand.Place k ∷ ks)) m h.0 c (Of v ∷ keep_place x ops) cells) (hk tt (assign x v w) tt le');
             }));
       }
 

@@ -7,6 +7,7 @@ pub mod Adds
 pub mod Makes
 pub mod Select
 pub mod Cells
+pub mod Blocks
 pub mod Carry
 pub mod Forms
 pub mod Choices

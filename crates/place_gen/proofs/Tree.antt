@@ -282,7 +282,7 @@ module _ (p : Program) (variables : List ElanType) (bodies : List Body) (agrees 
       let f = only_if_is _ _ u e in
       let g = both _ _ f.0 in
       let x = part_is p variables bodies agrees q home is_home (Some v) g.0 (has_is v _ g.1) in
-      of_type v u f.1 (refer_value_is p home q x.entry (kind_in v) x.has x.owned x.delivers)
+      of_type v u f.1 (refer_value_is p home q x.entry (kind_in v) x.has x.refinement x.owned x.delivers)
 
   given_is : (access : Access) (a : Typed) (f : Formal) → given_as access a ≡ Some f → (u : ElanType) × (a ≡ Some u) × (record { of = u; access = access } ≡ f)
   given_is access None f e = let g : ⊥ = cc in absurd g
@@ -353,7 +353,7 @@ module _ (p : Program) (variables : List ElanType) (bodies : List Body) (agrees 
   action_parts (t.Action::Refer q) e =
       let g = both _ _ e in
       let x = part_is p variables bodies agrees q home is_home None g.0 (none_is _ g.1) in
-      refer_action_is p home q x.entry x.has x.owned x.delivers
+      refer_action_is p home q x.entry x.has x.refinement x.owned x.delivers
   action_parts (t.Leave x) e = leave_is p home x (left_is p variables bodies agrees x home None is_home (without_is _ e))
   action_parts (t.LeaveWith x u a) e =
       let f = both _ _ e in

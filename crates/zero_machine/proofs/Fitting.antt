@@ -15,8 +15,9 @@ use Rattle.code_form.specs.Valid.{IsValid, Fits}
 use Rattle.code_form.specs.Runs.{IsSafe, steps_left}
 use Rattle.code_form.proofs.Safe.{stays_fit}
 use Rattle.code_form.proofs.Steps.{nearer}
-use Rattle.zero_machine.specs.Running.{stage_of, stage_by, halt_of, scene_of, Does, Spends, Steps}
-use Rattle.zero_machine.specs.declared.next.Next.{Next}
+use Rattle.zero_steps.specs.Stepping.{stage_of, stage_by, halt_of, scene_of, Does, Steps}
+use Rattle.zero_machine.specs.Running.{Spends}
+use Rattle.zero_steps.specs.declared.next.Next.{Next}
 
 -- where nothing is waited for
 pub fits_free : (p : Program) (c : Control) → c.waits ≡ Nothing → Fits p c → Fits p (free c.position)

@@ -1,11 +1,4 @@
-pub mod Stacks
-pub mod Counts
 pub mod Finds
 pub mod Fitting
 pub mod Running
-pub mod Calling
-pub mod Executing
 pub mod Starting
-pub mod Making
-pub mod Accessing
-pub mod Asking

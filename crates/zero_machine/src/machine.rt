@@ -10,16 +10,13 @@ ghost use Rattle.code_form.specs.declared.waits.Waits.TheVariants as waits;
 ghost use Rattle.code_form.specs.Machine.{Rest, start, advance, answered, written_from};
 ghost use Rattle.code_form.specs.Valid.{Fits};
 ghost use Rattle.code_form.specs.Runs.{Rests, Resumes, Replies, IsOne, StaysFit, asked, steps_left};
-ghost use Rattle.zero_machine.specs.Running.{position_of, control_of, scene_of, halt_of, Does, Spends, RestsSo};
+ghost use Rattle.zero_steps.specs.Stepping.{position_of, control_of, scene_of, halt_of, Does};
+ghost use Rattle.zero_machine.specs.Running.{Spends, RestsSo};
 
-use crate::cells::write_blanks;
-use crate::execute::execute;
-use crate::next::Next;
-use crate::stack::Stack;
-use crate::state::State;
 use code_form::{Code, Halt, Waits};
 use eu_base::{CELLS, Kind, MemFault, Memory, Reply, Stop};
 use std::alloc::Global;
+use zero_steps::{Next, Stack, State, execute, write_blanks};
 
 // One step, where nothing is waited for.
 fn advance<M: Memory>(

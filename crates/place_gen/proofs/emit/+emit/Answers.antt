@@ -1,4 +1,4 @@
-use Rattle.std.proofs.Common.{rules, ◌⊎◌, inl, inr, ◌≡◌, ◌+◌, true, false, [], ◌∷◌, map, drop, length, subst, ap, ◌∙◌, sym, refl, arith}
+use Rattle.std.proofs.Common.{rules, ◌⊎◌, inl, inr, ◌≡◌, ◌+◌, [], ◌∷◌, map, drop, length, subst, ap, ◌∙◌, sym, refl, arith}
 use Rattle.std.specs.Prelude.{option_map}
 use Rattle.std.proofs.lemmas.List.{drop_all}
 use Rattle.std.proofs.lemmas.Grind.{common_steps}

@@ -1,0 +1,383 @@
+-- Steps of the machine that look at memory.
+use Rattle.std.proofs.Common.{◌≡◌, ℕ, zero, suc, ◌+◌, ◌-◌, Bool, true, false, cond, List, [], ◌∷◌, Option, Some, None, refl, sym, ap, ◌∙◌, subst, arith, ℤ}
+use Rattle.std.proofs.Common.{to_z, of_z}
+use Rattle.std.specs.Prelude.{Ok, Err}
+use Rattle.std.specs.Int.{w16}
+use Rattle.std.specs.Int.RustNames.{FitsSigned}
+use Rattle.std.proofs.lemmas.Bool.{ne_eqb}
+use Rattle.std.proofs.lemmas.Int.{to_z-of_z}
+use Rattle.eu_base.specs.declared.address.Addr.{Addr}
+use Rattle.eu_base.specs.declared.value.Kind.{Kind}
+use Rattle.eu_base.specs.declared.value.Kind.TheVariants as kinds
+use Rattle.eu_base.specs.declared.value.Value.{Value}
+use Rattle.eu_base.specs.declared.value.Value.TheVariants as item
+use Rattle.eu_base.specs.declared.operation.Change.{Change}
+use Rattle.eu_base.specs.declared.operation.Way.{Way}
+use Rattle.eu_base.specs.declared.stop.Stop.{Stop}
+use Rattle.eu_base.specs.declared.stop.Stop.TheVariants as stops
+use Rattle.eu_base.specs.Values.{number_of, cell_of, value_in}
+use Rattle.eu_base.specs.Room.{cells_fit, bytes_fit}
+use Rattle.eu_base.specs.Operations.{Given, changed, is_past, has_reached, next_number}
+use Rattle.eu_base.specs.Cells.{Cell, Free, Word, Letters, Cells, held_of, IsCell, run_cell, place_in, written, cell_blocks}
+use Rattle.code_form.specs.declared.operand.Operand.{Operand}
+use Rattle.code_form.specs.declared.operand.Operand.TheVariants.{Value as Of, Place as At}
+use Rattle.code_form.specs.declared.operand.OperandKind.{OperandKind}
+use Rattle.code_form.specs.declared.operand.OperandKind.TheVariants.{Value as OfKind, Place as AtKind}
+use Rattle.code_form.specs.declared.halt.Halt.{Halt}
+use Rattle.code_form.specs.declared.halt.Halt.TheVariants as halts
+use Rattle.code_form.specs.declared.waits.Waits.{Waits}
+use Rattle.code_form.specs.declared.waits.Waits.TheVariants.{Nothing}
+use Rattle.code_form.specs.declared.instr.Instr.{Instr}
+use Rattle.code_form.specs.declared.instr.Instr.TheVariants.{Param, Load, Store, Modify, Limit, Step}
+use Rattle.code_form.specs.Machine.{Position, Control, free, Move, Goes, Halts, Unknown, Scene, On, bytes_on, bytes_of, base_of, on_value, on_place}
+use Rattle.code_form.specs.Machine.{takes_number, limit_to, at, using, goes, pushes, or_halt, on_word, on_number, is_free, stage}
+use Rattle.code_form.specs.Valid.{FitsKinds}
+use Rattle.zero_steps.specs.Finds.{TopBoth}
+use Rattle.zero_steps.specs.Stacked.{Stacked}
+use Rattle.zero_steps.specs.declared.next.Next.{Next}
+use Rattle.zero_steps.specs.declared.next.Next.TheVariants.{On as On', CellRoom, OperandRoom}
+use Rattle.zero_steps.specs.Stepping.{stage_of, scene_of, halt_of, Does, Like, Accesses}
+use Rattle.zero_steps.proofs.Making.{alike, done, plain}
+
+-- what memory answered is what it was known to hold
+abbrev pub Answers : (Cells → Type 0) → Addr → ℕ → Type 0
+Answers before a n = (cells : Cells) (m : ℕ) → before cells → cells a ≡ Word m → n ≡ m
+
+-- what was known is known, and a cell besides
+abbrev pub Keeps : (before after : Cells → Type 0) → Type 0
+Keeps before after = (cells : Cells) → before cells → after cells
+
+abbrev pub Writes : (before after : Cells → Type 0) → Addr → Value → Type 0
+Writes before after a v = (cells : Cells) → before cells → cell_blocks (cells a) ≡ 0 → after (written cells a (held_of v))
+
+pub writes : (before between after : Cells → Type 0) (a : Addr) (v : Value) (n : ℕ) → n ≡ cell_of v → Keeps before between
+    → ((cells : Cells) → between cells → cell_blocks (cells a) ≡ 0 → after (written cells a (Word n))) → Writes before after a v
+writes before between after a v n is kept put cells h bare = subst (λ n. after (written cells a (Word n))) is (put cells (kept cells h) bare)
+
+-- a number of 16 bits is what it stands for
+pub same_number : (z y : ℤ) → FitsSigned w16 z → z ≡ y → to_z w16 (of_z w16 z) ≡ y
+same_number z y fits is = to_z-of_z w16 z fits ∙ is
+
+pub same_word : (z : ℤ) (v : Value) (n : ℕ) → FitsSigned w16 z → z ≡ number_of v → v ≡ value_in kinds.Int n
+    → to_z w16 (of_z w16 z) ≡ number_of (value_in kinds.Int n)
+same_word z v n fits is read = same_number z (number_of v) fits is ∙ ap number_of read
+
+pub writes_number : (before between after : Cells → Type 0) (a b : Addr) (z y : ℤ) (n : ℕ) → a ≡ b → z ≡ y → n ≡ cell_of (item.Int z) → Keeps before between
+    → ((cells : Cells) → between cells → cell_blocks (cells a) ≡ 0 → after (written cells a (Word n))) → Writes before after b (item.Int y)
+writes_number before between after a b z y n here is held kept put =
+    subst (λ b. Writes before after b (item.Int y)) here
+    (writes before between after a (item.Int y) n (held ∙ ap (λ z. cell_of (item.Int z)) is) kept put)
+
+pub limit_answers : (before between : Cells → Type 0) (a : Addr) (k n : ℕ) → a ≡ run_cell k → Keeps before between → Answers between a n
+    → Answers before (run_cell k) n
+limit_answers before between a k n here kept answers = subst (λ a. Answers before a n) here (λ cells m h e. answers cells m (kept cells h) e)
+
+-- a cell beside another
+abbrev beside : ℕ → Addr
+beside zero = run_cell 1
+beside (suc k) = run_cell 0
+
+beside_cell : (k : ℕ) → IsCell (beside k)
+beside_cell zero = omega arith
+beside_cell (suc k) = omega arith
+
+there : (cells : Cells) (k : ℕ) (x : Cell) → written cells (beside k) x (beside k) ≡ x
+there cells zero x = refl
+there cells (suc k) x = refl
+
+else : (cells : Cells) (k : ℕ) (x : Cell) → written cells (beside k) x (run_cell k) ≡ cells (run_cell k)
+else cells zero x = refl
+else cells (suc k) x = ap (λ b. cond b x (cells (run_cell (suc k)))) (ne_eqb (suc k) 0 (λ e. omega (arith, e)))
+
+-- another place fits where one does
+place_fits : (a b : Addr) (ops : List Operand) → IsCell b → (ks : List OperandKind) → FitsKinds (At a ∷ ops) ks → FitsKinds (At b ∷ ops) ks
+place_fits a b ops cell [] f = absurd f
+place_fits a b ops cell (OfKind k ∷ ks) f = absurd f.0
+place_fits a b ops cell (AtKind k ∷ ks) f = (cell, f.1)
+
+below_fits : (v : Value) (a b : Addr) (ops : List Operand) → IsCell b → (ks : List OperandKind) → FitsKinds (Of v ∷ At a ∷ ops) ks
+    → FitsKinds (Of v ∷ At b ∷ ops) ks
+below_fits v a b ops cell [] f = absurd f
+below_fits v a b ops cell (k ∷ ks) f = (f.0, place_fits a b ops cell ks f.1)
+
+-- what stands where these operands are pending
+abbrev pub standing : (pc used : ℕ) → Stacked → Position
+standing pc used t = record { pc = pc; ops = t.ops; used = used; frames = t.frames }
+
+abbrev pub with_ops : Stacked → List Operand → Stacked
+with_ops t ops = record { ops = ops; frames = t.frames }
+
+like_at : (pc used : ℕ) (t : Stacked) (ops ops' : List Operand) → ((ks : List OperandKind) → FitsKinds ops ks → FitsKinds ops' ks)
+    → bytes_on ops (bytes_of t.frames) ≡ bytes_on ops' (bytes_of t.frames)
+    → Like (standing pc used (with_ops t ops')) (standing pc used (with_ops t ops))
+like_at pc used t ops ops' fits same = record {
+  pc = refl;
+  frames = refl;
+  fits = λ p f. record {
+    kinds = f.kinds;
+    spot = f.spot;
+    floor = f.floor;
+    next = f.next;
+    operands = fits f.kinds f.operands;
+    frames = f.frames;
+    used = f.used;
+    cells = f.cells;
+    bytes = ap bytes_fit (sym same) ∙ f.bytes;
+  };
+}
+
+-- two operands that were taken, or put back
+pub both : (s t u : Stacked) (a b : Operand) → s ≡ with_ops t (a ∷ t.ops) → t ≡ with_ops u (b ∷ u.ops) → s ≡ with_ops u (a ∷ b ∷ u.ops)
+both s t u a b e f = e ∙ ap (λ (t : Stacked). with_ops t (a ∷ t.ops)) f
+
+if_true : (b : Bool) (m m' : Move) → b ≡ true → m ≡ cond b m m'
+if_true b m m' e = ap (λ b. cond b m m') (sym e)
+
+if_false : (b : Bool) (m m' : Move) → b ≡ false → m' ≡ cond b m m'
+if_false b m m' e = ap (λ b. cond b m m') (sym e)
+
+if_ok : (g : Given) (x : Value) (go : Value → Move) → Ok x ≡ g → go x ≡ or_halt g go
+if_ok g x go e = ap (λ g. or_halt g go) e
+
+if_err : (g : Given) (stop : Stop) (go : Value → Move) → Err stop ≡ g → Halts stop ≡ or_halt g go
+if_err g stop go e = ap (λ g. or_halt g go) e
+
+module _ (before after : Cells → Type 0) where
+  -- the same, of a state that has these operands
+  pub accessed : (i : Instr) (next : Next) (pc used pc' used' : ℕ) (s s' t t' : Stacked) (w : Waits) → w ≡ Nothing → s ≡ t → s' ≡ t'
+      → Accesses before after i (standing pc used t) (free (standing pc' used' t')) next
+      → Accesses before after i (standing pc used s) (record { position = standing pc' used' s'; waits = w }) next
+  accessed i next pc used pc' used' s s' t t' w none e e' h =
+      subst (λ (w : Waits). Accesses before after i (standing pc used s) (record { position = standing pc' used' s'; waits = w }) next) (sym none)
+      (subst (λ (s : Stacked). Accesses before after i (standing pc used s) (free (standing pc' used' s')) next) (sym e)
+      (subst (λ (s' : Stacked). Accesses before after i (standing pc used t) (free (standing pc' used' s')) next) (sym e') h))
+
+  module _ (how : Option Halt) (c' : Control) (marks : ℕ) (c : Position) (s : Scene) where
+    -- where a number is known, it is the one that was answered, and no text stands there
+    on_known : (x : Cell) (go : ℕ → Move) (n : ℕ) → ((m : ℕ) → x ≡ Word m → n ≡ m) → (cell_blocks x ≡ 0 → Does after how c' marks (stage (go n) c s))
+        → Does after how c' marks (stage (on_word x go) c s)
+    on_known Free go n is d = tt
+    on_known (Word m) go n is d = subst (λ k. Does after how c' marks (stage (go k) c s)) (is m refl) (d refl)
+    on_known (Letters t) go n is d = tt
+
+    on_free : (x : Cell) (m : Move) → (cell_blocks x ≡ 0 → Does after how c' marks (stage m c s))
+        → Does after how c' marks (stage (cond (is_free x) m Unknown) c s)
+    on_free Free m d = d refl
+    on_free (Word n) m d = tt
+    on_free (Letters t) m d = tt
+
+    on_number_cell : (x : Cell) (m : Move) → (cell_blocks x ≡ 0 → Does after how c' marks (stage m c s))
+        → Does after how c' marks (stage (cond (takes_number x) m Unknown) c s)
+    on_number_cell Free m d = d refl
+    on_number_cell (Word n) m d = d refl
+    on_number_cell (Letters t) m d = tt
+
+  pub param_so : (k n : ℕ) (a place : Addr) (c : Position) (c' : Control) (next : Next) → a ≡ run_cell (base_of c.frames + k) → place ≡ place_in n
+      → Answers before a n → Keeps before after
+      → ((cells : Cells) (marks : ℕ) → stage_of (halt_of next) c' (scene_of cells marks) ≡ stage (pushes c (At place) c.ops cells) c (scene_of cells marks))
+      → Accesses before after (Param k) c c' next
+  param_so k n a place c c' next is place_is answers kept so p marks =
+      let pushed : (cells : Cells) → stage_of (halt_of next) c' (scene_of cells marks)
+      ≡ stage (pushes c (At (place_in n)) c.ops cells) c (scene_of cells marks) =
+      λ cells. so cells marks ∙ ap (λ a. stage (pushes c (At a) c.ops cells) c (scene_of cells marks)) place_is in
+      record {
+        does = λ cells h.
+            subst (λ a. Does after (halt_of next) c' marks (stage (on_word (cells a) (λ n. pushes c (At (place_in n)) c.ops cells)) c (scene_of cells marks)))
+            is
+            (on_known (halt_of next) c' marks c (scene_of cells marks) (cells a) (λ n. pushes c (At (place_in n)) c.ops cells) n
+            (λ m e. answers cells m h e) (λ bare. done after (halt_of next) c' marks _ cells (kept cells h) (pushed cells)));
+        from = c;
+        like = alike c;
+        cells = λ _. Word n;
+        now = λ _. Word n;
+        leads = pushed (λ _. Word n);
+      }
+
+  module _ (kind : Kind) (n : ℕ) (a : Addr) (pc used : ℕ) (t : Stacked) (answers : Answers before a n) (kept : Keeps before after) where
+    abbrev loading : Position
+    loading = standing pc used (with_ops t (At a ∷ t.ops))
+
+    abbrev loads : Cells → Move
+    loads cells = pushes loading (Of (value_in kind n)) t.ops cells
+
+    load_so : (c' : Control) (next : Next)
+        → ((cells : Cells) (marks : ℕ) → stage_of (halt_of next) c' (scene_of cells marks) ≡ stage (loads cells) loading (scene_of cells marks))
+        → Accesses before after (Load kind) loading c' next
+    load_so c' next so p marks = record {
+      does = λ cells h.
+          on_known (halt_of next) c' marks loading (scene_of cells marks) (cells a) (λ n. pushes loading (Of (value_in kind n)) t.ops cells) n
+          (λ m e. answers cells m h e) (λ bare. done after (halt_of next) c' marks _ cells (kept cells h) (so cells marks));
+      from = loading;
+      like = alike loading;
+      cells = λ _. Word n;
+      now = λ _. Word n;
+      leads = so (λ _. Word n) marks;
+    }
+
+    pub load_goes : bytes_fit (bytes_on (Of (value_in kind n) ∷ t.ops) (bytes_of t.frames)) ≡ true
+        → Accesses before after (Load kind) loading (free (standing (pc + 1) used (with_ops t (Of (value_in kind n) ∷ t.ops)))) On'
+    load_goes room =
+        load_so (free (standing (pc + 1) used (with_ops t (Of (value_in kind n) ∷ t.ops)))) On'
+        (λ cells marks. ap (λ m. stage m loading (scene_of cells marks)) (if_true _ _ _ room))
+
+    pub load_stops : bytes_fit (bytes_on (Of (value_in kind n) ∷ t.ops) (bytes_of t.frames)) ≡ false
+        → Accesses before after (Load kind) loading (free loading) OperandRoom
+    load_stops full = load_so (free loading) OperandRoom (λ cells marks. ap (λ m. stage m loading (scene_of cells marks)) (if_false _ _ _ full))
+
+  pub store_so : (kind : Kind) (v : Value) (a : Addr) (pc used : ℕ) (t : Stacked) → Writes before after a v
+      → Accesses before after (Store kind) (standing pc used (with_ops t (Of v ∷ At a ∷ t.ops))) (free (standing (pc + 1) used t)) On'
+  store_so kind v a pc used t writes p marks =
+      let c = standing pc used (with_ops t (Of v ∷ At a ∷ t.ops)) in
+      let c' = free (standing (pc + 1) used t) in
+      record {
+        does = λ cells h.
+            on_number_cell None c' marks c (scene_of cells marks) (cells a) (goes c t.ops (written cells a (held_of v)))
+            (λ bare. done after None c' marks _ (written cells a (held_of v)) (writes cells h bare) refl);
+        from = c;
+        like = alike c;
+        cells = λ _. Free;
+        now = written (λ _. Free) a (held_of v);
+        leads = refl;
+      }
+
+  pub modify_so : (ch : Change) (n : ℕ) (v x : Value) (a : Addr) (pc used : ℕ) (t : Stacked) → Answers before a n → Writes before after a x
+      → (z w : ℤ) → z ≡ number_of (value_in kinds.Int n) → w ≡ number_of v → Ok x ≡ changed ch z w
+      → Accesses before after (Modify ch) (standing pc used (with_ops t (Of v ∷ At a ∷ t.ops))) (free (standing (pc + 1) used t)) On'
+  modify_so ch n v x a pc used t answers writes z w z_is w_is e p marks =
+      let is : Ok x ≡ changed ch (number_of (value_in kinds.Int n)) (number_of v) = e ∙ ap (λ z. changed ch z w) z_is ∙ ap (changed ch _) w_is in
+      let c = standing pc used (with_ops t (Of v ∷ At a ∷ t.ops)) in
+      let c' = free (standing (pc + 1) used t) in
+      record {
+        does = λ cells h.
+            on_known None c' marks c (scene_of cells marks) (cells a) _ n (λ m e. answers cells m h e)
+            (λ bare. done after None c' marks _ (written cells a (held_of x)) (writes cells h bare) (ap (λ m. stage m c (scene_of cells marks)) (if_ok _ x _ is)));
+        from = c;
+        like = alike c;
+        cells = λ _. Word n;
+        now = written (λ _. Word n) a (held_of x);
+        leads = ap (λ m. stage m c (scene_of (λ _. Word n) marks)) (if_ok _ x _ is);
+      }
+
+  pub modify_stops : (ch : Change) (n : ℕ) (v : Value) (stop : Stop) (next : Next) (a : Addr) (pc used : ℕ) (t : Stacked) → Answers before a n
+      → Keeps before after → (z w : ℤ) → z ≡ number_of (value_in kinds.Int n) → w ≡ number_of v → Err stop ≡ changed ch z w
+      → halt_of next ≡ Some (halts.Stopped stop)
+      → Accesses before after (Modify ch) (standing pc used (with_ops t (Of v ∷ At a ∷ t.ops))) (free (standing pc used (with_ops t (Of v ∷ At a ∷ t.ops))))
+      next
+  modify_stops ch n v stop next a pc used t answers kept z w z_is w_is e how p marks =
+      let is : Err stop ≡ changed ch (number_of (value_in kinds.Int n)) (number_of v) = e ∙ ap (λ z. changed ch z w) z_is ∙ ap (changed ch _) w_is in
+      let c = standing pc used (with_ops t (Of v ∷ At a ∷ t.ops)) in
+      let so : (cells : Cells) → stage_of (halt_of next) (free c) (scene_of cells marks)
+      ≡ stage (or_halt (changed ch (number_of (value_in kinds.Int n)) (number_of v)) (λ x. goes c t.ops (written cells a (held_of x)))) c
+      (scene_of cells marks) =
+      λ cells. ap (λ how. stage_of how (free c) (scene_of cells marks)) how ∙ ap (λ m. stage m c (scene_of cells marks)) (if_err _ stop _ is) in
+      record {
+        does = λ cells h.
+            on_known (halt_of next) (free c) marks c (scene_of cells marks) (cells a) _ n (λ m e. answers cells m h e)
+            (λ bare. done after (halt_of next) (free c) marks _ cells (kept cells h) (so cells));
+        from = c;
+        like = alike c;
+        cells = λ _. Word n;
+        now = λ _. Word n;
+        leads = so (λ _. Word n);
+      }
+
+  pub limit_stops : (way : Way) (to : ℕ) (c : Position) (w : Waits) (both : TopBoth c.ops) → w ≡ Nothing → false ≡ cells_fit (c.used + 1) → Keeps before after
+      → Accesses before after (Limit way to) c (record { position = c; waits = w }) CellRoom
+  limit_stops way to c w both none full kept =
+      plain before after (Limit way to) c (record { position = c; waits = w }) CellRoom (λ cells. cells)
+      (λ cells p marks.
+      ap (λ w. stage_of (halt_of CellRoom) (record { position = c; waits = w }) (scene_of cells marks)) none
+      ∙ ap (λ m. stage m c (scene_of cells marks)) (if_false _ _ _ (sym full))
+      ∙ ap (λ ops. stage (on_value ops (λ v ops. on_place ops (λ x ops. limit_to c way to (number_of v) x ops cells))) c (scene_of cells marks)) (sym both.top))
+      kept
+
+  pub limit_so : (way : Way) (to n : ℕ) (v : Value) (a : Addr) (pc used pc' : ℕ) (t : Stacked) → cells_fit (used + 1) ≡ true → Answers before a n
+      → Writes before after (run_cell used) (item.Int (number_of v)) → (b : Bool) (z w : ℤ) → z ≡ number_of v → w ≡ number_of (value_in kinds.Int n)
+      → b ≡ is_past way z w → pc' ≡ cond b to (pc + 1)
+      → Accesses before after (Limit way to) (standing pc used (with_ops t (Of v ∷ At a ∷ t.ops))) (free (standing pc' (used + 1) t)) On'
+  limit_so way to n v a pc used pc' t room answers writes b z w z_is w_is past e p marks =
+      let is : pc' ≡ cond (is_past way (number_of v) (number_of (value_in kinds.Int n))) to (pc + 1) =
+      e ∙ ap (λ b. cond b to (pc + 1)) (past ∙ ap (λ z. is_past way z w) z_is ∙ ap (is_past way _) w_is) in
+      let c = standing pc used (with_ops t (Of v ∷ At a ∷ t.ops)) in
+      let d = standing pc used (with_ops t (Of v ∷ At (beside used) ∷ t.ops)) in
+      let c' = free (standing pc' (used + 1) t) in
+      let held = held_of (item.Int (number_of v)) in
+      let seen : Cells = written (λ _. Free) (beside used) (Word n) in
+      record {
+        does = λ cells h.
+            subst (λ m. Does after None c' marks (stage m c (scene_of cells marks))) (if_true _ _ _ room)
+            (on_free None c' marks c (scene_of cells marks) (cells (run_cell used)) _ (λ bare.
+            on_known None c' marks c (scene_of cells marks) (cells a) _ n (λ m e. answers cells m h e)
+            (λ read. done after None c' marks _ (written cells (run_cell used) held) (writes cells h bare)
+            (ap (λ pc. On (free (standing pc (used + 1) t)) (scene_of (written cells (run_cell used) held) marks)) is))));
+        from = d;
+        like = like_at pc used t (Of v ∷ At a ∷ t.ops) (Of v ∷ At (beside used) ∷ t.ops) (below_fits v a (beside used) t.ops (beside_cell used)) refl;
+        cells = seen;
+        now = written seen (run_cell used) held;
+        leads =
+            ap (λ pc. On (free (standing pc (used + 1) t)) (scene_of (written seen (run_cell used) held) marks)) is
+            ∙ ap (λ x. stage (on_number x (λ z. Goes (using (at d (cond (is_past way (number_of v) z) to (pc + 1)) t.ops) (used + 1))
+            (written seen (run_cell used) held))) d (scene_of seen marks)) (sym (there (λ _. Free) used (Word n)))
+            ∙ ap (λ x. stage (cond (is_free x) (limits seen) Unknown) d (scene_of seen marks)) (sym (else (λ _. Free) used (Word n)))
+            ∙ ap (λ b. stage (cond b (cond (is_free (seen (run_cell used))) (limits seen) Unknown) (Halts stops.CellRoom)) d (scene_of seen marks)) (sym room);
+      }
+    where
+      limits : Cells → Move
+      limits seen =
+          on_number (seen (beside used)) (λ z.
+          Goes (using (at (standing pc used (with_ops t (Of v ∷ At (beside used) ∷ t.ops))) (cond (is_past way (number_of v) z) to (pc + 1)) t.ops) (used + 1))
+          (written seen (run_cell used) (held_of (item.Int (number_of v)))))
+
+  module _ (way : Way) (to n l : ℕ) (a : Addr) (pc used : ℕ) (t : Stacked) (answers : Answers before a n) (limits : Answers before (run_cell (used - 1)) l)
+      (z w : ℤ) (z_is : z ≡ number_of (value_in kinds.Int l)) (w_is : w ≡ number_of (value_in kinds.Int n)) where
+    reached : (b : Bool) → b ≡ has_reached way z w → has_reached way (number_of (value_in kinds.Int l)) (number_of (value_in kinds.Int n)) ≡ b
+    reached b e = sym (e ∙ ap (λ z. has_reached way z w) z_is ∙ ap (has_reached way _) w_is)
+
+    abbrev at_step : Addr → Position
+    at_step a = standing pc used (with_ops t (At a ∷ t.ops))
+
+    -- what a step does that was answered this limit and this number
+    abbrev steps : Cells → Addr → ℕ → ℕ → Move
+    steps cells a l n =
+        cond (has_reached way (number_of (value_in kinds.Int l)) (number_of (value_in kinds.Int n))) (Goes (at (at_step a) to t.ops) cells)
+        (goes (at_step a) t.ops (written cells a (held_of (item.Int (next_number way (number_of (value_in kinds.Int n)))))))
+
+    -- the cells where this is known
+    abbrev seen : Cells
+    seen = written (λ _. Word l) (beside (used - 1)) (Word n)
+
+    step_so : (c' : Control) (kept : Cells → Addr → Cells)
+        → ((a : Addr) (marks : ℕ) (cells : Cells)
+        → stage_of None c' (scene_of (kept cells a) marks) ≡ stage (steps cells a l n) (at_step a) (scene_of cells marks))
+        → ((cells : Cells) → before cells → cell_blocks (cells a) ≡ 0 → after (kept cells a)) → Accesses before after (Step way to) (at_step a) c' On'
+    step_so c' kept so holds p marks = record {
+      does = λ cells h.
+          on_known None c' marks (at_step a) (scene_of cells marks) (cells (run_cell (used - 1))) _ l (λ m e. limits cells m h e) (λ read.
+          on_known None c' marks (at_step a) (scene_of cells marks) (cells a) _ n (λ m e. answers cells m h e)
+          (λ bare. done after None c' marks _ (kept cells a) (holds cells h bare) (so a marks cells)));
+      from = at_step (beside (used - 1));
+      like = like_at pc used t (At a ∷ t.ops) (At (beside (used - 1)) ∷ t.ops) (place_fits a (beside (used - 1)) t.ops (beside_cell (used - 1))) refl;
+      cells = seen;
+      now = kept seen (beside (used - 1));
+      leads =
+          so (beside (used - 1)) marks seen
+          ∙ ap (λ x. stage (on_word x (λ n. steps seen (beside (used - 1)) l n)) (at_step (beside (used - 1))) (scene_of seen marks))
+          (sym (there (λ _. Word l) (used - 1) (Word n)))
+          ∙ ap (λ x. stage (on_word x (λ l. on_word (seen (beside (used - 1))) (λ n. steps seen (beside (used - 1)) l n))) (at_step (beside (used - 1)))
+          (scene_of seen marks)) (sym (else (λ _. Word l) (used - 1) (Word n)));
+    }
+
+    pub step_ends : Keeps before after → (b : Bool) → b ≡ has_reached way z w → b ≡ true
+        → Accesses before after (Step way to) (at_step a) (free (standing to used t)) On'
+    step_ends kept b e so =
+        let is = reached b e ∙ so in
+        step_so (free (standing to used t)) (λ cells a. cells) (λ a marks cells. ap (λ m. stage m (at_step a) (scene_of cells marks)) (if_true _ _ _ is))
+        (λ cells h bare. kept cells h)
+
+    pub step_goes : Writes before after a (item.Int (next_number way (number_of (value_in kinds.Int n))))
+        → (b : Bool) → b ≡ has_reached way z w → b ≡ false
+        → Accesses before after (Step way to) (at_step a) (free (standing (pc + 1) used t)) On'
+    step_goes writes b e so =
+        let is = reached b e ∙ so in
+        step_so (free (standing (pc + 1) used t)) (λ cells a. written cells a (held_of (item.Int (next_number way (number_of (value_in kinds.Int n))))))
+        (λ a marks cells. ap (λ m. stage m (at_step a) (scene_of cells marks)) (if_false _ _ _ is)) writes

@@ -1,0 +1,71 @@
+-- A request takes the values on top.
+use Rattle.std.proofs.Common.{◌≡◌, ℕ, zero, suc, ◌+◌, ◌-◌, ◌<◌, ◌≤◌, List, [], ◌∷◌, ◌++◌, refl, sym, ap, ◌∙◌, subst, arith}
+use Rattle.std.specs.Prelude.{reverse}
+use Rattle.std.proofs.lemmas.List.{reverse-append}
+use Rattle.eu_base.specs.declared.value.Value.{Value}
+use Rattle.eu_base.specs.Cells.{Cells}
+use Rattle.code_form.specs.declared.operand.Operand.{Operand}
+use Rattle.code_form.specs.declared.operand.Operand.TheVariants.{Value as Of}
+use Rattle.code_form.specs.declared.halt.Halt.TheVariants as halts
+use Rattle.code_form.specs.Machine.{Position, free, After, Spends, Move, Over, on_values, rest_at, stage}
+use Rattle.zero_steps.specs.Finds.{TopValue, TopValues}
+use Rattle.zero_steps.specs.Stepping.{scene_of}
+use Rattle.zero_steps.proofs.Calling.{unspent}
+
+-- what is taken does not depend on what follows
+found : (n : ℕ) (acc : List Value) (ops : List Operand) (go : List Value → List Operand → Move) → TopValues n ops
+    → (vs : List Value) × ((rest : List Operand) × (on_values n acc ops go ≡ go vs rest))
+found zero acc ops go h = (acc, (ops, refl))
+found (suc n) acc ops go h =
+    let r = found n (h.0 ∷ acc) h.1.0 go h.1.2 in (r.0, (r.1.0, ap (λ o. on_values (suc n) acc o go) h.1.1 ∙ r.1.1))
+
+-- without marks a request is due, and takes nothing yet
+pub due : (n : ℕ) (ops : List Operand) (after : List Value → List Operand → After) (c : Position) (cells : Cells) (m : ℕ) → TopValues n ops → m ≡ 0
+    → Over (rest_at halts.Marked (free c) (scene_of cells m)) ≡ stage (on_values n [] ops (λ vs rest. Spends (after vs rest))) c (scene_of cells m)
+due n ops after c cells m h e =
+    let f = found n [] ops (λ vs rest. Spends (after vs rest)) h in
+    unspent m (after f.0 f.1.0) c cells e ∙ ap (λ x. stage x c (scene_of cells m)) (sym f.1.1)
+
+-- so many of these values were taken, and the others are on top
+pub record Taken (count k : ℕ) (before ops : List Operand) (values : List Value) : Type 0 where
+  pub leads : (go : List Value → List Operand → Move) → on_values count [] before go ≡ on_values (count - k) (reverse values) ops go
+  pub finds : TopValues (count - k) ops
+
+pub none_taken : (count : ℕ) (ops : List Operand) (values : List Value) → values ≡ [] → TopValues count ops → Taken count 0 ops ops values
+none_taken count ops values none h =
+    let e : count ≡ count - 0 = omega arith in record {
+      leads = λ go. ap (λ n. on_values n [] ops go) e ∙ ap (λ vs. on_values (count - 0) (reverse vs) ops go) (sym none);
+      finds = subst (λ n. TopValues n ops) e h;
+    }
+
+module _ (count k : ℕ) (before ops : List Operand) (values : List Value) (lt : k < count) (taken : Taken count k before ops values) where
+  one_more : count - k ≡ suc (count - (k + 1))
+  one_more = omega (arith, lt)
+
+  on_top : TopValues (suc (count - (k + 1))) ops
+  on_top = subst (λ n. TopValues n ops) one_more taken.finds
+
+  -- one is on top
+  pub top_value : TopValue ops
+  top_value = record { value = on_top.0; rest = on_top.1.0; top = on_top.1.1 }
+
+  below : (v : Value) (rest : List Operand) → ops ≡ Of v ∷ rest → on_top.1.0 ≡ rest
+  below v rest is = let e : Of on_top.0 ∷ on_top.1.0 ≡ Of v ∷ rest = sym on_top.1.1 ∙ is in cc
+
+  -- one more is taken
+  pub next_taken : (v : Value) (rest : List Operand) (more : List Value) → ops ≡ Of v ∷ rest → more ≡ values ++ v ∷ []
+      → Taken count (k + 1) before rest more
+  next_taken v rest more is pushed =
+      let turned : reverse more ≡ v ∷ reverse values = ap reverse pushed ∙ reverse-append values (v ∷ []) in record {
+        leads =
+            λ go. taken.leads go ∙ ap (λ n. on_values n (reverse values) ops go) one_more
+            ∙ ap (λ o. on_values (suc (count - (k + 1))) (reverse values) o go) is ∙ ap (λ vs. on_values (count - (k + 1)) vs rest go) (sym turned);
+        finds = subst (TopValues (count - (k + 1))) (below v rest is) on_top.1.2;
+      }
+
+-- all are taken
+pub all_taken : (count k : ℕ) (before ops : List Operand) (values : List Value) → count ≤ k → Taken count k before ops values
+    → (go : List Value → List Operand → Move) → on_values count [] before go ≡ go (reverse values) ops
+all_taken count k before ops values le taken go =
+    let e : count - k ≡ 0 = omega (arith, le) in
+    taken.leads go ∙ ap (λ n. on_values n (reverse values) ops go) e

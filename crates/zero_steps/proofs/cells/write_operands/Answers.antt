@@ -1,0 +1,21 @@
+use Rattle.std.proofs.Common.{length, map, subst, arith}
+use Rattle.code_form.specs.Machine.{held_of_operand}
+use Rattle.zero_steps.proofs.Stacks.{bare_next, written_more, written_all}
+use Rattle.zero_steps.proofs.cells.write_operands.Goals as goal
+
+pub loop-index-preserved : goal.loop-index-preserved
+loop-index-preserved g c = record {
+  written = λ cells h bare.
+      subst (g.M.Memory.holds c.write_number.new.m)
+      (written_more held_of_operand c.args.at c.loop-index.index c.args.operands.now _ _ cells c.loop-index-test.true c.number_of.ensures)
+      (c.in_ok-write_number.ensures.written _ (c.loop-index.invariant.written cells h bare)
+      (bare_next c.args.at c.loop-index.index (length c.args.operands.now) (map held_of_operand c.args.operands.now) cells c.loop-index-test.true bare));
+  later = omega (arith, c.loop-index.invariant.later, c.write_number.ensures.cause.later);
+  follows = g.met.M.Memory.transitive _ _ _ c.loop-index.invariant.follows c.write_number.ensures.follows;
+}
+
+pub returns-clause-written : goal.returns-clause-written
+returns-clause-written g c = λ cells h bare.
+    subst (g.M.Memory.holds c.loop-index.m)
+    (written_all held_of_operand c.args.at c.loop-index.index c.args.operands.now cells c.loop-index-test.false c.loop-index.auto.index-end)
+    (c.loop-index.invariant.written cells h bare)

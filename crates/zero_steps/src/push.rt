@@ -1,0 +1,57 @@
+//! Operands are pushed where they have room.
+ghost use Rattle.std.specs.Prelude.{◌≡◌, ℕ, ◌+◌, ◌^◌, ◌<◌, true, IfOk};
+ghost use Rattle.eu_base.specs.Cells.{Cells};
+ghost use Rattle.code_form.specs.Machine.{pushes, stage};
+ghost use Rattle.zero_steps.specs.Stepping.{position_of, control_of, scene_of, stage_of, halt_of, given_of, has_room, fits_with, pushed, IsReady, GivesSo};
+
+use crate::next::Next;
+use crate::operations::Fault;
+use crate::state::State;
+use code_form::Operand;
+use eu_base::{NoMemory, Value};
+
+/// Whether an operand has room. It is pushed then, and the machine goes on; else nothing is done.
+pub fn push(s: &mut State, operand: Operand) -> Result<bool, NoMemory>
+    requires room { has_room s.old ≡ true }
+    requires next { s.old.pc + 1 < 2 ^ 64 }
+    ensures room { IfOk result (λ fits. fits ≡ fits_with s.old operand) }
+    ensures goes { IfOk result (λ fits. control_of s.new ≡ pushed s.old operand fits) }
+{
+    if !s.stack.has_room(&operand) {
+        return Ok(false);
+    }
+    s.stack.push(operand)?;
+    s.pc += 1;
+    Ok(true)
+}
+
+/// Pushes an operand, or stops.
+pub fn push_on(s: &mut State, operand: Operand) -> Result<Next, NoMemory>
+    requires { IsReady s.old }
+    ensures { IfOk result (λ next. (cells : Cells) (marks : ℕ) → stage_of (halt_of next) (control_of s.new) (scene_of cells marks) ≡ stage
+        (pushes (position_of s.old) operand s.old.stack.ops cells) (position_of s.old) (scene_of cells marks)) }
+{
+    if push(s, operand)? {
+        Ok(Next::On)
+    } else {
+        Ok(Next::OperandRoom)
+    }
+}
+
+/// Pushes what an operation gives; what stops it, or `None` where the machine goes on.
+pub fn give(s: &mut State, given: Result<Value, Fault>) -> Result<Option<Next>, NoMemory>
+    requires room { has_room s.old ≡ true }
+    requires next { s.old.pc + 1 < 2 ^ 64 }
+    ensures { IfOk result (GivesSo (given_of given) s.old s.new) }
+{
+    match given {
+        Ok(value) => {
+            if push(s, Operand::Value(value))? {
+                Ok(None)
+            } else {
+                Ok(Some(Next::OperandRoom))
+            }
+        }
+        Err(fault) => Ok(Some(fault.next())),
+    }
+}

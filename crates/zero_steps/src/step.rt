@@ -1,0 +1,212 @@
+//! What single instructions do.
+ghost use Rattle.std.specs.Prelude.{◌≡◌, ℕ, ◌+◌, ◌≤◌, ◌∷◌, OnOk, IfOk, Some, None, false};
+ghost use Rattle.eu_base.specs.Cells.{Cells, IsCell, run_cell, without, HasFaultCause};
+ghost use Rattle.eu_base.specs.Operations.{operand_kinds, has_reached, next_number};
+ghost use Rattle.code_form.specs.declared.operand.Operand.TheVariants as operand;
+ghost use Rattle.code_form.specs.declared.instr.Instr.TheVariants as instrs;
+ghost use Rattle.code_form.specs.Machine.{base_of, pushes, instruction, stage};
+ghost use Rattle.zero_steps.specs.declared.next.Next.TheVariants as nexts;
+ghost use Rattle.zero_steps.specs.Finds.{TopValue, TopPlace, TopBoth};
+ghost use Rattle.zero_steps.specs.Stepping.{position_of, control_of, scene_of, stage_of, halt_of, IsReady, GoesOn, StepsSo, Accesses};
+
+use crate::cells::{have_room, place_in, run_cell};
+use crate::next::Next;
+use crate::operations::{change, has_reached, is_past};
+use crate::push::{push, push_on};
+use crate::state::State;
+use code_form::Operand;
+use eu_base::{Change, Kind, MemFault, Memory, NoMemory, Value, Way};
+
+/// OUTER
+pub fn outer(s: &mut State, cell: usize) -> Result<Next, NoMemory>
+    requires ready { IsReady s.old }
+    requires finds { IsCell (run_cell cell) }
+    ensures { IfOk result (λ next. (cells : Cells) → StepsSo (instrs.Outer cell) (position_of s.old) cells (control_of s.new) cells next) }
+{
+    push_on(s, Operand::Place(run_cell(cell)))
+}
+
+/// LOCAL
+pub fn local(s: &mut State, cell: usize) -> Result<Next, NoMemory>
+    requires ready { IsReady s.old }
+    requires finds { IsCell (run_cell (base_of s.old.stack.frames + cell)) }
+    ensures { IfOk result (λ next. (cells : Cells) → StepsSo (instrs.Local cell) (position_of s.old) cells (control_of s.new) cells next) }
+{
+    let at = run_cell(s.stack.base() + cell);
+    push_on(s, Operand::Place(at))
+}
+
+/// PARAM
+pub fn param<M: Memory>(s: &mut State, m: &mut M, cell: usize) -> Result<Next, MemFault>
+    requires ready { IsReady s.old }
+    requires finds { IsCell (run_cell (base_of s.old.stack.frames + cell)) }
+    ensures goes { IfOk result (Accesses (M.holds m.old) (M.holds m.new) (instrs.Param cell) (position_of s.old) (control_of s.new)) }
+    ensures cause { HasFaultCause (M.faults m.old) (M.faults m.new) result }
+    ensures follows { M.follows m.old m.new }
+{
+    let at = run_cell(s.stack.base() + cell);
+    let place = place_in(m.cell(at)?);
+    let next = push_on(s, Operand::Place(place))?;
+    Ok(next)
+}
+
+/// LOAD
+pub fn load<M: Memory>(s: &mut State, m: &mut M, kind: Kind) -> Result<Next, MemFault>
+    requires ready { IsReady s.old }
+    requires finds { TopPlace s.old.stack.ops }
+    ensures goes { IfOk result (Accesses (M.holds m.old) (M.holds m.new) (instrs.Load kind) (position_of s.old) (control_of s.new)) }
+    ensures cause { HasFaultCause (M.faults m.old) (M.faults m.new) result }
+    ensures follows { M.follows m.old m.new }
+{
+    let at = s.stack.pop_place();
+    let value = kind.value_in(m.cell(at)?);
+    if push(s, Operand::Value(value))? {
+        return Ok(Next::On);
+    }
+    s.stack.push(Operand::Place(at))?;
+    Ok(Next::OperandRoom)
+}
+
+/// STORE
+pub fn store<M: Memory>(s: &mut State, m: &mut M, kind: Kind) -> Result<(), MemFault>
+    requires ready { IsReady s.old }
+    requires finds { TopBoth s.old.stack.ops }
+    ensures goes { OnOk result (Accesses (M.holds m.old) (M.holds m.new) (instrs.Store kind) (position_of s.old) (control_of s.new) nexts.On) }
+    ensures cause { HasFaultCause (M.faults m.old) (M.faults m.new) result }
+    ensures follows { M.follows m.old m.new }
+{
+    let value = s.stack.pop_value();
+    let at = s.stack.pop_place();
+    m.set_cell(at, value.cell())?;
+    s.pc += 1;
+    Ok(())
+}
+
+/// Jumps where FALSE is on top.
+pub fn jump_false(s: &mut State, to: usize)
+    requires ready { IsReady s.old }
+    requires finds { TopValue s.old.stack.ops }
+    ensures { (cells : Cells) → GoesOn (instrs.False to) (position_of s.old) cells (control_of s.new) cells }
+{
+    if s.stack.pop_value().truth() {
+        s.pc += 1;
+    } else {
+        s.pc = to;
+    }
+}
+
+/// WHEN
+pub fn when(s: &mut State, label: i16, to: usize) -> Result<(), NoMemory>
+    requires ready { IsReady s.old }
+    requires finds { TopValue s.old.stack.ops }
+    ensures { OnOk result ((cells : Cells) → GoesOn (instrs.When label to) (position_of s.old) cells (control_of s.new) cells) }
+{
+    let value = s.stack.pop_value();
+    if value.number() == label {
+        s.pc = to;
+    } else {
+        s.stack.push(Operand::Value(value))?;
+        s.pc += 1;
+    }
+    Ok(())
+}
+
+/// DROP
+pub fn drop_value(s: &mut State)
+    requires ready { IsReady s.old }
+    requires finds { TopValue s.old.stack.ops }
+    ensures { (cells : Cells) → GoesOn instrs.Drop (position_of s.old) cells (control_of s.new) cells }
+{
+    let _value = s.stack.pop_value();
+    s.pc += 1;
+}
+
+/// LIMIT. The limit is kept in the next cell.
+pub fn limit<M: Memory>(s: &mut State, m: &mut M, way: Way, to: usize) -> Result<Next, MemFault>
+    requires ready { IsReady s.old }
+    requires finds { TopBoth s.old.stack.ops }
+    ensures goes { IfOk result (Accesses (M.holds m.old) (M.holds m.new) (instrs.Limit way to) (position_of s.old) (control_of s.new)) }
+    ensures cause { HasFaultCause (M.faults m.old) (M.faults m.new) result }
+    ensures follows { M.follows m.old m.new }
+{
+    if !have_room(s.used, 1) {
+        return Ok(Next::CellRoom);
+    }
+    let limit = s.stack.pop_value().number();
+    let at = s.stack.pop_place();
+    let number = Kind::Int.value_in(m.cell(at)?).number();
+    m.set_cell(run_cell(s.used), Value::Int(limit).cell())?;
+    s.used += 1;
+    if is_past(way, limit, number) {
+        s.pc = to;
+    } else {
+        s.pc += 1;
+    }
+    Ok(Next::On)
+}
+
+/// UNLIMIT
+pub fn unlimit(s: &mut State)
+    requires ready { IsReady s.old }
+    requires finds { 1 ≤ s.old.used }
+    ensures { (cells : Cells) → GoesOn instrs.Unlimit (position_of s.old) cells (control_of s.new) (without s.new.used s.old.used cells) }
+{
+    s.used -= 1;
+    s.pc += 1;
+}
+
+/// UP and DOWN
+pub fn step<M: Memory>(s: &mut State, m: &mut M, way: Way, to: usize) -> Result<(), MemFault>
+    requires ready { IsReady s.old }
+    requires finds { TopPlace s.old.stack.ops }
+    requires limit { 1 ≤ s.old.used }
+    ensures goes { OnOk result (Accesses (M.holds m.old) (M.holds m.new) (instrs.Step way to) (position_of s.old) (control_of s.new) nexts.On) }
+    ensures cause { HasFaultCause (M.faults m.old) (M.faults m.new) result }
+    ensures follows { M.follows m.old m.new }
+{
+    let at = s.stack.pop_place();
+    let number = Kind::Int.value_in(m.cell(at)?).number();
+    let limit = Kind::Int.value_in(m.cell(run_cell(s.used - 1))?).number();
+    if has_reached(way, limit, number) {
+        s.pc = to;
+        return Ok(());
+    }
+    m.set_cell(at, Value::Int(next(way, limit, number)).cell())?;
+    s.pc += 1;
+    Ok(())
+}
+
+fn next(way: Way, limit: i16, number: i16) -> i16
+    requires { has_reached way limit number ≡ false }
+    ensures { result ≡ next_number way number }
+{
+    match way {
+        Way::Up => number + 1,
+        Way::Down => number - 1,
+    }
+}
+
+/// DO of INCR and DECR.
+pub fn modify<M: Memory>(s: &mut State, m: &mut M, by: Change) -> Result<Next, MemFault>
+    requires ready { IsReady s.old }
+    requires finds { TopBoth s.old.stack.ops }
+    ensures goes { IfOk result (Accesses (M.holds m.old) (M.holds m.new) (instrs.Modify by) (position_of s.old) (control_of s.new)) }
+    ensures cause { HasFaultCause (M.faults m.old) (M.faults m.new) result }
+    ensures follows { M.follows m.old m.new }
+{
+    let operand = s.stack.pop_value();
+    let at = s.stack.pop_place();
+    let number = Kind::Int.value_in(m.cell(at)?).number();
+    match change(by, number, operand.number()) {
+        Ok(value) => {
+            m.set_cell(at, value.cell())?;
+            s.pc += 1;
+            Ok(Next::On)
+        }
+        Err(fault) => {
+            s.stack.push(Operand::Place(at))?;
+            s.stack.push(Operand::Value(operand))?;
+            Ok(fault.next())
+        }
+    }
+}
