@@ -1,0 +1,29 @@
+use Rattle.std.proofs.Common.{arith}
+use Rattle.elan_grammar.specs.Expressions as expressions
+use Rattle.elan_grammar.proofs.Turns.{turns}
+use Rattle.elan_grammar.proofs.Deepest.{deepens}
+use Rattle.form_parser.proofs.inner.Inner.branches.Goals as goal
+
+pub loop-turn-init : goal.loop-turn-init
+unfolding expressions.branches
+loop-turn-init g c = grind (arith, deepens)
+
+pub returns-then-not-sees_key : goal.returns-then-not-sees_key
+unfolding expressions.branches
+returns-then-not-sees_key g c = grind (arith, turns)
+
+pub returns-in_err-items : goal.returns-in_err-items
+unfolding expressions.branches
+returns-in_err-items g c = grind (arith, turns)
+
+pub returns-in_err-row-2 : goal.returns-in_err-row-2
+unfolding expressions.branches
+returns-in_err-row-2 g c = grind (arith, turns)
+
+pub loop-turn-preserved : goal.loop-turn-preserved
+unfolding expressions.branches
+loop-turn-preserved g c = grind (arith, turns, deepens)
+
+pub returns : goal.returns
+unfolding expressions.branches
+returns g c = grind (arith, turns)

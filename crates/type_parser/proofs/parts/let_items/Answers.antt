@@ -1,0 +1,29 @@
+use Rattle.std.proofs.Common.{arith}
+use Rattle.elan_grammar.specs.Types as types
+use Rattle.elan_grammar.proofs.Turns.{turns}
+use Rattle.elan_grammar.proofs.Deepest.{deepens}
+use Rattle.type_parser.proofs.parts.let_items.Goals as goal
+
+pub loop-turn-init : goal.loop-turn-init
+unfolding types.let_items
+loop-turn-init c = grind (arith, deepens)
+
+pub returns-then-not-sees_sign : goal.returns-then-not-sees_sign
+unfolding types.let_items
+returns-then-not-sees_sign c = grind (arith, turns)
+
+pub returns-in_err-items : goal.returns-in_err-items
+unfolding types.let_items
+returns-in_err-items c = grind (arith, turns)
+
+pub returns-in_err-row-2 : goal.returns-in_err-row-2
+unfolding types.let_items
+returns-in_err-row-2 c = grind (arith, turns)
+
+pub loop-turn-preserved : goal.loop-turn-preserved
+unfolding types.let_items
+loop-turn-preserved c = grind (arith, turns, deepens)
+
+pub returns : goal.returns
+unfolding types.let_items
+returns c = grind (arith, turns)

@@ -1,0 +1,29 @@
+use Rattle.std.proofs.Common.{arith}
+use Rattle.elan_grammar.specs.Types as types
+use Rattle.elan_grammar.proofs.Turns.{turns}
+use Rattle.elan_grammar.proofs.Deepest.{deepens}
+use Rattle.type_parser.proofs.type_phrases.TypeRules.fields.Goals as goal
+
+pub loop-turn-init : goal.loop-turn-init
+unfolding types.fields
+loop-turn-init g c = grind (arith, deepens)
+
+pub returns-then-not-sees_sign : goal.returns-then-not-sees_sign
+unfolding types.fields
+returns-then-not-sees_sign g c = grind (arith, turns)
+
+pub returns-in_err-fields : goal.returns-in_err-fields
+unfolding types.fields
+returns-in_err-fields g c = grind (arith, turns)
+
+pub returns-in_err-row-2 : goal.returns-in_err-row-2
+unfolding types.fields
+returns-in_err-row-2 g c = grind (arith, turns)
+
+pub loop-turn-preserved : goal.loop-turn-preserved
+unfolding types.fields
+loop-turn-preserved g c = grind (arith, turns, deepens)
+
+pub returns : goal.returns
+unfolding types.fields
+returns g c = grind (arith, turns)
