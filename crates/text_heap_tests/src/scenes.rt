@@ -16,25 +16,26 @@ const LENGTHS: [(usize, u16); 7] = [
     (30, 4094),
 ];
 
+/// A text is told by its length and the seed of its bytes. A shorter one of the same seed is its front.
+#[derive(Clone, Copy)]
+struct Content {
+    length: usize,
+    seed: u32,
+}
+
 // The next of a run of numbers without order.
 fn next(seed: &mut u32) -> u32 {
     *seed = seed.wrapping_mul(1_664_525).wrapping_add(1_013_904_223);
     *seed >> 8
 }
 
-// A text of this length, another for each seed.
-fn text(alloc: Global, length: usize, seed: u32) -> Result<Bytes, NoMemory> {
+fn text(alloc: Global, content: Content) -> Result<Bytes, NoMemory> {
     let mut bytes = Bytes::new(alloc);
-    let mut seed = seed;
-    for _ in 0..length {
+    let mut seed = content.seed;
+    for _ in 0..content.length {
         bytes.append(&[(next(&mut seed) % 256) as u8])?;
     }
     Ok(bytes)
-}
-
-// The first bytes of a text.
-fn front(t: &[u8], length: usize) -> &[u8] {
-    &t[..length.min(t.len())]
 }
 
 // One number out of the bytes of so many cells from the first on; the blocks count as as many cells.
@@ -52,101 +53,129 @@ fn digest<S: Space>(space: &mut S, cells: u32) -> Result<u64, MemFault>
     Ok(sum)
 }
 
-fn has<S: Space>(alloc: Global, space: &mut S, cell: u16, t: &[u8]) -> Result<bool, MemFault>
+fn has<S: Space>(alloc: Global, space: &mut S, cell: u16, t: &[u8]) -> bool
     requires { cell < 16384 }
 {
-    let found = get(alloc, space, cell)?;
-    Ok(found.as_slice() == t)
+    match get(alloc, space, cell) {
+        Ok(found) => found.as_slice() == t,
+        Err(_) => false,
+    }
+}
+
+fn has_text<S: Space>(alloc: Global, space: &mut S, cell: u16, content: Content) -> bool
+    requires { cell < 16384 }
+{
+    match text(alloc, content) {
+        Ok(t) => has(alloc, space, cell, t.as_slice()),
+        Err(_) => false,
+    }
+}
+
+// A text is put into a cell.
+fn is_put<S: Space>(alloc: Global, space: &mut S, cell: u16, content: Content) -> bool
+    requires { cell < 16384 }
+{
+    match text(alloc, content) {
+        Ok(t) => set(space, cell, t.as_slice()) == Ok(Set::Done),
+        Err(_) => false,
+    }
 }
 
 // A text is put into a cell, and comes back from it.
-fn comes_back<S: Space>(alloc: Global, space: &mut S, cell: u16, t: &[u8]) -> Result<bool, MemFault>
+fn comes_back<S: Space>(alloc: Global, space: &mut S, cell: u16, content: Content) -> bool
     requires { cell < 16384 }
 {
-    let done = set(space, cell, t)? == Set::Done;
-    let there = has(alloc, space, cell, t)?;
-    Ok(done && there)
+    is_put(alloc, space, cell, content) && has_text(alloc, space, cell, content)
 }
 
 // Texts of each length, one after another in the last cell.
-fn each_length<S: Space>(alloc: Global, space: &mut S) -> Result<bool, MemFault> {
+fn each_length<S: Space>(alloc: Global, space: &mut S) -> bool {
     let mut right = true;
     for (length, free) in LENGTHS {
-        let bytes = text(alloc, length, 5)?;
-        let back = comes_back(alloc, space, 16_383, bytes.as_slice())?;
-        let left = rooms(space)?;
-        right = right && back && left == free;
+        let back = comes_back(alloc, space, 16_383, Content { length, seed: 5 });
+        right = back && rooms(space) == Ok(free) && right;
     }
-    clear(space, 16_383)?;
-    let back = has(alloc, space, 16_383, b"")?;
-    let left = rooms(space)?;
-    Ok(right && back && left == 4096)
+    let cleared = clear(space, 16_383) == Ok(());
+    let back = has(alloc, space, 16_383, b"");
+    right && cleared && back && rooms(space) == Ok(4096)
+}
+
+fn refuses<S: Space>(space: &mut S, cell: u16, t: &[u8]) -> bool
+    requires { cell < 16384 }
+{
+    let before = digest(space, 32_768);
+    let full = set(space, cell, t) == Ok(Set::HeapFull);
+    full && before.is_ok() && digest(space, 32_768) == before
 }
 
 // The space has no room for the text, and no byte of it changes.
-fn is_full<S: Space>(space: &mut S, cell: u16, t: &[u8]) -> Result<bool, MemFault>
+fn is_full<S: Space>(alloc: Global, space: &mut S, cell: u16, content: Content) -> bool
     requires { cell < 16384 }
 {
-    let before = digest(space, 32_768)?;
-    let full = set(space, cell, t)? == Set::HeapFull;
-    let after = digest(space, 32_768)?;
-    Ok(full && after == before)
+    match text(alloc, content) {
+        Ok(t) => refuses(space, cell, t.as_slice()),
+        Err(_) => false,
+    }
+}
+
+fn long(length: usize) -> Content {
+    Content { length, seed: 6 }
 }
 
 // All blocks are taken, and then one more is wanted.
-fn all_blocks<S: Space>(alloc: Global, space: &mut S) -> Result<bool, MemFault> {
-    let long = text(alloc, 114_689, 6)?;
-    let long = long.as_slice();
-    let too_long = is_full(space, 0, long)?;
-    let all = comes_back(alloc, space, 0, front(long, 114_688))?;
-    let one_more = is_full(space, 1, b"x")?;
-    let one_byte_more = is_full(space, 0, long)?;
-    let none = comes_back(alloc, space, 1, b"")?;
-    let one_less = comes_back(alloc, space, 0, front(long, 114_660))?;
-    let last = comes_back(alloc, space, 1, front(long, 28))?;
-    let no_more = is_full(space, 1, front(long, 29))?;
-    let still = has(alloc, space, 0, front(long, 114_660))?;
-    let left = rooms(space)?;
-    Ok(
-        too_long
-            && all
-            && one_more
-            && one_byte_more
-            && none
-            && one_less
-            && last
-            && no_more
-            && still
-            && left == 0,
-    )
+fn all_blocks<S: Space>(alloc: Global, space: &mut S) -> bool {
+    let too_long = is_full(alloc, space, 0, long(114_689));
+    let all = comes_back(alloc, space, 0, long(114_688));
+    let one_more = is_full(alloc, space, 1, long(1));
+    let one_byte_more = is_full(alloc, space, 0, long(114_689));
+    let none = comes_back(alloc, space, 1, long(0));
+    let most = too_long && all && one_more && one_byte_more && none;
+    let one_less = comes_back(alloc, space, 0, long(114_660));
+    let last = comes_back(alloc, space, 1, long(28));
+    let no_more = is_full(alloc, space, 1, long(29));
+    let still = has_text(alloc, space, 0, long(114_660));
+    most && one_less && last && no_more && still && rooms(space) == Ok(0)
 }
 
-// The length and the seed of a cell's text after so many rounds, in which each cell gets another one.
-fn of_round(round: u32, cell: u16) -> (usize, u32) {
+// The text of a cell after so many rounds, in which each cell gets another one.
+fn of_round(round: u32, cell: u16) -> Content {
     let mut seed = round.wrapping_mul(65_536).wrapping_add(u32::from(cell));
     let length = next(&mut seed) % 600;
-    (length as usize, seed)
+    Content {
+        length: length as usize,
+        seed,
+    }
+}
+
+// 200 cells get another text.
+fn change<S: Space>(alloc: Global, space: &mut S, round: u32) -> bool {
+    let mut right = true;
+    for cell in 0..200u16 {
+        right = is_put(alloc, space, 80 * cell, of_round(round, cell)) && right;
+    }
+    right
+}
+
+// They have these texts, and each other block is free.
+fn are_there<S: Space>(alloc: Global, space: &mut S, round: u32) -> bool {
+    let mut right = true;
+    let mut taken = 0usize;
+    for cell in 0..200u16 {
+        let content = of_round(round, cell);
+        right = has_text(alloc, space, 80 * cell, content) && right;
+        taken = taken.saturating_add(content.length.div_ceil(28));
+    }
+    let left = rooms(space).unwrap_or(0);
+    right && taken.saturating_add(usize::from(left)) == 4096
 }
 
 // 200 texts, each changed in so many rounds, and read back in the end.
-fn many_texts<S: Space>(alloc: Global, space: &mut S, rounds: u32) -> Result<bool, MemFault> {
+fn many_texts<S: Space>(alloc: Global, space: &mut S, rounds: u32) -> bool {
     let mut right = true;
     for round in 0..rounds {
-        for cell in 0..200u16 {
-            let (length, seed) = of_round(round, cell);
-            let bytes = text(alloc, length, seed)?;
-            right = right && set(space, 80 * cell, bytes.as_slice())? == Set::Done;
-        }
+        right = change(alloc, space, round) && right;
     }
-    let mut taken = 0usize;
-    for cell in 0..200u16 {
-        let (length, seed) = of_round(rounds.saturating_sub(1), cell);
-        let bytes = text(alloc, length, seed)?;
-        right = right && has(alloc, space, 80 * cell, bytes.as_slice())?;
-        taken = taken.saturating_add(length.div_ceil(28));
-    }
-    let left = rooms(space)?;
-    Ok(right && taken.saturating_add(usize::from(left)) == 4096)
+    right && are_there(alloc, space, rounds.saturating_sub(1))
 }
 
 // Every byte of a space gets some value.
@@ -162,40 +191,48 @@ fn any_bytes<S: Space>(space: &mut S, seed: u32) -> Result<(), MemFault> {
 }
 
 // A block that is linked to itself, to which the last cell leads with as many bytes as a space has room for.
-fn a_circle<S: Space>(space: &mut S) -> Result<(), MemFault> {
-    space.write(131_072, &[1, 0])?;
-    space.write(131_064, &[0, 192, 1, 0, 0, 0, 0, 0])?;
-    Ok(())
+fn is_circle<S: Space>(space: &mut S) -> bool {
+    let block = space.write(131_072, &[1, 0]) == Ok(());
+    let cell = space.write(131_064, &[0, 192, 1, 0, 0, 0, 0, 0]) == Ok(());
+    block && cell
+}
+
+// The blocks can be counted, and no byte has changed.
+fn is_kept<S: Space>(space: &mut S, whole: Result<u64, MemFault>) -> bool {
+    let left = rooms(space).unwrap_or(u16::MAX);
+    left <= 4096 && whole.is_ok() && digest(space, 32_768) == whole
+}
+
+// Texts are put into the last cell, and no other one changes.
+fn writes_return<S: Space>(space: &mut S, found: &[u8]) -> bool {
+    let cells = digest(space, 16_383);
+    let two_blocks = b"a text of two blocks, which is none too many";
+    let short = set(space, 16_383, two_blocks).is_ok() && digest(space, 16_383) == cells;
+    let full = set(space, 16_383, found).is_ok();
+    let cleared = clear(space, 16_383) == Ok(());
+    short && full && cleared && cells.is_ok() && digest(space, 16_383) == cells
 }
 
 // Each call returns where the space holds no texts, and changes no cell but the last.
-fn every_call_returns<S: Space>(alloc: Global, space: &mut S) -> Result<bool, MemFault> {
-    let cells = digest(space, 16_383)?;
-    let whole = digest(space, 32_768)?;
-    let found = get(alloc, space, 16_383)?;
-    let left = rooms(space)?;
-    let read = digest(space, 32_768)? == whole;
-    let _set = set(
-        space,
-        16_383,
-        b"a text of two blocks, which is none too many",
-    )?;
-    let short = digest(space, 16_383)? == cells;
-    let _full = set(space, 16_383, found.as_slice())?;
-    clear(space, 16_383)?;
-    let same = digest(space, 16_383)? == cells;
-    Ok(found.as_slice().len() <= 114_688 && left <= 4096 && read && short && same)
+fn every_call_returns<S: Space>(alloc: Global, space: &mut S) -> bool {
+    let whole = digest(space, 32_768);
+    match get(alloc, space, 16_383) {
+        Ok(found) => {
+            let kept = found.as_slice().len() <= 114_688 && is_kept(space, whole);
+            kept && writes_return(space, found.as_slice())
+        }
+        Err(_) => false,
+    }
 }
 
 // The same where each byte has some value, and before that where a text leads in a circle.
-fn calls_return<S: Space>(alloc: Global, space: &mut S) -> Result<bool, MemFault> {
-    a_circle(space)?;
-    let mut right = every_call_returns(alloc, space)?;
+fn calls_return<S: Space>(alloc: Global, space: &mut S) -> bool {
+    let mut right = is_circle(space) && every_call_returns(alloc, space);
     for seed in 0..2 {
-        any_bytes(space, seed)?;
-        right = right && every_call_returns(alloc, space)?;
+        let written = any_bytes(space, seed).is_ok();
+        right = written && every_call_returns(alloc, space) && right;
     }
-    Ok(right)
+    right
 }
 
 /// What is done with a space that nothing was written to.
@@ -210,12 +247,9 @@ pub enum Scene {
 }
 
 /// Whether all goes in a scene as it should.
-pub fn is_right<S: Space>(alloc: Global, space: &mut S, scene: Scene) -> Result<bool, MemFault> {
+pub fn is_right<S: Space>(alloc: Global, space: &mut S, scene: Scene) -> bool {
     match scene {
-        Scene::UntilFull => {
-            let lengths = each_length(alloc, space)?;
-            Ok(lengths && all_blocks(alloc, space)?)
-        }
+        Scene::UntilFull => each_length(alloc, space) && all_blocks(alloc, space),
         Scene::Changes => many_texts(alloc, space, 4),
         Scene::AnyBytes => calls_return(alloc, space),
     }
