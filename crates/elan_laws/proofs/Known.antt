@@ -17,10 +17,15 @@ use Rattle.elan_rules.specs.Meaning.{judged}
 use Rattle.elan_rules.proofs.First.{judged_of}
 use Rattle.elan_levels.specs.Bodies.{headings}
 use Rattle.elan_check.specs.Level.{level_in, level_bodies}
-use Rattle.elan_check.specs.Refinements.{delivery_of, last_unit, outcome, told, unit_delivery, known_after}
+use Rattle.elan_check.specs.Refinements.{delivery_of, last_unit, outcome, unit_delivery, known_after}
 use Rattle.elan_check.proofs.Inferred.{Below, same_meaning}
 use Rattle.elan_check.proofs.Settled.{not_open, from, told_found, open_last}
 use Rattle.elan_laws.specs.Settled.{Delivers, Settles, IsSettled}
+
+-- what a heading says
+abbrev says : What → Delivery
+says (Routine sort ps r) = delivered r
+says (Refinement home) = Open
 
 never_open : (r : Option ElanType) → delivered r ≡ Open → ⊥
 never_open None e = absurd cc
@@ -52,16 +57,16 @@ module _ (hs : List Heading) (us : List Phrase) (i : ℕ) (h : Heading) (u : Phr
   unknown (Some p) d e g = λ m w. absurd (not_open m (sym (ap outcome (judged_of k p m w)) ∙ g))
 
   abbrev From : Delivery → Type 0
-  From d = (d ≡ told h.what) ⊎ ((j : ℕ) × Below (known_after j hs us) k × (d ≡ unit_delivery (known_after j hs us) (last_unit u)))
+  From d = (d ≡ says h.what) ⊎ ((j : ℕ) × Below (known_after j hs us) k × (d ≡ unit_delivery (known_after j hs us) (last_unit u)))
 
-  in_some_round : (d : Delivery) → told h.what ≡ Open → From d → (d ≡ Open → ⊥) → Delivers k (last_unit u) d
+  in_some_round : (d : Delivery) → says h.what ≡ Open → From d → (d ≡ Open → ⊥) → Delivers k (last_unit u) d
   in_some_round d untold f n =
       elim f [
         | inl g ↦ absurd (n (g ∙ untold))
         | inr g ↦ found (known_after g.0 hs us) (last_unit u) d g.1 g.2 n
       ]
 
-  refinement_settles : told h.what ≡ Open → Delivers k (last_unit u) (delivery_at k i)
+  refinement_settles : says h.what ≡ Open → Delivers k (last_unit u) (delivery_at k i)
   refinement_settles untold =
       let f = from hs us i h u has does (length hs) in
       let e = at_index k.deliveries i f.0 f.1 in
@@ -80,9 +85,9 @@ module _ (hs : List Heading) (us : List Phrase) (i : ℕ) (h : Heading) (u : Phr
 
   settles : (w : What) → h.what ≡ w → Settles k w u (delivery_at k i)
   settles (Routine sort ps r) e =
-      let says = ap told e in
-      told_found hs us i h u has does (λ q. never_open r (sym says ∙ q)) ∙ says
-  settles (Refinement home) e = refinement_settles (ap told e)
+      let said = ap says e in
+      told_found hs us i h u has does (λ q. never_open r (sym said ∙ q)) ∙ said
+  settles (Refinement home) e = refinement_settles (ap says e)
 
 pub settled : (t : Tree) → IsSettled t
 settled t = λ n h u has does. settles (headings (level_in t)) (level_bodies (level_in t)) n h u has does h.what refl
