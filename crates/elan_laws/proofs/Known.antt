@@ -1,5 +1,5 @@
 -- What is known of bodies is what they deliver.
-use Rattle.std.proofs.Common.{◌≡◌, ℕ, zero, suc, List, [], ◌∷◌, length, Option, Some, None, refl, sym, ap, subst, ◌∙◌, ◌⊎◌, inl, inr}
+use Rattle.std.proofs.Common.{◌≡◌, ℕ, zero, suc, List, [], ◌∷◌, length, Option, Some, None, refl, sym, ap, subst, ◌∙◌, inl, inr}
 use Rattle.std.specs.Prelude.{slice_get, slice_index_or}
 use Rattle.elan_types.specs.declared.elan_type.ElanType.{ElanType}
 use Rattle.elan_tree.specs.declared.tree.Tree.{Tree}
@@ -56,21 +56,16 @@ module _ (hs : List Heading) (us : List Phrase) (i : ℕ) (h : Heading) (u : Phr
   unknown None d e g = e ∙ sym g
   unknown (Some p) d e g = λ m w. absurd (not_open m (sym (ap outcome (judged_of k p m w)) ∙ g))
 
-  abbrev From : Delivery → Type 0
-  From d = (d ≡ says h.what) ⊎ ((j : ℕ) × Below (known_after j hs us) k × (d ≡ unit_delivery (known_after j hs us) (last_unit u)))
-
-  in_some_round : (d : Delivery) → says h.what ≡ Open → From d → (d ≡ Open → ⊥) → Delivers k (last_unit u) d
-  in_some_round d untold f n =
-      elim f [
-        | inl g ↦ absurd (n (g ∙ untold))
-        | inr g ↦ found (known_after g.0 hs us) (last_unit u) d g.1 g.2 n
-      ]
-
   refinement_settles : says h.what ≡ Open → Delivers k (last_unit u) (delivery_at k i)
   refinement_settles untold =
       let f = from hs us i h u has does (length hs) in
       let e = at_index k.deliveries i f.0 f.1 in
-      subst (Delivers k (last_unit u)) (sym e) (by_delivery f.0 e f.2)
+      let in_some_round : (f.0 ≡ Open → ⊥) → Delivers k (last_unit u) f.0 =
+      λ n. elim f.2 [
+        | inl g ↦ absurd (n (g ∙ untold))
+        | inr g ↦ found (known_after g.0 hs us) (last_unit u) f.0 g.1 g.2 n
+      ] in
+      subst (Delivers k (last_unit u)) (sym e) (by_delivery f.0 e in_some_round)
     where
       nothing_known : Nothing ≡ Open → ⊥
       nothing_known e = absurd cc
@@ -78,10 +73,10 @@ module _ (hs : List Heading) (us : List Phrase) (i : ℕ) (h : Heading) (u : Phr
       of_known : (t : ElanType) → Of t ≡ Open → ⊥
       of_known t e = absurd cc
 
-      by_delivery : (d : Delivery) → delivery_at k i ≡ d → From d → Delivers k (last_unit u) d
+      by_delivery : (d : Delivery) → delivery_at k i ≡ d → ((d ≡ Open → ⊥) → Delivers k (last_unit u) d) → Delivers k (last_unit u) d
       by_delivery Open e f = unknown (last_unit u) Open refl (open_last hs us i h u has does e)
-      by_delivery Nothing e f = in_some_round Nothing untold f nothing_known
-      by_delivery (Of t) e f = in_some_round (Of t) untold f (of_known t)
+      by_delivery Nothing e f = f nothing_known
+      by_delivery (Of t) e f = f (of_known t)
 
   settles : (w : What) → h.what ≡ w → Settles k w u (delivery_at k i)
   settles (Routine sort ps r) e =
