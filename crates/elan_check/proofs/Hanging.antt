@@ -6,6 +6,7 @@ use Rattle.elan_scope.specs.declared.heading.What.{What}
 use Rattle.elan_scope.specs.declared.heading.What.TheVariants.{Routine, Refinement}
 use Rattle.elan_scope.specs.declared.heading.Heading.{Heading}
 use Rattle.elan_meant.specs.declared.meant.Meant.{Meant}
+use Rattle.elan_meant.specs.Parts.{nth}
 use Rattle.elan_scope.specs.declared.scope.Usage.{Usage}
 use Rattle.elan_scope.specs.declared.scope.Usage.TheVariants as usage
 use Rattle.elan_scope.specs.Scope as scope
@@ -119,9 +120,7 @@ module _ (kn : Known) where
 
   form_leaf : (z : Scope) (f : Form) (ps : Parts) → Names z f → (ms : List Meant) → ruled kn f ms ≡ hangs → Leaf z (called_by_all (phrase f ps ∷ []))
   form_leaf z (asking (form.named u at s x)) ps i ms e = named_leaf z u at s x ps i e
-  form_leaf z (asking (form.leave at s x)) ps i [] e = absurd cc
-  form_leaf z (asking (form.leave at s x)) ps i (m ∷ []) e = absurd (told_never_hangs (c.leaving kn at (scope.left s x) m) e)
-  form_leaf z (asking (form.leave at s x)) ps i (m ∷ n ∷ ms) e = absurd cc
+  form_leaf z (asking (form.leave at s x)) ps i ms e = absurd (told_never_hangs (c.leaving kn at (scope.left s x) (nth ms 0)) e)
   form_leaf z (plain f) ps i ms e = absurd (told_never_hangs (rule f ms) e)
 
   wider : (z : Scope) (ns ms : List ℕ) → ((n : ℕ) → In n ns → In n ms) → Leaf z ns → Leaf z ms

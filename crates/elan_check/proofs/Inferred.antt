@@ -9,6 +9,7 @@ use Rattle.elan_scope.specs.declared.delivery.Delivery.TheVariants.{Open, Nothin
 use Rattle.elan_scope.specs.declared.scope.Denotes.{Denotes}
 use Rattle.elan_scope.specs.declared.scope.Denotes.TheVariants as denotes
 use Rattle.elan_meant.specs.declared.meant.Meant.{Meant}
+use Rattle.elan_meant.specs.Parts.{nth, actions_of}
 use Rattle.elan_meant.specs.declared.meant.Meant.TheVariants.{Absent, Variable, Value, Done, Left, Labels, Bodies, Level}
 use Rattle.elan_scope.specs.declared.scope.Usage.{Usage}
 use Rattle.elan_scope.specs.declared.scope.Usage.TheVariants as usage
@@ -23,7 +24,6 @@ use Rattle.elan_meant.specs.Verdict as verdict
 use Rattle.elan_meant.specs.Verdict.{told}
 use Rattle.elan_scope.specs.Known.{delivery_at, leads_back}
 use Rattle.elan_scope.specs.declared.known.Known.{Known}
-use Rattle.elan_meant.specs.Parts.{actions_of}
 use Rattle.value_rules.specs.Calls as r
 use Rattle.unit_rules.specs.Units.{or_last, last_value, ended, without_value}
 use Rattle.elan_rules.specs.Rules.{ruled}
@@ -37,19 +37,17 @@ use Rattle.elan_rules.proofs.First.{bind_gives, before_gives, gives_is}
 
 module _ (kn : Known) where
   kept : (k m : Meant) → told (without_value k) ≡ gives m → or_last Absent m ≡ Absent
-  kept Absent m e = ap (or_last Absent) (sym (gives_is Absent m e))
-  kept (Variable at t x) m e = ap (or_last Absent) (sym (gives_is (Variable at t x) m e))
+  kept Absent m e = ap (or_last Absent) (sym (gives_is (Done []) m e))
+  kept (Variable at t x) m e = absurd cc
   kept (Value at t v) m e = absurd cc
   kept (Done as') m e = ap (or_last Absent) (sym (gives_is (Done as') m e))
   kept (Left as') m e = ap (or_last Absent) (sym (gives_is (Done as') m e))
-  kept (Labels ns) m e = ap (or_last Absent) (sym (gives_is (Labels ns) m e))
-  kept (Bodies bs) m e = absurd cc
-  kept (Level us bs) m e = ap (or_last Absent) (sym (gives_is (Level us bs) m e))
+  kept (Labels ns) m e = ap (or_last Absent) (sym (gives_is (Done []) m e))
+  kept (Bodies bs) m e = ap (or_last Absent) (sym (gives_is (Done []) m e))
+  kept (Level us bs) m e = ap (or_last Absent) (sym (gives_is (Done []) m e))
 
   kept_row : (ms : List Meant) (m : Meant) → ruled kn (plain form.without_value) ms ≡ gives m → or_last Absent m ≡ Absent
-  kept_row [] m e = absurd cc
-  kept_row (k ∷ []) m e = kept k m e
-  kept_row (k ∷ l ∷ ms) m e = absurd cc
+  kept_row ms m e = kept (nth ms 0) m e
 
   no_value : (p : Phrase) (m : Meant) → judged kn (around form.without_value p) ≡ gives m → or_last Absent m ≡ Absent
   no_value p m e = let b = bind_gives (before (judged kn p) (gives [])) (ruled kn (plain form.without_value)) m e in kept_row b.0 m b.2
@@ -166,9 +164,7 @@ module _ (j k : Known) (below : Below j k) where
 
   rule_same : (f : Form) (ms : List Meant) (m n : Meant) → ruled j f ms ≡ gives m → ruled k f ms ≡ gives n → m ≡ n
   rule_same (asking (form.named u at s x)) ms m n h i = named_same u at s x (find s x) m n h i
-  rule_same (asking (form.leave at s x)) [] m n h i = absurd cc
-  rule_same (asking (form.leave at s x)) (v ∷ []) m n h i = leaving_same at (left s x) v m n h i
-  rule_same (asking (form.leave at s x)) (v ∷ w ∷ vs) m n h i = absurd cc
+  rule_same (asking (form.leave at s x)) ms m n h i = leaving_same at (left s x) (nth ms 0) m n h i
   rule_same (plain f) ms m n h i = gives_is m n (sym h ∙ i)
 
   mutual

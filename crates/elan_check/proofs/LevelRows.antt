@@ -8,6 +8,7 @@ use Rattle.elan_tree.specs.declared.tree.LevelUnit.TheVariants as level
 use Rattle.elan_scope.specs.declared.heading.Sort.TheVariants.{Procedure, Operator}
 use Rattle.elan_scope.specs.declared.heading.Heading.{Heading}
 use Rattle.elan_meant.specs.declared.meant.Meant.{Meant}
+use Rattle.elan_meant.specs.Parts.{nth}
 use Rattle.elan_meant.specs.declared.meant.Meant.TheVariants.{Absent, Variable, Value, Done, Left, Labels, Bodies, Level}
 use Rattle.elan_scope.specs.declared.scope.Scope.{Scope}
 use Rattle.elan_levels.specs.Bodies as b
@@ -65,19 +66,17 @@ module _ (kn : Known) (s : Scope) (all : List Body) where
   rows_count n (g ∷ hs) (q ∷ ps) [] h = absurd h
 
   no_bodies : (v m : Meant) → told (u.without_value v) ≡ gives m → u.bodies_in m ≡ []
-  no_bodies Absent m e = ap u.bodies_in (sym (gives_is Absent m e))
-  no_bodies (Variable at t x) m e = ap u.bodies_in (sym (gives_is (Variable at t x) m e))
+  no_bodies Absent m e = ap u.bodies_in (sym (gives_is (Done []) m e))
+  no_bodies (Variable at t x) m e = absurd cc
   no_bodies (Value at t w) m e = absurd cc
   no_bodies (Done as') m e = ap u.bodies_in (sym (gives_is (Done as') m e))
   no_bodies (Left as') m e = ap u.bodies_in (sym (gives_is (Done as') m e))
-  no_bodies (Labels ns) m e = ap u.bodies_in (sym (gives_is (Labels ns) m e))
-  no_bodies (Bodies bs) m e = absurd cc
-  no_bodies (Level us bs) m e = ap u.bodies_in (sym (gives_is (Level us bs) m e))
+  no_bodies (Labels ns) m e = ap u.bodies_in (sym (gives_is (Done []) m e))
+  no_bodies (Bodies bs) m e = ap u.bodies_in (sym (gives_is (Done []) m e))
+  no_bodies (Level us bs) m e = ap u.bodies_in (sym (gives_is (Done []) m e))
 
   no_bodies_in : (ms : List Meant) (m : Meant) → ruled kn (plain form.without_value) ms ≡ gives m → u.bodies_in m ≡ []
-  no_bodies_in [] m e = absurd cc
-  no_bodies_in (v ∷ []) m e = no_bodies v m e
-  no_bodies_in (v ∷ w ∷ ms) m e = absurd cc
+  no_bodies_in ms m e = no_bodies (nth ms 0) m e
 
   plain_quiet : (q : Phrase) (m : Meant) → judged kn (around form.without_value q) ≡ gives m → u.bodies_in m ≡ []
   plain_quiet q m e = let r = bind_gives (judged_all kn (part q none)) (ruled kn (plain form.without_value)) m e in no_bodies_in r.0 m r.2

@@ -339,10 +339,7 @@ module _ (w : Written) (us : List Action) (all : List Body) where
       (ty.append_typed level_stand (p.actions q.0) (p.actions_of q.1) (unit_typed f k v q.0 q.2) (units_typed f (k + b.bodies_in v) ws q.1 q.3))
 
   refined_typed : (o : Owner) (ms : List Meant) (m : Meant) → ruled kn (plain (form.refinement o)) ms ≡ gives m → AllTyped (p.actions m)
-  refined_typed o [] m e = absurd cc
-  refined_typed o (n ∷ []) m e = absurd cc
-  refined_typed o (n ∷ v ∷ []) m e = subst (λ (x : Meant). AllTyped (p.actions x)) (gives_is (u.body_with o (u.content_of v)) m e) refl
-  refined_typed o (n ∷ v ∷ x ∷ ms) m e = absurd cc
+  refined_typed o ms m e = subst (λ (x : Meant). AllTyped (p.actions x)) (gives_is (u.body_with o (u.content_of (p.nth ms 1))) m e) refl
 
   refinements_typed : (k : ℕ) (rs : List Refined) (ms : List Meant) → judged_all kn (all_of (l.refinements s k rs)) ≡ gives ms → AllTyped (p.actions_of ms)
   refinements_typed k [] ms e = subst (λ (ns : List Meant). AllTyped (p.actions_of ns)) (gives_is [] ms e) refl

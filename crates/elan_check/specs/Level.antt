@@ -141,7 +141,7 @@ module _ (s : Scope) where
   level_unit k (level.Plain u) = role Nothing (written (unit s u))
   level_unit k (level.Proc at r n fs b) = routine s k n.at n.text r fs b Procedure (procedure_name s n fs)
   level_unit k (level.Op at r n fs b) = routine s k n.at (operator_text n.operator) r fs b Operator []
-  level_unit k (level.NewType at n of) = leaf form.not_built
+  level_unit k (level.NewType at n of) = leaf (form.not_built at)
 
   abbrev pub level_units : ℕ → List LevelUnit → List Phrase
   level_units k [] = []

@@ -59,7 +59,7 @@ fn judge_level_unit(
 {
     match unit {
         LevelUnit::Plain(unit) => judge_role(alloc, known, scope, Delivery::Nothing, unit),
-        LevelUnit::NewType { .. } => Err(Trouble::Breaks(0, Why::Unknown)),
+        LevelUnit::NewType { at, .. } => Err(Trouble::Breaks(*at, Why::Unknown)),
         LevelUnit::Proc {
             result,
             name,

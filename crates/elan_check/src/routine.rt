@@ -19,8 +19,8 @@ use elan_levels::bodies::{body_names, held_types, own_names, parameters};
 use elan_levels::heading::{next_number, result_type};
 use elan_meant::meant::Meant;
 use elan_meant::row::{Judged, Row};
-use elan_rows::{let_go, let_meant_go, pair, with};
-use elan_rules::whole::refinement_parts;
+use elan_rows::{let_go, let_meant_go, with};
+use elan_rules::whole::refinement_phrase;
 use elan_scope::delivery::Delivery;
 use elan_scope::heading::Sort;
 use elan_scope::known::Known;
@@ -83,10 +83,7 @@ fn judge_refinement(
         refinement.units.as_slice(),
     );
     scope.refinement = None;
-    match pair(alloc, name, units) {
-        Err(trouble) => Err(trouble),
-        Ok(parts) => refinement_parts(alloc, owner_of(scope), parts),
-    }
+    refinement_phrase(alloc, owner_of(scope), name, units)
 }
 
 /// What phrases mean, and behind them refinements, the first of which has this number.

@@ -21,6 +21,7 @@ use Rattle.elan_scope.specs.Phrase.{Plain, plain, Phrase, phrase, Parts, part, a
 use Rattle.elan_scope.specs.Ruled.{Ruled, gives, breaks, hangs, ◌>>=◌, before, beside, joined}
 use Rattle.elan_meant.specs.Verdict.{Tells}
 use Rattle.elan_rules.specs.Rules.{rule, ruled}
+use Rattle.elan_rules.proofs.Together.{bind_fails}
 use Rattle.elan_meant.proofs.Beside.{before_joined, single_joined}
 use Rattle.elan_judge.specs.Shape.{written, unit, branch, case, role, roles, filled, is_empty, all_empty, asked, in_role, numbers, branches, arms}
 use Rattle.elan_judge.proofs.Shapes.{case_labels}
@@ -28,11 +29,6 @@ use Rattle.elan_judge.proofs.Shapes.{case_labels}
 -- ---- what a function hands on
 
 -- ---- a phrase, by what its parts mean
-
-pub bind_fails : {A B : Type 0} (d : Trouble) (r : Ruled A) (f : A → Ruled B) → Fails d r → Fails d (r >>= f)
-bind_fails NoMemory r f h = tt
-bind_fails (Breaks at why) r f h = ap (λ z. z >>= f) h
-bind_fails Hangs r f h = ap (λ z. z >>= f) h
 
 module _ (k : Known) (f : Plain) (ps : Parts) where
   pub whole_fails : (d : Trouble) → Fails d (judged_all k ps) → Fails d (judged k (phrase (plain f) ps))

@@ -1,5 +1,5 @@
 -- What a phrase means has the types that it asks for.
-use Rattle.std.proofs.Common.{◌≡◌, ℕ, Bool, List, [], ◌∷◌, length, Option, Some, None, sym, subst}
+use Rattle.std.proofs.Common.{◌≡◌, ℕ, Bool, List, [], ◌∷◌, drop, length, Option, Some, None, sym, subst}
 use Rattle.elan_meant.specs.declared.meant.Meant.{Meant}
 use Rattle.elan_scope.specs.Ruled.{Ruled, gives}
 use Rattle.elan_meant.specs.Verdict.{Verdict}
@@ -36,75 +36,50 @@ module _ (here : Stand) (s : Scope) (k : Known) (fits : Fits here s k) where
   abbrev AllGood : List Meant → Type 0
   AllGood = ty.AllGood here
 
+  good_part : (ms : List Meant) (n : ℕ) → AllGood ms → Good (p.nth ms n)
+  good_part ms n g = ty.nth_good here ms n g
+
   in_scope : (f : Scope → Verdict Meant) (z : Scope) → z ≡ s → Gives Good (f s) → Gives Good (f z)
   in_scope f z e h = subst (λ (y : Scope). Gives Good (f y)) (sym e) h
 
-  assignment_by : (at : ℕ) (known : Bool) (ms : List Meant) (o : Option Callable) → AllGood ms → Gives Good (r.applied_as at known ms o)
-      → Gives Good (all.assignment_as at ms o)
-  assignment_by at known ms (Some c) g h = on_bind Good Good (r.called at c ms) u.alone h (alone_good here)
-  assignment_by at known [] None g h = tt
-  assignment_by at known (m ∷ []) None g h = tt
-  assignment_by at known (m ∷ n ∷ []) None g h = assigned_good here at m n g.0 g.1.0
-  assignment_by at known (m ∷ n ∷ l ∷ ms) None g h = tt
+  assignment_by : (at : ℕ) (known : Bool) (m n : Meant) (o : Option Callable) → Good m → Good n
+      → Gives Good (r.applied_as at known (m ∷ n ∷ []) o) → Gives Good (all.assignment_as at m n o)
+  assignment_by at known m n (Some c) g i h = on_bind Good Good (r.called at c (m ∷ n ∷ [])) _ h (λ v k. alone_good here v k)
+  assignment_by at known m n None g i h = assigned_good here at m n g i
 
   -- An own operator is called as operators are.
-  assignment_good : (at : ℕ) (ms : List Meant) → AllGood ms → Gives Good (all.assignment at s ms)
-  assignment_good at ms g =
-      assignment_by at (scope.is_known s Operator becomes (length ms)) ms (chosen s Operator becomes ms) g
-      (applied_good here s k fits at Operator becomes ms g)
+  assignment_good : (at : ℕ) (m n : Meant) → Good m → Good n → Gives Good (all.assignment at s m n)
+  assignment_good at m n g i =
+      let ms = m ∷ n ∷ [] in
+      assignment_by at (scope.is_known s Operator becomes (length ms)) m n (chosen s Operator becomes ms) g i
+      (applied_good here s k fits at Operator becomes ms (g, (i, tt)))
 
   plain_rules : (f : Plain) (ms : List Meant) → Names s (plain f) → AllGood ms → Gives Good (rule f ms)
   plain_rules form.absent ms i g = tt
-  plain_rules form.not_built ms i g = tt
+  plain_rules (form.not_built at) ms i g = tt
   plain_rules (form.number at n) ms i g = number_good here at n
   plain_rules (form.truth at b) ms i g = truth_is here b
   plain_rules (form.applied at z sort x) ms i g = in_scope (λ y. r.applied at y sort x ms) z i (applied_good here s k fits at sort x ms g)
-  plain_rules (form.bracket at) [] i g = tt
-  plain_rules (form.bracket at) (a ∷ []) i g = bracketed_good here at a g.0
-  plain_rules (form.bracket at) (a ∷ b ∷ ms) i g = tt
-  plain_rules (form.cand at) [] i g = tt
-  plain_rules (form.cand at) (a ∷ []) i g = tt
-  plain_rules (form.cand at) (a ∷ b ∷ []) i g = cand_good here at a b g.0 g.1.0
-  plain_rules (form.cand at) (a ∷ b ∷ c ∷ ms) i g = tt
-  plain_rules (form.cor at) [] i g = tt
-  plain_rules (form.cor at) (a ∷ []) i g = tt
-  plain_rules (form.cor at) (a ∷ b ∷ []) i g = cor_good here at a b g.0 g.1.0
-  plain_rules (form.cor at) (a ∷ b ∷ c ∷ ms) i g = tt
+  plain_rules (form.bracket at) ms i g = bracketed_good here at (p.nth ms 0) (good_part ms 0 g)
+  plain_rules (form.cand at) ms i g = cand_good here at (p.nth ms 0) (p.nth ms 1) (good_part ms 0 g) (good_part ms 1 g)
+  plain_rules (form.cor at) ms i g = cor_good here at (p.nth ms 0) (p.nth ms 1) (good_part ms 0 g) (good_part ms 1 g)
   plain_rules (form.choice at) ms i g = choice_good here at ms g
   plain_rules (form.label at earlier n) ms i g = on_if Good (c.is_in earlier n) _ _ (λ e. tt) (λ e. tt)
   plain_rules (form.label_name at z x) ms i g = label_named_good here at (scope.is_known z Procedure x 0) (scope.find z x)
   plain_rules form.labels ms i g = tt
-  plain_rules (form.selection at) [] i g = tt
-  plain_rules (form.selection at) (m ∷ ms) i g = selected_good here at m ms g.0 g.1
+  plain_rules (form.selection at) ms i g = selected_good here at (p.nth ms 0) (drop 1 ms) (good_part ms 0 g) (ty.rest_good here ms g)
   plain_rules (form.declares at z x) ms i g = in_scope (λ y. r.declared at (scope.find_own y x)) z i (declared_good here s k fits at x)
-  plain_rules (form.initial at) [] i g = tt
-  plain_rules (form.initial at) (a ∷ []) i g = tt
-  plain_rules (form.initial at) (a ∷ b ∷ []) i g = initial_good here at a b g.0 g.1.0
-  plain_rules (form.initial at) (a ∷ b ∷ c ∷ ms) i g = tt
+  plain_rules (form.initial at) ms i g = initial_good here at (p.nth ms 0) (p.nth ms 1) (good_part ms 0 g) (good_part ms 1 g)
   plain_rules (form.declaration at) ms i g = ty.unit_typed here (p.actions_of ms) (ty.actions_of_typed here ms g)
-  plain_rules form.statement [] i g = tt
-  plain_rules form.statement (a ∷ []) i g = alone_good here a g.0
-  plain_rules form.statement (a ∷ b ∷ ms) i g = tt
-  plain_rules (form.assignment at z) ms i g = in_scope (λ y. all.assignment at y ms) z i (assignment_good at ms g)
-  plain_rules (form.loop at) [] i g = tt
-  plain_rules (form.loop at) (a ∷ []) i g = tt
-  plain_rules (form.loop at) (a ∷ b ∷ []) i g = tt
-  plain_rules (form.loop at) (a ∷ b ∷ c ∷ []) i g = loop_good here at a b c g.0 g.1.0 g.1.1.0
-  plain_rules (form.loop at) (a ∷ b ∷ c ∷ d ∷ ms) i g = tt
-  plain_rules (form.count at w) [] i g = tt
-  plain_rules (form.count at w) (a ∷ []) i g = tt
-  plain_rules (form.count at w) (a ∷ b ∷ []) i g = tt
-  plain_rules (form.count at w) (a ∷ b ∷ c ∷ []) i g = tt
-  plain_rules (form.count at w) (a ∷ b ∷ c ∷ d ∷ []) i g = tt
-  plain_rules (form.count at w) (a ∷ b ∷ c ∷ d ∷ e ∷ []) i g = tt
-  plain_rules (form.count at w) (a ∷ b ∷ c ∷ d ∷ e ∷ f ∷ []) i g = counted_good here at w a b c d e f g.0 g.1.0 g.1.1.0 g.1.1.1.0 g.1.1.1.1.0 g.1.1.1.1.1.0
-  plain_rules (form.count at w) (a ∷ b ∷ c ∷ d ∷ e ∷ f ∷ h ∷ ms) i g = tt
-  plain_rules form.without_value [] i g = tt
-  plain_rules form.without_value (a ∷ []) i g = without_value_good here a g.0
-  plain_rules form.without_value (a ∷ b ∷ ms) i g = tt
-  plain_rules (form.must_deliver at t) [] i g = tt
-  plain_rules (form.must_deliver at t) (a ∷ []) i g = must_deliver_good here at t a g.0
-  plain_rules (form.must_deliver at t) (a ∷ b ∷ ms) i g = tt
+  plain_rules form.statement ms i g = alone_good here (p.nth ms 0) (good_part ms 0 g)
+  plain_rules (form.assignment at z) ms i g =
+      in_scope (λ y. all.assignment at y (p.nth ms 0) (p.nth ms 1)) z i (assignment_good at (p.nth ms 0) (p.nth ms 1) (good_part ms 0 g) (good_part ms 1 g))
+  plain_rules (form.loop at) ms i g = loop_good here at (p.nth ms 0) (p.nth ms 1) (p.nth ms 2) (good_part ms 0 g) (good_part ms 1 g) (good_part ms 2 g)
+  plain_rules (form.count at w) ms i g =
+      counted_good here at w (p.nth ms 0) (p.nth ms 1) (p.nth ms 2) (p.nth ms 3) (p.nth ms 4) (p.nth ms 5) (good_part ms 0 g) (good_part ms 1 g)
+      (good_part ms 2 g) (good_part ms 3 g) (good_part ms 4 g) (good_part ms 5 g)
+  plain_rules form.without_value ms i g = without_value_good here (p.nth ms 0) (good_part ms 0 g)
+  plain_rules (form.must_deliver at t) ms i g = must_deliver_good here at t (p.nth ms 0) (good_part ms 0 g)
   plain_rules form.units ms i g = in_order_good here ms g
   plain_rules (form.heading at z sort x ps missing) ms i g = absurd i
   plain_rules (form.body o q) ms i g = absurd i
@@ -115,10 +90,8 @@ module _ (here : Stand) (s : Scope) (k : Known) (fits : Fits here s k) where
   rules : (f : Form) (ms : List Meant) → Names s f → AllGood ms → MayGive Good (ruled k f ms)
   rules (asking (form.named u at z x)) ms i g =
       subst (λ (y : Scope). MayGive Good (r.named k u at y x (scope.find y x))) (sym i) (named_good here s k fits u at x)
-  rules (asking (form.leave at z x)) [] i g = tt
-  rules (asking (form.leave at z x)) (m ∷ []) i g =
-      on_told Good _ (in_scope (λ y. r.leaving k at (scope.left y x) m) z i (leaving_good here s k fits at x m g.0))
-  rules (asking (form.leave at z x)) (m ∷ n ∷ ms) i g = tt
+  rules (asking (form.leave at z x)) ms i g =
+      on_told Good _ (in_scope (λ y. r.leaving k at (scope.left y x) (p.nth ms 0)) z i (leaving_good here s k fits at x (p.nth ms 0) (good_part ms 0 g)))
   rules (plain f) ms i g = on_told Good (rule f ms) (plain_rules f ms i g)
 
   -- ---- all phrases

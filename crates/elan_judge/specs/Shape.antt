@@ -138,11 +138,11 @@ module _ (s : Scope) where
   expr_step (t.Dyadic at o a b) = pair (form.applied at s Operator (operator_text o)) a b
   expr_step (t.Cand at a b) = pair (form.cand at) a b
   expr_step (t.Cor at a b) = pair (form.cor at) a b
-  expr_step (t.Text at x) = leaf form.not_built
-  expr_step (t.Procedure at n) = leaf form.not_built
-  expr_step (t.Concr at a) = leaf form.not_built
-  expr_step (t.Index at of index) = leaf form.not_built
-  expr_step (t.Field at of field) = leaf form.not_built
+  expr_step (t.Text at x) = leaf (form.not_built at)
+  expr_step (t.Procedure at n) = leaf (form.not_built at)
+  expr_step (t.Concr at a) = leaf (form.not_built at)
+  expr_step (t.Index at of index) = leaf (form.not_built at)
+  expr_step (t.Field at of field) = leaf (form.not_built at)
 
   -- Without a limit a counter goes up.
   abbrev pub limit_step : Limit-F Phrase (Way × Phrase) (Option Phrase) (Phrase × Phrase) (List Label × Phrase) Counted Phrase → Way × Phrase
@@ -157,8 +157,8 @@ module _ (s : Scope) where
   unit_step (t.Value a) = Some (around form.statement a)
   unit_step (t.Becomes at a b) = Some (pair (form.assignment at s) a b)
   unit_step (t.Loop at counter condition us until) = Some (loop at counter (written condition) (units Nothing us) (written until))
-  unit_step (t.Let at items) = Some (leaf form.not_built)
-  unit_step (t.Bound at of items) = Some (leaf form.not_built)
+  unit_step (t.Let at items) = Some (leaf (form.not_built at))
+  unit_step (t.Bound at of items) = Some (leaf (form.not_built at))
   unit_step (t.Leave at n value) = Some (phrase (asking (form.leave at s n.text)) (part (written value) none))
 
   abbrev pub branch_step : Branch-F Phrase (Way × Phrase) (Option Phrase) (Phrase × Phrase) (List Label × Phrase) Counted Phrase → Phrase × Phrase

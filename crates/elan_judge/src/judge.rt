@@ -5,9 +5,8 @@ ghost use Rattle.elan_scope.specs.declared.scope.Scope.{Scope};
 ghost use Rattle.elan_scope.specs.Phrase as form;
 ghost use Rattle.elan_scope.specs.Phrase.{Phrase, row, all_of};
 ghost use Rattle.elan_rules.specs.Meaning.{judged, judged_all};
-ghost use Rattle.elan_rules.specs.Rules.{rule};
 ghost use Rattle.elan_scope.specs.Answer.{Is};
-ghost use Rattle.elan_meant.specs.Verdict.{Tells};
+ghost use Rattle.elan_meant.specs.walks.Arity.{triple};
 ghost use Rattle.elan_judge.specs.Shape as shape;
 
 use crate::label::{add_numbers, judge_labels};
@@ -18,8 +17,9 @@ use choice_rules::selection::selected;
 use elan_meant::meant::Meant;
 use elan_meant::row::{Judged, Row};
 use elan_rows::{before, let_go, none, one, pair, three, with};
-use elan_rules::assignment::assignment;
-use elan_rules::whole::{cand_parts, cor_parts, count_parts, initial_parts, loop_parts};
+use elan_rules::whole::{
+    Three, assignment_phrase, cand_phrase, cor_phrase, count_phrase, initial_phrase, loop_phrase,
+};
 use elan_scope::delivery::Delivery;
 use elan_scope::heading::Sort;
 use elan_scope::known::Known;
@@ -28,7 +28,7 @@ use elan_scope::trouble::Trouble;
 use elan_tree::{Branch, Case, Counter, Expr, Item, Limit, Unit};
 use elan_types::{Way, Why};
 use elan_unbuilt::operator_text;
-use eu_base::{Boxed, List};
+use eu_base::List;
 use std::alloc::Global;
 use unit_rules::list::{alone, declaration, in_order, must_deliver, without_value};
 use value_rules::call::applied;
@@ -147,24 +147,18 @@ fn judge(alloc: Global, known: &Known, scope: &Scope, expr: &Expr) -> Judged
         Expr::Cand { at, left, right } => {
             let left = judge(alloc, known, scope, left.get());
             let right = judge(alloc, known, scope, right.get());
-            match pair(alloc, left, right) {
-                Err(trouble) => Err(trouble),
-                Ok(parts) => cand_parts(alloc, *at, parts),
-            }
+            cand_phrase(alloc, *at, left, right)
         }
         Expr::Cor { at, left, right } => {
             let left = judge(alloc, known, scope, left.get());
             let right = judge(alloc, known, scope, right.get());
-            match pair(alloc, left, right) {
-                Err(trouble) => Err(trouble),
-                Ok(parts) => cor_parts(alloc, *at, parts),
-            }
+            cor_phrase(alloc, *at, left, right)
         }
-        Expr::Text(_, _)
-        | Expr::Procedure(_, _)
-        | Expr::Concr(_, _)
-        | Expr::Index { .. }
-        | Expr::Field { .. } => Err(Trouble::Breaks(0, Why::Unknown)),
+        Expr::Text(at, _) => Err(Trouble::Breaks(*at, Why::Unknown)),
+        Expr::Procedure(at, _) => Err(Trouble::Breaks(*at, Why::Unknown)),
+        Expr::Concr(at, _) => Err(Trouble::Breaks(*at, Why::Unknown)),
+        Expr::Index { at, .. } => Err(Trouble::Breaks(*at, Why::Unknown)),
+        Expr::Field { at, .. } => Err(Trouble::Breaks(*at, Why::Unknown)),
     }
 }
 
@@ -258,10 +252,7 @@ fn judge_item(alloc: Global, known: &Known, scope: &Scope, item: &Item) -> Judge
         None => name,
         Some(expr) => {
             let value = judge(alloc, known, scope, expr);
-            match pair(alloc, name, value) {
-                Err(trouble) => Err(trouble),
-                Ok(parts) => initial_parts(alloc, at, parts),
-            }
+            initial_phrase(alloc, at, name, value)
         }
     }
 }
@@ -297,37 +288,17 @@ fn judge_limit(alloc: Global, known: &Known, scope: &Scope, limit: &Limit) -> Ju
     }
 }
 
-// The counter of a loop, its first value and its limit, if it has one.
+// The counter of a loop, its first value and its limit.
 #[cycle(judge)]
-fn judge_counter(
-    alloc: Global,
-    known: &Known,
-    scope: &Scope,
-    counter: &Option<Boxed<Counter>>,
-) -> Row
-    ensures { Is result (judged_all known.now (all_of (shape.counter_parts (shape.optional_counter scope.now counter.now)))) }
+fn judge_counter(alloc: Global, known: &Known, scope: &Scope, counter: &Counter) -> Three
+    ensures { Is result (triple (judged known.now (shape.counter scope.now counter.now).0) (judged known.now (shape.counter scope.now counter.now).1)
+        (judged known.now (shape.counter scope.now counter.now).2)) }
 {
-    match counter {
-        None => none(alloc),
-        Some(counter) => {
-            let counter = counter.get();
-            let text = counter.name.text.as_slice();
-            let name = named(alloc, known, Usage::Counter, counter.name.at, scope, text);
-            let from = judge_optional(alloc, known, scope, &counter.from);
-            let limit = judge_limit(alloc, known, scope, &counter.limit);
-            three(alloc, name, from, limit)
-        }
-    }
-}
-
-// A loop, by what its parts mean.
-fn looped(alloc: Global, at: u32, counter: &Option<Boxed<Counter>>, parts: List<Meant>) -> Judged
-    ensures { (s : Scope) → Tells result (rule (shape.loop_form at (shape.optional_counter s counter.now)) parts) }
-{
-    match counter {
-        None => loop_parts(alloc, at, parts),
-        Some(counter) => count_parts(alloc, at, way(&counter.get().limit), parts),
-    }
+    let text = counter.name.text.as_slice();
+    let name = named(alloc, known, Usage::Counter, counter.name.at, scope, text);
+    let from = judge_optional(alloc, known, scope, &counter.from);
+    let limit = judge_limit(alloc, known, scope, &counter.limit);
+    three(name, from, limit)
 }
 
 /// The meaning of a unit; an empty one is as a part that is not written.
@@ -346,10 +317,7 @@ fn judge_unit(alloc: Global, known: &Known, scope: &Scope, unit: &Unit) -> Judge
         Unit::Becomes { at, left, right } => {
             let left = judge(alloc, known, scope, left);
             let right = judge(alloc, known, scope, right);
-            match pair(alloc, left, right) {
-                Err(trouble) => Err(trouble),
-                Ok(parts) => assignment(alloc, *at, scope, parts),
-            }
+            assignment_phrase(alloc, *at, scope, left, right)
         }
         Unit::Loop {
             at,
@@ -358,18 +326,21 @@ fn judge_unit(alloc: Global, known: &Known, scope: &Scope, unit: &Unit) -> Judge
             units,
             until,
         } => {
-            let row = judge_counter(alloc, known, scope, counter);
             let condition = judge_optional(alloc, known, scope, condition);
             let units = judge_units(alloc, known, scope, Delivery::Nothing, units.as_slice());
             let until = judge_optional(alloc, known, scope, until);
-            let row = with(row, condition);
-            let row = with(row, units);
-            match with(row, until) {
-                Err(trouble) => Err(trouble),
-                Ok(parts) => looped(alloc, *at, counter, parts),
+            let turns = three(condition, units, until);
+            match counter {
+                None => loop_phrase(alloc, *at, turns),
+                Some(counter) => {
+                    let counter = counter.get();
+                    let bounds = judge_counter(alloc, known, scope, counter);
+                    count_phrase(alloc, *at, way(&counter.limit), bounds, turns)
+                }
             }
         }
-        Unit::Let(_, _) | Unit::Bound(_, _, _) => Err(Trouble::Breaks(0, Why::Unknown)),
+        Unit::Let(at, _) => Err(Trouble::Breaks(*at, Why::Unknown)),
+        Unit::Bound(at, _, _) => Err(Trouble::Breaks(*at, Why::Unknown)),
         Unit::Leave { at, name, value } => {
             let value = judge_optional(alloc, known, scope, value)?;
             leaving(alloc, known, *at, scope.left(name.text.as_slice()), value)
@@ -392,7 +363,7 @@ pub fn judge_role(
         Delivery::Open => judge_unit(alloc, known, scope, unit),
         Delivery::Nothing => {
             let meant = judge_unit(alloc, known, scope, unit)?;
-            without_value(meant)
+            without_value(alloc, meant)
         }
         Delivery::Of(of) => {
             let meant = judge_unit(alloc, known, scope, unit)?;

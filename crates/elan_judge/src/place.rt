@@ -22,15 +22,15 @@ fn expr_place(expr: &Expr) -> u32
         Expr::Dyadic { at, .. } => *at,
         Expr::Cand { at, .. } => *at,
         Expr::Cor { at, .. } => *at,
-        Expr::Text(_, _) => 0,
-        Expr::Procedure(_, _) => 0,
-        Expr::Concr(_, _) => 0,
-        Expr::Index { .. } => 0,
-        Expr::Field { .. } => 0,
+        Expr::Text(at, _) => *at,
+        Expr::Procedure(at, _) => *at,
+        Expr::Concr(at, _) => *at,
+        Expr::Index { at, .. } => *at,
+        Expr::Field { at, .. } => *at,
     }
 }
 
-/// The place of a unit; 0 of one that is empty, or not built.
+/// The place of a unit; 0 of one that is empty.
 pub fn unit_place(unit: &Unit) -> u32
     ensures { (s : Scope) → result ≡ form.place (shape.written (shape.unit s unit.now)) }
 {
@@ -42,7 +42,7 @@ pub fn unit_place(unit: &Unit) -> u32
         Unit::Loop { at, .. } => *at,
         Unit::Leave { at, .. } => *at,
         Unit::Empty => 0,
-        Unit::Let(_, _) => 0,
-        Unit::Bound(_, _, _) => 0,
+        Unit::Let(at, _) => *at,
+        Unit::Bound(at, _, _) => *at,
     }
 }

@@ -4,3 +4,4 @@ pub use Rattle.elan_scope.specs.Answer
 pub mod Verdict
 pub mod Operands
 pub mod Parts
+pub mod walks

@@ -1,5 +1,5 @@
 -- What the parts of a phrase deliver, where they have meaning.
-use Rattle.std.specs.Prelude.{pos, Bool, true, false, List, [], ◌∷◌, ◌++◌, Option, Some, None}
+use Rattle.std.specs.Prelude.{ℕ, pos, Bool, true, false, List, [], ◌∷◌, ◌++◌, Option, Some, None, slice_index_or}
 use Rattle.elan_types.specs.declared.elan_type.ElanType.{ElanType}
 use Rattle.elan_types.specs.declared.elan_type.ElanType.TheVariants.{Int, Bool as Truths}
 use Rattle.elan_types.specs.declared.core_phrase.PlacePhrase.{PlacePhrase}
@@ -7,15 +7,11 @@ use Rattle.elan_types.specs.declared.core_phrase.ValuePhrase.{ValuePhrase}
 use Rattle.elan_types.specs.declared.core_phrase.ValuePhrase.TheVariants as value
 use Rattle.elan_types.specs.declared.core_phrase.Action.{Action}
 use Rattle.elan_types.specs.declared.core_phrase.Action.TheVariants as action
-use Rattle.elan_types.specs.declared.why.Why.TheVariants.{Unknown, NoVariable}
+use Rattle.elan_types.specs.declared.why.Why.TheVariants.{NoVariable}
 use Rattle.elan_meant.specs.declared.meant.Meant.{Meant}
 use Rattle.elan_meant.specs.declared.meant.Meant.TheVariants.{Absent, Variable, Value, Done, Left}
 use Rattle.elan_meant.specs.Operands.{delivers}
 use Rattle.elan_meant.specs.Verdict.{Verdict, gives, breaks}
-
--- what no text asks for
-abbrev pub unasked : {A : Type 0} → Verdict A
-unasked = breaks (0, Unknown)
 
 -- ---- what parts deliver
 
@@ -25,21 +21,16 @@ value_of (Variable at t p) = value.Load p t
 value_of (Value at t v) = v
 value_of _ = value.Truth false
 
--- A variable is needed.
-abbrev pub variable : Meant → Verdict PlacePhrase
-variable (Variable at t p) = gives p
-variable (Value at t v) = breaks (at, NoVariable)
-variable _ = unasked
+-- A variable is needed. A value is none, and neither is what delivers nothing: that is told at the phrase that needs it.
+abbrev pub variable : ℕ → Meant → Verdict PlacePhrase
+variable at (Variable p t x) = gives x
+variable at (Value p t v) = breaks (p, NoVariable)
+variable at _ = breaks (at, NoVariable)
 
 abbrev pub type_in : Meant → Option ElanType
 type_in (Variable at t p) = Some t
 type_in (Value at t v) = Some t
 type_in _ = None
-
--- what a phrase means where a value is asked for
-abbrev pub loaded : Meant → Meant
-loaded (Variable at t p) = Value at t (value.Load p t)
-loaded m = m
 
 abbrev pub actions : Meant → List Action
 actions (Done as') = as'
@@ -74,23 +65,11 @@ blank Truths = value.Truth false
 abbrev pub unreached : List Action → ElanType → ValuePhrase
 unreached as' t = value.After as' (blank t)
 
--- ---- so many parts
+-- ---- parts by their number
 
-abbrev pub one_of : {A : Type 0} → List A → Option A
-one_of (x ∷ []) = Some x
-one_of _ = None
-
-abbrev pub two_of : {A : Type 0} → List A → Option (A × A)
-two_of (x ∷ y ∷ []) = Some (x, y)
-two_of _ = None
-
-abbrev pub three_of : {A : Type 0} → List A → Option (A × A × A)
-three_of (x ∷ y ∷ z ∷ []) = Some (x, y, z)
-three_of _ = None
-
-abbrev pub six_of : {A : Type 0} → List A → Option (A × A × A × A × A × A)
-six_of (u ∷ v ∷ w ∷ x ∷ y ∷ z ∷ []) = Some (u, v, w, x, y, z)
-six_of _ = None
+-- One that is not written is absent.
+abbrev pub nth : List Meant → ℕ → Meant
+nth ms n = slice_index_or ms n Absent
 
 -- each two parts, and the last of an odd number
 abbrev pub pairs : {A : Type 0} → List A → List (A × A)
@@ -102,19 +81,3 @@ abbrev pub odd : {A : Type 0} → List A → Option A
 odd [] = None
 odd (x ∷ []) = Some x
 odd (x ∷ y ∷ xs) = odd xs
-
-abbrev pub on_one : Option Meant → (Meant → Verdict Meant) → Verdict Meant
-on_one None f = unasked
-on_one (Some m) f = f m
-
-abbrev pub on_two : Option (Meant × Meant) → (Meant → Meant → Verdict Meant) → Verdict Meant
-on_two None f = unasked
-on_two (Some p) f = f p.0 p.1
-
-abbrev pub on_three : Option (Meant × Meant × Meant) → (Meant → Meant → Meant → Verdict Meant) → Verdict Meant
-on_three None f = unasked
-on_three (Some p) f = f p.0 p.1 p.2
-
-abbrev pub on_six : Option (Meant × Meant × Meant × Meant × Meant × Meant) → (Meant → Meant → Meant → Meant → Meant → Meant → Verdict Meant) → Verdict Meant
-on_six None f = unasked
-on_six (Some p) f = f p.0 p.1 p.2 p.3 p.4 p.5

@@ -50,9 +50,10 @@ pub fn value_in(meant: Meant) -> ValuePhrase
     }
 }
 
-/// The variable that a part is; another value breaks the rule that a variable is needed.
-pub fn variable(meant: Meant) -> Result<PlacePhrase, Trouble>
-    ensures { Tells result (spec.variable meant) }
+/// The variable that a part is; all else breaks the rule that a variable is needed: a value at its own place, and what delivers
+/// nothing at the place of the phrase that needs the variable.
+pub fn variable(at: u32, meant: Meant) -> Result<PlacePhrase, Trouble>
+    ensures { Tells result (spec.variable at meant) }
 {
     match meant {
         Meant::Variable {
@@ -60,13 +61,17 @@ pub fn variable(meant: Meant) -> Result<PlacePhrase, Trouble>
             of: _of,
             place,
         } => Ok(place),
-        Meant::Value { at, of: _of, value } => {
+        Meant::Value {
+            at: place,
+            of: _of,
+            value,
+        } => {
             value.into_inner().let_go();
-            Err(Trouble::Breaks(at, Why::NoVariable))
+            Err(Trouble::Breaks(place, Why::NoVariable))
         }
         other => {
             other.let_go();
-            Err(Trouble::Breaks(0, Why::Unknown))
+            Err(Trouble::Breaks(at, Why::NoVariable))
         }
     }
 }
@@ -121,21 +126,6 @@ pub fn written(meant: Meant) -> Option<ValuePhrase>
             other.let_go();
             None
         }
-    }
-}
-
-/// What a phrase means where a value is asked for.
-pub fn loaded(alloc: Global, meant: Meant) -> Judged
-    ensures { Tells result (gives (spec.loaded meant)) }
-{
-    match meant {
-        Meant::Variable { at, of, place } => delivering(
-            alloc,
-            at,
-            of,
-            ValuePhrase::Load(place, of),
-        ),
-        other => Ok(other),
     }
 }
 

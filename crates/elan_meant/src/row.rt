@@ -4,6 +4,7 @@
 ghost use Rattle.std.specs.Prelude.{◌≡◌, ◌++◌, ◌∷◌, [], List, IfOk, OnOk};
 ghost use Rattle.elan_scope.specs.Ruled.{Ruled, gives, before, beside, joined};
 ghost use Rattle.elan_scope.specs.Answer.{Is};
+ghost use Rattle.elan_meant.specs.walks.Arity.{triple};
 
 use crate::meant::Meant;
 use elan_scope::trouble::Trouble;
@@ -73,16 +74,26 @@ pub fn pair<T: Drop>(
     and(one(alloc, first), second)
 }
 
-/// What three phrases mean, one after another.
-pub fn three<T: Drop>(
-    alloc: Global,
-    first: Result<T, Trouble>,
-    second: Result<T, Trouble>,
-    third: Result<T, Trouble>,
-) -> Result<List<T>, Trouble>
-    ensures { (r : Ruled T) → (q : Ruled T) → (s : Ruled T) → Is first r → Is second q → Is third s → Is result (before r (before q (before s (gives [])))) }
+/// What three phrases mean.
+pub fn three<A: Drop, B: Drop, C: Drop>(
+    first: Result<A, Trouble>,
+    second: Result<B, Trouble>,
+    third: Result<C, Trouble>,
+) -> Result<(A, B, C), Trouble>
+    ensures { (r : Ruled A) → (q : Ruled B) → (s : Ruled C) → Is first r → Is second q → Is third s → Is result (triple r q s) }
 {
-    and(pair(alloc, first, second), third)
+    match two(two(first, second), third) {
+        Err(trouble) => Err(trouble),
+        Ok(((first, second), third)) => Ok((first, second, third)),
+    }
+}
+
+/// A list of two.
+pub fn listed<T: Drop>(alloc: Global, first: T, second: T) -> Result<List<T>, NoMemory>
+    ensures { IfOk result (λ list. list ≡ first ∷ second ∷ []) }
+{
+    let list = List::new(alloc);
+    pushed(pushed(Ok(list), Ok(first)), Ok(second))
 }
 
 /// Two things that were made, unless memory ran out for one of them.

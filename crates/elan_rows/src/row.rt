@@ -4,6 +4,7 @@ ghost use Rattle.std.specs.Prelude.{[], List};
 ghost use Rattle.elan_meant.specs.declared.meant.Meant.{Meant};
 ghost use Rattle.elan_scope.specs.Ruled.{Ruled, gives, before, beside, joined};
 ghost use Rattle.elan_scope.specs.Answer.{Is};
+ghost use Rattle.elan_meant.specs.walks.Arity.{triple};
 
 use elan_meant::meant::Meant;
 use elan_meant::row as rows;
@@ -40,12 +41,11 @@ pub fn pair(alloc: Global, first: Judged, second: Judged) -> Row
     rows::pair(alloc, first, second)
 }
 
-/// What three phrases mean, one after another.
-pub fn three(alloc: Global, first: Judged, second: Judged, third: Judged) -> Row
-    ensures { (r : Ruled Meant) → (q : Ruled Meant) → (s : Ruled Meant) → Is first r → Is second q → Is third s → Is result
-        (before r (before q (before s (gives [])))) }
+/// What three phrases mean beside each other.
+pub fn three(first: Judged, second: Judged, third: Judged) -> Result<(Meant, Meant, Meant), Trouble>
+    ensures { (r : Ruled Meant) → (q : Ruled Meant) → (s : Ruled Meant) → Is first r → Is second q → Is third s → Is result (triple r q s) }
 {
-    rows::three(alloc, first, second, third)
+    rows::three(first, second, third)
 }
 
 /// Lets a row go.

@@ -7,5 +7,4 @@ pub mod TypedChoices
 pub mod TypedPerformed
 pub mod TypedCalls
 pub mod Hung
-pub mod Assigned
-pub mod Arity
+pub mod Together

@@ -1,4 +1,5 @@
 -- What is known of a meaning: it has the types that it asks for.
+use Rattle.std.proofs.Common.{ℕ, zero, suc, drop}
 use Rattle.std.proofs.Common.{◌≡◌, Bool, true, false, ◌&&◌, if◌then◌else◌, List, [], ◌∷◌, ◌++◌, map, Option, Some, None, refl, sym, subst, ◌∙◌}
 use Rattle.elan_types.specs.declared.elan_type.ElanType.{ElanType}
 use Rattle.elan_types.specs.declared.elan_type.ElanType.TheVariants.{Int, Bool as Truths}
@@ -101,6 +102,15 @@ module _ (here : Stand) where
   AllGood [] = Unit {0}
   AllGood (m ∷ ms) = Good m × AllGood ms
 
+  pub nth_good : (ms : List Meant) (n : ℕ) → AllGood ms → Good (r.nth ms n)
+  nth_good [] n g = tt
+  nth_good (m ∷ ms) zero g = g.0
+  nth_good (m ∷ ms) (suc n) g = nth_good ms n g.1
+
+  pub rest_good : (ms : List Meant) → AllGood ms → AllGood (drop 1 ms)
+  rest_good [] g = tt
+  rest_good (m ∷ ms) g = g.1
+
   -- each two parts
   abbrev pub PairsGood : List (Meant × Meant) → Type 0
   PairsGood [] = Unit {0}
@@ -121,16 +131,6 @@ module _ (here : Stand) where
   pub load_typed : (t : ElanType) (x : PlacePhrase) → lies here x ≡ Some t → Has t (value.Load x t)
   load_typed t x h = load_is here x t ∙ only_if_holds _ _ t (has_self t _ h) refl
 
-  pub loaded_good : (m : Meant) → Good m → Good (r.loaded m)
-  loaded_good Absent g = g
-  loaded_good (Variable at t x) g = load_typed t x g
-  loaded_good (Value at t v) g = g
-  loaded_good (Done as') g = g
-  loaded_good (Left as') g = g
-  loaded_good (Labels ns) g = g
-  loaded_good (Bodies bs) g = g
-  loaded_good (Level us bs) g = g
-
   pub value_typed : (t : ElanType) (m : Meant) → Good m → delivers t m ≡ true → Has t (r.value_of m)
   value_typed t Absent g e = absurd cc
   value_typed t (Variable at u x) g e = subst (λ (w : ElanType). Has w (value.Load x u)) (sym (same_is t u e)) (load_typed u x g)
@@ -145,15 +145,15 @@ module _ (here : Stand) where
   Lies t x = lies here x ≡ Some t
 
   -- A variable that is needed is one of this type.
-  pub variable_good : (t : ElanType) (m : Meant) → Good m → delivers t m ≡ true → Gives (Lies t) (r.variable m)
-  variable_good t Absent g e = tt
-  variable_good t (Variable at u x) g e = subst (λ (w : ElanType). Lies w x) (sym (same_is t u e)) g
-  variable_good t (Value at u v) g e = tt
-  variable_good t (Done as') g e = tt
-  variable_good t (Left as') g e = tt
-  variable_good t (Labels ns) g e = tt
-  variable_good t (Bodies bs) g e = tt
-  variable_good t (Level us bs) g e = tt
+  pub variable_good : (at : ℕ) (t : ElanType) (m : Meant) → Good m → delivers t m ≡ true → Gives (Lies t) (r.variable at m)
+  variable_good at t Absent g e = tt
+  variable_good at t (Variable p u x) g e = subst (λ (w : ElanType). Lies w x) (sym (same_is t u e)) g
+  variable_good at t (Value p u v) g e = tt
+  variable_good at t (Done as') g e = tt
+  variable_good at t (Left as') g e = tt
+  variable_good at t (Labels ns) g e = tt
+  variable_good at t (Bodies bs) g e = tt
+  variable_good at t (Level us bs) g e = tt
 
   pub may_typed : (t : ElanType) (m : Meant) → Good m → r.may_deliver t m ≡ true → MayHave t (r.written m)
   may_typed t Absent g e = tt

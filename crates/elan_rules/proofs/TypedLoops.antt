@@ -68,7 +68,7 @@ module _ (here : Stand) where
       let numbers = both _ _ b.0 in
       let bounds = both _ _ numbers.1 in
       let truths = both _ _ b.1 in
-      on_bind (Lies Int) Good (p.variable n) _ (ty.variable_good here Int n gn numbers.0)
+      on_bind (Lies Int) Good (p.variable at n) _ (ty.variable_good here at Int n gn numbers.0)
       (λ x k. count_typed x (r.first_value (p.written f)) w (p.written l) (p.written c) (p.actions us) (p.written u) k
       (first_typed (p.written f) (ty.may_typed here Int f gf bounds.0)) (ty.may_typed here Int l gl bounds.1) (ty.may_typed here Truths c gc truths.0)
       (ty.actions_typed here us gs) (ty.may_typed here Truths u gu truths.1))) (λ e. tt)

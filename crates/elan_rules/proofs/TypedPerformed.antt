@@ -97,22 +97,23 @@ module _ (here : Stand) where
   place_given : (t : ElanType) (x : PlacePhrase) → Lies t x → GivenFor (record { of = t; access = Var }) (actual.Place x t)
   place_given t x l = takes_self t Var _ (given_place_is here x t ∙ given_as_typed Var t _ (only_if_holds _ _ t (has_self t _ l) refl))
 
-  given_as_good : (a : Access) (t : ElanType) (m : Meant) → Good m → delivers t m ≡ true → Gives (GivenFor (record { of = t; access = a })) (r.given_as a t m)
-  given_as_good Const t m g e = takes_self t Const _ (given_value_is here (p.value_of m) ∙ given_as_typed Const t _ (ty.value_typed here t m g e))
-  given_as_good Var t m g e =
-      on_bind (Lies t) (GivenFor (record { of = t; access = Var })) (p.variable m) _ (ty.variable_good here t m g e) (λ x l. place_given t x l)
+  given_as_good : (at : ℕ) (a : Access) (t : ElanType) (m : Meant) → Good m → delivers t m ≡ true
+      → Gives (GivenFor (record { of = t; access = a })) (r.given_as at a t m)
+  given_as_good at Const t m g e = takes_self t Const _ (given_value_is here (p.value_of m) ∙ given_as_typed Const t _ (ty.value_typed here t m g e))
+  given_as_good at Var t m g e =
+      on_bind (Lies t) (GivenFor (record { of = t; access = Var })) (p.variable at m) _ (ty.variable_good here at t m g e) (λ x l. place_given t x l)
 
   abbrev AllGiven : List Parameter → List Actual → Type 0
   AllGiven ps as' = take_all ps (map (actual_type here) as') ≡ true
 
-  given_good : (ps : List Parameter) (ms : List Meant) → AllGood ms → fit ps ms ≡ true → Gives (AllGiven ps) (r.given ps ms)
-  given_good [] [] g e = refl
-  given_good [] (m ∷ ms) g e = absurd cc
-  given_good (q ∷ ps) [] g e = absurd cc
-  given_good (q ∷ ps) (m ∷ ms) g e =
+  given_good : (at : ℕ) (ps : List Parameter) (ms : List Meant) → AllGood ms → fit ps ms ≡ true → Gives (AllGiven ps) (r.given at ps ms)
+  given_good at [] [] g e = refl
+  given_good at [] (m ∷ ms) g e = absurd cc
+  given_good at (q ∷ ps) [] g e = absurd cc
+  given_good at (q ∷ ps) (m ∷ ms) g e =
       let b = both _ _ e in
-      on_bind (GivenFor q) (AllGiven (q ∷ ps)) (r.given_as q.access q.of m) _ (given_as_good q.access q.of m g.0 b.0)
-      (λ x h. on_bind (AllGiven ps) (AllGiven (q ∷ ps)) (r.given ps ms) _ (given_good ps ms g.1 b.1) (λ xs i. and_true _ _ h i))
+      on_bind (GivenFor q) (AllGiven (q ∷ ps)) (r.given_as at q.access q.of m) _ (given_as_good at q.access q.of m g.0 b.0)
+      (λ x h. on_bind (AllGiven ps) (AllGiven (q ∷ ps)) (r.given at ps ms) _ (given_good at ps ms g.1 b.1) (λ xs i. and_true _ _ h i))
 
   -- ---- calls
 
@@ -236,4 +237,4 @@ module _ (here : Stand) where
 
   pub called_good : (at : ℕ) (c : Callable) (ms : List Meant) → Calls c → AllGood ms → fit c.parameters ms ≡ true → Gives Good (r.called at c ms)
   called_good at c ms h g e =
-      on_bind (AllGiven c.parameters) Good (r.given c.parameters ms) _ (given_good c.parameters ms g e) (λ as' i. h as' i at)
+      on_bind (AllGiven c.parameters) Good (r.given at c.parameters ms) _ (given_good at c.parameters ms g e) (λ as' i. h as' i at)

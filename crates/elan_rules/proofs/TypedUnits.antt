@@ -43,18 +43,15 @@ module _ (here : Stand) where
   pub number_good : (at : ℕ) (n : ℤ) → Gives Good (rules.number at n)
   number_good at n = on_if Good (in_range n) _ _ (λ e. number_is here n ∙ only_if_holds (in_range n) _ Int e refl) (λ e. tt)
 
-  bracketed_value_good : (at : ℕ) (m : Meant) → Good m → Gives Good (rules.bracketed_value at m)
-  bracketed_value_good at Absent g = tt
-  bracketed_value_good at (Variable p t x) g = tt
-  bracketed_value_good at (Value p t v) g = g
-  bracketed_value_good at (Done as') g = g
-  bracketed_value_good at (Left as') g = g
-  bracketed_value_good at (Labels ns) g = tt
-  bracketed_value_good at (Bodies bs) g = tt
-  bracketed_value_good at (Level us bs) g = tt
-
-  pub bracketed_good : (at : ℕ) (m : Meant) → Good m → Gives Good (rules.bracketed at m)
-  bracketed_good at m g = bracketed_value_good at (p.loaded m) (ty.loaded_good here m g)
+  pub bracketed_good : (at : ℕ) (m : Meant) → Good m → Good (rules.bracketed at m)
+  bracketed_good at Absent g = g
+  bracketed_good at (Variable p t x) g = ty.load_typed here t x g
+  bracketed_good at (Value p t v) g = g
+  bracketed_good at (Done as') g = g
+  bracketed_good at (Left as') g = g
+  bracketed_good at (Labels ns) g = g
+  bracketed_good at (Bodies bs) g = g
+  bracketed_good at (Level us bs) g = g
 
   pub if_value_typed : (c : ValuePhrase) (t : ElanType) (v w : ValuePhrase) → Has Truths c → Has t v → Has t w → Has t (value.If c v w)
   if_value_typed c t v w h g k = value_if_is here c v w ∙ only_if_holds _ _ t (and_true _ _ (has_self Truths _ h) (agree_self t _ _ g k)) g
@@ -74,13 +71,13 @@ module _ (here : Stand) where
 
   -- ---- stores
 
-  abbrev Agreed : Meant → Meant → ElanType → Type 0
-  Agreed l m t = Gives (Lies t) (p.variable l) × Has t (p.value_of m)
+  abbrev Agreed : ℕ → Meant → Meant → ElanType → Type 0
+  Agreed at l m t = Gives (Lies t) (p.variable at l) × Has t (p.value_of m)
 
-  pub agreed_good : (at : ℕ) (l m : Meant) → Good l → Good m → Gives (Agreed l m) (r.agreed at l m)
+  pub agreed_good : (at : ℕ) (l m : Meant) → Good l → Good m → Gives (Agreed at l m) (r.agreed at l m)
   agreed_good at Absent m g h = tt
-  agreed_good at (Variable p t x) m g h = on_if (Agreed (Variable p t x) m) (delivers t m) _ _ (λ e. (g, ty.value_typed here t m h e)) (λ e. tt)
-  agreed_good at (Value p t v) m g h = on_if (Agreed (Value p t v) m) (delivers t m) _ _ (λ e. (tt, ty.value_typed here t m h e)) (λ e. tt)
+  agreed_good at (Variable p t x) m g h = on_if (Agreed at (Variable p t x) m) (delivers t m) _ _ (λ e. (g, ty.value_typed here t m h e)) (λ e. tt)
+  agreed_good at (Value p t v) m g h = on_if (Agreed at (Value p t v) m) (delivers t m) _ _ (λ e. (tt, ty.value_typed here t m h e)) (λ e. tt)
   agreed_good at (Done as') m g h = tt
   agreed_good at (Left as') m g h = tt
   agreed_good at (Labels ns) m g h = tt
@@ -92,8 +89,8 @@ module _ (here : Stand) where
 
   pub stored_good : (at : ℕ) (l m : Meant) → Good l → Good m → Gives IsTyped (r.stored at l m)
   stored_good at l m g h =
-      on_bind (Agreed l m) IsTyped (r.agreed at l m) _ (agreed_good at l m g h) (λ t a.
-      on_bind (Lies t) IsTyped (p.variable l) _ a.0 (λ x k. store_is here x t (p.value_of m) ∙ and_true _ _ (has_self t _ k) (has_self t _ a.1)))
+      on_bind (Agreed at l m) IsTyped (r.agreed at l m) _ (agreed_good at l m g h) (λ t a.
+      on_bind (Lies t) IsTyped (p.variable at l) _ a.0 (λ x k. store_is here x t (p.value_of m) ∙ and_true _ _ (has_self t _ k) (has_self t _ a.1)))
 
   pub assigned_good : (at : ℕ) (l m : Meant) → Good l → Good m → Gives Good (r.assigned at l m)
   assigned_good at l m g h =
@@ -131,28 +128,25 @@ module _ (here : Stand) where
   pub in_order_good : (ms : List Meant) → AllGood ms → Good (r.in_order ms)
   in_order_good ms g = ended_good (p.actions_of ms) (r.last_value Absent ms) (ty.actions_of_typed here ms g) (last_good Absent ms tt g)
 
-  alone_value_good : (m : Meant) → Good m → Gives Good (r.alone_value m)
-  alone_value_good Absent g = tt
-  alone_value_good (Variable at t x) g = tt
-  alone_value_good (Value at t v) g = value_unit_is here v ∙ g
-  alone_value_good (Done as') g = ty.unit_typed here as' g
-  alone_value_good (Left as') g = ty.unit_typed here as' g
-  alone_value_good (Labels ns) g = tt
-  alone_value_good (Bodies bs) g = tt
-  alone_value_good (Level us bs) g = tt
-
-  pub alone_good : (m : Meant) → Good m → Gives Good (r.alone m)
-  alone_good m g = alone_value_good (p.loaded m) (ty.loaded_good here m g)
+  pub alone_good : (m : Meant) → Good m → Good (r.alone m)
+  alone_good Absent g = ty.unit_typed here [] refl
+  alone_good (Variable at t x) g = value_unit_is here (value.Load x t) ∙ ty.load_typed here t x g
+  alone_good (Value at t v) g = value_unit_is here v ∙ g
+  alone_good (Done as') g = ty.unit_typed here as' g
+  alone_good (Left as') g = ty.unit_typed here as' g
+  alone_good (Labels ns) g = ty.unit_typed here [] refl
+  alone_good (Bodies bs) g = ty.unit_typed here [] refl
+  alone_good (Level us bs) g = ty.unit_typed here [] refl
 
   pub without_value_good : (m : Meant) → Good m → Gives Good (r.without_value m)
-  without_value_good Absent g = g
-  without_value_good (Variable at t x) g = g
+  without_value_good Absent g = refl
+  without_value_good (Variable at t x) g = tt
   without_value_good (Value at t v) g = tt
   without_value_good (Done as') g = g
   without_value_good (Left as') g = g
-  without_value_good (Labels ns) g = g
-  without_value_good (Bodies bs) g = tt
-  without_value_good (Level us bs) g = g
+  without_value_good (Labels ns) g = refl
+  without_value_good (Bodies bs) g = refl
+  without_value_good (Level us bs) g = refl
 
   pub must_deliver_good : (at : ℕ) (t : ElanType) (m : Meant) → Good m → Gives Good (r.must_deliver at t m)
   must_deliver_good at t m g = on_if Good (r.agrees_with t m) _ _ (λ e. g) (λ e. tt)

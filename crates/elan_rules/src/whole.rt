@@ -1,62 +1,83 @@
-//! The rules of phrases with several parts, over the list of these parts.
+//! Phrases with several parts, by what these parts mean.
 
+ghost use Rattle.std.specs.Prelude.{[], ◌∷◌};
+ghost use Rattle.elan_scope.specs.declared.known.Known.{Known};
 ghost use Rattle.elan_scope.specs.Phrase as form;
-ghost use Rattle.elan_rules.specs.Rules.{rule};
-ghost use Rattle.elan_meant.specs.Verdict.{Tells};
+ghost use Rattle.elan_scope.specs.Phrase.{Phrase, pair, row};
+ghost use Rattle.elan_scope.specs.Answer.{Is};
+ghost use Rattle.elan_meant.specs.walks.Arity.{triple};
+ghost use Rattle.elan_rules.specs.Meaning.{judged};
 
-use elan_meant::arity::{six_of, three_of, two_of};
+use crate::assignment::assignment;
 use elan_meant::meant::Meant;
-use elan_meant::row::Judged;
+use elan_meant::row::{Judged, two};
+use elan_scope::scope::Scope;
 use elan_scope::trouble::Trouble;
-use elan_types::{Scope as Owner, Way, Why};
-use eu_base::List;
+use elan_types::{Scope as Owner, Way};
 use std::alloc::Global;
 use unit_rules::body::refinement;
 use unit_rules::repetition::{Bounds, Turns, counted, repeated};
 use unit_rules::store::initial;
 use value_rules::value::{cand, cor};
 
-/// CAND.
-#[tactic(auto, using(crate::proofs::Arity::cand_parts))]
-pub fn cand_parts(alloc: Global, at: u32, parts: List<Meant>) -> Judged
-    ensures { Tells result (rule (form.cand at) parts) }
+/// What three parts mean.
+pub type Three = Result<(Meant, Meant, Meant), Trouble>;
+
+/// CAND of two expressions.
+pub fn cand_phrase(alloc: Global, at: u32, left: Judged, right: Judged) -> Judged
+    ensures { (k : Known) → (p : Phrase) → (q : Phrase) → Is left (judged k p) → Is right (judged k q) → Is result (judged k (pair (form.cand at) p q)) }
 {
-    match two_of(parts) {
-        None => Err(Trouble::Breaks(0, Why::Unknown)),
-        Some((left, right)) => cand(alloc, at, left, right),
+    match two(left, right) {
+        Err(trouble) => Err(trouble),
+        Ok((left, right)) => cand(alloc, at, left, right),
     }
 }
 
-/// COR.
-#[tactic(auto, using(crate::proofs::Arity::cor_parts))]
-pub fn cor_parts(alloc: Global, at: u32, parts: List<Meant>) -> Judged
-    ensures { Tells result (rule (form.cor at) parts) }
+/// COR of two expressions.
+pub fn cor_phrase(alloc: Global, at: u32, left: Judged, right: Judged) -> Judged
+    ensures { (k : Known) → (p : Phrase) → (q : Phrase) → Is left (judged k p) → Is right (judged k q) → Is result (judged k (pair (form.cor at) p q)) }
 {
-    match two_of(parts) {
-        None => Err(Trouble::Breaks(0, Why::Unknown)),
-        Some((left, right)) => cor(alloc, at, left, right),
+    match two(left, right) {
+        Err(trouble) => Err(trouble),
+        Ok((left, right)) => cor(alloc, at, left, right),
     }
 }
 
 /// A name in its declaration, and its initial value.
-#[tactic(auto, using(crate::proofs::Arity::initial_parts))]
-pub fn initial_parts(alloc: Global, at: u32, parts: List<Meant>) -> Judged
-    ensures { Tells result (rule (form.initial at) parts) }
+pub fn initial_phrase(alloc: Global, at: u32, name: Judged, init: Judged) -> Judged
+    ensures { (k : Known) → (p : Phrase) → (q : Phrase) → Is name (judged k p) → Is init (judged k q) → Is result (judged k (pair (form.initial at) p q)) }
 {
-    match two_of(parts) {
-        None => Err(Trouble::Breaks(0, Why::Unknown)),
-        Some((name, init)) => initial(alloc, at, name, init),
+    match two(name, init) {
+        Err(trouble) => Err(trouble),
+        Ok((name, init)) => initial(alloc, at, name, init),
     }
 }
 
-/// A loop: the condition of WHILE, its units, and the condition of UNTIL.
-#[tactic(auto, using(crate::proofs::Arity::loop_parts))]
-pub fn loop_parts(alloc: Global, at: u32, parts: List<Meant>) -> Judged
-    ensures { Tells result (rule (form.loop at) parts) }
+/// An assignment.
+pub fn assignment_phrase(
+    alloc: Global,
+    at: u32,
+    scope: &Scope,
+    left: Judged,
+    right: Judged,
+) -> Judged
+    ensures { (k : Known) → (p : Phrase) → (q : Phrase) → Is left (judged k p) → Is right (judged k q) → Is result
+        (judged k (pair (form.assignment at scope.now) p q)) }
 {
-    match three_of(parts) {
-        None => Err(Trouble::Breaks(0, Why::Unknown)),
-        Some((condition, units, until)) => repeated(
+    match two(left, right) {
+        Err(trouble) => Err(trouble),
+        Ok((left, right)) => assignment(alloc, at, scope, left, right),
+    }
+}
+
+/// A loop, by the condition of WHILE, its units, and the condition of UNTIL.
+pub fn loop_phrase(alloc: Global, at: u32, turns: Three) -> Judged
+    ensures { (k : Known) → (c : Phrase) → (us : Phrase) → (u : Phrase) → Is turns (triple (judged k c) (judged k us) (judged k u)) → Is result
+        (judged k (row (form.loop at) (c ∷ us ∷ u ∷ []))) }
+{
+    match turns {
+        Err(trouble) => Err(trouble),
+        Ok((condition, units, until)) => repeated(
             alloc,
             at,
             Turns {
@@ -68,14 +89,15 @@ pub fn loop_parts(alloc: Global, at: u32, parts: List<Meant>) -> Judged
     }
 }
 
-/// A loop with a counter: the counter, its first value, its limit, and what a loop has.
-#[tactic(auto, using(crate::proofs::Arity::count_parts))]
-pub fn count_parts(alloc: Global, at: u32, way: Way, parts: List<Meant>) -> Judged
-    ensures { Tells result (rule (form.count at way) parts) }
+/// A loop with a counter, by the counter, its first value, its limit, and what a loop has.
+pub fn count_phrase(alloc: Global, at: u32, way: Way, bounds: Three, turns: Three) -> Judged
+    ensures { (k : Known) → (n : Phrase) → (f : Phrase) → (l : Phrase) → (c : Phrase) → (us : Phrase) → (u : Phrase)
+        → Is bounds (triple (judged k n) (judged k f) (judged k l)) → Is turns (triple (judged k c) (judged k us) (judged k u)) → Is result
+        (judged k (row (form.count at way) (n ∷ f ∷ l ∷ c ∷ us ∷ u ∷ []))) }
 {
-    match six_of(parts) {
-        None => Err(Trouble::Breaks(0, Why::Unknown)),
-        Some((name, from, limit, condition, units, until)) => counted(
+    match two(bounds, turns) {
+        Err(trouble) => Err(trouble),
+        Ok(((name, from, limit), (condition, units, until))) => counted(
             alloc,
             at,
             way,
@@ -89,14 +111,17 @@ pub fn count_parts(alloc: Global, at: u32, way: Way, parts: List<Meant>) -> Judg
     }
 }
 
-/// A refinement: its name, and its units.
-#[tactic(auto, using(crate::proofs::Arity::refinement_parts))]
-pub fn refinement_parts(alloc: Global, owner: Owner, parts: List<Meant>) -> Judged
-    ensures { Tells result (rule (form.refinement owner) parts) }
+/// A refinement, by its name and its units.
+pub fn refinement_phrase(alloc: Global, owner: Owner, name: Judged, units: Judged) -> Judged
+    ensures { (k : Known) → (p : Phrase) → (q : Phrase) → Is name (judged k p) → Is units (judged k q) → Is result
+        (judged k (pair (form.refinement owner) p q)) }
 {
-    match two_of(parts) {
-        None => Err(Trouble::Breaks(0, Why::Unknown)),
-        Some((name, units)) => {
+    match two(name, units) {
+        Err(trouble) => {
+            owner.let_go();
+            Err(trouble)
+        }
+        Ok((name, units)) => {
             name.let_go();
             refinement(alloc, owner, units)
         }

@@ -20,7 +20,7 @@ pub data Plain : Type 0 where
   -- a part that is not written
   absent : Plain
   -- what is not built, which is refused before its meaning is asked for
-  not_built : Plain
+  not_built : ℕ → Plain
   number : ℕ → ℤ → Plain
   truth : ℕ → Bool → Plain
   -- an operator with its operands, or a procedure with its actuals
@@ -94,9 +94,10 @@ pair form p q = row form (p ∷ q ∷ [])
 abbrev pub name : Usage → ℕ → Scope → List ℕ → Phrase
 name u at s x = phrase (asking (named u at s x)) none
 
--- the place of a unit: of an expression that stands alone it is that of the expression
+-- the place of an expression or a unit; what has none of its own stands where its first part does
 abbrev mutual
   pub place : Phrase → ℕ
+  place (phrase (plain (not_built at)) ps) = at
   place (phrase (plain (number at n)) ps) = at
   place (phrase (plain (truth at b)) ps) = at
   place (phrase (asking (named u at s x)) ps) = at
@@ -107,12 +108,11 @@ abbrev mutual
   place (phrase (plain (choice at)) ps) = at
   place (phrase (plain (selection at)) ps) = at
   place (phrase (plain (declaration at)) ps) = at
-  place (phrase (plain statement) ps) = first_place ps
   place (phrase (plain (assignment at s)) ps) = at
   place (phrase (plain (loop at)) ps) = at
   place (phrase (plain (count at w)) ps) = at
   place (phrase (asking (leave at s x)) ps) = at
-  place p = 0
+  place (phrase form ps) = first_place ps
 
   pub first_place : Parts → ℕ
   first_place none = 0

@@ -38,5 +38,5 @@ count w f l c us u x = unit_of (action.Count x (first_value (written f)) w (writ
 abbrev pub counted : ℕ → Way → Meant → Meant → Meant → Meant → Meant → Meant → Verdict Meant
 counted at w n f l c us u =
     if are_numbers n f l && conditions c u
-    then variable n >>= (λ x. gives (count w f l c us u x))
+    then variable at n >>= (λ x. gives (count w f l c us u x))
     else breaks (at, WrongType)

@@ -11,10 +11,10 @@ use Rattle.elan_types.specs.declared.core_phrase.Content.TheVariants as content
 use Rattle.elan_types.specs.declared.core_phrase.Body.{Body}
 use Rattle.elan_types.specs.declared.why.Why.TheVariants.{WrongType}
 use Rattle.elan_meant.specs.declared.meant.Meant.{Meant}
-use Rattle.elan_meant.specs.declared.meant.Meant.TheVariants.{Absent, Value, Done, Left, Bodies}
+use Rattle.elan_meant.specs.declared.meant.Meant.TheVariants.{Absent, Variable, Value, Done, Left, Bodies}
 use Rattle.elan_meant.specs.Verdict.{Verdict, gives, breaks, ◌>>=◌}
 use Rattle.elan_meant.specs.Operands.{delivers}
-use Rattle.elan_meant.specs.Parts.{unasked, value_of, variable, type_in, actions, actions_of, loaded, unit_of, unreached}
+use Rattle.elan_meant.specs.Parts.{value_of, variable, type_in, actions, actions_of, unit_of, unreached}
 
 -- ---- stores
 
@@ -28,7 +28,7 @@ agreed at l r = agreed_as at (type_in l) r
 
 -- A variable is needed at the left.
 abbrev pub stored : ℕ → Meant → Meant → Verdict Action
-stored at l r = agreed at l r >>= (λ t. variable l >>= (λ x. gives (action.Store x t (value_of r))))
+stored at l r = agreed at l r >>= (λ t. variable at l >>= (λ x. gives (action.Store x t (value_of r))))
 
 abbrev pub assigned : ℕ → Meant → Meant → Verdict Meant
 assigned at l r = stored at l r >>= (λ a. gives (unit_of (a ∷ [])))
@@ -59,25 +59,18 @@ ended as' m = Done as'
 abbrev pub in_order : List Meant → Meant
 in_order ms = ended (actions_of ms) (last_value Absent ms)
 
-abbrev pub value_unit : ℕ → ElanType → ValuePhrase → Meant
-value_unit at t v = Value at t (value.Unit v)
-
-abbrev pub alone_value : Meant → Verdict Meant
-alone_value (Value at t v) = gives (value_unit at t v)
-alone_value (Done as') = gives (unit_of as')
-alone_value (Left as') = gives (Left (action.Unit as' ∷ []))
-alone_value m = unasked
-
 -- An expression that stands alone spends a mark. A variable is a value there.
-abbrev pub alone : Meant → Verdict Meant
-alone m = alone_value (loaded m)
+abbrev pub alone : Meant → Meant
+alone (Variable at t x) = Value at t (value.Unit (value.Load x t))
+alone (Value at t v) = Value at t (value.Unit v)
+alone (Left as') = Left (action.Unit as' ∷ [])
+alone m = unit_of (actions m)
 
--- The value is superfluous. A LEAVE that is not the last unit agrees with nothing.
+-- A value is superfluous. What delivers nothing is done, a LEAVE that is not the last unit too.
 abbrev pub without_value : Meant → Verdict Meant
+without_value (Variable at t x) = breaks (at, WrongType)
 without_value (Value at t v) = breaks (at, WrongType)
-without_value (Left as') = gives (Done as')
-without_value (Bodies bs) = unasked
-without_value m = gives m
+without_value m = gives (Done (actions m))
 
 -- A LEAVE agrees with every type.
 abbrev pub agrees_with : ElanType → Meant → Bool

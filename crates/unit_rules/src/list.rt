@@ -4,14 +4,15 @@ ghost use Rattle.std.specs.Prelude.{◌≡◌, ◌++◌, OnOk, IfOk};
 ghost use Rattle.elan_meant.specs.declared.meant.Meant.TheVariants as means;
 ghost use Rattle.elan_meant.specs.Parts as part_specs;
 ghost use Rattle.unit_rules.specs.Units as spec;
-ghost use Rattle.elan_meant.specs.Verdict.{Tells};
+ghost use Rattle.elan_meant.specs.Verdict.{gives, Tells};
 
 use elan_meant::meant::Meant;
 use elan_meant::operands::delivers;
-use elan_meant::part::{delivering, loaded, one, unit_of};
+use elan_meant::part;
+use elan_meant::part::{delivering, one, unit_of};
 use elan_meant::row::{Judged, append};
 use elan_scope::trouble::Trouble;
-use elan_types::{Action, Body, ElanType, ValuePhrase, Why};
+use elan_types::{Action, ElanType, ValuePhrase, Why};
 use eu_base::{Boxed, List, NoMemory};
 use std::alloc::Global;
 use std::mem::replace;
@@ -97,46 +98,39 @@ pub fn declaration(alloc: Global, parts: List<Meant>) -> Result<Meant, NoMemory>
     Ok(Meant::Done(units))
 }
 
-fn alone_value(alloc: Global, meant: Meant) -> Judged
-    ensures { Tells result (spec.alone_value meant) }
+/// An expression that stands alone.
+pub fn alone(alloc: Global, meant: Meant) -> Judged
+    ensures { Tells result (gives (spec.alone meant)) }
 {
     match meant {
+        Meant::Variable { at, of, place } => {
+            let value = Boxed::new(alloc, ValuePhrase::Load(place, of))?;
+            delivering(alloc, at, of, ValuePhrase::Unit(value))
+        }
         Meant::Value { at, of, value } => delivering(alloc, at, of, ValuePhrase::Unit(value)),
-        Meant::Done(actions) => unit_of(alloc, actions),
         Meant::Left(actions) => {
             let units = one(alloc, Action::Unit(actions))?;
             Ok(Meant::Left(units))
         }
-        other => {
-            other.let_go();
-            Err(Trouble::Breaks(0, Why::Unknown))
-        }
+        other => unit_of(alloc, part::actions(alloc, other)),
     }
 }
 
-/// An expression that stands alone.
-pub fn alone(alloc: Global, meant: Meant) -> Judged
-    ensures { Tells result (spec.alone meant) }
-{
-    let meant = loaded(alloc, meant)?;
-    alone_value(alloc, meant)
-}
-
 /// A unit that may deliver nothing.
-pub fn without_value(meant: Meant) -> Judged
+pub fn without_value(alloc: Global, meant: Meant) -> Judged
     ensures { Tells result (spec.without_value meant) }
 {
     match meant {
+        Meant::Variable {
+            at,
+            of: _of,
+            place: _place,
+        } => Err(Trouble::Breaks(at, Why::WrongType)),
         Meant::Value { at, of: _of, value } => {
             value.into_inner().let_go();
             Err(Trouble::Breaks(at, Why::WrongType))
         }
-        Meant::Left(actions) => Ok(Meant::Done(actions)),
-        Meant::Bodies(bodies) => {
-            Body::all_let_go(bodies);
-            Err(Trouble::Breaks(0, Why::Unknown))
-        }
-        other => Ok(other),
+        other => Ok(Meant::Done(part::actions(alloc, other))),
     }
 }
 

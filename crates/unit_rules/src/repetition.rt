@@ -120,12 +120,12 @@ fn count(
 }
 
 // A variable is needed as a counter.
-fn counting(alloc: Global, way: Way, bounds: Bounds, turns: Turns) -> Judged
-    ensures { Tells result (and_then (parts.variable bounds.name)
+fn counting(alloc: Global, at: u32, way: Way, bounds: Bounds, turns: Turns) -> Judged
+    ensures { Tells result (and_then (parts.variable at bounds.name)
         (λ x. gives (spec.count way bounds.from bounds.limit turns.condition turns.units turns.until x))) }
 {
     let Bounds { name, from, limit } = bounds;
-    match variable(name) {
+    match variable(at, name) {
         Err(trouble) => {
             from.let_go();
             limit.let_go();
@@ -141,7 +141,7 @@ pub fn counted(alloc: Global, at: u32, way: Way, bounds: Bounds, turns: Turns) -
     ensures { Tells result (spec.counted at way bounds.name bounds.from bounds.limit turns.condition turns.units turns.until) }
 {
     if are_numbers(&bounds) && conditions(&turns) {
-        counting(alloc, way, bounds, turns)
+        counting(alloc, at, way, bounds, turns)
     } else {
         bounds.let_go();
         turns.let_go();

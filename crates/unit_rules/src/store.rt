@@ -38,7 +38,7 @@ fn stored(at: u32, left: Meant, right: Meant) -> Result<Action, Trouble>
             right.let_go();
             Err(trouble)
         }
-        Ok(of) => match variable(left) {
+        Ok(of) => match variable(at, left) {
             Err(trouble) => {
                 right.let_go();
                 Err(trouble)

@@ -7,7 +7,8 @@ use Rattle.elan_types.specs.declared.core_phrase.Actual.TheVariants as actual
 use Rattle.elan_scope.specs.declared.callable.Callee.TheVariants.{Predefined}
 use Rattle.elan_scope.specs.declared.predefined.Predefined.TheVariants as names
 use Rattle.elan_meant.specs.declared.meant.Meant.TheVariants.{Done}
-use Rattle.elan_meant.specs.Parts.{unasked, two_of}
+use Rattle.elan_types.specs.declared.why.Why.TheVariants.{WrongType}
+use Rattle.elan_meant.specs.walks.Arity.{two_of}
 use Rattle.elan_types.specs.declared.core_phrase.Parameter.{Parameter}
 use Rattle.elan_types.specs.declared.core_phrase.Actual.{Actual}
 use Rattle.elan_scope.specs.declared.trouble.Trouble.{Trouble}
@@ -17,9 +18,9 @@ use Rattle.elan_meant.specs.Verdict.{Verdict, gives, breaks, ◌>>=◌, told, Te
 use Rattle.elan_meant.specs.declared.meant.Meant.{Meant}
 use Rattle.value_rules.specs.Calls.{given, given_as, given_next, performed}
 
-pub given_none : (ps : List Parameter) → given ps [] ≡ gives []
-given_none [] = refl
-given_none (p ∷ ps) = refl
+pub given_none : (at : ℕ) (ps : List Parameter) → given at ps [] ≡ gives []
+given_none at [] = refl
+given_none at (p ∷ ps) = refl
 
 -- what is given to the first, and behind it what the others are given
 abbrev first_and : Verdict Actual → Verdict (List Actual) → Verdict (List Actual)
@@ -38,22 +39,24 @@ single : (q : Verdict Actual) → first_and q (gives []) ≡ and_last (gives [])
 single (gives a) = refl
 single (breaks f) = refl
 
-before_next : (ps : List Parameter) (m : Meant) (q : Verdict Actual) (r : Verdict (List Actual))
-    → first_and q (given_next ps m r) ≡ given_next ps m (first_and q r)
-before_next [] m q r = refl
-before_next (p ∷ ps) m q r = first_last q r (given_as p.access p.of m)
+before_next : (at : ℕ) (ps : List Parameter) (m : Meant) (q : Verdict Actual) (r : Verdict (List Actual))
+    → first_and q (given_next at ps m r) ≡ given_next at ps m (first_and q r)
+before_next at [] m q r = refl
+before_next at (p ∷ ps) m q r = first_last q r (given_as at p.access p.of m)
 
-first_given : (ps : List Parameter) (m : Meant) → given ps (m ∷ []) ≡ given_next ps m (given ps [])
-first_given [] m = refl
-first_given (p ∷ ps) m = ap (first_and (given_as p.access p.of m)) (given_none ps) ∙ single (given_as p.access p.of m)
+first_given : (at : ℕ) (ps : List Parameter) (m : Meant) → given at ps (m ∷ []) ≡ given_next at ps m (given at ps [])
+first_given at [] m = refl
+first_given at (p ∷ ps) m = ap (first_and (given_as at p.access p.of m)) (given_none at ps) ∙ single (given_as at p.access p.of m)
 
 -- one operand more
-pub given_more : (ps : List Parameter) (ms : List Meant) (m : Meant) → given ps (ms ++ m ∷ []) ≡ given_next (drop (length ms) ps) m (given ps ms)
-given_more [] [] m = refl
-given_more [] (n ∷ ms) m = refl
-given_more (p ∷ ps) [] m = first_given (p ∷ ps) m
-given_more (p ∷ ps) (n ∷ ms) m =
-    ap (first_and (given_as p.access p.of n)) (given_more ps ms m) ∙ before_next (drop (length ms) ps) m (given_as p.access p.of n) (given ps ms)
+pub given_more : (at : ℕ) (ps : List Parameter) (ms : List Meant) (m : Meant)
+    → given at ps (ms ++ m ∷ []) ≡ given_next at (drop (length ms) ps) m (given at ps ms)
+given_more at [] [] m = refl
+given_more at [] (n ∷ ms) m = refl
+given_more at (p ∷ ps) [] m = first_given at (p ∷ ps) m
+given_more at (p ∷ ps) (n ∷ ms) m =
+    ap (first_and (given_as at p.access p.of n)) (given_more at ps ms m)
+    ∙ before_next at (drop (length ms) ps) m (given_as at p.access p.of n) (given at ps ms)
 
 told_joined : (r : Verdict (List Actual)) (q : Verdict Actual) → joined (told r) (told q) ≡ told (and_last r q)
 told_joined (gives as') (gives a) = refl
@@ -61,12 +64,13 @@ told_joined (gives as') (breaks f) = refl
 told_joined (breaks f) q = refl
 
 -- what is given to the first of these parameters, behind what was given
-pub next_is : (out : Result (List Actual) Trouble) (next : Result Actual Trouble) (ps : List Parameter) (d : Parameter) (m : Meant) (r : Verdict (List Actual))
-    → 1 ≤ length ps → Tells next (given_as (get_or ps 0 d).access (get_or ps 0 d).of m) → ((q : Ruled Actual) → Is next q → Is out (joined (told r) q))
-    → Tells out (given_next ps m r)
-next_is out next [] d m r l h j = absurd (omega (arith, l))
-next_is out next (p ∷ ps) d m r l h j =
-    subst (λ (q : Ruled (List Actual)). Is out q) (told_joined r (given_as p.access p.of m)) (j (told (given_as p.access p.of m)) h)
+pub next_is : (out : Result (List Actual) Trouble) (next : Result Actual Trouble) (at : ℕ) (ps : List Parameter) (d : Parameter) (m : Meant)
+    (r : Verdict (List Actual)) → 1 ≤ length ps → Tells next (given_as at (get_or ps 0 d).access (get_or ps 0 d).of m)
+    → ((q : Ruled Actual) → Is next q → Is out (joined (told r) q))
+    → Tells out (given_next at ps m r)
+next_is out next at [] d m r l h j = absurd (omega (arith, l))
+next_is out next at (p ∷ ps) d m r l h j =
+    subst (λ (q : Ruled (List Actual)). Is out q) (told_joined r (given_as at p.access p.of m)) (j (told (given_as at p.access p.of m)) h)
 
 pub behind : (ms : List Meant) (m : Meant) (ps : List Parameter) → drop 1 (drop (length ms) ps) ≡ drop (length (ms ++ m ∷ [])) ps
 behind [] m ps = refl
@@ -75,12 +79,12 @@ behind (n ∷ ms) m (p ∷ ps) = behind ms m ps
 
 -- ---- what a callee does, by the number of what it is given
 
-abbrev pub changed_by : Change → Option (Actual × Actual) → Verdict Meant
-changed_by c (Some (actual.Place x t, actual.Value v)) = gives (Done (action.Modify c x v ∷ []))
-changed_by c o = unasked
+abbrev pub changed_by : Change → ℕ → Option (Actual × Actual) → Verdict Meant
+changed_by c at (Some (actual.Place x t, actual.Value v)) = gives (Done (action.Modify c x v ∷ []))
+changed_by c at o = breaks (at, WrongType)
 
 pub changed_is : (c : Change) (at : ℕ) (r : Option ElanType) (as' : List Actual)
-    → performed at (Predefined (names.Change c)) r as' ≡ changed_by c (two_of as')
+    → performed at (Predefined (names.Change c)) r as' ≡ changed_by c at (two_of as')
 changed_is c at r [] = refl
 changed_is c at r (actual.Place x t ∷ []) = refl
 changed_is c at r (actual.Value w ∷ []) = refl

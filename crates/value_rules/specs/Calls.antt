@@ -37,7 +37,7 @@ use Rattle.elan_scope.specs.Known.{leads_back, delivery_at}
 use Rattle.elan_scope.specs.declared.known.Known.{Known}
 use Rattle.elan_scope.specs.declared.scope.Usage.{Usage}
 use Rattle.elan_scope.specs.declared.scope.Usage.TheVariants.{Expression, Counter}
-use Rattle.elan_meant.specs.Parts.{unasked, value_of, variable, type_in}
+use Rattle.elan_meant.specs.Parts.{value_of, variable, type_in}
 use Rattle.elan_scope.specs.Ruled.{Ruled, hangs}
 
 -- ---- variables, constants and parameters
@@ -60,37 +60,37 @@ parameter at t Var p = Variable at t p
 -- ---- calls
 
 -- A variable is needed for a VAR parameter.
-abbrev pub given_as : Access → ElanType → Meant → Verdict Actual
-given_as Const t m = gives (actual.Value (value_of m))
-given_as Var t m = variable m >>= (λ x. gives (actual.Place x t))
+abbrev pub given_as : ℕ → Access → ElanType → Meant → Verdict Actual
+given_as at Const t m = gives (actual.Value (value_of m))
+given_as at Var t m = variable at m >>= (λ x. gives (actual.Place x t))
 
 -- what parameters are given, from left to right
-abbrev pub given : List Parameter → List Meant → Verdict (List Actual)
-given [] ms = gives []
-given (p ∷ ps) [] = gives []
-given (p ∷ ps) (m ∷ ms) = given_as p.access p.of m >>= (λ a. given ps ms >>= (λ as'. gives (a ∷ as')))
+abbrev pub given : ℕ → List Parameter → List Meant → Verdict (List Actual)
+given at [] ms = gives []
+given at (p ∷ ps) [] = gives []
+given at (p ∷ ps) (m ∷ ms) = given_as at p.access p.of m >>= (λ a. given at ps ms >>= (λ as'. gives (a ∷ as')))
 
 -- what was given, and behind it what the first of these parameters is given, if there is one
-abbrev pub given_next : List Parameter → Meant → Verdict (List Actual) → Verdict (List Actual)
-given_next [] m r = r
-given_next (p ∷ ps) m r = r >>= (λ as'. given_as p.access p.of m >>= (λ a. gives (as' ++ a ∷ [])))
+abbrev pub given_next : ℕ → List Parameter → Meant → Verdict (List Actual) → Verdict (List Actual)
+given_next at [] m r = r
+given_next at (p ∷ ps) m r = r >>= (λ as'. given_as at p.access p.of m >>= (λ a. gives (as' ++ a ∷ [])))
 
 abbrev pub values_in : List Actual → List ValuePhrase
 values_in [] = []
 values_in (actual.Value v ∷ as') = v ∷ values_in as'
 values_in (actual.Place x t ∷ as') = values_in as'
 
--- what a callee that delivers this, or nothing, does with what it is given
+-- what a callee that delivers this, or nothing, does with what it is given, if that suits it
 abbrev pub performed : ℕ → Callee → Option ElanType → List Actual → Verdict Meant
 performed at (Predefined (Operation o)) (Some t) as' = gives (Value at t (value.Apply o (values_in as')))
 performed at (Predefined (Change c)) r (actual.Place x t ∷ actual.Value v ∷ []) = gives (Done (action.Modify c x v ∷ []))
 performed at (Predefined (Request q)) r as' = gives (Done (action.Ask q (values_in as') ∷ []))
 performed at (Body n) (Some t) as' = gives (Value at t (value.Call n as' t))
 performed at (Body n) None as' = gives (Done (action.Call n as' ∷ []))
-performed at c r as' = unasked
+performed at c r as' = breaks (at, WrongType)
 
 abbrev pub called : ℕ → Callable → List Meant → Verdict Meant
-called at c ms = given c.parameters ms >>= performed at c.callee c.result
+called at c ms = given at c.parameters ms >>= performed at c.callee c.result
 
 -- ---- operators, and identifiers with actuals
 
@@ -110,9 +110,9 @@ referred at n Open = hangs
 referred at n Nothing = told (gives (Done (action.Refer n ∷ [])))
 referred at n (Of t) = told (gives (Value at t (value.Refer n t)))
 
--- A refinement does not call itself through any chain.
+-- A refinement does not call itself through any chain. A name that no refinement has is unknown.
 abbrev pub refined : Known → ℕ → Scope → Option ℕ → Ruled Meant
-refined k at s None = told unasked
+refined k at s None = told (breaks (at, Unknown))
 refined k at s (Some n) = if leads_back k n s.refinement then told (breaks (at, WrongPlace)) else referred at n (delivery_at k n)
 
 -- The identifier after FOR is no call, and a refinement is no variable, whatever it delivers.
@@ -141,14 +141,14 @@ declared_as at home n (denotes.Variable t) = Variable at t (place_in home n Cons
 declared_as at home n (denotes.Constant t) = Variable at t (place_in home n Const)
 declared_as at home n d = Done []
 
--- A name is declared where the first declaration of that name is this one.
+-- A name is declared where the first declaration of that name is this one. One that is declared nowhere is unknown.
 abbrev pub declared : ℕ → Option Found → Verdict Meant
-declared at None = unasked
+declared at None = breaks (at, Unknown)
 declared at (Some f) = if nat_eq f.at at then gives (declared_as at f.home f.number f.denotes) else breaks (at, Doubled)
 
 -- the heading of a PROC or OP, of which the first with equal name and types of parameters is this one. A value can be missing
 abbrev pub headed : ℕ → Bool → Option (ℕ × Heading) → Verdict Meant
-headed at missing None = unasked
+headed at missing None = breaks (at, Unknown)
 headed at missing (Some b) = if nat_eq b.1.at at then (if missing then breaks (at, WrongType) else gives (Done [])) else breaks (at, Doubled)
 
 -- ---- LEAVE

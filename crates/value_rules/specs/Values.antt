@@ -6,24 +6,20 @@ use Rattle.elan_types.specs.declared.core_phrase.ValuePhrase.TheVariants as valu
 use Rattle.elan_types.specs.declared.why.Why.TheVariants.{WrongType}
 use Rattle.eu_base.specs.Operations.{in_range}
 use Rattle.elan_meant.specs.declared.meant.Meant.{Meant}
-use Rattle.elan_meant.specs.declared.meant.Meant.TheVariants.{Value, Done, Left}
+use Rattle.elan_meant.specs.declared.meant.Meant.TheVariants.{Variable, Value}
 use Rattle.elan_meant.specs.Verdict.{Verdict, gives, breaks}
 use Rattle.elan_meant.specs.Operands.{delivers}
-use Rattle.elan_meant.specs.Parts.{unasked, value_of, loaded}
+use Rattle.elan_meant.specs.Parts.{value_of}
 
--- No text has a number of more than 16 bits.
+-- A number of more than 16 bits is no INT.
 abbrev pub number : ℕ → ℤ → Verdict Meant
-number at n = if in_range n then gives (Value at Int (value.Number n)) else unasked
+number at n = if in_range n then gives (Value at Int (value.Number n)) else breaks (at, WrongType)
 
-abbrev pub bracketed_value : ℕ → Meant → Verdict Meant
-bracketed_value at (Value p t v) = gives (Value at t v)
-bracketed_value at (Done as') = gives (Done as')
-bracketed_value at (Left as') = gives (Left as')
-bracketed_value at m = unasked
-
--- A variable in brackets is a value.
-abbrev pub bracketed : ℕ → Meant → Verdict Meant
-bracketed at m = bracketed_value at (loaded m)
+-- A variable in brackets is a value. What delivers nothing does in brackets what it does without.
+abbrev pub bracketed : ℕ → Meant → Meant
+bracketed at (Variable p t x) = Value at t (value.Load x t)
+bracketed at (Value p t v) = Value at t v
+bracketed at m = m
 
 abbrev pub are_truths : Meant → Meant → Bool
 are_truths l r = delivers Truths l && delivers Truths r

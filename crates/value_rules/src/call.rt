@@ -29,13 +29,13 @@ use std::alloc::Global;
 // ---- what is given
 
 // A VAR parameter needs a variable.
-fn given_as(parameter: Parameter, operand: Meant) -> Result<Actual, Trouble>
-    ensures { Tells result (spec.given_as parameter.access parameter.of operand) }
+fn given_as(at: u32, parameter: Parameter, operand: Meant) -> Result<Actual, Trouble>
+    ensures { Tells result (spec.given_as at parameter.access parameter.of operand) }
 {
     match parameter.access {
         Access::Const => Ok(Actual::Value(value_in(operand))),
         Access::Var => {
-            let place = variable(operand)?;
+            let place = variable(at, operand)?;
             Ok(Actual::Place(place, parameter.of))
         }
     }
@@ -43,18 +43,19 @@ fn given_as(parameter: Parameter, operand: Meant) -> Result<Actual, Trouble>
 
 // What parameters were given, and the first of those that are left, if one is.
 fn give(
+    at: u32,
     actuals: Result<List<Actual>, Trouble>,
     rest: &[Parameter],
     operand: Meant,
 ) -> Result<List<Actual>, Trouble>
-    ensures { (given : Verdict (List Actuals)) → Tells actuals given → Tells result (spec.given_next rest.now operand given) }
+    ensures { (given : Verdict (List Actuals)) → Tells actuals given → Tells result (spec.given_next at rest.now operand given) }
 {
     match rest {
         [] => {
             operand.let_go();
             actuals
         }
-        [parameter, _others @ ..] => and(actuals, given_as(*parameter, operand)),
+        [parameter, _others @ ..] => and(actuals, given_as(at, *parameter, operand)),
     }
 }
 
@@ -70,15 +71,16 @@ fn behind_first(parameters: &[Parameter]) -> &[Parameter]
 // What parameters are given, from left to right.
 fn given(
     alloc: Global,
+    at: u32,
     parameters: &[Parameter],
     operands: List<Meant>,
 ) -> Result<List<Actual>, Trouble>
-    ensures { Tells result (spec.given parameters.now operands) }
+    ensures { Tells result (spec.given at parameters.now operands) }
 {
     let mut actuals = Ok(List::new(alloc));
     let mut rest = parameters;
     for operand in operands.into_vec() {
-        actuals = give(actuals, rest, operand);
+        actuals = give(at, actuals, rest, operand);
         rest = behind_first(rest);
     }
     actuals
@@ -123,15 +125,15 @@ fn operated(
 }
 
 #[tactic(auto, using(crate::proofs::Given::changed_is))]
-fn changed(alloc: Global, change: Change, actuals: List<Actual>) -> Judged
-    ensures { (at : ℕ) → (r : Option ElanTypes) → Tells result (spec.performed at (callees.Predefined (names.Change change)) r actuals) }
+fn changed(alloc: Global, at: u32, change: Change, actuals: List<Actual>) -> Judged
+    ensures { (r : Option ElanTypes) → Tells result (spec.performed at (callees.Predefined (names.Change change)) r actuals) }
 {
     match two_of(actuals) {
-        None => Err(Trouble::Breaks(0, Why::Unknown)),
+        None => Err(Trouble::Breaks(at, Why::WrongType)),
         Some((first, second)) => match first {
-            Actual::Value(_value) => Err(Trouble::Breaks(0, Why::Unknown)),
+            Actual::Value(_value) => Err(Trouble::Breaks(at, Why::WrongType)),
             Actual::Place(place, _of) => match second {
-                Actual::Place(_other, _of) => Err(Trouble::Breaks(0, Why::Unknown)),
+                Actual::Place(_other, _of) => Err(Trouble::Breaks(at, Why::WrongType)),
                 Actual::Value(value) => done(alloc, Action::Modify(change, place, value)),
             },
         },
@@ -156,10 +158,10 @@ fn predefined(
 {
     match callee {
         Predefined::Operation(operation) => match result_type {
-            None => Err(Trouble::Breaks(0, Why::Unknown)),
+            None => Err(Trouble::Breaks(at, Why::WrongType)),
             Some(of) => operated(alloc, at, operation, of, actuals),
         },
-        Predefined::Change(change) => changed(alloc, change, actuals),
+        Predefined::Change(change) => changed(alloc, at, change, actuals),
         Predefined::Request(name) => asked(alloc, name, actuals),
     }
 }
@@ -188,7 +190,7 @@ fn performed(
 pub fn called(alloc: Global, at: u32, callable: Callable<'_>, operands: List<Meant>) -> Judged
     ensures { Tells result (spec.called at (seen.callable callable.entry) operands) }
 {
-    let actuals = given(alloc, callable.parameters, operands)?;
+    let actuals = given(alloc, at, callable.parameters, operands)?;
     performed(alloc, at, callable.callee, callable.result, actuals)
 }
 

@@ -97,7 +97,7 @@ fn refined(alloc: Global, known: &Known, at: u32, scope: &Scope, number: Option<
     ensures { Is result (spec.refined known.now at scope.now number) }
 {
     match number {
-        None => Err(Trouble::Breaks(0, Why::Unknown)),
+        None => Err(Trouble::Breaks(at, Why::Unknown)),
         Some(number) => {
             let delivery = known.delivery_at(number);
             if known.leads_back(alloc, number, scope.refinement)? {
@@ -201,7 +201,7 @@ pub fn declared(alloc: Global, at: u32, scope: &Scope, name: &[u8]) -> Judged
     ensures { Tells result (spec.declared at (scopes.find_own scope.now name.now)) }
 {
     match scope.find_own(name) {
-        None => Err(Trouble::Breaks(0, Why::Unknown)),
+        None => Err(Trouble::Breaks(at, Why::Unknown)),
         Some(found) => {
             if found.at == at {
                 declared_as(alloc, at, found)
@@ -226,7 +226,7 @@ pub fn headed(
     ensures { Tells result (spec.headed at missing (scopes.first_heading (scopes.is_alike sort name.now (scopes.types_of parameters.now)) scope.now.headings)) }
 {
     match first_alike(scope.headings.as_slice(), sort, name, parameters) {
-        None => Err(Trouble::Breaks(0, Why::Unknown)),
+        None => Err(Trouble::Breaks(at, Why::Unknown)),
         Some((_, heading)) => {
             if heading.at != at {
                 Err(Trouble::Breaks(at, Why::Doubled))

@@ -10,7 +10,7 @@ ghost use Rattle.elan_meant.specs.Verdict.{gives, Tells};
 
 use elan_meant::meant::Meant;
 use elan_meant::operands::delivers;
-use elan_meant::part::{delivering, loaded, value_of};
+use elan_meant::part::{delivering, value_of};
 use elan_meant::row::{Judged, both};
 use elan_scope::trouble::Trouble;
 use elan_types::{ElanType, ValuePhrase, Why};
@@ -32,26 +32,20 @@ pub fn truth(alloc: Global, at: u32, truth: bool) -> Judged
     delivering(alloc, at, ElanType::Bool, ValuePhrase::Truth(truth))
 }
 
-fn bracketed_value(at: u32, meant: Meant) -> Judged
-    ensures { Tells result (spec.bracketed_value at meant) }
-{
-    match meant {
-        Meant::Value { at: _at, of, value } => Ok(Meant::Value { at, of, value }),
-        Meant::Done(actions) => Ok(Meant::Done(actions)),
-        Meant::Left(actions) => Ok(Meant::Left(actions)),
-        other => {
-            other.let_go();
-            Err(Trouble::Breaks(0, Why::Unknown))
-        }
-    }
-}
-
 /// A phrase in brackets: its value is no variable.
 pub fn bracketed(alloc: Global, at: u32, meant: Meant) -> Judged
-    ensures { Tells result (spec.bracketed at meant) }
+    ensures { Tells result (gives (spec.bracketed at meant)) }
 {
-    let meant = loaded(alloc, meant)?;
-    bracketed_value(at, meant)
+    match meant {
+        Meant::Variable { at: _at, of, place } => delivering(
+            alloc,
+            at,
+            of,
+            ValuePhrase::Load(place, of),
+        ),
+        Meant::Value { at: _at, of, value } => Ok(Meant::Value { at, of, value }),
+        other => Ok(other),
+    }
 }
 
 fn are_truths(left: &Meant, right: &Meant) -> bool

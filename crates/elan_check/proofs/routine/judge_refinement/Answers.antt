@@ -3,18 +3,15 @@ use Rattle.elan_types.specs.declared.core_phrase.Scope.{Scope as Owner}
 use Rattle.elan_tree.specs.declared.phrase.Unit.{Unit as Statement}
 use Rattle.elan_scope.specs.declared.delivery.Delivery.TheVariants.{Open}
 use Rattle.elan_scope.specs.Phrase as form
-use Rattle.elan_scope.specs.Phrase.{leaf, part, none}
+use Rattle.elan_scope.specs.Phrase.{leaf, pair}
 use Rattle.elan_scope.specs.Answer.{Is}
-use Rattle.elan_meant.specs.Verdict.{Tells}
-use Rattle.elan_rules.specs.Rules.{rule}
 use Rattle.elan_rules.specs.Meaning.{judged}
 use Rattle.elan_judge.specs.Shape as shape
 use Rattle.elan_check.specs.Level as l
-use Rattle.elan_judge.proofs.Rows.{whole_is}
 use Rattle.elan_check.proofs.routine.judge_refinement.Goals as goal
 
-pub returns-in-Ok-clause-meaning : goal.returns-in-Ok-clause-meaning
-returns-in-Ok-clause-meaning c =
+pub returns-clause-meaning : goal.returns-clause-meaning
+returns-clause-meaning c =
     let k = c.args.known.now in
     let s = c.args.scope.now in
     let r = c.args.refinement.now in
@@ -23,7 +20,5 @@ returns-in-Ok-clause-meaning c =
     let units =
     subst (λ (us : List Statement). Is c.judge_units-units.result (judged k (shape.units Open (map (shape.unit inner) us)))) c.as_slice-2.ensures
     c.judge_units-units.ensures in
-    whole_is k (form.refinement (l.owner_of s.routine)) (part (l.declares s r.name) (part (l.refined_units s c.args.number r) none)) c.refinement_parts.result
-    c.in-Ok.parts
-    (c.in-Ok.ensures (judged k (l.declares s r.name)) (judged k (l.refined_units s c.args.number r)) name units)
-    (subst (λ (o : Owner). Tells c.refinement_parts.result (rule (form.refinement o) c.in-Ok.parts)) c.owner_of.ensures c.refinement_parts.ensures)
+    subst (λ (o : Owner). Is c.refinement_phrase.result (judged k (pair (form.refinement o) (l.declares s r.name) (l.refined_units s c.args.number r))))
+    c.owner_of.ensures (c.refinement_phrase.ensures k (l.declares s r.name) (l.refined_units s c.args.number r) name units)

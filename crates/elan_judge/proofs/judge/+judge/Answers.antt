@@ -10,11 +10,13 @@ use Rattle.elan_meant.specs.Verdict.{Tells}
 use Rattle.elan_rules.specs.Meaning.{judged, judged_all}
 use Rattle.elan_scope.specs.declared.scope.Usage.TheVariants.{Counter as Counts}
 use Rattle.elan_scope.specs.Phrase as form
-use Rattle.elan_scope.specs.Phrase.{Phrase, leaf, all_of, part, none}
+use Rattle.elan_scope.specs.Phrase.{Phrase, row, leaf, all_of, part}
+use Rattle.elan_meant.specs.walks.Arity.{triple}
+use Rattle.eu_base.specs.declared.operation.Way.{Way}
 use Rattle.elan_judge.specs.Shape as shape
-use Rattle.elan_judge.proofs.Rows.{row_goes, two_more, three_more, roles_go, roles_end, row_is, one_is, branches_go, branches_end, cases_go, cases_end}
+use Rattle.elan_judge.proofs.Rows.{row_goes, two_more, roles_go, roles_end, row_is, one_is, branches_go, branches_end, cases_go, cases_end}
 use Rattle.elan_judge.proofs.Rows.{first_fails, first_is, whole_fails, whole_is}
-use Rattle.elan_judge.proofs.Shapes.{units_of, units_absent, units_written, choice_parts, case_parts, loop_parts, choice_is, selection_is, cand_is, cor_is}
+use Rattle.elan_judge.proofs.Shapes.{units_of, units_absent, units_written, choice_parts, case_parts, loop_of, choice_is, selection_is, cand_is, cor_is}
 use Rattle.elan_judge.proofs.Shapes.{loop_is, branch_shape, case_shape, counter_shape, item_is, variables_is, constants_is}
 use Rattle.elan_judge.proofs.judge.+judge.Goals as goal
 use Rattle.elan_judge.proofs.judge.+judge.Goals.{judge-in-None, judge-in-Some, judge-in-None-otherwise, judge-in-Some-otherwise}
@@ -109,27 +111,19 @@ judge-judge_cases-row-requires t c =
     let deep = ap size-Expr c.in-Select.is ∙ sized-Select c.in-Select.at c.in-Select.of c.in-Select.cases c.in-Select.otherwise in
     rw c.as_slice-in-Select.ensures (omega (arith, deep))
 
-pub judge-returns-in-Ok-pair-2 : goal.judge-returns-in-Ok-pair-2
-judge-returns-in-Ok-pair-2 t c =
-    cand_is c.args.scope.now c.args.known.now c.cand_parts.result c.args.expr.now c.in-Cand.at c.in-Cand.left c.get-in-Cand.result.now c.in-Cand.right
+pub judge-returns-in-Cand : goal.judge-returns-in-Cand
+judge-returns-in-Cand t c =
+    cand_is c.args.scope.now c.args.known.now c.cand_phrase.result c.args.expr.now c.in-Cand.at c.in-Cand.left c.get-in-Cand.result.now c.in-Cand.right
     c.get-in-Cand-2.result.now c.in-Cand.is c.get-in-Cand.ensures c.get-in-Cand-2.ensures
-    (whole_is c.args.known.now (form.cand c.in-Cand.at)
-    (part (shape.expr c.args.scope.now c.get-in-Cand.result.now) (part (shape.expr c.args.scope.now c.get-in-Cand-2.result.now) none)) c.cand_parts.result
-    c.in-Ok-pair-2.parts
-    (c.in-Ok-pair-2.ensures (judged c.args.known.now (shape.expr c.args.scope.now c.get-in-Cand.result.now))
-    (judged c.args.known.now (shape.expr c.args.scope.now c.get-in-Cand-2.result.now)) c.judge-left-in-Cand.ensures c.judge-right-in-Cand.ensures)
-    c.cand_parts.ensures)
+    (c.cand_phrase.ensures c.args.known.now (shape.expr c.args.scope.now c.get-in-Cand.result.now) (shape.expr c.args.scope.now c.get-in-Cand-2.result.now)
+    c.judge-left-in-Cand.ensures c.judge-right-in-Cand.ensures)
 
-pub judge-returns-in-Ok-pair-3 : goal.judge-returns-in-Ok-pair-3
-judge-returns-in-Ok-pair-3 t c =
-    cor_is c.args.scope.now c.args.known.now c.cor_parts.result c.args.expr.now c.in-Cor.at c.in-Cor.left c.get-in-Cor.result.now c.in-Cor.right
+pub judge-returns-in-Cor : goal.judge-returns-in-Cor
+judge-returns-in-Cor t c =
+    cor_is c.args.scope.now c.args.known.now c.cor_phrase.result c.args.expr.now c.in-Cor.at c.in-Cor.left c.get-in-Cor.result.now c.in-Cor.right
     c.get-in-Cor-2.result.now c.in-Cor.is c.get-in-Cor.ensures c.get-in-Cor-2.ensures
-    (whole_is c.args.known.now (form.cor c.in-Cor.at)
-    (part (shape.expr c.args.scope.now c.get-in-Cor.result.now) (part (shape.expr c.args.scope.now c.get-in-Cor-2.result.now) none)) c.cor_parts.result
-    c.in-Ok-pair-3.parts
-    (c.in-Ok-pair-3.ensures (judged c.args.known.now (shape.expr c.args.scope.now c.get-in-Cor.result.now))
-    (judged c.args.known.now (shape.expr c.args.scope.now c.get-in-Cor-2.result.now)) c.judge-left-in-Cor.ensures c.judge-right-in-Cor.ensures)
-    c.cor_parts.ensures)
+    (c.cor_phrase.ensures c.args.known.now (shape.expr c.args.scope.now c.get-in-Cor.result.now) (shape.expr c.args.scope.now c.get-in-Cor-2.result.now)
+    c.judge-left-in-Cor.ensures c.judge-right-in-Cor.ensures)
 
 pub judge_exprs-loop-expr-preserved : goal.judge_exprs-loop-expr-preserved
 judge_exprs-loop-expr-preserved t c =
@@ -193,18 +187,14 @@ judge_cases-returns t c =
 
 -- ---- declarations and counters
 
-pub judge_item-returns-in-Ok : goal.judge_item-returns-in-Ok
-judge_item-returns-in-Ok t c =
+pub judge_item-returns-in-Some : goal.judge_item-returns-in-Some
+judge_item-returns-in-Some t c =
     let name : Is c.declared-name.result (judged c.args.known.now (leaf (form.declares c.args.item.now.name.at c.args.scope.now c.args.item.now.name.text))) =
     subst (λ (x : List ℕ). Is c.declared-name.result (judged c.args.known.now (leaf (form.declares c.args.item.now.name.at c.args.scope.now x))))
     c.as_slice.ensures c.declared-name.ensures in
-    item_is c.args.scope.now c.args.known.now c.initial_parts.result c.args.item.now (Some c.in-Some.expr) c.in-Some.is
-    (whole_is c.args.known.now (form.initial c.args.item.now.name.at)
-    (part (leaf (form.declares c.args.item.now.name.at c.args.scope.now c.args.item.now.name.text))
-    (part (shape.expr c.args.scope.now c.in-Some.expr) none)) c.initial_parts.result c.in-Ok.parts
-    (c.in-Ok.ensures (judged c.args.known.now (leaf (form.declares c.args.item.now.name.at c.args.scope.now c.args.item.now.name.text)))
-    (judged c.args.known.now (shape.expr c.args.scope.now c.in-Some.expr)) name c.judge-value.ensures)
-    c.initial_parts.ensures)
+    item_is c.args.scope.now c.args.known.now c.initial_phrase.result c.args.item.now (Some c.in-Some.expr) c.in-Some.is
+    (c.initial_phrase.ensures c.args.known.now (leaf (form.declares c.args.item.now.name.at c.args.scope.now c.args.item.now.name.text))
+    (shape.expr c.args.scope.now c.in-Some.expr) name c.judge-value.ensures)
 
 pub judge_items-loop-item-preserved : goal.judge_items-loop-item-preserved
 judge_items-loop-item-preserved t c =
@@ -220,24 +210,17 @@ judge_item-returns-in-None t c =
     c.as_slice.ensures c.declared-name.ensures in
     item_is c.args.scope.now c.args.known.now c.declared-name.result c.args.item.now None c.in-None.is name
 
-pub judge_counter-returns-in-None : goal.judge_counter-returns-in-None
-judge_counter-returns-in-None t c =
-    subst (λ (o : Option Counter). Is c.none.result (judged_all c.args.known.now (all_of (shape.counter_parts (shape.optional_counter c.args.scope.now o)))))
-    (sym c.in-None.is) c.none.ensures
-
-pub judge_counter-returns-in-Some : goal.judge_counter-returns-in-Some
-judge_counter-returns-in-Some t c =
-    let counter = c.get-counter.result.now in
-    let name : Is c.named-name.result (judged c.args.known.now (form.name Counts counter.name.at c.args.scope.now counter.name.text)) =
-    subst (λ (x : List ℕ). Is c.named-name.result (judged c.args.known.now (form.name Counts counter.name.at c.args.scope.now x)))
-    c.as_slice-text.ensures c.named-name.ensures in
-    subst (λ (o : Option Counter). Is c.three.result (judged_all c.args.known.now (all_of (shape.counter_parts (shape.optional_counter c.args.scope.now o)))))
-    (ap (λ (x : Counter). Some x) c.get-counter.ensures ∙ sym c.in-Some.is)
-    (subst (λ (k : shape.Counted). Is c.three.result (judged_all c.args.known.now (all_of (shape.counter_parts (Some k)))))
-    (sym (counter_shape c.args.scope.now counter))
-    (c.three.ensures (judged c.args.known.now (form.name Counts counter.name.at c.args.scope.now counter.name.text))
-    (judged c.args.known.now (shape.optional_expr c.args.scope.now counter.from)) (judged c.args.known.now (shape.limit c.args.scope.now counter.limit).1)
-    name c.judge_optional-from.ensures c.judge_limit-limit.ensures))
+pub judge_counter-returns : goal.judge_counter-returns
+judge_counter-returns t c =
+    let counter = c.args.counter.now in
+    let k = c.args.known.now in
+    let name : Is c.named-name.result (judged k (form.name Counts counter.name.at c.args.scope.now counter.name.text)) =
+    subst (λ (x : List ℕ). Is c.named-name.result (judged k (form.name Counts counter.name.at c.args.scope.now x))) c.as_slice-text.ensures
+    c.named-name.ensures in
+    subst (λ (x : shape.Counted). Is c.three.result (triple (judged k x.0) (judged k x.1) (judged k x.2))) (sym (counter_shape c.args.scope.now counter))
+    (c.three.ensures (judged k (form.name Counts counter.name.at c.args.scope.now counter.name.text))
+    (judged k (shape.optional_expr c.args.scope.now counter.from)) (judged k (shape.limit c.args.scope.now counter.limit).1)
+    name c.judge_optional-from.ensures c.judge_limit-limit.ensures)
 
 -- ---- units
 
@@ -257,36 +240,40 @@ judge_unit-judge_units-units-requires t c =
     let deep = ap size-Unit c.in-Loop.is ∙ sized-Loop c.in-Loop.at c.in-Loop.counter c.in-Loop.condition c.in-Loop.units c.in-Loop.until in
     rw c.as_slice-in-Loop.ensures (omega (arith, deep))
 
-pub judge_unit-returns-in-Err-with : goal.judge_unit-returns-in-Err-with
-judge_unit-returns-in-Err-with t c =
-    let k = shape.optional_counter c.args.scope.now c.in-Loop.counter in
-    let us = shape.units Nothing (map (shape.unit c.args.scope.now) c.as_slice-in-Loop.result.now) in
-    loop_is c.args.scope.now c.args.known.now (Err c.in-Err-with.trouble) c.args.unit.now c.in-Loop.at c.in-Loop.counter c.in-Loop.condition c.in-Loop.units
-    c.as_slice-in-Loop.result.now c.in-Loop.until c.in-Loop.is c.as_slice-in-Loop.ensures
-    (whole_fails c.args.known.now (shape.loop_form c.in-Loop.at k)
-    (loop_parts c.args.scope.now c.in-Loop.counter c.in-Loop.condition c.as_slice-in-Loop.result.now c.in-Loop.until) c.in-Err-with.trouble
-    (three_more c.args.known.now c.with-row.result c.with-row-in-Loop.result (Err c.in-Err-with.trouble) (shape.counter_parts k)
-    (shape.optional_expr c.args.scope.now c.in-Loop.condition) us (shape.optional_expr c.args.scope.now c.in-Loop.until)
-    (c.with-row.ensures (judged_all c.args.known.now (all_of (shape.counter_parts k)))
-    (judged c.args.known.now (shape.optional_expr c.args.scope.now c.in-Loop.condition)) c.judge_counter-row.ensures c.judge_optional-condition.ensures)
-    (λ rs e. c.with-row-in-Loop.ensures rs (judged c.args.known.now us) e c.judge_units-units.ensures)
-    (λ rs e. c.in-Err-with.ensures rs (judged c.args.known.now (shape.optional_expr c.args.scope.now c.in-Loop.until)) e c.judge_optional-until.ensures)))
+pub judge_unit-returns-in-None : goal.judge_unit-returns-in-None
+judge_unit-returns-in-None t c =
+    let k = c.args.known.now in
+    let s = c.args.scope.now in
+    let v = shape.optional_expr s c.in-Loop.condition in
+    let us = shape.units Nothing (map (shape.unit s) c.as_slice-in-Loop.result.now) in
+    let u = shape.optional_expr s c.in-Loop.until in
+    let turns = c.three-turns.ensures (judged k v) (judged k us) (judged k u) c.judge_optional-condition.ensures c.judge_units-units.ensures
+    c.judge_optional-until.ensures in
+    loop_is s k c.loop_phrase.result c.args.unit.now c.in-Loop.at c.in-Loop.counter c.in-Loop.condition c.in-Loop.units c.as_slice-in-Loop.result.now
+    c.in-Loop.until c.in-Loop.is c.as_slice-in-Loop.ensures
+    (subst (λ (o : Option Counter).
+    Is c.loop_phrase.result (judged k (loop_of s c.in-Loop.at o c.in-Loop.condition c.as_slice-in-Loop.result.now c.in-Loop.until)))
+    (sym c.in-None.is) (c.loop_phrase.ensures k v us u turns))
 
-pub judge_unit-returns-in-Ok-with : goal.judge_unit-returns-in-Ok-with
-judge_unit-returns-in-Ok-with t c =
-    let k = shape.optional_counter c.args.scope.now c.in-Loop.counter in
-    let us = shape.units Nothing (map (shape.unit c.args.scope.now) c.as_slice-in-Loop.result.now) in
-    loop_is c.args.scope.now c.args.known.now c.looped.result c.args.unit.now c.in-Loop.at c.in-Loop.counter c.in-Loop.condition c.in-Loop.units
-    c.as_slice-in-Loop.result.now c.in-Loop.until c.in-Loop.is c.as_slice-in-Loop.ensures
-    (whole_is c.args.known.now (shape.loop_form c.in-Loop.at k)
-    (loop_parts c.args.scope.now c.in-Loop.counter c.in-Loop.condition c.as_slice-in-Loop.result.now c.in-Loop.until) c.looped.result c.in-Ok-with.parts
-    (three_more c.args.known.now c.with-row.result c.with-row-in-Loop.result (Ok c.in-Ok-with.parts) (shape.counter_parts k)
-    (shape.optional_expr c.args.scope.now c.in-Loop.condition) us (shape.optional_expr c.args.scope.now c.in-Loop.until)
-    (c.with-row.ensures (judged_all c.args.known.now (all_of (shape.counter_parts k)))
-    (judged c.args.known.now (shape.optional_expr c.args.scope.now c.in-Loop.condition)) c.judge_counter-row.ensures c.judge_optional-condition.ensures)
-    (λ rs e. c.with-row-in-Loop.ensures rs (judged c.args.known.now us) e c.judge_units-units.ensures)
-    (λ rs e. c.in-Ok-with.ensures rs (judged c.args.known.now (shape.optional_expr c.args.scope.now c.in-Loop.until)) e c.judge_optional-until.ensures))
-    (c.looped.ensures c.args.scope.now))
+pub judge_unit-returns-in-Some : goal.judge_unit-returns-in-Some
+judge_unit-returns-in-Some t c =
+    let k = c.args.known.now in
+    let s = c.args.scope.now in
+    let v = shape.optional_expr s c.in-Loop.condition in
+    let us = shape.units Nothing (map (shape.unit s) c.as_slice-in-Loop.result.now) in
+    let u = shape.optional_expr s c.in-Loop.until in
+    let turns = c.three-turns.ensures (judged k v) (judged k us) (judged k u) c.judge_optional-condition.ensures c.judge_units-units.ensures
+    c.judge_optional-until.ensures in
+    let counter = c.get-counter.result.now in
+    let d = shape.counter s counter in
+    let way : c.way.result ≡ d.3 = c.way.ensures s ∙ sym (ap (λ (x : shape.Counted). x.3) (counter_shape s counter)) in
+    loop_is s k c.count_phrase.result c.args.unit.now c.in-Loop.at c.in-Loop.counter c.in-Loop.condition c.in-Loop.units c.as_slice-in-Loop.result.now
+    c.in-Loop.until c.in-Loop.is c.as_slice-in-Loop.ensures
+    (subst (λ (o : Option Counter).
+    Is c.count_phrase.result (judged k (loop_of s c.in-Loop.at o c.in-Loop.condition c.as_slice-in-Loop.result.now c.in-Loop.until)))
+    (ap (λ (x : Counter). Some x) c.get-counter.ensures ∙ sym c.in-Some.is)
+    (subst (λ (w : Way). Is c.count_phrase.result (judged k (row (form.count c.in-Loop.at w) (d.0 ∷ d.1 ∷ d.2 ∷ v ∷ us ∷ u ∷ [])))) way
+    (c.count_phrase.ensures k d.0 d.1 d.2 v us u c.judge_counter-bounds.ensures turns)))
 
 pub judge_role-returns-in_ok-meant-in-Of : goal.judge_role-returns-in_ok-meant-in-Of
 judge_role-returns-in_ok-meant-in-Of t c =

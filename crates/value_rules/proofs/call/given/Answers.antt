@@ -8,14 +8,15 @@ use Rattle.value_rules.proofs.call.given.Goals as goal
 
 pub loop-operand-init : goal.loop-operand-init
 loop-operand-init c =
-    (refl, ap (λ (v : Verdict (List Actual)). told v) (given_none c.args.parameters.now ∙ ap (λ (l : List Actual). gives l) (sym c.new.ensures)))
+    (refl, ap (λ (v : Verdict (List Actual)). told v) (given_none c.args.at c.args.parameters.now ∙ ap (λ (l : List Actual). gives l) (sym c.new.ensures)))
 
 pub loop-operand-preserved : goal.loop-operand-preserved
 loop-operand-preserved c = (
   c.behind_first-rest.ensures ∙ ap (λ (ps : List Parameter). drop 1 ps) c.loop-operand.invariant.0 ∙
       behind c.loop-operand.yielded c.in-Some.operand c.args.parameters.now,
   subst (λ (r : Verdict (List Actual)). Tells c.give-actuals.result r)
-      (ap (λ (ps : List Parameter). given_next ps c.in-Some.operand (given c.args.parameters.now c.loop-operand.yielded)) c.loop-operand.invariant.0
-      ∙ sym (given_more c.args.parameters.now c.loop-operand.yielded c.in-Some.operand))
-      (c.give-actuals.ensures (given c.args.parameters.now c.loop-operand.yielded) c.loop-operand.invariant.1),
+      (ap (λ (ps : List Parameter). given_next c.args.at ps c.in-Some.operand (given c.args.at c.args.parameters.now c.loop-operand.yielded))
+      c.loop-operand.invariant.0
+      ∙ sym (given_more c.args.at c.args.parameters.now c.loop-operand.yielded c.in-Some.operand))
+      (c.give-actuals.ensures (given c.args.at c.args.parameters.now c.loop-operand.yielded) c.loop-operand.invariant.1),
 )

@@ -8,7 +8,7 @@ use Rattle.value_rules.proofs.call.predefined.Goals as goal
 pub returns-in-Change : goal.returns-in-Change
 returns-in-Change c =
     subst (λ (p : Predefined). Tells c.changed.result (performed c.args.at (callees.Predefined p) c.args.result_type c.args.actuals)) (sym c.in-Change.is)
-    (c.changed.ensures c.args.at c.args.result_type)
+    (c.changed.ensures c.args.result_type)
 
 pub returns-in-Request : goal.returns-in-Request
 returns-in-Request c =

@@ -1,0 +1,10 @@
+pub mod Through
+pub mod TextOrder
+pub mod WholeOrder
+pub mod Placed
+pub mod Refusal
+pub mod Known
+pub mod Declared
+pub mod LookUps
+pub mod WholeFound
+pub mod Suited

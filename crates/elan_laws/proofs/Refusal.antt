@@ -1,0 +1,81 @@
+-- A refusal is at a place of the text.
+use Rattle.std.proofs.Common.{◌≡◌, ℕ, suc, List, [], ◌∷◌, ◌++◌, refl, sym, subst, arith}
+use Rattle.std.specs.List.{Contains}
+use Rattle.elan_types.specs.declared.env.Env.{Env}
+use Rattle.elan_tree.specs.declared.tree.Tree.{Tree}
+use Rattle.elan_meant.specs.declared.meant.Meant.{Meant}
+use Rattle.elan_scope.specs.declared.known.Known.{Known}
+use Rattle.elan_scope.specs.Phrase.{Form, asking, plain, Phrase, phrase, Parts, none, part}
+use Rattle.elan_scope.specs.Ruled.{Fault, Ruled, gives, breaks, hangs, ◌>>=◌, before}
+use Rattle.elan_rules.specs.Rules.{rule, ruled}
+use Rattle.elan_rules.specs.Meaning.{phrases, IsFirst, Breaks, NoneBreaks, judged, judged_all}
+use Rattle.elan_rules.proofs.First as first
+use Rattle.elan_check.specs.Level.{text}
+use Rattle.elan_check.specs.Text.{Refused, known}
+use Rattle.elan_laws.specs.Places.{places}
+use Rattle.elan_laws.specs.Order.{Follows, stays, goes_on, own, in_phrase, in_parts}
+use Rattle.elan_laws.proofs.Through as thr
+use Rattle.elan_laws.proofs.Placed.{In, Placed, AllPlaced, MayTell, on_told, rule_placed, asked_placed}
+use Rattle.elan_laws.proofs.WholeOrder.{text_same}
+
+-- ---- phrases
+
+module _ (k : Known) (ns : List ℕ) where
+  ruled_placed : (f : Form) (ms : List Meant) → Follows (own f) ns → AllPlaced ns ms → MayTell ns (Placed ns) (ruled k f ms)
+  ruled_placed (asking f) ms h g = asked_placed ns k f ms h g
+  ruled_placed (plain f) ms h g = on_told ns (Placed ns) (rule f ms) (rule_placed ns f ms h g)
+
+  bind_placed : {A B : Type 0} (P : A → Type 0) (Q : B → Type 0) (r : Ruled A) (f : A → Ruled B) → MayTell ns P r → ((x : A) → P x → MayTell ns Q (f x))
+      → MayTell ns Q (r >>= f)
+  bind_placed P Q (gives x) f h g = g x h
+  bind_placed P Q (breaks d) f h g = h
+  bind_placed P Q hangs f h g = tt
+
+  before_placed : (r : Ruled Meant) (rs : Ruled (List Meant)) → MayTell ns (Placed ns) r → MayTell ns (AllPlaced ns) rs
+      → MayTell ns (AllPlaced ns) (before r rs)
+  before_placed (gives m) (gives ms) h g = (h, g)
+  before_placed (gives m) (breaks f) h g = g
+  before_placed (gives m) hangs h g = tt
+  before_placed (breaks f) rs h g = h
+  before_placed hangs (gives ms) h g = tt
+  before_placed hangs (breaks f) h g = g
+  before_placed hangs hangs h g = tt
+
+  mutual
+    judged_placed : (p : Phrase) → Follows (in_phrase p) ns → MayTell ns (Placed ns) (judged k p)
+    judged_placed (phrase form ps) h =
+        bind_placed (AllPlaced ns) (Placed ns) (judged_all k ps) (ruled k form)
+        (all_placed ps (thr.through (thr.behind (own form) (thr.all_of_it (in_parts ps))) h))
+        (λ ms g. ruled_placed form ms (thr.through (thr.before (in_parts ps) (thr.all_of_it (own form))) h) g)
+
+    all_placed : (ps : Parts) → Follows (in_parts ps) ns → MayTell ns (AllPlaced ns) (judged_all k ps)
+    all_placed none h = tt
+    all_placed (part p ps) h =
+        before_placed (judged k p) (judged_all k ps)
+        (judged_placed p (thr.through (thr.before (in_parts ps) (thr.all_of_it (in_phrase p))) h))
+        (all_placed ps (thr.through (thr.behind (in_phrase p) (thr.all_of_it (in_parts ps))) h))
+
+  -- ---- the first fault
+
+  none_at : (xs ys : List Phrase) (p : Phrase) (f : Fault) → NoneBreaks k (xs ++ p ∷ ys) → Breaks k p f → ⊥
+  none_at [] ys p f n h = n.0 f h
+  none_at (x ∷ xs) ys p f n h = none_at xs ys p f n.1 h
+
+  fault_placed : (p : Phrase) (f : Fault) → IsFirst k (phrases p) f → (r : Ruled Meant) → judged k p ≡ r → MayTell ns (Placed ns) r → In ns f.0
+  fault_placed p f h (gives m) e g = absurd (first.meant_is_not_refused k p m f (first.means_of k p m e) h)
+  fault_placed p f h (breaks d) e g = subst (λ (q : Fault). In ns q.0) (first.one_first k (phrases p) d f (first.refused_of k p d e) h) g
+  fault_placed p f h hangs e g =
+      let none = first.none_breaks k p (subst first.Faultless (sym e) first.open_one) in
+      absurd (none_at h.earlier h.later h.first f (subst (NoneBreaks k) h.order none) h.breaks)
+
+-- ---- the text
+
+contains : (x : ℕ) (ns : List ℕ) → In ns x → Contains ns x
+contains _ _ (stays x _ ns h) = (0, omega arith, refl)
+contains x _ (goes_on n _ ns h) = let c = contains x ns h in (suc c.0, omega (arith, c.1), c.2)
+
+pub refused_at_place : (env : Env) (t : Tree) (f : Fault) → Refused env t f → Contains (places t) f.0
+refused_at_place env t f h =
+    let same = text_same t in
+    let placed = judged_placed (known t) (places t) (text t) same.to in
+    contains f.0 (places t) (fault_placed (known t) (places t) (text t) f h.first (judged (known t) (text t)) refl placed)

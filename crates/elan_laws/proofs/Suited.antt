@@ -1,0 +1,123 @@
+-- What is chosen does something with what it is given.
+use Rattle.std.proofs.Common.{◌≡◌, ℕ, ◌+◌, Bool, true, false, ◌&&◌, if◌then◌else◌, List, [], ◌∷◌, ◌++◌, map, Option, Some, None, refl, subst}
+use Rattle.elan_types.specs.declared.elan_type.ElanType.TheVariants.{Int}
+use Rattle.elan_types.specs.declared.core_phrase.Actual.{Actual}
+use Rattle.elan_types.specs.declared.core_phrase.Actual.TheVariants as actual
+use Rattle.elan_types.specs.declared.core_phrase.Action.TheVariants as action
+use Rattle.elan_types.specs.declared.core_phrase.ValuePhrase.TheVariants as value
+use Rattle.eu_base.specs.declared.operation.Change.{Change as Changed}
+use Rattle.elan_types.specs.Typing.{held_const}
+use Rattle.elan_scope.specs.declared.heading.Sort.{Sort}
+use Rattle.elan_scope.specs.declared.heading.What.{What}
+use Rattle.elan_scope.specs.declared.heading.What.TheVariants.{Routine, Refinement}
+use Rattle.elan_scope.specs.declared.heading.Heading.{Heading}
+use Rattle.elan_scope.specs.declared.scope.Scope.{Scope}
+use Rattle.elan_scope.specs.declared.scope.Within.{Within}
+use Rattle.elan_scope.specs.declared.callable.Callee.TheVariants.{Predefined}
+use Rattle.elan_scope.specs.declared.predefined.Predefined.{Predefined as Name}
+use Rattle.elan_scope.specs.declared.predefined.Predefined.TheVariants.{Operation, Change, Request}
+use Rattle.elan_scope.specs.Predefined.{Row, predefined, parameters, result, variable}
+use Rattle.elan_scope.specs.Scope.{Callable, Layer, own_callable, own_callables, predefined_callable}
+use Rattle.elan_scope.specs.Scope.{first, first_in, or_else, layers_in, outer_layers, called_by, is_called}
+use Rattle.elan_meant.specs.declared.meant.Meant.{Meant}
+use Rattle.elan_meant.specs.declared.meant.Meant.TheVariants.{Variable, Value, Done}
+use Rattle.elan_meant.specs.Verdict.{gives}
+use Rattle.elan_meant.specs.Operands.{delivers, fit, takes, chosen}
+use Rattle.elan_meant.specs.Parts.{value_of}
+use Rattle.value_rules.specs.Calls.{given, performed, values_in}
+
+both : (a b : Bool) → (a && b) ≡ true → b ≡ true
+both true b e = e
+both false b e = absurd cc
+
+module _ (at : ℕ) (ms : List Meant) where
+  abbrev Does : Callable → List Actual → Type 0
+  Does c as' = (m : Meant) × (performed at c.callee c.result as' ≡ gives m)
+
+  -- where it fits, it does something with what it is given
+  abbrev Suits : Callable → Type 0
+  Suits c = (as' : List Actual) → fit c.parameters ms ≡ true → given at c.parameters ms ≡ gives as' → Does c as'
+
+  abbrev AllSuit : List Callable → Type 0
+  AllSuit [] = Unit {0}
+  AllSuit (c ∷ cs) = Suits c × AllSuit cs
+
+  own_suits : (n : ℕ) (x : List ℕ) (w : What) → AllSuit (own_callable n x w)
+  own_suits n x (Routine sort ps None) = (λ as' f g. (Done (action.Call n as' ∷ []), refl), tt)
+  own_suits n x (Routine sort ps (Some t)) = (λ as' f g. (Value at t (value.Call n as' t), refl), tt)
+  own_suits n x (Refinement home) = tt
+
+  suit_append : (cs ds : List Callable) → AllSuit cs → AllSuit ds → AllSuit (cs ++ ds)
+  suit_append [] ds h g = g
+  suit_append (c ∷ cs) ds h g = (h.0, suit_append cs ds h.1 g)
+
+  owns_suit : (n : ℕ) (hs : List Heading) → AllSuit (own_callables n hs)
+  owns_suit n [] = tt
+  owns_suit n (h ∷ hs) = suit_append (own_callable n h.name h.what) (own_callables (n + 1) hs) (own_suits n h.name h.what) (owns_suit (n + 1) hs)
+
+  -- ---- predefined names
+
+  changes : (c : Changed) (ks : List Meant) (as' : List Actual) → fit (variable Int ∷ held_const Int ∷ []) ks ≡ true
+      → given at (variable Int ∷ held_const Int ∷ []) ks ≡ gives as' → (m : Meant) × (performed at (Predefined (Change c)) None as' ≡ gives m)
+  changes c [] as' f g = absurd cc
+  changes c (m ∷ []) as' f g = let e : false ≡ true = both (delivers Int m) false f in absurd cc
+  changes c (Variable p t x ∷ n ∷ []) as' f g =
+      let given_is : actual.Place x Int ∷ actual.Value (value_of n) ∷ [] ≡ as' = cc in
+      subst (λ (l : List Actual). (m : Meant) × (performed at (Predefined (Change c)) None l ≡ gives m)) given_is
+      (Done (action.Modify c x (value_of n) ∷ []), refl)
+  changes c (m ∷ n ∷ []) as' f g = absurd cc
+  changes c (m ∷ n ∷ k ∷ ks) as' f g =
+      let e : false ≡ true = both (delivers Int n) false (both (delivers Int m) (delivers Int n && false) f) in absurd cc
+
+  named_suits : (r : Row) → Suits (predefined_callable r)
+  named_suits r = by_name r.2
+    where
+      by_name : (o : Name) (as' : List Actual) → fit (parameters o) ms ≡ true → given at (parameters o) ms ≡ gives as'
+          → (m : Meant) × (performed at (Predefined o) (result o) as' ≡ gives m)
+      by_name (Operation o) as' f g = (Value at _ (value.Apply o (values_in as')), refl)
+      by_name (Change c) as' f g = changes c ms as' f g
+      by_name (Request q) as' f g = (Done (action.Ask q (values_in as') ∷ []), refl)
+
+  rows_suit : (rs : List Row) → AllSuit (map predefined_callable rs)
+  rows_suit [] = tt
+  rows_suit (r ∷ rs) = (named_suits r, rows_suit rs)
+
+  -- ---- the first that takes them
+
+  abbrev Chosen : Option Callable → Type 0
+  Chosen None = Unit {0}
+  Chosen (Some c) = Suits c × (fit c.parameters ms ≡ true)
+
+  module _ (sort : Sort) (x : List ℕ) where
+    first_suits : (cs : List Callable) → AllSuit cs → Chosen (first (takes sort x ms) cs)
+    first_suits [] h = tt
+    first_suits (c ∷ cs) h = by_test (takes sort x ms c) refl (first_suits cs h.1)
+      where
+        by_test : (b : Bool) → takes sort x ms c ≡ b → Chosen (first (takes sort x ms) cs) → Chosen (if b then Some c else first (takes sort x ms) cs)
+        by_test true e g = (h.0, both (is_called sort x c) (fit c.parameters ms) e)
+        by_test false e g = g
+
+    or_suits : (o p : Option Callable) → Chosen o → Chosen p → Chosen (or_else o p)
+    or_suits None p h g = g
+    or_suits (Some c) p h g = h
+
+    abbrev LayersSuit : List Layer → Type 0
+    LayersSuit [] = Unit {0}
+    LayersSuit (l ∷ ls) = AllSuit l.callables × LayersSuit ls
+
+    layers_suit : (ls : List Layer) → LayersSuit ls → Chosen (first_in (λ l. first (takes sort x ms) l.callables) ls)
+    layers_suit [] h = tt
+    layers_suit (l ∷ ls) h =
+        or_suits (first (takes sort x ms) l.callables) (first_in (λ l. first (takes sort x ms) l.callables) ls) (first_suits l.callables h.0)
+        (layers_suit ls h.1)
+
+    around_suit : (w : Option Within) (s : Scope) → LayersSuit (layers_in w (outer_layers s.level s.headings))
+    around_suit None s = (owns_suit 0 s.headings, (rows_suit predefined, tt))
+    around_suit (Some w) s = (tt, (owns_suit 0 s.headings, (rows_suit predefined, tt)))
+
+    chosen_suits : (s : Scope) → Chosen (chosen s sort x ms)
+    unfolding called_by
+    chosen_suits s = layers_suit (layers_in s.routine (outer_layers s.level s.headings)) (around_suit s.routine s)
+
+    pub suited : (s : Scope) (c : Callable) (as' : List Actual) → chosen s sort x ms ≡ Some c → given at c.parameters ms ≡ gives as' → Does c as'
+    suited s c as' e g = let h = subst Chosen e (chosen_suits s) in h.0 as' h.1 g

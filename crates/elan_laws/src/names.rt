@@ -1,0 +1,28 @@
+//! Laws of names.
+
+ghost use Rattle.std.specs.Prelude.{◌≡◌, ℕ, List, Some, false};
+ghost use Rattle.elan_tree.specs.declared.tree.Tree.{Tree};
+ghost use Rattle.elan_types.specs.declared.core_phrase.Actual.{Actual};
+ghost use Rattle.elan_scope.specs.declared.heading.Sort.{Sort};
+ghost use Rattle.elan_scope.specs.declared.scope.Scope.{Scope};
+ghost use Rattle.elan_scope.specs.Scope.{Callable};
+ghost use Rattle.elan_meant.specs.declared.meant.Meant.{Meant};
+ghost use Rattle.elan_meant.specs.Operands.{chosen};
+ghost use Rattle.elan_meant.specs.Verdict.{gives};
+ghost use Rattle.value_rules.specs.Calls.{given, performed};
+ghost use Rattle.elan_unbuilt.specs.NotBuilt.{not_built};
+ghost use Rattle.elan_check.specs.Level.{text};
+ghost use Rattle.elan_laws.specs.Found.{AreFound};
+
+/// In a text that is built each name that is declared, and each heading of a PROC or OP, is found in the scope that declares it,
+/// and what an identifier denotes as a refinement is a body.
+pub fn declarations_are_found()
+    ensures { (t : Tree) → not_built t ≡ false → AreFound (text t) }
+{}
+
+/// What is chosen by its name and the types of its operands does something with what it is given.
+pub fn what_is_chosen_suits()
+    ensures { (at : ℕ) → (s : Scope) → (sort : Sort) → (name : List ℕ) → (ms : List Meant) → (c : Callable) → (actuals : List Actual)
+        → chosen s sort name ms ≡ Some c → given at c.parameters ms ≡ gives actuals
+        → (m : Meant) × (performed at c.callee c.result actuals ≡ gives m) }
+{}
