@@ -78,7 +78,8 @@ made_over (Ok x) i c c' over h = over h
 made_over (Err e) i c c' over h = tt
 
 -- the same of a step that changes no cells
-pub same_over : {E : Type 0} (result : Result Next E) (i : Instr) (c : Position) (c' : Control) → IfOk result (λ next. (cells : Cells) → StepsSo i c cells c' cells next)
+pub same_over : {E : Type 0} (result : Result Next E) (i : Instr) (c : Position) (c' : Control)
+    → IfOk result (λ next. (cells : Cells) → StepsSo i c cells c' cells next)
     → IfOk result (λ next. (cells : Cells) → (now : Cells) × (Within now cells × StepsSo i c cells c' now next))
 same_over (Ok next) i c c' so = λ cells. (cells, ((λ a. inl refl), so cells))
 same_over (Err e) i c c' so = tt

@@ -5,7 +5,8 @@ ghost use Rattle.code_form.specs.declared.operand.Operand.TheVariants as operand
 ghost use Rattle.code_form.specs.declared.instr.Instr.TheVariants as instrs;
 ghost use Rattle.code_form.specs.Program.{Program};
 ghost use Rattle.zero_steps.specs.Finds.{Finds, spends_nothing, leaves, computes, is_plain, is_push};
-ghost use Rattle.zero_steps.specs.Stepping.{position_of, control_of, scene_of, stage_of, stage_by, halt_of, IsReady, GoesOn, StepsSo, LeavesSo, Steps, Accesses};
+ghost use Rattle.zero_steps.specs.Stepping.{position_of, control_of, scene_of, stage_of, stage_by, halt_of};
+ghost use Rattle.zero_steps.specs.Stepping.{IsReady, GoesOn, StepsSo, LeavesSo, Steps, Accesses};
 
 use crate::ask::ask;
 use crate::calls::{back, back_around, call, refer};
