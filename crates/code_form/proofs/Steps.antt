@@ -1,5 +1,6 @@
 -- Each step brings the end nearer.
-use Rattle.std.proofs.Common.{◌++◌, ◌≡◌, ℕ, zero, suc, ◌+◌, ◌-◌, ◌*◌, ◌<◌, ◌≤◌, List, [], ◌∷◌, length, Option, Some, None, Bool, true, false, cond, refl, sym, ap}
+use Rattle.std.proofs.Common.{◌++◌, ◌≡◌, ℕ, zero, suc, ◌+◌, ◌-◌, ◌*◌, ◌<◌, ◌≤◌, List, [], ◌∷◌, length, Option, Some, None, Bool, true, false, cond, refl, sym}
+use Rattle.std.proofs.Common.{ap}
 use Rattle.std.proofs.Common.{◌∙◌, subst, arith, ⊎_elim}
 use Rattle.std.specs.Prelude.{slice_get, Ok, Err}
 use Rattle.std.specs.Ordering.{int_eq}
@@ -29,7 +30,8 @@ use Rattle.code_form.specs.declared.code.Layout.TheVariants as layouts
 use Rattle.code_form.specs.Program.{Program, instr_of}
 use Rattle.code_form.specs.Machine.{Frame, Position, Control, After, To, Asks, Stops, Unsaid, Move, Scene, Stage, On, Over, Lost, Rest, operand_bytes}
 use Rattle.code_form.specs.Machine.{bytes_on, bytes_of, base_of, pushes, on_value, on_place, on_values, on_operands, on_result, or_halt, on_word, is_free}
-use Rattle.code_form.specs.Machine.{takes, content_blocks, is_framed, back_into, Goes, Unknown, goes, Halts, are_free, limit_cell, frame_contents, link_contents, written_from, enters, calls_to, call_move, refer_move, back_to}
+use Rattle.code_form.specs.Machine.{takes, content_blocks, is_framed, back_into, Goes, Unknown, goes, Halts, are_free, limit_cell, frame_contents}
+use Rattle.code_form.specs.Machine.{link_contents, written_from, enters, calls_to, call_move, refer_move, back_to}
 use Rattle.code_form.specs.Machine.{out_to, instruction, step, mark_stage, stage, advance, carry_on, exec}
 use Rattle.code_form.specs.Valid.{is_mark, IsFine, IsValid}
 use Rattle.code_form.specs.Runs.{Rests, ahead, steps_left}

@@ -23,7 +23,8 @@ use Rattle.code_form.specs.declared.instr.Instr.TheVariants.{Call, Refer}
 use Rattle.code_form.specs.Program as tables
 use Rattle.code_form.specs.Program.{Program, line_of, in_body, owner, cells_in, cells_at, frame_cells}
 use Rattle.code_form.specs.Valid.{IsRefinement}
-use Rattle.code_form.specs.Machine.{Frame, Position, free, To, Stops, Unsaid, Goes, Unknown, Spends, at, base_of, bytes_on, bytes_of, entering, enters, calls_to, call_move}
+use Rattle.code_form.specs.Machine.{Frame, Position, free, To, Stops, Unsaid, Goes, Unknown, Spends, at, base_of, bytes_on, bytes_of, entering, enters}
+use Rattle.code_form.specs.Machine.{calls_to, call_move}
 use Rattle.code_form.specs.Machine.{refer_move, frame_contents, link_contents, content_blocks, back_into, out_to, after_stage, stage, written_from, step}
 use Rattle.elan_types.specs.declared.core_phrase.Exit.{Exit}
 use Rattle.elan_types.specs.declared.core_phrase.Exit.TheVariants as exits
@@ -396,6 +397,7 @@ module _ (bodies : List Body) (p : Program) where
             by = λ k l hk hl w lw cells keeps.
                 subst (λ o. After p (after_stage (enters now e.first (base_of c.frames) true q ops link_contents cells) now (scene_of w cells))
                 (finish (run_referred (level bodies n) n o (base_of c.frames) held w) k l)) (sym x.is)
-                (refer_ends n b' pc q L m c ops e x.body.content (level_carries n) (omega (arith, le, lt)) h is refined owned x.carry k l hk hl w lw cells keeps);
+                (refer_ends n b' pc q L m c ops e x.body.content (level_carries n) (omega (arith, le, lt)) h is refined owned x.carry k l hk hl w lw cells
+                keeps);
           });
     }

@@ -164,7 +164,8 @@ module _ (p : Program) (body : Option ℕ) where
             no_result e.delivers b (z + 1) c ops v gives ok));
       }
 
-  pub refer_value_is : (q : ℕ) (e : Entry) (k : Kind) → slice_get p.bodies q ≡ Some e → IsRefinement e.layout → owner p (Some q) ≡ owner p body → e.delivers ≡ Some k
+  pub refer_value_is : (q : ℕ) (e : Entry) (k : Kind) → slice_get p.bodies q ≡ Some e → IsRefinement e.layout → owner p (Some q) ≡ owner p body
+      → e.delivers ≡ Some k
       → IsValue p body k (λ r w. bind (r.calls.refer q r.base r.held w) (λ v. Gives (delivered v))) (refer_code q (Some k))
   refer_value_is q e k has_body refines owned gives = record {
     sized = λ ks m pc. refl;

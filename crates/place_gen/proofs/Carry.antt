@@ -24,7 +24,8 @@ use Rattle.code_form.specs.declared.code.Spot.{Spot}
 use Rattle.code_form.specs.declared.code.Entry.{Entry}
 use Rattle.code_form.specs.declared.code.Layout.TheVariants as layouts
 use Rattle.code_form.specs.Program.{Program, line_of, instr_of, owner, frame_cells}
-use Rattle.code_form.specs.Machine.{Frame, Position, free, asking, After as AfterMark, To, Asks as AsksFor, Move, Goes, Spends, Halts, Ends as EndsHere, Unknown, takes, at}
+use Rattle.code_form.specs.Machine.{Frame, Position, free, asking, After as AfterMark, To, Asks as AsksFor, Move, Goes, Spends, Halts, Ends as EndsHere}
+use Rattle.code_form.specs.Machine.{Unknown, takes, at}
 use Rattle.code_form.specs.Machine.{bytes_on, bytes_of, base_of, back_to, out_to, instruction, step, Scene, Rest, Stage, after_stage, mark_stage, reply_stage}
 use Rattle.code_form.specs.Machine.{stage, carry_on, exec}
 use Rattle.code_form.specs.Valid.{IsRefinement}

@@ -192,7 +192,8 @@ cuts L M store cells n from used is from_is used_is h =
           let within = slice_get_within L x k e in
           let slot : slot_at (take n store) x ≡ slot_at store x = get_or-take n store x Taken (omega arith) in
           let low : nat_le from x ≡ false = grind (arith, nat_tests) in
-          let same : without from used cells (run_cell x) ≡ cells (run_cell x) = ap (λ b. cond (b && nat_lt x used) (forgotten (cells (run_cell x))) (cells (run_cell x))) low in
+          let same : without from used cells (run_cell x) ≡ cells (run_cell x) =
+          ap (λ b. cond (b && nat_lt x used) (forgotten (cells (run_cell x))) (cells (run_cell x))) low in
           subst (Kept L x k (slot_at (take n store) x)) (sym same)
           (subst (λ s. Kept L x k s (cells (run_cell x))) (sym slot) (by x k within (h.each x k (get_left L M x k e))));
       beyond = λ x past.

@@ -21,7 +21,8 @@ use Rattle.code_form.specs.Program.{Program, frame_cells}
 use Rattle.code_form.specs.Machine.{Position, Move, at, pushes as push_move, or_halt, on_values, base_of, bytes_on, bytes_of, instruction}
 use Rattle.elan_types.specs.declared.core_phrase.PlacePhrase.{PlacePhrase}
 use Rattle.elan_types.specs.declared.core_phrase.PlacePhrase.TheVariants as places
-use Rattle.elan_types.specs.Eval.{Place, slot_at, place_of, Gives, bind, or_stop, fetch, assign, save, deliver, place, holding, holding_place, stored, Calls, Run}
+use Rattle.elan_types.specs.Eval.{Place, slot_at, place_of, Gives, bind, or_stop, fetch, assign, save, deliver, place, holding, holding_place, stored, Calls}
+use Rattle.elan_types.specs.Eval.{Run}
 use Rattle.elan_types.specs.Eval.{all, values}
 use Rattle.place_gen.specs.Stretch.{Stretch, none, one, pushes, join, place_code, store_code}
 use Rattle.place_gen.proofs.Lines.{HasAt, join_sized}

@@ -128,7 +128,8 @@ module _ (p : Program) (body : Option ℕ) where
             let n : c.used + 1 - 1 ≡ c.used = omega arith in
             here p end Unlimit (drop 2 ks) (deeper m) h1.0 c1 ops cells ∙ ap (λ n. Goes (using (at c (end + 1) ops) n) (without n (c.used + 1) cells)) n in
             let ends =
-            inner.by (λ _ w. k tt (cut (length w.store - 1) w)) l (given_back L z b end c c1 ops k refl refl used drops hk) (wider p L (OfLimit z ∷ []) (tt, tt) hl) w'
+            inner.by (λ _ w. k tt (cut (length w.store - 1) w)) l (given_back L z b end c c1 ops k refl refl used drops hk)
+            (wider p L (OfLimit z ∷ []) (tt, tt) hl) w'
             lw
             now_cells kept in
             subst (Comes p (free (at c1 (cond past end (pc + 1)) ops)) (scene_of w now_cells))

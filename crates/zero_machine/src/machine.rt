@@ -45,7 +45,8 @@ fn advance<M: Memory>(
 pub fn start<M: Memory>(alloc: Global, code: &Code, m: &mut M) -> Result<State, MemFault>
     ensures control { IfOk result (λ s. control_of s ≡ start (length code.now.variables)) }
     ensures fits { IfOk result (λ s. Fits code.now (control_of s)) }
-    ensures written { OnOk result (cells_fit (length code.now.variables) ≡ true → (cells : Cells) → M.holds m.old cells → AreBare 0 (length code.now.variables) cells →
+    ensures written { OnOk result (cells_fit (length code.now.variables) ≡ true → (cells : Cells) → M.holds m.old cells →
+        AreBare 0 (length code.now.variables) cells →
         M.holds m.new (written_from 0 (map (λ k. held_of (blank_of k)) code.now.variables) cells)) }
     ensures kept { OnOk result (cells_fit (length code.now.variables) ≡ false → (cells : Cells) → M.holds m.old cells → M.holds m.new cells) }
     ensures cause { HasFaultCause (M.faults m.old) (M.faults m.new) result }

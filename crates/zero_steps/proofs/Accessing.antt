@@ -250,7 +250,8 @@ module _ (before after : Cells → Type 0) where
       record {
         does = λ cells h.
             on_known None c' marks c (scene_of cells marks) (cells a) _ n (λ m e. answers cells m h e)
-            (λ bare. done after None c' marks _ (written cells a (held_of x)) (writes cells h bare) (ap (λ m. stage m c (scene_of cells marks)) (if_ok _ x _ is)));
+            (λ bare. done after None c' marks _ (written cells a (held_of x)) (writes cells h bare)
+            (ap (λ m. stage m c (scene_of cells marks)) (if_ok _ x _ is)));
         from = c;
         like = alike c;
         cells = λ _. Word n;

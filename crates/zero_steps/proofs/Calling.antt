@@ -1,5 +1,6 @@
 -- Calls and how they are left.
-use Rattle.std.proofs.Common.{◌≡◌, ℕ, zero, suc, ◌+◌, ◌-◌, ◌≤◌, ◌<◌, ◌^◌, min, Bool, true, false, cond, List, [], ◌∷◌, ◌++◌, map, length, take, drop, Some, refl}
+use Rattle.std.proofs.Common.{◌≡◌, ℕ, zero, suc, ◌+◌, ◌-◌, ◌≤◌, ◌<◌, ◌^◌, min, Bool, true, false, cond, List, [], ◌∷◌, ◌++◌, map, length, take, drop, Some}
+use Rattle.std.proofs.Common.{refl}
 use Rattle.std.proofs.Common.{sym, ap, ◌∙◌, subst}
 use Rattle.std.proofs.Common.{arith, length-append}
 use Rattle.std.specs.Prelude.{Result, Ok, Err, IfOk, not, reverse}
@@ -24,7 +25,8 @@ use Rattle.code_form.specs.declared.operand.Operand.TheVariants.{Value as Of, Pl
 use Rattle.code_form.specs.declared.operand.OperandKind.{OperandKind}
 use Rattle.code_form.specs.Machine.{Frame, Position, Control, free, After, To, Stops, Unsaid, Spends, Stage, On, Over, rest_at, base_of, are_free, entering}
 use Rattle.code_form.specs.Program.{Program}
-use Rattle.code_form.specs.Machine.{content_blocks, enters, calls_to, refer_move, held_of_operand, frame_contents, link_contents, written_from, back_into, out_to}
+use Rattle.code_form.specs.Machine.{content_blocks, enters, calls_to, refer_move, held_of_operand, frame_contents, link_contents, written_from, back_into}
+use Rattle.code_form.specs.Machine.{out_to}
 use Rattle.code_form.specs.Machine.{after_stage, mark_stage, stage}
 use Rattle.zero_steps.specs.Finds.{IsCallable, IsInside, is_in_proc}
 use Rattle.zero_steps.specs.Stacked.{Stacked}

@@ -1,18 +1,19 @@
 -- What an instruction does, where it is the one at hand.
-use Rattle.std.proofs.Common.{◌≡◌, ℕ, ◌+◌, ◌-◌, ◌<◌, List, get_or, Some, sym, ap, ◌∙◌, subst}
+use Rattle.std.proofs.Common.{◌≡◌, ℕ, ◌+◌, ◌-◌, ◌<◌, List, [], true, get_or, Some, sym, ap, ◌∙◌, subst}
 use Rattle.std.specs.Prelude.{Result, Ok, Err, IfOk, slice_get}
 use Rattle.std.proofs.lemmas.Option.{get_or_from_slice_get}
 use Rattle.eu_base.specs.Cells.{Cells}
 use Rattle.zero_steps.specs.declared.next.Next.{Next}
 use Rattle.zero_steps.specs.declared.next.Next.TheVariants.{On as On', Marked, Ended}
 use Rattle.code_form.specs.declared.instr.Instr.{Instr}
-use Rattle.code_form.specs.declared.instr.Instr.TheVariants.{Mark, Call, Refer, End}
+use Rattle.code_form.specs.declared.instr.Instr.TheVariants.{Mark, Number, Truth, Outer, Local, Param, Load, Store, Do, Modify, Jump, False, When, Drop}
+use Rattle.code_form.specs.declared.instr.Instr.TheVariants.{Limit, Unlimit, Step, Ask, Call, Refer, Back, Out, End}
 use Rattle.code_form.specs.declared.waits.Waits.{Waits}
 use Rattle.code_form.specs.declared.waits.Waits.TheVariants.{Nothing}
 use Rattle.code_form.specs.declared.code.Entry.{Entry}
 use Rattle.code_form.specs.Program.{Program}
 use Rattle.code_form.specs.Machine.{Position, Control, To, at, Stage, call_move, refer_move, stage}
-use Rattle.zero_steps.specs.Finds.{Finds, HasProc, HasBody}
+use Rattle.zero_steps.specs.Finds.{Finds, HasProc, HasBody, spends_nothing}
 use Rattle.zero_steps.specs.Stepping.{stage_of, halt_of, scene_of, stage_by, Steps, Accesses}
 use Rattle.zero_steps.proofs.Making.{plain_steps, steps_at}
 use Rattle.zero_steps.proofs.Calling.{unspent, spent}
@@ -53,24 +54,54 @@ module _ {E : Type 0} (result : Result Next E) (before after : Cells → Type 0)
       (λ cells. ap (λ o. stage (refer_move c n o cells) c (scene_of cells marks)) (sym (found p.bodies n body.entry d body.has read))
       ∙ ap (λ i. stage_by p i marks c cells) (sym is)) h
 
-pub accesses : {E : Type 0} (result : Result Next E) (before after : Cells → Type 0) (c : Position) (c' : Control) (marks : ℕ) (p : Program) (instr i : Instr)
-    → instr ≡ i → IfOk result (Accesses before after i c c') → IfOk result (Steps before after (stage_by p instr marks) c c' marks)
-accesses (Ok h) before after c c' marks p instr i is steps = subst (λ i. Steps before after (stage_by p i marks) c c' marks h) (sym is) (steps p marks)
-accesses (Err e) before after c c' marks p instr i is steps = tt
+pub accesses : {E : Type 0} (result : Result Next E) (before after : Cells → Type 0) (c : Position) (c' : Control) (instr i : Instr) → instr ≡ i
+    → IfOk result (Accesses before after i c c') → IfOk result (Accesses before after instr c c')
+accesses result before after c c' instr i is = subst (λ i. IfOk result (Accesses before after i c c')) (sym is)
 
--- an instruction that spends a mark and goes on
-module _ (holds : Cells → Type 0) (c : Position) (marks : ℕ) (w : Waits) (none : w ≡ Nothing) (p : Program) (instr : Instr) (is : instr ≡ Mark) where
-  pub mark_due : marks ≡ 0 → Steps holds holds (stage_by p instr marks) c (record { position = c; waits = w }) marks Marked
+-- the same of a program and its marks
+pub in_program : {E : Type 0} (result : Result Next E) (before after : Cells → Type 0) (c : Position) (c' : Control) (marks : ℕ) (p : Program) (instr : Instr)
+    → IfOk result (Accesses before after instr c c') → IfOk result (Steps before after (stage_by p instr marks) c c' marks)
+in_program (Ok next) before after c c' marks p instr steps = steps p marks
+in_program (Err e) before after c c' marks p instr steps = tt
+
+-- what the instruction finds does not depend on the bodies
+pub finds_alone : (bodies : List Entry) (i : Instr) (c : Position) → spends_nothing i ≡ true → Finds bodies i c → Finds [] i c
+finds_alone bodies Mark c e f = f
+finds_alone bodies (Number z) c e f = f
+finds_alone bodies (Truth b) c e f = f
+finds_alone bodies (Outer k) c e f = f
+finds_alone bodies (Local k) c e f = f
+finds_alone bodies (Param k) c e f = f
+finds_alone bodies (Load k) c e f = f
+finds_alone bodies (Store k) c e f = f
+finds_alone bodies (Do op) c e f = f
+finds_alone bodies (Modify by) c e f = f
+finds_alone bodies (Jump a) c e f = f
+finds_alone bodies (False a) c e f = f
+finds_alone bodies (When z a) c e f = f
+finds_alone bodies Drop c e f = f
+finds_alone bodies (Limit way a) c e f = f
+finds_alone bodies Unlimit c e f = f
+finds_alone bodies (Step way a) c e f = f
+finds_alone bodies (Ask name) c e f = f
+finds_alone bodies (Call n) c e f = absurd (cc e)
+finds_alone bodies (Refer n) c e f = absurd (cc e)
+finds_alone bodies (Back kind) c e f = f
+finds_alone bodies (Out kind) c e f = f
+finds_alone bodies End c e f = f
+
+-- a mark is due, or spent
+module _ (c : Position) (marks : ℕ) (w : Waits) (none : w ≡ Nothing) (p : Program) (cells : Cells) where
+  pub mark_due : marks ≡ 0 → stage_of (halt_of Marked) (record { position = c; waits = w }) (scene_of cells marks) ≡ stage_by p Mark marks c cells
   mark_due e =
-      plain_steps holds holds (stage_by p instr marks) c (record { position = c; waits = w }) marks Marked (λ cells. cells)
-      (λ cells. ap (λ w. stage_of (halt_of Marked) (record { position = c; waits = w }) (scene_of cells marks)) none
-      ∙ unspent marks (To (at c (c.pc + 1) c.ops) cells) c cells e ∙ ap (λ i. stage_by p i marks c cells) (sym is)) (λ cells h. h)
+      ap (λ w. stage_of (halt_of Marked) (record { position = c; waits = w }) (scene_of cells marks)) none
+      ∙ unspent marks (To (at c (c.pc + 1) c.ops) cells) c cells e
 
-  pub mark_spent : 0 < marks → Steps holds holds (stage_by p instr marks) c (record { position = at c (c.pc + 1) c.ops; waits = w }) (marks - 1) On'
+  pub mark_spent : 0 < marks
+      → stage_of (halt_of On') (record { position = at c (c.pc + 1) c.ops; waits = w }) (scene_of cells (marks - 1)) ≡ stage_by p Mark marks c cells
   mark_spent lt =
-      plain_steps holds holds (stage_by p instr marks) c (record { position = at c (c.pc + 1) c.ops; waits = w }) (marks - 1) On' (λ cells. cells)
-      (λ cells. ap (λ w. stage_of (halt_of On') (record { position = at c (c.pc + 1) c.ops; waits = w }) (scene_of cells (marks - 1))) none
-      ∙ spent marks (To (at c (c.pc + 1) c.ops) cells) c cells lt ∙ ap (λ i. stage_by p i marks c cells) (sym is)) (λ cells h. h)
+      ap (λ w. stage_of (halt_of On') (record { position = at c (c.pc + 1) c.ops; waits = w }) (scene_of cells (marks - 1))) none
+      ∙ spent marks (To (at c (c.pc + 1) c.ops) cells) c cells lt
 
 pub ends : (holds : Cells → Type 0) (c : Position) (marks : ℕ) (w : Waits) → w ≡ Nothing → (p : Program) (instr : Instr) → instr ≡ End
     → Steps holds holds (stage_by p instr marks) c (record { position = c; waits = w }) marks Ended

@@ -1,6 +1,6 @@
 -- Steps of the machine are made of what its functions do.
 use Rattle.std.proofs.Common.{◌≡◌, ℕ, Bool, true, false, cond, Option, Some, None, refl, ◌∙◌, subst, ◌⊎◌, inl, inr}
-use Rattle.std.specs.Prelude.{nat_le, nat_lt, ◌&&◌, Result, Ok, Err, OnOk}
+use Rattle.std.specs.Prelude.{nat_le, nat_lt, ◌&&◌, Result, Ok, Err, OnOk, IfOk}
 use Rattle.eu_base.specs.Cells.{Cell, Free, Word, Letters, Cells, cell_blocks, forgotten, without, Within}
 use Rattle.code_form.specs.declared.halt.Halt.{Halt}
 use Rattle.code_form.specs.declared.instr.Instr.{Instr}
@@ -76,3 +76,10 @@ pub made_over : {T E : Type 0} (result : Result T E) (i : Instr) (c : Position) 
     → OnOk result (GoesOver i c c')
 made_over (Ok x) i c c' over h = over h
 made_over (Err e) i c c' over h = tt
+
+-- the same of a step that changes no cells
+pub same_over : {E : Type 0} (result : Result Next E) (i : Instr) (c : Position) (c' : Control)
+    → IfOk result (λ next. (cells : Cells) → StepsSo i c cells c' cells next)
+    → IfOk result (λ next. (cells : Cells) → (now : Cells) × (Within now cells × StepsSo i c cells c' now next))
+same_over (Ok next) i c c' so = λ cells. (cells, ((λ a. inl refl), so cells))
+same_over (Err e) i c c' so = tt

@@ -1,5 +1,5 @@
 -- What an instruction finds.
-use Rattle.std.specs.Prelude.{◌≡◌, ℕ, zero, suc, ◌+◌, ◌≤◌, Bool, true, false, cond, List, [], ◌∷◌, length, Option, Some, None, slice_get}
+use Rattle.std.specs.Prelude.{◌≡◌, ℕ, zero, suc, ◌+◌, ◌≤◌, Bool, true, false, ◌||◌, cond, List, [], ◌∷◌, length, Option, Some, None, slice_get}
 use Rattle.eu_base.specs.declared.address.Addr.{Addr}
 use Rattle.eu_base.specs.declared.value.Kind.{Kind}
 use Rattle.eu_base.specs.declared.value.Value.{Value}
@@ -8,7 +8,7 @@ use Rattle.eu_base.specs.Operations.{operand_kinds}
 use Rattle.eu_base.specs.Requests.{request_kinds}
 use Rattle.code_form.specs.declared.instr.Instr.{Instr}
 use Rattle.code_form.specs.declared.instr.Instr.TheVariants.{Number, Truth, Outer, Local, Param, Jump, Load, Store, Do, Modify, False, When, Drop, Limit}
-use Rattle.code_form.specs.declared.instr.Instr.TheVariants.{Unlimit, Step, Ask, Call, Refer, Back, Out}
+use Rattle.code_form.specs.declared.instr.Instr.TheVariants.{Mark, Unlimit, Step, Ask, Call, Refer, Back, Out, End}
 use Rattle.code_form.specs.declared.code.Entry.{Entry}
 use Rattle.code_form.specs.declared.code.Layout.{Layout}
 use Rattle.code_form.specs.declared.code.Layout.TheVariants.{Own}
@@ -97,7 +97,22 @@ Finds bodies (Back kind) c = TopResult kind c.ops × IsInside c.frames
 Finds bodies (Out kind) c = TopResult kind c.ops × (is_in_proc c.frames ≡ true)
 Finds _ _ c = Unit {0}
 
--- an instruction that only goes on, and looks at no cell
+-- an instruction that spends no mark, and does not end the command
+abbrev pub spends_nothing : Instr → Bool
+spends_nothing Mark = false
+spends_nothing (Ask name) = false
+spends_nothing (Call n) = false
+spends_nothing (Refer n) = false
+spends_nothing End = false
+spends_nothing _ = true
+
+-- one that leaves a body
+abbrev pub leaves : Instr → Bool
+leaves (Back kind) = true
+leaves (Out kind) = true
+leaves _ = false
+
+-- one that only goes on, and looks at no cell
 abbrev pub is_plain : Instr → Bool
 is_plain (Jump a) = true
 is_plain (False a) = true
@@ -114,8 +129,7 @@ is_push (Outer k) = true
 is_push (Local k) = true
 is_push _ = false
 
--- one that looks at cells, and goes on
-abbrev pub is_access : Instr → Bool
-is_access (Store k) = true
-is_access (Step way a) = true
-is_access _ = false
+-- one that looks at no cell, and leaves no body
+abbrev pub computes : Instr → Bool
+computes (Do op) = true
+computes i = is_push i || is_plain i

@@ -13,7 +13,8 @@ use Rattle.code_form.specs.declared.operand.Operand.TheVariants.{Value as Of}
 use Rattle.code_form.specs.declared.waits.Waits.{Waits}
 use Rattle.code_form.specs.declared.waits.Waits.TheVariants.{Nothing, Asked, Refused}
 use Rattle.code_form.specs.Program.{Program}
-use Rattle.code_form.specs.Machine.{Position, Control, free, Halts, pushes, or_halt, After, Scene, Stage, On, Over, Lost, rest_at, bytes_on, bytes_of, instruction}
+use Rattle.code_form.specs.Machine.{Position, Control, free, Halts, pushes, or_halt, After, Scene, Stage, On, Over, Lost, rest_at, bytes_on, bytes_of}
+use Rattle.code_form.specs.Machine.{instruction}
 use Rattle.code_form.specs.Machine.{is_framed, after_stage, stage}
 use Rattle.code_form.specs.Valid.{Fits}
 use Rattle.eu_base.specs.declared.stop.Stop.{Stop}

@@ -2,9 +2,11 @@
 ghost use Rattle.std.specs.Prelude.{◌≡◌, ◌+◌, ◌∷◌, [], IfOk, OnOk, Some, None, true};
 ghost use Rattle.eu_base.specs.Cells.{Cells, Within, HasFaultCause};
 ghost use Rattle.code_form.specs.declared.operand.Operand.TheVariants as operand;
-ghost use Rattle.zero_steps.specs.declared.next.Next.TheVariants as nexts;
-ghost use Rattle.zero_steps.specs.Finds.{Finds, is_plain, is_push, is_access};
-ghost use Rattle.zero_steps.specs.Stepping.{position_of, control_of, stage_by, IsReady, GoesOn, StepsSo, Steps, Accesses};
+ghost use Rattle.code_form.specs.declared.instr.Instr.TheVariants as instrs;
+ghost use Rattle.code_form.specs.Program.{Program};
+ghost use Rattle.zero_steps.specs.Finds.{Finds, spends_nothing, leaves, computes, is_plain, is_push};
+ghost use Rattle.zero_steps.specs.Stepping.{position_of, control_of, scene_of, stage_of, stage_by, halt_of};
+ghost use Rattle.zero_steps.specs.Stepping.{IsReady, GoesOn, StepsSo, LeavesSo, Steps, Accesses};
 
 use crate::ask::ask;
 use crate::calls::{back, back_around, call, refer};
@@ -33,38 +35,83 @@ pub fn execute<M: Memory>(
     ensures follows { M.follows m.old m.new }
 {
     match instr {
-        Instr::Mark => {
-            if *marks == 0 {
-                return Ok(Next::Marked);
-            }
-            *marks -= 1;
-            s.pc += 1;
-            Ok(Next::On)
-        }
+        Instr::Mark => Ok(mark(s, marks)),
         Instr::Ask(request) => Ok(ask(s, request, marks)?),
         Instr::Call(body) => call(body, &code.bodies()[body], s, m, marks),
         Instr::Refer(body) => refer(body, &code.bodies()[body], s, m, marks),
-        Instr::Number(_) | Instr::Truth(_) | Instr::Outer(_) | Instr::Local(_) => {
-            Ok(push_constant(instr, s)?)
-        }
-        Instr::Do(operation) => Ok(operate(s, operation)?),
+        Instr::End => Ok(Next::Ended),
+        _ => spend_nothing(instr, s, m),
+    }
+}
+
+// Spends a mark, and goes on.
+fn mark(s: &mut State, marks: &mut u32) -> Next
+    requires { IsReady s.old }
+    ensures { (p : Program) (cells : Cells) → stage_of (halt_of result) (control_of s.new) (scene_of cells marks.new) ≡ stage_by
+        p
+        instrs.Mark
+        marks.old
+        (position_of s.old)
+        cells }
+{
+    if *marks == 0 {
+        return Next::Marked;
+    }
+    *marks -= 1;
+    s.pc += 1;
+    Next::On
+}
+
+// What an instruction does that spends no mark.
+fn spend_nothing<M: Memory>(instr: Instr, s: &mut State, m: &mut M) -> Result<Next, MemFault>
+    requires ready { IsReady s.old }
+    requires free { spends_nothing instr ≡ true }
+    requires finds { Finds [] instr (position_of s.old) }
+    ensures goes { IfOk result (Accesses (M.holds m.old) (M.holds m.new) instr (position_of s.old) (control_of s.new)) }
+    ensures cause { HasFaultCause (M.faults m.old) (M.faults m.new) result }
+    ensures follows { M.follows m.old m.new }
+{
+    match instr {
         Instr::Param(cell) => param(s, m, cell),
+        Instr::Load(kind) => load(s, m, kind),
+        Instr::Store(kind) => store(s, m, kind),
         Instr::Modify(by) => modify(s, m, by),
         Instr::Limit(way, to) => limit(s, m, way, to),
-        Instr::Load(kind) => load(s, m, kind),
-        Instr::Store(_) | Instr::Step(_, _) => {
-            access(instr, s, m)?;
+        Instr::Step(way, to) => step(s, m, way, to),
+        Instr::Back(_) | Instr::Out(_) => {
+            go_back(instr, s)?;
             Ok(Next::On)
         }
-        Instr::Back(kind) => {
-            back(s, kind)?;
-            Ok(Next::On)
+        _ => Ok(compute(instr, s)?),
+    }
+}
+
+// Leaves a body.
+fn go_back(instr: Instr, s: &mut State) -> Result<(), NoMemory>
+    requires ready { IsReady s.old }
+    requires leaves { leaves instr ≡ true }
+    requires finds { Finds [] instr (position_of s.old) }
+    ensures { OnOk result (LeavesSo instr (position_of s.old) (control_of s.new)) }
+{
+    match instr {
+        Instr::Back(kind) => back(s, kind),
+        Instr::Out(kind) => back_around(s, kind),
+        _ => unreachable!(),
+    }
+}
+
+// What an instruction does that looks at no cell.
+fn compute(instr: Instr, s: &mut State) -> Result<Next, NoMemory>
+    requires ready { IsReady s.old }
+    requires computes { computes instr ≡ true }
+    requires finds { Finds [] instr (position_of s.old) }
+    ensures { IfOk result (λ next. (cells : Cells) → (now : Cells) × (Within now cells × StepsSo instr (position_of s.old) cells (control_of s.new) now next)) }
+{
+    match instr {
+        Instr::Number(_) | Instr::Truth(_) | Instr::Outer(_) | Instr::Local(_) => {
+            push_constant(instr, s)
         }
-        Instr::Out(kind) => {
-            back_around(s, kind)?;
-            Ok(Next::On)
-        }
-        Instr::End => Ok(Next::Ended),
+        Instr::Do(operation) => operate(s, operation),
         _ => {
             go_on(instr, s)?;
             Ok(Next::On)
@@ -84,22 +131,6 @@ fn push_constant(instr: Instr, s: &mut State) -> Result<Next, NoMemory>
         Instr::Truth(truth) => push_on(s, Operand::Value(Value::Truth(truth))),
         Instr::Outer(cell) => outer(s, cell),
         Instr::Local(cell) => local(s, cell),
-        _ => unreachable!(),
-    }
-}
-
-// What an instruction does that looks at cells, and goes on.
-fn access<M: Memory>(instr: Instr, s: &mut State, m: &mut M) -> Result<(), MemFault>
-    requires ready { IsReady s.old }
-    requires accesses { is_access instr ≡ true }
-    requires finds { Finds [] instr (position_of s.old) }
-    ensures goes { OnOk result (Accesses (M.holds m.old) (M.holds m.new) instr (position_of s.old) (control_of s.new) nexts.On) }
-    ensures cause { HasFaultCause (M.faults m.old) (M.faults m.new) result }
-    ensures follows { M.follows m.old m.new }
-{
-    match instr {
-        Instr::Store(kind) => store(s, m, kind),
-        Instr::Step(way, to) => step(s, m, way, to),
         _ => unreachable!(),
     }
 }

@@ -5,7 +5,6 @@ ghost use Rattle.eu_base.specs.Operations.{operand_kinds, has_reached, next_numb
 ghost use Rattle.code_form.specs.declared.operand.Operand.TheVariants as operand;
 ghost use Rattle.code_form.specs.declared.instr.Instr.TheVariants as instrs;
 ghost use Rattle.code_form.specs.Machine.{base_of, pushes, instruction, stage};
-ghost use Rattle.zero_steps.specs.declared.next.Next.TheVariants as nexts;
 ghost use Rattle.zero_steps.specs.Finds.{TopValue, TopPlace, TopBoth};
 ghost use Rattle.zero_steps.specs.Stepping.{position_of, control_of, scene_of, stage_of, halt_of, IsReady, GoesOn, StepsSo, Accesses};
 
@@ -68,10 +67,10 @@ pub fn load<M: Memory>(s: &mut State, m: &mut M, kind: Kind) -> Result<Next, Mem
 }
 
 /// STORE
-pub fn store<M: Memory>(s: &mut State, m: &mut M, kind: Kind) -> Result<(), MemFault>
+pub fn store<M: Memory>(s: &mut State, m: &mut M, kind: Kind) -> Result<Next, MemFault>
     requires ready { IsReady s.old }
     requires finds { TopBoth s.old.stack.ops }
-    ensures goes { OnOk result (Accesses (M.holds m.old) (M.holds m.new) (instrs.Store kind) (position_of s.old) (control_of s.new) nexts.On) }
+    ensures goes { IfOk result (Accesses (M.holds m.old) (M.holds m.new) (instrs.Store kind) (position_of s.old) (control_of s.new)) }
     ensures cause { HasFaultCause (M.faults m.old) (M.faults m.new) result }
     ensures follows { M.follows m.old m.new }
 {
@@ -79,7 +78,7 @@ pub fn store<M: Memory>(s: &mut State, m: &mut M, kind: Kind) -> Result<(), MemF
     let at = s.stack.pop_place();
     m.set_cell(at, value.cell())?;
     s.pc += 1;
-    Ok(())
+    Ok(Next::On)
 }
 
 /// Jumps where FALSE is on top.
@@ -156,11 +155,11 @@ pub fn unlimit(s: &mut State)
 }
 
 /// UP and DOWN
-pub fn step<M: Memory>(s: &mut State, m: &mut M, way: Way, to: usize) -> Result<(), MemFault>
+pub fn step<M: Memory>(s: &mut State, m: &mut M, way: Way, to: usize) -> Result<Next, MemFault>
     requires ready { IsReady s.old }
     requires finds { TopPlace s.old.stack.ops }
     requires limit { 1 ≤ s.old.used }
-    ensures goes { OnOk result (Accesses (M.holds m.old) (M.holds m.new) (instrs.Step way to) (position_of s.old) (control_of s.new) nexts.On) }
+    ensures goes { IfOk result (Accesses (M.holds m.old) (M.holds m.new) (instrs.Step way to) (position_of s.old) (control_of s.new)) }
     ensures cause { HasFaultCause (M.faults m.old) (M.faults m.new) result }
     ensures follows { M.follows m.old m.new }
 {
@@ -169,11 +168,11 @@ pub fn step<M: Memory>(s: &mut State, m: &mut M, way: Way, to: usize) -> Result<
     let limit = Kind::Int.value_in(m.cell(run_cell(s.used - 1))?).number();
     if has_reached(way, limit, number) {
         s.pc = to;
-        return Ok(());
+        return Ok(Next::On);
     }
     m.set_cell(at, Value::Int(next(way, limit, number)).cell())?;
     s.pc += 1;
-    Ok(())
+    Ok(Next::On)
 }
 
 fn next(way: Way, limit: i16, number: i16) -> i16

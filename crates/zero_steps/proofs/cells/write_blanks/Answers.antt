@@ -11,7 +11,8 @@ loop-index-preserved g c = record {
       (written_more (λ k. held_of (blank_of k)) c.args.at c.loop-index.index c.args.variables.now _ _ cells c.loop-index-test.true
       (ap Word c.cell.ensures ∙ ap held_of c.blank.ensures))
       (c.in_ok-write_number.ensures.written _ (c.loop-index.invariant.written cells h bare)
-      (bare_next c.args.at c.loop-index.index (length c.args.variables.now) (map (λ k. held_of (blank_of k)) c.args.variables.now) cells c.loop-index-test.true bare));
+      (bare_next c.args.at c.loop-index.index (length c.args.variables.now) (map (λ k. held_of (blank_of k)) c.args.variables.now) cells
+      c.loop-index-test.true bare));
   later = omega (arith, c.loop-index.invariant.later, c.write_number.ensures.cause.later);
   follows = g.met.M.Memory.transitive _ _ _ c.loop-index.invariant.follows c.write_number.ensures.follows;
 }

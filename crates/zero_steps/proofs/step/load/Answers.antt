@@ -18,7 +18,8 @@ returns-then-branch-clause-goes g c =
     let value = operand.Value c.value_in-value.result in
     let pushes = c.in_ok-push.ensures in
     subst (λ d. Accesses before after (Load c.args.kind) (position_of s) d On) (sym (pushes.goes ∙ ap (pushed popped value) c.if-branch.true))
-    (accessed before after (Load c.args.kind) On s.pc s.used (s.pc + 1) s.used s.stack (with_ops t (value ∷ t.ops)) (with_ops t (operand.Place c.pop_place-at.result ∷ t.ops)) _ s.waits c.requires.ready.free
+    (accessed before after (Load c.args.kind) On s.pc s.used (s.pc + 1) s.used s.stack (with_ops t (value ∷ t.ops))
+    (with_ops t (operand.Place c.pop_place-at.result ∷ t.ops)) _ s.waits c.requires.ready.free
     c.pop_place-at.ensures (ap (λ v. with_ops t (operand.Value v ∷ t.ops)) c.value_in-value.ensures)
     (load_goes before after c.args.kind c.in_ok-cell.field-0 c.pop_place-at.result s.pc s.used t c.in_ok-cell.ensures.number c.in_ok-cell.ensures.kept
     (subst (λ v. bytes_fit (bytes_on (operand.Value v ∷ t.ops) (bytes_of t.frames)) ≡ true) c.value_in-value.ensures (sym pushes.room ∙ c.if-branch.true))))
