@@ -13,13 +13,13 @@ ghost use Rattle.elan_check.specs.walks.Rounds as walks;
 ghost use Rattle.elan_judge.specs.Shape as shape;
 
 use crate::walk::{EachBody, each_body};
+use call_graph::CallGraph;
 use elan_judge::judge::judge_role;
 use elan_judge::role::is_empty;
 use elan_levels::uses::{called_in, called_in_unit};
 use elan_meant::meant::Meant;
 use elan_meant::row::Judged;
 use elan_rows::let_meant_go;
-use call_graph::CallGraph;
 use elan_scope::delivery::Delivery;
 use elan_scope::heading::{Heading, What};
 use elan_scope::known::Known;
