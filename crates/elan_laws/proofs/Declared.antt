@@ -33,7 +33,7 @@ use Rattle.elan_unbuilt.specs.NotBuilt as built
 use Rattle.elan_levels.specs.Declarations as d
 use Rattle.elan_scope.specs.declared.scope.Entry.{Entry}
 use Rattle.elan_scope.specs.Scope.{find, find_own}
-use Rattle.elan_laws.specs.Found.{HasBody, AreFound, AllFound}
+use Rattle.elan_laws.specs.Served.{HasOdd, HasBody, AreServed, AllServed}
 
 abbrev fst : {A : Type 0} {B : A → Type 0} → (a : A) × B a → A
 fst x = x.0
@@ -93,87 +93,87 @@ module _ (s : Scope) where
   module _ (bodies : (x : List ℕ) → HasBody s x (find s x)) where
     abbrev pub MayIn : Option Phrase → Type 0
     MayIn None = Unit {0}
-    MayIn (Some p) = AreFound p
+    MayIn (Some p) = AreServed p
 
     abbrev AllMay : List (Option Phrase) → Type 0
     AllMay [] = Unit {0}
     AllMay (u ∷ us) = MayIn u × AllMay us
 
     abbrev E : Expr → Type 0
-    E e = Fine (nodes.in_expr e) → AreFound (shape.expr s e)
+    E e = Fine (nodes.in_expr e) → AreServed (shape.expr s e)
 
     abbrev L : Limit → Type 0
-    L l = Fine (nodes.in_limit l) → AreFound (shape.limit s l).1
+    L l = Fine (nodes.in_limit l) → AreServed (shape.limit s l).1
 
     abbrev U : Statement → Type 0
     U u = Fine (nodes.in_unit u) → MayIn (shape.unit s u)
 
     abbrev PairIn : Phrase × Phrase → Type 0
-    PairIn p = AreFound p.0 × AreFound p.1
+    PairIn p = AreServed p.0 × AreServed p.1
 
     abbrev B : Branch → Type 0
     B b = Fine (nodes.in_branch b) → PairIn (shape.branch s b)
 
     abbrev C : Case → Type 0
-    C c = Fine (nodes.in_case c) → AreFound (shape.case s c).1
+    C c = Fine (nodes.in_case c) → AreServed (shape.case s c).1
 
     abbrev CounterIn : shape.Counted → Type 0
-    CounterIn k = AllFound (all_of (k.0 ∷ k.1 ∷ k.2 ∷ []))
+    CounterIn k = AllServed (all_of (k.0 ∷ k.1 ∷ k.2 ∷ []))
 
     abbrev K : Counter → Type 0
     K k = Fine (nodes.in_counter k) → CounterIn (shape.counter s k)
 
     abbrev ItemIn : Phrase → nodes.Declares → Type 0
-    ItemIn p ns = (h : Held) (of : TypePhrase) → built.written_type of ≡ false → Fine (ns h of) → AreFound p
+    ItemIn p ns = (h : Held) (of : TypePhrase) → built.written_type of ≡ false → Fine (ns h of) → AreServed p
 
     abbrev I : Item → Type 0
     I i = ItemIn (shape.item s i) (nodes.in_item i)
 
     -- ---- lists
 
-    exprs_in : (es : List ((e : Expr) × E e)) → Fine (nodes.all (map nodes.in_expr (map fst es))) → AllFound (all_of (map (shape.expr s) (map fst es)))
+    exprs_in : (es : List ((e : Expr) × E e)) → Fine (nodes.all (map nodes.in_expr (map fst es))) → AllServed (all_of (map (shape.expr s) (map fst es)))
     exprs_in [] h = tt
     exprs_in (e ∷ es) h = let q = split (nodes.in_expr e.0) (nodes.all (map nodes.in_expr (map fst es))) h in (e.1 q.0, exprs_in es q.1)
 
-    append_in : (ps qs : List Phrase) → AllFound (all_of ps) → AllFound (all_of qs) → AllFound (all_of (ps ++ qs))
+    append_in : (ps qs : List Phrase) → AllServed (all_of ps) → AllServed (all_of qs) → AllServed (all_of (ps ++ qs))
     append_in [] qs h g = g
     append_in (p ∷ ps) qs h g = (h.0, append_in ps qs h.1 g)
 
     branches_in : (bs : List ((b : Branch) × B b)) → Fine (nodes.all (map nodes.in_branch (map fst bs)))
-        → AllFound (all_of (shape.branches (map (shape.branch s) (map fst bs))))
+        → AllServed (all_of (shape.branches (map (shape.branch s) (map fst bs))))
     branches_in [] h = tt
     branches_in (b ∷ bs) h =
         let q = split (nodes.in_branch b.0) (nodes.all (map nodes.in_branch (map fst bs))) h in
         let p = b.1 q.0 in (p.0, (p.1, branches_in bs q.1))
 
     items_in : (a : Held) (of : TypePhrase) (is : List ((i : Item) × I i)) → built.written_type of ≡ false
-        → Fine (nodes.all_items a of (map nodes.in_item (map fst is))) → AllFound (all_of (map (shape.item s) (map fst is)))
+        → Fine (nodes.all_items a of (map nodes.in_item (map fst is))) → AllServed (all_of (map (shape.item s) (map fst is)))
     items_in a of [] b h = tt
     items_in a of (i ∷ is) b h =
         let q = split (nodes.in_item i.0 a of) (nodes.all_items a of (map nodes.in_item (map fst is))) h in (i.1 a of b q.0, items_in a of is b q.1)
 
     declared_in : (a : Held) (of : TypePhrase) (is : List ((i : Item) × I i))
-        → Fine (of_type of ∷ nodes.all_items a of (map nodes.in_item (map fst is))) → AllFound (all_of (map (shape.item s) (map fst is)))
+        → Fine (of_type of ∷ nodes.all_items a of (map nodes.in_item (map fst is))) → AllServed (all_of (map (shape.item s) (map fst is)))
     declared_in a of is h =
         let ns = nodes.all_items a of (map nodes.in_item (map fst is)) in
         items_in a of is (is_built of ns h) (rest (of_type of) ns h)
 
-    role_in : (d : Delivery) (p : Phrase) → AreFound p → AreFound (shape.role d p)
+    role_in : (d : Delivery) (p : Phrase) → AreServed p → AreServed (shape.role d p)
     role_in Open p h = h
     role_in Nothing p h = (tt, (h, tt))
     role_in (Of t) p h = (tt, (h, tt))
 
-    roles_in : (d : Delivery) (ps : List Phrase) → AllFound (all_of ps) → AllFound (all_of (shape.roles d ps))
+    roles_in : (d : Delivery) (ps : List Phrase) → AllServed (all_of ps) → AllServed (all_of (shape.roles d ps))
     roles_in d [] h = tt
     roles_in d (p ∷ []) h = (role_in d p h.0, tt)
     roles_in d (p ∷ q ∷ ps) h = (role_in Nothing p h.0, roles_in d (q ∷ ps) h.1)
 
-    filled_in : (us : List (Option Phrase)) → AllMay us → AllFound (all_of (shape.filled us))
+    filled_in : (us : List (Option Phrase)) → AllMay us → AllServed (all_of (shape.filled us))
     filled_in [] h = tt
     filled_in (None ∷ us) h = filled_in us h.1
     filled_in (Some p ∷ us) h = (h.0, filled_in us h.1)
 
-    list_in : (d : Delivery) (us : List (Option Phrase)) → AllMay us → AreFound (shape.units d us)
+    list_in : (d : Delivery) (us : List (Option Phrase)) → AllMay us → AreServed (shape.units d us)
     list_in d us h = (tt, roles_in d (shape.filled us) (filled_in us h))
 
     all_may : (us : List ((u : Statement) × U u)) → Fine (nodes.all (map nodes.in_unit (map fst us))) → AllMay (map (shape.unit s) (map fst us))
@@ -181,21 +181,29 @@ module _ (s : Scope) where
     all_may (u ∷ us) h = let q = split (nodes.in_unit u.0) (nodes.all (map nodes.in_unit (map fst us))) h in (u.1 q.0, all_may us q.1)
 
     units_in : (d : Delivery) (us : List ((u : Statement) × U u)) → Fine (nodes.all (map nodes.in_unit (map fst us)))
-        → AreFound (shape.units d (map (shape.unit s) (map fst us)))
+        → AreServed (shape.units d (map (shape.unit s) (map fst us)))
     units_in d us h = list_in d (map (shape.unit s) (map fst us)) (all_may us h)
 
-    labels_in : (ns : List ℤ) (ls : List Label) → AllFound (all_of (shape.label_phrases s ns ls))
+    labels_in : (ns : List ℤ) (ls : List Label) → AllServed (all_of (shape.label_phrases s ns ls))
     labels_in ns [] = tt
     labels_in ns (label.Number at n ∷ ls) = ((tt, tt), labels_in (ns ++ n ∷ []) ls)
     labels_in ns (label.Named n ∷ ls) = ((tt, tt), labels_in (ns ++ []) ls)
 
     arms_in : (ns : List ℤ) (cs : List ((c : Case) × C c)) → Fine (nodes.all (map nodes.in_case (map fst cs)))
-        → AllFound (all_of (shape.arms s ns (map (shape.case s) (map fst cs))))
+        → AllServed (all_of (shape.arms s ns (map (shape.case s) (map fst cs))))
     arms_in ns [] h = tt
     arms_in ns (c ∷ cs) h =
         let q = split (nodes.in_case c.0) (nodes.all (map nodes.in_case (map fst cs))) h in
         let ls = (shape.case s c.0).0 in
         ((tt, labels_in ns ls), (c.1 q.0, arms_in (ns ++ shape.numbers ls) cs q.1))
+
+    branches_odd : (o : Phrase) (bs : List ((b : Branch) × B b)) → HasOdd (all_of (shape.branches (map (shape.branch s) (map fst bs)) ++ o ∷ []))
+    branches_odd o [] = tt
+    branches_odd o (b ∷ bs) = branches_odd o bs
+
+    arms_odd : (o : Phrase) (ns : List ℤ) (cs : List ((c : Case) × C c)) → HasOdd (all_of (shape.arms s ns (map (shape.case s) (map fst cs)) ++ o ∷ []))
+    arms_odd o ns [] = tt
+    arms_odd o ns (c ∷ cs) = arms_odd o (ns ++ shape.numbers (shape.case s c.0).0) cs
 
     -- ---- what may be left out
 
@@ -207,7 +215,7 @@ module _ (s : Scope) where
     may_nodes None = []
     may_nodes (Some e) = nodes.in_expr e.0
 
-    may_in : (o : Option ((e : Expr) × E e)) → Fine (may_nodes o) → AreFound (May o)
+    may_in : (o : Option ((e : Expr) × E e)) → Fine (may_nodes o) → AreServed (May o)
     may_in None h = (tt, tt)
     may_in (Some e) h = e.1 h
 
@@ -219,7 +227,7 @@ module _ (s : Scope) where
     other_nodes None = []
     other_nodes (Some us) = nodes.all (map nodes.in_unit (map fst us))
 
-    other_in : (o : Option (List ((u : Statement) × U u))) → Fine (other_nodes o) → AllFound (all_of (Other o ∷ []))
+    other_in : (o : Option (List ((u : Statement) × U u))) → Fine (other_nodes o) → AllServed (all_of (Other o ∷ []))
     other_in None h = ((tt, tt), tt)
     other_in (Some us) h = (units_in Open us h, tt)
 
@@ -231,7 +239,7 @@ module _ (s : Scope) where
     count_nodes None = []
     count_nodes (Some k) = nodes.in_counter k.0
 
-    count_in : (o : Option ((k : Counter) × K k)) → Fine (count_nodes o) → AllFound (all_of (shape.counter_parts (MayCount o)))
+    count_in : (o : Option ((k : Counter) × K k)) → Fine (count_nodes o) → AllServed (all_of (shape.counter_parts (MayCount o)))
     count_in None h = tt
     count_in (Some k) h = k.1 h
 
@@ -240,19 +248,19 @@ module _ (s : Scope) where
     abbrev Below : (Type 0 → Type 0 → Type 0 → Type 0 → Type 0 → Type 0 → Type 0 → Type 0) → Type 0
     Below F = F ((e : Expr) × E e) ((l : Limit) × L l) ((u : Statement) × U u) ((b : Branch) × B b) ((c : Case) × C c) ((k : Counter) × K k) ((i : Item) × I i)
 
-    two_in : (p q : Phrase) (ns ms : List Node) → (Fine ns → AreFound p) → (Fine ms → AreFound q) → Fine (ns ++ ms) → AllFound (all_of (p ∷ q ∷ []))
+    two_in : (p q : Phrase) (ns ms : List Node) → (Fine ns → AreServed p) → (Fine ms → AreServed q) → Fine (ns ++ ms) → AllServed (all_of (p ∷ q ∷ []))
     two_in p q ns ms f g h = let r = split ns ms h in (f r.0, (g r.1, tt))
 
     choice_in : (branches : List ((b : Branch) × B b)) (o : Option (List ((u : Statement) × U u)))
         → Fine (nodes.all (map nodes.in_branch (map fst branches)) ++ other_nodes o)
-        → AllFound (all_of (shape.branches (map (shape.branch s) (map fst branches)) ++ Other o ∷ []))
+        → AllServed (all_of (shape.branches (map (shape.branch s) (map fst branches)) ++ Other o ∷ []))
     choice_in branches o h =
         let q = split (nodes.all (map nodes.in_branch (map fst branches))) (other_nodes o) h in
         append_in (shape.branches (map (shape.branch s) (map fst branches))) (Other o ∷ []) (branches_in branches q.0) (other_in o q.1)
 
     selection_in : (of : (e : Expr) × E e) (cases : List ((c : Case) × C c)) (o : Option (List ((u : Statement) × U u)))
         → Fine (nodes.in_expr of.0 ++ nodes.all (map nodes.in_case (map fst cases)) ++ other_nodes o)
-        → AllFound (all_of (shape.expr s of.0 ∷ shape.arms s [] (map (shape.case s) (map fst cases)) ++ Other o ∷ []))
+        → AllServed (all_of (shape.expr s of.0 ∷ shape.arms s [] (map (shape.case s) (map fst cases)) ++ Other o ∷ []))
     selection_in of cases o h =
         let q = split (nodes.in_expr of.0 ++ nodes.all (map nodes.in_case (map fst cases))) (other_nodes o) h in
         let r = split (nodes.in_expr of.0) (nodes.all (map nodes.in_case (map fst cases))) q.0 in
@@ -261,7 +269,7 @@ module _ (s : Scope) where
     expr_in : (y : Below Expr-F) → Fine (nodes.expr_step (map-Expr _ _ _ _ _ _ _ _ _ _ _ _ _ _
         nodes.in_expr nodes.in_limit nodes.in_unit nodes.in_branch nodes.in_case nodes.in_counter nodes.in_item
         (map-Expr _ _ _ _ _ _ _ _ _ _ _ _ _ _ fst fst fst fst fst fst fst y)))
-        → AreFound (shape.expr_step s (map-Expr _ _ _ _ _ _ _ _ _ _ _ _ _ _
+        → AreServed (shape.expr_step s (map-Expr _ _ _ _ _ _ _ _ _ _ _ _ _ _
         (shape.expr s) (shape.limit s) (shape.unit s) (shape.branch s) (shape.case s) (shape.counter s) (shape.item s)
         (map-Expr _ _ _ _ _ _ _ _ _ _ _ _ _ _ fst fst fst fst fst fst fst y)))
     expr_in (t.Number at n) h = (tt, tt)
@@ -272,15 +280,17 @@ module _ (s : Scope) where
     expr_in (t.Procedure at n) h = (tt, tt)
     expr_in (t.Concr at a) h = (tt, tt)
     expr_in (t.Bracket at a) h = (tt, (a.1 h, tt))
-    expr_in (t.If at branches None) h = (tt, choice_in branches None h)
-    expr_in (t.If at branches (Some us)) h = (tt, choice_in branches (Some us) h)
-    expr_in (t.Select at of cases None) h = (tt, selection_in of cases None h)
-    expr_in (t.Select at of cases (Some us)) h = (tt, selection_in of cases (Some us) h)
+    expr_in (t.If at branches None) h = (branches_odd (form.leaf form.absent) branches, choice_in branches None h)
+    expr_in (t.If at branches (Some us)) h =
+        (branches_odd (shape.units Open (map (shape.unit s) (map fst us))) branches, choice_in branches (Some us) h)
+    expr_in (t.Select at of cases None) h = (arms_odd (form.leaf form.absent) [] cases, selection_in of cases None h)
+    expr_in (t.Select at of cases (Some us)) h =
+        (arms_odd (shape.units Open (map (shape.unit s) (map fst us))) [] cases, selection_in of cases (Some us) h)
     expr_in (t.Index at of index) h = (tt, tt)
     expr_in (t.Field at of field) h = (tt, tt)
     expr_in (t.Monadic at o a) h = (tt, (a.1 (rest (sign o) (nodes.in_expr a.0) h), tt))
     expr_in (t.Dyadic at o a b) h =
-        let right : Fine (sign o ∷ nodes.in_expr b.0) → AreFound (shape.expr s b.0) = λ g. b.1 (rest (sign o) (nodes.in_expr b.0) g) in
+        let right : Fine (sign o ∷ nodes.in_expr b.0) → AreServed (shape.expr s b.0) = λ g. b.1 (rest (sign o) (nodes.in_expr b.0) g) in
         (tt, two_in (shape.expr s a.0) (shape.expr s b.0) (nodes.in_expr a.0) (sign o ∷ nodes.in_expr b.0) a.1 right h)
     expr_in (t.Cand at a b) h = (tt, two_in (shape.expr s a.0) (shape.expr s b.0) (nodes.in_expr a.0) (nodes.in_expr b.0) a.1 b.1 h)
     expr_in (t.Cor at a b) h = (tt, two_in (shape.expr s a.0) (shape.expr s b.0) (nodes.in_expr a.0) (nodes.in_expr b.0) a.1 b.1 h)
@@ -288,7 +298,7 @@ module _ (s : Scope) where
     limit_in : (y : Below Limit-F) → Fine (nodes.limit_step (map-Limit _ _ _ _ _ _ _ _ _ _ _ _ _ _
         nodes.in_expr nodes.in_limit nodes.in_unit nodes.in_branch nodes.in_case nodes.in_counter nodes.in_item
         (map-Limit _ _ _ _ _ _ _ _ _ _ _ _ _ _ fst fst fst fst fst fst fst y)))
-        → AreFound (shape.limit_step s (map-Limit _ _ _ _ _ _ _ _ _ _ _ _ _ _
+        → AreServed (shape.limit_step s (map-Limit _ _ _ _ _ _ _ _ _ _ _ _ _ _
         (shape.expr s) (shape.limit s) (shape.unit s) (shape.branch s) (shape.case s) (shape.counter s) (shape.item s)
         (map-Limit _ _ _ _ _ _ _ _ _ _ _ _ _ _ fst fst fst fst fst fst fst y))).1
     limit_in t.Without h = (tt, tt)
@@ -297,7 +307,7 @@ module _ (s : Scope) where
 
     loop_in : (k : Option ((k : Counter) × K k)) (c : Option ((e : Expr) × E e)) (us : List ((u : Statement) × U u)) (v : Option ((e : Expr) × E e))
         → Fine (count_nodes k ++ may_nodes c ++ nodes.all (map nodes.in_unit (map fst us)) ++ may_nodes v)
-        → AllFound (all_of (shape.counter_parts (MayCount k) ++ May c ∷ shape.units Nothing (map (shape.unit s) (map fst us)) ∷ May v ∷ []))
+        → AllServed (all_of (shape.counter_parts (MayCount k) ++ May c ∷ shape.units Nothing (map (shape.unit s) (map fst us)) ∷ May v ∷ []))
     loop_in k c us v h =
         let inside = nodes.all (map nodes.in_unit (map fst us)) in
         let q = split (count_nodes k ++ may_nodes c ++ inside) (may_nodes v) h in
@@ -342,7 +352,7 @@ module _ (s : Scope) where
     case_in : (y : Below Case-F) → Fine (nodes.case_step (map-Case _ _ _ _ _ _ _ _ _ _ _ _ _ _
         nodes.in_expr nodes.in_limit nodes.in_unit nodes.in_branch nodes.in_case nodes.in_counter nodes.in_item
         (map-Case _ _ _ _ _ _ _ _ _ _ _ _ _ _ fst fst fst fst fst fst fst y)))
-        → AreFound (shape.case_step s (map-Case _ _ _ _ _ _ _ _ _ _ _ _ _ _
+        → AreServed (shape.case_step s (map-Case _ _ _ _ _ _ _ _ _ _ _ _ _ _
         (shape.expr s) (shape.limit s) (shape.unit s) (shape.branch s) (shape.case s) (shape.counter s) (shape.item s)
         (map-Case _ _ _ _ _ _ _ _ _ _ _ _ _ _ fst fst fst fst fst fst fst y))).1
     case_in y h =
@@ -396,12 +406,12 @@ module _ (s : Scope) where
         (λ x y is. rw (fold-roll-Counter, fold-roll-Counter, ← is) (counter_in y))
         (λ x y is. rw (fold-roll-Item, fold-roll-Item, ← is) (item_in y))
 
-    written_in : (u : Option Phrase) → MayIn u → AreFound (shape.written u)
+    written_in : (u : Option Phrase) → MayIn u → AreServed (shape.written u)
     written_in None h = (tt, tt)
     written_in (Some p) h = h
 
     -- a unit of a level
-    pub unit_alone_found : (u : Statement) → Fine (nodes.in_unit u) → AreFound (shape.role Nothing (shape.written (shape.unit s u)))
+    pub unit_alone_found : (u : Statement) → Fine (nodes.in_unit u) → AreServed (shape.role Nothing (shape.written (shape.unit s u)))
     unit_alone_found u h = role_in Nothing (shape.written (shape.unit s u)) (written_in (shape.unit s u) (unit_in u h))
 
     statements_in : (us : List Statement) → Fine (nodes.in_units us) → AllMay (map (shape.unit s) us)
@@ -409,5 +419,5 @@ module _ (s : Scope) where
     statements_in (u ∷ us) h = let q = split (nodes.in_unit u) (nodes.in_units us) h in (unit_in u q.0, statements_in us q.1)
 
     -- the units of a body
-    pub body_units_found : (d : Delivery) (us : List Statement) → Fine (nodes.in_units us) → AreFound (shape.units d (map (shape.unit s) us))
+    pub body_units_found : (d : Delivery) (us : List Statement) → Fine (nodes.in_units us) → AreServed (shape.units d (map (shape.unit s) us))
     body_units_found d us h = list_in d (map (shape.unit s) us) (statements_in us h)

@@ -27,7 +27,7 @@ use Rattle.elan_walk.specs.declared.node.Held.TheVariants.{Variable, Constant}
 use Rattle.std.proofs.lemmas.Bool.Decides.{Decides-eqb}
 use Rattle.elan_levels.specs.Declarations as d
 use Rattle.elan_levels.specs.Bodies as b
-use Rattle.elan_laws.specs.Found.{HasBody}
+use Rattle.elan_laws.specs.Served.{HasBody}
 use Rattle.elan_types.specs.declared.core_phrase.Parameter.{Parameter}
 use Rattle.elan_laws.proofs.Declared.{Named}
 

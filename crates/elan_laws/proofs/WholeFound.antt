@@ -33,7 +33,7 @@ use Rattle.elan_scope.specs.Phrase.{Phrase, leaf, all_of}
 use Rattle.elan_levels.specs.Declarations as d
 use Rattle.elan_levels.specs.Bodies as b
 use Rattle.elan_check.specs.Level as l
-use Rattle.elan_laws.specs.Found.{AreFound, AllFound}
+use Rattle.elan_laws.specs.Served.{AreServed, AllServed}
 use Rattle.elan_laws.proofs.Declared.{AllNamed, Fine, neither, unit_alone_found, body_units_found}
 use Rattle.elan_laws.proofs.LookUps.{Has, in_first, in_second, bytes_self, named, own, HasHeading, heading_first, heading_second}
 use Rattle.elan_laws.proofs.LookUps.{heading_is, both_true, SubHeadings, Bodies}
@@ -59,7 +59,7 @@ any_split (x ∷ xs) ys h =
 any_rest : (x : Node) (xs : List Node) → built.any (x ∷ xs) ≡ false → built.any xs ≡ false
 any_rest x xs h = let n = neither (built.node x) (built.any xs) h in n.1
 
-append_found : (ps qs : List Phrase) → AllFound (all_of ps) → AllFound (all_of qs) → AllFound (all_of (ps ++ qs))
+append_found : (ps qs : List Phrase) → AllServed (all_of ps) → AllServed (all_of qs) → AllServed (all_of (ps ++ qs))
 append_found [] qs h g = g
 append_found (p ∷ ps) qs h g = (h.0, append_found ps qs h.1 g)
 
@@ -70,12 +70,12 @@ type_is (type.Int a) h = (types.Int, refl)
 type_is (type.Bool a) h = (types.Bool, refl)
 type_is of h = absurd cc
 
-names_found : (z : Scope) (ns : List Name) (p : Denotes) → Sub z (b.named_as ns (Some p)) → AllFound (all_of (l.declare_all z ns))
+names_found : (z : Scope) (ns : List Name) (p : Denotes) → Sub z (b.named_as ns (Some p)) → AllServed (all_of (l.declare_all z ns))
 names_found z [] p f = tt
 names_found z (n ∷ ns) p f = ((named z n.text (f n.text (inl refl)), tt), names_found z ns p (λ x h. f x (inr h)))
 
 formals_found : (z : Scope) (fs : List Formal) → built.any (nodes.formals fs) ≡ false → Sub z (b.parameter_names fs)
-    → AllFound (all_of (l.declare_parameters z fs))
+    → AllServed (all_of (l.declare_parameters z fs))
 formals_found z [] h f = tt
 formals_found z (g ∷ fs) h f =
     let n = neither (built.written_type g.of) (built.any (nodes.names g.names ++ nodes.formals fs)) h in
@@ -91,7 +91,7 @@ formals_found z (g ∷ fs) h f =
 -- ---- refinements
 
 refinements_found : (z : Scope) (bodies : Bodies z) (k : ℕ) (rs : List Refinement) → built.any (nodes.refinements rs) ≡ false → Sub z (b.refinement_names rs)
-    → AllFound (all_of (l.refinements z k rs))
+    → AllServed (all_of (l.refinements z k rs))
 refinements_found z bodies k [] h f = tt
 refinements_found z bodies k (r ∷ rs) h f =
     let q = any_split (nodes.in_units r.units) (nodes.refinements rs) (any_rest (other r.name) (nodes.in_units r.units ++ nodes.refinements rs) h) in
@@ -129,8 +129,8 @@ module _ (s : Scope) (k : ℕ) (at : ℕ) (x : List ℕ) (r : Option TypePhrase)
   abbrev inner : Scope
   inner = l.inner s k at x r fs w
 
-  routine_found : (sort : Sort) (names : List Phrase) → AllFound (all_of names) → HasHeading s.headings (b.routine_heading sort at x fs r)
-      → SubHeadings s (b.refinement_headings (Some k) w.refinements) → built.any (nodes.body fs w) ≡ false → AreFound (l.routine s k at x r fs w sort names)
+  routine_found : (sort : Sort) (names : List Phrase) → AllServed (all_of names) → HasHeading s.headings (b.routine_heading sort at x fs r)
+      → SubHeadings s (b.refinement_headings (Some k) w.refinements) → built.any (nodes.body fs w) ≡ false → AreServed (l.routine s k at x r fs w sort names)
   routine_found sort names f i g h =
       let p = any_split (nodes.formals fs ++ nodes.in_units w.units) (nodes.refinements w.refinements) h in
       let q = any_split (nodes.formals fs) (nodes.in_units w.units) p.0 in
@@ -152,14 +152,14 @@ module _ (s : Scope) (k : ℕ) (at : ℕ) (x : List ℕ) (r : Option TypePhrase)
             (append_found names (marked ∷ l.declare_parameters inner fs) f ((heading, tt), formals)) ((tt, (body, tt)), refined),
       )
 
-procedure_found : (s : Scope) (n : Name) (fs : List Formal) → Sub s (b.procedure_name n fs) → AllFound (all_of (l.procedure_name s n fs))
+procedure_found : (s : Scope) (n : Name) (fs : List Formal) → Sub s (b.procedure_name n fs) → AllServed (all_of (l.procedure_name s n fs))
 procedure_found s n [] f = ((named s n.text (f n.text (inl refl)), tt), tt)
 procedure_found s n (g ∷ fs) f = tt
 
 -- ---- the level
 
 unit_found : (s : Scope) (bodies : Bodies s) (k : ℕ) (u : LevelUnit) → built.any (nodes.level_unit u) ≡ false → Sub s (b.unit_names u)
-    → SubHeadings s (b.unit_headings k u) → AreFound (l.level_unit s k u)
+    → SubHeadings s (b.unit_headings k u) → AreServed (l.level_unit s k u)
 unit_found s bodies k (level.Plain u) h f g = unit_alone_found s bodies u (fine s (nodes.in_unit u) h f)
 unit_found s bodies k (level.Proc at r n fs w) h f g =
     let q = any_split (nodes.result r) (other n ∷ nodes.body fs w) h in
@@ -173,7 +173,7 @@ unit_found s bodies k (level.Op at r n fs w) h f g =
 unit_found s bodies k (level.NewType at n of) h f g = absurd cc
 
 units_found : (s : Scope) (bodies : Bodies s) (k : ℕ) (us : List LevelUnit) → built.any (nodes.level_units us) ≡ false → Sub s (b.all_unit_names us)
-    → SubHeadings s (b.all_headings k us) → AllFound (all_of (l.level_units s k us))
+    → SubHeadings s (b.all_headings k us) → AllServed (all_of (l.level_units s k us))
 units_found s bodies k [] h f g = tt
 units_found s bodies k (u ∷ us) h f g =
     let q = any_split (nodes.level_unit u) (nodes.level_units us) h in
@@ -185,7 +185,7 @@ units_found s bodies k (u ∷ us) h f g =
           (λ x i. g x (heading_second heads (b.all_headings (k + b.bodies_in u) us) x i)),
     )
 
-pub text_found : (t : Tree) → built.not_built t ≡ false → AreFound (l.text t)
+pub text_found : (t : Tree) → built.not_built t ≡ false → AreServed (l.text t)
 text_found (tree.Program w) h =
     let s = l.level_scope w in
     let q = any_split (nodes.level_units w.units) (nodes.refinements w.refinements) h in

@@ -1,4 +1,4 @@
 pub mod Places
 pub mod Order
 pub mod Settled
-pub mod Found
+pub mod Served

@@ -1,4 +1,4 @@
-//! Laws of names.
+//! Laws of what rules are given.
 
 ghost use Rattle.std.specs.Prelude.{◌≡◌, ℕ, List, Some, false};
 ghost use Rattle.elan_tree.specs.declared.tree.Tree.{Tree};
@@ -12,12 +12,13 @@ ghost use Rattle.elan_meant.specs.Verdict.{gives};
 ghost use Rattle.value_rules.specs.Calls.{given, performed};
 ghost use Rattle.elan_unbuilt.specs.NotBuilt.{not_built};
 ghost use Rattle.elan_check.specs.Level.{text};
-ghost use Rattle.elan_laws.specs.Found.{AreFound};
+ghost use Rattle.elan_laws.specs.Served.{AreServed};
 
-/// In a text that is built each name that is declared, and each heading of a PROC or OP, is found in the scope that declares it,
-/// and what an identifier denotes as a refinement is a body.
-pub fn declarations_are_found()
-    ensures { (t : Tree) → not_built t ≡ false → AreFound (text t) }
+/// In a text that is built each rule is given what it asks for: so many parts, and what it looks up. Each name that is declared,
+/// and each heading of a PROC or OP, is found in the scope that declares it, and what an identifier denotes as a refinement is
+/// a body.
+pub fn each_rule_gets_what_it_asks_for()
+    ensures { (t : Tree) → not_built t ≡ false → AreServed (text t) }
 {}
 
 /// What is chosen by its name and the types of its operands does something with what it is given.

@@ -1,0 +1,59 @@
+-- What rules ask for is there: phrases have their parts, declarations are found in the scope that declares them, and refinements
+-- where they are called.
+use Rattle.std.specs.Prelude.{◌≡◌, ℕ, zero, suc, true, List, Option, Some, None}
+use Rattle.std.specs.Option.{is_some}
+use Rattle.elan_scope.specs.Scope.{find, find_own, first_heading, is_alike, types_of, is_refinement, refinement_named}
+use Rattle.elan_scope.specs.declared.scope.Scope.{Scope}
+use Rattle.elan_scope.specs.declared.scope.Found.{Found}
+use Rattle.elan_scope.specs.Phrase as form
+use Rattle.elan_scope.specs.Phrase.{Form, asking, plain, Phrase, phrase, Parts, none, part}
+
+-- What is denoted as a refinement is one of the bodies.
+abbrev pub HasBody : Scope → List ℕ → Option Found → Type 0
+HasBody s x None = Unit {0}
+HasBody s x (Some f) = is_refinement f.denotes ≡ true → is_some (refinement_named s x) ≡ true
+
+-- so many parts
+abbrev pub Has : ℕ → Parts → Type 0
+Has zero none = Unit {0}
+Has zero (part p ps) = ⊥
+Has (suc n) none = ⊥
+Has (suc n) (part p ps) = Has n ps
+
+-- two parts some times, and one more
+abbrev pub HasOdd : Parts → Type 0
+HasOdd none = ⊥
+HasOdd (part p none) = Unit {0}
+HasOdd (part p (part q ps)) = HasOdd ps
+
+-- What the rule of a form asks for is there: parts by their number, a declaration, a body.
+abbrev pub IsServed : Form → Parts → Type 0
+IsServed (asking (form.named u at s x)) ps = HasBody s x (find s x)
+IsServed (asking (form.leave at s x)) ps = Has 1 ps
+IsServed (plain (form.bracket at)) ps = Has 1 ps
+IsServed (plain (form.cand at)) ps = Has 2 ps
+IsServed (plain (form.cor at)) ps = Has 2 ps
+IsServed (plain (form.choice at)) ps = HasOdd ps
+IsServed (plain (form.selection at)) none = ⊥
+IsServed (plain (form.selection at)) (part p ps) = HasOdd ps
+IsServed (plain (form.declares at s x)) ps = is_some (find_own s x) ≡ true
+IsServed (plain (form.initial at)) ps = Has 2 ps
+IsServed (plain form.statement) ps = Has 1 ps
+IsServed (plain (form.assignment at s)) ps = Has 2 ps
+IsServed (plain (form.loop at)) ps = Has 3 ps
+IsServed (plain (form.count at w)) ps = Has 6 ps
+IsServed (plain form.without_value) ps = Has 1 ps
+IsServed (plain (form.must_deliver at t)) ps = Has 1 ps
+IsServed (plain (form.heading at s sort x qs missing)) ps = is_some (first_heading (is_alike sort x (types_of qs)) s.headings) ≡ true
+IsServed (plain (form.body o r)) ps = Has 1 ps
+IsServed (plain (form.refinement o)) ps = Has 2 ps
+IsServed f ps = Unit {0}
+
+-- a phrase and all its parts
+abbrev mutual
+  pub AreServed : Phrase → Type 0
+  AreServed (phrase form ps) = IsServed form ps × AllServed ps
+
+  pub AllServed : Parts → Type 0
+  AllServed none = Unit {0}
+  AllServed (part p ps) = AreServed p × AllServed ps
