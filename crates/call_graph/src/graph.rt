@@ -7,17 +7,18 @@ ghost use Rattle.call_graph.specs.walks.Ranks as spec;
 use crate::apart::is_apart;
 use crate::led::is_led;
 use crate::marks::leads;
-use crate::ranks::ranks;
+use crate::ranks::{Ranking, ranked};
 use containers::{List, NoMemory};
 use std::alloc::Global;
 use std::marker::Model;
 
 /// The refinements that each body calls, by their numbers, which contracts see as lists. Each body has a rank, and calls
-/// none of a higher one, so that mostly two ranks tell that no chain leads from one to another.
+/// none of a higher one, so that mostly two ranks tell that no chain leads from one to another. The order is that of the ranks.
 #[derive(Drop)]
 pub struct CallGraph {
     calls: List<List<usize>>,
     ranks: List<usize>,
+    order: List<usize>,
 }
 
 impl Model for CallGraph {
@@ -73,14 +74,25 @@ impl CallGraph {
     pub fn of(alloc: Global, calls: List<List<usize>>) -> Result<CallGraph, NoMemory>
         ensures { IfOk result (λ graph. graph ≡ calls) }
     {
-        let ranks = ranks(alloc, calls.as_slice())?;
+        let Ranking { order, ranks } = ranked(alloc, calls.as_slice())?;
         if is_ranked(ranks.as_slice(), calls.as_slice()) {
-            return Ok(CallGraph { calls, ranks });
+            return Ok(CallGraph {
+                calls,
+                ranks,
+                order,
+            });
         }
         Ok(CallGraph {
             calls,
             ranks: List::new(alloc),
+            order,
         })
+    }
+
+    /// The numbers of bodies, those that a body calls before it, as far as none of them leads back to it. Nothing is promised
+    /// of the order.
+    pub fn callees_first(&self) -> &[usize] {
+        self.order.as_slice()
     }
 
     /// Whether a chain of calls leads from one body to another.

@@ -3,67 +3,119 @@
 use containers::{List, NoMemory};
 use std::alloc::Global;
 
-// The walk: which bodies were entered, the ranks of those that are left (0 before), and those that are still to be looked at.
+// How far the walk is with a body.
+#[derive(Clone, Copy)]
+struct Seen {
+    // As which body, from 1 on, it was entered; 0 before.
+    entered: usize,
+    // Which body that has no rank yet, as far as is known the first that was entered, its calls lead to.
+    lowest: usize,
+    // 0 before it has one.
+    rank: usize,
+}
+
+// The walk, depth first: how far it is with each body, those that are still to be looked at, those that were entered and have no
+// rank yet, and those that have one, in the order in which they got it.
 #[derive(Drop)]
 struct Walk {
-    entered: List<bool>,
-    ranks: List<usize>,
+    seen: List<Seen>,
     pending: List<usize>,
-    next: usize,
-    top: usize,
+    open: List<usize>,
+    order: List<usize>,
+    entered: usize,
+    rank: usize,
 }
 
 impl Walk {
+    fn note(&mut self, number: usize, seen: Seen) {
+        if number < self.seen.len() {
+            self.seen.set(number, seen);
+        }
+    }
+
     // Adds the bodies that a body calls and that were not entered.
     fn call(&mut self, called: &[usize]) -> Result<(), NoMemory> {
         for number in called {
-            if let Some(false) = self.entered.get(*number) {
+            if let Some(Seen { entered: 0, .. }) = self.seen.get(*number) {
                 self.pending.push(*number)?;
             }
         }
         Ok(())
     }
 
-    // Whether a body calls one that was not left before, or that has the top rank: whether it leads to a cycle.
-    fn is_cyclic(&self, called: &[usize]) -> bool {
+    fn enter(&mut self, number: usize, called: &[usize]) -> Result<(), NoMemory> {
+        self.entered = self.entered.saturating_add(1);
+        let seen = Seen {
+            entered: self.entered,
+            lowest: self.entered,
+            rank: 0,
+        };
+        self.note(number, seen);
+        self.open.push(number)?;
+        self.pending.push(number)?;
+        self.call(called)
+    }
+
+    // The first body without a rank to which these calls lead, or this one.
+    fn lowest(&self, own: usize, called: &[usize]) -> usize {
+        let mut lowest = own;
         for number in called {
-            if let Some(rank) = self.ranks.get(*number) {
-                if *rank == 0 || *rank == self.top {
-                    return true;
+            if let Some(seen) = self.seen.get(*number) {
+                if seen.rank == 0 && seen.lowest < lowest {
+                    lowest = seen.lowest;
                 }
             }
         }
-        false
+        lowest
     }
 
-    // Leaves a body. All that it calls were left before, unless it leads to a cycle.
-    fn leave(&mut self, number: usize, called: &[usize]) {
-        let rank = if self.is_cyclic(called) {
-            self.top
-        } else {
-            self.next = self.next.saturating_add(1);
-            self.next
-        };
-        if let Some(0) = self.ranks.get(number) {
-            self.ranks.set(number, rank);
+    // Gives the next rank to those that were entered from this body on: all of them lead to each other.
+    fn close(&mut self, number: usize) -> Result<(), NoMemory> {
+        self.rank = self.rank.saturating_add(1);
+        for _ in 0..self.open.len() {
+            let Some(last) = self.open.pop() else {
+                return Ok(());
+            };
+            self.give_rank(last);
+            self.order.push(last)?;
+            if last == number {
+                return Ok(());
+            }
         }
+        Ok(())
+    }
+
+    fn give_rank(&mut self, number: usize) {
+        if let Some(seen) = self.seen.get(number) {
+            let rank = self.rank;
+            let ranked = Seen { rank, ..*seen };
+            self.note(number, ranked);
+        }
+    }
+
+    // Leaves a body. All that it calls were entered.
+    fn leave(&mut self, number: usize, seen: Seen, called: &[usize]) -> Result<(), NoMemory> {
+        let lowest = self.lowest(seen.lowest, called);
+        self.note(number, Seen { lowest, ..seen });
+        if lowest == seen.entered {
+            return self.close(number);
+        }
+        Ok(())
     }
 
     // Enters a body, or leaves it.
     fn step(&mut self, calls: &[List<usize>], number: usize) -> Result<(), NoMemory> {
-        let Some(called) = calls.get(number) else {
+        let (Some(seen), Some(called)) = (self.seen.get(number), calls.get(number)) else {
             return Ok(());
         };
-        match self.entered.get(number) {
-            Some(false) => {
-                self.entered.set(number, true);
-                self.pending.push(number)?;
-                self.call(called.as_slice())
-            }
-            _ => {
-                self.leave(number, called.as_slice());
-                Ok(())
-            }
+        let seen = *seen;
+        let called = called.as_slice();
+        if seen.entered == 0 {
+            self.enter(number, called)
+        } else if seen.rank == 0 {
+            self.leave(number, seen, called)
+        } else {
+            Ok(())
         }
     }
 
@@ -78,6 +130,14 @@ impl Walk {
         }
         Ok(())
     }
+
+    fn ranks(&self, alloc: Global) -> Result<List<usize>, NoMemory> {
+        let mut ranks = List::new(alloc);
+        for seen in self.seen.as_slice() {
+            ranks.push(seen.rank)?;
+        }
+        Ok(ranks)
+    }
 }
 
 // How many steps the walk has at most: two for each body and each call.
@@ -90,29 +150,40 @@ fn most_steps(calls: &[List<usize>]) -> usize {
 }
 
 fn fresh(alloc: Global, calls: &[List<usize>]) -> Result<Walk, NoMemory> {
-    let mut entered = List::new(alloc);
-    let mut ranks = List::new(alloc);
+    let mut seen = List::new(alloc);
     for _called in calls {
-        entered.push(false)?;
-        ranks.push(0)?;
+        seen.push(Seen {
+            entered: 0,
+            lowest: 0,
+            rank: 0,
+        })?;
     }
     Ok(Walk {
-        entered,
-        ranks,
+        seen,
         pending: List::new(alloc),
-        next: 0,
-        top: calls.len().saturating_add(1),
+        open: List::new(alloc),
+        order: List::new(alloc),
+        entered: 0,
+        rank: 0,
     })
 }
 
-/// A rank for each body, higher than those of all that it calls; those that lead to a cycle have the top one. Nothing is
-/// promised of ranks: they are looked through before they are believed.
-pub fn ranks(alloc: Global, calls: &[List<usize>]) -> Result<List<usize>, NoMemory> {
+/// Bodies in the order of their ranks, and the rank of each.
+#[derive(Drop)]
+pub struct Ranking {
+    pub order: List<usize>,
+    pub ranks: List<usize>,
+}
+
+/// Ranks by which each body calls none of a higher one, and those of one rank lead to each other. Nothing is promised of them:
+/// they are looked through before they are believed.
+pub fn ranked(alloc: Global, calls: &[List<usize>]) -> Result<Ranking, NoMemory> {
     let mut walk = fresh(alloc, calls)?;
     let most = most_steps(calls);
     for number in 0..calls.len() {
         walk.go(calls, number, most)?;
     }
-    let Walk { ranks, .. } = walk;
-    Ok(ranks)
+    let ranks = walk.ranks(alloc)?;
+    let Walk { order, .. } = walk;
+    Ok(Ranking { order, ranks })
 }

@@ -36,7 +36,7 @@ use Rattle.elan_scope.specs.Phrase.{plain, Phrase, phrase, Parts, none, part, al
 use Rattle.elan_scope.specs.Ruled.{Ruled, gives, before}
 use Rattle.elan_scope.specs.declared.delivery.Delivery.TheVariants.{Open}
 use Rattle.elan_scope.specs.Known.{delivered}
-use Rattle.elan_check.specs.Refinements.{told}
+use Rattle.elan_check.specs.Refinements.{stated}
 use Rattle.elan_scope.specs.declared.known.Known.{Known}
 use Rattle.value_rules.specs.Calls as calls
 use Rattle.unit_rules.specs.Units as u
@@ -129,7 +129,7 @@ module _ (kn : Known) (s : Scope) (all : List Body) where
     pub meant : Meant
     pub means : judged kn p ≡ gives meant
     pub list : List (Option Phrase)
-    pub is_list : p ≡ shape.units (told h.what) list
+    pub is_list : p ≡ shape.units (stated h.what) list
     pub made : Made h.what meant b
     pub scope : Scope
     pub in_scope : InScope scope p

@@ -21,7 +21,7 @@ use Rattle.elan_scope.specs.declared.known.Known.{Known}
 use Rattle.value_rules.specs.Calls as c
 use Rattle.elan_rules.specs.Rules.{rule, ruled}
 use Rattle.elan_rules.specs.Meaning.{judged, judged_all, phrases, phrases_of}
-use Rattle.elan_check.specs.Refinements.{told, last_unit, last_part, unit_delivery, outcome, called_by, called_by_all, called_in}
+use Rattle.elan_check.specs.Refinements.{stated, last_unit, last_part, unit_delivery, outcome, called_by, called_by_all, called_in}
 use Rattle.elan_levels.specs.Called.{number_list}
 use Rattle.elan_rules.proofs.First.{Faultless, whole, open_one, bind_faultless, before_faultless, breaks_has_fault}
 use Rattle.elan_check.proofs.Calls.{called_append}
@@ -75,9 +75,9 @@ in_right n ps qs h = subst (In n) (sym (called_append ps qs)) (in_rest n (called
 
 -- the number of a refinement in a scope
 abbrev pub IsHeaded : List Heading → ℕ → Type 0
-IsHeaded hs n = (h : Heading) × (slice_get hs n ≡ Some h) × (told h.what ≡ Open)
+IsHeaded hs n = (h : Heading) × (slice_get hs n ≡ Some h) × (stated h.what ≡ Open)
 
-told_refinement : (home : Option ℕ) (w : What) → scope.is_refinement_of home w ≡ true → told w ≡ Open
+told_refinement : (home : Option ℕ) (w : What) → scope.is_refinement_of home w ≡ true → stated w ≡ Open
 told_refinement home (Routine sort ps r) e = absurd cc
 told_refinement home (Refinement other) e = refl
 

@@ -16,3 +16,8 @@ pub mod Calls
 pub mod Steps
 pub mod Hanging
 pub mod Spots
+pub mod Alike
+pub mod Places
+pub mod OnTheWay
+pub mod Settling
+pub mod Over

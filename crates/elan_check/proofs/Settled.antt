@@ -13,7 +13,7 @@ use Rattle.elan_scope.specs.Known.{delivery_at}
 use Rattle.elan_scope.specs.declared.known.Known.{Known}
 use Rattle.elan_judge.specs.Shape.{units}
 use Rattle.elan_rules.specs.Meaning.{judged}
-use Rattle.elan_check.specs.Refinements.{told, told_by, last_unit, delivery_of, outcome, unit_delivery, next, next_all, called_in, known_after}
+use Rattle.elan_check.specs.Refinements.{stated, all_stated, last_unit, delivery_of, outcome, unit_delivery, next, next_all, called_in, known_after}
 use Rattle.elan_check.proofs.Inferred.{Below, Last, same_meaning, last_delivers}
 
 -- What a phrase with a meaning delivers is known.
@@ -50,7 +50,7 @@ few (Open ∷ ds) = one_more (opens ds) (length ds) (few ds)
 few (Nothing ∷ ds) = up (opens ds) (length ds) (few ds)
 few (Of t ∷ ds) = up (opens ds) (length ds) (few ds)
 
-told_length : (hs : List Heading) → length (told_by hs) ≡ length hs
+pub told_length : (hs : List Heading) → length (all_stated hs) ≡ length hs
 told_length [] = refl
 told_length (h ∷ hs) = ap suc (told_length hs)
 
@@ -96,7 +96,7 @@ next_steps k (Of t ∷ ds) (u ∷ us) = with_head (Of t) ds (next_all k ds us) (
 
 -- ---- places in the lists
 
-next_below : (k : Known) (ds : List Delivery) (us : List Phrase) (i : ℕ)
+pub next_below : (k : Known) (ds : List Delivery) (us : List Phrase) (i : ℕ)
     → (slice_index_or ds i Open ≡ Open) ⊎ (slice_index_or ds i Open ≡ slice_index_or (next_all k ds us) i Open)
 next_below k [] us i = inl refl
 next_below k (d ∷ ds) [] i = inr refl
@@ -107,7 +107,7 @@ next_below k (Open ∷ ds) (u ∷ us) (suc i) = next_below k ds us i
 next_below k (Nothing ∷ ds) (u ∷ us) (suc i) = next_below k ds us i
 next_below k (Of t ∷ ds) (u ∷ us) (suc i) = next_below k ds us i
 
-next_at : (k : Known) (ds : List Delivery) (us : List Phrase) (i : ℕ) (d : Delivery) (u : Phrase) → slice_get ds i ≡ Some d → slice_get us i ≡ Some u
+pub next_at : (k : Known) (ds : List Delivery) (us : List Phrase) (i : ℕ) (d : Delivery) (u : Phrase) → slice_get ds i ≡ Some d → slice_get us i ≡ Some u
     → slice_get (next_all k ds us) i ≡ Some (next k d u)
 next_at k [] us i d u e g = absurd cc
 next_at k (c ∷ ds) [] i d u e g = absurd cc
@@ -121,19 +121,19 @@ next_at k (Open ∷ ds) (v ∷ us) (suc i) d u e g = next_at k ds us i d u e g
 next_at k (Nothing ∷ ds) (v ∷ us) (suc i) d u e g = next_at k ds us i d u e g
 next_at k (Of t ∷ ds) (v ∷ us) (suc i) d u e g = next_at k ds us i d u e g
 
-told_at : (hs : List Heading) (i : ℕ) (h : Heading) → slice_get hs i ≡ Some h → slice_get (told_by hs) i ≡ Some (told h.what)
+pub told_at : (hs : List Heading) (i : ℕ) (h : Heading) → slice_get hs i ≡ Some h → slice_get (all_stated hs) i ≡ Some (stated h.what)
 told_at [] i h e = absurd cc
-told_at (g ∷ hs) zero h e = let j : g ≡ h = cc in ap (λ (x : Heading). Some (told x.what)) j
+told_at (g ∷ hs) zero h e = let j : g ≡ h = cc in ap (λ (x : Heading). Some (stated x.what)) j
 told_at (g ∷ hs) (suc i) h e = told_at hs i h e
 
-at_index : (ds : List Delivery) (i : ℕ) (d : Delivery) → slice_get ds i ≡ Some d → slice_index_or ds i Open ≡ d
+pub at_index : (ds : List Delivery) (i : ℕ) (d : Delivery) → slice_get ds i ≡ Some d → slice_index_or ds i Open ≡ d
 at_index [] i d e = absurd cc
 at_index (c ∷ ds) zero d e = cc
 at_index (c ∷ ds) (suc i) d e = at_index ds i d e
 
 -- ---- all steps
 
-below_trans : (j k l : Known) → Below j k → Below k l → Below j l
+pub below_trans : (j k l : Known) → Below j k → Below k l → Below j l
 below_trans j k l h g = (h.0 ∙ g.0, λ n. both n (h.1 n) (g.1 n))
   where
     both : (n : ℕ) → (delivery_at j n ≡ Open) ⊎ (delivery_at j n ≡ delivery_at k n) → (delivery_at k n ≡ Open) ⊎ (delivery_at k n ≡ delivery_at l n)
@@ -158,7 +158,7 @@ module _ (hs : List Heading) (us : List Phrase) where
   calls_are zero = refl
   calls_are (suc n) = refl
 
-  step_below : (n : ℕ) → Below (K n) (K (suc n))
+  pub step_below : (n : ℕ) → Below (K n) (K (suc n))
   step_below n = (calls_are n, λ i. next_below (K n) (D n) us i)
 
   known_same : (n m : ℕ) → D n ≡ D m → K n ≡ K m
@@ -192,32 +192,33 @@ module _ (hs : List Heading) (us : List Phrase) where
       elim (settles (length hs)) [
         | inl e ↦ e
         | inr l ↦ absurd (let i : suc (length hs) + opens (D (suc (length hs))) ≤ opens (D 0) = l in
-            let j : opens (D 0) ≤ length (told_by hs) = few (told_by hs) in let k = told_length hs in omega arith)
+            let j : opens (D 0) ≤ length (all_stated hs) = few (all_stated hs) in let k = told_length hs in omega arith)
       ]
 
   -- ---- one body
 
   module _ (i : ℕ) (h : Heading) (u : Phrase) (has : slice_get hs i ≡ Some h) (does : slice_get us i ≡ Some u) where
     -- it is what the heading tells, or was found in the last unit with what was known then
-    abbrev From : ℕ → Delivery → Type 0
-    From n d = (d ≡ told h.what) ⊎ ((j : ℕ) × Below (K j) (K n) × (d ≡ unit_delivery (K j) (last_unit u)))
+    abbrev pub From : ℕ → Delivery → Type 0
+    From n d =
+        (d ≡ stated h.what) ⊎ ((j : ℕ) × Below (K j) (K n) × (d ≡ unit_delivery (K j) (last_unit u)) × (delivery_at (K j) i ≡ Open))
 
-    step_from : (n : ℕ) (d : Delivery) → From n d → From (suc n) (next (K n) d u)
-    step_from n Open f = inr (n, step_below n, refl)
-    step_from n Nothing f =
+    step_from : (n : ℕ) (d : Delivery) → slice_get (D n) i ≡ Some d → From n d → From (suc n) (next (K n) d u)
+    step_from n Open at f = inr (n, step_below n, refl, at_index (D n) i Open at)
+    step_from n Nothing at f =
         elim f [
           | inl e ↦ inl e
-          | inr g ↦ inr (g.0, below_trans (K g.0) (K n) (K (suc n)) g.1 (step_below n), g.2)
+          | inr g ↦ inr (g.0, below_trans (K g.0) (K n) (K (suc n)) g.1 (step_below n), g.2, g.3)
         ]
-    step_from n (Of t) f =
+    step_from n (Of t) at f =
         elim f [
           | inl e ↦ inl e
-          | inr g ↦ inr (g.0, below_trans (K g.0) (K n) (K (suc n)) g.1 (step_below n), g.2)
+          | inr g ↦ inr (g.0, below_trans (K g.0) (K n) (K (suc n)) g.1 (step_below n), g.2, g.3)
         ]
 
     pub from : (n : ℕ) → (d : Delivery) × (slice_get (D n) i ≡ Some d) × From n d
-    from zero = (told h.what, told_at hs i h has, inl refl)
-    from (suc n) = let f = from n in (next (K n) f.0 u, next_at (K n) (D n) us i f.0 u f.1 does, step_from n f.0 f.2)
+    from zero = (stated h.what, told_at hs i h has, inl refl)
+    from (suc n) = let f = from n in (next (K n) f.0 u, next_at (K n) (D n) us i f.0 u f.1 does, step_from n f.0 f.1 f.2)
 
     abbrev N : ℕ
     N = length hs
@@ -227,13 +228,13 @@ module _ (hs : List Heading) (us : List Phrase) where
     next_known k Nothing n = refl
     next_known k (Of t) n = refl
 
-    stays : (d : Delivery) → (d ≡ Open → ⊥) → told h.what ≡ d → (n : ℕ) → slice_get (D n) i ≡ Some d
+    stays : (d : Delivery) → (d ≡ Open → ⊥) → stated h.what ≡ d → (n : ℕ) → slice_get (D n) i ≡ Some d
     stays d f e zero = told_at hs i h has ∙ ap (λ (x : Delivery). Some x) e
     stays d f e (suc n) = next_at (K n) (D n) us i d u (stays d f e n) does ∙ ap (λ (x : Delivery). Some x) (next_known (K n) d f)
 
     -- what the heading tells
-    pub told_found : (told h.what ≡ Open → ⊥) → delivery_at (K N) i ≡ told h.what
-    told_found f = at_index (D N) i (told h.what) (stays (told h.what) f refl N)
+    pub told_found : (stated h.what ≡ Open → ⊥) → delivery_at (K N) i ≡ stated h.what
+    told_found f = at_index (D N) i (stated h.what) (stays (stated h.what) f refl N)
 
     last_is : (o : Option Phrase) (m : Meant) → Last (K N) o m → unit_delivery (K N) o ≡ delivery_of m
     last_is None m l = l
@@ -251,7 +252,7 @@ module _ (hs : List Heading) (us : List Phrase) where
     earlier_is j (Some p) m d b e f l = outcome_is j p m l.0 (judged (K j) p) d refl b e f l.1 l.2
 
     -- a refinement delivers what its units deliver
-    pub refinement_found : (ps : List (Option Phrase)) (m : Meant) → told h.what ≡ Open → u ≡ units Open ps → judged (K N) u ≡ gives m
+    pub refinement_found : (ps : List (Option Phrase)) (m : Meant) → stated h.what ≡ Open → u ≡ units Open ps → judged (K N) u ≡ gives m
         → delivery_at (K N) i ≡ delivery_of m
     refinement_found ps m untold is e =
         let f = from N in

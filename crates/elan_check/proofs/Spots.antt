@@ -33,7 +33,7 @@ use Rattle.elan_rules.specs.Rules.{rule, ruled}
 use Rattle.elan_judge.specs.Shape as shape
 use Rattle.elan_check.specs.Level as l
 use Rattle.elan_rules.specs.Meaning.{judged, judged_all}
-use Rattle.elan_check.specs.Refinements.{told, called_in, known_of}
+use Rattle.elan_check.specs.Refinements.{stated, called_in, known_of}
 use Rattle.elan_rules.proofs.First.{Faultless, whole, open_one, bind_faultless, before_faultless}
 use Rattle.elan_judge.proofs.InScope.{InScope, body_units_in, statement_in}
 use Rattle.elan_meant.proofs.Told.{told_never_hangs}
@@ -47,7 +47,7 @@ module _ (kn : Known) (s : Scope) where
     pub scope : Scope
     pub in_scope : InScope scope p
     pub headings : scope.headings ≡ s.headings
-    pub stands : told h.what ≡ Open → scope.refinement ≡ Some n
+    pub stands : stated h.what ≡ Open → scope.refinement ≡ Some n
     pub faultless : Faultless (judged kn p)
 
   abbrev pub Spots : ℕ → List Heading → List Phrase → Type 0
@@ -115,7 +115,7 @@ module _ (kn : Known) (s : Scope) where
         refinement_spots z (suc k) home rs hh g.1,
       )
 
-  told_never : (sort : Sort) (o : Option ElanType) (params : List Parameter) (n : ℕ) (z : Scope) → told (Routine sort params o) ≡ Open → z.refinement ≡ Some n
+  told_never : (sort : Sort) (o : Option ElanType) (params : List Parameter) (n : ℕ) (z : Scope) → stated (Routine sort params o) ≡ Open → z.refinement ≡ Some n
   told_never sort None params n z e = absurd cc
   told_never sort (Some t) params n z e = absurd cc
 
@@ -291,7 +291,7 @@ module _ (kn : Known) (s : Scope) where
 
 -- ---- a level
 
-same_length : {A B : Type 0} (xs : List A) (ys : List B) (i : ℕ) (x : A) → slice_get xs i ≡ Some x → length ys ≡ length xs → (y : B) × (slice_get ys i ≡ Some y)
+pub same_length : {A B : Type 0} (xs : List A) (ys : List B) (i : ℕ) (x : A) → slice_get xs i ≡ Some x → length ys ≡ length xs → (y : B) × (slice_get ys i ≡ Some y)
 same_length [] ys i x e h = absurd cc
 same_length (a ∷ xs) [] i x e h = absurd (let z : 0 ≡ suc (length xs) = h in omega (arith, z))
 same_length (a ∷ xs) (c ∷ ys) zero x e h = (c, refl)

@@ -22,7 +22,7 @@ use Rattle.elan_check.specs.Level as l
 use Rattle.elan_judge.specs.Shape.{unit, units}
 use Rattle.elan_check.specs.declared.deliveries.Calls.{Calls}
 use Rattle.elan_check.specs.declared.deliveries.Round.{Round}
-use Rattle.elan_check.specs.Refinements.{told_by, last_unit, next, next_all, called_in, known_after, known_of}
+use Rattle.elan_check.specs.Refinements.{all_stated, last_unit, next, next_all, called_in, known_after, known_of}
 use Rattle.elan_check.specs.walks.Seen.{all_seen}
 use Rattle.elan_check.specs.walks.Rounds.{called_last, with_calls, is_open, any_open, is_kept, looked_at, found, found_from, seen, with_found}
 use Rattle.elan_check.proofs.Opened.{waiting}
@@ -140,7 +140,7 @@ same_next k last n (d ∷ ds) (u ∷ us) e h g =
     ∙ ap (λ (l : List Delivery). next k d u ∷ l) (same_next k last (suc n) ds us few rest more)
 
 -- a step, taken one body after another
-one_step : (k : Known) (last : List (List ℕ)) (us : List Phrase) → length k.deliveries ≡ length us → last ≡ map called_last us
+pub one_step : (k : Known) (last : List (List ℕ)) (us : List Phrase) → length k.deliveries ≡ length us → last ≡ map called_last us
     → found_from k last 0 us ≡ next_all k k.deliveries us
 one_step k last us e h =
     same_next k last 0 k.deliveries us e (λ i. ap (delivery_at k) (let z : i ≡ 0 + i = omega arith in z))
@@ -148,12 +148,12 @@ one_step k last us e h =
 
 -- ---- lengths
 
-next_length : (k : Known) (ds : List Delivery) (us : List Phrase) → length (next_all k ds us) ≡ length ds
+pub next_length : (k : Known) (ds : List Delivery) (us : List Phrase) → length (next_all k ds us) ≡ length ds
 next_length k [] us = refl
 next_length k (d ∷ ds) [] = refl
 next_length k (d ∷ ds) (u ∷ us) = ap suc (next_length k ds us)
 
-told_length : (hs : List Heading) → length (told_by hs) ≡ length hs
+told_length : (hs : List Heading) → length (all_stated hs) ≡ length hs
 told_length [] = refl
 told_length (h ∷ hs) = ap suc (told_length hs)
 
@@ -204,7 +204,7 @@ all_headings_count k (v ∷ vs) =
     ∙ ap (λ (n : ℕ). b.bodies_in v + n) (all_headings_count (k + b.bodies_in v) vs)
 
 -- Each body has a heading.
-level_count : (w : Level) → length (b.headings w) ≡ length (l.level_bodies w)
+pub level_count : (w : Level) → length (b.headings w) ≡ length (l.level_bodies w)
 level_count w =
     let s = l.level_scope w in
     let m = b.bodies_of_units w.units in
@@ -232,7 +232,7 @@ module _ (w : Level) where
   pub has_all : (n : ℕ) (known : Known) → known ≡ known_after n hs us → length known.deliveries ≡ length us
   has_all n known e = ap (λ (k : Known). length k.deliveries) e ∙ after_length n hs us ∙ level_count w
 
-  calls_are : (n : ℕ) → known_after n hs us ≡ known_with (known_after n hs us).deliveries (map called_in us)
+  pub calls_are : (n : ℕ) → known_after n hs us ≡ known_with (known_after n hs us).deliveries (map called_in us)
   calls_are zero = refl
   calls_are (suc n) = refl
 

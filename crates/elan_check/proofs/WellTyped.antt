@@ -44,7 +44,7 @@ use Rattle.elan_rules.specs.Rules.{ruled}
 use Rattle.elan_judge.specs.Shape as shape
 use Rattle.elan_check.specs.Level as l
 use Rattle.elan_rules.specs.Meaning.{judged, judged_all}
-use Rattle.elan_check.specs.Refinements.{told, delivery_of, known_of}
+use Rattle.elan_check.specs.Refinements.{stated, delivery_of, known_of}
 use Rattle.elan_check.specs.Text.{Means, known}
 use Rattle.elan_rules.proofs.First.{bind_gives, before_gives, gives_is, judged_of}
 use Rattle.elan_judge.proofs.InScope.{statement_in}
@@ -68,7 +68,7 @@ headed_of : (w : What) (m : Meant) (c : Body) → Made w m c → Headed w c
 headed_of (Routine sort ps r) m c h = (h.0, h.1, content_result r m c.content h.2)
 headed_of (Refinement home) m c h = h.0
 
-told_delivers : (o : Option ElanType) (c : Body) → result_of_content c.content ≡ o → Delivering (told (Routine Procedure [] o)) c
+told_delivers : (o : Option ElanType) (c : Body) → result_of_content c.content ≡ o → Delivering (stated (Routine Procedure [] o)) c
 told_delivers None c e = e
 told_delivers (Some t) c e = e
 
@@ -82,11 +82,11 @@ content_delivers (Labels ns) c e = ap result_of_content e
 content_delivers (Bodies bs) c e = ap result_of_content e
 content_delivers (Level us bs) c e = ap result_of_content e
 
-told_known : (sort : Sort) (ps : List Parameter) (o : Option ElanType) → told (Routine sort ps o) ≡ Open → ⊥
+told_known : (sort : Sort) (ps : List Parameter) (o : Option ElanType) → stated (Routine sort ps o) ≡ Open → ⊥
 told_known sort ps None e = absurd cc
 told_known sort ps (Some t) e = absurd cc
 
-told_routine : (sort : Sort) (ps : List Parameter) (o : Option ElanType) → told (Routine Procedure [] o) ≡ told (Routine sort ps o)
+told_routine : (sort : Sort) (ps : List Parameter) (o : Option ElanType) → stated (Routine Procedure [] o) ≡ stated (Routine sort ps o)
 told_routine sort ps None = refl
 told_routine sort ps (Some t) = refl
 
@@ -174,14 +174,14 @@ module _ (w : Written) (us : List Action) (all : List Body) where
       (r.0, r.1, r.2, r.3, subst (λ (m : ℕ). Row kn s all m h r.0 r.1) z r.4)
 
   delivers_as : (n : ℕ) (h : Heading) (q : Phrase) (c : Body) (m : Meant) (list : List (Option Phrase)) (what : What) → h.what ≡ what → slice_get hs n ≡ Some h
-      → slice_get ps n ≡ Some q → judged kn q ≡ gives m → q ≡ shape.units (told h.what) list → Made what m c → Delivering (delivery_at kn n) c
+      → slice_get ps n ≡ Some q → judged kn q ≡ gives m → q ≡ shape.units (stated h.what) list → Made what m c → Delivering (delivery_at kn n) c
   delivers_as n h q c m list (Routine sort params r) e i j g is made =
-      let known : delivery_at kn n ≡ told (Routine sort params r) =
-      told_found hs ps n h q i j (λ o. told_known sort params r (ap told (sym e) ∙ o)) ∙ ap told e in
+      let known : delivery_at kn n ≡ stated (Routine sort params r) =
+      told_found hs ps n h q i j (λ o. told_known sort params r (ap stated (sym e) ∙ o)) ∙ ap stated e in
       subst (λ (d : Delivery). Delivering d c) (told_routine sort params r ∙ sym known) (told_delivers r c (content_result r m c.content made.2))
   delivers_as n h q c m list (Refinement home) e i j g is made =
       subst (λ (d : Delivery). Delivering d c)
-      (sym (refinement_found hs ps n h q i j list m (ap told e) (is ∙ ap (λ (d : Delivery). shape.units d list) (ap told e)) g))
+      (sym (refinement_found hs ps n h q i j list m (ap stated e) (is ∙ ap (λ (d : Delivery). shape.units d list) (ap stated e)) g))
       (content_delivers m c made.1)
 
   bodies_fit : Rows kn s all 0 hs ps all → (n : ℕ) (h : Heading) → slice_get hs n ≡ Some h → BodyFits (slice_get all n) h (delivery_at kn n)

@@ -34,13 +34,13 @@ called_in p = called_by_all (phrases p)
 -- ---- deliveries
 
 -- what a heading tells
-abbrev pub told : What → Delivery
-told (Routine sort ps r) = delivered r
-told (Refinement home) = Open
+abbrev pub stated : What → Delivery
+stated (Routine sort ps r) = delivered r
+stated (Refinement home) = Open
 
-abbrev pub told_by : List Heading → List Delivery
-told_by [] = []
-told_by (h ∷ hs) = told h.what ∷ told_by hs
+abbrev pub all_stated : List Heading → List Delivery
+all_stated [] = []
+all_stated (h ∷ hs) = stated h.what ∷ all_stated hs
 
 abbrev pub last_part : Parts → Option Phrase
 last_part none = None
@@ -78,7 +78,7 @@ next_all k (d ∷ ds) (u ∷ us) = next k d u ∷ next_all k ds us
 
 -- what is known after so many steps of the headings and the units of bodies
 abbrev pub known_after : ℕ → List Heading → List Phrase → Known
-known_after zero hs us = record { deliveries = told_by hs; calls = map called_in us }
+known_after zero hs us = record { deliveries = all_stated hs; calls = map called_in us }
 known_after (suc n) hs us = record {
   deliveries = next_all (known_after n hs us) (known_after n hs us).deliveries us;
   calls = map called_in us;

@@ -1,2 +1,4 @@
 pub mod Seen
 pub mod Rounds
+pub mod OnTheWay
+pub mod Over

@@ -12,6 +12,7 @@ ghost use Rattle.elan_check.specs.Refinements as spec;
 ghost use Rattle.elan_check.specs.walks.Rounds as walks;
 ghost use Rattle.elan_judge.specs.Shape as shape;
 
+use crate::settle::settled;
 use crate::walk::{EachBody, each_body};
 use call_graph::CallGraph;
 use elan_judge::judge::judge_role;
@@ -29,8 +30,8 @@ use elan_tree::{Level, Unit};
 use eu_base::{List, NoMemory};
 use std::alloc::Global;
 
-fn told(what: &What) -> Delivery
-    ensures { result ≡ spec.told what.now }
+fn stated(what: &What) -> Delivery
+    ensures { result ≡ spec.stated what.now }
 {
     match what {
         What::Routine(_, _, result_type) => Delivery::of(*result_type),
@@ -39,12 +40,12 @@ fn told(what: &What) -> Delivery
 }
 
 // What the headings tell.
-fn told_by(alloc: Global, headings: &[Heading]) -> Result<List<Delivery>, NoMemory>
-    ensures { IfOk result (λ deliveries. deliveries ≡ spec.told_by headings.now) }
+fn all_stated(alloc: Global, headings: &[Heading]) -> Result<List<Delivery>, NoMemory>
+    ensures { IfOk result (λ deliveries. deliveries ≡ spec.all_stated headings.now) }
 {
     let mut deliveries = List::new(alloc);
     for heading in headings {
-        deliveries.push(told(&heading.what))?;
+        deliveries.push(stated(&heading.what))?;
     }
     Ok(deliveries)
 }
@@ -88,8 +89,8 @@ fn outcome(judged: Judged) -> Result<Delivery, NoMemory>
     }
 }
 
-// What the last unit delivers.
-fn units_delivery(
+/// What the last unit delivers.
+pub fn units_delivery(
     alloc: Global,
     known: &Known,
     scope: &Scope,
@@ -184,8 +185,8 @@ fn waits(known: &Known, last: &[List<usize>], number: usize) -> bool
     }
 }
 
-// Whether a body is not looked at.
-fn is_kept(known: &Known, last: &[List<usize>], number: usize) -> bool
+/// Whether a body is not looked at.
+pub fn is_kept(known: &Known, last: &[List<usize>], number: usize) -> bool
     ensures { result ≡ walks.is_kept known.now last.now number }
 {
     match known.delivery_at(number) {
@@ -227,8 +228,8 @@ impl EachBody for Round<'_> {
     }
 }
 
-// Puts the delivery of a body in its place, if it has one.
-fn put(deliveries: &mut List<Delivery>, number: usize, delivery: Delivery)
+/// Puts the delivery of a body in its place, if it has one.
+pub fn put(deliveries: &mut List<Delivery>, number: usize, delivery: Delivery)
     ensures { deliveries.new ≡ slice_set deliveries.old number delivery }
 {
     if number < deliveries.len() {
@@ -263,18 +264,19 @@ fn next_deliveries(
     }
 }
 
-/// What is known of the bodies of a level, step by step until no step finds more.
+/// What is known of the bodies of a level: what is found in the order of calls, and what rounds find until one finds no more.
 pub fn known_of(alloc: Global, scope: &mut Scope, level: &Level) -> Result<Known, NoMemory>
     requires { scope.old ≡ level_spec.level_scope level.now }
     ensures found { IfOk result (λ known. known ≡ spec.known_of (bodies.headings level.now) (level_spec.level_bodies level.now)) }
     ensures kept { IfOk result (λ known. scope.new ≡ scope.old) }
 {
     let Calls { all, last } = calls_of(alloc, scope, level)?;
-    let mut known = Known {
-        deliveries: told_by(alloc, scope.headings.as_slice())?,
+    let known = Known {
+        deliveries: all_stated(alloc, scope.headings.as_slice())?,
         calls: CallGraph::of(alloc, all)?,
     };
-    for _ in 0..scope.headings.len() {
+    let mut known = settled(alloc, known, &last, scope, level)?;
+    for _ in 0..scope.headings.as_slice().len() {
         let next = next_deliveries(alloc, &known, &last, scope, level)?;
         if next.as_slice() == known.deliveries.as_slice() {
             return Ok(known);

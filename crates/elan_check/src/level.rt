@@ -15,7 +15,7 @@ ghost use Rattle.elan_check.specs.Text as text;
 
 use crate::deliveries::known_of;
 use crate::error::CheckError;
-use crate::routine::{Routine, judge_refinements, judge_routine};
+use crate::routine::{Routine, is_over, judge_refinements, judge_routine};
 use elan_judge::judge::judge_role;
 use elan_levels::bodies::{held_types, level_names};
 use elan_levels::heading::{first_refinement, headings, number_behind};
@@ -110,6 +110,9 @@ fn judge_level_units(alloc: Global, known: &Known, scope: &mut Scope, units: &[L
     let mut row = none(alloc);
     let mut number = 0;
     for unit in units {
+        if is_over(&row) {
+            return row;
+        }
         let next = judge_level_unit(alloc, known, scope, number, unit);
         row = with(row, next);
         let Ok(following) = number_behind(number, unit) else {

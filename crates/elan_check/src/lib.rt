@@ -6,6 +6,7 @@ mod error;
 mod laws;
 mod level;
 mod routine;
+mod settle;
 mod text;
 mod walk;
 

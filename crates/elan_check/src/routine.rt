@@ -11,6 +11,7 @@ ghost use Rattle.elan_rules.specs.Meaning.{judged, judged_all};
 ghost use Rattle.elan_scope.specs.Answer.{Is};
 ghost use Rattle.elan_levels.specs.Bodies as bodies;
 ghost use Rattle.elan_check.specs.Level as spec;
+ghost use Rattle.elan_check.specs.walks.Over as walks;
 ghost use Rattle.elan_judge.specs.Shape as shape;
 
 use elan_judge::judge::judge_units;
@@ -86,6 +87,18 @@ fn judge_refinement(
     refinement_phrase(alloc, owner_of(scope), name, units)
 }
 
+/// Whether nothing that stands behind can change what phrases mean: one of them breaks a rule, or memory ran out.
+pub fn is_over(row: &Row) -> bool
+    ensures { result ≡ walks.is_over row.now }
+{
+    match row {
+        Ok(_) => false,
+        Err(Trouble::Hangs) => false,
+        Err(Trouble::Breaks(_, _)) => true,
+        Err(Trouble::NoMemory) => true,
+    }
+}
+
 /// What phrases mean, and behind them refinements, the first of which has this number.
 pub fn judge_refinements(
     alloc: Global,
@@ -103,6 +116,9 @@ pub fn judge_refinements(
     let mut row = before;
     let mut number = first;
     for refinement in refinements {
+        if is_over(&row) {
+            return row;
+        }
         let next = judge_refinement(alloc, known, scope, number, refinement);
         row = with(row, next);
         let Ok(following) = next_number(number) else {

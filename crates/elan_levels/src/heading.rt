@@ -6,6 +6,7 @@ ghost use Rattle.elan_levels.specs.Bodies as spec;
 use crate::bodies::parameters;
 use crate::declare::written_type;
 use elan_scope::heading::{Heading, Sort, What};
+use elan_scope::headings::Headings;
 use elan_tree::{Formal, Level, LevelUnit, Refinement, TypePhrase};
 use elan_types::ElanType;
 use elan_unbuilt::operator_text;
@@ -157,13 +158,13 @@ fn all_headings(alloc: Global, out: &mut List<Heading>, units: &[LevelUnit]) -> 
 }
 
 /// The headings of a level: each PROC or OP, and behind it its refinements; behind them all the refinements of the level.
-pub fn headings(alloc: Global, level: &Level) -> Result<List<Heading>, NoMemory>
+pub fn headings(alloc: Global, level: &Level) -> Result<Headings, NoMemory>
     ensures { IfOk result (λ headings. headings ≡ spec.headings level.now) }
 {
     let mut headings = List::new(alloc);
     all_headings(alloc, &mut headings, level.units.as_slice())?;
     refinement_headings(alloc, &mut headings, None, level.refinements.as_slice())?;
-    Ok(headings)
+    Headings::of(alloc, headings)
 }
 
 /// The number of the first refinement of a level.

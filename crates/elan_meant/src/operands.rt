@@ -7,8 +7,9 @@ ghost use Rattle.elan_scope.specs.walks.Seen as seen;
 ghost use Rattle.elan_meant.specs.Operands as spec;
 
 use crate::meant::Meant;
-use elan_scope::callable::{Callable, own_callable, predefined_callable};
-use elan_scope::heading::{Heading, Sort};
+use elan_scope::callable::{Callable, predefined_callable};
+use elan_scope::heading::Sort;
+use elan_scope::headings::Headings;
 use elan_scope::predefined::rows;
 use elan_scope::scope::Scope;
 use elan_types::{ElanType, Parameter};
@@ -43,25 +44,37 @@ fn takes(callable: &Callable<'_>, sort: Sort, name: &[u8], operands: &[Meant]) -
     callable.is_called(sort, name) && fit(callable.parameters, operands)
 }
 
+// What is called, if it is anything that takes these operands.
+fn if_takes<'a>(
+    callable: Option<Callable<'a>>,
+    sort: Sort,
+    name: &[u8],
+    operands: &[Meant],
+) -> Option<Callable<'a>>
+    ensures { option_map seen.callable result ≡ scopes.first (spec.takes sort name.now operands.now) (seen.listed callable.entry) }
+{
+    let callable = callable?;
+    if takes(&callable, sort, name, operands) {
+        Some(callable)
+    } else {
+        None
+    }
+}
+
 // The first PROC or OP that takes these operands.
 fn chosen_own<'a>(
-    headings: &'a [Heading],
+    headings: &'a Headings,
     sort: Sort,
     name: &[u8],
     operands: &[Meant],
 ) -> Option<Callable<'a>>
     ensures { option_map seen.callable result ≡ scopes.first (spec.takes sort name.now operands.now) (scopes.own_callables 0 headings.now) }
 {
-    let mut number = 0;
-    let mut rest = headings;
-    while let [heading, others @ ..] = rest {
-        if let Some(callable) = own_callable(number, heading) {
-            if takes(&callable, sort, name, operands) {
-                return Some(callable);
-            }
+    for number in headings.named(name) {
+        let callable = if_takes(headings.callable_at(*number), sort, name, operands);
+        if callable.is_some() {
+            return callable;
         }
-        number += 1;
-        rest = others;
     }
     None
 }
@@ -91,7 +104,7 @@ pub fn chosen<'a>(
 ) -> Option<Callable<'a>>
     ensures { option_map seen.callable result ≡ spec.chosen scope.now sort name.now operands.now }
 {
-    match chosen_own(scope.headings.as_slice(), sort, name, operands) {
+    match chosen_own(&scope.headings, sort, name, operands) {
         Some(callable) => Some(callable),
         None => chosen_predefined(sort, name, operands),
     }

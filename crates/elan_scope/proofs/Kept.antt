@@ -22,13 +22,13 @@ some_stays : (o : Option First) (f : First) → is_some o ≡ true → o ≡ ear
 some_stays None f e = absurd cc
 some_stays (Some g) f e = refl
 
-same : (x y : List ℕ) → bytes_eq x y ≡ true → x ≡ y
+pub same : (x y : List ℕ) → bytes_eq x y ≡ true → x ≡ y
 same x y e = (bytes_eq-Decides x y).0 e
 
-apart : (x y k : List ℕ) → bytes_eq x y ≡ false → bytes_eq x k ≡ true → bytes_eq y k ≡ false
+pub apart : (x y k : List ℕ) → bytes_eq x y ≡ false → bytes_eq x k ≡ true → bytes_eq y k ≡ false
 apart x y k n e = nat_list_eq_equiv.symm y k ∙ sym (nat_list_eq_equiv.congr x k y e) ∙ n
 
-others_kept : {K X : Type 0} (eq : K → K → Bool) (test : K → Bool) (old new : List (K × X)) → KeepsOthers eq test old new → (other : K → Bool)
+pub others_kept : {K X : Type 0} (eq : K → K → Bool) (test : K → Bool) (old new : List (K × X)) → KeepsOthers eq test old new → (other : K → Bool)
     → IsKeyTest eq other → AreApart test other → lookup other new ≡ lookup other old
 unfolding KeepsOthers
 others_kept eq test old new h = h

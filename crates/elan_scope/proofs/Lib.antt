@@ -1,3 +1,5 @@
 pub mod Layers
 pub mod Kept
 pub mod Ends
+pub mod Named
+pub mod Numbered

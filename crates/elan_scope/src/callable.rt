@@ -7,6 +7,7 @@ ghost use Rattle.elan_scope.specs.Scope as spec;
 ghost use Rattle.elan_scope.specs.walks.Seen as seen;
 
 use crate::heading::{Heading, Sort, What, is_one};
+use crate::headings::Headings;
 use crate::predefined::{Predefined, Row, rows};
 use crate::scope::Scope;
 use elan_types::{ElanType, Parameter};
@@ -74,20 +75,24 @@ pub fn predefined_callable(row: &Row) -> Callable<'static>
     }
 }
 
+// Whether what is called, if anything is, has a name and so many parameters.
+fn is_such(callable: Option<Callable<'_>>, sort: Sort, name: &[u8], count: usize) -> bool
+    ensures { result ≡ is_some (spec.first (spec.has_as_many sort name.now count) (seen.listed callable.entry)) }
+{
+    match callable {
+        None => false,
+        Some(callable) => callable.has_as_many(sort, name, count),
+    }
+}
+
 // Whether a PROC or OP has a name and so many parameters.
-fn is_own(headings: &[Heading], sort: Sort, name: &[u8], count: usize) -> bool
+fn is_own(headings: &Headings, sort: Sort, name: &[u8], count: usize) -> bool
     ensures { result ≡ is_some (spec.first (spec.has_as_many sort name.now count) (spec.own_callables 0 headings.now)) }
 {
-    let mut number = 0;
-    let mut rest = headings;
-    while let [heading, others @ ..] = rest {
-        if let Some(callable) = own_callable(number, heading) {
-            if callable.has_as_many(sort, name, count) {
-                return true;
-            }
+    for number in headings.named(name) {
+        if is_such(headings.callable_at(*number), sort, name, count) {
+            return true;
         }
-        number += 1;
-        rest = others;
     }
     false
 }
@@ -112,6 +117,6 @@ impl Scope {
     pub fn is_known(&self, sort: Sort, name: &[u8], count: usize) -> bool
         ensures { result ≡ spec.is_known self.now sort name.now count }
     {
-        is_own(self.headings.as_slice(), sort, name, count) || is_predefined(sort, name, count)
+        is_own(&self.headings, sort, name, count) || is_predefined(sort, name, count)
     }
 }

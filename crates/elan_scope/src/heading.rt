@@ -1,6 +1,6 @@
-//! The headings of bodies, and the look-up among them.
+//! The headings of bodies.
 
-ghost use Rattle.std.specs.Prelude.{◌≡◌, true, false, option_map};
+ghost use Rattle.std.specs.Prelude.{◌≡◌, true, false};
 ghost use Rattle.std.specs.Str.{bytes_eq};
 ghost use Rattle.elan_types.specs.Typing.{same_home};
 ghost use Rattle.elan_scope.specs.Scope as spec;
@@ -86,7 +86,8 @@ fn same_home(home: Option<usize>, other: Option<usize>) -> bool
     }
 }
 
-fn is_alike(heading: &Heading, sort: Sort, name: &[u8], parameters: &[Parameter]) -> bool
+/// Whether it is a PROC or OP with this name and these types of parameters.
+pub fn is_alike(heading: &Heading, sort: Sort, name: &[u8], parameters: &[Parameter]) -> bool
     ensures { result ≡ spec.is_alike sort name.now (spec.types_of parameters.now) heading.now }
 {
     is_one(heading.name.as_slice(), name)
@@ -97,7 +98,8 @@ fn is_alike(heading: &Heading, sort: Sort, name: &[u8], parameters: &[Parameter]
         }
 }
 
-fn is_refined(heading: &Heading, home: Option<usize>, name: &[u8]) -> bool
+/// Whether it is the refinement of this name, of the PROC or OP with this number or of the level.
+pub fn is_refined(heading: &Heading, home: Option<usize>, name: &[u8]) -> bool
     ensures { result ≡ spec.is_refined home name.now heading.now }
 {
     is_one(heading.name.as_slice(), name)
@@ -105,42 +107,4 @@ fn is_refined(heading: &Heading, home: Option<usize>, name: &[u8]) -> bool
             What::Routine(_, _, _) => false,
             What::Refinement(other) => same_home(home, *other),
         }
-}
-
-/// The first PROC or OP with this name and these types of parameters, with its number; `None` exactly where there is none.
-pub fn first_alike<'a>(
-    headings: &'a [Heading],
-    sort: Sort,
-    name: &[u8],
-    parameters: &[Parameter],
-) -> Option<(usize, &'a Heading)>
-    ensures { option_map (λ b. (b.0, b.1.now)) result ≡ spec.first_heading (spec.is_alike sort name.now (spec.types_of parameters.now)) headings.now }
-{
-    let mut position = 0;
-    let mut rest = headings;
-    while let [heading, others @ ..] = rest {
-        if is_alike(heading, sort, name, parameters) {
-            return Some((position, heading));
-        }
-        position += 1;
-        rest = others;
-    }
-    None
-}
-
-/// The number of the refinement of this name, of the PROC or OP with this number or of the level; `None` exactly where
-/// there is none.
-pub fn first_refined(headings: &[Heading], home: Option<usize>, name: &[u8]) -> Option<usize>
-    ensures { result ≡ spec.number_in (spec.first_heading (spec.is_refined home name.now) headings.now) }
-{
-    let mut position = 0;
-    let mut rest = headings;
-    while let [heading, others @ ..] = rest {
-        if is_refined(heading, home, name) {
-            return Some(position);
-        }
-        position += 1;
-        rest = others;
-    }
-    None
 }

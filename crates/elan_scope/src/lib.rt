@@ -5,6 +5,7 @@ pub mod callable;
 pub mod delivery;
 pub mod directory;
 pub mod heading;
+pub mod headings;
 pub mod known;
 pub mod predefined;
 pub mod scope;

@@ -4,9 +4,9 @@ ghost use Rattle.std.specs.Prelude.{◌≡◌, ◌≤◌, option_map, length};
 ghost use Rattle.elan_scope.specs.Scope as spec;
 
 use crate::directory::Directory;
-use crate::heading::{Heading, first_refined};
+use crate::headings::Headings;
 use elan_types::{ElanType, Exit, Parameter};
-use eu_base::{Bytes, List};
+use eu_base::Bytes;
 
 /// What an identifier without actuals is used as.
 #[derive(Clone, Copy)]
@@ -71,7 +71,7 @@ pub struct Within {
 #[derive(Drop)]
 pub struct Scope {
     /// The bodies of the level.
-    pub headings: List<Heading>,
+    pub headings: Headings,
     /// The names that the level declares, in text order.
     pub level: Directory,
     /// The PROC or OP in which the phrase stands.
@@ -169,7 +169,7 @@ impl Scope {
             None => None,
             Some(found) => {
                 if found.denotes.is_refinement() {
-                    first_refined(self.headings.as_slice(), self.routine_number(), name)
+                    self.headings.first_refined(self.routine_number(), name)
                 } else {
                     None
                 }
@@ -182,7 +182,7 @@ impl Scope {
         ensures { result ≡ spec.body_named self.now.headings number name.now }
     {
         let number = number?;
-        match self.headings.get(number) {
+        match self.headings.as_slice().get(number) {
             None => None,
             Some(heading) => {
                 if heading.name.as_slice() == name {

@@ -13,7 +13,7 @@ use elan_meant::meant::Meant;
 use elan_meant::part::{delivering, done};
 use elan_meant::row::Judged;
 use elan_scope::delivery::Delivery;
-use elan_scope::heading::{Sort, first_alike};
+use elan_scope::heading::Sort;
 use elan_scope::known::Known;
 use elan_scope::scope::{Denotes, Found, Home, Scope, Usage};
 use elan_scope::trouble::Trouble;
@@ -225,7 +225,7 @@ pub fn headed(
 ) -> Judged
     ensures { Tells result (spec.headed at missing (scopes.first_heading (scopes.is_alike sort name.now (scopes.types_of parameters.now)) scope.now.headings)) }
 {
-    match first_alike(scope.headings.as_slice(), sort, name, parameters) {
+    match scope.headings.first_alike(sort, name, parameters) {
         None => Err(Trouble::Breaks(at, Why::Unknown)),
         Some((_, heading)) => {
             if heading.at != at {

@@ -2,13 +2,14 @@ use Rattle.std.proofs.Common.{◌≡◌}
 use Rattle.elan_levels.specs.Bodies.{headings}
 use Rattle.elan_check.specs.Level.{level_bodies}
 use Rattle.elan_check.specs.Refinements.{known_after}
+use Rattle.elan_check.specs.walks.OnTheWay.{AtMost, IsOnTheWay}
 use Rattle.elan_check.proofs.deliveries.known_of.Given as goal
 
-pub record Kept (P Q : Type 0) : Type 0 where
+pub record Kept (P Q R : Type 0) : Type 0 where
   pub scope : P
-  pub found : Q
+  pub way : Q
+  pub least : R
 
 abbrev pub invariant-loop : goal.invariant-loop
 invariant-loop l =
-    Kept (l.scope ≡ l.fn.scope)
-    (l.known ≡ known_after l.counter (headings l.level) (level_bodies l.level))
+    Kept (l.scope ≡ l.fn.scope) (IsOnTheWay l.level l.known) (AtMost (known_after l.counter (headings l.level) (level_bodies l.level)) l.known)

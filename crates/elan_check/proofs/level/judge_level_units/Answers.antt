@@ -1,4 +1,5 @@
-use Rattle.std.proofs.Common.{◌∙◌}
+use Rattle.std.proofs.Common.{◌∙◌, sym}
+use Rattle.elan_check.proofs.Over.{over}
 use Rattle.elan_check.proofs.Routines.{units_go}
 use Rattle.elan_check.proofs.level.judge_level_units.Goals as goal
 
@@ -10,3 +11,7 @@ loop-unit-preserved c = record {
       c.args.units.now c.loop-unit.unit-index c.unit-item.result c.loop-unit.number c.in-Ok.following _
       c.loop-unit-test.true c.unit-item.is c.in-Ok.ensures c.loop-unit.invariant.scope c.loop-unit.invariant.row c.judge_level_unit-next.ensures.meaning;
 }
+
+pub returns-then-is_over-clause-meaning : goal.returns-then-is_over-clause-meaning
+returns-then-is_over-clause-meaning c =
+    over c.args.known.now c.loop-unit.row _ _ c.loop-unit.invariant.row (sym c.is_over.ensures ∙ c.if-is_over.true)

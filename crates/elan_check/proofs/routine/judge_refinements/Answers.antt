@@ -1,4 +1,5 @@
-use Rattle.std.proofs.Common.{◌∙◌}
+use Rattle.std.proofs.Common.{◌∙◌, sym}
+use Rattle.elan_check.proofs.Over.{over}
 use Rattle.elan_check.proofs.Routines.{refinements_go}
 use Rattle.elan_check.proofs.routine.judge_refinements.Goals as goal
 
@@ -12,3 +13,7 @@ loop-refinement-preserved c = record {
       c.loop-refinement-test.true c.refinement-item.is c.in-Ok.ensures c.loop-refinement.invariant.scope (c.loop-refinement.invariant.row ps h)
       c.judge_refinement-next.ensures.meaning;
 }
+
+pub returns-then-is_over-clause-meaning : goal.returns-then-is_over-clause-meaning
+returns-then-is_over-clause-meaning c = λ ps h.
+    over c.args.known.now c.loop-refinement.row _ _ (c.loop-refinement.invariant.row ps h) (sym c.is_over.ensures ∙ c.if-is_over.true)

@@ -1,12 +1,10 @@
-use Rattle.std.proofs.Common.{◌≡◌, ◌≤◌, length, ◌+◌}
+use Rattle.std.proofs.Common.{◌≡◌, drop}
 use Rattle.elan_scope.specs.Scope.{first, own_callables}
+use Rattle.elan_scope.specs.walks.Numbers.{callables_among}
 use Rattle.elan_meant.specs.Operands.{takes}
 use Rattle.elan_meant.proofs.operands.chosen_own.Given as goal
 
-abbrev pub invariant-loop-rest : goal.invariant-loop-rest
-invariant-loop-rest l =
-    (l.number + length l.rest ≤ length l.headings)
-    × (first (takes l.sort l.name l.operands) (own_callables l.number l.rest) ≡ first (takes l.sort l.name l.operands) (own_callables 0 l.headings))
-
-abbrev pub decreases-loop-rest : goal.decreases-loop-rest
-decreases-loop-rest l = length l.rest
+abbrev pub invariant-loop-number : goal.invariant-loop-number
+invariant-loop-number l =
+    first (takes l.sort l.name l.operands) (callables_among l.headings (drop l.number-index l.number-items))
+    ≡ first (takes l.sort l.name l.operands) (own_callables 0 l.headings)
