@@ -1,0 +1,15 @@
+use Rattle.std.proofs.Common.{arith}
+use Rattle.elan_grammar.specs.Expressions as expressions
+use Rattle.expression_parser.proofs.expressions.Grammar.dyadic.Goals as goal
+
+pub returns-in_err-left : goal.returns-in_err-left
+unfolding expressions.dyadic
+returns-in_err-left g c = grind arith
+
+pub returns-in_err-left-2 : goal.returns-in_err-left-2
+unfolding expressions.dyadic
+returns-in_err-left-2 g c = grind arith
+
+pub returns : goal.returns
+unfolding expressions.dyadic
+returns g c = grind arith

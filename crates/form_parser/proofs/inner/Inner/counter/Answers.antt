@@ -1,0 +1,19 @@
+use Rattle.std.proofs.Common.{arith}
+use Rattle.elan_grammar.specs.Units as units
+use Rattle.form_parser.proofs.inner.Inner.counter.Goals as goal
+
+pub returns-in_err-name : goal.returns-in_err-name
+unfolding units.counter
+returns-in_err-name g c = grind arith
+
+pub returns-in_err-name-2 : goal.returns-in_err-name-2
+unfolding units.counter
+returns-in_err-name-2 g c = grind arith
+
+pub returns-in_err-name-3 : goal.returns-in_err-name-3
+unfolding units.counter
+returns-in_err-name-3 g c = grind arith
+
+pub returns-in_err-new : goal.returns-in_err-new
+unfolding units.counter
+returns-in_err-new g c = grind arith

@@ -1,0 +1,19 @@
+use Rattle.std.proofs.Common.{arith}
+use Rattle.elan_grammar.specs.Expressions as expressions
+use Rattle.form_parser.proofs.inner.Inner.select_parts.Goals as goal
+
+pub returns-in_err-cases : goal.returns-in_err-cases
+unfolding expressions.select_parts
+returns-in_err-cases g c = grind arith
+
+pub returns-in_err-cases-2 : goal.returns-in_err-cases-2
+unfolding expressions.select_parts
+returns-in_err-cases-2 g c = grind arith
+
+pub returns-in_err-cases-3 : goal.returns-in_err-cases-3
+unfolding expressions.select_parts
+returns-in_err-cases-3 g c = grind arith
+
+pub returns : goal.returns
+unfolding expressions.select_parts
+returns g c = grind arith

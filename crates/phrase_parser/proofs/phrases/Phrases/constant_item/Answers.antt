@@ -1,0 +1,11 @@
+use Rattle.std.proofs.Common.{arith}
+use Rattle.elan_grammar.specs.Units as units
+use Rattle.phrase_parser.proofs.phrases.Phrases.constant_item.Goals as goal
+
+pub returns-in_err-name : goal.returns-in_err-name
+unfolding units.constant_item
+returns-in_err-name g c = grind arith
+
+pub returns-in_err-name-2 : goal.returns-in_err-name-2
+unfolding units.constant_item
+returns-in_err-name-2 g c = grind arith

@@ -1,0 +1,11 @@
+use Rattle.std.proofs.Common.{arith}
+use Rattle.elan_grammar.specs.Units as units
+use Rattle.phrase_parser.proofs.phrases.Phrases.variables.Goals as goal
+
+pub returns-in_err-of : goal.returns-in_err-of
+unfolding units.variables
+returns-in_err-of g c = grind arith
+
+pub returns-in_err-of-2 : goal.returns-in_err-of-2
+unfolding units.variables
+returns-in_err-of-2 g c = grind arith
