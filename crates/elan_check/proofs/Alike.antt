@@ -86,7 +86,8 @@ module _ (j k : Known) (z : Scope) (calls : j.calls ≡ k.calls) where
   named_alike at s x None h = refl
   named_alike at s x (Some f) h = denoted_alike at s x f.home f.number f.denotes h
 
-  counted_alike : (at : ℕ) (s : Scope) (x : List ℕ) (home : Home) (i : ℕ) (d : Denotes) → r.denoted j Counter at s x home i d ≡ r.denoted k Counter at s x home i d
+  counted_alike : (at : ℕ) (s : Scope) (x : List ℕ) (home : Home) (i : ℕ) (d : Denotes)
+      → r.denoted j Counter at s x home i d ≡ r.denoted k Counter at s x home i d
   counted_alike at s x home i (denotes.Variable t) = refl
   counted_alike at s x home i (denotes.Constant t) = refl
   counted_alike at s x home i (denotes.Parameter p) = refl

@@ -174,8 +174,8 @@ impl Settling<'_> {
     }
 }
 
-/// What is known of the bodies of a level when each refinement was looked at, in the order of calls. Where no refinement calls
-/// itself through a chain, that is all that can be known.
+/// What is known of the bodies of a level when refinements were looked at in the order of calls: nothing but what is known in the
+/// end. Rounds behind it find what it missed.
 pub fn settled(
     alloc: Global,
     known: Known,

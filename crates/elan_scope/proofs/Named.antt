@@ -1,5 +1,6 @@
 -- What is found among the numbers of a name is what is found among all headings.
-use Rattle.std.proofs.Common.{◌≡◌, ℕ, zero, suc, ◌+◌, Bool, true, false, ◌&&◌, if◌then◌else◌, List, [], ◌∷◌, ◌++◌, length, Option, Some, None, refl, sym, ap, ◌∙◌, arith}
+use Rattle.std.proofs.Common.{◌≡◌, ℕ, zero, suc, ◌+◌, Bool, true, false, ◌&&◌, if◌then◌else◌, List}
+use Rattle.std.proofs.Common.{[], ◌∷◌, ◌++◌, length, Option, Some, None, refl, sym, ap, ◌∙◌, arith}
 use Rattle.std.proofs.Common.{◌<◌, ◌≤◌, drop, slice_index_or}
 use Rattle.std.specs.Prelude.{slice_get, ◌==◌, is_some}
 use Rattle.std.proofs.lemmas.List.{at_drop_more, at_drop_all}
@@ -10,7 +11,8 @@ use Rattle.elan_scope.specs.declared.heading.Sort.{Sort}
 use Rattle.elan_scope.specs.declared.heading.What.{What}
 use Rattle.elan_scope.specs.declared.heading.What.TheVariants.{Routine, Refinement}
 use Rattle.elan_scope.specs.declared.callable.Callee.TheVariants.{Body}
-use Rattle.elan_scope.specs.Scope.{Callable, own_callable, own_callables, first, first_heading_from, first_heading, or_else, is_alike, is_routine, is_refined, is_refinement_of, is_called, same_sort, has_as_many}
+use Rattle.elan_scope.specs.Scope.{Callable, own_callable, own_callables, first, first_heading_from, first_heading, or_else}
+use Rattle.elan_scope.specs.Scope.{is_alike, is_routine, is_refined, is_refinement_of, is_called, same_sort, has_as_many}
 use Rattle.elan_scope.specs.walks.Numbers.{numbers_from, numbers_named, if_passes, first_among, callable_at, callables_among}
 
 and_left : (a b : Bool) → (a && b) ≡ true → a ≡ true
@@ -75,13 +77,15 @@ module _ (x : List ℕ) (hs : List Heading) where
         skips c cs f = ap (λ (t : Bool). if t then Some c else first test cs) (fails (test c) (bytes_eq c.name x) (named c) f)
     none_of k y (Refinement home) cs e = refl
 
-    callables_from : (k : ℕ) (rest : List Heading) → Behind hs k rest → first test (callables_among hs (numbers_from k rest x)) ≡ first test (own_callables k rest)
+    callables_from : (k : ℕ) (rest : List Heading) → Behind hs k rest
+        → first test (callables_among hs (numbers_from k rest x)) ≡ first test (own_callables k rest)
     callables_from k [] b = refl
     callables_from k (h ∷ rest) b = by_name (callables_from (k + 1) rest (next hs k h rest b)) (bytes_eq h.name x) refl
       where
         by_name : first test (callables_among hs (numbers_from (k + 1) rest x)) ≡ first test (own_callables (k + 1) rest)
             → (c : Bool) → bytes_eq h.name x ≡ c
-            → first test (callables_among hs (if c then k ∷ numbers_from (k + 1) rest x else numbers_from (k + 1) rest x)) ≡ first test (own_callables k (h ∷ rest))
+            → first test (callables_among hs (if c then k ∷ numbers_from (k + 1) rest x else numbers_from (k + 1) rest x))
+            ≡ first test (own_callables k (h ∷ rest))
         by_name more true e =
             ap (λ (o : Option Heading). first test (callable_at k o ++ callables_among hs (numbers_from (k + 1) rest x))) (here hs k h rest b)
             ∙ same_behind (own_callable k h.name h.what) (callables_among hs (numbers_from (k + 1) rest x)) (own_callables (k + 1) rest) more
@@ -120,7 +124,8 @@ callables_known sort x n hs = callables x hs (has_as_many sort x n) (λ c. calle
 
 module _ (test : Heading → Bool) (hs : List Heading) (w : Option (ℕ × Heading)) (ns : List ℕ) (i : ℕ) (h : first_among test hs (drop i ns) ≡ w) where
   -- the number at this place, and those behind it
-  among_open : i < length ns → or_else (if_passes test (slice_index_or ns i 0) (slice_get hs (slice_index_or ns i 0))) (first_among test hs (drop (i + 1) ns)) ≡ w
+  among_open : i < length ns
+      → or_else (if_passes test (slice_index_or ns i 0) (slice_get hs (slice_index_or ns i 0))) (first_among test hs (drop (i + 1) ns)) ≡ w
   among_open lt = sym (at_drop_more (first_among test hs) ns i 0 lt) ∙ h
 
   pub among_found : (r : ℕ × Heading) → i < length ns → if_passes test (slice_index_or ns i 0) (slice_get hs (slice_index_or ns i 0)) ≡ Some r → Some r ≡ w
