@@ -25,7 +25,7 @@ use Rattle.elan_scope.specs.declared.known.Known.{Known}
 use Rattle.elan_scope.specs.declared.scope.Scope.{Scope}
 use Rattle.elan_scope.specs.declared.scope.Usage.TheVariants.{Counter as Counts}
 use Rattle.elan_scope.specs.Phrase as form
-use Rattle.elan_scope.specs.Phrase.{plain, Phrase, phrase, Parts, none, part, leaf, pair, name, all_of}
+use Rattle.elan_scope.specs.Phrase.{plain, Phrase, phrase, Parts, part, leaf, pair, name, all_of}
 use Rattle.elan_judge.specs.Shape as shape
 
 module _ (s : Scope) where

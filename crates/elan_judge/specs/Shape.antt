@@ -22,7 +22,7 @@ use Rattle.elan_scope.specs.declared.scope.Scope.{Scope}
 use Rattle.elan_unbuilt.specs.Operators.{operator_text}
 use Rattle.elan_scope.specs.declared.scope.Usage.TheVariants.{Expression, Counter as Counts}
 use Rattle.elan_scope.specs.Phrase as form
-use Rattle.elan_scope.specs.Phrase.{asking, Plain, Phrase, phrase, part, none, row, leaf, around, pair, name, place}
+use Rattle.elan_scope.specs.Phrase.{asking, Phrase, phrase, part, none, row, leaf, around, pair, name, place}
 
 -- a part that may be left out
 abbrev pub written : Option Phrase → Phrase

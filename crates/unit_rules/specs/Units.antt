@@ -1,7 +1,6 @@
 -- Stores, lists of units, and bodies.
 use Rattle.std.specs.Prelude.{ℕ, Bool, true, List, [], ◌∷◌, flat_map, Option, Some, None, if◌then◌else◌}
 use Rattle.elan_types.specs.declared.elan_type.ElanType.{ElanType}
-use Rattle.elan_types.specs.declared.core_phrase.ValuePhrase.{ValuePhrase}
 use Rattle.elan_types.specs.declared.core_phrase.ValuePhrase.TheVariants as value
 use Rattle.elan_types.specs.declared.core_phrase.Action.{Action}
 use Rattle.elan_types.specs.declared.core_phrase.Action.TheVariants as action
