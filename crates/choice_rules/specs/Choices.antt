@@ -1,5 +1,5 @@
 -- IF and SELECT.
-use Rattle.std.specs.Prelude.{ℕ, ℤ, Bool, false, ◌||◌, List, [], ◌∷◌, ◌++◌, map, Option, Some, None, if◌then◌else◌}
+use Rattle.std.specs.Prelude.{ℕ, ℤ, Bool, false, ◌||◌, List, [], ◌∷◌, map, flat_map, Option, Some, None, if◌then◌else◌}
 use Rattle.std.specs.Ordering.{int_eq}
 use Rattle.elan_types.specs.declared.elan_type.ElanType.{ElanType}
 use Rattle.elan_types.specs.declared.elan_type.ElanType.TheVariants.{Int, Bool as Truths}
@@ -61,15 +61,10 @@ otherwise (Some m) = m
 
 -- ---- IF
 
-abbrev pub if_actions : ValuePhrase → Meant → Meant → List Action
-if_actions c m n = action.If c (actions m) (actions n) ∷ []
-
-abbrev pub if_value : ValuePhrase → Meant → Meant → ElanType → ValuePhrase
-if_value c m n t = value.If c (value_as t m) (value_as t n)
-
 -- one of two parts, which deliver the same
 abbrev pub chosen_of : ℕ → ValuePhrase → Meant → Meant → Verdict Meant
-chosen_of at c m n = delivering at (if_actions c m n) (if_value c m n) (joined (delivery_in m) (delivery_in n))
+chosen_of at c m n =
+    delivering at (action.If c (actions m) (actions n) ∷ []) (λ t. value.If c (value_as t m) (value_as t n)) (joined (delivery_in m) (delivery_in n))
 
 -- A condition is a truth value.
 abbrev pub branched : ℕ → Guard → Meant → Verdict Meant
@@ -102,8 +97,7 @@ labels_in (Labels ns) = ns
 labels_in _ = []
 
 abbrev pub labels_of : List Meant → List ℤ
-labels_of [] = []
-labels_of (m ∷ ms) = labels_in m ++ labels_of ms
+labels_of ms = flat_map labels_in ms
 
 -- what all parts deliver, if they agree
 abbrev pub joined_with : Option Delivery → Meant → Option Delivery
@@ -120,14 +114,10 @@ action_arm g = record { labels = labels_in g.0; units = actions g.1 }
 abbrev pub value_arm : ElanType → Guard → ValueArm
 value_arm t g = record { labels = labels_in g.0; value = value_as t g.1 }
 
-abbrev pub select_actions : ValuePhrase → List Guard → Meant → List Action
-select_actions v gs m = action.Select v (map action_arm gs) (actions m) ∷ []
-
-abbrev pub select_value : ValuePhrase → List Guard → Meant → ElanType → ValuePhrase
-select_value v gs m t = value.Select v (map (value_arm t) gs) (value_as t m)
-
 abbrev pub selected_by : ℕ → ValuePhrase → List Guard → Meant → Verdict Meant
-selected_by at v gs m = delivering at (select_actions v gs m) (select_value v gs m) (agreed (Some (delivery_in m)) gs)
+selected_by at v gs m =
+    delivering at (action.Select v (map action_arm gs) (actions m) ∷ []) (λ t. value.Select v (map (value_arm t) gs) (value_as t m))
+    (agreed (Some (delivery_in m)) gs)
 
 abbrev pub selected : ℕ → Meant → List Meant → Verdict Meant
 selected at m ms = if delivers Int m then selected_by at (value_of m) (pairs ms) (otherwise (odd ms)) else breaks (at, WrongType)

@@ -3,6 +3,7 @@
 ghost use Rattle.std.specs.Prelude.{◌≡◌, IfOk};
 ghost use Rattle.elan_meant.specs.Parts as meanings;
 ghost use Rattle.choice_rules.specs.Choices as spec;
+ghost use Rattle.choice_rules.specs.walks.Steps as walk;
 ghost use Rattle.elan_meant.specs.Verdict.{gives, Tells};
 
 use crate::parts::{delivery_in, joined, part_for_none, value_as};
@@ -24,7 +25,7 @@ fn if_actions(
     first: Meant,
     second: Meant,
 ) -> Result<List<Action>, NoMemory>
-    ensures { IfOk result (λ actions. actions ≡ spec.if_actions condition first second) }
+    ensures { IfOk result (λ actions. actions ≡ walk.if_actions condition first second) }
 {
     let first = actions(alloc, first);
     let second = actions(alloc, second);
@@ -39,7 +40,7 @@ fn if_value(
     second: Meant,
     of: ElanType,
 ) -> Result<Boxed<ValuePhrase>, NoMemory>
-    ensures { IfOk result (λ value. value ≡ spec.if_value condition first second of) }
+    ensures { IfOk result (λ value. value ≡ walk.if_value condition first second of) }
 {
     let first = value_as(alloc, of, first);
     let (first, second) = both(first, value_as(alloc, of, second))?;

@@ -4,6 +4,7 @@ ghost use Rattle.std.specs.Prelude.{◌≡◌, ◌∷◌, [], IfOk, Some, map};
 ghost use Rattle.elan_meant.specs.Parts as meanings;
 ghost use Rattle.elan_meant.specs.declared.meant.Meant.TheVariants as means;
 ghost use Rattle.choice_rules.specs.Choices as spec;
+ghost use Rattle.choice_rules.specs.walks.Steps as walk;
 ghost use Rattle.elan_scope.specs.Answer.{Gives};
 ghost use Rattle.elan_meant.specs.Verdict.{told, Tells};
 
@@ -136,7 +137,7 @@ fn select_actions(
     arms: List<(Meant, Meant)>,
     otherwise: Meant,
 ) -> Result<List<Action>, NoMemory>
-    ensures { IfOk result (λ actions. actions ≡ spec.select_actions value arms otherwise) }
+    ensures { IfOk result (λ actions. actions ≡ walk.select_actions value arms otherwise) }
 {
     let units = actions(alloc, otherwise);
     let arms = action_arms(alloc, arms)?;
@@ -150,7 +151,7 @@ fn select_value(
     otherwise: Meant,
     of: ElanType,
 ) -> Result<Boxed<ValuePhrase>, NoMemory>
-    ensures { IfOk result (λ v. v ≡ spec.select_value value arms otherwise of) }
+    ensures { IfOk result (λ v. v ≡ walk.select_value value arms otherwise of) }
 {
     let arms = value_arms(alloc, of, arms);
     let (arms, last) = both(arms, value_as(alloc, of, otherwise))?;

@@ -106,10 +106,8 @@ module _ (j k : Known) (z : Scope) (calls : j.calls ≡ k.calls) where
   form_alike l (asking (form.named Expression at s x)) ps ms e h =
       named_alike at s x (find s x) (λ n i. h n (in_one n (refinement_named s x) i))
   form_alike l (asking (form.named Counter at s x)) ps ms e h = counter_alike at s x (find s x)
-  form_alike l (asking (form.leave at s x)) ps [] e h = refl
-  form_alike l (asking (form.leave at s x)) ps (m ∷ []) e h =
-      ap told (leaving_alike at (left s x) m (λ q i. l x q (ap (λ (y : Scope). left y x) (sym e) ∙ i)))
-  form_alike l (asking (form.leave at s x)) ps (m ∷ n ∷ ms) e h = refl
+  form_alike l (asking (form.leave at s x)) ps ms e h =
+      ap told (leaving_alike at (left s x) (nth ms 0) (λ q i. l x q (ap (λ (y : Scope). left y x) (sym e) ∙ i)))
   form_alike l (plain f) ps ms e h = refl
 
   mutual

@@ -25,6 +25,7 @@ use Rattle.elan_meant.specs.Verdict.{told}
 use Rattle.elan_scope.specs.Known.{delivery_at, leads_back}
 use Rattle.elan_scope.specs.declared.known.Known.{Known}
 use Rattle.value_rules.specs.Calls as r
+use Rattle.value_rules.specs.walks.Steps as walk
 use Rattle.unit_rules.specs.Units.{or_last, last_value, ended, without_value}
 use Rattle.elan_rules.specs.Rules.{ruled}
 use Rattle.elan_judge.specs.Shape.{roles, filled, units}
@@ -152,8 +153,8 @@ module _ (j k : Known) (below : Below j k) where
   named_same u at s x (Some f) m n h g = denoted_same u at s x f.home f.number f.denotes m n h g
 
   left_by : (at : ℕ) (e : Exit) (v : Meant) (a b : Bool) (m n : Meant)
-      → told (if a then verdict.gives (Left (action.Unit (r.leave_of e v ∷ []) ∷ [])) else verdict.breaks (at, WrongType)) ≡ gives m
-      → told (if b then verdict.gives (Left (action.Unit (r.leave_of e v ∷ []) ∷ [])) else verdict.breaks (at, WrongType)) ≡ gives n → m ≡ n
+      → told (if a then verdict.gives (Left (action.Unit (walk.leave_of e v ∷ []) ∷ [])) else verdict.breaks (at, WrongType)) ≡ gives m
+      → told (if b then verdict.gives (Left (action.Unit (walk.leave_of e v ∷ []) ∷ [])) else verdict.breaks (at, WrongType)) ≡ gives n → m ≡ n
   left_by at e v true true m n h g = gives_is m n (sym h ∙ g)
   left_by at e v true false m n h g = absurd cc
   left_by at e v false b m n h g = absurd cc

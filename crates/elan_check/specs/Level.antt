@@ -1,5 +1,5 @@
 -- The phrases of a text: of its units, PROCs, OPs and refinements.
-use Rattle.std.specs.Prelude.{ℕ, suc, ◌+◌, Bool, false, List, [], ◌∷◌, ◌++◌, map, Option, Some, None}
+use Rattle.std.specs.Prelude.{ℕ, suc, ◌+◌, Bool, false, List, [], ◌∷◌, ◌++◌, map, flat_map, Option, Some, None}
 use Rattle.elan_types.specs.declared.elan_type.ElanType.{ElanType}
 use Rattle.elan_types.specs.declared.core_phrase.Scope.{Scope as Owner}
 use Rattle.elan_types.specs.declared.core_phrase.Scope.TheVariants as owner
@@ -53,12 +53,10 @@ module _ (s : Scope) where
   declares n = leaf (form.declares n.at s n.text)
 
   abbrev pub declare_all : List Name → List Phrase
-  declare_all [] = []
-  declare_all (n ∷ ns) = declares n ∷ declare_all ns
+  declare_all ns = map declares ns
 
   abbrev pub declare_parameters : List Formal → List Phrase
-  declare_parameters [] = []
-  declare_parameters (f ∷ fs) = declare_all f.names ++ declare_parameters fs
+  declare_parameters fs = flat_map (λ f. declare_all f.names) fs
 
   -- the units of the refinement with this number
   abbrev pub refined_units : ℕ → Refinement → Phrase

@@ -11,7 +11,6 @@ use Rattle.elan_meant.specs.declared.meant.Meant.{Meant}
 use Rattle.elan_meant.specs.declared.meant.Meant.TheVariants.{Labels}
 use Rattle.elan_scope.specs.declared.scope.Scope.{Scope}
 use Rattle.elan_scope.specs.declared.trouble.Trouble.{Trouble}
-use Rattle.elan_scope.specs.declared.trouble.Trouble.TheVariants.{NoMemory, Breaks, Hangs}
 use Rattle.elan_scope.specs.Answer.{Is, Fails}
 use Rattle.choice_rules.specs.Choices.{labels_of}
 use Rattle.elan_rules.specs.Meaning.{judged, judged_all}
@@ -52,21 +51,13 @@ module _ (k : Known) where
       → Is q (judged_all k (all_of (ps ++ p ∷ [])))
   row_is q ps p h = subst (λ (z : Ruled (List Meant)). Is q z) (sym (row_push ps p)) h
 
-  -- two and three phrases more
+  -- two phrases more
   pub two_more : (q r : Result (List Meant) Trouble) (done : List Phrase) (x y : Phrase) → Is q (joined (judged_all k (all_of done)) (judged k x)) →
       ((rs : Ruled (List Meant)) → Is q rs → Is r (joined rs (judged k y))) → Is r (judged_all k (all_of (done ++ x ∷ y ∷ [])))
   two_more q r done x y h g =
       let first = row_is q done x h in
       subst (λ (ps : List Phrase). Is r (judged_all k (all_of ps))) (append_assoc done (x ∷ []) (y ∷ []))
       (row_is r (done ++ x ∷ []) y (g (judged_all k (all_of (done ++ x ∷ []))) first))
-
-  pub three_more : (q r o : Result (List Meant) Trouble) (done : List Phrase) (x y z : Phrase) → Is q (joined (judged_all k (all_of done)) (judged k x)) →
-      ((rs : Ruled (List Meant)) → Is q rs → Is r (joined rs (judged k y))) → ((rs : Ruled (List Meant)) → Is r rs → Is o (joined rs (judged k z))) →
-      Is o (judged_all k (all_of (done ++ x ∷ y ∷ z ∷ [])))
-  three_more q r o done x y z h g i =
-      let first = two_more q r done x y h g in
-      subst (λ (ps : List Phrase). Is o (judged_all k (all_of ps))) (append_assoc done (x ∷ y ∷ []) (z ∷ []))
-      (row_is o (done ++ x ∷ y ∷ []) z (i (judged_all k (all_of (done ++ x ∷ y ∷ []))) first))
 
   -- ---- a row of phrases, one for each element
 

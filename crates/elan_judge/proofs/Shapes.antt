@@ -25,7 +25,7 @@ use Rattle.elan_scope.specs.declared.known.Known.{Known}
 use Rattle.elan_scope.specs.declared.scope.Scope.{Scope}
 use Rattle.elan_scope.specs.declared.scope.Usage.TheVariants.{Counter as Counts}
 use Rattle.elan_scope.specs.Phrase as form
-use Rattle.elan_scope.specs.Phrase.{plain, Phrase, phrase, Parts, none, part, leaf, pair, name, all_of}
+use Rattle.elan_scope.specs.Phrase.{plain, Phrase, phrase, Parts, part, leaf, pair, name, all_of}
 use Rattle.elan_judge.specs.Shape as shape
 
 module _ (s : Scope) where
@@ -37,11 +37,6 @@ module _ (s : Scope) where
 
   abbrev pub case_parts : List Case → Option (List Statement) → Parts
   case_parts cs o = all_of (shape.arms s [] (map (shape.case s) cs) ++ units_of o ∷ [])
-
-  abbrev pub loop_parts : Option Counter → Option Expr → List Statement → Option Expr → Parts
-  loop_parts k c us u =
-      all_of (shape.counter_parts (shape.optional_counter s k) ++ shape.optional_expr s c ∷ shape.units Nothing (map (shape.unit s) us)
-      ∷ shape.optional_expr s u ∷ [])
 
   choice_rolled : (at : ℕ) (bs : List Branch) (o : Option (List Statement))
       → shape.expr s (roll-Expr (t.If at bs o)) ≡ phrase (plain (form.choice at)) (choice_parts bs o)
@@ -62,7 +57,8 @@ module _ (s : Scope) where
   selection_shape at v cs o = ap (shape.expr s) (sym (expression.rolls-Select at v cs o)) ∙ selection_rolled at v cs o
 
   abbrev pub loop_of : ℕ → Option Counter → Option Expr → List Statement → Option Expr → Phrase
-  loop_of at k c us u = phrase (plain (shape.loop_form at (shape.optional_counter s k))) (loop_parts k c us u)
+  loop_of at k c us u =
+      shape.loop at (shape.optional_counter s k) (shape.optional_expr s c) (shape.units Nothing (map (shape.unit s) us)) (shape.optional_expr s u)
 
   loop_rolled : (at : ℕ) (k : Option Counter) (c : Option Expr) (us : List Statement) (u : Option Expr)
       → shape.unit s (roll-Unit (t.Loop at k c us u)) ≡ Some (loop_of at k c us u)

@@ -13,7 +13,6 @@ use Rattle.elan_scope.specs.Phrase as form
 use Rattle.elan_scope.specs.Phrase.{Form, asking, Plain, plain, Phrase, phrase, Parts, none, part}
 use Rattle.elan_meant.specs.Parts as p
 use Rattle.value_rules.specs.Calls as r
-use Rattle.unit_rules.specs.Units as u
 use Rattle.choice_rules.specs.Choices as c
 use Rattle.elan_rules.specs.Rules as all
 use Rattle.elan_rules.specs.Rules.{rule, ruled}

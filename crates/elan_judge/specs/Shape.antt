@@ -1,5 +1,5 @@
 -- The phrases of expressions and units.
-use Rattle.std.specs.Prelude.{ℕ, ℤ, Bool, true, false, ◌&&◌, List, [], ◌∷◌, ◌++◌, Option, Some, None, if◌then◌else◌}
+use Rattle.std.specs.Prelude.{ℕ, ℤ, Bool, true, false, ◌&&◌, List, [], ◌∷◌, ◌++◌, flat_map, Option, Some, None, option_to_list, if◌then◌else◌}
 use Rattle.eu_base.specs.declared.operation.Way.{Way}
 use Rattle.eu_base.specs.declared.operation.Way.TheVariants.{Up, Down}
 use Rattle.elan_tree.specs.declared.written_type.Name.{Name}
@@ -22,7 +22,7 @@ use Rattle.elan_scope.specs.declared.scope.Scope.{Scope}
 use Rattle.elan_unbuilt.specs.Operators.{operator_text}
 use Rattle.elan_scope.specs.declared.scope.Usage.TheVariants.{Expression, Counter as Counts}
 use Rattle.elan_scope.specs.Phrase as form
-use Rattle.elan_scope.specs.Phrase.{asking, Plain, Phrase, phrase, part, none, row, leaf, around, pair, name, place}
+use Rattle.elan_scope.specs.Phrase.{asking, Phrase, phrase, part, none, row, leaf, around, pair, name, place}
 
 -- a part that may be left out
 abbrev pub written : Option Phrase → Phrase
@@ -45,9 +45,7 @@ roles d (p ∷ q ∷ ps) = role Nothing p ∷ roles d (q ∷ ps)
 
 -- An empty unit is no phrase.
 abbrev pub filled : List (Option Phrase) → List Phrase
-filled [] = []
-filled (None ∷ us) = filled us
-filled (Some p ∷ us) = p ∷ filled us
+filled us = flat_map option_to_list us
 
 abbrev pub is_empty : Option Phrase → Bool
 is_empty None = true
@@ -75,8 +73,7 @@ in_role (Some d) p = role d p ∷ []
 -- ---- conditions, each before its units
 
 abbrev pub branches : List (Phrase × Phrase) → List Phrase
-branches [] = []
-branches (b ∷ bs) = b.0 ∷ b.1 ∷ branches bs
+branches bs = flat_map (λ b. b.0 ∷ b.1 ∷ []) bs
 
 -- ---- loops
 
@@ -84,16 +81,9 @@ branches (b ∷ bs) = b.0 ∷ b.1 ∷ branches bs
 abbrev pub Counted : Type 0
 Counted = Phrase × Phrase × Phrase × Way
 
-abbrev pub loop_form : ℕ → Option Counted → Plain
-loop_form at None = form.loop at
-loop_form at (Some k) = form.count at k.3
-
-abbrev pub counter_parts : Option Counted → List Phrase
-counter_parts None = []
-counter_parts (Some k) = k.0 ∷ k.1 ∷ k.2 ∷ []
-
 abbrev pub loop : ℕ → Option Counted → Phrase → Phrase → Phrase → Phrase
-loop at k c us u = row (loop_form at k) (counter_parts k ++ c ∷ us ∷ u ∷ [])
+loop at None c us u = row (form.loop at) (c ∷ us ∷ u ∷ [])
+loop at (Some k) c us u = row (form.count at k.3) (k.0 ∷ k.1 ∷ k.2 ∷ c ∷ us ∷ u ∷ [])
 
 -- ---- labels
 
@@ -103,8 +93,11 @@ number (label.Number at n) = n ∷ []
 number (label.Named n) = []
 
 abbrev pub numbers : List Label → List ℤ
-numbers [] = []
-numbers (l ∷ ls) = number l ++ numbers ls
+numbers ls = flat_map number ls
+
+-- a piece of a tree, what is in it being phrases: a limit with its way, a condition and labels with their units
+abbrev pub Layer : (Type 0 → Type 0 → Type 0 → Type 0 → Type 0 → Type 0 → Type 0 → Type 0) → Type 0
+Layer F = F Phrase (Way × Phrase) (Option Phrase) (Phrase × Phrase) (List Label × Phrase) Counted Phrase
 
 module _ (s : Scope) where
   abbrev pub label_phrase : List ℤ → Label → Phrase
@@ -126,7 +119,7 @@ module _ (s : Scope) where
 
   -- ---- the tree; an empty unit has no phrase
 
-  abbrev pub expr_step : Expr-F Phrase (Way × Phrase) (Option Phrase) (Phrase × Phrase) (List Label × Phrase) Counted Phrase → Phrase
+  abbrev pub expr_step : Layer Expr-F → Phrase
   expr_step (t.Number at n) = leaf (form.number at n)
   expr_step (t.Truth at b) = leaf (form.truth at b)
   expr_step (t.Named n) = name Expression n.at s n.text
@@ -145,72 +138,58 @@ module _ (s : Scope) where
   expr_step (t.Field at of field) = leaf (form.not_built at)
 
   -- Without a limit a counter goes up.
-  abbrev pub limit_step : Limit-F Phrase (Way × Phrase) (Option Phrase) (Phrase × Phrase) (List Label × Phrase) Counted Phrase → Way × Phrase
+  abbrev pub limit_step : Layer Limit-F → Way × Phrase
   limit_step t.Without = (Up, leaf form.absent)
   limit_step (t.Upto a) = (Up, a)
   limit_step (t.Downto a) = (Down, a)
 
-  abbrev pub unit_step : Unit-F Phrase (Way × Phrase) (Option Phrase) (Phrase × Phrase) (List Label × Phrase) Counted Phrase → Option Phrase
+  abbrev pub unit_step : Layer Unit-F → Option Phrase
   unit_step t.Empty = None
   unit_step (t.Variables at of items) = Some (row (form.declaration at) items)
   unit_step (t.Constants at of items) = Some (row (form.declaration at) items)
   unit_step (t.Value a) = Some (around form.statement a)
   unit_step (t.Becomes at a b) = Some (pair (form.assignment at s) a b)
-  unit_step (t.Loop at counter condition us until) = Some (loop at counter (written condition) (units Nothing us) (written until))
+  unit_step (t.Loop at k condition us until) = Some (loop at k (written condition) (units Nothing us) (written until))
   unit_step (t.Let at items) = Some (leaf (form.not_built at))
   unit_step (t.Bound at of items) = Some (leaf (form.not_built at))
   unit_step (t.Leave at n value) = Some (phrase (asking (form.leave at s n.text)) (part (written value) none))
 
-  abbrev pub branch_step : Branch-F Phrase (Way × Phrase) (Option Phrase) (Phrase × Phrase) (List Label × Phrase) Counted Phrase → Phrase × Phrase
+  abbrev pub branch_step : Layer Branch-F → Phrase × Phrase
   branch_step b = (b.condition, units Open b.units)
 
-  abbrev pub case_step : Case-F Phrase (Way × Phrase) (Option Phrase) (Phrase × Phrase) (List Label × Phrase) Counted Phrase → List Label × Phrase
+  abbrev pub case_step : Layer Case-F → List Label × Phrase
   case_step c = (c.labels, units Open c.units)
 
-  abbrev pub counter_step : Counter-F Phrase (Way × Phrase) (Option Phrase) (Phrase × Phrase) (List Label × Phrase) Counted Phrase → Counted
+  abbrev pub counter_step : Layer Counter-F → Counted
   counter_step c = (name Counts c.name.at s c.name.text, written c.from, c.limit.1, c.limit.0)
 
   abbrev pub item_with : Name → Phrase → Option Phrase → Phrase
   item_with n p None = p
   item_with n p (Some a) = pair (form.initial n.at) p a
 
-  abbrev pub item_step : Item-F Phrase (Way × Phrase) (Option Phrase) (Phrase × Phrase) (List Label × Phrase) Counted Phrase → Phrase
+  abbrev pub item_step : Layer Item-F → Phrase
   item_step i = item_with i.name (leaf (form.declares i.name.at s i.name.text)) i.init
 
   abbrev pub expr : Expr → Phrase
-  expr =
-      fold-Expr Phrase (Way × Phrase) (Option Phrase) (Phrase × Phrase) (List Label × Phrase) Counted Phrase expr_step limit_step unit_step branch_step
-      case_step counter_step item_step
+  expr = fold-Expr _ _ _ _ _ _ _ expr_step limit_step unit_step branch_step case_step counter_step item_step
 
   abbrev pub limit : Limit → Way × Phrase
-  limit =
-      fold-Limit Phrase (Way × Phrase) (Option Phrase) (Phrase × Phrase) (List Label × Phrase) Counted Phrase expr_step limit_step unit_step branch_step
-      case_step counter_step item_step
+  limit = fold-Limit _ _ _ _ _ _ _ expr_step limit_step unit_step branch_step case_step counter_step item_step
 
   abbrev pub unit : Statement → Option Phrase
-  unit =
-      fold-Unit Phrase (Way × Phrase) (Option Phrase) (Phrase × Phrase) (List Label × Phrase) Counted Phrase expr_step limit_step unit_step branch_step
-      case_step counter_step item_step
+  unit = fold-Unit _ _ _ _ _ _ _ expr_step limit_step unit_step branch_step case_step counter_step item_step
 
   abbrev pub branch : Branch → Phrase × Phrase
-  branch =
-      fold-Branch Phrase (Way × Phrase) (Option Phrase) (Phrase × Phrase) (List Label × Phrase) Counted Phrase expr_step limit_step unit_step branch_step
-      case_step counter_step item_step
+  branch = fold-Branch _ _ _ _ _ _ _ expr_step limit_step unit_step branch_step case_step counter_step item_step
 
   abbrev pub case : Case → List Label × Phrase
-  case =
-      fold-Case Phrase (Way × Phrase) (Option Phrase) (Phrase × Phrase) (List Label × Phrase) Counted Phrase expr_step limit_step unit_step branch_step
-      case_step counter_step item_step
+  case = fold-Case _ _ _ _ _ _ _ expr_step limit_step unit_step branch_step case_step counter_step item_step
 
   abbrev pub counter : Counter → Counted
-  counter =
-      fold-Counter Phrase (Way × Phrase) (Option Phrase) (Phrase × Phrase) (List Label × Phrase) Counted Phrase expr_step limit_step unit_step branch_step
-      case_step counter_step item_step
+  counter = fold-Counter _ _ _ _ _ _ _ expr_step limit_step unit_step branch_step case_step counter_step item_step
 
   abbrev pub item : Item → Phrase
-  item =
-      fold-Item Phrase (Way × Phrase) (Option Phrase) (Phrase × Phrase) (List Label × Phrase) Counted Phrase expr_step limit_step unit_step branch_step
-      case_step counter_step item_step
+  item = fold-Item _ _ _ _ _ _ _ expr_step limit_step unit_step branch_step case_step counter_step item_step
 
   abbrev pub optional_expr : Option Expr → Phrase
   optional_expr None = leaf form.absent

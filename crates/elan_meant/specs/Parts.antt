@@ -1,5 +1,5 @@
 -- What the parts of a phrase deliver, where they have meaning.
-use Rattle.std.specs.Prelude.{ℕ, pos, Bool, true, false, List, [], ◌∷◌, ◌++◌, Option, Some, None, slice_index_or}
+use Rattle.std.specs.Prelude.{ℕ, pos, Bool, true, false, List, [], ◌∷◌, flat_map, Option, Some, None, slice_index_or}
 use Rattle.elan_types.specs.declared.elan_type.ElanType.{ElanType}
 use Rattle.elan_types.specs.declared.elan_type.ElanType.TheVariants.{Int, Bool as Truths}
 use Rattle.elan_types.specs.declared.core_phrase.PlacePhrase.{PlacePhrase}
@@ -53,8 +53,7 @@ unit_of as' = Done (action.Unit as' ∷ [])
 
 -- what phrases do that deliver nothing, one after another
 abbrev pub actions_of : List Meant → List Action
-actions_of [] = []
-actions_of (m ∷ ms) = actions m ++ actions_of ms
+actions_of ms = flat_map actions ms
 
 -- any value of a type; it stands behind a LEAVE, where it is never reached
 abbrev pub blank : ElanType → ValuePhrase

@@ -49,6 +49,7 @@ use Rattle.elan_meant.specs.Operands.{delivers, takes, chosen}
 use Rattle.elan_rules.proofs.Typed as ty
 use Rattle.elan_rules.proofs.Typed.{same_is, same_self, has_self, agree_self, only_if_holds, both, and_true, Gives, MayGive, on_if, on_bind, on_told, on_either}
 use Rattle.value_rules.specs.Calls as r
+use Rattle.value_rules.specs.walks.Steps as walk
 use Rattle.elan_rules.proofs.TypeEquations.{Stand, typed, lies, refer_is, action_refer_is, leave_is, leave_with_is}
 use Rattle.elan_rules.proofs.TypedPerformed.{owner_with, Headed, Delivering, BodyFits, Fitting, MayCall, none_holds, has_holds, own_calls, predefined_calls}
 use Rattle.elan_rules.proofs.TypedPerformed.{first_calls, else_calls, called_good}
@@ -413,7 +414,7 @@ module _ (here : Stand) where
     leave_with_typed e t v h g = leave_with_is here e t v ∙ and_true _ _ (has_self t _ g) (ap (leaves_with t) h ∙ same_self t)
 
     delivered_leave : (e : Exit) (t : ElanType) (m : Meant) → left_from here.bodies e here.home ≡ Some (Some t) → Good m → delivers t m ≡ true
-        → typed here (r.leave_of e m) ≡ true
+        → typed here (walk.leave_of e m) ≡ true
     delivered_leave e t Absent h g d = absurd cc
     delivered_leave e t (Variable at u x) h g d =
         leave_with_typed e u (value.Load x u) (h ∙ ap (λ (z : ElanType). Some (Some z)) (same_is t u d)) (ty.load_typed here u x g)
@@ -425,7 +426,7 @@ module _ (here : Stand) where
     delivered_leave e t (Level us bs) h g d = absurd cc
 
     leave_of_typed : (e : Exit) (n : ℕ) (b : Body) (d : Delivery) (m : Meant) → left_from here.bodies e here.home ≡ result_of (slice_get here.bodies n)
-        → slice_get here.bodies n ≡ Some b → Delivering d b → Good m → r.agrees d m ≡ true → typed here (r.leave_of e m) ≡ true
+        → slice_get here.bodies n ≡ Some b → Delivering d b → Good m → r.agrees d m ≡ true → typed here (walk.leave_of e m) ≡ true
     leave_of_typed e n b Open m h i j g a = absurd j
     leave_of_typed e n b Nothing Absent h i j g a = leave_typed e (left_result e n b None h i j)
     leave_of_typed e n b Nothing (Variable at u x) h i j g a = absurd cc
@@ -442,8 +443,8 @@ module _ (here : Stand) where
     leaving_as_good at (Some e) m h g =
         let f = fits.bodies e.1 h.0 h.1 in
         on_if Good (r.agrees (delivery_at k e.1) m) _ _
-        (λ a. ty.unit_typed here (r.leave_of e.0 m ∷ [])
-        (ty.single_typed here (r.leave_of e.0 m) (leave_of_typed e.0 e.1 f.body (delivery_at k e.1) m h.2 f.is f.delivers g a))) (λ a. tt)
+        (λ a. ty.unit_typed here (walk.leave_of e.0 m ∷ [])
+        (ty.single_typed here (walk.leave_of e.0 m) (leave_of_typed e.0 e.1 f.body (delivery_at k e.1) m h.2 f.is f.delivers g a))) (λ a. tt)
 
     pub leaving_good : (at : ℕ) (x : List ℕ) (m : Meant) → Good m → Gives Good (r.leaving k at (scope.left s x) m)
     leaving_good at x m g = leaving_as_good at (scope.left s x) m (left_leaves x) g

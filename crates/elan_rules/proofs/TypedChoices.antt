@@ -17,6 +17,7 @@ use Rattle.elan_rules.proofs.Typed as ty
 use Rattle.elan_rules.proofs.Typed.{same_is, same_self, has_self, agree_self, only_if_holds, both, and_true, Gives, on_if, on_bind}
 use Rattle.elan_meant.specs.Parts as p
 use Rattle.choice_rules.specs.Choices as r
+use Rattle.choice_rules.specs.walks.Steps as w
 use Rattle.elan_rules.proofs.TypedUnits.{unreached_typed, if_value_typed}
 use Rattle.elan_rules.proofs.TypeEquations.{Stand, arm_typed, arm_type, if_is, select_is, value_select_is, value_arm_is, arm_is}
 
@@ -90,14 +91,14 @@ module _ (here : Stand) where
 
   -- ---- IF
 
-  if_typed : (c : ValuePhrase) (m n : Meant) → Has Truths c → Good m → Good n → AllTyped (r.if_actions c m n)
+  if_typed : (c : ValuePhrase) (m n : Meant) → Has Truths c → Good m → Good n → AllTyped (w.if_actions c m n)
   if_typed c m n h g k =
       ty.single_typed here (action.If c (p.actions m) (p.actions n)) (if_is here c (p.actions m) (p.actions n)
       ∙ and_true _ _ (has_self Truths _ h) (and_true _ _ (ty.actions_typed here m g) (ty.actions_typed here n k)))
 
   chosen_good : (at : ℕ) (c : ValuePhrase) (m n : Meant) → Has Truths c → Good m → Good n → Gives Good (r.chosen_of at c m n)
   chosen_good at c m n h g k =
-      delivering_good at (r.if_actions c m n) (r.if_value c m n) (r.joined (r.delivery_in m) (r.delivery_in n)) (if_typed c m n h g k)
+      delivering_good at (w.if_actions c m n) (w.if_value c m n) (r.joined (r.delivery_in m) (r.delivery_in n)) (if_typed c m n h g k)
       (λ t e. let a = join_allows t (r.delivery_in m) (r.delivery_in n) e in
       if_value_typed here c t (r.value_as t m) (r.value_as t n) h (value_as_typed t m g a.0) (value_as_typed t n k a.1))
 
@@ -120,7 +121,7 @@ module _ (here : Stand) where
   action_arms_typed (b ∷ gs) g =
       and_true _ _ (arm_is here (r.labels_in b.0) (p.actions b.1) ∙ ty.actions_typed here b.1 g.0.1) (action_arms_typed gs g.1)
 
-  select_typed : (v : ValuePhrase) (gs : List r.Guard) (m : Meant) → Has Int v → PairsGood gs → Good m → AllTyped (r.select_actions v gs m)
+  select_typed : (v : ValuePhrase) (gs : List r.Guard) (m : Meant) → Has Int v → PairsGood gs → Good m → AllTyped (w.select_actions v gs m)
   select_typed v gs m h g k =
       ty.single_typed here (action.Select v (map r.action_arm gs) (p.actions m)) (select_is here v (map r.action_arm gs) (p.actions m)
       ∙ and_true _ _ (has_self Int _ h) (and_true _ _ (action_arms_typed gs g) (ty.actions_typed here m k)))
@@ -146,7 +147,7 @@ module _ (here : Stand) where
 
   selected_by_good : (at : ℕ) (v : ValuePhrase) (gs : List r.Guard) (m : Meant) → Has Int v → PairsGood gs → Good m → Gives Good (r.selected_by at v gs m)
   selected_by_good at v gs m h g k =
-      delivering_good at (r.select_actions v gs m) (r.select_value v gs m) (r.agreed (Some (r.delivery_in m)) gs) (select_typed v gs m h g k)
+      delivering_good at (w.select_actions v gs m) (w.select_value v gs m) (r.agreed (Some (r.delivery_in m)) gs) (select_typed v gs m h g k)
       (λ t e. let c = agreed_allows t gs (Some (r.delivery_in m)) e in
       let other = value_as_typed t m k c.0 in
       value_select_is here v (map (r.value_arm t) gs) (r.value_as t m)

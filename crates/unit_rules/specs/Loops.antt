@@ -15,12 +15,10 @@ use Rattle.elan_meant.specs.Parts.{variable, actions, may_deliver, written, unit
 abbrev pub conditions : Meant → Meant → Bool
 conditions c u = may_deliver Truths c && may_deliver Truths u
 
-abbrev pub uncounted : Meant → Meant → Meant → Meant
-uncounted c us u = unit_of (action.Loop (written c) (actions us) (written u) ∷ [])
-
 -- a loop without counter
 abbrev pub loop : ℕ → Meant → Meant → Meant → Verdict Meant
-loop at c us u = if conditions c u then gives (uncounted c us u) else breaks (at, WrongType)
+loop at c us u =
+    if conditions c u then gives (unit_of (action.Loop (written c) (actions us) (written u) ∷ [])) else breaks (at, WrongType)
 
 -- ---- a loop with a counter, its first value and its limit
 

@@ -1,7 +1,6 @@
 -- Stores, lists of units, and bodies.
-use Rattle.std.specs.Prelude.{ℕ, Bool, true, List, [], ◌∷◌, ◌++◌, Option, Some, None, if◌then◌else◌}
+use Rattle.std.specs.Prelude.{ℕ, Bool, true, List, [], ◌∷◌, flat_map, Option, Some, None, if◌then◌else◌}
 use Rattle.elan_types.specs.declared.elan_type.ElanType.{ElanType}
-use Rattle.elan_types.specs.declared.core_phrase.ValuePhrase.{ValuePhrase}
 use Rattle.elan_types.specs.declared.core_phrase.ValuePhrase.TheVariants as value
 use Rattle.elan_types.specs.declared.core_phrase.Action.{Action}
 use Rattle.elan_types.specs.declared.core_phrase.Action.TheVariants as action
@@ -101,5 +100,4 @@ bodies_in (Bodies bs) = bs
 bodies_in _ = []
 
 abbrev pub bodies_of : List Meant → List Body
-bodies_of [] = []
-bodies_of (m ∷ ms) = bodies_in m ++ bodies_of ms
+bodies_of ms = flat_map bodies_in ms

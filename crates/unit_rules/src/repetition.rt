@@ -2,6 +2,7 @@
 
 ghost use Rattle.std.specs.Prelude.{◌≡◌};
 ghost use Rattle.unit_rules.specs.Loops as spec;
+ghost use Rattle.unit_rules.specs.walks.Steps as walk;
 ghost use Rattle.elan_meant.specs.Parts as parts;
 ghost use Rattle.elan_meant.specs.Verdict.{gives, ◌>>=◌ as and_then, Tells};
 
@@ -44,7 +45,7 @@ fn conditions(turns: &Turns) -> bool
 }
 
 fn uncounted(alloc: Global, turns: Turns) -> Judged
-    ensures { Tells result (gives (spec.uncounted turns.condition turns.units turns.until)) }
+    ensures { Tells result (gives (walk.uncounted turns.condition turns.units turns.until)) }
 {
     let Turns {
         condition,

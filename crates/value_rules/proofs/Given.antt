@@ -16,7 +16,8 @@ use Rattle.elan_scope.specs.Answer.{Is}
 use Rattle.elan_scope.specs.Ruled.{Ruled, joined}
 use Rattle.elan_meant.specs.Verdict.{Verdict, gives, breaks, ◌>>=◌, told, Tells}
 use Rattle.elan_meant.specs.declared.meant.Meant.{Meant}
-use Rattle.value_rules.specs.Calls.{given, given_as, given_next, performed}
+use Rattle.value_rules.specs.Calls.{given, given_as, performed}
+use Rattle.value_rules.specs.walks.Steps.{given_next}
 
 pub given_none : (at : ℕ) (ps : List Parameter) → given at ps [] ≡ gives []
 given_none at [] = refl

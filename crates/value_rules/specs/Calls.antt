@@ -1,5 +1,5 @@
 -- Names, calls of PROCs, OPs and refinements, and LEAVE.
-use Rattle.std.specs.Prelude.{ℕ, Bool, true, false, List, [], ◌∷◌, ◌++◌, length, Option, Some, None, if◌then◌else◌, nat_eq}
+use Rattle.std.specs.Prelude.{ℕ, Bool, true, false, List, [], ◌∷◌, length, Option, Some, None, is_some, if◌then◌else◌, nat_eq}
 use Rattle.elan_types.specs.declared.elan_type.ElanType.{ElanType}
 use Rattle.elan_types.specs.declared.core_phrase.PlacePhrase.{PlacePhrase}
 use Rattle.elan_types.specs.declared.core_phrase.PlacePhrase.TheVariants as place
@@ -69,11 +69,6 @@ abbrev pub given : ℕ → List Parameter → List Meant → Verdict (List Actua
 given at [] ms = gives []
 given at (p ∷ ps) [] = gives []
 given at (p ∷ ps) (m ∷ ms) = given_as at p.access p.of m >>= (λ a. given at ps ms >>= (λ as'. gives (a ∷ as')))
-
--- what was given, and behind it what the first of these parameters is given, if there is one
-abbrev pub given_next : ℕ → List Parameter → Meant → Verdict (List Actual) → Verdict (List Actual)
-given_next at [] m r = r
-given_next at (p ∷ ps) m r = r >>= (λ as'. given_as at p.access p.of m >>= (λ a. gives (as' ++ a ∷ [])))
 
 abbrev pub values_in : List Actual → List ValuePhrase
 values_in [] = []
@@ -156,9 +151,7 @@ headed at missing (Some b) = if nat_eq b.1.at at then (if missing then breaks (a
 -- Without a value, or with one, it agrees with what it leaves. Nothing is asked of the value where that is not known.
 abbrev pub agrees : Delivery → Meant → Bool
 agrees Open Absent = true
-agrees Open (Variable at t p) = true
-agrees Open (Value at t v) = true
-agrees Open m = false
+agrees Open m = is_some (type_in m)
 agrees Nothing Absent = true
 agrees Nothing m = false
 agrees (Of t) m = delivers t m
@@ -167,13 +160,10 @@ abbrev pub leave_with : Exit → Option ElanType → ValuePhrase → Action
 leave_with e None v = action.Leave e
 leave_with e (Some t) v = action.LeaveWith e t v
 
-abbrev pub leave_of : Exit → Meant → Action
-leave_of e m = leave_with e (type_in m) (value_of m)
-
-abbrev pub leave_as : ℕ → Exit → Delivery → Meant → Verdict Meant
-leave_as at e d m = if agrees d m then gives (Left (action.Unit (leave_of e m ∷ []) ∷ [])) else breaks (at, WrongType)
-
 -- It names the refinement, PROC or OP in which it stands.
 abbrev pub leaving : Known → ℕ → Option (Exit × ℕ) → Meant → Verdict Meant
 leaving k at None m = breaks (at, WrongPlace)
-leaving k at (Some e) m = leave_as at e.0 (delivery_at k e.1) m
+leaving k at (Some e) m =
+    if agrees (delivery_at k e.1) m
+    then gives (Left (action.Unit (leave_with e.0 (type_in m) (value_of m) ∷ []) ∷ []))
+    else breaks (at, WrongType)

@@ -6,3 +6,4 @@ pub use Rattle.elan_meant.specs.Operands
 pub use Rattle.elan_meant.specs.Parts
 pub mod Calls
 pub mod Values
+pub mod walks

@@ -8,6 +8,7 @@ ghost use Rattle.elan_scope.specs.declared.heading.Sort.TheVariants as sorts;
 ghost use Rattle.elan_scope.specs.declared.predefined.Predefined.TheVariants as names;
 ghost use Rattle.elan_scope.specs.walks.Seen as seen;
 ghost use Rattle.value_rules.specs.Calls as spec;
+ghost use Rattle.value_rules.specs.walks.Steps as walk;
 ghost use Rattle.elan_meant.specs.Verdict.{Verdict, Tells};
 
 use elan_meant::arity::two_of;
@@ -48,7 +49,7 @@ fn give(
     rest: &[Parameter],
     operand: Meant,
 ) -> Result<List<Actual>, Trouble>
-    ensures { (given : Verdict (List Actuals)) → Tells actuals given → Tells result (spec.given_next at rest.now operand given) }
+    ensures { (given : Verdict (List Actuals)) → Tells actuals given → Tells result (walk.given_next at rest.now operand given) }
 {
     match rest {
         [] => {

@@ -4,6 +4,7 @@ ghost use Rattle.std.specs.Prelude.{◌≡◌, ◌∷◌, []};
 ghost use Rattle.elan_types.specs.declared.core_phrase.Action.TheVariants as leaves;
 ghost use Rattle.elan_meant.specs.declared.meant.Meant.TheVariants as means;
 ghost use Rattle.value_rules.specs.Calls as spec;
+ghost use Rattle.value_rules.specs.walks.Steps as walk;
 ghost use Rattle.elan_meant.specs.Verdict.{gives, Tells};
 
 use elan_meant::meant::Meant;
@@ -31,7 +32,7 @@ fn agrees(delivery: Delivery, value: &Meant) -> bool
 }
 
 fn leave_of(exit: Exit, value: Meant) -> Action
-    ensures { result ≡ spec.leave_of exit value }
+    ensures { result ≡ walk.leave_of exit value }
 {
     match type_in(&value) {
         Some(of) => Action::LeaveWith(exit, of, value_in(value)),
@@ -51,7 +52,7 @@ fn leave_unit(alloc: Global, action: Action) -> Judged
 }
 
 fn leave_as(alloc: Global, at: u32, exit: Exit, delivery: Delivery, value: Meant) -> Judged
-    ensures { Tells result (spec.leave_as at exit delivery value) }
+    ensures { Tells result (walk.leave_as at exit delivery value) }
 {
     if agrees(delivery, &value) {
         leave_unit(alloc, leave_of(exit, value))

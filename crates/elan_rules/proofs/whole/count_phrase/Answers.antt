@@ -1,6 +1,6 @@
 use Rattle.elan_scope.specs.Phrase as form
 use Rattle.elan_rules.specs.Meaning.{judged}
-use Rattle.elan_rules.proofs.Together.{Beside, six_fails, six_is}
+use Rattle.elan_rules.proofs.Together.{six_fails, six_is}
 use Rattle.elan_rules.proofs.whole.count_phrase.Goals as goal
 use Rattle.elan_meant.specs.walks.Arity.{triple}
 

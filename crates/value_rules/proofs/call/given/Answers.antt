@@ -2,7 +2,8 @@ use Rattle.std.proofs.Common.{List, drop, refl, sym, ap, subst, ◌∙◌}
 use Rattle.elan_types.specs.declared.core_phrase.Parameter.{Parameter}
 use Rattle.elan_types.specs.declared.core_phrase.Actual.{Actual}
 use Rattle.elan_meant.specs.Verdict.{Verdict, gives, told, Tells}
-use Rattle.value_rules.specs.Calls.{given, given_next}
+use Rattle.value_rules.specs.Calls.{given}
+use Rattle.value_rules.specs.walks.Steps.{given_next}
 use Rattle.value_rules.proofs.Given.{given_none, given_more, behind}
 use Rattle.value_rules.proofs.call.given.Goals as goal
 

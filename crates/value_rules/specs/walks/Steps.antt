@@ -1,0 +1,25 @@
+-- Steps of the code. No definition of meaning needs them.
+use Rattle.std.specs.Prelude.{ℕ, List, [], ◌∷◌, ◌++◌, if◌then◌else◌}
+use Rattle.elan_types.specs.declared.core_phrase.Action.{Action}
+use Rattle.elan_types.specs.declared.core_phrase.Action.TheVariants as action
+use Rattle.elan_types.specs.declared.core_phrase.Parameter.{Parameter}
+use Rattle.elan_types.specs.declared.core_phrase.Actual.{Actual}
+use Rattle.elan_types.specs.declared.core_phrase.Exit.{Exit}
+use Rattle.elan_types.specs.declared.why.Why.TheVariants.{WrongType}
+use Rattle.elan_scope.specs.declared.delivery.Delivery.{Delivery}
+use Rattle.elan_meant.specs.declared.meant.Meant.{Meant}
+use Rattle.elan_meant.specs.declared.meant.Meant.TheVariants.{Left}
+use Rattle.elan_meant.specs.Parts.{value_of, type_in}
+use Rattle.elan_meant.specs.Verdict.{Verdict, gives, breaks, ◌>>=◌}
+use Rattle.value_rules.specs.Calls.{given_as, leave_with, agrees}
+
+-- what was given, and behind it what the first of these parameters is given, if there is one
+abbrev pub given_next : ℕ → List Parameter → Meant → Verdict (List Actual) → Verdict (List Actual)
+given_next at [] m r = r
+given_next at (p ∷ ps) m r = r >>= (λ as'. given_as at p.access p.of m >>= (λ a. gives (as' ++ a ∷ [])))
+
+abbrev pub leave_of : Exit → Meant → Action
+leave_of e m = leave_with e (type_in m) (value_of m)
+
+abbrev pub leave_as : ℕ → Exit → Delivery → Meant → Verdict Meant
+leave_as at e d m = if agrees d m then gives (Left (action.Unit (leave_of e m ∷ []) ∷ [])) else breaks (at, WrongType)
