@@ -17,6 +17,7 @@ use Rattle.elan_scope.specs.Phrase.{Form, asking, plain, Phrase, phrase, Parts, 
 use Rattle.elan_scope.specs.Ruled.{Ruled, gives, breaks, hangs, ◌>>=◌, before}
 use Rattle.call_graph.specs.Chains.{leads}
 use Rattle.elan_meant.specs.declared.meant.Meant.{Meant}
+use Rattle.elan_meant.specs.Parts.{nth}
 use Rattle.elan_meant.specs.Verdict as verdict
 use Rattle.elan_meant.specs.Verdict.{told}
 use Rattle.value_rules.specs.Calls as r

@@ -1,9 +1,1 @@
 pub mod Words
-pub mod Screen
-pub mod Refusal
-pub mod Program
-pub mod Meaning
-pub mod Line
-pub mod Streams
-pub mod Status
-pub mod Answer

@@ -2,16 +2,7 @@
 #![tactic(auto)]
 
 mod command;
-mod law;
-mod line;
-mod meaning;
-mod program;
-mod refusal;
-mod screen;
-mod status;
-mod stream;
 mod top;
 
-pub use law::one_output;
-pub use status::Status;
+pub use line_command::{Status, one_output};
 pub use top::eumel;

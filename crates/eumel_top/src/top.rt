@@ -3,13 +3,12 @@ ghost use Rattle.std.specs.Prelude.{◌≡◌, ◌≤◌, ◌↔◌, map};
 ghost use Rattle.std.specs.String.{string_bytes};
 ghost use Rattle.eu_base.specs.Faults.{Rose};
 ghost use Rattle.eumel_top.specs.Words.{Names, NamesNone};
-ghost use Rattle.eumel_top.specs.Answer.{LineAnswers, HasCause, LineSettles};
+ghost use Rattle.line_command.specs.Answer.{LineAnswers, HasCause, LineSettles};
 ghost use Rattle.eumel_top.specs.declared.command.Command.{Command};
 
 use crate::command::{Command, command_of};
-use crate::line::run_line;
-use crate::status::Status;
 use edge::{Disk, Sink, Source};
+use line_command::{Status, run_line};
 use std::alloc::Global;
 
 /// Carries out the command that the words name, over the disk, the source and the sink that are handed in.

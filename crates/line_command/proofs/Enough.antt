@@ -1,0 +1,128 @@
+-- A program has as many evaluations as it needs, since each of its requests costs a mark.
+use Rattle.std.proofs.Common.{◌≡◌, ℕ, zero, suc, ◌+◌, ◌≤◌, Bool, true, false, cond, List, [], ◌∷◌, ◌++◌, map, length, Some, refl, ap, ◌∙◌, subst, length-append}
+use Rattle.std.proofs.Common.{arith}
+use Rattle.eu_base.specs.declared.stop.Stop.TheVariants.{CellRoom}
+use Rattle.eu_base.specs.declared.request.Request.{Request}
+use Rattle.eu_base.specs.declared.request.Reply.{Reply}
+use Rattle.eu_base.specs.declared.request.Reply.TheVariants.{Done}
+use Rattle.eu_base.specs.Room.{cells_fit}
+use Rattle.eu_base.specs.Cells.{Cells}
+use Rattle.code_form.specs.declared.halt.Halt.TheVariants as halts
+use Rattle.code_form.specs.declared.waits.Waits.{Waits}
+use Rattle.code_form.specs.declared.waits.Waits.TheVariants.{Nothing, Asked, Refused}
+use Rattle.code_form.specs.Program.{Program}
+use Rattle.code_form.specs.Machine.{Position, Control, After, To, Stops, Unsaid, Move, Goes, Spends, Halts, Ends, Unknown, Stuck, Scene, Rest, step, Stage}
+use Rattle.code_form.specs.Machine.{On, Over, Lost}
+use Rattle.code_form.specs.Machine.{after_stage, mark_stage, reply_stage, stage, stage_at, advance, carry_on, exec, start}
+use Rattle.code_form.specs.Machine as machine
+use Rattle.place_gen.specs.Correct.{Shows, Comes, scene_of}
+use Rattle.code_gen.specs.Program.{program_of}
+use Rattle.code_gen.proofs.Whole.{behaves}
+use Rattle.elan_tree.specs.declared.tree.Tree.{Tree}
+use Rattle.elan_types.specs.declared.env.Env.{Env}
+use Rattle.elan_types.specs.declared.core_phrase.Core.{Core}
+use Rattle.elan_types.specs.Typing.{IsWellTyped, kind_in}
+use Rattle.elan_types.specs.Command.{Ending, Ended, Stopped, OutOfMarks, Asks, evaluate, at_start}
+use Rattle.elan_check.specs.Text as tree
+use Rattle.line_command.proofs.Begun.{begun, has_begun}
+use Rattle.line_command.specs.Meaning.{alone, Means, means}
+use Rattle.line_command.specs.Program.{line_marks, AsksOnly, Suffices}
+
+-- a request that waits for its reply has cost a mark
+abbrev owed : Waits → ℕ
+owed Nothing = 0
+owed (Asked q) = 1
+owed (Refused stop) = 0
+
+-- from so many marks and replies on, each reply that is taken costs a mark, and so does a request that has none
+abbrev Pays : (marks replies : ℕ) → Stage → Type 0
+Pays n k (On c s) = s.marks + owed c.waits + k ≤ n + length s.replies
+Pays n k (Over r) = (q : Request) → r.how ≡ halts.Asks q → k + 1 ≤ n
+Pays n k Lost = Unit {0}
+
+after_pays : (n : ℕ) (a : After) (c : Position) (s : Scene) → Pays (suc n) (length s.replies) (after_stage a c (record s { marks = n }))
+after_pays n (To c' cells) c s = omega arith
+after_pays n (machine.Asks c' q cells) c s = omega arith
+after_pays n (Stops stop) c s = λ q is. absurd (cc is)
+after_pays n Unsaid c s = tt
+
+move_pays : (m : Move) (c : Position) (s : Scene) → Pays (s.marks + 0) (length s.replies) (stage m c s)
+move_pays (Goes c' cells) c s = omega arith
+move_pays (Spends a) c s = by s.marks
+  where
+    by : (n : ℕ) → Pays (n + 0) (length s.replies) (mark_stage n a c s)
+    by zero = λ q is. absurd (cc is)
+    by (suc n) =
+        let e : suc n ≡ suc n + 0 = omega arith in
+        subst (λ k. Pays k (length s.replies) (after_stage a c (record s { marks = n }))) e (after_pays n a c s)
+move_pays (Halts stop) c s = λ q is. absurd (cc is)
+move_pays Ends c s = λ q is. absurd (cc is)
+move_pays Unknown c s = tt
+move_pays Stuck c s = tt
+
+stage_pays : (p : Program) (w : Waits) (c : Position) (s : Scene) → Pays (s.marks + owed w) (length s.replies) (stage_at w p c s)
+stage_pays p Nothing c s = move_pays (step p c s.cells) c s
+stage_pays p (Asked q) c s = by s.replies
+  where
+    by : (rs : List Reply) → Pays (s.marks + 1) (length rs) (reply_stage rs q c s)
+    by [] = λ q' same. omega arith
+    by (r ∷ rs) = omega arith
+stage_pays p (Refused stop) c s = λ q is. absurd (cc is)
+
+-- a run that rests at a request has spent more marks than it took replies
+asks_pay : (p : Program) (n : ℕ) (c : Control) (s : Scene) (r : Rest) (q : Request) → exec p n c s ≡ Some r → r.how ≡ halts.Asks q
+    → length s.replies + 1 ≤ s.marks + owed c.waits
+asks_pay p zero c s r q e is = absurd (cc e)
+asks_pay p (suc n) c s r q e is = by (advance p c s) (λ c s e. asks_pay p n c s r q e is) (stage_pays p c.waits c.position s) e
+  where
+    by : (st : Stage) → ((c : Control) (s : Scene) → exec p n c s ≡ Some r → length s.replies + 1 ≤ s.marks + owed c.waits)
+        → Pays (s.marks + owed c.waits) (length s.replies) st → carry_on st (exec p n) ≡ Some r → length s.replies + 1 ≤ s.marks + owed c.waits
+    by (On c' s') ih f e = omega (arith, ih c' s' e, f)
+    by (Over x) ih f e = let same : x ≡ r = cc e in f q (ap (λ (y : Rest). y.how) same ∙ is)
+    by Lost ih f e = absurd (cc e)
+
+start_owes : (n : ℕ) → owed (start n).waits ≡ 0
+start_owes n = by (cells_fit n)
+  where
+    by : (t : Bool) → owed (cond t Nothing (Refused CellRoom)) ≡ 0
+    by true = refl
+    by false = refl
+
+module _ (core : Core) (typed : IsWellTyped core) (marks : ℕ) where
+  abbrev first : Cells
+  first = begun (map kind_in core.variables)
+
+  -- where its evaluation stands at a request, it has spent more marks than it got replies
+  fewer_replies : (replies : List Reply) → AsksOnly (evaluate core marks replies) (length replies + 1 ≤ marks)
+  fewer_replies replies = by (evaluate core marks replies) comes.shows
+    where
+      comes : Comes (program_of core) (start (length (program_of core).variables)) (scene_of (at_start core marks replies) first) (evaluate core marks replies)
+      comes = (behaves core typed).ends (at_start core marks replies) first (has_begun core)
+
+      by : (e : Ending) → Shows e comes.rest → AsksOnly e (length replies + 1 ≤ marks)
+      by (Ended w) h = tt
+      by (Stopped s w) h = tt
+      by (OutOfMarks w) h = tt
+      by (Asks q w) h =
+          let p = program_of core in
+          let paid = asks_pay p comes.steps (start (length p.variables)) (scene_of (at_start core marks replies) first) comes.rest q comes.comes h.how in
+          omega (arith, paid, start_owes (length p.variables))
+
+  suffices : (n : ℕ) (replies : List Reply) → marks + 1 ≤ n + length replies → length replies ≤ marks → Suffices n core marks replies
+  suffices zero replies all few = absurd (omega (arith, all, few))
+  suffices (suc n) replies all few = by (evaluate core marks replies) (fewer_replies replies) (λ more few. suffices n (replies ++ Done ∷ []) more few)
+    where
+      by : (e : Ending) → AsksOnly e (length replies + 1 ≤ marks)
+          → (marks + 1 ≤ n + length (replies ++ Done ∷ []) → length (replies ++ Done ∷ []) ≤ marks → Suffices n core marks (replies ++ Done ∷ []))
+          → AsksOnly e (Suffices n core marks (replies ++ Done ∷ []))
+      by (Ended w) paid later = tt
+      by (Stopped s w) paid later = tt
+      by (OutOfMarks w) paid later = tt
+      by (Asks q w) paid later =
+          let longer : length (replies ++ Done ∷ []) ≡ length replies + 1 = length-append replies (Done ∷ []) in
+          later (omega (arith, all, longer)) (omega (arith, longer, paid))
+
+-- what a text means is well typed, and so has as many as it needs
+pub enough : ((env : Env) (t : Tree) (c : Core) → tree.Means env t c → IsWellTyped c) → (text : List ℕ) (core : Core) → Means text core
+    → Suffices (line_marks + 1) core line_marks []
+enough typed text core (means t has reads m) = suffices core (typed alone t core m) line_marks (line_marks + 1) [] (omega arith) (omega arith)

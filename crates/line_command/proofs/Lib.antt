@@ -1,0 +1,11 @@
+pub mod Causes
+pub mod Begun
+pub mod Passed
+pub mod Served
+pub mod Serving
+pub mod Refusing
+pub mod Lines
+pub mod Answering
+pub mod Unique
+pub mod Total
+pub mod Enough

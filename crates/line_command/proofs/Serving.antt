@@ -1,0 +1,189 @@
+-- A program that is served writes what its evaluation says.
+use Rattle.std.proofs.Common.{◌≡◌, Bool, true, false, cond, ℕ, zero, suc, ◌+◌, ◌-◌, ◌<◌, List, [], ◌∷◌, ◌++◌, Option, Some, None, refl, sym, ap, ◌∙◌}
+use Rattle.std.proofs.Common.{subst, append_assoc, append-nil, length, length-append, arith}
+use Rattle.eu_base.specs.declared.stop.Stop.{Stop}
+use Rattle.eu_base.specs.declared.stop.Stop.TheVariants.{CellRoom, LineMarks}
+use Rattle.eu_base.specs.declared.request.Request.{Request}
+use Rattle.eu_base.specs.declared.request.Request.TheVariants.{Out}
+use Rattle.eu_base.specs.declared.request.Reply.{Reply}
+use Rattle.eu_base.specs.declared.request.Reply.TheVariants.{Done}
+use Rattle.eu_base.specs.Cells.{Cells}
+use Rattle.eu_base.specs.Room.{cells_fit}
+use Rattle.code_form.specs.declared.halt.Halt.{Halt}
+use Rattle.code_form.specs.declared.halt.Halt.TheVariants as halts
+use Rattle.code_form.specs.Program.{Program}
+use Rattle.code_form.specs.Machine.{Position, Control, asking, Rest, start, answered}
+use Rattle.code_form.specs.declared.waits.Waits.{Waits}
+use Rattle.code_form.specs.declared.waits.Waits.TheVariants.{Nothing, Asked, Refused}
+use Rattle.code_form.specs.Runs.{Rests, IsPaused, asked}
+use Rattle.place_gen.specs.Correct.{HasVariables, Shows, Comes}
+use Rattle.place_gen.specs.Correct as place
+use Rattle.code_gen.specs.Correct.{Behaves}
+use Rattle.zero_steps.specs.Stepping.{scene_of}
+use Rattle.zero_machine.specs.Running.{RestsSo}
+use Rattle.elan_types.specs.declared.core_phrase.Core.{Core}
+use Rattle.elan_types.specs.Eval.{World}
+use Rattle.elan_types.specs.Command.{Ending, Ended, Stopped, OutOfMarks, Asks, evaluate, at_start, blank_store}
+use Rattle.line_command.specs.Screen as screen
+use Rattle.line_command.specs.Screen.{Screen, Written, blank, put, final}
+use Rattle.line_command.specs.Program as text
+use Rattle.line_command.specs.Program.{line_marks, Output, ends, output_at, output_in, output_of}
+use Rattle.line_command.proofs.Passed.{longer, passed}
+use Rattle.line_command.proofs.Served.{behind, IsServed}
+
+-- how a run came to rest tells how the evaluation stands
+shows_ended : (e : Ending) (r : Rest) → Shows e r → r.how ≡ halts.Ended → (w : World) × (e ≡ Ended w)
+shows_ended (Ended w) r h how = (w, refl)
+shows_ended (Stopped s w) r h how = absurd (cc (h.how, how))
+shows_ended (OutOfMarks w) r h how = absurd (cc (h.how, how))
+shows_ended (Asks q w) r h how = absurd (cc (h.how, how))
+
+shows_marked : (e : Ending) (r : Rest) → Shows e r → r.how ≡ halts.Marked → (w : World) × (e ≡ OutOfMarks w)
+shows_marked (Ended w) r h how = absurd (cc (h.how, how))
+shows_marked (Stopped s w) r h how = absurd (cc (h.how, how))
+shows_marked (OutOfMarks w) r h how = (w, refl)
+shows_marked (Asks q w) r h how = absurd (cc (h.how, how))
+
+shows_stopped : (s : Stop) (e : Ending) (r : Rest) → Shows e r → r.how ≡ halts.Stopped s → (w : World) × (e ≡ Stopped s w)
+shows_stopped s (Ended w) r h how = absurd (cc (h.how, how))
+shows_stopped s (Stopped s' w) r h how = let same : s' ≡ s = cc (h.how, how) in (w, ap (λ t. Stopped t w) same)
+shows_stopped s (OutOfMarks w) r h how = absurd (cc (h.how, how))
+shows_stopped s (Asks q w) r h how = absurd (cc (h.how, how))
+
+shows_asks : (q : Request) (e : Ending) (r : Rest) → Shows e r → r.how ≡ halts.Asks q → (w : World) × (e ≡ Asks q w)
+shows_asks q (Ended w) r h how = absurd (cc (h.how, how))
+shows_asks q (Stopped s w) r h how = absurd (cc (h.how, how))
+shows_asks q (OutOfMarks w) r h how = absurd (cc (h.how, how))
+shows_asks q (Asks q' w) r h how = let same : q' ≡ q = cc (h.how, how) in (w, ap (λ t. Asks t w) same)
+
+-- one after another
+put_all-append : (s : Screen) (ws more : List Written) → screen.put_all s (ws ++ more) ≡ screen.put_all (screen.put_all s ws) more
+put_all-append s [] more = refl
+put_all-append s (w ∷ ws) more = put_all-append (put s w) ws more
+
+-- a command at its start waits for no reply
+pub start_free : (n : ℕ) → asked (start n).waits ≡ None
+start_free n = by (cells_fit n)
+  where
+    by : (t : Bool) → asked (cond t Nothing (Refused CellRoom)) ≡ None
+    by true = refl
+    by false = refl
+
+-- at the start nothing was answered
+pub served_first : (core : Core) (p : Program) (first : Cells) (control : Control) → control ≡ start (length p.variables)
+    → IsServed core p first control first line_marks blank
+served_first core p first control is = record {
+  replies = [];
+  written = [];
+  on = λ more last h. subst (λ (c : Control). Rests p c (record { cells = first; marks = line_marks; replies = more }) last) (sym is) h;
+  shown = refl;
+  paid = omega arith;
+  so_far = refl;
+}
+
+-- the reply that is given is taken
+took : (p : Program) (w : Waits) (c : Position) (q : Request) (cells : Cells) (marks : ℕ) (more : List Reply) (last : Rest) → w ≡ Asked q
+    → Rests p (record { position = c; waits = w }) (record { cells = cells; marks = marks; replies = Done ∷ more }) last
+    → Rests p (answered q Done c) (record { cells = cells; marks = marks; replies = more }) last
+took p w c q cells marks more last is h =
+    by (subst (λ (w : Waits). Rests p (record { position = c; waits = w }) (record { cells = cells; marks = marks; replies = Done ∷ more }) last) is h)
+  where
+    by : Rests p (asking c q) (record { cells = cells; marks = marks; replies = Done ∷ more }) last
+        → Rests p (answered q Done c) (record { cells = cells; marks = marks; replies = more }) last
+    by (zero, e) = absurd (cc e)
+    by (suc n, e) = (n, e)
+
+module _ (core : Core) (p : Program) (first : Cells) (control : Control) (cells : Cells) (marks : ℕ) (s : Screen)
+    (served : IsServed core p first control cells marks s) (b : Behaves core p) (has : HasVariables p.variables (blank_store core) first) where
+  -- the evaluation with the replies so far, and the rest to which the run comes next
+  pub comes : Comes p (start (length p.variables)) (place.scene_of (at_start core line_marks served.replies) first) (evaluate core line_marks served.replies)
+  comes = b.ends (at_start core line_marks served.replies) first has
+
+  abbrev pub next : Rest
+  next = comes.rest
+
+  pub rests : Rests p control (scene_of cells marks) next
+  rests =
+      served.on [] next
+      (subst (λ rs. Rests p (start (length p.variables)) (record { cells = first; marks = line_marks; replies = rs }) next) (sym (append-nil served.replies))
+      (comes.steps, comes.comes))
+
+  module _ (holds : Cells → Type 0) (h : Halt) (control' : Control) (marks' : ℕ) (so : RestsSo holds h control' marks' next) where
+    how : next.how ≡ h
+    how = ap (λ (r : Rest). r.how) so.1
+
+    -- what is left to write where the evaluation stands so; an evaluation is always left
+    whole_output : (e : Ending) (stop : Option Stop) → evaluate core line_marks served.replies ≡ e
+        → ((more : Output) → output_at e more ≡ ends stop) → output_of core ≡ record { written = served.written; stop = stop }
+    whole_output e stop is ended = by (line_marks + 1 - length served.replies) refl
+      where
+        by : (n : ℕ) → line_marks + 1 - length served.replies ≡ n → output_of core ≡ record { written = served.written; stop = stop }
+        by zero all = absurd (omega (arith, all, served.paid))
+        by (suc n) all =
+            let more = output_in n core line_marks (served.replies ++ Done ∷ []) in
+            let left : output_at (evaluate core line_marks served.replies) more ≡ ends stop = ap (λ x. output_at x more) is ∙ ended more in
+            served.so_far ∙ ap (λ k. behind served.written (output_in k core line_marks served.replies)) all
+            ∙ ap (behind served.written) left
+            ∙ ap (λ ws. record { written = ws; stop = stop }) (append-nil served.written)
+
+    -- a rest that ends the program
+    whole : (e : Ending) (stop : Option Stop) (out : List ℕ) → evaluate core line_marks served.replies ≡ e
+        → ((more : Output) → output_at e more ≡ ends stop) → out ≡ final s stop → text.Shows core out
+    whole e stop out is ended out_is =
+        out_is ∙ ap (λ x. final x stop) served.shown
+        ∙ ap (λ (o : Output). final (screen.put_all blank o.written) o.stop) (sym (whole_output e stop is ended))
+
+    pub served_ended : h ≡ halts.Ended → (out : List ℕ) → out ≡ final s None → text.Shows core out
+    served_ended is out out_is =
+        let e = shows_ended (evaluate core line_marks served.replies) next comes.shows (how ∙ is) in
+        whole (Ended e.0) None out e.1 (λ more. refl) out_is
+
+    pub served_stopped : (stop : Stop) → h ≡ halts.Stopped stop → (out : List ℕ) → out ≡ final s (Some stop) → text.Shows core out
+    served_stopped stop is out out_is =
+        let e = shows_stopped stop (evaluate core line_marks served.replies) next comes.shows (how ∙ is) in
+        whole (Stopped stop e.0) (Some stop) out e.1 (λ more. refl) out_is
+
+    pub served_marked : h ≡ halts.Marked → (out : List ℕ) → out ≡ final s (Some LineMarks) → text.Shows core out
+    served_marked is out out_is =
+        let e = shows_marked (evaluate core line_marks served.replies) next comes.shows (how ∙ is) in
+        whole (OutOfMarks e.0) (Some LineMarks) out e.1 (λ more. refl) out_is
+
+    -- and one at a request, which is answered
+    pub served_on : (q : Request) (s' : Screen) (control'' : Control) → h ≡ halts.Asks q → s' ≡ screen.with_request s q → control'.waits ≡ Asked q
+        → control'' ≡ answered q Done control'.position → marks' < marks → IsServed core p first control'' next.scene.cells marks' s'
+    served_on (Out bytes line_ends) s' control'' is put_is waits answer less =
+        let longer_by : length (served.replies ++ Done ∷ []) ≡ length served.replies + 1 = length-append served.replies (Done ∷ []) in
+        record {
+          replies = served.replies ++ Done ∷ [];
+          written = served.written ++ w ∷ [];
+          on = λ more last h.
+              let whole : Rests p (start (length p.variables)) (record { cells = first; marks = line_marks; replies = served.replies ++ Done ∷ more }) last =
+              subst (λ rs. Rests p (start (length p.variables)) (record { cells = first; marks = line_marks; replies = rs }) last)
+              (append_assoc served.replies (Done ∷ []) more) h in
+              let there : Rests p next.control (longer (Done ∷ more) next.scene) last =
+              passed p (Done ∷ more) rests.0 control (scene_of cells marks) next last paused rests.1 (served.on (Done ∷ more) last whole) in
+              subst (λ (c : Control). Rests p c (record { cells = next.scene.cells; marks = marks'; replies = more }) last) (sym answer)
+              (took p control'.waits control'.position q next.scene.cells marks' more last waits
+              (subst (λ (r : Rest). Rests p r.control
+              (longer (Done ∷ more) (record { cells = next.scene.cells; marks = r.scene.marks; replies = r.scene.replies }))
+              last) so.1 there));
+          shown = put_is ∙ (ap (λ x. put x w) served.shown ∙ sym (put_all-append blank served.written (w ∷ [])));
+          paid = omega (arith, longer_by, served.paid, less);
+          so_far =
+              let e = shows_asks q (evaluate core line_marks served.replies) next comes.shows (how ∙ is) in
+              let n : ℕ = line_marks + 1 - length (served.replies ++ Done ∷ []) in
+              let more = output_in n core line_marks (served.replies ++ Done ∷ []) in
+              let one_more : line_marks + 1 - length served.replies ≡ suc n = omega (arith, longer_by, served.paid, less) in
+              served.so_far ∙ ap (λ k. behind served.written (output_in k core line_marks served.replies)) one_more
+              ∙ ap (λ x. behind served.written (output_at x more)) e.1
+              ∙ ap (λ ws. record { written = ws; stop = more.stop }) (sym (append_assoc served.written (w ∷ []) more.written));
+        }
+      where
+        q : Request
+        q = Out bytes line_ends
+
+        w : Written
+        w = record { bytes = bytes; ends = line_ends }
+
+        paused : IsPaused next.how
+        paused = subst (λ h. IsPaused h) (sym (how ∙ is)) tt

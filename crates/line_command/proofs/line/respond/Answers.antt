@@ -1,0 +1,17 @@
+use Rattle.space_memory.proofs.Fresh.{new_stands}
+use Rattle.line_command.specs.Meaning.{runs}
+use Rattle.line_command.proofs.Refusing.{refused_line}
+use Rattle.line_command.proofs.line.respond.Goals as goal
+
+pub over-lent-requires : goal.over-lent-requires
+over-lent-requires c = rw (c.new-pool.ensures, c.new-memory.ensures.empty) (record { agree = new_stands })
+
+pub returns-in-Ok-shown : goal.returns-in-Ok-shown
+returns-in-Ok-shown c = runs c.in-Ok.ensures.meaning c.in-Ok-shown.ensures.shows
+
+pub returns-in-Err-Refused : goal.returns-in-Err-Refused
+returns-in-Err-Refused c =
+    refused_line c.args.text.now c.in-Err-Refused.refusal c.line.result (rw c.in-Err-Refused.field-0-is at c.in-Err-Refused.ensures.refused) c.line.ensures
+
+pub shown-requires-clause-nothing : goal.shown-requires-clause-nothing
+shown-requires-clause-nothing c = rw c.over-lent.ensures.memory_same (c.new-memory.ensures.nothing c.over-lent.result.pool.now)

@@ -1,0 +1,8 @@
+pub mod Screen
+pub mod Refusal
+pub mod Program
+pub mod Meaning
+pub mod Line
+pub mod Streams
+pub mod Status
+pub mod Answer

@@ -1,0 +1,62 @@
+-- What a program writes.
+use Rattle.std.specs.Prelude.{◌≡◌, ℕ, zero, suc, ◌+◌, List, [], ◌∷◌, ◌++◌, Option, Some, None}
+use Rattle.eu_base.specs.declared.stop.Stop.{Stop}
+use Rattle.eu_base.specs.declared.stop.Stop.TheVariants.{LineMarks}
+use Rattle.eu_base.specs.declared.request.Request.{Request}
+use Rattle.eu_base.specs.declared.request.Request.TheVariants.{Out}
+use Rattle.eu_base.specs.declared.request.Reply.{Reply}
+use Rattle.eu_base.specs.declared.request.Reply.TheVariants.{Done}
+use Rattle.elan_types.specs.declared.core_phrase.Core.{Core}
+use Rattle.elan_types.specs.Command.{Ending, Ended, Stopped, OutOfMarks, Asks, evaluate}
+use Rattle.line_command.specs.Screen.{Written, blank, put_all, final}
+
+-- the marks that a line may spend
+abbrev pub line_marks : ℕ
+line_marks = 100000
+
+-- what a program writes, and the stop that it ends with, if it does
+pub record Output : Type 0 where
+  pub written : List Written
+  pub stop : Option Stop
+
+-- nothing more is written
+abbrev pub ends : Option Stop → Output
+ends stop = record { written = []; stop = stop }
+
+-- what a request asks to write, and then what is written after it
+abbrev pub writes_before : Request → Output → Output
+writes_before (Out bytes ends) after = record { written = record { bytes = bytes; ends = ends } ∷ after.written; stop = after.stop }
+
+-- what is written where the evaluation stands so; after a request, what is written once it is answered
+abbrev pub output_at : Ending → Output → Output
+output_at (Ended w) answered = ends None
+output_at (Stopped stop w) answered = ends (Some stop)
+output_at (OutOfMarks w) answered = ends (Some LineMarks)
+output_at (Asks request w) answered = writes_before request answered
+
+-- What a program writes after these replies, with so many marks from its start on, in at most so many evaluations. At a request the
+-- program is evaluated again, with one reply more. Where no evaluation is left it is as if its marks were spent.
+abbrev pub output_in : (evaluations : ℕ) → Core → (marks : ℕ) → List Reply → Output
+output_in zero core marks replies = ends (Some LineMarks)
+output_in (suc n) core marks replies = output_at (evaluate core marks replies) (output_in n core marks (replies ++ Done ∷ []))
+
+-- a request is followed by more, and nothing else is
+abbrev pub AsksOnly : Ending → (later : Type 0) → Type 0
+AsksOnly (Ended w) later = Unit {0}
+AsksOnly (Stopped stop w) later = Unit {0}
+AsksOnly (OutOfMarks w) later = Unit {0}
+AsksOnly (Asks request w) later = later
+
+-- so many evaluations are enough to tell all that a program writes: the last of them stands at no request
+abbrev pub Suffices : (evaluations : ℕ) → Core → (marks : ℕ) → List Reply → Type 0
+Suffices zero core marks replies = ⊥
+Suffices (suc n) core marks replies = AsksOnly (evaluate core marks replies) (Suffices n core marks (replies ++ Done ∷ []))
+
+-- what it writes from its start on, with the marks of a line. One evaluation more than there are marks is enough for each program
+-- that is accepted, since each request costs a mark
+abbrev pub output_of : Core → Output
+output_of core = output_in (line_marks + 1) core line_marks []
+
+-- what it shows
+abbrev pub Shows : Core → List ℕ → Type 0
+Shows core text = text ≡ final (put_all blank (output_of core).written) (output_of core).stop

@@ -1,0 +1,27 @@
+//! A law of the definitions: each input has one output.
+ghost use Rattle.std.specs.Prelude.{◌≡◌, ◌+◌, ℕ, List, []};
+ghost use Rattle.elan_types.specs.declared.core_phrase.Core.{Core};
+ghost use Rattle.line_command.specs.Line.{LineWrites};
+ghost use Rattle.line_command.specs.Meaning.{Means};
+ghost use Rattle.line_command.specs.Program.{line_marks, Suffices};
+
+use elan_check::{
+    each_text_has_one_answer, meant_is_not_refused, one_core, one_refusal,
+    what_a_text_means_is_well_typed,
+};
+use elan_parser::one_tree;
+
+/// For each input there is one thing that the command `line` writes, and no other. What a program writes is told by as
+/// many evaluations as it has marks, and one more: none that is accepted needs another.
+pub fn one_output()
+    ensures some { (bytes : List ℕ) → (out : List ℕ) × LineWrites bytes out }
+    ensures one { (bytes a b : List ℕ) → LineWrites bytes a → LineWrites bytes b → a ≡ b }
+    ensures enough { (text : List ℕ) (core : Core) → Means text core → Suffices (line_marks + 1) core line_marks [] }
+{
+    one_tree();
+    one_core();
+    one_refusal();
+    meant_is_not_refused();
+    each_text_has_one_answer();
+    what_a_text_means_is_well_typed();
+}

@@ -1,0 +1,15 @@
+//! The command `line`: one line of ELAN from a source, and what it writes to a sink.
+#![tactic(auto)]
+
+mod law;
+mod line;
+mod meaning;
+mod program;
+mod refusal;
+mod screen;
+mod status;
+mod stream;
+
+pub use law::one_output;
+pub use line::run_line;
+pub use status::Status;

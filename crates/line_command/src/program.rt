@@ -1,0 +1,66 @@
+//! Programs that run.
+ghost use Rattle.std.specs.Prelude.{◌≡◌, length, IfOk};
+ghost use Rattle.eu_base.specs.Cells.{Free, Cells, HasFaultCause};
+ghost use Rattle.code_form.specs.Machine.{start};
+ghost use Rattle.code_form.specs.Valid.{Fits};
+ghost use Rattle.place_gen.specs.Correct.{HasVariables};
+ghost use Rattle.code_gen.specs.Correct.{Behaves};
+ghost use Rattle.elan_types.specs.declared.core_phrase.Core.{Core};
+ghost use Rattle.elan_types.specs.Command.{blank_store};
+ghost use Rattle.elan_types.specs.Typing.{IsWellTyped};
+ghost use Rattle.line_command.specs.Program.{Shows};
+
+use crate::screen::Screen;
+use code_form::{Code, Halt};
+use code_gen::generate;
+use elan_types::Core;
+use eu_base::{Bytes, MemFault, Memory, Reply, Stop};
+use std::alloc::Global;
+use task_run::TaskRun;
+
+/// How many marks a line may spend.
+const MARKS: u32 = 100_000;
+
+/// What a program shows with the marks of a line, its variables in this memory, of which nothing need be known.
+pub(crate) fn shown<M: Memory>(
+    alloc: Global,
+    core: &Core,
+    memory: &mut M,
+) -> Result<Bytes, MemFault>
+    requires typed { IsWellTyped core.now }
+    requires nothing { M.holds memory.old (λ _. Free) }
+    ensures shows { IfOk result (Shows core.now) }
+    ensures cause { HasFaultCause (M.faults memory.old) (M.faults memory.new) result }
+{
+    let code = generate(alloc, core)?;
+    let mut command = TaskRun::start(alloc, &code, memory)?;
+    serve(alloc, &code, &mut command, memory)
+}
+
+/// Runs a command from its start, and puts on the screen what it asks for.
+fn serve<M: Memory>(
+    alloc: Global,
+    code: &Code,
+    command: &mut TaskRun,
+    memory: &mut M,
+) -> Result<Bytes, MemFault>
+    requires starts { command.old ≡ start (length code.now.variables) }
+    requires fits { Fits code.now command.old }
+    ensures shows { (core : Core) (first : Cells) → M.holds memory.old first → Behaves core code.now →
+        HasVariables code.now.variables (blank_store core) first → IfOk result (Shows core) }
+    ensures cause { HasFaultCause (M.faults memory.old) (M.faults memory.new) result }
+{
+    let mut marks = MARKS;
+    let mut screen = Screen::new(alloc);
+    loop {
+        match command.go(code, memory, &mut marks)? {
+            Halt::Ended => return Ok(screen.finish(alloc, None)?),
+            Halt::Stopped(stop) => return Ok(screen.finish(alloc, Some(stop))?),
+            Halt::Marked => return Ok(screen.finish(alloc, Some(Stop::LineMarks))?),
+            Halt::Asks(request) => {
+                screen.show(alloc, &request)?;
+                command.answer(code, memory, Reply::Done)?;
+            }
+        }
+    }
+}
