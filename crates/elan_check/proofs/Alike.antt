@@ -21,6 +21,7 @@ use Rattle.elan_meant.specs.Parts.{nth}
 use Rattle.elan_meant.specs.Verdict as verdict
 use Rattle.elan_meant.specs.Verdict.{told}
 use Rattle.value_rules.specs.Calls as r
+use Rattle.value_rules.specs.walks.Steps as walk
 use Rattle.elan_levels.specs.Called.{number_list}
 use Rattle.elan_rules.specs.Rules.{ruled}
 use Rattle.elan_rules.specs.Meaning.{judged, judged_all, phrases, phrases_of}
@@ -101,7 +102,7 @@ module _ (j k : Known) (z : Scope) (calls : j.calls ≡ k.calls) where
 
   leaving_alike : (at : ℕ) (o : Option (Exit × ℕ)) (m : Meant) → ((e : Exit × ℕ) → o ≡ Some e → Same e.1) → r.leaving j at o m ≡ r.leaving k at o m
   leaving_alike at None m h = refl
-  leaving_alike at (Some e) m h = ap (λ (d : Delivery). r.leave_as at e.0 d m) (h e refl)
+  leaving_alike at (Some e) m h = ap (λ (d : Delivery). walk.leave_as at e.0 d m) (h e refl)
 
   form_alike : LeftSame → (f : Form) (ps : Parts) (ms : List Meant) → Names z f → AllSame (called_by (phrase f ps)) → ruled j f ms ≡ ruled k f ms
   form_alike l (asking (form.named Expression at s x)) ps ms e h =

@@ -20,7 +20,7 @@ use Rattle.elan_scope.specs.declared.delivery.Delivery.{Delivery}
 use Rattle.elan_scope.specs.declared.delivery.Delivery.TheVariants.{Open, Nothing, Of}
 use Rattle.elan_scope.specs.declared.scope.Scope.{Scope}
 use Rattle.elan_scope.specs.Phrase as form
-use Rattle.elan_scope.specs.Phrase.{Phrase, phrase, Parts, none, part, all_of}
+use Rattle.elan_scope.specs.Phrase.{Phrase, all_of}
 use Rattle.elan_judge.specs.Shape as shape
 use Rattle.elan_tree.specs.declared.written_type.TypePhrase.{TypePhrase}
 use Rattle.elan_tree.specs.declared.written_type.TypePhrase.TheVariants as type
@@ -231,15 +231,15 @@ module _ (s : Scope) where
     other_in None h = ((tt, tt), tt)
     other_in (Some us) h = (units_in Open us h, tt)
 
-    abbrev MayCount : Option ((k : Counter) × K k) → Option shape.Counted
-    MayCount None = None
-    MayCount (Some k) = Some (shape.counter s k.0)
+    abbrev Counting : Option ((k : Counter) × K k) → List Phrase
+    Counting None = []
+    Counting (Some k) = let c = shape.counter s k.0 in c.0 ∷ c.1 ∷ c.2 ∷ []
 
     abbrev count_nodes : Option ((k : Counter) × K k) → List Node
     count_nodes None = []
     count_nodes (Some k) = nodes.in_counter k.0
 
-    count_in : (o : Option ((k : Counter) × K k)) → Fine (count_nodes o) → AllServed (all_of (shape.counter_parts (MayCount o)))
+    count_in : (o : Option ((k : Counter) × K k)) → Fine (count_nodes o) → AllServed (all_of (Counting o))
     count_in None h = tt
     count_in (Some k) h = k.1 h
 
@@ -307,13 +307,13 @@ module _ (s : Scope) where
 
     loop_in : (k : Option ((k : Counter) × K k)) (c : Option ((e : Expr) × E e)) (us : List ((u : Statement) × U u)) (v : Option ((e : Expr) × E e))
         → Fine (count_nodes k ++ may_nodes c ++ nodes.all (map nodes.in_unit (map fst us)) ++ may_nodes v)
-        → AllServed (all_of (shape.counter_parts (MayCount k) ++ May c ∷ shape.units Nothing (map (shape.unit s) (map fst us)) ∷ May v ∷ []))
+        → AllServed (all_of (Counting k ++ May c ∷ shape.units Nothing (map (shape.unit s) (map fst us)) ∷ May v ∷ []))
     loop_in k c us v h =
         let inside = nodes.all (map nodes.in_unit (map fst us)) in
         let q = split (count_nodes k ++ may_nodes c ++ inside) (may_nodes v) h in
         let r = split (count_nodes k ++ may_nodes c) inside q.0 in
         let l = split (count_nodes k) (may_nodes c) r.0 in
-        append_in (shape.counter_parts (MayCount k)) (May c ∷ shape.units Nothing (map (shape.unit s) (map fst us)) ∷ May v ∷ []) (count_in k l.0)
+        append_in (Counting k) (May c ∷ shape.units Nothing (map (shape.unit s) (map fst us)) ∷ May v ∷ []) (count_in k l.0)
         (may_in c l.1, (units_in Nothing us r.1, (may_in v q.1, tt)))
 
     unit_in_layer : (y : Below Unit-F) → Fine (nodes.unit_step (map-Unit _ _ _ _ _ _ _ _ _ _ _ _ _ _

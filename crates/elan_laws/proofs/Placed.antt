@@ -46,7 +46,9 @@ use Rattle.value_rules.specs.Values as v
 use Rattle.value_rules.specs.Calls as r
 use Rattle.unit_rules.specs.Units as u
 use Rattle.unit_rules.specs.Loops as o
+use Rattle.unit_rules.specs.walks.Steps as unit_walk
 use Rattle.choice_rules.specs.Choices as c
+use Rattle.choice_rules.specs.walks.Steps as choice_walk
 use Rattle.elan_rules.specs.Rules as all
 use Rattle.elan_rules.specs.Rules.{rule, asked}
 use Rattle.elan_laws.specs.Order.{Follows, own}
@@ -243,8 +245,8 @@ module _ (ns : List ℕ) where
     branched_placed : (g : c.Guard) (m : Meant) → Tells Placed (c.branched at g m)
     branched_placed g m =
         on_if Placed (delivers type.Bool g.0) (c.chosen_of at (p.value_of g.0) g.1 m) (breaks (at, why.WrongType))
-        (delivering_placed (c.if_actions (p.value_of g.0) g.1 m) (c.if_value (p.value_of g.0) g.1 m) (c.joined (c.delivery_in g.1) (c.delivery_in m)))
-        here
+        (delivering_placed (choice_walk.if_actions (p.value_of g.0) g.1 m) (choice_walk.if_value (p.value_of g.0) g.1 m)
+        (c.joined (c.delivery_in g.1) (c.delivery_in m))) here
 
     chain_placed : (gs : List c.Guard) (w : Verdict Meant) → Tells Placed w → Tells Placed (c.chain at gs w)
     chain_placed [] w h = h
@@ -255,7 +257,8 @@ module _ (ns : List ℕ) where
         let gs = p.pairs ms in
         let n = c.otherwise (p.odd ms) in
         on_if Placed (delivers type.Int m) (c.selected_by at (p.value_of m) gs n) (breaks (at, why.WrongType))
-        (delivering_placed (c.select_actions (p.value_of m) gs n) (c.select_value (p.value_of m) gs n) (c.agreed (Some (c.delivery_in n)) gs)) here
+        (delivering_placed (choice_walk.select_actions (p.value_of m) gs n) (choice_walk.select_value (p.value_of m) gs n)
+        (c.agreed (Some (c.delivery_in n)) gs)) here
 
     label_named_placed : (known : Bool) (q : Option Found) → Tells Placed (c.label_named at known q)
     label_named_placed known (Some f) = here
@@ -324,7 +327,7 @@ module _ (ns : List ℕ) where
   rule_placed (form.loop at) ms h g =
       let q = p.nth ms 0 in
       let z = p.nth ms 2 in
-      or_broken at h (o.conditions q z) (o.uncounted q (p.nth ms 1) z) why.WrongType tt
+      or_broken at h (o.conditions q z) (unit_walk.uncounted q (p.nth ms 1) z) why.WrongType tt
   rule_placed (form.count at w) ms h g =
       counted_placed at h w (p.nth ms 0) (p.nth ms 1) (p.nth ms 2) (p.nth ms 3) (p.nth ms 4) (p.nth ms 5) (nth_placed ms 0 g)
   rule_placed form.without_value ms h g = without_value_placed (p.nth ms 0) (nth_placed ms 0 g)

@@ -20,7 +20,7 @@ use Rattle.elan_scope.specs.declared.delivery.Delivery.{Delivery}
 use Rattle.elan_scope.specs.declared.delivery.Delivery.TheVariants.{Open, Nothing, Of}
 use Rattle.elan_scope.specs.declared.scope.Scope.{Scope}
 use Rattle.elan_scope.specs.Phrase as form
-use Rattle.elan_scope.specs.Phrase.{Phrase, phrase, Parts, none, part, all_of}
+use Rattle.elan_scope.specs.Phrase.{Phrase, all_of}
 use Rattle.elan_judge.specs.Shape as shape
 use Rattle.elan_laws.specs.Places as at
 use Rattle.elan_laws.specs.Order.{Follows, IsSame, in_phrase, in_parts}
@@ -250,23 +250,23 @@ module _ (s : Scope) where
   may_follow None = nothing
   may_follow (Some e) = whole (shape.expr s e.0) e.1
 
-  abbrev MayCount : Option ((k : Counter) × K k) → Option shape.Counted
-  MayCount None = None
-  MayCount (Some k) = Some (shape.counter s k.0)
+  abbrev Counting : Option ((k : Counter) × K k) → List Phrase
+  Counting None = []
+  Counting (Some k) = let c = shape.counter s k.0 in c.0 ∷ c.1 ∷ c.2 ∷ []
 
   abbrev count_places : Option ((k : Counter) × K k) → List ℕ
   count_places None = []
   count_places (Some k) = at.in_counter k.0
 
-  count_follows : (o : Option ((k : Counter) × K k)) → IsSame (places_of (shape.counter_parts (MayCount o))) (count_places o)
+  count_follows : (o : Option ((k : Counter) × K k)) → IsSame (places_of (Counting o)) (count_places o)
   count_follows None = nothing
   count_follows (Some k) = k.1
 
   loop_follows : (k : Option ((k : Counter) × K k)) (c : Option ((e : Expr) × E e)) (us : List ((u : Statement) × U u)) (v : Option ((e : Expr) × E e))
-      → IsSame (places_of (shape.counter_parts (MayCount k) ++ May c ∷ shape.units Nothing (map (shape.unit s) (map fst us)) ∷ May v ∷ []))
+      → IsSame (places_of (Counting k ++ May c ∷ shape.units Nothing (map (shape.unit s) (map fst us)) ∷ May v ∷ []))
       (count_places k ++ (may_places c ++ (at.all (map at.in_unit (map fst us)) ++ may_places v)))
   loop_follows k c us v =
-      parts_follow (shape.counter_parts (MayCount k)) (May c ∷ shape.units Nothing (map (shape.unit s) (map fst us)) ∷ May v ∷ []) (count_follows k)
+      parts_follow (Counting k) (May c ∷ shape.units Nothing (map (shape.unit s) (map fst us)) ∷ May v ∷ []) (count_follows k)
       (both (may_follow c) (both (units_follow Nothing us) (one_part (May v) (may_follow v))))
 
   abbrev UnitLayer : Below Unit-F → Type 0

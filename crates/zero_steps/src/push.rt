@@ -31,11 +31,12 @@ pub fn push_on(s: &mut State, operand: Operand) -> Result<Next, NoMemory>
     ensures { IfOk result (λ next. (cells : Cells) (marks : ℕ) → stage_of (halt_of next) (control_of s.new) (scene_of cells marks) ≡ stage
         (pushes (position_of s.old) operand s.old.stack.ops cells) (position_of s.old) (scene_of cells marks)) }
 {
-    if push(s, operand)? {
-        Ok(Next::On)
-    } else {
-        Ok(Next::OperandRoom)
+    if !s.stack.has_room(&operand) {
+        return Ok(Next::OperandRoom);
     }
+    s.stack.push(operand)?;
+    s.pc += 1;
+    Ok(Next::On)
 }
 
 /// Pushes what an operation gives; what stops it, or `None` where the machine goes on.
