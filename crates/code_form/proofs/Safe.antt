@@ -15,11 +15,11 @@ use Rattle.eu_base.specs.declared.value.Value.{Value}
 use Rattle.eu_base.specs.declared.value.Value.TheVariants as item
 use Rattle.eu_base.specs.declared.operation.Way.{Way}
 use Rattle.eu_base.specs.declared.stop.Stop.TheVariants.{CellRoom, TextRoom}
-use Rattle.eu_base.specs.Values.{kind_of, number_of, truth_of, blank_of, value_in}
+use Rattle.eu_base.specs.Values.{kind_of, number_of, truth_of, blank_of, number_in, truth_in}
 use Rattle.eu_base.specs.Room.{cells_fit, bytes_fit, texts_fit}
 use Rattle.eu_base.specs.Operations.{Given, operand_kinds, result_kind, result_of, changed, is_past, has_reached}
 use Rattle.eu_base.specs.Requests.{request_kinds, request_of}
-use Rattle.eu_base.specs.Cells.{Cell, Free, Word, Letters, Cells, held_of, IsCell, run_cell, place_in, written, cell_blocks, blocks_in, without}
+use Rattle.eu_base.specs.Cells.{Cell, Free, Word, Letters, Cells, held_of, IsCell, run_cell, place_in, written, cell_blocks, blocks_in, freed}
 use Rattle.code_form.specs.declared.operand.Operand.{Operand}
 use Rattle.code_form.specs.declared.operand.Operand.TheVariants.{Value as Of, Place as At}
 use Rattle.code_form.specs.declared.operand.OperandKind.{OperandKind}
@@ -37,7 +37,7 @@ use Rattle.code_form.specs.declared.code.Layout.TheVariants as layouts
 use Rattle.code_form.specs.Program.{Program, line_of, instr_of, in_body, deeper, owner, owner_in, owner_at, layout_of, cells_of, cells_in, cells_at}
 use Rattle.code_form.specs.Program.{frame_cells}
 use Rattle.code_form.specs.Machine.{Frame, Position, free, To, Asks, Stops, Unsaid, Move, Goes, Spends, operand_bytes, bytes_on, bytes_of, base_of, at}
-use Rattle.code_form.specs.Machine.{using, goes, pushes, on_value, on_place, on_values, on_operands, on_result, or_halt, on_word, is_free, are_free}
+use Rattle.code_form.specs.Machine.{using, goes, pushes, on_value, on_place, on_values, on_operands, on_result, or_halt, on_word, on_cell, is_free, are_free}
 use Rattle.code_form.specs.Machine.{limit_cell, held_of_operand, frame_contents, link_contents, written_from, enters, calls_to, call_move, refer_move}
 use Rattle.code_form.specs.Machine.{takes, content_blocks, is_framed, Unknown, goes, Halts, back_into, back_to, out_to, limit_to, instruction, step}
 use Rattle.code_form.specs.Valid.{Next, pushed_kinds, pushed_operands, with_result, HasResult, IsRefinement, IsCalled, IsReferred, IsFine, IsValid, FitsKind}
@@ -255,14 +255,17 @@ module _ (p : Program) (valid : IsValid p) (pc : ℕ) (ops : List Operand) (used
     local_cell : (x : ℕ) (k : OperandKind) → slice_get (frame_cells p m.body) x ≡ Some k → IsCell (run_cell (base_of frames + x))
     local_cell x k e = omega (arith, slice_get_within (frame_cells p m.body) x k e, frame_below p valid frames m.body floor made, used_is, within)
 
-    read_kind : (k : Kind) (n : ℕ) → kind_of (value_in k n) ≡ k
-    read_kind kinds.Int n = refl
-    read_kind kinds.Truth n = refl
-
     word_safe : (x : Cell) (f : ℕ → Move) → ((n : ℕ) → Safe (f n)) → Safe (on_word x f)
     word_safe Free f h = tt
     word_safe (Word n) f h = h n
     word_safe (Letters t) f h = tt
+
+    cell_safe : (k : Kind) (x : Cell) (f : Value → Move) → ((v : Value) → kind_of v ≡ k → Safe (f v)) → Safe (on_cell k x f)
+    cell_safe kinds.Int x f h = word_safe x (λ n. f (item.Int (number_in n))) (λ n. h (item.Int (number_in n)) refl)
+    cell_safe kinds.Truth x f h = word_safe x (λ n. f (item.Truth (truth_in n))) (λ n. h (item.Truth (truth_in n)) refl)
+    cell_safe kinds.Text Free f h = tt
+    cell_safe kinds.Text (Word n) f h = tt
+    cell_safe kinds.Text (Letters t) f h = h (item.Text t) refl
 
     -- more and fewer limits
     limit_safe : (way : Way) (a : ℕ) (v : Value) (x : Addr) (r : List Operand) (ks : List OperandKind) → Next p.lines (pc + 1) ks (deeper m)
@@ -271,7 +274,7 @@ module _ (p : Program) (valid : IsValid p) (pc : ℕ) (ops : List Operand) (used
         cond_safe (cells_fit (used + 1)) _ _ (λ e.
         cond_safe (is_free (cells (run_cell used))) _ _ (λ _.
         word_safe (cells x) _ (λ n.
-        let t = is_past way (number_of v) (number_of (value_in kinds.Int n)) in
+        let t = is_past way (number_of v) (number_in n) in
         record {
           kinds = ks;
           spot = deeper m;
@@ -407,7 +410,7 @@ module _ (p : Program) (valid : IsValid p) (pc : ℕ) (ops : List Operand) (used
     into_safe f fs body floor' k os h le bytes is fits room' =
         let made' = h.1.1.0 in
         cond_safe (is_framed (slice_get p.bodies f.body) f.used used cells)
-        (Goes (record { pc = f.back; ops = os ++ f.ops; used = f.used; frames = fs }) (without f.used used cells)) Unknown (λ _. record {
+        (Goes (record { pc = f.back; ops = os ++ f.ops; used = f.used; frames = fs }) (freed f.used used cells)) Unknown (λ _. record {
           kinds = with_result k made'.rest;
           spot = h.0;
           floor = h.1.0;
@@ -467,7 +470,7 @@ module _ (p : Program) (valid : IsValid p) (pc : ℕ) (ops : List Operand) (used
         push_safe (At (place_in n)) (AtKind f.0) ops ks small f.2 k.0)
     safe (Load kind) ks line f k =
         one_place ops kind f.0 _ (subst (Has ops) f.1 k)
-        (λ a r g. word_safe (cells a) _ (λ n. push_safe (Of (value_in kind n)) (OfKind kind) r f.0 (read_kind kind n) f.2 g.0))
+        (λ a r g. cell_safe kind (cells a) _ (λ v is. push_safe (Of v) (OfKind kind) r f.0 is f.2 g.0))
     safe (Store kind) ks line f k = value_place ops kind kind f.0 _ (subst (Has ops) f.1 k) (λ v a r g.
         cond_safe (takes (held_of v) (cells a)) _ _ (λ _.
         let now' = written cells a (held_of v) in
@@ -480,7 +483,7 @@ module _ (p : Program) (valid : IsValid p) (pc : ℕ) (ops : List Operand) (used
     safe (Modify change) ks line f k =
         value_place ops kinds.Int kinds.Int f.0 _ (subst (Has ops) f.1 k)
         (λ v a r g. word_safe (cells a) _
-        (λ n. or_safe (changed change (number_of (value_in kinds.Int n)) (number_of v)) _ (λ x _. fit (pc + 1) f.0 r f.2 g)))
+        (λ n. or_safe (changed change (number_in n) (number_of v)) _ (λ x _. fit (pc + 1) f.0 r f.2 g)))
     safe (Jump a) ks line f k = fit a ks ops f.next k
     safe (False a) ks line f k =
         one_value ops kinds.Truth f.0 _ (subst (Has ops) f.1 k)
@@ -500,7 +503,7 @@ module _ (p : Program) (valid : IsValid p) (pc : ℕ) (ops : List Operand) (used
     safe (Step way a) ks line f k =
         one_place ops kinds.Int f.2.0 _ (subst (Has ops) f.2.1 k) (λ q r g.
         word_safe (limit_cell now cells) _ (λ l. word_safe (cells q) _ (λ n.
-        cond_safe (has_reached way (number_of (value_in kinds.Int l)) (number_of (value_in kinds.Int n))) _ _ (λ _. fit a f.2.0 r f.2.3.next g)
+        cond_safe (has_reached way (number_in l) (number_in n)) _ _ (λ _. fit a f.2.0 r f.2.3.next g)
         (fit (pc + 1) f.2.0 r f.2.2 g))))
     safe (Ask q) ks line f k =
         let e : length (request_kinds q) ≡ length (request_kinds q) + 0 = omega arith in

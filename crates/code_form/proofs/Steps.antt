@@ -10,11 +10,11 @@ use Rattle.eu_base.specs.declared.address.Addr.{Addr}
 use Rattle.eu_base.specs.declared.value.Kind.{Kind}
 use Rattle.eu_base.specs.declared.stop.Stop.TheVariants.{CellRoom, TextRoom}
 use Rattle.eu_base.specs.declared.value.Kind.TheVariants as kinds
-use Rattle.eu_base.specs.Cells.{Cell, Free, Word, Letters, run_cell, place_in, held_of, written, cell_blocks, blocks_in, without}
+use Rattle.eu_base.specs.Cells.{Cell, Free, Word, Letters, run_cell, place_in, held_of, written, cell_blocks, blocks_in, freed}
 use Rattle.eu_base.specs.Room.{cells_fit, bytes_fit, texts_fit}
 use Rattle.eu_base.specs.declared.value.Value.{Value}
 use Rattle.eu_base.specs.declared.value.Value.TheVariants as item
-use Rattle.eu_base.specs.Values.{number_of, truth_of, value_in}
+use Rattle.eu_base.specs.Values.{number_of, truth_of, number_in, truth_in}
 use Rattle.eu_base.specs.Operations.{Given, operand_kinds, result_of, changed, is_past, has_reached}
 use Rattle.eu_base.specs.Requests.{request_kinds}
 use Rattle.code_form.specs.declared.operand.Operand.{Operand}
@@ -29,7 +29,7 @@ use Rattle.code_form.specs.declared.code.Layout.TheVariants.{Own}
 use Rattle.code_form.specs.declared.code.Layout.TheVariants as layouts
 use Rattle.code_form.specs.Program.{Program, instr_of}
 use Rattle.code_form.specs.Machine.{Frame, Position, Control, After, To, Asks, Stops, Unsaid, Move, Scene, Stage, On, Over, Lost, Rest, operand_bytes}
-use Rattle.code_form.specs.Machine.{bytes_on, bytes_of, base_of, pushes, on_value, on_place, on_values, on_operands, on_result, or_halt, on_word, is_free}
+use Rattle.code_form.specs.Machine.{bytes_on, bytes_of, base_of, pushes, on_value, on_place, on_values, on_operands, on_result, or_halt, on_word, on_cell, is_free}
 use Rattle.code_form.specs.Machine.{takes, content_blocks, is_framed, back_into, Goes, Unknown, goes, Halts, are_free, limit_cell, frame_contents}
 use Rattle.code_form.specs.Machine.{link_contents, written_from, enters, calls_to, call_move, refer_move, back_to}
 use Rattle.code_form.specs.Machine.{out_to, instruction, step, mark_stage, stage, advance, carry_on, exec}
@@ -129,7 +129,7 @@ module _ (p : Program) (valid : IsValid p) where
     into_near : (result : List Operand) (f : Frame) (fs : List Frame) → length (f ∷ fs) ≤ depth → Near (back_into p result c.used f fs s.cells)
     into_near result f fs le =
         near_if (is_framed (slice_get p.bodies f.body) f.used c.used s.cells)
-        (Goes (record { pc = f.back; ops = result ++ f.ops; used = f.used; frames = fs }) (without f.used c.used s.cells)) Unknown
+        (Goes (record { pc = f.back; ops = result ++ f.ops; used = f.used; frames = fs }) (freed f.used c.used s.cells)) Unknown
         (back (length fs) f.back le) tt
 
     back_near : (result : List Operand) (fs : List Frame) → length fs ≤ depth → Near (back_to p result c.used fs s.cells)
@@ -144,6 +144,13 @@ module _ (p : Program) (valid : IsValid p) where
     near_word f h Free = tt
     near_word f h (Word n) = h n
     near_word f h (Letters t) = tt
+
+    near_cell : (f : Value → Move) → ((v : Value) → Near (f v)) → (k : Kind) (x : Cell) → Near (on_cell k x f)
+    near_cell f h kinds.Int x = near_word (λ n. f (item.Int (number_in n))) (λ n. h (item.Int (number_in n))) x
+    near_cell f h kinds.Truth x = near_word (λ n. f (item.Truth (truth_in n))) (λ n. h (item.Truth (truth_in n))) x
+    near_cell f h kinds.Text Free = tt
+    near_cell f h kinds.Text (Word n) = tt
+    near_cell f h kinds.Text (Letters t) = h (item.Text t)
 
     near_value : (f : Value → List Operand → Move) → ((v : Value) (r : List Operand) → Near (f v r)) → (ops : List Operand) → Near (on_value ops f)
     near_value f h [] = tt
@@ -224,7 +231,7 @@ module _ (p : Program) (valid : IsValid p) where
     at_instr l e (Local x) is f = push_near l e (ap (λ i. is_mark (Some i)) is) (At (run_cell (base_of c.frames + x))) c.ops
     at_instr l e (Param x) is f =
         near_word _ (λ n. push_near l e (ap (λ i. is_mark (Some i)) is) (At (place_in n)) c.ops) (s.cells (run_cell (base_of c.frames + x)))
-    at_instr l e (Load k) is f = near_place _ (λ a r. near_word _ (λ n. push_near l e (ap (λ i. is_mark (Some i)) is) (Of (value_in k n)) r) (s.cells a)) c.ops
+    at_instr l e (Load k) is f = near_place _ (λ a r. near_cell _ (λ v. push_near l e (ap (λ i. is_mark (Some i)) is) (Of v) r) k (s.cells a)) c.ops
     at_instr l e (Store k) is f =
         near_value _ (λ v r. near_place _
         (λ a r. near_if (takes (held_of v) (s.cells a)) _ _
@@ -236,7 +243,7 @@ module _ (p : Program) (valid : IsValid p) where
     at_instr l e (Modify ch) is f =
         near_value _ (λ v r. near_place _
         (λ a r. near_word _ (λ n.
-        near_or _ (λ x. go (c.pc + 1) (on_next c.pc l e (ap (λ i. is_mark (Some i)) is))) (changed ch (number_of (value_in kinds.Int n)) (number_of v)))
+        near_or _ (λ x. go (c.pc + 1) (on_next c.pc l e (ap (λ i. is_mark (Some i)) is))) (changed ch (number_in n) (number_of v)))
         (s.cells a)) r) c.ops
     at_instr l e (Jump a) is f = go a (on_jump c.pc a l e (ap (λ i. is_mark (Some i)) is) f.spaced)
     at_instr l e (False a) is f =
@@ -250,12 +257,12 @@ module _ (p : Program) (valid : IsValid p) where
         near_value _ (λ v r. near_place _
         (λ q r. near_if (cells_fit (c.used + 1)) _ _
         (near_if (is_free (s.cells (run_cell c.used))) _ _
-        (near_word _ (λ n. go_if (is_past way (number_of v) (number_of (value_in kinds.Int n))) a (c.pc + 1)
+        (near_word _ (λ n. go_if (is_past way (number_of v) (number_in n)) a (c.pc + 1)
         (on_jump c.pc a l e (ap (λ i. is_mark (Some i)) is) f.3.spaced) (on_next c.pc l e (ap (λ i. is_mark (Some i)) is))) (s.cells q)) tt) tt) r) c.ops
     at_instr l e Unlimit is f = go (c.pc + 1) (on_next c.pc l e (ap (λ i. is_mark (Some i)) is))
     at_instr l e (Step way a) is f =
         near_place _ (λ q r. near_word _
-        (λ k. near_word _ (λ n. near_if (has_reached way (number_of (value_in kinds.Int k)) (number_of (value_in kinds.Int n))) _ _
+        (λ k. near_word _ (λ n. near_if (has_reached way (number_in k) (number_in n)) _ _
         (go a (on_jump c.pc a l e (ap (λ i. is_mark (Some i)) is) f.2.3.spaced)) (go (c.pc + 1) (on_next c.pc l e (ap (λ i. is_mark (Some i)) is))))
         (s.cells q)) (limit_cell c s.cells)) c.ops
     at_instr l e (Ask q) is f = near_values (length (request_kinds q)) _ (λ vs r. marked s.marks _ (omega arith)) [] c.ops

@@ -5,7 +5,9 @@ use Rattle.eu_base.specs.declared.value.Kind.{Kind}
 use Rattle.eu_base.specs.declared.value.Kind.TheVariants as kinds
 use Rattle.eu_base.specs.declared.operation.Operation.{Operation}
 use Rattle.eu_base.specs.declared.operation.Operation.TheVariants.{Plus, Negate, Add, Subtract, Multiply, Divide, Modulo, Equal, Unequal, Less, LessEqual}
-use Rattle.eu_base.specs.declared.operation.Operation.TheVariants.{Greater, GreaterEqual, Same, Different, And, Or, Not, Absolute, Minimum, Maximum, Largest}
+use Rattle.eu_base.specs.declared.operation.Operation.TheVariants.{Greater, GreaterEqual, Same, Different, And, Or, Not, Absolute, Minimum, Maximum, Largest, EmptyText, OnTexts}
+use Rattle.eu_base.specs.declared.text_operation.TextOperation.{TextOperation}
+use Rattle.eu_base.specs.declared.text_operation.TextOperation.TheVariants as texts
 use Rattle.eu_base.specs.declared.operation.Change.{Change}
 use Rattle.eu_base.specs.declared.operation.Change.TheVariants.{Increase, Decrease}
 use Rattle.eu_base.specs.declared.operation.Way.{Way}
@@ -26,10 +28,30 @@ truth_word false = codes "FALSE"
 abbrev pub kind_word : Kind → List ℕ
 kind_word kinds.Int = codes "INT"
 kind_word kinds.Truth = codes "BOOL"
+kind_word kinds.Text = codes "TEXT"
 
 abbrev pub way_word : Way → List ℕ
 way_word ways.Up = codes "UP"
 way_word ways.Down = codes "DOWN"
+
+abbrev pub text_operation_name : TextOperation → List ℕ
+text_operation_name texts.Join = codes "+"
+text_operation_name texts.Repeat = codes "*"
+text_operation_name texts.Equal = codes "="
+text_operation_name texts.Unequal = codes "<>"
+text_operation_name texts.Less = codes "<"
+text_operation_name texts.LessEqual = codes "<="
+text_operation_name texts.Greater = codes ">"
+text_operation_name texts.GreaterEqual = codes ">="
+text_operation_name texts.ByteAt = codes "SUB"
+text_operation_name texts.Length = codes "LENGTH"
+text_operation_name texts.PlaceOf = codes "pos"
+text_operation_name texts.Subtext = codes "subtext"
+text_operation_name texts.SubtextFrom = codes "subtext"
+text_operation_name texts.CodeOf = codes "code"
+text_operation_name texts.TextOfCode = codes "code"
+text_operation_name texts.TextOfNumber = codes "text"
+text_operation_name texts.NumberIn = codes "int"
 
 abbrev pub operation_name : Operation → List ℕ
 operation_name Plus = codes "+"
@@ -54,6 +76,8 @@ operation_name Absolute = codes "abs"
 operation_name Minimum = codes "min"
 operation_name Maximum = codes "max"
 operation_name Largest = codes "maxint"
+operation_name EmptyText = codes "\"\""
+operation_name (OnTexts op) = text_operation_name op
 
 abbrev pub change_name : Change → List ℕ
 change_name Increase = codes "INCR"

@@ -12,11 +12,11 @@ use Rattle.eu_base.specs.declared.stop.Stop.TheVariants.{CellRoom, OperandRoom, 
 use Rattle.eu_base.specs.declared.operation.Way.{Way}
 use Rattle.eu_base.specs.declared.request.Request.{Request}
 use Rattle.eu_base.specs.declared.request.Reply.{Reply}
-use Rattle.eu_base.specs.Values.{number_of, truth_of, blank_of, value_in}
+use Rattle.eu_base.specs.Values.{number_of, truth_of, blank_of, number_in, truth_in}
 use Rattle.eu_base.specs.Room.{value_bytes, place_bytes, cells_fit, bytes_fit, texts_fit}
 use Rattle.eu_base.specs.Operations.{Given, operand_kinds, result_of, changed, is_past, has_reached, next_number}
 use Rattle.eu_base.specs.Requests.{request_kinds, request_of}
-use Rattle.eu_base.specs.Cells.{Cell, Free, Word, Letters, Cells, held_of, run_cell, place_number, place_in, written, without, cell_blocks, blocks_in}
+use Rattle.eu_base.specs.Cells.{Cell, Free, Word, Letters, Cells, held_of, run_cell, place_number, place_in, written, without, freed, cell_blocks, blocks_in}
 use Rattle.code_form.specs.declared.operand.Operand.{Operand}
 use Rattle.code_form.specs.declared.operand.Operand.TheVariants.{Value as Of, Place as At}
 use Rattle.code_form.specs.declared.operand.OperandKind.{OperandKind}
@@ -137,14 +137,24 @@ abbrev pub or_halt : Given → (Value → Move) → Move
 or_halt (Ok v) go = go v
 or_halt (Err s) go = Halts s
 
--- the number that a cell holds, and the one that this stands for
+-- the number that a cell holds, the one that this stands for, and the text; and the value of a kind
 abbrev pub on_word : Cell → (ℕ → Move) → Move
 on_word (Word n) go = go n
 on_word (Letters t) go = Unknown
 on_word Free go = Unknown
 
 abbrev pub on_number : Cell → (ℤ → Move) → Move
-on_number cell go = on_word cell (λ n. go (number_of (value_in kinds.Int n)))
+on_number cell go = on_word cell (λ n. go (number_in n))
+
+abbrev pub on_text : Cell → (List ℕ → Move) → Move
+on_text (Word n) go = Unknown
+on_text (Letters t) go = go t
+on_text Free go = Unknown
+
+abbrev pub on_cell : Kind → Cell → (Value → Move) → Move
+on_cell kinds.Int cell go = on_number cell (λ z. go (item.Int z))
+on_cell kinds.Truth cell go = on_word cell (λ n. go (item.Truth (truth_in n)))
+on_cell kinds.Text cell go = on_text cell (λ t. go (item.Text t))
 
 -- a number is put into a cell that is not known to hold a text, and a text into one that is
 abbrev pub takes_number : Cell → Bool
@@ -152,15 +162,15 @@ takes_number Free = true
 takes_number (Word n) = true
 takes_number (Letters t) = false
 
-abbrev pub takes_text : Cell → Bool
-takes_text Free = false
-takes_text (Word n) = false
-takes_text (Letters t) = true
+abbrev pub is_text : Cell → Bool
+is_text Free = false
+is_text (Word n) = false
+is_text (Letters t) = true
 
 abbrev pub takes : Cell → Cell → Bool
 takes Free cell = false
 takes (Word n) cell = takes_number cell
-takes (Letters t) cell = takes_text cell
+takes (Letters t) cell = is_text cell
 
 abbrev pub puts : Position → Addr → Value → List Operand → Cells → Move
 puts c a v ops cells =
@@ -244,6 +254,7 @@ is_word (Letters t) = false
 abbrev pub is_of : OperandKind → Cell → Bool
 is_of (OfKind kinds.Int) cell = is_word cell
 is_of (OfKind kinds.Truth) cell = is_word cell
+is_of (OfKind kinds.Text) cell = is_text cell
 is_of (AtKind k) cell = is_word cell
 
 -- so many cells from one on are known to hold what stands for operands of these kinds, and the others of them numbers
@@ -257,11 +268,11 @@ abbrev pub is_framed : Option Entry → ℕ → ℕ → Cells → Bool
 is_framed e from used cells = are_of (OfKind kinds.Int ∷ OfKind kinds.Int ∷ cells_at (layout_of e)) from (used - from) cells
 
 -- leaves a frame, and leaves those of refinements and that of their PROC; so many cells were in use, and what those of the frames hold is
--- known, and forgotten
+-- known: numbers are forgotten, and texts freed
 abbrev pub back_into : Program → List Operand → ℕ → Frame → List Frame → Cells → Move
 back_into p result used f fs cells =
     cond (is_framed (slice_get p.bodies f.body) f.used used cells)
-    (Goes (record { pc = f.back; ops = result ++ f.ops; used = f.used; frames = fs }) (without f.used used cells)) Unknown
+    (Goes (record { pc = f.back; ops = result ++ f.ops; used = f.used; frames = fs }) (freed f.used used cells)) Unknown
 
 abbrev pub back_to : Program → List Operand → ℕ → List Frame → Cells → Move
 back_to p result used [] cells = Stuck
@@ -294,7 +305,7 @@ instruction p (Some (Truth b)) c cells = pushes c (Of (item.Truth b)) c.ops cell
 instruction p (Some (Outer k)) c cells = pushes c (At (run_cell k)) c.ops cells
 instruction p (Some (Local k)) c cells = pushes c (At (run_cell (base_of c.frames + k))) c.ops cells
 instruction p (Some (Param k)) c cells = on_word (cells (run_cell (base_of c.frames + k))) (λ n. pushes c (At (place_in n)) c.ops cells)
-instruction p (Some (Load kind)) c cells = on_place c.ops (λ a ops. on_word (cells a) (λ n. pushes c (Of (value_in kind n)) ops cells))
+instruction p (Some (Load kind)) c cells = on_place c.ops (λ a ops. on_cell kind (cells a) (λ v. pushes c (Of v) ops cells))
 instruction p (Some (Store kind)) c cells = on_value c.ops (λ v ops. on_place ops (λ a ops. puts c a v ops cells))
 instruction p (Some (Do op)) c cells =
     on_values (length (operand_kinds op)) [] c.ops (λ vs ops. or_halt (result_of op vs) (λ v. pushes c (Of v) ops cells))

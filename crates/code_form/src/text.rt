@@ -1,13 +1,13 @@
 //! Code as text.
 ghost use Rattle.std.specs.Prelude.{◌≡◌, ◌++◌, IfOk, OnOk, length, slice_get, codes};
 ghost use Rattle.std.specs.Fmt.{decimal, signed_decimal};
-ghost use Rattle.code_form.specs.Listing.{truth_word, kind_word, way_word, operation_name, change_name, request_name, first_of, cells_of_frame, instr_text};
+ghost use Rattle.code_form.specs.Listing.{truth_word, kind_word, way_word, operation_name, text_operation_name, change_name, request_name, first_of, cells_of_frame, instr_text};
 ghost use Rattle.code_form.specs.Listing.{line_text, listing_text};
 ghost use Rattle.code_form.specs.Program.{cells_of};
 
 use crate::code::{Code, Entry, Layout};
 use crate::instr::Instr;
-use eu_base::{Bytes, Change, Kind, NoMemory, Operation, RequestName, Way};
+use eu_base::{Bytes, Change, Kind, NoMemory, Operation, RequestName, TextOperation, Way};
 use itoa::Buffer;
 use std::alloc::Global;
 
@@ -175,6 +175,7 @@ fn kind_word(kind: Kind) -> &'static [u8]
     match kind {
         Kind::Int => b"INT",
         Kind::Truth => b"BOOL",
+        Kind::Text => b"TEXT",
     }
 }
 
@@ -209,6 +210,30 @@ fn operation_name(operation: Operation) -> &'static [u8]
         Operation::Minimum => b"min",
         Operation::Maximum => b"max",
         Operation::Largest => b"maxint",
+        Operation::EmptyText => b"\"\"",
+        Operation::OnTexts(operation) => text_operation_name(operation),
+    }
+}
+
+fn text_operation_name(operation: TextOperation) -> &'static [u8]
+    ensures { result.now ≡ text_operation_name operation }
+{
+    match operation {
+        TextOperation::Join => b"+",
+        TextOperation::Repeat => b"*",
+        TextOperation::Equal => b"=",
+        TextOperation::Unequal => b"<>",
+        TextOperation::Less => b"<",
+        TextOperation::LessEqual => b"<=",
+        TextOperation::Greater => b">",
+        TextOperation::GreaterEqual => b">=",
+        TextOperation::ByteAt => b"SUB",
+        TextOperation::Length => b"LENGTH",
+        TextOperation::PlaceOf => b"pos",
+        TextOperation::Subtext | TextOperation::SubtextFrom => b"subtext",
+        TextOperation::CodeOf | TextOperation::TextOfCode => b"code",
+        TextOperation::TextOfNumber => b"text",
+        TextOperation::NumberIn => b"int",
     }
 }
 

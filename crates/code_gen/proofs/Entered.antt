@@ -36,6 +36,7 @@ link_uses = OfNothing ∷ OfNothing ∷ []
 blank_is : (k : Kind) → IsOf k (blank_of k)
 blank_is kinds.Int = fits_in_range _ refl
 blank_is kinds.Truth = tt
+blank_is kinds.Text = omega arith
 
 append-[] : {A : Type 0} (l : List A) → l ++ [] ≡ l
 append-[] [] = refl

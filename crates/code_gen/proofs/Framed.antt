@@ -1,8 +1,12 @@
 -- What the cells of a frame hold is known when a body is left.
 use Rattle.std.proofs.Common.{◌≡◌, ℕ, suc, ◌+◌, ◌-◌, List, [], ◌∷◌, ◌++◌, map, length, Some, Bool, true, ◌&&◌, refl, ap, ◌∙◌, subst, arith, length-append}
 use Rattle.std.specs.Prelude.{slice_get, Option}
+use Rattle.eu_base.specs.declared.value.Kind.{Kind}
 use Rattle.eu_base.specs.declared.value.Kind.TheVariants as kinds
-use Rattle.eu_base.specs.Cells.{Cell, Cells, run_cell}
+use Rattle.eu_base.specs.declared.value.Value.{Value}
+use Rattle.eu_base.specs.declared.value.Value.TheVariants.{Int, Truth, Text}
+use Rattle.eu_base.specs.Values.{IsOf}
+use Rattle.eu_base.specs.Cells.{Cell, Cells, held_of, run_cell}
 use Rattle.code_form.specs.declared.operand.OperandKind.{OperandKind}
 use Rattle.code_form.specs.declared.operand.OperandKind.TheVariants as operand
 use Rattle.code_form.specs.declared.code.Entry.{Entry}
@@ -19,9 +23,19 @@ kept_count L at (OfPlace k) s n c g = absurd c
 kept_count L at (OfLimit l) s n c g = ap is_word g.2
 kept_count L at OfNothing s n c g = ap is_word g.1
 
+held_kind : (k : Kind) (v : Value) → IsOf k v → is_of (operand.Value k) (held_of v) ≡ true
+held_kind kinds.Int (Int z) f = refl
+held_kind kinds.Int (Truth b) f = absurd f
+held_kind kinds.Int (Text t) f = absurd f
+held_kind kinds.Truth (Int z) f = absurd f
+held_kind kinds.Truth (Truth b) f = refl
+held_kind kinds.Truth (Text t) f = absurd f
+held_kind kinds.Text (Int z) f = absurd f
+held_kind kinds.Text (Truth b) f = absurd f
+held_kind kinds.Text (Text t) f = refl
+
 kept_kind : (L : Uses) (at : ℕ) (k : OperandKind) (s : Slot) (n : Cell) → Kept L at (use_of k) s n → is_of k n ≡ true
-kept_kind L at (operand.Value kinds.Int) s n g = ap is_word g.3
-kept_kind L at (operand.Value kinds.Truth) s n g = ap is_word g.3
+kept_kind L at (operand.Value k) s n g = ap (is_of (operand.Value k)) g.3 ∙ held_kind k g.0 g.2
 kept_kind L at (operand.Place k) s n g = ap is_word g.4
 
 module _ (U : Uses) (store : List Slot) (cells : Cells) (h : Keeps U store cells) where

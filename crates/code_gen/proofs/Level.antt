@@ -10,7 +10,7 @@ use Rattle.eu_base.specs.declared.stop.Stop.TheVariants.{CellRoom, TextRoom}
 use Rattle.eu_base.specs.declared.value.Kind.{Kind}
 use Rattle.eu_base.specs.declared.value.Value.{Value}
 use Rattle.eu_base.specs.Room.{cells_fit, texts_fit}
-use Rattle.eu_base.specs.Cells.{Cell, Cells, without, blocks_in}
+use Rattle.eu_base.specs.Cells.{Cell, Free, Cells, freed, blocks_in}
 use Rattle.code_form.specs.declared.halt.Halt.TheVariants as halts
 use Rattle.code_form.specs.declared.operand.Operand.{Operand}
 use Rattle.code_form.specs.declared.operand.OperandKind.{OperandKind}
@@ -163,11 +163,11 @@ module _ (p : Program) where
       let M = frame_uses ks in
       let next : Position = record { pc = f.back; ops = result_ops v ++ f.ops; used = f.used; frames = fs } in
       let all : c.used ≡ length (L ++ (M ++ more)) = omega (arith, used, length-append L M, length-append M more, length-append L (M ++ more)) in
-      let now = without f.used c.used cells in
+      let now = freed f.used c.used cells in
       let held = subst (λ U. Keeps U w.store cells) (append_assoc L M more) keeps in
       let known = framed L ks more w.store cells (slice_get p.bodies f.body) f.used c.used held counts kinds' f_is all in
       subst (λ t. After p (stage (cond t (Goes next now) Unknown) c (scene_of w cells)) (k v (cut n w))) (sym known)
-      (after_goes p c next (scene_of w cells) now (k v (cut n w)) (e now (cuts L (M ++ more) w.store cells n f.used c.used is f_is all held)))
+      (after_goes p c next (scene_of w cells) now (k v (cut n w)) (e now (cuts (λ _. Free) L (M ++ more) w.store cells n f.used c.used is f_is all (λ x u s n past is kept. refl) held)))
 
 -- an entry of the tables is that of a body, whose code does what the body does
 pub record IsMade (p : Program) (bodies : List Body) (q : ℕ) (e : Entry) : Type 0 where

@@ -1,5 +1,5 @@
 -- A command that is run in pieces shows what it does.
-use Rattle.std.proofs.Common.{◌≡◌, ℕ, zero, suc, ◌+◌, ◌≤◌, List, [], ◌∷◌, ◌++◌, map, length, Some, true, refl, sym, ap, ◌∙◌, subst}
+use Rattle.std.proofs.Common.{◌≡◌, ℕ, zero, suc, ◌+◌, ◌≤◌, List, [], ◌∷◌, ◌++◌, map, length, Some, true, refl, sym, ap, ◌∙◌, subst, arith}
 use Rattle.std.specs.Prelude.{slice_get}
 use Rattle.std.proofs.lemmas.List.{length-map}
 use Rattle.eu_base.specs.declared.value.Kind.{Kind}
@@ -24,6 +24,7 @@ use Rattle.code_gen.specs.Correct.{Behaves}
 blank_is : (k : Kind) → IsOf k (blank_of k)
 blank_is kinds.Int = fits_in_range _ refl
 blank_is kinds.Truth = tt
+blank_is kinds.Text = omega arith
 
 abbrev blanks : List ElanType → List Slot
 blanks us = map (λ u. Holds (blank_of (kind_in u))) us

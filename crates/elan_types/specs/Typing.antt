@@ -32,6 +32,7 @@ Typed = Option ElanType
 abbrev pub same_type : ElanType → ElanType → Bool
 same_type types.Int types.Int = true
 same_type types.Bool types.Bool = true
+same_type types.Text types.Text = true
 same_type _ _ = false
 
 -- a phrase has this type
@@ -72,10 +73,12 @@ all_true (b ∷ bs) = b && all_true bs
 abbrev pub type_in : Kind → ElanType
 type_in kinds.Int = types.Int
 type_in kinds.Truth = types.Bool
+type_in kinds.Text = types.Text
 
 abbrev pub kind_in : ElanType → Kind
 kind_in types.Int = kinds.Int
 kind_in types.Bool = kinds.Truth
+kind_in types.Text = kinds.Text
 
 abbrev pub same_access : Access → Access → Bool
 same_access Const Const = true

@@ -185,6 +185,11 @@ pub struct Arm {
 
 // A crate above that lets a phrase go by these calls proves nothing of how its parts are let go.
 
+impl Core {
+    /// Lets it go, with all its parts.
+    pub fn let_go(self) {}
+}
+
 impl ValuePhrase {
     /// Lets it go, with all its parts.
     pub fn let_go(self) {}

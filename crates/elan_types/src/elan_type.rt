@@ -10,6 +10,8 @@ pub enum ElanType {
     Int,
     /// `BOOL`, a truth value.
     Bool,
+    /// `TEXT`, a text. No source names it yet.
+    Text,
 }
 
 impl ElanType {
@@ -18,8 +20,12 @@ impl ElanType {
         ensures { result ≡ same_type self other }
     {
         match (self, other) {
-            (ElanType::Int, ElanType::Int) | (ElanType::Bool, ElanType::Bool) => true,
-            (ElanType::Int, ElanType::Bool) | (ElanType::Bool, ElanType::Int) => false,
+            (ElanType::Int, ElanType::Int)
+            | (ElanType::Bool, ElanType::Bool)
+            | (ElanType::Text, ElanType::Text) => true,
+            (ElanType::Int, ElanType::Bool | ElanType::Text)
+            | (ElanType::Bool, ElanType::Int | ElanType::Text)
+            | (ElanType::Text, ElanType::Int | ElanType::Bool) => false,
         }
     }
 }

@@ -6,7 +6,7 @@ use Rattle.std.proofs.lemmas.Bool.{cases_lt}
 use Rattle.std.proofs.lemmas.Option.{slice_get-get_or}
 use Rattle.eu_base.specs.declared.address.TheConstants.{CELLS}
 use Rattle.eu_base.specs.declared.value.Value.{Value}
-use Rattle.eu_base.specs.declared.value.Value.TheVariants.{Int, Truth}
+use Rattle.eu_base.specs.declared.value.Value.TheVariants.{Int, Truth, Text}
 use Rattle.eu_base.specs.Room.{value_blocks, total}
 use Rattle.eu_base.specs.Cells.{Cell, Cells, held_of, run_cell, cell_blocks, blocks_in}
 use Rattle.code_form.specs.Machine.{content_blocks}
@@ -40,6 +40,7 @@ store_is (s ∷ store) (suc n) le =
 pub held_blocks : (v : Value) → cell_blocks (held_of v) ≡ value_blocks v
 held_blocks (Int z) = refl
 held_blocks (Truth b) = refl
+held_blocks (Text t) = refl
 
 kept_blocks : (L : Uses) (at : ℕ) (k : Use) (s : Slot) (n : Cell) → Kept L at k s n → cell_blocks n ≡ slot_blocks s
 kept_blocks L at (OfValue k) s n g = ap cell_blocks g.3 ∙ held_blocks g.0 ∙ ap slot_blocks (sym g.1)

@@ -177,7 +177,7 @@ module _ (p : Program) where
       let later = writes L w.store cells x.variable kind v h is ok in
       let move = λ (own all : ℕ). cond (texts_fit own all) (Goes c' now) (Halts TextRoom) in
       put_by c c' w x v go k l cells now (texts_fit (value_blocks v) (store_blocks (assign x v w).store)) h later
-      (m ∙ ap (λ t. cond t (move (cell_blocks (held_of v)) (blocks_in now)) Unknown) (takes_value L w.store cells x.variable kind v h is)
+      (m ∙ ap (λ t. cond t (move (cell_blocks (held_of v)) (blocks_in now)) Unknown) (takes_value L w.store cells x.variable kind v h is ok)
       ∙ ap (λ n. move n (blocks_in now)) (held_blocks v)
       ∙ ap (move (value_blocks v)) (sym (same_blocks L (assign x v w).store now room later))) next
 

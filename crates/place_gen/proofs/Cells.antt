@@ -16,26 +16,52 @@ use Rattle.eu_base.specs.declared.address.Addr.{Addr}
 use Rattle.eu_base.specs.declared.value.Kind.{Kind}
 use Rattle.eu_base.specs.declared.value.Kind.TheVariants as kinds
 use Rattle.eu_base.specs.declared.value.Value.{Value}
-use Rattle.eu_base.specs.declared.value.Value.TheVariants.{Int, Truth}
-use Rattle.eu_base.specs.Values.{IsOf, cell_of, value_in}
-use Rattle.eu_base.specs.Cells.{Cell, Free, Word, Cells, held_of, run_cell, written, forgotten, without, place_in}
-use Rattle.code_form.specs.Machine.{Move, on_word, takes, written_from, is_free, are_free}
+use Rattle.eu_base.specs.declared.value.Value.TheVariants.{Int, Truth, Text}
+use Rattle.eu_base.specs.Values.{IsOf, number_in}
+use Rattle.eu_base.specs.Cells.{Cell, Free, Word, Cells, held_of, run_cell, written, forgotten, place_in}
+use Rattle.code_form.specs.Machine.{Move, on_word, on_number, on_cell, takes, written_from, is_free, are_free}
 use Rattle.elan_types.specs.Eval.{Place, Slot, Holds, Refers, Taken, slot_at, value_of, place_of}
 use Rattle.place_gen.specs.Correct.{StandsFor, Image}
 
 bits : (z : ℤ) → FitsSigned w16 z → cast_unsigned w16 z < 65536
 bits z f = omega (arith, ints)
 
--- a value comes back out of its cell
-value_in-cell_of : (k : Kind) (v : Value) → IsOf k v → value_in k (cell_of v) ≡ v
-value_in-cell_of kinds.Int (Int z) f =
+-- a number comes back out of its cell, and a value of each kind
+number_back : (z : ℤ) → FitsSigned w16 z → number_in (cast_unsigned w16 z) ≡ z
+number_back z f =
     let small = bits z f in
     let e : cast_unsigned w16 z % 65536 ≡ cast_unsigned w16 z = omega arith in
-    ap (λ n. Int (cast_signed w16 n)) e ∙ ap Int (to_z-of_z w16 z f)
-value_in-cell_of kinds.Int (Truth b) f = absurd f
-value_in-cell_of kinds.Truth (Int z) f = absurd f
-value_in-cell_of kinds.Truth (Truth true) f = refl
-value_in-cell_of kinds.Truth (Truth false) f = refl
+    ap (cast_signed w16) e ∙ to_z-of_z w16 z f
+
+value_back : (k : Kind) (v : Value) (go : Value → Move) → IsOf k v → on_cell k (held_of v) go ≡ go v
+value_back kinds.Int (Int z) go f = ap (λ z. go (Int z)) (number_back z f)
+value_back kinds.Int (Truth b) go f = absurd f
+value_back kinds.Int (Text t) go f = absurd f
+value_back kinds.Truth (Int z) go f = absurd f
+value_back kinds.Truth (Truth true) go f = refl
+value_back kinds.Truth (Truth false) go f = refl
+value_back kinds.Truth (Text t) go f = absurd f
+value_back kinds.Text (Int z) go f = absurd f
+value_back kinds.Text (Truth b) go f = absurd f
+value_back kinds.Text (Text t) go f = refl
+
+-- a cell that holds a value of a kind takes each of that kind
+takes_held : (k : Kind) (v old : Value) → IsOf k v → IsOf k old → takes (held_of v) (held_of old) ≡ true
+takes_held kinds.Int (Int z) (Int y) f g = refl
+takes_held kinds.Truth (Truth b) (Truth a) f g = refl
+takes_held kinds.Text (Text t) (Text u) f g = refl
+takes_held kinds.Int v (Truth a) f g = absurd g
+takes_held kinds.Int v (Text u) f g = absurd g
+takes_held kinds.Truth v (Int y) f g = absurd g
+takes_held kinds.Truth v (Text u) f g = absurd g
+takes_held kinds.Text v (Int y) f g = absurd g
+takes_held kinds.Text v (Truth a) f g = absurd g
+takes_held kinds.Int (Truth b) old f g = absurd f
+takes_held kinds.Int (Text t) old f g = absurd f
+takes_held kinds.Truth (Int z) old f g = absurd f
+takes_held kinds.Truth (Text t) old f g = absurd f
+takes_held kinds.Text (Int z) old f g = absurd f
+takes_held kinds.Text (Truth b) old f g = absurd f
 
 -- what a cell in use holds: a variable, constant or CONST parameter of a kind, the place of a variable, a limit, or nothing
 pub data Use : Type 0 where
@@ -108,11 +134,11 @@ image L store cells h room x s e =
 
 -- what a variable holds is read out of its cell
 pub reads : (L : Uses) (store : List Slot) (cells : Cells) (x : ℕ) (k : Kind) (go : Value → Move) → Keeps L store cells → slice_get L x ≡ Some (OfValue k)
-    → IsOf k (value_of (slot_at store x)) × (on_word (cells (run_cell x)) (λ n. go (value_in k n)) ≡ go (value_of (slot_at store x)))
+    → IsOf k (value_of (slot_at store x)) × (on_cell k (cells (run_cell x)) go ≡ go (value_of (slot_at store x)))
 reads L store cells x k go h e =
     let g = h.each x (OfValue k) e in
     let same : value_of (slot_at store x) ≡ g.0 = ap value_of g.1 in
-    (subst (IsOf k) (sym same) g.2, ap (λ c. on_word c (λ n. go (value_in k n))) g.3 ∙ ap go (value_in-cell_of k g.0 g.2 ∙ sym same))
+    (subst (IsOf k) (sym same) g.2, ap (λ c. on_cell k c go) g.3 ∙ value_back k g.0 go g.2 ∙ ap go (sym same))
 
 -- and the place that a VAR parameter holds
 pub refers : (L : Uses) (store : List Slot) (cells : Cells) (x : ℕ) (k : Kind) (go : Addr → Move) → length L ≤ CELLS → Keeps L store cells
@@ -128,11 +154,11 @@ refers L store cells x k go room h e =
     (is, ap (λ c. on_word c (λ n. go (place_in n))) n ∙ ap (λ n. go (run_cell n)) m)
 
 -- and a limit
-pub reads_limit : (L : Uses) (store : List Slot) (cells : Cells) (x : ℕ) (l : ℤ) (go : Value → Move) → Keeps L store cells
-    → slice_get L x ≡ Some (OfLimit l) → on_word (cells (run_cell x)) (λ n. go (value_in kinds.Int n)) ≡ go (Int l)
+pub reads_limit : (L : Uses) (store : List Slot) (cells : Cells) (x : ℕ) (l : ℤ) (go : ℤ → Move) → Keeps L store cells
+    → slice_get L x ≡ Some (OfLimit l) → on_number (cells (run_cell x)) go ≡ go l
 reads_limit L store cells x l go h e =
     let g = h.each x (OfLimit l) e in
-    ap (λ c. on_word c (λ n. go (value_in kinds.Int n))) g.2 ∙ ap go (value_in-cell_of kinds.Int (Int l) g.1)
+    ap (λ c. on_number c go) g.2 ∙ ap go (number_back l g.1)
 
 -- the cells behind those in use are free
 pub free_beyond : (ns : List Cell) (at : ℕ) (cells : Cells) → ((x : ℕ) → at ≤ x → cells (run_cell x) ≡ Free) → are_free at ns cells ≡ true
@@ -169,22 +195,20 @@ append-[] : {A : Type 0} (l : List A) → l ++ [] ≡ l
 append-[] [] = refl
 append-[] (x ∷ l) = ap (λ l. x ∷ l) (append-[] l)
 
--- what is kept in cells are numbers, which can be forgotten, and be written over
-forgets : (L : Uses) (at : ℕ) (k : Use) (s : Slot) (n : Cell) → Kept L at k s n → forgotten n ≡ Free
-forgets L at (OfValue k) s n g = ap forgotten g.3
-forgets L at (OfPlace k) s n g = ap forgotten g.4
-forgets L at (OfLimit l) s n g = ap forgotten g.2
-forgets L at OfNothing s n g = ap forgotten g.1
-
--- a variable's cell takes each value
+-- a variable's cell takes each value of its kind
 pub takes_value : (L : Uses) (store : List Slot) (cells : Cells) (x : ℕ) (k : Kind) (v : Value) → Keeps L store cells → slice_get L x ≡ Some (OfValue k)
-    → takes (held_of v) (cells (run_cell x)) ≡ true
-takes_value L store cells x k v h e = ap (takes (held_of v)) (h.each x (OfValue k) e).3
+    → IsOf k v → takes (held_of v) (cells (run_cell x)) ≡ true
+takes_value L store cells x k v h e ok = let g = h.each x (OfValue k) e in ap (takes (held_of v)) g.3 ∙ takes_held k v g.0 ok g.2
 
--- the cells behind some are given back
-pub cuts : (L M : Uses) (store : List Slot) (cells : Cells) (n from used : ℕ) → n ≡ length L → from ≡ length L → used ≡ length (L ++ M)
-    → Keeps (L ++ M) store cells → Keeps L (take n store) (without from used cells)
-cuts L M store cells n from used is from_is used_is h =
+-- the cells from one up to another, after they were given back
+abbrev pub emptied : (Cell → Cell) → ℕ → ℕ → Cells → Cells
+emptied gone from until cells = λ a. cond (nat_le from a.cell && nat_lt a.cell until) (gone (cells a)) (cells a)
+
+-- the cells behind some are given back, where nothing is known then of what was kept in them
+pub cuts : (gone : Cell → Cell) (L M : Uses) (store : List Slot) (cells : Cells) (n from used : ℕ) → n ≡ length L → from ≡ length L → used ≡ length (L ++ M)
+    → ((x : ℕ) (k : Use) (s : Slot) (c : Cell) → length L ≤ x → slice_get (L ++ M) x ≡ Some k → Kept (L ++ M) x k s c → gone c ≡ Free)
+    → Keeps (L ++ M) store cells → Keeps L (take n store) (emptied gone from used cells)
+cuts gone L M store cells n from used is from_is used_is lost h =
     let long : length L ≤ length store = omega (arith, h.as_many, length-append L M) in
     record {
       as_many = length-take-le n store (omega arith) ∙ is;
@@ -192,13 +216,13 @@ cuts L M store cells n from used is from_is used_is h =
           let within = slice_get_within L x k e in
           let slot : slot_at (take n store) x ≡ slot_at store x = get_or-take n store x Taken (omega arith) in
           let low : nat_le from x ≡ false = grind (arith, nat_tests) in
-          let same : without from used cells (run_cell x) ≡ cells (run_cell x) =
-          ap (λ b. cond (b && nat_lt x used) (forgotten (cells (run_cell x))) (cells (run_cell x))) low in
+          let same : emptied gone from used cells (run_cell x) ≡ cells (run_cell x) =
+          ap (λ b. cond (b && nat_lt x used) (gone (cells (run_cell x))) (cells (run_cell x))) low in
           subst (Kept L x k (slot_at (take n store) x)) (sym same)
           (subst (λ s. Kept L x k s (cells (run_cell x))) (sym slot) (by x k within (h.each x k (get_left L M x k e))));
       beyond = λ x past.
           let high : nat_le from x ≡ true = grind (arith, nat_tests) in
-          ap (λ b. cond (b && nat_lt x used) (forgotten (cells (run_cell x))) (cells (run_cell x))) high ∙ gone x (nat_lt x used) refl;
+          ap (λ b. cond (b && nat_lt x used) (gone (cells (run_cell x))) (cells (run_cell x))) high ∙ behind x past (nat_lt x used) refl;
     }
   where
     by : (x : ℕ) (k : Use) → x < length L → Kept (L ++ M) x k (slot_at store x) (cells (run_cell x)) → Kept L x k (slot_at store x) (cells (run_cell x))
@@ -207,12 +231,23 @@ cuts L M store cells n from used is from_is used_is h =
     by x (OfLimit l) lt g = g
     by x OfNothing lt g = g
 
-    gone : (x : ℕ) (b : Bool) → nat_lt x used ≡ b → cond b (forgotten (cells (run_cell x))) (cells (run_cell x)) ≡ Free
-    gone x true e =
+    behind : (x : ℕ) → length L ≤ x → (b : Bool) → nat_lt x used ≡ b → cond b (gone (cells (run_cell x))) (cells (run_cell x)) ≡ Free
+    behind x past true e =
         let within : x < length (L ++ M) = grind (arith, nat_tests, e, used_is) in
         let k = slice_index_or (L ++ M) x OfNothing in
-        forgets (L ++ M) x k (slot_at store x) (cells (run_cell x)) (h.each x k (slice_get-get_or (L ++ M) x OfNothing within))
-    gone x false e = let past : used ≤ x = grind (arith, nat_tests, e) in h.beyond x (omega (arith, past, used_is))
+        let is_for = slice_get-get_or (L ++ M) x OfNothing within in
+        lost x k (slot_at store x) (cells (run_cell x)) past is_for (h.each x k is_for)
+    behind x past false e = let after : used ≤ x = grind (arith, nat_tests, e) in h.beyond x (omega (arith, after, used_is))
+
+-- a limit is a number, which can be forgotten
+pub limit_forgotten : (L : Uses) (l : ℤ) (x : ℕ) (k : Use) (s : Slot) (c : Cell) → length L ≤ x → slice_get (L ++ OfLimit l ∷ []) x ≡ Some k
+    → Kept (L ++ OfLimit l ∷ []) x k s c → forgotten c ≡ Free
+limit_forgotten L l x k s c past e g =
+    let U = L ++ OfLimit l ∷ [] in
+    let n : x ≡ length L + 0 = omega (arith, slice_get_within U x k e, past, length-append L (OfLimit l ∷ [])) in
+    let is : OfLimit l ≡ k = some_is (OfLimit l) k (sym (get_right L (OfLimit l ∷ []) 0) ∙ ap (slice_get U) (sym n) ∙ e) in
+    let kept : Kept U x (OfLimit l) s c = subst (λ k. Kept U x k s c) (sym is) g in
+    ap forgotten kept.2
 
 -- more cells are taken, and hold what is for them
 abbrev pub AllKept : Uses → ℕ → Uses → List Slot → List Cell → Type 0

@@ -172,6 +172,7 @@ module _ (p : Program) (body : Option ℕ) where
   modified {A} {L} (Ok (item.Int z)) x a c c' w cells k l is gives kept e hk =
       write_ends p c c' w x kinds.Int (item.Int z) _ cells is (gives (item.Int z) refl) kept e (hk (item.Int z))
   modified {A} {L} (Ok (item.Truth b)) x a c c' w cells k l is gives kept e hk = absurd (gives (item.Truth b) refl)
+  modified {A} {L} (Ok (item.Text t)) x a c c' w cells k l is gives kept e hk = absurd (gives (item.Text t) refl)
   modified {A} {L} (Err s) x a c c' w cells k l is gives kept e hk = stop_comes p L c w s cells kept e
 
   -- INCR and DECR where number and place are on top

@@ -76,8 +76,13 @@ both false b e = let f : ⊥ = cc in absurd f
 pub same_is : (u v : ElanType) → same_type u v ≡ true → u ≡ v
 same_is types.Int types.Int e = refl
 same_is types.Int types.Bool e = let f : ⊥ = cc in absurd f
+same_is types.Int types.Text e = let f : ⊥ = cc in absurd f
 same_is types.Bool types.Int e = let f : ⊥ = cc in absurd f
 same_is types.Bool types.Bool e = refl
+same_is types.Bool types.Text e = let f : ⊥ = cc in absurd f
+same_is types.Text types.Int e = let f : ⊥ = cc in absurd f
+same_is types.Text types.Bool e = let f : ⊥ = cc in absurd f
+same_is types.Text types.Text e = refl
 
 pub has_is : (u : ElanType) (a : Typed) → has u a ≡ true → a ≡ Some u
 has_is u None e = let f : ⊥ = cc in absurd f
@@ -96,6 +101,7 @@ agree_is (Some v) b u e f = let g : v ≡ u = cc in has_is u b (subst (λ v. has
 pub kind_type : (k : Kind) → kind_in (type_in k) ≡ k
 kind_type kinds.Int = refl
 kind_type kinds.Truth = refl
+kind_type kinds.Text = refl
 
 formal_is : (f g : Formal) → f.of ≡ g.of → f.access ≡ g.access → g ≡ f
 formal_is f g a b = ap (λ (u : ElanType). record { of = u; access = g.access }) (sym a) ∙ ap (λ (x : Access). record { of = f.of; access = x }) (sym b)

@@ -14,9 +14,9 @@ use Rattle.eu_base.specs.declared.value.Value.TheVariants as item
 use Rattle.eu_base.specs.declared.stop.Stop.TheVariants.{CellRoom}
 use Rattle.eu_base.specs.declared.operation.Way.{Way}
 use Rattle.eu_base.specs.Room.{cells_fit}
-use Rattle.eu_base.specs.Values.{IsOf, number_of, value_in}
+use Rattle.eu_base.specs.Values.{IsOf, number_of}
 use Rattle.eu_base.specs.Operations.{is_past}
-use Rattle.eu_base.specs.Cells.{Cells, held_of, run_cell, written, without}
+use Rattle.eu_base.specs.Cells.{Cells, held_of, run_cell, written, forgotten, without}
 use Rattle.code_form.specs.declared.operand.Operand.{Operand}
 use Rattle.code_form.specs.declared.operand.Operand.TheVariants.{Value as Of}
 use Rattle.code_form.specs.declared.operand.OperandKind.{OperandKind}
@@ -24,7 +24,7 @@ use Rattle.code_form.specs.declared.operand.OperandKind.TheVariants as operand
 use Rattle.code_form.specs.declared.instr.Instr.TheVariants.{Limit, Unlimit}
 use Rattle.code_form.specs.declared.code.Spot.{Spot}
 use Rattle.code_form.specs.Program.{Program, line_of, deeper}
-use Rattle.code_form.specs.Machine.{Position, free, Goes, Halts, Unknown, at, using, on_word, is_free, base_of, step}
+use Rattle.code_form.specs.Machine.{Position, free, Goes, Halts, Unknown, at, using, on_cell, is_free, base_of, step}
 use Rattle.elan_types.specs.declared.core_phrase.Exit.{Exit as Exit'}
 use Rattle.elan_types.specs.declared.core_phrase.PlacePhrase.{PlacePhrase}
 use Rattle.elan_types.specs.Eval.{Place, Taken, value_of, World, Outcome, Gives, Stopped, bind, branch, fetch, place, holding_place, cut, Calls, Run, turns}
@@ -34,7 +34,7 @@ use Rattle.place_gen.specs.Stretch.{Stretch, join, Exit, step_code, step_to_code
 use Rattle.place_gen.specs.Correct.{Comes, scene_of}
 use Rattle.place_gen.proofs.Lines.{HasAt, has_front, has_rest, join_sized}
 use Rattle.place_gen.proofs.Homes.{HasPlace}
-use Rattle.place_gen.proofs.Cells.{Use, OfValue, OfLimit, Uses, Keeps, get_left, reads, cuts, extends_one}
+use Rattle.place_gen.proofs.Cells.{Use, OfValue, OfLimit, Uses, Keeps, get_left, reads, cuts, limit_forgotten, extends_one}
 use Rattle.eu_base.proofs.Results.{fits_in_range}
 use Rattle.place_gen.proofs.Carry.{finish, finish_bind, Any, AtKind, use_of, reach, Ends, wider, Carries, Stands, Within, on_step, stop_comes, branch_carries}
 use Rattle.place_gen.proofs.Carry.{none_carries, here, ends_at, join_carries}
@@ -72,7 +72,7 @@ module _ (p : Program) (body : Option ℕ) where
       let m : c.used + 1 ≡ length (L ++ OfLimit limit ∷ []) = omega (arith, used, length-append L (OfLimit limit ∷ [])) in
       on_step p (at c1 end ops) (at c (end + 1) ops) (scene_of w cells) (without c.used (c.used + 1) cells) _ (s cells)
       (hk tt (cut (length w.store - 1) w) tt le (without c.used (c.used + 1) cells)
-      (cuts L (OfLimit limit ∷ []) w.store cells (length w.store - 1) c.used (c.used + 1) n used m keeps))
+      (cuts forgotten L (OfLimit limit ∷ []) w.store cells (length w.store - 1) c.used (c.used + 1) n used m (limit_forgotten L limit) keeps))
 
   limit_sized : (way : Way) (ts : Stretch) → ((ks : List OperandKind) (m : Spot) (pc : ℕ) → length (ts.lines ks m pc) ≡ ts.size)
       → (ks : List OperandKind) (m : Spot) (pc : ℕ) → length ((limit_code way ts).lines ks m pc) ≡ (limit_code way ts).size
@@ -107,7 +107,7 @@ module _ (p : Program) (body : Option ℕ) where
             let is_free' : is_free (cells (run_cell c.used)) ≡ true = ap is_free (keeps.beyond c.used (omega (arith, used))) in
             let does : step p now cells ≡ cond (cells_fit (c.used + 1)) (goes_on (fetch x w)) (Halts CellRoom) =
             here p pc (Limit way end) ks m has.0 c (Of v ∷ keep_place x ops) cells
-            ∙ ap (λ t. cond (cells_fit (c.used + 1)) (cond t (on_word (cells (run_cell x.variable)) (λ n. goes_on (value_in kinds.Int n))) Unknown)
+            ∙ ap (λ t. cond (cells_fit (c.used + 1)) (cond t (on_cell kinds.Int (cells (run_cell x.variable)) goes_on) Unknown)
             (Halts CellRoom)) is_free' ∙ ap (λ go. cond (cells_fit (c.used + 1)) go (Halts CellRoom)) read.1 in
             let run =
             λ (w : World). bind (branch (is_past way z (number_of (fetch x w))) (Gives (tt {0})) (turns n (t r)) w)

@@ -213,6 +213,7 @@ module _ (p : Program) (body : Option ℕ) where
   pub number_fits : (v : Value) → IsOf kinds.Int v → FitsSigned w16 (number_of v)
   number_fits (item.Int z) h = h
   number_fits (item.Truth b) h = absurd h
+  number_fits (item.Text t) h = absurd h
 
   -- the limit is read out of its cell
   limit_read : (limit : ℤ) (U : Uses) (c : Position) (store : List Slot) (cells : Cells) (go : ℤ → Move) → Under limit U → c.used ≡ length U
@@ -222,7 +223,7 @@ module _ (p : Program) (body : Option ℕ) where
       let is : slice_get U (length l.0) ≡ Some (OfLimit limit) =
       ap (λ U. slice_get U (length l.0)) l.1
       ∙ (let e : length l.0 ≡ length l.0 + 0 = omega arith in ap (slice_get (l.0 ++ OfLimit limit ∷ [])) e ∙ get_right l.0 (OfLimit limit ∷ []) 0) in
-      ap (λ n. on_number (cells (run_cell n)) go) n ∙ reads_limit U store cells (length l.0) limit (λ v. go (number_of v)) h is
+      ap (λ n. on_number (cells (run_cell n)) go) n ∙ reads_limit U store cells (length l.0) limit go h is
 
   stepped : {U : Uses} (t : Bool) (way : Way) (limit z : ℤ) (x : Place) (b : ℕ) (c next exit : Position) (k : Bool → World → Ending)
       (l : Exit' → Option Value → World → Ending) → ((a : Bool) (w : World) → Any U a → w.marks ≤ b → Ends p U (cond a next exit) w (k a w)) → (w : World)

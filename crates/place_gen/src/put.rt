@@ -35,6 +35,7 @@ pub fn kind_in(of: ElanType) -> Kind
     match of {
         ElanType::Int => Kind::Int,
         ElanType::Bool => Kind::Truth,
+        ElanType::Text => Kind::Text,
     }
 }
 
