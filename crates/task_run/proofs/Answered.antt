@@ -11,7 +11,7 @@ use Rattle.code_form.specs.Program.{Program}
 use Rattle.code_form.specs.Machine.{Control, Rest, rest_at, answered}
 use Rattle.code_form.specs.Runs.{IsPaused, Rests, Stands, asked}
 use Rattle.code_form.proofs.Spent.{stands_run, stands_reply}
-use Rattle.zero_steps.specs.Stepping.{scene_of}
+use Rattle.zero_state.specs.Stepping.{scene_of}
 
 module _ (p : Program) (first : Control) (before : Cells) (spent : ℕ) (replies : List Reply) where
   pub stands_there : (c c' : Control) (cells : Cells) (left marks : ℕ) (how : Halt) (r : Rest) → r ≡ rest_at how c' (scene_of r.scene.cells marks)

@@ -10,7 +10,7 @@ ghost use Rattle.eu_base.specs.Cells.{Cells, held_of, AreBare, HasFaultCause};
 ghost use Rattle.code_form.specs.Machine.{Control, Rest, start, answered, written_from};
 ghost use Rattle.code_form.specs.Valid.{Fits};
 ghost use Rattle.code_form.specs.Runs.{IsPaused, Rests, Stands, asked};
-ghost use Rattle.zero_steps.specs.Stepping.{scene_of};
+ghost use Rattle.zero_state.specs.Stepping.{scene_of};
 ghost use Rattle.zero_machine.specs.Running.{RestsSo};
 
 use code_form::{Code, Halt, Waits};
@@ -27,7 +27,7 @@ pub struct TaskRun {
 
 impl Model for TaskRun {
     ghost use Rattle.code_form.specs.Machine.{Control};
-    ghost use Rattle.zero_steps.specs.Stepping.{control_of};
+    ghost use Rattle.zero_state.specs.Stepping.{control_of};
 
     ghost Value = { Control };
 

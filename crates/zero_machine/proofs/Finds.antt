@@ -21,7 +21,7 @@ use Rattle.code_form.specs.Program.{Program, line_of, instr_of, owner, frame_cel
 use Rattle.code_form.specs.Machine.{Frame, Position, free, base_of}
 use Rattle.code_form.specs.Valid.{pushed_kinds, pushed_operands, HasResult, IsCalled, IsFine, IsValid, FitsKinds, FitsFrames, Fits}
 use Rattle.code_form.proofs.Safe.{level_below, frame_below, by_layout, as_proc, as_refined, same_owner}
-use Rattle.zero_steps.specs.Finds.{TopValue, TopPlace, TopBoth, TopValues, TopResult, HasProc, IsInside, is_in_proc, Finds}
+use Rattle.zero_state.specs.Finds.{TopValue, TopPlace, TopBoth, TopValues, TopResult, HasProc, IsInside, is_in_proc, Finds}
 
 -- the instruction of a state that fits is the one that stands in the code
 pub the_instr : (p : Program) (c : Position) (fits : Fits p (free c)) (i : Instr) → Some i ≡ instr_of (slice_get p.lines c.pc) → fits.next.0 ≡ i

@@ -1,23 +1,25 @@
 -- A step from a state that fits leaves one that fits, nearer to the end.
-use Rattle.std.proofs.Common.{◌≡◌, ℕ, zero, suc, ◌<◌, refl, length, Option, Some, None, sym, ap, ◌∙◌, subst, arith}
+use Rattle.std.proofs.Common.{◌≡◌, ℕ, zero, suc, ◌<◌, refl, length, Option, Some, None, sym, ap, ◌∙◌, subst, arith, inl, inr}
 use Rattle.std.specs.Prelude.{Result, Ok, Err, IfOk, OnOk, slice_get}
 use Rattle.eu_base.specs.Cells.{Cells}
 use Rattle.code_form.specs.declared.instr.Instr.{Instr}
+use Rattle.eu_base.specs.declared.stop.Stop.TheVariants as stop
 use Rattle.code_form.specs.declared.halt.Halt.{Halt}
 use Rattle.code_form.specs.declared.halt.Halt.TheVariants as halts
 use Rattle.code_form.specs.declared.waits.Waits.{Waits}
 use Rattle.code_form.specs.declared.waits.Waits.TheVariants.{Nothing}
 use Rattle.code_form.specs.Program.{Program, instr_of}
 use Rattle.code_form.specs.Machine.{Position, Control, free, asking, After, To, Asks, Stops, Unsaid, Move, Goes, Spends as Pays, Halts, Ends, Unknown}
-use Rattle.code_form.specs.Machine.{Stuck, Scene, Rest, On}
+use Rattle.code_form.specs.Machine.{Stuck, Scene, Rest, Stage, On}
 use Rattle.code_form.specs.Machine.{Over, Lost, after_stage, mark_stage, stage, stage_at, advance, rest_at, instruction, step}
 use Rattle.code_form.specs.Valid.{IsValid, Fits}
 use Rattle.code_form.specs.Runs.{IsSafe, steps_left}
 use Rattle.code_form.proofs.Safe.{stays_fit}
 use Rattle.code_form.proofs.Steps.{nearer}
-use Rattle.zero_steps.specs.Stepping.{stage_of, stage_by, halt_of, scene_of, Does, Steps}
+use Rattle.zero_state.specs.Stepping.{stage_of, stage_by, halt_of, scene_of, Does, Leads, Steps}
+use Rattle.zero_state.proofs.Room.{like_fits}
 use Rattle.zero_machine.specs.Running.{Spends}
-use Rattle.zero_steps.specs.declared.next.Next.{Next}
+use Rattle.zero_state.specs.declared.next.Next.{Next}
 
 -- where nothing is waited for
 pub fits_free : (p : Program) (c : Control) → c.waits ≡ Nothing → Fits p c → Fits p (free c.position)
@@ -91,28 +93,46 @@ module _ {E : Type 0} (p : Program) (c : Control) (result : Result Next E) (befo
       by (Ok next) h = λ cells held. subst (Does after (halt_of next) c' marks') (step_is cells) (h.does cells held)
       by (Err e) h = tt
 
-  -- it is a step from a position that fits
+  -- it is a step from a position that fits, with operands of the same kinds
   module _ (next : Next) (h : Made next) where
+    abbrev from : Position
+    from = record c.position { ops = h.ops }
+
     abbrev at_from : Scene
     at_from = scene_of h.cells marks
 
-    leads : stage_of (halt_of next) c' (scene_of h.now marks') ≡ stage (step p h.from h.cells) h.from at_from
-    leads =
-        h.leads ∙ ap (λ o. stage (instruction p o h.from h.cells) h.from at_from) (is ∙ ap (λ pc. instr_of (slice_get p.lines pc)) (sym h.like.pc))
+    abbrev there : Stage
+    there = stage (step p from h.cells) from at_from
+
+    is_there : stage_by p i marks from h.cells ≡ there
+    is_there = ap (λ o. stage (instruction p o from h.cells) from at_from) is
+
+    from_fits : Fits p (free from)
+    from_fits = like_fits p c.position h.ops h.like fits
+
+    so_good : (how : Option Halt) (d : Control) (s : Scene) → stage_of how d s ≡ there → Fits p d × Spends marks s.marks d.waits
+    so_good = stage_good p from at_from from_fits (step p from h.cells) (stays_fit.steps p from h.cells valid from_fits)
 
     good : Fits p c' × Spends marks marks' c'.waits
-    good =
-        let f : Fits p (free h.from) = h.like.fits p fits in
-        stage_good p h.from at_from f (step p h.from h.cells) (stays_fit.steps p h.from h.cells valid f) (halt_of next) c' (scene_of h.now marks') leads
+    good = by (subst (Leads next c.position c' marks') is_there h.leads)
+      where
+        by : Leads next c.position c' marks' there → Fits p c' × Spends marks marks' c'.waits
+        by (inl so) = so_good (halt_of next) c' (scene_of so.0 marks') so.1
+        by (inr stays) =
+            let on = so_good None stays.after (scene_of stays.now marks') (sym stays.goes) in
+            subst (λ (d : Control). Fits p d × Spends marks marks' d.waits) (sym stays.stays)
+            (fits, record { fewer = on.1.fewer; paid = λ some. absurd (cc some) })
 
     near : halt_of next ≡ None
         → steps_left p.lines marks' (length c'.position.frames) c'.position.pc < steps_left p.lines marks (length c.position.frames) c.position.pc
-    near on =
-        let e : On c' (scene_of h.now marks') ≡ stage (step p h.from h.cells) h.from at_from =
-        ap (λ how. stage_of how c' (scene_of h.now marks')) (sym on) ∙ leads in
-        subst (λ n. steps_left p.lines marks' (length c'.position.frames) c'.position.pc < steps_left p.lines marks n c.position.pc) h.like.frames
-        (subst (λ pc. steps_left p.lines marks' (length c'.position.frames) c'.position.pc < steps_left p.lines marks (length h.from.frames) pc) h.like.pc
-        (nearer p valid h.from c' at_from (scene_of h.now marks') e))
+    near on = by (subst (Leads next c.position c' marks') is_there h.leads)
+      where
+        by : Leads next c.position c' marks' there
+            → steps_left p.lines marks' (length c'.position.frames) c'.position.pc < steps_left p.lines marks (length c.position.frames) c.position.pc
+        by (inl so) =
+            nearer p valid from c' at_from (scene_of so.0 marks') (ap (λ how. stage_of how c' (scene_of so.0 marks')) (sym on) ∙ so.1)
+        by (inr stays) =
+            let stops : Some (halts.Stopped stop.TextRoom) ≡ None = sym (ap halt_of stays.stops) ∙ on in absurd (cc stops)
 
   pub step_fits : IfOk result Made → OnOk result (Fits p c')
   step_fits h = by result h

@@ -1,4 +1,5 @@
 pub mod Finds
+pub mod Executing
 pub mod Fitting
 pub mod Running
 pub mod Starting

@@ -11,7 +11,7 @@ use Rattle.code_form.specs.Machine.{Control, asking, Scene, Rest, Stage, On, Ove
 use Rattle.code_form.specs.Runs.{Rests, asked}
 use Rattle.code_form.proofs.Steps.{last_step}
 use Rattle.code_form.proofs.Resume.{one_rest}
-use Rattle.zero_steps.specs.Stepping.{scene_of, due, Does}
+use Rattle.zero_state.specs.Stepping.{scene_of, due, Does}
 use Rattle.zero_machine.specs.Running.{RestsSo}
 
 -- where something is waited for, the machine rests so

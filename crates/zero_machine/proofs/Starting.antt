@@ -8,7 +8,7 @@ use Rattle.code_form.specs.Valid.{IsValid, Fits, is_refused}
 use Rattle.code_form.specs.declared.waits.Waits.{Waits}
 use Rattle.code_form.specs.declared.waits.Waits.TheVariants.{Nothing, Refused}
 use Rattle.eu_base.specs.declared.stop.Stop.TheVariants.{CellRoom}
-use Rattle.zero_steps.specs.Stacked.{Stacked}
+use Rattle.zero_state.specs.Stacked.{Stacked}
 
 -- it fits its code
 pub start_fits : (p : Program) → IsValid p → Fits p (start (length p.variables))

@@ -5,7 +5,7 @@ use Rattle.code_form.specs.declared.halt.Halt.{Halt}
 use Rattle.code_form.specs.declared.waits.Waits.{Waits}
 use Rattle.code_form.specs.Machine.{Control, Rest, rest_at}
 use Rattle.code_form.specs.Runs.{asked}
-use Rattle.zero_steps.specs.Stepping.{scene_of}
+use Rattle.zero_state.specs.Stepping.{scene_of}
 
 -- a step makes no marks, and a request costs one
 pub record Spends (before after : ℕ) (waits : Waits) : Type 0 where

@@ -10,13 +10,15 @@ ghost use Rattle.code_form.specs.declared.waits.Waits.TheVariants as waits;
 ghost use Rattle.code_form.specs.Machine.{Rest, start, advance, answered, written_from};
 ghost use Rattle.code_form.specs.Valid.{Fits};
 ghost use Rattle.code_form.specs.Runs.{Rests, Resumes, Replies, IsOne, StaysFit, asked, steps_left};
-ghost use Rattle.zero_steps.specs.Stepping.{position_of, control_of, scene_of, halt_of, Does};
+ghost use Rattle.zero_state.specs.Stepping.{position_of, control_of, scene_of, halt_of, Does};
 ghost use Rattle.zero_machine.specs.Running.{Spends, RestsSo};
 
+use crate::instruction::execute;
 use code_form::{Code, Halt, Waits};
 use eu_base::{CELLS, Kind, MemFault, Memory, Reply, Stop};
 use std::alloc::Global;
-use zero_steps::{Next, Stack, State, execute, write_blanks};
+use zero_calls::write_blanks;
+use zero_state::{Next, Stack, State};
 
 // One step, where nothing is waited for.
 fn advance<M: Memory>(

@@ -1,4 +1,4 @@
 mod Copies
 mod Parts
 mod Places
-mod Numbers
+mod Spelled

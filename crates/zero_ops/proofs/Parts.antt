@@ -4,7 +4,7 @@ use Rattle.std.specs.Prelude.{◌&&◌, nat_le, take, drop, min, ℤ, pos, negsu
 use Rattle.std.proofs.lemmas.Bool.{cases_lt}
 use Rattle.std.proofs.lemmas.Bool.Decides.{nat_tests}
 use Rattle.std.proofs.lemmas.List.{take_all, drop_all, same_lists, places}
-use Rattle.zero_ops.specs.Texts.{bytes_at, count_of, fitting, subtext}
+use Rattle.eu_base.specs.Texts.{bytes_at, count_of, subtext}
 
 -- the bytes at the same places
 pub bytes_at-same : (p q : ℕ → Bool) → ((k : ℕ) → 1 ≤ k → p k ≡ q k) → (k : ℕ) (t : List ℕ) → 1 ≤ k → bytes_at p k t ≡ bytes_at q k t
@@ -64,7 +64,7 @@ pub part_is : (low high start end : ℕ) (t : List ℕ) → end ≡ min high (le
     → take (end - start) (drop start t) ≡ front low high 1 t
 part_is low high start end t e s = same_lists _ _ (search (arith, places)) (λ k d h. grind (arith, places))
 
-pub subtext_is : (a b : ℤ) (m n : ℕ) (t bytes : List ℕ) → m ≡ count_of a → n ≡ count_of b → bytes ≡ bytes_at (between m n) 1 t → fitting bytes ≡ subtext t a b
+pub subtext_is : (a b : ℤ) (m n : ℕ) (t bytes : List ℕ) → m ≡ count_of a → n ≡ count_of b → bytes ≡ bytes_at (between m n) 1 t → bytes ≡ subtext t a b
 subtext_is a b m n t bytes p q e =
     let f : bytes ≡ bytes_at (between (count_of a) (count_of b)) 1 t = rw (← p, ← q) e in
-    ap fitting (f ∙ bytes_at-same _ (λ k. int_le a (pos k) && int_le (pos k) b) (counts_between a b) 1 t (omega arith))
+    f ∙ bytes_at-same _ (λ k. int_le a (pos k) && int_le (pos k) b) (counts_between a b) 1 t (omega arith)

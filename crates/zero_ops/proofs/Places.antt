@@ -3,7 +3,7 @@ use Rattle.std.proofs.Common.{ℕ, suc, ◌+◌, ◌-◌, ◌<◌, ◌≡◌, Bo
 use Rattle.std.specs.Prelude.{find, drop, take, nat_eq, unwrap_or}
 use Rattle.std.specs.List.{range_with_len, starts_with}
 use Rattle.std.proofs.lemmas.List.{take_rest}
-use Rattle.zero_ops.specs.Texts.{stands_at, first_place}
+use Rattle.eu_base.specs.Texts.{stands_at, first_place}
 
 -- the places behind k of n
 abbrev pub places : ℕ → ℕ → List ℕ

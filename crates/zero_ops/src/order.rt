@@ -1,13 +1,6 @@
 //! Texts by the order of their bytes.
 ghost use Rattle.std.specs.Prelude.{◌≡◌};
-ghost use Rattle.zero_ops.specs.Texts.{is_equal, is_less};
-
-/// `s = t`; `s <> t` where it is not so
-pub fn is_equal(s: &[u8], t: &[u8]) -> bool
-    ensures { result ≡ is_equal s.now t.now }
-{
-    s == t
-}
+ghost use Rattle.eu_base.specs.Texts.{is_less};
 
 /// `s < t`, and so `t > s`; `t <= s` and `s >= t` where it is not so
 pub fn is_less(s: &[u8], t: &[u8]) -> bool

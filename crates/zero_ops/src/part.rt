@@ -1,32 +1,26 @@
 //! Parts of texts. Places outside a text are passed over.
-ghost use Rattle.std.specs.Prelude.{◌≡◌, ◌&&◌, nat_le};
-ghost use Rattle.zero_ops.specs.Texts.{subtext, subtext_from, byte_at, bytes_at};
+ghost use Rattle.std.specs.Prelude.{◌≡◌, ◌&&◌, nat_le, length, pos};
+ghost use Rattle.eu_base.specs.Operations.{fitting};
+ghost use Rattle.eu_base.specs.Texts.{subtext, bytes_at};
 ghost use Rattle.zero_ops.specs.Given.{Gives};
 
 use crate::error::OpError;
 use crate::limit::{count, fitting};
-use eu_base::Bytes;
+use eu_base::Value;
 use std::alloc::Global;
 
-/// `subtext (t, a, b)`
-pub fn subtext(alloc: Global, t: &[u8], a: i16, b: i16) -> Result<Bytes, OpError>
-    ensures { Gives result (subtext t.now a b) }
+/// `subtext (t, a, b)`, and `t SUB i` where both are `i`
+pub fn subtext(alloc: Global, t: &[u8], a: i16, b: i16) -> Result<Value, OpError>
+    ensures { Gives result (fitting (subtext t.now a b)) }
 {
     fitting(alloc, part(t, count(a), count(b)))
 }
 
 /// `subtext (t, a)`
-pub fn subtext_from(alloc: Global, t: &[u8], a: i16) -> Result<Bytes, OpError>
-    ensures { Gives result (subtext_from t.now a) }
+pub fn subtext_from(alloc: Global, t: &[u8], a: i16) -> Result<Value, OpError>
+    ensures { Gives result (fitting (subtext t.now a (pos (length t.now)))) }
 {
     fitting(alloc, part(t, count(a), t.len()))
-}
-
-/// `t SUB i`
-pub fn byte_at(alloc: Global, t: &[u8], i: i16) -> Result<Bytes, OpError>
-    ensures { Gives result (byte_at t.now i) }
-{
-    subtext(alloc, t, i, i)
 }
 
 // The bytes at places from `first` to `last` that exist.

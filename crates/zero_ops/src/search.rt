@@ -1,25 +1,9 @@
-//! Lengths and places.
+//! Places of texts in texts.
 ghost use Rattle.std.specs.Prelude.{◌≡◌};
-ghost use Rattle.zero_ops.specs.Texts.{length_of, place_of, first_place};
-
-use crate::limit::counted;
-use eu_base::Stop;
-
-/// `LENGTH t`
-pub fn length_of(t: &[u8]) -> Result<i16, Stop>
-    ensures { result ≡ length_of t.now }
-{
-    counted(t.len())
-}
+ghost use Rattle.eu_base.specs.Texts.{first_place};
 
 /// `pos (t, u)`
-pub fn place_of(t: &[u8], u: &[u8]) -> Result<i16, Stop>
-    ensures { result ≡ place_of t.now u.now }
-{
-    counted(first_place(t, u))
-}
-
-fn first_place(t: &[u8], u: &[u8]) -> usize
+pub fn first_place(t: &[u8], u: &[u8]) -> usize
     ensures { result ≡ first_place t.now u.now }
 {
     if u.is_empty() {

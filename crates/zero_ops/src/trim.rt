@@ -1,6 +1,6 @@
 //! Blanks at both ends of a text.
 ghost use Rattle.std.specs.Prelude.{◌≡◌, reverse};
-ghost use Rattle.zero_ops.specs.Texts.{is_blank, behind_blanks, trimmed};
+ghost use Rattle.eu_base.specs.Texts.{is_blank, behind_blanks, trimmed};
 
 /// A text without the blanks at its ends: the bytes 9, 10, 13 and 32.
 pub fn trimmed(t: &[u8]) -> &[u8]

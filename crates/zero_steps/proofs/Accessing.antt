@@ -1,5 +1,5 @@
 -- Steps of the machine that look at memory.
-use Rattle.std.proofs.Common.{◌≡◌, ℕ, zero, suc, ◌+◌, ◌-◌, Bool, true, false, cond, List, [], ◌∷◌, Option, Some, None, refl, sym, ap, ◌∙◌, subst, arith, ℤ}
+use Rattle.std.proofs.Common.{◌≡◌, ℕ, zero, suc, ◌+◌, ◌-◌, Bool, true, false, cond, List, ◌∷◌, Option, Some, None, refl, sym, ap, ◌∙◌, subst, arith, ℤ, ◌⊎◌, inl, inr}
 use Rattle.std.proofs.Common.{to_z, of_z}
 use Rattle.std.specs.Prelude.{Ok, Err}
 use Rattle.std.specs.Int.{w16}
@@ -15,14 +15,13 @@ use Rattle.eu_base.specs.declared.operation.Change.{Change}
 use Rattle.eu_base.specs.declared.operation.Way.{Way}
 use Rattle.eu_base.specs.declared.stop.Stop.{Stop}
 use Rattle.eu_base.specs.declared.stop.Stop.TheVariants as stops
-use Rattle.eu_base.specs.Values.{number_of, cell_of, value_in}
-use Rattle.eu_base.specs.Room.{cells_fit, bytes_fit}
+use Rattle.eu_base.specs.declared.set.Set.TheVariants.{Done, HeapFull}
+use Rattle.eu_base.specs.Values.{number_of, cell_of, IsOf, number_in}
+use Rattle.eu_base.specs.Room.{cells_fit, bytes_fit, texts_fit}
 use Rattle.eu_base.specs.Operations.{Given, changed, is_past, has_reached, next_number}
-use Rattle.eu_base.specs.Cells.{Cell, Free, Word, Letters, Cells, held_of, IsCell, run_cell, place_in, written, cell_blocks}
+use Rattle.eu_base.specs.Cells.{Cell, Free, Word, Letters, Cells, held_of, IsCell, run_cell, place_in, written, cell_blocks, blocks_in}
 use Rattle.code_form.specs.declared.operand.Operand.{Operand}
 use Rattle.code_form.specs.declared.operand.Operand.TheVariants.{Value as Of, Place as At}
-use Rattle.code_form.specs.declared.operand.OperandKind.{OperandKind}
-use Rattle.code_form.specs.declared.operand.OperandKind.TheVariants.{Value as OfKind, Place as AtKind}
 use Rattle.code_form.specs.declared.halt.Halt.{Halt}
 use Rattle.code_form.specs.declared.halt.Halt.TheVariants as halts
 use Rattle.code_form.specs.declared.waits.Waits.{Waits}
@@ -30,14 +29,17 @@ use Rattle.code_form.specs.declared.waits.Waits.TheVariants.{Nothing}
 use Rattle.code_form.specs.declared.instr.Instr.{Instr}
 use Rattle.code_form.specs.declared.instr.Instr.TheVariants.{Param, Load, Store, Modify, Limit, Step}
 use Rattle.code_form.specs.Machine.{Position, Control, free, Move, Goes, Halts, Unknown, Scene, On, bytes_on, bytes_of, base_of, on_value, on_place}
-use Rattle.code_form.specs.Machine.{takes_number, limit_to, at, using, goes, pushes, or_halt, on_word, on_number, is_free, stage}
-use Rattle.code_form.specs.Valid.{FitsKinds}
-use Rattle.zero_steps.specs.Finds.{TopBoth}
-use Rattle.zero_steps.specs.Stacked.{Stacked}
-use Rattle.zero_steps.specs.declared.next.Next.{Next}
-use Rattle.zero_steps.specs.declared.next.Next.TheVariants.{On as On', CellRoom, OperandRoom}
-use Rattle.zero_steps.specs.Stepping.{stage_of, scene_of, halt_of, Does, Like, Accesses}
-use Rattle.zero_steps.proofs.Making.{alike, done, plain}
+use Rattle.code_form.specs.Program.{Program}
+use Rattle.code_form.specs.Machine.{takes, puts, limit_to, at, using, goes, pushes, or_halt, on_word, on_number, on_cell, is_free, stage}
+use Rattle.zero_state.specs.Finds.{TopBoth}
+use Rattle.zero_state.specs.Stacked.{Stacked}
+use Rattle.zero_state.specs.declared.next.Next.{Next}
+use Rattle.zero_state.specs.declared.next.Next.TheVariants.{On as On', CellRoom, OperandRoom, TextRoom}
+use Rattle.zero_state.specs.Stepping.{stage_of, scene_of, stage_by, halt_of, Does, AreLike, Accesses}
+use Rattle.zero_steps.specs.Reading.{Reads, PutsCell}
+use Rattle.zero_state.proofs.Room.{same_like}
+use Rattle.zero_state.proofs.Emptied.{emptied, emptied_like}
+use Rattle.zero_state.proofs.Making.{done, plain}
 
 -- what memory answered is what it was known to hold
 abbrev pub Answers : (Cells → Type 0) → Addr → ℕ → Type 0
@@ -47,26 +49,28 @@ Answers before a n = (cells : Cells) (m : ℕ) → before cells → cells a ≡ 
 abbrev pub Keeps : (before after : Cells → Type 0) → Type 0
 Keeps before after = (cells : Cells) → before cells → after cells
 
-abbrev pub Writes : (before after : Cells → Type 0) → Addr → Value → Type 0
-Writes before after a v = (cells : Cells) → before cells → cell_blocks (cells a) ≡ 0 → after (written cells a (held_of v))
+abbrev pub Writes : (before after : Cells → Type 0) → Addr → Cell → Type 0
+Writes before after a x = (cells : Cells) → before cells → cell_blocks (cells a) ≡ 0 → after (written cells a x)
 
-pub writes : (before between after : Cells → Type 0) (a : Addr) (v : Value) (n : ℕ) → n ≡ cell_of v → Keeps before between
-    → ((cells : Cells) → between cells → cell_blocks (cells a) ≡ 0 → after (written cells a (Word n))) → Writes before after a v
-writes before between after a v n is kept put cells h bare = subst (λ n. after (written cells a (Word n))) is (put cells (kept cells h) bare)
+pub writes : (before between after : Cells → Type 0) (a : Addr) (x : Cell) (n : ℕ) → Word n ≡ x → Keeps before between
+    → ((cells : Cells) → between cells → cell_blocks (cells a) ≡ 0 → after (written cells a (Word n))) → Writes before after a x
+writes before between after a x n is kept put cells h bare = subst (λ x. after (written cells a x)) is (put cells (kept cells h) bare)
 
 -- a number of 16 bits is what it stands for
 pub same_number : (z y : ℤ) → FitsSigned w16 z → z ≡ y → to_z w16 (of_z w16 z) ≡ y
 same_number z y fits is = to_z-of_z w16 z fits ∙ is
 
-pub same_word : (z : ℤ) (v : Value) (n : ℕ) → FitsSigned w16 z → z ≡ number_of v → v ≡ value_in kinds.Int n
-    → to_z w16 (of_z w16 z) ≡ number_of (value_in kinds.Int n)
-same_word z v n fits is read = same_number z (number_of v) fits is ∙ ap number_of read
+-- a number stands in a cell as a number
+pub held_number : (v : Value) → IsOf kinds.Int v → Word (cell_of v) ≡ held_of v
+held_number (item.Int z) is = refl
+held_number (item.Truth b) is = absurd is
+held_number (item.Text t) is = absurd is
 
 pub writes_number : (before between after : Cells → Type 0) (a b : Addr) (z y : ℤ) (n : ℕ) → a ≡ b → z ≡ y → n ≡ cell_of (item.Int z) → Keeps before between
-    → ((cells : Cells) → between cells → cell_blocks (cells a) ≡ 0 → after (written cells a (Word n))) → Writes before after b (item.Int y)
+    → ((cells : Cells) → between cells → cell_blocks (cells a) ≡ 0 → after (written cells a (Word n))) → Writes before after b (held_of (item.Int y))
 writes_number before between after a b z y n here is held kept put =
-    subst (λ b. Writes before after b (item.Int y)) here
-    (writes before between after a (item.Int y) n (held ∙ ap (λ z. cell_of (item.Int z)) is) kept put)
+    subst (λ b. Writes before after b (held_of (item.Int y))) here
+    (writes before between after a (held_of (item.Int y)) n (ap Word (held ∙ ap (λ z. cell_of (item.Int z)) is)) kept put)
 
 pub limit_answers : (before between : Cells → Type 0) (a : Addr) (k n : ℕ) → a ≡ run_cell k → Keeps before between → Answers between a n
     → Answers before (run_cell k) n
@@ -89,42 +93,12 @@ else : (cells : Cells) (k : ℕ) (x : Cell) → written cells (beside k) x (run_
 else cells zero x = refl
 else cells (suc k) x = ap (λ b. cond b x (cells (run_cell (suc k)))) (ne_eqb (suc k) 0 (λ e. omega (arith, e)))
 
--- another place fits where one does
-place_fits : (a b : Addr) (ops : List Operand) → IsCell b → (ks : List OperandKind) → FitsKinds (At a ∷ ops) ks → FitsKinds (At b ∷ ops) ks
-place_fits a b ops cell [] f = absurd f
-place_fits a b ops cell (OfKind k ∷ ks) f = absurd f.0
-place_fits a b ops cell (AtKind k ∷ ks) f = (cell, f.1)
-
-below_fits : (v : Value) (a b : Addr) (ops : List Operand) → IsCell b → (ks : List OperandKind) → FitsKinds (Of v ∷ At a ∷ ops) ks
-    → FitsKinds (Of v ∷ At b ∷ ops) ks
-below_fits v a b ops cell [] f = absurd f
-below_fits v a b ops cell (k ∷ ks) f = (f.0, place_fits a b ops cell ks f.1)
-
 -- what stands where these operands are pending
 abbrev pub standing : (pc used : ℕ) → Stacked → Position
 standing pc used t = record { pc = pc; ops = t.ops; used = used; frames = t.frames }
 
 abbrev pub with_ops : Stacked → List Operand → Stacked
 with_ops t ops = record { ops = ops; frames = t.frames }
-
-like_at : (pc used : ℕ) (t : Stacked) (ops ops' : List Operand) → ((ks : List OperandKind) → FitsKinds ops ks → FitsKinds ops' ks)
-    → bytes_on ops (bytes_of t.frames) ≡ bytes_on ops' (bytes_of t.frames)
-    → Like (standing pc used (with_ops t ops')) (standing pc used (with_ops t ops))
-like_at pc used t ops ops' fits same = record {
-  pc = refl;
-  frames = refl;
-  fits = λ p f. record {
-    kinds = f.kinds;
-    spot = f.spot;
-    floor = f.floor;
-    next = f.next;
-    operands = fits f.kinds f.operands;
-    frames = f.frames;
-    used = f.used;
-    cells = f.cells;
-    bytes = ap bytes_fit (sym same) ∙ f.bytes;
-  };
-}
 
 -- two operands that were taken, or put back
 pub both : (s t u : Stacked) (a b : Operand) → s ≡ with_ops t (a ∷ t.ops) → t ≡ with_ops u (b ∷ u.ops) → s ≡ with_ops u (a ∷ b ∷ u.ops)
@@ -166,12 +140,6 @@ module _ (before after : Cells → Type 0) where
     on_free (Word n) m d = tt
     on_free (Letters t) m d = tt
 
-    on_number_cell : (x : Cell) (m : Move) → (cell_blocks x ≡ 0 → Does after how c' marks (stage m c s))
-        → Does after how c' marks (stage (cond (takes_number x) m Unknown) c s)
-    on_number_cell Free m d = d refl
-    on_number_cell (Word n) m d = d refl
-    on_number_cell (Letters t) m d = tt
-
   pub param_so : (k n : ℕ) (a place : Addr) (c : Position) (c' : Control) (next : Next) → a ≡ run_cell (base_of c.frames + k) → place ≡ place_in n
       → Answers before a n → Keeps before after
       → ((cells : Cells) (marks : ℕ) → stage_of (halt_of next) c' (scene_of cells marks) ≡ stage (pushes c (At place) c.ops cells) c (scene_of cells marks))
@@ -186,65 +154,126 @@ module _ (before after : Cells → Type 0) where
             is
             (on_known (halt_of next) c' marks c (scene_of cells marks) (cells a) (λ n. pushes c (At (place_in n)) c.ops cells) n
             (λ m e. answers cells m h e) (λ bare. done after (halt_of next) c' marks _ cells (kept cells h) (pushed cells)));
-        from = c;
-        like = alike c;
+        ops = c.ops;
+        like = same_like c.ops;
         cells = λ _. Word n;
-        now = λ _. Word n;
-        leads = pushed (λ _. Word n);
+        leads = inl ((λ _. Word n), pushed (λ _. Word n));
       }
 
-  module _ (kind : Kind) (n : ℕ) (a : Addr) (pc used : ℕ) (t : Stacked) (answers : Answers before a n) (kept : Keeps before after) where
+  module _ (kind : Kind) (v : Value) (a : Addr) (pc used : ℕ) (t : Stacked) (reads : Reads before a kind v) (kept : Keeps before after) where
     abbrev loading : Position
     loading = standing pc used (with_ops t (At a ∷ t.ops))
 
-    abbrev loads : Cells → Move
-    loads cells = pushes loading (Of (value_in kind n)) t.ops cells
+    abbrev loads : Cells → Value → Move
+    loads cells v = pushes loading (Of v) t.ops cells
 
     load_so : (c' : Control) (next : Next)
-        → ((cells : Cells) (marks : ℕ) → stage_of (halt_of next) c' (scene_of cells marks) ≡ stage (loads cells) loading (scene_of cells marks))
+        → ((cells : Cells) (marks : ℕ) → stage_of (halt_of next) c' (scene_of cells marks) ≡ stage (loads cells v) loading (scene_of cells marks))
         → Accesses before after (Load kind) loading c' next
     load_so c' next so p marks = record {
-      does = λ cells h.
-          on_known (halt_of next) c' marks loading (scene_of cells marks) (cells a) (λ n. pushes loading (Of (value_in kind n)) t.ops cells) n
-          (λ m e. answers cells m h e) (λ bare. done after (halt_of next) c' marks _ cells (kept cells h) (so cells marks));
-      from = loading;
-      like = alike loading;
-      cells = λ _. Word n;
-      now = λ _. Word n;
-      leads = so (λ _. Word n) marks;
+      does = λ cells h. by cells h (reads.known cells h (loads cells));
+      ops = loading.ops;
+      like = same_like loading.ops;
+      cells = λ _. reads.seen;
+      leads = inl (
+        (λ _. reads.seen),
+        so (λ _. reads.seen) marks ∙ ap (λ m. stage m loading (scene_of (λ _. reads.seen) marks)) (sym (reads.is (loads (λ _. reads.seen)))),
+      );
     }
+      where
+        by : (cells : Cells) → before cells
+            → (on_cell kind (cells a) (loads cells) ≡ loads cells v) ⊎ (on_cell kind (cells a) (loads cells) ≡ Unknown)
+            → Does after (halt_of next) c' marks (stage (on_cell kind (cells a) (loads cells)) loading (scene_of cells marks))
+        by cells h (inl e) =
+            done after (halt_of next) c' marks _ cells (kept cells h) (so cells marks ∙ ap (λ m. stage m loading (scene_of cells marks)) (sym e))
+        by cells h (inr e) = subst (λ m. Does after (halt_of next) c' marks (stage m loading (scene_of cells marks))) (sym e) tt
 
-    pub load_goes : bytes_fit (bytes_on (Of (value_in kind n) ∷ t.ops) (bytes_of t.frames)) ≡ true
-        → Accesses before after (Load kind) loading (free (standing (pc + 1) used (with_ops t (Of (value_in kind n) ∷ t.ops)))) On'
+    pub load_goes : bytes_fit (bytes_on (Of v ∷ t.ops) (bytes_of t.frames)) ≡ true
+        → Accesses before after (Load kind) loading (free (standing (pc + 1) used (with_ops t (Of v ∷ t.ops)))) On'
     load_goes room =
-        load_so (free (standing (pc + 1) used (with_ops t (Of (value_in kind n) ∷ t.ops)))) On'
+        load_so (free (standing (pc + 1) used (with_ops t (Of v ∷ t.ops)))) On'
         (λ cells marks. ap (λ m. stage m loading (scene_of cells marks)) (if_true _ _ _ room))
 
-    pub load_stops : bytes_fit (bytes_on (Of (value_in kind n) ∷ t.ops) (bytes_of t.frames)) ≡ false
-        → Accesses before after (Load kind) loading (free loading) OperandRoom
+    pub load_stops : bytes_fit (bytes_on (Of v ∷ t.ops) (bytes_of t.frames)) ≡ false → Accesses before after (Load kind) loading (free loading) OperandRoom
     load_stops full = load_so (free loading) OperandRoom (λ cells marks. ap (λ m. stage m loading (scene_of cells marks)) (if_false _ _ _ full))
 
-  pub store_so : (kind : Kind) (v : Value) (a : Addr) (pc used : ℕ) (t : Stacked) → Writes before after a v
-      → Accesses before after (Store kind) (standing pc used (with_ops t (Of v ∷ At a ∷ t.ops))) (free (standing (pc + 1) used t)) On'
-  store_so kind v a pc used t writes p marks =
-      let c = standing pc used (with_ops t (Of v ∷ At a ∷ t.ops)) in
-      let c' = free (standing (pc + 1) used t) in
-      record {
-        does = λ cells h.
-            on_number_cell None c' marks c (scene_of cells marks) (cells a) (goes c t.ops (written cells a (held_of v)))
-            (λ bare. done after None c' marks _ (written cells a (held_of v)) (writes cells h bare) refl);
-        from = c;
-        like = alike c;
-        cells = λ _. Free;
-        now = written (λ _. Free) a (held_of v);
-        leads = refl;
-      }
+  module _ (kind : Kind) (v : Value) (a : Addr) (pc used : ℕ) (t : Stacked) where
+    abbrev storing : Value → Position
+    storing v = standing pc used (with_ops t (Of v ∷ At a ∷ t.ops))
 
-  pub modify_so : (ch : Change) (n : ℕ) (v x : Value) (a : Addr) (pc used : ℕ) (t : Stacked) → Answers before a n → Writes before after a x
-      → (z w : ℤ) → z ≡ number_of (value_in kinds.Int n) → w ≡ number_of v → Ok x ≡ changed ch z w
+    abbrev stored : Control
+    stored = free (standing (pc + 1) used t)
+
+    -- "" has room in the place of a text
+    abbrev same : Cells
+    same = λ _. held_of (emptied v)
+
+    puts_on : (w : Value) (c : Position) → puts c a (emptied w) t.ops (λ _. held_of (emptied w))
+        ≡ goes c t.ops (written (λ _. held_of (emptied w)) a (held_of (emptied w)))
+    puts_on (item.Int z) c = refl
+    puts_on (item.Truth b) c = refl
+    puts_on (item.Text u) c = refl
+
+    like : AreLike (Of v ∷ At a ∷ t.ops) (Of (emptied v) ∷ At a ∷ t.ops)
+    like = (emptied_like v, ((λ cell. cell), same_like t.ops))
+
+    -- what is stored has room, or none
+    abbrev stores : Cells → Bool → Move
+    stores cells fits = cond fits (goes (storing v) t.ops (written cells a (held_of v))) (Halts stops.TextRoom)
+
+    store_so : (c' : Control) (next : Next) (marks : ℕ)
+        → ((cells : Cells) → before cells → takes (held_of v) (cells a) ≡ true
+        → Does after (halt_of next) c' marks (stage (stores cells (texts_fit (cell_blocks (held_of v)) (blocks_in (written cells a (held_of v))))) (storing v)
+        (scene_of cells marks)))
+        → (p : Program) (cells : Cells) → before cells → Does after (halt_of next) c' marks (stage_by p (Store kind) marks (storing v) cells)
+    store_so c' next marks so p cells h = by (takes (held_of v) (cells a)) refl
+      where
+        by : (b : Bool) → takes (held_of v) (cells a) ≡ b → Does after (halt_of next) c' marks
+            (stage (cond b (stores cells (texts_fit (cell_blocks (held_of v)) (blocks_in (written cells a (held_of v))))) Unknown) (storing v)
+            (scene_of cells marks))
+        by true e = so cells h e
+        by false e = tt
+
+    pub store_goes : ((cells : Cells) → before cells → takes (held_of v) (cells a) ≡ true → PutsCell after cells a (held_of v) Done)
+        → Accesses before after (Store kind) (storing v) stored On'
+    store_goes puts p marks = record {
+      does = store_so stored On' marks (λ cells h taken.
+          let put = puts cells h taken in
+          done after None stored marks _ (written cells a (held_of v)) put.1
+          (ap (λ b. stage (stores cells b) (storing v) (scene_of cells marks)) (sym put.0))) p;
+      ops = Of (emptied v) ∷ At a ∷ t.ops;
+      like = like;
+      cells = same;
+      leads = inl (
+        written same a (held_of (emptied v)),
+        ap (λ m. stage m (storing (emptied v)) (scene_of same marks)) (sym (puts_on v (storing (emptied v)))),
+      );
+    }
+
+    pub store_full : ((cells : Cells) → before cells → takes (held_of v) (cells a) ≡ true → PutsCell after cells a (held_of v) HeapFull)
+        → Accesses before after (Store kind) (storing v) (free (storing v)) TextRoom
+    store_full puts p marks = record {
+      does = store_so (free (storing v)) TextRoom marks (λ cells h taken.
+          let put = puts cells h taken in
+          done after (halt_of TextRoom) (free (storing v)) marks _ cells put.1
+          (ap (λ b. stage (stores cells b) (storing v) (scene_of cells marks)) (sym put.0))) p;
+      ops = Of (emptied v) ∷ At a ∷ t.ops;
+      like = like;
+      cells = same;
+      leads = inr (record {
+        stops = refl;
+        stays = refl;
+        after = stored;
+        now = written same a (held_of (emptied v));
+        goes = ap (λ m. stage m (storing (emptied v)) (scene_of same marks)) (puts_on v (storing (emptied v)));
+      });
+    }
+
+  pub modify_so : (ch : Change) (n : ℕ) (v x : Value) (a : Addr) (pc used : ℕ) (t : Stacked) → Answers before a n → Writes before after a (held_of x)
+      → (z w : ℤ) → z ≡ number_in n → w ≡ number_of v → Ok x ≡ changed ch z w
       → Accesses before after (Modify ch) (standing pc used (with_ops t (Of v ∷ At a ∷ t.ops))) (free (standing (pc + 1) used t)) On'
   modify_so ch n v x a pc used t answers writes z w z_is w_is e p marks =
-      let is : Ok x ≡ changed ch (number_of (value_in kinds.Int n)) (number_of v) = e ∙ ap (λ z. changed ch z w) z_is ∙ ap (changed ch _) w_is in
+      let is : Ok x ≡ changed ch (number_in n) (number_of v) = e ∙ ap (λ z. changed ch z w) z_is ∙ ap (changed ch _) w_is in
       let c = standing pc used (with_ops t (Of v ∷ At a ∷ t.ops)) in
       let c' = free (standing (pc + 1) used t) in
       record {
@@ -252,34 +281,32 @@ module _ (before after : Cells → Type 0) where
             on_known None c' marks c (scene_of cells marks) (cells a) _ n (λ m e. answers cells m h e)
             (λ bare. done after None c' marks _ (written cells a (held_of x)) (writes cells h bare)
             (ap (λ m. stage m c (scene_of cells marks)) (if_ok _ x _ is)));
-        from = c;
-        like = alike c;
+        ops = c.ops;
+        like = same_like c.ops;
         cells = λ _. Word n;
-        now = written (λ _. Word n) a (held_of x);
-        leads = ap (λ m. stage m c (scene_of (λ _. Word n) marks)) (if_ok _ x _ is);
+        leads = inl (written (λ _. Word n) a (held_of x), ap (λ m. stage m c (scene_of (λ _. Word n) marks)) (if_ok _ x _ is));
       }
 
   pub modify_stops : (ch : Change) (n : ℕ) (v : Value) (stop : Stop) (next : Next) (a : Addr) (pc used : ℕ) (t : Stacked) → Answers before a n
-      → Keeps before after → (z w : ℤ) → z ≡ number_of (value_in kinds.Int n) → w ≡ number_of v → Err stop ≡ changed ch z w
+      → Keeps before after → (z w : ℤ) → z ≡ number_in n → w ≡ number_of v → Err stop ≡ changed ch z w
       → halt_of next ≡ Some (halts.Stopped stop)
       → Accesses before after (Modify ch) (standing pc used (with_ops t (Of v ∷ At a ∷ t.ops))) (free (standing pc used (with_ops t (Of v ∷ At a ∷ t.ops))))
       next
   modify_stops ch n v stop next a pc used t answers kept z w z_is w_is e how p marks =
-      let is : Err stop ≡ changed ch (number_of (value_in kinds.Int n)) (number_of v) = e ∙ ap (λ z. changed ch z w) z_is ∙ ap (changed ch _) w_is in
+      let is : Err stop ≡ changed ch (number_in n) (number_of v) = e ∙ ap (λ z. changed ch z w) z_is ∙ ap (changed ch _) w_is in
       let c = standing pc used (with_ops t (Of v ∷ At a ∷ t.ops)) in
       let so : (cells : Cells) → stage_of (halt_of next) (free c) (scene_of cells marks)
-      ≡ stage (or_halt (changed ch (number_of (value_in kinds.Int n)) (number_of v)) (λ x. goes c t.ops (written cells a (held_of x)))) c
+      ≡ stage (or_halt (changed ch (number_in n) (number_of v)) (λ x. goes c t.ops (written cells a (held_of x)))) c
       (scene_of cells marks) =
       λ cells. ap (λ how. stage_of how (free c) (scene_of cells marks)) how ∙ ap (λ m. stage m c (scene_of cells marks)) (if_err _ stop _ is) in
       record {
         does = λ cells h.
             on_known (halt_of next) (free c) marks c (scene_of cells marks) (cells a) _ n (λ m e. answers cells m h e)
             (λ bare. done after (halt_of next) (free c) marks _ cells (kept cells h) (so cells));
-        from = c;
-        like = alike c;
+        ops = c.ops;
+        like = same_like c.ops;
         cells = λ _. Word n;
-        now = λ _. Word n;
-        leads = so (λ _. Word n);
+        leads = inl ((λ _. Word n), so (λ _. Word n));
       }
 
   pub limit_stops : (way : Way) (to : ℕ) (c : Position) (w : Waits) (both : TopBoth c.ops) → w ≡ Nothing → false ≡ cells_fit (c.used + 1) → Keeps before after
@@ -293,11 +320,11 @@ module _ (before after : Cells → Type 0) where
       kept
 
   pub limit_so : (way : Way) (to n : ℕ) (v : Value) (a : Addr) (pc used pc' : ℕ) (t : Stacked) → cells_fit (used + 1) ≡ true → Answers before a n
-      → Writes before after (run_cell used) (item.Int (number_of v)) → (b : Bool) (z w : ℤ) → z ≡ number_of v → w ≡ number_of (value_in kinds.Int n)
+      → Writes before after (run_cell used) (held_of (item.Int (number_of v))) → (b : Bool) (z w : ℤ) → z ≡ number_of v → w ≡ number_in n
       → b ≡ is_past way z w → pc' ≡ cond b to (pc + 1)
       → Accesses before after (Limit way to) (standing pc used (with_ops t (Of v ∷ At a ∷ t.ops))) (free (standing pc' (used + 1) t)) On'
   limit_so way to n v a pc used pc' t room answers writes b z w z_is w_is past e p marks =
-      let is : pc' ≡ cond (is_past way (number_of v) (number_of (value_in kinds.Int n))) to (pc + 1) =
+      let is : pc' ≡ cond (is_past way (number_of v) (number_in n)) to (pc + 1) =
       e ∙ ap (λ b. cond b to (pc + 1)) (past ∙ ap (λ z. is_past way z w) z_is ∙ ap (is_past way _) w_is) in
       let c = standing pc used (with_ops t (Of v ∷ At a ∷ t.ops)) in
       let d = standing pc used (with_ops t (Of v ∷ At (beside used) ∷ t.ops)) in
@@ -311,16 +338,17 @@ module _ (before after : Cells → Type 0) where
             on_known None c' marks c (scene_of cells marks) (cells a) _ n (λ m e. answers cells m h e)
             (λ read. done after None c' marks _ (written cells (run_cell used) held) (writes cells h bare)
             (ap (λ pc. On (free (standing pc (used + 1) t)) (scene_of (written cells (run_cell used) held) marks)) is))));
-        from = d;
-        like = like_at pc used t (Of v ∷ At a ∷ t.ops) (Of v ∷ At (beside used) ∷ t.ops) (below_fits v a (beside used) t.ops (beside_cell used)) refl;
+        ops = Of v ∷ At (beside used) ∷ t.ops;
+        like = ((refl, omega arith), ((λ _. beside_cell used), same_like t.ops));
         cells = seen;
-        now = written seen (run_cell used) held;
-        leads =
-            ap (λ pc. On (free (standing pc (used + 1) t)) (scene_of (written seen (run_cell used) held) marks)) is
-            ∙ ap (λ x. stage (on_number x (λ z. Goes (using (at d (cond (is_past way (number_of v) z) to (pc + 1)) t.ops) (used + 1))
-            (written seen (run_cell used) held))) d (scene_of seen marks)) (sym (there (λ _. Free) used (Word n)))
-            ∙ ap (λ x. stage (cond (is_free x) (limits seen) Unknown) d (scene_of seen marks)) (sym (else (λ _. Free) used (Word n)))
-            ∙ ap (λ b. stage (cond b (cond (is_free (seen (run_cell used))) (limits seen) Unknown) (Halts stops.CellRoom)) d (scene_of seen marks)) (sym room);
+        leads = inl (
+          written seen (run_cell used) held,
+          ap (λ pc. On (free (standing pc (used + 1) t)) (scene_of (written seen (run_cell used) held) marks)) is
+              ∙ ap (λ x. stage (on_number x (λ z. Goes (using (at d (cond (is_past way (number_of v) z) to (pc + 1)) t.ops) (used + 1))
+              (written seen (run_cell used) held))) d (scene_of seen marks)) (sym (there (λ _. Free) used (Word n)))
+              ∙ ap (λ x. stage (cond (is_free x) (limits seen) Unknown) d (scene_of seen marks)) (sym (else (λ _. Free) used (Word n)))
+              ∙ ap (λ b. stage (cond b (cond (is_free (seen (run_cell used))) (limits seen) Unknown) (Halts stops.CellRoom)) d (scene_of seen marks)) (sym room),
+        );
       }
     where
       limits : Cells → Move
@@ -330,8 +358,8 @@ module _ (before after : Cells → Type 0) where
           (written seen (run_cell used) (held_of (item.Int (number_of v)))))
 
   module _ (way : Way) (to n l : ℕ) (a : Addr) (pc used : ℕ) (t : Stacked) (answers : Answers before a n) (limits : Answers before (run_cell (used - 1)) l)
-      (z w : ℤ) (z_is : z ≡ number_of (value_in kinds.Int l)) (w_is : w ≡ number_of (value_in kinds.Int n)) where
-    reached : (b : Bool) → b ≡ has_reached way z w → has_reached way (number_of (value_in kinds.Int l)) (number_of (value_in kinds.Int n)) ≡ b
+      (z w : ℤ) (z_is : z ≡ number_in l) (w_is : w ≡ number_in n) where
+    reached : (b : Bool) → b ≡ has_reached way z w → has_reached way (number_in l) (number_in n) ≡ b
     reached b e = sym (e ∙ ap (λ z. has_reached way z w) z_is ∙ ap (has_reached way _) w_is)
 
     abbrev at_step : Addr → Position
@@ -340,8 +368,8 @@ module _ (before after : Cells → Type 0) where
     -- what a step does that was answered this limit and this number
     abbrev steps : Cells → Addr → ℕ → ℕ → Move
     steps cells a l n =
-        cond (has_reached way (number_of (value_in kinds.Int l)) (number_of (value_in kinds.Int n))) (Goes (at (at_step a) to t.ops) cells)
-        (goes (at_step a) t.ops (written cells a (held_of (item.Int (next_number way (number_of (value_in kinds.Int n)))))))
+        cond (has_reached way (number_in l) (number_in n)) (Goes (at (at_step a) to t.ops) cells)
+        (goes (at_step a) t.ops (written cells a (held_of (item.Int (next_number way (number_in n))))))
 
     -- the cells where this is known
     abbrev seen : Cells
@@ -356,16 +384,17 @@ module _ (before after : Cells → Type 0) where
           on_known None c' marks (at_step a) (scene_of cells marks) (cells (run_cell (used - 1))) _ l (λ m e. limits cells m h e) (λ read.
           on_known None c' marks (at_step a) (scene_of cells marks) (cells a) _ n (λ m e. answers cells m h e)
           (λ bare. done after None c' marks _ (kept cells a) (holds cells h bare) (so a marks cells)));
-      from = at_step (beside (used - 1));
-      like = like_at pc used t (At a ∷ t.ops) (At (beside (used - 1)) ∷ t.ops) (place_fits a (beside (used - 1)) t.ops (beside_cell (used - 1))) refl;
+      ops = At (beside (used - 1)) ∷ t.ops;
+      like = ((λ _. beside_cell (used - 1)), same_like t.ops);
       cells = seen;
-      now = kept seen (beside (used - 1));
-      leads =
-          so (beside (used - 1)) marks seen
-          ∙ ap (λ x. stage (on_word x (λ n. steps seen (beside (used - 1)) l n)) (at_step (beside (used - 1))) (scene_of seen marks))
-          (sym (there (λ _. Word l) (used - 1) (Word n)))
-          ∙ ap (λ x. stage (on_word x (λ l. on_word (seen (beside (used - 1))) (λ n. steps seen (beside (used - 1)) l n))) (at_step (beside (used - 1)))
-          (scene_of seen marks)) (sym (else (λ _. Word l) (used - 1) (Word n)));
+      leads = inl (
+        kept seen (beside (used - 1)),
+        so (beside (used - 1)) marks seen
+            ∙ ap (λ x. stage (on_word x (λ n. steps seen (beside (used - 1)) l n)) (at_step (beside (used - 1))) (scene_of seen marks))
+            (sym (there (λ _. Word l) (used - 1) (Word n)))
+            ∙ ap (λ x. stage (on_word x (λ l. on_word (seen (beside (used - 1))) (λ n. steps seen (beside (used - 1)) l n))) (at_step (beside (used - 1)))
+            (scene_of seen marks)) (sym (else (λ _. Word l) (used - 1) (Word n))),
+      );
     }
 
     pub step_ends : Keeps before after → (b : Bool) → b ≡ has_reached way z w → b ≡ true
@@ -375,10 +404,10 @@ module _ (before after : Cells → Type 0) where
         step_so (free (standing to used t)) (λ cells a. cells) (λ a marks cells. ap (λ m. stage m (at_step a) (scene_of cells marks)) (if_true _ _ _ is))
         (λ cells h bare. kept cells h)
 
-    pub step_goes : Writes before after a (item.Int (next_number way (number_of (value_in kinds.Int n))))
+    pub step_goes : Writes before after a (held_of (item.Int (next_number way (number_in n))))
         → (b : Bool) → b ≡ has_reached way z w → b ≡ false
         → Accesses before after (Step way to) (at_step a) (free (standing (pc + 1) used t)) On'
     step_goes writes b e so =
         let is = reached b e ∙ so in
-        step_so (free (standing (pc + 1) used t)) (λ cells a. written cells a (held_of (item.Int (next_number way (number_of (value_in kinds.Int n))))))
+        step_so (free (standing (pc + 1) used t)) (λ cells a. written cells a (held_of (item.Int (next_number way (number_in n)))))
         (λ a marks cells. ap (λ m. stage m (at_step a) (scene_of cells marks)) (if_false _ _ _ is)) writes

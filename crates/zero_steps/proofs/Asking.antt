@@ -8,9 +8,11 @@ use Rattle.code_form.specs.declared.operand.Operand.{Operand}
 use Rattle.code_form.specs.declared.operand.Operand.TheVariants.{Value as Of}
 use Rattle.code_form.specs.declared.halt.Halt.TheVariants as halts
 use Rattle.code_form.specs.Machine.{Position, free, After, Spends, Move, Over, on_values, rest_at, stage}
-use Rattle.zero_steps.specs.Finds.{TopValue, TopValues}
-use Rattle.zero_steps.specs.Stepping.{scene_of}
-use Rattle.zero_steps.proofs.Calling.{unspent}
+use Rattle.zero_state.specs.Stacked.{Stacked}
+use Rattle.zero_steps.specs.Giving.{put_on}
+use Rattle.zero_state.specs.Finds.{TopValue, TopValues}
+use Rattle.zero_state.specs.Stepping.{scene_of}
+use Rattle.zero_state.proofs.Making.{unspent}
 
 -- what is taken does not depend on what follows
 found : (n : ℕ) (acc : List Value) (ops : List Operand) (go : List Value → List Operand → Move) → TopValues n ops
@@ -30,12 +32,14 @@ due n ops after c cells m h e =
 pub record Taken (count k : ℕ) (before ops : List Operand) (values : List Value) : Type 0 where
   pub leads : (go : List Value → List Operand → Move) → on_values count [] before go ≡ on_values (count - k) (reverse values) ops go
   pub finds : TopValues (count - k) ops
+  pub back : before ≡ put_on (reverse values) ops
 
 pub none_taken : (count : ℕ) (ops : List Operand) (values : List Value) → values ≡ [] → TopValues count ops → Taken count 0 ops ops values
 none_taken count ops values none h =
     let e : count ≡ count - 0 = omega arith in record {
       leads = λ go. ap (λ n. on_values n [] ops go) e ∙ ap (λ vs. on_values (count - 0) (reverse vs) ops go) (sym none);
       finds = subst (λ n. TopValues n ops) e h;
+      back = ap (λ vs. put_on (reverse vs) ops) (sym none);
     }
 
 module _ (count k : ℕ) (before ops : List Operand) (values : List Value) (lt : k < count) (taken : Taken count k before ops values) where
@@ -61,6 +65,7 @@ module _ (count k : ℕ) (before ops : List Operand) (values : List Value) (lt :
             λ go. taken.leads go ∙ ap (λ n. on_values n (reverse values) ops go) one_more
             ∙ ap (λ o. on_values (suc (count - (k + 1))) (reverse values) o go) is ∙ ap (λ vs. on_values (count - (k + 1)) vs rest go) (sym turned);
         finds = subst (TopValues (count - (k + 1))) (below v rest is) on_top.1.2;
+        back = taken.back ∙ ap (put_on (reverse values)) is ∙ ap (λ vs. put_on vs rest) (sym turned);
       }
 
 -- all are taken
@@ -69,3 +74,9 @@ pub all_taken : (count k : ℕ) (before ops : List Operand) (values : List Value
 all_taken count k before ops values le taken go =
     let e : count - k ≡ 0 = omega (arith, le) in
     taken.leads go ∙ ap (λ n. on_values n (reverse values) ops go) e
+
+-- and can be put back
+pub taken_back : (count k : ℕ) (values : List Value) (s t : Stacked) → Taken count k s.ops t.ops values → t.frames ≡ s.frames
+    → s ≡ record t { ops = put_on (reverse values) t.ops }
+taken_back count k values s t taken frames =
+    ap (λ ops. record s { ops = ops }) taken.back ∙ ap (λ fs. record t { ops = put_on (reverse values) t.ops; frames = fs }) (sym frames)

@@ -1,10 +1,6 @@
-pub mod Stacks
-pub mod Counts
 pub mod Pushing
-pub mod Making
 pub mod Accessing
-pub mod Calling
-pub mod Leaving
-pub mod Executing
+pub mod Contents
 pub mod Asking
 pub mod Operating
+pub mod Putting

@@ -1,9 +1,8 @@
 -- An operation that stops leaves its operands pending.
-use Rattle.std.proofs.Common.{◌≡◌, ℕ, List, [], ◌∷◌, ◌++◌, Some, refl, sym, ap, ◌∙◌, length}
+use Rattle.std.proofs.Common.{◌≡◌, ℕ, List, [], ◌∷◌, ◌++◌, false, Some, refl, sym, ap, ◌∙◌, length}
 use Rattle.eu_base.specs.declared.value.Value.{Value}
 use Rattle.eu_base.specs.declared.operation.Operation.{Operation}
-use Rattle.eu_base.specs.declared.operation.Operation.TheVariants.{Plus, Negate, Add, Subtract, Multiply, Divide, Modulo, Equal, Unequal, Less, LessEqual}
-use Rattle.eu_base.specs.declared.operation.Operation.TheVariants.{Greater, GreaterEqual, Same, Different, And, Or, Not, Absolute, Minimum, Maximum, Largest}
+use Rattle.eu_base.specs.declared.operation.Operation.TheVariants.{OnTexts}
 use Rattle.eu_base.specs.Operations.{Given, operand, operand_kinds, result_of}
 use Rattle.eu_base.specs.Cells.{Cells}
 use Rattle.code_form.specs.declared.operand.Operand.{Operand}
@@ -12,36 +11,18 @@ use Rattle.code_form.specs.declared.halt.Halt.TheVariants as halts
 use Rattle.code_form.specs.declared.instr.Instr.TheVariants.{Do}
 use Rattle.code_form.specs.declared.waits.Waits.TheVariants.{Nothing}
 use Rattle.code_form.specs.Machine.{Position, Control, free, Move, Over, rest_at, on_values, or_halt, pushes, stage}
-use Rattle.zero_steps.specs.declared.state.State.{State}
-use Rattle.zero_steps.specs.declared.next.Next.{Next}
-use Rattle.zero_steps.specs.Stacked.{Stacked}
-use Rattle.zero_steps.specs.Stepping.{stage_of, scene_of, StepsSo, GivesSo}
+use Rattle.zero_state.specs.declared.state.State.{State}
+use Rattle.zero_state.specs.declared.next.Next.{Next}
+use Rattle.zero_state.specs.Stacked.{Stacked}
+use Rattle.zero_state.specs.Stepping.{stage_of, scene_of, StepsSo}
+use Rattle.zero_ops.specs.Given.{has_texts}
+use Rattle.zero_steps.specs.Giving.{GivesSo}
 use Rattle.zero_steps.proofs.Accessing.{standing, with_ops}
 
--- an operation looks at no more than two operands
-pub looks_at_two : (op : Operation) (vs : List Value) → result_of op vs ≡ result_of op (operand vs 0 ∷ operand vs 1 ∷ [])
-looks_at_two Plus vs = refl
-looks_at_two Negate vs = refl
-looks_at_two Add vs = refl
-looks_at_two Subtract vs = refl
-looks_at_two Multiply vs = refl
-looks_at_two Divide vs = refl
-looks_at_two Modulo vs = refl
-looks_at_two Equal vs = refl
-looks_at_two Unequal vs = refl
-looks_at_two Less vs = refl
-looks_at_two LessEqual vs = refl
-looks_at_two Greater vs = refl
-looks_at_two GreaterEqual vs = refl
-looks_at_two Same vs = refl
-looks_at_two Different vs = refl
-looks_at_two And vs = refl
-looks_at_two Or vs = refl
-looks_at_two Not vs = refl
-looks_at_two Absolute vs = refl
-looks_at_two Minimum vs = refl
-looks_at_two Maximum vs = refl
-looks_at_two Largest vs = refl
+-- an operation on numbers and truth values looks at no more than two operands
+pub looks_at_two : (op : Operation) (vs : List Value) → has_texts op ≡ false → result_of op vs ≡ result_of op (operand vs 0 ∷ operand vs 1 ∷ [])
+looks_at_two (OnTexts op) vs h = let f : ⊥ = cc in absurd f
+looks_at_two _ vs h = refl
 
 -- so many values are on top
 pub values_on : (n m : ℕ) (ops ops' : List Operand) → n ≡ m → ops ≡ ops' → (go : List Value → List Operand → Move)
@@ -55,13 +36,18 @@ at_stack c t = record { position = standing c.position.pc c.position.used t; wai
 abbrev stack_at : Control → Stacked
 stack_at c = record { ops = c.position.ops; frames = c.position.frames }
 
+pub put_back_by : (c c' : Control) (on : List Operand → List Operand) (s t : Stacked) → c' ≡ c → c.waits ≡ Nothing
+    → s ≡ with_ops (stack_at c) (on c.position.ops) → t ≡ with_ops (stack_at c') (on c'.position.ops)
+    → record { position = standing c'.position.pc c'.position.used t; waits = c'.waits } ≡ free (standing c.position.pc c.position.used s)
+put_back_by c c' on s t same none s_is t_is =
+    ap (λ c. at_stack c t) same
+    ∙ ap (at_stack c) (t_is ∙ ap (λ (c : Control). with_ops (stack_at c) (on c.position.ops)) same ∙ sym s_is)
+    ∙ ap (λ w. record { position = standing c.position.pc c.position.used s; waits = w }) none
+
 pub put_back : (c c' : Control) (ops : List Operand) (s t : Stacked) → c' ≡ c → c.waits ≡ Nothing → s ≡ with_ops (stack_at c) (ops ++ c.position.ops)
     → t ≡ with_ops (stack_at c') (ops ++ c'.position.ops)
     → record { position = standing c'.position.pc c'.position.used t; waits = c'.waits } ≡ free (standing c.position.pc c.position.used s)
-put_back c c' ops s t same none s_is t_is =
-    ap (λ c. at_stack c t) same
-    ∙ ap (at_stack c) (t_is ∙ ap (λ (c : Control). with_ops (stack_at c) (ops ++ c.position.ops)) same ∙ sym s_is)
-    ∙ ap (λ w. record { position = standing c.position.pc c.position.used s; waits = w }) none
+put_back c c' ops = put_back_by c c' (λ rest. ops ++ rest)
 
 pub stops_so : (op : Operation) (vs : List Value) (c : Position) (rest : List Operand) (g : Given) (s s' : State) (next : Next)
     → ((go : List Value → List Operand → Move) → on_values (length (operand_kinds op)) [] c.ops go ≡ go vs rest) → g ≡ result_of op vs

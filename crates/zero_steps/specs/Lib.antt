@@ -1,3 +1,2 @@
-pub mod Stacked
-pub mod Finds
-pub mod Stepping
+pub mod Giving
+pub mod Reading

@@ -1,21 +1,17 @@
 //! Requests.
 ghost use Rattle.std.specs.Prelude.{◌≡◌, ◌+◌, IfOk, Some, [], List, length};
-ghost use Rattle.eu_base.specs.declared.value.Value.{Value as Values};
 ghost use Rattle.eu_base.specs.Cells.{Cells};
 ghost use Rattle.eu_base.specs.Requests.{request_kinds};
-ghost use Rattle.code_form.specs.declared.operand.Operand.{Operand};
 ghost use Rattle.code_form.specs.Program.{Program};
 ghost use Rattle.code_form.specs.declared.instr.Instr.TheVariants as instrs;
-ghost use Rattle.code_form.specs.Machine.{Move, on_values, instruction, stage};
-ghost use Rattle.zero_steps.specs.Finds.{Finds, TopValues};
-ghost use Rattle.zero_steps.specs.Stepping.{position_of, control_of, scene_of, stage_of, halt_of, IsReady};
+ghost use Rattle.code_form.specs.Machine.{instruction, stage};
+ghost use Rattle.zero_state.specs.Finds.{Finds, TopValues};
+ghost use Rattle.zero_state.specs.Stepping.{position_of, control_of, scene_of, stage_of, halt_of, IsReady};
 
-use crate::next::Next;
-use crate::stack::Stack;
-use crate::state::State;
+use crate::values::pop_values;
 use code_form::Waits;
-use eu_base::{NoMemory, RequestName, Value};
-use std::alloc::Global;
+use eu_base::{NoMemory, RequestName};
+use zero_state::{Next, State};
 
 /// Spends a mark, takes the operands of a request, and makes it. It stands outside the loop of a run, which is quicker so.
 #[inline(never)]
@@ -34,18 +30,4 @@ pub fn ask(s: &mut State, name: RequestName, marks: &mut u32) -> Result<Next, No
     s.waits = Waits::Asked(request);
     s.pc += 1;
     Ok(Next::On)
-}
-
-// Takes so many values, the newest last.
-fn pop_values(stack: &mut Stack, alloc: Global, count: usize) -> Result<Vec<Value>, NoMemory>
-    requires { TopValues count stack.old.ops }
-    ensures taken { IfOk result (λ values. (go : List Values → List Operand → Move) → on_values count [] stack.old.ops go ≡ go values.items stack.new.ops) }
-    ensures frames { stack.new.frames ≡ stack.old.frames }
-{
-    let mut values = Vec::new(alloc);
-    for _ in 0..count {
-        values.push(stack.pop_value())?;
-    }
-    values.reverse();
-    Ok(values)
 }

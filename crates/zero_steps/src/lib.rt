@@ -1,20 +1,10 @@
-//! What the machine does with one instruction: its state, the operands that are pending, and the cells of frames.
+//! What single instructions do that enter and leave no body.
 #![tactic(auto)]
 
-mod ask;
-mod calls;
-mod cells;
-mod instruction;
-mod next;
-mod operate;
-mod operations;
-mod push;
-mod stack;
-mod state;
-mod step;
-
-pub use cells::write_blanks;
-pub use instruction::execute;
-pub use next::Next;
-pub use stack::Stack;
-pub use state::State;
+pub mod ask;
+mod counter;
+pub mod operate;
+pub mod push;
+mod reading;
+pub mod step;
+mod values;

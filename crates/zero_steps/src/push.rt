@@ -1,14 +1,16 @@
 //! Operands are pushed where they have room.
-ghost use Rattle.std.specs.Prelude.{◌≡◌, ℕ, ◌+◌, ◌^◌, ◌<◌, true, IfOk};
+ghost use Rattle.std.specs.Prelude.{◌≡◌, ℕ, ◌+◌, ◌^◌, ◌<◌, true, IfOk, Some};
 ghost use Rattle.eu_base.specs.Cells.{Cells};
 ghost use Rattle.code_form.specs.Machine.{pushes, stage};
-ghost use Rattle.zero_steps.specs.Stepping.{position_of, control_of, scene_of, stage_of, halt_of, given_of, has_room, fits_with, pushed, IsReady, GivesSo};
+ghost use Rattle.code_form.specs.declared.halt.Halt.TheVariants as halts;
+ghost use Rattle.zero_ops.specs.Given.{given_of, stop_of};
+ghost use Rattle.zero_state.specs.Stepping.{position_of, control_of, scene_of, stage_of, halt_of, has_room, IsReady};
+ghost use Rattle.zero_steps.specs.Giving.{fits_with, pushed, GivesSo};
 
-use crate::next::Next;
-use crate::operations::Fault;
-use crate::state::State;
 use code_form::Operand;
 use eu_base::{NoMemory, Value};
+use zero_ops::Fault;
+use zero_state::{Next, State};
 
 /// Whether an operand has room. It is pushed then, and the machine goes on; else nothing is done.
 pub fn push(s: &mut State, operand: Operand) -> Result<bool, NoMemory>
@@ -53,6 +55,18 @@ pub fn give(s: &mut State, given: Result<Value, Fault>) -> Result<Option<Next>, 
                 Ok(Some(Next::OperandRoom))
             }
         }
-        Err(fault) => Ok(Some(fault.next())),
+        Err(fault) => Ok(Some(stopped(fault))),
+    }
+}
+
+/// What comes of an instruction whose operation is stopped.
+pub fn stopped(fault: Fault) -> Next
+    ensures { halt_of result ≡ Some (halts.Stopped (stop_of fault)) }
+{
+    match fault {
+        Fault::Overflow => Next::Overflow,
+        Fault::Division => Next::Division,
+        Fault::TextLong => Next::TextLong,
+        Fault::BadCode => Next::BadCode,
     }
 }

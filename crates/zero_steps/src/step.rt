@@ -1,20 +1,20 @@
-//! What single instructions do.
+//! What single instructions do with variables, limits and jumps.
 ghost use Rattle.std.specs.Prelude.{◌≡◌, ℕ, ◌+◌, ◌≤◌, ◌∷◌, OnOk, IfOk, Some, None, false};
 ghost use Rattle.eu_base.specs.Cells.{Cells, IsCell, run_cell, without, HasFaultCause};
 ghost use Rattle.eu_base.specs.Operations.{operand_kinds, has_reached, next_number};
 ghost use Rattle.code_form.specs.declared.operand.Operand.TheVariants as operand;
 ghost use Rattle.code_form.specs.declared.instr.Instr.TheVariants as instrs;
 ghost use Rattle.code_form.specs.Machine.{base_of, pushes, instruction, stage};
-ghost use Rattle.zero_steps.specs.Finds.{TopValue, TopPlace, TopBoth};
-ghost use Rattle.zero_steps.specs.Stepping.{position_of, control_of, scene_of, stage_of, halt_of, IsReady, GoesOn, StepsSo, Accesses};
+ghost use Rattle.zero_state.specs.Finds.{TopValue, TopPlace, TopBoth};
+ghost use Rattle.zero_state.specs.Stepping.{position_of, control_of, scene_of, stage_of, halt_of, IsReady, GoesOn, StepsSo, Accesses};
 
-use crate::cells::{have_room, place_in, run_cell};
-use crate::next::Next;
-use crate::operations::{change, has_reached, is_past};
-use crate::push::{push, push_on};
-use crate::state::State;
+use crate::counter::{has_reached, is_past};
+use crate::push::{push, push_on, stopped};
+use crate::reading::{put, value_at};
 use code_form::Operand;
-use eu_base::{Change, Kind, MemFault, Memory, NoMemory, Value, Way};
+use eu_base::{Change, Kind, MemFault, Memory, NoMemory, Set, Value, Way, number_in};
+use zero_ops::change;
+use zero_state::{Next, State, have_room, place_in, run_cell};
 
 /// OUTER
 pub fn outer(s: &mut State, cell: usize) -> Result<Next, NoMemory>
@@ -58,7 +58,7 @@ pub fn load<M: Memory>(s: &mut State, m: &mut M, kind: Kind) -> Result<Next, Mem
     ensures follows { M.follows m.old m.new }
 {
     let at = s.stack.pop_place();
-    let value = kind.value_in(m.cell(at)?);
+    let value = value_at(m, at, kind)?;
     if push(s, Operand::Value(value))? {
         return Ok(Next::On);
     }
@@ -76,9 +76,17 @@ pub fn store<M: Memory>(s: &mut State, m: &mut M, kind: Kind) -> Result<Next, Me
 {
     let value = s.stack.pop_value();
     let at = s.stack.pop_place();
-    m.set_cell(at, value.cell())?;
-    s.pc += 1;
-    Ok(Next::On)
+    match put(m, at, &value)? {
+        Set::Done => {
+            s.pc += 1;
+            Ok(Next::On)
+        }
+        Set::HeapFull => {
+            s.stack.push(Operand::Place(at))?;
+            s.stack.push(Operand::Value(value))?;
+            Ok(Next::TextRoom)
+        }
+    }
 }
 
 /// Jumps where FALSE is on top.
@@ -133,7 +141,7 @@ pub fn limit<M: Memory>(s: &mut State, m: &mut M, way: Way, to: usize) -> Result
     }
     let limit = s.stack.pop_value().number();
     let at = s.stack.pop_place();
-    let number = Kind::Int.value_in(m.cell(at)?).number();
+    let number = number_in(m.cell(at)?);
     m.set_cell(run_cell(s.used), Value::Int(limit).cell())?;
     s.used += 1;
     if is_past(way, limit, number) {
@@ -164,8 +172,8 @@ pub fn step<M: Memory>(s: &mut State, m: &mut M, way: Way, to: usize) -> Result<
     ensures follows { M.follows m.old m.new }
 {
     let at = s.stack.pop_place();
-    let number = Kind::Int.value_in(m.cell(at)?).number();
-    let limit = Kind::Int.value_in(m.cell(run_cell(s.used - 1))?).number();
+    let number = number_in(m.cell(at)?);
+    let limit = number_in(m.cell(run_cell(s.used - 1))?);
     if has_reached(way, limit, number) {
         s.pc = to;
         return Ok(Next::On);
@@ -195,7 +203,7 @@ pub fn modify<M: Memory>(s: &mut State, m: &mut M, by: Change) -> Result<Next, M
 {
     let operand = s.stack.pop_value();
     let at = s.stack.pop_place();
-    let number = Kind::Int.value_in(m.cell(at)?).number();
+    let number = number_in(m.cell(at)?);
     match change(by, number, operand.number()) {
         Ok(value) => {
             m.set_cell(at, value.cell())?;
@@ -205,7 +213,7 @@ pub fn modify<M: Memory>(s: &mut State, m: &mut M, by: Change) -> Result<Next, M
         Err(fault) => {
             s.stack.push(Operand::Place(at))?;
             s.stack.push(Operand::Value(operand))?;
-            Ok(fault.next())
+            Ok(stopped(fault))
         }
     }
 }

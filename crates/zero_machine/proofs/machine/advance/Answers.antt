@@ -1,8 +1,8 @@
 use Rattle.std.proofs.Common.{◌≡◌, subst}
 use Rattle.code_form.specs.Machine.{free}
 use Rattle.code_form.specs.Valid.{Fits}
-use Rattle.zero_steps.specs.Finds.{Finds}
-use Rattle.zero_steps.specs.Stepping.{position_of, control_of}
+use Rattle.zero_state.specs.Finds.{Finds}
+use Rattle.zero_state.specs.Stepping.{position_of, control_of}
 use Rattle.zero_machine.proofs.Finds.{finds, the_instr}
 use Rattle.zero_machine.proofs.Fitting.{fits_free, step_goes, step_fits, step_spends, step_nears}
 use Rattle.zero_machine.proofs.machine.advance.Goals as goal

@@ -1,5 +1,5 @@
 use Rattle.std.proofs.Common.{sym, ◌∙◌, arith}
-use Rattle.zero_steps.specs.Stepping.{control_of, scene_of}
+use Rattle.zero_state.specs.Stepping.{control_of, scene_of}
 use Rattle.zero_machine.proofs.Running.{goes_on, rests_there, rested, unasked}
 use Rattle.zero_machine.proofs.machine.run.Goals as goal
 

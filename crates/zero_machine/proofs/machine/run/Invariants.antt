@@ -4,7 +4,7 @@ use Rattle.eu_base.specs.Cells.{Cells}
 use Rattle.code_form.specs.Machine.{Rest}
 use Rattle.code_form.specs.Valid.{Fits}
 use Rattle.code_form.specs.Runs.{Rests, asked, steps_left}
-use Rattle.zero_steps.specs.Stepping.{control_of, scene_of}
+use Rattle.zero_state.specs.Stepping.{control_of, scene_of}
 use Rattle.zero_machine.proofs.machine.run.Given as goal
 
 -- from here it comes to the rest to which it comes from its start

@@ -2,7 +2,7 @@ use Rattle.std.proofs.Common.{refl, arith}
 use Rattle.std.proofs.lemmas.Bool.Decides.{nat_tests}
 use Rattle.std.proofs.lemmas.Cmp.{same_from_slice_cmp_tested}
 use Rattle.std.specs.Ordering.{nat_cmp, is_lt}
-use Rattle.zero_ops.specs.Texts.{is_less}
+use Rattle.eu_base.specs.Texts.{is_less}
 use Rattle.zero_ops.proofs.order.is_less.Goals as goal
 
 pub returns : goal.returns

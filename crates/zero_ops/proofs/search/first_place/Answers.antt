@@ -1,7 +1,7 @@
 use Rattle.std.proofs.Common.{◌≡◌, ◌<◌, ◌∙◌, ap, sym, arith, length}
 use Rattle.std.specs.Prelude.{unwrap_or}
 use Rattle.std.proofs.lemmas.Bool.Decides.{nat_tests}
-use Rattle.zero_ops.specs.Texts.{stands_at}
+use Rattle.eu_base.specs.Texts.{stands_at}
 use Rattle.zero_ops.proofs.Places.{find_next, find_here, find_none, stands_is, place_is}
 use Rattle.zero_ops.proofs.search.first_place.Goals as goal
 

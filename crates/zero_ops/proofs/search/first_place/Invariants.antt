@@ -1,6 +1,6 @@
 use Rattle.std.proofs.Common.{◌≡◌, length}
 use Rattle.std.specs.Prelude.{find}
-use Rattle.zero_ops.specs.Texts.{stands_at}
+use Rattle.eu_base.specs.Texts.{stands_at}
 use Rattle.zero_ops.proofs.Places.{places}
 use Rattle.zero_ops.proofs.search.first_place.Given as goal
 

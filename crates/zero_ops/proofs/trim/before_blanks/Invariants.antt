@@ -1,6 +1,6 @@
 use Rattle.std.proofs.Common.{◌≡◌, ◌≤◌, length}
 use Rattle.std.specs.Prelude.{take, reverse}
-use Rattle.zero_ops.specs.Texts.{behind_blanks}
+use Rattle.eu_base.specs.Texts.{behind_blanks}
 use Rattle.zero_ops.proofs.trim.before_blanks.Given as goal
 
 abbrev pub invariant-loop-end : goal.invariant-loop-end

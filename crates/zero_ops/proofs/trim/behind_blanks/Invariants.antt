@@ -1,6 +1,6 @@
 use Rattle.std.proofs.Common.{◌≡◌, ◌≤◌, ◌-◌, length}
 use Rattle.std.specs.Prelude.{drop}
-use Rattle.zero_ops.specs.Texts.{behind_blanks}
+use Rattle.eu_base.specs.Texts.{behind_blanks}
 use Rattle.zero_ops.proofs.trim.behind_blanks.Given as goal
 
 abbrev pub invariant-loop-start : goal.invariant-loop-start

@@ -2,7 +2,7 @@ use Rattle.std.proofs.Common.{length, ◌+◌, ap, ◌∙◌}
 use Rattle.eu_base.specs.Requests.{request_kinds, request_of}
 use Rattle.code_form.specs.declared.halt.Halt.TheVariants as halts
 use Rattle.code_form.specs.Machine.{Asks, Over, at, rest_at}
-use Rattle.zero_steps.specs.Stepping.{position_of, scene_of}
+use Rattle.zero_state.specs.Stepping.{position_of, scene_of}
 use Rattle.zero_steps.proofs.Asking.{due}
 use Rattle.zero_steps.proofs.ask.ask.Goals as goal
 

@@ -1,7 +1,8 @@
 use Rattle.std.proofs.Common.{refl, sym, ap, ◌∙◌}
 use Rattle.eu_base.specs.declared.stop.Stop.TheVariants as stops
 use Rattle.code_form.specs.declared.operand.Operand.TheVariants as operand
-use Rattle.zero_steps.specs.Stepping.{given_of, pushed}
+use Rattle.zero_ops.specs.Given.{given_of}
+use Rattle.zero_steps.specs.Giving.{pushed}
 use Rattle.zero_steps.proofs.Pushing.{given_full}
 use Rattle.zero_steps.proofs.push.give.Goals as goal
 

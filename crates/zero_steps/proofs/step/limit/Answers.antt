@@ -4,9 +4,9 @@ use Rattle.std.specs.Int.RustNames.{FitsSigned}
 use Rattle.code_form.specs.declared.operand.Operand.TheVariants as operand
 use Rattle.eu_base.specs.Cells.{run_cell}
 use Rattle.code_form.specs.declared.instr.Instr.TheVariants.{Limit}
-use Rattle.zero_steps.specs.declared.next.Next.TheVariants.{On}
-use Rattle.zero_steps.specs.Stepping.{position_of}
-use Rattle.zero_steps.proofs.Accessing.{accessed, both, writes_number, same_number, same_word, limit_so, limit_stops}
+use Rattle.zero_state.specs.declared.next.Next.TheVariants.{On}
+use Rattle.zero_state.specs.Stepping.{position_of}
+use Rattle.zero_steps.proofs.Accessing.{accessed, both, writes_number, same_number, limit_so, limit_stops}
 use Rattle.zero_steps.proofs.step.limit.Goals as goal
 
 pub returns-then-not-have_room-clause-goes : goal.returns-then-not-have_room-clause-goes
@@ -22,7 +22,7 @@ returns-then-is_past-clause-goes g c =
     let s = c.args.s.now in
     let t = c.pop_place-at.new.self in
     let fits : FitsSigned w16 c.number-limit.result = search rules in
-    let fits' : FitsSigned w16 c.number-number.result = search rules in
+    let fits' : FitsSigned w16 c.number_in-number.result = search rules in
     accessed before after (Limit c.args.way c.args.to) On s.pc s.used c.args.to (s.used + 1) s.stack t _ t s.waits c.requires.ready.free
     (both s.stack c.pop_value.new.self t (operand.Value c.pop_value.result) (operand.Place c.pop_place-at.result) c.pop_value.ensures
     c.pop_place-at.ensures) refl
@@ -32,7 +32,7 @@ returns-then-is_past-clause-goes g c =
     c.run_cell.ensures (same_number c.number-limit.result _ fits c.number-limit.ensures) c.cell-2.ensures c.in_ok-cell.ensures.kept
     c.in_ok-set_cell.ensures.written)
     c.is_past.result _ _ (same_number c.number-limit.result _ fits c.number-limit.ensures)
-    (same_word c.number-number.result c.value_in.result c.in_ok-cell.field-0 fits' c.number-number.ensures c.value_in.ensures) c.is_past.ensures
+    (same_number c.number_in-number.result _ fits' c.number_in-number.ensures) c.is_past.ensures
     (ap (λ b. cond b c.args.to (s.pc + 1)) (sym c.if-is_past.true)))
 
 pub returns-else-is_past-clause-goes : goal.returns-else-is_past-clause-goes
@@ -42,7 +42,7 @@ returns-else-is_past-clause-goes g c =
     let s = c.args.s.now in
     let t = c.pop_place-at.new.self in
     let fits : FitsSigned w16 c.number-limit.result = search rules in
-    let fits' : FitsSigned w16 c.number-number.result = search rules in
+    let fits' : FitsSigned w16 c.number_in-number.result = search rules in
     accessed before after (Limit c.args.way c.args.to) On s.pc s.used (s.pc + 1) (s.used + 1) s.stack t _ t s.waits c.requires.ready.free
     (both s.stack c.pop_value.new.self t (operand.Value c.pop_value.result) (operand.Place c.pop_place-at.result) c.pop_value.ensures
     c.pop_place-at.ensures) refl
@@ -52,5 +52,5 @@ returns-else-is_past-clause-goes g c =
     c.run_cell.ensures (same_number c.number-limit.result _ fits c.number-limit.ensures) c.cell-2.ensures c.in_ok-cell.ensures.kept
     c.in_ok-set_cell.ensures.written)
     c.is_past.result _ _ (same_number c.number-limit.result _ fits c.number-limit.ensures)
-    (same_word c.number-number.result c.value_in.result c.in_ok-cell.field-0 fits' c.number-number.ensures c.value_in.ensures) c.is_past.ensures
+    (same_number c.number_in-number.result _ fits' c.number_in-number.ensures) c.is_past.ensures
     (ap (λ b. cond b c.args.to (s.pc + 1)) (sym c.if-is_past.false)))

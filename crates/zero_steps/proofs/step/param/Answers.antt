@@ -1,6 +1,6 @@
 use Rattle.std.proofs.Common.{◌+◌, ap, ◌∙◌}
 use Rattle.eu_base.specs.Cells.{run_cell}
-use Rattle.zero_steps.specs.Stepping.{position_of, control_of}
+use Rattle.zero_state.specs.Stepping.{position_of, control_of}
 use Rattle.zero_steps.proofs.Accessing.{param_so}
 use Rattle.zero_steps.proofs.step.param.Goals as goal
 

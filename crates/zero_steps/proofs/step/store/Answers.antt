@@ -1,18 +1,38 @@
-use Rattle.std.proofs.Common.{◌+◌, refl}
+use Rattle.std.proofs.Common.{◌+◌, ◌≡◌, true, refl, subst}
+use Rattle.eu_base.specs.Cells.{Cells, held_of}
 use Rattle.code_form.specs.declared.operand.Operand.TheVariants as operand
 use Rattle.code_form.specs.declared.instr.Instr.TheVariants.{Store}
-use Rattle.zero_steps.specs.declared.next.Next.TheVariants.{On}
-use Rattle.zero_steps.proofs.Accessing.{accessed, both, writes, store_so}
+use Rattle.code_form.specs.Machine.{takes}
+use Rattle.zero_state.specs.declared.next.Next.TheVariants.{On, TextRoom}
+use Rattle.zero_steps.specs.Reading.{PutsCell}
+use Rattle.zero_steps.proofs.Accessing.{accessed, both, store_goes, store_full}
 use Rattle.zero_steps.proofs.step.store.Goals as goal
 
-pub returns-clause-goes : goal.returns-clause-goes
-returns-clause-goes g c =
+pub returns-in-Done-clause-goes : goal.returns-in-Done-clause-goes
+returns-in-Done-clause-goes g c =
     let before = g.M.Memory.holds c.args.m.now in
-    let after = g.M.Memory.holds c.set_cell.new.self in
+    let after = g.M.Memory.holds c.put.new.m in
     let s = c.args.s.now in
     let t = c.pop_place-at.new.self in
+    let v = c.pop_value-value.result in
+    let a = c.pop_place-at.result in
     accessed before after (Store c.args.kind) On s.pc s.used (s.pc + 1) s.used s.stack t _ t s.waits c.requires.ready.free
-    (both s.stack c.pop_value-value.new.self t (operand.Value c.pop_value-value.result) (operand.Place c.pop_place-at.result) c.pop_value-value.ensures
-    c.pop_place-at.ensures) refl
-    (store_so before after c.args.kind c.pop_value-value.result c.pop_place-at.result s.pc s.used t
-    (writes before before after c.pop_place-at.result c.pop_value-value.result c.cell.result c.cell.ensures (λ cells h. h) c.in_ok-set_cell.ensures.written))
+    (both s.stack c.pop_value-value.new.self t (operand.Value v) (operand.Place a) c.pop_value-value.ensures c.pop_place-at.ensures) refl
+    (store_goes before after c.args.kind v a s.pc s.used t
+    (subst (λ set. (cells : Cells) → before cells → takes (held_of v) (cells a) ≡ true → PutsCell after cells a (held_of v) set) c.in-Done.is
+    c.in_ok-put.ensures.puts))
+
+pub returns-in_ok-push-in-HeapFull-2-clause-goes : goal.returns-in_ok-push-in-HeapFull-2-clause-goes
+returns-in_ok-push-in-HeapFull-2-clause-goes g c =
+    let before = g.M.Memory.holds c.args.m.now in
+    let after = g.M.Memory.holds c.put.new.m in
+    let s = c.args.s.now in
+    let t = c.pop_place-at.new.self in
+    let v = c.pop_value-value.result in
+    let a = c.pop_place-at.result in
+    accessed before after (Store c.args.kind) TextRoom s.pc s.used s.pc s.used s.stack c.push-in-HeapFull.new.self _ _ s.waits c.requires.ready.free
+    (both s.stack c.pop_value-value.new.self t (operand.Value v) (operand.Place a) c.pop_value-value.ensures c.pop_place-at.ensures)
+    (both c.push-in-HeapFull.new.self c.push.new.self t (operand.Value v) (operand.Place a) c.in_ok-push-in-HeapFull-2.ensures c.in_ok-push-in-HeapFull.ensures)
+    (store_full before after c.args.kind v a s.pc s.used t
+    (subst (λ set. (cells : Cells) → before cells → takes (held_of v) (cells a) ≡ true → PutsCell after cells a (held_of v) set) c.in-HeapFull.is
+    c.in_ok-put.ensures.puts))

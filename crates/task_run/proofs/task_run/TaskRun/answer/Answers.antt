@@ -2,7 +2,7 @@ use Rattle.std.proofs.Common.{refl, sym, subst}
 use Rattle.std.specs.Prelude.{IsSome}
 use Rattle.code_form.specs.Machine.{Control}
 use Rattle.code_form.specs.Runs.{Stands, asked}
-use Rattle.zero_steps.specs.Stepping.{control_of}
+use Rattle.zero_state.specs.Stepping.{control_of}
 use Rattle.task_run.proofs.Answered.{stands_answered}
 use Rattle.task_run.proofs.task_run.TaskRun.answer.Goals as goal
 

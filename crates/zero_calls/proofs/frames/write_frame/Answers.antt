@@ -1,0 +1,23 @@
+use Rattle.std.proofs.Common.{◌+◌, length, map, subst}
+use Rattle.code_form.specs.Machine.{held_of_operand}
+use Rattle.zero_calls.proofs.Framing.{PutsFree, frame_done, frame_full}
+use Rattle.zero_calls.proofs.frames.write_frame.Goals as goal
+
+pub returns-in_ok-write_blanks-in-Done-clause-puts : goal.returns-in_ok-write_blanks-in-Done-clause-puts
+returns-in_ok-write_blanks-in-Done-clause-puts g c =
+    let linked = g.M.Memory.holds c.write_link.new.m in
+    let written = g.M.Memory.holds c.write_operands.new.m in
+    frame_done (g.M.Memory.holds c.args.m.now) linked written c.args.at c.args.operands.now c.args.variables.now c.in_ok-write_link.ensures.written
+    (g.M.Memory.holds c.write_blanks.new.m)
+    (subst (PutsFree linked written (c.args.at + 2) (length c.args.operands.now) (map held_of_operand c.args.operands.now)) c.in-Done.is
+    c.in_ok-write_operands.ensures.puts)
+    c.in_ok-write_blanks-in-Done.ensures.written
+
+pub returns-in-HeapFull-clause-puts : goal.returns-in-HeapFull-clause-puts
+returns-in-HeapFull-clause-puts g c =
+    let linked = g.M.Memory.holds c.write_link.new.m in
+    let written = g.M.Memory.holds c.write_operands.new.m in
+    frame_full (g.M.Memory.holds c.args.m.now) linked written c.args.at c.args.operands.now c.args.variables.now c.in_ok-write_link.ensures.written
+    (g.met.M.Memory.forgets c.write_operands.new.m)
+    (subst (PutsFree linked written (c.args.at + 2) (length c.args.operands.now) (map held_of_operand c.args.operands.now)) c.in-HeapFull.is
+    c.in_ok-write_operands.ensures.puts)

@@ -1,0 +1,54 @@
+-- Frames of bodies.
+use Rattle.std.specs.Prelude.{◌≡◌, ℕ, ◌+◌, ◌<◌, ◌≤◌, Bool, true, false, List, [], ◌∷◌, reverse, take, drop, Option, Some, None, slice_get}
+use Rattle.eu_base.specs.declared.set.Set.{Set}
+use Rattle.eu_base.specs.declared.set.Set.TheVariants.{Done, HeapFull}
+use Rattle.eu_base.specs.declared.value.Kind.{Kind}
+use Rattle.eu_base.specs.declared.value.Kind.TheVariants as kinds
+use Rattle.eu_base.specs.declared.value.Value.{Value}
+use Rattle.eu_base.specs.Room.{most_blocks}
+use Rattle.eu_base.specs.Cells.{Cell, Free, Cells, run_cell, blocks_in}
+use Rattle.code_form.specs.declared.code.Entry.{Entry}
+use Rattle.code_form.specs.declared.operand.Operand.{Operand}
+use Rattle.code_form.specs.declared.operand.Operand.TheVariants.{Value as Of}
+use Rattle.code_form.specs.declared.operand.OperandKind.{OperandKind}
+use Rattle.code_form.specs.declared.operand.OperandKind.TheVariants.{Value as OfKind, Place as AtKind}
+use Rattle.code_form.specs.Program.{layout_of, cells_at}
+use Rattle.code_form.specs.Machine.{Position, Control, frame_contents, written_from, enters, after_stage}
+use Rattle.zero_state.specs.declared.next.Next.{Next}
+use Rattle.zero_state.specs.Stepping.{scene_of, Steps}
+
+-- nothing is known of so many cells from one on
+abbrev pub AreFree : ℕ → ℕ → Cells → Type 0
+AreFree from count cells = (k : ℕ) → from ≤ k → k < from + count → cells (run_cell k) ≡ Free
+
+-- this stands in cells, one after another
+abbrev pub Stand : ℕ → List Cell → Cells → Type 0
+Stand at ns cells = (k : ℕ) (x : Cell) → slice_get ns k ≡ Some x → cells (run_cell (at + k)) ≡ x
+
+-- this was put into cells, one after another; or all texts would have no room then, and what was known is known
+abbrev pub PutsFrom : (Cells → Type 0) → ℕ → List Cell → Cells → Set → Type 0
+PutsFrom holds at ns cells Done = holds (written_from at ns cells)
+PutsFrom holds at ns cells HeapFull = (most_blocks < blocks_in (written_from at ns cells)) × holds cells
+
+-- the tables say that a cell of a frame holds a text
+abbrev pub is_text_kind : Option OperandKind → Bool
+is_text_kind None = false
+is_text_kind (Some (OfKind kinds.Int)) = false
+is_text_kind (Some (OfKind kinds.Truth)) = false
+is_text_kind (Some (OfKind kinds.Text)) = true
+is_text_kind (Some (AtKind k)) = false
+
+abbrev pub frame_kinds : Option Entry → List OperandKind
+frame_kinds e = OfKind kinds.Int ∷ OfKind kinds.Int ∷ cells_at (layout_of e)
+
+-- a body is entered so with so many of the pending operands, or has no room
+abbrev pub EntersSo : (before after : Cells → Type 0) → (first base : ℕ) → Bool → (body count : ℕ) → List Kind → Position → Control → Next → Type 0
+EntersSo before after first base refines body count variables c c' next = (marks : ℕ) → Steps before after
+    (λ d cells. after_stage (enters d first base refines body (drop count d.ops) (frame_contents (reverse (take count d.ops)) variables) cells) d
+    (scene_of cells marks))
+    c c' marks next
+
+-- what comes back with a result
+abbrev pub result_ops : Option Value → List Operand
+result_ops None = []
+result_ops (Some v) = Of v ∷ []

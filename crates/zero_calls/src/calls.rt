@@ -1,0 +1,225 @@
+//! Calls, refinements, and how they are left.
+ghost use Rattle.std.specs.Prelude.{◌≡◌, ℕ, ◌+◌, ◌-◌, ◌^◌, min, ◌≤◌, ◌∷◌, ◌++◌, List, length, true, Some, OnOk, IfOk};
+ghost use Rattle.eu_base.specs.Room.{bytes_fit};
+ghost use Rattle.eu_base.specs.Cells.{Cells, HasFaultCause};
+ghost use Rattle.code_form.specs.declared.instr.Instr.TheVariants as instrs;
+ghost use Rattle.code_form.specs.declared.operand.Operand.{Operand};
+ghost use Rattle.code_form.specs.Program.{Program};
+ghost use Rattle.code_form.specs.Machine.{Move, bytes_on, bytes_of, call_move, refer_move, on_result, back_into, out_to, stage};
+ghost use Rattle.zero_state.specs.Finds.{TopResult, IsCallable, IsInside, is_in_proc};
+ghost use Rattle.zero_state.specs.Stacked.{linked};
+ghost use Rattle.zero_state.specs.Stepping.{position_of, control_of, scene_of, stage_by, IsReady, Steps};
+ghost use Rattle.zero_state.specs.declared.next.Next.TheVariants as nexts;
+ghost use Rattle.zero_calls.specs.Frames.{EntersSo, result_ops};
+
+use crate::frames::write_frame;
+use crate::texts::free_frame;
+use code_form::{Code, Entry, Layout, Operand};
+use eu_base::{Kind, MemFault, Memory, NoMemory, Set, Value};
+use zero_state::{Link, Next, Stack, State, have_room};
+
+/// CALL
+pub fn call<M: Memory>(
+    body: usize,
+    entry: &Entry,
+    s: &mut State,
+    m: &mut M,
+    marks: &mut u32,
+) -> Result<Next, MemFault>
+    requires ready { IsReady s.old }
+    requires finds { IsCallable entry.now.layout s.old.stack.ops }
+    ensures goes { IfOk result (Steps (M.holds m.old) (M.holds m.new)
+        (λ d cells. stage (call_move d body (Some entry.now) cells) d (scene_of cells marks.old))
+        (position_of s.old) (control_of s.new) marks.new) }
+    ensures cause { HasFaultCause (M.faults m.old) (M.faults m.new) result }
+    ensures follows { M.follows m.old m.new }
+{
+    if *marks == 0 {
+        return Ok(Next::Marked);
+    }
+    *marks -= 1;
+    match &entry.layout {
+        Layout::Own {
+            parameters,
+            variables,
+        } => {
+            let base = s.used + 2;
+            enter(
+                s,
+                m,
+                entry.first,
+                base,
+                false,
+                body,
+                parameters.len(),
+                variables.as_slice(),
+            )
+        }
+        _ => unreachable!(),
+    }
+}
+
+/// REFER
+pub fn refer<M: Memory>(
+    body: usize,
+    entry: &Entry,
+    s: &mut State,
+    m: &mut M,
+    marks: &mut u32,
+) -> Result<Next, MemFault>
+    requires ready { IsReady s.old }
+    ensures goes { IfOk result (Steps (M.holds m.old) (M.holds m.new)
+        (λ d cells. stage (refer_move d body (Some entry.now) cells) d (scene_of cells marks.old))
+        (position_of s.old) (control_of s.new) marks.new) }
+    ensures cause { HasFaultCause (M.faults m.old) (M.faults m.new) result }
+    ensures follows { M.follows m.old m.new }
+{
+    if *marks == 0 {
+        return Ok(Next::Marked);
+    }
+    *marks -= 1;
+    let base = s.stack.base();
+    enter(s, m, entry.first, base, true, body, 0, &[])
+}
+
+// Goes to a body with a new frame, which takes the newest operands, where its cells have room.
+fn enter<M: Memory>(
+    s: &mut State,
+    m: &mut M,
+    first: usize,
+    base: usize,
+    refines: bool,
+    body: usize,
+    count: usize,
+    variables: &[Kind],
+) -> Result<Next, MemFault>
+    requires ready { IsReady s.old }
+    requires many { count ≤ length s.old.stack.ops }
+    ensures goes { IfOk result
+        (EntersSo (M.holds m.old) (M.holds m.new) first base refines body count variables.now (position_of s.old) (control_of s.new)) }
+    ensures cause { HasFaultCause (M.faults m.old) (M.faults m.new) result }
+    ensures follows { M.follows m.old m.new }
+{
+    let more = frame_size(count, variables.len());
+    if !have_room(s.used, more) {
+        return Ok(Next::CellRoom);
+    }
+    if let Set::HeapFull = write_frame(m, s.used, s.stack.top(count), variables)? {
+        return Ok(Next::TextRoom);
+    }
+    let link = Link {
+        back: s.pc + 1,
+        base,
+        used: s.used,
+        refines,
+        body,
+    };
+    s.stack.enter(s.alloc, link, count)?;
+    s.used += more;
+    s.pc = first;
+    Ok(Next::On)
+}
+
+// The cells of a frame. More than can be counted have no room anyway.
+fn frame_size(parameters: usize, variables: usize) -> usize
+    ensures { result ≡ min (2 + parameters + variables) (2 ^ 64 - 1) }
+{
+    parameters.saturating_add(variables).saturating_add(2)
+}
+
+/// BACK
+pub fn back<M: Memory>(
+    code: &Code,
+    s: &mut State,
+    m: &mut M,
+    kind: Option<Kind>,
+) -> Result<(), MemFault>
+    requires ready { IsReady s.old }
+    requires result { TopResult kind s.old.stack.ops }
+    requires inside { IsInside s.old.stack.frames }
+    ensures goes { OnOk result ((marks : ℕ) → Steps (M.holds m.old) (M.holds m.new) (stage_by code.now (instrs.Back kind) marks)
+        (position_of s.old) (control_of s.new) marks nexts.On) }
+    ensures cause { HasFaultCause (M.faults m.old) (M.faults m.new) result }
+    ensures follows { M.follows m.old m.new }
+{
+    let until = s.used;
+    let result = take_result(&mut s.stack, kind);
+    let link = leave(&mut s.stack);
+    return_with(s, link, result)?;
+    free_frame(code, link.body, m, link.used, until)
+}
+
+/// OUT
+pub fn back_around<M: Memory>(
+    code: &Code,
+    s: &mut State,
+    m: &mut M,
+    kind: Option<Kind>,
+) -> Result<(), MemFault>
+    requires ready { IsReady s.old }
+    requires result { TopResult kind s.old.stack.ops }
+    requires inside { is_in_proc s.old.stack.frames ≡ true }
+    ensures goes { OnOk result ((marks : ℕ) → Steps (M.holds m.old) (M.holds m.new) (stage_by code.now (instrs.Out kind) marks)
+        (position_of s.old) (control_of s.new) marks nexts.On) }
+    ensures cause { HasFaultCause (M.faults m.old) (M.faults m.new) result }
+    ensures follows { M.follows m.old m.new }
+{
+    let until = s.used;
+    let result = take_result(&mut s.stack, kind);
+    let link = leave_proc(&mut s.stack);
+    return_with(s, link, result)?;
+    free_frame(code, link.body, m, link.used, until)
+}
+
+// Takes the result, where there is one.
+fn take_result(stack: &mut Stack, kind: Option<Kind>) -> Option<Value>
+    requires { TopResult kind stack.old.ops }
+    ensures taken { (go : List Operand → Move) → on_result kind stack.old.ops go ≡ go (result_ops result) }
+    ensures rest { stack.old.ops ≡ result_ops result ++ stack.new.ops }
+    ensures frames { stack.new.frames ≡ stack.old.frames }
+{
+    match kind {
+        Some(_) => Some(stack.pop_value()),
+        None => None,
+    }
+}
+
+// Leaves the innermost frame.
+fn leave(stack: &mut Stack) -> Link
+    requires { IsInside stack.old.frames }
+    ensures { stack.old.frames ≡ linked result stack.new.ops ∷ stack.new.frames }
+{
+    match stack.leave() {
+        Some(link) => link,
+        None => unreachable!(),
+    }
+}
+
+// Leaves the frames of refinements and that of their PROC.
+fn leave_proc(stack: &mut Stack) -> Link
+    requires { is_in_proc stack.old.frames ≡ true }
+    ensures fewer { bytes_on stack.new.ops (bytes_of stack.new.frames) ≤ bytes_of stack.old.frames }
+    ensures leads { (p : Program) (ops : List Operand) (used : ℕ) (cells : Cells) → out_to p ops used stack.old.frames cells ≡ back_into p ops used
+        (linked result stack.new.ops) stack.new.frames cells }
+{
+    loop {
+        let link = leave(stack);
+        if !link.refines {
+            return link;
+        }
+    }
+}
+
+// Goes on where a frame was made, with the result.
+fn return_with(s: &mut State, link: Link, value: Option<Value>) -> Result<(), NoMemory>
+    requires { bytes_fit (bytes_on (result_ops value ++ s.old.stack.ops) (bytes_of s.old.stack.frames)) ≡ true }
+    ensures { OnOk result (control_of s.new ≡
+        record { position = record (position_of s.old) { pc = link.back; ops = result_ops value ++ s.old.stack.ops; used = link.used }; waits = s.old.waits }) }
+{
+    s.pc = link.back;
+    s.used = link.used;
+    if let Some(value) = value {
+        s.stack.push(Operand::Value(value))?;
+    }
+    Ok(())
+}

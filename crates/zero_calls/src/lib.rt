@@ -1,0 +1,8 @@
+//! Calls and refinements: the cells of their frames, and how they are entered and left.
+#![tactic(auto)]
+
+pub mod calls;
+mod frames;
+mod texts;
+
+pub use frames::write_blanks;

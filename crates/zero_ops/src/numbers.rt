@@ -1,0 +1,105 @@
+//! Operations on numbers and truth values.
+ghost use Rattle.std.specs.Prelude.{◌≡◌, ◌≢◌, [], ◌∷◌, false, pos, ◌+ℤ◌, ◌-ℤ◌, ◌*ℤ◌, int_div};
+ghost use Rattle.eu_base.specs.Operations.{fitted, divided, remaining, result_of, changed};
+ghost use Rattle.zero_ops.specs.Given.{given_of, has_texts};
+
+use crate::error::Fault;
+use eu_base::{Change, Operation, Value};
+
+/// The result of an operation on numbers and truth values. Where it has fewer operands, it does not look at the others.
+// Inlined, since a call would pass the values and the result through memory at each operation of a program.
+#[inline(always)]
+pub fn on_numbers(operation: Operation, left: &Value, right: &Value) -> Result<Value, Fault>
+    requires { has_texts operation ≡ false }
+    ensures { given_of result ≡ result_of operation (left.now ∷ right.now ∷ []) }
+{
+    let a = left.number();
+    let b = right.number();
+    match operation {
+        Operation::Plus => fitted(i32::from(a)),
+        Operation::Negate => fitted(-i32::from(a)),
+        Operation::Add => fitted(sum(a, b)),
+        Operation::Subtract => fitted(difference(a, b)),
+        Operation::Multiply => fitted(product(a, b)),
+        Operation::Divide => divided(a, b),
+        Operation::Modulo => remaining(a, b),
+        Operation::Absolute => fitted(i32::from(a).abs()),
+        Operation::Minimum => fitted(i32::from(a.min(b))),
+        Operation::Maximum => fitted(i32::from(a.max(b))),
+        Operation::Largest => fitted(32767),
+        Operation::Equal => Ok(Value::Truth(a == b)),
+        Operation::Unequal => Ok(Value::Truth(a != b)),
+        Operation::Less => Ok(Value::Truth(a < b)),
+        Operation::LessEqual => Ok(Value::Truth(a <= b)),
+        Operation::Greater => Ok(Value::Truth(a > b)),
+        Operation::GreaterEqual => Ok(Value::Truth(a >= b)),
+        Operation::Same => Ok(Value::Truth(left.truth() == right.truth())),
+        Operation::Different => Ok(Value::Truth(left.truth() != right.truth())),
+        Operation::And => Ok(Value::Truth(left.truth() && right.truth())),
+        Operation::Or => Ok(Value::Truth(left.truth() || right.truth())),
+        Operation::Not => Ok(Value::Truth(!left.truth())),
+        Operation::EmptyText | Operation::OnTexts(_) => unreachable!(),
+    }
+}
+
+/// What INCR and DECR store.
+pub fn change(change: Change, a: i16, b: i16) -> Result<Value, Fault>
+    ensures { given_of result ≡ changed change a b }
+{
+    match change {
+        Change::Increase => fitted(sum(a, b)),
+        Change::Decrease => fitted(difference(a, b)),
+    }
+}
+
+fn sum(a: i16, b: i16) -> i32
+    ensures { result ≡ a +ℤ b }
+{
+    i32::from(a) + i32::from(b)
+}
+
+fn difference(a: i16, b: i16) -> i32
+    ensures { result ≡ a -ℤ b }
+{
+    i32::from(a) - i32::from(b)
+}
+
+fn product(a: i16, b: i16) -> i32
+    ensures { result ≡ a *ℤ b }
+{
+    i32::from(a) * i32::from(b)
+}
+
+fn quotient(a: i16, b: i16) -> i32
+    requires { b ≢ pos 0 }
+    ensures { result ≡ int_div a b }
+{
+    i32::from(a) / i32::from(b)
+}
+
+fn fitted(number: i32) -> Result<Value, Fault>
+    ensures { given_of result ≡ fitted number }
+{
+    match i16::try_from(number) {
+        Ok(number) => Ok(Value::Int(number)),
+        Err(_) => Err(Fault::Overflow),
+    }
+}
+
+fn divided(a: i16, b: i16) -> Result<Value, Fault>
+    ensures { given_of result ≡ divided a b }
+{
+    if b == 0 {
+        return Err(Fault::Division);
+    }
+    fitted(quotient(a, b))
+}
+
+fn remaining(a: i16, b: i16) -> Result<Value, Fault>
+    ensures { given_of result ≡ remaining a b }
+{
+    if b == 0 {
+        return Err(Fault::Division);
+    }
+    fitted(i32::from(a).rem_euclid(i32::from(b)))
+}

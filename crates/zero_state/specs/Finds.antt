@@ -1,0 +1,131 @@
+-- What an instruction finds.
+use Rattle.std.specs.Prelude.{◌≡◌, ℕ, zero, suc, ◌+◌, ◌≤◌, Bool, true, false, ◌||◌, cond, List, [], ◌∷◌, length, Option, Some, None, slice_get}
+use Rattle.eu_base.specs.declared.address.Addr.{Addr}
+use Rattle.eu_base.specs.declared.value.Kind.{Kind}
+use Rattle.eu_base.specs.declared.value.Value.{Value}
+use Rattle.eu_base.specs.Cells.{IsCell, run_cell}
+use Rattle.eu_base.specs.Operations.{operand_kinds}
+use Rattle.eu_base.specs.Requests.{request_kinds}
+use Rattle.code_form.specs.declared.instr.Instr.{Instr}
+use Rattle.code_form.specs.declared.instr.Instr.TheVariants.{Number, Truth, Outer, Local, Param, Jump, Load, Store, Do, Modify, False, When, Drop, Limit}
+use Rattle.code_form.specs.declared.instr.Instr.TheVariants.{Mark, Unlimit, Step, Ask, Call, Refer, Back, Out, End}
+use Rattle.code_form.specs.declared.code.Entry.{Entry}
+use Rattle.code_form.specs.declared.code.Layout.{Layout}
+use Rattle.code_form.specs.declared.code.Layout.TheVariants.{Own}
+use Rattle.code_form.specs.declared.operand.Operand.{Operand}
+use Rattle.code_form.specs.declared.operand.Operand.TheVariants.{Value as Of, Place as At}
+use Rattle.code_form.specs.declared.operand.OperandKind.{OperandKind}
+use Rattle.code_form.specs.Machine.{Frame, Position, base_of}
+
+-- a value
+pub record TopValue (ops : List Operand) : Type 0 where
+  pub value : Value
+  pub rest : List Operand
+  pub top : ops ≡ Of value ∷ rest
+
+-- the place of a cell
+pub record TopPlace (ops : List Operand) : Type 0 where
+  pub place : Addr
+  pub rest : List Operand
+  pub top : ops ≡ At place ∷ rest
+  pub cell : IsCell place
+
+-- a value, and the place of a cell below it
+pub record TopBoth (ops : List Operand) : Type 0 where
+  pub value : Value
+  pub place : Addr
+  pub rest : List Operand
+  pub top : ops ≡ Of value ∷ At place ∷ rest
+  pub cell : IsCell place
+
+-- so many values
+abbrev pub TopValues : ℕ → List Operand → Type 0
+TopValues zero ops = Unit {0}
+TopValues (suc n) ops = (v : Value) × ((r : List Operand) × (ops ≡ Of v ∷ r) × TopValues n r)
+
+-- a result, where there is one of a kind
+abbrev pub TopResult : Option Kind → List Operand → Type 0
+TopResult None ops = Unit {0}
+TopResult (Some k) ops = TopValue ops
+
+-- the operands that a PROC takes
+pub record IsCallable (layout : Layout) (ops : List Operand) : Type 0 where
+  pub parameters : List OperandKind
+  pub variables : List Kind
+  pub own : layout ≡ Own parameters variables
+  pub taken : length parameters ≤ length ops
+
+-- a body of this number
+pub record HasBody (bodies : List Entry) (n : ℕ) : Type 0 where
+  pub entry : Entry
+  pub has : slice_get bodies n ≡ Some entry
+
+pub record HasProc (bodies : List Entry) (n : ℕ) (ops : List Operand) : Type 0 where
+  pub entry : Entry
+  pub has : slice_get bodies n ≡ Some entry
+  pub callable : IsCallable entry.layout ops
+
+-- a frame, and one of a PROC
+pub record IsInside (frames : List Frame) : Type 0 where
+  pub frame : Frame
+  pub below : List Frame
+  pub inside : frames ≡ frame ∷ below
+
+abbrev pub is_in_proc : List Frame → Bool
+is_in_proc [] = false
+is_in_proc (f ∷ fs) = cond f.refines (is_in_proc fs) true
+
+-- what an instruction takes is there
+abbrev pub Finds : List Entry → Instr → Position → Type 0
+Finds bodies (Outer k) c = IsCell (run_cell k)
+Finds bodies (Local k) c = IsCell (run_cell (base_of c.frames + k))
+Finds bodies (Param k) c = IsCell (run_cell (base_of c.frames + k))
+Finds bodies (Load k) c = TopPlace c.ops
+Finds bodies (Store k) c = TopBoth c.ops
+Finds bodies (Do op) c = TopValues (length (operand_kinds op)) c.ops
+Finds bodies (Modify change) c = TopBoth c.ops
+Finds bodies (False a) c = TopValue c.ops
+Finds bodies (When z a) c = TopValue c.ops
+Finds bodies Drop c = TopValue c.ops
+Finds bodies (Limit way a) c = TopBoth c.ops
+Finds bodies Unlimit c = 1 ≤ c.used
+Finds bodies (Step way a) c = TopPlace c.ops × (1 ≤ c.used)
+Finds bodies (Ask name) c = TopValues (length (request_kinds name)) c.ops
+Finds bodies (Call n) c = HasProc bodies n c.ops
+Finds bodies (Refer n) c = HasBody bodies n
+Finds bodies (Back kind) c = TopResult kind c.ops × IsInside c.frames
+Finds bodies (Out kind) c = TopResult kind c.ops × (is_in_proc c.frames ≡ true)
+Finds _ _ c = Unit {0}
+
+-- an instruction that spends no mark, leaves no body, and does not end the command
+abbrev pub spends_nothing : Instr → Bool
+spends_nothing Mark = false
+spends_nothing (Ask name) = false
+spends_nothing (Call n) = false
+spends_nothing (Refer n) = false
+spends_nothing (Back kind) = false
+spends_nothing (Out kind) = false
+spends_nothing End = false
+spends_nothing _ = true
+
+-- one that only goes on, and looks at no cell
+abbrev pub is_plain : Instr → Bool
+is_plain (Jump a) = true
+is_plain (False a) = true
+is_plain (When z a) = true
+is_plain Drop = true
+is_plain Unlimit = true
+is_plain _ = false
+
+-- one that pushes what stands in it
+abbrev pub is_push : Instr → Bool
+is_push (Number z) = true
+is_push (Truth b) = true
+is_push (Outer k) = true
+is_push (Local k) = true
+is_push _ = false
+
+-- one that looks at no cell
+abbrev pub computes : Instr → Bool
+computes (Do op) = true
+computes i = is_push i || is_plain i

@@ -1,0 +1,12 @@
+//! Where the machine stands: what is pending, the live calls, the cells in use, and what it waits for.
+#![tactic(auto)]
+
+mod cells;
+mod next;
+mod stack;
+mod state;
+
+pub use cells::{have_room, place_in, run_cell};
+pub use next::Next;
+pub use stack::{Link, Stack};
+pub use state::State;

@@ -1,0 +1,51 @@
+//! What comes of an instruction.
+ghost use Rattle.std.specs.Prelude.{◌≡◌};
+ghost use Rattle.zero_state.specs.Stepping.{halt_of};
+
+use code_form::Halt;
+use eu_base::Stop;
+
+/// What comes of an instruction.
+#[derive(Clone, Copy, PartialEq, Eq)]
+pub enum Next {
+    /// The machine goes on.
+    On,
+    /// A mark is due, and none is left.
+    Marked,
+    /// The command ends.
+    Ended,
+    /// A number past 16 bits stops it.
+    Overflow,
+    /// A divisor 0 stops it.
+    Division,
+    /// A text of more than 16,000 bytes stops it.
+    TextLong,
+    /// No code of a byte stops it.
+    BadCode,
+    /// It stops, since no cells are left.
+    CellRoom,
+    /// It stops, since too much is pending.
+    OperandRoom,
+    /// It stops, since a text has no room.
+    TextRoom,
+}
+
+impl Next {
+    /// Why the machine rests; `None` where it goes on.
+    pub fn halt(self) -> Option<Halt>
+        ensures { result ≡ halt_of self }
+    {
+        match self {
+            Next::On => None,
+            Next::Marked => Some(Halt::Marked),
+            Next::Ended => Some(Halt::Ended),
+            Next::Overflow => Some(Halt::Stopped(Stop::Overflow)),
+            Next::Division => Some(Halt::Stopped(Stop::Division)),
+            Next::TextLong => Some(Halt::Stopped(Stop::TextLong)),
+            Next::BadCode => Some(Halt::Stopped(Stop::BadCode)),
+            Next::CellRoom => Some(Halt::Stopped(Stop::CellRoom)),
+            Next::OperandRoom => Some(Halt::Stopped(Stop::OperandRoom)),
+            Next::TextRoom => Some(Halt::Stopped(Stop::TextRoom)),
+        }
+    }
+}

@@ -1,0 +1,35 @@
+//! Where the machine stands.
+ghost use Rattle.std.specs.Prelude.{◌≡◌, IfOk};
+ghost use Rattle.zero_state.specs.Stepping.{due};
+
+use crate::stack::Stack;
+use code_form::{Halt, Waits};
+use eu_base::NoMemory;
+use std::alloc::Global;
+
+/// Where the machine stands in its code.
+#[derive(Drop)]
+pub struct State {
+    pub alloc: Global,
+    /// The number of the next instruction.
+    pub pc: usize,
+    /// What is pending, and the live calls and refinements.
+    pub stack: Stack,
+    /// The cells in use. Limits of loops stand in the last ones.
+    pub used: usize,
+    /// What it waits for.
+    pub waits: Waits,
+}
+
+impl State {
+    /// Why the machine rests before its instruction; `None` where nothing is waited for.
+    pub fn due(&self) -> Result<Option<Halt>, NoMemory>
+        ensures { IfOk result (λ halt. halt ≡ due self.now.waits) }
+    {
+        match &self.waits {
+            Waits::Nothing => Ok(None),
+            Waits::Asked(request) => Ok(Some(Halt::Asks(request.try_clone(self.alloc)?))),
+            Waits::Refused(stop) => Ok(Some(Halt::Stopped(stop.try_clone(self.alloc)?))),
+        }
+    }
+}

@@ -1,7 +1,0 @@
-use Rattle.zero_steps.proofs.instruction.push_constant.Goals as goal
-
-pub returns-in-Local : goal.returns-in-Local
-returns-in-Local c = rw c.in-Local.is c.local.ensures
-
-pub returns-in-Outer : goal.returns-in-Outer
-returns-in-Outer c = rw c.in-Outer.is c.outer.ensures

@@ -1,0 +1,39 @@
+//! Values in cells.
+ghost use Rattle.std.specs.Prelude.{◌≡◌, IfOk, OnOk, true};
+ghost use Rattle.eu_base.specs.Cells.{Cells, IsCell, held_of, HasFaultCause};
+ghost use Rattle.code_form.specs.Machine.{takes};
+ghost use Rattle.zero_steps.specs.Reading.{Reads, PutsCell};
+
+use eu_base::{Addr, Kind, MemFault, Memory, Set, Value, number_in, truth_in};
+
+/// The value of a kind that stands in a cell.
+pub fn value_at<M: Memory>(m: &mut M, at: Addr, kind: Kind) -> Result<Value, MemFault>
+    requires { IsCell at }
+    ensures reads { IfOk result (Reads (M.holds m.old) at kind) }
+    ensures kept { OnOk result ((cells : Cells) → M.holds m.old cells → M.holds m.new cells) }
+    ensures cause { HasFaultCause (M.faults m.old) (M.faults m.new) result }
+    ensures follows { M.follows m.old m.new }
+{
+    match kind {
+        Kind::Int => Ok(Value::Int(number_in(m.cell(at)?))),
+        Kind::Truth => Ok(Value::Truth(truth_in(m.cell(at)?))),
+        Kind::Text => Ok(Value::Text(m.text(at)?)),
+    }
+}
+
+/// Puts a value into a cell, where all texts then have room. Else nothing changes.
+pub fn put<M: Memory>(m: &mut M, at: Addr, value: &Value) -> Result<Set, MemFault>
+    requires { IsCell at }
+    ensures puts { IfOk result (λ set. (cells : Cells) → M.holds m.old cells → takes (held_of value.now) (cells at) ≡ true →
+        PutsCell (M.holds m.new) cells at (held_of value.now) set) }
+    ensures cause { HasFaultCause (M.faults m.old) (M.faults m.new) result }
+    ensures follows { M.follows m.old m.new }
+{
+    match value {
+        Value::Int(_) | Value::Truth(_) => {
+            m.set_cell(at, value.cell())?;
+            Ok(Set::Done)
+        }
+        Value::Text(text) => m.set_text(at, text.as_slice()),
+    }
+}
