@@ -1,7 +1,8 @@
 -- No chain of calls leads to a body of a higher rank.
 use Rattle.std.proofs.Common.{◌≡◌, ℕ, zero, suc, ◌+◌, ◌<◌, ◌≤◌, Bool, true, false, ◌&&◌, not, List, [], ◌∷◌, map, refl, ap, ◌∙◌, arith}
+use Rattle.std.specs.List.{list_any}
 use Rattle.std.specs.Prelude.{slice_index_or, ◌==◌, nat_lt}
-use Rattle.call_graph.specs.Chains.{any, leads}
+use Rattle.call_graph.specs.Chains.{leads}
 use Rattle.call_graph.specs.walks.Ranks.{rank_of, none_above, ranked_from, is_ranked}
 use Rattle.call_graph.proofs.Unreached.{and_left, and_right, neither}
 use Rattle.std.proofs.lemmas.Bool.{ltb-false}
@@ -33,11 +34,11 @@ other ranks n r lt = by_test (n == r) refl
     by_test false e = e
 
 none_leads : (ranks : List ℕ) (r k : ℕ) (test : ℕ → Bool) → ((c : ℕ) → rank_of ranks c < rank_of ranks r → test c ≡ false) → k < rank_of ranks r
-    → (cs : List ℕ) → none_above ranks k cs ≡ true → any (map test cs) ≡ false
+    → (cs : List ℕ) → none_above ranks k cs ≡ true → list_any test cs ≡ false
 none_leads ranks r k test h lt [] a = refl
 none_leads ranks r k test h lt (c ∷ cs) a =
     let le : rank_of ranks c ≤ k = not_below k (rank_of ranks c) (and_left (not (nat_lt k (rank_of ranks c))) (none_above ranks k cs) a) in
-    neither (test c) (any (map test cs)) (h c (omega (arith, le, lt)))
+    neither (test c) (list_any test cs) (h c (omega (arith, le, lt)))
     (none_leads ranks r k test h lt cs (and_right (not (nat_lt k (rank_of ranks c))) (none_above ranks k cs) a))
 
 pub never_higher : (ranks : List ℕ) (calls : List (List ℕ)) (r : ℕ) → is_ranked ranks calls ≡ true → (i n : ℕ) → rank_of ranks n < rank_of ranks r
@@ -45,7 +46,7 @@ pub never_higher : (ranks : List ℕ) (calls : List (List ℕ)) (r : ℕ) → is
 never_higher ranks calls r ok zero n lt = other ranks n r lt
 never_higher ranks calls r ok (suc i) n lt =
     let z : n ≡ 0 + n = omega arith in
-    neither (n == r) (any (map (λ c. leads i calls c r) (slice_index_or calls n []))) (other ranks n r lt)
+    neither (n == r) (list_any (λ c. leads i calls c r) (slice_index_or calls n [])) (other ranks n r lt)
     (none_leads ranks r (rank_of ranks n) (λ c. leads i calls c r) (never_higher ranks calls r ok i) lt (slice_index_or calls n [])
     (calls_ranked ranks 0 calls n n z ok))
 

@@ -1,8 +1,9 @@
 -- Marks, one call further in each turn: they tell from which refinements a chain of so many calls leads to one.
 use Rattle.std.proofs.Common.{◌≡◌, ℕ, zero, suc, ◌+◌, ◌-◌, ◌<◌, Bool, true, false, ◌||◌, List, [], ◌∷◌, ◌++◌, map, length, refl, sym, ap, subst, ◌∙◌, arith}
+use Rattle.std.specs.List.{list_any}
 use Rattle.std.proofs.Common.{append_assoc, drop, get_or, drop-cons}
 use Rattle.std.specs.Prelude.{slice_index_or, ◌==◌}
-use Rattle.call_graph.specs.Chains.{any, leads}
+use Rattle.call_graph.specs.Chains.{leads}
 use Rattle.call_graph.specs.walks.Marks.{mark_at, any_marked, marks_from, next_marks, equal_from, first_marks}
 
 or_false : (b : Bool) → b ≡ (b || false)
@@ -32,7 +33,7 @@ module _ (calls : List (List ℕ)) (r : ℕ) where
   pub at_first : (count : ℕ) → Marked 0 (first_marks count r)
   at_first count n = equal_at 0 count r n n (omega arith)
 
-  any_leads : (i : ℕ) (marks : List Bool) → Marked i marks → (cs : List ℕ) → any_marked marks r cs ≡ any (map (λ c. leads i calls c r) cs)
+  any_leads : (i : ℕ) (marks : List Bool) → Marked i marks → (cs : List ℕ) → any_marked marks r cs ≡ list_any (λ c. leads i calls c r) cs
   any_leads i marks h [] = refl
   any_leads i marks h (c ∷ cs) =
       ap (λ (b : Bool). b || any_marked marks r cs) (h c) ∙ ap (λ (b : Bool). leads i calls c r || b) (any_leads i marks h cs)

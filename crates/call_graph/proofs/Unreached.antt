@@ -1,7 +1,8 @@
 -- No chain of calls leaves marks that no call leaves.
 use Rattle.std.proofs.Common.{◌≡◌, ℕ, zero, suc, ◌+◌, Bool, true, false, ◌||◌, ◌&&◌, not, if◌then◌else◌, List, [], ◌∷◌, map, refl, sym, ap, ◌∙◌, arith}
+use Rattle.std.specs.List.{list_any}
 use Rattle.std.specs.Prelude.{slice_index_or, ◌==◌}
-use Rattle.call_graph.specs.Chains.{any, leads}
+use Rattle.call_graph.specs.Chains.{leads}
 use Rattle.call_graph.specs.walks.Apart.{is_marked, is_safe, all_safe, closed_from, is_closed}
 
 pub and_left : (a b : Bool) → (a && b) ≡ true → a ≡ true
@@ -36,10 +37,10 @@ calls_safe marks r k (cs ∷ rest) (suc n) j e h m =
     calls_safe marks r (k + 1) rest n j f (and_right (if is_marked marks k then all_safe marks r cs else true) (closed_from (k + 1) marks r rest) h) m
 
 none_is : (marks : List Bool) (r : ℕ) (test : ℕ → Bool) → ((c : ℕ) → is_safe marks r c ≡ true → test c ≡ false) → (cs : List ℕ)
-    → all_safe marks r cs ≡ true → any (map test cs) ≡ false
+    → all_safe marks r cs ≡ true → list_any test cs ≡ false
 none_is marks r test h [] s = refl
 none_is marks r test h (c ∷ cs) s =
-    neither (test c) (any (map test cs)) (h c (and_left (is_safe marks r c) (all_safe marks r cs) s))
+    neither (test c) (list_any test cs) (h c (and_left (is_safe marks r c) (all_safe marks r cs) s))
     (none_is marks r test h cs (and_right (is_safe marks r c) (all_safe marks r cs) s))
 
 pub apart : (calls : List (List ℕ)) (marks : List Bool) (r : ℕ) → is_closed marks r calls ≡ true → (i n : ℕ) → is_safe marks r n ≡ true
@@ -48,5 +49,5 @@ apart calls marks r closed zero n s = not_true (n == r) (and_left (not (n == r))
 apart calls marks r closed (suc i) n s =
     let z : n ≡ 0 + n = omega arith in
     let marked = and_right (not (n == r)) (is_marked marks n) s in
-    neither (n == r) (any (map (λ c. leads i calls c r) (slice_index_or calls n []))) (not_true (n == r) (and_left (not (n == r)) (is_marked marks n) s))
+    neither (n == r) (list_any (λ c. leads i calls c r) (slice_index_or calls n [])) (not_true (n == r) (and_left (not (n == r)) (is_marked marks n) s))
     (none_is marks r (λ c. leads i calls c r) (apart calls marks r closed i) (slice_index_or calls n []) (calls_safe marks r 0 calls n n z closed marked))

@@ -1,6 +1,7 @@
 //! Whether a walk finds a chain of calls from one refinement to another.
 
-ghost use Rattle.std.specs.Prelude.{◌≡◌, ◌==◌, [], true, map, length, slice_index_or, IfOk};
+ghost use Rattle.std.specs.Prelude.{◌≡◌, ◌==◌, [], true, length, slice_index_or, IfOk};
+ghost use Rattle.std.specs.List.{list_any};
 ghost use Rattle.call_graph.specs.Chains as chains;
 
 use containers::{List, NoMemory};
@@ -74,7 +75,7 @@ fn callers(
 }
 
 fn is_among(called: &[usize], number: usize) -> bool
-    ensures { result ≡ chains.any (map (λ n. n == number) called.now) }
+    ensures { result ≡ list_any (λ n. n == number) called.now }
 {
     for next in called {
         if *next == number {
@@ -86,7 +87,7 @@ fn is_among(called: &[usize], number: usize) -> bool
 
 // Whether a body calls another.
 fn does_call(calls: &[List<usize>], caller: usize, number: usize) -> bool
-    ensures { result ≡ chains.any (map (λ n. n == number) (slice_index_or calls.now caller [])) }
+    ensures { result ≡ list_any (λ n. n == number) (slice_index_or calls.now caller []) }
 {
     match calls.get(caller) {
         None => false,

@@ -1,5 +1,7 @@
 -- IF and SELECT.
-use Rattle.std.specs.Prelude.{ℕ, ℤ, Bool, false, ◌||◌, List, [], ◌∷◌, map, flat_map, Option, Some, None, if◌then◌else◌}
+use Rattle.std.specs.Prelude.{ℕ, ℤ, Bool, ◌||◌, List, [], ◌∷◌, map, flat_map, Option, Some, None, is_some, if◌then◌else◌}
+use Rattle.std.specs.List.{list_any}
+use Rattle.std.specs.Option.{option_and_then, unwrap_or}
 use Rattle.std.specs.Ordering.{int_eq}
 use Rattle.elan_types.specs.declared.elan_type.ElanType.{ElanType}
 use Rattle.elan_types.specs.declared.elan_type.ElanType.TheVariants.{Int, Bool as Truths}
@@ -7,18 +9,17 @@ use Rattle.elan_types.specs.declared.core_phrase.ValuePhrase.{ValuePhrase}
 use Rattle.elan_types.specs.declared.core_phrase.ValuePhrase.TheVariants as value
 use Rattle.elan_types.specs.declared.core_phrase.Action.{Action}
 use Rattle.elan_types.specs.declared.core_phrase.Action.TheVariants as action
-use Rattle.elan_types.specs.declared.core_phrase.Arm.{Arm}
-use Rattle.elan_types.specs.declared.core_phrase.ValueArm.{ValueArm}
 use Rattle.elan_types.specs.declared.why.Why.TheVariants.{Unknown, Doubled, WrongType}
 use Rattle.elan_types.specs.Typing.{same_type}
 use Rattle.elan_scope.specs.declared.delivery.Delivery.{Delivery}
 use Rattle.elan_scope.specs.declared.delivery.Delivery.TheVariants.{Open, Nothing, Of}
 use Rattle.elan_meant.specs.declared.meant.Meant.{Meant}
-use Rattle.elan_meant.specs.declared.meant.Meant.TheVariants.{Value, Done, Left, Labels}
+use Rattle.elan_meant.specs.declared.meant.Meant.TheVariants.{Absent, Value, Done, Left, Labels}
 use Rattle.elan_scope.specs.declared.scope.Found.{Found}
 use Rattle.elan_meant.specs.Verdict.{Verdict, gives, breaks, ◌>>=◌}
 use Rattle.elan_meant.specs.Operands.{delivers}
-use Rattle.elan_meant.specs.Parts.{value_of, actions, blank, unreached, pairs, odd}
+use Rattle.elan_meant.specs.Parts.{value_of, actions, pairs, odd}
+pub use Rattle.elan_meant.specs.Arms.{value_as, labels_in, action_arm, value_arm}
 
 -- ---- what parts deliver, and whether they agree
 
@@ -30,18 +31,10 @@ delivery_in m = Nothing
 
 abbrev pub joined : Delivery → Delivery → Option Delivery
 joined Open d = Some d
-joined Nothing Open = Some Nothing
+joined d Open = Some d
 joined Nothing Nothing = Some Nothing
-joined Nothing (Of u) = None
-joined (Of t) Open = Some (Of t)
-joined (Of t) Nothing = None
 joined (Of t) (Of u) = if same_type t u then Some (Of t) else None
-
--- the value of a part where this type is asked for
-abbrev pub value_as : ElanType → Meant → ValuePhrase
-value_as t (Value at u v) = v
-value_as t (Left as') = unreached as' t
-value_as t m = blank t
+joined _ _ = None
 
 -- a choice of parts that deliver this together: it does this, or has this value
 abbrev pub delivering : ℕ → List Action → (ElanType → ValuePhrase) → Option Delivery → Verdict Meant
@@ -54,10 +47,6 @@ delivering at as' value_of_type (Some (Of t)) = gives (Value at t (value_of_type
 
 abbrev pub Guard : Type 0
 Guard = Meant × Meant
-
-abbrev pub otherwise : Option Meant → Meant
-otherwise None = Done []
-otherwise (Some m) = m
 
 -- ---- IF
 
@@ -76,43 +65,27 @@ chain at [] r = r
 chain at (g ∷ gs) r = chain at gs r >>= branched at g
 
 abbrev pub choice : ℕ → List Meant → Verdict Meant
-choice at ms = chain at (pairs ms) (gives (otherwise (odd ms)))
+choice at ms = chain at (pairs ms) (gives (unwrap_or (odd ms) Absent))
 
 -- ---- SELECT
 
-abbrev pub is_in : List ℤ → ℤ → Bool
-is_in [] n = false
-is_in (m ∷ ms) n = int_eq m n || is_in ms n
-
 abbrev pub label_is : ℕ → List ℤ → ℤ → Verdict Meant
-label_is at earlier n = if is_in earlier n then breaks (at, Doubled) else gives (Labels (n ∷ []))
+label_is at earlier n = if list_any (λ m. int_eq m n) earlier then breaks (at, Doubled) else gives (Labels (n ∷ []))
 
 -- An identifier as a label names a number of a LET, which is not built: all other names have the wrong type.
 abbrev pub label_named : ℕ → Bool → Option Found → Verdict Meant
-label_named at known (Some f) = breaks (at, WrongType)
-label_named at known None = if known then breaks (at, WrongType) else breaks (at, Unknown)
-
-abbrev pub labels_in : Meant → List ℤ
-labels_in (Labels ns) = ns
-labels_in _ = []
+label_named at known f = breaks (at, if is_some f || known then WrongType else Unknown)
 
 abbrev pub labels_of : List Meant → List ℤ
 labels_of ms = flat_map labels_in ms
 
 -- what all parts deliver, if they agree
 abbrev pub joined_with : Option Delivery → Meant → Option Delivery
-joined_with None m = None
-joined_with (Some d) m = joined d (delivery_in m)
+joined_with d m = option_and_then (λ e. joined e (delivery_in m)) d
 
 abbrev pub agreed : Option Delivery → List Guard → Option Delivery
 agreed d [] = d
 agreed d (g ∷ gs) = agreed (joined_with d g.1) gs
-
-abbrev pub action_arm : Guard → Arm
-action_arm g = record { labels = labels_in g.0; units = actions g.1 }
-
-abbrev pub value_arm : ElanType → Guard → ValueArm
-value_arm t g = record { labels = labels_in g.0; value = value_as t g.1 }
 
 abbrev pub selected_by : ℕ → ValuePhrase → List Guard → Meant → Verdict Meant
 selected_by at v gs m =
@@ -120,4 +93,4 @@ selected_by at v gs m =
     (agreed (Some (delivery_in m)) gs)
 
 abbrev pub selected : ℕ → Meant → List Meant → Verdict Meant
-selected at m ms = if delivers Int m then selected_by at (value_of m) (pairs ms) (otherwise (odd ms)) else breaks (at, WrongType)
+selected at m ms = if delivers Int m then selected_by at (value_of m) (pairs ms) (unwrap_or (odd ms) Absent) else breaks (at, WrongType)

@@ -6,12 +6,13 @@ ghost use Rattle.choice_rules.specs.Choices as spec;
 ghost use Rattle.choice_rules.specs.walks.Steps as walk;
 ghost use Rattle.elan_meant.specs.Verdict.{gives, Tells};
 
-use crate::parts::{delivery_in, joined, part_for_none, value_as};
-use elan_meant::arity::pairs_of;
+use crate::parts::{delivery_in, joined, part_for_none};
+use elan_meant::arms::values_as;
 use elan_meant::meant::Meant;
 use elan_meant::operands::delivers;
-use elan_meant::part::{actions, one, value_of};
-use elan_meant::row::{Judged, both};
+use elan_meant::part::{actions, boxed, one, value_of};
+use elan_meant::row::Judged;
+use elan_meant::together::pairs_of;
 use elan_scope::delivery::Delivery;
 use elan_scope::trouble::Trouble;
 use elan_types::{Action, ElanType, ValuePhrase, Why};
@@ -42,9 +43,13 @@ fn if_value(
 ) -> Result<Boxed<ValuePhrase>, NoMemory>
     ensures { IfOk result (λ value. value ≡ walk.if_value condition first second of) }
 {
-    let first = value_as(alloc, of, first);
-    let (first, second) = both(first, value_as(alloc, of, second))?;
-    Boxed::new(alloc, ValuePhrase::If(condition, first, second))
+    match values_as(alloc, of, first, second) {
+        Err(refusal) => {
+            condition.into_inner().let_go();
+            Err(refusal)
+        }
+        Ok((first, second)) => boxed(alloc, ValuePhrase::If(condition, first, second)),
+    }
 }
 
 // One of two parts, which deliver the same. One that ends with a LEAVE agrees with every type.
@@ -121,6 +126,7 @@ fn chain(alloc: Global, at: u32, mut branches: List<(Meant, Meant)>, otherwise: 
             Ok(part) => rest = part,
         }
     }
+    Meant::pairs_let_go(branches);
     Ok(rest)
 }
 
@@ -129,5 +135,5 @@ pub fn choice(alloc: Global, at: u32, parts: List<Meant>) -> Judged
     ensures { Tells result (spec.choice at parts) }
 {
     let (branches, otherwise) = pairs_of(alloc, parts)?;
-    chain(alloc, at, branches, part_for_none(alloc, otherwise))
+    chain(alloc, at, branches, part_for_none(otherwise))
 }

@@ -1,14 +1,11 @@
 //! What the parts of IF and SELECT deliver.
 
-ghost use Rattle.std.specs.Prelude.{◌≡◌, IfOk};
+ghost use Rattle.std.specs.Prelude.{◌≡◌};
 ghost use Rattle.choice_rules.specs.Choices as spec;
+ghost use Rattle.choice_rules.specs.walks.Steps as walk;
 
 use elan_meant::meant::Meant;
-use elan_meant::part::{blank, unreached};
 use elan_scope::delivery::Delivery;
-use elan_types::{ElanType, ValuePhrase};
-use eu_base::{Boxed, List, NoMemory};
-use std::alloc::Global;
 
 /// What a part delivers. One that ends with a LEAVE agrees with every type.
 pub fn delivery_in(part: &Meant) -> Delivery
@@ -42,30 +39,12 @@ pub fn joined(delivery: Delivery, other: Delivery) -> Option<Delivery>
     }
 }
 
-/// The value of a part, where a value of this type is asked for.
-pub fn value_as(alloc: Global, of: ElanType, part: Meant) -> Result<Boxed<ValuePhrase>, NoMemory>
-    ensures { IfOk result (λ value. value ≡ spec.value_as of part) }
-{
-    match part {
-        Meant::Value {
-            at: _at,
-            of: _of,
-            value,
-        } => Ok(value),
-        Meant::Left(actions) => unreached(alloc, actions, of),
-        other => {
-            other.let_go();
-            Boxed::new(alloc, blank(of))
-        }
-    }
-}
-
-/// The units of ELSE or OTHERWISE: where there are none, nothing is done.
-pub fn part_for_none(alloc: Global, units: Option<Meant>) -> Meant
-    ensures { result ≡ spec.otherwise units }
+/// The units of ELSE or OTHERWISE.
+pub fn part_for_none(units: Option<Meant>) -> Meant
+    ensures { result ≡ walk.otherwise units }
 {
     match units {
-        None => Meant::Done(List::new(alloc)),
+        None => Meant::Absent,
         Some(units) => units,
     }
 }

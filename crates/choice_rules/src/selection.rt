@@ -1,6 +1,6 @@
 //! SELECT: labels, and parts that deliver the same.
 
-ghost use Rattle.std.specs.Prelude.{◌≡◌, ◌∷◌, [], IfOk, Some, map};
+ghost use Rattle.std.specs.Prelude.{◌≡◌, ◌∷◌, [], IfOk, Some};
 ghost use Rattle.elan_meant.specs.Parts as meanings;
 ghost use Rattle.elan_meant.specs.declared.meant.Meant.TheVariants as means;
 ghost use Rattle.choice_rules.specs.Choices as spec;
@@ -8,21 +8,22 @@ ghost use Rattle.choice_rules.specs.walks.Steps as walk;
 ghost use Rattle.elan_scope.specs.Answer.{Gives};
 ghost use Rattle.elan_meant.specs.Verdict.{told, Tells};
 
-use crate::parts::{delivery_in, joined, part_for_none, value_as};
-use elan_meant::arity::pairs_of;
+use crate::parts::{delivery_in, joined, part_for_none};
+use elan_meant::arms::{action_arms, arms_as};
 use elan_meant::meant::Meant;
 use elan_meant::operands::delivers;
-use elan_meant::part::{actions, one, value_of};
-use elan_meant::row::{Judged, both, pushed};
+use elan_meant::part::{actions, boxed, one, value_of};
+use elan_meant::row::Judged;
+use elan_meant::together::pairs_of;
 use elan_scope::delivery::Delivery;
 use elan_scope::scope::Found;
 use elan_scope::trouble::Trouble;
-use elan_types::{Action, Arm, ElanType, ValueArm, ValuePhrase, Why};
+use elan_types::{Action, ElanType, ValuePhrase, Why};
 use eu_base::{Boxed, List, NoMemory};
 use std::alloc::Global;
 
 fn is_in(labels: &[i16], number: i16) -> bool
-    ensures { result ≡ spec.is_in labels.now number }
+    ensures { result ≡ walk.is_in labels.now number }
 {
     for label in labels {
         if *label == number {
@@ -59,18 +60,6 @@ pub fn label_named(at: u32, is_known: bool, found: Option<Found>) -> Result<i16,
     }
 }
 
-fn labels_in(alloc: Global, meant: Meant) -> List<i16>
-    ensures { result ≡ spec.labels_in meant }
-{
-    match meant {
-        Meant::Labels(labels) => labels,
-        other => {
-            other.let_go();
-            List::new(alloc)
-        }
-    }
-}
-
 // What all parts deliver, if they agree.
 fn agreed(delivery: Delivery, arms: &[(Meant, Meant)]) -> Option<Delivery>
     ensures { result ≡ spec.agreed (Some delivery) arms.now }
@@ -85,52 +74,6 @@ fn agreed(delivery: Delivery, arms: &[(Meant, Meant)]) -> Option<Delivery>
     agreed
 }
 
-fn action_arm(alloc: Global, arm: (Meant, Meant)) -> Arm
-    ensures { result ≡ spec.action_arm arm }
-{
-    let (labels, units) = arm;
-    Arm {
-        labels: labels_in(alloc, labels),
-        units: actions(alloc, units),
-    }
-}
-
-fn value_arm(alloc: Global, of: ElanType, arm: (Meant, Meant)) -> Result<ValueArm, NoMemory>
-    ensures { IfOk result (λ a. a ≡ spec.value_arm of arm) }
-{
-    let (labels, units) = arm;
-    let labels = labels_in(alloc, labels);
-    let value = value_as(alloc, of, units)?;
-    Ok(ValueArm {
-        labels,
-        value: value.into_inner(),
-    })
-}
-
-fn action_arms(alloc: Global, arms: List<(Meant, Meant)>) -> Result<List<Arm>, NoMemory>
-    ensures { IfOk result (λ list. list ≡ map spec.action_arm arms) }
-{
-    let mut list = Ok(List::new(alloc));
-    for arm in arms.into_vec() {
-        list = pushed(list, Ok(action_arm(alloc, arm)));
-    }
-    list
-}
-
-fn value_arms(
-    alloc: Global,
-    of: ElanType,
-    arms: List<(Meant, Meant)>,
-) -> Result<List<ValueArm>, NoMemory>
-    ensures { IfOk result (λ list. list ≡ map (spec.value_arm of) arms) }
-{
-    let mut list = Ok(List::new(alloc));
-    for arm in arms.into_vec() {
-        list = pushed(list, value_arm(alloc, of, arm));
-    }
-    list
-}
-
 fn select_actions(
     alloc: Global,
     value: Boxed<ValuePhrase>,
@@ -139,9 +82,17 @@ fn select_actions(
 ) -> Result<List<Action>, NoMemory>
     ensures { IfOk result (λ actions. actions ≡ walk.select_actions value arms otherwise) }
 {
-    let units = actions(alloc, otherwise);
-    let arms = action_arms(alloc, arms)?;
-    one(alloc, Action::Select(value.into_inner(), arms, units))
+    match action_arms(alloc, arms) {
+        Err(refusal) => {
+            value.into_inner().let_go();
+            otherwise.let_go();
+            Err(refusal)
+        }
+        Ok(arms) => {
+            let units = actions(alloc, otherwise);
+            one(alloc, Action::Select(value.into_inner(), arms, units))
+        }
+    }
 }
 
 fn select_value(
@@ -153,9 +104,13 @@ fn select_value(
 ) -> Result<Boxed<ValuePhrase>, NoMemory>
     ensures { IfOk result (λ v. v ≡ walk.select_value value arms otherwise of) }
 {
-    let arms = value_arms(alloc, of, arms);
-    let (arms, last) = both(arms, value_as(alloc, of, otherwise))?;
-    Boxed::new(alloc, ValuePhrase::Select(value, arms, last))
+    match arms_as(alloc, of, arms, otherwise) {
+        Err(refusal) => {
+            value.into_inner().let_go();
+            Err(refusal)
+        }
+        Ok((arms, last)) => boxed(alloc, ValuePhrase::Select(value, arms, last)),
+    }
 }
 
 fn selected_by(
@@ -191,16 +146,14 @@ fn selected_by(
 
 // The parts behind the value.
 fn selected_among(alloc: Global, at: u32, value: Boxed<ValuePhrase>, parts: List<Meant>) -> Judged
-    ensures { Tells result (spec.selected_by at value (meanings.pairs parts) (spec.otherwise (meanings.odd parts))) }
+    ensures { Tells result (spec.selected_by at value (meanings.pairs parts) (walk.otherwise (meanings.odd parts))) }
 {
     match pairs_of(alloc, parts) {
         Err(_) => {
             value.into_inner().let_go();
             Err(Trouble::NoMemory)
         }
-        Ok((arms, otherwise)) => {
-            selected_by(alloc, at, value, arms, part_for_none(alloc, otherwise))
-        }
+        Ok((arms, otherwise)) => { selected_by(alloc, at, value, arms, part_for_none(otherwise)) }
     }
 }
 

@@ -1,5 +1,6 @@
 -- The headings of a level, the units of its bodies, and the bodies of its meaning stand side by side.
 use Rattle.std.proofs.Common.{◌≡◌, ℕ, suc, ◌+◌, Bool, true, false, if◌then◌else◌, List, [], ◌∷◌, ◌++◌, map, length, Option, Some, None, refl, sym, ap, subst}
+use Rattle.elan_scope.specs.Scope.{variables_of}
 use Rattle.std.proofs.Common.{◌∙◌, arith}
 use Rattle.std.specs.Prelude.{slice_get, nat_eq}
 use Rattle.elan_types.specs.declared.elan_type.ElanType.{ElanType}
@@ -30,7 +31,7 @@ use Rattle.elan_scope.specs.declared.scope.Within.{Within}
 use Rattle.elan_scope.specs.declared.scope.Home.{Home}
 use Rattle.elan_scope.specs.declared.scope.Found.{Found}
 use Rattle.elan_levels.specs.Bodies as b
-use Rattle.elan_levels.specs.Bodies.{parameters, result, parameter_names, own_names, body_names, refinement_headings, bodies_in, unit_headings, all_headings}
+use Rattle.elan_levels.specs.Bodies.{parameters, result, parameter_names, own_names, body_names, refinement_headings, bodies_in, unit_headings}
 use Rattle.elan_scope.specs.Phrase as form
 use Rattle.elan_scope.specs.Phrase.{plain, Phrase, phrase, Parts, none, part, all_of, leaf}
 use Rattle.elan_scope.specs.Ruled.{Ruled, gives, before}
@@ -47,8 +48,10 @@ use Rattle.elan_check.specs.Level as l
 use Rattle.elan_rules.specs.Meaning.{judged, judged_all}
 use Rattle.elan_rules.proofs.First.{bind_gives, before_gives, gives_is}
 use Rattle.elan_judge.proofs.InScope.{InScope, body_units_in}
+use Rattle.elan_levels.proofs.Held.{held_append}
 use Rattle.elan_levels.proofs.OwnNames.{own_held}
 use Rattle.elan_rules.proofs.TypedPerformed.{owner_with}
+use Rattle.elan_levels.specs.walks.Headings.{all_headings}
 
 -- ---- lists
 
@@ -74,32 +77,10 @@ bodies_append [] ns = refl
 bodies_append (m ∷ ms) ns =
     ap (λ (bs : List Body). u.bodies_in m ++ bs) (bodies_append ms ns) ∙ sym (append_assoc' (u.bodies_in m) (u.bodies_of ms) (u.bodies_of ns))
 
-held_append : (xs ys : List Entry) → all_held (xs ++ ys) ≡ all_held xs ++ all_held ys
-held_append [] ys = refl
-held_append (x ∷ xs) ys =
-    ap (λ (l : List Parameter). held x.denotes ++ l) (held_append xs ys) ∙ sym (append_assoc' (held x.denotes) (all_held xs) (all_held ys))
-
--- ---- parameters
-
-each_held : (ns : List Name) (o : Option Parameter) → all_held (b.named_as ns (b.as_parameter o)) ≡ b.for_each ns o
-each_held [] None = refl
-each_held [] (Some p) = refl
-each_held (n ∷ ns) None = each_held ns None
-each_held (n ∷ ns) (Some p) = ap (λ (l : List Parameter). p ∷ l) (each_held ns (Some p))
-
-parameters_held : (fs : List Formal) → all_held (parameter_names fs) ≡ parameters fs
-parameters_held [] = refl
-parameters_held (f ∷ fs) =
-    held_append (b.named_as f.names (b.as_parameter (b.parameter f))) (parameter_names fs)
-    ∙ ap (λ (l : List Parameter). l ++ all_held (parameter_names fs)) (each_held f.names (b.parameter f))
-    ∙ ap (λ (l : List Parameter). b.for_each f.names (b.parameter f) ++ l) (parameters_held fs)
-
 -- the frame of a body has what its names hold
-frame_held : (fs : List Formal) (w : Written) → parameters fs ++ map held_const (l.own_types w) ≡ all_held (body_names fs w)
+frame_held : (fs : List Formal) (w : Written) → parameters fs ++ map held_const (variables_of (own_names w)) ≡ all_held (body_names fs w)
 frame_held fs w =
-    ap (λ (ps : List Parameter). parameters fs ++ ps) (sym (own_held w.units w.refinements))
-    ∙ ap (λ (ps : List Parameter). ps ++ all_held (own_names w)) (sym (parameters_held fs))
-    ∙ sym (held_append (parameter_names fs) (own_names w))
+    ap (λ (ps : List Parameter). parameters fs ++ ps) (sym (own_held w.units w.refinements)) ∙ sym (held_append (parameter_names fs) (own_names w))
 
 -- ---- rows
 
@@ -161,9 +142,9 @@ module _ (kn : Known) (s : Scope) (all : List Body) where
   owner_is None = refl
   owner_is (Some v) = refl
 
-  two_bodies : (o : Owner) (ms : List Meant) (m n v : Meant) → ms ≡ n ∷ v ∷ [] → ruled kn (plain (form.refinement o)) ms ≡ gives m
+  two_bodies : (o : Owner) (ms : List Meant) (m n v : Meant) → ms ≡ n ∷ v ∷ [] → ruled kn 0 (plain (form.refinement o)) ms ≡ gives m
       → m ≡ u.body_with o (u.content_of v)
-  two_bodies o ms m n v e h = sym (gives_is (u.body_with o (u.content_of v)) m (ap (ruled kn (plain (form.refinement o))) (sym e) ∙ h))
+  two_bodies o ms m n v e h = sym (gives_is (u.body_with o (u.content_of v)) m (ap (ruled kn 0 (plain (form.refinement o))) (sym e) ∙ h))
 
   pub refinement_rows : (z : Scope) (k : ℕ) (rs : List Refined) (ms : List Meant) → z.headings ≡ s.headings → z.level ≡ s.level → Frames all z.routine →
       judged_all kn (all_of (l.refinements z k rs)) ≡ gives ms
@@ -173,7 +154,7 @@ module _ (kn : Known) (s : Scope) (all : List Body) where
       let q = before_gives (judged kn (l.refinement z k r)) (judged_all kn (all_of (l.refinements z (suc k) rs))) ms e in
       let a =
       bind_gives (judged_all kn (part (l.declares z r.name) (part (l.refined_units z k r) none)))
-      (ruled kn (plain (form.refinement (l.owner_of z.routine)))) q.0 q.2
+      (ruled kn 0 (plain (form.refinement (l.owner_of z.routine)))) q.0 q.2
       in
       let c = before_gives (judged kn (l.declares z r.name)) (judged_all kn (part (l.refined_units z k r) none)) a.0 a.1 in
       let d = before_gives (judged kn (l.refined_units z k r)) (gives []) c.1 c.3 in
@@ -235,13 +216,13 @@ module _ (kn : Known) (s : Scope) (all : List Body) where
   declares_quiet : (z : Scope) (n : Name) → Quiet (l.declares z n)
   declares_quiet z n m e = declared_quiet n.at (scope.find_own z n.text) m e
 
-  all_declare_quiet : (z : Scope) (ns : List Name) → AllQuiet (l.declare_all z ns)
+  all_declare_quiet : (z : Scope) (ns : List Name) → AllQuiet (map (l.declares z) ns)
   all_declare_quiet z [] = tt
   all_declare_quiet z (n ∷ ns) = (declares_quiet z n, all_declare_quiet z ns)
 
   parameters_quiet : (z : Scope) (fs : List Formal) → AllQuiet (l.declare_parameters z fs)
   parameters_quiet z [] = tt
-  parameters_quiet z (f ∷ fs) = quiet_append (l.declare_all z f.names) (l.declare_parameters z fs) (all_declare_quiet z f.names) (parameters_quiet z fs)
+  parameters_quiet z (f ∷ fs) = quiet_append (map (l.declares z) f.names) (l.declare_parameters z fs) (all_declare_quiet z f.names) (parameters_quiet z fs)
 
   headed_quiet : (at : ℕ) (missing : Bool) (o : Option (ℕ × Heading)) (m : Meant) → verdict.told (calls.headed at missing o) ≡ gives m → u.bodies_in m ≡ []
   headed_quiet at missing None m e = absurd cc
@@ -262,14 +243,14 @@ module _ (kn : Known) (s : Scope) (all : List Body) where
 
   module _ (k : ℕ) (at : ℕ) (x : List ℕ) (t : Option TypePhrase) (fs : List Formal) (w : Written) where
     abbrev own : Owner
-    own = owner.Own (parameters fs) (l.own_types w)
+    own = owner.Own (parameters fs) (variables_of (own_names w))
 
     abbrev inner : Scope
     inner = l.inner s k at x t fs w
 
-    one_body : (r : Option ElanType) (ms : List Meant) (m v : Meant) → ms ≡ v ∷ [] → ruled kn (plain (form.body own r)) ms ≡ gives m
+    one_body : (r : Option ElanType) (ms : List Meant) (m v : Meant) → ms ≡ v ∷ [] → ruled kn 0 (plain (form.body own r)) ms ≡ gives m
         → m ≡ u.body_with own (u.content_as r v)
-    one_body r ms m v e h = sym (gives_is (u.body_with own (u.content_as r v)) m (ap (ruled kn (plain (form.body own r))) (sym e) ∙ h))
+    one_body r ms m v e h = sym (gives_is (u.body_with own (u.content_as r v)) m (ap (ruled kn 0 (plain (form.body own r))) (sym e) ∙ h))
 
     pub routine_rows : (sort : Sort) (names : List Phrase) (m : Meant) → AllQuiet names → judged kn (l.routine s k at x t fs w sort names) ≡ gives m
         → Inside k (u.bodies_in m) all →
@@ -277,18 +258,18 @@ module _ (kn : Known) (s : Scope) (all : List Body) where
     routine_rows sort names m quiet e inside =
         let q =
         bind_gives (judged_all kn (all_of (l.heading_phrases s k at x t fs w sort names ++ l.body_phrases s k at x t fs w)))
-        (ruled kn (plain form.routine)) m e in
+        (ruled kn 0 (plain form.routine)) m e in
         let p = split kn (l.heading_phrases s k at x t fs w sort names) (l.body_phrases s k at x t fs w) q.0 q.1 in
         let silent : u.bodies_of p.0 ≡ [] =
         quiet_bodies (l.heading_phrases s k at x t fs w sort names) p.0
-        (quiet_append names (leaf (form.heading at s sort x (parameters fs) (l.is_missing (result t) (l.body_units s k at x t fs w)))
+        (quiet_append names (leaf at (form.heading s sort x (parameters fs) (l.is_missing (result t) (l.body_units s k at x t fs w)))
         ∷ l.declare_parameters inner fs) quiet (
           headed_quiet at (l.is_missing (result t) (l.body_units s k at x t fs w))
               (scope.first_heading (scope.is_alike sort x (scope.types_of (parameters fs))) s.headings),
           parameters_quiet inner fs,
         )) p.2 in
         let a = before_gives (judged kn (l.own_body s k at x t fs w)) (judged_all kn (all_of (l.refinements inner (suc k) w.refinements))) p.1 p.3 in
-        let c = bind_gives (judged_all kn (part (l.own_units s k at x t fs w) none)) (ruled kn (plain (form.body own (result t)))) a.0 a.2 in
+        let c = bind_gives (judged_all kn (part (l.own_units s k at x t fs w) none)) (ruled kn 0 (plain (form.body own (result t)))) a.0 a.2 in
         let d = before_gives (judged kn (l.own_units s k at x t fs w)) (gives []) c.0 c.1 in
         let one : c.0 ≡ d.0 ∷ [] = d.4 ∙ ap (λ (ns : List Meant). d.0 ∷ ns) (sym (gives_is [] d.1 d.3)) in
         let made = one_body (result t) c.0 a.0 d.0 one c.2 in
@@ -305,12 +286,12 @@ module _ (kn : Known) (s : Scope) (all : List Body) where
             means = d.2;
             list = l.body_units s k at x t fs w;
             is_list = refl;
-            made = (l.own_types w, refl, refl);
+            made = (variables_of (own_names w), refl, refl);
             scope = inner;
             in_scope = body_units_in inner (delivered (result t)) w.units;
             headings = refl;
             level = refl;
             stands = (body_names fs w, refl, refl, frame_held fs w);
           },
-          refinement_rows inner (suc k) w.refinements a.1 refl refl (parameters fs, l.own_types w, ap scope_of here, frame_held fs w) a.3,
+          refinement_rows inner (suc k) w.refinements a.1 refl refl (parameters fs, variables_of (own_names w), ap scope_of here, frame_held fs w) a.3,
         )

@@ -1,5 +1,6 @@
 -- Where the same is known of what a phrase calls and of what it leaves, it is judged alike.
 use Rattle.std.proofs.Common.{◌≡◌, ℕ, Bool, if◌then◌else◌, List, [], ◌∷◌, ◌++◌, length, Option, Some, None, refl, sym, ap, subst, ◌∙◌, ◌⊎◌, inl, inr}
+use Rattle.std.specs.Prelude.{flat_map, option_to_list}
 use Rattle.elan_types.specs.declared.core_phrase.Exit.{Exit}
 use Rattle.elan_types.specs.declared.why.Why.TheVariants.{WrongPlace}
 use Rattle.elan_scope.specs.declared.delivery.Delivery.{Delivery}
@@ -13,7 +14,7 @@ use Rattle.elan_scope.specs.declared.scope.Usage.TheVariants.{Expression, Counte
 use Rattle.elan_scope.specs.Known.{delivery_at, leads_back}
 use Rattle.elan_scope.specs.Scope.{find, left, refinement_named}
 use Rattle.elan_scope.specs.Phrase as form
-use Rattle.elan_scope.specs.Phrase.{Form, asking, plain, Phrase, phrase, Parts, none, part}
+use Rattle.elan_scope.specs.Phrase.{Form, plain, Phrase, phrase, Parts, none, part}
 use Rattle.elan_scope.specs.Ruled.{Ruled, gives, breaks, hangs, ◌>>=◌, before}
 use Rattle.call_graph.specs.Chains.{leads}
 use Rattle.elan_meant.specs.declared.meant.Meant.{Meant}
@@ -22,11 +23,10 @@ use Rattle.elan_meant.specs.Verdict as verdict
 use Rattle.elan_meant.specs.Verdict.{told}
 use Rattle.value_rules.specs.Calls as r
 use Rattle.value_rules.specs.walks.Steps as walk
-use Rattle.elan_levels.specs.Called.{number_list}
 use Rattle.elan_rules.specs.Rules.{ruled}
 use Rattle.elan_rules.specs.Meaning.{judged, judged_all, phrases, phrases_of}
 use Rattle.elan_judge.proofs.InScope.{Names, InScope, AllIn}
-use Rattle.elan_check.specs.Refinements.{called_by, called_by_all, called_in}
+use Rattle.elan_check.specs.Refinements.{called_by, called_in}
 use Rattle.elan_check.proofs.Calls.{called_append}
 use Rattle.elan_check.proofs.Walks.{In}
 
@@ -50,7 +50,7 @@ in_rest : (n : ℕ) (xs ys : List ℕ) → In n ys → In n (xs ++ ys)
 in_rest n [] ys h = h
 in_rest n (x ∷ xs) ys h = inr (in_rest n xs ys h)
 
-in_one : (n : ℕ) (o : Option ℕ) → o ≡ Some n → In n (number_list o)
+in_one : (n : ℕ) (o : Option ℕ) → o ≡ Some n → In n (option_to_list o)
 in_one n None e = absurd cc
 in_one n (Some m) e = inl (let f : m ≡ n = cc in f)
 
@@ -104,41 +104,41 @@ module _ (j k : Known) (z : Scope) (calls : j.calls ≡ k.calls) where
   leaving_alike at None m h = refl
   leaving_alike at (Some e) m h = ap (λ (d : Delivery). walk.leave_as at e.0 d m) (h e refl)
 
-  form_alike : LeftSame → (f : Form) (ps : Parts) (ms : List Meant) → Names z f → AllSame (called_by (phrase f ps)) → ruled j f ms ≡ ruled k f ms
-  form_alike l (asking (form.named Expression at s x)) ps ms e h =
+  form_alike : LeftSame → (at : ℕ) (f : Form) (ps : Parts) (ms : List Meant) → Names z f → AllSame (called_by (phrase at f ps)) → ruled j at f ms ≡ ruled k at f ms
+  form_alike l at (form.named Expression s x) ps ms e h =
       named_alike at s x (find s x) (λ n i. h n (in_one n (refinement_named s x) i))
-  form_alike l (asking (form.named Counter at s x)) ps ms e h = counter_alike at s x (find s x)
-  form_alike l (asking (form.leave at s x)) ps ms e h =
+  form_alike l at (form.named Counter s x) ps ms e h = counter_alike at s x (find s x)
+  form_alike l at (form.leave s x) ps ms e h =
       ap told (leaving_alike at (left s x) (nth ms 0) (λ q i. l x q (ap (λ (y : Scope). left y x) (sym e) ∙ i)))
-  form_alike l (plain f) ps ms e h = refl
+  form_alike l at (plain f) ps ms e h = refl
 
   mutual
     pub phrase_alike : LeftSame → (p : Phrase) → InScope z p → AllSame (called_in p) → judged j p ≡ judged k p
-    phrase_alike l (phrase f ps) i h =
-        bind_alike (judged_all j ps) (judged_all k ps) (ruled j f) (ruled k f) (parts_alike l ps i.1 (λ n g. h n (first n g)))
-        (λ ms. form_alike l f ps ms i.0 (λ n g. h n (last n g)))
+    phrase_alike l (phrase at f ps) i h =
+        bind_alike (judged_all j ps) (judged_all k ps) (ruled j at f) (ruled k at f) (parts_alike l ps i.1 (λ n g. h n (first n g)))
+        (λ ms. form_alike l at f ps ms i.0 (λ n g. h n (last n g)))
       where
-        split : called_in (phrase f ps) ≡ called_by_all (phrases_of ps) ++ called_by_all (phrase f ps ∷ [])
-        split = called_append (phrases_of ps) (phrase f ps ∷ [])
+        split : called_in (phrase at f ps) ≡ flat_map called_by (phrases_of ps) ++ flat_map called_by (phrase at f ps ∷ [])
+        split = called_append (phrases_of ps) (phrase at f ps ∷ [])
 
-        first : (n : ℕ) → In n (called_by_all (phrases_of ps)) → In n (called_in (phrase f ps))
-        first n g = subst (In n) (sym split) (in_first n (called_by_all (phrases_of ps)) (called_by_all (phrase f ps ∷ [])) g)
+        first : (n : ℕ) → In n (flat_map called_by (phrases_of ps)) → In n (called_in (phrase at f ps))
+        first n g = subst (In n) (sym split) (in_first n (flat_map called_by (phrases_of ps)) (flat_map called_by (phrase at f ps ∷ [])) g)
 
-        last : (n : ℕ) → In n (called_by (phrase f ps)) → In n (called_in (phrase f ps))
+        last : (n : ℕ) → In n (called_by (phrase at f ps)) → In n (called_in (phrase at f ps))
         last n g =
-            subst (In n) (sym split) (in_rest n (called_by_all (phrases_of ps)) (called_by_all (phrase f ps ∷ [])) (in_first n (called_by (phrase f ps)) [] g))
+            subst (In n) (sym split) (in_rest n (flat_map called_by (phrases_of ps)) (flat_map called_by (phrase at f ps ∷ [])) (in_first n (called_by (phrase at f ps)) [] g))
 
-    parts_alike : LeftSame → (ps : Parts) → AllIn z ps → AllSame (called_by_all (phrases_of ps)) → judged_all j ps ≡ judged_all k ps
+    parts_alike : LeftSame → (ps : Parts) → AllIn z ps → AllSame (flat_map called_by (phrases_of ps)) → judged_all j ps ≡ judged_all k ps
     parts_alike l none i h = refl
     parts_alike l (part p ps) i h =
         ap (λ (q : Ruled Meant). before q (judged_all j ps)) (phrase_alike l p i.0 (λ n g. h n (first n g)))
         ∙ ap (λ (q : Ruled (List Meant)). before (judged k p) q) (parts_alike l ps i.1 (λ n g. h n (rest n g)))
       where
-        split : called_by_all (phrases_of (part p ps)) ≡ called_in p ++ called_by_all (phrases_of ps)
+        split : flat_map called_by (phrases_of (part p ps)) ≡ called_in p ++ flat_map called_by (phrases_of ps)
         split = called_append (phrases p) (phrases_of ps)
 
-        first : (n : ℕ) → In n (called_in p) → In n (called_by_all (phrases_of (part p ps)))
-        first n g = subst (In n) (sym split) (in_first n (called_in p) (called_by_all (phrases_of ps)) g)
+        first : (n : ℕ) → In n (called_in p) → In n (flat_map called_by (phrases_of (part p ps)))
+        first n g = subst (In n) (sym split) (in_first n (called_in p) (flat_map called_by (phrases_of ps)) g)
 
-        rest : (n : ℕ) → In n (called_by_all (phrases_of ps)) → In n (called_by_all (phrases_of (part p ps)))
-        rest n g = subst (In n) (sym split) (in_rest n (called_in p) (called_by_all (phrases_of ps)) g)
+        rest : (n : ℕ) → In n (flat_map called_by (phrases_of ps)) → In n (flat_map called_by (phrases_of (part p ps)))
+        rest n g = subst (In n) (sym split) (in_rest n (called_in p) (flat_map called_by (phrases_of ps)) g)

@@ -1,5 +1,6 @@
 -- The refinements that phrases call, as they are found in the tree. One induction over trees, so it stands in one file.
 use Rattle.std.proofs.Common.{◌≡◌, ℤ, ℕ, List, [], ◌∷◌, ◌++◌, map, Option, Some, None, refl, sym, ap, ◌∙◌, append_assoc}
+use Rattle.std.specs.Prelude.{flat_map}
 use Rattle.elan_tree.specs.declared.written_type.Name.{Name}
 use Rattle.elan_tree.specs.declared.written_type.Label.{Label}
 use Rattle.elan_tree.specs.declared.written_type.Label.TheVariants as label
@@ -19,16 +20,17 @@ use Rattle.elan_scope.specs.declared.delivery.Delivery.{Delivery}
 use Rattle.elan_scope.specs.declared.delivery.Delivery.TheVariants.{Open, Nothing, Of}
 use Rattle.elan_scope.specs.declared.scope.Scope.{Scope}
 use Rattle.elan_scope.specs.Phrase as form
-use Rattle.elan_scope.specs.Phrase.{Form, asking, Plain, plain, Phrase, phrase, Parts, none, part, all_of, around}
+use Rattle.elan_scope.specs.Phrase.{Form, Plain, plain, Phrase, phrase, Parts, none, part, all_of, around}
 use Rattle.elan_rules.specs.Meaning.{phrases, phrases_of}
 use Rattle.elan_judge.specs.Shape as shape
+use Rattle.elan_judge.specs.walks.Steps as walk
 use Rattle.elan_tree.specs.declared.written_type.TypePhrase.{TypePhrase}
 use Rattle.elan_walk.specs.declared.node.Held.{Held}
 use Rattle.elan_walk.specs.declared.node.Held.TheVariants as held
 use Rattle.elan_walk.specs.Nodes as nodes
 use Rattle.elan_walk.specs.Nodes.{Node, sign}
 use Rattle.elan_levels.specs.walks.Uses as uses
-use Rattle.elan_check.specs.Refinements.{called_by, called_by_all, called_in}
+use Rattle.elan_check.specs.Refinements.{called_by, called_in}
 
 -- ---- lists
 
@@ -48,19 +50,19 @@ both xs ys zs ws e g = ap (λ (l : List ℕ). l ++ zs) e ∙ ap (λ (l : List �
 
 -- ---- phrases
 
-pub called_append : (ps qs : List Phrase) → called_by_all (ps ++ qs) ≡ called_by_all ps ++ called_by_all qs
+pub called_append : (ps qs : List Phrase) → flat_map called_by (ps ++ qs) ≡ flat_map called_by ps ++ flat_map called_by qs
 called_append [] qs = refl
-called_append (p ∷ ps) qs = ap (λ (ns : List ℕ). called_by p ++ ns) (called_append ps qs) ∙ sym (assoc (called_by p) (called_by_all ps) (called_by_all qs))
+called_append (p ∷ ps) qs = ap (λ (ns : List ℕ). called_by p ++ ns) (called_append ps qs) ∙ sym (assoc (called_by p) (flat_map called_by ps) (flat_map called_by qs))
 
 abbrev calls : Parts → List ℕ
-calls ps = called_by_all (phrases_of ps)
+calls ps = flat_map called_by (phrases_of ps)
 
 -- a phrase that is no call itself
-whole_of : (f : Form) (ps : Parts) → called_by (phrase f ps) ≡ [] → called_in (phrase f ps) ≡ calls ps
-whole_of f ps h = called_append (phrases_of ps) (phrase f ps ∷ []) ∙ ap (λ (ns : List ℕ). calls ps ++ (ns ++ [])) h ∙ nil (calls ps)
+whole_of : (at : ℕ) (f : Form) (ps : Parts) → called_by (phrase at f ps) ≡ [] → called_in (phrase at f ps) ≡ calls ps
+whole_of at f ps h = called_append (phrases_of ps) (phrase at f ps ∷ []) ∙ ap (λ (ns : List ℕ). calls ps ++ (ns ++ [])) h ∙ nil (calls ps)
 
-whole : (f : Plain) (ps : Parts) → called_by (phrase (plain f) ps) ≡ [] → called_in (phrase (plain f) ps) ≡ calls ps
-whole f ps h = whole_of (plain f) ps h
+whole : (at : ℕ) (f : Plain) (ps : Parts) → called_by (phrase at (plain f) ps) ≡ [] → called_in (phrase at (plain f) ps) ≡ calls ps
+whole at f ps h = whole_of at (plain f) ps h
 
 first_part : (p : Phrase) (ps : Parts) → calls (part p ps) ≡ called_in p ++ calls ps
 first_part p ps = called_append (phrases p) (phrases_of ps)
@@ -82,12 +84,12 @@ append_parts (p ∷ ps) qs =
     first_part p (all_of (ps ++ qs)) ∙ ap (λ (ns : List ℕ). called_in p ++ ns) (append_parts ps qs)
     ∙ sym (assoc (called_in p) (calls (all_of ps)) (calls (all_of qs))) ∙ ap (λ (ns : List ℕ). ns ++ calls (all_of qs)) (sym (first_part p (all_of ps)))
 
-one_calls : (f : Plain) (p : Phrase) → called_by (around f p) ≡ [] → called_in (around f p) ≡ called_in p
-one_calls f p h = whole f (part p none) h ∙ one_part p
+one_calls : (at : ℕ) (f : Plain) (p : Phrase) → called_by (around at f p) ≡ [] → called_in (around at f p) ≡ called_in p
+one_calls at f p h = whole at f (part p none) h ∙ one_part p
 
-two_call : (f : Plain) (p q : Phrase) (xs ys : List ℕ) → called_by (phrase (plain f) (part p (part q none))) ≡ [] → called_in p ≡ xs → called_in q ≡ ys
-    → called_in (phrase (plain f) (part p (part q none))) ≡ xs ++ ys
-two_call f p q xs ys h e g = whole f (part p (part q none)) h ∙ two_parts p q ∙ both (called_in p) xs (called_in q) ys e g
+two_call : (at : ℕ) (f : Plain) (p q : Phrase) (xs ys : List ℕ) → called_by (phrase at (plain f) (part p (part q none))) ≡ [] → called_in p ≡ xs → called_in q ≡ ys
+    → called_in (phrase at (plain f) (part p (part q none))) ≡ xs ++ ys
+two_call at f p q xs ys h e g = whole at f (part p (part q none)) h ∙ two_parts p q ∙ both (called_in p) xs (called_in q) ys e g
 
 module _ (s : Scope) where
   abbrev found : List Node → List ℕ
@@ -100,9 +102,9 @@ module _ (s : Scope) where
       found_append [] = refl
       found_append (m ∷ ms) = ap (λ (l : List ℕ). uses.called s m ++ l) (found_append ms) ∙ sym (assoc (uses.called s m) (found ms) (found ns))
 
-  two_found : (f : Plain) (p q : Phrase) (ms ns : List Node) → called_by (phrase (plain f) (part p (part q none))) ≡ [] → called_in p ≡ found ms
-      → called_in q ≡ found ns → called_in (phrase (plain f) (part p (part q none))) ≡ found (ms ++ ns)
-  two_found f p q ms ns h e g = two_call f p q (called_in p) (called_in q) h refl refl ∙ split (called_in p) (called_in q) ms ns e g
+  two_found : (at : ℕ) (f : Plain) (p q : Phrase) (ms ns : List Node) → called_by (phrase at (plain f) (part p (part q none))) ≡ [] → called_in p ≡ found ms
+      → called_in q ≡ found ns → called_in (phrase at (plain f) (part p (part q none))) ≡ found (ms ++ ns)
+  two_found at f p q ms ns h e g = two_call at f p q (called_in p) (called_in q) h refl refl ∙ split (called_in p) (called_in q) ms ns e g
 
   -- what the phrase of a unit calls, if it has one
   abbrev unit_calls_of : Option Phrase → List ℕ
@@ -160,7 +162,7 @@ module _ (s : Scope) where
       guarded_calls p.0 p.1 rest ∙ split (pair_calls p) (calls rest) (nodes.in_branch b.0) _ b.1 (branches_call bs)
 
   items_call : (h : Held) (of : TypePhrase) (is : List ((i : Item) × I i))
-      → calls (all_of (map (shape.item s) (map fst is))) ≡ found (nodes.all_items h of (map nodes.in_item (map fst is)))
+      → calls (all_of (map (shape.item s) (map fst is))) ≡ found (flat_map (λ (i : nodes.Declares). i h of) (map nodes.in_item (map fst is)))
   items_call h of [] = refl
   items_call h of (i ∷ is) =
       let rest = all_of (map (shape.item s) (map fst is)) in
@@ -168,8 +170,8 @@ module _ (s : Scope) where
 
   role_calls : (d : Delivery) (p : Phrase) → called_in (shape.role d p) ≡ called_in p
   role_calls Open p = refl
-  role_calls Nothing p = one_calls form.without_value p refl
-  role_calls (Of t) p = one_calls (form.must_deliver (form.place p) t) p refl
+  role_calls Nothing p = one_calls (form.place p) form.without_value p refl
+  role_calls (Of t) p = one_calls (form.place p) (form.must_deliver t) p refl
 
   roles_call : (d : Delivery) (ps : List Phrase) → calls (all_of (shape.roles d ps)) ≡ calls (all_of ps)
   roles_call d [] = refl
@@ -195,7 +197,7 @@ module _ (s : Scope) where
       → called_in (shape.units d (map (shape.unit s) (map fst us))) ≡ found (nodes.all (map nodes.in_unit (map fst us)))
   units_call d us =
       let ps = shape.filled (map (shape.unit s) (map fst us)) in
-      whole form.units (all_of (shape.roles d ps)) refl ∙ roles_call d ps ∙ us_call us
+      whole 0 form.units (all_of (shape.roles d ps)) refl ∙ roles_call d ps ∙ us_call us
 
   labels_call : (ns : List ℤ) (ls : List Label) → calls (all_of (shape.label_phrases s ns ls)) ≡ []
   labels_call ns [] = refl
@@ -207,12 +209,12 @@ module _ (s : Scope) where
   arms_call ns [] = refl
   arms_call ns (c ∷ cs) =
       let ls = (shape.case s c.0).0 in
-      let labels = shape.labels_phrase s ns ls in
-      let rest = all_of (shape.arms s (ns ++ shape.numbers ls) (map (shape.case s) (map fst cs))) in
-      let none_called : called_in labels ≡ [] = whole form.labels (all_of (shape.label_phrases s ns ls)) refl ∙ labels_call ns ls in
+      let labels = walk.labels_phrase s ns ls in
+      let rest = all_of (shape.arms s (ns ++ walk.numbers ls) (map (shape.case s) (map fst cs))) in
+      let none_called : called_in labels ≡ [] = whole 0 form.labels (all_of (shape.label_phrases s ns ls)) refl ∙ labels_call ns ls in
       guarded_calls labels (shape.case s c.0).1 rest
       ∙ split (called_in labels ++ called_in (shape.case s c.0).1) (calls rest) (nodes.in_case c.0) _
-      (both (called_in labels) [] (called_in (shape.case s c.0).1) (found (nodes.in_case c.0)) none_called c.1) (arms_call (ns ++ shape.numbers ls) cs)
+      (both (called_in labels) [] (called_in (shape.case s c.0).1) (found (nodes.in_case c.0)) none_called c.1) (arms_call (ns ++ walk.numbers ls) cs)
 
   -- a part behind others
   behind_calls : (ps : List Phrase) (p : Phrase) (ms ns : List Node) → calls (all_of ps) ≡ found ms → called_in p ≡ found ns
@@ -225,12 +227,12 @@ module _ (s : Scope) where
   Below F = F ((e : Expr) × E e) ((l : Limit) × L l) ((u : Statement) × U u) ((b : Branch) × B b) ((c : Case) × C c) ((k : Counter) × K k) ((i : Item) × I i)
 
   abbrev absent : Phrase
-  absent = form.leaf form.absent
+  absent = form.leaf 0 form.absent
 
   selected : (at : ℕ) (of : (e : Expr) × E e) (rest : Parts) (ms ns : List Node) → calls rest ≡ found (ms ++ ns)
-      → called_in (phrase (plain (form.selection at)) (part (shape.expr s of.0) rest)) ≡ found (nodes.in_expr of.0 ++ ms ++ ns)
+      → called_in (phrase at (plain form.selection) (part (shape.expr s of.0) rest)) ≡ found (nodes.in_expr of.0 ++ ms ++ ns)
   selected at of rest ms ns h =
-      whole (form.selection at) (part (shape.expr s of.0) rest) refl ∙ first_part (shape.expr s of.0) rest
+      whole at form.selection (part (shape.expr s of.0) rest) refl ∙ first_part (shape.expr s of.0) rest
       ∙ split (called_in (shape.expr s of.0)) (calls rest) (nodes.in_expr of.0) (ms ++ ns) of.1 h
       ∙ ap found (sym (append_assoc (nodes.in_expr of.0) ms ns))
 
@@ -245,18 +247,18 @@ module _ (s : Scope) where
   expr_calls (t.Text at x) = refl
   expr_calls (t.Truth at b) = refl
   expr_calls (t.Named n) = refl
-  expr_calls (t.Call n actuals) = whole _ (all_of (map (shape.expr s) (map fst actuals))) refl ∙ exprs_call actuals
+  expr_calls (t.Call n actuals) = whole _ _ (all_of (map (shape.expr s) (map fst actuals))) refl ∙ exprs_call actuals
   expr_calls (t.Procedure at n) = refl
   expr_calls (t.Concr at a) = refl
-  expr_calls (t.Bracket at a) = one_calls (form.bracket at) (shape.expr s a.0) refl ∙ a.1
+  expr_calls (t.Bracket at a) = one_calls at form.bracket (shape.expr s a.0) refl ∙ a.1
   expr_calls (t.If at branches None) =
       let ps = shape.branches (map (shape.branch s) (map fst branches)) in
-      whole (form.choice at) (all_of (ps ++ absent ∷ [])) refl
+      whole at form.choice (all_of (ps ++ absent ∷ [])) refl
       ∙ behind_calls ps absent (nodes.all (map nodes.in_branch (map fst branches))) [] (branches_call branches) refl
   expr_calls (t.If at branches (Some us)) =
       let ps = shape.branches (map (shape.branch s) (map fst branches)) in
       let p = shape.units Open (map (shape.unit s) (map fst us)) in
-      whole (form.choice at) (all_of (ps ++ p ∷ [])) refl
+      whole at form.choice (all_of (ps ++ p ∷ [])) refl
       ∙ behind_calls ps p (nodes.all (map nodes.in_branch (map fst branches))) (nodes.all (map nodes.in_unit (map fst us))) (branches_call branches)
       (units_call Open us)
   expr_calls (t.Select at of cases None) =
@@ -273,10 +275,10 @@ module _ (s : Scope) where
       selected at of rest inside other (behind_calls ps p inside other (arms_call [] cases) (units_call Open us))
   expr_calls (t.Index at of index) = refl
   expr_calls (t.Field at of field) = refl
-  expr_calls (t.Monadic at o a) = one_calls _ (shape.expr s a.0) refl ∙ a.1
-  expr_calls (t.Dyadic at o a b) = two_found _ (shape.expr s a.0) (shape.expr s b.0) (nodes.in_expr a.0) (sign o ∷ nodes.in_expr b.0) refl a.1 b.1
-  expr_calls (t.Cand at a b) = two_found (form.cand at) (shape.expr s a.0) (shape.expr s b.0) (nodes.in_expr a.0) (nodes.in_expr b.0) refl a.1 b.1
-  expr_calls (t.Cor at a b) = two_found (form.cor at) (shape.expr s a.0) (shape.expr s b.0) (nodes.in_expr a.0) (nodes.in_expr b.0) refl a.1 b.1
+  expr_calls (t.Monadic at o a) = one_calls _ _ (shape.expr s a.0) refl ∙ a.1
+  expr_calls (t.Dyadic at o a b) = two_found _ _ (shape.expr s a.0) (shape.expr s b.0) (nodes.in_expr a.0) (sign o ∷ nodes.in_expr b.0) refl a.1 b.1
+  expr_calls (t.Cand at a b) = two_found at form.cand (shape.expr s a.0) (shape.expr s b.0) (nodes.in_expr a.0) (nodes.in_expr b.0) refl a.1 b.1
+  expr_calls (t.Cor at a b) = two_found at form.cor (shape.expr s a.0) (shape.expr s b.0) (nodes.in_expr a.0) (nodes.in_expr b.0) refl a.1 b.1
 
   limit_calls : (y : Below Limit-F)
       → called_in (shape.limit_step s
@@ -302,7 +304,7 @@ module _ (s : Scope) where
       called_in (shape.loop at None c (shape.units Nothing (map (shape.unit s) (map fst us))) v)
       ≡ found (ms ++ nodes.all (map nodes.in_unit (map fst us)) ++ ns)
   loop_calls at c v us ms ns g h =
-      whole (form.loop at) (part c (part (shape.units Nothing (map (shape.unit s) (map fst us))) (part v none))) refl ∙ turns_call c v us ms ns g h
+      whole at form.loop (part c (part (shape.units Nothing (map (shape.unit s) (map fst us))) (part v none))) refl ∙ turns_call c v us ms ns g h
 
   count_calls : (at : ℕ) (k : (k : Counter) × K k) (c v : Phrase) (us : List ((u : Statement) × U u)) (ms ns : List Node) → called_in c ≡ found ms
       → called_in v ≡ found ns →
@@ -313,7 +315,7 @@ module _ (s : Scope) where
       let inside = nodes.all (map nodes.in_unit (map fst us)) in
       let turns = part c (part (shape.units Nothing (map (shape.unit s) (map fst us))) (part v none)) in
       let counts = nodes.in_counter k.0 in
-      whole (form.count at d.3) (part d.0 (part d.1 (part d.2 turns))) refl ∙ first_part d.0 (part d.1 (part d.2 turns))
+      whole at (form.count d.3) (part d.0 (part d.1 (part d.2 turns))) refl ∙ first_part d.0 (part d.1 (part d.2 turns))
       ∙ both (called_in d.0) [] (calls (part d.1 (part d.2 turns))) (counter_calls_of d ++ calls turns) k.1.0 (guarded_calls d.1 d.2 turns)
       ∙ split (counter_calls_of d) (calls turns) counts (ms ++ inside ++ ns) k.1.1 (turns_call c v us ms ns g h)
       ∙ ap found (sym (append_assoc counts (ms ++ inside) ns) ∙ ap (λ (l : List Node). l ++ ns) (sym (append_assoc counts ms inside)))
@@ -327,11 +329,11 @@ module _ (s : Scope) where
       (map-Unit _ _ _ _ _ _ _ _ _ _ _ _ _ _ fst fst fst fst fst fst fst y)))
   unit_calls t.Empty = refl
   unit_calls (t.Let at items) = refl
-  unit_calls (t.Variables at of items) = whole (form.declaration at) (all_of (map (shape.item s) (map fst items))) refl ∙ items_call held.Variable of items
-  unit_calls (t.Constants at of items) = whole (form.declaration at) (all_of (map (shape.item s) (map fst items))) refl ∙ items_call held.Constant of items
+  unit_calls (t.Variables at of items) = whole at form.declaration (all_of (map (shape.item s) (map fst items))) refl ∙ items_call held.Variable of items
+  unit_calls (t.Constants at of items) = whole at form.declaration (all_of (map (shape.item s) (map fst items))) refl ∙ items_call held.Constant of items
   unit_calls (t.Bound at of items) = refl
-  unit_calls (t.Value a) = one_calls form.statement (shape.expr s a.0) refl ∙ a.1
-  unit_calls (t.Becomes at a b) = two_found (form.assignment at s) (shape.expr s a.0) (shape.expr s b.0) (nodes.in_expr a.0) (nodes.in_expr b.0) refl a.1 b.1
+  unit_calls (t.Value a) = one_calls (form.place (shape.expr s a.0)) form.statement (shape.expr s a.0) refl ∙ a.1
+  unit_calls (t.Becomes at a b) = two_found at (form.assignment s) (shape.expr s a.0) (shape.expr s b.0) (nodes.in_expr a.0) (nodes.in_expr b.0) refl a.1 b.1
   unit_calls (t.Loop at None None us None) = loop_calls at absent absent us [] [] refl refl
   unit_calls (t.Loop at None None us (Some v)) = loop_calls at absent (shape.expr s v.0) us [] (nodes.in_expr v.0) refl v.1
   unit_calls (t.Loop at None (Some c) us None) = loop_calls at (shape.expr s c.0) absent us (nodes.in_expr c.0) [] c.1 refl
@@ -343,7 +345,7 @@ module _ (s : Scope) where
       count_calls at k (shape.expr s c.0) (shape.expr s v.0) us (nodes.in_expr c.0) (nodes.in_expr v.0) c.1 v.1
   unit_calls (t.Leave at n None) = refl
   unit_calls (t.Leave at n (Some v)) =
-      whole_of (asking (form.leave at s n.text)) (part (shape.expr s v.0) none) refl ∙ one_part (shape.expr s v.0) ∙ v.1
+      whole_of at (form.leave s n.text) (part (shape.expr s v.0) none) refl ∙ one_part (shape.expr s v.0) ∙ v.1
 
   branch_calls : (y : Below Branch-F)
       → pair_calls (shape.branch_step s
@@ -405,7 +407,7 @@ module _ (s : Scope) where
       (map-Item _ _ _ _ _ _ _ _ _ _ _ _ _ _ fst fst fst fst fst fst fst (item_with n init))) h of)
   item_of n None h of = refl
   item_of n (Some e) h of =
-      two_call (form.initial n.at) (form.leaf (form.declares n.at s n.text)) (shape.expr s e.0) [] (found (nodes.in_expr e.0)) refl refl e.1
+      two_call n.at form.initial (form.leaf n.at (form.declares s n.text)) (shape.expr s e.0) [] (found (nodes.in_expr e.0)) refl refl e.1
 
   item_calls : (y : Below Item-F) (h : Held) (of : TypePhrase)
       → called_in (shape.item_step s
@@ -439,7 +441,7 @@ module _ (s : Scope) where
   pub units_called : (d : Delivery) (us : List Statement) → called_in (shape.units d (map (shape.unit s) us)) ≡ uses.in_units s us
   units_called d us =
       let ps = shape.filled (map (shape.unit s) us) in
-      whole form.units (all_of (shape.roles d ps)) refl ∙ roles_call d ps ∙ all_called us
+      whole 0 form.units (all_of (shape.roles d ps)) refl ∙ roles_call d ps ∙ all_called us
 
   written_calls : (o : Option Phrase) → called_in (shape.written o) ≡ unit_calls_of o
   written_calls None = refl

@@ -8,13 +8,16 @@ use Rattle.elan_tree.specs.declared.tree.Level.{Level}
 use Rattle.elan_tree.specs.declared.tree.Tree.{Tree}
 use Rattle.elan_tree.specs.declared.tree.Tree.TheVariants as tree
 use Rattle.elan_meant.specs.declared.meant.Meant.TheVariants as means
-use Rattle.elan_scope.specs.Ruled.{Fault}
+use Rattle.elan_scope.specs.Ruled.{Fault, gives, breaks}
+use Rattle.elan_scope.specs.declared.known.Known.{Known}
+use Rattle.elan_rules.specs.Meaning.{judged}
 use Rattle.elan_check.specs.declared.error.CheckError.{CheckError}
 use Rattle.elan_check.specs.declared.error.CheckError.TheVariants.{NoMemory, NoMeaning, NotBuilt}
 use Rattle.elan_unbuilt.specs.NotBuilt.{not_built}
 use Rattle.elan_check.specs.Level.{text}
 use Rattle.elan_check.specs.Text.{Means, Refused, IsNotBuilt, IsCore, IsRefusal, Answers, known}
 use Rattle.elan_rules.proofs.First as first
+use Rattle.elan_check.proofs.Bodies.{known_is}
 use Rattle.elan_check.proofs.OneAnswer.{one_core, meant_is_not_refused}
 
 pub record Checked (env : Env) (t : Tree) (q : Result Core CheckError) : Type 0 where
@@ -32,10 +35,14 @@ module _ (env : Env) (w : Level) where
   t = tree.Program w
 
   core_means : (core : Core) → not_built t ≡ false → Answers w (Ok core) → Means env t core
-  core_means core h a = record { is_built = h; variables = a.0; phrases = first.means_of (known t) (text t) (means.Level core.units core.bodies) a.1 }
+  core_means core h a = record {
+    is_built = h;
+    variables = a.0;
+    phrases = subst (λ (k : Known). judged k (text t) ≡ gives (means.Level core.units core.bodies)) (sym (known_is t)) a.1;
+  }
 
   is_refused : (fault : Fault) → not_built t ≡ false → Answers w (Err (NoMeaning fault.0 fault.1)) → Refused env t fault
-  is_refused fault h a = record { is_built = h; first = first.refused_of (known t) (text t) fault a }
+  is_refused fault h a = record { is_built = h; first = first.refused_of (known t) (text t) fault (subst (λ (k : Known). judged k (text t) ≡ breaks fault) (sym (known_is t)) a) }
 
   level_checked : (q : Result Core CheckError) → not_built t ≡ false → Answers w q → Checked env t q
   level_checked (Ok core) h a = record {

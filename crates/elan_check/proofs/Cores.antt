@@ -30,8 +30,8 @@ module _ (w : Level) (k : Known) (is : k ≡ known_of (headings w) (level_bodies
   abbrev kn : Known
   kn = known_of (headings w) (level_bodies w)
 
-  level_is : (r : Ruled (List Meant)) → judged_all k (all_of (level_parts w)) ≡ r → judged kn (level_phrase w) ≡ (r >>= ruled kn (plain form.level))
-  level_is r e = ap (λ (q : Ruled (List Meant)). q >>= ruled kn (plain form.level)) (ap (λ (j : Known). judged_all j (all_of (level_parts w))) (sym is) ∙ e)
+  level_is : (r : Ruled (List Meant)) → judged_all k (all_of (level_parts w)) ≡ r → judged kn (level_phrase w) ≡ (r >>= ruled kn 0 (plain form.level))
+  level_is r e = ap (λ (q : Ruled (List Meant)). q >>= ruled kn 0 (plain form.level)) (ap (λ (j : Known). judged_all j (all_of (level_parts w))) (sym is) ∙ e)
 
   pub core_is : (ms : List Meant) (core : Core) → judged_all k (all_of (level_parts w)) ≡ gives ms → core.variables ≡ variables_of (level_names w)
       → core.units ≡ actions_of ms → core.bodies ≡ bodies_of ms → Answers w (Ok core)

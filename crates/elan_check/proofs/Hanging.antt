@@ -1,5 +1,6 @@
 -- A text of which no phrase breaks a rule has a meaning: no phrase hangs on another one.
 use Rattle.std.proofs.Common.{◌≡◌, ℕ, Bool, true, false, ◌&&◌, if◌then◌else◌, List, [], ◌∷◌, ◌++◌, Option, Some, None, refl, sym, ap, subst, ◌∙◌, ◌⊎◌, inl, inr}
+use Rattle.std.specs.Prelude.{flat_map, option_to_list}
 use Rattle.std.specs.Prelude.{slice_get}
 use Rattle.elan_scope.specs.declared.delivery.Delivery.TheVariants.{Open}
 use Rattle.elan_scope.specs.declared.heading.What.{What}
@@ -14,15 +15,14 @@ use Rattle.elan_scope.specs.Scope.{number_of, refinement_named}
 use Rattle.elan_scope.specs.declared.scope.Scope.{Scope}
 use Rattle.elan_scope.specs.declared.scope.Found.{Found}
 use Rattle.elan_scope.specs.Phrase as form
-use Rattle.elan_scope.specs.Phrase.{Form, asking, plain, Phrase, phrase, Parts, none, part, all_of, around, leaf}
+use Rattle.elan_scope.specs.Phrase.{Form, plain, Phrase, phrase, Parts, none, part, all_of, around, leaf}
 use Rattle.elan_scope.specs.Ruled.{Ruled, gives, breaks, hangs, ◌>>=◌, before}
 use Rattle.elan_scope.specs.Known.{delivery_at, leads_back}
 use Rattle.elan_scope.specs.declared.known.Known.{Known}
 use Rattle.value_rules.specs.Calls as c
 use Rattle.elan_rules.specs.Rules.{rule, ruled}
 use Rattle.elan_rules.specs.Meaning.{judged, judged_all, phrases, phrases_of}
-use Rattle.elan_check.specs.Refinements.{stated, last_unit, last_part, unit_delivery, outcome, called_by, called_by_all, called_in}
-use Rattle.elan_levels.specs.Called.{number_list}
+use Rattle.elan_check.specs.Refinements.{stated, last_unit, last_part, unit_delivery, outcome, called_by, called_in}
 use Rattle.elan_rules.proofs.First.{Faultless, whole, open_one, bind_faultless, before_faultless, breaks_has_fault}
 use Rattle.elan_check.proofs.Calls.{called_append}
 use Rattle.elan_judge.proofs.InScope.{Names, InScope, AllIn}
@@ -67,11 +67,11 @@ in_rest : (n : ℕ) (xs ys : List ℕ) → In n ys → In n (xs ++ ys)
 in_rest n [] ys h = h
 in_rest n (x ∷ xs) ys h = inr (in_rest n xs ys h)
 
-in_left : (n : ℕ) (ps qs : List Phrase) → In n (called_by_all ps) → In n (called_by_all (ps ++ qs))
-in_left n ps qs h = subst (In n) (sym (called_append ps qs)) (in_first n (called_by_all ps) (called_by_all qs) h)
+in_left : (n : ℕ) (ps qs : List Phrase) → In n (flat_map called_by ps) → In n (flat_map called_by (ps ++ qs))
+in_left n ps qs h = subst (In n) (sym (called_append ps qs)) (in_first n (flat_map called_by ps) (flat_map called_by qs) h)
 
-in_right : (n : ℕ) (ps qs : List Phrase) → In n (called_by_all qs) → In n (called_by_all (ps ++ qs))
-in_right n ps qs h = subst (In n) (sym (called_append ps qs)) (in_rest n (called_by_all ps) (called_by_all qs) h)
+in_right : (n : ℕ) (ps qs : List Phrase) → In n (flat_map called_by qs) → In n (flat_map called_by (ps ++ qs))
+in_right n ps qs h = subst (In n) (sym (called_append ps qs)) (in_rest n (flat_map called_by ps) (flat_map called_by qs) h)
 
 -- the number of a refinement in a scope
 abbrev pub IsHeaded : List Heading → ℕ → Type 0
@@ -108,40 +108,40 @@ module _ (kn : Known) where
   Leaf z ns = (n : ℕ) × In n ns × (delivery_at kn n ≡ Open) × (leads_back kn n z.refinement ≡ false) × IsHeaded z.headings n
 
   named_leaf : (z : Scope) (u : Usage) (at : ℕ) (s : Scope) (x : List ℕ) (ps : Parts) → s ≡ z → c.named kn u at s x (scope.find s x) ≡ hangs
-      → Leaf z (called_by_all (phrase (asking (form.named u at s x)) ps ∷ []))
+      → Leaf z (flat_map called_by (phrase at (form.named u s x) ps ∷ []))
   named_leaf z u at s x ps i e =
       let w = named_open kn at s x u (scope.find s x) e in
       let o = w.1 in
-      let here : In o.0 (called_by (phrase (asking (form.named usage.Expression at s x)) ps)) =
-      subst (λ (q : Option ℕ). In o.0 (number_list q)) (sym o.1) (inl refl) in
-      subst (λ (v : Usage). Leaf z (called_by_all (phrase (asking (form.named v at s x)) ps ∷ []))) (sym w.0)
-      (subst (λ (y : Scope). Leaf y (called_by_all (phrase (asking (form.named usage.Expression at s x)) ps ∷ []))) i
-      (o.0, in_first o.0 (called_by (phrase (asking (form.named usage.Expression at s x)) ps)) [] here, o.2, o.3, named_headed s x (scope.find s x) o.0 o.1))
+      let here : In o.0 (called_by (phrase at (form.named usage.Expression s x) ps)) =
+      subst (λ (q : Option ℕ). In o.0 (option_to_list q)) (sym o.1) (inl refl) in
+      subst (λ (v : Usage). Leaf z (flat_map called_by (phrase at (form.named v s x) ps ∷ []))) (sym w.0)
+      (subst (λ (y : Scope). Leaf y (flat_map called_by (phrase at (form.named usage.Expression s x) ps ∷ []))) i
+      (o.0, in_first o.0 (called_by (phrase at (form.named usage.Expression s x) ps)) [] here, o.2, o.3, named_headed s x (scope.find s x) o.0 o.1))
 
-  form_leaf : (z : Scope) (f : Form) (ps : Parts) → Names z f → (ms : List Meant) → ruled kn f ms ≡ hangs → Leaf z (called_by_all (phrase f ps ∷ []))
-  form_leaf z (asking (form.named u at s x)) ps i ms e = named_leaf z u at s x ps i e
-  form_leaf z (asking (form.leave at s x)) ps i ms e = absurd (told_never_hangs (c.leaving kn at (scope.left s x) (nth ms 0)) e)
-  form_leaf z (plain f) ps i ms e = absurd (told_never_hangs (rule f ms) e)
+  form_leaf : (z : Scope) (at : ℕ) (f : Form) (ps : Parts) → Names z f → (ms : List Meant) → ruled kn at f ms ≡ hangs → Leaf z (flat_map called_by (phrase at f ps ∷ []))
+  form_leaf z at (form.named u s x) ps i ms e = named_leaf z u at s x ps i e
+  form_leaf z at (form.leave s x) ps i ms e = absurd (told_never_hangs (c.leaving kn at (scope.left s x) (nth ms 0)) e)
+  form_leaf z at (plain f) ps i ms e = absurd (told_never_hangs (rule at f ms) e)
 
   wider : (z : Scope) (ns ms : List ℕ) → ((n : ℕ) → In n ns → In n ms) → Leaf z ns → Leaf z ms
   wider z ns ms h g = (g.0, h g.0 g.1, g.2, g.3, g.4)
 
   mutual
     pub leaf_of : (z : Scope) (p : Phrase) → InScope z p → judged kn p ≡ hangs → Leaf z (called_in p)
-    leaf_of z (phrase f ps) i e =
-        elim (bind_hangs (judged_all kn ps) (ruled kn f) e) [
-          | inl h ↦ wider z (called_by_all (phrases_of ps)) (called_in (phrase f ps)) (λ n g. in_left n (phrases_of ps) (phrase f ps ∷ []) g)
+    leaf_of z (phrase at f ps) i e =
+        elim (bind_hangs (judged_all kn ps) (ruled kn at f) e) [
+          | inl h ↦ wider z (flat_map called_by (phrases_of ps)) (called_in (phrase at f ps)) (λ n g. in_left n (phrases_of ps) (phrase at f ps ∷ []) g)
               (leaf_all z ps i.1 h)
-          | inr h ↦ wider z (called_by_all (phrase f ps ∷ [])) (called_in (phrase f ps)) (λ n g. in_right n (phrases_of ps) (phrase f ps ∷ []) g)
-              (form_leaf z f ps i.0 h.0 h.1)
+          | inr h ↦ wider z (flat_map called_by (phrase at f ps ∷ [])) (called_in (phrase at f ps)) (λ n g. in_right n (phrases_of ps) (phrase at f ps ∷ []) g)
+              (form_leaf z at f ps i.0 h.0 h.1)
         ]
 
-    leaf_all : (z : Scope) (ps : Parts) → AllIn z ps → judged_all kn ps ≡ hangs → Leaf z (called_by_all (phrases_of ps))
+    leaf_all : (z : Scope) (ps : Parts) → AllIn z ps → judged_all kn ps ≡ hangs → Leaf z (flat_map called_by (phrases_of ps))
     leaf_all z none i e = absurd cc
     leaf_all z (part p ps) i e =
         elim (before_hangs (judged kn p) (judged_all kn ps) e) [
-          | inl h ↦ wider z (called_in p) (called_by_all (phrases_of (part p ps))) (λ n g. in_left n (phrases p) (phrases_of ps) g) (leaf_of z p i.0 h)
-          | inr h ↦ wider z (called_by_all (phrases_of ps)) (called_by_all (phrases_of (part p ps))) (λ n g. in_right n (phrases p) (phrases_of ps) g)
+          | inl h ↦ wider z (called_in p) (flat_map called_by (phrases_of (part p ps))) (λ n g. in_left n (phrases p) (phrases_of ps) g) (leaf_of z p i.0 h)
+          | inr h ↦ wider z (flat_map called_by (phrases_of ps)) (flat_map called_by (phrases_of (part p ps))) (λ n g. in_right n (phrases p) (phrases_of ps) g)
               (leaf_all z ps i.1 h)
         ]
 
@@ -155,7 +155,7 @@ module _ (kn : Known) where
   MayFine z ns None = Unit {0}
   MayFine z ns (Some p) = Fine z ns p
 
-  last_fine : (z : Scope) (ns : List ℕ) (ps : Parts) → AllIn z ps → Faultless (judged_all kn ps) → ((n : ℕ) → In n (called_by_all (phrases_of ps)) → In n ns)
+  last_fine : (z : Scope) (ns : List ℕ) (ps : Parts) → AllIn z ps → Faultless (judged_all kn ps) → ((n : ℕ) → In n (flat_map called_by (phrases_of ps)) → In n ns)
       → MayFine z ns (last_part ps)
   last_fine z ns none i f h = tt
   last_fine z ns (part p none) i f h =
@@ -175,7 +175,7 @@ module _ (kn : Known) where
       by_outcome hangs i = wider z (called_in p) ns m.2 (leaf_of z p m.0 i)
 
   pub body_leaf : (z : Scope) (p : Phrase) → InScope z p → Faultless (judged kn p) → unit_delivery kn (last_unit p) ≡ Open → Leaf z (called_in p)
-  body_leaf z (phrase f ps) i g e =
-      unit_leaf z (called_in (phrase f ps)) (last_unit (phrase f ps))
-      (last_fine z (called_in (phrase f ps)) ps i.1 (bind_faultless kn (judged_all kn ps) (ruled kn f) g)
-      (λ n k. in_left n (phrases_of ps) (phrase f ps ∷ []) k)) e
+  body_leaf z (phrase at f ps) i g e =
+      unit_leaf z (called_in (phrase at f ps)) (last_unit (phrase at f ps))
+      (last_fine z (called_in (phrase at f ps)) ps i.1 (bind_faultless kn (judged_all kn ps) (ruled kn at f) g)
+      (λ n k. in_left n (phrases_of ps) (phrase at f ps ∷ []) k)) e

@@ -18,7 +18,7 @@ use Rattle.elan_scope.specs.declared.scope.Scope.{Scope}
 use Rattle.elan_scope.specs.declared.scope.Home.{Home}
 use Rattle.elan_scope.specs.declared.scope.Found.{Found}
 use Rattle.elan_scope.specs.Phrase as form
-use Rattle.elan_scope.specs.Phrase.{Form, asking, plain, Phrase, phrase, Parts, none, part, all_of, around}
+use Rattle.elan_scope.specs.Phrase.{Form, plain, Phrase, phrase, Parts, none, part, all_of, around}
 use Rattle.elan_scope.specs.Ruled.{gives, breaks, before}
 use Rattle.elan_meant.specs.Verdict as verdict
 use Rattle.elan_meant.specs.Verdict.{told}
@@ -47,11 +47,11 @@ module _ (kn : Known) where
   kept (Bodies bs) m e = ap (or_last Absent) (sym (gives_is (Done []) m e))
   kept (Level us bs) m e = ap (or_last Absent) (sym (gives_is (Done []) m e))
 
-  kept_row : (ms : List Meant) (m : Meant) → ruled kn (plain form.without_value) ms ≡ gives m → or_last Absent m ≡ Absent
-  kept_row ms m e = kept (nth ms 0) m e
+  kept_row : (at : ℕ) (ms : List Meant) (m : Meant) → ruled kn at (plain form.without_value) ms ≡ gives m → or_last Absent m ≡ Absent
+  kept_row at ms m e = kept (nth ms 0) m e
 
-  no_value : (p : Phrase) (m : Meant) → judged kn (around form.without_value p) ≡ gives m → or_last Absent m ≡ Absent
-  no_value p m e = let b = bind_gives (before (judged kn p) (gives [])) (ruled kn (plain form.without_value)) m e in kept_row b.0 m b.2
+  no_value : (p : Phrase) (m : Meant) → judged kn (around (form.place p) form.without_value p) ≡ gives m → or_last Absent m ≡ Absent
+  no_value p m e = let b = bind_gives (before (judged kn p) (gives [])) (ruled kn (form.place p) (plain form.without_value)) m e in kept_row (form.place p) b.0 m b.2
 
   -- the last unit is this one, or there is none, and delivers what is delivered
   abbrev pub Last : Option Phrase → Meant → Type 0
@@ -77,8 +77,8 @@ module _ (kn : Known) where
       subst (λ (ks : List Meant). Last (Some p) (last_value Absent ks)) (sym q.4)
       (subst (λ (ks : List Meant). Last (Some p) (last_value (or_last Absent q.0) ks)) (gives_is [] q.1 q.3) (q.0, q.2, first_delivers q.0))
   last_of_all (p ∷ r ∷ ps) ms h =
-      let q = before_gives (judged kn (around form.without_value p)) (judged_all kn (all_of (roles Open (r ∷ ps)))) ms h in
-      subst (λ (o : Option Phrase). Last o (last_value Absent ms)) (sym (behind Open (around form.without_value p) r ps))
+      let q = before_gives (judged kn (around (form.place p) form.without_value p)) (judged_all kn (all_of (roles Open (r ∷ ps)))) ms h in
+      subst (λ (o : Option Phrase). Last o (last_value Absent ms)) (sym (behind Open (around (form.place p) form.without_value p) r ps))
       (subst (λ (ks : List Meant). Last (last_part (all_of (roles Open (r ∷ ps)))) (last_value Absent ks)) (sym q.4)
       (subst (λ (w : Meant). Last (last_part (all_of (roles Open (r ∷ ps)))) (last_value w q.1)) (sym (no_value p q.0 q.2))
       (last_of_all (r ∷ ps) q.1 q.3)))
@@ -100,7 +100,7 @@ module _ (kn : Known) where
   -- the units of a refinement deliver what the last of them delivers
   pub last_delivers : (us : List (Option Phrase)) (m : Meant) → judged kn (units Open us) ≡ gives m → Last (last_unit (units Open us)) m
   last_delivers us m e =
-      let b = bind_gives (judged_all kn (all_of (roles Open (filled us)))) (ruled kn (plain form.units)) m e in
+      let b = bind_gives (judged_all kn (all_of (roles Open (filled us)))) (ruled kn 0 (plain form.units)) m e in
       last_as (last_unit (units Open us)) (last_value Absent b.0) m
       (ap delivery_of (sym (gives_is (ended (actions_of b.0) (last_value Absent b.0)) m b.2)) ∙ ended_delivers (actions_of b.0) (last_value Absent b.0))
       (last_of_all (filled us) b.0 b.1)
@@ -163,17 +163,17 @@ module _ (j k : Known) (below : Below j k) where
   leaving_same at None v m n h g = absurd cc
   leaving_same at (Some e) v m n h g = left_by at e.0 v (r.agrees (delivery_at j e.1) v) (r.agrees (delivery_at k e.1) v) m n h g
 
-  rule_same : (f : Form) (ms : List Meant) (m n : Meant) → ruled j f ms ≡ gives m → ruled k f ms ≡ gives n → m ≡ n
-  rule_same (asking (form.named u at s x)) ms m n h i = named_same u at s x (find s x) m n h i
-  rule_same (asking (form.leave at s x)) ms m n h i = leaving_same at (left s x) (nth ms 0) m n h i
-  rule_same (plain f) ms m n h i = gives_is m n (sym h ∙ i)
+  rule_same : (at : ℕ) (f : Form) (ms : List Meant) (m n : Meant) → ruled j at f ms ≡ gives m → ruled k at f ms ≡ gives n → m ≡ n
+  rule_same at (form.named u s x) ms m n h i = named_same u at s x (find s x) m n h i
+  rule_same at (form.leave s x) ms m n h i = leaving_same at (left s x) (nth ms 0) m n h i
+  rule_same at (plain f) ms m n h i = gives_is m n (sym h ∙ i)
 
   mutual
     pub same_meaning : (p : Phrase) (m n : Meant) → judged j p ≡ gives m → judged k p ≡ gives n → m ≡ n
-    same_meaning (phrase f ps) m n h g =
-        let a = bind_gives (judged_all j ps) (ruled j f) m h in
-        let b = bind_gives (judged_all k ps) (ruled k f) n g in
-        rule_same f b.0 m n (subst (λ (ms : List Meant). ruled j f ms ≡ gives m) (same_all ps a.0 b.0 a.1 b.1) a.2) b.2
+    same_meaning (phrase at f ps) m n h g =
+        let a = bind_gives (judged_all j ps) (ruled j at f) m h in
+        let b = bind_gives (judged_all k ps) (ruled k at f) n g in
+        rule_same at f b.0 m n (subst (λ (ms : List Meant). ruled j at f ms ≡ gives m) (same_all ps a.0 b.0 a.1 b.1) a.2) b.2
 
     same_all : (ps : Parts) (ms ns : List Meant) → judged_all j ps ≡ gives ms → judged_all k ps ≡ gives ns → ms ≡ ns
     same_all none ms ns h g = gives_is ms ns (sym h ∙ g)

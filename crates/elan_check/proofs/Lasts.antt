@@ -6,12 +6,13 @@ use Rattle.elan_tree.specs.declared.phrase.Unit.{Unit as Statement}
 use Rattle.elan_scope.specs.declared.delivery.Delivery.{Delivery}
 use Rattle.elan_scope.specs.declared.delivery.Delivery.TheVariants.{Nothing}
 use Rattle.elan_scope.specs.declared.scope.Scope.{Scope}
-use Rattle.elan_scope.specs.Scope.{or_else}
+use Rattle.std.specs.Option.{option_or}
 use Rattle.elan_scope.specs.Phrase.{Phrase, part, all_of}
-use Rattle.elan_judge.specs.Shape.{written, unit, units, role, roles, filled, is_empty}
+use Rattle.elan_judge.specs.Shape.{written, unit, units, role, roles, filled}
+use Rattle.elan_judge.specs.walks.Steps.{is_empty}
 use Rattle.elan_check.specs.Refinements.{last_part, last_unit}
 
-pub no_other : (o : Option Phrase) → or_else o None ≡ o
+pub no_other : (o : Option Phrase) → option_or o None ≡ o
 no_other None = refl
 no_other (Some p) = refl
 
@@ -24,26 +25,26 @@ module _ (d : Delivery) where
   behind p q (r ∷ ps) = refl
 
   -- Behind the first unit the last is another one, or there is none.
-  last_first : (p : Phrase) (ps : List Phrase) → last_of (p ∷ ps) ≡ or_else (last_of ps) (Some (role d p))
+  last_first : (p : Phrase) (ps : List Phrase) → last_of (p ∷ ps) ≡ option_or (last_of ps) (Some (role d p))
   last_first p [] = refl
   last_first p (q ∷ ps) =
       behind (role Nothing p) q ps ∙ last_first q ps ∙ sym (absorbed (last_of ps))
-      ∙ ap (λ (o : Option Phrase). or_else o (Some (role d p))) (sym (last_first q ps))
+      ∙ ap (λ (o : Option Phrase). option_or o (Some (role d p))) (sym (last_first q ps))
     where
-      absorbed : (o : Option Phrase) → or_else (or_else o (Some (role d q))) (Some (role d p)) ≡ or_else o (Some (role d q))
+      absorbed : (o : Option Phrase) → option_or (option_or o (Some (role d q))) (Some (role d p)) ≡ option_or o (Some (role d q))
       absorbed None = refl
       absorbed (Some r) = refl
 
   -- the last of units, behind one that stands before them
   abbrev pub last_behind : Option Phrase → List (Option Phrase) → Option Phrase
-  last_behind o us = or_else (last_unit (units d us)) o
+  last_behind o us = option_or (last_unit (units d us)) o
 
   last_after : (u : Option Phrase) (us : List (Option Phrase)) (o : Option Phrase)
       → last_behind o (u ∷ us) ≡ last_behind (if is_empty u then o else Some (role d (written u))) us
   last_after None us o = refl
-  last_after (Some p) us o = ap (λ (q : Option Phrase). or_else q o) (last_first p (filled us)) ∙ absorbed (last_of (filled us))
+  last_after (Some p) us o = ap (λ (q : Option Phrase). option_or q o) (last_first p (filled us)) ∙ absorbed (last_of (filled us))
     where
-      absorbed : (q : Option Phrase) → or_else (or_else q (Some (role d p))) o ≡ or_else q (Some (role d p))
+      absorbed : (q : Option Phrase) → option_or (option_or q (Some (role d p))) o ≡ option_or q (Some (role d p))
       absorbed None = refl
       absorbed (Some r) = refl
 

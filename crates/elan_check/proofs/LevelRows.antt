@@ -26,6 +26,8 @@ use Rattle.elan_check.specs.Level as l
 use Rattle.elan_rules.specs.Meaning.{judged, judged_all}
 use Rattle.elan_rules.proofs.First.{bind_gives, before_gives, gives_is}
 use Rattle.elan_check.proofs.Aligned.{Inside, Row, Rows, rows_append, routine_rows, procedure_quiet}
+use Rattle.elan_levels.specs.walks.Headings.{all_headings}
+use Rattle.elan_check.specs.walks.Units.{all_unit_bodies, level_units}
 
 -- ---- the rows of a level
 
@@ -75,11 +77,11 @@ module _ (kn : Known) (s : Scope) (all : List Body) where
   no_bodies (Bodies bs) m e = ap u.bodies_in (sym (gives_is (Done []) m e))
   no_bodies (Level us bs) m e = ap u.bodies_in (sym (gives_is (Done []) m e))
 
-  no_bodies_in : (ms : List Meant) (m : Meant) → ruled kn (plain form.without_value) ms ≡ gives m → u.bodies_in m ≡ []
-  no_bodies_in ms m e = no_bodies (nth ms 0) m e
+  no_bodies_in : (at : ℕ) (ms : List Meant) (m : Meant) → ruled kn at (plain form.without_value) ms ≡ gives m → u.bodies_in m ≡ []
+  no_bodies_in at ms m e = no_bodies (nth ms 0) m e
 
-  plain_quiet : (q : Phrase) (m : Meant) → judged kn (around form.without_value q) ≡ gives m → u.bodies_in m ≡ []
-  plain_quiet q m e = let r = bind_gives (judged_all kn (part q none)) (ruled kn (plain form.without_value)) m e in no_bodies_in r.0 m r.2
+  plain_quiet : (q : Phrase) (m : Meant) → judged kn (around (form.place q) form.without_value q) ≡ gives m → u.bodies_in m ≡ []
+  plain_quiet q m e = let r = bind_gives (judged_all kn (part q none)) (ruled kn (form.place q) (plain form.without_value)) m e in no_bodies_in (form.place q) r.0 m r.2
 
   unit_rows : (k : ℕ) (v : LevelUnit) (m : Meant) → judged kn (l.level_unit s k v) ≡ gives m → Inside k (u.bodies_in m) all
       → Rows kn s all k (b.unit_headings k v) (l.unit_bodies s k v) (u.bodies_in m)
@@ -89,11 +91,11 @@ module _ (kn : Known) (s : Scope) (all : List Body) where
   unit_rows k (level.Op at r n fs w) m e h = routine_rows kn s all k n.at (operator_text n.operator) r fs w Operator [] m tt e h
   unit_rows k (level.NewType at n of) m e h = absurd cc
 
-  pub units_rows : (k : ℕ) (vs : List LevelUnit) (ms : List Meant) → judged_all kn (all_of (l.level_units s k vs)) ≡ gives ms → Inside k (u.bodies_of ms) all
-      → Rows kn s all k (b.all_headings k vs) (l.all_unit_bodies s k vs) (u.bodies_of ms)
+  pub units_rows : (k : ℕ) (vs : List LevelUnit) (ms : List Meant) → judged_all kn (all_of (level_units s k vs)) ≡ gives ms → Inside k (u.bodies_of ms) all
+      → Rows kn s all k (all_headings k vs) (all_unit_bodies s k vs) (u.bodies_of ms)
   units_rows k [] ms e h = subst (λ (ns : List Meant). Rows kn s all k [] [] (u.bodies_of ns)) (gives_is [] ms e) tt
   units_rows k (v ∷ vs) ms e h =
-      let q = before_gives (judged kn (l.level_unit s k v)) (judged_all kn (all_of (l.level_units s (k + b.bodies_in v) vs))) ms e in
+      let q = before_gives (judged kn (l.level_unit s k v)) (judged_all kn (all_of (level_units s (k + b.bodies_in v) vs))) ms e in
       let h' : Inside k (u.bodies_in q.0 ++ u.bodies_of q.1) all = subst (λ (ns : List Meant). Inside k (u.bodies_of ns) all) q.4 h in
       let first = unit_rows k v q.0 q.2 (inside_first k (u.bodies_in q.0) (u.bodies_of q.1) all h') in
       let count : length (u.bodies_in q.0) ≡ b.bodies_in v =
@@ -101,15 +103,15 @@ module _ (kn : Known) (s : Scope) (all : List Body) where
       let rest =
       units_rows (k + b.bodies_in v) vs q.1 q.3
       (subst (λ (n : ℕ). Inside (k + n) (u.bodies_of q.1) all) count (inside_rest k (u.bodies_in q.0) (u.bodies_of q.1) all h')) in
-      subst (λ (ns : List Meant). Rows kn s all k (b.all_headings k (v ∷ vs)) (l.all_unit_bodies s k (v ∷ vs)) (u.bodies_of ns)) (sym q.4)
-      (rows_append kn s all k (k + b.bodies_in v) (b.unit_headings k v) (b.all_headings (k + b.bodies_in v) vs) (l.unit_bodies s k v)
-      (l.all_unit_bodies s (k + b.bodies_in v) vs) (u.bodies_in q.0) (u.bodies_of q.1) (ap (λ (n : ℕ). k + n) (sym count)) first rest)
+      subst (λ (ns : List Meant). Rows kn s all k (all_headings k (v ∷ vs)) (all_unit_bodies s k (v ∷ vs)) (u.bodies_of ns)) (sym q.4)
+      (rows_append kn s all k (k + b.bodies_in v) (b.unit_headings k v) (all_headings (k + b.bodies_in v) vs) (l.unit_bodies s k v)
+      (all_unit_bodies s (k + b.bodies_in v) vs) (u.bodies_in q.0) (u.bodies_of q.1) (ap (λ (n : ℕ). k + n) (sym count)) first rest)
 
-  pub all_count : (k : ℕ) (vs : List LevelUnit) → length (b.all_headings k vs) ≡ b.bodies_of_units vs
+  pub all_count : (k : ℕ) (vs : List LevelUnit) → length (all_headings k vs) ≡ b.bodies_of_units vs
   all_count k [] = refl
   all_count k (v ∷ vs) =
-      both (b.unit_headings k v) (b.all_headings (k + b.bodies_in v) vs)
-      ∙ ap (λ (n : ℕ). n + length (b.all_headings (k + b.bodies_in v) vs)) (headings_count k v)
+      both (b.unit_headings k v) (all_headings (k + b.bodies_in v) vs)
+      ∙ ap (λ (n : ℕ). n + length (all_headings (k + b.bodies_in v) vs)) (headings_count k v)
       ∙ ap (λ (n : ℕ). b.bodies_in v + n) (all_count (k + b.bodies_in v) vs)
     where
       both : (xs ys : List Heading) → length (xs ++ ys) ≡ length xs + length ys

@@ -1,3 +1,4 @@
+pub mod Bodies
 pub mod OneAnswer
 pub mod Inferred
 pub mod Settled

@@ -13,12 +13,13 @@ use Rattle.elan_scope.specs.declared.heading.Heading.{Heading}
 use Rattle.elan_scope.specs.declared.known.Known.{Known}
 use Rattle.elan_scope.specs.declared.scope.Scope.{Scope}
 use Rattle.elan_scope.specs.Known.{delivery_at}
-use Rattle.elan_scope.specs.Scope.{number_of, left, left_by, exit_from, body_named, is_named, or_else}
+use Rattle.std.specs.Option.{option_or}
+use Rattle.elan_scope.specs.Scope.{number_of, left, left_by, exit_from, body_named, is_named}
 use Rattle.elan_scope.specs.Phrase.{Phrase, phrase, Parts, none, part}
 use Rattle.elan_levels.specs.Bodies.{headings}
 use Rattle.elan_judge.proofs.InScope.{InScope, AllIn, MayIn}
 use Rattle.elan_check.specs.Level.{level_bodies}
-use Rattle.elan_check.specs.Refinements.{stated, all_stated, last_part, last_unit, outcome, unit_delivery, next, next_all, called_in, known_after}
+use Rattle.elan_check.specs.Refinements.{stated, last_part, last_unit, outcome, unit_delivery, next, next_all, called_in, known_after}
 use Rattle.elan_check.specs.walks.Rounds.{called_if, is_open, any_open}
 use Rattle.elan_check.specs.walks.OnTheWay.{AtMost, IsOnTheWay}
 use Rattle.elan_check.proofs.Walks.{In}
@@ -53,7 +54,7 @@ left_is z x e h = by_first (body_named z.headings z.refinement x) refl h
         named_is z.headings (number_of z.routine) x e.1 (f ∙ ap (λ (m : ℕ). Some m) (number (exit_from z.refinement) n g))
 
     by_first : (o : Option ℕ) → body_named z.headings z.refinement x ≡ o
-        → or_else (left_by exits.Body o) (left_by (exit_from z.refinement) (body_named z.headings (number_of z.routine) x)) ≡ Some e
+        → option_or (left_by exits.Body o) (left_by (exit_from z.refinement) (body_named z.headings (number_of z.routine) x)) ≡ Some e
         → (z.refinement ≡ Some e.1) ⊎ (number_of z.routine ≡ Some e.1)
     by_first None f g = inr (by_second (body_named z.headings (number_of z.routine) x) refl g)
     by_first (Some n) f g = inl (named_is z.headings z.refinement x e.1 (f ∙ ap (λ (m : ℕ). Some m) (number exits.Body n g)))
@@ -66,7 +67,7 @@ parts_in z (part p none) h = h.0
 parts_in z (part p (part q ps)) h = parts_in z (part q ps) h.1
 
 last_in : (z : Scope) (u : Phrase) → InScope z u → MayIn z (last_unit u)
-last_in z (phrase f ps) h = parts_in z ps h.1
+last_in z (phrase at f ps) h = parts_in z ps h.1
 
 last_alike : (j k : Known) (z : Scope) (calls : j.calls ≡ k.calls) → LeftSame j k z calls → (o : Option Phrase) → MayIn z o
     → AllSame j k z calls (called_if o) → unit_delivery j o ≡ unit_delivery k o
@@ -134,7 +135,7 @@ same_lists (a ∷ as') (b ∷ bs) e h =
     ∙ ap (λ (ds : List Delivery). b ∷ ds) (same_lists as' bs (let z : suc (length as') ≡ suc (length bs) = e in omega (arith, z)) (λ i. h (suc i)))
 
 stated_cases : (hs : List Heading) (i : ℕ)
-    → (slice_index_or (all_stated hs) i Open ≡ Open) ⊎ ((h : Heading) × (slice_get hs i ≡ Some h) × (slice_index_or (all_stated hs) i Open ≡ stated h.what))
+    → (slice_index_or (map (λ h. stated h.what) hs) i Open ≡ Open) ⊎ ((h : Heading) × (slice_get hs i ≡ Some h) × (slice_index_or (map (λ h. stated h.what) hs) i Open ≡ stated h.what))
 stated_cases [] i = inl refl
 stated_cases (h ∷ hs) zero = inr (h, refl, refl)
 stated_cases (h ∷ hs) (suc i) = stated_cases hs i

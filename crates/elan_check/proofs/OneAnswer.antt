@@ -1,5 +1,5 @@
 -- A text has one answer: a core, or a refusal, or it has what is not built yet.
-use Rattle.std.proofs.Common.{◌≡◌, Bool, List, true, false, refl, sym, ap, ◌∙◌}
+use Rattle.std.proofs.Common.{◌≡◌, Bool, List, true, false, refl, sym, ap, ◌∙◌, subst}
 use Rattle.elan_types.specs.declared.elan_type.ElanType.{ElanType}
 use Rattle.elan_types.specs.declared.env.Env.{Env}
 use Rattle.elan_types.specs.declared.core_phrase.Core.{Core}
@@ -18,11 +18,12 @@ use Rattle.elan_meant.specs.Parts.{actions_of}
 use Rattle.unit_rules.specs.Units.{bodies_of}
 use Rattle.elan_rules.specs.Rules.{ruled}
 use Rattle.elan_rules.specs.Meaning.{judged, judged_all}
+use Rattle.elan_check.proofs.Bodies.{known_is}
 use Rattle.elan_check.proofs.Spots.{never_hangs}
 use Rattle.elan_unbuilt.specs.NotBuilt.{not_built}
 use Rattle.elan_check.specs.Level.{text, level_in, level_parts}
 use Rattle.elan_rules.specs.Meaning as phrase
-use Rattle.elan_check.specs.Text.{Means, Refused, known, HasAnswer, core, refusal, not_yet, HasOneAnswer}
+use Rattle.elan_check.specs.Text.{Means, Refused, known, HasAnswer, meaning, refusal, not_yet, HasOneAnswer}
 use Rattle.elan_rules.proofs.First as first
 
 units_are : (as' bs : List Action) (ps qs : List Body) → Level as' ps ≡ Level bs qs → as' ≡ bs
@@ -53,20 +54,20 @@ meant_is_not_refused env t c f h r = first.meant_is_not_refused (known t) (text 
 
 -- ---- there is an answer
 
-level_gives : (k : Known) (ps : List Phrase) (m : Meant) → judged k (phrase (plain form.level) (all_of ps)) ≡ gives m
+level_gives : (k : Known) (ps : List Phrase) (m : Meant) → judged k (phrase 0 (plain form.level) (all_of ps)) ≡ gives m
     → (us : List Action) × (bs : List Body) × (m ≡ Level us bs)
 level_gives k ps m e =
-    let q = first.bind_gives (judged_all k (all_of ps)) (ruled k (plain form.level)) m e in
+    let q = first.bind_gives (judged_all k (all_of ps)) (ruled k 0 (plain form.level)) m e in
     (actions_of q.0, bodies_of q.0, sym (first.gives_is (Level (actions_of q.0) (bodies_of q.0)) m q.2))
 
 module _ (env : Env) (t : Tree) where
   judged_answer : not_built t ≡ false → (q : Ruled Meant) → judged (known t) (text t) ≡ q → HasAnswer env t
   judged_answer h (gives m) e =
       let d = level_gives (known t) (level_parts (level_in t)) m e in
-      core (core_with (variables_of (level_names (level_in t))) d.1 d.0)
-      (record { is_built = h; variables = refl; phrases = first.means_of (known t) (text t) (Level d.0 d.1) (e ∙ ap (λ (k : Meant). gives k) d.2) })
+      meaning (core_with (variables_of (level_names (level_in t))) d.1 d.0)
+      (record { is_built = h; variables = refl; phrases = e ∙ ap (λ (k : Meant). gives k) d.2 })
   judged_answer h (breaks f) e = refusal f (record { is_built = h; first = first.refused_of (known t) (text t) f e })
-  judged_answer h hangs e = absurd (never_hangs (level_in t) e)
+  judged_answer h hangs e = absurd (never_hangs (level_in t) (subst (λ (k : Known). judged k (text t) ≡ hangs) (known_is t) e))
 
   answer_by : (b : Bool) → not_built t ≡ b → HasAnswer env t
   answer_by true e = not_yet e

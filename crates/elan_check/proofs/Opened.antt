@@ -1,5 +1,6 @@
 -- A phrase that calls a refinement of which nothing is known has no meaning.
 use Rattle.std.proofs.Common.{◌≡◌, ℕ, Bool, true, false, ◌||◌, if◌then◌else◌, List, [], ◌∷◌, ◌++◌, Option, Some, None, refl, ap, subst, ◌⊎◌, inl, inr}
+use Rattle.std.specs.Prelude.{flat_map, option_to_list}
 use Rattle.elan_types.specs.declared.why.Why.TheVariants.{WrongPlace}
 use Rattle.elan_scope.specs.declared.delivery.Delivery.{Delivery}
 use Rattle.elan_scope.specs.declared.delivery.Delivery.TheVariants.{Open, Nothing, Of}
@@ -12,16 +13,15 @@ use Rattle.elan_scope.specs.declared.scope.Usage.TheVariants.{Expression, Counte
 use Rattle.elan_scope.specs.Known.{delivery_at, leads_back}
 use Rattle.elan_scope.specs.Scope as scope
 use Rattle.elan_scope.specs.Phrase as form
-use Rattle.elan_scope.specs.Phrase.{Form, asking, plain, Phrase, phrase, Parts, none, part}
+use Rattle.elan_scope.specs.Phrase.{Form, plain, Phrase, phrase, Parts, none, part}
 use Rattle.elan_scope.specs.declared.scope.Home.{Home}
 use Rattle.elan_scope.specs.Ruled.{Ruled, gives, breaks, hangs}
 use Rattle.elan_meant.specs.declared.meant.Meant.{Meant}
 use Rattle.value_rules.specs.Calls as c
-use Rattle.elan_levels.specs.Called.{number_list}
 use Rattle.elan_rules.specs.Rules.{ruled}
 use Rattle.elan_rules.specs.Meaning.{judged, judged_all, phrases, phrases_of}
 use Rattle.elan_rules.proofs.First.{bind_gives, before_gives}
-use Rattle.elan_check.specs.Refinements.{called_by, called_by_all, called_in, outcome, unit_delivery}
+use Rattle.elan_check.specs.Refinements.{called_by, called_in, outcome, unit_delivery}
 use Rattle.elan_check.specs.walks.Rounds.{called_if, is_open, any_open}
 use Rattle.elan_check.proofs.Calls.{called_append}
 use Rattle.elan_check.proofs.Walks.{In}
@@ -44,7 +44,7 @@ in_first n xs h =
       | inr e ↦ absurd e
     ]
 
-in_one : (n : ℕ) (o : Option ℕ) → In n (number_list o) → o ≡ Some n
+in_one : (n : ℕ) (o : Option ℕ) → In n (option_to_list o) → o ≡ Some n
 in_one n None h = absurd h
 in_one n (Some m) h =
     elim h [
@@ -76,29 +76,29 @@ module _ (k : Known) (n : ℕ) (untold : delivery_at k n ≡ Open) where
   named_open at s x None m g r h = absurd cc
   named_open at s x (Some f) m g r h = denoted_open at s x f.home f.number f.denotes _ m g r h
 
-  form_open : (f : Form) (ps : Parts) (ms : List Meant) (m : Meant) → In n (called_by (phrase f ps)) → ruled k f ms ≡ gives m → ⊥
-  form_open (asking (form.named Expression at s x)) ps ms m h e =
+  form_open : (at : ℕ) (f : Form) (ps : Parts) (ms : List Meant) (m : Meant) → In n (called_by (phrase at f ps)) → ruled k at f ms ≡ gives m → ⊥
+  form_open at (form.named Expression s x) ps ms m h e =
       let r = in_one n (scope.refinement_named s x) h in
       named_open at s x (scope.find s x) m r r e
-  form_open (asking (form.named Counter at s x)) ps ms m h e = absurd h
-  form_open (asking (form.leave at s x)) ps ms m h e = absurd h
-  form_open (plain f) ps ms m h e = absurd h
+  form_open at (form.named Counter s x) ps ms m h e = absurd h
+  form_open at (form.leave s x) ps ms m h e = absurd h
+  form_open at (plain f) ps ms m h e = absurd h
 
   mutual
     phrase_open : (p : Phrase) (m : Meant) → In n (called_in p) → judged k p ≡ gives m → ⊥
-    phrase_open (phrase f ps) m h e =
-        let b = bind_gives (judged_all k ps) (ruled k f) m e in
-        elim (in_either n (called_by_all (phrases_of ps)) (called_by_all (phrase f ps ∷ []))
-        (subst (In n) (called_append (phrases_of ps) (phrase f ps ∷ [])) h)) [
+    phrase_open (phrase at f ps) m h e =
+        let b = bind_gives (judged_all k ps) (ruled k at f) m e in
+        elim (in_either n (flat_map called_by (phrases_of ps)) (flat_map called_by (phrase at f ps ∷ []))
+        (subst (In n) (called_append (phrases_of ps) (phrase at f ps ∷ [])) h)) [
           | inl i ↦ parts_open ps b.0 i b.1
-          | inr i ↦ form_open f ps b.0 m (in_first n (called_by (phrase f ps)) i) b.2
+          | inr i ↦ form_open at f ps b.0 m (in_first n (called_by (phrase at f ps)) i) b.2
         ]
 
-    parts_open : (ps : Parts) (ms : List Meant) → In n (called_by_all (phrases_of ps)) → judged_all k ps ≡ gives ms → ⊥
+    parts_open : (ps : Parts) (ms : List Meant) → In n (flat_map called_by (phrases_of ps)) → judged_all k ps ≡ gives ms → ⊥
     parts_open none ms h e = absurd h
     parts_open (part p ps) ms h e =
         let b = before_gives (judged k p) (judged_all k ps) ms e in
-        elim (in_either n (called_in p) (called_by_all (phrases_of ps)) (subst (In n) (called_append (phrases p) (phrases_of ps)) h)) [
+        elim (in_either n (called_in p) (flat_map called_by (phrases_of ps)) (subst (In n) (called_append (phrases p) (phrases_of ps)) h)) [
           | inl i ↦ phrase_open p b.0 i b.2
           | inr i ↦ parts_open ps b.1 i b.3
         ]

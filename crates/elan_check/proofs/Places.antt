@@ -27,6 +27,8 @@ use Rattle.elan_check.specs.Level as l
 use Rattle.elan_check.specs.Refinements.{stated}
 use Rattle.elan_check.specs.walks.OnTheWay.{Holds}
 use Rattle.elan_check.proofs.Steps.{unit_count}
+use Rattle.elan_levels.specs.walks.Headings.{all_headings}
+use Rattle.elan_check.specs.walks.Units.{all_unit_bodies}
 
 -- ---- some of a list
 
@@ -151,24 +153,24 @@ module _ (all : List Heading) where
   headings_count k (level.Op at r n fs w) = ap suc (refinements_count (Some k) w.refinements)
   headings_count k (level.NewType at n of) = refl
 
-  units_places : (s : Scope) (k : ℕ) (vs : List LevelUnit) → Holds all k (b.all_headings k vs) → Places k (b.all_headings k vs) (l.all_unit_bodies s k vs)
+  units_places : (s : Scope) (k : ℕ) (vs : List LevelUnit) → Holds all k (all_headings k vs) → Places k (all_headings k vs) (all_unit_bodies s k vs)
   units_places s k [] h = tt
   units_places s k (v ∷ vs) h =
       let m = k + b.bodies_in v in
       let e : m ≡ k + length (b.unit_headings k v) = ap (λ (n : ℕ). k + n) (sym (headings_count k v)) in
-      places_append k m (b.unit_headings k v) (b.all_headings m vs) (l.unit_bodies s k v) (l.all_unit_bodies s m vs) e
-      (unit_places s k v (holds_first all k (b.unit_headings k v) (b.all_headings m vs) h))
-      (units_places s m vs (holds_rest all k m (b.unit_headings k v) (b.all_headings m vs) e h))
+      places_append k m (b.unit_headings k v) (all_headings m vs) (l.unit_bodies s k v) (all_unit_bodies s m vs) e
+      (unit_places s k v (holds_first all k (b.unit_headings k v) (all_headings m vs) h))
+      (units_places s m vs (holds_rest all k m (b.unit_headings k v) (all_headings m vs) e h))
 
   headings_append : (xs ys : List Heading) → length (xs ++ ys) ≡ length xs + length ys
   headings_append [] ys = let z : 0 + length ys ≡ length ys = omega arith in sym z
   headings_append (x ∷ xs) ys = let z : suc (length xs) + length ys ≡ suc (length xs + length ys) = omega arith in ap suc (headings_append xs ys) ∙ sym z
 
-  units_count : (k : ℕ) (vs : List LevelUnit) → length (b.all_headings k vs) ≡ b.bodies_of_units vs
+  units_count : (k : ℕ) (vs : List LevelUnit) → length (all_headings k vs) ≡ b.bodies_of_units vs
   units_count k [] = refl
   units_count k (v ∷ vs) =
-      headings_append (b.unit_headings k v) (b.all_headings (k + b.bodies_in v) vs)
-      ∙ ap (λ (n : ℕ). n + length (b.all_headings (k + b.bodies_in v) vs)) (headings_count k v)
+      headings_append (b.unit_headings k v) (all_headings (k + b.bodies_in v) vs)
+      ∙ ap (λ (n : ℕ). n + length (all_headings (k + b.bodies_in v) vs)) (headings_count k v)
       ∙ ap (λ (n : ℕ). b.bodies_in v + n) (units_count (k + b.bodies_in v) vs)
 
 -- All bodies of a level stand so.
@@ -177,8 +179,8 @@ level_places w =
     let s = l.level_scope w in
     let all = b.headings w in
     let m = b.bodies_of_units w.units in
-    let z : 0 + length (b.all_headings 0 w.units) ≡ length (b.all_headings 0 w.units) = omega arith in
-    places_append all 0 m (b.all_headings 0 w.units) (b.refinement_headings None w.refinements) (l.all_unit_bodies s 0 w.units)
+    let z : 0 + length (all_headings 0 w.units) ≡ length (all_headings 0 w.units) = omega arith in
+    places_append all 0 m (all_headings 0 w.units) (b.refinement_headings None w.refinements) (all_unit_bodies s 0 w.units)
     (l.all_refined_units s m w.refinements) (sym (units_count all 0 w.units) ∙ sym z)
-    (units_places all s 0 w.units (holds_first all 0 (b.all_headings 0 w.units) (b.refinement_headings None w.refinements) (holds_all all)))
+    (units_places all s 0 w.units (holds_first all 0 (all_headings 0 w.units) (b.refinement_headings None w.refinements) (holds_all all)))
     (refinement_places all s m None w.refinements (λ r e. absurd (let f : None ≡ Some r = e in cc)))

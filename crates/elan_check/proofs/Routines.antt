@@ -1,5 +1,7 @@
 -- What PROCs, OPs and refinements mean, from what their parts mean.
 use Rattle.std.proofs.Common.{◌≡◌, ℕ, suc, ◌+◌, ◌<◌, List, [], ◌∷◌, ◌++◌, map, length, get_or, drop, Result, Option, arith, Bool}
+use Rattle.elan_levels.specs.Bodies.{own_names}
+use Rattle.elan_scope.specs.Scope.{variables_of}
 use Rattle.std.proofs.Common.{sym, ap, subst, ◌∙◌, append_assoc}
 use Rattle.elan_types.specs.declared.elan_type.ElanType.{ElanType}
 use Rattle.elan_types.specs.declared.core_phrase.Parameter.{Parameter}
@@ -34,6 +36,7 @@ use Rattle.elan_levels.specs.Bodies.{parameters, result, body_names, bodies_in}
 use Rattle.elan_check.specs.Level as l
 pub use Rattle.elan_judge.proofs.Rows.{Grown, starts, grows, grows_all, ends, left_at, left_none}
 use Rattle.elan_judge.proofs.Rows.{one_is}
+use Rattle.elan_check.specs.walks.Units.{level_units}
 
 -- what is said of a row and the next phrase
 abbrev Joins : Result (List Meant) Trouble → Result Meant Trouble → Result (List Meant) Trouble → Type 0
@@ -55,38 +58,38 @@ module _ (k : Known) (row : Result (List Meant) Trouble) (one : Result Meant Tro
       (grows_by (l.refinement s n r) (l.refinements s (suc n) (drop (suc i) rs)) whole (left_at (l.refinements s n) k row rs i r whole lt e g) here))
 
   pub names_go : (s : Scope) (ns : List Name) (i : ℕ) (n : Name) (whole : List Phrase) → i < length ns → n ≡ get_or ns i n →
-      Grown k row (l.declare_all s (drop i ns)) whole → Is one (judged k (l.declares s n)) → Grown k next (l.declare_all s (drop (i + 1) ns)) whole
+      Grown k row (map (l.declares s) (drop i ns)) whole → Is one (judged k (l.declares s n)) → Grown k next (map (l.declares s) (drop (i + 1) ns)) whole
   names_go s ns i n whole lt e g h =
       let index : suc i ≡ i + 1 = omega arith in
-      subst (λ (j : ℕ). Grown k next (l.declare_all s (drop j ns)) whole) index
-      (grows_by (l.declares s n) (l.declare_all s (drop (suc i) ns)) whole (left_at (l.declare_all s) k row ns i n whole lt e g) h)
+      subst (λ (j : ℕ). Grown k next (map (l.declares s) (drop j ns)) whole) index
+      (grows_by (l.declares s n) (map (l.declares s) (drop (suc i) ns)) whole (left_at (map (l.declares s)) k row ns i n whole lt e g) h)
 
   pub units_go : (s z : Scope) (us : List LevelUnit) (i : ℕ) (u : LevelUnit) (n m : ℕ) (whole : List Phrase) → i < length us → u ≡ get_or us i u
       → m ≡ n + bodies_in u → z ≡ s →
-      Grown k row (l.level_units s n (drop i us)) whole → Is one (judged k (l.level_unit z n u)) → Grown k next (l.level_units s m (drop (i + 1) us)) whole
+      Grown k row (level_units s n (drop i us)) whole → Is one (judged k (l.level_unit z n u)) → Grown k next (level_units s m (drop (i + 1) us)) whole
   units_go s z us i u n m whole lt e em ez g h =
       let here : Is one (judged k (l.level_unit s n u)) = subst (λ (y : Scope). Is one (judged k (l.level_unit y n u))) ez h in
       let index : suc i ≡ i + 1 = omega arith in
-      subst (λ (j : ℕ). Grown k next (l.level_units s j (drop (i + 1) us)) whole) (sym em)
-      (subst (λ (j : ℕ). Grown k next (l.level_units s (n + bodies_in u) (drop j us)) whole) index
-      (grows_by (l.level_unit s n u) (l.level_units s (n + bodies_in u) (drop (suc i) us)) whole (left_at (l.level_units s n) k row us i u whole lt e g) here))
+      subst (λ (j : ℕ). Grown k next (level_units s j (drop (i + 1) us)) whole) (sym em)
+      (subst (λ (j : ℕ). Grown k next (level_units s (n + bodies_in u) (drop j us)) whole) index
+      (grows_by (l.level_unit s n u) (level_units s (n + bodies_in u) (drop (suc i) us)) whole (left_at (level_units s n) k row us i u whole lt e g) here))
 
 pub formals_go : (k : Known) (row next : Result (List Meant) Trouble) (s : Scope) (fs : List Formal) (i : ℕ) (f : Formal) (whole : List Phrase) → i < length fs
     → f ≡ get_or fs i f →
     Grown k row (l.declare_parameters s (drop i fs)) whole
-    → ((qs : List Phrase) → Is row (judged_all k (all_of qs)) → Is next (judged_all k (all_of (qs ++ l.declare_all s f.names))))
+    → ((qs : List Phrase) → Is row (judged_all k (all_of qs)) → Is next (judged_all k (all_of (qs ++ map (l.declares s) f.names))))
     → Grown k next (l.declare_parameters s (drop (i + 1) fs)) whole
 formals_go k row next s fs i f whole lt e g h =
     let index : suc i ≡ i + 1 = omega arith in
     let here = left_at (l.declare_parameters s) k row fs i f whole lt e g in
     subst (λ (j : ℕ). Grown k next (l.declare_parameters s (drop j fs)) whole) index
-    (grows_all k row next (l.declare_all s f.names) (l.declare_parameters s (drop (suc i) fs)) whole here (h here.done here.means))
+    (grows_all k row next (map (l.declares s) f.names) (l.declare_parameters s (drop (suc i) fs)) whole here (h here.done here.means))
 
 -- ---- PROCs and OPs
 
 -- the body of a PROC or OP, in its scope
 abbrev pub body_in : Scope → Option TypePhrase → List Formal → Body → Phrase
-body_in s r fs b = around (form.body (owner.Own (parameters fs) (l.own_types b)) (result r)) (shape.units (delivered (result r)) (map (shape.unit s) b.units))
+body_in s r fs b = around 0 (form.body (owner.Own (parameters fs) (variables_of (own_names b))) (result r)) (shape.units (delivered (result r)) (map (shape.unit s) b.units))
 
 regroup : (ps qs : List Phrase) (p q : Phrase) (rs : List Phrase) → (ps ++ p ∷ []) ++ (qs ++ q ∷ rs) ≡ (ps ++ p ∷ qs) ++ q ∷ rs
 regroup ps qs p q rs = append_assoc ps (p ∷ []) (qs ++ q ∷ rs) ∙ sym (append_assoc ps (p ∷ qs) (q ∷ rs))
@@ -109,18 +112,18 @@ inside_goes k row ps s n m r fs b rs em er h =
 pub body_is : (k : Known) (s : Scope) (o o' : Owner) (r r' : Option ElanType) (d : Delivery) (us us' : List Statement) (m : Meant) (out : Result Meant Trouble)
     → us' ≡ us → d ≡ delivered r → judged k (shape.units d (map (shape.unit s) us')) ≡ gives m →
     o' ≡ o → r' ≡ r → Is out (gives (u.body_with o' (u.content_as r' m)))
-    → Is out (judged k (around (form.body o r) (shape.units (delivered r) (map (shape.unit s) us))))
+    → Is out (judged k (around 0 (form.body o r) (shape.units (delivered r) (map (shape.unit s) us))))
 body_is k s o o' r r' d us us' m out eu ed e eo er h =
     let here : judged k (shape.units (delivered r) (map (shape.unit s) us)) ≡ gives m =
     subst (λ (vs : List Statement). judged k (shape.units (delivered r) (map (shape.unit s) vs)) ≡ gives m) eu
     (subst (λ (c : Delivery). judged k (shape.units c (map (shape.unit s) us')) ≡ gives m) ed e) in
-    one_is k (form.body o r) (shape.units (delivered r) (map (shape.unit s) us)) out m here
+    one_is k 0 (form.body o r) (shape.units (delivered r) (map (shape.unit s) us)) out m here
     (subst (λ (x : Option ElanType). Is out (gives (u.body_with o (u.content_as x m)))) er
     (subst (λ (x : Owner). Is out (gives (u.body_with x (u.content_as r' m)))) eo h))
 
 pub heading_is : (k : Known) (s : Scope) (at : ℕ) (sort : Sort) (x : List ℕ) (ps ps' : List Parameter) (b b' : Bool) (out : Result Meant Trouble) → ps' ≡ ps
     → b' ≡ b →
-    Tells out (calls.headed at b' (first_heading (is_alike sort x (types_of ps')) s.headings)) → Is out (judged k (leaf (form.heading at s sort x ps b)))
+    Tells out (calls.headed at b' (first_heading (is_alike sort x (types_of ps')) s.headings)) → Is out (judged k (leaf at (form.heading s sort x ps b)))
 heading_is k s at sort x ps ps' b b' out ep eb h =
     subst (λ (qs : List Parameter). Tells out (calls.headed at b (first_heading (is_alike sort x (types_of qs)) s.headings))) ep
     (subst (λ (c : Bool). Tells out (calls.headed at c (first_heading (is_alike sort x (types_of ps')) s.headings))) eb h)
@@ -143,7 +146,7 @@ operator_at k s n at x x' r fs fs' b sort out ex ef h =
 module _ (k : Known) (row : Result (List Meant) Trouble) (s : Scope) (n at : ℕ) (x : List ℕ) (r : Option TypePhrase) (fs : List Formal) (b : Body) (sort : Sort)
     (ps : List Phrase) where
   abbrev pub headed : Phrase
-  headed = form.leaf (form.heading at s sort x (parameters fs) (l.is_missing (result r) (l.body_units s n at x r fs b)))
+  headed = form.leaf at (form.heading s sort x (parameters fs) (l.is_missing (result r) (l.body_units s n at x r fs b)))
 
   pub routine_row : (z : Scope) → z ≡ l.routine_scope s n (body_names fs b) → Is row (judged_all k (all_of ((ps ++ headed ∷ []) ++ l.inside z n r fs b))) →
       Is row (judged_all k (all_of (l.heading_phrases s n at x r fs b sort ps ++ l.body_phrases s n at x r fs b)))

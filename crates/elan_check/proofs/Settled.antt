@@ -13,7 +13,7 @@ use Rattle.elan_scope.specs.Known.{delivery_at}
 use Rattle.elan_scope.specs.declared.known.Known.{Known}
 use Rattle.elan_judge.specs.Shape.{units}
 use Rattle.elan_rules.specs.Meaning.{judged}
-use Rattle.elan_check.specs.Refinements.{stated, all_stated, last_unit, delivery_of, outcome, unit_delivery, next, next_all, called_in, known_after}
+use Rattle.elan_check.specs.Refinements.{stated, last_unit, delivery_of, outcome, unit_delivery, next, next_all, called_in, known_after}
 use Rattle.elan_check.proofs.Inferred.{Below, Last, same_meaning, last_delivers}
 
 -- What a phrase with a meaning delivers is known.
@@ -50,7 +50,7 @@ few (Open ∷ ds) = one_more (opens ds) (length ds) (few ds)
 few (Nothing ∷ ds) = up (opens ds) (length ds) (few ds)
 few (Of t ∷ ds) = up (opens ds) (length ds) (few ds)
 
-pub told_length : (hs : List Heading) → length (all_stated hs) ≡ length hs
+pub told_length : (hs : List Heading) → length (map (λ h. stated h.what) hs) ≡ length hs
 told_length [] = refl
 told_length (h ∷ hs) = ap suc (told_length hs)
 
@@ -121,7 +121,7 @@ next_at k (Open ∷ ds) (v ∷ us) (suc i) d u e g = next_at k ds us i d u e g
 next_at k (Nothing ∷ ds) (v ∷ us) (suc i) d u e g = next_at k ds us i d u e g
 next_at k (Of t ∷ ds) (v ∷ us) (suc i) d u e g = next_at k ds us i d u e g
 
-pub told_at : (hs : List Heading) (i : ℕ) (h : Heading) → slice_get hs i ≡ Some h → slice_get (all_stated hs) i ≡ Some (stated h.what)
+pub told_at : (hs : List Heading) (i : ℕ) (h : Heading) → slice_get hs i ≡ Some h → slice_get (map (λ h. stated h.what) hs) i ≡ Some (stated h.what)
 told_at [] i h e = absurd cc
 told_at (g ∷ hs) zero h e = let j : g ≡ h = cc in ap (λ (x : Heading). Some (stated x.what)) j
 told_at (g ∷ hs) (suc i) h e = told_at hs i h e
@@ -192,7 +192,7 @@ module _ (hs : List Heading) (us : List Phrase) where
       elim (settles (length hs)) [
         | inl e ↦ e
         | inr l ↦ absurd (let i : suc (length hs) + opens (D (suc (length hs))) ≤ opens (D 0) = l in
-            let j : opens (D 0) ≤ length (all_stated hs) = few (all_stated hs) in let k = told_length hs in omega arith)
+            let j : opens (D 0) ≤ length (map (λ h. stated h.what) hs) = few (map (λ h. stated h.what) hs) in let k = told_length hs in omega arith)
       ]
 
   -- ---- one body

@@ -5,13 +5,15 @@ use Rattle.std.specs.Prelude.{slice_get}
 use Rattle.elan_tree.specs.declared.tree.Refinement.{Refinement}
 use Rattle.elan_tree.specs.declared.tree.Level.{Level}
 use Rattle.elan_tree.specs.declared.tree.LevelUnit.{LevelUnit}
+use Rattle.elan_scope.specs.declared.scope.Entry.{Entry}
 use Rattle.elan_scope.specs.declared.scope.Scope.{Scope}
 use Rattle.elan_scope.specs.Phrase.{Phrase}
 use Rattle.elan_levels.specs.Bodies.{bodies_in, bodies_of_units}
-use Rattle.elan_check.specs.Level.{level_scope, refined_units, all_refined_units, unit_bodies, all_unit_bodies, level_bodies}
+use Rattle.elan_check.specs.Level.{level_scope, routine_scope, refined_units, all_refined_units, unit_bodies, level_bodies}
 use Rattle.elan_check.specs.walks.OnTheWay.{Holds}
 use Rattle.elan_check.proofs.Steps.{unit_count, units_count}
 use Rattle.elan_check.proofs.Places.{holds_first, holds_rest, holds_tail, holds_all}
+use Rattle.elan_check.specs.walks.Units.{all_unit_bodies}
 
 refined_at : (s : Scope) (n : ℕ) (rs : List Refinement) (i : ℕ) (r : Refinement) → slice_get rs i ≡ Some r
     → slice_get (all_refined_units s n rs) i ≡ Some (refined_units s (n + i) r)
@@ -79,3 +81,17 @@ module _ (w : Level) where
       subst (λ (x : ℕ). Holds bodies x (all_refined_units s x w.refinements)) (sym em)
       (subst (λ (y : Scope). Holds bodies (bodies_of_units w.units) (all_refined_units y (bodies_of_units w.units) w.refinements)) (sym e)
       (holds_rest bodies 0 (bodies_of_units w.units) unit_part refined_part behind (holds_all bodies)))
+
+-- ---- in the scope of a PROC or OP
+
+abbrev inside : Scope → ℕ → Option ℕ → List Entry → Scope
+inside z n o names = record { headings = z.headings; level = z.level; routine = Some (record { number = n; names = names }); refinement = o }
+
+pub routine_here : (all : List Phrase) (z : Scope) (n m : ℕ) (names own : List Entry) (rs written : List Refinement) → z.refinement ≡ None → m ≡ n + 1
+    → names ≡ own → rs ≡ written → Holds all (n + 1) (all_refined_units (routine_scope z n own) (n + 1) written)
+    → Holds all m (all_refined_units (inside z n z.refinement names) m rs)
+routine_here all z n m names own rs written er em en eb h =
+    subst (λ (qs : List Refinement). Holds all m (all_refined_units (inside z n z.refinement names) m qs)) (sym eb)
+    (subst (λ (x : List Entry). Holds all m (all_refined_units (inside z n z.refinement x) m written)) (sym en)
+    (subst (λ (o : Option ℕ). Holds all m (all_refined_units (inside z n o own) m written)) (sym er)
+    (subst (λ (j : ℕ). Holds all j (all_refined_units (inside z n None own) j written)) (sym em) h)))

@@ -1,5 +1,7 @@
 -- Where no phrase of a level breaks a rule, none hangs on another one.
 use Rattle.std.proofs.Common.{◌≡◌, ℕ, zero, suc, ◌+◌, Bool, List, [], ◌∷◌, ◌++◌, map, length, Option, Some, None, refl, sym, ap, subst, ◌∙◌, inl}
+use Rattle.elan_levels.specs.Bodies.{own_names}
+use Rattle.elan_scope.specs.Scope.{variables_of}
 use Rattle.std.proofs.Common.{inr, arith}
 use Rattle.std.specs.Prelude.{slice_get, slice_index_or}
 use Rattle.elan_types.specs.declared.elan_type.ElanType.{ElanType}
@@ -40,6 +42,8 @@ use Rattle.elan_meant.proofs.Told.{told_never_hangs}
 use Rattle.elan_check.proofs.Walks.{In, Call, no_walk}
 use Rattle.elan_check.proofs.Settled.{open_last, calls_are}
 use Rattle.elan_check.proofs.Hanging.{before_both, bind_hangs, before_hangs, IsHeaded, Leaf, leaf_of, body_leaf}
+use Rattle.elan_levels.specs.walks.Headings.{all_headings}
+use Rattle.elan_check.specs.walks.Units.{all_unit_bodies, level_units}
 
 module _ (kn : Known) (s : Scope) where
   -- the units of a body without fault, in their scope
@@ -101,7 +105,7 @@ module _ (kn : Known) (s : Scope) where
       let g = before_faultless kn (judged kn (l.refinement z k r)) (judged_all kn (all_of (l.refinements z (suc k) rs))) f in
       let a =
       bind_faultless kn (judged_all kn (part (l.declares z r.name) (part (l.refined_units z k r) none)))
-      (ruled kn (plain (form.refinement (l.owner_of z.routine))))
+      (ruled kn 0 (plain (form.refinement (l.owner_of z.routine))))
       g.0 in
       let c = before_faultless kn (judged kn (l.declares z r.name)) (judged_all kn (part (l.refined_units z k r) none)) a in
       let d = before_faultless kn (judged kn (l.refined_units z k r)) (judged_all kn none) c.1 in (
@@ -141,23 +145,23 @@ module _ (kn : Known) (s : Scope) where
         | inr i ↦ list_hangs ps h.1 i
       ]
 
-  phrase_hangs : (f : Plain) (ps : List Phrase) → AllLead ps → judged kn (row f ps) ≡ hangs → HangsIn
-  phrase_hangs f ps h e =
-      elim (bind_hangs (judged_all kn (all_of ps)) (ruled kn (plain f)) e) [
+  phrase_hangs : (at : ℕ) (f : Plain) (ps : List Phrase) → AllLead ps → judged kn (row at f ps) ≡ hangs → HangsIn
+  phrase_hangs at f ps h e =
+      elim (bind_hangs (judged_all kn (all_of ps)) (ruled kn at (plain f)) e) [
         | inl g ↦ list_hangs ps h g
-        | inr g ↦ absurd (told_never_hangs (rule f g.0) g.1)
+        | inr g ↦ absurd (told_never_hangs (rule at f g.0) g.1)
       ]
 
   declares_lead : (z : Scope) (n : Name) → judged kn (l.declares z n) ≡ hangs → HangsIn
-  declares_lead z n e = phrase_hangs (form.declares n.at z n.text) [] tt e
+  declares_lead z n e = phrase_hangs n.at (form.declares z n.text) [] tt e
 
-  all_declare_lead : (z : Scope) (ns : List Name) → AllLead (l.declare_all z ns)
+  all_declare_lead : (z : Scope) (ns : List Name) → AllLead (map (l.declares z) ns)
   all_declare_lead z [] = tt
   all_declare_lead z (n ∷ ns) = (declares_lead z n, all_declare_lead z ns)
 
   parameters_lead : (z : Scope) (fs : List Formal) → AllLead (l.declare_parameters z fs)
   parameters_lead z [] = tt
-  parameters_lead z (f ∷ fs) = lead_append (l.declare_all z f.names) (l.declare_parameters z fs) (all_declare_lead z f.names) (parameters_lead z fs)
+  parameters_lead z (f ∷ fs) = lead_append (map (l.declares z) f.names) (l.declare_parameters z fs) (all_declare_lead z f.names) (parameters_lead z fs)
 
   procedure_lead : (n : Name) (fs : List Formal) → AllLead (l.procedure_name s n fs)
   procedure_lead n [] = (declares_lead s n, tt)
@@ -166,7 +170,7 @@ module _ (kn : Known) (s : Scope) where
   refinements_lead : (z : Scope) (k : ℕ) (rs : List Refined) → z.headings ≡ s.headings → AllLead (l.refinements z k rs)
   refinements_lead z k [] hh = tt
   refinements_lead z k (r ∷ rs) hh = (
-    λ e. phrase_hangs (form.refinement (l.owner_of z.routine)) (l.declares z r.name ∷ l.refined_units z k r ∷ [])
+    λ e. phrase_hangs 0 (form.refinement (l.owner_of z.routine)) (l.declares z r.name ∷ l.refined_units z k r ∷ [])
         (declares_lead z r.name, ((λ i. (l.refinement_scope z k, l.refined_units z k r, body_units_in (l.refinement_scope z k) Open r.units, hh, i)), tt)) e,
     refinements_lead z (suc k) rs hh,
   )
@@ -182,11 +186,11 @@ module _ (kn : Known) (s : Scope) where
     routine_spots sort names f =
         let g =
         bind_faultless kn (judged_all kn (all_of (l.heading_phrases s k at x t fs w sort names ++ l.body_phrases s k at x t fs w)))
-        (ruled kn (plain form.routine)) f
+        (ruled kn 0 (plain form.routine)) f
         in
         let h = split (l.heading_phrases s k at x t fs w sort names) (l.body_phrases s k at x t fs w) g in
         let a = before_faultless kn (judged kn (l.own_body s k at x t fs w)) (judged_all kn (all_of (l.refinements inner (suc k) w.refinements))) h.1 in
-        let c = bind_faultless kn (judged_all kn (part (l.own_units s k at x t fs w) none)) (ruled kn (plain (form.body own_owner (result t)))) a.0 in
+        let c = bind_faultless kn (judged_all kn (part (l.own_units s k at x t fs w) none)) (ruled kn 0 (plain (form.body own_owner (result t)))) a.0 in
         let d = before_faultless kn (judged kn (l.own_units s k at x t fs w)) (judged_all kn none) c in (
           record {
             scope = inner;
@@ -199,26 +203,26 @@ module _ (kn : Known) (s : Scope) where
         )
       where
         own_owner : Owner
-        own_owner = owner.Own (parameters fs) (l.own_types w)
+        own_owner = owner.Own (parameters fs) (variables_of (own_names w))
 
     routine_lead : (sort : Sort) (names : List Phrase) → AllLead names → judged kn (l.routine s k at x t fs w sort names) ≡ hangs → HangsIn
     routine_lead sort names h e =
-        phrase_hangs form.routine (l.heading_phrases s k at x t fs w sort names ++ l.body_phrases s k at x t fs w)
+        phrase_hangs 0 form.routine (l.heading_phrases s k at x t fs w sort names ++ l.body_phrases s k at x t fs w)
         (lead_append (l.heading_phrases s k at x t fs w sort names) (l.body_phrases s k at x t fs w)
-        (lead_append names (heading_leaf ∷ l.declare_parameters inner fs) h ((λ i. phrase_hangs heading_form [] tt i), parameters_lead inner fs)) (
-          (λ i. phrase_hangs body_form (l.own_units s k at x t fs w ∷ [])
+        (lead_append names (heading_leaf ∷ l.declare_parameters inner fs) h ((λ i. phrase_hangs at heading_form [] tt i), parameters_lead inner fs)) (
+          (λ i. phrase_hangs 0 body_form (l.own_units s k at x t fs w ∷ [])
               ((λ j. (inner, l.own_units s k at x t fs w, body_units_in inner (delivered (result t)) w.units, refl, j)), tt) i),
           refinements_lead inner (suc k) w.refinements refl,
         )) e
       where
         heading_form : Plain
-        heading_form = form.heading at s sort x (parameters fs) (l.is_missing (result t) (l.body_units s k at x t fs w))
+        heading_form = form.heading s sort x (parameters fs) (l.is_missing (result t) (l.body_units s k at x t fs w))
 
         heading_leaf : Phrase
-        heading_leaf = leaf heading_form
+        heading_leaf = leaf at heading_form
 
         body_form : Plain
-        body_form = form.body (owner.Own (parameters fs) (l.own_types w)) (result t)
+        body_form = form.body (owner.Own (parameters fs) (variables_of (own_names w))) (result t)
 
   -- ---- units
 
@@ -238,13 +242,13 @@ module _ (kn : Known) (s : Scope) where
   unit_spots k (level.Op at r n fs w) f = routine_spots k n.at (operator_text n.operator) r fs w Operator [] f
   unit_spots k (level.NewType at n of) f = tt
 
-  units_spots : (k : ℕ) (vs : List LevelUnit) → Faultless (judged_all kn (all_of (l.level_units s k vs)))
-      → Spots k (b.all_headings k vs) (l.all_unit_bodies s k vs)
+  units_spots : (k : ℕ) (vs : List LevelUnit) → Faultless (judged_all kn (all_of (level_units s k vs)))
+      → Spots k (all_headings k vs) (all_unit_bodies s k vs)
   units_spots k [] f = tt
   units_spots k (v ∷ vs) f =
-      let g = before_faultless kn (judged kn (l.level_unit s k v)) (judged_all kn (all_of (l.level_units s (k + b.bodies_in v) vs))) f in
-      spots_append k (k + b.bodies_in v) (b.unit_headings k v) (b.all_headings (k + b.bodies_in v) vs) (l.unit_bodies s k v)
-      (l.all_unit_bodies s (k + b.bodies_in v) vs) (ap (λ (n : ℕ). k + n) (sym (headings_count k v))) (unit_spots k v g.0)
+      let g = before_faultless kn (judged kn (l.level_unit s k v)) (judged_all kn (all_of (level_units s (k + b.bodies_in v) vs))) f in
+      spots_append k (k + b.bodies_in v) (b.unit_headings k v) (all_headings (k + b.bodies_in v) vs) (l.unit_bodies s k v)
+      (all_unit_bodies s (k + b.bodies_in v) vs) (ap (λ (n : ℕ). k + n) (sym (headings_count k v))) (unit_spots k v g.0)
       (units_spots (k + b.bodies_in v) vs g.1)
 
   unit_lead : (k : ℕ) (v : LevelUnit) → judged kn (l.level_unit s k v) ≡ hangs → HangsIn
@@ -253,39 +257,39 @@ module _ (kn : Known) (s : Scope) where
   unit_lead k (level.Op at r n fs w) e = routine_lead k n.at (operator_text n.operator) r fs w Operator [] tt e
   unit_lead k (level.NewType at n of) e = absurd cc
 
-  units_lead : (k : ℕ) (vs : List LevelUnit) → AllLead (l.level_units s k vs)
+  units_lead : (k : ℕ) (vs : List LevelUnit) → AllLead (level_units s k vs)
   units_lead k [] = tt
   units_lead k (v ∷ vs) = (unit_lead k v, units_lead (k + b.bodies_in v) vs)
 
   pub level_lead : (w : Level)
-      → judged kn (row form.level (l.level_units s 0 w.units ++ l.refinements s (b.bodies_of_units w.units) w.refinements)) ≡ hangs → HangsIn
+      → judged kn (row 0 form.level (level_units s 0 w.units ++ l.refinements s (b.bodies_of_units w.units) w.refinements)) ≡ hangs → HangsIn
   level_lead w e =
-      phrase_hangs form.level (l.level_units s 0 w.units ++ l.refinements s (b.bodies_of_units w.units) w.refinements)
-      (lead_append (l.level_units s 0 w.units) (l.refinements s (b.bodies_of_units w.units) w.refinements) (units_lead 0 w.units)
+      phrase_hangs 0 form.level (level_units s 0 w.units ++ l.refinements s (b.bodies_of_units w.units) w.refinements)
+      (lead_append (level_units s 0 w.units) (l.refinements s (b.bodies_of_units w.units) w.refinements) (units_lead 0 w.units)
       (refinements_lead s (b.bodies_of_units w.units) w.refinements refl)) e
 
   count_append : (xs ys : List Heading) → length (xs ++ ys) ≡ length xs + length ys
   count_append [] ys = let z : 0 + length ys ≡ length ys = omega arith in sym z
   count_append (x ∷ xs) ys = let z : suc (length xs) + length ys ≡ suc (length xs + length ys) = omega arith in ap suc (count_append xs ys) ∙ sym z
 
-  all_count : (k : ℕ) (vs : List LevelUnit) → length (b.all_headings k vs) ≡ b.bodies_of_units vs
+  all_count : (k : ℕ) (vs : List LevelUnit) → length (all_headings k vs) ≡ b.bodies_of_units vs
   all_count k [] = refl
   all_count k (v ∷ vs) =
-      count_append (b.unit_headings k v) (b.all_headings (k + b.bodies_in v) vs)
-      ∙ ap (λ (n : ℕ). n + length (b.all_headings (k + b.bodies_in v) vs)) (headings_count k v)
+      count_append (b.unit_headings k v) (all_headings (k + b.bodies_in v) vs)
+      ∙ ap (λ (n : ℕ). n + length (all_headings (k + b.bodies_in v) vs)) (headings_count k v)
       ∙ ap (λ (n : ℕ). b.bodies_in v + n) (all_count (k + b.bodies_in v) vs)
 
   pub level_spots : (w : Level)
-      → Faultless (judged kn (row form.level (l.level_units s 0 w.units ++ l.refinements s (b.bodies_of_units w.units) w.refinements)))
-      → Spots 0 (b.all_headings 0 w.units ++ b.refinement_headings None w.refinements)
-      (l.all_unit_bodies s 0 w.units ++ l.all_refined_units s (b.bodies_of_units w.units) w.refinements)
+      → Faultless (judged kn (row 0 form.level (level_units s 0 w.units ++ l.refinements s (b.bodies_of_units w.units) w.refinements)))
+      → Spots 0 (all_headings 0 w.units ++ b.refinement_headings None w.refinements)
+      (all_unit_bodies s 0 w.units ++ l.all_refined_units s (b.bodies_of_units w.units) w.refinements)
   level_spots w f =
       let g =
-      bind_faultless kn (judged_all kn (all_of (l.level_units s 0 w.units ++ l.refinements s (b.bodies_of_units w.units) w.refinements)))
-      (ruled kn (plain form.level)) f in
-      let h = split (l.level_units s 0 w.units) (l.refinements s (b.bodies_of_units w.units) w.refinements) g in
-      let z : 0 + length (b.all_headings 0 w.units) ≡ length (b.all_headings 0 w.units) = omega arith in
-      spots_append 0 (b.bodies_of_units w.units) (b.all_headings 0 w.units) (b.refinement_headings None w.refinements) (l.all_unit_bodies s 0 w.units)
+      bind_faultless kn (judged_all kn (all_of (level_units s 0 w.units ++ l.refinements s (b.bodies_of_units w.units) w.refinements)))
+      (ruled kn 0 (plain form.level)) f in
+      let h = split (level_units s 0 w.units) (l.refinements s (b.bodies_of_units w.units) w.refinements) g in
+      let z : 0 + length (all_headings 0 w.units) ≡ length (all_headings 0 w.units) = omega arith in
+      spots_append 0 (b.bodies_of_units w.units) (all_headings 0 w.units) (b.refinement_headings None w.refinements) (all_unit_bodies s 0 w.units)
       (l.all_refined_units s (b.bodies_of_units w.units) w.refinements) (sym (all_count 0 w.units) ∙ sym z) (units_spots 0 w.units h.0)
       (refinement_spots s (b.bodies_of_units w.units) None w.refinements refl h.1)
 

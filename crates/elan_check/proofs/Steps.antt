@@ -22,10 +22,12 @@ use Rattle.elan_check.specs.Level as l
 use Rattle.elan_judge.specs.Shape.{unit, units}
 use Rattle.elan_check.specs.declared.deliveries.Calls.{Calls}
 use Rattle.elan_check.specs.declared.deliveries.Round.{Round}
-use Rattle.elan_check.specs.Refinements.{all_stated, last_unit, next, next_all, called_in, known_after, known_of}
+use Rattle.elan_check.specs.Refinements.{stated, last_unit, next, next_all, called_in, known_after, known_of}
 use Rattle.elan_check.specs.walks.Seen.{all_seen}
-use Rattle.elan_check.specs.walks.Rounds.{called_last, with_calls, is_open, any_open, is_kept, looked_at, found, found_from, seen, with_found}
+use Rattle.elan_check.specs.walks.Rounds.{all_stated, called_last, with_calls, is_open, any_open, is_kept, looked_at, found, found_from, seen, with_found}
 use Rattle.elan_check.proofs.Opened.{waiting}
+use Rattle.elan_levels.specs.walks.Headings.{all_headings}
+use Rattle.elan_check.specs.walks.Units.{all_unit_bodies}
 
 abbrev pub known_with : List Delivery → List (List ℕ) → Known
 known_with ds cs = record { deliveries = ds; calls = cs }
@@ -153,7 +155,7 @@ next_length k [] us = refl
 next_length k (d ∷ ds) [] = refl
 next_length k (d ∷ ds) (u ∷ us) = ap suc (next_length k ds us)
 
-told_length : (hs : List Heading) → length (all_stated hs) ≡ length hs
+told_length : (hs : List Heading) → length (map (λ h. stated h.what) hs) ≡ length hs
 told_length [] = refl
 told_length (h ∷ hs) = ap suc (told_length hs)
 
@@ -183,11 +185,11 @@ unit_count s k (level.Proc at r n fs w) = ap suc (refined_count (l.routine_scope
 unit_count s k (level.Op at r n fs w) = ap suc (refined_count (l.routine_scope s k (b.body_names fs w)) (suc k) w.refinements)
 unit_count s k (level.NewType at n of) = refl
 
-pub units_count : (s : Scope) (k : ℕ) (vs : List LevelUnit) → length (l.all_unit_bodies s k vs) ≡ b.bodies_of_units vs
+pub units_count : (s : Scope) (k : ℕ) (vs : List LevelUnit) → length (all_unit_bodies s k vs) ≡ b.bodies_of_units vs
 units_count s k [] = refl
 units_count s k (v ∷ vs) =
-    phrases_count (l.unit_bodies s k v) (l.all_unit_bodies s (k + b.bodies_in v) vs)
-    ∙ ap (λ (n : ℕ). n + length (l.all_unit_bodies s (k + b.bodies_in v) vs)) (unit_count s k v)
+    phrases_count (l.unit_bodies s k v) (all_unit_bodies s (k + b.bodies_in v) vs)
+    ∙ ap (λ (n : ℕ). n + length (all_unit_bodies s (k + b.bodies_in v) vs)) (unit_count s k v)
     ∙ ap (λ (n : ℕ). b.bodies_in v + n) (units_count s (k + b.bodies_in v) vs)
 
 unit_headings_count : (k : ℕ) (v : LevelUnit) → length (b.unit_headings k v) ≡ b.bodies_in v
@@ -196,11 +198,11 @@ unit_headings_count k (level.Proc at r n fs w) = ap suc (refinements_count (Some
 unit_headings_count k (level.Op at r n fs w) = ap suc (refinements_count (Some k) w.refinements)
 unit_headings_count k (level.NewType at n of) = refl
 
-all_headings_count : (k : ℕ) (vs : List LevelUnit) → length (b.all_headings k vs) ≡ b.bodies_of_units vs
+all_headings_count : (k : ℕ) (vs : List LevelUnit) → length (all_headings k vs) ≡ b.bodies_of_units vs
 all_headings_count k [] = refl
 all_headings_count k (v ∷ vs) =
-    headings_count (b.unit_headings k v) (b.all_headings (k + b.bodies_in v) vs)
-    ∙ ap (λ (n : ℕ). n + length (b.all_headings (k + b.bodies_in v) vs)) (unit_headings_count k v)
+    headings_count (b.unit_headings k v) (all_headings (k + b.bodies_in v) vs)
+    ∙ ap (λ (n : ℕ). n + length (all_headings (k + b.bodies_in v) vs)) (unit_headings_count k v)
     ∙ ap (λ (n : ℕ). b.bodies_in v + n) (all_headings_count (k + b.bodies_in v) vs)
 
 -- Each body has a heading.
@@ -208,10 +210,10 @@ pub level_count : (w : Level) → length (b.headings w) ≡ length (l.level_bodi
 level_count w =
     let s = l.level_scope w in
     let m = b.bodies_of_units w.units in
-    headings_count (b.all_headings 0 w.units) (b.refinement_headings None w.refinements)
+    headings_count (all_headings 0 w.units) (b.refinement_headings None w.refinements)
     ∙ ap (λ (n : ℕ). n + length (b.refinement_headings None w.refinements)) (all_headings_count 0 w.units)
     ∙ ap (λ (n : ℕ). m + n) (refinements_count None w.refinements)
-    ∙ sym (phrases_count (l.all_unit_bodies s 0 w.units) (l.all_refined_units s m w.refinements)
+    ∙ sym (phrases_count (all_unit_bodies s 0 w.units) (l.all_refined_units s m w.refinements)
     ∙ ap (λ (n : ℕ). n + length (l.all_refined_units s m w.refinements)) (units_count s 0 w.units)
     ∙ ap (λ (n : ℕ). m + n) (refined_count s m w.refinements))
 
@@ -297,16 +299,16 @@ module _ {S : Type 0} (after : S → ℕ → Phrase → S) where
 
   pub unit_found : (s z : Scope) (vs : List LevelUnit) (i : ℕ) (v : LevelUnit) (n m : ℕ) (out new whole : S) → i < length vs → v ≡ get_or vs i v
       → m ≡ n + b.bodies_in v → z ≡ s → new ≡ all out n (l.unit_bodies z n v) →
-      all out n (l.all_unit_bodies s n (drop i vs)) ≡ whole → all new m (l.all_unit_bodies s m (drop (i + 1) vs)) ≡ whole
+      all out n (all_unit_bodies s n (drop i vs)) ≡ whole → all new m (all_unit_bodies s m (drop (i + 1) vs)) ≡ whole
   unit_found s z vs i v n m out new whole lt e em ez en h =
       let rest = drop (i + 1) vs in
       let behind = n + b.bodies_in v in
-      ap (λ (j : ℕ). all new j (l.all_unit_bodies s j rest)) em
-      ∙ ap (λ (o : S). all o behind (l.all_unit_bodies s behind rest)) (en ∙ ap (λ (y : Scope). all out n (l.unit_bodies y n v)) ez)
-      ∙ ap (λ (j : ℕ). all (all out n (l.unit_bodies s n v)) (n + j) (l.all_unit_bodies s behind rest)) (sym (unit_count s n v))
-      ∙ sym (all_append after out n (l.unit_bodies s n v) (l.all_unit_bodies s behind rest))
-      ∙ ap (λ (x : LevelUnit). all out n (l.all_unit_bodies s n (x ∷ rest))) e
-      ∙ sym (at_drop_more (λ ys. all out n (l.all_unit_bodies s n ys)) vs i v lt) ∙ h
+      ap (λ (j : ℕ). all new j (all_unit_bodies s j rest)) em
+      ∙ ap (λ (o : S). all o behind (all_unit_bodies s behind rest)) (en ∙ ap (λ (y : Scope). all out n (l.unit_bodies y n v)) ez)
+      ∙ ap (λ (j : ℕ). all (all out n (l.unit_bodies s n v)) (n + j) (all_unit_bodies s behind rest)) (sym (unit_count s n v))
+      ∙ sym (all_append after out n (l.unit_bodies s n v) (all_unit_bodies s behind rest))
+      ∙ ap (λ (x : LevelUnit). all out n (all_unit_bodies s n (x ∷ rest))) e
+      ∙ sym (at_drop_more (λ ys. all out n (all_unit_bodies s n ys)) vs i v lt) ∙ h
 
   -- a PROC or OP, in whose scope its body is looked at
   pub routine_found : (s z : Scope) (n m : ℕ) (r : Option TypePhrase) (fs : List Formal) (w : Body) (out first new : S)
@@ -321,16 +323,16 @@ module _ {S : Type 0} (after : S → ℕ → Phrase → S) where
       (l.all_refined_units y (suc n) w.refinements)) ez
 
   pub level_found : (w : Level) (s z : Scope) (m : ℕ) (start first new : S) → s ≡ l.level_scope w → z ≡ s → m ≡ b.bodies_of_units w.units →
-      first ≡ all start 0 (l.all_unit_bodies s 0 w.units) → new ≡ all first m (l.all_refined_units z m w.refinements)
+      first ≡ all start 0 (all_unit_bodies s 0 w.units) → new ≡ all first m (l.all_refined_units z m w.refinements)
       → new ≡ all start 0 (l.level_bodies w)
   level_found w s z m start first new es ez em ef en =
       let here = l.level_scope w in
-      let before = l.all_unit_bodies here 0 w.units in
+      let before = all_unit_bodies here 0 w.units in
       let count = b.bodies_of_units w.units in
       let length_is : 0 + length before ≡ count = (let c = units_count here 0 w.units in omega (arith, c)) in
       en ∙ ap (λ (j : ℕ). all first j (l.all_refined_units z j w.refinements)) em
       ∙ ap (λ (y : Scope). all first count (l.all_refined_units y count w.refinements)) (ez ∙ es)
       ∙ ap (λ (o : S). all o count (l.all_refined_units here count w.refinements))
-      (ef ∙ ap (λ (y : Scope). all start 0 (l.all_unit_bodies y 0 w.units)) es)
+      (ef ∙ ap (λ (y : Scope). all start 0 (all_unit_bodies y 0 w.units)) es)
       ∙ ap (λ (j : ℕ). all (all start 0 before) j (l.all_refined_units here count w.refinements)) (sym length_is)
       ∙ sym (all_append after start 0 before (l.all_refined_units here count w.refinements))

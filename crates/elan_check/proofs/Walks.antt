@@ -1,8 +1,9 @@
 -- A walk from call to call that never comes back does not go on for ever.
 use Rattle.std.proofs.Common.{◌≡◌, ℕ, zero, suc, ◌+◌, Bool, true, false, ◌||◌, List, [], ◌∷◌, map, length, Some, refl, sym, ap, subst, ◌∙◌, ◌⊎◌, inl}
+use Rattle.std.specs.List.{list_any}
 use Rattle.std.proofs.Common.{inr, arith, eq-eqb, eqb-true}
 use Rattle.std.specs.Prelude.{slice_get, slice_index_or, ◌==◌}
-use Rattle.call_graph.specs.Chains.{any, leads}
+use Rattle.call_graph.specs.Chains.{leads}
 
 abbrev pub In : ℕ → List ℕ → Type 0
 In n [] = ⊥
@@ -20,18 +21,18 @@ or_right : (a b : Bool) → b ≡ true → (a || b) ≡ true
 or_right true b e = refl
 or_right false b e = e
 
-any_in : (f : ℕ → Bool) (xs : List ℕ) (x : ℕ) → In x xs → f x ≡ true → any (map f xs) ≡ true
+any_in : (f : ℕ → Bool) (xs : List ℕ) (x : ℕ) → In x xs → f x ≡ true → list_any f xs ≡ true
 any_in f [] x h e = absurd h
 any_in f (y ∷ xs) x h e =
     elim h [
-      | inl i ↦ or_left (f y) (any (map f xs)) (ap f i ∙ e)
-      | inr i ↦ or_right (f y) (any (map f xs)) (any_in f xs x i e)
+      | inl i ↦ or_left (f y) (list_any f xs) (ap f i ∙ e)
+      | inr i ↦ or_right (f y) (list_any f xs) (any_in f xs x i e)
     ]
 
-in_any : (f : ℕ → Bool) (xs : List ℕ) → any (map f xs) ≡ true → (x : ℕ) × In x xs × (f x ≡ true)
+in_any : (f : ℕ → Bool) (xs : List ℕ) → list_any f xs ≡ true → (x : ℕ) × In x xs × (f x ≡ true)
 in_any f [] e = absurd cc
 in_any f (y ∷ xs) e =
-    elim (either (f y) (any (map f xs)) e) [
+    elim (either (f y) (list_any f xs) e) [
       | inl i ↦ (y, inl refl, i)
       | inr i ↦ (let r = in_any f xs i in (r.0, inr r.1, r.2))
     ]
@@ -102,16 +103,16 @@ module _ (calls : List (List ℕ)) where
 
   leads_self : (i a : ℕ) → leads i calls a a ≡ true
   leads_self zero a = is_same a
-  leads_self (suc i) a = or_left (a == a) (any (map (λ c. leads i calls c a) (calls_of a))) (is_same a)
+  leads_self (suc i) a = or_left (a == a) (list_any (λ c. leads i calls c a) (calls_of a)) (is_same a)
 
   leads_first : (i a c b : ℕ) → In c (calls_of a) → leads i calls c b ≡ true → leads (suc i) calls a b ≡ true
-  leads_first i a c b h e = or_right (a == b) (any (map (λ d. leads i calls d b) (calls_of a))) (any_in (λ d. leads i calls d b) (calls_of a) c h e)
+  leads_first i a c b h e = or_right (a == b) (list_any (λ d. leads i calls d b) (calls_of a)) (any_in (λ d. leads i calls d b) (calls_of a) c h e)
 
   leads_more : (i a b : ℕ) → leads i calls a b ≡ true → leads (suc i) calls a b ≡ true
-  leads_more zero a b e = or_left (a == b) (any (map (λ d. leads zero calls d b) (calls_of a))) e
+  leads_more zero a b e = or_left (a == b) (list_any (λ d. leads zero calls d b) (calls_of a)) e
   leads_more (suc i) a b e =
-      elim (either (a == b) (any (map (λ d. leads i calls d b) (calls_of a))) e) [
-        | inl f ↦ or_left (a == b) (any (map (λ d. leads (suc i) calls d b) (calls_of a))) f
+      elim (either (a == b) (list_any (λ d. leads i calls d b) (calls_of a)) e) [
+        | inl f ↦ or_left (a == b) (list_any (λ d. leads (suc i) calls d b) (calls_of a)) f
         | inr f ↦ (let r = in_any (λ d. leads i calls d b) (calls_of a) f in leads_first (suc i) a r.0 b r.1 (leads_more i r.0 b r.2))
       ]
 
@@ -122,7 +123,7 @@ module _ (calls : List (List ℕ)) where
   leads_last : (i a c d : ℕ) → leads i calls a c ≡ true → In d (calls_of c) → leads (suc i) calls a d ≡ true
   leads_last zero a c d e h = leads_first zero a d d (subst (λ (x : ℕ). In d (calls_of x)) (sym (same_is a c e)) h) (leads_self zero d)
   leads_last (suc i) a c d e h =
-      elim (either (a == c) (any (map (λ x. leads i calls x c) (calls_of a))) e) [
+      elim (either (a == c) (list_any (λ x. leads i calls x c) (calls_of a)) e) [
         | inl f ↦ leads_first (suc i) a d d (subst (λ (x : ℕ). In d (calls_of x)) (sym (same_is a c f)) h) (leads_self (suc i) d)
         | inr f ↦ (let r = in_any (λ x. leads i calls x c) (calls_of a) f in leads_first (suc i) a r.0 d r.1 (leads_last i r.0 c d r.2 h))
       ]

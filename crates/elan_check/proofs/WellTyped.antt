@@ -27,7 +27,8 @@ use Rattle.elan_scope.specs.declared.heading.What.TheVariants.{Routine, Refineme
 use Rattle.elan_scope.specs.declared.heading.Heading.{Heading}
 use Rattle.elan_meant.specs.declared.meant.Meant.{Meant}
 use Rattle.elan_meant.specs.declared.meant.Meant.TheVariants.{Absent, Variable, Value, Done, Left, Labels, Bodies, Level}
-use Rattle.elan_scope.specs.Scope.{number_of, all_held, or_else, variables_of}
+use Rattle.std.specs.Option.{option_or}
+use Rattle.elan_scope.specs.Scope.{number_of, all_held, variables_of}
 use Rattle.elan_scope.specs.declared.scope.Scope.{Scope}
 use Rattle.elan_scope.specs.declared.scope.Within.{Within}
 use Rattle.elan_levels.specs.Bodies as b
@@ -46,7 +47,8 @@ use Rattle.elan_check.specs.Level as l
 use Rattle.elan_rules.specs.Meaning.{judged, judged_all}
 use Rattle.elan_check.specs.Refinements.{stated, delivery_of, known_of}
 use Rattle.elan_check.specs.Text.{Means, known}
-use Rattle.elan_rules.proofs.First.{bind_gives, before_gives, gives_is, judged_of}
+use Rattle.elan_rules.proofs.First.{bind_gives, before_gives, gives_is}
+use Rattle.elan_check.proofs.Bodies.{known_is}
 use Rattle.elan_judge.proofs.InScope.{statement_in}
 use Rattle.elan_rules.proofs.TypeEquations.{Stand}
 use Rattle.elan_rules.proofs.Typed as ty
@@ -57,6 +59,8 @@ use Rattle.elan_judge.proofs.TypedRules.{good}
 use Rattle.elan_check.proofs.Settled.{told_found, refinement_found}
 use Rattle.elan_check.proofs.Aligned.{Made, Inside, Frames, within, Stands, Row, Rows, rows_append, refinement_rows, split, bodies_append}
 use Rattle.elan_check.proofs.LevelRows.{units_rows, rows_count, all_count, inside_first, row_of_heading, heading_of_body}
+use Rattle.elan_levels.specs.walks.Headings.{all_headings}
+use Rattle.elan_check.specs.walks.Units.{all_unit_bodies, level_units}
 
 -- ---- what a body delivers
 
@@ -117,7 +121,7 @@ module _ (w : Written) (us : List Action) (all : List Body) where
   -- the meanings of the units, and of the refinements
   abbrev Parts2 : Type 0
   Parts2 =
-      (ms : List Meant) × (ns : List Meant) × (judged_all kn (all_of (l.level_units s 0 w.units)) ≡ gives ms)
+      (ms : List Meant) × (ns : List Meant) × (judged_all kn (all_of (level_units s 0 w.units)) ≡ gives ms)
       × (judged_all kn (all_of (l.refinements s after_units w.refinements)) ≡ gives ns) × (us ≡ p.actions_of ms ++ p.actions_of ns)
       × (all ≡ u.bodies_of ms ++ u.bodies_of ns)
 
@@ -139,9 +143,9 @@ module _ (w : Written) (us : List Action) (all : List Body) where
   parts : MeansLevel → Parts2
   parts e =
       let q =
-      bind_gives (judged_all kn (all_of (l.level_units s 0 w.units ++ l.refinements s after_units w.refinements)))
-      (ruled kn (plain form.level)) (Level us all) e in
-      let r = split kn (l.level_units s 0 w.units) (l.refinements s after_units w.refinements) q.0 q.1 in
+      bind_gives (judged_all kn (all_of (level_units s 0 w.units ++ l.refinements s after_units w.refinements)))
+      (ruled kn 0 (plain form.level)) (Level us all) e in
+      let r = split kn (level_units s 0 w.units) (l.refinements s after_units w.refinements) q.0 q.1 in
       let whole = gives_is (Level (p.actions_of q.0) (u.bodies_of q.0)) (Level us all) q.2 in (
         r.0,
         r.1,
@@ -157,11 +161,11 @@ module _ (w : Written) (us : List Action) (all : List Body) where
       subst (λ (bs : List Body). Inside 0 bs all) q.5 (λ i b e. let z : 0 + i ≡ i = omega arith in ap (slice_get all) z ∙ e) in
       let first = units_rows kn s all 0 w.units q.0 q.2 (inside_first 0 (u.bodies_of q.0) (u.bodies_of q.1) all inside) in
       let count : length (u.bodies_of q.0) ≡ after_units =
-      rows_count kn s all 0 (b.all_headings 0 w.units) (l.all_unit_bodies s 0 w.units) (u.bodies_of q.0) first ∙ all_count kn s all 0 w.units in
+      rows_count kn s all 0 (all_headings 0 w.units) (all_unit_bodies s 0 w.units) (u.bodies_of q.0) first ∙ all_count kn s all 0 w.units in
       let rest = refinement_rows kn s all s after_units w.refinements q.1 refl refl tt q.3 in
       let z : 0 + length (u.bodies_of q.0) ≡ length (u.bodies_of q.0) = omega arith in
       subst (λ (bs : List Body). Rows kn s all 0 hs ps bs) (sym q.5)
-      (rows_append kn s all 0 after_units (b.all_headings 0 w.units) (b.refinement_headings None w.refinements) (l.all_unit_bodies s 0 w.units)
+      (rows_append kn s all 0 after_units (all_headings 0 w.units) (b.refinement_headings None w.refinements) (all_unit_bodies s 0 w.units)
       (l.all_refined_units s after_units w.refinements) (u.bodies_of q.0) (u.bodies_of q.1) (sym count ∙ sym z) first rest)
 
   -- ---- bodies as their headings tell
@@ -220,7 +224,7 @@ module _ (w : Written) (us : List Action) (all : List Body) where
         level = ap variables_of (sym zl);
         frame = subst (λ (v : Option Within). FrameIs (frame_in all (owner_in all (Some n))) v) (sym rt) (ap (frame_in all) owned ∙ frame_here n c i ∙ fr);
         owner_is = owned ∙ sym (ap number_of rt);
-        home_is = sym (ap (λ (o : Option ℕ). or_else o (number_of z.routine)) rf ∙ ap number_of rt);
+        home_is = sym (ap (λ (o : Option ℕ). option_or o (number_of z.routine)) rf ∙ ap number_of rt);
         part_of = λ r q e f. absurd (none_some r (sym rf ∙ e));
         bodies = λ m h e. bodies_fit rs m h (ap (λ (g : List Heading). slice_get g m) (sym zh) ∙ e);
       }
@@ -247,7 +251,7 @@ module _ (w : Written) (us : List Action) (all : List Body) where
         level = ap variables_of (sym zl);
         frame = subst (λ (o : Home). FrameIs (frame_in all o) z.routine) (sym owned) (refined_frame n home z.routine rt fr);
         owner_is = owned ∙ refined_owner n home ∙ sym rt;
-        home_is = sym (ap (λ (o : Option ℕ). or_else o (number_of z.routine)) rf);
+        home_is = sym (ap (λ (o : Option ℕ). option_or o (number_of z.routine)) rf);
         part_of =
             λ r q e f. ap (λ (m : ℕ). scope_of (slice_get all m)) (same r (sym e ∙ rf)) ∙ ap scope_of i
             ∙ ap (λ (o : Owner). Some o) (own ∙ ap owner_with (sym rt ∙ f));
@@ -322,23 +326,23 @@ module _ (w : Written) (us : List Action) (all : List Body) where
       let q =
       bind_gives (judged_all kn
       (all_of (l.heading_phrases s k n.at n.text r fs x Procedure (l.procedure_name s n fs) ++ l.body_phrases s k n.at n.text r fs x)))
-      (ruled kn (plain form.routine)) m e in bodies_typed m (u.bodies_of q.0) q.2
+      (ruled kn 0 (plain form.routine)) m e in bodies_typed m (u.bodies_of q.0) q.2
   unit_typed f k (level.Op at r n fs x) m e =
       let q =
       bind_gives (judged_all kn
       (all_of (l.heading_phrases s k n.at (operator_text n.operator) r fs x Operator [] ++ l.body_phrases s k n.at (operator_text n.operator) r fs x)))
-      (ruled kn (plain form.routine)) m e in bodies_typed m (u.bodies_of q.0) q.2
+      (ruled kn 0 (plain form.routine)) m e in bodies_typed m (u.bodies_of q.0) q.2
   unit_typed f k (level.NewType at n of) m e = absurd cc
 
-  units_typed : Fits level_stand s kn → (k : ℕ) (ws : List LevelUnit) (ms : List Meant) → judged_all kn (all_of (l.level_units s k ws)) ≡ gives ms
+  units_typed : Fits level_stand s kn → (k : ℕ) (ws : List LevelUnit) (ms : List Meant) → judged_all kn (all_of (level_units s k ws)) ≡ gives ms
       → AllTyped (p.actions_of ms)
   units_typed f k [] ms e = subst (λ (ns : List Meant). AllTyped (p.actions_of ns)) (gives_is [] ms e) refl
   units_typed f k (v ∷ ws) ms e =
-      let q = before_gives (judged kn (l.level_unit s k v)) (judged_all kn (all_of (l.level_units s (k + b.bodies_in v) ws))) ms e in
+      let q = before_gives (judged kn (l.level_unit s k v)) (judged_all kn (all_of (level_units s (k + b.bodies_in v) ws))) ms e in
       subst (λ (ns : List Meant). AllTyped (p.actions_of ns)) (sym q.4)
       (ty.append_typed level_stand (p.actions q.0) (p.actions_of q.1) (unit_typed f k v q.0 q.2) (units_typed f (k + b.bodies_in v) ws q.1 q.3))
 
-  refined_typed : (o : Owner) (ms : List Meant) (m : Meant) → ruled kn (plain (form.refinement o)) ms ≡ gives m → AllTyped (p.actions m)
+  refined_typed : (o : Owner) (ms : List Meant) (m : Meant) → ruled kn 0 (plain (form.refinement o)) ms ≡ gives m → AllTyped (p.actions m)
   refined_typed o ms m e = subst (λ (x : Meant). AllTyped (p.actions x)) (gives_is (u.body_with o (u.content_of (p.nth ms 1))) m e) refl
 
   refinements_typed : (k : ℕ) (rs : List Refined) (ms : List Meant) → judged_all kn (all_of (l.refinements s k rs)) ≡ gives ms → AllTyped (p.actions_of ms)
@@ -347,7 +351,7 @@ module _ (w : Written) (us : List Action) (all : List Body) where
       let q = before_gives (judged kn (l.refinement s k r)) (judged_all kn (all_of (l.refinements s (suc k) rs))) ms e in
       let c =
       bind_gives (judged_all kn (part (l.declares s r.name) (part (l.refined_units s k r) none)))
-      (ruled kn (plain (form.refinement (l.owner_of s.routine)))) q.0 q.2
+      (ruled kn 0 (plain (form.refinement (l.owner_of s.routine)))) q.0 q.2
       in
       subst (λ (ns : List Meant). AllTyped (p.actions_of ns)) (sym q.4)
       (ty.append_typed level_stand (p.actions q.0) (p.actions_of q.1) (refined_typed (l.owner_of s.routine) c.0 q.0 c.2)
@@ -370,4 +374,5 @@ module _ (w : Written) (us : List Action) (all : List Body) where
 pub well_typed : (env : Env) (t : Tree) (c : Core) → Means env t c → IsWellTyped c
 well_typed env t c h =
     subst (λ (ts : List ElanType). IsWellTyped (record { variables = ts; bodies = c.bodies; units = c.units })) (sym h.variables)
-    (level_typed (l.level_in t) c.units c.bodies (judged_of (known t) (l.text t) (Level c.units c.bodies) h.phrases))
+    (level_typed (l.level_in t) c.units c.bodies
+    (subst (λ (k : Known). judged k (l.text t) ≡ gives (Level c.units c.bodies)) (known_is t) h.phrases))

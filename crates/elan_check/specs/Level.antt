@@ -1,5 +1,6 @@
 -- The phrases of a text: of its units, PROCs, OPs and refinements.
-use Rattle.std.specs.Prelude.{ℕ, suc, ◌+◌, Bool, false, List, [], ◌∷◌, ◌++◌, map, flat_map, Option, Some, None}
+use Rattle.std.specs.Prelude.{ℕ, suc, ◌+◌, Bool, ◌&&◌, List, [], ◌∷◌, ◌++◌, map, flat_map, Option, Some, None}
+use Rattle.std.specs.Option.{is_some, option_map_or}
 use Rattle.elan_types.specs.declared.elan_type.ElanType.{ElanType}
 use Rattle.elan_types.specs.declared.core_phrase.Scope.{Scope as Owner}
 use Rattle.elan_types.specs.declared.core_phrase.Scope.TheVariants as owner
@@ -16,10 +17,11 @@ use Rattle.elan_tree.specs.declared.tree.Tree.TheVariants as tree
 use Rattle.elan_scope.specs.declared.scope.Entry.{Entry}
 use Rattle.elan_scope.specs.declared.heading.Sort.{Sort}
 use Rattle.elan_scope.specs.declared.heading.Sort.TheVariants.{Procedure, Operator}
-use Rattle.elan_scope.specs.Scope.{types_of, all_held}
+use Rattle.elan_scope.specs.Scope.{variables_of}
 use Rattle.elan_scope.specs.declared.scope.Scope.{Scope}
 use Rattle.elan_scope.specs.declared.scope.Within.{Within}
-use Rattle.elan_levels.specs.Bodies.{parameters, result, own_names, body_names, level_names, headings, bodies_in, bodies_of_units}
+use Rattle.elan_levels.specs.Bodies as bodies
+use Rattle.elan_levels.specs.Bodies.{parameters, result, own_names, body_names, level_names, headings, numbered, bodies_of_units}
 use Rattle.elan_unbuilt.specs.Operators.{operator_text}
 use Rattle.elan_scope.specs.Phrase as form
 use Rattle.elan_scope.specs.Known.{delivered}
@@ -42,28 +44,24 @@ abbrev pub refinement_scope : Scope → ℕ → Scope
 refinement_scope s k = record { headings = s.headings; level = s.level; routine = s.routine; refinement = Some k }
 
 abbrev pub owner_of : Option Within → Owner
-owner_of None = owner.Level
-owner_of (Some w) = owner.Of w.number
+owner_of routine = option_map_or (λ w. owner.Of w.number) routine owner.Level
 
 -- ---- refinements
 
 module _ (s : Scope) where
   -- a name in its declaration
   abbrev pub declares : Name → Phrase
-  declares n = leaf (form.declares n.at s n.text)
-
-  abbrev pub declare_all : List Name → List Phrase
-  declare_all ns = map declares ns
+  declares n = leaf n.at (form.declares s n.text)
 
   abbrev pub declare_parameters : List Formal → List Phrase
-  declare_parameters fs = flat_map (λ f. declare_all f.names) fs
+  declare_parameters fs = flat_map (λ f. map declares f.names) fs
 
   -- the units of the refinement with this number
   abbrev pub refined_units : ℕ → Refinement → Phrase
   refined_units k r = units Open (map (unit (refinement_scope s k)) r.units)
 
   abbrev pub refinement : ℕ → Refinement → Phrase
-  refinement k r = pair (form.refinement (owner_of s.routine)) (declares r.name) (refined_units k r)
+  refinement k r = pair 0 (form.refinement (owner_of s.routine)) (declares r.name) (refined_units k r)
 
   abbrev pub refinements : ℕ → List Refinement → List Phrase
   refinements k [] = []
@@ -75,18 +73,12 @@ module _ (s : Scope) where
 
 -- ---- PROCs and OPs
 
--- the types of what a body declares
-abbrev pub own_types : Body → List ElanType
-own_types b = types_of (all_held (own_names b))
-
 -- A PROC without parameters is a name of the level.
 abbrev pub procedure_name : Scope → Name → List Formal → List Phrase
-procedure_name s n [] = declares s n ∷ []
-procedure_name s n (f ∷ fs) = []
+procedure_name s n fs = map (λ e. leaf e.at (form.declares s e.name)) (bodies.procedure_name n fs)
 
 abbrev pub is_missing : Option ElanType → List (Option Phrase) → Bool
-is_missing None us = false
-is_missing (Some t) us = all_empty us
+is_missing result us = is_some result && all_empty us
 
 module _ (s : Scope) (k : ℕ) (at : ℕ) (x : List ℕ) (r : Option TypePhrase) (fs : List Formal) (b : Body) where
   abbrev pub inner : Scope
@@ -95,24 +87,29 @@ module _ (s : Scope) (k : ℕ) (at : ℕ) (x : List ℕ) (r : Option TypePhrase)
   abbrev pub body_units : List (Option Phrase)
   body_units = map (unit inner) b.units
 
-  -- Its last unit delivers what it has to deliver.
+  -- The PROC or OP with this number, whose name is declared by these phrases. Its last unit delivers what it has to deliver.
+  abbrev pub routine : Sort → List Phrase → Phrase
+  routine sort names =
+      row 0 form.routine
+      ((names ++ leaf at (form.heading s sort x (parameters fs) (is_missing (result r) body_units)) ∷ declare_parameters inner fs)
+      ++ around 0 (form.body (owner.Own (parameters fs) (variables_of (own_names b))) (result r)) (units (delivered (result r)) body_units)
+      ∷ refinements inner (suc k) b.refinements)
+
+  -- ---- what it is made of, as it is gone over; no definition of meaning needs these names
+
   abbrev pub own_units : Phrase
   own_units = units (delivered (result r)) body_units
 
   abbrev pub own_body : Phrase
-  own_body = around (form.body (owner.Own (parameters fs) (own_types b)) (result r)) own_units
+  own_body = around 0 (form.body (owner.Own (parameters fs) (variables_of (own_names b))) (result r)) own_units
 
   -- its heading, and its parameters
   abbrev pub heading_phrases : Sort → List Phrase → List Phrase
-  heading_phrases sort names = names ++ (leaf (form.heading at s sort x (parameters fs) (is_missing (result r) body_units)) ∷ declare_parameters inner fs)
+  heading_phrases sort names = names ++ (leaf at (form.heading s sort x (parameters fs) (is_missing (result r) body_units)) ∷ declare_parameters inner fs)
 
   -- its body, and its refinements
   abbrev pub body_phrases : List Phrase
   body_phrases = own_body ∷ refinements inner (suc k) b.refinements
-
-  -- the PROC or OP with this number, whose name is declared by these phrases
-  abbrev pub routine : Sort → List Phrase → Phrase
-  routine sort names = row form.routine (heading_phrases sort names ++ body_phrases)
 
   -- the units of its body, and of its refinements
   abbrev pub routine_units : List Phrase
@@ -122,7 +119,7 @@ module _ (s : Scope) (k : ℕ) (at : ℕ) (x : List ℕ) (r : Option TypePhrase)
 abbrev pub inside : Scope → ℕ → Option TypePhrase → List Formal → Body → List Phrase
 inside s k r fs b =
     declare_parameters s fs
-    ++ around (form.body (owner.Own (parameters fs) (own_types b)) (result r)) (units (delivered (result r)) (map (unit s) b.units))
+    ++ around 0 (form.body (owner.Own (parameters fs) (variables_of (own_names b))) (result r)) (units (delivered (result r)) (map (unit s) b.units))
     ∷ refinements s (suc k) b.refinements
 
 -- the units of its body, and of its refinements
@@ -139,40 +136,33 @@ module _ (s : Scope) where
   level_unit k (level.Plain u) = role Nothing (written (unit s u))
   level_unit k (level.Proc at r n fs b) = routine s k n.at n.text r fs b Procedure (procedure_name s n fs)
   level_unit k (level.Op at r n fs b) = routine s k n.at (operator_text n.operator) r fs b Operator []
-  level_unit k (level.NewType at n of) = leaf (form.not_built at)
+  level_unit k (level.NewType at n of) = leaf at form.not_built
 
-  abbrev pub level_units : ℕ → List LevelUnit → List Phrase
-  level_units k [] = []
-  level_units k (u ∷ us) = level_unit k u ∷ level_units (k + bodies_in u) us
-
-  -- the units of bodies, in the order of their numbers
+  -- the units of bodies, in the order of their numbers, as they are gone over; no definition of meaning needs these lists
   abbrev pub unit_bodies : ℕ → LevelUnit → List Phrase
-  unit_bodies k (level.Plain u) = []
   unit_bodies k (level.Proc at r n fs b) = routine_units s k n.at n.text r fs b
   unit_bodies k (level.Op at r n fs b) = routine_units s k n.at (operator_text n.operator) r fs b
-  unit_bodies k (level.NewType at n of) = []
-
-  abbrev pub all_unit_bodies : ℕ → List LevelUnit → List Phrase
-  all_unit_bodies k [] = []
-  all_unit_bodies k (u ∷ us) = unit_bodies k u ++ all_unit_bodies (k + bodies_in u) us
+  unit_bodies k _ = []
 
 -- The units of a text deliver nothing. Its refinements are numbered behind its PROCs and OPs.
-abbrev pub level_parts : Level → List Phrase
-level_parts l = level_units (level_scope l) 0 l.units ++ refinements (level_scope l) (bodies_of_units l.units) l.refinements
-
 abbrev pub level_phrase : Level → Phrase
-level_phrase l = row form.level (level_parts l)
+level_phrase l =
+    row 0 form.level
+    (map (λ u. level_unit (level_scope l) u.0 u.1) (numbered 0 l.units) ++ refinements (level_scope l) (bodies_of_units l.units) l.refinements)
+
+-- the same as they are gone over, and the bodies; no definition of meaning needs these
+abbrev pub level_parts : Level → List Phrase
+level_parts l =
+    map (λ u. level_unit (level_scope l) u.0 u.1) (numbered 0 l.units) ++ refinements (level_scope l) (bodies_of_units l.units) l.refinements
 
 abbrev pub level_bodies : Level → List Phrase
-level_bodies l = all_unit_bodies (level_scope l) 0 l.units ++ all_refined_units (level_scope l) (bodies_of_units l.units) l.refinements
-
-abbrev pub no_level : Level
-no_level = record { units = []; refinements = [] }
+level_bodies l =
+    flat_map (λ u. unit_bodies (level_scope l) u.0 u.1) (numbered 0 l.units) ++ all_refined_units (level_scope l) (bodies_of_units l.units) l.refinements
 
 -- the level of a program; packets are not built
 abbrev pub level_in : Tree → Level
 level_in (tree.Program l) = l
-level_in (tree.Packet at n exports l) = no_level
+level_in (tree.Packet at n exports l) = record { units = []; refinements = [] }
 
 abbrev pub text : Tree → Phrase
 text t = level_phrase (level_in t)

@@ -14,7 +14,7 @@ use Rattle.elan_levels.specs.Bodies.{level_names, headings}
 use Rattle.elan_scope.specs.Ruled.{Fault, gives, breaks}
 use Rattle.elan_check.specs.Level.{level_in, level_phrase, level_bodies, text}
 use Rattle.elan_scope.specs.declared.known.Known.{Known}
-use Rattle.elan_check.specs.Refinements.{known_of}
+use Rattle.elan_check.specs.Refinements.{bodies_within, known_of}
 use Rattle.elan_rules.specs.Meaning as phrase
 
 -- The text has a phrase or a name that is not built yet.
@@ -23,13 +23,13 @@ IsNotBuilt t = not_built t ≡ true
 
 -- what is known of the bodies of a text
 abbrev pub known : Tree → Known
-known t = known_of (headings (level_in t)) (level_bodies (level_in t))
+known t = known_of (headings (level_in t)) (bodies_within (text t))
 
 -- The text has this core.
-pub record Means (env : Env) (t : Tree) (core : Core) : Type 0 where
+pub record Means (env : Env) (t : Tree) (c : Core) : Type 0 where
   pub is_built : not_built t ≡ false
-  pub variables : core.variables ≡ variables_of (level_names (level_in t))
-  pub phrases : phrase.Means (known t) (text t) (means.Level core.units core.bodies)
+  pub variables : c.variables ≡ variables_of (level_names (level_in t))
+  pub phrases : phrase.Means (known t) (text t) (means.Level c.units c.bodies)
 
 -- This is the place of the first phrase that breaks a rule though all its parts have meaning, and its reason.
 pub record Refused (env : Env) (t : Tree) (fault : Fault) : Type 0 where
@@ -61,7 +61,7 @@ Answers l (Err NotBuilt) = ⊥
 
 -- A text has a core, or is refused, or has what is not built yet.
 pub data HasAnswer (env : Env) (t : Tree) : Type 0 where
-  core : (c : Core) → Means env t c → HasAnswer env t
+  meaning : (c : Core) → Means env t c → HasAnswer env t
   refusal : (f : Fault) → Refused env t f → HasAnswer env t
   not_yet : IsNotBuilt t → HasAnswer env t
 

@@ -2,3 +2,4 @@ pub mod Seen
 pub mod Rounds
 pub mod OnTheWay
 pub mod Over
+pub mod Units

@@ -20,7 +20,6 @@ use elan_judge::role::is_empty;
 use elan_levels::uses::{called_in, called_in_unit};
 use elan_meant::meant::Meant;
 use elan_meant::row::Judged;
-use elan_rows::let_meant_go;
 use elan_scope::delivery::Delivery;
 use elan_scope::heading::{Heading, What};
 use elan_scope::known::Known;
@@ -41,7 +40,7 @@ fn stated(what: &What) -> Delivery
 
 // What the headings tell.
 fn all_stated(alloc: Global, headings: &[Heading]) -> Result<List<Delivery>, NoMemory>
-    ensures { IfOk result (λ deliveries. deliveries ≡ spec.all_stated headings.now) }
+    ensures { IfOk result (λ deliveries. deliveries ≡ map (λ h. spec.stated h.what) headings.now) }
 {
     let mut deliveries = List::new(alloc);
     for heading in headings {
@@ -80,7 +79,7 @@ fn outcome(judged: Judged) -> Result<Delivery, NoMemory>
     match judged {
         Ok(meant) => {
             let delivery = delivery_of(&meant);
-            let_meant_go(meant);
+            meant.let_go();
             Ok(delivery)
         }
         Err(Trouble::NoMemory) => Err(NoMemory),

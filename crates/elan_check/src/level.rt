@@ -10,6 +10,7 @@ ghost use Rattle.elan_rules.specs.Meaning.{judged, judged_all};
 ghost use Rattle.elan_scope.specs.Answer.{Is};
 ghost use Rattle.elan_levels.specs.Bodies as bodies;
 ghost use Rattle.elan_check.specs.Level as spec;
+ghost use Rattle.elan_check.specs.walks.Units as of_units;
 ghost use Rattle.elan_check.specs.Refinements as refinements;
 ghost use Rattle.elan_check.specs.Text as text;
 
@@ -20,7 +21,7 @@ use elan_judge::judge::judge_role;
 use elan_levels::bodies::{held_types, level_names};
 use elan_levels::heading::{first_refinement, headings, number_behind};
 use elan_meant::row::{Judged, Row};
-use elan_rows::{let_go, none, one, with};
+use elan_meant::together::{let_go, none, one, with};
 use elan_scope::delivery::Delivery;
 use elan_scope::heading::Sort;
 use elan_scope::known::Known;
@@ -104,7 +105,7 @@ fn judge_level_unit(
 fn judge_level_units(alloc: Global, known: &Known, scope: &mut Scope, units: &[LevelUnit]) -> Row
     requires level { scope.old.routine ≡ None }
     requires unit { scope.old.refinement ≡ None }
-    ensures meaning { Is result (judged_all known.now (all_of (spec.level_units scope.old 0 units.now))) }
+    ensures meaning { Is result (judged_all known.now (all_of (of_units.level_units scope.old 0 units.now))) }
     ensures kept { scope.new ≡ scope.old }
 {
     let mut row = none(alloc);

@@ -5,6 +5,7 @@ ghost use Rattle.elan_types.specs.declared.core_phrase.Scope.TheVariants as owne
 ghost use Rattle.elan_scope.specs.declared.known.Known.{Known};
 ghost use Rattle.elan_scope.specs.declared.scope.Scope.{Scope};
 ghost use Rattle.elan_scope.specs.Known.{delivered};
+ghost use Rattle.elan_scope.specs.Scope as scopes;
 ghost use Rattle.elan_scope.specs.Phrase as form;
 ghost use Rattle.elan_scope.specs.Phrase.{Phrase, around, row, all_of};
 ghost use Rattle.elan_rules.specs.Meaning.{judged, judged_all};
@@ -20,7 +21,7 @@ use elan_levels::bodies::{body_names, held_types, own_names, parameters};
 use elan_levels::heading::{next_number, result_type};
 use elan_meant::meant::Meant;
 use elan_meant::row::{Judged, Row};
-use elan_rows::{let_go, let_meant_go, with};
+use elan_meant::together::{let_go, with};
 use elan_rules::whole::refinement_phrase;
 use elan_scope::delivery::Delivery;
 use elan_scope::heading::Sort;
@@ -134,7 +135,7 @@ pub fn judge_refinements(
 
 fn declare_all(alloc: Global, scope: &Scope, before: Row, names: &[Name]) -> Row
     ensures { (k : Known) → (ps : List Phrase) → Is before (judged_all k (all_of ps)) → Is result
-        (judged_all k (all_of (ps ++ spec.declare_all scope.now names.now))) }
+        (judged_all k (all_of (ps ++ map (spec.declares scope.now) names.now))) }
 {
     let mut row = before;
     for name in names {
@@ -156,7 +157,7 @@ fn declare_parameters(alloc: Global, scope: &Scope, before: Row, formals: &[Form
 
 // The scope of its variables: its parameters, and what its body declares.
 fn frame(alloc: Global, of: Routine<'_>) -> Result<Owner, NoMemory>
-    ensures { IfOk result (λ frame. frame ≡ owner.Own (bodies.parameters of.entry.formals.now) (spec.own_types of.entry.body.now)) }
+    ensures { IfOk result (λ frame. frame ≡ owner.Own (bodies.parameters of.entry.formals.now) (scopes.variables_of (bodies.own_names of.entry.body.now))) }
 {
     let parameters = parameters(alloc, of.formals)?;
     let names = own_names(alloc, of.body)?;
@@ -170,7 +171,7 @@ fn frame(alloc: Global, of: Routine<'_>) -> Result<Owner, NoMemory>
 // Its body, in its own scope.
 fn judge_body(alloc: Global, known: &Known, scope: &Scope, of: Routine<'_>) -> Judged
     ensures { Is result (judged known.now
-        (around (form.body (owner.Own (bodies.parameters of.entry.formals.now) (spec.own_types of.entry.body.now))
+        (around 0 (form.body (owner.Own (bodies.parameters of.entry.formals.now) (scopes.variables_of (bodies.own_names of.entry.body.now)))
         (bodies.result of.entry.result.now))
         (shape.units (delivered (bodies.result of.entry.result.now)) (map (shape.unit scope.now) of.entry.body.now.units)))) }
 {
@@ -178,7 +179,7 @@ fn judge_body(alloc: Global, known: &Known, scope: &Scope, of: Routine<'_>) -> J
     let wanted = Delivery::of(of_type);
     let meant = judge_units(alloc, known, scope, wanted, of.body.units.as_slice())?;
     let Ok(owner) = frame(alloc, of) else {
-        let_meant_go(meant);
+        meant.let_go();
         return Err(Trouble::NoMemory);
     };
     body(alloc, owner, of_type, meant)
@@ -196,7 +197,7 @@ fn is_missing(of: &Option<TypePhrase>, units: &[Unit]) -> bool
 // Its heading, in the scope of the level.
 fn judge_heading(alloc: Global, scope: &Scope, of: Routine<'_>) -> Judged
     ensures { (k : Known) → (s : Scope) → Is result
-        (judged k (form.leaf (form.heading of.entry.at scope.now of.entry.sort of.entry.name.now (bodies.parameters of.entry.formals.now)
+        (judged k (form.leaf of.entry.at (form.heading scope.now of.entry.sort of.entry.name.now (bodies.parameters of.entry.formals.now)
         (spec.is_missing (bodies.result of.entry.result.now) (map (shape.unit s) of.entry.body.now.units))))) }
 {
     let parameters = parameters(alloc, of.formals)?;
@@ -237,7 +238,7 @@ fn judge_inside(
 
 // A PROC or OP, from its parts.
 fn routine_of(alloc: Global, parts: Row) -> Judged
-    ensures { (k : Known) → (ps : List Phrase) → Is parts (judged_all k (all_of ps)) → Is result (judged k (row form.routine ps)) }
+    ensures { (k : Known) → (ps : List Phrase) → Is parts (judged_all k (all_of ps)) → Is result (judged k (row 0 form.routine ps)) }
 {
     match parts {
         Err(trouble) => Err(trouble),

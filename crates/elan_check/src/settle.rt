@@ -4,6 +4,7 @@ ghost use Rattle.std.specs.Prelude.{◌≡◌, ◌≤◌, ◌+◌, ◌-◌, None
 ghost use Rattle.elan_tree.specs.declared.tree.Level.{Level as Written};
 ghost use Rattle.elan_levels.specs.Bodies as bodies;
 ghost use Rattle.elan_check.specs.Level as spec;
+ghost use Rattle.elan_check.specs.walks.Units as of_units;
 ghost use Rattle.elan_check.specs.Refinements as refinements;
 ghost use Rattle.elan_check.specs.walks.OnTheWay as walks;
 
@@ -150,7 +151,7 @@ impl Settling<'_> {
         requires level { scope.old.routine ≡ None }
         requires unit { scope.old.refinement ≡ None }
         ensures found { (w : Written) → walks.IsOnTheWay w self.old.known
-            → walks.Holds (spec.level_bodies w) 0 (spec.all_unit_bodies scope.old 0 units.now)
+            → walks.Holds (spec.level_bodies w) 0 (of_units.all_unit_bodies scope.old 0 units.now)
             → OnOk result (walks.IsOnTheWay w self.new.known) }
         ensures kept { OnOk result (scope.new ≡ scope.old) }
     {

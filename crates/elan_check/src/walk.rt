@@ -2,6 +2,7 @@
 
 ghost use Rattle.std.specs.Prelude.{◌≡◌, None, OnOk};
 ghost use Rattle.elan_check.specs.Level as spec;
+ghost use Rattle.elan_check.specs.walks.Units as of_units;
 ghost use Rattle.elan_check.specs.walks.Seen.{all_seen};
 
 use elan_levels::bodies::body_names;
@@ -156,7 +157,7 @@ fn see_units<B: EachBody>(
 ) -> Result<(), NoMemory>
     requires level { scope.old.routine ≡ None }
     requires unit { scope.old.refinement ≡ None }
-    ensures found { OnOk result (looks.new ≡ all_seen B.after looks.old 0 (spec.all_unit_bodies scope.old 0 units.now)) }
+    ensures found { OnOk result (looks.new ≡ all_seen B.after looks.old 0 (of_units.all_unit_bodies scope.old 0 units.now)) }
     ensures kept { OnOk result (scope.new ≡ scope.old) }
 {
     let mut number = 0;

@@ -3,7 +3,8 @@ use Rattle.std.proofs.Common.{◌≡◌, Bool, true, false, if◌then◌else◌,
 use Rattle.elan_scope.specs.declared.delivery.Delivery.{Delivery}
 use Rattle.elan_scope.specs.declared.delivery.Delivery.TheVariants.{Nothing}
 use Rattle.elan_scope.specs.Phrase.{Phrase}
-use Rattle.elan_judge.specs.Shape.{is_empty, all_empty, asked}
+use Rattle.elan_judge.specs.Shape.{all_empty}
+use Rattle.elan_judge.specs.walks.Steps.{is_empty, asked}
 
 module _ (d : Delivery) (u : Option Phrase) (us : List (Option Phrase)) where
   abbrev pub by_last : Bool → Option Delivery

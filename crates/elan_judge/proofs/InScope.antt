@@ -19,20 +19,21 @@ use Rattle.elan_scope.specs.declared.delivery.Delivery.{Delivery}
 use Rattle.elan_scope.specs.declared.delivery.Delivery.TheVariants.{Open, Nothing, Of}
 use Rattle.elan_scope.specs.declared.scope.Scope.{Scope}
 use Rattle.elan_scope.specs.Phrase as form
-use Rattle.elan_scope.specs.Phrase.{Form, asking, plain, Phrase, phrase, Parts, none, part, all_of}
+use Rattle.elan_scope.specs.Phrase.{Form, plain, Phrase, phrase, Parts, none, part, all_of}
 use Rattle.elan_judge.specs.Shape as shape
+use Rattle.elan_judge.specs.walks.Steps as walk
 
 abbrev fst : {A : Type 0} {B : A → Type 0} → (a : A) × B a → A
 fst x = x.0
 
 module _ (s : Scope) where
   abbrev pub Names : Form → Type 0
-  Names (asking (form.named u at z x)) = z ≡ s
-  Names (plain (form.applied at z sort x)) = z ≡ s
-  Names (plain (form.declares at z x)) = z ≡ s
-  Names (plain (form.assignment at z)) = z ≡ s
-  Names (asking (form.leave at z x)) = z ≡ s
-  Names (plain (form.heading at z sort x ps missing)) = ⊥
+  Names (form.named u z x) = z ≡ s
+  Names (plain (form.applied z sort x)) = z ≡ s
+  Names (plain (form.declares z x)) = z ≡ s
+  Names (plain (form.assignment z)) = z ≡ s
+  Names (form.leave z x) = z ≡ s
+  Names (plain (form.heading z sort x ps missing)) = ⊥
   Names (plain (form.body o r)) = ⊥
   Names (plain form.routine) = ⊥
   Names (plain (form.refinement o)) = ⊥
@@ -41,7 +42,7 @@ module _ (s : Scope) where
 
   abbrev mutual
     pub InScope : Phrase → Type 0
-    InScope (phrase form ps) = Names form × AllIn ps
+    InScope (phrase at form ps) = Names form × AllIn ps
 
     pub AllIn : Parts → Type 0
     AllIn none = Unit {0}
@@ -139,7 +140,7 @@ module _ (s : Scope) where
   arms_in ns [] = tt
   arms_in ns (c ∷ cs) =
       let ls = (shape.case s c.0).0 in
-      ((tt, labels_in ns ls), (c.1, arms_in (ns ++ shape.numbers ls) cs))
+      ((tt, labels_in ns ls), (c.1, arms_in (ns ++ walk.numbers ls) cs))
 
   -- ---- one layer
 
@@ -159,14 +160,14 @@ module _ (s : Scope) where
   expr_in (t.Concr at a) = (tt, tt)
   expr_in (t.Bracket at a) = (tt, (a.1, tt))
   expr_in (t.If at branches None) =
-      (tt, append_in (shape.branches (map (shape.branch s) (map fst branches))) (form.leaf form.absent ∷ []) (branches_in branches) ((tt, tt), tt))
+      (tt, append_in (shape.branches (map (shape.branch s) (map fst branches))) (form.leaf 0 form.absent ∷ []) (branches_in branches) ((tt, tt), tt))
   expr_in (t.If at branches (Some us)) = (
     tt,
     append_in (shape.branches (map (shape.branch s) (map fst branches))) (shape.units Open (map (shape.unit s) (map fst us)) ∷ []) (branches_in branches)
         (units_in Open us, tt),
   )
   expr_in (t.Select at of cases None) =
-      (tt, (of.1, append_in (shape.arms s [] (map (shape.case s) (map fst cases))) (form.leaf form.absent ∷ []) (arms_in [] cases) ((tt, tt), tt)))
+      (tt, (of.1, append_in (shape.arms s [] (map (shape.case s) (map fst cases))) (form.leaf 0 form.absent ∷ []) (arms_in [] cases) ((tt, tt), tt)))
   expr_in (t.Select at of cases (Some us)) = (
     tt,
     (
@@ -191,7 +192,7 @@ module _ (s : Scope) where
   limit_in (t.Downto a) = a.1
 
   abbrev absent : Phrase
-  absent = form.leaf form.absent
+  absent = form.leaf 0 form.absent
 
   abbrev MayCount : Option shape.Counted → Type 0
   MayCount None = Unit {0}

@@ -22,23 +22,24 @@ use Rattle.elan_meant.specs.Verdict.{Tells}
 use Rattle.elan_rules.specs.Rules.{rule, ruled}
 use Rattle.elan_rules.proofs.Together.{bind_fails}
 use Rattle.elan_meant.proofs.Beside.{before_joined, single_joined}
-use Rattle.elan_judge.specs.Shape.{written, unit, branch, case, role, roles, filled, is_empty, all_empty, asked, in_role, numbers, branches, arms}
+use Rattle.elan_judge.specs.Shape.{written, unit, branch, case, role, roles, filled, all_empty, branches, arms}
+use Rattle.elan_judge.specs.walks.Steps.{is_empty, asked, in_role, numbers}
 use Rattle.elan_judge.proofs.Shapes.{case_labels}
 
 -- ---- what a function hands on
 
 -- ---- a phrase, by what its parts mean
 
-module _ (k : Known) (f : Plain) (ps : Parts) where
-  pub whole_fails : (d : Trouble) → Fails d (judged_all k ps) → Fails d (judged k (phrase (plain f) ps))
-  whole_fails d h = bind_fails d (judged_all k ps) (ruled k (plain f)) h
+module _ (k : Known) (at : ℕ) (f : Plain) (ps : Parts) where
+  pub whole_fails : (d : Trouble) → Fails d (judged_all k ps) → Fails d (judged k (phrase at (plain f) ps))
+  whole_fails d h = bind_fails d (judged_all k ps) (ruled k at (plain f)) h
 
-  pub whole_is : (out : Result Meant Trouble) (ms : List Meant) → judged_all k ps ≡ gives ms → Tells out (rule f ms) → Is out (judged k (phrase (plain f) ps))
-  whole_is out ms e h = subst (λ (z : Ruled (List Meant)). Is out (z >>= ruled k (plain f))) (sym e) h
+  pub whole_is : (out : Result Meant Trouble) (ms : List Meant) → judged_all k ps ≡ gives ms → Tells out (rule at f ms) → Is out (judged k (phrase at (plain f) ps))
+  whole_is out ms e h = subst (λ (z : Ruled (List Meant)). Is out (z >>= ruled k at (plain f))) (sym e) h
 
-module _ (k : Known) (f : Plain) (p : Phrase) where
-  pub one_is : (out : Result Meant Trouble) (m : Meant) → judged k p ≡ gives m → Tells out (rule f (m ∷ [])) → Is out (judged k (around f p))
-  one_is out m e h = subst (λ (z : Ruled Meant). Is out (before z (gives []) >>= ruled k (plain f))) (sym e) h
+module _ (k : Known) (at : ℕ) (f : Plain) (p : Phrase) where
+  pub one_is : (out : Result Meant Trouble) (m : Meant) → judged k p ≡ gives m → Tells out (rule at f (m ∷ [])) → Is out (judged k (around at f p))
+  one_is out m e h = subst (λ (z : Ruled Meant). Is out (before z (gives []) >>= ruled k at (plain f))) (sym e) h
 
 -- ---- a row with one more phrase
 

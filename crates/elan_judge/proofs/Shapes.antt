@@ -27,10 +27,11 @@ use Rattle.elan_scope.specs.declared.scope.Usage.TheVariants.{Counter as Counts}
 use Rattle.elan_scope.specs.Phrase as form
 use Rattle.elan_scope.specs.Phrase.{plain, Phrase, phrase, Parts, part, leaf, pair, name, all_of}
 use Rattle.elan_judge.specs.Shape as shape
+use Rattle.elan_judge.specs.walks.Steps as walk
 
 module _ (s : Scope) where
   abbrev pub units_of : Option (List Statement) → Phrase
-  units_of o = shape.otherwise (option_map (λ us. map (shape.unit s) us) o)
+  units_of o = shape.written (option_map (shape.units Open) (option_map (λ us. map (shape.unit s) us) o))
 
   abbrev pub choice_parts : List Branch → Option (List Statement) → Parts
   choice_parts bs o = all_of (shape.branches (map (shape.branch s) bs) ++ units_of o ∷ [])
@@ -39,26 +40,26 @@ module _ (s : Scope) where
   case_parts cs o = all_of (shape.arms s [] (map (shape.case s) cs) ++ units_of o ∷ [])
 
   choice_rolled : (at : ℕ) (bs : List Branch) (o : Option (List Statement))
-      → shape.expr s (roll-Expr (t.If at bs o)) ≡ phrase (plain (form.choice at)) (choice_parts bs o)
+      → shape.expr s (roll-Expr (t.If at bs o)) ≡ phrase at (plain form.choice) (choice_parts bs o)
   choice_rolled at bs None = rw fold-roll-Expr refl
   choice_rolled at bs (Some us) = rw fold-roll-Expr refl
 
   pub choice_shape : (at : ℕ) (bs : List Branch) (o : Option (List Statement))
-      → shape.expr s (expression.If at bs o) ≡ phrase (plain (form.choice at)) (choice_parts bs o)
+      → shape.expr s (expression.If at bs o) ≡ phrase at (plain form.choice) (choice_parts bs o)
   choice_shape at bs o = ap (shape.expr s) (sym (expression.rolls-If at bs o)) ∙ choice_rolled at bs o
 
   selection_rolled : (at : ℕ) (v : Expr) (cs : List Case) (o : Option (List Statement))
-      → shape.expr s (roll-Expr (t.Select at v cs o)) ≡ phrase (plain (form.selection at)) (part (shape.expr s v) (case_parts cs o))
+      → shape.expr s (roll-Expr (t.Select at v cs o)) ≡ phrase at (plain form.selection) (part (shape.expr s v) (case_parts cs o))
   selection_rolled at v cs None = rw fold-roll-Expr refl
   selection_rolled at v cs (Some us) = rw fold-roll-Expr refl
 
   pub selection_shape : (at : ℕ) (v : Expr) (cs : List Case) (o : Option (List Statement))
-      → shape.expr s (expression.Select at v cs o) ≡ phrase (plain (form.selection at)) (part (shape.expr s v) (case_parts cs o))
+      → shape.expr s (expression.Select at v cs o) ≡ phrase at (plain form.selection) (part (shape.expr s v) (case_parts cs o))
   selection_shape at v cs o = ap (shape.expr s) (sym (expression.rolls-Select at v cs o)) ∙ selection_rolled at v cs o
 
   abbrev pub loop_of : ℕ → Option Counter → Option Expr → List Statement → Option Expr → Phrase
   loop_of at k c us u =
-      shape.loop at (shape.optional_counter s k) (shape.optional_expr s c) (shape.units Nothing (map (shape.unit s) us)) (shape.optional_expr s u)
+      shape.loop at (walk.optional_counter s k) (walk.optional_expr s c) (shape.units Nothing (map (shape.unit s) us)) (walk.optional_expr s u)
 
   loop_rolled : (at : ℕ) (k : Option Counter) (c : Option Expr) (us : List Statement) (u : Option Expr)
       → shape.unit s (roll-Unit (t.Loop at k c us u)) ≡ Some (loop_of at k c us u)
@@ -91,22 +92,22 @@ module _ (s : Scope) where
   case_labels c = ap (λ (p : List Label × Phrase). p.0) (case_pair c)
 
   pub case_shape : (earlier : List ℤ) (c : Case) (ls' : List Label) (us' : List Statement) → ls' ≡ c.labels → us' ≡ c.units →
-      shape.labels_phrase s earlier ls' ∷ shape.units Open (map (shape.unit s) us') ∷ [] ≡ shape.arms s earlier (shape.case s c ∷ [])
+      walk.labels_phrase s earlier ls' ∷ shape.units Open (map (shape.unit s) us') ∷ [] ≡ shape.arms s earlier (shape.case s c ∷ [])
   case_shape earlier c ls' us' d e =
-      ap (λ (l : List Label). shape.labels_phrase s earlier l ∷ shape.units Open (map (shape.unit s) us') ∷ []) d
-      ∙ ap (λ (l : List Statement). shape.labels_phrase s earlier c.labels ∷ shape.units Open (map (shape.unit s) l) ∷ []) e
+      ap (λ (l : List Label). walk.labels_phrase s earlier l ∷ shape.units Open (map (shape.unit s) us') ∷ []) d
+      ∙ ap (λ (l : List Statement). walk.labels_phrase s earlier c.labels ∷ shape.units Open (map (shape.unit s) l) ∷ []) e
       ∙ sym (ap (λ (p : List Label × Phrase). shape.arms s earlier (p ∷ [])) (case_pair c))
 
   counter_rolled : (n : Name) (from : Option Expr) (l : Limit)
       → shape.counter s (roll-Counter (record { name = n; from = from; limit = l }))
-      ≡ (name Counts n.at s n.text, shape.optional_expr s from, (shape.limit s l).1, (shape.limit s l).0)
+      ≡ (name Counts n.at s n.text, walk.optional_expr s from, (shape.limit s l).1, (shape.limit s l).0)
   counter_rolled n None l = rw fold-roll-Counter refl
   counter_rolled n (Some a) l = rw fold-roll-Counter refl
 
   pub counter_shape : (k : Counter)
       → shape.counter s k ≡ (
         name Counts k.name.at s k.name.text,
-        shape.optional_expr s k.from,
+        walk.optional_expr s k.from,
         (shape.limit s k.limit).1,
         (shape.limit s k.limit).0,
       )
@@ -119,7 +120,7 @@ module _ (s : Scope) where
     pub units_absent : (r : Result Meant Trouble) (o : Option (List Statement)) → o ≡ None → r ≡ Ok Absent → Is r (judged known (units_of o))
     units_absent r o i e =
         subst (λ (w : Option (List Statement)). Is r (judged known (units_of w))) (sym i)
-        (subst (λ (z : Result Meant Trouble). Is z (judged known (leaf form.absent))) (sym e) refl)
+        (subst (λ (z : Result Meant Trouble). Is z (judged known (leaf 0 form.absent))) (sym e) refl)
 
     pub units_written : (r r' : Result Meant Trouble) (o : Option (List Statement)) (us us' : List Statement) → o ≡ Some us → us' ≡ us → r ≡ r'
         → Is r' (judged known (shape.units Open (map (shape.unit s) us'))) → Is r (judged known (units_of o))
@@ -130,33 +131,33 @@ module _ (s : Scope) where
 
   module _ (known : Known) (q : Result Meant Trouble) where
     pub choice_is : (w : Expr) (at : ℕ) (bs bs' : List Branch) (o : Option (List Statement)) → w ≡ expression.If at bs o → bs' ≡ bs
-        → Is q (judged known (phrase (plain (form.choice at)) (choice_parts bs' o))) → Is q (judged known (shape.expr s w))
+        → Is q (judged known (phrase at (plain form.choice) (choice_parts bs' o))) → Is q (judged known (shape.expr s w))
     choice_is w at bs bs' o i e h =
         subst (λ (p : Phrase). Is q (judged known p))
-        (ap (λ (l : List Branch). phrase (plain (form.choice at)) (choice_parts l o)) e ∙ sym (ap (shape.expr s) i ∙ choice_shape at bs o)) h
+        (ap (λ (l : List Branch). phrase at (plain form.choice) (choice_parts l o)) e ∙ sym (ap (shape.expr s) i ∙ choice_shape at bs o)) h
 
     pub selection_is : (w : Expr) (at : ℕ) (v v' : Expr) (cs cs' : List Case) (o : Option (List Statement)) → w ≡ expression.Select at v cs o → v' ≡ v
-        → cs' ≡ cs → Is q (judged known (phrase (plain (form.selection at)) (part (shape.expr s v') (case_parts cs' o)))) → Is q (judged known (shape.expr s w))
+        → cs' ≡ cs → Is q (judged known (phrase at (plain form.selection) (part (shape.expr s v') (case_parts cs' o)))) → Is q (judged known (shape.expr s w))
     selection_is w at v v' cs cs' o i e f h =
         subst (λ (p : Phrase). Is q (judged known p))
-        (ap (λ (x : Expr). phrase (plain (form.selection at)) (part (shape.expr s x) (case_parts cs' o))) e
-        ∙ ap (λ (l : List Case). phrase (plain (form.selection at)) (part (shape.expr s v) (case_parts l o))) f
+        (ap (λ (x : Expr). phrase at (plain form.selection) (part (shape.expr s x) (case_parts cs' o))) e
+        ∙ ap (λ (l : List Case). phrase at (plain form.selection) (part (shape.expr s v) (case_parts l o))) f
         ∙ sym (ap (shape.expr s) i ∙ selection_shape at v cs o)) h
 
     pub cand_is : (w : Expr) (at : ℕ) (l l' r r' : Expr) → w ≡ expression.Cand at l r → l' ≡ l → r' ≡ r
-        → Is q (judged known (pair (form.cand at) (shape.expr s l') (shape.expr s r'))) → Is q (judged known (shape.expr s w))
+        → Is q (judged known (pair at form.cand (shape.expr s l') (shape.expr s r'))) → Is q (judged known (shape.expr s w))
     cand_is w at l l' r r' i e f h =
         subst (λ (p : Phrase). Is q (judged known p))
-        (ap (λ (y : Expr). pair (form.cand at) (shape.expr s y) (shape.expr s r')) e
-        ∙ ap (λ (y : Expr). pair (form.cand at) (shape.expr s l) (shape.expr s y)) f
+        (ap (λ (y : Expr). pair at form.cand (shape.expr s y) (shape.expr s r')) e
+        ∙ ap (λ (y : Expr). pair at form.cand (shape.expr s l) (shape.expr s y)) f
         ∙ sym (ap (shape.expr s) (i ∙ sym (expression.rolls-Cand at l r)) ∙ rw fold-roll-Expr refl)) h
 
     pub cor_is : (w : Expr) (at : ℕ) (l l' r r' : Expr) → w ≡ expression.Cor at l r → l' ≡ l → r' ≡ r
-        → Is q (judged known (pair (form.cor at) (shape.expr s l') (shape.expr s r'))) → Is q (judged known (shape.expr s w))
+        → Is q (judged known (pair at form.cor (shape.expr s l') (shape.expr s r'))) → Is q (judged known (shape.expr s w))
     cor_is w at l l' r r' i e f h =
         subst (λ (p : Phrase). Is q (judged known p))
-        (ap (λ (y : Expr). pair (form.cor at) (shape.expr s y) (shape.expr s r')) e
-        ∙ ap (λ (y : Expr). pair (form.cor at) (shape.expr s l) (shape.expr s y)) f
+        (ap (λ (y : Expr). pair at form.cor (shape.expr s y) (shape.expr s r')) e
+        ∙ ap (λ (y : Expr). pair at form.cor (shape.expr s l) (shape.expr s y)) f
         ∙ sym (ap (shape.expr s) (i ∙ sym (expression.rolls-Cor at l r)) ∙ rw fold-roll-Expr refl)) h
 
     pub loop_is : (w : Statement) (at : ℕ) (k : Option Counter) (c : Option Expr) (us us' : List Statement) (u : Option Expr) → w ≡ statement.Loop at k c us u
@@ -167,35 +168,35 @@ module _ (s : Scope) where
         (ap (λ (l : List Statement). Some (loop_of at k c l u)) e ∙ sym (ap (shape.unit s) i ∙ loop_shape at k c us u)) h
 
     item_rolled : (n : Name) (i : Option Expr)
-        → shape.item s (roll-Item (record { name = n; init = i })) ≡ shape.item_with s n (leaf (form.declares n.at s n.text)) (option_map (shape.expr s) i)
+        → shape.item s (roll-Item (record { name = n; init = i })) ≡ walk.item_with n (leaf n.at (form.declares s n.text)) (option_map (shape.expr s) i)
     item_rolled n None = rw fold-roll-Item refl
     item_rolled n (Some a) = rw fold-roll-Item refl
 
     pub item_is : (i : Item) (o : Option Expr) → i.init ≡ o
-        → Is q (judged known (shape.item_with s i.name (leaf (form.declares i.name.at s i.name.text)) (option_map (shape.expr s) o)))
+        → Is q (judged known (walk.item_with i.name (leaf i.name.at (form.declares s i.name.text)) (option_map (shape.expr s) o)))
         → Is q (judged known (shape.item s i))
     item_is i o e h =
         subst (λ (p : Phrase). Is q (judged known p))
-        (ap (λ (z : Option Expr). shape.item_with s i.name (leaf (form.declares i.name.at s i.name.text)) (option_map (shape.expr s) z)) (sym e)
+        (ap (λ (z : Option Expr). walk.item_with i.name (leaf i.name.at (form.declares s i.name.text)) (option_map (shape.expr s) z)) (sym e)
         ∙ sym (ap (shape.item s) (sym (rolls-Item' (record { name = i.name; init = i.init }))) ∙ item_rolled i.name i.init)) h
 
     pub variables_is : (w : Statement) (at : ℕ) (of : TypePhrase) (xs xs' : List Item) → w ≡ statement.Variables at of xs → xs' ≡ xs
-        → Is q (judged known (phrase (plain (form.declaration at)) (all_of (map (shape.item s) xs')))) → Is q (judged known (shape.written (shape.unit s w)))
+        → Is q (judged known (phrase at (plain form.declaration) (all_of (map (shape.item s) xs')))) → Is q (judged known (shape.written (shape.unit s w)))
     variables_is w at of xs xs' i e h =
         subst (λ (o : Option Phrase). Is q (judged known (shape.written o)))
-        (ap (λ (l : List Item). Some (phrase (plain (form.declaration at)) (all_of (map (shape.item s) l)))) e
+        (ap (λ (l : List Item). Some (phrase at (plain form.declaration) (all_of (map (shape.item s) l)))) e
         ∙ sym (ap (shape.unit s) (i ∙ sym (statement.rolls-Variables at of xs)) ∙ rw fold-roll-Unit refl)) h
 
     pub constants_is : (w : Statement) (at : ℕ) (of : TypePhrase) (xs xs' : List Item) → w ≡ statement.Constants at of xs → xs' ≡ xs
-        → Is q (judged known (phrase (plain (form.declaration at)) (all_of (map (shape.item s) xs')))) → Is q (judged known (shape.written (shape.unit s w)))
+        → Is q (judged known (phrase at (plain form.declaration) (all_of (map (shape.item s) xs')))) → Is q (judged known (shape.written (shape.unit s w)))
     constants_is w at of xs xs' i e h =
         subst (λ (o : Option Phrase). Is q (judged known (shape.written o)))
-        (ap (λ (l : List Item). Some (phrase (plain (form.declaration at)) (all_of (map (shape.item s) l)))) e
+        (ap (λ (l : List Item). Some (phrase at (plain form.declaration) (all_of (map (shape.item s) l)))) e
         ∙ sym (ap (shape.unit s) (i ∙ sym (statement.rolls-Constants at of xs)) ∙ rw fold-roll-Unit refl)) h
 
 -- An expression that stands alone is placed as it is itself.
 pub value_place : (s : Scope) (u : Statement) (e : Expr) → u ≡ statement.Value e → form.place (shape.expr s e) ≡ form.place (shape.written (shape.unit s u))
 value_place s u e i =
-    let is : shape.unit s u ≡ Some (form.around form.statement (shape.expr s e)) =
+    let is : shape.unit s u ≡ Some (form.around (form.place (shape.expr s e)) form.statement (shape.expr s e)) =
     ap (shape.unit s) (i ∙ sym (statement.rolls-Value e)) ∙ rw fold-roll-Unit refl in
     sym (ap (λ (o : Option Phrase). form.place (shape.written o)) is)

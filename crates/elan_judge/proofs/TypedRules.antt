@@ -10,10 +10,10 @@ use Rattle.elan_scope.specs.declared.heading.Sort.TheVariants.{Procedure, Operat
 use Rattle.elan_scope.specs.Scope.{Callable}
 use Rattle.elan_meant.specs.Operands.{chosen, becomes}
 use Rattle.elan_scope.specs.Phrase as form
-use Rattle.elan_scope.specs.Phrase.{Form, asking, Plain, plain, Phrase, phrase, Parts, none, part}
+use Rattle.elan_scope.specs.Phrase.{Form, Plain, plain, Phrase, phrase, Parts, none, part}
 use Rattle.elan_meant.specs.Parts as p
 use Rattle.value_rules.specs.Calls as r
-use Rattle.choice_rules.specs.Choices as c
+use Rattle.choice_rules.specs.walks.Steps as walk
 use Rattle.elan_rules.specs.Rules as all
 use Rattle.elan_rules.specs.Rules.{rule, ruled}
 use Rattle.elan_rules.specs.Meaning.{judged, judged_all}
@@ -53,53 +53,53 @@ module _ (here : Stand) (s : Scope) (k : Known) (fits : Fits here s k) where
       assignment_by at (scope.is_known s Operator becomes (length ms)) m n (chosen s Operator becomes ms) g i
       (applied_good here s k fits at Operator becomes ms (g, (i, tt)))
 
-  plain_rules : (f : Plain) (ms : List Meant) → Names s (plain f) → AllGood ms → Gives Good (rule f ms)
-  plain_rules form.absent ms i g = tt
-  plain_rules (form.not_built at) ms i g = tt
-  plain_rules (form.number at n) ms i g = number_good here at n
-  plain_rules (form.truth at b) ms i g = truth_is here b
-  plain_rules (form.applied at z sort x) ms i g = in_scope (λ y. r.applied at y sort x ms) z i (applied_good here s k fits at sort x ms g)
-  plain_rules (form.bracket at) ms i g = bracketed_good here at (p.nth ms 0) (good_part ms 0 g)
-  plain_rules (form.cand at) ms i g = cand_good here at (p.nth ms 0) (p.nth ms 1) (good_part ms 0 g) (good_part ms 1 g)
-  plain_rules (form.cor at) ms i g = cor_good here at (p.nth ms 0) (p.nth ms 1) (good_part ms 0 g) (good_part ms 1 g)
-  plain_rules (form.choice at) ms i g = choice_good here at ms g
-  plain_rules (form.label at earlier n) ms i g = on_if Good (c.is_in earlier n) _ _ (λ e. tt) (λ e. tt)
-  plain_rules (form.label_name at z x) ms i g = label_named_good here at (scope.is_known z Procedure x 0) (scope.find z x)
-  plain_rules form.labels ms i g = tt
-  plain_rules (form.selection at) ms i g = selected_good here at (p.nth ms 0) (drop 1 ms) (good_part ms 0 g) (ty.rest_good here ms g)
-  plain_rules (form.declares at z x) ms i g = in_scope (λ y. r.declared at (scope.find_own y x)) z i (declared_good here s k fits at x)
-  plain_rules (form.initial at) ms i g = initial_good here at (p.nth ms 0) (p.nth ms 1) (good_part ms 0 g) (good_part ms 1 g)
-  plain_rules (form.declaration at) ms i g = ty.unit_typed here (p.actions_of ms) (ty.actions_of_typed here ms g)
-  plain_rules form.statement ms i g = alone_good here (p.nth ms 0) (good_part ms 0 g)
-  plain_rules (form.assignment at z) ms i g =
+  plain_rules : (at : ℕ) (f : Plain) (ms : List Meant) → Names s (plain f) → AllGood ms → Gives Good (rule at f ms)
+  plain_rules at form.absent ms i g = tt
+  plain_rules at form.not_built ms i g = tt
+  plain_rules at (form.number n) ms i g = number_good here at n
+  plain_rules at (form.truth b) ms i g = truth_is here b
+  plain_rules at (form.applied z sort x) ms i g = in_scope (λ y. r.applied at y sort x ms) z i (applied_good here s k fits at sort x ms g)
+  plain_rules at form.bracket ms i g = bracketed_good here at (p.nth ms 0) (good_part ms 0 g)
+  plain_rules at form.cand ms i g = cand_good here at (p.nth ms 0) (p.nth ms 1) (good_part ms 0 g) (good_part ms 1 g)
+  plain_rules at form.cor ms i g = cor_good here at (p.nth ms 0) (p.nth ms 1) (good_part ms 0 g) (good_part ms 1 g)
+  plain_rules at form.choice ms i g = choice_good here at ms g
+  plain_rules at (form.label earlier n) ms i g = on_if Good (walk.is_in earlier n) _ _ (λ e. tt) (λ e. tt)
+  plain_rules at (form.label_name z x) ms i g = label_named_good here at (scope.is_known z Procedure x 0) (scope.find z x)
+  plain_rules at form.labels ms i g = tt
+  plain_rules at form.selection ms i g = selected_good here at (p.nth ms 0) (drop 1 ms) (good_part ms 0 g) (ty.rest_good here ms g)
+  plain_rules at (form.declares z x) ms i g = in_scope (λ y. r.declared at (scope.find_own y x)) z i (declared_good here s k fits at x)
+  plain_rules at form.initial ms i g = initial_good here at (p.nth ms 0) (p.nth ms 1) (good_part ms 0 g) (good_part ms 1 g)
+  plain_rules at form.declaration ms i g = ty.unit_typed here (p.actions_of ms) (ty.actions_of_typed here ms g)
+  plain_rules at form.statement ms i g = alone_good here (p.nth ms 0) (good_part ms 0 g)
+  plain_rules at (form.assignment z) ms i g =
       in_scope (λ y. all.assignment at y (p.nth ms 0) (p.nth ms 1)) z i (assignment_good at (p.nth ms 0) (p.nth ms 1) (good_part ms 0 g) (good_part ms 1 g))
-  plain_rules (form.loop at) ms i g = loop_good here at (p.nth ms 0) (p.nth ms 1) (p.nth ms 2) (good_part ms 0 g) (good_part ms 1 g) (good_part ms 2 g)
-  plain_rules (form.count at w) ms i g =
+  plain_rules at form.loop ms i g = loop_good here at (p.nth ms 0) (p.nth ms 1) (p.nth ms 2) (good_part ms 0 g) (good_part ms 1 g) (good_part ms 2 g)
+  plain_rules at (form.count w) ms i g =
       counted_good here at w (p.nth ms 0) (p.nth ms 1) (p.nth ms 2) (p.nth ms 3) (p.nth ms 4) (p.nth ms 5) (good_part ms 0 g) (good_part ms 1 g)
       (good_part ms 2 g) (good_part ms 3 g) (good_part ms 4 g) (good_part ms 5 g)
-  plain_rules form.without_value ms i g = without_value_good here (p.nth ms 0) (good_part ms 0 g)
-  plain_rules (form.must_deliver at t) ms i g = must_deliver_good here at t (p.nth ms 0) (good_part ms 0 g)
-  plain_rules form.units ms i g = in_order_good here ms g
-  plain_rules (form.heading at z sort x ps missing) ms i g = absurd i
-  plain_rules (form.body o q) ms i g = absurd i
-  plain_rules form.routine ms i g = absurd i
-  plain_rules (form.refinement o) ms i g = absurd i
-  plain_rules form.level ms i g = absurd i
+  plain_rules at form.without_value ms i g = without_value_good here (p.nth ms 0) (good_part ms 0 g)
+  plain_rules at (form.must_deliver t) ms i g = must_deliver_good here at t (p.nth ms 0) (good_part ms 0 g)
+  plain_rules at form.units ms i g = in_order_good here ms g
+  plain_rules at (form.heading z sort x ps missing) ms i g = absurd i
+  plain_rules at (form.body o q) ms i g = absurd i
+  plain_rules at form.routine ms i g = absurd i
+  plain_rules at (form.refinement o) ms i g = absurd i
+  plain_rules at form.level ms i g = absurd i
 
-  rules : (f : Form) (ms : List Meant) → Names s f → AllGood ms → MayGive Good (ruled k f ms)
-  rules (asking (form.named u at z x)) ms i g =
+  rules : (at : ℕ) (f : Form) (ms : List Meant) → Names s f → AllGood ms → MayGive Good (ruled k at f ms)
+  rules at (form.named u z x) ms i g =
       subst (λ (y : Scope). MayGive Good (r.named k u at y x (scope.find y x))) (sym i) (named_good here s k fits u at x)
-  rules (asking (form.leave at z x)) ms i g =
+  rules at (form.leave z x) ms i g =
       on_told Good _ (in_scope (λ y. r.leaving k at (scope.left y x) (p.nth ms 0)) z i (leaving_good here s k fits at x (p.nth ms 0) (good_part ms 0 g)))
-  rules (plain f) ms i g = on_told Good (rule f ms) (plain_rules f ms i g)
+  rules at (plain f) ms i g = on_told Good (rule at f ms) (plain_rules at f ms i g)
 
   -- ---- all phrases
 
   mutual
     pub good : (p : Phrase) (m : Meant) → InScope s p → judged k p ≡ gives m → Good m
-    good (phrase f ps) m i e =
-        let b = bind_gives (judged_all k ps) (ruled k f) m e in
-        subst (λ (q : Ruled Meant). MayGive Good q) b.2 (rules f b.0 i.0 (all_good ps b.0 i.1 b.1))
+    good (phrase at f ps) m i e =
+        let b = bind_gives (judged_all k ps) (ruled k at f) m e in
+        subst (λ (q : Ruled Meant). MayGive Good q) b.2 (rules at f b.0 i.0 (all_good ps b.0 i.1 b.1))
 
     pub all_good : (ps : Parts) (ms : List Meant) → AllIn s ps → judged_all k ps ≡ gives ms → AllGood ms
     all_good none ms i e = subst AllGood (gives_is [] ms e) tt

@@ -8,6 +8,7 @@ ghost use Rattle.elan_rules.specs.Meaning.{judged, judged_all};
 ghost use Rattle.elan_scope.specs.Answer.{Is};
 ghost use Rattle.elan_meant.specs.walks.Arity.{triple};
 ghost use Rattle.elan_judge.specs.Shape as shape;
+ghost use Rattle.elan_judge.specs.walks.Steps as walk;
 
 use crate::label::{add_numbers, judge_labels};
 use crate::place::unit_place;
@@ -16,9 +17,9 @@ use choice_rules::choice::choice;
 use choice_rules::selection::selected;
 use elan_meant::meant::Meant;
 use elan_meant::row::{Judged, Row};
-use elan_rows::{before, let_go, none, one, pair, three, with};
+use elan_meant::together::{Three, before, let_go, none, one, pair, three, with};
 use elan_rules::whole::{
-    Three, assignment_phrase, cand_phrase, cor_phrase, count_phrase, initial_phrase, loop_phrase,
+    assignment_phrase, cand_phrase, cor_phrase, count_phrase, initial_phrase, loop_phrase,
 };
 use elan_scope::delivery::Delivery;
 use elan_scope::heading::Sort;
@@ -176,7 +177,7 @@ fn judge_exprs(alloc: Global, known: &Known, scope: &Scope, exprs: &[Expr]) -> R
 
 #[cycle(judge)]
 fn judge_optional(alloc: Global, known: &Known, scope: &Scope, expr: &Option<Expr>) -> Judged
-    ensures { Is result (judged known.now (shape.optional_expr scope.now expr.now)) }
+    ensures { Is result (judged known.now (walk.optional_expr scope.now expr.now)) }
 {
     match expr {
         None => Ok(Meant::Absent),
@@ -270,7 +271,7 @@ fn judge_items(alloc: Global, known: &Known, scope: &Scope, items: &[Item]) -> R
 
 #[cycle(judge)]
 fn judge_declaration(alloc: Global, known: &Known, scope: &Scope, items: &[Item]) -> Judged
-    ensures { (at : ℕ) → Is result (judged known.now (row (form.declaration at) (map (shape.item scope.now) items.now))) }
+    ensures { (at : ℕ) → Is result (judged known.now (row at form.declaration (map (shape.item scope.now) items.now))) }
 {
     let items = judge_items(alloc, known, scope, items)?;
     let meant = declaration(alloc, items)?;
@@ -383,7 +384,7 @@ fn add_role(
     unit: &Unit,
 ) -> Row
     ensures { (done : List Phrase) → Is row (judged_all known.now (all_of done)) → Is result
-        (judged_all known.now (all_of (done ++ shape.in_role wanted (shape.written (shape.unit scope.now unit.now))))) }
+        (judged_all known.now (all_of (done ++ walk.in_role wanted (shape.written (shape.unit scope.now unit.now))))) }
 {
     match wanted {
         None => row,

@@ -7,6 +7,7 @@ ghost use Rattle.elan_scope.specs.Phrase.{row};
 ghost use Rattle.elan_rules.specs.Meaning.{judged};
 ghost use Rattle.elan_scope.specs.Answer.{Is, Gives};
 ghost use Rattle.elan_judge.specs.Shape as shape;
+ghost use Rattle.elan_judge.specs.walks.Steps as walk;
 
 use choice_rules::selection::{label_is, label_named};
 use elan_meant::meant::Meant;
@@ -30,7 +31,7 @@ fn add_number(out: &mut List<i16>, label: &Label) -> Result<(), NoMemory>
 
 /// Adds the numbers of labels.
 pub fn add_numbers(out: &mut List<i16>, labels: &[Label]) -> Result<(), NoMemory>
-    ensures { OnOk result (out.new ≡ out.old ++ shape.numbers labels.now) }
+    ensures { OnOk result (out.new ≡ out.old ++ walk.numbers labels.now) }
 {
     for label in labels {
         add_number(out, label)?;
@@ -60,7 +61,7 @@ pub fn judge_labels(
     earlier: &[i16],
     labels: &[Label],
 ) -> Judged
-    ensures { Is result (judged known.now (row form.labels (shape.label_phrases scope.now earlier.now labels.now))) }
+    ensures { Is result (judged known.now (row 0 form.labels (shape.label_phrases scope.now earlier.now labels.now))) }
 {
     let mut numbers = List::new(alloc);
     let mut before = List::from_slice(alloc, earlier)?;

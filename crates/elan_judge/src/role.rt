@@ -3,13 +3,14 @@
 ghost use Rattle.std.specs.Prelude.{◌≡◌, map};
 ghost use Rattle.elan_scope.specs.declared.scope.Scope.{Scope};
 ghost use Rattle.elan_judge.specs.Shape as shape;
+ghost use Rattle.elan_judge.specs.walks.Steps as walk;
 
 use elan_scope::delivery::Delivery;
 use elan_tree::Unit;
 
 /// Whether a unit is empty.
 pub fn is_empty(unit: &Unit) -> bool
-    ensures { (s : Scope) → result ≡ shape.is_empty (shape.unit s unit.now) }
+    ensures { (s : Scope) → result ≡ walk.is_empty (shape.unit s unit.now) }
 {
     match unit {
         Unit::Empty => true,
@@ -31,7 +32,7 @@ pub fn all_empty(units: &[Unit]) -> bool
 
 /// What a unit before these is asked for, if it is not empty, where their list has to deliver this.
 pub fn asked(wanted: Delivery, unit: &Unit, rest: &[Unit]) -> Option<Delivery>
-    ensures { (s : Scope) → result ≡ shape.asked wanted (shape.unit s unit.now) (map (shape.unit s) rest.now) }
+    ensures { (s : Scope) → result ≡ walk.asked wanted (shape.unit s unit.now) (map (shape.unit s) rest.now) }
 {
     if is_empty(unit) {
         None

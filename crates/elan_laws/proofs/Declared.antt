@@ -1,5 +1,7 @@
 -- The names that units declare are found, where their scope has what they declare.
 use Rattle.std.proofs.Common.{◌≡◌, ℤ, ℕ, Bool, true, false, ◌||◌, List, [], ◌∷◌, ◌++◌, map, Option, Some, None, refl}
+use Rattle.std.specs.List.{list_any}
+use Rattle.std.specs.Prelude.{flat_map}
 use Rattle.std.specs.Option.{is_some}
 use Rattle.elan_tree.specs.declared.written_type.Name.{Name}
 use Rattle.elan_tree.specs.declared.written_type.Label.{Label}
@@ -22,6 +24,7 @@ use Rattle.elan_scope.specs.declared.scope.Scope.{Scope}
 use Rattle.elan_scope.specs.Phrase as form
 use Rattle.elan_scope.specs.Phrase.{Phrase, all_of}
 use Rattle.elan_judge.specs.Shape as shape
+use Rattle.elan_judge.specs.walks.Steps as walk
 use Rattle.elan_tree.specs.declared.written_type.TypePhrase.{TypePhrase}
 use Rattle.elan_tree.specs.declared.written_type.TypePhrase.TheVariants as type
 use Rattle.elan_walk.specs.declared.node.Held.{Held}
@@ -31,6 +34,8 @@ use Rattle.elan_walk.specs.Nodes.{Node, other, sign, of_type, item}
 use Rattle.elan_scope.specs.declared.scope.Usage.TheVariants.{Counter as Counts}
 use Rattle.elan_unbuilt.specs.NotBuilt as built
 use Rattle.elan_levels.specs.Declarations as d
+use Rattle.elan_unbuilt.specs.Types.{written_type}
+use Rattle.std.specs.Prelude.{is_none}
 use Rattle.elan_scope.specs.declared.scope.Entry.{Entry}
 use Rattle.elan_scope.specs.Scope.{find, find_own}
 use Rattle.elan_laws.specs.Served.{HasOdd, HasBody, AreServed, AllServed}
@@ -64,23 +69,23 @@ module _ (s : Scope) where
 
   -- These nodes are built, and the scope has what they declare.
   abbrev pub Fine : List Node → Type 0
-  Fine ns = (built.any ns ≡ false) × AllNamed (d.all_declared ns)
+  Fine ns = (list_any built.node ns ≡ false) × AllNamed (flat_map d.declared ns)
 
   split : (xs ys : List Node) → Fine (xs ++ ys) → Fine xs × Fine ys
   split [] ys h = ((refl, tt), h)
   split (x ∷ xs) ys h =
-      let b = neither (built.node x) (built.any (xs ++ ys)) h.0 in
-      let n = named_split (d.declared x) (d.all_declared (xs ++ ys)) h.1 in
+      let b = neither (built.node x) (list_any built.node (xs ++ ys)) h.0 in
+      let n = named_split (d.declared x) (flat_map d.declared (xs ++ ys)) h.1 in
       let q = split xs ys (b.1, n.1) in
-      ((both_false (built.node x) (built.any xs) b.0 q.0.0, named_join (d.declared x) (d.all_declared xs) n.0 q.0.1), q.1)
+      ((both_false (built.node x) (list_any built.node xs) b.0 q.0.0, named_join (d.declared x) (flat_map d.declared xs) n.0 q.0.1), q.1)
 
   rest : (x : Node) (xs : List Node) → Fine (x ∷ xs) → Fine xs
   rest x xs h = let q = split (x ∷ []) xs h in q.1
 
-  is_built : (of : TypePhrase) (ns : List Node) → Fine (of_type of ∷ ns) → built.written_type of ≡ false
-  is_built of ns h = let b = neither (built.written_type of) (built.any ns) h.0 in b.0
+  is_built : (of : TypePhrase) (ns : List Node) → Fine (of_type of ∷ ns) → is_none (written_type of) ≡ false
+  is_built of ns h = let b = neither (is_none (written_type of)) (list_any built.node ns) h.0 in b.0
 
-  item_named : (h : Held) (of : TypePhrase) (n : Name) (es : List Entry) → built.written_type of ≡ false → AllNamed (d.declared (item h of n) ++ es)
+  item_named : (h : Held) (of : TypePhrase) (n : Name) (es : List Entry) → is_none (written_type of) ≡ false → AllNamed (d.declared (item h of n) ++ es)
       → Named n.text
   item_named Variable (type.Int a) n es b g = g.0
   item_named Variable (type.Bool a) n es b g = g.0
@@ -124,7 +129,7 @@ module _ (s : Scope) where
     K k = Fine (nodes.in_counter k) → CounterIn (shape.counter s k)
 
     abbrev ItemIn : Phrase → nodes.Declares → Type 0
-    ItemIn p ns = (h : Held) (of : TypePhrase) → built.written_type of ≡ false → Fine (ns h of) → AreServed p
+    ItemIn p ns = (h : Held) (of : TypePhrase) → is_none (written_type of) ≡ false → Fine (ns h of) → AreServed p
 
     abbrev I : Item → Type 0
     I i = ItemIn (shape.item s i) (nodes.in_item i)
@@ -146,16 +151,16 @@ module _ (s : Scope) where
         let q = split (nodes.in_branch b.0) (nodes.all (map nodes.in_branch (map fst bs))) h in
         let p = b.1 q.0 in (p.0, (p.1, branches_in bs q.1))
 
-    items_in : (a : Held) (of : TypePhrase) (is : List ((i : Item) × I i)) → built.written_type of ≡ false
-        → Fine (nodes.all_items a of (map nodes.in_item (map fst is))) → AllServed (all_of (map (shape.item s) (map fst is)))
+    items_in : (a : Held) (of : TypePhrase) (is : List ((i : Item) × I i)) → is_none (written_type of) ≡ false
+        → Fine (flat_map (λ (i : nodes.Declares). i a of) (map nodes.in_item (map fst is))) → AllServed (all_of (map (shape.item s) (map fst is)))
     items_in a of [] b h = tt
     items_in a of (i ∷ is) b h =
-        let q = split (nodes.in_item i.0 a of) (nodes.all_items a of (map nodes.in_item (map fst is))) h in (i.1 a of b q.0, items_in a of is b q.1)
+        let q = split (nodes.in_item i.0 a of) (flat_map (λ (i : nodes.Declares). i a of) (map nodes.in_item (map fst is))) h in (i.1 a of b q.0, items_in a of is b q.1)
 
     declared_in : (a : Held) (of : TypePhrase) (is : List ((i : Item) × I i))
-        → Fine (of_type of ∷ nodes.all_items a of (map nodes.in_item (map fst is))) → AllServed (all_of (map (shape.item s) (map fst is)))
+        → Fine (of_type of ∷ flat_map (λ (i : nodes.Declares). i a of) (map nodes.in_item (map fst is))) → AllServed (all_of (map (shape.item s) (map fst is)))
     declared_in a of is h =
-        let ns = nodes.all_items a of (map nodes.in_item (map fst is)) in
+        let ns = flat_map (λ (i : nodes.Declares). i a of) (map nodes.in_item (map fst is)) in
         items_in a of is (is_built of ns h) (rest (of_type of) ns h)
 
     role_in : (d : Delivery) (p : Phrase) → AreServed p → AreServed (shape.role d p)
@@ -195,7 +200,7 @@ module _ (s : Scope) where
     arms_in ns (c ∷ cs) h =
         let q = split (nodes.in_case c.0) (nodes.all (map nodes.in_case (map fst cs))) h in
         let ls = (shape.case s c.0).0 in
-        ((tt, labels_in ns ls), (c.1 q.0, arms_in (ns ++ shape.numbers ls) cs q.1))
+        ((tt, labels_in ns ls), (c.1 q.0, arms_in (ns ++ walk.numbers ls) cs q.1))
 
     branches_odd : (o : Phrase) (bs : List ((b : Branch) × B b)) → HasOdd (all_of (shape.branches (map (shape.branch s) (map fst bs)) ++ o ∷ []))
     branches_odd o [] = tt
@@ -203,12 +208,12 @@ module _ (s : Scope) where
 
     arms_odd : (o : Phrase) (ns : List ℤ) (cs : List ((c : Case) × C c)) → HasOdd (all_of (shape.arms s ns (map (shape.case s) (map fst cs)) ++ o ∷ []))
     arms_odd o ns [] = tt
-    arms_odd o ns (c ∷ cs) = arms_odd o (ns ++ shape.numbers (shape.case s c.0).0) cs
+    arms_odd o ns (c ∷ cs) = arms_odd o (ns ++ walk.numbers (shape.case s c.0).0) cs
 
     -- ---- what may be left out
 
     abbrev May : Option ((e : Expr) × E e) → Phrase
-    May None = form.leaf form.absent
+    May None = form.leaf 0 form.absent
     May (Some e) = shape.expr s e.0
 
     abbrev may_nodes : Option ((e : Expr) × E e) → List Node
@@ -220,7 +225,7 @@ module _ (s : Scope) where
     may_in (Some e) h = e.1 h
 
     abbrev Other : Option (List ((u : Statement) × U u)) → Phrase
-    Other None = form.leaf form.absent
+    Other None = form.leaf 0 form.absent
     Other (Some us) = shape.units Open (map (shape.unit s) (map fst us))
 
     abbrev other_nodes : Option (List ((u : Statement) × U u)) → List Node
@@ -280,10 +285,10 @@ module _ (s : Scope) where
     expr_in (t.Procedure at n) h = (tt, tt)
     expr_in (t.Concr at a) h = (tt, tt)
     expr_in (t.Bracket at a) h = (tt, (a.1 h, tt))
-    expr_in (t.If at branches None) h = (branches_odd (form.leaf form.absent) branches, choice_in branches None h)
+    expr_in (t.If at branches None) h = (branches_odd (form.leaf 0 form.absent) branches, choice_in branches None h)
     expr_in (t.If at branches (Some us)) h =
         (branches_odd (shape.units Open (map (shape.unit s) (map fst us))) branches, choice_in branches (Some us) h)
-    expr_in (t.Select at of cases None) h = (arms_odd (form.leaf form.absent) [] cases, selection_in of cases None h)
+    expr_in (t.Select at of cases None) h = (arms_odd (form.leaf 0 form.absent) [] cases, selection_in of cases None h)
     expr_in (t.Select at of cases (Some us)) h =
         (arms_odd (shape.units Open (map (shape.unit s) (map fst us))) [] cases, selection_in of cases (Some us) h)
     expr_in (t.Index at of index) h = (tt, tt)
@@ -389,7 +394,7 @@ module _ (s : Scope) where
     item_by : (n : Name) (init : Option ((e : Expr) × E e)) → ItemLayer (record { name = n; init = init })
     item_by n None = λ a of b h. (item_named a of n [] b h.1, tt)
     item_by n (Some e) = λ a of b h.
-        (tt, ((item_named a of n (d.all_declared (nodes.in_expr e.0)) b h.1, tt), (e.1 (rest (item a of n) (nodes.in_expr e.0) h), tt)))
+        (tt, ((item_named a of n (flat_map d.declared (nodes.in_expr e.0)) b h.1, tt), (e.1 (rest (item a of n) (nodes.in_expr e.0) h), tt)))
 
     item_in : (y : Below Item-F) → ItemLayer y
     item_in y = item_by y.name y.init

@@ -14,10 +14,9 @@ use Rattle.elan_scope.specs.Phrase.{Phrase}
 use Rattle.elan_scope.specs.Ruled.{Ruled, gives, breaks, hangs}
 use Rattle.elan_meant.specs.declared.meant.Meant.{Meant}
 use Rattle.elan_rules.specs.Meaning.{judged}
-use Rattle.elan_rules.proofs.First.{judged_of}
 use Rattle.elan_levels.specs.Bodies.{headings}
-use Rattle.elan_check.specs.Level.{level_in, level_bodies}
-use Rattle.elan_check.specs.Refinements.{delivery_of, last_unit, outcome, unit_delivery, known_after}
+use Rattle.elan_check.specs.Level.{level_in, text}
+use Rattle.elan_check.specs.Refinements.{bodies_within, delivery_of, last_unit, outcome, unit_delivery, known_after}
 use Rattle.elan_check.proofs.Inferred.{Below, same_meaning}
 use Rattle.elan_check.proofs.Settled.{not_open, from, told_found, open_last}
 use Rattle.elan_laws.specs.Settled.{Delivers, Settles, IsSettled}
@@ -50,11 +49,11 @@ module _ (hs : List Heading) (us : List Phrase) (i : ℕ) (h : Heading) (u : Phr
   -- what is found out in some round, as far as anything is
   found : (j : Known) (o : Option Phrase) (d : Delivery) → Below j k → d ≡ unit_delivery j o → (d ≡ Open → ⊥) → Delivers k o d
   found j None d b e f = e
-  found j (Some p) d b e f = λ m g. e ∙ same_outcome j p m (judged j p) b refl (judged_of k p m g) (λ q. f (e ∙ q))
+  found j (Some p) d b e f = λ m g. e ∙ same_outcome j p m (judged j p) b refl g (λ q. f (e ∙ q))
 
   unknown : (o : Option Phrase) (d : Delivery) → d ≡ Open → unit_delivery k o ≡ Open → Delivers k o d
   unknown None d e g = e ∙ sym g
-  unknown (Some p) d e g = λ m w. absurd (not_open m (sym (ap outcome (judged_of k p m w)) ∙ g))
+  unknown (Some p) d e g = λ m w. absurd (not_open m (sym (ap outcome w) ∙ g))
 
   refinement_settles : says h.what ≡ Open → Delivers k (last_unit u) (delivery_at k i)
   refinement_settles untold =
@@ -85,4 +84,4 @@ module _ (hs : List Heading) (us : List Phrase) (i : ℕ) (h : Heading) (u : Phr
   settles (Refinement home) e = refinement_settles (ap says e)
 
 pub settled : (t : Tree) → IsSettled t
-settled t = λ n h u has does. settles (headings (level_in t)) (level_bodies (level_in t)) n h u has does h.what refl
+settled t = λ n h u has does. settles (headings (level_in t)) (bodies_within (text t)) n h u has does h.what refl

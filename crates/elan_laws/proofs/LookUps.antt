@@ -1,6 +1,9 @@
 -- What is declared is found, and a refinement that is found is a body.
 use Rattle.std.proofs.Common.{◌≡◌, ℕ, ◌+◌, Bool, true, false, ◌&&◌, if◌then◌else◌, List, [], ◌∷◌, ◌++◌, length, Option, Some}
+use Rattle.elan_scope.specs.declared.scope.Denotes.TheVariants as denotes
+use Rattle.std.specs.Prelude.{flat_map, option_map}
 use Rattle.std.proofs.Common.{None, refl, sym, ap, subst, ◌∙◌, ◌⊎◌, inl, inr}
+use Rattle.std.specs.Prelude.{option_and_then, slice_get}
 use Rattle.std.specs.Option.{is_some}
 use Rattle.std.specs.Str.{bytes_eq}
 use Rattle.std.proofs.lemmas.Slice.Eq.{bytes_eq-Decides}
@@ -18,14 +21,18 @@ use Rattle.elan_scope.specs.declared.scope.Scope.{Scope}
 use Rattle.elan_scope.specs.declared.scope.Within.{Within}
 use Rattle.elan_scope.specs.declared.scope.Home.{Home}
 use Rattle.elan_scope.specs.declared.heading.Heading.{Heading}
-use Rattle.elan_scope.specs.Scope.{held, first_from, find, find_in, find_first, layers_in, outer_layers, found_in, or_else, from_inside}
-use Rattle.elan_scope.specs.Scope.{first_heading, first_heading_from, is_refinement, is_refined, number_in, number_of, refinement_in}
+use Rattle.std.specs.Option.{option_or}
+use Rattle.elan_scope.specs.Scope.{held, first_from, find, find_in, found, found_in, from_inside}
+use Rattle.elan_scope.proofs.Layers.{layers_in, outer_layers}
+use Rattle.elan_scope.proofs.Named.{first_heading_from}
+use Rattle.elan_scope.specs.Scope.{first_heading, is_refinement, is_refined, number_in, number_of, refinement_in}
 use Rattle.elan_scope.specs.declared.scope.Found.{Found}
 use Rattle.elan_scope.specs.declared.scope.Home.TheVariants.{Level as of_level, Routine as of_routine}
 use Rattle.elan_scope.specs.declared.heading.What.TheVariants as what
 use Rattle.elan_walk.specs.declared.node.Held.TheVariants.{Variable, Constant}
 use Rattle.std.proofs.lemmas.Bool.Decides.{Decides-eqb}
 use Rattle.elan_levels.specs.Declarations as d
+use Rattle.elan_unbuilt.specs.Types.{written_type}
 use Rattle.elan_levels.specs.Bodies as b
 use Rattle.elan_laws.specs.Served.{HasBody}
 use Rattle.elan_types.specs.declared.core_phrase.Parameter.{Parameter}
@@ -86,7 +93,7 @@ abbrev pub own : Scope → List Entry
 own z = names_in z.routine z.level
 
 named_by : (w : Option Within) (es : List Entry) (hs : List Heading) (x : List ℕ) → Has (names_in w es) x
-    → is_some (find_first x (layers_in w (outer_layers es hs))) ≡ true
+    → is_some (option_and_then (found x) (slice_get (layers_in w (outer_layers es hs)) 0)) ≡ true
 named_by None es hs x h = found_is _ (first_from 0 es x) (first_is 0 es x h)
 named_by (Some w) es hs x h = found_is _ (first_from 0 w.names x) (first_is 0 w.names x h)
 
@@ -156,7 +163,7 @@ leads_found z x None h = tt
 leads_found z x (Some f) h =
     λ r. subst (λ (c : Bool). is_some (if c then number_in (first_heading (is_refined (number_of z.routine) x) z.headings) else None) ≡ true) (sym r) (h r)
 
-or_leads : (z : Scope) (x : List ℕ) (o p : Option Found) → Leads z x o → Leads z x p → Leads z x (or_else o p)
+or_leads : (z : Scope) (x : List ℕ) (o p : Option Found) → Leads z x o → Leads z x p → Leads z x (option_or o p)
 or_leads z x None p h g = g
 or_leads z x (Some f) p h g = h
 
@@ -191,7 +198,7 @@ find_leads : (z : Scope) (x : List ℕ) (w : Option Within) (es : List Entry) (h
     → Leads z x (find_in x (layers_in w (outer_layers es hs)))
 find_leads z x None es hs h = or_leads z x (found_in of_level (first_from 0 es x)) None (found_leads z x of_level 0 es h) tt
 find_leads z x (Some w) es hs h =
-    or_leads z x (found_in of_routine (first_from 0 w.names x)) (or_else (from_inside (found_in of_level (first_from 0 es x))) None)
+    or_leads z x (found_in of_routine (first_from 0 w.names x)) (option_or (from_inside (found_in of_level (first_from 0 es x))) None)
     (found_leads z x of_routine 0 w.names h)
     (or_leads z x (from_inside (found_in of_level (first_from 0 es x))) None (inside_leads z x (found_in of_level (first_from 0 es x))) tt)
 
@@ -207,28 +214,28 @@ bodies_of z h = λ x. has_body z x (find z x) (leads_found z x (find z x) (find_
 
 -- ---- declarations that are refinements
 
-variable_leads : (z : Scope) (n : Name) (o : Option ElanType) → AllLead z (d.entry n (d.variables o))
+variable_leads : (z : Scope) (n : Name) (o : Option ElanType) → AllLead z (d.entry n (option_map denotes.Variable o))
 variable_leads z n None = tt
 variable_leads z n (Some t) = (λ r. absurd cc, tt)
 
-constant_leads : (z : Scope) (n : Name) (o : Option ElanType) → AllLead z (d.entry n (d.constants o))
+constant_leads : (z : Scope) (n : Name) (o : Option ElanType) → AllLead z (d.entry n (option_map denotes.Constant o))
 constant_leads z n None = tt
 constant_leads z n (Some t) = (λ r. absurd cc, tt)
 
 node_leads : (z : Scope) (n : Node) → AllLead z (d.declared n)
-node_leads z (nodes.item Variable of n) = variable_leads z n (d.written_type of)
-node_leads z (nodes.item Constant of n) = constant_leads z n (d.written_type of)
+node_leads z (nodes.item Variable of n) = variable_leads z n (written_type of)
+node_leads z (nodes.item Constant of n) = constant_leads z n (written_type of)
 node_leads z (nodes.alone n) = tt
 node_leads z (nodes.other n) = tt
 node_leads z (nodes.sign o) = tt
 node_leads z (nodes.of_type of) = tt
 node_leads z nodes.unbuilt = tt
 
-pub nodes_lead : (z : Scope) (ns : List Node) → AllLead z (d.all_declared ns)
+pub nodes_lead : (z : Scope) (ns : List Node) → AllLead z (flat_map d.declared ns)
 nodes_lead z [] = tt
-nodes_lead z (n ∷ ns) = lead_append z (d.declared n) (d.all_declared ns) (node_leads z n) (nodes_lead z ns)
+nodes_lead z (n ∷ ns) = lead_append z (d.declared n) (flat_map d.declared ns) (node_leads z n) (nodes_lead z ns)
 
-named_lead : (z : Scope) (ns : List Name) (o : Option Parameter) → AllLead z (b.named_as ns (b.as_parameter o))
+named_lead : (z : Scope) (ns : List Name) (o : Option Parameter) → AllLead z (b.named_as ns (option_map denotes.Parameter o))
 named_lead z [] o = tt
 named_lead z (n ∷ ns) None = named_lead z ns None
 named_lead z (n ∷ ns) (Some p) = (λ r. absurd cc, named_lead z ns (Some p))
@@ -236,7 +243,7 @@ named_lead z (n ∷ ns) (Some p) = (λ r. absurd cc, named_lead z ns (Some p))
 pub formals_lead : (z : Scope) (fs : List Formal) → AllLead z (b.parameter_names fs)
 formals_lead z [] = tt
 formals_lead z (f ∷ fs) =
-    lead_append z (b.named_as f.names (b.as_parameter (b.parameter f))) (b.parameter_names fs) (named_lead z f.names (b.parameter f)) (formals_lead z fs)
+    lead_append z (b.named_as f.names (option_map denotes.Parameter (b.parameter f))) (b.parameter_names fs) (named_lead z f.names (b.parameter f)) (formals_lead z fs)
 
 home_self : (home : Option ℕ) → same_home home home ≡ true
 home_self None = refl
@@ -267,6 +274,6 @@ unit_leads s (level.Proc at r n (f ∷ fs) w) = tt
 unit_leads s (level.Op at r n fs w) = tt
 unit_leads s (level.NewType at n of) = tt
 
-pub units_lead : (s : Scope) (us : List LevelUnit) → AllLead s (b.all_unit_names us)
+pub units_lead : (s : Scope) (us : List LevelUnit) → AllLead s (flat_map b.unit_names us)
 units_lead s [] = tt
-units_lead s (u ∷ us) = lead_append s (b.unit_names u) (b.all_unit_names us) (unit_leads s u) (units_lead s us)
+units_lead s (u ∷ us) = lead_append s (b.unit_names u) (flat_map b.unit_names us) (unit_leads s u) (units_lead s us)

@@ -34,7 +34,7 @@ use Rattle.elan_scope.specs.declared.predefined.Predefined.TheVariants.{Operatio
 use Rattle.elan_scope.specs.Known.{leads_back, delivery_at}
 use Rattle.elan_scope.specs.Scope.{Callable, find, find_own, is_known, is_alike, left, first_heading, types_of, refinement_named}
 use Rattle.elan_scope.specs.Phrase as form
-use Rattle.elan_scope.specs.Phrase.{Form, Asking, asking, Plain, plain}
+use Rattle.elan_scope.specs.Phrase.{Form, Plain, plain}
 use Rattle.elan_scope.specs.Ruled as ruled
 use Rattle.elan_scope.specs.Ruled.{Ruled, hangs}
 use Rattle.elan_meant.specs.declared.meant.Meant.{Meant}
@@ -43,6 +43,7 @@ use Rattle.elan_meant.specs.Verdict.{Verdict, gives, breaks, ◌>>=◌, told}
 use Rattle.elan_meant.specs.Operands.{delivers, chosen, becomes}
 use Rattle.elan_meant.specs.Parts as p
 use Rattle.value_rules.specs.Values as v
+use Rattle.value_rules.specs.walks.Steps as value_walk
 use Rattle.value_rules.specs.Calls as r
 use Rattle.unit_rules.specs.Units as u
 use Rattle.unit_rules.specs.Loops as o
@@ -50,7 +51,7 @@ use Rattle.unit_rules.specs.walks.Steps as unit_walk
 use Rattle.choice_rules.specs.Choices as c
 use Rattle.choice_rules.specs.walks.Steps as choice_walk
 use Rattle.elan_rules.specs.Rules as all
-use Rattle.elan_rules.specs.Rules.{rule, asked}
+use Rattle.elan_rules.specs.Rules.{rule, ruled}
 use Rattle.elan_laws.specs.Order.{Follows, own}
 
 -- among these places
@@ -105,7 +106,7 @@ module _ (ns : List ℕ) where
   nth_placed (m ∷ ms) zero h = h.0
   nth_placed (m ∷ ms) (suc n) h = nth_placed ms n h.1
 
-  odd_placed : (ms : List Meant) → AllPlaced ms → Placed (c.otherwise (p.odd ms))
+  odd_placed : (ms : List Meant) → AllPlaced ms → Placed (choice_walk.otherwise (p.odd ms))
   odd_placed [] h = tt
   odd_placed (m ∷ []) h = h.0
   odd_placed (m ∷ n ∷ ms) h = odd_placed ms h.1.1
@@ -231,7 +232,7 @@ module _ (ns : List ℕ) where
 
     counted_placed : (w : Way) (n f l q us z : Meant) → Placed n → Tells Placed (o.counted at w n f l q us z)
     counted_placed w n f l q us z h =
-        on_if Placed (o.are_numbers n f l && o.conditions q z) (p.variable at n >>= (λ x. gives (o.count w f l q us z x))) (breaks (at, why.WrongType))
+        on_if Placed (unit_walk.are_numbers n f l && o.conditions q z) (p.variable at n >>= (λ x. gives (o.count w f l q us z x))) (breaks (at, why.WrongType))
         (on_bind Any Placed (p.variable at n) (λ x. gives (o.count w f l q us z x)) (variable_placed n h) (λ x k. tt)) here
 
     -- ---- choices
@@ -255,14 +256,13 @@ module _ (ns : List ℕ) where
     selected_placed : (m : Meant) (ms : List Meant) → Tells Placed (c.selected at m ms)
     selected_placed m ms =
         let gs = p.pairs ms in
-        let n = c.otherwise (p.odd ms) in
+        let n = choice_walk.otherwise (p.odd ms) in
         on_if Placed (delivers type.Int m) (c.selected_by at (p.value_of m) gs n) (breaks (at, why.WrongType))
         (delivering_placed (choice_walk.select_actions (p.value_of m) gs n) (choice_walk.select_value (p.value_of m) gs n)
         (c.agreed (Some (c.delivery_in n)) gs)) here
 
     label_named_placed : (known : Bool) (q : Option Found) → Tells Placed (c.label_named at known q)
-    label_named_placed known (Some f) = here
-    label_named_placed known None = on_if Placed known _ _ here here
+    label_named_placed known q = here
 
   -- ---- units
 
@@ -300,45 +300,46 @@ module _ (ns : List ℕ) where
 
   -- ---- all rules
 
-  abbrev Owned : Form → Type 0
-  Owned f = Follows (own f) ns
+  abbrev Owned : ℕ → Form → Type 0
+  Owned at f = Follows (own at f) ns
 
-  pub rule_placed : (f : Plain) (ms : List Meant) → Owned (plain f) → AllPlaced ms → Tells Placed (rule f ms)
-  rule_placed form.absent ms h g = tt
-  rule_placed (form.not_built at) ms h g = h
-  rule_placed (form.number at n) ms h g = number_placed at h n
-  rule_placed (form.truth at b) ms h g = h
-  rule_placed (form.applied at s sort x) ms h g = applied_placed at h s sort x ms g
-  rule_placed (form.bracket at) ms h g = bracketed_placed at h (p.nth ms 0)
-  rule_placed (form.cand at) ms h g =
-      or_broken at h (v.are_truths (p.nth ms 0) (p.nth ms 1)) (v.cand_of at (p.value_of (p.nth ms 0)) (p.value_of (p.nth ms 1))) why.WrongType h
-  rule_placed (form.cor at) ms h g =
-      or_broken at h (v.are_truths (p.nth ms 0) (p.nth ms 1)) (v.cor_of at (p.value_of (p.nth ms 0)) (p.value_of (p.nth ms 1))) why.WrongType h
-  rule_placed (form.choice at) ms h g = chain_placed at h (p.pairs ms) (gives (c.otherwise (p.odd ms))) (odd_placed ms g)
-  rule_placed (form.label at earlier n) ms h g = on_if Placed (c.is_in earlier n) (breaks (at, why.Doubled)) (gives (Labels (n ∷ []))) h tt
-  rule_placed (form.label_name at s x) ms h g = label_named_placed at h (is_known s Procedure x 0) (find s x)
-  rule_placed form.labels ms h g = tt
-  rule_placed (form.selection at) ms h g = selected_placed at h (p.nth ms 0) (drop 1 ms)
-  rule_placed (form.declares at s x) ms h g = declared_placed at h (find_own s x)
-  rule_placed (form.initial at) ms h g = initial_placed at h (p.nth ms 0) (p.nth ms 1) (nth_placed ms 0 g)
-  rule_placed (form.declaration at) ms h g = tt
-  rule_placed form.statement ms h g = alone_placed (p.nth ms 0) (nth_placed ms 0 g)
-  rule_placed (form.assignment at s) ms h g = assignment_placed at h s (p.nth ms 0) (p.nth ms 1) (nth_placed ms 0 g) (nth_placed ms 1 g)
-  rule_placed (form.loop at) ms h g =
+  pub rule_placed : (at : ℕ) (f : Plain) (ms : List Meant) → Owned at (plain f) → AllPlaced ms → Tells Placed (rule at f ms)
+  rule_placed at form.absent ms h g = tt
+  rule_placed at form.not_built ms h g = h
+  rule_placed at (form.number n) ms h g = number_placed at h n
+  rule_placed at (form.truth b) ms h g = h
+  rule_placed at (form.applied s sort x) ms h g = applied_placed at h s sort x ms g
+  rule_placed at form.bracket ms h g = bracketed_placed at h (p.nth ms 0)
+  rule_placed at form.cand ms h g =
+      or_broken at h (value_walk.are_truths (p.nth ms 0) (p.nth ms 1)) (value_walk.cand_of at (p.value_of (p.nth ms 0)) (p.value_of (p.nth ms 1))) why.WrongType h
+  rule_placed at form.cor ms h g =
+      or_broken at h (value_walk.are_truths (p.nth ms 0) (p.nth ms 1)) (value_walk.cor_of at (p.value_of (p.nth ms 0)) (p.value_of (p.nth ms 1))) why.WrongType h
+  rule_placed at form.choice ms h g = chain_placed at h (p.pairs ms) (gives (choice_walk.otherwise (p.odd ms))) (odd_placed ms g)
+  rule_placed at (form.label earlier n) ms h g = on_if Placed (choice_walk.is_in earlier n) (breaks (at, why.Doubled)) (gives (Labels (n ∷ []))) h tt
+  rule_placed at (form.label_name s x) ms h g = label_named_placed at h (is_known s Procedure x 0) (find s x)
+  rule_placed at form.labels ms h g = tt
+  rule_placed at form.selection ms h g = selected_placed at h (p.nth ms 0) (drop 1 ms)
+  rule_placed at (form.declares s x) ms h g = declared_placed at h (find_own s x)
+  rule_placed at form.initial ms h g = initial_placed at h (p.nth ms 0) (p.nth ms 1) (nth_placed ms 0 g)
+  rule_placed at form.declaration ms h g = tt
+  rule_placed at form.statement ms h g = alone_placed (p.nth ms 0) (nth_placed ms 0 g)
+  rule_placed at (form.assignment s) ms h g = assignment_placed at h s (p.nth ms 0) (p.nth ms 1) (nth_placed ms 0 g) (nth_placed ms 1 g)
+  rule_placed at form.loop ms h g =
       let q = p.nth ms 0 in
       let z = p.nth ms 2 in
       or_broken at h (o.conditions q z) (unit_walk.uncounted q (p.nth ms 1) z) why.WrongType tt
-  rule_placed (form.count at w) ms h g =
+  rule_placed at (form.count w) ms h g =
       counted_placed at h w (p.nth ms 0) (p.nth ms 1) (p.nth ms 2) (p.nth ms 3) (p.nth ms 4) (p.nth ms 5) (nth_placed ms 0 g)
-  rule_placed form.without_value ms h g = without_value_placed (p.nth ms 0) (nth_placed ms 0 g)
-  rule_placed (form.must_deliver at t) ms h g = or_broken at h (u.agrees_with t (p.nth ms 0)) (p.nth ms 0) why.WrongType (nth_placed ms 0 g)
-  rule_placed form.units ms h g = ended_placed (p.actions_of ms) (u.last_value Absent ms) (last_placed Absent ms tt g)
-  rule_placed (form.heading at s sort x ps missing) ms h g = headed_placed at h missing (first_heading (is_alike sort x (types_of ps)) s.headings)
-  rule_placed (form.body q t) ms h g = tt
-  rule_placed form.routine ms h g = tt
-  rule_placed (form.refinement q) ms h g = tt
-  rule_placed form.level ms h g = tt
+  rule_placed at form.without_value ms h g = without_value_placed (p.nth ms 0) (nth_placed ms 0 g)
+  rule_placed at (form.must_deliver t) ms h g = or_broken at h (u.agrees_with t (p.nth ms 0)) (p.nth ms 0) why.WrongType (nth_placed ms 0 g)
+  rule_placed at form.units ms h g = ended_placed (p.actions_of ms) (u.last_value Absent ms) (last_placed Absent ms tt g)
+  rule_placed at (form.heading s sort x ps missing) ms h g = headed_placed at h missing (first_heading (is_alike sort x (types_of ps)) s.headings)
+  rule_placed at (form.body q t) ms h g = tt
+  rule_placed at form.routine ms h g = tt
+  rule_placed at (form.refinement q) ms h g = tt
+  rule_placed at form.level ms h g = tt
 
-  pub asked_placed : (k : Known) (f : Asking) (ms : List Meant) → Owned (asking f) → AllPlaced ms → MayTell Placed (asked k f ms)
-  asked_placed k (form.named w at s x) ms h g = named_placed at h k w s x (find s x)
-  asked_placed k (form.leave at s x) ms h g = on_told Placed (r.leaving k at (left s x) (p.nth ms 0)) (leaving_placed at h k (left s x) (p.nth ms 0))
+  pub ruled_placed : (k : Known) (at : ℕ) (f : Form) (ms : List Meant) → Owned at f → AllPlaced ms → MayTell Placed (ruled k at f ms)
+  ruled_placed k at (form.named w s x) ms h g = named_placed at h k w s x (find s x)
+  ruled_placed k at (form.leave s x) ms h g = on_told Placed (r.leaving k at (left s x) (p.nth ms 0)) (leaving_placed at h k (left s x) (p.nth ms 0))
+  ruled_placed k at (plain f) ms h g = on_told Placed (rule at f ms) (rule_placed at f ms h g)

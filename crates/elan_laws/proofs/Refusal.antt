@@ -1,30 +1,26 @@
 -- A refusal is at a place of the text.
-use Rattle.std.proofs.Common.{◌≡◌, ℕ, suc, List, [], ◌∷◌, ◌++◌, refl, sym, subst, arith}
+use Rattle.std.proofs.Common.{◌≡◌, ℕ, suc, List, refl, sym, subst, arith}
 use Rattle.std.specs.List.{Contains}
 use Rattle.elan_types.specs.declared.env.Env.{Env}
 use Rattle.elan_tree.specs.declared.tree.Tree.{Tree}
 use Rattle.elan_meant.specs.declared.meant.Meant.{Meant}
 use Rattle.elan_scope.specs.declared.known.Known.{Known}
-use Rattle.elan_scope.specs.Phrase.{Form, asking, plain, Phrase, phrase, Parts, none, part}
+use Rattle.elan_scope.specs.Phrase.{Phrase, phrase, Parts, none, part}
 use Rattle.elan_scope.specs.Ruled.{Fault, Ruled, gives, breaks, hangs, ◌>>=◌, before}
-use Rattle.elan_rules.specs.Rules.{rule, ruled}
-use Rattle.elan_rules.specs.Meaning.{phrases, IsFirst, Breaks, NoneBreaks, judged, judged_all}
+use Rattle.elan_rules.specs.Rules.{ruled}
+use Rattle.elan_rules.specs.Meaning.{phrases, IsFirst, judged, judged_all}
 use Rattle.elan_rules.proofs.First as first
 use Rattle.elan_check.specs.Level.{text}
 use Rattle.elan_check.specs.Text.{Refused, known}
 use Rattle.elan_laws.specs.Places.{places}
 use Rattle.elan_laws.specs.Order.{Follows, stays, goes_on, own, in_phrase, in_parts}
 use Rattle.elan_laws.proofs.Through as thr
-use Rattle.elan_laws.proofs.Placed.{In, Placed, AllPlaced, MayTell, on_told, rule_placed, asked_placed}
+use Rattle.elan_laws.proofs.Placed.{In, Placed, AllPlaced, MayTell, ruled_placed}
 use Rattle.elan_laws.proofs.WholeOrder.{text_same}
 
 -- ---- phrases
 
 module _ (k : Known) (ns : List ℕ) where
-  ruled_placed : (f : Form) (ms : List Meant) → Follows (own f) ns → AllPlaced ns ms → MayTell ns (Placed ns) (ruled k f ms)
-  ruled_placed (asking f) ms h g = asked_placed ns k f ms h g
-  ruled_placed (plain f) ms h g = on_told ns (Placed ns) (rule f ms) (rule_placed ns f ms h g)
-
   bind_placed : {A B : Type 0} (P : A → Type 0) (Q : B → Type 0) (r : Ruled A) (f : A → Ruled B) → MayTell ns P r → ((x : A) → P x → MayTell ns Q (f x))
       → MayTell ns Q (r >>= f)
   bind_placed P Q (gives x) f h g = g x h
@@ -43,10 +39,10 @@ module _ (k : Known) (ns : List ℕ) where
 
   mutual
     judged_placed : (p : Phrase) → Follows (in_phrase p) ns → MayTell ns (Placed ns) (judged k p)
-    judged_placed (phrase form ps) h =
-        bind_placed (AllPlaced ns) (Placed ns) (judged_all k ps) (ruled k form)
-        (all_placed ps (thr.through (thr.behind (own form) (thr.all_of_it (in_parts ps))) h))
-        (λ ms g. ruled_placed form ms (thr.through (thr.before (in_parts ps) (thr.all_of_it (own form))) h) g)
+    judged_placed (phrase at form ps) h =
+        bind_placed (AllPlaced ns) (Placed ns) (judged_all k ps) (ruled k at form)
+        (all_placed ps (thr.through (thr.behind (own at form) (thr.all_of_it (in_parts ps))) h))
+        (λ ms g. ruled_placed ns k at form ms (thr.through (thr.before (in_parts ps) (thr.all_of_it (own at form))) h) g)
 
     all_placed : (ps : Parts) → Follows (in_parts ps) ns → MayTell ns (AllPlaced ns) (judged_all k ps)
     all_placed none h = tt
@@ -57,16 +53,11 @@ module _ (k : Known) (ns : List ℕ) where
 
   -- ---- the first fault
 
-  none_at : (xs ys : List Phrase) (p : Phrase) (f : Fault) → NoneBreaks k (xs ++ p ∷ ys) → Breaks k p f → ⊥
-  none_at [] ys p f n h = n.0 f h
-  none_at (x ∷ xs) ys p f n h = none_at xs ys p f n.1 h
-
   fault_placed : (p : Phrase) (f : Fault) → IsFirst k (phrases p) f → (r : Ruled Meant) → judged k p ≡ r → MayTell ns (Placed ns) r → In ns f.0
-  fault_placed p f h (gives m) e g = absurd (first.meant_is_not_refused k p m f (first.means_of k p m e) h)
+  fault_placed p f h (gives m) e g = absurd (first.meant_is_not_refused k p m f e h)
   fault_placed p f h (breaks d) e g = subst (λ (q : Fault). In ns q.0) (first.one_first k (phrases p) d f (first.refused_of k p d e) h) g
   fault_placed p f h hangs e g =
-      let none = first.none_breaks k p (subst first.Faultless (sym e) first.open_one) in
-      absurd (none_at h.earlier h.later h.first f (subst (NoneBreaks k) h.order none) h.breaks)
+      absurd (first.none_first k (phrases p) f (first.none_breaks k p (subst first.Faultless (sym e) first.open_one)) h)
 
 -- ---- the text
 

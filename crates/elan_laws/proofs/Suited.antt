@@ -1,6 +1,9 @@
 -- What is chosen does something with what it is given.
 use Rattle.std.proofs.Common.{◌≡◌, ℕ, ◌+◌, Bool, true, false, ◌&&◌, if◌then◌else◌, List, [], ◌∷◌, ◌++◌, map, Option, Some, None, refl, subst}
+use Rattle.elan_types.specs.declared.elan_type.ElanType.{ElanType}
 use Rattle.elan_types.specs.declared.elan_type.ElanType.TheVariants.{Int}
+use Rattle.elan_types.specs.declared.core_phrase.Access.TheVariants.{Var}
+use Rattle.elan_types.specs.declared.core_phrase.Parameter.{Parameter}
 use Rattle.elan_types.specs.declared.core_phrase.Actual.{Actual}
 use Rattle.elan_types.specs.declared.core_phrase.Actual.TheVariants as actual
 use Rattle.elan_types.specs.declared.core_phrase.Action.TheVariants as action
@@ -16,15 +19,20 @@ use Rattle.elan_scope.specs.declared.scope.Within.{Within}
 use Rattle.elan_scope.specs.declared.callable.Callee.TheVariants.{Predefined}
 use Rattle.elan_scope.specs.declared.predefined.Predefined.{Predefined as Name}
 use Rattle.elan_scope.specs.declared.predefined.Predefined.TheVariants.{Operation, Change, Request}
-use Rattle.elan_scope.specs.Predefined.{Row, predefined, parameters, result, variable}
+use Rattle.elan_scope.specs.Predefined.{Row, predefined, parameters, result}
 use Rattle.elan_scope.specs.Scope.{Callable, Layer, own_callable, own_callables, predefined_callable}
-use Rattle.elan_scope.specs.Scope.{first, first_in, or_else, layers_in, outer_layers, called_by, is_called}
+use Rattle.std.specs.Option.{option_or}
+use Rattle.elan_scope.specs.Scope.{first, first_in, called_by, is_called}
+use Rattle.elan_scope.proofs.Layers.{layers_in, outer_layers}
 use Rattle.elan_meant.specs.declared.meant.Meant.{Meant}
 use Rattle.elan_meant.specs.declared.meant.Meant.TheVariants.{Variable, Value, Done}
 use Rattle.elan_meant.specs.Verdict.{gives}
 use Rattle.elan_meant.specs.Operands.{delivers, fit, takes, chosen}
 use Rattle.elan_meant.specs.Parts.{value_of}
 use Rattle.value_rules.specs.Calls.{given, performed, values_in}
+
+abbrev variable : ElanType → Parameter
+variable t = record { of = t; access = Var }
 
 both : (a b : Bool) → (a && b) ≡ true → b ≡ true
 both true b e = e
@@ -97,7 +105,7 @@ module _ (at : ℕ) (ms : List Meant) where
         by_test true e g = (h.0, both (is_called sort x c) (fit c.parameters ms) e)
         by_test false e g = g
 
-    or_suits : (o p : Option Callable) → Chosen o → Chosen p → Chosen (or_else o p)
+    or_suits : (o p : Option Callable) → Chosen o → Chosen p → Chosen (option_or o p)
     or_suits None p h g = g
     or_suits (Some c) p h g = h
 

@@ -22,6 +22,7 @@ use Rattle.elan_scope.specs.declared.scope.Scope.{Scope}
 use Rattle.elan_scope.specs.Phrase as form
 use Rattle.elan_scope.specs.Phrase.{Phrase, all_of}
 use Rattle.elan_judge.specs.Shape as shape
+use Rattle.elan_judge.specs.walks.Steps as walk
 use Rattle.elan_laws.specs.Places as at
 use Rattle.elan_laws.specs.Order.{Follows, IsSame, in_phrase, in_parts}
 use Rattle.elan_laws.proofs.Through.{both, same, twice, nothing, equal, later, without_first}
@@ -168,11 +169,11 @@ module _ (s : Scope) where
   arms_follow ns [] = nothing
   arms_follow ns (c ∷ cs) =
       let a = shape.case s c.0 in
-      let rest = places_of (shape.arms s (ns ++ shape.numbers a.0) (map (shape.case s) (map fst cs))) in
+      let rest = places_of (shape.arms s (ns ++ walk.numbers a.0) (map (shape.case s) (map fst cs))) in
       let all = at.in_case c.0 ++ at.all (map at.in_case (map fst cs)) in
       subst (λ (l : List ℕ). IsSame (l ++ (in_phrase a.1 ++ rest)) all) (sym (labels_are ns a.0))
       (subst (λ (l : List ℕ). IsSame l all) (append_assoc (at.all_labels a.0) (in_phrase a.1) rest)
-      (both c.1 (arms_follow (ns ++ shape.numbers a.0) cs)))
+      (both c.1 (arms_follow (ns ++ walk.numbers a.0) cs)))
 
   -- ---- one layer
 
@@ -202,7 +203,7 @@ module _ (s : Scope) where
   expr_starts (t.Concr a b) = placed a nothing
   expr_starts (t.Bracket a b) = placed a (one_part (shape.expr s b.0) (whole (shape.expr s b.0) b.1))
   expr_starts (t.If a branches None) =
-      placed a (parts_follow (shape.branches (map (shape.branch s) (map fst branches))) (form.leaf form.absent ∷ []) (branches_follow branches) nothing)
+      placed a (parts_follow (shape.branches (map (shape.branch s) (map fst branches))) (form.leaf 0 form.absent ∷ []) (branches_follow branches) nothing)
   expr_starts (t.If a branches (Some us)) =
       placed a
       (parts_follow (shape.branches (map (shape.branch s) (map fst branches))) (shape.units Open (map (shape.unit s) (map fst us)) ∷ [])
@@ -210,7 +211,7 @@ module _ (s : Scope) where
   expr_starts (t.Select a of cases None) =
       placed a
       (both (whole (shape.expr s of.0) of.1)
-      (parts_follow (shape.arms s [] (map (shape.case s) (map fst cases))) (form.leaf form.absent ∷ []) (arms_follow [] cases) nothing))
+      (parts_follow (shape.arms s [] (map (shape.case s) (map fst cases))) (form.leaf 0 form.absent ∷ []) (arms_follow [] cases) nothing))
   expr_starts (t.Select a of cases (Some us)) =
       placed a
       (both (whole (shape.expr s of.0) of.1)
@@ -239,7 +240,7 @@ module _ (s : Scope) where
 
   -- a condition that may be left out, and its places
   abbrev May : Option ((e : Expr) × E e) → Phrase
-  May None = form.leaf form.absent
+  May None = form.leaf 0 form.absent
   May (Some e) = shape.expr s e.0
 
   abbrev may_places : Option ((e : Expr) × E e) → List ℕ

@@ -1,6 +1,9 @@
 -- All declarations of a text are found.
 use Rattle.std.proofs.Common.{◌≡◌, ℕ, suc, ◌+◌, Bool, true, false, ◌||◌, ◌&&◌, List, [], ◌∷◌, ◌++◌, Option, Some, None, refl, sym, subst, inl, inr}
+use Rattle.std.specs.List.{list_any}
+use Rattle.std.specs.Prelude.{map, flat_map, option_map}
 use Rattle.std.specs.Str.{bytes_eq}
+use lib.Pointwise.{pointwise}
 use Rattle.elan_types.specs.declared.elan_type.ElanType.{ElanType}
 use Rattle.elan_types.specs.declared.elan_type.ElanType.TheVariants as types
 use Rattle.elan_types.specs.Typing.{same_type}
@@ -8,6 +11,8 @@ use Rattle.elan_tree.specs.declared.written_type.Name.{Name}
 use Rattle.elan_tree.specs.declared.written_type.TypePhrase.{TypePhrase}
 use Rattle.elan_tree.specs.declared.written_type.TypePhrase.TheVariants as type
 use Rattle.elan_tree.specs.declared.written_type.Formal.{Formal}
+use Rattle.elan_tree.specs.declared.written_type.Access.{Access as Given}
+use Rattle.elan_types.specs.declared.core_phrase.Parameter.{Parameter}
 use Rattle.elan_tree.specs.declared.tree.Body.{Body}
 use Rattle.elan_tree.specs.declared.tree.Refinement.{Refinement}
 use Rattle.elan_tree.specs.declared.tree.LevelUnit.{LevelUnit}
@@ -26,11 +31,13 @@ use Rattle.elan_scope.specs.declared.heading.Sort.{Sort}
 use Rattle.elan_scope.specs.declared.heading.Sort.TheVariants.{Procedure, Operator}
 use Rattle.elan_scope.specs.declared.delivery.Delivery.TheVariants.{Open}
 use Rattle.elan_scope.specs.Scope.{is_alike}
-use Rattle.elan_scope.specs.Scope.{same_sort, same_types, types_of}
+use Rattle.elan_scope.specs.Scope.{same_sort, types_of}
 use Rattle.elan_scope.specs.Known.{delivered}
 use Rattle.elan_scope.specs.Phrase as form
 use Rattle.elan_scope.specs.Phrase.{Phrase, leaf, all_of}
 use Rattle.elan_levels.specs.Declarations as d
+use Rattle.elan_unbuilt.specs.Types.{written_type}
+use Rattle.std.specs.Prelude.{is_none}
 use Rattle.elan_levels.specs.Bodies as b
 use Rattle.elan_check.specs.Level as l
 use Rattle.elan_laws.specs.Served.{AreServed, AllServed}
@@ -38,6 +45,8 @@ use Rattle.elan_laws.proofs.Declared.{AllNamed, Fine, neither, unit_alone_found,
 use Rattle.elan_laws.proofs.LookUps.{Has, in_first, in_second, bytes_self, named, own, HasHeading, heading_first, heading_second}
 use Rattle.elan_laws.proofs.LookUps.{heading_is, both_true, SubHeadings, Bodies}
 use Rattle.elan_laws.proofs.LookUps.{bodies_of, lead_append, nodes_lead, formals_lead, refinements_lead, units_lead}
+use Rattle.elan_levels.specs.walks.Headings.{all_headings}
+use Rattle.elan_check.specs.walks.Units.{level_units}
 
 abbrev Sub : Scope → List Entry → Type 0
 Sub z es = (x : List ℕ) → Has es x → Has (own z) x
@@ -46,18 +55,18 @@ all_named : (z : Scope) (es : List Entry) → Sub z es → AllNamed z es
 all_named z [] f = tt
 all_named z (e ∷ es) f = (named z e.name (f e.name (inl refl)), all_named z es (λ x h. f x (inr h)))
 
-fine : (z : Scope) (ns : List Node) → built.any ns ≡ false → Sub z (d.all_declared ns) → Fine z ns
-fine z ns h f = (h, all_named z (d.all_declared ns) f)
+fine : (z : Scope) (ns : List Node) → list_any built.node ns ≡ false → Sub z (flat_map d.declared ns) → Fine z ns
+fine z ns h f = (h, all_named z (flat_map d.declared ns) f)
 
-any_split : (xs ys : List Node) → built.any (xs ++ ys) ≡ false → (built.any xs ≡ false) × (built.any ys ≡ false)
+any_split : (xs ys : List Node) → list_any built.node (xs ++ ys) ≡ false → (list_any built.node xs ≡ false) × (list_any built.node ys ≡ false)
 any_split [] ys h = (refl, h)
 any_split (x ∷ xs) ys h =
-    let n = neither (built.node x) (built.any (xs ++ ys)) h in
+    let n = neither (built.node x) (list_any built.node (xs ++ ys)) h in
     let q = any_split xs ys n.1 in
-    (subst (λ (c : Bool). (c || built.any xs) ≡ false) (sym n.0) q.0, q.1)
+    (subst (λ (c : Bool). (c || list_any built.node xs) ≡ false) (sym n.0) q.0, q.1)
 
-any_rest : (x : Node) (xs : List Node) → built.any (x ∷ xs) ≡ false → built.any xs ≡ false
-any_rest x xs h = let n = neither (built.node x) (built.any xs) h in n.1
+any_rest : (x : Node) (xs : List Node) → list_any built.node (x ∷ xs) ≡ false → list_any built.node xs ≡ false
+any_rest x xs h = let n = neither (built.node x) (list_any built.node xs) h in n.1
 
 append_found : (ps qs : List Phrase) → AllServed (all_of ps) → AllServed (all_of qs) → AllServed (all_of (ps ++ qs))
 append_found [] qs h g = g
@@ -65,32 +74,35 @@ append_found (p ∷ ps) qs h g = (h.0, append_found ps qs h.1 g)
 
 -- ---- parameters
 
-type_is : (of : TypePhrase) → built.written_type of ≡ false → (t : ElanType) × (d.written_type of ≡ Some t)
+type_is : (of : TypePhrase) → is_none (written_type of) ≡ false → (t : ElanType) × (written_type of ≡ Some t)
 type_is (type.Int a) h = (types.Int, refl)
 type_is (type.Bool a) h = (types.Bool, refl)
 type_is of h = absurd cc
 
-names_found : (z : Scope) (ns : List Name) (p : Denotes) → Sub z (b.named_as ns (Some p)) → AllServed (all_of (l.declare_all z ns))
+names_found : (z : Scope) (ns : List Name) (p : Denotes) → Sub z (b.named_as ns (Some p)) → AllServed (all_of (map (l.declares z) ns))
 names_found z [] p f = tt
 names_found z (n ∷ ns) p f = ((named z n.text (f n.text (inl refl)), tt), names_found z ns p (λ x h. f x (inr h)))
 
-formals_found : (z : Scope) (fs : List Formal) → built.any (nodes.formals fs) ≡ false → Sub z (b.parameter_names fs)
+abbrev given : Given → ElanType → Parameter
+given a t = record { of = t; access = b.access_of a }
+
+formals_found : (z : Scope) (fs : List Formal) → list_any built.node (nodes.formals fs) ≡ false → Sub z (b.parameter_names fs)
     → AllServed (all_of (l.declare_parameters z fs))
 formals_found z [] h f = tt
 formals_found z (g ∷ fs) h f =
-    let n = neither (built.written_type g.of) (built.any (nodes.names g.names ++ nodes.formals fs)) h in
+    let n = neither (is_none (written_type g.of)) (list_any built.node (map nodes.other g.names ++ nodes.formals fs)) h in
     let t = type_is g.of n.0 in
-    let q = any_split (nodes.names g.names) (nodes.formals fs) n.1 in
-    let own_ones = b.named_as g.names (b.as_parameter (b.parameter g)) in
+    let q = any_split (map nodes.other g.names) (nodes.formals fs) n.1 in
+    let own_ones = b.named_as g.names (option_map denotes.Parameter (b.parameter g)) in
     let first : Sub z own_ones = λ x i. f x (in_first own_ones (b.parameter_names fs) x i) in
-    append_found (l.declare_all z g.names) (l.declare_parameters z fs)
+    append_found (map (l.declares z) g.names) (l.declare_parameters z fs)
     (names_found z g.names (denotes.Parameter (record { of = t.0; access = b.access_of g.access }))
-    (subst (λ (o : Option ElanType). Sub z (b.named_as g.names (b.as_parameter (b.parameter_of g.access o)))) t.1 first))
+    (subst (λ (o : Option ElanType). Sub z (b.named_as g.names (option_map denotes.Parameter (option_map (given g.access) o)))) t.1 first))
     (formals_found z fs q.1 (λ x i. f x (in_second own_ones (b.parameter_names fs) x i)))
 
 -- ---- refinements
 
-refinements_found : (z : Scope) (bodies : Bodies z) (k : ℕ) (rs : List Refinement) → built.any (nodes.refinements rs) ≡ false → Sub z (b.refinement_names rs)
+refinements_found : (z : Scope) (bodies : Bodies z) (k : ℕ) (rs : List Refinement) → list_any built.node (nodes.refinements rs) ≡ false → Sub z (b.refinement_names rs)
     → AllServed (all_of (l.refinements z k rs))
 refinements_found z bodies k [] h f = tt
 refinements_found z bodies k (r ∷ rs) h f =
@@ -110,18 +122,19 @@ sort_self Operator = refl
 type_self : (t : ElanType) → same_type t t ≡ true
 type_self types.Int = refl
 type_self types.Bool = refl
+type_self types.Text = refl
 
-types_self : (ts : List ElanType) → same_types ts ts ≡ true
+types_self : (ts : List ElanType) → pointwise same_type ts ts ≡ true
 types_self [] = refl
-types_self (t ∷ ts) = both_true (same_type t t) (same_types ts ts) (type_self t) (types_self ts)
+types_self (t ∷ ts) = both_true (same_type t t) (pointwise same_type ts ts) (type_self t) (types_self ts)
 
 -- a heading is alike to itself
 alike : (sort : Sort) (at : ℕ) (x : List ℕ) (fs : List Formal) (r : Option TypePhrase)
     → is_alike sort x (types_of (b.parameters fs)) (b.routine_heading sort at x fs r) ≡ true
 alike sort at x fs r =
     let ts = types_of (b.parameters fs) in
-    both_true (bytes_eq x x) (same_sort sort sort && same_types ts ts) (bytes_self x)
-    (both_true (same_sort sort sort) (same_types ts ts) (sort_self sort) (types_self ts))
+    both_true (bytes_eq x x) (same_sort sort sort && pointwise same_type ts ts) (bytes_self x)
+    (both_true (same_sort sort sort) (pointwise same_type ts ts) (sort_self sort) (types_self ts))
 
 -- ---- PROCs and OPs
 
@@ -130,7 +143,7 @@ module _ (s : Scope) (k : ℕ) (at : ℕ) (x : List ℕ) (r : Option TypePhrase)
   inner = l.inner s k at x r fs w
 
   routine_found : (sort : Sort) (names : List Phrase) → AllServed (all_of names) → HasHeading s.headings (b.routine_heading sort at x fs r)
-      → SubHeadings s (b.refinement_headings (Some k) w.refinements) → built.any (nodes.body fs w) ≡ false → AreServed (l.routine s k at x r fs w sort names)
+      → SubHeadings s (b.refinement_headings (Some k) w.refinements) → list_any built.node (nodes.body fs w) ≡ false → AreServed (l.routine s k at x r fs w sort names)
   routine_found sort names f i g h =
       let p = any_split (nodes.formals fs ++ nodes.in_units w.units) (nodes.refinements w.refinements) h in
       let q = any_split (nodes.formals fs) (nodes.in_units w.units) p.0 in
@@ -145,7 +158,7 @@ module _ (s : Scope) (k : ℕ) (at : ℕ) (x : List ℕ) (r : Option TypePhrase)
       (fine inner (nodes.in_units w.units) q.1 (λ y j. in_second given (units ++ rest) y (in_first units rest y j))) in
       let refined = refinements_found inner bodies (suc k) w.refinements p.1 (λ y j. in_second given (units ++ rest) y (in_second units rest y j)) in
       let formals = formals_found inner fs q.0 (λ y j. in_first given (units ++ rest) y j) in
-      let marked = leaf (form.heading at s sort x (b.parameters fs) (l.is_missing (b.result r) (l.body_units s k at x r fs w))) in
+      let marked = leaf at (form.heading s sort x (b.parameters fs) (l.is_missing (b.result r) (l.body_units s k at x r fs w))) in
       let heading = heading_is 0 (is_alike sort x (types_of (b.parameters fs))) s.headings (b.routine_heading sort at x fs r) i (alike sort at x fs r) in (
         tt,
         append_found (l.heading_phrases s k at x r fs w sort names) (l.body_phrases s k at x r fs w)
@@ -158,7 +171,7 @@ procedure_found s n (g ∷ fs) f = tt
 
 -- ---- the level
 
-unit_found : (s : Scope) (bodies : Bodies s) (k : ℕ) (u : LevelUnit) → built.any (nodes.level_unit u) ≡ false → Sub s (b.unit_names u)
+unit_found : (s : Scope) (bodies : Bodies s) (k : ℕ) (u : LevelUnit) → list_any built.node (nodes.level_unit u) ≡ false → Sub s (b.unit_names u)
     → SubHeadings s (b.unit_headings k u) → AreServed (l.level_unit s k u)
 unit_found s bodies k (level.Plain u) h f g = unit_alone_found s bodies u (fine s (nodes.in_unit u) h f)
 unit_found s bodies k (level.Proc at r n fs w) h f g =
@@ -172,33 +185,33 @@ unit_found s bodies k (level.Op at r n fs w) h f g =
     (any_rest (sign n.operator) (nodes.body fs w) q.1)
 unit_found s bodies k (level.NewType at n of) h f g = absurd cc
 
-units_found : (s : Scope) (bodies : Bodies s) (k : ℕ) (us : List LevelUnit) → built.any (nodes.level_units us) ≡ false → Sub s (b.all_unit_names us)
-    → SubHeadings s (b.all_headings k us) → AllServed (all_of (l.level_units s k us))
+units_found : (s : Scope) (bodies : Bodies s) (k : ℕ) (us : List LevelUnit) → list_any built.node (flat_map nodes.level_unit us) ≡ false → Sub s (flat_map b.unit_names us)
+    → SubHeadings s (all_headings k us) → AllServed (all_of (level_units s k us))
 units_found s bodies k [] h f g = tt
 units_found s bodies k (u ∷ us) h f g =
-    let q = any_split (nodes.level_unit u) (nodes.level_units us) h in
+    let q = any_split (nodes.level_unit u) (flat_map nodes.level_unit us) h in
     let own_ones = b.unit_names u in
     let heads = b.unit_headings k u in (
-      unit_found s bodies k u q.0 (λ x i. f x (in_first own_ones (b.all_unit_names us) x i))
-          (λ x i. g x (heading_first heads (b.all_headings (k + b.bodies_in u) us) x i)),
-      units_found s bodies (k + b.bodies_in u) us q.1 (λ x i. f x (in_second own_ones (b.all_unit_names us) x i))
-          (λ x i. g x (heading_second heads (b.all_headings (k + b.bodies_in u) us) x i)),
+      unit_found s bodies k u q.0 (λ x i. f x (in_first own_ones (flat_map b.unit_names us) x i))
+          (λ x i. g x (heading_first heads (all_headings (k + b.bodies_in u) us) x i)),
+      units_found s bodies (k + b.bodies_in u) us q.1 (λ x i. f x (in_second own_ones (flat_map b.unit_names us) x i))
+          (λ x i. g x (heading_second heads (all_headings (k + b.bodies_in u) us) x i)),
     )
 
 pub text_found : (t : Tree) → built.not_built t ≡ false → AreServed (l.text t)
 text_found (tree.Program w) h =
     let s = l.level_scope w in
-    let q = any_split (nodes.level_units w.units) (nodes.refinements w.refinements) h in
-    let units = b.all_unit_names w.units in
+    let q = any_split (flat_map nodes.level_unit w.units) (nodes.refinements w.refinements) h in
+    let units = flat_map b.unit_names w.units in
     let rest = b.refinement_names w.refinements in
     let lead =
     lead_append s units rest (units_lead s w.units)
-    (refinements_lead s None w.refinements refl (λ g i. heading_second (b.all_headings 0 w.units) (b.refinement_headings None w.refinements) g i)) in
+    (refinements_lead s None w.refinements refl (λ g i. heading_second (all_headings 0 w.units) (b.refinement_headings None w.refinements) g i)) in
     let bodies = bodies_of s lead in (
       tt,
-      append_found (l.level_units s 0 w.units) (l.refinements s (b.bodies_of_units w.units) w.refinements)
+      append_found (level_units s 0 w.units) (l.refinements s (b.bodies_of_units w.units) w.refinements)
           (units_found s bodies 0 w.units q.0 (λ x i. in_first units rest x i)
-          (λ x i. heading_first (b.all_headings 0 w.units) (b.refinement_headings None w.refinements) x i))
+          (λ x i. heading_first (all_headings 0 w.units) (b.refinement_headings None w.refinements) x i))
           (refinements_found s bodies (b.bodies_of_units w.units) w.refinements q.1 (λ x i. in_second units rest x i)),
     )
 text_found (tree.Packet at n exports w) h = absurd cc

@@ -1,5 +1,6 @@
 -- The phrases of a whole text stand in text order.
 use Rattle.std.proofs.Common.{◌≡◌, ℕ, suc, ◌+◌, List, [], ◌∷◌, ◌++◌, Option, refl, sym, ap, subst, ◌∙◌, append_assoc}
+use Rattle.std.specs.Prelude.{map}
 use Rattle.std.proofs.lemmas.List.{append-nil}
 use Rattle.elan_tree.specs.declared.written_type.Name.{Name}
 use Rattle.elan_tree.specs.declared.written_type.TypePhrase.{TypePhrase}
@@ -25,16 +26,17 @@ use Rattle.elan_laws.specs.Places.{places}
 use Rattle.elan_laws.specs.Order.{Follows, ends, IsSame, own, in_phrase, in_parts, leaves}
 use Rattle.elan_laws.proofs.Through.{behind, beside, both, same, twice, nothing, all_of_it, through}
 use Rattle.elan_laws.proofs.TextOrder.{places_of, parts_follow, one_part, body_units_follow, unit_alone_follows}
+use Rattle.elan_check.specs.walks.Units.{level_units}
 
 -- ---- bodies
 
-names_follow : (s : Scope) (ns : List Name) → IsSame (places_of (l.declare_all s ns)) (at.names ns)
+names_follow : (s : Scope) (ns : List Name) → IsSame (places_of (map (l.declares s) ns)) (at.names ns)
 names_follow s [] = nothing
 names_follow s (n ∷ ns) = same n.at (names_follow s ns)
 
 formals_follow : (s : Scope) (fs : List Formal) → IsSame (places_of (l.declare_parameters s fs)) (at.formals fs)
 formals_follow s [] = nothing
-formals_follow s (f ∷ fs) = parts_follow (l.declare_all s f.names) (l.declare_parameters s fs) (names_follow s f.names) (formals_follow s fs)
+formals_follow s (f ∷ fs) = parts_follow (map (l.declares s) f.names) (l.declare_parameters s fs) (names_follow s f.names) (formals_follow s fs)
 
 refinements_follow : (s : Scope) (k : ℕ) (rs : List Refinement) → IsSame (places_of (l.refinements s k rs)) (at.refinements rs)
 refinements_follow s k [] = nothing
@@ -71,13 +73,13 @@ unit_follows s k (level.Op a r n fs b) =
     routine_follows s k n.at (operator_text n.operator) r fs b Operator [] (same n.at (formals_follow (l.inner s k n.at (operator_text n.operator) r fs b) fs))
 unit_follows s k (level.NewType a n of) = same a nothing
 
-units_follow : (s : Scope) (k : ℕ) (us : List LevelUnit) → IsSame (places_of (l.level_units s k us)) (at.level_units us)
+units_follow : (s : Scope) (k : ℕ) (us : List LevelUnit) → IsSame (places_of (level_units s k us)) (at.level_units us)
 units_follow s k [] = nothing
 units_follow s k (u ∷ us) = both (unit_follows s k u) (units_follow s (k + bodies_in u) us)
 
 pub text_same : (t : Tree) → IsSame (in_phrase (l.text t)) (places t)
 text_same (tree.Program w) =
-    parts_follow (l.level_units (l.level_scope w) 0 w.units) (l.refinements (l.level_scope w) (bodies_of_units w.units) w.refinements)
+    parts_follow (level_units (l.level_scope w) 0 w.units) (l.refinements (l.level_scope w) (bodies_of_units w.units) w.refinements)
     (units_follow (l.level_scope w) 0 w.units) (refinements_follow (l.level_scope w) (bodies_of_units w.units) w.refinements)
 text_same (tree.Packet a n exports w) = nothing
 
@@ -85,17 +87,17 @@ text_same (tree.Packet a n exports w) = nothing
 
 leaves_append : (ps qs : List Phrase) → leaves (ps ++ qs) ≡ leaves ps ++ leaves qs
 leaves_append [] qs = refl
-leaves_append (phrase form none ∷ ps) qs =
-    ap (λ (ns : List ℕ). own form ++ ns) (leaves_append ps qs) ∙ sym (append_assoc (own form) (leaves ps) (leaves qs))
-leaves_append (phrase form (part q rest) ∷ ps) qs = leaves_append ps qs
+leaves_append (phrase a form none ∷ ps) qs =
+    ap (λ (ns : List ℕ). own a form ++ ns) (leaves_append ps qs) ∙ sym (append_assoc (own a form) (leaves ps) (leaves qs))
+leaves_append (phrase a form (part q rest) ∷ ps) qs = leaves_append ps qs
 
 mutual
   leaves_follow : (p : Phrase) → Follows (leaves (phrases p)) (in_phrase p)
-  leaves_follow (phrase form none) = all_of_it (own form ++ [])
-  leaves_follow (phrase form (part q ps)) =
-      subst (λ (ns : List ℕ). Follows ns (own form ++ in_parts (part q ps)))
-      (sym (leaves_append (phrases_of (part q ps)) (phrase form (part q ps) ∷ []) ∙ append-nil (leaves (phrases_of (part q ps)))))
-      (behind (own form) (all_leaves_follow (part q ps)))
+  leaves_follow (phrase a form none) = all_of_it (own a form ++ [])
+  leaves_follow (phrase a form (part q ps)) =
+      subst (λ (ns : List ℕ). Follows ns (own a form ++ in_parts (part q ps)))
+      (sym (leaves_append (phrases_of (part q ps)) (phrase a form (part q ps) ∷ []) ∙ append-nil (leaves (phrases_of (part q ps)))))
+      (behind (own a form) (all_leaves_follow (part q ps)))
 
   all_leaves_follow : (ps : Parts) → Follows (leaves (phrases_of ps)) (in_parts ps)
   all_leaves_follow none = ends []

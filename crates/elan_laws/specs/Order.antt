@@ -1,7 +1,7 @@
 -- The places of phrases, and their order.
 use Rattle.std.specs.Prelude.{ℕ, List, [], ◌∷◌, ◌++◌}
 use Rattle.elan_scope.specs.Phrase as form
-use Rattle.elan_scope.specs.Phrase.{Form, asking, plain, Phrase, phrase, Parts, none, part}
+use Rattle.elan_scope.specs.Phrase.{Form, plain, Phrase, phrase, Parts, none, part}
 
 -- The first list goes through the second from left to right, and may stand still or leave some out.
 pub data Follows : List ℕ → List ℕ → Type 0 where
@@ -14,35 +14,24 @@ pub record IsSame (xs ys : List ℕ) : Type 0 where
   pub to : Follows xs ys
   pub back : Follows ys xs
 
--- the place of a phrase; lists of units, bodies and what is not written have none of their own
-abbrev pub own : Form → List ℕ
-own (asking (form.named u at s x)) = at ∷ []
-own (asking (form.leave at s x)) = at ∷ []
-own (plain (form.not_built at)) = at ∷ []
-own (plain (form.number at n)) = at ∷ []
-own (plain (form.truth at b)) = at ∷ []
-own (plain (form.applied at s sort x)) = at ∷ []
-own (plain (form.bracket at)) = at ∷ []
-own (plain (form.cand at)) = at ∷ []
-own (plain (form.cor at)) = at ∷ []
-own (plain (form.choice at)) = at ∷ []
-own (plain (form.label at earlier n)) = at ∷ []
-own (plain (form.label_name at s x)) = at ∷ []
-own (plain (form.selection at)) = at ∷ []
-own (plain (form.declares at s x)) = at ∷ []
-own (plain (form.initial at)) = at ∷ []
-own (plain (form.declaration at)) = at ∷ []
-own (plain (form.assignment at s)) = at ∷ []
-own (plain (form.loop at)) = at ∷ []
-own (plain (form.count at w)) = at ∷ []
-own (plain (form.must_deliver at t)) = at ∷ []
-own (plain (form.heading at s sort x ps missing)) = at ∷ []
-own _ = []
+-- The place of a phrase. Lists of units, bodies and what is not written have none of their own, and neither has a unit that is an
+-- expression, or is asked to deliver nothing: its part has it.
+abbrev pub own : ℕ → Form → List ℕ
+own at (plain form.absent) = []
+own at (plain form.labels) = []
+own at (plain form.statement) = []
+own at (plain form.without_value) = []
+own at (plain form.units) = []
+own at (plain (form.body o r)) = []
+own at (plain form.routine) = []
+own at (plain (form.refinement o)) = []
+own at (plain form.level) = []
+own at f = at ∷ []
 
 -- the places of a phrase and all its parts, from left to right, a phrase before its parts
 abbrev mutual
   pub in_phrase : Phrase → List ℕ
-  in_phrase (phrase form ps) = own form ++ in_parts ps
+  in_phrase (phrase at form ps) = own at form ++ in_parts ps
 
   pub in_parts : Parts → List ℕ
   in_parts none = []
@@ -51,5 +40,5 @@ abbrev mutual
 -- the places of those among these phrases that have no parts
 abbrev pub leaves : List Phrase → List ℕ
 leaves [] = []
-leaves (phrase form none ∷ ps) = own form ++ leaves ps
-leaves (phrase form (part q qs) ∷ ps) = leaves ps
+leaves (phrase at form none ∷ ps) = own at form ++ leaves ps
+leaves (phrase at form (part q qs) ∷ ps) = leaves ps

@@ -6,7 +6,7 @@ use Rattle.elan_scope.specs.Scope.{find, find_own, first_heading, is_alike, type
 use Rattle.elan_scope.specs.declared.scope.Scope.{Scope}
 use Rattle.elan_scope.specs.declared.scope.Found.{Found}
 use Rattle.elan_scope.specs.Phrase as form
-use Rattle.elan_scope.specs.Phrase.{Form, asking, plain, Phrase, phrase, Parts, none, part}
+use Rattle.elan_scope.specs.Phrase.{Form, plain, Phrase, phrase, Parts, none, part}
 
 -- What is denoted as a refinement is one of the bodies.
 abbrev pub HasBody : Scope → List ℕ → Option Found → Type 0
@@ -28,23 +28,23 @@ HasOdd (part p (part q ps)) = HasOdd ps
 
 -- What the rule of a form asks for is there: parts by their number, a declaration, a body.
 abbrev pub IsServed : Form → Parts → Type 0
-IsServed (asking (form.named u at s x)) ps = HasBody s x (find s x)
-IsServed (asking (form.leave at s x)) ps = Has 1 ps
-IsServed (plain (form.bracket at)) ps = Has 1 ps
-IsServed (plain (form.cand at)) ps = Has 2 ps
-IsServed (plain (form.cor at)) ps = Has 2 ps
-IsServed (plain (form.choice at)) ps = HasOdd ps
-IsServed (plain (form.selection at)) none = ⊥
-IsServed (plain (form.selection at)) (part p ps) = HasOdd ps
-IsServed (plain (form.declares at s x)) ps = is_some (find_own s x) ≡ true
-IsServed (plain (form.initial at)) ps = Has 2 ps
+IsServed (form.named u s x) ps = HasBody s x (find s x)
+IsServed (form.leave s x) ps = Has 1 ps
+IsServed (plain form.bracket) ps = Has 1 ps
+IsServed (plain form.cand) ps = Has 2 ps
+IsServed (plain form.cor) ps = Has 2 ps
+IsServed (plain form.choice) ps = HasOdd ps
+IsServed (plain form.selection) none = ⊥
+IsServed (plain form.selection) (part p ps) = HasOdd ps
+IsServed (plain (form.declares s x)) ps = is_some (find_own s x) ≡ true
+IsServed (plain form.initial) ps = Has 2 ps
 IsServed (plain form.statement) ps = Has 1 ps
-IsServed (plain (form.assignment at s)) ps = Has 2 ps
-IsServed (plain (form.loop at)) ps = Has 3 ps
-IsServed (plain (form.count at w)) ps = Has 6 ps
+IsServed (plain (form.assignment s)) ps = Has 2 ps
+IsServed (plain form.loop) ps = Has 3 ps
+IsServed (plain (form.count w)) ps = Has 6 ps
 IsServed (plain form.without_value) ps = Has 1 ps
-IsServed (plain (form.must_deliver at t)) ps = Has 1 ps
-IsServed (plain (form.heading at s sort x qs missing)) ps = is_some (first_heading (is_alike sort x (types_of qs)) s.headings) ≡ true
+IsServed (plain (form.must_deliver t)) ps = Has 1 ps
+IsServed (plain (form.heading s sort x qs missing)) ps = is_some (first_heading (is_alike sort x (types_of qs)) s.headings) ≡ true
 IsServed (plain (form.body o r)) ps = Has 1 ps
 IsServed (plain (form.refinement o)) ps = Has 2 ps
 IsServed f ps = Unit {0}
@@ -52,7 +52,7 @@ IsServed f ps = Unit {0}
 -- a phrase and all its parts
 abbrev mutual
   pub AreServed : Phrase → Type 0
-  AreServed (phrase form ps) = IsServed form ps × AllServed ps
+  AreServed (phrase at form ps) = IsServed form ps × AllServed ps
 
   pub AllServed : Parts → Type 0
   AllServed none = Unit {0}

@@ -12,8 +12,8 @@ use Rattle.elan_scope.specs.Phrase.{Phrase}
 use Rattle.elan_meant.specs.declared.meant.Meant.{Meant}
 use Rattle.elan_rules.specs.Meaning.{Means}
 use Rattle.elan_levels.specs.Bodies.{headings}
-use Rattle.elan_check.specs.Level.{level_in, level_bodies}
-use Rattle.elan_check.specs.Refinements.{delivery_of, last_unit}
+use Rattle.elan_check.specs.Level.{level_in, text}
+use Rattle.elan_check.specs.Refinements.{bodies_within, delivery_of, last_unit}
 use Rattle.elan_check.specs.Text.{known}
 
 -- A list of units delivers what its last unit delivers, where that has a meaning.
@@ -29,5 +29,5 @@ Settles k (Refinement home) units d = Delivers k (last_unit units) d
 -- This is known of each body of a text.
 abbrev pub IsSettled : Tree → Type 0
 IsSettled t =
-    (n : ℕ) (h : Heading) (units : Phrase) → slice_get (headings (level_in t)) n ≡ Some h → slice_get (level_bodies (level_in t)) n ≡ Some units
+    (n : ℕ) (h : Heading) (units : Phrase) → slice_get (headings (level_in t)) n ≡ Some h → slice_get (bodies_within (text t)) n ≡ Some units
     → Settles (known t) h.what units (delivery_at (known t) n)

@@ -1,5 +1,6 @@
 -- Units declare variables and constants, and no parameters.
 use Rattle.std.proofs.Common.{◌≡◌, List, [], ◌∷◌, ◌++◌, map, Option, Some, None, refl, sym, ap, ◌∙◌}
+use Rattle.std.specs.Prelude.{flat_map, option_map}
 use Rattle.elan_tree.specs.declared.written_type.Name.{Name}
 use Rattle.elan_tree.specs.declared.phrase.Unit.{Unit as Statement}
 use Rattle.elan_types.specs.declared.elan_type.ElanType.{ElanType}
@@ -14,6 +15,7 @@ use Rattle.elan_scope.specs.declared.scope.Denotes.TheVariants as denotes
 use Rattle.elan_scope.specs.declared.scope.Entry.{Entry}
 use Rattle.elan_scope.specs.Scope.{held, all_held, types_of}
 use Rattle.elan_levels.specs.Declarations as d
+use Rattle.elan_unbuilt.specs.Types.{written_type}
 use Rattle.elan_levels.specs.Bodies.{refinement_names}
 use Rattle.elan_levels.proofs.Held.{types_append}
 
@@ -29,26 +31,26 @@ append : (xs ys : List Entry) → Plain xs → Plain ys → Plain (xs ++ ys)
 append [] ys h k = k
 append (x ∷ xs) ys h k = (h.0, append xs ys h.1 k)
 
-variable_plain : (n : Name) (o : Option ElanType) → Plain (d.entry n (d.variables o))
+variable_plain : (n : Name) (o : Option ElanType) → Plain (d.entry n (option_map denotes.Variable o))
 variable_plain n None = tt
 variable_plain n (Some t) = (tt, tt)
 
-constant_plain : (n : Name) (o : Option ElanType) → Plain (d.entry n (d.constants o))
+constant_plain : (n : Name) (o : Option ElanType) → Plain (d.entry n (option_map denotes.Constant o))
 constant_plain n None = tt
 constant_plain n (Some t) = (tt, tt)
 
 node_plain : (n : Node) → Plain (d.declared n)
-node_plain (item Variable of n) = variable_plain n (d.written_type of)
-node_plain (item Constant of n) = constant_plain n (d.written_type of)
+node_plain (item Variable of n) = variable_plain n (written_type of)
+node_plain (item Constant of n) = constant_plain n (written_type of)
 node_plain (alone n) = tt
 node_plain (other n) = tt
 node_plain (sign o) = tt
 node_plain (of_type of) = tt
 node_plain unbuilt = tt
 
-nodes_plain : (ns : List Node) → Plain (d.all_declared ns)
+nodes_plain : (ns : List Node) → Plain (flat_map d.declared ns)
 nodes_plain [] = tt
-nodes_plain (n ∷ ns) = append (d.declared n) (d.all_declared ns) (node_plain n) (nodes_plain ns)
+nodes_plain (n ∷ ns) = append (d.declared n) (flat_map d.declared ns) (node_plain n) (nodes_plain ns)
 
 units_plain : (us : List Statement) → Plain (d.in_units us)
 units_plain us = nodes_plain (nodes.in_units us)

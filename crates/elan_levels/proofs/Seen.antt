@@ -1,5 +1,6 @@
 -- A walk finds in the nodes of a list what is found in each.
 use Rattle.std.proofs.Common.{◌≡◌, ℕ, List, [], ◌∷◌, ◌++◌, refl, sym, ap, ◌∙◌, append_assoc}
+use Rattle.std.specs.Prelude.{flat_map}
 use Rattle.std.proofs.lemmas.List.{append-nil}
 use Rattle.elan_walk.specs.Nodes.{Node}
 use Rattle.elan_walk.specs.Walk.{went}
@@ -7,14 +8,14 @@ use Rattle.elan_scope.specs.declared.scope.Entry.{Entry}
 use Rattle.elan_levels.specs.declared.declare.Names.{Names}
 use Rattle.elan_levels.specs.declared.uses.Called.{Called}
 use Rattle.elan_levels.specs.walks.Seen.{with_entries, with_numbers}
-use Rattle.elan_levels.specs.Declarations.{declared, all_declared}
+use Rattle.elan_levels.specs.Declarations.{declared}
 use Rattle.elan_levels.specs.walks.Uses.{called, all_called}
 
-pub declarations : (s : Names) (ns : List Node) → went (λ (s : Names) n. with_entries s (declared n)) s ns ≡ with_entries s (all_declared ns)
+pub declarations : (s : Names) (ns : List Node) → went (λ (s : Names) n. with_entries s (declared n)) s ns ≡ with_entries s (flat_map declared ns)
 declarations s [] = sym (ap (λ (es : List Entry). record { alloc = s.alloc; entries = es }) (append-nil s.entries))
 declarations s (n ∷ ns) =
     declarations (with_entries s (declared n)) ns
-    ∙ ap (λ (es : List Entry). record { alloc = s.alloc; entries = es }) (append_assoc s.entries (declared n) (all_declared ns))
+    ∙ ap (λ (es : List Entry). record { alloc = s.alloc; entries = es }) (append_assoc s.entries (declared n) (flat_map declared ns))
 
 pub calls : (s : Called) (ns : List Node) → went (λ (s : Called) n. with_numbers s (called s.scope.now n)) s ns ≡ with_numbers s (all_called s.scope.now ns)
 calls s [] = sym (ap (λ (es : List ℕ). record { scope = s.scope; numbers = es }) (append-nil s.numbers))

@@ -1,5 +1,5 @@
 -- The PROCs, OPs and refinements of a level, numbered in text order, and the names that a level and a body declare.
-use Rattle.std.specs.Prelude.{ℕ, suc, ◌+◌, List, [], ◌∷◌, ◌++◌, map, length, Option, Some, None}
+use Rattle.std.specs.Prelude.{ℕ, suc, ◌+◌, List, [], ◌∷◌, ◌++◌, map, flat_map, length, Option, Some, None, option_map, option_and_then}
 use Rattle.elan_types.specs.declared.elan_type.ElanType.{ElanType}
 use Rattle.elan_types.specs.declared.core_phrase.Access.{Access}
 use Rattle.elan_types.specs.declared.core_phrase.Access.TheVariants as held
@@ -17,11 +17,13 @@ use Rattle.elan_tree.specs.declared.tree.LevelUnit.TheVariants as level
 use Rattle.elan_scope.specs.declared.scope.Denotes.{Denotes}
 use Rattle.elan_scope.specs.declared.scope.Denotes.TheVariants as denotes
 use Rattle.elan_scope.specs.declared.scope.Entry.{Entry}
+use Rattle.elan_scope.specs.Scope.{all_held}
 use Rattle.elan_scope.specs.declared.heading.Sort.{Sort}
 use Rattle.elan_scope.specs.declared.heading.Sort.TheVariants.{Procedure, Operator}
 use Rattle.elan_scope.specs.declared.heading.What.TheVariants as what
 use Rattle.elan_scope.specs.declared.heading.Heading.{Heading}
-use Rattle.elan_levels.specs.Declarations.{written_type, entry, in_unit, in_units}
+use Rattle.elan_levels.specs.Declarations.{entry, in_unit, in_units}
+use Rattle.elan_unbuilt.specs.Types.{written_type}
 use Rattle.elan_unbuilt.specs.Operators.{operator_text}
 
 -- ---- parameters
@@ -30,44 +32,27 @@ abbrev pub access_of : Given → Access
 access_of Const = held.Const
 access_of Var = held.Var
 
-abbrev pub parameter_of : Given → Option ElanType → Option Parameter
-parameter_of a None = None
-parameter_of a (Some t) = Some (record { of = t; access = access_of a })
-
 abbrev pub parameter : Formal → Option Parameter
-parameter f = parameter_of f.access (written_type f.of)
-
--- the same parameter for each name
-abbrev pub for_each : List Name → Option Parameter → List Parameter
-for_each ns None = []
-for_each ns (Some p) = map (λ n. p) ns
-
-abbrev pub parameters : List Formal → List Parameter
-parameters [] = []
-parameters (f ∷ fs) = for_each f.names (parameter f) ++ parameters fs
-
-abbrev pub as_parameter : Option Parameter → Option Denotes
-as_parameter None = None
-as_parameter (Some p) = Some (denotes.Parameter p)
+parameter f = option_map (λ t. record { of = t; access = access_of f.access }) (written_type f.of)
 
 abbrev pub named_as : List Name → Option Denotes → List Entry
-named_as [] d = []
-named_as (n ∷ ns) d = entry n d ++ named_as ns d
+named_as ns d = flat_map (λ n. entry n d) ns
 
 abbrev pub parameter_names : List Formal → List Entry
-parameter_names [] = []
-parameter_names (f ∷ fs) = named_as f.names (as_parameter (parameter f)) ++ parameter_names fs
+parameter_names fs = flat_map (λ f. named_as f.names (option_map denotes.Parameter (parameter f))) fs
+
+-- one for each name
+abbrev pub parameters : List Formal → List Parameter
+parameters fs = all_held (parameter_names fs)
 
 -- the type that a PROC or OP delivers
 abbrev pub result : Option TypePhrase → Option ElanType
-result None = None
-result (Some of) = written_type of
+result type = option_and_then written_type type
 
 -- ---- the names of a scope
 
 abbrev pub refinement_names : List Refinement → List Entry
-refinement_names [] = []
-refinement_names (r ∷ rs) = entry r.name (Some denotes.Refinement) ++ in_units r.units ++ refinement_names rs
+refinement_names rs = flat_map (λ r. entry r.name (Some denotes.Refinement) ++ in_units r.units) rs
 
 -- what a body declares beside its parameters
 abbrev pub own_names : Body → List Entry
@@ -85,21 +70,15 @@ procedure_name n (f ∷ fs) = []
 abbrev pub unit_names : LevelUnit → List Entry
 unit_names (level.Plain u) = in_unit u
 unit_names (level.Proc at r n fs b) = procedure_name n fs
-unit_names (level.NewType at n of) = []
-unit_names (level.Op at r n fs b) = []
-
-abbrev pub all_unit_names : List LevelUnit → List Entry
-all_unit_names [] = []
-all_unit_names (u ∷ us) = unit_names u ++ all_unit_names us
+unit_names _ = []
 
 abbrev pub level_names : Level → List Entry
-level_names l = all_unit_names l.units ++ refinement_names l.refinements
+level_names l = flat_map unit_names l.units ++ refinement_names l.refinements
 
 -- ---- the headings of bodies
 
 abbrev pub refinement_headings : Option ℕ → List Refinement → List Heading
-refinement_headings home [] = []
-refinement_headings home (r ∷ rs) = record { at = r.name.at; name = r.name.text; what = what.Refinement home } ∷ refinement_headings home rs
+refinement_headings home rs = map (λ r. record { at = r.name.at; name = r.name.text; what = what.Refinement home }) rs
 
 abbrev pub routine_heading : Sort → ℕ → List ℕ → List Formal → Option TypePhrase → Heading
 routine_heading sort at x fs r = record { at = at; name = x; what = what.Routine sort (parameters fs) (result r) }
@@ -108,24 +87,23 @@ routine_heading sort at x fs r = record { at = at; name = x; what = what.Routine
 abbrev pub bodies_in : LevelUnit → ℕ
 bodies_in (level.Proc at r n fs b) = suc (length b.refinements)
 bodies_in (level.Op at r n fs b) = suc (length b.refinements)
-bodies_in (level.Plain u) = 0
-bodies_in (level.NewType at n of) = 0
+bodies_in _ = 0
 
 abbrev pub bodies_of_units : List LevelUnit → ℕ
 bodies_of_units [] = 0
 bodies_of_units (u ∷ us) = bodies_in u + bodies_of_units us
 
+-- units, each with the number of its first body
+abbrev pub numbered : ℕ → List LevelUnit → List (ℕ × LevelUnit)
+numbered k [] = []
+numbered k (u ∷ us) = (k, u) ∷ numbered (k + bodies_in u) us
+
 -- the headings of a unit whose first body has this number
 abbrev pub unit_headings : ℕ → LevelUnit → List Heading
 unit_headings k (level.Proc at r n fs b) = routine_heading Procedure n.at n.text fs r ∷ refinement_headings (Some k) b.refinements
 unit_headings k (level.Op at r n fs b) = routine_heading Operator n.at (operator_text n.operator) fs r ∷ refinement_headings (Some k) b.refinements
-unit_headings k (level.Plain u) = []
-unit_headings k (level.NewType at n of) = []
-
-abbrev pub all_headings : ℕ → List LevelUnit → List Heading
-all_headings k [] = []
-all_headings k (u ∷ us) = unit_headings k u ++ all_headings (k + bodies_in u) us
+unit_headings k _ = []
 
 -- Each PROC or OP has a number, and behind it its refinements; behind them all stand the refinements of the level.
 abbrev pub headings : Level → List Heading
-headings l = all_headings 0 l.units ++ refinement_headings None l.refinements
+headings l = flat_map (λ u. unit_headings u.0 u.1) (numbered 0 l.units) ++ refinement_headings None l.refinements

@@ -1,4 +1,3 @@
 pub mod Declarations
 pub mod Bodies
-pub mod Called
 pub mod walks

@@ -1,14 +1,16 @@
 //! The names that a level and its bodies declare.
 
-ghost use Rattle.std.specs.Prelude.{◌≡◌, ◌++◌, IfOk, OnOk};
+ghost use Rattle.std.specs.Prelude.{◌≡◌, ◌++◌, flat_map, option_map, IfOk, OnOk};
+ghost use Rattle.elan_scope.specs.declared.scope.Denotes.TheVariants as denote;
 ghost use Rattle.elan_scope.specs.Scope as scopes;
 ghost use Rattle.elan_levels.specs.Bodies as spec;
 
-use crate::declare::{Names, written_type};
+use crate::declare::Names;
 use elan_scope::directory::Directory;
 use elan_scope::scope::{Denotes, Entry};
 use elan_tree::{Access as Given, Body, Formal, Level, LevelUnit, Name, Refinement};
 use elan_types::{Access, ElanType, Parameter};
+use elan_unbuilt::written_type;
 use eu_base::{List, NoMemory};
 use std::alloc::Global;
 
@@ -39,18 +41,18 @@ fn for_each(
     names: &[Name],
     parameter: Option<Parameter>,
 ) -> Result<(), NoMemory>
-    ensures { OnOk result (out.new ≡ out.old ++ spec.for_each names.now parameter) }
+    ensures { OnOk result (out.new ≡ out.old ++ scopes.all_held (spec.named_as names.now (option_map denote.Parameter parameter))) }
 {
-    let Some(parameter) = parameter else {
-        return Ok(());
-    };
     for _name in names {
-        out.push(parameter)?;
+        if let Some(one) = parameter {
+            out.push(one)?;
+        }
     }
     Ok(())
 }
 
 /// The parameters of a PROC or OP.
+#[tactic(auto, using(crate::proofs::Held::held_append))]
 pub fn parameters(alloc: Global, formals: &[Formal]) -> Result<List<Parameter>, NoMemory>
     ensures { IfOk result (λ list. list ≡ spec.parameters formals.now) }
 {
@@ -62,7 +64,7 @@ pub fn parameters(alloc: Global, formals: &[Formal]) -> Result<List<Parameter>, 
 }
 
 fn as_parameter(parameter: Option<Parameter>) -> Option<Denotes>
-    ensures { result ≡ spec.as_parameter parameter }
+    ensures { result ≡ option_map denote.Parameter parameter }
 {
     match parameter {
         None => None,
@@ -126,7 +128,7 @@ fn unit_names(out: &mut Names, unit: &LevelUnit) -> Result<(), NoMemory>
 }
 
 fn all_unit_names(out: &mut Names, units: &[LevelUnit]) -> Result<(), NoMemory>
-    ensures { OnOk result (out.new.entries ≡ out.old.entries ++ spec.all_unit_names units.now) }
+    ensures { OnOk result (out.new.entries ≡ out.old.entries ++ flat_map spec.unit_names units.now) }
 {
     for unit in units {
         unit_names(out, unit)?;

@@ -1,28 +1,19 @@
 //! The declarations of a text, in text order.
 
-ghost use Rattle.std.specs.Prelude.{◌≡◌, ◌++◌, OnOk};
+ghost use Rattle.std.specs.Prelude.{◌≡◌, ◌++◌, option_map, OnOk};
+ghost use Rattle.elan_scope.specs.declared.scope.Denotes.TheVariants as denotes;
+ghost use Rattle.elan_unbuilt.specs.Types.{written_type};
 ghost use Rattle.elan_levels.specs.Declarations as spec;
 
 use elan_scope::scope::{Denotes, Entry};
 use elan_tree::{Name, TypePhrase, Unit};
-use elan_types::ElanType;
+use elan_unbuilt::written_type;
 use elan_walk::{Held, Node, Visitor, visit_unit, visit_units};
 use eu_base::{Bytes, List, NoMemory};
 use std::alloc::Global;
 
-/// The type that is written; the other types are not built.
-pub fn written_type(of: &TypePhrase) -> Option<ElanType>
-    ensures { result ≡ spec.written_type of.now }
-{
-    match of {
-        TypePhrase::Int(_) => Some(ElanType::Int),
-        TypePhrase::Bool(_) => Some(ElanType::Bool),
-        _ => None,
-    }
-}
-
 fn variables(of: &TypePhrase) -> Option<Denotes>
-    ensures { result ≡ spec.variables (spec.written_type of.now) }
+    ensures { result ≡ option_map denotes.Variable (written_type of.now) }
 {
     match written_type(of) {
         None => None,
@@ -31,7 +22,7 @@ fn variables(of: &TypePhrase) -> Option<Denotes>
 }
 
 fn constants(of: &TypePhrase) -> Option<Denotes>
-    ensures { result ≡ spec.constants (spec.written_type of.now) }
+    ensures { result ≡ option_map denotes.Constant (written_type of.now) }
 {
     match written_type(of) {
         None => None,

@@ -2,14 +2,14 @@
 
 ghost use Rattle.std.specs.Prelude.{◌≡◌, ◌++◌, ◌+◌, IfOk, OnOk};
 ghost use Rattle.elan_levels.specs.Bodies as spec;
+ghost use Rattle.elan_levels.specs.walks.Headings as walks;
 
 use crate::bodies::parameters;
-use crate::declare::written_type;
 use elan_scope::heading::{Heading, Sort, What};
 use elan_scope::headings::Headings;
 use elan_tree::{Formal, Level, LevelUnit, Refinement, TypePhrase};
 use elan_types::ElanType;
-use elan_unbuilt::operator_text;
+use elan_unbuilt::{operator_text, written_type};
 use eu_base::{Bytes, List, NoMemory};
 use std::alloc::Global;
 
@@ -147,7 +147,7 @@ fn unit_headings(
 }
 
 fn all_headings(alloc: Global, out: &mut List<Heading>, units: &[LevelUnit]) -> Result<(), NoMemory>
-    ensures { OnOk result (out.new ≡ out.old ++ spec.all_headings 0 units.now) }
+    ensures { OnOk result (out.new ≡ out.old ++ walks.all_headings 0 units.now) }
 {
     let mut number = 0;
     for unit in units {

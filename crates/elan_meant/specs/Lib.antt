@@ -4,4 +4,5 @@ pub use Rattle.elan_scope.specs.Answer
 pub mod Verdict
 pub mod Operands
 pub mod Parts
+pub mod Arms
 pub mod walks

@@ -1,7 +1,9 @@
 -- What the parts of a phrase deliver, where they have meaning.
 use Rattle.std.specs.Prelude.{ℕ, pos, Bool, true, false, List, [], ◌∷◌, flat_map, Option, Some, None, slice_index_or}
+use Rattle.std.specs.Option.{option_map}
 use Rattle.elan_types.specs.declared.elan_type.ElanType.{ElanType}
-use Rattle.elan_types.specs.declared.elan_type.ElanType.TheVariants.{Int, Bool as Truths}
+use Rattle.elan_types.specs.declared.elan_type.ElanType.TheVariants.{Int, Bool as Truths, Text}
+use Rattle.eu_base.specs.declared.operation.Operation.TheVariants.{EmptyText}
 use Rattle.elan_types.specs.declared.core_phrase.PlacePhrase.{PlacePhrase}
 use Rattle.elan_types.specs.declared.core_phrase.ValuePhrase.{ValuePhrase}
 use Rattle.elan_types.specs.declared.core_phrase.ValuePhrase.TheVariants as value
@@ -43,9 +45,7 @@ may_deliver t Absent = true
 may_deliver t m = delivers t m
 
 abbrev pub written : Meant → Option ValuePhrase
-written (Variable at t p) = Some (value.Load p t)
-written (Value at t v) = Some v
-written _ = None
+written m = option_map (λ t. value_of m) (type_in m)
 
 -- a unit that delivers nothing
 abbrev pub unit_of : List Action → Meant
@@ -59,6 +59,7 @@ actions_of ms = flat_map actions ms
 abbrev pub blank : ElanType → ValuePhrase
 blank Int = value.Number (pos 0)
 blank Truths = value.Truth false
+blank Text = value.Apply EmptyText []
 
 -- behind a LEAVE any value of the type that is asked for
 abbrev pub unreached : List Action → ElanType → ValuePhrase

@@ -2,7 +2,9 @@
 #![tactic(auto)]
 
 pub mod arity;
+pub mod arms;
 pub mod meant;
 pub mod operands;
 pub mod part;
 pub mod row;
+pub mod together;

@@ -8,7 +8,7 @@ use crate::meant::Meant;
 use crate::operands::delivers;
 use crate::row::Judged;
 use elan_scope::trouble::Trouble;
-use elan_types::{Action, ElanType, PlacePhrase, ValuePhrase, Why};
+use elan_types::{Action, ElanType, Operation, PlacePhrase, ValuePhrase, Why};
 use eu_base::{Boxed, List, NoMemory};
 use std::alloc::Global;
 
@@ -170,13 +170,21 @@ pub fn unit_doing(alloc: Global, action: Action) -> Judged
     unit_of(alloc, actions)
 }
 
+/// A value in a box of its own.
+pub fn boxed(alloc: Global, value: ValuePhrase) -> Result<Boxed<ValuePhrase>, NoMemory>
+    ensures { IfOk result (λ made. made ≡ value) }
+{
+    Boxed::new(alloc, value)
+}
+
 /// Any value of a type; it stands behind a LEAVE, where it is never reached.
-pub fn blank(of: ElanType) -> ValuePhrase
+pub fn blank(alloc: Global, of: ElanType) -> ValuePhrase
     ensures { result ≡ spec.blank of }
 {
     match of {
         ElanType::Int => ValuePhrase::Number(0),
         ElanType::Bool => ValuePhrase::Truth(false),
+        ElanType::Text => ValuePhrase::Apply(Operation::EmptyText, List::new(alloc)),
     }
 }
 
@@ -188,6 +196,6 @@ pub fn unreached(
 ) -> Result<Boxed<ValuePhrase>, NoMemory>
     ensures { IfOk result (λ v. v ≡ spec.unreached actions of) }
 {
-    let value = Boxed::new(alloc, blank(of))?;
+    let value = Boxed::new(alloc, blank(alloc, of))?;
     Boxed::new(alloc, ValuePhrase::After(actions, value))
 }

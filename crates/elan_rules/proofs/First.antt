@@ -1,11 +1,11 @@
 -- Going from left to right gives the meaning, or the first phrase that breaks a rule, or finds that a part hangs.
-use Rattle.std.proofs.Common.{◌≡◌, List, [], ◌∷◌, ◌++◌, refl, sym, ap, subst, ◌∙◌, append_assoc, ◌⊎◌, inl, inr}
+use Rattle.std.proofs.Common.{◌≡◌, List, [], ◌∷◌, ◌++◌, refl, sym, ap, subst, ◌∙◌, ◌⊎◌, inl, inr}
 use Rattle.elan_meant.specs.declared.meant.Meant.{Meant}
 use Rattle.elan_scope.specs.Phrase.{Phrase, phrase, Parts, none, part}
 use Rattle.elan_scope.specs.Ruled.{Fault, Ruled, gives, breaks, hangs, ◌>>=◌, before}
 use Rattle.elan_scope.specs.declared.known.Known.{Known}
 use Rattle.elan_rules.specs.Rules.{ruled}
-use Rattle.elan_rules.specs.Meaning.{Means, AllMean, Breaks, phrases, phrases_of, NoneBreaks, IsFirst, judged, judged_all}
+use Rattle.elan_rules.specs.Meaning.{Means, Breaks, phrases, phrases_of, IsFirst, judged, judged_all}
 
 -- ---- one step
 
@@ -61,41 +61,20 @@ pub breaks_has_fault : {A : Type 0} (f : Fault) → Faultless (faulty {A = A} f)
 breaks_has_fault f h = elim h [ ]
 
 module _ (kn : Known) where
-  -- ---- meaning
-
-  mutual
-    pub means_of : (p : Phrase) (m : Meant) → judged kn p ≡ gives m → Means kn p m
-    means_of (phrase form ps) m e =
-        let b = bind_gives (judged_all kn ps) (ruled kn form) m e in
-        (b.0, all_mean_of ps b.0 b.1, b.2)
-
-    pub all_mean_of : (ps : Parts) (ms : List Meant) → judged_all kn ps ≡ gives ms → AllMean kn ps ms
-    all_mean_of none ms e = sym (gives_is [] ms e)
-    all_mean_of (part p ps) ms e =
-        let b = before_gives (judged kn p) (judged_all kn ps) ms e in
-        (b.0, b.1, means_of p b.0 b.2, all_mean_of ps b.1 b.3, b.4)
-
-  mutual
-    pub judged_of : (p : Phrase) (m : Meant) → Means kn p m → judged kn p ≡ gives m
-    judged_of (phrase form ps) m h = ap (λ (r : Ruled (List Meant)). r >>= ruled kn form) (judged_all_of ps h.0 h.1) ∙ h.2
-
-    pub judged_all_of : (ps : Parts) (ms : List Meant) → AllMean kn ps ms → judged_all kn ps ≡ gives ms
-    judged_all_of none ms h = ap (λ (l : List Meant). gives l) (sym h)
-    judged_all_of (part p ps) ms h =
-        ap (λ (r : Ruled Meant). before r (judged_all kn ps)) (judged_of p h.0 h.2)
-        ∙ ap (λ (r : Ruled (List Meant)). r >>= (λ rest. gives (h.0 ∷ rest))) (judged_all_of ps h.1 h.3)
-        ∙ ap (λ (l : List Meant). gives l) (sym h.4)
-
   -- a phrase has at most one meaning
   pub one_meaning : (p : Phrase) (m n : Meant) → Means kn p m → Means kn p n → m ≡ n
-  one_meaning p m n h k = gives_is m n (sym (judged_of p m h) ∙ judged_of p n k)
+  one_meaning p m n h k = gives_is m n (sym h ∙ k)
 
   pub judged_breaks : (p : Phrase) (f : Fault) → Breaks kn p f → judged kn p ≡ breaks f
-  judged_breaks (phrase form ps) f h = ap (λ (r : Ruled (List Meant)). r >>= ruled kn form) (judged_all_of ps h.0 h.1) ∙ h.2
+  judged_breaks (phrase at form ps) f h = ap (λ (r : Ruled (List Meant)). r >>= ruled kn at form) h.1 ∙ h.2
 
   -- ---- phrases of which none breaks a rule
 
-  none_append : (xs ys : List Phrase) → NoneBreaks kn xs → NoneBreaks kn ys → NoneBreaks kn (xs ++ ys)
+  abbrev pub NoneBreaks : List Phrase → Type 0
+  NoneBreaks [] = Unit {0}
+  NoneBreaks (p ∷ ps) = ((f : Fault) → Breaks kn p f → ⊥) × NoneBreaks ps
+
+  none_append : (xs ys : List Phrase) → NoneBreaks xs → NoneBreaks ys → NoneBreaks (xs ++ ys)
   none_append [] ys h k = k
   none_append (x ∷ xs) ys h k = (h.0, none_append xs ys h.1 k)
 
@@ -117,12 +96,12 @@ module _ (kn : Known) where
   before_faultless hangs hangs h = (open_one, open_one)
 
   mutual
-    pub none_breaks : (p : Phrase) → Faultless (judged kn p) → NoneBreaks kn (phrases p)
-    none_breaks (phrase form ps) e =
-        none_append (phrases_of ps) (phrase form ps ∷ []) (none_breaks_of ps (bind_faultless (judged_all kn ps) (ruled kn form) e))
-        (λ f h. does_not_break (phrase form ps) f e h, tt)
+    pub none_breaks : (p : Phrase) → Faultless (judged kn p) → NoneBreaks (phrases p)
+    none_breaks (phrase at form ps) e =
+        none_append (phrases_of ps) (phrase at form ps ∷ []) (none_breaks_of ps (bind_faultless (judged_all kn ps) (ruled kn at form) e))
+        (λ f h. does_not_break (phrase at form ps) f e h, tt)
 
-    pub none_breaks_of : (ps : Parts) → Faultless (judged_all kn ps) → NoneBreaks kn (phrases_of ps)
+    pub none_breaks_of : (ps : Parts) → Faultless (judged_all kn ps) → NoneBreaks (phrases_of ps)
     none_breaks_of none e = tt
     none_breaks_of (part p ps) e =
         let b = before_faultless (judged kn p) (judged_all kn ps) e in
@@ -137,35 +116,24 @@ module _ (kn : Known) where
   -- ---- the first fault
 
   first_left : (xs ys : List Phrase) (f : Fault) → IsFirst kn xs f → IsFirst kn (xs ++ ys) f
-  first_left xs ys f h = record {
-    earlier = h.earlier;
-    first = h.first;
-    later = h.later ++ ys;
-    order = ap (λ (l : List Phrase). l ++ ys) h.order ∙ append_assoc h.earlier (h.first ∷ h.later) ys;
-    breaks = h.breaks;
-    none_earlier = h.none_earlier;
-  }
+  first_left [] ys f h = absurd h
+  first_left (x ∷ xs) ys f h =
+      elim h [
+        | inl b ↦ inl b
+        | inr r ↦ inr (r.0, first_left xs ys f r.1)
+      ]
 
-  first_right : (xs ys : List Phrase) (f : Fault) → NoneBreaks kn xs → IsFirst kn ys f → IsFirst kn (xs ++ ys) f
-  first_right xs ys f n h = record {
-    earlier = xs ++ h.earlier;
-    first = h.first;
-    later = h.later;
-    order = ap (λ (l : List Phrase). xs ++ l) h.order ∙ sym (append_assoc xs h.earlier (h.first ∷ h.later));
-    breaks = h.breaks;
-    none_earlier = none_append xs h.earlier n h.none_earlier;
-  }
-
-  alone : (p : Phrase) (f : Fault) → Breaks kn p f → IsFirst kn (p ∷ []) f
-  alone p f b = record { earlier = []; first = p; later = []; order = refl; breaks = b; none_earlier = tt }
+  first_right : (xs ys : List Phrase) (f : Fault) → NoneBreaks xs → IsFirst kn ys f → IsFirst kn (xs ++ ys) f
+  first_right [] ys f n h = h
+  first_right (x ∷ xs) ys f n h = inr (n.0, first_right xs ys f n.1 h)
 
   mutual
     pub refused_of : (p : Phrase) (f : Fault) → judged kn p ≡ breaks f → IsFirst kn (phrases p) f
-    refused_of (phrase form ps) f e =
-        elim (bind_breaks (judged_all kn ps) (ruled kn form) f e) [
-          | inl h ↦ first_left (phrases_of ps) (phrase form ps ∷ []) f (refused_all_of ps f h)
-          | inr h ↦ first_right (phrases_of ps) (phrase form ps ∷ []) f (none_breaks_of ps (faultless (judged_all kn ps) h.0 h.1))
-              (alone (phrase form ps) f (h.0, all_mean_of ps h.0 h.1, h.2))
+    refused_of (phrase at form ps) f e =
+        elim (bind_breaks (judged_all kn ps) (ruled kn at form) f e) [
+          | inl h ↦ first_left (phrases_of ps) (phrase at form ps ∷ []) f (refused_all_of ps f h)
+          | inr h ↦ first_right (phrases_of ps) (phrase at form ps ∷ []) f (none_breaks_of ps (faultless (judged_all kn ps) h.0 h.1))
+              (inl (h.0, h.1, h.2))
         ]
 
     pub refused_all_of : (ps : Parts) (f : Fault) → judged_all kn ps ≡ breaks f → IsFirst kn (phrases_of ps) f
@@ -185,24 +153,28 @@ module _ (kn : Known) where
   same_fault : (p : Phrase) (f g : Fault) → Breaks kn p f → Breaks kn p g → f ≡ g
   same_fault p f g h k = fault_is f g (sym (judged_breaks p f h) ∙ judged_breaks p g k)
 
-  same_place : (b1 b2 a1 a2 : List Phrase) (p q : Phrase) (f g : Fault) → b1 ++ p ∷ a1 ≡ b2 ++ q ∷ a2 → NoneBreaks kn b1 → NoneBreaks kn b2 → Breaks kn p f
-      → Breaks kn q g → f ≡ g
-  same_place [] [] a1 a2 p q f g e n1 n2 h k = let pq : p ≡ q = cc in same_fault q f g (subst (λ (r : Phrase). Breaks kn r f) pq h) k
-  same_place [] (r ∷ b2) a1 a2 p q f g e n1 n2 h k = let pr : p ≡ r = cc in absurd (n2.0 f (subst (λ (r : Phrase). Breaks kn r f) pr h))
-  same_place (r ∷ b1) [] a1 a2 p q f g e n1 n2 h k = let qr : q ≡ r = cc in absurd (n1.0 g (subst (λ (r : Phrase). Breaks kn r g) qr k))
-  same_place (r ∷ b1) (s ∷ b2) a1 a2 p q f g e n1 n2 h k =
-      let rest : b1 ++ p ∷ a1 ≡ b2 ++ q ∷ a2 = cc in
-      same_place b1 b2 a1 a2 p q f g rest n1.1 n2.1 h k
-
   pub one_first : (ps : List Phrase) (f g : Fault) → IsFirst kn ps f → IsFirst kn ps g → f ≡ g
-  one_first ps f g h k =
-      same_place h.earlier k.earlier h.later k.later h.first k.first f g (sym h.order ∙ k.order) h.none_earlier k.none_earlier h.breaks k.breaks
+  one_first [] f g h k = absurd h
+  one_first (p ∷ ps) f g h k =
+      elim h [
+        | inl a ↦ elim k [
+          | inl b ↦ same_fault p f g a b
+          | inr b ↦ absurd (b.0 f a)
+        ]
+        | inr a ↦ elim k [
+          | inl b ↦ absurd (a.0 g b)
+          | inr b ↦ one_first ps f g a.1 b.1
+        ]
+      ]
 
-  none_at : (xs ys : List Phrase) (p : Phrase) (f : Fault) → NoneBreaks kn (xs ++ p ∷ ys) → Breaks kn p f → ⊥
-  none_at [] ys p f n h = n.0 f h
-  none_at (x ∷ xs) ys p f n h = none_at xs ys p f n.1 h
+  pub none_first : (ps : List Phrase) (f : Fault) → NoneBreaks ps → IsFirst kn ps f → ⊥
+  none_first [] f n h = h
+  none_first (p ∷ ps) f n h =
+      elim h [
+        | inl b ↦ n.0 f b
+        | inr r ↦ none_first ps f n.1 r.1
+      ]
 
   -- a phrase that has meaning is not refused
   pub meant_is_not_refused : (p : Phrase) (m : Meant) (f : Fault) → Means kn p m → IsFirst kn (phrases p) f → ⊥
-  meant_is_not_refused p m f h r =
-      none_at r.earlier r.later r.first f (subst (NoneBreaks kn) r.order (none_breaks p (faultless (judged kn p) m (judged_of p m h)))) r.breaks
+  meant_is_not_refused p m f h r = none_first (phrases p) f (none_breaks p (faultless (judged kn p) m h)) r

@@ -1,5 +1,5 @@
 -- A phrase with several parts, by what these mean beside each other.
-use Rattle.std.proofs.Common.{◌≡◌, List, [], ◌∷◌, Result, refl, ap, sym, subst, ◌∙◌}
+use Rattle.std.proofs.Common.{◌≡◌, ℕ, List, [], ◌∷◌, Result, refl, ap, sym, subst, ◌∙◌}
 use Rattle.elan_scope.specs.declared.trouble.Trouble.{Trouble}
 use Rattle.elan_scope.specs.declared.trouble.Trouble.TheVariants.{NoMemory, Breaks, Hangs}
 use Rattle.elan_scope.specs.declared.known.Known.{Known}
@@ -100,42 +100,42 @@ six_row r q s t u v = ap (λ (z : Ruled (List Meant)). before r (before q (befor
 
 -- ---- the whole, where its parts are listed so
 
-module _ (k : Known) (f : Plain) (ps : Parts) {A : Type 0} (g : A → List Meant) (r : Ruled A) (e : judged_all k ps ≡ listed g r) where
-  whole_fails : (d : Trouble) → Fails d r → Fails d (judged k (phrase (plain f) ps))
+module _ (k : Known) (at : ℕ) (f : Plain) (ps : Parts) {A : Type 0} (g : A → List Meant) (r : Ruled A) (e : judged_all k ps ≡ listed g r) where
+  whole_fails : (d : Trouble) → Fails d r → Fails d (judged k (phrase at (plain f) ps))
   whole_fails d h =
-      bind_fails d (judged_all k ps) (ruled k (plain f)) (subst (λ (z : Ruled (List Meant)). Fails d z) (sym e) (bind_fails d r (λ b. gives (g b)) h))
+      bind_fails d (judged_all k ps) (ruled k at (plain f)) (subst (λ (z : Ruled (List Meant)). Fails d z) (sym e) (bind_fails d r (λ b. gives (g b)) h))
 
-  whole_is : (out : Result Meant Trouble) (x : A) → r ≡ gives x → Tells out (rule f (g x)) → Is out (judged k (phrase (plain f) ps))
+  whole_is : (out : Result Meant Trouble) (x : A) → r ≡ gives x → Tells out (rule at f (g x)) → Is out (judged k (phrase at (plain f) ps))
   whole_is out x i h =
-      subst (λ (z : Ruled (List Meant)). Is out (z >>= ruled k (plain f))) (sym (e ∙ ap (listed g) i)) h
+      subst (λ (z : Ruled (List Meant)). Is out (z >>= ruled k at (plain f))) (sym (e ∙ ap (listed g) i)) h
 
-module _ (k : Known) (f : Plain) (p q : Phrase) where
-  pub pair_fails : (d : Trouble) → Fails d (beside (judged k p) (judged k q)) → Fails d (judged k (pair f p q))
-  pair_fails = whole_fails k f (all_of (p ∷ q ∷ [])) two_in (beside (judged k p) (judged k q)) (two_row (judged k p) (judged k q))
+module _ (k : Known) (at : ℕ) (f : Plain) (p q : Phrase) where
+  pub pair_fails : (d : Trouble) → Fails d (beside (judged k p) (judged k q)) → Fails d (judged k (pair at f p q))
+  pair_fails = whole_fails k at f (all_of (p ∷ q ∷ [])) two_in (beside (judged k p) (judged k q)) (two_row (judged k p) (judged k q))
 
-  pub pair_is : (out : Result Meant Trouble) (m n : Meant) → beside (judged k p) (judged k q) ≡ gives (m, n) → Tells out (rule f (m ∷ n ∷ []))
-      → Is out (judged k (pair f p q))
-  pair_is out m n = whole_is k f (all_of (p ∷ q ∷ [])) two_in (beside (judged k p) (judged k q)) (two_row (judged k p) (judged k q)) out (m, n)
+  pub pair_is : (out : Result Meant Trouble) (m n : Meant) → beside (judged k p) (judged k q) ≡ gives (m, n) → Tells out (rule at f (m ∷ n ∷ []))
+      → Is out (judged k (pair at f p q))
+  pair_is out m n = whole_is k at f (all_of (p ∷ q ∷ [])) two_in (beside (judged k p) (judged k q)) (two_row (judged k p) (judged k q)) out (m, n)
 
-module _ (k : Known) (f : Plain) (p q o : Phrase) where
+module _ (k : Known) (at : ℕ) (f : Plain) (p q o : Phrase) where
   abbrev pub Beside : Ruled Three
   Beside = triple (judged k p) (judged k q) (judged k o)
 
-  pub three_fails : (d : Trouble) → Fails d Beside → Fails d (judged k (row f (p ∷ q ∷ o ∷ [])))
-  three_fails = whole_fails k f (all_of (p ∷ q ∷ o ∷ [])) three_in Beside (three_row (judged k p) (judged k q) (judged k o))
+  pub three_fails : (d : Trouble) → Fails d Beside → Fails d (judged k (row at f (p ∷ q ∷ o ∷ [])))
+  three_fails = whole_fails k at f (all_of (p ∷ q ∷ o ∷ [])) three_in Beside (three_row (judged k p) (judged k q) (judged k o))
 
-  pub three_is : (out : Result Meant Trouble) (x : Three) → Beside ≡ gives x → Tells out (rule f (three_in x)) → Is out (judged k (row f (p ∷ q ∷ o ∷ [])))
-  three_is = whole_is k f (all_of (p ∷ q ∷ o ∷ [])) three_in Beside (three_row (judged k p) (judged k q) (judged k o))
+  pub three_is : (out : Result Meant Trouble) (x : Three) → Beside ≡ gives x → Tells out (rule at f (three_in x)) → Is out (judged k (row at f (p ∷ q ∷ o ∷ [])))
+  three_is = whole_is k at f (all_of (p ∷ q ∷ o ∷ [])) three_in Beside (three_row (judged k p) (judged k q) (judged k o))
 
-module _ (k : Known) (f : Plain) (p q o u v w : Phrase) where
+module _ (k : Known) (at : ℕ) (f : Plain) (p q o u v w : Phrase) where
   abbrev SixBeside : Ruled (Three × Three)
   SixBeside = beside (triple (judged k p) (judged k q) (judged k o)) (triple (judged k u) (judged k v) (judged k w))
 
   abbrev six : List Phrase
   six = p ∷ q ∷ o ∷ u ∷ v ∷ w ∷ []
 
-  pub six_fails : (d : Trouble) → Fails d SixBeside → Fails d (judged k (row f six))
-  six_fails = whole_fails k f (all_of six) six_in SixBeside (six_row (judged k p) (judged k q) (judged k o) (judged k u) (judged k v) (judged k w))
+  pub six_fails : (d : Trouble) → Fails d SixBeside → Fails d (judged k (row at f six))
+  six_fails = whole_fails k at f (all_of six) six_in SixBeside (six_row (judged k p) (judged k q) (judged k o) (judged k u) (judged k v) (judged k w))
 
-  pub six_is : (out : Result Meant Trouble) (x : Three × Three) → SixBeside ≡ gives x → Tells out (rule f (six_in x)) → Is out (judged k (row f six))
-  six_is = whole_is k f (all_of six) six_in SixBeside (six_row (judged k p) (judged k q) (judged k o) (judged k u) (judged k v) (judged k w))
+  pub six_is : (out : Result Meant Trouble) (x : Three × Three) → SixBeside ≡ gives x → Tells out (rule at f (six_in x)) → Is out (judged k (row at f six))
+  six_is = whole_is k at f (all_of six) six_in SixBeside (six_row (judged k p) (judged k q) (judged k o) (judged k u) (judged k v) (judged k w))

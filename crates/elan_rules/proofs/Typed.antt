@@ -2,7 +2,7 @@
 use Rattle.std.proofs.Common.{ℕ, zero, suc, drop}
 use Rattle.std.proofs.Common.{◌≡◌, Bool, true, false, ◌&&◌, if◌then◌else◌, List, [], ◌∷◌, ◌++◌, map, Option, Some, None, refl, sym, subst, ◌∙◌}
 use Rattle.elan_types.specs.declared.elan_type.ElanType.{ElanType}
-use Rattle.elan_types.specs.declared.elan_type.ElanType.TheVariants.{Int, Bool as Truths}
+use Rattle.elan_types.specs.declared.elan_type.ElanType.TheVariants.{Int, Bool as Truths, Text as Letters}
 use Rattle.elan_types.specs.declared.core_phrase.PlacePhrase.{PlacePhrase}
 use Rattle.elan_types.specs.declared.core_phrase.ValuePhrase.{ValuePhrase}
 use Rattle.elan_types.specs.declared.core_phrase.ValuePhrase.TheVariants as value
@@ -23,12 +23,18 @@ use Rattle.elan_rules.proofs.TypeEquations.{Stand, type, typed, lies, load_is, u
 pub same_is : (t u : ElanType) → same_type t u ≡ true → t ≡ u
 same_is Int Int e = refl
 same_is Int Truths e = absurd cc
+same_is Int Letters e = absurd cc
 same_is Truths Int e = absurd cc
 same_is Truths Truths e = refl
+same_is Truths Letters e = absurd cc
+same_is Letters Int e = absurd cc
+same_is Letters Truths e = absurd cc
+same_is Letters Letters e = refl
 
 pub same_self : (t : ElanType) → same_type t t ≡ true
 same_self Int = refl
 same_self Truths = refl
+same_self Letters = refl
 
 pub has_self : (t : ElanType) (a : Typed) → a ≡ Some t → has t a ≡ true
 has_self t a e = subst (λ (b : Typed). has t b ≡ true) (sym e) (same_self t)

@@ -12,7 +12,7 @@ use Rattle.elan_meant.specs.declared.meant.Meant.{Meant}
 use Rattle.elan_scope.specs.declared.scope.Usage.{Usage}
 use Rattle.elan_scope.specs.declared.scope.Usage.TheVariants as usage
 use Rattle.elan_meant.specs.declared.meant.Meant.TheVariants.{Absent, Variable, Value, Done, Left, Labels, Bodies, Level}
-use Rattle.std.specs.Prelude.{slice_get, nat_eq}
+use Rattle.std.specs.Prelude.{slice_get, nat_eq, option_and_then}
 use Rattle.std.specs.Str.{bytes_eq}
 use Rattle.elan_types.specs.declared.core_phrase.Access.{Access}
 use Rattle.elan_types.specs.declared.core_phrase.Access.TheVariants.{Const, Var}
@@ -35,7 +35,8 @@ use Rattle.elan_scope.specs.declared.heading.What.{What}
 use Rattle.elan_scope.specs.declared.heading.What.TheVariants.{Routine, Refinement}
 use Rattle.elan_scope.specs.declared.heading.Heading.{Heading}
 use Rattle.elan_scope.specs.Scope as scope
-use Rattle.elan_scope.specs.Scope.{Callable, number_of, held, all_held, types_of, variables_of, or_else}
+use Rattle.std.specs.Option.{option_or}
+use Rattle.elan_scope.specs.Scope.{Callable, number_of, held, all_held, types_of, variables_of}
 use Rattle.elan_scope.specs.declared.scope.Scope.{Scope}
 use Rattle.elan_scope.specs.declared.scope.Within.{Within}
 use Rattle.elan_scope.specs.declared.scope.Home.{Home}
@@ -44,7 +45,8 @@ use Rattle.elan_scope.specs.declared.scope.Home.TheVariants.{Level as of_level, 
 use Rattle.elan_scope.specs.Known.{delivery_at, leads_back}
 use Rattle.elan_scope.specs.declared.known.Known.{Known}
 use Rattle.elan_scope.specs.Predefined.{predefined}
-use Rattle.elan_scope.proofs.Layers.{called_as}
+use Rattle.elan_scope.proofs.Layers.{called_as, layers_in, outer_layers}
+use Rattle.elan_scope.proofs.Named.{first_heading_from}
 use Rattle.elan_meant.specs.Operands.{delivers, takes, chosen}
 use Rattle.elan_rules.proofs.Typed as ty
 use Rattle.elan_rules.proofs.Typed.{same_is, same_self, has_self, agree_self, only_if_holds, both, and_true, Gives, MayGive, on_if, on_bind, on_told, on_either}
@@ -97,13 +99,13 @@ types_at [] i q e = absurd cc
 types_at (a ∷ ps) zero q e = let h : a ≡ q = cc in ap (λ (b : Parameter). Some b.of) h
 types_at (a ∷ ps) (suc i) q e = types_at ps i q e
 
-heading_at : (k : ℕ) (test : Heading → Bool) (hs : List Heading) (b : ℕ × Heading) → scope.first_heading_from k test hs ≡ Some b
+heading_at : (k : ℕ) (test : Heading → Bool) (hs : List Heading) (b : ℕ × Heading) → first_heading_from k test hs ≡ Some b
     → (i : ℕ) × (b.0 ≡ k + i) × (slice_get hs i ≡ Some b.1) × (test b.1 ≡ true)
 heading_at k test [] b e = absurd cc
 heading_at k test (h ∷ hs) b e = by_test (heading_at (k + 1) test hs b) (test h) refl e
   where
-    by_test : (scope.first_heading_from (k + 1) test hs ≡ Some b → (i : ℕ) × (b.0 ≡ k + 1 + i) × (slice_get hs i ≡ Some b.1) × (test b.1 ≡ true)) → (c : Bool)
-        → test h ≡ c → (if c then Some (k, h) else scope.first_heading_from (k + 1) test hs) ≡ Some b
+    by_test : (first_heading_from (k + 1) test hs ≡ Some b → (i : ℕ) × (b.0 ≡ k + 1 + i) × (slice_get hs i ≡ Some b.1) × (test b.1 ≡ true)) → (c : Bool)
+        → test h ≡ c → (if c then Some (k, h) else first_heading_from (k + 1) test hs) ≡ Some b
         → (i : ℕ) × (b.0 ≡ k + i) × (slice_get (h ∷ hs) i ≡ Some b.1) × (test b.1 ≡ true)
     by_test rest true t g =
         let j : (k, h) ≡ b = cc in (
@@ -132,7 +134,7 @@ pub record Fits (here : Stand) (s : Scope) (k : Known) : Type 0 where
   pub level : here.variables ≡ variables_of s.level
   pub frame : FrameIs (frame_in here.bodies (owner_in here.bodies here.home)) s.routine
   pub owner_is : owner_in here.bodies here.home ≡ number_of s.routine
-  pub home_is : here.home ≡ or_else s.refinement (number_of s.routine)
+  pub home_is : here.home ≡ option_or s.refinement (number_of s.routine)
   pub part_of : (r q : ℕ) → s.refinement ≡ Some r → number_of s.routine ≡ Some q → scope_of (slice_get here.bodies r) ≡ Some (owner.Of q)
   pub bodies : (n : ℕ) (h : Heading) → slice_get s.headings n ≡ Some h → BodyFits (slice_get here.bodies n) h (delivery_at k n)
 
@@ -217,16 +219,16 @@ module _ (here : Stand) where
     routine_lies es None x fe e = tt
     routine_lies es (Some f) x fe e = routine_found es f x fe e
 
-    else_lies : (o q : Option Found) → FoundLies o → FoundLies q → FoundLies (or_else o q)
+    else_lies : (o q : Option Found) → FoundLies o → FoundLies q → FoundLies (option_or o q)
     else_lies None q h i = i
     else_lies (Some f) q h i = h
 
     find_lies_from : (v : Option Within) (x : List ℕ) → FrameIs (frame_in here.bodies (owner_in here.bodies here.home)) v
-        → FoundLies (scope.find_in x (scope.layers_in v (scope.outer_layers s.level s.headings)))
+        → FoundLies (scope.find_in x (layers_in v (outer_layers s.level s.headings)))
     find_lies_from None x h = else_lies (scope.found_in of_level (scope.first_named s.level x)) None (level_lies (scope.first_named s.level x) x refl) tt
     find_lies_from (Some v) x h =
         else_lies (scope.found_in of_routine (scope.first_named v.names x))
-        (or_else (scope.from_inside (scope.found_in of_level (scope.first_named s.level x))) None) (routine_lies v.names (scope.first_named v.names x) x h refl)
+        (option_or (scope.from_inside (scope.found_in of_level (scope.first_named s.level x))) None) (routine_lies v.names (scope.first_named v.names x) x h refl)
         (else_lies (scope.from_inside (scope.found_in of_level (scope.first_named s.level x))) None
         (inside_lies (scope.found_in of_level (scope.first_named s.level x)) (level_lies (scope.first_named s.level x) x refl)) tt)
 
@@ -234,7 +236,7 @@ module _ (here : Stand) where
     find_lies x = find_lies_from s.routine x fits.frame
 
     own_lies_from : (v : Option Within) (x : List ℕ) → FrameIs (frame_in here.bodies (owner_in here.bodies here.home)) v
-        → FoundLies (scope.find_first x (scope.layers_in v (scope.outer_layers s.level s.headings)))
+        → FoundLies (option_and_then (scope.found x) (slice_get (layers_in v (outer_layers s.level s.headings)) 0))
     own_lies_from None x h = level_lies (scope.first_named s.level x) x refl
     own_lies_from (Some v) x h = routine_lies v.names (scope.first_named v.names x) x h refl
 
@@ -383,15 +385,15 @@ module _ (here : Stand) where
     routine_left z x None i e = tt
     routine_left None x (Some n) i e =
         let h = named_heading (number_of s.routine) x n e in
-        (h.0, h.1, ap (λ (y : InBody). left_from here.bodies exits.Body y) (fits.home_is ∙ ap (λ (y : Option ℕ). or_else y (number_of s.routine)) i ∙ h.2))
+        (h.0, h.1, ap (λ (y : InBody). left_from here.bodies exits.Body y) (fits.home_is ∙ ap (λ (y : Option ℕ). option_or y (number_of s.routine)) i ∙ h.2))
     routine_left (Some m) x (Some n) i e =
         let h = named_heading (number_of s.routine) x n e in
-        (h.0, h.1, around_left n m (fits.home_is ∙ ap (λ (y : Option ℕ). or_else y (number_of s.routine)) i) (fits.part_of m n i h.2))
+        (h.0, h.1, around_left n m (fits.home_is ∙ ap (λ (y : Option ℕ). option_or y (number_of s.routine)) i) (fits.part_of m n i h.2))
 
     refinement_home : (n : ℕ) → s.refinement ≡ Some n → here.home ≡ Some n
-    refinement_home n e = fits.home_is ∙ ap (λ (y : Option ℕ). or_else y (number_of s.routine)) e
+    refinement_home n e = fits.home_is ∙ ap (λ (y : Option ℕ). option_or y (number_of s.routine)) e
 
-    else_leaves : (o q : Option (Exit × ℕ)) → Leaves o → Leaves q → Leaves (or_else o q)
+    else_leaves : (o q : Option (Exit × ℕ)) → Leaves o → Leaves q → Leaves (option_or o q)
     else_leaves None q h i = i
     else_leaves (Some e) q h i = h
 

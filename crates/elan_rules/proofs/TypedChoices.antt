@@ -1,7 +1,7 @@
 -- IF and SELECT have the types that they ask for.
 use Rattle.std.proofs.Common.{◌≡◌, ℕ, Bool, true, if◌then◌else◌, List, [], ◌∷◌, map, Option, Some, None, refl, subst, ◌∙◌}
 use Rattle.elan_types.specs.declared.elan_type.ElanType.{ElanType}
-use Rattle.elan_types.specs.declared.elan_type.ElanType.TheVariants.{Int, Bool as Truths}
+use Rattle.elan_types.specs.declared.elan_type.ElanType.TheVariants.{Int, Bool as Truths, Text as Letters}
 use Rattle.elan_types.specs.declared.core_phrase.ValuePhrase.{ValuePhrase}
 use Rattle.elan_types.specs.declared.core_phrase.Action.{Action}
 use Rattle.elan_types.specs.declared.core_phrase.Action.TheVariants as action
@@ -37,8 +37,8 @@ module _ (here : Stand) where
   abbrev MayGood : Option Meant → Type 0
   MayGood = ty.MayGood here
 
-  otherwise_good : (o : Option Meant) → MayGood o → Good (r.otherwise o)
-  otherwise_good None g = refl
+  otherwise_good : (o : Option Meant) → MayGood o → Good (w.otherwise o)
+  otherwise_good None g = tt
   otherwise_good (Some m) g = g
 
   -- ---- what parts deliver, and whether they agree
@@ -69,8 +69,13 @@ module _ (here : Stand) where
   join_of : (t u v : ElanType) → AllowsSome t (if same_type u v then Some (Of u) else None) → (u ≡ t) × (v ≡ t)
   join_of t Int Int a = (a, a)
   join_of t Int Truths a = absurd a
+  join_of t Int Letters a = absurd a
   join_of t Truths Int a = absurd a
   join_of t Truths Truths a = (a, a)
+  join_of t Truths Letters a = absurd a
+  join_of t Letters Int a = absurd a
+  join_of t Letters Truths a = absurd a
+  join_of t Letters Letters a = (a, a)
 
   -- what is joined allows a type only where both do
   join_allows : (t : ElanType) (d e : Delivery) → AllowsSome t (r.joined d e) → Allows t d × Allows t e
@@ -112,7 +117,7 @@ module _ (here : Stand) where
 
   pub choice_good : (at : ℕ) (ms : List Meant) → ty.AllGood here ms → Gives Good (r.choice at ms)
   choice_good at ms g =
-      let h = ty.pairs_good here ms g in chain_good at (p.pairs ms) (gives (r.otherwise (p.odd ms))) h.0 (otherwise_good (p.odd ms) h.1)
+      let h = ty.pairs_good here ms g in chain_good at (p.pairs ms) (gives (w.otherwise (p.odd ms))) h.0 (otherwise_good (p.odd ms) h.1)
 
   -- ---- SELECT
 
@@ -157,11 +162,10 @@ module _ (here : Stand) where
   selected_good at m ms g h =
       let b = ty.pairs_good here ms h in
       on_if Good (delivers Int m) _ _
-      (λ e. selected_by_good at (p.value_of m) (p.pairs ms) (r.otherwise (p.odd ms)) (ty.value_typed here Int m g e) b.0 (otherwise_good (p.odd ms) b.1))
+      (λ e. selected_by_good at (p.value_of m) (p.pairs ms) (w.otherwise (p.odd ms)) (ty.value_typed here Int m g e) b.0 (otherwise_good (p.odd ms) b.1))
       (λ e. tt)
 
   -- ---- labels
 
   pub label_named_good : (at : ℕ) (known : Bool) (o : Option Found) → Gives Good (r.label_named at known o)
-  label_named_good at known (Some f) = tt
-  label_named_good at known None = on_if Good known _ _ (λ e. tt) (λ e. tt)
+  label_named_good at known o = tt

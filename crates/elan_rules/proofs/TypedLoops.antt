@@ -13,6 +13,7 @@ use Rattle.elan_rules.proofs.Typed as ty
 use Rattle.elan_rules.proofs.Typed.{same_is, same_self, has_self, agree_self, only_if_holds, both, and_true, Gives, on_if, on_bind}
 use Rattle.elan_meant.specs.Parts as p
 use Rattle.unit_rules.specs.Loops as r
+use Rattle.unit_rules.specs.walks.Steps as walk
 use Rattle.elan_rules.proofs.TypeEquations.{Stand, number_is, loop_is, count_is}
 
 module _ (here : Stand) where
@@ -36,7 +37,7 @@ module _ (here : Stand) where
 
   -- ---- loops
 
-  pub first_typed : (o : Option ValuePhrase) → MayHave Int o → Has Int (r.first_value o)
+  pub first_typed : (o : Option ValuePhrase) → MayHave Int o → Has Int (walk.first_value o)
   first_typed None h = number_is here (pos 1)
   first_typed (Some v) h = h
 
@@ -63,12 +64,12 @@ module _ (here : Stand) where
 
   pub counted_good : (at : ℕ) (w : Way) (n f l c us u : Meant) → Good n → Good f → Good l → Good c → Good us → Good u → Gives Good (r.counted at w n f l c us u)
   counted_good at w n f l c us u gn gf gl gc gs gu =
-      on_if Good (r.are_numbers n f l && r.conditions c u) _ _ (λ e.
+      on_if Good (walk.are_numbers n f l && r.conditions c u) _ _ (λ e.
       let b = both _ _ e in
       let numbers = both _ _ b.0 in
       let bounds = both _ _ numbers.1 in
       let truths = both _ _ b.1 in
       on_bind (Lies Int) Good (p.variable at n) _ (ty.variable_good here at Int n gn numbers.0)
-      (λ x k. count_typed x (r.first_value (p.written f)) w (p.written l) (p.written c) (p.actions us) (p.written u) k
+      (λ x k. count_typed x (walk.first_value (p.written f)) w (p.written l) (p.written c) (p.actions us) (p.written u) k
       (first_typed (p.written f) (ty.may_typed here Int f gf bounds.0)) (ty.may_typed here Int l gl bounds.1) (ty.may_typed here Truths c gc truths.0)
       (ty.actions_typed here us gs) (ty.may_typed here Truths u gu truths.1))) (λ e. tt)

@@ -25,7 +25,8 @@ use Rattle.elan_scope.specs.declared.heading.What.{What}
 use Rattle.elan_scope.specs.declared.heading.What.TheVariants.{Routine, Refinement}
 use Rattle.elan_scope.specs.declared.heading.Heading.{Heading}
 use Rattle.elan_scope.specs.Scope as scope
-use Rattle.elan_scope.specs.Scope.{Callable, number_of, held, all_held, types_of, variables_of, or_else}
+use Rattle.std.specs.Option.{option_or}
+use Rattle.elan_scope.specs.Scope.{Callable, number_of, held, all_held, types_of, variables_of}
 use Rattle.eu_base.specs.declared.value.Kind.{Kind}
 use Rattle.eu_base.specs.Operations.{operand_kinds}
 use Rattle.eu_base.specs.Requests.{request_kinds}
@@ -33,7 +34,7 @@ use Rattle.elan_scope.specs.declared.callable.Callee.{Callee}
 use Rattle.elan_scope.specs.declared.callable.Callee.TheVariants as Callees
 use Rattle.elan_scope.specs.declared.predefined.Predefined.{Predefined}
 use Rattle.elan_scope.specs.declared.predefined.Predefined.TheVariants.{Operation, Change, Request}
-use Rattle.elan_scope.specs.Predefined.{Row, parameters, result, variable}
+use Rattle.elan_scope.specs.Predefined.{Row, parameters, result}
 use Rattle.elan_meant.specs.Operands.{delivers, fit}
 use Rattle.elan_rules.proofs.Typed as ty
 use Rattle.elan_rules.proofs.Typed.{same_is, same_self, has_self, agree_self, only_if_holds, both, and_true, Gives, on_if, on_bind}
@@ -41,6 +42,9 @@ use Rattle.elan_meant.specs.Parts as p
 use Rattle.value_rules.specs.Calls as r
 use Rattle.elan_rules.proofs.TypeEquations.{Stand, type, lies, actual_type, apply_is, modify_is, ask_is, call_is, action_call_is, given_value_is}
 use Rattle.elan_rules.proofs.TypeEquations.{given_place_is}
+
+abbrev variable : ElanType → Parameter
+variable t = record { of = t; access = Var }
 
 -- ---- bodies as their headings tell
 
@@ -231,7 +235,7 @@ module _ (here : Stand) where
       by_test rest true e = (g.0, e)
       by_test rest false e = rest
 
-  pub else_calls : (test : Callable → Bool) (o q : Option Callable) → MayCall test o → MayCall test q → MayCall test (scope.or_else o q)
+  pub else_calls : (test : Callable → Bool) (o q : Option Callable) → MayCall test o → MayCall test q → MayCall test (option_or o q)
   else_calls test None q h i = i
   else_calls test (Some c) q h i = h
 

@@ -1,7 +1,8 @@
 -- Values, stores, lists of units and bodies have the types that they ask for.
 use Rattle.std.proofs.Common.{◌≡◌, ℤ, ℕ, Bool, true, false, if◌then◌else◌, List, [], ◌∷◌, Option, Some, None, refl, ◌∙◌}
+use Rattle.eu_base.specs.declared.operation.Operation.TheVariants.{EmptyText}
 use Rattle.elan_types.specs.declared.elan_type.ElanType.{ElanType}
-use Rattle.elan_types.specs.declared.elan_type.ElanType.TheVariants.{Int, Bool as Truths}
+use Rattle.elan_types.specs.declared.elan_type.ElanType.TheVariants.{Int, Bool as Truths, Text}
 use Rattle.elan_types.specs.declared.core_phrase.PlacePhrase.{PlacePhrase}
 use Rattle.elan_types.specs.declared.core_phrase.ValuePhrase.{ValuePhrase}
 use Rattle.elan_types.specs.declared.core_phrase.ValuePhrase.TheVariants as value
@@ -16,8 +17,9 @@ use Rattle.elan_rules.proofs.Typed as ty
 use Rattle.elan_rules.proofs.Typed.{same_is, same_self, has_self, agree_self, only_if_holds, both, and_true, Gives, on_if, on_bind}
 use Rattle.elan_meant.specs.Parts as p
 use Rattle.unit_rules.specs.Units as r
+use Rattle.value_rules.specs.walks.Steps as walk
 use Rattle.elan_rules.specs.Rules as rules
-use Rattle.elan_rules.proofs.TypeEquations.{Stand, typed, number_is, truth_is, value_if_is, value_unit_is, after_is, store_is}
+use Rattle.elan_rules.proofs.TypeEquations.{Stand, typed, number_is, truth_is, apply_is, value_if_is, value_unit_is, after_is, store_is}
 
 module _ (here : Stand) where
   abbrev Has : ElanType → ValuePhrase → Type 0
@@ -56,17 +58,17 @@ module _ (here : Stand) where
   pub if_value_typed : (c : ValuePhrase) (t : ElanType) (v w : ValuePhrase) → Has Truths c → Has t v → Has t w → Has t (value.If c v w)
   if_value_typed c t v w h g k = value_if_is here c v w ∙ only_if_holds _ _ t (and_true _ _ (has_self Truths _ h) (agree_self t _ _ g k)) g
 
-  truths_typed : (l m : Meant) → Good l → Good m → rules.are_truths l m ≡ true → Has Truths (p.value_of l) × Has Truths (p.value_of m)
+  truths_typed : (l m : Meant) → Good l → Good m → walk.are_truths l m ≡ true → Has Truths (p.value_of l) × Has Truths (p.value_of m)
   truths_typed l m g h e = let b = both _ _ e in (ty.value_typed here Truths l g b.0, ty.value_typed here Truths m h b.1)
 
   pub cand_good : (at : ℕ) (l m : Meant) → Good l → Good m → Gives Good (rules.cand at l m)
   cand_good at l m g h =
-      on_if Good (rules.are_truths l m) _ _
+      on_if Good (walk.are_truths l m) _ _
       (λ e. let b = truths_typed l m g h e in if_value_typed _ Truths _ _ b.0 b.1 (truth_is here false)) (λ e. tt)
 
   pub cor_good : (at : ℕ) (l m : Meant) → Good l → Good m → Gives Good (rules.cor at l m)
   cor_good at l m g h =
-      on_if Good (rules.are_truths l m) _ _
+      on_if Good (walk.are_truths l m) _ _
       (λ e. let b = truths_typed l m g h e in if_value_typed _ Truths _ _ b.0 (truth_is here true) b.1) (λ e. tt)
 
   -- ---- stores
@@ -156,6 +158,7 @@ module _ (here : Stand) where
   blank_typed : (t : ElanType) → Has t (p.blank t)
   blank_typed Int = number_is here (pos 0)
   blank_typed Truths = truth_is here false
+  blank_typed Text = apply_is here EmptyText []
 
   pub unreached_typed : (t : ElanType) (as' : List Action) → AllTyped as' → Has t (value.After as' (p.blank t))
   unreached_typed t as' h = after_is here as' (p.blank t) ∙ only_if_holds _ _ t h (blank_typed t)

@@ -3,10 +3,10 @@
 ghost use Rattle.elan_rules.specs.Rules as spec;
 ghost use Rattle.elan_meant.specs.Verdict.{Tells};
 
-use elan_meant::arity::two_of;
 use elan_meant::meant::Meant;
 use elan_meant::operands::chosen;
-use elan_meant::row::{Judged, listed};
+use elan_meant::row::Judged;
+use elan_meant::together::{listed, two_of};
 use elan_scope::heading::Sort;
 use elan_scope::scope::Scope;
 use std::alloc::Global;

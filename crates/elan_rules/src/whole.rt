@@ -9,10 +9,9 @@ ghost use Rattle.elan_meant.specs.walks.Arity.{triple};
 ghost use Rattle.elan_rules.specs.Meaning.{judged};
 
 use crate::assignment::assignment;
-use elan_meant::meant::Meant;
-use elan_meant::row::{Judged, two};
+use elan_meant::row::Judged;
+use elan_meant::together::{Three, six, two};
 use elan_scope::scope::Scope;
-use elan_scope::trouble::Trouble;
 use elan_types::{Scope as Owner, Way};
 use std::alloc::Global;
 use unit_rules::body::refinement;
@@ -20,12 +19,9 @@ use unit_rules::repetition::{Bounds, Turns, counted, repeated};
 use unit_rules::store::initial;
 use value_rules::value::{cand, cor};
 
-/// What three parts mean.
-pub type Three = Result<(Meant, Meant, Meant), Trouble>;
-
 /// CAND of two expressions.
 pub fn cand_phrase(alloc: Global, at: u32, left: Judged, right: Judged) -> Judged
-    ensures { (k : Known) → (p : Phrase) → (q : Phrase) → Is left (judged k p) → Is right (judged k q) → Is result (judged k (pair (form.cand at) p q)) }
+    ensures { (k : Known) → (p : Phrase) → (q : Phrase) → Is left (judged k p) → Is right (judged k q) → Is result (judged k (pair at form.cand p q)) }
 {
     match two(left, right) {
         Err(trouble) => Err(trouble),
@@ -35,7 +31,7 @@ pub fn cand_phrase(alloc: Global, at: u32, left: Judged, right: Judged) -> Judge
 
 /// COR of two expressions.
 pub fn cor_phrase(alloc: Global, at: u32, left: Judged, right: Judged) -> Judged
-    ensures { (k : Known) → (p : Phrase) → (q : Phrase) → Is left (judged k p) → Is right (judged k q) → Is result (judged k (pair (form.cor at) p q)) }
+    ensures { (k : Known) → (p : Phrase) → (q : Phrase) → Is left (judged k p) → Is right (judged k q) → Is result (judged k (pair at form.cor p q)) }
 {
     match two(left, right) {
         Err(trouble) => Err(trouble),
@@ -45,7 +41,7 @@ pub fn cor_phrase(alloc: Global, at: u32, left: Judged, right: Judged) -> Judged
 
 /// A name in its declaration, and its initial value.
 pub fn initial_phrase(alloc: Global, at: u32, name: Judged, init: Judged) -> Judged
-    ensures { (k : Known) → (p : Phrase) → (q : Phrase) → Is name (judged k p) → Is init (judged k q) → Is result (judged k (pair (form.initial at) p q)) }
+    ensures { (k : Known) → (p : Phrase) → (q : Phrase) → Is name (judged k p) → Is init (judged k q) → Is result (judged k (pair at form.initial p q)) }
 {
     match two(name, init) {
         Err(trouble) => Err(trouble),
@@ -62,7 +58,7 @@ pub fn assignment_phrase(
     right: Judged,
 ) -> Judged
     ensures { (k : Known) → (p : Phrase) → (q : Phrase) → Is left (judged k p) → Is right (judged k q) → Is result
-        (judged k (pair (form.assignment at scope.now) p q)) }
+        (judged k (pair at (form.assignment scope.now) p q)) }
 {
     match two(left, right) {
         Err(trouble) => Err(trouble),
@@ -73,7 +69,7 @@ pub fn assignment_phrase(
 /// A loop, by the condition of WHILE, its units, and the condition of UNTIL.
 pub fn loop_phrase(alloc: Global, at: u32, turns: Three) -> Judged
     ensures { (k : Known) → (c : Phrase) → (us : Phrase) → (u : Phrase) → Is turns (triple (judged k c) (judged k us) (judged k u)) → Is result
-        (judged k (row (form.loop at) (c ∷ us ∷ u ∷ []))) }
+        (judged k (row at form.loop (c ∷ us ∷ u ∷ []))) }
 {
     match turns {
         Err(trouble) => Err(trouble),
@@ -93,9 +89,9 @@ pub fn loop_phrase(alloc: Global, at: u32, turns: Three) -> Judged
 pub fn count_phrase(alloc: Global, at: u32, way: Way, bounds: Three, turns: Three) -> Judged
     ensures { (k : Known) → (n : Phrase) → (f : Phrase) → (l : Phrase) → (c : Phrase) → (us : Phrase) → (u : Phrase)
         → Is bounds (triple (judged k n) (judged k f) (judged k l)) → Is turns (triple (judged k c) (judged k us) (judged k u)) → Is result
-        (judged k (row (form.count at way) (n ∷ f ∷ l ∷ c ∷ us ∷ u ∷ []))) }
+        (judged k (row at (form.count way) (n ∷ f ∷ l ∷ c ∷ us ∷ u ∷ []))) }
 {
-    match two(bounds, turns) {
+    match six(bounds, turns) {
         Err(trouble) => Err(trouble),
         Ok(((name, from, limit), (condition, units, until))) => counted(
             alloc,
@@ -114,7 +110,7 @@ pub fn count_phrase(alloc: Global, at: u32, way: Way, bounds: Three, turns: Thre
 /// A refinement, by its name and its units.
 pub fn refinement_phrase(alloc: Global, owner: Owner, name: Judged, units: Judged) -> Judged
     ensures { (k : Known) → (p : Phrase) → (q : Phrase) → Is name (judged k p) → Is units (judged k q) → Is result
-        (judged k (pair (form.refinement owner) p q)) }
+        (judged k (pair 0 (form.refinement owner) p q)) }
 {
     match two(name, units) {
         Err(trouble) => {

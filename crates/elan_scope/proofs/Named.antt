@@ -5,13 +5,15 @@ use Rattle.std.proofs.Common.{◌<◌, ◌≤◌, drop, slice_index_or}
 use Rattle.std.specs.Prelude.{slice_get, ◌==◌, is_some}
 use Rattle.std.proofs.lemmas.List.{at_drop_more, at_drop_all}
 use Rattle.std.specs.Str.{bytes_eq}
+use Rattle.std.specs.List.{enumerate_from}
 use Rattle.elan_types.specs.declared.elan_type.ElanType.{ElanType}
 use Rattle.elan_scope.specs.declared.heading.Heading.{Heading}
 use Rattle.elan_scope.specs.declared.heading.Sort.{Sort}
 use Rattle.elan_scope.specs.declared.heading.What.{What}
 use Rattle.elan_scope.specs.declared.heading.What.TheVariants.{Routine, Refinement}
 use Rattle.elan_scope.specs.declared.callable.Callee.TheVariants.{Body}
-use Rattle.elan_scope.specs.Scope.{Callable, own_callable, own_callables, first, first_heading_from, first_heading, or_else}
+use Rattle.std.specs.Option.{option_or}
+use Rattle.elan_scope.specs.Scope.{Callable, own_callable, own_callables, first, first_heading}
 use Rattle.elan_scope.specs.Scope.{is_alike, is_routine, is_refined, is_refinement_of, is_called, same_sort, has_as_many}
 use Rattle.elan_scope.specs.walks.Numbers.{numbers_from, numbers_named, if_passes, first_among, callable_at, callables_among}
 
@@ -38,6 +40,9 @@ next hs k h rest b i = ap (slice_get hs) (let e : (k + 1) + i ≡ k + suc i = om
 here : (hs : List Heading) (k : ℕ) (h : Heading) (rest : List Heading) → Behind hs k (h ∷ rest) → slice_get hs k ≡ Some h
 here hs k h rest b = ap (slice_get hs) (let e : k ≡ k + 0 = omega arith in e) ∙ b 0
 
+abbrev pub first_heading_from : ℕ → (Heading → Bool) → List Heading → Option (ℕ × Heading)
+first_heading_from n test hs = first (λ b. test b.1) (enumerate_from n hs)
+
 module _ (x : List ℕ) (hs : List Heading) where
   module _ (test : Heading → Bool) (named : (h : Heading) → test h ≡ true → bytes_eq h.name x ≡ true) where
     headings_from : (k : ℕ) (rest : List Heading) → Behind hs k rest → first_among test hs (numbers_from k rest x) ≡ first_heading_from k test rest
@@ -47,7 +52,7 @@ module _ (x : List ℕ) (hs : List Heading) where
         More : Type 0
         More = first_among test hs (numbers_from (k + 1) rest x) ≡ first_heading_from (k + 1) test rest
 
-        by_test : More → (t : Bool) → or_else (if t then Some (k, h) else None) (first_among test hs (numbers_from (k + 1) rest x))
+        by_test : More → (t : Bool) → option_or (if t then Some (k, h) else None) (first_among test hs (numbers_from (k + 1) rest x))
             ≡ (if t then Some (k, h) else first_heading_from (k + 1) test rest)
         by_test more true = refl
         by_test more false = more
@@ -56,7 +61,7 @@ module _ (x : List ℕ) (hs : List Heading) where
             → first_among test hs (if c then k ∷ numbers_from (k + 1) rest x else numbers_from (k + 1) rest x)
             ≡ (if test h then Some (k, h) else first_heading_from (k + 1) test rest)
         by_name more true e =
-            ap (λ (o : Option Heading). or_else (if_passes test k o) (first_among test hs (numbers_from (k + 1) rest x))) (here hs k h rest b)
+            ap (λ (o : Option Heading). option_or (if_passes test k o) (first_among test hs (numbers_from (k + 1) rest x))) (here hs k h rest b)
             ∙ by_test more (test h)
         by_name more false e =
             more ∙ ap (λ (t : Bool). if t then Some (k, h) else first_heading_from (k + 1) test rest) (sym (fails (test h) (bytes_eq h.name x) (named h) e))
@@ -125,15 +130,15 @@ callables_known sort x n hs = callables x hs (has_as_many sort x n) (λ c. calle
 module _ (test : Heading → Bool) (hs : List Heading) (w : Option (ℕ × Heading)) (ns : List ℕ) (i : ℕ) (h : first_among test hs (drop i ns) ≡ w) where
   -- the number at this place, and those behind it
   among_open : i < length ns
-      → or_else (if_passes test (slice_index_or ns i 0) (slice_get hs (slice_index_or ns i 0))) (first_among test hs (drop (i + 1) ns)) ≡ w
+      → option_or (if_passes test (slice_index_or ns i 0) (slice_get hs (slice_index_or ns i 0))) (first_among test hs (drop (i + 1) ns)) ≡ w
   among_open lt = sym (at_drop_more (first_among test hs) ns i 0 lt) ∙ h
 
   pub among_found : (r : ℕ × Heading) → i < length ns → if_passes test (slice_index_or ns i 0) (slice_get hs (slice_index_or ns i 0)) ≡ Some r → Some r ≡ w
-  among_found r lt e = ap (λ (o : Option (ℕ × Heading)). or_else o (first_among test hs (drop (i + 1) ns))) (sym e) ∙ among_open lt
+  among_found r lt e = ap (λ (o : Option (ℕ × Heading)). option_or o (first_among test hs (drop (i + 1) ns))) (sym e) ∙ among_open lt
 
   pub among_next : i < length ns → if_passes test (slice_index_or ns i 0) (slice_get hs (slice_index_or ns i 0)) ≡ None
       → first_among test hs (drop (i + 1) ns) ≡ w
-  among_next lt e = ap (λ (o : Option (ℕ × Heading)). or_else o (first_among test hs (drop (i + 1) ns))) (sym e) ∙ among_open lt
+  among_next lt e = ap (λ (o : Option (ℕ × Heading)). option_or o (first_among test hs (drop (i + 1) ns))) (sym e) ∙ among_open lt
 
   pub among_end : length ns ≤ i → None ≡ w
   among_end le = sym (at_drop_all (first_among test hs) ns i le) ∙ h

@@ -1,4 +1,4 @@
--- Phrases: a form, and the parts that it is made of. A form is also the role that a phrase plays in another.
+-- Phrases: a place, a form, and the parts. A form is also the role that a phrase plays in another.
 use Rattle.std.specs.Prelude.{ℕ, ℤ, Bool, List, [], ◌∷◌, Option}
 use Rattle.eu_base.specs.declared.operation.Way.{Way}
 use Rattle.elan_types.specs.declared.elan_type.ElanType.{ElanType}
@@ -8,51 +8,44 @@ use Rattle.elan_scope.specs.declared.heading.Sort.{Sort}
 use Rattle.elan_scope.specs.declared.scope.Scope.{Scope}
 use Rattle.elan_scope.specs.declared.scope.Usage.{Usage}
 
--- The forms whose rule asks what is known of bodies, each with its place.
-pub data Asking : Type 0 where
-  -- an identifier without actuals, as an expression or as the counter of a loop
-  named : Usage → ℕ → Scope → List ℕ → Asking
-  -- a LEAVE with the name of what it leaves, and the value of WITH
-  leave : ℕ → Scope → List ℕ → Asking
-
--- The forms whose rule needs to know their parts alone, each with its place where a fault may be placed at it.
+-- The forms whose rule needs to know their parts alone.
 pub data Plain : Type 0 where
   -- a part that is not written
   absent : Plain
   -- what is not built, which is refused before its meaning is asked for
-  not_built : ℕ → Plain
-  number : ℕ → ℤ → Plain
-  truth : ℕ → Bool → Plain
+  not_built : Plain
+  number : ℤ → Plain
+  truth : Bool → Plain
   -- an operator with its operands, or a procedure with its actuals
-  applied : ℕ → Scope → Sort → List ℕ → Plain
-  bracket : ℕ → Plain
-  cand : ℕ → Plain
-  cor : ℕ → Plain
+  applied : Scope → Sort → List ℕ → Plain
+  bracket : Plain
+  cand : Plain
+  cor : Plain
   -- conditions, each before its units, and the units of ELSE
-  choice : ℕ → Plain
+  choice : Plain
   -- a label after these numbers
-  label : ℕ → List ℤ → ℤ → Plain
-  label_name : ℕ → Scope → List ℕ → Plain
+  label : List ℤ → ℤ → Plain
+  label_name : Scope → List ℕ → Plain
   labels : Plain
   -- a value, labels, each before their units, and the units of OTHERWISE
-  selection : ℕ → Plain
+  selection : Plain
   -- a name in its declaration
-  declares : ℕ → Scope → List ℕ → Plain
+  declares : Scope → List ℕ → Plain
   -- a name and its initial value
-  initial : ℕ → Plain
-  declaration : ℕ → Plain
+  initial : Plain
+  declaration : Plain
   -- an expression that stands alone
   statement : Plain
-  assignment : ℕ → Scope → Plain
+  assignment : Scope → Plain
   -- a condition, units, and a condition; before them a counter, its first value and its limit
-  loop : ℕ → Plain
-  count : ℕ → Way → Plain
+  loop : Plain
+  count : Way → Plain
   -- a unit that may deliver nothing, and one that has to deliver this type
   without_value : Plain
-  must_deliver : ℕ → ElanType → Plain
+  must_deliver : ElanType → Plain
   units : Plain
   -- the heading of a PROC or OP, and whether a value is missing because its body has no unit
-  heading : ℕ → Scope → Sort → List ℕ → List Parameter → Bool → Plain
+  heading : Scope → Sort → List ℕ → List Parameter → Bool → Plain
   -- the units of a PROC or OP that delivers this
   body : Owner → Option ElanType → Plain
   -- a heading, the names of parameters, units, and refinements
@@ -63,57 +56,40 @@ pub data Plain : Type 0 where
   level : Plain
 
 pub data Form : Type 0 where
-  asking : Asking → Form
+  -- an identifier without actuals, as an expression or as the counter of a loop: its rule asks what is known of bodies
+  named : Usage → Scope → List ℕ → Form
+  -- a LEAVE with the name of what it leaves, and the value of WITH: so does its rule
+  leave : Scope → List ℕ → Form
   plain : Plain → Form
 
 mutual
+  -- A list of units, of labels or of a text, a body, and what is not written have no place of their own: 0 stands there.
   pub data Phrase : Type 0 where
-    phrase : Form → Parts → Phrase
+    phrase : ℕ → Form → Parts → Phrase
 
   pub data Parts : Type 0 where
     none : Parts
     part : Phrase → Parts → Parts
 
+abbrev pub place : Phrase → ℕ
+place (phrase at form ps) = at
+
 abbrev pub all_of : List Phrase → Parts
 all_of [] = none
 all_of (p ∷ ps) = part p (all_of ps)
 
-abbrev pub row : Plain → List Phrase → Phrase
-row form ps = phrase (plain form) (all_of ps)
+abbrev pub row : ℕ → Plain → List Phrase → Phrase
+row at form ps = phrase at (plain form) (all_of ps)
 
-abbrev pub leaf : Plain → Phrase
-leaf form = row form []
+abbrev pub leaf : ℕ → Plain → Phrase
+leaf at form = row at form []
 
-abbrev pub around : Plain → Phrase → Phrase
-around form p = row form (p ∷ [])
+abbrev pub around : ℕ → Plain → Phrase → Phrase
+around at form p = row at form (p ∷ [])
 
-abbrev pub pair : Plain → Phrase → Phrase → Phrase
-pair form p q = row form (p ∷ q ∷ [])
+abbrev pub pair : ℕ → Plain → Phrase → Phrase → Phrase
+pair at form p q = row at form (p ∷ q ∷ [])
 
 -- an identifier without actuals
 abbrev pub name : Usage → ℕ → Scope → List ℕ → Phrase
-name u at s x = phrase (asking (named u at s x)) none
-
--- the place of an expression or a unit; what has none of its own stands where its first part does
-abbrev mutual
-  pub place : Phrase → ℕ
-  place (phrase (plain (not_built at)) ps) = at
-  place (phrase (plain (number at n)) ps) = at
-  place (phrase (plain (truth at b)) ps) = at
-  place (phrase (asking (named u at s x)) ps) = at
-  place (phrase (plain (applied at s sort x)) ps) = at
-  place (phrase (plain (bracket at)) ps) = at
-  place (phrase (plain (cand at)) ps) = at
-  place (phrase (plain (cor at)) ps) = at
-  place (phrase (plain (choice at)) ps) = at
-  place (phrase (plain (selection at)) ps) = at
-  place (phrase (plain (declaration at)) ps) = at
-  place (phrase (plain (assignment at s)) ps) = at
-  place (phrase (plain (loop at)) ps) = at
-  place (phrase (plain (count at w)) ps) = at
-  place (phrase (asking (leave at s x)) ps) = at
-  place (phrase form ps) = first_place ps
-
-  pub first_place : Parts → ℕ
-  first_place none = 0
-  first_place (part p ps) = place p
+name u at s x = phrase at (named u s x) none

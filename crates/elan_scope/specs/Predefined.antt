@@ -54,17 +54,13 @@ predefined =
 abbrev pub values : List Kind → List Parameter
 values kinds = map (λ k. held_const (type_in k)) kinds
 
-abbrev pub variable : ElanType → Parameter
-variable t = record { of = t; access = Var }
-
 -- what each is given
 abbrev pub parameters : Predefined → List Parameter
 parameters (Operation o) = values (operand_kinds o)
-parameters (Change c) = variable Int ∷ held_const Int ∷ []
+parameters (Change c) = record { of = Int; access = Var } ∷ held_const Int ∷ []
 parameters (Request name) = values (request_kinds name)
 
 -- the type that each delivers, or nothing
 abbrev pub result : Predefined → Option ElanType
 result (Operation o) = Some (type_in (result_kind o))
-result (Change c) = None
-result (Request name) = None
+result _ = None

@@ -19,15 +19,10 @@ abbrev pub ◌>>=◌ : {A B : Type 0} → Ruled A → (A → Ruled B) → Ruled 
 hangs >>= f = hangs
 
 -- A fault to the right of a phrase that hangs is still a fault.
-abbrev pub hung : {A : Type 0} → Ruled A → Ruled A
-hung (gives x) = hangs
-hung (breaks e) = breaks e
-hung hangs = hangs
-
 abbrev pub before : {A : Type 0} → Ruled A → Ruled (List A) → Ruled (List A)
 before (gives x) r = r >>= (λ xs. gives (x ∷ xs))
 before (breaks e) r = breaks e
-before hangs r = hung r
+before hangs r = r >>= (λ xs. hangs)
 
 -- ---- phrases beside each other
 

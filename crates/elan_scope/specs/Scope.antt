@@ -1,6 +1,10 @@
 -- What names denote where a phrase stands.
-use Rattle.std.specs.Prelude.{ℕ, ◌+◌, Bool, true, false, ◌&&◌, ◌==◌, List, [], ◌∷◌, ◌++◌, map, length, Option, Some, None, if◌then◌else◌, slice_get}
-use Rattle.std.specs.Option.{is_some}
+use Rattle.std.specs.Prelude.{ℕ, Bool, true, false, ◌&&◌, ◌==◌, List, [], ◌∷◌, ◌++◌, map, flat_map, length, Option, Some, None, if◌then◌else◌, slice_get}
+use Rattle.std.specs.Prelude.{option_map, option_and_then, option_to_list}
+pub use Rattle.std.specs.Prelude.{find as first}
+use Rattle.std.specs.List.{enumerate_from}
+use lib.Pointwise.{pointwise}
+use Rattle.std.specs.Option.{is_some, option_or, option_map_or}
 use Rattle.std.specs.Str.{bytes_eq}
 use Rattle.elan_types.specs.declared.elan_type.ElanType.{ElanType}
 use Rattle.elan_types.specs.declared.core_phrase.Parameter.{Parameter}
@@ -27,18 +31,15 @@ pub use Rattle.elan_scope.specs.Names.{held, first_from, first_named}
 
 -- the number of the PROC or OP
 abbrev pub number_of : Option Within → Option ℕ
-number_of None = None
-number_of (Some w) = Some w.number
+number_of routine = option_map (λ w. w.number) routine
 
 -- ---- variables, constants and parameters
 
 abbrev pub all_held : List Entry → List Parameter
-all_held [] = []
-all_held (e ∷ es) = held e.denotes ++ all_held es
+all_held es = flat_map (λ e. held e.denotes) es
 
 abbrev pub types_of : List Parameter → List ElanType
-types_of [] = []
-types_of (p ∷ ps) = p.of ∷ types_of ps
+types_of ps = map (λ p. p.of) ps
 
 -- the types of the variables and constants of a level
 abbrev pub variables_of : List Entry → List ElanType
@@ -49,10 +50,6 @@ variables_of es = types_of (all_held es)
 abbrev pub is_refinement : Denotes → Bool
 is_refinement denotes.Refinement = true
 is_refinement _ = false
-
-abbrev pub or_else : {A : Type 0} → Option A → Option A → Option A
-or_else None other = other
-or_else (Some x) other = Some x
 
 -- ---- what can be called
 
@@ -75,15 +72,10 @@ own_callable n x (Routine sort ps r) = record { sort = sort; name = x; parameter
 own_callable n x (Refinement home) = []
 
 abbrev pub own_callables : ℕ → List Heading → List Callable
-own_callables n [] = []
-own_callables n (h ∷ hs) = own_callable n h.name h.what ++ own_callables (n + 1) hs
+own_callables n hs = flat_map (λ b. own_callable b.0 b.1.name b.1.what) (enumerate_from n hs)
 
 abbrev pub predefined_callable : Row → Callable
 predefined_callable r = record { sort = r.0; name = r.1; parameters = parameters r.2; result = result r.2; callee = Predefined r.2 }
-
-abbrev pub first : (Callable → Bool) → List Callable → Option Callable
-first test [] = None
-first test (c ∷ cs) = if test c then Some c else first test cs
 
 -- ---- layers
 
@@ -93,52 +85,39 @@ pub record Layer : Type 0 where
   pub names : List Entry
   pub callables : List Callable
 
--- the level, and what is predefined
-abbrev pub outer_layers : List Entry → List Heading → List Layer
-outer_layers names hs =
-    record { home = of_level; names = names; callables = own_callables 0 hs }
-    ∷ record { home = of_level; names = []; callables = map predefined_callable predefined } ∷ []
-
-abbrev pub layers_in : Option Within → List Layer → List Layer
-layers_in None ls = ls
-layers_in (Some w) ls = record { home = of_routine; names = w.names; callables = [] } ∷ ls
-
--- the layers around a phrase, from the inmost
+-- the layers around a phrase, from the inmost: the PROC or OP, the level, and what is predefined
 abbrev pub layers : Scope → List Layer
-layers s = layers_in s.routine (outer_layers s.level s.headings)
+layers s =
+    option_to_list (option_map (λ w. record { home = of_routine; names = w.names; callables = [] }) s.routine)
+    ++ record { home = of_level; names = s.level; callables = own_callables 0 s.headings }
+    ∷ record { home = of_level; names = []; callables = map predefined_callable predefined } ∷ []
 
 -- what the first layer gives that has it
 abbrev pub first_in : {A : Type 0} → (Layer → Option A) → List Layer → Option A
 first_in look [] = None
-first_in look (l ∷ ls) = or_else (look l) (first_in look ls)
+first_in look (l ∷ ls) = option_or (look l) (first_in look ls)
 
 abbrev pub found_in : Home → Option (ℕ × Entry) → Option Found
-found_in home None = None
-found_in home (Some f) = Some (record { home = home; number = f.0; at = f.1.at; denotes = f.1.denotes })
+found_in home entry = option_map (λ f. record { home = home; number = f.0; at = f.1.at; denotes = f.1.denotes }) entry
 
 abbrev pub found : List ℕ → Layer → Option Found
 found x l = found_in l.home (first_named l.names x)
 
 -- The refinements of a layer are for its own units and refinements alone.
 abbrev pub from_inside : Option Found → Option Found
-from_inside None = None
-from_inside (Some f) = if is_refinement f.denotes then None else Some f
+from_inside found = option_and_then (λ f. if is_refinement f.denotes then None else Some f) found
 
 abbrev pub find_in : List ℕ → List Layer → Option Found
 find_in x [] = None
-find_in x (l ∷ ls) = or_else (found x l) (first_in (λ m. from_inside (found x m)) ls)
+find_in x (l ∷ ls) = option_or (found x l) (first_in (λ m. from_inside (found x m)) ls)
 
 -- what an identifier without actuals denotes
 abbrev pub find : Scope → List ℕ → Option Found
 find s x = find_in x (layers s)
 
-abbrev pub find_first : List ℕ → List Layer → Option Found
-find_first x [] = None
-find_first x (l ∷ ls) = found x l
-
 -- what a name denotes in the scope that declares it
 abbrev pub find_own : Scope → List ℕ → Option Found
-find_own s x = find_first x (layers s)
+find_own s x = option_and_then (found x) (slice_get (layers s) 0)
 
 -- what is called by a name with operands
 unfoldable pub called_by : (Callable → Bool) → Scope → Option Callable
@@ -157,20 +136,11 @@ is_known s sort x n = is_some (called_by (has_as_many sort x n) s)
 -- ---- bodies
 
 -- the first heading that passes a test, with its number
-abbrev pub first_heading_from : ℕ → (Heading → Bool) → List Heading → Option (ℕ × Heading)
-first_heading_from n test [] = None
-first_heading_from n test (h ∷ hs) = if test h then Some (n, h) else first_heading_from (n + 1) test hs
-
 abbrev pub first_heading : (Heading → Bool) → List Heading → Option (ℕ × Heading)
-first_heading = first_heading_from 0
-
-abbrev pub same_types : List ElanType → List ElanType → Bool
-same_types [] [] = true
-same_types (t ∷ ts) (u ∷ us) = same_type t u && same_types ts us
-same_types _ _ = false
+first_heading test hs = first (λ b. test b.1) (enumerate_from 0 hs)
 
 abbrev pub is_routine : Sort → List ElanType → What → Bool
-is_routine sort ts (Routine other ps r) = same_sort sort other && same_types (types_of ps) ts
+is_routine sort ts (Routine other ps r) = same_sort sort other && pointwise same_type (types_of ps) ts
 is_routine sort ts (Refinement home) = false
 
 abbrev pub is_refinement_of : Option ℕ → What → Bool
@@ -186,15 +156,11 @@ abbrev pub is_refined : Option ℕ → List ℕ → Heading → Bool
 is_refined home x h = bytes_eq h.name x && is_refinement_of home h.what
 
 abbrev pub number_in : Option (ℕ × Heading) → Option ℕ
-number_in None = None
-number_in (Some b) = Some b.0
+number_in body = option_map (λ b. b.0) body
 
 abbrev pub refinement_in : Scope → List ℕ → Option Found → Option ℕ
-refinement_in s x None = None
-refinement_in s x (Some f) =
-    if is_refinement f.denotes
-    then number_in (first_heading (is_refined (number_of s.routine) x) s.headings)
-    else None
+refinement_in s x =
+    option_and_then (λ f. if is_refinement f.denotes then number_in (first_heading (is_refined (number_of s.routine) x) s.headings) else None)
 
 -- the number of the refinement that a name denotes, if it denotes one
 abbrev pub refinement_named : Scope → List ℕ → Option ℕ
@@ -203,24 +169,20 @@ refinement_named s x = refinement_in s x (find s x)
 -- ---- what a LEAVE leaves
 
 abbrev pub is_named : List ℕ → Option Heading → Bool
-is_named x None = false
-is_named x (Some h) = bytes_eq h.name x
+is_named x heading = option_map_or (λ h. bytes_eq h.name x) heading false
 
 -- the body with this number, where it has that name
 abbrev pub body_named : List Heading → Option ℕ → List ℕ → Option ℕ
-body_named hs None x = None
-body_named hs (Some n) x = if is_named x (slice_get hs n) then Some n else None
+body_named hs body x = option_and_then (λ n. if is_named x (slice_get hs n) then Some n else None) body
 
 abbrev pub left_by : Exit → Option ℕ → Option (Exit × ℕ)
-left_by e None = None
-left_by e (Some n) = Some (e, n)
+left_by e body = option_map (λ n. (e, n)) body
 
 -- A PROC or OP is left from itself, or from a refinement of it.
 abbrev pub exit_from : Option ℕ → Exit
-exit_from None = exits.Body
-exit_from (Some n) = exits.Around
+exit_from refinement = if is_some refinement then exits.Around else exits.Body
 
 -- the body that a LEAVE of that name leaves: the refinement in which it stands, or the PROC or OP
 abbrev pub left : Scope → List ℕ → Option (Exit × ℕ)
 left s x =
-    or_else (left_by exits.Body (body_named s.headings s.refinement x)) (left_by (exit_from s.refinement) (body_named s.headings (number_of s.routine) x))
+    option_or (left_by exits.Body (body_named s.headings s.refinement x)) (left_by (exit_from s.refinement) (body_named s.headings (number_of s.routine) x))

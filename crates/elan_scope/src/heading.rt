@@ -2,7 +2,8 @@
 
 ghost use Rattle.std.specs.Prelude.{◌≡◌, true, false};
 ghost use Rattle.std.specs.Str.{bytes_eq};
-ghost use Rattle.elan_types.specs.Typing.{same_home};
+ghost use lib.Pointwise.{pointwise};
+ghost use Rattle.elan_types.specs.Typing.{same_home, same_type};
 ghost use Rattle.elan_scope.specs.Scope as spec;
 
 use elan_types::{ElanType, Parameter};
@@ -65,7 +66,7 @@ pub fn is_one(name: &[u8], other: &[u8]) -> bool
 }
 
 fn same_types(parameters: &[Parameter], others: &[Parameter]) -> bool
-    ensures { result ≡ spec.same_types (spec.types_of parameters.now) (spec.types_of others.now) }
+    ensures { result ≡ pointwise same_type (spec.types_of parameters.now) (spec.types_of others.now) }
 {
     match (parameters, others) {
         ([], []) => true,

@@ -1,14 +1,14 @@
 //! The predefined operators and procedures.
 
 ghost use Rattle.std.specs.Prelude.{◌≡◌, map};
-ghost use Rattle.eu_base.specs.Operations.{operand_kinds};
+ghost use Rattle.eu_base.specs.Operations.{operand_kinds, text_operand_kinds};
 ghost use Rattle.eu_base.specs.Requests.{request_kinds};
 ghost use Rattle.elan_types.specs.Typing.{type_in};
 ghost use Rattle.elan_scope.specs.Predefined as spec;
 
 use crate::heading::Sort;
 use elan_types::{Access, Change, ElanType, Operation, Parameter, RequestName};
-use eu_base::Kind;
+use eu_base::{Kind, TextOperation};
 
 /// What a predefined name is.
 #[derive(Clone, Copy)]
@@ -155,6 +155,11 @@ const BOOL: Parameter = Parameter {
     access: Access::Const,
 };
 
+const TEXT: Parameter = Parameter {
+    of: ElanType::Text,
+    access: Access::Const,
+};
+
 const INT_VAR: Parameter = Parameter {
     of: ElanType::Int,
     access: Access::Var,
@@ -165,7 +170,7 @@ fn operands(operation: Operation) -> &'static [Parameter]
     ensures { result.now ≡ spec.values (operand_kinds operation) }
 {
     match operation {
-        Operation::Largest => &[],
+        Operation::Largest | Operation::EmptyText => &[],
         Operation::Plus | Operation::Negate | Operation::Absolute => &[INT],
         Operation::Not => &[BOOL],
         Operation::Same | Operation::Different | Operation::And | Operation::Or => &[BOOL, BOOL],
@@ -182,6 +187,27 @@ fn operands(operation: Operation) -> &'static [Parameter]
         | Operation::GreaterEqual
         | Operation::Minimum
         | Operation::Maximum => &[INT, INT],
+        Operation::OnTexts(operation) => text_operands(operation),
+    }
+}
+
+fn text_operands(operation: TextOperation) -> &'static [Parameter]
+    ensures { result.now ≡ spec.values (text_operand_kinds operation) }
+{
+    match operation {
+        TextOperation::Length | TextOperation::CodeOf | TextOperation::NumberIn => &[TEXT],
+        TextOperation::TextOfCode | TextOperation::TextOfNumber => &[INT],
+        TextOperation::Repeat => &[INT, TEXT],
+        TextOperation::ByteAt | TextOperation::SubtextFrom => &[TEXT, INT],
+        TextOperation::Subtext => &[TEXT, INT, INT],
+        TextOperation::Join
+        | TextOperation::Equal
+        | TextOperation::Unequal
+        | TextOperation::Less
+        | TextOperation::LessEqual
+        | TextOperation::Greater
+        | TextOperation::GreaterEqual
+        | TextOperation::PlaceOf => &[TEXT, TEXT],
     }
 }
 
@@ -201,6 +227,7 @@ fn type_in(kind: Kind) -> ElanType
     match kind {
         Kind::Int => ElanType::Int,
         Kind::Truth => ElanType::Bool,
+        Kind::Text => ElanType::Text,
     }
 }
 

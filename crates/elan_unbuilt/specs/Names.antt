@@ -1,10 +1,7 @@
 -- The predefined names that are not built yet.
-use Rattle.std.specs.Prelude.{ℕ, Bool, false, ◌||◌, List, [], ◌∷◌, codes}
+use Rattle.std.specs.Prelude.{ℕ, Bool, List, [], ◌∷◌, codes}
+use Rattle.std.specs.List.{list_any}
 use Rattle.std.specs.Str.{bytes_eq}
-
-abbrev pub is_among : List (List ℕ) → List ℕ → Bool
-is_among [] name = false
-is_among (n ∷ ns) name = bytes_eq n name || is_among ns name
 
 unfoldable pub names_not_built : List (List ℕ)
 names_not_built =
@@ -14,3 +11,6 @@ names_not_built =
     ∷ codes "name" ∷ codes "exists" ∷ codes "break"
     ∷ codes "nilspace" ∷ codes "type" ∷ codes "forget" ∷ codes "new" ∷ codes "old" ∷ codes "rename" ∷ codes "copy" ∷ codes "send"
     ∷ codes "wait" ∷ codes "call" ∷ []
+
+abbrev pub is_not_built : List ℕ → Bool
+is_not_built name = list_any (λ n. bytes_eq n name) names_not_built

@@ -1,38 +1,19 @@
 -- Whether a tree has a phrase or a predefined name that is not built yet.
-use Rattle.std.specs.Prelude.{Bool, true, false, ◌||◌, List, [], ◌∷◌}
-use Rattle.elan_unbuilt.specs.Names.{is_among, names_not_built}
-use Rattle.elan_tree.specs.declared.written_type.Name.{Name}
-use Rattle.elan_tree.specs.declared.written_type.TypePhrase.{TypePhrase}
-use Rattle.elan_tree.specs.declared.written_type.TypePhrase.TheVariants as type
-use Rattle.elan_tree.specs.declared.phrase.Operator.{Operator}
-use Rattle.elan_tree.specs.declared.phrase.Operator.TheVariants as operators
+use Rattle.std.specs.Prelude.{Bool, true, is_none}
+use Rattle.std.specs.List.{list_any}
+use Rattle.elan_unbuilt.specs.Names.{is_not_built}
+use Rattle.elan_unbuilt.specs.Operators.{operator_text}
+use Rattle.elan_unbuilt.specs.Types.{written_type}
 use Rattle.elan_tree.specs.declared.tree.Tree.{Tree}
 use Rattle.elan_walk.specs.Nodes.{Node, alone, other, sign, of_type, item, unbuilt, nodes}
 
-abbrev pub name : Name → Bool
-name n = is_among names_not_built n.text
-
-abbrev pub operator : Operator → Bool
-operator (operators.Sign s) = false
-operator (operators.Named x) = is_among names_not_built x
-
--- INT and BOOL are built.
-abbrev pub written_type : TypePhrase → Bool
-written_type (type.Int at) = false
-written_type (type.Bool at) = false
-written_type _ = true
-
 abbrev pub node : Node → Bool
-node (alone n) = name n
-node (other n) = name n
-node (sign o) = operator o
-node (of_type of) = written_type of
-node (item h of n) = name n
+node (alone n) = is_not_built n.text
+node (other n) = is_not_built n.text
+node (sign o) = is_not_built (operator_text o)
+node (of_type of) = is_none (written_type of)
+node (item h of n) = is_not_built n.text
 node unbuilt = true
 
-abbrev pub any : List Node → Bool
-any [] = false
-any (n ∷ ns) = node n || any ns
-
 abbrev pub not_built : Tree → Bool
-not_built t = any (nodes t)
+not_built t = list_any node (nodes t)

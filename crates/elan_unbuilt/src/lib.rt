@@ -4,6 +4,8 @@
 mod names;
 mod not_built;
 mod operators;
+mod types;
 
 pub use not_built::has_unbuilt;
 pub use operators::operator_text;
+pub use types::written_type;

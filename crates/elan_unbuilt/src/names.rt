@@ -1,6 +1,8 @@
 //! The predefined names that are not built yet.
 
 ghost use Rattle.std.specs.Prelude.{◌≡◌, map};
+ghost use Rattle.std.specs.List.{list_any};
+ghost use Rattle.std.specs.Str.{bytes_eq};
 ghost use Rattle.elan_unbuilt.specs.Names as spec;
 
 const NOT_BUILT: [&[u8]; 35] = [
@@ -42,7 +44,7 @@ const NOT_BUILT: [&[u8]; 35] = [
 ];
 
 fn is_among(mut names: &[&[u8]], name: &[u8]) -> bool
-    ensures { result ≡ spec.is_among (map (λ n. n.now) names.entry.now) name.now }
+    ensures { result ≡ list_any (λ n. bytes_eq n name.now) (map (λ n. n.now) names.entry.now) }
 {
     while let [first, rest @ ..] = names {
         if *first == name {
@@ -56,7 +58,7 @@ fn is_among(mut names: &[&[u8]], name: &[u8]) -> bool
 /// Whether a name is predefined and not built yet.
 #[tactic(auto, unfolding(crate::specs::Names::names_not_built))]
 pub fn is_not_built(name: &[u8]) -> bool
-    ensures { result ≡ spec.is_among spec.names_not_built name.now }
+    ensures { result ≡ spec.is_not_built name.now }
 {
     is_among(&NOT_BUILT, name)
 }

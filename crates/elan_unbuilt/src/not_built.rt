@@ -4,34 +4,11 @@ ghost use Rattle.std.specs.Prelude.{◌≡◌};
 ghost use Rattle.elan_unbuilt.specs.NotBuilt as spec;
 
 use crate::names::is_not_built;
+use crate::operators::operator_text;
+use crate::types::written_type;
 use containers::NoMemory;
-use elan_tree::{Name, Operator, Tree, TypePhrase};
+use elan_tree::Tree;
 use elan_walk::{Node, Visitor, visit_tree};
-
-fn name(name: &Name) -> bool
-    ensures { result ≡ spec.name name.now }
-{
-    is_not_built(name.text.as_slice())
-}
-
-fn operator(operator: &Operator) -> bool
-    ensures { result ≡ spec.operator operator.now }
-{
-    match operator {
-        Operator::Sign(_) => false,
-        Operator::Named(name) => is_not_built(name.as_slice()),
-    }
-}
-
-fn written_type(of: &TypePhrase) -> bool
-    ensures { result ≡ spec.written_type of.now }
-{
-    match of {
-        TypePhrase::Int(_) => false,
-        TypePhrase::Bool(_) => false,
-        _ => true,
-    }
-}
 
 // Whether a node that was not built was seen.
 #[derive(Drop)]
@@ -49,11 +26,11 @@ impl Visitor for Search {
     fn visit(&mut self, node: Node<'_>) -> Result<(), NoMemory> {
         self.found = self.found
             || match node {
-                Node::Alone(named) => name(named),
-                Node::Other(named) => name(named),
-                Node::Operator(sign) => operator(sign),
-                Node::Type(of) => written_type(of),
-                Node::Item(_, _, named) => name(named),
+                Node::Alone(named) => is_not_built(named.text.as_slice()),
+                Node::Other(named) => is_not_built(named.text.as_slice()),
+                Node::Operator(sign) => is_not_built(operator_text(sign)),
+                Node::Type(of) => written_type(of).is_none(),
+                Node::Item(_, _, named) => is_not_built(named.text.as_slice()),
                 Node::Unbuilt => true,
             };
         Ok(())

@@ -1,5 +1,5 @@
 -- The nodes of trees in text order, as far as they have a name, a type or an operator.
-use Rattle.std.specs.Prelude.{List, [], ◌∷◌, ◌++◌, map, Option, Some, None}
+use Rattle.std.specs.Prelude.{List, [], ◌∷◌, ◌++◌, map, flat_map, Option, Some, None, option_map, option_to_list, unwrap_or}
 use Rattle.elan_tree.specs.declared.written_type.Name.{Name}
 use Rattle.elan_tree.specs.declared.written_type.Label.{Label}
 use Rattle.elan_tree.specs.declared.written_type.Label.TheVariants as label
@@ -52,21 +52,7 @@ abbrev pub Declares : Type 0
 Declares = Held → TypePhrase → List Node
 
 abbrev pub all : List (List Node) → List Node
-all [] = []
-all (ns ∷ rest) = ns ++ all rest
-
-abbrev pub all_items : Held → TypePhrase → List Declares → List Node
-all_items h of [] = []
-all_items h of (i ∷ is) = i h of ++ all_items h of is
-
--- a part that may be left out
-abbrev pub written : Option (List Node) → List Node
-written None = []
-written (Some ns) = ns
-
-abbrev pub listed : Option (List (List Node)) → List Node
-listed None = []
-listed (Some rest) = all rest
+all lists = flat_map (λ ns. ns) lists
 
 abbrev pub labels : List Label → List Node
 labels [] = []
@@ -78,21 +64,17 @@ Layer F = F (List Node) (List Node) (List Node) (List Node) (List Node) (List No
 
 abbrev pub expr_step : Layer Expr-F → List Node
 expr_step (t.Number at n) = []
-expr_step (t.Text at x) = unbuilt ∷ []
 expr_step (t.Truth at b) = []
 expr_step (t.Named n) = alone n ∷ []
 expr_step (t.Call n actuals) = other n ∷ all actuals
-expr_step (t.Procedure at n) = unbuilt ∷ []
-expr_step (t.Concr at a) = unbuilt ∷ []
 expr_step (t.Bracket at a) = a
-expr_step (t.If at branches otherwise) = all branches ++ listed otherwise
-expr_step (t.Select at of cases otherwise) = of ++ all cases ++ listed otherwise
-expr_step (t.Index at of index) = unbuilt ∷ []
-expr_step (t.Field at of field) = unbuilt ∷ []
+expr_step (t.If at branches otherwise) = all branches ++ all (unwrap_or otherwise [])
+expr_step (t.Select at of cases otherwise) = of ++ all cases ++ all (unwrap_or otherwise [])
 expr_step (t.Monadic at o a) = sign o ∷ a
 expr_step (t.Dyadic at o a b) = a ++ sign o ∷ b
 expr_step (t.Cand at a b) = a ++ b
 expr_step (t.Cor at a b) = a ++ b
+expr_step _ = unbuilt ∷ []
 
 abbrev pub limit_step : Layer Limit-F → List Node
 limit_step t.Without = []
@@ -101,14 +83,13 @@ limit_step (t.Downto a) = a
 
 abbrev pub unit_step : Layer Unit-F → List Node
 unit_step t.Empty = []
-unit_step (t.Let at items) = unbuilt ∷ []
-unit_step (t.Variables at of items) = of_type of ∷ all_items Variable of items
-unit_step (t.Constants at of items) = of_type of ∷ all_items Constant of items
-unit_step (t.Bound at of items) = unbuilt ∷ []
+unit_step (t.Variables at of items) = of_type of ∷ flat_map (λ i. i Variable of) items
+unit_step (t.Constants at of items) = of_type of ∷ flat_map (λ i. i Constant of) items
 unit_step (t.Value a) = a
 unit_step (t.Becomes at a b) = a ++ b
-unit_step (t.Loop at counter condition units until) = written counter ++ written condition ++ all units ++ written until
-unit_step (t.Leave at n value) = other n ∷ written value
+unit_step (t.Loop at counter condition units until) = unwrap_or counter [] ++ unwrap_or condition [] ++ all units ++ unwrap_or until []
+unit_step (t.Leave at n value) = other n ∷ unwrap_or value []
+unit_step _ = unbuilt ∷ []
 
 abbrev pub branch_step : Layer Branch-F → List Node
 branch_step b = b.condition ++ all b.units
@@ -117,10 +98,10 @@ abbrev pub case_step : Layer Case-F → List Node
 case_step c = labels c.labels ++ all c.units
 
 abbrev pub counter_step : Layer Counter-F → List Node
-counter_step c = other c.name ∷ written c.from ++ c.limit
+counter_step c = other c.name ∷ unwrap_or c.from [] ++ c.limit
 
 abbrev pub item_step : Layer Item-F → Declares
-item_step i h of = item h of i.name ∷ written i.init
+item_step i h of = item h of i.name ∷ unwrap_or i.init []
 
 abbrev pub in_expr : Expr → List Node
 in_expr = fold-Expr _ _ _ _ _ _ _ expr_step limit_step unit_step branch_step case_step counter_step item_step
@@ -152,21 +133,14 @@ in_units us = all (map in_unit us)
 
 -- ---- bodies
 
-abbrev pub names : List Name → List Node
-names [] = []
-names (n ∷ ns) = other n ∷ names ns
-
 abbrev pub formals : List Formal → List Node
-formals [] = []
-formals (f ∷ fs) = of_type f.of ∷ names f.names ++ formals fs
+formals fs = flat_map (λ f. of_type f.of ∷ map other f.names) fs
 
 abbrev pub refinements : List Refinement → List Node
-refinements [] = []
-refinements (r ∷ rs) = other r.name ∷ in_units r.units ++ refinements rs
+refinements rs = flat_map (λ r. other r.name ∷ in_units r.units) rs
 
 abbrev pub result : Option TypePhrase → List Node
-result None = []
-result (Some of) = of_type of ∷ []
+result type = option_to_list (option_map of_type type)
 
 abbrev pub body : List Formal → Body → List Node
 body fs b = formals fs ++ in_units b.units ++ refinements b.refinements
@@ -177,10 +151,6 @@ level_unit (level.NewType at n of) = unbuilt ∷ []
 level_unit (level.Proc at r n fs b) = result r ++ other n ∷ body fs b
 level_unit (level.Op at r n fs b) = result r ++ sign n.operator ∷ body fs b
 
-abbrev pub level_units : List LevelUnit → List Node
-level_units [] = []
-level_units (u ∷ us) = level_unit u ++ level_units us
-
 abbrev pub nodes : Tree → List Node
-nodes (tree.Program l) = level_units l.units ++ refinements l.refinements
+nodes (tree.Program l) = flat_map level_unit l.units ++ refinements l.refinements
 nodes (tree.Packet at n exports l) = unbuilt ∷ []

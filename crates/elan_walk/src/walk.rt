@@ -1,6 +1,6 @@
 //! The walk.
 
-ghost use Rattle.std.specs.Prelude.{◌≡◌, ◌++◌, map, OnOk, OnErr};
+ghost use Rattle.std.specs.Prelude.{◌≡◌, ◌++◌, map, flat_map, OnOk, OnErr};
 ghost use Rattle.elan_walk.specs.Nodes as spec;
 ghost use Rattle.elan_walk.specs.Walk.{went};
 
@@ -142,7 +142,7 @@ fn in_items<V: Visitor>(
     held: Held,
     of: &TypePhrase,
 ) -> Result<(), NoMemory>
-    ensures after { OnOk result (visitor.new ≡ went V.after visitor.old (spec.all_items held of.now (map spec.in_item items.now))) }
+    ensures after { OnOk result (visitor.new ≡ went V.after visitor.old (flat_map (λ i. i held of.now) (map spec.in_item items.now))) }
     ensures refused { OnErr result V.grows }
 {
     for item in items {

@@ -1,6 +1,6 @@
 //! The walk over a whole text.
 
-ghost use Rattle.std.specs.Prelude.{◌≡◌, ◌++◌, OnOk, OnErr};
+ghost use Rattle.std.specs.Prelude.{◌≡◌, ◌++◌, map, flat_map, OnOk, OnErr};
 ghost use Rattle.elan_walk.specs.Nodes as spec;
 ghost use Rattle.elan_walk.specs.Walk.{went};
 
@@ -10,7 +10,7 @@ use containers::NoMemory;
 use elan_tree::{Body, Formal, LevelUnit, Name, Refinement, Tree, TypePhrase};
 
 fn names<V: Visitor>(visitor: &mut V, names: &[Name]) -> Result<(), NoMemory>
-    ensures after { OnOk result (visitor.new ≡ went V.after visitor.old (spec.names names.now)) }
+    ensures after { OnOk result (visitor.new ≡ went V.after visitor.old (map spec.other names.now)) }
     ensures refused { OnErr result V.grows }
 {
     for name in names {
@@ -93,7 +93,7 @@ fn level_unit<V: Visitor>(visitor: &mut V, unit: &LevelUnit) -> Result<(), NoMem
 }
 
 fn level_units<V: Visitor>(visitor: &mut V, units: &[LevelUnit]) -> Result<(), NoMemory>
-    ensures after { OnOk result (visitor.new ≡ went V.after visitor.old (spec.level_units units.now)) }
+    ensures after { OnOk result (visitor.new ≡ went V.after visitor.old (flat_map spec.level_unit units.now)) }
     ensures refused { OnErr result V.grows }
 {
     for unit in units {

@@ -1,8 +1,8 @@
 -- Loops.
-use Rattle.std.specs.Prelude.{ℕ, pos, Bool, ◌&&◌, [], ◌∷◌, Option, Some, None, if◌then◌else◌}
+use Rattle.std.specs.Prelude.{ℕ, pos, Bool, ◌&&◌, [], ◌∷◌, if◌then◌else◌}
+use Rattle.std.specs.Option.{unwrap_or}
 use Rattle.elan_types.specs.declared.elan_type.ElanType.TheVariants.{Int, Bool as Truths}
 use Rattle.elan_types.specs.declared.core_phrase.PlacePhrase.{PlacePhrase}
-use Rattle.elan_types.specs.declared.core_phrase.ValuePhrase.{ValuePhrase}
 use Rattle.elan_types.specs.declared.core_phrase.ValuePhrase.TheVariants as value
 use Rattle.elan_types.specs.declared.core_phrase.Action.TheVariants as action
 use Rattle.elan_types.specs.declared.why.Why.TheVariants.{WrongType}
@@ -22,19 +22,14 @@ loop at c us u =
 
 -- ---- a loop with a counter, its first value and its limit
 
-abbrev pub first_value : Option ValuePhrase → ValuePhrase
-first_value None = value.Number (pos 1)
-first_value (Some v) = v
-
-abbrev pub are_numbers : Meant → Meant → Meant → Bool
-are_numbers n f l = delivers Int n && (may_deliver Int f && may_deliver Int l)
-
+-- Without a first value it counts from 1.
 abbrev pub count : Way → Meant → Meant → Meant → Meant → Meant → PlacePhrase → Meant
-count w f l c us u x = unit_of (action.Count x (first_value (written f)) w (written l) (written c) (actions us) (written u) ∷ [])
+count w f l c us u x =
+    unit_of (action.Count x (unwrap_or (written f) (value.Number (pos 1))) w (written l) (written c) (actions us) (written u) ∷ [])
 
 -- A variable is needed as a counter.
 abbrev pub counted : ℕ → Way → Meant → Meant → Meant → Meant → Meant → Meant → Verdict Meant
 counted at w n f l c us u =
-    if are_numbers n f l && conditions c u
+    if (delivers Int n && (may_deliver Int f && may_deliver Int l)) && conditions c u
     then variable at n >>= (λ x. gives (count w f l c us u x))
     else breaks (at, WrongType)

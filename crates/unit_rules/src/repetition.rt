@@ -75,7 +75,7 @@ pub fn repeated(alloc: Global, at: u32, turns: Turns) -> Judged
 }
 
 fn first_value(from: Option<ValuePhrase>) -> ValuePhrase
-    ensures { result ≡ spec.first_value from }
+    ensures { result ≡ walk.first_value from }
 {
     match from {
         None => ValuePhrase::Number(1),
@@ -84,7 +84,7 @@ fn first_value(from: Option<ValuePhrase>) -> ValuePhrase
 }
 
 fn are_numbers(bounds: &Bounds) -> bool
-    ensures { result ≡ spec.are_numbers bounds.now.name bounds.now.from bounds.now.limit }
+    ensures { result ≡ walk.are_numbers bounds.now.name bounds.now.from bounds.now.limit }
 {
     delivers(ElanType::Int, &bounds.name)
         && may_deliver(ElanType::Int, &bounds.from)

@@ -1,5 +1,5 @@
 -- Numbers, brackets, CAND and COR.
-use Rattle.std.specs.Prelude.{ℕ, ℤ, Bool, true, false, ◌&&◌, if◌then◌else◌}
+use Rattle.std.specs.Prelude.{ℕ, ℤ, true, false, ◌&&◌, if◌then◌else◌}
 use Rattle.elan_types.specs.declared.elan_type.ElanType.TheVariants.{Int, Bool as Truths}
 use Rattle.elan_types.specs.declared.core_phrase.ValuePhrase.{ValuePhrase}
 use Rattle.elan_types.specs.declared.core_phrase.ValuePhrase.TheVariants as value
@@ -21,18 +21,13 @@ bracketed at (Variable p t x) = Value at t (value.Load x t)
 bracketed at (Value p t v) = Value at t v
 bracketed at m = m
 
-abbrev pub are_truths : Meant → Meant → Bool
-are_truths l r = delivers Truths l && delivers Truths r
+-- the truth value that is made of two
+abbrev pub of_truths : ℕ → Meant → Meant → ValuePhrase → Verdict Meant
+of_truths at l r v = if delivers Truths l && delivers Truths r then gives (Value at Truths v) else breaks (at, WrongType)
 
 -- The right side is the value only where it decides.
-abbrev pub cand_of : ℕ → ValuePhrase → ValuePhrase → Meant
-cand_of at v w = Value at Truths (value.If v w (value.Truth false))
-
-abbrev pub cor_of : ℕ → ValuePhrase → ValuePhrase → Meant
-cor_of at v w = Value at Truths (value.If v (value.Truth true) w)
-
 abbrev pub cand : ℕ → Meant → Meant → Verdict Meant
-cand at l r = if are_truths l r then gives (cand_of at (value_of l) (value_of r)) else breaks (at, WrongType)
+cand at l r = of_truths at l r (value.If (value_of l) (value_of r) (value.Truth false))
 
 abbrev pub cor : ℕ → Meant → Meant → Verdict Meant
-cor at l r = if are_truths l r then gives (cor_of at (value_of l) (value_of r)) else breaks (at, WrongType)
+cor at l r = of_truths at l r (value.If (value_of l) (value.Truth true) (value_of r))

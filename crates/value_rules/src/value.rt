@@ -6,6 +6,7 @@ ghost use Rattle.elan_types.specs.declared.core_phrase.ValuePhrase.TheVariants a
 ghost use Rattle.elan_meant.specs.declared.meant.Meant.TheVariants as means;
 ghost use Rattle.elan_meant.specs.Parts as parts;
 ghost use Rattle.value_rules.specs.Values as spec;
+ghost use Rattle.value_rules.specs.walks.Steps as walk;
 ghost use Rattle.elan_meant.specs.Verdict.{gives, Tells};
 
 use elan_meant::meant::Meant;
@@ -49,13 +50,13 @@ pub fn bracketed(alloc: Global, at: u32, meant: Meant) -> Judged
 }
 
 fn are_truths(left: &Meant, right: &Meant) -> bool
-    ensures { result ≡ spec.are_truths left.now right.now }
+    ensures { result ≡ walk.are_truths left.now right.now }
 {
     delivers(ElanType::Bool, left) && delivers(ElanType::Bool, right)
 }
 
 fn cand_of(alloc: Global, at: u32, left: Meant, right: Meant) -> Judged
-    ensures { Tells result (gives (spec.cand_of at (parts.value_of left) (parts.value_of right))) }
+    ensures { Tells result (gives (walk.cand_of at (parts.value_of left) (parts.value_of right))) }
 {
     let values = both(value_of(alloc, left), value_of(alloc, right));
     let ((left, right), no) = both(values, Boxed::new(alloc, ValuePhrase::Truth(false)))?;
@@ -63,7 +64,7 @@ fn cand_of(alloc: Global, at: u32, left: Meant, right: Meant) -> Judged
 }
 
 fn cor_of(alloc: Global, at: u32, left: Meant, right: Meant) -> Judged
-    ensures { Tells result (gives (spec.cor_of at (parts.value_of left) (parts.value_of right))) }
+    ensures { Tells result (gives (walk.cor_of at (parts.value_of left) (parts.value_of right))) }
 {
     let values = both(value_of(alloc, left), value_of(alloc, right));
     let ((left, right), yes) = both(values, Boxed::new(alloc, ValuePhrase::Truth(true)))?;

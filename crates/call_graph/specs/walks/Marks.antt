@@ -1,13 +1,13 @@
 -- Marks of those from which a chain leads to a refinement.
 use Rattle.std.specs.Prelude.{ℕ, zero, suc, Bool, ◌||◌, ◌==◌, ◌+◌, List, [], ◌∷◌, map, slice_index_or}
-use Rattle.call_graph.specs.Chains.{any}
+use Rattle.std.specs.List.{list_any}
 
 -- A number behind the marks leads to itself alone.
 abbrev pub mark_at : List Bool → ℕ → ℕ → Bool
 mark_at marks r n = slice_index_or marks n (n == r)
 
 abbrev pub any_marked : List Bool → ℕ → List ℕ → Bool
-any_marked marks r cs = any (map (λ c. mark_at marks r c) cs)
+any_marked marks r cs = list_any (λ c. mark_at marks r c) cs
 
 abbrev pub marks_from : ℕ → List Bool → ℕ → List (List ℕ) → List Bool
 marks_from n marks r [] = []

@@ -1,11 +1,15 @@
 -- Steps of the code. No definition of meaning needs them.
-use Rattle.std.specs.Prelude.{List, [], ◌∷◌, map}
+use Rattle.std.specs.Prelude.{ℤ, Bool, List, [], ◌∷◌, map, Option}
+use Rattle.std.specs.List.{list_any}
+use Rattle.std.specs.Option.{unwrap_or}
+use Rattle.std.specs.Ordering.{int_eq}
 use Rattle.elan_types.specs.declared.elan_type.ElanType.{ElanType}
 use Rattle.elan_types.specs.declared.core_phrase.ValuePhrase.{ValuePhrase}
 use Rattle.elan_types.specs.declared.core_phrase.ValuePhrase.TheVariants as value
 use Rattle.elan_types.specs.declared.core_phrase.Action.{Action}
 use Rattle.elan_types.specs.declared.core_phrase.Action.TheVariants as action
 use Rattle.elan_meant.specs.declared.meant.Meant.{Meant}
+use Rattle.elan_meant.specs.declared.meant.Meant.TheVariants.{Absent}
 use Rattle.elan_meant.specs.Parts.{actions}
 use Rattle.choice_rules.specs.Choices.{Guard, value_as, action_arm, value_arm}
 
@@ -20,3 +24,10 @@ select_actions v gs m = action.Select v (map action_arm gs) (actions m) ∷ []
 
 abbrev pub select_value : ValuePhrase → List Guard → Meant → ElanType → ValuePhrase
 select_value v gs m t = value.Select v (map (value_arm t) gs) (value_as t m)
+
+-- the units for none of them, where there are none, are absent
+abbrev pub otherwise : Option Meant → Meant
+otherwise o = unwrap_or o Absent
+
+abbrev pub is_in : List ℤ → ℤ → Bool
+is_in ns n = list_any (λ m. int_eq m n) ns

@@ -1,13 +1,14 @@
 -- What a round finds out of bodies, and which refinements they call.
-use Rattle.std.specs.Prelude.{ℕ, suc, Bool, true, false, not, ◌||◌, if◌then◌else◌, List, [], ◌∷◌, ◌++◌, Option, Some, None, slice_index_or, slice_set}
+use Rattle.std.specs.Prelude.{ℕ, suc, Bool, true, false, not, ◌||◌, if◌then◌else◌, List, [], ◌∷◌, ◌++◌, map, Option, Some, None, slice_index_or, slice_set}
 use Rattle.elan_scope.specs.declared.delivery.Delivery.{Delivery}
 use Rattle.elan_scope.specs.declared.delivery.Delivery.TheVariants.{Open, Nothing, Of}
+use Rattle.elan_scope.specs.declared.heading.Heading.{Heading}
 use Rattle.elan_scope.specs.declared.known.Known.{Known}
 use Rattle.elan_scope.specs.Known.{delivery_at}
 use Rattle.elan_scope.specs.Phrase.{Phrase}
 use Rattle.elan_check.specs.declared.deliveries.Calls.{Calls}
 use Rattle.elan_check.specs.declared.deliveries.Round.{Round}
-use Rattle.elan_check.specs.Refinements.{called_in, last_unit, unit_delivery}
+use Rattle.elan_check.specs.Refinements.{stated, called_in, last_unit, unit_delivery}
 
 -- ---- calls
 
@@ -23,6 +24,10 @@ abbrev pub with_calls : Calls → Phrase → Calls
 with_calls s units = record { all = s.all ++ called_in units ∷ []; last = s.last ++ called_last units ∷ [] }
 
 -- ---- rounds
+
+-- what the headings tell
+abbrev pub all_stated : List Heading → List Delivery
+all_stated hs = map (λ h. stated h.what) hs
 
 abbrev pub is_open : Delivery → Bool
 is_open Open = true

@@ -1,15 +1,15 @@
 -- The refinements that the nodes of phrases call, in text order, by their numbers.
-use Rattle.std.specs.Prelude.{ℕ, List, [], ◌∷◌, ◌++◌}
+use Rattle.std.specs.Prelude.{ℕ, List, [], ◌∷◌, ◌++◌, option_to_list}
 use Rattle.elan_tree.specs.declared.phrase.Unit.{Unit as Statement}
 use Rattle.elan_walk.specs.Nodes as nodes
 use Rattle.elan_walk.specs.Nodes.{Node, alone, other, sign, of_type, item, unbuilt}
 use Rattle.elan_scope.specs.declared.scope.Scope.{Scope}
-use Rattle.elan_levels.specs.Called.{called_under}
+use Rattle.elan_scope.specs.Scope.{refinement_named}
 
 module _ (s : Scope) where
   -- The identifier after FOR is no call.
   abbrev pub called : Node → List ℕ
-  called (alone n) = called_under s n.text
+  called (alone n) = option_to_list (refinement_named s n.text)
   called (other n) = []
   called (sign o) = []
   called (of_type of) = []

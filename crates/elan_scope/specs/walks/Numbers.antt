@@ -4,7 +4,8 @@ use Rattle.std.specs.Str.{bytes_eq}
 use Rattle.std.specs.Global.{Vec}
 use Rattle.std.specs.HashMap.{HashMap, get_by}
 use Rattle.elan_scope.specs.declared.heading.Heading.{Heading}
-use Rattle.elan_scope.specs.Scope.{Callable, own_callable, or_else}
+use Rattle.std.specs.Option.{option_or}
+use Rattle.elan_scope.specs.Scope.{Callable, own_callable}
 
 abbrev pub numbers_from : ℕ → List Heading → List ℕ → List ℕ
 numbers_from n [] x = []
@@ -46,7 +47,7 @@ if_passes test n (Some h) = if test h then Some (n, h) else None
 
 abbrev pub first_among : (Heading → Bool) → List Heading → List ℕ → Option (ℕ × Heading)
 first_among test hs [] = None
-first_among test hs (n ∷ ns) = or_else (if_passes test n (slice_get hs n)) (first_among test hs ns)
+first_among test hs (n ∷ ns) = option_or (if_passes test n (slice_get hs n)) (first_among test hs ns)
 
 abbrev pub callable_at : ℕ → Option Heading → List Callable
 callable_at n None = []

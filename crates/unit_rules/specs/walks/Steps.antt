@@ -1,8 +1,19 @@
 -- Steps of the code. No definition of meaning needs them.
-use Rattle.std.specs.Prelude.{[], ◌∷◌}
+use Rattle.std.specs.Prelude.{pos, Bool, ◌&&◌, [], ◌∷◌, Option}
+use Rattle.std.specs.Option.{unwrap_or}
+use Rattle.elan_types.specs.declared.elan_type.ElanType.TheVariants.{Int}
+use Rattle.elan_types.specs.declared.core_phrase.ValuePhrase.{ValuePhrase}
+use Rattle.elan_types.specs.declared.core_phrase.ValuePhrase.TheVariants as value
 use Rattle.elan_types.specs.declared.core_phrase.Action.TheVariants as action
 use Rattle.elan_meant.specs.declared.meant.Meant.{Meant}
-use Rattle.elan_meant.specs.Parts.{actions, written, unit_of}
+use Rattle.elan_meant.specs.Operands.{delivers}
+use Rattle.elan_meant.specs.Parts.{actions, may_deliver, written, unit_of}
 
 abbrev pub uncounted : Meant → Meant → Meant → Meant
 uncounted c us u = unit_of (action.Loop (written c) (actions us) (written u) ∷ [])
+
+abbrev pub first_value : Option ValuePhrase → ValuePhrase
+first_value o = unwrap_or o (value.Number (pos 1))
+
+abbrev pub are_numbers : Meant → Meant → Meant → Bool
+are_numbers n f l = delivers Int n && (may_deliver Int f && may_deliver Int l)

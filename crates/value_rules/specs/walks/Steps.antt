@@ -1,5 +1,8 @@
 -- Steps of the code. No definition of meaning needs them.
-use Rattle.std.specs.Prelude.{ℕ, List, [], ◌∷◌, ◌++◌, if◌then◌else◌}
+use Rattle.std.specs.Prelude.{ℕ, Bool, true, false, ◌&&◌, List, [], ◌∷◌, ◌++◌, if◌then◌else◌}
+use Rattle.elan_types.specs.declared.elan_type.ElanType.TheVariants.{Bool as Truths}
+use Rattle.elan_types.specs.declared.core_phrase.ValuePhrase.{ValuePhrase}
+use Rattle.elan_types.specs.declared.core_phrase.ValuePhrase.TheVariants as value
 use Rattle.elan_types.specs.declared.core_phrase.Action.{Action}
 use Rattle.elan_types.specs.declared.core_phrase.Action.TheVariants as action
 use Rattle.elan_types.specs.declared.core_phrase.Parameter.{Parameter}
@@ -8,7 +11,8 @@ use Rattle.elan_types.specs.declared.core_phrase.Exit.{Exit}
 use Rattle.elan_types.specs.declared.why.Why.TheVariants.{WrongType}
 use Rattle.elan_scope.specs.declared.delivery.Delivery.{Delivery}
 use Rattle.elan_meant.specs.declared.meant.Meant.{Meant}
-use Rattle.elan_meant.specs.declared.meant.Meant.TheVariants.{Left}
+use Rattle.elan_meant.specs.declared.meant.Meant.TheVariants.{Value, Left}
+use Rattle.elan_meant.specs.Operands.{delivers}
 use Rattle.elan_meant.specs.Parts.{value_of, type_in}
 use Rattle.elan_meant.specs.Verdict.{Verdict, gives, breaks, ◌>>=◌}
 use Rattle.value_rules.specs.Calls.{given_as, leave_with, agrees}
@@ -23,3 +27,12 @@ leave_of e m = leave_with e (type_in m) (value_of m)
 
 abbrev pub leave_as : ℕ → Exit → Delivery → Meant → Verdict Meant
 leave_as at e d m = if agrees d m then gives (Left (action.Unit (leave_of e m ∷ []) ∷ [])) else breaks (at, WrongType)
+
+abbrev pub are_truths : Meant → Meant → Bool
+are_truths l r = delivers Truths l && delivers Truths r
+
+abbrev pub cand_of : ℕ → ValuePhrase → ValuePhrase → Meant
+cand_of at v w = Value at Truths (value.If v w (value.Truth false))
+
+abbrev pub cor_of : ℕ → ValuePhrase → ValuePhrase → Meant
+cor_of at v w = Value at Truths (value.If v (value.Truth true) w)

@@ -1,5 +1,5 @@
 use Rattle.std.proofs.Common.{◌≡◌, drop}
-use Rattle.choice_rules.specs.Choices.{is_in}
+use Rattle.choice_rules.specs.walks.Steps.{is_in}
 use Rattle.choice_rules.proofs.selection.is_in.Given as goal
 
 abbrev pub invariant-loop-label : goal.invariant-loop-label

@@ -1,10 +1,11 @@
 use Rattle.std.proofs.Common.{◌≡◌, ◌≤◌, ◌+◌, ℕ, suc, List, length, map, true, refl, sym, arith, ap, subst, ◌∙◌}
+use Rattle.elan_scope.specs.declared.heading.Heading.{Heading}
 use Rattle.std.proofs.lemmas.Slice.Eq.{slice_eq-Decides}
 use Rattle.elan_scope.specs.declared.delivery.Delivery.{Delivery}
 use Rattle.elan_scope.specs.declared.scope.Scope.{Scope}
 use Rattle.elan_levels.specs.Bodies.{headings}
 use Rattle.elan_check.specs.Level.{level_bodies}
-use Rattle.elan_check.specs.Refinements.{all_stated, known_after, next_all}
+use Rattle.elan_check.specs.Refinements.{stated, known_after, next_all}
 use Rattle.elan_check.specs.walks.OnTheWay.{AtMost, IsOnTheWay}
 use Rattle.elan_check.proofs.Same.{delivery_Decides}
 use Rattle.elan_check.proofs.Steps.{known_with, one_step}
@@ -14,8 +15,8 @@ use Rattle.elan_check.proofs.deliveries.known_of.Goals as goal
 pub settled-requires-clause-known : goal.settled-requires-clause-known
 settled-requires-clause-known c =
     ap (λ (ds : List Delivery). known_with ds c.in_ok-of.field-0)
-    (c.in_ok-all_stated.ensures ∙ ap all_stated (c.as_slice.ensures ∙ ap (λ (z : Scope). z.headings) (c.in_ok-all.ensures.kept ∙ c.requires)))
-    ∙ ap (λ (cs : List (List ℕ)). known_with (all_stated (headings c.args.level.now)) cs) (c.in_ok-of.ensures ∙ c.in_ok-all.ensures.all)
+    (c.in_ok-all_stated.ensures ∙ ap (λ (hs : List Heading). map (λ h. stated h.what) hs) (c.as_slice.ensures ∙ ap (λ (z : Scope). z.headings) (c.in_ok-all.ensures.kept ∙ c.requires)))
+    ∙ ap (λ (cs : List (List ℕ)). known_with (map (λ h. stated h.what) (headings c.args.level.now)) cs) (c.in_ok-of.ensures ∙ c.in_ok-all.ensures.all)
 
 pub loop-init : goal.loop-init
 loop-init c = record {

@@ -2,7 +2,7 @@ use Rattle.std.proofs.Common.{◌≡◌, true, false, ap, sym, map, ◌∙◌}
 use Rattle.std.specs.Prelude.{option_map}
 use Rattle.std.proofs.lemmas.List.{at_drop_all}
 use Rattle.elan_judge.specs.Shape as shape
-use Rattle.elan_judge.specs.Shape.{is_empty}
+use Rattle.elan_judge.specs.walks.Steps.{is_empty}
 use Rattle.elan_check.specs.Refinements.{last_unit}
 use Rattle.elan_check.proofs.Lasts.{last_goes, last_behind, no_other}
 use Rattle.elan_check.proofs.deliveries.last_unit.Goals as goal

@@ -11,5 +11,5 @@ loop-name-preserved c = λ k ps h.
     names_go k c.loop-name.row c.declared.result c.with-row.result c.with-row.ensures c.args.scope.now c.args.names.now c.loop-name.name-index
     c.name-item.result _ c.loop-name-test.true c.name-item.is
     (c.loop-name.invariant k ps h)
-    (subst (λ (x : List ℕ). Is c.declared.result (judged k (leaf (form.declares c.name-item.result.at c.args.scope.now x)))) c.as_slice.ensures
+    (subst (λ (x : List ℕ). Is c.declared.result (judged k (leaf c.name-item.result.at (form.declares c.args.scope.now x)))) c.as_slice.ensures
     c.declared.ensures)

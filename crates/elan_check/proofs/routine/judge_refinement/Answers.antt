@@ -16,9 +16,9 @@ returns-clause-meaning c =
     let s = c.args.scope.now in
     let r = c.args.refinement.now in
     let inner = l.refinement_scope s c.args.number in
-    let name = subst (λ (x : List ℕ). Is c.declared-name.result (judged k (leaf (form.declares r.name.at s x)))) c.as_slice.ensures c.declared-name.ensures in
+    let name = subst (λ (x : List ℕ). Is c.declared-name.result (judged k (leaf r.name.at (form.declares s x)))) c.as_slice.ensures c.declared-name.ensures in
     let units =
     subst (λ (us : List Statement). Is c.judge_units-units.result (judged k (shape.units Open (map (shape.unit inner) us)))) c.as_slice-2.ensures
     c.judge_units-units.ensures in
-    subst (λ (o : Owner). Is c.refinement_phrase.result (judged k (pair (form.refinement o) (l.declares s r.name) (l.refined_units s c.args.number r))))
+    subst (λ (o : Owner). Is c.refinement_phrase.result (judged k (pair 0 (form.refinement o) (l.declares s r.name) (l.refined_units s c.args.number r))))
     c.owner_of.ensures (c.refinement_phrase.ensures k (l.declares s r.name) (l.refined_units s c.args.number r) name units)

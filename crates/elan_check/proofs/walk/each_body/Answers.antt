@@ -2,10 +2,11 @@ use Rattle.std.proofs.Common.{List, ap, ◌∙◌}
 use Rattle.elan_tree.specs.declared.tree.Refinement.{Refinement}
 use Rattle.elan_tree.specs.declared.tree.LevelUnit.{LevelUnit}
 use Rattle.elan_levels.specs.Bodies.{bodies_of_units}
-use Rattle.elan_check.specs.Level.{all_unit_bodies, all_refined_units}
+use Rattle.elan_check.specs.Level.{all_refined_units}
 use Rattle.elan_check.specs.walks.Seen.{all_seen}
 use Rattle.elan_check.proofs.Steps.{level_found}
 use Rattle.elan_check.proofs.walk.each_body.Goals as goal
+use Rattle.elan_check.specs.walks.Units.{all_unit_bodies}
 
 pub returns-clause-found : goal.returns-clause-found
 returns-clause-found g c =

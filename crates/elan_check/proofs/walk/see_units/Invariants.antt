@@ -1,7 +1,7 @@
 use Rattle.std.proofs.Common.{◌≡◌, drop}
-use Rattle.elan_check.specs.Level.{all_unit_bodies}
 use Rattle.elan_check.specs.walks.Seen.{all_seen}
 use Rattle.elan_check.proofs.walk.see_units.Given as goal
+use Rattle.elan_check.specs.walks.Units.{all_unit_bodies}
 
 pub record Kept (P Q : Type 0) : Type 0 where
   pub scope : P

@@ -14,6 +14,7 @@ use Rattle.elan_scope.specs.Phrase.{Phrase, row, leaf, all_of, part}
 use Rattle.elan_meant.specs.walks.Arity.{triple}
 use Rattle.eu_base.specs.declared.operation.Way.{Way}
 use Rattle.elan_judge.specs.Shape as shape
+use Rattle.elan_judge.specs.walks.Steps as walk
 use Rattle.elan_judge.proofs.Rows.{row_goes, two_more, roles_go, roles_end, row_is, one_is, branches_go, branches_end, cases_go, cases_end}
 use Rattle.elan_judge.proofs.Rows.{first_fails, first_is, whole_fails, whole_is}
 use Rattle.elan_judge.proofs.Shapes.{units_of, units_absent, units_written, choice_parts, case_parts, loop_of, choice_is, selection_is, cand_is, cor_is}
@@ -39,7 +40,7 @@ judge-returns-in-Ok-with t c =
     let bs = shape.branches (map (shape.branch c.args.scope.now) c.as_slice-in-If.result.now) in
     choice_is c.args.scope.now c.args.known.now c.choice.result c.args.expr.now c.in-If.at c.in-If.branches c.as_slice-in-If.result.now c.in-If.otherwise
     c.in-If.is c.as_slice-in-If.ensures
-    (whole_is c.args.known.now (form.choice c.in-If.at) (choice_parts c.args.scope.now c.as_slice-in-If.result.now c.in-If.otherwise)
+    (whole_is c.args.known.now c.in-If.at form.choice (choice_parts c.args.scope.now c.as_slice-in-If.result.now c.in-If.otherwise)
     c.choice.result c.in-Ok-with.parts
     (row_is c.args.known.now (Ok c.in-Ok-with.parts) bs (units_of c.args.scope.now c.in-If.otherwise)
     (c.in-Ok-with.ensures (judged_all c.args.known.now (all_of bs)) (judged c.args.known.now (units_of c.args.scope.now c.in-If.otherwise))
@@ -56,7 +57,7 @@ judge-returns-in-Err-with t c =
     choice_is c.args.scope.now c.args.known.now (Err c.in-Err-with.trouble) c.args.expr.now c.in-If.at c.in-If.branches c.as_slice-in-If.result.now
     c.in-If.otherwise
     c.in-If.is c.as_slice-in-If.ensures
-    (whole_fails c.args.known.now (form.choice c.in-If.at) (choice_parts c.args.scope.now c.as_slice-in-If.result.now c.in-If.otherwise)
+    (whole_fails c.args.known.now c.in-If.at form.choice (choice_parts c.args.scope.now c.as_slice-in-If.result.now c.in-If.otherwise)
     c.in-Err-with.trouble
     (row_is c.args.known.now (Err c.in-Err-with.trouble) bs (units_of c.args.scope.now c.in-If.otherwise)
     (c.in-Err-with.ensures (judged_all c.args.known.now (all_of bs)) (judged c.args.known.now (units_of c.args.scope.now c.in-If.otherwise))
@@ -80,7 +81,7 @@ judge-returns-in-Ok-before t c =
     let of = shape.expr c.args.scope.now c.get-in-Select.result.now in
     selection_is c.args.scope.now c.args.known.now c.selected.result c.args.expr.now c.in-Select.at c.in-Select.of c.get-in-Select.result.now
     c.in-Select.cases c.as_slice-in-Select.result.now c.in-Select.otherwise c.in-Select.is c.get-in-Select.ensures c.as_slice-in-Select.ensures
-    (whole_is c.args.known.now (form.selection c.in-Select.at) (part of rest) c.selected.result (c.in-Ok-before.of ∷ c.in-Ok-before.parts)
+    (whole_is c.args.known.now c.in-Select.at form.selection (part of rest) c.selected.result (c.in-Ok-before.of ∷ c.in-Ok-before.parts)
     (first_is c.args.known.now of rest c.in-Ok-before.of c.in-Ok-before.parts
     (c.in-Ok-before.ensures (judged c.args.known.now of) (judged_all c.args.known.now rest) c.judge-of.ensures behind)) c.selected.ensures)
 
@@ -102,7 +103,7 @@ judge-returns-in-Err-before t c =
     let of = shape.expr c.args.scope.now c.get-in-Select.result.now in
     selection_is c.args.scope.now c.args.known.now (Err c.in-Err-before.trouble) c.args.expr.now c.in-Select.at c.in-Select.of c.get-in-Select.result.now
     c.in-Select.cases c.as_slice-in-Select.result.now c.in-Select.otherwise c.in-Select.is c.get-in-Select.ensures c.as_slice-in-Select.ensures
-    (whole_fails c.args.known.now (form.selection c.in-Select.at) (part of rest) c.in-Err-before.trouble
+    (whole_fails c.args.known.now c.in-Select.at form.selection (part of rest) c.in-Err-before.trouble
     (first_fails c.args.known.now of rest c.in-Err-before.trouble
     (c.in-Err-before.ensures (judged c.args.known.now of) (judged_all c.args.known.now rest) c.judge-of.ensures behind)))
 
@@ -160,7 +161,7 @@ judge_branches-returns t c =
 
 pub add_case-returns : goal.add_case-returns
 add_case-returns t c = λ done h.
-    let labels = shape.labels_phrase c.args.scope.now c.args.earlier.now c.as_slice-labels.result.now in
+    let labels = walk.labels_phrase c.args.scope.now c.args.earlier.now c.as_slice-labels.result.now in
     let us = shape.units Open (map (shape.unit c.args.scope.now) c.as_slice-units.result.now) in
     subst (λ (ps : List Phrase). Is c.with.result (judged_all c.args.known.now (all_of (done ++ ps))))
     (case_shape c.args.scope.now c.args.earlier.now c.args.case.now c.as_slice-labels.result.now c.as_slice-units.result.now c.as_slice-labels.ensures
@@ -172,7 +173,7 @@ add_case-returns t c = λ done h.
 pub judge_cases-loop-case-preserved : goal.judge_cases-loop-case-preserved
 judge_cases-loop-case-preserved t c =
     let before_it : c.as_slice.result.now ≡ c.loop-case.earlier = c.as_slice.ensures in
-    let behind : c.add_numbers.new.out ≡ c.loop-case.earlier ++ shape.numbers c.case-item.result.labels = search rules in
+    let behind : c.add_numbers.new.out ≡ c.loop-case.earlier ++ walk.numbers c.case-item.result.labels = search rules in
     cases_go c.args.known.now c.args.scope.now c.loop-case.row c.add_case-row.result c.args.cases.now c.loop-case.case-index c.case-item.result
     c.loop-case.earlier c.add_numbers.new.out _ c.loop-case-test.true c.case-item.is behind
     (λ done h. subst (λ (ns : List ℤ).
@@ -189,11 +190,11 @@ judge_cases-returns t c =
 
 pub judge_item-returns-in-Some : goal.judge_item-returns-in-Some
 judge_item-returns-in-Some t c =
-    let name : Is c.declared-name.result (judged c.args.known.now (leaf (form.declares c.args.item.now.name.at c.args.scope.now c.args.item.now.name.text))) =
-    subst (λ (x : List ℕ). Is c.declared-name.result (judged c.args.known.now (leaf (form.declares c.args.item.now.name.at c.args.scope.now x))))
+    let name : Is c.declared-name.result (judged c.args.known.now (leaf c.args.item.now.name.at (form.declares c.args.scope.now c.args.item.now.name.text))) =
+    subst (λ (x : List ℕ). Is c.declared-name.result (judged c.args.known.now (leaf c.args.item.now.name.at (form.declares c.args.scope.now x))))
     c.as_slice.ensures c.declared-name.ensures in
     item_is c.args.scope.now c.args.known.now c.initial_phrase.result c.args.item.now (Some c.in-Some.expr) c.in-Some.is
-    (c.initial_phrase.ensures c.args.known.now (leaf (form.declares c.args.item.now.name.at c.args.scope.now c.args.item.now.name.text))
+    (c.initial_phrase.ensures c.args.known.now (leaf c.args.item.now.name.at (form.declares c.args.scope.now c.args.item.now.name.text))
     (shape.expr c.args.scope.now c.in-Some.expr) name c.judge-value.ensures)
 
 pub judge_items-loop-item-preserved : goal.judge_items-loop-item-preserved
@@ -205,8 +206,8 @@ judge_items-loop-item-preserved t c =
 
 pub judge_item-returns-in-None : goal.judge_item-returns-in-None
 judge_item-returns-in-None t c =
-    let name : Is c.declared-name.result (judged c.args.known.now (leaf (form.declares c.args.item.now.name.at c.args.scope.now c.args.item.now.name.text))) =
-    subst (λ (x : List ℕ). Is c.declared-name.result (judged c.args.known.now (leaf (form.declares c.args.item.now.name.at c.args.scope.now x))))
+    let name : Is c.declared-name.result (judged c.args.known.now (leaf c.args.item.now.name.at (form.declares c.args.scope.now c.args.item.now.name.text))) =
+    subst (λ (x : List ℕ). Is c.declared-name.result (judged c.args.known.now (leaf c.args.item.now.name.at (form.declares c.args.scope.now x))))
     c.as_slice.ensures c.declared-name.ensures in
     item_is c.args.scope.now c.args.known.now c.declared-name.result c.args.item.now None c.in-None.is name
 
@@ -219,7 +220,7 @@ judge_counter-returns t c =
     c.named-name.ensures in
     subst (λ (x : shape.Counted). Is c.three.result (triple (judged k x.0) (judged k x.1) (judged k x.2))) (sym (counter_shape c.args.scope.now counter))
     (c.three.ensures (judged k (form.name Counts counter.name.at c.args.scope.now counter.name.text))
-    (judged k (shape.optional_expr c.args.scope.now counter.from)) (judged k (shape.limit c.args.scope.now counter.limit).1)
+    (judged k (walk.optional_expr c.args.scope.now counter.from)) (judged k (shape.limit c.args.scope.now counter.limit).1)
     name c.judge_optional-from.ensures c.judge_limit-limit.ensures)
 
 -- ---- units
@@ -244,9 +245,9 @@ pub judge_unit-returns-in-None : goal.judge_unit-returns-in-None
 judge_unit-returns-in-None t c =
     let k = c.args.known.now in
     let s = c.args.scope.now in
-    let v = shape.optional_expr s c.in-Loop.condition in
+    let v = walk.optional_expr s c.in-Loop.condition in
     let us = shape.units Nothing (map (shape.unit s) c.as_slice-in-Loop.result.now) in
-    let u = shape.optional_expr s c.in-Loop.until in
+    let u = walk.optional_expr s c.in-Loop.until in
     let turns = c.three-turns.ensures (judged k v) (judged k us) (judged k u) c.judge_optional-condition.ensures c.judge_units-units.ensures
     c.judge_optional-until.ensures in
     loop_is s k c.loop_phrase.result c.args.unit.now c.in-Loop.at c.in-Loop.counter c.in-Loop.condition c.in-Loop.units c.as_slice-in-Loop.result.now
@@ -259,9 +260,9 @@ pub judge_unit-returns-in-Some : goal.judge_unit-returns-in-Some
 judge_unit-returns-in-Some t c =
     let k = c.args.known.now in
     let s = c.args.scope.now in
-    let v = shape.optional_expr s c.in-Loop.condition in
+    let v = walk.optional_expr s c.in-Loop.condition in
     let us = shape.units Nothing (map (shape.unit s) c.as_slice-in-Loop.result.now) in
-    let u = shape.optional_expr s c.in-Loop.until in
+    let u = walk.optional_expr s c.in-Loop.until in
     let turns = c.three-turns.ensures (judged k v) (judged k us) (judged k u) c.judge_optional-condition.ensures c.judge_units-units.ensures
     c.judge_optional-until.ensures in
     let counter = c.get-counter.result.now in
@@ -272,27 +273,27 @@ judge_unit-returns-in-Some t c =
     (subst (λ (o : Option Counter).
     Is c.count_phrase.result (judged k (loop_of s c.in-Loop.at o c.in-Loop.condition c.as_slice-in-Loop.result.now c.in-Loop.until)))
     (ap (λ (x : Counter). Some x) c.get-counter.ensures ∙ sym c.in-Some.is)
-    (subst (λ (w : Way). Is c.count_phrase.result (judged k (row (form.count c.in-Loop.at w) (d.0 ∷ d.1 ∷ d.2 ∷ v ∷ us ∷ u ∷ [])))) way
+    (subst (λ (w : Way). Is c.count_phrase.result (judged k (row c.in-Loop.at (form.count w) (d.0 ∷ d.1 ∷ d.2 ∷ v ∷ us ∷ u ∷ [])))) way
     (c.count_phrase.ensures k d.0 d.1 d.2 v us u c.judge_counter-bounds.ensures turns)))
 
 pub judge_role-returns-in_ok-meant-in-Of : goal.judge_role-returns-in_ok-meant-in-Of
 judge_role-returns-in_ok-meant-in-Of t c =
     let p = shape.written (shape.unit c.args.scope.now c.args.unit.now) in
     subst (λ (d : Delivery). Is c.must_deliver.result (judged c.args.known.now (shape.role d p))) (sym c.in-Of.is)
-    (one_is c.args.known.now (form.must_deliver (form.place p) c.in-Of.of) p c.must_deliver.result c.in_ok-meant-in-Of.meant c.in_ok-meant-in-Of.ensures
+    (one_is c.args.known.now (form.place p) (form.must_deliver c.in-Of.of) p c.must_deliver.result c.in_ok-meant-in-Of.meant c.in_ok-meant-in-Of.ensures
     (subst (λ (a : ℕ). Tells c.must_deliver.result (units.must_deliver a c.in-Of.of c.in_ok-meant-in-Of.meant)) (c.unit_place.ensures c.args.scope.now)
     c.must_deliver.ensures))
 
 pub add_role-returns-in-None : goal.add_role-returns-in-None
 add_role-returns-in-None t c = λ done h.
     let p = shape.written (shape.unit c.args.scope.now c.args.unit.now) in
-    subst (λ (o : Option Delivery). Is c.args.row (judged_all c.args.known.now (all_of (done ++ shape.in_role o p)))) (sym c.in-None.is)
+    subst (λ (o : Option Delivery). Is c.args.row (judged_all c.args.known.now (all_of (done ++ walk.in_role o p)))) (sym c.in-None.is)
     (subst (λ (ps : List Phrase). Is c.args.row (judged_all c.args.known.now (all_of ps))) (sym (append-nil done)) h)
 
 pub add_role-returns-in-Some : goal.add_role-returns-in-Some
 add_role-returns-in-Some t c = λ done h.
     let p = shape.written (shape.unit c.args.scope.now c.args.unit.now) in
-    subst (λ (o : Option Delivery). Is c.with.result (judged_all c.args.known.now (all_of (done ++ shape.in_role o p)))) (sym c.in-Some.is)
+    subst (λ (o : Option Delivery). Is c.with.result (judged_all c.args.known.now (all_of (done ++ walk.in_role o p)))) (sym c.in-Some.is)
     (row_is c.args.known.now c.with.result done (shape.role c.in-Some.wanted p)
     (c.with.ensures (judged_all c.args.known.now (all_of done)) (judged c.args.known.now (shape.role c.in-Some.wanted p)) h c.judge_role.ensures))
 

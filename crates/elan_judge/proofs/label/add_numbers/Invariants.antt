@@ -1,5 +1,5 @@
 use Rattle.std.proofs.Common.{◌≡◌, ◌++◌, drop}
-use Rattle.elan_judge.specs.Shape.{numbers}
+use Rattle.elan_judge.specs.walks.Steps.{numbers}
 use Rattle.elan_judge.proofs.label.add_numbers.Given as goal
 
 abbrev pub invariant-loop-label : goal.invariant-loop-label

@@ -13,7 +13,7 @@ use Rattle.elan_judge.proofs.label.judge_labels.Goals as goal
 
 pub returns : goal.returns
 returns c =
-    ap (λ (r : Ruled (List Meant)). r >>= ruled c.args.known.now (plain form.labels))
+    ap (λ (r : Ruled (List Meant)). r >>= ruled c.args.known.now 0 (plain form.labels))
     (list_done (λ n. Labels (n ∷ [])) c.loop-label.numbers _ _
     (at_drop_all (λ ls. judged_all c.args.known.now (all_of (label_phrases c.args.scope.now c.loop-label.before ls))) c.args.labels.now c.loop-label.label-index
     c.loop-label-test.false)

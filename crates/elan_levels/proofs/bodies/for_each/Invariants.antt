@@ -1,6 +1,12 @@
-use Rattle.std.proofs.Common.{◌≡◌, ◌++◌, drop, Some}
-use Rattle.elan_levels.specs.Bodies.{for_each}
+use Rattle.std.proofs.Common.{◌≡◌, ◌++◌, drop}
+use Rattle.std.specs.Prelude.{option_map}
+use Rattle.elan_scope.specs.declared.scope.Denotes.TheVariants as denotes
+use Rattle.elan_scope.specs.Scope.{all_held}
+use Rattle.elan_levels.specs.Bodies.{named_as}
 use Rattle.elan_levels.proofs.bodies.for_each.Given as goal
 
 abbrev pub invariant-loop-name : goal.invariant-loop-name
-invariant-loop-name l = l.out ++ for_each (drop l._name-index l.names) (Some l.parameter) ≡ l.fn.out ++ for_each l.names (Some l.parameter)
+invariant-loop-name l =
+    (l.parameter ≡ l.fn.parameter)
+    × (l.out ++ all_held (named_as (drop l._name-index l.names) (option_map denotes.Parameter l.fn.parameter))
+    ≡ l.fn.out ++ all_held (named_as l.names (option_map denotes.Parameter l.fn.parameter)))

@@ -1,5 +1,5 @@
 use Rattle.std.proofs.Common.{◌≡◌, ◌++◌, drop}
-use Rattle.elan_levels.specs.Bodies.{all_headings}
+use Rattle.elan_levels.specs.walks.Headings.{all_headings}
 use Rattle.elan_levels.proofs.heading.all_headings.Given as goal
 
 abbrev pub invariant-loop-unit : goal.invariant-loop-unit

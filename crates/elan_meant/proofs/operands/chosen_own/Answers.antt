@@ -1,7 +1,7 @@
-use Rattle.std.proofs.Common.{List, ℕ, ap, ◌∙◌, sym}
-use Rattle.elan_scope.specs.Scope.{Callable, first}
+use Rattle.std.proofs.Common.{List, ℕ, ap, ◌∙◌}
+use Rattle.elan_scope.specs.Scope.{first}
 use Rattle.elan_scope.specs.walks.Numbers.{callables_among}
-use Rattle.elan_scope.proofs.Named.{callables, called_named, callables_found, callables_next, callables_end}
+use Rattle.elan_scope.proofs.Named.{callables, called_named}
 use Rattle.elan_meant.specs.Operands.{takes, fit}
 use Rattle.elan_meant.proofs.operands.chosen_own.Goals as goal
 

@@ -4,8 +4,8 @@ use Rattle.elan_rules.proofs.Together.{pair_fails, pair_is}
 use Rattle.elan_rules.proofs.whole.cor_phrase.Goals as goal
 
 pub returns-in-Err : goal.returns-in-Err
-returns-in-Err c = λ k p q g h. pair_fails k (form.cor c.args.at) p q c.in-Err.trouble (c.in-Err.ensures (judged k p) (judged k q) g h)
+returns-in-Err c = λ k p q g h. pair_fails k c.args.at form.cor p q c.in-Err.trouble (c.in-Err.ensures (judged k p) (judged k q) g h)
 
 pub returns-in-Ok : goal.returns-in-Ok
 returns-in-Ok c = λ k p q g h.
-    pair_is k (form.cor c.args.at) p q c.cor.result c.in-Ok.left c.in-Ok.right (c.in-Ok.ensures (judged k p) (judged k q) g h) c.cor.ensures
+    pair_is k c.args.at form.cor p q c.cor.result c.in-Ok.left c.in-Ok.right (c.in-Ok.ensures (judged k p) (judged k q) g h) c.cor.ensures

@@ -6,10 +6,10 @@ use Rattle.elan_meant.specs.walks.Arity.{triple}
 
 pub returns-in-Err : goal.returns-in-Err
 returns-in-Err c = λ k n f l w us u g h.
-    six_fails k (form.count c.args.at c.args.way) n f l w us u c.in-Err.trouble
+    six_fails k c.args.at (form.count c.args.way) n f l w us u c.in-Err.trouble
     (c.in-Err.ensures (triple (judged k n) (judged k f) (judged k l)) (triple (judged k w) (judged k us) (judged k u)) g h)
 
 pub returns-in-Ok : goal.returns-in-Ok
 returns-in-Ok c = λ k n f l w us u g h.
-    six_is k (form.count c.args.at c.args.way) n f l w us u c.counted.result _
+    six_is k c.args.at (form.count c.args.way) n f l w us u c.counted.result _
     (c.in-Ok.ensures (triple (judged k n) (judged k f) (judged k l)) (triple (judged k w) (judged k us) (judged k u)) g h) c.counted.ensures

@@ -8,10 +8,10 @@ use Rattle.elan_rules.proofs.whole.loop_phrase.Goals as goal
 
 pub returns-in-Err : goal.returns-in-Err
 returns-in-Err c = λ k w us u h.
-    three_fails k (form.loop c.args.at) w us u c.in-Err.trouble
-    (subst (λ (r : Result (Meant × Meant × Meant) Trouble). Is r (Beside k (form.loop c.args.at) w us u)) c.in-Err.is h)
+    three_fails k c.args.at form.loop w us u c.in-Err.trouble
+    (subst (λ (r : Result (Meant × Meant × Meant) Trouble). Is r (Beside k c.args.at form.loop w us u)) c.in-Err.is h)
 
 pub returns-in-Ok : goal.returns-in-Ok
 returns-in-Ok c = λ k w us u h.
-    three_is k (form.loop c.args.at) w us u c.repeated.result _
-    (subst (λ (r : Result (Meant × Meant × Meant) Trouble). Is r (Beside k (form.loop c.args.at) w us u)) c.in-Ok.is h) c.repeated.ensures
+    three_is k c.args.at form.loop w us u c.repeated.result _
+    (subst (λ (r : Result (Meant × Meant × Meant) Trouble). Is r (Beside k c.args.at form.loop w us u)) c.in-Ok.is h) c.repeated.ensures

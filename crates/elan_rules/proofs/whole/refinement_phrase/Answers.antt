@@ -4,9 +4,9 @@ use Rattle.elan_rules.proofs.Together.{pair_fails, pair_is}
 use Rattle.elan_rules.proofs.whole.refinement_phrase.Goals as goal
 
 pub returns-in-Err : goal.returns-in-Err
-returns-in-Err c = λ k p q g h. pair_fails k (form.refinement c.args.owner) p q c.in-Err.trouble (c.in-Err.ensures (judged k p) (judged k q) g h)
+returns-in-Err c = λ k p q g h. pair_fails k 0 (form.refinement c.args.owner) p q c.in-Err.trouble (c.in-Err.ensures (judged k p) (judged k q) g h)
 
 pub returns-in-Ok : goal.returns-in-Ok
 returns-in-Ok c = λ k p q g h.
-    pair_is k (form.refinement c.args.owner) p q c.refinement.result c.in-Ok.name c.in-Ok.units
+    pair_is k 0 (form.refinement c.args.owner) p q c.refinement.result c.in-Ok.name c.in-Ok.units
     (c.in-Ok.ensures (judged k p) (judged k q) g h) c.refinement.ensures

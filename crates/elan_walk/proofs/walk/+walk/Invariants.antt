@@ -1,5 +1,6 @@
 use Rattle.std.proofs.Common.{◌≡◌, map, drop}
-use Rattle.elan_walk.specs.Nodes.{all, all_items, in_expr, in_branch, in_case, in_item, in_unit}
+use Rattle.std.specs.Prelude.{flat_map}
+use Rattle.elan_walk.specs.Nodes.{all, in_expr, in_branch, in_case, in_item, in_unit}
 use Rattle.elan_walk.specs.Walk.{went}
 use Rattle.elan_walk.proofs.walk.+walk.Given as goal
 
@@ -22,5 +23,5 @@ invariant-visit_units-loop-unit g l =
 
 abbrev pub invariant-in_items-loop-item : goal.invariant-in_items-loop-item
 invariant-in_items-loop-item g l =
-    went g.V.Visitor.after l.visitor (all_items l.held l.of (map in_item (drop l.item-index l.items)))
-    ≡ went g.V.Visitor.after l.fn.visitor (all_items l.held l.of (map in_item l.items))
+    went g.V.Visitor.after l.visitor (flat_map (λ i. i l.held l.of) (map in_item (drop l.item-index l.items)))
+    ≡ went g.V.Visitor.after l.fn.visitor (flat_map (λ i. i l.held l.of) (map in_item l.items))

@@ -2,10 +2,11 @@ use Rattle.std.proofs.Common.{List, ap, sym, subst, ◌∙◌}
 use Rattle.elan_tree.specs.declared.tree.LevelUnit.{LevelUnit}
 use Rattle.elan_tree.specs.declared.tree.Refinement.{Refinement}
 use Rattle.elan_levels.specs.Bodies.{bodies_of_units}
-use Rattle.elan_check.specs.Level.{level_bodies, all_unit_bodies, all_refined_units}
+use Rattle.elan_check.specs.Level.{level_bodies, all_refined_units}
 use Rattle.elan_check.specs.walks.OnTheWay.{Holds}
 use Rattle.elan_check.proofs.Settling.{all_units_here, refinements_here}
 use Rattle.elan_check.proofs.settle.Settling.level.Goals as goal
+use Rattle.elan_check.specs.walks.Units.{all_unit_bodies}
 
 pub returns-clause-found : goal.returns-clause-found
 returns-clause-found c = λ s.

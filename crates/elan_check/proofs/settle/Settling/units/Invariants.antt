@@ -1,8 +1,9 @@
 use Rattle.std.proofs.Common.{◌≡◌, drop}
 use Rattle.elan_tree.specs.declared.tree.Level.{Level}
-use Rattle.elan_check.specs.Level.{level_bodies, all_unit_bodies}
+use Rattle.elan_check.specs.Level.{level_bodies}
 use Rattle.elan_check.specs.walks.OnTheWay.{IsOnTheWay, Holds}
 use Rattle.elan_check.proofs.settle.Settling.units.Given as goal
+use Rattle.elan_check.specs.walks.Units.{all_unit_bodies}
 
 pub record Kept (P Q : Type 0) : Type 0 where
   pub scope : P

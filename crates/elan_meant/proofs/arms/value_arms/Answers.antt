@@ -1,8 +1,8 @@
 use Rattle.std.proofs.Common.{◌≡◌, ◌∷◌, [], IfOk, List, map, sym, subst}
 use Rattle.std.proofs.lemmas.List.{map-append}
 use Rattle.elan_types.specs.declared.core_phrase.ValueArm.{ValueArm}
-use Rattle.choice_rules.specs.Choices.{value_arm}
-use Rattle.choice_rules.proofs.selection.value_arms.Goals as goal
+use Rattle.elan_meant.specs.Arms.{value_arm}
+use Rattle.elan_meant.proofs.arms.value_arms.Goals as goal
 
 pub loop-arm-preserved : goal.loop-arm-preserved
 loop-arm-preserved c =

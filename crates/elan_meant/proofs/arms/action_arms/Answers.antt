@@ -1,8 +1,8 @@
 use Rattle.std.proofs.Common.{◌≡◌, ◌∷◌, [], IfOk, List, map, sym, subst}
 use Rattle.std.proofs.lemmas.List.{map-append}
 use Rattle.elan_types.specs.declared.core_phrase.Arm.{Arm}
-use Rattle.choice_rules.specs.Choices.{action_arm}
-use Rattle.choice_rules.proofs.selection.action_arms.Goals as goal
+use Rattle.elan_meant.specs.Arms.{action_arm}
+use Rattle.elan_meant.proofs.arms.action_arms.Goals as goal
 
 pub loop-arm-preserved : goal.loop-arm-preserved
 loop-arm-preserved c =
