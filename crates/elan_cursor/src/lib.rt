@@ -2,6 +2,7 @@
 #![tactic(auto)]
 
 mod cursor;
-pub mod kind;
+pub mod passing;
 
 pub use cursor::Cursor;
+pub use elan_kinds as kind;

@@ -19,6 +19,12 @@ pub enum Tree {
     },
 }
 
+// A crate above that lets a tree go by this call proves nothing of how its parts are let go.
+impl Tree {
+    /// Lets it go, with all its parts.
+    pub fn let_go(self) {}
+}
+
 /// A name that a packet offers.
 #[derive(Drop)]
 pub enum Export {

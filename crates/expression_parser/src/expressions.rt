@@ -12,7 +12,7 @@ ghost use Rattle.elan_grammar.specs.Depth.{expr_depth, expr_place};
 use containers::{Boxed, List};
 use elan_cursor::Cursor;
 use elan_cursor::kind::{OPERAND_LEVEL, WORD_LEVEL};
-use elan_grammar::tall::{Tall, and};
+use elan_grammar::tall::{Tall, and, boxed};
 use elan_grammar::{Joint, ParseError, Right};
 use elan_tree::{Expr, Unit};
 use form_parser::Inner;
@@ -104,15 +104,16 @@ impl<
     {
         cursor.below(0, self.depth)?;
         let (at, operator) = cursor.monadic(self.alloc)?;
-        let a = self.inner(cursor, OPERAND_LEVEL)?;
+        let operand = boxed(self.alloc, self.inner(cursor, OPERAND_LEVEL));
+        let (operator, operand) = and(operator, operand)?;
         let tree = Expr::Monadic {
             at,
             operator,
-            operand: Boxed::new(self.alloc, a.tree)?,
+            operand: operand.tree,
         };
         Ok(Tall {
             tree,
-            height: a.height + 1,
+            height: operand.height + 1,
         })
     }
 
@@ -170,12 +171,12 @@ impl<
     {
         let at = expr_place(&left.tree);
         let height = left.height;
-        let left = Boxed::new(self.alloc, left.tree)?;
+        let left = boxed(self.alloc, Ok(left))?;
         let (left, right) = and(left, self.right_part(cursor, level, height))?;
         let height = height.max(right.height) + 1;
         let Right { joint, operand } = right.tree;
         Ok(Tall {
-            tree: joined(at, joint, left, operand),
+            tree: joined(at, joint, left.tree, operand),
             height,
         })
     }

@@ -8,11 +8,12 @@ ghost use Rattle.expression_parser.specs.Nests.{Nests};
 ghost use Rattle.elan_grammar.specs.Depth.{expr_depth, deepest_of};
 
 use crate::expressions::{Grammar, expr_place};
-use containers::{Boxed, List};
+use containers::List;
 use elan_cursor::Cursor;
 use elan_cursor::kind::{WORD_LEVEL, selects};
+use elan_cursor::passing::before_sign;
 use elan_grammar::ParseError;
-use elan_grammar::tall::{Tall, and, single, with_next};
+use elan_grammar::tall::{Tall, and, boxed, single, with_next};
 use elan_tree::{Expr, Key, Name, Sign, Unit};
 use std::alloc::Global;
 
@@ -26,14 +27,12 @@ impl<
         ensures { Parses (spec.bracket (units.phrases self.now.depth) self.now.depth) expr_depth (AtMost self.now.depth)
             cursor.old.rest.now result cursor.new.rest.now }
     {
-        cursor.below(0, self.depth)?;
-        let at = cursor.mark(Sign::LeftRound)?;
-        let a = self.inner(cursor, WORD_LEVEL)?;
-        let inner = Boxed::new(self.alloc, a.tree)?;
-        cursor.mark(Sign::RightRound)?;
+        let at = cursor.opening_sign(Sign::LeftRound, self.depth)?;
+        let inner = boxed(self.alloc, self.inner(cursor, WORD_LEVEL));
+        let inner = before_sign(inner, cursor, Sign::RightRound)?;
         Ok(Tall {
-            tree: Expr::Bracket(at, inner),
-            height: a.height + 1,
+            tree: Expr::Bracket(at, inner.tree),
+            height: inner.height + 1,
         })
     }
 
@@ -43,15 +42,13 @@ impl<
         ensures { Parses (spec.concr (units.phrases self.now.depth) self.now.depth) expr_depth (AtMost self.now.depth)
             cursor.old.rest.now result cursor.new.rest.now }
     {
-        cursor.below(0, self.depth)?;
-        let at = cursor.keyword(Key::Concr)?;
+        let at = cursor.opening(Key::Concr, self.depth)?;
         cursor.mark(Sign::LeftRound)?;
-        let a = self.inner(cursor, WORD_LEVEL)?;
-        let inner = Boxed::new(self.alloc, a.tree)?;
-        cursor.mark(Sign::RightRound)?;
+        let inner = boxed(self.alloc, self.inner(cursor, WORD_LEVEL));
+        let inner = before_sign(inner, cursor, Sign::RightRound)?;
         Ok(Tall {
-            tree: Expr::Concr(at, inner),
-            height: a.height + 1,
+            tree: Expr::Concr(at, inner.tree),
+            height: inner.height + 1,
         })
     }
 
@@ -87,11 +84,10 @@ impl<
     {
         let mut row = single(self.alloc, self.actual(cursor))?;
         for _turn in 0..cursor.rest.len() {
-            if !cursor.sees_sign(Sign::Comma) {
+            if !cursor.passes_sign(Sign::Comma) {
                 return Ok(row);
             }
-            let (items, _) = and(row, cursor.mark(Sign::Comma))?;
-            row = with_next(items, self.actual(cursor))?;
+            row = with_next(row, self.actual(cursor))?;
         }
         Ok(row)
     }
@@ -102,10 +98,10 @@ impl<
         ensures { Parses (spec.call (units.phrases self.now.depth) self.now.depth name) expr_depth (AtMost self.now.depth)
             cursor.old.rest.now result cursor.new.rest.now }
     {
-        cursor.below(0, self.depth)?;
-        cursor.mark(Sign::LeftRound)?;
-        let row = self.actuals(cursor)?;
-        let (row, _) = and(row, cursor.mark(Sign::RightRound))?;
+        let opening = cursor.opening_sign(Sign::LeftRound, self.depth);
+        let (name, _) = and(name, opening)?;
+        let row = before_sign(self.actuals(cursor), cursor, Sign::RightRound);
+        let (name, row) = and(name, row)?;
         let tree = Expr::Call(name, row.tree);
         Ok(Tall {
             tree,
@@ -160,9 +156,8 @@ impl<
     {
         cursor.below(height, self.depth)?;
         cursor.mark(Sign::LeftSquare)?;
-        let index = self.inner(cursor, WORD_LEVEL)?;
-        let (index, _) = and(index, cursor.mark(Sign::RightSquare))?;
-        Ok(index)
+        let index = self.inner(cursor, WORD_LEVEL);
+        before_sign(index, cursor, Sign::RightSquare)
     }
 
     #[tactic(auto, unfolding(elan_grammar::specs::Expressions::index))]
@@ -174,14 +169,16 @@ impl<
     {
         let at = expr_place(&of.tree);
         let height = of.height;
-        let of = Boxed::new(self.alloc, of.tree)?;
-        let (of, index) = and(of, self.index_part(cursor, height))?;
+        let of = boxed(self.alloc, Ok(of))?;
+        let index = boxed(self.alloc, self.index_part(cursor, height));
+        let (of, index) = and(of, index)?;
         let height = height.max(index.height) + 1;
-        let index = Boxed::new(self.alloc, index.tree)?;
-        Ok(Tall {
-            tree: Expr::Index { at, of, index },
-            height,
-        })
+        let tree = Expr::Index {
+            at,
+            of: of.tree,
+            index: index.tree,
+        };
+        Ok(Tall { tree, height })
     }
 
     #[tactic(auto, unfolding(elan_grammar::specs::Expressions::field_part))]
@@ -203,10 +200,15 @@ impl<
     {
         let height = of.height;
         let at = expr_place(&of.tree);
-        let of = Boxed::new(self.alloc, of.tree)?;
+        let of = boxed(self.alloc, Ok(of))?;
         let (of, field) = and(of, self.field_part(cursor, height))?;
+        let tree = Expr::Field {
+            at,
+            of: of.tree,
+            field,
+        };
         Ok(Tall {
-            tree: Expr::Field { at, of, field },
+            tree,
             height: height + 1,
         })
     }

@@ -12,6 +12,7 @@ use crate::labels::labels;
 use containers::List;
 use elan_cursor::Cursor;
 use elan_cursor::kind::WORD_LEVEL;
+use elan_cursor::passing::{before_end, before_key, before_sign};
 use elan_grammar::tall::{Tall, and, boxed, single, with_next};
 use elan_grammar::{ParseError, SelectParts};
 use elan_tree::{Branch, Case, Expr, Key, Sign, Unit};
@@ -27,8 +28,8 @@ impl<
         ensures { Parses (spec.branch (units.phrases self.now.depth) self.now.depth) branch_depth (Below self.now.depth)
             cursor.old.rest.now result cursor.new.rest.now }
     {
-        let condition = self.expression(cursor, WORD_LEVEL)?;
-        let (condition, _) = and(condition, cursor.keyword(Key::Then))?;
+        let condition = self.expression(cursor, WORD_LEVEL);
+        let condition = before_key(condition, cursor, Key::Then)?;
         let (condition, units) = and(condition, self.units(cursor))?;
         let height = condition.height.max(units.height);
         let tree = Branch {
@@ -46,11 +47,10 @@ impl<
     {
         let mut row = single(self.alloc, self.branch(cursor))?;
         for _turn in 0..cursor.rest.len() {
-            if !cursor.sees_key(Key::Elif) {
+            if !cursor.passes_key(Key::Elif) {
                 return Ok(row);
             }
-            let (items, _) = and(row, cursor.keyword(Key::Elif))?;
-            row = with_next(items, self.branch(cursor))?;
+            row = with_next(row, self.branch(cursor))?;
         }
         Ok(row)
     }
@@ -62,13 +62,12 @@ impl<
         ensures { Parses (spec.else_part (units.phrases self.now.depth) self.now.depth) (if_any (deepest_of unit_depth)) (Below self.now.depth)
             cursor.old.rest.now result cursor.new.rest.now }
     {
-        if !cursor.sees_key(Key::Else) {
+        if !cursor.passes_key(Key::Else) {
             return Ok(Tall {
                 tree: None,
                 height: 0,
             });
         }
-        cursor.keyword(Key::Else)?;
         let units = self.units(cursor)?;
         Ok(Tall {
             tree: Some(units.tree),
@@ -94,8 +93,7 @@ impl<
         ensures { Parses (spec.choice (units.phrases self.now.depth) self.now.depth) expr_depth (AtMost self.now.depth)
             cursor.old.rest.now result cursor.new.rest.now }
     {
-        cursor.below(0, self.depth)?;
-        let at = cursor.keyword(Key::If)?;
+        let at = cursor.opening(Key::If, self.depth)?;
         let branches = self.branches(cursor)?;
         let (branches, otherwise) = and(branches, self.else_part(cursor))?;
         let ((branches, otherwise), _) = and((branches, otherwise), self.choice_end(cursor))?;
@@ -118,8 +116,7 @@ impl<
             cursor.old.rest.now result cursor.new.rest.now }
     {
         cursor.keyword(Key::Case)?;
-        let labels = labels(self.alloc, cursor)?;
-        let (labels, _) = and(labels, cursor.mark(Sign::Colon))?;
+        let labels = before_sign(labels(self.alloc, cursor), cursor, Sign::Colon)?;
         let (labels, units) = and(labels, self.units(cursor))?;
         let tree = Case {
             labels,
@@ -157,16 +154,13 @@ impl<
         ensures { Parses (spec.otherwise_part (units.phrases self.now.depth) self.now.depth) (if_any (deepest_of unit_depth)) (Below self.now.depth)
             cursor.old.rest.now result cursor.new.rest.now }
     {
-        if !cursor.sees_key(Key::Otherwise) {
+        if !cursor.passes_key(Key::Otherwise) {
             return Ok(Tall {
                 tree: None,
                 height: 0,
             });
         }
-        cursor.keyword(Key::Otherwise)?;
-        if cursor.sees_sign(Sign::Colon) {
-            cursor.mark(Sign::Colon)?;
-        }
+        let _colon = cursor.passes_sign(Sign::Colon);
         let units = self.units(cursor)?;
         Ok(Tall {
             tree: Some(units.tree),
@@ -183,8 +177,8 @@ impl<
             cursor.old.rest.now result cursor.new.rest.now }
     {
         let cases = self.cases(cursor)?;
-        let (cases, otherwise) = and(cases, self.otherwise_part(cursor))?;
-        let ((cases, otherwise), _) = and((cases, otherwise), cursor.end_of(Key::Select))?;
+        let otherwise = before_end(self.otherwise_part(cursor), cursor, Key::Select);
+        let (cases, otherwise) = and(cases, otherwise)?;
         let height = cases.height.max(otherwise.height);
         let tree = SelectParts {
             cases: cases.tree,
@@ -200,10 +194,9 @@ impl<
         ensures { Parses (spec.selection (units.phrases self.now.depth) self.now.depth) expr_depth (AtMost self.now.depth)
             cursor.old.rest.now result cursor.new.rest.now }
     {
-        cursor.below(0, self.depth)?;
-        let at = cursor.keyword(Key::Select)?;
-        let of = boxed(self.alloc, self.expression(cursor, WORD_LEVEL))?;
-        let (of, _) = and(of, cursor.keyword(Key::Of))?;
+        let at = cursor.opening(Key::Select, self.depth)?;
+        let of = boxed(self.alloc, self.expression(cursor, WORD_LEVEL));
+        let of = before_key(of, cursor, Key::Of)?;
         let (of, parts) = and(of, self.select_parts(cursor))?;
         let height = of.height.max(parts.height);
         let SelectParts { cases, otherwise } = parts.tree;

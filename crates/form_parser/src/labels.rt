@@ -6,7 +6,7 @@ ghost use Rattle.elan_grammar.specs.Types as spec;
 use containers::List;
 use elan_cursor::Cursor;
 use elan_grammar::ParseError;
-use elan_grammar::tall::{and, one, one_more};
+use elan_grammar::tall::{one, one_more};
 use elan_tree::{Label, Sign};
 use std::alloc::Global;
 
@@ -37,11 +37,10 @@ pub fn labels(alloc: Global, cursor: &mut Cursor<'_>) -> Result<List<Label>, Par
 {
     let mut row = one(alloc, label(alloc, cursor))?;
     for _turn in 0..cursor.rest.len() {
-        if !cursor.sees_sign(Sign::Comma) {
+        if !cursor.passes_sign(Sign::Comma) {
             return Ok(row);
         }
-        let (items, _) = and(row, cursor.mark(Sign::Comma))?;
-        row = one_more(items, label(alloc, cursor))?;
+        row = one_more(row, label(alloc, cursor))?;
     }
     Ok(row)
 }

@@ -10,7 +10,7 @@ use crate::inner::Inner;
 use containers::{Boxed, List};
 use elan_cursor::Cursor;
 use elan_cursor::kind::WORD_LEVEL;
-use elan_grammar::tall::{Tall, and};
+use elan_grammar::tall::{Tall, and, boxed};
 use elan_grammar::{LoopParts, ParseError};
 use elan_tree::{Counter, Expr, Key, Limit, Unit};
 use std::alloc::Global;
@@ -19,16 +19,6 @@ impl<
     E: Fn(Global, &mut Cursor<'_>, u16, u8) -> Result<Tall<Expr>, ParseError>,
     U: Fn(Global, &mut Cursor<'_>, u16) -> Result<Tall<List<Unit>>, ParseError>,
 > Inner<E, U> {
-    /// A keyword, and an expression behind it.
-    fn behind(&self, cursor: &mut Cursor<'_>, key: Key) -> Result<Tall<Expr>, ParseError>
-        requires { Nests E.Fn U.Fn self.now }
-        ensures { Parses (units.behind (units.phrases self.now.depth) self.now.depth key) expr_depth (Below self.now.depth)
-            cursor.old.rest.now result cursor.new.rest.now }
-    {
-        cursor.keyword(key)?;
-        self.expression(cursor, WORD_LEVEL)
-    }
-
     #[tactic(auto, unfolding(elan_grammar::specs::Units::a_limit, elan_grammar::specs::Units::upto, elan_grammar::specs::Units::downto), using(elan_grammar::proofs::Starts::of_units))]
     fn a_limit(&self, cursor: &mut Cursor<'_>) -> Result<Tall<Limit>, ParseError>
         requires nests { Nests E.Fn U.Fn self.now }
@@ -36,14 +26,14 @@ impl<
         ensures { Parses (units.a_limit (units.phrases self.now.depth) self.now.depth) limit_depth (Below self.now.depth)
             cursor.old.rest.now result cursor.new.rest.now }
     {
-        if cursor.sees_key(Key::Upto) {
-            let a = self.behind(cursor, Key::Upto)?;
+        if cursor.passes_key(Key::Upto) {
+            let a = self.expression(cursor, WORD_LEVEL)?;
             Ok(Tall {
                 tree: Limit::Upto(a.tree),
                 height: a.height,
             })
-        } else if cursor.sees_key(Key::Downto) {
-            let a = self.behind(cursor, Key::Downto)?;
+        } else if cursor.passes_key(Key::Downto) {
+            let a = self.expression(cursor, WORD_LEVEL)?;
             Ok(Tall {
                 tree: Limit::Downto(a.tree),
                 height: a.height,
@@ -68,13 +58,13 @@ impl<
         ensures { Parses (units.key_part (units.phrases self.now.depth) self.now.depth key) (if_any expr_depth) (Below self.now.depth)
             cursor.old.rest.now result cursor.new.rest.now }
     {
-        if !cursor.sees_key(key) {
+        if !cursor.passes_key(key) {
             return Ok(Tall {
                 tree: None,
                 height: 0,
             });
         }
-        let a = self.behind(cursor, key)?;
+        let a = self.expression(cursor, WORD_LEVEL)?;
         Ok(Tall {
             tree: Some(a.tree),
             height: a.height,
@@ -97,8 +87,15 @@ impl<
             from: from.tree,
             limit: limit.tree,
         };
+        let counter = boxed(
+            self.alloc,
+            Ok(Tall {
+                tree: counter,
+                height,
+            }),
+        )?;
         Ok(Tall {
-            tree: Some(Boxed::new(self.alloc, counter)?),
+            tree: Some(counter.tree),
             height,
         })
     }
@@ -107,8 +104,7 @@ impl<
     fn loop_end(&self, cursor: &mut Cursor<'_>) -> Result<u32, ParseError>
         ensures { Gives ((units.loop_end).run cursor.old.rest.now) result cursor.new.rest.now }
     {
-        if cursor.sees_key(Key::End) {
-            cursor.keyword(Key::End)?;
+        if cursor.passes_key(Key::End) {
             cursor.rep()
         } else {
             cursor.keyword(Key::Per)
@@ -179,8 +175,7 @@ impl<
         ensures { Parses (units.counted (units.phrases self.now.depth) self.now.depth) unit_depth (AtMost self.now.depth)
             cursor.old.rest.now result cursor.new.rest.now }
     {
-        cursor.below(0, self.depth)?;
-        let at = cursor.keyword(Key::For)?;
+        let at = cursor.opening(Key::For, self.depth)?;
         let counter = self.counter(cursor)?;
         let (counter, condition) = and(counter, self.key_part(cursor, Key::While))?;
         self.turns(cursor, Some(at), counter, condition)
@@ -193,8 +188,7 @@ impl<
         ensures { Parses (units.guarded (units.phrases self.now.depth) self.now.depth) unit_depth (AtMost self.now.depth)
             cursor.old.rest.now result cursor.new.rest.now }
     {
-        cursor.below(0, self.depth)?;
-        let at = cursor.keyword(Key::While)?;
+        let at = cursor.opening(Key::While, self.depth)?;
         let a = self.expression(cursor, WORD_LEVEL)?;
         let counter = Tall {
             tree: None,

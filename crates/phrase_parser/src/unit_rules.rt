@@ -10,6 +10,7 @@ use crate::phrases::Phrases;
 use containers::List;
 use elan_cursor::Cursor;
 use elan_cursor::kind::{WORD_LEVEL, begins_typed};
+use elan_cursor::passing::{before_key, before_sign};
 use elan_grammar::ParseError;
 use elan_grammar::tall::{Tall, and, single, with_next};
 use elan_tree::{Expr, Item, Key, Sign, TypePhrase, Unit};
@@ -76,11 +77,10 @@ impl<
     {
         let mut row = single(self.alloc, self.item(cursor))?;
         for _turn in 0..cursor.rest.len() {
-            if !cursor.sees_sign(Sign::Comma) {
+            if !cursor.passes_sign(Sign::Comma) {
                 return Ok(row);
             }
-            let (items, _) = and(row, cursor.mark(Sign::Comma))?;
-            row = with_next(items, self.item(cursor))?;
+            row = with_next(row, self.item(cursor))?;
         }
         Ok(row)
     }
@@ -111,11 +111,10 @@ impl<
     {
         let mut row = single(self.alloc, self.constant_item(cursor))?;
         for _turn in 0..cursor.rest.len() {
-            if !cursor.sees_sign(Sign::Comma) {
+            if !cursor.passes_sign(Sign::Comma) {
                 return Ok(row);
             }
-            let (items, _) = and(row, cursor.mark(Sign::Comma))?;
-            row = with_next(items, self.constant_item(cursor))?;
+            row = with_next(row, self.constant_item(cursor))?;
         }
         Ok(row)
     }
@@ -132,7 +131,7 @@ impl<
             cursor.old.rest.now result cursor.new.rest.now }
     {
         let at = type_place(&of.tree);
-        let (of, _) = and(of, cursor.keyword(Key::Var))?;
+        let of = before_key(Ok(of), cursor, Key::Var)?;
         let (of, row) = and(of, self.items(cursor))?;
         let height = of.height.max(row.height);
         Ok(Tall {
@@ -153,7 +152,7 @@ impl<
             cursor.old.rest.now result cursor.new.rest.now }
     {
         let at = type_place(&of.tree);
-        let (of, _) = and(of, cursor.keyword(Key::Const))?;
+        let of = before_key(Ok(of), cursor, Key::Const)?;
         let (of, row) = and(of, self.constant_items(cursor))?;
         let height = of.height.max(row.height);
         Ok(Tall {
@@ -197,10 +196,9 @@ impl<
         ensures { Parses (units.bound (units.phrases self.now.depth) self.now.depth) unit_depth (AtMost self.now.depth)
             cursor.old.rest.now result cursor.new.rest.now }
     {
-        cursor.below(0, self.depth)?;
-        let at = cursor.keyword(Key::Bound)?;
-        let of = types(self.alloc, cursor, self.depth)?;
-        let (of, _) = and(of, cursor.keyword(Key::Var))?;
+        let at = cursor.opening(Key::Bound, self.depth)?;
+        let of = types(self.alloc, cursor, self.depth);
+        let of = before_key(of, cursor, Key::Var)?;
         let (of, row) = and(of, self.items(cursor))?;
         let height = of.height.max(row.height);
         Ok(Tall {
@@ -218,7 +216,7 @@ impl<
     {
         let height = left.height;
         let (left, _) = and(left, cursor.below(height, self.depth))?;
-        let (left, _) = and(left, cursor.mark(Sign::Becomes))?;
+        let left = before_sign(Ok(left), cursor, Sign::Becomes)?;
         let (left, right) = and(left, self.forms().expression(cursor, WORD_LEVEL))?;
         let height = left.height.max(right.height);
         let tree = Unit::Becomes {
@@ -254,10 +252,9 @@ impl<
         ensures { Parses (units.leave (units.phrases self.now.depth) self.now.depth) unit_depth (AtMost self.now.depth)
             cursor.old.rest.now result cursor.new.rest.now }
     {
-        cursor.below(0, self.depth)?;
-        let at = cursor.keyword(Key::Leave)?;
+        let at = cursor.opening(Key::Leave, self.depth)?;
         let name = cursor.leaving(self.alloc)?;
-        let value = self.forms().key_part(cursor, Key::With)?;
+        let (name, value) = and(name, self.forms().key_part(cursor, Key::With))?;
         let tree = Unit::Leave {
             at,
             name,
@@ -320,11 +317,10 @@ impl<
     {
         let mut row = single(self.alloc, self.unit(cursor))?;
         for _turn in 0..cursor.rest.len() {
-            if !cursor.sees_sign(Sign::Semicolon) {
+            if !cursor.passes_sign(Sign::Semicolon) {
                 return Ok(row);
             }
-            let (items, _) = and(row, cursor.mark(Sign::Semicolon))?;
-            row = with_next(items, self.unit(cursor))?;
+            row = with_next(row, self.unit(cursor))?;
         }
         Ok(row)
     }

@@ -7,13 +7,9 @@ pub loop-turn-init : goal.loop-turn-init
 unfolding types.labels
 loop-turn-init c = grind arith
 
-pub returns-then-not-sees_sign : goal.returns-then-not-sees_sign
+pub returns-then-not-passes_sign : goal.returns-then-not-passes_sign
 unfolding types.labels
-returns-then-not-sees_sign c = grind (arith, turns)
-
-pub returns-in_err-items : goal.returns-in_err-items
-unfolding types.labels
-returns-in_err-items c = grind (arith, turns)
+returns-then-not-passes_sign c = grind (arith, turns)
 
 pub returns-in_err-row-2 : goal.returns-in_err-row-2
 unfolding types.labels

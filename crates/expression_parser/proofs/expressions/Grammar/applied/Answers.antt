@@ -10,10 +10,6 @@ pub returns-in_err-at : goal.returns-in_err-at
 unfolding expressions.applied
 returns-in_err-at g c = grind arith
 
-pub returns-in_err-a : goal.returns-in_err-a
+pub returns-in_err-operator : goal.returns-in_err-operator
 unfolding expressions.applied
-returns-in_err-a g c = grind arith
-
-pub returns-in_err-new : goal.returns-in_err-new
-unfolding expressions.applied
-returns-in_err-new g c = grind arith
+returns-in_err-operator g c = grind arith

@@ -2,22 +2,10 @@ use Rattle.std.proofs.Common.{arith}
 use Rattle.elan_grammar.specs.Expressions as expressions
 use Rattle.expression_parser.proofs.expressions.Grammar.bracket.Goals as goal
 
-pub returns-in_err-below : goal.returns-in_err-below
-unfolding expressions.bracket
-returns-in_err-below g c = grind arith
-
 pub returns-in_err-at : goal.returns-in_err-at
 unfolding expressions.bracket
 returns-in_err-at g c = grind arith
 
-pub returns-in_err-a : goal.returns-in_err-a
-unfolding expressions.bracket
-returns-in_err-a g c = grind arith
-
 pub returns-in_err-inner : goal.returns-in_err-inner
 unfolding expressions.bracket
 returns-in_err-inner g c = grind arith
-
-pub returns-in_err-mark : goal.returns-in_err-mark
-unfolding expressions.bracket
-returns-in_err-mark g c = grind arith

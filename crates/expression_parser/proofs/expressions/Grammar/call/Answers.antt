@@ -2,18 +2,10 @@ use Rattle.std.proofs.Common.{arith}
 use Rattle.elan_grammar.specs.Expressions as expressions
 use Rattle.expression_parser.proofs.expressions.Grammar.call.Goals as goal
 
-pub returns-in_err-below : goal.returns-in_err-below
+pub returns-in_err-name : goal.returns-in_err-name
 unfolding expressions.call
-returns-in_err-below g c = grind arith
+returns-in_err-name g c = grind arith
 
-pub returns-in_err-mark : goal.returns-in_err-mark
+pub returns-in_err-name-2 : goal.returns-in_err-name-2
 unfolding expressions.call
-returns-in_err-mark g c = grind arith
-
-pub returns-in_err-row : goal.returns-in_err-row
-unfolding expressions.call
-returns-in_err-row g c = grind arith
-
-pub returns-in_err-row-2 : goal.returns-in_err-row-2
-unfolding expressions.call
-returns-in_err-row-2 g c = grind arith
+returns-in_err-name-2 g c = grind arith

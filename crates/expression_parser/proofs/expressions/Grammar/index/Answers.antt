@@ -9,7 +9,3 @@ returns-in_err-of g c = grind arith
 pub returns-in_err-of-2 : goal.returns-in_err-of-2
 unfolding expressions.index
 returns-in_err-of-2 g c = grind arith
-
-pub returns-in_err-index : goal.returns-in_err-index
-unfolding expressions.index
-returns-in_err-index g c = grind arith

@@ -13,7 +13,3 @@ returns-in_err-labels g c = grind arith
 pub returns-in_err-labels-2 : goal.returns-in_err-labels-2
 unfolding expressions.a_case
 returns-in_err-labels-2 g c = grind arith
-
-pub returns-in_err-labels-3 : goal.returns-in_err-labels-3
-unfolding expressions.a_case
-returns-in_err-labels-3 g c = grind arith

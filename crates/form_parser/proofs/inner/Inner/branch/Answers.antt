@@ -9,7 +9,3 @@ returns-in_err-condition g c = grind arith
 pub returns-in_err-condition-2 : goal.returns-in_err-condition-2
 unfolding expressions.branch
 returns-in_err-condition-2 g c = grind arith
-
-pub returns-in_err-condition-3 : goal.returns-in_err-condition-3
-unfolding expressions.branch
-returns-in_err-condition-3 g c = grind arith

@@ -8,13 +8,9 @@ pub loop-turn-init : goal.loop-turn-init
 unfolding expressions.branches
 loop-turn-init g c = grind (arith, deepens)
 
-pub returns-then-not-sees_key : goal.returns-then-not-sees_key
+pub returns-then-not-passes_key : goal.returns-then-not-passes_key
 unfolding expressions.branches
-returns-then-not-sees_key g c = grind (arith, turns)
-
-pub returns-in_err-items : goal.returns-in_err-items
-unfolding expressions.branches
-returns-in_err-items g c = grind (arith, turns)
+returns-then-not-passes_key g c = grind (arith, turns)
 
 pub returns-in_err-row-2 : goal.returns-in_err-row-2
 unfolding expressions.branches

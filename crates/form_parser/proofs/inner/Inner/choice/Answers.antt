@@ -2,10 +2,6 @@ use Rattle.std.proofs.Common.{arith}
 use Rattle.elan_grammar.specs.Expressions as expressions
 use Rattle.form_parser.proofs.inner.Inner.choice.Goals as goal
 
-pub returns-in_err-below : goal.returns-in_err-below
-unfolding expressions.choice expressions.choice_end
-returns-in_err-below g c = grind arith
-
 pub returns-in_err-at : goal.returns-in_err-at
 unfolding expressions.choice expressions.choice_end
 returns-in_err-at g c = grind arith

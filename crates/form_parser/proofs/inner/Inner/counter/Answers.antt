@@ -13,7 +13,3 @@ returns-in_err-name-2 g c = grind arith
 pub returns-in_err-name-3 : goal.returns-in_err-name-3
 unfolding units.counter
 returns-in_err-name-3 g c = grind arith
-
-pub returns-in_err-new : goal.returns-in_err-new
-unfolding units.counter
-returns-in_err-new g c = grind arith

@@ -2,10 +2,6 @@ use Rattle.std.proofs.Common.{arith}
 use Rattle.elan_grammar.specs.Expressions as expressions
 use Rattle.form_parser.proofs.inner.Inner.selection.Goals as goal
 
-pub returns-in_err-below : goal.returns-in_err-below
-unfolding expressions.selection
-returns-in_err-below g c = grind arith
-
 pub returns-in_err-at : goal.returns-in_err-at
 unfolding expressions.selection
 returns-in_err-at g c = grind arith
@@ -17,7 +13,3 @@ returns-in_err-of g c = grind arith
 pub returns-in_err-of-2 : goal.returns-in_err-of-2
 unfolding expressions.selection
 returns-in_err-of-2 g c = grind arith
-
-pub returns-in_err-of-3 : goal.returns-in_err-of-3
-unfolding expressions.selection
-returns-in_err-of-3 g c = grind arith

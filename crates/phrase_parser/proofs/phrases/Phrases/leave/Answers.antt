@@ -2,10 +2,6 @@ use Rattle.std.proofs.Common.{arith}
 use Rattle.elan_grammar.specs.Units as units
 use Rattle.phrase_parser.proofs.phrases.Phrases.leave.Goals as goal
 
-pub returns-in_err-below : goal.returns-in_err-below
-unfolding units.leave
-returns-in_err-below g c = grind arith
-
 pub returns-in_err-at : goal.returns-in_err-at
 unfolding units.leave
 returns-in_err-at g c = grind arith
@@ -14,6 +10,6 @@ pub returns-in_err-name : goal.returns-in_err-name
 unfolding units.leave
 returns-in_err-name g c = grind arith
 
-pub returns-in_err-value : goal.returns-in_err-value
+pub returns-in_err-name-2 : goal.returns-in_err-name-2
 unfolding units.leave
-returns-in_err-value g c = grind arith
+returns-in_err-name-2 g c = grind arith

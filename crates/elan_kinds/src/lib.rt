@@ -1,4 +1,5 @@
 //! What the parser looks at: the next token, and of some tokens what follows them.
+#![tactic(auto)]
 
 ghost use Rattle.std.specs.Prelude.{◌≡◌, ◌==◌};
 ghost use Rattle.elan_grammar.specs.Kinds as kinds;

@@ -1,0 +1,17 @@
+-- What is passed, and what stands before it.
+use Rattle.std.specs.Prelude.{◌≡◌, ◌≢◌, Bool, true, false, Result, Ok, Err}
+use Rattle.elan_grammar.specs.declared.error.ParseError.{ParseError}
+use Rattle.elan_grammar.specs.declared.error.ParseError.TheVariants.{NoMemory}
+use Rattle.elan_grammar.specs.Rule.{Rule, Outcome, Tokens}
+
+-- The tokens that a rule reads are passed where it starts, and else none.
+abbrev pub Passes : {A : Type 0} → Rule A → Tokens → Bool → Tokens → Type 0
+Passes {A} rule old true new = (rule.starts old ≡ true) × (a : A) × (rule.run old ≡ Ok (a, new))
+Passes rule old false new = (rule.starts old ≡ false) × (new ≡ old)
+
+-- What was read stays, where something more is read behind it.
+abbrev pub StandsBefore : {A B : Type 0} → Outcome B → Result A ParseError → Result A ParseError → Tokens → Type 0
+StandsBefore {A} {B} behind (Ok x) (Ok y) new = (y ≡ x) × (b : B) × (behind ≡ Ok (b, new))
+StandsBefore behind (Ok x) (Err e) new = e ≢ NoMemory → behind ≡ Err e
+StandsBefore behind (Err d) (Ok y) new = ⊥
+StandsBefore behind (Err d) (Err e) new = e ≡ d
