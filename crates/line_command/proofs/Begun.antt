@@ -12,7 +12,7 @@ use Rattle.elan_types.specs.declared.core_phrase.Core.{Core}
 use Rattle.elan_types.specs.Typing.{kind_in}
 use Rattle.elan_types.specs.Command.{blank_store}
 use Rattle.place_gen.specs.Correct.{HasVariables}
-use Rattle.zero_steps.proofs.Stacks.{at_other, behind}
+use Rattle.zero_calls.proofs.Written.{at_other, behind}
 use Rattle.code_gen.proofs.Plays.{has_blank}
 
 at_same : (cells : Cells) (k : ℕ) (n : Cell) → written cells (run_cell k) n (run_cell k) ≡ n

@@ -19,7 +19,7 @@ use Rattle.code_form.specs.Runs.{Rests, IsPaused, asked}
 use Rattle.place_gen.specs.Correct.{HasVariables, Shows, Comes}
 use Rattle.place_gen.specs.Correct as place
 use Rattle.code_gen.specs.Correct.{Behaves}
-use Rattle.zero_steps.specs.Stepping.{scene_of}
+use Rattle.zero_state.specs.Stepping.{scene_of}
 use Rattle.zero_machine.specs.Running.{RestsSo}
 use Rattle.elan_types.specs.declared.core_phrase.Core.{Core}
 use Rattle.elan_types.specs.Eval.{World}

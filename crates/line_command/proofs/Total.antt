@@ -36,7 +36,7 @@ module _ (answers : (t : Tree) → tree.HasAnswer alone t) where
   by_tree text ts has (inl r) = by (answers r.0)
     where
       by : tree.HasAnswer alone r.0 → (out : List ℕ) × TextWrites text out
-      by (tree.core c m) = (_, runs (means r.0 has r.1 m) refl)
+      by (tree.meaning c m) = (_, runs (means r.0 has r.1 m) refl)
       by (tree.refusal f k) = (_, refused (no_meaning r.0 has r.1 k))
       by (tree.not_yet n) = (_, refused (not_built r.0 has r.1 n))
 

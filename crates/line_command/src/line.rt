@@ -50,7 +50,9 @@ fn respond(alloc: Global, text: &[u8]) -> Result<Bytes, NoMemory>
             let mut pool = Pool::new(alloc);
             let mut memory = SpaceMemory::new(alloc);
             let mut lent = memory.over(&mut pool);
-            match shown(alloc, &core, &mut lent) {
+            let shown = shown(alloc, &core, &mut lent);
+            core.let_go();
+            match shown {
                 Ok(out) => Ok(out),
                 Err(MemFault::NoMemory) => Err(NoMemory),
                 // Pages in memory have no faults.

@@ -7,6 +7,7 @@ use crate::refusal::Refusal;
 use elan_check::{CheckError, check};
 use elan_lexer::{LexError, tokens};
 use elan_parser::{ParseError, parse};
+use elan_tree::Token;
 use elan_types::{Core, Env};
 use eu_base::NoMemory;
 use std::alloc::Global;
@@ -63,6 +64,7 @@ impl From<CheckError> for TextError {
 }
 
 /// The core of a text that stands alone, without packets.
+// Tokens and tree are let go by calls, so that how their parts are let go is proved in the crate of their types alone.
 pub(crate) fn meaning(alloc: Global, text: &[u8]) -> Result<Core, TextError>
     requires { length text.now < 2 ^ 32 }
     ensures meaning { IfOk result (Means text.now) }
@@ -70,6 +72,10 @@ pub(crate) fn meaning(alloc: Global, text: &[u8]) -> Result<Core, TextError>
     ensures refused { IfErr result (IsCause text.now) }
 {
     let tokens = tokens(alloc, text)?;
-    let tree = parse(alloc, tokens.as_slice(), false)?;
-    Ok(check(alloc, &tree, &Env)?)
+    let parsed = parse(alloc, tokens.as_slice(), false);
+    Token::all_let_go(tokens);
+    let tree = parsed?;
+    let checked = check(alloc, &tree, &Env);
+    tree.let_go();
+    Ok(checked?)
 }

@@ -1,4 +1,4 @@
-//! Lines of ELAN and the examples of the documents through the whole program, each with what it writes.
+//! Lines of ELAN, among them the examples of the documents, through the whole program, each with what it writes.
 #![tactic(auto)]
 
 #[cfg(test)]
@@ -7,5 +7,7 @@ mod deep;
 mod documents;
 #[cfg(test)]
 mod lines;
+#[cfg(test)]
+mod meanings;
 #[cfg(test)]
 mod table;

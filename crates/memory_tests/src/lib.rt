@@ -1,7 +1,13 @@
-//! Tests of the memory of a task, over real pages.
+//! Tests of what tasks keep in pages: data spaces, texts in a space, and the memory of a task.
 #![tactic(auto)]
 
 #[cfg(test)]
-mod scenes;
+mod cells;
+#[cfg(test)]
+mod data_spaces;
+#[cfg(test)]
+mod numbers;
 #[cfg(test)]
 mod tests;
+#[cfg(test)]
+mod texts;

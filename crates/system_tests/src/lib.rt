@@ -1,8 +1,11 @@
-//! Tests of the parts of a system of tasks: the ready list, channels, lines and pieces, the tree, names, and messages.
+//! Tests of the parts of a system of tasks: the ready list, channels, lines and pieces, the tree, names,
+//! messages, and the commands that lines spell.
 #![tactic(auto)]
 
 #[cfg(test)]
 mod channels;
+#[cfg(test)]
+mod commands;
 #[cfg(test)]
 mod directory;
 #[cfg(test)]

@@ -99,7 +99,11 @@ fn read(alloc: Global, out: &mut String, text: &str) -> Result<(), AllocError> {
         return out.push_str("too long");
     }
     match tokens(alloc, text.as_bytes()) {
-        Ok(found) => list(out, found.as_slice()),
+        Ok(found) => {
+            let written = list(out, found.as_slice());
+            Token::all_let_go(found);
+            written
+        }
         Err(error) => write!(out, "{error:?}"),
     }
 }
@@ -144,7 +148,10 @@ fn number_of(alloc: Global, text: &str) -> Result<usize, LexError> {
     if text.len() > 10_000 {
         return Ok(0);
     }
-    Ok(tokens(alloc, text.as_bytes())?.len())
+    let found = tokens(alloc, text.as_bytes())?;
+    let number = found.len();
+    Token::all_let_go(found);
+    Ok(number)
 }
 
 /// Whether so many semicolons and what stands behind them are so many tokens, or have none for that reason.

@@ -1,12 +1,10 @@
-//! Texts of ELAN, with their tokens, their trees, and what they mean: what the definitions say of them.
+//! Texts of ELAN, with their tokens and their trees: what the definitions say of them.
 #![tactic(auto)]
 
 #[cfg(test)]
 mod deep;
 #[cfg(test)]
 mod lexed;
-#[cfg(test)]
-mod meant;
 #[cfg(test)]
 mod parsed;
 #[cfg(test)]

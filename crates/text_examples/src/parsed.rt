@@ -146,7 +146,11 @@ fn first_unit(out: &mut String, tree: &Tree) -> Result<(), AllocError> {
 
 fn group(alloc: Global, out: &mut String, tokens: &[Token]) -> Result<(), AllocError> {
     match parse(alloc, tokens, false) {
-        Ok(tree) => first_unit(out, &tree),
+        Ok(tree) => {
+            let written = first_unit(out, &tree);
+            tree.let_go();
+            written
+        }
         Err(ParseError::NotElan(_)) => out.push_str("refused"),
         Err(ParseError::NoMemory) => out.push_str("no memory"),
     }
@@ -157,7 +161,11 @@ fn group_text(alloc: Global, out: &mut String, text: &str) -> Result<(), AllocEr
         return out.push_str("too long");
     }
     match tokens(alloc, text.as_bytes()) {
-        Ok(found) => group(alloc, out, found.as_slice()),
+        Ok(found) => {
+            let written = group(alloc, out, found.as_slice());
+            Token::all_let_go(found);
+            written
+        }
         Err(_) => out.push_str("no tokens"),
     }
 }

@@ -63,14 +63,21 @@ pub fn place(alloc: Global, text: &str, packet: bool) -> Option<u32> {
         return None;
     }
     match tokens(alloc, text.as_bytes()) {
-        Ok(found) => place_in(alloc, found.as_slice(), packet),
+        Ok(found) => {
+            let place = place_in(alloc, found.as_slice(), packet);
+            Token::all_let_go(found);
+            place
+        }
         Err(_) => None,
     }
 }
 
 fn place_in(alloc: Global, tokens: &[Token], packet: bool) -> Option<u32> {
     match parse(alloc, tokens, packet) {
-        Ok(_) => Some(0),
+        Ok(tree) => {
+            tree.let_go();
+            Some(0)
+        }
         Err(ParseError::NotElan(place)) => Some(place),
         Err(ParseError::NoMemory) => None,
     }

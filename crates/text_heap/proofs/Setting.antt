@@ -1,27 +1,20 @@
 -- What `set` and `clear` come to.
-use Rattle.std.proofs.Common.{◌≡◌, ℕ, zero, suc, ◌+◌, ◌*◌, ◌<◌, ◌≤◌, Bool, true, false, nat_le, List, [], length, Option, Some, None}
+use Rattle.std.proofs.Common.{◌≡◌, ℕ, zero, suc, ◌+◌, ◌*◌, ◌<◌, ◌≤◌, List, [], length, Option, Some, None}
 use Rattle.std.proofs.Common.{inl, inr, refl, sym, ap, ◌∙◌, subst, arith, ⊎_elim}
 use Rattle.std.specs.Option.{IsSome}
-use Rattle.std.proofs.lemmas.Bool.Decides.{nat_tests}
 use Rattle.eu_base.specs.Spaces.{Content}
+use Rattle.eu_base.specs.declared.set.Set.{Set}
+use Rattle.eu_base.specs.declared.set.Set.TheVariants.{Done, HeapFull}
 use Rattle.cell_layout.specs.Layout.{HoldsIn, IsKeptBut}
 use Rattle.text_blocks.specs.Blocks.{hint_at, next_in, blocks_of, length_in, first_in, chain_in, free_in, KeptBut}
 use Rattle.text_blocks.specs.Chains.{Releases, Filled}
-use Rattle.text_heap.specs.Texts.{Texts, stored, blocks_in, Holds, KeepsCells}
+use Rattle.text_heap.specs.Texts.{Texts, stored, blocks_in, Holds, Sets, KeepsCells}
 use Rattle.text_blocks.proofs.Freed.{Freed, freed, cells_kept}
-use Rattle.text_blocks.proofs.Spreading.{none_filled, hinted}
 use Rattle.text_heap.proofs.Stored.{once, sizes, stores, room, freed_room, free_and_used}
 
 some_of : (o : Option (List ℕ)) → IsSome o → (u : List ℕ) × (o ≡ Some u)
 some_of None h = let f : ⊥ = cc in absurd f
 some_of (Some u) h = (u, refl)
-
--- what the search for free blocks answered
-pub has_none : (b : Bool) (wanted free : ℕ) → b ≡ nat_le wanted free → b ≡ false → free < wanted
-has_none b wanted free is e = grind (arith, nat_tests, is, e)
-
-pub has_some : (b : Bool) (wanted free : ℕ) → b ≡ nat_le wanted free → b ≡ true → wanted ≤ free
-has_some b wanted free is e = grind (arith, nat_tests, is, e)
 
 -- no byte of the cells changes where blocks are freed
 released_cells : (n : ℕ) (before now : Content) (k : ℕ) → Releases before now k n → (m : ℕ) → m < 131072 → now m ≡ before m
@@ -34,14 +27,6 @@ pub record Released (before middle : Content) (cell first had : ℕ) : Type 0 wh
   pub first_is : first ≡ first_in before cell
   pub had_is : had ≡ blocks_of (length_in before cell)
   pub releases : Releases before middle first had
-
-pub released : (before found middle : Content) (cell first had length : ℕ) → found ≡ before → length ≡ length_in before cell → first ≡ first_in before cell
-    → had ≡ blocks_of length → Releases found middle first had → Released before middle cell first had
-released before found middle cell first had length same length_is first_is had_is r = record {
-  first_is = first_is;
-  had_is = had_is ∙ ap blocks_of length_is;
-  releases = subst (λ x. Releases x middle first had) same r;
-}
 
 -- no byte of a cell is one of the hint
 pub hint_cells : (before now : Content) → KeptBut before now hint_at 2 → (n : ℕ) → n < 131072 → now n ≡ before n
@@ -67,13 +52,23 @@ module _ (before : Content) (texts : Texts) (h : Holds before texts) (cell : ℕ
       let b = sizes before texts h cell u.0 low u.1 t in
       omega (arith, a, b, is, lt)
 
-  fits : (t : List ℕ) (had : ℕ) → had ≡ blocks_of (length_in before cell) → blocks_of (length t) ≤ free_in before 4096 + had
+  -- where it has room
+  pub fits : (t : List ℕ) (had : ℕ) → had ≡ blocks_of (length_in before cell) → blocks_of (length t) ≤ free_in before 4096 + had
       → blocks_in (stored texts cell t) ≤ 4096
   fits t had is le =
       let u = some_of (texts cell) some in
       let a = room before texts h in
       let b = sizes before texts h cell u.0 low u.1 t in
       omega (arith, a, b, is, le)
+
+  -- where all texts have room, it does
+  pub has_room : (t : List ℕ) (had : ℕ) → had ≡ blocks_of (length_in before cell) → blocks_in (stored texts cell t) ≤ 4096
+      → blocks_of (length t) ≤ free_in before 4096 + had
+  has_room t had is few =
+      let u = some_of (texts cell) some in
+      let a = room before texts h in
+      let b = sizes before texts h cell u.0 low u.1 t in
+      omega (arith, a, b, is, few)
 
   freed_here : (middle : Content) (first had : ℕ) → Released before middle cell first had → Freed before middle (chain_in before cell)
   freed_here middle first had r =
@@ -111,9 +106,16 @@ module _ (before : Content) (texts : Texts) (h : Holds before texts) (cell : ℕ
       free_le : free_in middle 4096 ≤ 4096
       free_le = let a = free_and_used middle 4096 in omega (arith, a)
 
-  pub clears : (middle spread now : Content) (first had : ℕ) → Released before middle cell first had → KeptBut middle spread hint_at 2
-      → HoldsIn spread now cell 0 → IsKeptBut spread now cell 1 → Holds now (stored texts cell [])
-  clears middle spread now first had r moved put kept =
+  -- the text "" has room
+  pub empty_fits : blocks_in (stored texts cell []) ≤ 4096
+  empty_fits =
       let u = some_of (texts cell) some in
-      let none = hinted middle middle spread 0 [] (none_filled middle 0) moved in
-      stores before texts h cell u.0 low u.1 middle spread now [] 0 (freed_here middle first had r) none (omega arith) (omega arith) put kept
+      let a = room before texts h in
+      let b = sizes before texts h cell u.0 low u.1 [] in
+      omega (arith, a, b)
+
+-- a text that has room was stored
+pub was_stored : (before now : Content) (texts : Texts) (cell : ℕ) (t : List ℕ) (set : Set) → blocks_in (stored texts cell t) ≤ 4096
+    → Sets before now texts cell t set → Holds now (stored texts cell t)
+was_stored before now texts cell t Done few is = is.1
+was_stored before now texts cell t HeapFull few is = absurd (omega (arith, is.0, few))

@@ -2,6 +2,8 @@
 #![tactic(auto)]
 
 mod law;
+mod replace;
+mod room;
 mod text;
 
 pub use law::zeros_hold_empty_texts;

@@ -6,13 +6,11 @@ ghost use Rattle.eu_base.specs.Spaces.{IsKept};
 ghost use Rattle.text_blocks.specs.Blocks.{text_in, free_in};
 ghost use Rattle.text_heap.specs.Texts.{Texts, Holds, Sets, KeepsCells, blocks_in, stored};
 
-use cell_layout::put;
+use crate::replace::replace;
+use crate::room::{Room, find_room};
 use eu_base::{Bytes, CELLS, MemFault, Set, Space};
 use std::alloc::Global;
-use text_blocks::{
-    BLOCKS, blocks, collect, count_free, first_free, has_free, hint_after, move_hint, read_entry,
-    read_hint, release, spread,
-};
+use text_blocks::{BLOCKS, blocks, collect, count_free, read_entry, read_hint};
 
 /// The text of a cell. On bytes that hold no text it still answers some text.
 pub fn get<S: Space>(alloc: Global, space: &mut S, cell: u16) -> Result<Bytes, MemFault>
@@ -55,20 +53,11 @@ pub fn set<S: Space>(space: &mut S, cell: u16, t: &[u8]) -> Result<Set, MemFault
     let had = blocks(old.length);
     let needed = blocks(t.len());
     let wanted = needed.saturating_sub(had);
-    let hint = read_hint(space)?;
-    let start = first_free(space, hint, wanted)?;
-    let has_room = has_free(space, start, wanted)?;
-    if !has_room {
-        return Ok(Set::HeapFull);
-    }
-    let from = release(space, old.first, had, start)?;
-    let Some(first) = spread(space, from, t)? else {
+    let Some(room) = find_room(space, wanted)? else {
         return Ok(Set::HeapFull);
     };
-    move_hint(space, hint, hint_after(start, from, first, had, needed))?;
-    let number = t.len() as u64 + 4_294_967_296 * u64::from(first);
-    put(space, cell, number)?;
-    Ok(Set::Done)
+    let set = replace(space, cell, old, room, t)?;
+    Ok(set)
 }
 
 /// Puts the text "" in the place of the one that stands in a cell. After an error the space can only be dropped.
@@ -81,10 +70,8 @@ pub fn clear<S: Space>(space: &mut S, cell: u16) -> Result<(), MemFault>
     ensures follows { S.follows space.old space.new }
 {
     let old = read_entry(space, cell)?;
-    let had = blocks(old.length);
     let hint = read_hint(space)?;
-    let lowest = release(space, old.first, had, hint)?;
-    move_hint(space, hint, lowest)?;
-    put(space, cell, 0)?;
+    let room = Room { hint, start: hint };
+    replace(space, cell, old, room, &[])?;
     Ok(())
 }

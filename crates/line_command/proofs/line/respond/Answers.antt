@@ -13,5 +13,5 @@ pub returns-in-Err-Refused : goal.returns-in-Err-Refused
 returns-in-Err-Refused c =
     refused_line c.args.text.now c.in-Err-Refused.refusal c.line.result (rw c.in-Err-Refused.field-0-is at c.in-Err-Refused.ensures.refused) c.line.ensures
 
-pub shown-requires-clause-nothing : goal.shown-requires-clause-nothing
-shown-requires-clause-nothing c = rw c.over-lent.ensures.memory_same (c.new-memory.ensures.nothing c.over-lent.result.pool.now)
+pub shown-shown-requires-clause-nothing : goal.shown-shown-requires-clause-nothing
+shown-shown-requires-clause-nothing c = rw c.over-lent.ensures.memory_same (c.new-memory.ensures.nothing c.over-lent.result.pool.now)

@@ -15,14 +15,14 @@ returns-in_err-tree-clause-refused c =
     (parser_refuses c.args.text.now c.in_ok-tokens.tokens c.in_err-tree.field-0.0 c.in_ok-tokens.ensures.answer
     (rw c.as_slice.ensures at c.in_err-tree.ensures.refused) (rw c.as_slice.ensures at c.in_err-tree.ensures.place))
 
-pub returns-in_err-check-clause-refused : goal.returns-in_err-check-clause-refused
-returns-in_err-check-clause-refused c =
+pub returns-in_err-checked-clause-refused : goal.returns-in_err-checked-clause-refused
+returns-in_err-checked-clause-refused c =
     let reads : Reads false c.in_ok-tokens.tokens c.in_ok-tree.tree = rw c.as_slice.ensures at c.in_ok-tree.ensures.ok in
-    handed_on c.args.text.now (of_check c.in_err-check.field-0.0) c.from_residual-in_err-check.result c.from_residual-in_err-check.ensures
-    (check_refuses c.args.text.now c.in_ok-tokens.tokens c.in_ok-tree.tree c.in_err-check.field-0.0 c.in_ok-tokens.ensures.answer reads
-    c.in_err-check.ensures.refused c.in_err-check.ensures.not_built.0)
+    handed_on c.args.text.now (of_check c.in_err-checked.field-0.0) c.from_residual-in_err-checked.result c.from_residual-in_err-checked.ensures
+    (check_refuses c.args.text.now c.in_ok-tokens.tokens c.in_ok-tree.tree c.in_err-checked.field-0.0 c.in_ok-tokens.ensures.answer reads
+    c.in_err-checked.ensures.refused c.in_err-checked.ensures.not_built.0)
 
 pub returns-clause-meaning : goal.returns-clause-meaning
 returns-clause-meaning c =
     let reads : Reads false c.in_ok-tokens.tokens c.in_ok-tree.tree = rw c.as_slice.ensures at c.in_ok-tree.ensures.ok in
-    means c.in_ok-tree.tree c.in_ok-tokens.ensures.answer reads c.in_ok-check.ensures.meaning
+    means c.in_ok-tree.tree c.in_ok-tokens.ensures.answer reads c.in_ok-checked.ensures.meaning

@@ -1,5 +1,0 @@
-use Rattle.data_space_tests.proofs.Threes.{turn}
-use Rattle.data_space_tests.proofs.tests.Three.turned.Goals as goal
-
-pub invariant_of-result : goal.invariant_of-result
-invariant_of-result c = record { agree = turn _ _ _ _ c.args.self.agree }
