@@ -7,7 +7,7 @@ set -euo pipefail
 top="$(cd "$(dirname "${BASH_SOURCE[0]}")/.." && pwd)"
 work="$(mktemp -d)"
 trap 'rm -rf "$work"' EXIT
-crates="containers eu_base page_pool page_table data_space cell_layout text_heap"
+crates="containers eu_base page_pool page_table data_space cell_layout text_blocks text_heap"
 
 mkdir -p "$work/crates/texts/src" "$work/crates/texts/proofs/run"
 for crate in $crates; do
@@ -21,7 +21,7 @@ cat >"$work/crates/texts/proofs/Lib.antt" <<'END'
 mod Spaces
 END
 
-cp "$top/crates/text_heap_tests/proofs/Spaces.antt" "$work/crates/texts/proofs/"
+cp "$top/crates/memory_tests/proofs/Spaces.antt" "$work/crates/texts/proofs/"
 
 cat >"$work/crates/texts/proofs/run/Answers.antt" <<'END'
 use Rattle.texts.proofs.Spaces.{nil_stands}
