@@ -6,7 +6,7 @@ use elan_check::check;
 use elan_lexer::tokens;
 use elan_parser::parse;
 use elan_tree::{Token, Tree};
-use elan_types::{Core, Env};
+use elan_types::Env;
 use eu_base::Bytes;
 use std::alloc::{AllocError, Global};
 
@@ -32,31 +32,19 @@ fn write_row(text: &mut String, row: &str) -> Result<(), AllocError> {
     add(text, parts.next().unwrap_or(""), times)
 }
 
-fn of_core(alloc: Global, core: &Core) -> Option<Bytes> {
-    match generate(alloc, core) {
-        Ok(code) => listing(alloc, &code).ok(),
-        Err(_) => None,
-    }
-}
-
 fn of_tree(alloc: Global, tree: &Tree) -> Option<Bytes> {
     match check(alloc, tree, &Env) {
-        Ok(core) => {
-            let listed = of_core(alloc, &core);
-            core.let_go();
-            listed
-        }
+        Ok(core) => match generate(alloc, &core) {
+            Ok(code) => listing(alloc, &code).ok(),
+            Err(_) => None,
+        },
         Err(_) => None,
     }
 }
 
 fn of_tokens(alloc: Global, tokens: &[Token]) -> Option<Bytes> {
     match parse(alloc, tokens, false) {
-        Ok(tree) => {
-            let listed = of_tree(alloc, &tree);
-            tree.let_go();
-            listed
-        }
+        Ok(tree) => of_tree(alloc, &tree),
         Err(_) => None,
     }
 }
@@ -67,11 +55,7 @@ pub fn listing_of(alloc: Global, text: &str) -> Option<Bytes> {
         return None;
     }
     match tokens(alloc, text.as_bytes()) {
-        Ok(found) => {
-            let listed = of_tokens(alloc, found.as_slice());
-            Token::all_let_go(found);
-            listed
-        }
+        Ok(found) => of_tokens(alloc, found.as_slice()),
         Err(_) => None,
     }
 }
