@@ -9,6 +9,12 @@ abbrev pub Passes : {A : Type 0} → Rule A → Tokens → Bool → Tokens → T
 Passes {A} rule old true new = (rule.starts old ≡ true) × (a : A) × (rule.run old ≡ Ok (a, new))
 Passes rule old false new = (rule.starts old ≡ false) × (new ≡ old)
 
+-- what was read, where what stands behind it was read too
+abbrev pub first_of : {A B : Type 0} → Result A ParseError → Result B ParseError → Result A ParseError
+first_of (Ok x) (Ok y) = Ok x
+first_of (Ok x) (Err e) = Err e
+first_of (Err d) _ = Err d
+
 -- What was read stays, where something more is read behind it.
 abbrev pub StandsBefore : {A B : Type 0} → Outcome B → Result A ParseError → Result A ParseError → Tokens → Type 0
 StandsBefore {A} {B} behind (Ok x) (Ok y) new = (y ≡ x) × (b : B) × (behind ≡ Ok (b, new))

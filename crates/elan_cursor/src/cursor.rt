@@ -114,20 +114,6 @@ impl<'a> Cursor<'a> {
         sees!(self, Word::Bold(_))
     }
 
-    /// Whether this identifier stands next.
-    pub fn sees_same(&self, name: &Name) -> bool
-        ensures { result ≡ (spec.word (spec.same_of name.now)).starts self.now.rest.now }
-    {
-        sees!(self, Word::Ident(text) if text.as_slice() == name.text.as_slice())
-    }
-
-    /// Whether this name of an operator stands next.
-    pub fn sees_same_operator(&self, name: &OperatorName) -> bool
-        ensures { result ≡ (spec.word (spec.same_operator_of name.now)).starts self.now.rest.now }
-    {
-        sees!(self, word if is_operator_name(&name.operator, word))
-    }
-
     /// Whether a number, a text, TRUE or FALSE stands next.
     pub fn sees_literal(&self) -> bool
         ensures { result ≡ (spec.word spec.literal_of).starts self.now.rest.now }
@@ -243,13 +229,6 @@ impl<'a> Cursor<'a> {
         ensures { Gives ((spec.word spec.leaving_of).run self.old.rest.now) result self.new.rest.now }
     {
         take!(self, first, Word::Ident(text) | Word::Bold(text) => named(alloc, first.at, text)?)
-    }
-
-    /// The identifier that has this name.
-    pub fn same(&mut self, name: &Name) -> Result<(), ParseError>
-        ensures { Gives ((spec.word (spec.same_of name.now)).run self.old.rest.now) result self.new.rest.now }
-    {
-        take!(self, first, Word::Ident(text) if text.as_slice() == name.text.as_slice() => ())
     }
 
     /// Takes INT, BOOL, TEXT, TASK or DATASPACE.
@@ -370,13 +349,6 @@ impl<'a> Cursor<'a> {
         )
     }
 
-    /// The name of an operator that is this one.
-    pub fn same_operator(&mut self, name: &OperatorName) -> Result<(), ParseError>
-        ensures { Gives ((spec.word (spec.same_operator_of name.now)).run self.old.rest.now) result self.new.rest.now }
-    {
-        take!(self, first, word if is_operator_name(&name.operator, word) => ())
-    }
-
     /// Takes a name that a packet offers.
     pub fn export(&mut self, alloc: Global) -> Result<Export, ParseError>
         ensures { Gives ((spec.word spec.export_of).run self.old.rest.now) result self.new.rest.now }
@@ -389,7 +361,8 @@ impl<'a> Cursor<'a> {
     }
 }
 
-fn is_operator_name(operator: &Operator, word: &Word) -> bool
+/// Whether a word is the name of this operator.
+pub fn is_operator_name(operator: &Operator, word: &Word) -> bool
     ensures { result ≡ spec.same_operator operator.now word.now }
 {
     match (operator, word) {

@@ -2,6 +2,7 @@
 #![tactic(auto)]
 
 mod cursor;
+pub mod made;
 pub mod passing;
 
 pub use cursor::Cursor;

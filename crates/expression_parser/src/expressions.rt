@@ -12,6 +12,7 @@ ghost use Rattle.elan_grammar.specs.Depth.{expr_depth, expr_place};
 use containers::{Boxed, List};
 use elan_cursor::Cursor;
 use elan_cursor::kind::{OPERAND_LEVEL, WORD_LEVEL};
+use elan_cursor::made::boxed_and;
 use elan_grammar::tall::{Tall, and, boxed};
 use elan_grammar::{Joint, ParseError, Right};
 use elan_tree::{Expr, Unit};
@@ -145,14 +146,15 @@ impl<
     {
         cursor.below(height, self.depth)?;
         let joint = cursor.joint(self.alloc, level + 1)?;
-        let right = self.inner(cursor, level)?;
+        let operand = boxed(self.alloc, self.inner(cursor, level));
+        let (joint, operand) = and(joint, operand)?;
         let tree = Right {
             joint,
-            operand: Boxed::new(self.alloc, right.tree)?,
+            operand: operand.tree,
         };
         Ok(Tall {
             tree,
-            height: right.height,
+            height: operand.height,
         })
     }
 
@@ -171,8 +173,8 @@ impl<
     {
         let at = expr_place(&left.tree);
         let height = left.height;
-        let left = boxed(self.alloc, Ok(left))?;
-        let (left, right) = and(left, self.right_part(cursor, level, height))?;
+        let right = self.right_part(cursor, level, height);
+        let (left, right) = boxed_and(self.alloc, left, right)?;
         let height = height.max(right.height) + 1;
         let Right { joint, operand } = right.tree;
         Ok(Tall {

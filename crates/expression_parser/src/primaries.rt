@@ -11,11 +11,26 @@ use crate::expressions::{Grammar, expr_place};
 use containers::List;
 use elan_cursor::Cursor;
 use elan_cursor::kind::{WORD_LEVEL, selects};
+use elan_cursor::made::{boxed_and, tall};
 use elan_cursor::passing::before_sign;
 use elan_grammar::ParseError;
 use elan_grammar::tall::{Tall, and, boxed, single, with_next};
 use elan_tree::{Expr, Key, Name, Sign, Unit};
 use std::alloc::Global;
+
+#[tactic(auto, unfolding(elan_grammar::specs::Expressions::field_part))]
+fn field_part(
+    alloc: Global,
+    cursor: &mut Cursor<'_>,
+    height: u32,
+    depth: u16,
+) -> Result<Name, ParseError>
+    ensures parses { Gives ((spec.field_part (units.phrases depth) depth height).run cursor.old.rest.now) result cursor.new.rest.now }
+    ensures below { IfOk result (λ _. height < depth) }
+{
+    cursor.opening_sign(Sign::Point, height, depth)?;
+    cursor.ident(alloc)
+}
 
 impl<
     E: Fn(Global, &mut Cursor<'_>, u16, u8) -> Result<Tall<Expr>, ParseError> + Copy,
@@ -27,7 +42,7 @@ impl<
         ensures { Parses (spec.bracket (units.phrases self.now.depth) self.now.depth) expr_depth (AtMost self.now.depth)
             cursor.old.rest.now result cursor.new.rest.now }
     {
-        let at = cursor.opening_sign(Sign::LeftRound, self.depth)?;
+        let at = cursor.opening_sign(Sign::LeftRound, 0, self.depth)?;
         let inner = boxed(self.alloc, self.inner(cursor, WORD_LEVEL));
         let inner = before_sign(inner, cursor, Sign::RightRound)?;
         Ok(Tall {
@@ -69,8 +84,7 @@ impl<
             cursor.old.rest.now result cursor.new.rest.now }
     {
         if cursor.sees_key(Key::Proc) {
-            let tree = self.procedure(cursor)?;
-            return Ok(Tall { tree, height: 0 });
+            return tall(self.procedure(cursor), 0);
         }
         self.inner(cursor, WORD_LEVEL)
     }
@@ -98,7 +112,7 @@ impl<
         ensures { Parses (spec.call (units.phrases self.now.depth) self.now.depth name) expr_depth (AtMost self.now.depth)
             cursor.old.rest.now result cursor.new.rest.now }
     {
-        let opening = cursor.opening_sign(Sign::LeftRound, self.depth);
+        let opening = cursor.opening_sign(Sign::LeftRound, 0, self.depth);
         let (name, _) = and(name, opening)?;
         let row = before_sign(self.actuals(cursor), cursor, Sign::RightRound);
         let (name, row) = and(name, row)?;
@@ -132,8 +146,7 @@ impl<
             cursor.old.rest.now result cursor.new.rest.now }
     {
         if cursor.sees_literal() {
-            let tree = cursor.literal(self.alloc)?;
-            Ok(Tall { tree, height: 0 })
+            tall(cursor.literal(self.alloc), 0)
         } else if cursor.sees_sign(Sign::LeftRound) {
             self.bracket(cursor)
         } else if cursor.sees_key(Key::Concr) {
@@ -154,8 +167,7 @@ impl<
             cursor.old.rest.now result cursor.new.rest.now }
         ensures below { IfOk result (λ _. height < self.now.depth) }
     {
-        cursor.below(height, self.depth)?;
-        cursor.mark(Sign::LeftSquare)?;
+        cursor.opening_sign(Sign::LeftSquare, height, self.depth)?;
         let index = self.inner(cursor, WORD_LEVEL);
         before_sign(index, cursor, Sign::RightSquare)
     }
@@ -169,9 +181,8 @@ impl<
     {
         let at = expr_place(&of.tree);
         let height = of.height;
-        let of = boxed(self.alloc, Ok(of))?;
         let index = boxed(self.alloc, self.index_part(cursor, height));
-        let (of, index) = and(of, index)?;
+        let (of, index) = boxed_and(self.alloc, of, index)?;
         let height = height.max(index.height) + 1;
         let tree = Expr::Index {
             at,
@@ -179,16 +190,6 @@ impl<
             index: index.tree,
         };
         Ok(Tall { tree, height })
-    }
-
-    #[tactic(auto, unfolding(elan_grammar::specs::Expressions::field_part))]
-    fn field_part(&self, cursor: &mut Cursor<'_>, height: u32) -> Result<Name, ParseError>
-        ensures parses { Gives ((spec.field_part (units.phrases self.now.depth) self.now.depth height).run cursor.old.rest.now) result cursor.new.rest.now }
-        ensures below { IfOk result (λ _. height < self.now.depth) }
-    {
-        cursor.below(height, self.depth)?;
-        cursor.mark(Sign::Point)?;
-        cursor.ident(self.alloc)
     }
 
     #[tactic(auto, unfolding(elan_grammar::specs::Expressions::field_of))]
@@ -200,8 +201,8 @@ impl<
     {
         let height = of.height;
         let at = expr_place(&of.tree);
-        let of = boxed(self.alloc, Ok(of))?;
-        let (of, field) = and(of, self.field_part(cursor, height))?;
+        let field = field_part(self.alloc, cursor, height, self.depth);
+        let (of, field) = boxed_and(self.alloc, of, field)?;
         let tree = Expr::Field {
             at,
             of: of.tree,

@@ -12,11 +12,23 @@ use crate::labels::labels;
 use containers::List;
 use elan_cursor::Cursor;
 use elan_cursor::kind::WORD_LEVEL;
+use elan_cursor::made::{before, some};
 use elan_cursor::passing::{before_end, before_key, before_sign};
 use elan_grammar::tall::{Tall, and, boxed, single, with_next};
 use elan_grammar::{ParseError, SelectParts};
 use elan_tree::{Branch, Case, Expr, Key, Sign, Unit};
 use std::alloc::Global;
+
+#[tactic(auto, unfolding(elan_grammar::specs::Expressions::choice_end), using(elan_grammar::proofs::Starts::of_expressions))]
+fn choice_end(cursor: &mut Cursor<'_>) -> Result<u32, ParseError>
+    ensures { Gives ((spec.choice_end).run cursor.old.rest.now) result cursor.new.rest.now }
+{
+    if cursor.sees_key(Key::End) {
+        cursor.end_of(Key::If)
+    } else {
+        cursor.keyword(Key::Fi)
+    }
+}
 
 impl<
     E: Fn(Global, &mut Cursor<'_>, u16, u8) -> Result<Tall<Expr>, ParseError>,
@@ -68,22 +80,7 @@ impl<
                 height: 0,
             });
         }
-        let units = self.units(cursor)?;
-        Ok(Tall {
-            tree: Some(units.tree),
-            height: units.height,
-        })
-    }
-
-    #[tactic(auto, unfolding(elan_grammar::specs::Expressions::choice_end), using(elan_grammar::proofs::Starts::of_expressions))]
-    fn choice_end(&self, cursor: &mut Cursor<'_>) -> Result<u32, ParseError>
-        ensures { Gives ((spec.choice_end).run cursor.old.rest.now) result cursor.new.rest.now }
-    {
-        if cursor.sees_key(Key::End) {
-            cursor.end_of(Key::If)
-        } else {
-            cursor.keyword(Key::Fi)
-        }
+        some(self.units(cursor))
     }
 
     /// IF with its branches.
@@ -95,8 +92,8 @@ impl<
     {
         let at = cursor.opening(Key::If, self.depth)?;
         let branches = self.branches(cursor)?;
-        let (branches, otherwise) = and(branches, self.else_part(cursor))?;
-        let ((branches, otherwise), _) = and((branches, otherwise), self.choice_end(cursor))?;
+        let otherwise = before(self.else_part(cursor), choice_end(cursor));
+        let (branches, otherwise) = and(branches, otherwise)?;
         let height = branches.height.max(otherwise.height);
         let tree = Expr::If {
             at,
@@ -161,11 +158,7 @@ impl<
             });
         }
         let _colon = cursor.passes_sign(Sign::Colon);
-        let units = self.units(cursor)?;
-        Ok(Tall {
-            tree: Some(units.tree),
-            height: units.height,
-        })
+        some(self.units(cursor))
     }
 
     #[tactic(auto, unfolding(elan_grammar::specs::Expressions::select_parts))]

@@ -10,10 +10,22 @@ use crate::inner::Inner;
 use containers::{Boxed, List};
 use elan_cursor::Cursor;
 use elan_cursor::kind::WORD_LEVEL;
+use elan_cursor::made::{before, some};
 use elan_grammar::tall::{Tall, and, boxed};
 use elan_grammar::{LoopParts, ParseError};
 use elan_tree::{Counter, Expr, Key, Limit, Unit};
 use std::alloc::Global;
+
+#[tactic(auto, unfolding(elan_grammar::specs::Units::loop_end))]
+fn loop_end(cursor: &mut Cursor<'_>) -> Result<u32, ParseError>
+    ensures { Gives ((units.loop_end).run cursor.old.rest.now) result cursor.new.rest.now }
+{
+    if cursor.passes_key(Key::End) {
+        cursor.rep()
+    } else {
+        cursor.keyword(Key::Per)
+    }
+}
 
 impl<
     E: Fn(Global, &mut Cursor<'_>, u16, u8) -> Result<Tall<Expr>, ParseError>,
@@ -64,11 +76,7 @@ impl<
                 height: 0,
             });
         }
-        let a = self.expression(cursor, WORD_LEVEL)?;
-        Ok(Tall {
-            tree: Some(a.tree),
-            height: a.height,
-        })
+        some(self.expression(cursor, WORD_LEVEL))
     }
 
     #[tactic(auto, unfolding(elan_grammar::specs::Units::counter))]
@@ -87,28 +95,11 @@ impl<
             from: from.tree,
             limit: limit.tree,
         };
-        let counter = boxed(
-            self.alloc,
-            Ok(Tall {
-                tree: counter,
-                height,
-            }),
-        )?;
-        Ok(Tall {
-            tree: Some(counter.tree),
+        let counter = Tall {
+            tree: counter,
             height,
-        })
-    }
-
-    #[tactic(auto, unfolding(elan_grammar::specs::Units::loop_end))]
-    fn loop_end(&self, cursor: &mut Cursor<'_>) -> Result<u32, ParseError>
-        ensures { Gives ((units.loop_end).run cursor.old.rest.now) result cursor.new.rest.now }
-    {
-        if cursor.passes_key(Key::End) {
-            cursor.rep()
-        } else {
-            cursor.keyword(Key::Per)
-        }
+        };
+        some(boxed(self.alloc, Ok(counter)))
     }
 
     #[tactic(auto, unfolding(elan_grammar::specs::Units::turn_parts))]
@@ -120,8 +111,8 @@ impl<
     {
         let start = cursor.rep()?;
         let units = self.units(cursor)?;
-        let (units, until) = and(units, self.key_part(cursor, Key::Until))?;
-        let ((units, until), _) = and((units, until), self.loop_end(cursor))?;
+        let until = before(self.key_part(cursor, Key::Until), loop_end(cursor));
+        let (units, until) = and(units, until)?;
         let height = units.height.max(until.height);
         let tree = LoopParts {
             start,

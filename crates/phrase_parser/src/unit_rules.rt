@@ -3,17 +3,19 @@
 ghost use Rattle.std.specs.Prelude.{◌≡◌};
 ghost use Rattle.elan_grammar.specs.Rule.{Parses, AtMost, IsTall};
 ghost use Rattle.elan_grammar.specs.Units as units;
+ghost use Rattle.phrase_parser.specs.VarOrConst as either;
 ghost use Rattle.phrase_parser.specs.Nests.{Nests};
 ghost use Rattle.elan_grammar.specs.Depth.{type_depth, expr_depth, item_depth, unit_depth, type_place, expr_place, deepest_of};
 
+use crate::access::{declaration_of, declaring, is_bare};
 use crate::phrases::Phrases;
 use containers::List;
 use elan_cursor::Cursor;
 use elan_cursor::kind::{WORD_LEVEL, begins_typed};
-use elan_cursor::passing::{before_key, before_sign};
+use elan_cursor::passing::before_key;
 use elan_grammar::ParseError;
 use elan_grammar::tall::{Tall, and, single, with_next};
-use elan_tree::{Expr, Item, Key, Sign, TypePhrase, Unit};
+use elan_tree::{Access, Expr, Item, Key, Sign, TypePhrase, Unit};
 use expression_parser::expr_place;
 use std::alloc::Global;
 use type_parser::{let_items, type_place, types};
@@ -45,14 +47,14 @@ impl<
         self.expressions().level(cursor, WORD_LEVEL)
     }
 
-    #[tactic(auto, unfolding(elan_grammar::specs::Units::item, elan_grammar::specs::Units::init))]
-    fn item(&self, cursor: &mut Cursor<'_>) -> Result<Tall<Item>, ParseError>
+    #[tactic(auto, using(crate::proofs::VarOrConst::of_items))]
+    fn item(&self, cursor: &mut Cursor<'_>, access: Access) -> Result<Tall<Item>, ParseError>
         requires { Nests E.Fn U.Fn self.now }
-        ensures { Parses (units.item (units.phrases self.now.depth) self.now.depth) item_depth (AtMost self.now.depth)
+        ensures { Parses (either.item access (units.phrases self.now.depth) self.now.depth) item_depth (AtMost self.now.depth)
             cursor.old.rest.now result cursor.new.rest.now }
     {
         let name = cursor.ident(self.alloc)?;
-        if !cursor.sees_init() {
+        if is_bare(access, cursor) {
             return Ok(Tall {
                 tree: Item { name, init: None },
                 height: 0,
@@ -69,100 +71,24 @@ impl<
         })
     }
 
-    #[tactic(auto, unfolding(elan_grammar::specs::Units::items), using(elan_grammar::proofs::Turns::turns, elan_grammar::proofs::Deepest::deepens))]
-    fn items(&self, cursor: &mut Cursor<'_>) -> Result<Tall<List<Item>>, ParseError>
+    #[tactic(auto, using(elan_grammar::proofs::Turns::turns, elan_grammar::proofs::Deepest::deepens))]
+    fn items(&self, cursor: &mut Cursor<'_>, access: Access) -> Result<Tall<List<Item>>, ParseError>
         requires { Nests E.Fn U.Fn self.now }
-        ensures { Parses (units.items (units.phrases self.now.depth) self.now.depth) (deepest_of item_depth) (AtMost self.now.depth)
+        ensures { Parses (either.items access (units.phrases self.now.depth) self.now.depth) (deepest_of item_depth) (AtMost self.now.depth)
             cursor.old.rest.now result cursor.new.rest.now }
     {
-        let mut row = single(self.alloc, self.item(cursor))?;
+        let mut row = single(self.alloc, self.item(cursor, access))?;
         for _turn in 0..cursor.rest.len() {
             if !cursor.passes_sign(Sign::Comma) {
                 return Ok(row);
             }
-            row = with_next(row, self.item(cursor))?;
+            row = with_next(row, self.item(cursor, access))?;
         }
         Ok(row)
-    }
-
-    #[tactic(auto, unfolding(elan_grammar::specs::Units::constant_item))]
-    fn constant_item(&self, cursor: &mut Cursor<'_>) -> Result<Tall<Item>, ParseError>
-        requires { Nests E.Fn U.Fn self.now }
-        ensures { Parses (units.constant_item (units.phrases self.now.depth) self.now.depth) item_depth (AtMost self.now.depth)
-            cursor.old.rest.now result cursor.new.rest.now }
-    {
-        let name = cursor.ident(self.alloc)?;
-        let (name, init) = and(name, self.init(cursor))?;
-        let tree = Item {
-            name,
-            init: Some(init.tree),
-        };
-        Ok(Tall {
-            tree,
-            height: init.height,
-        })
-    }
-
-    #[tactic(auto, unfolding(elan_grammar::specs::Units::constant_items), using(elan_grammar::proofs::Turns::turns, elan_grammar::proofs::Deepest::deepens))]
-    fn constant_items(&self, cursor: &mut Cursor<'_>) -> Result<Tall<List<Item>>, ParseError>
-        requires { Nests E.Fn U.Fn self.now }
-        ensures { Parses (units.constant_items (units.phrases self.now.depth) self.now.depth) (deepest_of item_depth) (AtMost self.now.depth)
-            cursor.old.rest.now result cursor.new.rest.now }
-    {
-        let mut row = single(self.alloc, self.constant_item(cursor))?;
-        for _turn in 0..cursor.rest.len() {
-            if !cursor.passes_sign(Sign::Comma) {
-                return Ok(row);
-            }
-            row = with_next(row, self.constant_item(cursor))?;
-        }
-        Ok(row)
-    }
-
-    #[tactic(auto, unfolding(elan_grammar::specs::Units::variables))]
-    fn variables(
-        &self,
-        cursor: &mut Cursor<'_>,
-        of: Tall<TypePhrase>,
-    ) -> Result<Tall<Unit>, ParseError>
-        requires nests { Nests E.Fn U.Fn self.now }
-        requires tall { IsTall type_depth (AtMost self.now.depth) of }
-        ensures { Parses (units.variables (units.phrases self.now.depth) self.now.depth of.tree) unit_depth (AtMost self.now.depth)
-            cursor.old.rest.now result cursor.new.rest.now }
-    {
-        let at = type_place(&of.tree);
-        let of = before_key(Ok(of), cursor, Key::Var)?;
-        let (of, row) = and(of, self.items(cursor))?;
-        let height = of.height.max(row.height);
-        Ok(Tall {
-            tree: Unit::Variables(at, of.tree, row.tree),
-            height,
-        })
-    }
-
-    #[tactic(auto, unfolding(elan_grammar::specs::Units::constants))]
-    fn constants(
-        &self,
-        cursor: &mut Cursor<'_>,
-        of: Tall<TypePhrase>,
-    ) -> Result<Tall<Unit>, ParseError>
-        requires nests { Nests E.Fn U.Fn self.now }
-        requires tall { IsTall type_depth (AtMost self.now.depth) of }
-        ensures { Parses (units.constants (units.phrases self.now.depth) self.now.depth of.tree) unit_depth (AtMost self.now.depth)
-            cursor.old.rest.now result cursor.new.rest.now }
-    {
-        let at = type_place(&of.tree);
-        let of = before_key(Ok(of), cursor, Key::Const)?;
-        let (of, row) = and(of, self.constant_items(cursor))?;
-        let height = of.height.max(row.height);
-        Ok(Tall {
-            tree: Unit::Constants(at, of.tree, row.tree),
-            height,
-        })
     }
 
     /// A declaration behind its type.
-    #[tactic(auto, unfolding(elan_grammar::specs::Units::declared), using(elan_grammar::proofs::Starts::of_units))]
+    #[tactic(auto, using(crate::proofs::VarOrConst::of_declarations))]
     pub fn declared(
         &self,
         cursor: &mut Cursor<'_>,
@@ -173,11 +99,14 @@ impl<
         ensures { Parses (units.declared (units.phrases self.now.depth) self.now.depth of.tree) unit_depth (AtMost self.now.depth)
             cursor.old.rest.now result cursor.new.rest.now }
     {
-        if cursor.sees_key(Key::Var) {
-            self.variables(cursor, of)
-        } else {
-            self.constants(cursor, of)
-        }
+        let at = type_place(&of.tree);
+        let (of, access) = and(of, declaring(cursor))?;
+        let (of, row) = and(of, self.items(cursor, access))?;
+        let height = of.height.max(row.height);
+        Ok(Tall {
+            tree: declaration_of(access, at, of.tree, row.tree),
+            height,
+        })
     }
 
     #[tactic(auto, unfolding(elan_grammar::specs::Units::declaration))]
@@ -190,7 +119,7 @@ impl<
         self.declared(cursor, of)
     }
 
-    #[tactic(auto, unfolding(elan_grammar::specs::Units::bound))]
+    #[tactic(auto, unfolding(elan_grammar::specs::Units::bound, elan_grammar::specs::Units::items))]
     fn bound(&self, cursor: &mut Cursor<'_>) -> Result<Tall<Unit>, ParseError>
         requires { Nests E.Fn U.Fn self.now }
         ensures { Parses (units.bound (units.phrases self.now.depth) self.now.depth) unit_depth (AtMost self.now.depth)
@@ -199,7 +128,7 @@ impl<
         let at = cursor.opening(Key::Bound, self.depth)?;
         let of = types(self.alloc, cursor, self.depth);
         let of = before_key(of, cursor, Key::Var)?;
-        let (of, row) = and(of, self.items(cursor))?;
+        let (of, row) = and(of, self.items(cursor, Access::Var))?;
         let height = of.height.max(row.height);
         Ok(Tall {
             tree: Unit::Bound(at, of.tree, row.tree),
@@ -214,9 +143,8 @@ impl<
         ensures { Parses (units.assigned (units.phrases self.now.depth) self.now.depth left.tree) unit_depth (AtMost self.now.depth)
             cursor.old.rest.now result cursor.new.rest.now }
     {
-        let height = left.height;
-        let (left, _) = and(left, cursor.below(height, self.depth))?;
-        let left = before_sign(Ok(left), cursor, Sign::Becomes)?;
+        let sign = cursor.opening_sign(Sign::Becomes, left.height, self.depth);
+        let (left, _) = and(left, sign)?;
         let (left, right) = and(left, self.forms().expression(cursor, WORD_LEVEL))?;
         let height = left.height.max(right.height);
         let tree = Unit::Becomes {

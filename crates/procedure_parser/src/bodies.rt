@@ -1,13 +1,14 @@
 //! Bodies with their refinements.
 
 ghost use Rattle.std.specs.Prelude.{◌≡◌, ◌+◌, max, IfOk};
-ghost use Rattle.elan_grammar.specs.Rule.{Gives, Parses, AtMost};
+ghost use Rattle.elan_grammar.specs.Rule.{Parses, AtMost};
 ghost use Rattle.elan_grammar.specs.Grammar as spec;
 ghost use Rattle.elan_grammar.specs.Depth.{refinement_depth, body_depth, deepest_of};
 
 use containers::List;
 use elan_cursor::Cursor;
 use elan_cursor::kind::leads;
+use elan_cursor::passing::before_sign;
 use elan_grammar::ParseError;
 use elan_grammar::tall::{Tall, and, single, with_next};
 use elan_tree::{Body, Refinement, Sign};
@@ -28,8 +29,7 @@ fn refinement(
 ) -> Result<Tall<Refinement>, ParseError>
     ensures { Parses (spec.refinement depth) refinement_depth (AtMost depth) cursor.old.rest.now result cursor.new.rest.now }
 {
-    let name = cursor.ident(alloc)?;
-    let (name, _) = and(name, cursor.mark(Sign::Colon))?;
+    let name = before_sign(cursor.ident(alloc), cursor, Sign::Colon)?;
     let (name, units) = and(name, units(alloc, cursor, depth))?;
     let tree = Refinement {
         name,
@@ -39,17 +39,6 @@ fn refinement(
         tree,
         height: units.height + 1,
     })
-}
-
-/// A point at the end, where one stands.
-#[tactic(auto, unfolding(elan_grammar::specs::Grammar::last_point))]
-pub fn last_point(cursor: &mut Cursor<'_>) -> Result<Option<u32>, ParseError>
-    ensures { Gives ((spec.last_point).run cursor.old.rest.now) result cursor.new.rest.now }
-{
-    if !cursor.sees_sign(Sign::Point) {
-        return Ok(None);
-    }
-    Ok(Some(cursor.mark(Sign::Point)?))
 }
 
 #[tactic(auto, unfolding(elan_grammar::specs::Grammar::refinement_list), using(elan_grammar::proofs::Turns::turns, elan_grammar::proofs::Deepest::deepens))]
@@ -71,7 +60,7 @@ fn refinement_list(
     Ok(row)
 }
 
-#[tactic(auto, unfolding(elan_grammar::specs::Grammar::refinements))]
+#[tactic(auto, unfolding(elan_grammar::specs::Grammar::refinements, elan_grammar::specs::Grammar::last_point))]
 fn refinements(
     alloc: Global,
     cursor: &mut Cursor<'_>,
@@ -80,30 +69,12 @@ fn refinements(
     ensures { Parses (spec.refinements depth) (deepest_of refinement_depth) (AtMost depth) cursor.old.rest.now result cursor.new.rest.now }
 {
     let row = refinement_list(alloc, cursor, depth)?;
-    let (row, _) = and(row, last_point(cursor))?;
+    let _point = cursor.passes_sign(Sign::Point);
     Ok(row)
 }
 
-#[tactic(auto, unfolding(elan_grammar::specs::Grammar::point_tail), using(elan_grammar::proofs::Starts::of_texts))]
-fn point_tail(
-    alloc: Global,
-    cursor: &mut Cursor<'_>,
-    depth: u16,
-) -> Result<Tall<List<Refinement>>, ParseError>
-    ensures { Parses (spec.point_tail depth) (deepest_of refinement_depth) (AtMost depth) cursor.old.rest.now result cursor.new.rest.now }
-{
-    cursor.mark(Sign::Point)?;
-    if cursor.sees_ident() {
-        return refinements(alloc, cursor, depth);
-    }
-    Ok(Tall {
-        tree: List::new(alloc),
-        height: 0,
-    })
-}
-
 /// What may end a list of units: its refinements.
-#[tactic(auto, unfolding(elan_grammar::specs::Grammar::tail), using(elan_grammar::proofs::Starts::of_texts))]
+#[tactic(auto, unfolding(elan_grammar::specs::Grammar::tail, elan_grammar::specs::Grammar::point_tail), using(elan_grammar::proofs::Starts::of_texts))]
 pub fn tail(
     alloc: Global,
     cursor: &mut Cursor<'_>,
@@ -111,8 +82,8 @@ pub fn tail(
 ) -> Result<Tall<List<Refinement>>, ParseError>
     ensures { Parses (spec.tail depth) (deepest_of refinement_depth) (AtMost depth) cursor.old.rest.now result cursor.new.rest.now }
 {
-    if cursor.sees_sign(Sign::Point) {
-        return point_tail(alloc, cursor, depth);
+    if cursor.passes_sign(Sign::Point) && cursor.sees_ident() {
+        return refinements(alloc, cursor, depth);
     }
     Ok(Tall {
         tree: List::new(alloc),

@@ -5,6 +5,6 @@ mod bodies;
 mod operators;
 mod procs;
 
-pub use bodies::{MOST, last_point, tail};
+pub use bodies::{MOST, tail};
 pub use operators::operator;
-pub use procs::{end_name, proc};
+pub use procs::proc;

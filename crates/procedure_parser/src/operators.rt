@@ -1,7 +1,7 @@
 //! OP.
 
 ghost use Rattle.std.specs.Prelude.{◌≡◌, ◌+◌, max, IfOk};
-ghost use Rattle.elan_grammar.specs.Rule.{Gives, Parses, AtMost, IsTall};
+ghost use Rattle.elan_grammar.specs.Rule.{Parses, AtMost, IsTall};
 ghost use Rattle.elan_grammar.specs.Grammar as spec;
 ghost use Rattle.elan_grammar.specs.Depth.{formal_depth, body_depth, level_unit_depth, type_depth, deepest_of, if_any};
 
@@ -10,22 +10,12 @@ use crate::procs::start;
 use containers::{List, NoMemory};
 use elan_cursor::Cursor;
 use elan_cursor::kind::goes_on;
+use elan_cursor::passing::{before_end, before_sign};
 use elan_grammar::tall::{Tall, and, one_more, single, with_next};
 use elan_grammar::{OperatorParts, ParseError};
-use elan_tree::{Access, Formal, Key, LevelUnit, Name, Operator, OperatorName, Sign, TypePhrase};
+use elan_tree::{Access, Formal, Key, LevelUnit, Name, Operator, Sign, TypePhrase};
 use std::alloc::Global;
 use type_parser::types;
-
-#[tactic(auto, unfolding(elan_grammar::specs::Grammar::end_operator))]
-fn end_operator(cursor: &mut Cursor<'_>, name: &OperatorName) -> Result<Option<()>, ParseError>
-    ensures { Gives ((spec.end_operator name.now).run cursor.old.rest.now) result cursor.new.rest.now }
-{
-    if !cursor.sees_same_operator(name) {
-        return Ok(None);
-    }
-    cursor.same_operator(name)?;
-    Ok(Some(()))
-}
 
 /// Whether an operator may have one operand.
 fn takes_one(operator: &Operator) -> bool
@@ -124,23 +114,19 @@ fn operands(
     }
 }
 
-#[tactic(auto, unfolding(elan_grammar::specs::Grammar::operator_parts))]
+#[tactic(auto, unfolding(elan_grammar::specs::Grammar::operator_parts, elan_grammar::specs::Grammar::end_operator))]
 fn operator_parts(alloc: Global, cursor: &mut Cursor<'_>) -> Result<Tall<OperatorParts>, ParseError>
     ensures { Parses (spec.operator_parts 400 399) (λ t. max (deepest_of formal_depth t.formals) (body_depth t.body) + 1) (AtMost 400)
         cursor.old.rest.now result cursor.new.rest.now }
 {
     let at = cursor.keyword(Key::Op)?;
-    let name = cursor.operator(alloc)?;
-    let (name, _) = and(name, cursor.mark(Sign::LeftRound))?;
-    let operands = operands(alloc, cursor, &name.operator);
-    let (name, formals) = and(name, operands)?;
-    let (head, _) = and((name, formals), cursor.mark(Sign::RightRound))?;
-    let (head, _) = and(head, cursor.mark(Sign::Colon))?;
-    let (head, body) = and(head, body(alloc, cursor))?;
-    let (parts, _) = and((head, body), cursor.end_of(Key::Op))?;
-    let ((name, formals), body) = parts;
-    let end = end_operator(cursor, &name);
-    let ((name, formals, body), _) = and((name, formals, body), end)?;
+    let name = before_sign(cursor.operator(alloc), cursor, Sign::LeftRound)?;
+    let formals = operands(alloc, cursor, &name.operator);
+    let formals = before_sign(formals, cursor, Sign::RightRound);
+    let head = and(name, before_sign(formals, cursor, Sign::Colon))?;
+    let body = before_end(body(alloc, cursor), cursor, Key::Op);
+    let ((name, formals), body) = and(head, body)?;
+    let _name = cursor.passes_same_operator(&name);
     let height = formals.height.max(body.height) + 1;
     let tree = OperatorParts {
         at,

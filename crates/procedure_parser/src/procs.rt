@@ -1,55 +1,35 @@
 //! PROC, and what it shares with OP.
 
 ghost use Rattle.std.specs.Prelude.{◌≡◌, ◌+◌, max};
-ghost use Rattle.elan_grammar.specs.Rule.{Gives, Parses, AtMost, IsTall};
+ghost use Rattle.elan_grammar.specs.Rule.{Parses, AtMost, IsTall};
 ghost use Rattle.elan_grammar.specs.Grammar as spec;
 ghost use Rattle.elan_grammar.specs.Depth.{body_depth, level_unit_depth, type_depth, type_place, formal_depth, deepest_of, if_any};
 
 use crate::bodies::{MOST_IN_BODY, body};
 use containers::List;
 use elan_cursor::Cursor;
+use elan_cursor::passing::{before_end, before_sign};
 use elan_grammar::tall::{Tall, and};
 use elan_grammar::{ParseError, ProcParts};
-use elan_tree::{Formal, Key, LevelUnit, Name, Sign, TypePhrase};
+use elan_tree::{Formal, Key, LevelUnit, Sign, TypePhrase};
 use std::alloc::Global;
 use type_parser::{formals, type_place};
 
-/// The name of what ends, where it is written.
-#[tactic(auto, unfolding(elan_grammar::specs::Grammar::end_name))]
-pub fn end_name(cursor: &mut Cursor<'_>, name: &Name) -> Result<Option<()>, ParseError>
-    ensures { Gives ((spec.end_name name.now).run cursor.old.rest.now) result cursor.new.rest.now }
-{
-    if !cursor.sees_same(name) {
-        return Ok(None);
-    }
-    cursor.same(name)?;
-    Ok(Some(()))
-}
-
-#[tactic(auto, unfolding(elan_grammar::specs::Grammar::formal_list))]
-fn formal_list(alloc: Global, cursor: &mut Cursor<'_>) -> Result<Tall<List<Formal>>, ParseError>
-    ensures { Parses (spec.formal_list 400 399) (deepest_of formal_depth) (AtMost 399) cursor.old.rest.now result cursor.new.rest.now }
-{
-    cursor.mark(Sign::LeftRound)?;
-    let row = formals(alloc, cursor, MOST_IN_BODY)?;
-    let (row, _) = and(row, cursor.mark(Sign::RightRound))?;
-    Ok(row)
-}
-
-#[tactic(auto, unfolding(elan_grammar::specs::Grammar::optional_formals), using(elan_grammar::proofs::Starts::of_texts))]
+#[tactic(auto, unfolding(elan_grammar::specs::Grammar::optional_formals, elan_grammar::specs::Grammar::formal_list))]
 fn optional_formals(
     alloc: Global,
     cursor: &mut Cursor<'_>,
 ) -> Result<Tall<List<Formal>>, ParseError>
     ensures { Parses (spec.optional_formals 400 399) (deepest_of formal_depth) (AtMost 399) cursor.old.rest.now result cursor.new.rest.now }
 {
-    if cursor.sees_sign(Sign::LeftRound) {
-        return formal_list(alloc, cursor);
+    if !cursor.passes_sign(Sign::LeftRound) {
+        return Ok(Tall {
+            tree: List::new(alloc),
+            height: 0,
+        });
     }
-    Ok(Tall {
-        tree: List::new(alloc),
-        height: 0,
-    })
+    let row = formals(alloc, cursor, MOST_IN_BODY);
+    before_sign(row, cursor, Sign::RightRound)
 }
 
 /// Where a PROC or OP begins: at the type of its result, or at its keyword.
@@ -62,20 +42,18 @@ pub fn start(of: &Option<TypePhrase>, at: u32) -> u32
     }
 }
 
-#[tactic(auto, unfolding(elan_grammar::specs::Grammar::proc_parts))]
+#[tactic(auto, unfolding(elan_grammar::specs::Grammar::proc_parts, elan_grammar::specs::Grammar::end_name))]
 fn proc_parts(alloc: Global, cursor: &mut Cursor<'_>) -> Result<Tall<ProcParts>, ParseError>
     ensures { Parses (spec.proc_parts 400 399) (λ t. max (deepest_of formal_depth t.formals) (body_depth t.body) + 1) (AtMost 400)
         cursor.old.rest.now result cursor.new.rest.now }
 {
     let at = cursor.keyword(Key::Proc)?;
     let name = cursor.ident(alloc)?;
-    let (name, formals) = and(name, optional_formals(alloc, cursor))?;
-    let (head, _) = and((name, formals), cursor.mark(Sign::Colon))?;
-    let (head, body) = and(head, body(alloc, cursor))?;
-    let (parts, _) = and((head, body), cursor.end_of(Key::Proc))?;
-    let ((name, formals), body) = parts;
-    let end = end_name(cursor, &name);
-    let ((name, formals, body), _) = and((name, formals, body), end)?;
+    let formals = before_sign(optional_formals(alloc, cursor), cursor, Sign::Colon);
+    let head = and(name, formals)?;
+    let body = before_end(body(alloc, cursor), cursor, Key::Proc);
+    let ((name, formals), body) = and(head, body)?;
+    let _name = cursor.passes_same(&name);
     let height = formals.height.max(body.height) + 1;
     let tree = ProcParts {
         at,

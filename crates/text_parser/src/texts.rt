@@ -2,6 +2,7 @@
 
 ghost use Rattle.std.specs.Prelude.{◌≡◌, ℕ, Err, ◌≤◌, IfOk};
 ghost use Rattle.elan_grammar.specs.Rule.{Gives, Parses, AtMost, IsTall};
+ghost use Rattle.text_parser.specs.Skips.{Skips};
 ghost use Rattle.elan_grammar.specs.Grammar as spec;
 ghost use Rattle.elan_grammar.specs.Reads as whole;
 ghost use Rattle.elan_grammar.specs.Reads.{Reads};
@@ -11,11 +12,12 @@ ghost use Rattle.elan_grammar.specs.Depth.{type_depth, level_unit_depth, level_d
 use containers::{List, NoMemory};
 use elan_cursor::Cursor;
 use elan_cursor::kind::begins_typed;
+use elan_cursor::passing::{before_end, before_sign};
 use elan_grammar::ParseError;
 use elan_grammar::tall::{Tall, and, one, one_more, single, with_next};
-use elan_tree::{Export, Key, Level, LevelUnit, Sign, Token, Tree, TypePhrase};
+use elan_tree::{Export, Key, Level, LevelUnit, Name, Sign, Token, Tree, TypePhrase};
 use phrase_parser::{declared, plain};
-use procedure_parser::{MOST, end_name, last_point, operator, proc, tail};
+use procedure_parser::{MOST, operator, proc, tail};
 use std::alloc::Global;
 use type_parser::types;
 
@@ -24,8 +26,7 @@ fn new_type(alloc: Global, cursor: &mut Cursor<'_>) -> Result<Tall<LevelUnit>, P
     ensures { Parses (spec.new_type 400 399) level_unit_depth (AtMost 400) cursor.old.rest.now result cursor.new.rest.now }
 {
     let at = cursor.keyword(Key::TypeWord)?;
-    let name = cursor.bold(alloc)?;
-    let (name, _) = and(name, cursor.mark(Sign::Equal))?;
+    let name = before_sign(cursor.bold(alloc), cursor, Sign::Equal)?;
     let (name, of) = and(name, types(alloc, cursor, MOST))?;
     let tree = LevelUnit::NewType {
         at,
@@ -122,11 +123,10 @@ fn level_units(alloc: Global, cursor: &mut Cursor<'_>) -> Result<Tall<List<Level
 {
     let mut row = single(alloc, level_unit(alloc, cursor))?;
     for _turn in 0..cursor.rest.len() {
-        if !cursor.sees_sign(Sign::Semicolon) {
+        if !cursor.passes_sign(Sign::Semicolon) {
             return Ok(row);
         }
-        let (items, _) = and(row, cursor.mark(Sign::Semicolon))?;
-        row = with_next(items, level_unit(alloc, cursor))?;
+        row = with_next(row, level_unit(alloc, cursor))?;
     }
     Ok(row)
 }
@@ -162,11 +162,10 @@ fn export_list(alloc: Global, cursor: &mut Cursor<'_>) -> Result<List<Export>, P
 {
     let mut row = one(alloc, cursor.export(alloc))?;
     for _turn in 0..cursor.rest.len() {
-        if !cursor.sees_sign(Sign::Comma) {
+        if !cursor.passes_sign(Sign::Comma) {
             return Ok(row);
         }
-        let (items, _) = and(row, cursor.mark(Sign::Comma))?;
-        row = one_more(items, cursor.export(alloc))?;
+        row = one_more(row, cursor.export(alloc))?;
     }
     Ok(row)
 }
@@ -175,21 +174,27 @@ fn export_list(alloc: Global, cursor: &mut Cursor<'_>) -> Result<List<Export>, P
 fn exports(alloc: Global, cursor: &mut Cursor<'_>) -> Result<List<Export>, ParseError>
     ensures { Gives ((spec.exports).run cursor.old.rest.now) result cursor.new.rest.now }
 {
-    if !cursor.sees_key(Key::Defines) {
+    if !cursor.passes_key(Key::Defines) {
         return Ok(List::new(alloc));
     }
-    cursor.keyword(Key::Defines)?;
     export_list(alloc, cursor)
 }
 
-#[tactic(auto, unfolding(elan_grammar::specs::Grammar::last_mark))]
-fn last_mark(cursor: &mut Cursor<'_>) -> Result<Option<u32>, ParseError>
-    ensures { Gives ((spec.last_mark).run cursor.old.rest.now) result cursor.new.rest.now }
+/// Goes past the name of what ends, where it is written.
+fn pass_name(cursor: &mut Cursor<'_>, name: &Name)
+    ensures { Skips (spec.end_name name.now) cursor.old.rest.now cursor.new.rest.now }
 {
-    if cursor.sees_sign(Sign::Semicolon) {
-        return Ok(Some(cursor.mark(Sign::Semicolon)?));
+    let _name = cursor.passes_same(name);
+}
+
+/// Goes past a semicolon or a point at the end, where one stands.
+fn pass_last_mark(cursor: &mut Cursor<'_>)
+    ensures { Skips spec.last_mark cursor.old.rest.now cursor.new.rest.now }
+{
+    if cursor.passes_sign(Sign::Semicolon) {
+        return;
     }
-    last_point(cursor)
+    let _point = cursor.passes_sign(Sign::Point);
 }
 
 #[tactic(auto, unfolding(elan_grammar::specs::Grammar::packet))]
@@ -198,14 +203,12 @@ fn packet(alloc: Global, cursor: &mut Cursor<'_>) -> Result<Tall<Tree>, ParseErr
 {
     let at = cursor.keyword(Key::Packet)?;
     let name = cursor.ident(alloc)?;
-    let (name, exports) = and(name, exports(alloc, cursor))?;
-    let (head, _) = and((name, exports), cursor.mark(Sign::Colon))?;
-    let (head, level) = and(head, a_level(alloc, cursor))?;
-    let (parts, _) = and((head, level), cursor.end_of(Key::Packet))?;
-    let ((name, exports), level) = parts;
-    let end = end_name(cursor, &name);
-    let (parts, _) = and((name, exports, level), end)?;
-    let ((name, exports, level), _) = and(parts, last_mark(cursor))?;
+    let exports = before_sign(exports(alloc, cursor), cursor, Sign::Colon);
+    let head = and(name, exports)?;
+    let level = before_end(a_level(alloc, cursor), cursor, Key::Packet);
+    let ((name, exports), level) = and(head, level)?;
+    pass_name(cursor, &name);
+    pass_last_mark(cursor);
     let tree = Tree::Packet {
         at,
         name,

@@ -8,6 +8,7 @@ ghost use Rattle.elan_grammar.specs.Depth.{formal_depth, let_item_depth, deepest
 use crate::type_phrases::{names, types};
 use containers::List;
 use elan_cursor::Cursor;
+use elan_cursor::passing::before_sign;
 use elan_grammar::ParseError;
 use elan_grammar::tall::{Tall, and, single, with_next};
 use elan_tree::{Constant, Formal, LetItem, Sign};
@@ -42,11 +43,10 @@ pub fn formals(
 {
     let mut row = single(alloc, formal(alloc, cursor, depth))?;
     for _turn in 0..cursor.rest.len() {
-        if !cursor.sees_sign(Sign::Comma) {
+        if !cursor.passes_sign(Sign::Comma) {
             return Ok(row);
         }
-        let (items, _) = and(row, cursor.mark(Sign::Comma))?;
-        row = with_next(items, formal(alloc, cursor, depth))?;
+        row = with_next(row, formal(alloc, cursor, depth))?;
     }
     Ok(row)
 }
@@ -75,8 +75,7 @@ fn constant(alloc: Global, cursor: &mut Cursor<'_>) -> Result<Constant, ParseErr
 fn let_constant(alloc: Global, cursor: &mut Cursor<'_>) -> Result<LetItem, ParseError>
     ensures { Gives ((spec.let_constant).run cursor.old.rest.now) result cursor.new.rest.now }
 {
-    let name = cursor.ident(alloc)?;
-    let (name, _) = and(name, cursor.mark(Sign::Equal))?;
+    let name = before_sign(cursor.ident(alloc), cursor, Sign::Equal)?;
     let (name, value) = and(name, constant(alloc, cursor))?;
     Ok(LetItem::Constant(name, value))
 }
@@ -90,8 +89,7 @@ fn abbreviation(
     ensures { Parses (spec.abbreviation depth) let_item_depth (AtMost depth) cursor.old.rest.now result cursor.new.rest.now }
 {
     cursor.below(0, depth)?;
-    let name = cursor.bold(alloc)?;
-    let (name, _) = and(name, cursor.mark(Sign::Equal))?;
+    let name = before_sign(cursor.bold(alloc), cursor, Sign::Equal)?;
     let (name, of) = and(name, types(alloc, cursor, depth))?;
     Ok(Tall {
         tree: LetItem::Abbreviation(name, of.tree),
@@ -121,11 +119,10 @@ pub fn let_items(
 {
     let mut row = single(alloc, let_item(alloc, cursor, depth))?;
     for _turn in 0..cursor.rest.len() {
-        if !cursor.sees_sign(Sign::Comma) {
+        if !cursor.passes_sign(Sign::Comma) {
             return Ok(row);
         }
-        let (items, _) = and(row, cursor.mark(Sign::Comma))?;
-        row = with_next(items, let_item(alloc, cursor, depth))?;
+        row = with_next(row, let_item(alloc, cursor, depth))?;
     }
     Ok(row)
 }

@@ -10,6 +10,7 @@ ghost use Rattle.type_parser.specs.Nests.{Nests};
 use containers::List;
 use elan_cursor::Cursor;
 use elan_cursor::kind::goes_on;
+use elan_cursor::passing::before_sign;
 use elan_grammar::ParseError;
 use elan_grammar::tall::{Tall, and, boxed, one, one_more, single, with_next};
 use elan_tree::{Field, Key, Name, Sign, TypePhrase};
@@ -88,8 +89,7 @@ impl<F: Fn(Global, &mut Cursor<'_>, u16) -> Result<Tall<TypePhrase>, ParseError>
         ensures { Parses (spec.row (spec.types self.now.depth) self.now.depth) type_depth (AtMost (self.now.depth + 1))
             cursor.old.rest.now result cursor.new.rest.now }
     {
-        cursor.below(0, self.depth)?;
-        let at = cursor.keyword(Key::Row)?;
+        let at = cursor.opening(Key::Row, self.depth)?;
         let size = cursor.size(self.alloc)?;
         let (size, part) = and(size, boxed(self.alloc, self.inner(cursor)))?;
         Ok(Tall {
@@ -123,11 +123,10 @@ impl<F: Fn(Global, &mut Cursor<'_>, u16) -> Result<Tall<TypePhrase>, ParseError>
     {
         let mut row = single(self.alloc, self.field(cursor))?;
         for _turn in 0..cursor.rest.len() {
-            if !cursor.sees_sign(Sign::Comma) {
+            if !cursor.passes_sign(Sign::Comma) {
                 return Ok(row);
             }
-            let (fields, _) = and(row, cursor.mark(Sign::Comma))?;
-            row = with_next(fields, self.field(cursor))?;
+            row = with_next(row, self.field(cursor))?;
         }
         Ok(row)
     }
@@ -138,11 +137,9 @@ impl<F: Fn(Global, &mut Cursor<'_>, u16) -> Result<Tall<TypePhrase>, ParseError>
         ensures { Parses (spec.structure (spec.types self.now.depth) self.now.depth) type_depth (AtMost (self.now.depth + 1))
             cursor.old.rest.now result cursor.new.rest.now }
     {
-        cursor.below(0, self.depth)?;
-        let at = cursor.keyword(Key::Struct)?;
+        let at = cursor.opening(Key::Struct, self.depth)?;
         cursor.mark(Sign::LeftRound)?;
-        let row = self.fields(cursor)?;
-        let (row, _) = and(row, cursor.mark(Sign::RightRound))?;
+        let row = before_sign(self.fields(cursor), cursor, Sign::RightRound)?;
         Ok(Tall {
             tree: TypePhrase::Struct {
                 at,

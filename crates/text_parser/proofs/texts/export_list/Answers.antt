@@ -3,9 +3,9 @@ use Rattle.elan_grammar.specs.Grammar as grammar
 use Rattle.elan_grammar.proofs.Turns.{turns}
 use Rattle.text_parser.proofs.texts.export_list.Goals as goal
 
-pub returns-then-not-sees_sign : goal.returns-then-not-sees_sign
+pub returns-then-not-passes_sign : goal.returns-then-not-passes_sign
 unfolding grammar.export_list
-returns-then-not-sees_sign c = grind (arith, turns)
+returns-then-not-passes_sign c = grind (arith, turns)
 
 pub returns-in_err-row-2 : goal.returns-in_err-row-2
 unfolding grammar.export_list

@@ -4,9 +4,9 @@ use Rattle.elan_grammar.proofs.Turns.{turns}
 use Rattle.elan_grammar.proofs.Deepest.{deepens}
 use Rattle.text_parser.proofs.texts.level_units.Goals as goal
 
-pub returns-then-not-sees_sign : goal.returns-then-not-sees_sign
+pub returns-then-not-passes_sign : goal.returns-then-not-passes_sign
 unfolding grammar.level_units
-returns-then-not-sees_sign c = grind (arith, turns)
+returns-then-not-passes_sign c = grind (arith, turns)
 
 pub returns-in_err-row-2 : goal.returns-in_err-row-2
 unfolding grammar.level_units

@@ -8,13 +8,9 @@ pub loop-turn-init : goal.loop-turn-init
 unfolding types.formals
 loop-turn-init c = grind (arith, deepens)
 
-pub returns-then-not-sees_sign : goal.returns-then-not-sees_sign
+pub returns-then-not-passes_sign : goal.returns-then-not-passes_sign
 unfolding types.formals
-returns-then-not-sees_sign c = grind (arith, turns)
-
-pub returns-in_err-items : goal.returns-in_err-items
-unfolding types.formals
-returns-in_err-items c = grind (arith, turns)
+returns-then-not-passes_sign c = grind (arith, turns)
 
 pub returns-in_err-row-2 : goal.returns-in_err-row-2
 unfolding types.formals

@@ -6,10 +6,6 @@ pub returns-in_err-left : goal.returns-in_err-left
 unfolding expressions.dyadic
 returns-in_err-left g c = grind arith
 
-pub returns-in_err-left-2 : goal.returns-in_err-left-2
-unfolding expressions.dyadic
-returns-in_err-left-2 g c = grind arith
-
 pub returns : goal.returns
 unfolding expressions.dyadic
 returns g c = grind arith

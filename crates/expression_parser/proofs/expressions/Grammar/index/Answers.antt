@@ -5,7 +5,3 @@ use Rattle.expression_parser.proofs.expressions.Grammar.index.Goals as goal
 pub returns-in_err-of : goal.returns-in_err-of
 unfolding expressions.index
 returns-in_err-of g c = grind arith
-
-pub returns-in_err-of-2 : goal.returns-in_err-of-2
-unfolding expressions.index
-returns-in_err-of-2 g c = grind arith

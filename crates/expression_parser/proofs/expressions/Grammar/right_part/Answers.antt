@@ -10,14 +10,6 @@ pub returns-in_err-joint-clause-parses : goal.returns-in_err-joint-clause-parses
 unfolding expressions.right_part
 returns-in_err-joint-clause-parses g c = grind arith
 
-pub returns-in_err-right-clause-parses : goal.returns-in_err-right-clause-parses
+pub returns-in_err-joint-2-clause-parses : goal.returns-in_err-joint-2-clause-parses
 unfolding expressions.right_part
-returns-in_err-right-clause-parses g c = grind arith
-
-pub returns-in_err-new-clause-parses : goal.returns-in_err-new-clause-parses
-unfolding expressions.right_part
-returns-in_err-new-clause-parses g c = grind arith
-
-pub returns-clause-parses : goal.returns-clause-parses
-unfolding expressions.right_part
-returns-clause-parses g c = grind arith
+returns-in_err-joint-2-clause-parses g c = grind arith

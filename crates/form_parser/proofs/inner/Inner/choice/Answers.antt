@@ -13,7 +13,3 @@ returns-in_err-branches g c = grind arith
 pub returns-in_err-branches-2 : goal.returns-in_err-branches-2
 unfolding expressions.choice expressions.choice_end
 returns-in_err-branches-2 g c = grind arith
-
-pub returns-in_err-branches-3 : goal.returns-in_err-branches-3
-unfolding expressions.choice expressions.choice_end
-returns-in_err-branches-3 g c = grind arith

@@ -14,10 +14,6 @@ pub returns-in_err-units-2 : goal.returns-in_err-units-2
 unfolding units.turn_parts
 returns-in_err-units-2 g c = grind arith
 
-pub returns-in_err-units-3 : goal.returns-in_err-units-3
-unfolding units.turn_parts
-returns-in_err-units-3 g c = grind arith
-
 pub returns : goal.returns
 unfolding units.turn_parts
 returns g c = grind arith

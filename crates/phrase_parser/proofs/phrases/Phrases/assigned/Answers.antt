@@ -9,7 +9,3 @@ returns-in_err-left g c = grind arith
 pub returns-in_err-left-2 : goal.returns-in_err-left-2
 unfolding units.assigned
 returns-in_err-left-2 g c = grind arith
-
-pub returns-in_err-left-3 : goal.returns-in_err-left-3
-unfolding units.assigned
-returns-in_err-left-3 g c = grind arith

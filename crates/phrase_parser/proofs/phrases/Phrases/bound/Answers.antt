@@ -11,5 +11,5 @@ unfolding units.bound
 returns-in_err-of g c = grind arith
 
 pub returns-in_err-of-2 : goal.returns-in_err-of-2
-unfolding units.bound
+unfolding units.bound units.items
 returns-in_err-of-2 g c = grind arith

@@ -8,13 +8,9 @@ pub loop-turn-init : goal.loop-turn-init
 unfolding types.fields
 loop-turn-init g c = grind (arith, deepens)
 
-pub returns-then-not-sees_sign : goal.returns-then-not-sees_sign
+pub returns-then-not-passes_sign : goal.returns-then-not-passes_sign
 unfolding types.fields
-returns-then-not-sees_sign g c = grind (arith, turns)
-
-pub returns-in_err-fields : goal.returns-in_err-fields
-unfolding types.fields
-returns-in_err-fields g c = grind (arith, turns)
+returns-then-not-passes_sign g c = grind (arith, turns)
 
 pub returns-in_err-row-2 : goal.returns-in_err-row-2
 unfolding types.fields

@@ -1,0 +1,9 @@
+use Rattle.elan_grammar.specs.Units as units
+use Rattle.phrase_parser.proofs.VarOrConst.{no_access}
+use Rattle.phrase_parser.proofs.phrases.Phrases.declared.Goals as goal
+
+pub returns-in_err-of : goal.returns-in_err-of
+returns-in_err-of g c =
+    let n = c.args.self.now.depth in
+    no_access (units.phrases n) n c.args.of.tree c.in_err-of.field-0.0 c.declaring.result _ _ _ c.in_err-of.ensures.behind c.from_residual.ensures
+    c.declaring.ensures
