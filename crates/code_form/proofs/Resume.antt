@@ -6,7 +6,7 @@ use Rattle.code_form.specs.declared.halt.Halt.TheVariants as halts
 use Rattle.code_form.specs.Program.{Program}
 use Rattle.code_form.specs.declared.waits.Waits.{Waits}
 use Rattle.code_form.specs.declared.waits.Waits.TheVariants.{Nothing, Asked, Refused}
-use Rattle.code_form.specs.Machine.{Position, Control, free, After, To, Asks, Stops, Unsaid, Move, Goes, Spends, Halts, Ends, Unknown, Stuck, Scene, Rest}
+use Rattle.code_form.specs.Machine.{Position, Control, free, After, To, Asks, Stops, Unsaid, Move, Goes, Spends, Halts, Refuses, Ends, Unknown, Stuck, Scene, Rest}
 use Rattle.code_form.specs.Machine.{step, Stage, On, Over, Lost, after_stage, mark_stage, reply_stage, stage, stage_at, advance, carry_on, exec}
 use Rattle.code_form.specs.Runs.{IsPaused, Rests, wider, Resumes, Replies, IsOne}
 
@@ -74,6 +74,7 @@ move_widens : (marks : ℕ) (replies : List Reply) (m : Move) (c : Position) (s 
 move_widens marks replies (Goes c' cells) c s = refl
 move_widens marks replies (Spends a) c s = mark_widens marks replies s.marks a c s
 move_widens marks replies (Halts stop) c s = λ paused. (refl, refl)
+move_widens marks replies (Refuses stop c') c s = refl
 move_widens marks replies Ends c s = λ paused. (refl, refl)
 move_widens marks replies Unknown c s = tt
 move_widens marks replies Stuck c s = tt

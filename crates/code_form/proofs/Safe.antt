@@ -17,7 +17,7 @@ use Rattle.eu_base.specs.declared.operation.Way.{Way}
 use Rattle.eu_base.specs.declared.stop.Stop.TheVariants.{CellRoom, TextRoom}
 use Rattle.eu_base.specs.Values.{kind_of, number_of, truth_of, blank_of, number_in, truth_in}
 use Rattle.eu_base.specs.Room.{cells_fit, bytes_fit, texts_fit}
-use Rattle.eu_base.specs.Operations.{Given, operand_kinds, result_kind, result_of, changed, is_past, has_reached}
+use Rattle.eu_base.specs.Operations.{Given, operand_kinds, result_kind, result_of, change_kind, changed, is_past, has_reached}
 use Rattle.eu_base.specs.Requests.{request_kinds, request_of}
 use Rattle.eu_base.specs.Cells.{Cell, Free, Word, Letters, Cells, held_of, IsCell, run_cell, place_in, written, cell_blocks, blocks_in, freed}
 use Rattle.code_form.specs.declared.operand.Operand.{Operand}
@@ -27,8 +27,8 @@ use Rattle.code_form.specs.declared.operand.OperandKind.TheVariants.{Value as Of
 use Rattle.code_form.specs.declared.waits.Waits.{Waits}
 use Rattle.code_form.specs.declared.waits.Waits.TheVariants.{Nothing}
 use Rattle.code_form.specs.declared.instr.Instr.{Instr}
-use Rattle.code_form.specs.declared.instr.Instr.TheVariants.{Mark, Number, Truth, Outer, Local, Param, Load, Store, Do, Modify, Jump, False, When, Drop}
-use Rattle.code_form.specs.declared.instr.Instr.TheVariants.{Limit, Unlimit, Step, Ask, Call, Refer, Back, Out, End}
+use Rattle.code_form.specs.declared.instr.Instr.TheVariants.{Mark, Number, Truth, Text, Outer, Local, Param, Load, Store, Do, Modify, Jump, False, When, Drop}
+use Rattle.code_form.specs.declared.instr.Instr.TheVariants.{Limit, Unlimit, Step, Ask, ErrorStop, Call, Refer, Back, Out, End}
 use Rattle.code_form.specs.declared.code.Line.{Line}
 use Rattle.code_form.specs.declared.code.Spot.{Spot}
 use Rattle.code_form.specs.declared.code.Entry.{Entry}
@@ -39,7 +39,7 @@ use Rattle.code_form.specs.Program.{frame_cells}
 use Rattle.code_form.specs.Machine.{Frame, Position, free, To, Asks, Stops, Unsaid, Move, Goes, Spends, operand_bytes, bytes_on, bytes_of, base_of, at}
 use Rattle.code_form.specs.Machine.{using, goes, pushes, on_value, on_place, on_values, on_operands, on_result, or_halt, on_word, on_cell, is_free, are_free}
 use Rattle.code_form.specs.Machine.{limit_cell, held_of_operand, frame_contents, link_contents, written_from, enters, calls_to, call_move, refer_move}
-use Rattle.code_form.specs.Machine.{takes, content_blocks, is_framed, Unknown, goes, Halts, back_into, back_to, out_to, limit_to, instruction, step}
+use Rattle.code_form.specs.Machine.{takes, puts, content_blocks, is_framed, Unknown, goes, Halts, back_into, back_to, out_to, limit_to, instruction, step}
 use Rattle.code_form.specs.Valid.{Next, pushed_kinds, pushed_operands, with_result, HasResult, IsRefinement, IsCalled, IsReferred, IsFine, IsValid, FitsKind}
 use Rattle.code_form.specs.Valid.{FitsKinds, MadeSo, IsMade, FitsFrames, Fits}
 use Rattle.code_form.specs.Runs.{IsSafe, StaysFit}
@@ -457,11 +457,19 @@ module _ (p : Program) (valid : IsValid p) (pc : ℕ) (ops : List Operand) (used
         (omega (arith, le, under, made'.used)) (omega (arith, bytes, bytes_below f.ops (bytes_of fs))) fits room'))
         made'.entry.layout refl
 
+    -- a value is put into a cell
+    put_safe : (a : Addr) (v : Value) (ks : List OperandKind) (r : List Operand) → Next p.lines (pc + 1) ks m → Has r ks → Safe (puts now a v r cells)
+    put_safe a v ks r next g =
+        let now' = written cells a (held_of v) in
+        cond_safe (takes (held_of v) (cells a)) _ _
+        (λ _. cond_safe (texts_fit (cell_blocks (held_of v)) (blocks_in now')) (goes now r now') (Halts TextRoom) (λ _. fit (pc + 1) ks r next g) tt) tt
+
     safe : (i : Instr) (ks : List OperandKind) → slice_get p.lines pc ≡ Some (line_of i ks m) → IsFine p pc i ks m → Has ops ks
         → Safe (instruction p (Some i) now cells)
     safe Mark ks line f k = fit (pc + 1) ks ops f k
     safe (Number z) ks line f k = push_safe (Of (item.Int z)) (OfKind kinds.Int) ops ks refl f k.0
     safe (Truth b) ks line f k = push_safe (Of (item.Truth b)) (OfKind kinds.Truth) ops ks refl f k.0
+    safe (Text t) ks line f k = push_safe (Of (item.Text t)) (OfKind kinds.Text) ops ks refl f k.0
     safe (Outer x) ks line f k = push_safe (At (run_cell x)) (AtKind f.0) ops ks (outer_cell x f.0 f.1) f.2 k.0
     safe (Local x) ks line f k = push_safe (At (run_cell (base_of frames + x))) (AtKind f.0) ops ks (local_cell x (OfKind f.0) f.1) f.2 k.0
     safe (Param x) ks line f k =
@@ -471,19 +479,15 @@ module _ (p : Program) (valid : IsValid p) (pc : ℕ) (ops : List Operand) (used
     safe (Load kind) ks line f k =
         one_place ops kind f.0 _ (subst (Has ops) f.1 k)
         (λ a r g. cell_safe kind (cells a) _ (λ v is. push_safe (Of v) (OfKind kind) r f.0 is f.2 g.0))
-    safe (Store kind) ks line f k = value_place ops kind kind f.0 _ (subst (Has ops) f.1 k) (λ v a r g.
-        cond_safe (takes (held_of v) (cells a)) _ _ (λ _.
-        let now' = written cells a (held_of v) in
-        cond_safe (texts_fit (cell_blocks (held_of v)) (blocks_in now')) (goes now r now') (Halts TextRoom) (λ _. fit (pc + 1) f.0 r f.2 g) tt) tt)
+    safe (Store kind) ks line f k = value_place ops kind kind f.0 _ (subst (Has ops) f.1 k) (λ v a r g. put_safe a v f.0 r f.2 g)
     safe (Do op) ks line f k =
         let e : length (operand_kinds op) ≡ length (operand_kinds op) + 0 = omega arith in
         subst (λ n. Safe (on_values n [] ops (λ vs ops. or_halt (result_of op vs) (λ v. pushes now (Of v) ops cells)))) (sym e)
         (some_values (operand_kinds op) 0 f.0 [] ops _ (subst (Has ops) f.1 k) (λ vs r g.
         or_safe (result_of op vs) _ (λ v is. push_safe (Of v) (OfKind (result_kind op)) r f.0 (kind_is _ v (result_gives op vs v is)) f.2 g.0)))
     safe (Modify change) ks line f k =
-        value_place ops kinds.Int kinds.Int f.0 _ (subst (Has ops) f.1 k)
-        (λ v a r g. word_safe (cells a) _
-        (λ n. or_safe (changed change (number_in n) (number_of v)) _ (λ x _. fit (pc + 1) f.0 r f.2 g)))
+        value_place ops (change_kind change) (change_kind change) f.0 _ (subst (Has ops) f.1 k)
+        (λ v a r g. cell_safe (change_kind change) (cells a) _ (λ w is. or_safe (changed change w v) _ (λ x _. put_safe a x f.0 r f.2 g)))
     safe (Jump a) ks line f k = fit a ks ops f.next k
     safe (False a) ks line f k =
         one_value ops kinds.Truth f.0 _ (subst (Has ops) f.1 k)
@@ -509,6 +513,7 @@ module _ (p : Program) (valid : IsValid p) (pc : ℕ) (ops : List Operand) (used
         let e : length (request_kinds q) ≡ length (request_kinds q) + 0 = omega arith in
         subst (λ n. Safe (on_values n [] ops (λ vs ops. Spends (Asks (at now (pc + 1) ops) (request_of q vs) cells)))) (sym e)
         (some_values (request_kinds q) 0 f.0 [] ops _ (subst (Has ops) f.1 k) (λ vs r g. fits_at (pc + 1) f.0 r _ f.2 g))
+    safe ErrorStop ks line f k = one_value ops kinds.Text f.0 _ (subst (Has ops) f.1 k) (λ v r e g. fits_at (pc + 1) f.0 r _ f.2 g)
     safe (Call n) ks line f k = call_safe n ks line f k
     safe (Refer n) ks line f k = refer_safe n ks line f k
     safe (Back r) ks line f k =

@@ -8,7 +8,7 @@ use Rattle.eu_base.specs.Cells.{Cells}
 use Rattle.code_form.specs.Program.{Program}
 use Rattle.code_form.specs.declared.waits.Waits.{Waits}
 use Rattle.code_form.specs.declared.waits.Waits.TheVariants.{Nothing, Asked, Refused}
-use Rattle.code_form.specs.Machine.{Position, Control, free, asking, answered, After, To, Asks, Stops, Unsaid, Move, Goes, Spends, Halts, Ends, Unknown}
+use Rattle.code_form.specs.Machine.{Position, Control, free, asking, answered, After, To, Asks, Stops, Unsaid, Move, Goes, Spends, Halts, Refuses, Ends, Unknown}
 use Rattle.code_form.specs.Machine.{Stuck, Scene, Rest, step, Stage, On, Over, Lost, after_stage, mark_stage, reply_stage, stage, stage_at, advance, carry_on}
 use Rattle.code_form.specs.Machine.{exec}
 use Rattle.code_form.specs.Runs.{IsPaused, Rests, Stands, StandsOn}
@@ -43,6 +43,8 @@ move_shifts rs (Goes c' cells) c s =
     (omega arith, λ k. let f : (s.marks - s.marks) + k ≡ k = omega arith in ap (λ n. stage (Goes c' cells) c (at_marks rs n s)) f)
 move_shifts rs (Spends a) c s = mark_shifts rs s.marks a c s refl
 move_shifts rs (Halts stop) c s = λ paused. (refl, refl)
+move_shifts rs (Refuses stop c') c s =
+    (omega arith, λ k. let f : (s.marks - s.marks) + k ≡ k = omega arith in ap (λ n. stage (Refuses stop c') c (at_marks rs n s)) f)
 move_shifts rs Ends c s = λ paused. (refl, refl)
 move_shifts rs Unknown c s = tt
 move_shifts rs Stuck c s = tt
@@ -77,6 +79,7 @@ move_falls (Spends a) c s = by s.marks refl
     by zero e = omega (arith, e)
     by (suc n) e = after_falls n a c s
 move_falls (Halts stop) c s = omega arith
+move_falls (Refuses stop c') c s = omega arith
 move_falls Ends c s = omega arith
 move_falls Unknown c s = tt
 move_falls Stuck c s = tt

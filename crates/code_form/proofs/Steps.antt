@@ -15,13 +15,13 @@ use Rattle.eu_base.specs.Room.{cells_fit, bytes_fit, texts_fit}
 use Rattle.eu_base.specs.declared.value.Value.{Value}
 use Rattle.eu_base.specs.declared.value.Value.TheVariants as item
 use Rattle.eu_base.specs.Values.{number_of, truth_of, number_in, truth_in}
-use Rattle.eu_base.specs.Operations.{Given, operand_kinds, result_of, changed, is_past, has_reached}
+use Rattle.eu_base.specs.Operations.{Given, operand_kinds, result_of, change_kind, changed, is_past, has_reached}
 use Rattle.eu_base.specs.Requests.{request_kinds}
 use Rattle.code_form.specs.declared.operand.Operand.{Operand}
 use Rattle.code_form.specs.declared.operand.Operand.TheVariants.{Value as Of, Place as At}
 use Rattle.code_form.specs.declared.instr.Instr.{Instr}
-use Rattle.code_form.specs.declared.instr.Instr.TheVariants.{Mark, Number, Truth, Outer, Local, Param, Load, Store, Do, Modify, Jump, False, When, Drop}
-use Rattle.code_form.specs.declared.instr.Instr.TheVariants.{Limit, Unlimit, Step, Ask, Call, Refer, Back, Out, End}
+use Rattle.code_form.specs.declared.instr.Instr.TheVariants.{Mark, Number, Truth, Text, Outer, Local, Param, Load, Store, Do, Modify, Jump, False, When, Drop}
+use Rattle.code_form.specs.declared.instr.Instr.TheVariants.{Limit, Unlimit, Step, Ask, ErrorStop, Call, Refer, Back, Out, End}
 use Rattle.code_form.specs.declared.code.Line.{Line}
 use Rattle.code_form.specs.declared.code.Entry.{Entry}
 use Rattle.code_form.specs.declared.code.Layout.{Layout}
@@ -30,7 +30,7 @@ use Rattle.code_form.specs.declared.code.Layout.TheVariants as layouts
 use Rattle.code_form.specs.Program.{Program, instr_of}
 use Rattle.code_form.specs.Machine.{Frame, Position, Control, After, To, Asks, Stops, Unsaid, Move, Scene, Stage, On, Over, Lost, Rest, operand_bytes}
 use Rattle.code_form.specs.Machine.{bytes_on, bytes_of, base_of, pushes, on_value, on_place, on_values, on_operands, on_result, or_halt, on_word, on_cell, is_free}
-use Rattle.code_form.specs.Machine.{takes, content_blocks, is_framed, back_into, Goes, Unknown, goes, Halts, are_free, limit_cell, frame_contents}
+use Rattle.code_form.specs.Machine.{takes, puts, content_blocks, is_framed, back_into, Goes, Unknown, goes, Halts, are_free, limit_cell, frame_contents}
 use Rattle.code_form.specs.Machine.{link_contents, written_from, enters, calls_to, call_move, refer_move, back_to}
 use Rattle.code_form.specs.Machine.{out_to, instruction, step, mark_stage, stage, advance, carry_on, exec}
 use Rattle.code_form.specs.Valid.{is_mark, IsFine, IsValid}
@@ -218,6 +218,14 @@ module _ (p : Program) (valid : IsValid p) where
         → Near (pushes c o ops s.cells)
     push_near l e is o ops = near_if (bytes_fit (operand_bytes o + bytes_on ops (bytes_of c.frames))) _ _ (go (c.pc + 1) (on_next c.pc l e is)) tt
 
+    -- a value is put into a cell
+    put_near : (l : Line) → slice_get p.lines c.pc ≡ Some l → is_mark (Some l.instr) ≡ false → (a : Addr) (v : Value) (ops : List Operand)
+        → Near (puts c a v ops s.cells)
+    put_near l e is a v ops =
+        let now = written s.cells a (held_of v) in
+        near_if (takes (held_of v) (s.cells a)) _ _
+        (near_if (texts_fit (cell_blocks (held_of v)) (blocks_in now)) (goes c ops now) (Halts TextRoom) (go (c.pc + 1) (on_next c.pc l e is)) tt) tt
+
     near_or : (f : Value → Move) → ((v : Value) → Near (f v)) → (g : Given) → Near (or_halt g f)
     near_or f h (Ok v) = h v
     near_or f h (Err e) = tt
@@ -227,24 +235,19 @@ module _ (p : Program) (valid : IsValid p) where
     at_instr l e Mark is f = marked s.marks _ (omega arith)
     at_instr l e (Number z) is f = push_near l e (ap (λ i. is_mark (Some i)) is) (Of (item.Int z)) c.ops
     at_instr l e (Truth b) is f = push_near l e (ap (λ i. is_mark (Some i)) is) (Of (item.Truth b)) c.ops
+    at_instr l e (Text t) is f = push_near l e (ap (λ i. is_mark (Some i)) is) (Of (item.Text t)) c.ops
     at_instr l e (Outer x) is f = push_near l e (ap (λ i. is_mark (Some i)) is) (At (run_cell x)) c.ops
     at_instr l e (Local x) is f = push_near l e (ap (λ i. is_mark (Some i)) is) (At (run_cell (base_of c.frames + x))) c.ops
     at_instr l e (Param x) is f =
         near_word _ (λ n. push_near l e (ap (λ i. is_mark (Some i)) is) (At (place_in n)) c.ops) (s.cells (run_cell (base_of c.frames + x)))
     at_instr l e (Load k) is f = near_place _ (λ a r. near_cell _ (λ v. push_near l e (ap (λ i. is_mark (Some i)) is) (Of v) r) k (s.cells a)) c.ops
     at_instr l e (Store k) is f =
-        near_value _ (λ v r. near_place _
-        (λ a r. near_if (takes (held_of v) (s.cells a)) _ _
-        (let now = written s.cells a (held_of v) in
-        near_if (texts_fit (cell_blocks (held_of v)) (blocks_in now)) (goes c r now) (Halts TextRoom)
-        (go (c.pc + 1) (on_next c.pc l e (ap (λ i. is_mark (Some i)) is))) tt) tt) r) c.ops
+        near_value _ (λ v r. near_place _ (λ a r. put_near l e (ap (λ i. is_mark (Some i)) is) a v r) r) c.ops
     at_instr l e (Do op) is f =
         near_values (length (operand_kinds op)) _ (λ vs r. near_or _ (λ v. push_near l e (ap (λ i. is_mark (Some i)) is) (Of v) r) (result_of op vs)) [] c.ops
     at_instr l e (Modify ch) is f =
         near_value _ (λ v r. near_place _
-        (λ a r. near_word _ (λ n.
-        near_or _ (λ x. go (c.pc + 1) (on_next c.pc l e (ap (λ i. is_mark (Some i)) is))) (changed ch (number_in n) (number_of v)))
-        (s.cells a)) r) c.ops
+        (λ a r. near_cell _ (λ w. near_or _ (λ x. put_near l e (ap (λ i. is_mark (Some i)) is) a x r) (changed ch w v)) (change_kind ch) (s.cells a)) r) c.ops
     at_instr l e (Jump a) is f = go a (on_jump c.pc a l e (ap (λ i. is_mark (Some i)) is) f.spaced)
     at_instr l e (False a) is f =
         near_value _ (λ v r. go_if (truth_of v) (c.pc + 1) a (on_next c.pc l e (ap (λ i. is_mark (Some i)) is))
@@ -266,6 +269,7 @@ module _ (p : Program) (valid : IsValid p) where
         (go a (on_jump c.pc a l e (ap (λ i. is_mark (Some i)) is) f.2.3.spaced)) (go (c.pc + 1) (on_next c.pc l e (ap (λ i. is_mark (Some i)) is))))
         (s.cells q)) (limit_cell c s.cells)) c.ops
     at_instr l e (Ask q) is f = near_values (length (request_kinds q)) _ (λ vs r. marked s.marks _ (omega arith)) [] c.ops
+    at_instr l e ErrorStop is f = near_value _ (λ v r. go (c.pc + 1) (on_next c.pc l e (ap (λ i. is_mark (Some i)) is))) c.ops
     at_instr l e (Call n) is f = call_near n (slice_get p.bodies n)
     at_instr l e (Refer n) is f = refer_near n (slice_get p.bodies n)
     at_instr l e (Back k) is f = near_result k _ (λ os. back_near os c.frames (omega arith)) c.ops

@@ -5,18 +5,18 @@ use Rattle.eu_base.specs.declared.value.Kind.{Kind}
 use Rattle.eu_base.specs.declared.value.Kind.TheVariants as kinds
 use Rattle.eu_base.specs.declared.operation.Operation.{Operation}
 use Rattle.eu_base.specs.declared.operation.Operation.TheVariants.{Plus, Negate, Add, Subtract, Multiply, Divide, Modulo, Equal, Unequal, Less, LessEqual}
-use Rattle.eu_base.specs.declared.operation.Operation.TheVariants.{Greater, GreaterEqual, Same, Different, And, Or, Not, Absolute, Minimum, Maximum, Largest, EmptyText, OnTexts}
+use Rattle.eu_base.specs.declared.operation.Operation.TheVariants.{Greater, GreaterEqual, Same, Different, And, Or, Not, Absolute, Minimum, Maximum, Largest, OnTexts}
 use Rattle.eu_base.specs.declared.text_operation.TextOperation.{TextOperation}
 use Rattle.eu_base.specs.declared.text_operation.TextOperation.TheVariants as texts
 use Rattle.eu_base.specs.declared.operation.Change.{Change}
-use Rattle.eu_base.specs.declared.operation.Change.TheVariants.{Increase, Decrease}
+use Rattle.eu_base.specs.declared.operation.Change.TheVariants.{Increase, Decrease, Append}
 use Rattle.eu_base.specs.declared.operation.Way.{Way}
 use Rattle.eu_base.specs.declared.operation.Way.TheVariants as ways
 use Rattle.eu_base.specs.declared.request.RequestName.{RequestName}
 use Rattle.eu_base.specs.declared.request.RequestName.TheVariants as requests
 use Rattle.code_form.specs.declared.instr.Instr.{Instr}
-use Rattle.code_form.specs.declared.instr.Instr.TheVariants.{Mark, Number, Truth, Outer, Local, Param, Load, Store, Do, Modify, Jump, False, When, Drop, Limit}
-use Rattle.code_form.specs.declared.instr.Instr.TheVariants.{Unlimit, Step, Ask, Call, Refer, Back, Out, End}
+use Rattle.code_form.specs.declared.instr.Instr.TheVariants.{Mark, Number, Truth, Text, Outer, Local, Param, Load, Store, Do, Modify, Jump, False, When, Drop, Limit}
+use Rattle.code_form.specs.declared.instr.Instr.TheVariants.{Unlimit, Step, Ask, ErrorStop, Call, Refer, Back, Out, End}
 use Rattle.code_form.specs.declared.code.Line.{Line}
 use Rattle.code_form.specs.declared.code.Entry.{Entry}
 use Rattle.code_form.specs.Program.{Program, layout_of, cells_at}
@@ -76,15 +76,18 @@ operation_name Absolute = codes "abs"
 operation_name Minimum = codes "min"
 operation_name Maximum = codes "max"
 operation_name Largest = codes "maxint"
-operation_name EmptyText = codes "\"\""
 operation_name (OnTexts op) = text_operation_name op
 
 abbrev pub change_name : Change → List ℕ
 change_name Increase = codes "INCR"
 change_name Decrease = codes "DECR"
+change_name Append = codes "CAT"
 
 abbrev pub request_name : RequestName → List ℕ
 request_name requests.PutNumber = codes "put(INT)"
+request_name requests.PutText = codes "put(TEXT)"
+request_name requests.Write = codes "write(TEXT)"
+request_name requests.PutLine = codes "putline(TEXT)"
 request_name requests.Line = codes "line"
 
 -- where a body begins, and how many cells its frame has for its parameters and variables
@@ -95,39 +98,46 @@ first_of (Some e) = e.first
 abbrev pub cells_of_frame : Option Entry → ℕ
 cells_of_frame e = length (cells_at (layout_of e))
 
--- the word of an instruction, and each argument after a blank
-abbrev pub instr_text : List Entry → Instr → List ℕ
-instr_text bodies Mark = codes "MARK"
-instr_text bodies (Number z) = codes "INT " ++ signed_decimal z
-instr_text bodies (Truth b) = codes "BOOL " ++ truth_word b
-instr_text bodies (Outer k) = codes "OUTER " ++ decimal k
-instr_text bodies (Local k) = codes "LOCAL " ++ decimal k
-instr_text bodies (Param k) = codes "PARAM " ++ decimal k
-instr_text bodies (Load kind) = codes "LOAD " ++ kind_word kind
-instr_text bodies (Store kind) = codes "STORE " ++ kind_word kind
-instr_text bodies (Do op) = codes "DO " ++ operation_name op
-instr_text bodies (Modify change) = codes "DO " ++ change_name change
-instr_text bodies (Jump a) = codes "JUMP " ++ decimal a
-instr_text bodies (False a) = codes "FALSE " ++ decimal a
-instr_text bodies (When z a) = codes "WHEN " ++ signed_decimal z ++ codes " " ++ decimal a
-instr_text bodies Drop = codes "DROP"
-instr_text bodies (Limit way a) = codes "LIMIT " ++ way_word way ++ codes " " ++ decimal a
-instr_text bodies Unlimit = codes "UNLIMIT"
-instr_text bodies (Step way a) = way_word way ++ codes " " ++ decimal a
-instr_text bodies (Ask name) = codes "ASK " ++ request_name name
-instr_text bodies (Call n) = codes "CALL " ++ decimal (first_of (slice_get bodies n)) ++ codes " " ++ decimal (cells_of_frame (slice_get bodies n))
-instr_text bodies (Refer n) = codes "REFER " ++ decimal (first_of (slice_get bodies n))
-instr_text bodies (Back kind) = codes "BACK"
-instr_text bodies (Out kind) = codes "OUT"
-instr_text bodies End = codes "END"
+-- the word of an instruction, and each argument after a blank. A text is told by its number, since so many stand before it
+abbrev pub instr_text : List Entry → ℕ → Instr → List ℕ
+instr_text bodies texts Mark = codes "MARK"
+instr_text bodies texts (Number z) = codes "INT " ++ signed_decimal z
+instr_text bodies texts (Truth b) = codes "BOOL " ++ truth_word b
+instr_text bodies texts (Text t) = codes "TEXT " ++ decimal texts
+instr_text bodies texts (Outer k) = codes "OUTER " ++ decimal k
+instr_text bodies texts (Local k) = codes "LOCAL " ++ decimal k
+instr_text bodies texts (Param k) = codes "PARAM " ++ decimal k
+instr_text bodies texts (Load kind) = codes "LOAD " ++ kind_word kind
+instr_text bodies texts (Store kind) = codes "STORE " ++ kind_word kind
+instr_text bodies texts (Do op) = codes "DO " ++ operation_name op
+instr_text bodies texts (Modify change) = codes "DO " ++ change_name change
+instr_text bodies texts (Jump a) = codes "JUMP " ++ decimal a
+instr_text bodies texts (False a) = codes "FALSE " ++ decimal a
+instr_text bodies texts (When z a) = codes "WHEN " ++ signed_decimal z ++ codes " " ++ decimal a
+instr_text bodies texts Drop = codes "DROP"
+instr_text bodies texts (Limit way a) = codes "LIMIT " ++ way_word way ++ codes " " ++ decimal a
+instr_text bodies texts Unlimit = codes "UNLIMIT"
+instr_text bodies texts (Step way a) = way_word way ++ codes " " ++ decimal a
+instr_text bodies texts (Ask name) = codes "ASK " ++ request_name name
+instr_text bodies texts ErrorStop = codes "DO errorstop"
+instr_text bodies texts (Call n) = codes "CALL " ++ decimal (first_of (slice_get bodies n)) ++ codes " " ++ decimal (cells_of_frame (slice_get bodies n))
+instr_text bodies texts (Refer n) = codes "REFER " ++ decimal (first_of (slice_get bodies n))
+instr_text bodies texts (Back kind) = codes "BACK"
+instr_text bodies texts (Out kind) = codes "OUT"
+instr_text bodies texts End = codes "END"
 
 -- its number, a blank, and its text
-abbrev pub line_text : List Entry → ℕ → Instr → List ℕ
-line_text bodies k i = decimal k ++ codes " " ++ instr_text bodies i ++ 10 ∷ []
+abbrev pub line_text : List Entry → ℕ → ℕ → Instr → List ℕ
+line_text bodies texts k i = decimal k ++ codes " " ++ instr_text bodies texts i ++ 10 ∷ []
 
-abbrev pub listing_from : List Entry → ℕ → List Line → List ℕ
-listing_from bodies k [] = []
-listing_from bodies k (l ∷ ls) = line_text bodies k l.instr ++ listing_from bodies (suc k) ls
+-- the texts up to an instruction, where so many stand before it
+abbrev pub texts_with : ℕ → Instr → ℕ
+texts_with texts (Text t) = suc texts
+texts_with texts i = texts
+
+abbrev pub listing_from : List Entry → ℕ → ℕ → List Line → List ℕ
+listing_from bodies texts k [] = []
+listing_from bodies texts k (l ∷ ls) = line_text bodies texts k l.instr ++ listing_from bodies (texts_with texts l.instr) (suc k) ls
 
 abbrev pub listing_text : Program → List ℕ
-listing_text p = listing_from p.bodies 0 p.lines
+listing_text p = listing_from p.bodies 0 0 p.lines

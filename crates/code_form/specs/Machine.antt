@@ -8,13 +8,13 @@ use Rattle.eu_base.specs.declared.value.Kind.TheVariants as kinds
 use Rattle.eu_base.specs.declared.value.Value.{Value}
 use Rattle.eu_base.specs.declared.value.Value.TheVariants as item
 use Rattle.eu_base.specs.declared.stop.Stop.{Stop}
-use Rattle.eu_base.specs.declared.stop.Stop.TheVariants.{CellRoom, OperandRoom, TextRoom}
+use Rattle.eu_base.specs.declared.stop.Stop.TheVariants.{CellRoom, OperandRoom, TextRoom, Own}
 use Rattle.eu_base.specs.declared.operation.Way.{Way}
 use Rattle.eu_base.specs.declared.request.Request.{Request}
 use Rattle.eu_base.specs.declared.request.Reply.{Reply}
-use Rattle.eu_base.specs.Values.{number_of, truth_of, blank_of, number_in, truth_in}
+use Rattle.eu_base.specs.Values.{number_of, truth_of, text_of, blank_of, number_in, truth_in}
 use Rattle.eu_base.specs.Room.{value_bytes, place_bytes, cells_fit, bytes_fit, texts_fit}
-use Rattle.eu_base.specs.Operations.{Given, operand_kinds, result_of, changed, is_past, has_reached, next_number}
+use Rattle.eu_base.specs.Operations.{Given, operand_kinds, result_of, change_kind, changed, is_past, has_reached, next_number}
 use Rattle.eu_base.specs.Requests.{request_kinds, request_of}
 use Rattle.eu_base.specs.Cells.{Cell, Free, Word, Letters, Cells, held_of, run_cell, place_number, place_in, written, without, freed, cell_blocks, blocks_in}
 use Rattle.code_form.specs.declared.operand.Operand.{Operand}
@@ -26,8 +26,8 @@ use Rattle.code_form.specs.declared.halt.Halt.TheVariants as halts
 use Rattle.code_form.specs.declared.waits.Waits.{Waits}
 use Rattle.code_form.specs.declared.waits.Waits.TheVariants.{Nothing, Asked, Refused}
 use Rattle.code_form.specs.declared.instr.Instr.{Instr}
-use Rattle.code_form.specs.declared.instr.Instr.TheVariants.{Mark, Number, Truth, Outer, Local, Param, Load, Store, Do, Modify, Jump, False, When, Drop}
-use Rattle.code_form.specs.declared.instr.Instr.TheVariants.{Limit, Unlimit, Step, Ask, Call, Refer, Back, Out, End}
+use Rattle.code_form.specs.declared.instr.Instr.TheVariants.{Mark, Number, Truth, Text, Outer, Local, Param, Load, Store, Do, Modify, Jump, False, When, Drop}
+use Rattle.code_form.specs.declared.instr.Instr.TheVariants.{Limit, Unlimit, Step, Ask, ErrorStop, Call, Refer, Back, Out, End}
 use Rattle.code_form.specs.declared.code.Entry.{Entry}
 use Rattle.code_form.specs.declared.code.Layout.{Layout}
 use Rattle.code_form.specs.declared.code.Layout.TheVariants.{Own}
@@ -62,6 +62,9 @@ free c = record { position = c; waits = Nothing }
 abbrev pub asking : Position → Request → Control
 asking c q = record { position = c; waits = Asked q }
 
+abbrev pub refused : Position → Stop → Control
+refused c stop = record { position = c; waits = Refused stop }
+
 -- where an instruction leads once its mark is spent: on, to a request, or to a stop; or it is not known that the cells that it takes are free
 pub data After : Type 0 where
   To : Position → Cells → After
@@ -69,12 +72,13 @@ pub data After : Type 0 where
   Stops : Stop → After
   Unsaid : After
 
--- what an instruction does: it goes on, spends a mark and then does more, stops, ends the command; or what it reads is not known; or it
--- cannot be done
+-- what an instruction does: it goes on, spends a mark and then does more, stops, goes on to where a stop waits, ends the command; or what
+-- it reads is not known; or it cannot be done
 pub data Move : Type 0 where
   Goes : Position → Cells → Move
   Spends : After → Move
   Halts : Stop → Move
+  Refuses : Stop → Position → Move
   Ends : Move
   Unknown : Move
   Stuck : Move
@@ -302,6 +306,7 @@ instruction p None c cells = Stuck
 instruction p (Some Mark) c cells = Spends (To (at c (c.pc + 1) c.ops) cells)
 instruction p (Some (Number z)) c cells = pushes c (Of (item.Int z)) c.ops cells
 instruction p (Some (Truth b)) c cells = pushes c (Of (item.Truth b)) c.ops cells
+instruction p (Some (Text t)) c cells = pushes c (Of (item.Text t)) c.ops cells
 instruction p (Some (Outer k)) c cells = pushes c (At (run_cell k)) c.ops cells
 instruction p (Some (Local k)) c cells = pushes c (At (run_cell (base_of c.frames + k))) c.ops cells
 instruction p (Some (Param k)) c cells = on_word (cells (run_cell (base_of c.frames + k))) (λ n. pushes c (At (place_in n)) c.ops cells)
@@ -311,7 +316,7 @@ instruction p (Some (Do op)) c cells =
     on_values (length (operand_kinds op)) [] c.ops (λ vs ops. or_halt (result_of op vs) (λ v. pushes c (Of v) ops cells))
 instruction p (Some (Modify change)) c cells =
     on_value c.ops (λ v ops.
-    on_place ops (λ a ops. on_number (cells a) (λ z. or_halt (changed change z (number_of v)) (λ x. goes c ops (written cells a (held_of x))))))
+    on_place ops (λ a ops. on_cell (change_kind change) (cells a) (λ w. or_halt (changed change w v) (λ x. puts c a x ops cells))))
 instruction p (Some (Jump a)) c cells = Goes (at c a c.ops) cells
 instruction p (Some (False a)) c cells = on_value c.ops (λ v ops. Goes (at c (cond (truth_of v) (c.pc + 1) a) ops) cells)
 instruction p (Some (When z a)) c cells =
@@ -324,6 +329,7 @@ instruction p (Some (Step way a)) c cells =
     cond (has_reached way limit z) (Goes (at c a ops) cells) (goes c ops (written cells x (held_of (item.Int (next_number way z))))))))
 instruction p (Some (Ask name)) c cells =
     on_values (length (request_kinds name)) [] c.ops (λ vs ops. Spends (Asks (at c (c.pc + 1) ops) (request_of name vs) cells))
+instruction p (Some ErrorStop) c cells = on_value c.ops (λ v ops. Refuses (Own (text_of v)) (at c (c.pc + 1) ops))
 instruction p (Some (Call n)) c cells = call_move c n (slice_get p.bodies n) cells
 instruction p (Some (Refer n)) c cells = refer_move c n (slice_get p.bodies n) cells
 instruction p (Some (Back kind)) c cells = on_result kind c.ops (λ result. back_to p result c.used c.frames cells)
@@ -373,6 +379,7 @@ abbrev pub stage : Move → Position → Scene → Stage
 stage (Goes c' cells) c s = On (free c') (record s { cells = cells })
 stage (Spends a) c s = mark_stage s.marks a c s
 stage (Halts stop) c s = Over (rest_at (halts.Stopped stop) (free c) s)
+stage (Refuses stop c') c s = On (refused c' stop) s
 stage Ends c s = Over (rest_at halts.Ended (free c) s)
 stage Unknown c s = Lost
 stage Stuck c s = Lost
@@ -385,7 +392,7 @@ reply_stage (r ∷ rs) q c s = On (answered q r c) (record s { replies = rs })
 abbrev pub stage_at : Waits → Program → Position → Scene → Stage
 stage_at Nothing p c s = stage (step p c s.cells) c s
 stage_at (Asked q) p c s = reply_stage s.replies q c s
-stage_at (Refused stop) p c s = Over (rest_at (halts.Stopped stop) (record { position = c; waits = Refused stop }) s)
+stage_at (Refused stop) p c s = Over (rest_at (halts.Stopped stop) (refused c stop) s)
 
 abbrev pub advance : Program → Control → Scene → Stage
 advance p c s = stage_at c.waits p c.position s

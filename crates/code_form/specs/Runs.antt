@@ -9,8 +9,8 @@ use Rattle.code_form.specs.declared.waits.Waits.{Waits}
 use Rattle.code_form.specs.declared.waits.Waits.TheVariants.{Nothing, Asked, Refused}
 use Rattle.code_form.specs.declared.code.Line.{Line}
 use Rattle.code_form.specs.Program.{Program, instr_of}
-use Rattle.code_form.specs.Machine.{Position, Control, free, asking, To, Asks, Stops, Move, Goes, Spends, Halts, Ends, Unknown, Unsaid, Stuck, Scene, Rest}
-use Rattle.code_form.specs.Machine.{step, exec, answered}
+use Rattle.code_form.specs.Machine.{Position, Control, free, asking, To, Asks, Stops, Move, Goes, Spends, Halts, Refuses, Ends, Unknown, Unsaid, Stuck, Scene, Rest}
+use Rattle.code_form.specs.Machine.{step, exec, answered, refused}
 use Rattle.code_form.specs.Valid.{IsValid, Fits, is_mark}
 
 -- the machine comes to rest so
@@ -52,6 +52,7 @@ IsSafe p (Spends (Asks c q cells)) = Fits p (asking c q)
 IsSafe p (Spends (Stops s)) = Unit {0}
 IsSafe p (Spends Unsaid) = Unit {0}
 IsSafe p (Halts s) = Unit {0}
+IsSafe p (Refuses s c) = Fits p (refused c s)
 IsSafe p Ends = Unit {0}
 IsSafe p Unknown = Unit {0}
 IsSafe p Stuck = ⊥

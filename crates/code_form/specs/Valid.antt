@@ -4,7 +4,7 @@ use Rattle.eu_base.specs.declared.value.Kind.{Kind}
 use Rattle.eu_base.specs.declared.value.Kind.TheVariants as kinds
 use Rattle.eu_base.specs.Values.{kind_of}
 use Rattle.eu_base.specs.Room.{cells_fit, bytes_fit}
-use Rattle.eu_base.specs.Operations.{operand_kinds, result_kind}
+use Rattle.eu_base.specs.Operations.{operand_kinds, result_kind, change_kind}
 use Rattle.eu_base.specs.Requests.{request_kinds}
 use Rattle.eu_base.specs.Cells.{IsCell}
 use Rattle.code_form.specs.declared.operand.Operand.{Operand}
@@ -12,8 +12,8 @@ use Rattle.code_form.specs.declared.operand.Operand.TheVariants.{Value as Of, Pl
 use Rattle.code_form.specs.declared.operand.OperandKind.{OperandKind}
 use Rattle.code_form.specs.declared.operand.OperandKind.TheVariants.{Value, Place}
 use Rattle.code_form.specs.declared.instr.Instr.{Instr}
-use Rattle.code_form.specs.declared.instr.Instr.TheVariants.{Mark, Number, Truth, Outer, Local, Param, Load, Store, Do, Modify, Jump, False, When, Drop, Limit}
-use Rattle.code_form.specs.declared.instr.Instr.TheVariants.{Unlimit, Step, Ask, Call, Refer, Back, Out, End}
+use Rattle.code_form.specs.declared.instr.Instr.TheVariants.{Mark, Number, Truth, Text, Outer, Local, Param, Load, Store, Do, Modify, Jump, False, When, Drop, Limit}
+use Rattle.code_form.specs.declared.instr.Instr.TheVariants.{Unlimit, Step, Ask, ErrorStop, Call, Refer, Back, Out, End}
 use Rattle.code_form.specs.declared.code.Line.{Line}
 use Rattle.code_form.specs.declared.code.Spot.{Spot}
 use Rattle.code_form.specs.declared.code.Entry.{Entry}
@@ -101,6 +101,7 @@ abbrev pub IsFine : Program → ℕ → Instr → List OperandKind → Spot → 
 IsFine p pc Mark ks m = Next p.lines (pc + 1) ks m
 IsFine p pc (Number z) ks m = Next p.lines (pc + 1) (Value kinds.Int ∷ ks) m
 IsFine p pc (Truth b) ks m = Next p.lines (pc + 1) (Value kinds.Truth ∷ ks) m
+IsFine p pc (Text t) ks m = Next p.lines (pc + 1) (Value kinds.Text ∷ ks) m
 IsFine p pc (Outer x) ks m = (k : Kind) × (slice_get p.variables x ≡ Some k) × Next p.lines (pc + 1) (Place k ∷ ks) m
 IsFine p pc (Local x) ks m = (k : Kind) × (slice_get (frame_cells p m.body) x ≡ Some (Value k)) × Next p.lines (pc + 1) (Place k ∷ ks) m
 IsFine p pc (Param x) ks m = (k : Kind) × (slice_get (frame_cells p m.body) x ≡ Some (Place k)) × Next p.lines (pc + 1) (Place k ∷ ks) m
@@ -108,7 +109,8 @@ IsFine p pc (Load k) ks m = (rest : List OperandKind) × (ks ≡ Place k ∷ res
 IsFine p pc (Store k) ks m = (rest : List OperandKind) × (ks ≡ Value k ∷ Place k ∷ rest) × Next p.lines (pc + 1) rest m
 IsFine p pc (Do op) ks m =
     (rest : List OperandKind) × (ks ≡ pushed_kinds (operand_kinds op) rest) × Next p.lines (pc + 1) (Value (result_kind op) ∷ rest) m
-IsFine p pc (Modify change) ks m = (rest : List OperandKind) × (ks ≡ Value kinds.Int ∷ Place kinds.Int ∷ rest) × Next p.lines (pc + 1) rest m
+IsFine p pc (Modify change) ks m =
+    (rest : List OperandKind) × (ks ≡ Value (change_kind change) ∷ Place (change_kind change) ∷ rest) × Next p.lines (pc + 1) rest m
 IsFine p pc (Jump a) ks m = Lands p.lines pc a ks m
 IsFine p pc (False a) ks m = (rest : List OperandKind) × (ks ≡ Value kinds.Truth ∷ rest) × Next p.lines (pc + 1) rest m × Lands p.lines pc a rest m
 IsFine p pc (When z a) ks m = (rest : List OperandKind) × (ks ≡ Value kinds.Int ∷ rest) × Next p.lines (pc + 1) ks m × Lands p.lines pc a rest m
@@ -119,6 +121,7 @@ IsFine p pc Unlimit ks m = (outer : Spot) × (m ≡ deeper outer) × Next p.line
 IsFine p pc (Step way a) ks m =
     (outer : Spot) × (m ≡ deeper outer) × ((rest : List OperandKind) × (ks ≡ Place kinds.Int ∷ rest) × Next p.lines (pc + 1) rest m × Lands p.lines pc a rest m)
 IsFine p pc (Ask name) ks m = (rest : List OperandKind) × (ks ≡ pushed_kinds (request_kinds name) rest) × Next p.lines (pc + 1) rest m
+IsFine p pc ErrorStop ks m = (rest : List OperandKind) × (ks ≡ Value kinds.Text ∷ rest) × Next p.lines (pc + 1) rest m
 IsFine p pc (Call n) ks m = IsCalled p pc n ks m
 IsFine p pc (Refer n) ks m = IsReferred p pc n ks m
 IsFine p pc (Back result) ks m = IsLeft p result ks m

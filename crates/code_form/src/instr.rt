@@ -1,9 +1,9 @@
 //! Instructions.
 
-use eu_base::{Change, Kind, Operation, RequestName, Way};
+use eu_base::{Bytes, Change, Kind, Operation, RequestName, Way};
 
 /// What one step of the machine does. A jump names the number of the instruction that it goes to.
-#[derive(Clone, Copy, PartialEq, Eq)]
+#[derive(Drop)]
 pub enum Instr {
     /// Spends a mark.
     Mark,
@@ -11,6 +11,8 @@ pub enum Instr {
     Number(i16),
     /// Pushes a truth value.
     Truth(bool),
+    /// Pushes a text. It is listed by its number among the texts of the code.
+    Text(Bytes),
     /// Pushes the place of a variable of the level.
     Outer(usize),
     /// Pushes the place of a cell of the frame, by its number there.
@@ -23,7 +25,7 @@ pub enum Instr {
     Store(Kind),
     /// Takes operands, and pushes the result.
     Do(Operation),
-    /// Takes a number and the place below it, and changes the number there. It is listed as `DO`.
+    /// Takes a value and the place below it, and changes the value there by it. It is listed as `DO`.
     Modify(Change),
     /// Jumps.
     Jump(usize),
@@ -42,6 +44,8 @@ pub enum Instr {
     Step(Way, usize),
     /// Spends a mark, takes operands, and makes a request.
     Ask(RequestName),
+    /// Takes a text, and stops the command with it. It is listed as `DO`.
+    ErrorStop,
     /// Spends a mark, and goes to the PROC with this number, whose parameters it takes, with a new frame.
     Call(usize),
     /// Spends a mark, and goes to the refinement with this number, with a new frame over the same cells.

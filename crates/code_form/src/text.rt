@@ -1,7 +1,7 @@
 //! Code as text.
 ghost use Rattle.std.specs.Prelude.{◌≡◌, ◌++◌, IfOk, OnOk, length, slice_get, codes};
 ghost use Rattle.std.specs.Fmt.{decimal, signed_decimal};
-ghost use Rattle.code_form.specs.Listing.{truth_word, kind_word, way_word, operation_name, text_operation_name, change_name, request_name, first_of, cells_of_frame, instr_text};
+ghost use Rattle.code_form.specs.Listing.{truth_word, kind_word, way_word, operation_name, text_operation_name, change_name, request_name, first_of, cells_of_frame, instr_text, texts_with};
 ghost use Rattle.code_form.specs.Listing.{line_text, listing_text};
 ghost use Rattle.code_form.specs.Program.{cells_of};
 
@@ -16,87 +16,107 @@ pub fn listing(alloc: Global, code: &Code) -> Result<Bytes, NoMemory>
     ensures { IfOk result (λ text. text ≡ listing_text code.now) }
 {
     let mut out = Bytes::new(alloc);
+    let mut texts = 0usize;
     for (number, line) in code.lines().iter().enumerate() {
-        append_line(&mut out, code.bodies(), number, line.instr)?;
+        append_line(&mut out, code.bodies(), texts, number, &line.instr)?;
+        texts = texts_with(texts, &line.instr)?;
     }
     Ok(out)
+}
+
+// How many texts stand up to an instruction.
+fn texts_with(texts: usize, instr: &Instr) -> Result<usize, NoMemory>
+    ensures { IfOk result (λ count. count ≡ texts_with texts instr.now) }
+{
+    match instr {
+        Instr::Text(_) => texts.checked_add(1).ok_or(NoMemory),
+        _ => Ok(texts),
+    }
 }
 
 fn append_line(
     out: &mut Bytes,
     bodies: &[Entry],
+    texts: usize,
     number: usize,
-    instr: Instr,
+    instr: &Instr,
 ) -> Result<(), NoMemory>
-    ensures { OnOk result (out.new ≡ out.old ++ line_text bodies.now number instr) }
+    ensures { OnOk result (out.new ≡ out.old ++ line_text bodies.now texts number instr.now) }
 {
     append_number(out, number)?;
     out.append(b" ")?;
-    append_instr(out, bodies, instr)?;
+    append_instr(out, bodies, texts, instr)?;
     out.append(b"\n")?;
     Ok(())
 }
 
 // An arm an instruction, so it is as long as there are instructions.
-fn append_instr(out: &mut Bytes, bodies: &[Entry], instr: Instr) -> Result<(), NoMemory>
-    ensures { OnOk result (out.new ≡ out.old ++ instr_text bodies.now instr) }
+fn append_instr(
+    out: &mut Bytes,
+    bodies: &[Entry],
+    texts: usize,
+    instr: &Instr,
+) -> Result<(), NoMemory>
+    ensures { OnOk result (out.new ≡ out.old ++ instr_text bodies.now texts instr.now) }
 {
     match instr {
         Instr::Mark => out.append(b"MARK"),
         Instr::Number(value) => {
             out.append(b"INT ")?;
-            append_signed(out, value)
+            append_signed(out, *value)
         }
         Instr::Truth(value) => {
             out.append(b"BOOL ")?;
-            out.append(truth_word(value))
+            out.append(truth_word(*value))
         }
-        Instr::Outer(cell) => append_with(out, b"OUTER ", cell),
-        Instr::Local(cell) => append_with(out, b"LOCAL ", cell),
-        Instr::Param(cell) => append_with(out, b"PARAM ", cell),
+        Instr::Text(_) => append_with(out, b"TEXT ", texts),
+        Instr::Outer(cell) => append_with(out, b"OUTER ", *cell),
+        Instr::Local(cell) => append_with(out, b"LOCAL ", *cell),
+        Instr::Param(cell) => append_with(out, b"PARAM ", *cell),
         Instr::Load(kind) => {
             out.append(b"LOAD ")?;
-            out.append(kind_word(kind))
+            out.append(kind_word(*kind))
         }
         Instr::Store(kind) => {
             out.append(b"STORE ")?;
-            out.append(kind_word(kind))
+            out.append(kind_word(*kind))
         }
         Instr::Do(operation) => {
             out.append(b"DO ")?;
-            out.append(operation_name(operation))
+            out.append(operation_name(*operation))
         }
         Instr::Modify(change) => {
             out.append(b"DO ")?;
-            out.append(change_name(change))
+            out.append(change_name(*change))
         }
-        Instr::Jump(to) => append_with(out, b"JUMP ", to),
-        Instr::False(to) => append_with(out, b"FALSE ", to),
+        Instr::Jump(to) => append_with(out, b"JUMP ", *to),
+        Instr::False(to) => append_with(out, b"FALSE ", *to),
         Instr::When(label, to) => {
             out.append(b"WHEN ")?;
-            append_signed(out, label)?;
-            append_with(out, b" ", to)
+            append_signed(out, *label)?;
+            append_with(out, b" ", *to)
         }
         Instr::Drop => out.append(b"DROP"),
         Instr::Limit(way, to) => {
             out.append(b"LIMIT ")?;
-            out.append(way_word(way))?;
-            append_with(out, b" ", to)
+            out.append(way_word(*way))?;
+            append_with(out, b" ", *to)
         }
         Instr::Unlimit => out.append(b"UNLIMIT"),
         Instr::Step(way, to) => {
-            out.append(way_word(way))?;
-            append_with(out, b" ", to)
+            out.append(way_word(*way))?;
+            append_with(out, b" ", *to)
         }
         Instr::Ask(name) => {
             out.append(b"ASK ")?;
-            out.append(request_name(name))
+            out.append(request_name(*name))
         }
+        Instr::ErrorStop => out.append(b"DO errorstop"),
         Instr::Call(body) => {
-            append_with(out, b"CALL ", first_of(bodies, body))?;
-            append_with(out, b" ", cells_of_frame(bodies, body)?)
+            append_with(out, b"CALL ", first_of(bodies, *body))?;
+            append_with(out, b" ", cells_of_frame(bodies, *body)?)
         }
-        Instr::Refer(body) => append_with(out, b"REFER ", first_of(bodies, body)),
+        Instr::Refer(body) => append_with(out, b"REFER ", first_of(bodies, *body)),
         Instr::Back(_) => out.append(b"BACK"),
         Instr::Out(_) => out.append(b"OUT"),
         Instr::End => out.append(b"END"),
@@ -210,7 +230,6 @@ fn operation_name(operation: Operation) -> &'static [u8]
         Operation::Minimum => b"min",
         Operation::Maximum => b"max",
         Operation::Largest => b"maxint",
-        Operation::EmptyText => b"\"\"",
         Operation::OnTexts(operation) => text_operation_name(operation),
     }
 }
@@ -243,6 +262,7 @@ fn change_name(change: Change) -> &'static [u8]
     match change {
         Change::Increase => b"INCR",
         Change::Decrease => b"DECR",
+        Change::Append => b"CAT",
     }
 }
 
@@ -251,6 +271,9 @@ fn request_name(name: RequestName) -> &'static [u8]
 {
     match name {
         RequestName::PutNumber => b"put(INT)",
+        RequestName::PutText => b"put(TEXT)",
+        RequestName::Write => b"write(TEXT)",
+        RequestName::PutLine => b"putline(TEXT)",
         RequestName::Line => b"line",
     }
 }

@@ -9,6 +9,6 @@ pub enum Waits {
     Nothing,
     /// The reply to a request.
     Asked(Request),
-    /// Nothing any more: what it needed was refused, and it stops.
+    /// Nothing any more: it stops, since what it needed was refused, or since it says so.
     Refused(Stop),
 }

@@ -3,15 +3,15 @@ use Rattle.std.specs.Prelude.{ℕ, zero, suc, ◌+◌, ◌-◌, Bool, true, fals
 use Rattle.std.specs.Prelude.{slice_get, slice_index_or, slice_set, ℤ, pos}
 use Rattle.std.specs.Ordering.{int_eq}
 use Rattle.eu_base.specs.declared.value.Value.{Value}
-use Rattle.eu_base.specs.declared.value.Value.TheVariants.{Int, Truth}
+use Rattle.eu_base.specs.declared.value.Value.TheVariants.{Int, Truth, Text}
 use Rattle.eu_base.specs.declared.stop.Stop.{Stop}
-use Rattle.eu_base.specs.declared.stop.Stop.TheVariants.{CellRoom, OperandRoom, TextRoom}
+use Rattle.eu_base.specs.declared.stop.Stop.TheVariants.{CellRoom, OperandRoom, TextRoom, Own}
 use Rattle.eu_base.specs.declared.request.Request.{Request}
 use Rattle.eu_base.specs.declared.request.Reply.{Reply}
 use Rattle.eu_base.specs.declared.operation.Change.{Change}
 use Rattle.eu_base.specs.declared.operation.Change.TheVariants.{Increase}
 use Rattle.eu_base.specs.declared.operation.Way.{Way}
-use Rattle.eu_base.specs.Values.{number_of, truth_of, blank_of}
+use Rattle.eu_base.specs.Values.{number_of, truth_of, text_of, blank_of}
 use Rattle.eu_base.specs.Room.{value_bytes, value_blocks, place_bytes, cells_fit, bytes_fit, texts_fit}
 use Rattle.eu_base.specs.Operations.{Given, result_of, changed, is_past, has_reached, next_number}
 use Rattle.eu_base.specs.Requests.{request_of}
@@ -243,13 +243,13 @@ turn while' units until step = then_on (while_true while') (then_on (done units)
 abbrev pub go_on : Run Bool
 go_on n w = Gives true w
 
--- INCR and DECR
-abbrev pub modify : {A : Type 0} → Change → Place → ℤ → A → World → Outcome A
-modify change x z a = load x (λ y. or_stop (changed change (number_of y) z) (λ v. save x v (Gives a)))
+-- INCR, DECR and CAT
+abbrev pub modify : {A : Type 0} → Change → Place → Value → A → World → Outcome A
+modify change x v a = load x (λ y. or_stop (changed change y v) (λ z. save x z (Gives a)))
 
 -- the step of a counter without limit: it delivers the place and the number 1
 abbrev pub step : PlacePhrase → Run Bool
-step p n w = bind (place p n w) (λ x w. bind (deliver (Int (pos 1)) (holding_place n) w) (λ v. modify Increase x (number_of v) true))
+step p n w = bind (place p n w) (λ x w. bind (deliver (Int (pos 1)) (holding_place n) w) (λ v. modify Increase x v true))
 
 -- the step of a counter with a limit, at the number z: it ends at the limit, and no number past it is made
 abbrev pub step_from : Place → Way → ℤ → ℤ → World → Outcome Bool
@@ -286,6 +286,7 @@ Layer F = F (Run (Unit {0})) (Run Slot) (Run Value) (Labelled (Run (Unit {0}))) 
 abbrev pub value_step : Layer ValuePhrase-F → Run Value
 value_step (t.Number z) n w = deliver (Int z) n w
 value_step (t.Truth b) n w = deliver (Truth b) n w
+value_step (t.Text x) n w = deliver (Text x) n w
 value_step (t.Load p u) n w = bind (place p n w) (λ x. load x (λ v. deliver v n))
 value_step (t.Apply op as') n w = bind (values as' n w) (λ vs. or_stop (result_of op vs) (λ v. deliver v n))
 value_step (t.ValuePhrase::If c a b) n w = bind (c n w) (λ v. branch (truth_of v) (a n) (b n))
@@ -306,13 +307,14 @@ value_arm_step arm = record { labels = arm.labels; part = arm.value }
 abbrev pub action_step : Layer Action-F → Run (Unit {0})
 action_step (t.Action::Unit us) n w = spend (all us n) w
 action_step (t.Store p u a) n w = stored p a n w
-action_step (t.Modify change p a) n w = bind (place p n w) (λ x w. bind (a (holding_place n) w) (λ v. modify change x (number_of v) tt))
+action_step (t.Modify change p a) n w = bind (place p n w) (λ x w. bind (a (holding_place n) w) (λ v. modify change x v tt))
 action_step (t.Action::If c us vs) n w = bind (c n w) (λ v. branch (truth_of v) (all us n) (all vs n))
 action_step (t.Action::Select a arms us) n w = bind (a n w) (λ v. selected (number_of v) arms (all us) n)
 action_step (t.Loop while' us until) n w = turns n.turns (turn while' (all us) until go_on n) w
 action_step (t.Count p from way limit while' us until) n w =
     bind (stored p from n w) (λ _. counted p way limit (turn while' (all us) until) n)
 action_step (t.Ask name as') n w = bind (values as' n w) (λ vs. ask (request_of name vs) (λ _. Gives tt))
+action_step (t.ErrorStop a) n w = bind (a n w) (λ v. Stopped (Own (text_of v)))
 action_step (t.Action::Call p as') n w = bind (actuals as' n w) (λ xs w. bind (n.calls.call p xs n.held w) (λ _. Gives tt))
 action_step (t.Action::Refer p) n w = bind (n.calls.refer p n.base n.held w) (λ _. Gives tt)
 action_step (t.Leave e) n w = Left e None w

@@ -1,10 +1,11 @@
 -- The types of phrases, and which cores are well typed.
-use Rattle.std.specs.Prelude.{◌≡◌, ℕ, Bool, true, false, ◌&&◌, ◌==◌, List, [], ◌∷◌, ◌++◌, map, Option, Some, None, slice_get}
+use Rattle.std.specs.Prelude.{◌≡◌, ℕ, Bool, true, false, ◌&&◌, ◌==◌, nat_le, List, [], ◌∷◌, ◌++◌, map, length, Option, Some, None, slice_get}
 use Rattle.elan_types.specs.declared.elan_type.ElanType.{ElanType}
 use Rattle.elan_types.specs.declared.elan_type.ElanType.TheVariants as types
 use Rattle.eu_base.specs.declared.value.Kind.{Kind}
 use Rattle.eu_base.specs.declared.value.Kind.TheVariants as kinds
-use Rattle.eu_base.specs.Operations.{operand_kinds, result_kind, in_range}
+use Rattle.eu_base.specs.declared.value.TheConstants.{TEXT_BYTES}
+use Rattle.eu_base.specs.Operations.{operand_kinds, result_kind, change_kind, in_range}
 use Rattle.eu_base.specs.Requests.{request_kinds}
 use Rattle.elan_types.specs.declared.core_phrase.PlacePhrase.{PlacePhrase}
 use Rattle.elan_types.specs.declared.core_phrase.PlacePhrase.TheVariants.{Variable, Local, Parameter}
@@ -221,6 +222,7 @@ module _ (variables : List ElanType) (bodies : List Body) (home : Home) where
   abbrev pub value_type_step : Layer ValuePhrase-F → Typed
   value_type_step (t.Number z) = only_if (in_range z) (Some types.Int)
   value_type_step (t.Truth b) = Some types.Bool
+  value_type_step (t.Text x) = only_if (nat_le (length x) TEXT_BYTES) (Some types.Text)
   value_type_step (t.Load p u) = only_if (has u (place_type p)) (Some u)
   value_type_step (t.Apply op as') = only_if (have (map type_in (operand_kinds op)) as') (Some (type_in (result_kind op)))
   value_type_step (t.ValuePhrase::If c a b) = only_if (has types.Bool c && agree a b) a
@@ -242,7 +244,7 @@ module _ (variables : List ElanType) (bodies : List Body) (home : Home) where
   abbrev pub action_typed_step : Layer Action-F → Bool
   action_typed_step (t.Action::Unit us) = all_true us
   action_typed_step (t.Store p u a) = has u (place_type p) && has u a
-  action_typed_step (t.Modify change p a) = has types.Int (place_type p) && has types.Int a
+  action_typed_step (t.Modify change p a) = has (type_in (change_kind change)) (place_type p) && has (type_in (change_kind change)) a
   action_typed_step (t.Action::If c us vs) = has types.Bool c && (all_true us && all_true vs)
   action_typed_step (t.Action::Select a arms vs) = has types.Int a && (all_true arms && all_true vs)
   action_typed_step (t.Loop c us u) = has_if_written types.Bool c && (all_true us && has_if_written types.Bool u)
@@ -250,6 +252,7 @@ module _ (variables : List ElanType) (bodies : List Body) (home : Home) where
       has types.Int (place_type p)
       && (has types.Int from && (has_if_written types.Int limit && (has_if_written types.Bool c && (all_true us && has_if_written types.Bool u))))
   action_typed_step (t.Ask name as') = have (map type_in (request_kinds name)) as'
+  action_typed_step (t.ErrorStop a) = has types.Text a
   action_typed_step (t.Action::Call p as') = taken_by (scope_of (slice_get bodies p)) as' && is_none (delivered_by (slice_get bodies p))
   action_typed_step (t.Action::Refer p) = refines (owner bodies home) (scope_of (slice_get bodies p)) && is_none (delivered_by (slice_get bodies p))
   action_typed_step (t.Leave e) = leaves_without (left_from bodies e home)

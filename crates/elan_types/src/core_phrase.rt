@@ -2,7 +2,7 @@
 //! making of code go by structure alone.
 
 use crate::elan_type::ElanType;
-use eu_base::{Boxed, Change, List, Operation, RequestName, Way};
+use eu_base::{Boxed, Bytes, Change, List, Operation, RequestName, Way};
 
 /// The meaning of a program.
 #[derive(Drop)]
@@ -82,6 +82,8 @@ pub enum ValuePhrase {
     Number(i16),
     /// A truth value.
     Truth(bool),
+    /// A text, of at most 16,000 bytes.
+    Text(Bytes),
     /// What stands at a place.
     Load(PlacePhrase, ElanType),
     /// The result of an operation, its operands from left to right.
@@ -139,7 +141,7 @@ pub enum Action {
     Unit(List<Action>),
     /// Stores a value at a place.
     Store(PlacePhrase, ElanType, ValuePhrase),
-    /// INCR and DECR.
+    /// INCR, DECR and CAT.
     Modify(Change, PlacePhrase, ValuePhrase),
     /// Condition, and what is done for TRUE and FALSE.
     If(ValuePhrase, List<Action>, List<Action>),
@@ -163,6 +165,8 @@ pub enum Action {
     },
     /// A request, its operands from left to right.
     Ask(RequestName, List<ValuePhrase>),
+    /// `errorstop`: the command stops with this text.
+    ErrorStop(ValuePhrase),
     /// A call of a PROC that delivers nothing, its actuals from left to right.
     Call(usize, List<Actual>),
     /// A refinement that delivers nothing.

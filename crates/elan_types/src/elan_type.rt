@@ -10,7 +10,7 @@ pub enum ElanType {
     Int,
     /// `BOOL`, a truth value.
     Bool,
-    /// `TEXT`, a text. No source names it yet.
+    /// `TEXT`, a list of at most 16,000 bytes.
     Text,
 }
 

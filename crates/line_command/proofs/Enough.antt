@@ -11,8 +11,8 @@ use Rattle.code_form.specs.declared.halt.Halt.TheVariants as halts
 use Rattle.code_form.specs.declared.waits.Waits.{Waits}
 use Rattle.code_form.specs.declared.waits.Waits.TheVariants.{Nothing, Asked, Refused}
 use Rattle.code_form.specs.Program.{Program}
-use Rattle.code_form.specs.Machine.{Position, Control, After, To, Stops, Unsaid, Move, Goes, Spends, Halts, Ends, Unknown, Stuck, Scene, Rest, step, Stage}
-use Rattle.code_form.specs.Machine.{On, Over, Lost}
+use Rattle.code_form.specs.Machine.{Position, Control, After, To, Stops, Unsaid, Move, Goes, Spends, Halts, Refuses, Ends, Unknown, Stuck, Scene, Rest, step}
+use Rattle.code_form.specs.Machine.{Stage, On, Over, Lost}
 use Rattle.code_form.specs.Machine.{after_stage, mark_stage, reply_stage, stage, stage_at, advance, carry_on, exec, start}
 use Rattle.code_form.specs.Machine as machine
 use Rattle.place_gen.specs.Correct.{Shows, Comes, scene_of}
@@ -56,6 +56,7 @@ move_pays (Spends a) c s = by s.marks
         let e : suc n ≡ suc n + 0 = omega arith in
         subst (λ k. Pays k (length s.replies) (after_stage a c (record s { marks = n }))) e (after_pays n a c s)
 move_pays (Halts stop) c s = λ q is. absurd (cc is)
+move_pays (Refuses stop c') c s = omega arith
 move_pays Ends c s = λ q is. absurd (cc is)
 move_pays Unknown c s = tt
 move_pays Stuck c s = tt

@@ -4,8 +4,8 @@ use Rattle.eu_base.specs.declared.request.Reply.{Reply}
 use Rattle.code_form.specs.declared.waits.Waits.{Waits}
 use Rattle.code_form.specs.declared.waits.Waits.TheVariants.{Nothing, Asked, Refused}
 use Rattle.code_form.specs.Program.{Program}
-use Rattle.code_form.specs.Machine.{Position, Control, free, asking, After, To, Asks, Stops, Unsaid, Move, Goes, Spends, Halts, Ends, Unknown, Stuck, Scene}
-use Rattle.code_form.specs.Machine.{Rest}
+use Rattle.code_form.specs.Machine.{Position, Control, free, asking, After, To, Asks, Stops, Unsaid, Move, Goes, Spends, Halts, Refuses, Ends, Unknown, Stuck}
+use Rattle.code_form.specs.Machine.{Scene, Rest}
 use Rattle.code_form.specs.Machine.{step, Stage, On, Over, Lost, after_stage, mark_stage, reply_stage, stage, stage_at, advance, carry_on, exec}
 use Rattle.code_form.specs.Runs.{IsPaused, Rests}
 
@@ -35,6 +35,7 @@ module _ (p : Program) (more : List Reply) where
   move_longer (Goes c' cells) c s = refl
   move_longer (Spends a) c s = mark_longer s.marks a c s
   move_longer (Halts stop) c s = λ paused. absurd paused
+  move_longer (Refuses stop c') c s = refl
   move_longer Ends c s = λ paused. absurd paused
   move_longer Unknown c s = tt
   move_longer Stuck c s = tt

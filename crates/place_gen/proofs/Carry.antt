@@ -24,8 +24,8 @@ use Rattle.code_form.specs.declared.code.Spot.{Spot}
 use Rattle.code_form.specs.declared.code.Entry.{Entry}
 use Rattle.code_form.specs.declared.code.Layout.TheVariants as layouts
 use Rattle.code_form.specs.Program.{Program, line_of, instr_of, owner, frame_cells}
-use Rattle.code_form.specs.Machine.{Frame, Position, free, asking, After as AfterMark, To, Asks as AsksFor, Move, Goes, Spends, Halts, Ends as EndsHere}
-use Rattle.code_form.specs.Machine.{Unknown, takes, at}
+use Rattle.code_form.specs.Machine.{Frame, Position, free, asking, refused, After as AfterMark, To, Asks as AsksFor, Move, Goes, Spends, Halts, Refuses}
+use Rattle.code_form.specs.Machine.{Ends as EndsHere, Unknown, takes, at}
 use Rattle.code_form.specs.Machine.{bytes_on, bytes_of, base_of, back_to, out_to, instruction, step, Scene, Rest, Stage, after_stage, mark_stage, reply_stage}
 use Rattle.code_form.specs.Machine.{stage, carry_on, exec}
 use Rattle.code_form.specs.Valid.{IsRefinement}
@@ -135,6 +135,16 @@ module _ (p : Program) where
 
   pub stop_ends : (L : Uses) (c : Position) (w : World) (s : Stop) → ((cells : Cells) → step p c cells ≡ Halts s) → Ends L c w (endings.Stopped s w)
   stop_ends L c w s h = λ cells keeps. stop_comes L c w s cells keeps (h cells)
+
+  -- what is refused stops in the next step
+  pub refuse_ends : (L : Uses) (c c' : Position) (w : World) (s : Stop) → ((cells : Cells) → step p c cells ≡ Refuses s c')
+      → Ends L c w (endings.Stopped s w)
+  refuse_ends L c c' w s h = λ cells keeps. on_move c (scene_of w cells) (Refuses s c') (endings.Stopped s w) (h cells) (record {
+    steps = 1;
+    rest = record { how = halts.Stopped s; control = refused c' s; scene = scene_of w cells };
+    comes = refl;
+    shows = record { how = refl; marks = refl; replies = refl; cells = image L w.store cells keeps };
+  })
 
   pub end_ends : (L : Uses) (c : Position) (w : World) → ((cells : Cells) → step p c cells ≡ EndsHere) → Ends L c w (endings.Ended w)
   end_ends L c w h = λ cells keeps. on_move c (scene_of w cells) EndsHere (endings.Ended w) (h cells) (record {

@@ -1,29 +1,31 @@
--- What choices, units and stores do, whatever their parts are.
-use Rattle.std.proofs.Common.{◌≡◌, ℕ, suc, ◌+◌, List, [], ◌∷◌, ◌++◌, length, drop, Option, Bool, true, false, cond, ◌||◌, refl, ap, ◌∙◌, subst, arith}
+-- What choices, units and changes do, whatever their parts are.
+use Rattle.std.proofs.Common.{◌≡◌, ℕ, suc, ◌+◌, ◌≤◌, List, [], ◌∷◌, ◌++◌, length, drop, Option, Bool, true, false, cond, ◌||◌, refl, ap, ◌∙◌, subst, arith}
 use Rattle.std.proofs.Common.{length-append}
 use Rattle.std.specs.Prelude.{Ok, Err, ℤ}
 use Rattle.std.specs.Ordering.{int_eq}
+use Rattle.eu_base.specs.declared.address.TheConstants.{CELLS}
+use Rattle.eu_base.specs.declared.value.Kind.{Kind}
 use Rattle.eu_base.specs.declared.value.Kind.TheVariants as kinds
 use Rattle.eu_base.specs.declared.value.Value.{Value}
-use Rattle.eu_base.specs.declared.value.Value.TheVariants as item
+use Rattle.eu_base.specs.declared.stop.Stop.TheVariants.{Own}
 use Rattle.eu_base.specs.declared.operation.Change.{Change}
-use Rattle.eu_base.specs.Values.{IsOf, number_of, truth_of}
-use Rattle.eu_base.specs.Operations.{Given, changed}
+use Rattle.eu_base.specs.Values.{IsOf, number_of, truth_of, text_of}
+use Rattle.eu_base.specs.Operations.{Given, change_kind, changed}
 use Rattle.eu_base.specs.Requests.{request_kinds, request_of}
 use Rattle.eu_base.specs.declared.request.RequestName.{RequestName}
-use Rattle.eu_base.specs.Cells.{Cells, held_of, run_cell, written}
+use Rattle.eu_base.specs.Cells.{Cells, run_cell}
 use Rattle.code_form.specs.declared.operand.Operand.{Operand}
 use Rattle.code_form.specs.declared.operand.Operand.TheVariants.{Value as Of}
 use Rattle.code_form.specs.declared.operand.OperandKind.{OperandKind}
 use Rattle.code_form.specs.declared.operand.OperandKind.TheVariants as operand
-use Rattle.code_form.specs.declared.instr.Instr.TheVariants.{Mark, Modify, Jump, False, When, Drop, Ask}
+use Rattle.code_form.specs.declared.instr.Instr.TheVariants.{Mark, Modify, Jump, False, When, Drop, Ask, ErrorStop}
 use Rattle.code_form.specs.declared.code.Spot.{Spot}
 use Rattle.code_form.specs.Program.{Program, line_of}
-use Rattle.code_form.specs.Machine.{Position, free, Asks, Goes, Spends, at, or_halt, step}
+use Rattle.code_form.specs.Machine.{Position, free, Asks, Goes, Spends, at, or_halt, puts, step}
 use Rattle.elan_types.specs.declared.core_phrase.Exit.{Exit}
 use Rattle.elan_types.specs.declared.core_phrase.PlacePhrase.{PlacePhrase}
-use Rattle.elan_types.specs.Eval.{Place, World, Outcome, Gives, bind, spend, ask, branch, or_stop, fetch, assign, save, modify, place, holding_place, Calls}
-use Rattle.elan_types.specs.Eval.{Run}
+use Rattle.elan_types.specs.Eval.{Place, World, Outcome, Gives, Stopped, bind, spend, ask, branch, or_stop, fetch, assign, save, modify, place}
+use Rattle.elan_types.specs.Eval.{holding_place, Calls, Run}
 use Rattle.elan_types.specs.Eval.{holds, values}
 use Rattle.elan_types.specs.Command.{Ending}
 use Rattle.place_gen.specs.Stretch.{Stretch, one, keeps, join, if_code, whens, arm_code, place_code, modify_code}
@@ -32,8 +34,8 @@ use Rattle.place_gen.proofs.Lines.{HasAt, has_front, has_rest, join_sized}
 use Rattle.place_gen.proofs.Homes.{HasPlace}
 use Rattle.place_gen.proofs.Cells.{Uses, Keeps, reads}
 use Rattle.eu_base.proofs.Results.{changed_gives}
-use Rattle.place_gen.proofs.Carry.{finish, Any, AtKind, reach, Ends, Carries, Within, less, stop_comes, then_carries, lead_carries, carries_lead, write_ends}
-use Rattle.place_gen.proofs.Carry.{branch_carries, mark_carries, ask_carries, none_carries, here, ends_at, join_carries}
+use Rattle.place_gen.proofs.Carry.{finish, Any, AtKind, reach, Ends, Carries, Within, less, stop_comes, refuse_ends, then_carries, lead_carries, carries_lead}
+use Rattle.place_gen.proofs.Carry.{put_ends, branch_carries, mark_carries, ask_carries, none_carries, here, ends_at, join_carries}
 use Rattle.place_gen.proofs.Forms.{keep_place, pushed, AllOf, all_taken, Is, IsValue, IsAction, place_is}
 
 module _ (p : Program) (body : Option ℕ) where
@@ -163,49 +165,66 @@ module _ (p : Program) (body : Option ℕ) where
         (λ b' lt. i.goes calls n b' (pc + 1) L ks m c ops home (less p le (omega arith)) has.1));
   }
 
-  -- INCR and DECR, at the instruction
-  modified : {A : Type 0} {L : Uses} (g : Given) (x : Place) (a : A) (c c' : Position) (w : World) (cells : Cells) (k : A → World → Ending)
-      (l : Exit → Option Value → World → Ending) → AtKind kinds.Int L x → ((v : Value) → g ≡ Ok v → IsOf kinds.Int v) → Keeps L w.store cells
-      → step p c cells ≡ or_halt g (λ v. Goes c' (written cells (run_cell x.variable) (held_of v)))
-      → ((v : Value) → Ends p L c' (assign x v w) (k a (assign x v w)))
+  -- a change, at the instruction
+  modified : {A : Type 0} {L : Uses} (g : Given) (kind : Kind) (x : Place) (a : A) (c : Position) (ops : List Operand) (w : World) (cells : Cells)
+      (k : A → World → Ending) (l : Exit → Option Value → World → Ending) → length L ≤ CELLS → AtKind kind L x
+      → ((v : Value) → g ≡ Ok v → IsOf kind v) → Keeps L w.store cells → step p c cells ≡ or_halt g (λ v. puts c (run_cell x.variable) v ops cells)
+      → ((v : Value) → Ends p L (at c (c.pc + 1) ops) (assign x v w) (k a (assign x v w)))
       → Comes p (free c) (scene_of w cells) (finish (or_stop g (λ v. save x v (Gives a)) w) k l)
-  modified {A} {L} (Ok (item.Int z)) x a c c' w cells k l is gives kept e hk =
-      write_ends p c c' w x kinds.Int (item.Int z) _ cells is (gives (item.Int z) refl) kept e (hk (item.Int z))
-  modified {A} {L} (Ok (item.Truth b)) x a c c' w cells k l is gives kept e hk = absurd (gives (item.Truth b) refl)
-  modified {A} {L} (Ok (item.Text t)) x a c c' w cells k l is gives kept e hk = absurd (gives (item.Text t) refl)
-  modified {A} {L} (Err s) x a c c' w cells k l is gives kept e hk = stop_comes p L c w s cells kept e
+  modified {A} {L} (Ok v) kind x a c ops w cells k l room is gives kept e hk =
+      put_ends p c (at c (c.pc + 1) ops) w x kind v (Gives a) k l cells room is (gives v refl) kept e (hk v)
+  modified {A} {L} (Err s) kind x a c ops w cells k l room is gives kept e hk = stop_comes p L c w s cells kept e
 
-  -- INCR and DECR where number and place are on top
+  -- INCR, DECR and CAT where value and place are on top
   pub modify_carries : {A : Type 0} {L : Uses} (change : Change) (x : Place) (v : Value) (a : A) (b q : ℕ) (ks : List OperandKind) (m : Spot) (c : Position)
-      (ops : List Operand) (to : A → Position) → to a ≡ at c (q + 1) ops → AtKind kinds.Int L x → HasAt p.lines q ((one (Modify change) (drop 2)).lines ks m q)
-      → Carries p L m.body c.frames Any b (at c q (Of v ∷ keep_place x ops)) (modify change x (number_of v) a) to
-  modify_carries {A} {L} change x v a b q ks m c ops to to_is is has = record {
+      (ops : List Operand) (to : A → Position) → to a ≡ at c (q + 1) ops → length L ≤ CELLS → AtKind (change_kind change) L x
+      → HasAt p.lines q ((one (Modify change) (drop 2)).lines ks m q)
+      → Carries p L m.body c.frames Any b (at c q (Of v ∷ keep_place x ops)) (modify change x v a) to
+  modify_carries {A} {L} change x v a b q ks m c ops to to_is room is has = record {
     by = λ k l hk hl w le cells keeps.
         let now = at c q (Of v ∷ keep_place x ops) in
-        let next = at c (q + 1) ops in
-        let go = λ (y : Value). or_halt (changed change (number_of y) (number_of v)) (λ y. Goes next (written cells (run_cell x.variable) (held_of y))) in
-        let r = reads L w.store cells x.variable kinds.Int go keeps is in
-        modified (changed change (number_of (fetch x w)) (number_of v)) x a now next w cells k l is (λ y e. changed_gives change _ _ y e) keeps
+        let go = λ (y : Value). or_halt (changed change y v) (λ z. puts now (run_cell x.variable) z ops cells) in
+        let r = reads L w.store cells x.variable (change_kind change) go keeps is in
+        modified (changed change (fetch x w) v) (change_kind change) x a now ops w cells k l room is (λ z e. changed_gives change _ _ z e) keeps
         (here p q (Modify change) ks m has.0 c (Of v ∷ keep_place x ops) cells ∙ r.1)
-        (λ y. subst (λ d. Ends p L d (assign x y w) (k a (assign x y w))) to_is (hk a (assign x y w) tt le));
+        (λ z. subst (λ d. Ends p L d (assign x z w) (k a (assign x z w))) to_is (hk a (assign x z w) tt le));
   }
 
-  pub modify_is : {t : Run Value} {f : Stretch} (change : Change) (q : PlacePhrase) → HasPlace p body q kinds.Int → IsValue p body kinds.Int t f
-      → IsAction p body (λ r w. bind (place q r w) (λ x w. bind (t (holding_place r) w) (λ v. modify change x (number_of v) tt))) (modify_code q change f)
+  pub modify_is : {t : Run Value} {f : Stretch} (change : Change) (q : PlacePhrase) → HasPlace p body q (change_kind change)
+      → IsValue p body (change_kind change) t f
+      → IsAction p body (λ r w. bind (place q r w) (λ x w. bind (t (holding_place r) w) (λ v. modify change x v tt))) (modify_code q change f)
   modify_is {t} {f} change q is i =
+      let kind = change_kind change in
       let g = one (Modify change) (drop 2) in
-      let j = place_is p body q kinds.Int is in record {
-        sized = join_sized (place_code q kinds.Int) (join f g) j.sized (join_sized f g i.sized (λ ks m pc. refl));
+      let j = place_is p body q kind is in record {
+        sized = join_sized (place_code q kind) (join f g) j.sized (join_sized f g i.sized (λ ks m pc. refl));
         goes =
             λ calls n b pc L ks m c ops home le has.
-            join_carries p (place_code q kinds.Int) (join f g) b pc ks m c ops (place q (reach calls n c ops))
-            (λ x w. bind (t (holding_place (reach calls n c ops)) w) (λ v. modify change x (number_of v) (tt {0}))) (λ x. keep_place x ops) (λ _. ops)
+            join_carries p (place_code q kind) (join f g) b pc ks m c ops (place q (reach calls n c ops))
+            (λ x w. bind (t (holding_place (reach calls n c ops)) w) (λ v. modify change x v (tt {0}))) (λ x. keep_place x ops) (λ _. ops)
             j.sized has (λ h. j.goes calls n b pc L ks m c ops home le h) (λ h x at_x.
-            join_carries p f g b (pc + 1) (operand.Place kinds.Int ∷ ks) m c (keep_place x ops) (t (reach calls n c (keep_place x ops)))
-            (λ v. modify change x (number_of v) (tt {0})) (λ v. Of v ∷ keep_place x ops) (λ _. ops) i.sized h
-            (λ h. i.goes calls n b (pc + 1) L (operand.Place kinds.Int ∷ ks) m c (keep_place x ops) home le h) (λ h v ok.
-            modify_carries change x v (tt {0}) b (pc + 1 + f.size) (f.leaves (operand.Place kinds.Int ∷ ks)) m c ops (λ _. at c (pc + 1 + f.size + 1) ops) refl
-            at_x h));
+            join_carries p f g b (pc + 1) (operand.Place kind ∷ ks) m c (keep_place x ops) (t (reach calls n c (keep_place x ops)))
+            (λ v. modify change x v (tt {0})) (λ v. Of v ∷ keep_place x ops) (λ _. ops) i.sized h
+            (λ h. i.goes calls n b (pc + 1) L (operand.Place kind ∷ ks) m c (keep_place x ops) home le h) (λ h v ok.
+            modify_carries change x v (tt {0}) b (pc + 1 + f.size) (f.leaves (operand.Place kind ∷ ks)) m c ops (λ _. at c (pc + 1 + f.size + 1) ops) refl
+            le.stands.room at_x h));
+      }
+
+  -- a stop with a text
+  pub error_stop_is : {t : Run Value} {f : Stretch} → IsValue p body kinds.Text t f
+      → IsAction p body (λ r w. bind (t r w) (λ v. Stopped (Own (text_of v)))) (join f (one ErrorStop (drop 1)))
+  error_stop_is {t} {f} i =
+      let g = one ErrorStop (drop 1) in record {
+        sized = join_sized f g i.sized (λ ks m pc. refl);
+        goes =
+            λ calls n b pc L ks m c ops home le has.
+            join_carries p f g b pc ks m c ops (t (reach calls n c ops)) (λ v. Stopped (Own (text_of v))) (λ v. Of v ∷ ops) (λ _. ops) i.sized has
+            (λ h. i.goes calls n b pc L ks m c ops home le h) (λ h v ok.
+            let q = pc + f.size in record {
+              by =
+                  λ k l hk hl w le. refuse_ends p L (at c q (Of v ∷ ops)) (at c (q + 1) ops) w (Own (text_of v))
+                  (λ cells. here p q ErrorStop (f.leaves ks) m h.0 c (Of v ∷ ops) cells);
+            });
       }
 
   -- a request takes its operands, and brings nothing back

@@ -15,7 +15,7 @@ use Rattle.code_form.specs.declared.operand.Operand.TheVariants.{Value as Of, Pl
 use Rattle.code_form.specs.declared.operand.OperandKind.{OperandKind}
 use Rattle.code_form.specs.declared.operand.OperandKind.TheVariants as operand
 use Rattle.code_form.specs.declared.instr.Instr.{Instr}
-use Rattle.code_form.specs.declared.instr.Instr.TheVariants.{Number, Truth, Outer, Local, Param, Load, Store, Do}
+use Rattle.code_form.specs.declared.instr.Instr.TheVariants.{Number, Truth, Text, Outer, Local, Param, Load, Store, Do}
 use Rattle.code_form.specs.declared.code.Spot.{Spot}
 use Rattle.code_form.specs.Program.{Program, frame_cells}
 use Rattle.code_form.specs.Machine.{Position, Move, at, pushes as push_move, or_halt, on_values, base_of, bytes_on, bytes_of, instruction}
@@ -133,6 +133,9 @@ module _ (p : Program) (body : Option ℕ) where
 
   pub truth_is : (t : Bool) → IsValue kinds.Truth (deliver (item.Truth t)) (one (Truth t) (pushes (operand.Value kinds.Truth)))
   truth_is t = deliver_is (Truth t) kinds.Truth (item.Truth t) tt (λ c cells. refl)
+
+  pub text_is : (t : List ℕ) → IsOf kinds.Text (item.Text t) → IsValue kinds.Text (deliver (item.Text t)) (one (Text t) (pushes (operand.Value kinds.Text)))
+  text_is t ok = deliver_is (Text t) kinds.Text (item.Text t) ok (λ c cells. refl)
 
   in_frame : (m : Spot) (c : Position) (L : Uses) (x : ℕ) (k : OperandKind) → m.body ≡ body → Stands p L m c → slice_get (frame_cells p body) x ≡ Some k
       → slice_get L (base_of c.frames + x) ≡ Some (use_of k)

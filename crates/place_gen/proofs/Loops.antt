@@ -198,12 +198,13 @@ module _ (p : Program) (body : Option ℕ) where
             let to = λ (on : Bool). cond on (at c (pc + 1 + 1 + 1) ops) (at c end ops) in
             exits_at b c (pc + 1 + 1 + 1) (pc + (1 + (1 + 1))) ops end (step_on q r) (at c pc ops) (omega arith)
             (then_carries p b (at c pc ops) (place q r) (λ x. at c (pc + 1) (keep_place x ops))
-            (λ x w. bind (deliver (item.Int (pos 1)) (holding_place r) w) (λ v. modify Increase x (number_of v) true)) to
+            (λ x w. bind (deliver (item.Int (pos 1)) (holding_place r) w) (λ v. modify Increase x v true)) to
             (j.goes calls n b pc U ks m c ops home le (has.0, tt)) (λ x at_x.
             then_carries p b (at c (pc + 1) (keep_place x ops)) (deliver (item.Int (pos 1)) (holding_place r))
-            (λ v. at c (pc + 1 + 1) (Of v ∷ keep_place x ops)) (λ v. modify Increase x (number_of v) true) to
+            (λ v. at c (pc + 1 + 1) (Of v ∷ keep_place x ops)) (λ v. modify Increase x v true) to
             (i.goes calls n b (pc + 1) U (operand.Place kinds.Int ∷ ks) m c (keep_place x ops) home le (has.1.0, tt)) (λ v ok.
-            modify_carries p body Increase x v true b (pc + 1 + 1) (operand.Value kinds.Int ∷ operand.Place kinds.Int ∷ ks) m c ops to refl at_x has.1.1)));
+            modify_carries p body Increase x v true b (pc + 1 + 1) (operand.Value kinds.Int ∷ operand.Place kinds.Int ∷ ks) m c ops to refl
+            le.stands.room at_x has.1.1)));
       }
 
   -- the last cell in use keeps this limit

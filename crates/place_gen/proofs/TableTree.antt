@@ -4,7 +4,7 @@ use Rattle.std.specs.Prelude.{option_map}
 use Rattle.eu_base.specs.declared.value.Kind.{Kind}
 use Rattle.eu_base.specs.declared.value.Kind.TheVariants as kinds
 use Rattle.eu_base.specs.declared.operation.Way.{Way}
-use Rattle.eu_base.specs.Operations.{operand_kinds, result_kind}
+use Rattle.eu_base.specs.Operations.{operand_kinds, result_kind, change_kind}
 use Rattle.eu_base.specs.Requests.{request_kinds}
 use Rattle.code_form.specs.declared.operand.OperandKind.{OperandKind}
 use Rattle.code_form.specs.declared.operand.OperandKind.TheVariants.{Value as OfKind}
@@ -38,12 +38,12 @@ use Rattle.place_gen.specs.Stretch.{Stretch, Exit, none, one, place_code, keeps,
 use Rattle.place_gen.specs.Stretch.{turns_code, store_code, counted_code, action_code, actual_code, value_code, content_code, action_code_step}
 use Rattle.place_gen.specs.Stretch.{actual_code_step, value_code_step, arm_code_step, value_arm_code_step, arm_code_of, value_arm_code}
 use Rattle.place_gen.specs.Layouts.{taken_as, parameter_kind}
-use Rattle.place_gen.proofs.Homes.{Delivers, Agrees, IsHome, agree_is, kind_type, place_is, proc_is, part_is, left_is, only_if_is, both, same_is, has_is}
-use Rattle.place_gen.proofs.Homes.{access_is, without_is, with_is, none_is}
+use Rattle.place_gen.proofs.Homes.{Delivers, HasPlace, Agrees, IsHome, agree_is, kind_type, place_is, proc_is, part_is, left_is, only_if_is, both, same_is}
+use Rattle.place_gen.proofs.Homes.{has_is, access_is, without_is, with_is, none_is}
 use Rattle.place_gen.proofs.Lines.{HasAt, IsSized, join_sized}
 use Rattle.place_gen.proofs.Tables.{Each, ends_good, leave_fine, Table, ValueTable, ActionTable, above, none_table, join_table, mark_table, number_table}
-use Rattle.place_gen.proofs.Tables.{truth_table, place_table, load_table, store_table, modify_table, apply_table, ask_table, call_table}
-use Rattle.place_gen.proofs.Tables.{refer_table, leave_table, leave_with_table}
+use Rattle.place_gen.proofs.Tables.{truth_table, text_table, place_table, load_table, store_table, modify_table, apply_table, ask_table, error_stop_table}
+use Rattle.place_gen.proofs.Tables.{call_table, refer_table, leave_table, leave_with_table}
 use Rattle.place_gen.proofs.LoopTables.{if_table, otherwise_table, arm_table, ExitTable, stays_table, while_table, until_table, step_table, AtLeastOne}
 use Rattle.place_gen.proofs.LoopTables.{step_to_table, turn_table, loop_table, counted_none_table, counted_some_table}
 
@@ -230,6 +230,7 @@ module _ (p : Program) (variables : List ElanType) (bodies : List Body) (agrees 
       (map-ValuePhrase _ _ _ _ _ _ _ _ _ _ fst fst fst fst fst y)))
   value_parts (t.Number z) u e = let f = only_if_is _ _ u e in of_type types.Int u f.1 (number_table p home z)
   value_parts (t.Truth b) u e = of_type types.Bool u e (truth_table p home b)
+  value_parts (t.Text x) u e = let f = only_if_is _ _ u e in of_type types.Text u f.1 (text_table p home x)
   value_parts (t.Load q v) u e =
       let f = only_if_is _ _ u e in
       of_type v u f.1 (load_table p home q (kind_in v) (place_is p variables bodies agrees home is_home q v (has_is v _ f.0)))
@@ -299,8 +300,9 @@ module _ (p : Program) (variables : List ElanType) (bodies : List Body) (agrees 
       store_table p home q (kind_in u) (place_is p variables bodies agrees home is_home q u (has_is u _ f.0)) (a.1 u (has_is u _ f.1))
   action_parts (t.Modify change q a) e =
       let f = both _ _ e in
-      modify_table p home change q (place_is p variables bodies agrees home is_home q types.Int (has_is types.Int _ f.0))
-      (a.1 types.Int (has_is types.Int _ f.1))
+      let k = change_kind change in
+      let place = place_is p variables bodies agrees home is_home q (type_in k) (has_is (type_in k) _ f.0) in
+      modify_table p home change q (subst (HasPlace p home q) (kind_type k) place) (of_kind (kind_type k) (a.1 (type_in k) (has_is (type_in k) _ f.1)))
   action_parts (t.Action::If c us vs) e =
       let f = both _ _ e in
       let g = both _ _ f.1 in
@@ -322,6 +324,7 @@ module _ (p : Program) (variables : List ElanType) (bodies : List Body) (agrees 
   action_parts (t.Count q from way (Some a) (Some w) us None) e = counts_is q from way (Some a) (Some w) us None e
   action_parts (t.Count q from way (Some a) (Some w) us (Some u)) e = counts_is q from way (Some a) (Some w) us (Some u) e
   action_parts (t.Ask name es) e = ask_table p home name (values_are (request_kinds name) es e)
+  action_parts (t.ErrorStop a) e = error_stop_table p home (a.1 types.Text (has_is types.Text _ e))
   action_parts (t.Action::Call q as') e =
       let g = both _ _ e in
       let i = proc_is p variables bodies agrees q _ None g.0 (none_is _ g.1) in

@@ -5,13 +5,13 @@ use Rattle.eu_base.specs.declared.value.Kind.{Kind}
 use Rattle.eu_base.specs.declared.value.Kind.TheVariants as kinds
 use Rattle.eu_base.specs.declared.operation.Operation.{Operation}
 use Rattle.eu_base.specs.declared.operation.Change.{Change}
-use Rattle.eu_base.specs.Operations.{operand_kinds, result_kind}
+use Rattle.eu_base.specs.Operations.{operand_kinds, result_kind, change_kind}
 use Rattle.eu_base.specs.Requests.{request_kinds}
 use Rattle.eu_base.specs.declared.request.RequestName.{RequestName}
 use Rattle.code_form.specs.declared.operand.OperandKind.{OperandKind}
 use Rattle.code_form.specs.declared.operand.OperandKind.TheVariants.{Value as OfKind, Place as AtKind}
 use Rattle.code_form.specs.declared.instr.Instr.{Instr}
-use Rattle.code_form.specs.declared.instr.Instr.TheVariants.{Mark, Number, Truth, Load, Store, Do, Modify, Ask, Call, Refer, Back, Out}
+use Rattle.code_form.specs.declared.instr.Instr.TheVariants.{Mark, Number, Truth, Text, Load, Store, Do, Modify, Ask, ErrorStop, Call, Refer, Back, Out}
 use Rattle.code_form.specs.declared.code.Line.{Line}
 use Rattle.code_form.specs.declared.code.Spot.{Spot}
 use Rattle.code_form.specs.declared.code.Entry.{Entry}
@@ -127,6 +127,9 @@ module _ (p : Program) (body : Option ℕ) where
   pub truth_table : (b : Bool) → ValueTable kinds.Truth (one (Truth b) (pushes (OfKind kinds.Truth)))
   truth_table b = one_table (Truth b) _ keeps _ (λ ks. refl) (λ pc ks m home n. n)
 
+  pub text_table : (t : List ℕ) → ValueTable kinds.Text (one (Text t) (pushes (OfKind kinds.Text)))
+  text_table t = one_table (Text t) _ keeps _ (λ ks. refl) (λ pc ks m home n. n)
+
   pub place_fine : (q : PlacePhrase) (k : Kind) → HasPlace p body q k → (pc : ℕ) (ks : List OperandKind) (m : Spot) → m.body ≡ body
       → Next p.lines (pc + 1) (AtKind k ∷ ks) m → IsFine p pc (place_instr q) ks m
   place_fine (places.Variable x) k is pc ks m home n = (k, is, n)
@@ -147,12 +150,16 @@ module _ (p : Program) (body : Option ℕ) where
       (join_table (above (pushes (AtKind k)) i)
       (one_table (Store k) (drop 2) (λ ks. OfKind k ∷ AtKind k ∷ ks) keeps (λ ks. refl) (λ pc ks m home n. (ks, refl, n))))
 
-  pub modify_table : {f : Stretch} (change : Change) (q : PlacePhrase) → HasPlace p body q kinds.Int → ValueTable kinds.Int f
+  pub modify_table : {f : Stretch} (change : Change) (q : PlacePhrase) → HasPlace p body q (change_kind change) → ValueTable (change_kind change) f
       → ActionTable (modify_code q change f)
   modify_table change q is i =
-      join_table (place_table q kinds.Int is)
-      (join_table (above (pushes (AtKind kinds.Int)) i)
-      (one_table (Modify change) (drop 2) (λ ks. OfKind kinds.Int ∷ AtKind kinds.Int ∷ ks) keeps (λ ks. refl) (λ pc ks m home n. (ks, refl, n))))
+      let k = change_kind change in
+      join_table (place_table q k is)
+      (join_table (above (pushes (AtKind k)) i)
+      (one_table (Modify change) (drop 2) (λ ks. OfKind k ∷ AtKind k ∷ ks) keeps (λ ks. refl) (λ pc ks m home n. (ks, refl, n))))
+
+  pub error_stop_table : {f : Stretch} → ValueTable kinds.Text f → ActionTable (join f (one ErrorStop (drop 1)))
+  error_stop_table i = join_table i (one_table ErrorStop (drop 1) (pushes (OfKind kinds.Text)) keeps (λ ks. refl) (λ pc ks m home n. (ks, refl, n)))
 
   pub apply_table : {f : Stretch} (op : Operation) → Table keeps (pushed_kinds (operand_kinds op)) f
       → ValueTable (result_kind op) (join f (one (Do op) (λ ks. OfKind (result_kind op) ∷ drop (length (operand_kinds op)) ks)))

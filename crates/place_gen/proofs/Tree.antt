@@ -1,5 +1,5 @@
 -- The code of a well typed phrase does what the phrase does. One induction over the phrases, so it stands in one file.
-use Rattle.std.proofs.Common.{◌≡◌, List, [], ◌∷◌, map, Option, Some, None, Bool, true, ◌&&◌, refl, sym, ap, ◌∙◌, subst}
+use Rattle.std.proofs.Common.{◌≡◌, List, [], ◌∷◌, map, length, Option, Some, None, Bool, true, ◌&&◌, refl, sym, ap, ◌∙◌, subst}
 use Rattle.std.specs.Prelude.{ℤ, option_map}
 use Rattle.eu_base.specs.declared.value.Kind.{Kind}
 use Rattle.eu_base.specs.declared.value.Kind.TheVariants as kinds
@@ -7,7 +7,9 @@ use Rattle.eu_base.specs.declared.value.Value.{Value}
 use Rattle.eu_base.specs.declared.operation.Way.{Way}
 use Rattle.std.specs.Int.{w16}
 use Rattle.std.specs.Int.RustNames.{FitsSigned}
-use Rattle.eu_base.specs.Operations.{operand_kinds, result_kind}
+use Rattle.std.proofs.lemmas.Bool.{leb-true}
+use Rattle.eu_base.specs.declared.value.TheConstants.{TEXT_BYTES}
+use Rattle.eu_base.specs.Operations.{operand_kinds, result_kind, change_kind}
 use Rattle.eu_base.specs.Requests.{request_kinds}
 use Rattle.eu_base.proofs.Results.{fits_in_range}
 use Rattle.code_form.specs.declared.operand.Operand.{Operand}
@@ -39,15 +41,15 @@ use Rattle.place_gen.specs.Stretch.{value_arm_code_step, arm_code_of, value_arm_
 use Rattle.place_gen.specs.Layouts.{parameter_kind}
 use Rattle.place_gen.proofs.Cells.{Uses}
 use Rattle.place_gen.proofs.Carry.{Any, OfKind}
-use Rattle.place_gen.proofs.Forms.{Is, IsValue, IsAction, AllOf, pushed, keep, no_more, nothing_is, then_is, number_is, truth_is, place_is, load_is, store_is}
-use Rattle.place_gen.proofs.Forms.{no_values_are, more_values_are, apply_is}
-use Rattle.place_gen.proofs.Choices.{if_is, IsChoice, otherwise_is, arm_is, select_is, unit_is, modify_is, ask_is}
+use Rattle.place_gen.proofs.Forms.{Is, IsValue, IsAction, AllOf, pushed, keep, no_more, nothing_is, then_is, number_is, truth_is, text_is, place_is, load_is}
+use Rattle.place_gen.proofs.Forms.{store_is, no_values_are, more_values_are, apply_is}
+use Rattle.place_gen.proofs.Choices.{if_is, IsChoice, otherwise_is, arm_is, select_is, unit_is, modify_is, ask_is, error_stop_is}
 use Rattle.place_gen.proofs.Calls.{IsActual, AreActuals, value_actual, place_actual, no_actuals_are, more_actuals_are, call_value_is, call_action_is}
 use Rattle.place_gen.proofs.Calls.{refer_value_is, refer_action_is, leave_is, leave_with_is}
 use Rattle.place_gen.proofs.Loops.{IsExit, Under, while_none, while_some, until_none, until_some, go_on_is, turn_is, loop_is, step_is, step_to_is}
 use Rattle.place_gen.proofs.Limits.{counted_none_is, counted_some_is}
 use Rattle.place_gen.proofs.Homes.{Agrees, IsHome, place_is as has_place, proc_is, part_is, left_is, only_if_is, both, has_is, agree_is, kind_type, takes_is}
-use Rattle.place_gen.proofs.Homes.{without_is, with_is, none_is}
+use Rattle.place_gen.proofs.Homes.{HasPlace, without_is, with_is, none_is}
 
 abbrev fst : {A : Type 0} {B : A → Type 0} → (a : A) × B a → A
 fst x = x.0
@@ -255,6 +257,7 @@ module _ (p : Program) (variables : List ElanType) (bodies : List Body) (agrees 
       (value_code_step (map-ValuePhrase _ _ _ _ _ _ _ _ _ _ action_code actual_code value_code arm_code_of value_arm_code (bare_value y)))
   value_parts (t.Number z) u e = let f = only_if_is _ _ u e in of_type types.Int u f.1 (number_is p home z (fits_in_range z f.0))
   value_parts (t.Truth b) u e = of_type types.Bool u e (truth_is p home b)
+  value_parts (t.Text x) u e = let f = only_if_is _ _ u e in of_type types.Text u f.1 (text_is p home x (leb-true (length x) TEXT_BYTES f.0))
   value_parts (t.Load q v) u e =
       let f = only_if_is _ _ u e in
       of_type v u f.1 (load_is p home q (kind_in v) (has_place p variables bodies agrees home is_home q v (has_is v _ f.0)))
@@ -323,7 +326,9 @@ module _ (p : Program) (variables : List ElanType) (bodies : List Body) (agrees 
       store_is p home q (kind_in u) (has_place p variables bodies agrees home is_home q u (has_is u _ f.0)) (a.1 u (has_is u _ f.1))
   action_parts (t.Modify change q a) e =
       let f = both _ _ e in
-      modify_is p home change q (has_place p variables bodies agrees home is_home q types.Int (has_is types.Int _ f.0)) (a.1 types.Int (has_is types.Int _ f.1))
+      let k = change_kind change in
+      let place = has_place p variables bodies agrees home is_home q (type_in k) (has_is (type_in k) _ f.0) in
+      modify_is p home change q (subst (HasPlace p home q) (kind_type k) place) (of_kind (kind_type k) (a.1 (type_in k) (has_is (type_in k) _ f.1)))
   action_parts (t.Action::If c us vs) e =
       let f = both _ _ e in
       let g = both _ _ f.1 in
@@ -345,6 +350,7 @@ module _ (p : Program) (variables : List ElanType) (bodies : List Body) (agrees 
   action_parts (t.Count q from way (Some a) (Some w) us None) e = counts_is q from way (Some a) (Some w) us None e
   action_parts (t.Count q from way (Some a) (Some w) us (Some u)) e = counts_is q from way (Some a) (Some w) us (Some u) e
   action_parts (t.Ask name es) e = ask_is p home (map value (map fst es)) name (values_are (request_kinds name) es e)
+  action_parts (t.ErrorStop a) e = error_stop_is p home (a.1 types.Text (has_is types.Text _ e))
   action_parts (t.Action::Call q as') e =
       let g = both _ _ e in
       let x = proc_is p variables bodies agrees q _ None g.0 (none_is _ g.1) in

@@ -1,10 +1,8 @@
 -- The code of a counter's step, of a counted loop, and of what leads into other bodies and out of them.
-use Rattle.std.specs.Prelude.{◌+◌, ◌∷◌, [], map, drop, option_map, None, Some, pos}
+use Rattle.std.specs.Prelude.{map, drop, option_map, Option, None, Some}
 use Rattle.eu_base.specs.declared.value.Kind.TheVariants as kinds
-use Rattle.eu_base.specs.declared.operation.Change.TheVariants.{Increase}
-use Rattle.code_form.specs.declared.operand.OperandKind.TheVariants as operand
-use Rattle.code_form.specs.declared.instr.Instr.TheVariants as instrs
-use Rattle.code_form.specs.Program.{line_of}
+use Rattle.eu_base.specs.declared.operation.Way.{Way}
+use Rattle.elan_types.specs.declared.core_phrase.PlacePhrase.{PlacePhrase}
 use Rattle.elan_types.specs.declared.core_phrase.Actual.{Actual}
 use Rattle.elan_types.specs.declared.core_phrase.ValuePhrase.{ValuePhrase}
 use Rattle.elan_types.specs.declared.core_phrase.Arm.{Arm}
@@ -13,24 +11,47 @@ use Rattle.elan_types.specs.declared.core_phrase.Action.{Action, out-Action}
 use Rattle.elan_types.specs.declared.core_phrase.Action.TheOpen as t
 use Rattle.elan_types.specs.declared.core_phrase.Action.TheOpen.{Action-F}
 use Rattle.elan_types.specs.Typing.{kind_in}
-use Rattle.place_gen.specs.declared.put.Step.{Step}
-use Rattle.place_gen.specs.declared.put.Step.TheVariants as steps
-use Rattle.place_gen.specs.Stretch.{Stretch, none, one, keeps, pushes, join, all_code, Exit, stays, turn_code, store_code, counted_code, call_code, refer_code}
-use Rattle.place_gen.specs.Stretch.{leave_instr, value_code, action_code, actual_code}
+use Rattle.place_gen.specs.Stretch.{Stretch, none, one, keeps, join, all_code, Exit, stays, step_code, step_to_code, turn_code, turns_code, store_code}
+use Rattle.place_gen.specs.Stretch.{counted_code, call_code, refer_code, leave_instr, value_code, action_code, actual_code}
 
--- the counter's place is pushed by the instruction that a step knows
-abbrev pub step_exit : Step → Exit
-step_exit steps.None = stays none
-step_exit (steps.Free place) =
-    stays (join (one place (pushes (operand.Place kinds.Int)))
-    (join (one (instrs.Number (pos 1)) (pushes (operand.Value kinds.Int))) (one (instrs.Modify Increase) (drop 2))))
-step_exit (steps.To place way) = record {
-  size = 1 + 1;
-  lines = λ end ks m at. line_of place ks m ∷ (line_of (instrs.Step way end) (operand.Place kinds.Int ∷ ks) m ∷ []);
-}
+abbrev pub Layer : Type 0
+Layer = Action-F Action Actual ValuePhrase Arm ValueArm
+
+-- the step of a counter, with a limit or without one
+abbrev pub counter_code : PlacePhrase → Way → Option ValuePhrase → Exit
+counter_code p way None = step_code p
+counter_code p way (Some limit) = step_to_code p way
+
+-- the step of a loop's counter; nothing where there is none
+abbrev pub step_step : Layer → Exit
+step_step (t.Count p from way limit w us u) = counter_code p way limit
+step_step _ = stays none
+
+abbrev pub step_of : Action → Exit
+step_of a = step_step (out-Action a)
+
+-- a turn of a loop, with its step; nothing for another action
+abbrev pub turn_step : Layer → Exit
+turn_step (t.Loop w us u) = turn_code (option_map value_code w) (all_code (map action_code us)) (option_map value_code u) (stays none)
+turn_step (t.Count p from way limit w us u) =
+    turn_code (option_map value_code w) (all_code (map action_code us)) (option_map value_code u) (counter_code p way limit)
+turn_step _ = stays none
+
+abbrev pub turn_of : Action → Exit
+turn_of a = turn_step (out-Action a)
+
+-- the turns of a loop; nothing for another action
+abbrev pub loop_step : Layer → Stretch
+loop_step (t.Loop w us u) = turns_code (turn_code (option_map value_code w) (all_code (map action_code us)) (option_map value_code u) (stays none))
+loop_step (t.Count p from way limit w us u) =
+    turns_code (turn_code (option_map value_code w) (all_code (map action_code us)) (option_map value_code u) (counter_code p way limit))
+loop_step _ = none
+
+abbrev pub loop_code : Action → Stretch
+loop_code a = loop_step (out-Action a)
 
 -- a counted loop; nothing for another action
-abbrev pub count_step : Action-F Action Actual ValuePhrase Arm ValueArm → Stretch
+abbrev pub count_step : Layer → Stretch
 count_step (t.Count p from way limit w us u) =
     join (store_code p kinds.Int (value_code from))
     (counted_code p way (option_map value_code limit) (turn_code (option_map value_code w) (all_code (map action_code us)) (option_map value_code u)))
@@ -40,7 +61,7 @@ abbrev pub count_code : Action → Stretch
 count_code a = count_step (out-Action a)
 
 -- calls, references and LEAVE; nothing for another action
-abbrev pub transfer_step : Action-F Action Actual ValuePhrase Arm ValueArm → Stretch
+abbrev pub transfer_step : Layer → Stretch
 transfer_step (t.Action::Call n as') = call_code n None (map actual_code as')
 transfer_step (t.Action::Refer n) = refer_code n None
 transfer_step (t.Leave e) = one (leave_instr e None) keeps

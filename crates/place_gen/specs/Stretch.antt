@@ -1,17 +1,17 @@
 -- The instructions of a phrase.
-use Rattle.std.specs.Prelude.{ℕ, ◌+◌, List, [], ◌∷◌, ◌++◌, map, length, drop, option_map, Option, Some, None, ℤ, pos}
+use Rattle.std.specs.Prelude.{ℕ, ◌+◌, List, [], ◌∷◌, ◌++◌, map, length, drop, Option, Some, None, ℤ, pos}
 use Rattle.eu_base.specs.declared.value.Kind.{Kind}
 use Rattle.eu_base.specs.declared.value.Kind.TheVariants as kinds
 use Rattle.eu_base.specs.declared.operation.Change.{Change}
 use Rattle.eu_base.specs.declared.operation.Change.TheVariants.{Increase}
 use Rattle.eu_base.specs.declared.operation.Way.{Way}
-use Rattle.eu_base.specs.Operations.{operand_kinds, result_kind}
+use Rattle.eu_base.specs.Operations.{operand_kinds, result_kind, change_kind}
 use Rattle.eu_base.specs.Requests.{request_kinds}
 use Rattle.code_form.specs.declared.operand.OperandKind.{OperandKind}
 use Rattle.code_form.specs.declared.operand.OperandKind.TheVariants.{Value, Place}
 use Rattle.code_form.specs.declared.instr.Instr.{Instr}
-use Rattle.code_form.specs.declared.instr.Instr.TheVariants.{Mark, Number, Truth, Outer, Local, Param, Load, Store, Do, Modify, Jump, False, When, Drop, Limit}
-use Rattle.code_form.specs.declared.instr.Instr.TheVariants.{Unlimit, Step, Ask, Call, Refer, Back, Out}
+use Rattle.code_form.specs.declared.instr.Instr.TheVariants.{Mark, Number, Truth, Text, Outer, Local, Param, Load, Store, Do, Modify, Jump, False, When, Drop}
+use Rattle.code_form.specs.declared.instr.Instr.TheVariants.{Limit, Unlimit, Step, Ask, ErrorStop, Call, Refer, Back, Out}
 use Rattle.code_form.specs.declared.code.Line.{Line}
 use Rattle.code_form.specs.declared.code.Spot.{Spot}
 use Rattle.code_form.specs.Program.{line_of, deeper}
@@ -163,7 +163,7 @@ abbrev pub store_code : PlacePhrase → Kind → Stretch → Stretch
 store_code x k f = join (place_code x k) (join f (one (Store k) (drop 2)))
 
 abbrev pub modify_code : PlacePhrase → Change → Stretch → Stretch
-modify_code x change f = join (place_code x kinds.Int) (join f (one (Modify change) (drop 2)))
+modify_code x change f = join (place_code x (change_kind change)) (join f (one (Modify change) (drop 2)))
 
 abbrev pub counted_code : PlacePhrase → Way → Option Stretch → (Exit → Exit) → Stretch
 counted_code x way None turn = turns_code (turn (step_code x))
@@ -188,6 +188,7 @@ Layer F = F Stretch Stretch Stretch (Labelled Stretch) (Labelled Stretch)
 abbrev pub value_code_step : Layer ValuePhrase-F → Stretch
 value_code_step (t.Number z) = one (Number z) (pushes (Value kinds.Int))
 value_code_step (t.Truth b) = one (Truth b) (pushes (Value kinds.Truth))
+value_code_step (t.Text x) = one (Text x) (pushes (Value kinds.Text))
 value_code_step (t.Load p u) = join (place_code p (kind_in u)) (one (Load (kind_in u)) (λ ks. Value (kind_in u) ∷ drop 1 ks))
 value_code_step (t.Apply op as') = join (all_code as') (one (Do op) (λ ks. Value (result_kind op) ∷ drop (length (operand_kinds op)) ks))
 value_code_step (t.ValuePhrase::If c a b) = if_code c a b
@@ -214,6 +215,7 @@ action_code_step (t.Loop while' us until) = turns_code (turn_code while' (all_co
 action_code_step (t.Count p from way limit while' us until) =
     join (store_code p kinds.Int from) (counted_code p way limit (turn_code while' (all_code us) until))
 action_code_step (t.Ask name as') = join (all_code as') (one (Ask name) (drop (length (request_kinds name))))
+action_code_step (t.ErrorStop a) = join a (one ErrorStop (drop 1))
 action_code_step (t.Action::Call n as') = call_code n None as'
 action_code_step (t.Action::Refer n) = refer_code n None
 action_code_step (t.Leave e) = one (leave_instr e None) keeps
@@ -260,25 +262,6 @@ arms_length (arm ∷ arms) = length arm.labels + (arm.part.size + 2) + arms_leng
 -- a test for each label
 abbrev pub whens_code : List ℤ → ℕ → Stretch
 whens_code zs a = record { size = length zs; leaves = keeps; lines = λ ks m at. whens zs a ks m }
-
--- the turns of a loop with such a step; nothing for another action
-abbrev pub loop_step : Action-F Action Actual ValuePhrase Arm ValueArm → Exit → Stretch
-loop_step (t.Loop w us u) step = turns_code (turn_code (option_map value_code w) (all_code (map action_code us)) (option_map value_code u) step)
-loop_step (t.Count p from way limit w us u) step =
-    turns_code (turn_code (option_map value_code w) (all_code (map action_code us)) (option_map value_code u) step)
-loop_step _ step = none
-
-abbrev pub loop_code : Action → Exit → Stretch
-loop_code a = loop_step (out-Action a)
-
--- a turn of a loop with such a step; nothing for another action
-abbrev pub turn_step : Action-F Action Actual ValuePhrase Arm ValueArm → Exit → Exit
-turn_step (t.Loop w us u) step = turn_code (option_map value_code w) (all_code (map action_code us)) (option_map value_code u) step
-turn_step (t.Count p from way limit w us u) step = turn_code (option_map value_code w) (all_code (map action_code us)) (option_map value_code u) step
-turn_step _ step = stays none
-
-abbrev pub turn_of : Action → Exit → Exit
-turn_of a = turn_step (out-Action a)
 
 -- the parts of a SELECT; nothing for another phrase
 abbrev pub value_parts_step : ValuePhrase-F Action Actual ValuePhrase Arm ValueArm → Stretch

@@ -2,8 +2,7 @@
 ghost use Rattle.std.specs.Prelude.{◌≡◌, ◌+◌, map, option_map};
 ghost use Rattle.place_gen.specs.Counted.{counted};
 ghost use Rattle.place_gen.specs.Stretch.{all_code, while_code, until_code, value_code, action_code, actual_code, value_arm_code, arm_code_of, arms_length};
-ghost use Rattle.place_gen.specs.Stretch.{Exit, loop_code};
-ghost use Rattle.place_gen.specs.Steps.{count_code};
+ghost use Rattle.place_gen.specs.Steps.{count_code, step_of, loop_code};
 
 use elan_types::{Action, Actual, Arm, ValueArm, ValuePhrase};
 
@@ -23,6 +22,7 @@ pub fn count_value(v: &ValuePhrase) -> usize
     match v {
         ValuePhrase::Number(_) => 1,
         ValuePhrase::Truth(_) => 1,
+        ValuePhrase::Text(_) => 1,
         ValuePhrase::Load(_, _) => 2,
         ValuePhrase::Apply(_, operands) => count_values(operands.as_slice()).saturating_add(1),
         ValuePhrase::If(c, a, b) => count_if(
@@ -116,6 +116,7 @@ fn count_action(action: &Action) -> usize
         ),
         Action::Count { .. } => count_stepped(action),
         Action::Ask(_, operands) => count_values(operands.as_slice()).saturating_add(1),
+        Action::ErrorStop(text) => count_value(text).saturating_add(1),
         Action::Call(_, actuals) => count_actuals(actuals.as_slice()).saturating_add(1),
         Action::Refer(_) => 1,
         Action::Leave(_) => 1,
@@ -224,9 +225,20 @@ fn count_arm(count: usize, labels: usize, part: usize) -> usize
         .saturating_add(2)
 }
 
-/// Of the turns of a loop whose step has so many; nothing for another action.
-pub fn count_loop(action: &Action, step: usize) -> usize
-    ensures { (exit : Exit) → exit.size ≡ step → result ≡ counted (loop_code action.now exit).size }
+// Of the step of a loop's counter; nothing where there is no counter.
+fn count_step(action: &Action) -> usize
+    ensures { result ≡ (step_of action.now).size }
+{
+    match action {
+        Action::Count { limit: None, .. } => 3,
+        Action::Count { limit: Some(_), .. } => 2,
+        _ => 0,
+    }
+}
+
+/// Of the turns of a loop; nothing for another action.
+pub fn count_loop(action: &Action) -> usize
+    ensures { result ≡ counted (loop_code action.now).size }
 {
     match action {
         Action::Loop {
@@ -243,7 +255,7 @@ pub fn count_loop(action: &Action, step: usize) -> usize
             count_while(condition),
             count_actions(units.as_slice()),
             count_until(until),
-            step,
+            count_step(action),
         ),
         _ => 0,
     }

@@ -1,5 +1,5 @@
 //! Code that is being made.
-ghost use Rattle.std.specs.Prelude.{◌≡◌, ◌+◌, [], false, ℕ, length, IfOk, OnOk};
+ghost use Rattle.std.specs.Prelude.{◌≡◌, ◌+◌, [], ◌∷◌, ◌++◌, false, ℕ, length, IfOk, OnOk};
 ghost use Rattle.code_form.specs.Program.{at_level, deeper};
 ghost use Rattle.place_gen.specs.Counted.{counted};
 ghost use Rattle.place_gen.specs.Stretch.{one};
@@ -67,32 +67,38 @@ impl Draft {
     }
 
     /// The same, where want of memory is kept in the draft.
+    // There is no exit before the instruction is in its line, so no caller has to let one go.
     pub fn add(&mut self, instr: Instr, taken: usize, pushed: Option<OperandKind>)
         ensures { Makes (one instr (left taken pushed)) self.old self.new }
     {
-        match self.try_add(instr, taken, pushed) {
+        let operands = self.kept();
+        self.add_line(Line {
+            instr,
+            operands,
+            spot: self.spot,
+        });
+        self.leave(taken, pushed);
+    }
+
+    // Adds a line. What is pending stays.
+    fn add_line(&mut self, line: Line)
+        ensures { self.new.wanted ≡ false → (self.old.wanted ≡ false) × (self.new.lines ≡ self.old.lines ++ line ∷ []) × (self.new.pending ≡ self.old.pending) ×
+            (self.new.spot ≡ self.old.spot) }
+    {
+        match self.lines.push(line) {
             Ok(()) => {}
             Err(NoMemory) => self.wanted = true,
         }
     }
 
-    fn try_add(
-        &mut self,
-        instr: Instr,
-        taken: usize,
-        pushed: Option<OperandKind>,
-    ) -> Result<(), NoMemory>
-        ensures adds { OnOk result (Adds (one instr (left taken pushed)) self.old self.new) }
-        ensures wanted { self.new.wanted ≡ self.old.wanted }
+    // So many operands are taken, and this one is pushed.
+    fn leave(&mut self, taken: usize, pushed: Option<OperandKind>)
+        ensures { ComesBack (left taken pushed self.old.pending) self.old self.new }
     {
-        let operands = List::from_slice(self.alloc, self.pending.as_slice())?;
-        self.lines.push(Line {
-            instr,
-            operands,
-            spot: self.spot,
-        })?;
-        self.pending = left(self.alloc, taken, pushed, self.pending.as_slice())?;
-        Ok(())
+        match left(self.alloc, taken, pushed, self.pending.as_slice()) {
+            Ok(kinds) => self.pending = kinds,
+            Err(NoMemory) => self.wanted = true,
+        }
     }
 
     /// Whether memory sufficed for all that was made.

@@ -1,24 +1,21 @@
 //! The instructions of phrases. Want of memory is kept in the draft and told at the end. The functions call each other in one
 //! cycle, so they stand in one file.
-ghost use Rattle.std.specs.Prelude.{◌≡◌, OnOk, map, drop, option_map};
-ghost use Rattle.code_form.specs.declared.operand.OperandKind.TheVariants as operand;
-ghost use Rattle.code_form.specs.declared.instr.Instr.TheVariants as instrs;
-ghost use Rattle.place_gen.specs.Stretch.{one, pushes, join, all_code, while_code, until_code, limit_code, call_code, value_code, action_code, actual_code};
-ghost use Rattle.place_gen.specs.Stretch.{content_code, value_arm_code, arm_code_of, loop_code, turn_of, value_parts, action_parts};
+ghost use Rattle.std.specs.Prelude.{◌≡◌, OnOk, map, option_map};
+ghost use Rattle.place_gen.specs.Stretch.{store_code, all_code, while_code, until_code, limit_code, call_code, value_code, action_code, actual_code};
+ghost use Rattle.place_gen.specs.Stretch.{content_code, value_arm_code, arm_code_of, value_parts, action_parts};
 ghost use Rattle.place_gen.specs.Adds.{Adds};
 ghost use Rattle.place_gen.specs.Makes.{Makes, MakesExit, MakesArm};
-ghost use Rattle.place_gen.specs.Steps.{step_exit, count_code, transfer_code};
-ghost use Rattle.place_gen.specs.declared.put.Step.TheVariants as steps;
+ghost use Rattle.place_gen.specs.Steps.{loop_code, turn_of, count_code, transfer_code};
 
 use crate::count::{count_actions, count_arms, count_loop, count_value, count_value_arms};
 use crate::draft::Draft;
 use crate::put::{
-    Step, kind_in, leave_instr, place_instr, put_call, put_else, put_jump, put_load, put_number,
-    put_operation, put_place, put_refer, put_request, put_step, put_test, put_truth, put_whens,
-    step_size, without_first,
+    kind_in, leave_instr, put_call, put_else, put_jump, put_load, put_number, put_operation,
+    put_place, put_refer, put_request, put_step, put_test, put_text, put_truth, put_whens,
+    without_first,
 };
 use code_form::{Instr, OperandKind};
-use elan_types::{Action, Actual, Arm, Content, ValueArm, ValuePhrase};
+use elan_types::{Action, Actual, Arm, Content, PlacePhrase, ValueArm, ValuePhrase};
 use eu_base::{Kind, NoMemory, Way};
 
 /// Adds the code of what a body does, and the instruction that leaves it.
@@ -60,7 +57,8 @@ fn add_value(out: &mut Draft, phrase: &ValuePhrase)
     match phrase {
         ValuePhrase::Number(number) => put_number(out, *number),
         ValuePhrase::Truth(truth) => put_truth(out, *truth),
-        ValuePhrase::Load(place, of) => put_load(out, place_instr(place), kind_in(*of)),
+        ValuePhrase::Text(text) => put_text(out, text),
+        ValuePhrase::Load(place, of) => put_load(out, place, kind_in(*of)),
         ValuePhrase::Apply(operation, operands) => {
             add_values(out, operands.as_slice());
             put_operation(out, *operation);
@@ -116,7 +114,7 @@ fn add_actual(out: &mut Draft, actual: &Actual)
 {
     match actual {
         Actual::Value(value) => add_value(out, value),
-        Actual::Place(place, of) => put_place(out, place_instr(place), kind_in(*of)),
+        Actual::Place(place, of) => put_place(out, place, kind_in(*of)),
     }
 }
 
@@ -180,9 +178,9 @@ fn add_action(out: &mut Draft, action: &Action)
             out.add(Instr::Mark, 0, None);
             add_actions(out, units.as_slice());
         }
-        Action::Store(place, of, value) => add_store(out, place_instr(place), kind_in(*of), value),
+        Action::Store(place, of, value) => add_store(out, place, kind_in(*of), value),
         Action::Modify(change, place, value) => {
-            put_place(out, place_instr(place), Kind::Int);
+            put_place(out, place, change.kind());
             add_value(out, value);
             out.add(Instr::Modify(*change), 2, None);
         }
@@ -202,7 +200,11 @@ fn add_action(out: &mut Draft, action: &Action)
             add_values(out, operands.as_slice());
             put_request(out, *name);
         }
-        Action::Loop { .. } => add_turns(out, action, Step::None),
+        Action::ErrorStop(text) => {
+            add_value(out, text);
+            out.add(Instr::ErrorStop, 1, None);
+        }
+        Action::Loop { .. } => add_turns(out, action),
         Action::Count { .. } => add_count(out, action),
         Action::Call(_, _) | Action::Refer(_) | Action::Leave(_) | Action::LeaveWith(_, _, _) => {
             add_transfer(out, action)
@@ -242,22 +244,21 @@ fn add_count(out: &mut Draft, action: &Action)
     else {
         return;
     };
-    let place = place_instr(counter);
-    add_store(out, place, Kind::Int, from);
+    add_store(out, counter, Kind::Int, from);
     match limit {
-        None => add_turns(out, action, Step::Free(place)),
+        None => add_turns(out, action),
         Some(limit) => {
-            put_place(out, place, Kind::Int);
+            put_place(out, counter, Kind::Int);
             add_value(out, limit);
-            add_limited(out, action, *way, place);
+            add_limited(out, action, *way);
         }
     }
 }
 
-// A value is stored at a place, which this instruction pushes.
+// A value is stored at a place.
 #[cycle(emit)]
-fn add_store(out: &mut Draft, place: Instr, kind: Kind, value: &ValuePhrase)
-    ensures { Makes (join (one place (pushes (operand.Place kind))) (join (value_code value.now) (one (instrs.Store kind) (drop 2)))) out.old out.new }
+fn add_store(out: &mut Draft, place: &PlacePhrase, kind: Kind, value: &ValuePhrase)
+    ensures { Makes (store_code place.now kind (value_code value.now)) out.old out.new }
 {
     put_place(out, place, kind);
     add_value(out, value);
@@ -324,15 +325,15 @@ fn add_until(out: &mut Draft, test: &Option<ValuePhrase>, end: usize)
 
 // The turns of a loop; nothing for another action.
 #[cycle(emit)]
-fn add_turns(out: &mut Draft, action: &Action, step: Step)
-    ensures { Makes (loop_code action.now (step_exit step)) out.old out.new }
+fn add_turns(out: &mut Draft, action: &Action)
+    ensures { Makes (loop_code action.now) out.old out.new }
 {
     match action {
         Action::Loop { .. } | Action::Count { .. } => {
             let top = out.lines.len();
-            let end = out.ahead(count_loop(action, step_size(step)));
+            let end = out.ahead(count_loop(action));
             out.add(Instr::Mark, 0, None);
-            add_turn(out, action, step, end);
+            add_turn(out, action, end);
             out.add(Instr::Jump(top), 0, None);
         }
         _ => {}
@@ -341,8 +342,8 @@ fn add_turns(out: &mut Draft, action: &Action, step: Step)
 
 // A turn of a loop, which ends there; nothing for another action.
 #[cycle(emit)]
-fn add_turn(out: &mut Draft, action: &Action, step: Step, end: usize)
-    ensures { MakesExit (turn_of action.now (step_exit step)) end out.old out.new }
+fn add_turn(out: &mut Draft, action: &Action, end: usize)
+    ensures { MakesExit (turn_of action.now) end out.old out.new }
 {
     match action {
         Action::Loop {
@@ -361,7 +362,7 @@ fn add_turn(out: &mut Draft, action: &Action, step: Step, end: usize)
             add_actions(out, units.as_slice());
             out.restore(below.as_slice());
             add_until(out, until, end);
-            put_step(out, step, end);
+            put_step(out, action, end);
         }
         _ => {}
     }
@@ -369,14 +370,14 @@ fn add_turn(out: &mut Draft, action: &Action, step: Step, end: usize)
 
 // The turns of a loop under a limit, which is on top, with the counter's place below it.
 #[cycle(emit)]
-fn add_limited(out: &mut Draft, action: &Action, way: Way, place: Instr)
-    ensures { Makes (limit_code way (loop_code action.now (step_exit (steps.To place way)))) out.old out.new }
+fn add_limited(out: &mut Draft, action: &Action, way: Way)
+    ensures { Makes (limit_code way (loop_code action.now)) out.old out.new }
 {
-    let end = out.ahead(count_loop(action, 2).saturating_add(1));
+    let end = out.ahead(count_loop(action).saturating_add(1));
     out.add(Instr::Limit(way, end), 2, None);
     let outer = out.spot;
     out.deepen();
-    add_turns(out, action, Step::To(place, way));
+    add_turns(out, action);
     out.add(Instr::Unlimit, 0, None);
     out.spot = outer;
 }

@@ -7,26 +7,15 @@ ghost use Rattle.code_form.specs.declared.operand.OperandKind.TheVariants as ope
 ghost use Rattle.code_form.specs.declared.instr.Instr.TheVariants as instrs;
 ghost use Rattle.code_form.specs.Valid.{with_result};
 ghost use Rattle.elan_types.specs.Typing.{kind_in};
-ghost use Rattle.place_gen.specs.Stretch.{one, keeps, pushes, join, whens_code, place_instr, leave_instr, refer_code};
+ghost use Rattle.place_gen.specs.Stretch.{one, keeps, pushes, join, whens_code, place_instr, place_code, leave_instr, refer_code};
 ghost use Rattle.place_gen.specs.Counted.{counted};
 ghost use Rattle.place_gen.specs.Makes.{Makes, MakesExit, MakesTurn};
-ghost use Rattle.place_gen.specs.Steps.{step_exit};
+ghost use Rattle.place_gen.specs.Steps.{step_of};
 
 use crate::draft::Draft;
 use code_form::{Instr, OperandKind};
-use elan_types::{ElanType, Exit, PlacePhrase};
-use eu_base::{Change, Kind, Operation, RequestName, Way};
-
-/// How the counter of a loop is stepped, whose place an instruction pushes.
-#[derive(Clone, Copy)]
-pub enum Step {
-    /// There is no counter.
-    None,
-    /// Without limit.
-    Free(Instr),
-    /// To the innermost limit.
-    To(Instr, Way),
-}
+use elan_types::{Action, ElanType, Exit, PlacePhrase};
+use eu_base::{Bytes, Change, Kind, NoMemory, Operation, RequestName};
 
 /// The kind of the values of a type.
 pub fn kind_in(of: ElanType) -> Kind
@@ -39,8 +28,7 @@ pub fn kind_in(of: ElanType) -> Kind
     }
 }
 
-/// The instruction that pushes a place.
-pub fn place_instr(place: &PlacePhrase) -> Instr
+fn place_instr(place: &PlacePhrase) -> Instr
     ensures { result ≡ place_instr place.now }
 {
     match place {
@@ -92,11 +80,11 @@ pub fn put_else(out: &mut Draft, below: &[OperandKind], over: usize)
     out.restore(below);
 }
 
-/// A place of values of a kind, by the instruction that pushes it.
-pub fn put_place(out: &mut Draft, place: Instr, kind: Kind)
-    ensures { Makes (one place (pushes (operand.Place kind))) out.old out.new }
+/// A place of values of a kind.
+pub fn put_place(out: &mut Draft, place: &PlacePhrase, kind: Kind)
+    ensures { Makes (place_code place.now kind) out.old out.new }
 {
-    out.add(place, 0, Some(OperandKind::Place(kind)));
+    out.add(place_instr(place), 0, Some(OperandKind::Place(kind)));
 }
 
 /// A number.
@@ -121,9 +109,19 @@ pub fn put_truth(out: &mut Draft, truth: bool)
     );
 }
 
-/// The value at a place, which this instruction pushes.
-pub fn put_load(out: &mut Draft, place: Instr, kind: Kind)
-    ensures { Makes (join (one place (pushes (operand.Place kind))) (one (instrs.Load kind) (λ ks. operand.Value kind ∷ drop 1 ks))) out.old out.new }
+/// A text, in a copy.
+pub fn put_text(out: &mut Draft, text: &Bytes)
+    ensures { Makes (one (instrs.Text text.now) (pushes (operand.Value kinds.Text))) out.old out.new }
+{
+    match Bytes::from(out.alloc, text.as_slice()) {
+        Ok(text) => out.add(Instr::Text(text), 0, Some(OperandKind::Value(Kind::Text))),
+        Err(NoMemory) => out.wanted = true,
+    }
+}
+
+/// The value at a place.
+pub fn put_load(out: &mut Draft, place: &PlacePhrase, kind: Kind)
+    ensures { Makes (join (place_code place.now kind) (one (instrs.Load kind) (λ ks. operand.Value kind ∷ drop 1 ks))) out.old out.new }
 {
     put_place(out, place, kind);
     out.add(Instr::Load(kind), 1, Some(OperandKind::Value(kind)));
@@ -176,21 +174,30 @@ pub fn put_whens(out: &mut Draft, labels: &[i16], to: usize)
     }
 }
 
-/// The step of a loop's counter, and the way out of the loop behind its last turn.
-pub fn put_step(out: &mut Draft, step: Step, end: usize)
-    ensures { MakesExit (step_exit step) end out.old out.new }
+/// The step of a loop's counter, and the way out of the loop behind its last turn; nothing where there is no counter.
+pub fn put_step(out: &mut Draft, action: &Action, end: usize)
+    ensures { MakesExit (step_of action.now) end out.old out.new }
 {
-    match step {
-        Step::None => {}
-        Step::Free(place) => {
-            put_place(out, place, Kind::Int);
+    match action {
+        Action::Count {
+            counter,
+            limit: None,
+            ..
+        } => {
+            put_place(out, counter, Kind::Int);
             put_number(out, 1);
             out.add(Instr::Modify(Change::Increase), 2, None);
         }
-        Step::To(place, way) => {
-            put_place(out, place, Kind::Int);
-            out.add(Instr::Step(way, end), 1, None);
+        Action::Count {
+            counter,
+            way,
+            limit: Some(_),
+            ..
+        } => {
+            put_place(out, counter, Kind::Int);
+            out.add(Instr::Step(*way, end), 1, None);
         }
+        _ => {}
     }
 }
 
@@ -199,15 +206,4 @@ pub fn without_first(kinds: &[OperandKind]) -> &[OperandKind]
     ensures { result.now ≡ drop 1 kinds.now }
 {
     &kinds[kinds.len().min(1)..]
-}
-
-/// How many instructions a step has.
-pub fn step_size(step: Step) -> usize
-    ensures { result ≡ (step_exit step).size }
-{
-    match step {
-        Step::None => 0,
-        Step::Free(_) => 3,
-        Step::To(_, _) => 2,
-    }
 }

@@ -6,7 +6,7 @@ use Rattle.eu_base.specs.declared.set.Set.{Set}
 use Rattle.eu_base.specs.declared.set.Set.TheVariants.{Done, HeapFull}
 use Rattle.eu_base.specs.declared.value.Kind.{Kind}
 use Rattle.eu_base.specs.Values.{blank_of}
-use Rattle.eu_base.specs.Cells.{Cell, Free, Cells, held_of, run_cell, written, freed, blocks_in, AreBare}
+use Rattle.eu_base.specs.Cells.{Cell, Free, Cells, held_of, run_cell, freed, blocks_in, AreBare}
 use Rattle.code_form.specs.declared.operand.Operand.{Operand}
 use Rattle.code_form.specs.Machine.{held_of_operand, link_contents, frame_contents, written_from}
 use Rattle.zero_calls.specs.Frames.{AreFree, Stand, PutsFrom}

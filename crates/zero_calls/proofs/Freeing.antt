@@ -1,20 +1,22 @@
 -- Cells of frames that are left, and of frames that have no room.
 use Rattle.std.proofs.Common.{◌≡◌, ℕ, zero, suc, ◌+◌, ◌-◌, ◌<◌, ◌≤◌, Bool, true, false, cond, List, [], ◌∷◌, map, length, Option, Some, None, refl, sym}
 use Rattle.std.proofs.Common.{ap, ◌∙◌, subst, arith, ◌⊎◌, ⊎_elim, inl, inr}
-use Rattle.std.specs.Prelude.{nat_le, nat_lt, ◌&&◌, slice_get, get_or, option_map}
+use Rattle.std.specs.Prelude.{nat_le, nat_lt, ◌&&◌, slice_get, get_or, option_map, Result, Ok, Err, OnOk}
 use Rattle.std.proofs.lemmas.Option.{slice_get-map, slice_get-get_or}
 use Rattle.std.proofs.lemmas.Bool.{leb-true, leb-false, ltb-true, ltb-false, eq-eqb, cases_lt}
 use Rattle.eu_base.specs.declared.address.Addr.{Addr}
 use Rattle.eu_base.specs.declared.address.Area.{Area}
 use Rattle.eu_base.specs.declared.address.Area.TheVariants.{Run}
 use Rattle.eu_base.specs.declared.value.Kind.TheVariants as kinds
+use Rattle.eu_base.specs.declared.value.Value.TheVariants as item
 use Rattle.eu_base.specs.Cells.{Cell, Free, Word, Letters, Cells, run_cell, same_cell, written, freed, cell_blocks, HasText, Within}
 use Rattle.code_form.specs.declared.operand.Operand.{Operand}
+use Rattle.code_form.specs.declared.operand.Operand.TheVariants.{Value as Of, Place as At}
 use Rattle.code_form.specs.declared.operand.OperandKind.{OperandKind}
 use Rattle.code_form.specs.declared.operand.OperandKind.TheVariants.{Value as OfKind, Place as AtKind}
 use Rattle.code_form.specs.Machine.{held_of_operand, written_from, is_text, is_word, is_of, are_of}
-use Rattle.zero_state.proofs.Blocks.{same_place}
-use Rattle.zero_calls.specs.Frames.{AreFree, Stand, is_text_kind}
+use Rattle.zero_state.proofs.Blocks.{same_place, has_text}
+use Rattle.zero_calls.specs.Frames.{AreFree, Stand, HoldsText, is_text_kind}
 use Rattle.zero_calls.proofs.Written.{at_other, behind}
 use Rattle.zero_calls.proofs.Contents.{Forgets, same_known}
 
@@ -192,36 +194,18 @@ each_of (suc n) (x ∷ ks) at (suc k) cells e lt =
     ap (λ j. is_of_kind (slice_get ks k) (cells (run_cell j))) here
     ∙ each_of n ks (suc at) k cells (second (is_of x (cells (run_cell at))) (are_of ks (suc at) n cells) e) (omega (arith, lt))
 
--- a cell with a text has one, and others have no blocks
-pub has_text : (x : Cell) → is_text x ≡ true → HasText x
-has_text Free e = absurd (cc e)
-has_text (Word n) e = absurd (cc e)
-has_text (Letters t) e = record { text = t; is = refl }
-
-pub no_text_bare : (x : Cell) → is_text x ≡ false → cell_blocks x ≡ 0
-no_text_bare Free e = refl
-no_text_bare (Word n) e = refl
-no_text_bare (Letters t) e = absurd (cc e)
-
 word_bare : (x : Cell) → is_word x ≡ true → cell_blocks x ≡ 0
 word_bare Free e = absurd (cc e)
 word_bare (Word n) e = refl
 word_bare (Letters t) e = absurd (cc e)
 
 -- a cell that the tables call a text has one, and no other has
-pub text_there : (o : Option OperandKind) (x : Cell) → is_of_kind o x ≡ true → is_text_kind o ≡ true → HasText x
-text_there None x e is = absurd (cc is)
-text_there (Some (OfKind kinds.Int)) x e is = absurd (cc is)
-text_there (Some (OfKind kinds.Truth)) x e is = absurd (cc is)
-text_there (Some (OfKind kinds.Text)) x e is = has_text x e
-text_there (Some (AtKind k)) x e is = absurd (cc is)
-
-pub number_there : (o : Option OperandKind) (x : Cell) → is_of_kind o x ≡ true → is_text_kind o ≡ false → cell_blocks x ≡ 0
-number_there None x e is = word_bare x e
-number_there (Some (OfKind kinds.Int)) x e is = word_bare x e
-number_there (Some (OfKind kinds.Truth)) x e is = word_bare x e
-number_there (Some (OfKind kinds.Text)) x e is = absurd (cc is)
-number_there (Some (AtKind k)) x e is = word_bare x e
+pub text_told : (o : Option OperandKind) (x : Cell) → is_of_kind o x ≡ true → HoldsText (is_text_kind o) x
+text_told None x e = word_bare x e
+text_told (Some (OfKind kinds.Int)) x e = word_bare x e
+text_told (Some (OfKind kinds.Truth)) x e = word_bare x e
+text_told (Some (OfKind kinds.Text)) x e = has_text x e
+text_told (Some (AtKind k)) x e = word_bare x e
 
 -- one more cell is freed
 module _ (holds : Cells → Type 0) (forgets : Forgets holds) (from k : ℕ) (low : from ≤ k) (cells : Cells) where
@@ -234,6 +218,16 @@ module _ (holds : Cells → Type 0) (forgets : Forgets holds) (from k : ℕ) (lo
   pub next_number : holds (freed from k cells) → cell_blocks (cells (run_cell k)) ≡ 0 → holds (freed from (suc k) cells)
   next_number h bare = forgets (freed from k cells) (freed from (suc k) cells) h (freed_number from k low cells bare)
 
+-- the same of a clearing that may want memory
+pub text_freed : {T E : Type 0} (result : Result T E) (before after : Cells → Type 0) → Forgets after → (k : ℕ) (text : Bool) → text ≡ true
+    → OnOk result ((cells : Cells) → before cells → HasText (cells (run_cell k)) → after (written cells (run_cell k) (Letters [])))
+    → OnOk result ((from : ℕ) (cells : Cells) → from ≤ k → before (freed from k cells) → HoldsText text (cells (run_cell k)) → after (freed from (k + 1) cells))
+text_freed (Ok x) before after forgets k text is cleared = λ from cells low h has.
+    let next : suc k ≡ k + 1 = omega arith in
+    subst (λ n. after (freed from n cells)) next
+    (next_text after forgets from k low cells (cleared (freed from k cells) h) (subst (λ b. HoldsText b (cells (run_cell k))) is has))
+text_freed (Err e) before after forgets k text is cleared = tt
+
 -- an operand that stands in a cell
 stands : (at k : ℕ) (operands : List Operand) (o : Operand) (cells : Cells) → Stand at (map held_of_operand operands) cells → k < length operands
     → o ≡ get_or operands k o → cells (run_cell (at + k)) ≡ held_of_operand o
@@ -241,13 +235,15 @@ stands at k operands o cells stand lt is =
     stand k (held_of_operand o)
     (slice_get-map held_of_operand operands k ∙ ap (option_map held_of_operand) (slice_get-get_or operands k o lt) ∙ ap (λ o. Some (held_of_operand o)) (sym is))
 
-pub text_stands : (at k : ℕ) (operands : List Operand) (o : Operand) (cells : Cells) → Stand at (map held_of_operand operands) cells → k < length operands
-    → o ≡ get_or operands k o → is_text (held_of_operand o) ≡ true → HasText (cells (run_cell (at + k)))
-text_stands at k operands o cells stand lt is e = subst HasText (sym (stands at k operands o cells stand lt is)) (has_text (held_of_operand o) e)
+held_text : (o : Operand) → HoldsText (is_text (held_of_operand o)) (held_of_operand o)
+held_text (Of (item.Int z)) = refl
+held_text (Of (item.Truth b)) = refl
+held_text (Of (item.Text t)) = record { text = t; is = refl }
+held_text (At a) = refl
 
-pub number_stands : (at k : ℕ) (operands : List Operand) (o : Operand) (cells : Cells) → Stand at (map held_of_operand operands) cells → k < length operands
-    → o ≡ get_or operands k o → is_text (held_of_operand o) ≡ false → cell_blocks (cells (run_cell (at + k))) ≡ 0
-number_stands at k operands o cells stand lt is e = ap cell_blocks (stands at k operands o cells stand lt is) ∙ no_text_bare (held_of_operand o) e
+pub text_stands : (at k : ℕ) (operands : List Operand) (o : Operand) (cells : Cells) → Stand at (map held_of_operand operands) cells → k < length operands
+    → o ≡ get_or operands k o → HoldsText (is_text (held_of_operand o)) (cells (run_cell (at + k)))
+text_stands at k operands o cells stand lt is = subst (HoldsText (is_text (held_of_operand o))) (sym (stands at k operands o cells stand lt is)) (held_text o)
 
 -- a cell of a frame holds what its tables say
 pub framed_at : (from until k : ℕ) (ks : List OperandKind) (cells : Cells) → are_of ks from (until - from) cells ≡ true → from ≤ k → k < until

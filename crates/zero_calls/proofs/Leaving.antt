@@ -49,7 +49,7 @@ module _ (before after : Cells → Type 0) (p : Program) (i : Instr) (c : Positi
       by cells h false e = tt
 
   -- the same of what may want memory
-  pub leaves_made : {T E : Type 0} (freeing : Result T E) (c' : Control) (w : Waits) → w ≡ Nothing → c' ≡ record { position = next; waits = w }
+  pub leaves_made : {T E : Type 0} (freeing : Result T E) (c' : Control) (w : Waits) → w ≡ Nothing → OnOk freeing (c' ≡ record { position = next; waits = w })
       → OnOk freeing ((cells : Cells) → before cells → framed cells ≡ true → after (freed f.used c.used cells))
       → OnOk freeing ((marks : ℕ) → Steps before after (stage_by p i marks) c c' marks On')
   leaves_made (Ok x) c' w none is kept = leaves_so c' (is ∙ ap (λ (w : Waits). record { position = next; waits = w }) none) kept

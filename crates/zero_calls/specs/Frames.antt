@@ -6,7 +6,7 @@ use Rattle.eu_base.specs.declared.value.Kind.{Kind}
 use Rattle.eu_base.specs.declared.value.Kind.TheVariants as kinds
 use Rattle.eu_base.specs.declared.value.Value.{Value}
 use Rattle.eu_base.specs.Room.{most_blocks}
-use Rattle.eu_base.specs.Cells.{Cell, Free, Cells, run_cell, blocks_in}
+use Rattle.eu_base.specs.Cells.{Cell, Free, Cells, run_cell, cell_blocks, blocks_in, HasText}
 use Rattle.code_form.specs.declared.code.Entry.{Entry}
 use Rattle.code_form.specs.declared.operand.Operand.{Operand}
 use Rattle.code_form.specs.declared.operand.Operand.TheVariants.{Value as Of}
@@ -29,6 +29,11 @@ Stand at ns cells = (k : ℕ) (x : Cell) → slice_get ns k ≡ Some x → cells
 abbrev pub PutsFrom : (Cells → Type 0) → ℕ → List Cell → Cells → Set → Type 0
 PutsFrom holds at ns cells Done = holds (written_from at ns cells)
 PutsFrom holds at ns cells HeapFull = (most_blocks < blocks_in (written_from at ns cells)) × holds cells
+
+-- a cell is known to hold a text, or one that has blocks is not known to stand there
+abbrev pub HoldsText : Bool → Cell → Type 0
+HoldsText true x = HasText x
+HoldsText false x = cell_blocks x ≡ 0
 
 -- the tables say that a cell of a frame holds a text
 abbrev pub is_text_kind : Option OperandKind → Bool

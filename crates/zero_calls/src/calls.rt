@@ -1,11 +1,11 @@
 //! Calls, refinements, and how they are left.
-ghost use Rattle.std.specs.Prelude.{◌≡◌, ℕ, ◌+◌, ◌-◌, ◌^◌, min, ◌≤◌, ◌∷◌, ◌++◌, List, length, true, Some, OnOk, IfOk};
-ghost use Rattle.eu_base.specs.Room.{bytes_fit};
-ghost use Rattle.eu_base.specs.Cells.{Cells, HasFaultCause};
+ghost use Rattle.std.specs.Prelude.{◌≡◌, ℕ, ◌+◌, ◌-◌, ◌^◌, min, ◌≤◌, ◌∷◌, ◌++◌, List, length, true, Some, slice_get, OnOk, IfOk};
+ghost use Rattle.eu_base.specs.Room.{bytes_fit, cells_fit};
+ghost use Rattle.eu_base.specs.Cells.{Cells, freed, HasFaultCause};
 ghost use Rattle.code_form.specs.declared.instr.Instr.TheVariants as instrs;
 ghost use Rattle.code_form.specs.declared.operand.Operand.{Operand};
 ghost use Rattle.code_form.specs.Program.{Program};
-ghost use Rattle.code_form.specs.Machine.{Move, bytes_on, bytes_of, call_move, refer_move, on_result, back_into, out_to, stage};
+ghost use Rattle.code_form.specs.Machine.{Move, bytes_on, bytes_of, call_move, refer_move, on_result, is_framed, back_into, out_to, stage};
 ghost use Rattle.zero_state.specs.Finds.{TopResult, IsCallable, IsInside, is_in_proc};
 ghost use Rattle.zero_state.specs.Stacked.{linked};
 ghost use Rattle.zero_state.specs.Stepping.{position_of, control_of, scene_of, stage_by, IsReady, Steps};
@@ -142,11 +142,9 @@ pub fn back<M: Memory>(
     ensures cause { HasFaultCause (M.faults m.old) (M.faults m.new) result }
     ensures follows { M.follows m.old m.new }
 {
-    let until = s.used;
     let result = take_result(&mut s.stack, kind);
     let link = leave(&mut s.stack);
-    return_with(s, link, result)?;
-    free_frame(code, link.body, m, link.used, until)
+    return_from(code, s, m, link, result)
 }
 
 /// OUT
@@ -164,11 +162,9 @@ pub fn back_around<M: Memory>(
     ensures cause { HasFaultCause (M.faults m.old) (M.faults m.new) result }
     ensures follows { M.follows m.old m.new }
 {
-    let until = s.used;
     let result = take_result(&mut s.stack, kind);
     let link = leave_proc(&mut s.stack);
-    return_with(s, link, result)?;
-    free_frame(code, link.body, m, link.used, until)
+    return_from(code, s, m, link, result)
 }
 
 // Takes the result, where there is one.
@@ -208,6 +204,28 @@ fn leave_proc(stack: &mut Stack) -> Link
             return link;
         }
     }
+}
+
+// Goes on where a frame was made, with the result, and frees the cells of the frame.
+fn return_from<M: Memory>(
+    code: &Code,
+    s: &mut State,
+    m: &mut M,
+    link: Link,
+    value: Option<Value>,
+) -> Result<(), MemFault>
+    requires room { bytes_fit (bytes_on (result_ops value ++ s.old.stack.ops) (bytes_of s.old.stack.frames)) ≡ true }
+    requires cells { cells_fit s.old.used ≡ true }
+    ensures goes { OnOk result (control_of s.new ≡
+        record { position = record (position_of s.old) { pc = link.back; ops = result_ops value ++ s.old.stack.ops; used = link.used }; waits = s.old.waits }) }
+    ensures freed { OnOk result ((cells : Cells) → M.holds m.old cells → is_framed (slice_get code.now.bodies link.body) link.used s.old.used cells ≡ true →
+        M.holds m.new (freed link.used s.old.used cells)) }
+    ensures cause { HasFaultCause (M.faults m.old) (M.faults m.new) result }
+    ensures follows { M.follows m.old m.new }
+{
+    let until = s.used;
+    return_with(s, link, value)?;
+    free_frame(code, link.body, m, link.used, until)
 }
 
 // Goes on where a frame was made, with the result.

@@ -1,11 +1,11 @@
 //! Texts in the cells of frames.
-ghost use Rattle.std.specs.Prelude.{◌≡◌, ◌+◌, ◌≤◌, ◌<◌, [], ◌∷◌, map, length, true, slice_get, OnOk, IfOk};
+ghost use Rattle.std.specs.Prelude.{◌≡◌, ℕ, ◌+◌, ◌≤◌, ◌<◌, [], ◌∷◌, map, length, true, slice_get, OnOk, IfOk};
 ghost use Rattle.eu_base.specs.declared.address.TheConstants.{CELLS};
 ghost use Rattle.eu_base.specs.Cells.{Free, Letters, Cells, HasText, run_cell, written, freed, HasFaultCause};
 ghost use Rattle.code_form.specs.Machine.{held_of_operand, is_framed, is_text};
 ghost use Rattle.code_form.specs.Program.{cells_of};
 ghost use Rattle.code_form.specs.declared.operand.OperandKind.TheVariants as kinds;
-ghost use Rattle.zero_calls.specs.Frames.{Stand, PutsFrom, is_text_kind, frame_kinds};
+ghost use Rattle.zero_calls.specs.Frames.{Stand, PutsFrom, HoldsText, is_text_kind, frame_kinds};
 
 use code_form::{Code, Layout, Operand, OperandKind};
 use eu_base::{Kind, MemFault, Memory, Set, Value};
@@ -34,9 +34,7 @@ pub fn clear_operands<M: Memory>(m: &mut M, at: usize, operands: &[Operand]) -> 
     ensures follows { M.follows m.old m.new }
 {
     for (index, operand) in operands.iter().enumerate() {
-        if is_text(operand) {
-            clear(m, at + index)?;
-        }
+        free_cell(m, at + index, is_text(operand))?;
     }
     Ok(())
 }
@@ -56,11 +54,20 @@ pub fn free_frame<M: Memory>(
     ensures follows { M.follows m.old m.new }
 {
     for cell in from..until {
-        if holds_text(code, body, cell - from) {
-            clear(m, cell)?;
-        }
+        free_cell(m, cell, holds_text(code, body, cell - from))?;
     }
     Ok(())
+}
+
+// Clears the text of a cell, where it holds one. Nothing is known of the cell then, as of those from another up to it.
+fn free_cell<M: Memory>(m: &mut M, cell: usize, holds_text: bool) -> Result<(), MemFault>
+    requires { cell < CELLS }
+    ensures freed { OnOk result ((from : ℕ) (cells : Cells) → from ≤ cell → M.holds m.old (freed from cell cells) →
+        HoldsText holds_text (cells (run_cell cell)) → M.holds m.new (freed from (cell + 1) cells)) }
+    ensures cause { HasFaultCause (M.faults m.old) (M.faults m.new) result }
+    ensures follows { M.follows m.old m.new }
+{
+    if holds_text { clear(m, cell) } else { Ok(()) }
 }
 
 // Lets a text be "". That always has room.

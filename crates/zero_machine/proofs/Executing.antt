@@ -6,8 +6,8 @@ use Rattle.eu_base.specs.Cells.{Cells}
 use Rattle.zero_state.specs.declared.next.Next.{Next}
 use Rattle.zero_state.specs.declared.next.Next.TheVariants.{On as On', Marked, Ended}
 use Rattle.code_form.specs.declared.instr.Instr.{Instr}
-use Rattle.code_form.specs.declared.instr.Instr.TheVariants.{Mark, Number, Truth, Outer, Local, Param, Load, Store, Do, Modify, Jump, False, When, Drop}
-use Rattle.code_form.specs.declared.instr.Instr.TheVariants.{Limit, Unlimit, Step, Ask, Call, Refer, Back, Out, End}
+use Rattle.code_form.specs.declared.instr.Instr.TheVariants.{Mark, Number, Truth, Text, Outer, Local, Param, Load, Store, Do, Modify, Jump, False, When, Drop}
+use Rattle.code_form.specs.declared.instr.Instr.TheVariants.{Limit, Unlimit, Step, Ask, ErrorStop, Call, Refer, Back, Out, End}
 use Rattle.code_form.specs.declared.waits.Waits.{Waits}
 use Rattle.code_form.specs.declared.waits.Waits.TheVariants.{Nothing}
 use Rattle.code_form.specs.declared.code.Entry.{Entry}
@@ -79,6 +79,7 @@ pub finds_alone : (bodies : List Entry) (i : Instr) (c : Position) → spends_no
 finds_alone bodies Mark c e f = f
 finds_alone bodies (Number z) c e f = f
 finds_alone bodies (Truth b) c e f = f
+finds_alone bodies (Text t) c e f = f
 finds_alone bodies (Outer k) c e f = f
 finds_alone bodies (Local k) c e f = f
 finds_alone bodies (Param k) c e f = f
@@ -94,6 +95,7 @@ finds_alone bodies (Limit way a) c e f = f
 finds_alone bodies Unlimit c e f = f
 finds_alone bodies (Step way a) c e f = f
 finds_alone bodies (Ask name) c e f = f
+finds_alone bodies ErrorStop c e f = f
 finds_alone bodies (Call n) c e f = absurd (cc e)
 finds_alone bodies (Refer n) c e f = absurd (cc e)
 finds_alone bodies (Back kind) c e f = absurd (cc e)

@@ -6,7 +6,7 @@ use Rattle.std.proofs.lemmas.Option.{slice_get_within}
 use Rattle.eu_base.specs.declared.address.TheConstants.{CELLS}
 use Rattle.eu_base.specs.declared.value.Kind.{Kind}
 use Rattle.eu_base.specs.declared.value.Kind.TheVariants as kinds
-use Rattle.eu_base.specs.Operations.{operand_kinds}
+use Rattle.eu_base.specs.Operations.{operand_kinds, change_kind}
 use Rattle.eu_base.specs.Requests.{request_kinds}
 use Rattle.eu_base.specs.Cells.{IsCell, run_cell}
 use Rattle.code_form.specs.declared.operand.Operand.{Operand}
@@ -14,8 +14,8 @@ use Rattle.code_form.specs.declared.operand.Operand.TheVariants.{Value as Of, Pl
 use Rattle.code_form.specs.declared.operand.OperandKind.{OperandKind}
 use Rattle.code_form.specs.declared.operand.OperandKind.TheVariants.{Value as OfKind, Place as AtKind}
 use Rattle.code_form.specs.declared.instr.Instr.{Instr}
-use Rattle.code_form.specs.declared.instr.Instr.TheVariants.{Mark, Number, Truth, Outer, Local, Param, Load, Store, Do, Modify, Jump, False, When, Drop, Limit}
-use Rattle.code_form.specs.declared.instr.Instr.TheVariants.{Unlimit, Step, Ask, Call, Refer, Back, Out, End}
+use Rattle.code_form.specs.declared.instr.Instr.TheVariants.{Mark, Number, Truth, Text, Outer, Local, Param, Load, Store, Do, Modify, Jump, False, When, Drop}
+use Rattle.code_form.specs.declared.instr.Instr.TheVariants.{Limit, Unlimit, Step, Ask, ErrorStop, Call, Refer, Back, Out, End}
 use Rattle.code_form.specs.declared.code.Spot.{Spot}
 use Rattle.code_form.specs.Program.{Program, line_of, instr_of, owner, frame_cells}
 use Rattle.code_form.specs.Machine.{Frame, Position, free, base_of}
@@ -137,13 +137,14 @@ module _ (p : Program) (valid : IsValid p) where
     finds_at Mark f = tt
     finds_at (Number z) f = tt
     finds_at (Truth b) f = tt
+    finds_at (Text t) f = tt
     finds_at (Outer x) f = outer_cell c fits x f.0 f.1
     finds_at (Local x) f = local_cell c fits x (OfKind f.0) f.1
     finds_at (Param x) f = local_cell c fits x (AtKind f.0) f.1
     finds_at (Load kind) f = top_place c.ops kind f.0 (subst (FitsKinds c.ops) f.1 fits.operands)
     finds_at (Store kind) f = top_both c.ops kind kind f.0 (subst (FitsKinds c.ops) f.1 fits.operands)
     finds_at (Do op) f = all_values (operand_kinds op) f.0 f.1
-    finds_at (Modify change) f = top_both c.ops kinds.Int kinds.Int f.0 (subst (FitsKinds c.ops) f.1 fits.operands)
+    finds_at (Modify change) f = top_both c.ops (change_kind change) (change_kind change) f.0 (subst (FitsKinds c.ops) f.1 fits.operands)
     finds_at (Jump a) f = tt
     finds_at (False a) f = top_value c.ops kinds.Truth f.0 (subst (FitsKinds c.ops) f.1 fits.operands)
     finds_at (When z a) f = top_value c.ops kinds.Int f.0 (subst (FitsKinds c.ops) f.1 fits.operands)
@@ -152,6 +153,7 @@ module _ (p : Program) (valid : IsValid p) where
     finds_at Unlimit f = limited f.0 f.1
     finds_at (Step way a) f = (top_place c.ops kinds.Int f.2.0 (subst (FitsKinds c.ops) f.2.1 fits.operands), limited f.0 f.1)
     finds_at (Ask name) f = all_values (request_kinds name) f.0 f.1
+    finds_at ErrorStop f = top_value c.ops kinds.Text f.0 (subst (FitsKinds c.ops) f.1 fits.operands)
     finds_at (Call n) f = has_proc n c.pc ks m c.ops f fits.operands
     finds_at (Refer n) f = record { entry = f.entry; has = f.has }
     finds_at (Back kind) f = (top_result kind ks c.ops f.top fits.operands, inside c.frames m.body f.number fits.floor f.here fits.frames)

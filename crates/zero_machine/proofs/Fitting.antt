@@ -9,8 +9,8 @@ use Rattle.code_form.specs.declared.halt.Halt.TheVariants as halts
 use Rattle.code_form.specs.declared.waits.Waits.{Waits}
 use Rattle.code_form.specs.declared.waits.Waits.TheVariants.{Nothing}
 use Rattle.code_form.specs.Program.{Program, instr_of}
-use Rattle.code_form.specs.Machine.{Position, Control, free, asking, After, To, Asks, Stops, Unsaid, Move, Goes, Spends as Pays, Halts, Ends, Unknown}
-use Rattle.code_form.specs.Machine.{Stuck, Scene, Rest, Stage, On}
+use Rattle.code_form.specs.Machine.{Position, Control, free, asking, refused, After, To, Asks, Stops, Unsaid, Move, Goes, Spends as Pays, Halts, Refuses, Ends}
+use Rattle.code_form.specs.Machine.{Unknown, Stuck, Scene, Rest, Stage, On}
 use Rattle.code_form.specs.Machine.{Over, Lost, after_stage, mark_stage, stage, stage_at, advance, rest_at, instruction, step}
 use Rattle.code_form.specs.Valid.{IsValid, Fits}
 use Rattle.code_form.specs.Runs.{IsSafe, steps_left}
@@ -69,6 +69,7 @@ module _ (p : Program) (c : Position) (s : Scene) (fits : Fits p (free c)) where
       by zero none = over Good halts.Marked (free c) s here
       by (suc m) some = after_good m some a safe
   stage_good (Halts stop) safe = over Good (halts.Stopped stop) (free c) s here
+  stage_good (Refuses stop d) safe = on Good (refused d stop) s (safe, record { fewer = omega arith; paid = λ some. absurd (cc some) })
   stage_good Ends safe = over Good halts.Ended (free c) s here
   stage_good Unknown safe = lost Good
   stage_good Stuck safe = absurd safe

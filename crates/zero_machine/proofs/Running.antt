@@ -7,7 +7,7 @@ use Rattle.code_form.specs.declared.halt.Halt.TheVariants as halts
 use Rattle.code_form.specs.declared.waits.Waits.{Waits}
 use Rattle.code_form.specs.declared.waits.Waits.TheVariants.{Nothing, Asked, Refused}
 use Rattle.code_form.specs.Program.{Program}
-use Rattle.code_form.specs.Machine.{Control, asking, Scene, Rest, Stage, On, Over, Lost, stage_at, advance, carry_on, exec, rest_at}
+use Rattle.code_form.specs.Machine.{Control, asking, refused, Scene, Rest, Stage, On, Over, Lost, stage_at, advance, carry_on, exec, rest_at}
 use Rattle.code_form.specs.Runs.{Rests, asked}
 use Rattle.code_form.proofs.Steps.{last_step}
 use Rattle.code_form.proofs.Resume.{one_rest}
@@ -24,7 +24,7 @@ rests_due p c cells marks h e = by c.waits e
     by Nothing e = absurd (cc e)
     by (Asked q) e = let f : h ≡ halts.Asks q = cc e in ap (λ h. Over (rest_at h (asking c.position q) (scene_of cells marks))) f
     by (Refused stop) e =
-        let f : h ≡ halts.Stopped stop = cc e in ap (λ h. Over (rest_at h (record { position = c.position; waits = Refused stop }) (scene_of cells marks))) f
+        let f : h ≡ halts.Stopped stop = cc e in ap (λ h. Over (rest_at h (refused c.position stop) (scene_of cells marks))) f
 
 -- what comes to rest makes a step
 stepped : (p : Program) (c : Control) (s : Scene) (r : Rest) → Rests p c s r → (n : ℕ) × (carry_on (advance p c s) (exec p n) ≡ Some r)

@@ -1,5 +1,5 @@
 //! Runs of code.
-ghost use Rattle.std.specs.Prelude.{◌≡◌, ◌≤◌, ◌<◌, ℕ, List, [], length, map, true, false, cond, IfOk, OnOk, IsSome, Some, None};
+ghost use Rattle.std.specs.Prelude.{◌≡◌, ◌≤◌, ◌<◌, length, map, true, false, cond, IfOk, OnOk, IsSome, Some, None};
 ghost use Rattle.eu_base.specs.Room.{cells_fit};
 ghost use Rattle.eu_base.specs.Values.{blank_of};
 ghost use Rattle.eu_base.specs.Cells.{Cells, held_of, AreBare, HasFaultCause};

@@ -1,7 +1,6 @@
-//! Numbers, codes and stops of texts, and texts of these.
-ghost use Rattle.std.specs.Prelude.{◌≡◌, Ok, IfOk};
+//! Numbers and codes of texts, and texts of these.
+ghost use Rattle.std.specs.Prelude.{◌≡◌, Ok};
 ghost use Rattle.std.specs.Fmt.{signed_decimal};
-ghost use Rattle.eu_base.specs.declared.stop.Stop.TheVariants.{Own};
 ghost use Rattle.eu_base.specs.Operations.{fitted, fitting, byte_of, ranged};
 ghost use Rattle.eu_base.specs.Texts.{code_of, trimmed, number_spelled};
 ghost use Rattle.zero_ops.specs.Given.{Gives};
@@ -9,7 +8,7 @@ ghost use Rattle.zero_ops.specs.Given.{Gives};
 use crate::error::{Fault, OpError};
 use crate::limit::{check_length, fitting};
 use crate::trim::trimmed;
-use eu_base::{Bytes, NoMemory, Stop, Value, decimal};
+use eu_base::{Value, decimal};
 use std::alloc::Global;
 use std::str;
 
@@ -50,11 +49,4 @@ pub fn number_in(t: &[u8]) -> i16
         Ok(digits) => digits.parse().unwrap_or(0),
         Err(_) => 0,
     }
-}
-
-/// The stop of `errorstop (t)`
-pub fn errorstop(alloc: Global, t: &[u8]) -> Result<Stop, NoMemory>
-    ensures { IfOk result (λ stop. stop ≡ Own t.now) }
-{
-    Ok(Stop::Own(Bytes::from(alloc, t)?))
 }

@@ -13,8 +13,7 @@ mod search;
 mod texts;
 mod trim;
 
-pub use convert::errorstop;
 pub use error::{Fault, OpError};
 pub use join::append;
-pub use numbers::{change, on_numbers};
+pub use numbers::{change_number, on_numbers};
 pub use operate::apply;

@@ -1,7 +1,9 @@
 //! Operations on numbers and truth values.
 ghost use Rattle.std.specs.Prelude.{◌≡◌, ◌≢◌, [], ◌∷◌, false, pos, ◌+ℤ◌, ◌-ℤ◌, ◌*ℤ◌, int_div};
-ghost use Rattle.eu_base.specs.Operations.{fitted, divided, remaining, result_of, changed};
-ghost use Rattle.zero_ops.specs.Given.{given_of, has_texts};
+ghost use Rattle.eu_base.specs.declared.value.Kind.TheVariants as kinds;
+ghost use Rattle.eu_base.specs.declared.value.Value.TheVariants.{Int};
+ghost use Rattle.eu_base.specs.Operations.{fitted, divided, remaining, result_of, change_kind, changed};
+ghost use Rattle.zero_ops.specs.Given.{given_of, given_number, has_texts};
 
 use crate::error::Fault;
 use eu_base::{Change, Operation, Value};
@@ -38,17 +40,19 @@ pub fn on_numbers(operation: Operation, left: &Value, right: &Value) -> Result<V
         Operation::And => Ok(Value::Truth(left.truth() && right.truth())),
         Operation::Or => Ok(Value::Truth(left.truth() || right.truth())),
         Operation::Not => Ok(Value::Truth(!left.truth())),
-        Operation::EmptyText | Operation::OnTexts(_) => unreachable!(),
+        Operation::OnTexts(_) => unreachable!(),
     }
 }
 
-/// What INCR and DECR store.
-pub fn change(change: Change, a: i16, b: i16) -> Result<Value, Fault>
-    ensures { given_of result ≡ changed change a b }
+/// What INCR and DECR store in place of a number. CAT is `append`.
+pub fn change_number(by: Change, old: i16, operand: &Value) -> Result<i16, Fault>
+    requires { change_kind by ≡ kinds.Int }
+    ensures { given_number result ≡ changed by (Int old) operand.now }
 {
-    match change {
-        Change::Increase => fitted(sum(a, b)),
-        Change::Decrease => fitted(difference(a, b)),
+    match by {
+        Change::Increase => in_range(sum(old, operand.number())),
+        Change::Decrease => in_range(difference(old, operand.number())),
+        Change::Append => unreachable!(),
     }
 }
 
@@ -80,8 +84,14 @@ fn quotient(a: i16, b: i16) -> i32
 fn fitted(number: i32) -> Result<Value, Fault>
     ensures { given_of result ≡ fitted number }
 {
+    Ok(Value::Int(in_range(number)?))
+}
+
+fn in_range(number: i32) -> Result<i16, Fault>
+    ensures { given_number result ≡ fitted number }
+{
     match i16::try_from(number) {
-        Ok(number) => Ok(Value::Int(number)),
+        Ok(number) => Ok(number),
         Err(_) => Err(Fault::Overflow),
     }
 }

@@ -6,7 +6,7 @@ ghost use Rattle.zero_ops.specs.Given.{given_of, Gives, has_texts};
 use crate::error::{Fault, OpError};
 use crate::numbers::on_numbers;
 use crate::texts::on_texts;
-use eu_base::{Bytes, Operation, Value};
+use eu_base::{Operation, Value};
 use std::alloc::Global;
 
 /// The result of an operation, or why the program stops. An operand that is missing, or of another kind, counts as blank.
@@ -15,7 +15,6 @@ pub fn apply(alloc: Global, operation: Operation, operands: &[Value]) -> Result<
 {
     match operation {
         Operation::OnTexts(operation) => on_texts(alloc, operation, operands),
-        Operation::EmptyText => Ok(Value::Text(Bytes::new(alloc))),
         _ => Ok(on_cells(operation, operands)?),
     }
 }

@@ -7,7 +7,8 @@ use Rattle.eu_base.specs.declared.address.Area.{Area}
 use Rattle.eu_base.specs.declared.address.Area.TheVariants.{Run}
 use Rattle.eu_base.specs.declared.address.TheConstants.{CELLS}
 use Rattle.eu_base.specs.Room.{most_blocks, texts_fit, total}
-use Rattle.eu_base.specs.Cells.{Cell, Cells, same_area, same_cell, run_cell, written, cell_blocks, blocks_in}
+use Rattle.eu_base.specs.Cells.{Cell, Free, Word, Letters, Cells, same_area, same_cell, run_cell, written, cell_blocks, blocks_in, HasText}
+use Rattle.code_form.specs.Machine.{takes_number, is_text}
 
 total_most : (f g : ℕ → ℕ) (n : ℕ) → ((k : ℕ) → f k ≤ g k) → total f n ≤ total g n
 unfolding total
@@ -52,3 +53,14 @@ has_room (suc n) used le = le-leb used most_blocks le
 pub has_none : (n used : ℕ) → most_blocks < used → (n ≡ 0 → used ≤ most_blocks) → texts_fit n used ≡ false
 has_none zero used lt none = absurd (omega (arith, lt, none refl))
 has_none (suc n) used lt none = lt-leb used most_blocks lt
+
+-- a cell that takes a text has one, and one that takes a number has no blocks
+pub has_text : (x : Cell) → is_text x ≡ true → HasText x
+has_text Free e = absurd (cc e)
+has_text (Word n) e = absurd (cc e)
+has_text (Letters t) e = record { text = t; is = refl }
+
+pub number_bare : (x : Cell) → takes_number x ≡ true → cell_blocks x ≡ 0
+number_bare Free e = refl
+number_bare (Word n) e = refl
+number_bare (Letters t) e = absurd (cc e)

@@ -7,8 +7,8 @@ use Rattle.eu_base.specs.Cells.{IsCell, run_cell}
 use Rattle.eu_base.specs.Operations.{operand_kinds}
 use Rattle.eu_base.specs.Requests.{request_kinds}
 use Rattle.code_form.specs.declared.instr.Instr.{Instr}
-use Rattle.code_form.specs.declared.instr.Instr.TheVariants.{Number, Truth, Outer, Local, Param, Jump, Load, Store, Do, Modify, False, When, Drop, Limit}
-use Rattle.code_form.specs.declared.instr.Instr.TheVariants.{Mark, Unlimit, Step, Ask, Call, Refer, Back, Out, End}
+use Rattle.code_form.specs.declared.instr.Instr.TheVariants.{Number, Truth, Text, Outer, Local, Param, Jump, Load, Store, Do, Modify, False, When, Drop, Limit}
+use Rattle.code_form.specs.declared.instr.Instr.TheVariants.{Mark, Unlimit, Step, Ask, ErrorStop, Call, Refer, Back, Out, End}
 use Rattle.code_form.specs.declared.code.Entry.{Entry}
 use Rattle.code_form.specs.declared.code.Layout.{Layout}
 use Rattle.code_form.specs.declared.code.Layout.TheVariants.{Own}
@@ -91,6 +91,7 @@ Finds bodies (Limit way a) c = TopBoth c.ops
 Finds bodies Unlimit c = 1 ≤ c.used
 Finds bodies (Step way a) c = TopPlace c.ops × (1 ≤ c.used)
 Finds bodies (Ask name) c = TopValues (length (request_kinds name)) c.ops
+Finds bodies ErrorStop c = TopValue c.ops
 Finds bodies (Call n) c = HasProc bodies n c.ops
 Finds bodies (Refer n) c = HasBody bodies n
 Finds bodies (Back kind) c = TopResult kind c.ops × IsInside c.frames
@@ -121,6 +122,7 @@ is_plain _ = false
 abbrev pub is_push : Instr → Bool
 is_push (Number z) = true
 is_push (Truth b) = true
+is_push (Text t) = true
 is_push (Outer k) = true
 is_push (Local k) = true
 is_push _ = false
@@ -128,4 +130,5 @@ is_push _ = false
 -- one that looks at no cell
 abbrev pub computes : Instr → Bool
 computes (Do op) = true
+computes ErrorStop = true
 computes i = is_push i || is_plain i

@@ -2,7 +2,7 @@
 ghost use Rattle.std.specs.Prelude.{◌≡◌, ◌+◌, ◌∷◌, ◌≤◌, [], List, drop, take, length, reverse, true, OnOk, MatchOption};
 ghost use Rattle.eu_base.specs.Room.{bytes_fit};
 ghost use Rattle.code_form.specs.declared.operand.Operand.TheVariants as operand;
-ghost use Rattle.code_form.specs.Machine.{operand_bytes, bytes_on, bytes_of, base_of};
+ghost use Rattle.code_form.specs.Machine.{bytes_on, bytes_of, base_of};
 ghost use Rattle.zero_state.specs.Finds.{TopValue, TopPlace};
 ghost use Rattle.zero_state.specs.Stacked.{linked};
 

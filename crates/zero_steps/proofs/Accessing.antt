@@ -1,5 +1,5 @@
 -- Steps of the machine that look at memory.
-use Rattle.std.proofs.Common.{◌≡◌, ℕ, zero, suc, ◌+◌, ◌-◌, Bool, true, false, cond, List, ◌∷◌, Option, Some, None, refl, sym, ap, ◌∙◌, subst, arith, ℤ, ◌⊎◌, inl, inr}
+use Rattle.std.proofs.Common.{◌≡◌, ℕ, zero, suc, ◌+◌, ◌-◌, Bool, true, false, cond, List, [], ◌∷◌, Option, Some, None, refl, sym, ap, ◌∙◌, subst, arith, ℤ, ◌⊎◌, inl, inr}
 use Rattle.std.proofs.Common.{to_z, of_z}
 use Rattle.std.specs.Prelude.{Ok, Err}
 use Rattle.std.specs.Int.{w16}
@@ -12,13 +12,14 @@ use Rattle.eu_base.specs.declared.value.Kind.TheVariants as kinds
 use Rattle.eu_base.specs.declared.value.Value.{Value}
 use Rattle.eu_base.specs.declared.value.Value.TheVariants as item
 use Rattle.eu_base.specs.declared.operation.Change.{Change}
+use Rattle.eu_base.specs.declared.operation.Change.TheVariants.{Increase, Decrease, Append}
 use Rattle.eu_base.specs.declared.operation.Way.{Way}
-use Rattle.eu_base.specs.declared.stop.Stop.{Stop}
 use Rattle.eu_base.specs.declared.stop.Stop.TheVariants as stops
 use Rattle.eu_base.specs.declared.set.Set.TheVariants.{Done, HeapFull}
 use Rattle.eu_base.specs.Values.{number_of, cell_of, IsOf, number_in}
 use Rattle.eu_base.specs.Room.{cells_fit, bytes_fit, texts_fit}
-use Rattle.eu_base.specs.Operations.{Given, changed, is_past, has_reached, next_number}
+use Rattle.eu_base.specs.Operations.{Given, change_kind, changed, is_past, has_reached, next_number}
+use Rattle.eu_base.proofs.Results.{changed_gives}
 use Rattle.eu_base.specs.Cells.{Cell, Free, Word, Letters, Cells, held_of, IsCell, run_cell, place_in, written, cell_blocks, blocks_in}
 use Rattle.code_form.specs.declared.operand.Operand.{Operand}
 use Rattle.code_form.specs.declared.operand.Operand.TheVariants.{Value as Of, Place as At}
@@ -28,15 +29,17 @@ use Rattle.code_form.specs.declared.waits.Waits.{Waits}
 use Rattle.code_form.specs.declared.waits.Waits.TheVariants.{Nothing}
 use Rattle.code_form.specs.declared.instr.Instr.{Instr}
 use Rattle.code_form.specs.declared.instr.Instr.TheVariants.{Param, Load, Store, Modify, Limit, Step}
-use Rattle.code_form.specs.Machine.{Position, Control, free, Move, Goes, Halts, Unknown, Scene, On, bytes_on, bytes_of, base_of, on_value, on_place}
+use Rattle.code_form.specs.Machine.{Position, Control, free, Move, Goes, Halts, Ends, Unknown, Scene, On, bytes_on, bytes_of, base_of, on_value, on_place}
 use Rattle.code_form.specs.Program.{Program}
 use Rattle.code_form.specs.Machine.{takes, puts, limit_to, at, using, goes, pushes, or_halt, on_word, on_number, on_cell, is_free, stage}
 use Rattle.zero_state.specs.Finds.{TopBoth}
 use Rattle.zero_state.specs.Stacked.{Stacked}
 use Rattle.zero_state.specs.declared.next.Next.{Next}
 use Rattle.zero_state.specs.declared.next.Next.TheVariants.{On as On', CellRoom, OperandRoom, TextRoom}
-use Rattle.zero_state.specs.Stepping.{stage_of, scene_of, stage_by, halt_of, Does, AreLike, Accesses}
-use Rattle.zero_steps.specs.Reading.{Reads, PutsCell}
+use Rattle.zero_state.specs.Stepping.{stage_of, scene_of, stage_by, halt_of, Does, IsLike, AreLike, Accesses}
+use Rattle.zero_ops.specs.declared.error.Fault.{Fault}
+use Rattle.zero_ops.specs.Given.{stop_of}
+use Rattle.zero_steps.specs.Reading.{Reads, PutsTaken, Changes}
 use Rattle.zero_state.proofs.Room.{same_like}
 use Rattle.zero_state.proofs.Emptied.{emptied, emptied_like}
 use Rattle.zero_state.proofs.Making.{done, plain}
@@ -59,12 +62,6 @@ writes before between after a x n is kept put cells h bare = subst (λ x. after 
 -- a number of 16 bits is what it stands for
 pub same_number : (z y : ℤ) → FitsSigned w16 z → z ≡ y → to_z w16 (of_z w16 z) ≡ y
 same_number z y fits is = to_z-of_z w16 z fits ∙ is
-
--- a number stands in a cell as a number
-pub held_number : (v : Value) → IsOf kinds.Int v → Word (cell_of v) ≡ held_of v
-held_number (item.Int z) is = refl
-held_number (item.Truth b) is = absurd is
-held_number (item.Text t) is = absurd is
 
 pub writes_number : (before between after : Cells → Type 0) (a b : Addr) (z y : ℤ) (n : ℕ) → a ≡ b → z ≡ y → n ≡ cell_of (item.Int z) → Keeps before between
     → ((cells : Cells) → between cells → cell_blocks (cells a) ≡ 0 → after (written cells a (Word n))) → Writes before after b (held_of (item.Int y))
@@ -110,11 +107,53 @@ if_true b m m' e = ap (λ b. cond b m m') (sym e)
 if_false : (b : Bool) (m m' : Move) → b ≡ false → m' ≡ cond b m m'
 if_false b m m' e = ap (λ b. cond b m m') (sym e)
 
-if_ok : (g : Given) (x : Value) (go : Value → Move) → Ok x ≡ g → go x ≡ or_halt g go
-if_ok g x go e = ap (λ g. or_halt g go) e
+-- an operand like this one, and cells, with which a change goes on
+record Example (by : Change) (v : Value) (a : Addr) (c : Value → Position) (ops : List Operand) : Type 0 where
+  operand : Value
+  like : IsLike (Of v) (Of operand)
+  cells : Cells
+  now : Cells
+  leads : on_cell (change_kind by) (cells a) (λ old. or_halt (changed by old operand) (λ new. puts (c operand) a new ops cells)) ≡ goes (c operand) ops now
 
-if_err : (g : Given) (stop : Stop) (go : Value → Move) → Err stop ≡ g → Halts stop ≡ or_halt g go
-if_err g stop go e = ap (λ g. or_halt g go) e
+-- a number goes into a cell that was read as one
+number_put : (seen : Cell) (new : Value) → IsOf kinds.Int new → on_cell kinds.Int seen (λ old. Ends) ≡ Ends → (c : Position) (a : Addr) (ops : List Operand)
+    → puts c a new ops (λ _. seen) ≡ goes c ops (written (λ _. seen) a (held_of new))
+number_put Free new number e c a ops = absurd (cc e)
+number_put (Letters t) new number e c a ops = absurd (cc e)
+number_put (Word n) (item.Int z) number e c a ops = refl
+number_put (Word n) (item.Truth b) number e c a ops = absurd number
+number_put (Word n) (item.Text t) number e c a ops = absurd number
+
+-- "" goes behind "" in the cell of a text
+empty_put : (v : Value) (c : Position) (a : Addr) (ops : List Operand)
+    → or_halt (changed Append (item.Text []) (emptied v)) (λ new. puts c a new ops (λ _. Letters [])) ≡ goes c ops (written (λ _. Letters []) a (Letters []))
+empty_put (item.Int z) c a ops = refl
+empty_put (item.Truth b) c a ops = refl
+empty_put (item.Text t) c a ops = refl
+
+module _ (v old new : Value) (seen : Cell) (a : Addr) (c : Value → Position) (ops : List Operand) where
+  of_number : (by : Change) → changed by old v ≡ Ok new → ((go : Value → Move) → on_cell (change_kind by) seen go ≡ go old) → IsOf kinds.Int new
+      → on_cell kinds.Int seen (λ old. Ends) ≡ Ends → Example by v a c ops
+  of_number by e is number read = record {
+    operand = v;
+    like = (refl, omega arith);
+    cells = λ _. seen;
+    now = written (λ _. seen) a (held_of new);
+    leads =
+        is (λ old. or_halt (changed by old v) (λ new. puts (c v) a new ops (λ _. seen)))
+        ∙ ap (λ g. or_halt g (λ new. puts (c v) a new ops (λ _. seen))) e ∙ number_put seen new number read (c v) a ops;
+  }
+
+  example_of : (by : Change) → changed by old v ≡ Ok new → ((go : Value → Move) → on_cell (change_kind by) seen go ≡ go old) → Example by v a c ops
+  example_of Increase e is = of_number Increase e is (changed_gives Increase old v new e) (is (λ old. Ends))
+  example_of Decrease e is = of_number Decrease e is (changed_gives Decrease old v new e) (is (λ old. Ends))
+  example_of Append e is = record {
+    operand = emptied v;
+    like = emptied_like v;
+    cells = λ _. Letters [];
+    now = written (λ _. Letters []) a (Letters []);
+    leads = empty_put v (c (emptied v)) a ops;
+  }
 
 module _ (before after : Cells → Type 0) where
   -- the same, of a state that has these operands
@@ -160,6 +199,48 @@ module _ (before after : Cells → Type 0) where
         leads = inl ((λ _. Word n), pushed (λ _. Word n));
       }
 
+  -- where a value is known, it is the one that was read
+  read_so : (how : Option Halt) (c' : Control) (marks : ℕ) (c : Position) (kind : Kind) (v : Value) (a : Addr) → Reads before a kind v
+      → (go : Cells → Value → Move) → ((cells : Cells) → before cells → Does after how c' marks (stage (go cells v) c (scene_of cells marks)))
+      → (cells : Cells) → before cells → Does after how c' marks (stage (on_cell kind (cells a) (go cells)) c (scene_of cells marks))
+  read_so how c' marks c kind v a reads go so cells h = by (reads.known cells h (go cells))
+    where
+      by : (on_cell kind (cells a) (go cells) ≡ go cells v) ⊎ (on_cell kind (cells a) (go cells) ≡ Unknown)
+          → Does after how c' marks (stage (on_cell kind (cells a) (go cells)) c (scene_of cells marks))
+      by (inl e) = subst (λ m. Does after how c' marks (stage m c (scene_of cells marks))) (sym e) (so cells h)
+      by (inr e) = subst (λ m. Does after how c' marks (stage m c (scene_of cells marks))) (sym e) tt
+
+  -- a value that was put into a cell has room there, or none
+  module _ (marks : ℕ) (c : Position) (a : Addr) (v : Value) (ops : List Operand) where
+    abbrev fitting : Cells → Bool
+    fitting cells = texts_fit (cell_blocks (held_of v)) (blocks_in (written cells a (held_of v)))
+
+    abbrev put_if : Cells → Bool → Move
+    put_if cells fits = cond fits (goes c ops (written cells a (held_of v))) (Halts stops.TextRoom)
+
+    put_so : (how : Option Halt) (c' : Control)
+        → ((cells : Cells) → before cells → takes (held_of v) (cells a) ≡ true
+        → Does after how c' marks (stage (put_if cells (fitting cells)) c (scene_of cells marks)))
+        → (cells : Cells) → before cells → Does after how c' marks (stage (puts c a v ops cells) c (scene_of cells marks))
+    put_so how c' so cells h = by (takes (held_of v) (cells a)) refl
+      where
+        by : (b : Bool) → takes (held_of v) (cells a) ≡ b → Does after how c' marks
+            (stage (cond b (put_if cells (fitting cells)) Unknown) c (scene_of cells marks))
+        by true e = so cells h e
+        by false e = tt
+
+    put_done : PutsTaken before after a (held_of v) Done → (cells : Cells) → before cells
+        → Does after None (free (at c (c.pc + 1) ops)) marks (stage (puts c a v ops cells) c (scene_of cells marks))
+    put_done put = put_so None (free (at c (c.pc + 1) ops)) (λ cells h taken.
+        done after None (free (at c (c.pc + 1) ops)) marks _ (written cells a (held_of v)) (put cells h taken).1
+        (ap (λ b. stage (put_if cells b) c (scene_of cells marks)) (sym (put cells h taken).0)))
+
+    put_full : PutsTaken before after a (held_of v) HeapFull → (cells : Cells) → before cells
+        → Does after (halt_of TextRoom) (free c) marks (stage (puts c a v ops cells) c (scene_of cells marks))
+    put_full put = put_so (halt_of TextRoom) (free c) (λ cells h taken.
+        done after (halt_of TextRoom) (free c) marks _ cells (put cells h taken).1
+        (ap (λ b. stage (put_if cells b) c (scene_of cells marks)) (sym (put cells h taken).0)))
+
   module _ (kind : Kind) (v : Value) (a : Addr) (pc used : ℕ) (t : Stacked) (reads : Reads before a kind v) (kept : Keeps before after) where
     abbrev loading : Position
     loading = standing pc used (with_ops t (At a ∷ t.ops))
@@ -171,7 +252,8 @@ module _ (before after : Cells → Type 0) where
         → ((cells : Cells) (marks : ℕ) → stage_of (halt_of next) c' (scene_of cells marks) ≡ stage (loads cells v) loading (scene_of cells marks))
         → Accesses before after (Load kind) loading c' next
     load_so c' next so p marks = record {
-      does = λ cells h. by cells h (reads.known cells h (loads cells));
+      does = read_so (halt_of next) c' marks loading kind v a reads loads
+          (λ cells h. done after (halt_of next) c' marks _ cells (kept cells h) (so cells marks));
       ops = loading.ops;
       like = same_like loading.ops;
       cells = λ _. reads.seen;
@@ -180,13 +262,6 @@ module _ (before after : Cells → Type 0) where
         so (λ _. reads.seen) marks ∙ ap (λ m. stage m loading (scene_of (λ _. reads.seen) marks)) (sym (reads.is (loads (λ _. reads.seen)))),
       );
     }
-      where
-        by : (cells : Cells) → before cells
-            → (on_cell kind (cells a) (loads cells) ≡ loads cells v) ⊎ (on_cell kind (cells a) (loads cells) ≡ Unknown)
-            → Does after (halt_of next) c' marks (stage (on_cell kind (cells a) (loads cells)) loading (scene_of cells marks))
-        by cells h (inl e) =
-            done after (halt_of next) c' marks _ cells (kept cells h) (so cells marks ∙ ap (λ m. stage m loading (scene_of cells marks)) (sym e))
-        by cells h (inr e) = subst (λ m. Does after (halt_of next) c' marks (stage m loading (scene_of cells marks))) (sym e) tt
 
     pub load_goes : bytes_fit (bytes_on (Of v ∷ t.ops) (bytes_of t.frames)) ≡ true
         → Accesses before after (Load kind) loading (free (standing (pc + 1) used (with_ops t (Of v ∷ t.ops)))) On'
@@ -217,30 +292,9 @@ module _ (before after : Cells → Type 0) where
     like : AreLike (Of v ∷ At a ∷ t.ops) (Of (emptied v) ∷ At a ∷ t.ops)
     like = (emptied_like v, ((λ cell. cell), same_like t.ops))
 
-    -- what is stored has room, or none
-    abbrev stores : Cells → Bool → Move
-    stores cells fits = cond fits (goes (storing v) t.ops (written cells a (held_of v))) (Halts stops.TextRoom)
-
-    store_so : (c' : Control) (next : Next) (marks : ℕ)
-        → ((cells : Cells) → before cells → takes (held_of v) (cells a) ≡ true
-        → Does after (halt_of next) c' marks (stage (stores cells (texts_fit (cell_blocks (held_of v)) (blocks_in (written cells a (held_of v))))) (storing v)
-        (scene_of cells marks)))
-        → (p : Program) (cells : Cells) → before cells → Does after (halt_of next) c' marks (stage_by p (Store kind) marks (storing v) cells)
-    store_so c' next marks so p cells h = by (takes (held_of v) (cells a)) refl
-      where
-        by : (b : Bool) → takes (held_of v) (cells a) ≡ b → Does after (halt_of next) c' marks
-            (stage (cond b (stores cells (texts_fit (cell_blocks (held_of v)) (blocks_in (written cells a (held_of v))))) Unknown) (storing v)
-            (scene_of cells marks))
-        by true e = so cells h e
-        by false e = tt
-
-    pub store_goes : ((cells : Cells) → before cells → takes (held_of v) (cells a) ≡ true → PutsCell after cells a (held_of v) Done)
-        → Accesses before after (Store kind) (storing v) stored On'
-    store_goes puts p marks = record {
-      does = store_so stored On' marks (λ cells h taken.
-          let put = puts cells h taken in
-          done after None stored marks _ (written cells a (held_of v)) put.1
-          (ap (λ b. stage (stores cells b) (storing v) (scene_of cells marks)) (sym put.0))) p;
+    pub store_goes : PutsTaken before after a (held_of v) Done → Accesses before after (Store kind) (storing v) stored On'
+    store_goes put p marks = record {
+      does = put_done marks (storing v) a v t.ops put;
       ops = Of (emptied v) ∷ At a ∷ t.ops;
       like = like;
       cells = same;
@@ -250,13 +304,9 @@ module _ (before after : Cells → Type 0) where
       );
     }
 
-    pub store_full : ((cells : Cells) → before cells → takes (held_of v) (cells a) ≡ true → PutsCell after cells a (held_of v) HeapFull)
-        → Accesses before after (Store kind) (storing v) (free (storing v)) TextRoom
-    store_full puts p marks = record {
-      does = store_so (free (storing v)) TextRoom marks (λ cells h taken.
-          let put = puts cells h taken in
-          done after (halt_of TextRoom) (free (storing v)) marks _ cells put.1
-          (ap (λ b. stage (stores cells b) (storing v) (scene_of cells marks)) (sym put.0))) p;
+    pub store_full : PutsTaken before after a (held_of v) HeapFull → Accesses before after (Store kind) (storing v) (free (storing v)) TextRoom
+    store_full put p marks = record {
+      does = put_full marks (storing v) a v t.ops put;
       ops = Of (emptied v) ∷ At a ∷ t.ops;
       like = like;
       cells = same;
@@ -269,45 +319,71 @@ module _ (before after : Cells → Type 0) where
       });
     }
 
-  pub modify_so : (ch : Change) (n : ℕ) (v x : Value) (a : Addr) (pc used : ℕ) (t : Stacked) → Answers before a n → Writes before after a (held_of x)
-      → (z w : ℤ) → z ≡ number_in n → w ≡ number_of v → Ok x ≡ changed ch z w
-      → Accesses before after (Modify ch) (standing pc used (with_ops t (Of v ∷ At a ∷ t.ops))) (free (standing (pc + 1) used t)) On'
-  modify_so ch n v x a pc used t answers writes z w z_is w_is e p marks =
-      let is : Ok x ≡ changed ch (number_in n) (number_of v) = e ∙ ap (λ z. changed ch z w) z_is ∙ ap (changed ch _) w_is in
-      let c = standing pc used (with_ops t (Of v ∷ At a ∷ t.ops)) in
-      let c' = free (standing (pc + 1) used t) in
-      record {
-        does = λ cells h.
-            on_known None c' marks c (scene_of cells marks) (cells a) _ n (λ m e. answers cells m h e)
-            (λ bare. done after None c' marks _ (written cells a (held_of x)) (writes cells h bare)
-            (ap (λ m. stage m c (scene_of cells marks)) (if_ok _ x _ is)));
-        ops = c.ops;
-        like = same_like c.ops;
-        cells = λ _. Word n;
-        leads = inl (written (λ _. Word n) a (held_of x), ap (λ m. stage m c (scene_of (λ _. Word n) marks)) (if_ok _ x _ is));
-      }
+  module _ (by : Change) (v : Value) (a : Addr) (pc used : ℕ) (t : Stacked) where
+    abbrev changing : Value → Position
+    changing v = standing pc used (with_ops t (Of v ∷ At a ∷ t.ops))
 
-  pub modify_stops : (ch : Change) (n : ℕ) (v : Value) (stop : Stop) (next : Next) (a : Addr) (pc used : ℕ) (t : Stacked) → Answers before a n
-      → Keeps before after → (z w : ℤ) → z ≡ number_in n → w ≡ number_of v → Err stop ≡ changed ch z w
-      → halt_of next ≡ Some (halts.Stopped stop)
-      → Accesses before after (Modify ch) (standing pc used (with_ops t (Of v ∷ At a ∷ t.ops))) (free (standing pc used (with_ops t (Of v ∷ At a ∷ t.ops))))
-      next
-  modify_stops ch n v stop next a pc used t answers kept z w z_is w_is e how p marks =
-      let is : Err stop ≡ changed ch (number_in n) (number_of v) = e ∙ ap (λ z. changed ch z w) z_is ∙ ap (changed ch _) w_is in
-      let c = standing pc used (with_ops t (Of v ∷ At a ∷ t.ops)) in
-      let so : (cells : Cells) → stage_of (halt_of next) (free c) (scene_of cells marks)
-      ≡ stage (or_halt (changed ch (number_in n) (number_of v)) (λ x. goes c t.ops (written cells a (held_of x)))) c
-      (scene_of cells marks) =
-      λ cells. ap (λ how. stage_of how (free c) (scene_of cells marks)) how ∙ ap (λ m. stage m c (scene_of cells marks)) (if_err _ stop _ is) in
-      record {
-        does = λ cells h.
-            on_known (halt_of next) (free c) marks c (scene_of cells marks) (cells a) _ n (λ m e. answers cells m h e)
-            (λ bare. done after (halt_of next) (free c) marks _ cells (kept cells h) (so cells));
-        ops = c.ops;
-        like = same_like c.ops;
-        cells = λ _. Word n;
-        leads = inl ((λ _. Word n), so (λ _. Word n));
-      }
+    abbrev then : Cells → Value → Move
+    then cells new = puts (changing v) a new t.ops cells
+
+    -- what follows what was read is what follows what is given
+    given_so : (how : Option Halt) (c' : Control) (marks : ℕ) (old : Value) (g : Given) → Reads before a (change_kind by) old → changed by old v ≡ g
+        → ((cells : Cells) → before cells → Does after how c' marks (stage (or_halt g (then cells)) (changing v) (scene_of cells marks)))
+        → (p : Program) (cells : Cells) → before cells → Does after how c' marks (stage_by p (Modify by) marks (changing v) cells)
+    given_so how c' marks old g reads is so p =
+        read_so how c' marks (changing v) (change_kind by) old a reads (λ cells old. or_halt (changed by old v) (then cells))
+        (λ cells h. subst (λ g. Does after how c' marks (stage (or_halt g (then cells)) (changing v) (scene_of cells marks))) (sym is) (so cells h))
+
+    pub modify_goes : Changes before after a by v (Ok Done) → Accesses before after (Modify by) (changing v) (free (standing (pc + 1) used t)) On'
+    modify_goes r p marks =
+        let x = example_of v r.old r.to.0 r.reads.seen a changing t.ops by r.to.1.0 r.reads.is in
+        record {
+          does =
+              given_so None (free (standing (pc + 1) used t)) marks r.old (Ok r.to.0) r.reads r.to.1.0 (put_done marks (changing v) a r.to.0 t.ops r.to.1.1) p;
+          ops = Of x.operand ∷ At a ∷ t.ops;
+          like = (x.like, ((λ cell. cell), same_like t.ops));
+          cells = x.cells;
+          leads = inl (x.now, ap (λ m. stage m (changing x.operand) (scene_of x.cells marks)) (sym x.leads));
+        }
+
+    pub modify_full : Changes before after a by v (Ok HeapFull) → Accesses before after (Modify by) (changing v) (free (changing v)) TextRoom
+    modify_full r p marks =
+        let x = example_of v r.old r.to.0 r.reads.seen a changing t.ops by r.to.1.0 r.reads.is in
+        record {
+          does =
+              given_so (halt_of TextRoom) (free (changing v)) marks r.old (Ok r.to.0) r.reads r.to.1.0 (put_full marks (changing v) a r.to.0 t.ops r.to.1.1) p;
+          ops = Of x.operand ∷ At a ∷ t.ops;
+          like = (x.like, ((λ cell. cell), same_like t.ops));
+          cells = x.cells;
+          leads = inr (record {
+            stops = refl;
+            stays = refl;
+            after = free (standing (pc + 1) used t);
+            now = x.now;
+            goes = ap (λ m. stage m (changing x.operand) (scene_of x.cells marks)) x.leads;
+          });
+        }
+
+    pub modify_stops : (fault : Fault) (next : Next) → Changes before after a by v (Err fault) → halt_of next ≡ Some (halts.Stopped (stop_of fault))
+        → Accesses before after (Modify by) (changing v) (free (changing v)) next
+    modify_stops fault next r how p marks =
+        let so : (cells : Cells) → stage_of (halt_of next) (free (changing v)) (scene_of cells marks)
+        ≡ stage (Halts (stop_of fault)) (changing v) (scene_of cells marks) =
+        λ cells. ap (λ how. stage_of how (free (changing v)) (scene_of cells marks)) how in
+        record {
+          does = given_so (halt_of next) (free (changing v)) marks r.old (Err (stop_of fault)) r.reads r.to.0
+              (λ cells h. done after (halt_of next) (free (changing v)) marks _ cells (r.to.1 cells h) (so cells)) p;
+          ops = Of v ∷ At a ∷ t.ops;
+          like = same_like (Of v ∷ At a ∷ t.ops);
+          cells = λ _. r.reads.seen;
+          leads = inl (
+            (λ _. r.reads.seen),
+            so (λ _. r.reads.seen)
+                ∙ ap (λ m. stage m (changing v) (scene_of (λ _. r.reads.seen) marks))
+                (sym (r.reads.is (λ old. or_halt (changed by old v) (then (λ _. r.reads.seen)))
+                ∙ ap (λ g. or_halt g (then (λ _. r.reads.seen))) r.to.0)),
+          );
+        }
 
   pub limit_stops : (way : Way) (to : ℕ) (c : Position) (w : Waits) (both : TopBoth c.ops) → w ≡ Nothing → false ≡ cells_fit (c.used + 1) → Keeps before after
       → Accesses before after (Limit way to) c (record { position = c; waits = w }) CellRoom

@@ -1,13 +1,17 @@
--- What is read out of a cell, and put into one.
-use Rattle.std.specs.Prelude.{◌≡◌, ◌⊎◌, true, false}
+-- What is read out of a cell, put into one, and changed there.
+use Rattle.std.specs.Prelude.{◌≡◌, ◌⊎◌, true, false, Result, Ok, Err}
 use Rattle.eu_base.specs.declared.address.Addr.{Addr}
 use Rattle.eu_base.specs.declared.set.Set.{Set}
 use Rattle.eu_base.specs.declared.set.Set.TheVariants.{Done, HeapFull}
 use Rattle.eu_base.specs.declared.value.Kind.{Kind}
 use Rattle.eu_base.specs.declared.value.Value.{Value}
+use Rattle.eu_base.specs.declared.operation.Change.{Change}
 use Rattle.eu_base.specs.Room.{texts_fit}
-use Rattle.eu_base.specs.Cells.{Cell, Cells, written, cell_blocks, blocks_in}
-use Rattle.code_form.specs.Machine.{Move, Unknown, on_cell}
+use Rattle.eu_base.specs.Cells.{Cell, Cells, held_of, written, cell_blocks, blocks_in}
+use Rattle.eu_base.specs.Operations.{change_kind, changed}
+use Rattle.code_form.specs.Machine.{Move, Unknown, on_cell, takes}
+use Rattle.zero_ops.specs.declared.error.Fault.{Fault}
+use Rattle.zero_ops.specs.Given.{stop_of}
 
 -- the value of a kind that a cell holds, where that is known
 abbrev pub IsRead : Kind → Cell → Value → Type 0
@@ -23,3 +27,19 @@ pub record Reads (holds : Cells → Type 0) (at : Addr) (kind : Kind) (v : Value
 abbrev pub PutsCell : (Cells → Type 0) → Cells → Addr → Cell → Set → Type 0
 PutsCell holds cells at x Done = (texts_fit (cell_blocks x) (blocks_in (written cells at x)) ≡ true) × holds (written cells at x)
 PutsCell holds cells at x HeapFull = (texts_fit (cell_blocks x) (blocks_in (written cells at x)) ≡ false) × holds cells
+
+-- the same where the cell takes it
+abbrev pub PutsTaken : (before after : Cells → Type 0) → Addr → Cell → Set → Type 0
+PutsTaken before after at x set = (cells : Cells) → before cells → takes x (cells at) ≡ true → PutsCell after cells at x set
+
+-- what came of a change: the new value was put into the cell, or has no room there; or there is none, and nothing changed
+abbrev pub ChangesTo : (before after : Cells → Type 0) → Addr → Change → (old operand : Value) → Result Set Fault → Type 0
+ChangesTo before after at by old operand (Ok set) =
+    (new : Value) × ((changed by old operand ≡ Ok new) × PutsTaken before after at (held_of new) set)
+ChangesTo before after at by old operand (Err fault) = (changed by old operand ≡ Err (stop_of fault)) × ((cells : Cells) → before cells → after cells)
+
+-- a value was read, and changed so
+pub record Changes (before after : Cells → Type 0) (at : Addr) (by : Change) (operand : Value) (result : Result Set Fault) : Type 0 where
+  pub old : Value
+  pub reads : Reads before at (change_kind by) old
+  pub to : ChangesTo before after at by old operand result

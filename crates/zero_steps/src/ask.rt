@@ -1,11 +1,11 @@
 //! Requests.
-ghost use Rattle.std.specs.Prelude.{◌≡◌, ◌+◌, IfOk, Some, [], List, length};
+ghost use Rattle.std.specs.Prelude.{◌≡◌, ◌+◌, IfOk, Some, length};
 ghost use Rattle.eu_base.specs.Cells.{Cells};
 ghost use Rattle.eu_base.specs.Requests.{request_kinds};
 ghost use Rattle.code_form.specs.Program.{Program};
 ghost use Rattle.code_form.specs.declared.instr.Instr.TheVariants as instrs;
 ghost use Rattle.code_form.specs.Machine.{instruction, stage};
-ghost use Rattle.zero_state.specs.Finds.{Finds, TopValues};
+ghost use Rattle.zero_state.specs.Finds.{TopValues};
 ghost use Rattle.zero_state.specs.Stepping.{position_of, control_of, scene_of, stage_of, halt_of, IsReady};
 
 use crate::values::pop_values;

@@ -2,9 +2,11 @@
 #![tactic(auto)]
 
 pub mod ask;
+pub mod change;
 mod counter;
 pub mod operate;
 pub mod push;
 mod reading;
 pub mod step;
+pub mod stop;
 mod values;

@@ -1,14 +1,11 @@
 //! Operations on what is pending.
-ghost use Rattle.std.specs.Prelude.{◌≡◌, ℕ, ◌+◌, ◌^◌, ◌<◌, ◌∷◌, IfOk, Some, None, false, length};
+ghost use Rattle.std.specs.Prelude.{◌≡◌, ◌<◌, IfOk, Some, None, false, length};
 ghost use Rattle.eu_base.specs.Cells.{Cells};
-ghost use Rattle.eu_base.specs.Operations.{Given, operand_kinds, result_of};
+ghost use Rattle.eu_base.specs.Operations.{Given, operand_kinds};
 ghost use Rattle.code_form.specs.declared.instr.Instr.TheVariants as instrs;
-ghost use Rattle.code_form.specs.declared.operand.Operand.TheVariants as operand;
-ghost use Rattle.code_form.specs.Machine.{instruction, stage};
 ghost use Rattle.zero_ops.specs.Given.{given_of, has_texts, Gives};
-ghost use Rattle.zero_state.specs.declared.next.Next.TheVariants as nexts;
 ghost use Rattle.zero_state.specs.Finds.{TopValue, TopValues};
-ghost use Rattle.zero_state.specs.Stepping.{position_of, control_of, scene_of, stage_of, IsReady, StepsSo};
+ghost use Rattle.zero_state.specs.Stepping.{position_of, control_of, IsReady, StepsSo};
 
 use crate::push::give;
 use crate::values::{pop_values, push_values};
@@ -24,7 +21,7 @@ pub fn operate(s: &mut State, operation: Operation) -> Result<Next, NoMemory>
     ensures { IfOk result (λ next. (cells : Cells) → StepsSo (instrs.Do operation) (position_of s.old) cells (control_of s.new) cells next) }
 {
     match operation {
-        Operation::EmptyText | Operation::OnTexts(_) => operate_on_values(s, operation),
+        Operation::OnTexts(_) => operate_on_values(s, operation),
         _ => operate_on_numbers(s, operation),
     }
 }

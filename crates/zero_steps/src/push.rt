@@ -3,16 +3,19 @@ ghost use Rattle.std.specs.Prelude.{◌≡◌, ℕ, ◌+◌, ◌^◌, ◌<◌, t
 ghost use Rattle.eu_base.specs.Cells.{Cells};
 ghost use Rattle.code_form.specs.Machine.{pushes, stage};
 ghost use Rattle.code_form.specs.declared.halt.Halt.TheVariants as halts;
+ghost use Rattle.code_form.specs.declared.instr.Instr.TheVariants as instrs;
 ghost use Rattle.zero_ops.specs.Given.{given_of, stop_of};
-ghost use Rattle.zero_state.specs.Stepping.{position_of, control_of, scene_of, stage_of, halt_of, has_room, IsReady};
+ghost use Rattle.zero_state.specs.Stepping.{position_of, control_of, scene_of, stage_of, halt_of, has_room, IsReady, StepsSo};
 ghost use Rattle.zero_steps.specs.Giving.{fits_with, pushed, GivesSo};
 
 use code_form::Operand;
-use eu_base::{NoMemory, Value};
+use eu_base::{Bytes, NoMemory, Value};
 use zero_ops::Fault;
 use zero_state::{Next, State};
 
 /// Whether an operand has room. It is pushed then, and the machine goes on; else nothing is done.
+// Inlined as the next ones, since a call would pass the operand through memory at each instruction of a program.
+#[inline(always)]
 pub fn push(s: &mut State, operand: Operand) -> Result<bool, NoMemory>
     requires room { has_room s.old ≡ true }
     requires next { s.old.pc + 1 < 2 ^ 64 }
@@ -28,6 +31,7 @@ pub fn push(s: &mut State, operand: Operand) -> Result<bool, NoMemory>
 }
 
 /// Pushes an operand, or stops.
+#[inline(always)]
 pub fn push_on(s: &mut State, operand: Operand) -> Result<Next, NoMemory>
     requires { IsReady s.old }
     ensures { IfOk result (λ next. (cells : Cells) (marks : ℕ) → stage_of (halt_of next) (control_of s.new) (scene_of cells marks) ≡ stage
@@ -41,7 +45,18 @@ pub fn push_on(s: &mut State, operand: Operand) -> Result<Next, NoMemory>
     Ok(Next::On)
 }
 
+/// TEXT. The text is copied. It stands outside the loop of a run, which is quicker so.
+#[inline(never)]
+pub fn push_text(s: &mut State, text: &[u8]) -> Result<Next, NoMemory>
+    requires { IsReady s.old }
+    ensures { IfOk result (λ next. (cells : Cells) → StepsSo (instrs.Text text.now) (position_of s.old) cells (control_of s.new) cells next) }
+{
+    let copy = Bytes::from(s.alloc, text)?;
+    push_on(s, Operand::Value(Value::Text(copy)))
+}
+
 /// Pushes what an operation gives; what stops it, or `None` where the machine goes on.
+#[inline(always)]
 pub fn give(s: &mut State, given: Result<Value, Fault>) -> Result<Option<Next>, NoMemory>
     requires room { has_room s.old ≡ true }
     requires next { s.old.pc + 1 < 2 ^ 64 }

@@ -1,8 +1,7 @@
 //! Values in cells.
-ghost use Rattle.std.specs.Prelude.{◌≡◌, IfOk, OnOk, true};
+ghost use Rattle.std.specs.Prelude.{IfOk, OnOk};
 ghost use Rattle.eu_base.specs.Cells.{Cells, IsCell, held_of, HasFaultCause};
-ghost use Rattle.code_form.specs.Machine.{takes};
-ghost use Rattle.zero_steps.specs.Reading.{Reads, PutsCell};
+ghost use Rattle.zero_steps.specs.Reading.{Reads, PutsTaken};
 
 use eu_base::{Addr, Kind, MemFault, Memory, Set, Value, number_in, truth_in};
 
@@ -24,8 +23,7 @@ pub fn value_at<M: Memory>(m: &mut M, at: Addr, kind: Kind) -> Result<Value, Mem
 /// Puts a value into a cell, where all texts then have room. Else nothing changes.
 pub fn put<M: Memory>(m: &mut M, at: Addr, value: &Value) -> Result<Set, MemFault>
     requires { IsCell at }
-    ensures puts { IfOk result (λ set. (cells : Cells) → M.holds m.old cells → takes (held_of value.now) (cells at) ≡ true →
-        PutsCell (M.holds m.new) cells at (held_of value.now) set) }
+    ensures puts { IfOk result (PutsTaken (M.holds m.old) (M.holds m.new) at (held_of value.now)) }
     ensures cause { HasFaultCause (M.faults m.old) (M.faults m.new) result }
     ensures follows { M.follows m.old m.new }
 {

@@ -1,19 +1,18 @@
 //! What single instructions do with variables, limits and jumps.
-ghost use Rattle.std.specs.Prelude.{◌≡◌, ℕ, ◌+◌, ◌≤◌, ◌∷◌, OnOk, IfOk, Some, None, false};
+ghost use Rattle.std.specs.Prelude.{◌≡◌, ◌+◌, ◌≤◌, OnOk, IfOk, false};
 ghost use Rattle.eu_base.specs.Cells.{Cells, IsCell, run_cell, without, HasFaultCause};
-ghost use Rattle.eu_base.specs.Operations.{operand_kinds, has_reached, next_number};
-ghost use Rattle.code_form.specs.declared.operand.Operand.TheVariants as operand;
+ghost use Rattle.eu_base.specs.Operations.{has_reached, next_number};
 ghost use Rattle.code_form.specs.declared.instr.Instr.TheVariants as instrs;
-ghost use Rattle.code_form.specs.Machine.{base_of, pushes, instruction, stage};
+ghost use Rattle.code_form.specs.Machine.{base_of};
 ghost use Rattle.zero_state.specs.Finds.{TopValue, TopPlace, TopBoth};
-ghost use Rattle.zero_state.specs.Stepping.{position_of, control_of, scene_of, stage_of, halt_of, IsReady, GoesOn, StepsSo, Accesses};
+ghost use Rattle.zero_state.specs.Stepping.{position_of, control_of, IsReady, GoesOn, StepsSo, Accesses};
 
 use crate::counter::{has_reached, is_past};
-use crate::push::{push, push_on, stopped};
+use crate::push::{push, push_on};
 use crate::reading::{put, value_at};
+use crate::values::put_back;
 use code_form::Operand;
-use eu_base::{Change, Kind, MemFault, Memory, NoMemory, Set, Value, Way, number_in};
-use zero_ops::change;
+use eu_base::{Kind, MemFault, Memory, NoMemory, Set, Value, Way, number_in};
 use zero_state::{Next, State, have_room, place_in, run_cell};
 
 /// OUTER
@@ -82,8 +81,7 @@ pub fn store<M: Memory>(s: &mut State, m: &mut M, kind: Kind) -> Result<Next, Me
             Ok(Next::On)
         }
         Set::HeapFull => {
-            s.stack.push(Operand::Place(at))?;
-            s.stack.push(Operand::Value(value))?;
+            put_back(&mut s.stack, at, value)?;
             Ok(Next::TextRoom)
         }
     }
@@ -190,30 +188,5 @@ fn next(way: Way, limit: i16, number: i16) -> i16
     match way {
         Way::Up => number + 1,
         Way::Down => number - 1,
-    }
-}
-
-/// DO of INCR and DECR.
-pub fn modify<M: Memory>(s: &mut State, m: &mut M, by: Change) -> Result<Next, MemFault>
-    requires ready { IsReady s.old }
-    requires finds { TopBoth s.old.stack.ops }
-    ensures goes { IfOk result (Accesses (M.holds m.old) (M.holds m.new) (instrs.Modify by) (position_of s.old) (control_of s.new)) }
-    ensures cause { HasFaultCause (M.faults m.old) (M.faults m.new) result }
-    ensures follows { M.follows m.old m.new }
-{
-    let operand = s.stack.pop_value();
-    let at = s.stack.pop_place();
-    let number = number_in(m.cell(at)?);
-    match change(by, number, operand.number()) {
-        Ok(value) => {
-            m.set_cell(at, value.cell())?;
-            s.pc += 1;
-            Ok(Next::On)
-        }
-        Err(fault) => {
-            s.stack.push(Operand::Place(at))?;
-            s.stack.push(Operand::Value(operand))?;
-            Ok(stopped(fault))
-        }
     }
 }

@@ -5,14 +5,16 @@ use Rattle.std.proofs.lemmas.Grind.{common_steps}
 use borrow.Author.Tests.{tests}
 use Rattle.elan_types.specs.Eval.{Labelled}
 use Rattle.elan_types.specs.declared.core_phrase.Action.TheFolds.{the_lemmas}
+use Rattle.eu_base.specs.declared.value.Kind.TheVariants as kinds
 use Rattle.eu_base.specs.Operations.{operand_kinds, result_kind}
+use Rattle.eu_base.specs.Requests.{request_kinds}
 use Rattle.code_form.specs.declared.operand.OperandKind.TheVariants as operand
-use Rattle.code_form.specs.declared.instr.Instr.TheVariants.{Mark, Do, Jump, False}
+use Rattle.code_form.specs.declared.instr.Instr.TheVariants.{Mark, Do, Jump, False, Ask, ErrorStop}
 use Rattle.place_gen.specs.Counted.{counted}
 use Rattle.place_gen.specs.Stretch.{Stretch, one, keeps, join, if_code, all_code, select_code, whens_code, while_code, until_code, exit_join, stays}
-use Rattle.place_gen.specs.Stretch.{turns_code, loop_code, turn_of, value_parts, action_parts, value_code, action_code, actual_code}
-use Rattle.place_gen.specs.Stretch.{value_arm_code, arm_code_of}
-use Rattle.place_gen.specs.Steps.{step_exit}
+use Rattle.place_gen.specs.Stretch.{turns_code, value_parts, action_parts, value_code, action_code, actual_code}
+use Rattle.place_gen.specs.Stretch.{value_arm_code, arm_code_of, place_code, store_code, modify_code, limit_code}
+use Rattle.place_gen.specs.Steps.{step_of, turn_of, loop_code, count_code}
 use Rattle.place_gen.specs.Makes.{Makes, MakesExit, MakesArm, MakesTurn, ComesBack}
 use Rattle.place_gen.proofs.Select.{select_size}
 use Rattle.place_gen.proofs.Makes.{rest_of, none_makes, same_makes, join_makes, if_makes, until_makes, turn_exit, turns_makes, arm_makes, IsAt, arm_at}
@@ -116,21 +118,20 @@ add_until-returns-in-Some t c =
 
 pub add_turns-returns-in-Loop : goal.add_turns-returns-in-Loop
 add_turns-returns-in-Loop t c =
-    let s = step_exit c.args.step in
-    let turn = turn_of c.args.action.now s in
-    let e : turns_code turn ≡ loop_code c.args.action.now s = search (rules, the_lemmas, c.in-Loop.is) in
-    let k = subst (λ f. c.count_loop.result ≡ counted f.size) (sym e) (c.count_loop.ensures s (sym c.step_size.ensures)) in
+    let turn = turn_of c.args.action.now in
+    let e : turns_code turn ≡ loop_code c.args.action.now = search (rules, the_lemmas, c.in-Loop.is) in
+    let k = subst (λ f. c.count_loop.result ≡ counted f.size) (sym e) c.count_loop.ensures in
     subst (λ f. Makes f c.args.out.now c.add-in-Loop.new.self) e
     (turns_makes c.ahead-end.ensures.draft (λ h. c.ahead-end.ensures.place h (turns_code turn).size k) c.len-top.ensures c.add.ensures c.add_turn.ensures
     c.add-in-Loop.ensures)
 
 pub add_turn-returns-in-Loop : goal.add_turn-returns-in-Loop
 add_turn-returns-in-Loop t c =
-    let s = step_exit c.args.step in
+    let s = step_of c.args.action.now in
     let w = while_code (option_map value_code c.in-Loop.condition) in
     let u = until_code (option_map value_code c.in-Loop.until) in
     let us = all_code (map action_code c.in-Loop.units) in
-    let e : exit_join w (exit_join (stays us) (exit_join u s)) ≡ turn_of c.args.action.now s = search (rules, the_lemmas, c.in-Loop.is) in
+    let e : exit_join w (exit_join (stays us) (exit_join u s)) ≡ turn_of c.args.action.now = search (rules, the_lemmas, c.in-Loop.is) in
     let x3 = subst (λ l. Makes (all_code (map action_code l)) c.add_while.new.out c.add_actions.new.out) c.as_slice.ensures c.add_actions.ensures in
     let x4 = subst (λ ks. ComesBack ks c.add_actions.new.out c.restore.new.self) c.as_slice-in-Loop.ensures c.restore.ensures in
     subst (λ f. MakesExit f c.args.end c.args.out.now c.put_step.new.out) e
@@ -267,3 +268,71 @@ pub add_turn-add_actions-requires : goal.add_turn-add_actions-requires
 add_turn-add_actions-requires t c =
     either c.in-Loop.is (λ e. search (rules, the_lemmas, e, c.as_slice.ensures))
     (λ x. let e = x.4 in search (rules, the_lemmas, tests, common_steps, e, c.as_slice.ensures))
+
+pub add_action-returns-in-Unit : goal.add_action-returns-in-Unit
+add_action-returns-in-Unit t c =
+    let e : join (one Mark keeps) (all_code (map action_code c.as_slice.result.now)) ≡ action_code c.args.action.now =
+    search (rules, the_lemmas, c.in-Unit.is, c.as_slice.ensures) in
+    subst (λ f. Makes f c.args.out.now c.add_actions.new.out) e (join_makes c.add.ensures c.add_actions.ensures)
+
+pub add_action-returns-in-Modify : goal.add_action-returns-in-Modify
+add_action-returns-in-Modify t c =
+    let x = subst (λ k. Makes (place_code c.in-Modify.place k) c.args.out.now c.put_place.new.out) c.kind.ensures c.put_place.ensures in
+    let e : modify_code c.in-Modify.place c.in-Modify.change (value_code c.in-Modify.value) ≡ action_code c.args.action.now =
+    search (rules, the_lemmas, c.in-Modify.is) in
+    subst (λ f. Makes f c.args.out.now c.add-in-Modify.new.self) e (join_makes x (join_makes c.add_value.ensures c.add-in-Modify.ensures))
+
+pub add_action-returns-in-If : goal.add_action-returns-in-If
+add_action-returns-in-If t c =
+    let us = all_code (map action_code c.in-If.first) in
+    let vs = all_code (map action_code c.in-If.second) in
+    let d1 = c.add_value-in-If.new.out in
+    let d3 = c.add_actions-in-If.new.out in
+    let d5 = c.add_actions-in-If-2.new.out in
+    let k2 = subst (λ l. c.count_actions.result ≡ counted (all_code (map action_code l)).size) c.as_slice-in-If-2.ensures c.count_actions.ensures in
+    let x2 =
+    subst (λ ks. MakesTurn (False (length d1.lines + 1 + us.size + 1)) ks d1 c.put_test.new.out) c.as_slice-in-If.ensures
+    (c.put_test.ensures us.size k2) in
+    let x3 = subst (λ l. Makes (all_code (map action_code l)) c.put_test.new.out d3) c.as_slice-in-If-3.ensures c.add_actions-in-If.ensures in
+    let k4 = subst (λ l. c.count_actions-in-If.result ≡ counted (all_code (map action_code l)).size) c.as_slice-in-If-5.ensures c.count_actions-in-If.ensures in
+    let x4 =
+    subst (λ ks. MakesTurn (Jump (length d3.lines + 1 + vs.size)) ks d3 c.put_else.new.out) c.as_slice-in-If-4.ensures
+    (c.put_else.ensures vs.size k4) in
+    let x5 = subst (λ l. Makes (all_code (map action_code l)) c.put_else.new.out d5) c.as_slice-in-If-6.ensures c.add_actions-in-If-2.ensures in
+    let e : if_code (value_code c.in-If.c) us vs ≡ action_code c.args.action.now = search (rules, the_lemmas, c.in-If.is) in
+    subst (λ f. Makes f c.args.out.now d5) e (if_makes c.kept-below.ensures.draft c.kept-below.ensures.kinds c.add_value-in-If.ensures x2 x3 x4 x5)
+
+pub add_action-returns-in-Select : goal.add_action-returns-in-Select
+add_action-returns-in-Select t c =
+    let e : join (value_code c.in-Select.v) (action_parts c.args.action.now) ≡ action_code c.args.action.now = search (rules, the_lemmas, c.in-Select.is) in
+    subst (λ f. Makes f c.args.out.now c.add_parts.new.out) e (join_makes c.add_value-in-Select.ensures c.add_parts.ensures)
+
+pub add_action-returns-in-Ask : goal.add_action-returns-in-Ask
+add_action-returns-in-Ask t c =
+    let name = c.in-Ask.name in
+    let e : join (all_code (map value_code c.as_slice-in-Ask.result.now)) (one (Ask name) (drop (length (request_kinds name)))) ≡ action_code c.args.action.now =
+    search (rules, the_lemmas, c.in-Ask.is, c.as_slice-in-Ask.ensures) in
+    subst (λ f. Makes f c.args.out.now c.put_request.new.out) e (join_makes c.add_values.ensures c.put_request.ensures)
+
+pub add_action-returns-in-ErrorStop : goal.add_action-returns-in-ErrorStop
+add_action-returns-in-ErrorStop t c =
+    let e : join (value_code c.in-ErrorStop.text) (one ErrorStop (drop 1)) ≡ action_code c.args.action.now = search (rules, the_lemmas, c.in-ErrorStop.is) in
+    subst (λ f. Makes f c.args.out.now c.add-in-ErrorStop.new.self) e (join_makes c.add_value-in-ErrorStop.ensures c.add-in-ErrorStop.ensures)
+
+pub add_count-returns-in-None : goal.add_count-returns-in-None
+add_count-returns-in-None t c =
+    let e : join (store_code c.in-Count.counter kinds.Int (value_code c.in-Count.from)) (loop_code c.args.action.now) ≡ count_code c.args.action.now =
+    search (rules, the_lemmas, c.in-Count.is, c.in-None.is) in
+    subst (λ f. Makes f c.args.out.now c.add_turns.new.out) e (join_makes c.add_store.ensures c.add_turns.ensures)
+
+pub add_count-returns-in-Some : goal.add_count-returns-in-Some
+add_count-returns-in-Some t c =
+    let p = c.in-Count.counter in
+    let rest = join (place_code p kinds.Int) (join (value_code c.in-Some.limit) (limit_code c.in-Count.way (loop_code c.args.action.now))) in
+    let e : join (store_code p kinds.Int (value_code c.in-Count.from)) rest ≡ count_code c.args.action.now =
+    search (rules, the_lemmas, c.in-Count.is, c.in-Some.is) in
+    subst (λ f. Makes f c.args.out.now c.add_limited.new.out) e
+    (join_makes c.add_store.ensures (join_makes c.put_place.ensures (join_makes c.add_value.ensures c.add_limited.ensures)))
+
+pub add_store-returns : goal.add_store-returns
+add_store-returns t c = join_makes c.put_place.ensures (join_makes c.add_value.ensures c.add.ensures)

@@ -8,8 +8,8 @@ use Rattle.zero_calls.proofs.Results.{result_fits}
 use Rattle.zero_calls.proofs.Leaving.{leaves_made}
 use Rattle.zero_calls.proofs.calls.back_around.Goals as goal
 
-pub return_with-requires : goal.return_with-requires
-return_with-requires g c =
+pub return_from-requires-clause-room : goal.return_from-requires-clause-room
+return_from-requires-clause-room g c =
     let taken = c.take_result-result in
     let held = ap bytes_of taken.ensures.frames in
     result_fits c.args.s.now.stack (result_ops taken.result) taken.new.stack.ops c.leave_proc-link.new.stack.ops (bytes_of c.leave_proc-link.new.stack.frames)
@@ -22,8 +22,8 @@ returns-clause-goes g c =
     let left = c.leave_proc-link in
     let now = position_of c.args.s.now in
     let ops = result_ops taken.result in
-    leaves_made (g.M.Memory.holds c.args.m.now) (g.M.Memory.holds c.free_frame.new.m) p (instrs.Out c.args.kind) now (linked left.result left.new.stack.ops)
+    leaves_made (g.M.Memory.holds c.args.m.now) (g.M.Memory.holds c.return_from.new.m) p (instrs.Out c.args.kind) now (linked left.result left.new.stack.ops)
     left.new.stack.frames ops
     (λ cells. taken.ensures.taken (λ result. out_to p result now.used now.frames cells)
     ∙ ap (λ fs. out_to p ops now.used fs cells) (sym taken.ensures.frames) ∙ left.ensures.leads p ops now.used cells)
-    c.free_frame.result (control_of c.return_with.new.s) c.args.s.now.waits c.requires.ready.free c.in_ok-return_with.ensures c.free_frame.ensures.freed
+    c.return_from.result (control_of c.return_from.new.s) c.args.s.now.waits c.requires.ready.free c.return_from.ensures.goes c.return_from.ensures.freed

@@ -1,8 +1,8 @@
-use Rattle.std.proofs.Common.{◌≡◌, ◌≤◌, ◌+◌, suc, length, sym, ◌∙◌, subst, arith}
-use Rattle.eu_base.specs.Cells.{freed}
-use Rattle.zero_calls.proofs.Freeing.{freed_none, next_text, next_number, text_stands, number_stands}
+use Rattle.std.proofs.Common.{◌≡◌, ◌+◌, length, sym, subst, arith}
+use Rattle.eu_base.specs.Cells.{run_cell, freed}
+use Rattle.zero_calls.specs.Frames.{HoldsText}
+use Rattle.zero_calls.proofs.Freeing.{freed_none, text_stands}
 use Rattle.zero_calls.proofs.texts.clear_operands.Goals as goal
-use Rattle.zero_calls.proofs.texts.clear_operands.Goals.{then-is_text+in_ok-clear, else-is_text}
 
 pub loop-index-init : goal.loop-index-init
 loop-index-init g c = record {
@@ -17,34 +17,14 @@ loop-index-init g c = record {
 pub loop-index-preserved : goal.loop-index-preserved
 loop-index-preserved g c = record {
   freed = λ cells h stand.
-      let at = c.args.at in
-      let k = c.args.at + c.loop-index.index in
-      let low : at ≤ k = omega arith in
-      let next : suc k ≡ at + (c.loop-index.index + 1) = omega arith in
-      let so_far = c.loop-index.invariant.freed cells h stand in
-      elim c.if-is_text.branch [
-        | then-is_text+in_ok-clear w ↦ subst (λ m. g.M.Memory.holds m (freed at (at + (c.loop-index.index + 1)) cells)) (sym w.m-is)
-            (subst (λ n. g.M.Memory.holds w.clear.new.m (freed at n cells)) next
-            (next_text (g.M.Memory.holds w.clear.new.m) (g.met.M.Memory.forgets w.clear.new.m) at k low cells
-            (w.in_ok-clear.ensures.cleared (freed at k cells) so_far)
-            (text_stands at c.loop-index.index c.args.operands.now c.index-operands-index.result cells stand c.loop-index-test.true c.index-operands-index.is
-            (sym c.is_text.ensures ∙ w.if-is_text.true))))
-        | else-is_text w ↦ subst (λ m. g.M.Memory.holds m (freed at (at + (c.loop-index.index + 1)) cells)) (sym w.m-is)
-            (subst (λ n. g.M.Memory.holds c.loop-index.m (freed at n cells)) next
-            (next_number (g.M.Memory.holds c.loop-index.m) (g.met.M.Memory.forgets c.loop-index.m) at k low cells so_far
-            (number_stands at c.loop-index.index c.args.operands.now c.index-operands-index.result cells stand c.loop-index-test.true c.index-operands-index.is
-            (sym c.is_text.ensures ∙ w.if-is_text.false))))
-      ];
-  later = elim c.if-is_text.branch [
-    | then-is_text+in_ok-clear w ↦ subst (λ m. g.M.Memory.faults c.args.m.now ≤ g.M.Memory.faults m) (sym w.m-is)
-        (omega (arith, c.loop-index.invariant.later, w.clear.ensures.cause.later))
-    | else-is_text w ↦ subst (λ m. g.M.Memory.faults c.args.m.now ≤ g.M.Memory.faults m) (sym w.m-is) c.loop-index.invariant.later
-  ];
-  follows = elim c.if-is_text.branch [
-    | then-is_text+in_ok-clear w ↦ subst (λ m. g.M.Memory.follows c.args.m.now m) (sym w.m-is)
-        (g.met.M.Memory.transitive _ _ _ c.loop-index.invariant.follows w.clear.ensures.follows)
-    | else-is_text w ↦ subst (λ m. g.M.Memory.follows c.args.m.now m) (sym w.m-is) c.loop-index.invariant.follows
-  ];
+      let next : c.args.at + c.loop-index.index + 1 ≡ c.args.at + (c.loop-index.index + 1) = omega arith in
+      subst (λ n. g.M.Memory.holds c.free_cell.new.m (freed c.args.at n cells)) next
+      (c.in_ok-free_cell.ensures.freed c.args.at cells (omega arith) (c.loop-index.invariant.freed cells h stand)
+      (subst (λ b. HoldsText b (cells (run_cell (c.args.at + c.loop-index.index)))) (sym c.is_text.ensures)
+      (text_stands c.args.at c.loop-index.index c.args.operands.now c.index-operands-index.result cells stand c.loop-index-test.true
+      c.index-operands-index.is)));
+  later = omega (arith, c.loop-index.invariant.later, c.free_cell.ensures.cause.later);
+  follows = g.met.M.Memory.transitive _ _ _ c.loop-index.invariant.follows c.free_cell.ensures.follows;
 }
 
 pub returns-clause-cleared : goal.returns-clause-cleared
