@@ -51,7 +51,6 @@ use Rattle.elan_judge.proofs.InScope.{InScope, body_units_in}
 use Rattle.elan_levels.proofs.Held.{held_append}
 use Rattle.elan_levels.proofs.OwnNames.{own_held}
 use Rattle.elan_rules.proofs.TypedPerformed.{owner_with}
-use Rattle.elan_levels.specs.walks.Headings.{all_headings}
 
 -- ---- lists
 

@@ -1,9 +1,8 @@
 -- Whatever refinement is looked at next, what is found of it is what is known in the end; and rounds that begin anywhere on the way
 -- find all.
-use Rattle.std.proofs.Common.{◌≡◌, ℕ, zero, suc, ◌+◌, ◌-◌, ◌≤◌, ◌<◌, Bool, true, false, not, ◌||◌, List, [], ◌∷◌, map, length, Option, Some, None}
+use Rattle.std.proofs.Common.{◌≡◌, ℕ, zero, suc, ◌+◌, ◌-◌, ◌≤◌, Bool, true, false, not, ◌||◌, List, [], ◌∷◌, map, length, Option, Some, None}
 use Rattle.std.proofs.Common.{if◌then◌else◌, refl, sym, ap, subst, ◌∙◌, ◌⊎◌, inl, inr, arith}
 use Rattle.std.specs.Prelude.{slice_get, slice_index_or, slice_set}
-use Rattle.elan_types.specs.declared.elan_type.ElanType.{ElanType}
 use Rattle.elan_types.specs.declared.core_phrase.Exit.{Exit}
 use Rattle.elan_types.specs.declared.core_phrase.Exit.TheVariants as exits
 use Rattle.elan_tree.specs.declared.tree.Level.{Level}
@@ -19,7 +18,7 @@ use Rattle.elan_scope.specs.Phrase.{Phrase, phrase, Parts, none, part}
 use Rattle.elan_levels.specs.Bodies.{headings}
 use Rattle.elan_judge.proofs.InScope.{InScope, AllIn, MayIn}
 use Rattle.elan_check.specs.Level.{level_bodies}
-use Rattle.elan_check.specs.Refinements.{stated, last_part, last_unit, outcome, unit_delivery, next, next_all, called_in, known_after}
+use Rattle.elan_check.specs.Refinements.{stated, last_part, last_unit, outcome, unit_delivery, next_all, known_after}
 use Rattle.elan_check.specs.walks.Rounds.{called_if, is_open, any_open}
 use Rattle.elan_check.specs.walks.OnTheWay.{AtMost, IsOnTheWay}
 use Rattle.elan_check.proofs.Walks.{In}
@@ -28,8 +27,8 @@ use Rattle.elan_check.proofs.Settled.{next_below, next_at, told_at, told_length,
 use Rattle.elan_check.proofs.Opened.{waiting}
 use Rattle.elan_check.proofs.Steps.{known_with, level_count, next_length}
 use Rattle.elan_check.proofs.Spots.{same_length}
-use Rattle.elan_check.proofs.Places.{IsStated, Place, place_at, level_places}
-use Rattle.elan_check.proofs.Alike.{Same, AllSame, LeftSame, phrase_alike}
+use Rattle.elan_check.proofs.Places.{IsStated, place_at, level_places}
+use Rattle.elan_check.proofs.Alike.{AllSame, LeftSame, phrase_alike}
 
 -- ---- what a LEAVE leaves
 

@@ -1,5 +1,5 @@
 -- Behind a phrase that breaks a rule no other is the first.
-use Rattle.std.proofs.Common.{◌≡◌, true, List, [], ◌∷◌, ◌++◌, Result, Ok, Err, refl, ap, subst, ◌∙◌}
+use Rattle.std.proofs.Common.{◌≡◌, true, List, [], ◌∷◌, ◌++◌, Result, Ok, Err, ap, subst}
 use Rattle.elan_meant.specs.declared.meant.Meant.{Meant}
 use Rattle.elan_scope.specs.declared.known.Known.{Known}
 use Rattle.elan_scope.specs.declared.trouble.Trouble.{Trouble}

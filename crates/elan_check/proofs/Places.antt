@@ -26,7 +26,6 @@ use Rattle.elan_judge.proofs.InScope.{InScope, body_units_in}
 use Rattle.elan_check.specs.Level as l
 use Rattle.elan_check.specs.Refinements.{stated}
 use Rattle.elan_check.specs.walks.OnTheWay.{Holds}
-use Rattle.elan_check.proofs.Steps.{unit_count}
 use Rattle.elan_levels.specs.walks.Headings.{all_headings}
 use Rattle.elan_check.specs.walks.Units.{all_unit_bodies}
 

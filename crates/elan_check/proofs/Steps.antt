@@ -24,7 +24,7 @@ use Rattle.elan_check.specs.declared.deliveries.Calls.{Calls}
 use Rattle.elan_check.specs.declared.deliveries.Round.{Round}
 use Rattle.elan_check.specs.Refinements.{stated, last_unit, next, next_all, called_in, known_after, known_of}
 use Rattle.elan_check.specs.walks.Seen.{all_seen}
-use Rattle.elan_check.specs.walks.Rounds.{all_stated, called_last, with_calls, is_open, any_open, is_kept, looked_at, found, found_from, seen, with_found}
+use Rattle.elan_check.specs.walks.Rounds.{called_last, with_calls, is_open, any_open, is_kept, looked_at, found, found_from, seen, with_found}
 use Rattle.elan_check.proofs.Opened.{waiting}
 use Rattle.elan_levels.specs.walks.Headings.{all_headings}
 use Rattle.elan_check.specs.walks.Units.{all_unit_bodies}

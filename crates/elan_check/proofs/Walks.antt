@@ -1,5 +1,5 @@
 -- A walk from call to call that never comes back does not go on for ever.
-use Rattle.std.proofs.Common.{◌≡◌, ℕ, zero, suc, ◌+◌, Bool, true, false, ◌||◌, List, [], ◌∷◌, map, length, Some, refl, sym, ap, subst, ◌∙◌, ◌⊎◌, inl}
+use Rattle.std.proofs.Common.{◌≡◌, ℕ, zero, suc, ◌+◌, Bool, true, false, ◌||◌, List, [], ◌∷◌, length, Some, refl, sym, ap, subst, ◌∙◌, ◌⊎◌, inl}
 use Rattle.std.specs.List.{list_any}
 use Rattle.std.proofs.Common.{inr, arith, eq-eqb, eqb-true}
 use Rattle.std.specs.Prelude.{slice_get, slice_index_or, ◌==◌}

@@ -46,7 +46,7 @@ use Rattle.elan_judge.specs.Shape as shape
 use Rattle.elan_check.specs.Level as l
 use Rattle.elan_rules.specs.Meaning.{judged, judged_all}
 use Rattle.elan_check.specs.Refinements.{stated, delivery_of, known_of}
-use Rattle.elan_check.specs.Text.{Means, known}
+use Rattle.elan_check.specs.Text.{Means}
 use Rattle.elan_rules.proofs.First.{bind_gives, before_gives, gives_is}
 use Rattle.elan_check.proofs.Bodies.{known_is}
 use Rattle.elan_judge.proofs.InScope.{statement_in}

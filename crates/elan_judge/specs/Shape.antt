@@ -98,6 +98,7 @@ module _ (s : Scope) where
   abbrev pub expr_step : Layer Expr-F → Phrase
   expr_step (t.Number at n) = leaf at (form.number n)
   expr_step (t.Truth at b) = leaf at (form.truth b)
+  expr_step (t.Text at x) = leaf at (form.text x)
   expr_step (t.Named n) = name Expression n.at s n.text
   expr_step (t.Call n actuals) = row n.at (form.applied s Procedure n.text) actuals
   expr_step (t.Bracket at a) = around at form.bracket a
@@ -107,7 +108,6 @@ module _ (s : Scope) where
   expr_step (t.Dyadic at o a b) = pair at (form.applied s Operator (operator_text o)) a b
   expr_step (t.Cand at a b) = pair at form.cand a b
   expr_step (t.Cor at a b) = pair at form.cor a b
-  expr_step (t.Text at x) = leaf at form.not_built
   expr_step (t.Procedure at n) = leaf at form.not_built
   expr_step (t.Concr at a) = leaf at form.not_built
   expr_step (t.Index at of index) = leaf at form.not_built

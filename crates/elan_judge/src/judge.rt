@@ -35,7 +35,7 @@ use unit_rules::list::{alone, declaration, in_order, must_deliver, without_value
 use value_rules::call::applied;
 use value_rules::leave::leaving;
 use value_rules::name::{declared, named};
-use value_rules::value::{bracketed, number, truth};
+use value_rules::value::{bracketed, number, text, truth};
 
 fn way(limit: &Limit) -> Way
     ensures { (s : Scope) → result ≡ (shape.limit s limit.now).0 }
@@ -55,6 +55,7 @@ fn judge(alloc: Global, known: &Known, scope: &Scope, expr: &Expr) -> Judged
     match expr {
         Expr::Number(at, written) => number(alloc, *at, *written),
         Expr::Truth(at, written) => truth(alloc, *at, *written),
+        Expr::Text(at, written) => text(alloc, *at, written.as_slice()),
         Expr::Named(name) => {
             let text = name.text.as_slice();
             named(alloc, known, Usage::Expression, name.at, scope, text)
@@ -155,7 +156,6 @@ fn judge(alloc: Global, known: &Known, scope: &Scope, expr: &Expr) -> Judged
             let right = judge(alloc, known, scope, right.get());
             cor_phrase(alloc, *at, left, right)
         }
-        Expr::Text(at, _) => Err(Trouble::Breaks(*at, Why::Unknown)),
         Expr::Procedure(at, _) => Err(Trouble::Breaks(*at, Why::Unknown)),
         Expr::Concr(at, _) => Err(Trouble::Breaks(*at, Why::Unknown)),
         Expr::Index { at, .. } => Err(Trouble::Breaks(*at, Why::Unknown)),

@@ -89,9 +89,11 @@ module _ (s : Scope) where
       → Named n.text
   item_named Variable (type.Int a) n es b g = g.0
   item_named Variable (type.Bool a) n es b g = g.0
+  item_named Variable (type.Text a) n es b g = g.0
   item_named Variable of n es b g = absurd cc
   item_named Constant (type.Int a) n es b g = g.0
   item_named Constant (type.Bool a) n es b g = g.0
+  item_named Constant (type.Text a) n es b g = g.0
   item_named Constant of n es b g = absurd cc
 
   -- its refinements are bodies

@@ -1,11 +1,12 @@
 -- Rules break at the place of their phrase or of a part, and what phrases mean keeps such a place.
 use Rattle.eu_base.specs.declared.operation.Way.{Way}
-use Rattle.std.proofs.Common.{ℕ, ℤ, Bool, true, false, ◌&&◌, if◌then◌else◌, List, [], ◌∷◌, length, drop, Option, Some, None, nat_eq, zero, suc}
+use Rattle.std.proofs.Common.{ℕ, ℤ, Bool, true, false, ◌&&◌, if◌then◌else◌, nat_le, List, [], ◌∷◌, length, drop, Option, Some, None, nat_eq, zero, suc}
 use Rattle.elan_types.specs.declared.elan_type.ElanType.{ElanType}
 use Rattle.elan_types.specs.declared.elan_type.ElanType.TheVariants as type
 use Rattle.elan_types.specs.declared.core_phrase.ValuePhrase.TheVariants as value
 use Rattle.elan_types.specs.declared.why.Why.{Why}
 use Rattle.elan_types.specs.declared.why.Why.TheVariants as why
+use Rattle.eu_base.specs.declared.value.TheConstants.{TEXT_BYTES}
 use Rattle.eu_base.specs.Operations.{in_range}
 use Rattle.elan_types.specs.declared.core_phrase.Action.{Action}
 use Rattle.elan_types.specs.declared.core_phrase.Parameter.{Parameter}
@@ -30,7 +31,7 @@ use Rattle.elan_scope.specs.declared.scope.Usage.TheVariants.{Expression, Counte
 use Rattle.elan_scope.specs.declared.known.Known.{Known}
 use Rattle.elan_scope.specs.declared.callable.Callee.{Callee}
 use Rattle.elan_scope.specs.declared.callable.Callee.TheVariants.{Predefined, Body}
-use Rattle.elan_scope.specs.declared.predefined.Predefined.TheVariants.{Operation, Change, Request}
+use Rattle.elan_scope.specs.declared.predefined.Predefined.TheVariants.{Operation, Change, Request, ErrorStop}
 use Rattle.elan_scope.specs.Known.{leads_back, delivery_at}
 use Rattle.elan_scope.specs.Scope.{Callable, find, find_own, is_known, is_alike, left, first_heading, types_of, refinement_named}
 use Rattle.elan_scope.specs.Phrase as form
@@ -123,6 +124,9 @@ module _ (ns : List ℕ) where
     number_placed : (n : ℤ) → Tells Placed (v.number at n)
     number_placed n = on_if Placed (in_range n) (gives (Value at type.Int (value.Number n))) (breaks (at, why.WrongType)) here here
 
+    text_placed : (x : List ℕ) → Tells Placed (v.text at x)
+    text_placed x = on_if Placed (nat_le (length x) TEXT_BYTES) (gives (Value at type.Text (value.Text x))) (breaks (at, why.WrongType)) here here
+
     bracketed_placed : (m : Meant) → Placed (v.bracketed at m)
     bracketed_placed (Variable q t x) = here
     bracketed_placed (Value q t x) = here
@@ -151,6 +155,10 @@ module _ (ns : List ℕ) where
     performed_placed (Predefined (Change d)) t (actual.Place x y ∷ actual.Value z ∷ []) = tt
     performed_placed (Predefined (Change d)) t (actual.Place x y ∷ actual.Value z ∷ a ∷ as') = here
     performed_placed (Predefined (Request q)) t as' = tt
+    performed_placed (Predefined ErrorStop) t [] = here
+    performed_placed (Predefined ErrorStop) t (actual.Place x y ∷ as') = here
+    performed_placed (Predefined ErrorStop) t (actual.Value z ∷ []) = tt
+    performed_placed (Predefined ErrorStop) t (actual.Value z ∷ a ∷ as') = here
     performed_placed (Body n) (Some t) as' = here
     performed_placed (Body n) None as' = tt
 
@@ -308,6 +316,7 @@ module _ (ns : List ℕ) where
   rule_placed at form.not_built ms h g = h
   rule_placed at (form.number n) ms h g = number_placed at h n
   rule_placed at (form.truth b) ms h g = h
+  rule_placed at (form.text x) ms h g = text_placed at h x
   rule_placed at (form.applied s sort x) ms h g = applied_placed at h s sort x ms g
   rule_placed at form.bracket ms h g = bracketed_placed at h (p.nth ms 0)
   rule_placed at form.cand ms h g =

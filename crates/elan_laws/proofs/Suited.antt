@@ -1,7 +1,7 @@
 -- What is chosen does something with what it is given.
 use Rattle.std.proofs.Common.{◌≡◌, ℕ, ◌+◌, Bool, true, false, ◌&&◌, if◌then◌else◌, List, [], ◌∷◌, ◌++◌, map, Option, Some, None, refl, subst}
 use Rattle.elan_types.specs.declared.elan_type.ElanType.{ElanType}
-use Rattle.elan_types.specs.declared.elan_type.ElanType.TheVariants.{Int}
+use Rattle.elan_types.specs.declared.elan_type.ElanType.TheVariants.{Text}
 use Rattle.elan_types.specs.declared.core_phrase.Access.TheVariants.{Var}
 use Rattle.elan_types.specs.declared.core_phrase.Parameter.{Parameter}
 use Rattle.elan_types.specs.declared.core_phrase.Actual.{Actual}
@@ -9,7 +9,8 @@ use Rattle.elan_types.specs.declared.core_phrase.Actual.TheVariants as actual
 use Rattle.elan_types.specs.declared.core_phrase.Action.TheVariants as action
 use Rattle.elan_types.specs.declared.core_phrase.ValuePhrase.TheVariants as value
 use Rattle.eu_base.specs.declared.operation.Change.{Change as Changed}
-use Rattle.elan_types.specs.Typing.{held_const}
+use Rattle.eu_base.specs.Operations.{change_kind}
+use Rattle.elan_types.specs.Typing.{type_in, held_const}
 use Rattle.elan_scope.specs.declared.heading.Sort.{Sort}
 use Rattle.elan_scope.specs.declared.heading.What.{What}
 use Rattle.elan_scope.specs.declared.heading.What.TheVariants.{Routine, Refinement}
@@ -18,7 +19,7 @@ use Rattle.elan_scope.specs.declared.scope.Scope.{Scope}
 use Rattle.elan_scope.specs.declared.scope.Within.{Within}
 use Rattle.elan_scope.specs.declared.callable.Callee.TheVariants.{Predefined}
 use Rattle.elan_scope.specs.declared.predefined.Predefined.{Predefined as Name}
-use Rattle.elan_scope.specs.declared.predefined.Predefined.TheVariants.{Operation, Change, Request}
+use Rattle.elan_scope.specs.declared.predefined.Predefined.TheVariants.{Operation, Change, Request, ErrorStop}
 use Rattle.elan_scope.specs.Predefined.{Row, predefined, parameters, result}
 use Rattle.elan_scope.specs.Scope.{Callable, Layer, own_callable, own_callables, predefined_callable}
 use Rattle.std.specs.Option.{option_or}
@@ -65,17 +66,26 @@ module _ (at : ℕ) (ms : List Meant) where
 
   -- ---- predefined names
 
-  changes : (c : Changed) (ks : List Meant) (as' : List Actual) → fit (variable Int ∷ held_const Int ∷ []) ks ≡ true
-      → given at (variable Int ∷ held_const Int ∷ []) ks ≡ gives as' → (m : Meant) × (performed at (Predefined (Change c)) None as' ≡ gives m)
-  changes c [] as' f g = absurd cc
-  changes c (m ∷ []) as' f g = let e : false ≡ true = both (delivers Int m) false f in absurd cc
-  changes c (Variable p t x ∷ n ∷ []) as' f g =
-      let given_is : actual.Place x Int ∷ actual.Value (value_of n) ∷ [] ≡ as' = cc in
+  changes : (c : Changed) (t : ElanType) (ks : List Meant) (as' : List Actual) → fit (variable t ∷ held_const t ∷ []) ks ≡ true
+      → given at (variable t ∷ held_const t ∷ []) ks ≡ gives as' → (m : Meant) × (performed at (Predefined (Change c)) None as' ≡ gives m)
+  changes c t [] as' f g = absurd cc
+  changes c t (m ∷ []) as' f g = let e : false ≡ true = both (delivers t m) false f in absurd cc
+  changes c t (Variable p u x ∷ n ∷ []) as' f g =
+      let given_is : actual.Place x t ∷ actual.Value (value_of n) ∷ [] ≡ as' = cc in
       subst (λ (l : List Actual). (m : Meant) × (performed at (Predefined (Change c)) None l ≡ gives m)) given_is
       (Done (action.Modify c x (value_of n) ∷ []), refl)
-  changes c (m ∷ n ∷ []) as' f g = absurd cc
-  changes c (m ∷ n ∷ k ∷ ks) as' f g =
-      let e : false ≡ true = both (delivers Int n) false (both (delivers Int m) (delivers Int n && false) f) in absurd cc
+  changes c t (m ∷ n ∷ []) as' f g = absurd cc
+  changes c t (m ∷ n ∷ k ∷ ks) as' f g =
+      let e : false ≡ true = both (delivers t n) false (both (delivers t m) (delivers t n && false) f) in absurd cc
+
+  stops : (ks : List Meant) (as' : List Actual) → fit (held_const Text ∷ []) ks ≡ true → given at (held_const Text ∷ []) ks ≡ gives as'
+      → (m : Meant) × (performed at (Predefined ErrorStop) None as' ≡ gives m)
+  stops [] as' f g = absurd cc
+  stops (m ∷ []) as' f g =
+      let given_is : actual.Value (value_of m) ∷ [] ≡ as' = cc in
+      subst (λ (l : List Actual). (n : Meant) × (performed at (Predefined ErrorStop) None l ≡ gives n)) given_is
+      (Done (action.ErrorStop (value_of m) ∷ []), refl)
+  stops (m ∷ n ∷ ks) as' f g = let e : false ≡ true = both (delivers Text m) false f in absurd cc
 
   named_suits : (r : Row) → Suits (predefined_callable r)
   named_suits r = by_name r.2
@@ -83,8 +93,9 @@ module _ (at : ℕ) (ms : List Meant) where
       by_name : (o : Name) (as' : List Actual) → fit (parameters o) ms ≡ true → given at (parameters o) ms ≡ gives as'
           → (m : Meant) × (performed at (Predefined o) (result o) as' ≡ gives m)
       by_name (Operation o) as' f g = (Value at _ (value.Apply o (values_in as')), refl)
-      by_name (Change c) as' f g = changes c ms as' f g
+      by_name (Change c) as' f g = changes c (type_in (change_kind c)) ms as' f g
       by_name (Request q) as' f g = (Done (action.Ask q (values_in as') ∷ []), refl)
+      by_name ErrorStop as' f g = stops ms as' f g
 
   rows_suit : (rs : List Row) → AllSuit (map predefined_callable rs)
   rows_suit [] = tt

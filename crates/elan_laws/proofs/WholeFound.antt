@@ -77,6 +77,7 @@ append_found (p ∷ ps) qs h g = (h.0, append_found ps qs h.1 g)
 type_is : (of : TypePhrase) → is_none (written_type of) ≡ false → (t : ElanType) × (written_type of ≡ Some t)
 type_is (type.Int a) h = (types.Int, refl)
 type_is (type.Bool a) h = (types.Bool, refl)
+type_is (type.Text a) h = (types.Text, refl)
 type_is of h = absurd cc
 
 names_found : (z : Scope) (ns : List Name) (p : Denotes) → Sub z (b.named_as ns (Some p)) → AllServed (all_of (map (l.declares z) ns))

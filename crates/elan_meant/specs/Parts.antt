@@ -3,7 +3,6 @@ use Rattle.std.specs.Prelude.{ℕ, pos, Bool, true, false, List, [], ◌∷◌, 
 use Rattle.std.specs.Option.{option_map}
 use Rattle.elan_types.specs.declared.elan_type.ElanType.{ElanType}
 use Rattle.elan_types.specs.declared.elan_type.ElanType.TheVariants.{Int, Bool as Truths, Text}
-use Rattle.eu_base.specs.declared.operation.Operation.TheVariants.{EmptyText}
 use Rattle.elan_types.specs.declared.core_phrase.PlacePhrase.{PlacePhrase}
 use Rattle.elan_types.specs.declared.core_phrase.ValuePhrase.{ValuePhrase}
 use Rattle.elan_types.specs.declared.core_phrase.ValuePhrase.TheVariants as value
@@ -59,7 +58,7 @@ actions_of ms = flat_map actions ms
 abbrev pub blank : ElanType → ValuePhrase
 blank Int = value.Number (pos 0)
 blank Truths = value.Truth false
-blank Text = value.Apply EmptyText []
+blank Text = value.Text []
 
 -- behind a LEAVE any value of the type that is asked for
 abbrev pub unreached : List Action → ElanType → ValuePhrase

@@ -8,8 +8,8 @@ use crate::meant::Meant;
 use crate::operands::delivers;
 use crate::row::Judged;
 use elan_scope::trouble::Trouble;
-use elan_types::{Action, ElanType, Operation, PlacePhrase, ValuePhrase, Why};
-use eu_base::{Boxed, List, NoMemory};
+use elan_types::{Action, ElanType, PlacePhrase, ValuePhrase, Why};
+use eu_base::{Boxed, Bytes, List, NoMemory};
 use std::alloc::Global;
 
 /// The value of a part that delivers one.
@@ -184,7 +184,7 @@ pub fn blank(alloc: Global, of: ElanType) -> ValuePhrase
     match of {
         ElanType::Int => ValuePhrase::Number(0),
         ElanType::Bool => ValuePhrase::Truth(false),
-        ElanType::Text => ValuePhrase::Apply(Operation::EmptyText, List::new(alloc)),
+        ElanType::Text => ValuePhrase::Text(Bytes::new(alloc)),
     }
 }
 

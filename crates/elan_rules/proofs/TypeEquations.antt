@@ -1,13 +1,14 @@
 -- The type of each form of core, from those of its parts.
-use Rattle.std.proofs.Common.{◌≡◌, ℕ, ℤ, Bool, true, ◌&&◌, List, map, Option, Some, None, refl, sym, ap, ◌∙◌}
-use Rattle.eu_base.specs.Operations.{operand_kinds, result_kind, in_range}
+use Rattle.std.proofs.Common.{◌≡◌, ℕ, ℤ, Bool, true, ◌&&◌, nat_le, List, map, length, Option, Some, None, refl, sym, ap, ◌∙◌}
+use Rattle.eu_base.specs.declared.value.TheConstants.{TEXT_BYTES}
+use Rattle.eu_base.specs.Operations.{operand_kinds, result_kind, change_kind, in_range}
 use Rattle.eu_base.specs.declared.operation.Operation.{Operation}
 use Rattle.eu_base.specs.declared.operation.Change.{Change}
 use Rattle.eu_base.specs.declared.operation.Way.{Way}
 use Rattle.eu_base.specs.declared.request.RequestName.{RequestName}
 use Rattle.eu_base.specs.Requests.{request_kinds}
 use Rattle.elan_types.specs.declared.elan_type.ElanType.{ElanType}
-use Rattle.elan_types.specs.declared.elan_type.ElanType.TheVariants.{Int, Bool as Truths}
+use Rattle.elan_types.specs.declared.elan_type.ElanType.TheVariants.{Int, Bool as Truths, Text as Letters}
 use Rattle.elan_types.specs.declared.core_phrase.PlacePhrase.{PlacePhrase}
 use Rattle.elan_types.specs.declared.core_phrase.ValuePhrase.{ValuePhrase, roll-ValuePhrase}
 use Rattle.elan_types.specs.declared.core_phrase.ValuePhrase.TheVariants as value
@@ -89,6 +90,9 @@ module _ (here : Stand) where
   pub truth_is : (b : Bool) → type (value.Truth b) ≡ Some Truths
   truth_is b = ap type (sym (value.rolls-Truth b)) ∙ of_value (t.Truth b)
 
+  pub text_is : (x : List ℕ) → type (value.Text x) ≡ only_if (nat_le (length x) TEXT_BYTES) (Some Letters)
+  text_is x = ap type (sym (value.rolls-Text x)) ∙ of_value (t.Text x)
+
   pub load_is : (p : PlacePhrase) (u : ElanType) → type (value.Load p u) ≡ only_if (has u (lies p)) (Some u)
   load_is p u = ap type (sym (value.rolls-Load p u)) ∙ of_value (t.Load p u)
 
@@ -130,7 +134,8 @@ module _ (here : Stand) where
   pub store_is : (p : PlacePhrase) (u : ElanType) (a : ValuePhrase) → typed (action.Store p u a) ≡ (has u (lies p) && has u (type a))
   store_is p u a = ap typed (sym (action.rolls-Store p u a)) ∙ of_action (t.Store p u a)
 
-  pub modify_is : (c : Change) (p : PlacePhrase) (a : ValuePhrase) → typed (action.Modify c p a) ≡ (has Int (lies p) && has Int (type a))
+  pub modify_is : (c : Change) (p : PlacePhrase) (a : ValuePhrase)
+      → typed (action.Modify c p a) ≡ (has (type_in (change_kind c)) (lies p) && has (type_in (change_kind c)) (type a))
   modify_is c p a = ap typed (sym (action.rolls-Modify c p a)) ∙ of_action (t.Modify c p a)
 
   pub if_is : (c : ValuePhrase) (us ws : List Action)
@@ -143,6 +148,9 @@ module _ (here : Stand) where
 
   pub ask_is : (q : RequestName) (as' : List ValuePhrase) → typed (action.Ask q as') ≡ have (map type_in (request_kinds q)) (map type as')
   ask_is q as' = ap typed (sym (action.rolls-Ask q as')) ∙ of_action (t.Ask q as')
+
+  pub error_stop_is : (a : ValuePhrase) → typed (action.ErrorStop a) ≡ has Letters (type a)
+  error_stop_is a = ap typed (sym (action.rolls-ErrorStop a)) ∙ of_action (t.ErrorStop a)
 
   pub arm_is : (ns : List ℤ) (us : List Action) → arm_typed (record { labels = ns; units = us }) ≡ all_true (map typed us)
   arm_is ns us = ap arm_typed (sym (rolls-Arm' (record { labels = ns; units = us }))) ∙ rw fold-roll-Arm refl

@@ -2,7 +2,7 @@
 use Rattle.std.proofs.Common.{◌≡◌, ℕ, Bool, true, false, if◌then◌else◌, List, [], ◌∷◌, ◌++◌, ◌+◌, suc, arith, map, Option, Some, None, refl, sym, ap, subst}
 use Rattle.std.proofs.Common.{◌∙◌}
 use Rattle.elan_types.specs.declared.elan_type.ElanType.{ElanType}
-use Rattle.elan_types.specs.declared.elan_type.ElanType.TheVariants.{Int}
+use Rattle.elan_types.specs.declared.elan_type.ElanType.TheVariants.{Text}
 use Rattle.elan_types.specs.declared.core_phrase.PlacePhrase.{PlacePhrase}
 use Rattle.elan_types.specs.declared.core_phrase.ValuePhrase.{ValuePhrase}
 use Rattle.elan_types.specs.declared.core_phrase.Action.{Action}
@@ -28,20 +28,20 @@ use Rattle.elan_scope.specs.Scope as scope
 use Rattle.std.specs.Option.{option_or}
 use Rattle.elan_scope.specs.Scope.{Callable, number_of, held, all_held, types_of, variables_of}
 use Rattle.eu_base.specs.declared.value.Kind.{Kind}
-use Rattle.eu_base.specs.Operations.{operand_kinds}
+use Rattle.eu_base.specs.Operations.{operand_kinds, change_kind}
 use Rattle.eu_base.specs.Requests.{request_kinds}
 use Rattle.elan_scope.specs.declared.callable.Callee.{Callee}
 use Rattle.elan_scope.specs.declared.callable.Callee.TheVariants as Callees
 use Rattle.elan_scope.specs.declared.predefined.Predefined.{Predefined}
-use Rattle.elan_scope.specs.declared.predefined.Predefined.TheVariants.{Operation, Change, Request}
+use Rattle.elan_scope.specs.declared.predefined.Predefined.TheVariants.{Operation, Change, Request, ErrorStop}
 use Rattle.elan_scope.specs.Predefined.{Row, parameters, result}
 use Rattle.elan_meant.specs.Operands.{delivers, fit}
 use Rattle.elan_rules.proofs.Typed as ty
 use Rattle.elan_rules.proofs.Typed.{same_is, same_self, has_self, agree_self, only_if_holds, both, and_true, Gives, on_if, on_bind}
 use Rattle.elan_meant.specs.Parts as p
 use Rattle.value_rules.specs.Calls as r
-use Rattle.elan_rules.proofs.TypeEquations.{Stand, type, lies, actual_type, apply_is, modify_is, ask_is, call_is, action_call_is, given_value_is}
-use Rattle.elan_rules.proofs.TypeEquations.{given_place_is}
+use Rattle.elan_rules.proofs.TypeEquations.{Stand, type, lies, actual_type, apply_is, modify_is, ask_is, error_stop_is, call_is, action_call_is}
+use Rattle.elan_rules.proofs.TypeEquations.{given_value_is, given_place_is}
 
 abbrev variable : ElanType → Parameter
 variable t = record { of = t; access = Var }
@@ -185,11 +185,17 @@ module _ (here : Stand) where
   predefined_performs (Change c) (actual.Place x t ∷ []) h at = tt
   predefined_performs (Change c) (actual.Place x t ∷ actual.Value v ∷ []) h at =
       let b = both _ _ h in
-      ty.single_typed here (action.Modify c x v) (modify_is here c x v ∙ and_true _ _ (place_lies Int t x b.0) (value_has Int v (both _ _ b.1).0))
+      let u = type_in (change_kind c) in
+      ty.single_typed here (action.Modify c x v) (modify_is here c x v ∙ and_true _ _ (place_lies u t x b.0) (value_has u v (both _ _ b.1).0))
   predefined_performs (Change c) (actual.Place x t ∷ actual.Value v ∷ a ∷ as') h at = tt
   predefined_performs (Change c) (actual.Place x t ∷ actual.Place y u ∷ as') h at = tt
   predefined_performs (Request q) as' h at =
       ty.single_typed here (action.Ask q (r.values_in as')) (ask_is here q (r.values_in as') ∙ values_have (request_kinds q) as' h)
+  predefined_performs ErrorStop [] h at = tt
+  predefined_performs ErrorStop (actual.Place x t ∷ as') h at = tt
+  predefined_performs ErrorStop (actual.Value v ∷ []) h at =
+      ty.single_typed here (action.ErrorStop v) (error_stop_is here v ∙ value_has Text v (both _ _ h).0)
+  predefined_performs ErrorStop (actual.Value v ∷ a ∷ as') h at = tt
 
   -- ---- what can be called
 

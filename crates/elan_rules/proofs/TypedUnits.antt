@@ -1,6 +1,6 @@
 -- Values, stores, lists of units and bodies have the types that they ask for.
-use Rattle.std.proofs.Common.{◌≡◌, ℤ, ℕ, Bool, true, false, if◌then◌else◌, List, [], ◌∷◌, Option, Some, None, refl, ◌∙◌}
-use Rattle.eu_base.specs.declared.operation.Operation.TheVariants.{EmptyText}
+use Rattle.std.proofs.Common.{◌≡◌, ℤ, ℕ, Bool, true, false, if◌then◌else◌, nat_le, List, [], ◌∷◌, length, Option, Some, None, refl, ◌∙◌}
+use Rattle.eu_base.specs.declared.value.TheConstants.{TEXT_BYTES}
 use Rattle.elan_types.specs.declared.elan_type.ElanType.{ElanType}
 use Rattle.elan_types.specs.declared.elan_type.ElanType.TheVariants.{Int, Bool as Truths, Text}
 use Rattle.elan_types.specs.declared.core_phrase.PlacePhrase.{PlacePhrase}
@@ -19,7 +19,7 @@ use Rattle.elan_meant.specs.Parts as p
 use Rattle.unit_rules.specs.Units as r
 use Rattle.value_rules.specs.walks.Steps as walk
 use Rattle.elan_rules.specs.Rules as rules
-use Rattle.elan_rules.proofs.TypeEquations.{Stand, typed, number_is, truth_is, apply_is, value_if_is, value_unit_is, after_is, store_is}
+use Rattle.elan_rules.proofs.TypeEquations.{Stand, typed, number_is, truth_is, text_is, value_if_is, value_unit_is, after_is, store_is}
 
 module _ (here : Stand) where
   abbrev Has : ElanType → ValuePhrase → Type 0
@@ -44,6 +44,9 @@ module _ (here : Stand) where
 
   pub number_good : (at : ℕ) (n : ℤ) → Gives Good (rules.number at n)
   number_good at n = on_if Good (in_range n) _ _ (λ e. number_is here n ∙ only_if_holds (in_range n) _ Int e refl) (λ e. tt)
+
+  pub text_good : (at : ℕ) (x : List ℕ) → Gives Good (rules.text at x)
+  text_good at x = let fits = nat_le (length x) TEXT_BYTES in on_if Good fits _ _ (λ e. text_is here x ∙ only_if_holds fits _ Text e refl) (λ e. tt)
 
   pub bracketed_good : (at : ℕ) (m : Meant) → Good m → Good (rules.bracketed at m)
   bracketed_good at Absent g = g
@@ -158,7 +161,7 @@ module _ (here : Stand) where
   blank_typed : (t : ElanType) → Has t (p.blank t)
   blank_typed Int = number_is here (pos 0)
   blank_typed Truths = truth_is here false
-  blank_typed Text = apply_is here EmptyText []
+  blank_typed Text = text_is here []
 
   pub unreached_typed : (t : ElanType) (as' : List Action) → AllTyped as' → Has t (value.After as' (p.blank t))
   unreached_typed t as' h = after_is here as' (p.blank t) ∙ only_if_holds _ _ t h (blank_typed t)

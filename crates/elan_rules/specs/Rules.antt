@@ -3,7 +3,7 @@ use Rattle.std.specs.Prelude.{ℕ, List, [], ◌∷◌, drop, flat_map, Option, 
 use Rattle.elan_types.specs.declared.elan_type.ElanType.TheVariants.{Bool as Truths}
 use Rattle.elan_types.specs.declared.core_phrase.ValuePhrase.TheVariants as value
 use Rattle.elan_types.specs.declared.why.Why.TheVariants.{Unknown}
-pub use Rattle.value_rules.specs.Values.{number, bracketed, cand, cor}
+pub use Rattle.value_rules.specs.Values.{number, text, bracketed, cand, cor}
 use Rattle.elan_meant.specs.declared.meant.Meant.{Meant}
 use Rattle.elan_meant.specs.declared.meant.Meant.TheVariants.{Absent, Value, Labels, Bodies, Level}
 use Rattle.elan_scope.specs.Scope.{Callable, find, find_own, is_known, left, first_heading, is_alike, types_of}
@@ -39,6 +39,7 @@ rule at form.absent ms = gives Absent
 rule at form.not_built ms = breaks (at, Unknown)
 rule at (form.number n) ms = number at n
 rule at (form.truth b) ms = gives (Value at Truths (value.Truth b))
+rule at (form.text x) ms = text at x
 rule at (form.applied s sort x) ms = applied at s sort x ms
 rule at form.bracket ms = gives (bracketed at (nth ms 0))
 rule at form.cand ms = cand at (nth ms 0) (nth ms 1)

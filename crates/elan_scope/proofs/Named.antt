@@ -1,5 +1,5 @@
 -- What is found among the numbers of a name is what is found among all headings.
-use Rattle.std.proofs.Common.{◌≡◌, ℕ, zero, suc, ◌+◌, Bool, true, false, ◌&&◌, if◌then◌else◌, List}
+use Rattle.std.proofs.Common.{◌≡◌, ℕ, suc, ◌+◌, Bool, true, false, ◌&&◌, if◌then◌else◌, List}
 use Rattle.std.proofs.Common.{[], ◌∷◌, ◌++◌, length, Option, Some, None, refl, sym, ap, ◌∙◌, arith}
 use Rattle.std.proofs.Common.{◌<◌, ◌≤◌, drop, slice_index_or}
 use Rattle.std.specs.Prelude.{slice_get, ◌==◌, is_some}

@@ -16,6 +16,7 @@ pub data Plain : Type 0 where
   not_built : Plain
   number : ℤ → Plain
   truth : Bool → Plain
+  text : List ℕ → Plain
   -- an operator with its operands, or a procedure with its actuals
   applied : Scope → Sort → List ℕ → Plain
   bracket : Plain

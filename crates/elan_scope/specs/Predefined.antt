@@ -1,53 +1,53 @@
 -- The table of the predefined operators and procedures, requests among them.
 use Rattle.std.specs.Prelude.{ℕ, List, [], ◌∷◌, map, Option, Some, None, codes}
 use Rattle.eu_base.specs.declared.value.Kind.{Kind}
+use Rattle.eu_base.specs.declared.value.Kind.TheVariants as kinds
 use Rattle.eu_base.specs.declared.operation.Operation.TheVariants as op
+use Rattle.eu_base.specs.declared.text_operation.TextOperation.{TextOperation}
+use Rattle.eu_base.specs.declared.text_operation.TextOperation.TheVariants as texts
 use Rattle.eu_base.specs.declared.operation.Change.TheVariants as change
 use Rattle.eu_base.specs.declared.request.RequestName.TheVariants as request
-use Rattle.eu_base.specs.Operations.{operand_kinds, result_kind}
+use Rattle.eu_base.specs.Operations.{operand_kinds, result_kind, change_kind}
 use Rattle.eu_base.specs.Requests.{request_kinds}
 use Rattle.elan_types.specs.declared.elan_type.ElanType.{ElanType}
-use Rattle.elan_types.specs.declared.elan_type.ElanType.TheVariants.{Int}
 use Rattle.elan_types.specs.declared.core_phrase.Access.TheVariants.{Var}
 use Rattle.elan_types.specs.declared.core_phrase.Parameter.{Parameter}
 use Rattle.elan_types.specs.Typing.{type_in, held_const}
 use Rattle.elan_scope.specs.declared.heading.Sort.{Sort}
 use Rattle.elan_scope.specs.declared.heading.Sort.TheVariants.{Procedure, Operator}
 use Rattle.elan_scope.specs.declared.predefined.Predefined.{Predefined}
-use Rattle.elan_scope.specs.declared.predefined.Predefined.TheVariants.{Operation, Change, Request}
+use Rattle.elan_scope.specs.declared.predefined.Predefined.TheVariants.{Operation, Change, Request, ErrorStop}
 
 -- an operator or a procedure, its name, and what it is
 abbrev pub Row : Type 0
 Row = Sort × List ℕ × Predefined
 
+abbrev pub on_texts : TextOperation → Predefined
+on_texts o = Operation (op.OnTexts o)
+
 unfoldable pub predefined : List Row
 predefined =
-    (Operator, codes "+", Operation op.Plus)
-    ∷ (Operator, codes "-", Operation op.Negate)
-    ∷ (Operator, codes "+", Operation op.Add)
-    ∷ (Operator, codes "-", Operation op.Subtract)
-    ∷ (Operator, codes "*", Operation op.Multiply)
-    ∷ (Operator, codes "DIV", Operation op.Divide)
-    ∷ (Operator, codes "MOD", Operation op.Modulo)
-    ∷ (Operator, codes "INCR", Change change.Increase)
-    ∷ (Operator, codes "DECR", Change change.Decrease)
-    ∷ (Operator, codes "=", Operation op.Equal)
-    ∷ (Operator, codes "<>", Operation op.Unequal)
-    ∷ (Operator, codes "=", Operation op.Same)
-    ∷ (Operator, codes "<>", Operation op.Different)
-    ∷ (Operator, codes "<", Operation op.Less)
-    ∷ (Operator, codes "<=", Operation op.LessEqual)
-    ∷ (Operator, codes ">", Operation op.Greater)
-    ∷ (Operator, codes ">=", Operation op.GreaterEqual)
-    ∷ (Operator, codes "AND", Operation op.And)
-    ∷ (Operator, codes "OR", Operation op.Or)
-    ∷ (Operator, codes "NOT", Operation op.Not)
-    ∷ (Procedure, codes "abs", Operation op.Absolute)
-    ∷ (Procedure, codes "min", Operation op.Minimum)
-    ∷ (Procedure, codes "max", Operation op.Maximum)
-    ∷ (Procedure, codes "maxint", Operation op.Largest)
-    ∷ (Procedure, codes "put", Request request.PutNumber)
-    ∷ (Procedure, codes "line", Request request.Line)
+    (Operator, codes "+", Operation op.Plus) ∷ (Operator, codes "+", Operation op.Add) ∷ (Operator, codes "+", on_texts texts.Join)
+    ∷ (Operator, codes "-", Operation op.Negate) ∷ (Operator, codes "-", Operation op.Subtract)
+    ∷ (Operator, codes "*", Operation op.Multiply) ∷ (Operator, codes "*", on_texts texts.Repeat)
+    ∷ (Operator, codes "DIV", Operation op.Divide) ∷ (Operator, codes "MOD", Operation op.Modulo)
+    ∷ (Operator, codes "INCR", Change change.Increase) ∷ (Operator, codes "DECR", Change change.Decrease) ∷ (Operator, codes "CAT", Change change.Append)
+    ∷ (Operator, codes "=", Operation op.Equal) ∷ (Operator, codes "=", Operation op.Same) ∷ (Operator, codes "=", on_texts texts.Equal)
+    ∷ (Operator, codes "<>", Operation op.Unequal) ∷ (Operator, codes "<>", Operation op.Different) ∷ (Operator, codes "<>", on_texts texts.Unequal)
+    ∷ (Operator, codes "<", Operation op.Less) ∷ (Operator, codes "<", on_texts texts.Less)
+    ∷ (Operator, codes "<=", Operation op.LessEqual) ∷ (Operator, codes "<=", on_texts texts.LessEqual)
+    ∷ (Operator, codes ">", Operation op.Greater) ∷ (Operator, codes ">", on_texts texts.Greater)
+    ∷ (Operator, codes ">=", Operation op.GreaterEqual) ∷ (Operator, codes ">=", on_texts texts.GreaterEqual)
+    ∷ (Operator, codes "AND", Operation op.And) ∷ (Operator, codes "OR", Operation op.Or) ∷ (Operator, codes "NOT", Operation op.Not)
+    ∷ (Operator, codes "SUB", on_texts texts.ByteAt) ∷ (Operator, codes "LENGTH", on_texts texts.Length) ∷ (Procedure, codes "length", on_texts texts.Length)
+    ∷ (Procedure, codes "pos", on_texts texts.PlaceOf)
+    ∷ (Procedure, codes "subtext", on_texts texts.Subtext) ∷ (Procedure, codes "subtext", on_texts texts.SubtextFrom)
+    ∷ (Procedure, codes "code", on_texts texts.CodeOf) ∷ (Procedure, codes "code", on_texts texts.TextOfCode)
+    ∷ (Procedure, codes "text", on_texts texts.TextOfNumber) ∷ (Procedure, codes "int", on_texts texts.NumberIn)
+    ∷ (Procedure, codes "abs", Operation op.Absolute) ∷ (Procedure, codes "min", Operation op.Minimum) ∷ (Procedure, codes "max", Operation op.Maximum)
+    ∷ (Procedure, codes "maxint", Operation op.Largest) ∷ (Procedure, codes "errorstop", ErrorStop)
+    ∷ (Procedure, codes "put", Request request.PutNumber) ∷ (Procedure, codes "put", Request request.PutText)
+    ∷ (Procedure, codes "write", Request request.Write) ∷ (Procedure, codes "putline", Request request.PutLine) ∷ (Procedure, codes "line", Request request.Line)
     ∷ []
 
 -- The operands of operations and requests are values, of the types of their kinds.
@@ -57,8 +57,9 @@ values kinds = map (λ k. held_const (type_in k)) kinds
 -- what each is given
 abbrev pub parameters : Predefined → List Parameter
 parameters (Operation o) = values (operand_kinds o)
-parameters (Change c) = record { of = Int; access = Var } ∷ held_const Int ∷ []
+parameters (Change c) = record { of = type_in (change_kind c); access = Var } ∷ values (change_kind c ∷ [])
 parameters (Request name) = values (request_kinds name)
+parameters ErrorStop = values (kinds.Text ∷ [])
 
 -- the type that each delivers, or nothing
 abbrev pub result : Predefined → Option ElanType

@@ -19,19 +19,26 @@ pub enum Predefined {
     Change(Change),
     /// It makes a request.
     Request(RequestName),
+    /// It stops the program.
+    ErrorStop,
 }
 
 /// Whether it is an operator or a procedure, its name, and what it is.
 pub type Row = (Sort, &'static [u8], Predefined);
 
-const PREDEFINED: [Row; 26] = [
+const PREDEFINED: [Row; 49] = [
     (Sort::Operator, b"+", Predefined::Operation(Operation::Plus)),
+    (Sort::Operator, b"+", Predefined::Operation(Operation::Add)),
+    (
+        Sort::Operator,
+        b"+",
+        Predefined::Operation(Operation::OnTexts(TextOperation::Join)),
+    ),
     (
         Sort::Operator,
         b"-",
         Predefined::Operation(Operation::Negate),
     ),
-    (Sort::Operator, b"+", Predefined::Operation(Operation::Add)),
     (
         Sort::Operator,
         b"-",
@@ -41,6 +48,11 @@ const PREDEFINED: [Row; 26] = [
         Sort::Operator,
         b"*",
         Predefined::Operation(Operation::Multiply),
+    ),
+    (
+        Sort::Operator,
+        b"*",
+        Predefined::Operation(Operation::OnTexts(TextOperation::Repeat)),
     ),
     (
         Sort::Operator,
@@ -62,27 +74,48 @@ const PREDEFINED: [Row; 26] = [
         b"DECR",
         Predefined::Change(Change::Decrease),
     ),
+    (Sort::Operator, b"CAT", Predefined::Change(Change::Append)),
     (
         Sort::Operator,
         b"=",
         Predefined::Operation(Operation::Equal),
+    ),
+    (Sort::Operator, b"=", Predefined::Operation(Operation::Same)),
+    (
+        Sort::Operator,
+        b"=",
+        Predefined::Operation(Operation::OnTexts(TextOperation::Equal)),
     ),
     (
         Sort::Operator,
         b"<>",
         Predefined::Operation(Operation::Unequal),
     ),
-    (Sort::Operator, b"=", Predefined::Operation(Operation::Same)),
     (
         Sort::Operator,
         b"<>",
         Predefined::Operation(Operation::Different),
     ),
+    (
+        Sort::Operator,
+        b"<>",
+        Predefined::Operation(Operation::OnTexts(TextOperation::Unequal)),
+    ),
     (Sort::Operator, b"<", Predefined::Operation(Operation::Less)),
+    (
+        Sort::Operator,
+        b"<",
+        Predefined::Operation(Operation::OnTexts(TextOperation::Less)),
+    ),
     (
         Sort::Operator,
         b"<=",
         Predefined::Operation(Operation::LessEqual),
+    ),
+    (
+        Sort::Operator,
+        b"<=",
+        Predefined::Operation(Operation::OnTexts(TextOperation::LessEqual)),
     ),
     (
         Sort::Operator,
@@ -91,8 +124,18 @@ const PREDEFINED: [Row; 26] = [
     ),
     (
         Sort::Operator,
+        b">",
+        Predefined::Operation(Operation::OnTexts(TextOperation::Greater)),
+    ),
+    (
+        Sort::Operator,
         b">=",
         Predefined::Operation(Operation::GreaterEqual),
+    ),
+    (
+        Sort::Operator,
+        b">=",
+        Predefined::Operation(Operation::OnTexts(TextOperation::GreaterEqual)),
     ),
     (
         Sort::Operator,
@@ -104,6 +147,56 @@ const PREDEFINED: [Row; 26] = [
         Sort::Operator,
         b"NOT",
         Predefined::Operation(Operation::Not),
+    ),
+    (
+        Sort::Operator,
+        b"SUB",
+        Predefined::Operation(Operation::OnTexts(TextOperation::ByteAt)),
+    ),
+    (
+        Sort::Operator,
+        b"LENGTH",
+        Predefined::Operation(Operation::OnTexts(TextOperation::Length)),
+    ),
+    (
+        Sort::Procedure,
+        b"length",
+        Predefined::Operation(Operation::OnTexts(TextOperation::Length)),
+    ),
+    (
+        Sort::Procedure,
+        b"pos",
+        Predefined::Operation(Operation::OnTexts(TextOperation::PlaceOf)),
+    ),
+    (
+        Sort::Procedure,
+        b"subtext",
+        Predefined::Operation(Operation::OnTexts(TextOperation::Subtext)),
+    ),
+    (
+        Sort::Procedure,
+        b"subtext",
+        Predefined::Operation(Operation::OnTexts(TextOperation::SubtextFrom)),
+    ),
+    (
+        Sort::Procedure,
+        b"code",
+        Predefined::Operation(Operation::OnTexts(TextOperation::CodeOf)),
+    ),
+    (
+        Sort::Procedure,
+        b"code",
+        Predefined::Operation(Operation::OnTexts(TextOperation::TextOfCode)),
+    ),
+    (
+        Sort::Procedure,
+        b"text",
+        Predefined::Operation(Operation::OnTexts(TextOperation::TextOfNumber)),
+    ),
+    (
+        Sort::Procedure,
+        b"int",
+        Predefined::Operation(Operation::OnTexts(TextOperation::NumberIn)),
     ),
     (
         Sort::Procedure,
@@ -125,10 +218,26 @@ const PREDEFINED: [Row; 26] = [
         b"maxint",
         Predefined::Operation(Operation::Largest),
     ),
+    (Sort::Procedure, b"errorstop", Predefined::ErrorStop),
     (
         Sort::Procedure,
         b"put",
         Predefined::Request(RequestName::PutNumber),
+    ),
+    (
+        Sort::Procedure,
+        b"put",
+        Predefined::Request(RequestName::PutText),
+    ),
+    (
+        Sort::Procedure,
+        b"write",
+        Predefined::Request(RequestName::Write),
+    ),
+    (
+        Sort::Procedure,
+        b"putline",
+        Predefined::Request(RequestName::PutLine),
     ),
     (
         Sort::Procedure,
@@ -165,12 +274,17 @@ const INT_VAR: Parameter = Parameter {
     access: Access::Var,
 };
 
+const TEXT_VAR: Parameter = Parameter {
+    of: ElanType::Text,
+    access: Access::Var,
+};
+
 // The operands of an operation are values.
 fn operands(operation: Operation) -> &'static [Parameter]
     ensures { result.now ≡ spec.values (operand_kinds operation) }
 {
     match operation {
-        Operation::Largest | Operation::EmptyText => &[],
+        Operation::Largest => &[],
         Operation::Plus | Operation::Negate | Operation::Absolute => &[INT],
         Operation::Not => &[BOOL],
         Operation::Same | Operation::Different | Operation::And | Operation::Or => &[BOOL, BOOL],
@@ -217,6 +331,7 @@ fn request_operands(name: RequestName) -> &'static [Parameter]
 {
     match name {
         RequestName::PutNumber => &[INT],
+        RequestName::PutText | RequestName::Write | RequestName::PutLine => &[TEXT],
         RequestName::Line => &[],
     }
 }
@@ -238,8 +353,10 @@ impl Predefined {
     {
         match self {
             Predefined::Operation(operation) => operands(operation),
-            Predefined::Change(_) => &[INT_VAR, INT],
+            Predefined::Change(Change::Increase | Change::Decrease) => &[INT_VAR, INT],
+            Predefined::Change(Change::Append) => &[TEXT_VAR, TEXT],
             Predefined::Request(name) => request_operands(name),
+            Predefined::ErrorStop => &[TEXT],
         }
     }
 
@@ -249,8 +366,7 @@ impl Predefined {
     {
         match self {
             Predefined::Operation(operation) => Some(type_in(operation.result_kind())),
-            Predefined::Change(_) => None,
-            Predefined::Request(_) => None,
+            Predefined::Change(_) | Predefined::Request(_) | Predefined::ErrorStop => None,
         }
     }
 }

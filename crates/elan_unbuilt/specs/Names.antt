@@ -5,9 +5,7 @@ use Rattle.std.specs.Str.{bytes_eq}
 
 unfoldable pub names_not_built : List (List ℕ)
 names_not_built =
-    codes "CAT" ∷ codes "SUB" ∷ codes "LENGTH" ∷ codes "length" ∷ codes "pos" ∷ codes "subtext" ∷ codes "code" ∷ codes "text" ∷ codes "int"
-    ∷ codes "errorstop" ∷ codes "write" ∷ codes "putline" ∷ codes "get" ∷ codes "getline"
-    ∷ codes "niltask" ∷ codes "begin" ∷ codes "end" ∷ codes "myself" ∷ codes "father" ∷ codes "son" ∷ codes "brother" ∷ codes "task"
+    codes "get" ∷ codes "getline" ∷ codes "niltask" ∷ codes "begin" ∷ codes "end" ∷ codes "myself" ∷ codes "father" ∷ codes "son" ∷ codes "brother" ∷ codes "task"
     ∷ codes "name" ∷ codes "exists" ∷ codes "break"
     ∷ codes "nilspace" ∷ codes "type" ∷ codes "forget" ∷ codes "new" ∷ codes "old" ∷ codes "rename" ∷ codes "copy" ∷ codes "send"
     ∷ codes "wait" ∷ codes "call" ∷ []

@@ -5,19 +5,7 @@ ghost use Rattle.std.specs.List.{list_any};
 ghost use Rattle.std.specs.Str.{bytes_eq};
 ghost use Rattle.elan_unbuilt.specs.Names as spec;
 
-const NOT_BUILT: [&[u8]; 35] = [
-    b"CAT",
-    b"SUB",
-    b"LENGTH",
-    b"length",
-    b"pos",
-    b"subtext",
-    b"code",
-    b"text",
-    b"int",
-    b"errorstop",
-    b"write",
-    b"putline",
+const NOT_BUILT: [&[u8]; 23] = [
     b"get",
     b"getline",
     b"niltask",

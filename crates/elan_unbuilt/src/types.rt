@@ -13,6 +13,7 @@ pub fn written_type(of: &TypePhrase) -> Option<ElanType>
     match of {
         TypePhrase::Int(_) => Some(ElanType::Int),
         TypePhrase::Bool(_) => Some(ElanType::Bool),
+        TypePhrase::Text(_) => Some(ElanType::Text),
         _ => None,
     }
 }

@@ -65,6 +65,7 @@ Layer F = F (List Node) (List Node) (List Node) (List Node) (List Node) (List No
 abbrev pub expr_step : Layer Expr-F → List Node
 expr_step (t.Number at n) = []
 expr_step (t.Truth at b) = []
+expr_step (t.Text at x) = []
 expr_step (t.Named n) = alone n ∷ []
 expr_step (t.Call n actuals) = other n ∷ all actuals
 expr_step (t.Bracket at a) = a

@@ -27,7 +27,7 @@ fn in_expr<V: Visitor>(visitor: &mut V, expr: &Expr) -> Result<(), NoMemory>
     ensures refused { OnErr result V.grows }
 {
     match expr {
-        Expr::Number(_, _) | Expr::Truth(_, _) => Ok(()),
+        Expr::Number(_, _) | Expr::Truth(_, _) | Expr::Text(_, _) => Ok(()),
         Expr::Named(name) => visitor.visit(Node::Alone(name)),
         Expr::Call(name, actuals) => {
             visitor.visit(Node::Other(name))?;

@@ -17,7 +17,7 @@ use Rattle.elan_scope.specs.Ruled.{Ruled, joined}
 use Rattle.elan_meant.specs.Verdict.{Verdict, gives, breaks, ◌>>=◌, told, Tells}
 use Rattle.elan_meant.specs.declared.meant.Meant.{Meant}
 use Rattle.value_rules.specs.Calls.{given, given_as, performed}
-use Rattle.value_rules.specs.walks.Steps.{given_next}
+use Rattle.value_rules.specs.walks.Steps.{given_next, one_of}
 
 pub given_none : (at : ℕ) (ps : List Parameter) → given at ps [] ≡ gives []
 given_none at [] = refl
@@ -95,3 +95,14 @@ changed_is c at r (actual.Value w ∷ a ∷ []) = refl
 changed_is c at r (actual.Place x t ∷ actual.Value v ∷ d ∷ as') = refl
 changed_is c at r (actual.Place x t ∷ actual.Place y u ∷ d ∷ as') = refl
 changed_is c at r (actual.Value w ∷ a ∷ d ∷ as') = refl
+
+abbrev pub stopped_by : ℕ → Option Actual → Verdict Meant
+stopped_by at (Some (actual.Value v)) = gives (Done (action.ErrorStop v ∷ []))
+stopped_by at o = breaks (at, WrongType)
+
+pub stopped_is : (at : ℕ) (r : Option ElanType) (as' : List Actual) → performed at (Predefined names.ErrorStop) r as' ≡ stopped_by at (one_of as')
+stopped_is at r [] = refl
+stopped_is at r (actual.Value v ∷ []) = refl
+stopped_is at r (actual.Place x t ∷ []) = refl
+stopped_is at r (actual.Value v ∷ a ∷ as') = refl
+stopped_is at r (actual.Place x t ∷ a ∷ as') = refl

@@ -25,7 +25,7 @@ use Rattle.elan_meant.specs.declared.meant.Meant.{Meant}
 use Rattle.elan_meant.specs.declared.meant.Meant.TheVariants.{Absent, Variable, Value, Done, Left}
 use Rattle.elan_scope.specs.declared.callable.Callee.{Callee}
 use Rattle.elan_scope.specs.declared.callable.Callee.TheVariants.{Predefined, Body}
-use Rattle.elan_scope.specs.declared.predefined.Predefined.TheVariants.{Operation, Change, Request}
+use Rattle.elan_scope.specs.declared.predefined.Predefined.TheVariants.{Operation, Change, Request, ErrorStop}
 use Rattle.elan_scope.specs.Scope.{Callable, is_known, refinement_named}
 use Rattle.elan_scope.specs.declared.scope.Scope.{Scope}
 use Rattle.elan_scope.specs.declared.scope.Found.{Found}
@@ -80,6 +80,7 @@ abbrev pub performed : ℕ → Callee → Option ElanType → List Actual → Ve
 performed at (Predefined (Operation o)) (Some t) as' = gives (Value at t (value.Apply o (values_in as')))
 performed at (Predefined (Change c)) r (actual.Place x t ∷ actual.Value v ∷ []) = gives (Done (action.Modify c x v ∷ []))
 performed at (Predefined (Request q)) r as' = gives (Done (action.Ask q (values_in as') ∷ []))
+performed at (Predefined ErrorStop) r (actual.Value v ∷ []) = gives (Done (action.ErrorStop v ∷ []))
 performed at (Body n) (Some t) as' = gives (Value at t (value.Call n as' t))
 performed at (Body n) None as' = gives (Done (action.Call n as' ∷ []))
 performed at c r as' = breaks (at, WrongType)

@@ -1,9 +1,10 @@
--- Numbers, brackets, CAND and COR.
-use Rattle.std.specs.Prelude.{ℕ, ℤ, true, false, ◌&&◌, if◌then◌else◌}
-use Rattle.elan_types.specs.declared.elan_type.ElanType.TheVariants.{Int, Bool as Truths}
+-- Numbers, texts, brackets, CAND and COR.
+use Rattle.std.specs.Prelude.{ℕ, ℤ, true, false, ◌&&◌, if◌then◌else◌, nat_le, List, length}
+use Rattle.elan_types.specs.declared.elan_type.ElanType.TheVariants.{Int, Bool as Truths, Text}
 use Rattle.elan_types.specs.declared.core_phrase.ValuePhrase.{ValuePhrase}
 use Rattle.elan_types.specs.declared.core_phrase.ValuePhrase.TheVariants as value
 use Rattle.elan_types.specs.declared.why.Why.TheVariants.{WrongType}
+use Rattle.eu_base.specs.declared.value.TheConstants.{TEXT_BYTES}
 use Rattle.eu_base.specs.Operations.{in_range}
 use Rattle.elan_meant.specs.declared.meant.Meant.{Meant}
 use Rattle.elan_meant.specs.declared.meant.Meant.TheVariants.{Variable, Value}
@@ -14,6 +15,10 @@ use Rattle.elan_meant.specs.Parts.{value_of}
 -- A number of more than 16 bits is no INT.
 abbrev pub number : ℕ → ℤ → Verdict Meant
 number at n = if in_range n then gives (Value at Int (value.Number n)) else breaks (at, WrongType)
+
+-- A text of more than 16,000 bytes is no TEXT.
+abbrev pub text : ℕ → List ℕ → Verdict Meant
+text at x = if nat_le (length x) TEXT_BYTES then gives (Value at Text (value.Text x)) else breaks (at, WrongType)
 
 -- A variable in brackets is a value. What delivers nothing does in brackets what it does without.
 abbrev pub bracketed : ℕ → Meant → Meant

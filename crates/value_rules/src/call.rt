@@ -148,6 +148,27 @@ fn asked(alloc: Global, name: RequestName, actuals: List<Actual>) -> Judged
     done(alloc, Action::Ask(name, values))
 }
 
+fn one_of(mut actuals: List<Actual>) -> Option<Actual>
+    ensures { result ≡ walk.one_of actuals }
+{
+    if actuals.len() != 1 {
+        return None;
+    }
+    actuals.pop()
+}
+
+// A stop with the text that is given.
+#[tactic(auto, using(crate::proofs::Given::stopped_is))]
+fn stopped(alloc: Global, at: u32, actuals: List<Actual>) -> Judged
+    ensures { (r : Option ElanTypes) → Tells result (spec.performed at (callees.Predefined names.ErrorStop) r actuals) }
+{
+    match one_of(actuals) {
+        None => Err(Trouble::Breaks(at, Why::WrongType)),
+        Some(Actual::Place(_place, _of)) => Err(Trouble::Breaks(at, Why::WrongType)),
+        Some(Actual::Value(value)) => done(alloc, Action::ErrorStop(value)),
+    }
+}
+
 fn predefined(
     alloc: Global,
     at: u32,
@@ -164,6 +185,7 @@ fn predefined(
         },
         Predefined::Change(change) => changed(alloc, at, change, actuals),
         Predefined::Request(name) => asked(alloc, name, actuals),
+        Predefined::ErrorStop => stopped(alloc, at, actuals),
     }
 }
 

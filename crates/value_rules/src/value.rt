@@ -1,4 +1,4 @@
-//! Numbers, brackets, CAND and COR.
+//! Numbers, texts, brackets, CAND and COR.
 
 ghost use Rattle.std.specs.Prelude.{◌≡◌};
 ghost use Rattle.elan_types.specs.declared.elan_type.ElanType.TheVariants as types;
@@ -15,7 +15,7 @@ use elan_meant::part::{delivering, value_of};
 use elan_meant::row::{Judged, both};
 use elan_scope::trouble::Trouble;
 use elan_types::{ElanType, ValuePhrase, Why};
-use eu_base::Boxed;
+use eu_base::{Boxed, Bytes, TEXT_BYTES};
 use std::alloc::Global;
 
 /// A number that is written.
@@ -31,6 +31,17 @@ pub fn truth(alloc: Global, at: u32, truth: bool) -> Judged
     ensures { Tells result (gives (means.Value at types.Bool (values.Truth truth))) }
 {
     delivering(alloc, at, ElanType::Bool, ValuePhrase::Truth(truth))
+}
+
+/// A text that is written, with a copy of its bytes.
+pub fn text(alloc: Global, at: u32, text: &[u8]) -> Judged
+    ensures { Tells result (spec.text at text.now) }
+{
+    if text.len() > TEXT_BYTES {
+        return Err(Trouble::Breaks(at, Why::WrongType));
+    }
+    let bytes = Bytes::from(alloc, text)?;
+    delivering(alloc, at, ElanType::Text, ValuePhrase::Text(bytes))
 }
 
 /// A phrase in brackets: its value is no variable.

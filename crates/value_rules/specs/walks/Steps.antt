@@ -1,5 +1,5 @@
 -- Steps of the code. No definition of meaning needs them.
-use Rattle.std.specs.Prelude.{ℕ, Bool, true, false, ◌&&◌, List, [], ◌∷◌, ◌++◌, if◌then◌else◌}
+use Rattle.std.specs.Prelude.{ℕ, Bool, true, false, ◌&&◌, List, [], ◌∷◌, ◌++◌, Option, Some, None, if◌then◌else◌}
 use Rattle.elan_types.specs.declared.elan_type.ElanType.TheVariants.{Bool as Truths}
 use Rattle.elan_types.specs.declared.core_phrase.ValuePhrase.{ValuePhrase}
 use Rattle.elan_types.specs.declared.core_phrase.ValuePhrase.TheVariants as value
@@ -21,6 +21,11 @@ use Rattle.value_rules.specs.Calls.{given_as, leave_with, agrees}
 abbrev pub given_next : ℕ → List Parameter → Meant → Verdict (List Actual) → Verdict (List Actual)
 given_next at [] m r = r
 given_next at (p ∷ ps) m r = r >>= (λ as'. given_as at p.access p.of m >>= (λ a. gives (as' ++ a ∷ [])))
+
+-- what is given, where it is one thing
+abbrev pub one_of : List Actual → Option Actual
+one_of (a ∷ []) = Some a
+one_of _ = None
 
 abbrev pub leave_of : Exit → Meant → Action
 leave_of e m = leave_with e (type_in m) (value_of m)

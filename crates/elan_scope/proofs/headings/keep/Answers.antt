@@ -1,5 +1,4 @@
-use Rattle.std.proofs.Common.{List, ℕ, ◌≡◌, ap, subst, ◌∙◌, sym}
-use Rattle.std.specs.Str.{bytes_eq}
+use Rattle.std.proofs.Common.{List, ℕ, subst}
 use Rattle.elan_scope.specs.walks.Numbers.{KeepsOtherNames}
 use Rattle.elan_scope.proofs.Numbered.{other_names}
 use Rattle.elan_scope.proofs.headings.keep.Goals as goal

@@ -1,12 +1,10 @@
 use Rattle.std.proofs.Common.{◌≡◌, List, map, ap, sym, ◌∙◌}
-use Rattle.std.specs.Prelude.{slice_index_or}
 use Rattle.elan_tree.specs.declared.phrase.Unit.{Unit as Statement}
 use Rattle.elan_scope.specs.declared.delivery.Delivery.TheVariants.{Open}
 use Rattle.elan_scope.specs.Known.{delivery_at}
 use Rattle.elan_judge.specs.Shape as shape
 use Rattle.elan_check.specs.Level.{refinement_scope, refined_units}
 use Rattle.elan_check.specs.Refinements.{last_unit, unit_delivery}
-use Rattle.elan_check.specs.walks.Rounds.{any_open}
 use Rattle.elan_check.proofs.OnTheWay.{after_one, not_kept}
 use Rattle.elan_check.proofs.settle.Settling.refinement.Goals as goal
 
