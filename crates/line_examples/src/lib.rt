@@ -11,3 +11,5 @@ mod lines;
 mod meanings;
 #[cfg(test)]
 mod table;
+#[cfg(test)]
+mod texts;

@@ -161,7 +161,7 @@ FEHLER : kein ELAN-Text (Zeile 1, Stelle 8)
 FEHLER : kein ELAN-Text (Zeile 1, Stelle 9)
 > put (1
 FEHLER : kein ELAN-Text (Zeile 1, Stelle 7)
-> TEXT VAR t
+> ROW 3 INT VAR a
 FEHLER : kein ELAN-Text
 > put (((((((((((((((((((((((((((((((((((((((((((((((((((((((((((((((((((((((((((((((((((((((((((((((((((((5)))))))))))))))))))))))))))))))))))))))))))))))))))))))))))))))))))))))))))))))))))))))))))))))))))))
 5 
@@ -308,7 +308,7 @@ fn an_endless_loop_writes_until_its_marks_are_spent(rt: HostRuntime) {
 }
 
 /// Texts, and the listings of their code.
-const LISTINGS: [(&str, &str); 2] = [
+const LISTINGS: [(&str, &str); 3] = [
     (
         "REP put (1) PER",
         "0 MARK\n1 MARK\n2 MARK\n3 INT 1\n4 ASK put(INT)\n5 JUMP 1\n6 END\n",
@@ -316,6 +316,10 @@ const LISTINGS: [(&str, &str); 2] = [
     (
         "PROC p (INT VAR a): put (a) END PROC p; INT VAR x; p (x)",
         "0 MARK\n1 MARK\n2 OUTER 0\n3 CALL 5 1\n4 END\n5 MARK\n6 PARAM 0\n7 LOAD INT\n8 ASK put(INT)\n9 BACK\n",
+    ),
+    (
+        "TEXT VAR t :: \"a\"; t CAT \"b\"; put (t); errorstop (t)",
+        "0 MARK\n1 OUTER 0\n2 TEXT 0\n3 STORE TEXT\n4 MARK\n5 OUTER 0\n6 TEXT 1\n7 DO CAT\n8 MARK\n9 OUTER 0\n10 LOAD TEXT\n11 ASK put(TEXT)\n12 MARK\n13 OUTER 0\n14 LOAD TEXT\n15 DO errorstop\n16 END\n",
     ),
 ];
 

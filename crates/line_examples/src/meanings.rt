@@ -359,15 +359,13 @@ FEHLER : unbekannt (Zeile 1, Stelle 13)
 > PROC f: ;1; END PROC f
 FEHLER : falscher Typ (Zeile 1, Stelle 10)
 > TEXT VAR t
-FEHLER : kein ELAN-Text
 > put (\"a\")
-FEHLER : kein ELAN-Text
+a 
 > INT VAR text
-FEHLER : kein ELAN-Text
 > put (code (1))
-FEHLER : kein ELAN-Text
+\"1\" 
 > a CAT b
-FEHLER : kein ELAN-Text
+FEHLER : unbekannt (Zeile 1, Stelle 1)
 > LET n = 3
 FEHLER : kein ELAN-Text
 > ROW 3 INT VAR a
@@ -379,15 +377,15 @@ FEHLER : kein ELAN-Text
 > TASK VAR t
 FEHLER : kein ELAN-Text
 > put (x); TEXT VAR t
-FEHLER : kein ELAN-Text
+FEHLER : unbekannt (Zeile 1, Stelle 6)
 > INT VAR copy :: TRUE
 FEHLER : kein ELAN-Text
 > LENGTH 1
-FEHLER : kein ELAN-Text
+FEHLER : falscher Typ (Zeile 1, Stelle 1)
 > INT VAR a; a := LENGTH 1; put (b)
-FEHLER : kein ELAN-Text
+FEHLER : falscher Typ (Zeile 1, Stelle 17)
 > SELECT 1 OF CASE pos: line END SELECT
-FEHLER : kein ELAN-Text
+FEHLER : unbekannt (Zeile 1, Stelle 18)
 > BOUND INT VAR b
 FEHLER : kein ELAN-Text
 > T VAR x
@@ -399,7 +397,6 @@ FEHLER : kein ELAN-Text
 > FOR type REP line PER
 FEHLER : kein ELAN-Text
 > OP SUB (INT CONST a): END OP SUB
-FEHLER : kein ELAN-Text
 > INT OP + (INT CONST a, b): a * b END OP +; put (3 + 4)
 12 
 > OP X (INT CONST a): END OP X; X 3

@@ -12,6 +12,8 @@ pub(crate) const EXAMPLES: &str = "\
 5040 
 > put (sum). sum: INT VAR i, s; FOR i UPTO 4 REP s INCR i PER; s.
 10 
+> TEXT VAR t :: \"EL\"; t CAT \"AN\"; put (t); put (LENGTH t); put (3 * subtext (t, 3))
+ELAN 4 ANANAN 
 > put (total)
 FEHLER : unbekannt (Zeile 1, Stelle 6)
 > INT VAR my age :: 9; put (myage)   (* one name *)
@@ -88,6 +90,13 @@ FEHLER : Zeitgrenze
 1 
 > PROC p (INT CONST n): IF n > 0 THEN p (n - 1) FI END PROC p; p (5461); put (1)
 FEHLER : Stapelueberlauf
+> TEXT VAR a :: 16000 * \"a\"; PROC p (TEXT CONST t): put (LENGTH t) END PROC p; INT VAR i; FOR i UPTO 20 REP p (a) PER
+16000 16000 16000 16000 16000 16000 16000 16000 16000 16000 16000 16000 16000 16000 16000 16000 16000 16000 16000 16000 
+> TEXT VAR a :: 16000 * \"a\", b :: a, c :: a, d :: a, e :: a, f :: a, g :: a; put (1); TEXT VAR h :: a
+1 
+FEHLER : Textspeicher voll
+> TEXT VAR a :: 16000 * \"a\"; PROC q (TEXT CONST b, c, d, e, f): END PROC q; q (a, a, a, a, a)
+FEHLER : Operandenspeicher voll
 > INT VAR i, n :: 3; FOR i UPTO n REP n := 1; put (i) PER; put (i)
 1 2 3 3 
 > INT VAR i; FOR i FROM 32767 UPTO 32767 REP put (i) PER; put (i)
@@ -113,6 +122,17 @@ FEHLER : INT-Ueberlauf
 FEHLER : INT-Ueberlauf
 > put (1 DIV 0)
 FEHLER : Division durch 0
+> TEXT VAR t :: \"ab\"; t CAT 2 * \"c\"; put (t + t); put (t SUB 3); put (LENGTH t); put (pos (t, \"cc\")); put (subtext (t, 2, 3))
+abccabcc c 4 3 bc 
+> put (code (\"A\")); put (code (66)); put (text (-5) + \"!\"); put (int (\" -12 \") + 1); put (int (\"12a\"))
+65 B -5! -11 0 
+> IF \"Ab\" < \"B\" CAND \"a\" < \"ab\" CAND \"\" < \"a\" THEN write (\"less\"); putline (\"!\"); put (\"next\") FI
+less!
+next 
+> put (\"a\"\"b\"); put (\"c\"10\"d\"); put (\"\")
+a\"b c\"10\"d  
+> errorstop (\"stopped\")
+FEHLER : stopped
 > put (1); put (2)
 1 2 
 > put (1); line; put (1 DIV 0)
@@ -152,6 +172,15 @@ FEHLER : Division durch 0
 30 4 
 > search; put (i).  search:   INT VAR i;   FOR i FROM 2 REP     IF 91 MOD i = 0 THEN LEAVE search FI   PER.
 7 
+> write (\"7 times 6 is \"); put (7 * 6); line; putline (\"That is all.\")
+7 times 6 is 42 
+That is all.
+> TEXT CONST word :: \"REGAL\"; TEXT VAR reversed; INT VAR i; FOR i FROM LENGTH word DOWNTO 1 REP   reversed CAT (word SUB i) PER; put (word + \" = \" + reversed + \"?\"); put (3 * \"ha\")
+REGAL = LAGER? hahaha 
+> TEXT CONST date :: \"1979-10-21\"; put (int (subtext (date, 1, 4)) + 100); put (pos (date, \"-\")); IF \"Anna\" < \"Berta\" CAND \"Zoe\" < \"anna\" THEN putline (\"Year \" + text (79)) FI
+2079 5 Year 79
+> TEXT PROC framed (TEXT CONST t):   \"<\" + t + \">\" END PROC framed; put (framed (framed (\"x\")))
+<<x>> 
 > put (aple)
 FEHLER : unbekannt (Zeile 1, Stelle 6)
 > INT VAR a; put (a = TRUE)
@@ -179,7 +208,7 @@ FEHLER : kein ELAN-Text (Zeile 1, Stelle 11)
 5 
 > IF 2 > 1 THEN put (2)
 FEHLER : kein ELAN-Text (Zeile 1, Stelle 22)
-> put (\"Hallo\")
+> ROW 3 INT VAR a
 FEHLER : kein ELAN-Text
 > INT VAR name
 FEHLER : kein ELAN-Text
@@ -216,4 +245,12 @@ FEHLER : INT-Ueberlauf
 FEHLER : Division durch 0
 > INT PROC f (INT CONST n): IF n = 0 THEN 0 ELSE 1 + (1 + (1 + f (n - 1))) FI END PROC f; put (f (30000))
 FEHLER : Operandenspeicher voll
+> TEXT VAR t; REP t CAT \"abcdefgh\" PER
+FEHLER : Text zu lang
+> PROC p (TEXT CONST t): p (t) END PROC p; p (16000 * \"a\")
+FEHLER : Textspeicher voll
+> put (code (256))
+FEHLER : falscher Code
+> errorstop (\"nichts zu tun\"); put (1)
+FEHLER : nichts zu tun
 ";
