@@ -8,13 +8,13 @@ top="$(cd "$(dirname "${BASH_SOURCE[0]}")/.." && pwd)"
 limit="${1:-120}"
 work="$(mktemp -d)"
 trap 'rm -rf "$work"' EXIT
-crates="containers eu_base call_graph elan_tree elan_lexer elan_grammar elan_cursor type_parser form_parser expression_parser phrase_parser procedure_parser
+crates="containers eu_base call_graph elan_tree elan_lexer elan_grammar elan_kinds elan_cursor type_parser form_parser expression_parser phrase_parser procedure_parser
     text_parser elan_parser elan_types elan_scope elan_meant value_rules unit_rules choice_rules elan_rules elan_walk elan_unbuilt elan_levels
     elan_judge elan_check"
 
 mkdir -p "$work/crates/parts/src"
 for crate in $crates; do
-    cp -r "$top/crates/$crate" "$work/crates/"
+    cp -a "$top/crates/$crate" "$work/crates/"
     grep "^$crate:" "$top/crates.txt" >>"$work/crates.txt"
 done
 echo "parts: elan_check elan_parser elan_lexer elan_types elan_tree eu_base" >>"$work/crates.txt"
