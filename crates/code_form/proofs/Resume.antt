@@ -1,13 +1,15 @@
 -- Runs that come to rest and go on.
 use Rattle.std.proofs.Common.{◌≡◌, ℕ, zero, suc, ◌+◌, ◌≤◌, List, [], ◌∷◌, ◌++◌, Some, refl, sym, ap, ◌∙◌, subst, arith, ⊎_elim}
+use Rattle.std.specs.Prelude.{slice_get}
 use Rattle.std.proofs.lemmas.Bool.{cases_lt}
 use Rattle.eu_base.specs.declared.request.Reply.{Reply}
 use Rattle.code_form.specs.declared.halt.Halt.TheVariants as halts
-use Rattle.code_form.specs.Program.{Program}
+use Rattle.code_form.specs.Program.{Program, instr_of}
 use Rattle.code_form.specs.declared.waits.Waits.{Waits}
-use Rattle.code_form.specs.declared.waits.Waits.TheVariants.{Nothing, Asked, Refused}
-use Rattle.code_form.specs.Machine.{Position, Control, free, After, To, Asks, Stops, Unsaid, Move, Goes, Spends, Halts, Refuses, Ends, Unknown, Stuck, Scene, Rest}
-use Rattle.code_form.specs.Machine.{step, Stage, On, Over, Lost, after_stage, mark_stage, reply_stage, stage, stage_at, advance, carry_on, exec}
+use Rattle.code_form.specs.declared.waits.Waits.TheVariants.{Nothing, Asked, Given, Refused}
+use Rattle.code_form.specs.Machine.{Position, Control, free, given, After, To, Asks, Stops, Unsaid, Move, Goes, Spends, Halts, Refuses, Ends, Unknown, Stuck}
+use Rattle.code_form.specs.Machine.{Scene, Rest, step, takes_reply, Stage, On, Over, Lost, after_stage, mark_stage, reply_stage, move_stage, stage_at, advance}
+use Rattle.code_form.specs.Machine.{carry_on, exec}
 use Rattle.code_form.specs.Runs.{IsPaused, Rests, wider, Resumes, Replies, IsOne}
 
 the_some : {A : Type 0} (a b : A) → Some a ≡ Some b → a ≡ b
@@ -38,12 +40,12 @@ Widens marks replies (On c' s') c s st = st ≡ On c' (wider s' marks replies)
 Widens marks replies (Over r) c s st = IsPaused r.how → (r.control ≡ c) × (r.scene ≡ s)
 Widens marks replies Lost c s st = Unit {0}
 
-after_widens : (marks : ℕ) (replies : List Reply) (a : After) (c : Position) (s : Scene)
-    → Widens marks replies (after_stage a c s) (free c) s (after_stage a c (wider s marks replies))
-after_widens marks replies (To c' cells) c s = refl
-after_widens marks replies (Asks c' q cells) c s = refl
-after_widens marks replies (Stops stop) c s = λ paused. absurd paused
-after_widens marks replies Unsaid c s = tt
+after_widens : (marks : ℕ) (replies : List Reply) (a : After) (d : Control) (s : Scene)
+    → Widens marks replies (after_stage a d s) d s (after_stage a d (wider s marks replies))
+after_widens marks replies (To c' cells) d s = refl
+after_widens marks replies (Asks c' q cells) d s = refl
+after_widens marks replies (Stops stop) d s = λ paused. absurd paused
+after_widens marks replies Unsaid d s = tt
 
 of_marks : (marks : ℕ) (replies : List Reply) (st st' : Stage) (c : Control) (s s' : Scene) → ((r : Rest) → st ≡ Over r → IsPaused r.how → ⊥)
     → Widens marks replies st c s st' → Widens marks replies st c s' st'
@@ -51,37 +53,39 @@ of_marks marks replies (On c' x) st' c s s' never w = w
 of_marks marks replies (Over r) st' c s s' never w = λ paused. absurd (never r refl paused)
 of_marks marks replies Lost st' c s s' never w = tt
 
-never_paused : (a : After) (c : Position) (s : Scene) (r : Rest) → after_stage a c s ≡ Over r → IsPaused r.how → ⊥
-never_paused (To c' cells) c s r e paused = let f : ⊥ = cc in f
-never_paused (Asks c' q cells) c s r e paused = let f : ⊥ = cc in f
-never_paused (Stops stop) c s r e paused =
-    let f : record { how = halts.Stopped stop; control = free c; scene = s } ≡ r = cc in
+never_paused : (a : After) (d : Control) (s : Scene) (r : Rest) → after_stage a d s ≡ Over r → IsPaused r.how → ⊥
+never_paused (To c' cells) d s r e paused = let f : ⊥ = cc in f
+never_paused (Asks c' q cells) d s r e paused = let f : ⊥ = cc in f
+never_paused (Stops stop) d s r e paused =
+    let f : record { how = halts.Stopped stop; control = d; scene = s } ≡ r = cc in
     subst (λ (x : Rest). IsPaused x.how) (sym f) paused
-never_paused Unsaid c s r e paused = let f : ⊥ = cc in f
+never_paused Unsaid d s r e paused = let f : ⊥ = cc in f
 
-mark_widens : (marks : ℕ) (replies : List Reply) (m : ℕ) (a : After) (c : Position) (s : Scene)
-    → Widens marks replies (mark_stage m a c s) (free c) s (mark_stage (m + marks) a c (wider s marks replies))
-mark_widens marks replies zero a c s = λ paused. (refl, refl)
-mark_widens marks replies (suc m) a c s =
+mark_widens : (marks : ℕ) (replies : List Reply) (m : ℕ) (a : After) (d : Control) (s : Scene)
+    → Widens marks replies (mark_stage m a d s) d s (mark_stage (m + marks) a d (wider s marks replies))
+mark_widens marks replies zero a d s = λ paused. (refl, refl)
+mark_widens marks replies (suc m) a d s =
     let e : suc m + marks ≡ suc (m + marks) = omega arith in
     let s' = record s { marks = m } in
-    subst (λ n. Widens marks replies (after_stage a c s') (free c) s (mark_stage n a c (wider s marks replies))) (sym e)
-    (of_marks marks replies (after_stage a c s') (after_stage a c (wider s' marks replies)) (free c) s' s (never_paused a c s')
-    (after_widens marks replies a c s'))
+    subst (λ n. Widens marks replies (after_stage a d s') d s (mark_stage n a d (wider s marks replies))) (sym e)
+    (of_marks marks replies (after_stage a d s') (after_stage a d (wider s' marks replies)) d s' s (never_paused a d s')
+    (after_widens marks replies a d s'))
 
-move_widens : (marks : ℕ) (replies : List Reply) (m : Move) (c : Position) (s : Scene)
-    → Widens marks replies (stage m c s) (free c) s (stage m c (wider s marks replies))
-move_widens marks replies (Goes c' cells) c s = refl
-move_widens marks replies (Spends a) c s = mark_widens marks replies s.marks a c s
-move_widens marks replies (Halts stop) c s = λ paused. (refl, refl)
-move_widens marks replies (Refuses stop c') c s = refl
-move_widens marks replies Ends c s = λ paused. (refl, refl)
-move_widens marks replies Unknown c s = tt
-move_widens marks replies Stuck c s = tt
+move_widens : (marks : ℕ) (replies : List Reply) (m : Move) (d : Control) (s : Scene)
+    → Widens marks replies (move_stage m d s) d s (move_stage m d (wider s marks replies))
+move_widens marks replies (Goes c' cells) d s = refl
+move_widens marks replies (Spends a) d s = mark_widens marks replies s.marks a d s
+move_widens marks replies (Halts stop) d s = λ paused. (refl, refl)
+move_widens marks replies (Refuses stop c') d s = refl
+move_widens marks replies Ends d s = λ paused. (refl, refl)
+move_widens marks replies Unknown d s = tt
+move_widens marks replies Stuck d s = tt
 
 stage_widens : (p : Program) (marks : ℕ) (replies : List Reply) (w : Waits) (c : Position) (s : Scene)
     → Widens marks replies (stage_at w p c s) (record { position = c; waits = w }) s (stage_at w p c (wider s marks replies))
-stage_widens p marks replies Nothing c s = move_widens marks replies (step p c s.cells) c s
+stage_widens p marks replies Nothing c s = move_widens marks replies (step p c s.cells) (free c) s
+stage_widens p marks replies (Given r) c s =
+    move_widens marks replies (takes_reply (instr_of (slice_get p.lines c.pc)) r c s.cells) (given c r) s
 stage_widens p marks replies (Asked q) c s = asks s.replies
   where
     asks : (rs : List Reply)

@@ -1,7 +1,7 @@
 -- A step from a state that fits can be made, and leads to one that fits. One induction over the instructions, so it stands in one file.
 use Rattle.std.proofs.Common.{◌≡◌, ℕ, suc, ◌+◌, ◌-◌, ◌<◌, ◌≤◌, ◌%◌, List, [], ◌∷◌, ◌++◌, map, length, Option, Some, None, Bool, true, false, cond, refl, sym}
-use Rattle.std.proofs.Common.{ap, ◌∙◌, subst, arith, length-append}
-use Rattle.std.specs.Prelude.{slice_get, Ok, Err}
+use Rattle.std.proofs.Common.{ap, ◌∙◌, subst, arith, length-append, append_assoc, ◌++◌}
+use Rattle.std.specs.Prelude.{slice_get, drop, Ok, Err}
 use Rattle.std.specs.Ordering.{int_eq}
 use Rattle.std.proofs.lemmas.List.{length-map}
 use Rattle.std.proofs.lemmas.Option.{slice_get_within}
@@ -17,15 +17,19 @@ use Rattle.eu_base.specs.declared.operation.Way.{Way}
 use Rattle.eu_base.specs.declared.stop.Stop.TheVariants.{CellRoom, TextRoom}
 use Rattle.eu_base.specs.Values.{kind_of, number_of, truth_of, blank_of, number_in, truth_in}
 use Rattle.eu_base.specs.Room.{cells_fit, bytes_fit, texts_fit}
-use Rattle.eu_base.specs.Operations.{Given, operand_kinds, result_kind, result_of, change_kind, changed, is_past, has_reached}
-use Rattle.eu_base.specs.Requests.{request_kinds, request_of}
+use Rattle.eu_base.specs.Operations.{Given as GivenValue, operand_kinds, result_kind, result_of, change_kind, changed, is_past, has_reached}
+use Rattle.eu_base.specs.declared.request.RequestName.{RequestName}
+use Rattle.eu_base.specs.declared.request.Request.{Request}
+use Rattle.eu_base.specs.declared.request.Reply.{Reply}
+use Rattle.eu_base.specs.declared.request.Reply.TheVariants as replies
+use Rattle.eu_base.specs.Requests.{request_kinds, request_places, request_size, request_of, reply_text, read_as}
 use Rattle.eu_base.specs.Cells.{Cell, Free, Word, Letters, Cells, held_of, IsCell, run_cell, place_in, written, cell_blocks, blocks_in, freed}
 use Rattle.code_form.specs.declared.operand.Operand.{Operand}
 use Rattle.code_form.specs.declared.operand.Operand.TheVariants.{Value as Of, Place as At}
 use Rattle.code_form.specs.declared.operand.OperandKind.{OperandKind}
 use Rattle.code_form.specs.declared.operand.OperandKind.TheVariants.{Value as OfKind, Place as AtKind}
 use Rattle.code_form.specs.declared.waits.Waits.{Waits}
-use Rattle.code_form.specs.declared.waits.Waits.TheVariants.{Nothing}
+use Rattle.code_form.specs.declared.waits.Waits.TheVariants.{Nothing, Asked, Given, Refused}
 use Rattle.code_form.specs.declared.instr.Instr.{Instr}
 use Rattle.code_form.specs.declared.instr.Instr.TheVariants.{Mark, Number, Truth, Text, Outer, Local, Param, Load, Store, Do, Modify, Jump, False, When, Drop}
 use Rattle.code_form.specs.declared.instr.Instr.TheVariants.{Limit, Unlimit, Step, Ask, ErrorStop, Call, Refer, Back, Out, End}
@@ -36,14 +40,32 @@ use Rattle.code_form.specs.declared.code.Layout.{Layout}
 use Rattle.code_form.specs.declared.code.Layout.TheVariants as layouts
 use Rattle.code_form.specs.Program.{Program, line_of, instr_of, in_body, deeper, owner, owner_in, owner_at, layout_of, cells_of, cells_in, cells_at}
 use Rattle.code_form.specs.Program.{frame_cells}
-use Rattle.code_form.specs.Machine.{Frame, Position, free, To, Asks, Stops, Unsaid, Move, Goes, Spends, operand_bytes, bytes_on, bytes_of, base_of, at}
+use Rattle.code_form.specs.Machine.{value_in, keeps, takes_reply, asking, given, answered}
+use Rattle.code_form.specs.Machine.{Frame, Position, free, To, Stops, Unsaid, Move, Goes, Spends, operand_bytes, bytes_on, bytes_of, base_of, at}
 use Rattle.code_form.specs.Machine.{using, goes, pushes, on_value, on_place, on_values, on_operands, on_result, or_halt, on_word, on_cell, is_free, are_free}
 use Rattle.code_form.specs.Machine.{limit_cell, held_of_operand, frame_contents, link_contents, written_from, enters, calls_to, call_move, refer_move}
 use Rattle.code_form.specs.Machine.{takes, puts, content_blocks, is_framed, Unknown, goes, Halts, back_into, back_to, out_to, limit_to, instruction, step}
 use Rattle.code_form.specs.Valid.{Next, pushed_kinds, pushed_operands, with_result, HasResult, IsRefinement, IsCalled, IsReferred, IsFine, IsValid, FitsKind}
+use Rattle.code_form.specs.Valid.{is_ask, is_asking, request_operands}
 use Rattle.code_form.specs.Valid.{FitsKinds, MadeSo, IsMade, FitsFrames, Fits}
 use Rattle.code_form.specs.Runs.{IsSafe, StaysFit}
 use Rattle.eu_base.proofs.Results.{result_gives, kind_is}
+
+-- so many operands a request has
+pub request_many : (q : RequestName) → length (request_operands q) ≡ request_size q
+request_many q =
+    omega (
+      arith,
+      length-append (map OfKind (request_kinds q)) (map AtKind (request_places q)),
+      length-map (request_kinds q) OfKind,
+      length-map (request_places q) AtKind,
+    )
+
+-- what stands behind values
+pub fits_behind : (ks : List Kind) (more : List OperandKind) (os : List Operand) → FitsKinds os (map OfKind ks ++ more) → FitsKinds (drop (length ks) os) more
+fits_behind [] more os is = is
+fits_behind (k ∷ ks) more [] is = absurd is
+fits_behind (k ∷ ks) more (o ∷ os) is = fits_behind ks more os is.1
 
 some_is : {A : Type 0} (a b : A) → Some a ≡ Some b → a ≡ b
 some_is a b e = cc
@@ -219,7 +241,30 @@ module _ (p : Program) (valid : IsValid p) (pc : ℕ) (ops : List Operand) (used
       by acc' [] e f = absurd f.0
       by acc' (o ∷ ops) e f = h (o ∷ acc') ops (omega (arith, e)) (f.0.1, fewer o ops f.1)
 
-  or_safe : (g : Given) (go : Value → Move) → ((v : Value) → g ≡ Ok v → Safe (go v)) → Safe (or_halt g go)
+  -- what was taken is of these kinds
+  some_fitting : (more : List OperandKind) (n : ℕ) (had rest : List OperandKind) (acc ops : List Operand) (go : List Operand → List Operand → Move)
+      → FitsKinds acc had → Has ops (pushed_operands more rest)
+      → ((acc' ops : List Operand) → FitsKinds acc' (more ++ had) → Has ops rest → Safe (on_operands n acc' ops go))
+      → Safe (on_operands (length more + n) acc ops go)
+  some_fitting [] n had rest acc ops go is f h =
+      let e : 0 + n ≡ n = omega arith in subst (λ n. Safe (on_operands n acc ops go)) (sym e) (h acc ops is f)
+  some_fitting (k ∷ more) n had rest acc ops go is f h =
+      let e : suc (length more) + n ≡ length more + suc n = omega arith in
+      subst (λ n. Safe (on_operands n acc ops go)) (sym e) (some_fitting more (suc n) had (k ∷ rest) acc ops go is f by)
+    where
+      by : (acc' ops : List Operand) → FitsKinds acc' (more ++ had) → Has ops (k ∷ rest) → Safe (on_operands (suc n) acc' ops go)
+      by acc' [] is f = absurd f.0
+      by acc' (o ∷ ops) is f = h (o ∷ acc') ops (f.0.0, is) (f.0.1, fewer o ops f.1)
+
+  -- a request's operands are taken
+  taken_safe : (q : RequestName) (rest : List OperandKind) (ops : List Operand) (go : List Operand → List Operand → Move)
+      → Has ops (pushed_operands (request_operands q) rest)
+      → ((os ops : List Operand) → FitsKinds os (request_operands q ++ []) → Has ops rest → Safe (go os ops)) → Safe (on_operands (request_size q) [] ops go)
+  taken_safe q rest ops go f h =
+      let e : length (request_operands q) + 0 ≡ request_size q = omega (arith, request_many q) in
+      subst (λ n. Safe (on_operands n [] ops go)) e (some_fitting (request_operands q) 0 [] rest [] ops go tt f h)
+
+  or_safe : (g : GivenValue) (go : Value → Move) → ((v : Value) → g ≡ Ok v → Safe (go v)) → Safe (or_halt g go)
   or_safe (Ok v) go h = h v refl
   or_safe (Err s) go h = tt
 
@@ -229,13 +274,24 @@ module _ (p : Program) (valid : IsValid p) (pc : ℕ) (ops : List Operand) (used
 
   module _ (m : Spot) (floor : ℕ) (made : FitsFrames p frames m.body floor) (used_is : used ≡ floor + m.limits) (room : cells_fit used ≡ true) where
     fits_at : (pc : ℕ) (ks : List OperandKind) (ops : List Operand) (w : Waits) → Next p.lines pc ks m → Has ops ks
+        → (is_asking w ≡ true → is_ask (instr_of (slice_get p.lines pc)) ≡ true)
         → Fits p (record { position = record { pc = pc; ops = ops; used = used; frames = frames }; waits = w })
-    fits_at pc ks ops w next f =
-        record { kinds = ks; spot = m; floor = floor; next = next; operands = f.0; frames = made; used = used_is; cells = λ _. room; bytes = f.1 }
+    fits_at pc ks ops w next f asks = record {
+      kinds = ks;
+      spot = m;
+      floor = floor;
+      next = next;
+      operands = f.0;
+      frames = made;
+      used = used_is;
+      asks = asks;
+      cells = λ _. room;
+      bytes = f.1;
+    }
 
     fit : (pc : ℕ) (ks : List OperandKind) (ops : List Operand) → Next p.lines pc ks m → Has ops ks
         → Fits p (free (record { pc = pc; ops = ops; used = used; frames = frames }))
-    fit pc ks ops next f = fits_at pc ks ops Nothing next f
+    fit pc ks ops next f = fits_at pc ks ops Nothing next f (λ e. absurd (cc e))
 
     push_safe : (o : Operand) (k : OperandKind) (r : List Operand) (ks : List OperandKind) → FitsKind o k → Next p.lines (pc + 1) (k ∷ ks) m → FitsKinds r ks
         → Safe (pushes now o r cells)
@@ -284,6 +340,7 @@ module _ (p : Program) (valid : IsValid p) (pc : ℕ) (ops : List Operand) (used
           frames = made;
           used =
               omega (arith, used_is);
+          asks = λ e. absurd (cc e);
           cells = λ _. e;
           bytes = f.1;
         })) tt) tt
@@ -300,6 +357,7 @@ module _ (p : Program) (valid : IsValid p) (pc : ℕ) (ops : List Operand) (used
           operands = f.0;
           frames = subst (λ b. FitsFrames p frames b floor) (ap (λ (s : Spot). s.body) e) made;
           used = omega (arith, used_is, limits);
+          asks = λ e. absurd (cc e);
           cells = λ _. cells_fewer (used - 1) used (omega arith) room;
           bytes = f.1;
         }
@@ -338,6 +396,7 @@ module _ (p : Program) (valid : IsValid p) (pc : ℕ) (ops : List Operand) (used
         ),
       );
       used = omega (arith, is);
+      asks = λ e. absurd (cc e);
       cells = λ _. fit;
       bytes = f.1;
     }
@@ -418,6 +477,7 @@ module _ (p : Program) (valid : IsValid p) (pc : ℕ) (ops : List Operand) (used
           operands = fits f.ops made'.rest made'.operands;
           frames = h.1.1.1;
           used = made'.used;
+          asks = λ e. absurd (cc e);
           cells = λ _. cells_fewer f.used used (omega (arith, le, used_below p valid f body floor' (base_of fs) h.0 h.1.0 made')) room;
           bytes = room' f.ops (bytes_of fs) bytes;
         }) tt
@@ -463,6 +523,24 @@ module _ (p : Program) (valid : IsValid p) (pc : ℕ) (ops : List Operand) (used
         let now' = written cells a (held_of v) in
         cond_safe (takes (held_of v) (cells a)) _ _
         (λ _. cond_safe (texts_fit (cell_blocks (held_of v)) (blocks_in now')) (goes now r now') (Halts TextRoom) (λ _. fit (pc + 1) ks r next g) tt) tt
+
+    -- the variable of a request gets a value
+    keep_safe : (ks : List Kind) (os : List Operand) (v : Value) (rest : List OperandKind) (r : List Operand) → FitsKinds os (map AtKind ks ++ [])
+        → Next p.lines (pc + 1) rest m → Has r rest → Safe (keeps now os v r cells)
+    keep_safe [] [] v rest r is next g = fit (pc + 1) rest r next g
+    keep_safe [] (o ∷ os) v rest r is next g = absurd is
+    keep_safe (k ∷ ks) [] v rest r is next g = absurd is
+    keep_safe (k ∷ ks) (Of w ∷ os) v rest r is next g = absurd is.0
+    keep_safe (k ∷ ks) (At a ∷ os) v rest r is next g = put_safe a v rest r next g
+
+    -- a request goes on with its reply
+    reply_safe : (q : RequestName) (t : Reply) (ks : List OperandKind) → IsFine p pc (Ask q) ks m → Has ops ks → Safe (takes_reply (Some (Ask q)) t now cells)
+    reply_safe q t ks f k =
+        taken_safe q f.0 ops _ (subst (Has ops) f.1 k) (λ os r is g.
+        or_safe (read_as q (reply_text t)) _ (λ v _.
+        keep_safe (request_places q) (drop (length (request_kinds q)) os) v f.0 r
+        (fits_behind (request_kinds q) (map AtKind (request_places q) ++ []) os
+        (subst (FitsKinds os) (append_assoc (map OfKind (request_kinds q)) (map AtKind (request_places q)) []) is)) f.2 g))
 
     safe : (i : Instr) (ks : List OperandKind) → slice_get p.lines pc ≡ Some (line_of i ks m) → IsFine p pc i ks m → Has ops ks
         → Safe (instruction p (Some i) now cells)
@@ -510,10 +588,10 @@ module _ (p : Program) (valid : IsValid p) (pc : ℕ) (ops : List Operand) (used
         cond_safe (has_reached way (number_in l) (number_in n)) _ _ (λ _. fit a f.2.0 r f.2.3.next g)
         (fit (pc + 1) f.2.0 r f.2.2 g))))
     safe (Ask q) ks line f k =
-        let e : length (request_kinds q) ≡ length (request_kinds q) + 0 = omega arith in
-        subst (λ n. Safe (on_values n [] ops (λ vs ops. Spends (Asks (at now (pc + 1) ops) (request_of q vs) cells)))) (sym e)
-        (some_values (request_kinds q) 0 f.0 [] ops _ (subst (Has ops) f.1 k) (λ vs r g. fits_at (pc + 1) f.0 r _ f.2 g))
-    safe ErrorStop ks line f k = one_value ops kinds.Text f.0 _ (subst (Has ops) f.1 k) (λ v r e g. fits_at (pc + 1) f.0 r _ f.2 g)
+        taken_safe q f.0 ops _ (subst (Has ops) f.1 k) (λ os r fits g.
+        fits_at pc ks ops (Asked (request_of q (map value_in os))) (Ask q, line) k (λ _. ap (λ l. is_ask (instr_of l)) line))
+    safe ErrorStop ks line f k =
+        one_value ops kinds.Text f.0 _ (subst (Has ops) f.1 k) (λ v r e g. fits_at (pc + 1) f.0 r _ f.2 g (λ e. absurd (cc e)))
     safe (Call n) ks line f k = call_safe n ks line f k
     safe (Refer n) ks line f k = refer_safe n ks line f k
     safe (Back r) ks line f k =
@@ -534,20 +612,44 @@ step_safe p c cells valid fits =
     (fits.operands, fits.bytes) in
     subst (λ (o : Option Line). IsSafe p (instruction p (instr_of o) c cells)) (sym fits.next.1) made
 
+-- it is the instruction of a request
+pub asks_name : (i : Instr) → is_ask (Some i) ≡ true → (q : RequestName) × (i ≡ Ask q)
+asks_name (Ask q) e = (q, refl)
+asks_name _ e = absurd (cc e)
+
+takes_safe : (p : Program) (c : Position) (r : Reply) (cells : Cells) → IsValid p → Fits p (given c r)
+    → IsSafe p (takes_reply (instr_of (slice_get p.lines c.pc)) r c cells)
+takes_safe p c r cells valid fits =
+    let i = fits.next.0 in
+    let q = asks_name i (ap (λ l. is_ask (instr_of l)) (sym fits.next.1) ∙ fits.asks refl) in
+    let fine = valid.each c.pc (line_of i fits.kinds fits.spot) fits.next.1 in
+    let made =
+    reply_safe p valid c.pc c.ops c.used c.frames cells fits.spot fits.floor fits.frames fits.used (fits.cells refl) q.0 r fits.kinds
+    (subst (λ i. IsFine p c.pc i fits.kinds fits.spot) q.1 fine) (fits.operands, fits.bytes) in
+    subst (λ o. IsSafe p (takes_reply o r c cells)) (ap (λ i. Some i) (sym q.1) ∙ ap instr_of (sym fits.next.1)) made
+
+-- a request is answered where it was made
+answered_fits : (p : Program) (c : Position) (q : Request) (r : Reply) → Fits p (asking c q) → Fits p (answered q r c)
+answered_fits p c q r fits = by r
+  where
+    so : (w : Waits) → (is_asking w ≡ true → is_ask (instr_of (slice_get p.lines c.pc)) ≡ true) → Fits p (record { position = c; waits = w })
+    so w asks = record {
+      kinds = fits.kinds;
+      spot = fits.spot;
+      floor = fits.floor;
+      next = fits.next;
+      operands = fits.operands;
+      frames = fits.frames;
+      used = fits.used;
+      asks = asks;
+      cells = λ _. fits.cells refl;
+      bytes = fits.bytes;
+    }
+
+    by : (r : Reply) → Fits p (answered q r c)
+    by (replies.Stopped stop) = so (Refused stop) (λ e. absurd (cc e))
+    by replies.Done = so (Given replies.Done) (λ _. fits.asks refl)
+    by (replies.Text t) = so (Given (replies.Text t)) (λ _. fits.asks refl)
+
 pub stays_fit : StaysFit
-stays_fit = record {
-  steps = step_safe;
-  replies =
-      λ p c q r fits. record {
-        kinds = fits.kinds;
-        spot = fits.spot;
-        floor = fits.floor;
-        next = fits.next;
-        operands = fits.operands;
-        frames =
-            fits.frames;
-        used = fits.used;
-        cells = fits.cells;
-        bytes = fits.bytes;
-      };
-}
+stays_fit = record { steps = step_safe; replies = answered_fits; takes = takes_safe }

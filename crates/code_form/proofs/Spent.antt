@@ -2,15 +2,16 @@
 -- marks or replies, and of every rest of a run that had no marks.
 use Rattle.std.proofs.Common.{◌≡◌, ℕ, zero, suc, ◌+◌, ◌-◌, ◌≤◌, List, [], ◌∷◌, ◌++◌, Some, refl, sym, ap, ◌∙◌, subst, arith, append_assoc, ◌⊎◌, inl, inr}
 use Rattle.std.proofs.Common.{⊎_elim}
+use Rattle.std.specs.Prelude.{slice_get}
 use Rattle.eu_base.specs.declared.request.Request.{Request}
 use Rattle.eu_base.specs.declared.request.Reply.{Reply}
 use Rattle.eu_base.specs.Cells.{Cells}
-use Rattle.code_form.specs.Program.{Program}
+use Rattle.code_form.specs.Program.{Program, instr_of}
 use Rattle.code_form.specs.declared.waits.Waits.{Waits}
-use Rattle.code_form.specs.declared.waits.Waits.TheVariants.{Nothing, Asked, Refused}
-use Rattle.code_form.specs.Machine.{Position, Control, free, asking, answered, After, To, Asks, Stops, Unsaid, Move, Goes, Spends, Halts, Refuses, Ends, Unknown}
-use Rattle.code_form.specs.Machine.{Stuck, Scene, Rest, step, Stage, On, Over, Lost, after_stage, mark_stage, reply_stage, stage, stage_at, advance, carry_on}
-use Rattle.code_form.specs.Machine.{exec}
+use Rattle.code_form.specs.declared.waits.Waits.TheVariants.{Nothing, Asked, Given, Refused}
+use Rattle.code_form.specs.Machine.{Position, Control, free, asking, given, answered, After, To, Asks, Stops, Unsaid, Move, Goes, Spends, Halts, Refuses}
+use Rattle.code_form.specs.Machine.{Ends, Unknown, Stuck, Scene, Rest, step, takes_reply, Stage, On, Over, Lost, after_stage, mark_stage, reply_stage}
+use Rattle.code_form.specs.Machine.{move_stage, stage_at, advance, carry_on, exec}
 use Rattle.code_form.specs.Runs.{IsPaused, Rests, Stands, StandsOn}
 use Rattle.code_form.proofs.Resume.{replied}
 
@@ -24,34 +25,35 @@ Shifts rs (On c' s') c s f = (s'.marks ≤ s.marks) × ((k : ℕ) → f ((s.mark
 Shifts rs (Over r) c s f = IsPaused r.how ⊎ (s.marks ≡ 0) → (r.control ≡ c) × (r.scene ≡ s)
 Shifts rs Lost c s f = Unit {0}
 
-paid_shifts : (rs : List Reply) (m : ℕ) (a : After) (c : Position) (s : Scene) → s.marks ≡ suc m
-    → Shifts rs (after_stage a c (record s { marks = m })) (free c) s (λ n. mark_stage n a c (at_marks rs n s))
-paid_shifts rs m (To c' cells) c s e =
-    (omega (arith, e), λ k. let f : (s.marks - m) + k ≡ suc k = omega (arith, e) in ap (λ n. mark_stage n (To c' cells) c (at_marks rs n s)) f)
-paid_shifts rs m (Asks c' q cells) c s e =
-    (omega (arith, e), λ k. let f : (s.marks - m) + k ≡ suc k = omega (arith, e) in ap (λ n. mark_stage n (Asks c' q cells) c (at_marks rs n s)) f)
-paid_shifts rs m (Stops stop) c s e = λ calm. absurd (⊎_elim (λ paused. paused) (λ none. omega (arith, e, none)) calm)
-paid_shifts rs m Unsaid c s e = tt
+paid_shifts : (rs : List Reply) (m : ℕ) (a : After) (d : Control) (s : Scene) → s.marks ≡ suc m
+    → Shifts rs (after_stage a d (record s { marks = m })) d s (λ n. mark_stage n a d (at_marks rs n s))
+paid_shifts rs m (To c' cells) d s e =
+    (omega (arith, e), λ k. let f : (s.marks - m) + k ≡ suc k = omega (arith, e) in ap (λ n. mark_stage n (To c' cells) d (at_marks rs n s)) f)
+paid_shifts rs m (Asks c' q cells) d s e =
+    (omega (arith, e), λ k. let f : (s.marks - m) + k ≡ suc k = omega (arith, e) in ap (λ n. mark_stage n (Asks c' q cells) d (at_marks rs n s)) f)
+paid_shifts rs m (Stops stop) d s e = λ calm. absurd (⊎_elim (λ paused. paused) (λ none. omega (arith, e, none)) calm)
+paid_shifts rs m Unsaid d s e = tt
 
-mark_shifts : (rs : List Reply) (m : ℕ) (a : After) (c : Position) (s : Scene) → s.marks ≡ m
-    → Shifts rs (mark_stage m a c s) (free c) s (λ n. mark_stage n a c (at_marks rs n s))
-mark_shifts rs zero a c s e = λ paused. (refl, refl)
-mark_shifts rs (suc m) a c s e = paid_shifts rs m a c s e
+mark_shifts : (rs : List Reply) (m : ℕ) (a : After) (d : Control) (s : Scene) → s.marks ≡ m
+    → Shifts rs (mark_stage m a d s) d s (λ n. mark_stage n a d (at_marks rs n s))
+mark_shifts rs zero a d s e = λ paused. (refl, refl)
+mark_shifts rs (suc m) a d s e = paid_shifts rs m a d s e
 
-move_shifts : (rs : List Reply) (m : Move) (c : Position) (s : Scene) → Shifts rs (stage m c s) (free c) s (λ n. stage m c (at_marks rs n s))
-move_shifts rs (Goes c' cells) c s =
-    (omega arith, λ k. let f : (s.marks - s.marks) + k ≡ k = omega arith in ap (λ n. stage (Goes c' cells) c (at_marks rs n s)) f)
-move_shifts rs (Spends a) c s = mark_shifts rs s.marks a c s refl
-move_shifts rs (Halts stop) c s = λ paused. (refl, refl)
-move_shifts rs (Refuses stop c') c s =
-    (omega arith, λ k. let f : (s.marks - s.marks) + k ≡ k = omega arith in ap (λ n. stage (Refuses stop c') c (at_marks rs n s)) f)
-move_shifts rs Ends c s = λ paused. (refl, refl)
-move_shifts rs Unknown c s = tt
-move_shifts rs Stuck c s = tt
+move_shifts : (rs : List Reply) (m : Move) (d : Control) (s : Scene) → Shifts rs (move_stage m d s) d s (λ n. move_stage m d (at_marks rs n s))
+move_shifts rs (Goes c' cells) d s =
+    (omega arith, λ k. let f : (s.marks - s.marks) + k ≡ k = omega arith in ap (λ n. move_stage (Goes c' cells) d (at_marks rs n s)) f)
+move_shifts rs (Spends a) d s = mark_shifts rs s.marks a d s refl
+move_shifts rs (Halts stop) d s = λ paused. (refl, refl)
+move_shifts rs (Refuses stop c') d s =
+    (omega arith, λ k. let f : (s.marks - s.marks) + k ≡ k = omega arith in ap (λ n. move_stage (Refuses stop c') d (at_marks rs n s)) f)
+move_shifts rs Ends d s = λ paused. (refl, refl)
+move_shifts rs Unknown d s = tt
+move_shifts rs Stuck d s = tt
 
 stage_shifts : (p : Program) (rs : List Reply) (w : Waits) (c : Position) (s : Scene)
     → Shifts rs (stage_at w p c s) (record { position = c; waits = w }) s (λ n. stage_at w p c (at_marks rs n s))
-stage_shifts p rs Nothing c s = move_shifts rs (step p c s.cells) c s
+stage_shifts p rs Nothing c s = move_shifts rs (step p c s.cells) (free c) s
+stage_shifts p rs (Given r) c s = move_shifts rs (takes_reply (instr_of (slice_get p.lines c.pc)) r c s.cells) (given c r) s
 stage_shifts p rs (Asked q) c s = asks s.replies
   where
     asks : (xs : List Reply) → Shifts rs (reply_stage xs q c s) (asking c q) s (λ n. reply_stage (xs ++ rs) q c (at_marks rs n s))
@@ -65,27 +67,28 @@ Falls n (On c s) = s.marks ≤ n
 Falls n (Over r) = r.scene.marks ≤ n
 Falls n Lost = Unit {0}
 
-after_falls : (m : ℕ) (a : After) (c : Position) (s : Scene) → Falls (suc m) (after_stage a c (record s { marks = m }))
-after_falls m (To c' cells) c s = omega arith
-after_falls m (Asks c' q cells) c s = omega arith
-after_falls m (Stops stop) c s = omega arith
-after_falls m Unsaid c s = tt
+after_falls : (m : ℕ) (a : After) (d : Control) (s : Scene) → Falls (suc m) (after_stage a d (record s { marks = m }))
+after_falls m (To c' cells) d s = omega arith
+after_falls m (Asks c' q cells) d s = omega arith
+after_falls m (Stops stop) d s = omega arith
+after_falls m Unsaid d s = tt
 
-move_falls : (m : Move) (c : Position) (s : Scene) → Falls s.marks (stage m c s)
-move_falls (Goes c' cells) c s = omega arith
-move_falls (Spends a) c s = by s.marks refl
+move_falls : (m : Move) (d : Control) (s : Scene) → Falls s.marks (move_stage m d s)
+move_falls (Goes c' cells) d s = omega arith
+move_falls (Spends a) d s = by s.marks refl
   where
-    by : (n : ℕ) → s.marks ≡ n → Falls n (mark_stage n a c s)
+    by : (n : ℕ) → s.marks ≡ n → Falls n (mark_stage n a d s)
     by zero e = omega (arith, e)
-    by (suc n) e = after_falls n a c s
-move_falls (Halts stop) c s = omega arith
-move_falls (Refuses stop c') c s = omega arith
-move_falls Ends c s = omega arith
-move_falls Unknown c s = tt
-move_falls Stuck c s = tt
+    by (suc n) e = after_falls n a d s
+move_falls (Halts stop) d s = omega arith
+move_falls (Refuses stop c') d s = omega arith
+move_falls Ends d s = omega arith
+move_falls Unknown d s = tt
+move_falls Stuck d s = tt
 
 stage_falls : (p : Program) (w : Waits) (c : Position) (s : Scene) → Falls s.marks (stage_at w p c s)
-stage_falls p Nothing c s = move_falls (step p c s.cells) c s
+stage_falls p Nothing c s = move_falls (step p c s.cells) (free c) s
+stage_falls p (Given r) c s = move_falls (takes_reply (instr_of (slice_get p.lines c.pc)) r c s.cells) (given c r) s
 stage_falls p (Asked q) c s = by s.replies
   where
     by : (rs : List Reply) → Falls s.marks (reply_stage rs q c s)

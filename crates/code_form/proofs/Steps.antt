@@ -2,7 +2,7 @@
 use Rattle.std.proofs.Common.{◌++◌, ◌≡◌, ℕ, zero, suc, ◌+◌, ◌-◌, ◌*◌, ◌<◌, ◌≤◌, List, [], ◌∷◌, length, Option, Some, None, Bool, true, false, cond, refl, sym}
 use Rattle.std.proofs.Common.{ap}
 use Rattle.std.proofs.Common.{◌∙◌, subst, arith, ⊎_elim}
-use Rattle.std.specs.Prelude.{slice_get, Ok, Err}
+use Rattle.std.specs.Prelude.{slice_get, drop, Ok, Err}
 use Rattle.std.specs.Ordering.{int_eq}
 use Rattle.std.proofs.lemmas.Option.{slice_get_within}
 use Rattle.std.proofs.lemmas.Bool.{cases_lt}
@@ -16,7 +16,8 @@ use Rattle.eu_base.specs.declared.value.Value.{Value}
 use Rattle.eu_base.specs.declared.value.Value.TheVariants as item
 use Rattle.eu_base.specs.Values.{number_of, truth_of, number_in, truth_in}
 use Rattle.eu_base.specs.Operations.{Given, operand_kinds, result_of, change_kind, changed, is_past, has_reached}
-use Rattle.eu_base.specs.Requests.{request_kinds}
+use Rattle.eu_base.specs.declared.request.Reply.{Reply}
+use Rattle.eu_base.specs.Requests.{request_kinds, request_size, reply_text, read_as}
 use Rattle.code_form.specs.declared.operand.Operand.{Operand}
 use Rattle.code_form.specs.declared.operand.Operand.TheVariants.{Value as Of, Place as At}
 use Rattle.code_form.specs.declared.instr.Instr.{Instr}
@@ -32,7 +33,7 @@ use Rattle.code_form.specs.Machine.{Frame, Position, Control, After, To, Asks, S
 use Rattle.code_form.specs.Machine.{bytes_on, bytes_of, base_of, pushes, on_value, on_place, on_values, on_operands, on_result, or_halt, on_word, on_cell, is_free}
 use Rattle.code_form.specs.Machine.{takes, puts, content_blocks, is_framed, back_into, Goes, Unknown, goes, Halts, are_free, limit_cell, frame_contents}
 use Rattle.code_form.specs.Machine.{link_contents, written_from, enters, calls_to, call_move, refer_move, back_to}
-use Rattle.code_form.specs.Machine.{out_to, instruction, step, mark_stage, stage, advance, carry_on, exec}
+use Rattle.code_form.specs.Machine.{out_to, instruction, keeps, takes_reply, step, free, given, mark_stage, move_stage, stage, advance, carry_on, exec}
 use Rattle.code_form.specs.Valid.{is_mark, IsFine, IsValid}
 use Rattle.code_form.specs.Runs.{Rests, ahead, steps_left}
 
@@ -73,12 +74,13 @@ module _ (p : Program) (valid : IsValid p) where
       omega (arith, ahead_is pc l e n, slice_get_within p.lines pc l e, z))
       (cases_lt pc a)
 
-  module _ (c : Position) (s : Scene) where
+  -- from a position, and the control that is left as it was where it rests
+  module _ (c : Position) (d : Control) (s : Scene) where
     abbrev depth : ℕ
     depth = length c.frames
 
     abbrev Near : Move → Type 0
-    Near m = Nearer p.lines s.marks depth c.pc (stage m c s)
+    Near m = Nearer p.lines s.marks depth c.pc (move_stage m d s)
 
     spent_less : (m frames pc : ℕ) → frames ≤ suc depth → steps_left p.lines m frames pc < steps_left p.lines (suc m) depth c.pc
     spent_less m frames pc le = by (⊎_elim (λ lt. omega arith) (λ le. le) (cases_lt (suc depth) frames))
@@ -98,12 +100,12 @@ module _ (p : Program) (valid : IsValid p) where
     Deeper (Stops stop) = Unit {0}
     Deeper Unsaid = Unit {0}
 
-    marked : (m : ℕ) (a : After) → Deeper a → Nearer p.lines m depth c.pc (mark_stage m a c s)
-    marked zero a d = tt
-    marked (suc m) (To c' cells) d = spent_less m (length c'.frames) c'.pc d
-    marked (suc m) (Asks c' q cells) d = spent_less m (length c'.frames) c'.pc d
-    marked (suc m) (Stops stop) d = tt
-    marked (suc m) Unsaid d = tt
+    marked : (m : ℕ) (a : After) → Deeper a → Nearer p.lines m depth c.pc (mark_stage m a d s)
+    marked zero a deep = tt
+    marked (suc m) (To c' cells) deep = spent_less m (length c'.frames) c'.pc deep
+    marked (suc m) (Asks c' q cells) deep = spent_less m (length c'.frames) c'.pc deep
+    marked (suc m) (Stops stop) deep = tt
+    marked (suc m) Unsaid deep = tt
 
     go : (pc : ℕ) → ahead p.lines pc < ahead p.lines c.pc → steps_left p.lines s.marks depth pc < steps_left p.lines s.marks depth c.pc
     go pc lt = omega arith
@@ -268,13 +270,30 @@ module _ (p : Program) (valid : IsValid p) where
         (λ k. near_word _ (λ n. near_if (has_reached way (number_in k) (number_in n)) _ _
         (go a (on_jump c.pc a l e (ap (λ i. is_mark (Some i)) is) f.2.3.spaced)) (go (c.pc + 1) (on_next c.pc l e (ap (λ i. is_mark (Some i)) is))))
         (s.cells q)) (limit_cell c s.cells)) c.ops
-    at_instr l e (Ask q) is f = near_values (length (request_kinds q)) _ (λ vs r. marked s.marks _ (omega arith)) [] c.ops
+    at_instr l e (Ask q) is f = near_operands (request_size q) _ (λ os r. marked s.marks _ (omega arith)) [] c.ops
     at_instr l e ErrorStop is f = near_value _ (λ v r. go (c.pc + 1) (on_next c.pc l e (ap (λ i. is_mark (Some i)) is))) c.ops
     at_instr l e (Call n) is f = call_near n (slice_get p.bodies n)
     at_instr l e (Refer n) is f = refer_near n (slice_get p.bodies n)
     at_instr l e (Back k) is f = near_result k _ (λ os. back_near os c.frames (omega arith)) c.ops
     at_instr l e (Out k) is f = near_result k _ (λ os. out_near os c.frames (omega arith)) c.ops
     at_instr l e End is f = tt
+
+    -- a request goes on with its reply
+    keep_near : (l : Line) → slice_get p.lines c.pc ≡ Some l → is_mark (Some l.instr) ≡ false → (os : List Operand) (v : Value) (r : List Operand)
+        → Near (keeps c os v r s.cells)
+    keep_near l e is [] v r = go (c.pc + 1) (on_next c.pc l e is)
+    keep_near l e is (Of w ∷ os) v r = tt
+    keep_near l e is (At a ∷ os) v r = put_near l e is a v r
+
+    reply_near : (l : Line) → slice_get p.lines c.pc ≡ Some l → (t : Reply) (i : Instr) → l.instr ≡ i → Near (takes_reply (Some i) t c s.cells)
+    reply_near l e t (Ask q) is =
+        near_operands (request_size q) _ (λ os r. near_or _ (λ v.
+        keep_near l e (ap (λ i. is_mark (Some i)) is) (drop (length (request_kinds q)) os) v r) (read_as q (reply_text t))) [] c.ops
+    reply_near l e t _ is = tt
+
+    reply_line : (t : Reply) (o : Option Line) → slice_get p.lines c.pc ≡ o → Near (takes_reply (instr_of o) t c s.cells)
+    reply_line t None e = tt
+    reply_line t (Some l) e = reply_near l e t l.instr refl
 
     at_line : (o : Option Line) → slice_get p.lines c.pc ≡ o → Near (instruction p (instr_of o) c s.cells)
     at_line None e = tt
@@ -283,7 +302,14 @@ module _ (p : Program) (valid : IsValid p) where
   -- where a step goes on, the end is nearer
   pub nearer : (c : Position) (c' : Control) (s s' : Scene) → On c' s' ≡ stage (step p c s.cells) c s
       → steps_left p.lines s'.marks (length c'.position.frames) c'.position.pc < steps_left p.lines s.marks (length c.frames) c.pc
-  nearer c c' s s' e = subst (Nearer p.lines s.marks (length c.frames) c.pc) (sym e) (at_line c s (slice_get p.lines c.pc) refl)
+  nearer c c' s s' e = subst (Nearer p.lines s.marks (length c.frames) c.pc) (sym e)
+      (at_line c (free c) s (slice_get p.lines c.pc) refl)
+
+  -- and where a request goes on with its reply
+  pub reply_nearer : (c : Position) (r : Reply) (c' : Control) (s s' : Scene)
+      → On c' s' ≡ move_stage (takes_reply (instr_of (slice_get p.lines c.pc)) r c s.cells) (given c r) s
+      → steps_left p.lines s'.marks (length c'.position.frames) c'.position.pc < steps_left p.lines s.marks (length c.frames) c.pc
+  reply_nearer c r c' s s' e = subst (Nearer p.lines s.marks (length c.frames) c.pc) (sym e) (reply_line c (given c r) s r (slice_get p.lines c.pc) refl)
 
 -- a step, and then the rest
 pub one_step : (p : Program) (c c' : Control) (s s' : Scene) (r : Rest) → On c' s' ≡ advance p c s → Rests p c' s' r → Rests p c s r

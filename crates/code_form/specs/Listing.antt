@@ -89,6 +89,9 @@ request_name requests.PutText = codes "put(TEXT)"
 request_name requests.Write = codes "write(TEXT)"
 request_name requests.PutLine = codes "putline(TEXT)"
 request_name requests.Line = codes "line"
+request_name requests.GetNumber = codes "get(INT)"
+request_name requests.GetText = codes "get(TEXT)"
+request_name requests.GetLine = codes "getline(TEXT)"
 
 -- where a body begins, and how many cells its frame has for its parameters and variables
 abbrev pub first_of : Option Entry → ℕ

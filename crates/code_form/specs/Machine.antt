@@ -1,6 +1,6 @@
 -- What the machine does with a list of instructions, one by one.
-use Rattle.std.specs.Prelude.{ℕ, zero, suc, ◌+◌, ◌-◌, Bool, true, false, ◌&&◌, cond, List, [], ◌∷◌, ◌++◌, map, length, Option, Some, None, Ok, Err, slice_get}
-use Rattle.std.specs.Prelude.{ℤ}
+use Rattle.std.specs.Prelude.{ℕ, zero, suc, ◌+◌, ◌-◌, Bool, true, false, ◌&&◌, cond, List, [], ◌∷◌, ◌++◌, map, length, drop, Option, Some, None, Ok, Err}
+use Rattle.std.specs.Prelude.{ℤ, pos, slice_get}
 use Rattle.std.specs.Ordering.{int_eq}
 use Rattle.eu_base.specs.declared.address.Addr.{Addr}
 use Rattle.eu_base.specs.declared.value.Kind.{Kind}
@@ -12,10 +12,11 @@ use Rattle.eu_base.specs.declared.stop.Stop.TheVariants.{CellRoom, OperandRoom, 
 use Rattle.eu_base.specs.declared.operation.Way.{Way}
 use Rattle.eu_base.specs.declared.request.Request.{Request}
 use Rattle.eu_base.specs.declared.request.Reply.{Reply}
+use Rattle.eu_base.specs.declared.request.Reply.TheVariants as replies
 use Rattle.eu_base.specs.Values.{number_of, truth_of, text_of, blank_of, number_in, truth_in}
 use Rattle.eu_base.specs.Room.{value_bytes, place_bytes, cells_fit, bytes_fit, texts_fit}
 use Rattle.eu_base.specs.Operations.{Given, operand_kinds, result_of, change_kind, changed, is_past, has_reached, next_number}
-use Rattle.eu_base.specs.Requests.{request_kinds, request_of}
+use Rattle.eu_base.specs.Requests.{request_kinds, request_size, request_of, reply_text, read_as}
 use Rattle.eu_base.specs.Cells.{Cell, Free, Word, Letters, Cells, held_of, run_cell, place_number, place_in, written, without, freed, cell_blocks, blocks_in}
 use Rattle.code_form.specs.declared.operand.Operand.{Operand}
 use Rattle.code_form.specs.declared.operand.Operand.TheVariants.{Value as Of, Place as At}
@@ -24,7 +25,7 @@ use Rattle.code_form.specs.declared.operand.OperandKind.TheVariants.{Value as Of
 use Rattle.code_form.specs.declared.halt.Halt.{Halt}
 use Rattle.code_form.specs.declared.halt.Halt.TheVariants as halts
 use Rattle.code_form.specs.declared.waits.Waits.{Waits}
-use Rattle.code_form.specs.declared.waits.Waits.TheVariants.{Nothing, Asked, Refused}
+use Rattle.code_form.specs.declared.waits.Waits.TheVariants.{Nothing, Asked, Given as Replied, Refused}
 use Rattle.code_form.specs.declared.instr.Instr.{Instr}
 use Rattle.code_form.specs.declared.instr.Instr.TheVariants.{Mark, Number, Truth, Text, Outer, Local, Param, Load, Store, Do, Modify, Jump, False, When, Drop}
 use Rattle.code_form.specs.declared.instr.Instr.TheVariants.{Limit, Unlimit, Step, Ask, ErrorStop, Call, Refer, Back, Out, End}
@@ -61,6 +62,9 @@ free c = record { position = c; waits = Nothing }
 
 abbrev pub asking : Position → Request → Control
 asking c q = record { position = c; waits = Asked q }
+
+abbrev pub given : Position → Reply → Control
+given c r = record { position = c; waits = Replied r }
 
 abbrev pub refused : Position → Stop → Control
 refused c stop = record { position = c; waits = Refused stop }
@@ -296,6 +300,23 @@ limit_to c way a limit x ops cells =
     Unknown)
     (Halts CellRoom)
 
+-- the value that an operand is; 0 stands for it where it is a place
+abbrev pub value_in : Operand → Value
+value_in (Of v) = v
+value_in (At a) = item.Int (pos 0)
+
+-- goes on from a request, and puts a value into its variable, where it has one
+abbrev pub keeps : Position → List Operand → Value → List Operand → Cells → Move
+keeps c [] v ops cells = goes c ops cells
+keeps c (Of w ∷ os) v ops cells = Stuck
+keeps c (At a ∷ os) v ops cells = puts c a v ops cells
+
+-- what an instruction does that made a request, with the reply: it takes its operands, its variable behind its values. No other makes one
+abbrev pub takes_reply : Option Instr → Reply → Position → Cells → Move
+takes_reply (Some (Ask name)) r c cells =
+    on_operands (request_size name) [] c.ops (λ os ops. or_halt (read_as name (reply_text r)) (λ v. keeps c (drop (length (request_kinds name)) os) v ops cells))
+takes_reply _ r c cells = Stuck
+
 -- the cell of the innermost limit
 abbrev pub limit_cell : Position → Cells → Cell
 limit_cell c cells = cells (run_cell (c.used - 1))
@@ -328,7 +349,7 @@ instruction p (Some (Step way a)) c cells =
     on_place c.ops (λ x ops. on_number (limit_cell c cells) (λ limit. on_number (cells x) (λ z.
     cond (has_reached way limit z) (Goes (at c a ops) cells) (goes c ops (written cells x (held_of (item.Int (next_number way z))))))))
 instruction p (Some (Ask name)) c cells =
-    on_values (length (request_kinds name)) [] c.ops (λ vs ops. Spends (Asks (at c (c.pc + 1) ops) (request_of name vs) cells))
+    on_operands (request_size name) [] c.ops (λ os ops. Spends (Asks c (request_of name (map value_in os)) cells))
 instruction p (Some ErrorStop) c cells = on_value c.ops (λ v ops. Refuses (Own (text_of v)) (at c (c.pc + 1) ops))
 instruction p (Some (Call n)) c cells = call_move c n (slice_get p.bodies n) cells
 instruction p (Some (Refer n)) c cells = refer_move c n (slice_get p.bodies n) cells
@@ -352,9 +373,11 @@ pub record Rest : Type 0 where
   pub control : Control
   pub scene : Scene
 
--- a reply to what the machine asks
+-- what a reply leads to: a stop, or its instruction goes on with it
 abbrev pub answered : Request → Reply → Position → Control
-answered q r c = free c
+answered q (replies.Stopped stop) c = refused c stop
+answered q replies.Done c = given c replies.Done
+answered q (replies.Text t) c = given c (replies.Text t)
 
 -- what a step leads to: a next state, rest, or nothing
 pub data Stage : Type 0 where
@@ -365,33 +388,38 @@ pub data Stage : Type 0 where
 abbrev pub rest_at : Halt → Control → Scene → Rest
 rest_at h c s = record { how = h; control = c; scene = s }
 
-abbrev pub after_stage : After → Position → Scene → Stage
-after_stage (To c' cells) c s = On (free c') (record s { cells = cells })
-after_stage (Asks c' q cells) c s = On (asking c' q) (record s { cells = cells })
-after_stage (Stops stop) c s = Over (rest_at (halts.Stopped stop) (free c) s)
-after_stage Unsaid c s = Lost
+-- where it rests, it stays as it was
+abbrev pub after_stage : After → Control → Scene → Stage
+after_stage (To c' cells) d s = On (free c') (record s { cells = cells })
+after_stage (Asks c' q cells) d s = On (asking c' q) (record s { cells = cells })
+after_stage (Stops stop) d s = Over (rest_at (halts.Stopped stop) d s)
+after_stage Unsaid d s = Lost
 
-abbrev pub mark_stage : ℕ → After → Position → Scene → Stage
-mark_stage zero a c s = Over (rest_at halts.Marked (free c) s)
-mark_stage (suc m) a c s = after_stage a c (record s { marks = m })
+abbrev pub mark_stage : ℕ → After → Control → Scene → Stage
+mark_stage zero a d s = Over (rest_at halts.Marked d s)
+mark_stage (suc m) a d s = after_stage a d (record s { marks = m })
+
+abbrev pub move_stage : Move → Control → Scene → Stage
+move_stage (Goes c' cells) d s = On (free c') (record s { cells = cells })
+move_stage (Spends a) d s = mark_stage s.marks a d s
+move_stage (Halts stop) d s = Over (rest_at (halts.Stopped stop) d s)
+move_stage (Refuses stop c') d s = On (refused c' stop) s
+move_stage Ends d s = Over (rest_at halts.Ended d s)
+move_stage Unknown d s = Lost
+move_stage Stuck d s = Lost
 
 abbrev pub stage : Move → Position → Scene → Stage
-stage (Goes c' cells) c s = On (free c') (record s { cells = cells })
-stage (Spends a) c s = mark_stage s.marks a c s
-stage (Halts stop) c s = Over (rest_at (halts.Stopped stop) (free c) s)
-stage (Refuses stop c') c s = On (refused c' stop) s
-stage Ends c s = Over (rest_at halts.Ended (free c) s)
-stage Unknown c s = Lost
-stage Stuck c s = Lost
+stage m c s = move_stage m (free c) s
 
 abbrev pub reply_stage : List Reply → Request → Position → Scene → Stage
 reply_stage [] q c s = Over (rest_at (halts.Asks q) (asking c q) s)
 reply_stage (r ∷ rs) q c s = On (answered q r c) (record s { replies = rs })
 
--- where nothing is waited for, a step is made; a request takes the next reply; and what was refused stops
+-- where nothing is waited for, a step is made; a request takes the next reply, and goes on with it; and what was refused stops
 abbrev pub stage_at : Waits → Program → Position → Scene → Stage
 stage_at Nothing p c s = stage (step p c s.cells) c s
 stage_at (Asked q) p c s = reply_stage s.replies q c s
+stage_at (Replied r) p c s = move_stage (takes_reply (instr_of (slice_get p.lines c.pc)) r c s.cells) (given c r) s
 stage_at (Refused stop) p c s = Over (rest_at (halts.Stopped stop) (refused c stop) s)
 
 abbrev pub advance : Program → Control → Scene → Stage

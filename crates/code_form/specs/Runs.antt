@@ -6,11 +6,11 @@ use Rattle.eu_base.specs.Cells.{Cells}
 use Rattle.code_form.specs.declared.halt.Halt.{Halt}
 use Rattle.code_form.specs.declared.halt.Halt.TheVariants as halts
 use Rattle.code_form.specs.declared.waits.Waits.{Waits}
-use Rattle.code_form.specs.declared.waits.Waits.TheVariants.{Nothing, Asked, Refused}
+use Rattle.code_form.specs.declared.waits.Waits.TheVariants.{Nothing, Asked, Given, Refused}
 use Rattle.code_form.specs.declared.code.Line.{Line}
 use Rattle.code_form.specs.Program.{Program, instr_of}
 use Rattle.code_form.specs.Machine.{Position, Control, free, asking, To, Asks, Stops, Move, Goes, Spends, Halts, Refuses, Ends, Unknown, Unsaid, Stuck, Scene, Rest}
-use Rattle.code_form.specs.Machine.{step, exec, answered, refused}
+use Rattle.code_form.specs.Machine.{step, exec, takes_reply, answered, given, refused}
 use Rattle.code_form.specs.Valid.{IsValid, Fits, is_mark}
 
 -- the machine comes to rest so
@@ -61,11 +61,14 @@ IsSafe p Stuck = ⊥
 pub record StaysFit : Type 0 where
   pub steps : (p : Program) (c : Position) (cells : Cells) → IsValid p → Fits p (free c) → IsSafe p (step p c cells)
   pub replies : (p : Program) (c : Position) (q : Request) (r : Reply) → Fits p (asking c q) → Fits p (answered q r c)
+  pub takes : (p : Program) (c : Position) (r : Reply) (cells : Cells) → IsValid p → Fits p (given c r)
+      → IsSafe p (takes_reply (instr_of (slice_get p.lines c.pc)) r c cells)
 
 -- the request that is waited for
 abbrev pub asked : Waits → Option Request
 asked Nothing = None
 asked (Asked q) = Some q
+asked (Given r) = None
 asked (Refused stop) = None
 
 -- how far the next mark, or else the end, can be

@@ -1,11 +1,12 @@
 -- The tables of code agree along each step, and each cycle of jumps spends a mark.
-use Rattle.std.specs.Prelude.{◌≡◌, ℕ, ◌+◌, ◌≤◌, Bool, true, false, List, [], ◌∷◌, length, Option, Some, None, slice_get}
+use Rattle.std.specs.Prelude.{◌≡◌, ℕ, ◌+◌, ◌≤◌, Bool, true, false, List, [], ◌∷◌, ◌++◌, map, length, Option, Some, None, slice_get}
 use Rattle.eu_base.specs.declared.value.Kind.{Kind}
 use Rattle.eu_base.specs.declared.value.Kind.TheVariants as kinds
 use Rattle.eu_base.specs.Values.{kind_of}
 use Rattle.eu_base.specs.Room.{cells_fit, bytes_fit}
 use Rattle.eu_base.specs.Operations.{operand_kinds, result_kind, change_kind}
-use Rattle.eu_base.specs.Requests.{request_kinds}
+use Rattle.eu_base.specs.declared.request.RequestName.{RequestName}
+use Rattle.eu_base.specs.Requests.{request_kinds, request_places}
 use Rattle.eu_base.specs.Cells.{IsCell}
 use Rattle.code_form.specs.declared.operand.Operand.{Operand}
 use Rattle.code_form.specs.declared.operand.Operand.TheVariants.{Value as Of, Place as At}
@@ -22,7 +23,7 @@ use Rattle.code_form.specs.declared.code.Layout.TheVariants as layouts
 use Rattle.code_form.specs.Program.{Program, line_of, instr_of, at_level, in_body, deeper, owner, owner_in, frame_cells}
 use Rattle.code_form.specs.Machine.{Frame, Control, base_of, bytes_on, bytes_of}
 use Rattle.code_form.specs.declared.waits.Waits.{Waits}
-use Rattle.code_form.specs.declared.waits.Waits.TheVariants.{Refused}
+use Rattle.code_form.specs.declared.waits.Waits.TheVariants.{Nothing, Asked, Given, Refused}
 
 -- these operands are pending at an instruction of this body, with so many limits
 abbrev pub Next : List Line → ℕ → List OperandKind → Spot → Type 0
@@ -31,6 +32,10 @@ Next lines pc ks m = (i : Instr) × (slice_get lines pc ≡ Some (line_of i ks m
 abbrev pub is_mark : Option Instr → Bool
 is_mark (Some Mark) = true
 is_mark _ = false
+
+abbrev pub is_ask : Option Instr → Bool
+is_ask (Some (Ask name)) = true
+is_ask _ = false
 
 -- and a jump from here back to it goes to a mark
 pub record Lands (lines : List Line) (pc a : ℕ) (ks : List OperandKind) (m : Spot) : Type 0 where
@@ -45,6 +50,10 @@ pushed_kinds (k ∷ more) ks = pushed_kinds more (Value k ∷ ks)
 abbrev pub pushed_operands : List OperandKind → List OperandKind → List OperandKind
 pushed_operands [] ks = ks
 pushed_operands (k ∷ more) ks = pushed_operands more (k ∷ ks)
+
+-- the operands of a request: values, and then places
+abbrev pub request_operands : RequestName → List OperandKind
+request_operands name = map Value (request_kinds name) ++ map Place (request_places name)
 
 -- with a result, where there is one
 abbrev pub with_result : Option Kind → List OperandKind → List OperandKind
@@ -120,7 +129,7 @@ IsFine p pc (Limit way a) ks m =
 IsFine p pc Unlimit ks m = (outer : Spot) × (m ≡ deeper outer) × Next p.lines (pc + 1) ks outer
 IsFine p pc (Step way a) ks m =
     (outer : Spot) × (m ≡ deeper outer) × ((rest : List OperandKind) × (ks ≡ Place kinds.Int ∷ rest) × Next p.lines (pc + 1) rest m × Lands p.lines pc a rest m)
-IsFine p pc (Ask name) ks m = (rest : List OperandKind) × (ks ≡ pushed_kinds (request_kinds name) rest) × Next p.lines (pc + 1) rest m
+IsFine p pc (Ask name) ks m = (rest : List OperandKind) × (ks ≡ pushed_operands (request_operands name) rest) × Next p.lines (pc + 1) rest m
 IsFine p pc ErrorStop ks m = (rest : List OperandKind) × (ks ≡ Value kinds.Text ∷ rest) × Next p.lines (pc + 1) rest m
 IsFine p pc (Call n) ks m = IsCalled p pc n ks m
 IsFine p pc (Refer n) ks m = IsReferred p pc n ks m
@@ -187,8 +196,16 @@ abbrev pub is_refused : Waits → Bool
 is_refused (Refused stop) = true
 is_refused _ = false
 
+-- a request was made
+abbrev pub is_asking : Waits → Bool
+is_asking Nothing = false
+is_asking (Asked q) = true
+is_asking (Given r) = true
+is_asking (Refused stop) = false
+
 -- a state fits its code: its instruction is one of the body of its innermost frame, the frames are such as CALL and REFER make, the
--- pending operands and FOR limits are those that the tables give, and cells and pending operands have room, or it stops
+-- pending operands and FOR limits are those that the tables give, a request was made by its instruction, and cells and pending operands
+-- have room, or it stops
 pub record Fits (p : Program) (c : Control) : Type 0 where
   pub kinds : List OperandKind
   pub spot : Spot
@@ -197,5 +214,6 @@ pub record Fits (p : Program) (c : Control) : Type 0 where
   pub operands : FitsKinds c.position.ops kinds
   pub frames : FitsFrames p c.position.frames spot.body floor
   pub used : c.position.used ≡ floor + spot.limits
+  pub asks : is_asking c.waits ≡ true → is_ask (instr_of (slice_get p.lines c.position.pc)) ≡ true
   pub cells : is_refused c.waits ≡ false → cells_fit c.position.used ≡ true
   pub bytes : bytes_fit (bytes_on c.position.ops (bytes_of c.position.frames)) ≡ true

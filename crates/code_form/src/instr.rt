@@ -42,7 +42,8 @@ pub enum Instr {
     Unlimit,
     /// Takes a place, and jumps where the number there has reached the innermost limit; else steps it.
     Step(Way, usize),
-    /// Spends a mark, takes operands, and makes a request.
+    /// Spends a mark and makes a request with the operands on top, which it takes once the reply is there; that
+    /// goes into the variable of the request.
     Ask(RequestName),
     /// Takes a text, and stops the command with it. It is listed as `DO`.
     ErrorStop,

@@ -275,5 +275,8 @@ fn request_name(name: RequestName) -> &'static [u8]
         RequestName::Write => b"write(TEXT)",
         RequestName::PutLine => b"putline(TEXT)",
         RequestName::Line => b"line",
+        RequestName::GetNumber => b"get(INT)",
+        RequestName::GetText => b"get(TEXT)",
+        RequestName::GetLine => b"getline(TEXT)",
     }
 }

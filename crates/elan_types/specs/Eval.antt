@@ -1,5 +1,6 @@
 -- What a program does. Evaluation knows the values of variables, the marks and the replies that are left, and no code.
-use Rattle.std.specs.Prelude.{ℕ, zero, suc, ◌+◌, ◌-◌, Bool, true, false, not, ◌||◌, List, [], ◌∷◌, ◌++◌, map, length, take, Option, Some, None, Ok, Err}
+use Rattle.std.specs.Prelude.{ℕ, zero, suc, ◌+◌, ◌-◌, Bool, true, false, not, ◌||◌, List, [], ◌∷◌, ◌++◌, map, length, take, drop, Option, Some, None}
+use Rattle.std.specs.Prelude.{Ok, Err}
 use Rattle.std.specs.Prelude.{slice_get, slice_index_or, slice_set, ℤ, pos}
 use Rattle.std.specs.Ordering.{int_eq}
 use Rattle.eu_base.specs.declared.value.Value.{Value}
@@ -7,14 +8,16 @@ use Rattle.eu_base.specs.declared.value.Value.TheVariants.{Int, Truth, Text}
 use Rattle.eu_base.specs.declared.stop.Stop.{Stop}
 use Rattle.eu_base.specs.declared.stop.Stop.TheVariants.{CellRoom, OperandRoom, TextRoom, Own}
 use Rattle.eu_base.specs.declared.request.Request.{Request}
+use Rattle.eu_base.specs.declared.request.RequestName.{RequestName}
 use Rattle.eu_base.specs.declared.request.Reply.{Reply}
+use Rattle.eu_base.specs.declared.request.Reply.TheVariants as replies
 use Rattle.eu_base.specs.declared.operation.Change.{Change}
 use Rattle.eu_base.specs.declared.operation.Change.TheVariants.{Increase}
 use Rattle.eu_base.specs.declared.operation.Way.{Way}
 use Rattle.eu_base.specs.Values.{number_of, truth_of, text_of, blank_of}
 use Rattle.eu_base.specs.Room.{value_bytes, value_blocks, place_bytes, cells_fit, bytes_fit, texts_fit}
 use Rattle.eu_base.specs.Operations.{Given, result_of, changed, is_past, has_reached, next_number}
-use Rattle.eu_base.specs.Requests.{request_of}
+use Rattle.eu_base.specs.Requests.{request_kinds, request_of, reply_text, read_as}
 use Rattle.elan_types.specs.declared.core_phrase.PlacePhrase.{PlacePhrase}
 use Rattle.elan_types.specs.declared.core_phrase.PlacePhrase.TheVariants.{Variable, Local, Parameter}
 use Rattle.elan_types.specs.declared.core_phrase.Exit.{Exit}
@@ -79,9 +82,15 @@ spend_at (suc m) w go = go (record w { marks = m })
 abbrev pub spend : {A : Type 0} → (World → Outcome A) → World → Outcome A
 spend go w = spend_at w.marks w go
 
+-- goes on with a reply, or stops where it says so
+abbrev pub heed : {A : Type 0} → Reply → (Reply → World → Outcome A) → World → Outcome A
+heed (replies.Stopped s) go w = Stopped s w
+heed replies.Done go w = go replies.Done w
+heed (replies.Text t) go w = go (replies.Text t) w
+
 abbrev pub ask_at : {A : Type 0} → List Reply → Request → World → (Reply → World → Outcome A) → Outcome A
 ask_at [] q w go = Asks q w
-ask_at (r ∷ rs) q w go = go r (record w { replies = rs })
+ask_at (r ∷ rs) q w go = heed r go (record w { replies = rs })
 
 -- spends a mark and makes a request, which takes the next reply
 abbrev pub ask : {A : Type 0} → Request → (Reply → World → Outcome A) → World → Outcome A
@@ -243,6 +252,16 @@ turn while' units until step = then_on (while_true while') (then_on (done units)
 abbrev pub go_on : Run Bool
 go_on n w = Gives true w
 
+-- stores the value that a reply brings in the variable of a request, where it has one
+abbrev pub keep : List Slot → Value → World → Outcome (Unit {0})
+keep [] v w = Gives tt w
+keep (x ∷ xs) v w = save (place_of x) v (Gives tt) w
+
+-- makes a request with what it is given, its variable behind its values
+abbrev pub request : RequestName → List Slot → World → Outcome (Unit {0})
+request name xs =
+    ask (request_of name (map value_of xs)) (λ r. or_stop (read_as name (reply_text r)) (keep (drop (length (request_kinds name)) xs)))
+
 -- INCR, DECR and CAT
 abbrev pub modify : {A : Type 0} → Change → Place → Value → A → World → Outcome A
 modify change x v a = load x (λ y. or_stop (changed change y v) (λ z. save x z (Gives a)))
@@ -313,7 +332,7 @@ action_step (t.Action::Select a arms us) n w = bind (a n w) (λ v. selected (num
 action_step (t.Loop while' us until) n w = turns n.turns (turn while' (all us) until go_on n) w
 action_step (t.Count p from way limit while' us until) n w =
     bind (stored p from n w) (λ _. counted p way limit (turn while' (all us) until) n)
-action_step (t.Ask name as') n w = bind (values as' n w) (λ vs. ask (request_of name vs) (λ _. Gives tt))
+action_step (t.Ask name as') n w = bind (actuals as' n w) (request name)
 action_step (t.ErrorStop a) n w = bind (a n w) (λ v. Stopped (Own (text_of v)))
 action_step (t.Action::Call p as') n w = bind (actuals as' n w) (λ xs w. bind (n.calls.call p xs n.held w) (λ _. Gives tt))
 action_step (t.Action::Refer p) n w = bind (n.calls.refer p n.base n.held w) (λ _. Gives tt)

@@ -6,7 +6,8 @@ use Rattle.eu_base.specs.declared.value.Kind.{Kind}
 use Rattle.eu_base.specs.declared.value.Kind.TheVariants as kinds
 use Rattle.eu_base.specs.declared.value.TheConstants.{TEXT_BYTES}
 use Rattle.eu_base.specs.Operations.{operand_kinds, result_kind, change_kind, in_range}
-use Rattle.eu_base.specs.Requests.{request_kinds}
+use Rattle.eu_base.specs.declared.request.RequestName.{RequestName}
+use Rattle.eu_base.specs.Requests.{request_kinds, request_places}
 use Rattle.elan_types.specs.declared.core_phrase.PlacePhrase.{PlacePhrase}
 use Rattle.elan_types.specs.declared.core_phrase.PlacePhrase.TheVariants.{Variable, Local, Parameter}
 use Rattle.elan_types.specs.declared.core_phrase.Access.{Access}
@@ -93,6 +94,20 @@ type_as access (Some f) = only_if (same_access access f.access) (Some f.of)
 
 abbrev pub held_const : ElanType → Formal
 held_const u = record { of = u; access = Const }
+
+abbrev pub held_var : ElanType → Formal
+held_var u = record { of = u; access = Var }
+
+-- what takes values of these kinds, and variables of these
+abbrev pub values_of : List Kind → List Formal
+values_of kinds = map (λ k. held_const (type_in k)) kinds
+
+abbrev pub variables_of : List Kind → List Formal
+variables_of kinds = map (λ k. held_var (type_in k)) kinds
+
+-- a request takes values, and then variables
+abbrev pub request_formals : RequestName → List Formal
+request_formals name = values_of (request_kinds name) ++ variables_of (request_places name)
 
 -- what a parameter is given, none where it is not well typed
 abbrev pub Taken : Type 0
@@ -251,7 +266,7 @@ module _ (variables : List ElanType) (bodies : List Body) (home : Home) where
   action_typed_step (t.Count p from way limit c us u) =
       has types.Int (place_type p)
       && (has types.Int from && (has_if_written types.Int limit && (has_if_written types.Bool c && (all_true us && has_if_written types.Bool u))))
-  action_typed_step (t.Ask name as') = have (map type_in (request_kinds name)) as'
+  action_typed_step (t.Ask name as') = take_all (request_formals name) as'
   action_typed_step (t.ErrorStop a) = has types.Text a
   action_typed_step (t.Action::Call p as') = taken_by (scope_of (slice_get bodies p)) as' && is_none (delivered_by (slice_get bodies p))
   action_typed_step (t.Action::Refer p) = refines (owner bodies home) (scope_of (slice_get bodies p)) && is_none (delivered_by (slice_get bodies p))

@@ -163,8 +163,8 @@ pub enum Action {
         units: List<Action>,
         until: Option<ValuePhrase>,
     },
-    /// A request, its operands from left to right.
-    Ask(RequestName, List<ValuePhrase>),
+    /// A request, its actuals from left to right.
+    Ask(RequestName, List<Actual>),
     /// `errorstop`: the command stops with this text.
     ErrorStop(ValuePhrase),
     /// A call of a PROC that delivers nothing, its actuals from left to right.

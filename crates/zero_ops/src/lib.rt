@@ -3,6 +3,7 @@
 
 mod convert;
 mod error;
+mod input;
 mod join;
 mod limit;
 mod numbers;
@@ -14,6 +15,7 @@ mod texts;
 mod trim;
 
 pub use error::{Fault, OpError};
+pub use input::read_as;
 pub use join::append;
 pub use numbers::{change_number, on_numbers};
 pub use operate::apply;
