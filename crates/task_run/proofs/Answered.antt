@@ -6,7 +6,7 @@ use Rattle.eu_base.specs.declared.request.Reply.{Reply}
 use Rattle.eu_base.specs.Cells.{Cells}
 use Rattle.code_form.specs.declared.halt.Halt.{Halt}
 use Rattle.code_form.specs.declared.waits.Waits.{Waits}
-use Rattle.code_form.specs.declared.waits.Waits.TheVariants.{Nothing, Asked, Refused}
+use Rattle.code_form.specs.declared.waits.Waits.TheVariants.{Nothing, Asked, Given, Refused}
 use Rattle.code_form.specs.Program.{Program}
 use Rattle.code_form.specs.Machine.{Control, Rest, rest_at, answered}
 use Rattle.code_form.specs.Runs.{IsPaused, Rests, Stands, asked}
@@ -28,6 +28,7 @@ module _ (p : Program) (first : Control) (cells : Cells) (spent : ℕ) (replies 
       → ((q : Request) → before.waits ≡ Asked q → after ≡ answered q r before.position) →
       Stands p first cells spent replies before now → Stands p first cells spent (replies ++ r ∷ []) after now
   stands_answered Nothing before after now e some is k = let f : ⊥ = cc in absurd f
+  stands_answered (Given t) before after now e some is k = let f : ⊥ = cc in absurd f
   stands_answered (Refused stop) before after now e some is k = let f : ⊥ = cc in absurd f
   stands_answered (Asked q) before after now e some is k =
       let k' = subst (λ w. Stands p first cells spent replies (record { position = before.position; waits = w }) now) e k in

@@ -78,7 +78,7 @@ impl TaskRun {
     {
         match &self.state.waits {
             Waits::Asked(request) => Some(request),
-            Waits::Nothing | Waits::Refused(_) => None,
+            Waits::Nothing | Waits::Given(_) | Waits::Refused(_) => None,
         }
     }
 

@@ -26,7 +26,7 @@ use Rattle.code_form.specs.declared.operand.OperandKind.{OperandKind}
 use Rattle.code_form.specs.Machine.{Frame, Position, Control, free, After, To, Stops, Unsaid, Spends, Stage, On, base_of, are_free}
 use Rattle.code_form.specs.Program.{Program}
 use Rattle.code_form.specs.Machine.{content_blocks, enters, calls_to, refer_move, held_of_operand, frame_contents, link_contents, written_from, back_into}
-use Rattle.code_form.specs.Machine.{out_to, after_stage, stage}
+use Rattle.code_form.specs.Machine.{out_to, stage}
 use Rattle.zero_state.specs.Finds.{IsCallable, IsInside, is_in_proc}
 use Rattle.zero_state.specs.Stacked.{Stacked}
 use Rattle.zero_state.specs.Stepping.{scene_of, stage_of, halt_of, AreLike, Does, Steps}
@@ -34,8 +34,9 @@ use Rattle.zero_state.proofs.Room.{same_like, like_length}
 use Rattle.zero_state.proofs.Blocks.{has_room, has_none}
 use Rattle.zero_state.proofs.Emptied.{emptied, emptied_like, emptied_bare}
 use Rattle.zero_state.proofs.Making.{done, plain_steps, steps_at, unspent, spent}
-use Rattle.zero_calls.specs.Frames.{AreFree, PutsFrom, EntersSo}
-use Rattle.zero_calls.proofs.Written.{taken_all, known_free}
+use Rattle.zero_calls.specs.Frames.{paid_stage, AreFree, PutsFrom, EntersSo}
+use Rattle.zero_state.proofs.Stacks.{taken_all}
+use Rattle.zero_calls.proofs.Written.{known_free}
 use Rattle.zero_calls.proofs.Contents.{HasRoom, no_blocks}
 
 abbrev pub Keeps : (before after : Cells → Type 0) → Type 0
@@ -143,13 +144,13 @@ module _ (before after : Cells → Type 0) (pc used first base : ℕ) (refines :
   -- of cells that are known to be free
   enters_so : (next : Next) (c' : Control) (marks : ℕ)
       → ((cells : Cells) → before cells → AreFree used (2 + count + length variables) cells → Does after (halt_of next) c' marks
-      (after_stage (placed (contents s.ops) (drop count s.ops) cells (cells_fit (used + length (contents s.ops))) (texts_room (contents s.ops) cells))
+      (paid_stage (placed (contents s.ops) (drop count s.ops) cells (cells_fit (used + length (contents s.ops))) (texts_room (contents s.ops) cells))
       (standing s.ops) (scene_of cells marks)))
       → (cells : Cells) → before cells → Does after (halt_of next) c' marks
-      (after_stage (enters (standing s.ops) first base refines body (drop count s.ops) (contents s.ops) cells) (standing s.ops) (scene_of cells marks))
+      (paid_stage (enters (standing s.ops) first base refines body (drop count s.ops) (contents s.ops) cells) (standing s.ops) (scene_of cells marks))
   enters_so next c' marks so cells h = by (are_free used (contents s.ops) cells) refl
     where
-      by : (b : Bool) → are_free used (contents s.ops) cells ≡ b → Does after (halt_of next) c' marks (after_stage (cond b
+      by : (b : Bool) → are_free used (contents s.ops) cells ≡ b → Does after (halt_of next) c' marks (paid_stage (cond b
           (placed (contents s.ops) (drop count s.ops) cells (cells_fit (used + length (contents s.ops))) (texts_room (contents s.ops) cells)) Unsaid)
           (standing s.ops) (scene_of cells marks))
       by true e =
@@ -158,11 +159,11 @@ module _ (before after : Cells → Type 0) (pc used first base : ℕ) (refines :
 
   -- of cells of which nothing is known
   enters_free : (ops : List Operand) (marks : ℕ)
-      → after_stage (placed (contents ops) (drop count ops) (λ _. Free) (cells_fit (used + length (contents ops))) (texts_room (contents ops) (λ _. Free)))
+      → paid_stage (placed (contents ops) (drop count ops) (λ _. Free) (cells_fit (used + length (contents ops))) (texts_room (contents ops) (λ _. Free)))
       (standing ops) (scene_of (λ _. Free) marks)
-      ≡ after_stage (enters (standing ops) first base refines body (drop count ops) (contents ops) (λ _. Free)) (standing ops) (scene_of (λ _. Free) marks)
+      ≡ paid_stage (enters (standing ops) first base refines body (drop count ops) (contents ops) (λ _. Free)) (standing ops) (scene_of (λ _. Free) marks)
   enters_free ops marks =
-      ap (λ b. after_stage (cond b
+      ap (λ b. paid_stage (cond b
       (placed (contents ops) (drop count ops) (λ _. Free) (cells_fit (used + length (contents ops))) (texts_room (contents ops) (λ _. Free))) Unsaid)
       (standing ops) (scene_of (λ _. Free) marks)) (sym (all_free used (contents ops)))
 
@@ -172,10 +173,10 @@ module _ (before after : Cells → Type 0) (pc used first base : ℕ) (refines :
       let no_room : cells_fit (used + length (contents s.ops)) ≡ false =
       lt-leb (used + length (contents s.ops)) CELLS (omega (arith, sizes s.ops refl, size, leb-false (used + more) CELLS (sym full))) in
       let so : (cells : Cells) → stage_of (halt_of CellRoom) (record { position = standing s.ops; waits = w }) (scene_of cells marks)
-      ≡ after_stage (placed (contents s.ops) (drop count s.ops) cells (cells_fit (used + length (contents s.ops))) (texts_room (contents s.ops) cells))
+      ≡ paid_stage (placed (contents s.ops) (drop count s.ops) cells (cells_fit (used + length (contents s.ops))) (texts_room (contents s.ops) cells))
       (standing s.ops) (scene_of cells marks) =
       λ cells. ap (λ w. stage_of (halt_of CellRoom) (record { position = standing s.ops; waits = w }) (scene_of cells marks)) none
-      ∙ ap (λ b. after_stage (placed (contents s.ops) (drop count s.ops) cells b (texts_room (contents s.ops) cells)) (standing s.ops) (scene_of cells marks))
+      ∙ ap (λ b. paid_stage (placed (contents s.ops) (drop count s.ops) cells b (texts_room (contents s.ops) cells)) (standing s.ops) (scene_of cells marks))
       (sym no_room) in
       record {
         does = enters_so CellRoom (record { position = standing s.ops; waits = w }) marks (λ cells h unknown.
@@ -198,13 +199,13 @@ module _ (before after : Cells → Type 0) (pc used first base : ℕ) (refines :
     goes_in : (ops : List Operand) (same : length ops ≡ length s.ops) (cells : Cells) (marks : ℕ) → texts_room (contents ops) cells ≡ true
         → drop count ops ≡ drop count s.ops
         → On (free (inside (used + more) (drop count s.ops))) (scene_of (written_from used (contents ops) cells) marks)
-        ≡ after_stage (placed (contents ops) (drop count ops) cells (cells_fit (used + length (contents ops))) (texts_room (contents ops) cells))
+        ≡ paid_stage (placed (contents ops) (drop count ops) cells (cells_fit (used + length (contents ops))) (texts_room (contents ops) cells))
         (standing ops) (scene_of cells marks)
     goes_in ops same cells marks texts rest =
         ap (λ n. On (free (inside n (drop count s.ops))) (scene_of (written_from used (contents ops) cells) marks)) (many_cells ops same)
         ∙ ap (λ l. On (free (inside (used + length (contents ops)) l)) (scene_of (written_from used (contents ops) cells) marks)) (sym rest)
-        ∙ ap (λ b. after_stage (placed (contents ops) (drop count ops) cells true b) (standing ops) (scene_of cells marks)) (sym texts)
-        ∙ ap (λ b. after_stage (placed (contents ops) (drop count ops) cells b (texts_room (contents ops) cells)) (standing ops) (scene_of cells marks))
+        ∙ ap (λ b. paid_stage (placed (contents ops) (drop count ops) cells true b) (standing ops) (scene_of cells marks)) (sym texts)
+        ∙ ap (λ b. paid_stage (placed (contents ops) (drop count ops) cells b (texts_room (contents ops) cells)) (standing ops) (scene_of cells marks))
         (sym (have ops same))
 
     -- with "" in the place of each text they have
@@ -213,7 +214,7 @@ module _ (before after : Cells → Type 0) (pc used first base : ℕ) (refines :
 
     goes_emptied : (marks : ℕ)
         → On (free (inside (used + more) (drop count s.ops))) (scene_of (written_from used (contents others) (λ _. Free)) marks)
-        ≡ after_stage (enters (standing others) first base refines body (drop count others) (contents others) (λ _. Free)) (standing others)
+        ≡ paid_stage (enters (standing others) first base refines body (drop count others) (contents others) (λ _. Free)) (standing others)
         (scene_of (λ _. Free) marks)
     goes_emptied marks =
         let args : reverse (take count others) ≡ map emptied_operand (reverse (take count s.ops)) =
@@ -267,8 +268,8 @@ module _ (before after : Cells → Type 0) (pc used first base : ℕ) (refines :
                 has_none (content_blocks (contents s.ops)) (blocks_in (written_from used (contents s.ops) cells)) put.0
                 (λ none. let le = no_blocks (contents s.ops) used cells none in let few = law cells put.1 in omega (arith, le, few)) in
                 done after (halt_of TextRoom) (free (standing s.ops)) marks _ cells put.1
-                (ap (λ b. after_stage (placed (contents s.ops) (drop count s.ops) cells true b) (standing s.ops) (scene_of cells marks)) (sym texts)
-                ∙ ap (λ b. after_stage (placed (contents s.ops) (drop count s.ops) cells b (texts_room (contents s.ops) cells)) (standing s.ops)
+                (ap (λ b. paid_stage (placed (contents s.ops) (drop count s.ops) cells true b) (standing s.ops) (scene_of cells marks)) (sym texts)
+                ∙ ap (λ b. paid_stage (placed (contents s.ops) (drop count s.ops) cells b (texts_room (contents s.ops) cells)) (standing s.ops)
                 (scene_of cells marks)) (sym (have s.ops refl))));
             ops = others;
             like = like_emptied count s.ops;
@@ -316,11 +317,11 @@ module _ (before after : Cells → Type 0) (c : Position) (n first : ℕ) (layou
       → IfOk result (Steps before after (λ d cells. stage (calls_to d n first layout cells) d (scene_of cells m)) c c' (m - 1))
   call_enters (Ok h) c' m k variables e f lt goes =
       steps_at before after
-      (λ d cells. after_stage (enters d first (c.used + 2) false n (drop k d.ops) (frame_contents (reverse (take k d.ops)) variables) cells) d
+      (λ d cells. paid_stage (enters d first (c.used + 2) false n (drop k d.ops) (frame_contents (reverse (take k d.ops)) variables) cells) d
       (scene_of cells (m - 1)))
       (λ d cells. stage (calls_to d n first layout cells) d (scene_of cells m)) c c' (m - 1) h
-      (λ ops cells same. ap (λ k. after_stage (calls_into ops k variables cells) (at_ops ops) (scene_of cells (m - 1))) e
-      ∙ ap (λ l. after_stage (calls_into ops (length ps) l cells) (at_ops ops) (scene_of cells (m - 1))) f
+      (λ ops cells same. ap (λ k. paid_stage (calls_into ops k variables cells) (at_ops ops) (scene_of cells (m - 1))) e
+      ∙ ap (λ l. paid_stage (calls_into ops (length ps) l cells) (at_ops ops) (scene_of cells (m - 1))) f
       ∙ spent m (calls_into ops (length ps) vs cells) (at_ops ops) cells lt
       ∙ ap (λ x. stage x (at_ops ops) (scene_of cells m)) (spends ops same cells)) (goes (m - 1))
   call_enters (Err e) c' m k variables is f lt goes = tt
@@ -340,10 +341,10 @@ module _ (before after : Cells → Type 0) (c : Position) (n : ℕ) (entry : Ent
       → IfOk result (EntersSo before after entry.first base true n 0 [] c c')
       → IfOk result (Steps before after (refers m) c c' (m - 1))
   refer_enters (Ok h) c' m base e lt goes =
-      steps_at before after (λ d cells. after_stage (enters d entry.first base true n d.ops link_contents cells) d (scene_of cells (m - 1)))
+      steps_at before after (λ d cells. paid_stage (enters d entry.first base true n d.ops link_contents cells) d (scene_of cells (m - 1)))
       (refers m) c c' (m - 1) h
       (λ ops cells same.
-      ap (λ b. after_stage (enters (record c { ops = ops }) entry.first b true n ops link_contents cells) (record c { ops = ops }) (scene_of cells (m - 1))) e
+      ap (λ b. paid_stage (enters (record c { ops = ops }) entry.first b true n ops link_contents cells) (record c { ops = ops }) (scene_of cells (m - 1))) e
       ∙ spent m (enters (record c { ops = ops }) entry.first (base_of c.frames) true n ops link_contents cells) (record c { ops = ops }) cells lt)
       (goes (m - 1))
   refer_enters (Err e) c' m base is lt goes = tt

@@ -13,20 +13,6 @@ use Rattle.code_form.specs.declared.operand.Operand.{Operand}
 use Rattle.code_form.specs.Machine.{Move, on_operands, held_of_operand, is_free, are_free, link_contents, frame_contents, written_from}
 use Rattle.zero_calls.specs.Frames.{AreFree}
 
--- a call takes the newest operands, the oldest of them first
-pub taken : (n : ℕ) (acc ops : List Operand) (go : List Operand → List Operand → Move) → n ≤ length ops
-    → on_operands n acc ops go ≡ go (reverse (take n ops) ++ acc) (drop n ops)
-taken zero acc ops go le = refl
-taken (suc n) acc [] go le = absurd (omega arith)
-taken (suc n) acc (o ∷ ops) go le =
-    let e : reverse (o ∷ take n ops) ++ acc ≡ reverse (take n ops) ++ (o ∷ acc) =
-    ap (λ l. l ++ acc) (reverse-append (o ∷ []) (take n ops)) ∙ append_assoc (reverse (take n ops)) (o ∷ []) acc in
-    taken n (o ∷ acc) ops go (omega arith) ∙ ap (λ l. go l (drop n ops)) (sym e)
-
-pub taken_all : (n : ℕ) (ops : List Operand) (go : List Operand → List Operand → Move) → n ≤ length ops
-    → on_operands n [] ops go ≡ go (reverse (take n ops)) (drop n ops)
-taken_all n ops go le = taken n [] ops go le ∙ ap (λ l. go l (drop n ops)) (append-nil (reverse (take n ops)))
-
 pub written_append : (at : ℕ) (ns ms : List Cell) (cells : Cells) → written_from at (ns ++ ms) cells ≡ written_from (at + length ns) ms (written_from at ns cells)
 written_append at [] ms cells = let e : at ≡ at + 0 = omega arith in ap (λ k. written_from k ms cells) e
 written_append at (n ∷ ns) ms cells =

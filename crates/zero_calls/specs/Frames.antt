@@ -13,7 +13,7 @@ use Rattle.code_form.specs.declared.operand.Operand.TheVariants.{Value as Of}
 use Rattle.code_form.specs.declared.operand.OperandKind.{OperandKind}
 use Rattle.code_form.specs.declared.operand.OperandKind.TheVariants.{Value as OfKind, Place as AtKind}
 use Rattle.code_form.specs.Program.{layout_of, cells_at}
-use Rattle.code_form.specs.Machine.{Position, Control, frame_contents, written_from, enters, after_stage}
+use Rattle.code_form.specs.Machine.{Position, Control, free, After, Scene, Stage, frame_contents, written_from, enters, after_stage}
 use Rattle.zero_state.specs.declared.next.Next.{Next}
 use Rattle.zero_state.specs.Stepping.{scene_of, Steps}
 
@@ -46,10 +46,14 @@ is_text_kind (Some (AtKind k)) = false
 abbrev pub frame_kinds : Option Entry → List OperandKind
 frame_kinds e = OfKind kinds.Int ∷ OfKind kinds.Int ∷ cells_at (layout_of e)
 
+-- what follows a spent mark, where nothing is waited for
+abbrev pub paid_stage : After → Position → Scene → Stage
+paid_stage a c s = after_stage a (free c) s
+
 -- a body is entered so with so many of the pending operands, or has no room
 abbrev pub EntersSo : (before after : Cells → Type 0) → (first base : ℕ) → Bool → (body count : ℕ) → List Kind → Position → Control → Next → Type 0
 EntersSo before after first base refines body count variables c c' next = (marks : ℕ) → Steps before after
-    (λ d cells. after_stage (enters d first base refines body (drop count d.ops) (frame_contents (reverse (take count d.ops)) variables) cells) d
+    (λ d cells. paid_stage (enters d first base refines body (drop count d.ops) (frame_contents (reverse (take count d.ops)) variables) cells) d
     (scene_of cells marks))
     c c' marks next
 

@@ -1,13 +1,17 @@
 -- Where a state fits its code, its instruction finds what it takes.
-use Rattle.std.proofs.Common.{◌≡◌, ℕ, suc, ◌+◌, ◌<◌, ◌≤◌, true, cond, List, [], ◌∷◌, length, Option, Some, None, refl, sym, ap, ◌∙◌, subst, arith}
-use Rattle.std.specs.Prelude.{slice_get}
+use Rattle.std.proofs.Common.{◌≡◌, ℕ, zero, suc, ◌+◌, ◌<◌, ◌≤◌, true, cond, List, [], ◌∷◌, ◌++◌, map, length, take, drop, Option, Some, None, refl}
+use Rattle.std.proofs.Common.{sym, ap, ◌∙◌, subst, arith}
+use Rattle.std.specs.Prelude.{reverse, slice_get}
+use Rattle.std.proofs.lemmas.List.{reverse-append}
 use Rattle.std.proofs.lemmas.Bool.{leb-true}
 use Rattle.std.proofs.lemmas.Option.{slice_get_within}
 use Rattle.eu_base.specs.declared.address.TheConstants.{CELLS}
 use Rattle.eu_base.specs.declared.value.Kind.{Kind}
 use Rattle.eu_base.specs.declared.value.Kind.TheVariants as kinds
 use Rattle.eu_base.specs.Operations.{operand_kinds, change_kind}
-use Rattle.eu_base.specs.Requests.{request_kinds}
+use Rattle.eu_base.specs.declared.request.RequestName.{RequestName}
+use Rattle.eu_base.specs.declared.request.Reply.{Reply}
+use Rattle.eu_base.specs.Requests.{request_kinds, request_places, request_size}
 use Rattle.eu_base.specs.Cells.{IsCell, run_cell}
 use Rattle.code_form.specs.declared.operand.Operand.{Operand}
 use Rattle.code_form.specs.declared.operand.Operand.TheVariants.{Value as Of, Place as At}
@@ -18,10 +22,11 @@ use Rattle.code_form.specs.declared.instr.Instr.TheVariants.{Mark, Number, Truth
 use Rattle.code_form.specs.declared.instr.Instr.TheVariants.{Limit, Unlimit, Step, Ask, ErrorStop, Call, Refer, Back, Out, End}
 use Rattle.code_form.specs.declared.code.Spot.{Spot}
 use Rattle.code_form.specs.Program.{Program, line_of, instr_of, owner, frame_cells}
-use Rattle.code_form.specs.Machine.{Frame, Position, free, base_of}
-use Rattle.code_form.specs.Valid.{pushed_kinds, pushed_operands, HasResult, IsCalled, IsFine, IsValid, FitsKinds, FitsFrames, Fits}
-use Rattle.code_form.proofs.Safe.{level_below, frame_below, by_layout, as_proc, as_refined, same_owner}
+use Rattle.code_form.specs.Machine.{Frame, Position, Control, free, given, base_of}
+use Rattle.code_form.specs.Valid.{pushed_kinds, pushed_operands, request_operands, HasResult, IsCalled, IsFine, IsValid, FitsKinds, FitsFrames, Fits}
+use Rattle.code_form.proofs.Safe.{request_many, fits_behind, level_below, frame_below, by_layout, as_proc, as_refined, same_owner}
 use Rattle.zero_state.specs.Finds.{TopValue, TopPlace, TopBoth, TopValues, TopResult, HasProc, IsInside, is_in_proc, Finds}
+use Rattle.zero_state.specs.Finds.{behind_values, IsVariable, FindsReply}
 
 -- the instruction of a state that fits is the one that stands in the code
 pub the_instr : (p : Program) (c : Position) (fits : Fits p (free c)) (i : Instr) → Some i ≡ instr_of (slice_get p.lines c.pc) → fits.next.0 ≡ i
@@ -70,6 +75,55 @@ as_many (o ∷ ops) [] f = absurd f
 pushed_many : (ps ks : List OperandKind) → length (pushed_operands ps ks) ≡ length ps + length ks
 pushed_many [] ks = omega arith
 pushed_many (k ∷ ps) ks = omega (arith, pushed_many ps (k ∷ ks))
+
+-- a request's operands are there
+asked_many : (q : RequestName) (rest : List OperandKind) (ops : List Operand) (ks : List OperandKind) → ks ≡ pushed_operands (request_operands q) rest
+    → FitsKinds ops ks → request_size q ≤ length ops
+asked_many q rest ops ks is fits =
+    omega (arith, as_many ops ks fits, ap length is ∙ pushed_many (request_operands q) rest, request_many q)
+
+-- the next of a list, behind its first ones
+next_of : (n : ℕ) (ops : List Operand) (o : Operand) (r : List Operand) → drop n ops ≡ o ∷ r
+    → (take (suc n) ops ≡ take n ops ++ o ∷ []) × (drop (suc n) ops ≡ r)
+next_of zero [] o r e = absurd (cc e)
+next_of zero (x ∷ xs) o r e = (cc e, cc e)
+next_of (suc n) [] o r e = absurd (cc e)
+next_of (suc n) (x ∷ xs) o r e = let h = next_of n xs o r e in (ap (λ l. x ∷ l) h.0, h.1)
+
+-- what was pushed is on top, from left to right
+top_fits : (more rest : List OperandKind) (ops : List Operand) → FitsKinds ops (pushed_operands more rest)
+    → FitsKinds (reverse (take (length more) ops)) more × FitsKinds (drop (length more) ops) rest
+top_fits [] rest ops f = (tt, f)
+top_fits (k ∷ more) rest ops f = let h = top_fits more (k ∷ rest) ops f in by (drop (length more) ops) refl h.1 h.0
+  where
+    by : (d : List Operand) → drop (length more) ops ≡ d → FitsKinds d (k ∷ rest) → FitsKinds (reverse (take (length more) ops)) more
+        → FitsKinds (reverse (take (suc (length more)) ops)) (k ∷ more) × FitsKinds (drop (suc (length more)) ops) rest
+    by [] e g h = absurd g
+    by (o ∷ r) e g h =
+        let n = next_of (length more) ops o r e in
+        let turned : reverse (take (suc (length more)) ops) ≡ o ∷ reverse (take (length more) ops) =
+        ap reverse n.0 ∙ reverse-append (take (length more) ops) (o ∷ []) in
+        (subst (λ l. FitsKinds l (k ∷ more)) (sym turned) (g.0, h), subst (λ l. FitsKinds l rest) (sym n.1) g.1)
+
+is_variable : (ks : List Kind) (os : List Operand) → FitsKinds os (map AtKind ks) → IsVariable os
+is_variable [] [] f = tt
+is_variable [] (o ∷ os) f = absurd f
+is_variable (k ∷ ks) [] f = absurd f
+is_variable (k ∷ ks) (Of v ∷ os) f = absurd f.0
+is_variable (k ∷ ks) (At a ∷ os) f = f.0
+
+-- so a request finds what it takes when its reply is there
+pub finds_reply : (q : RequestName) (rest : List OperandKind) (ops : List Operand) (ks : List OperandKind) → ks ≡ pushed_operands (request_operands q) rest
+    → FitsKinds ops ks → FindsReply q ops
+finds_reply q rest ops ks is fits =
+    let top = (top_fits (request_operands q) rest ops (subst (FitsKinds ops) is fits)).0 in
+    let here = subst (λ n. FitsKinds (reverse (take n ops)) (request_operands q)) (request_many q) top in
+    record {
+      taken = asked_many q rest ops ks is fits;
+      variable =
+          is_variable (request_places q) (behind_values q ops)
+          (fits_behind (request_kinds q) (map AtKind (request_places q)) (reverse (take (request_size q) ops)) here);
+    }
 
 module _ (p : Program) (valid : IsValid p) where
   -- the places of a frame lie among the cells in use
@@ -152,7 +206,7 @@ module _ (p : Program) (valid : IsValid p) where
     finds_at (Limit way a) f = top_both c.ops kinds.Int kinds.Int f.0 (subst (FitsKinds c.ops) f.1 fits.operands)
     finds_at Unlimit f = limited f.0 f.1
     finds_at (Step way a) f = (top_place c.ops kinds.Int f.2.0 (subst (FitsKinds c.ops) f.2.1 fits.operands), limited f.0 f.1)
-    finds_at (Ask name) f = all_values (request_kinds name) f.0 f.1
+    finds_at (Ask name) f = asked_many name f.0 c.ops ks f.1 fits.operands
     finds_at ErrorStop f = top_value c.ops kinds.Text f.0 (subst (FitsKinds c.ops) f.1 fits.operands)
     finds_at (Call n) f = has_proc n c.pc ks m c.ops f fits.operands
     finds_at (Refer n) f = record { entry = f.entry; has = f.has }
@@ -164,5 +218,14 @@ module _ (p : Program) (valid : IsValid p) where
     pub finds : Finds p.bodies fits.next.0 c
     finds = finds_at fits.next.0 (valid.each c.pc (line_of fits.next.0 fits.kinds fits.spot) fits.next.1)
 
-  pub within : (c : Position) → Fits p (free c) → c.pc < length p.lines
-  within c fits = slice_get_within p.lines c.pc _ fits.next.1
+  pub within : (c : Control) → Fits p c → c.position.pc < length p.lines
+  within c fits = slice_get_within p.lines c.position.pc _ fits.next.1
+
+  -- a reply is given to the instruction of a request, which finds what it takes
+  pub reply_finds : (c : Position) (r : Reply) (fits : Fits p (given c r)) (q : RequestName) → Some (Ask q) ≡ instr_of (slice_get p.lines c.pc)
+      → FindsReply q c.ops
+  reply_finds c r fits q e =
+      let same : fits.next.0 ≡ Ask q = let f : Some (Ask q) ≡ Some fits.next.0 = e ∙ ap instr_of fits.next.1 in cc in
+      let fine : IsFine p c.pc (Ask q) fits.kinds fits.spot =
+      subst (λ i. IsFine p c.pc i fits.kinds fits.spot) same (valid.each c.pc (line_of fits.next.0 fits.kinds fits.spot) fits.next.1) in
+      finds_reply q fine.0 c.ops fits.kinds fine.1 fits.operands

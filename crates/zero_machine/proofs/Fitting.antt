@@ -1,25 +1,30 @@
 -- A step from a state that fits leaves one that fits, nearer to the end.
-use Rattle.std.proofs.Common.{◌≡◌, ℕ, zero, suc, ◌<◌, refl, length, Option, Some, None, sym, ap, ◌∙◌, subst, arith, inl, inr}
-use Rattle.std.specs.Prelude.{Result, Ok, Err, IfOk, OnOk, slice_get}
+use Rattle.std.proofs.Common.{◌≡◌, ℕ, zero, suc, ◌<◌, refl, length, Option, Some, None, true, sym, ap, ◌∙◌, subst, arith, inl, inr}
+use Rattle.std.specs.Prelude.{Result, Ok, Err, IfOk, OnOk, IsSome, slice_get}
 use Rattle.eu_base.specs.Cells.{Cells}
+use Rattle.eu_base.specs.declared.request.RequestName.{RequestName}
+use Rattle.eu_base.specs.declared.request.Reply.{Reply}
+use Rattle.eu_base.specs.declared.request.Reply.TheVariants as replies
 use Rattle.code_form.specs.declared.instr.Instr.{Instr}
+use Rattle.code_form.specs.declared.instr.Instr.TheVariants.{Ask}
 use Rattle.eu_base.specs.declared.stop.Stop.TheVariants as stop
 use Rattle.code_form.specs.declared.halt.Halt.{Halt}
 use Rattle.code_form.specs.declared.halt.Halt.TheVariants as halts
 use Rattle.code_form.specs.declared.waits.Waits.{Waits}
-use Rattle.code_form.specs.declared.waits.Waits.TheVariants.{Nothing}
+use Rattle.code_form.specs.declared.waits.Waits.TheVariants.{Nothing, Given}
 use Rattle.code_form.specs.Program.{Program, instr_of}
-use Rattle.code_form.specs.Machine.{Position, Control, free, asking, refused, After, To, Asks, Stops, Unsaid, Move, Goes, Spends as Pays, Halts, Refuses, Ends}
+use Rattle.code_form.specs.Machine.{Position, Control, free, asking, given, refused, After, To, Asks, Stops, Unsaid, Move, Goes, Spends as Pays, Halts, Refuses, Ends}
 use Rattle.code_form.specs.Machine.{Unknown, Stuck, Scene, Rest, Stage, On}
-use Rattle.code_form.specs.Machine.{Over, Lost, after_stage, mark_stage, stage, stage_at, advance, rest_at, instruction, step}
-use Rattle.code_form.specs.Valid.{IsValid, Fits}
-use Rattle.code_form.specs.Runs.{IsSafe, steps_left}
+use Rattle.code_form.specs.Machine.{Over, Lost, after_stage, mark_stage, move_stage, stage, stage_at, advance, rest_at, instruction, takes_reply, step}
+use Rattle.code_form.specs.Valid.{IsValid, is_ask, Fits}
+use Rattle.code_form.specs.Runs.{IsSafe, asked, steps_left}
 use Rattle.code_form.proofs.Safe.{stays_fit}
-use Rattle.code_form.proofs.Steps.{nearer}
+use Rattle.code_form.proofs.Steps.{nearer, reply_nearer}
 use Rattle.zero_state.specs.Stepping.{stage_of, stage_by, halt_of, scene_of, Does, Leads, Steps}
 use Rattle.zero_state.proofs.Room.{like_fits}
 use Rattle.zero_machine.specs.Running.{Spends}
 use Rattle.zero_state.specs.declared.next.Next.{Next}
+use Rattle.zero_steps.specs.Replying.{replied_by, GoesOrRests, Replies}
 
 -- where nothing is waited for
 pub fits_free : (p : Program) (c : Control) → c.waits ≡ Nothing → Fits p c → Fits p (free c.position)
@@ -43,34 +48,34 @@ module _ (P : Control → ℕ → Type 0) where
   lost None c' s' e = absurd (cc e)
   lost (Some h) c' s' e = absurd (cc e)
 
--- a step leads to a state that fits, with no more marks, and with one less where something is asked
-module _ (p : Program) (c : Position) (s : Scene) (fits : Fits p (free c)) where
+-- a step from this control leads to a state that fits, with no more marks, and with one less where something is asked
+module _ (p : Program) (from : Control) (s : Scene) (fits : Fits p from) (calm : IsSome (asked from.waits) → ⊥) where
   abbrev Good : Control → ℕ → Type 0
   Good d marks = Fits p d × Spends s.marks marks d.waits
 
-  here : Good (free c) s.marks
-  here = (fits, record { fewer = omega arith; paid = λ some. absurd (cc some) })
+  here : Good from s.marks
+  here = (fits, record { fewer = omega arith; paid = λ some. absurd (calm some) })
 
   after_good : (m : ℕ) → s.marks ≡ suc m → (a : After) → IsSafe p (Pays a) → (h : Option Halt) (c' : Control) (s' : Scene)
-      → stage_of h c' s' ≡ after_stage a c (record s { marks = m }) → Good c' s'.marks
+      → stage_of h c' s' ≡ after_stage a from (record s { marks = m }) → Good c' s'.marks
   after_good m e (To d cells) safe =
       on Good (free d) (record s { cells = cells; marks = m }) (safe, record { fewer = omega (arith, e); paid = λ some. absurd (cc some) })
   after_good m e (Asks d q cells) safe =
       on Good (asking d q) (record s { cells = cells; marks = m }) (safe, record { fewer = omega (arith, e); paid = λ some. omega (arith, e) })
   after_good m e (Stops stop) safe =
-      over Good (halts.Stopped stop) (free c) (record s { marks = m }) (fits, record { fewer = omega (arith, e); paid = λ some. absurd (cc some) })
+      over Good (halts.Stopped stop) from (record s { marks = m }) (fits, record { fewer = omega (arith, e); paid = λ some. absurd (calm some) })
   after_good m e Unsaid safe = lost Good
 
-  pub stage_good : (m : Move) → IsSafe p m → (h : Option Halt) (c' : Control) (s' : Scene) → stage_of h c' s' ≡ stage m c s → Good c' s'.marks
+  pub stage_good : (m : Move) → IsSafe p m → (h : Option Halt) (c' : Control) (s' : Scene) → stage_of h c' s' ≡ move_stage m from s → Good c' s'.marks
   stage_good (Goes d cells) safe = on Good (free d) (record s { cells = cells }) (safe, record { fewer = omega arith; paid = λ some. absurd (cc some) })
   stage_good (Pays a) safe = by s.marks refl
     where
-      by : (m : ℕ) → s.marks ≡ m → (h : Option Halt) (c' : Control) (s' : Scene) → stage_of h c' s' ≡ mark_stage m a c s → Good c' s'.marks
-      by zero none = over Good halts.Marked (free c) s here
+      by : (m : ℕ) → s.marks ≡ m → (h : Option Halt) (c' : Control) (s' : Scene) → stage_of h c' s' ≡ mark_stage m a from s → Good c' s'.marks
+      by zero none = over Good halts.Marked from s here
       by (suc m) some = after_good m some a safe
-  stage_good (Halts stop) safe = over Good (halts.Stopped stop) (free c) s here
+  stage_good (Halts stop) safe = over Good (halts.Stopped stop) from s here
   stage_good (Refuses stop d) safe = on Good (refused d stop) s (safe, record { fewer = omega arith; paid = λ some. absurd (cc some) })
-  stage_good Ends safe = over Good halts.Ended (free c) s here
+  stage_good Ends safe = over Good halts.Ended from s here
   stage_good Unknown safe = lost Good
   stage_good Stuck safe = absurd safe
 
@@ -112,7 +117,7 @@ module _ {E : Type 0} (p : Program) (c : Control) (result : Result Next E) (befo
     from_fits = like_fits p c.position h.ops h.like fits
 
     so_good : (how : Option Halt) (d : Control) (s : Scene) → stage_of how d s ≡ there → Fits p d × Spends marks s.marks d.waits
-    so_good = stage_good p from at_from from_fits (step p from h.cells) (stays_fit.steps p from h.cells valid from_fits)
+    so_good = stage_good p (free from) at_from from_fits (λ some. absurd (cc some)) (step p from h.cells) (stays_fit.steps p from h.cells valid from_fits)
 
     good : Fits p c' × Spends marks marks' c'.waits
     good = by (subst (Leads next c.position c' marks') is_there h.leads)
@@ -157,3 +162,98 @@ module _ {E : Type 0} (p : Program) (c : Control) (result : Result Next E) (befo
           → steps_left p.lines marks' (length c'.position.frames) c'.position.pc < steps_left p.lines marks (length c.position.frames) c.position.pc)
       by (Ok next) h = near next h
       by (Err e) h = tt
+
+-- a request goes on with its reply from a state that fits
+module _ {E : Type 0} (p : Program) (c : Position) (r : Reply) (result : Result Next E) (before after : Cells → Type 0) (c' : Control) (q : RequestName)
+    (valid : IsValid p) (fits : Fits p (given c r)) (is : Some (Ask q) ≡ instr_of (slice_get p.lines c.pc)) where
+  abbrev Answered : Next → Type 0
+  Answered = Replies before after q r c c'
+
+  reply_is : (r : Reply) (cells : Cells) (marks : ℕ) → replied_by q r marks c cells ≡ advance p (given c r) (scene_of cells marks)
+  reply_is r cells marks = ap (λ o. move_stage (takes_reply o r c cells) (given c r) (scene_of cells marks)) is
+
+  pub reply_goes : IfOk result Answered
+      → IfOk result (λ next. (marks : ℕ) (cells : Cells) → before cells → Does after (halt_of next) c' marks (advance p (given c r) (scene_of cells marks)))
+  reply_goes h = by result h
+    where
+      by : (result : Result Next E) → IfOk result Answered
+          → IfOk result (λ next. (marks : ℕ) (cells : Cells) → before cells → Does after (halt_of next) c' marks (advance p (given c r) (scene_of cells marks)))
+      by (Ok next) h = λ marks cells held. subst (Does after (halt_of next) c' marks) (reply_is r cells marks) (h.does marks cells held)
+      by (Err e) h = tt
+
+  -- as with any other
+  other_fits : Fits p (given c replies.Done)
+  other_fits = record {
+    kinds = fits.kinds;
+    spot = fits.spot;
+    floor = fits.floor;
+    next = fits.next;
+    operands = fits.operands;
+    frames = fits.frames;
+    used = fits.used;
+    asks = fits.asks;
+    cells = fits.cells;
+    bytes = fits.bytes;
+  }
+
+  module _ (next : Next) (h : Answered next) where
+    reply_good : (marks : ℕ) → Fits p c' × Spends marks marks c'.waits
+    reply_good marks = by h.leads
+      where
+        by : GoesOrRests q r c c' next → Fits p c' × Spends marks marks c'.waits
+        by (inl goes) =
+            let x = goes marks in
+            stage_good p (given c replies.Done) (scene_of x.0 marks) other_fits (λ some. absurd (cc some))
+            (takes_reply (instr_of (slice_get p.lines c.pc)) replies.Done c x.0)
+            (stays_fit.takes p c replies.Done x.0 valid other_fits) None c' (scene_of x.1.0 marks) (x.1.1 ∙ reply_is replies.Done x.0 marks)
+        by (inr rests) =
+            subst (λ (d : Control). Fits p d × Spends marks marks d.waits) (sym rests.0)
+            (fits, record { fewer = omega arith; paid = λ some. absurd (cc some) })
+
+    reply_near : (marks : ℕ) → halt_of next ≡ None
+        → steps_left p.lines marks (length c'.position.frames) c'.position.pc < steps_left p.lines marks (length c.frames) c.pc
+    reply_near marks on = by h.leads
+      where
+        by : GoesOrRests q r c c' next
+            → steps_left p.lines marks (length c'.position.frames) c'.position.pc < steps_left p.lines marks (length c.frames) c.pc
+        by (inl goes) =
+            let x = goes marks in
+            reply_nearer p valid c replies.Done c' (scene_of x.0 marks) (scene_of x.1.0 marks) (x.1.1 ∙ reply_is replies.Done x.0 marks)
+        by (inr rests) = let f : Some rests.1.0 ≡ None = sym rests.1.1 ∙ on in absurd (cc f)
+
+  pub reply_fits : IfOk result Answered → OnOk result (Fits p c')
+  reply_fits h = by result h
+    where
+      by : (result : Result Next E) → IfOk result Answered → OnOk result (Fits p c')
+      by (Ok next) h = (reply_good next h 0).0
+      by (Err e) h = tt
+
+  pub reply_spends : (marks : ℕ) → IfOk result Answered → OnOk result (Spends marks marks c'.waits)
+  reply_spends marks h = by result h
+    where
+      by : (result : Result Next E) → IfOk result Answered → OnOk result (Spends marks marks c'.waits)
+      by (Ok next) h = (reply_good next h marks).1
+      by (Err e) h = tt
+
+  pub reply_nears : (marks : ℕ) → IfOk result Answered → IfOk result (λ next. halt_of next ≡ None
+      → steps_left p.lines marks (length c'.position.frames) c'.position.pc < steps_left p.lines marks (length c.frames) c.pc)
+  reply_nears marks h = by result h
+    where
+      by : (result : Result Next E) → IfOk result Answered → IfOk result (λ next. halt_of next ≡ None
+          → steps_left p.lines marks (length c'.position.frames) c'.position.pc < steps_left p.lines marks (length c.frames) c.pc)
+      by (Ok next) h = reply_near next h marks
+      by (Err e) h = tt
+
+-- the reply is the one that is there
+pub at_reply : {E : Type 0} (result : Result Next E) (w : Waits) (P : Reply → Next → Type 0) (r : Reply) → w ≡ Given r
+    → IfOk result (λ next. (r : Reply) → w ≡ Given r → P r next) → IfOk result (P r)
+at_reply (Ok next) w P r is h = h r is
+at_reply (Err e) w P r is h = tt
+
+pub fits_given : (p : Program) (c : Control) (r : Reply) → c.waits ≡ Given r → Fits p c → Fits p (given c.position r)
+fits_given p c r is fits = subst (λ (w : Waits). Fits p (record { position = c.position; waits = w })) is fits
+
+-- an instruction that made a request, and no other, gets a reply
+pub asks_there : (p : Program) (c : Position) (r : Reply) → Fits p (given c r) → (i : Instr) → Some i ≡ instr_of (slice_get p.lines c.pc)
+    → is_ask (Some i) ≡ true
+asks_there p c r fits i e = ap is_ask e ∙ fits.asks refl

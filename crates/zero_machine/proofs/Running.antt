@@ -5,7 +5,8 @@ use Rattle.eu_base.specs.Cells.{Cells}
 use Rattle.code_form.specs.declared.halt.Halt.{Halt}
 use Rattle.code_form.specs.declared.halt.Halt.TheVariants as halts
 use Rattle.code_form.specs.declared.waits.Waits.{Waits}
-use Rattle.code_form.specs.declared.waits.Waits.TheVariants.{Nothing, Asked, Refused}
+use Rattle.code_form.specs.declared.waits.Waits.TheVariants.{Nothing, Asked, Given, Refused}
+use Rattle.eu_base.specs.declared.request.Reply.{Reply}
 use Rattle.code_form.specs.Program.{Program}
 use Rattle.code_form.specs.Machine.{Control, asking, refused, Scene, Rest, Stage, On, Over, Lost, stage_at, advance, carry_on, exec, rest_at}
 use Rattle.code_form.specs.Runs.{Rests, asked}
@@ -22,6 +23,7 @@ rests_due p c cells marks h e = by c.waits e
     by : (w : Waits) → due w ≡ Some h
         → Over (rest_at h (record { position = c.position; waits = w }) (scene_of cells marks)) ≡ stage_at w p c.position (scene_of cells marks)
     by Nothing e = absurd (cc e)
+    by (Given r) e = absurd (cc e)
     by (Asked q) e = let f : h ≡ halts.Asks q = cc e in ap (λ h. Over (rest_at h (asking c.position q) (scene_of cells marks))) f
     by (Refused stop) e =
         let f : h ≡ halts.Stopped stop = cc e in ap (λ h. Over (rest_at h (refused c.position stop) (scene_of cells marks))) f
@@ -68,5 +70,13 @@ module _ (p : Program) (holds : Cells → Type 0) (c' : Control) (marks : ℕ) (
 -- nothing is asked where nothing is waited for
 pub unasked : (w : Waits) → asked w ≡ None → IsSome (asked w) → ⊥
 unasked Nothing e some = absurd (cc some)
+unasked (Given r) e some = absurd (cc some)
 unasked (Asked q) e some = absurd (cc e)
 unasked (Refused stop) e some = absurd (cc some)
+
+-- where nothing is waited for, and no reply is there, a step is made
+pub unwaited : (w : Waits) → due w ≡ None → ((r : Reply) → w ≡ Given r → ⊥) → w ≡ Nothing
+unwaited Nothing e none = refl
+unwaited (Given r) e none = absurd (none r refl)
+unwaited (Asked q) e none = absurd (cc e)
+unwaited (Refused stop) e none = absurd (cc e)

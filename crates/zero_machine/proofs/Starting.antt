@@ -4,7 +4,7 @@ use Rattle.eu_base.specs.declared.value.Kind.{Kind}
 use Rattle.eu_base.specs.Room.{cells_fit}
 use Rattle.code_form.specs.Program.{Program, at_level}
 use Rattle.code_form.specs.Machine.{start}
-use Rattle.code_form.specs.Valid.{IsValid, Fits, is_refused}
+use Rattle.code_form.specs.Valid.{IsValid, Fits, is_refused, is_asking}
 use Rattle.code_form.specs.declared.waits.Waits.{Waits}
 use Rattle.code_form.specs.declared.waits.Waits.TheVariants.{Nothing, Refused}
 use Rattle.eu_base.specs.declared.stop.Stop.TheVariants.{CellRoom}
@@ -20,10 +20,15 @@ start_fits p valid = record {
   operands = tt;
   frames = (refl, refl);
   used = omega arith;
+  asks = λ e. absurd (unasked (cells_fit (length p.variables)) e);
   cells = has_room (cells_fit (length p.variables));
   bytes = refl;
 }
   where
+    unasked : (t : Bool) → is_asking (cond t Nothing (Refused CellRoom)) ≡ true → ⊥
+    unasked true e = cc e
+    unasked false e = cc e
+
     has_room : (t : Bool) → is_refused (cond t Nothing (Refused CellRoom)) ≡ false → t ≡ true
     has_room true e = refl
     has_room false e = let f : ⊥ = cc in absurd f

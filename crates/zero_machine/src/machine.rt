@@ -1,32 +1,29 @@
 //! Runs of code.
-ghost use Rattle.std.specs.Prelude.{◌≡◌, ◌≤◌, ◌<◌, length, map, true, false, cond, IfOk, OnOk, IsSome, Some, None};
+ghost use Rattle.std.specs.Prelude.{◌≡◌, ◌≤◌, ◌<◌, ℕ, length, map, true, false, cond, IfOk, OnOk, IsSome, Some, None};
 ghost use Rattle.eu_base.specs.Room.{cells_fit};
 ghost use Rattle.eu_base.specs.Values.{blank_of};
 ghost use Rattle.eu_base.specs.Cells.{Cells, held_of, AreBare, HasFaultCause};
 ghost use Rattle.eu_base.specs.declared.stop.Stop.TheVariants as stop;
 ghost use Rattle.eu_base.specs.declared.request.Request.{Request};
+ghost use Rattle.eu_base.specs.declared.request.Reply.{Reply};
 ghost use Rattle.code_form.specs.declared.halt.Halt.TheVariants as halts;
 ghost use Rattle.code_form.specs.declared.waits.Waits.TheVariants as waits;
 ghost use Rattle.code_form.specs.Machine.{Rest, start, advance, answered, written_from};
 ghost use Rattle.code_form.specs.Valid.{Fits};
 ghost use Rattle.code_form.specs.Runs.{Rests, Resumes, Replies, IsOne, StaysFit, asked, steps_left};
-ghost use Rattle.zero_state.specs.Stepping.{position_of, control_of, scene_of, halt_of, Does};
+ghost use Rattle.zero_state.specs.Stepping.{position_of, control_of, scene_of, halt_of, due, Does};
 ghost use Rattle.zero_machine.specs.Running.{Spends, RestsSo};
 
 use crate::instruction::execute;
-use code_form::{Code, Halt, Waits};
+use code_form::{Code, Halt, Instr, Waits};
 use eu_base::{CELLS, Kind, MemFault, Memory, Reply, Stop};
 use std::alloc::Global;
 use zero_calls::write_blanks;
 use zero_state::{Next, Stack, State};
+use zero_steps::reply::take_reply;
 
 // One step, where nothing is waited for.
-fn advance<M: Memory>(
-    code: &Code,
-    s: &mut State,
-    m: &mut M,
-    marks: &mut u32,
-) -> Result<Next, MemFault>
+fn step<M: Memory>(code: &Code, s: &mut State, m: &mut M, marks: &mut u32) -> Result<Next, MemFault>
     requires fits { Fits code.now (control_of s.old) }
     requires free { s.old.waits ≡ waits.Nothing }
     ensures goes { IfOk result (λ next. (cells : Cells) → M.holds m.old cells →
@@ -41,6 +38,53 @@ fn advance<M: Memory>(
     let size = code.len();
     prove!(s.pc < size);
     execute(code, code.instr(s.pc), s, m, marks)
+}
+
+// Goes on from a request with its reply, which costs nothing.
+#[inline(never)]
+fn reply_step<M: Memory>(code: &Code, s: &mut State, m: &mut M) -> Result<Next, MemFault>
+    requires fits { Fits code.now (control_of s.old) }
+    requires given { (r : Reply) × (s.old.waits ≡ waits.Given r) }
+    ensures goes { IfOk result (λ next. (marks : ℕ) (cells : Cells) → M.holds m.old cells →
+        Does (M.holds m.new) (halt_of next) (control_of s.new) marks (advance code.now (control_of s.old) (scene_of cells marks))) }
+    ensures fits { OnOk result (Fits code.now (control_of s.new)) }
+    ensures spends { (marks : ℕ) → OnOk result (Spends marks marks s.new.waits) }
+    ensures nearer { (marks : ℕ) → IfOk result (λ next. halt_of next ≡ None → steps_left code.now.lines marks (length s.new.stack.frames) s.new.pc
+        < steps_left code.now.lines marks (length s.old.stack.frames) s.old.pc) }
+    ensures cause { HasFaultCause (M.faults m.old) (M.faults m.new) result }
+    ensures follows { M.follows m.old m.new }
+{
+    let size = code.len();
+    prove!(s.pc < size);
+    match code.instr(s.pc) {
+        Instr::Ask(name) => take_reply(s, m, *name),
+        _ => unreachable!(),
+    }
+}
+
+// One step, where nothing is waited for or the reply is there.
+fn advance<M: Memory>(
+    code: &Code,
+    s: &mut State,
+    m: &mut M,
+    marks: &mut u32,
+) -> Result<Next, MemFault>
+    requires fits { Fits code.now (control_of s.old) }
+    requires due { due s.old.waits ≡ None }
+    ensures goes { IfOk result (λ next. (cells : Cells) → M.holds m.old cells →
+        Does (M.holds m.new) (halt_of next) (control_of s.new) marks.new (advance code.now (control_of s.old) (scene_of cells marks.old))) }
+    ensures fits { OnOk result (Fits code.now (control_of s.new)) }
+    ensures spends { OnOk result (Spends marks.old marks.new s.new.waits) }
+    ensures nearer { IfOk result (λ next. halt_of next ≡ None → steps_left code.now.lines marks.new (length s.new.stack.frames) s.new.pc
+        < steps_left code.now.lines marks.old (length s.old.stack.frames) s.old.pc) }
+    ensures cause { HasFaultCause (M.faults m.old) (M.faults m.new) result }
+    ensures follows { M.follows m.old m.new }
+{
+    match s.waits {
+        Waits::Nothing => step(code, s, m, marks),
+        Waits::Given(_) => reply_step(code, s, m),
+        Waits::Asked(_) | Waits::Refused(_) => unreachable!(),
+    }
 }
 
 /// Starts a command: its variables are made, where they have room, and nothing is pending.
@@ -81,7 +125,7 @@ fn make_variables<M: Memory>(m: &mut M, variables: &[Kind]) -> Result<Waits, Mem
     Ok(Waits::Nothing)
 }
 
-/// Answers the request that the machine waits for.
+/// Answers the request that the machine waits for. Its instruction goes on with the reply in the next run.
 pub fn reply<M: Memory>(_code: &Code, s: &mut State, _m: &mut M, r: Reply) -> Result<(), MemFault>
     requires fits { Fits _code.now (control_of s.old) }
     requires asks { IsSome (asked s.old.waits) }
@@ -91,9 +135,11 @@ pub fn reply<M: Memory>(_code: &Code, s: &mut State, _m: &mut M, r: Reply) -> Re
     ensures cause { HasFaultCause (M.faults _m.old) (M.faults _m.new) result }
     ensures follows { M.follows _m.old _m.new }
 {
-    match r {
-        Reply::Done => s.waits = Waits::Nothing,
-    }
+    s.waits = match r {
+        Reply::Done => Waits::Given(Reply::Done),
+        Reply::Text(text) => Waits::Given(Reply::Text(text)),
+        Reply::Stopped(stop) => Waits::Refused(stop),
+    };
     Ok(())
 }
 

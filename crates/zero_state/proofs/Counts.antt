@@ -13,6 +13,9 @@ use Rattle.zero_state.proofs.Stacks.{newest, older}
 abbrev pub stacked : List Operand → List Kept → Stacked
 stacked operands frames = record { ops = reverse operands; frames = frames_of frames }
 
+abbrev stack_of : List Operand → List Frame → Stacked
+stack_of ops frames = record { ops = ops; frames = frames }
+
 last_frame : (frames : List Kept) (f : Kept) → frames_of (frames ++ f ∷ []) ≡ frame_of f ∷ frames_of frames
 last_frame frames f = ap (map frame_of) (reverse-append frames (f ∷ []))
 
@@ -108,19 +111,21 @@ module _ (operands : List Operand) (frames : List Kept) (s : Stacked) (view : st
       let here : reverse (take count s.ops) ≡ drop (length operands - count) operands = ap (λ (s : Stacked). reverse (take count s.ops)) (sym view) ∙ top in
       take_rest all (n - count) ∙ ap (λ k. drop k all) k ∙ ap (drop (length operands - count)) same ∙ sym here
 
-  -- a new frame keeps the older ones
-  pub entered : (all : List Kept) (link : Link) (kept : List Operand) (count n : ℕ) → all ≡ frames ++ record { link = link; operands = kept } ∷ []
-      → kept ≡ take (n - count) operands → n ≡ length operands → count ≤ length s.ops
-      → frames_of all ≡ linked link (drop count s.ops) ∷ s.frames
-  entered all link kept count n same is m le =
+  -- the older ones are left
+  pub dropped : (left : List Operand) (count n : ℕ) → left ≡ take (n - count) operands → n ≡ length operands → count ≤ length s.ops
+      → stacked left frames ≡ record s { ops = drop count s.ops }
+  dropped left count n is m le =
       let within : count ≤ length operands = omega (arith, le, as_many) in
-      let k : kept ≡ take (length operands - count) operands = is ∙ ap (λ n. take (n - count) operands) m in
-      let e : reverse kept ≡ drop count (reverse operands) = ap reverse k ∙ sym (older operands count within) in
-      ap frames_of same ∙ last_frame frames (record { link = link; operands = kept }) ∙ ap (λ ops. linked link ops ∷ frames_of frames) e
-      ∙ ap (λ (s : Stacked). linked link (drop count s.ops) ∷ s.frames) view
+      let k : left ≡ take (length operands - count) operands = is ∙ ap (λ n. take (n - count) operands) m in
+      let e : reverse left ≡ drop count (reverse operands) = ap reverse k ∙ sym (older operands count within) in
+      ap (λ ops. stack_of ops (frames_of frames)) e ∙ ap (λ (s : Stacked). record s { ops = drop count s.ops }) view
 
-abbrev stack_of : List Operand → List Frame → Stacked
-stack_of ops frames = record { ops = ops; frames = frames }
+  -- a new frame keeps what is pending
+  pub entered : (all : List Kept) (link : Link) (kept : List Operand) → all ≡ frames ++ record { link = link; operands = kept } ∷ [] → kept ≡ operands
+      → frames_of all ≡ linked link s.ops ∷ s.frames
+  entered all link kept same is =
+      ap frames_of same ∙ last_frame frames (record { link = link; operands = kept }) ∙ ap (λ ops. linked link (reverse ops) ∷ frames_of frames) is
+      ∙ ap (λ (s : Stacked). linked link s.ops ∷ s.frames) view
 
 pub stacked_is : (operands : List Operand) (frames : List Kept) (fs : List Frame) → operands ≡ [] → frames_of frames ≡ fs
     → stacked operands frames ≡ record { ops = []; frames = fs }

@@ -23,13 +23,14 @@ done holds how c marks st now h e = subst (Does holds how c marks) e (by how)
 
 -- a mark is due, or spent
 pub unspent : (m : ℕ) (a : After) (c : Position) (cells : Cells) → m ≡ 0
-    → Over (rest_at halts.Marked (free c) (scene_of cells m)) ≡ mark_stage m a c (scene_of cells m)
+    → Over (rest_at halts.Marked (free c) (scene_of cells m)) ≡ mark_stage m a (free c) (scene_of cells m)
 unspent zero a c cells e = refl
 unspent (suc m) a c cells e = let f : ⊥ = cc in absurd f
 
-pub spent : (m : ℕ) (a : After) (c : Position) (cells : Cells) → 0 < m → after_stage a c (scene_of cells (m - 1)) ≡ mark_stage m a c (scene_of cells m)
+pub spent : (m : ℕ) (a : After) (c : Position) (cells : Cells) → 0 < m
+    → after_stage a (free c) (scene_of cells (m - 1)) ≡ mark_stage m a (free c) (scene_of cells m)
 spent zero a c cells lt = absurd (omega (arith, lt))
-spent (suc m) a c cells lt = let e : suc m - 1 ≡ m = omega arith in ap (λ n. after_stage a c (scene_of cells n)) e
+spent (suc m) a c cells lt = let e : suc m - 1 ≡ m = omega arith in ap (λ n. after_stage a (free c) (scene_of cells n)) e
 
 -- a step that is the same whatever memory holds
 pub plain_steps : (before after : Cells → Type 0) (to : Position → Cells → Stage) (c : Position) (c' : Control) (marks : ℕ) (next : Next) (now : Cells → Cells)

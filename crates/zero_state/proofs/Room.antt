@@ -62,6 +62,7 @@ like_fits p c ops like f = record {
   operands = like_kinds c.ops ops f.kinds like f.operands;
   frames = f.frames;
   used = f.used;
+  asks = f.asks;
   cells = f.cells;
   bytes = less_fits (bytes_on ops (bytes_of c.frames)) (bytes_on c.ops (bytes_of c.frames)) (like_bytes c.ops ops (bytes_of c.frames) like) f.bytes;
 }

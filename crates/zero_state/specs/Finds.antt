@@ -1,11 +1,13 @@
 -- What an instruction finds.
-use Rattle.std.specs.Prelude.{◌≡◌, ℕ, zero, suc, ◌+◌, ◌≤◌, Bool, true, false, ◌||◌, cond, List, [], ◌∷◌, length, Option, Some, None, slice_get}
+use Rattle.std.specs.Prelude.{◌≡◌, ℕ, zero, suc, ◌+◌, ◌≤◌, Bool, true, false, ◌||◌, cond, List, [], ◌∷◌, length, take, drop, reverse}
+use Rattle.std.specs.Prelude.{Option, Some, None, slice_get}
 use Rattle.eu_base.specs.declared.address.Addr.{Addr}
 use Rattle.eu_base.specs.declared.value.Kind.{Kind}
 use Rattle.eu_base.specs.declared.value.Value.{Value}
 use Rattle.eu_base.specs.Cells.{IsCell, run_cell}
 use Rattle.eu_base.specs.Operations.{operand_kinds}
-use Rattle.eu_base.specs.Requests.{request_kinds}
+use Rattle.eu_base.specs.declared.request.RequestName.{RequestName}
+use Rattle.eu_base.specs.Requests.{request_kinds, request_size}
 use Rattle.code_form.specs.declared.instr.Instr.{Instr}
 use Rattle.code_form.specs.declared.instr.Instr.TheVariants.{Number, Truth, Text, Outer, Local, Param, Jump, Load, Store, Do, Modify, False, When, Drop, Limit}
 use Rattle.code_form.specs.declared.instr.Instr.TheVariants.{Mark, Unlimit, Step, Ask, ErrorStop, Call, Refer, Back, Out, End}
@@ -42,6 +44,21 @@ pub record TopBoth (ops : List Operand) : Type 0 where
 abbrev pub TopValues : ℕ → List Operand → Type 0
 TopValues zero ops = Unit {0}
 TopValues (suc n) ops = (v : Value) × ((r : List Operand) × (ops ≡ Of v ∷ r) × TopValues n r)
+
+-- the operands of a request behind its values, from left to right
+abbrev pub behind_values : RequestName → List Operand → List Operand
+behind_values name ops = drop (length (request_kinds name)) (reverse (take (request_size name) ops))
+
+-- nothing, or the place of a cell first
+abbrev pub IsVariable : List Operand → Type 0
+IsVariable [] = Unit {0}
+IsVariable (At a ∷ os) = IsCell a
+IsVariable (Of v ∷ os) = ⊥
+
+-- what a request takes when its reply is there
+pub record FindsReply (name : RequestName) (ops : List Operand) : Type 0 where
+  pub taken : request_size name ≤ length ops
+  pub variable : IsVariable (behind_values name ops)
 
 -- a result, where there is one of a kind
 abbrev pub TopResult : Option Kind → List Operand → Type 0
@@ -90,7 +107,7 @@ Finds bodies Drop c = TopValue c.ops
 Finds bodies (Limit way a) c = TopBoth c.ops
 Finds bodies Unlimit c = 1 ≤ c.used
 Finds bodies (Step way a) c = TopPlace c.ops × (1 ≤ c.used)
-Finds bodies (Ask name) c = TopValues (length (request_kinds name)) c.ops
+Finds bodies (Ask name) c = request_size name ≤ length c.ops
 Finds bodies ErrorStop c = TopValue c.ops
 Finds bodies (Call n) c = HasProc bodies n c.ops
 Finds bodies (Refer n) c = HasBody bodies n

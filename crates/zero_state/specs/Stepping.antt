@@ -10,7 +10,7 @@ use Rattle.code_form.specs.declared.instr.Instr.{Instr}
 use Rattle.code_form.specs.declared.operand.Operand.{Operand}
 use Rattle.code_form.specs.declared.operand.Operand.TheVariants.{Value as Of, Place as At}
 use Rattle.code_form.specs.declared.waits.Waits.{Waits}
-use Rattle.code_form.specs.declared.waits.Waits.TheVariants.{Nothing, Asked, Refused}
+use Rattle.code_form.specs.declared.waits.Waits.TheVariants.{Nothing, Asked, Given, Refused}
 use Rattle.code_form.specs.Program.{Program}
 use Rattle.code_form.specs.Machine.{Position, Control, free, Scene, Stage, On, Over, Lost, rest_at, bytes_on, bytes_of, instruction, stage}
 use Rattle.zero_state.specs.declared.state.State.{State}
@@ -63,6 +63,7 @@ halt_of TextRoom = Some (halts.Stopped stops.TextRoom)
 abbrev pub due : Waits → Option Halt
 due Nothing = None
 due (Asked q) = Some (halts.Asks q)
+due (Given r) = None
 due (Refused stop) = Some (halts.Stopped stop)
 
 -- an instruction that spends no mark leads so on, or comes so to rest

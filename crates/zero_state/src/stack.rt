@@ -125,14 +125,22 @@ impl Stack {
         &self.operands.as_slice()[kept..]
     }
 
+    /// Drops the newest operands.
+    pub fn drop_top(&mut self, count: usize)
+        requires { count ≤ length self.old.ops }
+        ensures { self.new ≡ record self.old { ops = drop count self.old.ops } }
+    {
+        let kept = self.operands.len() - count;
+        self.bytes = bytes_without(self.bytes, &self.operands.as_slice()[kept..]);
+        self.operands.truncate(kept);
+    }
+
     /// Takes the newest operands, and makes a frame.
     pub fn enter(&mut self, alloc: Global, link: Link, count: usize) -> Result<(), NoMemory>
         requires { count ≤ length self.old.ops }
         ensures { OnOk result (self.new ≡ record { ops = []; frames = linked link (drop count self.old.ops) ∷ self.old.frames }) }
     {
-        let kept = self.operands.len() - count;
-        self.bytes = bytes_without(self.bytes, &self.operands.as_slice()[kept..]);
-        self.operands.truncate(kept);
+        self.drop_top(count);
         let at = self.frames.len();
         let none = List::new(alloc);
         self.frames.push(Frame {

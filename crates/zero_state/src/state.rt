@@ -22,12 +22,12 @@ pub struct State {
 }
 
 impl State {
-    /// Why the machine rests before its instruction; `None` where nothing is waited for.
+    /// Why the machine rests before its instruction; `None` where nothing is waited for, or the reply is there.
     pub fn due(&self) -> Result<Option<Halt>, NoMemory>
         ensures { IfOk result (λ halt. halt ≡ due self.now.waits) }
     {
         match &self.waits {
-            Waits::Nothing => Ok(None),
+            Waits::Nothing | Waits::Given(_) => Ok(None),
             Waits::Asked(request) => Ok(Some(Halt::Asks(request.try_clone(self.alloc)?))),
             Waits::Refused(stop) => Ok(Some(Halt::Stopped(stop.try_clone(self.alloc)?))),
         }

@@ -31,7 +31,7 @@ use Rattle.code_form.specs.declared.instr.Instr.{Instr}
 use Rattle.code_form.specs.declared.instr.Instr.TheVariants.{Param, Load, Store, Modify, Limit, Step}
 use Rattle.code_form.specs.Machine.{Position, Control, free, Move, Goes, Halts, Ends, Unknown, Scene, On, bytes_on, bytes_of, base_of, on_value, on_place}
 use Rattle.code_form.specs.Program.{Program}
-use Rattle.code_form.specs.Machine.{takes, puts, limit_to, at, using, goes, pushes, or_halt, on_word, on_number, on_cell, is_free, stage}
+use Rattle.code_form.specs.Machine.{takes, puts, limit_to, at, using, goes, pushes, or_halt, on_word, on_number, on_cell, is_free, stage, move_stage}
 use Rattle.zero_state.specs.Finds.{TopBoth}
 use Rattle.zero_state.specs.Stacked.{Stacked}
 use Rattle.zero_state.specs.declared.next.Next.{Next}
@@ -155,6 +155,13 @@ module _ (v old new : Value) (seen : Cell) (a : Addr) (c : Value → Position) (
     leads = empty_put v (c (emptied v)) a ops;
   }
 
+-- "" has room in the place of a text
+pub puts_on : (w : Value) (c : Position) (a : Addr) (ops : List Operand)
+    → puts c a (emptied w) ops (λ _. held_of (emptied w)) ≡ goes c ops (written (λ _. held_of (emptied w)) a (held_of (emptied w)))
+puts_on (item.Int z) c a ops = refl
+puts_on (item.Truth b) c a ops = refl
+puts_on (item.Text t) c a ops = refl
+
 module _ (before after : Cells → Type 0) where
   -- the same, of a state that has these operands
   pub accessed : (i : Instr) (next : Next) (pc used pc' used' : ℕ) (s s' t t' : Stacked) (w : Waits) → w ≡ Nothing → s ≡ t → s' ≡ t'
@@ -211,7 +218,7 @@ module _ (before after : Cells → Type 0) where
       by (inr e) = subst (λ m. Does after how c' marks (stage m c (scene_of cells marks))) (sym e) tt
 
   -- a value that was put into a cell has room there, or none
-  module _ (marks : ℕ) (c : Position) (a : Addr) (v : Value) (ops : List Operand) where
+  module _ (marks : ℕ) (c : Position) (d : Control) (a : Addr) (v : Value) (ops : List Operand) where
     abbrev fitting : Cells → Bool
     fitting cells = texts_fit (cell_blocks (held_of v)) (blocks_in (written cells a (held_of v)))
 
@@ -220,26 +227,26 @@ module _ (before after : Cells → Type 0) where
 
     put_so : (how : Option Halt) (c' : Control)
         → ((cells : Cells) → before cells → takes (held_of v) (cells a) ≡ true
-        → Does after how c' marks (stage (put_if cells (fitting cells)) c (scene_of cells marks)))
-        → (cells : Cells) → before cells → Does after how c' marks (stage (puts c a v ops cells) c (scene_of cells marks))
+        → Does after how c' marks (move_stage (put_if cells (fitting cells)) d (scene_of cells marks)))
+        → (cells : Cells) → before cells → Does after how c' marks (move_stage (puts c a v ops cells) d (scene_of cells marks))
     put_so how c' so cells h = by (takes (held_of v) (cells a)) refl
       where
         by : (b : Bool) → takes (held_of v) (cells a) ≡ b → Does after how c' marks
-            (stage (cond b (put_if cells (fitting cells)) Unknown) c (scene_of cells marks))
+            (move_stage (cond b (put_if cells (fitting cells)) Unknown) d (scene_of cells marks))
         by true e = so cells h e
         by false e = tt
 
-    put_done : PutsTaken before after a (held_of v) Done → (cells : Cells) → before cells
-        → Does after None (free (at c (c.pc + 1) ops)) marks (stage (puts c a v ops cells) c (scene_of cells marks))
+    pub put_done : PutsTaken before after a (held_of v) Done → (cells : Cells) → before cells
+        → Does after None (free (at c (c.pc + 1) ops)) marks (move_stage (puts c a v ops cells) d (scene_of cells marks))
     put_done put = put_so None (free (at c (c.pc + 1) ops)) (λ cells h taken.
         done after None (free (at c (c.pc + 1) ops)) marks _ (written cells a (held_of v)) (put cells h taken).1
-        (ap (λ b. stage (put_if cells b) c (scene_of cells marks)) (sym (put cells h taken).0)))
+        (ap (λ b. move_stage (put_if cells b) d (scene_of cells marks)) (sym (put cells h taken).0)))
 
-    put_full : PutsTaken before after a (held_of v) HeapFull → (cells : Cells) → before cells
-        → Does after (halt_of TextRoom) (free c) marks (stage (puts c a v ops cells) c (scene_of cells marks))
-    put_full put = put_so (halt_of TextRoom) (free c) (λ cells h taken.
-        done after (halt_of TextRoom) (free c) marks _ cells (put cells h taken).1
-        (ap (λ b. stage (put_if cells b) c (scene_of cells marks)) (sym (put cells h taken).0)))
+    pub put_full : PutsTaken before after a (held_of v) HeapFull → (cells : Cells) → before cells
+        → Does after (halt_of TextRoom) d marks (move_stage (puts c a v ops cells) d (scene_of cells marks))
+    put_full put = put_so (halt_of TextRoom) d (λ cells h taken.
+        done after (halt_of TextRoom) d marks _ cells (put cells h taken).1
+        (ap (λ b. move_stage (put_if cells b) d (scene_of cells marks)) (sym (put cells h taken).0)))
 
   module _ (kind : Kind) (v : Value) (a : Addr) (pc used : ℕ) (t : Stacked) (reads : Reads before a kind v) (kept : Keeps before after) where
     abbrev loading : Position
@@ -279,34 +286,27 @@ module _ (before after : Cells → Type 0) where
     abbrev stored : Control
     stored = free (standing (pc + 1) used t)
 
-    -- "" has room in the place of a text
     abbrev same : Cells
     same = λ _. held_of (emptied v)
-
-    puts_on : (w : Value) (c : Position) → puts c a (emptied w) t.ops (λ _. held_of (emptied w))
-        ≡ goes c t.ops (written (λ _. held_of (emptied w)) a (held_of (emptied w)))
-    puts_on (item.Int z) c = refl
-    puts_on (item.Truth b) c = refl
-    puts_on (item.Text u) c = refl
 
     like : AreLike (Of v ∷ At a ∷ t.ops) (Of (emptied v) ∷ At a ∷ t.ops)
     like = (emptied_like v, ((λ cell. cell), same_like t.ops))
 
     pub store_goes : PutsTaken before after a (held_of v) Done → Accesses before after (Store kind) (storing v) stored On'
     store_goes put p marks = record {
-      does = put_done marks (storing v) a v t.ops put;
+      does = put_done marks (storing v) (free (storing v)) a v t.ops put;
       ops = Of (emptied v) ∷ At a ∷ t.ops;
       like = like;
       cells = same;
       leads = inl (
         written same a (held_of (emptied v)),
-        ap (λ m. stage m (storing (emptied v)) (scene_of same marks)) (sym (puts_on v (storing (emptied v)))),
+        ap (λ m. stage m (storing (emptied v)) (scene_of same marks)) (sym (puts_on v (storing (emptied v)) a t.ops)),
       );
     }
 
     pub store_full : PutsTaken before after a (held_of v) HeapFull → Accesses before after (Store kind) (storing v) (free (storing v)) TextRoom
     store_full put p marks = record {
-      does = put_full marks (storing v) a v t.ops put;
+      does = put_full marks (storing v) (free (storing v)) a v t.ops put;
       ops = Of (emptied v) ∷ At a ∷ t.ops;
       like = like;
       cells = same;
@@ -315,7 +315,7 @@ module _ (before after : Cells → Type 0) where
         stays = refl;
         after = stored;
         now = written same a (held_of (emptied v));
-        goes = ap (λ m. stage m (storing (emptied v)) (scene_of same marks)) (puts_on v (storing (emptied v)));
+        goes = ap (λ m. stage m (storing (emptied v)) (scene_of same marks)) (puts_on v (storing (emptied v)) a t.ops);
       });
     }
 
@@ -339,7 +339,7 @@ module _ (before after : Cells → Type 0) where
         let x = example_of v r.old r.to.0 r.reads.seen a changing t.ops by r.to.1.0 r.reads.is in
         record {
           does =
-              given_so None (free (standing (pc + 1) used t)) marks r.old (Ok r.to.0) r.reads r.to.1.0 (put_done marks (changing v) a r.to.0 t.ops r.to.1.1) p;
+              given_so None (free (standing (pc + 1) used t)) marks r.old (Ok r.to.0) r.reads r.to.1.0 (put_done marks (changing v) (free (changing v)) a r.to.0 t.ops r.to.1.1) p;
           ops = Of x.operand ∷ At a ∷ t.ops;
           like = (x.like, ((λ cell. cell), same_like t.ops));
           cells = x.cells;
@@ -351,7 +351,7 @@ module _ (before after : Cells → Type 0) where
         let x = example_of v r.old r.to.0 r.reads.seen a changing t.ops by r.to.1.0 r.reads.is in
         record {
           does =
-              given_so (halt_of TextRoom) (free (changing v)) marks r.old (Ok r.to.0) r.reads r.to.1.0 (put_full marks (changing v) a r.to.0 t.ops r.to.1.1) p;
+              given_so (halt_of TextRoom) (free (changing v)) marks r.old (Ok r.to.0) r.reads r.to.1.0 (put_full marks (changing v) (free (changing v)) a r.to.0 t.ops r.to.1.1) p;
           ops = Of x.operand ∷ At a ∷ t.ops;
           like = (x.like, ((λ cell. cell), same_like t.ops));
           cells = x.cells;

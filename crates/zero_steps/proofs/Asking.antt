@@ -1,32 +1,42 @@
--- A request takes the values on top.
-use Rattle.std.proofs.Common.{◌≡◌, ℕ, zero, suc, ◌+◌, ◌-◌, ◌<◌, ◌≤◌, List, [], ◌∷◌, ◌++◌, refl, sym, ap, ◌∙◌, subst, arith}
+-- A request is made with the operands on top; an operation takes the values there.
+use Rattle.std.proofs.Common.{◌≡◌, ℕ, zero, suc, ◌+◌, ◌-◌, ◌<◌, ◌≤◌, List, [], ◌∷◌, ◌++◌, map, length, take, drop, Some, refl, sym, ap, ◌∙◌, subst, arith}
 use Rattle.std.specs.Prelude.{reverse}
+use Rattle.eu_base.specs.declared.request.RequestName.{RequestName}
+use Rattle.eu_base.specs.declared.request.Request.{Request}
+use Rattle.eu_base.specs.Requests.{request_size, request_of}
+use Rattle.code_form.specs.Program.{Program}
+use Rattle.code_form.specs.declared.instr.Instr.TheVariants.{Ask}
 use Rattle.std.proofs.lemmas.List.{reverse-append}
 use Rattle.eu_base.specs.declared.value.Value.{Value}
 use Rattle.eu_base.specs.Cells.{Cells}
 use Rattle.code_form.specs.declared.operand.Operand.{Operand}
 use Rattle.code_form.specs.declared.operand.Operand.TheVariants.{Value as Of}
 use Rattle.code_form.specs.declared.halt.Halt.TheVariants as halts
-use Rattle.code_form.specs.Machine.{Position, free, After, Spends, Move, Over, on_values, rest_at, stage}
+use Rattle.code_form.specs.Machine.{Position, free, asking, After, Asks, Spends, Move, On, Over, on_values, on_operands, value_in, instruction, rest_at, stage}
 use Rattle.zero_state.specs.Stacked.{Stacked}
 use Rattle.zero_steps.specs.Giving.{put_on}
 use Rattle.zero_state.specs.Finds.{TopValue, TopValues}
 use Rattle.zero_state.specs.Stepping.{scene_of}
-use Rattle.zero_state.proofs.Making.{unspent}
+use Rattle.zero_state.proofs.Making.{unspent, spent}
+use Rattle.zero_state.proofs.Stacks.{taken_all}
 
--- what is taken does not depend on what follows
-found : (n : ℕ) (acc : List Value) (ops : List Operand) (go : List Value → List Operand → Move) → TopValues n ops
-    → (vs : List Value) × ((rest : List Operand) × (on_values n acc ops go ≡ go vs rest))
-found zero acc ops go h = (acc, (ops, refl))
-found (suc n) acc ops go h =
-    let r = found n (h.0 ∷ acc) h.1.0 go h.1.2 in (r.0, (r.1.0, ap (λ o. on_values (suc n) acc o go) h.1.1 ∙ r.1.1))
+-- without marks a request is due, and nothing is asked yet
+pub due : (n : ℕ) (ops : List Operand) (after : List Operand → List Operand → After) (c : Position) (cells : Cells) (m : ℕ) → n ≤ length ops → m ≡ 0
+    → Over (rest_at halts.Marked (free c) (scene_of cells m)) ≡ stage (on_operands n [] ops (λ os rest. Spends (after os rest))) c (scene_of cells m)
+due n ops after c cells m le e =
+    unspent m (after (reverse (take n ops)) (drop n ops)) c cells e
+    ∙ ap (λ x. stage x c (scene_of cells m)) (sym (taken_all n ops (λ os rest. Spends (after os rest)) le))
 
--- without marks a request is due, and takes nothing yet
-pub due : (n : ℕ) (ops : List Operand) (after : List Value → List Operand → After) (c : Position) (cells : Cells) (m : ℕ) → TopValues n ops → m ≡ 0
-    → Over (rest_at halts.Marked (free c) (scene_of cells m)) ≡ stage (on_values n [] ops (λ vs rest. Spends (after vs rest))) c (scene_of cells m)
-due n ops after c cells m h e =
-    let f = found n [] ops (λ vs rest. Spends (after vs rest)) h in
-    unspent m (after f.0 f.1.0) c cells e ∙ ap (λ x. stage x c (scene_of cells m)) (sym f.1.1)
+-- a request is made with the operands on top, and costs a mark
+pub asked : (p : Program) (name : RequestName) (c : Position) (cells : Cells) (m : ℕ) (q : Request) (top : List Operand) → request_size name ≤ length c.ops
+    → 0 < m → top ≡ reverse (take (request_size name) c.ops) → q ≡ request_of name (map value_in top)
+    → On (asking c q) (scene_of cells (m - 1)) ≡ stage (instruction p (Some (Ask name)) c cells) c (scene_of cells m)
+asked p name c cells m q top le lt is made =
+    let n = request_size name in
+    let asks : Request → After = λ q. Asks c q cells in
+    spent m (asks q) c cells lt
+    ∙ ap (λ q. stage (Spends (asks q)) c (scene_of cells m)) (made ∙ ap (λ os. request_of name (map value_in os)) is)
+    ∙ ap (λ x. stage x c (scene_of cells m)) (sym (taken_all n c.ops (λ os ops. Spends (asks (request_of name (map value_in os)))) le))
 
 -- so many of these values were taken, and the others are on top
 pub record Taken (count k : ℕ) (before ops : List Operand) (values : List Value) : Type 0 where

@@ -4,3 +4,4 @@ pub mod Contents
 pub mod Asking
 pub mod Operating
 pub mod Putting
+pub mod Replying

@@ -1,33 +1,82 @@
 //! Requests.
-ghost use Rattle.std.specs.Prelude.{◌≡◌, ◌+◌, IfOk, Some, length};
+ghost use Rattle.std.specs.Prelude.{◌≡◌, ◌≤◌, IfOk, Some, length, map};
 ghost use Rattle.eu_base.specs.Cells.{Cells};
-ghost use Rattle.eu_base.specs.Requests.{request_kinds};
+ghost use Rattle.eu_base.specs.Operations.{number_at, text_at};
+ghost use Rattle.eu_base.specs.Requests.{request_size, request_of};
 ghost use Rattle.code_form.specs.Program.{Program};
 ghost use Rattle.code_form.specs.declared.instr.Instr.TheVariants as instrs;
-ghost use Rattle.code_form.specs.Machine.{instruction, stage};
-ghost use Rattle.zero_state.specs.Finds.{TopValues};
+ghost use Rattle.code_form.specs.Machine.{instruction, stage, value_in};
 ghost use Rattle.zero_state.specs.Stepping.{position_of, control_of, scene_of, stage_of, halt_of, IsReady};
 
-use crate::values::pop_values;
-use code_form::Waits;
-use eu_base::{NoMemory, RequestName};
+use code_form::{Operand, Waits};
+use eu_base::{Bytes, NoMemory, Request, RequestName, decimal};
+use std::alloc::Global;
 use zero_state::{Next, State};
 
-/// Spends a mark, takes the operands of a request, and makes it. It stands outside the loop of a run, which is quicker so.
+/// Spends a mark, and makes a request with the operands on top. It stands outside the loop of a run, which is quicker so.
 #[inline(never)]
 pub fn ask(s: &mut State, name: RequestName, marks: &mut u32) -> Result<Next, NoMemory>
     requires ready { IsReady s.old }
-    requires finds { TopValues (length (request_kinds name)) s.old.stack.ops }
+    requires finds { request_size name ≤ length s.old.stack.ops }
     ensures { IfOk result (λ next. (p : Program) (cells : Cells) → stage_of (halt_of next) (control_of s.new) (scene_of cells marks.new) ≡ stage
         (instruction p (Some (instrs.Ask name)) (position_of s.old) cells) (position_of s.old) (scene_of cells marks.old)) }
 {
     if *marks == 0 {
         return Ok(Next::Marked);
     }
-    let operands = pop_values(&mut s.stack, s.alloc, name.operand_kinds().len())?;
-    let request = name.request(s.alloc, operands.as_slice())?;
+    let request = request(s.alloc, name, s.stack.top(name.size()))?;
     *marks -= 1;
     s.waits = Waits::Asked(request);
-    s.pc += 1;
     Ok(Next::On)
+}
+
+// What a request asks for with these operands.
+fn request(alloc: Global, name: RequestName, operands: &[Operand]) -> Result<Request, NoMemory>
+    ensures { IfOk result (λ request. request ≡ request_of name (map value_in operands.now)) }
+{
+    match name {
+        RequestName::PutNumber => {
+            let mut bytes = decimal(alloc, i64::from(number_at(operands, 0)))?;
+            bytes.append(b" ")?;
+            Ok(Request::Out { bytes, ends: false })
+        }
+        RequestName::PutText => {
+            let mut bytes = Bytes::from(alloc, text_at(operands, 0))?;
+            bytes.append(b" ")?;
+            Ok(Request::Out { bytes, ends: false })
+        }
+        RequestName::Write => Ok(Request::Out {
+            bytes: Bytes::from(alloc, text_at(operands, 0))?,
+            ends: false,
+        }),
+        RequestName::PutLine => Ok(Request::Out {
+            bytes: Bytes::from(alloc, text_at(operands, 0))?,
+            ends: true,
+        }),
+        RequestName::Line => Ok(Request::Out {
+            bytes: Bytes::new(alloc),
+            ends: true,
+        }),
+        RequestName::GetNumber | RequestName::GetText | RequestName::GetLine => Ok(Request::Input),
+    }
+}
+
+// The number at a place; 0 where none is there.
+fn number_at(operands: &[Operand], place: usize) -> i16
+    ensures { result ≡ number_at (map value_in operands.now) place }
+{
+    match operands.get(place) {
+        Some(Operand::Value(value)) => value.number(),
+        _ => 0,
+    }
+}
+
+// The text at a place; "" where none is there.
+fn text_at(operands: &[Operand], place: usize) -> &[u8]
+    ensures { result.now ≡ text_at (map value_in operands.now) place }
+{
+    match operands.get(place) {
+        Some(Operand::Value(value)) => value.text(),
+        _ => &[],
+    }
 }

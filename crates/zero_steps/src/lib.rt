@@ -7,6 +7,7 @@ mod counter;
 pub mod operate;
 pub mod push;
 mod reading;
+pub mod reply;
 pub mod step;
 pub mod stop;
 mod values;

@@ -1,7 +1,7 @@
-use Rattle.std.proofs.Common.{length, ◌+◌, ap, ◌∙◌}
-use Rattle.eu_base.specs.Requests.{request_kinds, request_of}
+use Rattle.std.proofs.Common.{length, ◌+◌, ap, ◌∙◌, map}
+use Rattle.eu_base.specs.Requests.{request_size, request_of}
 use Rattle.code_form.specs.declared.halt.Halt.TheVariants as halts
-use Rattle.code_form.specs.Machine.{Asks, Over, at, rest_at}
+use Rattle.code_form.specs.Machine.{Asks, Over, value_in, rest_at}
 use Rattle.zero_state.specs.Stepping.{position_of, scene_of}
 use Rattle.zero_steps.proofs.Asking.{due}
 use Rattle.zero_steps.proofs.ask.ask.Goals as goal
@@ -10,5 +10,5 @@ pub returns-then-marks-eq0 : goal.returns-then-marks-eq0
 returns-then-marks-eq0 c = λ p cells.
     let now = position_of c.args.s.now in
     ap (λ w. Over (rest_at halts.Marked (record { position = now; waits = w }) (scene_of cells c.args.marks.now))) c.requires.ready.free
-    ∙ due (length (request_kinds c.args.name)) now.ops (λ vs ops. Asks (at now (now.pc + 1) ops) (request_of c.args.name vs) cells) now cells c.args.marks.now
+    ∙ due (request_size c.args.name) now.ops (λ os ops. Asks now (request_of c.args.name (map value_in os)) cells) now cells c.args.marks.now
     c.requires.finds c.if-marks-eq0.true

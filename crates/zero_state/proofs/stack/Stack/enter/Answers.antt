@@ -1,21 +1,14 @@
-use Rattle.std.proofs.Common.{◌≡◌, ◌-◌, ◌++◌, ◌∷◌, [], ap, sym, ◌∙◌}
+use Rattle.std.proofs.Common.{◌≡◌, ◌++◌, ◌∷◌, [], drop, ap, sym, ◌∙◌}
 use Rattle.std.specs.Prelude.{reverse}
 use Rattle.code_form.specs.Machine.{bytes_on, bytes_of}
 use Rattle.zero_state.specs.declared.stack.Frame.{Frame}
-use Rattle.zero_state.specs.Stacked.{frames_of}
-use Rattle.zero_state.proofs.Counts.{fewer, kept, last_set, held_is, entered, stacked_is}
+use Rattle.zero_state.specs.Stacked.{Stacked, linked, frames_of}
+use Rattle.zero_state.proofs.Counts.{last_set, held_is, entered, stacked_is}
 use Rattle.zero_state.proofs.stack.Stack.enter.Goals as goal
-
-pub bytes_without-self-inside-requires : goal.bytes_without-self-inside-requires
-bytes_without-self-inside-requires c =
-    fewer c.self.inside.operands c.as_slice.result.now (c.len.result - c.args.count) (bytes_of (frames_of c.self.inside.frames)) c.self.inside.bytes
-    c.as_slice.ensures c.self.invariant
 
 pub invariant_of-self : goal.invariant_of-self
 invariant_of-self c =
-    kept c.self.inside.operands c.as_slice.result.now (c.len.result - c.args.count) (bytes_of (frames_of c.self.inside.frames)) c.self.inside.bytes
-    c.as_slice.ensures c.self.invariant c.bytes_without-self-inside.result c.truncate.new.self c.bytes_without-self-inside.ensures c.truncate.ensures
-    ∙ ap (λ fs. bytes_on (reverse c.truncate.new.self) (bytes_of (frames_of fs))) (sym c.in_err-push.ensures.err)
+    c.self.invariant ∙ ap (λ fs. bytes_on (reverse c.self.inside.operands) (bytes_of (frames_of fs))) (sym c.in_err-push.ensures.err)
 
 pub invariant_of-self-2 : goal.invariant_of-self-2
 invariant_of-self-2 c =
@@ -23,9 +16,8 @@ invariant_of-self-2 c =
     let set : c.set.new.self ≡ c.self.inside.frames ++ f ∷ [] =
     last_set c.self.inside.frames c.push.new.self c.set.new.self c.len-at.result (record { link = c.args.link; operands = c.new-none.result }) f
     c.in_ok-push.ensures.ok c.len-at.ensures c.set.ensures in
-    kept c.self.inside.operands c.as_slice.result.now (c.len.result - c.args.count) (bytes_of (frames_of c.self.inside.frames)) c.self.inside.bytes
-    c.as_slice.ensures c.self.invariant c.bytes_without-self-inside.result c.replace-operands.result c.bytes_without-self-inside.ensures
-    (c.replace-operands.ensures.value ∙ c.truncate.ensures) ∙ sym (held_is c.self.inside.frames c.set.new.self f set)
+    c.self.invariant ∙ ap (λ l. bytes_on (reverse l) (bytes_of (frames_of c.self.inside.frames))) (sym c.replace-operands.ensures.value)
+    ∙ sym (held_is c.self.inside.frames c.set.new.self f set)
     ∙ ap (λ l. bytes_on (reverse l) (bytes_of (frames_of c.set.new.self))) (sym (c.replace-operands.ensures.after ∙ c.new.ensures))
 
 pub returns : goal.returns
@@ -35,5 +27,5 @@ returns c =
     last_set c.self.inside.frames c.push.new.self c.set.new.self c.len-at.result (record { link = c.args.link; operands = c.new-none.result }) f
     c.in_ok-push.ensures.ok c.len-at.ensures c.set.ensures in
     stacked_is c.replace-operands.new.dest c.set.new.self _ (c.replace-operands.ensures.after ∙ c.new.ensures)
-    (entered c.self.inside.operands c.self.inside.frames c.args.self.now c.self.view_is c.set.new.self c.args.link c.replace-operands.result c.args.count
-    c.len.result set (c.replace-operands.ensures.value ∙ c.truncate.ensures) c.len.ensures c.requires)
+    (entered c.self.inside.operands c.self.inside.frames c.drop_top.new.self c.self.view_is c.set.new.self c.args.link c.replace-operands.result set
+    c.replace-operands.ensures.value ∙ ap (λ (s : Stacked). linked c.args.link s.ops ∷ s.frames) c.drop_top.ensures)

@@ -5,7 +5,7 @@ use Rattle.zero_state.specs.Finds.{Finds}
 use Rattle.zero_state.specs.Stepping.{position_of, control_of}
 use Rattle.zero_machine.proofs.Finds.{finds, the_instr}
 use Rattle.zero_machine.proofs.Fitting.{fits_free, step_goes, step_fits, step_spends, step_nears}
-use Rattle.zero_machine.proofs.machine.advance.Goals as goal
+use Rattle.zero_machine.proofs.machine.step.Goals as goal
 
 pub execute-requires-clause-finds : goal.execute-requires-clause-finds
 execute-requires-clause-finds g c =

@@ -1,0 +1,138 @@
+-- A request goes on with its reply.
+use Rattle.std.proofs.Common.{◌≡◌, ℕ, ◌+◌, ◌≤◌, List, [], ◌∷◌, length, take, drop, Some, refl, sym, ap, ◌∙◌, subst, inl, inr}
+use Rattle.std.specs.Prelude.{reverse, Option, None, Ok, Err, MatchOption, pos}
+use Rattle.eu_base.specs.declared.address.Addr.{Addr}
+use Rattle.eu_base.specs.declared.value.Value.{Value}
+use Rattle.eu_base.specs.declared.value.Value.TheVariants as item
+use Rattle.eu_base.specs.declared.stop.Stop.{Stop}
+use Rattle.eu_base.specs.declared.set.Set.{Set}
+use Rattle.eu_base.specs.declared.set.Set.TheVariants.{Done, HeapFull}
+use Rattle.eu_base.specs.declared.request.RequestName.{RequestName}
+use Rattle.eu_base.specs.declared.request.RequestName.TheVariants.{PutNumber, PutText, Write, PutLine, Line, GetNumber, GetText, GetLine}
+use Rattle.eu_base.specs.declared.request.Reply.{Reply}
+use Rattle.eu_base.specs.declared.request.Reply.TheVariants as replies
+use Rattle.eu_base.specs.declared.value.Kind.{Kind}
+use Rattle.eu_base.specs.Requests.{request_kinds, request_size, reply_text, read_as}
+use Rattle.eu_base.specs.Cells.{Cells, IsCell, held_of, written}
+use Rattle.code_form.specs.declared.halt.Halt.TheVariants as halts
+use Rattle.code_form.specs.declared.operand.Operand.{Operand}
+use Rattle.code_form.specs.declared.operand.Operand.TheVariants.{Place as At}
+use Rattle.code_form.specs.declared.instr.Instr.TheVariants.{Ask}
+use Rattle.code_form.specs.Machine.{Position, Control, free, given, Move, On, at, goes, or_halt, keeps, takes_reply, move_stage}
+use Rattle.zero_state.specs.Finds.{behind_values, IsVariable}
+use Rattle.zero_state.specs.declared.next.Next.{Next}
+use Rattle.zero_state.specs.declared.next.Next.TheVariants.{On as On', TextRoom}
+use Rattle.zero_state.specs.Stepping.{stage_of, scene_of, halt_of, Does}
+use Rattle.zero_state.proofs.Emptied.{emptied}
+use Rattle.zero_state.proofs.Making.{done}
+use Rattle.zero_state.proofs.Stacks.{taken_all}
+use Rattle.zero_steps.specs.Reading.{PutsTaken}
+use Rattle.zero_steps.specs.Replying.{IsAt, PutsIn, replied_by, Replies}
+use Rattle.zero_steps.proofs.Accessing.{Keeps, puts_on, put_done, put_full}
+
+-- what is read out of no text is "" or a number
+read_empty : (name : RequestName) → (v : Value) × (read_as name [] ≡ Ok (emptied v))
+read_empty PutNumber = (item.Int (pos 0), refl)
+read_empty PutText = (item.Int (pos 0), refl)
+read_empty Write = (item.Int (pos 0), refl)
+read_empty PutLine = (item.Int (pos 0), refl)
+read_empty Line = (item.Int (pos 0), refl)
+read_empty GetNumber = (item.Int (pos 0), refl)
+read_empty GetText = (item.Text [], refl)
+read_empty GetLine = (item.Text [], refl)
+
+module _ (before after : Cells → Type 0) (name : RequestName) (r : Reply) (c : Position) (le : request_size name ≤ length c.ops) where
+  abbrev rest : List Operand
+  rest = drop (request_size name) c.ops
+
+  abbrev next : Control
+  next = free (at c (c.pc + 1) rest)
+
+  -- it takes the operands on top, where this is read
+  takes : (r : Reply) (cells : Cells) (v : Value) → read_as name (reply_text r) ≡ Ok v
+      → takes_reply (Some (Ask name)) r c cells ≡ keeps c (behind_values name c.ops) v rest cells
+  takes r cells v read =
+      taken_all (request_size name) c.ops _ le ∙ ap (λ g. or_halt g (λ v. keeps c (behind_values name c.ops) v rest cells)) read
+
+  -- what cannot be read stops it
+  pub reply_stops : (after_is : Keeps before after) (stop : Stop) (how : Next) → read_as name (reply_text r) ≡ Err stop
+      → halt_of how ≡ Some (halts.Stopped stop) → Replies before after name r c (given c r) how
+  reply_stops kept stop how read is = record {
+    does = λ marks cells h.
+        done after (halt_of how) (given c r) marks (replied_by name r marks c cells) cells (kept cells h)
+        (ap (λ o. stage_of o (given c r) (scene_of cells marks)) is
+        ∙ ap (λ m. move_stage m (given c r) (scene_of cells marks))
+        (sym (taken_all (request_size name) c.ops _ le ∙ ap (λ g. or_halt g (λ v. keeps c (behind_values name c.ops) v rest cells)) read)));
+    leads = inr (refl, (halts.Stopped stop, is));
+  }
+
+  -- a request without a variable goes on
+  reply_goes : Keeps before after → (v : Value) → read_as name (reply_text r) ≡ Ok v → behind_values name c.ops ≡ []
+      → Replies before after name r c next On'
+  reply_goes kept v read none = record {
+    does = λ marks cells h.
+        done after (halt_of On') next marks (replied_by name r marks c cells) cells (kept cells h) (so r v read marks cells);
+    leads = inl (λ marks. ((λ _. held_of v), ((λ _. held_of v), so replies.Done (emptied (read_empty name).0) (read_empty name).1 marks (λ _. held_of v))));
+  }
+    where
+      so : (r : Reply) (v : Value) → read_as name (reply_text r) ≡ Ok v → (marks : ℕ) (cells : Cells)
+          → On next (scene_of cells marks) ≡ replied_by name r marks c cells
+      so r v read marks cells =
+          ap (λ m. move_stage m (given c r) (scene_of cells marks)) (sym (takes r cells v read ∙ ap (λ os. keeps c os v rest cells) none))
+
+  module _ (v : Value) (read : read_as name (reply_text r) ≡ Ok v) (a : Addr) (os : List Operand) (is : behind_values name c.ops ≡ At a ∷ os) where
+    keeps_it : (r : Reply) (v : Value) → read_as name (reply_text r) ≡ Ok v → (cells : Cells)
+        → takes_reply (Some (Ask name)) r c cells ≡ keeps c (At a ∷ os) v rest cells
+    keeps_it r v read cells = takes r cells v read ∙ ap (λ os. keeps c os v rest cells) is
+
+    -- its variable got the value
+    reply_kept : PutsTaken before after a (held_of v) Done → Replies before after name r c next On'
+    reply_kept put = record {
+      does = λ marks cells h.
+          subst (λ m. Does after (halt_of On') next marks (move_stage m (given c r) (scene_of cells marks))) (sym (keeps_it r v read cells))
+          (put_done before after marks c (given c r) a v rest put cells h);
+      leads =
+          let w = read_empty name in
+          let seen : Cells = λ _. held_of (emptied w.0) in
+          inl (λ marks. (
+            seen,
+            (
+              written seen a (held_of (emptied w.0)),
+              ap (λ m. move_stage m (given c replies.Done) (scene_of seen marks))
+                  (sym (keeps_it replies.Done (emptied w.0) w.1 seen ∙ puts_on w.0 c a rest)),
+            ),
+          ));
+    }
+
+    -- or it has no room
+    reply_full : PutsTaken before after a (held_of v) HeapFull → Replies before after name r c (given c r) TextRoom
+    reply_full put = record {
+      does = λ marks cells h.
+          subst (λ m. Does after (halt_of TextRoom) (given c r) marks (move_stage m (given c r) (scene_of cells marks))) (sym (keeps_it r v read cells))
+          (put_full before after marks c (given c r) a v rest put cells h);
+      leads = inr (refl, (_, refl));
+    }
+
+  -- its variable got the value, or it has none
+  pub reply_done : (v : Value) → read_as name (reply_text r) ≡ Ok v → (o : Option Addr) (set : Set) → IsAt (behind_values name c.ops) o → set ≡ Done
+      → PutsIn before after o (held_of v) set → Replies before after name r c next On'
+  reply_done v read None set is so put = reply_goes put.1 v read is
+  reply_done v read (Some a) set is so put = reply_kept v read a is.0 is.1 (subst (PutsTaken before after a (held_of v)) so put)
+
+  -- or it has no room
+  pub reply_unkept : (v : Value) → read_as name (reply_text r) ≡ Ok v → (o : Option Addr) (set : Set) → IsAt (behind_values name c.ops) o → set ≡ HeapFull
+      → PutsIn before after o (held_of v) set → Replies before after name r c (given c r) TextRoom
+  reply_unkept v read None set is so put = let f : Done ≡ HeapFull = sym put.0 ∙ so in absurd (cc f)
+  reply_unkept v read (Some a) set is so put = reply_full v read a is.0 is.1 (subst (PutsTaken before after a (held_of v)) so put)
+
+-- what is behind the values among the operands on top
+pub behind_is : (name : RequestName) (ops top : List Operand) (kinds : List Kind) (n : ℕ) → top ≡ reverse (take n ops) → n ≡ request_size name
+    → kinds ≡ request_kinds name → behind_values name ops ≡ drop (length kinds) top
+behind_is name ops top kinds n is size same =
+    ap (λ k. drop (length k) (reverse (take (request_size name) ops))) (sym same)
+    ∙ ap (λ n. drop (length kinds) (reverse (take n ops))) (sym size) ∙ ap (drop (length kinds)) (sym is)
+
+-- where its first is a variable, it is that of a cell
+pub first_cell : (os : List Operand) (o : Option Addr) → IsVariable os → IsAt os o → MatchOption o (Unit {0}) IsCell
+first_cell os None is at = tt
+first_cell os (Some a) is at = subst IsVariable at.1 is
