@@ -1,30 +1,21 @@
 -- What the cells of a frame are for when a body is entered.
-use Rattle.std.proofs.Common.{◌≡◌, ℕ, suc, ◌+◌, ◌≤◌, List, [], ◌∷◌, ◌++◌, map, length, refl, sym, ap, ◌∙◌, subst, arith}
-use Rattle.std.specs.Prelude.{pos}
+use Rattle.std.proofs.Common.{◌≡◌, ℕ, suc, ◌≤◌, List, [], ◌∷◌, ◌++◌, map, length, refl, ap, arith}
 use Rattle.std.proofs.lemmas.Option.{slice_get_within}
 use Rattle.eu_base.specs.declared.value.Kind.{Kind}
 use Rattle.eu_base.specs.declared.value.Kind.TheVariants as kinds
-use Rattle.eu_base.specs.declared.value.Value.TheVariants as item
 use Rattle.eu_base.specs.Values.{IsOf, blank_of}
-use Rattle.eu_base.specs.Cells.{Cell, held_of, run_cell}
+use Rattle.eu_base.specs.Cells.{Cell, held_of}
 use Rattle.eu_base.proofs.Results.{fits_in_range}
-use Rattle.code_form.specs.declared.operand.Operand.{Operand}
-use Rattle.code_form.specs.declared.operand.Operand.TheVariants.{Value as Of, Place as At}
 use Rattle.code_form.specs.declared.operand.OperandKind.{OperandKind}
 use Rattle.code_form.specs.declared.operand.OperandKind.TheVariants as operand
 use Rattle.code_form.specs.Program.{Program}
-use Rattle.code_form.specs.Machine.{Move, on_operands, held_of_operand, frame_contents}
+use Rattle.code_form.specs.Machine.{held_of_operand, frame_contents}
 use Rattle.elan_types.specs.declared.elan_type.ElanType.{ElanType}
 use Rattle.elan_types.specs.Typing.{kind_in}
-use Rattle.elan_types.specs.Eval.{Slot, Holds, Refers, Taken, frame}
+use Rattle.elan_types.specs.Eval.{Slot, Holds, frame}
 use Rattle.place_gen.proofs.Cells.{OfValue, OfNothing, Uses, Kept, AllKept}
-use Rattle.place_gen.proofs.Carry.{use_of, Takes, TakeAll, operand_of, pushed_slots}
-
--- the operand of a slot; a cell that only counts has none, and no parameter takes it
-abbrev pub slot_operand : Slot → Operand
-slot_operand (Holds v) = Of v
-slot_operand (Refers x) = At (run_cell x.variable)
-slot_operand Taken = Of (item.Int (pos 0))
+use Rattle.place_gen.proofs.Carry.{use_of, Takes, TakeAll}
+use Rattle.place_gen.proofs.Slots.{slot_operand}
 
 -- what the cells of a frame with these cells are for, with the two of the call
 abbrev pub frame_uses : List OperandKind → Uses
@@ -38,32 +29,7 @@ blank_is kinds.Int = fits_in_range _ refl
 blank_is kinds.Truth = tt
 blank_is kinds.Text = omega arith
 
-append-[] : {A : Type 0} (l : List A) → l ++ [] ≡ l
-append-[] [] = refl
-append-[] (x ∷ l) = ap (λ l. x ∷ l) (append-[] l)
-
 module _ (p : Program) (L : Uses) where
-  one_operand : (k : OperandKind) (s : Slot) (ops : List Operand) → Takes p k L s → operand_of p s ops ≡ slot_operand s ∷ ops
-  one_operand (operand.Value k) s ops t = subst (λ s. operand_of p s ops ≡ slot_operand s ∷ ops) (sym t.1) refl
-  one_operand (operand.Place k) s ops t = subst (λ s. operand_of p s ops ≡ slot_operand s ∷ ops) (sym t.1) refl
-
-  taken : (ks : List OperandKind) (ss : List Slot) (n : ℕ) (acc ops : List Operand) (go : List Operand → List Operand → Move) → TakeAll p ks L ss
-      → on_operands (length ks + n) acc (pushed_slots p ss ops) go ≡ on_operands n (map slot_operand ss ++ acc) ops go
-  taken [] [] n acc ops go t = let e : 0 + n ≡ n = omega arith in ap (λ n. on_operands n acc ops go) e
-  taken [] (s ∷ ss) n acc ops go t = absurd t
-  taken (k ∷ ks) [] n acc ops go t = absurd t
-  taken (k ∷ ks) (s ∷ ss) n acc ops go t =
-      let e : suc (length ks) + n ≡ length ks + suc n = omega arith in
-      ap (λ n. on_operands n acc (pushed_slots p ss (operand_of p s ops)) go) e ∙ taken ks ss (suc n) acc (operand_of p s ops) go t.1
-      ∙ ap (λ l. on_operands (suc n) (map slot_operand ss ++ acc) l go) (one_operand k s ops t.0)
-
-  -- a call takes what was pushed for its parameters
-  pub all_taken : (ks : List OperandKind) (ss : List Slot) (ops : List Operand) (go : List Operand → List Operand → Move) → TakeAll p ks L ss
-      → on_operands (length ks) [] (pushed_slots p ss ops) go ≡ go (map slot_operand ss) ops
-  all_taken ks ss ops go t =
-      let e : length ks ≡ length ks + 0 = omega arith in
-      ap (λ n. on_operands n [] (pushed_slots p ss ops) go) e ∙ taken ks ss 0 [] ops go t ∙ ap (λ l. go l ops) (append-[] (map slot_operand ss))
-
   one_kept : (k : OperandKind) (s : Slot) (at : ℕ) → length L ≤ at → Takes p k L s → Kept L at (use_of k) s (held_of_operand (slot_operand s))
   one_kept (operand.Value k) s at le t = (t.0, t.1, t.2, ap (λ s. held_of_operand (slot_operand s)) t.1)
   one_kept (operand.Place k) s at le t =

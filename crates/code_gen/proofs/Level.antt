@@ -24,8 +24,8 @@ use Rattle.code_form.specs.Program as tables
 use Rattle.code_form.specs.Program.{Program, line_of, in_body, owner, cells_in, cells_at, frame_cells}
 use Rattle.code_form.specs.Valid.{IsRefinement}
 use Rattle.code_form.specs.Machine.{Frame, Position, free, To, Stops, Unsaid, Goes, Unknown, Spends, at, base_of, bytes_on, bytes_of, entering, enters}
-use Rattle.code_form.specs.Machine.{calls_to, call_move}
-use Rattle.code_form.specs.Machine.{refer_move, frame_contents, link_contents, content_blocks, back_into, out_to, after_stage, stage, written_from, step}
+use Rattle.code_form.specs.Machine.{calls_to, call_move, refer_move, frame_contents, link_contents, content_blocks, back_into, out_to, rest_at, after_stage}
+use Rattle.code_form.specs.Machine.{stage, written_from, step}
 use Rattle.elan_types.specs.declared.core_phrase.Exit.{Exit}
 use Rattle.elan_types.specs.declared.core_phrase.Exit.TheVariants as exits
 use Rattle.elan_types.specs.declared.core_phrase.Scope.{Scope}
@@ -40,12 +40,13 @@ use Rattle.elan_types.specs.Command.{Ending}
 use Rattle.place_gen.specs.Correct.{scene_of}
 use Rattle.place_gen.specs.Layouts.{layout_of}
 use Rattle.place_gen.proofs.Homes.{Delivers, LeftBy}
-use Rattle.place_gen.proofs.Cells.{OfValue, Uses, AreCounts, Keeps, AllKept, image, get_left, get_right, cuts, extends, free_beyond}
+use Rattle.place_gen.proofs.Cells.{OfValue, Uses, AreCounts, Keeps, AllKept, get_left, get_right, cuts, extends, free_beyond}
 use Rattle.place_gen.proofs.Blocks.{same_blocks, more_blocks}
-use Rattle.place_gen.proofs.Carry.{use_of, finish, Result, result_ops, way_out, reach, After, after_goes, Ends, Exits, wider, CallsCarry, Stands, Within}
-use Rattle.place_gen.proofs.Carry.{TakeAll, pushed_slots, here, out_carries, spend_carries}
+use Rattle.place_gen.proofs.Carry.{use_of, finish, Result, result_ops, way_out, reach, After, resting, going, Ends, Exits, wider, CallsCarry, Stands}
+use Rattle.place_gen.proofs.Carry.{Within, TakeAll, pushed_slots, here, out_carries, spend_carries}
+use Rattle.place_gen.proofs.Slots.{slot_operand, all_taken}
 use Rattle.code_gen.proofs.Framed.{framed}
-use Rattle.code_gen.proofs.Entered.{slot_operand, frame_uses, link_uses, all_taken, frame_kept, kept_lengths}
+use Rattle.code_gen.proofs.Entered.{frame_uses, link_uses, frame_kept, kept_lengths}
 
 -- what comes of a call, and of a reference, as what comes of the body
 finish_called : (n : ℕ) (o : Outcome (Option Value)) (k : Option Value → World → Ending) (l : Exit → Option Value → World → Ending)
@@ -79,23 +80,23 @@ module _ (p : Program) where
 
   -- a stop where a body is entered changes nothing
   full_ends : (L : Uses) (c : Position) (s : Stop) (w : World) (cells : Cells) (k : Option Value → World → Ending) (l : Exit → Option Value → World → Ending)
-      → Keeps L w.store cells → After p (after_stage (Stops s) c (scene_of w cells)) (finish (Stopped s w) k l)
+      → Keeps L w.store cells → After p (after_stage (Stops s) (free c) (scene_of w cells)) (finish (Stopped s w) k l)
   full_ends L c s w cells k l h = record {
     steps = 0;
-    rest = record { how = halts.Stopped s; control = free c; scene = scene_of w cells };
+    rest = rest_at (halts.Stopped s) (free c) (scene_of w cells);
     comes = refl;
-    shows = record { how = refl; marks = refl; replies = refl; cells = image L w.store cells h };
+    shows = resting p (halts.Stopped s) (free c) w cells h;
   }
 
   -- the texts of a frame have room, and the machine goes into the body; or it stops
   texts_ends : (L U : Uses) (more : List Slot) (c inner : Position) (go : World → Outcome (Option Value)) (k : Option Value → World → Ending)
       (l : Exit → Option Value → World → Ending) (w : World) (cells now : Cells) → Keeps L w.store cells → Keeps U (w.store ++ more) now → (t : Bool)
       → Ends p U inner (record w { store = w.store ++ more }) (finish (go (record w { store = w.store ++ more })) k l)
-      → After p (after_stage (cond t (To inner now) (Stops TextRoom)) c (scene_of w cells))
+      → After p (after_stage (cond t (To inner now) (Stops TextRoom)) (free c) (scene_of w cells))
       (finish (branch t (λ w. go (record w { store = w.store ++ more })) (Stopped TextRoom) w) k l)
   texts_ends L U more c inner go k l w cells now h later false e = full_ends L c TextRoom w cells k l h
   texts_ends L U more c inner go k l w cells now h later true e =
-      let x = e now later in record { steps = x.steps; rest = x.rest; comes = x.comes; shows = x.shows }
+      going p (free inner) (scene_of (record w { store = w.store ++ more }) now) _ (e now later)
 
   -- cells are taken for a frame where there is room, and then its texts
   room_ends : (L M : Uses) (more : List Slot) (ns : List Cell) (c inner : Position) (go : World → Outcome (Option Value)) (k : Option Value → World → Ending)
@@ -103,7 +104,7 @@ module _ (p : Program) where
       → (t : Bool) → (t ≡ true
       → (length (L ++ M) ≤ CELLS) × Ends p (L ++ M) inner (record w { store = w.store ++ more }) (finish (go (record w { store = w.store ++ more })) k l))
       → After p (after_stage (cond t (cond (texts_fit (content_blocks ns) (blocks_in (written_from c.used ns cells)))
-      (To inner (written_from c.used ns cells)) (Stops TextRoom)) (Stops CellRoom)) c (scene_of w cells))
+      (To inner (written_from c.used ns cells)) (Stops TextRoom)) (Stops CellRoom)) (free c) (scene_of w cells))
       (finish (branch t (branch (texts_fit (store_blocks more) (store_blocks (w.store ++ more)))
       (λ w. go (record w { store = w.store ++ more })) (Stopped TextRoom)) (Stopped CellRoom) w) k l)
   room_ends L M more ns c inner go k l w cells used kept h false e = full_ends L c CellRoom w cells k l h
@@ -116,7 +117,7 @@ module _ (p : Program) where
       let same : texts_fit (content_blocks ns) (blocks_in now) ≡ test =
       sym (ap (λ n. texts_fit n (store_blocks (w.store ++ more))) (more_blocks L (length L) M more ns kept)
       ∙ ap (texts_fit (content_blocks ns)) (same_blocks (L ++ M) (w.store ++ more) now x.0 later)) in
-      subst (λ t. After p (after_stage (cond t (To inner now) (Stops TextRoom)) c (scene_of w cells))
+      subst (λ t. After p (after_stage (cond t (To inner now) (Stops TextRoom)) (free c) (scene_of w cells))
       (finish (branch test (λ w. go (record w { store = w.store ++ more })) (Stopped TextRoom) w) k l)) (sym same)
       (texts_ends L (L ++ M) more c inner go k l w cells now h later test x.1)
 
@@ -137,16 +138,16 @@ module _ (p : Program) where
       → (length (L ++ M) ≤ CELLS
       → Ends p (L ++ M) (entered c first base refines body ops ns) (record w { store = w.store ++ more })
       (finish (go (record w { store = w.store ++ more })) k l))
-      → After p (after_stage (enters c first base refines body ops ns cells) c (scene_of w cells)) (finish (with_room more go w) k l)
+      → After p (after_stage (enters c first base refines body ops ns cells) (free c) (scene_of w cells)) (finish (with_room more go w) k l)
   enter_ends L M more ns c first base refines body ops go k l w cells used kept h e =
       let lengths = kept_lengths L M (length L) more ns kept in
       let same : c.used + length ns ≡ length w.store + length more = omega (arith, used, h.as_many, lengths.0, lengths.1) in
       let all : length (L ++ M) ≡ c.used + length ns = omega (arith, used, lengths.1, length-append L M) in
       let free' = free_beyond ns c.used cells (λ x le. h.beyond x (omega (arith, le, used))) in
       let inner = entered c first base refines body ops ns in
-      subst (λ t. After p (after_stage (cond t (entering c first base refines body ops ns cells) Unsaid) c (scene_of w cells))
+      subst (λ t. After p (after_stage (cond t (entering c first base refines body ops ns cells) Unsaid) (free c) (scene_of w cells))
       (finish (with_room more go w) k l)) (sym free')
-      (subst (λ n. After p (after_stage (entering c first base refines body ops ns cells) c (scene_of w cells))
+      (subst (λ n. After p (after_stage (entering c first base refines body ops ns cells) (free c) (scene_of w cells))
       (finish (branch (cells_fit n) (branch (texts_fit (store_blocks more) (store_blocks (w.store ++ more)))
       (λ w. go (record w { store = w.store ++ more })) (Stopped TextRoom)) (Stopped CellRoom) w) k l)) same
       (room_ends L M more ns c inner go k l w cells used kept h (cells_fit (c.used + length ns))
@@ -167,7 +168,8 @@ module _ (p : Program) where
       let held = subst (λ U. Keeps U w.store cells) (append_assoc L M more) keeps in
       let known = framed L ks more w.store cells (slice_get p.bodies f.body) f.used c.used held counts kinds' f_is all in
       subst (λ t. After p (stage (cond t (Goes next now) Unknown) c (scene_of w cells)) (k v (cut n w))) (sym known)
-      (after_goes p c next (scene_of w cells) now (k v (cut n w)) (e now (cuts (λ _. Free) L (M ++ more) w.store cells n f.used c.used is f_is all (λ x u s n past is kept. refl) held)))
+      (going p (free next) (scene_of (cut n w) now) (k v (cut n w))
+      (e now (cuts (λ _. Free) L (M ++ more) w.store cells n f.used c.used is f_is all (λ x u s n past is kept. refl) held)))
 
 -- an entry of the tables is that of a body, whose code does what the body does
 pub record IsMade (p : Program) (bodies : List Body) (q : ℕ) (e : Entry) : Type 0 where
@@ -287,7 +289,7 @@ module _ (bodies : List Body) (p : Program) where
         → ((v : Option Value) (w : World) → Result e.delivers v → w.marks ≤ b → Ends p L (at c (pc + 1) (result_ops v ++ ops)) w (k v w)) → (w : World)
         → w.marks ≤ b → (cells : Cells) → Keeps L w.store cells
         → After p (after_stage (enters (at c pc (pushed_slots p args ops)) e.first (c.used + 2) false q ops
-        (frame_contents (map slot_operand args) (map kind_in us)) cells) (at c pc (pushed_slots p args ops)) (scene_of w cells))
+        (frame_contents (map slot_operand args) (map kind_in us)) cells) (free (at c pc (pushed_slots p args ops))) (scene_of w cells))
         (finish (with_room (frame args us)
         (λ w'. called (length w.store)
         (content con (record { calls = level bodies n; turns = n; base = length w.store + 2; held = bytes_on ops (bytes_of c.frames) }) w')) w) k l)
@@ -320,7 +322,7 @@ module _ (bodies : List Body) (p : Program) where
         → (k : Option Value → World → Ending) (l : Exit → Option Value → World → Ending)
         → ((v : Option Value) (w : World) → Result e.delivers v → w.marks ≤ b → Ends p L (at c (pc + 1) (result_ops v ++ ops)) w (k v w))
         → Exits p L b m.body c.frames l → (w : World) → w.marks ≤ b → (cells : Cells) → Keeps L w.store cells
-        → After p (after_stage (enters (at c pc ops) e.first (base_of c.frames) true q ops link_contents cells) (at c pc ops) (scene_of w cells))
+        → After p (after_stage (enters (at c pc ops) e.first (base_of c.frames) true q ops link_contents cells) (free (at c pc ops)) (scene_of w cells))
         (finish (with_room link (λ w'.
         referred (length w.store)
         (content con (record { calls = level bodies n; turns = n; base = base_of c.frames; held = bytes_on ops (bytes_of c.frames) }) w')) w) k l)
@@ -351,7 +353,8 @@ module _ (bodies : List Body) (p : Program) where
     call_step pc q L ks m c ops e parameters vs args has is own takes cells =
         let now = at c pc (pushed_slots p args ops) in
         here p pc (Call q) ks m has c (pushed_slots p args ops) cells ∙ ap (λ o. call_move now q o cells) is ∙ ap (λ x. calls_to now q e.first x cells) own
-        ∙ all_taken p L parameters args ops (λ args ops. Spends (enters now e.first (c.used + 2) false q ops (frame_contents args vs) cells)) takes
+        ∙ all_taken p L parameters (length parameters) args ops
+        (λ args ops. Spends (enters now e.first (c.used + 2) false q ops (frame_contents args vs) cells)) refl takes
 
     refer_step : (pc q : ℕ) (ks : List OperandKind) (m : Spot) (c : Position) (ops : List Operand) (e : Entry)
         → slice_get p.lines pc ≡ Some (line_of (Refer q) ks m) → slice_get p.bodies q ≡ Some e → (cells : Cells)
@@ -382,7 +385,7 @@ module _ (bodies : List Body) (p : Program) where
           (call_step pc q L ks m c ops e parameters (map kind_in us) args has is own' takes) (λ b' lt. record {
             by = λ k l hk hl w lw cells keeps.
                 subst (λ o. After p (after_stage (enters now e.first (c.used + 2) false q ops (frame_contents (map slot_operand args) (map kind_in us)) cells)
-                now
+                (free now)
                 (scene_of w cells)) (finish (run_called (level bodies n) n o args held w) k l)) (sym x.is)
                 (call_ends n b' pc q L m c ops e parameters us args x.body.content (level_carries n) (omega (arith, le, lt)) h is own' takes x.carry k l hk w lw
                 cells keeps);
@@ -395,7 +398,7 @@ module _ (bodies : List Body) (p : Program) where
           (run_referred (level bodies n) n (slice_get bodies q) (base_of c.frames) held) (λ v. at c (pc + 1) (result_ops v ++ ops))
           (refer_step pc q ks m c ops e has is) (λ b' lt. record {
             by = λ k l hk hl w lw cells keeps.
-                subst (λ o. After p (after_stage (enters now e.first (base_of c.frames) true q ops link_contents cells) now (scene_of w cells))
+                subst (λ o. After p (after_stage (enters now e.first (base_of c.frames) true q ops link_contents cells) (free now) (scene_of w cells))
                 (finish (run_referred (level bodies n) n o (base_of c.frames) held w) k l)) (sym x.is)
                 (refer_ends n b' pc q L m c ops e x.body.content (level_carries n) (omega (arith, le, lt)) h is refined owned x.carry k l hk hl w lw cells
                 keeps);

@@ -1,6 +1,7 @@
 -- What calls, references to refinements and LEAVE do, whatever the actuals are and whatever calls do.
 use Rattle.std.proofs.Common.{◌≡◌, ℕ, ◌+◌, ◌≤◌, List, [], ◌∷◌, ◌++◌, length, drop, Option, Some, None, refl, sym, ap, ◌∙◌, subst, arith}
 use Rattle.std.specs.Prelude.{slice_get}
+use Rattle.std.proofs.lemmas.List.{append-nil}
 use Rattle.eu_base.specs.declared.value.Kind.{Kind}
 use Rattle.eu_base.specs.declared.value.Value.{Value}
 use Rattle.eu_base.specs.Cells.{Cells}
@@ -28,10 +29,6 @@ use Rattle.place_gen.proofs.Carry.{Any, OfKind, Result, result_ops, way_out, rea
 use Rattle.place_gen.proofs.Carry.{then_carries, none_carries, here, ends_at, join_carries}
 use Rattle.place_gen.proofs.Forms.{keep, keep_place, Is, IsValue, IsPlace, IsAction}
 
-append-[] : {A : Type 0} (l : List A) → l ++ [] ≡ l
-append-[] [] = refl
-append-[] (x ∷ l) = ap (λ l. x ∷ l) (append-[] l)
-
 -- the instruction that leaves a body
 module _ (p : Program) where
   leave_move : (e : Exit) (k : Option Kind) (c : Position) (cells : Cells)
@@ -55,7 +52,7 @@ module _ (p : Program) where
       on_move p now (scene_of w cells) (way_out p e (result_ops v) c.used c.frames cells) (l e v w)
       (here p pc (leave_instr e k) ks m has c (result_ops v ++ ops) cells ∙ leave_move e k now cells
       ∙ result_taken k v ops (λ result. way_out p e result c.used c.frames cells) r)
-      (hl.by e k d [] tt v w r le now (omega (arith, used)) cells (subst (λ U. Keeps U w.store cells) (sym (append-[] L)) keeps))
+      (hl.by e k d [] tt v w r le now (omega (arith, used)) cells (subst (λ U. Keeps U w.store cells) (sym (append-nil L)) keeps))
 
 module _ (p : Program) (body : Option ℕ) where
   -- what a parameter is given, and what parameters are given

@@ -9,6 +9,7 @@ use Rattle.eu_base.specs.declared.stop.Stop.{Stop}
 use Rattle.eu_base.specs.declared.stop.Stop.TheVariants.{OperandRoom, TextRoom}
 use Rattle.eu_base.specs.declared.request.Request.{Request}
 use Rattle.eu_base.specs.declared.request.Reply.{Reply}
+use Rattle.eu_base.specs.declared.request.Reply.TheVariants as replies
 use Rattle.eu_base.specs.Values.{IsOf}
 use Rattle.eu_base.specs.Operations.{Given}
 use Rattle.eu_base.specs.Room.{value_blocks, texts_fit}
@@ -17,6 +18,7 @@ use Rattle.code_form.specs.declared.operand.Operand.{Operand}
 use Rattle.code_form.specs.declared.operand.Operand.TheVariants.{Value as Of, Place as At}
 use Rattle.code_form.specs.declared.operand.OperandKind.{OperandKind}
 use Rattle.code_form.specs.declared.operand.OperandKind.TheVariants as operand
+use Rattle.code_form.specs.declared.halt.Halt.{Halt}
 use Rattle.code_form.specs.declared.halt.Halt.TheVariants as halts
 use Rattle.code_form.specs.declared.instr.Instr.{Instr}
 use Rattle.code_form.specs.declared.instr.Instr.TheVariants.{Call, Refer}
@@ -24,19 +26,19 @@ use Rattle.code_form.specs.declared.code.Spot.{Spot}
 use Rattle.code_form.specs.declared.code.Entry.{Entry}
 use Rattle.code_form.specs.declared.code.Layout.TheVariants as layouts
 use Rattle.code_form.specs.Program.{Program, line_of, instr_of, owner, frame_cells}
-use Rattle.code_form.specs.Machine.{Frame, Position, free, asking, refused, After as AfterMark, To, Asks as AsksFor, Move, Goes, Spends, Halts, Refuses}
-use Rattle.code_form.specs.Machine.{Ends as EndsHere, Unknown, takes, at}
-use Rattle.code_form.specs.Machine.{bytes_on, bytes_of, base_of, back_to, out_to, instruction, step, Scene, Rest, Stage, after_stage, mark_stage, reply_stage}
-use Rattle.code_form.specs.Machine.{stage, carry_on, exec}
+use Rattle.code_form.specs.Machine.{Frame, Position, Control, free, asking, given, refused, answered, After as AfterMark, To, Asks as AsksFor, Move}
+use Rattle.code_form.specs.Machine.{Goes, Spends, Halts, Refuses, Ends as EndsHere, Unknown, takes, at, bytes_on, bytes_of, base_of, back_to, out_to}
+use Rattle.code_form.specs.Machine.{instruction, step, takes_reply, Scene, Rest, rest_at, Stage, On, after_stage, mark_stage, reply_stage, move_stage}
+use Rattle.code_form.specs.Machine.{stage, advance, carry_on, exec}
 use Rattle.code_form.specs.Valid.{IsRefinement}
 use Rattle.elan_types.specs.declared.core_phrase.Exit.{Exit}
 use Rattle.elan_types.specs.declared.core_phrase.Exit.TheVariants as exits
-use Rattle.elan_types.specs.Eval.{Place, Slot, Holds, Refers, Taken, World, Outcome, Gives, Left, Stopped, OutOfMarks, Asks, bind, spend_at, spend, ask_at, ask}
-use Rattle.elan_types.specs.Eval.{branch, or_stop, assign, save, store_blocks, turns, Calls, Reach}
+use Rattle.elan_types.specs.Eval.{Place, Slot, Holds, Refers, Taken, World, Outcome, Gives, Left, Stopped, OutOfMarks, Asks, bind, spend_at, spend}
+use Rattle.elan_types.specs.Eval.{heed, ask_at, ask, branch, or_stop, assign, save, store_blocks, turns, Calls, Reach}
 use Rattle.elan_types.specs.Command as endings
 use Rattle.elan_types.specs.Command.{Ending}
 use Rattle.place_gen.specs.Stretch.{Stretch, join}
-use Rattle.place_gen.specs.Correct.{Shows, Comes, scene_of}
+use Rattle.place_gen.specs.Correct.{RestsAs, Shows, Comes, scene_of}
 use Rattle.place_gen.proofs.Lines.{HasAt, has_front, has_rest}
 use Rattle.place_gen.proofs.Homes.{LeftBy}
 use Rattle.place_gen.proofs.Cells.{Use, OfValue, OfPlace, Uses, AreCounts, counts_append, Keeps, image, writes, takes_value}
@@ -98,6 +100,10 @@ module _ (p : Program) where
   abbrev pub Ends : Uses → Position → World → Ending → Type 0
   Ends L c w e = (cells : Cells) → Keeps L w.store cells → Comes p (free c) (scene_of w cells) e
 
+  -- a rest where the cells keep the store
+  pub resting : {L : Uses} (h : Halt) (d : Control) (w : World) (cells : Cells) → Keeps L w.store cells → RestsAs h w (rest_at h d (scene_of w cells))
+  resting {L} h d w cells keeps = record { how = refl; marks = refl; replies = refl; cells = image L w.store cells keeps }
+
   -- what a step leads to comes to rest so
   pub record After (st : Stage) (e : Ending) : Type 0 where
     pub steps : ℕ
@@ -105,17 +111,34 @@ module _ (p : Program) where
     pub comes : carry_on st (exec p steps) ≡ Some rest
     pub shows : Shows e rest
 
-  -- a step, and what it leads to
-  pub on_move : (c : Position) (s : Scene) (m : Move) (e : Ending) → step p c s.cells ≡ m → After (stage m c s) e → Comes p (free c) s e
-  on_move c s m e h a = record { steps = suc a.steps; rest = a.rest; comes = ap (λ m. carry_on (stage m c s) (exec p a.steps)) h ∙ a.comes; shows = a.shows }
+  -- the next state does
+  pub going : (d : Control) (s : Scene) (e : Ending) → Comes p d s e → After (On d s) e
+  going d s e a = record { steps = a.steps; rest = a.rest; comes = a.comes; shows = a.shows }
 
-  pub after_goes : (c c' : Position) (s : Scene) (cells : Cells) (e : Ending) → Comes p (free c') (record s { cells = cells }) e
-      → After (stage (Goes c' cells) c s) e
-  after_goes c c' s cells e a = record { steps = a.steps; rest = a.rest; comes = a.comes; shows = a.shows }
+  -- a step from here is this, where nothing is waited for and where a reply was given
+  abbrev pub Does : Control → Scene → Move → Type 0
+  Does d s m = advance p d s ≡ move_stage m d s
+
+  pub does : (c : Position) (s : Scene) (m : Move) → step p c s.cells ≡ m → Does (free c) s m
+  does c s m h = ap (λ m. stage m c s) h
+
+  pub does_given : (c : Position) (r : Reply) (s : Scene) (m : Move) → takes_reply (instr_of (slice_get p.lines c.pc)) r c s.cells ≡ m → Does (given c r) s m
+  does_given c r s m h = ap (λ m. move_stage m (given c r) s) h
+
+  -- a step, and what it leads to
+  on_does : (d : Control) (s : Scene) (m : Move) (e : Ending) → Does d s m → After (move_stage m d s) e → Comes p d s e
+  on_does d s m e h a = record { steps = suc a.steps; rest = a.rest; comes = ap (λ st. carry_on st (exec p a.steps)) h ∙ a.comes; shows = a.shows }
+
+  pub on_move : (c : Position) (s : Scene) (m : Move) (e : Ending) → step p c s.cells ≡ m → After (stage m c s) e → Comes p (free c) s e
+  on_move c s m e h a = on_does (free c) s m e (does c s m h) a
+
+  pub does_go : (d : Control) (c' : Position) (s : Scene) (cells : Cells) (e : Ending) → Does d s (Goes c' cells)
+      → Comes p (free c') (record s { cells = cells }) e → Comes p d s e
+  does_go d c' s cells e h a = on_does d s (Goes c' cells) e h (going (free c') (record s { cells = cells }) e a)
 
   pub on_step : (c c' : Position) (s : Scene) (cells : Cells) (e : Ending) → step p c s.cells ≡ Goes c' cells → Comes p (free c') (record s { cells = cells }) e
       → Comes p (free c) s e
-  on_step c c' s cells e h a = on_move c s (Goes c' cells) e h (after_goes c c' s cells e a)
+  on_step c c' s cells e h a = does_go (free c) c' s cells e (does c s (Goes c' cells) h) a
 
   -- the machine goes from one place to another and changes nothing else
   abbrev pub Leads : Position → Position → Type 0
@@ -124,41 +147,41 @@ module _ (p : Program) where
   pub lead_ends : (L : Uses) (c c' : Position) (w : World) (e : Ending) → Leads c c' → Ends L c' w e → Ends L c w e
   lead_ends L c c' w e l a = λ cells h. on_step c c' (scene_of w cells) cells e (l cells) (a cells h)
 
-  pub stop_comes : (L : Uses) (c : Position) (w : World) (s : Stop) (cells : Cells) → Keeps L w.store cells → step p c cells ≡ Halts s
-      → Comes p (free c) (scene_of w cells) (endings.Stopped s w)
-  stop_comes L c w s cells keeps h = on_move c (scene_of w cells) (Halts s) (endings.Stopped s w) h (record {
+  pub stop_comes : (L : Uses) (d : Control) (w : World) (s : Stop) (cells : Cells) → Keeps L w.store cells → Does d (scene_of w cells) (Halts s)
+      → Comes p d (scene_of w cells) (endings.Stopped s w)
+  stop_comes L d w s cells keeps h = on_does d (scene_of w cells) (Halts s) (endings.Stopped s w) h (record {
     steps = 0;
-    rest = record { how = halts.Stopped s; control = free c; scene = scene_of w cells };
+    rest = rest_at (halts.Stopped s) d (scene_of w cells);
     comes = refl;
-    shows = record { how = refl; marks = refl; replies = refl; cells = image L w.store cells keeps };
+    shows = resting (halts.Stopped s) d w cells keeps;
   })
 
   pub stop_ends : (L : Uses) (c : Position) (w : World) (s : Stop) → ((cells : Cells) → step p c cells ≡ Halts s) → Ends L c w (endings.Stopped s w)
-  stop_ends L c w s h = λ cells keeps. stop_comes L c w s cells keeps (h cells)
+  stop_ends L c w s h = λ cells keeps. stop_comes L (free c) w s cells keeps (does c (scene_of w cells) (Halts s) (h cells))
 
   -- what is refused stops in the next step
   pub refuse_ends : (L : Uses) (c c' : Position) (w : World) (s : Stop) → ((cells : Cells) → step p c cells ≡ Refuses s c')
       → Ends L c w (endings.Stopped s w)
   refuse_ends L c c' w s h = λ cells keeps. on_move c (scene_of w cells) (Refuses s c') (endings.Stopped s w) (h cells) (record {
     steps = 1;
-    rest = record { how = halts.Stopped s; control = refused c' s; scene = scene_of w cells };
+    rest = rest_at (halts.Stopped s) (refused c' s) (scene_of w cells);
     comes = refl;
-    shows = record { how = refl; marks = refl; replies = refl; cells = image L w.store cells keeps };
+    shows = resting (halts.Stopped s) (refused c' s) w cells keeps;
   })
 
   pub end_ends : (L : Uses) (c : Position) (w : World) → ((cells : Cells) → step p c cells ≡ EndsHere) → Ends L c w (endings.Ended w)
   end_ends L c w h = λ cells keeps. on_move c (scene_of w cells) EndsHere (endings.Ended w) (h cells) (record {
     steps = 0;
-    rest = record { how = halts.Ended; control = free c; scene = scene_of w cells };
+    rest = rest_at halts.Ended (free c) (scene_of w cells);
     comes = refl;
-    shows = record { how = refl; marks = refl; replies = refl; cells = image L w.store cells keeps };
+    shows = resting halts.Ended (free c) w cells keeps;
   })
 
   read_ends : {L : Uses} {A : Type 0} (c : Position) (a : A) (t : Bool) (to : A → Position) (k : A → World → Ending) (l : Exit → Option Value → World → Ending)
       (w : World) (cells : Cells) → Keeps L w.store cells → Ends L (to a) w (k a w) → step p c cells ≡ cond t (Goes (to a) cells) (Halts OperandRoom)
       → Comes p (free c) (scene_of w cells) (finish (branch t (Gives a) (Stopped OperandRoom) w) k l)
   read_ends c a true to k l w cells h next e = on_step c (to a) (scene_of w cells) cells _ e (next cells h)
-  read_ends {L} c a false to k l w cells h next e = stop_comes L c w OperandRoom cells h e
+  read_ends {L} c a false to k l w cells h next e = stop_comes L (free c) w OperandRoom cells h (does c (scene_of w cells) (Halts OperandRoom) e)
 
   -- an instruction that writes to the cell of a variable
   pub write_ends : {L : Uses} (c c' : Position) (w : World) (x : Place) (k : Kind) (v : Value) (e : Ending) (cells : Cells) → AtKind k L x → IsOf k v
@@ -167,29 +190,30 @@ module _ (p : Program) where
   write_ends {L} c c' w x k v e cells is ok h m a =
       on_step c c' (scene_of w cells) (written cells (run_cell x.variable) (held_of v)) e m (a _ (writes L w.store cells x.variable k v h is ok))
 
-  put_by : {L : Uses} {A : Type 0} (c c' : Position) (w : World) (x : Place) (v : Value) (go : World → Outcome A) (k : A → World → Ending)
+  put_by : {L : Uses} {A : Type 0} (d : Control) (c' : Position) (w : World) (x : Place) (v : Value) (go : World → Outcome A) (k : A → World → Ending)
       (l : Exit → Option Value → World → Ending) (cells now : Cells) (t : Bool) → Keeps L w.store cells → Keeps L (assign x v w).store now
-      → step p c cells ≡ cond t (Goes c' now) (Halts TextRoom) → Ends L c' (assign x v w) (finish (go (assign x v w)) k l)
-      → Comes p (free c) (scene_of w cells) (finish (branch t (λ w. go (assign x v w)) (Stopped TextRoom) w) k l)
-  put_by c c' w x v go k l cells now true h later m next = on_step c c' (scene_of w cells) now _ m (next now later)
-  put_by {L} c c' w x v go k l cells now false h later m next = stop_comes L c w TextRoom cells h m
+      → Does d (scene_of w cells) (cond t (Goes c' now) (Halts TextRoom)) → Ends L c' (assign x v w) (finish (go (assign x v w)) k l)
+      → Comes p d (scene_of w cells) (finish (branch t (λ w. go (assign x v w)) (Stopped TextRoom) w) k l)
+  put_by d c' w x v go k l cells now true h later m next = does_go d c' (scene_of w cells) now _ m (next now later)
+  put_by {L} d c' w x v go k l cells now false h later m next = stop_comes L d w TextRoom cells h m
 
-  -- an instruction that stores a value in a variable, where its text has room: both sides count the same blocks
-  pub put_ends : {L : Uses} {A : Type 0} (c c' : Position) (w : World) (x : Place) (kind : Kind) (v : Value) (go : World → Outcome A)
+  -- what stores a value in a variable, where its text has room: both sides count the same blocks
+  pub put_ends : {L : Uses} {A : Type 0} (d : Control) (c' : Position) (w : World) (x : Place) (kind : Kind) (v : Value) (go : World → Outcome A)
       (k : A → World → Ending) (l : Exit → Option Value → World → Ending) (cells : Cells) → length L ≤ CELLS → AtKind kind L x → IsOf kind v
       → Keeps L w.store cells
-      → step p c cells ≡ cond (takes (held_of v) (cells (run_cell x.variable)))
+      → Does d (scene_of w cells) (cond (takes (held_of v) (cells (run_cell x.variable)))
       (cond (texts_fit (cell_blocks (held_of v)) (blocks_in (written cells (run_cell x.variable) (held_of v))))
-      (Goes c' (written cells (run_cell x.variable) (held_of v))) (Halts TextRoom)) Unknown
-      → Ends L c' (assign x v w) (finish (go (assign x v w)) k l) → Comes p (free c) (scene_of w cells) (finish (save x v go w) k l)
-  put_ends {L} c c' w x kind v go k l cells room is ok h m next =
+      (Goes c' (written cells (run_cell x.variable) (held_of v))) (Halts TextRoom)) Unknown)
+      → Ends L c' (assign x v w) (finish (go (assign x v w)) k l) → Comes p d (scene_of w cells) (finish (save x v go w) k l)
+  put_ends {L} d c' w x kind v go k l cells room is ok h m next =
       let now = written cells (run_cell x.variable) (held_of v) in
       let later = writes L w.store cells x.variable kind v h is ok in
       let move = λ (own all : ℕ). cond (texts_fit own all) (Goes c' now) (Halts TextRoom) in
-      put_by c c' w x v go k l cells now (texts_fit (value_blocks v) (store_blocks (assign x v w).store)) h later
-      (m ∙ ap (λ t. cond t (move (cell_blocks (held_of v)) (blocks_in now)) Unknown) (takes_value L w.store cells x.variable kind v h is ok)
+      put_by d c' w x v go k l cells now (texts_fit (value_blocks v) (store_blocks (assign x v w).store)) h later
+      (m ∙ ap (λ m. move_stage m d (scene_of w cells))
+      (ap (λ t. cond t (move (cell_blocks (held_of v)) (blocks_in now)) Unknown) (takes_value L w.store cells x.variable kind v h is ok)
       ∙ ap (λ n. move n (blocks_in now)) (held_blocks v)
-      ∙ ap (move (value_blocks v)) (sym (same_blocks L (assign x v w).store now room later))) next
+      ∙ ap (move (value_blocks v)) (sym (same_blocks L (assign x v w).store now room later)))) next
 
   -- where a body is left, the machine goes to the frame below, and on as the exit says, whatever cells were taken meanwhile to count
   pub record Exits (L : Uses) (b : ℕ) (body : Option ℕ) (fs : List Frame) (l : Exit → Option Value → World → Ending) : Type 0 where
@@ -217,22 +241,56 @@ module _ (p : Program) where
     pub by : (k : A → World → Ending) (l : Exit → Option Value → World → Ending) → ((a : A) (w : World) → Good L a → w.marks ≤ b → Ends L (to a) w (k a w))
         → Exits L b body fs l → (w : World) → w.marks ≤ b → Ends L c w (finish (run w) k l)
 
+  -- the same from where a reply was given; a body is not left there
+  pub record Answers {A : Type 0} (L : Uses) (Good : Uses → A → Type 0) (b : ℕ) (c : Position) (r : Reply) (run : World → Outcome A) (to : A → Position)
+      : Type 0 where
+    pub by : (k : A → World → Ending) (l : Exit → Option Value → World → Ending) → ((a : A) (w : World) → Good L a → w.marks ≤ b → Ends L (to a) w (k a w))
+        → (w : World) → w.marks ≤ b → (cells : Cells) → Keeps L w.store cells → Comes p (given c r) (scene_of w cells) (finish (run w) k l)
+
   -- a mark, and what follows it: it goes on so, or stops
   pub record Goes' {A : Type 0} (L : Uses) (body : Option ℕ) (fs : List Frame) (Good : Uses → A → Type 0) (b : ℕ) (c : Position) (a : Cells → AfterMark)
       (run : World → Outcome A) (to : A → Position) : Type 0 where
     pub by : (k : A → World → Ending) (l : Exit → Option Value → World → Ending) → ((a : A) (w : World) → Good L a → w.marks ≤ b → Ends L (to a) w (k a w))
         → Exits L b body fs l → (w : World) → w.marks ≤ b → (cells : Cells) → Keeps L w.store cells
-        → After (after_stage (a cells) c (scene_of w cells)) (finish (run w) k l)
+        → After (after_stage (a cells) (free c) (scene_of w cells)) (finish (run w) k l)
 
   no_turns : {L : Uses} (m : ℕ) (a : AfterMark) (c : Position) (w : World) (cells : Cells) → m ≤ 0 → Keeps L w.store cells
-      → After (mark_stage m a c (scene_of w cells)) (endings.OutOfMarks w)
+      → After (mark_stage m a (free c) (scene_of w cells)) (endings.OutOfMarks w)
   no_turns {L} zero a c w cells le h = record {
     steps = 0;
-    rest = record { how = halts.Marked; control = free c; scene = scene_of w cells };
+    rest = rest_at halts.Marked (free c) (scene_of w cells);
     comes = refl;
-    shows = record { how = refl; marks = refl; replies = refl; cells = image L w.store cells h };
+    shows = resting halts.Marked (free c) w cells h;
   }
   no_turns (suc m) a c w cells le h = absurd (omega arith)
+
+  -- a reply is heeded: it stops, or its instruction goes on with it
+  heeded : {L : Uses} {A : Type 0} {Good : Uses → A → Type 0} (b : ℕ) (r : Reply) (q : Request) (c : Position) (run : Reply → World → Outcome A)
+      (to : A → Position) → ((r : Reply) → Answers L Good b c r (run r) to) → (k : A → World → Ending) (l : Exit → Option Value → World → Ending)
+      → ((a : A) (w : World) → Good L a → w.marks ≤ b → Ends L (to a) w (k a w)) → (w : World) → w.marks ≤ b → (cells : Cells) → Keeps L w.store cells
+      → Comes p (answered q r c) (scene_of w cells) (finish (heed r run w) k l)
+  heeded b replies.Done q c run to h k l hk w le cells keeps = (h replies.Done).by k l hk w le cells keeps
+  heeded b (replies.Text t) q c run to h k l hk w le cells keeps = (h (replies.Text t)).by k l hk w le cells keeps
+  heeded {L} b (replies.Stopped s) q c run to h k l hk w le cells keeps = record {
+    steps = 1;
+    rest = rest_at (halts.Stopped s) (refused c s) (scene_of w cells);
+    comes = refl;
+    shows = resting (halts.Stopped s) (refused c s) w cells keeps;
+  }
+
+  replied : {L : Uses} {A : Type 0} {Good : Uses → A → Type 0} (b : ℕ) (rs : List Reply) (q : Request) (c : Position) (run : Reply → World → Outcome A)
+      (to : A → Position) → ((r : Reply) → Answers L Good b c r (run r) to) → (k : A → World → Ending) (l : Exit → Option Value → World → Ending)
+      → ((a : A) (w : World) → Good L a → w.marks ≤ b → Ends L (to a) w (k a w)) → (w : World) → w.marks ≤ b → (cells : Cells) → Keeps L w.store cells
+      → After (reply_stage rs q c (scene_of w cells)) (finish (ask_at rs q w run) k l)
+  replied {L} b [] q c run to h k l hk w le cells keeps = record {
+    steps = 0;
+    rest = rest_at (halts.Asks q) (asking c q) (scene_of w cells);
+    comes = refl;
+    shows = resting (halts.Asks q) (asking c q) w cells keeps;
+  }
+  replied b (r ∷ rs) q c run to h k l hk w le cells keeps =
+      let next : World = record w { replies = rs } in
+      going (answered q r c) (scene_of next cells) _ (heeded b r q c run to h k l hk next le cells keeps)
 
   module _ {L : Uses} {body : Option ℕ} {fs : List Frame} where
     -- what follows a phrase
@@ -274,21 +332,17 @@ module _ (p : Program) where
 
     pub to_goes : {A : Type 0} {Good : Uses → A → Type 0} (b : ℕ) (c c' : Position) (run : World → Outcome A) (to : A → Position)
         → Carries L body fs Good b c' run to → Goes' L body fs Good b c (λ cells. To c' cells) run to
-    to_goes b c c' run to r =
-        record {
-          by =
-              λ k l hk hl w le cells h. let a = r.by k l hk hl w le cells h in record { steps = a.steps; rest = a.rest; comes = a.comes; shows = a.shows };
-        }
+    to_goes b c c' run to r = record { by = λ k l hk hl w le cells h. going (free c') (scene_of w cells) _ (r.by k l hk hl w le cells h) }
 
     spent : {A : Type 0} {Good : Uses → A → Type 0} (b m : ℕ) (c : Position) (a : Cells → AfterMark) (run : World → Outcome A) (to : A → Position)
         → ((b' : ℕ) → b' < b → Goes' L body fs Good b' c a run to) → (k : A → World → Ending) (l : Exit → Option Value → World → Ending)
         → ((a : A) (w : World) → Good L a → w.marks ≤ b → Ends L (to a) w (k a w)) → Exits L b body fs l → (w : World) → m ≤ b → (cells : Cells)
-        → Keeps L w.store cells → m ≡ w.marks → After (mark_stage m (a cells) c (scene_of w cells)) (finish (spend_at m w run) k l)
+        → Keeps L w.store cells → m ≡ w.marks → After (mark_stage m (a cells) (free c) (scene_of w cells)) (finish (spend_at m w run) k l)
     spent b zero c a run to r k l hk hl w le cells h is = record {
       steps = 0;
-      rest = record { how = halts.Marked; control = free c; scene = scene_of w cells };
+      rest = rest_at halts.Marked (free c) (scene_of w cells);
       comes = refl;
-      shows = record { how = refl; marks = refl; replies = refl; cells = image L w.store cells h };
+      shows = resting halts.Marked (free c) w cells h;
     }
     spent b (suc m) c a run to r k l hk hl w le cells h is =
         (r m (omega arith)).by k l (λ a w good le'. hk a w good (omega (arith, le, le'))) (fewer (omega (arith, le)) hl) (record w { marks = m }) (omega arith)
@@ -307,27 +361,13 @@ module _ (p : Program) where
         → Carries L body fs Good b c (spend run) to
     mark_carries b c c' run to e r = spend_carries b c (λ cells. To c' cells) run to e (λ b' lt. to_goes b' c c' run to (r b' lt))
 
-    replied : {A : Type 0} {Good : Uses → A → Type 0} (b : ℕ) (rs : List Reply) (q : Request) (c : Position) (run : Reply → World → Outcome A)
-        (to : A → Position) → ((r : Reply) → Carries L body fs Good b c (run r) to) → (k : A → World → Ending) (l : Exit → Option Value → World → Ending)
-        → ((a : A) (w : World) → Good L a → w.marks ≤ b → Ends L (to a) w (k a w)) → Exits L b body fs l → (w : World) → w.marks ≤ b → (cells : Cells)
-        → Keeps L w.store cells → After (reply_stage rs q c (scene_of w cells)) (finish (ask_at rs q w run) k l)
-    replied b [] q c run to h k l hk hl w le cells keeps = record {
-      steps = 0;
-      rest = record { how = halts.Asks q; control = asking c q; scene = scene_of w cells };
-      comes = refl;
-      shows = record { how = refl; marks = refl; replies = refl; cells = image L w.store cells keeps };
-    }
-    replied b (r ∷ rs) q c run to h k l hk hl w le cells keeps =
-        let a = (h r).by k l hk hl (record w { replies = rs }) le cells keeps in
-        record { steps = a.steps; rest = a.rest; comes = a.comes; shows = a.shows }
-
-    -- a request
-    pub ask_carries : {A : Type 0} {Good : Uses → A → Type 0} (b : ℕ) (q : Request) (c c' : Position) (run : Reply → World → Outcome A) (to : A → Position)
-        → ((cells : Cells) → step p c cells ≡ Spends (AsksFor c' q cells)) → ((b' : ℕ) (r : Reply) → b' < b → Carries L body fs Good b' c' (run r) to)
+    -- a request, which waits at its instruction
+    pub ask_carries : {A : Type 0} {Good : Uses → A → Type 0} (b : ℕ) (q : Request) (c : Position) (run : Reply → World → Outcome A) (to : A → Position)
+        → ((cells : Cells) → step p c cells ≡ Spends (AsksFor c q cells)) → ((b' : ℕ) (r : Reply) → Answers L Good b' c r (run r) to)
         → Carries L body fs Good b c (ask q run) to
-    ask_carries b q c c' run to e r = spend_carries b c (λ cells. AsksFor c' q cells) (λ w. ask_at w.replies q w run) to e (λ b' lt. record {
+    ask_carries b q c run to e r = spend_carries b c (λ cells. AsksFor c q cells) (λ w. ask_at w.replies q w run) to e (λ b' lt. record {
       by = λ k l hk hl w le cells h.
-          let a = replied b' w.replies q c' run to (λ x. r b' x lt) k l hk hl w le cells h in
+          let a = replied b' w.replies q c run to (r b') k l hk w le cells h in
           record { steps = suc a.steps; rest = a.rest; comes = a.comes; shows = a.shows };
     })
 

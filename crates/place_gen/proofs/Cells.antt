@@ -3,7 +3,7 @@ use Rattle.std.proofs.Common.{◌≡◌, ℕ, zero, suc, ◌+◌, ◌<◌, ◌�
 use Rattle.std.proofs.Common.{nat_le, nat_lt, ◌&&◌, refl, sym, ap, ◌∙◌, subst, arith, append_assoc, get_or-set_other, get_or-set_same}
 use Rattle.std.proofs.Common.{length-set, length-append, ⊎_elim}
 use Rattle.std.specs.Prelude.{slice_get, slice_set, slice_index_or, ℤ}
-use Rattle.std.proofs.lemmas.List.{length-take-le, get_or-take, get_or_append_left}
+use Rattle.std.proofs.lemmas.List.{append-nil, length-take-le, get_or-take, get_or_append_left}
 use Rattle.std.proofs.lemmas.Bool.{cases_lt}
 use Rattle.std.proofs.Math.Seq.{get_or-append_seam}
 use Rattle.std.proofs.lemmas.Option.{slice_get_within, slice_get-get_or}
@@ -191,10 +191,6 @@ writes L store cells x k v h e ok =
           (λ t. ap (λ b. cond b (held_of v) (cells (run_cell y))) t.0 ∙ h.beyond y past) (eqb_tells y x);
     }
 
-append-[] : {A : Type 0} (l : List A) → l ++ [] ≡ l
-append-[] [] = refl
-append-[] (x ∷ l) = ap (λ l. x ∷ l) (append-[] l)
-
 -- a variable's cell takes each value of its kind
 pub takes_value : (L : Uses) (store : List Slot) (cells : Cells) (x : ℕ) (k : Kind) (v : Value) → Keeps L store cells → slice_get L x ≡ Some (OfValue k)
     → IsOf k v → takes (held_of v) (cells (run_cell x)) ≡ true
@@ -296,7 +292,7 @@ extends_one L store cells k s n h g = record {
 
 pub extends : (M : Uses) (L : Uses) (store more : List Slot) (cells : Cells) (numbers : List Cell) → Keeps L store cells → AllKept L (length L) M more numbers
     → Keeps (L ++ M) (store ++ more) (written_from (length L) numbers cells)
-extends [] L store [] cells [] h g = subst (λ U. Keeps U (store ++ []) cells) (sym (append-[] L)) (subst (λ t. Keeps L t cells) (sym (append-[] store)) h)
+extends [] L store [] cells [] h g = subst (λ U. Keeps U (store ++ []) cells) (sym (append-nil L)) (subst (λ t. Keeps L t cells) (sym (append-nil store)) h)
 extends [] L store (s ∷ more) cells ns h g = absurd g
 extends [] L store [] cells (n ∷ ns) h g = absurd g
 extends (k ∷ M) L store [] cells ns h g = absurd g

@@ -11,22 +11,19 @@ use Rattle.eu_base.specs.declared.stop.Stop.TheVariants.{Own}
 use Rattle.eu_base.specs.declared.operation.Change.{Change}
 use Rattle.eu_base.specs.Values.{IsOf, number_of, truth_of, text_of}
 use Rattle.eu_base.specs.Operations.{Given, change_kind, changed}
-use Rattle.eu_base.specs.Requests.{request_kinds, request_of}
-use Rattle.eu_base.specs.declared.request.RequestName.{RequestName}
 use Rattle.eu_base.specs.Cells.{Cells, run_cell}
 use Rattle.code_form.specs.declared.operand.Operand.{Operand}
 use Rattle.code_form.specs.declared.operand.Operand.TheVariants.{Value as Of}
 use Rattle.code_form.specs.declared.operand.OperandKind.{OperandKind}
 use Rattle.code_form.specs.declared.operand.OperandKind.TheVariants as operand
-use Rattle.code_form.specs.declared.instr.Instr.TheVariants.{Mark, Modify, Jump, False, When, Drop, Ask, ErrorStop}
+use Rattle.code_form.specs.declared.instr.Instr.TheVariants.{Mark, Modify, Jump, False, When, Drop, ErrorStop}
 use Rattle.code_form.specs.declared.code.Spot.{Spot}
 use Rattle.code_form.specs.Program.{Program, line_of}
-use Rattle.code_form.specs.Machine.{Position, free, Asks, Goes, Spends, at, or_halt, puts, step}
+use Rattle.code_form.specs.Machine.{Position, free, Goes, Halts, at, or_halt, puts, step}
 use Rattle.elan_types.specs.declared.core_phrase.Exit.{Exit}
 use Rattle.elan_types.specs.declared.core_phrase.PlacePhrase.{PlacePhrase}
-use Rattle.elan_types.specs.Eval.{Place, World, Outcome, Gives, Stopped, bind, spend, ask, branch, or_stop, fetch, assign, save, modify, place}
-use Rattle.elan_types.specs.Eval.{holding_place, Calls, Run}
-use Rattle.elan_types.specs.Eval.{holds, values}
+use Rattle.elan_types.specs.Eval.{Place, World, Outcome, Gives, Stopped, bind, spend, branch, or_stop, fetch, assign, save, modify, place, holding_place}
+use Rattle.elan_types.specs.Eval.{Calls, Run, holds}
 use Rattle.elan_types.specs.Command.{Ending}
 use Rattle.place_gen.specs.Stretch.{Stretch, one, keeps, join, if_code, whens, arm_code, place_code, modify_code}
 use Rattle.place_gen.specs.Correct.{Comes, scene_of}
@@ -35,8 +32,8 @@ use Rattle.place_gen.proofs.Homes.{HasPlace}
 use Rattle.place_gen.proofs.Cells.{Uses, Keeps, reads}
 use Rattle.eu_base.proofs.Results.{changed_gives}
 use Rattle.place_gen.proofs.Carry.{finish, Any, AtKind, reach, Ends, Carries, Within, less, stop_comes, refuse_ends, then_carries, lead_carries, carries_lead}
-use Rattle.place_gen.proofs.Carry.{put_ends, branch_carries, mark_carries, ask_carries, none_carries, here, ends_at, join_carries}
-use Rattle.place_gen.proofs.Forms.{keep_place, pushed, AllOf, all_taken, Is, IsValue, IsAction, place_is}
+use Rattle.place_gen.proofs.Carry.{does, put_ends, branch_carries, mark_carries, here, ends_at, join_carries}
+use Rattle.place_gen.proofs.Forms.{keep_place, Is, IsValue, IsAction, place_is}
 
 module _ (p : Program) (body : Option ℕ) where
   pub if_is : {A : Type 0} {Good : Uses → A → Type 0} {push : A → List Operand → List Operand} {t : Run Value} {x y : Run A} {f g h : Stretch}
@@ -172,8 +169,9 @@ module _ (p : Program) (body : Option ℕ) where
       → ((v : Value) → Ends p L (at c (c.pc + 1) ops) (assign x v w) (k a (assign x v w)))
       → Comes p (free c) (scene_of w cells) (finish (or_stop g (λ v. save x v (Gives a)) w) k l)
   modified {A} {L} (Ok v) kind x a c ops w cells k l room is gives kept e hk =
-      put_ends p c (at c (c.pc + 1) ops) w x kind v (Gives a) k l cells room is (gives v refl) kept e (hk v)
-  modified {A} {L} (Err s) kind x a c ops w cells k l room is gives kept e hk = stop_comes p L c w s cells kept e
+      put_ends p (free c) (at c (c.pc + 1) ops) w x kind v (Gives a) k l cells room is (gives v refl) kept (does p c (scene_of w cells) _ e) (hk v)
+  modified {A} {L} (Err s) kind x a c ops w cells k l room is gives kept e hk =
+      stop_comes p L (free c) w s cells kept (does p c (scene_of w cells) (Halts s) e)
 
   -- INCR, DECR and CAT where value and place are on top
   pub modify_carries : {A : Type 0} {L : Uses} (change : Change) (x : Place) (v : Value) (a : A) (b q : ℕ) (ks : List OperandKind) (m : Spot) (c : Position)
@@ -225,22 +223,4 @@ module _ (p : Program) (body : Option ℕ) where
                   λ k l hk hl w le. refuse_ends p L (at c q (Of v ∷ ops)) (at c (q + 1) ops) w (Own (text_of v))
                   (λ cells. here p q ErrorStop (f.leaves ks) m h.0 c (Of v ∷ ops) cells);
             });
-      }
-
-  -- a request takes its operands, and brings nothing back
-  pub ask_is : (x : List (Run Value)) {f : Stretch} (name : RequestName) → Is p body (AllOf (request_kinds name)) pushed (values x) f
-      → IsAction p body (λ r w. bind (values x r w) (λ vs. ask (request_of name vs) (λ _. Gives tt)))
-      (join f (one (Ask name) (drop (length (request_kinds name)))))
-  ask_is x {f} name i =
-      let g = one (Ask name) (drop (length (request_kinds name))) in record {
-        sized = join_sized f g i.sized (λ ks m pc. refl);
-        goes =
-            λ calls n b pc L ks m c ops home le has.
-            join_carries p f g b pc ks m c ops (values x (reach calls n c ops)) (λ vs. ask (request_of name vs) (λ _. Gives (tt {0}))) (λ vs. pushed vs ops)
-            (λ _. ops) i.sized has (λ h. i.goes calls n b pc L ks m c ops home le h) (λ h vs oks.
-            let q = pc + f.size in
-            ask_carries p b (request_of name vs) (at c q (pushed vs ops)) (at c (q + 1) ops) (λ _. Gives (tt {0})) (λ _. at c (q + 1) ops)
-            (λ cells. here p q (Ask name) (f.leaves ks) m h.0 c (pushed vs ops) cells
-            ∙ all_taken (request_kinds name) vs ops (λ vs ops. Spends (Asks (at c (q + 1) ops) (request_of name vs) cells)) oks)
-            (λ b' r lt. none_carries p b' tt (λ _. at c (q + 1) ops) tt));
       }

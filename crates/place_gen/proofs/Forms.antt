@@ -1,6 +1,7 @@
 -- What each form of phrase does, whatever its parts are.
 use Rattle.std.proofs.Common.{◌≡◌, ℕ, suc, ◌+◌, List, [], ◌∷◌, ◌++◌, length, drop, Option, Some, Bool, refl, ap, ◌∙◌, arith}
 use Rattle.std.specs.Prelude.{slice_get, ℤ}
+use Rattle.std.proofs.lemmas.List.{append-nil}
 use Rattle.eu_base.specs.declared.value.Kind.{Kind}
 use Rattle.eu_base.specs.declared.value.Kind.TheVariants as kinds
 use Rattle.eu_base.specs.declared.value.Value.{Value}
@@ -18,19 +19,20 @@ use Rattle.code_form.specs.declared.instr.Instr.{Instr}
 use Rattle.code_form.specs.declared.instr.Instr.TheVariants.{Number, Truth, Text, Outer, Local, Param, Load, Store, Do}
 use Rattle.code_form.specs.declared.code.Spot.{Spot}
 use Rattle.code_form.specs.Program.{Program, frame_cells}
-use Rattle.code_form.specs.Machine.{Position, Move, at, pushes as push_move, or_halt, on_values, base_of, bytes_on, bytes_of, instruction}
+use Rattle.code_form.specs.Machine.{Position, free, Move, at, pushes as push_move, or_halt, on_values, base_of, bytes_on, bytes_of, instruction}
 use Rattle.elan_types.specs.declared.core_phrase.PlacePhrase.{PlacePhrase}
 use Rattle.elan_types.specs.declared.core_phrase.PlacePhrase.TheVariants as places
 use Rattle.elan_types.specs.Eval.{Place, slot_at, place_of, Gives, bind, or_stop, fetch, assign, save, deliver, place, holding, holding_place, stored, Calls}
 use Rattle.elan_types.specs.Eval.{Run}
 use Rattle.elan_types.specs.Eval.{all, values}
 use Rattle.place_gen.specs.Stretch.{Stretch, none, one, pushes, join, place_code, store_code}
+use Rattle.place_gen.specs.Correct.{scene_of}
 use Rattle.place_gen.proofs.Lines.{HasAt, join_sized}
 use Rattle.place_gen.proofs.Homes.{HasPlace}
 use Rattle.place_gen.proofs.Cells.{Uses, reads, refers}
 use Rattle.eu_base.proofs.Results.{result_gives}
 use Rattle.place_gen.proofs.Carry.{Any, OfKind, AtKind, use_of, reach, Carries, Stands, Within, stop_ends, then_carries, none_carries, reads_carries}
-use Rattle.place_gen.proofs.Carry.{put_ends, or_carries, here, ends_at, join_carries}
+use Rattle.place_gen.proofs.Carry.{does, put_ends, or_carries, here, ends_at, join_carries}
 
 abbrev pub keep : Value → List Operand → List Operand
 keep v ops = Of v ∷ ops
@@ -58,7 +60,7 @@ AreOf-length [] (v ∷ vs) h = absurd h
 AreOf-length (k ∷ ks) [] h = absurd h
 AreOf-length (k ∷ ks) (v ∷ vs) h = ap suc (AreOf-length ks vs h.1)
 
--- an operation or a request takes what was pushed for it
+-- an operation takes what was pushed for it
 taken : (vs : List Value) (n : ℕ) (acc : List Value) (ops : List Operand) (go : List Value → List Operand → Move)
     → on_values (length vs + n) acc (pushed vs ops) go ≡ on_values n (vs ++ acc) ops go
 taken [] n acc ops go = let e : 0 + n ≡ n = omega arith in ap (λ n. on_values n acc ops go) e
@@ -70,11 +72,7 @@ pub all_taken : (ks : List Kind) (vs : List Value) (ops : List Operand) (go : Li
     → on_values (length ks) [] (pushed vs ops) go ≡ go vs ops
 all_taken ks vs ops go h =
     let e : length ks ≡ length vs + 0 = omega (arith, AreOf-length ks vs h) in
-    ap (λ n. on_values n [] (pushed vs ops) go) e ∙ taken vs 0 [] ops go ∙ ap (λ l. go l ops) (append-[] vs)
-  where
-    append-[] : (l : List Value) → l ++ [] ≡ l
-    append-[] [] = refl
-    append-[] (x ∷ l) = ap (λ l. x ∷ l) (append-[] l)
+    ap (λ n. on_values n [] (pushed vs ops) go) e ∙ taken vs 0 [] ops go ∙ ap (λ l. go l ops) (append-nil vs)
 
 -- values of these kinds, whatever the cells are for
 abbrev pub AllOf : List Kind → Uses → List Value → Type 0
@@ -197,8 +195,10 @@ module _ (p : Program) (body : Option ℕ) where
             let z = pc + 1 + f.size in record {
               by =
                   λ k' l hk hl w le' cells keeps.
-                  put_ends p (at c z (Of v ∷ keep_place x ops)) (at c (z + 1) ops) w x k v (Gives (tt {0})) k' l cells le.stands.room at_x ok keeps
-                  (here p z (Store k) (f.leaves (operand.Place k ∷ ks)) m h.0 c (Of v ∷ keep_place x ops) cells) (hk tt (assign x v w) tt le');
+                  let now = at c z (Of v ∷ keep_place x ops) in
+                  put_ends p (free now) (at c (z + 1) ops) w x k v (Gives (tt {0})) k' l cells le.stands.room at_x ok keeps
+                  (does p now (scene_of w cells) _ (here p z (Store k) (f.leaves (operand.Place k ∷ ks)) m h.0 c (Of v ∷ keep_place x ops) cells))
+                  (hk tt (assign x v w) tt le');
             }));
       }
 

@@ -1,5 +1,5 @@
 -- What the tables of a program say of places, bodies and exits, where they agree with the types.
-use Rattle.std.proofs.Common.{◌≡◌, ℕ, List, [], ◌∷◌, map, Option, Some, None, Bool, true, false, ◌&&◌, refl, sym, ap, ◌∙◌, subst}
+use Rattle.std.proofs.Common.{◌≡◌, ℕ, List, [], ◌∷◌, ◌++◌, map, Option, Some, None, Bool, true, false, ◌&&◌, refl, sym, ap, ◌∙◌, subst}
 use Rattle.std.specs.Prelude.{slice_get, option_map}
 use Rattle.std.proofs.lemmas.Option.{slice_get-map}
 use Rattle.std.proofs.lemmas.Bool.{eqb-true}
@@ -27,7 +27,7 @@ use Rattle.place_gen.specs.Layouts.{taken_as, parameter_kind, layout_of}
 use Rattle.elan_types.specs.Typing as typing
 use Rattle.elan_types.specs.Typing.{Typed, has, agree, takes, type_in, only_if, same_type, same_access, kind_in, type_as, frame_of, frame_at}
 use Rattle.elan_types.specs.Typing.{frame_in, scope_of, result_of, result_of_content, delivered_by, taken_by, take_all, Taken, refines, around, left_from}
-use Rattle.elan_types.specs.Typing.{leaves_without, leaves_with, is_none, place_type, Home}
+use Rattle.elan_types.specs.Typing.{leaves_without, leaves_with, is_none, place_type, Home, values_of, variables_of}
 
 module _ (p : Program) where
   -- what a body delivers
@@ -102,6 +102,14 @@ pub kind_type : (k : Kind) → kind_in (type_in k) ≡ k
 kind_type kinds.Int = refl
 kind_type kinds.Truth = refl
 kind_type kinds.Text = refl
+
+-- values of kinds, and then variables of kinds, as what takes them
+pub formals_take : (ks ls : List Kind) → map parameter_kind (values_of ks ++ variables_of ls) ≡ map operand.Value ks ++ map operand.Place ls
+formals_take [] [] = refl
+formals_take [] (l ∷ ls) =
+    ap (λ k. operand.Place k ∷ map parameter_kind (variables_of ls)) (kind_type l) ∙ ap (λ ks. operand.Place l ∷ ks) (formals_take [] ls)
+formals_take (k ∷ ks) ls =
+    ap (λ k. operand.Value k ∷ map parameter_kind (values_of ks ++ variables_of ls)) (kind_type k) ∙ ap (λ ks. operand.Value k ∷ ks) (formals_take ks ls)
 
 formal_is : (f g : Formal) → f.of ≡ g.of → f.access ≡ g.access → g ≡ f
 formal_is f g a b = ap (λ (u : ElanType). record { of = u; access = g.access }) (sym a) ∙ ap (λ (x : Access). record { of = f.of; access = x }) (sym b)

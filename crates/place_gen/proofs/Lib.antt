@@ -12,6 +12,8 @@ pub mod Carry
 pub mod Forms
 pub mod Choices
 pub mod Calls
+pub mod Slots
+pub mod Requests
 pub mod Loops
 pub mod Limits
 pub mod Tree

@@ -37,7 +37,7 @@ use Rattle.place_gen.proofs.Homes.{HasPlace}
 use Rattle.place_gen.proofs.Cells.{Use, OfValue, OfLimit, Uses, Keeps, get_left, reads, cuts, limit_forgotten, extends_one}
 use Rattle.eu_base.proofs.Results.{fits_in_range}
 use Rattle.place_gen.proofs.Carry.{finish, finish_bind, Any, AtKind, use_of, reach, Ends, wider, Carries, Stands, Within, on_step, stop_comes, branch_carries}
-use Rattle.place_gen.proofs.Carry.{none_carries, here, ends_at, join_carries}
+use Rattle.place_gen.proofs.Carry.{does, none_carries, here, ends_at, join_carries}
 use Rattle.place_gen.proofs.Forms.{keep_place, IsValue, IsAction, place_is}
 use Rattle.place_gen.proofs.Loops.{IsExit, Under, number_fits, turns_are, turns_sized}
 
@@ -59,7 +59,7 @@ module _ (p : Program) (body : Option ℕ) where
       → (t ≡ true → Comes p (free c') (scene_of w now) (finish (go (record w { store = w.store ++ Taken ∷ [] })) k l))
       → Comes p (free c) (scene_of w cells) (finish (branch t (λ w. go (record w { store = w.store ++ Taken ∷ [] })) (Stopped CellRoom) w) k l)
   taken {L} true c c' w cells now go k l keeps e h = on_step p c c' (scene_of w cells) now _ e (h refl)
-  taken {L} false c c' w cells now go k l keeps e h = stop_comes p L c w CellRoom cells keeps e
+  taken {L} false c c' w cells now go k l keeps e h = stop_comes p L (free c) w CellRoom cells keeps (does p c (scene_of w cells) (Halts CellRoom) e)
 
   -- the cell is given back
   given_back : (L : Uses) (limit : ℤ) (b end : ℕ) (c c1 : Position) (ops : List Operand) (k : Unit {0} → World → Ending) → c1.used ≡ c.used + 1

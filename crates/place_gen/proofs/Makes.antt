@@ -1,20 +1,21 @@
 -- What several steps of the making of code make together, where memory was not wanted.
-use Rattle.std.proofs.Common.{◌≡◌, ℕ, ◌+◌, ◌<◌, List, [], ◌∷◌, ◌++◌, length, drop, get_or, false, Some, refl, sym, ap, ◌∙◌, subst, arith, add-one, drop-cons}
-use Rattle.std.proofs.Common.{append-nil}
+use Rattle.std.proofs.Common.{◌≡◌, ℕ, ◌+◌, ◌<◌, ◌≤◌, List, [], ◌∷◌, ◌++◌, map, length, drop, get_or, false, Some, refl, sym, ap, ◌∙◌, subst, arith}
+use Rattle.std.proofs.Common.{add-one, drop-cons, append-nil}
+use Rattle.std.proofs.lemmas.List.{drop_all}
 use Rattle.std.specs.Prelude.{ℤ, suc}
 use Rattle.code_form.specs.declared.operand.OperandKind.{OperandKind}
 use Rattle.code_form.specs.declared.code.Spot.{Spot}
 use Rattle.code_form.specs.declared.instr.Instr.{Instr}
-use Rattle.code_form.specs.declared.instr.Instr.TheVariants.{Mark, Jump, False, When}
+use Rattle.code_form.specs.declared.instr.Instr.TheVariants.{Mark, Jump, False, When, Drop}
 use Rattle.elan_types.specs.Eval.{Labelled}
 use Rattle.place_gen.specs.declared.draft.Draft.{Draft}
-use Rattle.place_gen.specs.Stretch.{Stretch, none, one, keeps, join, if_code, whens_code, select_code, Exit, stays, exit_join, until_code, turns_code}
+use Rattle.place_gen.specs.Stretch.{Stretch, none, one, keeps, join, all_code, if_code, whens_code, select_code, Exit, stays, exit_join, until_code, turns_code}
 use Rattle.place_gen.specs.Adds.{Adds}
 use Rattle.place_gen.specs.Makes.{Makes, MakesExit, MakesArm, MakesTurn, ComesBack}
 use Rattle.place_gen.proofs.Adds.{join_adds, same_adds, if_adds, exit_adds, until_adds, turns_adds, arm_adds, select_adds}
 
 -- what is left of a list, from one of its items on
-pub rest_of : {A : Type 0} (xs : List A) (i : ℕ) (x : A) → i < length xs → x ≡ get_or xs i x → drop i xs ≡ x ∷ drop (i + 1) xs
+rest_of : {A : Type 0} (xs : List A) (i : ℕ) (x : A) → i < length xs → x ≡ get_or xs i x → drop i xs ≡ x ∷ drop (i + 1) xs
 rest_of xs i x within e = rw (add-one, drop-cons xs i x within) (ap (λ y. y ∷ drop (suc i) xs) (sym e))
 
 pub none_makes : {a : Draft} → Makes none a a
@@ -153,3 +154,48 @@ select_makes arm arms other {end} {top} {a} {b} {c} at x m = record {
       let z = m.met h in let q = x.met z.0 in let y = q.1 (at.pending q.0) in
       (q.0, select_adds arm (select_code arms other) end a b c y.0 (y.1 ∙ sym (at.pending q.0)) z.1 ((arm_at arm arms other at x).ends z.0));
 }
+
+-- a loop makes the code of a list's items: what is left from one of them on, and then nothing
+module _ {A : Type 0} (code : A → Stretch) (xs : List A) (i : ℕ) {first old : Draft}
+    (all : (new : Draft) → Makes (all_code (map code (drop i xs))) old new → Makes (all_code (map code xs)) first new) where
+  pub more_makes : {mid : Draft} (x : A) → i < length xs → x ≡ get_or xs i x → Makes (code x) old mid → (new : Draft)
+      → Makes (all_code (map code (drop (i + 1) xs))) mid new → Makes (all_code (map code xs)) first new
+  more_makes x within is one new more =
+      all new (subst (λ l. Makes (all_code (map code l)) old new) (sym (rest_of xs i x within is)) (join_makes one more))
+
+  pub all_makes : length xs ≤ i → Makes (all_code (map code xs)) first old
+  all_makes past = all old (subst (λ l. Makes (all_code (map code l)) old old) (sym (drop_all i xs past)) none_makes)
+
+-- and a loop over the parts of a SELECT, whose end was looked up before and what was pending kept
+module _ {A : Type 0} (code : A → Labelled Stretch) (arms : List A) (other : Stretch) where
+  abbrev From : ℕ → Stretch
+  From i = select_code (map code (drop i arms)) other
+
+  abbrev Whole : Stretch
+  Whole = select_code (map code arms) other
+
+  pub first_arm_at : {end : ℕ} {top : List OperandKind} {d0 d1 d2 : Draft} → ComesBack d0.pending d0 d1
+      → (d1.wanted ≡ false → end ≡ length d0.lines + Whole.size) → ComesBack d1.pending d1 d2 → (d2.wanted ≡ false → top ≡ d1.pending) → IsAt Whole end top d2
+  first_arm_at r ends kept top_is = record {
+    ends = λ h. let q = kept.met h in ends q.0 ∙ ap (λ n. n + Whole.size) (sym (ap length (q.1.0 ∙ (r.met q.0).1.0)));
+    pending = λ h. (kept.met h).1.1 ∙ sym (top_is h);
+  }
+
+  module _ (i : ℕ) (arm : A) {end : ℕ} {top : List OperandKind} {old mid : Draft} (within : i < length arms) (is : arm ≡ get_or arms i arm) (at : IsAt (From i) end top old)
+      (made : MakesArm (code arm) end top old mid) where
+    this_at : IsAt (select_code (code arm ∷ map code (drop (i + 1) arms)) other) end top old
+    this_at = subst (λ l. IsAt (select_code (map code l) other) end top old) (rest_of arms i arm within is) at
+
+    pub next_arm_at : IsAt (From (i + 1)) end top mid
+    next_arm_at = arm_at (code arm) (map code (drop (i + 1) arms)) other this_at made
+
+    pub more_arms_make : {first : Draft} → ((new : Draft) → Makes (From i) old new → Makes Whole first new) → (new : Draft) → Makes (From (i + 1)) mid new
+        → Makes Whole first new
+    more_arms_make all new more =
+        all new (subst (λ l. Makes (select_code (map code l) other) old new) (sym (rest_of arms i arm within is))
+        (select_makes (code arm) (map code (drop (i + 1) arms)) other this_at made more))
+
+  pub arms_make : (i : ℕ) {first old mid new : Draft} → length arms ≤ i → ((new : Draft) → Makes (From i) old new → Makes Whole first new)
+      → Makes (one Drop (drop 1)) old mid → Makes other mid new → Makes Whole first new
+  arms_make i {first} {old} {mid} {new} past all dropped rest =
+      all new (subst (λ l. Makes (select_code (map code l) other) old new) (sym (drop_all i arms past)) (join_makes dropped rest))

@@ -1,11 +1,11 @@
 -- The tables of each well typed phrase agree along each step. One induction over the phrases, so it stands in one file.
-use Rattle.std.proofs.Common.{◌≡◌, ℕ, List, [], ◌∷◌, map, length, drop, Option, Some, None, Bool, true, false, ◌&&◌, refl, sym, ap, ◌∙◌, subst, arith}
+use Rattle.std.proofs.Common.{◌≡◌, ℕ, List, [], ◌∷◌, map, length, drop, Option, Some, None, Bool, true, false, ◌&&◌, refl, sym, ap, subst, arith}
 use Rattle.std.specs.Prelude.{option_map}
 use Rattle.eu_base.specs.declared.value.Kind.{Kind}
 use Rattle.eu_base.specs.declared.value.Kind.TheVariants as kinds
 use Rattle.eu_base.specs.declared.operation.Way.{Way}
 use Rattle.eu_base.specs.Operations.{operand_kinds, result_kind, change_kind}
-use Rattle.eu_base.specs.Requests.{request_kinds}
+use Rattle.eu_base.specs.Requests.{request_kinds, request_places}
 use Rattle.code_form.specs.declared.operand.OperandKind.{OperandKind}
 use Rattle.code_form.specs.declared.operand.OperandKind.TheVariants.{Value as OfKind}
 use Rattle.code_form.specs.declared.instr.Instr.TheVariants.{Back}
@@ -31,15 +31,15 @@ use Rattle.elan_types.specs.declared.core_phrase.Action.TheOpen.{Action-F, Actua
 use Rattle.elan_types.specs.declared.core_phrase.Action.TheFolds.{fold-Actual, fold-Arm, fold-ValueArm, ind-Action, ind-ValuePhrase, map-Action, map-Actual}
 use Rattle.elan_types.specs.declared.core_phrase.Action.TheFolds.{map-ValuePhrase, map-Arm, map-ValueArm, fold-roll-Action, fold-roll-Actual}
 use Rattle.elan_types.specs.declared.core_phrase.Action.TheFolds.{fold-roll-ValuePhrase, fold-roll-Arm, fold-roll-ValueArm}
-use Rattle.elan_types.specs.Typing.{Typed, Taken, Home, has, only_if, place_type, has_if_written, have, all_agree, all_true, takes, take_all, given_as, type_in}
+use Rattle.elan_types.specs.Typing.{Typed, Taken, Home, has, only_if, place_type, has_if_written, have, all_agree, all_true, take_all, given_as, type_in}
 use Rattle.elan_types.specs.Typing.{kind_in, type_of, is_typed, value_type_step, actual_type_step, value_arm_type_step, action_typed_step, arm_typed_step}
-use Rattle.elan_types.specs.Typing.{is_content_typed, result_of_content}
+use Rattle.elan_types.specs.Typing.{is_content_typed, result_of_content, request_formals}
 use Rattle.place_gen.specs.Stretch.{Stretch, Exit, none, one, place_code, keeps, pushes, join, stays, all_code, select_code, while_code, until_code, turn_code}
 use Rattle.place_gen.specs.Stretch.{turns_code, store_code, counted_code, action_code, actual_code, value_code, content_code, action_code_step}
 use Rattle.place_gen.specs.Stretch.{actual_code_step, value_code_step, arm_code_step, value_arm_code_step, arm_code_of, value_arm_code}
-use Rattle.place_gen.specs.Layouts.{taken_as, parameter_kind}
-use Rattle.place_gen.proofs.Homes.{Delivers, HasPlace, Agrees, IsHome, agree_is, kind_type, place_is, proc_is, part_is, left_is, only_if_is, both, same_is}
-use Rattle.place_gen.proofs.Homes.{has_is, access_is, without_is, with_is, none_is}
+use Rattle.place_gen.specs.Layouts.{parameter_kind}
+use Rattle.place_gen.proofs.Homes.{Delivers, HasPlace, Agrees, IsHome, agree_is, kind_type, place_is, proc_is, part_is, left_is, only_if_is, both}
+use Rattle.place_gen.proofs.Homes.{has_is, takes_is, formals_take, without_is, with_is, none_is}
 use Rattle.place_gen.proofs.Lines.{HasAt, IsSized, join_sized}
 use Rattle.place_gen.proofs.Tables.{Each, ends_good, leave_fine, Table, ValueTable, ActionTable, above, none_table, join_table, mark_table, number_table}
 use Rattle.place_gen.proofs.Tables.{truth_table, text_table, place_table, load_table, store_table, modify_table, apply_table, ask_table, error_stop_table}
@@ -49,17 +49,6 @@ use Rattle.place_gen.proofs.LoopTables.{step_to_table, turn_table, loop_table, c
 
 abbrev fst : {A : Type 0} {B : A → Type 0} → (a : A) × B a → A
 fst x = x.0
-
--- what a parameter is given is of the kind that it takes
-takes_is : (f : Formal) (a : Taken) → takes f a ≡ true → (g : Formal) × (a ≡ Some g) × (parameter_kind g ≡ parameter_kind f)
-takes_is f None e = let h : ⊥ = cc in absurd h
-takes_is f (Some g) e =
-    let h = both _ _ e in (
-      g,
-      refl,
-      ap (λ a. taken_as a (kind_in g.of)) (sym (access_is f.access g.access h.1))
-          ∙ ap (λ u. taken_as f.access (kind_in u)) (sym (same_is f.of g.of h.0)),
-    )
 
 module _ (p : Program) (variables : List ElanType) (bodies : List Body) (agrees : Agrees p variables bodies) (home : Home) (is_home : IsHome bodies home) where
   abbrev T : (List OperandKind → List OperandKind) → (List OperandKind → List OperandKind) → Stretch → Type 0
@@ -139,10 +128,9 @@ module _ (p : Program) (variables : List ElanType) (bodies : List Body) (agrees 
   actuals_are (k ∷ ks) [] e = let f : ⊥ = cc in absurd f
   actuals_are (k ∷ ks) (x ∷ xs) e =
       let f = both _ _ e in
-      let g = takes_is k _ f.0 in
-      let i = subst (λ o. T keeps (pushes o) (actual_code x.0)) g.2 (x.1 g.0 g.1) in
       let j = actuals_are ks xs f.1 in
-      record { as_many = omega (arith, j.as_many); table = join_table p home i (above p home (pushes (parameter_kind k)) j.table) }
+      let table = join_table p home (x.1 k (takes_is k _ f.0)) (above p home (pushes (parameter_kind k)) j.table) in
+      record { as_many = omega (arith, j.as_many); table = table }
 
   arms_are : (xs : List ((a : Arm) × R a)) (g : Stretch) → all_true (map arm_typed (map fst xs)) ≡ true → AT g
       → T (pushes (OfKind kinds.Int)) keeps (select_code (map arm_code_of (map fst xs)) g)
@@ -323,7 +311,10 @@ module _ (p : Program) (variables : List ElanType) (bodies : List Body) (agrees 
   action_parts (t.Count q from way (Some a) None us (Some u)) e = counts_is q from way (Some a) None us (Some u) e
   action_parts (t.Count q from way (Some a) (Some w) us None) e = counts_is q from way (Some a) (Some w) us None e
   action_parts (t.Count q from way (Some a) (Some w) us (Some u)) e = counts_is q from way (Some a) (Some w) us (Some u) e
-  action_parts (t.Ask name es) e = ask_table p home name (values_are (request_kinds name) es e)
+  action_parts (t.Ask name as') e =
+      let j = actuals_are (request_formals name) as' e in
+      ask_table p home name (subst (λ ks. T keeps (pushed_operands ks) (all_code (map actual_code (map fst as'))))
+      (formals_take (request_kinds name) (request_places name)) j.table)
   action_parts (t.ErrorStop a) e = error_stop_table p home (a.1 types.Text (has_is types.Text _ e))
   action_parts (t.Action::Call q as') e =
       let g = both _ _ e in

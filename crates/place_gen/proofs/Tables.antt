@@ -1,12 +1,14 @@
 -- The tables of each form of phrase agree along each step, whatever its parts are.
-use Rattle.std.proofs.Common.{◌≡◌, ℕ, suc, ◌+◌, ◌<◌, List, [], ◌∷◌, ◌++◌, length, drop, Option, Some, None, Bool, refl, sym, ap, ◌∙◌, subst, arith}
+use Rattle.std.proofs.Common.{◌≡◌, ℕ, suc, ◌+◌, ◌<◌, List, [], ◌∷◌, ◌++◌, map, length, drop, Option, Some, None, Bool, refl, sym, ap, ◌∙◌, subst}
+use Rattle.std.proofs.Common.{arith, length-append}
 use Rattle.std.specs.Prelude.{slice_get, ℤ}
+use Rattle.std.proofs.lemmas.List.{length-map}
 use Rattle.eu_base.specs.declared.value.Kind.{Kind}
 use Rattle.eu_base.specs.declared.value.Kind.TheVariants as kinds
 use Rattle.eu_base.specs.declared.operation.Operation.{Operation}
 use Rattle.eu_base.specs.declared.operation.Change.{Change}
 use Rattle.eu_base.specs.Operations.{operand_kinds, result_kind, change_kind}
-use Rattle.eu_base.specs.Requests.{request_kinds}
+use Rattle.eu_base.specs.Requests.{request_kinds, request_places, request_size}
 use Rattle.eu_base.specs.declared.request.RequestName.{RequestName}
 use Rattle.code_form.specs.declared.operand.OperandKind.{OperandKind}
 use Rattle.code_form.specs.declared.operand.OperandKind.TheVariants.{Value as OfKind, Place as AtKind}
@@ -17,7 +19,7 @@ use Rattle.code_form.specs.declared.code.Spot.{Spot}
 use Rattle.code_form.specs.declared.code.Entry.{Entry}
 use Rattle.code_form.specs.declared.code.Layout.TheVariants as layouts
 use Rattle.code_form.specs.Program.{Program, line_of, owner, owner_at, layout_of}
-use Rattle.code_form.specs.Valid.{Next, Lands, pushed_kinds, pushed_operands, with_result, IsRefinement, HasResult, IsFine}
+use Rattle.code_form.specs.Valid.{Next, Lands, pushed_kinds, pushed_operands, request_operands, with_result, IsRefinement, HasResult, IsFine}
 use Rattle.elan_types.specs.declared.core_phrase.PlacePhrase.{PlacePhrase}
 use Rattle.elan_types.specs.declared.core_phrase.PlacePhrase.TheVariants as places
 use Rattle.elan_types.specs.declared.core_phrase.Exit.{Exit}
@@ -44,6 +46,13 @@ all_dropped : (more ks : List OperandKind) (n : ℕ) → n ≡ length more → d
 all_dropped more ks n e =
     let f : n ≡ length more + 0 = omega (arith, e) in
     ap (λ n. drop n (pushed_operands more ks)) f ∙ drop_operands more ks 0
+
+-- how many operands a request takes
+pub size_is : (name : RequestName) → request_size name ≡ length (request_operands name)
+size_is name =
+    let ks = map OfKind (request_kinds name) in
+    let ls = map AtKind (request_places name) in
+    omega (arith, length-append ks ls, length-map (request_kinds name) OfKind, length-map (request_places name) AtKind)
 
 module _ (p : Program) where
   -- each line of a stretch is fine
@@ -171,13 +180,12 @@ module _ (p : Program) (body : Option ℕ) where
       ∙ ap (λ l. OfKind (result_kind op) ∷ l) (drop_kinds (operand_kinds op) ks 0))
       (λ pc ks m home n. (ks, refl, n)))
 
-  pub ask_table : {f : Stretch} (name : RequestName) → Table keeps (pushed_kinds (request_kinds name)) f
-      → ActionTable (join f (one (Ask name) (drop (length (request_kinds name)))))
+  -- a request finds its values, and behind them its variable
+  pub ask_table : {f : Stretch} (name : RequestName) → Table keeps (pushed_operands (request_operands name)) f
+      → ActionTable (join f (one (Ask name) (drop (request_size name))))
   ask_table name i =
-      join_table i (one_table (Ask name) (drop (length (request_kinds name))) (pushed_kinds (request_kinds name)) keeps
-      (λ ks. let e : length (request_kinds name) ≡ length (request_kinds name) + 0 = omega arith in
-      ap (λ n. drop n (pushed_kinds (request_kinds name) ks)) e ∙ drop_kinds (request_kinds name) ks 0)
-      (λ pc ks m home n. (ks, refl, n)))
+      join_table i (one_table (Ask name) (drop (request_size name)) (pushed_operands (request_operands name)) keeps
+      (λ ks. all_dropped (request_operands name) ks (request_size name) (size_is name)) (λ pc ks m home n. (ks, refl, n)))
 
   -- a call finds what its parameters take, and leaves what the PROC delivers
   pub call_table : (q : ℕ) (e : Entry) (taken : List OperandKind) (vs : List Kind) (d : Option Kind) (fs : List Stretch) → slice_get p.bodies q ≡ Some e

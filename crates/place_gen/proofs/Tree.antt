@@ -10,7 +10,7 @@ use Rattle.std.specs.Int.RustNames.{FitsSigned}
 use Rattle.std.proofs.lemmas.Bool.{leb-true}
 use Rattle.eu_base.specs.declared.value.TheConstants.{TEXT_BYTES}
 use Rattle.eu_base.specs.Operations.{operand_kinds, result_kind, change_kind}
-use Rattle.eu_base.specs.Requests.{request_kinds}
+use Rattle.eu_base.specs.Requests.{request_kinds, request_places}
 use Rattle.eu_base.proofs.Results.{fits_in_range}
 use Rattle.code_form.specs.declared.operand.Operand.{Operand}
 use Rattle.code_form.specs.Program.{Program}
@@ -32,6 +32,7 @@ use Rattle.elan_types.specs.declared.core_phrase.Action.TheFolds.{fold-Actual, f
 use Rattle.elan_types.specs.declared.core_phrase.Action.TheFolds.{map-ValuePhrase, map-Arm, map-ValueArm, fold-roll-Action, fold-roll-Actual}
 use Rattle.elan_types.specs.declared.core_phrase.Action.TheFolds.{fold-roll-ValuePhrase, fold-roll-Arm, fold-roll-ValueArm}
 use Rattle.elan_types.specs.Typing.{Typed, Home, has, has_if_written, have, all_agree, all_true, type_in, kind_in, Taken, take_all, given_as, place_type}
+use Rattle.elan_types.specs.Typing.{request_formals}
 use Rattle.elan_types.specs.Typing.{type_of, is_typed, value_type_step, value_arm_type_step, actual_type_step, action_typed_step, arm_typed_step}
 use Rattle.elan_types.specs.Eval.{Run, Slot, Labelled, bind, stored, turns, holds, branch, counted, all, values, selected, while_true, until_true, turn, go_on}
 use Rattle.elan_types.specs.Eval.{act, value, action_step, actual_step, value_step, arm_step, value_arm_step}
@@ -43,13 +44,14 @@ use Rattle.place_gen.proofs.Cells.{Uses}
 use Rattle.place_gen.proofs.Carry.{Any, OfKind}
 use Rattle.place_gen.proofs.Forms.{Is, IsValue, IsAction, AllOf, pushed, keep, no_more, nothing_is, then_is, number_is, truth_is, text_is, place_is, load_is}
 use Rattle.place_gen.proofs.Forms.{store_is, no_values_are, more_values_are, apply_is}
-use Rattle.place_gen.proofs.Choices.{if_is, IsChoice, otherwise_is, arm_is, select_is, unit_is, modify_is, ask_is, error_stop_is}
+use Rattle.place_gen.proofs.Choices.{if_is, IsChoice, otherwise_is, arm_is, select_is, unit_is, modify_is, error_stop_is}
 use Rattle.place_gen.proofs.Calls.{IsActual, AreActuals, value_actual, place_actual, no_actuals_are, more_actuals_are, call_value_is, call_action_is}
 use Rattle.place_gen.proofs.Calls.{refer_value_is, refer_action_is, leave_is, leave_with_is}
+use Rattle.place_gen.proofs.Requests.{ask_is}
 use Rattle.place_gen.proofs.Loops.{IsExit, Under, while_none, while_some, until_none, until_some, go_on_is, turn_is, loop_is, step_is, step_to_is}
 use Rattle.place_gen.proofs.Limits.{counted_none_is, counted_some_is}
 use Rattle.place_gen.proofs.Homes.{Agrees, IsHome, place_is as has_place, proc_is, part_is, left_is, only_if_is, both, has_is, agree_is, kind_type, takes_is}
-use Rattle.place_gen.proofs.Homes.{HasPlace, without_is, with_is, none_is}
+use Rattle.place_gen.proofs.Homes.{HasPlace, formals_take, without_is, with_is, none_is}
 
 abbrev fst : {A : Type 0} {B : A → Type 0} → (a : A) × B a → A
 fst x = x.0
@@ -349,7 +351,10 @@ module _ (p : Program) (variables : List ElanType) (bodies : List Body) (agrees 
   action_parts (t.Count q from way (Some a) None us (Some u)) e = counts_is q from way (Some a) None us (Some u) e
   action_parts (t.Count q from way (Some a) (Some w) us None) e = counts_is q from way (Some a) (Some w) us None e
   action_parts (t.Count q from way (Some a) (Some w) us (Some u)) e = counts_is q from way (Some a) (Some w) us (Some u) e
-  action_parts (t.Ask name es) e = ask_is p home (map value (map fst es)) name (values_are (request_kinds name) es e)
+  action_parts (t.Ask name as') e =
+      let xs = map actual_run (map fst as') in
+      ask_is p home xs name (subst (λ ks. AreActuals p home ks xs (all_code (map actual_code (map fst as'))))
+      (formals_take (request_kinds name) (request_places name)) (actuals_are (request_formals name) as' e))
   action_parts (t.ErrorStop a) e = error_stop_is p home (a.1 types.Text (has_is types.Text _ e))
   action_parts (t.Action::Call q as') e =
       let g = both _ _ e in

@@ -6,7 +6,7 @@ use Rattle.eu_base.specs.declared.operation.Change.{Change}
 use Rattle.eu_base.specs.declared.operation.Change.TheVariants.{Increase}
 use Rattle.eu_base.specs.declared.operation.Way.{Way}
 use Rattle.eu_base.specs.Operations.{operand_kinds, result_kind, change_kind}
-use Rattle.eu_base.specs.Requests.{request_kinds}
+use Rattle.eu_base.specs.Requests.{request_size}
 use Rattle.code_form.specs.declared.operand.OperandKind.{OperandKind}
 use Rattle.code_form.specs.declared.operand.OperandKind.TheVariants.{Value, Place}
 use Rattle.code_form.specs.declared.instr.Instr.{Instr}
@@ -214,7 +214,7 @@ action_code_step (t.Action::Select a arms us) = join a (select_code arms (all_co
 action_code_step (t.Loop while' us until) = turns_code (turn_code while' (all_code us) until (stays none))
 action_code_step (t.Count p from way limit while' us until) =
     join (store_code p kinds.Int from) (counted_code p way limit (turn_code while' (all_code us) until))
-action_code_step (t.Ask name as') = join (all_code as') (one (Ask name) (drop (length (request_kinds name))))
+action_code_step (t.Ask name as') = join (all_code as') (one (Ask name) (drop (request_size name)))
 action_code_step (t.ErrorStop a) = join a (one ErrorStop (drop 1))
 action_code_step (t.Action::Call n as') = call_code n None as'
 action_code_step (t.Action::Refer n) = refer_code n None

@@ -88,6 +88,7 @@ pub fn count_actions(actions: &[Action]) -> usize
 }
 
 #[cycle(count)]
+#[tactic(auto, using(elan_types::specs::declared::core_phrase::Action::TheFolds::the_lemmas))]
 fn count_action(action: &Action) -> usize
     ensures { result ≡ counted (action_code action.now).size }
 {
@@ -115,9 +116,10 @@ fn count_action(action: &Action) -> usize
             0,
         ),
         Action::Count { .. } => count_stepped(action),
-        Action::Ask(_, operands) => count_values(operands.as_slice()).saturating_add(1),
+        Action::Ask(_, actuals) | Action::Call(_, actuals) => {
+            count_actuals(actuals.as_slice()).saturating_add(1)
+        }
         Action::ErrorStop(text) => count_value(text).saturating_add(1),
-        Action::Call(_, actuals) => count_actuals(actuals.as_slice()).saturating_add(1),
         Action::Refer(_) => 1,
         Action::Leave(_) => 1,
         Action::LeaveWith(_, _, value) => count_value(value).saturating_add(1),

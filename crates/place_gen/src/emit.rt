@@ -196,8 +196,8 @@ fn add_action(out: &mut Draft, action: &Action)
             add_value(out, v);
             add_parts(out, action);
         }
-        Action::Ask(name, operands) => {
-            add_values(out, operands.as_slice());
+        Action::Ask(name, actuals) => {
+            add_actuals(out, actuals.as_slice());
             put_request(out, *name);
         }
         Action::ErrorStop(text) => {

@@ -1,7 +1,7 @@
 //! Single instructions, and the few that always stand together.
 ghost use Rattle.std.specs.Prelude.{◌≡◌, ◌∷◌, ◌+◌, ℕ, length, drop};
 ghost use Rattle.eu_base.specs.Operations.{operand_kinds, result_kind};
-ghost use Rattle.eu_base.specs.Requests.{request_kinds};
+ghost use Rattle.eu_base.specs.Requests.{request_size};
 ghost use Rattle.eu_base.specs.declared.value.Kind.TheVariants as kinds;
 ghost use Rattle.code_form.specs.declared.operand.OperandKind.TheVariants as operand;
 ghost use Rattle.code_form.specs.declared.instr.Instr.TheVariants as instrs;
@@ -140,9 +140,9 @@ pub fn put_operation(out: &mut Draft, operation: Operation)
 
 /// A request with the operands on top.
 pub fn put_request(out: &mut Draft, name: RequestName)
-    ensures { Makes (one (instrs.Ask name) (drop (length (request_kinds name)))) out.old out.new }
+    ensures { Makes (one (instrs.Ask name) (drop (request_size name))) out.old out.new }
 {
-    out.add(Instr::Ask(name), name.operand_kinds().len(), None);
+    out.add(Instr::Ask(name), name.size(), None);
 }
 
 /// A call of the PROC with this number, which takes so many operands.

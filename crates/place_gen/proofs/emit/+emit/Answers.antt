@@ -1,13 +1,12 @@
-use Rattle.std.proofs.Common.{rules, ◌⊎◌, inl, inr, ◌≡◌, ◌+◌, [], ◌∷◌, map, drop, length, subst, ap, ◌∙◌, sym, refl, arith}
+use Rattle.std.proofs.Common.{rules, ◌⊎◌, inl, inr, ◌≡◌, ◌+◌, ◌∷◌, map, drop, length, subst, ◌∙◌, sym, refl, arith}
 use Rattle.std.specs.Prelude.{option_map}
-use Rattle.std.proofs.lemmas.List.{drop_all}
 use Rattle.std.proofs.lemmas.Grind.{common_steps}
 use borrow.Author.Tests.{tests}
 use Rattle.elan_types.specs.Eval.{Labelled}
 use Rattle.elan_types.specs.declared.core_phrase.Action.TheFolds.{the_lemmas}
 use Rattle.eu_base.specs.declared.value.Kind.TheVariants as kinds
 use Rattle.eu_base.specs.Operations.{operand_kinds, result_kind}
-use Rattle.eu_base.specs.Requests.{request_kinds}
+use Rattle.eu_base.specs.Requests.{request_size}
 use Rattle.code_form.specs.declared.operand.OperandKind.TheVariants as operand
 use Rattle.code_form.specs.declared.instr.Instr.TheVariants.{Mark, Do, Jump, False, Ask, ErrorStop}
 use Rattle.place_gen.specs.Counted.{counted}
@@ -17,51 +16,42 @@ use Rattle.place_gen.specs.Stretch.{value_arm_code, arm_code_of, place_code, sto
 use Rattle.place_gen.specs.Steps.{step_of, turn_of, loop_code, count_code}
 use Rattle.place_gen.specs.Makes.{Makes, MakesExit, MakesArm, MakesTurn, ComesBack}
 use Rattle.place_gen.proofs.Select.{select_size}
-use Rattle.place_gen.proofs.Makes.{rest_of, none_makes, same_makes, join_makes, if_makes, until_makes, turn_exit, turns_makes, arm_makes, IsAt, arm_at}
-use Rattle.place_gen.proofs.Makes.{select_makes}
+use Rattle.place_gen.proofs.Makes.{same_makes, join_makes, if_makes, until_makes, turn_exit, turns_makes, arm_makes, more_makes, all_makes}
+use Rattle.place_gen.proofs.Makes.{first_arm_at, next_arm_at, more_arms_make, arms_make}
 use Rattle.place_gen.proofs.emit.+emit.Goals as goal
 
 pub add_actions-loop-action-init : goal.add_actions-loop-action-init
 add_actions-loop-action-init t c new m = m
 
 pub add_actions-loop-action-preserved : goal.add_actions-loop-action-preserved
-add_actions-loop-action-preserved t c new m =
-    let rest = rest_of c.args.actions.now c.loop-action.action-index c.action-item.result c.loop-action-test.true c.action-item.is in
-    c.loop-action.invariant new (subst (λ l. Makes (all_code (map action_code l)) c.loop-action.out new) (sym rest) (join_makes c.add_action.ensures m))
+add_actions-loop-action-preserved t c =
+    let l = c.loop-action in
+    more_makes action_code c.args.actions.now l.action-index l.invariant c.action-item.result c.loop-action-test.true c.action-item.is c.add_action.ensures
 
 pub add_actions-returns : goal.add_actions-returns
-add_actions-returns t c =
-    let none : drop c.loop-action.action-index c.args.actions.now ≡ [] = drop_all c.loop-action.action-index c.args.actions.now c.loop-action-test.false in
-    let out = c.loop-action.out in
-    c.loop-action.invariant out (subst (λ l. Makes (all_code (map action_code l)) out out) (sym none) none_makes)
+add_actions-returns t c = all_makes action_code c.args.actions.now c.loop-action.action-index c.loop-action.invariant c.loop-action-test.false
 
 pub add_actuals-loop-actual-init : goal.add_actuals-loop-actual-init
 add_actuals-loop-actual-init t c new m = m
 
 pub add_actuals-loop-actual-preserved : goal.add_actuals-loop-actual-preserved
-add_actuals-loop-actual-preserved t c new m =
-    let rest = rest_of c.args.actuals.now c.loop-actual.actual-index c.actual-item.result c.loop-actual-test.true c.actual-item.is in
-    c.loop-actual.invariant new (subst (λ l. Makes (all_code (map actual_code l)) c.loop-actual.out new) (sym rest) (join_makes c.add_actual.ensures m))
+add_actuals-loop-actual-preserved t c =
+    let l = c.loop-actual in
+    more_makes actual_code c.args.actuals.now l.actual-index l.invariant c.actual-item.result c.loop-actual-test.true c.actual-item.is c.add_actual.ensures
 
 pub add_actuals-returns : goal.add_actuals-returns
-add_actuals-returns t c =
-    let none : drop c.loop-actual.actual-index c.args.actuals.now ≡ [] = drop_all c.loop-actual.actual-index c.args.actuals.now c.loop-actual-test.false in
-    let out = c.loop-actual.out in
-    c.loop-actual.invariant out (subst (λ l. Makes (all_code (map actual_code l)) out out) (sym none) none_makes)
+add_actuals-returns t c = all_makes actual_code c.args.actuals.now c.loop-actual.actual-index c.loop-actual.invariant c.loop-actual-test.false
 
 pub add_values-loop-value-init : goal.add_values-loop-value-init
 add_values-loop-value-init t c new m = m
 
 pub add_values-loop-value-preserved : goal.add_values-loop-value-preserved
-add_values-loop-value-preserved t c new m =
-    let rest = rest_of c.args.values.now c.loop-value.value-index c.value-item.result c.loop-value-test.true c.value-item.is in
-    c.loop-value.invariant new (subst (λ l. Makes (all_code (map value_code l)) c.loop-value.out new) (sym rest) (join_makes c.add_value.ensures m))
+add_values-loop-value-preserved t c =
+    let l = c.loop-value in
+    more_makes value_code c.args.values.now l.value-index l.invariant c.value-item.result c.loop-value-test.true c.value-item.is c.add_value.ensures
 
 pub add_values-returns : goal.add_values-returns
-add_values-returns t c =
-    let none : drop c.loop-value.value-index c.args.values.now ≡ [] = drop_all c.loop-value.value-index c.args.values.now c.loop-value-test.false in
-    let out = c.loop-value.out in
-    c.loop-value.invariant out (subst (λ l. Makes (all_code (map value_code l)) out out) (sym none) none_makes)
+add_values-returns t c = all_makes value_code c.args.values.now c.loop-value.value-index c.loop-value.invariant c.loop-value-test.false
 
 pub add_value-returns-in-Apply : goal.add_value-returns-in-Apply
 add_value-returns-in-Apply t c =
@@ -178,39 +168,29 @@ add_parts-loop-arm-init t c =
     let k : c.count_arms.result ≡ counted whole.size = omega (arith, c.count_arms.ensures, o, s) in
     record {
       rest = λ new m. same_makes c.ahead-end.ensures.draft (same_makes c.kept-kept.ensures.draft m);
-      at = record {
-        ends = λ h. let q = c.kept-kept.ensures.draft.met h in
-            c.ahead-end.ensures.place q.0 whole.size k ∙ ap (λ n. n + whole.size) (sym (ap length (q.1.0 ∙ (c.ahead-end.ensures.draft.met q.0).1.0)));
-        pending = λ h. (c.kept-kept.ensures.draft.met h).1.1 ∙ sym (c.as_slice-top.ensures ∙ c.kept-kept.ensures.kinds h);
-      };
+      at =
+          first_arm_at arm_code_of c.as_slice-arms.result.now other c.ahead-end.ensures.draft (λ h. c.ahead-end.ensures.place h whole.size k)
+          c.kept-kept.ensures.draft (λ h. c.as_slice-top.ensures ∙ c.kept-kept.ensures.kinds h);
     }
 
 pub add_parts-loop-arm-preserved : goal.add_parts-loop-arm-preserved
 add_parts-loop-arm-preserved t c =
+    let l = c.loop-arm in
     let other = all_code (map action_code c.in-Select.other) in
     let arms = c.as_slice-arms.result.now in
-    let arm = arm_code_of c.arm-item.result in
-    let more = map arm_code_of (drop (c.loop-arm.arm-index + 1) arms) in
-    let rest = rest_of arms c.loop-arm.arm-index c.arm-item.result c.loop-arm-test.true c.arm-item.is in
-    let at : IsAt (select_code (arm ∷ more) other) c.ahead-end.result c.as_slice-top.result.now c.loop-arm.out =
-    subst (λ l. IsAt (select_code (map arm_code_of l) other) c.ahead-end.result c.as_slice-top.result.now c.loop-arm.out) rest c.loop-arm.invariant.at in
+    let arm = c.arm-item.result in
     record {
-      rest =
-          λ new m. c.loop-arm.invariant.rest new
-          (subst (λ l. Makes (select_code (map arm_code_of l) other) c.loop-arm.out new) (sym rest) (select_makes arm more other at c.add_arm.ensures m));
-      at = arm_at arm more other at c.add_arm.ensures;
+      rest = more_arms_make arm_code_of arms other l.arm-index arm c.loop-arm-test.true c.arm-item.is l.invariant.at c.add_arm.ensures l.invariant.rest;
+      at = next_arm_at arm_code_of arms other l.arm-index arm c.loop-arm-test.true c.arm-item.is l.invariant.at c.add_arm.ensures;
     }
 
 pub add_parts-returns : goal.add_parts-returns
 add_parts-returns t c =
     let other = all_code (map action_code c.in-Select.other) in
     let arms = c.as_slice-arms.result.now in
-    let none : drop c.loop-arm.arm-index arms ≡ [] = drop_all c.loop-arm.arm-index arms c.loop-arm-test.false in
     let done = c.add_actions.new.out in
     let last = subst (λ l. Makes (all_code (map action_code l)) c.add.new.self done) c.as_slice-2.ensures c.add_actions.ensures in
-    let whole =
-    c.loop-arm.invariant.rest done
-    (subst (λ l. Makes (select_code (map arm_code_of l) other) c.loop-arm.out done) (sym none) (join_makes c.add.ensures last)) in
+    let whole = arms_make arm_code_of arms other c.loop-arm.arm-index c.loop-arm-test.false c.loop-arm.invariant.rest c.add.ensures last in
     let e : select_code (map arm_code_of arms) other ≡ action_parts c.args.action.now = search (rules, the_lemmas, c.in-Select.is, c.as_slice-arms.ensures) in
     subst (λ f. Makes f c.args.out.now done) e whole
 
@@ -223,40 +203,29 @@ add_value_parts-loop-arm-init t c =
     let k : c.count_value_arms.result ≡ counted whole.size = omega (arith, c.count_value_arms.ensures, o, s) in
     record {
       rest = λ new m. same_makes c.ahead-end.ensures.draft (same_makes c.kept-kept.ensures.draft m);
-      at = record {
-        ends = λ h. let q = c.kept-kept.ensures.draft.met h in
-            c.ahead-end.ensures.place q.0 whole.size k ∙ ap (λ n. n + whole.size) (sym (ap length (q.1.0 ∙ (c.ahead-end.ensures.draft.met q.0).1.0)));
-        pending = λ h. (c.kept-kept.ensures.draft.met h).1.1 ∙ sym (c.as_slice-top.ensures ∙ c.kept-kept.ensures.kinds h);
-      };
+      at =
+          first_arm_at value_arm_code c.as_slice-arms.result.now other c.ahead-end.ensures.draft (λ h. c.ahead-end.ensures.place h whole.size k)
+          c.kept-kept.ensures.draft (λ h. c.as_slice-top.ensures ∙ c.kept-kept.ensures.kinds h);
     }
 
 pub add_value_parts-loop-arm-preserved : goal.add_value_parts-loop-arm-preserved
 add_value_parts-loop-arm-preserved t c =
+    let l = c.loop-arm in
     let other = value_code c.in-Select.other in
     let arms = c.as_slice-arms.result.now in
-    let arm = value_arm_code c.arm-item.result in
-    let more = map value_arm_code (drop (c.loop-arm.arm-index + 1) arms) in
-    let rest = rest_of arms c.loop-arm.arm-index c.arm-item.result c.loop-arm-test.true c.arm-item.is in
-    let at : IsAt (select_code (arm ∷ more) other) c.ahead-end.result c.as_slice-top.result.now c.loop-arm.out =
-    subst (λ l. IsAt (select_code (map value_arm_code l) other) c.ahead-end.result c.as_slice-top.result.now c.loop-arm.out) rest c.loop-arm.invariant.at in
+    let arm = c.arm-item.result in
     record {
-      rest =
-          λ new m. c.loop-arm.invariant.rest new
-          (subst (λ l. Makes (select_code (map value_arm_code l) other) c.loop-arm.out new) (sym rest)
-          (select_makes arm more other at c.add_value_arm.ensures m));
-      at = arm_at arm more other at c.add_value_arm.ensures;
+      rest = more_arms_make value_arm_code arms other l.arm-index arm c.loop-arm-test.true c.arm-item.is l.invariant.at c.add_value_arm.ensures l.invariant.rest;
+      at = next_arm_at value_arm_code arms other l.arm-index arm c.loop-arm-test.true c.arm-item.is l.invariant.at c.add_value_arm.ensures;
     }
 
 pub add_value_parts-returns : goal.add_value_parts-returns
 add_value_parts-returns t c =
     let other = value_code c.in-Select.other in
     let arms = c.as_slice-arms.result.now in
-    let none : drop c.loop-arm.arm-index arms ≡ [] = drop_all c.loop-arm.arm-index arms c.loop-arm-test.false in
     let done = c.add_value.new.out in
     let last = subst (λ v. Makes (value_code v) c.add.new.self done) c.get-2.ensures c.add_value.ensures in
-    let whole =
-    c.loop-arm.invariant.rest done
-    (subst (λ l. Makes (select_code (map value_arm_code l) other) c.loop-arm.out done) (sym none) (join_makes c.add.ensures last)) in
+    let whole = arms_make value_arm_code arms other c.loop-arm.arm-index c.loop-arm-test.false c.loop-arm.invariant.rest c.add.ensures last in
     let e : select_code (map value_arm_code arms) other ≡ value_parts c.args.phrase.now = search (rules, the_lemmas, c.in-Select.is, c.as_slice-arms.ensures) in
     subst (λ f. Makes f c.args.out.now done) e whole
 
@@ -310,9 +279,9 @@ add_action-returns-in-Select t c =
 pub add_action-returns-in-Ask : goal.add_action-returns-in-Ask
 add_action-returns-in-Ask t c =
     let name = c.in-Ask.name in
-    let e : join (all_code (map value_code c.as_slice-in-Ask.result.now)) (one (Ask name) (drop (length (request_kinds name)))) ≡ action_code c.args.action.now =
+    let e : join (all_code (map actual_code c.as_slice-in-Ask.result.now)) (one (Ask name) (drop (request_size name))) ≡ action_code c.args.action.now =
     search (rules, the_lemmas, c.in-Ask.is, c.as_slice-in-Ask.ensures) in
-    subst (λ f. Makes f c.args.out.now c.put_request.new.out) e (join_makes c.add_values.ensures c.put_request.ensures)
+    subst (λ f. Makes f c.args.out.now c.put_request.new.out) e (join_makes c.add_actuals.ensures c.put_request.ensures)
 
 pub add_action-returns-in-ErrorStop : goal.add_action-returns-in-ErrorStop
 add_action-returns-in-ErrorStop t c =

@@ -1,0 +1,92 @@
+-- What requests do, whatever they are given.
+use Rattle.std.proofs.Common.{◌≡◌, ℕ, ◌+◌, ◌≤◌, List, [], ◌∷◌, map, length, drop, Option, refl, sym, ap, ◌∙◌, subst, arith}
+use Rattle.std.specs.Prelude.{Ok, Err}
+use Rattle.std.proofs.lemmas.List.{drop-map, length-map}
+use Rattle.eu_base.specs.declared.address.TheConstants.{CELLS}
+use Rattle.eu_base.specs.declared.value.Kind.{Kind}
+use Rattle.eu_base.specs.declared.value.Value.{Value}
+use Rattle.eu_base.specs.declared.request.RequestName.{RequestName}
+use Rattle.eu_base.specs.declared.request.Reply.{Reply}
+use Rattle.eu_base.specs.Values.{IsOf}
+use Rattle.eu_base.specs.Operations.{Given}
+use Rattle.eu_base.specs.Requests.{request_kinds, request_places, request_size, request_of, reply_text, read_as}
+use Rattle.eu_base.specs.Cells.{Cells}
+use Rattle.eu_base.proofs.Results.{read_gives}
+use Rattle.code_form.specs.declared.operand.Operand.{Operand}
+use Rattle.code_form.specs.declared.operand.OperandKind.TheVariants as operand
+use Rattle.code_form.specs.declared.instr.Instr.TheVariants.{Ask}
+use Rattle.code_form.specs.Program.{Program, instr_of}
+use Rattle.code_form.specs.Machine.{Position, given, Asks, Spends, at, or_halt, value_in, keeps, takes_reply}
+use Rattle.code_form.specs.Valid.{request_operands}
+use Rattle.elan_types.specs.declared.core_phrase.Exit.{Exit}
+use Rattle.elan_types.specs.Eval.{Slot, World, Gives, bind, or_stop, assign, value_of, keep, actuals, request, Run}
+use Rattle.elan_types.specs.Command.{Ending}
+use Rattle.place_gen.specs.Stretch.{Stretch, one, join}
+use Rattle.place_gen.specs.Correct.{Comes, scene_of}
+use Rattle.place_gen.proofs.Lines.{join_sized}
+use Rattle.place_gen.proofs.Tables.{size_is}
+use Rattle.place_gen.proofs.Cells.{Uses, Keeps}
+use Rattle.place_gen.proofs.Carry.{finish, reach, Ends, Does, does_given, does_go, stop_comes, put_ends, TakeAll, pushed_slots, here}
+use Rattle.place_gen.proofs.Carry.{ask_carries, join_carries}
+use Rattle.place_gen.proofs.Slots.{slot_operand, values_same, all_taken, behind}
+use Rattle.place_gen.proofs.Forms.{IsAction}
+use Rattle.place_gen.proofs.Calls.{AreActuals}
+
+-- where a reply was given, and a run goes on behind the request
+module _ (p : Program) (L : Uses) (room : length L ≤ CELLS) (c : Position) (r : Reply) (ops : List Operand) (w : World) (cells : Cells)
+    (k : Unit {0} → World → Ending) (l : Exit → Option Value → World → Ending) (kept : Keeps L w.store cells)
+    (go : (w' : World) → w'.marks ≤ w.marks → Ends p L (at c (c.pc + 1) ops) w' (k tt w')) where
+  -- the value goes into the variable, where there is one
+  keep_ends : (ks : List Kind) (ss : List Slot) (v : Value) → TakeAll p (map operand.Place ks) L ss → ((k : Kind) (ks' : List Kind) → ks ≡ k ∷ ks' → IsOf k v)
+      → Does p (given c r) (scene_of w cells) (keeps c (map slot_operand ss) v ops cells) → Comes p (given c r) (scene_of w cells) (finish (keep ss v w) k l)
+  keep_ends [] [] v t is does = does_go p (given c r) (at c (c.pc + 1) ops) (scene_of w cells) cells _ does (go w (omega arith) cells kept)
+  keep_ends [] (s ∷ ss) v t is does = absurd t
+  keep_ends (k' ∷ ks) [] v t is does = absurd t
+  keep_ends (k' ∷ ks) (s ∷ ss) v t is does =
+      let x = t.0.0 in
+      let does' = subst (λ s. Does p (given c r) (scene_of w cells) (keeps c (map slot_operand (s ∷ ss)) v ops cells)) t.0.1 does in
+      subst (λ s. Comes p (given c r) (scene_of w cells) (finish (keep (s ∷ ss) v w) k l)) (sym t.0.1)
+      (put_ends p (given c r) (at c (c.pc + 1) ops) w x k' v (Gives (tt {0})) k l cells room t.0.2 (is k' ks refl) kept does' (go (assign x v w) (omega arith)))
+
+  -- what the reply brings is read, or it stops
+  reply_ends : (g : Given) (ks : List Kind) (ss : List Slot) → TakeAll p (map operand.Place ks) L ss
+      → ((v : Value) → g ≡ Ok v → (k : Kind) (ks' : List Kind) → ks ≡ k ∷ ks' → IsOf k v)
+      → Does p (given c r) (scene_of w cells) (or_halt g (λ v. keeps c (map slot_operand ss) v ops cells))
+      → Comes p (given c r) (scene_of w cells) (finish (or_stop g (keep ss) w) k l)
+  reply_ends (Ok v) ks ss t is does = keep_ends ks ss v t (is v refl) does
+  reply_ends (Err s) ks ss t is does = stop_comes p L (given c r) w s cells kept does
+
+module _ (p : Program) (body : Option ℕ) where
+  -- a request waits at its instruction, takes its operands with the reply, and gives its variable what that brings
+  pub ask_is : (xs : List (Run Slot)) {f : Stretch} (name : RequestName) → AreActuals p body (request_operands name) xs f
+      → IsAction p body (λ r w. bind (actuals xs r w) (request name)) (join f (one (Ask name) (drop (request_size name))))
+  ask_is xs {f} name i =
+      let g = one (Ask name) (drop (request_size name)) in
+      let n = length (request_kinds name) in record {
+        sized = join_sized f g i.sized (λ ks m pc. refl);
+        goes =
+            λ calls turns b pc L ks m c ops home le has.
+            join_carries p f g b pc ks m c ops (actuals xs (reach calls turns c ops)) (request name) (λ ss. pushed_slots p ss ops) (λ _. ops) i.sized has
+            (λ h. i.goes calls turns b pc L ks m c ops home le h) (λ h ss oks.
+            let q = pc + f.size in
+            let now = at c q (pushed_slots p ss ops) in
+            let many = size_is name in
+            let places =
+            subst (λ n. TakeAll p (map operand.Place (request_places name)) L (drop n ss)) (length-map (request_kinds name) operand.Value)
+            (behind p L (map operand.Value (request_kinds name)) (map operand.Place (request_places name)) ss oks) in
+            ask_carries p b (request_of name (map value_of ss)) now (λ r. or_stop (read_as name (reply_text r)) (keep (drop n ss))) (λ _. at c (q + 1) ops)
+            (λ cells. here p q (Ask name) (f.leaves ks) m h.0 c (pushed_slots p ss ops) cells
+            ∙ all_taken p L (request_operands name) (request_size name) ss ops (λ os ops. Spends (Asks now (request_of name (map value_in os)) cells)) many oks
+            ∙ ap (λ vs. Spends (Asks now (request_of name vs) cells)) (values_same ss))
+            (λ b' r. record {
+              by = λ k l hk w le' cells kept.
+                  let read = read_as name (reply_text r) in
+                  let move = λ (os : List Operand). or_halt read (λ v. keeps now os v ops cells) in
+                  reply_ends p L le.stands.room now r ops w cells k l kept (λ w' fewer. hk tt w' tt (omega (arith, le', fewer))) read (request_places name)
+                  (drop n ss) places (λ v e k' ks' is. read_gives name k' ks' (reply_text r) is v e)
+                  (does_given p now r (scene_of w cells) _ (ap (λ o. takes_reply (instr_of o) r now cells) h.0
+                  ∙ all_taken p L (request_operands name) (request_size name) ss ops
+                  (λ os ops. or_halt read (λ v. keeps now (drop n os) v ops cells)) many oks
+                  ∙ ap move (drop-map slot_operand n ss)));
+            }));
+      }
