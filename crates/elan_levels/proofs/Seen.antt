@@ -12,13 +12,13 @@ use Rattle.elan_levels.specs.Declarations.{declared}
 use Rattle.elan_levels.specs.walks.Uses.{called, all_called}
 
 pub declarations : (s : Names) (ns : List Node) → went (λ (s : Names) n. with_entries s (declared n)) s ns ≡ with_entries s (flat_map declared ns)
-declarations s [] = sym (ap (λ (es : List Entry). record { alloc = s.alloc; entries = es }) (append-nil s.entries))
+declarations s [] = sym (ap (λ (es : List Entry). record { alloc = s.alloc; entries = es; wanted = s.wanted }) (append-nil s.entries))
 declarations s (n ∷ ns) =
     declarations (with_entries s (declared n)) ns
-    ∙ ap (λ (es : List Entry). record { alloc = s.alloc; entries = es }) (append_assoc s.entries (declared n) (flat_map declared ns))
+    ∙ ap (λ (es : List Entry). record { alloc = s.alloc; entries = es; wanted = s.wanted }) (append_assoc s.entries (declared n) (flat_map declared ns))
 
 pub calls : (s : Called) (ns : List Node) → went (λ (s : Called) n. with_numbers s (called s.scope.now n)) s ns ≡ with_numbers s (all_called s.scope.now ns)
-calls s [] = sym (ap (λ (es : List ℕ). record { scope = s.scope; numbers = es }) (append-nil s.numbers))
+calls s [] = sym (ap (λ (es : List ℕ). record { scope = s.scope; numbers = es; wanted = s.wanted }) (append-nil s.numbers))
 calls s (n ∷ ns) =
     calls (with_numbers s (called s.scope.now n)) ns
-    ∙ ap (λ (es : List ℕ). record { scope = s.scope; numbers = es }) (append_assoc s.numbers (called s.scope.now n) (all_called s.scope.now ns))
+    ∙ ap (λ (es : List ℕ). record { scope = s.scope; numbers = es; wanted = s.wanted }) (append_assoc s.numbers (called s.scope.now n) (all_called s.scope.now ns))

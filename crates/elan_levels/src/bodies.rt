@@ -4,6 +4,7 @@ ghost use Rattle.std.specs.Prelude.{◌≡◌, ◌++◌, flat_map, option_map, I
 ghost use Rattle.elan_scope.specs.declared.scope.Denotes.TheVariants as denote;
 ghost use Rattle.elan_scope.specs.Scope as scopes;
 ghost use Rattle.elan_levels.specs.Bodies as spec;
+ghost use Rattle.elan_levels.specs.walks.Seen.{Adds};
 
 use crate::declare::Names;
 use elan_scope::directory::Directory;
@@ -72,90 +73,82 @@ fn as_parameter(parameter: Option<Parameter>) -> Option<Denotes>
     }
 }
 
-fn named_as(out: &mut Names, names: &[Name], denotes: Option<Denotes>) -> Result<(), NoMemory>
-    ensures { OnOk result (out.new.entries ≡ out.old.entries ++ spec.named_as names.now denotes) }
+fn named_as(mut out: Names, names: &[Name], denotes: Option<Denotes>) -> Names
+    ensures { Adds (spec.named_as names.now denotes) out result }
 {
     for name in names {
-        out.add(name, denotes)?;
+        out = out.add(name, denotes);
     }
-    Ok(())
+    out
 }
 
-fn parameter_names(out: &mut Names, formals: &[Formal]) -> Result<(), NoMemory>
-    ensures { OnOk result (out.new.entries ≡ out.old.entries ++ spec.parameter_names formals.now) }
+fn parameter_names(mut out: Names, formals: &[Formal]) -> Names
+    ensures { Adds (spec.parameter_names formals.now) out result }
 {
     for formal in formals {
         let denotes = as_parameter(parameter(formal));
-        named_as(out, formal.names.as_slice(), denotes)?;
+        out = named_as(out, formal.names.as_slice(), denotes);
     }
-    Ok(())
+    out
 }
 
-fn refinement_names(out: &mut Names, refinements: &[Refinement]) -> Result<(), NoMemory>
-    ensures { OnOk result (out.new.entries ≡ out.old.entries ++ spec.refinement_names refinements.now) }
+fn refinement_names(mut out: Names, refinements: &[Refinement]) -> Names
+    ensures { Adds (spec.refinement_names refinements.now) out result }
 {
     for refinement in refinements {
-        out.add(&refinement.name, Some(Denotes::Refinement))?;
-        out.add_units(refinement.units.as_slice())?;
+        out = out.add(&refinement.name, Some(Denotes::Refinement));
+        out = out.add_units(refinement.units.as_slice());
     }
-    Ok(())
+    out
 }
 
 /// The names of a PROC or OP: its parameters, what its units declare, and its refinements.
 pub fn body_names(alloc: Global, formals: &[Formal], body: &Body) -> Result<Directory, NoMemory>
     ensures { IfOk result (λ names. names ≡ spec.body_names formals.now body.now) }
 {
-    let mut names = Names::new(alloc);
-    parameter_names(&mut names, formals)?;
-    names.add_units(body.units.as_slice())?;
-    refinement_names(&mut names, body.refinements.as_slice())?;
-    let Names { entries, .. } = names;
-    Directory::of(alloc, entries)
+    let names = parameter_names(Names::new(alloc), formals).add_units(body.units.as_slice());
+    let names = refinement_names(names, body.refinements.as_slice());
+    Directory::of(alloc, names.met()?)
 }
 
-fn unit_names(out: &mut Names, unit: &LevelUnit) -> Result<(), NoMemory>
-    ensures { OnOk result (out.new.entries ≡ out.old.entries ++ spec.unit_names unit.now) }
+fn unit_names(out: Names, unit: &LevelUnit) -> Names
+    ensures { Adds (spec.unit_names unit.now) out result }
 {
     match unit {
         LevelUnit::Plain(unit) => out.add_unit(unit),
         LevelUnit::Proc { name, formals, .. } => match formals.as_slice() {
             [] => out.add(name, Some(Denotes::Procedure)),
-            [_first, _others @ ..] => Ok(()),
+            [_first, _others @ ..] => out,
         },
-        LevelUnit::NewType { .. } => Ok(()),
-        LevelUnit::Op { .. } => Ok(()),
+        LevelUnit::NewType { .. } => out,
+        LevelUnit::Op { .. } => out,
     }
 }
 
-fn all_unit_names(out: &mut Names, units: &[LevelUnit]) -> Result<(), NoMemory>
-    ensures { OnOk result (out.new.entries ≡ out.old.entries ++ flat_map spec.unit_names units.now) }
+fn all_unit_names(mut out: Names, units: &[LevelUnit]) -> Names
+    ensures { Adds (flat_map spec.unit_names units.now) out result }
 {
     for unit in units {
-        unit_names(out, unit)?;
+        out = unit_names(out, unit);
     }
-    Ok(())
+    out
 }
 
 /// The names of a level: what its units declare, and its refinements.
 pub fn level_names(alloc: Global, level: &Level) -> Result<Directory, NoMemory>
     ensures { IfOk result (λ names. names ≡ spec.level_names level.now) }
 {
-    let mut names = Names::new(alloc);
-    all_unit_names(&mut names, level.units.as_slice())?;
-    refinement_names(&mut names, level.refinements.as_slice())?;
-    let Names { entries, .. } = names;
-    Directory::of(alloc, entries)
+    let names = all_unit_names(Names::new(alloc), level.units.as_slice());
+    let names = refinement_names(names, level.refinements.as_slice());
+    Directory::of(alloc, names.met()?)
 }
 
 /// What a body declares beside its parameters.
 pub fn own_names(alloc: Global, body: &Body) -> Result<List<Entry>, NoMemory>
     ensures { IfOk result (λ names. names ≡ spec.own_names body.now) }
 {
-    let mut names = Names::new(alloc);
-    names.add_units(body.units.as_slice())?;
-    refinement_names(&mut names, body.refinements.as_slice())?;
-    let Names { entries, .. } = names;
-    Ok(entries)
+    let names = Names::new(alloc).add_units(body.units.as_slice());
+    refinement_names(names, body.refinements.as_slice()).met()
 }
 
 // Adds the type of what is held under a name.

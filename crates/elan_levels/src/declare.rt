@@ -1,6 +1,6 @@
 //! The declarations of a text, in text order.
 
-ghost use Rattle.std.specs.Prelude.{◌≡◌, ◌++◌, option_map, OnOk};
+ghost use Rattle.std.specs.Prelude.{◌≡◌, false, Some, option_map, IfOk, OnOk};
 ghost use Rattle.elan_scope.specs.declared.scope.Denotes.TheVariants as denotes;
 ghost use Rattle.elan_unbuilt.specs.Types.{written_type};
 ghost use Rattle.elan_levels.specs.Declarations as spec;
@@ -35,11 +35,13 @@ fn constants(of: &TypePhrase) -> Option<Denotes>
 pub struct Names {
     pub alloc: Global,
     pub entries: List<Entry>,
+    /// Whether memory was wanted. What was added is worth nothing then.
+    pub wanted: bool,
 }
 
 impl Names {
     ghost use Rattle.std.specs.Prelude.{[]};
-    ghost use Rattle.elan_levels.specs.walks.Seen.{with_entries};
+    ghost use Rattle.elan_levels.specs.walks.Seen.{with_entries, Adds};
 
     pub fn new(alloc: Global) -> Names
         ensures { result.entries ≡ [] }
@@ -47,37 +49,59 @@ impl Names {
         Names {
             alloc,
             entries: List::new(alloc),
+            wanted: false,
         }
     }
 
     /// Adds the declaration of a name.
-    pub fn add(&mut self, name: &Name, denotes: Option<Denotes>) -> Result<(), NoMemory>
-        ensures { OnOk result (self.new ≡ with_entries self.old (spec.entry name.now denotes)) }
+    pub fn add(mut self, name: &Name, denotes: Option<Denotes>) -> Names
+        ensures { result.wanted ≡ false → (self.wanted ≡ false) × (result ≡ with_entries self (spec.entry name.now denotes)) }
     {
-        match denotes {
-            None => Ok(()),
-            Some(denotes) => self.entries.push(Entry {
-                at: name.at,
-                name: Bytes::from(self.alloc, name.text.as_slice())?,
-                denotes,
-            }),
+        if let Some(denotes) = denotes {
+            match self.push(name, denotes) {
+                Ok(()) => (),
+                Err(NoMemory) => self.wanted = true,
+            }
         }
+        self
+    }
+
+    fn push(&mut self, name: &Name, denotes: Denotes) -> Result<(), NoMemory>
+        ensures { OnOk result (self.new ≡ with_entries self.old (spec.entry name.now (Some denotes))) }
+    {
+        self.entries.push(Entry {
+            at: name.at,
+            name: Bytes::from(self.alloc, name.text.as_slice())?,
+            denotes,
+        })
     }
 
     /// Adds what a unit declares.
     #[tactic(auto, using(crate::proofs::Seen::declarations))]
-    pub fn add_unit(&mut self, unit: &Unit) -> Result<(), NoMemory>
-        ensures { OnOk result (self.new.entries ≡ self.old.entries ++ spec.in_unit unit.now) }
+    pub fn add_unit(self, unit: &Unit) -> Names
+        ensures { Adds (spec.in_unit unit.now) self result }
     {
         visit_unit(self, unit)
     }
 
     /// Adds what units declare.
     #[tactic(auto, using(crate::proofs::Seen::declarations))]
-    pub fn add_units(&mut self, units: &[Unit]) -> Result<(), NoMemory>
-        ensures { OnOk result (self.new.entries ≡ self.old.entries ++ spec.in_units units.now) }
+    pub fn add_units(self, units: &[Unit]) -> Names
+        ensures { Adds (spec.in_units units.now) self result }
     {
         visit_units(self, units)
+    }
+
+    /// What was added, where memory sufficed for it.
+    pub fn met(self) -> Result<List<Entry>, NoMemory>
+        ensures { IfOk result (λ entries. (self.wanted ≡ false) × (entries ≡ self.entries)) }
+    {
+        let Names {
+            entries,
+            wanted,
+            ..
+        } = self;
+        if wanted { Err(NoMemory) } else { Ok(entries) }
     }
 }
 
@@ -86,13 +110,13 @@ impl Visitor for Names {
 
     ghost after = { λ s n. with_entries s (spec.declared n) };
 
-    ghost grows = { Unit {0} };
+    ghost wanted = { λ s. s.wanted };
 
-    fn visit(&mut self, node: Node<'_>) -> Result<(), NoMemory> {
+    fn visit(self, node: Node<'_>) -> Names {
         match node {
             Node::Item(Held::Variable, of, name) => self.add(name, variables(of)),
             Node::Item(Held::Constant, of, name) => self.add(name, constants(of)),
-            _ => Ok(()),
+            _ => self,
         }
     }
 }

@@ -2,6 +2,6 @@
 #![tactic(auto)]
 
 pub mod bodies;
-pub mod declare;
+mod declare;
 pub mod heading;
 pub mod uses;

@@ -14,6 +14,36 @@ use std::alloc::Global;
 struct Called<'a> {
     scope: &'a Scope,
     numbers: List<usize>,
+    // Whether memory was wanted. What was found is worth nothing then.
+    wanted: bool,
+}
+
+impl Called<'_> {
+    ghost use Rattle.std.specs.Prelude.{false, option_to_list};
+    ghost use Rattle.elan_levels.specs.walks.Seen.{with_numbers};
+
+    fn add(mut self, number: Option<usize>) -> Self
+        ensures { result.wanted ≡ false → (self.entry.wanted ≡ false) × (result ≡ with_numbers self.entry (option_to_list number)) }
+    {
+        if let Some(number) = number {
+            match self.numbers.push(number) {
+                Ok(()) => (),
+                Err(NoMemory) => self.wanted = true,
+            }
+        }
+        self
+    }
+
+    fn met(self) -> Result<List<usize>, NoMemory>
+        ensures { IfOk result (λ numbers. (self.entry.wanted ≡ false) × (numbers ≡ self.entry.numbers)) }
+    {
+        let Called {
+            numbers,
+            wanted,
+            ..
+        } = self;
+        if wanted { Err(NoMemory) } else { Ok(numbers) }
+    }
 }
 
 impl Visitor for Called<'_> {
@@ -21,16 +51,14 @@ impl Visitor for Called<'_> {
 
     ghost after = { λ s n. with_numbers s (spec.called s.scope.now n) };
 
-    ghost grows = { Unit {0} };
+    ghost wanted = { λ s. s.wanted };
 
-    fn visit(&mut self, node: Node<'_>) -> Result<(), NoMemory> {
+    fn visit(self, node: Node<'_>) -> Self {
         let Node::Alone(name) = node else {
-            return Ok(());
+            return self;
         };
-        match self.scope.refinement_named(name.text.as_slice()) {
-            None => Ok(()),
-            Some(number) => self.numbers.push(number),
-        }
+        let number = self.scope.refinement_named(name.text.as_slice());
+        self.add(number)
     }
 }
 
@@ -39,13 +67,12 @@ impl Visitor for Called<'_> {
 pub fn called_in(alloc: Global, scope: &Scope, units: &[Unit]) -> Result<List<usize>, NoMemory>
     ensures { IfOk result (λ numbers. numbers ≡ spec.in_units scope.now units.now) }
 {
-    let mut called = Called {
+    let called = Called {
         scope,
         numbers: List::new(alloc),
+        wanted: false,
     };
-    visit_units(&mut called, units)?;
-    let Called { numbers, .. } = called;
-    Ok(numbers)
+    visit_units(called, units).met()
 }
 
 /// The refinements that a unit calls.
@@ -53,11 +80,10 @@ pub fn called_in(alloc: Global, scope: &Scope, units: &[Unit]) -> Result<List<us
 pub fn called_in_unit(alloc: Global, scope: &Scope, unit: &Unit) -> Result<List<usize>, NoMemory>
     ensures { IfOk result (λ numbers. numbers ≡ spec.in_unit scope.now unit.now) }
 {
-    let mut called = Called {
+    let called = Called {
         scope,
         numbers: List::new(alloc),
+        wanted: false,
     };
-    visit_unit(&mut called, unit)?;
-    let Called { numbers, .. } = called;
-    Ok(numbers)
+    visit_unit(called, unit).met()
 }

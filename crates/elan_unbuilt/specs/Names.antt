@@ -5,10 +5,9 @@ use Rattle.std.specs.Str.{bytes_eq}
 
 unfoldable pub names_not_built : List (List ℕ)
 names_not_built =
-    codes "get" ∷ codes "getline" ∷ codes "niltask" ∷ codes "begin" ∷ codes "end" ∷ codes "myself" ∷ codes "father" ∷ codes "son" ∷ codes "brother" ∷ codes "task"
-    ∷ codes "name" ∷ codes "exists" ∷ codes "break"
-    ∷ codes "nilspace" ∷ codes "type" ∷ codes "forget" ∷ codes "new" ∷ codes "old" ∷ codes "rename" ∷ codes "copy" ∷ codes "send"
-    ∷ codes "wait" ∷ codes "call" ∷ []
+    codes "niltask" ∷ codes "begin" ∷ codes "end" ∷ codes "myself" ∷ codes "father" ∷ codes "son" ∷ codes "brother" ∷ codes "task" ∷ codes "name"
+    ∷ codes "exists" ∷ codes "break" ∷ codes "nilspace" ∷ codes "type" ∷ codes "forget" ∷ codes "new" ∷ codes "old" ∷ codes "rename" ∷ codes "copy"
+    ∷ codes "send" ∷ codes "wait" ∷ codes "call" ∷ []
 
 abbrev pub is_not_built : List ℕ → Bool
 is_not_built name = list_any (λ n. bytes_eq n name) names_not_built

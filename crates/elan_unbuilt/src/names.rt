@@ -5,9 +5,7 @@ ghost use Rattle.std.specs.List.{list_any};
 ghost use Rattle.std.specs.Str.{bytes_eq};
 ghost use Rattle.elan_unbuilt.specs.Names as spec;
 
-const NOT_BUILT: [&[u8]; 23] = [
-    b"get",
-    b"getline",
+const NOT_BUILT: [&[u8]; 21] = [
     b"niltask",
     b"begin",
     b"end",

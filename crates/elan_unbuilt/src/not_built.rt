@@ -6,7 +6,6 @@ ghost use Rattle.elan_unbuilt.specs.NotBuilt as spec;
 use crate::names::is_not_built;
 use crate::operators::operator_text;
 use crate::types::written_type;
-use containers::NoMemory;
 use elan_tree::Tree;
 use elan_walk::{Node, Visitor, visit_tree};
 
@@ -17,23 +16,24 @@ struct Search {
 }
 
 impl Visitor for Search {
-    ghost use Rattle.std.specs.Prelude.{◌||◌};
+    ghost use Rattle.std.specs.Prelude.{false, ◌||◌};
 
     ghost after = { λ s n. record { found = s.found || spec.node n } };
 
-    ghost grows = { ⊥ };
+    ghost wanted = { λ s. false };
 
-    fn visit(&mut self, node: Node<'_>) -> Result<(), NoMemory> {
-        self.found = self.found
-            || match node {
-                Node::Alone(named) => is_not_built(named.text.as_slice()),
-                Node::Other(named) => is_not_built(named.text.as_slice()),
-                Node::Operator(sign) => is_not_built(operator_text(sign)),
-                Node::Type(of) => written_type(of).is_none(),
-                Node::Item(_, _, named) => is_not_built(named.text.as_slice()),
-                Node::Unbuilt => true,
-            };
-        Ok(())
+    fn visit(self, node: Node<'_>) -> Search {
+        Search {
+            found: self.found
+                || match node {
+                    Node::Alone(named) => is_not_built(named.text.as_slice()),
+                    Node::Other(named) => is_not_built(named.text.as_slice()),
+                    Node::Operator(sign) => is_not_built(operator_text(sign)),
+                    Node::Type(of) => written_type(of).is_none(),
+                    Node::Item(_, _, named) => is_not_built(named.text.as_slice()),
+                    Node::Unbuilt => true,
+                },
+        }
     }
 }
 
@@ -41,9 +41,6 @@ impl Visitor for Search {
 pub fn has_unbuilt(tree: &Tree) -> bool
     ensures { result ≡ spec.not_built tree.now }
 {
-    let mut search = Search { found: false };
-    match visit_tree(&mut search, tree) {
-        Ok(()) => search.found,
-        Err(_) => unreachable!(),
-    }
+    let Search { found } = visit_tree(Search { found: false }, tree);
+    found
 }

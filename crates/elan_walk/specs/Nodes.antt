@@ -1,5 +1,5 @@
 -- The nodes of trees in text order, as far as they have a name, a type or an operator.
-use Rattle.std.specs.Prelude.{List, [], ◌∷◌, ◌++◌, map, flat_map, Option, Some, None, option_map, option_to_list, unwrap_or}
+use Rattle.std.specs.Prelude.{List, [], ◌∷◌, ◌++◌, map, flat_map, Option, option_map, option_to_list, unwrap_or}
 use Rattle.elan_tree.specs.declared.written_type.Name.{Name}
 use Rattle.elan_tree.specs.declared.written_type.Label.{Label}
 use Rattle.elan_tree.specs.declared.written_type.Label.TheVariants as label
@@ -124,10 +124,6 @@ in_counter = fold-Counter _ _ _ _ _ _ _ expr_step limit_step unit_step branch_st
 
 abbrev pub in_item : Item → Declares
 in_item = fold-Item _ _ _ _ _ _ _ expr_step limit_step unit_step branch_step case_step counter_step item_step
-
-abbrev pub in_optional : Option Expr → List Node
-in_optional None = []
-in_optional (Some a) = in_expr a
 
 abbrev pub in_units : List Statement → List Node
 in_units us = all (map in_unit us)

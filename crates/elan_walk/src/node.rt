@@ -1,8 +1,7 @@
 //! The nodes of trees, and who looks at them.
 
-ghost use Rattle.std.specs.Prelude.{◌≡◌, OnOk, OnErr};
+ghost use Rattle.std.specs.Prelude.{Bool, [], ◌∷◌};
 
-use containers::NoMemory;
 use elan_tree::{Name, Operator, TypePhrase};
 
 /// How the names of a declaration are held.
@@ -28,18 +27,18 @@ pub enum Node<'a> {
     Unbuilt,
 }
 
-/// Who looks at the nodes of trees.
+/// Who looks at the nodes of trees, and notes where memory was wanted.
 pub trait Visitor {
     ghost use Rattle.elan_walk.specs.Nodes as spec;
+    ghost use Rattle.elan_walk.specs.Walk.{Seen};
 
     /// What it is when it has seen a node.
     ghost after: { Self → spec.Node → Self };
 
-    /// Whether it may want memory.
-    ghost grows: { Type 0 };
+    /// Whether memory was wanted. What it found is worth nothing then.
+    ghost wanted: { Self → Bool };
 
     /// Looks at a node.
-    fn visit(&mut self, node: Node<'_>) -> Result<(), NoMemory>
-        ensures after { OnOk result (self.new ≡ after self.old (spec.plain node.entry)) }
-        ensures refused { OnErr result grows };
+    fn visit(self, node: Node<'_>) -> Self
+        ensures { Seen wanted after (spec.plain node.entry ∷ []) self result };
 }

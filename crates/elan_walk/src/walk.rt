@@ -1,36 +1,34 @@
 //! The walk.
 
-ghost use Rattle.std.specs.Prelude.{◌≡◌, ◌++◌, map, flat_map, OnOk, OnErr};
+ghost use Rattle.std.specs.Prelude.{[], map, flat_map, option_map, unwrap_or};
 ghost use Rattle.elan_walk.specs.Nodes as spec;
-ghost use Rattle.elan_walk.specs.Walk.{went};
+ghost use Rattle.elan_walk.specs.Walk.{Seen};
 
 use crate::node::{Held, Node, Visitor};
-use containers::{List, NoMemory};
+use containers::{Boxed, List};
 use elan_tree::{Branch, Case, Counter, Expr, Item, Label, Limit, TypePhrase, Unit};
 
-fn labels<V: Visitor>(visitor: &mut V, labels: &[Label]) -> Result<(), NoMemory>
-    ensures after { OnOk result (visitor.new ≡ went V.after visitor.old (spec.labels labels.now)) }
-    ensures refused { OnErr result V.grows }
+fn labels<V: Visitor>(mut visitor: V, labels: &[Label]) -> V
+    ensures { Seen V.wanted V.after (spec.labels labels.now) visitor result }
 {
     for label in labels {
         if let Label::Named(name) = label {
-            visitor.visit(Node::Other(name))?;
+            visitor = visitor.visit(Node::Other(name));
         }
     }
-    Ok(())
+    visitor
 }
 
 // An arm a form of expression, so it is as long as there are forms.
 #[cycle(walk)]
-fn in_expr<V: Visitor>(visitor: &mut V, expr: &Expr) -> Result<(), NoMemory>
-    ensures after { OnOk result (visitor.new ≡ went V.after visitor.old (spec.in_expr expr.now)) }
-    ensures refused { OnErr result V.grows }
+fn in_expr<V: Visitor>(visitor: V, expr: &Expr) -> V
+    ensures { Seen V.wanted V.after (spec.in_expr expr.now) visitor result }
 {
     match expr {
-        Expr::Number(_, _) | Expr::Truth(_, _) | Expr::Text(_, _) => Ok(()),
+        Expr::Number(_, _) | Expr::Truth(_, _) | Expr::Text(_, _) => visitor,
         Expr::Named(name) => visitor.visit(Node::Alone(name)),
         Expr::Call(name, actuals) => {
-            visitor.visit(Node::Other(name))?;
+            let visitor = visitor.visit(Node::Other(name));
             in_exprs(visitor, actuals.as_slice())
         }
         Expr::Bracket(_, inner) => in_expr(visitor, inner.get()),
@@ -39,11 +37,8 @@ fn in_expr<V: Visitor>(visitor: &mut V, expr: &Expr) -> Result<(), NoMemory>
             otherwise,
             ..
         } => {
-            in_branches(visitor, branches.as_slice())?;
-            match otherwise {
-                None => Ok(()),
-                Some(units) => visit_units(visitor, units.as_slice()),
-            }
+            let visitor = in_branches(visitor, branches.as_slice());
+            in_otherwise(visitor, otherwise)
         }
         Expr::Select {
             of,
@@ -51,19 +46,16 @@ fn in_expr<V: Visitor>(visitor: &mut V, expr: &Expr) -> Result<(), NoMemory>
             otherwise,
             ..
         } => {
-            in_expr(visitor, of.get())?;
-            in_cases(visitor, cases.as_slice())?;
-            match otherwise {
-                None => Ok(()),
-                Some(units) => visit_units(visitor, units.as_slice()),
-            }
+            let visitor = in_expr(visitor, of.get());
+            let visitor = in_cases(visitor, cases.as_slice());
+            in_otherwise(visitor, otherwise)
         }
         Expr::Monadic {
             operator,
             operand,
             ..
         } => {
-            visitor.visit(Node::Operator(operator))?;
+            let visitor = visitor.visit(Node::Operator(operator));
             in_expr(visitor, operand.get())
         }
         Expr::Dyadic {
@@ -72,16 +64,16 @@ fn in_expr<V: Visitor>(visitor: &mut V, expr: &Expr) -> Result<(), NoMemory>
             right,
             ..
         } => {
-            in_expr(visitor, left.get())?;
-            visitor.visit(Node::Operator(operator))?;
+            let visitor = in_expr(visitor, left.get());
+            let visitor = visitor.visit(Node::Operator(operator));
             in_expr(visitor, right.get())
         }
         Expr::Cand { left, right, .. } => {
-            in_expr(visitor, left.get())?;
+            let visitor = in_expr(visitor, left.get());
             in_expr(visitor, right.get())
         }
         Expr::Cor { left, right, .. } => {
-            in_expr(visitor, left.get())?;
+            let visitor = in_expr(visitor, left.get());
             in_expr(visitor, right.get())
         }
         _ => visitor.visit(Node::Unbuilt),
@@ -89,137 +81,132 @@ fn in_expr<V: Visitor>(visitor: &mut V, expr: &Expr) -> Result<(), NoMemory>
 }
 
 #[cycle(walk)]
-fn in_exprs<V: Visitor>(visitor: &mut V, exprs: &[Expr]) -> Result<(), NoMemory>
-    ensures after { OnOk result (visitor.new ≡ went V.after visitor.old (spec.all (map spec.in_expr exprs.now))) }
-    ensures refused { OnErr result V.grows }
+fn in_exprs<V: Visitor>(mut visitor: V, exprs: &[Expr]) -> V
+    ensures { Seen V.wanted V.after (spec.all (map spec.in_expr exprs.now)) visitor result }
 {
     for expr in exprs {
-        in_expr(visitor, expr)?;
+        visitor = in_expr(visitor, expr);
     }
-    Ok(())
+    visitor
 }
 
 #[cycle(walk)]
-fn in_optional<V: Visitor>(visitor: &mut V, expr: &Option<Expr>) -> Result<(), NoMemory>
-    ensures after { OnOk result (visitor.new ≡ went V.after visitor.old (spec.in_optional expr.now)) }
-    ensures refused { OnErr result V.grows }
+fn in_optional<V: Visitor>(visitor: V, expr: &Option<Expr>) -> V
+    ensures { Seen V.wanted V.after (unwrap_or (option_map spec.in_expr expr.now) []) visitor result }
 {
     match expr {
-        None => Ok(()),
+        None => visitor,
         Some(expr) => in_expr(visitor, expr),
     }
 }
 
 #[cycle(walk)]
-fn in_branches<V: Visitor>(visitor: &mut V, branches: &[Branch]) -> Result<(), NoMemory>
-    ensures after { OnOk result (visitor.new ≡ went V.after visitor.old (spec.all (map spec.in_branch branches.now))) }
-    ensures refused { OnErr result V.grows }
+fn in_otherwise<V: Visitor>(mut visitor: V, otherwise: &Option<List<Unit>>) -> V
+    ensures { Seen V.wanted V.after (spec.all (unwrap_or (option_map (map spec.in_unit) otherwise.now) [])) visitor result }
 {
-    for branch in branches {
-        in_expr(visitor, &branch.condition)?;
-        visit_units(visitor, branch.units.as_slice())?;
+    if let Some(list) = otherwise {
+        let units = list.as_slice();
+        for unit in units {
+            visitor = visit_unit(visitor, unit);
+        }
     }
-    Ok(())
+    visitor
 }
 
 #[cycle(walk)]
-fn in_cases<V: Visitor>(visitor: &mut V, cases: &[Case]) -> Result<(), NoMemory>
-    ensures after { OnOk result (visitor.new ≡ went V.after visitor.old (spec.all (map spec.in_case cases.now))) }
-    ensures refused { OnErr result V.grows }
+fn in_branches<V: Visitor>(mut visitor: V, branches: &[Branch]) -> V
+    ensures { Seen V.wanted V.after (spec.all (map spec.in_branch branches.now)) visitor result }
+{
+    for branch in branches {
+        visitor = in_expr(visitor, &branch.condition);
+        visitor = visit_units(visitor, branch.units.as_slice());
+    }
+    visitor
+}
+
+#[cycle(walk)]
+fn in_cases<V: Visitor>(mut visitor: V, cases: &[Case]) -> V
+    ensures { Seen V.wanted V.after (spec.all (map spec.in_case cases.now)) visitor result }
 {
     for case in cases {
-        labels(visitor, case.labels.as_slice())?;
-        visit_units(visitor, case.units.as_slice())?;
+        visitor = labels(visitor, case.labels.as_slice());
+        visitor = visit_units(visitor, case.units.as_slice());
     }
-    Ok(())
+    visitor
 }
 
 // What is declared with one type.
 #[cycle(walk)]
-fn in_items<V: Visitor>(
-    visitor: &mut V,
-    items: &[Item],
-    held: Held,
-    of: &TypePhrase,
-) -> Result<(), NoMemory>
-    ensures after { OnOk result (visitor.new ≡ went V.after visitor.old (flat_map (λ i. i held of.now) (map spec.in_item items.now))) }
-    ensures refused { OnErr result V.grows }
+fn in_items<V: Visitor>(mut visitor: V, items: &[Item], held: Held, of: &TypePhrase) -> V
+    ensures { Seen V.wanted V.after (flat_map (λ i. i held of.now) (map spec.in_item items.now)) visitor result }
 {
     for item in items {
-        visitor.visit(Node::Item(held, of, &item.name))?;
-        in_optional(visitor, &item.init)?;
+        visitor = visitor.visit(Node::Item(held, of, &item.name));
+        visitor = in_optional(visitor, &item.init);
     }
-    Ok(())
+    visitor
 }
 
 #[cycle(walk)]
-fn in_limit<V: Visitor>(visitor: &mut V, limit: &Limit) -> Result<(), NoMemory>
-    ensures after { OnOk result (visitor.new ≡ went V.after visitor.old (spec.in_limit limit.now)) }
-    ensures refused { OnErr result V.grows }
+fn in_limit<V: Visitor>(visitor: V, limit: &Limit) -> V
+    ensures { Seen V.wanted V.after (spec.in_limit limit.now) visitor result }
 {
     match limit {
-        Limit::Without => Ok(()),
+        Limit::Without => visitor,
         Limit::Upto(expr) => in_expr(visitor, expr),
         Limit::Downto(expr) => in_expr(visitor, expr),
     }
 }
 
 #[cycle(walk)]
-fn in_counter<V: Visitor>(visitor: &mut V, counter: &Counter) -> Result<(), NoMemory>
-    ensures after { OnOk result (visitor.new ≡ went V.after visitor.old (spec.in_counter counter.now)) }
-    ensures refused { OnErr result V.grows }
+fn in_counter<V: Visitor>(visitor: V, counter: &Option<Boxed<Counter>>) -> V
+    ensures { Seen V.wanted V.after (unwrap_or (option_map spec.in_counter counter.now) []) visitor result }
 {
-    visitor.visit(Node::Other(&counter.name))?;
-    in_optional(visitor, &counter.from)?;
-    in_limit(visitor, &counter.limit)
+    match counter {
+        None => visitor,
+        Some(counter) => {
+            let counter = counter.get();
+            let visitor = visitor.visit(Node::Other(&counter.name));
+            let visitor = in_optional(visitor, &counter.from);
+            in_limit(visitor, &counter.limit)
+        }
+    }
 }
 
 /// Looks at the nodes of a unit, in text order. An arm a form of unit, so it is as long as there are forms.
 #[cycle(walk)]
-pub fn visit_unit<V: Visitor>(visitor: &mut V, unit: &Unit) -> Result<(), NoMemory>
-    ensures after { OnOk result (visitor.new ≡ went V.after visitor.old (spec.in_unit unit.now)) }
-    ensures refused { OnErr result V.grows }
+pub fn visit_unit<V: Visitor>(visitor: V, unit: &Unit) -> V
+    ensures { Seen V.wanted V.after (spec.in_unit unit.now) visitor result }
 {
     match unit {
-        Unit::Empty => Ok(()),
+        Unit::Empty => visitor,
         Unit::Variables(_, of, items) => {
-            visitor.visit(Node::Type(of))?;
+            let visitor = visitor.visit(Node::Type(of));
             in_items(visitor, items.as_slice(), Held::Variable, of)
         }
         Unit::Constants(_, of, items) => {
-            visitor.visit(Node::Type(of))?;
+            let visitor = visitor.visit(Node::Type(of));
             in_items(visitor, items.as_slice(), Held::Constant, of)
         }
         Unit::Value(expr) => in_expr(visitor, expr),
         Unit::Becomes { left, right, .. } => {
-            in_expr(visitor, left)?;
+            let visitor = in_expr(visitor, left);
             in_expr(visitor, right)
         }
         Unit::Loop {
-            counter: None,
+            counter,
             condition,
             units,
             until,
             ..
         } => {
-            in_optional(visitor, condition)?;
-            visit_units(visitor, units.as_slice())?;
-            in_optional(visitor, until)
-        }
-        Unit::Loop {
-            counter: Some(counter),
-            condition,
-            units,
-            until,
-            ..
-        } => {
-            in_counter(visitor, counter.get())?;
-            in_optional(visitor, condition)?;
-            visit_units(visitor, units.as_slice())?;
+            let visitor = in_counter(visitor, counter);
+            let visitor = in_optional(visitor, condition);
+            let visitor = visit_units(visitor, units.as_slice());
             in_optional(visitor, until)
         }
         Unit::Leave { name, value, .. } => {
-            visitor.visit(Node::Other(name))?;
+            let visitor = visitor.visit(Node::Other(name));
             in_optional(visitor, value)
         }
         Unit::Let(_, _) | Unit::Bound(_, _, _) => visitor.visit(Node::Unbuilt),
@@ -228,12 +215,11 @@ pub fn visit_unit<V: Visitor>(visitor: &mut V, unit: &Unit) -> Result<(), NoMemo
 
 /// Looks at the nodes of units, in text order.
 #[cycle(walk)]
-pub fn visit_units<V: Visitor>(visitor: &mut V, units: &[Unit]) -> Result<(), NoMemory>
-    ensures after { OnOk result (visitor.new ≡ went V.after visitor.old (spec.in_units units.now)) }
-    ensures refused { OnErr result V.grows }
+pub fn visit_units<V: Visitor>(mut visitor: V, units: &[Unit]) -> V
+    ensures { Seen V.wanted V.after (spec.in_units units.now) visitor result }
 {
     for unit in units {
-        visit_unit(visitor, unit)?;
+        visitor = visit_unit(visitor, unit);
     }
-    Ok(())
+    visitor
 }

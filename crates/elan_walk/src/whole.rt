@@ -1,68 +1,61 @@
 //! The walk over a whole text.
 
-ghost use Rattle.std.specs.Prelude.{◌≡◌, ◌++◌, map, flat_map, OnOk, OnErr};
+ghost use Rattle.std.specs.Prelude.{map, flat_map};
 ghost use Rattle.elan_walk.specs.Nodes as spec;
-ghost use Rattle.elan_walk.specs.Walk.{went};
+ghost use Rattle.elan_walk.specs.Walk.{Seen};
 
 use crate::node::{Node, Visitor};
 use crate::walk::{visit_unit, visit_units};
-use containers::NoMemory;
 use elan_tree::{Body, Formal, LevelUnit, Name, Refinement, Tree, TypePhrase};
 
-fn names<V: Visitor>(visitor: &mut V, names: &[Name]) -> Result<(), NoMemory>
-    ensures after { OnOk result (visitor.new ≡ went V.after visitor.old (map spec.other names.now)) }
-    ensures refused { OnErr result V.grows }
+fn names<V: Visitor>(mut visitor: V, names: &[Name]) -> V
+    ensures { Seen V.wanted V.after (map spec.other names.now) visitor result }
 {
     for name in names {
-        visitor.visit(Node::Other(name))?;
+        visitor = visitor.visit(Node::Other(name));
     }
-    Ok(())
+    visitor
 }
 
-fn formals<V: Visitor>(visitor: &mut V, formals: &[Formal]) -> Result<(), NoMemory>
-    ensures after { OnOk result (visitor.new ≡ went V.after visitor.old (spec.formals formals.now)) }
-    ensures refused { OnErr result V.grows }
+fn formals<V: Visitor>(mut visitor: V, formals: &[Formal]) -> V
+    ensures { Seen V.wanted V.after (spec.formals formals.now) visitor result }
 {
     for formal in formals {
-        visitor.visit(Node::Type(&formal.of))?;
-        names(visitor, formal.names.as_slice())?;
+        visitor = visitor.visit(Node::Type(&formal.of));
+        visitor = names(visitor, formal.names.as_slice());
     }
-    Ok(())
+    visitor
 }
 
-fn refinements<V: Visitor>(visitor: &mut V, refinements: &[Refinement]) -> Result<(), NoMemory>
-    ensures after { OnOk result (visitor.new ≡ went V.after visitor.old (spec.refinements refinements.now)) }
-    ensures refused { OnErr result V.grows }
+fn refinements<V: Visitor>(mut visitor: V, refinements: &[Refinement]) -> V
+    ensures { Seen V.wanted V.after (spec.refinements refinements.now) visitor result }
 {
     for refinement in refinements {
-        visitor.visit(Node::Other(&refinement.name))?;
-        visit_units(visitor, refinement.units.as_slice())?;
+        visitor = visitor.visit(Node::Other(&refinement.name));
+        visitor = visit_units(visitor, refinement.units.as_slice());
     }
-    Ok(())
+    visitor
 }
 
-fn result_type<V: Visitor>(visitor: &mut V, of: &Option<TypePhrase>) -> Result<(), NoMemory>
-    ensures after { OnOk result (visitor.new ≡ went V.after visitor.old (spec.result of.now)) }
-    ensures refused { OnErr result V.grows }
+fn result_type<V: Visitor>(visitor: V, of: &Option<TypePhrase>) -> V
+    ensures { Seen V.wanted V.after (spec.result of.now) visitor result }
 {
     match of {
-        None => Ok(()),
+        None => visitor,
         Some(of) => visitor.visit(Node::Type(of)),
     }
 }
 
-fn in_body<V: Visitor>(visitor: &mut V, given: &[Formal], body: &Body) -> Result<(), NoMemory>
-    ensures after { OnOk result (visitor.new ≡ went V.after visitor.old (spec.body given.now body.now)) }
-    ensures refused { OnErr result V.grows }
+fn in_body<V: Visitor>(visitor: V, given: &[Formal], body: &Body) -> V
+    ensures { Seen V.wanted V.after (spec.body given.now body.now) visitor result }
 {
-    formals(visitor, given)?;
-    visit_units(visitor, body.units.as_slice())?;
+    let visitor = formals(visitor, given);
+    let visitor = visit_units(visitor, body.units.as_slice());
     refinements(visitor, body.refinements.as_slice())
 }
 
-fn level_unit<V: Visitor>(visitor: &mut V, unit: &LevelUnit) -> Result<(), NoMemory>
-    ensures after { OnOk result (visitor.new ≡ went V.after visitor.old (spec.level_unit unit.now)) }
-    ensures refused { OnErr result V.grows }
+fn level_unit<V: Visitor>(visitor: V, unit: &LevelUnit) -> V
+    ensures { Seen V.wanted V.after (spec.level_unit unit.now) visitor result }
 {
     match unit {
         LevelUnit::Plain(unit) => visit_unit(visitor, unit),
@@ -74,8 +67,8 @@ fn level_unit<V: Visitor>(visitor: &mut V, unit: &LevelUnit) -> Result<(), NoMem
             body,
             ..
         } => {
-            result_type(visitor, result)?;
-            visitor.visit(Node::Other(name))?;
+            let visitor = result_type(visitor, result);
+            let visitor = visitor.visit(Node::Other(name));
             in_body(visitor, formals.as_slice(), body)
         }
         LevelUnit::Op {
@@ -85,31 +78,29 @@ fn level_unit<V: Visitor>(visitor: &mut V, unit: &LevelUnit) -> Result<(), NoMem
             body,
             ..
         } => {
-            result_type(visitor, result)?;
-            visitor.visit(Node::Operator(&name.operator))?;
+            let visitor = result_type(visitor, result);
+            let visitor = visitor.visit(Node::Operator(&name.operator));
             in_body(visitor, formals.as_slice(), body)
         }
     }
 }
 
-fn level_units<V: Visitor>(visitor: &mut V, units: &[LevelUnit]) -> Result<(), NoMemory>
-    ensures after { OnOk result (visitor.new ≡ went V.after visitor.old (flat_map spec.level_unit units.now)) }
-    ensures refused { OnErr result V.grows }
+fn level_units<V: Visitor>(mut visitor: V, units: &[LevelUnit]) -> V
+    ensures { Seen V.wanted V.after (flat_map spec.level_unit units.now) visitor result }
 {
     for unit in units {
-        level_unit(visitor, unit)?;
+        visitor = level_unit(visitor, unit);
     }
-    Ok(())
+    visitor
 }
 
 /// Looks at the nodes of a text, in text order.
-pub fn visit_tree<V: Visitor>(visitor: &mut V, tree: &Tree) -> Result<(), NoMemory>
-    ensures after { OnOk result (visitor.new ≡ went V.after visitor.old (spec.nodes tree.now)) }
-    ensures refused { OnErr result V.grows }
+pub fn visit_tree<V: Visitor>(visitor: V, tree: &Tree) -> V
+    ensures { Seen V.wanted V.after (spec.nodes tree.now) visitor result }
 {
     match tree {
         Tree::Program(level) => {
-            level_units(visitor, level.units.as_slice())?;
+            let visitor = level_units(visitor, level.units.as_slice());
             refinements(visitor, level.refinements.as_slice())
         }
         Tree::Packet { .. } => visitor.visit(Node::Unbuilt),

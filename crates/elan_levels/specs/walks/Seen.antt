@@ -1,11 +1,15 @@
 -- What was found on a walk, and more behind it.
-use Rattle.std.specs.Prelude.{ℕ, List, ◌++◌}
+use Rattle.std.specs.Prelude.{◌≡◌, ℕ, false, List, ◌++◌}
 use Rattle.elan_scope.specs.declared.scope.Entry.{Entry}
 use Rattle.elan_levels.specs.declared.declare.Names.{Names}
 use Rattle.elan_levels.specs.declared.uses.Called.{Called}
 
 abbrev pub with_entries : Names → List Entry → Names
-with_entries s es = record { alloc = s.alloc; entries = s.entries ++ es }
+with_entries s es = record { alloc = s.alloc; entries = s.entries ++ es; wanted = s.wanted }
 
 abbrev pub with_numbers : Called → List ℕ → Called
-with_numbers s ns = record { scope = s.scope; numbers = s.numbers ++ ns }
+with_numbers s ns = record { scope = s.scope; numbers = s.numbers ++ ns; wanted = s.wanted }
+
+-- These entries were added. Want of memory is noted, and nothing is known then.
+abbrev pub Adds : List Entry → Names → Names → Type 0
+Adds es old new = new.wanted ≡ false → (old.wanted ≡ false) × (new.entries ≡ old.entries ++ es)

@@ -1,6 +1,7 @@
-use Rattle.std.proofs.Common.{◌≡◌, ◌++◌, drop}
+use Rattle.std.proofs.Common.{◌≡◌, false, ◌++◌, drop}
 use Rattle.elan_levels.specs.Bodies.{named_as}
 use Rattle.elan_levels.proofs.bodies.named_as.Given as goal
 
 abbrev pub invariant-loop-name : goal.invariant-loop-name
-invariant-loop-name l = l.out.entries ++ named_as (drop l.name-index l.names) l.denotes ≡ l.fn.out.entries ++ named_as l.names l.denotes
+invariant-loop-name l =
+    l.out.wanted ≡ false → (l.fn.out.wanted ≡ false) × (l.out.entries ++ named_as (drop l.name-index l.names) l.denotes ≡ l.fn.out.entries ++ named_as l.names l.denotes)
