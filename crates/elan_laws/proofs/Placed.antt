@@ -320,9 +320,9 @@ module _ (ns : List ℕ) where
   rule_placed at (form.applied s sort x) ms h g = applied_placed at h s sort x ms g
   rule_placed at form.bracket ms h g = bracketed_placed at h (p.nth ms 0)
   rule_placed at form.cand ms h g =
-      or_broken at h (value_walk.are_truths (p.nth ms 0) (p.nth ms 1)) (value_walk.cand_of at (p.value_of (p.nth ms 0)) (p.value_of (p.nth ms 1))) why.WrongType h
+      or_broken at h (value_walk.are_truths (p.nth ms 0) (p.nth ms 1)) (value_walk.decided at false (p.value_of (p.nth ms 0)) (p.value_of (p.nth ms 1))) why.WrongType h
   rule_placed at form.cor ms h g =
-      or_broken at h (value_walk.are_truths (p.nth ms 0) (p.nth ms 1)) (value_walk.cor_of at (p.value_of (p.nth ms 0)) (p.value_of (p.nth ms 1))) why.WrongType h
+      or_broken at h (value_walk.are_truths (p.nth ms 0) (p.nth ms 1)) (value_walk.decided at true (p.value_of (p.nth ms 0)) (p.value_of (p.nth ms 1))) why.WrongType h
   rule_placed at form.choice ms h g = chain_placed at h (p.pairs ms) (gives (choice_walk.otherwise (p.odd ms))) (odd_placed ms g)
   rule_placed at (form.label earlier n) ms h g = on_if Placed (choice_walk.is_in earlier n) (breaks (at, why.Doubled)) (gives (Labels (n ∷ []))) h tt
   rule_placed at (form.label_name s x) ms h g = label_named_placed at h (is_known s Procedure x 0) (find s x)

@@ -2,15 +2,13 @@
 use Rattle.std.proofs.Common.{◌≡◌, ℕ, ◌+◌, Bool, true, false, ◌&&◌, if◌then◌else◌, List, [], ◌∷◌, ◌++◌, map, Option, Some, None, refl, subst}
 use Rattle.elan_types.specs.declared.elan_type.ElanType.{ElanType}
 use Rattle.elan_types.specs.declared.elan_type.ElanType.TheVariants.{Text}
-use Rattle.elan_types.specs.declared.core_phrase.Access.TheVariants.{Var}
-use Rattle.elan_types.specs.declared.core_phrase.Parameter.{Parameter}
 use Rattle.elan_types.specs.declared.core_phrase.Actual.{Actual}
 use Rattle.elan_types.specs.declared.core_phrase.Actual.TheVariants as actual
 use Rattle.elan_types.specs.declared.core_phrase.Action.TheVariants as action
 use Rattle.elan_types.specs.declared.core_phrase.ValuePhrase.TheVariants as value
 use Rattle.eu_base.specs.declared.operation.Change.{Change as Changed}
 use Rattle.eu_base.specs.Operations.{change_kind}
-use Rattle.elan_types.specs.Typing.{type_in, held_const}
+use Rattle.elan_types.specs.Typing.{type_in, held_const, held_var}
 use Rattle.elan_scope.specs.declared.heading.Sort.{Sort}
 use Rattle.elan_scope.specs.declared.heading.What.{What}
 use Rattle.elan_scope.specs.declared.heading.What.TheVariants.{Routine, Refinement}
@@ -31,9 +29,6 @@ use Rattle.elan_meant.specs.Verdict.{gives}
 use Rattle.elan_meant.specs.Operands.{delivers, fit, takes, chosen}
 use Rattle.elan_meant.specs.Parts.{value_of}
 use Rattle.value_rules.specs.Calls.{given, performed, values_in}
-
-abbrev variable : ElanType → Parameter
-variable t = record { of = t; access = Var }
 
 both : (a b : Bool) → (a && b) ≡ true → b ≡ true
 both true b e = e
@@ -66,8 +61,8 @@ module _ (at : ℕ) (ms : List Meant) where
 
   -- ---- predefined names
 
-  changes : (c : Changed) (t : ElanType) (ks : List Meant) (as' : List Actual) → fit (variable t ∷ held_const t ∷ []) ks ≡ true
-      → given at (variable t ∷ held_const t ∷ []) ks ≡ gives as' → (m : Meant) × (performed at (Predefined (Change c)) None as' ≡ gives m)
+  changes : (c : Changed) (t : ElanType) (ks : List Meant) (as' : List Actual) → fit (held_var t ∷ held_const t ∷ []) ks ≡ true
+      → given at (held_var t ∷ held_const t ∷ []) ks ≡ gives as' → (m : Meant) × (performed at (Predefined (Change c)) None as' ≡ gives m)
   changes c t [] as' f g = absurd cc
   changes c t (m ∷ []) as' f g = let e : false ≡ true = both (delivers t m) false f in absurd cc
   changes c t (Variable p u x ∷ n ∷ []) as' f g =
@@ -94,7 +89,7 @@ module _ (at : ℕ) (ms : List Meant) where
           → (m : Meant) × (performed at (Predefined o) (result o) as' ≡ gives m)
       by_name (Operation o) as' f g = (Value at _ (value.Apply o (values_in as')), refl)
       by_name (Change c) as' f g = changes c (type_in (change_kind c)) ms as' f g
-      by_name (Request q) as' f g = (Done (action.Ask q (values_in as') ∷ []), refl)
+      by_name (Request q) as' f g = (Done (action.Ask q as' ∷ []), refl)
       by_name ErrorStop as' f g = stops ms as' f g
 
   rows_suit : (rs : List Row) → AllSuit (map predefined_callable rs)

@@ -6,7 +6,6 @@ use Rattle.eu_base.specs.declared.operation.Operation.{Operation}
 use Rattle.eu_base.specs.declared.operation.Change.{Change}
 use Rattle.eu_base.specs.declared.operation.Way.{Way}
 use Rattle.eu_base.specs.declared.request.RequestName.{RequestName}
-use Rattle.eu_base.specs.Requests.{request_kinds}
 use Rattle.elan_types.specs.declared.elan_type.ElanType.{ElanType}
 use Rattle.elan_types.specs.declared.elan_type.ElanType.TheVariants.{Int, Bool as Truths, Text as Letters}
 use Rattle.elan_types.specs.declared.core_phrase.PlacePhrase.{PlacePhrase}
@@ -29,7 +28,7 @@ use Rattle.elan_types.specs.declared.core_phrase.Action.TheFolds.{fold-roll-Acti
 use Rattle.elan_types.specs.declared.core_phrase.Action.TheFolds.{fold-roll-ValueArm}
 use Rattle.elan_types.specs.Typing.{Typed, Taken, Home, given_as, taken_by, scope_of, delivered_by, refines, owner, is_none, leaves_without, leaves_with}
 use Rattle.elan_types.specs.Typing.{left_from, actual_type_step, has, agree, only_if, have, all_agree, all_true, type_in, place_type, type_of, is_typed}
-use Rattle.elan_types.specs.Typing.{action_typed_step, value_type_step, arm_typed_step, value_arm_type_step}
+use Rattle.elan_types.specs.Typing.{request_formals, take_all, action_typed_step, value_type_step, arm_typed_step, value_arm_type_step}
 
 -- where a phrase stands: the variables of the level, all bodies, and the body
 pub record Stand : Type 0 where
@@ -146,7 +145,7 @@ module _ (here : Stand) where
       → typed (action.Select a arms ws) ≡ (has Int (type a) && (all_true (map arm_typed arms) && all_true (map typed ws)))
   select_is a arms ws = ap typed (sym (action.rolls-Select a arms ws)) ∙ of_action (t.Action::Select a arms ws)
 
-  pub ask_is : (q : RequestName) (as' : List ValuePhrase) → typed (action.Ask q as') ≡ have (map type_in (request_kinds q)) (map type as')
+  pub ask_is : (q : RequestName) (as' : List Actual) → typed (action.Ask q as') ≡ take_all (request_formals q) (map actual_type as')
   ask_is q as' = ap typed (sym (action.rolls-Ask q as')) ∙ of_action (t.Ask q as')
 
   pub error_stop_is : (a : ValuePhrase) → typed (action.ErrorStop a) ≡ has Letters (type a)

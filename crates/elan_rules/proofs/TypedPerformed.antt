@@ -18,7 +18,7 @@ use Rattle.elan_types.specs.declared.core_phrase.Scope.{Scope as Owner}
 use Rattle.elan_types.specs.declared.core_phrase.Scope.TheVariants as owner
 use Rattle.elan_types.specs.declared.core_phrase.Body.{Body}
 use Rattle.elan_types.specs.Typing.{Typed, Taken, same_type, same_access, held_const, only_if, have, has, type_in, takes, take_all, taken_by, given_as}
-use Rattle.elan_types.specs.Typing.{result_of_content, delivered_by, scope_of, is_none}
+use Rattle.elan_types.specs.Typing.{held_var, values_of, result_of_content, delivered_by, scope_of, is_none}
 use Rattle.elan_scope.specs.declared.delivery.Delivery.{Delivery}
 use Rattle.elan_scope.specs.declared.delivery.Delivery.TheVariants.{Open, Nothing, Of}
 use Rattle.elan_scope.specs.declared.heading.What.{What}
@@ -29,7 +29,6 @@ use Rattle.std.specs.Option.{option_or}
 use Rattle.elan_scope.specs.Scope.{Callable, number_of, held, all_held, types_of, variables_of}
 use Rattle.eu_base.specs.declared.value.Kind.{Kind}
 use Rattle.eu_base.specs.Operations.{operand_kinds, change_kind}
-use Rattle.eu_base.specs.Requests.{request_kinds}
 use Rattle.elan_scope.specs.declared.callable.Callee.{Callee}
 use Rattle.elan_scope.specs.declared.callable.Callee.TheVariants as Callees
 use Rattle.elan_scope.specs.declared.predefined.Predefined.{Predefined}
@@ -42,9 +41,6 @@ use Rattle.elan_meant.specs.Parts as p
 use Rattle.value_rules.specs.Calls as r
 use Rattle.elan_rules.proofs.TypeEquations.{Stand, type, lies, actual_type, apply_is, modify_is, ask_is, error_stop_is, call_is, action_call_is}
 use Rattle.elan_rules.proofs.TypeEquations.{given_value_is, given_place_is}
-
-abbrev variable : ElanType → Parameter
-variable t = record { of = t; access = Var }
 
 -- ---- bodies as their headings tell
 
@@ -162,14 +158,14 @@ module _ (here : Stand) where
       by_type None e = cc
       by_type (Some w) e = let f = (both (same_type t w) _ e).1 in cc
 
-  place_lies : (t u : ElanType) (x : PlacePhrase) → GivenFor (variable t) (actual.Place x u) → has t (lies here x) ≡ true
-  place_lies t u x h = by_test (has u (lies here x)) refl (subst (λ (b : Taken). takes (variable t) b ≡ true) (given_place_is here x u) h)
+  place_lies : (t u : ElanType) (x : PlacePhrase) → GivenFor (held_var t) (actual.Place x u) → has t (lies here x) ≡ true
+  place_lies t u x h = by_test (has u (lies here x)) refl (subst (λ (b : Taken). takes (held_var t) b ≡ true) (given_place_is here x u) h)
     where
-      by_test : (b : Bool) → has u (lies here x) ≡ b → takes (variable t) (given_as Var (only_if b (Some u))) ≡ true → has t (lies here x) ≡ true
+      by_test : (b : Bool) → has u (lies here x) ≡ b → takes (held_var t) (given_as Var (only_if b (Some u))) ≡ true → has t (lies here x) ≡ true
       by_test true g e = subst (λ (w : ElanType). has w (lies here x) ≡ true) (sym (same_is t u (both (same_type t u) _ e).0)) g
       by_test false g e = absurd cc
 
-  values_have : (ks : List Kind) (as' : List Actual) → AllGiven (map (λ k. held_const (type_in k)) ks) as'
+  values_have : (ks : List Kind) (as' : List Actual) → AllGiven (values_of ks) as'
       → have (map type_in ks) (map (type here) (r.values_in as')) ≡ true
   values_have [] [] h = refl
   values_have [] (a ∷ as') h = absurd cc
@@ -189,8 +185,7 @@ module _ (here : Stand) where
       ty.single_typed here (action.Modify c x v) (modify_is here c x v ∙ and_true _ _ (place_lies u t x b.0) (value_has u v (both _ _ b.1).0))
   predefined_performs (Change c) (actual.Place x t ∷ actual.Value v ∷ a ∷ as') h at = tt
   predefined_performs (Change c) (actual.Place x t ∷ actual.Place y u ∷ as') h at = tt
-  predefined_performs (Request q) as' h at =
-      ty.single_typed here (action.Ask q (r.values_in as')) (ask_is here q (r.values_in as') ∙ values_have (request_kinds q) as' h)
+  predefined_performs (Request q) as' h at = ty.single_typed here (action.Ask q as') (ask_is here q as' ∙ h)
   predefined_performs ErrorStop [] h at = tt
   predefined_performs ErrorStop (actual.Place x t ∷ as') h at = tt
   predefined_performs ErrorStop (actual.Value v ∷ []) h at =

@@ -1,6 +1,5 @@
 -- The table of the predefined operators and procedures, requests among them.
-use Rattle.std.specs.Prelude.{ℕ, List, [], ◌∷◌, map, Option, Some, None, codes}
-use Rattle.eu_base.specs.declared.value.Kind.{Kind}
+use Rattle.std.specs.Prelude.{ℕ, List, [], ◌∷◌, Option, Some, None, codes}
 use Rattle.eu_base.specs.declared.value.Kind.TheVariants as kinds
 use Rattle.eu_base.specs.declared.operation.Operation.TheVariants as op
 use Rattle.eu_base.specs.declared.text_operation.TextOperation.{TextOperation}
@@ -8,11 +7,9 @@ use Rattle.eu_base.specs.declared.text_operation.TextOperation.TheVariants as te
 use Rattle.eu_base.specs.declared.operation.Change.TheVariants as change
 use Rattle.eu_base.specs.declared.request.RequestName.TheVariants as request
 use Rattle.eu_base.specs.Operations.{operand_kinds, result_kind, change_kind}
-use Rattle.eu_base.specs.Requests.{request_kinds}
 use Rattle.elan_types.specs.declared.elan_type.ElanType.{ElanType}
-use Rattle.elan_types.specs.declared.core_phrase.Access.TheVariants.{Var}
 use Rattle.elan_types.specs.declared.core_phrase.Parameter.{Parameter}
-use Rattle.elan_types.specs.Typing.{type_in, held_const}
+use Rattle.elan_types.specs.Typing.{type_in, held_var, values_of, request_formals}
 use Rattle.elan_scope.specs.declared.heading.Sort.{Sort}
 use Rattle.elan_scope.specs.declared.heading.Sort.TheVariants.{Procedure, Operator}
 use Rattle.elan_scope.specs.declared.predefined.Predefined.{Predefined}
@@ -48,18 +45,15 @@ predefined =
     ∷ (Procedure, codes "maxint", Operation op.Largest) ∷ (Procedure, codes "errorstop", ErrorStop)
     ∷ (Procedure, codes "put", Request request.PutNumber) ∷ (Procedure, codes "put", Request request.PutText)
     ∷ (Procedure, codes "write", Request request.Write) ∷ (Procedure, codes "putline", Request request.PutLine) ∷ (Procedure, codes "line", Request request.Line)
+    ∷ (Procedure, codes "get", Request request.GetNumber) ∷ (Procedure, codes "get", Request request.GetText) ∷ (Procedure, codes "getline", Request request.GetLine)
     ∷ []
 
--- The operands of operations and requests are values, of the types of their kinds.
-abbrev pub values : List Kind → List Parameter
-values kinds = map (λ k. held_const (type_in k)) kinds
-
--- what each is given
+-- what each is given: operations values, a change its variable first, a request its variables last
 abbrev pub parameters : Predefined → List Parameter
-parameters (Operation o) = values (operand_kinds o)
-parameters (Change c) = record { of = type_in (change_kind c); access = Var } ∷ values (change_kind c ∷ [])
-parameters (Request name) = values (request_kinds name)
-parameters ErrorStop = values (kinds.Text ∷ [])
+parameters (Operation o) = values_of (operand_kinds o)
+parameters (Change c) = held_var (type_in (change_kind c)) ∷ values_of (change_kind c ∷ [])
+parameters (Request name) = request_formals name
+parameters ErrorStop = values_of (kinds.Text ∷ [])
 
 -- the type that each delivers, or nothing
 abbrev pub result : Predefined → Option ElanType

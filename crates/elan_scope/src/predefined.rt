@@ -2,8 +2,7 @@
 
 ghost use Rattle.std.specs.Prelude.{◌≡◌, map};
 ghost use Rattle.eu_base.specs.Operations.{operand_kinds, text_operand_kinds};
-ghost use Rattle.eu_base.specs.Requests.{request_kinds};
-ghost use Rattle.elan_types.specs.Typing.{type_in};
+ghost use Rattle.elan_types.specs.Typing.{type_in, values_of, request_formals};
 ghost use Rattle.elan_scope.specs.Predefined as spec;
 
 use crate::heading::Sort;
@@ -26,7 +25,7 @@ pub enum Predefined {
 /// Whether it is an operator or a procedure, its name, and what it is.
 pub type Row = (Sort, &'static [u8], Predefined);
 
-const PREDEFINED: [Row; 49] = [
+const PREDEFINED: [Row; 52] = [
     (Sort::Operator, b"+", Predefined::Operation(Operation::Plus)),
     (Sort::Operator, b"+", Predefined::Operation(Operation::Add)),
     (
@@ -244,6 +243,21 @@ const PREDEFINED: [Row; 49] = [
         b"line",
         Predefined::Request(RequestName::Line),
     ),
+    (
+        Sort::Procedure,
+        b"get",
+        Predefined::Request(RequestName::GetNumber),
+    ),
+    (
+        Sort::Procedure,
+        b"get",
+        Predefined::Request(RequestName::GetText),
+    ),
+    (
+        Sort::Procedure,
+        b"getline",
+        Predefined::Request(RequestName::GetLine),
+    ),
 ];
 
 /// A row for each predefined operator and procedure.
@@ -281,7 +295,7 @@ const TEXT_VAR: Parameter = Parameter {
 
 // The operands of an operation are values.
 fn operands(operation: Operation) -> &'static [Parameter]
-    ensures { result.now ≡ spec.values (operand_kinds operation) }
+    ensures { result.now ≡ values_of (operand_kinds operation) }
 {
     match operation {
         Operation::Largest => &[],
@@ -306,7 +320,7 @@ fn operands(operation: Operation) -> &'static [Parameter]
 }
 
 fn text_operands(operation: TextOperation) -> &'static [Parameter]
-    ensures { result.now ≡ spec.values (text_operand_kinds operation) }
+    ensures { result.now ≡ values_of (text_operand_kinds operation) }
 {
     match operation {
         TextOperation::Length | TextOperation::CodeOf | TextOperation::NumberIn => &[TEXT],
@@ -325,14 +339,16 @@ fn text_operands(operation: TextOperation) -> &'static [Parameter]
     }
 }
 
-// The operands of a request are values.
+// A request is given values, or the variable for what it reads.
 fn request_operands(name: RequestName) -> &'static [Parameter]
-    ensures { result.now ≡ spec.values (request_kinds name) }
+    ensures { result.now ≡ request_formals name }
 {
     match name {
         RequestName::PutNumber => &[INT],
         RequestName::PutText | RequestName::Write | RequestName::PutLine => &[TEXT],
         RequestName::Line => &[],
+        RequestName::GetNumber => &[INT_VAR],
+        RequestName::GetText | RequestName::GetLine => &[TEXT_VAR],
     }
 }
 

@@ -79,7 +79,7 @@ values_in (actual.Place x t ∷ as') = values_in as'
 abbrev pub performed : ℕ → Callee → Option ElanType → List Actual → Verdict Meant
 performed at (Predefined (Operation o)) (Some t) as' = gives (Value at t (value.Apply o (values_in as')))
 performed at (Predefined (Change c)) r (actual.Place x t ∷ actual.Value v ∷ []) = gives (Done (action.Modify c x v ∷ []))
-performed at (Predefined (Request q)) r as' = gives (Done (action.Ask q (values_in as') ∷ []))
+performed at (Predefined (Request q)) r as' = gives (Done (action.Ask q as' ∷ []))
 performed at (Predefined ErrorStop) r (actual.Value v ∷ []) = gives (Done (action.ErrorStop v ∷ []))
 performed at (Body n) (Some t) as' = gives (Value at t (value.Call n as' t))
 performed at (Body n) None as' = gives (Done (action.Call n as' ∷ []))

@@ -1,6 +1,6 @@
 //! Calls: operators with their operands, and procedures with their actuals.
 
-ghost use Rattle.std.specs.Prelude.{ℕ, ◌≡◌, ◌++◌, ◌∷◌, [], IfOk, Option, Some, List, drop};
+ghost use Rattle.std.specs.Prelude.{◌≡◌, ◌++◌, ◌∷◌, [], IfOk, Option, Some, List, drop};
 ghost use Rattle.elan_types.specs.declared.elan_type.ElanType.{ElanType as ElanTypes};
 ghost use Rattle.elan_types.specs.declared.core_phrase.Actual.{Actual as Actuals};
 ghost use Rattle.elan_scope.specs.declared.callable.Callee.TheVariants as callees;
@@ -22,7 +22,7 @@ use elan_scope::predefined::Predefined;
 use elan_scope::scope::Scope;
 use elan_scope::trouble::Trouble;
 use elan_types::{
-    Access, Action, Actual, Change, ElanType, Operation, Parameter, RequestName, ValuePhrase, Why,
+    Access, Action, Actual, Change, ElanType, Operation, Parameter, ValuePhrase, Why,
 };
 use eu_base::{List, NoMemory};
 use std::alloc::Global;
@@ -141,13 +141,6 @@ fn changed(alloc: Global, at: u32, change: Change, actuals: List<Actual>) -> Jud
     }
 }
 
-fn asked(alloc: Global, name: RequestName, actuals: List<Actual>) -> Judged
-    ensures { (at : ℕ) → (r : Option ElanTypes) → Tells result (spec.performed at (callees.Predefined (names.Request name)) r actuals) }
-{
-    let values = values_in(alloc, actuals)?;
-    done(alloc, Action::Ask(name, values))
-}
-
 fn one_of(mut actuals: List<Actual>) -> Option<Actual>
     ensures { result ≡ walk.one_of actuals }
 {
@@ -184,7 +177,7 @@ fn predefined(
             Some(of) => operated(alloc, at, operation, of, actuals),
         },
         Predefined::Change(change) => changed(alloc, at, change, actuals),
-        Predefined::Request(name) => asked(alloc, name, actuals),
+        Predefined::Request(name) => done(alloc, Action::Ask(name, actuals)),
         Predefined::ErrorStop => stopped(alloc, at, actuals),
     }
 }

@@ -188,11 +188,10 @@ fn declared_as(alloc: Global, at: u32, found: Found) -> Judged
     ensures { Tells result (gives (spec.declared_as at found.home found.number found.denotes)) }
 {
     match found.denotes {
-        Denotes::Variable(of) => Ok(variable(at, of, plainly_held(found))),
-        Denotes::Constant(of) => Ok(variable(at, of, plainly_held(found))),
-        Denotes::Parameter(_) => Ok(Meant::Done(List::new(alloc))),
-        Denotes::Procedure => Ok(Meant::Done(List::new(alloc))),
-        Denotes::Refinement => Ok(Meant::Done(List::new(alloc))),
+        Denotes::Variable(of) | Denotes::Constant(of) => Ok(variable(at, of, plainly_held(found))),
+        Denotes::Parameter(_) | Denotes::Procedure | Denotes::Refinement => {
+            Ok(Meant::Done(List::new(alloc)))
+        }
     }
 }
 

@@ -60,50 +60,54 @@ pub fn bracketed(alloc: Global, at: u32, meant: Meant) -> Judged
     }
 }
 
-fn are_truths(left: &Meant, right: &Meant) -> bool
-    ensures { result ≡ walk.are_truths left.now right.now }
+// The value where the left one is `stop`, and where it is not.
+fn choice(
+    stop: bool,
+    left: Boxed<ValuePhrase>,
+    right: Boxed<ValuePhrase>,
+    stops: Boxed<ValuePhrase>,
+) -> ValuePhrase
+    ensures { result ≡ walk.choice stop left right stops }
 {
-    delivers(ElanType::Bool, left) && delivers(ElanType::Bool, right)
+    if stop {
+        ValuePhrase::If(left, stops, right)
+    } else {
+        ValuePhrase::If(left, right, stops)
+    }
 }
 
-fn cand_of(alloc: Global, at: u32, left: Meant, right: Meant) -> Judged
-    ensures { Tells result (gives (walk.cand_of at (parts.value_of left) (parts.value_of right))) }
+// What is made of two truth values: where the left one is `stop` that is the value, and else the right one.
+fn decided(alloc: Global, at: u32, stop: bool, left: Meant, right: Meant) -> Judged
+    ensures { Tells result (gives (walk.decided at stop (parts.value_of left) (parts.value_of right))) }
 {
     let values = both(value_of(alloc, left), value_of(alloc, right));
-    let ((left, right), no) = both(values, Boxed::new(alloc, ValuePhrase::Truth(false)))?;
-    delivering(alloc, at, ElanType::Bool, ValuePhrase::If(left, right, no))
+    let ((left, right), stops) = both(values, Boxed::new(alloc, ValuePhrase::Truth(stop)))?;
+    let value = choice(stop, left, right, stops);
+    delivering(alloc, at, ElanType::Bool, value)
 }
 
-fn cor_of(alloc: Global, at: u32, left: Meant, right: Meant) -> Judged
-    ensures { Tells result (gives (walk.cor_of at (parts.value_of left) (parts.value_of right))) }
+fn of_truths(alloc: Global, at: u32, stop: bool, left: Meant, right: Meant) -> Judged
+    ensures { Tells result (walk.of_truths at stop left right) }
 {
-    let values = both(value_of(alloc, left), value_of(alloc, right));
-    let ((left, right), yes) = both(values, Boxed::new(alloc, ValuePhrase::Truth(true)))?;
-    delivering(alloc, at, ElanType::Bool, ValuePhrase::If(left, yes, right))
+    if delivers(ElanType::Bool, &left) && delivers(ElanType::Bool, &right) {
+        decided(alloc, at, stop, left, right)
+    } else {
+        left.let_go();
+        right.let_go();
+        Err(Trouble::Breaks(at, Why::WrongType))
+    }
 }
 
 /// CAND, of two truth values.
 pub fn cand(alloc: Global, at: u32, left: Meant, right: Meant) -> Judged
     ensures { Tells result (spec.cand at left right) }
 {
-    if are_truths(&left, &right) {
-        cand_of(alloc, at, left, right)
-    } else {
-        left.let_go();
-        right.let_go();
-        Err(Trouble::Breaks(at, Why::WrongType))
-    }
+    of_truths(alloc, at, false, left, right)
 }
 
 /// COR, of two truth values.
 pub fn cor(alloc: Global, at: u32, left: Meant, right: Meant) -> Judged
     ensures { Tells result (spec.cor at left right) }
 {
-    if are_truths(&left, &right) {
-        cor_of(alloc, at, left, right)
-    } else {
-        left.let_go();
-        right.let_go();
-        Err(Trouble::Breaks(at, Why::WrongType))
-    }
+    of_truths(alloc, at, true, left, right)
 }

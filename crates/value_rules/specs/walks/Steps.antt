@@ -36,8 +36,13 @@ leave_as at e d m = if agrees d m then gives (Left (action.Unit (leave_of e m �
 abbrev pub are_truths : Meant → Meant → Bool
 are_truths l r = delivers Truths l && delivers Truths r
 
-abbrev pub cand_of : ℕ → ValuePhrase → ValuePhrase → Meant
-cand_of at v w = Value at Truths (value.If v w (value.Truth false))
+-- of two truth values, where the left one is the value if it is this, and of what that is
+abbrev pub choice : Bool → ValuePhrase → ValuePhrase → ValuePhrase → ValuePhrase
+choice true l r v = value.If l v r
+choice false l r v = value.If l r v
 
-abbrev pub cor_of : ℕ → ValuePhrase → ValuePhrase → Meant
-cor_of at v w = Value at Truths (value.If v (value.Truth true) w)
+abbrev pub decided : ℕ → Bool → ValuePhrase → ValuePhrase → Meant
+decided at b l r = Value at Truths (choice b l r (value.Truth b))
+
+abbrev pub of_truths : ℕ → Bool → Meant → Meant → Verdict Meant
+of_truths at b l r = if are_truths l r then gives (decided at b (value_of l) (value_of r)) else breaks (at, WrongType)

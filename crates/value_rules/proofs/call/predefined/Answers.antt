@@ -10,11 +10,6 @@ returns-in-Change c =
     subst (λ (p : Predefined). Tells c.changed.result (performed c.args.at (callees.Predefined p) c.args.result_type c.args.actuals)) (sym c.in-Change.is)
     (c.changed.ensures c.args.result_type)
 
-pub returns-in-Request : goal.returns-in-Request
-returns-in-Request c =
-    subst (λ (p : Predefined). Tells c.asked.result (performed c.args.at (callees.Predefined p) c.args.result_type c.args.actuals)) (sym c.in-Request.is)
-    (c.asked.ensures c.args.at c.args.result_type)
-
 pub returns-in-ErrorStop : goal.returns-in-ErrorStop
 returns-in-ErrorStop c =
     subst (λ (p : Predefined). Tells c.stopped.result (performed c.args.at (callees.Predefined p) c.args.result_type c.args.actuals)) (sym c.in-ErrorStop.is)
