@@ -1,19 +1,20 @@
 -- A program has as many evaluations as it needs, since each of its requests costs a mark.
 use Rattle.std.proofs.Common.{◌≡◌, ℕ, zero, suc, ◌+◌, ◌≤◌, Bool, true, false, cond, List, [], ◌∷◌, ◌++◌, map, length, Some, refl, ap, ◌∙◌, subst, length-append}
 use Rattle.std.proofs.Common.{arith}
+use Rattle.std.specs.Prelude.{slice_get}
 use Rattle.eu_base.specs.declared.stop.Stop.TheVariants.{CellRoom}
 use Rattle.eu_base.specs.declared.request.Request.{Request}
 use Rattle.eu_base.specs.declared.request.Reply.{Reply}
-use Rattle.eu_base.specs.declared.request.Reply.TheVariants.{Done}
+use Rattle.eu_base.specs.declared.request.Reply.TheVariants as replies
 use Rattle.eu_base.specs.Room.{cells_fit}
 use Rattle.eu_base.specs.Cells.{Cells}
 use Rattle.code_form.specs.declared.halt.Halt.TheVariants as halts
 use Rattle.code_form.specs.declared.waits.Waits.{Waits}
-use Rattle.code_form.specs.declared.waits.Waits.TheVariants.{Nothing, Asked, Refused}
-use Rattle.code_form.specs.Program.{Program}
+use Rattle.code_form.specs.declared.waits.Waits.TheVariants.{Nothing, Asked, Given, Refused}
+use Rattle.code_form.specs.Program.{Program, instr_of}
 use Rattle.code_form.specs.Machine.{Position, Control, After, To, Stops, Unsaid, Move, Goes, Spends, Halts, Refuses, Ends, Unknown, Stuck, Scene, Rest, step}
-use Rattle.code_form.specs.Machine.{Stage, On, Over, Lost}
-use Rattle.code_form.specs.Machine.{after_stage, mark_stage, reply_stage, stage, stage_at, advance, carry_on, exec, start}
+use Rattle.code_form.specs.Machine.{free, given, answered, takes_reply, Stage, On, Over, Lost}
+use Rattle.code_form.specs.Machine.{after_stage, mark_stage, move_stage, reply_stage, stage_at, advance, carry_on, exec, start}
 use Rattle.code_form.specs.Machine as machine
 use Rattle.place_gen.specs.Correct.{Shows, Comes, scene_of}
 use Rattle.code_gen.specs.Program.{program_of}
@@ -26,12 +27,13 @@ use Rattle.elan_types.specs.Command.{Ending, Ended, Stopped, OutOfMarks, Asks, e
 use Rattle.elan_check.specs.Text as tree
 use Rattle.line_command.proofs.Begun.{begun, has_begun}
 use Rattle.line_command.specs.Meaning.{alone, Means, means}
-use Rattle.line_command.specs.Program.{line_marks, AsksOnly, Suffices}
+use Rattle.line_command.specs.Program.{line_marks, reply_to, AsksOnly, Suffices}
 
 -- a request that waits for its reply has cost a mark
 abbrev owed : Waits → ℕ
 owed Nothing = 0
 owed (Asked q) = 1
+owed (Given r) = 0
 owed (Refused stop) = 0
 
 -- from so many marks and replies on, each reply that is taken costs a mark, and so does a request that has none
@@ -40,34 +42,41 @@ Pays n k (On c s) = s.marks + owed c.waits + k ≤ n + length s.replies
 Pays n k (Over r) = (q : Request) → r.how ≡ halts.Asks q → k + 1 ≤ n
 Pays n k Lost = Unit {0}
 
-after_pays : (n : ℕ) (a : After) (c : Position) (s : Scene) → Pays (suc n) (length s.replies) (after_stage a c (record s { marks = n }))
-after_pays n (To c' cells) c s = omega arith
-after_pays n (machine.Asks c' q cells) c s = omega arith
-after_pays n (Stops stop) c s = λ q is. absurd (cc is)
-after_pays n Unsaid c s = tt
+after_pays : (n : ℕ) (a : After) (d : Control) (s : Scene) → Pays (suc n) (length s.replies) (after_stage a d (record s { marks = n }))
+after_pays n (To c' cells) d s = omega arith
+after_pays n (machine.Asks c' q cells) d s = omega arith
+after_pays n (Stops stop) d s = λ q is. absurd (cc is)
+after_pays n Unsaid d s = tt
 
-move_pays : (m : Move) (c : Position) (s : Scene) → Pays (s.marks + 0) (length s.replies) (stage m c s)
-move_pays (Goes c' cells) c s = omega arith
-move_pays (Spends a) c s = by s.marks
+move_pays : (m : Move) (d : Control) (s : Scene) → Pays (s.marks + 0) (length s.replies) (move_stage m d s)
+move_pays (Goes c' cells) d s = omega arith
+move_pays (Spends a) d s = by s.marks
   where
-    by : (n : ℕ) → Pays (n + 0) (length s.replies) (mark_stage n a c s)
+    by : (n : ℕ) → Pays (n + 0) (length s.replies) (mark_stage n a d s)
     by zero = λ q is. absurd (cc is)
     by (suc n) =
         let e : suc n ≡ suc n + 0 = omega arith in
-        subst (λ k. Pays k (length s.replies) (after_stage a c (record s { marks = n }))) e (after_pays n a c s)
-move_pays (Halts stop) c s = λ q is. absurd (cc is)
-move_pays (Refuses stop c') c s = omega arith
-move_pays Ends c s = λ q is. absurd (cc is)
-move_pays Unknown c s = tt
-move_pays Stuck c s = tt
+        subst (λ k. Pays k (length s.replies) (after_stage a d (record s { marks = n }))) e (after_pays n a d s)
+move_pays (Halts stop) d s = λ q is. absurd (cc is)
+move_pays (Refuses stop c') d s = omega arith
+move_pays Ends d s = λ q is. absurd (cc is)
+move_pays Unknown d s = tt
+move_pays Stuck d s = tt
+
+-- a reply leads to a control that owes nothing
+answered_owes : (q : Request) (r : Reply) (c : Position) → owed (answered q r c).waits ≡ 0
+answered_owes q replies.Done c = refl
+answered_owes q (replies.Text t) c = refl
+answered_owes q (replies.Stopped stop) c = refl
 
 stage_pays : (p : Program) (w : Waits) (c : Position) (s : Scene) → Pays (s.marks + owed w) (length s.replies) (stage_at w p c s)
-stage_pays p Nothing c s = move_pays (step p c s.cells) c s
+stage_pays p Nothing c s = move_pays (step p c s.cells) (free c) s
+stage_pays p (Given r) c s = move_pays (takes_reply (instr_of (slice_get p.lines c.pc)) r c s.cells) (given c r) s
 stage_pays p (Asked q) c s = by s.replies
   where
     by : (rs : List Reply) → Pays (s.marks + 1) (length rs) (reply_stage rs q c s)
     by [] = λ q' same. omega arith
-    by (r ∷ rs) = omega arith
+    by (r ∷ rs) = omega (arith, answered_owes q r c)
 stage_pays p (Refused stop) c s = λ q is. absurd (cc is)
 
 -- a run that rests at a request has spent more marks than it took replies
@@ -94,13 +103,13 @@ module _ (core : Core) (typed : IsWellTyped core) (marks : ℕ) where
   first = begun (map kind_in core.variables)
 
   -- where its evaluation stands at a request, it has spent more marks than it got replies
-  fewer_replies : (replies : List Reply) → AsksOnly (evaluate core marks replies) (length replies + 1 ≤ marks)
+  fewer_replies : (replies : List Reply) → AsksOnly (evaluate core marks replies) (λ _. length replies + 1 ≤ marks)
   fewer_replies replies = by (evaluate core marks replies) comes.shows
     where
       comes : Comes (program_of core) (start (length (program_of core).variables)) (scene_of (at_start core marks replies) first) (evaluate core marks replies)
       comes = (behaves core typed).ends (at_start core marks replies) first (has_begun core)
 
-      by : (e : Ending) → Shows e comes.rest → AsksOnly e (length replies + 1 ≤ marks)
+      by : (e : Ending) → Shows e comes.rest → AsksOnly e (λ _. length replies + 1 ≤ marks)
       by (Ended w) h = tt
       by (Stopped s w) h = tt
       by (OutOfMarks w) h = tt
@@ -111,17 +120,19 @@ module _ (core : Core) (typed : IsWellTyped core) (marks : ℕ) where
 
   suffices : (n : ℕ) (replies : List Reply) → marks + 1 ≤ n + length replies → length replies ≤ marks → Suffices n core marks replies
   suffices zero replies all few = absurd (omega (arith, all, few))
-  suffices (suc n) replies all few = by (evaluate core marks replies) (fewer_replies replies) (λ more few. suffices n (replies ++ Done ∷ []) more few)
+  suffices (suc n) replies all few = by (evaluate core marks replies) (fewer_replies replies)
+      (λ r more few. suffices n (replies ++ r ∷ []) more few)
     where
-      by : (e : Ending) → AsksOnly e (length replies + 1 ≤ marks)
-          → (marks + 1 ≤ n + length (replies ++ Done ∷ []) → length (replies ++ Done ∷ []) ≤ marks → Suffices n core marks (replies ++ Done ∷ []))
-          → AsksOnly e (Suffices n core marks (replies ++ Done ∷ []))
+      by : (e : Ending) → AsksOnly e (λ _. length replies + 1 ≤ marks)
+          → ((r : Reply) → marks + 1 ≤ n + length (replies ++ r ∷ []) → length (replies ++ r ∷ []) ≤ marks → Suffices n core marks (replies ++ r ∷ []))
+          → AsksOnly e (λ r. Suffices n core marks (replies ++ r ∷ []))
       by (Ended w) paid later = tt
       by (Stopped s w) paid later = tt
       by (OutOfMarks w) paid later = tt
       by (Asks q w) paid later =
-          let longer : length (replies ++ Done ∷ []) ≡ length replies + 1 = length-append replies (Done ∷ []) in
-          later (omega (arith, all, longer)) (omega (arith, longer, paid))
+          let r = reply_to q in
+          let longer : length (replies ++ r ∷ []) ≡ length replies + 1 = length-append replies (r ∷ []) in
+          later r (omega (arith, all, longer)) (omega (arith, longer, paid))
 
 -- what a text means is well typed, and so has as many as it needs
 pub enough : ((env : Env) (t : Tree) (c : Core) → tree.Means env t c → IsWellTyped c) → (text : List ℕ) (core : Core) → Means text core

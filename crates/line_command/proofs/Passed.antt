@@ -1,12 +1,13 @@
 -- A run that comes to rest for want of replies goes on from there with more of them as it does from its start.
 use Rattle.std.proofs.Common.{◌≡◌, ℕ, zero, suc, List, [], ◌∷◌, ◌++◌, Some, refl, sym, ap, ◌∙◌, subst}
+use Rattle.std.specs.Prelude.{slice_get}
 use Rattle.eu_base.specs.declared.request.Reply.{Reply}
 use Rattle.code_form.specs.declared.waits.Waits.{Waits}
-use Rattle.code_form.specs.declared.waits.Waits.TheVariants.{Nothing, Asked, Refused}
-use Rattle.code_form.specs.Program.{Program}
+use Rattle.code_form.specs.declared.waits.Waits.TheVariants.{Nothing, Asked, Given, Refused}
+use Rattle.code_form.specs.Program.{Program, instr_of}
 use Rattle.code_form.specs.Machine.{Position, Control, free, asking, After, To, Asks, Stops, Unsaid, Move, Goes, Spends, Halts, Refuses, Ends, Unknown, Stuck}
-use Rattle.code_form.specs.Machine.{Scene, Rest}
-use Rattle.code_form.specs.Machine.{step, Stage, On, Over, Lost, after_stage, mark_stage, reply_stage, stage, stage_at, advance, carry_on, exec}
+use Rattle.code_form.specs.Machine.{Scene, Rest, given, takes_reply, step, Stage, On, Over, Lost, after_stage, mark_stage, reply_stage, move_stage, stage_at}
+use Rattle.code_form.specs.Machine.{advance, carry_on, exec}
 use Rattle.code_form.specs.Runs.{IsPaused, Rests}
 
 -- with these replies besides
@@ -20,29 +21,30 @@ Longer more (Over r) c s st = IsPaused r.how → (r.control ≡ c) × (r.scene �
 Longer more Lost c s st = Unit {0}
 
 module _ (p : Program) (more : List Reply) where
-  paid_longer : (m : ℕ) (a : After) (c : Position) (s : Scene)
-      → Longer more (after_stage a c (record s { marks = m })) (free c) s (after_stage a c (longer more (record s { marks = m })))
-  paid_longer m (To c' cells) c s = refl
-  paid_longer m (Asks c' q cells) c s = refl
-  paid_longer m (Stops stop) c s = λ paused. absurd paused
-  paid_longer m Unsaid c s = tt
+  paid_longer : (m : ℕ) (a : After) (d : Control) (s : Scene)
+      → Longer more (after_stage a d (record s { marks = m })) d s (after_stage a d (longer more (record s { marks = m })))
+  paid_longer m (To c' cells) d s = refl
+  paid_longer m (Asks c' q cells) d s = refl
+  paid_longer m (Stops stop) d s = λ paused. absurd paused
+  paid_longer m Unsaid d s = tt
 
-  mark_longer : (m : ℕ) (a : After) (c : Position) (s : Scene) → Longer more (mark_stage m a c s) (free c) s (mark_stage m a c (longer more s))
-  mark_longer zero a c s = λ paused. (refl, refl)
-  mark_longer (suc m) a c s = paid_longer m a c s
+  mark_longer : (m : ℕ) (a : After) (d : Control) (s : Scene) → Longer more (mark_stage m a d s) d s (mark_stage m a d (longer more s))
+  mark_longer zero a d s = λ paused. (refl, refl)
+  mark_longer (suc m) a d s = paid_longer m a d s
 
-  move_longer : (m : Move) (c : Position) (s : Scene) → Longer more (stage m c s) (free c) s (stage m c (longer more s))
-  move_longer (Goes c' cells) c s = refl
-  move_longer (Spends a) c s = mark_longer s.marks a c s
-  move_longer (Halts stop) c s = λ paused. absurd paused
-  move_longer (Refuses stop c') c s = refl
-  move_longer Ends c s = λ paused. absurd paused
-  move_longer Unknown c s = tt
-  move_longer Stuck c s = tt
+  move_longer : (m : Move) (d : Control) (s : Scene) → Longer more (move_stage m d s) d s (move_stage m d (longer more s))
+  move_longer (Goes c' cells) d s = refl
+  move_longer (Spends a) d s = mark_longer s.marks a d s
+  move_longer (Halts stop) d s = λ paused. absurd paused
+  move_longer (Refuses stop c') d s = refl
+  move_longer Ends d s = λ paused. absurd paused
+  move_longer Unknown d s = tt
+  move_longer Stuck d s = tt
 
   stage_longer : (w : Waits) (c : Position) (s : Scene)
       → Longer more (stage_at w p c s) (record { position = c; waits = w }) s (stage_at w p c (longer more s))
-  stage_longer Nothing c s = move_longer (step p c s.cells) c s
+  stage_longer Nothing c s = move_longer (step p c s.cells) (free c) s
+  stage_longer (Given r) c s = move_longer (takes_reply (instr_of (slice_get p.lines c.pc)) r c s.cells) (given c r) s
   stage_longer (Asked q) c s = by s.replies
     where
       by : (rs : List Reply) → Longer more (reply_stage rs q c s) (asking c q) s (reply_stage (rs ++ more) q c (longer more s))

@@ -4,9 +4,8 @@ use Rattle.std.proofs.Common.{subst, append_assoc, append-nil, length, length-ap
 use Rattle.eu_base.specs.declared.stop.Stop.{Stop}
 use Rattle.eu_base.specs.declared.stop.Stop.TheVariants.{CellRoom, LineMarks}
 use Rattle.eu_base.specs.declared.request.Request.{Request}
-use Rattle.eu_base.specs.declared.request.Request.TheVariants.{Out}
 use Rattle.eu_base.specs.declared.request.Reply.{Reply}
-use Rattle.eu_base.specs.declared.request.Reply.TheVariants.{Done}
+use Rattle.eu_base.specs.declared.request.Reply.TheVariants as replies
 use Rattle.eu_base.specs.Cells.{Cells}
 use Rattle.eu_base.specs.Room.{cells_fit}
 use Rattle.code_form.specs.declared.halt.Halt.{Halt}
@@ -25,9 +24,9 @@ use Rattle.elan_types.specs.declared.core_phrase.Core.{Core}
 use Rattle.elan_types.specs.Eval.{World}
 use Rattle.elan_types.specs.Command.{Ending, Ended, Stopped, OutOfMarks, Asks, evaluate, at_start, blank_store}
 use Rattle.line_command.specs.Screen as screen
-use Rattle.line_command.specs.Screen.{Screen, Written, blank, put, final}
+use Rattle.line_command.specs.Screen.{Screen, Written, written_by, blank, put, final}
 use Rattle.line_command.specs.Program as text
-use Rattle.line_command.specs.Program.{line_marks, Output, ends, output_at, output_in, output_of}
+use Rattle.line_command.specs.Program.{line_marks, Output, ends, reply_to, output_at, output_in, output_of}
 use Rattle.line_command.proofs.Passed.{longer, passed}
 use Rattle.line_command.proofs.Served.{behind, IsServed}
 
@@ -69,6 +68,12 @@ start_free n = by (cells_fit n)
     by true = refl
     by false = refl
 
+-- nor does one that was answered
+pub answered_free : (q : Request) (r : Reply) (c : Position) → asked (answered q r c).waits ≡ None
+answered_free q replies.Done c = refl
+answered_free q (replies.Text t) c = refl
+answered_free q (replies.Stopped stop) c = refl
+
 -- at the start nothing was answered
 pub served_first : (core : Core) (p : Program) (first : Cells) (control : Control) → control ≡ start (length p.variables)
     → IsServed core p first control first line_marks blank
@@ -82,14 +87,14 @@ served_first core p first control is = record {
 }
 
 -- the reply that is given is taken
-took : (p : Program) (w : Waits) (c : Position) (q : Request) (cells : Cells) (marks : ℕ) (more : List Reply) (last : Rest) → w ≡ Asked q
-    → Rests p (record { position = c; waits = w }) (record { cells = cells; marks = marks; replies = Done ∷ more }) last
-    → Rests p (answered q Done c) (record { cells = cells; marks = marks; replies = more }) last
-took p w c q cells marks more last is h =
-    by (subst (λ (w : Waits). Rests p (record { position = c; waits = w }) (record { cells = cells; marks = marks; replies = Done ∷ more }) last) is h)
+took : (p : Program) (w : Waits) (c : Position) (q : Request) (r : Reply) (cells : Cells) (marks : ℕ) (more : List Reply) (last : Rest) → w ≡ Asked q
+    → Rests p (record { position = c; waits = w }) (record { cells = cells; marks = marks; replies = r ∷ more }) last
+    → Rests p (answered q r c) (record { cells = cells; marks = marks; replies = more }) last
+took p w c q r cells marks more last is h =
+    by (subst (λ (w : Waits). Rests p (record { position = c; waits = w }) (record { cells = cells; marks = marks; replies = r ∷ more }) last) is h)
   where
-    by : Rests p (asking c q) (record { cells = cells; marks = marks; replies = Done ∷ more }) last
-        → Rests p (answered q Done c) (record { cells = cells; marks = marks; replies = more }) last
+    by : Rests p (asking c q) (record { cells = cells; marks = marks; replies = r ∷ more }) last
+        → Rests p (answered q r c) (record { cells = cells; marks = marks; replies = more }) last
     by (zero, e) = absurd (cc e)
     by (suc n, e) = (n, e)
 
@@ -114,13 +119,13 @@ module _ (core : Core) (p : Program) (first : Cells) (control : Control) (cells 
 
     -- what is left to write where the evaluation stands so; an evaluation is always left
     whole_output : (e : Ending) (stop : Option Stop) → evaluate core line_marks served.replies ≡ e
-        → ((more : Output) → output_at e more ≡ ends stop) → output_of core ≡ record { written = served.written; stop = stop }
+        → ((more : Reply → Output) → output_at e more ≡ ends stop) → output_of core ≡ record { written = served.written; stop = stop }
     whole_output e stop is ended = by (line_marks + 1 - length served.replies) refl
       where
         by : (n : ℕ) → line_marks + 1 - length served.replies ≡ n → output_of core ≡ record { written = served.written; stop = stop }
         by zero all = absurd (omega (arith, all, served.paid))
         by (suc n) all =
-            let more = output_in n core line_marks (served.replies ++ Done ∷ []) in
+            let more : Reply → Output = λ r. output_in n core line_marks (served.replies ++ r ∷ []) in
             let left : output_at (evaluate core line_marks served.replies) more ≡ ends stop = ap (λ x. output_at x more) is ∙ ended more in
             served.so_far ∙ ap (λ k. behind served.written (output_in k core line_marks served.replies)) all
             ∙ ap (behind served.written) left
@@ -128,7 +133,7 @@ module _ (core : Core) (p : Program) (first : Cells) (control : Control) (cells 
 
     -- a rest that ends the program
     whole : (e : Ending) (stop : Option Stop) (out : List ℕ) → evaluate core line_marks served.replies ≡ e
-        → ((more : Output) → output_at e more ≡ ends stop) → out ≡ final s stop → text.Shows core out
+        → ((more : Reply → Output) → output_at e more ≡ ends stop) → out ≡ final s stop → text.Shows core out
     whole e stop out is ended out_is =
         out_is ∙ ap (λ x. final x stop) served.shown
         ∙ ap (λ (o : Output). final (screen.put_all blank o.written) o.stop) (sym (whole_output e stop is ended))
@@ -150,40 +155,37 @@ module _ (core : Core) (p : Program) (first : Cells) (control : Control) (cells 
 
     -- and one at a request, which is answered
     pub served_on : (q : Request) (s' : Screen) (control'' : Control) → h ≡ halts.Asks q → s' ≡ screen.with_request s q → control'.waits ≡ Asked q
-        → control'' ≡ answered q Done control'.position → marks' < marks → IsServed core p first control'' next.scene.cells marks' s'
-    served_on (Out bytes line_ends) s' control'' is put_is waits answer less =
-        let longer_by : length (served.replies ++ Done ∷ []) ≡ length served.replies + 1 = length-append served.replies (Done ∷ []) in
+        → control'' ≡ answered q (reply_to q) control'.position → marks' < marks → IsServed core p first control'' next.scene.cells marks' s'
+    served_on q s' control'' is put_is waits answer less =
+        let longer_by : length (served.replies ++ reply ∷ []) ≡ length served.replies + 1 = length-append served.replies (reply ∷ []) in
         record {
-          replies = served.replies ++ Done ∷ [];
-          written = served.written ++ w ∷ [];
+          replies = served.replies ++ reply ∷ [];
+          written = served.written ++ written_by q;
           on = λ more last h.
-              let whole : Rests p (start (length p.variables)) (record { cells = first; marks = line_marks; replies = served.replies ++ Done ∷ more }) last =
+              let whole : Rests p (start (length p.variables)) (record { cells = first; marks = line_marks; replies = served.replies ++ reply ∷ more }) last =
               subst (λ rs. Rests p (start (length p.variables)) (record { cells = first; marks = line_marks; replies = rs }) last)
-              (append_assoc served.replies (Done ∷ []) more) h in
-              let there : Rests p next.control (longer (Done ∷ more) next.scene) last =
-              passed p (Done ∷ more) rests.0 control (scene_of cells marks) next last paused rests.1 (served.on (Done ∷ more) last whole) in
+              (append_assoc served.replies (reply ∷ []) more) h in
+              let there : Rests p next.control (longer (reply ∷ more) next.scene) last =
+              passed p (reply ∷ more) rests.0 control (scene_of cells marks) next last paused rests.1 (served.on (reply ∷ more) last whole) in
               subst (λ (c : Control). Rests p c (record { cells = next.scene.cells; marks = marks'; replies = more }) last) (sym answer)
-              (took p control'.waits control'.position q next.scene.cells marks' more last waits
+              (took p control'.waits control'.position q reply next.scene.cells marks' more last waits
               (subst (λ (r : Rest). Rests p r.control
-              (longer (Done ∷ more) (record { cells = next.scene.cells; marks = r.scene.marks; replies = r.scene.replies }))
+              (longer (reply ∷ more) (record { cells = next.scene.cells; marks = r.scene.marks; replies = r.scene.replies }))
               last) so.1 there));
-          shown = put_is ∙ (ap (λ x. put x w) served.shown ∙ sym (put_all-append blank served.written (w ∷ [])));
+          shown = put_is ∙ (ap (λ x. screen.put_all x (written_by q)) served.shown ∙ sym (put_all-append blank served.written (written_by q)));
           paid = omega (arith, longer_by, served.paid, less);
           so_far =
               let e = shows_asks q (evaluate core line_marks served.replies) next comes.shows (how ∙ is) in
-              let n : ℕ = line_marks + 1 - length (served.replies ++ Done ∷ []) in
-              let more = output_in n core line_marks (served.replies ++ Done ∷ []) in
+              let n : ℕ = line_marks + 1 - length (served.replies ++ reply ∷ []) in
+              let more : Reply → Output = λ r. output_in n core line_marks (served.replies ++ r ∷ []) in
               let one_more : line_marks + 1 - length served.replies ≡ suc n = omega (arith, longer_by, served.paid, less) in
               served.so_far ∙ ap (λ k. behind served.written (output_in k core line_marks served.replies)) one_more
               ∙ ap (λ x. behind served.written (output_at x more)) e.1
-              ∙ ap (λ ws. record { written = ws; stop = more.stop }) (sym (append_assoc served.written (w ∷ []) more.written));
+              ∙ ap (λ ws. record { written = ws; stop = (more reply).stop }) (sym (append_assoc served.written (written_by q) (more reply).written));
         }
       where
-        q : Request
-        q = Out bytes line_ends
-
-        w : Written
-        w = record { bytes = bytes; ends = line_ends }
+        reply : Reply
+        reply = reply_to q
 
         paused : IsPaused next.how
         paused = subst (λ h. IsPaused h) (sym (how ∙ is)) tt

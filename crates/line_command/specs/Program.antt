@@ -1,14 +1,15 @@
 -- What a program writes.
 use Rattle.std.specs.Prelude.{◌≡◌, ℕ, zero, suc, ◌+◌, List, [], ◌∷◌, ◌++◌, Option, Some, None}
 use Rattle.eu_base.specs.declared.stop.Stop.{Stop}
-use Rattle.eu_base.specs.declared.stop.Stop.TheVariants.{LineMarks}
+use Rattle.eu_base.specs.declared.stop.Stop.TheVariants.{OnlySession, LineMarks}
 use Rattle.eu_base.specs.declared.request.Request.{Request}
-use Rattle.eu_base.specs.declared.request.Request.TheVariants.{Out}
+use Rattle.eu_base.specs.declared.request.Request.TheVariants.{Out, Input}
 use Rattle.eu_base.specs.declared.request.Reply.{Reply}
 use Rattle.eu_base.specs.declared.request.Reply.TheVariants.{Done}
+use Rattle.eu_base.specs.declared.request.Reply.TheVariants as replies
 use Rattle.elan_types.specs.declared.core_phrase.Core.{Core}
 use Rattle.elan_types.specs.Command.{Ending, Ended, Stopped, OutOfMarks, Asks, evaluate}
-use Rattle.line_command.specs.Screen.{Written, blank, put_all, final}
+use Rattle.line_command.specs.Screen.{Written, written_by, blank, put_all, final}
 
 -- the marks that a line may spend
 abbrev pub line_marks : ℕ
@@ -25,32 +26,37 @@ ends stop = record { written = []; stop = stop }
 
 -- what a request asks to write, and then what is written after it
 abbrev pub writes_before : Request → Output → Output
-writes_before (Out bytes ends) after = record { written = record { bytes = bytes; ends = ends } ∷ after.written; stop = after.stop }
+writes_before q after = record { written = written_by q ++ after.written; stop = after.stop }
+
+-- what is replied: it was written; and a line can be typed in a session alone
+abbrev pub reply_to : Request → Reply
+reply_to (Out bytes ends) = Done
+reply_to Input = replies.Stopped OnlySession
 
 -- what is written where the evaluation stands so; after a request, what is written once it is answered
-abbrev pub output_at : Ending → Output → Output
+abbrev pub output_at : Ending → (Reply → Output) → Output
 output_at (Ended w) answered = ends None
 output_at (Stopped stop w) answered = ends (Some stop)
 output_at (OutOfMarks w) answered = ends (Some LineMarks)
-output_at (Asks request w) answered = writes_before request answered
+output_at (Asks request w) answered = writes_before request (answered (reply_to request))
 
 -- What a program writes after these replies, with so many marks from its start on, in at most so many evaluations. At a request the
 -- program is evaluated again, with one reply more. Where no evaluation is left it is as if its marks were spent.
 abbrev pub output_in : (evaluations : ℕ) → Core → (marks : ℕ) → List Reply → Output
 output_in zero core marks replies = ends (Some LineMarks)
-output_in (suc n) core marks replies = output_at (evaluate core marks replies) (output_in n core marks (replies ++ Done ∷ []))
+output_in (suc n) core marks replies = output_at (evaluate core marks replies) (λ reply. output_in n core marks (replies ++ reply ∷ []))
 
 -- a request is followed by more, and nothing else is
-abbrev pub AsksOnly : Ending → (later : Type 0) → Type 0
+abbrev pub AsksOnly : Ending → (later : Reply → Type 0) → Type 0
 AsksOnly (Ended w) later = Unit {0}
 AsksOnly (Stopped stop w) later = Unit {0}
 AsksOnly (OutOfMarks w) later = Unit {0}
-AsksOnly (Asks request w) later = later
+AsksOnly (Asks request w) later = later (reply_to request)
 
 -- so many evaluations are enough to tell all that a program writes: the last of them stands at no request
 abbrev pub Suffices : (evaluations : ℕ) → Core → (marks : ℕ) → List Reply → Type 0
 Suffices zero core marks replies = ⊥
-Suffices (suc n) core marks replies = AsksOnly (evaluate core marks replies) (Suffices n core marks (replies ++ Done ∷ []))
+Suffices (suc n) core marks replies = AsksOnly (evaluate core marks replies) (λ reply. Suffices n core marks (replies ++ reply ∷ []))
 
 -- what it writes from its start on, with the marks of a line. One evaluation more than there are marks is enough for each program
 -- that is accepted, since each request costs a mark

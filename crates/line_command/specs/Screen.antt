@@ -3,7 +3,7 @@ use Rattle.std.specs.Prelude.{ℕ, Bool, true, false, ◌||◌, List, [], ◌∷
 use Rattle.std.specs.Fmt.{decimal}
 use Rattle.eu_base.specs.declared.stop.Stop.{Stop}
 use Rattle.eu_base.specs.declared.request.Request.{Request}
-use Rattle.eu_base.specs.declared.request.Request.TheVariants.{Out}
+use Rattle.eu_base.specs.declared.request.Request.TheVariants.{Out, Input}
 use Rattle.eu_base.specs.Stops.{stop_text}
 
 -- bytes to write, and whether they end a line
@@ -36,14 +36,19 @@ put s w = if w.ends
     then record { text = s.text ++ (shown w.bytes ++ 10 ∷ []); open_ = false }
     else record { text = s.text ++ shown w.bytes; open_ = s.open_ || has_bytes w.bytes }
 
--- with what a program asks for
-abbrev pub with_request : Screen → Request → Screen
-with_request s (Out b e) = put s (record { bytes = b; ends = e })
+-- what a request asks to write
+abbrev pub written_by : Request → List Written
+written_by (Out bytes ends) = record { bytes = bytes; ends = ends } ∷ []
+written_by Input = []
 
 -- one after another
 abbrev pub put_all : Screen → List Written → Screen
 put_all s [] = s
 put_all s (w ∷ ws) = put_all (put s w) ws
+
+-- with what a program asks for
+abbrev pub with_request : Screen → Request → Screen
+with_request s q = put_all s (written_by q)
 
 -- an unfinished line is ended
 abbrev pub closed : Screen → List ℕ

@@ -8,13 +8,13 @@ ghost use Rattle.code_gen.specs.Correct.{Behaves};
 ghost use Rattle.elan_types.specs.declared.core_phrase.Core.{Core};
 ghost use Rattle.elan_types.specs.Command.{blank_store};
 ghost use Rattle.elan_types.specs.Typing.{IsWellTyped, kind_in};
-ghost use Rattle.line_command.specs.Program.{Shows};
+ghost use Rattle.line_command.specs.Program.{reply_to, Shows};
 
 use crate::screen::Screen;
 use code_form::{Code, Halt};
 use code_gen::generate;
 use elan_types::Core;
-use eu_base::{Bytes, MemFault, Memory, Reply, Stop};
+use eu_base::{Bytes, MemFault, Memory, Reply, Request, Stop};
 use std::alloc::Global;
 use task_run::TaskRun;
 
@@ -70,8 +70,18 @@ fn serve<M: Memory>(
             Halt::Marked => return Ok(screen.finish(alloc, Some(Stop::LineMarks))?),
             Halt::Asks(request) => {
                 screen.show(alloc, &request)?;
-                command.answer(code, memory, Reply::Done)?;
+                command.answer(code, memory, reply_to(&request))?;
             }
         }
+    }
+}
+
+/// What is replied: it was written; and a line can be typed in a session alone.
+fn reply_to(request: &Request) -> Reply
+    ensures { result ≡ reply_to request.now }
+{
+    match request {
+        Request::Out { .. } => Reply::Done,
+        Request::Input => Reply::Stopped(Stop::OnlySession),
     }
 }

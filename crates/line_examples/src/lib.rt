@@ -1,15 +1,22 @@
-//! Lines of ELAN, among them the examples of the documents, through the whole program, each with what it writes.
+//! Programs, among them the examples of the documents, each with what it writes: through the whole program, or as they go on
+//! with lines that are typed.
 #![tactic(auto)]
 
 #[cfg(test)]
-mod deep;
-#[cfg(test)]
-mod documents;
+mod code;
 #[cfg(test)]
 mod lines;
 #[cfg(test)]
 mod meanings;
 #[cfg(test)]
+mod outside;
+#[cfg(test)]
+mod rows;
+#[cfg(test)]
 mod table;
 #[cfg(test)]
+mod tests;
+#[cfg(test)]
 mod texts;
+#[cfg(test)]
+mod typed;

@@ -1,12 +1,10 @@
 //! What texts mean.
 
-use crate::lines::is_right;
-
 /// Texts, and behind each what it writes, or at which place and for which reason it is refused: names, operators and assignments;
 /// values of lists of units, IF and SELECT; loops, scopes, CAND and COR, brackets and calls; PROCs, OPs, refinements and LEAVE;
 /// the identifier after FOR, and bodies that have to deliver a type; what is not built yet; own operators. A text that has a
 /// meaning and puts nothing writes nothing. One text, since the check goes over each item of an array.
-const MEANINGS: &str = "\
+pub const MEANINGS: &str = "\
 > put (1)
 1 
 > line; put (maxint)
@@ -418,8 +416,3 @@ FEHLER : keine Variable (Zeile 1, Stelle 44)
 FEHLER : falscher Typ (Zeile 1, Stelle 53)
 > BOOL OP < (BOOL CONST a, b): b END OP <; IF TRUE < FALSE THEN line FI
 ";
-
-#[test]
-fn texts_have_these_meanings(rt: HostRuntime) {
-    assert!(rt; is_right(rt.alloc(), MEANINGS, 64));
-}

@@ -133,6 +133,9 @@ next
 a\"b c\"10\"d  
 > errorstop (\"stopped\")
 FEHLER : stopped
+> TEXT VAR who; put (\"Who?\"); getline (who); put (who)
+Who? 
+FEHLER : nur in einer Sitzung
 > put (1); put (2)
 1 2 
 > put (1); line; put (1 DIV 0)
@@ -181,6 +184,9 @@ REGAL = LAGER? hahaha
 2079 5 Year 79
 > TEXT PROC framed (TEXT CONST t):   \"<\" + t + \">\" END PROC framed; put (framed (framed (\"x\")))
 <<x>> 
+> TEXT VAR who; put (\"Who is there?\"); getline (who); put (\"Hello, \" + who)
+Who is there? 
+FEHLER : nur in einer Sitzung
 > put (aple)
 FEHLER : unbekannt (Zeile 1, Stelle 6)
 > INT VAR a; put (a = TRUE)

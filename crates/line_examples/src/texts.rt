@@ -1,10 +1,9 @@
 //! Programs with texts.
 
-use crate::lines::is_right;
-
 /// Each with what it writes: denoters, variables, parameters and results; each operator and procedure with its corners; the stops of
-/// texts, and where all texts have room; texts where no text can stand, and own operators on texts.
-const TEXTS: &str = "\
+/// texts, and where all texts have room; texts where no text can stand, and own operators on texts;
+/// and `get` and `getline`, for which `line` has no terminal.
+pub const TEXTS: &str = "\
 > put (\"Hallo\")
 Hallo 
 > put (\"\")
@@ -189,9 +188,54 @@ FEHLER : falscher Typ (Zeile 1, Stelle 13)
 FEHLER : falscher Typ (Zeile 1, Stelle 1)
 > put ((\"a\")); put ((\"a\" + (\"b\")) + \"c\")
 a abc 
+> TEXT VAR t; getline (t); put (t)
+FEHLER : nur in einer Sitzung
+> put (1); TEXT VAR t; get (t); put (2)
+1 
+FEHLER : nur in einer Sitzung
+> write (\"a\"); INT VAR i; get (i); put (i)
+a
+FEHLER : nur in einer Sitzung
+> PROC p (TEXT VAR t): getline (t) END PROC p; TEXT VAR t; putline (\"?\"); p (t)
+?
+FEHLER : nur in einer Sitzung
+> INT VAR i; FOR i UPTO 3 REP put (i); IF i = 2 THEN get (i) FI PER
+1 2 
+FEHLER : nur in einer Sitzung
+> getline (\"a\")
+FEHLER : keine Variable (Zeile 1, Stelle 10)
+> get (1)
+FEHLER : keine Variable (Zeile 1, Stelle 6)
+> TEXT CONST c :: \"a\"; get (c)
+FEHLER : keine Variable (Zeile 1, Stelle 27)
+> INT CONST c :: 1; get (c)
+FEHLER : keine Variable (Zeile 1, Stelle 24)
+> PROC p (INT CONST n): get (n) END PROC p; p (1)
+FEHLER : keine Variable (Zeile 1, Stelle 28)
+> BOOL VAR b; get (b)
+FEHLER : falscher Typ (Zeile 1, Stelle 13)
+> INT VAR i; getline (i)
+FEHLER : falscher Typ (Zeile 1, Stelle 12)
+> get
+FEHLER : unbekannt (Zeile 1, Stelle 1)
+> getline
+FEHLER : unbekannt (Zeile 1, Stelle 1)
+> TEXT VAR t, u; getline (t, u)
+FEHLER : unbekannt (Zeile 1, Stelle 16)
+> TEXT VAR t; put (getline (t))
+FEHLER : falscher Typ (Zeile 1, Stelle 13)
+> TEXT VAR t; t := getline (t)
+FEHLER : falscher Typ (Zeile 1, Stelle 13)
+> PROC get (BOOL VAR b): b := TRUE END PROC get; BOOL VAR b; get (b); IF b THEN put (1) FI
+1 
+> PROC getline (TEXT VAR t): t := \"own\" END PROC getline; TEXT VAR t; getline (t); put (t)
+own 
+> INT VAR get :: 7; put (get)
+7 
+> TEXT VAR getline :: \"x\"; put (getline)
+x 
+> TEXT VAR get; get (get)
+FEHLER : nur in einer Sitzung
+> REP TEXT VAR t; getline (t) PER
+FEHLER : nur in einer Sitzung
 ";
-
-#[test]
-fn programs_with_texts_write_this(rt: HostRuntime) {
-    assert!(rt; is_right(rt.alloc(), TEXTS, 64));
-}

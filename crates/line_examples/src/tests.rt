@@ -1,0 +1,72 @@
+//! The first table that is not right.
+
+use crate::rows::{Asked, add, is_right, put};
+use crate::{code, lines, meanings, outside, table, texts, typed};
+use eu_base::Bytes;
+use eumel_top::{Status, one_output};
+use std::alloc::Global;
+
+// An endless loop writes until its marks are spent.
+fn writes_until_spent(alloc: Global) -> bool {
+    let mut row = Bytes::new(alloc);
+    put(&mut row, b"> REP put (1) PER\n");
+    add(&mut row, "1 ", 33_333);
+    put(&mut row, b"\nFEHLER : Zeitgrenze\n");
+    let row = str::from_utf8(row.as_slice()).unwrap_or("");
+    is_right(alloc, row, Asked::Line("64 0 0 line"))
+}
+
+fn codes_are_right() -> bool {
+    Status::Done.code() == 0
+        && Status::BadWords.code() == 1
+        && Status::NoMemory.code() == 2
+        && Status::SourceFault.code() == 3
+        && Status::SinkFault.code() == 4
+        && Status::DiskFault.code() == 5
+        && Status::Foreign.code() == 6
+        && Status::BadLine(9).code() == 7
+        && Status::SessionFull.code() == 8
+}
+
+fn wrong_table(alloc: Global) -> &'static str {
+    let how = Asked::Line("64 0 0 line");
+    if !is_right(alloc, lines::LINES, how) {
+        "lines"
+    } else if !is_right(alloc, lines::LINES, Asked::Line("1 0 0 line")) {
+        "lines in pieces of a byte"
+    } else if !is_right(alloc, lines::LINES, Asked::Line("7 0 0 line")) {
+        "lines in pieces of 7"
+    } else if !is_right(alloc, lines::LINES, Asked::Line("1000 0 0 line")) {
+        "lines in one piece"
+    } else if !is_right(alloc, outside::OUTSIDE, Asked::Outside) {
+        "outside"
+    } else if !is_right(alloc, lines::PROCEDURES, how) {
+        "procedures"
+    } else if !is_right(alloc, meanings::MEANINGS, how) {
+        "meanings"
+    } else if !is_right(alloc, texts::TEXTS, how) {
+        "texts"
+    } else if !is_right(alloc, table::EXAMPLES, how) {
+        "examples"
+    } else if !writes_until_spent(alloc) {
+        "endless"
+    } else if !is_right(alloc, lines::LISTINGS, Asked::Listing) {
+        "listings"
+    } else if !is_right(alloc, code::DEEP, Asked::End) {
+        "deep"
+    } else if !is_right(alloc, typed::TYPED, Asked::Typed(100_000)) {
+        "typed"
+    } else if !is_right(alloc, typed::TYPED, Asked::Typed(1)) {
+        "typed, a mark at a time"
+    } else if !codes_are_right() {
+        "codes"
+    } else {
+        ""
+    }
+}
+
+#[test]
+fn each_row_is_right(rt: HostRuntime) {
+    one_output();
+    assert_eq!(rt; wrong_table(rt.alloc()), "");
+}
