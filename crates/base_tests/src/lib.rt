@@ -6,6 +6,8 @@ mod basics;
 #[cfg(test)]
 mod calls;
 #[cfg(test)]
+mod cells;
+#[cfg(test)]
 mod crafted;
 #[cfg(test)]
 mod disks;
@@ -17,3 +19,5 @@ mod real;
 mod stopped;
 #[cfg(test)]
 mod streams;
+#[cfg(test)]
+mod tests;

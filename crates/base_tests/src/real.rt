@@ -1,12 +1,10 @@
 //! Standard input, standard output, and a disk in a file.
 
-use crate::calls::Call::{Read, Sync, Write};
-use crate::calls::{Call, FAULT, answers};
+use crate::calls::answers;
 use edge::{Sink, Source};
 use edge_real::{FileDisk, StdSink, StdSource};
 use eu_base::Bytes;
 use std::fs;
-use std::test::Fail;
 
 fn takes_nothing(rt: &HostRuntime) -> bool {
     let mut source = StdSource::new(rt);
@@ -19,6 +17,48 @@ fn puts_some(rt: &HostRuntime) -> bool {
     sink.put(b"x").is_ok()
 }
 
+// Whether a disk in the file of that path answers so.
+fn file_answers(rt: &HostRuntime, path: &[u8], calls: &str) -> bool {
+    match Bytes::from(rt.alloc(), path) {
+        Ok(path) => answers(&mut FileDisk::new(rt, path), calls),
+        Err(_) => false,
+    }
+}
+
+// Whether a file is that long.
+fn is_long(rt: &HostRuntime, path: &str, length: u64) -> bool {
+    match fs::metadata(rt, path) {
+        Ok(found) => found.len() == length,
+        Err(_) => false,
+    }
+}
+
+fn keeps_blocks(rt: &HostRuntime) -> bool {
+    let unwritten = file_answers(rt, b"blocks", "r3=0 s");
+    let absent = fs::metadata(rt, "blocks").is_err();
+    let written = file_answers(rt, b"blocks", "w3:7 s r3=7");
+    let kept = file_answers(rt, b"blocks", "r3=7 r2=0 r255=0");
+    let long = is_long(rt, "blocks", 2048);
+    let removed = fs::remove_file(rt, "blocks").is_ok();
+    unwritten && absent && written && kept && long && removed
+}
+
+// A block in which the file ends goes on with zeros.
+fn ends_in_a_block(rt: &HostRuntime) -> bool {
+    let made = fs::write(rt, "short", "abc").is_ok();
+    let right = file_answers(rt, b"short", "r0=97 r1=0 w1:5 r0=97");
+    let long = is_long(rt, "short", 1024);
+    let removed = fs::remove_file(rt, "short").is_ok();
+    made && right && long && removed
+}
+
+// What cannot be opened.
+fn tells_faults(rt: &HostRuntime) -> bool {
+    let folder = file_answers(rt, b".", "r0=! w0:1=!");
+    let absent = file_answers(rt, b"none/blocks", "r0=0 w0:1=!");
+    folder && absent && file_answers(rt, b"\xff", "r0=! w0:1=!")
+}
+
 #[test]
 fn standard_input_is_at_its_end_and_standard_output_takes_some(rt: HostRuntime) {
     let input = takes_nothing(&rt);
@@ -26,58 +66,8 @@ fn standard_input_is_at_its_end_and_standard_output_takes_some(rt: HostRuntime) 
     assert!(rt; input && output);
 }
 
-// Whether a disk in the file of that path answers so.
-fn file_answers(rt: &HostRuntime, path: &[u8], calls: &[(Call, u16)]) -> bool {
-    match Bytes::from(rt.alloc(), path) {
-        Ok(path) => answers(&mut FileDisk::new(rt, path), calls),
-        Err(_) => false,
-    }
-}
-
-// How long a file is; none, where it isn't there.
-fn length_of(rt: &HostRuntime, path: &str) -> Option<u64> {
-    match fs::metadata(rt, path) {
-        Ok(found) => Some(found.len()),
-        Err(_) => None,
-    }
-}
-
 #[test]
-fn a_file_keeps_blocks(rt: HostRuntime) -> Result<(), Fail> {
-    let unwritten = file_answers(&rt, b"blocks", &[(Read(3), 0), (Sync, 0)]);
-    let absent = length_of(&rt, "blocks").is_none();
-    let written = file_answers(&rt, b"blocks", &[(Write(3, 7), 0), (Sync, 0), (Read(3), 7)]);
-    let kept = file_answers(
-        &rt,
-        b"blocks",
-        &[(Read(3), 7), (Read(2), 0), (Read(255), 0)],
-    );
-    let length = length_of(&rt, "blocks");
-    fs::remove_file(&rt, "blocks")?;
-    assert!(rt; unwritten && absent && written && kept && length == Some(2048));
-    Ok(())
-}
-
-// A block in which the file ends goes on with zeros.
-#[test]
-fn the_end_of_a_file_may_lie_in_a_block(rt: HostRuntime) -> Result<(), Fail> {
-    fs::write(&rt, "short", "abc")?;
-    let calls = [(Read(0), 97), (Read(1), 0), (Write(1, 5), 0), (Read(0), 97)];
-    let right = file_answers(&rt, b"short", &calls);
-    let length = length_of(&rt, "short");
-    fs::remove_file(&rt, "short")?;
-    assert!(rt; right && length == Some(1024));
-    Ok(())
-}
-
-#[test]
-fn what_cannot_be_opened_is_a_fault(rt: HostRuntime) {
-    let cases: [(&[u8], u16, u16); 3] = [
-        (b".", FAULT, FAULT),
-        (b"none/blocks", 0, FAULT),
-        (b"\xff", FAULT, FAULT),
-    ];
-    for (path, read, written) in cases {
-        assert!(rt; file_answers(&rt, path, &[(Read(0), read), (Write(0, 1), written)]));
-    }
+fn a_file_keeps_blocks(rt: HostRuntime) {
+    let (kept, ended, told) = (keeps_blocks(&rt), ends_in_a_block(&rt), tells_faults(&rt));
+    assert!(rt; kept && ended && told);
 }

@@ -1,66 +1,46 @@
 //! Sources and sinks in memory: which bytes move, and which call fails.
 
-use edge::{Failed, MemSink, MemSource, Sink, Source};
-use eu_base::{Bytes, List, NoMemory};
+use edge::{MemSink, MemSource, Sink, Source};
+use eu_base::{Bytes, List};
 use std::alloc::Global;
 
-// Whether calls that ask for four bytes answer so, each with the first byte that stands there afterwards.
-fn gives(source: &mut MemSource, calls: &[(Result<usize, Failed>, u8)]) -> bool {
-    for (answer, first) in calls {
+// The second call fails.
+fn fails(alloc: Global) -> List<u32> {
+    let mut fails = List::new(alloc);
+    let _listed = fails.push(2u32).is_ok();
+    fails
+}
+
+// Where memory is refused, the bytes are not those that are told.
+fn add(out: &mut Bytes, byte: u8) {
+    let _added = out.append(&[byte]).is_ok();
+}
+
+// Four calls that ask for four bytes each: how many come, 9 for a call that fails, and the first byte that stands there afterwards.
+fn take(source: &mut MemSource, out: &mut Bytes) {
+    for _ in 0..4 {
         let mut into = [0; 4];
-        if source.take(&mut into) != *answer || into[0] != *first {
-            return false;
-        }
-    }
-    true
-}
-
-fn source_of(alloc: Global, bytes: &[u8], fails: u32) -> Result<MemSource, NoMemory> {
-    let bytes = Bytes::from(alloc, bytes)?;
-    let fails = List::from_slice(alloc, &[fails])?;
-    Ok(MemSource::new(bytes, 2, fails))
-}
-
-fn source_answers(alloc: Global, calls: &[(Result<usize, Failed>, u8)]) -> bool {
-    match source_of(alloc, b"abc", 2) {
-        Ok(mut source) => gives(&mut source, calls),
-        Err(_) => false,
+        let count = source.take(&mut into).unwrap_or(9);
+        add(out, (count % 256) as u8);
+        add(out, into[0]);
     }
 }
 
-#[test]
-fn a_source_gives_pieces_and_fails_where_listed(rt: HostRuntime) {
-    let calls = [(Ok(2), b'a'), (Err(Failed), 0), (Ok(1), b'c'), (Ok(0), 0)];
-    assert!(rt; source_answers(rt.alloc(), &calls));
+/// Whether a source gives pieces, and fails where listed.
+pub fn source_is_right(alloc: Global) -> bool {
+    let mut bytes = Bytes::new(alloc);
+    let made = bytes.append(b"abc").is_ok();
+    let mut source = MemSource::new(bytes, 2, fails(alloc));
+    let mut out = Bytes::new(alloc);
+    take(&mut source, &mut out);
+    made && out.as_slice() == b"\x02a\x09\x00\x01c\x00\x00".as_slice()
 }
 
-// Whether calls with these bytes answer so.
-fn takes(sink: &mut MemSink, calls: &[(&[u8], Result<usize, Failed>)]) -> bool {
-    for (bytes, answer) in calls {
-        if sink.put(bytes) != *answer {
-            return false;
-        }
-    }
-    true
-}
-
-fn sink_answers(
-    alloc: Global,
-    calls: &[(&[u8], Result<usize, Failed>)],
-    bytes: &[u8],
-) -> Result<bool, NoMemory> {
-    let fails = List::from_slice(alloc, &[2u32])?;
-    let mut sink = MemSink::new(alloc, 2, fails);
-    let right = takes(&mut sink, calls);
-    Ok(right && sink.bytes() == bytes && !sink.wanted())
-}
-
-#[test]
-fn a_sink_takes_pieces_and_fails_where_listed(rt: HostRuntime) {
-    let calls = [
-        (b"abc".as_slice(), Ok(2)),
-        (b"c", Err(Failed)),
-        (b"c", Ok(1)),
-    ];
-    assert!(rt; sink_answers(rt.alloc(), &calls, b"abc") == Ok(true));
+/// Whether a sink takes pieces, and fails where listed.
+pub fn sink_is_right(alloc: Global) -> bool {
+    let mut sink = MemSink::new(alloc, 2, fails(alloc));
+    let first = sink.put(b"abc") == Ok(2);
+    let failed = sink.put(b"c").is_err();
+    let last = sink.put(b"c") == Ok(1);
+    first && failed && last && sink.bytes() == b"abc".as_slice() && !sink.wanted()
 }

@@ -1,7 +1,7 @@
 //! What is done with the cells of a memory. Each scene answers whether all went as it should.
 ghost use Rattle.std.specs.Prelude.{◌<◌};
 
-use eu_base::{Addr, Area, Bytes, MemFault, Memory, NoMemory, Set};
+use eu_base::{Addr, Area, Bytes, Memory, Set};
 use std::alloc::Global;
 
 fn run_cell(cell: u16) -> Addr
@@ -30,66 +30,69 @@ fn told(first: u8, length: usize) -> Content {
     Content { first, length }
 }
 
-fn text(alloc: Global, content: Content) -> Result<Bytes, NoMemory> {
+// Where memory is refused, the text is too short, and the scene goes wrong.
+fn text(alloc: Global, content: Content) -> Bytes {
     let mut bytes = Bytes::new(alloc);
     for index in 0..content.length {
-        bytes.append(&[content.first.wrapping_add((index % 251) as u8)])?;
+        let byte = content.first.wrapping_add((index % 251) as u8);
+        let _added = bytes.append(&[byte]).is_ok();
     }
-    Ok(bytes)
+    bytes
 }
 
-fn put<M: Memory>(
-    alloc: Global,
-    memory: &mut M,
-    cell: u16,
-    content: Content,
-) -> Result<Set, MemFault>
+fn is_put<M: Memory>(alloc: Global, memory: &mut M, cell: u16, content: Content) -> bool
     requires { cell < 16384 }
 {
-    let bytes = text(alloc, content)?;
-    memory.set_text(run_cell(cell), bytes.as_slice())
+    let bytes = text(alloc, content);
+    matches!(
+        memory.set_text(run_cell(cell), bytes.as_slice()),
+        Ok(Set::Done)
+    )
 }
 
-fn found<M: Memory>(
-    alloc: Global,
-    memory: &mut M,
-    cell: u16,
-    content: Content,
-) -> Result<bool, MemFault>
+fn is_refused<M: Memory>(alloc: Global, memory: &mut M, cell: u16, content: Content) -> bool
     requires { cell < 16384 }
 {
-    let bytes = text(alloc, content)?;
-    let found = memory.text(run_cell(cell))?;
-    Ok(found.as_slice() == bytes.as_slice())
+    let bytes = text(alloc, content);
+    matches!(
+        memory.set_text(run_cell(cell), bytes.as_slice()),
+        Ok(Set::HeapFull)
+    )
 }
 
 fn has<M: Memory>(alloc: Global, memory: &mut M, cell: u16, content: Content) -> bool
     requires { cell < 16384 }
 {
-    found(alloc, memory, cell, content) == Ok(true)
+    match memory.text(run_cell(cell)) {
+        Ok(found) => found.as_slice() == text(alloc, content).as_slice(),
+        Err(_) => false,
+    }
 }
 
 // A text is put into a cell, and comes back from it.
 fn comes_back<M: Memory>(alloc: Global, memory: &mut M, cell: u16, content: Content) -> bool
     requires { cell < 16384 }
 {
-    put(alloc, memory, cell, content) == Ok(Set::Done) && has(alloc, memory, cell, content)
+    is_put(alloc, memory, cell, content) && has(alloc, memory, cell, content)
 }
 
-fn is_refused<M: Memory>(alloc: Global, memory: &mut M, cell: u16, content: Content) -> bool
+fn is_number<M: Memory>(memory: &mut M, cell: u16, number: u64) -> bool
     requires { cell < 16384 }
 {
-    put(alloc, memory, cell, content) == Ok(Set::HeapFull)
+    match memory.cell(run_cell(cell)) {
+        Ok(found) => found == number,
+        Err(_) => false,
+    }
 }
 
 /// A text is put, read, replaced and emptied, beside a number.
 pub fn one_text<M: Memory>(alloc: Global, memory: &mut M) -> bool {
-    let number = memory.set_cell(run_cell(7), 65_535) == Ok(());
+    let number = memory.set_cell(run_cell(7), 65_535).is_ok();
     let put = comes_back(alloc, memory, 16_383, told(b'a', 3));
     let replaced = comes_back(alloc, memory, 16_383, told(b'b', 100));
     let emptied = comes_back(alloc, memory, 16_383, EMPTY);
-    let zero = memory.cell(run_cell(16_383)) == Ok(0);
-    let beside = memory.cell(run_cell(7)) == Ok(65_535);
+    let zero = is_number(memory, 16_383, 0);
+    let beside = is_number(memory, 7, 65_535);
     number && put && replaced && emptied && zero && beside
 }
 

@@ -1,13 +1,14 @@
 //! Three spaces over one pool, against plain bytes.
-ghost use Rattle.std.specs.Prelude.{◌≡◌, ◌+◌, ◌≤◌, ◌∷◌, [], length, OnOk};
+ghost use Rattle.std.specs.Prelude.{◌≡◌, ◌+◌, ◌≤◌, ◌∷◌, [], length};
 ghost use Rattle.page_table.specs.Frames.{Stands};
 ghost use Rattle.page_table.specs.Sharing.{Agree};
 
 use crate::numbers::next;
 use data_space::DataSpace;
-use eu_base::{Boxed, Kind, List, MemFault, NoMemory, Shape, Space};
+use eu_base::{Boxed, Kind, List, Shape, Space};
 use page_pool::Pool;
 use std::alloc::Global;
+use std::mem;
 
 // Spaces over a pool, of which each call works on the first.
 #[derive(Drop)]
@@ -30,26 +31,15 @@ fn untouched(alloc: Global) -> Three {
 
 impl Three {
     // The next space is the first.
-    fn turned(self) -> Three {
-        let Three {
-            pool,
-            first,
-            second,
-            third,
-        } = self;
-        Three {
-            pool,
-            first: second,
-            second: third,
-            third: first,
-        }
+    fn turn(&mut self) {
+        mem::swap(&mut self.first, &mut self.second);
+        mem::swap(&mut self.second, &mut self.third);
     }
 
-    fn write(&mut self, at: u32, from: &[u8]) -> Result<(), MemFault>
+    fn write(&mut self, at: u32, from: &[u8]) -> bool
         requires { at + length from.now ≤ 262144 }
     {
-        self.first.write(&mut self.pool, at, from)?;
-        Ok(())
+        self.first.write(&mut self.pool, at, from).is_ok()
     }
 
     fn read(&self, at: u32, into: &mut [u8])
@@ -58,22 +48,15 @@ impl Three {
         self.first.read(&self.pool, at, into);
     }
 
-    // The third space is a copy of the first.
-    fn copied(self, alloc: Global) -> Result<Three, NoMemory> {
-        let Three {
-            mut pool,
-            first,
-            second,
-            third,
-        } = self;
-        third.forget(&mut pool);
-        let third = first.copy(alloc, &mut pool)?;
-        Ok(Three {
-            pool,
-            first,
-            second,
-            third,
-        })
+    // The third space is a copy of the first. A refusal changes nothing.
+    fn copy(&mut self, alloc: Global) -> bool {
+        match self.first.copy(alloc, &mut self.pool) {
+            Ok(copy) => {
+                mem::replace(&mut self.third, copy).forget(&mut self.pool);
+                true
+            }
+            Err(_) => false,
+        }
     }
 
     // Forgets all, and tells how many pages are left.
@@ -93,240 +76,176 @@ impl Three {
     }
 }
 
-fn put(plain: &mut Vec<u8>, at: usize, from: &[u8])
-    requires low { at ≤ 262144 }
-    requires short { length from.now ≤ 2000 }
+/// How many bytes a space has.
+const BYTES: usize = 262_144;
+
+// Where the bytes stand that the first space is to have, after so many turns.
+fn place(turns: usize) -> usize
+    ensures { result ≤ 524288 }
 {
-    for k in 0..from.len() {
-        if let Some(byte) = plain.get_mut(at + k) {
-            *byte = from[k];
+    turns % 3 * BYTES
+}
+
+fn put(plain: &mut [u8], at: usize, byte: u8, times: usize)
+    requires { at ≤ 786432 }
+{
+    for k in 0..times.min(2000) {
+        if let Some(found) = plain.get_mut(at + k) {
+            *found = byte;
         }
     }
 }
 
-fn agree(spaces: &Three, plain: &[u8]) -> bool {
-    let mut part = [0; 1000];
-    for k in 0..262 {
-        spaces.read(1000 * k, &mut part);
-        let at = 1000 * k as usize;
-        if plain.get(at..at + 1000) != Some(&part) {
+fn put_copy(plain: &mut [u8], from: usize, to: usize)
+    requires low { from ≤ 524288 }
+    requires high { to ≤ 524288 }
+{
+    for k in 0..BYTES {
+        let byte = *plain.get(from + k).unwrap_or(&0);
+        if let Some(found) = plain.get_mut(to + k) {
+            *found = byte;
+        }
+    }
+}
+
+fn agree(spaces: &Three, plain: &[u8], from: usize) -> bool
+    requires { from ≤ 524288 }
+{
+    let mut part = [0; 1024];
+    for k in 0..256 {
+        spaces.read(1024 * k, &mut part);
+        let at = from + 1024 * k as usize;
+        if plain.get(at..at + 1024) != Some(&part) {
             return false;
         }
     }
     true
 }
 
-// Three spaces, and beside each the bytes that it is to have.
-#[derive(Drop)]
-struct Beside {
-    spaces: Three,
-    first: Vec<u8>,
-    second: Vec<u8>,
-    third: Vec<u8>,
+// A run of bytes without order, to the first space.
+fn write(spaces: &mut Three, plain: &mut [u8], turns: usize, seed: &mut u32) -> bool {
+    let at = next(seed) % 260_000;
+    let len = next(seed) as usize % 1_500;
+    let byte = (next(seed) % 256) as u8;
+    put(plain, place(turns) + at as usize, byte, len);
+    let bytes = [byte; 1_500];
+    spaces.write(at, &bytes[..len])
 }
 
-fn blank(alloc: Global) -> Result<Beside, NoMemory> {
-    let first = Vec::from_elem(alloc, 0u8, 262_144)?;
-    let second = first.clone()?;
-    let third = first.clone()?;
-    Ok(Beside {
-        spaces: untouched(alloc),
-        first,
-        second,
-        third,
-    })
+// A run of bytes, and sometimes a copy; then the next space is the first.
+fn go(alloc: Global, spaces: &mut Three, plain: &mut [u8], turns: usize, seed: &mut u32) -> bool
+    requires { turns ≤ 1000 }
+{
+    let mut done = write(spaces, plain, turns, seed);
+    if next(seed) % 3 == 0 {
+        put_copy(plain, place(turns), place(turns + 2));
+        done = spaces.copy(alloc) && done;
+    }
+    spaces.turn();
+    done
 }
 
-impl Beside {
-    // The next space is the first.
-    fn turned(self) -> Beside {
-        let Beside {
-            spaces,
-            first,
-            second,
-            third,
-        } = self;
-        Beside {
-            spaces: spaces.turned(),
-            first: second,
-            second: third,
-            third: first,
-        }
-    }
-
-    // A run of bytes without order, to the first space.
-    fn write(&mut self, seed: &mut u32) -> Result<(), MemFault> {
-        let at = next(seed) % 260_000;
-        let len = next(seed) as usize % 1_500;
-        let bytes = [(next(seed) % 256) as u8; 1_500];
-        self.spaces.write(at, &bytes[..len])?;
-        put(&mut self.first, at as usize, &bytes[..len]);
-        Ok(())
-    }
-
-    // The third space is a copy of the first.
-    fn copied(self, alloc: Global) -> Result<Beside, NoMemory> {
-        let Beside {
-            spaces,
-            first,
-            second,
-            third: _,
-        } = self;
-        let third = first.clone()?;
-        Ok(Beside {
-            spaces: spaces.copied(alloc)?,
-            first,
-            second,
-            third,
-        })
-    }
-
-    fn agrees(&self) -> bool {
-        agree(&self.spaces, &self.first)
-    }
-}
-
-// Whether each space has its bytes, and no page is left where all are forgotten.
-fn all_agree(beside: Beside) -> bool {
-    let mut beside = beside;
+// Whether each space has its bytes.
+fn all_agree(spaces: &mut Three, plain: &[u8]) -> bool {
     let mut right = true;
-    for _ in 0..3 {
-        right = beside.agrees() && right;
-        beside = beside.turned();
+    for turns in 0..3 {
+        right = agree(spaces, plain, place(turns)) && right;
+        spaces.turn();
     }
-    let left = beside.spaces.ended();
-    right && left == 0
+    right
 }
 
-// Whether all is right after many writes and copies.
-fn is_right(alloc: Global) -> Result<bool, NoMemory> {
-    let mut beside = blank(alloc)?;
+// Whether all is right after many writes and copies, and no page is left where all are forgotten.
+fn are_right(alloc: Global, plain: &mut [u8]) -> bool {
+    let mut spaces = untouched(alloc);
     let mut seed = 7;
     let mut done = true;
-    for _ in 0..150 {
-        done = beside.write(&mut seed).is_ok() && done;
-        if next(&mut seed) % 3 == 0 {
-            beside = beside.copied(alloc)?;
+    for turns in 0..150usize {
+        done = go(alloc, &mut spaces, plain, turns, &mut seed) && done;
+    }
+    all_agree(&mut spaces, plain) && spaces.ended() == 0 && done
+}
+
+pub fn each_has_its_bytes(alloc: Global) -> bool {
+    match Vec::from_elem(alloc, 0u8, 3 * BYTES) {
+        Ok(plain) => {
+            let mut plain = plain;
+            are_right(alloc, plain.as_mut_slice())
         }
-        beside = beside.turned();
+        Err(_) => false,
     }
-    let right = all_agree(beside);
-    Ok(done && right)
 }
 
-#[test]
-fn each_space_has_the_bytes_that_were_written_to_it(rt: HostRuntime) {
-    assert!(rt; is_right(rt.alloc()) == Ok(true));
+fn begins_with(spaces: &Three, byte: u8) -> bool {
+    let mut found = [0];
+    spaces.read(0, &mut found);
+    found[0] == byte
 }
 
-// In the first page and in the last.
-fn write_ends(spaces: &mut Three) -> Result<(), MemFault> {
-    spaces.write(0, b"a")?;
-    spaces.write(261_632, b"b")
+// A space with its first and its last page written, and a copy of it, which shares them.
+fn copied(alloc: Global, spaces: &mut Three) -> bool {
+    let ends = spaces.write(0, b"a") && spaces.write(261_632, b"b") && spaces.pool.used() == 5;
+    ends && spaces.copy(alloc) && spaces.pool.used() == 5 && spaces.copy(alloc)
 }
 
-fn first_byte(spaces: &Three) -> u8 {
-    let mut byte = [0];
-    spaces.read(0, &mut byte);
-    byte[0]
-}
-
-// The pages after each step, and the first byte of a space and of its copy, which begins with another byte; zeros where
-// a write failed.
-fn shared(alloc: Global) -> Result<([u32; 4], [u8; 2]), NoMemory> {
+/// The pages after each step, and the first byte of a space and of its copy, which begins with another byte.
+pub fn pages_are_shared(alloc: Global) -> bool {
     let mut spaces = untouched(alloc);
-    let ends = write_ends(&mut spaces).is_ok();
-    let written = spaces.pool.used();
-    let spaces = spaces.copied(alloc)?;
-    let copied = spaces.pool.used();
-    let mut spaces = spaces.copied(alloc)?.turned().turned();
-    let start = spaces.write(0, b"c").is_ok();
-    let spaces = spaces.turned();
-    let changed = spaces.pool.used();
-    let first = first_byte(&spaces);
-    let spaces = spaces.turned().turned();
-    let copy = first_byte(&spaces);
-    let pages = [written, copied, changed, spaces.ended()];
-    if ends && start {
-        Ok((pages, [first, copy]))
-    } else {
-        Ok(([0; 4], [0; 2]))
-    }
+    let made = copied(alloc, &mut spaces);
+    spaces.turn();
+    spaces.turn();
+    let start = spaces.write(0, b"c");
+    spaces.turn();
+    let changed = spaces.pool.used() == 8 && begins_with(&spaces, b'a');
+    spaces.turn();
+    spaces.turn();
+    made && start && changed && begins_with(&spaces, b'c') && spaces.ended() == 0
 }
 
-#[test]
-fn pages_are_shared(rt: HostRuntime) {
-    assert!(rt; shared(rt.alloc()) == Ok(([5, 5, 8, 0], *b"ac")));
-}
-
-// A row of four structs of one truth value.
-fn shape(alloc: Global) -> Result<Shape, NoMemory> {
+// A row of four structs of one truth value; another shape where memory is refused.
+fn shape(alloc: Global) -> Shape {
     let mut fields = List::new(alloc);
-    fields.push(Shape::Cell(Kind::Truth))?;
-    Ok(Shape::Row(4, Boxed::new(alloc, Shape::Struct(fields))?))
-}
-
-// The type; how long the row of the shape is; how many components a struct of it has.
-fn told(space: &DataSpace) -> (i16, u16, usize) {
-    match space.shape() {
-        Some(Shape::Row(count, of)) => match of.get() {
-            Shape::Struct(fields) => (space.kind(), *count, fields.len()),
-            _ => (0, 0, 0),
-        },
-        _ => (0, 0, 0),
+    let _pushed = fields.push(Shape::Cell(Kind::Truth)).is_ok();
+    match Boxed::new(alloc, Shape::Struct(fields)) {
+        Ok(fields) => Shape::Row(4, fields),
+        Err(_) => Shape::Cell(Kind::Truth),
     }
 }
 
-// What a copy of a space with this type and this shape tells.
-fn told_by_copy(alloc: Global, kind: i16, shape: Shape) -> Result<(i16, u16, usize), NoMemory> {
+fn has_shape(space: &DataSpace) -> bool {
+    match space.shape() {
+        Some(Shape::Row(4, of)) => match of.get() {
+            Shape::Struct(fields) => fields.len() == 1,
+            _ => false,
+        },
+        _ => false,
+    }
+}
+
+pub fn a_copy_has_the_type_and_the_shape(alloc: Global) -> bool {
     let mut spaces = untouched(alloc);
-    spaces.first.set_kind(kind);
-    spaces.first.set_shape(shape);
-    let spaces = spaces.copied(alloc)?;
-    Ok(told(&spaces.third))
+    spaces.first.set_kind(1003);
+    spaces.first.set_shape(shape(alloc));
+    spaces.copy(alloc) && spaces.third.kind() == 1003 && has_shape(&spaces.third)
 }
 
-fn copy_tells(alloc: Global) -> Result<(i16, u16, usize), NoMemory> {
-    told_by_copy(alloc, 1003, shape(alloc)?)
-}
-
-#[test]
-fn a_copy_has_the_type_and_the_shape(rt: HostRuntime) {
-    assert!(rt; copy_tells(rt.alloc()) == Ok((1003, 4, 1)));
-}
-
-fn bare() -> (Option<u32>, i16) {
+pub fn without_bytes_no_root() -> bool {
     let space = DataSpace::of(5, None, DataSpace::nil().root());
-    (space.root(), space.kind())
+    space.root().is_none() && space.kind() == 5
 }
 
-#[test]
-fn a_space_without_bytes_has_no_root(rt: HostRuntime) {
-    assert!(rt; bare() == (None, 5));
-}
-
-// What a lent space reads where it wrote this.
-fn lent(space: &mut DataSpace, pool: &mut Pool, from: &[u8; 15]) -> Result<[u8; 15], MemFault>
+// Whether a lent space reads what it wrote.
+fn lent(space: &mut DataSpace, pool: &mut Pool, from: &[u8; 15]) -> bool
     requires agree { Stands pool.old (space.old.root ∷ []) 0 }
 {
     let mut bytes = [0; 15];
     let mut lent = space.over(pool);
-    lent.write(510, from)?;
-    lent.read(510, &mut bytes)?;
-    Ok(bytes)
+    let written = lent.write(510, from).is_ok();
+    written && lent.read(510, &mut bytes).is_ok() && bytes == *from
 }
 
-fn read_back(alloc: Global) -> Result<[u8; 15], MemFault> {
-    let Three {
-        mut pool,
-        mut first,
-        second: _,
-        third: _,
-    } = untouched(alloc);
-    lent(&mut first, &mut pool, b"over the border")
-}
-
-#[test]
-fn a_lent_space_reads_what_it_wrote(rt: HostRuntime) {
-    assert!(rt; read_back(rt.alloc()) == Ok(*b"over the border"));
+pub fn a_lent_space_reads_what_it_wrote(alloc: Global) -> bool {
+    let mut pool = Pool::new(alloc);
+    let mut space = DataSpace::nil();
+    lent(&mut space, &mut pool, b"over the border")
 }

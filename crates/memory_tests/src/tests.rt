@@ -1,7 +1,7 @@
 //! Scenes over real pages.
 
-use crate::cells;
 use crate::texts::{Scene, is_right};
+use crate::{cells, data_spaces};
 use data_space::DataSpace;
 use page_pool::Pool;
 use space_memory::SpaceMemory;
@@ -14,21 +14,6 @@ fn over_space(alloc: Global, scene: Scene) -> bool {
     is_right(alloc, &mut lent, scene)
 }
 
-#[test]
-fn texts_come_back_until_no_block_is_free(rt: HostRuntime) {
-    assert!(rt; over_space(rt.alloc(), Scene::UntilFull));
-}
-
-#[test]
-fn two_hundred_texts_are_changed(rt: HostRuntime) {
-    assert!(rt; over_space(rt.alloc(), Scene::Changes));
-}
-
-#[test]
-fn calls_return_on_any_bytes(rt: HostRuntime) {
-    assert!(rt; over_space(rt.alloc(), Scene::AnyBytes));
-}
-
 fn over_memory(alloc: Global) -> bool {
     let mut pool = Pool::new(alloc);
     let mut memory = SpaceMemory::new(alloc);
@@ -37,7 +22,32 @@ fn over_memory(alloc: Global) -> bool {
     one && cells::all_blocks(alloc, &mut lent)
 }
 
+// The first scene that does not go as it should.
+fn wrong_scene(alloc: Global) -> &'static str {
+    if !over_space(alloc, Scene::UntilFull) {
+        "texts come back until no block is free"
+    } else if !over_space(alloc, Scene::Changes) {
+        "two hundred texts are changed"
+    } else if !over_space(alloc, Scene::AnyBytes) {
+        "calls return on any bytes"
+    } else if !over_memory(alloc) {
+        "texts stand in a memory"
+    } else if !data_spaces::each_has_its_bytes(alloc) {
+        "each space has the bytes that were written to it"
+    } else if !data_spaces::pages_are_shared(alloc) {
+        "pages are shared"
+    } else if !data_spaces::a_copy_has_the_type_and_the_shape(alloc) {
+        "a copy has the type and the shape"
+    } else if !data_spaces::without_bytes_no_root() {
+        "a space without bytes has no root"
+    } else if !data_spaces::a_lent_space_reads_what_it_wrote(alloc) {
+        "a lent space reads what it wrote"
+    } else {
+        ""
+    }
+}
+
 #[test]
-fn texts_stand_in_a_memory(rt: HostRuntime) {
-    assert!(rt; over_memory(rt.alloc()));
+fn scenes_go_as_they_should(rt: HostRuntime) {
+    assert_eq!(rt; wrong_scene(rt.alloc()), "");
 }

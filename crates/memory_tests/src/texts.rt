@@ -2,20 +2,9 @@
 ghost use Rattle.std.specs.Prelude.{◌<◌, ◌≤◌};
 
 use crate::numbers::next;
-use eu_base::{Bytes, MemFault, NoMemory, Set, Space};
+use eu_base::{Bytes, Set, Space};
 use std::alloc::Global;
 use text_heap::{clear, get, rooms, set};
-
-// Lengths of texts, and the blocks that are free beside one.
-const LENGTHS: [(usize, u16); 7] = [
-    (0, 4096),
-    (1, 4095),
-    (28, 4095),
-    (29, 4094),
-    (16_000, 3524),
-    (114_688, 0),
-    (30, 4094),
-];
 
 /// A text is told by its length and the seed of its bytes. A shorter one of the same seed is its front.
 #[derive(Clone, Copy)]
@@ -24,28 +13,31 @@ struct Content {
     seed: u32,
 }
 
-fn text(alloc: Global, content: Content) -> Result<Bytes, NoMemory> {
+// Where memory is refused, the text is too short, and the scene goes wrong.
+fn text(alloc: Global, content: Content) -> Bytes {
     let mut bytes = Bytes::new(alloc);
     let mut seed = content.seed;
     for _ in 0..content.length {
-        bytes.append(&[(next(&mut seed) % 256) as u8])?;
+        let _added = bytes.append(&[(next(&mut seed) % 256) as u8]).is_ok();
     }
-    Ok(bytes)
+    bytes
 }
 
-// One number out of the bytes of so many cells from the first on; the blocks count as as many cells.
-fn digest<S: Space>(space: &mut S, cells: u32) -> Result<u64, MemFault>
+// One number out of the bytes of so many cells from the first on; the blocks count as as many cells. 0 where they can't be read.
+fn digest<S: Space>(space: &mut S, cells: u32) -> u64
     requires { cells ≤ 32768 }
 {
-    let mut sum = 0u64;
+    let mut sum = 1u64;
     let mut bytes = [0u8; 8];
     for cell in 0..cells {
-        space.read(8 * cell, &mut bytes)?;
+        if space.read(8 * cell, &mut bytes).is_err() {
+            return 0;
+        }
         sum = sum
             .wrapping_mul(1_099_511_628_211)
             .wrapping_add(u64::from_le_bytes(bytes));
     }
-    Ok(sum)
+    sum
 }
 
 fn has<S: Space>(alloc: Global, space: &mut S, cell: u16, t: &[u8]) -> bool
@@ -60,20 +52,15 @@ fn has<S: Space>(alloc: Global, space: &mut S, cell: u16, t: &[u8]) -> bool
 fn has_text<S: Space>(alloc: Global, space: &mut S, cell: u16, content: Content) -> bool
     requires { cell < 16384 }
 {
-    match text(alloc, content) {
-        Ok(t) => has(alloc, space, cell, t.as_slice()),
-        Err(_) => false,
-    }
+    has(alloc, space, cell, text(alloc, content).as_slice())
 }
 
 // A text is put into a cell.
 fn is_put<S: Space>(alloc: Global, space: &mut S, cell: u16, content: Content) -> bool
     requires { cell < 16384 }
 {
-    match text(alloc, content) {
-        Ok(t) => set(space, cell, t.as_slice()) == Ok(Set::Done),
-        Err(_) => false,
-    }
+    let t = text(alloc, content);
+    matches!(set(space, cell, t.as_slice()), Ok(Set::Done))
 }
 
 // A text is put into a cell, and comes back from it.
@@ -83,34 +70,34 @@ fn comes_back<S: Space>(alloc: Global, space: &mut S, cell: u16, content: Conten
     is_put(alloc, space, cell, content) && has_text(alloc, space, cell, content)
 }
 
-// Texts of each length, one after another in the last cell.
-fn each_length<S: Space>(alloc: Global, space: &mut S) -> bool {
-    let mut right = true;
-    for (length, free) in LENGTHS {
-        let back = comes_back(alloc, space, 16_383, Content { length, seed: 5 });
-        right = back && rooms(space) == Ok(free) && right;
-    }
-    let cleared = clear(space, 16_383) == Ok(());
-    let back = has(alloc, space, 16_383, b"");
-    right && cleared && back && rooms(space) == Ok(4096)
+// So many blocks are free.
+fn has_rooms<S: Space>(space: &mut S, free: u16) -> bool {
+    rooms(space).unwrap_or(u16::MAX) == free
 }
 
-fn refuses<S: Space>(space: &mut S, cell: u16, t: &[u8]) -> bool
-    requires { cell < 16384 }
-{
-    let before = digest(space, 32_768);
-    let full = set(space, cell, t) == Ok(Set::HeapFull);
-    full && before.is_ok() && digest(space, 32_768) == before
+// A text of that length comes back from the last cell, beside so many free blocks.
+fn fits<S: Space>(alloc: Global, space: &mut S, length: usize, free: u16) -> bool {
+    comes_back(alloc, space, 16_383, Content { length, seed: 5 }) && has_rooms(space, free)
+}
+
+// Texts of each length, one after another in the last cell.
+fn each_length<S: Space>(alloc: Global, space: &mut S) -> bool {
+    let short = fits(alloc, space, 0, 4096) && fits(alloc, space, 1, 4095);
+    let block = fits(alloc, space, 28, 4095) && fits(alloc, space, 29, 4094);
+    let long = fits(alloc, space, 16_000, 3524) && fits(alloc, space, 114_688, 0);
+    let again = fits(alloc, space, 30, 4094);
+    let cleared = clear(space, 16_383).is_ok() && has(alloc, space, 16_383, b"");
+    short && block && long && again && cleared && has_rooms(space, 4096)
 }
 
 // The space has no room for the text, and no byte of it changes.
 fn is_full<S: Space>(alloc: Global, space: &mut S, cell: u16, content: Content) -> bool
     requires { cell < 16384 }
 {
-    match text(alloc, content) {
-        Ok(t) => refuses(space, cell, t.as_slice()),
-        Err(_) => false,
-    }
+    let t = text(alloc, content);
+    let before = digest(space, 32_768);
+    let full = matches!(set(space, cell, t.as_slice()), Ok(Set::HeapFull));
+    full && before != 0 && digest(space, 32_768) == before
 }
 
 fn long(length: usize) -> Content {
@@ -129,7 +116,7 @@ fn all_blocks<S: Space>(alloc: Global, space: &mut S) -> bool {
     let last = comes_back(alloc, space, 1, long(28));
     let no_more = is_full(alloc, space, 1, long(29));
     let still = has_text(alloc, space, 0, long(114_660));
-    most && one_less && last && no_more && still && rooms(space) == Ok(0)
+    most && one_less && last && no_more && still && has_rooms(space, 0)
 }
 
 // The text of a cell after so many rounds, in which each cell gets another one.
@@ -174,38 +161,39 @@ fn many_texts<S: Space>(alloc: Global, space: &mut S, rounds: u32) -> bool {
 }
 
 // Every byte of a space gets some value.
-fn any_bytes<S: Space>(space: &mut S, seed: u32) -> Result<(), MemFault> {
+fn any_bytes<S: Space>(space: &mut S, seed: u32) -> bool {
     let mut seed = seed;
     for cell in 0..32_768 {
         let high = u64::from(next(&mut seed));
         let low = u64::from(next(&mut seed));
         let number = high.wrapping_mul(1_099_511_627_776) ^ low.wrapping_mul(65_537);
-        space.write(8 * cell, &number.to_le_bytes())?;
+        if space.write(8 * cell, &number.to_le_bytes()).is_err() {
+            return false;
+        }
     }
-    Ok(())
+    true
 }
 
 // A block that is linked to itself, to which the last cell leads with as many bytes as a space has room for.
 fn is_circle<S: Space>(space: &mut S) -> bool {
-    let block = space.write(131_072, &[1, 0]) == Ok(());
-    let cell = space.write(131_064, &[0, 192, 1, 0, 0, 0, 0, 0]) == Ok(());
-    block && cell
+    let block = space.write(131_072, &[1, 0]).is_ok();
+    block && space.write(131_064, &[0, 192, 1, 0, 0, 0, 0, 0]).is_ok()
 }
 
 // The blocks can be counted, and no byte has changed.
-fn is_kept<S: Space>(space: &mut S, whole: Result<u64, MemFault>) -> bool {
+fn is_kept<S: Space>(space: &mut S, whole: u64) -> bool {
     let left = rooms(space).unwrap_or(u16::MAX);
-    left <= 4096 && whole.is_ok() && digest(space, 32_768) == whole
+    left <= 4096 && whole != 0 && digest(space, 32_768) == whole
 }
 
-// Texts are put into the last cell, and no other one changes.
+// A text of two blocks and then another are put into the last cell, which is cleared then, and no other one changes.
 fn writes_return<S: Space>(space: &mut S, found: &[u8]) -> bool {
     let cells = digest(space, 16_383);
     let two_blocks = b"a text of two blocks, which is none too many";
     let short = set(space, 16_383, two_blocks).is_ok() && digest(space, 16_383) == cells;
     let full = set(space, 16_383, found).is_ok();
-    let cleared = clear(space, 16_383) == Ok(());
-    short && full && cleared && cells.is_ok() && digest(space, 16_383) == cells
+    let cleared = clear(space, 16_383).is_ok();
+    short && full && cleared && cells != 0 && digest(space, 16_383) == cells
 }
 
 // Each call returns where the space holds no texts, and changes no cell but the last.
@@ -224,8 +212,7 @@ fn every_call_returns<S: Space>(alloc: Global, space: &mut S) -> bool {
 fn calls_return<S: Space>(alloc: Global, space: &mut S) -> bool {
     let mut right = is_circle(space) && every_call_returns(alloc, space);
     for seed in 0..2 {
-        let written = any_bytes(space, seed).is_ok();
-        right = written && every_call_returns(alloc, space) && right;
+        right = any_bytes(space, seed) && every_call_returns(alloc, space) && right;
     }
     right
 }

@@ -13,6 +13,12 @@ mod lines;
 #[cfg(test)]
 mod messages;
 #[cfg(test)]
+mod notes;
+#[cfg(test)]
 mod rotation;
+#[cfg(test)]
+mod tables;
+#[cfg(test)]
+mod tests;
 #[cfg(test)]
 mod tree;

@@ -1,13 +1,8 @@
 //! The tokens of texts.
 
-use containers::Bytes;
-use elan_lexer::{LexError, tokens};
-use elan_tree::{Token, Word};
-use std::alloc::{AllocError, Global};
-
 /// Texts, and behind the arrow their tokens, each with its place and its length, or what refuses them. A bar ends a
 /// row, since a text may have several lines.
-const TABLE: &str = "
+pub const TOKENS: &str = "
  => |
  \t\r\n => |
 a b1 c => ab1c@1+6|
@@ -68,105 +63,9 @@ a! => NoToken(2)|
 \u{7f} => NoToken(1)|
 ! \"a => NoToken(1)";
 
-fn spelled(bytes: &Bytes) -> &str {
-    str::from_utf8(bytes.as_slice()).unwrap_or("?")
-}
-
-fn describe(out: &mut String, token: &Token) -> Result<(), AllocError> {
-    let (at, len) = (token.at, token.len);
-    match &token.what {
-        Word::Ident(name) => write!(out, "{}@{at}+{len}", spelled(name)),
-        Word::Bold(name) => write!(out, "'{}@{at}+{len}", spelled(name)),
-        Word::Key(key) => write!(out, "{key:?}@{at}+{len}"),
-        Word::Sign(sign) => write!(out, "{sign:?}@{at}+{len}"),
-        Word::Number(n) => write!(out, "{n}@{at}+{len}"),
-        Word::Text(text) => write!(out, "\"{}\"@{at}+{len}", spelled(text)),
-    }
-}
-
-fn list(out: &mut String, tokens: &[Token]) -> Result<(), AllocError> {
-    for token in tokens {
-        if !out.is_empty() {
-            out.push(' ')?;
-        }
-        describe(out, token)?;
-    }
-    Ok(())
-}
-
-fn read(alloc: Global, out: &mut String, text: &str) -> Result<(), AllocError> {
-    if text.len() > 1000 {
-        return out.push_str("too long");
-    }
-    match tokens(alloc, text.as_bytes()) {
-        Ok(found) => {
-            let written = list(out, found.as_slice());
-            Token::all_let_go(found);
-            written
-        }
-        Err(error) => write!(out, "{error:?}"),
-    }
-}
-
-fn is_right(alloc: Global, row: &str) -> bool {
-    match row.split_once(" => ") {
-        Some((text, told)) => {
-            let mut out = String::new(alloc);
-            read(alloc, &mut out, text).is_ok() && out.as_str() == told
-        }
-        None => false,
-    }
-}
-
-/// How many rows of the table are as it says, before the first that is not.
-fn right_rows(alloc: Global) -> usize {
-    let mut rows = 0usize;
-    for row in TABLE.split('|') {
-        if !is_right(alloc, row.strip_prefix("\n").unwrap_or(row)) {
-            return rows;
-        }
-        rows = rows.saturating_add(1);
-    }
-    rows
-}
-
-#[test]
-fn texts_have_these_tokens(rt: HostRuntime) {
-    assert_eq!(rt; right_rows(rt.alloc()), 58);
-}
-
-fn semicolons(alloc: Global, count: usize, last: &str) -> Result<String, AllocError> {
-    let mut text = String::new(alloc);
-    for _ in 0..count {
-        text.push(';')?;
-    }
-    text.push_str(last)?;
-    Ok(text)
-}
-
-fn number_of(alloc: Global, text: &str) -> Result<usize, LexError> {
-    if text.len() > 10_000 {
-        return Ok(0);
-    }
-    let found = tokens(alloc, text.as_bytes())?;
-    let number = found.len();
-    Token::all_let_go(found);
-    Ok(number)
-}
-
-/// Whether so many semicolons and what stands behind them are so many tokens, or have none for that reason.
-fn is_told(alloc: Global, count: usize, last: &str, told: Result<usize, LexError>) -> bool {
-    match semicolons(alloc, count, last) {
-        Ok(text) => number_of(alloc, text.as_str()) == told,
-        Err(_) => false,
-    }
-}
-
-#[test]
-fn at_most_8000_tokens(rt: HostRuntime) {
-    let most = is_told(rt.alloc(), 8000, " ", Ok(8000));
-    let two = is_told(rt.alloc(), 7999, "ENDIF", Err(LexError::TooMany));
-    let more = is_told(rt.alloc(), 8001, "", Err(LexError::TooMany));
-    let foreign = is_told(rt.alloc(), 9000, "!", Err(LexError::NoToken(9001)));
-    assert!(rt; most && two && more && foreign);
-}
+/// Texts in cells (`crate::rows`), and behind the last bar how many tokens each has, or what refuses it.
+pub const MOST: &str = "\
+8000*;| |8000
+7999*;|ENDIF|TooMany
+8001*;|TooMany
+9000*;|!|NoToken(9001)";

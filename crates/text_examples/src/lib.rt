@@ -2,6 +2,8 @@
 #![tactic(auto)]
 
 #[cfg(test)]
+mod answers;
+#[cfg(test)]
 mod deep;
 #[cfg(test)]
 mod lexed;
@@ -10,4 +12,8 @@ mod parsed;
 #[cfg(test)]
 mod places;
 #[cfg(test)]
+mod rows;
+#[cfg(test)]
 mod shown;
+#[cfg(test)]
+mod tests;

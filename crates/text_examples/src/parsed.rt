@@ -1,14 +1,7 @@
 //! Which texts have trees.
 
-use crate::places::place;
-use crate::shown::unit;
-use elan_lexer::tokens;
-use elan_parser::{ParseError, parse};
-use elan_tree::{LevelUnit, Token, Tree};
-use std::alloc::{AllocError, Global};
-
 /// Programs that have a tree, a line each.
-const PROGRAMS: &str = "\
+pub const PROGRAMS: &str = "\
 ;
 .
 x
@@ -46,8 +39,8 @@ LEAVE p WITH 1
 NOT a AND - b CAND c
 a [ 1 ] . f [ 2 ] := CONCR ( b )";
 
-/// Texts that are no program.
-const NO_PROGRAMS: &str = "\
+/// Texts that are no program; the last is empty.
+pub const NO_PROGRAMS: &str = "\
 put ( 1 + )
 PROC p
 IF a THEN b PER
@@ -70,45 +63,24 @@ INT OP NOT ( INT CONST a , b , c ) : END OP
 a := b := c
 LEAVE ( p )
 < a
-PACKET p : END PACKET";
+PACKET p : END PACKET
+";
 
 /// Packets that have a tree.
-const PACKETS: &str = "\
+pub const PACKETS: &str = "\
 PACKET p : END PACKET
 PACKET p DEFINES a , T , + : x END PACKET p .
 PACKET p : x . y : 1 . END PACKET ;";
 
 /// Texts that are no packet.
-const NO_PACKETS: &str = "\
+pub const NO_PACKETS: &str = "\
 PACKET p : END PACKET q
 PACKET p DEFINES ( : END PACKET
 x
 PACKET p : END PACKET ; ;";
 
-/// How many lines have a tree, or have none, before the first that is otherwise.
-fn right_rows(alloc: Global, lines: &str, packet: bool, has_tree: bool) -> usize {
-    let mut rows = 0usize;
-    for text in lines.lines() {
-        if place(alloc, text, packet).map(|at| at == 0) != Some(has_tree) {
-            return rows;
-        }
-        rows = rows.saturating_add(1);
-    }
-    rows
-}
-
-#[test]
-fn texts_have_trees(rt: HostRuntime) {
-    let programs = right_rows(rt.alloc(), PROGRAMS, false, true) == 36;
-    let no_programs = right_rows(rt.alloc(), NO_PROGRAMS, false, false) == 23;
-    let empty = place(rt.alloc(), "", false).unwrap_or(0) > 0;
-    let packets = right_rows(rt.alloc(), PACKETS, true, true) == 3;
-    let no_packets = right_rows(rt.alloc(), NO_PACKETS, true, false) == 4;
-    assert!(rt; programs && no_programs && empty && packets && no_packets);
-}
-
-/// Programs of one unit, and behind the arrow how their operators hold.
-const GROUPED: &str = "\
+/// Programs of one unit, and behind the arrow how their operators hold, or the place where one is refused.
+pub const GROUPED: &str = "\
 a => a
 a - b - c => {{a Minus b} Minus c}
 a - (b - c) => {a Minus <{b Minus c}>}
@@ -130,68 +102,6 @@ a.f [1].g => {{{a.f} at 1}.g}
 - a.f => {Minus {a.f}}
 f (a, b + 1, g (c)) => f a {b Plus 1} g c
 f (a).g => {f a.g}
-a [1] := b := c => refused
+a [1] := b := c => 12
 a.f := IF b THEN c FI => {{a.f} := IF b THEN c; FI}
 IF a THEN IF b THEN c ELSE d FI ELIF e THEN f; FI => IF a THEN IF b THEN c; ELSE d; FI; IF e THEN f;; FI";
-
-/// Writes the first unit of a program.
-fn first_unit(out: &mut String, tree: &Tree) -> Result<(), AllocError> {
-    if let Tree::Program(level) = tree {
-        if let Some(LevelUnit::Plain(first)) = level.units.as_slice().first() {
-            return unit(out, first);
-        }
-    }
-    Ok(())
-}
-
-fn group(alloc: Global, out: &mut String, tokens: &[Token]) -> Result<(), AllocError> {
-    match parse(alloc, tokens, false) {
-        Ok(tree) => {
-            let written = first_unit(out, &tree);
-            tree.let_go();
-            written
-        }
-        Err(ParseError::NotElan(_)) => out.push_str("refused"),
-        Err(ParseError::NoMemory) => out.push_str("no memory"),
-    }
-}
-
-fn group_text(alloc: Global, out: &mut String, text: &str) -> Result<(), AllocError> {
-    if text.len() > 1000 {
-        return out.push_str("too long");
-    }
-    match tokens(alloc, text.as_bytes()) {
-        Ok(found) => {
-            let written = group(alloc, out, found.as_slice());
-            Token::all_let_go(found);
-            written
-        }
-        Err(_) => out.push_str("no tokens"),
-    }
-}
-
-fn is_grouped(alloc: Global, row: &str) -> bool {
-    match row.split_once(" => ") {
-        Some((text, told)) => {
-            let mut out = String::new(alloc);
-            group_text(alloc, &mut out, text).is_ok() && out.as_str() == told
-        }
-        None => false,
-    }
-}
-
-fn grouped_rows(alloc: Global) -> usize {
-    let mut rows = 0usize;
-    for row in GROUPED.lines() {
-        if !is_grouped(alloc, row) {
-            return rows;
-        }
-        rows = rows.saturating_add(1);
-    }
-    rows
-}
-
-#[test]
-fn operators_hold_their_operands(rt: HostRuntime) {
-    assert_eq!(rt; grouped_rows(rt.alloc()), 24);
-}

@@ -1,106 +1,110 @@
 //! Units as text: each application in braces, each bracket in angles.
 
+use crate::answers::put;
 use containers::{Bytes, List};
-use elan_tree::{Branch, Expr, Name, Operator, Unit};
-use std::alloc::AllocError;
+use elan_tree::{Branch, Expr, Operator, Sign, Unit};
 
-fn word(out: &mut String, text: &Bytes) -> Result<(), AllocError> {
-    out.push_str(str::from_utf8(text.as_slice()).unwrap_or("?"))
+pub fn word(out: &mut String, text: &Bytes) {
+    put(out, str::from_utf8(text.as_slice()).unwrap_or("?"));
 }
 
-fn named(out: &mut String, name: &Name) -> Result<(), AllocError> {
-    word(out, &name.text)
+pub fn sign(out: &mut String, sign: Sign) {
+    let _put = write!(out, "{sign:?}").is_ok();
 }
 
-fn operator(out: &mut String, operator: &Operator) -> Result<(), AllocError> {
+pub fn number(out: &mut String, number: i16) {
+    let _put = write!(out, "{number}").is_ok();
+}
+
+fn operator(out: &mut String, operator: &Operator) {
     match operator {
-        Operator::Sign(sign) => write!(out, "{sign:?}"),
+        Operator::Sign(found) => sign(out, *found),
         Operator::Named(text) => word(out, text),
     }
 }
 
 // The front and the end of an application. Each takes one operand alone, so that a measure is found.
 #[cycle(shown)]
-fn opened(out: &mut String, left: &Expr) -> Result<(), AllocError> {
-    out.push('{')?;
-    expr(out, left)?;
-    out.push(' ')
+fn opened(out: &mut String, left: &Expr) {
+    put(out, "{");
+    expr(out, left);
+    put(out, " ");
 }
 
 #[cycle(shown)]
-fn closed(out: &mut String, right: &Expr) -> Result<(), AllocError> {
-    out.push(' ')?;
-    expr(out, right)?;
-    out.push('}')
+fn closed(out: &mut String, right: &Expr) {
+    put(out, " ");
+    expr(out, right);
+    put(out, "}");
 }
 
 #[cycle(shown)]
-fn branch(out: &mut String, branch: &Branch) -> Result<(), AllocError> {
-    out.push_str("IF ")?;
-    expr(out, &branch.condition)?;
-    out.push_str(" THEN ")?;
-    units(out, &branch.units)
+fn branches(out: &mut String, branches: &List<Branch>) {
+    for branch in branches.as_slice() {
+        put(out, "IF ");
+        expr(out, &branch.condition);
+        put(out, " THEN ");
+        units(out, &branch.units);
+        put(out, " ");
+    }
 }
 
-// An arm a form of expression, so it is as long as there are forms.
 #[cycle(shown)]
-fn expr(out: &mut String, e: &Expr) -> Result<(), AllocError> {
+fn actuals(out: &mut String, actuals: &List<Expr>) {
+    for actual in actuals.as_slice() {
+        put(out, " ");
+        expr(out, actual);
+    }
+}
+
+// An arm a form of expression, so it is as long as there are forms. The rows have no others.
+#[cycle(shown)]
+fn expr(out: &mut String, e: &Expr) {
     match e {
-        Expr::Number(_, number) => write!(out, "{number}"),
-        Expr::Truth(_, truth) => write!(out, "{truth}"),
-        Expr::Text(_, text) => word(out, text),
-        Expr::Named(name) => named(out, name),
-        Expr::Call(name, actuals) => {
-            named(out, name)?;
-            for actual in actuals.as_slice() {
-                out.push(' ')?;
-                expr(out, actual)?;
-            }
-            Ok(())
+        Expr::Number(_, found) => number(out, *found),
+        Expr::Named(name) => word(out, &name.text),
+        Expr::Call(name, given) => {
+            word(out, &name.text);
+            actuals(out, given);
         }
         Expr::Bracket(_, inner) => {
-            out.push('<')?;
-            expr(out, inner.get())?;
-            out.push('>')
+            put(out, "<");
+            expr(out, inner.get());
+            put(out, ">");
         }
         Expr::If {
-            branches,
+            branches: parts,
             otherwise,
             ..
         } => {
-            for part in branches.as_slice() {
-                branch(out, part)?;
-                out.push(' ')?;
-            }
+            branches(out, parts);
             if let Some(row) = otherwise {
-                out.push_str("ELSE ")?;
-                units(out, row)?;
-                out.push(' ')?;
+                put(out, "ELSE ");
+                units(out, row);
+                put(out, " ");
             }
-            out.push_str("FI")
+            put(out, "FI");
         }
         Expr::Index { of, index, .. } => {
-            opened(out, of.get())?;
-            out.push_str("at")?;
-            closed(out, index.get())
+            opened(out, of.get());
+            put(out, "at");
+            closed(out, index.get());
         }
         Expr::Field { of, field, .. } => {
-            out.push('{')?;
-            expr(out, of.get())?;
-            out.push('.')?;
-            named(out, field)?;
-            out.push('}')
+            put(out, "{");
+            expr(out, of.get());
+            put(out, ".");
+            word(out, &field.text);
+            put(out, "}");
         }
         Expr::Monadic {
             operator: by,
             operand,
             ..
         } => {
-            out.push('{')?;
-            operator(out, by)?;
-            out.push(' ')?;
-            expr(out, operand.get())?;
-            out.push('}')
+            put(out, "{");
+            operator(out, by);
+            closed(out, operand.get());
         }
         Expr::Dyadic {
             operator: by,
@@ -108,44 +112,43 @@ fn expr(out: &mut String, e: &Expr) -> Result<(), AllocError> {
             right,
             ..
         } => {
-            opened(out, left.get())?;
-            operator(out, by)?;
-            closed(out, right.get())
+            opened(out, left.get());
+            operator(out, by);
+            closed(out, right.get());
         }
         Expr::Cand { left, right, .. } => {
-            opened(out, left.get())?;
-            out.push_str("CAND")?;
-            closed(out, right.get())
+            opened(out, left.get());
+            put(out, "CAND");
+            closed(out, right.get());
         }
         Expr::Cor { left, right, .. } => {
-            opened(out, left.get())?;
-            out.push_str("COR")?;
-            closed(out, right.get())
+            opened(out, left.get());
+            put(out, "COR");
+            closed(out, right.get());
         }
-        Expr::Procedure(..) | Expr::Concr(..) | Expr::Select { .. } => out.push('?'),
+        _ => put(out, "?"),
     }
 }
 
 /// Writes how the operators of a unit hold, in braces.
 #[cycle(shown)]
-pub fn unit(out: &mut String, unit: &Unit) -> Result<(), AllocError> {
+pub fn unit(out: &mut String, unit: &Unit) {
     match unit {
-        Unit::Empty => Ok(()),
+        Unit::Empty => {}
         Unit::Value(value) => expr(out, value),
         Unit::Becomes { left, right, .. } => {
-            opened(out, left)?;
-            out.push_str(":=")?;
-            closed(out, right)
+            opened(out, left);
+            put(out, ":=");
+            closed(out, right);
         }
-        _ => out.push('?'),
+        _ => put(out, "?"),
     }
 }
 
 #[cycle(shown)]
-fn units(out: &mut String, row: &List<Unit>) -> Result<(), AllocError> {
+fn units(out: &mut String, row: &List<Unit>) {
     for each in row.as_slice() {
-        unit(out, each)?;
-        out.push(';')?;
+        unit(out, each);
+        put(out, ";");
     }
-    Ok(())
 }
