@@ -9,7 +9,7 @@ use Rattle.elan_types.specs.Typing.{held_const}
 use Rattle.elan_tree.specs.declared.tree.Refinement.{Refinement}
 use Rattle.elan_walk.specs.declared.node.Held.TheVariants.{Variable, Constant}
 use Rattle.elan_walk.specs.Nodes as nodes
-use Rattle.elan_walk.specs.Nodes.{Node, alone, other, sign, of_type, item, unbuilt}
+use Rattle.elan_walk.specs.Nodes.{Node, alone, other, sign, of_type, item, let_name, unbuilt}
 use Rattle.elan_scope.specs.declared.scope.Denotes.{Denotes}
 use Rattle.elan_scope.specs.declared.scope.Denotes.TheVariants as denotes
 use Rattle.elan_scope.specs.declared.scope.Entry.{Entry}
@@ -42,6 +42,7 @@ constant_plain n (Some t) = (tt, tt)
 node_plain : (n : Node) → Plain (d.declared n)
 node_plain (item Variable of n) = variable_plain n (written_type of)
 node_plain (item Constant of n) = constant_plain n (written_type of)
+node_plain (let_name n c) = (tt, tt)
 node_plain (alone n) = tt
 node_plain (other n) = tt
 node_plain (sign o) = tt
@@ -65,6 +66,7 @@ held_plain (denotes.Constant t) h = refl
 held_plain (denotes.Parameter p) h = absurd h
 held_plain denotes.Procedure h = refl
 held_plain denotes.Refinement h = refl
+held_plain (denotes.Denoter d) h = refl
 
 map_append : (xs ys : List ElanType) → map held_const (xs ++ ys) ≡ map held_const xs ++ map held_const ys
 map_append [] ys = refl

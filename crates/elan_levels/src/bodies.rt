@@ -73,11 +73,11 @@ fn as_parameter(parameter: Option<Parameter>) -> Option<Denotes>
     }
 }
 
-fn named_as(mut out: Names, names: &[Name], denotes: Option<Denotes>) -> Names
-    ensures { Adds (spec.named_as names.now denotes) out result }
+fn named_as(mut out: Names, names: &[Name], parameter: Option<Parameter>) -> Names
+    ensures { Adds (spec.named_as names.now (option_map denote.Parameter parameter)) out result }
 {
     for name in names {
-        out = out.add(name, denotes);
+        out = out.add(name, as_parameter(parameter));
     }
     out
 }
@@ -86,8 +86,7 @@ fn parameter_names(mut out: Names, formals: &[Formal]) -> Names
     ensures { Adds (spec.parameter_names formals.now) out result }
 {
     for formal in formals {
-        let denotes = as_parameter(parameter(formal));
-        out = named_as(out, formal.names.as_slice(), denotes);
+        out = named_as(out, formal.names.as_slice(), parameter(formal));
     }
     out
 }
@@ -152,15 +151,14 @@ pub fn own_names(alloc: Global, body: &Body) -> Result<List<Entry>, NoMemory>
 }
 
 // Adds the type of what is held under a name.
-fn add_held(out: &mut List<ElanType>, denotes: Denotes) -> Result<(), NoMemory>
-    ensures { OnOk result (out.new ≡ out.old ++ scopes.types_of (scopes.held denotes)) }
+fn add_held(out: &mut List<ElanType>, denotes: &Denotes) -> Result<(), NoMemory>
+    ensures { OnOk result (out.new ≡ out.old ++ scopes.types_of (scopes.held denotes.now)) }
 {
     match denotes {
-        Denotes::Variable(of) => out.push(of),
-        Denotes::Constant(of) => out.push(of),
+        Denotes::Variable(of) => out.push(*of),
+        Denotes::Constant(of) => out.push(*of),
         Denotes::Parameter(parameter) => out.push(parameter.of),
-        Denotes::Procedure => Ok(()),
-        Denotes::Refinement => Ok(()),
+        Denotes::Procedure | Denotes::Refinement | Denotes::Denoter(_) => Ok(()),
     }
 }
 
@@ -171,7 +169,7 @@ pub fn held_types(alloc: Global, names: &[Entry]) -> Result<List<ElanType>, NoMe
 {
     let mut types = List::new(alloc);
     for entry in names {
-        add_held(&mut types, entry.denotes)?;
+        add_held(&mut types, &entry.denotes)?;
     }
     Ok(types)
 }

@@ -5,8 +5,9 @@ ghost use Rattle.elan_scope.specs.declared.scope.Denotes.TheVariants as denotes;
 ghost use Rattle.elan_unbuilt.specs.Types.{written_type};
 ghost use Rattle.elan_levels.specs.Declarations as spec;
 
+use elan_scope::denoter::Denoter;
 use elan_scope::scope::{Denotes, Entry};
-use elan_tree::{Name, TypePhrase, Unit};
+use elan_tree::{Constant, Name, TypePhrase, Unit};
 use elan_unbuilt::written_type;
 use elan_walk::{Held, Node, Visitor, visit_unit, visit_units};
 use eu_base::{Bytes, List, NoMemory};
@@ -30,6 +31,16 @@ fn constants(of: &TypePhrase) -> Option<Denotes>
     }
 }
 
+fn denoter(alloc: Global, constant: &Constant) -> Result<Denoter, NoMemory>
+    ensures { IfOk result (λ made. made ≡ spec.denoter constant.now) }
+{
+    match constant {
+        Constant::Number(_, number) => Ok(Denoter::Number(*number)),
+        Constant::Truth(_, truth) => Ok(Denoter::Truth(*truth)),
+        Constant::Text(_, text) => Ok(Denoter::Text(Bytes::from(alloc, text.as_slice())?)),
+    }
+}
+
 /// Names that are declared, in text order.
 #[derive(Drop)]
 pub struct Names {
@@ -41,6 +52,7 @@ pub struct Names {
 
 impl Names {
     ghost use Rattle.std.specs.Prelude.{[]};
+    ghost use Rattle.elan_walk.specs.Nodes.{let_name};
     ghost use Rattle.elan_levels.specs.walks.Seen.{with_entries, Adds};
 
     pub fn new(alloc: Global) -> Names
@@ -64,6 +76,19 @@ impl Names {
             }
         }
         self
+    }
+
+    // Adds a name that LET gives to a constant.
+    fn add_constant(mut self, name: &Name, constant: &Constant) -> Names
+        ensures { result.wanted ≡ false → (self.wanted ≡ false) × (result ≡ with_entries self (spec.declared (let_name name.now constant.now))) }
+    {
+        match denoter(self.alloc, constant) {
+            Ok(denoter) => self.add(name, Some(Denotes::Denoter(denoter))),
+            Err(NoMemory) => {
+                self.wanted = true;
+                self
+            }
+        }
     }
 
     fn push(&mut self, name: &Name, denotes: Denotes) -> Result<(), NoMemory>
@@ -116,6 +141,7 @@ impl Visitor for Names {
         match node {
             Node::Item(Held::Variable, of, name) => self.add(name, variables(of)),
             Node::Item(Held::Constant, of, name) => self.add(name, constants(of)),
+            Node::Let(name, constant) => self.add_constant(name, constant),
             _ => self,
         }
     }

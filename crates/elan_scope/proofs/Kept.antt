@@ -1,16 +1,17 @@
 -- What is kept by name is the first declaration of each.
-use Rattle.std.proofs.Common.{◌≡◌, ℕ, ◌+◌, Bool, true, false, if◌then◌else◌, List, [], ◌∷◌, length, Option, Some, None, refl, sym, ap, subst, ◌∙◌}
-use Rattle.std.specs.Prelude.{is_some}
+use Rattle.std.proofs.Common.{◌≡◌, ℕ, ◌+◌, Bool, true, false, if◌then◌else◌, List, [], ◌∷◌, ◌++◌, length, Option, Some, None, refl, sym, ap, subst, ◌∙◌, append_assoc}
+use Rattle.std.specs.Prelude.{is_some, option_map, slice_get}
 use Rattle.std.specs.Str.{bytes_eq}
 use Rattle.std.specs.Global.{Vec}
 use Rattle.std.specs.HashMap.{HashMap, UpdatesBy}
 use Rattle.std.specs.Map.{KeepsOthers, IsKeyTest, AreApart, lookup}
 use Rattle.std.proofs.lemmas.Slice.Eq.{bytes_eq-Decides}
 use Rattle.std.proofs.lemmas.Cmp.{nat_list_eq_equiv}
+use Rattle.std.proofs.lemmas.List.{length-append}
 use Rattle.elan_scope.specs.declared.scope.Entry.{Entry}
 use Rattle.elan_scope.specs.declared.directory.First.{First}
 use Rattle.elan_scope.specs.Names.{held, first_from}
-use Rattle.elan_scope.specs.walks.Firsts.{first_of, first_kept, earlier, kept, HasFirsts, KeepsOne}
+use Rattle.elan_scope.specs.walks.Firsts.{first_of, first_at, entry_at, earlier, kept, HasFirsts, KeepsOne}
 
 -- ---- one declaration
 
@@ -62,26 +63,47 @@ module _ {S : Type 0} (m n : HashMap (Vec ℕ) First S) (name : List ℕ) (f : F
 -- ---- all of them
 
 -- what is kept, and what is found behind
-abbrev pub FindsRest : {S : Type 0} → HashMap (Vec ℕ) First S → ℕ → List Entry → List Entry → Type 0
-FindsRest m k rest es = (x : List ℕ) → earlier (kept m x) (first_kept (first_from k rest x)) ≡ first_kept (first_from 0 es x)
+abbrev pub FindsRest : {S : Type 0} → HashMap (Vec ℕ) First S → ℕ → ℕ → List Entry → List Entry → Type 0
+FindsRest m k i rest es = (x : List ℕ) → earlier (kept m x) (first_at k i rest x) ≡ first_at 0 0 es x
 
 module _ {S : Type 0} where
-  pub at_start : (m : HashMap (Vec ℕ) First S) (es : List Entry) → m.entries ≡ [] → FindsRest m 0 es es
+  pub at_start : (m : HashMap (Vec ℕ) First S) (es : List Entry) → m.entries ≡ [] → FindsRest m 0 0 es es
   at_start m es e x =
-      ap (λ (ps : List (Vec ℕ × First)). earlier (lookup (λ k. bytes_eq x k.items) ps) (first_kept (first_from 0 es x))) e
+      ap (λ (ps : List (Vec ℕ × First)). earlier (lookup (λ k. bytes_eq x k.items) ps) (first_at 0 0 es x)) e
 
-  pub at_end : (m : HashMap (Vec ℕ) First S) (k : ℕ) (es : List Entry) → FindsRest m k [] es → HasFirsts m es
-  at_end m k es h x = sym (none_earlier (kept m x)) ∙ h x
+  pub at_end : (m : HashMap (Vec ℕ) First S) (k i : ℕ) (es : List Entry) → FindsRest m k i [] es → HasFirsts m es
+  at_end m k i es h x = sym (none_earlier (kept m x)) ∙ h x
 
-  pub one_more : (m n : HashMap (Vec ℕ) First S) (k : ℕ) (e : Entry) (rest es : List Entry) → KeepsOne m n k e → FindsRest m k (e ∷ rest) es
-      → FindsRest n (k + length (held e.denotes)) rest es
-  one_more m n k e rest es one h x =
-      ap (λ (o : Option First). earlier o (first_kept (first_from (k + length (held e.denotes)) rest x))) (one x)
+  pub one_more : (m n : HashMap (Vec ℕ) First S) (k i : ℕ) (e : Entry) (rest es : List Entry) → KeepsOne m n (first_of k i) e
+      → FindsRest m k i (e ∷ rest) es → FindsRest n (k + length (held e.denotes)) (i + 1) rest es
+  one_more m n k i e rest es one h x =
+      ap (λ (o : Option First). earlier o (first_at (k + length (held e.denotes)) (i + 1) rest x)) (one x)
       ∙ by_kept (kept m x) (bytes_eq e.name x) ∙ h x
     where
       by_kept : (o : Option First) (b : Bool)
-          → earlier (earlier o (if b then Some (first_of k e) else None)) (first_kept (first_from (k + length (held e.denotes)) rest x))
-          ≡ earlier o (first_kept (if b then Some (k, e) else first_from (k + length (held e.denotes)) rest x))
+          → earlier (earlier o (if b then Some (first_of k i) else None)) (first_at (k + length (held e.denotes)) (i + 1) rest x)
+          ≡ earlier o (if b then Some (first_of k i) else first_at (k + length (held e.denotes)) (i + 1) rest x)
       by_kept None true = refl
       by_kept None false = refl
       by_kept (Some f) b = refl
+
+-- ---- what stands there
+
+at_seam : (before : List Entry) (e : Entry) (es : List Entry) → slice_get (before ++ e ∷ es) (length before) ≡ Some e
+at_seam [] e es = refl
+at_seam (d ∷ ds) e es = at_seam ds e es
+
+found_at : (before es : List Entry) (k i : ℕ) (x : List ℕ) → length before ≡ i → entry_at (before ++ es) (first_at k i es x) ≡ first_from k es x
+found_at before [] k i x l = refl
+found_at before (e ∷ es) k i x l =
+    by_test (found_at (before ++ e ∷ []) es (k + length (held e.denotes)) (i + 1) x (length-append before (e ∷ []) ∙ ap (λ n. n + 1) l)) (bytes_eq e.name x)
+  where
+    by_test : entry_at ((before ++ e ∷ []) ++ es) (first_at (k + length (held e.denotes)) (i + 1) es x) ≡ first_from (k + length (held e.denotes)) es x
+        → (b : Bool)
+        → entry_at (before ++ e ∷ es) (if b then Some (first_of k i) else first_at (k + length (held e.denotes)) (i + 1) es x)
+        ≡ (if b then Some (k, e) else first_from (k + length (held e.denotes)) es x)
+    by_test rest true = ap (option_map (λ (d : Entry). (k, d))) (ap (slice_get (before ++ e ∷ es)) (sym l) ∙ at_seam before e es)
+    by_test rest false = ap (λ ds. entry_at ds (first_at (k + length (held e.denotes)) (i + 1) es x)) (sym (append_assoc before (e ∷ []) es)) ∙ rest
+
+pub first_found : (es : List Entry) (x : List ℕ) → entry_at es (first_at 0 0 es x) ≡ first_from 0 es x
+first_found es x = found_at [] es 0 0 x refl

@@ -7,13 +7,14 @@ use Rattle.elan_scope.specs.declared.scope.Denotes.{Denotes}
 use Rattle.elan_scope.specs.declared.scope.Denotes.TheVariants as denotes
 use Rattle.elan_scope.specs.declared.scope.Entry.{Entry}
 
--- what is held under a name: a variable or constant, or what a parameter is given; PROCs and refinements hold nothing
+-- what is held under a name: a variable or constant, or what a parameter is given; PROCs, refinements and denoters hold nothing
 abbrev pub held : Denotes → List Parameter
 held (denotes.Variable t) = held_const t ∷ []
 held (denotes.Constant t) = held_const t ∷ []
 held (denotes.Parameter p) = p ∷ []
 held denotes.Procedure = []
 held denotes.Refinement = []
+held (denotes.Denoter d) = []
 
 -- the first declaration of a name, with the number of variables, constants and parameters before it
 abbrev pub first_from : ℕ → List Entry → List ℕ → Option (ℕ × Entry)

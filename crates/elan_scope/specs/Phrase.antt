@@ -24,9 +24,9 @@ pub data Plain : Type 0 where
   cor : Plain
   -- conditions, each before its units, and the units of ELSE
   choice : Plain
-  -- a label after these numbers
+  -- a label after these numbers: a number, and the name of one
   label : List ℤ → ℤ → Plain
-  label_name : Scope → List ℕ → Plain
+  label_name : List ℤ → Scope → List ℕ → Plain
   labels : Plain
   -- a value, labels, each before their units, and the units of OTHERWISE
   selection : Plain
@@ -35,6 +35,8 @@ pub data Plain : Type 0 where
   -- a name and its initial value
   initial : Plain
   declaration : Plain
+  -- a name of a LET and what it is given to, and all names of a LET
+  definition : Plain
   -- an expression that stands alone
   statement : Plain
   assignment : Scope → Plain

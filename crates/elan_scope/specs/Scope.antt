@@ -1,5 +1,5 @@
 -- What names denote where a phrase stands.
-use Rattle.std.specs.Prelude.{ℕ, Bool, true, false, ◌&&◌, ◌==◌, List, [], ◌∷◌, ◌++◌, map, flat_map, length, Option, Some, None, if◌then◌else◌, slice_get}
+use Rattle.std.specs.Prelude.{ℕ, ℤ, Bool, true, false, ◌&&◌, ◌==◌, List, [], ◌∷◌, ◌++◌, map, flat_map, length, Option, Some, None, if◌then◌else◌, slice_get}
 use Rattle.std.specs.Prelude.{option_map, option_and_then, option_to_list}
 pub use Rattle.std.specs.Prelude.{find as first}
 use Rattle.std.specs.List.{enumerate_from}
@@ -18,7 +18,7 @@ use Rattle.elan_scope.specs.declared.scope.Within.{Within}
 use Rattle.elan_scope.specs.declared.scope.Scope.{Scope}
 use Rattle.elan_scope.specs.declared.scope.Home.{Home}
 use Rattle.elan_scope.specs.declared.scope.Home.TheVariants.{Level as of_level, Routine as of_routine}
-use Rattle.elan_scope.specs.declared.scope.Found.{Found}
+use Rattle.elan_scope.specs.declared.denoter.Denoter.TheVariants as denoter
 use Rattle.elan_scope.specs.declared.heading.Sort.{Sort}
 use Rattle.elan_scope.specs.declared.heading.Sort.TheVariants.{Procedure, Operator}
 use Rattle.elan_scope.specs.declared.heading.What.{What}
@@ -97,6 +97,13 @@ abbrev pub first_in : {A : Type 0} → (Layer → Option A) → List Layer → O
 first_in look [] = None
 first_in look (l ∷ ls) = option_or (look l) (first_in look ls)
 
+-- a declaration that was found, with the number of variables, constants and parameters before it in its home
+pub record Found : Type 0 where
+  pub home : Home
+  pub number : ℕ
+  pub at : ℕ
+  pub denotes : Denotes
+
 abbrev pub found_in : Home → Option (ℕ × Entry) → Option Found
 found_in home entry = option_map (λ f. record { home = home; number = f.0; at = f.1.at; denotes = f.1.denotes }) entry
 
@@ -114,6 +121,14 @@ find_in x (l ∷ ls) = option_or (found x l) (first_in (λ m. from_inside (found
 -- what an identifier without actuals denotes
 abbrev pub find : Scope → List ℕ → Option Found
 find s x = find_in x (layers s)
+
+-- the number that LET gives the name to
+abbrev pub number_of_denoter : Denotes → Option ℤ
+number_of_denoter (denotes.Denoter (denoter.Number n)) = Some n
+number_of_denoter _ = None
+
+abbrev pub number_named : Option Found → Option ℤ
+number_named found = option_and_then (λ f. number_of_denoter f.denotes) found
 
 -- what a name denotes in the scope that declares it
 abbrev pub find_own : Scope → List ℕ → Option Found

@@ -1,23 +1,22 @@
 //! What a level or a body declares, found by name.
 
-ghost use Rattle.std.specs.Prelude.{◌≡◌, IfOk, OnOk};
+ghost use Rattle.std.specs.Prelude.{◌≡◌, Some, option_map, IfOk, OnOk};
 ghost use Rattle.elan_scope.specs.Names as names;
 ghost use Rattle.elan_scope.specs.walks.Firsts as spec;
 
 use crate::heading::is_one;
-use crate::scope::{Denotes, Entry};
+use crate::scope::Entry;
 use eu_base::{List, NoMemory};
 use std::alloc::Global;
 use std::collections::HashMap;
 use std::marker::Model;
 
-/// The first declaration of a name: how many variables, constants and parameters stand before it, its place, and what the
-/// name denotes.
+/// Where the first declaration of a name stands: how many variables, constants and parameters are before it, and how many
+/// declarations.
 #[derive(Clone, Copy)]
 pub struct First {
     pub number: usize,
-    pub at: u32,
-    pub denotes: Denotes,
+    pub index: usize,
 }
 
 /// Declarations in text order, which contracts see as a list. Of many, the first of each name is kept by the name, so that no
@@ -44,24 +43,14 @@ impl Model for Directory {
 // So many names are looked through one after another.
 const FEW: usize = 8;
 
-fn first_of(number: usize, entry: &Entry) -> First
-    ensures { result ≡ spec.first_of number entry.now }
-{
-    First {
-        number,
-        at: entry.at,
-        denotes: entry.denotes,
-    }
-}
-
-fn first_named(entries: &[Entry], name: &[u8]) -> Option<First>
-    ensures { result ≡ spec.first_kept (names.first_named entries.now name.now) }
+fn first_named<'a>(entries: &'a [Entry], name: &[u8]) -> Option<(usize, &'a Entry)>
+    ensures { option_map (λ f. (f.0, f.1.now)) result ≡ names.first_named entries.now name.now }
 {
     let mut number = 0;
     let mut rest = entries;
     while let [entry, others @ ..] = rest {
         if is_one(entry.name.as_slice(), name) {
-            return Some(first_of(number, entry));
+            return Some((number, entry));
         }
         number += entry.denotes.count();
         rest = others;
@@ -73,17 +62,17 @@ fn first_named(entries: &[Entry], name: &[u8]) -> Option<First>
 fn keep(
     alloc: Global,
     firsts: &mut HashMap<Vec<u8>, First>,
-    number: usize,
+    first: First,
     entry: &Entry,
 ) -> Result<(), NoMemory>
-    ensures { OnOk result (spec.KeepsOne firsts.old firsts.new number entry.now) }
+    ensures { OnOk result (spec.KeepsOne firsts.old firsts.new first entry.now) }
 {
     let name = entry.name.as_slice();
     if firsts.contains_key(name) {
         return Ok(());
     }
     let name = Vec::from_slice(alloc, name)?;
-    firsts.insert(name, first_of(number, entry))?;
+    firsts.insert(name, first)?;
     Ok(())
 }
 
@@ -93,10 +82,12 @@ fn firsts(alloc: Global, entries: &[Entry]) -> Result<HashMap<Vec<u8>, First>, N
 {
     let mut firsts = HashMap::new(alloc);
     let mut number = 0;
+    let mut index = 0;
     let mut rest = entries;
     while let [entry, others @ ..] = rest {
-        keep(alloc, &mut firsts, number, entry)?;
+        keep(alloc, &mut firsts, First { number, index }, entry)?;
         number += entry.denotes.count();
+        index += 1;
         rest = others;
     }
     Ok(firsts)
@@ -124,13 +115,25 @@ impl Directory {
         self.entries.as_slice()
     }
 
-    /// The first declaration of a name; `None` exactly where there is none.
-    pub fn first_named(&self, name: &[u8]) -> Option<First>
-        ensures { result ≡ spec.first_kept (names.first_named self.now name.now) }
+    // The declaration that stands there, with the number of variables, constants and parameters before it.
+    fn entry_at(&self, first: First) -> Option<(usize, &Entry)>
+        ensures { option_map (λ f. (f.0, f.1.now)) result ≡ spec.entry_at self.now (Some first) }
+    {
+        let entry = self.entries.as_slice().get(first.index)?;
+        Some((first.number, entry))
+    }
+
+    /// The first declaration of a name, with the number of variables, constants and parameters before it; `None` exactly where
+    /// there is none.
+    pub fn first_named(&self, name: &[u8]) -> Option<(usize, &Entry)>
+        ensures { option_map (λ f. (f.0, f.1.now)) result ≡ names.first_named self.now name.now }
     {
         match &self.firsts {
             None => first_named(self.entries.as_slice(), name),
-            Some(firsts) => firsts.get(name).copied(),
+            Some(firsts) => match firsts.get(name) {
+                None => None,
+                Some(first) => self.entry_at(*first),
+            },
         }
     }
 }

@@ -3,6 +3,7 @@
 
 pub mod callable;
 pub mod delivery;
+pub mod denoter;
 pub mod directory;
 pub mod heading;
 pub mod headings;

@@ -2,7 +2,9 @@
 
 ghost use Rattle.std.specs.Prelude.{◌≡◌, ◌≤◌, option_map, length};
 ghost use Rattle.elan_scope.specs.Scope as spec;
+ghost use Rattle.elan_scope.specs.walks.Seen as seen;
 
+use crate::denoter::Denoter;
 use crate::directory::Directory;
 use crate::headings::Headings;
 use elan_types::{ElanType, Exit, Parameter};
@@ -17,7 +19,7 @@ pub enum Usage {
 }
 
 /// What an identifier without actuals denotes.
-#[derive(Clone, Copy)]
+#[derive(Drop)]
 pub enum Denotes {
     Variable(ElanType),
     Constant(ElanType),
@@ -25,12 +27,14 @@ pub enum Denotes {
     /// A PROC without parameters.
     Procedure,
     Refinement,
+    /// What LET gives the name to.
+    Denoter(Denoter),
 }
 
 impl Denotes {
     /// How many variables, constants and parameters it is.
-    pub fn count(self) -> usize
-        ensures held { result ≡ length (spec.held self) }
+    pub fn count(&self) -> usize
+        ensures held { result ≡ length (spec.held self.now) }
         ensures few { result ≤ 1 }
     {
         match self {
@@ -39,11 +43,12 @@ impl Denotes {
             Denotes::Parameter(_) => 1,
             Denotes::Procedure => 0,
             Denotes::Refinement => 0,
+            Denotes::Denoter(_) => 0,
         }
     }
 
-    fn is_refinement(self) -> bool
-        ensures { result ≡ spec.is_refinement self }
+    fn is_refinement(&self) -> bool
+        ensures { result ≡ spec.is_refinement self.now }
     {
         match self {
             Denotes::Refinement => true,
@@ -89,30 +94,30 @@ pub enum Home {
 
 /// A declaration that was found, with the number of variables, constants and parameters before it in its home.
 #[derive(Clone, Copy)]
-pub struct Found {
+pub struct Found<'a> {
     pub home: Home,
     pub number: usize,
     pub at: u32,
-    pub denotes: Denotes,
+    pub denotes: &'a Denotes,
 }
 
-fn found_in(home: Home, names: &Directory, name: &[u8]) -> Option<Found>
-    ensures { result ≡ spec.found_in home (spec.first_named names.now name.now) }
+fn found_in<'a>(home: Home, names: &'a Directory, name: &[u8]) -> Option<Found<'a>>
+    ensures { option_map seen.found result ≡ spec.found_in home (spec.first_named names.now name.now) }
 {
     match names.first_named(name) {
         None => None,
-        Some(first) => Some(Found {
+        Some((number, entry)) => Some(Found {
             home,
-            number: first.number,
-            at: first.at,
-            denotes: first.denotes,
+            number,
+            at: entry.at,
+            denotes: &entry.denotes,
         }),
     }
 }
 
 // The refinements of a level are for its own units and refinements alone.
-fn from_inside(found: Option<Found>) -> Option<Found>
-    ensures { result ≡ spec.from_inside found }
+fn from_inside(found: Option<Found<'_>>) -> Option<Found<'_>>
+    ensures { option_map seen.found result ≡ spec.from_inside (option_map seen.found found.entry) }
 {
     match found {
         None => None,
@@ -129,8 +134,8 @@ impl Scope {
     /// What an identifier without actuals denotes in the first layer that declares it: the body is looked at first, and then
     /// the level. `None` exactly where neither declares it.
     #[tactic(auto, using(crate::proofs::Layers::or_none))]
-    pub fn find(&self, name: &[u8]) -> Option<Found>
-        ensures { result ≡ spec.find self.now name.now }
+    pub fn find(&self, name: &[u8]) -> Option<Found<'_>>
+        ensures { option_map seen.found result ≡ spec.find self.now name.now }
     {
         let level = found_in(Home::Level, &self.level, name);
         match &self.routine {
@@ -143,12 +148,25 @@ impl Scope {
     }
 
     /// What a name denotes in the scope that declares it; `None` exactly where it is not declared there.
-    pub fn find_own(&self, name: &[u8]) -> Option<Found>
-        ensures { result ≡ spec.find_own self.now name.now }
+    pub fn find_own(&self, name: &[u8]) -> Option<Found<'_>>
+        ensures { option_map seen.found result ≡ spec.find_own self.now name.now }
     {
         match &self.routine {
             None => found_in(Home::Level, &self.level, name),
             Some(within) => found_in(Home::Routine, &within.names, name),
+        }
+    }
+
+    /// The number that LET gives a name to, if it gives it to one.
+    pub fn number_named(&self, name: &[u8]) -> Option<i16>
+        ensures { result ≡ spec.number_named (spec.find self.now name.now) }
+    {
+        match self.find(name) {
+            None => None,
+            Some(found) => match found.denotes {
+                Denotes::Denoter(Denoter::Number(number)) => Some(*number),
+                _ => None,
+            },
         }
     }
 

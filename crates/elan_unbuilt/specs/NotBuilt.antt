@@ -5,7 +5,7 @@ use Rattle.elan_unbuilt.specs.Names.{is_not_built}
 use Rattle.elan_unbuilt.specs.Operators.{operator_text}
 use Rattle.elan_unbuilt.specs.Types.{written_type}
 use Rattle.elan_tree.specs.declared.tree.Tree.{Tree}
-use Rattle.elan_walk.specs.Nodes.{Node, alone, other, sign, of_type, item, unbuilt, nodes}
+use Rattle.elan_walk.specs.Nodes.{Node, alone, other, sign, of_type, item, let_name, unbuilt, nodes}
 
 abbrev pub node : Node → Bool
 node (alone n) = is_not_built n.text
@@ -13,6 +13,7 @@ node (other n) = is_not_built n.text
 node (sign o) = is_not_built (operator_text o)
 node (of_type of) = is_none (written_type of)
 node (item h of n) = is_not_built n.text
+node (let_name n c) = is_not_built n.text
 node unbuilt = true
 
 abbrev pub not_built : Tree → Bool

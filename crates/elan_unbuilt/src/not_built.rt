@@ -31,6 +31,7 @@ impl Visitor for Search {
                     Node::Operator(sign) => is_not_built(operator_text(sign)),
                     Node::Type(of) => written_type(of).is_none(),
                     Node::Item(_, _, named) => is_not_built(named.text.as_slice()),
+                    Node::Let(named, _) => is_not_built(named.text.as_slice()),
                     Node::Unbuilt => true,
                 },
         }

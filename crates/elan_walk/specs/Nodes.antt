@@ -1,6 +1,9 @@
 -- The nodes of trees in text order, as far as they have a name, a type or an operator.
 use Rattle.std.specs.Prelude.{List, [], ◌∷◌, ◌++◌, map, flat_map, Option, option_map, option_to_list, unwrap_or}
 use Rattle.elan_tree.specs.declared.written_type.Name.{Name}
+use Rattle.elan_tree.specs.declared.written_type.Constant.{Constant as Denoter}
+use Rattle.elan_tree.specs.declared.written_type.LetItem.{LetItem}
+use Rattle.elan_tree.specs.declared.written_type.LetItem.TheVariants as item_of
 use Rattle.elan_tree.specs.declared.written_type.Label.{Label}
 use Rattle.elan_tree.specs.declared.written_type.Label.TheVariants as label
 use Rattle.elan_tree.specs.declared.written_type.TypePhrase.{TypePhrase}
@@ -36,6 +39,8 @@ pub data Node : Type 0 where
   of_type : TypePhrase → Node
   -- a name that is declared, with the type that is written
   item : Held → TypePhrase → Name → Node
+  -- a name that LET gives to a constant
+  let_name : Name → Denoter → Node
   -- a phrase of a kind that is not built
   unbuilt : Node
 
@@ -45,6 +50,7 @@ plain (lent.Other n) = other n.now
 plain (lent.Operator o) = sign o.now
 plain (lent.Type of) = of_type of.now
 plain (lent.Item h of n) = item h of.now n.now
+plain (lent.Let n c) = let_name n.now c.now
 plain lent.Unbuilt = unbuilt
 
 -- what the items of a declaration are, by how they are held and of which type
@@ -58,6 +64,11 @@ abbrev pub labels : List Label → List Node
 labels [] = []
 labels (label.Number at n ∷ ls) = labels ls
 labels (label.Named n ∷ ls) = other n ∷ labels ls
+
+-- LET gives a name to a constant; a type under a name is not built
+abbrev pub let_item : LetItem → Node
+let_item (item_of.Constant n c) = let_name n c
+let_item (item_of.Abbreviation n of) = unbuilt
 
 abbrev pub Layer : (Type 0 → Type 0 → Type 0 → Type 0 → Type 0 → Type 0 → Type 0 → Type 0) → Type 0
 Layer F = F (List Node) (List Node) (List Node) (List Node) (List Node) (List Node) Declares
@@ -90,6 +101,7 @@ unit_step (t.Value a) = a
 unit_step (t.Becomes at a b) = a ++ b
 unit_step (t.Loop at counter condition units until) = unwrap_or counter [] ++ unwrap_or condition [] ++ all units ++ unwrap_or until []
 unit_step (t.Leave at n value) = other n ∷ unwrap_or value []
+unit_step (t.Let at items) = map let_item items
 unit_step _ = unbuilt ∷ []
 
 abbrev pub branch_step : Layer Branch-F → List Node

@@ -2,7 +2,7 @@
 
 ghost use Rattle.std.specs.Prelude.{Bool, [], ◌∷◌};
 
-use elan_tree::{Name, Operator, TypePhrase};
+use elan_tree::{Constant, Name, Operator, TypePhrase};
 
 /// How the names of a declaration are held.
 #[derive(Clone, Copy)]
@@ -23,6 +23,8 @@ pub enum Node<'a> {
     Type(&'a TypePhrase),
     /// A name that is declared.
     Item(Held, &'a TypePhrase, &'a Name),
+    /// A name that LET gives to a constant.
+    Let(&'a Name, &'a Constant),
     /// A phrase of a kind that is not built.
     Unbuilt,
 }

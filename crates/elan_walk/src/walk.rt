@@ -6,7 +6,7 @@ ghost use Rattle.elan_walk.specs.Walk.{Seen};
 
 use crate::node::{Held, Node, Visitor};
 use containers::{Boxed, List};
-use elan_tree::{Branch, Case, Counter, Expr, Item, Label, Limit, TypePhrase, Unit};
+use elan_tree::{Branch, Case, Counter, Expr, Item, Label, LetItem, Limit, TypePhrase, Unit};
 
 fn labels<V: Visitor>(mut visitor: V, labels: &[Label]) -> V
     ensures { Seen V.wanted V.after (spec.labels labels.now) visitor result }
@@ -15,6 +15,18 @@ fn labels<V: Visitor>(mut visitor: V, labels: &[Label]) -> V
         if let Label::Named(name) = label {
             visitor = visitor.visit(Node::Other(name));
         }
+    }
+    visitor
+}
+
+fn let_items<V: Visitor>(mut visitor: V, items: &[LetItem]) -> V
+    ensures { Seen V.wanted V.after (map spec.let_item items.now) visitor result }
+{
+    for item in items {
+        visitor = visitor.visit(match item {
+            LetItem::Constant(name, constant) => Node::Let(name, constant),
+            LetItem::Abbreviation(_, _) => Node::Unbuilt,
+        });
     }
     visitor
 }
@@ -209,7 +221,8 @@ pub fn visit_unit<V: Visitor>(visitor: V, unit: &Unit) -> V
             let visitor = visitor.visit(Node::Other(name));
             in_optional(visitor, value)
         }
-        Unit::Let(_, _) | Unit::Bound(_, _, _) => visitor.visit(Node::Unbuilt),
+        Unit::Let(_, items) => let_items(visitor, items.as_slice()),
+        Unit::Bound(_, _, _) => visitor.visit(Node::Unbuilt),
     }
 }
 

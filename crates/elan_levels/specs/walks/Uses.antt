@@ -2,7 +2,7 @@
 use Rattle.std.specs.Prelude.{ℕ, List, [], ◌∷◌, ◌++◌, option_to_list}
 use Rattle.elan_tree.specs.declared.phrase.Unit.{Unit as Statement}
 use Rattle.elan_walk.specs.Nodes as nodes
-use Rattle.elan_walk.specs.Nodes.{Node, alone, other, sign, of_type, item, unbuilt}
+use Rattle.elan_walk.specs.Nodes.{Node, alone, other, sign, of_type, item, let_name, unbuilt}
 use Rattle.elan_scope.specs.declared.scope.Scope.{Scope}
 use Rattle.elan_scope.specs.Scope.{refinement_named}
 
@@ -14,6 +14,7 @@ module _ (s : Scope) where
   called (sign o) = []
   called (of_type of) = []
   called (item h of n) = []
+  called (let_name n c) = []
   called unbuilt = []
 
   abbrev pub all_called : List Node → List ℕ

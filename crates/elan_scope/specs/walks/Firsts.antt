@@ -1,18 +1,23 @@
 -- The first declaration of each name, kept by the name. Steps of the code: no definition of meaning needs them.
-use Rattle.std.specs.Prelude.{◌≡◌, ℕ, List, Option, Some, None, if◌then◌else◌}
+use Rattle.std.specs.Prelude.{◌≡◌, ℕ, ◌+◌, List, [], ◌∷◌, length, Option, Some, None, option_map, slice_get, if◌then◌else◌}
 use Rattle.std.specs.Str.{bytes_eq}
 use Rattle.std.specs.Global.{Vec}
 use Rattle.std.specs.HashMap.{HashMap, get_by}
 use Rattle.elan_scope.specs.declared.scope.Entry.{Entry}
 use Rattle.elan_scope.specs.declared.directory.First.{First}
-use Rattle.elan_scope.specs.Names.{first_named}
+use Rattle.elan_scope.specs.Names.{held}
 
-abbrev pub first_of : ℕ → Entry → First
-first_of k e = record { number = k; at = e.at; denotes = e.denotes }
+-- where it stands: how many variables, constants and parameters are before it, and how many declarations
+abbrev pub first_of : ℕ → ℕ → First
+first_of k i = record { number = k; index = i }
 
-abbrev pub first_kept : Option (ℕ × Entry) → Option First
-first_kept None = None
-first_kept (Some f) = Some (first_of f.0 f.1)
+abbrev pub first_at : ℕ → ℕ → List Entry → List ℕ → Option First
+first_at k i [] x = None
+first_at k i (e ∷ es) x = if bytes_eq e.name x then Some (first_of k i) else first_at (k + length (held e.denotes)) (i + 1) es x
+
+abbrev pub entry_at : List Entry → Option First → Option (ℕ × Entry)
+entry_at es None = None
+entry_at es (Some f) = option_map (λ e. (f.number, e)) (slice_get es f.index)
 
 -- the one that was found first
 abbrev pub earlier : Option First → Option First → Option First
@@ -25,11 +30,11 @@ module _ {S : Type 0} where
   kept m x = get_by (λ k. bytes_eq x k.items) m
 
   abbrev pub HasFirsts : HashMap (Vec ℕ) First S → List Entry → Type 0
-  HasFirsts m es = (x : List ℕ) → kept m x ≡ first_kept (first_named es x)
+  HasFirsts m es = (x : List ℕ) → kept m x ≡ first_at 0 0 es x
 
   -- A declaration was kept, unless there was one of its name.
-  abbrev pub KeepsOne : HashMap (Vec ℕ) First S → HashMap (Vec ℕ) First S → ℕ → Entry → Type 0
-  KeepsOne m n k e = (x : List ℕ) → kept n x ≡ earlier (kept m x) (if bytes_eq e.name x then Some (first_of k e) else None)
+  abbrev pub KeepsOne : HashMap (Vec ℕ) First S → HashMap (Vec ℕ) First S → First → Entry → Type 0
+  KeepsOne m n f e = (x : List ℕ) → kept n x ≡ earlier (kept m x) (if bytes_eq e.name x then Some f else None)
 
   -- Of few names none is kept.
   abbrev pub AreKept : Option (HashMap (Vec ℕ) First S) → List Entry → Type 0

@@ -1,7 +1,13 @@
 use Rattle.std.proofs.Common.{◌≡◌, false, ◌++◌, drop}
+use Rattle.std.specs.Prelude.{option_map}
+use Rattle.elan_scope.specs.declared.scope.Denotes.TheVariants as denotes
 use Rattle.elan_levels.specs.Bodies.{named_as}
 use Rattle.elan_levels.proofs.bodies.named_as.Given as goal
 
 abbrev pub invariant-loop-name : goal.invariant-loop-name
 invariant-loop-name l =
-    l.out.wanted ≡ false → (l.fn.out.wanted ≡ false) × (l.out.entries ++ named_as (drop l.name-index l.names) l.denotes ≡ l.fn.out.entries ++ named_as l.names l.denotes)
+    (l.parameter ≡ l.fn.parameter)
+    × (l.out.wanted ≡ false
+    → (l.fn.out.wanted ≡ false)
+    × (l.out.entries ++ named_as (drop l.name-index l.names) (option_map denotes.Parameter l.fn.parameter)
+    ≡ l.fn.out.entries ++ named_as l.names (option_map denotes.Parameter l.fn.parameter)))

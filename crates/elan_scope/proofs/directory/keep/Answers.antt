@@ -1,7 +1,6 @@
-use Rattle.std.proofs.Common.{◌≡◌, List, ℕ, Some, None, false, if◌then◌else◌, refl, sym, subst, ◌∙◌}
+use Rattle.std.proofs.Common.{◌≡◌, List, ℕ, Some, None, false, if◌then◌else◌, sym, subst, ◌∙◌}
 use Rattle.std.specs.Prelude.{is_some}
 use Rattle.std.specs.Str.{bytes_eq}
-use Rattle.elan_scope.specs.declared.directory.First.{First}
 use Rattle.elan_scope.specs.walks.Firsts.{earlier, kept}
 use Rattle.elan_scope.proofs.Kept.{is_kept}
 use Rattle.elan_scope.proofs.directory.keep.Goals as goal
@@ -13,8 +12,6 @@ returns c = λ x.
     let key = c.in_ok-name.name.items in
     let none : is_some (kept old key) ≡ false =
     subst (λ (n : List ℕ). is_some (kept old n) ≡ false) (sym c.in_ok-name.ensures.items) (sym c.contains_key.ensures ∙ c.if-contains_key.false) in
-    subst (λ (n : List ℕ). kept new x ≡ earlier (kept old x) (if bytes_eq n x then Some c.first_of.result else None))
+    subst (λ (n : List ℕ). kept new x ≡ earlier (kept old x) (if bytes_eq n x then Some c.args.first else None))
     (c.in_ok-name.ensures.items ∙ c.as_slice-name.ensures)
-    (is_kept old new key c.first_of.result none c.in_ok-insert.ensures.updates x)
-    ∙ subst (λ (f : First). earlier (kept old x) (if bytes_eq c.args.entry.now.name x then Some c.first_of.result else None)
-    ≡ earlier (kept old x) (if bytes_eq c.args.entry.now.name x then Some f else None)) c.first_of.ensures refl
+    (is_kept old new key c.args.first none c.in_ok-insert.ensures.updates x)
