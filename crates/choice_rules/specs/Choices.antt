@@ -9,13 +9,14 @@ use Rattle.elan_types.specs.declared.core_phrase.ValuePhrase.{ValuePhrase}
 use Rattle.elan_types.specs.declared.core_phrase.ValuePhrase.TheVariants as value
 use Rattle.elan_types.specs.declared.core_phrase.Action.{Action}
 use Rattle.elan_types.specs.declared.core_phrase.Action.TheVariants as action
+use Rattle.elan_types.specs.declared.why.Why.{Why}
 use Rattle.elan_types.specs.declared.why.Why.TheVariants.{Unknown, Doubled, WrongType}
 use Rattle.elan_types.specs.Typing.{same_type}
 use Rattle.elan_scope.specs.declared.delivery.Delivery.{Delivery}
 use Rattle.elan_scope.specs.declared.delivery.Delivery.TheVariants.{Open, Nothing, Of}
 use Rattle.elan_meant.specs.declared.meant.Meant.{Meant}
 use Rattle.elan_meant.specs.declared.meant.Meant.TheVariants.{Absent, Value, Done, Left, Labels}
-use Rattle.elan_scope.specs.declared.scope.Found.{Found}
+use Rattle.elan_scope.specs.Scope.{Found, number_named}
 use Rattle.elan_meant.specs.Verdict.{Verdict, gives, breaks, ◌>>=◌}
 use Rattle.elan_meant.specs.Operands.{delivers}
 use Rattle.elan_meant.specs.Parts.{value_of, actions, pairs, odd}
@@ -72,9 +73,13 @@ choice at ms = chain at (pairs ms) (gives (unwrap_or (odd ms) Absent))
 abbrev pub label_is : ℕ → List ℤ → ℤ → Verdict Meant
 label_is at earlier n = if list_any (λ m. int_eq m n) earlier then breaks (at, Doubled) else gives (Labels (n ∷ []))
 
--- An identifier as a label names a number of a LET, which is not built: all other names have the wrong type.
-abbrev pub label_named : ℕ → Bool → Option Found → Verdict Meant
-label_named at known f = breaks (at, if is_some f || known then WrongType else Unknown)
+abbrev pub label_as : ℕ → List ℤ → Why → Option ℤ → Verdict Meant
+label_as at earlier why None = breaks (at, why)
+label_as at earlier why (Some n) = label_is at earlier n
+
+-- An identifier as a label names a number of a LET: all other names have the wrong type.
+abbrev pub label_named : ℕ → List ℤ → Bool → Option Found → Verdict Meant
+label_named at earlier known f = label_as at earlier (if is_some f || known then WrongType else Unknown) (number_named f)
 
 abbrev pub labels_of : List Meant → List ℤ
 labels_of ms = flat_map labels_in ms

@@ -6,6 +6,8 @@ ghost use Rattle.elan_meant.specs.declared.meant.Meant.TheVariants as means;
 ghost use Rattle.choice_rules.specs.Choices as spec;
 ghost use Rattle.choice_rules.specs.walks.Steps as walk;
 ghost use Rattle.elan_scope.specs.Answer.{Gives};
+ghost use Rattle.elan_scope.specs.Scope as scopes;
+ghost use Rattle.elan_scope.specs.declared.heading.Sort.TheVariants.{Procedure};
 ghost use Rattle.elan_meant.specs.Verdict.{told, Tells};
 
 use crate::parts::{delivery_in, joined, part_for_none};
@@ -16,7 +18,8 @@ use elan_meant::part::{actions, boxed, one, value_of};
 use elan_meant::row::Judged;
 use elan_meant::together::pairs_of;
 use elan_scope::delivery::Delivery;
-use elan_scope::scope::Found;
+use elan_scope::heading::Sort;
+use elan_scope::scope::Scope;
 use elan_scope::trouble::Trouble;
 use elan_types::{Action, ElanType, ValuePhrase, Why};
 use eu_base::{Boxed, List, NoMemory};
@@ -44,14 +47,14 @@ pub fn label_is(at: u32, earlier: &[i16], number: i16) -> Result<i16, Trouble>
     }
 }
 
-/// An identifier as a label, whether it can be called, and the declaration that it denotes.
-pub fn label_named(at: u32, is_known: bool, found: Option<Found>) -> Result<i16, Trouble>
-    ensures { Gives (λ n. means.Labels (n ∷ [])) result (told (spec.label_named at is_known found)) }
+/// An identifier as a label after others. It has the wrong type where it names anything but a number of a LET.
+pub fn label_named(at: u32, earlier: &[i16], scope: &Scope, name: &[u8]) -> Result<i16, Trouble>
+    ensures { Gives (λ n. means.Labels (n ∷ [])) result (told (spec.label_named at earlier.now (scopes.is_known scope.now Procedure name.now 0) (scopes.find scope.now name.now))) }
 {
-    match found {
-        Some(_) => Err(Trouble::Breaks(at, Why::WrongType)),
+    match scope.number_named(name) {
+        Some(number) => label_is(at, earlier, number),
         None => {
-            if is_known {
+            if scope.find(name).is_some() || scope.is_known(Sort::Procedure, name, 0) {
                 Err(Trouble::Breaks(at, Why::WrongType))
             } else {
                 Err(Trouble::Breaks(at, Why::Unknown))

@@ -29,7 +29,7 @@ use Rattle.elan_scope.specs.Scope.{number_of, all_held, held}
 use Rattle.elan_scope.specs.declared.scope.Scope.{Scope}
 use Rattle.elan_scope.specs.declared.scope.Within.{Within}
 use Rattle.elan_scope.specs.declared.scope.Home.{Home}
-use Rattle.elan_scope.specs.declared.scope.Found.{Found}
+use Rattle.elan_scope.specs.Scope.{Found}
 use Rattle.elan_levels.specs.Bodies as b
 use Rattle.elan_levels.specs.Bodies.{parameters, result, parameter_names, own_names, body_names, refinement_headings, bodies_in, unit_headings}
 use Rattle.elan_scope.specs.Phrase as form
@@ -202,6 +202,7 @@ module _ (kn : Known) (s : Scope) (all : List Body) where
   declared_as_quiet at home n (denotes.Parameter p) = refl
   declared_as_quiet at home n denotes.Procedure = refl
   declared_as_quiet at home n denotes.Refinement = refl
+  declared_as_quiet at home n (denotes.Denoter q) = refl
 
   declared_quiet : (at : ℕ) (o : Option Found) (m : Meant) → verdict.told (calls.declared at o) ≡ gives m → u.bodies_in m ≡ []
   declared_quiet at None m e = absurd cc

@@ -6,7 +6,7 @@ use Rattle.elan_types.specs.declared.why.Why.TheVariants.{WrongPlace}
 use Rattle.elan_scope.specs.declared.delivery.Delivery.{Delivery}
 use Rattle.elan_scope.specs.declared.known.Known.{Known}
 use Rattle.elan_scope.specs.declared.scope.Scope.{Scope}
-use Rattle.elan_scope.specs.declared.scope.Found.{Found}
+use Rattle.elan_scope.specs.Scope.{Found}
 use Rattle.elan_scope.specs.declared.scope.Home.{Home}
 use Rattle.elan_scope.specs.declared.scope.Denotes.{Denotes}
 use Rattle.elan_scope.specs.declared.scope.Denotes.TheVariants as denotes
@@ -81,6 +81,7 @@ module _ (j k : Known) (z : Scope) (calls : j.calls ≡ k.calls) where
   denoted_alike at s x home i (denotes.Constant t) h = refl
   denoted_alike at s x home i (denotes.Parameter p) h = refl
   denoted_alike at s x home i denotes.Procedure h = refl
+  denoted_alike at s x home i (denotes.Denoter q) h = refl
   denoted_alike at s x home i denotes.Refinement h = refined_alike at s (refinement_named s x) h
 
   named_alike : (at : ℕ) (s : Scope) (x : List ℕ) (o : Option Found) → ((n : ℕ) → refinement_named s x ≡ Some n → Same n)
@@ -95,6 +96,7 @@ module _ (j k : Known) (z : Scope) (calls : j.calls ≡ k.calls) where
   counted_alike at s x home i (denotes.Parameter p) = refl
   counted_alike at s x home i denotes.Procedure = refl
   counted_alike at s x home i denotes.Refinement = refl
+  counted_alike at s x home i (denotes.Denoter q) = refl
 
   counter_alike : (at : ℕ) (s : Scope) (x : List ℕ) (o : Option Found) → r.named j Counter at s x o ≡ r.named k Counter at s x o
   counter_alike at s x None = refl

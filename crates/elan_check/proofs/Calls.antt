@@ -2,6 +2,9 @@
 use Rattle.std.proofs.Common.{◌≡◌, ℤ, ℕ, List, [], ◌∷◌, ◌++◌, map, Option, Some, None, refl, sym, ap, ◌∙◌, append_assoc}
 use Rattle.std.specs.Prelude.{flat_map}
 use Rattle.elan_tree.specs.declared.written_type.Name.{Name}
+use Rattle.elan_tree.specs.declared.written_type.Constant.TheVariants as constants
+use Rattle.elan_tree.specs.declared.written_type.LetItem.{LetItem}
+use Rattle.elan_tree.specs.declared.written_type.LetItem.TheVariants as let_items
 use Rattle.elan_tree.specs.declared.written_type.Label.{Label}
 use Rattle.elan_tree.specs.declared.written_type.Label.TheVariants as label
 use Rattle.elan_tree.specs.declared.phrase.Expr.{Expr}
@@ -202,7 +205,7 @@ module _ (s : Scope) where
   labels_call : (ns : List ℤ) (ls : List Label) → calls (all_of (shape.label_phrases s ns ls)) ≡ []
   labels_call ns [] = refl
   labels_call ns (label.Number at n ∷ ls) = labels_call (ns ++ n ∷ []) ls
-  labels_call ns (label.Named n ∷ ls) = labels_call (ns ++ []) ls
+  labels_call ns (label.Named n ∷ ls) = labels_call (ns ++ shape.number s (label.Named n)) ls
 
   arms_call : (ns : List ℤ) (cs : List ((c : Case) × C c))
       → calls (all_of (shape.arms s ns (map (shape.case s) (map fst cs)))) ≡ found (nodes.all (map nodes.in_case (map fst cs)))
@@ -210,11 +213,24 @@ module _ (s : Scope) where
   arms_call ns (c ∷ cs) =
       let ls = (shape.case s c.0).0 in
       let labels = walk.labels_phrase s ns ls in
-      let rest = all_of (shape.arms s (ns ++ walk.numbers ls) (map (shape.case s) (map fst cs))) in
+      let rest = all_of (shape.arms s (ns ++ walk.numbers s ls) (map (shape.case s) (map fst cs))) in
       let none_called : called_in labels ≡ [] = whole 0 form.labels (all_of (shape.label_phrases s ns ls)) refl ∙ labels_call ns ls in
       guarded_calls labels (shape.case s c.0).1 rest
       ∙ split (called_in labels ++ called_in (shape.case s c.0).1) (calls rest) (nodes.in_case c.0) _
-      (both (called_in labels) [] (called_in (shape.case s c.0).1) (found (nodes.in_case c.0)) none_called c.1) (arms_call (ns ++ walk.numbers ls) cs)
+      (both (called_in labels) [] (called_in (shape.case s c.0).1) (found (nodes.in_case c.0)) none_called c.1) (arms_call (ns ++ walk.numbers s ls) cs)
+
+  let_calls : (i : LetItem) → called_in (shape.let_item s i) ≡ found (nodes.let_item i ∷ [])
+  let_calls (let_items.Constant n (constants.Number a z)) = refl
+  let_calls (let_items.Constant n (constants.Text a x)) = refl
+  let_calls (let_items.Constant n (constants.Truth a b)) = refl
+  let_calls (let_items.Abbreviation n of) = refl
+
+  lets_call : (is : List LetItem) → calls (all_of (map (shape.let_item s) is)) ≡ found (map nodes.let_item is)
+  lets_call [] = refl
+  lets_call (i ∷ is) =
+      let rest = all_of (map (shape.let_item s) is) in
+      first_part (shape.let_item s i) rest
+      ∙ split (called_in (shape.let_item s i)) (calls rest) (nodes.let_item i ∷ []) (map nodes.let_item is) (let_calls i) (lets_call is)
 
   -- a part behind others
   behind_calls : (ps : List Phrase) (p : Phrase) (ms ns : List Node) → calls (all_of ps) ≡ found ms → called_in p ≡ found ns
@@ -328,7 +344,7 @@ module _ (s : Scope) where
       (map-Unit _ _ _ _ _ _ _ _ _ _ _ _ _ _ nodes.in_expr nodes.in_limit nodes.in_unit nodes.in_branch nodes.in_case nodes.in_counter nodes.in_item
       (map-Unit _ _ _ _ _ _ _ _ _ _ _ _ _ _ fst fst fst fst fst fst fst y)))
   unit_calls t.Empty = refl
-  unit_calls (t.Let at items) = refl
+  unit_calls (t.Let at items) = whole at form.definition (all_of (map (shape.let_item s) items)) refl ∙ lets_call items
   unit_calls (t.Variables at of items) = whole at form.declaration (all_of (map (shape.item s) (map fst items))) refl ∙ items_call held.Variable of items
   unit_calls (t.Constants at of items) = whole at form.declaration (all_of (map (shape.item s) (map fst items))) refl ∙ items_call held.Constant of items
   unit_calls (t.Bound at of items) = refl

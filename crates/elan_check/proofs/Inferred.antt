@@ -16,7 +16,7 @@ use Rattle.elan_scope.specs.declared.scope.Usage.TheVariants as usage
 use Rattle.elan_scope.specs.Scope.{find, left, refinement_named}
 use Rattle.elan_scope.specs.declared.scope.Scope.{Scope}
 use Rattle.elan_scope.specs.declared.scope.Home.{Home}
-use Rattle.elan_scope.specs.declared.scope.Found.{Found}
+use Rattle.elan_scope.specs.Scope.{Found}
 use Rattle.elan_scope.specs.Phrase as form
 use Rattle.elan_scope.specs.Phrase.{Form, plain, Phrase, phrase, Parts, none, part, all_of, around}
 use Rattle.elan_scope.specs.Ruled.{gives, breaks, before}
@@ -145,6 +145,7 @@ module _ (j k : Known) (below : Below j k) where
   denoted_same u at s x home i (denotes.Constant t) m n h g = gives_is m n (sym h ∙ g)
   denoted_same u at s x home i (denotes.Parameter p) m n h g = gives_is m n (sym h ∙ g)
   denoted_same u at s x home i denotes.Procedure m n h g = gives_is m n (sym h ∙ g)
+  denoted_same u at s x home i (denotes.Denoter q) m n h g = gives_is m n (sym h ∙ g)
   denoted_same u at s x home i denotes.Refinement m n h g = used_same u at s (refinement_named s x) m n h g
 
   named_same : (u : Usage) (at : ℕ) (s : Scope) (x : List ℕ) (o : Option Found) (m n : Meant) → r.named j u at s x o ≡ gives m → r.named k u at s x o ≡ gives n

@@ -6,7 +6,7 @@ use Rattle.elan_scope.specs.declared.delivery.Delivery.{Delivery}
 use Rattle.elan_scope.specs.declared.delivery.Delivery.TheVariants.{Open, Nothing, Of}
 use Rattle.elan_scope.specs.declared.known.Known.{Known}
 use Rattle.elan_scope.specs.declared.scope.Scope.{Scope}
-use Rattle.elan_scope.specs.declared.scope.Found.{Found}
+use Rattle.elan_scope.specs.Scope.{Found}
 use Rattle.elan_scope.specs.declared.scope.Denotes.{Denotes}
 use Rattle.elan_scope.specs.declared.scope.Denotes.TheVariants as denotes
 use Rattle.elan_scope.specs.declared.scope.Usage.TheVariants.{Expression, Counter}
@@ -69,6 +69,7 @@ module _ (k : Known) (n : ℕ) (untold : delivery_at k n ≡ Open) where
   denoted_open at s x home i (denotes.Constant t) o m g r h = absurd cc
   denoted_open at s x home i (denotes.Parameter p) o m g r h = absurd cc
   denoted_open at s x home i denotes.Procedure o m g r h = absurd cc
+  denoted_open at s x home i (denotes.Denoter q) o m g r h = absurd cc
   denoted_open at s x home i denotes.Refinement o m g r h = refined_open at s (scope.refinement_named s x) m r h
 
   named_open : (at : ℕ) (s : Scope) (x : List ℕ) (o : Option Found) (m : Meant) → scope.refinement_in s x o ≡ Some n → scope.refinement_named s x ≡ Some n

@@ -1,6 +1,9 @@
 -- All names in the units of a body are looked up in the scope of the body.
 use Rattle.std.proofs.Common.{◌≡◌, ℤ, ℕ, List, [], ◌∷◌, ◌++◌, map, Option, Some, None, refl}
 use Rattle.elan_tree.specs.declared.written_type.Name.{Name}
+use Rattle.elan_tree.specs.declared.written_type.Constant.TheVariants as constants
+use Rattle.elan_tree.specs.declared.written_type.LetItem.{LetItem}
+use Rattle.elan_tree.specs.declared.written_type.LetItem.TheVariants as let_items
 use Rattle.elan_tree.specs.declared.written_type.Label.{Label}
 use Rattle.elan_tree.specs.declared.written_type.Label.TheVariants as label
 use Rattle.elan_tree.specs.declared.phrase.Expr.{Expr}
@@ -134,13 +137,23 @@ module _ (s : Scope) where
   labels_in : (ns : List ℤ) (ls : List Label) → AllIn (all_of (shape.label_phrases s ns ls))
   labels_in ns [] = tt
   labels_in ns (label.Number at n ∷ ls) = ((tt, tt), labels_in (ns ++ n ∷ []) ls)
-  labels_in ns (label.Named n ∷ ls) = ((tt, tt), labels_in (ns ++ []) ls)
+  labels_in ns (label.Named n ∷ ls) = ((tt, tt), labels_in (ns ++ shape.number s (label.Named n)) ls)
 
   arms_in : (ns : List ℤ) (cs : List ((c : Case) × C c)) → AllIn (all_of (shape.arms s ns (map (shape.case s) (map fst cs))))
   arms_in ns [] = tt
   arms_in ns (c ∷ cs) =
       let ls = (shape.case s c.0).0 in
-      ((tt, labels_in ns ls), (c.1, arms_in (ns ++ walk.numbers ls) cs))
+      ((tt, labels_in ns ls), (c.1, arms_in (ns ++ walk.numbers s ls) cs))
+
+  let_in : (i : LetItem) → InScope (shape.let_item s i)
+  let_in (let_items.Constant n (constants.Number a z)) = (tt, ((refl, tt), ((tt, tt), tt)))
+  let_in (let_items.Constant n (constants.Text a x)) = (tt, ((refl, tt), ((tt, tt), tt)))
+  let_in (let_items.Constant n (constants.Truth a b)) = (tt, ((refl, tt), ((tt, tt), tt)))
+  let_in (let_items.Abbreviation n of) = (tt, tt)
+
+  lets_in : (is : List LetItem) → AllIn (all_of (map (shape.let_item s) is))
+  lets_in [] = tt
+  lets_in (i ∷ is) = (let_in i, lets_in is)
 
   -- ---- one layer
 
@@ -208,7 +221,7 @@ module _ (s : Scope) where
       (map-Unit _ _ _ _ _ _ _ _ _ _ _ _ _ _ (shape.expr s) (shape.limit s) (shape.unit s) (shape.branch s) (shape.case s) (shape.counter s) (shape.item s)
       (map-Unit _ _ _ _ _ _ _ _ _ _ _ _ _ _ fst fst fst fst fst fst fst y)))
   unit_in_layer t.Empty = tt
-  unit_in_layer (t.Let at items) = (tt, tt)
+  unit_in_layer (t.Let at items) = (tt, lets_in items)
   unit_in_layer (t.Variables at of items) = (tt, items_in items)
   unit_in_layer (t.Constants at of items) = (tt, items_in items)
   unit_in_layer (t.Bound at of items) = (tt, tt)

@@ -175,16 +175,16 @@ module _ (k : Known) (s : Scope) where
 
   pub cases_go : (row next : Result (List Meant) Trouble) (cs : List Case) (i : ℕ) (c : Case) (earlier later : List ℤ) (whole : List Phrase) → i < length cs
       → c ≡ get_or cs i c →
-      later ≡ earlier ++ numbers c.labels →
+      later ≡ earlier ++ numbers s c.labels →
       ((done : List Phrase) → Is row (judged_all k (all_of done)) → Is next (judged_all k (all_of (done ++ arms s earlier (case s c ∷ []))))) →
       Grown k row (left_cases earlier (drop i cs)) whole → Grown k next (left_cases later (drop (i + 1) cs)) whole
   cases_go row next cs i c earlier later whole lt e n h g =
-      let here : Grown k row (arms s earlier (case s c ∷ []) ++ left_cases (earlier ++ numbers (case s c).0) (drop (suc i) cs)) whole =
+      let here : Grown k row (arms s earlier (case s c ∷ []) ++ left_cases (earlier ++ numbers s (case s c).0) (drop (suc i) cs)) whole =
       left_at (left_cases earlier) k row cs i c whole lt e g in
       let index : suc i ≡ i + 1 = omega arith in
-      let behind : earlier ++ numbers (case s c).0 ≡ later = ap (λ (ls : List Label). earlier ++ numbers ls) (case_labels s c) ∙ sym n in
-      let next_one : Grown k next (left_cases (earlier ++ numbers (case s c).0) (drop (suc i) cs)) whole =
-      grows_all k row next (arms s earlier (case s c ∷ [])) (left_cases (earlier ++ numbers (case s c).0) (drop (suc i) cs)) whole here (h here.done here.means)
+      let behind : earlier ++ numbers s (case s c).0 ≡ later = ap (λ (ls : List Label). earlier ++ numbers s ls) (case_labels s c) ∙ sym n in
+      let next_one : Grown k next (left_cases (earlier ++ numbers s (case s c).0) (drop (suc i) cs)) whole =
+      grows_all k row next (arms s earlier (case s c ∷ [])) (left_cases (earlier ++ numbers s (case s c).0) (drop (suc i) cs)) whole here (h here.done here.means)
       in
       subst (λ (j : ℕ). Grown k next (left_cases later (drop j cs)) whole) index
       (subst (λ (ns : List ℤ). Grown k next (left_cases ns (drop (suc i) cs)) whole) behind next_one)

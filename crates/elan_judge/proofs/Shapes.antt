@@ -9,6 +9,7 @@ use Rattle.elan_tree.specs.declared.phrase.Counter.{Counter, roll-Counter, rolls
 use Rattle.elan_tree.specs.declared.phrase.Item.{Item, roll-Item, rolls-Item'}
 use Rattle.elan_tree.specs.declared.phrase.Limit.{Limit}
 use Rattle.elan_tree.specs.declared.written_type.Name.{Name}
+use Rattle.elan_tree.specs.declared.written_type.LetItem.{LetItem}
 use Rattle.elan_tree.specs.declared.written_type.Label.{Label}
 use Rattle.elan_tree.specs.declared.written_type.TypePhrase.{TypePhrase}
 use Rattle.elan_tree.specs.declared.phrase.Unit.{Unit as Statement, roll-Unit}
@@ -186,6 +187,13 @@ module _ (s : Scope) where
         subst (λ (o : Option Phrase). Is q (judged known (shape.written o)))
         (ap (λ (l : List Item). Some (phrase at (plain form.declaration) (all_of (map (shape.item s) l)))) e
         ∙ sym (ap (shape.unit s) (i ∙ sym (statement.rolls-Variables at of xs)) ∙ rw fold-roll-Unit refl)) h
+
+    pub let_is : (w : Statement) (at : ℕ) (xs xs' : List LetItem) → w ≡ statement.Let at xs → xs' ≡ xs
+        → Is q (judged known (phrase at (plain form.definition) (all_of (map (shape.let_item s) xs')))) → Is q (judged known (shape.written (shape.unit s w)))
+    let_is w at xs xs' i e h =
+        subst (λ (o : Option Phrase). Is q (judged known (shape.written o)))
+        (ap (λ (l : List LetItem). Some (phrase at (plain form.definition) (all_of (map (shape.let_item s) l)))) e
+        ∙ sym (ap (shape.unit s) (i ∙ sym (statement.rolls-Let at xs)) ∙ rw fold-roll-Unit refl)) h
 
     pub constants_is : (w : Statement) (at : ℕ) (of : TypePhrase) (xs xs' : List Item) → w ≡ statement.Constants at of xs → xs' ≡ xs
         → Is q (judged known (phrase at (plain form.declaration) (all_of (map (shape.item s) xs')))) → Is q (judged known (shape.written (shape.unit s w)))

@@ -1,5 +1,5 @@
 -- What a phrase means has the types that it asks for.
-use Rattle.std.proofs.Common.{◌≡◌, ℕ, Bool, List, [], ◌∷◌, drop, length, Option, Some, None, sym, subst}
+use Rattle.std.proofs.Common.{◌≡◌, ℕ, Bool, List, [], ◌∷◌, drop, length, Option, Some, None, refl, sym, subst}
 use Rattle.elan_meant.specs.declared.meant.Meant.{Meant}
 use Rattle.elan_scope.specs.Ruled.{Ruled, gives}
 use Rattle.elan_meant.specs.Verdict.{Verdict}
@@ -65,12 +65,13 @@ module _ (here : Stand) (s : Scope) (k : Known) (fits : Fits here s k) where
   plain_rules at form.cor ms i g = cor_good here at (p.nth ms 0) (p.nth ms 1) (good_part ms 0 g) (good_part ms 1 g)
   plain_rules at form.choice ms i g = choice_good here at ms g
   plain_rules at (form.label earlier n) ms i g = on_if Good (walk.is_in earlier n) _ _ (λ e. tt) (λ e. tt)
-  plain_rules at (form.label_name z x) ms i g = label_named_good here at (scope.is_known z Procedure x 0) (scope.find z x)
+  plain_rules at (form.label_name earlier z x) ms i g = label_named_good here at earlier (scope.is_known z Procedure x 0) (scope.find z x)
   plain_rules at form.labels ms i g = tt
   plain_rules at form.selection ms i g = selected_good here at (p.nth ms 0) (drop 1 ms) (good_part ms 0 g) (ty.rest_good here ms g)
   plain_rules at (form.declares z x) ms i g = in_scope (λ y. r.declared at (scope.find_own y x)) z i (declared_good here s k fits at x)
   plain_rules at form.initial ms i g = initial_good here at (p.nth ms 0) (p.nth ms 1) (good_part ms 0 g) (good_part ms 1 g)
   plain_rules at form.declaration ms i g = ty.unit_typed here (p.actions_of ms) (ty.actions_of_typed here ms g)
+  plain_rules at form.definition ms i g = refl
   plain_rules at form.statement ms i g = alone_good here (p.nth ms 0) (good_part ms 0 g)
   plain_rules at (form.assignment z) ms i g =
       in_scope (λ y. all.assignment at y (p.nth ms 0) (p.nth ms 1)) z i (assignment_good at (p.nth ms 0) (p.nth ms 1) (good_part ms 0 g) (good_part ms 1 g))

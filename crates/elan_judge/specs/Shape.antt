@@ -1,9 +1,13 @@
 -- The phrases of expressions and units.
-use Rattle.std.specs.Prelude.{ℕ, ℤ, Bool, List, [], ◌∷◌, ◌++◌, flat_map, Option, Some, None, is_none, option_to_list}
+use Rattle.std.specs.Prelude.{ℕ, ℤ, Bool, List, [], ◌∷◌, ◌++◌, map, flat_map, Option, Some, None, is_none, option_to_list}
 use Rattle.std.specs.List.{list_all}
 use Rattle.std.specs.Option.{option_map, option_map_or, unwrap_or}
 use Rattle.eu_base.specs.declared.operation.Way.{Way}
 use Rattle.eu_base.specs.declared.operation.Way.TheVariants.{Up, Down}
+use Rattle.elan_tree.specs.declared.written_type.Constant.{Constant}
+use Rattle.elan_tree.specs.declared.written_type.Constant.TheVariants as constants
+use Rattle.elan_tree.specs.declared.written_type.LetItem.{LetItem}
+use Rattle.elan_tree.specs.declared.written_type.LetItem.TheVariants as let_items
 use Rattle.elan_tree.specs.declared.written_type.Label.{Label}
 use Rattle.elan_tree.specs.declared.written_type.Label.TheVariants as label
 use Rattle.elan_tree.specs.declared.phrase.Expr.{Expr}
@@ -20,6 +24,7 @@ use Rattle.elan_scope.specs.declared.delivery.Delivery.{Delivery}
 use Rattle.elan_scope.specs.declared.delivery.Delivery.TheVariants.{Open, Nothing, Of}
 use Rattle.elan_scope.specs.declared.heading.Sort.TheVariants.{Procedure, Operator}
 use Rattle.elan_scope.specs.declared.scope.Scope.{Scope}
+use Rattle.elan_scope.specs.Scope.{find, number_named}
 use Rattle.elan_unbuilt.specs.Operators.{operator_text}
 use Rattle.elan_scope.specs.declared.scope.Usage.TheVariants.{Expression, Counter as Counts}
 use Rattle.elan_scope.specs.Phrase as form
@@ -70,19 +75,19 @@ loop at (Some k) c us u = row at (form.count k.3) (k.0 ∷ k.1 ∷ k.2 ∷ c ∷
 
 -- ---- labels
 
--- the number of a label, if it has one
-abbrev pub number : Label → List ℤ
-number (label.Number at n) = n ∷ []
-number (label.Named n) = []
-
 -- a piece of a tree, what is in it being phrases: a limit with its way, a condition and labels with their units
 abbrev pub Layer : (Type 0 → Type 0 → Type 0 → Type 0 → Type 0 → Type 0 → Type 0 → Type 0) → Type 0
 Layer F = F Phrase (Way × Phrase) (Option Phrase) (Phrase × Phrase) (List Label × Phrase) Counted Phrase
 
 module _ (s : Scope) where
+  -- the number of a label, if it has one
+  abbrev pub number : Label → List ℤ
+  number (label.Number at n) = n ∷ []
+  number (label.Named n) = option_to_list (number_named (find s n.text))
+
   abbrev pub label_phrase : List ℤ → Label → Phrase
   label_phrase earlier (label.Number at n) = leaf at (form.label earlier n)
-  label_phrase earlier (label.Named n) = leaf n.at (form.label_name s n.text)
+  label_phrase earlier (label.Named n) = leaf n.at (form.label_name earlier s n.text)
 
   abbrev pub label_phrases : List ℤ → List Label → List Phrase
   label_phrases earlier [] = []
@@ -92,6 +97,17 @@ module _ (s : Scope) where
   abbrev pub arms : List ℤ → List (List Label × Phrase) → List Phrase
   arms earlier [] = []
   arms earlier (c ∷ cs) = row 0 form.labels (label_phrases earlier c.0) ∷ c.1 ∷ arms (earlier ++ flat_map number c.0) cs
+
+  -- ---- what LET gives names to; a type under a name is not built
+
+  abbrev pub constant : Constant → Phrase
+  constant (constants.Number at n) = leaf at (form.number n)
+  constant (constants.Text at x) = leaf at (form.text x)
+  constant (constants.Truth at b) = leaf at (form.truth b)
+
+  abbrev pub let_item : LetItem → Phrase
+  let_item (let_items.Constant n c) = pair n.at form.definition (leaf n.at (form.declares s n.text)) (constant c)
+  let_item (let_items.Abbreviation n of) = leaf n.at form.not_built
 
   -- ---- the tree; an empty unit has no phrase
 
@@ -126,7 +142,7 @@ module _ (s : Scope) where
   unit_step (t.Value a) = Some (around (place a) form.statement a)
   unit_step (t.Becomes at a b) = Some (pair at (form.assignment s) a b)
   unit_step (t.Loop at k condition us until) = Some (loop at k (written condition) (units Nothing us) (written until))
-  unit_step (t.Let at items) = Some (leaf at form.not_built)
+  unit_step (t.Let at items) = Some (row at form.definition (map let_item items))
   unit_step (t.Bound at of items) = Some (leaf at form.not_built)
   unit_step (t.Leave at n value) = Some (phrase at (form.leave s n.text) (part (written value) none))
 

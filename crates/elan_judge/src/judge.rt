@@ -10,6 +10,7 @@ ghost use Rattle.elan_meant.specs.walks.Arity.{triple};
 ghost use Rattle.elan_judge.specs.Shape as shape;
 ghost use Rattle.elan_judge.specs.walks.Steps as walk;
 
+use crate::define::judge_let;
 use crate::label::{add_numbers, judge_labels};
 use crate::place::unit_place;
 use crate::role::asked;
@@ -235,7 +236,7 @@ fn judge_cases(alloc: Global, known: &Known, scope: &Scope, cases: &[Case]) -> R
     let mut earlier = List::new(alloc);
     for case in cases {
         row = add_case(alloc, known, scope, row, earlier.as_slice(), case);
-        let Ok(()) = add_numbers(&mut earlier, case.labels.as_slice()) else {
+        let Ok(()) = add_numbers(&mut earlier, scope, case.labels.as_slice()) else {
             let_go(row);
             return Err(Trouble::NoMemory);
         };
@@ -340,7 +341,7 @@ fn judge_unit(alloc: Global, known: &Known, scope: &Scope, unit: &Unit) -> Judge
                 }
             }
         }
-        Unit::Let(at, _) => Err(Trouble::Breaks(*at, Why::Unknown)),
+        Unit::Let(_, items) => judge_let(alloc, known, scope, items.as_slice()),
         Unit::Bound(at, _, _) => Err(Trouble::Breaks(*at, Why::Unknown)),
         Unit::Leave { at, name, value } => {
             let value = judge_optional(alloc, known, scope, value)?;

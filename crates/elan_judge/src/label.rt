@@ -12,7 +12,6 @@ ghost use Rattle.elan_judge.specs.walks.Steps as walk;
 use choice_rules::selection::{label_is, label_named};
 use elan_meant::meant::Meant;
 use elan_meant::row::Judged;
-use elan_scope::heading::Sort;
 use elan_scope::known::Known;
 use elan_scope::scope::Scope;
 use elan_scope::trouble::Trouble;
@@ -20,21 +19,24 @@ use elan_tree::Label;
 use eu_base::{List, NoMemory};
 use std::alloc::Global;
 
-fn add_number(out: &mut List<i16>, label: &Label) -> Result<(), NoMemory>
-    ensures { OnOk result (out.new ≡ out.old ++ shape.number label.now) }
+fn add_number(out: &mut List<i16>, scope: &Scope, label: &Label) -> Result<(), NoMemory>
+    ensures { OnOk result (out.new ≡ out.old ++ shape.number scope.now label.now) }
 {
     match label {
         Label::Number(_, number) => out.push(*number),
-        Label::Named(_) => Ok(()),
+        Label::Named(name) => match scope.number_named(name.text.as_slice()) {
+            None => Ok(()),
+            Some(number) => out.push(number),
+        },
     }
 }
 
 /// Adds the numbers of labels.
-pub fn add_numbers(out: &mut List<i16>, labels: &[Label]) -> Result<(), NoMemory>
-    ensures { OnOk result (out.new ≡ out.old ++ walk.numbers labels.now) }
+pub fn add_numbers(out: &mut List<i16>, scope: &Scope, labels: &[Label]) -> Result<(), NoMemory>
+    ensures { OnOk result (out.new ≡ out.old ++ walk.numbers scope.now labels.now) }
 {
     for label in labels {
-        add_number(out, label)?;
+        add_number(out, scope, label)?;
     }
     Ok(())
 }
@@ -46,8 +48,7 @@ fn judge_label(known: &Known, scope: &Scope, earlier: &[i16], label: &Label) -> 
         Label::Number(at, number) => label_is(*at, earlier, *number),
         Label::Named(name) => {
             let text = name.text.as_slice();
-            let is_known = scope.is_known(Sort::Procedure, text, 0);
-            label_named(name.at, is_known, scope.find(text))
+            label_named(name.at, earlier, scope, text)
         }
     }
 }
@@ -68,7 +69,7 @@ pub fn judge_labels(
     for label in labels {
         let number = judge_label(known, scope, before.as_slice(), label)?;
         numbers.push(number)?;
-        add_number(&mut before, label)?;
+        add_number(&mut before, scope, label)?;
     }
     Ok(Meant::Labels(numbers))
 }

@@ -4,6 +4,9 @@ use Rattle.std.specs.List.{list_any}
 use Rattle.std.specs.Prelude.{flat_map}
 use Rattle.std.specs.Option.{is_some}
 use Rattle.elan_tree.specs.declared.written_type.Name.{Name}
+use Rattle.elan_tree.specs.declared.written_type.Constant.TheVariants as constants
+use Rattle.elan_tree.specs.declared.written_type.LetItem.{LetItem}
+use Rattle.elan_tree.specs.declared.written_type.LetItem.TheVariants as let_items
 use Rattle.elan_tree.specs.declared.written_type.Label.{Label}
 use Rattle.elan_tree.specs.declared.written_type.Label.TheVariants as label
 use Rattle.elan_tree.specs.declared.phrase.Expr.{Expr}
@@ -194,7 +197,7 @@ module _ (s : Scope) where
     labels_in : (ns : List ℤ) (ls : List Label) → AllServed (all_of (shape.label_phrases s ns ls))
     labels_in ns [] = tt
     labels_in ns (label.Number at n ∷ ls) = ((tt, tt), labels_in (ns ++ n ∷ []) ls)
-    labels_in ns (label.Named n ∷ ls) = ((tt, tt), labels_in (ns ++ []) ls)
+    labels_in ns (label.Named n ∷ ls) = ((tt, tt), labels_in (ns ++ shape.number s (label.Named n)) ls)
 
     arms_in : (ns : List ℤ) (cs : List ((c : Case) × C c)) → Fine (nodes.all (map nodes.in_case (map fst cs)))
         → AllServed (all_of (shape.arms s ns (map (shape.case s) (map fst cs))))
@@ -202,7 +205,17 @@ module _ (s : Scope) where
     arms_in ns (c ∷ cs) h =
         let q = split (nodes.in_case c.0) (nodes.all (map nodes.in_case (map fst cs))) h in
         let ls = (shape.case s c.0).0 in
-        ((tt, labels_in ns ls), (c.1 q.0, arms_in (ns ++ walk.numbers ls) cs q.1))
+        ((tt, labels_in ns ls), (c.1 q.0, arms_in (ns ++ walk.numbers s ls) cs q.1))
+
+    let_in : (i : LetItem) (ns : List Node) → Fine (nodes.let_item i ∷ ns) → AreServed (shape.let_item s i)
+    let_in (let_items.Constant n (constants.Number a z)) ns h = (tt, ((h.1.0, tt), ((tt, tt), tt)))
+    let_in (let_items.Constant n (constants.Text a x)) ns h = (tt, ((h.1.0, tt), ((tt, tt), tt)))
+    let_in (let_items.Constant n (constants.Truth a b)) ns h = (tt, ((h.1.0, tt), ((tt, tt), tt)))
+    let_in (let_items.Abbreviation n of) ns h = (tt, tt)
+
+    lets_in : (is : List LetItem) → Fine (map nodes.let_item is) → AllServed (all_of (map (shape.let_item s) is))
+    lets_in [] h = tt
+    lets_in (i ∷ is) h = (let_in i (map nodes.let_item is) h, lets_in is (rest (nodes.let_item i) (map nodes.let_item is) h))
 
     branches_odd : (o : Phrase) (bs : List ((b : Branch) × B b)) → HasOdd (all_of (shape.branches (map (shape.branch s) (map fst bs)) ++ o ∷ []))
     branches_odd o [] = tt
@@ -210,7 +223,7 @@ module _ (s : Scope) where
 
     arms_odd : (o : Phrase) (ns : List ℤ) (cs : List ((c : Case) × C c)) → HasOdd (all_of (shape.arms s ns (map (shape.case s) (map fst cs)) ++ o ∷ []))
     arms_odd o ns [] = tt
-    arms_odd o ns (c ∷ cs) = arms_odd o (ns ++ walk.numbers (shape.case s c.0).0) cs
+    arms_odd o ns (c ∷ cs) = arms_odd o (ns ++ walk.numbers s (shape.case s c.0).0) cs
 
     -- ---- what may be left out
 
@@ -330,7 +343,7 @@ module _ (s : Scope) where
         (shape.expr s) (shape.limit s) (shape.unit s) (shape.branch s) (shape.case s) (shape.counter s) (shape.item s)
         (map-Unit _ _ _ _ _ _ _ _ _ _ _ _ _ _ fst fst fst fst fst fst fst y)))
     unit_in_layer t.Empty h = tt
-    unit_in_layer (t.Let at items) h = (tt, tt)
+    unit_in_layer (t.Let at items) h = (tt, lets_in items h)
     unit_in_layer (t.Variables at of items) h = (tt, declared_in Variable of items h)
     unit_in_layer (t.Constants at of items) h = (tt, declared_in Constant of items h)
     unit_in_layer (t.Bound at of items) h = (tt, tt)

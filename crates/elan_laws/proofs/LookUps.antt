@@ -26,7 +26,7 @@ use Rattle.elan_scope.specs.Scope.{held, first_from, find, find_in, found, found
 use Rattle.elan_scope.proofs.Layers.{layers_in, outer_layers}
 use Rattle.elan_scope.proofs.Named.{first_heading_from}
 use Rattle.elan_scope.specs.Scope.{first_heading, is_refinement, is_refined, number_in, number_of, refinement_in}
-use Rattle.elan_scope.specs.declared.scope.Found.{Found}
+use Rattle.elan_scope.specs.Scope.{Found}
 use Rattle.elan_scope.specs.declared.scope.Home.TheVariants.{Level as of_level, Routine as of_routine}
 use Rattle.elan_scope.specs.declared.heading.What.TheVariants as what
 use Rattle.elan_walk.specs.declared.node.Held.TheVariants.{Variable, Constant}
@@ -229,6 +229,7 @@ node_leads z (nodes.alone n) = tt
 node_leads z (nodes.other n) = tt
 node_leads z (nodes.sign o) = tt
 node_leads z (nodes.of_type of) = tt
+node_leads z (nodes.let_name n c) = (λ r. absurd cc, tt)
 node_leads z nodes.unbuilt = tt
 
 pub nodes_lead : (z : Scope) (ns : List Node) → AllLead z (flat_map d.declared ns)

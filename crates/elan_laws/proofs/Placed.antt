@@ -22,8 +22,10 @@ use Rattle.elan_scope.specs.declared.heading.Heading.{Heading}
 use Rattle.elan_scope.specs.declared.heading.Sort.{Sort}
 use Rattle.elan_scope.specs.declared.heading.Sort.TheVariants.{Procedure, Operator}
 use Rattle.elan_scope.specs.declared.scope.Scope.{Scope}
-use Rattle.elan_scope.specs.declared.scope.Found.{Found}
+use Rattle.elan_scope.specs.Scope.{Found}
 use Rattle.elan_scope.specs.declared.scope.Home.{Home}
+use Rattle.elan_scope.specs.declared.denoter.Denoter.{Denoter}
+use Rattle.elan_scope.specs.declared.denoter.Denoter.TheVariants as denoters
 use Rattle.elan_scope.specs.declared.scope.Denotes.{Denotes}
 use Rattle.elan_scope.specs.declared.scope.Denotes.TheVariants as denotes
 use Rattle.elan_scope.specs.declared.scope.Usage.{Usage}
@@ -33,7 +35,8 @@ use Rattle.elan_scope.specs.declared.callable.Callee.{Callee}
 use Rattle.elan_scope.specs.declared.callable.Callee.TheVariants.{Predefined, Body}
 use Rattle.elan_scope.specs.declared.predefined.Predefined.TheVariants.{Operation, Change, Request, ErrorStop}
 use Rattle.elan_scope.specs.Known.{leads_back, delivery_at}
-use Rattle.elan_scope.specs.Scope.{Callable, find, find_own, is_known, is_alike, left, first_heading, types_of, refinement_named}
+use Rattle.std.specs.Prelude.{◌||◌, is_some}
+use Rattle.elan_scope.specs.Scope.{Callable, number_named, find, find_own, is_known, is_alike, left, first_heading, types_of, refinement_named}
 use Rattle.elan_scope.specs.Phrase as form
 use Rattle.elan_scope.specs.Phrase.{Form, Plain, plain}
 use Rattle.elan_scope.specs.Ruled as ruled
@@ -127,6 +130,11 @@ module _ (ns : List ℕ) where
     text_placed : (x : List ℕ) → Tells Placed (v.text at x)
     text_placed x = on_if Placed (nat_le (length x) TEXT_BYTES) (gives (Value at type.Text (value.Text x))) (breaks (at, why.WrongType)) here here
 
+    denoter_placed : (d : Denoter) → Tells Placed (v.denoter at d)
+    denoter_placed (denoters.Number n) = number_placed n
+    denoter_placed (denoters.Truth b) = here
+    denoter_placed (denoters.Text x) = text_placed x
+
     bracketed_placed : (m : Meant) → Placed (v.bracketed at m)
     bracketed_placed (Variable q t x) = here
     bracketed_placed (Value q t x) = here
@@ -199,6 +207,7 @@ module _ (ns : List ℕ) where
         parameter_placed t Var = here
     denoted_placed k w s x home n denotes.Procedure = on_told Placed (r.applied at s Procedure x []) (applied_placed s Procedure x [] tt)
     denoted_placed k w s x home n denotes.Refinement = refined_as_placed k w s (refinement_named s x)
+    denoted_placed k w s x home n (denotes.Denoter d) = on_told Placed (v.denoter at d) (denoter_placed d)
 
     named_placed : (k : Known) (w : Usage) (s : Scope) (x : List ℕ) (q : Option Found) → MayTell Placed (r.named k w at s x q)
     named_placed k w s x None = on_told Placed (r.applied at s Procedure x []) (applied_placed s Procedure x [] tt)
@@ -269,8 +278,12 @@ module _ (ns : List ℕ) where
         (delivering_placed (choice_walk.select_actions (p.value_of m) gs n) (choice_walk.select_value (p.value_of m) gs n)
         (c.agreed (Some (c.delivery_in n)) gs)) here
 
-    label_named_placed : (known : Bool) (q : Option Found) → Tells Placed (c.label_named at known q)
-    label_named_placed known q = here
+    label_as_placed : (earlier : List ℤ) (w : Why) (q : Option ℤ) → Tells Placed (c.label_as at earlier w q)
+    label_as_placed earlier w None = here
+    label_as_placed earlier w (Some n) = on_if Placed (choice_walk.is_in earlier n) (breaks (at, why.Doubled)) (gives (Labels (n ∷ []))) here tt
+
+    label_named_placed : (earlier : List ℤ) (known : Bool) (q : Option Found) → Tells Placed (c.label_named at earlier known q)
+    label_named_placed earlier known q = label_as_placed earlier (if is_some q || known then why.WrongType else why.Unknown) (number_named q)
 
   -- ---- units
 
@@ -325,12 +338,13 @@ module _ (ns : List ℕ) where
       or_broken at h (value_walk.are_truths (p.nth ms 0) (p.nth ms 1)) (value_walk.decided at true (p.value_of (p.nth ms 0)) (p.value_of (p.nth ms 1))) why.WrongType h
   rule_placed at form.choice ms h g = chain_placed at h (p.pairs ms) (gives (choice_walk.otherwise (p.odd ms))) (odd_placed ms g)
   rule_placed at (form.label earlier n) ms h g = on_if Placed (choice_walk.is_in earlier n) (breaks (at, why.Doubled)) (gives (Labels (n ∷ []))) h tt
-  rule_placed at (form.label_name s x) ms h g = label_named_placed at h (is_known s Procedure x 0) (find s x)
+  rule_placed at (form.label_name earlier s x) ms h g = label_named_placed at h earlier (is_known s Procedure x 0) (find s x)
   rule_placed at form.labels ms h g = tt
   rule_placed at form.selection ms h g = selected_placed at h (p.nth ms 0) (drop 1 ms)
   rule_placed at (form.declares s x) ms h g = declared_placed at h (find_own s x)
   rule_placed at form.initial ms h g = initial_placed at h (p.nth ms 0) (p.nth ms 1) (nth_placed ms 0 g)
   rule_placed at form.declaration ms h g = tt
+  rule_placed at form.definition ms h g = tt
   rule_placed at form.statement ms h g = alone_placed (p.nth ms 0) (nth_placed ms 0 g)
   rule_placed at (form.assignment s) ms h g = assignment_placed at h s (p.nth ms 0) (p.nth ms 1) (nth_placed ms 0 g) (nth_placed ms 1 g)
   rule_placed at form.loop ms h g =

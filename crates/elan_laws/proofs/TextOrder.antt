@@ -2,6 +2,9 @@
 use Rattle.std.proofs.Common.{◌≡◌, ℤ, ℕ, List, [], ◌∷◌, ◌++◌, map, Option, Some, None, refl, sym, ap, subst, ◌∙◌, append_assoc}
 use Rattle.std.proofs.lemmas.List.{append-nil}
 use Rattle.elan_tree.specs.declared.written_type.Name.{Name}
+use Rattle.elan_tree.specs.declared.written_type.Constant.TheVariants as constants
+use Rattle.elan_tree.specs.declared.written_type.LetItem.{LetItem}
+use Rattle.elan_tree.specs.declared.written_type.LetItem.TheVariants as let_items
 use Rattle.elan_tree.specs.declared.written_type.Label.{Label}
 use Rattle.elan_tree.specs.declared.written_type.Label.TheVariants as label
 use Rattle.elan_tree.specs.declared.phrase.Expr.{Expr}
@@ -162,18 +165,28 @@ module _ (s : Scope) where
   labels_are : (ns : List ℤ) (ls : List Label) → places_of (shape.label_phrases s ns ls) ≡ at.all_labels ls
   labels_are ns [] = refl
   labels_are ns (label.Number a n ∷ ls) = ap (λ (l : List ℕ). a ∷ l) (labels_are (ns ++ n ∷ []) ls)
-  labels_are ns (label.Named n ∷ ls) = ap (λ (l : List ℕ). n.at ∷ l) (labels_are (ns ++ []) ls)
+  labels_are ns (label.Named n ∷ ls) = ap (λ (l : List ℕ). n.at ∷ l) (labels_are (ns ++ shape.number s (label.Named n)) ls)
 
   arms_follow : (ns : List ℤ) (cs : List ((c : Case) × C c))
       → IsSame (places_of (shape.arms s ns (map (shape.case s) (map fst cs)))) (at.all (map at.in_case (map fst cs)))
   arms_follow ns [] = nothing
   arms_follow ns (c ∷ cs) =
       let a = shape.case s c.0 in
-      let rest = places_of (shape.arms s (ns ++ walk.numbers a.0) (map (shape.case s) (map fst cs))) in
+      let rest = places_of (shape.arms s (ns ++ walk.numbers s a.0) (map (shape.case s) (map fst cs))) in
       let all = at.in_case c.0 ++ at.all (map at.in_case (map fst cs)) in
       subst (λ (l : List ℕ). IsSame (l ++ (in_phrase a.1 ++ rest)) all) (sym (labels_are ns a.0))
       (subst (λ (l : List ℕ). IsSame l all) (append_assoc (at.all_labels a.0) (in_phrase a.1) rest)
-      (both c.1 (arms_follow (ns ++ walk.numbers a.0) cs)))
+      (both c.1 (arms_follow (ns ++ walk.numbers s a.0) cs)))
+
+  let_follows : (i : LetItem) → IsSame (in_phrase (shape.let_item s i)) (at.let_item i)
+  let_follows (let_items.Constant n (constants.Number a z)) = twice n.at (equal (a ∷ []))
+  let_follows (let_items.Constant n (constants.Text a x)) = twice n.at (equal (a ∷ []))
+  let_follows (let_items.Constant n (constants.Truth a b)) = twice n.at (equal (a ∷ []))
+  let_follows (let_items.Abbreviation n of) = equal (n.at ∷ [])
+
+  lets_follow : (is : List LetItem) → IsSame (places_of (map (shape.let_item s) is)) (at.all (map at.let_item is))
+  lets_follow [] = nothing
+  lets_follow (i ∷ is) = both (let_follows i) (lets_follow is)
 
   -- ---- one layer
 
@@ -281,7 +294,7 @@ module _ (s : Scope) where
 
   unit_starts : (y : Below Unit-F) → UnitLayer y
   unit_starts t.Empty = refl
-  unit_starts (t.Let a items) = placed a nothing
+  unit_starts (t.Let a items) = placed a (lets_follow items)
   unit_starts (t.Variables a of items) = placed a (items_follow items)
   unit_starts (t.Constants a of items) = placed a (items_follow items)
   unit_starts (t.Bound a of items) = placed a nothing

@@ -2,6 +2,10 @@
 -- place alone.
 use Rattle.std.specs.Prelude.{ℕ, List, [], ◌∷◌, ◌++◌, map, Option, Some, None}
 use Rattle.elan_tree.specs.declared.written_type.Name.{Name}
+use Rattle.elan_tree.specs.declared.written_type.Constant.{Constant}
+use Rattle.elan_tree.specs.declared.written_type.Constant.TheVariants as constants
+use Rattle.elan_tree.specs.declared.written_type.LetItem.{LetItem}
+use Rattle.elan_tree.specs.declared.written_type.LetItem.TheVariants as let_items
 use Rattle.elan_tree.specs.declared.written_type.Label.{Label}
 use Rattle.elan_tree.specs.declared.written_type.Label.TheVariants as labels
 use Rattle.elan_tree.specs.declared.written_type.Formal.{Formal}
@@ -47,6 +51,16 @@ abbrev pub all_labels : List Label → List ℕ
 all_labels [] = []
 all_labels (l ∷ ls) = label l ∷ all_labels ls
 
+-- LET gives a name to a constant; a type under a name is not built
+abbrev pub constant : Constant → ℕ
+constant (constants.Number at n) = at
+constant (constants.Text at x) = at
+constant (constants.Truth at b) = at
+
+abbrev pub let_item : LetItem → List ℕ
+let_item (let_items.Constant n c) = n.at ∷ constant c ∷ []
+let_item (let_items.Abbreviation n of) = n.at ∷ []
+
 -- ---- expressions and units: each has a place, and behind it come those of its parts
 
 abbrev pub Layer : (Type 0 → Type 0 → Type 0 → Type 0 → Type 0 → Type 0 → Type 0 → Type 0) → Type 0
@@ -77,7 +91,7 @@ limit_step (t.Downto a) = a
 
 abbrev pub unit_step : Layer Unit-F → List ℕ
 unit_step t.Empty = []
-unit_step (t.Let at items) = at ∷ []
+unit_step (t.Let at items) = at ∷ all (map let_item items)
 unit_step (t.Variables at of items) = at ∷ all items
 unit_step (t.Constants at of items) = at ∷ all items
 unit_step (t.Bound at of items) = at ∷ []

@@ -10,7 +10,7 @@ use Rattle.elan_scope.specs.declared.scope.Usage.{Usage}
 use Rattle.elan_scope.specs.declared.scope.Usage.TheVariants as usage
 use Rattle.elan_scope.specs.declared.scope.Scope.{Scope}
 use Rattle.elan_scope.specs.declared.scope.Home.{Home}
-use Rattle.elan_scope.specs.declared.scope.Found.{Found}
+use Rattle.elan_scope.specs.Scope.{Found}
 use Rattle.elan_scope.specs.declared.known.Known.{Known}
 use Rattle.elan_scope.specs.Scope.{refinement_named}
 use Rattle.elan_scope.specs.Known.{delivery_at, leads_back}
@@ -18,6 +18,7 @@ use Rattle.elan_scope.specs.Ruled.{hangs}
 use Rattle.elan_meant.specs.Verdict.{breaks, told}
 use Rattle.elan_meant.proofs.Told.{told_never_hangs}
 use Rattle.value_rules.specs.Calls as c
+use Rattle.value_rules.specs.Values.{denoter}
 
 abbrev pub IsOpen : Known → Scope → List ℕ → Type 0
 IsOpen kn s x = (n : ℕ) × (refinement_named s x ≡ Some n) × (delivery_at kn n ≡ Open) × (leads_back kn n s.refinement ≡ false)
@@ -51,6 +52,7 @@ module _ (kn : Known) (at : ℕ) (s : Scope) (x : List ℕ) where
   denoted_open v home n (denotes.Parameter q) e = absurd cc
   denoted_open v home n denotes.Procedure e = absurd (told_never_hangs (c.applied at s Procedure x []) e)
   denoted_open v home n denotes.Refinement e = used_open v e
+  denoted_open v home n (denotes.Denoter q) e = absurd (told_never_hangs (denoter at q) e)
 
   pub named_open : (v : Usage) (o : Option Found) → c.named kn v at s x o ≡ hangs → OpenUse v
   named_open v None e = absurd (told_never_hangs (c.applied at s Procedure x []) e)

@@ -40,7 +40,7 @@ use Rattle.elan_scope.specs.Scope.{Callable, number_of, held, all_held, types_of
 use Rattle.elan_scope.specs.declared.scope.Scope.{Scope}
 use Rattle.elan_scope.specs.declared.scope.Within.{Within}
 use Rattle.elan_scope.specs.declared.scope.Home.{Home}
-use Rattle.elan_scope.specs.declared.scope.Found.{Found}
+use Rattle.elan_scope.specs.Scope.{Found}
 use Rattle.elan_scope.specs.declared.scope.Home.TheVariants.{Level as of_level, Routine as of_routine}
 use Rattle.elan_scope.specs.Known.{delivery_at, leads_back}
 use Rattle.elan_scope.specs.declared.known.Known.{Known}
@@ -51,6 +51,8 @@ use Rattle.elan_meant.specs.Operands.{delivers, takes, chosen}
 use Rattle.elan_rules.proofs.Typed as ty
 use Rattle.elan_rules.proofs.Typed.{same_is, same_self, has_self, agree_self, only_if_holds, both, and_true, Gives, MayGive, on_if, on_bind, on_told, on_either}
 use Rattle.value_rules.specs.Calls as r
+use Rattle.value_rules.specs.Values.{denoter}
+use Rattle.elan_rules.proofs.TypedUnits.{denoter_good}
 use Rattle.value_rules.specs.walks.Steps as walk
 use Rattle.elan_rules.proofs.TypeEquations.{Stand, typed, lies, refer_is, action_refer_is, leave_is, leave_with_is}
 use Rattle.elan_rules.proofs.TypedPerformed.{owner_with, Headed, Delivering, BodyFits, Fitting, MayCall, none_holds, has_holds, own_calls, predefined_calls}
@@ -327,6 +329,7 @@ module _ (here : Stand) where
     denoted_good u at x home n (denotes.Parameter q) h = parameter_good at q.of q.access (r.place_in home n q.access) (place_lies home n q.of q.access h)
     denoted_good u at x home n denotes.Procedure h = on_told Good (r.applied at s Procedure x []) (applied_good at Procedure x [] tt)
     denoted_good u at x home n denotes.Refinement h = used_good u at (scope.refinement_named s x) (in_refined x (scope.find s x))
+    denoted_good u at x home n (denotes.Denoter q) h = on_told Good (denoter at q) (denoter_good here at q)
 
     named_as_good : (u : Usage) (at : ℕ) (x : List ℕ) (o : Option Found) → FoundLies o → MayGive Good (r.named k u at s x o)
     named_as_good u at x None h = on_told Good (r.applied at s Procedure x []) (applied_good at Procedure x [] tt)
@@ -341,6 +344,7 @@ module _ (here : Stand) where
     declared_as_good at home n (denotes.Parameter q) h = refl
     declared_as_good at home n denotes.Procedure h = refl
     declared_as_good at home n denotes.Refinement h = refl
+    declared_as_good at home n (denotes.Denoter q) h = refl
 
     declared_in_good : (at : ℕ) (o : Option Found) → FoundLies o → Gives Good (r.declared at o)
     declared_in_good at None h = tt

@@ -1,5 +1,5 @@
 -- IF and SELECT have the types that they ask for.
-use Rattle.std.proofs.Common.{◌≡◌, ℕ, Bool, true, if◌then◌else◌, List, [], ◌∷◌, map, Option, Some, None, refl, subst, ◌∙◌}
+use Rattle.std.proofs.Common.{◌≡◌, ℕ, ℤ, Bool, true, if◌then◌else◌, List, [], ◌∷◌, map, Option, Some, None, refl, subst, ◌∙◌}
 use Rattle.elan_types.specs.declared.elan_type.ElanType.{ElanType}
 use Rattle.elan_types.specs.declared.elan_type.ElanType.TheVariants.{Int, Bool as Truths, Text as Letters}
 use Rattle.elan_types.specs.declared.core_phrase.ValuePhrase.{ValuePhrase}
@@ -10,7 +10,10 @@ use Rattle.elan_meant.specs.declared.meant.Meant.TheVariants.{Absent, Variable, 
 use Rattle.elan_types.specs.Typing.{Typed, same_type, all_agree, all_true}
 use Rattle.elan_scope.specs.declared.delivery.Delivery.{Delivery}
 use Rattle.elan_scope.specs.declared.delivery.Delivery.TheVariants.{Open, Nothing, Of}
-use Rattle.elan_scope.specs.declared.scope.Found.{Found}
+use Rattle.std.specs.Prelude.{◌||◌, is_some}
+use Rattle.elan_types.specs.declared.why.Why.{Why}
+use Rattle.elan_types.specs.declared.why.Why.TheVariants.{Unknown, WrongType}
+use Rattle.elan_scope.specs.Scope.{Found, number_named}
 use Rattle.elan_meant.specs.Operands.{delivers}
 use Rattle.elan_meant.specs.Verdict.{Verdict, gives}
 use Rattle.elan_rules.proofs.Typed as ty
@@ -167,5 +170,9 @@ module _ (here : Stand) where
 
   -- ---- labels
 
-  pub label_named_good : (at : ℕ) (known : Bool) (o : Option Found) → Gives Good (r.label_named at known o)
-  label_named_good at known o = tt
+  label_as_good : (at : ℕ) (earlier : List ℤ) (why : Why) (o : Option ℤ) → Gives Good (r.label_as at earlier why o)
+  label_as_good at earlier why None = tt
+  label_as_good at earlier why (Some n) = on_if Good (w.is_in earlier n) _ _ (λ e. tt) (λ e. tt)
+
+  pub label_named_good : (at : ℕ) (earlier : List ℤ) (known : Bool) (o : Option Found) → Gives Good (r.label_named at earlier known o)
+  label_named_good at earlier known o = label_as_good at earlier (if is_some o || known then WrongType else Unknown) (number_named o)

@@ -12,6 +12,8 @@ use Rattle.elan_meant.specs.declared.meant.Meant.TheVariants.{Absent, Variable, 
 use Rattle.elan_types.specs.Typing.{is_content_typed}
 use Rattle.std.specs.Prelude.{pos}
 use Rattle.eu_base.specs.Operations.{in_range}
+use Rattle.elan_scope.specs.declared.denoter.Denoter.{Denoter}
+use Rattle.elan_scope.specs.declared.denoter.Denoter.TheVariants as denoters
 use Rattle.elan_meant.specs.Operands.{delivers}
 use Rattle.elan_rules.proofs.Typed as ty
 use Rattle.elan_rules.proofs.Typed.{same_is, same_self, has_self, agree_self, only_if_holds, both, and_true, Gives, on_if, on_bind}
@@ -47,6 +49,11 @@ module _ (here : Stand) where
 
   pub text_good : (at : ℕ) (x : List ℕ) → Gives Good (rules.text at x)
   text_good at x = let fits = nat_le (length x) TEXT_BYTES in on_if Good fits _ _ (λ e. text_is here x ∙ only_if_holds fits _ Text e refl) (λ e. tt)
+
+  pub denoter_good : (at : ℕ) (d : Denoter) → Gives Good (rules.denoter at d)
+  denoter_good at (denoters.Number n) = number_good at n
+  denoter_good at (denoters.Truth b) = truth_is here b
+  denoter_good at (denoters.Text x) = text_good at x
 
   pub bracketed_good : (at : ℕ) (m : Meant) → Good m → Good (rules.bracketed at m)
   bracketed_good at Absent g = g

@@ -3,9 +3,9 @@ use Rattle.std.specs.Prelude.{ℕ, List, [], ◌∷◌, drop, flat_map, Option, 
 use Rattle.elan_types.specs.declared.elan_type.ElanType.TheVariants.{Bool as Truths}
 use Rattle.elan_types.specs.declared.core_phrase.ValuePhrase.TheVariants as value
 use Rattle.elan_types.specs.declared.why.Why.TheVariants.{Unknown}
-pub use Rattle.value_rules.specs.Values.{number, text, bracketed, cand, cor}
+pub use Rattle.value_rules.specs.Values.{number, text, denoter, bracketed, cand, cor}
 use Rattle.elan_meant.specs.declared.meant.Meant.{Meant}
-use Rattle.elan_meant.specs.declared.meant.Meant.TheVariants.{Absent, Value, Labels, Bodies, Level}
+use Rattle.elan_meant.specs.declared.meant.Meant.TheVariants.{Absent, Done, Value, Labels, Bodies, Level}
 use Rattle.elan_scope.specs.Scope.{Callable, find, find_own, is_known, left, first_heading, is_alike, types_of}
 use Rattle.elan_meant.specs.Verdict.{Verdict, gives, breaks, ◌>>=◌, told}
 use Rattle.elan_meant.specs.Operands.{chosen, becomes}
@@ -46,12 +46,13 @@ rule at form.cand ms = cand at (nth ms 0) (nth ms 1)
 rule at form.cor ms = cor at (nth ms 0) (nth ms 1)
 rule at form.choice ms = choice at ms
 rule at (form.label earlier n) ms = label_is at earlier n
-rule at (form.label_name s x) ms = label_named at (is_known s Procedure x 0) (find s x)
+rule at (form.label_name earlier s x) ms = label_named at earlier (is_known s Procedure x 0) (find s x)
 rule at form.labels ms = gives (Labels (flat_map labels_in ms))
 rule at form.selection ms = selected at (nth ms 0) (drop 1 ms)
 rule at (form.declares s x) ms = declared at (find_own s x)
 rule at form.initial ms = initial at (nth ms 0) (nth ms 1)
 rule at form.declaration ms = gives (unit_of (actions_of ms))
+rule at form.definition ms = gives (Done [])
 rule at form.statement ms = gives (alone (nth ms 0))
 rule at (form.assignment s) ms = assignment at s (nth ms 0) (nth ms 1)
 rule at form.loop ms = loop at (nth ms 0) (nth ms 1) (nth ms 2)

@@ -1,21 +1,35 @@
 //! Lists of units, and units that stand alone.
 
-ghost use Rattle.std.specs.Prelude.{◌≡◌, ◌++◌, OnOk, IfOk};
+ghost use Rattle.std.specs.Prelude.{◌≡◌, ◌++◌, List, OnOk, IfOk};
 ghost use Rattle.elan_meant.specs.declared.meant.Meant.TheVariants as means;
 ghost use Rattle.elan_meant.specs.Parts as part_specs;
 ghost use Rattle.unit_rules.specs.Units as spec;
+ghost use Rattle.elan_meant.specs.declared.meant.Meant.{Meant};
 ghost use Rattle.elan_meant.specs.Verdict.{gives, Tells};
+ghost use Rattle.unit_rules.specs.walks.Steps as walk;
+ghost use Rattle.elan_scope.specs.Ruled.{Ruled};
+ghost use Rattle.elan_scope.specs.Answer.{Is};
 
 use elan_meant::meant::Meant;
 use elan_meant::operands::delivers;
 use elan_meant::part;
 use elan_meant::part::{delivering, one, unit_of};
-use elan_meant::row::{Judged, append};
+use elan_meant::row::{Judged, Row, append};
 use elan_scope::trouble::Trouble;
 use elan_types::{Action, ElanType, ValuePhrase, Why};
 use eu_base::{Boxed, List, NoMemory};
 use std::alloc::Global;
 use std::mem::replace;
+
+/// A name of a LET and what it is given to, and all names of a LET: nothing is done there.
+pub fn definition(alloc: Global, parts: Row) -> Judged
+    ensures { (rs : Ruled (List Meant)) → Is parts rs → Is result (walk.nothing_done rs) }
+{
+    match parts {
+        Err(trouble) => Err(trouble),
+        Ok(_) => Ok(Meant::Done(List::new(alloc))),
+    }
+}
 
 // One more part. The actions of one that ends with a LEAVE stand among the others.
 fn add(

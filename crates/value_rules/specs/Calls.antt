@@ -28,7 +28,7 @@ use Rattle.elan_scope.specs.declared.callable.Callee.TheVariants.{Predefined, Bo
 use Rattle.elan_scope.specs.declared.predefined.Predefined.TheVariants.{Operation, Change, Request, ErrorStop}
 use Rattle.elan_scope.specs.Scope.{Callable, is_known, refinement_named}
 use Rattle.elan_scope.specs.declared.scope.Scope.{Scope}
-use Rattle.elan_scope.specs.declared.scope.Found.{Found}
+use Rattle.elan_scope.specs.Scope.{Found}
 use Rattle.elan_scope.specs.declared.scope.Home.{Home}
 use Rattle.elan_scope.specs.declared.scope.Home.TheVariants.{Level as of_level, Routine as of_routine}
 use Rattle.elan_meant.specs.Verdict.{Verdict, gives, breaks, ◌>>=◌, told}
@@ -39,6 +39,7 @@ use Rattle.elan_scope.specs.declared.scope.Usage.{Usage}
 use Rattle.elan_scope.specs.declared.scope.Usage.TheVariants.{Expression, Counter}
 use Rattle.elan_meant.specs.Parts.{value_of, variable, type_in}
 use Rattle.elan_scope.specs.Ruled.{Ruled, hangs}
+use Rattle.value_rules.specs.Values.{denoter}
 
 -- ---- variables, constants and parameters
 
@@ -124,6 +125,7 @@ denoted k u at s x home n (denotes.Constant t) = told (gives (constant at t (pla
 denoted k u at s x home n (denotes.Parameter p) = told (gives (parameter at p.of p.access (place_in home n p.access)))
 denoted k u at s x home n denotes.Procedure = told (applied at s Procedure x [])
 denoted k u at s x home n denotes.Refinement = refined_as k u at s (refinement_named s x)
+denoted k u at s x home n (denotes.Denoter d) = told (denoter at d)
 
 abbrev pub named : Known → Usage → ℕ → Scope → List ℕ → Option Found → Ruled Meant
 named k u at s x (Some f) = denoted k u at s x f.home f.number f.denotes

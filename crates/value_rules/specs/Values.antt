@@ -5,6 +5,8 @@ use Rattle.elan_types.specs.declared.core_phrase.ValuePhrase.{ValuePhrase}
 use Rattle.elan_types.specs.declared.core_phrase.ValuePhrase.TheVariants as value
 use Rattle.elan_types.specs.declared.why.Why.TheVariants.{WrongType}
 use Rattle.eu_base.specs.declared.value.TheConstants.{TEXT_BYTES}
+use Rattle.elan_scope.specs.declared.denoter.Denoter.{Denoter}
+use Rattle.elan_scope.specs.declared.denoter.Denoter.TheVariants as denoters
 use Rattle.eu_base.specs.Operations.{in_range}
 use Rattle.elan_meant.specs.declared.meant.Meant.{Meant}
 use Rattle.elan_meant.specs.declared.meant.Meant.TheVariants.{Variable, Value}
@@ -19,6 +21,12 @@ number at n = if in_range n then gives (Value at Int (value.Number n)) else brea
 -- A text of more than 16,000 bytes is no TEXT.
 abbrev pub text : ℕ → List ℕ → Verdict Meant
 text at x = if nat_le (length x) TEXT_BYTES then gives (Value at Text (value.Text x)) else breaks (at, WrongType)
+
+-- What stands behind a name of a LET is as if it were written there.
+abbrev pub denoter : ℕ → Denoter → Verdict Meant
+denoter at (denoters.Number n) = number at n
+denoter at (denoters.Truth b) = gives (Value at Truths (value.Truth b))
+denoter at (denoters.Text x) = text at x
 
 -- A variable in brackets is a value. What delivers nothing does in brackets what it does without.
 abbrev pub bracketed : ℕ → Meant → Meant

@@ -9,6 +9,7 @@ ghost use Rattle.elan_scope.specs.Answer.{Is};
 ghost use Rattle.elan_meant.specs.Verdict.{gives, Tells};
 
 use crate::call::applied_alone;
+use crate::value::denoter;
 use elan_meant::meant::Meant;
 use elan_meant::part::{delivering, done};
 use elan_meant::row::Judged;
@@ -138,23 +139,24 @@ fn denoted(
     at: u32,
     scope: &Scope,
     name: &[u8],
-    found: Found,
+    found: Found<'_>,
 ) -> Judged
-    ensures { Is result (spec.denoted known.now usage at scope.now name.now found.home found.number found.denotes) }
+    ensures { Is result (spec.denoted known.now usage at scope.now name.now found.entry.home found.entry.number found.entry.denotes.now) }
 {
     match found.denotes {
-        Denotes::Variable(of) => Ok(variable(at, of, plainly_held(found))),
-        Denotes::Constant(of) => constant(alloc, at, of, plainly_held(found)),
-        Denotes::Parameter(given) => parameter(alloc, at, found.home, found.number, given),
+        Denotes::Variable(of) => Ok(variable(at, *of, plainly_held(found))),
+        Denotes::Constant(of) => constant(alloc, at, *of, plainly_held(found)),
+        Denotes::Parameter(given) => parameter(alloc, at, found.home, found.number, *given),
         Denotes::Procedure => applied_alone(alloc, at, scope, name),
         Denotes::Refinement => refined_as(alloc, known, usage, at, scope, name),
+        Denotes::Denoter(written) => denoter(alloc, at, written),
     }
 }
 
 // Where a variable or constant is held.
-fn plainly_held(found: Found) -> Held
-    ensures home { result.home ≡ found.home }
-    ensures number { result.number ≡ found.number }
+fn plainly_held(found: Found<'_>) -> Held
+    ensures home { result.home ≡ found.entry.home }
+    ensures number { result.number ≡ found.entry.number }
     ensures access { result.access ≡ accesses.Const }
 {
     Held {
@@ -184,14 +186,13 @@ pub fn named(
 // ---- declarations
 
 // A variable or constant can be given its initial value; nothing else has to be done.
-fn declared_as(alloc: Global, at: u32, found: Found) -> Judged
-    ensures { Tells result (gives (spec.declared_as at found.home found.number found.denotes)) }
+fn declared_as(alloc: Global, at: u32, found: Found<'_>) -> Judged
+    ensures { Tells result (gives (spec.declared_as at found.entry.home found.entry.number found.entry.denotes.now)) }
 {
     match found.denotes {
-        Denotes::Variable(of) | Denotes::Constant(of) => Ok(variable(at, of, plainly_held(found))),
-        Denotes::Parameter(_) | Denotes::Procedure | Denotes::Refinement => {
-            Ok(Meant::Done(List::new(alloc)))
-        }
+        Denotes::Variable(of) | Denotes::Constant(of) => Ok(variable(at, *of, plainly_held(found))),
+        Denotes::Parameter(_) | Denotes::Procedure | Denotes::Refinement | Denotes::Denoter(_) =>
+            Ok(Meant::Done(List::new(alloc))),
     }
 }
 

@@ -13,6 +13,7 @@ use elan_meant::meant::Meant;
 use elan_meant::operands::delivers;
 use elan_meant::part::{delivering, value_of};
 use elan_meant::row::{Judged, both};
+use elan_scope::denoter::Denoter;
 use elan_scope::trouble::Trouble;
 use elan_types::{ElanType, ValuePhrase, Why};
 use eu_base::{Boxed, Bytes, TEXT_BYTES};
@@ -42,6 +43,17 @@ pub fn text(alloc: Global, at: u32, text: &[u8]) -> Judged
     }
     let bytes = Bytes::from(alloc, text)?;
     delivering(alloc, at, ElanType::Text, ValuePhrase::Text(bytes))
+}
+
+/// What stands behind a name of a LET, as if it were written there.
+pub fn denoter(alloc: Global, at: u32, denoter: &Denoter) -> Judged
+    ensures { Tells result (spec.denoter at denoter.now) }
+{
+    match denoter {
+        Denoter::Number(written) => number(alloc, at, *written),
+        Denoter::Truth(written) => truth(alloc, at, *written),
+        Denoter::Text(written) => text(alloc, at, written.as_slice()),
+    }
 }
 
 /// A phrase in brackets: its value is no variable.

@@ -23,8 +23,8 @@ abbrev pub in_role : Option Delivery → Phrase → List Phrase
 in_role None p = []
 in_role (Some d) p = role d p ∷ []
 
-abbrev pub numbers : List Label → List ℤ
-numbers ls = flat_map number ls
+abbrev pub numbers : Scope → List Label → List ℤ
+numbers s ls = flat_map (number s) ls
 
 -- a name in its declaration, and its initial value
 abbrev pub item_with : Name → Phrase → Option Phrase → Phrase

@@ -18,7 +18,7 @@ use Rattle.elan_judge.specs.walks.Steps as walk
 use Rattle.elan_judge.proofs.Rows.{row_goes, two_more, roles_go, roles_end, row_is, one_is, branches_go, branches_end, cases_go, cases_end}
 use Rattle.elan_judge.proofs.Rows.{first_fails, first_is, whole_fails, whole_is}
 use Rattle.elan_judge.proofs.Shapes.{units_of, units_absent, units_written, choice_parts, case_parts, loop_of, choice_is, selection_is, cand_is, cor_is}
-use Rattle.elan_judge.proofs.Shapes.{loop_is, branch_shape, case_shape, counter_shape, item_is, variables_is, constants_is}
+use Rattle.elan_judge.proofs.Shapes.{loop_is, branch_shape, case_shape, counter_shape, item_is, variables_is, constants_is, let_is}
 use Rattle.elan_judge.proofs.judge.+judge.Goals as goal
 use Rattle.elan_judge.proofs.judge.+judge.Goals.{judge-in-None, judge-in-Some, judge-in-None-otherwise, judge-in-Some-otherwise}
 
@@ -173,7 +173,7 @@ add_case-returns t c = λ done h.
 pub judge_cases-loop-case-preserved : goal.judge_cases-loop-case-preserved
 judge_cases-loop-case-preserved t c =
     let before_it : c.as_slice.result.now ≡ c.loop-case.earlier = c.as_slice.ensures in
-    let behind : c.add_numbers.new.out ≡ c.loop-case.earlier ++ walk.numbers c.case-item.result.labels = search rules in
+    let behind : c.add_numbers.new.out ≡ c.loop-case.earlier ++ walk.numbers c.args.scope.now c.case-item.result.labels = search rules in
     cases_go c.args.known.now c.args.scope.now c.loop-case.row c.add_case-row.result c.args.cases.now c.loop-case.case-index c.case-item.result
     c.loop-case.earlier c.add_numbers.new.out _ c.loop-case-test.true c.case-item.is behind
     (λ done h. subst (λ (ns : List ℤ).
@@ -235,6 +235,11 @@ judge_unit-returns-in-Constants t c =
     constants_is c.args.scope.now c.args.known.now c.judge_declaration-in-Constants.result c.args.unit.now c.in-Constants.field-0 c.in-Constants.field-1
     c.in-Constants.items c.as_slice-in-Constants.result.now c.in-Constants.is c.as_slice-in-Constants.ensures
     (c.judge_declaration-in-Constants.ensures c.in-Constants.field-0)
+
+pub judge_unit-returns-in-Let : goal.judge_unit-returns-in-Let
+judge_unit-returns-in-Let t c =
+    let_is c.args.scope.now c.args.known.now c.judge_let.result c.args.unit.now c.in-Let.field-0 c.in-Let.items c.as_slice-in-Let.result.now c.in-Let.is
+    c.as_slice-in-Let.ensures (c.judge_let.ensures c.in-Let.field-0)
 
 pub judge_unit-judge_units-units-requires : goal.judge_unit-judge_units-units-requires
 judge_unit-judge_units-units-requires t c =
