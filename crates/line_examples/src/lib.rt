@@ -5,6 +5,8 @@
 #[cfg(test)]
 mod code;
 #[cfg(test)]
+mod lets;
+#[cfg(test)]
 mod lines;
 #[cfg(test)]
 mod meanings;

@@ -364,7 +364,7 @@ a
 \"1\" 
 > a CAT b
 FEHLER : unbekannt (Zeile 1, Stelle 1)
-> LET n = 3
+> LET T = INT
 FEHLER : kein ELAN-Text
 > ROW 3 INT VAR a
 FEHLER : kein ELAN-Text

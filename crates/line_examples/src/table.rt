@@ -48,6 +48,18 @@ FEHLER : kein ELAN-Text (Zeile 1, Stelle 45)
 12 
 > OP := (INT VAR a, INT CONST b): a INCR b END OP :=; INT VAR x :: 2; x := 3; put (x)
 5 
+> LET n = 3, word = \"ab\", yes = TRUE; IF yes THEN put (n * word) FI
+ababab 
+> SELECT 5 OF CASE one: put (1) CASE five: put (50) END SELECT. p: LET one = 1, five = 5.
+50 
+> LET n = 3; n := 4
+FEHLER : keine Variable (Zeile 1, Stelle 12)
+> LET n = 3; INT VAR n
+FEHLER : doppelt (Zeile 1, Stelle 20)
+> SELECT 1 OF CASE 3: line CASE n: line END SELECT; LET n = 3
+FEHLER : doppelt (Zeile 1, Stelle 31)
+> SELECT 1 OF CASE t: line END SELECT; LET t = \"1\"
+FEHLER : falscher Typ (Zeile 1, Stelle 18)
 > PROC p (INT VAR a, b): a INCR 1; b INCR 1 END PROC p; INT VAR x :: 5; p (x, x); put (x)
 7 
 > PROC p (INT CONST a): a := 3 END PROC p; p (1)
