@@ -56,6 +56,7 @@ impl<'a> Memory for Lent<'a> {
         Ok(number)
     }
 
+    #[inline(always)]
     fn set_cell(&mut self, at: Addr, number: u64) -> Result<(), MemFault> {
         self.memory.set_run_cell(self.pool, at.cell, number)?;
         Ok(())

@@ -102,6 +102,7 @@ impl SpaceMemory {
     }
 
     // Puts a number into a cell of the command that runs.
+    #[inline(always)]
     pub(crate) fn set_run_cell(
         &mut self,
         pool: &mut Pool,

@@ -1,22 +1,22 @@
 -- What an instruction does, where it is the one at hand.
-use Rattle.std.proofs.Common.{◌≡◌, ℕ, ◌+◌, ◌-◌, ◌<◌, List, [], true, get_or, Some, sym, ap, ◌∙◌, subst}
+use Rattle.std.proofs.Common.{◌≡◌, ℕ, ◌+◌, ◌-◌, ◌<◌, List, get_or, Some, sym, ap, ◌∙◌, subst}
 use Rattle.std.specs.Prelude.{Result, Ok, Err, IfOk, slice_get}
 use Rattle.std.proofs.lemmas.Option.{get_or_from_slice_get}
-use Rattle.eu_base.specs.Cells.{Cells}
+use Rattle.eu_base.specs.Cells.{Cells, Within, without}
 use Rattle.zero_state.specs.declared.next.Next.{Next}
 use Rattle.zero_state.specs.declared.next.Next.TheVariants.{On as On', Marked, Ended}
 use Rattle.code_form.specs.declared.instr.Instr.{Instr}
-use Rattle.code_form.specs.declared.instr.Instr.TheVariants.{Mark, Number, Truth, Text, Outer, Local, Param, Load, Store, Do, Modify, Jump, False, When, Drop}
-use Rattle.code_form.specs.declared.instr.Instr.TheVariants.{Limit, Unlimit, Step, Ask, ErrorStop, Call, Refer, Back, Out, End}
+use Rattle.code_form.specs.declared.instr.Instr.TheVariants.{Mark}
+use Rattle.code_form.specs.declared.instr.Instr.TheVariants.{Call, Refer, End}
 use Rattle.code_form.specs.declared.waits.Waits.{Waits}
 use Rattle.code_form.specs.declared.waits.Waits.TheVariants.{Nothing}
 use Rattle.code_form.specs.declared.code.Entry.{Entry}
 use Rattle.code_form.specs.declared.operand.Operand.{Operand}
 use Rattle.code_form.specs.Program.{Program}
-use Rattle.code_form.specs.Machine.{Position, Control, To, at, Stage, call_move, refer_move, stage}
-use Rattle.zero_state.specs.Finds.{Finds, HasProc, HasBody, spends_nothing}
-use Rattle.zero_state.specs.Stepping.{stage_of, halt_of, scene_of, stage_by, Steps, Accesses}
-use Rattle.zero_state.proofs.Making.{plain_steps, steps_at, unspent, spent}
+use Rattle.code_form.specs.Machine.{Position, Control, To, at, Stage, call_move, refer_move, instruction, pushes, stage}
+use Rattle.zero_state.specs.Finds.{Finds, HasProc, HasBody}
+use Rattle.zero_state.specs.Stepping.{stage_of, halt_of, scene_of, stage_by, StepsSo, GoesOn, Steps, Accesses}
+use Rattle.zero_state.proofs.Making.{plain_steps, plain, steps_at, fewer_known, unspent, spent}
 
 -- the body that is read is the one that stands there
 found : (bodies : List Entry) (n : ℕ) (entry d : Entry) → slice_get bodies n ≡ Some entry → d ≡ get_or bodies n d → slice_get bodies n ≡ Some d
@@ -64,43 +64,54 @@ pub said_by : (before after : Cells → Type 0) (c : Position) (c' : Control) (m
     → Steps before after (stage_by p i marks) c c' marks On' → Steps before after (stage_by p instr marks) c c' marks On'
 said_by before after c c' marks p instr i is = subst (λ i. Steps before after (stage_by p i marks) c c' marks On') (sym is)
 
-pub accesses : {E : Type 0} (result : Result Next E) (before after : Cells → Type 0) (c : Position) (c' : Control) (instr i : Instr) → instr ≡ i
-    → IfOk result (Accesses before after i c c') → IfOk result (Accesses before after instr c c')
-accesses result before after c c' instr i is = subst (λ i. IfOk result (Accesses before after i c c')) (sym is)
+pub accesses : {E : Type 0} (result : Result Next E) (before after : Cells → Type 0) (c : Position) (c' : Control) (marks : ℕ) (p : Program)
+    (instr i : Instr) → instr ≡ i → IfOk result (Accesses before after i c c') → IfOk result (Steps before after (stage_by p instr marks) c c' marks)
+accesses (Ok next) before after c c' marks p instr i is h = subst (λ i. Steps before after (stage_by p i marks) c c' marks next) (sym is) (h p marks)
+accesses (Err e) before after c c' marks p instr i is h = tt
 
--- the same of a program and its marks
-pub in_program : {E : Type 0} (result : Result Next E) (before after : Cells → Type 0) (c : Position) (c' : Control) (marks : ℕ) (p : Program) (instr : Instr)
-    → IfOk result (Accesses before after instr c c') → IfOk result (Steps before after (stage_by p instr marks) c c' marks)
-in_program (Ok next) before after c c' marks p instr steps = steps p marks
-in_program (Err e) before after c c' marks p instr steps = tt
+-- one that looks at no cell, and forgets some or none
+module _ (holds : Cells → Type 0) (p : Program) (instr i : Instr) (marks : ℕ) (c : Position) (c' : Control) (is : instr ≡ i) where
+  so : (next : Next) (to : Cells → Cells) → ((cells : Cells) → StepsSo i c cells c' (to cells) next) → ((cells : Cells) → holds cells → holds (to cells))
+      → Steps holds holds (stage_by p instr marks) c c' marks next
+  so next to h kept =
+      subst (λ i. Steps holds holds (stage_by p i marks) c c' marks next) (sym is) (plain holds holds i c c' next to h kept p marks)
 
--- what the instruction finds does not depend on the bodies
-pub finds_alone : (bodies : List Entry) (i : Instr) (c : Position) → spends_nothing i ≡ true → Finds bodies i c → Finds [] i c
-finds_alone bodies Mark c e f = f
-finds_alone bodies (Number z) c e f = f
-finds_alone bodies (Truth b) c e f = f
-finds_alone bodies (Text t) c e f = f
-finds_alone bodies (Outer k) c e f = f
-finds_alone bodies (Local k) c e f = f
-finds_alone bodies (Param k) c e f = f
-finds_alone bodies (Load k) c e f = f
-finds_alone bodies (Store k) c e f = f
-finds_alone bodies (Do op) c e f = f
-finds_alone bodies (Modify by) c e f = f
-finds_alone bodies (Jump a) c e f = f
-finds_alone bodies (False a) c e f = f
-finds_alone bodies (When z a) c e f = f
-finds_alone bodies Drop c e f = f
-finds_alone bodies (Limit way a) c e f = f
-finds_alone bodies Unlimit c e f = f
-finds_alone bodies (Step way a) c e f = f
-finds_alone bodies (Ask name) c e f = f
-finds_alone bodies ErrorStop c e f = f
-finds_alone bodies (Call n) c e f = absurd (cc e)
-finds_alone bodies (Refer n) c e f = absurd (cc e)
-finds_alone bodies (Back kind) c e f = absurd (cc e)
-finds_alone bodies (Out kind) c e f = absurd (cc e)
-finds_alone bodies End c e f = f
+  pub goes_so : ((cells : Cells) → GoesOn i c cells c' cells) → Steps holds holds (stage_by p instr marks) c c' marks On'
+  goes_so h = so On' (λ cells. cells) h (λ cells held. held)
+
+  pub forgets_so : (from until : ℕ) → ((cells fewer : Cells) → holds cells → Within fewer cells → holds fewer)
+      → ((cells : Cells) → GoesOn i c cells c' (without from until cells)) → Steps holds holds (stage_by p instr marks) c c' marks On'
+  forgets_so from until forgets h =
+      so On' (without from until) h (λ cells held. forgets cells (without from until cells) held (fewer_known from until cells))
+
+  pub computed_so : {E F : Type 0} (made : Result Next E) (result : Result Next F) → IfOk result (λ next. made ≡ Ok next)
+      → IfOk made (λ next. (cells : Cells) → StepsSo i c cells c' cells next) → IfOk result (Steps holds holds (stage_by p instr marks) c c' marks)
+  computed_so made (Ok next) same h =
+      so next (λ cells. cells) (subst (λ made. IfOk made (λ next. (cells : Cells) → StepsSo i c cells c' cells next)) same h) (λ cells held. held)
+  computed_so made (Err e) same h = tt
+
+  -- one that pushes
+  pub pushes_so : {E F : Type 0} (made : Result Next E) (result : Result Next F) → IfOk result (λ next. made ≡ Ok next) → (o : Operand)
+      → ((p : Program) (cells : Cells) → pushes c o c.ops cells ≡ instruction p (Some i) c cells)
+      → IfOk made (λ next. (cells : Cells) (marks : ℕ) → stage_of (halt_of next) c' (scene_of cells marks) ≡ stage (pushes c o c.ops cells) c (scene_of cells marks))
+      → IfOk result (Steps holds holds (stage_by p instr marks) c c' marks)
+  pushes_so {E = E} made result same o by h = computed_so made result same (of made h)
+    where
+      of : (made : Result Next E)
+          → IfOk made (λ next. (cells : Cells) (marks : ℕ) → stage_of (halt_of next) c' (scene_of cells marks) ≡ stage (pushes c o c.ops cells) c (scene_of cells marks))
+          → IfOk made (λ next. (cells : Cells) → StepsSo i c cells c' cells next)
+      of (Ok next) h = λ cells p marks. h cells marks ∙ ap (λ m. stage m c (scene_of cells marks)) (by p cells)
+      of (Err e) h = tt
+
+  -- one that spends a mark
+  pub asks_so : {E F : Type 0} (marks' : ℕ) (made : Result Next E) (result : Result Next F) → IfOk result (λ next. made ≡ Ok next)
+      → IfOk made (λ next. (p : Program) (cells : Cells) → stage_of (halt_of next) c' (scene_of cells marks') ≡ stage_by p i marks c cells)
+      → IfOk result (Steps holds holds (stage_by p instr marks) c c' marks')
+  asks_so marks' made (Ok next) same h =
+      let steps = subst (λ made. IfOk made (λ next. (p : Program) (cells : Cells) → stage_of (halt_of next) c' (scene_of cells marks') ≡ stage_by p i marks c cells)) same h in
+      subst (λ i. Steps holds holds (stage_by p i marks) c c' marks' next) (sym is)
+      (plain_steps holds holds (stage_by p i marks) c c' marks' next (λ cells. cells) (steps p) (λ cells held. held))
+  asks_so marks' made (Err e) same h = tt
 
 -- a mark is due, or spent
 module _ (c : Position) (marks : ℕ) (w : Waits) (none : w ≡ Nothing) (p : Program) (cells : Cells) where

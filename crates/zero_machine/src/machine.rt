@@ -171,8 +171,11 @@ pub fn run<M: Memory>(
     ensures follows { M.follows m.old m.new }
 {
     loop {
-        if let Some(halt) = s.due()? {
-            return Ok(halt);
+        // (asked first, since what is due is found outside this loop)
+        if s.is_waiting() {
+            if let Some(halt) = s.due()? {
+                return Ok(halt);
+            }
         }
         let next = advance(code, s, m, marks)?;
         if let Some(halt) = next.halt() {

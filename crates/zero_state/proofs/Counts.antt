@@ -1,8 +1,8 @@
 -- What a stack counts.
-use Rattle.std.proofs.Common.{◌≡◌, ℕ, zero, suc, ◌+◌, ◌-◌, ◌<◌, ◌≤◌, List, [], ◌∷◌, ◌++◌, map, length, take, drop, get_or, refl, sym, ap, ◌∙◌, subst, arith}
+use Rattle.std.proofs.Common.{◌≡◌, ℕ, zero, suc, ◌+◌, ◌-◌, ◌<◌, ◌≤◌, List, [], ◌∷◌, ◌++◌, map, length, take, drop, get_or, refl, sym, ap, ◌∙◌, subst, arith, length-drop}
 use Rattle.std.specs.Prelude.{reverse, slice_set}
 use Rattle.std.proofs.Math.Seq.{set-append_seam}
-use Rattle.std.proofs.lemmas.List.{reverse-append, reverse-reverse, length-reverse, take-append-drop, take_rest}
+use Rattle.std.proofs.lemmas.List.{reverse-append, reverse-reverse, length-reverse, length-take-le, take-append-drop, take_rest}
 use Rattle.code_form.specs.declared.operand.Operand.{Operand}
 use Rattle.code_form.specs.Machine.{Frame, operand_bytes, bytes_on, bytes_of}
 use Rattle.zero_state.specs.declared.stack.Link.{Link}
@@ -97,7 +97,7 @@ pub held_is : (frames all : List Kept) (f : Kept) → all ≡ frames ++ f ∷ []
 held_is frames all f is = ap (λ fs. bytes_of (frames_of fs)) is ∙ ap bytes_of (last_frame frames f)
 
 module _ (operands : List Operand) (frames : List Kept) (s : Stacked) (view : stacked operands frames ≡ s) where
-  as_many : length s.ops ≡ length operands
+  pub as_many : length s.ops ≡ length operands
   as_many = subst (λ (s : Stacked). length s.ops ≡ length operands) view (length-reverse operands)
 
   -- the newest operands stand last
@@ -130,3 +130,29 @@ module _ (operands : List Operand) (frames : List Kept) (s : Stacked) (view : st
 pub stacked_is : (operands : List Operand) (frames : List Kept) (fs : List Frame) → operands ≡ [] → frames_of frames ≡ fs
     → stacked operands frames ≡ record { ops = []; frames = fs }
 stacked_is operands frames fs e f = ap (λ l. stack_of (reverse l) (frames_of frames)) e ∙ ap (stack_of []) f
+
+-- an operand in the place of the last one
+one : (xs : List Operand) → length xs ≡ 1 → (o : Operand) × (xs ≡ o ∷ [])
+one [] e = absurd (omega (arith, e))
+one (o ∷ []) e = (o, refl)
+one (o ∷ q ∷ xs) e = absurd (omega (arith, e))
+
+pub replaced : (operands after : List Operand) (n : ℕ) (o : Operand) → 1 ≤ length operands → n ≡ length operands → after ≡ slice_set operands (n - 1) o
+    → after ≡ take (n - 1) operands ++ o ∷ []
+replaced operands after n o le many is =
+    let k : ℕ = n - 1 in
+    let short = length-take-le k operands (omega (arith, le, many)) in
+    let last = one (drop k operands) (omega (arith, le, many, length-drop k operands)) in
+    let whole : operands ≡ take k operands ++ last.0 ∷ [] =
+    sym (take-append-drop k operands) ∙ ap (λ l. take k operands ++ l) last.1 in
+    is ∙ ap (λ l. slice_set l k o) whole ∙ ap (λ n. slice_set (take k operands ++ last.0 ∷ []) n o) (sym short)
+    ∙ set-append_seam (take k operands) last.0 [] o
+
+-- it is counted in its place
+pub replaced_turned : (operands after : List Operand) (o : Operand) → after ≡ operands ++ o ∷ [] → reverse after ≡ o ∷ reverse operands
+replaced_turned operands after o is = ap reverse is ∙ reverse-append operands (o ∷ [])
+
+pub replaced_is : (operands after : List Operand) (frames : List Kept) (o : Operand) (s : Stacked) → reverse after ≡ o ∷ reverse operands
+    → stacked operands frames ≡ s → stacked after frames ≡ record s { ops = o ∷ s.ops }
+replaced_is operands after frames o s turned is =
+    ap (λ ops. stack_of ops (frames_of frames)) turned ∙ ap (λ (s : Stacked). record s { ops = o ∷ s.ops }) is

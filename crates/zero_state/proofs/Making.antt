@@ -1,6 +1,6 @@
 -- Steps of the machine are made of what its functions do.
 use Rattle.std.proofs.Common.{◌≡◌, ℕ, zero, suc, ◌-◌, ◌<◌, Bool, true, false, cond, List, length, Option, Some, None, refl, ap, subst, arith, ◌⊎◌, inl, inr}
-use Rattle.std.specs.Prelude.{nat_le, nat_lt, ◌&&◌, Result, Ok, Err, OnOk, IfOk}
+use Rattle.std.specs.Prelude.{nat_le, nat_lt, ◌&&◌}
 use Rattle.eu_base.specs.Cells.{Cell, Free, Word, Letters, Cells, cell_blocks, forgotten, without, Within}
 use Rattle.code_form.specs.declared.halt.Halt.{Halt}
 use Rattle.code_form.specs.declared.instr.Instr.{Instr}
@@ -8,7 +8,7 @@ use Rattle.code_form.specs.declared.operand.Operand.{Operand}
 use Rattle.code_form.specs.declared.halt.Halt.TheVariants as halts
 use Rattle.code_form.specs.Machine.{Position, Control, free, After, Stage, Over, rest_at, after_stage, mark_stage}
 use Rattle.zero_state.specs.declared.next.Next.{Next}
-use Rattle.zero_state.specs.Stepping.{stage_of, scene_of, stage_by, halt_of, StepsSo, GoesOn, Does, Leads, Steps, Accesses}
+use Rattle.zero_state.specs.Stepping.{stage_of, scene_of, stage_by, halt_of, StepsSo, Does, Leads, Steps, Accesses}
 use Rattle.zero_state.proofs.Room.{same_like, like_length}
 
 -- a step that leads there
@@ -60,13 +60,6 @@ pub plain : (before after : Cells → Type 0) (i : Instr) (c : Position) (c' : C
     → ((cells : Cells) → StepsSo i c cells c' (to cells) next) → ((cells : Cells) → before cells → after (to cells)) → Accesses before after i c c' next
 plain before after i c c' next to so kept p marks = plain_steps before after (stage_by p i marks) c c' marks next to (λ cells. so cells p marks) kept
 
--- a step that goes on where as much is known of the cells, and where nothing is known of some
-abbrev pub GoesOver : Instr → Position → Control → Type 0
-GoesOver i c c' = (cells : Cells) → (now : Cells) × (Within now cells × GoesOn i c cells c' now)
-
-pub same_cells : (i : Instr) (c : Position) (c' : Control) → ((cells : Cells) → GoesOn i c cells c' cells) → GoesOver i c c'
-same_cells i c c' so cells = (cells, ((λ a. inl refl), so cells))
-
 -- what is forgotten are numbers
 pub fewer_known : (from until : ℕ) (cells : Cells) → Within (without from until cells) cells
 fewer_known from until cells a = by (nat_le from a.cell && nat_lt a.cell until) (cells a)
@@ -76,20 +69,3 @@ fewer_known from until cells a = by (nat_le from a.cell && nat_lt a.cell until) 
     by true (Word n) = inr (refl, refl)
     by true (Letters t) = inl refl
     by false x = inl refl
-
-pub fewer_cells : (i : Instr) (c : Position) (c' : Control) (from until : ℕ) → ((cells : Cells) → GoesOn i c cells c' (without from until cells))
-    → GoesOver i c c'
-fewer_cells i c c' from until so cells = (without from until cells, (fewer_known from until cells, so cells))
-
--- the same of a step that may want memory
-pub made_over : {T E : Type 0} (result : Result T E) (i : Instr) (c : Position) (c' : Control) {P : Type 0} → (P → GoesOver i c c') → OnOk result P
-    → OnOk result (GoesOver i c c')
-made_over (Ok x) i c c' over h = over h
-made_over (Err e) i c c' over h = tt
-
--- the same of a step that changes no cells
-pub same_over : {E : Type 0} (result : Result Next E) (i : Instr) (c : Position) (c' : Control)
-    → IfOk result (λ next. (cells : Cells) → StepsSo i c cells c' cells next)
-    → IfOk result (λ next. (cells : Cells) → (now : Cells) × (Within now cells × StepsSo i c cells c' now next))
-same_over (Ok next) i c c' so = λ cells. (cells, ((λ a. inl refl), so cells))
-same_over (Err e) i c c' so = tt

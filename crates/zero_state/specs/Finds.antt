@@ -1,5 +1,5 @@
 -- What an instruction finds.
-use Rattle.std.specs.Prelude.{◌≡◌, ℕ, zero, suc, ◌+◌, ◌≤◌, Bool, true, false, ◌||◌, cond, List, [], ◌∷◌, length, take, drop, reverse}
+use Rattle.std.specs.Prelude.{◌≡◌, ℕ, zero, suc, ◌+◌, ◌≤◌, Bool, true, false, cond, List, [], ◌∷◌, length, take, drop, reverse}
 use Rattle.std.specs.Prelude.{Option, Some, None, slice_get}
 use Rattle.eu_base.specs.declared.address.Addr.{Addr}
 use Rattle.eu_base.specs.declared.value.Kind.{Kind}
@@ -9,8 +9,8 @@ use Rattle.eu_base.specs.Operations.{operand_kinds}
 use Rattle.eu_base.specs.declared.request.RequestName.{RequestName}
 use Rattle.eu_base.specs.Requests.{request_kinds, request_size}
 use Rattle.code_form.specs.declared.instr.Instr.{Instr}
-use Rattle.code_form.specs.declared.instr.Instr.TheVariants.{Number, Truth, Text, Outer, Local, Param, Jump, Load, Store, Do, Modify, False, When, Drop, Limit}
-use Rattle.code_form.specs.declared.instr.Instr.TheVariants.{Mark, Unlimit, Step, Ask, ErrorStop, Call, Refer, Back, Out, End}
+use Rattle.code_form.specs.declared.instr.Instr.TheVariants.{Outer, Local, Param, Load, Store, Do, Modify, False, When, Drop, Limit}
+use Rattle.code_form.specs.declared.instr.Instr.TheVariants.{Unlimit, Step, Ask, ErrorStop, Call, Refer, Back, Out}
 use Rattle.code_form.specs.declared.code.Entry.{Entry}
 use Rattle.code_form.specs.declared.code.Layout.{Layout}
 use Rattle.code_form.specs.declared.code.Layout.TheVariants.{Own}
@@ -114,38 +114,3 @@ Finds bodies (Refer n) c = HasBody bodies n
 Finds bodies (Back kind) c = TopResult kind c.ops × IsInside c.frames
 Finds bodies (Out kind) c = TopResult kind c.ops × (is_in_proc c.frames ≡ true)
 Finds _ _ c = Unit {0}
-
--- an instruction that spends no mark, leaves no body, and does not end the command
-abbrev pub spends_nothing : Instr → Bool
-spends_nothing Mark = false
-spends_nothing (Ask name) = false
-spends_nothing (Call n) = false
-spends_nothing (Refer n) = false
-spends_nothing (Back kind) = false
-spends_nothing (Out kind) = false
-spends_nothing End = false
-spends_nothing _ = true
-
--- one that only goes on, and looks at no cell
-abbrev pub is_plain : Instr → Bool
-is_plain (Jump a) = true
-is_plain (False a) = true
-is_plain (When z a) = true
-is_plain Drop = true
-is_plain Unlimit = true
-is_plain _ = false
-
--- one that pushes what stands in it
-abbrev pub is_push : Instr → Bool
-is_push (Number z) = true
-is_push (Truth b) = true
-is_push (Text t) = true
-is_push (Outer k) = true
-is_push (Local k) = true
-is_push _ = false
-
--- one that looks at no cell
-abbrev pub computes : Instr → Bool
-computes (Do op) = true
-computes ErrorStop = true
-computes i = is_push i || is_plain i

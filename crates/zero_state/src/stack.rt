@@ -1,6 +1,8 @@
 //! What is pending.
 ghost use Rattle.std.specs.Prelude.{◌≡◌, ◌+◌, ◌∷◌, ◌≤◌, [], List, drop, take, length, reverse, true, OnOk, MatchOption};
 ghost use Rattle.eu_base.specs.Room.{bytes_fit};
+ghost use Rattle.eu_base.specs.declared.address.Addr.{Addr};
+ghost use Rattle.code_form.specs.declared.operand.Operand.{Operand};
 ghost use Rattle.code_form.specs.declared.operand.Operand.TheVariants as operand;
 ghost use Rattle.code_form.specs.Machine.{bytes_on, bytes_of, base_of};
 ghost use Rattle.zero_state.specs.Finds.{TopValue, TopPlace};
@@ -77,6 +79,19 @@ impl Stack {
         operand.bytes() <= OPERAND_BYTES as usize - self.bytes
     }
 
+    /// Whether there is room for a value in place of the place on top.
+    pub fn has_room_in_place(&self, value: &Value) -> bool
+        requires bytes { bytes_fit (bytes_on self.now.ops (bytes_of self.now.frames)) ≡ true }
+        requires place { TopPlace self.now.ops }
+        ensures { (place : Addr) (rest : List Operand) → self.now.ops ≡ operand.Place place ∷ rest →
+            result ≡ bytes_fit (bytes_on (operand.Value value.now ∷ rest) (bytes_of self.now.frames)) }
+    {
+        match value {
+            Value::Int(_) | Value::Truth(_) => true,
+            Value::Text(text) => text.as_slice().len() <= OPERAND_BYTES as usize - self.bytes,
+        }
+    }
+
     /// Pushes an operand that has room.
     pub fn push(&mut self, operand: Operand) -> Result<(), NoMemory>
         requires { bytes_fit (bytes_on (operand ∷ self.old.ops) (bytes_of self.old.frames)) ≡ true }
@@ -114,6 +129,18 @@ impl Stack {
             }
             _ => unreachable!(),
         }
+    }
+
+    /// Puts a value that has room in the place of the operand on top.
+    pub fn replace_top(&mut self, value: Value)
+        requires top { 1 ≤ length self.old.ops }
+        requires room { bytes_fit (bytes_on (operand.Value value ∷ drop 1 self.old.ops) (bytes_of self.old.frames)) ≡ true }
+        ensures { self.new ≡ record self.old { ops = operand.Value value ∷ drop 1 self.old.ops } }
+    {
+        let at = self.operands.len() - 1;
+        let left = bytes_without(self.bytes, &self.operands.as_slice()[at..]);
+        self.bytes = left + value.bytes();
+        self.operands.set(at, Operand::Value(value));
     }
 
     /// The newest operands, the newest last.

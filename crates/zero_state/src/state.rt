@@ -1,5 +1,6 @@
 //! Where the machine stands.
-ghost use Rattle.std.specs.Prelude.{◌≡◌, IfOk};
+ghost use Rattle.std.specs.Prelude.{◌≡◌, false, IfOk};
+ghost use Rattle.code_form.specs.declared.waits.Waits.TheVariants as waits;
 ghost use Rattle.zero_state.specs.Stepping.{due};
 
 use crate::stack::Stack;
@@ -22,7 +23,20 @@ pub struct State {
 }
 
 impl State {
-    /// Why the machine rests before its instruction; `None` where nothing is waited for, or the reply is there.
+    /// Whether something is waited for, or was, and its reply is there.
+    pub fn is_waiting(&self) -> bool
+        ensures idle { result ≡ false → self.now.waits ≡ waits.Nothing }
+        ensures waits { self.now.waits ≡ waits.Nothing → result ≡ false }
+    {
+        match self.waits {
+            Waits::Nothing => false,
+            Waits::Asked(_) | Waits::Given(_) | Waits::Refused(_) => true,
+        }
+    }
+
+    /// Why the machine rests before its instruction; `None` where nothing is waited for, or the reply is there. It stands outside the
+    /// loop of a run, which is quicker so.
+    #[inline(never)]
     pub fn due(&self) -> Result<Option<Halt>, NoMemory>
         ensures { IfOk result (λ halt. halt ≡ due self.now.waits) }
     {

@@ -18,7 +18,7 @@ use Rattle.code_form.specs.declared.halt.Halt.TheVariants as halts
 use Rattle.code_form.specs.declared.operand.Operand.{Operand}
 use Rattle.code_form.specs.declared.operand.Operand.TheVariants.{Place as At}
 use Rattle.code_form.specs.declared.instr.Instr.TheVariants.{Ask}
-use Rattle.code_form.specs.Machine.{Position, Control, free, given, Move, On, at, goes, or_halt, keeps, takes_reply, move_stage}
+use Rattle.code_form.specs.Machine.{Position, Control, free, given, On, at, or_halt, keeps, takes_reply, move_stage}
 use Rattle.zero_state.specs.Finds.{behind_values, IsVariable}
 use Rattle.zero_state.specs.declared.next.Next.{Next}
 use Rattle.zero_state.specs.declared.next.Next.TheVariants.{On as On', TextRoom}

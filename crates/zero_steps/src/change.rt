@@ -10,7 +10,7 @@ ghost use Rattle.zero_state.specs.Stepping.{position_of, control_of, IsReady, Ac
 ghost use Rattle.zero_steps.specs.Reading.{Changes};
 
 use crate::push::stopped;
-use crate::values::put_back;
+use code_form::Operand;
 use eu_base::{Addr, Change, MemFault, Memory, Set, Value, number_in};
 use zero_ops::{Fault, OpError, append, change_number};
 use zero_state::{Next, State};
@@ -23,21 +23,18 @@ pub fn modify<M: Memory>(s: &mut State, m: &mut M, by: Change) -> Result<Next, M
     ensures cause { HasFaultCause (M.faults m.old) (M.faults m.new) result }
     ensures follows { M.follows m.old m.new }
 {
-    let operand = s.stack.pop_value();
-    let at = s.stack.pop_place();
-    match change_at(m, at, by, &operand)? {
+    let [Operand::Place(at), Operand::Value(operand)] = s.stack.top(2) else {
+        unreachable!()
+    };
+    match change_at(m, *at, by, operand)? {
         Ok(Set::Done) => {
+            let _operand = s.stack.pop_value();
+            let _at = s.stack.pop_place();
             s.pc += 1;
             Ok(Next::On)
         }
-        Ok(Set::HeapFull) => {
-            put_back(&mut s.stack, at, operand)?;
-            Ok(Next::TextRoom)
-        }
-        Err(fault) => {
-            put_back(&mut s.stack, at, operand)?;
-            Ok(stopped(fault))
-        }
+        Ok(Set::HeapFull) => Ok(Next::TextRoom),
+        Err(fault) => Ok(stopped(fault)),
     }
 }
 

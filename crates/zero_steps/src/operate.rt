@@ -7,7 +7,7 @@ ghost use Rattle.zero_ops.specs.Given.{given_of, has_texts, Gives};
 ghost use Rattle.zero_state.specs.Finds.{TopValue, TopValues};
 ghost use Rattle.zero_state.specs.Stepping.{position_of, control_of, IsReady, StepsSo};
 
-use crate::push::give;
+use crate::push::{give, stopped};
 use crate::values::{pop_values, push_values};
 use code_form::Operand;
 use eu_base::{NoMemory, Operation, Value};
@@ -88,13 +88,16 @@ fn operate_on_one(s: &mut State, operation: Operation) -> Result<Next, NoMemory>
     requires numbers { has_texts operation ≡ false }
     ensures { IfOk result (λ next. (cells : Cells) → StepsSo (instrs.Do operation) (position_of s.old) cells (control_of s.new) cells next) }
 {
-    let a = s.stack.pop_value();
-    match give(s, on_numbers(operation, &a, &Value::Int(0)))? {
-        None => Ok(Next::On),
-        Some(stop) => {
-            s.stack.push(Operand::Value(a))?;
-            Ok(stop)
+    let [Operand::Value(a)] = s.stack.top(1) else {
+        unreachable!()
+    };
+    match on_numbers(operation, a, &Value::Int(0)) {
+        Ok(value) => {
+            s.stack.replace_top(value);
+            s.pc += 1;
+            Ok(Next::On)
         }
+        Err(fault) => Ok(stopped(fault)),
     }
 }
 
@@ -105,14 +108,16 @@ fn operate_on_two(s: &mut State, operation: Operation) -> Result<Next, NoMemory>
     requires numbers { has_texts operation ≡ false }
     ensures { IfOk result (λ next. (cells : Cells) → StepsSo (instrs.Do operation) (position_of s.old) cells (control_of s.new) cells next) }
 {
-    let b = s.stack.pop_value();
-    let a = s.stack.pop_value();
-    match give(s, on_numbers(operation, &a, &b))? {
-        None => Ok(Next::On),
-        Some(stop) => {
-            s.stack.push(Operand::Value(a))?;
-            s.stack.push(Operand::Value(b))?;
-            Ok(stop)
+    let [Operand::Value(a), Operand::Value(b)] = s.stack.top(2) else {
+        unreachable!()
+    };
+    match on_numbers(operation, a, b) {
+        Ok(value) => {
+            let _b = s.stack.pop_value();
+            s.stack.replace_top(value);
+            s.pc += 1;
+            Ok(Next::On)
         }
+        Err(fault) => Ok(stopped(fault)),
     }
 }

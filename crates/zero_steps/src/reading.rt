@@ -21,6 +21,7 @@ pub fn value_at<M: Memory>(m: &mut M, at: Addr, kind: Kind) -> Result<Value, Mem
 }
 
 /// Puts a value into a cell, where all texts then have room. Else nothing changes.
+#[inline(always)]
 pub fn put<M: Memory>(m: &mut M, at: Addr, value: &Value) -> Result<Set, MemFault>
     requires { IsCell at }
     ensures puts { IfOk result (PutsTaken (M.holds m.old) (M.holds m.new) at (held_of value.now)) }

@@ -8,9 +8,8 @@ ghost use Rattle.zero_state.specs.Finds.{TopValue, TopPlace, TopBoth};
 ghost use Rattle.zero_state.specs.Stepping.{position_of, control_of, IsReady, GoesOn, StepsSo, Accesses};
 
 use crate::counter::{has_reached, is_past};
-use crate::push::{push, push_on};
+use crate::push::push_on;
 use crate::reading::{put, value_at};
-use crate::values::put_back;
 use code_form::Operand;
 use eu_base::{Kind, MemFault, Memory, NoMemory, Set, Value, Way, number_in};
 use zero_state::{Next, State, have_room, place_in, run_cell};
@@ -56,13 +55,16 @@ pub fn load<M: Memory>(s: &mut State, m: &mut M, kind: Kind) -> Result<Next, Mem
     ensures cause { HasFaultCause (M.faults m.old) (M.faults m.new) result }
     ensures follows { M.follows m.old m.new }
 {
-    let at = s.stack.pop_place();
-    let value = value_at(m, at, kind)?;
-    if push(s, Operand::Value(value))? {
-        return Ok(Next::On);
+    let [Operand::Place(at)] = s.stack.top(1) else {
+        unreachable!()
+    };
+    let value = value_at(m, *at, kind)?;
+    if !s.stack.has_room_in_place(&value) {
+        return Ok(Next::OperandRoom);
     }
-    s.stack.push(Operand::Place(at))?;
-    Ok(Next::OperandRoom)
+    s.stack.replace_top(value);
+    s.pc += 1;
+    Ok(Next::On)
 }
 
 /// STORE
@@ -73,17 +75,17 @@ pub fn store<M: Memory>(s: &mut State, m: &mut M, kind: Kind) -> Result<Next, Me
     ensures cause { HasFaultCause (M.faults m.old) (M.faults m.new) result }
     ensures follows { M.follows m.old m.new }
 {
-    let value = s.stack.pop_value();
-    let at = s.stack.pop_place();
-    match put(m, at, &value)? {
+    let [Operand::Place(at), Operand::Value(value)] = s.stack.top(2) else {
+        unreachable!()
+    };
+    match put(m, *at, value)? {
         Set::Done => {
+            let _value = s.stack.pop_value();
+            let _at = s.stack.pop_place();
             s.pc += 1;
             Ok(Next::On)
         }
-        Set::HeapFull => {
-            put_back(&mut s.stack, at, value)?;
-            Ok(Next::TextRoom)
-        }
+        Set::HeapFull => Ok(Next::TextRoom),
     }
 }
 

@@ -1,15 +1,14 @@
 //! Values that an instruction takes, and puts back where it stops.
-ghost use Rattle.std.specs.Prelude.{◌≡◌, [], ◌∷◌, List, true, OnOk, IfOk};
+ghost use Rattle.std.specs.Prelude.{◌≡◌, [], List, true, OnOk, IfOk};
 ghost use Rattle.eu_base.specs.declared.value.Value.{Value as Values};
 ghost use Rattle.eu_base.specs.Room.{bytes_fit};
 ghost use Rattle.code_form.specs.declared.operand.Operand.{Operand};
-ghost use Rattle.code_form.specs.declared.operand.Operand.TheVariants as operand;
 ghost use Rattle.code_form.specs.Machine.{Move, on_values, bytes_on, bytes_of};
 ghost use Rattle.zero_state.specs.Finds.{TopValues};
 ghost use Rattle.zero_steps.specs.Giving.{put_on};
 
 use code_form::Operand;
-use eu_base::{Addr, NoMemory, Value};
+use eu_base::{NoMemory, Value};
 use std::alloc::Global;
 use zero_state::Stack;
 
@@ -37,13 +36,4 @@ pub fn push_values(stack: &mut Stack, mut values: Vec<Value>) -> Result<(), NoMe
         stack.push(Operand::Value(value))?;
     }
     Ok(())
-}
-
-/// Pushes a value that was taken, and the place that was taken below it.
-pub fn put_back(stack: &mut Stack, at: Addr, value: Value) -> Result<(), NoMemory>
-    requires { bytes_fit (bytes_on (operand.Value value ∷ operand.Place at ∷ stack.old.ops) (bytes_of stack.old.frames)) ≡ true }
-    ensures { OnOk result (stack.new ≡ record stack.old { ops = operand.Value value ∷ operand.Place at ∷ stack.old.ops }) }
-{
-    stack.push(Operand::Place(at))?;
-    stack.push(Operand::Value(value))
 }

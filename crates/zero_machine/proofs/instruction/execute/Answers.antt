@@ -1,8 +1,14 @@
-use Rattle.std.proofs.Common.{◌≡◌, get_or, rules, subst}
-use Rattle.code_form.specs.declared.instr.Instr.TheVariants.{Back, Out}
+use Rattle.std.proofs.Common.{◌≡◌, get_or, rules, refl, subst}
+use Rattle.std.proofs.lemmas.Int.{to_z-of_z}
+use Rattle.std.specs.Int.{w16}
+use Rattle.std.specs.Int.RustNames.{FitsSigned}
+use Rattle.eu_base.specs.declared.value.Value.TheVariants as item
+use Rattle.code_form.specs.declared.operand.Operand.TheVariants as operand
+use Rattle.code_form.specs.declared.instr.Instr.TheVariants.{Number, Truth, Text, Outer, Local, Param, Load, Store, Do, Modify, Jump, False, When, Drop}
+use Rattle.code_form.specs.declared.instr.Instr.TheVariants.{Limit, Unlimit, Step, Ask, ErrorStop, Back, Out}
 use Rattle.zero_state.specs.Stepping.{position_of, control_of, stage_by}
 use Rattle.zero_state.proofs.Making.{plain_steps}
-use Rattle.zero_machine.proofs.Executing.{call_so, refer_so, in_program, said_by, finds_alone, ends}
+use Rattle.zero_machine.proofs.Executing.{call_so, refer_so, said_by, accesses, goes_so, forgets_so, computed_so, pushes_so, asks_so, ends}
 use Rattle.zero_machine.proofs.instruction.execute.Goals as goal
 
 pub returns-in-Mark-clause-goes : goal.returns-in-Mark-clause-goes
@@ -12,12 +18,106 @@ returns-in-Mark-clause-goes g c =
     (λ cells. cells)
     (rw c.in-Mark.is (c.mark.ensures c.args.code.now)) (λ cells h. h)
 
-pub returns-in_ok-ask-in-Ask-clause-goes : goal.returns-in_ok-ask-in-Ask-clause-goes
-returns-in_ok-ask-in-Ask-clause-goes g c =
-    let holds = g.M.Memory.holds c.args.m.now in
-    plain_steps holds holds (stage_by c.args.code.now c.args.instr.now c.args.marks.now) (position_of c.args.s.now) (control_of c.ask.new.s) c.ask.new.marks _
-    (λ cells. cells)
-    (rw c.in-Ask.is (c.in_ok-ask-in-Ask.ensures c.args.code.now)) (λ cells h. h)
+pub returns-in-Number-clause-goes : goal.returns-in-Number-clause-goes
+returns-in-Number-clause-goes g c =
+    let fits : FitsSigned w16 c.in-Number.number = search rules in
+    let h = simp to_z-of_z at c.push_on.ensures in
+    pushes_so (g.M.Memory.holds c.args.m.now) c.args.code.now c.args.instr.now (Number c.in-Number.number) c.args.marks.now (position_of c.args.s.now)
+    (control_of c.push_on.new.s) c.in-Number.is c.push_on.result c.computed.result c.computed.ensures.same
+    (operand.Value (item.Int c.in-Number.number)) (λ p cells. refl) h
+
+pub returns-in-Truth-clause-goes : goal.returns-in-Truth-clause-goes
+returns-in-Truth-clause-goes g c =
+    pushes_so (g.M.Memory.holds c.args.m.now) c.args.code.now c.args.instr.now (Truth c.in-Truth.truth) c.args.marks.now (position_of c.args.s.now)
+    (control_of c.push_on-in-Truth.new.s) c.in-Truth.is c.push_on-in-Truth.result c.computed-in-Truth.result c.computed-in-Truth.ensures.same
+    (operand.Value (item.Truth c.in-Truth.truth)) (λ p cells. refl) c.push_on-in-Truth.ensures
+
+pub returns-in-Outer-clause-goes : goal.returns-in-Outer-clause-goes
+returns-in-Outer-clause-goes g c =
+    computed_so (g.M.Memory.holds c.args.m.now) c.args.code.now c.args.instr.now (Outer c.in-Outer.cell) c.args.marks.now (position_of c.args.s.now) (control_of c.outer.new.s) c.in-Outer.is
+    c.outer.result c.computed-in-Outer.result c.computed-in-Outer.ensures.same c.outer.ensures
+
+pub returns-in-Local-clause-goes : goal.returns-in-Local-clause-goes
+returns-in-Local-clause-goes g c =
+    computed_so (g.M.Memory.holds c.args.m.now) c.args.code.now c.args.instr.now (Local c.in-Local.cell) c.args.marks.now (position_of c.args.s.now) (control_of c.local.new.s) c.in-Local.is
+    c.local.result c.computed-in-Local.result c.computed-in-Local.ensures.same c.local.ensures
+
+pub returns-in-Do-clause-goes : goal.returns-in-Do-clause-goes
+returns-in-Do-clause-goes g c =
+    computed_so (g.M.Memory.holds c.args.m.now) c.args.code.now c.args.instr.now (Do c.in-Do.operation) c.args.marks.now (position_of c.args.s.now) (control_of c.operate.new.s) c.in-Do.is
+    c.operate.result c.computed-in-Do.result c.computed-in-Do.ensures.same c.operate.ensures
+
+pub returns-in-Text-clause-goes : goal.returns-in-Text-clause-goes
+returns-in-Text-clause-goes g c =
+    computed_so (g.M.Memory.holds c.args.m.now) c.args.code.now c.args.instr.now (Text c.in-Text.text) c.args.marks.now (position_of c.args.s.now) (control_of c.push_text.new.s) c.in-Text.is
+    c.push_text.result c.computed-in-Text.result c.computed-in-Text.ensures.same (rw c.as_slice.ensures at c.push_text.ensures)
+
+pub returns-in-Param-clause-goes : goal.returns-in-Param-clause-goes
+returns-in-Param-clause-goes g c =
+    accesses c.param.result (g.M.Memory.holds c.args.m.now) (g.M.Memory.holds c.param.new.m) (position_of c.args.s.now) (control_of c.param.new.s)
+    c.args.marks.now c.args.code.now c.args.instr.now (Param c.in-Param.cell) c.in-Param.is c.param.ensures.goes
+
+pub returns-in-Load-clause-goes : goal.returns-in-Load-clause-goes
+returns-in-Load-clause-goes g c =
+    accesses c.load.result (g.M.Memory.holds c.args.m.now) (g.M.Memory.holds c.load.new.m) (position_of c.args.s.now) (control_of c.load.new.s)
+    c.args.marks.now c.args.code.now c.args.instr.now (Load c.in-Load.kind) c.in-Load.is c.load.ensures.goes
+
+pub returns-in-Store-clause-goes : goal.returns-in-Store-clause-goes
+returns-in-Store-clause-goes g c =
+    accesses c.store.result (g.M.Memory.holds c.args.m.now) (g.M.Memory.holds c.store.new.m) (position_of c.args.s.now) (control_of c.store.new.s)
+    c.args.marks.now c.args.code.now c.args.instr.now (Store c.in-Store.kind) c.in-Store.is c.store.ensures.goes
+
+pub returns-in-Modify-clause-goes : goal.returns-in-Modify-clause-goes
+returns-in-Modify-clause-goes g c =
+    accesses c.modify.result (g.M.Memory.holds c.args.m.now) (g.M.Memory.holds c.modify.new.m) (position_of c.args.s.now) (control_of c.modify.new.s)
+    c.args.marks.now c.args.code.now c.args.instr.now (Modify c.in-Modify.by) c.in-Modify.is c.modify.ensures.goes
+
+pub returns-in-Limit-clause-goes : goal.returns-in-Limit-clause-goes
+returns-in-Limit-clause-goes g c =
+    accesses c.limit.result (g.M.Memory.holds c.args.m.now) (g.M.Memory.holds c.limit.new.m) (position_of c.args.s.now) (control_of c.limit.new.s)
+    c.args.marks.now c.args.code.now c.args.instr.now (Limit c.in-Limit.way c.in-Limit.to) c.in-Limit.is c.limit.ensures.goes
+
+pub returns-in-Step-clause-goes : goal.returns-in-Step-clause-goes
+returns-in-Step-clause-goes g c =
+    accesses c.step.result (g.M.Memory.holds c.args.m.now) (g.M.Memory.holds c.step.new.m) (position_of c.args.s.now) (control_of c.step.new.s)
+    c.args.marks.now c.args.code.now c.args.instr.now (Step c.in-Step.way c.in-Step.to) c.in-Step.is c.step.ensures.goes
+
+pub returns-in-Jump-clause-goes : goal.returns-in-Jump-clause-goes
+returns-in-Jump-clause-goes g c =
+    goes_so (g.M.Memory.holds c.args.m.now) c.args.code.now c.args.instr.now (Jump c.in-Jump.to) c.args.marks.now (position_of c.args.s.now) _ c.in-Jump.is
+    (λ cells p marks. rw c.requires.ready.free refl)
+
+pub returns-in-False-clause-goes : goal.returns-in-False-clause-goes
+returns-in-False-clause-goes g c =
+    goes_so (g.M.Memory.holds c.args.m.now) c.args.code.now c.args.instr.now (False c.in-False.to) c.args.marks.now (position_of c.args.s.now) (control_of c.jump_false.new.s)
+    c.in-False.is c.jump_false.ensures
+
+pub returns-in-Drop-clause-goes : goal.returns-in-Drop-clause-goes
+returns-in-Drop-clause-goes g c =
+    goes_so (g.M.Memory.holds c.args.m.now) c.args.code.now c.args.instr.now Drop c.args.marks.now (position_of c.args.s.now) (control_of c.drop_value.new.s)
+    c.in-Drop.is c.drop_value.ensures
+
+pub returns-in-ErrorStop-clause-goes : goal.returns-in-ErrorStop-clause-goes
+returns-in-ErrorStop-clause-goes g c =
+    goes_so (g.M.Memory.holds c.args.m.now) c.args.code.now c.args.instr.now ErrorStop c.args.marks.now (position_of c.args.s.now) (control_of c.error_stop.new.s)
+    c.in-ErrorStop.is c.error_stop.ensures
+
+pub returns-in_ok-when-in-When-clause-goes : goal.returns-in_ok-when-in-When-clause-goes
+returns-in_ok-when-in-When-clause-goes g c =
+    let fits : FitsSigned w16 c.in-When.label = search rules in
+    let h = simp to_z-of_z at c.in_ok-when-in-When.ensures in
+    goes_so (g.M.Memory.holds c.args.m.now) c.args.code.now c.args.instr.now (When c.in-When.label c.in-When.to) c.args.marks.now (position_of c.args.s.now)
+    (control_of c.when.new.s) c.in-When.is h
+
+pub returns-in-Unlimit-clause-goes : goal.returns-in-Unlimit-clause-goes
+returns-in-Unlimit-clause-goes g c =
+    forgets_so (g.M.Memory.holds c.args.m.now) c.args.code.now c.args.instr.now Unlimit c.args.marks.now (position_of c.args.s.now) (control_of c.unlimit.new.s)
+    c.in-Unlimit.is c.unlimit.new.s.used c.args.s.now.used (g.met.M.Memory.forgets c.args.m.now) c.unlimit.ensures
+
+pub returns-in-Ask-clause-goes : goal.returns-in-Ask-clause-goes
+returns-in-Ask-clause-goes g c =
+    asks_so (g.M.Memory.holds c.args.m.now) c.args.code.now c.args.instr.now (Ask c.in-Ask.request) c.args.marks.now (position_of c.args.s.now) (control_of c.ask.new.s)
+    c.in-Ask.is c.ask.new.marks c.ask.result c.computed-in-Ask.result c.computed-in-Ask.ensures.same c.ask.ensures
 
 pub returns-in-Call-clause-goes : goal.returns-in-Call-clause-goes
 returns-in-Call-clause-goes g c =
@@ -47,12 +147,3 @@ pub returns-in-End-clause-goes : goal.returns-in-End-clause-goes
 returns-in-End-clause-goes g c =
     let holds = g.M.Memory.holds c.args.m.now in
     ends holds (position_of c.args.s.now) c.args.marks.now c.args.s.now.waits c.requires.ready.free c.args.code.now c.args.instr.now c.in-End.is
-
-pub spend_nothing-requires-clause-finds : goal.spend_nothing-requires-clause-finds
-spend_nothing-requires-clause-finds g c =
-    finds_alone c.args.code.now.bodies c.args.instr.now (position_of c.args.s.now) (search rules) c.requires.finds
-
-pub returns-in_default-clause-goes : goal.returns-in_default-clause-goes
-returns-in_default-clause-goes g c =
-    in_program c.spend_nothing.result (g.M.Memory.holds c.args.m.now) (g.M.Memory.holds c.spend_nothing.new.m) (position_of c.args.s.now)
-    (control_of c.spend_nothing.new.s) c.args.marks.now c.args.code.now c.args.instr.now c.spend_nothing.ensures.goes

@@ -1,7 +1,4 @@
-use Rattle.std.proofs.Common.{◌≡◌, Some, sym, ap, ◌∙◌}
-use Rattle.std.specs.Prelude.{slice_get, IfOk}
-use Rattle.code_form.specs.declared.instr.Instr.TheVariants.{Ask}
-use Rattle.code_form.specs.Program.{instr_of}
+use Rattle.std.proofs.Common.{Some, sym, ap, ◌∙◌}
 use Rattle.zero_state.specs.Stepping.{position_of, control_of}
 use Rattle.zero_steps.specs.Replying.{Replies}
 use Rattle.zero_machine.proofs.Finds.{reply_finds}

@@ -8,8 +8,8 @@ use Rattle.zero_state.specs.Stepping.{control_of, scene_of}
 use Rattle.zero_machine.proofs.machine.run.Given as goal
 
 -- from here it comes to the rest to which it comes from its start
-abbrev pub invariant-loop-halt : goal.invariant-loop-halt
-invariant-loop-halt g l = record {
+abbrev pub invariant-loop-s : goal.invariant-loop-s
+invariant-loop-s g l = record {
   rests : (cells : Cells) (r : Rest) → g.M.Memory.holds l.fn.m cells → Rests l.fn.code (control_of l.fn.s) (scene_of cells l.fn.marks) r
       → (now : Cells) × (g.M.Memory.holds l.m now × Rests l.code (control_of l.s) (scene_of now l.marks) r);
   fits : Fits l.code (control_of l.s);
@@ -19,5 +19,5 @@ invariant-loop-halt g l = record {
   follows : g.M.Memory.follows l.fn.m l.m;
 }
 
-abbrev pub decreases-loop-halt : goal.decreases-loop-halt
-decreases-loop-halt g l = steps_left l.code.lines l.marks (length l.s.stack.frames) l.s.pc
+abbrev pub decreases-loop-s : goal.decreases-loop-s
+decreases-loop-s g l = steps_left l.code.lines l.marks (length l.s.stack.frames) l.s.pc

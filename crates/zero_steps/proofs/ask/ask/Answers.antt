@@ -1,4 +1,4 @@
-use Rattle.std.proofs.Common.{length, ◌+◌, ap, ◌∙◌, map}
+use Rattle.std.proofs.Common.{ap, ◌∙◌, map}
 use Rattle.eu_base.specs.Requests.{request_size, request_of}
 use Rattle.code_form.specs.declared.halt.Halt.TheVariants as halts
 use Rattle.code_form.specs.Machine.{Asks, Over, value_in, rest_at}

@@ -1,10 +1,12 @@
-use Rattle.std.proofs.Common.{◌+◌, refl, ap, ◌∙◌, subst}
-use Rattle.std.specs.Prelude.{Ok}
+use Rattle.std.proofs.Common.{◌≡◌, [], ◌∷◌, ◌+◌, List, refl, ap, ◌∙◌, subst, take}
+use Rattle.std.specs.Prelude.{Ok, reverse}
+use Rattle.code_form.specs.declared.operand.Operand.{Operand}
 use Rattle.code_form.specs.declared.operand.Operand.TheVariants as operand
 use Rattle.code_form.specs.declared.instr.Instr.TheVariants.{Modify}
+use Rattle.zero_state.specs.Stacked.{Stacked}
 use Rattle.zero_state.specs.declared.next.Next.TheVariants.{On, TextRoom}
 use Rattle.zero_steps.specs.Reading.{Changes}
-use Rattle.zero_steps.proofs.Accessing.{accessed, both, modify_goes, modify_full, modify_stops}
+use Rattle.zero_steps.proofs.Accessing.{accessed, both, with_ops, modify_goes, modify_full, modify_stops}
 use Rattle.zero_steps.proofs.change.modify.Goals as goal
 
 pub returns-in-Ok-Done-clause-goes : goal.returns-in-Ok-Done-clause-goes
@@ -15,35 +17,44 @@ returns-in-Ok-Done-clause-goes g c =
     let t = c.pop_place-at.new.self in
     let v = c.pop_value-operand.result in
     let a = c.pop_place-at.result in
-    accessed before after (Modify c.args.by) On s.pc s.used (s.pc + 1) s.used s.stack t _ t s.waits c.requires.ready.free
-    (both s.stack c.pop_value-operand.new.self t (operand.Value v) (operand.Place a) c.pop_value-operand.ensures c.pop_place-at.ensures) refl
+    let taken = both s.stack c.pop_value-operand.new.self t (operand.Value v) (operand.Place a) c.pop_value-operand.ensures c.pop_place-at.ensures in
+    let seen : c.top.result.now ≡ operand.Place a ∷ operand.Value v ∷ [] =
+    c.top.ensures ∙ ap (λ (u : Stacked). reverse (take 2 u.ops)) taken in
+    let changes : Changes before after a c.args.by v c.in_ok-change_at.field-0 = rw seen at c.in_ok-change_at.ensures.changes in
+    accessed before after (Modify c.args.by) On s.pc s.used (s.pc + 1) s.used s.stack t _ t s.waits c.requires.ready.free taken refl
     (modify_goes before after c.args.by v a s.pc s.used t
-    (subst (Changes before after a c.args.by v) (c.in-Ok-Done.is ∙ ap Ok c.in-Ok-Done.field-0-is) c.in_ok-change_at.ensures.changes))
+    (subst (Changes before after a c.args.by v) (c.in-Ok-Done.is ∙ ap Ok c.in-Ok-Done.field-0-is) changes))
 
-pub returns-in_ok-put_back-in-Ok-HeapFull-clause-goes : goal.returns-in_ok-put_back-in-Ok-HeapFull-clause-goes
-returns-in_ok-put_back-in-Ok-HeapFull-clause-goes g c =
+pub returns-in-Ok-HeapFull-clause-goes : goal.returns-in-Ok-HeapFull-clause-goes
+returns-in-Ok-HeapFull-clause-goes g c =
     let before = g.M.Memory.holds c.args.m.now in
     let after = g.M.Memory.holds c.change_at.new.m in
     let s = c.args.s.now in
-    let t = c.pop_place-at.new.self in
-    let v = c.pop_value-operand.result in
-    let a = c.pop_place-at.result in
-    accessed before after (Modify c.args.by) TextRoom s.pc s.used s.pc s.used s.stack c.put_back.new.stack _ _ s.waits c.requires.ready.free
-    (both s.stack c.pop_value-operand.new.self t (operand.Value v) (operand.Place a) c.pop_value-operand.ensures c.pop_place-at.ensures)
-    c.in_ok-put_back-in-Ok-HeapFull.ensures
+    let v = c.requires.finds.value in
+    let a = c.requires.finds.place in
+    let t : Stacked = record { ops = c.requires.finds.rest; frames = s.stack.frames } in
+    let there : s.stack ≡ with_ops t (operand.Value v ∷ operand.Place a ∷ t.ops) =
+    ap (λ (ops : List Operand). with_ops t ops) c.requires.finds.top in
+    let seen : c.top.result.now ≡ operand.Place a ∷ operand.Value v ∷ [] =
+    c.top.ensures ∙ ap (λ (u : Stacked). reverse (take 2 u.ops)) there in
+    let changes : Changes before after a c.args.by v c.in_ok-change_at.field-0 = rw seen at c.in_ok-change_at.ensures.changes in
+    accessed before after (Modify c.args.by) TextRoom s.pc s.used s.pc s.used s.stack s.stack _ _ s.waits c.requires.ready.free there there
     (modify_full before after c.args.by v a s.pc s.used t
-    (subst (Changes before after a c.args.by v) (c.in-Ok-HeapFull.is ∙ ap Ok c.in-Ok-HeapFull.field-0-is) c.in_ok-change_at.ensures.changes))
+    (subst (Changes before after a c.args.by v) (c.in-Ok-HeapFull.is ∙ ap Ok c.in-Ok-HeapFull.field-0-is) changes))
 
-pub returns-in_ok-put_back-in-Err-clause-goes : goal.returns-in_ok-put_back-in-Err-clause-goes
-returns-in_ok-put_back-in-Err-clause-goes g c =
+pub returns-in-Err-clause-goes : goal.returns-in-Err-clause-goes
+returns-in-Err-clause-goes g c =
     let before = g.M.Memory.holds c.args.m.now in
     let after = g.M.Memory.holds c.change_at.new.m in
     let s = c.args.s.now in
-    let t = c.pop_place-at.new.self in
-    let v = c.pop_value-operand.result in
-    let a = c.pop_place-at.result in
-    accessed before after (Modify c.args.by) c.stopped.result s.pc s.used s.pc s.used s.stack c.put_back-in-Err.new.stack _ _ s.waits c.requires.ready.free
-    (both s.stack c.pop_value-operand.new.self t (operand.Value v) (operand.Place a) c.pop_value-operand.ensures c.pop_place-at.ensures)
-    c.in_ok-put_back-in-Err.ensures
-    (modify_stops before after c.args.by v a s.pc s.used t _ c.stopped.result
-    (subst (Changes before after a c.args.by v) c.in-Err.is c.in_ok-change_at.ensures.changes) c.stopped.ensures)
+    let v = c.requires.finds.value in
+    let a = c.requires.finds.place in
+    let t : Stacked = record { ops = c.requires.finds.rest; frames = s.stack.frames } in
+    let there : s.stack ≡ with_ops t (operand.Value v ∷ operand.Place a ∷ t.ops) =
+    ap (λ (ops : List Operand). with_ops t ops) c.requires.finds.top in
+    let seen : c.top.result.now ≡ operand.Place a ∷ operand.Value v ∷ [] =
+    c.top.ensures ∙ ap (λ (u : Stacked). reverse (take 2 u.ops)) there in
+    let changes : Changes before after a c.args.by v c.in_ok-change_at.field-0 = rw seen at c.in_ok-change_at.ensures.changes in
+    accessed before after (Modify c.args.by) c.stopped.result s.pc s.used s.pc s.used s.stack s.stack _ _ s.waits c.requires.ready.free there there
+    (modify_stops before after c.args.by v a s.pc s.used t _ c.stopped.result (subst (Changes before after a c.args.by v) c.in-Err.is changes)
+    c.stopped.ensures)

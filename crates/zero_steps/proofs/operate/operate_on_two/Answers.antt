@@ -1,25 +1,52 @@
-use Rattle.std.proofs.Common.{[], ◌∷◌, refl, ap, subst}
+use Rattle.std.proofs.Common.{◌≡◌, [], ◌∷◌, List, refl, sym, ap, ◌∙◌, take}
+use Rattle.std.specs.Prelude.{Ok, reverse}
+use Rattle.eu_base.specs.Operations.{result_of}
+use Rattle.code_form.specs.declared.operand.Operand.{Operand}
 use Rattle.code_form.specs.declared.operand.Operand.TheVariants as operand
-use Rattle.zero_state.specs.Stacked.{Stacked}
-use Rattle.zero_state.specs.Stepping.{position_of, control_of}
 use Rattle.zero_ops.specs.Given.{given_of}
-use Rattle.zero_steps.specs.Giving.{GivesSo}
-use Rattle.zero_steps.proofs.Operating.{values_on, put_back, stops_so}
-use Rattle.zero_steps.proofs.Accessing.{both}
+use Rattle.zero_state.specs.Stacked.{Stacked}
+use Rattle.zero_steps.proofs.Operating.{values_on, fits_for, gives_so, popped, placed, place_fits}
+use Rattle.zero_steps.proofs.Accessing.{with_ops}
 use Rattle.zero_steps.proofs.operate.operate_on_two.Goals as goal
 
-pub returns-in_ok-push-in-Some-2 : goal.returns-in_ok-push-in-Some-2
-returns-in_ok-push-in-Some-2 c =
+pub replace_top-requires-clause-room : goal.replace_top-requires-clause-room
+replace_top-requires-clause-room c =
     let s = c.args.s.now in
-    let t = record s { stack = c.pop_value-a.new.self } in
-    let a = c.pop_value-a.result in
-    let b = c.pop_value-b.result in
-    let g = given_of c.on_numbers.result in
-    let gives = subst (GivesSo g t c.give.new.s) c.in-Some.is c.in_ok-give.ensures in
-    let taken = both s.stack c.pop_value-b.new.self t.stack (operand.Value b) (operand.Value a) c.pop_value-b.ensures c.pop_value-a.ensures in
-    stops_so c.args.operation (a ∷ b ∷ []) (position_of s) t.stack.ops g t c.give.new.s c.in-Some.stop
-    (values_on _ 2 s.stack.ops (operand.Value b ∷ operand.Value a ∷ t.stack.ops) c.requires.arity (ap (λ (u : Stacked). u.ops) taken))
-    c.on_numbers.ensures gives refl (ap (λ (u : Stacked). u.frames) taken) _
-    (put_back (control_of t) (control_of c.give.new.s) (operand.Value b ∷ operand.Value a ∷ []) s.stack c.push-in-Some.new.self gives.0 c.requires.ready.free
-    taken (both c.push-in-Some.new.self c.push.new.self c.give.new.s.stack (operand.Value b) (operand.Value a) c.in_ok-push-in-Some-2.ensures
-    c.in_ok-push-in-Some.ensures))
+    let b = c.requires.finds.0 in
+    let a = c.requires.finds.1.2.0 in
+    let v = c.in-Ok.value in
+    let op = c.args.operation in
+    let t : Stacked = record { ops = c.requires.finds.1.2.1.0; frames = s.stack.frames } in
+    let there : s.stack ≡ with_ops t (operand.Value b ∷ operand.Value a ∷ t.ops) =
+    ap (λ (ops : List Operand). with_ops t ops)
+    (c.requires.finds.1.1 ∙ ap (λ (ops : List Operand). operand.Value b ∷ ops) c.requires.finds.1.2.1.1) in
+    let seen : c.top.result.now ≡ operand.Value a ∷ operand.Value b ∷ [] =
+    c.top.ensures ∙ ap (λ (u : Stacked). reverse (take 2 u.ops)) there in
+    let given : given_of c.on_numbers.result ≡ result_of op (a ∷ b ∷ []) = rw seen at c.on_numbers.ensures in
+    let is : Ok v ≡ result_of op (a ∷ b ∷ []) = ap given_of (sym c.in-Ok.is) ∙ given in
+    let fits = fits_for op (a ∷ b ∷ []) v is s.stack t a (operand.Value b ∷ []) c.requires.numbers there c.requires.ready.bytes in
+    let left = popped t c.pop_value-b.new.self (operand.Value b) (operand.Value c.pop_value-b.result) (operand.Value a ∷ t.ops)
+    (sym there ∙ c.pop_value-b.ensures) in
+    place_fits t c.pop_value-b.new.self v (operand.Value a) left fits
+
+pub returns-in-Ok : goal.returns-in-Ok
+returns-in-Ok c =
+    let s = c.args.s.now in
+    let b = c.requires.finds.0 in
+    let a = c.requires.finds.1.2.0 in
+    let v = c.in-Ok.value in
+    let op = c.args.operation in
+    let t : Stacked = record { ops = c.requires.finds.1.2.1.0; frames = s.stack.frames } in
+    let there : s.stack ≡ with_ops t (operand.Value b ∷ operand.Value a ∷ t.ops) =
+    ap (λ (ops : List Operand). with_ops t ops)
+    (c.requires.finds.1.1 ∙ ap (λ (ops : List Operand). operand.Value b ∷ ops) c.requires.finds.1.2.1.1) in
+    let seen : c.top.result.now ≡ operand.Value a ∷ operand.Value b ∷ [] =
+    c.top.ensures ∙ ap (λ (u : Stacked). reverse (take 2 u.ops)) there in
+    let given : given_of c.on_numbers.result ≡ result_of op (a ∷ b ∷ []) = rw seen at c.on_numbers.ensures in
+    let is : Ok v ≡ result_of op (a ∷ b ∷ []) = ap given_of (sym c.in-Ok.is) ∙ given in
+    let fits = fits_for op (a ∷ b ∷ []) v is s.stack t a (operand.Value b ∷ []) c.requires.numbers there c.requires.ready.bytes in
+    let left = popped t c.pop_value-b.new.self (operand.Value b) (operand.Value c.pop_value-b.result) (operand.Value a ∷ t.ops)
+    (sym there ∙ c.pop_value-b.ensures) in
+    gives_so op (a ∷ b ∷ []) v is s.stack t s.pc s.used c.replace_top.new.self s.waits
+    (values_on _ 2 s.stack.ops (operand.Value b ∷ operand.Value a ∷ t.ops) c.requires.arity (ap (λ (u : Stacked). u.ops) there)) fits refl
+    (placed t c.pop_value-b.new.self c.replace_top.new.self v (operand.Value a) left c.replace_top.ensures) c.requires.ready.free

@@ -1,8 +1,6 @@
-use Rattle.std.proofs.Common.{◌≡◌, ◌+◌, drop, sym, ap, ◌∙◌, subst}
-use Rattle.std.specs.Prelude.{Option}
-use Rattle.eu_base.specs.declared.address.Addr.{Addr}
-use Rattle.eu_base.specs.Requests.{request_size, read_as}
-use Rattle.code_form.specs.Machine.{Control, free, at}
+use Rattle.std.proofs.Common.{◌+◌, drop, sym, ap, ◌∙◌, subst}
+use Rattle.eu_base.specs.Requests.{read_as}
+use Rattle.code_form.specs.Machine.{free}
 use Rattle.zero_state.specs.Stacked.{Stacked}
 use Rattle.zero_state.specs.declared.next.Next.TheVariants.{On, TextRoom}
 use Rattle.zero_state.specs.Stepping.{position_of}
