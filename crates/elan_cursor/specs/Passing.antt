@@ -15,9 +15,20 @@ first_of (Ok x) (Ok y) = Ok x
 first_of (Ok x) (Err e) = Err e
 first_of (Err d) _ = Err d
 
+-- both, where both were read
+abbrev pub both_of : {A B : Type 0} → Result A ParseError → Result B ParseError → Result (A × B) ParseError
+both_of (Ok x) (Ok y) = Ok (x, y)
+both_of (Ok x) (Err e) = Err e
+both_of (Err d) _ = Err d
+
 -- What was read stays, where something more is read behind it.
 abbrev pub StandsBefore : {A B : Type 0} → Outcome B → Result A ParseError → Result A ParseError → Tokens → Type 0
 StandsBefore {A} {B} behind (Ok x) (Ok y) new = (y ≡ x) × (b : B) × (behind ≡ Ok (b, new))
 StandsBefore behind (Ok x) (Err e) new = e ≢ NoMemory → behind ≡ Err e
 StandsBefore behind (Err d) (Ok y) new = ⊥
 StandsBefore behind (Err d) (Err e) new = e ≡ d
+
+-- What was read so far is as it has to be, or there is none, for the reason that there is nothing at all.
+abbrev pub GoesOn : {A S : Type 0} → Outcome A → (S → Type 0) → Result S ParseError → Type 0
+GoesOn outcome Fits (Ok row) = Fits row
+GoesOn outcome Fits (Err e) = e ≢ NoMemory → outcome ≡ Err e

@@ -1,12 +1,12 @@
 //! What is made of what was read.
 
-ghost use Rattle.std.specs.Prelude.{◌≡◌, Some};
+ghost use Rattle.std.specs.Prelude.{◌≡◌, [], ◌∷◌, ◌++◌, max, Some, Ok, IfOk};
 ghost use Rattle.elan_grammar.specs.Pairs.{IsMade};
-ghost use Rattle.elan_cursor.specs.Passing.{first_of};
+ghost use Rattle.elan_cursor.specs.Passing.{both_of, first_of};
 
-use containers::Boxed;
+use containers::{Boxed, List};
 use elan_grammar::ParseError;
-use elan_grammar::tall::{Tall, and, boxed};
+use elan_grammar::tall::{Tall, and, boxed, with_next};
 use std::alloc::Global;
 
 /// What was read, where something was read behind it.
@@ -18,6 +18,29 @@ pub fn before<T: Drop>(
 {
     let (read, _) = and(read?, behind)?;
     Ok(read)
+}
+
+/// What was read, and what was read behind it. The first failure is kept: what stands behind it was read to no purpose, but the
+/// caller needs no exit while it holds a tree.
+pub fn both<A: Drop, B: Drop>(
+    read: Result<A, ParseError>,
+    behind: Result<B, ParseError>,
+) -> Result<(A, B), ParseError>
+    ensures both { IfOk result (λ p. (read ≡ Ok p.0) × (behind ≡ Ok p.1)) }
+    ensures first { result ≡ both_of read behind }
+{
+    and(read?, behind)
+}
+
+/// A list with one more, where both were read.
+pub fn longer<T: Drop>(
+    row: Result<Tall<List<T>>, ParseError>,
+    next: Result<Tall<T>, ParseError>,
+) -> Result<Tall<List<T>>, ParseError>
+    ensures { IsMade (λ p list. (list.tree ≡ p.0.tree ++ p.1.tree ∷ []) × (list.height ≡ max p.0.height p.1.height))
+        (both_of row next) result }
+{
+    with_next(row?, next)
 }
 
 /// What was read, and how deep it is.

@@ -12,7 +12,7 @@ ghost use Rattle.elan_grammar.specs.Depth.{expr_depth, expr_place};
 use containers::{Boxed, List};
 use elan_cursor::Cursor;
 use elan_cursor::kind::{OPERAND_LEVEL, WORD_LEVEL};
-use elan_cursor::made::boxed_and;
+use elan_cursor::made::{both, boxed_and};
 use elan_grammar::tall::{Tall, and, boxed};
 use elan_grammar::{Joint, ParseError, Right};
 use elan_tree::{Expr, Unit};
@@ -103,8 +103,8 @@ impl<
         ensures { Parses (spec.applied (units.phrases self.now.depth) self.now.depth) expr_depth (AtMost self.now.depth)
             cursor.old.rest.now result cursor.new.rest.now }
     {
-        cursor.below(0, self.depth)?;
-        let (at, operator) = cursor.monadic(self.alloc)?;
+        let low = cursor.below(0, self.depth);
+        let (_, (at, operator)) = both(low, cursor.monadic(self.alloc))?;
         let operand = boxed(self.alloc, self.inner(cursor, OPERAND_LEVEL));
         let (operator, operand) = and(operator, operand)?;
         let tree = Expr::Monadic {

@@ -11,10 +11,10 @@ use crate::expressions::{Grammar, expr_place};
 use containers::List;
 use elan_cursor::Cursor;
 use elan_cursor::kind::{WORD_LEVEL, selects};
-use elan_cursor::made::{boxed_and, tall};
+use elan_cursor::made::{both, boxed_and, longer, tall};
 use elan_cursor::passing::before_sign;
 use elan_grammar::ParseError;
-use elan_grammar::tall::{Tall, and, boxed, single, with_next};
+use elan_grammar::tall::{Tall, and, boxed, single};
 use elan_tree::{Expr, Key, Name, Sign, Unit};
 use std::alloc::Global;
 
@@ -28,8 +28,8 @@ fn field_part(
     ensures parses { Gives ((spec.field_part (units.phrases depth) depth height).run cursor.old.rest.now) result cursor.new.rest.now }
     ensures below { IfOk result (λ _. height < depth) }
 {
-    cursor.opening_sign(Sign::Point, height, depth)?;
-    cursor.ident(alloc)
+    let point = cursor.opening_sign(Sign::Point, height, depth);
+    point.and(cursor.ident(alloc))
 }
 
 impl<
@@ -42,9 +42,9 @@ impl<
         ensures { Parses (spec.bracket (units.phrases self.now.depth) self.now.depth) expr_depth (AtMost self.now.depth)
             cursor.old.rest.now result cursor.new.rest.now }
     {
-        let at = cursor.opening_sign(Sign::LeftRound, 0, self.depth)?;
+        let at = cursor.opening_sign(Sign::LeftRound, 0, self.depth);
         let inner = boxed(self.alloc, self.inner(cursor, WORD_LEVEL));
-        let inner = before_sign(inner, cursor, Sign::RightRound)?;
+        let (at, inner) = both(at, before_sign(inner, cursor, Sign::RightRound))?;
         Ok(Tall {
             tree: Expr::Bracket(at, inner.tree),
             height: inner.height + 1,
@@ -57,10 +57,10 @@ impl<
         ensures { Parses (spec.concr (units.phrases self.now.depth) self.now.depth) expr_depth (AtMost self.now.depth)
             cursor.old.rest.now result cursor.new.rest.now }
     {
-        let at = cursor.opening(Key::Concr, self.depth)?;
-        cursor.mark(Sign::LeftRound)?;
+        let at = cursor.opening(Key::Concr, self.depth);
+        let at = before_sign(at, cursor, Sign::LeftRound);
         let inner = boxed(self.alloc, self.inner(cursor, WORD_LEVEL));
-        let inner = before_sign(inner, cursor, Sign::RightRound)?;
+        let (at, inner) = both(at, before_sign(inner, cursor, Sign::RightRound))?;
         Ok(Tall {
             tree: Expr::Concr(at, inner.tree),
             height: inner.height + 1,
@@ -71,8 +71,7 @@ impl<
     fn procedure(&self, cursor: &mut Cursor<'_>) -> Result<Expr, ParseError>
         ensures { Gives ((spec.procedure (units.phrases self.now.depth) self.now.depth).run cursor.old.rest.now) result cursor.new.rest.now }
     {
-        let at = cursor.keyword(Key::Proc)?;
-        let name = cursor.ident(self.alloc)?;
+        let (at, name) = both(cursor.keyword(Key::Proc), cursor.ident(self.alloc))?;
         Ok(Expr::Procedure(at, name))
     }
 
@@ -96,14 +95,14 @@ impl<
         ensures { Parses (spec.actuals (units.phrases self.now.depth) self.now.depth) (deepest_of expr_depth) (Below self.now.depth)
             cursor.old.rest.now result cursor.new.rest.now }
     {
-        let mut row = single(self.alloc, self.actual(cursor))?;
+        let mut row = single(self.alloc, self.actual(cursor));
         for _turn in 0..cursor.rest.len() {
             if !cursor.passes_sign(Sign::Comma) {
-                return Ok(row);
+                return row;
             }
-            row = with_next(row, self.actual(cursor))?;
+            row = longer(row, self.actual(cursor));
         }
-        Ok(row)
+        row
     }
 
     #[tactic(auto, unfolding(elan_grammar::specs::Expressions::call))]
@@ -167,9 +166,9 @@ impl<
             cursor.old.rest.now result cursor.new.rest.now }
         ensures below { IfOk result (λ _. height < self.now.depth) }
     {
-        cursor.opening_sign(Sign::LeftSquare, height, self.depth)?;
+        let opening = cursor.opening_sign(Sign::LeftSquare, height, self.depth);
         let index = self.inner(cursor, WORD_LEVEL);
-        before_sign(index, cursor, Sign::RightSquare)
+        opening.and(before_sign(index, cursor, Sign::RightSquare))
     }
 
     #[tactic(auto, unfolding(elan_grammar::specs::Expressions::index))]

@@ -12,9 +12,9 @@ use crate::labels::labels;
 use containers::List;
 use elan_cursor::Cursor;
 use elan_cursor::kind::WORD_LEVEL;
-use elan_cursor::made::{before, some};
+use elan_cursor::made::{before, both, longer, some};
 use elan_cursor::passing::{before_end, before_key, before_sign};
-use elan_grammar::tall::{Tall, and, boxed, single, with_next};
+use elan_grammar::tall::{Tall, boxed, single};
 use elan_grammar::{ParseError, SelectParts};
 use elan_tree::{Branch, Case, Expr, Key, Sign, Unit};
 use std::alloc::Global;
@@ -41,8 +41,8 @@ impl<
             cursor.old.rest.now result cursor.new.rest.now }
     {
         let condition = self.expression(cursor, WORD_LEVEL);
-        let condition = before_key(condition, cursor, Key::Then)?;
-        let (condition, units) = and(condition, self.units(cursor))?;
+        let condition = before_key(condition, cursor, Key::Then);
+        let (condition, units) = both(condition, self.units(cursor))?;
         let height = condition.height.max(units.height);
         let tree = Branch {
             condition: condition.tree,
@@ -57,14 +57,14 @@ impl<
         ensures { Parses (spec.branches (units.phrases self.now.depth) self.now.depth) (deepest_of branch_depth) (Below self.now.depth)
             cursor.old.rest.now result cursor.new.rest.now }
     {
-        let mut row = single(self.alloc, self.branch(cursor))?;
+        let mut row = single(self.alloc, self.branch(cursor));
         for _turn in 0..cursor.rest.len() {
             if !cursor.passes_key(Key::Elif) {
-                return Ok(row);
+                return row;
             }
-            row = with_next(row, self.branch(cursor))?;
+            row = longer(row, self.branch(cursor));
         }
-        Ok(row)
+        row
     }
 
     #[tactic(auto, unfolding(elan_grammar::specs::Expressions::else_part))]
@@ -91,9 +91,9 @@ impl<
             cursor.old.rest.now result cursor.new.rest.now }
     {
         let at = cursor.opening(Key::If, self.depth)?;
-        let branches = self.branches(cursor)?;
+        let branches = self.branches(cursor);
         let otherwise = before(self.else_part(cursor), choice_end(cursor));
-        let (branches, otherwise) = and(branches, otherwise)?;
+        let (branches, otherwise) = both(branches, otherwise)?;
         let height = branches.height.max(otherwise.height);
         let tree = Expr::If {
             at,
@@ -112,9 +112,9 @@ impl<
         ensures { Parses (spec.a_case (units.phrases self.now.depth) self.now.depth) case_depth (Below self.now.depth)
             cursor.old.rest.now result cursor.new.rest.now }
     {
-        cursor.keyword(Key::Case)?;
-        let labels = before_sign(labels(self.alloc, cursor), cursor, Sign::Colon)?;
-        let (labels, units) = and(labels, self.units(cursor))?;
+        let start = cursor.keyword(Key::Case);
+        let labels = before_sign(labels(self.alloc, cursor), cursor, Sign::Colon);
+        let (labels, units) = start.and(both(labels, self.units(cursor)))?;
         let tree = Case {
             labels,
             units: units.tree,
@@ -131,14 +131,14 @@ impl<
         ensures { Parses (spec.cases (units.phrases self.now.depth) self.now.depth) (deepest_of case_depth) (Below self.now.depth)
             cursor.old.rest.now result cursor.new.rest.now }
     {
-        let mut row = single(self.alloc, self.a_case(cursor))?;
+        let mut row = single(self.alloc, self.a_case(cursor));
         for _turn in 0..cursor.rest.len() {
             if !cursor.sees_key(Key::Case) {
-                return Ok(row);
+                return row;
             }
-            row = with_next(row, self.a_case(cursor))?;
+            row = longer(row, self.a_case(cursor));
         }
-        Ok(row)
+        row
     }
 
     #[tactic(auto, unfolding(elan_grammar::specs::Expressions::otherwise_part))]
@@ -169,9 +169,9 @@ impl<
             (λ t. max (deepest_of case_depth t.cases) (if_any (deepest_of unit_depth) t.otherwise)) (Below self.now.depth)
             cursor.old.rest.now result cursor.new.rest.now }
     {
-        let cases = self.cases(cursor)?;
+        let cases = self.cases(cursor);
         let otherwise = before_end(self.otherwise_part(cursor), cursor, Key::Select);
-        let (cases, otherwise) = and(cases, otherwise)?;
+        let (cases, otherwise) = both(cases, otherwise)?;
         let height = cases.height.max(otherwise.height);
         let tree = SelectParts {
             cases: cases.tree,
@@ -189,8 +189,8 @@ impl<
     {
         let at = cursor.opening(Key::Select, self.depth)?;
         let of = boxed(self.alloc, self.expression(cursor, WORD_LEVEL));
-        let of = before_key(of, cursor, Key::Of)?;
-        let (of, parts) = and(of, self.select_parts(cursor))?;
+        let of = before_key(of, cursor, Key::Of);
+        let (of, parts) = both(of, self.select_parts(cursor))?;
         let height = of.height.max(parts.height);
         let SelectParts { cases, otherwise } = parts.tree;
         let tree = Expr::Select {

@@ -5,6 +5,7 @@ ghost use Rattle.elan_grammar.specs.Types as spec;
 
 use containers::List;
 use elan_cursor::Cursor;
+use elan_cursor::made::both;
 use elan_grammar::ParseError;
 use elan_grammar::tall::{one, one_more};
 use elan_tree::{Label, Sign};
@@ -14,8 +15,7 @@ use std::alloc::Global;
 fn negative_label(cursor: &mut Cursor<'_>) -> Result<Label, ParseError>
     ensures { Gives ((spec.negative_label).run cursor.old.rest.now) result cursor.new.rest.now }
 {
-    let at = cursor.mark(Sign::Minus)?;
-    let number = cursor.negated()?;
+    let (at, number) = both(cursor.mark(Sign::Minus), cursor.negated())?;
     Ok(Label::Number(at, number))
 }
 

@@ -10,7 +10,7 @@ use crate::inner::Inner;
 use containers::{Boxed, List};
 use elan_cursor::Cursor;
 use elan_cursor::kind::WORD_LEVEL;
-use elan_cursor::made::{before, some};
+use elan_cursor::made::{before, both, some};
 use elan_grammar::tall::{Tall, and, boxed};
 use elan_grammar::{LoopParts, ParseError};
 use elan_tree::{Counter, Expr, Key, Limit, Unit};
@@ -86,9 +86,10 @@ impl<
         ensures { Parses (units.counter (units.phrases self.now.depth) self.now.depth) (if_any counter_depth) (Below self.now.depth)
             cursor.old.rest.now result cursor.new.rest.now }
     {
-        let name = cursor.ident(self.alloc)?;
-        let (name, from) = and(name, self.key_part(cursor, Key::From))?;
-        let ((name, from), limit) = and((name, from), self.a_limit(cursor))?;
+        let name = cursor.ident(self.alloc);
+        let from = self.key_part(cursor, Key::From);
+        let range = both(from, self.a_limit(cursor));
+        let (name, (from, limit)) = both(name, range)?;
         let height = from.height.max(limit.height);
         let counter = Counter {
             name,
@@ -109,10 +110,10 @@ impl<
         ensures { Parses (units.turn_parts (units.phrases self.now.depth) self.now.depth)
             (λ t. max (deepest_of unit_depth t.units) (if_any expr_depth t.until)) (Below self.now.depth) cursor.old.rest.now result cursor.new.rest.now }
     {
-        let start = cursor.rep()?;
-        let units = self.units(cursor)?;
+        let start = cursor.rep();
+        let units = self.units(cursor);
         let until = before(self.key_part(cursor, Key::Until), loop_end(cursor));
-        let (units, until) = and(units, until)?;
+        let (start, (units, until)) = both(start, both(units, until))?;
         let height = units.height.max(until.height);
         let tree = LoopParts {
             start,
@@ -167,8 +168,8 @@ impl<
             cursor.old.rest.now result cursor.new.rest.now }
     {
         let at = cursor.opening(Key::For, self.depth)?;
-        let counter = self.counter(cursor)?;
-        let (counter, condition) = and(counter, self.key_part(cursor, Key::While))?;
+        let counter = self.counter(cursor);
+        let (counter, condition) = both(counter, self.key_part(cursor, Key::While))?;
         self.turns(cursor, Some(at), counter, condition)
     }
 

@@ -12,9 +12,10 @@ use crate::phrases::Phrases;
 use containers::List;
 use elan_cursor::Cursor;
 use elan_cursor::kind::{WORD_LEVEL, begins_typed};
+use elan_cursor::made::{both, longer};
 use elan_cursor::passing::before_key;
 use elan_grammar::ParseError;
-use elan_grammar::tall::{Tall, and, single, with_next};
+use elan_grammar::tall::{Tall, and, single};
 use elan_tree::{Access, Expr, Item, Key, Sign, TypePhrase, Unit};
 use expression_parser::expr_place;
 use std::alloc::Global;
@@ -29,8 +30,8 @@ impl<
         ensures { Parses (units.a_let (units.phrases self.now.depth) self.now.depth) unit_depth (AtMost self.now.depth)
             cursor.old.rest.now result cursor.new.rest.now }
     {
-        let at = cursor.keyword(Key::Let)?;
-        let row = let_items(self.alloc, cursor, self.depth)?;
+        let at = cursor.keyword(Key::Let);
+        let (at, row) = both(at, let_items(self.alloc, cursor, self.depth))?;
         Ok(Tall {
             tree: Unit::Let(at, row.tree),
             height: row.height,
@@ -43,8 +44,8 @@ impl<
         ensures { Parses (units.init (units.phrases self.now.depth) self.now.depth) expr_depth (AtMost self.now.depth)
             cursor.old.rest.now result cursor.new.rest.now }
     {
-        cursor.init_mark()?;
-        self.expressions().level(cursor, WORD_LEVEL)
+        let mark = cursor.init_mark();
+        mark.and(self.expressions().level(cursor, WORD_LEVEL))
     }
 
     #[tactic(auto, using(crate::proofs::VarOrConst::of_items))]
@@ -77,14 +78,14 @@ impl<
         ensures { Parses (either.items access (units.phrases self.now.depth) self.now.depth) (deepest_of item_depth) (AtMost self.now.depth)
             cursor.old.rest.now result cursor.new.rest.now }
     {
-        let mut row = single(self.alloc, self.item(cursor, access))?;
+        let mut row = single(self.alloc, self.item(cursor, access));
         for _turn in 0..cursor.rest.len() {
             if !cursor.passes_sign(Sign::Comma) {
-                return Ok(row);
+                return row;
             }
-            row = with_next(row, self.item(cursor, access))?;
+            row = longer(row, self.item(cursor, access));
         }
-        Ok(row)
+        row
     }
 
     /// A declaration behind its type.
@@ -125,10 +126,11 @@ impl<
         ensures { Parses (units.bound (units.phrases self.now.depth) self.now.depth) unit_depth (AtMost self.now.depth)
             cursor.old.rest.now result cursor.new.rest.now }
     {
-        let at = cursor.opening(Key::Bound, self.depth)?;
+        let at = cursor.opening(Key::Bound, self.depth);
         let of = types(self.alloc, cursor, self.depth);
-        let of = before_key(of, cursor, Key::Var)?;
-        let (of, row) = and(of, self.items(cursor, Access::Var))?;
+        let of = before_key(of, cursor, Key::Var);
+        let row = self.items(cursor, Access::Var);
+        let (at, (of, row)) = both(at, both(of, row))?;
         let height = of.height.max(row.height);
         Ok(Tall {
             tree: Unit::Bound(at, of.tree, row.tree),
@@ -144,8 +146,8 @@ impl<
             cursor.old.rest.now result cursor.new.rest.now }
     {
         let sign = cursor.opening_sign(Sign::Becomes, left.height, self.depth);
-        let (left, _) = and(left, sign)?;
-        let (left, right) = and(left, self.forms().expression(cursor, WORD_LEVEL))?;
+        let right = both(sign, self.forms().expression(cursor, WORD_LEVEL));
+        let (left, (_, right)) = and(left, right)?;
         let height = left.height.max(right.height);
         let tree = Unit::Becomes {
             at: expr_place(&left.tree),
@@ -181,8 +183,8 @@ impl<
             cursor.old.rest.now result cursor.new.rest.now }
     {
         let at = cursor.opening(Key::Leave, self.depth)?;
-        let name = cursor.leaving(self.alloc)?;
-        let (name, value) = and(name, self.forms().key_part(cursor, Key::With))?;
+        let name = cursor.leaving(self.alloc);
+        let (name, value) = both(name, self.forms().key_part(cursor, Key::With))?;
         let tree = Unit::Leave {
             at,
             name,
@@ -243,13 +245,13 @@ impl<
         ensures { Parses (units.units (units.phrases self.now.depth) self.now.depth) (deepest_of unit_depth) (AtMost self.now.depth)
             cursor.old.rest.now result cursor.new.rest.now }
     {
-        let mut row = single(self.alloc, self.unit(cursor))?;
+        let mut row = single(self.alloc, self.unit(cursor));
         for _turn in 0..cursor.rest.len() {
             if !cursor.passes_sign(Sign::Semicolon) {
-                return Ok(row);
+                return row;
             }
-            row = with_next(row, self.unit(cursor))?;
+            row = longer(row, self.unit(cursor));
         }
-        Ok(row)
+        row
     }
 }

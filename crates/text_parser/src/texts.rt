@@ -9,15 +9,18 @@ ghost use Rattle.elan_grammar.specs.Reads.{Reads};
 ghost use Rattle.elan_grammar.specs.Stops.{left};
 ghost use Rattle.elan_grammar.specs.Depth.{type_depth, level_unit_depth, level_depth, tree_depth, deepest_of};
 
+use crate::bodies::{MOST, tail};
+use crate::operators::operator;
+use crate::procs::proc;
 use containers::{List, NoMemory};
 use elan_cursor::Cursor;
 use elan_cursor::kind::begins_typed;
+use elan_cursor::made::{both, longer};
 use elan_cursor::passing::{before_end, before_sign};
 use elan_grammar::ParseError;
-use elan_grammar::tall::{Tall, and, one, one_more, single, with_next};
+use elan_grammar::tall::{Tall, one, one_more, single};
 use elan_tree::{Export, Key, Level, LevelUnit, Name, Sign, Token, Tree, TypePhrase};
 use phrase_parser::{declared, plain};
-use procedure_parser::{MOST, operator, proc, tail};
 use std::alloc::Global;
 use type_parser::types;
 
@@ -25,9 +28,9 @@ use type_parser::types;
 fn new_type(alloc: Global, cursor: &mut Cursor<'_>) -> Result<Tall<LevelUnit>, ParseError>
     ensures { Parses (spec.new_type 400 399) level_unit_depth (AtMost 400) cursor.old.rest.now result cursor.new.rest.now }
 {
-    let at = cursor.keyword(Key::TypeWord)?;
-    let name = before_sign(cursor.bold(alloc), cursor, Sign::Equal)?;
-    let (name, of) = and(name, types(alloc, cursor, MOST))?;
+    let at = cursor.keyword(Key::TypeWord);
+    let name = before_sign(cursor.bold(alloc), cursor, Sign::Equal);
+    let (at, (name, of)) = both(at, both(name, types(alloc, cursor, MOST)))?;
     let tree = LevelUnit::NewType {
         at,
         name,
@@ -121,22 +124,22 @@ fn level_unit(alloc: Global, cursor: &mut Cursor<'_>) -> Result<Tall<LevelUnit>,
 fn level_units(alloc: Global, cursor: &mut Cursor<'_>) -> Result<Tall<List<LevelUnit>>, ParseError>
     ensures { Parses (spec.level_units 400 399) (deepest_of level_unit_depth) (AtMost 400) cursor.old.rest.now result cursor.new.rest.now }
 {
-    let mut row = single(alloc, level_unit(alloc, cursor))?;
+    let mut row = single(alloc, level_unit(alloc, cursor));
     for _turn in 0..cursor.rest.len() {
         if !cursor.passes_sign(Sign::Semicolon) {
-            return Ok(row);
+            return row;
         }
-        row = with_next(row, level_unit(alloc, cursor))?;
+        row = longer(row, level_unit(alloc, cursor));
     }
-    Ok(row)
+    row
 }
 
 #[tactic(auto, unfolding(elan_grammar::specs::Grammar::a_level))]
 fn a_level(alloc: Global, cursor: &mut Cursor<'_>) -> Result<Tall<Level>, ParseError>
     ensures { Parses (spec.a_level 400 399) level_depth (AtMost 400) cursor.old.rest.now result cursor.new.rest.now }
 {
-    let units = level_units(alloc, cursor)?;
-    let (units, refinements) = and(units, tail(alloc, cursor, MOST))?;
+    let units = level_units(alloc, cursor);
+    let (units, refinements) = both(units, tail(alloc, cursor, MOST))?;
     let height = units.height.max(refinements.height);
     let tree = Level {
         units: units.tree,
@@ -201,12 +204,10 @@ fn pass_last_mark(cursor: &mut Cursor<'_>)
 fn packet(alloc: Global, cursor: &mut Cursor<'_>) -> Result<Tall<Tree>, ParseError>
     ensures { Parses (spec.packet 400 399) tree_depth (AtMost 400) cursor.old.rest.now result cursor.new.rest.now }
 {
-    let at = cursor.keyword(Key::Packet)?;
-    let name = cursor.ident(alloc)?;
+    let head = both(cursor.keyword(Key::Packet), cursor.ident(alloc));
     let exports = before_sign(exports(alloc, cursor), cursor, Sign::Colon);
-    let head = and(name, exports)?;
     let level = before_end(a_level(alloc, cursor), cursor, Key::Packet);
-    let ((name, exports), level) = and(head, level)?;
+    let ((at, name), (exports, level)) = both(head, both(exports, level))?;
     pass_name(cursor, &name);
     pass_last_mark(cursor);
     let tree = Tree::Packet {

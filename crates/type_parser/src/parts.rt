@@ -8,9 +8,10 @@ ghost use Rattle.elan_grammar.specs.Depth.{formal_depth, let_item_depth, deepest
 use crate::type_phrases::{names, types};
 use containers::List;
 use elan_cursor::Cursor;
+use elan_cursor::made::{both, longer, tall};
 use elan_cursor::passing::before_sign;
 use elan_grammar::ParseError;
-use elan_grammar::tall::{Tall, and, single, with_next};
+use elan_grammar::tall::{Tall, single};
 use elan_tree::{Constant, Formal, LetItem, Sign};
 use std::alloc::Global;
 
@@ -18,9 +19,9 @@ use std::alloc::Global;
 fn formal(alloc: Global, cursor: &mut Cursor<'_>, depth: u16) -> Result<Tall<Formal>, ParseError>
     ensures { Parses (spec.formal depth) formal_depth (AtMost depth) cursor.old.rest.now result cursor.new.rest.now }
 {
-    let of = types(alloc, cursor, depth)?;
-    let (of, access) = and(of, cursor.access())?;
-    let (of, names) = and(of, names(alloc, cursor))?;
+    let of = types(alloc, cursor, depth);
+    let access = cursor.access();
+    let (of, (access, names)) = both(of, both(access, names(alloc, cursor)))?;
     let tree = Formal {
         of: of.tree,
         access,
@@ -41,22 +42,21 @@ pub fn formals(
 ) -> Result<Tall<List<Formal>>, ParseError>
     ensures { Parses (spec.formals depth) (deepest_of formal_depth) (AtMost depth) cursor.old.rest.now result cursor.new.rest.now }
 {
-    let mut row = single(alloc, formal(alloc, cursor, depth))?;
+    let mut row = single(alloc, formal(alloc, cursor, depth));
     for _turn in 0..cursor.rest.len() {
         if !cursor.passes_sign(Sign::Comma) {
-            return Ok(row);
+            return row;
         }
-        row = with_next(row, formal(alloc, cursor, depth))?;
+        row = longer(row, formal(alloc, cursor, depth));
     }
-    Ok(row)
+    row
 }
 
 #[tactic(auto, unfolding(elan_grammar::specs::Types::negative))]
 fn negative(cursor: &mut Cursor<'_>) -> Result<Constant, ParseError>
     ensures { Gives ((spec.negative).run cursor.old.rest.now) result cursor.new.rest.now }
 {
-    let at = cursor.mark(Sign::Minus)?;
-    let number = cursor.negated()?;
+    let (at, number) = both(cursor.mark(Sign::Minus), cursor.negated())?;
     Ok(Constant::Number(at, number))
 }
 
@@ -75,8 +75,8 @@ fn constant(alloc: Global, cursor: &mut Cursor<'_>) -> Result<Constant, ParseErr
 fn let_constant(alloc: Global, cursor: &mut Cursor<'_>) -> Result<LetItem, ParseError>
     ensures { Gives ((spec.let_constant).run cursor.old.rest.now) result cursor.new.rest.now }
 {
-    let name = before_sign(cursor.ident(alloc), cursor, Sign::Equal)?;
-    let (name, value) = and(name, constant(alloc, cursor))?;
+    let name = before_sign(cursor.ident(alloc), cursor, Sign::Equal);
+    let (name, value) = both(name, constant(alloc, cursor))?;
     Ok(LetItem::Constant(name, value))
 }
 
@@ -88,9 +88,9 @@ fn abbreviation(
 ) -> Result<Tall<LetItem>, ParseError>
     ensures { Parses (spec.abbreviation depth) let_item_depth (AtMost depth) cursor.old.rest.now result cursor.new.rest.now }
 {
-    cursor.below(0, depth)?;
-    let name = before_sign(cursor.bold(alloc), cursor, Sign::Equal)?;
-    let (name, of) = and(name, types(alloc, cursor, depth))?;
+    let low = cursor.below(0, depth);
+    let name = before_sign(cursor.bold(alloc), cursor, Sign::Equal);
+    let (name, of) = low.and(both(name, types(alloc, cursor, depth)))?;
     Ok(Tall {
         tree: LetItem::Abbreviation(name, of.tree),
         height: of.height,
@@ -102,8 +102,7 @@ fn let_item(alloc: Global, cursor: &mut Cursor<'_>, depth: u16) -> Result<Tall<L
     ensures { Parses (spec.let_item depth) let_item_depth (AtMost depth) cursor.old.rest.now result cursor.new.rest.now }
 {
     if cursor.sees_ident() {
-        let tree = let_constant(alloc, cursor)?;
-        return Ok(Tall { tree, height: 0 });
+        return tall(let_constant(alloc, cursor), 0);
     }
     abbreviation(alloc, cursor, depth)
 }
@@ -117,12 +116,12 @@ pub fn let_items(
 ) -> Result<Tall<List<LetItem>>, ParseError>
     ensures { Parses (spec.let_items depth) (deepest_of let_item_depth) (AtMost depth) cursor.old.rest.now result cursor.new.rest.now }
 {
-    let mut row = single(alloc, let_item(alloc, cursor, depth))?;
+    let mut row = single(alloc, let_item(alloc, cursor, depth));
     for _turn in 0..cursor.rest.len() {
         if !cursor.passes_sign(Sign::Comma) {
-            return Ok(row);
+            return row;
         }
-        row = with_next(row, let_item(alloc, cursor, depth))?;
+        row = longer(row, let_item(alloc, cursor, depth));
     }
-    Ok(row)
+    row
 }

@@ -10,9 +10,10 @@ ghost use Rattle.type_parser.specs.Nests.{Nests};
 use containers::List;
 use elan_cursor::Cursor;
 use elan_cursor::kind::goes_on;
+use elan_cursor::made::{both, longer, tall};
 use elan_cursor::passing::before_sign;
 use elan_grammar::ParseError;
-use elan_grammar::tall::{Tall, and, boxed, one, one_more, single, with_next};
+use elan_grammar::tall::{Tall, boxed, one, one_more, single};
 use elan_tree::{Field, Key, Name, Sign, TypePhrase};
 use std::alloc::Global;
 
@@ -26,8 +27,8 @@ pub fn names(alloc: Global, cursor: &mut Cursor<'_>) -> Result<List<Name>, Parse
         if !goes_on(cursor.ahead()) {
             return Ok(names);
         }
-        let (row, _) = and(names, cursor.mark(Sign::Comma))?;
-        names = one_more(row, cursor.ident(alloc))?;
+        let comma = cursor.mark(Sign::Comma);
+        names = one_more(names, comma.and(cursor.ident(alloc)))?;
     }
     Ok(names)
 }
@@ -89,9 +90,10 @@ impl<F: Fn(Global, &mut Cursor<'_>, u16) -> Result<Tall<TypePhrase>, ParseError>
         ensures { Parses (spec.row (spec.types self.now.depth) self.now.depth) type_depth (AtMost (self.now.depth + 1))
             cursor.old.rest.now result cursor.new.rest.now }
     {
-        let at = cursor.opening(Key::Row, self.depth)?;
-        let size = cursor.size(self.alloc)?;
-        let (size, part) = and(size, boxed(self.alloc, self.inner(cursor)))?;
+        let at = cursor.opening(Key::Row, self.depth);
+        let size = cursor.size(self.alloc);
+        let part = boxed(self.alloc, self.inner(cursor));
+        let (at, (size, part)) = both(at, both(size, part))?;
         Ok(Tall {
             tree: TypePhrase::Row {
                 at,
@@ -107,8 +109,8 @@ impl<F: Fn(Global, &mut Cursor<'_>, u16) -> Result<Tall<TypePhrase>, ParseError>
         requires { Nests F.Fn self.now }
         ensures { Parses (spec.field (spec.types self.now.depth)) field_depth (AtMost self.now.depth) cursor.old.rest.now result cursor.new.rest.now }
     {
-        let of = self.inner(cursor)?;
-        let (of, names) = and(of, names(self.alloc, cursor))?;
+        let of = self.inner(cursor);
+        let (of, names) = both(of, names(self.alloc, cursor))?;
         Ok(Tall {
             tree: Field { of: of.tree, names },
             height: of.height,
@@ -121,14 +123,14 @@ impl<F: Fn(Global, &mut Cursor<'_>, u16) -> Result<Tall<TypePhrase>, ParseError>
         ensures { Parses (spec.fields (spec.types self.now.depth)) (deepest_of field_depth) (AtMost self.now.depth)
             cursor.old.rest.now result cursor.new.rest.now }
     {
-        let mut row = single(self.alloc, self.field(cursor))?;
+        let mut row = single(self.alloc, self.field(cursor));
         for _turn in 0..cursor.rest.len() {
             if !cursor.passes_sign(Sign::Comma) {
-                return Ok(row);
+                return row;
             }
-            row = with_next(row, self.field(cursor))?;
+            row = longer(row, self.field(cursor));
         }
-        Ok(row)
+        row
     }
 
     #[tactic(auto, unfolding(elan_grammar::specs::Types::structure))]
@@ -137,9 +139,10 @@ impl<F: Fn(Global, &mut Cursor<'_>, u16) -> Result<Tall<TypePhrase>, ParseError>
         ensures { Parses (spec.structure (spec.types self.now.depth) self.now.depth) type_depth (AtMost (self.now.depth + 1))
             cursor.old.rest.now result cursor.new.rest.now }
     {
-        let at = cursor.opening(Key::Struct, self.depth)?;
-        cursor.mark(Sign::LeftRound)?;
-        let row = before_sign(self.fields(cursor), cursor, Sign::RightRound)?;
+        let at = cursor.opening(Key::Struct, self.depth);
+        let at = before_sign(at, cursor, Sign::LeftRound);
+        let row = before_sign(self.fields(cursor), cursor, Sign::RightRound);
+        let (at, row) = both(at, row)?;
         Ok(Tall {
             tree: TypePhrase::Struct {
                 at,
@@ -152,8 +155,7 @@ impl<F: Fn(Global, &mut Cursor<'_>, u16) -> Result<Tall<TypePhrase>, ParseError>
     fn simple(&self, cursor: &mut Cursor<'_>) -> Result<Tall<TypePhrase>, ParseError>
         ensures { Parses (word simple_of) type_depth (AtMost (self.now.depth + 1)) cursor.old.rest.now result cursor.new.rest.now }
     {
-        let tree = cursor.simple_type()?;
-        Ok(Tall { tree, height: 1 })
+        tall(cursor.simple_type(), 1)
     }
 
     #[tactic(auto, unfolding(elan_grammar::specs::Types::a_type, elan_grammar::specs::Types::named_type), using(elan_grammar::proofs::Starts::of_types))]

@@ -8,10 +8,6 @@ pub returns-then-not-passes_sign : goal.returns-then-not-passes_sign
 unfolding grammar.level_units
 returns-then-not-passes_sign c = grind (arith, turns)
 
-pub returns-in_err-row-2 : goal.returns-in_err-row-2
-unfolding grammar.level_units
-returns-in_err-row-2 c = grind (arith, turns)
-
 pub loop-turn-preserved : goal.loop-turn-preserved
 unfolding grammar.level_units
 loop-turn-preserved c = grind (arith, turns, deepens)

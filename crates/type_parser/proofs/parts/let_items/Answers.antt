@@ -12,10 +12,6 @@ pub returns-then-not-passes_sign : goal.returns-then-not-passes_sign
 unfolding types.let_items
 returns-then-not-passes_sign c = grind (arith, turns)
 
-pub returns-in_err-row-2 : goal.returns-in_err-row-2
-unfolding types.let_items
-returns-in_err-row-2 c = grind (arith, turns)
-
 pub loop-turn-preserved : goal.loop-turn-preserved
 unfolding types.let_items
 loop-turn-preserved c = grind (arith, turns, deepens)

@@ -12,10 +12,6 @@ pub returns-then-not-passes_sign : goal.returns-then-not-passes_sign
 unfolding expressions.actuals
 returns-then-not-passes_sign g c = grind (arith, turns)
 
-pub returns-in_err-row-2 : goal.returns-in_err-row-2
-unfolding expressions.actuals
-returns-in_err-row-2 g c = grind (arith, turns)
-
 pub loop-turn-preserved : goal.loop-turn-preserved
 unfolding expressions.actuals
 loop-turn-preserved g c = grind (arith, turns, deepens)

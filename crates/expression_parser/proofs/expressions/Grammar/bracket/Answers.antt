@@ -1,3 +1,4 @@
+use Rattle.elan_tree.specs.declared.phrase.Expr.TheFolds.{the_lemmas}
 use Rattle.std.proofs.Common.{arith}
 use Rattle.elan_grammar.specs.Expressions as expressions
 use Rattle.expression_parser.proofs.expressions.Grammar.bracket.Goals as goal
@@ -6,6 +7,6 @@ pub returns-in_err-at : goal.returns-in_err-at
 unfolding expressions.bracket
 returns-in_err-at g c = grind arith
 
-pub returns-in_err-inner : goal.returns-in_err-inner
+pub returns : goal.returns
 unfolding expressions.bracket
-returns-in_err-inner g c = grind arith
+returns g c = grind (arith, the_lemmas)

@@ -1,3 +1,4 @@
+use Rattle.elan_tree.specs.declared.phrase.Expr.TheFolds.{the_lemmas}
 use Rattle.std.proofs.Common.{arith}
 use Rattle.elan_grammar.specs.Expressions as expressions
 use Rattle.expression_parser.proofs.expressions.Grammar.concr.Goals as goal
@@ -6,10 +7,6 @@ pub returns-in_err-at : goal.returns-in_err-at
 unfolding expressions.concr
 returns-in_err-at g c = grind arith
 
-pub returns-in_err-mark : goal.returns-in_err-mark
+pub returns : goal.returns
 unfolding expressions.concr
-returns-in_err-mark g c = grind arith
-
-pub returns-in_err-inner : goal.returns-in_err-inner
-unfolding expressions.concr
-returns-in_err-inner g c = grind arith
+returns g c = grind (arith, the_lemmas)

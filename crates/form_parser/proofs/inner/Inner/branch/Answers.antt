@@ -1,4 +1,5 @@
 use Rattle.std.proofs.Common.{arith}
+use Rattle.elan_tree.specs.declared.phrase.Expr.TheFolds.{the_lemmas}
 use Rattle.elan_grammar.specs.Expressions as expressions
 use Rattle.form_parser.proofs.inner.Inner.branch.Goals as goal
 
@@ -6,6 +7,6 @@ pub returns-in_err-condition : goal.returns-in_err-condition
 unfolding expressions.branch
 returns-in_err-condition g c = grind arith
 
-pub returns-in_err-condition-2 : goal.returns-in_err-condition-2
+pub returns : goal.returns
 unfolding expressions.branch
-returns-in_err-condition-2 g c = grind arith
+returns g c = grind (arith, the_lemmas)

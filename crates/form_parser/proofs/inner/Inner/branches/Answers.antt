@@ -12,10 +12,6 @@ pub returns-then-not-passes_key : goal.returns-then-not-passes_key
 unfolding expressions.branches
 returns-then-not-passes_key g c = grind (arith, turns)
 
-pub returns-in_err-row-2 : goal.returns-in_err-row-2
-unfolding expressions.branches
-returns-in_err-row-2 g c = grind (arith, turns)
-
 pub loop-turn-preserved : goal.loop-turn-preserved
 unfolding expressions.branches
 loop-turn-preserved g c = grind (arith, turns, deepens)

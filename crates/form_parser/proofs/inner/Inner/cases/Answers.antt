@@ -13,10 +13,6 @@ pub returns-then-not-sees_key : goal.returns-then-not-sees_key
 unfolding expressions.cases
 returns-then-not-sees_key g c = grind (arith, turns, case_starts)
 
-pub returns-in_err-row-2 : goal.returns-in_err-row-2
-unfolding expressions.cases
-returns-in_err-row-2 g c = grind (arith, turns, case_starts)
-
 pub loop-turn-preserved : goal.loop-turn-preserved
 unfolding expressions.cases
 loop-turn-preserved g c = grind (arith, turns, case_starts, deepens)

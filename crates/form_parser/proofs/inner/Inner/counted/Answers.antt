@@ -10,10 +10,6 @@ pub returns-in_err-counter : goal.returns-in_err-counter
 unfolding units.counted
 returns-in_err-counter g c = grind arith
 
-pub returns-in_err-counter-2 : goal.returns-in_err-counter-2
-unfolding units.counted
-returns-in_err-counter-2 g c = grind arith
-
 pub returns : goal.returns
 unfolding units.counted
 returns g c = grind arith

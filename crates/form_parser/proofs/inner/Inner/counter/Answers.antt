@@ -5,11 +5,3 @@ use Rattle.form_parser.proofs.inner.Inner.counter.Goals as goal
 pub returns-in_err-name : goal.returns-in_err-name
 unfolding units.counter
 returns-in_err-name g c = grind arith
-
-pub returns-in_err-name-2 : goal.returns-in_err-name-2
-unfolding units.counter
-returns-in_err-name-2 g c = grind arith
-
-pub returns-in_err-name-3 : goal.returns-in_err-name-3
-unfolding units.counter
-returns-in_err-name-3 g c = grind arith

@@ -6,10 +6,6 @@ pub returns-in_err-cases : goal.returns-in_err-cases
 unfolding expressions.select_parts
 returns-in_err-cases g c = grind arith
 
-pub returns-in_err-cases-2 : goal.returns-in_err-cases-2
-unfolding expressions.select_parts
-returns-in_err-cases-2 g c = grind arith
-
 pub returns : goal.returns
 unfolding expressions.select_parts
 returns g c = grind arith

@@ -1,4 +1,5 @@
 use Rattle.std.proofs.Common.{arith}
+use Rattle.elan_tree.specs.declared.phrase.Expr.TheFolds.{the_lemmas}
 use Rattle.elan_grammar.specs.Expressions as expressions
 use Rattle.form_parser.proofs.inner.Inner.selection.Goals as goal
 
@@ -10,6 +11,6 @@ pub returns-in_err-of : goal.returns-in_err-of
 unfolding expressions.selection
 returns-in_err-of g c = grind arith
 
-pub returns-in_err-of-2 : goal.returns-in_err-of-2
+pub returns : goal.returns
 unfolding expressions.selection
-returns-in_err-of-2 g c = grind arith
+returns g c = grind (arith, the_lemmas)

@@ -6,14 +6,6 @@ pub returns-in_err-start : goal.returns-in_err-start
 unfolding units.turn_parts
 returns-in_err-start g c = grind arith
 
-pub returns-in_err-units : goal.returns-in_err-units
-unfolding units.turn_parts
-returns-in_err-units g c = grind arith
-
-pub returns-in_err-units-2 : goal.returns-in_err-units-2
-unfolding units.turn_parts
-returns-in_err-units-2 g c = grind arith
-
 pub returns : goal.returns
 unfolding units.turn_parts
 returns g c = grind arith

@@ -1,3 +1,4 @@
+use Rattle.elan_tree.specs.declared.phrase.Expr.TheFolds.{the_lemmas}
 use Rattle.std.proofs.Common.{arith}
 use Rattle.elan_grammar.specs.Units as units
 use Rattle.phrase_parser.proofs.phrases.Phrases.assigned.Goals as goal
@@ -6,6 +7,6 @@ pub returns-in_err-left : goal.returns-in_err-left
 unfolding units.assigned
 returns-in_err-left g c = grind arith
 
-pub returns-in_err-left-2 : goal.returns-in_err-left-2
+pub returns : goal.returns
 unfolding units.assigned
-returns-in_err-left-2 g c = grind arith
+returns g c = grind (arith, the_lemmas)

@@ -1,15 +1,12 @@
+use Rattle.elan_tree.specs.declared.phrase.Expr.TheFolds.{the_lemmas}
 use Rattle.std.proofs.Common.{arith}
 use Rattle.elan_grammar.specs.Units as units
 use Rattle.phrase_parser.proofs.phrases.Phrases.bound.Goals as goal
 
 pub returns-in_err-at : goal.returns-in_err-at
-unfolding units.bound
+unfolding units.bound units.items
 returns-in_err-at g c = grind arith
 
-pub returns-in_err-of : goal.returns-in_err-of
-unfolding units.bound
-returns-in_err-of g c = grind arith
-
-pub returns-in_err-of-2 : goal.returns-in_err-of-2
+pub returns : goal.returns
 unfolding units.bound units.items
-returns-in_err-of-2 g c = grind arith
+returns g c = grind (arith, the_lemmas)

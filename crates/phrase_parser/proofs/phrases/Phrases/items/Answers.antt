@@ -9,9 +9,6 @@ loop-turn-init g c = grind (arith, deepens)
 pub returns-then-not-passes_sign : goal.returns-then-not-passes_sign
 returns-then-not-passes_sign g c = grind (arith, turns)
 
-pub returns-in_err-row-2 : goal.returns-in_err-row-2
-returns-in_err-row-2 g c = grind (arith, turns)
-
 pub loop-turn-preserved : goal.loop-turn-preserved
 loop-turn-preserved g c = grind (arith, turns, deepens)
 

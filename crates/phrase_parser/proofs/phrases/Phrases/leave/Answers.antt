@@ -1,3 +1,4 @@
+use Rattle.elan_tree.specs.declared.phrase.Expr.TheFolds.{the_lemmas}
 use Rattle.std.proofs.Common.{arith}
 use Rattle.elan_grammar.specs.Units as units
 use Rattle.phrase_parser.proofs.phrases.Phrases.leave.Goals as goal
@@ -10,6 +11,6 @@ pub returns-in_err-name : goal.returns-in_err-name
 unfolding units.leave
 returns-in_err-name g c = grind arith
 
-pub returns-in_err-name-2 : goal.returns-in_err-name-2
+pub returns : goal.returns
 unfolding units.leave
-returns-in_err-name-2 g c = grind arith
+returns g c = grind (arith, the_lemmas)

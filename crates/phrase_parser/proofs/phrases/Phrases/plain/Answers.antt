@@ -1,3 +1,4 @@
+use Rattle.elan_grammar.proofs.Starts.{of_units}
 use Rattle.std.proofs.Common.{◌≡◌, refl, sym, ◌∙◌, rules, arith}
 use Rattle.elan_grammar.specs.Units as units
 use Rattle.elan_grammar.proofs.Starts.{let_starts, bound_starts, leave_starts, counted_starts, guarded_starts, repeated_starts, statement_starts}
@@ -18,3 +19,31 @@ returns-else-sees_expression g c =
           (statement_starts inner n xs ∙ sym c.sees_expression.ensures ∙ c.if-sees_expression.false),
       (nothing_deep, omega arith),
     )
+
+pub returns-then-sees_key : goal.returns-then-sees_key
+unfolding units.plain
+returns-then-sees_key g c = grind (arith, of_units)
+
+pub returns-then-sees_key-2 : goal.returns-then-sees_key-2
+unfolding units.plain
+returns-then-sees_key-2 g c = grind (arith, of_units)
+
+pub returns-then-sees_key-3 : goal.returns-then-sees_key-3
+unfolding units.plain
+returns-then-sees_key-3 g c = grind (arith, of_units)
+
+pub returns-then-sees_key-4 : goal.returns-then-sees_key-4
+unfolding units.plain
+returns-then-sees_key-4 g c = grind (arith, of_units)
+
+pub returns-then-sees_key-5 : goal.returns-then-sees_key-5
+unfolding units.plain
+returns-then-sees_key-5 g c = grind (arith, of_units)
+
+pub returns-then-sees_rep : goal.returns-then-sees_rep
+unfolding units.plain
+returns-then-sees_rep g c = grind (arith, of_units)
+
+pub returns-then-sees_expression : goal.returns-then-sees_expression
+unfolding units.plain
+returns-then-sees_expression g c = grind (arith, of_units)

@@ -1,5 +1,6 @@
 use Rattle.std.proofs.Common.{◌≡◌, ◌≤◌, ◌-◌}
 use Rattle.elan_tree.specs.declared.token.Sign.TheVariants as sign
+use Rattle.elan_cursor.specs.Passing.{GoesOn}
 use Rattle.elan_grammar.specs.Rule.{steps_run, further}
 use Rattle.elan_grammar.specs.Terminals.{mark}
 use Rattle.elan_grammar.specs.Types.{types, field, fields}
@@ -8,6 +9,8 @@ use Rattle.type_parser.proofs.type_phrases.TypeRules.fields.Given as goal
 
 abbrev pub invariant-loop-turn : goal.invariant-loop-turn
 invariant-loop-turn g l =
-    ((fields (types l.self.depth)).run l.fn.cursor.rest.now
-    ≡ steps_run (further (mark sign.Comma) (field (types l.self.depth))) (l._turn-end - l._turn) l.row.tree l.cursor.rest.now)
-    × (l.row.height ≡ deepest_of field_depth l.row.tree) × (l.row.height ≤ l.self.depth)
+    GoesOn ((fields (types l.self.depth)).run l.fn.cursor.rest.now)
+    (λ row. ((fields (types l.self.depth)).run l.fn.cursor.rest.now
+    ≡ steps_run (further (mark sign.Comma) (field (types l.self.depth))) (l._turn-end - l._turn) row.tree l.cursor.rest.now)
+    × (row.height ≡ deepest_of field_depth row.tree) × (row.height ≤ l.self.depth))
+    l.row

@@ -10,6 +10,7 @@ use crate::procs::start;
 use containers::{List, NoMemory};
 use elan_cursor::Cursor;
 use elan_cursor::kind::goes_on;
+use elan_cursor::made::both;
 use elan_cursor::passing::{before_end, before_sign};
 use elan_grammar::tall::{Tall, and, one_more, single, with_next};
 use elan_grammar::{OperatorParts, ParseError};
@@ -39,9 +40,9 @@ fn operand_of(alloc: Global, of: TypePhrase, access: Access, name: Name) -> Resu
 fn operand(alloc: Global, cursor: &mut Cursor<'_>) -> Result<Tall<Formal>, ParseError>
     ensures { Parses (spec.operand 400 399) formal_depth (AtMost 399) cursor.old.rest.now result cursor.new.rest.now }
 {
-    let of = types(alloc, cursor, MOST_IN_BODY)?;
-    let (of, access) = and(of, cursor.access())?;
-    let (of, name) = and(of, cursor.ident(alloc))?;
+    let of = types(alloc, cursor, MOST_IN_BODY);
+    let access = cursor.access();
+    let (of, (access, name)) = both(of, both(access, cursor.ident(alloc)))?;
     let Tall { tree, height } = of;
     let tree = operand_of(alloc, tree, access, name)?;
     Ok(Tall { tree, height })
@@ -56,11 +57,11 @@ fn same_typed(
     requires tall { IsTall formal_depth (AtMost 399) first }
     ensures { Parses (spec.same_typed first.tree) (deepest_of formal_depth) (AtMost 399) cursor.old.rest.now result cursor.new.rest.now }
 {
-    let (first, _) = and(first, cursor.mark(Sign::Comma))?;
-    let (first, second) = and(first, cursor.ident(alloc))?;
+    let comma = cursor.mark(Sign::Comma);
+    let second = comma.and(cursor.ident(alloc));
     let Tall { tree, height } = first;
     let Formal { of, access, names } = tree;
-    let (of, names) = and(of, one_more(names, Ok(second)))?;
+    let (of, names) = and(of, one_more(names, second))?;
     let tree = Formal { of, access, names };
     single(alloc, Ok(Tall { tree, height }))
 }
@@ -119,13 +120,14 @@ fn operator_parts(alloc: Global, cursor: &mut Cursor<'_>) -> Result<Tall<Operato
     ensures { Parses (spec.operator_parts 400 399) (λ t. max (deepest_of formal_depth t.formals) (body_depth t.body) + 1) (AtMost 400)
         cursor.old.rest.now result cursor.new.rest.now }
 {
-    let at = cursor.keyword(Key::Op)?;
-    let name = before_sign(cursor.operator(alloc), cursor, Sign::LeftRound)?;
+    let at = cursor.keyword(Key::Op);
+    let name = before_sign(cursor.operator(alloc), cursor, Sign::LeftRound);
+    let (at, name) = both(at, name)?;
     let formals = operands(alloc, cursor, &name.operator);
     let formals = before_sign(formals, cursor, Sign::RightRound);
-    let head = and(name, before_sign(formals, cursor, Sign::Colon))?;
+    let formals = before_sign(formals, cursor, Sign::Colon);
     let body = before_end(body(alloc, cursor), cursor, Key::Op);
-    let ((name, formals), body) = and(head, body)?;
+    let (name, (formals, body)) = and(name, both(formals, body))?;
     let _name = cursor.passes_same_operator(&name);
     let height = formals.height.max(body.height) + 1;
     let tree = OperatorParts {

@@ -8,6 +8,7 @@ ghost use Rattle.elan_grammar.specs.Depth.{body_depth, level_unit_depth, type_de
 use crate::bodies::{MOST_IN_BODY, body};
 use containers::List;
 use elan_cursor::Cursor;
+use elan_cursor::made::both;
 use elan_cursor::passing::{before_end, before_sign};
 use elan_grammar::tall::{Tall, and};
 use elan_grammar::{ParseError, ProcParts};
@@ -47,12 +48,10 @@ fn proc_parts(alloc: Global, cursor: &mut Cursor<'_>) -> Result<Tall<ProcParts>,
     ensures { Parses (spec.proc_parts 400 399) (λ t. max (deepest_of formal_depth t.formals) (body_depth t.body) + 1) (AtMost 400)
         cursor.old.rest.now result cursor.new.rest.now }
 {
-    let at = cursor.keyword(Key::Proc)?;
-    let name = cursor.ident(alloc)?;
+    let head = both(cursor.keyword(Key::Proc), cursor.ident(alloc));
     let formals = before_sign(optional_formals(alloc, cursor), cursor, Sign::Colon);
-    let head = and(name, formals)?;
     let body = before_end(body(alloc, cursor), cursor, Key::Proc);
-    let ((name, formals), body) = and(head, body)?;
+    let ((at, name), (formals, body)) = both(head, both(formals, body))?;
     let _name = cursor.passes_same(&name);
     let height = formals.height.max(body.height) + 1;
     let tree = ProcParts {

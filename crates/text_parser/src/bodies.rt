@@ -8,9 +8,10 @@ ghost use Rattle.elan_grammar.specs.Depth.{refinement_depth, body_depth, deepest
 use containers::List;
 use elan_cursor::Cursor;
 use elan_cursor::kind::leads;
+use elan_cursor::made::{both, longer};
 use elan_cursor::passing::before_sign;
 use elan_grammar::ParseError;
-use elan_grammar::tall::{Tall, and, single, with_next};
+use elan_grammar::tall::{Tall, single};
 use elan_tree::{Body, Refinement, Sign};
 use phrase_parser::units;
 use std::alloc::Global;
@@ -29,8 +30,8 @@ fn refinement(
 ) -> Result<Tall<Refinement>, ParseError>
     ensures { Parses (spec.refinement depth) refinement_depth (AtMost depth) cursor.old.rest.now result cursor.new.rest.now }
 {
-    let name = before_sign(cursor.ident(alloc), cursor, Sign::Colon)?;
-    let (name, units) = and(name, units(alloc, cursor, depth))?;
+    let name = before_sign(cursor.ident(alloc), cursor, Sign::Colon);
+    let (name, units) = both(name, units(alloc, cursor, depth))?;
     let tree = Refinement {
         name,
         units: units.tree,
@@ -49,15 +50,15 @@ fn refinement_list(
 ) -> Result<Tall<List<Refinement>>, ParseError>
     ensures { Parses (spec.refinement_list depth) (deepest_of refinement_depth) (AtMost depth) cursor.old.rest.now result cursor.new.rest.now }
 {
-    let mut row = single(alloc, refinement(alloc, cursor, depth))?;
+    let mut row = single(alloc, refinement(alloc, cursor, depth));
     for _turn in 0..cursor.rest.len() {
         if !leads(cursor.ahead()) {
-            return Ok(row);
+            return row;
         }
-        let (items, _) = and(row, cursor.mark(Sign::Point))?;
-        row = with_next(items, refinement(alloc, cursor, depth))?;
+        let point = cursor.mark(Sign::Point);
+        row = longer(row, point.and(refinement(alloc, cursor, depth)));
     }
-    Ok(row)
+    row
 }
 
 #[tactic(auto, unfolding(elan_grammar::specs::Grammar::refinements, elan_grammar::specs::Grammar::last_point))]
@@ -96,8 +97,8 @@ pub fn tail(
 pub fn body(alloc: Global, cursor: &mut Cursor<'_>) -> Result<Tall<Body>, ParseError>
     ensures { Parses (spec.body 400 399) body_depth (AtMost 399) cursor.old.rest.now result cursor.new.rest.now }
 {
-    let units = units(alloc, cursor, MOST)?;
-    let (units, refinements) = and(units, tail(alloc, cursor, MOST_IN_BODY))?;
+    let units = units(alloc, cursor, MOST);
+    let (units, refinements) = both(units, tail(alloc, cursor, MOST_IN_BODY))?;
     let height = units.height.max(refinements.height);
     let tree = Body {
         units: units.tree,
