@@ -1,5 +1,5 @@
 //! Tests of the parts of a system of tasks: the ready list, channels, lines and pieces, the tree, names,
-//! messages, and the commands that lines spell.
+//! messages, and the commands that lines spell; and of types by number.
 #![tactic(auto)]
 
 #[cfg(test)]
@@ -22,3 +22,5 @@ mod tables;
 mod tests;
 #[cfg(test)]
 mod tree;
+#[cfg(test)]
+mod types;

@@ -1,0 +1,70 @@
+//! Types by number.
+use crate::notes::put;
+use containers::Bytes;
+use eu_base::{Kind, Shape};
+use std::alloc::Global;
+use type_table::{TypeForm, TypeNo, Types};
+
+fn put_number(out: &mut Bytes, number: usize) {
+    put(out, &[b'0'.wrapping_add((number % 256) as u8)]);
+}
+
+// Notes a type by its number, and hands it on.
+fn noted(out: &mut Bytes, of: Option<TypeNo>) -> TypeNo {
+    match of {
+        Some(of) => {
+            put_number(out, of.number);
+            of
+        }
+        None => {
+            put(out, b"-");
+            TypeNo { number: 0 }
+        }
+    }
+}
+
+fn cell(types: &mut Types, kind: Kind) -> Option<TypeNo> {
+    types.enter(TypeForm::Cell(kind)).unwrap_or(None)
+}
+
+fn row(types: &mut Types, count: u16, of: TypeNo) -> Option<TypeNo> {
+    match types.form(of) {
+        None => None,
+        Some(_) => types.enter(TypeForm::Row(count, of)).unwrap_or(None),
+    }
+}
+
+fn own(alloc: Global, types: &mut Types, name: &[u8], of: TypeNo) -> Option<TypeNo> {
+    match (types.form(of), Bytes::from(alloc, name)) {
+        (Some(_), Ok(name)) => types.enter(TypeForm::Own(name, of)).unwrap_or(None),
+        _ => None,
+    }
+}
+
+fn put_shape(alloc: Global, out: &mut Bytes, types: &Types, of: TypeNo) {
+    match types.form(of) {
+        None => put(out, b"?"),
+        Some(_) => match types.shape(alloc, of) {
+            Ok(Shape::Row(_, _)) => put(out, b"R"),
+            Ok(Shape::Cell(_)) => put(out, b"C"),
+            _ => put(out, b"?"),
+        },
+    }
+}
+
+/// Cells, rows and own types: each stands once, what is too large does not stand there, and own types differ by their names.
+pub fn each_once(alloc: Global, out: &mut Bytes) {
+    let mut types = Types::new(alloc);
+    let int = noted(out, cell(&mut types, Kind::Int));
+    let text = noted(out, cell(&mut types, Kind::Text));
+    let three = noted(out, row(&mut types, 3, int));
+    noted(out, row(&mut types, 3, text));
+    noted(out, row(&mut types, 3, int));
+    noted(out, row(&mut types, 5462, three));
+    let first = noted(out, own(alloc, &mut types, b"T", three));
+    noted(out, own(alloc, &mut types, b"U", three));
+    noted(out, own(alloc, &mut types, b"T", three));
+    put_number(out, usize::from(types.cells(first)));
+    put_shape(alloc, out, &types, first);
+    put_shape(alloc, out, &types, text);
+}

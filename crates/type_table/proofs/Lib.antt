@@ -1,0 +1,4 @@
+pub mod Once
+pub mod Tables
+pub mod Limits
+pub mod Rooms

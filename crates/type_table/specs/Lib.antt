@@ -1,0 +1,5 @@
+pub mod Forms
+pub mod Sizes
+pub mod Shapes
+pub mod Fields
+pub mod walks
