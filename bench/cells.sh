@@ -9,7 +9,7 @@ work="$(mktemp -d)"
 trap 'rm -rf "$work"' EXIT
 crates="containers eu_base page_pool page_table data_space cell_layout text_blocks text_heap space_memory"
 
-mkdir -p "$work/crates/cells/src" "$work/crates/cells/specs" "$work/crates/cells/proofs/run"
+mkdir -p "$work/crates/cells/src" "$work/crates/cells/proofs/run"
 for crate in $crates; do
     cp -r "$top/crates/$crate" "$work/crates/"
     grep "^$crate:" "$top/crates.txt" >>"$work/crates.txt"
@@ -22,76 +22,69 @@ use Rattle.space_memory.proofs.Fresh.{new_stands}
 use Rattle.cells.proofs.run.Goals as goal
 
 pub over-lent-requires : goal.over-lent-requires
-over-lent-requires c = rw (c.new-pool.ensures, c.new-memory.ensures) (record { agree = new_stands })
+over-lent-requires c = rw (c.new-pool.ensures, c.new-memory.ensures.empty) (record { agree = new_stands })
 END
 
-echo "pub mod Known" >"$work/crates/cells/specs/Lib.antt"
-cat >"$work/crates/cells/specs/Known.antt" <<'END'
--- What a plain map of cells is known to hold.
-use Rattle.std.specs.Prelude.{◌≡◌, ℕ, ◌⊎◌}
-use Rattle.std.proofs.Common.{inl, inr, sym, ◌∙◌}
-use Rattle.eu_base.specs.declared.address.Addr.{Addr}
-use Rattle.eu_base.specs.Cells.{Free, Word, Cells, Within}
+cat >"$work/crates/cells/src/numbers.rt" <<'END'
+//! Cells with numbers: those of a command over pages, and a plain map.
+ghost use Rattle.std.specs.Prelude.{◌≡◌, ◌<◌};
 
--- each cell of which a number is known has it
-abbrev pub HoldsNumbers : (Addr → ℕ) → Cells → Type 0
-HoldsNumbers numbers cells = (a : Addr) (n : ℕ) → cells a ≡ Word n → numbers a ≡ n
-
--- what is known of fewer cells is still so
-pub still_held : (numbers : Addr → ℕ) (cells fewer : Cells) → HoldsNumbers numbers cells → Within fewer cells → HoldsNumbers numbers fewer
-still_held numbers cells fewer holds within a n is = by (within a)
-  where
-    by : (fewer a ≡ cells a) ⊎ (fewer a ≡ Free) → numbers a ≡ n
-    by (inl same) = holds a n (sym same ∙ is)
-    by (inr free) = let f : ⊥ = cc (free, is) in absurd f
-END
-
-cat >"$work/crates/cells/src/plain.rt" <<'END'
-//! Cells in memory.
-ghost use Rattle.std.specs.Prelude.{unwrap_or};
-ghost use Rattle.std.specs.Ordering.{nat_cmp};
-ghost use Rattle.std.specs.BTreeMap.{get};
-ghost use Rattle.cells.specs.Known.{HoldsNumbers, still_held};
-
-use eu_base::{Addr, MemFault, Memory};
+use eu_base::{Addr, Area, MemFault, Memory};
+use space_memory::Lent;
 use std::alloc::Global;
 use std::collections::BTreeMap;
 
+/// Numbers under the numbers of cells.
+pub trait Numbers {
+    fn number(&mut self, cell: u16) -> Result<u64, MemFault>
+        requires { cell < 16384 };
+
+    fn set_number(&mut self, cell: u16, number: u64) -> Result<(), MemFault>
+        requires { cell < 16384 };
+}
+
+fn at(cell: u16) -> Addr
+    ensures { result.cell ≡ cell }
+{
+    Addr {
+        area: Area::Run,
+        cell,
+    }
+}
+
+impl Numbers for Lent<'_> {
+    #[inline(always)]
+    fn number(&mut self, cell: u16) -> Result<u64, MemFault> {
+        self.cell(at(cell))
+    }
+
+    #[inline(always)]
+    fn set_number(&mut self, cell: u16, number: u64) -> Result<(), MemFault> {
+        self.set_cell(at(cell), number)
+    }
+}
+
 /// A plain map from cells to numbers. A cell that was never written holds 0.
 #[derive(Drop)]
-pub struct PlainMemory {
+pub struct Plain {
     cells: BTreeMap<u16, u64>,
 }
 
-impl PlainMemory {
-    pub fn new(alloc: Global) -> PlainMemory {
-        PlainMemory {
+impl Plain {
+    pub fn new(alloc: Global) -> Plain {
+        Plain {
             cells: BTreeMap::new(alloc),
         }
     }
 }
 
-impl Memory for PlainMemory {
-    ghost holds = { λ memory cells. HoldsNumbers (λ at. unwrap_or (get nat_cmp memory.cells at.cell) 0) cells };
-
-    ghost faults = { λ _. 0 };
-
-    ghost follows = { λ _ _. Unit {0} };
-
-    ghost forgets = {
-        λ memory cells fewer holds within. still_held (λ at. unwrap_or (get nat_cmp memory.cells at.cell) 0) cells fewer holds within
-    };
-
-    ghost reflexive = { λ _. tt };
-
-    ghost transitive = { λ _ _ _ _ _. tt };
-
-    fn cell(&mut self, at: Addr) -> Result<u64, MemFault> {
-        Ok(self.cells.get(&at.cell).copied().unwrap_or(0))
+impl Numbers for Plain {
+    fn number(&mut self, cell: u16) -> Result<u64, MemFault> {
+        Ok(self.cells.get(&cell).copied().unwrap_or(0))
     }
 
-    fn set_cell(&mut self, at: Addr, number: u64) -> Result<(), MemFault> {
-        match self.cells.insert(at.cell, number) {
+    fn set_number(&mut self, cell: u16, number: u64) -> Result<(), MemFault> {
+        match self.cells.insert(cell, number) {
             Ok(_) => Ok(()),
             Err(_) => Err(MemFault::NoMemory),
         }
@@ -104,42 +97,39 @@ cat >"$work/crates/cells/src/main.rt" <<'END'
 #![tactic(auto)]
 ghost use Rattle.std.specs.Prelude.{◌<◌};
 
-mod plain;
+mod numbers;
 
-use crate::plain::PlainMemory;
-use eu_base::{Addr, Area, MemFault, Memory};
+use crate::numbers::{Numbers, Plain};
+use eu_base::MemFault;
 use page_pool::Pool;
 use space_memory::SpaceMemory;
 use std::env;
 use std::process::ExitCode;
 
-fn at(turn: u32) -> Addr
-    ensures { result.cell < 16384 }
+fn cell(turn: u32) -> u16
+    ensures { result < 16384 }
 {
-    Addr {
-        area: Area::Run,
-        cell: (turn % 1_000) as u16,
-    }
+    (turn % 1_000) as u16
 }
 
-fn write<M: Memory>(memory: &mut M, turns: u32) -> Result<(), MemFault> {
+fn write<M: Numbers>(memory: &mut M, turns: u32) -> Result<(), MemFault> {
     for turn in 0..turns {
-        memory.set_cell(at(turn), u64::from(turn))?;
+        memory.set_number(cell(turn), u64::from(turn))?;
     }
     Ok(())
 }
 
-fn write_and_read<M: Memory>(memory: &mut M, turns: u32) -> Result<u64, MemFault> {
+fn write_and_read<M: Numbers>(memory: &mut M, turns: u32) -> Result<u64, MemFault> {
     let mut sum = 0;
     for turn in 0..turns {
-        memory.set_cell(at(turn), u64::from(turn))?;
-        sum ^= memory.cell(at(turn / 2))?;
+        memory.set_number(cell(turn), u64::from(turn))?;
+        sum ^= memory.number(cell(turn / 2))?;
     }
     Ok(sum)
 }
 
 // Fills the cells, and then writes them so often, or writes and reads them.
-fn exercise<M: Memory>(memory: &mut M, reads: bool, turns: u32) -> Result<u64, MemFault> {
+fn exercise<M: Numbers>(memory: &mut M, reads: bool, turns: u32) -> Result<u64, MemFault> {
     write(memory, 1_000)?;
     if !reads {
         write(memory, turns)?;
@@ -158,11 +148,11 @@ fn run(rt: &HostRuntime) -> Option<u64> {
     let turns = if words.len() > 2 { 110_000 } else { 10_000 };
     let reads = words.get(1)?.as_str() == "both";
     if words.get(0)?.as_str() == "plain" {
-        let mut plain = PlainMemory::new(rt.alloc());
+        let mut plain = Plain::new(rt.alloc());
         return exercise(&mut plain, reads, turns).ok();
     }
     let mut pool = Pool::new(rt.alloc());
-    let mut memory = SpaceMemory::new();
+    let mut memory = SpaceMemory::new(rt.alloc());
     let mut lent = memory.over(&mut pool);
     exercise(&mut lent, reads, turns).ok()
 }
