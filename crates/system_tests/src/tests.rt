@@ -176,7 +176,7 @@ fn wrong_scene(alloc: Global) -> &'static str {
         b"1,8 \n2:\n4:a\"13\"b\"127\"\nx\n3:y\n",
     ) {
         "pieces"
-    } else if !goes(alloc, Scene::Types, b"01232-4543RC") {
+    } else if !goes(alloc, Scene::Types, b"01232-4543RC67602-") {
         "types"
     } else {
         ""

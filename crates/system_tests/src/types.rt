@@ -1,9 +1,9 @@
 //! Types by number.
 use crate::notes::put;
-use containers::Bytes;
+use containers::{Bytes, List};
 use eu_base::{Kind, Shape};
 use std::alloc::Global;
-use type_table::{TypeForm, TypeNo, Types};
+use type_table::{Field, TypeForm, TypeNo, Types};
 
 fn put_number(out: &mut Bytes, number: usize) {
     put(out, &[b'0'.wrapping_add((number % 256) as u8)]);
@@ -41,6 +41,30 @@ fn own(alloc: Global, types: &mut Types, name: &[u8], of: TypeNo) -> Option<Type
     }
 }
 
+// A structure of one field.
+fn structure(alloc: Global, types: &mut Types, name: &[u8], of: TypeNo) -> Option<TypeNo> {
+    match (types.form(of), Bytes::from(alloc, name)) {
+        (Some(_), Ok(name)) => {
+            let mut fields = List::new(alloc);
+            match fields.push(Field { name, of }) {
+                Ok(()) => types.enter(TypeForm::Struct(fields)).unwrap_or(None),
+                Err(_) => None,
+            }
+        }
+        _ => None,
+    }
+}
+
+fn put_field(out: &mut Bytes, types: &Types, of: TypeNo, name: &[u8]) {
+    match types.field(of, name) {
+        None => put(out, b"-"),
+        Some((before, of)) => {
+            put_number(out, usize::from(before));
+            put_number(out, of.number);
+        }
+    }
+}
+
 fn put_shape(alloc: Global, out: &mut Bytes, types: &Types, of: TypeNo) {
     match types.form(of) {
         None => put(out, b"?"),
@@ -67,4 +91,9 @@ pub fn each_once(alloc: Global, out: &mut Bytes) {
     put_number(out, usize::from(types.cells(first)));
     put_shape(alloc, out, &types, first);
     put_shape(alloc, out, &types, text);
+    let fields = noted(out, structure(alloc, &mut types, b"a", three));
+    noted(out, structure(alloc, &mut types, b"b", three));
+    noted(out, structure(alloc, &mut types, b"a", three));
+    put_field(out, &types, fields, b"a");
+    put_field(out, &types, fields, b"b");
 }
