@@ -9,15 +9,14 @@ use Rattle.code_form.specs.declared.code.Spot.{Spot}
 use Rattle.code_form.specs.declared.code.Entry.{Entry}
 use Rattle.code_form.specs.Program.{Program, in_body}
 use Rattle.code_form.specs.Machine.{at}
-use Rattle.elan_types.specs.declared.elan_type.ElanType.{ElanType}
+use Rattle.eu_base.specs.declared.value.Kind.{Kind}
 use Rattle.elan_types.specs.declared.core_phrase.Exit.TheVariants as exits
 use Rattle.elan_types.specs.declared.core_phrase.Content.{Content}
 use Rattle.elan_types.specs.declared.core_phrase.Content.TheVariants as contents
 use Rattle.elan_types.specs.declared.core_phrase.Body.{Body}
-use Rattle.elan_types.specs.Typing.{kind_in, has, is_content_typed}
+use Rattle.elan_types.specs.Typing.{has, result_of_content, is_content_typed}
 use Rattle.elan_types.specs.Eval.{Gives, all, act, value}
 use Rattle.place_gen.specs.Stretch.{one, keeps, all_code, action_code, value_code, content_code}
-use Rattle.place_gen.specs.Layouts.{delivered_kind}
 use Rattle.place_gen.proofs.Lines.{HasAt, has_front, has_rest, IsSized, join_sized}
 use Rattle.place_gen.proofs.Homes.{Delivers, Agrees, IsHome, has_is}
 use Rattle.place_gen.proofs.Carry.{finish_bind, reach, Ends}
@@ -49,7 +48,7 @@ body_has lines (x ∷ bs) k at (suc n) b e sized has is entry =
     subst (λ n. HasAt lines e.first ((content_code b.content).lines [] (in_body n) e.first)) n'
     (body_has lines bs (suc k) (at + (content_code x.content).size) n b e (λ n b. sized (suc n) b) h is entry)
 
-module _ (p : Program) (variables : List ElanType) (bodies : List Body) (agrees : Agrees p variables bodies) (q : ℕ) (home : IsHome bodies (Some q)) where
+module _ (p : Program) (variables : List Kind) (bodies : List Body) (agrees : Agrees p variables bodies) (q : ℕ) (home : IsHome bodies (Some q)) where
   one_sized : (i : Instr) (f : List OperandKind → List OperandKind) → IsSized (one i f)
   one_sized i f ks m pc = refl
 
@@ -58,11 +57,11 @@ module _ (p : Program) (variables : List ElanType) (bodies : List Body) (agrees 
       join_sized (all_code (map action_code us)) (one (Back None) keeps) (all_are p variables bodies agrees (Some q) home us e).sized
       (one_sized (Back None) keeps) [] m at
   content_sized (contents.Value u a) e m at =
-      join_sized (value_code a) (one (Back (Some (kind_in u))) (drop 1)) (value_is p variables bodies agrees (Some q) home a u (has_is u _ e)).sized
-      (one_sized (Back (Some (kind_in u))) (drop 1)) [] m at
+      join_sized (value_code a) (one (Back (Some u)) (drop 1)) (value_is p variables bodies agrees (Some q) home a u (has_is u _ e)).sized
+      (one_sized (Back (Some u)) (drop 1)) [] m at
 
   pub content_carries : (first : ℕ) (con : Content) → is_content_typed variables bodies (Some q) con ≡ true
-      → HasAt p.lines first ((content_code con).lines [] (in_body q) first) → Delivers p (Some q) (delivered_kind con) → ContentCarries p q first con
+      → HasAt p.lines first ((content_code con).lines [] (in_body q) first) → Delivers p (Some q) (result_of_content con) → ContentCarries p q first con
   content_carries first (contents.Units us) e has gives =
       let f = all_code (map action_code us) in
       let i = all_are p variables bodies agrees (Some q) home us e in
@@ -82,6 +81,6 @@ module _ (p : Program) (variables : List ElanType) (bodies : List Body) (agrees 
             subst (Ends p L (at c first []) w) (sym (finish_bind (value a (reach calls n c []) w) (λ v. Gives (Some v)) (l exits.Body) l))
             ((i.goes calls n b first L [] (in_body q) c [] refl le (has_front p.lines first (f.lines [] (in_body q) first) _ has)).by
             (λ v w. l exits.Body (Some v) w) l
-            (λ v w ok le'. leave_ends p exits.Body (Some (kind_in u)) (Some v) L b (first + f.size) (f.leaves []) (in_body q) c [] l ok gives h.0
+            (λ v w ok le'. leave_ends p exits.Body (Some u) (Some v) L b (first + f.size) (f.leaves []) (in_body q) c [] l ok gives h.0
             le.stands.used hl w le') hl w lw);
       }

@@ -10,8 +10,6 @@ use Rattle.code_form.specs.declared.operand.OperandKind.{OperandKind}
 use Rattle.code_form.specs.declared.operand.OperandKind.TheVariants as operand
 use Rattle.code_form.specs.Program.{Program}
 use Rattle.code_form.specs.Machine.{held_of_operand, frame_contents}
-use Rattle.elan_types.specs.declared.elan_type.ElanType.{ElanType}
-use Rattle.elan_types.specs.Typing.{kind_in}
 use Rattle.elan_types.specs.Eval.{Slot, Holds, frame}
 use Rattle.place_gen.proofs.Cells.{OfValue, OfNothing, Uses, Kept, AllKept}
 use Rattle.place_gen.proofs.Carry.{use_of, Takes, TakeAll}
@@ -35,23 +33,23 @@ module _ (p : Program) (L : Uses) where
   one_kept (operand.Place k) s at le t =
       (t.0, t.1, omega (arith, le, slice_get_within L t.0.variable (OfValue k) t.2), t.2, ap (λ s. held_of_operand (slot_operand s)) t.1)
 
-  blank_kept : (vs : List ElanType) (at : ℕ)
-      → AllKept L at (map use_of (map operand.Value (map kind_in vs))) (map (λ (u : ElanType). Holds (blank_of (kind_in u))) vs)
-      (map (λ (k : Kind). held_of (blank_of k)) (map kind_in vs))
+  blank_kept : (vs : List Kind) (at : ℕ)
+      → AllKept L at (map use_of (map operand.Value vs)) (map (λ (u : Kind). Holds (blank_of u)) vs)
+      (map (λ (k : Kind). held_of (blank_of k)) vs)
   blank_kept [] at = tt
-  blank_kept (v ∷ vs) at = ((blank_of (kind_in v), refl, blank_is (kind_in v), refl), blank_kept vs (suc at))
+  blank_kept (v ∷ vs) at = ((blank_of v, refl, blank_is v, refl), blank_kept vs (suc at))
 
-  rest_kept : (ks : List OperandKind) (ss : List Slot) (vs : List ElanType) (at : ℕ) → length L ≤ at → TakeAll p ks L ss
-      → AllKept L at (map use_of (ks ++ map operand.Value (map kind_in vs))) (ss ++ map (λ (u : ElanType). Holds (blank_of (kind_in u))) vs)
-      (map held_of_operand (map slot_operand ss) ++ map (λ (k : Kind). held_of (blank_of k)) (map kind_in vs))
+  rest_kept : (ks : List OperandKind) (ss : List Slot) (vs : List Kind) (at : ℕ) → length L ≤ at → TakeAll p ks L ss
+      → AllKept L at (map use_of (ks ++ map operand.Value vs)) (ss ++ map (λ (u : Kind). Holds (blank_of u)) vs)
+      (map held_of_operand (map slot_operand ss) ++ map (λ (k : Kind). held_of (blank_of k)) vs)
   rest_kept [] [] vs at le t = blank_kept vs at
   rest_kept [] (s ∷ ss) vs at le t = absurd t
   rest_kept (k ∷ ks) [] vs at le t = absurd t
   rest_kept (k ∷ ks) (s ∷ ss) vs at le t = (one_kept k s at le t.0, rest_kept ks ss vs (suc at) (omega (arith, le)) t.1)
 
   -- the cells of a call hold what its slots have
-  pub frame_kept : (ks : List OperandKind) (ss : List Slot) (vs : List ElanType) → TakeAll p ks L ss
-      → AllKept L (length L) (frame_uses (ks ++ map operand.Value (map kind_in vs))) (frame ss vs) (frame_contents (map slot_operand ss) (map kind_in vs))
+  pub frame_kept : (ks : List OperandKind) (ss : List Slot) (vs : List Kind) → TakeAll p ks L ss
+      → AllKept L (length L) (frame_uses (ks ++ map operand.Value vs)) (frame ss vs) (frame_contents (map slot_operand ss) vs)
   frame_kept ks ss vs t = ((refl, refl), ((refl, refl), rest_kept ks ss vs (suc (suc (length L))) (omega arith) t))
 
 pub kept_lengths : (L M : Uses) (at : ℕ) (more : List Slot) (ns : List Cell) → AllKept L at M more ns → (length more ≡ length M) × (length ns ≡ length M)

@@ -32,8 +32,6 @@ use Rattle.elan_types.specs.declared.core_phrase.Scope.{Scope}
 use Rattle.elan_types.specs.declared.core_phrase.Scope.TheVariants as scopes
 use Rattle.elan_types.specs.declared.core_phrase.Content.{Content}
 use Rattle.elan_types.specs.declared.core_phrase.Body.{Body}
-use Rattle.elan_types.specs.declared.elan_type.ElanType.{ElanType}
-use Rattle.elan_types.specs.Typing.{kind_in}
 use Rattle.elan_types.specs.Eval.{Slot, World, Outcome, Gives, Left, Stopped, OutOfMarks, Asks, branch, with_room, cut, called, referred, content, frame, link}
 use Rattle.elan_types.specs.Eval.{store_blocks, own_variables, run_called, run_referred, level, Calls}
 use Rattle.elan_types.specs.Command.{Ending}
@@ -179,7 +177,7 @@ pub record IsMade (p : Program) (bodies : List Body) (q : ℕ) (e : Entry) : Typ
   pub carry : ContentCarries p q e.first body.content
 
 module _ (bodies : List Body) (p : Program) where
-  own_is : (s : Scope) (ks : List OperandKind) (vs : List Kind) → layout_of s ≡ layouts.Own ks vs → map kind_in (own_variables s) ≡ vs
+  own_is : (s : Scope) (ks : List OperandKind) (vs : List Kind) → layout_of s ≡ layouts.Own ks vs → own_variables s ≡ vs
   own_is (scopes.Own ps us) ks vs e = cc
   own_is (scopes.Of q) ks vs e = let f : ⊥ = cc in absurd f
   own_is scopes.Level ks vs e = let f : ⊥ = cc in absurd f
@@ -282,14 +280,14 @@ module _ (bodies : List Body) (p : Program) where
 
   module _ (made : (q : ℕ) (e : Entry) → slice_get p.bodies q ≡ Some e → IsMade p bodies q e) where
     -- a PROC that is called, where calls in it do what they do
-    call_ends : (n b pc q : ℕ) (L : Uses) (m : Spot) (c : Position) (ops : List Operand) (e : Entry) (ks : List OperandKind) (us : List ElanType)
+    call_ends : (n b pc q : ℕ) (L : Uses) (m : Spot) (c : Position) (ops : List Operand) (e : Entry) (ks : List OperandKind) (us : List Kind)
         (args : List Slot) (con : Content) → CallsCarry p (level bodies n) n → b ≤ n → Stands p L m c → slice_get p.bodies q ≡ Some e
-        → e.layout ≡ layouts.Own ks (map kind_in us) → TakeAll p ks L args → ContentCarries p q e.first con
+        → e.layout ≡ layouts.Own ks us → TakeAll p ks L args → ContentCarries p q e.first con
         → (k : Option Value → World → Ending) (l : Exit → Option Value → World → Ending)
         → ((v : Option Value) (w : World) → Result e.delivers v → w.marks ≤ b → Ends p L (at c (pc + 1) (result_ops v ++ ops)) w (k v w)) → (w : World)
         → w.marks ≤ b → (cells : Cells) → Keeps L w.store cells
         → After p (after_stage (enters (at c pc (pushed_slots p args ops)) e.first (c.used + 2) false q ops
-        (frame_contents (map slot_operand args) (map kind_in us)) cells) (free (at c pc (pushed_slots p args ops))) (scene_of w cells))
+        (frame_contents (map slot_operand args) us) cells) (free (at c pc (pushed_slots p args ops))) (scene_of w cells))
         (finish (with_room (frame args us)
         (λ w'. called (length w.store)
         (content con (record { calls = level bodies n; turns = n; base = length w.store + 2; held = bytes_on ops (bytes_of c.frames) }) w')) w) k l)
@@ -297,9 +295,9 @@ module _ (bodies : List Body) (p : Program) where
         let now = at c pc (pushed_slots p args ops) in
         let N = length w.store in
         let same : c.used ≡ N = omega (arith, h.used, keeps.as_many) in
-        let frame' = ks ++ map operand.Value (map kind_in us) in
+        let frame' = ks ++ map operand.Value us in
         let M = frame_uses frame' in
-        let ns = frame_contents (map slot_operand args) (map kind_in us) in
+        let ns = frame_contents (map slot_operand args) us in
         let kept = frame_kept p L ks args us takes in
         let w' : World = record w { store = w.store ++ frame args us } in
         let inner = entered p now e.first (c.used + 2) false q ops ns in
@@ -310,8 +308,8 @@ module _ (bodies : List Body) (p : Program) where
         let base : c.used + 2 ≡ length L + 2 = omega (arith, h.used) in
         let used : c.used + length ns ≡ length (L ++ M) = omega (arith, h.used, length-append L M, (kept_lengths L M (length L) (frame args us) ns kept).1) in
         let within : Within p (level bodies n) n b (L ++ M) (in_body q) inner =
-        record { turns = le; stands = stands_called L m c inner q frame' h room used base (frame_own q e ks (map kind_in us) is own); carry = calls } in
-        let exits' = call_exits L q N b e ks (map kind_in us) f c.frames k is own refl refl keeps.as_many h.used hk in
+        record { turns = le; stands = stands_called L m c inner q frame' h room used base (frame_own q e ks us is own); carry = calls } in
+        let exits' = call_exits L q N b e ks us f c.frames k is own refl refl keeps.as_many h.used hk in
         subst (λ o. Ends p (L ++ M) inner w' o) (sym (finish_called N (go N w') k l))
         (subst (λ z. Ends p (L ++ M) inner w' (finish (go z w') (λ v w. k v (cut N w)) l')) same
         (body.ends (level bodies n) n b (L ++ M) inner within l' exits' w' lw)))
@@ -376,15 +374,15 @@ module _ (bodies : List Body) (p : Program) where
       call = λ L b pc q ks m c ops e parameters vs args le h has is own takes.
           let x = made q e is in
           let us = own_variables x.body.scope in
-          let vs_are : map kind_in us ≡ vs = own_is x.body.scope parameters vs (sym x.layout ∙ own) in
-          let own' : e.layout ≡ layouts.Own parameters (map kind_in us) = own ∙ ap (layouts.Own parameters) (sym vs_are) in
+          let vs_are : us ≡ vs = own_is x.body.scope parameters vs (sym x.layout ∙ own) in
+          let own' : e.layout ≡ layouts.Own parameters us = own ∙ ap (layouts.Own parameters) (sym vs_are) in
           let held = bytes_on ops (bytes_of c.frames) in
           let now = at c pc (pushed_slots p args ops) in
-          spend_carries p b now (λ cells. enters now e.first (c.used + 2) false q ops (frame_contents (map slot_operand args) (map kind_in us)) cells)
+          spend_carries p b now (λ cells. enters now e.first (c.used + 2) false q ops (frame_contents (map slot_operand args) us) cells)
           (run_called (level bodies n) n (slice_get bodies q) args held) (λ v. at c (pc + 1) (result_ops v ++ ops))
-          (call_step pc q L ks m c ops e parameters (map kind_in us) args has is own' takes) (λ b' lt. record {
+          (call_step pc q L ks m c ops e parameters us args has is own' takes) (λ b' lt. record {
             by = λ k l hk hl w lw cells keeps.
-                subst (λ o. After p (after_stage (enters now e.first (c.used + 2) false q ops (frame_contents (map slot_operand args) (map kind_in us)) cells)
+                subst (λ o. After p (after_stage (enters now e.first (c.used + 2) false q ops (frame_contents (map slot_operand args) us) cells)
                 (free now)
                 (scene_of w cells)) (finish (run_called (level bodies n) n o args held w) k l)) (sym x.is)
                 (call_ends n b' pc q L m c ops e parameters us args x.body.content (level_carries n) (omega (arith, le, lt)) h is own' takes x.carry k l hk w lw

@@ -1,5 +1,5 @@
 -- A command that is run in pieces shows what it does.
-use Rattle.std.proofs.Common.{◌≡◌, ℕ, zero, suc, ◌+◌, ◌≤◌, List, [], ◌∷◌, ◌++◌, map, length, Some, true, refl, sym, ap, ◌∙◌, subst, arith}
+use Rattle.std.proofs.Common.{◌≡◌, ℕ, zero, suc, ◌+◌, ◌≤◌, List, [], ◌∷◌, ◌++◌, map, length, Some, true, refl, sym, ap, subst, arith}
 use Rattle.std.specs.Prelude.{slice_get}
 use Rattle.std.proofs.lemmas.List.{length-map}
 use Rattle.eu_base.specs.declared.value.Kind.{Kind}
@@ -13,9 +13,7 @@ use Rattle.eu_base.proofs.Results.{fits_in_range}
 use Rattle.code_form.specs.Program.{Program}
 use Rattle.code_form.specs.Machine.{Control, Rest, start}
 use Rattle.code_form.specs.Runs.{Rests, Stands}
-use Rattle.elan_types.specs.declared.elan_type.ElanType.{ElanType}
 use Rattle.elan_types.specs.declared.core_phrase.Core.{Core}
-use Rattle.elan_types.specs.Typing.{kind_in}
 use Rattle.elan_types.specs.Eval.{Slot, Holds}
 use Rattle.elan_types.specs.Command.{blank_store, at_start, evaluate}
 use Rattle.place_gen.specs.Correct.{StandsFor, HasVariables, Shows}
@@ -26,28 +24,28 @@ blank_is kinds.Int = fits_in_range _ refl
 blank_is kinds.Truth = tt
 blank_is kinds.Text = omega arith
 
-abbrev blanks : List ElanType → List Slot
-blanks us = map (λ u. Holds (blank_of (kind_in u))) us
+abbrev blanks : List Kind → List Slot
+blanks us = map (λ u. Holds (blank_of u)) us
 
-blank_each : (us : List ElanType) (x : ℕ) (k : Kind) → slice_get (map kind_in us) x ≡ Some k
+blank_each : (us : List Kind) (x : ℕ) (k : Kind) → slice_get us x ≡ Some k
     → (v : Value) × (slice_get (blanks us) x ≡ Some (Holds v)) × IsOf k v
 blank_each [] x k e = let f : ⊥ = cc in absurd f
-blank_each (u ∷ us) zero k e = let f : kind_in u ≡ k = cc in (blank_of (kind_in u), refl, subst (λ k. IsOf k (blank_of (kind_in u))) f (blank_is (kind_in u)))
+blank_each (u ∷ us) zero k e = let f : u ≡ k = cc in (blank_of u, refl, subst (λ k. IsOf k (blank_of u)) f (blank_is u))
 blank_each (u ∷ us) (suc x) k e = blank_each us x k e
 
-blank_slot : (us : List ElanType) (x : ℕ) (s : Slot) → slice_get (blanks us) x ≡ Some s
-    → (k : Kind) × (slice_get (map kind_in us) x ≡ Some k) × (s ≡ Holds (blank_of k))
+blank_slot : (us : List Kind) (x : ℕ) (s : Slot) → slice_get (blanks us) x ≡ Some s
+    → (k : Kind) × (slice_get us x ≡ Some k) × (s ≡ Holds (blank_of k))
 blank_slot [] x s e = let f : ⊥ = cc in absurd f
-blank_slot (u ∷ us) zero s e = let f : s ≡ Holds (blank_of (kind_in u)) = cc in (kind_in u, refl, f)
+blank_slot (u ∷ us) zero s e = let f : s ≡ Holds (blank_of u) = cc in (u, refl, f)
 blank_slot (u ∷ us) (suc x) s e = blank_slot us x s e
 
 -- variables that were made hold the values that a command starts with, where nothing is known of the cells behind
-pub has_blank : (core : Core) (cells : Cells) → (cells_fit (length (map kind_in core.variables)) ≡ true → IsBlank (map kind_in core.variables) cells)
-    → ((x : ℕ) → length (map kind_in core.variables) ≤ x → cells (run_cell x) ≡ Free)
-    → HasVariables (map kind_in core.variables) (blank_store core) cells
+pub has_blank : (core : Core) (cells : Cells) → (cells_fit (length core.variables) ≡ true → IsBlank core.variables cells)
+    → ((x : ℕ) → length core.variables ≤ x → cells (run_cell x) ≡ Free)
+    → HasVariables core.variables (blank_store core) cells
 has_blank core cells blank beyond =
-    let as_many : length (blank_store core) ≡ length (map kind_in core.variables) =
-    length-map core.variables (λ (u : ElanType). Holds (blank_of (kind_in u))) ∙ sym (length-map core.variables kind_in) in record {
+    let as_many : length (blank_store core) ≡ length core.variables =
+    length-map core.variables (λ (k : Kind). Holds (blank_of k)) in record {
       as_many = as_many;
       each = blank_each core.variables;
       image = λ room x s e.

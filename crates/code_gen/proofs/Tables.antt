@@ -1,6 +1,6 @@
 -- The tables of a whole program agree.
 use Rattle.std.proofs.Common.{◌≡◌, ℕ, zero, suc, ◌+◌, List, [], ◌∷◌, map, length, Some, None, refl, sym, ap, ◌∙◌, subst, arith}
-use Rattle.std.specs.Prelude.{slice_get, option_map}
+use Rattle.std.specs.Prelude.{slice_get}
 use Rattle.code_form.specs.declared.instr.Instr.TheVariants.{End}
 use Rattle.code_form.specs.declared.code.Line.{Line}
 use Rattle.code_form.specs.declared.code.Entry.{Entry}
@@ -10,22 +10,16 @@ use Rattle.code_form.specs.Program.{Program, at_level, in_body}
 use Rattle.code_form.specs.Valid.{Next, IsFine, IsOwned, IsValid}
 use Rattle.elan_types.specs.declared.core_phrase.Scope.{Scope}
 use Rattle.elan_types.specs.declared.core_phrase.Scope.TheVariants as scopes
-use Rattle.elan_types.specs.declared.core_phrase.Content.{Content}
-use Rattle.elan_types.specs.declared.core_phrase.Content.TheVariants as contents
 use Rattle.elan_types.specs.declared.core_phrase.Body.{Body}
 use Rattle.elan_types.specs.declared.core_phrase.Core.{Core}
-use Rattle.elan_types.specs.Typing.{kind_in, result_of_content, IsScope, IsWellTyped}
+use Rattle.elan_types.specs.Typing.{IsScope, IsWellTyped}
 use Rattle.place_gen.specs.Stretch.{Stretch, one, keeps, all_code, action_code, content_code}
 use Rattle.place_gen.proofs.Lines.{HasAt, has_front, has_rest, has_all, join_sized}
-use Rattle.place_gen.specs.Layouts.{parameter_kind, layout_of, delivered_kind}
+use Rattle.place_gen.specs.Layouts.{parameter_kind, layout_of}
 use Rattle.place_gen.proofs.Homes.{Agrees}
 use Rattle.place_gen.proofs.Tables.{Each, each_rest, ends_good, ActionTable}
 use Rattle.place_gen.proofs.TableTree.{IsGood, all_are, content_is}
 use Rattle.code_gen.specs.Program.{level_code, entry_of, entries, body_lines, program_of}
-
-delivers_same : (c : Content) → delivered_kind c ≡ option_map kind_in (result_of_content c)
-delivers_same (contents.Units us) = refl
-delivers_same (contents.Value u a) = refl
 
 -- each body has an entry, and each entry is that of a body
 pub entry_at : (bs : List Body) (at n : ℕ) (b : Body) → slice_get bs n ≡ Some b → (first : ℕ) × (slice_get (entries bs at) n ≡ Some (entry_of b first))
@@ -59,7 +53,7 @@ module _ (core : Core) (typed : IsWellTyped core) where
   agrees = record {
     level = refl;
     each =
-        λ n b is. let e = entry_at core.bodies behind n b is in record { entry = entry_of b e.0; has = e.1; layout = refl; delivers = delivers_same b.content };
+        λ n b is. let e = entry_at core.bodies behind n b is in record { entry = entry_of b e.0; has = e.1; layout = refl; delivers = refl };
   }
 
   content_good : (n : ℕ) (b : Body) (is : slice_get core.bodies n ≡ Some b)
@@ -105,7 +99,7 @@ module _ (core : Core) (typed : IsWellTyped core) where
   owned_by (layouts.Of q) (scopes.Of r) e is =
       let f : r ≡ q = cc in
       let g = entry_at core.bodies behind q is.0 (subst (λ n. slice_get core.bodies n ≡ Some is.0) f is.1.1.1) in
-      (entry_of is.0 g.0, (map parameter_kind is.1.0, (map kind_in is.1.1.0, g.1, ap layout_of is.1.1.2)))
+      (entry_of is.0 g.0, (map parameter_kind is.1.0, (is.1.1.0, g.1, ap layout_of is.1.1.2)))
 
   abbrev units : Stretch
   units = all_code (map action_code core.units)

@@ -21,13 +21,12 @@ use Rattle.elan_types.specs.declared.core_phrase.Body.{Body}
 use Rattle.elan_types.specs.declared.core_phrase.Core.{Core}
 use Rattle.elan_types.specs.declared.core_phrase.Exit.{Exit}
 use Rattle.elan_types.specs.declared.core_phrase.Exit.TheVariants as exits
-use Rattle.elan_types.specs.Typing.{kind_in, IsWellTyped}
+use Rattle.elan_types.specs.Typing.{result_of_content, IsWellTyped}
 use Rattle.elan_types.specs.Eval.{Slot, Holds, Taken, slot_at, World, Outcome, Gives, Left, Stopped, OutOfMarks, Asks, branch, all, act, level}
 use Rattle.elan_types.specs.Command as endings
 use Rattle.elan_types.specs.Command.{Ending, ending, from_level, evaluate_from}
 use Rattle.place_gen.specs.Stretch.{Stretch, keeps, all_code, action_code, content_code}
 use Rattle.place_gen.specs.Correct.{HasVariables, Shows, Comes, scene_of}
-use Rattle.place_gen.specs.Layouts.{delivered_kind}
 use Rattle.place_gen.proofs.Lines.{HasAt, has_front, has_rest}
 use Rattle.place_gen.proofs.Homes.{Delivers, LeftBy}
 use Rattle.place_gen.proofs.Cells.{Use, OfValue, Uses, Kept, Keeps}
@@ -94,7 +93,7 @@ module _ (core : Core) (typed : IsWellTyped core) where
       let has =
       subst (λ n. HasAt p.lines e.first ((content_code x.0.content).lines [] (in_body n) e.first)) n
       (body_has p.lines core.bodies 0 (level_code core).size q x.0 e sized (has_bodies core typed) x.1.1 entry) in
-      let gives : Delivers p (Some q) (delivered_kind x.0.content) = (e, entry, ap (λ (e : Entry). e.delivers) x.1.2) in
+      let gives : Delivers p (Some q) (result_of_content x.0.content) = (e, entry, ap (λ (e : Entry). e.delivers) x.1.2) in
       record {
         body = x.0;
         is = x.1.1;
@@ -151,10 +150,7 @@ module _ (core : Core) (typed : IsWellTyped core) where
   }
 
   pub ends : (w : World) (cells : Cells) → HasVariables p.variables w.store cells → Comes p (start number) (scene_of w cells) (evaluate_from core w)
-  ends w cells h =
-      subst (λ n. Comes p (start number) (scene_of w cells)
-      (ending (branch (cells_fit n) (all (map act core.units) (from_level core w.marks)) (Stopped CellRoom) w))) (length-map core.variables kind_in)
-      (by_room w cells h (cells_fit number) refl)
+  ends w cells h = by_room w cells h (cells_fit number) refl
 
   pub behaves : Behaves core p
   behaves = record {

@@ -6,8 +6,8 @@ use Rattle.code_form.specs.declared.code.Entry.{Entry}
 use Rattle.code_form.specs.Program.{Program, at_level, in_body}
 use Rattle.elan_types.specs.declared.core_phrase.Body.{Body}
 use Rattle.elan_types.specs.declared.core_phrase.Core.{Core}
-use Rattle.elan_types.specs.Typing.{kind_in}
-use Rattle.place_gen.specs.Layouts.{layout_of, delivered_kind}
+use Rattle.elan_types.specs.Typing.{result_of_content}
+use Rattle.place_gen.specs.Layouts.{layout_of}
 use Rattle.place_gen.specs.Stretch.{Stretch, one, keeps, join, all_code, action_code, content_code}
 
 -- the level's units, and the end of the command
@@ -16,7 +16,7 @@ level_code core = join (all_code (map action_code core.units)) (one End keeps)
 
 -- the table of a body that begins with this instruction
 abbrev pub entry_of : Body → ℕ → Entry
-entry_of b at = record { first = at; layout = layout_of b.scope; delivers = delivered_kind b.content }
+entry_of b at = record { first = at; layout = layout_of b.scope; delivers = result_of_content b.content }
 
 -- the entries and the lines of bodies, from this number and this instruction on
 abbrev pub entries : List Body → ℕ → List Entry
@@ -30,7 +30,7 @@ body_lines (b ∷ bs) n at = (content_code b.content).lines [] (in_body n) at ++
 -- the command, and behind it its bodies
 abbrev pub program_of : Core → Program
 program_of core = record {
-  variables = map kind_in core.variables;
+  variables = core.variables;
   bodies = entries core.bodies (level_code core).size;
   lines = (level_code core).lines [] at_level 0 ++ body_lines core.bodies 0 (level_code core).size;
 }

@@ -1,13 +1,13 @@
 //! The bodies of a command: their code, and their entries in its tables.
 ghost use Rattle.std.specs.Prelude.{◌≡◌, ◌++◌, IfOk, length, map};
-ghost use Rattle.elan_types.specs.Typing.{kind_in};
-ghost use Rattle.place_gen.specs.Layouts.{delivered_kind, layout_of, parameter_kind};
+ghost use Rattle.elan_types.specs.Typing.{result_of_content};
+ghost use Rattle.place_gen.specs.Layouts.{layout_of, parameter_kind};
 ghost use Rattle.code_gen.specs.Program.{body_lines, entries, entry_of};
 
 use code_form::{Entry, Layout, OperandKind};
-use elan_types::{Access, Body, Content, ElanType, Parameter, Scope};
+use elan_types::{Access, Body, Content, Formal, Scope};
 use eu_base::{Kind, List, NoMemory};
-use place_gen::{Draft, emit_content, kind_in};
+use place_gen::{Draft, emit_content};
 use std::alloc::Global;
 
 /// Adds the code of bodies, one behind another, and gives their entries.
@@ -43,7 +43,7 @@ fn layout_of(alloc: Global, scope: &Scope) -> Result<Layout, NoMemory>
             variables,
         } => Ok(Layout::Own {
             parameters: parameter_kinds(alloc, parameters.as_slice())?,
-            variables: kinds(alloc, variables.as_slice())?,
+            variables: List::from_slice(alloc, variables.as_slice())?,
         }),
         Scope::Of(body) => Ok(Layout::Of(*body)),
         Scope::Level => Ok(Layout::Level),
@@ -51,41 +51,29 @@ fn layout_of(alloc: Global, scope: &Scope) -> Result<Layout, NoMemory>
 }
 
 fn delivered_kind(content: &Content) -> Option<Kind>
-    ensures { result ≡ delivered_kind content.now }
+    ensures { result ≡ result_of_content content.now }
 {
     match content {
         Content::Units(_) => None,
-        Content::Value(of, _) => Some(kind_in(*of)),
+        Content::Value(kind, _) => Some(*kind),
     }
 }
 
-fn parameter_kind(parameter: Parameter) -> OperandKind
+fn parameter_kind(parameter: Formal) -> OperandKind
     ensures { result ≡ parameter_kind parameter }
 {
-    let kind = kind_in(parameter.of);
     match parameter.access {
-        Access::Const => OperandKind::Value(kind),
-        Access::Var => OperandKind::Place(kind),
+        Access::Const => OperandKind::Value(parameter.kind),
+        Access::Var => OperandKind::Place(parameter.kind),
     }
 }
 
-fn parameter_kinds(alloc: Global, parameters: &[Parameter]) -> Result<List<OperandKind>, NoMemory>
+fn parameter_kinds(alloc: Global, parameters: &[Formal]) -> Result<List<OperandKind>, NoMemory>
     ensures { IfOk result (λ kinds. kinds ≡ map parameter_kind parameters.now) }
 {
     let mut kinds = List::new(alloc);
     for parameter in parameters {
         kinds.push(parameter_kind(*parameter))?;
-    }
-    Ok(kinds)
-}
-
-/// The kinds of the values of types.
-pub fn kinds(alloc: Global, types: &[ElanType]) -> Result<List<Kind>, NoMemory>
-    ensures { IfOk result (λ kinds. kinds ≡ map kind_in types.now) }
-{
-    let mut kinds = List::new(alloc);
-    for of in types {
-        kinds.push(kind_in(*of))?;
     }
     Ok(kinds)
 }

@@ -1,15 +1,19 @@
 -- The headings of a level, the units of its bodies, and the bodies of its meaning stand side by side.
 use Rattle.std.proofs.Common.{◌≡◌, ℕ, suc, ◌+◌, Bool, true, false, if◌then◌else◌, List, [], ◌∷◌, ◌++◌, map, length, Option, Some, None, refl, sym, ap, subst}
-use Rattle.elan_scope.specs.Scope.{variables_of}
+use Rattle.elan_scope.specs.Scope.{types_of, variables_of}
 use Rattle.std.proofs.Common.{◌∙◌, arith}
 use Rattle.std.specs.Prelude.{slice_get, nat_eq}
 use Rattle.elan_types.specs.declared.elan_type.ElanType.{ElanType}
-use Rattle.elan_types.specs.declared.core_phrase.Parameter.{Parameter}
+use Rattle.elan_types.specs.declared.elan_type.Parameter.{Parameter}
 use Rattle.elan_types.specs.declared.core_phrase.Scope.{Scope as Owner}
 use Rattle.elan_types.specs.declared.core_phrase.Scope.TheVariants as owner
 use Rattle.elan_types.specs.declared.core_phrase.Body.{Body}
 use Rattle.elan_types.specs.declared.why.Why.TheVariants.{Doubled, WrongType}
-use Rattle.elan_types.specs.Typing.{held_const, frame_of, scope_of}
+use Rattle.eu_base.specs.declared.value.Kind.{Kind}
+use Rattle.elan_types.specs.declared.core_phrase.Formal as core
+use Rattle.elan_types.specs.declared.core_phrase.Access.TheVariants.{Const}
+use Rattle.elan_types.specs.Typing.{formal, frame_of, scope_of}
+use Rattle.elan_types.specs.Types.{held_const, kind_in, formal_of}
 use Rattle.elan_tree.specs.declared.written_type.Name.{Name}
 use Rattle.elan_tree.specs.declared.written_type.TypePhrase.{TypePhrase}
 use Rattle.elan_tree.specs.declared.written_type.Formal.{Formal}
@@ -31,7 +35,7 @@ use Rattle.elan_scope.specs.declared.scope.Within.{Within}
 use Rattle.elan_scope.specs.declared.scope.Home.{Home}
 use Rattle.elan_scope.specs.Scope.{Found}
 use Rattle.elan_levels.specs.Bodies as b
-use Rattle.elan_levels.specs.Bodies.{parameters, result, parameter_names, own_names, body_names, refinement_headings, bodies_in, unit_headings}
+use Rattle.elan_levels.specs.Bodies.{parameters, result, frame, parameter_names, own_names, body_names, refinement_headings, bodies_in, unit_headings}
 use Rattle.elan_scope.specs.Phrase as form
 use Rattle.elan_scope.specs.Phrase.{plain, Phrase, phrase, Parts, none, part, all_of, leaf}
 use Rattle.elan_scope.specs.Ruled.{Ruled, gives, before}
@@ -77,15 +81,25 @@ bodies_append (m ∷ ms) ns =
     ap (λ (bs : List Body). u.bodies_in m ++ bs) (bodies_append ms ns) ∙ sym (append_assoc' (u.bodies_in m) (u.bodies_of ms) (u.bodies_of ns))
 
 -- the frame of a body has what its names hold
-frame_held : (fs : List Formal) (w : Written) → parameters fs ++ map held_const (variables_of (own_names w)) ≡ all_held (body_names fs w)
+formals_append : (ps qs : List Parameter) → map formal_of (ps ++ qs) ≡ map formal_of ps ++ map formal_of qs
+formals_append [] qs = refl
+formals_append (p ∷ ps) qs = ap (λ (fs : List core.Formal). formal_of p ∷ fs) (formals_append ps qs)
+
+const_formals : (ts : List ElanType) → map formal_of (map held_const ts) ≡ map (formal Const) (map kind_in ts)
+const_formals [] = refl
+const_formals (t ∷ ts) = ap (λ (fs : List core.Formal). formal Const (kind_in t) ∷ fs) (const_formals ts)
+
+frame_held : (fs : List Formal) (w : Written) → frame_of (frame fs w) ≡ map formal_of (all_held (body_names fs w))
 frame_held fs w =
-    ap (λ (ps : List Parameter). parameters fs ++ ps) (sym (own_held w.units w.refinements)) ∙ sym (held_append (parameter_names fs) (own_names w))
+    let ts = types_of (all_held (own_names w)) in
+    ap (λ (gs : List core.Formal). map formal_of (parameters fs) ++ gs) (sym (ap (map formal_of) (own_held w.units w.refinements) ∙ const_formals ts))
+    ∙ sym (formals_append (parameters fs) (all_held (own_names w))) ∙ ap (map formal_of) (sym (held_append (parameter_names fs) (own_names w)))
 
 -- ---- rows
 
 -- what the units of a body mean is its content
 abbrev pub Made : What → Meant → Body → Type 0
-Made (Routine sort ps r) m b = (vs : List ElanType) × (b.scope ≡ owner.Own ps vs) × (b.content ≡ u.content_as r m)
+Made (Routine sort ps r) m b = (vs : List Kind) × (b.scope ≡ owner.Own (map formal_of ps) vs) × (b.content ≡ u.content_as r m)
 Made (Refinement home) m b = (b.scope ≡ owner_with home) × (b.content ≡ u.content_of m)
 
 abbrev pub Inside : ℕ → List Body → List Body → Type 0
@@ -95,13 +109,15 @@ Inside k bs all = (i : ℕ) (b : Body) → slice_get bs i ≡ Some b → slice_g
 abbrev pub Frames : List Body → Option Within → Type 0
 Frames all None = Unit {0}
 Frames all (Some v) =
-    (ps : List Parameter) × (vs : List ElanType) × (scope_of (slice_get all v.number) ≡ Some (owner.Own ps vs)) × (ps ++ map held_const vs ≡ all_held v.names)
+    (fs : List core.Formal) × (vs : List Kind) × (scope_of (slice_get all v.number) ≡ Some (owner.Own fs vs))
+    × (fs ++ map (formal Const) vs ≡ map formal_of (all_held v.names))
 
 abbrev pub within : ℕ → List Entry → Option Within
 within n names = Some (record { number = n; names = names })
 
 abbrev pub Stands : List Body → ℕ → What → Scope → Body → Type 0
-Stands all n (Routine sort ps r) z b = (names : List Entry) × (z.routine ≡ within n names) × (z.refinement ≡ None) × (frame_of b.scope ≡ all_held names)
+Stands all n (Routine sort ps r) z b =
+    (names : List Entry) × (z.routine ≡ within n names) × (z.refinement ≡ None) × (frame_of b.scope ≡ map formal_of (all_held names))
 Stands all n (Refinement home) z b = (z.refinement ≡ Some n) × (number_of z.routine ≡ home) × Frames all z.routine
 
 module _ (kn : Known) (s : Scope) (all : List Body) where
@@ -243,7 +259,7 @@ module _ (kn : Known) (s : Scope) (all : List Body) where
 
   module _ (k : ℕ) (at : ℕ) (x : List ℕ) (t : Option TypePhrase) (fs : List Formal) (w : Written) where
     abbrev own : Owner
-    own = owner.Own (parameters fs) (variables_of (own_names w))
+    own = frame fs w
 
     abbrev inner : Scope
     inner = l.inner s k at x t fs w
@@ -293,5 +309,6 @@ module _ (kn : Known) (s : Scope) (all : List Body) where
             level = refl;
             stands = (body_names fs w, refl, refl, frame_held fs w);
           },
-          refinement_rows inner (suc k) w.refinements a.1 refl refl (parameters fs, variables_of (own_names w), ap scope_of here, frame_held fs w) a.3,
+          refinement_rows inner (suc k) w.refinements a.1 refl refl
+              (map formal_of (parameters fs), variables_of (own_names w), ap scope_of here, frame_held fs w) a.3,
         )

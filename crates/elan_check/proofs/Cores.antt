@@ -1,6 +1,6 @@
 -- The core of a level, from what its parts mean.
 use Rattle.std.proofs.Common.{◌≡◌, ℕ, List, Ok, Err, sym, ap, subst, ◌∙◌}
-use Rattle.elan_types.specs.declared.elan_type.ElanType.{ElanType}
+use Rattle.eu_base.specs.declared.value.Kind.{Kind}
 use Rattle.elan_types.specs.declared.core_phrase.Action.{Action}
 use Rattle.elan_types.specs.declared.core_phrase.Body.{Body}
 use Rattle.elan_types.specs.declared.core_phrase.Core.{Core}
@@ -41,7 +41,7 @@ module _ (w : Level) (k : Known) (is : k ≡ known_of (headings w) (level_bodies
       ∙ ap (λ (bs : List Body). gives (means.Level core.units bs)) (sym b) in (
         v,
         m,
-        subst (λ (ts : List ElanType). IsWellTyped (record { variables = ts; bodies = core.bodies; units = core.units })) (sym v)
+        subst (λ (ks : List Kind). IsWellTyped (record { variables = ks; bodies = core.bodies; units = core.units })) (sym v)
             (level_typed w core.units core.bodies m),
       )
 

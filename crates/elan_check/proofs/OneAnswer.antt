@@ -1,6 +1,6 @@
 -- A text has one answer: a core, or a refusal, or it has what is not built yet.
 use Rattle.std.proofs.Common.{◌≡◌, Bool, List, true, false, refl, sym, ap, ◌∙◌, subst}
-use Rattle.elan_types.specs.declared.elan_type.ElanType.{ElanType}
+use Rattle.eu_base.specs.declared.value.Kind.{Kind}
 use Rattle.elan_types.specs.declared.env.Env.{Env}
 use Rattle.elan_types.specs.declared.core_phrase.Core.{Core}
 use Rattle.elan_types.specs.declared.core_phrase.Body.{Body}
@@ -32,12 +32,12 @@ units_are as' bs ps qs e = cc
 bodies_are : (as' bs : List Action) (ps qs : List Body) → Level as' ps ≡ Level bs qs → ps ≡ qs
 bodies_are as' bs ps qs e = cc
 
-abbrev core_with : List ElanType → List Body → List Action → Core
+abbrev core_with : List Kind → List Body → List Action → Core
 core_with v b u = record { variables = v; bodies = b; units = u }
 
 core_is : (c d : Core) → c.variables ≡ d.variables → c.bodies ≡ d.bodies → c.units ≡ d.units → c ≡ d
 core_is c d e g h =
-    ap (λ (v : List ElanType). core_with v c.bodies c.units) e
+    ap (λ (ks : List Kind). core_with ks c.bodies c.units) e
     ∙ ap (λ (b : List Body). core_with d.variables b c.units) g
     ∙ ap (λ (u : List Action). core_with d.variables d.bodies u) h
 

@@ -1,12 +1,9 @@
 -- What PROCs, OPs and refinements mean, from what their parts mean.
 use Rattle.std.proofs.Common.{◌≡◌, ℕ, suc, ◌+◌, ◌<◌, List, [], ◌∷◌, ◌++◌, map, length, get_or, drop, Result, Option, arith, Bool}
-use Rattle.elan_levels.specs.Bodies.{own_names}
-use Rattle.elan_scope.specs.Scope.{variables_of}
 use Rattle.std.proofs.Common.{sym, ap, subst, ◌∙◌, append_assoc}
 use Rattle.elan_types.specs.declared.elan_type.ElanType.{ElanType}
-use Rattle.elan_types.specs.declared.core_phrase.Parameter.{Parameter}
+use Rattle.elan_types.specs.declared.elan_type.Parameter.{Parameter}
 use Rattle.elan_types.specs.declared.core_phrase.Scope.{Scope as Owner}
-use Rattle.elan_types.specs.declared.core_phrase.Scope.TheVariants as owner
 use Rattle.elan_tree.specs.declared.phrase.Unit.{Unit as Statement}
 use Rattle.elan_tree.specs.declared.written_type.Name.{Name}
 use Rattle.elan_tree.specs.declared.written_type.TypePhrase.{TypePhrase}
@@ -32,7 +29,7 @@ use Rattle.elan_scope.specs.Scope.{first_heading, is_alike, types_of}
 use Rattle.value_rules.specs.Calls as calls
 use Rattle.unit_rules.specs.Units as u
 use Rattle.elan_judge.specs.Shape as shape
-use Rattle.elan_levels.specs.Bodies.{parameters, result, body_names, bodies_in}
+use Rattle.elan_levels.specs.Bodies.{parameters, result, frame, body_names, bodies_in}
 use Rattle.elan_check.specs.Level as l
 pub use Rattle.elan_judge.proofs.Rows.{Grown, starts, grows, grows_all, ends, left_at, left_none}
 use Rattle.elan_judge.proofs.Rows.{one_is}
@@ -89,7 +86,7 @@ formals_go k row next s fs i f whole lt e g h =
 
 -- the body of a PROC or OP, in its scope
 abbrev pub body_in : Scope → Option TypePhrase → List Formal → Body → Phrase
-body_in s r fs b = around 0 (form.body (owner.Own (parameters fs) (variables_of (own_names b))) (result r)) (shape.units (delivered (result r)) (map (shape.unit s) b.units))
+body_in s r fs b = around 0 (form.body (frame fs b) (result r)) (shape.units (delivered (result r)) (map (shape.unit s) b.units))
 
 regroup : (ps qs : List Phrase) (p q : Phrase) (rs : List Phrase) → (ps ++ p ∷ []) ++ (qs ++ q ∷ rs) ≡ (ps ++ p ∷ qs) ++ q ∷ rs
 regroup ps qs p q rs = append_assoc ps (p ∷ []) (qs ++ q ∷ rs) ∙ sym (append_assoc ps (p ∷ qs) (q ∷ rs))

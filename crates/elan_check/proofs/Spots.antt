@@ -1,13 +1,10 @@
 -- Where no phrase of a level breaks a rule, none hangs on another one.
 use Rattle.std.proofs.Common.{◌≡◌, ℕ, zero, suc, ◌+◌, Bool, List, [], ◌∷◌, ◌++◌, map, length, Option, Some, None, refl, sym, ap, subst, ◌∙◌, inl}
-use Rattle.elan_levels.specs.Bodies.{own_names}
-use Rattle.elan_scope.specs.Scope.{variables_of}
 use Rattle.std.proofs.Common.{inr, arith}
 use Rattle.std.specs.Prelude.{slice_get, slice_index_or}
 use Rattle.elan_types.specs.declared.elan_type.ElanType.{ElanType}
-use Rattle.elan_types.specs.declared.core_phrase.Parameter.{Parameter}
+use Rattle.elan_types.specs.declared.elan_type.Parameter.{Parameter}
 use Rattle.elan_types.specs.declared.core_phrase.Scope.{Scope as Owner}
-use Rattle.elan_types.specs.declared.core_phrase.Scope.TheVariants as owner
 use Rattle.elan_meant.specs.declared.meant.Meant.{Meant}
 use Rattle.elan_tree.specs.declared.written_type.Name.{Name}
 use Rattle.elan_tree.specs.declared.written_type.TypePhrase.{TypePhrase}
@@ -24,7 +21,7 @@ use Rattle.elan_scope.specs.declared.heading.What.TheVariants.{Routine}
 use Rattle.elan_scope.specs.declared.heading.Heading.{Heading}
 use Rattle.elan_scope.specs.declared.scope.Scope.{Scope}
 use Rattle.elan_levels.specs.Bodies as b
-use Rattle.elan_levels.specs.Bodies.{headings, parameters, result}
+use Rattle.elan_levels.specs.Bodies.{headings, parameters, result, frame}
 use Rattle.elan_unbuilt.specs.Operators.{operator_text}
 use Rattle.elan_scope.specs.Phrase as form
 use Rattle.elan_scope.specs.Phrase.{Plain, plain, Phrase, none, part, all_of, row, leaf}
@@ -203,7 +200,7 @@ module _ (kn : Known) (s : Scope) where
         )
       where
         own_owner : Owner
-        own_owner = owner.Own (parameters fs) (variables_of (own_names w))
+        own_owner = frame fs w
 
     routine_lead : (sort : Sort) (names : List Phrase) → AllLead names → judged kn (l.routine s k at x t fs w sort names) ≡ hangs → HangsIn
     routine_lead sort names h e =
@@ -222,7 +219,7 @@ module _ (kn : Known) (s : Scope) where
         heading_leaf = leaf at heading_form
 
         body_form : Plain
-        body_form = form.body (owner.Own (parameters fs) (variables_of (own_names w))) (result t)
+        body_form = form.body (frame fs w) (result t)
 
   -- ---- units
 

@@ -1,8 +1,11 @@
 -- The core of a text is well typed.
 use Rattle.std.proofs.Common.{◌≡◌, ℕ, suc, ◌+◌, true, List, [], ◌∷◌, ◌++◌, length, Option, Some, None, refl, sym, ap, subst, ◌∙◌, arith}
-use Rattle.std.specs.Prelude.{slice_get}
+use Rattle.std.specs.Prelude.{slice_get, map, option_map}
+use Rattle.eu_base.specs.declared.value.Kind.{Kind}
+use Rattle.elan_types.specs.declared.core_phrase.Formal.{Formal}
+use Rattle.elan_types.specs.Types.{kind_in, formal_of}
 use Rattle.elan_types.specs.declared.elan_type.ElanType.{ElanType}
-use Rattle.elan_types.specs.declared.core_phrase.Parameter.{Parameter}
+use Rattle.elan_types.specs.declared.elan_type.Parameter.{Parameter}
 use Rattle.elan_types.specs.declared.core_phrase.Action.{Action}
 use Rattle.elan_types.specs.declared.core_phrase.Content.{Content}
 use Rattle.elan_types.specs.declared.core_phrase.Scope.{Scope as Owner}
@@ -64,7 +67,7 @@ use Rattle.elan_check.specs.walks.Units.{all_unit_bodies, level_units}
 
 -- ---- what a body delivers
 
-content_result : (o : Option ElanType) (m : Meant) (c : Content) → c ≡ u.content_as o m → result_of_content c ≡ o
+content_result : (o : Option ElanType) (m : Meant) (c : Content) → c ≡ u.content_as o m → result_of_content c ≡ option_map kind_in o
 content_result None m c e = ap result_of_content e
 content_result (Some t) m c e = ap result_of_content e
 
@@ -72,7 +75,7 @@ headed_of : (w : What) (m : Meant) (c : Body) → Made w m c → Headed w c
 headed_of (Routine sort ps r) m c h = (h.0, h.1, content_result r m c.content h.2)
 headed_of (Refinement home) m c h = h.0
 
-told_delivers : (o : Option ElanType) (c : Body) → result_of_content c.content ≡ o → Delivering (stated (Routine Procedure [] o)) c
+told_delivers : (o : Option ElanType) (c : Body) → result_of_content c.content ≡ option_map kind_in o → Delivering (stated (Routine Procedure [] o)) c
 told_delivers None c e = e
 told_delivers (Some t) c e = e
 
@@ -109,7 +112,7 @@ module _ (w : Written) (us : List Action) (all : List Body) where
   abbrev s : Scope
   s = l.level_scope w
 
-  abbrev vs : List ElanType
+  abbrev vs : List Kind
   vs = variables_of (level_names w)
 
   abbrev after_units : ℕ
@@ -215,10 +218,10 @@ module _ (w : Written) (us : List Action) (all : List Body) where
   frame_here : (n : ℕ) (c : Body) → slice_get all n ≡ Some c → frame_in all (Some n) ≡ frame_of c.scope
   frame_here n c e = ap (λ (o : Option Body). frame_at (scope_of o)) e
 
-  routine_fits : Rows kn s all 0 hs ps all → (n : ℕ) (c : Body) (z : Scope) (params : List Parameter) (ts : List ElanType) (names : List Entry)
-      → slice_get all n ≡ Some c → z.headings ≡ s.headings → z.level ≡ s.level → c.scope ≡ owner.Own params ts → z.routine ≡ within n names
-      → z.refinement ≡ None → frame_of c.scope ≡ all_held names → Fits (stand n) z kn
-  routine_fits rs n c z params ts names i zh zl own rt rf fr =
+  routine_fits : Rows kn s all 0 hs ps all → (n : ℕ) (c : Body) (z : Scope) (fs : List Formal) (ks : List Kind) (names : List Entry)
+      → slice_get all n ≡ Some c → z.headings ≡ s.headings → z.level ≡ s.level → c.scope ≡ owner.Own fs ks → z.routine ≡ within n names
+      → z.refinement ≡ None → frame_of c.scope ≡ map formal_of (all_held names) → Fits (stand n) z kn
+  routine_fits rs n c z fs ks names i zh zl own rt rf fr =
       let owned : owner_in all (Some n) ≡ Some n = owner_here n c i ∙ ap (λ (o : Owner). owner_at n (Some o)) own in
       record {
         level = ap variables_of (sym zl);
@@ -236,7 +239,7 @@ module _ (w : Written) (us : List Action) (all : List Body) where
       → FrameIs (frame_in all (owner_at n (Some (owner_with home)))) v
   refined_frame n home None e f = tt
   refined_frame n home (Some v) e f =
-      subst (λ (o : Option ℕ). frame_in all (owner_at n (Some (owner_with o))) ≡ all_held v.names) e
+      subst (λ (o : Option ℕ). frame_in all (owner_at n (Some (owner_with o))) ≡ map formal_of (all_held v.names)) e
       (ap frame_at f.2 ∙ f.3)
 
   refined_owner : (n : ℕ) (home : Option ℕ) → owner_at n (Some (owner_with home)) ≡ home
@@ -263,7 +266,7 @@ module _ (w : Written) (us : List Action) (all : List Body) where
 
   row_fits : Rows kn s all 0 hs ps all → (n : ℕ) (what : What) (m : Meant) (c : Body) (z : Scope) → slice_get all n ≡ Some c → z.headings ≡ s.headings
       → z.level ≡ s.level → Made what m c → Stands all n what z c → Fits (stand n) z kn
-  row_fits rs n (Routine sort params r) m c z i zh zl made st = routine_fits rs n c z params made.0 st.0 i zh zl made.1 st.1 st.2 st.3
+  row_fits rs n (Routine sort params r) m c z i zh zl made st = routine_fits rs n c z (map formal_of params) made.0 st.0 i zh zl made.1 st.1 st.2 st.3
   row_fits rs n (Refinement home) m c z i zh zl made st = refinement_fits rs n c z home i zh zl made.0 st.0 st.1 st.2
 
   -- ---- the content of bodies
@@ -286,10 +289,10 @@ module _ (w : Written) (us : List Action) (all : List Body) where
       same_body : (d f : Body) → Some d ≡ Some f → d ≡ f
       same_body d f e = cc
 
-  owned : (q : ℕ) (o : Option Body) (params : List Parameter) (ts : List ElanType) → slice_get all q ≡ o → scope_of o ≡ Some (owner.Own params ts)
+  owned : (q : ℕ) (o : Option Body) (fs : List Formal) (ks : List Kind) → slice_get all q ≡ o → scope_of o ≡ Some (owner.Own fs ks)
       → IsScope all (owner.Of q)
-  owned q None params ts e f = absurd cc
-  owned q (Some d) params ts e f = let g : d.scope ≡ owner.Own params ts = cc in (d, (params, (ts, e, g)))
+  owned q None fs ks e f = absurd cc
+  owned q (Some d) fs ks e f = let g : d.scope ≡ owner.Own fs ks = cc in (d, (fs, (ks, e, g)))
 
   refined_scope : (home : Option ℕ) (v : Option Within) → number_of v ≡ home → Frames all v → IsScope all (owner_with home)
   refined_scope None v e f = tt
@@ -373,6 +376,6 @@ module _ (w : Written) (us : List Action) (all : List Body) where
 -- what a text means is well typed
 pub well_typed : (env : Env) (t : Tree) (c : Core) → Means env t c → IsWellTyped c
 well_typed env t c h =
-    subst (λ (ts : List ElanType). IsWellTyped (record { variables = ts; bodies = c.bodies; units = c.units })) (sym h.variables)
+    subst (λ (ks : List Kind). IsWellTyped (record { variables = ks; bodies = c.bodies; units = c.units })) (sym h.variables)
     (level_typed (l.level_in t) c.units c.bodies
     (subst (λ (k : Known). judged k (l.text t) ≡ gives (Level c.units c.bodies)) (known_is t) h.phrases))

@@ -17,11 +17,10 @@ use Rattle.elan_tree.specs.declared.tree.Tree.TheVariants as tree
 use Rattle.elan_scope.specs.declared.scope.Entry.{Entry}
 use Rattle.elan_scope.specs.declared.heading.Sort.{Sort}
 use Rattle.elan_scope.specs.declared.heading.Sort.TheVariants.{Procedure, Operator}
-use Rattle.elan_scope.specs.Scope.{variables_of}
 use Rattle.elan_scope.specs.declared.scope.Scope.{Scope}
 use Rattle.elan_scope.specs.declared.scope.Within.{Within}
 use Rattle.elan_levels.specs.Bodies as bodies
-use Rattle.elan_levels.specs.Bodies.{parameters, result, own_names, body_names, level_names, headings, numbered, bodies_of_units}
+use Rattle.elan_levels.specs.Bodies.{parameters, result, frame, body_names, level_names, headings, numbered, bodies_of_units}
 use Rattle.elan_unbuilt.specs.Operators.{operator_text}
 use Rattle.elan_scope.specs.Phrase as form
 use Rattle.elan_scope.specs.Known.{delivered}
@@ -92,7 +91,7 @@ module _ (s : Scope) (k : ℕ) (at : ℕ) (x : List ℕ) (r : Option TypePhrase)
   routine sort names =
       row 0 form.routine
       ((names ++ leaf at (form.heading s sort x (parameters fs) (is_missing (result r) body_units)) ∷ declare_parameters inner fs)
-      ++ around 0 (form.body (owner.Own (parameters fs) (variables_of (own_names b))) (result r)) (units (delivered (result r)) body_units)
+      ++ around 0 (form.body (frame fs b) (result r)) (units (delivered (result r)) body_units)
       ∷ refinements inner (suc k) b.refinements)
 
   -- ---- what it is made of, as it is gone over; no definition of meaning needs these names
@@ -101,7 +100,7 @@ module _ (s : Scope) (k : ℕ) (at : ℕ) (x : List ℕ) (r : Option TypePhrase)
   own_units = units (delivered (result r)) body_units
 
   abbrev pub own_body : Phrase
-  own_body = around 0 (form.body (owner.Own (parameters fs) (variables_of (own_names b))) (result r)) own_units
+  own_body = around 0 (form.body (frame fs b) (result r)) own_units
 
   -- its heading, and its parameters
   abbrev pub heading_phrases : Sort → List Phrase → List Phrase
@@ -119,7 +118,7 @@ module _ (s : Scope) (k : ℕ) (at : ℕ) (x : List ℕ) (r : Option TypePhrase)
 abbrev pub inside : Scope → ℕ → Option TypePhrase → List Formal → Body → List Phrase
 inside s k r fs b =
     declare_parameters s fs
-    ++ around 0 (form.body (owner.Own (parameters fs) (variables_of (own_names b))) (result r)) (units (delivered (result r)) (map (unit s) b.units))
+    ++ around 0 (form.body (frame fs b) (result r)) (units (delivered (result r)) (map (unit s) b.units))
     ∷ refinements s (suc k) b.refinements
 
 -- the units of its body, and of its refinements

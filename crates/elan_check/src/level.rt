@@ -18,7 +18,7 @@ use crate::deliveries::known_of;
 use crate::error::CheckError;
 use crate::routine::{Routine, is_over, judge_refinements, judge_routine};
 use elan_judge::judge::judge_role;
-use elan_levels::bodies::{held_types, level_names};
+use elan_levels::bodies::{held_kinds, level_names};
 use elan_levels::heading::{first_refinement, headings, number_behind};
 use elan_meant::row::{Judged, Row};
 use elan_meant::together::{let_go, none, one, with};
@@ -159,7 +159,7 @@ fn core_known(
     requires scope { scope.old ≡ spec.level_scope written.now }
     ensures { text.Answers written.now result }
 {
-    let variables = held_types(alloc, scope.level.as_slice())?;
+    let variables = held_kinds(alloc, scope.level.as_slice())?;
     match judge_level(alloc, known, scope, written) {
         Ok(parts) => {
             let (units, bodies) = level(alloc, parts)?;

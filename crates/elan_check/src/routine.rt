@@ -1,11 +1,9 @@
 //! The meaning of PROCs, OPs and refinements.
 
 ghost use Rattle.std.specs.Prelude.{◌≡◌, ◌++◌, List, map, None, IfOk};
-ghost use Rattle.elan_types.specs.declared.core_phrase.Scope.TheVariants as owner;
 ghost use Rattle.elan_scope.specs.declared.known.Known.{Known};
 ghost use Rattle.elan_scope.specs.declared.scope.Scope.{Scope};
 ghost use Rattle.elan_scope.specs.Known.{delivered};
-ghost use Rattle.elan_scope.specs.Scope as scopes;
 ghost use Rattle.elan_scope.specs.Phrase as form;
 ghost use Rattle.elan_scope.specs.Phrase.{Phrase, around, row, all_of};
 ghost use Rattle.elan_rules.specs.Meaning.{judged, judged_all};
@@ -17,7 +15,7 @@ ghost use Rattle.elan_judge.specs.Shape as shape;
 
 use elan_judge::judge::judge_units;
 use elan_judge::role::all_empty;
-use elan_levels::bodies::{body_names, held_types, own_names, parameters};
+use elan_levels::bodies::{body_names, held_kinds, own_names, parameters};
 use elan_levels::heading::{next_number, result_type};
 use elan_meant::meant::Meant;
 use elan_meant::row::{Judged, Row};
@@ -29,7 +27,7 @@ use elan_scope::known::Known;
 use elan_scope::scope::{Scope, Within};
 use elan_scope::trouble::Trouble;
 use elan_tree::{Body, Formal, Name, Refinement, TypePhrase, Unit};
-use elan_types::Scope as Owner;
+use elan_types::{Scope as Owner, formals};
 use eu_base::NoMemory;
 use std::alloc::Global;
 use unit_rules::body::{bodies_of, body};
@@ -157,11 +155,12 @@ fn declare_parameters(alloc: Global, scope: &Scope, before: Row, formals: &[Form
 
 // The scope of its variables: its parameters, and what its body declares.
 fn frame(alloc: Global, of: Routine<'_>) -> Result<Owner, NoMemory>
-    ensures { IfOk result (λ frame. frame ≡ owner.Own (bodies.parameters of.entry.formals.now) (scopes.variables_of (bodies.own_names of.entry.body.now))) }
+    ensures { IfOk result (λ frame. frame ≡ bodies.frame of.entry.formals.now of.entry.body.now) }
 {
     let parameters = parameters(alloc, of.formals)?;
+    let parameters = formals(alloc, parameters.as_slice())?;
     let names = own_names(alloc, of.body)?;
-    let variables = held_types(alloc, names.as_slice())?;
+    let variables = held_kinds(alloc, names.as_slice())?;
     Ok(Owner::Own {
         parameters,
         variables,
@@ -171,8 +170,7 @@ fn frame(alloc: Global, of: Routine<'_>) -> Result<Owner, NoMemory>
 // Its body, in its own scope.
 fn judge_body(alloc: Global, known: &Known, scope: &Scope, of: Routine<'_>) -> Judged
     ensures { Is result (judged known.now
-        (around 0 (form.body (owner.Own (bodies.parameters of.entry.formals.now) (scopes.variables_of (bodies.own_names of.entry.body.now)))
-        (bodies.result of.entry.result.now))
+        (around 0 (form.body (bodies.frame of.entry.formals.now of.entry.body.now) (bodies.result of.entry.result.now))
         (shape.units (delivered (bodies.result of.entry.result.now)) (map (shape.unit scope.now) of.entry.body.now.units)))) }
 {
     let of_type = result_type(of.result);

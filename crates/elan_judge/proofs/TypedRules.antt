@@ -1,4 +1,4 @@
--- What a phrase means has the types that it asks for.
+-- What a phrase means has the kinds that it asks for.
 use Rattle.std.proofs.Common.{◌≡◌, ℕ, Bool, List, [], ◌∷◌, drop, length, Option, Some, None, refl, sym, subst}
 use Rattle.elan_meant.specs.declared.meant.Meant.{Meant}
 use Rattle.elan_scope.specs.Ruled.{Ruled, gives}

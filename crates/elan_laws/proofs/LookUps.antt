@@ -35,7 +35,7 @@ use Rattle.elan_levels.specs.Declarations as d
 use Rattle.elan_unbuilt.specs.Types.{written_type}
 use Rattle.elan_levels.specs.Bodies as b
 use Rattle.elan_laws.specs.Served.{HasBody}
-use Rattle.elan_types.specs.declared.core_phrase.Parameter.{Parameter}
+use Rattle.elan_types.specs.declared.elan_type.Parameter.{Parameter}
 use Rattle.elan_laws.proofs.Declared.{Named}
 
 -- ---- look-ups

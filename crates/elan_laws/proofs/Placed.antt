@@ -3,13 +3,14 @@ use Rattle.eu_base.specs.declared.operation.Way.{Way}
 use Rattle.std.proofs.Common.{ℕ, ℤ, Bool, true, false, ◌&&◌, if◌then◌else◌, nat_le, List, [], ◌∷◌, length, drop, Option, Some, None, nat_eq, zero, suc}
 use Rattle.elan_types.specs.declared.elan_type.ElanType.{ElanType}
 use Rattle.elan_types.specs.declared.elan_type.ElanType.TheVariants as type
+use Rattle.elan_types.specs.Types.{kind_in}
 use Rattle.elan_types.specs.declared.core_phrase.ValuePhrase.TheVariants as value
 use Rattle.elan_types.specs.declared.why.Why.{Why}
 use Rattle.elan_types.specs.declared.why.Why.TheVariants as why
 use Rattle.eu_base.specs.declared.value.TheConstants.{TEXT_BYTES}
 use Rattle.eu_base.specs.Operations.{in_range}
 use Rattle.elan_types.specs.declared.core_phrase.Action.{Action}
-use Rattle.elan_types.specs.declared.core_phrase.Parameter.{Parameter}
+use Rattle.elan_types.specs.declared.elan_type.Parameter.{Parameter}
 use Rattle.elan_types.specs.declared.core_phrase.Access.{Access}
 use Rattle.elan_types.specs.declared.core_phrase.Access.TheVariants.{Const, Var}
 use Rattle.elan_types.specs.declared.core_phrase.Actual.{Actual}
@@ -144,7 +145,7 @@ module _ (ns : List ℕ) where
 
     given_as_placed : (a : Access) (t : ElanType) (m : Meant) → Placed m → Tells Any (r.given_as at a t m)
     given_as_placed Const t m h = tt
-    given_as_placed Var t m h = on_bind Any Any (p.variable at m) (λ x. gives (actual.Place x t)) (variable_placed m h) (λ x k. tt)
+    given_as_placed Var t m h = on_bind Any Any (p.variable at m) (λ x. gives (actual.Place x (kind_in t))) (variable_placed m h) (λ x k. tt)
 
     given_placed : (ps : List Parameter) (ms : List Meant) → AllPlaced ms → Tells Any (r.given at ps ms)
     given_placed [] ms h = tt

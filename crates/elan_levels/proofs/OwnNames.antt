@@ -4,8 +4,8 @@ use Rattle.std.specs.Prelude.{flat_map, option_map}
 use Rattle.elan_tree.specs.declared.written_type.Name.{Name}
 use Rattle.elan_tree.specs.declared.phrase.Unit.{Unit as Statement}
 use Rattle.elan_types.specs.declared.elan_type.ElanType.{ElanType}
-use Rattle.elan_types.specs.declared.core_phrase.Parameter.{Parameter}
-use Rattle.elan_types.specs.Typing.{held_const}
+use Rattle.elan_types.specs.declared.elan_type.Parameter.{Parameter}
+use Rattle.elan_types.specs.Types.{held_const}
 use Rattle.elan_tree.specs.declared.tree.Refinement.{Refinement}
 use Rattle.elan_walk.specs.declared.node.Held.TheVariants.{Variable, Constant}
 use Rattle.elan_walk.specs.Nodes as nodes

@@ -3,7 +3,10 @@ use Rattle.std.specs.Prelude.{ℕ, suc, ◌+◌, List, [], ◌∷◌, ◌++◌, 
 use Rattle.elan_types.specs.declared.elan_type.ElanType.{ElanType}
 use Rattle.elan_types.specs.declared.core_phrase.Access.{Access}
 use Rattle.elan_types.specs.declared.core_phrase.Access.TheVariants as held
-use Rattle.elan_types.specs.declared.core_phrase.Parameter.{Parameter}
+use Rattle.elan_types.specs.declared.elan_type.Parameter.{Parameter}
+use Rattle.elan_types.specs.declared.core_phrase.Scope.{Scope as Owner}
+use Rattle.elan_types.specs.declared.core_phrase.Scope.TheVariants as owner
+use Rattle.elan_types.specs.Types.{formal_of}
 use Rattle.elan_tree.specs.declared.written_type.Name.{Name}
 use Rattle.elan_tree.specs.declared.written_type.TypePhrase.{TypePhrase}
 use Rattle.elan_tree.specs.declared.written_type.Access.{Access as Given}
@@ -17,7 +20,7 @@ use Rattle.elan_tree.specs.declared.tree.LevelUnit.TheVariants as level
 use Rattle.elan_scope.specs.declared.scope.Denotes.{Denotes}
 use Rattle.elan_scope.specs.declared.scope.Denotes.TheVariants as denotes
 use Rattle.elan_scope.specs.declared.scope.Entry.{Entry}
-use Rattle.elan_scope.specs.Scope.{all_held}
+use Rattle.elan_scope.specs.Scope.{all_held, variables_of}
 use Rattle.elan_scope.specs.declared.heading.Sort.{Sort}
 use Rattle.elan_scope.specs.declared.heading.Sort.TheVariants.{Procedure, Operator}
 use Rattle.elan_scope.specs.declared.heading.What.TheVariants as what
@@ -57,6 +60,10 @@ refinement_names rs = flat_map (λ r. entry r.name (Some denotes.Refinement) ++ 
 -- what a body declares beside its parameters
 abbrev pub own_names : Body → List Entry
 own_names b = in_units b.units ++ refinement_names b.refinements
+
+-- the parameters and variables of a PROC or OP
+abbrev pub frame : List Formal → Body → Owner
+frame fs b = owner.Own (map formal_of (parameters fs)) (variables_of (own_names b))
 
 -- the names of a PROC or OP: its parameters, what its units declare, and its refinements with what they declare
 abbrev pub body_names : List Formal → Body → List Entry

@@ -1,6 +1,7 @@
 //! The names that a level and its bodies declare.
 
-ghost use Rattle.std.specs.Prelude.{◌≡◌, ◌++◌, flat_map, option_map, IfOk, OnOk};
+ghost use Rattle.std.specs.Prelude.{◌≡◌, ◌++◌, flat_map, map, option_map, IfOk, OnOk};
+ghost use Rattle.elan_types.specs.Types.{kind_in};
 ghost use Rattle.elan_scope.specs.declared.scope.Denotes.TheVariants as denote;
 ghost use Rattle.elan_scope.specs.Scope as scopes;
 ghost use Rattle.elan_levels.specs.Bodies as spec;
@@ -10,9 +11,9 @@ use crate::declare::Names;
 use elan_scope::directory::Directory;
 use elan_scope::scope::{Denotes, Entry};
 use elan_tree::{Access as Given, Body, Formal, Level, LevelUnit, Name, Refinement};
-use elan_types::{Access, ElanType, Parameter};
+use elan_types::{Access, Parameter};
 use elan_unbuilt::written_type;
-use eu_base::{List, NoMemory};
+use eu_base::{Kind, List, NoMemory};
 use std::alloc::Global;
 
 fn access(given: Given) -> Access
@@ -150,26 +151,26 @@ pub fn own_names(alloc: Global, body: &Body) -> Result<List<Entry>, NoMemory>
     refinement_names(names, body.refinements.as_slice()).met()
 }
 
-// Adds the type of what is held under a name.
-fn add_held(out: &mut List<ElanType>, denotes: &Denotes) -> Result<(), NoMemory>
-    ensures { OnOk result (out.new ≡ out.old ++ scopes.types_of (scopes.held denotes.now)) }
+// Adds the kind of what is held under a name.
+fn add_held(out: &mut List<Kind>, denotes: &Denotes) -> Result<(), NoMemory>
+    ensures { OnOk result (out.new ≡ out.old ++ map kind_in (scopes.types_of (scopes.held denotes.now))) }
 {
     match denotes {
-        Denotes::Variable(of) => out.push(*of),
-        Denotes::Constant(of) => out.push(*of),
-        Denotes::Parameter(parameter) => out.push(parameter.of),
+        Denotes::Variable(of) => out.push(of.kind()),
+        Denotes::Constant(of) => out.push(of.kind()),
+        Denotes::Parameter(parameter) => out.push(parameter.of.kind()),
         Denotes::Procedure | Denotes::Refinement | Denotes::Denoter(_) => Ok(()),
     }
 }
 
-/// The types of the variables, constants and parameters among names.
-#[tactic(auto, using(crate::proofs::Held::types_append))]
-pub fn held_types(alloc: Global, names: &[Entry]) -> Result<List<ElanType>, NoMemory>
-    ensures { IfOk result (λ types. types ≡ scopes.types_of (scopes.all_held names.now)) }
+/// The kinds of the variables, constants and parameters among names.
+#[tactic(auto, using(crate::proofs::Held::kinds_append))]
+pub fn held_kinds(alloc: Global, names: &[Entry]) -> Result<List<Kind>, NoMemory>
+    ensures { IfOk result (λ kinds. kinds ≡ scopes.variables_of names.now) }
 {
-    let mut types = List::new(alloc);
+    let mut kinds = List::new(alloc);
     for entry in names {
-        add_held(&mut types, &entry.denotes)?;
+        add_held(&mut kinds, &entry.denotes)?;
     }
-    Ok(types)
+    Ok(kinds)
 }

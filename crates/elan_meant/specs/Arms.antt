@@ -1,6 +1,7 @@
 -- The arms of a SELECT: what labels mean, each before what its units mean.
 use Rattle.std.specs.Prelude.{ℤ, List, []}
 use Rattle.elan_types.specs.declared.elan_type.ElanType.{ElanType}
+use Rattle.elan_types.specs.Types.{kind_in}
 use Rattle.elan_types.specs.declared.core_phrase.ValuePhrase.{ValuePhrase}
 use Rattle.elan_types.specs.declared.core_phrase.Arm.{Arm}
 use Rattle.elan_types.specs.declared.core_phrase.ValueArm.{ValueArm}
@@ -12,7 +13,7 @@ use Rattle.elan_meant.specs.Parts.{actions, blank, unreached}
 abbrev pub value_as : ElanType → Meant → ValuePhrase
 value_as t (Value at u v) = v
 value_as t (Left as') = unreached as' t
-value_as t m = blank t
+value_as t m = blank (kind_in t)
 
 abbrev pub labels_in : Meant → List ℤ
 labels_in (Labels ns) = ns

@@ -2,7 +2,9 @@
 use Rattle.std.specs.Prelude.{ℕ, pos, Bool, true, false, List, [], ◌∷◌, flat_map, Option, Some, None, slice_index_or}
 use Rattle.std.specs.Option.{option_map}
 use Rattle.elan_types.specs.declared.elan_type.ElanType.{ElanType}
-use Rattle.elan_types.specs.declared.elan_type.ElanType.TheVariants.{Int, Bool as Truths, Text}
+use Rattle.elan_types.specs.Types.{kind_in}
+use Rattle.eu_base.specs.declared.value.Kind.{Kind}
+use Rattle.eu_base.specs.declared.value.Kind.TheVariants.{Int, Truth, Text}
 use Rattle.elan_types.specs.declared.core_phrase.PlacePhrase.{PlacePhrase}
 use Rattle.elan_types.specs.declared.core_phrase.ValuePhrase.{ValuePhrase}
 use Rattle.elan_types.specs.declared.core_phrase.ValuePhrase.TheVariants as value
@@ -18,7 +20,7 @@ use Rattle.elan_meant.specs.Verdict.{Verdict, gives, breaks}
 
 -- The value of a variable is what stands in it.
 abbrev pub value_of : Meant → ValuePhrase
-value_of (Variable at t p) = value.Load p t
+value_of (Variable at t p) = value.Load p (kind_in t)
 value_of (Value at t v) = v
 value_of _ = value.Truth false
 
@@ -54,15 +56,15 @@ unit_of as' = Done (action.Unit as' ∷ [])
 abbrev pub actions_of : List Meant → List Action
 actions_of ms = flat_map actions ms
 
--- any value of a type; it stands behind a LEAVE, where it is never reached
-abbrev pub blank : ElanType → ValuePhrase
+-- any value of a kind; it stands behind a LEAVE, where it is never reached
+abbrev pub blank : Kind → ValuePhrase
 blank Int = value.Number (pos 0)
-blank Truths = value.Truth false
+blank Truth = value.Truth false
 blank Text = value.Text []
 
 -- behind a LEAVE any value of the type that is asked for
 abbrev pub unreached : List Action → ElanType → ValuePhrase
-unreached as' t = value.After as' (blank t)
+unreached as' t = value.After as' (blank (kind_in t))
 
 -- ---- parts by their number
 

@@ -23,7 +23,7 @@ fn value_as(alloc: Global, of: ElanType, part: Meant) -> Result<Boxed<ValuePhras
         Meant::Left(actions) => unreached(alloc, actions, of),
         other => {
             other.let_go();
-            Boxed::new(alloc, blank(alloc, of))
+            Boxed::new(alloc, blank(alloc, of.kind()))
         }
     }
 }

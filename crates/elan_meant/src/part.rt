@@ -9,7 +9,7 @@ use crate::operands::delivers;
 use crate::row::Judged;
 use elan_scope::trouble::Trouble;
 use elan_types::{Action, ElanType, PlacePhrase, ValuePhrase, Why};
-use eu_base::{Boxed, Bytes, List, NoMemory};
+use eu_base::{Boxed, Bytes, Kind, List, NoMemory};
 use std::alloc::Global;
 
 /// The value of a part that delivers one.
@@ -18,7 +18,7 @@ pub fn value_of(alloc: Global, meant: Meant) -> Result<Boxed<ValuePhrase>, NoMem
 {
     match meant {
         Meant::Variable { at: _at, of, place } => {
-            Boxed::new(alloc, ValuePhrase::Load(place, of))
+            Boxed::new(alloc, ValuePhrase::Load(place, of.kind()))
         }
         Meant::Value {
             at: _at,
@@ -37,7 +37,7 @@ pub fn value_in(meant: Meant) -> ValuePhrase
     ensures { result ≡ spec.value_of meant }
 {
     match meant {
-        Meant::Variable { at: _at, of, place } => ValuePhrase::Load(place, of),
+        Meant::Variable { at: _at, of, place } => ValuePhrase::Load(place, of.kind()),
         Meant::Value {
             at: _at,
             of: _of,
@@ -116,7 +116,7 @@ pub fn written(meant: Meant) -> Option<ValuePhrase>
     ensures { result ≡ spec.written meant }
 {
     match meant {
-        Meant::Variable { at: _at, of, place } => Some(ValuePhrase::Load(place, of)),
+        Meant::Variable { at: _at, of, place } => Some(ValuePhrase::Load(place, of.kind())),
         Meant::Value {
             at: _at,
             of: _of,
@@ -177,14 +177,14 @@ pub fn boxed(alloc: Global, value: ValuePhrase) -> Result<Boxed<ValuePhrase>, No
     Boxed::new(alloc, value)
 }
 
-/// Any value of a type; it stands behind a LEAVE, where it is never reached.
-pub fn blank(alloc: Global, of: ElanType) -> ValuePhrase
-    ensures { result ≡ spec.blank of }
+/// Any value of a kind; it stands behind a LEAVE, where it is never reached.
+pub fn blank(alloc: Global, kind: Kind) -> ValuePhrase
+    ensures { result ≡ spec.blank kind }
 {
-    match of {
-        ElanType::Int => ValuePhrase::Number(0),
-        ElanType::Bool => ValuePhrase::Truth(false),
-        ElanType::Text => ValuePhrase::Text(Bytes::new(alloc)),
+    match kind {
+        Kind::Int => ValuePhrase::Number(0),
+        Kind::Truth => ValuePhrase::Truth(false),
+        Kind::Text => ValuePhrase::Text(Bytes::new(alloc)),
     }
 }
 
@@ -196,6 +196,6 @@ pub fn unreached(
 ) -> Result<Boxed<ValuePhrase>, NoMemory>
     ensures { IfOk result (λ v. v ≡ spec.unreached actions of) }
 {
-    let value = Boxed::new(alloc, blank(alloc, of))?;
+    let value = Boxed::new(alloc, blank(alloc, of.kind()))?;
     Boxed::new(alloc, ValuePhrase::After(actions, value))
 }

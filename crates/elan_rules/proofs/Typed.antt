@@ -1,8 +1,10 @@
--- What is known of a meaning: it has the types that it asks for.
+-- What is known of a meaning: its core has the kinds that it asks for, and the kind of its type.
 use Rattle.std.proofs.Common.{ℕ, zero, suc, drop}
 use Rattle.std.proofs.Common.{◌≡◌, Bool, true, false, ◌&&◌, if◌then◌else◌, List, [], ◌∷◌, ◌++◌, map, Option, Some, None, refl, sym, subst, ◌∙◌}
 use Rattle.elan_types.specs.declared.elan_type.ElanType.{ElanType}
 use Rattle.elan_types.specs.declared.elan_type.ElanType.TheVariants.{Int, Bool as Truths, Text as Letters}
+use Rattle.eu_base.specs.declared.value.Kind.{Kind}
+use Rattle.eu_base.specs.declared.value.Kind.TheVariants as kinds
 use Rattle.elan_types.specs.declared.core_phrase.PlacePhrase.{PlacePhrase}
 use Rattle.elan_types.specs.declared.core_phrase.ValuePhrase.{ValuePhrase}
 use Rattle.elan_types.specs.declared.core_phrase.ValuePhrase.TheVariants as value
@@ -13,12 +15,13 @@ use Rattle.elan_meant.specs.declared.meant.Meant.TheVariants.{Absent, Variable, 
 use Rattle.elan_scope.specs.Ruled as ruled
 use Rattle.elan_scope.specs.Ruled.{Ruled, hangs}
 use Rattle.elan_meant.specs.Verdict.{Verdict, gives, breaks, ◌>>=◌, told}
-use Rattle.elan_types.specs.Typing.{Typed, same_type, has, agree, only_if, all_true}
+use Rattle.elan_types.specs.Typing.{Typed, same_kind, has, agree, only_if, all_true}
+use Rattle.elan_types.specs.Types.{same_type, kind_in}
 use Rattle.elan_meant.specs.Operands.{delivers}
 use Rattle.elan_meant.specs.Parts as r
-use Rattle.elan_rules.proofs.TypeEquations.{Stand, type, typed, lies, load_is, unit_is, has_written}
+use Rattle.elan_rules.proofs.TypeEquations.{Stand, kind, typed, lies, load_is, unit_is, has_written}
 
--- ---- types
+-- ---- types and kinds
 
 pub same_is : (t u : ElanType) → same_type t u ≡ true → t ≡ u
 same_is Int Int e = refl
@@ -31,19 +34,30 @@ same_is Letters Int e = absurd cc
 same_is Letters Truths e = absurd cc
 same_is Letters Letters e = refl
 
-pub same_self : (t : ElanType) → same_type t t ≡ true
-same_self Int = refl
-same_self Truths = refl
-same_self Letters = refl
+pub same_self : (k : Kind) → same_kind k k ≡ true
+same_self kinds.Int = refl
+same_self kinds.Truth = refl
+same_self kinds.Text = refl
 
-pub has_self : (t : ElanType) (a : Typed) → a ≡ Some t → has t a ≡ true
-has_self t a e = subst (λ (b : Typed). has t b ≡ true) (sym e) (same_self t)
+pub kind_is : (k j : Kind) → same_kind k j ≡ true → k ≡ j
+kind_is kinds.Int kinds.Int e = refl
+kind_is kinds.Int kinds.Truth e = absurd cc
+kind_is kinds.Int kinds.Text e = absurd cc
+kind_is kinds.Truth kinds.Int e = absurd cc
+kind_is kinds.Truth kinds.Truth e = refl
+kind_is kinds.Truth kinds.Text e = absurd cc
+kind_is kinds.Text kinds.Int e = absurd cc
+kind_is kinds.Text kinds.Truth e = absurd cc
+kind_is kinds.Text kinds.Text e = refl
 
-pub agree_self : (t : ElanType) (a b : Typed) → a ≡ Some t → b ≡ Some t → agree a b ≡ true
-agree_self t a b e f = subst (λ (c : Typed). agree c b ≡ true) (sym e) (has_self t b f)
+pub has_self : (k : Kind) (a : Typed) → a ≡ Some k → has k a ≡ true
+has_self k a e = subst (λ (b : Typed). has k b ≡ true) (sym e) (same_self k)
 
-pub only_if_holds : (b : Bool) (a : Typed) (t : ElanType) → b ≡ true → a ≡ Some t → only_if b a ≡ Some t
-only_if_holds b a t e f = subst (λ (c : Bool). only_if c a ≡ Some t) (sym e) f
+pub agree_self : (k : Kind) (a b : Typed) → a ≡ Some k → b ≡ Some k → agree a b ≡ true
+agree_self k a b e f = subst (λ (c : Typed). agree c b ≡ true) (sym e) (has_self k b f)
+
+pub only_if_holds : (b : Bool) (a : Typed) (k : Kind) → b ≡ true → a ≡ Some k → only_if b a ≡ Some k
+only_if_holds b a k e f = subst (λ (c : Bool). only_if c a ≡ Some k) (sym e) f
 
 pub both : (a b : Bool) → (a && b) ≡ true → (a ≡ true) × (b ≡ true)
 both true b e = (refl, e)
@@ -84,20 +98,20 @@ on_either P false x y h k = k
 module _ (here : Stand) where
   -- ---- what is known of a meaning
 
-  abbrev pub Has : ElanType → ValuePhrase → Type 0
-  Has t v = type here v ≡ Some t
+  abbrev pub Has : Kind → ValuePhrase → Type 0
+  Has k v = kind here v ≡ Some k
 
-  abbrev pub MayHave : ElanType → Option ValuePhrase → Type 0
-  MayHave t None = Unit {0}
-  MayHave t (Some v) = Has t v
+  abbrev pub MayHave : Kind → Option ValuePhrase → Type 0
+  MayHave k None = Unit {0}
+  MayHave k (Some v) = Has k v
 
   abbrev pub AllTyped : List Action → Type 0
   AllTyped as' = all_true (map (typed here) as') ≡ true
 
   abbrev pub Good : Meant → Type 0
   Good Absent = Unit {0}
-  Good (Variable at t x) = lies here x ≡ Some t
-  Good (Value at t v) = Has t v
+  Good (Variable at t x) = lies here x ≡ Some (kind_in t)
+  Good (Value at t v) = Has (kind_in t) v
   Good (Done as') = AllTyped as'
   Good (Left as') = AllTyped as'
   Good (Labels ns) = Unit {0}
@@ -134,26 +148,27 @@ module _ (here : Stand) where
   -- ---- what parts deliver
 
   -- what stands in a variable
-  pub load_typed : (t : ElanType) (x : PlacePhrase) → lies here x ≡ Some t → Has t (value.Load x t)
-  load_typed t x h = load_is here x t ∙ only_if_holds _ _ t (has_self t _ h) refl
+  pub load_typed : (k : Kind) (x : PlacePhrase) → lies here x ≡ Some k → Has k (value.Load x k)
+  load_typed k x h = load_is here x k ∙ only_if_holds _ _ k (has_self k _ h) refl
 
-  pub value_typed : (t : ElanType) (m : Meant) → Good m → delivers t m ≡ true → Has t (r.value_of m)
+  pub value_typed : (t : ElanType) (m : Meant) → Good m → delivers t m ≡ true → Has (kind_in t) (r.value_of m)
   value_typed t Absent g e = absurd cc
-  value_typed t (Variable at u x) g e = subst (λ (w : ElanType). Has w (value.Load x u)) (sym (same_is t u e)) (load_typed u x g)
-  value_typed t (Value at u v) g e = subst (λ (w : ElanType). Has w v) (sym (same_is t u e)) g
+  value_typed t (Variable at u x) g e =
+      subst (λ (w : ElanType). Has (kind_in w) (value.Load x (kind_in u))) (sym (same_is t u e)) (load_typed (kind_in u) x g)
+  value_typed t (Value at u v) g e = subst (λ (w : ElanType). Has (kind_in w) v) (sym (same_is t u e)) g
   value_typed t (Done as') g e = absurd cc
   value_typed t (Left as') g e = absurd cc
   value_typed t (Labels ns) g e = absurd cc
   value_typed t (Bodies bs) g e = absurd cc
   value_typed t (Level us bs) g e = absurd cc
 
-  abbrev pub Lies : ElanType → PlacePhrase → Type 0
-  Lies t x = lies here x ≡ Some t
+  abbrev pub Lies : Kind → PlacePhrase → Type 0
+  Lies k x = lies here x ≡ Some k
 
   -- A variable that is needed is one of this type.
-  pub variable_good : (at : ℕ) (t : ElanType) (m : Meant) → Good m → delivers t m ≡ true → Gives (Lies t) (r.variable at m)
+  pub variable_good : (at : ℕ) (t : ElanType) (m : Meant) → Good m → delivers t m ≡ true → Gives (Lies (kind_in t)) (r.variable at m)
   variable_good at t Absent g e = tt
-  variable_good at t (Variable p u x) g e = subst (λ (w : ElanType). Lies w x) (sym (same_is t u e)) g
+  variable_good at t (Variable p u x) g e = subst (λ (w : ElanType). Lies (kind_in w) x) (sym (same_is t u e)) g
   variable_good at t (Value p u v) g e = tt
   variable_good at t (Done as') g e = tt
   variable_good at t (Left as') g e = tt
@@ -161,7 +176,7 @@ module _ (here : Stand) where
   variable_good at t (Bodies bs) g e = tt
   variable_good at t (Level us bs) g e = tt
 
-  pub may_typed : (t : ElanType) (m : Meant) → Good m → r.may_deliver t m ≡ true → MayHave t (r.written m)
+  pub may_typed : (t : ElanType) (m : Meant) → Good m → r.may_deliver t m ≡ true → MayHave (kind_in t) (r.written m)
   may_typed t Absent g e = tt
   may_typed t (Variable at u x) g e = value_typed t (Variable at u x) g e
   may_typed t (Value at u v) g e = value_typed t (Value at u v) g e
@@ -197,6 +212,6 @@ module _ (here : Stand) where
   pub unit_typed : (as' : List Action) → AllTyped as' → AllTyped (action.Unit as' ∷ [])
   unit_typed as' h = single_typed (action.Unit as') (unit_is here as' ∙ h)
 
-  pub written_typed : (t : ElanType) (o : Option ValuePhrase) → MayHave t o → has_written here t o ≡ true
-  written_typed t None h = refl
-  written_typed t (Some v) h = has_self t _ h
+  pub written_typed : (k : Kind) (o : Option ValuePhrase) → MayHave k o → has_written here k o ≡ true
+  written_typed k None h = refl
+  written_typed k (Some v) h = has_self k _ h

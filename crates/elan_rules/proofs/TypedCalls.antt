@@ -1,4 +1,4 @@
--- Names, calls and LEAVE have the types that they ask for.
+-- Names, calls and LEAVE have the kinds that they ask for.
 -- This file is long since one record, what a scope tells of the bodies, is the premise of all that stands in it.
 use Rattle.std.proofs.Common.{◌≡◌, ℕ, Bool, true, false, if◌then◌else◌, List, [], ◌∷◌, ◌++◌, ◌+◌, zero, suc, length, arith, map, Option, Some, None, refl}
 use Rattle.std.proofs.Common.{sym, ap, subst, ◌∙◌}
@@ -16,13 +16,16 @@ use Rattle.std.specs.Prelude.{slice_get, nat_eq, option_and_then}
 use Rattle.std.specs.Str.{bytes_eq}
 use Rattle.elan_types.specs.declared.core_phrase.Access.{Access}
 use Rattle.elan_types.specs.declared.core_phrase.Access.TheVariants.{Const, Var}
-use Rattle.elan_types.specs.declared.core_phrase.Parameter.{Parameter}
+use Rattle.elan_types.specs.declared.elan_type.Parameter.{Parameter}
+use Rattle.eu_base.specs.declared.value.Kind.{Kind}
+use Rattle.elan_types.specs.Types.{kind_in, formal_of}
+use Rattle.elan_types.specs.declared.core_phrase.Formal.{Formal}
 use Rattle.elan_types.specs.declared.core_phrase.Exit.{Exit}
 use Rattle.elan_types.specs.declared.core_phrase.Exit.TheVariants as exits
 use Rattle.elan_types.specs.declared.core_phrase.Scope.{Scope as Owner}
 use Rattle.elan_types.specs.declared.core_phrase.Scope.TheVariants as owner
 use Rattle.elan_types.specs.declared.core_phrase.Body.{Body}
-use Rattle.elan_types.specs.Typing.{Home as InBody, same_home, type_as, result_of_content, result_of, scope_of, refines, leaves_without, leaves_with}
+use Rattle.elan_types.specs.Typing.{Home as InBody, Typed, same_home, kind_as, result_of_content, result_of, scope_of, refines, leaves_without, leaves_with}
 use Rattle.elan_types.specs.Typing.{left_from, around, frame_in, owner as owner_in}
 use Rattle.elan_scope.specs.declared.delivery.Delivery.{Delivery}
 use Rattle.elan_scope.specs.declared.delivery.Delivery.TheVariants.{Open, Nothing, Of}
@@ -96,10 +99,15 @@ found_held k (d ∷ es) x f e = by_name (found_held (k + length (held d.denotes)
         let g = rest h in
         (length (held d.denotes) + g.0, (let i = g.1 in omega arith), held_behind (held f.1.denotes) (held d.denotes) (all_held es) g.0 g.2)
 
-types_at : (ps : List Parameter) (i : ℕ) (q : Parameter) → slice_get ps i ≡ Some q → slice_get (types_of ps) i ≡ Some q.of
-types_at [] i q e = absurd cc
-types_at (a ∷ ps) zero q e = let h : a ≡ q = cc in ap (λ (b : Parameter). Some b.of) h
-types_at (a ∷ ps) (suc i) q e = types_at ps i q e
+kind_at : (ps : List Parameter) (i : ℕ) (q : Parameter) → slice_get ps i ≡ Some q → slice_get (map kind_in (types_of ps)) i ≡ Some (kind_in q.of)
+kind_at [] i q e = absurd cc
+kind_at (a ∷ ps) zero q e = let h : a ≡ q = cc in ap (λ (b : Parameter). Some (kind_in b.of)) h
+kind_at (a ∷ ps) (suc i) q e = kind_at ps i q e
+
+formal_at : (ps : List Parameter) (i : ℕ) (q : Parameter) → slice_get ps i ≡ Some q → slice_get (map formal_of ps) i ≡ Some (formal_of q)
+formal_at [] i q e = absurd cc
+formal_at (a ∷ ps) zero q e = let h : a ≡ q = cc in ap (λ (b : Parameter). Some (formal_of b)) h
+formal_at (a ∷ ps) (suc i) q e = formal_at ps i q e
 
 heading_at : (k : ℕ) (test : Heading → Bool) (hs : List Heading) (b : ℕ × Heading) → first_heading_from k test hs ≡ Some b
     → (i : ℕ) × (b.0 ≡ k + i) × (slice_get hs i ≡ Some b.1) × (test b.1 ≡ true)
@@ -127,9 +135,9 @@ first_at test hs b e =
 
 -- ---- bodies as their headings tell
 
-abbrev pub FrameIs : List Parameter → Option Within → Type 0
+abbrev pub FrameIs : List Formal → Option Within → Type 0
 FrameIs frame None = Unit {0}
-FrameIs frame (Some v) = frame ≡ all_held v.names
+FrameIs frame (Some v) = frame ≡ map formal_of (all_held v.names)
 
 -- The bodies are those that a scope tells of.
 pub record Fits (here : Stand) (s : Scope) (k : Known) : Type 0 where
@@ -141,7 +149,7 @@ pub record Fits (here : Stand) (s : Scope) (k : Known) : Type 0 where
   pub bodies : (n : ℕ) (h : Heading) → slice_get s.headings n ≡ Some h → BodyFits (slice_get here.bodies n) h (delivery_at k n)
 
 module _ (here : Stand) where
-  abbrev Has : ElanType → ValuePhrase → Type 0
+  abbrev Has : Kind → ValuePhrase → Type 0
   Has = ty.Has here
 
   abbrev AllTyped : List Action → Type 0
@@ -156,18 +164,19 @@ module _ (here : Stand) where
   -- ---- what stands at places
 
   abbrev AtHome : Home → ℕ → Parameter → Type 0
-  AtHome of_level n q = slice_get here.variables n ≡ Some q.of
-  AtHome of_routine n q = slice_get (frame_in here.bodies (owner_in here.bodies here.home)) n ≡ Some q
+  AtHome of_level n q = slice_get here.variables n ≡ Some (kind_in q.of)
+  AtHome of_routine n q = slice_get (frame_in here.bodies (owner_in here.bodies here.home)) n ≡ Some (formal_of q)
 
-  place_lies : (home : Home) (n : ℕ) (t : ElanType) (a : Access) → AtHome home n (record { of = t; access = a }) → lies here (r.place_in home n a) ≡ Some t
+  place_lies : (home : Home) (n : ℕ) (t : ElanType) (a : Access) → AtHome home n (record { of = t; access = a })
+      → lies here (r.place_in home n a) ≡ Some (kind_in t)
   place_lies of_level n t a h = h
-  place_lies of_routine n t Const h = ap (type_as Const) h
-  place_lies of_routine n t Var h = ap (type_as Var) h
+  place_lies of_routine n t Const h = ap (kind_as Const) h
+  place_lies of_routine n t Var h = ap (kind_as Var) h
 
-  constant_good : (at : ℕ) (t : ElanType) (x : PlacePhrase) → lies here x ≡ Some t → Good (r.constant at t x)
-  constant_good at t x h = ty.load_typed here t x h
+  constant_good : (at : ℕ) (t : ElanType) (x : PlacePhrase) → lies here x ≡ Some (kind_in t) → Good (r.constant at t x)
+  constant_good at t x h = ty.load_typed here (kind_in t) x h
 
-  parameter_good : (at : ℕ) (t : ElanType) (a : Access) (x : PlacePhrase) → lies here x ≡ Some t → Good (r.parameter at t a x)
+  parameter_good : (at : ℕ) (t : ElanType) (a : Access) (x : PlacePhrase) → lies here x ≡ Some (kind_in t) → Good (r.parameter at t a x)
   parameter_good at t Const x h = constant_good at t x h
   parameter_good at t Var x h = h
 
@@ -178,7 +187,7 @@ module _ (here : Stand) where
 
     in_level : (n : ℕ) (ps : List Parameter) → HeldAt ps (all_held s.level) n → Lies of_level n ps
     in_level n [] h = tt
-    in_level n (q ∷ ps) h = ap (λ (ts : List ElanType). slice_get ts n) fits.level ∙ types_at (all_held s.level) n q h
+    in_level n (q ∷ ps) h = ap (λ (ks : List Kind). slice_get ks n) fits.level ∙ kind_at (all_held s.level) n q h
 
     level_found : (f : ℕ × Entry) (x : List ℕ) → scope.first_named s.level x ≡ Some f → Lies of_level f.0 (held f.1.denotes)
     level_found f x e =
@@ -186,19 +195,17 @@ module _ (here : Stand) where
         let i : f.0 ≡ h.0 = (let j = h.1 in omega arith) in
         in_level f.0 (held f.1.denotes) (subst (λ (n : ℕ). HeldAt (held f.1.denotes) (all_held s.level) n) (sym i) h.2)
 
-    in_frame : (frame : List Parameter) (es : List Entry) (n : ℕ) (ps : List Parameter) → frame ≡ all_held es → HeldAt ps (all_held es) n → HeldAt ps frame n
-    in_frame frame es n ps e h = subst (λ (qs : List Parameter). HeldAt ps qs n) (sym e) h
+    in_frame : (es : List Entry) (n : ℕ) (ps : List Parameter) → frame_in here.bodies (owner_in here.bodies here.home) ≡ map formal_of (all_held es)
+        → HeldAt ps (all_held es) n → Lies of_routine n ps
+    in_frame es n [] e h = tt
+    in_frame es n (q ∷ ps) e h = ap (λ (fs : List Formal). slice_get fs n) e ∙ formal_at (all_held es) n q h
 
-    as_lies : (n : ℕ) (ps : List Parameter) → HeldAt ps (frame_in here.bodies (owner_in here.bodies here.home)) n → Lies of_routine n ps
-    as_lies n [] h = tt
-    as_lies n (q ∷ ps) h = h
-
-    routine_found : (es : List Entry) (f : ℕ × Entry) (x : List ℕ) → frame_in here.bodies (owner_in here.bodies here.home) ≡ all_held es
+    routine_found : (es : List Entry) (f : ℕ × Entry) (x : List ℕ) → frame_in here.bodies (owner_in here.bodies here.home) ≡ map formal_of (all_held es)
         → scope.first_named es x ≡ Some f → Lies of_routine f.0 (held f.1.denotes)
     routine_found es f x fe e =
         let h = found_held 0 es x f e in
         let i : f.0 ≡ h.0 = (let j = h.1 in omega arith) in
-        as_lies f.0 (held f.1.denotes) (in_frame _ es f.0 (held f.1.denotes) fe (subst (λ (n : ℕ). HeldAt (held f.1.denotes) (all_held es) n) (sym i) h.2))
+        in_frame es f.0 (held f.1.denotes) fe (subst (λ (n : ℕ). HeldAt (held f.1.denotes) (all_held es) n) (sym i) h.2)
 
     abbrev FoundLies : Option Found → Type 0
     FoundLies None = Unit {0}
@@ -216,7 +223,7 @@ module _ (here : Stand) where
         by_test true = tt
         by_test false = h
 
-    routine_lies : (es : List Entry) (o : Option (ℕ × Entry)) (x : List ℕ) → frame_in here.bodies (owner_in here.bodies here.home) ≡ all_held es
+    routine_lies : (es : List Entry) (o : Option (ℕ × Entry)) (x : List ℕ) → frame_in here.bodies (owner_in here.bodies here.home) ≡ map formal_of (all_held es)
         → scope.first_named es x ≡ o → FoundLies (scope.found_in of_routine o)
     routine_lies es None x fe e = tt
     routine_lies es (Some f) x fe e = routine_found es f x fe e
@@ -290,7 +297,8 @@ module _ (here : Stand) where
     referred_good at n b Open e o h = tt
     referred_good at n b Nothing e o h =
         ty.single_typed here (action.Refer n) (action_refer_is here n ∙ and_true _ _ (refines_holds n b e o) (none_holds here n b e h))
-    referred_good at n b (Of t) e o h = refer_is here n t ∙ only_if_holds _ _ t (and_true _ _ (refines_holds n b e o) (has_holds here n b t e h)) refl
+    referred_good at n b (Of t) e o h =
+        let j = kind_in t in refer_is here n j ∙ only_if_holds _ _ j (and_true _ _ (refines_holds n b e o) (has_holds here n b j e h)) refl
 
     -- a name that denotes a refinement has one of the scope
     abbrev IsRefined : Option ℕ → Type 0
@@ -408,23 +416,24 @@ module _ (here : Stand) where
         (body_left s.refinement x (scope.body_named s.headings s.refinement x) refl refinement_home)
         (routine_left s.refinement x (scope.body_named s.headings (number_of s.routine) x) refl refl)
 
-    left_result : (e : Exit) (n : ℕ) (b : Body) (o : Option ElanType) → left_from here.bodies e here.home ≡ result_of (slice_get here.bodies n)
+    left_result : (e : Exit) (n : ℕ) (b : Body) (o : Typed) → left_from here.bodies e here.home ≡ result_of (slice_get here.bodies n)
         → slice_get here.bodies n ≡ Some b → result_of_content b.content ≡ o → left_from here.bodies e here.home ≡ Some o
-    left_result e n b o h i j = h ∙ ap result_of i ∙ ap (λ (t : Option ElanType). Some t) j
+    left_result e n b o h i j = h ∙ ap result_of i ∙ ap (λ (a : Typed). Some a) j
 
     leave_typed : (e : Exit) → left_from here.bodies e here.home ≡ Some None → typed here (action.Leave e) ≡ true
     leave_typed e h = leave_is here e ∙ ap leaves_without h
 
-    leave_with_typed : (e : Exit) (t : ElanType) (v : ValuePhrase) → left_from here.bodies e here.home ≡ Some (Some t) → Has t v
-        → typed here (action.LeaveWith e t v) ≡ true
-    leave_with_typed e t v h g = leave_with_is here e t v ∙ and_true _ _ (has_self t _ g) (ap (leaves_with t) h ∙ same_self t)
+    leave_with_typed : (e : Exit) (j : Kind) (v : ValuePhrase) → left_from here.bodies e here.home ≡ Some (Some j) → Has j v
+        → typed here (action.LeaveWith e j v) ≡ true
+    leave_with_typed e j v h g = leave_with_is here e j v ∙ and_true _ _ (has_self j _ g) (ap (leaves_with j) h ∙ same_self j)
 
-    delivered_leave : (e : Exit) (t : ElanType) (m : Meant) → left_from here.bodies e here.home ≡ Some (Some t) → Good m → delivers t m ≡ true
+    delivered_leave : (e : Exit) (t : ElanType) (m : Meant) → left_from here.bodies e here.home ≡ Some (Some (kind_in t)) → Good m → delivers t m ≡ true
         → typed here (walk.leave_of e m) ≡ true
     delivered_leave e t Absent h g d = absurd cc
     delivered_leave e t (Variable at u x) h g d =
-        leave_with_typed e u (value.Load x u) (h ∙ ap (λ (z : ElanType). Some (Some z)) (same_is t u d)) (ty.load_typed here u x g)
-    delivered_leave e t (Value at u v) h g d = leave_with_typed e u v (h ∙ ap (λ (z : ElanType). Some (Some z)) (same_is t u d)) g
+        let j = kind_in u in
+        leave_with_typed e j (value.Load x j) (h ∙ ap (λ (z : ElanType). Some (Some (kind_in z))) (same_is t u d)) (ty.load_typed here j x g)
+    delivered_leave e t (Value at u v) h g d = leave_with_typed e (kind_in u) v (h ∙ ap (λ (z : ElanType). Some (Some (kind_in z))) (same_is t u d)) g
     delivered_leave e t (Done as') h g d = absurd cc
     delivered_leave e t (Left as') h g d = absurd cc
     delivered_leave e t (Labels ns) h g d = absurd cc
@@ -442,7 +451,7 @@ module _ (here : Stand) where
     leave_of_typed e n b Nothing (Labels ns) h i j g a = absurd cc
     leave_of_typed e n b Nothing (Bodies bs) h i j g a = absurd cc
     leave_of_typed e n b Nothing (Level us bs) h i j g a = absurd cc
-    leave_of_typed e n b (Of t) m h i j g a = delivered_leave e t m (left_result e n b (Some t) h i j) g a
+    leave_of_typed e n b (Of t) m h i j g a = delivered_leave e t m (left_result e n b (Some (kind_in t)) h i j) g a
 
     leaving_as_good : (at : ℕ) (o : Option (Exit × ℕ)) (m : Meant) → Leaves o → Good m → Gives Good (r.leaving k at o m)
     leaving_as_good at None m h g = tt

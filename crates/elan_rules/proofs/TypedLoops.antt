@@ -1,7 +1,8 @@
--- Loops have the types that they ask for.
+-- Loops have the kinds that they ask for.
 use Rattle.std.proofs.Common.{ℕ, ◌&&◌, List, [], ◌∷◌, Option, Some, None, ◌∙◌}
-use Rattle.elan_types.specs.declared.elan_type.ElanType.{ElanType}
-use Rattle.elan_types.specs.declared.elan_type.ElanType.TheVariants.{Int, Bool as Truths}
+use Rattle.elan_types.specs.declared.elan_type.ElanType.TheVariants as types
+use Rattle.eu_base.specs.declared.value.Kind.{Kind}
+use Rattle.eu_base.specs.declared.value.Kind.TheVariants.{Int, Truth as Truths}
 use Rattle.elan_types.specs.declared.core_phrase.PlacePhrase.{PlacePhrase}
 use Rattle.elan_types.specs.declared.core_phrase.ValuePhrase.{ValuePhrase}
 use Rattle.elan_types.specs.declared.core_phrase.Action.{Action}
@@ -17,13 +18,13 @@ use Rattle.unit_rules.specs.walks.Steps as walk
 use Rattle.elan_rules.proofs.TypeEquations.{Stand, number_is, loop_is, count_is}
 
 module _ (here : Stand) where
-  abbrev Has : ElanType → ValuePhrase → Type 0
+  abbrev Has : Kind → ValuePhrase → Type 0
   Has = ty.Has here
 
-  abbrev MayHave : ElanType → Option ValuePhrase → Type 0
+  abbrev MayHave : Kind → Option ValuePhrase → Type 0
   MayHave = ty.MayHave here
 
-  abbrev Lies : ElanType → PlacePhrase → Type 0
+  abbrev Lies : Kind → PlacePhrase → Type 0
   Lies = ty.Lies here
 
   abbrev AllTyped : List Action → Type 0
@@ -51,8 +52,8 @@ module _ (here : Stand) where
   loop_good at c us u h i j =
       on_if Good (r.conditions c u) _ _
       (λ e. let b = both _ _ e in
-      loop_typed (p.written c) (p.actions us) (p.written u) (ty.may_typed here Truths c h b.0) (ty.actions_typed here us i)
-      (ty.may_typed here Truths u j b.1)) (λ e. tt)
+      loop_typed (p.written c) (p.actions us) (p.written u) (ty.may_typed here types.Bool c h b.0) (ty.actions_typed here us i)
+      (ty.may_typed here types.Bool u j b.1)) (λ e. tt)
 
   count_typed : (x : PlacePhrase) (v : ValuePhrase) (w : Way) (l c : Option ValuePhrase) (us : List Action) (u : Option ValuePhrase) →
       Lies Int x → Has Int v → MayHave Int l → MayHave Truths c → AllTyped us → MayHave Truths u
@@ -69,7 +70,8 @@ module _ (here : Stand) where
       let numbers = both _ _ b.0 in
       let bounds = both _ _ numbers.1 in
       let truths = both _ _ b.1 in
-      on_bind (Lies Int) Good (p.variable at n) _ (ty.variable_good here at Int n gn numbers.0)
+      on_bind (Lies Int) Good (p.variable at n) _ (ty.variable_good here at types.Int n gn numbers.0)
       (λ x k. count_typed x (walk.first_value (p.written f)) w (p.written l) (p.written c) (p.actions us) (p.written u) k
-      (first_typed (p.written f) (ty.may_typed here Int f gf bounds.0)) (ty.may_typed here Int l gl bounds.1) (ty.may_typed here Truths c gc truths.0)
-      (ty.actions_typed here us gs) (ty.may_typed here Truths u gu truths.1))) (λ e. tt)
+      (first_typed (p.written f) (ty.may_typed here types.Int f gf bounds.0)) (ty.may_typed here types.Int l gl bounds.1)
+      (ty.may_typed here types.Bool c gc truths.0)
+      (ty.actions_typed here us gs) (ty.may_typed here types.Bool u gu truths.1))) (λ e. tt)

@@ -1,24 +1,26 @@
--- What can be called means what has the types that it asks for.
+-- What can be called means what has the kinds that it asks for.
 use Rattle.std.proofs.Common.{◌≡◌, ℕ, Bool, true, false, if◌then◌else◌, List, [], ◌∷◌, ◌++◌, ◌+◌, suc, arith, map, Option, Some, None, refl, sym, ap, subst}
 use Rattle.std.proofs.Common.{◌∙◌}
 use Rattle.elan_types.specs.declared.elan_type.ElanType.{ElanType}
-use Rattle.elan_types.specs.declared.elan_type.ElanType.TheVariants.{Text}
+use Rattle.eu_base.specs.declared.value.Kind.TheVariants as kinds
+use Rattle.elan_types.specs.declared.core_phrase.Formal.{Formal}
 use Rattle.elan_types.specs.declared.core_phrase.PlacePhrase.{PlacePhrase}
 use Rattle.elan_types.specs.declared.core_phrase.ValuePhrase.{ValuePhrase}
 use Rattle.elan_types.specs.declared.core_phrase.Action.{Action}
 use Rattle.elan_types.specs.declared.core_phrase.Action.TheVariants as action
 use Rattle.elan_meant.specs.declared.meant.Meant.{Meant}
-use Rattle.std.specs.Prelude.{slice_get}
+use Rattle.std.specs.Prelude.{slice_get, option_map}
 use Rattle.elan_types.specs.declared.core_phrase.Access.{Access}
 use Rattle.elan_types.specs.declared.core_phrase.Access.TheVariants.{Const, Var}
-use Rattle.elan_types.specs.declared.core_phrase.Parameter.{Parameter}
+use Rattle.elan_types.specs.declared.elan_type.Parameter.{Parameter}
 use Rattle.elan_types.specs.declared.core_phrase.Actual.{Actual}
 use Rattle.elan_types.specs.declared.core_phrase.Actual.TheVariants as actual
 use Rattle.elan_types.specs.declared.core_phrase.Scope.{Scope as Owner}
 use Rattle.elan_types.specs.declared.core_phrase.Scope.TheVariants as owner
 use Rattle.elan_types.specs.declared.core_phrase.Body.{Body}
-use Rattle.elan_types.specs.Typing.{Typed, Taken, same_type, same_access, held_const, only_if, have, has, type_in, takes, take_all, taken_by, given_as}
-use Rattle.elan_types.specs.Typing.{held_var, values_of, result_of_content, delivered_by, scope_of, is_none}
+use Rattle.elan_types.specs.Typing.{Typed, Taken, same_kind, same_access, formal, only_if, have, has, takes, take_all, taken_by, given_as}
+use Rattle.elan_types.specs.Typing.{result_of_content, delivered_by, scope_of, is_none}
+use Rattle.elan_types.specs.Types.{kind_in, type_in, formal_of, held_var, values_of}
 use Rattle.elan_scope.specs.declared.delivery.Delivery.{Delivery}
 use Rattle.elan_scope.specs.declared.delivery.Delivery.TheVariants.{Open, Nothing, Of}
 use Rattle.elan_scope.specs.declared.heading.What.{What}
@@ -26,9 +28,10 @@ use Rattle.elan_scope.specs.declared.heading.What.TheVariants.{Routine, Refineme
 use Rattle.elan_scope.specs.declared.heading.Heading.{Heading}
 use Rattle.elan_scope.specs.Scope as scope
 use Rattle.std.specs.Option.{option_or}
-use Rattle.elan_scope.specs.Scope.{Callable, number_of, held, all_held, types_of, variables_of}
+use Rattle.elan_scope.specs.Scope.{Callable}
 use Rattle.eu_base.specs.declared.value.Kind.{Kind}
-use Rattle.eu_base.specs.Operations.{operand_kinds, change_kind}
+use Rattle.eu_base.specs.Operations.{operand_kinds, result_kind, change_kind}
+use Rattle.eu_base.specs.Requests.{request_kinds, request_places}
 use Rattle.elan_scope.specs.declared.callable.Callee.{Callee}
 use Rattle.elan_scope.specs.declared.callable.Callee.TheVariants as Callees
 use Rattle.elan_scope.specs.declared.predefined.Predefined.{Predefined}
@@ -36,10 +39,10 @@ use Rattle.elan_scope.specs.declared.predefined.Predefined.TheVariants.{Operatio
 use Rattle.elan_scope.specs.Predefined.{Row, parameters, result}
 use Rattle.elan_meant.specs.Operands.{delivers, fit}
 use Rattle.elan_rules.proofs.Typed as ty
-use Rattle.elan_rules.proofs.Typed.{same_is, same_self, has_self, agree_self, only_if_holds, both, and_true, Gives, on_if, on_bind}
+use Rattle.elan_rules.proofs.Typed.{kind_is, same_self, has_self, agree_self, only_if_holds, both, and_true, Gives, on_if, on_bind}
 use Rattle.elan_meant.specs.Parts as p
 use Rattle.value_rules.specs.Calls as r
-use Rattle.elan_rules.proofs.TypeEquations.{Stand, type, lies, actual_type, apply_is, modify_is, ask_is, error_stop_is, call_is, action_call_is}
+use Rattle.elan_rules.proofs.TypeEquations.{Stand, kind, lies, actual_kind, apply_is, modify_is, ask_is, error_stop_is, call_is, action_call_is}
 use Rattle.elan_rules.proofs.TypeEquations.{given_value_is, given_place_is}
 
 -- ---- bodies as their headings tell
@@ -49,13 +52,14 @@ owner_with None = owner.Level
 owner_with (Some n) = owner.Of n
 
 abbrev pub Headed : What → Body → Type 0
-Headed (Routine sort ps r) b = (vs : List ElanType) × (b.scope ≡ owner.Own ps vs) × (result_of_content b.content ≡ r)
+Headed (Routine sort ps r) b =
+    (vs : List Kind) × (b.scope ≡ owner.Own (map formal_of ps) vs) × (result_of_content b.content ≡ option_map kind_in r)
 Headed (Refinement home) b = b.scope ≡ owner_with home
 
 abbrev pub Delivering : Delivery → Body → Type 0
 Delivering Open b = ⊥
 Delivering Nothing b = result_of_content b.content ≡ None
-Delivering (Of t) b = result_of_content b.content ≡ Some t
+Delivering (Of t) b = result_of_content b.content ≡ Some (kind_in t)
 
 pub record BodyFits (o : Option Body) (h : Heading) (d : Delivery) : Type 0 where
   pub body : Body
@@ -63,8 +67,34 @@ pub record BodyFits (o : Option Body) (h : Heading) (d : Delivery) : Type 0 wher
   pub headed : Headed h.what body
   pub delivers : Delivering d body
 
+-- ---- what is predefined, as a core knows it
+
+kind_type : (k : Kind) → kind_in (type_in k) ≡ k
+kind_type kinds.Int = refl
+kind_type kinds.Truth = refl
+kind_type kinds.Text = refl
+
+all_formals : (ks js : List Kind) → map formal_of (values_of ks ++ map (λ k. held_var (type_in k)) js) ≡ map (formal Const) ks ++ map (formal Var) js
+all_formals [] [] = refl
+all_formals [] (j ∷ js) =
+    ap (λ (i : Kind). formal Var i ∷ map formal_of (map (λ k. held_var (type_in k)) js)) (kind_type j)
+    ∙ ap (λ (fs : List Formal). formal Var j ∷ fs) (all_formals [] js)
+all_formals (k ∷ ks) js =
+    ap (λ (i : Kind). formal Const i ∷ map formal_of (values_of ks ++ map (λ k. held_var (type_in k)) js)) (kind_type k)
+    ∙ ap (λ (fs : List Formal). formal Const k ∷ fs) (all_formals ks js)
+
+value_formals : (ks : List Kind) → map formal_of (values_of ks) ≡ map (formal Const) ks
+value_formals [] = refl
+value_formals (k ∷ ks) =
+    ap (λ (i : Kind). formal Const i ∷ map formal_of (values_of ks)) (kind_type k) ∙ ap (λ (fs : List Formal). formal Const k ∷ fs) (value_formals ks)
+
+change_formals : (k : Kind) → map formal_of (held_var (type_in k) ∷ values_of (k ∷ [])) ≡ formal Var k ∷ formal Const k ∷ []
+change_formals kinds.Int = refl
+change_formals kinds.Truth = refl
+change_formals kinds.Text = refl
+
 module _ (here : Stand) where
-  abbrev Has : ElanType → ValuePhrase → Type 0
+  abbrev Has : Kind → ValuePhrase → Type 0
   Has = ty.Has here
 
   abbrev AllTyped : List Action → Type 0
@@ -76,120 +106,131 @@ module _ (here : Stand) where
   abbrev AllGood : List Meant → Type 0
   AllGood = ty.AllGood here
 
-  abbrev Lies : ElanType → PlacePhrase → Type 0
+  abbrev Lies : Kind → PlacePhrase → Type 0
   Lies = ty.Lies here
 
   -- ---- what parameters are given
 
-  abbrev GivenFor : Parameter → Actual → Type 0
-  GivenFor q a = takes q (actual_type here a) ≡ true
+  abbrev GivenFor : Formal → Actual → Type 0
+  GivenFor f a = takes f (actual_kind here a) ≡ true
 
   same_access_self : (a : Access) → same_access a a ≡ true
   same_access_self Const = refl
   same_access_self Var = refl
 
-  takes_self : (t : ElanType) (a : Access) (b : Taken) → b ≡ Some (record { of = t; access = a }) → takes (record { of = t; access = a }) b ≡ true
-  takes_self t a b e = subst (λ (c : Taken). takes (record { of = t; access = a }) c ≡ true) (sym e) (and_true _ _ (same_self t) (same_access_self a))
+  takes_self : (k : Kind) (a : Access) (b : Taken) → b ≡ Some (formal a k) → takes (formal a k) b ≡ true
+  takes_self k a b e = subst (λ (c : Taken). takes (formal a k) c ≡ true) (sym e) (and_true _ _ (same_self k) (same_access_self a))
 
-  given_as_typed : (a : Access) (t : ElanType) (b : Typed) → b ≡ Some t → given_as a b ≡ Some (record { of = t; access = a })
-  given_as_typed a t b e = ap (given_as a) e
+  given_as_typed : (a : Access) (k : Kind) (b : Typed) → b ≡ Some k → given_as a b ≡ Some (formal a k)
+  given_as_typed a k b e = ap (given_as a) e
 
-  place_given : (t : ElanType) (x : PlacePhrase) → Lies t x → GivenFor (record { of = t; access = Var }) (actual.Place x t)
-  place_given t x l = takes_self t Var _ (given_place_is here x t ∙ given_as_typed Var t _ (only_if_holds _ _ t (has_self t _ l) refl))
+  place_given : (k : Kind) (x : PlacePhrase) → Lies k x → GivenFor (formal Var k) (actual.Place x k)
+  place_given k x l = takes_self k Var _ (given_place_is here x k ∙ given_as_typed Var k _ (only_if_holds _ _ k (has_self k _ l) refl))
 
   given_as_good : (at : ℕ) (a : Access) (t : ElanType) (m : Meant) → Good m → delivers t m ≡ true
-      → Gives (GivenFor (record { of = t; access = a })) (r.given_as at a t m)
-  given_as_good at Const t m g e = takes_self t Const _ (given_value_is here (p.value_of m) ∙ given_as_typed Const t _ (ty.value_typed here t m g e))
+      → Gives (GivenFor (formal a (kind_in t))) (r.given_as at a t m)
+  given_as_good at Const t m g e =
+      takes_self (kind_in t) Const _ (given_value_is here (p.value_of m) ∙ given_as_typed Const (kind_in t) _ (ty.value_typed here t m g e))
   given_as_good at Var t m g e =
-      on_bind (Lies t) (GivenFor (record { of = t; access = Var })) (p.variable at m) _ (ty.variable_good here at t m g e) (λ x l. place_given t x l)
+      on_bind (Lies (kind_in t)) (GivenFor (formal Var (kind_in t))) (p.variable at m) _ (ty.variable_good here at t m g e)
+      (λ x l. place_given (kind_in t) x l)
 
-  abbrev AllGiven : List Parameter → List Actual → Type 0
-  AllGiven ps as' = take_all ps (map (actual_type here) as') ≡ true
+  abbrev AllGiven : List Formal → List Actual → Type 0
+  AllGiven fs as' = take_all fs (map (actual_kind here) as') ≡ true
 
-  given_good : (at : ℕ) (ps : List Parameter) (ms : List Meant) → AllGood ms → fit ps ms ≡ true → Gives (AllGiven ps) (r.given at ps ms)
+  given_good : (at : ℕ) (ps : List Parameter) (ms : List Meant) → AllGood ms → fit ps ms ≡ true → Gives (AllGiven (map formal_of ps)) (r.given at ps ms)
   given_good at [] [] g e = refl
   given_good at [] (m ∷ ms) g e = absurd cc
   given_good at (q ∷ ps) [] g e = absurd cc
   given_good at (q ∷ ps) (m ∷ ms) g e =
       let b = both _ _ e in
-      on_bind (GivenFor q) (AllGiven (q ∷ ps)) (r.given_as at q.access q.of m) _ (given_as_good at q.access q.of m g.0 b.0)
-      (λ x h. on_bind (AllGiven ps) (AllGiven (q ∷ ps)) (r.given at ps ms) _ (given_good at ps ms g.1 b.1) (λ xs i. and_true _ _ h i))
+      let fs = map formal_of ps in
+      on_bind (GivenFor (formal_of q)) (AllGiven (formal_of q ∷ fs)) (r.given_as at q.access q.of m) _ (given_as_good at q.access q.of m g.0 b.0)
+      (λ x h. on_bind (AllGiven fs) (AllGiven (formal_of q ∷ fs)) (r.given at ps ms) _ (given_good at ps ms g.1 b.1) (λ xs i. and_true _ _ h i))
 
   -- ---- calls
 
-  taken_holds : (n : ℕ) (b : Body) (ps : List Parameter) (vs : List ElanType) (as' : List Taken) → slice_get here.bodies n ≡ Some b → b.scope ≡ owner.Own ps vs
-      → take_all ps as' ≡ true → taken_by (scope_of (slice_get here.bodies n)) as' ≡ true
-  taken_holds n b ps vs as' e o h =
+  taken_holds : (n : ℕ) (b : Body) (fs : List Formal) (vs : List Kind) (as' : List Taken) → slice_get here.bodies n ≡ Some b → b.scope ≡ owner.Own fs vs
+      → take_all fs as' ≡ true → taken_by (scope_of (slice_get here.bodies n)) as' ≡ true
+  taken_holds n b fs vs as' e o h =
       ap (λ (c : Option Body). taken_by (scope_of c) as') e ∙ ap (λ (z : Owner). taken_by (Some z) as') o ∙ h
 
   pub none_holds : (n : ℕ) (b : Body) → slice_get here.bodies n ≡ Some b → result_of_content b.content ≡ None
       → is_none (delivered_by (slice_get here.bodies n)) ≡ true
   none_holds n b e o = ap (λ (c : Option Body). is_none (delivered_by c)) e ∙ ap is_none o
 
-  pub has_holds : (n : ℕ) (b : Body) (t : ElanType) → slice_get here.bodies n ≡ Some b → result_of_content b.content ≡ Some t
-      → has t (delivered_by (slice_get here.bodies n)) ≡ true
-  has_holds n b t e o = has_self t _ (ap delivered_by e ∙ o)
+  pub has_holds : (n : ℕ) (b : Body) (k : Kind) → slice_get here.bodies n ≡ Some b → result_of_content b.content ≡ Some k
+      → has k (delivered_by (slice_get here.bodies n)) ≡ true
+  has_holds n b k e o = has_self k _ (ap delivered_by e ∙ o)
 
   -- ---- what a callee does with it
 
-  -- It means what has the types that it asks for, where its parameters are given what they take.
+  -- It means what has the kinds that it asks for, where its parameters are given what they take.
   abbrev pub Performs : Callee → List Parameter → Option ElanType → Type 0
-  Performs f ps o = (as' : List Actual) → AllGiven ps as' → (at : ℕ) → Gives Good (r.performed at f o as')
+  Performs f ps o = (as' : List Actual) → AllGiven (map formal_of ps) as' → (at : ℕ) → Gives Good (r.performed at f o as')
 
-  body_performs : (n : ℕ) (b : Body) (ps : List Parameter) (vs : List ElanType) (o : Option ElanType) → slice_get here.bodies n ≡ Some b
-      → b.scope ≡ owner.Own ps vs → result_of_content b.content ≡ o → Performs (Callees.Body n) ps o
+  body_performs : (n : ℕ) (b : Body) (ps : List Parameter) (vs : List Kind) (o : Option ElanType) → slice_get here.bodies n ≡ Some b
+      → b.scope ≡ owner.Own (map formal_of ps) vs → result_of_content b.content ≡ option_map kind_in o → Performs (Callees.Body n) ps o
   body_performs n b ps vs None e z d as' h at =
-      ty.single_typed here (action.Call n as') (action_call_is here n as' ∙ and_true _ _ (taken_holds n b ps vs _ e z h) (none_holds n b e d))
+      ty.single_typed here (action.Call n as') (action_call_is here n as' ∙ and_true _ _ (taken_holds n b (map formal_of ps) vs _ e z h) (none_holds n b e d))
   body_performs n b ps vs (Some t) e z d as' h at =
-      call_is here n as' t ∙ only_if_holds _ _ t (and_true _ _ (taken_holds n b ps vs _ e z h) (has_holds n b t e d)) refl
+      let k = kind_in t in
+      call_is here n as' k ∙ only_if_holds _ _ k (and_true _ _ (taken_holds n b (map formal_of ps) vs _ e z h) (has_holds n b k e d)) refl
 
   -- a value is given for a CONST parameter, a place for a VAR parameter
-  value_has : (t : ElanType) (v : ValuePhrase) → GivenFor (held_const t) (actual.Value v) → has t (type here v) ≡ true
-  value_has t v h = by_type (type here v) (subst (λ (b : Taken). takes (held_const t) b ≡ true) (given_value_is here v) h)
+  value_has : (k : Kind) (v : ValuePhrase) → GivenFor (formal Const k) (actual.Value v) → has k (kind here v) ≡ true
+  value_has k v h = by_kind (kind here v) (subst (λ (b : Taken). takes (formal Const k) b ≡ true) (given_value_is here v) h)
     where
-      by_type : (a : Typed) → takes (held_const t) (given_as Const a) ≡ true → has t a ≡ true
-      by_type None e = absurd cc
-      by_type (Some u) e = (both (same_type t u) _ e).0
+      by_kind : (a : Typed) → takes (formal Const k) (given_as Const a) ≡ true → has k a ≡ true
+      by_kind None e = absurd cc
+      by_kind (Some j) e = (both (same_kind k j) _ e).0
 
-  no_place : (t u : ElanType) (x : PlacePhrase) → GivenFor (held_const t) (actual.Place x u) → ⊥
-  no_place t u x h = by_type (only_if (has u (lies here x)) (Some u)) (subst (λ (b : Taken). takes (held_const t) b ≡ true) (given_place_is here x u) h)
+  no_place : (k j : Kind) (x : PlacePhrase) → GivenFor (formal Const k) (actual.Place x j) → ⊥
+  no_place k j x h = by_kind (only_if (has j (lies here x)) (Some j)) (subst (λ (b : Taken). takes (formal Const k) b ≡ true) (given_place_is here x j) h)
     where
-      by_type : (a : Typed) → takes (held_const t) (given_as Var a) ≡ true → ⊥
-      by_type None e = cc
-      by_type (Some w) e = let f = (both (same_type t w) _ e).1 in cc
+      by_kind : (a : Typed) → takes (formal Const k) (given_as Var a) ≡ true → ⊥
+      by_kind None e = cc
+      by_kind (Some i) e = let f = (both (same_kind k i) _ e).1 in cc
 
-  place_lies : (t u : ElanType) (x : PlacePhrase) → GivenFor (held_var t) (actual.Place x u) → has t (lies here x) ≡ true
-  place_lies t u x h = by_test (has u (lies here x)) refl (subst (λ (b : Taken). takes (held_var t) b ≡ true) (given_place_is here x u) h)
+  place_lies : (k j : Kind) (x : PlacePhrase) → GivenFor (formal Var k) (actual.Place x j) → has k (lies here x) ≡ true
+  place_lies k j x h = by_test (has j (lies here x)) refl (subst (λ (b : Taken). takes (formal Var k) b ≡ true) (given_place_is here x j) h)
     where
-      by_test : (b : Bool) → has u (lies here x) ≡ b → takes (held_var t) (given_as Var (only_if b (Some u))) ≡ true → has t (lies here x) ≡ true
-      by_test true g e = subst (λ (w : ElanType). has w (lies here x) ≡ true) (sym (same_is t u (both (same_type t u) _ e).0)) g
+      by_test : (b : Bool) → has j (lies here x) ≡ b → takes (formal Var k) (given_as Var (only_if b (Some j))) ≡ true → has k (lies here x) ≡ true
+      by_test true g e = subst (λ (i : Kind). has i (lies here x) ≡ true) (sym (kind_is k j (both (same_kind k j) _ e).0)) g
       by_test false g e = absurd cc
 
-  values_have : (ks : List Kind) (as' : List Actual) → AllGiven (values_of ks) as'
-      → have (map type_in ks) (map (type here) (r.values_in as')) ≡ true
+  values_have : (ks : List Kind) (as' : List Actual) → AllGiven (map (formal Const) ks) as' → have ks (map (kind here) (r.values_in as')) ≡ true
   values_have [] [] h = refl
   values_have [] (a ∷ as') h = absurd cc
   values_have (k ∷ ks) [] h = absurd cc
-  values_have (k ∷ ks) (actual.Value v ∷ as') h =
-      let b = both _ _ h in and_true _ _ (value_has (type_in k) v b.0) (values_have ks as' b.1)
-  values_have (k ∷ ks) (actual.Place x u ∷ as') h = absurd (no_place (type_in k) u x (both _ _ h).0)
+  values_have (k ∷ ks) (actual.Value v ∷ as') h = let b = both _ _ h in and_true _ _ (value_has k v b.0) (values_have ks as' b.1)
+  values_have (k ∷ ks) (actual.Place x j ∷ as') h = absurd (no_place k j x (both _ _ h).0)
+
+  -- parameters are given what they take, as a core knows them
+  given_by : (fs gs : List Formal) (as' : List Actual) → fs ≡ gs → AllGiven fs as' → AllGiven gs as'
+  given_by fs gs as' e h = subst (λ (hs : List Formal). AllGiven hs as') e h
 
   predefined_performs : (f : Predefined) → Performs (Callees.Predefined f) (parameters f) (result f)
-  predefined_performs (Operation o) as' h at = apply_is here o (r.values_in as') ∙ only_if_holds _ _ _ (values_have (operand_kinds o) as' h) refl
+  predefined_performs (Operation o) as' h at =
+      let ks = operand_kinds o in
+      let k = result_kind o in
+      apply_is here o (r.values_in as')
+      ∙ only_if_holds _ _ _ (values_have ks as' (given_by _ _ as' (value_formals ks) h)) (ap (λ (j : Kind). Some j) (sym (kind_type k)))
   predefined_performs (Change c) [] h at = tt
   predefined_performs (Change c) (actual.Value v ∷ as') h at = tt
   predefined_performs (Change c) (actual.Place x t ∷ []) h at = tt
   predefined_performs (Change c) (actual.Place x t ∷ actual.Value v ∷ []) h at =
-      let b = both _ _ h in
-      let u = type_in (change_kind c) in
-      ty.single_typed here (action.Modify c x v) (modify_is here c x v ∙ and_true _ _ (place_lies u t x b.0) (value_has u v (both _ _ b.1).0))
+      let k = change_kind c in
+      let b = both _ _ (given_by _ _ (actual.Place x t ∷ actual.Value v ∷ []) (change_formals k) h) in
+      ty.single_typed here (action.Modify c x v) (modify_is here c x v ∙ and_true _ _ (place_lies k t x b.0) (value_has k v (both _ _ b.1).0))
   predefined_performs (Change c) (actual.Place x t ∷ actual.Value v ∷ a ∷ as') h at = tt
   predefined_performs (Change c) (actual.Place x t ∷ actual.Place y u ∷ as') h at = tt
-  predefined_performs (Request q) as' h at = ty.single_typed here (action.Ask q as') (ask_is here q as' ∙ h)
+  predefined_performs (Request q) as' h at =
+      let k = given_by _ _ as' (all_formals (request_kinds q) (request_places q)) h in ty.single_typed here (action.Ask q as') (ask_is here q as' ∙ k)
   predefined_performs ErrorStop [] h at = tt
   predefined_performs ErrorStop (actual.Place x t ∷ as') h at = tt
   predefined_performs ErrorStop (actual.Value v ∷ []) h at =
-      ty.single_typed here (action.ErrorStop v) (error_stop_is here v ∙ value_has Text v (both _ _ h).0)
+      ty.single_typed here (action.ErrorStop v) (error_stop_is here v ∙ value_has kinds.Text v (both _ _ h).0)
   predefined_performs ErrorStop (actual.Value v ∷ a ∷ as') h at = tt
 
   -- ---- what can be called
@@ -242,4 +283,4 @@ module _ (here : Stand) where
 
   pub called_good : (at : ℕ) (c : Callable) (ms : List Meant) → Calls c → AllGood ms → fit c.parameters ms ≡ true → Gives Good (r.called at c ms)
   called_good at c ms h g e =
-      on_bind (AllGiven c.parameters) Good (r.given at c.parameters ms) _ (given_good at c.parameters ms g e) (λ as' i. h as' i at)
+      on_bind (AllGiven (map formal_of c.parameters)) Good (r.given at c.parameters ms) _ (given_good at c.parameters ms g e) (λ as' i. h as' i at)

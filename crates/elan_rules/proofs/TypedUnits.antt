@@ -1,8 +1,11 @@
--- Values, stores, lists of units and bodies have the types that they ask for.
+-- Values, stores, lists of units and bodies have the kinds that they ask for.
 use Rattle.std.proofs.Common.{◌≡◌, ℤ, ℕ, Bool, true, false, if◌then◌else◌, nat_le, List, [], ◌∷◌, length, Option, Some, None, refl, ◌∙◌}
 use Rattle.eu_base.specs.declared.value.TheConstants.{TEXT_BYTES}
 use Rattle.elan_types.specs.declared.elan_type.ElanType.{ElanType}
-use Rattle.elan_types.specs.declared.elan_type.ElanType.TheVariants.{Int, Bool as Truths, Text}
+use Rattle.elan_types.specs.declared.elan_type.ElanType.TheVariants as types
+use Rattle.elan_types.specs.Types.{kind_in}
+use Rattle.eu_base.specs.declared.value.Kind.{Kind}
+use Rattle.eu_base.specs.declared.value.Kind.TheVariants.{Int, Truth as Truths, Text}
 use Rattle.elan_types.specs.declared.core_phrase.PlacePhrase.{PlacePhrase}
 use Rattle.elan_types.specs.declared.core_phrase.ValuePhrase.{ValuePhrase}
 use Rattle.elan_types.specs.declared.core_phrase.ValuePhrase.TheVariants as value
@@ -24,13 +27,13 @@ use Rattle.elan_rules.specs.Rules as rules
 use Rattle.elan_rules.proofs.TypeEquations.{Stand, typed, number_is, truth_is, text_is, value_if_is, value_unit_is, after_is, store_is}
 
 module _ (here : Stand) where
-  abbrev Has : ElanType → ValuePhrase → Type 0
+  abbrev Has : Kind → ValuePhrase → Type 0
   Has = ty.Has here
 
-  abbrev MayHave : ElanType → Option ValuePhrase → Type 0
+  abbrev MayHave : Kind → Option ValuePhrase → Type 0
   MayHave = ty.MayHave here
 
-  abbrev Lies : ElanType → PlacePhrase → Type 0
+  abbrev Lies : Kind → PlacePhrase → Type 0
   Lies = ty.Lies here
 
   abbrev AllTyped : List Action → Type 0
@@ -57,7 +60,7 @@ module _ (here : Stand) where
 
   pub bracketed_good : (at : ℕ) (m : Meant) → Good m → Good (rules.bracketed at m)
   bracketed_good at Absent g = g
-  bracketed_good at (Variable p t x) g = ty.load_typed here t x g
+  bracketed_good at (Variable p t x) g = ty.load_typed here (kind_in t) x g
   bracketed_good at (Value p t v) g = g
   bracketed_good at (Done as') g = g
   bracketed_good at (Left as') g = g
@@ -65,11 +68,11 @@ module _ (here : Stand) where
   bracketed_good at (Bodies bs) g = g
   bracketed_good at (Level us bs) g = g
 
-  pub if_value_typed : (c : ValuePhrase) (t : ElanType) (v w : ValuePhrase) → Has Truths c → Has t v → Has t w → Has t (value.If c v w)
-  if_value_typed c t v w h g k = value_if_is here c v w ∙ only_if_holds _ _ t (and_true _ _ (has_self Truths _ h) (agree_self t _ _ g k)) g
+  pub if_value_typed : (c : ValuePhrase) (k : Kind) (v w : ValuePhrase) → Has Truths c → Has k v → Has k w → Has k (value.If c v w)
+  if_value_typed c k v w h g i = value_if_is here c v w ∙ only_if_holds _ _ k (and_true _ _ (has_self Truths _ h) (agree_self k _ _ g i)) g
 
   truths_typed : (l m : Meant) → Good l → Good m → walk.are_truths l m ≡ true → Has Truths (p.value_of l) × Has Truths (p.value_of m)
-  truths_typed l m g h e = let b = both _ _ e in (ty.value_typed here Truths l g b.0, ty.value_typed here Truths m h b.1)
+  truths_typed l m g h e = let b = both _ _ e in (ty.value_typed here types.Bool l g b.0, ty.value_typed here types.Bool m h b.1)
 
   pub cand_good : (at : ℕ) (l m : Meant) → Good l → Good m → Gives Good (rules.cand at l m)
   cand_good at l m g h =
@@ -84,7 +87,7 @@ module _ (here : Stand) where
   -- ---- stores
 
   abbrev Agreed : ℕ → Meant → Meant → ElanType → Type 0
-  Agreed at l m t = Gives (Lies t) (p.variable at l) × Has t (p.value_of m)
+  Agreed at l m t = Gives (Lies (kind_in t)) (p.variable at l) × Has (kind_in t) (p.value_of m)
 
   pub agreed_good : (at : ℕ) (l m : Meant) → Good l → Good m → Gives (Agreed at l m) (r.agreed at l m)
   agreed_good at Absent m g h = tt
@@ -102,7 +105,8 @@ module _ (here : Stand) where
   pub stored_good : (at : ℕ) (l m : Meant) → Good l → Good m → Gives IsTyped (r.stored at l m)
   stored_good at l m g h =
       on_bind (Agreed at l m) IsTyped (r.agreed at l m) _ (agreed_good at l m g h) (λ t a.
-      on_bind (Lies t) IsTyped (p.variable at l) _ a.0 (λ x k. store_is here x t (p.value_of m) ∙ and_true _ _ (has_self t _ k) (has_self t _ a.1)))
+      on_bind (Lies (kind_in t)) IsTyped (p.variable at l) _ a.0
+      (λ x k. store_is here x (kind_in t) (p.value_of m) ∙ and_true _ _ (has_self (kind_in t) _ k) (has_self (kind_in t) _ a.1)))
 
   pub assigned_good : (at : ℕ) (l m : Meant) → Good l → Good m → Gives Good (r.assigned at l m)
   assigned_good at l m g h =
@@ -130,7 +134,7 @@ module _ (here : Stand) where
   pub ended_good : (as' : List Action) (m : Meant) → AllTyped as' → Good m → Good (r.ended as' m)
   ended_good as' Absent h g = h
   ended_good as' (Variable at t x) h g = h
-  ended_good as' (Value at t v) h g = after_is here as' v ∙ only_if_holds _ _ t h g
+  ended_good as' (Value at t v) h g = after_is here as' v ∙ only_if_holds _ _ (kind_in t) h g
   ended_good as' (Done bs) h g = h
   ended_good as' (Left bs) h g = h
   ended_good as' (Labels ns) h g = h
@@ -142,7 +146,7 @@ module _ (here : Stand) where
 
   pub alone_good : (m : Meant) → Good m → Good (r.alone m)
   alone_good Absent g = ty.unit_typed here [] refl
-  alone_good (Variable at t x) g = value_unit_is here (value.Load x t) ∙ ty.load_typed here t x g
+  alone_good (Variable at t x) g = value_unit_is here (value.Load x (kind_in t)) ∙ ty.load_typed here (kind_in t) x g
   alone_good (Value at t v) g = value_unit_is here v ∙ g
   alone_good (Done as') g = ty.unit_typed here as' g
   alone_good (Left as') g = ty.unit_typed here as' g
@@ -165,30 +169,30 @@ module _ (here : Stand) where
 
   -- ---- bodies
 
-  blank_typed : (t : ElanType) → Has t (p.blank t)
+  blank_typed : (k : Kind) → Has k (p.blank k)
   blank_typed Int = number_is here (pos 0)
   blank_typed Truths = truth_is here false
   blank_typed Text = text_is here []
 
-  pub unreached_typed : (t : ElanType) (as' : List Action) → AllTyped as' → Has t (value.After as' (p.blank t))
-  unreached_typed t as' h = after_is here as' (p.blank t) ∙ only_if_holds _ _ t h (blank_typed t)
+  pub unreached_typed : (t : ElanType) (as' : List Action) → AllTyped as' → Has (kind_in t) (p.unreached as' t)
+  unreached_typed t as' h = after_is here as' (p.blank (kind_in t)) ∙ only_if_holds _ _ (kind_in t) h (blank_typed (kind_in t))
 
-  value_as_typed : (t : ElanType) (m : Meant) → Good m → Has t (if delivers t m then p.value_of m else p.unreached (p.actions m) t)
+  value_as_typed : (t : ElanType) (m : Meant) → Good m → Has (kind_in t) (if delivers t m then p.value_of m else p.unreached (p.actions m) t)
   value_as_typed t m g = by_test (delivers t m) refl
     where
-      by_test : (b : Bool) → delivers t m ≡ b → Has t (if b then p.value_of m else p.unreached (p.actions m) t)
+      by_test : (b : Bool) → delivers t m ≡ b → Has (kind_in t) (if b then p.value_of m else p.unreached (p.actions m) t)
       by_test true e = ty.value_typed here t m g e
       by_test false e = unreached_typed t (p.actions m) (ty.actions_typed here m g)
 
-  -- the units of a body have the types that they ask for
+  -- the units of a body have the kinds that they ask for
   pub content_as_good : (o : Option ElanType) (m : Meant) → Good m → is_content_typed here.variables here.bodies here.home (r.content_as o m) ≡ true
   content_as_good None m g = ty.actions_typed here m g
-  content_as_good (Some t) m g = has_self t _ (value_as_typed t m g)
+  content_as_good (Some t) m g = has_self (kind_in t) _ (value_as_typed t m g)
 
   pub content_of_good : (m : Meant) → Good m → is_content_typed here.variables here.bodies here.home (r.content_of m) ≡ true
   content_of_good Absent g = refl
   content_of_good (Variable at t x) g = refl
-  content_of_good (Value at t v) g = has_self t _ g
+  content_of_good (Value at t v) g = has_self (kind_in t) _ g
   content_of_good (Done as') g = g
   content_of_good (Left as') g = g
   content_of_good (Labels ns) g = refl

@@ -1,8 +1,8 @@
 -- Names in the order in which they are declared.
 use Rattle.std.specs.Prelude.{ℕ, ◌+◌, List, [], ◌∷◌, length, Option, Some, None, if◌then◌else◌}
 use Rattle.std.specs.Str.{bytes_eq}
-use Rattle.elan_types.specs.declared.core_phrase.Parameter.{Parameter}
-use Rattle.elan_types.specs.Typing.{held_const}
+use Rattle.elan_types.specs.declared.elan_type.Parameter.{Parameter}
+use Rattle.elan_types.specs.Types.{held_const}
 use Rattle.elan_scope.specs.declared.scope.Denotes.{Denotes}
 use Rattle.elan_scope.specs.declared.scope.Denotes.TheVariants as denotes
 use Rattle.elan_scope.specs.declared.scope.Entry.{Entry}

@@ -8,8 +8,8 @@ use Rattle.eu_base.specs.declared.operation.Change.TheVariants as change
 use Rattle.eu_base.specs.declared.request.RequestName.TheVariants as request
 use Rattle.eu_base.specs.Operations.{operand_kinds, result_kind, change_kind}
 use Rattle.elan_types.specs.declared.elan_type.ElanType.{ElanType}
-use Rattle.elan_types.specs.declared.core_phrase.Parameter.{Parameter}
-use Rattle.elan_types.specs.Typing.{type_in, held_var, values_of, request_formals}
+use Rattle.elan_types.specs.declared.elan_type.Parameter.{Parameter}
+use Rattle.elan_types.specs.Types.{type_in, held_var, values_of, request_parameters}
 use Rattle.elan_scope.specs.declared.heading.Sort.{Sort}
 use Rattle.elan_scope.specs.declared.heading.Sort.TheVariants.{Procedure, Operator}
 use Rattle.elan_scope.specs.declared.predefined.Predefined.{Predefined}
@@ -52,7 +52,7 @@ predefined =
 abbrev pub parameters : Predefined → List Parameter
 parameters (Operation o) = values_of (operand_kinds o)
 parameters (Change c) = held_var (type_in (change_kind c)) ∷ values_of (change_kind c ∷ [])
-parameters (Request name) = request_formals name
+parameters (Request name) = request_parameters name
 parameters ErrorStop = values_of (kinds.Text ∷ [])
 
 -- the type that each delivers, or nothing

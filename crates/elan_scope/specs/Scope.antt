@@ -6,11 +6,13 @@ use Rattle.std.specs.List.{enumerate_from}
 use lib.Pointwise.{pointwise}
 use Rattle.std.specs.Option.{is_some, option_or, option_map_or}
 use Rattle.std.specs.Str.{bytes_eq}
+use Rattle.eu_base.specs.declared.value.Kind.{Kind}
 use Rattle.elan_types.specs.declared.elan_type.ElanType.{ElanType}
-use Rattle.elan_types.specs.declared.core_phrase.Parameter.{Parameter}
+use Rattle.elan_types.specs.declared.elan_type.Parameter.{Parameter}
 use Rattle.elan_types.specs.declared.core_phrase.Exit.{Exit}
 use Rattle.elan_types.specs.declared.core_phrase.Exit.TheVariants as exits
-use Rattle.elan_types.specs.Typing.{same_type, same_home}
+use Rattle.elan_types.specs.Typing.{same_home}
+use Rattle.elan_types.specs.Types.{same_type, kind_in}
 use Rattle.elan_scope.specs.declared.scope.Denotes.{Denotes}
 use Rattle.elan_scope.specs.declared.scope.Denotes.TheVariants as denotes
 use Rattle.elan_scope.specs.declared.scope.Entry.{Entry}
@@ -41,9 +43,9 @@ all_held es = flat_map (λ e. held e.denotes) es
 abbrev pub types_of : List Parameter → List ElanType
 types_of ps = map (λ p. p.of) ps
 
--- the types of the variables and constants of a level
-abbrev pub variables_of : List Entry → List ElanType
-variables_of es = types_of (all_held es)
+-- the kinds of the variables and constants of a level
+abbrev pub variables_of : List Entry → List Kind
+variables_of es = map kind_in (types_of (all_held es))
 
 -- ---- identifiers without actuals
 

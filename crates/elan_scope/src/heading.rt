@@ -3,7 +3,8 @@
 ghost use Rattle.std.specs.Prelude.{◌≡◌, true, false};
 ghost use Rattle.std.specs.Str.{bytes_eq};
 ghost use lib.Pointwise.{pointwise};
-ghost use Rattle.elan_types.specs.Typing.{same_home, same_type};
+ghost use Rattle.elan_types.specs.Typing.{same_home};
+ghost use Rattle.elan_types.specs.Types.{same_type};
 ghost use Rattle.elan_scope.specs.Scope as spec;
 
 use elan_types::{ElanType, Parameter};

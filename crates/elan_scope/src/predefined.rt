@@ -2,7 +2,7 @@
 
 ghost use Rattle.std.specs.Prelude.{◌≡◌, map};
 ghost use Rattle.eu_base.specs.Operations.{operand_kinds, text_operand_kinds};
-ghost use Rattle.elan_types.specs.Typing.{type_in, values_of, request_formals};
+ghost use Rattle.elan_types.specs.Types.{type_in, values_of, request_parameters};
 ghost use Rattle.elan_scope.specs.Predefined as spec;
 
 use crate::heading::Sort;
@@ -341,7 +341,7 @@ fn text_operands(operation: TextOperation) -> &'static [Parameter]
 
 // A request is given values, or the variable for what it reads.
 fn request_operands(name: RequestName) -> &'static [Parameter]
-    ensures { result.now ≡ request_formals name }
+    ensures { result.now ≡ request_parameters name }
 {
     match name {
         RequestName::PutNumber => &[INT],

@@ -7,7 +7,6 @@ use Rattle.eu_base.specs.declared.request.Reply.{Reply}
 use Rattle.eu_base.specs.Values.{blank_of}
 use Rattle.eu_base.specs.Room.{cells_fit}
 use Rattle.elan_types.specs.declared.core_phrase.Core.{Core}
-use Rattle.elan_types.specs.Typing.{kind_in}
 use Rattle.elan_types.specs.Eval as outcomes
 use Rattle.elan_types.specs.Eval.{Slot, Holds, World, Outcome, branch, Reach, level, all, act}
 
@@ -27,7 +26,7 @@ ending (outcomes.Asks q w) = Asks q w
 
 -- the variables when the command starts
 abbrev pub blank_store : Core → List Slot
-blank_store core = map (λ u. Holds (blank_of (kind_in u))) core.variables
+blank_store core = map (λ k. Holds (blank_of k)) core.variables
 
 abbrev pub at_start : Core → ℕ → List Reply → World
 at_start core marks replies = record { store = blank_store core; marks = marks; replies = replies }

@@ -3,6 +3,7 @@ use Rattle.std.specs.Prelude.{ℕ, zero, suc, ◌+◌, ◌-◌, Bool, true, fals
 use Rattle.std.specs.Prelude.{Ok, Err}
 use Rattle.std.specs.Prelude.{slice_get, slice_index_or, slice_set, ℤ, pos}
 use Rattle.std.specs.Ordering.{int_eq}
+use Rattle.eu_base.specs.declared.value.Kind.{Kind}
 use Rattle.eu_base.specs.declared.value.Value.{Value}
 use Rattle.eu_base.specs.declared.value.Value.TheVariants.{Int, Truth, Text}
 use Rattle.eu_base.specs.declared.stop.Stop.{Stop}
@@ -32,8 +33,6 @@ use Rattle.elan_types.specs.declared.core_phrase.Action.{Action}
 use Rattle.elan_types.specs.declared.core_phrase.Action.TheOpen as t
 use Rattle.elan_types.specs.declared.core_phrase.Action.TheOpen.{Action-F, Actual-F, ValuePhrase-F, Arm-F, ValueArm-F}
 use Rattle.elan_types.specs.declared.core_phrase.Action.TheFolds.{fold-Action, fold-ValuePhrase}
-use Rattle.elan_types.specs.declared.elan_type.ElanType.{ElanType}
-use Rattle.elan_types.specs.Typing.{kind_in}
 
 -- where a value stands: a variable, by its number in the store
 pub record Place : Type 0 where
@@ -360,8 +359,8 @@ content (contents.Units us) n w = bind (all (map act us) n w) (λ _. Gives None)
 content (contents.Value u a) n w = bind (value a n w) (λ v. Gives (Some v))
 
 -- the slots of a call: two, what the parameters hold, and the variables
-abbrev pub frame : List Slot → List ElanType → List Slot
-frame xs variables = Taken ∷ Taken ∷ (xs ++ map (λ u. Holds (blank_of (kind_in u))) variables)
+abbrev pub frame : List Slot → List Kind → List Slot
+frame xs variables = Taken ∷ Taken ∷ (xs ++ map (λ k. Holds (blank_of k)) variables)
 
 -- the slots of a refinement
 abbrev pub link : List Slot
@@ -384,8 +383,8 @@ referred n (Stopped s w) = Stopped s w
 referred n (OutOfMarks w) = OutOfMarks w
 referred n (Asks q w) = Asks q w
 
--- the types of a PROC's own variables
-abbrev pub own_variables : Scope → List ElanType
+-- the kinds of a PROC's own variables
+abbrev pub own_variables : Scope → List Kind
 own_variables (Own parameters variables) = variables
 own_variables _ = []
 

@@ -1,3 +1,4 @@
 pub mod Typing
+pub mod Types
 pub mod Eval
 pub mod Command

@@ -1,7 +1,5 @@
--- The types of phrases, and which cores are well typed.
-use Rattle.std.specs.Prelude.{◌≡◌, ℕ, Bool, true, false, ◌&&◌, ◌==◌, nat_le, List, [], ◌∷◌, ◌++◌, map, length, Option, Some, None, slice_get}
-use Rattle.elan_types.specs.declared.elan_type.ElanType.{ElanType}
-use Rattle.elan_types.specs.declared.elan_type.ElanType.TheVariants as types
+-- The kinds of values that phrases deliver, and which cores are well typed.
+use Rattle.std.specs.Prelude.{◌≡◌, ℕ, Bool, true, false, ◌&&◌, ◌==◌, nat_le, List, [], ◌∷◌, ◌++◌, map, length, Option, Some, None, option_map, slice_get}
 use Rattle.eu_base.specs.declared.value.Kind.{Kind}
 use Rattle.eu_base.specs.declared.value.Kind.TheVariants as kinds
 use Rattle.eu_base.specs.declared.value.TheConstants.{TEXT_BYTES}
@@ -18,7 +16,7 @@ use Rattle.elan_types.specs.declared.core_phrase.Scope.{Scope}
 use Rattle.elan_types.specs.declared.core_phrase.Scope.TheVariants.{Own, Of, Level}
 use Rattle.elan_types.specs.declared.core_phrase.Content.{Content}
 use Rattle.elan_types.specs.declared.core_phrase.Content.TheVariants as contents
-use Rattle.elan_types.specs.declared.core_phrase.Parameter.{Parameter as Formal}
+use Rattle.elan_types.specs.declared.core_phrase.Formal.{Formal}
 use Rattle.elan_types.specs.declared.core_phrase.Body.{Body}
 use Rattle.elan_types.specs.declared.core_phrase.Core.{Core}
 use Rattle.elan_types.specs.declared.core_phrase.ValuePhrase.{ValuePhrase}
@@ -27,40 +25,40 @@ use Rattle.elan_types.specs.declared.core_phrase.Action.TheOpen as t
 use Rattle.elan_types.specs.declared.core_phrase.Action.TheOpen.{Action-F, Actual-F, ValuePhrase-F, Arm-F, ValueArm-F}
 use Rattle.elan_types.specs.declared.core_phrase.Action.TheFolds.{fold-Action, fold-ValuePhrase}
 
--- the type of a phrase, none where it is not well typed
+-- the kind of value that a phrase delivers, none where it is not well typed
 abbrev pub Typed : Type 0
-Typed = Option ElanType
+Typed = Option Kind
 
-abbrev pub same_type : ElanType → ElanType → Bool
-same_type types.Int types.Int = true
-same_type types.Bool types.Bool = true
-same_type types.Text types.Text = true
-same_type _ _ = false
+abbrev pub same_kind : Kind → Kind → Bool
+same_kind kinds.Int kinds.Int = true
+same_kind kinds.Truth kinds.Truth = true
+same_kind kinds.Text kinds.Text = true
+same_kind _ _ = false
 
--- a phrase has this type
-abbrev pub has : ElanType → Typed → Bool
-has t None = false
-has t (Some u) = same_type t u
+-- a phrase has this kind
+abbrev pub has : Kind → Typed → Bool
+has k None = false
+has k (Some j) = same_kind k j
 
--- two phrases have one type
+-- two phrases have one kind
 abbrev pub agree : Typed → Typed → Bool
 agree None b = false
-agree (Some t) b = has t b
+agree (Some k) b = has k b
 
--- a type, where a test holds
+-- a kind, where a test holds
 abbrev pub only_if : Bool → Typed → Typed
 only_if true a = a
 only_if false a = None
 
--- a part that is not written, or has this type
-abbrev pub has_if_written : ElanType → Option Typed → Bool
-has_if_written t None = true
-has_if_written t (Some a) = has t a
+-- a part that is not written, or has this kind
+abbrev pub has_if_written : Kind → Option Typed → Bool
+has_if_written k None = true
+has_if_written k (Some a) = has k a
 
--- phrases have these types, one each
-abbrev pub have : List ElanType → List Typed → Bool
+-- phrases have these kinds, one each
+abbrev pub have : List Kind → List Typed → Bool
 have [] [] = true
-have (t ∷ ts) (a ∷ as') = has t a && have ts as'
+have (k ∷ ks) (a ∷ as') = has k a && have ks as'
 have _ _ = false
 
 abbrev pub all_agree : Typed → List Typed → Bool
@@ -71,43 +69,22 @@ abbrev pub all_true : List Bool → Bool
 all_true [] = true
 all_true (b ∷ bs) = b && all_true bs
 
--- the type of a cell's kind, and back
-abbrev pub type_in : Kind → ElanType
-type_in kinds.Int = types.Int
-type_in kinds.Truth = types.Bool
-type_in kinds.Text = types.Text
-
-abbrev pub kind_in : ElanType → Kind
-kind_in types.Int = kinds.Int
-kind_in types.Bool = kinds.Truth
-kind_in types.Text = kinds.Text
-
 abbrev pub same_access : Access → Access → Bool
 same_access Const Const = true
 same_access Var Var = true
 same_access _ _ = false
 
--- the type of what is held with an access: a variable, constant and CONST parameter hold a value, a VAR parameter the place of one
-abbrev pub type_as : Access → Option Formal → Typed
-type_as access None = None
-type_as access (Some f) = only_if (same_access access f.access) (Some f.of)
+-- the kind of what is held with an access: a variable, constant and CONST parameter hold a value, a VAR parameter the place of one
+abbrev pub kind_as : Access → Option Formal → Typed
+kind_as access None = None
+kind_as access (Some f) = only_if (same_access access f.access) (Some f.kind)
 
-abbrev pub held_const : ElanType → Formal
-held_const u = record { of = u; access = Const }
-
-abbrev pub held_var : ElanType → Formal
-held_var u = record { of = u; access = Var }
-
--- what takes values of these kinds, and variables of these
-abbrev pub values_of : List Kind → List Formal
-values_of kinds = map (λ k. held_const (type_in k)) kinds
-
-abbrev pub variables_of : List Kind → List Formal
-variables_of kinds = map (λ k. held_var (type_in k)) kinds
+abbrev pub formal : Access → Kind → Formal
+formal access k = record { kind = k; access = access }
 
 -- a request takes values, and then variables
 abbrev pub request_formals : RequestName → List Formal
-request_formals name = values_of (request_kinds name) ++ variables_of (request_places name)
+request_formals name = map (formal Const) (request_kinds name) ++ map (formal Var) (request_places name)
 
 -- what a parameter is given, none where it is not well typed
 abbrev pub Taken : Type 0
@@ -115,7 +92,7 @@ Taken = Option Formal
 
 abbrev pub takes : Formal → Taken → Bool
 takes f None = false
-takes f (Some g) = same_type f.of g.of && same_access f.access g.access
+takes f (Some g) = same_kind f.kind g.kind && same_access f.access g.access
 
 -- parameters are given what they take, one each
 abbrev pub take_all : List Formal → List Taken → Bool
@@ -123,27 +100,26 @@ take_all [] [] = true
 take_all (f ∷ fs) (a ∷ as') = takes f a && take_all fs as'
 take_all _ _ = false
 
--- with an access, where there is a type
+-- with an access, where there is a kind
 abbrev pub given_as : Access → Typed → Taken
-given_as access None = None
-given_as access (Some u) = Some (record { of = u; access = access })
+given_as access a = option_map (formal access) a
 
 abbrev pub result_of_content : Content → Typed
 result_of_content (contents.Units us) = None
-result_of_content (contents.Value u a) = Some u
+result_of_content (contents.Value k a) = Some k
 
 abbrev pub is_none : Typed → Bool
 is_none None = true
-is_none (Some u) = false
+is_none (Some k) = false
 
--- a LEAVE can be there, without and with a value of this type
+-- a LEAVE can be there, without and with a value of this kind
 abbrev pub leaves_without : Option Typed → Bool
 leaves_without None = false
-leaves_without (Some u) = is_none u
+leaves_without (Some a) = is_none a
 
-abbrev pub leaves_with : ElanType → Option Typed → Bool
-leaves_with u None = false
-leaves_with u (Some v) = has u v
+abbrev pub leaves_with : Kind → Option Typed → Bool
+leaves_with k None = false
+leaves_with k (Some a) = has k a
 
 -- where a phrase stands: in the units of the level, or in the body with this number
 abbrev pub Home : Type 0
@@ -162,7 +138,7 @@ same_home _ _ = false
 
 -- the parameters and variables of a PROC
 abbrev pub frame_of : Scope → List Formal
-frame_of (Own parameters variables) = parameters ++ map held_const variables
+frame_of (Own parameters variables) = parameters ++ map (formal Const) variables
 frame_of _ = []
 
 abbrev pub scope_of : Option Body → Option Scope
@@ -221,80 +197,80 @@ module _ (bodies : List Body) where
   left_from exits.Body (Some n) = result_of (body_at n)
   left_from exits.Around (Some n) = around (scope_of (body_at n))
 
-module _ (variables : List ElanType) (bodies : List Body) (home : Home) where
+module _ (variables : List Kind) (bodies : List Body) (home : Home) where
   abbrev pub frame_here : List Formal
   frame_here = frame_in bodies (owner bodies home)
 
-  abbrev pub place_type : PlacePhrase → Typed
-  place_type (Variable k) = slice_get variables k
-  place_type (Local k) = type_as Const (slice_get frame_here k)
-  place_type (Parameter k) = type_as Var (slice_get frame_here k)
+  abbrev pub place_kind : PlacePhrase → Typed
+  place_kind (Variable n) = slice_get variables n
+  place_kind (Local n) = kind_as Const (slice_get frame_here n)
+  place_kind (Parameter n) = kind_as Var (slice_get frame_here n)
 
   abbrev pub Layer : (Type 0 → Type 0 → Type 0 → Type 0 → Type 0 → Type 0) → Type 0
   Layer F = F Bool Taken Typed Bool Typed
 
-  -- the type of a phrase from those of its parts
-  abbrev pub value_type_step : Layer ValuePhrase-F → Typed
-  value_type_step (t.Number z) = only_if (in_range z) (Some types.Int)
-  value_type_step (t.Truth b) = Some types.Bool
-  value_type_step (t.Text x) = only_if (nat_le (length x) TEXT_BYTES) (Some types.Text)
-  value_type_step (t.Load p u) = only_if (has u (place_type p)) (Some u)
-  value_type_step (t.Apply op as') = only_if (have (map type_in (operand_kinds op)) as') (Some (type_in (result_kind op)))
-  value_type_step (t.ValuePhrase::If c a b) = only_if (has types.Bool c && agree a b) a
-  value_type_step (t.ValuePhrase::Select v arms other) = only_if (has types.Int v && all_agree other arms) other
-  value_type_step (t.ValuePhrase::Unit a) = a
-  value_type_step (t.After us a) = only_if (all_true us) a
-  value_type_step (t.ValuePhrase::Call p as' u) = only_if (taken_by (scope_of (slice_get bodies p)) as' && has u (delivered_by (slice_get bodies p))) (Some u)
-  value_type_step (t.ValuePhrase::Refer p u) =
-      only_if (refines (owner bodies home) (scope_of (slice_get bodies p)) && has u (delivered_by (slice_get bodies p))) (Some u)
+  -- the kind of a phrase from those of its parts
+  abbrev pub value_kind_step : Layer ValuePhrase-F → Typed
+  value_kind_step (t.Number z) = only_if (in_range z) (Some kinds.Int)
+  value_kind_step (t.Truth b) = Some kinds.Truth
+  value_kind_step (t.Text x) = only_if (nat_le (length x) TEXT_BYTES) (Some kinds.Text)
+  value_kind_step (t.Load p k) = only_if (has k (place_kind p)) (Some k)
+  value_kind_step (t.Apply op as') = only_if (have (operand_kinds op) as') (Some (result_kind op))
+  value_kind_step (t.ValuePhrase::If c a b) = only_if (has kinds.Truth c && agree a b) a
+  value_kind_step (t.ValuePhrase::Select v arms other) = only_if (has kinds.Int v && all_agree other arms) other
+  value_kind_step (t.ValuePhrase::Unit a) = a
+  value_kind_step (t.After us a) = only_if (all_true us) a
+  value_kind_step (t.ValuePhrase::Call p as' k) = only_if (taken_by (scope_of (slice_get bodies p)) as' && has k (delivered_by (slice_get bodies p))) (Some k)
+  value_kind_step (t.ValuePhrase::Refer p k) =
+      only_if (refines (owner bodies home) (scope_of (slice_get bodies p)) && has k (delivered_by (slice_get bodies p))) (Some k)
 
-  abbrev pub actual_type_step : Layer Actual-F → Taken
-  actual_type_step (t.Value a) = given_as Const a
-  actual_type_step (t.Place p u) = given_as Var (only_if (has u (place_type p)) (Some u))
+  abbrev pub actual_kind_step : Layer Actual-F → Taken
+  actual_kind_step (t.Value a) = given_as Const a
+  actual_kind_step (t.Place p k) = given_as Var (only_if (has k (place_kind p)) (Some k))
 
-  abbrev pub value_arm_type_step : Layer ValueArm-F → Typed
-  value_arm_type_step arm = arm.value
+  abbrev pub value_arm_kind_step : Layer ValueArm-F → Typed
+  value_arm_kind_step arm = arm.value
 
-  -- whether an action's parts have the types that it asks for
+  -- whether an action's parts have the kinds that it asks for
   abbrev pub action_typed_step : Layer Action-F → Bool
   action_typed_step (t.Action::Unit us) = all_true us
-  action_typed_step (t.Store p u a) = has u (place_type p) && has u a
-  action_typed_step (t.Modify change p a) = has (type_in (change_kind change)) (place_type p) && has (type_in (change_kind change)) a
-  action_typed_step (t.Action::If c us vs) = has types.Bool c && (all_true us && all_true vs)
-  action_typed_step (t.Action::Select a arms vs) = has types.Int a && (all_true arms && all_true vs)
-  action_typed_step (t.Loop c us u) = has_if_written types.Bool c && (all_true us && has_if_written types.Bool u)
+  action_typed_step (t.Store p k a) = has k (place_kind p) && has k a
+  action_typed_step (t.Modify change p a) = has (change_kind change) (place_kind p) && has (change_kind change) a
+  action_typed_step (t.Action::If c us vs) = has kinds.Truth c && (all_true us && all_true vs)
+  action_typed_step (t.Action::Select a arms vs) = has kinds.Int a && (all_true arms && all_true vs)
+  action_typed_step (t.Loop c us u) = has_if_written kinds.Truth c && (all_true us && has_if_written kinds.Truth u)
   action_typed_step (t.Count p from way limit c us u) =
-      has types.Int (place_type p)
-      && (has types.Int from && (has_if_written types.Int limit && (has_if_written types.Bool c && (all_true us && has_if_written types.Bool u))))
+      has kinds.Int (place_kind p)
+      && (has kinds.Int from && (has_if_written kinds.Int limit && (has_if_written kinds.Truth c && (all_true us && has_if_written kinds.Truth u))))
   action_typed_step (t.Ask name as') = take_all (request_formals name) as'
-  action_typed_step (t.ErrorStop a) = has types.Text a
+  action_typed_step (t.ErrorStop a) = has kinds.Text a
   action_typed_step (t.Action::Call p as') = taken_by (scope_of (slice_get bodies p)) as' && is_none (delivered_by (slice_get bodies p))
   action_typed_step (t.Action::Refer p) = refines (owner bodies home) (scope_of (slice_get bodies p)) && is_none (delivered_by (slice_get bodies p))
   action_typed_step (t.Leave e) = leaves_without (left_from bodies e home)
-  action_typed_step (t.LeaveWith e u a) = has u a && leaves_with u (left_from bodies e home)
+  action_typed_step (t.LeaveWith e k a) = has k a && leaves_with k (left_from bodies e home)
 
   abbrev pub arm_typed_step : Layer Arm-F → Bool
   arm_typed_step arm = all_true arm.units
 
-  -- the type of a phrase
-  abbrev pub type_of : ValuePhrase → Typed
-  type_of = fold-ValuePhrase Bool Taken Typed Bool Typed action_typed_step actual_type_step value_type_step arm_typed_step value_arm_type_step
+  -- the kind of a phrase
+  abbrev pub phrase_kind : ValuePhrase → Typed
+  phrase_kind = fold-ValuePhrase Bool Taken Typed Bool Typed action_typed_step actual_kind_step value_kind_step arm_typed_step value_arm_kind_step
 
   abbrev pub is_typed : Action → Bool
-  is_typed = fold-Action Bool Taken Typed Bool Typed action_typed_step actual_type_step value_type_step arm_typed_step value_arm_type_step
+  is_typed = fold-Action Bool Taken Typed Bool Typed action_typed_step actual_kind_step value_kind_step arm_typed_step value_arm_kind_step
 
-  -- what a body does has the types that it asks for
+  -- what a body does has the kinds that it asks for
   abbrev pub is_content_typed : Content → Bool
   is_content_typed (contents.Units us) = all_true (map is_typed us)
-  is_content_typed (contents.Value u a) = has u (type_of a)
+  is_content_typed (contents.Value k a) = has k (phrase_kind a)
 
 -- a refinement is one of a PROC, or of the level
 abbrev pub IsScope : List Body → Scope → Type 0
 IsScope bodies (Of p) =
-    (b : Body) × ((parameters : List Formal) × ((variables : List ElanType) × (slice_get bodies p ≡ Some b) × (b.scope ≡ Own parameters variables)))
+    (b : Body) × ((parameters : List Formal) × ((variables : List Kind) × (slice_get bodies p ≡ Some b) × (b.scope ≡ Own parameters variables)))
 IsScope bodies _ = Unit {0}
 
--- the core of a text: each phrase has the types that it asks for
+-- the core of a text: each phrase has the kinds that it asks for
 pub record IsWellTyped (core : Core) : Type 0 where
   pub typed : all_true (map (is_typed core.variables core.bodies None) core.units) ≡ true
   pub scopes : (n : ℕ) (b : Body) → slice_get core.bodies n ≡ Some b → IsScope core.bodies b.scope

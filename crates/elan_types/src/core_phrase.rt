@@ -1,14 +1,13 @@
-//! What a text means. Every name is resolved and every phrase has its type, so evaluation and the
-//! making of code go by structure alone.
+//! What a text means. Every name is resolved and every phrase has the kind of its cell, so evaluation and
+//! the making of code go by structure alone. Of types a core knows nothing else.
 
-use crate::elan_type::ElanType;
-use eu_base::{Boxed, Bytes, Change, List, Operation, RequestName, Way};
+use eu_base::{Boxed, Bytes, Change, Kind, List, Operation, RequestName, Way};
 
 /// The meaning of a program.
 #[derive(Drop)]
 pub struct Core {
-    /// The types of the level's variables and constants, in the order of their declarations.
-    pub variables: List<ElanType>,
+    /// The kinds of the level's variables and constants, in the order of their declarations.
+    pub variables: List<Kind>,
     /// The PROCs and refinements. Phrases name them by their numbers here.
     pub bodies: List<Body>,
     /// What the command does, in text order.
@@ -27,10 +26,10 @@ pub struct Body {
 /// What variables a body has.
 #[derive(Drop)]
 pub enum Scope {
-    /// Those of a PROC: its parameters, and behind them the types of its own variables and constants.
+    /// Those of a PROC: its parameters, and behind them the kinds of its own variables and constants.
     Own {
-        parameters: List<Parameter>,
-        variables: List<ElanType>,
+        parameters: List<Formal>,
+        variables: List<Kind>,
     },
     /// Those of the PROC with this number, whose refinement it is.
     Of(usize),
@@ -38,11 +37,11 @@ pub enum Scope {
     Level,
 }
 
-/// A parameter.
+/// A parameter of a PROC.
 #[derive(Clone, Copy, PartialEq, Eq)]
-pub struct Parameter {
-    /// Its type.
-    pub of: ElanType,
+pub struct Formal {
+    /// The kind of the value that it holds, or of the variable.
+    pub kind: Kind,
     /// What it holds.
     pub access: Access,
 }
@@ -61,8 +60,8 @@ pub enum Access {
 pub enum Content {
     /// It delivers nothing.
     Units(List<Action>),
-    /// It delivers a value of a type.
-    Value(ElanType, ValuePhrase),
+    /// It delivers a value of a kind.
+    Value(Kind, ValuePhrase),
 }
 
 /// What a LEAVE leaves.
@@ -85,7 +84,7 @@ pub enum ValuePhrase {
     /// A text, of at most 16,000 bytes.
     Text(Bytes),
     /// What stands at a place.
-    Load(PlacePhrase, ElanType),
+    Load(PlacePhrase, Kind),
     /// The result of an operation, its operands from left to right.
     Apply(Operation, List<ValuePhrase>),
     /// Condition, and the values for TRUE and FALSE. `a CAND b` is b, or else FALSE; `a COR b` is TRUE, or else b.
@@ -94,12 +93,12 @@ pub enum ValuePhrase {
     Select(Boxed<ValuePhrase>, List<ValueArm>, Boxed<ValuePhrase>),
     /// A value that is a unit: it spends a mark first.
     Unit(Boxed<ValuePhrase>),
-    /// Actions, and then a value. Behind a LEAVE stands any value of the type that is asked for; it is never reached.
+    /// Actions, and then a value. Behind a LEAVE stands any value of the kind that is asked for; it is never reached.
     After(List<Action>, Boxed<ValuePhrase>),
     /// What the call of a PROC delivers, its actuals from left to right.
-    Call(usize, List<Actual>, ElanType),
+    Call(usize, List<Actual>, Kind),
     /// What a refinement delivers.
-    Refer(usize, ElanType),
+    Refer(usize, Kind),
 }
 
 /// What a parameter is given.
@@ -108,8 +107,8 @@ pub enum ValuePhrase {
 pub enum Actual {
     /// A value, for a CONST parameter.
     Value(ValuePhrase),
-    /// The place of a variable of this type, for a VAR parameter.
-    Place(PlacePhrase, ElanType),
+    /// The place of a variable of this kind, for a VAR parameter.
+    Place(PlacePhrase, Kind),
 }
 
 /// Labels, and the value that they choose.
@@ -140,7 +139,7 @@ pub enum Action {
     /// A declaration or statement: it spends a mark, and then does each of these.
     Unit(List<Action>),
     /// Stores a value at a place.
-    Store(PlacePhrase, ElanType, ValuePhrase),
+    Store(PlacePhrase, Kind, ValuePhrase),
     /// INCR, DECR and CAT.
     Modify(Change, PlacePhrase, ValuePhrase),
     /// Condition, and what is done for TRUE and FALSE.
@@ -174,7 +173,7 @@ pub enum Action {
     /// LEAVE without a value.
     Leave(Exit),
     /// A LEAVE WITH, and the value that is delivered.
-    LeaveWith(Exit, ElanType, ValuePhrase),
+    LeaveWith(Exit, Kind, ValuePhrase),
 }
 
 /// Labels, and what they choose.

@@ -7,10 +7,10 @@ mod env;
 mod why;
 
 pub use core_phrase::{
-    Access, Action, Actual, Arm, Body, Content, Core, Exit, Parameter, PlacePhrase, Scope,
-    ValueArm, ValuePhrase,
+    Access, Action, Actual, Arm, Body, Content, Core, Exit, Formal, PlacePhrase, Scope, ValueArm,
+    ValuePhrase,
 };
-pub use elan_type::ElanType;
+pub use elan_type::{ElanType, Parameter, formals};
 pub use env::Env;
 pub use eu_base::{Change, Operation, RequestName, Way};
 pub use why::Why;

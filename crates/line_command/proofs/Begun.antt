@@ -9,7 +9,6 @@ use Rattle.eu_base.specs.Values.{blank_of}
 use Rattle.eu_base.specs.Cells.{Cell, Free, Cells, held_of, run_cell, written, AreBare}
 use Rattle.code_form.specs.Machine.{written_from}
 use Rattle.elan_types.specs.declared.core_phrase.Core.{Core}
-use Rattle.elan_types.specs.Typing.{kind_in}
 use Rattle.elan_types.specs.Command.{blank_store}
 use Rattle.place_gen.specs.Correct.{HasVariables}
 use Rattle.zero_calls.proofs.Written.{at_other, behind}
@@ -50,9 +49,9 @@ begun_if room kinds = cond room (written_from 0 (blanks kinds) none) none
 abbrev pub begun : List Kind → Cells
 begun kinds = begun_if (cells_fit (length kinds)) kinds
 
-pub has_begun : (core : Core) → HasVariables (map kind_in core.variables) (blank_store core) (begun (map kind_in core.variables))
+pub has_begun : (core : Core) → HasVariables core.variables (blank_store core) (begun core.variables)
 has_begun core =
-    let kinds = map kind_in core.variables in
+    let kinds = core.variables in
     has_blank core (begun kinds)
     (λ room x k is. let here : x ≡ 0 + x = omega arith in
     ap (λ b. begun_if b kinds (run_cell x)) room ∙ ap (λ y. written_from 0 (blanks kinds) none (run_cell y)) here ∙ made kinds 0 x k none is)

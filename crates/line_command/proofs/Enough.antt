@@ -1,5 +1,5 @@
 -- A program has as many evaluations as it needs, since each of its requests costs a mark.
-use Rattle.std.proofs.Common.{◌≡◌, ℕ, zero, suc, ◌+◌, ◌≤◌, Bool, true, false, cond, List, [], ◌∷◌, ◌++◌, map, length, Some, refl, ap, ◌∙◌, subst, length-append}
+use Rattle.std.proofs.Common.{◌≡◌, ℕ, zero, suc, ◌+◌, ◌≤◌, Bool, true, false, cond, List, [], ◌∷◌, ◌++◌, length, Some, refl, ap, ◌∙◌, subst, length-append}
 use Rattle.std.proofs.Common.{arith}
 use Rattle.std.specs.Prelude.{slice_get}
 use Rattle.eu_base.specs.declared.stop.Stop.TheVariants.{CellRoom}
@@ -22,7 +22,7 @@ use Rattle.code_gen.proofs.Whole.{behaves}
 use Rattle.elan_tree.specs.declared.tree.Tree.{Tree}
 use Rattle.elan_types.specs.declared.env.Env.{Env}
 use Rattle.elan_types.specs.declared.core_phrase.Core.{Core}
-use Rattle.elan_types.specs.Typing.{IsWellTyped, kind_in}
+use Rattle.elan_types.specs.Typing.{IsWellTyped}
 use Rattle.elan_types.specs.Command.{Ending, Ended, Stopped, OutOfMarks, Asks, evaluate, at_start}
 use Rattle.elan_check.specs.Text as tree
 use Rattle.line_command.proofs.Begun.{begun, has_begun}
@@ -100,7 +100,7 @@ start_owes n = by (cells_fit n)
 
 module _ (core : Core) (typed : IsWellTyped core) (marks : ℕ) where
   abbrev first : Cells
-  first = begun (map kind_in core.variables)
+  first = begun core.variables
 
   -- where its evaluation stands at a request, it has spent more marks than it got replies
   fewer_replies : (replies : List Reply) → AsksOnly (evaluate core marks replies) (λ _. length replies + 1 ≤ marks)

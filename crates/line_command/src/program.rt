@@ -1,5 +1,5 @@
 //! Programs that run.
-ghost use Rattle.std.specs.Prelude.{◌≡◌, length, map, IfOk};
+ghost use Rattle.std.specs.Prelude.{◌≡◌, length, IfOk};
 ghost use Rattle.eu_base.specs.Cells.{Free, Cells, HasFaultCause};
 ghost use Rattle.code_form.specs.Machine.{start};
 ghost use Rattle.code_form.specs.Valid.{Fits};
@@ -7,7 +7,7 @@ ghost use Rattle.place_gen.specs.Correct.{HasVariables};
 ghost use Rattle.code_gen.specs.Correct.{Behaves};
 ghost use Rattle.elan_types.specs.declared.core_phrase.Core.{Core};
 ghost use Rattle.elan_types.specs.Command.{blank_store};
-ghost use Rattle.elan_types.specs.Typing.{IsWellTyped, kind_in};
+ghost use Rattle.elan_types.specs.Typing.{IsWellTyped};
 ghost use Rattle.line_command.specs.Program.{reply_to, Shows};
 
 use crate::screen::Screen;
@@ -41,7 +41,7 @@ pub(crate) fn shown<M: Memory>(
 /// Runs code from its start.
 fn run<M: Memory>(alloc: Global, code: &Code, memory: &mut M) -> Result<Bytes, MemFault>
     requires nothing { M.holds memory.old (λ _. Free) }
-    ensures shows { (core : Core) → code.now.variables ≡ map kind_in core.variables → Behaves core code.now → IfOk result (Shows core) }
+    ensures shows { (core : Core) → code.now.variables ≡ core.variables → Behaves core code.now → IfOk result (Shows core) }
     ensures cause { HasFaultCause (M.faults memory.old) (M.faults memory.new) result }
 {
     let mut command = TaskRun::start(alloc, code, memory)?;

@@ -12,11 +12,9 @@ use Rattle.code_form.specs.declared.instr.Instr.TheVariants.{Back}
 use Rattle.code_form.specs.declared.code.Spot.{Spot}
 use Rattle.code_form.specs.Program.{Program}
 use Rattle.code_form.specs.Valid.{Next, pushed_kinds, pushed_operands}
-use Rattle.elan_types.specs.declared.elan_type.ElanType.{ElanType}
-use Rattle.elan_types.specs.declared.elan_type.ElanType.TheVariants as types
 use Rattle.elan_types.specs.declared.core_phrase.Access.TheVariants.{Const, Var}
 use Rattle.elan_types.specs.declared.core_phrase.Exit.TheVariants as exits
-use Rattle.elan_types.specs.declared.core_phrase.Parameter.{Parameter as Formal}
+use Rattle.elan_types.specs.declared.core_phrase.Formal.{Formal}
 use Rattle.elan_types.specs.declared.core_phrase.Body.{Body}
 use Rattle.elan_types.specs.declared.core_phrase.Content.{Content}
 use Rattle.elan_types.specs.declared.core_phrase.Content.TheVariants as contents
@@ -31,14 +29,14 @@ use Rattle.elan_types.specs.declared.core_phrase.Action.TheOpen.{Action-F, Actua
 use Rattle.elan_types.specs.declared.core_phrase.Action.TheFolds.{fold-Actual, fold-Arm, fold-ValueArm, ind-Action, ind-ValuePhrase, map-Action, map-Actual}
 use Rattle.elan_types.specs.declared.core_phrase.Action.TheFolds.{map-ValuePhrase, map-Arm, map-ValueArm, fold-roll-Action, fold-roll-Actual}
 use Rattle.elan_types.specs.declared.core_phrase.Action.TheFolds.{fold-roll-ValuePhrase, fold-roll-Arm, fold-roll-ValueArm}
-use Rattle.elan_types.specs.Typing.{Typed, Taken, Home, has, only_if, place_type, has_if_written, have, all_agree, all_true, take_all, given_as, type_in}
-use Rattle.elan_types.specs.Typing.{kind_in, type_of, is_typed, value_type_step, actual_type_step, value_arm_type_step, action_typed_step, arm_typed_step}
-use Rattle.elan_types.specs.Typing.{is_content_typed, result_of_content, request_formals}
+use Rattle.elan_types.specs.Typing.{Typed, Taken, Home, has, only_if, place_kind, has_if_written, have, all_agree, all_true, take_all, given_as}
+use Rattle.elan_types.specs.Typing.{phrase_kind, is_typed, value_kind_step, actual_kind_step, value_arm_kind_step, action_typed_step, arm_typed_step}
+use Rattle.elan_types.specs.Typing.{is_content_typed, result_of_content, formal, request_formals}
 use Rattle.place_gen.specs.Stretch.{Stretch, Exit, none, one, place_code, keeps, pushes, join, stays, all_code, select_code, while_code, until_code, turn_code}
 use Rattle.place_gen.specs.Stretch.{turns_code, store_code, counted_code, action_code, actual_code, value_code, content_code, action_code_step}
 use Rattle.place_gen.specs.Stretch.{actual_code_step, value_code_step, arm_code_step, value_arm_code_step, arm_code_of, value_arm_code}
 use Rattle.place_gen.specs.Layouts.{parameter_kind}
-use Rattle.place_gen.proofs.Homes.{Delivers, HasPlace, Agrees, IsHome, agree_is, kind_type, place_is, proc_is, part_is, left_is, only_if_is, both}
+use Rattle.place_gen.proofs.Homes.{Delivers, Agrees, IsHome, agree_is, place_is, proc_is, part_is, left_is, only_if_is, both}
 use Rattle.place_gen.proofs.Homes.{has_is, takes_is, formals_take, without_is, with_is, none_is}
 use Rattle.place_gen.proofs.Lines.{HasAt, IsSized, join_sized}
 use Rattle.place_gen.proofs.Tables.{Each, ends_good, leave_fine, Table, ValueTable, ActionTable, above, none_table, join_table, mark_table, number_table}
@@ -50,7 +48,7 @@ use Rattle.place_gen.proofs.LoopTables.{step_to_table, turn_table, loop_table, c
 abbrev fst : {A : Type 0} {B : A → Type 0} → (a : A) × B a → A
 fst x = x.0
 
-module _ (p : Program) (variables : List ElanType) (bodies : List Body) (agrees : Agrees p variables bodies) (home : Home) (is_home : IsHome bodies home) where
+module _ (p : Program) (variables : List Kind) (bodies : List Body) (agrees : Agrees p variables bodies) (home : Home) (is_home : IsHome bodies home) where
   abbrev T : (List OperandKind → List OperandKind) → (List OperandKind → List OperandKind) → Stretch → Type 0
   T = Table p home
 
@@ -63,23 +61,23 @@ module _ (p : Program) (variables : List ElanType) (bodies : List Body) (agrees 
   abbrev typed : Action → Bool
   typed = is_typed variables bodies home
 
-  abbrev typ : ValuePhrase → Typed
-  typ = type_of variables bodies home
+  abbrev kind : ValuePhrase → Typed
+  kind = phrase_kind variables bodies home
 
   abbrev given : Actual → Taken
   given =
-      fold-Actual Bool Taken Typed Bool Typed (action_typed_step variables bodies home) (actual_type_step variables bodies home)
-      (value_type_step variables bodies home) (arm_typed_step variables bodies home) (value_arm_type_step variables bodies home)
+      fold-Actual Bool Taken Typed Bool Typed (action_typed_step variables bodies home) (actual_kind_step variables bodies home)
+      (value_kind_step variables bodies home) (arm_typed_step variables bodies home) (value_arm_kind_step variables bodies home)
 
   abbrev arm_typed : Arm → Bool
   arm_typed =
-      fold-Arm Bool Taken Typed Bool Typed (action_typed_step variables bodies home) (actual_type_step variables bodies home)
-      (value_type_step variables bodies home) (arm_typed_step variables bodies home) (value_arm_type_step variables bodies home)
+      fold-Arm Bool Taken Typed Bool Typed (action_typed_step variables bodies home) (actual_kind_step variables bodies home)
+      (value_kind_step variables bodies home) (arm_typed_step variables bodies home) (value_arm_kind_step variables bodies home)
 
-  abbrev arm_type : ValueArm → Typed
-  arm_type =
-      fold-ValueArm Bool Taken Typed Bool Typed (action_typed_step variables bodies home) (actual_type_step variables bodies home)
-      (value_type_step variables bodies home) (arm_typed_step variables bodies home) (value_arm_type_step variables bodies home)
+  abbrev arm_kind : ValueArm → Typed
+  arm_kind =
+      fold-ValueArm Bool Taken Typed Bool Typed (action_typed_step variables bodies home) (actual_kind_step variables bodies home)
+      (value_kind_step variables bodies home) (arm_typed_step variables bodies home) (value_arm_kind_step variables bodies home)
 
   abbrev Q : Action → Type 0
   Q a = typed a ≡ true → AT (action_code a)
@@ -88,33 +86,30 @@ module _ (p : Program) (variables : List ElanType) (bodies : List Body) (agrees 
   N a = (f : Formal) → given a ≡ Some f → T keeps (pushes (parameter_kind f)) (actual_code a)
 
   abbrev P : ValuePhrase → Type 0
-  P e = (u : ElanType) → typ e ≡ Some u → VT (kind_in u) (value_code e)
+  P e = (u : Kind) → kind e ≡ Some u → VT u (value_code e)
 
   abbrev R : Arm → Type 0
   R a = arm_typed a ≡ true → AT (arm_code_of a).part
 
   abbrev S : ValueArm → Type 0
-  S a = (u : ElanType) → arm_type a ≡ Some u → VT (kind_in u) (value_arm_code a).part
+  S a = (u : Kind) → arm_kind a ≡ Some u → VT u (value_arm_code a).part
 
-  of_kind : {f : Stretch} {k k' : Kind} → k ≡ k' → VT k f → VT k' f
-  of_kind {f} e i = subst (λ k. VT k f) e i
-
-  of_type : {f : Stretch} (v u : ElanType) → Some v ≡ Some u → VT (kind_in v) f → VT (kind_in u) f
-  of_type {f} v u e i = let g : v ≡ u = cc in of_kind (ap kind_in g) i
+  of_kind : {f : Stretch} (v u : Kind) → Some v ≡ Some u → VT v f → VT u f
+  of_kind {f} v u e i = let g : v ≡ u = cc in subst (λ k. VT k f) g i
 
   -- lists of parts
   actions_are : (xs : List ((a : Action) × Q a)) → all_true (map typed (map fst xs)) ≡ true → AT (all_code (map action_code (map fst xs)))
   actions_are [] e = none_table p home keeps
   actions_are (x ∷ xs) e = let f = both _ _ e in join_table p home (x.1 f.0) (actions_are xs f.1)
 
-  values_are : (ks : List Kind) (xs : List ((e : ValuePhrase) × P e)) → have (map type_in ks) (map typ (map fst xs)) ≡ true
+  values_are : (ks : List Kind) (xs : List ((e : ValuePhrase) × P e)) → have ks (map kind (map fst xs)) ≡ true
       → T keeps (pushed_kinds ks) (all_code (map value_code (map fst xs)))
   values_are [] [] e = none_table p home keeps
   values_are [] (x ∷ xs) e = let f : ⊥ = cc in absurd f
   values_are (k ∷ ks) [] e = let f : ⊥ = cc in absurd f
   values_are (k ∷ ks) (x ∷ xs) e =
       let f = both _ _ e in
-      let i = of_kind (kind_type k) (x.1 (type_in k) (has_is (type_in k) _ f.0)) in
+      let i = x.1 k (has_is k _ f.0) in
       join_table p home i (above p home (pushes (OfKind k)) (values_are ks xs f.1))
 
   record Actuals (taken : List OperandKind) (fs : List Stretch) : Type 0 where
@@ -137,8 +132,8 @@ module _ (p : Program) (variables : List ElanType) (bodies : List Body) (agrees 
   arms_are [] g e i = otherwise_table p home i
   arms_are (x ∷ xs) g e i = let f = both _ _ e in arm_table p home (arm_code_of x.0).labels (x.1 f.0) (arms_are xs g f.1 i)
 
-  value_arms_are : (u : ElanType) (xs : List ((a : ValueArm) × S a)) (g : Stretch) (a : Typed) → a ≡ Some u → all_agree a (map arm_type (map fst xs)) ≡ true
-      → VT (kind_in u) g → T (pushes (OfKind kinds.Int)) (pushes (OfKind (kind_in u))) (select_code (map value_arm_code (map fst xs)) g)
+  value_arms_are : (u : Kind) (xs : List ((a : ValueArm) × S a)) (g : Stretch) (a : Typed) → a ≡ Some u → all_agree a (map arm_kind (map fst xs)) ≡ true
+      → VT u g → T (pushes (OfKind kinds.Int)) (pushes (OfKind u)) (select_code (map value_arm_code (map fst xs)) g)
   value_arms_are u [] g a h e i = otherwise_table p home i
   value_arms_are u (x ∷ xs) g a h e i =
       let f = both _ _ e in
@@ -150,8 +145,8 @@ module _ (p : Program) (variables : List ElanType) (bodies : List Body) (agrees 
   abbrev Actions : Type 0
   Actions = List ((a : Action) × Q a)
 
-  abbrev typed_if : ElanType → MaybeValue → Bool
-  typed_if u a = has_if_written u (option_map typ (option_map fst a))
+  abbrev typed_if : Kind → MaybeValue → Bool
+  typed_if u a = has_if_written u (option_map kind (option_map fst a))
 
   abbrev all_typed : Actions → Bool
   all_typed us = all_true (map typed (map fst us))
@@ -162,40 +157,40 @@ module _ (p : Program) (variables : List ElanType) (bodies : List Body) (agrees 
   abbrev codes : Actions → Stretch
   codes us = all_code (map action_code (map fst us))
 
-  while_is : (M : _) (w : MaybeValue) → typed_if types.Bool w ≡ true → ExitTable p home M (while_code (code_if w))
+  while_is : (M : _) (w : MaybeValue) → typed_if kinds.Truth w ≡ true → ExitTable p home M (while_code (code_if w))
   while_is M None e = stays_table p home M (none_table p home keeps)
-  while_is M (Some x) e = while_table p home M (x.1 types.Bool (has_is types.Bool _ e))
+  while_is M (Some x) e = while_table p home M (x.1 kinds.Truth (has_is kinds.Truth _ e))
 
-  until_is : (M : _) (w : MaybeValue) → typed_if types.Bool w ≡ true → ExitTable p home M (until_code (code_if w))
+  until_is : (M : _) (w : MaybeValue) → typed_if kinds.Truth w ≡ true → ExitTable p home M (until_code (code_if w))
   until_is M None e = stays_table p home M (none_table p home keeps)
-  until_is M (Some x) e = until_table p home M (x.1 types.Bool (has_is types.Bool _ e))
+  until_is M (Some x) e = until_table p home M (x.1 kinds.Truth (has_is kinds.Truth _ e))
 
-  turn_is' : (M : _) (w : MaybeValue) (us : Actions) (u : MaybeValue) (s : Exit) → typed_if types.Bool w ≡ true → all_typed us ≡ true
-      → typed_if types.Bool u ≡ true → ExitTable p home M s → ExitTable p home M (turn_code (code_if w) (codes us) (code_if u) s)
+  turn_is' : (M : _) (w : MaybeValue) (us : Actions) (u : MaybeValue) (s : Exit) → typed_if kinds.Truth w ≡ true → all_typed us ≡ true
+      → typed_if kinds.Truth u ≡ true → ExitTable p home M s → ExitTable p home M (turn_code (code_if w) (codes us) (code_if u) s)
   turn_is' M w us u s ew eus eu step = turn_table p home (code_if w) (code_if u) (while_is M w ew) (actions_are us eus) (until_is M u eu) step
 
-  looped_is : (w : MaybeValue) (us : Actions) (u : MaybeValue) → (typed_if types.Bool w && (all_typed us && typed_if types.Bool u)) ≡ true
+  looped_is : (w : MaybeValue) (us : Actions) (u : MaybeValue) → (typed_if kinds.Truth w && (all_typed us && typed_if kinds.Truth u)) ≡ true
       → AT (turns_code (turn_code (code_if w) (codes us) (code_if u) (stays none)))
   looped_is w us u e =
       let f = both _ _ e in
       let g = both _ _ f.1 in
       loop_table p home (turn_is' (λ _. Unit {0}) w us u (stays none) f.0 g.0 g.1 (stays_table p home (λ _. Unit {0}) (none_table p home keeps)))
 
-  counted_is : (q : PlacePhrase) (way : Way) (limit w : MaybeValue) (us : Actions) (u : MaybeValue) → has types.Int (place_type variables bodies home q) ≡ true
-      → typed_if types.Int limit ≡ true → typed_if types.Bool w ≡ true → all_typed us ≡ true → typed_if types.Bool u ≡ true
+  counted_is : (q : PlacePhrase) (way : Way) (limit w : MaybeValue) (us : Actions) (u : MaybeValue) → has kinds.Int (place_kind variables bodies home q) ≡ true
+      → typed_if kinds.Int limit ≡ true → typed_if kinds.Truth w ≡ true → all_typed us ≡ true → typed_if kinds.Truth u ≡ true
       → AT (counted_code q way (code_if limit) (turn_code (code_if w) (codes us) (code_if u)))
   counted_is q way None w us u is e ew eus eu =
-      let place = place_is p variables bodies agrees home is_home q types.Int (has_is types.Int _ is) in
+      let place = place_is p variables bodies agrees home is_home q kinds.Int (has_is kinds.Int _ is) in
       counted_none_table p home (turn_code (code_if w) (codes us) (code_if u)) q way
       (turn_is' (λ _. Unit {0}) w us u _ ew eus eu (step_table p home (λ _. Unit {0}) q place))
   counted_is q way (Some a) w us u is e ew eus eu =
-      let place = place_is p variables bodies agrees home is_home q types.Int (has_is types.Int _ is) in
-      counted_some_table p home (turn_code (code_if w) (codes us) (code_if u)) q way place (a.1 types.Int (has_is types.Int _ e))
+      let place = place_is p variables bodies agrees home is_home q kinds.Int (has_is kinds.Int _ is) in
+      counted_some_table p home (turn_code (code_if w) (codes us) (code_if u)) q way place (a.1 kinds.Int (has_is kinds.Int _ e))
       (turn_is' (AtLeastOne p home) w us u _ ew eus eu (step_to_table p home q way place))
 
   counts_is : (q : PlacePhrase) (from : (e : ValuePhrase) × P e) (way : Way) (limit w : MaybeValue) (us : Actions) (u : MaybeValue)
-      → (has types.Int (place_type variables bodies home q)
-      && (has types.Int (typ from.0) && (typed_if types.Int limit && (typed_if types.Bool w && (all_typed us && typed_if types.Bool u))))) ≡ true
+      → (has kinds.Int (place_kind variables bodies home q)
+      && (has kinds.Int (kind from.0) && (typed_if kinds.Int limit && (typed_if kinds.Truth w && (all_typed us && typed_if kinds.Truth u))))) ≡ true
       → AT (join (store_code q kinds.Int (value_code from.0)) (counted_code q way (code_if limit) (turn_code (code_if w) (codes us) (code_if u))))
   counts_is q from way limit w us u e =
       let f0 = both _ _ e in
@@ -203,36 +198,36 @@ module _ (p : Program) (variables : List ElanType) (bodies : List Body) (agrees 
       let f2 = both _ _ f1.1 in
       let f3 = both _ _ f2.1 in
       let f4 = both _ _ f3.1 in
-      let place = place_is p variables bodies agrees home is_home q types.Int (has_is types.Int _ f0.0) in
-      join_table p home (store_table p home q kinds.Int place (from.1 types.Int (has_is types.Int _ f1.0)))
+      let place = place_is p variables bodies agrees home is_home q kinds.Int (has_is kinds.Int _ f0.0) in
+      join_table p home (store_table p home q kinds.Int place (from.1 kinds.Int (has_is kinds.Int _ f1.0)))
       (counted_is q way limit w us u f0.0 f2.0 f3.0 f4.0 f4.1)
 
   abbrev VLayer : Type 0
   VLayer = ValuePhrase-F ((a : Action) × Q a) ((a : Actual) × N a) ((e : ValuePhrase) × P e) ((a : Arm) × R a) ((a : ValueArm) × S a)
 
-  value_parts : (y : VLayer) (u : ElanType)
-      → value_type_step variables bodies home
-      (map-ValuePhrase _ _ _ _ _ _ _ _ _ _ typed given typ arm_typed arm_type (map-ValuePhrase _ _ _ _ _ _ _ _ _ _ fst fst fst fst fst y)) ≡ Some u
-      → VT (kind_in u) (value_code_step
+  value_parts : (y : VLayer) (u : Kind)
+      → value_kind_step variables bodies home
+      (map-ValuePhrase _ _ _ _ _ _ _ _ _ _ typed given kind arm_typed arm_kind (map-ValuePhrase _ _ _ _ _ _ _ _ _ _ fst fst fst fst fst y)) ≡ Some u
+      → VT u (value_code_step
       (map-ValuePhrase _ _ _ _ _ _ _ _ _ _ action_code actual_code value_code arm_code_of value_arm_code
       (map-ValuePhrase _ _ _ _ _ _ _ _ _ _ fst fst fst fst fst y)))
-  value_parts (t.Number z) u e = let f = only_if_is _ _ u e in of_type types.Int u f.1 (number_table p home z)
-  value_parts (t.Truth b) u e = of_type types.Bool u e (truth_table p home b)
-  value_parts (t.Text x) u e = let f = only_if_is _ _ u e in of_type types.Text u f.1 (text_table p home x)
+  value_parts (t.Number z) u e = let f = only_if_is _ _ u e in of_kind kinds.Int u f.1 (number_table p home z)
+  value_parts (t.Truth b) u e = of_kind kinds.Truth u e (truth_table p home b)
+  value_parts (t.Text x) u e = let f = only_if_is _ _ u e in of_kind kinds.Text u f.1 (text_table p home x)
   value_parts (t.Load q v) u e =
       let f = only_if_is _ _ u e in
-      of_type v u f.1 (load_table p home q (kind_in v) (place_is p variables bodies agrees home is_home q v (has_is v _ f.0)))
+      of_kind v u f.1 (load_table p home q v (place_is p variables bodies agrees home is_home q v (has_is v _ f.0)))
   value_parts (t.Apply op es) u e =
       let f = only_if_is _ _ u e in
-      of_type (type_in (result_kind op)) u f.1 (of_kind (sym (kind_type (result_kind op))) (apply_table p home op (values_are (operand_kinds op) es f.0)))
+      of_kind (result_kind op) u f.1 (apply_table p home op (values_are (operand_kinds op) es f.0))
   value_parts (t.ValuePhrase::If c a b) u e =
       let f = only_if_is _ _ u e in
       let g = both _ _ f.0 in
-      if_table p home (c.1 types.Bool (has_is types.Bool _ g.0)) (a.1 u f.1) (b.1 u (agree_is _ _ u g.1 f.1))
+      if_table p home (c.1 kinds.Truth (has_is kinds.Truth _ g.0)) (a.1 u f.1) (b.1 u (agree_is _ _ u g.1 f.1))
   value_parts (t.ValuePhrase::Select v arms other) u e =
       let f = only_if_is _ _ u e in
       let g = both _ _ f.0 in
-      join_table p home (v.1 types.Int (has_is types.Int _ g.0)) (value_arms_are u arms (value_code other.0) _ f.1 g.1 (other.1 u f.1))
+      join_table p home (v.1 kinds.Int (has_is kinds.Int _ g.0)) (value_arms_are u arms (value_code other.0) _ f.1 g.1 (other.1 u f.1))
   value_parts (t.ValuePhrase::Unit a) u e = join_table p home (mark_table p home) (a.1 u e)
   value_parts (t.After us a) u e = let f = only_if_is _ _ u e in join_table p home (actions_are us f.0) (a.1 u f.1)
   value_parts (t.ValuePhrase::Call q as' v) u e =
@@ -240,65 +235,65 @@ module _ (p : Program) (variables : List ElanType) (bodies : List Body) (agrees 
       let g = both _ _ f.0 in
       let i = proc_is p variables bodies agrees q _ (Some v) g.0 (has_is v _ g.1) in
       let j = actuals_are i.parameters as' i.takes in
-      of_type v u f.1 (call_table p home q i.entry (map parameter_kind i.parameters) i.cells (Some (kind_in v)) (map actual_code (map fst as')) i.has i.own
+      of_kind v u f.1 (call_table p home q i.entry (map parameter_kind i.parameters) i.cells (Some v) (map actual_code (map fst as')) i.has i.own
       i.delivers j.as_many j.table)
   value_parts (t.ValuePhrase::Refer q v) u e =
       let f = only_if_is _ _ u e in
       let g = both _ _ f.0 in
       let i = part_is p variables bodies agrees q home is_home (Some v) g.0 (has_is v _ g.1) in
-      of_type v u f.1 (refer_table p home q i.entry (Some (kind_in v)) i.has i.refinement i.owned i.delivers)
+      of_kind v u f.1 (refer_table p home q i.entry (Some v) i.has i.refinement i.owned i.delivers)
 
   abbrev NLayer : Type 0
   NLayer = Actual-F ((a : Action) × Q a) ((a : Actual) × N a) ((e : ValuePhrase) × P e) ((a : Arm) × R a) ((a : ValueArm) × S a)
 
   actual_parts : (y : NLayer) (f : Formal)
-      → actual_type_step variables bodies home
-      (map-Actual _ _ _ _ _ _ _ _ _ _ typed given typ arm_typed arm_type (map-Actual _ _ _ _ _ _ _ _ _ _ fst fst fst fst fst y)) ≡ Some f
+      → actual_kind_step variables bodies home
+      (map-Actual _ _ _ _ _ _ _ _ _ _ typed given kind arm_typed arm_kind (map-Actual _ _ _ _ _ _ _ _ _ _ fst fst fst fst fst y)) ≡ Some f
       → T keeps (pushes (parameter_kind f))
       (actual_code_step (map-Actual _ _ _ _ _ _ _ _ _ _ action_code actual_code value_code arm_code_of value_arm_code
       (map-Actual _ _ _ _ _ _ _ _ _ _ fst fst fst fst fst y)))
-  actual_parts (t.Value a) f e = value_given a (typ a.0) refl f e
+  actual_parts (t.Value a) f e = value_given a (kind a.0) refl f e
     where
-      value_given : (a : (e : ValuePhrase) × P e) (o : Typed) → typ a.0 ≡ o → (f : Formal) → given_as Const o ≡ Some f
+      value_given : (a : (e : ValuePhrase) × P e) (o : Typed) → kind a.0 ≡ o → (f : Formal) → given_as Const o ≡ Some f
           → T keeps (pushes (parameter_kind f)) (value_code a.0)
       value_given a None is f e = let g : ⊥ = cc in absurd g
       value_given a (Some u) is f e =
-          let g : record { of = u; access = Const } ≡ f = cc in subst (λ f. T keeps (pushes (parameter_kind f)) (value_code a.0)) g (a.1 u is)
-  actual_parts (t.Place q u) f e = place_given (has u (place_type variables bodies home q)) refl f e
+          let g : formal Const u ≡ f = cc in subst (λ f. T keeps (pushes (parameter_kind f)) (value_code a.0)) g (a.1 u is)
+  actual_parts (t.Place q u) f e = place_given (has u (place_kind variables bodies home q)) refl f e
     where
-      place_given : (b : Bool) → has u (place_type variables bodies home q) ≡ b → (f : Formal) → given_as Var (only_if b (Some u)) ≡ Some f
-          → T keeps (pushes (parameter_kind f)) (place_code q (kind_in u))
+      place_given : (b : Bool) → has u (place_kind variables bodies home q) ≡ b → (f : Formal) → given_as Var (only_if b (Some u)) ≡ Some f
+          → T keeps (pushes (parameter_kind f)) (place_code q u)
       place_given false is f e = let g : ⊥ = cc in absurd g
       place_given true is f e =
-          let g : record { of = u; access = Var } ≡ f = cc in
-          subst (λ f. T keeps (pushes (parameter_kind f)) (place_code q (kind_in u))) g
-          (place_table p home q (kind_in u) (place_is p variables bodies agrees home is_home q u (has_is u _ is)))
+          let g : formal Var u ≡ f = cc in
+          subst (λ f. T keeps (pushes (parameter_kind f)) (place_code q u)) g
+          (place_table p home q u (place_is p variables bodies agrees home is_home q u (has_is u _ is)))
 
   abbrev ALayer : Type 0
   ALayer = Action-F ((a : Action) × Q a) ((a : Actual) × N a) ((e : ValuePhrase) × P e) ((a : Arm) × R a) ((a : ValueArm) × S a)
 
   action_parts : (y : ALayer)
       → action_typed_step variables bodies home
-      (map-Action _ _ _ _ _ _ _ _ _ _ typed given typ arm_typed arm_type (map-Action _ _ _ _ _ _ _ _ _ _ fst fst fst fst fst y)) ≡ true
+      (map-Action _ _ _ _ _ _ _ _ _ _ typed given kind arm_typed arm_kind (map-Action _ _ _ _ _ _ _ _ _ _ fst fst fst fst fst y)) ≡ true
       → AT (action_code_step (map-Action _ _ _ _ _ _ _ _ _ _ action_code actual_code value_code arm_code_of value_arm_code
       (map-Action _ _ _ _ _ _ _ _ _ _ fst fst fst fst fst y)))
   action_parts (t.Action::Unit us) e = join_table p home (mark_table p home) (actions_are us e)
   action_parts (t.Store q u a) e =
       let f = both _ _ e in
-      store_table p home q (kind_in u) (place_is p variables bodies agrees home is_home q u (has_is u _ f.0)) (a.1 u (has_is u _ f.1))
+      store_table p home q u (place_is p variables bodies agrees home is_home q u (has_is u _ f.0)) (a.1 u (has_is u _ f.1))
   action_parts (t.Modify change q a) e =
       let f = both _ _ e in
       let k = change_kind change in
-      let place = place_is p variables bodies agrees home is_home q (type_in k) (has_is (type_in k) _ f.0) in
-      modify_table p home change q (subst (HasPlace p home q) (kind_type k) place) (of_kind (kind_type k) (a.1 (type_in k) (has_is (type_in k) _ f.1)))
+      let place = place_is p variables bodies agrees home is_home q k (has_is k _ f.0) in
+      modify_table p home change q place (a.1 k (has_is k _ f.1))
   action_parts (t.Action::If c us vs) e =
       let f = both _ _ e in
       let g = both _ _ f.1 in
-      if_table p home (c.1 types.Bool (has_is types.Bool _ f.0)) (actions_are us g.0) (actions_are vs g.1)
+      if_table p home (c.1 kinds.Truth (has_is kinds.Truth _ f.0)) (actions_are us g.0) (actions_are vs g.1)
   action_parts (t.Action::Select v arms us) e =
       let f = both _ _ e in
       let g = both _ _ f.1 in
-      join_table p home (v.1 types.Int (has_is types.Int _ f.0)) (arms_are arms (all_code (map action_code (map fst us))) g.0 (actions_are us g.1))
+      join_table p home (v.1 kinds.Int (has_is kinds.Int _ f.0)) (arms_are arms (all_code (map action_code (map fst us))) g.0 (actions_are us g.1))
   action_parts (t.Loop None us None) e = looped_is None us None e
   action_parts (t.Loop None us (Some u)) e = looped_is None us (Some u) e
   action_parts (t.Loop (Some w) us None) e = looped_is (Some w) us None e
@@ -315,7 +310,7 @@ module _ (p : Program) (variables : List ElanType) (bodies : List Body) (agrees 
       let j = actuals_are (request_formals name) as' e in
       ask_table p home name (subst (λ ks. T keeps (pushed_operands ks) (all_code (map actual_code (map fst as'))))
       (formals_take (request_kinds name) (request_places name)) j.table)
-  action_parts (t.ErrorStop a) e = error_stop_table p home (a.1 types.Text (has_is types.Text _ e))
+  action_parts (t.ErrorStop a) e = error_stop_table p home (a.1 kinds.Text (has_is kinds.Text _ e))
   action_parts (t.Action::Call q as') e =
       let g = both _ _ e in
       let i = proc_is p variables bodies agrees q _ None g.0 (none_is _ g.1) in
@@ -328,19 +323,19 @@ module _ (p : Program) (variables : List ElanType) (bodies : List Body) (agrees 
   action_parts (t.Leave x) e = leave_table p home x (left_is p variables bodies agrees x home None is_home (without_is _ e))
   action_parts (t.LeaveWith x u a) e =
       let f = both _ _ e in
-      leave_with_table p home x (kind_in u) (left_is p variables bodies agrees x home (Some u) is_home (with_is u _ f.1)) (a.1 u (has_is u _ f.0))
+      leave_with_table p home x u (left_is p variables bodies agrees x home (Some u) is_home (with_is u _ f.1)) (a.1 u (has_is u _ f.0))
 
   arm_parts : (y : Arm-F ((a : Action) × Q a) ((a : Actual) × N a) ((e : ValuePhrase) × P e) ((a : Arm) × R a) ((a : ValueArm) × S a))
       → arm_typed_step variables bodies home
-      (map-Arm _ _ _ _ _ _ _ _ _ _ typed given typ arm_typed arm_type (map-Arm _ _ _ _ _ _ _ _ _ _ fst fst fst fst fst y)) ≡ true
+      (map-Arm _ _ _ _ _ _ _ _ _ _ typed given kind arm_typed arm_kind (map-Arm _ _ _ _ _ _ _ _ _ _ fst fst fst fst fst y)) ≡ true
       → AT (arm_code_step (map-Arm _ _ _ _ _ _ _ _ _ _ action_code actual_code value_code arm_code_of value_arm_code
       (map-Arm _ _ _ _ _ _ _ _ _ _ fst fst fst fst fst y))).part
   arm_parts y e = actions_are y.units e
 
-  value_arm_parts : (y : ValueArm-F ((a : Action) × Q a) ((a : Actual) × N a) ((e : ValuePhrase) × P e) ((a : Arm) × R a) ((a : ValueArm) × S a)) (u : ElanType)
-      → value_arm_type_step variables bodies home
-      (map-ValueArm _ _ _ _ _ _ _ _ _ _ typed given typ arm_typed arm_type (map-ValueArm _ _ _ _ _ _ _ _ _ _ fst fst fst fst fst y)) ≡ Some u
-      → VT (kind_in u) (value_arm_code_step
+  value_arm_parts : (y : ValueArm-F ((a : Action) × Q a) ((a : Actual) × N a) ((e : ValuePhrase) × P e) ((a : Arm) × R a) ((a : ValueArm) × S a)) (u : Kind)
+      → value_arm_kind_step variables bodies home
+      (map-ValueArm _ _ _ _ _ _ _ _ _ _ typed given kind arm_typed arm_kind (map-ValueArm _ _ _ _ _ _ _ _ _ _ fst fst fst fst fst y)) ≡ Some u
+      → VT u (value_arm_code_step
       (map-ValueArm _ _ _ _ _ _ _ _ _ _ action_code actual_code value_code arm_code_of value_arm_code
       (map-ValueArm _ _ _ _ _ _ _ _ _ _ fst fst fst fst fst y))).part
   value_arm_parts y u e = y.value.1 u e
@@ -380,7 +375,7 @@ module _ (p : Program) (variables : List ElanType) (bodies : List Body) (agrees 
     pub sized : IsSized f
     pub good : (pc : ℕ) (m : Spot) → m.body ≡ home → HasAt p.lines pc (f.lines [] m pc) → Next p.lines pc [] m × Each p pc (f.lines [] m pc)
 
-  pub content_is : (c : Content) → is_content_typed variables bodies home c ≡ true → Delivers p home (option_map kind_in (result_of_content c))
+  pub content_is : (c : Content) → is_content_typed variables bodies home c ≡ true → Delivers p home (result_of_content c)
       → IsGood (content_code c)
   content_is (contents.Units us) e left =
       let i = all_are us e in
@@ -390,10 +385,9 @@ module _ (p : Program) (variables : List ElanType) (bodies : List Body) (agrees 
       }
   content_is (contents.Value u a) e left =
       let i = value_is a u (has_is u _ e) in
-      let k = kind_in u in
       record {
-        sized = join_sized (value_code a) (one (Back (Some k)) (drop 1)) i.sized (λ ks m pc. refl);
+        sized = join_sized (value_code a) (one (Back (Some u)) (drop 1)) i.sized (λ ks m pc. refl);
         good =
-            λ pc m is has. ends_good p home (Back (Some k)) (drop 1) i pc [] m is
-            (λ q. leave_fine p home exits.Body (Some k) left q (OfKind k ∷ []) m is ([], refl)) has;
+            λ pc m is has. ends_good p home (Back (Some u)) (drop 1) i pc [] m is
+            (λ q. leave_fine p home exits.Body (Some u) left q (OfKind u ∷ []) m is ([], refl)) has;
       }

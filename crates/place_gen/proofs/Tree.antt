@@ -14,10 +14,8 @@ use Rattle.eu_base.specs.Requests.{request_kinds, request_places}
 use Rattle.eu_base.proofs.Results.{fits_in_range}
 use Rattle.code_form.specs.declared.operand.Operand.{Operand}
 use Rattle.code_form.specs.Program.{Program}
-use Rattle.elan_types.specs.declared.elan_type.ElanType.{ElanType}
-use Rattle.elan_types.specs.declared.elan_type.ElanType.TheVariants as types
 use Rattle.elan_types.specs.declared.core_phrase.PlacePhrase.{PlacePhrase}
-use Rattle.elan_types.specs.declared.core_phrase.Parameter.{Parameter as Formal}
+use Rattle.elan_types.specs.declared.core_phrase.Formal.{Formal}
 use Rattle.elan_types.specs.declared.core_phrase.Access.{Access}
 use Rattle.elan_types.specs.declared.core_phrase.Access.TheVariants.{Const, Var}
 use Rattle.elan_types.specs.declared.core_phrase.Body.{Body}
@@ -31,9 +29,9 @@ use Rattle.elan_types.specs.declared.core_phrase.Action.TheOpen.{Action-F, Actua
 use Rattle.elan_types.specs.declared.core_phrase.Action.TheFolds.{fold-Actual, fold-Arm, fold-ValueArm, ind-Action, ind-ValuePhrase, map-Action, map-Actual}
 use Rattle.elan_types.specs.declared.core_phrase.Action.TheFolds.{map-ValuePhrase, map-Arm, map-ValueArm, fold-roll-Action, fold-roll-Actual}
 use Rattle.elan_types.specs.declared.core_phrase.Action.TheFolds.{fold-roll-ValuePhrase, fold-roll-Arm, fold-roll-ValueArm}
-use Rattle.elan_types.specs.Typing.{Typed, Home, has, has_if_written, have, all_agree, all_true, type_in, kind_in, Taken, take_all, given_as, place_type}
-use Rattle.elan_types.specs.Typing.{request_formals}
-use Rattle.elan_types.specs.Typing.{type_of, is_typed, value_type_step, value_arm_type_step, actual_type_step, action_typed_step, arm_typed_step}
+use Rattle.elan_types.specs.Typing.{Typed, Home, has, has_if_written, have, all_agree, all_true, Taken, take_all, given_as, place_kind}
+use Rattle.elan_types.specs.Typing.{formal, request_formals}
+use Rattle.elan_types.specs.Typing.{phrase_kind, is_typed, value_kind_step, value_arm_kind_step, actual_kind_step, action_typed_step, arm_typed_step}
 use Rattle.elan_types.specs.Eval.{Run, Slot, Labelled, bind, stored, turns, holds, branch, counted, all, values, selected, while_true, until_true, turn, go_on}
 use Rattle.elan_types.specs.Eval.{act, value, action_step, actual_step, value_step, arm_step, value_arm_step}
 use Rattle.place_gen.specs.Stretch.{Stretch, none, join, stays, turns_code, store_code, all_code, arm_code, select_code, while_code, until_code, turn_code}
@@ -50,36 +48,36 @@ use Rattle.place_gen.proofs.Calls.{refer_value_is, refer_action_is, leave_is, le
 use Rattle.place_gen.proofs.Requests.{ask_is}
 use Rattle.place_gen.proofs.Loops.{IsExit, Under, while_none, while_some, until_none, until_some, go_on_is, turn_is, loop_is, step_is, step_to_is}
 use Rattle.place_gen.proofs.Limits.{counted_none_is, counted_some_is}
-use Rattle.place_gen.proofs.Homes.{Agrees, IsHome, place_is as has_place, proc_is, part_is, left_is, only_if_is, both, has_is, agree_is, kind_type, takes_is}
-use Rattle.place_gen.proofs.Homes.{HasPlace, formals_take, without_is, with_is, none_is}
+use Rattle.place_gen.proofs.Homes.{Agrees, IsHome, place_is as has_place, proc_is, part_is, left_is, only_if_is, both, has_is, agree_is, takes_is}
+use Rattle.place_gen.proofs.Homes.{formals_take, without_is, with_is, none_is}
 
 abbrev fst : {A : Type 0} {B : A → Type 0} → (a : A) × B a → A
 fst x = x.0
 
-module _ (p : Program) (variables : List ElanType) (bodies : List Body) (agrees : Agrees p variables bodies) (home : Home) (is_home : IsHome bodies home) where
+module _ (p : Program) (variables : List Kind) (bodies : List Body) (agrees : Agrees p variables bodies) (home : Home) (is_home : IsHome bodies home) where
   abbrev typed : Action → Bool
   typed = is_typed variables bodies home
 
-  abbrev type : ValuePhrase → Typed
-  type = type_of variables bodies home
+  abbrev kind : ValuePhrase → Typed
+  kind = phrase_kind variables bodies home
 
   abbrev Layer : (Type 0 → Type 0 → Type 0 → Type 0 → Type 0 → Type 0) → Type 0
   Layer F = F Bool Taken Typed Bool Typed
 
-  abbrev actual_type : Actual → Taken
-  actual_type =
-      fold-Actual Bool Taken Typed Bool Typed (action_typed_step variables bodies home) (actual_type_step variables bodies home)
-      (value_type_step variables bodies home) (arm_typed_step variables bodies home) (value_arm_type_step variables bodies home)
+  abbrev actual_kind : Actual → Taken
+  actual_kind =
+      fold-Actual Bool Taken Typed Bool Typed (action_typed_step variables bodies home) (actual_kind_step variables bodies home)
+      (value_kind_step variables bodies home) (arm_typed_step variables bodies home) (value_arm_kind_step variables bodies home)
 
   abbrev arm_typed : Arm → Bool
   arm_typed =
-      fold-Arm Bool Taken Typed Bool Typed (action_typed_step variables bodies home) (actual_type_step variables bodies home)
-      (value_type_step variables bodies home) (arm_typed_step variables bodies home) (value_arm_type_step variables bodies home)
+      fold-Arm Bool Taken Typed Bool Typed (action_typed_step variables bodies home) (actual_kind_step variables bodies home)
+      (value_kind_step variables bodies home) (arm_typed_step variables bodies home) (value_arm_kind_step variables bodies home)
 
-  abbrev arm_type : ValueArm → Typed
-  arm_type =
-      fold-ValueArm Bool Taken Typed Bool Typed (action_typed_step variables bodies home) (actual_type_step variables bodies home)
-      (value_type_step variables bodies home) (arm_typed_step variables bodies home) (value_arm_type_step variables bodies home)
+  abbrev arm_kind : ValueArm → Typed
+  arm_kind =
+      fold-ValueArm Bool Taken Typed Bool Typed (action_typed_step variables bodies home) (actual_kind_step variables bodies home)
+      (value_kind_step variables bodies home) (arm_typed_step variables bodies home) (value_arm_kind_step variables bodies home)
 
   abbrev actual_run : Actual → Run Slot
   actual_run =
@@ -106,10 +104,10 @@ module _ (p : Program) (variables : List ElanType) (bodies : List Body) (agrees 
   Q a = typed a ≡ true → ActionOk (act a) (action_code a)
 
   abbrev O : Actual → Type 0
-  O a = (f : Formal) → actual_type a ≡ Some f → IsActual p home (parameter_kind f) (actual_run a) (actual_code a)
+  O a = (f : Formal) → actual_kind a ≡ Some f → IsActual p home (parameter_kind f) (actual_run a) (actual_code a)
 
   abbrev P : ValuePhrase → Type 0
-  P e = (u : ElanType) → type e ≡ Some u → ValueOk (kind_in u) (value e) (value_code e)
+  P e = (u : Kind) → kind e ≡ Some u → ValueOk u (value e) (value_code e)
 
   pub record ArmIs {A : Type 0} (Good : Uses → A → Type 0) (push : A → List Operand → List Operand) (x : Labelled (Run A)) (f : Labelled Stretch) : Type 0 where
     pub labels : x.labels ≡ f.labels
@@ -119,13 +117,10 @@ module _ (p : Program) (variables : List ElanType) (bodies : List Body) (agrees 
   R a = arm_typed a ≡ true → ArmIs Any no_more (arm_run a) (arm_code_of a)
 
   abbrev S : ValueArm → Type 0
-  S a = (u : ElanType) → arm_type a ≡ Some u → ArmIs (OfKind (kind_in u)) keep (value_arm_run a) (value_arm_code a)
+  S a = (u : Kind) → arm_kind a ≡ Some u → ArmIs (OfKind u) keep (value_arm_run a) (value_arm_code a)
 
-  of_kind : {x : Run Value} {f : Stretch} {k k' : Kind} → k ≡ k' → ValueOk k x f → ValueOk k' x f
-  of_kind {x} {f} e i = subst (λ k. ValueOk k x f) e i
-
-  of_type : {x : Run Value} {f : Stretch} (v u : ElanType) → Some v ≡ Some u → ValueOk (kind_in v) x f → ValueOk (kind_in u) x f
-  of_type {x} {f} v u e i = let g : v ≡ u = cc in of_kind (ap kind_in g) i
+  of_kind : {x : Run Value} {f : Stretch} (v u : Kind) → Some v ≡ Some u → ValueOk v x f → ValueOk u x f
+  of_kind {x} {f} v u e i = let g : v ≡ u = cc in subst (λ k. ValueOk k x f) g i
 
   -- lists of parts
   abbrev Actions : Type 0
@@ -135,17 +130,17 @@ module _ (p : Program) (variables : List ElanType) (bodies : List Body) (agrees 
   actions_are [] e = nothing_is p home
   actions_are (x ∷ xs) e = let f = both _ _ e in then_is p home (x.1 f.0) (actions_are xs f.1)
 
-  values_are : (ks : List Kind) (xs : List ((e : ValuePhrase) × P e)) → have (map type_in ks) (map type (map fst xs)) ≡ true
+  values_are : (ks : List Kind) (xs : List ((e : ValuePhrase) × P e)) → have ks (map kind (map fst xs)) ≡ true
       → Is p home (AllOf ks) pushed (values (map value (map fst xs))) (all_code (map value_code (map fst xs)))
   values_are [] [] e = no_values_are p home
   values_are [] (x ∷ xs) e = let f : ⊥ = cc in absurd f
   values_are (k ∷ ks) [] e = let f : ⊥ = cc in absurd f
   values_are (k ∷ ks) (x ∷ xs) e =
       let f = both _ _ e in
-      more_values_are p home k ks (value x.0) (map value (map fst xs)) (of_kind (kind_type k) (x.1 (type_in k) (has_is (type_in k) _ f.0)))
+      more_values_are p home k ks (value x.0) (map value (map fst xs)) (x.1 k (has_is k _ f.0))
       (values_are ks xs f.1)
 
-  actuals_are : (fs : List Formal) (xs : List ((a : Actual) × O a)) → take_all fs (map actual_type (map fst xs)) ≡ true
+  actuals_are : (fs : List Formal) (xs : List ((a : Actual) × O a)) → take_all fs (map actual_kind (map fst xs)) ≡ true
       → AreActuals p home (map parameter_kind fs) (map actual_run (map fst xs)) (all_code (map actual_code (map fst xs)))
   actuals_are [] [] e = no_actuals_are p home
   actuals_are [] (x ∷ xs) e = let f : ⊥ = cc in absurd f
@@ -167,9 +162,9 @@ module _ (p : Program) (variables : List ElanType) (bodies : List Body) (agrees 
   arms_are [] y g e i = otherwise_is p home i
   arms_are (x ∷ xs) y g e i = let f = both _ _ e in arm_choice (arm_run x.0) (arm_code_of x.0) (x.1 f.0) (arms_are xs y g f.1 i)
 
-  value_arms_are : (u : ElanType) (xs : List ((a : ValueArm) × S a)) (y : Run Value) (g : Stretch) (a : Typed) → a ≡ Some u
-      → all_agree a (map arm_type (map fst xs)) ≡ true → ValueOk (kind_in u) y g
-      → IsChoice p home (OfKind (kind_in u)) keep (λ z. selected z (map value_arm_run (map fst xs)) y) (select_code (map value_arm_code (map fst xs)) g)
+  value_arms_are : (u : Kind) (xs : List ((a : ValueArm) × S a)) (y : Run Value) (g : Stretch) (a : Typed) → a ≡ Some u
+      → all_agree a (map arm_kind (map fst xs)) ≡ true → ValueOk u y g
+      → IsChoice p home (OfKind u) keep (λ z. selected z (map value_arm_run (map fst xs)) y) (select_code (map value_arm_code (map fst xs)) g)
   value_arms_are u [] y g a h e i = otherwise_is p home i
   value_arms_are u (x ∷ xs) y g a h e i =
       let f = both _ _ e in
@@ -179,8 +174,8 @@ module _ (p : Program) (variables : List ElanType) (bodies : List Body) (agrees 
   abbrev MaybeValue : Type 0
   MaybeValue = Option ((e : ValuePhrase) × P e)
 
-  abbrev typed_if : ElanType → MaybeValue → Bool
-  typed_if u a = has_if_written u (option_map type (option_map fst a))
+  abbrev typed_if : Kind → MaybeValue → Bool
+  typed_if u a = has_if_written u (option_map kind (option_map fst a))
 
   abbrev all_typed : Actions → Bool
   all_typed us = all_true (map typed (map fst us))
@@ -197,15 +192,15 @@ module _ (p : Program) (variables : List ElanType) (bodies : List Body) (agrees 
   abbrev codes : Actions → Stretch
   codes us = all_code (map action_code (map fst us))
 
-  while_is : (L : Uses → Type 0) (w : MaybeValue) → typed_if types.Bool w ≡ true → IsExit p home L (while_true (run_if w)) (while_code (code_if w))
+  while_is : (L : Uses → Type 0) (w : MaybeValue) → typed_if kinds.Truth w ≡ true → IsExit p home L (while_true (run_if w)) (while_code (code_if w))
   while_is L None e = while_none p home L
-  while_is L (Some x) e = while_some p home L (x.1 types.Bool (has_is types.Bool _ e))
+  while_is L (Some x) e = while_some p home L (x.1 kinds.Truth (has_is kinds.Truth _ e))
 
-  until_is : (L : Uses → Type 0) (w : MaybeValue) → typed_if types.Bool w ≡ true → IsExit p home L (until_true (run_if w)) (until_code (code_if w))
+  until_is : (L : Uses → Type 0) (w : MaybeValue) → typed_if kinds.Truth w ≡ true → IsExit p home L (until_true (run_if w)) (until_code (code_if w))
   until_is L None e = until_none p home L
-  until_is L (Some x) e = until_some p home L (x.1 types.Bool (has_is types.Bool _ e))
+  until_is L (Some x) e = until_some p home L (x.1 kinds.Truth (has_is kinds.Truth _ e))
 
-  looped_is : (w : MaybeValue) (us : Actions) (u : MaybeValue) → (typed_if types.Bool w && (all_typed us && typed_if types.Bool u)) ≡ true
+  looped_is : (w : MaybeValue) (us : Actions) (u : MaybeValue) → (typed_if kinds.Truth w && (all_typed us && typed_if kinds.Truth u)) ≡ true
       → ActionOk (λ r. turns r.turns (turn (run_if w) (runs us) (run_if u) go_on r)) (turns_code (turn_code (code_if w) (codes us) (code_if u) (stays none)))
   looped_is w us u e =
       let f = both _ _ e in
@@ -213,24 +208,24 @@ module _ (p : Program) (variables : List ElanType) (bodies : List Body) (agrees 
       loop_is p home (turn_is p home (run_if w) (run_if u) (code_if w) (code_if u) (while_is (λ _. Unit {0}) w f.0) (actions_are us g.0)
       (until_is (λ _. Unit {0}) u g.1) (go_on_is p home (λ _. Unit {0})))
 
-  counted_is : (q : PlacePhrase) (way : Way) (limit w : MaybeValue) (us : Actions) (u : MaybeValue) → place_type variables bodies home q ≡ Some types.Int
-      → typed_if types.Int limit ≡ true → typed_if types.Bool w ≡ true → all_typed us ≡ true → typed_if types.Bool u ≡ true
+  counted_is : (q : PlacePhrase) (way : Way) (limit w : MaybeValue) (us : Actions) (u : MaybeValue) → place_kind variables bodies home q ≡ Some kinds.Int
+      → typed_if kinds.Int limit ≡ true → typed_if kinds.Truth w ≡ true → all_typed us ≡ true → typed_if kinds.Truth u ≡ true
       → ActionOk (counted q way (run_if limit) (turn (run_if w) (runs us) (run_if u)))
       (counted_code q way (code_if limit) (turn_code (code_if w) (codes us) (code_if u)))
   counted_is q way None w us u is e ew eus eu =
       counted_none_is p home (turn (run_if w) (runs us) (run_if u)) (turn_code (code_if w) (codes us) (code_if u)) q way
       (turn_is p home (run_if w) (run_if u) (code_if w) (code_if u) (while_is (λ _. Unit {0}) w ew) (actions_are us eus) (until_is (λ _. Unit {0}) u eu)
-      (step_is p home (λ _. Unit {0}) q (has_place p variables bodies agrees home is_home q types.Int is)))
+      (step_is p home (λ _. Unit {0}) q (has_place p variables bodies agrees home is_home q kinds.Int is)))
   counted_is q way (Some a) w us u is e ew eus eu =
-      let at' = has_place p variables bodies agrees home is_home q types.Int is in
+      let at' = has_place p variables bodies agrees home is_home q kinds.Int is in
       counted_some_is p home (turn (run_if w) (runs us) (run_if u)) (turn_code (code_if w) (codes us) (code_if u)) q way at'
-      (a.1 types.Int (has_is types.Int _ e)) (λ (limit : ℤ) (fits : FitsSigned w16 limit).
+      (a.1 kinds.Int (has_is kinds.Int _ e)) (λ (limit : ℤ) (fits : FitsSigned w16 limit).
       turn_is p home (run_if w) (run_if u) (code_if w) (code_if u) (while_is (Under p home limit) w ew) (actions_are us eus)
       (until_is (Under p home limit) u eu) (step_to_is p home q way limit at' fits))
 
   counts_is : (q : PlacePhrase) (from : (e : ValuePhrase) × P e) (way : Way) (limit w : MaybeValue) (us : Actions) (u : MaybeValue)
-      → (has types.Int (place_type variables bodies home q)
-      && (has types.Int (type from.0) && (typed_if types.Int limit && (typed_if types.Bool w && (all_typed us && typed_if types.Bool u))))) ≡ true
+      → (has kinds.Int (place_kind variables bodies home q)
+      && (has kinds.Int (kind from.0) && (typed_if kinds.Int limit && (typed_if kinds.Truth w && (all_typed us && typed_if kinds.Truth u))))) ≡ true
       → ActionOk (λ r w'. bind (stored q (value from.0) r w') (λ _. counted q way (run_if limit) (turn (run_if w) (runs us) (run_if u)) r))
       (join (store_code q kinds.Int (value_code from.0)) (counted_code q way (code_if limit) (turn_code (code_if w) (codes us) (code_if u))))
   counts_is q from way limit w us u e =
@@ -239,9 +234,9 @@ module _ (p : Program) (variables : List ElanType) (bodies : List Body) (agrees 
       let f2 = both _ _ f1.1 in
       let f3 = both _ _ f2.1 in
       let f4 = both _ _ f3.1 in
-      let is = has_is types.Int _ f0.0 in
-      then_is p home (store_is p home q kinds.Int (has_place p variables bodies agrees home is_home q types.Int is)
-      (from.1 types.Int (has_is types.Int _ f1.0))) (counted_is q way limit w us u is f2.0 f3.0 f4.0 f4.1)
+      let is = has_is kinds.Int _ f0.0 in
+      then_is p home (store_is p home q kinds.Int (has_place p variables bodies agrees home is_home q kinds.Int is)
+      (from.1 kinds.Int (has_is kinds.Int _ f1.0))) (counted_is q way limit w us u is f2.0 f3.0 f4.0 f4.1)
 
   -- what is known of the layer of a phrase, where its parts are known
   abbrev Known : (Type 0 → Type 0 → Type 0 → Type 0 → Type 0 → Type 0) → Type 0
@@ -253,52 +248,52 @@ module _ (p : Program) (variables : List ElanType) (bodies : List Body) (agrees 
   abbrev bare_action : Known Action-F → Action-F Action Actual ValuePhrase Arm ValueArm
   bare_action y = map-Action _ _ _ _ _ _ _ _ _ _ fst fst fst fst fst y
 
-  value_parts : (y : Known ValuePhrase-F) (u : ElanType)
-      → value_type_step variables bodies home (map-ValuePhrase _ _ _ _ _ _ _ _ _ _ typed actual_type type arm_typed arm_type (bare_value y)) ≡ Some u
-      → ValueOk (kind_in u) (value_step (map-ValuePhrase _ _ _ _ _ _ _ _ _ _ act actual_run value arm_run value_arm_run (bare_value y)))
+  value_parts : (y : Known ValuePhrase-F) (u : Kind)
+      → value_kind_step variables bodies home (map-ValuePhrase _ _ _ _ _ _ _ _ _ _ typed actual_kind kind arm_typed arm_kind (bare_value y)) ≡ Some u
+      → ValueOk u (value_step (map-ValuePhrase _ _ _ _ _ _ _ _ _ _ act actual_run value arm_run value_arm_run (bare_value y)))
       (value_code_step (map-ValuePhrase _ _ _ _ _ _ _ _ _ _ action_code actual_code value_code arm_code_of value_arm_code (bare_value y)))
-  value_parts (t.Number z) u e = let f = only_if_is _ _ u e in of_type types.Int u f.1 (number_is p home z (fits_in_range z f.0))
-  value_parts (t.Truth b) u e = of_type types.Bool u e (truth_is p home b)
-  value_parts (t.Text x) u e = let f = only_if_is _ _ u e in of_type types.Text u f.1 (text_is p home x (leb-true (length x) TEXT_BYTES f.0))
+  value_parts (t.Number z) u e = let f = only_if_is _ _ u e in of_kind kinds.Int u f.1 (number_is p home z (fits_in_range z f.0))
+  value_parts (t.Truth b) u e = of_kind kinds.Truth u e (truth_is p home b)
+  value_parts (t.Text x) u e = let f = only_if_is _ _ u e in of_kind kinds.Text u f.1 (text_is p home x (leb-true (length x) TEXT_BYTES f.0))
   value_parts (t.Load q v) u e =
       let f = only_if_is _ _ u e in
-      of_type v u f.1 (load_is p home q (kind_in v) (has_place p variables bodies agrees home is_home q v (has_is v _ f.0)))
+      of_kind v u f.1 (load_is p home q v (has_place p variables bodies agrees home is_home q v (has_is v _ f.0)))
   value_parts (t.Apply op es) u e =
       let f = only_if_is _ _ u e in
-      of_type (type_in (result_kind op)) u f.1
-      (of_kind (sym (kind_type (result_kind op))) (apply_is p home (map value (map fst es)) op (values_are (operand_kinds op) es f.0)))
+      of_kind (result_kind op) u f.1
+      (apply_is p home (map value (map fst es)) op (values_are (operand_kinds op) es f.0))
   value_parts (t.ValuePhrase::If c a b) u e =
       let f = only_if_is _ _ u e in
       let g = both _ _ f.0 in
-      if_is p home (c.1 types.Bool (has_is types.Bool _ g.0)) (a.1 u f.1) (b.1 u (agree_is _ _ u g.1 f.1))
+      if_is p home (c.1 kinds.Truth (has_is kinds.Truth _ g.0)) (a.1 u f.1) (b.1 u (agree_is _ _ u g.1 f.1))
   value_parts (t.ValuePhrase::Select v arms other) u e =
       let f = only_if_is _ _ u e in
       let g = both _ _ f.0 in
-      select_is p home (v.1 types.Int (has_is types.Int _ g.0)) (value_arms_are u arms (value other.0) (value_code other.0) _ f.1 g.1 (other.1 u f.1))
+      select_is p home (v.1 kinds.Int (has_is kinds.Int _ g.0)) (value_arms_are u arms (value other.0) (value_code other.0) _ f.1 g.1 (other.1 u f.1))
   value_parts (t.ValuePhrase::Unit a) u e = unit_is p home (a.1 u e)
   value_parts (t.After us a) u e = let f = only_if_is _ _ u e in then_is p home (actions_are us f.0) (a.1 u f.1)
   value_parts (t.ValuePhrase::Call q as' v) u e =
       let f = only_if_is _ _ u e in
       let g = both _ _ f.0 in
       let x = proc_is p variables bodies agrees q _ (Some v) g.0 (has_is v _ g.1) in
-      of_type v u f.1 (call_value_is p home q x.entry (map parameter_kind x.parameters) x.cells (kind_in v) (map actual_run (map fst as'))
+      of_kind v u f.1 (call_value_is p home q x.entry (map parameter_kind x.parameters) x.cells v (map actual_run (map fst as'))
       (map actual_code (map fst as')) x.has x.own x.delivers (actuals_are x.parameters as' x.takes))
   value_parts (t.ValuePhrase::Refer q v) u e =
       let f = only_if_is _ _ u e in
       let g = both _ _ f.0 in
       let x = part_is p variables bodies agrees q home is_home (Some v) g.0 (has_is v _ g.1) in
-      of_type v u f.1 (refer_value_is p home q x.entry (kind_in v) x.has x.refinement x.owned x.delivers)
+      of_kind v u f.1 (refer_value_is p home q x.entry v x.has x.refinement x.owned x.delivers)
 
-  given_is : (access : Access) (a : Typed) (f : Formal) → given_as access a ≡ Some f → (u : ElanType) × (a ≡ Some u) × (record { of = u; access = access } ≡ f)
+  given_is : (access : Access) (a : Typed) (f : Formal) → given_as access a ≡ Some f → (u : Kind) × (a ≡ Some u) × (formal access u ≡ f)
   given_is access None f e = let g : ⊥ = cc in absurd g
-  given_is access (Some u) f e = (u, refl, formal_is (record { of = u; access = access }) f e)
+  given_is access (Some u) f e = (u, refl, formal_is (formal access u) f e)
     where
       formal_is : (f g : Formal) → Some f ≡ Some g → f ≡ g
       formal_is f g e = cc
 
   actual_parts : (y : Known Actual-F) (f : Formal)
-      → actual_type_step variables bodies home
-      (map-Actual _ _ _ _ _ _ _ _ _ _ typed actual_type type arm_typed arm_type (map-Actual _ _ _ _ _ _ _ _ _ _ fst fst fst fst fst y)) ≡ Some f
+      → actual_kind_step variables bodies home
+      (map-Actual _ _ _ _ _ _ _ _ _ _ typed actual_kind kind arm_typed arm_kind (map-Actual _ _ _ _ _ _ _ _ _ _ fst fst fst fst fst y)) ≡ Some f
       → IsActual p home (parameter_kind f)
       (actual_step (map-Actual _ _ _ _ _ _ _ _ _ _ act actual_run value arm_run value_arm_run (map-Actual _ _ _ _ _ _ _ _ _ _ fst fst fst fst fst y)))
       (actual_code_step (map-Actual _ _ _ _ _ _ _ _ _ _ action_code actual_code value_code arm_code_of value_arm_code
@@ -306,39 +301,39 @@ module _ (p : Program) (variables : List ElanType) (bodies : List Body) (agrees 
   actual_parts (t.Value a) f e =
       let g = given_is Const _ f e in
       subst (λ (f : Formal). IsActual p home (parameter_kind f) (actual_step (t.Value (value a.0))) (actual_code_step (t.Value (value_code a.0)))) g.2
-      (value_actual p home (kind_in g.0) (a.1 g.0 g.1))
+      (value_actual p home g.0 (a.1 g.0 g.1))
   actual_parts (t.Place q v) f e =
       let g = given_is Var _ f e in
       let h = only_if_is _ _ g.0 g.1 in
-      let same : v ≡ g.0 = type_is v g.0 h.1 in
-      let is = place_actual p home (kind_in v) (place_is p home q (kind_in v) (has_place p variables bodies agrees home is_home q v (has_is v _ h.0))) in
+      let same : v ≡ g.0 = kind_same v g.0 h.1 in
+      let is = place_actual p home v (place_is p home q v (has_place p variables bodies agrees home is_home q v (has_is v _ h.0))) in
       subst (λ (f : Formal). IsActual p home (parameter_kind f) (actual_step (t.Place q v)) (actual_code_step (t.Place q v)))
-      (ap (λ (u : ElanType). record { of = u; access = Var }) same ∙ g.2) is
+      (ap (formal Var) same ∙ g.2) is
     where
-      type_is : (u v : ElanType) → Some u ≡ Some v → u ≡ v
-      type_is u v e = cc
+      kind_same : (u v : Kind) → Some u ≡ Some v → u ≡ v
+      kind_same u v e = cc
 
   action_parts : (y : Known Action-F)
-      → action_typed_step variables bodies home (map-Action _ _ _ _ _ _ _ _ _ _ typed actual_type type arm_typed arm_type (bare_action y)) ≡ true
+      → action_typed_step variables bodies home (map-Action _ _ _ _ _ _ _ _ _ _ typed actual_kind kind arm_typed arm_kind (bare_action y)) ≡ true
       → ActionOk (action_step (map-Action _ _ _ _ _ _ _ _ _ _ act actual_run value arm_run value_arm_run (bare_action y)))
       (action_code_step (map-Action _ _ _ _ _ _ _ _ _ _ action_code actual_code value_code arm_code_of value_arm_code (bare_action y)))
   action_parts (t.Action::Unit us) e = unit_is p home (actions_are us e)
   action_parts (t.Store q u a) e =
       let f = both _ _ e in
-      store_is p home q (kind_in u) (has_place p variables bodies agrees home is_home q u (has_is u _ f.0)) (a.1 u (has_is u _ f.1))
+      store_is p home q u (has_place p variables bodies agrees home is_home q u (has_is u _ f.0)) (a.1 u (has_is u _ f.1))
   action_parts (t.Modify change q a) e =
       let f = both _ _ e in
       let k = change_kind change in
-      let place = has_place p variables bodies agrees home is_home q (type_in k) (has_is (type_in k) _ f.0) in
-      modify_is p home change q (subst (HasPlace p home q) (kind_type k) place) (of_kind (kind_type k) (a.1 (type_in k) (has_is (type_in k) _ f.1)))
+      let place = has_place p variables bodies agrees home is_home q k (has_is k _ f.0) in
+      modify_is p home change q place (a.1 k (has_is k _ f.1))
   action_parts (t.Action::If c us vs) e =
       let f = both _ _ e in
       let g = both _ _ f.1 in
-      if_is p home (c.1 types.Bool (has_is types.Bool _ f.0)) (actions_are us g.0) (actions_are vs g.1)
+      if_is p home (c.1 kinds.Truth (has_is kinds.Truth _ f.0)) (actions_are us g.0) (actions_are vs g.1)
   action_parts (t.Action::Select v arms us) e =
       let f = both _ _ e in
       let g = both _ _ f.1 in
-      select_is p home (v.1 types.Int (has_is types.Int _ f.0)) (arms_are arms (runs us) (codes us) g.0 (actions_are us g.1))
+      select_is p home (v.1 kinds.Int (has_is kinds.Int _ f.0)) (arms_are arms (runs us) (codes us) g.0 (actions_are us g.1))
   action_parts (t.Loop None us None) e = looped_is None us None e
   action_parts (t.Loop None us (Some u)) e = looped_is None us (Some u) e
   action_parts (t.Loop (Some w) us None) e = looped_is (Some w) us None e
@@ -355,7 +350,7 @@ module _ (p : Program) (variables : List ElanType) (bodies : List Body) (agrees 
       let xs = map actual_run (map fst as') in
       ask_is p home xs name (subst (λ ks. AreActuals p home ks xs (all_code (map actual_code (map fst as'))))
       (formals_take (request_kinds name) (request_places name)) (actuals_are (request_formals name) as' e))
-  action_parts (t.ErrorStop a) e = error_stop_is p home (a.1 types.Text (has_is types.Text _ e))
+  action_parts (t.ErrorStop a) e = error_stop_is p home (a.1 kinds.Text (has_is kinds.Text _ e))
   action_parts (t.Action::Call q as') e =
       let g = both _ _ e in
       let x = proc_is p variables bodies agrees q _ None g.0 (none_is _ g.1) in
@@ -368,21 +363,21 @@ module _ (p : Program) (variables : List ElanType) (bodies : List Body) (agrees 
   action_parts (t.Leave x) e = leave_is p home x (left_is p variables bodies agrees x home None is_home (without_is _ e))
   action_parts (t.LeaveWith x u a) e =
       let f = both _ _ e in
-      leave_with_is p home x (kind_in u) (left_is p variables bodies agrees x home (Some u) is_home (with_is u _ f.1)) (a.1 u (has_is u _ f.0))
+      leave_with_is p home x u (left_is p variables bodies agrees x home (Some u) is_home (with_is u _ f.1)) (a.1 u (has_is u _ f.0))
 
   arm_parts : (y : Known Arm-F)
       → arm_typed_step variables bodies home
-      (map-Arm _ _ _ _ _ _ _ _ _ _ typed actual_type type arm_typed arm_type (map-Arm _ _ _ _ _ _ _ _ _ _ fst fst fst fst fst y)) ≡ true
+      (map-Arm _ _ _ _ _ _ _ _ _ _ typed actual_kind kind arm_typed arm_kind (map-Arm _ _ _ _ _ _ _ _ _ _ fst fst fst fst fst y)) ≡ true
       → ArmIs Any no_more (arm_step
       (map-Arm _ _ _ _ _ _ _ _ _ _ act actual_run value arm_run value_arm_run (map-Arm _ _ _ _ _ _ _ _ _ _ fst fst fst fst fst y)))
       (arm_code_step (map-Arm _ _ _ _ _ _ _ _ _ _ action_code actual_code value_code arm_code_of value_arm_code
       (map-Arm _ _ _ _ _ _ _ _ _ _ fst fst fst fst fst y)))
   arm_parts y e = record { labels = refl; part = actions_are y.units e }
 
-  value_arm_parts : (y : Known ValueArm-F) (u : ElanType)
-      → value_arm_type_step variables bodies home
-      (map-ValueArm _ _ _ _ _ _ _ _ _ _ typed actual_type type arm_typed arm_type (map-ValueArm _ _ _ _ _ _ _ _ _ _ fst fst fst fst fst y)) ≡ Some u
-      → ArmIs (OfKind (kind_in u)) keep
+  value_arm_parts : (y : Known ValueArm-F) (u : Kind)
+      → value_arm_kind_step variables bodies home
+      (map-ValueArm _ _ _ _ _ _ _ _ _ _ typed actual_kind kind arm_typed arm_kind (map-ValueArm _ _ _ _ _ _ _ _ _ _ fst fst fst fst fst y)) ≡ Some u
+      → ArmIs (OfKind u) keep
       (value_arm_step (map-ValueArm _ _ _ _ _ _ _ _ _ _ act actual_run value arm_run value_arm_run
       (map-ValueArm _ _ _ _ _ _ _ _ _ _ fst fst fst fst fst y)))
       (value_arm_code_step (map-ValueArm _ _ _ _ _ _ _ _ _ _ action_code actual_code value_code arm_code_of value_arm_code

@@ -10,7 +10,6 @@ use Rattle.elan_types.specs.declared.core_phrase.ValueArm.{ValueArm}
 use Rattle.elan_types.specs.declared.core_phrase.Action.{Action, out-Action}
 use Rattle.elan_types.specs.declared.core_phrase.Action.TheOpen as t
 use Rattle.elan_types.specs.declared.core_phrase.Action.TheOpen.{Action-F}
-use Rattle.elan_types.specs.Typing.{kind_in}
 use Rattle.place_gen.specs.Stretch.{Stretch, none, one, keeps, join, all_code, Exit, stays, step_code, step_to_code, turn_code, turns_code, store_code}
 use Rattle.place_gen.specs.Stretch.{counted_code, call_code, refer_code, leave_instr, value_code, action_code, actual_code}
 
@@ -65,7 +64,7 @@ abbrev pub transfer_step : Layer → Stretch
 transfer_step (t.Action::Call n as') = call_code n None (map actual_code as')
 transfer_step (t.Action::Refer n) = refer_code n None
 transfer_step (t.Leave e) = one (leave_instr e None) keeps
-transfer_step (t.LeaveWith e u a) = join (value_code a) (one (leave_instr e (Some (kind_in u))) (drop 1))
+transfer_step (t.LeaveWith e k a) = join (value_code a) (one (leave_instr e (Some k)) (drop 1))
 transfer_step _ = none
 
 abbrev pub transfer_code : Action → Stretch

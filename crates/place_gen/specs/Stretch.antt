@@ -31,7 +31,6 @@ use Rattle.elan_types.specs.declared.core_phrase.Action.{Action, out-Action}
 use Rattle.elan_types.specs.declared.core_phrase.Action.TheOpen as t
 use Rattle.elan_types.specs.declared.core_phrase.Action.TheOpen.{Action-F, Actual-F, ValuePhrase-F, Arm-F, ValueArm-F}
 use Rattle.elan_types.specs.declared.core_phrase.Action.TheFolds.{fold-Action, fold-Actual, fold-ValuePhrase, fold-Arm, fold-ValueArm}
-use Rattle.elan_types.specs.Typing.{kind_in}
 use Rattle.elan_types.specs.Eval.{Labelled}
 
 -- lines that know what is pending before them, in which body and under how many limits they are, and where they stand; how many
@@ -189,25 +188,25 @@ abbrev pub value_code_step : Layer ValuePhrase-F → Stretch
 value_code_step (t.Number z) = one (Number z) (pushes (Value kinds.Int))
 value_code_step (t.Truth b) = one (Truth b) (pushes (Value kinds.Truth))
 value_code_step (t.Text x) = one (Text x) (pushes (Value kinds.Text))
-value_code_step (t.Load p u) = join (place_code p (kind_in u)) (one (Load (kind_in u)) (λ ks. Value (kind_in u) ∷ drop 1 ks))
+value_code_step (t.Load p k) = join (place_code p k) (one (Load k) (λ ks. Value k ∷ drop 1 ks))
 value_code_step (t.Apply op as') = join (all_code as') (one (Do op) (λ ks. Value (result_kind op) ∷ drop (length (operand_kinds op)) ks))
 value_code_step (t.ValuePhrase::If c a b) = if_code c a b
 value_code_step (t.ValuePhrase::Select a arms other) = join a (select_code arms other)
 value_code_step (t.ValuePhrase::Unit a) = join (one Mark keeps) a
 value_code_step (t.After us a) = join (all_code us) a
-value_code_step (t.ValuePhrase::Call n as' u) = call_code n (Some (kind_in u)) as'
-value_code_step (t.ValuePhrase::Refer n u) = refer_code n (Some (kind_in u))
+value_code_step (t.ValuePhrase::Call n as' k) = call_code n (Some k) as'
+value_code_step (t.ValuePhrase::Refer n k) = refer_code n (Some k)
 
 abbrev pub actual_code_step : Layer Actual-F → Stretch
 actual_code_step (t.Value a) = a
-actual_code_step (t.Place p u) = place_code p (kind_in u)
+actual_code_step (t.Place p k) = place_code p k
 
 abbrev pub value_arm_code_step : Layer ValueArm-F → Labelled Stretch
 value_arm_code_step arm = record { labels = arm.labels; part = arm.value }
 
 abbrev pub action_code_step : Layer Action-F → Stretch
 action_code_step (t.Action::Unit us) = join (one Mark keeps) (all_code us)
-action_code_step (t.Store p u a) = store_code p (kind_in u) a
+action_code_step (t.Store p k a) = store_code p k a
 action_code_step (t.Modify change p a) = modify_code p change a
 action_code_step (t.Action::If c us vs) = if_code c (all_code us) (all_code vs)
 action_code_step (t.Action::Select a arms us) = join a (select_code arms (all_code us))
@@ -219,7 +218,7 @@ action_code_step (t.ErrorStop a) = join a (one ErrorStop (drop 1))
 action_code_step (t.Action::Call n as') = call_code n None as'
 action_code_step (t.Action::Refer n) = refer_code n None
 action_code_step (t.Leave e) = one (leave_instr e None) keeps
-action_code_step (t.LeaveWith e u a) = join a (one (leave_instr e (Some (kind_in u))) (drop 1))
+action_code_step (t.LeaveWith e k a) = join a (one (leave_instr e (Some k)) (drop 1))
 
 abbrev pub arm_code_step : Layer Arm-F → Labelled Stretch
 arm_code_step arm = record { labels = arm.labels; part = all_code arm.units }
@@ -242,7 +241,7 @@ actual_code =
 -- what a body does, and the instruction that leaves it with its result
 abbrev pub content_code : Content → Stretch
 content_code (contents.Units us) = join (all_code (map action_code us)) (one (Back None) keeps)
-content_code (contents.Value u a) = join (value_code a) (one (Back (Some (kind_in u))) (drop 1))
+content_code (contents.Value k a) = join (value_code a) (one (Back (Some k)) (drop 1))
 
 -- the code of a part of a SELECT, with its labels
 abbrev pub value_arm_code : ValueArm → Labelled Stretch

@@ -10,9 +10,8 @@ ghost use Rattle.place_gen.specs.Steps.{loop_code, turn_of, count_code, transfer
 use crate::count::{count_actions, count_arms, count_loop, count_value, count_value_arms};
 use crate::draft::Draft;
 use crate::put::{
-    kind_in, leave_instr, put_call, put_else, put_jump, put_load, put_number, put_operation,
-    put_place, put_refer, put_request, put_step, put_test, put_text, put_truth, put_whens,
-    without_first,
+    leave_instr, put_call, put_else, put_jump, put_load, put_number, put_operation, put_place,
+    put_refer, put_request, put_step, put_test, put_text, put_truth, put_whens, without_first,
 };
 use code_form::{Instr, OperandKind};
 use elan_types::{Action, Actual, Arm, Content, PlacePhrase, ValueArm, ValuePhrase};
@@ -42,9 +41,9 @@ fn add_content(out: &mut Draft, content: &Content)
             add_actions(out, units.as_slice());
             out.add(Instr::Back(None), 0, None);
         }
-        Content::Value(of, value) => {
+        Content::Value(kind, value) => {
             add_value(out, value);
-            out.add(Instr::Back(Some(kind_in(*of))), 1, None);
+            out.add(Instr::Back(Some(*kind)), 1, None);
         }
     }
 }
@@ -58,7 +57,7 @@ fn add_value(out: &mut Draft, phrase: &ValuePhrase)
         ValuePhrase::Number(number) => put_number(out, *number),
         ValuePhrase::Truth(truth) => put_truth(out, *truth),
         ValuePhrase::Text(text) => put_text(out, text),
-        ValuePhrase::Load(place, of) => put_load(out, place, kind_in(*of)),
+        ValuePhrase::Load(place, kind) => put_load(out, place, *kind),
         ValuePhrase::Apply(operation, operands) => {
             add_values(out, operands.as_slice());
             put_operation(out, *operation);
@@ -83,10 +82,10 @@ fn add_value(out: &mut Draft, phrase: &ValuePhrase)
             add_actions(out, units.as_slice());
             add_value(out, a.get());
         }
-        ValuePhrase::Call(body, actuals, of) => {
-            add_call(out, *body, actuals.as_slice(), Some(kind_in(*of)))
+        ValuePhrase::Call(body, actuals, kind) => {
+            add_call(out, *body, actuals.as_slice(), Some(*kind))
         }
-        ValuePhrase::Refer(body, of) => put_refer(out, *body, Some(kind_in(*of))),
+        ValuePhrase::Refer(body, kind) => put_refer(out, *body, Some(*kind)),
     }
 }
 
@@ -114,7 +113,7 @@ fn add_actual(out: &mut Draft, actual: &Actual)
 {
     match actual {
         Actual::Value(value) => add_value(out, value),
-        Actual::Place(place, of) => put_place(out, place, kind_in(*of)),
+        Actual::Place(place, kind) => put_place(out, place, *kind),
     }
 }
 
@@ -178,7 +177,7 @@ fn add_action(out: &mut Draft, action: &Action)
             out.add(Instr::Mark, 0, None);
             add_actions(out, units.as_slice());
         }
-        Action::Store(place, of, value) => add_store(out, place, kind_in(*of), value),
+        Action::Store(place, kind, value) => add_store(out, place, *kind, value),
         Action::Modify(change, place, value) => {
             put_place(out, place, change.kind());
             add_value(out, value);
@@ -221,9 +220,9 @@ fn add_transfer(out: &mut Draft, action: &Action)
         Action::Call(body, actuals) => add_call(out, *body, actuals.as_slice(), None),
         Action::Refer(body) => put_refer(out, *body, None),
         Action::Leave(exit) => out.add(leave_instr(*exit, None), 0, None),
-        Action::LeaveWith(exit, of, value) => {
+        Action::LeaveWith(exit, kind, value) => {
             add_value(out, value);
-            out.add(leave_instr(*exit, Some(kind_in(*of))), 1, None);
+            out.add(leave_instr(*exit, Some(*kind)), 1, None);
         }
         _ => {}
     }

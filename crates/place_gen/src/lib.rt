@@ -8,4 +8,3 @@ mod put;
 
 pub use draft::Draft;
 pub use emit::{emit_actions, emit_content};
-pub use put::kind_in;

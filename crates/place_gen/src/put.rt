@@ -6,7 +6,6 @@ ghost use Rattle.eu_base.specs.declared.value.Kind.TheVariants as kinds;
 ghost use Rattle.code_form.specs.declared.operand.OperandKind.TheVariants as operand;
 ghost use Rattle.code_form.specs.declared.instr.Instr.TheVariants as instrs;
 ghost use Rattle.code_form.specs.Valid.{with_result};
-ghost use Rattle.elan_types.specs.Typing.{kind_in};
 ghost use Rattle.place_gen.specs.Stretch.{one, keeps, pushes, join, whens_code, place_instr, place_code, leave_instr, refer_code};
 ghost use Rattle.place_gen.specs.Counted.{counted};
 ghost use Rattle.place_gen.specs.Makes.{Makes, MakesExit, MakesTurn};
@@ -14,19 +13,8 @@ ghost use Rattle.place_gen.specs.Steps.{step_of};
 
 use crate::draft::Draft;
 use code_form::{Instr, OperandKind};
-use elan_types::{Action, ElanType, Exit, PlacePhrase};
+use elan_types::{Action, Exit, PlacePhrase};
 use eu_base::{Bytes, Change, Kind, NoMemory, Operation, RequestName};
-
-/// The kind of the values of a type.
-pub fn kind_in(of: ElanType) -> Kind
-    ensures { result ≡ kind_in of }
-{
-    match of {
-        ElanType::Int => Kind::Int,
-        ElanType::Bool => Kind::Truth,
-        ElanType::Text => Kind::Text,
-    }
-}
 
 fn place_instr(place: &PlacePhrase) -> Instr
     ensures { result ≡ place_instr place.now }

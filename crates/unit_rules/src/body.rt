@@ -34,7 +34,7 @@ fn content_as(alloc: Global, delivered: Option<ElanType>, units: Meant) -> Resul
         None => Ok(Content::Units(actions(alloc, units))),
         Some(of) => {
             let value = value_as(alloc, of, units)?;
-            Ok(Content::Value(of, value.into_inner()))
+            Ok(Content::Value(of.kind(), value.into_inner()))
         }
     }
 }
@@ -67,7 +67,7 @@ fn content_of(alloc: Global, units: Meant) -> Content
     ensures { result ≡ spec.content_of units }
 {
     match units {
-        Meant::Value { at: _at, of, value } => Content::Value(of, value.into_inner()),
+        Meant::Value { at: _at, of, value } => Content::Value(of.kind(), value.into_inner()),
         other => Content::Units(actions(alloc, other)),
     }
 }

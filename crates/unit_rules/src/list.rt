@@ -118,7 +118,7 @@ pub fn alone(alloc: Global, meant: Meant) -> Judged
 {
     match meant {
         Meant::Variable { at, of, place } => {
-            let value = Boxed::new(alloc, ValuePhrase::Load(place, of))?;
+            let value = Boxed::new(alloc, ValuePhrase::Load(place, of.kind()))?;
             delivering(alloc, at, of, ValuePhrase::Unit(value))
         }
         Meant::Value { at, of, value } => delivering(alloc, at, of, ValuePhrase::Unit(value)),

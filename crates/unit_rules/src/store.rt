@@ -43,7 +43,7 @@ fn stored(at: u32, left: Meant, right: Meant) -> Result<Action, Trouble>
                 right.let_go();
                 Err(trouble)
             }
-            Ok(place) => Ok(Action::Store(place, of, value_in(right))),
+            Ok(place) => Ok(Action::Store(place, of.kind(), value_in(right))),
         },
     }
 }

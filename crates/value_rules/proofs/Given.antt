@@ -9,7 +9,7 @@ use Rattle.elan_scope.specs.declared.predefined.Predefined.TheVariants as names
 use Rattle.elan_meant.specs.declared.meant.Meant.TheVariants.{Done}
 use Rattle.elan_types.specs.declared.why.Why.TheVariants.{WrongType}
 use Rattle.elan_meant.specs.walks.Arity.{two_of}
-use Rattle.elan_types.specs.declared.core_phrase.Parameter.{Parameter}
+use Rattle.elan_types.specs.declared.elan_type.Parameter.{Parameter}
 use Rattle.elan_types.specs.declared.core_phrase.Actual.{Actual}
 use Rattle.elan_scope.specs.declared.trouble.Trouble.{Trouble}
 use Rattle.elan_scope.specs.Answer.{Is}

@@ -1,6 +1,7 @@
 -- Numbers, texts, brackets, CAND and COR.
 use Rattle.std.specs.Prelude.{ℕ, ℤ, true, false, ◌&&◌, if◌then◌else◌, nat_le, List, length}
 use Rattle.elan_types.specs.declared.elan_type.ElanType.TheVariants.{Int, Bool as Truths, Text}
+use Rattle.elan_types.specs.Types.{kind_in}
 use Rattle.elan_types.specs.declared.core_phrase.ValuePhrase.{ValuePhrase}
 use Rattle.elan_types.specs.declared.core_phrase.ValuePhrase.TheVariants as value
 use Rattle.elan_types.specs.declared.why.Why.TheVariants.{WrongType}
@@ -30,7 +31,7 @@ denoter at (denoters.Text x) = text at x
 
 -- A variable in brackets is a value. What delivers nothing does in brackets what it does without.
 abbrev pub bracketed : ℕ → Meant → Meant
-bracketed at (Variable p t x) = Value at t (value.Load x t)
+bracketed at (Variable p t x) = Value at t (value.Load x (kind_in t))
 bracketed at (Value p t v) = Value at t v
 bracketed at m = m
 

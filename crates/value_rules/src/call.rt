@@ -37,7 +37,7 @@ fn given_as(at: u32, parameter: Parameter, operand: Meant) -> Result<Actual, Tro
         Access::Const => Ok(Actual::Value(value_in(operand))),
         Access::Var => {
             let place = variable(at, operand)?;
-            Ok(Actual::Place(place, parameter.of))
+            Ok(Actual::Place(place, parameter.of.kind()))
         }
     }
 }
@@ -97,7 +97,7 @@ fn add_value(
 {
     match actual {
         Actual::Value(value) => pushed(values, Ok(value)),
-        Actual::Place(_place, _of) => values,
+        Actual::Place(_place, _kind) => values,
     }
 }
 
@@ -133,8 +133,8 @@ fn changed(alloc: Global, at: u32, change: Change, actuals: List<Actual>) -> Jud
         None => Err(Trouble::Breaks(at, Why::WrongType)),
         Some((first, second)) => match first {
             Actual::Value(_value) => Err(Trouble::Breaks(at, Why::WrongType)),
-            Actual::Place(place, _of) => match second {
-                Actual::Place(_other, _of) => Err(Trouble::Breaks(at, Why::WrongType)),
+            Actual::Place(place, _kind) => match second {
+                Actual::Place(_other, _kind) => Err(Trouble::Breaks(at, Why::WrongType)),
                 Actual::Value(value) => done(alloc, Action::Modify(change, place, value)),
             },
         },
@@ -157,7 +157,7 @@ fn stopped(alloc: Global, at: u32, actuals: List<Actual>) -> Judged
 {
     match one_of(actuals) {
         None => Err(Trouble::Breaks(at, Why::WrongType)),
-        Some(Actual::Place(_place, _of)) => Err(Trouble::Breaks(at, Why::WrongType)),
+        Some(Actual::Place(_place, _kind)) => Err(Trouble::Breaks(at, Why::WrongType)),
         Some(Actual::Value(value)) => done(alloc, Action::ErrorStop(value)),
     }
 }
@@ -197,7 +197,7 @@ fn performed(
         }
         (Callee::Body(number), None) => done(alloc, Action::Call(number, actuals)),
         (Callee::Body(number), Some(of)) => {
-            delivering(alloc, at, of, ValuePhrase::Call(number, actuals, of))
+            delivering(alloc, at, of, ValuePhrase::Call(number, actuals, of.kind()))
         }
     }
 }

@@ -35,7 +35,7 @@ fn leave_of(exit: Exit, value: Meant) -> Action
     ensures { result ≡ walk.leave_of exit value }
 {
     match type_in(&value) {
-        Some(of) => Action::LeaveWith(exit, of, value_in(value)),
+        Some(of) => Action::LeaveWith(exit, of.kind(), value_in(value)),
         None => {
             value.let_go();
             Action::Leave(exit)

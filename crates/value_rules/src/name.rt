@@ -62,7 +62,7 @@ fn variable(at: u32, of: ElanType, held: Held) -> Meant
 fn constant(alloc: Global, at: u32, of: ElanType, held: Held) -> Judged
     ensures { Tells result (gives (spec.constant at of (spec.place_in held.home held.number held.access))) }
 {
-    delivering(alloc, at, of, ValuePhrase::Load(held.place(), of))
+    delivering(alloc, at, of, ValuePhrase::Load(held.place(), of.kind()))
 }
 
 // A CONST parameter is a constant, a VAR parameter a variable.
@@ -89,7 +89,7 @@ fn referred(alloc: Global, at: u32, number: usize, delivery: Delivery) -> Judged
     match delivery {
         Delivery::Open => Err(Trouble::Hangs),
         Delivery::Nothing => done(alloc, Action::Refer(number)),
-        Delivery::Of(of) => delivering(alloc, at, of, ValuePhrase::Refer(number, of)),
+        Delivery::Of(of) => delivering(alloc, at, of, ValuePhrase::Refer(number, of.kind())),
     }
 }
 

@@ -65,7 +65,7 @@ pub fn bracketed(alloc: Global, at: u32, meant: Meant) -> Judged
             alloc,
             at,
             of,
-            ValuePhrase::Load(place, of),
+            ValuePhrase::Load(place, of.kind()),
         ),
         Meant::Value { at: _at, of, value } => Ok(Meant::Value { at, of, value }),
         other => Ok(other),

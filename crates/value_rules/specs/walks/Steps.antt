@@ -5,7 +5,7 @@ use Rattle.elan_types.specs.declared.core_phrase.ValuePhrase.{ValuePhrase}
 use Rattle.elan_types.specs.declared.core_phrase.ValuePhrase.TheVariants as value
 use Rattle.elan_types.specs.declared.core_phrase.Action.{Action}
 use Rattle.elan_types.specs.declared.core_phrase.Action.TheVariants as action
-use Rattle.elan_types.specs.declared.core_phrase.Parameter.{Parameter}
+use Rattle.elan_types.specs.declared.elan_type.Parameter.{Parameter}
 use Rattle.elan_types.specs.declared.core_phrase.Actual.{Actual}
 use Rattle.elan_types.specs.declared.core_phrase.Exit.{Exit}
 use Rattle.elan_types.specs.declared.why.Why.TheVariants.{WrongType}

@@ -1,9 +1,8 @@
-use Rattle.std.proofs.Common.{List, ap, subst, ◌∙◌}
+use Rattle.std.proofs.Common.{ap, subst, ◌∙◌}
 use Rattle.elan_types.specs.declared.core_phrase.Core.{Core}
-use Rattle.elan_scope.specs.declared.scope.Entry.{Entry}
 use Rattle.elan_scope.specs.declared.scope.Scope.{Scope}
 use Rattle.elan_scope.specs.declared.trouble.Trouble.{Trouble}
-use Rattle.elan_scope.specs.Scope.{types_of, all_held}
+use Rattle.elan_scope.specs.Scope.{variables_of}
 use Rattle.elan_scope.specs.Phrase.{all_of}
 use Rattle.elan_scope.specs.Answer.{Fails}
 use Rattle.elan_rules.specs.Meaning.{judged_all}
@@ -15,7 +14,7 @@ pub returns-in-Ok : goal.returns-in-Ok
 returns-in-Ok c =
     let core : Core = record { variables = c.in_ok-variables.variables; bodies = c.in_ok-units-in-Ok.bodies; units = c.in_ok-units-in-Ok.units } in
     core_is c.args.written.now c.args.known.now c.requires.known c.in-Ok.parts core c.in-Ok.ensures
-    (c.in_ok-variables.ensures ∙ ap (λ (es : List Entry). types_of (all_held es)) (c.as_slice.ensures ∙ ap (λ (z : Scope). z.level) c.requires.scope))
+    (c.in_ok-variables.ensures ∙ ap variables_of (c.as_slice.ensures ∙ ap (λ (z : Scope). z.level) c.requires.scope))
     c.in_ok-units-in-Ok.ensures.units c.in_ok-units-in-Ok.ensures.bodies
 
 pub unreachable-requires : goal.unreachable-requires

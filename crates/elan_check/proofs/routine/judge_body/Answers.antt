@@ -1,9 +1,6 @@
 use Rattle.std.proofs.Common.{◌∙◌, ap}
-use Rattle.elan_levels.specs.Bodies.{own_names}
-use Rattle.elan_scope.specs.Scope.{variables_of}
-use Rattle.elan_types.specs.declared.core_phrase.Scope.TheVariants as owner
 use Rattle.elan_scope.specs.Known.{delivered}
-use Rattle.elan_levels.specs.Bodies.{parameters, result}
+use Rattle.elan_levels.specs.Bodies.{frame, result}
 use Rattle.elan_check.proofs.Routines.{body_is}
 use Rattle.elan_check.proofs.routine.judge_body.Goals as goal
 
@@ -11,7 +8,7 @@ pub returns : goal.returns
 returns c =
     let of = c.args.of in
     let s = c.args.scope.now in
-    body_is c.args.known.now s (owner.Own (parameters of.formals.now) (variables_of (own_names of.body.now))) c.in-Ok.owner (result of.result.now) c.result_type-of_type.result
+    body_is c.args.known.now s (frame of.formals.now of.body.now) c.in-Ok.owner (result of.result.now) c.result_type-of_type.result
     c.of-wanted.result
     of.body.now.units c.as_slice.result.now c.in_ok-meant.meant c.body.result c.as_slice.ensures
     (c.of-wanted.ensures ∙ ap delivered c.result_type-of_type.ensures) c.in_ok-meant.ensures c.in-Ok.ensures c.result_type-of_type.ensures c.body.ensures

@@ -1,5 +1,4 @@
-use Rattle.std.proofs.Common.{◌≡◌, map, sym, subst}
-use Rattle.elan_types.specs.Typing.{kind_in}
+use Rattle.std.proofs.Common.{sym, subst}
 use Rattle.elan_types.specs.Command.{blank_store}
 use Rattle.place_gen.specs.Correct.{HasVariables}
 use Rattle.line_command.proofs.Begun.{begun, has_begun, holds_begun}

@@ -1,5 +1,5 @@
 use Rattle.std.proofs.Common.{List, drop, refl, sym, ap, subst, ◌∙◌}
-use Rattle.elan_types.specs.declared.core_phrase.Parameter.{Parameter}
+use Rattle.elan_types.specs.declared.elan_type.Parameter.{Parameter}
 use Rattle.elan_types.specs.declared.core_phrase.Actual.{Actual}
 use Rattle.elan_meant.specs.Verdict.{Verdict, gives, told, Tells}
 use Rattle.value_rules.specs.Calls.{given}
