@@ -1,5 +1,5 @@
 -- A step from a state that fits can be made, and leads to one that fits. One induction over the instructions, so it stands in one file.
-use Rattle.std.proofs.Common.{◌≡◌, ℕ, suc, ◌+◌, ◌-◌, ◌<◌, ◌≤◌, ◌%◌, List, [], ◌∷◌, ◌++◌, map, length, Option, Some, None, Bool, true, false, cond, refl, sym}
+use Rattle.std.proofs.Common.{◌≡◌, ℕ, suc, ◌+◌, ◌-◌, ◌*◌, ◌<◌, ◌≤◌, ◌%◌, List, [], ◌∷◌, ◌++◌, map, length, Option, Some, None, Bool, true, false, cond, refl, sym}
 use Rattle.std.proofs.Common.{ap, ◌∙◌, subst, arith, length-append, append_assoc, ◌++◌}
 use Rattle.std.specs.Prelude.{slice_get, drop, Ok, Err}
 use Rattle.std.specs.Ordering.{int_eq}
@@ -23,7 +23,7 @@ use Rattle.eu_base.specs.declared.request.Request.{Request}
 use Rattle.eu_base.specs.declared.request.Reply.{Reply}
 use Rattle.eu_base.specs.declared.request.Reply.TheVariants as replies
 use Rattle.eu_base.specs.Requests.{request_kinds, request_places, request_size, request_of, reply_text, read_as}
-use Rattle.eu_base.specs.Cells.{Cell, Free, Word, Letters, Cells, held_of, IsCell, run_cell, place_in, written, cell_blocks, blocks_in, freed}
+use Rattle.eu_base.specs.Cells.{Cell, Free, Word, Letters, Cells, held_of, IsCell, run_cell, place_number, place_in, written, cell_blocks, blocks_in, freed}
 use Rattle.code_form.specs.declared.operand.Operand.{Operand}
 use Rattle.code_form.specs.declared.operand.Operand.TheVariants.{Value as Of, Place as At}
 use Rattle.code_form.specs.declared.operand.OperandKind.{OperandKind}
@@ -31,8 +31,8 @@ use Rattle.code_form.specs.declared.operand.OperandKind.TheVariants.{Value as Of
 use Rattle.code_form.specs.declared.waits.Waits.{Waits}
 use Rattle.code_form.specs.declared.waits.Waits.TheVariants.{Nothing, Asked, Given, Refused}
 use Rattle.code_form.specs.declared.instr.Instr.{Instr}
-use Rattle.code_form.specs.declared.instr.Instr.TheVariants.{Mark, Number, Truth, Text, Outer, Local, Param, Load, Store, Do, Modify, Jump, False, When, Drop}
-use Rattle.code_form.specs.declared.instr.Instr.TheVariants.{Limit, Unlimit, Step, Ask, ErrorStop, Call, Refer, Back, Out, End}
+use Rattle.code_form.specs.declared.instr.Instr.TheVariants.{Mark, Number, Truth, Text, Outer, Local, Param, Index, Field, Load, Store, Do, Modify, Jump, False}
+use Rattle.code_form.specs.declared.instr.Instr.TheVariants.{When, Drop, Limit, Unlimit, Step, Ask, ErrorStop, Call, Refer, Back, Out, End}
 use Rattle.code_form.specs.declared.code.Line.{Line}
 use Rattle.code_form.specs.declared.code.Spot.{Spot}
 use Rattle.code_form.specs.declared.code.Entry.{Entry}
@@ -44,7 +44,7 @@ use Rattle.code_form.specs.Machine.{value_in, keeps, takes_reply, asking, given,
 use Rattle.code_form.specs.Machine.{Frame, Position, free, To, Stops, Unsaid, Move, Goes, Spends, operand_bytes, bytes_on, bytes_of, base_of, at}
 use Rattle.code_form.specs.Machine.{using, goes, pushes, on_value, on_place, on_values, on_operands, on_result, or_halt, on_word, on_cell, is_free, are_free}
 use Rattle.code_form.specs.Machine.{limit_cell, held_of_operand, frame_contents, link_contents, written_from, enters, calls_to, call_move, refer_move}
-use Rattle.code_form.specs.Machine.{takes, puts, content_blocks, is_framed, Unknown, goes, Halts, back_into, back_to, out_to, limit_to, instruction, step}
+use Rattle.code_form.specs.Machine.{on_item, in_row, further, takes, puts, content_blocks, is_framed, Unknown, goes, Halts, back_into, back_to, out_to, limit_to, instruction, step}
 use Rattle.code_form.specs.Valid.{Next, pushed_kinds, pushed_operands, with_result, HasResult, IsRefinement, IsCalled, IsReferred, IsFine, IsValid, FitsKind}
 use Rattle.code_form.specs.Valid.{is_ask, is_asking, request_operands}
 use Rattle.code_form.specs.Valid.{FitsKinds, MadeSo, IsMade, FitsFrames, Fits}
@@ -323,6 +323,17 @@ module _ (p : Program) (valid : IsValid p) (pc : ℕ) (ops : List Operand) (used
     cell_safe kinds.Text (Word n) f h = tt
     cell_safe kinds.Text (Letters t) f h = h (item.Text t) refl
 
+    -- a place further on is pushed in the stead of one
+    item_safe : (k : Option ℕ) (go : ℕ → Move) → ((n : ℕ) → Safe (go n)) → Safe (on_item k go)
+    item_safe None go h = tt
+    item_safe (Some n) go h = h n
+
+    further_safe : (a : Addr) (n : ℕ) (k : Kind) (r : List Operand) (ks : List OperandKind) → Next p.lines (pc + 1) (AtKind k ∷ ks) m → FitsKinds r ks
+        → Safe (pushes now (At (further a n)) r cells)
+    further_safe a n k r ks next f =
+        let small : (place_number a + n) % CELLS < CELLS = omega arith in
+        push_safe (At (further a n)) (AtKind k) r ks small next f
+
     -- more and fewer limits
     limit_safe : (way : Way) (a : ℕ) (v : Value) (x : Addr) (r : List Operand) (ks : List OperandKind) → Next p.lines (pc + 1) ks (deeper m)
         → Next p.lines a ks (deeper m) → Has r ks → Safe (limit_to now way a (number_of v) x r cells)
@@ -554,6 +565,12 @@ module _ (p : Program) (valid : IsValid p) (pc : ℕ) (ops : List Operand) (used
         word_safe (cells (run_cell (base_of frames + x))) _ (λ n.
         let small : n % CELLS < CELLS = omega arith in
         push_safe (At (place_in n)) (AtKind f.0) ops ks small f.2 k.0)
+    safe (Index n size) ks line f k =
+        one_value ops kinds.Int f.0 _ (subst (Has ops) f.1 k) (λ v q e h.
+        one_place q f.2.kind f.2.rest _ (subst (Has q) f.2.taken h) (λ a r g.
+        item_safe (in_row n (number_of v)) _ (λ i. further_safe a (i * size) f.2.given r f.2.rest f.2.next g.0)))
+    safe (Field n) ks line f k =
+        one_place ops f.kind f.rest _ (subst (Has ops) f.taken k) (λ a r g. further_safe a n f.given r f.rest f.next g.0)
     safe (Load kind) ks line f k =
         one_place ops kind f.0 _ (subst (Has ops) f.1 k)
         (λ a r g. cell_safe kind (cells a) _ (λ v is. push_safe (Of v) (OfKind kind) r f.0 is f.2 g.0))

@@ -21,8 +21,8 @@ use Rattle.eu_base.specs.Requests.{request_kinds, request_size, reply_text, read
 use Rattle.code_form.specs.declared.operand.Operand.{Operand}
 use Rattle.code_form.specs.declared.operand.Operand.TheVariants.{Value as Of, Place as At}
 use Rattle.code_form.specs.declared.instr.Instr.{Instr}
-use Rattle.code_form.specs.declared.instr.Instr.TheVariants.{Mark, Number, Truth, Text, Outer, Local, Param, Load, Store, Do, Modify, Jump, False, When, Drop}
-use Rattle.code_form.specs.declared.instr.Instr.TheVariants.{Limit, Unlimit, Step, Ask, ErrorStop, Call, Refer, Back, Out, End}
+use Rattle.code_form.specs.declared.instr.Instr.TheVariants.{Mark, Number, Truth, Text, Outer, Local, Param, Index, Field, Load, Store, Do, Modify, Jump, False}
+use Rattle.code_form.specs.declared.instr.Instr.TheVariants.{When, Drop, Limit, Unlimit, Step, Ask, ErrorStop, Call, Refer, Back, Out, End}
 use Rattle.code_form.specs.declared.code.Line.{Line}
 use Rattle.code_form.specs.declared.code.Entry.{Entry}
 use Rattle.code_form.specs.declared.code.Layout.{Layout}
@@ -31,7 +31,7 @@ use Rattle.code_form.specs.declared.code.Layout.TheVariants as layouts
 use Rattle.code_form.specs.Program.{Program, instr_of}
 use Rattle.code_form.specs.Machine.{Frame, Position, Control, After, To, Asks, Stops, Unsaid, Move, Scene, Stage, On, Over, Lost, Rest, operand_bytes}
 use Rattle.code_form.specs.Machine.{bytes_on, bytes_of, base_of, pushes, on_value, on_place, on_values, on_operands, on_result, or_halt, on_word, on_cell, is_free}
-use Rattle.code_form.specs.Machine.{takes, puts, content_blocks, is_framed, back_into, Goes, Unknown, goes, Halts, are_free, limit_cell, frame_contents}
+use Rattle.code_form.specs.Machine.{on_item, in_row, further, takes, puts, content_blocks, is_framed, back_into, Goes, Unknown, goes, Halts, are_free, limit_cell, frame_contents}
 use Rattle.code_form.specs.Machine.{link_contents, written_from, enters, calls_to, call_move, refer_move, back_to}
 use Rattle.code_form.specs.Machine.{out_to, instruction, keeps, takes_reply, step, free, given, mark_stage, move_stage, stage, advance, carry_on, exec}
 use Rattle.code_form.specs.Valid.{is_mark, IsFine, IsValid}
@@ -154,6 +154,10 @@ module _ (p : Program) (valid : IsValid p) where
     near_cell f h kinds.Text (Word n) = tt
     near_cell f h kinds.Text (Letters t) = h (item.Text t)
 
+    near_item : (f : ℕ → Move) → ((n : ℕ) → Near (f n)) → (k : Option ℕ) → Near (on_item k f)
+    near_item f h None = tt
+    near_item f h (Some n) = h n
+
     near_value : (f : Value → List Operand → Move) → ((v : Value) (r : List Operand) → Near (f v r)) → (ops : List Operand) → Near (on_value ops f)
     near_value f h [] = tt
     near_value f h (Of v ∷ r) = h v r
@@ -242,6 +246,10 @@ module _ (p : Program) (valid : IsValid p) where
     at_instr l e (Local x) is f = push_near l e (ap (λ i. is_mark (Some i)) is) (At (run_cell (base_of c.frames + x))) c.ops
     at_instr l e (Param x) is f =
         near_word _ (λ n. push_near l e (ap (λ i. is_mark (Some i)) is) (At (place_in n)) c.ops) (s.cells (run_cell (base_of c.frames + x)))
+    at_instr l e (Index n size) is f =
+        near_value _ (λ v r. near_place _
+        (λ a r. near_item _ (λ k. push_near l e (ap (λ i. is_mark (Some i)) is) (At (further a (k * size))) r) (in_row n (number_of v))) r) c.ops
+    at_instr l e (Field n) is f = near_place _ (λ a r. push_near l e (ap (λ i. is_mark (Some i)) is) (At (further a n)) r) c.ops
     at_instr l e (Load k) is f = near_place _ (λ a r. near_cell _ (λ v. push_near l e (ap (λ i. is_mark (Some i)) is) (Of v) r) k (s.cells a)) c.ops
     at_instr l e (Store k) is f =
         near_value _ (λ v r. near_place _ (λ a r. put_near l e (ap (λ i. is_mark (Some i)) is) a v r) r) c.ops

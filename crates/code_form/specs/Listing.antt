@@ -15,8 +15,8 @@ use Rattle.eu_base.specs.declared.operation.Way.TheVariants as ways
 use Rattle.eu_base.specs.declared.request.RequestName.{RequestName}
 use Rattle.eu_base.specs.declared.request.RequestName.TheVariants as requests
 use Rattle.code_form.specs.declared.instr.Instr.{Instr}
-use Rattle.code_form.specs.declared.instr.Instr.TheVariants.{Mark, Number, Truth, Text, Outer, Local, Param, Load, Store, Do, Modify, Jump, False, When, Drop, Limit}
-use Rattle.code_form.specs.declared.instr.Instr.TheVariants.{Unlimit, Step, Ask, ErrorStop, Call, Refer, Back, Out, End}
+use Rattle.code_form.specs.declared.instr.Instr.TheVariants.{Mark, Number, Truth, Text, Outer, Local, Param, Index, Field, Load, Store, Do, Modify, Jump, False}
+use Rattle.code_form.specs.declared.instr.Instr.TheVariants.{When, Drop, Limit, Unlimit, Step, Ask, ErrorStop, Call, Refer, Back, Out, End}
 use Rattle.code_form.specs.declared.code.Line.{Line}
 use Rattle.code_form.specs.declared.code.Entry.{Entry}
 use Rattle.code_form.specs.Program.{Program, layout_of, cells_at}
@@ -110,6 +110,8 @@ instr_text bodies texts (Text t) = codes "TEXT " ++ decimal texts
 instr_text bodies texts (Outer k) = codes "OUTER " ++ decimal k
 instr_text bodies texts (Local k) = codes "LOCAL " ++ decimal k
 instr_text bodies texts (Param k) = codes "PARAM " ++ decimal k
+instr_text bodies texts (Index n c) = codes "INDEX " ++ decimal n ++ codes " " ++ decimal c
+instr_text bodies texts (Field c) = codes "FIELD " ++ decimal c
 instr_text bodies texts (Load kind) = codes "LOAD " ++ kind_word kind
 instr_text bodies texts (Store kind) = codes "STORE " ++ kind_word kind
 instr_text bodies texts (Do op) = codes "DO " ++ operation_name op

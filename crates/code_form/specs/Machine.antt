@@ -1,6 +1,6 @@
 -- What the machine does with a list of instructions, one by one.
 use Rattle.std.specs.Prelude.{ℕ, zero, suc, ◌+◌, ◌-◌, Bool, true, false, ◌&&◌, cond, List, [], ◌∷◌, ◌++◌, map, length, drop, Option, Some, None, Ok, Err}
-use Rattle.std.specs.Prelude.{ℤ, pos, slice_get}
+use Rattle.std.specs.Prelude.{ℤ, pos, ◌*◌, int_le, slice_get}
 use Rattle.std.specs.Ordering.{int_eq}
 use Rattle.eu_base.specs.declared.address.Addr.{Addr}
 use Rattle.eu_base.specs.declared.value.Kind.{Kind}
@@ -8,13 +8,14 @@ use Rattle.eu_base.specs.declared.value.Kind.TheVariants as kinds
 use Rattle.eu_base.specs.declared.value.Value.{Value}
 use Rattle.eu_base.specs.declared.value.Value.TheVariants as item
 use Rattle.eu_base.specs.declared.stop.Stop.{Stop}
-use Rattle.eu_base.specs.declared.stop.Stop.TheVariants.{CellRoom, OperandRoom, TextRoom, Own}
+use Rattle.eu_base.specs.declared.stop.Stop.TheVariants.{Index as OutsideRow, CellRoom, OperandRoom, TextRoom, Own}
 use Rattle.eu_base.specs.declared.operation.Way.{Way}
 use Rattle.eu_base.specs.declared.request.Request.{Request}
 use Rattle.eu_base.specs.declared.request.Reply.{Reply}
 use Rattle.eu_base.specs.declared.request.Reply.TheVariants as replies
 use Rattle.eu_base.specs.Values.{number_of, truth_of, text_of, blank_of, number_in, truth_in}
 use Rattle.eu_base.specs.Room.{value_bytes, place_bytes, cells_fit, bytes_fit, texts_fit}
+use Rattle.eu_base.specs.Texts.{count_of}
 use Rattle.eu_base.specs.Operations.{Given, operand_kinds, result_of, change_kind, changed, is_past, has_reached, next_number}
 use Rattle.eu_base.specs.Requests.{request_kinds, request_size, request_of, reply_text, read_as}
 use Rattle.eu_base.specs.Cells.{Cell, Free, Word, Letters, Cells, held_of, run_cell, place_number, place_in, written, without, freed, cell_blocks, blocks_in}
@@ -27,8 +28,8 @@ use Rattle.code_form.specs.declared.halt.Halt.TheVariants as halts
 use Rattle.code_form.specs.declared.waits.Waits.{Waits}
 use Rattle.code_form.specs.declared.waits.Waits.TheVariants.{Nothing, Asked, Given as Replied, Refused}
 use Rattle.code_form.specs.declared.instr.Instr.{Instr}
-use Rattle.code_form.specs.declared.instr.Instr.TheVariants.{Mark, Number, Truth, Text, Outer, Local, Param, Load, Store, Do, Modify, Jump, False, When, Drop}
-use Rattle.code_form.specs.declared.instr.Instr.TheVariants.{Limit, Unlimit, Step, Ask, ErrorStop, Call, Refer, Back, Out, End}
+use Rattle.code_form.specs.declared.instr.Instr.TheVariants.{Mark, Number, Truth, Text, Outer, Local, Param, Index, Field, Load, Store, Do, Modify, Jump, False}
+use Rattle.code_form.specs.declared.instr.Instr.TheVariants.{When, Drop, Limit, Unlimit, Step, Ask, ErrorStop, Call, Refer, Back, Out, End}
 use Rattle.code_form.specs.declared.code.Entry.{Entry}
 use Rattle.code_form.specs.declared.code.Layout.{Layout}
 use Rattle.code_form.specs.declared.code.Layout.TheVariants.{Own}
@@ -185,6 +186,18 @@ puts c a v ops cells =
     cond (takes (held_of v) (cells a))
     (cond (texts_fit (cell_blocks (held_of v)) (blocks_in (written cells a (held_of v)))) (goes c ops (written cells a (held_of v))) (Halts TextRoom)) Unknown
 
+-- how many items of a row of n stand before the one of a number; none where the number is outside 1 to n
+abbrev pub in_row : ℕ → ℤ → Option ℕ
+in_row n z = cond (int_le (pos 1) z && int_le z (pos n)) (Some (count_of z - 1)) None
+
+abbrev pub on_item : Option ℕ → (ℕ → Move) → Move
+on_item None go = Halts OutsideRow
+on_item (Some k) go = go k
+
+-- the place so many cells further on
+abbrev pub further : Addr → ℕ → Addr
+further a n = place_in (place_number a + n)
+
 -- what stands for an operand in a cell
 abbrev pub held_of_operand : Operand → Cell
 held_of_operand (Of v) = held_of v
@@ -331,6 +344,9 @@ instruction p (Some (Text t)) c cells = pushes c (Of (item.Text t)) c.ops cells
 instruction p (Some (Outer k)) c cells = pushes c (At (run_cell k)) c.ops cells
 instruction p (Some (Local k)) c cells = pushes c (At (run_cell (base_of c.frames + k))) c.ops cells
 instruction p (Some (Param k)) c cells = on_word (cells (run_cell (base_of c.frames + k))) (λ n. pushes c (At (place_in n)) c.ops cells)
+instruction p (Some (Index n size)) c cells =
+    on_value c.ops (λ v ops. on_place ops (λ a ops. on_item (in_row n (number_of v)) (λ k. pushes c (At (further a (k * size))) ops cells)))
+instruction p (Some (Field n)) c cells = on_place c.ops (λ a ops. pushes c (At (further a n)) ops cells)
 instruction p (Some (Load kind)) c cells = on_place c.ops (λ a ops. on_cell kind (cells a) (λ v. pushes c (Of v) ops cells))
 instruction p (Some (Store kind)) c cells = on_value c.ops (λ v ops. on_place ops (λ a ops. puts c a v ops cells))
 instruction p (Some (Do op)) c cells =

@@ -13,8 +13,8 @@ use Rattle.code_form.specs.declared.operand.Operand.TheVariants.{Value as Of, Pl
 use Rattle.code_form.specs.declared.operand.OperandKind.{OperandKind}
 use Rattle.code_form.specs.declared.operand.OperandKind.TheVariants.{Value, Place}
 use Rattle.code_form.specs.declared.instr.Instr.{Instr}
-use Rattle.code_form.specs.declared.instr.Instr.TheVariants.{Mark, Number, Truth, Text, Outer, Local, Param, Load, Store, Do, Modify, Jump, False, When, Drop, Limit}
-use Rattle.code_form.specs.declared.instr.Instr.TheVariants.{Unlimit, Step, Ask, ErrorStop, Call, Refer, Back, Out, End}
+use Rattle.code_form.specs.declared.instr.Instr.TheVariants.{Mark, Number, Truth, Text, Outer, Local, Param, Index, Field, Load, Store, Do, Modify, Jump, False}
+use Rattle.code_form.specs.declared.instr.Instr.TheVariants.{When, Drop, Limit, Unlimit, Step, Ask, ErrorStop, Call, Refer, Back, Out, End}
 use Rattle.code_form.specs.declared.code.Line.{Line}
 use Rattle.code_form.specs.declared.code.Spot.{Spot}
 use Rattle.code_form.specs.declared.code.Entry.{Entry}
@@ -105,6 +105,14 @@ pub record IsLeftAround (p : Program) (result : Option Kind) (ks : List OperandK
   pub delivers : entry.delivers ≡ result
   pub top : HasResult result ks
 
+-- a place is on top, and a place, which may be of another kind, is pending at the next instruction in its stead
+pub record GivesPlace (lines : List Line) (pc : ℕ) (ks : List OperandKind) (m : Spot) : Type 0 where
+  pub kind : Kind
+  pub given : Kind
+  pub rest : List OperandKind
+  pub taken : ks ≡ Place kind ∷ rest
+  pub next : Next lines (pc + 1) (Place given ∷ rest) m
+
 -- an instruction finds what it takes, and leads to instructions where what it leaves is pending
 abbrev pub IsFine : Program → ℕ → Instr → List OperandKind → Spot → Type 0
 IsFine p pc Mark ks m = Next p.lines (pc + 1) ks m
@@ -114,6 +122,8 @@ IsFine p pc (Text t) ks m = Next p.lines (pc + 1) (Value kinds.Text ∷ ks) m
 IsFine p pc (Outer x) ks m = (k : Kind) × (slice_get p.variables x ≡ Some k) × Next p.lines (pc + 1) (Place k ∷ ks) m
 IsFine p pc (Local x) ks m = (k : Kind) × (slice_get (frame_cells p m.body) x ≡ Some (Value k)) × Next p.lines (pc + 1) (Place k ∷ ks) m
 IsFine p pc (Param x) ks m = (k : Kind) × (slice_get (frame_cells p m.body) x ≡ Some (Place k)) × Next p.lines (pc + 1) (Place k ∷ ks) m
+IsFine p pc (Index n size) ks m = (rest : List OperandKind) × (ks ≡ Value kinds.Int ∷ rest) × GivesPlace p.lines pc rest m
+IsFine p pc (Field n) ks m = GivesPlace p.lines pc ks m
 IsFine p pc (Load k) ks m = (rest : List OperandKind) × (ks ≡ Place k ∷ rest) × Next p.lines (pc + 1) (Value k ∷ rest) m
 IsFine p pc (Store k) ks m = (rest : List OperandKind) × (ks ≡ Value k ∷ Place k ∷ rest) × Next p.lines (pc + 1) rest m
 IsFine p pc (Do op) ks m =

@@ -19,6 +19,11 @@ pub enum Instr {
     Local(usize),
     /// Pushes the place that a cell of the frame holds, by its number there.
     Param(usize),
+    /// Takes a number i and the place below it, where a row of so many items of so many cells begins, and pushes the place of item i.
+    /// Where i is none of 1 to the number of items, the command stops.
+    Index(u16, u16),
+    /// Takes a place, and pushes the place so many cells further on.
+    Field(u16),
     /// Takes a place, and pushes the value there.
     Load(Kind),
     /// Takes a value and the place below it, and stores the value there.

@@ -73,6 +73,11 @@ fn append_instr(
         Instr::Outer(cell) => append_with(out, b"OUTER ", *cell),
         Instr::Local(cell) => append_with(out, b"LOCAL ", *cell),
         Instr::Param(cell) => append_with(out, b"PARAM ", *cell),
+        Instr::Index(count, cells) => {
+            append_with(out, b"INDEX ", usize::from(*count))?;
+            append_with(out, b" ", usize::from(*cells))
+        }
+        Instr::Field(cells) => append_with(out, b"FIELD ", usize::from(*cells)),
         Instr::Load(kind) => {
             out.append(b"LOAD ")?;
             out.append(kind_word(*kind))

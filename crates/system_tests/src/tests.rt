@@ -122,6 +122,7 @@ enum Scene {
     Refused,
     Pieces,
     Types,
+    Kinds,
 }
 
 fn play(alloc: Global, out: &mut Bytes, scene: Scene) {
@@ -137,6 +138,7 @@ fn play(alloc: Global, out: &mut Bytes, scene: Scene) {
         Scene::Refused => tree::refused(alloc, out),
         Scene::Pieces => lines::pieces(alloc, out),
         Scene::Types => types::each_once(alloc, out),
+        Scene::Kinds => types::kinds_of_cells(alloc, out),
     }
 }
 
@@ -178,6 +180,8 @@ fn wrong_scene(alloc: Global) -> &'static str {
         "pieces"
     } else if !goes(alloc, Scene::Types, b"01232-4543RC67602-") {
         "types"
+    } else if !goes(alloc, Scene::Kinds, b"012345ITITIT--+++-") {
+        "kinds"
     } else {
         ""
     }

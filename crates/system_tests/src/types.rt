@@ -97,3 +97,64 @@ pub fn each_once(alloc: Global, out: &mut Bytes) {
     put_field(out, &types, fields, b"a");
     put_field(out, &types, fields, b"b");
 }
+
+// A structure of two fields.
+fn pair(alloc: Global, types: &mut Types, first: TypeNo, second: TypeNo) -> Option<TypeNo> {
+    match (
+        types.form(first),
+        types.form(second),
+        Bytes::from(alloc, b"a"),
+        Bytes::from(alloc, b"b"),
+    ) {
+        (Some(_), Some(_), Ok(a), Ok(b)) => {
+            let mut fields = List::new(alloc);
+            match (
+                fields.push(Field { name: a, of: first }),
+                fields.push(Field {
+                    name: b,
+                    of: second,
+                }),
+            ) {
+                (Ok(()), Ok(())) => types.enter(TypeForm::Struct(fields)).unwrap_or(None),
+                _ => None,
+            }
+        }
+        _ => None,
+    }
+}
+
+fn put_kind(out: &mut Bytes, types: &Types, of: TypeNo, cell: u16) {
+    match types.kind_at(of, cell) {
+        Some(Kind::Int) => put(out, b"I"),
+        Some(Kind::Truth) => put(out, b"B"),
+        Some(Kind::Text) => put(out, b"T"),
+        None => put(out, b"-"),
+    }
+}
+
+fn put_own(out: &mut Bytes, types: &Types, of: TypeNo) {
+    if types.has_own(of) {
+        put(out, b"+");
+    } else {
+        put(out, b"-");
+    }
+}
+
+/// A row of structures: the kind of each of its cells, and none behind them; and which types have an own type in them.
+pub fn kinds_of_cells(alloc: Global, out: &mut Bytes) {
+    let mut types = Types::new(alloc);
+    let int = noted(out, cell(&mut types, Kind::Int));
+    let text = noted(out, cell(&mut types, Kind::Text));
+    let named = noted(out, own(alloc, &mut types, b"T", text));
+    let item = noted(out, pair(alloc, &mut types, int, named));
+    let items = noted(out, row(&mut types, 3, item));
+    let plain = noted(out, row(&mut types, 2, int));
+    for place in 0..7 {
+        put_kind(out, &types, items, place);
+    }
+    put_own(out, &types, text);
+    put_own(out, &types, named);
+    put_own(out, &types, item);
+    put_own(out, &types, items);
+    put_own(out, &types, plain);
+}

@@ -1,5 +1,5 @@
 -- A table with one type more, and what is found of a type that stands in it.
-use Rattle.std.proofs.Common.{◌≡◌, ℕ, zero, suc, ◌+◌, ◌*◌, ◌<◌, true, sum, List, [], ◌∷◌, ◌++◌, map, length, Some, None, refl, sym, ap, subst, ◌∙◌, arith}
+use Rattle.std.proofs.Common.{◌≡◌, ℕ, zero, suc, ◌+◌, ◌*◌, ◌<◌, Bool, true, sum, List, [], ◌∷◌, ◌++◌, map, length, Some, None, refl, sym, ap, subst, ◌∙◌, arith}
 use Rattle.std.specs.Prelude.{slice_get, slice_index_or}
 use Rattle.std.proofs.lemmas.List.{length-append}
 use Rattle.type_table.specs.declared.size.Size.{Size}
@@ -14,6 +14,7 @@ use Rattle.type_table.specs.Shapes.{shape_at, shape_in, shapes_of, shape_of}
 use Rattle.type_table.proofs.Once.{apart_push}
 use Rattle.type_table.specs.Forms.{number_of, found_behind, AllBelow, IsBelow, AreBelow}
 use Rattle.type_table.specs.Sizes.{sized, size_at, size_in, sizes_of, size_of, is_small}
+use Rattle.type_table.specs.Owned.{has_own_in, owned_of}
 use Rattle.type_table.specs.walks.Table.{AllSmall, IsTable}
 
 from_zero : (n : ℕ) → n ≡ 0 + n
@@ -33,13 +34,15 @@ below_push n [] f h g = let e : n + 0 ≡ n = omega arith in (subst (λ (m : ℕ
 below_push n (d ∷ fs) f h g =
     let e : n + suc (length fs) ≡ suc n + length fs = omega arith in (h.0, below_push (suc n) fs f h.1 (subst (λ (m : ℕ). IsBelow m f) e g))
 
-pub table_push : (forms : List TypeForm) (sizes : List Size) (form : TypeForm) (size : Size) → IsTable forms sizes → size ≡ size_in (sizes_of forms) form
-    → is_small size ≡ true → IsBelow (length forms) form → number_of form forms ≡ None → IsTable (forms ++ form ∷ []) (sizes ++ size ∷ [])
-table_push forms sizes form size t e h b new = (
+pub table_push : (forms : List TypeForm) (sizes : List Size) (owned : List Bool) (form : TypeForm) (size : Size) (own : Bool) → IsTable forms sizes owned
+    → size ≡ size_in (sizes_of forms) form → own ≡ has_own_in (owned_of forms) form → is_small size ≡ true → IsBelow (length forms) form
+    → number_of form forms ≡ None → IsTable (forms ++ form ∷ []) (sizes ++ size ∷ []) (owned ++ own ∷ [])
+table_push forms sizes owned form size own t e o h b new = (
   ap (λ (ss : List Size). ss ++ size ∷ []) t.0 ∙ ap (λ (s : Size). sizes_of forms ++ s ∷ []) e ∙ sym (behind_push size_in [] forms form),
   small_push sizes size t.1 h,
   below_push 0 forms form t.2 (subst (λ (n : ℕ). IsBelow n form) (from_zero (length forms)) b),
   apart_push forms form t.3 new,
+  ap (λ (bs : List Bool). bs ++ own ∷ []) t.4 ∙ ap (λ (b : Bool). owned_of forms ++ b ∷ []) o ∙ sym (behind_push has_own_in [] forms form),
 )
 
 -- ---- what is found of a type

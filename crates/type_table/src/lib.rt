@@ -3,6 +3,8 @@
 
 mod field;
 mod form;
+mod kind;
+mod owned;
 mod shape;
 mod size;
 mod types;

@@ -5,14 +5,18 @@ ghost use Rattle.std.specs.Option.{option_copied};
 ghost use Rattle.type_table.specs.declared.form.TypeForm.{TypeForm};
 ghost use Rattle.type_table.specs.Fields as fields;
 ghost use Rattle.type_table.specs.Forms as form_specs;
+ghost use Rattle.type_table.specs.Kinds.{kinds_of};
+ghost use Rattle.type_table.specs.Owned as owns;
 ghost use Rattle.type_table.specs.Shapes as shapes;
 ghost use Rattle.type_table.specs.Sizes as spec;
 
 use crate::field::field_named;
 use crate::form::{TypeForm, TypeNo, is_same};
+use crate::kind::kind_at;
+use crate::owned::{has_own_at, has_own_in};
 use crate::shape::shape_at;
 use crate::size::{Size, size_in};
-use eu_base::{List, NoMemory, Shape};
+use eu_base::{Kind, List, NoMemory, Shape};
 use std::alloc::Global;
 use std::marker::Model;
 
@@ -22,6 +26,7 @@ use std::marker::Model;
 pub struct Types {
     forms: List<TypeForm>,
     sizes: List<Size>,
+    owned: List<bool>,
 }
 
 impl Model for Types {
@@ -33,7 +38,7 @@ impl Model for Types {
 
     ghost view = { λ types. types.forms };
 
-    ghost invariant = { λ types. IsTable types.forms types.sizes };
+    ghost invariant = { λ types. IsTable types.forms types.sizes types.owned };
 }
 
 fn number_of(forms: &[TypeForm], form: &TypeForm) -> Option<TypeNo>
@@ -59,6 +64,7 @@ impl Types {
         Types {
             forms: List::new(alloc),
             sizes: List::new(alloc),
+            owned: List::new(alloc),
         }
     }
 
@@ -75,24 +81,31 @@ impl Types {
             None => Ok(None),
             Some(size) => {
                 let number = self.forms.len();
-                self.add(form, size)?;
+                let own = has_own_in(self.owned.as_slice(), &form);
+                self.add(form, size, own)?;
                 Ok(Some(TypeNo { number }))
             }
         }
     }
 
-    // Adds a new type of this size.
-    fn add(&mut self, form: TypeForm, size: Size) -> Result<(), NoMemory>
+    // Adds a new type of this size, which has own types in it or not.
+    fn add(&mut self, form: TypeForm, size: Size, own: bool) -> Result<(), NoMemory>
         requires small { spec.is_small size ≡ true }
         requires size { size ≡ spec.size_in (spec.sizes_of self.old) form }
+        requires own { own ≡ owns.has_own_in (owns.owned_of self.old) form }
         requires parts { form_specs.IsBelow (length self.old) form }
         requires new { form_specs.number_of form self.old ≡ None }
         ensures added { OnOk result (self.new ≡ self.old ++ form ∷ []) }
         ensures kept { OnErr result (self.new ≡ self.old) }
     {
         self.sizes.push(size)?;
+        if let Err(NoMemory) = self.owned.push(own) {
+            let _size = self.sizes.pop();
+            return Err(NoMemory);
+        }
         if let Err(NoMemory) = self.forms.push(form) {
             let _size = self.sizes.pop();
+            let _own = self.owned.pop();
             return Err(NoMemory);
         }
         Ok(())
@@ -129,9 +142,24 @@ impl Types {
         }
     }
 
+    /// The kind of a cell of a type, by its number from 0; `None` exactly where the type has no such cell.
+    pub fn kind_at(&self, of: TypeNo, cell: u16) -> Option<Kind>
+        ensures { result ≡ slice_get (kinds_of self.now of) cell }
+    {
+        kind_at(self.sizes.as_slice(), self.forms.as_slice(), of, cell)
+    }
+
+    /// Whether an own type occurs in a type, or it is one; not where there is no type of this number.
+    pub fn has_own(&self, of: TypeNo) -> bool
+        ensures { result ≡ owns.has_own self.now of }
+    {
+        has_own_at(self.owned.as_slice(), of)
+    }
+
     /// How many cells a type has; 0 where there is no type of this number.
     pub fn cells(&self, of: TypeNo) -> u16
-        ensures { result ≡ (spec.size_of self.now of).cells }
+        ensures cells { result ≡ (spec.size_of self.now of).cells }
+        ensures kinds { result ≡ length (kinds_of self.now of) }
     {
         match self.sizes.get(of.number) {
             None => 0,

@@ -71,7 +71,7 @@ accesses (Err e) before after c c' marks p instr i is h = tt
 
 -- one that looks at no cell, and forgets some or none
 module _ (holds : Cells → Type 0) (p : Program) (instr i : Instr) (marks : ℕ) (c : Position) (c' : Control) (is : instr ≡ i) where
-  so : (next : Next) (to : Cells → Cells) → ((cells : Cells) → StepsSo i c cells c' (to cells) next) → ((cells : Cells) → holds cells → holds (to cells))
+  pub so : (next : Next) (to : Cells → Cells) → ((cells : Cells) → StepsSo i c cells c' (to cells) next) → ((cells : Cells) → holds cells → holds (to cells))
       → Steps holds holds (stage_by p instr marks) c c' marks next
   so next to h kept =
       subst (λ i. Steps holds holds (stage_by p i marks) c c' marks next) (sym is) (plain holds holds i c c' next to h kept p marks)

@@ -18,8 +18,8 @@ use Rattle.code_form.specs.declared.operand.Operand.TheVariants.{Value as Of, Pl
 use Rattle.code_form.specs.declared.operand.OperandKind.{OperandKind}
 use Rattle.code_form.specs.declared.operand.OperandKind.TheVariants.{Value as OfKind, Place as AtKind}
 use Rattle.code_form.specs.declared.instr.Instr.{Instr}
-use Rattle.code_form.specs.declared.instr.Instr.TheVariants.{Mark, Number, Truth, Text, Outer, Local, Param, Load, Store, Do, Modify, Jump, False, When, Drop}
-use Rattle.code_form.specs.declared.instr.Instr.TheVariants.{Limit, Unlimit, Step, Ask, ErrorStop, Call, Refer, Back, Out, End}
+use Rattle.code_form.specs.declared.instr.Instr.TheVariants.{Mark, Number, Truth, Text, Outer, Local, Param, Index, Field, Load, Store, Do, Modify, Jump, False}
+use Rattle.code_form.specs.declared.instr.Instr.TheVariants.{When, Drop, Limit, Unlimit, Step, Ask, ErrorStop, Call, Refer, Back, Out, End}
 use Rattle.code_form.specs.declared.code.Spot.{Spot}
 use Rattle.code_form.specs.Program.{Program, line_of, instr_of, owner, frame_cells}
 use Rattle.code_form.specs.Machine.{Frame, Position, Control, free, given, base_of}
@@ -195,6 +195,10 @@ module _ (p : Program) (valid : IsValid p) where
     finds_at (Outer x) f = outer_cell c fits x f.0 f.1
     finds_at (Local x) f = local_cell c fits x (OfKind f.0) f.1
     finds_at (Param x) f = local_cell c fits x (AtKind f.0) f.1
+    finds_at (Index n size) f =
+        let is : ks ≡ OfKind kinds.Int ∷ AtKind f.2.kind ∷ f.2.rest = f.1 ∙ ap (λ rest. OfKind kinds.Int ∷ rest) f.2.taken in
+        top_both c.ops kinds.Int f.2.kind f.2.rest (subst (FitsKinds c.ops) is fits.operands)
+    finds_at (Field n) f = top_place c.ops f.kind f.rest (subst (FitsKinds c.ops) f.taken fits.operands)
     finds_at (Load kind) f = top_place c.ops kind f.0 (subst (FitsKinds c.ops) f.1 fits.operands)
     finds_at (Store kind) f = top_both c.ops kind kind f.0 (subst (FitsKinds c.ops) f.1 fits.operands)
     finds_at (Do op) f = all_values (operand_kinds op) f.0 f.1

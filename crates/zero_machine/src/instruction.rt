@@ -15,6 +15,7 @@ use zero_state::{Next, State};
 use zero_steps::ask::ask;
 use zero_steps::change::modify;
 use zero_steps::operate::operate;
+use zero_steps::place::{field, index};
 use zero_steps::push::{push_on, push_text};
 use zero_steps::step::{
     drop_value, jump_false, limit, load, local, outer, param, step, store, unlimit, when,
@@ -44,6 +45,11 @@ pub fn execute<M: Memory>(
         Instr::Outer(cell) => computed(outer(s, *cell)),
         Instr::Local(cell) => computed(local(s, *cell)),
         Instr::Param(cell) => param(s, m, *cell),
+        Instr::Index(count, cells) => Ok(index(s, *count, *cells)),
+        Instr::Field(cells) => {
+            field(s, *cells);
+            Ok(Next::On)
+        }
         Instr::Load(kind) => load(s, m, *kind),
         Instr::Store(kind) => store(s, m, *kind),
         Instr::Do(operation) => computed(operate(s, *operation)),

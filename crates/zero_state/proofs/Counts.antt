@@ -3,7 +3,9 @@ use Rattle.std.proofs.Common.{◌≡◌, ℕ, zero, suc, ◌+◌, ◌-◌, ◌<�
 use Rattle.std.specs.Prelude.{reverse, slice_set}
 use Rattle.std.proofs.Math.Seq.{set-append_seam}
 use Rattle.std.proofs.lemmas.List.{reverse-append, reverse-reverse, length-reverse, length-take-le, take-append-drop, take_rest}
+use Rattle.eu_base.specs.declared.address.Addr.{Addr}
 use Rattle.code_form.specs.declared.operand.Operand.{Operand}
+use Rattle.code_form.specs.declared.operand.Operand.TheVariants.{Place as At}
 use Rattle.code_form.specs.Machine.{Frame, operand_bytes, bytes_on, bytes_of}
 use Rattle.zero_state.specs.declared.stack.Link.{Link}
 use Rattle.zero_state.specs.declared.stack.Frame.{Frame as Kept}
@@ -156,3 +158,17 @@ pub replaced_is : (operands after : List Operand) (frames : List Kept) (o : Oper
     → stacked operands frames ≡ s → stacked after frames ≡ record s { ops = o ∷ s.ops }
 replaced_is operands after frames o s turned is =
     ap (λ ops. stack_of ops (frames_of frames)) turned ∙ ap (λ (s : Stacked). record s { ops = o ∷ s.ops }) is
+
+-- a place in the stead of one that is on top takes as many bytes
+pub moved : (operands : List Operand) (frames : List Kept) (s : Stacked) → stacked operands frames ≡ s → (after : List Operand) (a b : Addr)
+    → (rest : List Operand) (n bytes : ℕ) → s.ops ≡ At b ∷ rest → n ≡ length operands → after ≡ slice_set operands (n - 1) (At a)
+    → bytes ≡ bytes_on (reverse operands) (bytes_of (frames_of frames)) → bytes ≡ bytes_on (reverse after) (bytes_of (frames_of frames))
+moved operands frames s view after a b rest n bytes top many is counted =
+    let held = bytes_of (frames_of frames) in
+    let all : reverse operands ≡ At b ∷ rest = ap (λ (s : Stacked). s.ops) view ∙ top in
+    let long : length operands ≡ suc (length rest) = sym (length-reverse operands) ∙ ap (λ (l : List Operand). length l) all in
+    let set : after ≡ take (n - 1) operands ++ At a ∷ [] = replaced operands after n (At a) (omega (arith, long)) many is in
+    let left : reverse (take (n - 1) operands) ≡ rest =
+    ap (λ (m : ℕ). reverse (take (m - 1) operands)) many ∙ sym (older operands 1 (omega (arith, long))) ∙ ap (drop 1) all in
+    counted ∙ ap (λ (l : List Operand). bytes_on l held) (all ∙ ap (λ (l : List Operand). At b ∷ l) (sym left))
+    ∙ ap (λ (l : List Operand). bytes_on l held) (sym (replaced_turned (take (n - 1) operands) after (At a) set))

@@ -9,7 +9,7 @@ use Rattle.eu_base.specs.Operations.{operand_kinds}
 use Rattle.eu_base.specs.declared.request.RequestName.{RequestName}
 use Rattle.eu_base.specs.Requests.{request_kinds, request_size}
 use Rattle.code_form.specs.declared.instr.Instr.{Instr}
-use Rattle.code_form.specs.declared.instr.Instr.TheVariants.{Outer, Local, Param, Load, Store, Do, Modify, False, When, Drop, Limit}
+use Rattle.code_form.specs.declared.instr.Instr.TheVariants.{Outer, Local, Param, Index, Field, Load, Store, Do, Modify, False, When, Drop, Limit}
 use Rattle.code_form.specs.declared.instr.Instr.TheVariants.{Unlimit, Step, Ask, ErrorStop, Call, Refer, Back, Out}
 use Rattle.code_form.specs.declared.code.Entry.{Entry}
 use Rattle.code_form.specs.declared.code.Layout.{Layout}
@@ -97,6 +97,8 @@ abbrev pub Finds : List Entry → Instr → Position → Type 0
 Finds bodies (Outer k) c = IsCell (run_cell k)
 Finds bodies (Local k) c = IsCell (run_cell (base_of c.frames + k))
 Finds bodies (Param k) c = IsCell (run_cell (base_of c.frames + k))
+Finds bodies (Index n size) c = TopBoth c.ops
+Finds bodies (Field n) c = TopPlace c.ops
 Finds bodies (Load k) c = TopPlace c.ops
 Finds bodies (Store k) c = TopBoth c.ops
 Finds bodies (Do op) c = TopValues (length (operand_kinds op)) c.ops

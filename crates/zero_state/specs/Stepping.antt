@@ -15,7 +15,7 @@ use Rattle.code_form.specs.Program.{Program}
 use Rattle.code_form.specs.Machine.{Position, Control, free, Scene, Stage, On, Over, Lost, rest_at, bytes_on, bytes_of, instruction, stage}
 use Rattle.zero_state.specs.declared.state.State.{State}
 use Rattle.zero_state.specs.declared.next.Next.{Next}
-use Rattle.zero_state.specs.declared.next.Next.TheVariants.{On as On', Marked, Ended, Overflow, Division, TextLong, BadCode, CellRoom, OperandRoom, TextRoom}
+use Rattle.zero_state.specs.declared.next.Next.TheVariants.{On as On', Marked, Ended, Overflow, Division, Index, TextLong, BadCode, CellRoom, OperandRoom, TextRoom}
 
 abbrev pub position_of : State → Position
 position_of s = record { pc = s.pc; ops = s.stack.ops; used = s.used; frames = s.stack.frames }
@@ -54,6 +54,7 @@ halt_of Marked = Some halts.Marked
 halt_of Ended = Some halts.Ended
 halt_of Overflow = Some (halts.Stopped stops.Overflow)
 halt_of Division = Some (halts.Stopped stops.Division)
+halt_of Index = Some (halts.Stopped stops.Index)
 halt_of TextLong = Some (halts.Stopped stops.TextLong)
 halt_of BadCode = Some (halts.Stopped stops.BadCode)
 halt_of CellRoom = Some (halts.Stopped stops.CellRoom)

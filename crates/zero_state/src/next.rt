@@ -18,6 +18,8 @@ pub enum Next {
     Overflow,
     /// A divisor 0 stops it.
     Division,
+    /// An index outside a row stops it.
+    Index,
     /// A text of more than 16,000 bytes stops it.
     TextLong,
     /// No code of a byte stops it.
@@ -41,6 +43,7 @@ impl Next {
             Next::Ended => Some(Halt::Ended),
             Next::Overflow => Some(Halt::Stopped(Stop::Overflow)),
             Next::Division => Some(Halt::Stopped(Stop::Division)),
+            Next::Index => Some(Halt::Stopped(Stop::Index)),
             Next::TextLong => Some(Halt::Stopped(Stop::TextLong)),
             Next::BadCode => Some(Halt::Stopped(Stop::BadCode)),
             Next::CellRoom => Some(Halt::Stopped(Stop::CellRoom)),

@@ -143,6 +143,15 @@ impl Stack {
         self.operands.set(at, Operand::Value(value));
     }
 
+    /// Puts a place in the stead of the one on top.
+    pub fn replace_place(&mut self, place: Addr)
+        requires { TopPlace self.old.ops }
+        ensures { self.new ≡ record self.old { ops = operand.Place place ∷ drop 1 self.old.ops } }
+    {
+        let at = self.operands.len() - 1;
+        self.operands.set(at, Operand::Place(place));
+    }
+
     /// The newest operands, the newest last.
     pub fn top(&self, count: usize) -> &[Operand]
         requires { count ≤ length self.now.ops }

@@ -5,6 +5,7 @@ pub mod ask;
 pub mod change;
 mod counter;
 pub mod operate;
+pub mod place;
 pub mod push;
 mod reading;
 pub mod reply;

@@ -4,11 +4,11 @@ use Rattle.std.specs.Int.{w16}
 use Rattle.std.specs.Int.RustNames.{FitsSigned}
 use Rattle.eu_base.specs.declared.value.Value.TheVariants as item
 use Rattle.code_form.specs.declared.operand.Operand.TheVariants as operand
-use Rattle.code_form.specs.declared.instr.Instr.TheVariants.{Number, Truth, Text, Outer, Local, Param, Load, Store, Do, Modify, Jump, False, When, Drop}
-use Rattle.code_form.specs.declared.instr.Instr.TheVariants.{Limit, Unlimit, Step, Ask, ErrorStop, Back, Out}
+use Rattle.code_form.specs.declared.instr.Instr.TheVariants.{Number, Truth, Text, Outer, Local, Param, Index, Field, Load, Store, Do, Modify, Jump, False, When}
+use Rattle.code_form.specs.declared.instr.Instr.TheVariants.{Drop, Limit, Unlimit, Step, Ask, ErrorStop, Back, Out}
 use Rattle.zero_state.specs.Stepping.{position_of, control_of, stage_by}
 use Rattle.zero_state.proofs.Making.{plain_steps}
-use Rattle.zero_machine.proofs.Executing.{call_so, refer_so, said_by, accesses, goes_so, forgets_so, computed_so, pushes_so, asks_so, ends}
+use Rattle.zero_machine.proofs.Executing.{call_so, refer_so, said_by, accesses, so, goes_so, forgets_so, computed_so, pushes_so, asks_so, ends}
 use Rattle.zero_machine.proofs.instruction.execute.Goals as goal
 
 pub returns-in-Mark-clause-goes : goal.returns-in-Mark-clause-goes
@@ -56,6 +56,16 @@ pub returns-in-Param-clause-goes : goal.returns-in-Param-clause-goes
 returns-in-Param-clause-goes g c =
     accesses c.param.result (g.M.Memory.holds c.args.m.now) (g.M.Memory.holds c.param.new.m) (position_of c.args.s.now) (control_of c.param.new.s)
     c.args.marks.now c.args.code.now c.args.instr.now (Param c.in-Param.cell) c.in-Param.is c.param.ensures.goes
+
+pub returns-in-Index-clause-goes : goal.returns-in-Index-clause-goes
+returns-in-Index-clause-goes g c =
+    so (g.M.Memory.holds c.args.m.now) c.args.code.now c.args.instr.now (Index c.in-Index.count c.in-Index.cells) c.args.marks.now (position_of c.args.s.now)
+    (control_of c.index.new.s) c.in-Index.is c.index.result (λ cells. cells) c.index.ensures (λ cells held. held)
+
+pub returns-in-Field-clause-goes : goal.returns-in-Field-clause-goes
+returns-in-Field-clause-goes g c =
+    goes_so (g.M.Memory.holds c.args.m.now) c.args.code.now c.args.instr.now (Field c.in-Field.cells) c.args.marks.now (position_of c.args.s.now)
+    (control_of c.field.new.s) c.in-Field.is c.field.ensures
 
 pub returns-in-Load-clause-goes : goal.returns-in-Load-clause-goes
 returns-in-Load-clause-goes g c =
