@@ -35,6 +35,9 @@ use Rattle.elan_scope.specs.declared.scope.Within.{Within}
 use Rattle.elan_scope.specs.declared.scope.Home.{Home}
 use Rattle.elan_scope.specs.Scope.{Found}
 use Rattle.elan_levels.specs.Bodies as b
+use Rattle.type_names.specs.Types.{body_types}
+use Rattle.elan_scope.specs.declared.type_name.TypeName.{TypeName}
+use Rattle.elan_scope.specs.Scope.{has_open}
 use Rattle.elan_levels.specs.Bodies.{parameters, result, frame, parameter_names, own_names, body_names, refinement_headings, bodies_in, unit_headings}
 use Rattle.elan_scope.specs.Phrase as form
 use Rattle.elan_scope.specs.Phrase.{plain, Phrase, phrase, Parts, none, part, all_of, leaf}
@@ -89,11 +92,13 @@ const_formals : (ts : List ElanType) → map formal_of (map held_const ts) ≡ m
 const_formals [] = refl
 const_formals (t ∷ ts) = ap (λ (fs : List core.Formal). formal Const (kind_in t) ∷ fs) (const_formals ts)
 
-frame_held : (fs : List Formal) (w : Written) → frame_of (frame fs w) ≡ map formal_of (all_held (body_names fs w))
-frame_held fs w =
-    let ts = types_of (all_held (own_names w)) in
-    ap (λ (gs : List core.Formal). map formal_of (parameters fs) ++ gs) (sym (ap (map formal_of) (own_held w.units w.refinements) ∙ const_formals ts))
-    ∙ sym (formals_append (parameters fs) (all_held (own_names w))) ∙ ap (map formal_of) (sym (held_append (parameter_names fs) (own_names w)))
+frame_held : (ts : List TypeName) (fs : List Formal) (w : Written) → frame_of (frame ts fs w) ≡ map formal_of (all_held (body_names ts fs w))
+frame_held ts fs w =
+    let here = body_types ts w ++ ts in
+    let us = types_of (all_held (own_names here w)) in
+    ap (λ (gs : List core.Formal). map formal_of (parameters ts fs) ++ gs) (sym (ap (map formal_of) (own_held here w.units w.refinements) ∙ const_formals us))
+    ∙ sym (formals_append (parameters ts fs) (all_held (own_names here w)))
+    ∙ ap (map formal_of) (sym (held_append (parameter_names ts fs) (own_names here w)))
 
 -- ---- rows
 
@@ -112,12 +117,12 @@ Frames all (Some v) =
     (fs : List core.Formal) × (vs : List Kind) × (scope_of (slice_get all v.number) ≡ Some (owner.Own fs vs))
     × (fs ++ map (formal Const) vs ≡ map formal_of (all_held v.names))
 
-abbrev pub within : ℕ → List Entry → Option Within
-within n names = Some (record { number = n; names = names })
+abbrev pub within : ℕ → List Entry → List TypeName → Option Within
+within n names types = Some (record { number = n; names = names; types = types })
 
 abbrev pub Stands : List Body → ℕ → What → Scope → Body → Type 0
 Stands all n (Routine sort ps r) z b =
-    (names : List Entry) × (z.routine ≡ within n names) × (z.refinement ≡ None) × (frame_of b.scope ≡ map formal_of (all_held names))
+    (names : List Entry) × (types : List TypeName) × (z.routine ≡ within n names types) × (z.refinement ≡ None) × (frame_of b.scope ≡ map formal_of (all_held names))
 Stands all n (Refinement home) z b = (z.refinement ≡ Some n) × (number_of z.routine ≡ home) × Frames all z.routine
 
 module _ (kn : Known) (s : Scope) (all : List Body) where
@@ -229,8 +234,15 @@ module _ (kn : Known) (s : Scope) (all : List Body) where
       by_test true h = ap u.bodies_in (sym (gives_is (calls.declared_as at f.home f.number f.denotes) m h)) ∙ declared_as_quiet at f.home f.number f.denotes
       by_test false h = absurd cc
 
+  -- what is not hanging is told
+  unless_gives : (c : Bool) (q : Ruled Meant) (m : Meant) → verdict.unless c q ≡ gives m → (c ≡ false) × (q ≡ gives m)
+  unless_gives true q m e = absurd cc
+  unless_gives false q m e = (refl, e)
+
   declares_quiet : (z : Scope) (n : Name) → Quiet (l.declares z n)
-  declares_quiet z n m e = declared_quiet n.at (scope.find_own z n.text) m e
+  declares_quiet z n m e =
+      declared_quiet n.at (scope.find_own z n.text) m
+      (unless_gives (calls.declares_open n.at (scope.find_own z n.text)) (verdict.told (calls.declared n.at (scope.find_own z n.text))) m e).1
 
   all_declare_quiet : (z : Scope) (ns : List Name) → AllQuiet (map (l.declares z) ns)
   all_declare_quiet z [] = tt
@@ -240,16 +252,40 @@ module _ (kn : Known) (s : Scope) (all : List Body) where
   parameters_quiet z [] = tt
   parameters_quiet z (f ∷ fs) = quiet_append (map (l.declares z) f.names) (l.declare_parameters z fs) (all_declare_quiet z f.names) (parameters_quiet z fs)
 
+  headed_as_quiet : (at : ℕ) (missing : Bool) (m : Meant) → verdict.told (calls.headed_as at missing) ≡ gives m → u.bodies_in m ≡ []
+  headed_as_quiet at true m e = absurd cc
+  headed_as_quiet at false m e = ap u.bodies_in (sym (gives_is (Done []) m e))
+
   headed_quiet : (at : ℕ) (missing : Bool) (o : Option (ℕ × Heading)) (m : Meant) → verdict.told (calls.headed at missing o) ≡ gives m → u.bodies_in m ≡ []
   headed_quiet at missing None m e = absurd cc
-  headed_quiet at missing (Some h) m e = by_tests (nat_eq h.1.at at) missing e
+  headed_quiet at missing (Some h) m e = by_test (nat_eq h.1.at at) e
     where
-      by_tests : (c d : Bool)
-          → verdict.told (if c then (if d then verdict.breaks (at, WrongType) else verdict.gives (Done [])) else verdict.breaks (at, Doubled)) ≡ gives m
-          → u.bodies_in m ≡ []
-      by_tests true true h = absurd cc
-      by_tests true false h = ap u.bodies_in (sym (gives_is (Done []) m h))
-      by_tests false d h = absurd cc
+      by_test : (c : Bool) → verdict.told (if c then calls.headed_as at missing else verdict.breaks (at, Doubled)) ≡ gives m → u.bodies_in m ≡ []
+      by_test true h = headed_as_quiet at missing m h
+      by_test false h = absurd cc
+
+  heading_quiet : (at : ℕ) (ps : List Parameter) (r : Option ElanType) (missing : Bool) (o : Option (ℕ × Heading)) (m : Meant)
+      → calls.heading_ruled at ps r missing o ≡ gives m → u.bodies_in m ≡ []
+  heading_quiet at ps r missing o m e =
+      by_test (has_open ps) (unless_gives (calls.heading_open ps r (calls.heading at ps missing o)) (verdict.told (calls.heading at ps missing o)) m e).1
+    where
+      by_test : (c : Bool) → verdict.told (if c then calls.headed_as at missing else calls.headed at missing o) ≡ gives m → u.bodies_in m ≡ []
+      by_test true h = headed_as_quiet at missing m h
+      by_test false h = headed_quiet at missing o m h
+
+  type_named_quiet : (at : ℕ) (o : Option TypeName) (m : Meant) → verdict.told (calls.type_declared at o) ≡ gives m → u.bodies_in m ≡ []
+  type_named_quiet at None m e = absurd cc
+  type_named_quiet at (Some t) m e = by_test (nat_eq t.at at) e
+    where
+      by_test : (c : Bool) → verdict.told (if c then verdict.gives (Done []) else verdict.breaks (at, Doubled)) ≡ gives m → u.bodies_in m ≡ []
+      by_test true h = ap u.bodies_in (sym (gives_is (Done []) m h))
+      by_test false h = absurd cc
+
+  -- the name of a type
+  pub type_quiet : (n : Name) → Quiet (leaf n.at (form.type_name s n.text))
+  type_quiet n m e =
+      type_named_quiet n.at (scope.find_own_type s n.text) m
+      (unless_gives (calls.is_open_type n.at (scope.find_own_type s n.text)) (verdict.told (calls.type_declared n.at (scope.find_own_type s n.text))) m e).1
 
   pub procedure_quiet : (n : Name) (fs : List Formal) → AllQuiet (l.procedure_name s n fs)
   procedure_quiet n [] = (declares_quiet s n, tt)
@@ -259,7 +295,7 @@ module _ (kn : Known) (s : Scope) (all : List Body) where
 
   module _ (k : ℕ) (at : ℕ) (x : List ℕ) (t : Option TypePhrase) (fs : List Formal) (w : Written) where
     abbrev own : Owner
-    own = frame fs w
+    own = frame s.types fs w
 
     abbrev inner : Scope
     inner = l.inner s k at x t fs w
@@ -270,7 +306,7 @@ module _ (kn : Known) (s : Scope) (all : List Body) where
 
     pub routine_rows : (sort : Sort) (names : List Phrase) (m : Meant) → AllQuiet names → judged kn (l.routine s k at x t fs w sort names) ≡ gives m
         → Inside k (u.bodies_in m) all →
-        Rows k (b.routine_heading sort at x fs t ∷ refinement_headings (Some k) w.refinements) (l.routine_units s k at x t fs w) (u.bodies_in m)
+        Rows k (b.routine_heading s.types sort at x fs t ∷ refinement_headings (Some k) w.refinements) (l.routine_units s k at x t fs w) (u.bodies_in m)
     routine_rows sort names m quiet e inside =
         let q =
         bind_gives (judged_all kn (all_of (l.heading_phrases s k at x t fs w sort names ++ l.body_phrases s k at x t fs w)))
@@ -278,37 +314,37 @@ module _ (kn : Known) (s : Scope) (all : List Body) where
         let p = split kn (l.heading_phrases s k at x t fs w sort names) (l.body_phrases s k at x t fs w) q.0 q.1 in
         let silent : u.bodies_of p.0 ≡ [] =
         quiet_bodies (l.heading_phrases s k at x t fs w sort names) p.0
-        (quiet_append names (leaf at (form.heading s sort x (parameters fs) (l.is_missing (result t) (l.body_units s k at x t fs w)))
+        (quiet_append names (leaf at (form.heading s sort x (parameters s.types fs) (result s.types t) (l.is_missing (result s.types t) (l.body_units s k at x t fs w)))
         ∷ l.declare_parameters inner fs) quiet (
-          headed_quiet at (l.is_missing (result t) (l.body_units s k at x t fs w))
-              (scope.first_heading (scope.is_alike sort x (scope.types_of (parameters fs))) s.headings),
+          heading_quiet at (parameters s.types fs) (result s.types t) (l.is_missing (result s.types t) (l.body_units s k at x t fs w))
+              (scope.first_heading (scope.is_alike sort x (scope.types_of (parameters s.types fs))) s.headings),
           parameters_quiet inner fs,
         )) p.2 in
         let a = before_gives (judged kn (l.own_body s k at x t fs w)) (judged_all kn (all_of (l.refinements inner (suc k) w.refinements))) p.1 p.3 in
-        let c = bind_gives (judged_all kn (part (l.own_units s k at x t fs w) none)) (ruled kn 0 (plain (form.body own (result t)))) a.0 a.2 in
+        let c = bind_gives (judged_all kn (part (l.own_units s k at x t fs w) none)) (ruled kn 0 (plain (form.body own (result s.types t)))) a.0 a.2 in
         let d = before_gives (judged kn (l.own_units s k at x t fs w)) (gives []) c.0 c.1 in
         let one : c.0 ≡ d.0 ∷ [] = d.4 ∙ ap (λ (ns : List Meant). d.0 ∷ ns) (sym (gives_is [] d.1 d.3)) in
-        let made = one_body (result t) c.0 a.0 d.0 one c.2 in
-        let body : Body = record { scope = own; content = u.content_as (result t) d.0 } in
+        let made = one_body (result s.types t) c.0 a.0 d.0 one c.2 in
+        let body : Body = record { scope = own; content = u.content_as (result s.types t) d.0 } in
         let is : u.bodies_in m ≡ body ∷ u.bodies_of a.1 =
         ap u.bodies_in (sym (gives_is (Bodies (u.bodies_of q.0)) m q.2)) ∙ ap u.bodies_of p.4 ∙ bodies_append p.0 p.1
         ∙ ap (λ (bs : List Body). bs ++ u.bodies_of p.1) silent ∙ ap u.bodies_of a.4 ∙ ap (λ (n : Meant). u.bodies_in n ++ u.bodies_of a.1) made in
         let here : slice_get all k ≡ Some body =
         (let z : k + 0 ≡ k = omega arith in ap (slice_get all) (sym z) ∙ inside 0 body (ap (λ (bs : List Body). slice_get bs 0) is)) in
-        subst (λ (bs : List Body). Rows k (b.routine_heading sort at x fs t ∷ refinement_headings (Some k) w.refinements) (l.routine_units s k at x t fs w) bs)
+        subst (λ (bs : List Body). Rows k (b.routine_heading s.types sort at x fs t ∷ refinement_headings (Some k) w.refinements) (l.routine_units s k at x t fs w) bs)
         (sym is) (
           record {
             meant = d.0;
             means = d.2;
             list = l.body_units s k at x t fs w;
             is_list = refl;
-            made = (variables_of (own_names w), refl, refl);
+            made = (variables_of (own_names (body_types s.types w ++ s.types) w), refl, refl);
             scope = inner;
-            in_scope = body_units_in inner (delivered (result t)) w.units;
+            in_scope = body_units_in inner (delivered (result s.types t)) w.units;
             headings = refl;
             level = refl;
-            stands = (body_names fs w, refl, refl, frame_held fs w);
+            stands = (body_names s.types fs w, body_types s.types w, refl, refl, frame_held s.types fs w);
           },
           refinement_rows inner (suc k) w.refinements a.1 refl refl
-              (map formal_of (parameters fs), variables_of (own_names w), ap scope_of here, frame_held fs w) a.3,
+              (map formal_of (parameters s.types fs), variables_of (own_names (body_types s.types w ++ s.types) w), ap scope_of here, frame_held s.types fs w) a.3,
         )

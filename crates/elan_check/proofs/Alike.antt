@@ -20,7 +20,7 @@ use Rattle.call_graph.specs.Chains.{leads}
 use Rattle.elan_meant.specs.declared.meant.Meant.{Meant}
 use Rattle.elan_meant.specs.Parts.{nth}
 use Rattle.elan_meant.specs.Verdict as verdict
-use Rattle.elan_meant.specs.Verdict.{told}
+use Rattle.elan_meant.specs.Verdict.{Verdict, told, unless}
 use Rattle.value_rules.specs.Calls as r
 use Rattle.value_rules.specs.walks.Steps as walk
 use Rattle.elan_rules.specs.Rules.{ruled}
@@ -28,7 +28,7 @@ use Rattle.elan_rules.specs.Meaning.{judged, judged_all, phrases, phrases_of}
 use Rattle.elan_judge.proofs.InScope.{Names, InScope, AllIn}
 use Rattle.elan_check.specs.Refinements.{called_by, called_in}
 use Rattle.elan_check.proofs.Calls.{called_append}
-use Rattle.elan_check.proofs.Walks.{In}
+use Rattle.call_graph.proofs.Walks.{In}
 
 bind_alike : {A B : Type 0} (p q : Ruled A) (f g : A → Ruled B) → p ≡ q → ((x : A) → f x ≡ g x) → (p >>= f) ≡ (q >>= g)
 bind_alike p q f g e h = ap (λ (s : Ruled _). s >>= f) e ∙ by_outcome q
@@ -108,10 +108,12 @@ module _ (j k : Known) (z : Scope) (calls : j.calls ≡ k.calls) where
 
   form_alike : LeftSame → (at : ℕ) (f : Form) (ps : Parts) (ms : List Meant) → Names z f → AllSame (called_by (phrase at f ps)) → ruled j at f ms ≡ ruled k at f ms
   form_alike l at (form.named Expression s x) ps ms e h =
-      named_alike at s x (find s x) (λ n i. h n (in_one n (refinement_named s x) i))
-  form_alike l at (form.named Counter s x) ps ms e h = counter_alike at s x (find s x)
+      ap (λ (q : Ruled Meant). unless (r.is_open_name s x (find s x)) q) (named_alike at s x (find s x) (λ n i. h n (in_one n (refinement_named s x) i)))
+  form_alike l at (form.named Counter s x) ps ms e h =
+      ap (λ (q : Ruled Meant). unless (r.is_open_name s x (find s x)) q) (counter_alike at s x (find s x))
   form_alike l at (form.leave s x) ps ms e h =
-      ap told (leaving_alike at (left s x) (nth ms 0) (λ q i. l x q (ap (λ (y : Scope). left y x) (sym e) ∙ i)))
+      ap (λ (v : Verdict Meant). unless (r.leaves_open s (left s x)) (told v))
+      (leaving_alike at (left s x) (nth ms 0) (λ q i. l x q (ap (λ (y : Scope). left y x) (sym e) ∙ i)))
   form_alike l at (plain f) ps ms e h = refl
 
   mutual

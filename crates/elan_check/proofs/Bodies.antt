@@ -128,13 +128,13 @@ module _ (s : Scope) (k : ℕ) (at : ℕ) (x : List ℕ) (r : Option TypePhrase)
   own : bodies_within (l.own_body s k at x r fs w) ≡ l.own_units s k at x r fs w ∷ []
   own =
       one_body (l.own_body s k at x r fs w) (l.own_units s k at x r fs w) [] refl refl
-      (quiet inner (l.own_units s k at x r fs w) (body_units_in inner (delivered (b.result r)) w.units)) refl
+      (quiet inner (l.own_units s k at x r fs w) (body_units_in inner (delivered (b.result s.types r)) w.units)) refl
 
   routine : (sort : Sort) (names : List Phrase) → AllQuiet names → bodies_within (l.routine s k at x r fs w sort names) ≡ l.routine_units s k at x r fs w
   routine sort names q =
       let heading = l.heading_phrases s k at x r fs w sort names in
       let body = l.body_phrases s k at x r fs w in
-      let marked = form.leaf at (form.heading s sort x (b.parameters fs) (l.is_missing (b.result r) (l.body_units s k at x r fs w))) in
+      let marked = form.leaf at (form.heading s sort x (b.parameters s.types fs) (b.result s.types r) (l.is_missing (b.result s.types r) (l.body_units s k at x r fs w))) in
       around_parts 0 (plain form.routine) (all_of (heading ++ body)) refl ∙ parts_append heading body
       ∙ ap (λ (y : List Phrase). y ++ parts_units body)
       (quiet_parts heading (quiet_append names (marked ∷ l.declare_parameters inner fs) q (refl, parameters_quiet inner fs)))

@@ -1,5 +1,5 @@
 -- The answer of a level, as it is promised of a text.
-use Rattle.std.proofs.Common.{◌≡◌, Result, Ok, Err, Bool, true, false, sym, subst}
+use Rattle.std.proofs.Common.{◌≡◌, Result, Ok, Err, Bool, true, false, Some, sym, subst}
 use Rattle.std.specs.Prelude.{IfOk, ◌↔◌}
 use Rattle.elan_types.specs.declared.env.Env.{Env}
 use Rattle.elan_types.specs.declared.core_phrase.Core.{Core}
@@ -8,17 +8,17 @@ use Rattle.elan_tree.specs.declared.tree.Level.{Level}
 use Rattle.elan_tree.specs.declared.tree.Tree.{Tree}
 use Rattle.elan_tree.specs.declared.tree.Tree.TheVariants as tree
 use Rattle.elan_meant.specs.declared.meant.Meant.TheVariants as means
-use Rattle.elan_scope.specs.Ruled.{Fault, gives, breaks}
+use Rattle.elan_scope.specs.Ruled.{Fault, gives}
 use Rattle.elan_scope.specs.declared.known.Known.{Known}
 use Rattle.elan_rules.specs.Meaning.{judged}
 use Rattle.elan_check.specs.declared.error.CheckError.{CheckError}
 use Rattle.elan_check.specs.declared.error.CheckError.TheVariants.{NoMemory, NoMeaning, NotBuilt}
 use Rattle.elan_unbuilt.specs.NotBuilt.{not_built}
 use Rattle.elan_check.specs.Level.{text}
-use Rattle.elan_check.specs.Text.{Means, Refused, IsNotBuilt, IsCore, IsRefusal, Answers, known}
-use Rattle.elan_rules.proofs.First as first
+use Rattle.elan_check.specs.Text.{Means, Refused, IsNotBuilt, IsCore, IsRefusal, Answers, earliest, known}
+use Rattle.type_names.specs.Faults.{first_fault, level_faults}
 use Rattle.elan_check.proofs.Bodies.{known_is}
-use Rattle.elan_check.proofs.OneAnswer.{one_core, meant_is_not_refused}
+use Rattle.elan_check.proofs.OneAnswer.{one_core, meant_is_not_refused, is_earliest}
 
 pub record Checked (env : Env) (t : Tree) (q : Result Core CheckError) : Type 0 where
   pub meaning : IfOk q (λ core. Means env t core)
@@ -37,12 +37,17 @@ module _ (env : Env) (w : Level) where
   core_means : (core : Core) → not_built t ≡ false → Answers w (Ok core) → Means env t core
   core_means core h a = record {
     is_built = h;
-    variables = a.0;
-    phrases = subst (λ (k : Known). judged k (text t) ≡ gives (means.Level core.units core.bodies)) (sym (known_is t)) a.1;
+    types = a.0;
+    variables = a.1;
+    phrases = subst (λ (k : Known). judged k (text t) ≡ gives (means.Level core.units core.bodies)) (sym (known_is t)) a.2;
   }
 
   is_refused : (fault : Fault) → not_built t ≡ false → Answers w (Err (NoMeaning fault.0 fault.1)) → Refused env t fault
-  is_refused fault h a = record { is_built = h; first = first.refused_of (known t) (text t) fault (subst (λ (k : Known). judged k (text t) ≡ breaks fault) (sym (known_is t)) a) }
+  is_refused fault h a = record {
+    is_built = h;
+    first = is_earliest (known t) (text t) (first_fault (level_faults w)) fault
+        (subst (λ (k : Known). earliest (first_fault (level_faults w)) (judged k (text t)) ≡ Some fault) (sym (known_is t)) a);
+  }
 
   level_checked : (q : Result Core CheckError) → not_built t ≡ false → Answers w q → Checked env t q
   level_checked (Ok core) h a = record {
@@ -50,7 +55,7 @@ module _ (env : Env) (w : Level) where
     only = λ other m. one_core env t core other (core_means core h a) m;
     refused = tt;
     not_built = (λ e. absurd cc, λ i. absurd (both_ways (not_built t) h i));
-    typed = a.2;
+    typed = a.3;
   }
   level_checked (Err NoMemory) h a = record {
     meaning = tt;

@@ -20,7 +20,8 @@ use Rattle.elan_scope.specs.Ruled.{Ruled, gives, breaks, hangs, ◌>>=◌, befor
 use Rattle.elan_scope.specs.Known.{delivery_at, leads_back}
 use Rattle.elan_scope.specs.declared.known.Known.{Known}
 use Rattle.value_rules.specs.Calls as c
-use Rattle.elan_rules.specs.Rules.{rule, ruled}
+use Rattle.elan_meant.specs.Verdict.{told, unless}
+use Rattle.elan_rules.specs.Rules.{rule, ruled, hangs_on}
 use Rattle.elan_rules.specs.Meaning.{judged, judged_all, phrases, phrases_of}
 use Rattle.elan_check.specs.Refinements.{stated, last_unit, last_part, unit_delivery, outcome, called_by, called_in}
 use Rattle.elan_rules.proofs.First.{Faultless, whole, open_one, bind_faultless, before_faultless, breaks_has_fault}
@@ -28,8 +29,9 @@ use Rattle.elan_check.proofs.Calls.{called_append}
 use Rattle.elan_judge.proofs.InScope.{Names, InScope, AllIn}
 use Rattle.elan_rules.proofs.Hung.{named_open}
 use Rattle.elan_meant.proofs.Told.{told_never_hangs}
-use Rattle.elan_check.proofs.Walks.{In}
+use Rattle.call_graph.proofs.Walks.{In}
 use Rattle.elan_check.proofs.Settled.{not_open}
+use Rattle.elan_check.proofs.Closed.{ScopeClosed, nothing_hangs, name_closed, leave_closed}
 use Rattle.elan_rules.proofs.TypedCalls.{first_at}
 
 -- ---- what hangs
@@ -54,6 +56,11 @@ before_both (breaks d) qs h k = absurd (breaks_has_fault d h)
 before_both hangs (gives xs) h k = open_one
 before_both hangs (breaks d) h k = absurd (breaks_has_fault d k)
 before_both hangs hangs h k = open_one
+
+-- what is not open hangs on its rule alone
+pub clear : {A : Type 0} (b : Bool) (q : Ruled A) → b ≡ false → unless b q ≡ hangs → q ≡ hangs
+clear true q h e = absurd cc
+clear false q h e = e
 
 in_first : (n : ℕ) (xs ys : List ℕ) → In n xs → In n (xs ++ ys)
 in_first n [] ys h = absurd h
@@ -118,31 +125,39 @@ module _ (kn : Known) where
       (subst (λ (y : Scope). Leaf y (flat_map called_by (phrase at (form.named usage.Expression s x) ps ∷ []))) i
       (o.0, in_first o.0 (called_by (phrase at (form.named usage.Expression s x) ps)) [] here, o.2, o.3, named_headed s x (scope.find s x) o.0 o.1))
 
-  form_leaf : (z : Scope) (at : ℕ) (f : Form) (ps : Parts) → Names z f → (ms : List Meant) → ruled kn at f ms ≡ hangs → Leaf z (flat_map called_by (phrase at f ps ∷ []))
-  form_leaf z at (form.named u s x) ps i ms e = named_leaf z u at s x ps i e
-  form_leaf z at (form.leave s x) ps i ms e = absurd (told_never_hangs (c.leaving kn at (scope.left s x) (nth ms 0)) e)
-  form_leaf z at (plain f) ps i ms e = absurd (told_never_hangs (rule at f ms) e)
+  form_leaf : (z : Scope) → ScopeClosed z → (at : ℕ) (f : Form) (ps : Parts) → Names z f → (ms : List Meant) → ruled kn at f ms ≡ hangs
+      → Leaf z (flat_map called_by (phrase at f ps ∷ []))
+  form_leaf z cl at (form.named u s x) ps i ms e =
+      named_leaf z u at s x ps i
+      (clear (c.is_open_name s x (scope.find s x)) (c.named kn u at s x (scope.find s x))
+      (ap (λ (y : Scope). c.is_open_name y x (scope.find y x)) i ∙ name_closed z cl x) e)
+  form_leaf z cl at (form.leave s x) ps i ms e =
+      absurd (told_never_hangs (c.leaving kn at (scope.left s x) (nth ms 0))
+      (clear (c.leaves_open s (scope.left s x)) (told (c.leaving kn at (scope.left s x) (nth ms 0)))
+      (ap (λ (y : Scope). c.leaves_open y (scope.left y x)) i ∙ leave_closed z cl (scope.left z x)) e))
+  form_leaf z cl at (plain f) ps i ms e =
+      absurd (told_never_hangs (rule at f ms) (clear (hangs_on at f ms) (told (rule at f ms)) (nothing_hangs z cl at f i ms) e))
 
   wider : (z : Scope) (ns ms : List ℕ) → ((n : ℕ) → In n ns → In n ms) → Leaf z ns → Leaf z ms
   wider z ns ms h g = (g.0, h g.0 g.1, g.2, g.3, g.4)
 
   mutual
-    pub leaf_of : (z : Scope) (p : Phrase) → InScope z p → judged kn p ≡ hangs → Leaf z (called_in p)
-    leaf_of z (phrase at f ps) i e =
+    pub leaf_of : (z : Scope) → ScopeClosed z → (p : Phrase) → InScope z p → judged kn p ≡ hangs → Leaf z (called_in p)
+    leaf_of z cl (phrase at f ps) i e =
         elim (bind_hangs (judged_all kn ps) (ruled kn at f) e) [
           | inl h ↦ wider z (flat_map called_by (phrases_of ps)) (called_in (phrase at f ps)) (λ n g. in_left n (phrases_of ps) (phrase at f ps ∷ []) g)
-              (leaf_all z ps i.1 h)
+              (leaf_all z cl ps i.1 h)
           | inr h ↦ wider z (flat_map called_by (phrase at f ps ∷ [])) (called_in (phrase at f ps)) (λ n g. in_right n (phrases_of ps) (phrase at f ps ∷ []) g)
-              (form_leaf z at f ps i.0 h.0 h.1)
+              (form_leaf z cl at f ps i.0 h.0 h.1)
         ]
 
-    leaf_all : (z : Scope) (ps : Parts) → AllIn z ps → judged_all kn ps ≡ hangs → Leaf z (flat_map called_by (phrases_of ps))
-    leaf_all z none i e = absurd cc
-    leaf_all z (part p ps) i e =
+    leaf_all : (z : Scope) → ScopeClosed z → (ps : Parts) → AllIn z ps → judged_all kn ps ≡ hangs → Leaf z (flat_map called_by (phrases_of ps))
+    leaf_all z cl none i e = absurd cc
+    leaf_all z cl (part p ps) i e =
         elim (before_hangs (judged kn p) (judged_all kn ps) e) [
-          | inl h ↦ wider z (called_in p) (flat_map called_by (phrases_of (part p ps))) (λ n g. in_left n (phrases p) (phrases_of ps) g) (leaf_of z p i.0 h)
+          | inl h ↦ wider z (called_in p) (flat_map called_by (phrases_of (part p ps))) (λ n g. in_left n (phrases p) (phrases_of ps) g) (leaf_of z cl p i.0 h)
           | inr h ↦ wider z (flat_map called_by (phrases_of ps)) (flat_map called_by (phrases_of (part p ps))) (λ n g. in_right n (phrases p) (phrases_of ps) g)
-              (leaf_all z ps i.1 h)
+              (leaf_all z cl ps i.1 h)
         ]
 
   -- ---- the last unit
@@ -165,17 +180,17 @@ module _ (kn : Known) where
       let g = before_faultless kn (judged kn p) (judged_all kn (part q ps)) f in
       last_fine z ns (part q ps) i.1 g.1 (λ n k. h n (in_right n (phrases p) (phrases_of (part q ps)) k))
 
-  unit_leaf : (z : Scope) (ns : List ℕ) (o : Option Phrase) → MayFine z ns o → unit_delivery kn o ≡ Open → Leaf z ns
-  unit_leaf z ns None m e = absurd cc
-  unit_leaf z ns (Some p) m e = by_outcome (judged kn p) refl
+  unit_leaf : (z : Scope) → ScopeClosed z → (ns : List ℕ) (o : Option Phrase) → MayFine z ns o → unit_delivery kn o ≡ Open → Leaf z ns
+  unit_leaf z cl ns None m e = absurd cc
+  unit_leaf z cl ns (Some p) m e = by_outcome (judged kn p) refl
     where
       by_outcome : (q : Ruled Meant) → judged kn p ≡ q → Leaf z ns
       by_outcome (gives x) i = absurd (not_open x (sym (ap outcome i) ∙ e))
       by_outcome (breaks d) i = absurd (breaks_has_fault d (subst (λ (r : Ruled Meant). Faultless r) i m.1))
-      by_outcome hangs i = wider z (called_in p) ns m.2 (leaf_of z p m.0 i)
+      by_outcome hangs i = wider z (called_in p) ns m.2 (leaf_of z cl p m.0 i)
 
-  pub body_leaf : (z : Scope) (p : Phrase) → InScope z p → Faultless (judged kn p) → unit_delivery kn (last_unit p) ≡ Open → Leaf z (called_in p)
-  body_leaf z (phrase at f ps) i g e =
-      unit_leaf z (called_in (phrase at f ps)) (last_unit (phrase at f ps))
+  pub body_leaf : (z : Scope) → ScopeClosed z → (p : Phrase) → InScope z p → Faultless (judged kn p) → unit_delivery kn (last_unit p) ≡ Open → Leaf z (called_in p)
+  body_leaf z cl (phrase at f ps) i g e =
+      unit_leaf z cl (called_in (phrase at f ps)) (last_unit (phrase at f ps))
       (last_fine z (called_in (phrase at f ps)) ps i.1 (bind_faultless kn (judged_all kn ps) (ruled kn at f) g)
       (λ n k. in_left n (phrases_of ps) (phrase at f ps ∷ []) k)) e

@@ -19,9 +19,9 @@ use Rattle.elan_scope.specs.declared.scope.Home.{Home}
 use Rattle.elan_scope.specs.Scope.{Found}
 use Rattle.elan_scope.specs.Phrase as form
 use Rattle.elan_scope.specs.Phrase.{Form, plain, Phrase, phrase, Parts, none, part, all_of, around}
-use Rattle.elan_scope.specs.Ruled.{gives, breaks, before}
+use Rattle.elan_scope.specs.Ruled.{Ruled, gives, breaks, before}
 use Rattle.elan_meant.specs.Verdict as verdict
-use Rattle.elan_meant.specs.Verdict.{told}
+use Rattle.elan_meant.specs.Verdict.{told, unless}
 use Rattle.elan_scope.specs.Known.{delivery_at, leads_back}
 use Rattle.elan_scope.specs.declared.known.Known.{Known}
 use Rattle.value_rules.specs.Calls as r
@@ -33,6 +33,11 @@ use Rattle.elan_rules.specs.Meaning.{judged, judged_all}
 use Rattle.elan_check.specs.Refinements.{last_unit, last_part, delivery_of}
 use Rattle.elan_check.proofs.Lasts.{behind}
 use Rattle.elan_rules.proofs.First.{bind_gives, before_gives, gives_is}
+
+-- what has a meaning hangs on no type
+pub unless_gives : {A : Type 0} (b : Bool) (q : Ruled A) (x : A) → unless b q ≡ gives x → q ≡ gives x
+unless_gives true q x e = absurd cc
+unless_gives false q x e = e
 
 -- ---- the last unit
 
@@ -165,8 +170,13 @@ module _ (j k : Known) (below : Below j k) where
   leaving_same at (Some e) v m n h g = left_by at e.0 v (r.agrees (delivery_at j e.1) v) (r.agrees (delivery_at k e.1) v) m n h g
 
   rule_same : (at : ℕ) (f : Form) (ms : List Meant) (m n : Meant) → ruled j at f ms ≡ gives m → ruled k at f ms ≡ gives n → m ≡ n
-  rule_same at (form.named u s x) ms m n h i = named_same u at s x (find s x) m n h i
-  rule_same at (form.leave s x) ms m n h i = leaving_same at (left s x) (nth ms 0) m n h i
+  rule_same at (form.named u s x) ms m n h i =
+      let b = r.is_open_name s x (find s x) in
+      named_same u at s x (find s x) m n (unless_gives b (r.named j u at s x (find s x)) m h) (unless_gives b (r.named k u at s x (find s x)) n i)
+  rule_same at (form.leave s x) ms m n h i =
+      let b = r.leaves_open s (left s x) in
+      leaving_same at (left s x) (nth ms 0) m n (unless_gives b (told (r.leaving j at (left s x) (nth ms 0))) m h)
+      (unless_gives b (told (r.leaving k at (left s x) (nth ms 0))) n i)
   rule_same at (plain f) ms m n h i = gives_is m n (sym h ∙ i)
 
   mutual

@@ -12,7 +12,6 @@ pub mod Routines
 pub mod Lasts
 pub mod Same
 pub mod Opened
-pub mod Walks
 pub mod Calls
 pub mod Steps
 pub mod Hanging
@@ -22,3 +21,5 @@ pub mod Places
 pub mod OnTheWay
 pub mod Settling
 pub mod Over
+pub mod Clean
+pub mod Closed

@@ -21,7 +21,7 @@ use Rattle.elan_check.specs.Level.{level_bodies}
 use Rattle.elan_check.specs.Refinements.{stated, last_part, last_unit, outcome, unit_delivery, next_all, known_after}
 use Rattle.elan_check.specs.walks.Rounds.{called_if, is_open, any_open}
 use Rattle.elan_check.specs.walks.OnTheWay.{AtMost, IsOnTheWay}
-use Rattle.elan_check.proofs.Walks.{In}
+use Rattle.call_graph.proofs.Walks.{In}
 use Rattle.elan_check.proofs.Inferred.{Below}
 use Rattle.elan_check.proofs.Settled.{next_below, next_at, told_at, told_length, at_index, below_trans, step_below, from, From, open_last, calls_are}
 use Rattle.elan_check.proofs.Opened.{waiting}

@@ -1,5 +1,5 @@
 -- A text has one answer: a core, or a refusal, or it has what is not built yet.
-use Rattle.std.proofs.Common.{◌≡◌, Bool, List, true, false, refl, sym, ap, ◌∙◌, subst}
+use Rattle.std.proofs.Common.{◌≡◌, ℕ, ◌<◌, ◌≤◌, Bool, List, [], ◌∷◌, true, false, if◌then◌else◌, Option, Some, None, refl, sym, ap, ◌∙◌, subst, arith, ◌⊎◌, inl, inr}
 use Rattle.eu_base.specs.declared.value.Kind.{Kind}
 use Rattle.elan_types.specs.declared.env.Env.{Env}
 use Rattle.elan_types.specs.declared.core_phrase.Core.{Core}
@@ -23,7 +23,10 @@ use Rattle.elan_check.proofs.Spots.{never_hangs}
 use Rattle.elan_unbuilt.specs.NotBuilt.{not_built}
 use Rattle.elan_check.specs.Level.{text, level_in, level_parts}
 use Rattle.elan_rules.specs.Meaning as phrase
-use Rattle.elan_check.specs.Text.{Means, Refused, known, HasAnswer, meaning, refusal, not_yet, HasOneAnswer}
+use Rattle.elan_check.specs.Text.{Means, Refused, IsEarliest, earliest, known, HasAnswer, meaning, refusal, not_yet, HasOneAnswer}
+use Rattle.type_names.specs.Faults.{first_fault, level_faults}
+use Rattle.std.proofs.lemmas.Bool.{ltb-true, ltb-false}
+use Rattle.std.specs.Prelude.{nat_lt}
 use Rattle.elan_rules.proofs.First as first
 
 units_are : (as' bs : List Action) (ps qs : List Body) → Level as' ps ≡ Level bs qs → as' ≡ bs
@@ -46,11 +49,34 @@ one_core env t c d h k =
     let e = first.one_meaning (known t) (text t) (Level c.units c.bodies) (Level d.units d.bodies) h.phrases k.phrases in
     core_is c d (h.variables ∙ sym k.variables) (bodies_are c.units d.units c.bodies d.bodies e) (units_are c.units d.units c.bodies d.bodies e)
 
+-- a place is not before itself, nor before one that is before it
+not_both : (m n : ℕ) → m ≤ n → n < m → ⊥
+not_both m n h k = omega (arith, h, k)
+
+one_earliest : (o : Option Fault) (First : Fault → Type 0) → ((f g : Fault) → First f → First g → f ≡ g) → (f g : Fault) → IsEarliest o First f
+    → IsEarliest o First g → f ≡ g
+one_earliest None First one f g h k = one f g h k
+one_earliest (Some e) First one f g h k =
+    elim h [
+      | inl i ↦ elim k [
+        | inl j ↦ i.0 ∙ sym j.0
+        | inr j ↦ absurd (not_both e.0 g.0 (i.1 g j.0) j.1)
+      ]
+      | inr i ↦ elim k [
+        | inl j ↦ absurd (not_both e.0 f.0 (j.1 f i.0) i.1)
+        | inr j ↦ one f g i.0 j.0
+      ]
+    ]
+
 pub one_refusal : (env : Env) (t : Tree) (f g : Fault) → Refused env t f → Refused env t g → f ≡ g
-one_refusal env t f g h k = first.one_first (known t) (phrase.phrases (text t)) f g h.first k.first
+one_refusal env t f g h k =
+    one_earliest (first_fault (level_faults (level_in t))) (phrase.IsFirst (known t) (phrase.phrases (text t)))
+    (first.one_first (known t) (phrase.phrases (text t))) f g h.first k.first
 
 pub meant_is_not_refused : (env : Env) (t : Tree) (c : Core) (f : Fault) → Means env t c → Refused env t f → ⊥
-meant_is_not_refused env t c f h r = first.meant_is_not_refused (known t) (text t) (Level c.units c.bodies) f h.phrases r.first
+meant_is_not_refused env t c f h r =
+    first.meant_is_not_refused (known t) (text t) (Level c.units c.bodies) f h.phrases
+    (subst (λ (fs : List Fault). IsEarliest (first_fault fs) (phrase.IsFirst (known t) (phrase.phrases (text t))) f) h.types r.first)
 
 -- ---- there is an answer
 
@@ -60,18 +86,91 @@ level_gives k ps m e =
     let q = first.bind_gives (judged_all k (all_of ps)) (ruled k 0 (plain form.level)) m e in
     (actions_of q.0, bodies_of q.0, sym (first.gives_is (Level (actions_of q.0) (bodies_of q.0)) m q.2))
 
+abbrev silent : Ruled Meant
+silent = hangs
+
+abbrev broken : Fault → Ruled Meant
+broken g = breaks g
+
+-- the first of two faults
+earliest_is : (o : Option Fault) (q : Ruled Meant) (First : Fault → Type 0) → ((g : Fault) → First g → q ≡ breaks g) → ((g : Fault) → q ≡ breaks g → First g)
+    → (f : Fault) → earliest o q ≡ Some f → IsEarliest o First f
+earliest_is None (breaks g) First to of f e = let i : g ≡ f = cc in of f (ap breaks i)
+earliest_is None (gives m) First to of f e = absurd cc
+earliest_is None hangs First to of f e = absurd cc
+earliest_is (Some d) (gives m) First to of f e = let i : d ≡ f = cc in inl (sym i, λ g h. absurd (gives_not m g (to g h)))
+  where
+    gives_not : (m : Meant) (g : Fault) → gives m ≡ breaks g → ⊥
+    gives_not m g h = cc
+earliest_is (Some d) hangs First to of f e = let i : d ≡ f = cc in inl (sym i, λ g h. absurd (hangs_not g (to g h)))
+  where
+    hangs_not : (g : Fault) → silent ≡ breaks g → ⊥
+    hangs_not g h = cc
+earliest_is (Some d) (breaks g) First to of f e = by_test (nat_lt g.0 d.0) refl e
+  where
+    breaks_is : (x y : Fault) → broken x ≡ broken y → x ≡ y
+    breaks_is x y h = cc
+
+    by_test : (b : Bool) → nat_lt g.0 d.0 ≡ b → (if b then Some g else Some d) ≡ Some f → IsEarliest (Some d) First f
+    by_test true h k = let i : g ≡ f = cc in inr (of f (ap breaks i), subst (λ (x : Fault). x.0 < d.0) i (ltb-true g.0 d.0 h))
+    by_test false h k =
+        let i : d ≡ f = cc in
+        inl (sym i, λ x q. subst (λ (y : Fault). d.0 ≤ y.0) (breaks_is g x (to x q)) (ltb-false g.0 d.0 h))
+
+-- the first fault is what is said of a phrase
+pub judged_first : (k : Known) (p : Phrase) (f : Fault) → phrase.IsFirst k (phrase.phrases p) f → judged k p ≡ breaks f
+judged_first k p f h = by_outcome (judged k p) refl
+  where
+    by_outcome : (q : Ruled Meant) → judged k p ≡ q → judged k p ≡ breaks f
+    by_outcome (gives m) e = absurd (first.meant_is_not_refused k p m f e h)
+    by_outcome (breaks g) e = e ∙ ap (λ (d : Fault). breaks d) (first.one_first k (phrase.phrases p) g f (first.refused_of k p g e) h)
+    by_outcome hangs e =
+        absurd (first.none_first k (phrase.phrases p) f (first.none_breaks k p (subst (λ (q : Ruled Meant). first.Faultless q) (sym e) first.open_one)) h)
+
+pub is_earliest : (k : Known) (p : Phrase) (o : Option Fault) (f : Fault) → earliest o (judged k p) ≡ Some f
+    → IsEarliest o (phrase.IsFirst k (phrase.phrases p)) f
+is_earliest k p o f e =
+    earliest_is o (judged k p) (phrase.IsFirst k (phrase.phrases p)) (λ g h. judged_first k p g h) (λ g h. first.refused_of k p g h) f e
+
 module _ (env : Env) (t : Tree) where
-  judged_answer : not_built t ≡ false → (q : Ruled Meant) → judged (known t) (text t) ≡ q → HasAnswer env t
-  judged_answer h (gives m) e =
+  abbrev faults : List Fault
+  faults = level_faults (level_in t)
+
+  meant_answer : not_built t ≡ false → faults ≡ [] → (q : Ruled Meant) → judged (known t) (text t) ≡ q → HasAnswer env t
+  meant_answer h n (gives m) e =
       let d = level_gives (known t) (level_parts (level_in t)) m e in
       meaning (core_with (variables_of (level_names (level_in t))) d.1 d.0)
-      (record { is_built = h; variables = refl; phrases = e ∙ ap (λ (k : Meant). gives k) d.2 })
-  judged_answer h (breaks f) e = refusal f (record { is_built = h; first = first.refused_of (known t) (text t) f e })
-  judged_answer h hangs e = absurd (never_hangs (level_in t) (subst (λ (k : Known). judged k (text t) ≡ hangs) (known_is t) e))
+      (record { is_built = h; types = n; variables = refl; phrases = e ∙ ap (λ (k : Meant). gives k) d.2 })
+  meant_answer h n (breaks f) e =
+      refusal f (record {
+        is_built = h;
+        first = subst (λ (fs : List Fault). IsEarliest (first_fault fs) (phrase.IsFirst (known t) (phrase.phrases (text t))) f) (sym n)
+            (first.refused_of (known t) (text t) f e);
+      })
+  meant_answer h n hangs e = absurd (never_hangs (level_in t) n (subst (λ (k : Known). judged k (text t) ≡ hangs) (known_is t) e))
+
+  some_fault : (d : Fault) (q : Ruled Meant) → (f : Fault) × (earliest (Some d) q ≡ Some f)
+  some_fault d (gives m) = (d, refl)
+  some_fault d hangs = (d, refl)
+  some_fault d (breaks g) = by_test (nat_lt g.0 d.0)
+    where
+      by_test : (b : Bool) → (f : Fault) × ((if b then Some g else Some d) ≡ Some f)
+      by_test true = (g, refl)
+      by_test false = (d, refl)
+
+  judged_answer : not_built t ≡ false → (fs : List Fault) → faults ≡ fs → HasAnswer env t
+  judged_answer h [] n = meant_answer h n (judged (known t) (text t)) refl
+  judged_answer h (d ∷ fs) n =
+      let f = some_fault d (judged (known t) (text t)) in
+      refusal f.0 (record {
+        is_built = h;
+        first = subst (λ (gs : List Fault). IsEarliest (first_fault gs) (phrase.IsFirst (known t) (phrase.phrases (text t))) f.0) (sym n)
+            (is_earliest (known t) (text t) (Some d) f.0 f.1);
+      })
 
   answer_by : (b : Bool) → not_built t ≡ b → HasAnswer env t
   answer_by true e = not_yet e
-  answer_by false e = judged_answer e (judged (known t) (text t)) refl
+  answer_by false e = judged_answer e faults refl
 
   both_ways : not_built t ≡ false → not_built t ≡ true → ⊥
   both_ways h k = cc

@@ -24,7 +24,8 @@ use Rattle.elan_rules.proofs.First.{bind_gives, before_gives}
 use Rattle.elan_check.specs.Refinements.{called_by, called_in, outcome, unit_delivery}
 use Rattle.elan_check.specs.walks.Rounds.{called_if, is_open, any_open}
 use Rattle.elan_check.proofs.Calls.{called_append}
-use Rattle.elan_check.proofs.Walks.{In}
+use Rattle.elan_check.proofs.Inferred.{unless_gives}
+use Rattle.call_graph.proofs.Walks.{In}
 
 in_either : (n : ℕ) (xs ys : List ℕ) → In n (xs ++ ys) → In n xs ⊎ In n ys
 in_either n [] ys h = inr h
@@ -80,7 +81,7 @@ module _ (k : Known) (n : ℕ) (untold : delivery_at k n ≡ Open) where
   form_open : (at : ℕ) (f : Form) (ps : Parts) (ms : List Meant) (m : Meant) → In n (called_by (phrase at f ps)) → ruled k at f ms ≡ gives m → ⊥
   form_open at (form.named Expression s x) ps ms m h e =
       let r = in_one n (scope.refinement_named s x) h in
-      named_open at s x (scope.find s x) m r r e
+      named_open at s x (scope.find s x) m r r (unless_gives (c.is_open_name s x (scope.find s x)) (c.named k Expression at s x (scope.find s x)) m e)
   form_open at (form.named Counter s x) ps ms m h e = absurd h
   form_open at (form.leave s x) ps ms m h e = absurd h
   form_open at (plain f) ps ms m h e = absurd h

@@ -27,6 +27,7 @@ use Rattle.elan_check.specs.Level as l
 use Rattle.elan_check.specs.Refinements.{stated}
 use Rattle.elan_check.specs.walks.OnTheWay.{Holds}
 use Rattle.elan_levels.specs.walks.Headings.{all_headings}
+use Rattle.elan_scope.specs.declared.type_name.TypeName.{TypeName}
 use Rattle.elan_check.specs.walks.Units.{all_unit_bodies}
 
 -- ---- some of a list
@@ -115,13 +116,13 @@ module _ (all : List Heading) where
   )
 
   routine_places : (s : Scope) (k at : ℕ) (x : List ℕ) (t : Option TypePhrase) (fs : List Formal) (w : Written) (sort : Sort)
-      → slice_get all k ≡ Some (b.routine_heading sort at x fs t)
-      → Places k (b.routine_heading sort at x fs t ∷ b.refinement_headings (Some k) w.refinements) (l.routine_units s k at x t fs w)
+      → slice_get all k ≡ Some (b.routine_heading s.types sort at x fs t)
+      → Places k (b.routine_heading s.types sort at x fs t ∷ b.refinement_headings (Some k) w.refinements) (l.routine_units s k at x t fs w)
   routine_places s k at x t fs w sort e = (
     record {
       scope = l.inner s k at x t fs w;
-      in_scope = body_units_in (l.inner s k at x t fs w) (delivered (result t)) w.units;
-      stands = λ f. absurd (stated_known sort (parameters fs) (result t) f);
+      in_scope = body_units_in (l.inner s k at x t fs w) (delivered (result s.types t)) w.units;
+      stands = λ f. absurd (stated_known sort (parameters s.types fs) (result s.types t) f);
       around = here;
     },
     refinement_places (l.inner s k at x t fs w) (suc k) (Some k) w.refinements here,
@@ -130,47 +131,47 @@ module _ (all : List Heading) where
       here : (r : ℕ) → Some k ≡ Some r → IsStated r
       here r f =
           let g : k ≡ r = cc in
-          (b.routine_heading sort at x fs t, ap (slice_get all) (sym g) ∙ e, stated_known sort (parameters fs) (result t))
+          (b.routine_heading s.types sort at x fs t, ap (slice_get all) (sym g) ∙ e, stated_known sort (parameters s.types fs) (result s.types t))
 
-  unit_places : (s : Scope) (k : ℕ) (v : LevelUnit) → Holds all k (b.unit_headings k v) → Places k (b.unit_headings k v) (l.unit_bodies s k v)
+  unit_places : (s : Scope) (k : ℕ) (v : LevelUnit) → Holds all k (b.unit_headings s.types k v) → Places k (b.unit_headings s.types k v) (l.unit_bodies s k v)
   unit_places s k (level.Plain v) h = tt
   unit_places s k (level.Proc at r n fs w) h =
       routine_places s k n.at n.text r fs w Procedure
-      (holds_head all k (b.routine_heading Procedure n.at n.text fs r) (b.refinement_headings (Some k) w.refinements) h)
+      (holds_head all k (b.routine_heading s.types Procedure n.at n.text fs r) (b.refinement_headings (Some k) w.refinements) h)
   unit_places s k (level.Op at r n fs w) h =
       routine_places s k n.at (operator_text n.operator) r fs w Operator
-      (holds_head all k (b.routine_heading Operator n.at (operator_text n.operator) fs r) (b.refinement_headings (Some k) w.refinements) h)
+      (holds_head all k (b.routine_heading s.types Operator n.at (operator_text n.operator) fs r) (b.refinement_headings (Some k) w.refinements) h)
   unit_places s k (level.NewType at n of) h = tt
 
   refinements_count : (o : Option ℕ) (rs : List Refined) → length (b.refinement_headings o rs) ≡ length rs
   refinements_count o [] = refl
   refinements_count o (r ∷ rs) = ap suc (refinements_count o rs)
 
-  headings_count : (k : ℕ) (v : LevelUnit) → length (b.unit_headings k v) ≡ b.bodies_in v
-  headings_count k (level.Plain v) = refl
-  headings_count k (level.Proc at r n fs w) = ap suc (refinements_count (Some k) w.refinements)
-  headings_count k (level.Op at r n fs w) = ap suc (refinements_count (Some k) w.refinements)
-  headings_count k (level.NewType at n of) = refl
+  headings_count : (ts : List TypeName) (k : ℕ) (v : LevelUnit) → length (b.unit_headings ts k v) ≡ b.bodies_in v
+  headings_count ts k (level.Plain v) = refl
+  headings_count ts k (level.Proc at r n fs w) = ap suc (refinements_count (Some k) w.refinements)
+  headings_count ts k (level.Op at r n fs w) = ap suc (refinements_count (Some k) w.refinements)
+  headings_count ts k (level.NewType at n of) = refl
 
-  units_places : (s : Scope) (k : ℕ) (vs : List LevelUnit) → Holds all k (all_headings k vs) → Places k (all_headings k vs) (all_unit_bodies s k vs)
+  units_places : (s : Scope) (k : ℕ) (vs : List LevelUnit) → Holds all k (all_headings s.types k vs) → Places k (all_headings s.types k vs) (all_unit_bodies s k vs)
   units_places s k [] h = tt
   units_places s k (v ∷ vs) h =
       let m = k + b.bodies_in v in
-      let e : m ≡ k + length (b.unit_headings k v) = ap (λ (n : ℕ). k + n) (sym (headings_count k v)) in
-      places_append k m (b.unit_headings k v) (all_headings m vs) (l.unit_bodies s k v) (all_unit_bodies s m vs) e
-      (unit_places s k v (holds_first all k (b.unit_headings k v) (all_headings m vs) h))
-      (units_places s m vs (holds_rest all k m (b.unit_headings k v) (all_headings m vs) e h))
+      let e : m ≡ k + length (b.unit_headings s.types k v) = ap (λ (n : ℕ). k + n) (sym (headings_count s.types k v)) in
+      places_append k m (b.unit_headings s.types k v) (all_headings s.types m vs) (l.unit_bodies s k v) (all_unit_bodies s m vs) e
+      (unit_places s k v (holds_first all k (b.unit_headings s.types k v) (all_headings s.types m vs) h))
+      (units_places s m vs (holds_rest all k m (b.unit_headings s.types k v) (all_headings s.types m vs) e h))
 
   headings_append : (xs ys : List Heading) → length (xs ++ ys) ≡ length xs + length ys
   headings_append [] ys = let z : 0 + length ys ≡ length ys = omega arith in sym z
   headings_append (x ∷ xs) ys = let z : suc (length xs) + length ys ≡ suc (length xs + length ys) = omega arith in ap suc (headings_append xs ys) ∙ sym z
 
-  units_count : (k : ℕ) (vs : List LevelUnit) → length (all_headings k vs) ≡ b.bodies_of_units vs
-  units_count k [] = refl
-  units_count k (v ∷ vs) =
-      headings_append (b.unit_headings k v) (all_headings (k + b.bodies_in v) vs)
-      ∙ ap (λ (n : ℕ). n + length (all_headings (k + b.bodies_in v) vs)) (headings_count k v)
-      ∙ ap (λ (n : ℕ). b.bodies_in v + n) (units_count (k + b.bodies_in v) vs)
+  units_count : (ts : List TypeName) (k : ℕ) (vs : List LevelUnit) → length (all_headings ts k vs) ≡ b.bodies_of_units vs
+  units_count ts k [] = refl
+  units_count ts k (v ∷ vs) =
+      headings_append (b.unit_headings ts k v) (all_headings ts (k + b.bodies_in v) vs)
+      ∙ ap (λ (n : ℕ). n + length (all_headings ts (k + b.bodies_in v) vs)) (headings_count ts k v)
+      ∙ ap (λ (n : ℕ). b.bodies_in v + n) (units_count ts (k + b.bodies_in v) vs)
 
 -- All bodies of a level stand so.
 pub level_places : (w : Level) → Places (b.headings w) 0 (b.headings w) (l.level_bodies w)
@@ -178,8 +179,8 @@ level_places w =
     let s = l.level_scope w in
     let all = b.headings w in
     let m = b.bodies_of_units w.units in
-    let z : 0 + length (all_headings 0 w.units) ≡ length (all_headings 0 w.units) = omega arith in
-    places_append all 0 m (all_headings 0 w.units) (b.refinement_headings None w.refinements) (all_unit_bodies s 0 w.units)
-    (l.all_refined_units s m w.refinements) (sym (units_count all 0 w.units) ∙ sym z)
-    (units_places all s 0 w.units (holds_first all 0 (all_headings 0 w.units) (b.refinement_headings None w.refinements) (holds_all all)))
+    let z : 0 + length (all_headings s.types 0 w.units) ≡ length (all_headings s.types 0 w.units) = omega arith in
+    places_append all 0 m (all_headings s.types 0 w.units) (b.refinement_headings None w.refinements) (all_unit_bodies s 0 w.units)
+    (l.all_refined_units s m w.refinements) (sym (units_count all s.types 0 w.units) ∙ sym z)
+    (units_places all s 0 w.units (holds_first all 0 (all_headings s.types 0 w.units) (b.refinement_headings None w.refinements) (holds_all all)))
     (refinement_places all s m None w.refinements (λ r e. absurd (let f : None ≡ Some r = e in cc)))

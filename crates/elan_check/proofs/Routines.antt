@@ -29,7 +29,7 @@ use Rattle.elan_scope.specs.Scope.{first_heading, is_alike, types_of}
 use Rattle.value_rules.specs.Calls as calls
 use Rattle.unit_rules.specs.Units as u
 use Rattle.elan_judge.specs.Shape as shape
-use Rattle.elan_levels.specs.Bodies.{parameters, result, frame, body_names, bodies_in}
+use Rattle.elan_levels.specs.Bodies.{parameters, result, frame, body_within, bodies_in}
 use Rattle.elan_check.specs.Level as l
 pub use Rattle.elan_judge.proofs.Rows.{Grown, starts, grows, grows_all, ends, left_at, left_none}
 use Rattle.elan_judge.proofs.Rows.{one_is}
@@ -86,7 +86,7 @@ formals_go k row next s fs i f whole lt e g h =
 
 -- the body of a PROC or OP, in its scope
 abbrev pub body_in : Scope → Option TypePhrase → List Formal → Body → Phrase
-body_in s r fs b = around 0 (form.body (frame fs b) (result r)) (shape.units (delivered (result r)) (map (shape.unit s) b.units))
+body_in s r fs b = around 0 (form.body (frame s.types fs b) (result s.types r)) (shape.units (delivered (result s.types r)) (map (shape.unit s) b.units))
 
 regroup : (ps qs : List Phrase) (p q : Phrase) (rs : List Phrase) → (ps ++ p ∷ []) ++ (qs ++ q ∷ rs) ≡ (ps ++ p ∷ qs) ++ q ∷ rs
 regroup ps qs p q rs = append_assoc ps (p ∷ []) (qs ++ q ∷ rs) ∙ sym (append_assoc ps (p ∷ qs) (q ∷ rs))
@@ -118,12 +118,14 @@ body_is k s o o' r r' d us us' m out eu ed e eo er h =
     (subst (λ (x : Option ElanType). Is out (gives (u.body_with o (u.content_as x m)))) er
     (subst (λ (x : Owner). Is out (gives (u.body_with x (u.content_as r' m)))) eo h))
 
-pub heading_is : (k : Known) (s : Scope) (at : ℕ) (sort : Sort) (x : List ℕ) (ps ps' : List Parameter) (b b' : Bool) (out : Result Meant Trouble) → ps' ≡ ps
-    → b' ≡ b →
-    Tells out (calls.headed at b' (first_heading (is_alike sort x (types_of ps')) s.headings)) → Is out (judged k (leaf at (form.heading s sort x ps b)))
-heading_is k s at sort x ps ps' b b' out ep eb h =
-    subst (λ (qs : List Parameter). Tells out (calls.headed at b (first_heading (is_alike sort x (types_of qs)) s.headings))) ep
-    (subst (λ (c : Bool). Tells out (calls.headed at c (first_heading (is_alike sort x (types_of ps')) s.headings))) eb h)
+pub heading_is : (k : Known) (s : Scope) (at : ℕ) (sort : Sort) (x : List ℕ) (ps ps' : List Parameter) (r r' : Option ElanType) (b b' : Bool)
+    (out : Result Meant Trouble) → ps' ≡ ps → r' ≡ r → b' ≡ b
+    → Is out (calls.heading_ruled at ps' r' b' (first_heading (is_alike sort x (types_of ps')) s.headings))
+    → Is out (judged k (leaf at (form.heading s sort x ps r b)))
+heading_is k s at sort x ps ps' r r' b b' out ep er eb h =
+    subst (λ (qs : List Parameter). Is out (calls.heading_ruled at qs r b (first_heading (is_alike sort x (types_of qs)) s.headings))) ep
+    (subst (λ (o : Option ElanType). Is out (calls.heading_ruled at ps' o b (first_heading (is_alike sort x (types_of ps')) s.headings))) er
+    (subst (λ (c : Bool). Is out (calls.heading_ruled at ps' r' c (first_heading (is_alike sort x (types_of ps')) s.headings))) eb h))
 
 pub procedure_at : (k : Known) (s : Scope) (n : ℕ) (name : Name) (x : List ℕ) (r : Option TypePhrase) (fs fs' : List Formal) (b : Body)
     (out : Result Meant Trouble) → x ≡ name.text → fs' ≡ fs →
@@ -143,12 +145,12 @@ operator_at k s n at x x' r fs fs' b sort out ex ef h =
 module _ (k : Known) (row : Result (List Meant) Trouble) (s : Scope) (n at : ℕ) (x : List ℕ) (r : Option TypePhrase) (fs : List Formal) (b : Body) (sort : Sort)
     (ps : List Phrase) where
   abbrev pub headed : Phrase
-  headed = form.leaf at (form.heading s sort x (parameters fs) (l.is_missing (result r) (l.body_units s n at x r fs b)))
+  headed = form.leaf at (form.heading s sort x (parameters s.types fs) (result s.types r) (l.is_missing (result s.types r) (l.body_units s n at x r fs b)))
 
-  pub routine_row : (z : Scope) → z ≡ l.routine_scope s n (body_names fs b) → Is row (judged_all k (all_of ((ps ++ headed ∷ []) ++ l.inside z n r fs b))) →
+  pub routine_row : (z : Scope) → z ≡ l.routine_scope s (body_within s.types n fs b) → Is row (judged_all k (all_of ((ps ++ headed ∷ []) ++ l.inside z n r fs b))) →
       Is row (judged_all k (all_of (l.heading_phrases s n at x r fs b sort ps ++ l.body_phrases s n at x r fs b)))
   routine_row z e h =
-      let inner = l.routine_scope s n (body_names fs b) in
+      let inner = l.routine_scope s (body_within s.types n fs b) in
       let here : Is row (judged_all k (all_of ((ps ++ headed ∷ []) ++ l.inside inner n r fs b))) =
       subst (λ (y : Scope). Is row (judged_all k (all_of ((ps ++ headed ∷ []) ++ l.inside y n r fs b)))) e h in
       subst (λ (qs : List Phrase). Is row (judged_all k (all_of qs)))

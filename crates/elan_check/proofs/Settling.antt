@@ -5,7 +5,7 @@ use Rattle.std.specs.Prelude.{slice_get}
 use Rattle.elan_tree.specs.declared.tree.Refinement.{Refinement}
 use Rattle.elan_tree.specs.declared.tree.Level.{Level}
 use Rattle.elan_tree.specs.declared.tree.LevelUnit.{LevelUnit}
-use Rattle.elan_scope.specs.declared.scope.Entry.{Entry}
+use Rattle.elan_scope.specs.declared.scope.Within.{Within}
 use Rattle.elan_scope.specs.declared.scope.Scope.{Scope}
 use Rattle.elan_scope.specs.Phrase.{Phrase}
 use Rattle.elan_levels.specs.Bodies.{bodies_in, bodies_of_units}
@@ -84,14 +84,14 @@ module _ (w : Level) where
 
 -- ---- in the scope of a PROC or OP
 
-abbrev inside : Scope → ℕ → Option ℕ → List Entry → Scope
-inside z n o names = record { headings = z.headings; level = z.level; routine = Some (record { number = n; names = names }); refinement = o }
+abbrev inside : Scope → Option ℕ → Within → Scope
+inside z o w = record { headings = z.headings; level = z.level; types = z.types; routine = Some w; refinement = o }
 
-pub routine_here : (all : List Phrase) (z : Scope) (n m : ℕ) (names own : List Entry) (rs written : List Refinement) → z.refinement ≡ None → m ≡ n + 1
-    → names ≡ own → rs ≡ written → Holds all (n + 1) (all_refined_units (routine_scope z n own) (n + 1) written)
-    → Holds all m (all_refined_units (inside z n z.refinement names) m rs)
-routine_here all z n m names own rs written er em en eb h =
-    subst (λ (qs : List Refinement). Holds all m (all_refined_units (inside z n z.refinement names) m qs)) (sym eb)
-    (subst (λ (x : List Entry). Holds all m (all_refined_units (inside z n z.refinement x) m written)) (sym en)
-    (subst (λ (o : Option ℕ). Holds all m (all_refined_units (inside z n o own) m written)) (sym er)
-    (subst (λ (j : ℕ). Holds all j (all_refined_units (inside z n None own) j written)) (sym em) h)))
+pub routine_here : (all : List Phrase) (z : Scope) (n m : ℕ) (w own : Within) (rs written : List Refinement) → z.refinement ≡ None → m ≡ n + 1
+    → w ≡ own → rs ≡ written → Holds all (n + 1) (all_refined_units (routine_scope z own) (n + 1) written)
+    → Holds all m (all_refined_units (inside z z.refinement w) m rs)
+routine_here all z n m w own rs written er em en eb h =
+    subst (λ (qs : List Refinement). Holds all m (all_refined_units (inside z z.refinement w) m qs)) (sym eb)
+    (subst (λ (x : Within). Holds all m (all_refined_units (inside z z.refinement x) m written)) (sym en)
+    (subst (λ (o : Option ℕ). Holds all m (all_refined_units (inside z o own) m written)) (sym er)
+    (subst (λ (j : ℕ). Holds all j (all_refined_units (inside z None own) j written)) (sym em) h)))

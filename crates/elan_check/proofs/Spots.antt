@@ -1,10 +1,11 @@
 -- Where no phrase of a level breaks a rule, none hangs on another one.
-use Rattle.std.proofs.Common.{◌≡◌, ℕ, zero, suc, ◌+◌, Bool, List, [], ◌∷◌, ◌++◌, map, length, Option, Some, None, refl, sym, ap, subst, ◌∙◌, inl}
+use Rattle.std.proofs.Common.{◌≡◌, ℕ, zero, suc, ◌+◌, Bool, false, ◌||◌, ◌&&◌, List, [], ◌∷◌, ◌++◌, map, length, Option, Some, None, refl, sym, ap, subst, ◌∙◌, inl}
 use Rattle.std.proofs.Common.{inr, arith}
 use Rattle.std.specs.Prelude.{slice_get, slice_index_or}
 use Rattle.elan_types.specs.declared.elan_type.ElanType.{ElanType}
 use Rattle.elan_types.specs.declared.elan_type.Parameter.{Parameter}
 use Rattle.elan_types.specs.declared.core_phrase.Scope.{Scope as Owner}
+use Rattle.elan_types.specs.declared.core_phrase.Scope.TheVariants as owner
 use Rattle.elan_meant.specs.declared.meant.Meant.{Meant}
 use Rattle.elan_tree.specs.declared.written_type.Name.{Name}
 use Rattle.elan_tree.specs.declared.written_type.TypePhrase.{TypePhrase}
@@ -28,7 +29,7 @@ use Rattle.elan_scope.specs.Phrase.{Plain, plain, Phrase, none, part, all_of, ro
 use Rattle.elan_scope.specs.Ruled.{Ruled, hangs}
 use Rattle.elan_scope.specs.Known.{delivered, delivery_at, leads_back}
 use Rattle.elan_scope.specs.declared.known.Known.{Known}
-use Rattle.elan_rules.specs.Rules.{rule, ruled}
+use Rattle.elan_rules.specs.Rules.{rule, ruled, hangs_on}
 use Rattle.elan_judge.specs.Shape as shape
 use Rattle.elan_check.specs.Level as l
 use Rattle.elan_rules.specs.Meaning.{judged, judged_all}
@@ -36,9 +37,15 @@ use Rattle.elan_check.specs.Refinements.{stated, called_in, known_of}
 use Rattle.elan_rules.proofs.First.{Faultless, whole, open_one, bind_faultless, before_faultless}
 use Rattle.elan_judge.proofs.InScope.{InScope, body_units_in, statement_in}
 use Rattle.elan_meant.proofs.Told.{told_never_hangs}
-use Rattle.elan_check.proofs.Walks.{In, Call, no_walk}
+use Rattle.call_graph.proofs.Walks.{In, Call, no_walk}
 use Rattle.elan_check.proofs.Settled.{open_last, calls_are}
-use Rattle.elan_check.proofs.Hanging.{before_both, bind_hangs, before_hangs, IsHeaded, Leaf, leaf_of, body_leaf}
+use Rattle.elan_check.proofs.Hanging.{before_both, bind_hangs, before_hangs, IsHeaded, Leaf, leaf_of, body_leaf, clear}
+use Rattle.elan_check.proofs.Closed.{ScopeClosed, HeadingsClosed, nothing_hangs}
+use Rattle.elan_check.proofs.Clean as clean
+use Rattle.type_names.specs.Faults.{level_faults}
+use Rattle.elan_scope.specs.Scope.{has_open, is_open_result}
+use Rattle.value_rules.specs.Calls.{heading_open}
+use Rattle.elan_meant.specs.Verdict.{Verdict, told, is_given}
 use Rattle.elan_levels.specs.walks.Headings.{all_headings}
 use Rattle.elan_check.specs.walks.Units.{all_unit_bodies, level_units}
 
@@ -49,6 +56,7 @@ module _ (kn : Known) (s : Scope) where
     pub in_scope : InScope scope p
     pub headings : scope.headings ≡ s.headings
     pub stands : stated h.what ≡ Open → scope.refinement ≡ Some n
+    pub closed : ScopeClosed scope
     pub faultless : Faultless (judged kn p)
 
   abbrev pub Spots : ℕ → List Heading → List Phrase → Type 0
@@ -95,10 +103,13 @@ module _ (kn : Known) (s : Scope) where
 
   -- ---- refinements
 
-  refinement_spots : (z : Scope) (k : ℕ) (home : Option ℕ) (rs : List Refined) → z.headings ≡ s.headings
+  refined_closed : (z : Scope) (k : ℕ) → ScopeClosed z → ScopeClosed (l.refinement_scope z k)
+  refined_closed z k c = record { level = c.level; routine = c.routine; headings = c.headings; types = c.types }
+
+  refinement_spots : (z : Scope) → ScopeClosed z → (k : ℕ) (home : Option ℕ) (rs : List Refined) → z.headings ≡ s.headings
       → Faultless (judged_all kn (all_of (l.refinements z k rs))) → Spots k (b.refinement_headings home rs) (l.all_refined_units z k rs)
-  refinement_spots z k home [] hh f = tt
-  refinement_spots z k home (r ∷ rs) hh f =
+  refinement_spots z cl k home [] hh f = tt
+  refinement_spots z cl k home (r ∷ rs) hh f =
       let g = before_faultless kn (judged kn (l.refinement z k r)) (judged_all kn (all_of (l.refinements z (suc k) rs))) f in
       let a =
       bind_faultless kn (judged_all kn (part (l.declares z r.name) (part (l.refined_units z k r) none)))
@@ -111,9 +122,10 @@ module _ (kn : Known) (s : Scope) where
           in_scope = body_units_in (l.refinement_scope z k) Open r.units;
           headings = hh;
           stands = λ e. refl;
+          closed = refined_closed z k cl;
           faultless = d.0;
         },
-        refinement_spots z (suc k) home rs hh g.1,
+        refinement_spots z cl (suc k) home rs hh g.1,
       )
 
   told_never : (sort : Sort) (o : Option ElanType) (params : List Parameter) (n : ℕ) (z : Scope) → stated (Routine sort params o) ≡ Open → z.refinement ≡ Some n
@@ -124,7 +136,7 @@ module _ (kn : Known) (s : Scope) where
 
   -- a phrase in it, in a scope with these headings, hangs
   abbrev HangsIn : Type 0
-  HangsIn = (z : Scope) × (p : Phrase) × InScope z p × (z.headings ≡ s.headings) × (judged kn p ≡ hangs)
+  HangsIn = (z : Scope) × (p : Phrase) × InScope z p × (z.headings ≡ s.headings) × (judged kn p ≡ hangs) × ScopeClosed z
 
   abbrev AllLead : List Phrase → Type 0
   AllLead [] = Unit {0}
@@ -142,44 +154,64 @@ module _ (kn : Known) (s : Scope) where
         | inr i ↦ list_hangs ps h.1 i
       ]
 
-  phrase_hangs : (at : ℕ) (f : Plain) (ps : List Phrase) → AllLead ps → judged kn (row at f ps) ≡ hangs → HangsIn
-  phrase_hangs at f ps h e =
+  phrase_hangs : (at : ℕ) (f : Plain) (ps : List Phrase) → ((ms : List Meant) → hangs_on at f ms ≡ false) → AllLead ps → judged kn (row at f ps) ≡ hangs → HangsIn
+  phrase_hangs at f ps never h e =
       elim (bind_hangs (judged_all kn (all_of ps)) (ruled kn at (plain f)) e) [
         | inl g ↦ list_hangs ps h g
-        | inr g ↦ absurd (told_never_hangs (rule at f g.0) g.1)
+        | inr g ↦ absurd (told_never_hangs (rule at f g.0) (clear (hangs_on at f g.0) (told (rule at f g.0)) (never g.0) g.1))
       ]
 
-  declares_lead : (z : Scope) (n : Name) → judged kn (l.declares z n) ≡ hangs → HangsIn
-  declares_lead z n e = phrase_hangs n.at (form.declares z n.text) [] tt e
+  declares_lead : (z : Scope) → ScopeClosed z → (n : Name) → judged kn (l.declares z n) ≡ hangs → HangsIn
+  declares_lead z cl n e = phrase_hangs n.at (form.declares z n.text) [] (λ ms. nothing_hangs z cl n.at (form.declares z n.text) refl ms) tt e
 
-  all_declare_lead : (z : Scope) (ns : List Name) → AllLead (map (l.declares z) ns)
-  all_declare_lead z [] = tt
-  all_declare_lead z (n ∷ ns) = (declares_lead z n, all_declare_lead z ns)
+  all_declare_lead : (z : Scope) → ScopeClosed z → (ns : List Name) → AllLead (map (l.declares z) ns)
+  all_declare_lead z cl [] = tt
+  all_declare_lead z cl (n ∷ ns) = (declares_lead z cl n, all_declare_lead z cl ns)
 
-  parameters_lead : (z : Scope) (fs : List Formal) → AllLead (l.declare_parameters z fs)
-  parameters_lead z [] = tt
-  parameters_lead z (f ∷ fs) = lead_append (map (l.declares z) f.names) (l.declare_parameters z fs) (all_declare_lead z f.names) (parameters_lead z fs)
+  parameters_lead : (z : Scope) → ScopeClosed z → (fs : List Formal) → AllLead (l.declare_parameters z fs)
+  parameters_lead z cl [] = tt
+  parameters_lead z cl (f ∷ fs) =
+      lead_append (map (l.declares z) f.names) (l.declare_parameters z fs) (all_declare_lead z cl f.names) (parameters_lead z cl fs)
 
-  procedure_lead : (n : Name) (fs : List Formal) → AllLead (l.procedure_name s n fs)
-  procedure_lead n [] = (declares_lead s n, tt)
-  procedure_lead n (f ∷ fs) = tt
+  procedure_lead : ScopeClosed s → (n : Name) (fs : List Formal) → AllLead (l.procedure_name s n fs)
+  procedure_lead cl n [] = (declares_lead s cl n, tt)
+  procedure_lead cl n (f ∷ fs) = tt
 
-  refinements_lead : (z : Scope) (k : ℕ) (rs : List Refined) → z.headings ≡ s.headings → AllLead (l.refinements z k rs)
-  refinements_lead z k [] hh = tt
-  refinements_lead z k (r ∷ rs) hh = (
-    λ e. phrase_hangs 0 (form.refinement (l.owner_of z.routine)) (l.declares z r.name ∷ l.refined_units z k r ∷ [])
-        (declares_lead z r.name, ((λ i. (l.refinement_scope z k, l.refined_units z k r, body_units_in (l.refinement_scope z k) Open r.units, hh, i)), tt)) e,
-    refinements_lead z (suc k) rs hh,
+  refinements_lead : (z : Scope) → ScopeClosed z → (k : ℕ) (rs : List Refined) → z.headings ≡ s.headings → AllLead (l.refinements z k rs)
+  refinements_lead z cl k [] hh = tt
+  refinements_lead z cl k (r ∷ rs) hh = (
+    λ e. phrase_hangs 0 (form.refinement (l.owner_of z.routine)) (l.declares z r.name ∷ l.refined_units z k r ∷ []) (λ ms. refl) (
+      declares_lead z cl r.name,
+      (
+        (λ i. (
+          l.refinement_scope z k,
+          l.refined_units z k r,
+          body_units_in (l.refinement_scope z k) Open r.units,
+          hh,
+          i,
+          refined_closed z k cl,
+        )),
+        tt,
+      ),
+    ) e,
+    refinements_lead z cl (suc k) rs hh,
   )
 
   -- ---- PROCs and OPs
 
-  module _ (k : ℕ) (at : ℕ) (x : List ℕ) (t : Option TypePhrase) (fs : List Formal) (w : Written) where
+  -- the types of a heading have meaning, and so have those of the body
+  abbrev pub RoutineClosed : ℕ → Option TypePhrase → List Formal → Written → Type 0
+  RoutineClosed k t fs w =
+      (has_open (parameters s.types fs) ≡ false)
+      × (is_open_result (result s.types t) ≡ false)
+      × ScopeClosed (l.routine_scope s (b.body_within s.types k fs w))
+
+  module _ (k : ℕ) (at : ℕ) (x : List ℕ) (t : Option TypePhrase) (fs : List Formal) (w : Written) (rc : RoutineClosed k t fs w) where
     abbrev inner : Scope
     inner = l.inner s k at x t fs w
 
     routine_spots : (sort : Sort) (names : List Phrase) → Faultless (judged kn (l.routine s k at x t fs w sort names))
-        → Spots k (b.routine_heading sort at x fs t ∷ b.refinement_headings (Some k) w.refinements) (l.routine_units s k at x t fs w)
+        → Spots k (b.routine_heading s.types sort at x fs t ∷ b.refinement_headings (Some k) w.refinements) (l.routine_units s k at x t fs w)
     routine_spots sort names f =
         let g =
         bind_faultless kn (judged_all kn (all_of (l.heading_phrases s k at x t fs w sort names ++ l.body_phrases s k at x t fs w)))
@@ -187,39 +219,46 @@ module _ (kn : Known) (s : Scope) where
         in
         let h = split (l.heading_phrases s k at x t fs w sort names) (l.body_phrases s k at x t fs w) g in
         let a = before_faultless kn (judged kn (l.own_body s k at x t fs w)) (judged_all kn (all_of (l.refinements inner (suc k) w.refinements))) h.1 in
-        let c = bind_faultless kn (judged_all kn (part (l.own_units s k at x t fs w) none)) (ruled kn 0 (plain (form.body own_owner (result t)))) a.0 in
+        let c = bind_faultless kn (judged_all kn (part (l.own_units s k at x t fs w) none)) (ruled kn 0 (plain (form.body own_owner (result s.types t)))) a.0 in
         let d = before_faultless kn (judged kn (l.own_units s k at x t fs w)) (judged_all kn none) c in (
           record {
             scope = inner;
-            in_scope = body_units_in inner (delivered (result t)) w.units;
+            in_scope = body_units_in inner (delivered (result s.types t)) w.units;
             headings = refl;
-            stands = told_never sort (result t) (parameters fs) k inner;
+            stands = told_never sort (result s.types t) (parameters s.types fs) k inner;
+            closed = rc.2;
             faultless = d.0;
           },
-          refinement_spots inner (suc k) (Some k) w.refinements refl a.1,
+          refinement_spots inner rc.2 (suc k) (Some k) w.refinements refl a.1,
         )
       where
         own_owner : Owner
-        own_owner = frame fs w
+        own_owner = frame s.types fs w
 
     routine_lead : (sort : Sort) (names : List Phrase) → AllLead names → judged kn (l.routine s k at x t fs w sort names) ≡ hangs → HangsIn
     routine_lead sort names h e =
-        phrase_hangs 0 form.routine (l.heading_phrases s k at x t fs w sort names ++ l.body_phrases s k at x t fs w)
+        phrase_hangs 0 form.routine (l.heading_phrases s k at x t fs w sort names ++ l.body_phrases s k at x t fs w) (λ ms. refl)
         (lead_append (l.heading_phrases s k at x t fs w sort names) (l.body_phrases s k at x t fs w)
-        (lead_append names (heading_leaf ∷ l.declare_parameters inner fs) h ((λ i. phrase_hangs at heading_form [] tt i), parameters_lead inner fs)) (
-          (λ i. phrase_hangs 0 body_form (l.own_units s k at x t fs w ∷ [])
-              ((λ j. (inner, l.own_units s k at x t fs w, body_units_in inner (delivered (result t)) w.units, refl, j)), tt) i),
-          refinements_lead inner (suc k) w.refinements refl,
+        (lead_append names (heading_leaf ∷ l.declare_parameters inner fs) h
+        ((λ i. phrase_hangs at heading_form [] (λ ms. heading_never (rule at heading_form ms)) tt i), parameters_lead inner rc.2 fs)) (
+          (λ i. phrase_hangs 0 body_form (l.own_units s k at x t fs w ∷ []) (λ ms. refl)
+              ((λ j. (inner, l.own_units s k at x t fs w, body_units_in inner (delivered (result s.types t)) w.units, refl, j, rc.2)), tt) i),
+          refinements_lead inner rc.2 (suc k) w.refinements refl,
         )) e
       where
         heading_form : Plain
-        heading_form = form.heading s sort x (parameters fs) (l.is_missing (result t) (l.body_units s k at x t fs w))
+        heading_form =
+            form.heading s sort x (parameters s.types fs) (result s.types t) (l.is_missing (result s.types t) (l.body_units s k at x t fs w))
 
         heading_leaf : Phrase
         heading_leaf = leaf at heading_form
 
+        heading_never : (v : Verdict Meant) → heading_open (parameters s.types fs) (result s.types t) v ≡ false
+        heading_never v =
+            ap (λ (c : Bool). (c || is_open_result (result s.types t)) && is_given v) rc.0 ∙ ap (λ (c : Bool). c && is_given v) rc.1
+
         body_form : Plain
-        body_form = form.body (frame fs w) (result t)
+        body_form = form.body (frame s.types fs w) (result s.types t)
 
   -- ---- units
 
@@ -227,68 +266,80 @@ module _ (kn : Known) (s : Scope) where
   refinements_count o [] = refl
   refinements_count o (r ∷ rs) = ap suc (refinements_count o rs)
 
-  headings_count : (k : ℕ) (v : LevelUnit) → length (b.unit_headings k v) ≡ b.bodies_in v
+  headings_count : (k : ℕ) (v : LevelUnit) → length (b.unit_headings s.types k v) ≡ b.bodies_in v
   headings_count k (level.Plain v) = refl
   headings_count k (level.Proc at r n fs w) = ap suc (refinements_count (Some k) w.refinements)
   headings_count k (level.Op at r n fs w) = ap suc (refinements_count (Some k) w.refinements)
   headings_count k (level.NewType at n of) = refl
 
-  unit_spots : (k : ℕ) (v : LevelUnit) → Faultless (judged kn (l.level_unit s k v)) → Spots k (b.unit_headings k v) (l.unit_bodies s k v)
-  unit_spots k (level.Plain v) f = tt
-  unit_spots k (level.Proc at r n fs w) f = routine_spots k n.at n.text r fs w Procedure (l.procedure_name s n fs) f
-  unit_spots k (level.Op at r n fs w) f = routine_spots k n.at (operator_text n.operator) r fs w Operator [] f
-  unit_spots k (level.NewType at n of) f = tt
+  abbrev pub UnitClosed : ℕ → LevelUnit → Type 0
+  UnitClosed k (level.Plain v) = Unit {0}
+  UnitClosed k (level.Proc at r n fs w) = RoutineClosed k r fs w
+  UnitClosed k (level.Op at r n fs w) = RoutineClosed k r fs w
+  UnitClosed k (level.NewType at n of) = Unit {0}
 
-  units_spots : (k : ℕ) (vs : List LevelUnit) → Faultless (judged_all kn (all_of (level_units s k vs)))
-      → Spots k (all_headings k vs) (all_unit_bodies s k vs)
-  units_spots k [] f = tt
-  units_spots k (v ∷ vs) f =
+  abbrev pub UnitsClosed : ℕ → List LevelUnit → Type 0
+  UnitsClosed k [] = Unit {0}
+  UnitsClosed k (v ∷ vs) = UnitClosed k v × UnitsClosed (k + b.bodies_in v) vs
+
+  unit_spots : (k : ℕ) (v : LevelUnit) → UnitClosed k v → Faultless (judged kn (l.level_unit s k v))
+      → Spots k (b.unit_headings s.types k v) (l.unit_bodies s k v)
+  unit_spots k (level.Plain v) c f = tt
+  unit_spots k (level.Proc at r n fs w) c f = routine_spots k n.at n.text r fs w c Procedure (l.procedure_name s n fs) f
+  unit_spots k (level.Op at r n fs w) c f = routine_spots k n.at (operator_text n.operator) r fs w c Operator [] f
+  unit_spots k (level.NewType at n of) c f = tt
+
+  units_spots : (k : ℕ) (vs : List LevelUnit) → UnitsClosed k vs → Faultless (judged_all kn (all_of (level_units s k vs)))
+      → Spots k (all_headings s.types k vs) (all_unit_bodies s k vs)
+  units_spots k [] c f = tt
+  units_spots k (v ∷ vs) c f =
       let g = before_faultless kn (judged kn (l.level_unit s k v)) (judged_all kn (all_of (level_units s (k + b.bodies_in v) vs))) f in
-      spots_append k (k + b.bodies_in v) (b.unit_headings k v) (all_headings (k + b.bodies_in v) vs) (l.unit_bodies s k v)
-      (all_unit_bodies s (k + b.bodies_in v) vs) (ap (λ (n : ℕ). k + n) (sym (headings_count k v))) (unit_spots k v g.0)
-      (units_spots (k + b.bodies_in v) vs g.1)
+      spots_append k (k + b.bodies_in v) (b.unit_headings s.types k v) (all_headings s.types (k + b.bodies_in v) vs) (l.unit_bodies s k v)
+      (all_unit_bodies s (k + b.bodies_in v) vs) (ap (λ (n : ℕ). k + n) (sym (headings_count k v))) (unit_spots k v c.0 g.0)
+      (units_spots (k + b.bodies_in v) vs c.1 g.1)
 
-  unit_lead : (k : ℕ) (v : LevelUnit) → judged kn (l.level_unit s k v) ≡ hangs → HangsIn
-  unit_lead k (level.Plain v) e = (s, shape.role Nothing (shape.written (shape.unit s v)), statement_in s Nothing v, refl, e)
-  unit_lead k (level.Proc at r n fs w) e = routine_lead k n.at n.text r fs w Procedure (l.procedure_name s n fs) (procedure_lead n fs) e
-  unit_lead k (level.Op at r n fs w) e = routine_lead k n.at (operator_text n.operator) r fs w Operator [] tt e
-  unit_lead k (level.NewType at n of) e = absurd cc
+  unit_lead : ScopeClosed s → (k : ℕ) (v : LevelUnit) → UnitClosed k v → judged kn (l.level_unit s k v) ≡ hangs → HangsIn
+  unit_lead cl k (level.Plain v) c e = (s, shape.role Nothing (shape.written (shape.unit s v)), statement_in s Nothing v, refl, e, cl)
+  unit_lead cl k (level.Proc at r n fs w) c e = routine_lead k n.at n.text r fs w c Procedure (l.procedure_name s n fs) (procedure_lead cl n fs) e
+  unit_lead cl k (level.Op at r n fs w) c e = routine_lead k n.at (operator_text n.operator) r fs w c Operator [] tt e
+  unit_lead cl k (level.NewType at n of) c e =
+      phrase_hangs n.at (form.type_name s n.text) [] (λ ms. nothing_hangs s cl n.at (form.type_name s n.text) refl ms) tt e
 
-  units_lead : (k : ℕ) (vs : List LevelUnit) → AllLead (level_units s k vs)
-  units_lead k [] = tt
-  units_lead k (v ∷ vs) = (unit_lead k v, units_lead (k + b.bodies_in v) vs)
+  units_lead : ScopeClosed s → (k : ℕ) (vs : List LevelUnit) → UnitsClosed k vs → AllLead (level_units s k vs)
+  units_lead cl k [] c = tt
+  units_lead cl k (v ∷ vs) c = (unit_lead cl k v c.0, units_lead cl (k + b.bodies_in v) vs c.1)
 
-  pub level_lead : (w : Level)
+  pub level_lead : (w : Level) → ScopeClosed s → UnitsClosed 0 w.units
       → judged kn (row 0 form.level (level_units s 0 w.units ++ l.refinements s (b.bodies_of_units w.units) w.refinements)) ≡ hangs → HangsIn
-  level_lead w e =
-      phrase_hangs 0 form.level (level_units s 0 w.units ++ l.refinements s (b.bodies_of_units w.units) w.refinements)
-      (lead_append (level_units s 0 w.units) (l.refinements s (b.bodies_of_units w.units) w.refinements) (units_lead 0 w.units)
-      (refinements_lead s (b.bodies_of_units w.units) w.refinements refl)) e
+  level_lead w cl c e =
+      phrase_hangs 0 form.level (level_units s 0 w.units ++ l.refinements s (b.bodies_of_units w.units) w.refinements) (λ ms. refl)
+      (lead_append (level_units s 0 w.units) (l.refinements s (b.bodies_of_units w.units) w.refinements) (units_lead cl 0 w.units c)
+      (refinements_lead s cl (b.bodies_of_units w.units) w.refinements refl)) e
 
   count_append : (xs ys : List Heading) → length (xs ++ ys) ≡ length xs + length ys
   count_append [] ys = let z : 0 + length ys ≡ length ys = omega arith in sym z
   count_append (x ∷ xs) ys = let z : suc (length xs) + length ys ≡ suc (length xs + length ys) = omega arith in ap suc (count_append xs ys) ∙ sym z
 
-  all_count : (k : ℕ) (vs : List LevelUnit) → length (all_headings k vs) ≡ b.bodies_of_units vs
+  all_count : (k : ℕ) (vs : List LevelUnit) → length (all_headings s.types k vs) ≡ b.bodies_of_units vs
   all_count k [] = refl
   all_count k (v ∷ vs) =
-      count_append (b.unit_headings k v) (all_headings (k + b.bodies_in v) vs)
-      ∙ ap (λ (n : ℕ). n + length (all_headings (k + b.bodies_in v) vs)) (headings_count k v)
+      count_append (b.unit_headings s.types k v) (all_headings s.types (k + b.bodies_in v) vs)
+      ∙ ap (λ (n : ℕ). n + length (all_headings s.types (k + b.bodies_in v) vs)) (headings_count k v)
       ∙ ap (λ (n : ℕ). b.bodies_in v + n) (all_count (k + b.bodies_in v) vs)
 
-  pub level_spots : (w : Level)
+  pub level_spots : (w : Level) → ScopeClosed s → UnitsClosed 0 w.units
       → Faultless (judged kn (row 0 form.level (level_units s 0 w.units ++ l.refinements s (b.bodies_of_units w.units) w.refinements)))
-      → Spots 0 (all_headings 0 w.units ++ b.refinement_headings None w.refinements)
+      → Spots 0 (all_headings s.types 0 w.units ++ b.refinement_headings None w.refinements)
       (all_unit_bodies s 0 w.units ++ l.all_refined_units s (b.bodies_of_units w.units) w.refinements)
-  level_spots w f =
+  level_spots w cl c f =
       let g =
       bind_faultless kn (judged_all kn (all_of (level_units s 0 w.units ++ l.refinements s (b.bodies_of_units w.units) w.refinements)))
       (ruled kn 0 (plain form.level)) f in
       let h = split (level_units s 0 w.units) (l.refinements s (b.bodies_of_units w.units) w.refinements) g in
-      let z : 0 + length (all_headings 0 w.units) ≡ length (all_headings 0 w.units) = omega arith in
-      spots_append 0 (b.bodies_of_units w.units) (all_headings 0 w.units) (b.refinement_headings None w.refinements) (all_unit_bodies s 0 w.units)
-      (l.all_refined_units s (b.bodies_of_units w.units) w.refinements) (sym (all_count 0 w.units) ∙ sym z) (units_spots 0 w.units h.0)
-      (refinement_spots s (b.bodies_of_units w.units) None w.refinements refl h.1)
+      let z : 0 + length (all_headings s.types 0 w.units) ≡ length (all_headings s.types 0 w.units) = omega arith in
+      spots_append 0 (b.bodies_of_units w.units) (all_headings s.types 0 w.units) (b.refinement_headings None w.refinements) (all_unit_bodies s 0 w.units)
+      (l.all_refined_units s (b.bodies_of_units w.units) w.refinements) (sym (all_count 0 w.units) ∙ sym z) (units_spots 0 w.units c h.0)
+      (refinement_spots s cl (b.bodies_of_units w.units) None w.refinements refl h.1)
 
 -- ---- a level
 
@@ -338,7 +389,7 @@ module _ (w : Level) where
       let t = spot_at kn s 0 hs ps c h.0 sp h.1 in
       let z : 0 + c ≡ c = omega arith in
       let spot = subst (λ (m : ℕ). Spot kn s m h.0 t.0) z t.2 in
-      let f = body_leaf kn spot.scope t.0 spot.in_scope spot.faultless (open_last hs ps c h.0 t.0 h.1 t.1 g.1) in
+      let f = body_leaf kn spot.scope spot.closed t.0 spot.in_scope spot.faultless (open_last hs ps c h.0 t.0 h.1 t.1 g.1) in
       let back = ap (λ (o : Option ℕ). leads_back kn f.0 o) (sym (spot.stands h.2)) ∙ f.3 in
       record {
         to = f.0;
@@ -350,10 +401,78 @@ module _ (w : Level) where
   small : Spots kn s 0 hs ps → (c : ℕ) → Goes c → (marks : List Bool) → length marks ≡ length calls → (m : Bool) × (slice_get marks c ≡ Some m)
   small sp c g marks e = same_length hs marks c g.0.0 g.0.1 (e ∙ counted sp)
 
-  pub never_hangs : judged kn (l.level_phrase w) ≡ hangs → ⊥
-  never_hangs e =
-      let f : Faultless (judged kn (l.level_phrase w)) = subst (λ (q : Ruled Meant). Faultless q) (sym e) open_one in
-      let sp : Spots kn s 0 hs ps = level_spots kn s w f in
-      let h = level_lead kn s w e in
-      let g = leaf_of kn h.0 h.1 h.2 h.4 in
-      no_walk calls (length calls) Goes (step sp) (small sp) hs (sym (counted sp)) g.0 (leaf_goes h.0 (called_in h.1) h.3 g)
+  -- ---- types have meaning
+
+  module _ (faultless : level_faults w ≡ []) where
+    refined_headings : (home : Option ℕ) (rs : List Refined) → HeadingsClosed (b.refinement_headings home rs)
+    refined_headings home [] = tt
+    refined_headings home (r ∷ rs) = (tt, refined_headings home rs)
+
+    headings_append : (gs is : List Heading) → HeadingsClosed gs → HeadingsClosed is → HeadingsClosed (gs ++ is)
+    headings_append [] is h k = k
+    headings_append (g ∷ gs) is h k = (h.0, headings_append gs is h.1 k)
+
+    routine_headings : (k : ℕ) (r : Option TypePhrase) (fs : List Formal) (v : Written) → clean.RoutineClean w faultless r fs v
+        → (sort : Sort) (at : ℕ) (x : List ℕ)
+        → HeadingsClosed (b.routine_heading s.types sort at x fs r ∷ b.refinement_headings (Some k) v.refinements)
+    routine_headings k r fs v c sort at x =
+        ((clean.parameters_closed w faultless r fs v c, clean.delivers_closed w faultless r fs v c), refined_headings (Some k) v.refinements)
+
+    unit_headings : (k : ℕ) (v : LevelUnit) → clean.UnitClean w faultless v → HeadingsClosed (b.unit_headings s.types k v)
+    unit_headings k (level.Plain u) c = tt
+    unit_headings k (level.NewType at n of) c = tt
+    unit_headings k (level.Proc at r n fs v) c = routine_headings k r fs v c Procedure n.at n.text
+    unit_headings k (level.Op at r n fs v) c = routine_headings k r fs v c Operator n.at (operator_text n.operator)
+
+    units_headings : (k : ℕ) (vs : List LevelUnit) → clean.AllUnits w faultless vs → HeadingsClosed (all_headings s.types k vs)
+    units_headings k [] c = tt
+    units_headings k (v ∷ vs) c =
+        headings_append (b.unit_headings s.types k v) (all_headings s.types (k + b.bodies_in v) vs) (unit_headings k v c.0)
+        (units_headings (k + b.bodies_in v) vs c.1)
+
+    all_closed : HeadingsClosed hs
+    all_closed =
+        headings_append (all_headings s.types 0 w.units) (b.refinement_headings None w.refinements)
+        (units_headings 0 w.units (clean.all_clean w faultless)) (refined_headings None w.refinements)
+
+    level_is_closed : ScopeClosed s
+    level_is_closed = record {
+      level = clean.level_closed w faultless;
+      routine = tt;
+      headings = all_closed;
+      types = clean.level_means w faultless;
+    }
+
+    routine_closed : (k : ℕ) (r : Option TypePhrase) (fs : List Formal) (v : Written) → clean.RoutineClean w faultless r fs v
+        → RoutineClosed kn s k r fs v
+    routine_closed k r fs v c = (
+      clean.parameters_closed w faultless r fs v c,
+      clean.delivers_closed w faultless r fs v c,
+      record {
+        level = clean.level_closed w faultless;
+        routine = clean.body_closed w faultless r fs v c;
+        headings = all_closed;
+        types = clean.body_means w faultless r fs v c;
+      },
+    )
+
+    unit_is_closed : (k : ℕ) (v : LevelUnit) → clean.UnitClean w faultless v → UnitClosed kn s k v
+    unit_is_closed k (level.Plain u) c = tt
+    unit_is_closed k (level.NewType at n of) c = tt
+    unit_is_closed k (level.Proc at r n fs v) c = routine_closed k r fs v c
+    unit_is_closed k (level.Op at r n fs v) c = routine_closed k r fs v c
+
+    units_are_closed : (k : ℕ) (vs : List LevelUnit) → clean.AllUnits w faultless vs → UnitsClosed kn s k vs
+    units_are_closed k [] c = tt
+    units_are_closed k (v ∷ vs) c = (unit_is_closed k v c.0, units_are_closed (k + b.bodies_in v) vs c.1)
+
+    pub never_hangs : judged kn (l.level_phrase w) ≡ hangs → ⊥
+    never_hangs e =
+        let f : Faultless (judged kn (l.level_phrase w)) = subst (λ (q : Ruled Meant). Faultless q) (sym e) open_one in
+        let cl = level_is_closed in
+        let us = units_are_closed 0 w.units (clean.all_clean w faultless) in
+        let sp : Spots kn s 0 hs ps = level_spots kn s w cl us f in
+        let h = level_lead kn s w cl us e in
+        let g = leaf_of kn h.0 h.5 h.1 h.2 h.4 in
+        no_walk calls (length calls) (λ f c. Goes c) (λ f c. step sp c) (λ f c. small sp c) hs (sym (counted sp)) g.0
+        (leaf_goes h.0 (called_in h.1) h.3 g)

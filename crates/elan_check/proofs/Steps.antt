@@ -27,6 +27,7 @@ use Rattle.elan_check.specs.walks.Seen.{all_seen}
 use Rattle.elan_check.specs.walks.Rounds.{called_last, with_calls, is_open, any_open, is_kept, looked_at, found, found_from, seen, with_found}
 use Rattle.elan_check.proofs.Opened.{waiting}
 use Rattle.elan_levels.specs.walks.Headings.{all_headings}
+use Rattle.elan_scope.specs.declared.type_name.TypeName.{TypeName}
 use Rattle.elan_check.specs.walks.Units.{all_unit_bodies}
 
 abbrev pub known_with : List Delivery → List (List ℕ) → Known
@@ -181,8 +182,8 @@ refinements_count o (r ∷ rs) = ap suc (refinements_count o rs)
 
 pub unit_count : (s : Scope) (k : ℕ) (v : LevelUnit) → length (l.unit_bodies s k v) ≡ b.bodies_in v
 unit_count s k (level.Plain v) = refl
-unit_count s k (level.Proc at r n fs w) = ap suc (refined_count (l.routine_scope s k (b.body_names fs w)) (suc k) w.refinements)
-unit_count s k (level.Op at r n fs w) = ap suc (refined_count (l.routine_scope s k (b.body_names fs w)) (suc k) w.refinements)
+unit_count s k (level.Proc at r n fs w) = ap suc (refined_count (l.routine_scope s (b.body_within s.types k fs w)) (suc k) w.refinements)
+unit_count s k (level.Op at r n fs w) = ap suc (refined_count (l.routine_scope s (b.body_within s.types k fs w)) (suc k) w.refinements)
 unit_count s k (level.NewType at n of) = refl
 
 pub units_count : (s : Scope) (k : ℕ) (vs : List LevelUnit) → length (all_unit_bodies s k vs) ≡ b.bodies_of_units vs
@@ -192,26 +193,26 @@ units_count s k (v ∷ vs) =
     ∙ ap (λ (n : ℕ). n + length (all_unit_bodies s (k + b.bodies_in v) vs)) (unit_count s k v)
     ∙ ap (λ (n : ℕ). b.bodies_in v + n) (units_count s (k + b.bodies_in v) vs)
 
-unit_headings_count : (k : ℕ) (v : LevelUnit) → length (b.unit_headings k v) ≡ b.bodies_in v
-unit_headings_count k (level.Plain v) = refl
-unit_headings_count k (level.Proc at r n fs w) = ap suc (refinements_count (Some k) w.refinements)
-unit_headings_count k (level.Op at r n fs w) = ap suc (refinements_count (Some k) w.refinements)
-unit_headings_count k (level.NewType at n of) = refl
+unit_headings_count : (ts : List TypeName) (k : ℕ) (v : LevelUnit) → length (b.unit_headings ts k v) ≡ b.bodies_in v
+unit_headings_count ts k (level.Plain v) = refl
+unit_headings_count ts k (level.Proc at r n fs w) = ap suc (refinements_count (Some k) w.refinements)
+unit_headings_count ts k (level.Op at r n fs w) = ap suc (refinements_count (Some k) w.refinements)
+unit_headings_count ts k (level.NewType at n of) = refl
 
-all_headings_count : (k : ℕ) (vs : List LevelUnit) → length (all_headings k vs) ≡ b.bodies_of_units vs
-all_headings_count k [] = refl
-all_headings_count k (v ∷ vs) =
-    headings_count (b.unit_headings k v) (all_headings (k + b.bodies_in v) vs)
-    ∙ ap (λ (n : ℕ). n + length (all_headings (k + b.bodies_in v) vs)) (unit_headings_count k v)
-    ∙ ap (λ (n : ℕ). b.bodies_in v + n) (all_headings_count (k + b.bodies_in v) vs)
+all_headings_count : (ts : List TypeName) (k : ℕ) (vs : List LevelUnit) → length (all_headings ts k vs) ≡ b.bodies_of_units vs
+all_headings_count ts k [] = refl
+all_headings_count ts k (v ∷ vs) =
+    headings_count (b.unit_headings ts k v) (all_headings ts (k + b.bodies_in v) vs)
+    ∙ ap (λ (n : ℕ). n + length (all_headings ts (k + b.bodies_in v) vs)) (unit_headings_count ts k v)
+    ∙ ap (λ (n : ℕ). b.bodies_in v + n) (all_headings_count ts (k + b.bodies_in v) vs)
 
 -- Each body has a heading.
 pub level_count : (w : Level) → length (b.headings w) ≡ length (l.level_bodies w)
 level_count w =
     let s = l.level_scope w in
     let m = b.bodies_of_units w.units in
-    headings_count (all_headings 0 w.units) (b.refinement_headings None w.refinements)
-    ∙ ap (λ (n : ℕ). n + length (b.refinement_headings None w.refinements)) (all_headings_count 0 w.units)
+    headings_count (all_headings s.types 0 w.units) (b.refinement_headings None w.refinements)
+    ∙ ap (λ (n : ℕ). n + length (b.refinement_headings None w.refinements)) (all_headings_count s.types 0 w.units)
     ∙ ap (λ (n : ℕ). m + n) (refinements_count None w.refinements)
     ∙ sym (phrases_count (all_unit_bodies s 0 w.units) (l.all_refined_units s m w.refinements)
     ∙ ap (λ (n : ℕ). n + length (l.all_refined_units s m w.refinements)) (units_count s 0 w.units)
@@ -312,14 +313,14 @@ module _ {S : Type 0} (after : S → ℕ → Phrase → S) where
 
   -- a PROC or OP, in whose scope its body is looked at
   pub routine_found : (s z : Scope) (n m : ℕ) (r : Option TypePhrase) (fs : List Formal) (w : Body) (out first new : S)
-      → z ≡ l.routine_scope s n (b.body_names fs w) → m ≡ n + 1 →
-      first ≡ after out n (units (delivered (b.result r)) (map (unit z) w.units)) → new ≡ all first m (l.all_refined_units z m w.refinements)
+      → z ≡ l.routine_scope s (b.body_within s.types n fs w) → m ≡ n + 1 →
+      first ≡ after out n (units (delivered (b.result s.types r)) (map (unit z) w.units)) → new ≡ all first m (l.all_refined_units z m w.refinements)
       → new ≡ all out n (l.inside_units s n r fs w)
   routine_found s z n m r fs w out first new ez em ef en =
       let next_number : m ≡ suc n = omega (arith, em) in
       en ∙ ap (λ (j : ℕ). all first j (l.all_refined_units z j w.refinements)) next_number
       ∙ ap (λ (o : S). all o (suc n) (l.all_refined_units z (suc n) w.refinements)) ef
-      ∙ ap (λ (y : Scope). all (after out n (units (delivered (b.result r)) (map (unit y) w.units))) (suc n)
+      ∙ ap (λ (y : Scope). all (after out n (units (delivered (b.result s.types r)) (map (unit y) w.units))) (suc n)
       (l.all_refined_units y (suc n) w.refinements)) ez
 
   pub level_found : (w : Level) (s z : Scope) (m : ℕ) (start first new : S) → s ≡ l.level_scope w → z ≡ s → m ≡ b.bodies_of_units w.units →

@@ -34,6 +34,7 @@ use Rattle.std.specs.Option.{option_or}
 use Rattle.elan_scope.specs.Scope.{number_of, all_held, variables_of}
 use Rattle.elan_scope.specs.declared.scope.Scope.{Scope}
 use Rattle.elan_scope.specs.declared.scope.Within.{Within}
+use Rattle.elan_scope.specs.declared.type_name.TypeName.{TypeName}
 use Rattle.elan_levels.specs.Bodies as b
 use Rattle.elan_levels.specs.Bodies.{headings, level_names}
 use Rattle.elan_scope.specs.Phrase as form
@@ -164,11 +165,11 @@ module _ (w : Written) (us : List Action) (all : List Body) where
       subst (λ (bs : List Body). Inside 0 bs all) q.5 (λ i b e. let z : 0 + i ≡ i = omega arith in ap (slice_get all) z ∙ e) in
       let first = units_rows kn s all 0 w.units q.0 q.2 (inside_first 0 (u.bodies_of q.0) (u.bodies_of q.1) all inside) in
       let count : length (u.bodies_of q.0) ≡ after_units =
-      rows_count kn s all 0 (all_headings 0 w.units) (all_unit_bodies s 0 w.units) (u.bodies_of q.0) first ∙ all_count kn s all 0 w.units in
+      rows_count kn s all 0 (all_headings s.types 0 w.units) (all_unit_bodies s 0 w.units) (u.bodies_of q.0) first ∙ all_count kn s all 0 w.units in
       let rest = refinement_rows kn s all s after_units w.refinements q.1 refl refl tt q.3 in
       let z : 0 + length (u.bodies_of q.0) ≡ length (u.bodies_of q.0) = omega arith in
       subst (λ (bs : List Body). Rows kn s all 0 hs ps bs) (sym q.5)
-      (rows_append kn s all 0 after_units (all_headings 0 w.units) (b.refinement_headings None w.refinements) (all_unit_bodies s 0 w.units)
+      (rows_append kn s all 0 after_units (all_headings s.types 0 w.units) (b.refinement_headings None w.refinements) (all_unit_bodies s 0 w.units)
       (l.all_refined_units s after_units w.refinements) (u.bodies_of q.0) (u.bodies_of q.1) (sym count ∙ sym z) first rest)
 
   -- ---- bodies as their headings tell
@@ -218,10 +219,10 @@ module _ (w : Written) (us : List Action) (all : List Body) where
   frame_here : (n : ℕ) (c : Body) → slice_get all n ≡ Some c → frame_in all (Some n) ≡ frame_of c.scope
   frame_here n c e = ap (λ (o : Option Body). frame_at (scope_of o)) e
 
-  routine_fits : Rows kn s all 0 hs ps all → (n : ℕ) (c : Body) (z : Scope) (fs : List Formal) (ks : List Kind) (names : List Entry)
-      → slice_get all n ≡ Some c → z.headings ≡ s.headings → z.level ≡ s.level → c.scope ≡ owner.Own fs ks → z.routine ≡ within n names
+  routine_fits : Rows kn s all 0 hs ps all → (n : ℕ) (c : Body) (z : Scope) (fs : List Formal) (ks : List Kind) (names : List Entry) (types : List TypeName)
+      → slice_get all n ≡ Some c → z.headings ≡ s.headings → z.level ≡ s.level → c.scope ≡ owner.Own fs ks → z.routine ≡ within n names types
       → z.refinement ≡ None → frame_of c.scope ≡ map formal_of (all_held names) → Fits (stand n) z kn
-  routine_fits rs n c z fs ks names i zh zl own rt rf fr =
+  routine_fits rs n c z fs ks names types i zh zl own rt rf fr =
       let owned : owner_in all (Some n) ≡ Some n = owner_here n c i ∙ ap (λ (o : Owner). owner_at n (Some o)) own in
       record {
         level = ap variables_of (sym zl);
@@ -266,7 +267,7 @@ module _ (w : Written) (us : List Action) (all : List Body) where
 
   row_fits : Rows kn s all 0 hs ps all → (n : ℕ) (what : What) (m : Meant) (c : Body) (z : Scope) → slice_get all n ≡ Some c → z.headings ≡ s.headings
       → z.level ≡ s.level → Made what m c → Stands all n what z c → Fits (stand n) z kn
-  row_fits rs n (Routine sort params r) m c z i zh zl made st = routine_fits rs n c z (map formal_of params) made.0 st.0 i zh zl made.1 st.1 st.2 st.3
+  row_fits rs n (Routine sort params r) m c z i zh zl made st = routine_fits rs n c z (map formal_of params) made.0 st.0 st.1 i zh zl made.1 st.2 st.3 st.4
   row_fits rs n (Refinement home) m c z i zh zl made st = refinement_fits rs n c z home i zh zl made.0 st.0 st.1 st.2
 
   -- ---- the content of bodies
@@ -335,7 +336,8 @@ module _ (w : Written) (us : List Action) (all : List Body) where
       bind_gives (judged_all kn
       (all_of (l.heading_phrases s k n.at (operator_text n.operator) r fs x Operator [] ++ l.body_phrases s k n.at (operator_text n.operator) r fs x)))
       (ruled kn 0 (plain form.routine)) m e in bodies_typed m (u.bodies_of q.0) q.2
-  unit_typed f k (level.NewType at n of) m e = absurd cc
+  unit_typed f k (level.NewType at n of) m e =
+      ty.actions_typed level_stand m (good level_stand s kn f (l.level_unit s k (level.NewType at n of)) m (refl, tt) e)
 
   units_typed : Fits level_stand s kn → (k : ℕ) (ws : List LevelUnit) (ms : List Meant) → judged_all kn (all_of (level_units s k ws)) ≡ gives ms
       → AllTyped (p.actions_of ms)

@@ -1,6 +1,7 @@
 -- The phrases of a text: of its units, PROCs, OPs and refinements.
-use Rattle.std.specs.Prelude.{ℕ, suc, Bool, ◌&&◌, List, [], ◌∷◌, ◌++◌, map, flat_map, Option, Some, None}
-use Rattle.std.specs.Option.{is_some, option_map_or}
+use Rattle.std.specs.Prelude.{ℕ, suc, Bool, false, ◌&&◌, not, List, [], ◌∷◌, ◌++◌, map, flat_map, Option, Some, None}
+use Rattle.std.specs.Option.{option_map_or}
+use Rattle.elan_types.specs.Types.{is_open}
 use Rattle.elan_types.specs.declared.elan_type.ElanType.{ElanType}
 use Rattle.elan_types.specs.declared.core_phrase.Scope.{Scope as Owner}
 use Rattle.elan_types.specs.declared.core_phrase.Scope.TheVariants as owner
@@ -14,13 +15,13 @@ use Rattle.elan_tree.specs.declared.tree.LevelUnit.{LevelUnit}
 use Rattle.elan_tree.specs.declared.tree.LevelUnit.TheVariants as level
 use Rattle.elan_tree.specs.declared.tree.Tree.{Tree}
 use Rattle.elan_tree.specs.declared.tree.Tree.TheVariants as tree
-use Rattle.elan_scope.specs.declared.scope.Entry.{Entry}
 use Rattle.elan_scope.specs.declared.heading.Sort.{Sort}
 use Rattle.elan_scope.specs.declared.heading.Sort.TheVariants.{Procedure, Operator}
 use Rattle.elan_scope.specs.declared.scope.Scope.{Scope}
 use Rattle.elan_scope.specs.declared.scope.Within.{Within}
 use Rattle.elan_levels.specs.Bodies as bodies
-use Rattle.elan_levels.specs.Bodies.{parameters, result, frame, body_names, level_names, headings, numbered, bodies_of_units}
+use Rattle.elan_levels.specs.Bodies.{parameters, result, frame, body_within, level_names, headings, numbered, bodies_of_units}
+use Rattle.type_names.specs.Types.{level_types}
 use Rattle.elan_unbuilt.specs.Operators.{operator_text}
 use Rattle.elan_scope.specs.Phrase as form
 use Rattle.elan_scope.specs.Known.{delivered}
@@ -32,15 +33,15 @@ use Rattle.elan_judge.specs.Shape.{written, role, unit, units, all_empty}
 
 -- in the units of a level
 abbrev pub level_scope : Level → Scope
-level_scope l = record { headings = headings l; level = level_names l; routine = None; refinement = None }
+level_scope l = record { headings = headings l; level = level_names l; types = level_types l; routine = None; refinement = None }
 
--- in the PROC or OP with this number
-abbrev pub routine_scope : Scope → ℕ → List Entry → Scope
-routine_scope s k names = record { headings = s.headings; level = s.level; routine = Some (record { number = k; names = names }); refinement = None }
+-- in this PROC or OP
+abbrev pub routine_scope : Scope → Within → Scope
+routine_scope s w = record { headings = s.headings; level = s.level; types = s.types; routine = Some w; refinement = None }
 
 -- in the refinement with this number
 abbrev pub refinement_scope : Scope → ℕ → Scope
-refinement_scope s k = record { headings = s.headings; level = s.level; routine = s.routine; refinement = Some k }
+refinement_scope s k = record { headings = s.headings; level = s.level; types = s.types; routine = s.routine; refinement = Some k }
 
 abbrev pub owner_of : Option Within → Owner
 owner_of routine = option_map_or (λ w. owner.Of w.number) routine owner.Level
@@ -77,11 +78,11 @@ abbrev pub procedure_name : Scope → Name → List Formal → List Phrase
 procedure_name s n fs = map (λ e. leaf e.at (form.declares s e.name)) (bodies.procedure_name n fs)
 
 abbrev pub is_missing : Option ElanType → List (Option Phrase) → Bool
-is_missing result us = is_some result && all_empty us
+is_missing result us = option_map_or (λ t. not (is_open t)) result false && all_empty us
 
 module _ (s : Scope) (k : ℕ) (at : ℕ) (x : List ℕ) (r : Option TypePhrase) (fs : List Formal) (b : Body) where
   abbrev pub inner : Scope
-  inner = routine_scope s k (body_names fs b)
+  inner = routine_scope s (body_within s.types k fs b)
 
   abbrev pub body_units : List (Option Phrase)
   body_units = map (unit inner) b.units
@@ -90,21 +91,24 @@ module _ (s : Scope) (k : ℕ) (at : ℕ) (x : List ℕ) (r : Option TypePhrase)
   abbrev pub routine : Sort → List Phrase → Phrase
   routine sort names =
       row 0 form.routine
-      ((names ++ leaf at (form.heading s sort x (parameters fs) (is_missing (result r) body_units)) ∷ declare_parameters inner fs)
-      ++ around 0 (form.body (frame fs b) (result r)) (units (delivered (result r)) body_units)
+      ((names
+      ++ leaf at (form.heading s sort x (parameters s.types fs) (result s.types r) (is_missing (result s.types r) body_units)) ∷ declare_parameters inner fs)
+      ++ around 0 (form.body (frame s.types fs b) (result s.types r)) (units (delivered (result s.types r)) body_units)
       ∷ refinements inner (suc k) b.refinements)
 
   -- ---- what it is made of, as it is gone over; no definition of meaning needs these names
 
   abbrev pub own_units : Phrase
-  own_units = units (delivered (result r)) body_units
+  own_units = units (delivered (result s.types r)) body_units
 
   abbrev pub own_body : Phrase
-  own_body = around 0 (form.body (frame fs b) (result r)) own_units
+  own_body = around 0 (form.body (frame s.types fs b) (result s.types r)) own_units
 
   -- its heading, and its parameters
   abbrev pub heading_phrases : Sort → List Phrase → List Phrase
-  heading_phrases sort names = names ++ (leaf at (form.heading s sort x (parameters fs) (is_missing (result r) body_units)) ∷ declare_parameters inner fs)
+  heading_phrases sort names =
+      names
+      ++ (leaf at (form.heading s sort x (parameters s.types fs) (result s.types r) (is_missing (result s.types r) body_units)) ∷ declare_parameters inner fs)
 
   -- its body, and its refinements
   abbrev pub body_phrases : List Phrase
@@ -118,14 +122,14 @@ module _ (s : Scope) (k : ℕ) (at : ℕ) (x : List ℕ) (r : Option TypePhrase)
 abbrev pub inside : Scope → ℕ → Option TypePhrase → List Formal → Body → List Phrase
 inside s k r fs b =
     declare_parameters s fs
-    ++ around 0 (form.body (frame fs b) (result r)) (units (delivered (result r)) (map (unit s) b.units))
+    ++ around 0 (form.body (frame s.types fs b) (result s.types r)) (units (delivered (result s.types r)) (map (unit s) b.units))
     ∷ refinements s (suc k) b.refinements
 
 -- the units of its body, and of its refinements
 abbrev pub inside_units : Scope → ℕ → Option TypePhrase → List Formal → Body → List Phrase
 inside_units s k r fs b =
-    units (delivered (result r)) (map (unit (routine_scope s k (body_names fs b))) b.units)
-    ∷ all_refined_units (routine_scope s k (body_names fs b)) (suc k) b.refinements
+    units (delivered (result s.types r)) (map (unit (routine_scope s (body_within s.types k fs b))) b.units)
+    ∷ all_refined_units (routine_scope s (body_within s.types k fs b)) (suc k) b.refinements
 
 -- ---- the level
 
@@ -135,7 +139,7 @@ module _ (s : Scope) where
   level_unit k (level.Plain u) = role Nothing (written (unit s u))
   level_unit k (level.Proc at r n fs b) = routine s k n.at n.text r fs b Procedure (procedure_name s n fs)
   level_unit k (level.Op at r n fs b) = routine s k n.at (operator_text n.operator) r fs b Operator []
-  level_unit k (level.NewType at n of) = leaf at form.not_built
+  level_unit k (level.NewType at n of) = leaf n.at (form.type_name s n.text)
 
   -- the units of bodies, in the order of their numbers, as they are gone over; no definition of meaning needs these lists
   abbrev pub unit_bodies : ℕ → LevelUnit → List Phrase

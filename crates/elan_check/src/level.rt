@@ -1,6 +1,9 @@
 //! The meaning of a level: its units, its PROCs and OPs, and its refinements.
 
-ghost use Rattle.std.specs.Prelude.{◌≡◌, ◌++◌, None, IfOk};
+ghost use Rattle.std.specs.Prelude.{◌≡◌, ◌++◌, List, [], Some, None, IfOk};
+ghost use Rattle.elan_meant.specs.declared.meant.Meant.{Meant as Meanings};
+ghost use Rattle.elan_scope.specs.Ruled.{Ruled, breaks};
+ghost use Rattle.type_names.specs.Faults.{level_faults};
 ghost use Rattle.elan_types.specs.Typing.{IsWellTyped};
 ghost use Rattle.elan_types.specs.declared.core_phrase.Core.{Core};
 ghost use Rattle.elan_types.specs.declared.env.Env.{Env};
@@ -18,8 +21,9 @@ use crate::deliveries::known_of;
 use crate::error::CheckError;
 use crate::routine::{Routine, is_over, judge_refinements, judge_routine};
 use elan_judge::judge::judge_role;
-use elan_levels::bodies::{held_kinds, level_names};
+use elan_levels::bodies::{held_kinds, level_names, level_types};
 use elan_levels::heading::{first_refinement, headings, number_behind};
+use elan_meant::meant::Meant;
 use elan_meant::row::{Judged, Row};
 use elan_meant::together::{let_go, none, one, with};
 use elan_scope::delivery::Delivery;
@@ -32,8 +36,10 @@ use elan_types::{Core, Why};
 use elan_unbuilt::operator_text;
 use eu_base::{List, NoMemory};
 use std::alloc::Global;
+use type_names::fault::level_fault;
+use type_names::search::Fault;
 use unit_rules::body::level;
-use value_rules::name::declared;
+use value_rules::name::{declared, type_declared};
 
 // The name of a PROC: one without parameters is a name of the level.
 fn procedure_name(alloc: Global, scope: &Scope, name: &Name, formals: &[Formal]) -> Row
@@ -60,7 +66,9 @@ fn judge_level_unit(
 {
     match unit {
         LevelUnit::Plain(unit) => judge_role(alloc, known, scope, Delivery::Nothing, unit),
-        LevelUnit::NewType { at, .. } => Err(Trouble::Breaks(*at, Why::Unknown)),
+        LevelUnit::NewType { name, .. } => {
+            type_declared(alloc, name.at, scope, name.text.as_slice())
+        }
         LevelUnit::Proc {
             result,
             name,
@@ -140,16 +148,45 @@ fn judge_level(alloc: Global, known: &Known, scope: &mut Scope, level: &Level) -
 fn level_scope(alloc: Global, level: &Level) -> Result<Scope, NoMemory>
     ensures { IfOk result (λ scope. scope ≡ spec.level_scope level.now) }
 {
+    let types = level_types(alloc, level)?;
     Ok(Scope {
-        headings: headings(alloc, level)?,
-        level: level_names(alloc, level)?,
+        headings: headings(alloc, types.as_slice(), level)?,
+        level: level_names(alloc, types.as_slice(), level)?,
+        types,
         routine: None,
         refinement: None,
     })
 }
 
-// The core of a level, from what is known of its bodies.
-fn core_known(
+// The fault of a type, or that of a phrase, if that stands before it.
+fn earlier(fault: Fault, at: u32, why: Why) -> CheckError
+    ensures { (r : Ruled Meanings) → r ≡ breaks (at, why) → text.IsFault (text.earliest (Some fault) r) result }
+{
+    let (type_at, type_why) = fault;
+    if at < type_at {
+        CheckError::NoMeaning(at, why)
+    } else {
+        CheckError::NoMeaning(type_at, type_why)
+    }
+}
+
+// A level in which a type breaks a rule.
+fn refusal(fault: Fault, parts: Row) -> CheckError
+    ensures { (r : Ruled (List Meanings)) → Is parts r → text.IsFault (text.earliest (Some fault) r) result }
+{
+    match parts {
+        Err(Trouble::NoMemory) => CheckError::NoMemory,
+        Err(Trouble::Breaks(at, why)) => earlier(fault, at, why),
+        Err(Trouble::Hangs) => CheckError::NoMeaning(fault.0, fault.1),
+        Ok(parts) => {
+            Meant::all_let_go(parts);
+            CheckError::NoMeaning(fault.0, fault.1)
+        }
+    }
+}
+
+// The core of a level of which no type breaks a rule, from what is known of its bodies.
+fn core_meant(
     alloc: Global,
     known: &Known,
     scope: &mut Scope,
@@ -157,6 +194,7 @@ fn core_known(
 ) -> Result<Core, CheckError>
     requires known { known.now ≡ refinements.known_of (bodies.headings written.now) (spec.level_bodies written.now) }
     requires scope { scope.old ≡ spec.level_scope written.now }
+    requires types { level_faults written.now ≡ [] }
     ensures { text.Answers written.now result }
 {
     let variables = held_kinds(alloc, scope.level.as_slice())?;
@@ -173,6 +211,26 @@ fn core_known(
         Err(Trouble::Breaks(at, why)) => Err(CheckError::NoMeaning(at, why)),
         // Where nothing breaks a rule, nothing hangs.
         Err(Trouble::Hangs) => unreachable!(),
+    }
+}
+
+// The core of a level, from what is known of its bodies.
+fn core_known(
+    alloc: Global,
+    known: &Known,
+    scope: &mut Scope,
+    written: &Level,
+) -> Result<Core, CheckError>
+    requires known { known.now ≡ refinements.known_of (bodies.headings written.now) (spec.level_bodies written.now) }
+    requires scope { scope.old ≡ spec.level_scope written.now }
+    ensures { text.Answers written.now result }
+{
+    match level_fault(alloc, written)? {
+        None => core_meant(alloc, known, scope, written),
+        Some(fault) => {
+            let parts = judge_level(alloc, known, scope, written);
+            Err(refusal(fault, parts))
+        }
     }
 }
 

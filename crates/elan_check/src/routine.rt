@@ -15,7 +15,7 @@ ghost use Rattle.elan_judge.specs.Shape as shape;
 
 use elan_judge::judge::judge_units;
 use elan_judge::role::all_empty;
-use elan_levels::bodies::{body_names, held_kinds, own_names, parameters};
+use elan_levels::bodies::{body_within, own_kinds, parameters};
 use elan_levels::heading::{next_number, result_type};
 use elan_meant::meant::Meant;
 use elan_meant::row::{Judged, Row};
@@ -24,14 +24,14 @@ use elan_rules::whole::refinement_phrase;
 use elan_scope::delivery::Delivery;
 use elan_scope::heading::Sort;
 use elan_scope::known::Known;
-use elan_scope::scope::{Scope, Within};
+use elan_scope::scope::Scope;
 use elan_scope::trouble::Trouble;
 use elan_tree::{Body, Formal, Name, Refinement, TypePhrase, Unit};
-use elan_types::{Scope as Owner, formals};
+use elan_types::{ElanType, Scope as Owner, formals};
 use eu_base::NoMemory;
 use std::alloc::Global;
 use unit_rules::body::{bodies_of, body};
-use value_rules::name::{declared, headed};
+use value_rules::name::{Headed, declared, heading};
 
 /// A PROC or OP as it is written, with its number among the bodies of the level.
 #[derive(Clone, Copy)]
@@ -154,13 +154,13 @@ fn declare_parameters(alloc: Global, scope: &Scope, before: Row, formals: &[Form
 }
 
 // The scope of its variables: its parameters, and what its body declares.
-fn frame(alloc: Global, of: Routine<'_>) -> Result<Owner, NoMemory>
-    ensures { IfOk result (λ frame. frame ≡ bodies.frame of.entry.formals.now of.entry.body.now) }
+fn frame(alloc: Global, scope: &Scope, of: Routine<'_>) -> Result<Owner, NoMemory>
+    ensures { IfOk result (λ frame. frame ≡ bodies.frame scope.now.types of.entry.formals.now of.entry.body.now) }
 {
-    let parameters = parameters(alloc, of.formals)?;
+    let types = scope.types.as_slice();
+    let parameters = parameters(alloc, types, of.formals)?;
     let parameters = formals(alloc, parameters.as_slice())?;
-    let names = own_names(alloc, of.body)?;
-    let variables = held_kinds(alloc, names.as_slice())?;
+    let variables = own_kinds(alloc, types, of.body)?;
     Ok(Owner::Own {
         parameters,
         variables,
@@ -170,45 +170,45 @@ fn frame(alloc: Global, of: Routine<'_>) -> Result<Owner, NoMemory>
 // Its body, in its own scope.
 fn judge_body(alloc: Global, known: &Known, scope: &Scope, of: Routine<'_>) -> Judged
     ensures { Is result (judged known.now
-        (around 0 (form.body (bodies.frame of.entry.formals.now of.entry.body.now) (bodies.result of.entry.result.now))
-        (shape.units (delivered (bodies.result of.entry.result.now)) (map (shape.unit scope.now) of.entry.body.now.units)))) }
+        (around 0 (form.body (bodies.frame scope.now.types of.entry.formals.now of.entry.body.now) (bodies.result scope.now.types of.entry.result.now))
+        (shape.units (delivered (bodies.result scope.now.types of.entry.result.now)) (map (shape.unit scope.now) of.entry.body.now.units)))) }
 {
-    let of_type = result_type(of.result);
+    let of_type = result_type(scope.types.as_slice(), of.result);
     let wanted = Delivery::of(of_type);
     let meant = judge_units(alloc, known, scope, wanted, of.body.units.as_slice())?;
-    let Ok(owner) = frame(alloc, of) else {
+    let Ok(owner) = frame(alloc, scope, of) else {
         meant.let_go();
         return Err(Trouble::NoMemory);
     };
     body(alloc, owner, of_type, meant)
 }
 
-fn is_missing(of: &Option<TypePhrase>, units: &[Unit]) -> bool
-    ensures { (s : Scope) → result ≡ spec.is_missing (bodies.result of.now) (map (shape.unit s) units.now) }
+fn is_missing(of: Option<ElanType>, units: &[Unit]) -> bool
+    ensures { (s : Scope) → result ≡ spec.is_missing of (map (shape.unit s) units.now) }
 {
-    match result_type(of) {
+    match of {
         None => false,
-        Some(_) => all_empty(units),
+        Some(of) => !of.is_open() && all_empty(units),
     }
 }
 
 // Its heading, in the scope of the level.
 fn judge_heading(alloc: Global, scope: &Scope, of: Routine<'_>) -> Judged
     ensures { (k : Known) → (s : Scope) → Is result
-        (judged k (form.leaf of.entry.at (form.heading scope.now of.entry.sort of.entry.name.now (bodies.parameters of.entry.formals.now)
-        (spec.is_missing (bodies.result of.entry.result.now) (map (shape.unit s) of.entry.body.now.units))))) }
+        (judged k (form.leaf of.entry.at (form.heading scope.now of.entry.sort of.entry.name.now (bodies.parameters scope.now.types of.entry.formals.now)
+        (bodies.result scope.now.types of.entry.result.now)
+        (spec.is_missing (bodies.result scope.now.types of.entry.result.now) (map (shape.unit s) of.entry.body.now.units))))) }
 {
-    let parameters = parameters(alloc, of.formals)?;
-    let missing = is_missing(of.result, of.body.units.as_slice());
-    headed(
-        alloc,
-        of.at,
-        scope,
-        of.sort,
-        of.name,
-        parameters.as_slice(),
-        missing,
-    )
+    let types = scope.types.as_slice();
+    let parameters = parameters(alloc, types, of.formals)?;
+    let delivered = result_type(types, of.result);
+    let missing = is_missing(delivered, of.body.units.as_slice());
+    let headed = Headed {
+        sort: of.sort,
+        name: of.name,
+        parameters: parameters.as_slice(),
+    };
+    heading(alloc, of.at, scope, headed, delivered, missing)
 }
 
 // What phrases mean, and behind them its parameters, its body and its refinements, in its own scope.
@@ -262,15 +262,13 @@ pub fn judge_routine(
         of.entry.body.now of.entry.sort ps)) }
     ensures kept { scope.new ≡ scope.old }
 {
-    let Ok(own) = body_names(alloc, of.formals, of.body) else {
+    let types = scope.types.as_slice();
+    let Ok(within) = body_within(alloc, of.number, types, of.formals, of.body) else {
         let_go(names);
         return Err(Trouble::NoMemory);
     };
     let row = with(names, judge_heading(alloc, scope, of));
-    scope.routine = Some(Within {
-        number: of.number,
-        names: own,
-    });
+    scope.routine = Some(within);
     let row = judge_inside(alloc, known, scope, of, row);
     scope.routine = None;
     routine_of(alloc, row)

@@ -9,11 +9,11 @@ ghost use Rattle.elan_check.specs.Refinements as refinements;
 ghost use Rattle.elan_check.specs.walks.OnTheWay as walks;
 
 use crate::deliveries::{is_kept, put, units_delivery};
-use elan_levels::bodies::body_names;
+use elan_levels::bodies::body_within;
 use elan_levels::heading::{first_refinement, next_number, number_behind};
 use elan_scope::delivery::Delivery;
 use elan_scope::known::Known;
-use elan_scope::scope::{Scope, Within};
+use elan_scope::scope::Scope;
 use elan_tree::{Body, Formal, Level, LevelUnit, Refinement};
 use eu_base::{List, NoMemory};
 use std::alloc::Global;
@@ -104,13 +104,13 @@ impl Settling<'_> {
         requires unit { scope.old.refinement ≡ None }
         ensures found { (w : Written) → walks.IsOnTheWay w self.old.known
             → walks.Holds (spec.level_bodies w) (number + 1) (spec.all_refined_units
-            (spec.routine_scope scope.old number (bodies.body_names formals.now body.now)) (number + 1) body.now.refinements)
+            (spec.routine_scope scope.old (bodies.body_within scope.old.types number formals.now body.now)) (number + 1) body.now.refinements)
             → OnOk result (walks.IsOnTheWay w self.new.known) }
         ensures kept { OnOk result (scope.new ≡ scope.old) }
     {
         let first = next_number(number)?;
-        let names = body_names(alloc, formals, body)?;
-        scope.routine = Some(Within { number, names });
+        let within = body_within(alloc, number, scope.types.as_slice(), formals, body)?;
+        scope.routine = Some(within);
         self.refinements(alloc, scope, number, first, body.refinements.as_slice())?;
         scope.routine = None;
         Ok(())

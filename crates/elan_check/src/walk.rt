@@ -5,10 +5,10 @@ ghost use Rattle.elan_check.specs.Level as spec;
 ghost use Rattle.elan_check.specs.walks.Units as of_units;
 ghost use Rattle.elan_check.specs.walks.Seen.{all_seen};
 
-use elan_levels::bodies::body_names;
+use elan_levels::bodies::body_within;
 use elan_levels::heading::{first_refinement, next_number, number_behind, result_type};
 use elan_scope::delivery::Delivery;
-use elan_scope::scope::{Scope, Within};
+use elan_scope::scope::Scope;
 use elan_tree::{Body, Formal, Level, LevelUnit, Refinement, TypePhrase, Unit};
 use eu_base::NoMemory;
 use std::alloc::Global;
@@ -94,9 +94,10 @@ fn see_routine<B: EachBody>(
     ensures kept { OnOk result (scope.new ≡ scope.old) }
 {
     let first = next_number(number)?;
-    let names = body_names(alloc, formals, body)?;
-    scope.routine = Some(Within { number, names });
-    let wanted = Delivery::of(result_type(delivered));
+    let types = scope.types.as_slice();
+    let wanted = Delivery::of(result_type(types, delivered));
+    let within = body_within(alloc, number, types, formals, body)?;
+    scope.routine = Some(within);
     looks.body(alloc, scope, number, wanted, body.units.as_slice())?;
     see_refinements(alloc, looks, scope, first, body.refinements.as_slice())?;
     scope.routine = None;

@@ -34,9 +34,11 @@ module _ (s : Scope) where
   Names (form.named u z x) = z ≡ s
   Names (plain (form.applied z sort x)) = z ≡ s
   Names (plain (form.declares z x)) = z ≡ s
+  Names (plain (form.concr z)) = z ≡ s
+  Names (plain (form.type_name z x)) = z ≡ s
   Names (plain (form.assignment z)) = z ≡ s
   Names (form.leave z x) = z ≡ s
-  Names (plain (form.heading z sort x ps missing)) = ⊥
+  Names (plain (form.heading z sort x ps r missing)) = ⊥
   Names (plain (form.body o r)) = ⊥
   Names (plain form.routine) = ⊥
   Names (plain (form.refinement o)) = ⊥
@@ -149,7 +151,7 @@ module _ (s : Scope) where
   let_in (let_items.Constant n (constants.Number a z)) = (tt, ((refl, tt), ((tt, tt), tt)))
   let_in (let_items.Constant n (constants.Text a x)) = (tt, ((refl, tt), ((tt, tt), tt)))
   let_in (let_items.Constant n (constants.Truth a b)) = (tt, ((refl, tt), ((tt, tt), tt)))
-  let_in (let_items.Abbreviation n of) = (tt, tt)
+  let_in (let_items.Abbreviation n of) = (refl, tt)
 
   lets_in : (is : List LetItem) → AllIn (all_of (map (shape.let_item s) is))
   lets_in [] = tt
@@ -170,7 +172,7 @@ module _ (s : Scope) where
   expr_in (t.Named n) = (refl, tt)
   expr_in (t.Call n actuals) = (refl, exprs_in actuals)
   expr_in (t.Procedure at n) = (tt, tt)
-  expr_in (t.Concr at a) = (tt, tt)
+  expr_in (t.Concr at a) = (refl, (a.1, tt))
   expr_in (t.Bracket at a) = (tt, (a.1, tt))
   expr_in (t.If at branches None) =
       (tt, append_in (shape.branches (map (shape.branch s) (map fst branches))) (form.leaf 0 form.absent ∷ []) (branches_in branches) ((tt, tt), tt))

@@ -18,8 +18,7 @@ use Rattle.elan_scope.specs.declared.delivery.Delivery.{Delivery}
 use Rattle.elan_scope.specs.declared.delivery.Delivery.TheVariants.{Nothing}
 use Rattle.elan_scope.specs.Phrase.{Plain, plain, Phrase, phrase, Parts, part, around, all_of}
 use Rattle.elan_scope.specs.Ruled.{Ruled, gives, breaks, hangs, ◌>>=◌, before, beside, joined}
-use Rattle.elan_meant.specs.Verdict.{Tells}
-use Rattle.elan_rules.specs.Rules.{rule, ruled}
+use Rattle.elan_rules.specs.Rules.{ruled}
 use Rattle.elan_rules.proofs.Together.{bind_fails}
 use Rattle.elan_meant.proofs.Beside.{before_joined, single_joined}
 use Rattle.elan_judge.specs.Shape.{written, unit, branch, case, role, roles, filled, all_empty, branches, arms}
@@ -34,11 +33,12 @@ module _ (k : Known) (at : ℕ) (f : Plain) (ps : Parts) where
   pub whole_fails : (d : Trouble) → Fails d (judged_all k ps) → Fails d (judged k (phrase at (plain f) ps))
   whole_fails d h = bind_fails d (judged_all k ps) (ruled k at (plain f)) h
 
-  pub whole_is : (out : Result Meant Trouble) (ms : List Meant) → judged_all k ps ≡ gives ms → Tells out (rule at f ms) → Is out (judged k (phrase at (plain f) ps))
+  pub whole_is : (out : Result Meant Trouble) (ms : List Meant) → judged_all k ps ≡ gives ms → Is out (ruled k at (plain f) ms)
+      → Is out (judged k (phrase at (plain f) ps))
   whole_is out ms e h = subst (λ (z : Ruled (List Meant)). Is out (z >>= ruled k at (plain f))) (sym e) h
 
 module _ (k : Known) (at : ℕ) (f : Plain) (p : Phrase) where
-  pub one_is : (out : Result Meant Trouble) (m : Meant) → judged k p ≡ gives m → Tells out (rule at f (m ∷ [])) → Is out (judged k (around at f p))
+  pub one_is : (out : Result Meant Trouble) (m : Meant) → judged k p ≡ gives m → Is out (ruled k at (plain f) (m ∷ [])) → Is out (judged k (around at f p))
   one_is out m e h = subst (λ (z : Ruled Meant). Is out (before z (gives []) >>= ruled k at (plain f))) (sym e) h
 
 -- ---- a row with one more phrase

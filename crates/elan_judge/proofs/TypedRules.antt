@@ -2,7 +2,9 @@
 use Rattle.std.proofs.Common.{◌≡◌, ℕ, Bool, List, [], ◌∷◌, drop, length, Option, Some, None, refl, sym, subst}
 use Rattle.elan_meant.specs.declared.meant.Meant.{Meant}
 use Rattle.elan_scope.specs.Ruled.{Ruled, gives}
-use Rattle.elan_meant.specs.Verdict.{Verdict}
+use Rattle.elan_meant.specs.Verdict.{Verdict, told}
+use Rattle.std.specs.Prelude.{nat_eq}
+use Rattle.elan_scope.specs.declared.type_name.TypeName.{TypeName}
 use Rattle.elan_scope.specs.Scope as scope
 use Rattle.elan_scope.specs.declared.scope.Scope.{Scope}
 use Rattle.elan_scope.specs.declared.known.Known.{Known}
@@ -20,9 +22,9 @@ use Rattle.elan_rules.specs.Meaning.{judged, judged_all}
 use Rattle.elan_rules.proofs.First.{bind_gives, before_gives, gives_is}
 use Rattle.elan_judge.proofs.InScope.{Names, InScope, AllIn}
 use Rattle.elan_rules.proofs.Typed as ty
-use Rattle.elan_rules.proofs.Typed.{Gives, MayGive, on_if, on_bind, on_told}
+use Rattle.elan_rules.proofs.Typed.{Gives, MayGive, on_if, on_bind, on_told, on_unless}
 use Rattle.elan_rules.proofs.TypeEquations.{Stand, truth_is}
-use Rattle.elan_rules.proofs.TypedUnits.{number_good, text_good, bracketed_good, cand_good, cor_good, assigned_good, initial_good, in_order_good}
+use Rattle.elan_rules.proofs.TypedUnits.{number_good, text_good, bracketed_good, concr_good, cand_good, cor_good, assigned_good, initial_good, in_order_good}
 use Rattle.elan_rules.proofs.TypedUnits.{alone_good, without_value_good, must_deliver_good}
 use Rattle.elan_rules.proofs.TypedChoices.{choice_good, selected_good, label_named_good}
 use Rattle.elan_rules.proofs.TypedLoops.{counted_good, loop_good}
@@ -53,6 +55,10 @@ module _ (here : Stand) (s : Scope) (k : Known) (fits : Fits here s k) where
       assignment_by at (scope.is_known s Operator becomes (length ms)) m n (chosen s Operator becomes ms) g i
       (applied_good here s k fits at Operator becomes ms (g, (i, tt)))
 
+  type_good : (at : ℕ) (o : Option TypeName) → Gives Good (r.type_declared at o)
+  type_good at None = tt
+  type_good at (Some t) = on_if Good (nat_eq t.at at) _ _ (λ e. refl) (λ e. tt)
+
   plain_rules : (at : ℕ) (f : Plain) (ms : List Meant) → Names s (plain f) → AllGood ms → Gives Good (rule at f ms)
   plain_rules at form.absent ms i g = tt
   plain_rules at form.not_built ms i g = tt
@@ -61,6 +67,7 @@ module _ (here : Stand) (s : Scope) (k : Known) (fits : Fits here s k) where
   plain_rules at (form.text x) ms i g = text_good here at x
   plain_rules at (form.applied z sort x) ms i g = in_scope (λ y. r.applied at y sort x ms) z i (applied_good here s k fits at sort x ms g)
   plain_rules at form.bracket ms i g = bracketed_good here at (p.nth ms 0) (good_part ms 0 g)
+  plain_rules at (form.concr z) ms i g = concr_good here at z (p.nth ms 0) (good_part ms 0 g)
   plain_rules at form.cand ms i g = cand_good here at (p.nth ms 0) (p.nth ms 1) (good_part ms 0 g) (good_part ms 1 g)
   plain_rules at form.cor ms i g = cor_good here at (p.nth ms 0) (p.nth ms 1) (good_part ms 0 g) (good_part ms 1 g)
   plain_rules at form.choice ms i g = choice_good here at ms g
@@ -72,6 +79,7 @@ module _ (here : Stand) (s : Scope) (k : Known) (fits : Fits here s k) where
   plain_rules at form.initial ms i g = initial_good here at (p.nth ms 0) (p.nth ms 1) (good_part ms 0 g) (good_part ms 1 g)
   plain_rules at form.declaration ms i g = ty.unit_typed here (p.actions_of ms) (ty.actions_of_typed here ms g)
   plain_rules at form.definition ms i g = refl
+  plain_rules at (form.type_name z x) ms i g = type_good at (scope.find_own_type z x)
   plain_rules at form.statement ms i g = alone_good here (p.nth ms 0) (good_part ms 0 g)
   plain_rules at (form.assignment z) ms i g =
       in_scope (λ y. all.assignment at y (p.nth ms 0) (p.nth ms 1)) z i (assignment_good at (p.nth ms 0) (p.nth ms 1) (good_part ms 0 g) (good_part ms 1 g))
@@ -82,7 +90,7 @@ module _ (here : Stand) (s : Scope) (k : Known) (fits : Fits here s k) where
   plain_rules at form.without_value ms i g = without_value_good here (p.nth ms 0) (good_part ms 0 g)
   plain_rules at (form.must_deliver t) ms i g = must_deliver_good here at t (p.nth ms 0) (good_part ms 0 g)
   plain_rules at form.units ms i g = in_order_good here ms g
-  plain_rules at (form.heading z sort x ps missing) ms i g = absurd i
+  plain_rules at (form.heading z sort x ps q missing) ms i g = absurd i
   plain_rules at (form.body o q) ms i g = absurd i
   plain_rules at form.routine ms i g = absurd i
   plain_rules at (form.refinement o) ms i g = absurd i
@@ -90,10 +98,12 @@ module _ (here : Stand) (s : Scope) (k : Known) (fits : Fits here s k) where
 
   rules : (at : ℕ) (f : Form) (ms : List Meant) → Names s f → AllGood ms → MayGive Good (ruled k at f ms)
   rules at (form.named u z x) ms i g =
-      subst (λ (y : Scope). MayGive Good (r.named k u at y x (scope.find y x))) (sym i) (named_good here s k fits u at x)
+      on_unless Good (r.is_open_name z x (scope.find z x)) (r.named k u at z x (scope.find z x))
+      (subst (λ (y : Scope). MayGive Good (r.named k u at y x (scope.find y x))) (sym i) (named_good here s k fits u at x))
   rules at (form.leave z x) ms i g =
-      on_told Good _ (in_scope (λ y. r.leaving k at (scope.left y x) (p.nth ms 0)) z i (leaving_good here s k fits at x (p.nth ms 0) (good_part ms 0 g)))
-  rules at (plain f) ms i g = on_told Good (rule at f ms) (plain_rules at f ms i g)
+      on_unless Good (r.leaves_open z (scope.left z x)) _
+      (on_told Good _ (in_scope (λ y. r.leaving k at (scope.left y x) (p.nth ms 0)) z i (leaving_good here s k fits at x (p.nth ms 0) (good_part ms 0 g))))
+  rules at (plain f) ms i g = on_unless Good (all.hangs_on at f ms) (told (rule at f ms)) (on_told Good (rule at f ms) (plain_rules at f ms i g))
 
   -- ---- all phrases
 

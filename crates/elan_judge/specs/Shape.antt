@@ -98,7 +98,7 @@ module _ (s : Scope) where
   arms earlier [] = []
   arms earlier (c ∷ cs) = row 0 form.labels (label_phrases earlier c.0) ∷ c.1 ∷ arms (earlier ++ flat_map number c.0) cs
 
-  -- ---- what LET gives names to; a type under a name is not built
+  -- ---- what LET gives names to
 
   abbrev pub constant : Constant → Phrase
   constant (constants.Number at n) = leaf at (form.number n)
@@ -107,7 +107,7 @@ module _ (s : Scope) where
 
   abbrev pub let_item : LetItem → Phrase
   let_item (let_items.Constant n c) = pair n.at form.definition (leaf n.at (form.declares s n.text)) (constant c)
-  let_item (let_items.Abbreviation n of) = leaf n.at form.not_built
+  let_item (let_items.Abbreviation n of) = leaf n.at (form.type_name s n.text)
 
   -- ---- the tree; an empty unit has no phrase
 
@@ -125,7 +125,7 @@ module _ (s : Scope) where
   expr_step (t.Cand at a b) = pair at form.cand a b
   expr_step (t.Cor at a b) = pair at form.cor a b
   expr_step (t.Procedure at n) = leaf at form.not_built
-  expr_step (t.Concr at a) = leaf at form.not_built
+  expr_step (t.Concr at a) = around at (form.concr s) a
   expr_step (t.Index at of index) = leaf at form.not_built
   expr_step (t.Field at of field) = leaf at form.not_built
 

@@ -1,4 +1,4 @@
-//! The names that LET gives to constants.
+//! The names that LET gives to constants and types.
 
 ghost use Rattle.std.specs.Prelude.{ℕ, map};
 ghost use Rattle.elan_scope.specs.Phrase as form;
@@ -11,12 +11,10 @@ use elan_meant::row::Judged;
 use elan_meant::together::{none, pair, with};
 use elan_scope::known::Known;
 use elan_scope::scope::Scope;
-use elan_scope::trouble::Trouble;
 use elan_tree::{Constant, LetItem};
-use elan_types::Why;
 use std::alloc::Global;
 use unit_rules::list::definition;
-use value_rules::name::declared;
+use value_rules::name::{declared, type_declared};
 use value_rules::value::{number, text, truth};
 
 fn judge_constant(alloc: Global, known: &Known, scope: &Scope, constant: &Constant) -> Judged
@@ -29,7 +27,6 @@ fn judge_constant(alloc: Global, known: &Known, scope: &Scope, constant: &Consta
     }
 }
 
-// A type under a name is not built.
 fn judge_let_item(alloc: Global, known: &Known, scope: &Scope, item: &LetItem) -> Judged
     ensures { Is result (judged known.now (shape.let_item scope.now item.now)) }
 {
@@ -39,7 +36,9 @@ fn judge_let_item(alloc: Global, known: &Known, scope: &Scope, item: &LetItem) -
             let constant = judge_constant(alloc, known, scope, constant);
             definition(alloc, pair(alloc, declared, constant))
         }
-        LetItem::Abbreviation(name, _) => Err(Trouble::Breaks(name.at, Why::Unknown)),
+        LetItem::Abbreviation(name, _) => {
+            type_declared(alloc, name.at, scope, name.text.as_slice())
+        }
     }
 }
 

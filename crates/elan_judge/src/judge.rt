@@ -36,7 +36,7 @@ use unit_rules::list::{alone, declaration, in_order, must_deliver, without_value
 use value_rules::call::applied;
 use value_rules::leave::leaving;
 use value_rules::name::{declared, named};
-use value_rules::value::{bracketed, number, text, truth};
+use value_rules::value::{bracketed, concr, number, text, truth};
 
 fn way(limit: &Limit) -> Way
     ensures { (s : Scope) → result ≡ (shape.limit s limit.now).0 }
@@ -158,7 +158,12 @@ fn judge(alloc: Global, known: &Known, scope: &Scope, expr: &Expr) -> Judged
             cor_phrase(alloc, *at, left, right)
         }
         Expr::Procedure(at, _) => Err(Trouble::Breaks(*at, Why::Unknown)),
-        Expr::Concr(at, _) => Err(Trouble::Breaks(*at, Why::Unknown)),
+        Expr::Concr(at, inner) => {
+            match judge(alloc, known, scope, inner.get()) {
+                Err(trouble) => Err(trouble),
+                Ok(inner) => concr(*at, scope, inner),
+            }
+        }
         Expr::Index { at, .. } => Err(Trouble::Breaks(*at, Why::Unknown)),
         Expr::Field { at, .. } => Err(Trouble::Breaks(*at, Why::Unknown)),
     }
@@ -345,7 +350,7 @@ fn judge_unit(alloc: Global, known: &Known, scope: &Scope, unit: &Unit) -> Judge
         Unit::Bound(at, _, _) => Err(Trouble::Breaks(*at, Why::Unknown)),
         Unit::Leave { at, name, value } => {
             let value = judge_optional(alloc, known, scope, value)?;
-            leaving(alloc, known, *at, scope.left(name.text.as_slice()), value)
+            leaving(alloc, known, *at, scope, name.text.as_slice(), value)
         }
     }
 }

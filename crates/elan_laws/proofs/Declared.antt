@@ -1,6 +1,5 @@
 -- The names that units declare are found, where their scope has what they declare.
-use Rattle.std.proofs.Common.{◌≡◌, ℤ, ℕ, Bool, true, false, ◌||◌, List, [], ◌∷◌, ◌++◌, map, Option, Some, None, refl}
-use Rattle.std.specs.List.{list_any}
+use Rattle.std.proofs.Common.{◌≡◌, ℤ, ℕ, true, List, [], ◌∷◌, ◌++◌, map, Option, Some, None}
 use Rattle.std.specs.Prelude.{flat_map}
 use Rattle.std.specs.Option.{is_some}
 use Rattle.elan_tree.specs.declared.written_type.Name.{Name}
@@ -29,75 +28,79 @@ use Rattle.elan_scope.specs.Phrase.{Phrase, all_of}
 use Rattle.elan_judge.specs.Shape as shape
 use Rattle.elan_judge.specs.walks.Steps as walk
 use Rattle.elan_tree.specs.declared.written_type.TypePhrase.{TypePhrase}
-use Rattle.elan_tree.specs.declared.written_type.TypePhrase.TheVariants as type
 use Rattle.elan_walk.specs.declared.node.Held.{Held}
 use Rattle.elan_walk.specs.declared.node.Held.TheVariants.{Variable, Constant}
 use Rattle.elan_walk.specs.Nodes as nodes
 use Rattle.elan_walk.specs.Nodes.{Node, other, sign, of_type, item}
 use Rattle.elan_scope.specs.declared.scope.Usage.TheVariants.{Counter as Counts}
-use Rattle.elan_unbuilt.specs.NotBuilt as built
 use Rattle.elan_levels.specs.Declarations as d
-use Rattle.elan_unbuilt.specs.Types.{written_type}
-use Rattle.std.specs.Prelude.{is_none}
+use Rattle.type_names.specs.Types.{defined}
+use Rattle.type_names.specs.declared.definition.Definition.{Definition}
+use Rattle.elan_scope.specs.declared.type_name.TypeName.{TypeName}
 use Rattle.elan_scope.specs.declared.scope.Entry.{Entry}
-use Rattle.elan_scope.specs.Scope.{find, find_own}
+use Rattle.elan_scope.specs.Scope.{find, find_own, find_own_type}
 use Rattle.elan_laws.specs.Served.{HasOdd, HasBody, AreServed, AllServed}
 
 abbrev fst : {A : Type 0} {B : A → Type 0} → (a : A) × B a → A
 fst x = x.0
 
-pub neither : (a b : Bool) → (a || b) ≡ false → (a ≡ false) × (b ≡ false)
-neither true b e = absurd cc
-neither false b e = (refl, e)
+-- ---- lists
 
-both_false : (a b : Bool) → a ≡ false → b ≡ false → (a || b) ≡ false
-both_false true b e g = absurd cc
-both_false false b e g = g
+abbrev pub All : {A : Type 0} → (A → Type 0) → List A → Type 0
+All P [] = Unit {0}
+All P (x ∷ xs) = P x × All P xs
+
+module _ {A : Type 0} (P : A → Type 0) where
+  all_split : (xs ys : List A) → All P (xs ++ ys) → All P xs × All P ys
+  all_split [] ys h = (tt, h)
+  all_split (x ∷ xs) ys h = let q = all_split xs ys h.1 in ((h.0, q.0), q.1)
+
+  all_join : (xs ys : List A) → All P xs → All P ys → All P (xs ++ ys)
+  all_join [] ys h g = g
+  all_join (x ∷ xs) ys h g = (h.0, all_join xs ys h.1 g)
+
+  -- what is found in nodes
+  nodes_split : (f : Node → List A) (xs ys : List Node) → All P (flat_map f (xs ++ ys)) → All P (flat_map f xs) × All P (flat_map f ys)
+  nodes_split f [] ys h = (tt, h)
+  nodes_split f (x ∷ xs) ys h =
+      let n = all_split (f x) (flat_map f (xs ++ ys)) h in
+      let q = nodes_split f xs ys n.1 in
+      (all_join (f x) (flat_map f xs) n.0 q.0, q.1)
+
+-- ---- what a scope has
 
 module _ (s : Scope) where
   abbrev pub Named : List ℕ → Type 0
   Named x = is_some (find_own s x) ≡ true
 
+  -- a name of a type
+  abbrev pub NamedType : List ℕ → Type 0
+  NamedType x = is_some (find_own_type s x) ≡ true
+
   abbrev pub AllNamed : List Entry → Type 0
-  AllNamed [] = Unit {0}
-  AllNamed (e ∷ es) = Named e.name × AllNamed es
+  AllNamed es = All (λ (e : Entry). Named e.name) es
 
-  named_split : (xs ys : List Entry) → AllNamed (xs ++ ys) → AllNamed xs × AllNamed ys
-  named_split [] ys h = (tt, h)
-  named_split (x ∷ xs) ys h = let q = named_split xs ys h.1 in ((h.0, q.0), q.1)
+  abbrev pub AllDefined : List Definition → Type 0
+  AllDefined ds = All (λ (e : Definition). NamedType e.name) ds
 
-  named_join : (xs ys : List Entry) → AllNamed xs → AllNamed ys → AllNamed (xs ++ ys)
-  named_join [] ys h g = g
-  named_join (x ∷ xs) ys h g = (h.0, named_join xs ys h.1 g)
-
-  -- These nodes are built, and the scope has what they declare.
+-- where these names of types can be seen
+module _ (s : Scope) (ts : List TypeName) where
+  -- The scope has what these nodes declare.
   abbrev pub Fine : List Node → Type 0
-  Fine ns = (list_any built.node ns ≡ false) × AllNamed (flat_map d.declared ns)
+  Fine ns = AllNamed s (flat_map (d.declared ts) ns) × AllDefined s (flat_map defined ns)
 
   split : (xs ys : List Node) → Fine (xs ++ ys) → Fine xs × Fine ys
-  split [] ys h = ((refl, tt), h)
-  split (x ∷ xs) ys h =
-      let b = neither (built.node x) (list_any built.node (xs ++ ys)) h.0 in
-      let n = named_split (d.declared x) (flat_map d.declared (xs ++ ys)) h.1 in
-      let q = split xs ys (b.1, n.1) in
-      ((both_false (built.node x) (list_any built.node xs) b.0 q.0.0, named_join (d.declared x) (flat_map d.declared xs) n.0 q.0.1), q.1)
+  split xs ys h =
+      let a = nodes_split (λ (e : Entry). Named s e.name) (d.declared ts) xs ys h.0 in
+      let b = nodes_split (λ (e : Definition). NamedType s e.name) defined xs ys h.1 in
+      ((a.0, b.0), (a.1, b.1))
 
   rest : (x : Node) (xs : List Node) → Fine (x ∷ xs) → Fine xs
   rest x xs h = let q = split (x ∷ []) xs h in q.1
 
-  is_built : (of : TypePhrase) (ns : List Node) → Fine (of_type of ∷ ns) → is_none (written_type of) ≡ false
-  is_built of ns h = let b = neither (is_none (written_type of)) (list_any built.node ns) h.0 in b.0
-
-  item_named : (h : Held) (of : TypePhrase) (n : Name) (es : List Entry) → is_none (written_type of) ≡ false → AllNamed (d.declared (item h of n) ++ es)
-      → Named n.text
-  item_named Variable (type.Int a) n es b g = g.0
-  item_named Variable (type.Bool a) n es b g = g.0
-  item_named Variable (type.Text a) n es b g = g.0
-  item_named Variable of n es b g = absurd cc
-  item_named Constant (type.Int a) n es b g = g.0
-  item_named Constant (type.Bool a) n es b g = g.0
-  item_named Constant (type.Text a) n es b g = g.0
-  item_named Constant of n es b g = absurd cc
+  item_named : (h : Held) (of : TypePhrase) (n : Name) (es : List Entry) → AllNamed s (d.declared ts (item h of n) ++ es) → Named s n.text
+  item_named Variable of n es g = g.0
+  item_named Constant of n es g = g.0
 
   -- its refinements are bodies
   module _ (bodies : (x : List ℕ) → HasBody s x (find s x)) where
@@ -134,7 +137,7 @@ module _ (s : Scope) where
     K k = Fine (nodes.in_counter k) → CounterIn (shape.counter s k)
 
     abbrev ItemIn : Phrase → nodes.Declares → Type 0
-    ItemIn p ns = (h : Held) (of : TypePhrase) → is_none (written_type of) ≡ false → Fine (ns h of) → AreServed p
+    ItemIn p ns = (h : Held) (of : TypePhrase) → Fine (ns h of) → AreServed p
 
     abbrev I : Item → Type 0
     I i = ItemIn (shape.item s i) (nodes.in_item i)
@@ -156,17 +159,16 @@ module _ (s : Scope) where
         let q = split (nodes.in_branch b.0) (nodes.all (map nodes.in_branch (map fst bs))) h in
         let p = b.1 q.0 in (p.0, (p.1, branches_in bs q.1))
 
-    items_in : (a : Held) (of : TypePhrase) (is : List ((i : Item) × I i)) → is_none (written_type of) ≡ false
+    items_in : (a : Held) (of : TypePhrase) (is : List ((i : Item) × I i))
         → Fine (flat_map (λ (i : nodes.Declares). i a of) (map nodes.in_item (map fst is))) → AllServed (all_of (map (shape.item s) (map fst is)))
-    items_in a of [] b h = tt
-    items_in a of (i ∷ is) b h =
-        let q = split (nodes.in_item i.0 a of) (flat_map (λ (i : nodes.Declares). i a of) (map nodes.in_item (map fst is))) h in (i.1 a of b q.0, items_in a of is b q.1)
+    items_in a of [] h = tt
+    items_in a of (i ∷ is) h =
+        let q = split (nodes.in_item i.0 a of) (flat_map (λ (i : nodes.Declares). i a of) (map nodes.in_item (map fst is))) h in
+        (i.1 a of q.0, items_in a of is q.1)
 
     declared_in : (a : Held) (of : TypePhrase) (is : List ((i : Item) × I i))
         → Fine (of_type of ∷ flat_map (λ (i : nodes.Declares). i a of) (map nodes.in_item (map fst is))) → AllServed (all_of (map (shape.item s) (map fst is)))
-    declared_in a of is h =
-        let ns = flat_map (λ (i : nodes.Declares). i a of) (map nodes.in_item (map fst is)) in
-        items_in a of is (is_built of ns h) (rest (of_type of) ns h)
+    declared_in a of is h = items_in a of is (rest (of_type of) (flat_map (λ (i : nodes.Declares). i a of) (map nodes.in_item (map fst is))) h)
 
     role_in : (d : Delivery) (p : Phrase) → AreServed p → AreServed (shape.role d p)
     role_in Open p h = h
@@ -208,10 +210,10 @@ module _ (s : Scope) where
         ((tt, labels_in ns ls), (c.1 q.0, arms_in (ns ++ walk.numbers s ls) cs q.1))
 
     let_in : (i : LetItem) (ns : List Node) → Fine (nodes.let_item i ∷ ns) → AreServed (shape.let_item s i)
-    let_in (let_items.Constant n (constants.Number a z)) ns h = (tt, ((h.1.0, tt), ((tt, tt), tt)))
-    let_in (let_items.Constant n (constants.Text a x)) ns h = (tt, ((h.1.0, tt), ((tt, tt), tt)))
-    let_in (let_items.Constant n (constants.Truth a b)) ns h = (tt, ((h.1.0, tt), ((tt, tt), tt)))
-    let_in (let_items.Abbreviation n of) ns h = (tt, tt)
+    let_in (let_items.Constant n (constants.Number a z)) ns h = (tt, ((h.0.0, tt), ((tt, tt), tt)))
+    let_in (let_items.Constant n (constants.Text a x)) ns h = (tt, ((h.0.0, tt), ((tt, tt), tt)))
+    let_in (let_items.Constant n (constants.Truth a b)) ns h = (tt, ((h.0.0, tt), ((tt, tt), tt)))
+    let_in (let_items.Abbreviation n of) ns h = (h.1.0, tt)
 
     lets_in : (is : List LetItem) → Fine (map nodes.let_item is) → AllServed (all_of (map (shape.let_item s) is))
     lets_in [] h = tt
@@ -298,7 +300,7 @@ module _ (s : Scope) where
     expr_in (t.Named n) h = (bodies n.text, tt)
     expr_in (t.Call n actuals) h = (tt, exprs_in actuals (rest (other n) (nodes.all (map nodes.in_expr (map fst actuals))) h))
     expr_in (t.Procedure at n) h = (tt, tt)
-    expr_in (t.Concr at a) h = (tt, tt)
+    expr_in (t.Concr at a) h = (tt, (a.1 h, tt))
     expr_in (t.Bracket at a) h = (tt, (a.1 h, tt))
     expr_in (t.If at branches None) h = (branches_odd (form.leaf 0 form.absent) branches, choice_in branches None h)
     expr_in (t.If at branches (Some us)) h =
@@ -407,9 +409,9 @@ module _ (s : Scope) where
         (map-Item _ _ _ _ _ _ _ _ _ _ _ _ _ _ fst fst fst fst fst fst fst y)))
 
     item_by : (n : Name) (init : Option ((e : Expr) × E e)) → ItemLayer (record { name = n; init = init })
-    item_by n None = λ a of b h. (item_named a of n [] b h.1, tt)
-    item_by n (Some e) = λ a of b h.
-        (tt, ((item_named a of n (flat_map d.declared (nodes.in_expr e.0)) b h.1, tt), (e.1 (rest (item a of n) (nodes.in_expr e.0) h), tt)))
+    item_by n None = λ a of h. (item_named a of n [] h.0, tt)
+    item_by n (Some e) = λ a of h.
+        (tt, ((item_named a of n (flat_map (d.declared ts) (nodes.in_expr e.0)) h.0, tt), (e.1 (rest (item a of n) (nodes.in_expr e.0) h), tt)))
 
     item_in : (y : Below Item-F) → ItemLayer y
     item_in y = item_by y.name y.init

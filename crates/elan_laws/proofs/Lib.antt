@@ -2,6 +2,7 @@ pub mod Through
 pub mod TextOrder
 pub mod WholeOrder
 pub mod Placed
+pub mod TypePlaces
 pub mod Refusal
 pub mod Known
 pub mod Declared

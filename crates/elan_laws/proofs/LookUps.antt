@@ -1,13 +1,12 @@
 -- What is declared is found, and a refinement that is found is a body.
 use Rattle.std.proofs.Common.{◌≡◌, ℕ, ◌+◌, Bool, true, false, ◌&&◌, if◌then◌else◌, List, [], ◌∷◌, ◌++◌, length, Option, Some}
 use Rattle.elan_scope.specs.declared.scope.Denotes.TheVariants as denotes
-use Rattle.std.specs.Prelude.{flat_map, option_map}
+use Rattle.std.specs.Prelude.{flat_map}
 use Rattle.std.proofs.Common.{None, refl, sym, ap, subst, ◌∙◌, ◌⊎◌, inl, inr}
 use Rattle.std.specs.Prelude.{option_and_then, slice_get}
 use Rattle.std.specs.Option.{is_some}
 use Rattle.std.specs.Str.{bytes_eq}
 use Rattle.std.proofs.lemmas.Slice.Eq.{bytes_eq-Decides}
-use Rattle.elan_types.specs.declared.elan_type.ElanType.{ElanType}
 use Rattle.elan_types.specs.Typing.{same_home}
 use Rattle.elan_tree.specs.declared.written_type.Name.{Name}
 use Rattle.elan_tree.specs.declared.written_type.Formal.{Formal}
@@ -32,7 +31,10 @@ use Rattle.elan_scope.specs.declared.heading.What.TheVariants as what
 use Rattle.elan_walk.specs.declared.node.Held.TheVariants.{Variable, Constant}
 use Rattle.std.proofs.lemmas.Bool.Decides.{Decides-eqb}
 use Rattle.elan_levels.specs.Declarations as d
-use Rattle.elan_unbuilt.specs.Types.{written_type}
+use Rattle.elan_scope.specs.declared.type_name.TypeName.{TypeName}
+use Rattle.elan_scope.specs.Types.{first_type}
+use Rattle.type_names.specs.Types.{type_name, names_from, names_of}
+use Rattle.type_names.specs.declared.definition.Definition.{Definition}
 use Rattle.elan_levels.specs.Bodies as b
 use Rattle.elan_laws.specs.Served.{HasBody}
 use Rattle.elan_types.specs.declared.elan_type.Parameter.{Parameter}
@@ -40,21 +42,40 @@ use Rattle.elan_laws.proofs.Declared.{Named}
 
 -- ---- look-ups
 
-abbrev pub Has : List Entry → List ℕ → Type 0
-Has [] x = ⊥
-Has (e ∷ es) x = (e.name ≡ x) ⊎ Has es x
+abbrev pub Any : {A : Type 0} → (A → Type 0) → List A → Type 0
+Any P [] = ⊥
+Any P (x ∷ xs) = P x ⊎ Any P xs
 
-pub in_first : (xs ys : List Entry) (x : List ℕ) → Has xs x → Has (xs ++ ys) x
-in_first [] ys x h = absurd h
-in_first (e ∷ es) ys x h =
+any_first : {A : Type 0} (P : A → Type 0) (xs ys : List A) → Any P xs → Any P (xs ++ ys)
+any_first P [] ys h = absurd h
+any_first P (x ∷ xs) ys h =
     elim h [
       | inl i ↦ inl i
-      | inr i ↦ inr (in_first es ys x i)
+      | inr i ↦ inr (any_first P xs ys i)
     ]
 
+any_second : {A : Type 0} (P : A → Type 0) (xs ys : List A) → Any P ys → Any P (xs ++ ys)
+any_second P [] ys h = h
+any_second P (x ∷ xs) ys h = inr (any_second P xs ys h)
+
+abbrev pub Has : List Entry → List ℕ → Type 0
+Has es x = Any (λ (e : Entry). e.name ≡ x) es
+
+pub in_first : (xs ys : List Entry) (x : List ℕ) → Has xs x → Has (xs ++ ys) x
+in_first xs ys x h = any_first (λ (e : Entry). e.name ≡ x) xs ys h
+
 pub in_second : (xs ys : List Entry) (x : List ℕ) → Has ys x → Has (xs ++ ys) x
-in_second [] ys x h = h
-in_second (e ∷ es) ys x h = inr (in_second es ys x h)
+in_second xs ys x h = any_second (λ (e : Entry). e.name ≡ x) xs ys h
+
+-- These define a type of that name.
+abbrev pub Defines : List Definition → List ℕ → Type 0
+Defines ds x = Any (λ (e : Definition). e.name ≡ x) ds
+
+pub defined_first : (xs ys : List Definition) (x : List ℕ) → Defines xs x → Defines (xs ++ ys) x
+defined_first xs ys x h = any_first (λ (e : Definition). e.name ≡ x) xs ys h
+
+pub defined_second : (xs ys : List Definition) (x : List ℕ) → Defines ys x → Defines (xs ++ ys) x
+defined_second xs ys x h = any_second (λ (e : Definition). e.name ≡ x) xs ys h
 
 pub bytes_self : (x : List ℕ) → bytes_eq x x ≡ true
 bytes_self x = (bytes_eq-Decides x x).1 refl
@@ -99,6 +120,31 @@ named_by (Some w) es hs x h = found_is _ (first_from 0 w.names x) (first_is 0 w.
 
 pub named : (z : Scope) (x : List ℕ) → Has (own z) x → Named z x
 named z x h = named_by z.routine z.level z.headings x h
+
+-- ---- names of types
+
+type_from : (around : List TypeName) (all : List Definition) (k : ℕ) (ds : List Definition) (x : List ℕ) → Defines ds x
+    → is_some (first_type x (names_from around all k ds)) ≡ true
+type_from around all k [] x h = absurd h
+type_from around all k (e ∷ es) x h =
+    by_test (bytes_eq e.name x) refl
+    (elim h [
+      | inl g ↦ inl (subst (λ (y : List ℕ). bytes_eq e.name y ≡ true) g (bytes_self e.name))
+      | inr g ↦ inr (type_from around all (k + 1) es x g)
+    ])
+  where
+    by_test : (c : Bool) → bytes_eq e.name x ≡ c
+        → (bytes_eq e.name x ≡ true) ⊎ (is_some (first_type x (names_from around all (k + 1) es)) ≡ true)
+        → is_some (if c then Some (type_name around all k e) else first_type x (names_from around all (k + 1) es)) ≡ true
+    by_test true i g = refl
+    by_test false i g =
+        elim g [
+          | inl j ↦ absurd (false_is_true (bytes_eq e.name x) i j)
+          | inr j ↦ j
+        ]
+
+pub type_named : (around : List TypeName) (ds : List Definition) (x : List ℕ) → Defines ds x → is_some (first_type x (names_of around ds)) ≡ true
+type_named around ds x h = type_from around ds 0 ds x h
 
 pub both_true : (c e : Bool) → c ≡ true → e ≡ true → (c && e) ≡ true
 both_true true e f g = g
@@ -214,67 +260,64 @@ bodies_of z h = λ x. has_body z x (find z x) (leads_found z x (find z x) (find_
 
 -- ---- declarations that are refinements
 
-variable_leads : (z : Scope) (n : Name) (o : Option ElanType) → AllLead z (d.entry n (option_map denotes.Variable o))
-variable_leads z n None = tt
-variable_leads z n (Some t) = (λ r. absurd cc, tt)
-
-constant_leads : (z : Scope) (n : Name) (o : Option ElanType) → AllLead z (d.entry n (option_map denotes.Constant o))
-constant_leads z n None = tt
-constant_leads z n (Some t) = (λ r. absurd cc, tt)
-
-node_leads : (z : Scope) (n : Node) → AllLead z (d.declared n)
-node_leads z (nodes.item Variable of n) = variable_leads z n (written_type of)
-node_leads z (nodes.item Constant of n) = constant_leads z n (written_type of)
-node_leads z (nodes.alone n) = tt
-node_leads z (nodes.other n) = tt
-node_leads z (nodes.sign o) = tt
-node_leads z (nodes.of_type of) = tt
-node_leads z (nodes.let_name n c) = (λ r. absurd cc, tt)
-node_leads z nodes.unbuilt = tt
-
-pub nodes_lead : (z : Scope) (ns : List Node) → AllLead z (flat_map d.declared ns)
-nodes_lead z [] = tt
-nodes_lead z (n ∷ ns) = lead_append z (d.declared n) (flat_map d.declared ns) (node_leads z n) (nodes_lead z ns)
-
-named_lead : (z : Scope) (ns : List Name) (o : Option Parameter) → AllLead z (b.named_as ns (option_map denotes.Parameter o))
-named_lead z [] o = tt
-named_lead z (n ∷ ns) None = named_lead z ns None
-named_lead z (n ∷ ns) (Some p) = (λ r. absurd cc, named_lead z ns (Some p))
-
-pub formals_lead : (z : Scope) (fs : List Formal) → AllLead z (b.parameter_names fs)
-formals_lead z [] = tt
-formals_lead z (f ∷ fs) =
-    lead_append z (b.named_as f.names (option_map denotes.Parameter (b.parameter f))) (b.parameter_names fs) (named_lead z f.names (b.parameter f)) (formals_lead z fs)
-
 home_self : (home : Option ℕ) → same_home home home ≡ true
 home_self None = refl
 home_self (Some n) = (Decides-eqb n n).1 refl
 
-pub refinements_lead : (z : Scope) (home : Option ℕ) (rs : List Refinement) → number_of z.routine ≡ home → SubHeadings z (b.refinement_headings home rs)
-    → AllLead z (b.refinement_names rs)
-refinements_lead z home [] e f = tt
-refinements_lead z home (r ∷ rs) e f =
-    let h : Heading = record { at = r.name.at; name = r.name.text; what = what.Refinement home } in
-    let test = is_refined (number_of z.routine) r.name.text in
-    let passes : is_refined home r.name.text h ≡ true =
-    both_true (bytes_eq r.name.text r.name.text) (same_home home home) (bytes_self r.name.text) (home_self home) in
-    let found =
-    heading_is 0 test z.headings h (f h (inl refl)) (subst (λ (o : Option ℕ). is_refined o r.name.text h ≡ true) (sym e) passes) in
-    let rest =
-    lead_append z (d.in_units r.units) (b.refinement_names rs) (nodes_lead z (nodes.in_units r.units)) (refinements_lead z home rs e (λ g i. f g (inr i))) in
-    (λ q. numbered (first_heading test z.headings) found, rest)
-  where
-    numbered : (o : Option (ℕ × Heading)) → is_some o ≡ true → is_some (number_in o) ≡ true
-    numbered None i = absurd cc
-    numbered (Some g) i = refl
+-- where these names of types can be seen
+module _ (ts : List TypeName) where
+  node_leads : (z : Scope) (n : Node) → AllLead z (d.declared ts n)
+  node_leads z (nodes.item Variable of n) = (λ r. absurd cc, tt)
+  node_leads z (nodes.item Constant of n) = (λ r. absurd cc, tt)
+  node_leads z (nodes.alone n) = tt
+  node_leads z (nodes.other n) = tt
+  node_leads z (nodes.sign o) = tt
+  node_leads z (nodes.of_type of) = tt
+  node_leads z (nodes.let_name n c) = (λ r. absurd cc, tt)
+  node_leads z (nodes.abbreviation n of) = tt
+  node_leads z (nodes.new_type at n of) = tt
+  node_leads z nodes.unbuilt = tt
 
-unit_leads : (s : Scope) (u : LevelUnit) → AllLead s (b.unit_names u)
-unit_leads s (level.Plain u) = nodes_lead s (nodes.in_unit u)
-unit_leads s (level.Proc at r n [] w) = (λ q. absurd cc, tt)
-unit_leads s (level.Proc at r n (f ∷ fs) w) = tt
-unit_leads s (level.Op at r n fs w) = tt
-unit_leads s (level.NewType at n of) = tt
+  pub nodes_lead : (z : Scope) (ns : List Node) → AllLead z (flat_map (d.declared ts) ns)
+  nodes_lead z [] = tt
+  nodes_lead z (n ∷ ns) = lead_append z (d.declared ts n) (flat_map (d.declared ts) ns) (node_leads z n) (nodes_lead z ns)
 
-pub units_lead : (s : Scope) (us : List LevelUnit) → AllLead s (flat_map b.unit_names us)
-units_lead s [] = tt
-units_lead s (u ∷ us) = lead_append s (b.unit_names u) (flat_map b.unit_names us) (unit_leads s u) (units_lead s us)
+  named_lead : (z : Scope) (ns : List Name) (p : Parameter) → AllLead z (b.named_as ns (denotes.Parameter p))
+  named_lead z [] p = tt
+  named_lead z (n ∷ ns) p = (λ r. absurd cc, named_lead z ns p)
+
+  pub formals_lead : (z : Scope) (fs : List Formal) → AllLead z (b.parameter_names ts fs)
+  formals_lead z [] = tt
+  formals_lead z (f ∷ fs) =
+      lead_append z (b.named_as f.names (denotes.Parameter (b.parameter ts f))) (b.parameter_names ts fs) (named_lead z f.names (b.parameter ts f))
+      (formals_lead z fs)
+
+  pub refinements_lead : (z : Scope) (home : Option ℕ) (rs : List Refinement) → number_of z.routine ≡ home → SubHeadings z (b.refinement_headings home rs)
+      → AllLead z (b.refinement_names ts rs)
+  refinements_lead z home [] e f = tt
+  refinements_lead z home (r ∷ rs) e f =
+      let h : Heading = record { at = r.name.at; name = r.name.text; what = what.Refinement home } in
+      let test = is_refined (number_of z.routine) r.name.text in
+      let passes : is_refined home r.name.text h ≡ true =
+      both_true (bytes_eq r.name.text r.name.text) (same_home home home) (bytes_self r.name.text) (home_self home) in
+      let found =
+      heading_is 0 test z.headings h (f h (inl refl)) (subst (λ (o : Option ℕ). is_refined o r.name.text h ≡ true) (sym e) passes) in
+      let rest =
+      lead_append z (d.in_units ts r.units) (b.refinement_names ts rs) (nodes_lead z (nodes.in_units r.units))
+      (refinements_lead z home rs e (λ g i. f g (inr i))) in
+      (λ q. numbered (first_heading test z.headings) found, rest)
+    where
+      numbered : (o : Option (ℕ × Heading)) → is_some o ≡ true → is_some (number_in o) ≡ true
+      numbered None i = absurd cc
+      numbered (Some g) i = refl
+
+  unit_leads : (s : Scope) (u : LevelUnit) → AllLead s (b.unit_names ts u)
+  unit_leads s (level.Plain u) = nodes_lead s (nodes.in_unit u)
+  unit_leads s (level.Proc at r n [] w) = (λ q. absurd cc, tt)
+  unit_leads s (level.Proc at r n (f ∷ fs) w) = tt
+  unit_leads s (level.Op at r n fs w) = tt
+  unit_leads s (level.NewType at n of) = tt
+
+  pub units_lead : (s : Scope) (us : List LevelUnit) → AllLead s (flat_map (b.unit_names ts) us)
+  units_lead s [] = tt
+  units_lead s (u ∷ us) = lead_append s (b.unit_names ts u) (flat_map (b.unit_names ts) us) (unit_leads s u) (units_lead s us)

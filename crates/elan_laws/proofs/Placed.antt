@@ -3,7 +3,8 @@ use Rattle.eu_base.specs.declared.operation.Way.{Way}
 use Rattle.std.proofs.Common.{ℕ, ℤ, Bool, true, false, ◌&&◌, if◌then◌else◌, nat_le, List, [], ◌∷◌, length, drop, Option, Some, None, nat_eq, zero, suc}
 use Rattle.elan_types.specs.declared.elan_type.ElanType.{ElanType}
 use Rattle.elan_types.specs.declared.elan_type.ElanType.TheVariants as type
-use Rattle.elan_types.specs.Types.{kind_in}
+use Rattle.elan_types.specs.Types.{kind_in, is_own}
+use Rattle.std.specs.Option.{option_map_or}
 use Rattle.elan_types.specs.declared.core_phrase.ValuePhrase.TheVariants as value
 use Rattle.elan_types.specs.declared.why.Why.{Why}
 use Rattle.elan_types.specs.declared.why.Why.TheVariants as why
@@ -37,14 +38,17 @@ use Rattle.elan_scope.specs.declared.callable.Callee.TheVariants.{Predefined, Bo
 use Rattle.elan_scope.specs.declared.predefined.Predefined.TheVariants.{Operation, Change, Request, ErrorStop}
 use Rattle.elan_scope.specs.Known.{leads_back, delivery_at}
 use Rattle.std.specs.Prelude.{◌||◌, is_some}
-use Rattle.elan_scope.specs.Scope.{Callable, number_named, find, find_own, is_known, is_alike, left, first_heading, types_of, refinement_named}
+use Rattle.elan_scope.specs.declared.type_name.TypeName.{TypeName}
+use Rattle.elan_scope.specs.Types.{concrete}
+use Rattle.elan_scope.specs.Scope.{Callable, number_named, find, find_own, find_own_type, is_known, has_open, is_alike, left, first_heading}
+use Rattle.elan_scope.specs.Scope.{types_of, refinement_named}
 use Rattle.elan_scope.specs.Phrase as form
 use Rattle.elan_scope.specs.Phrase.{Form, Plain, plain}
 use Rattle.elan_scope.specs.Ruled as ruled
 use Rattle.elan_scope.specs.Ruled.{Ruled, hangs}
 use Rattle.elan_meant.specs.declared.meant.Meant.{Meant}
 use Rattle.elan_meant.specs.declared.meant.Meant.TheVariants.{Absent, Variable, Value, Left, Labels}
-use Rattle.elan_meant.specs.Verdict.{Verdict, gives, breaks, ◌>>=◌, told}
+use Rattle.elan_meant.specs.Verdict.{Verdict, gives, breaks, ◌>>=◌, told, unless}
 use Rattle.elan_meant.specs.Operands.{delivers, chosen, becomes}
 use Rattle.elan_meant.specs.Parts as p
 use Rattle.value_rules.specs.Values as v
@@ -99,6 +103,9 @@ module _ (ns : List ℕ) where
   on_either P true x y h k = h
   on_either P false x y h k = k
 
+  on_unless : {A : Type 0} (P : A → Type 0) (b : Bool) (x : Ruled A) → MayTell P x → MayTell P (unless b x)
+  on_unless P b x h = on_either P b hangs x tt h
+
   on_bind : {A B : Type 0} (P : A → Type 0) (Q : B → Type 0) (w : Verdict A) (f : A → Verdict B) → Tells P w → ((x : A) → P x → Tells Q (f x))
       → Tells Q (w >>= f)
   on_bind P Q (gives x) f h k = k x h
@@ -140,6 +147,18 @@ module _ (ns : List ℕ) where
     bracketed_placed (Variable q t x) = here
     bracketed_placed (Value q t x) = here
     bracketed_placed _ = tt
+
+    concr_as_placed : (ts : List TypeName) (t : ElanType) (go : ElanType → Meant) → ((u : ElanType) → Placed (go u)) → Tells Placed (v.concr_as ts at t go)
+    concr_as_placed ts (type.Own t) go h = h (concrete ts t)
+    concr_as_placed ts type.Int go h = here
+    concr_as_placed ts type.Bool go h = here
+    concr_as_placed ts type.Text go h = here
+    concr_as_placed ts type.Open go h = here
+
+    concr_placed : (s : Scope) (m : Meant) → Tells Placed (v.concr at s m)
+    concr_placed s (Variable q t x) = concr_as_placed s.types t (λ z. Variable at z x) (λ z. here)
+    concr_placed s (Value q t x) = concr_as_placed s.types t (λ z. Value at z x) (λ z. here)
+    concr_placed s _ = here
 
     -- ---- calls
 
@@ -223,9 +242,19 @@ module _ (ns : List ℕ) where
         first_placed (denotes.Constant t) = here
         first_placed _ = tt
 
+    type_declared_placed : (q : Option TypeName) → Tells Placed (r.type_declared at q)
+    type_declared_placed None = here
+    type_declared_placed (Some t) = on_if Placed (nat_eq t.at at) _ _ tt here
+
+    headed_as_placed : (missing : Bool) → Tells Placed (r.headed_as at missing)
+    headed_as_placed missing = on_if Placed missing _ _ here tt
+
     headed_placed : (missing : Bool) (q : Option (ℕ × Heading)) → Tells Placed (r.headed at missing q)
     headed_placed missing None = here
-    headed_placed missing (Some b) = on_if Placed (nat_eq b.1.at at) _ _ (on_if Placed missing _ _ here tt) here
+    headed_placed missing (Some b) = on_if Placed (nat_eq b.1.at at) _ _ (headed_as_placed missing) here
+
+    heading_placed : (ps : List Parameter) (missing : Bool) (q : Option (ℕ × Heading)) → Tells Placed (r.heading at ps missing q)
+    heading_placed ps missing q = on_if Placed (has_open ps) _ _ (headed_as_placed missing) (headed_placed missing q)
 
     leaving_placed : (k : Known) (q : Option (Exit × ℕ)) (m : Meant) → Tells Placed (r.leaving k at q m)
     leaving_placed k None m = here
@@ -243,7 +272,8 @@ module _ (ns : List ℕ) where
         agreed_placed (Some t) = on_if Any (delivers t n) _ _ tt here
 
     assigned_placed : (m n : Meant) → Placed m → Tells Placed (u.assigned at m n)
-    assigned_placed m n h = on_bind Any Placed (u.stored at m n) _ (stored_placed m n h) (λ a k. tt)
+    assigned_placed m n h =
+        on_if Placed (option_map_or is_own (p.type_in m) false) _ _ here (on_bind Any Placed (u.stored at m n) _ (stored_placed m n h) (λ a k. tt))
 
     initial_placed : (m n : Meant) → Placed m → Tells Placed (u.initial at m n)
     initial_placed m n h = on_bind Any Placed (u.stored at m n) _ (stored_placed m n h) (λ a k. tt)
@@ -333,10 +363,13 @@ module _ (ns : List ℕ) where
   rule_placed at (form.text x) ms h g = text_placed at h x
   rule_placed at (form.applied s sort x) ms h g = applied_placed at h s sort x ms g
   rule_placed at form.bracket ms h g = bracketed_placed at h (p.nth ms 0)
+  rule_placed at (form.concr s) ms h g = concr_placed at h s (p.nth ms 0)
   rule_placed at form.cand ms h g =
-      or_broken at h (value_walk.are_truths (p.nth ms 0) (p.nth ms 1)) (value_walk.decided at false (p.value_of (p.nth ms 0)) (p.value_of (p.nth ms 1))) why.WrongType h
+      or_broken at h (value_walk.are_truths (p.nth ms 0) (p.nth ms 1))
+      (value_walk.decided at false (p.value_of (p.nth ms 0)) (p.value_of (p.nth ms 1))) why.WrongType h
   rule_placed at form.cor ms h g =
-      or_broken at h (value_walk.are_truths (p.nth ms 0) (p.nth ms 1)) (value_walk.decided at true (p.value_of (p.nth ms 0)) (p.value_of (p.nth ms 1))) why.WrongType h
+      or_broken at h (value_walk.are_truths (p.nth ms 0) (p.nth ms 1))
+      (value_walk.decided at true (p.value_of (p.nth ms 0)) (p.value_of (p.nth ms 1))) why.WrongType h
   rule_placed at form.choice ms h g = chain_placed at h (p.pairs ms) (gives (choice_walk.otherwise (p.odd ms))) (odd_placed ms g)
   rule_placed at (form.label earlier n) ms h g = on_if Placed (choice_walk.is_in earlier n) (breaks (at, why.Doubled)) (gives (Labels (n ∷ []))) h tt
   rule_placed at (form.label_name earlier s x) ms h g = label_named_placed at h earlier (is_known s Procedure x 0) (find s x)
@@ -346,6 +379,7 @@ module _ (ns : List ℕ) where
   rule_placed at form.initial ms h g = initial_placed at h (p.nth ms 0) (p.nth ms 1) (nth_placed ms 0 g)
   rule_placed at form.declaration ms h g = tt
   rule_placed at form.definition ms h g = tt
+  rule_placed at (form.type_name s x) ms h g = type_declared_placed at h (find_own_type s x)
   rule_placed at form.statement ms h g = alone_placed (p.nth ms 0) (nth_placed ms 0 g)
   rule_placed at (form.assignment s) ms h g = assignment_placed at h s (p.nth ms 0) (p.nth ms 1) (nth_placed ms 0 g) (nth_placed ms 1 g)
   rule_placed at form.loop ms h g =
@@ -357,13 +391,16 @@ module _ (ns : List ℕ) where
   rule_placed at form.without_value ms h g = without_value_placed (p.nth ms 0) (nth_placed ms 0 g)
   rule_placed at (form.must_deliver t) ms h g = or_broken at h (u.agrees_with t (p.nth ms 0)) (p.nth ms 0) why.WrongType (nth_placed ms 0 g)
   rule_placed at form.units ms h g = ended_placed (p.actions_of ms) (u.last_value Absent ms) (last_placed Absent ms tt g)
-  rule_placed at (form.heading s sort x ps missing) ms h g = headed_placed at h missing (first_heading (is_alike sort x (types_of ps)) s.headings)
+  rule_placed at (form.heading s sort x ps q missing) ms h g = heading_placed at h ps missing (first_heading (is_alike sort x (types_of ps)) s.headings)
   rule_placed at (form.body q t) ms h g = tt
   rule_placed at form.routine ms h g = tt
   rule_placed at (form.refinement q) ms h g = tt
   rule_placed at form.level ms h g = tt
 
   pub ruled_placed : (k : Known) (at : ℕ) (f : Form) (ms : List Meant) → Owned at f → AllPlaced ms → MayTell Placed (ruled k at f ms)
-  ruled_placed k at (form.named w s x) ms h g = named_placed at h k w s x (find s x)
-  ruled_placed k at (form.leave s x) ms h g = on_told Placed (r.leaving k at (left s x) (p.nth ms 0)) (leaving_placed at h k (left s x) (p.nth ms 0))
-  ruled_placed k at (plain f) ms h g = on_told Placed (rule at f ms) (rule_placed at f ms h g)
+  ruled_placed k at (form.named w s x) ms h g =
+      on_unless Placed (r.is_open_name s x (find s x)) (r.named k w at s x (find s x)) (named_placed at h k w s x (find s x))
+  ruled_placed k at (form.leave s x) ms h g =
+      on_unless Placed (r.leaves_open s (left s x)) (told (r.leaving k at (left s x) (p.nth ms 0)))
+      (on_told Placed (r.leaving k at (left s x) (p.nth ms 0)) (leaving_placed at h k (left s x) (p.nth ms 0)))
+  ruled_placed k at (plain f) ms h g = on_unless Placed (all.hangs_on at f ms) (told (rule at f ms)) (on_told Placed (rule at f ms) (rule_placed at f ms h g))

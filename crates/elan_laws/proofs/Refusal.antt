@@ -1,5 +1,5 @@
 -- A refusal is at a place of the text.
-use Rattle.std.proofs.Common.{◌≡◌, ℕ, suc, List, refl, sym, subst, arith}
+use Rattle.std.proofs.Common.{◌≡◌, ℕ, suc, false, List, [], ◌∷◌, ◌++◌, Option, Some, None, refl, sym, ap, subst, ◌∙◌, arith, inl, inr}
 use Rattle.std.specs.List.{Contains}
 use Rattle.elan_types.specs.declared.env.Env.{Env}
 use Rattle.elan_tree.specs.declared.tree.Tree.{Tree}
@@ -10,13 +10,16 @@ use Rattle.elan_scope.specs.Ruled.{Fault, Ruled, gives, breaks, hangs, ◌>>=◌
 use Rattle.elan_rules.specs.Rules.{ruled}
 use Rattle.elan_rules.specs.Meaning.{phrases, IsFirst, judged, judged_all}
 use Rattle.elan_rules.proofs.First as first
-use Rattle.elan_check.specs.Level.{text}
-use Rattle.elan_check.specs.Text.{Refused, known}
-use Rattle.elan_laws.specs.Places.{places}
-use Rattle.elan_laws.specs.Order.{Follows, stays, goes_on, own, in_phrase, in_parts}
+use Rattle.elan_unbuilt.specs.NotBuilt.{not_built}
+use Rattle.type_names.specs.Faults.{first_fault, level_faults}
+use Rattle.elan_check.specs.Level.{level_in, text}
+use Rattle.elan_check.specs.Text.{IsEarliest, Refused, known}
+use Rattle.elan_laws.specs.Places.{places, type_places}
+use Rattle.elan_laws.specs.Order.{Follows, ends, stays, goes_on, own, in_phrase, in_parts}
 use Rattle.elan_laws.proofs.Through as thr
 use Rattle.elan_laws.proofs.Placed.{In, Placed, AllPlaced, MayTell, ruled_placed}
 use Rattle.elan_laws.proofs.WholeOrder.{text_same}
+use Rattle.elan_laws.proofs.TypePlaces.{told_at, faults_follow}
 
 -- ---- phrases
 
@@ -65,8 +68,42 @@ contains : (x : ℕ) (ns : List ℕ) → In ns x → Contains ns x
 contains _ _ (stays x _ ns h) = (0, omega arith, refl)
 contains x _ (goes_on n _ ns h) = let c = contains x ns h in (suc c.0, omega (arith, c.1), c.2)
 
-pub refused_at_place : (env : Env) (t : Tree) (f : Fault) → Refused env t f → Contains (places t) f.0
+-- the first fault of a type
+first_in : (ns : List ℕ) (fs : List Fault) (e : Fault) → Follows (told_at fs) ns → first_fault fs ≡ Some e → In ns e.0
+first_in ns [] e h i = absurd cc
+first_in ns (g ∷ fs) e h i =
+    let j : g ≡ e = cc in subst (λ (q : Fault). In ns q.0) j (thr.through (thr.begun g.0 (ends (told_at fs))) h)
+
+module _ (t : Tree) where
+  abbrev first_phrase : Fault → Type 0
+  first_phrase f = IsFirst (known t) (phrases (text t)) f
+
+  phrase_in : (f : Fault) → first_phrase f → In (places t) f.0
+  phrase_in f h =
+      let same = text_same t in
+      let placed = judged_placed (known t) (places t) (text t) same.to in
+      fault_placed (known t) (places t) (text t) f h (judged (known t) (text t)) refl placed
+
+  pub phrase_at_place : (f : Fault) → first_phrase f → Contains (places t) f.0
+  phrase_at_place f h = contains f.0 (places t) (phrase_in f h)
+
+  -- ---- phrases and types
+
+  abbrev all : List ℕ
+  all = places t ++ type_places t
+
+  type_in : not_built t ≡ false → (f : Fault) → first_fault (level_faults (level_in t)) ≡ Some f → In all f.0
+  type_in b f e = thr.behind (places t) (first_in (type_places t) (level_faults (level_in t)) f (faults_follow t b) e)
+
+  earliest_in : not_built t ≡ false → (f : Fault) (o : Option Fault) → first_fault (level_faults (level_in t)) ≡ o
+      → IsEarliest o first_phrase f → In all f.0
+  earliest_in b f None e h = thr.before (type_places t) (phrase_in f h)
+  earliest_in b f (Some g) e h =
+      elim h [
+        | inl i ↦ type_in b f (e ∙ ap (λ (q : Fault). Some q) (sym i.0))
+        | inr i ↦ thr.before (type_places t) (phrase_in f i.0)
+      ]
+
+pub refused_at_place : (env : Env) (t : Tree) (f : Fault) → Refused env t f → Contains (places t ++ type_places t) f.0
 refused_at_place env t f h =
-    let same = text_same t in
-    let placed = judged_placed (known t) (places t) (text t) same.to in
-    contains f.0 (places t) (fault_placed (known t) (places t) (text t) f h.first (judged (known t) (text t)) refl placed)
+    contains f.0 (places t ++ type_places t) (earliest_in t h.is_built f (first_fault (level_faults (level_in t))) refl h.first)

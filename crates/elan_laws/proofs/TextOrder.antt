@@ -213,7 +213,7 @@ module _ (s : Scope) where
   expr_starts (t.Named n) = placed n.at nothing
   expr_starts (t.Call n actuals) = placed n.at (exprs_follow actuals)
   expr_starts (t.Procedure a n) = placed a nothing
-  expr_starts (t.Concr a b) = placed a nothing
+  expr_starts (t.Concr a b) = placed a (one_part (shape.expr s b.0) (whole (shape.expr s b.0) b.1))
   expr_starts (t.Bracket a b) = placed a (one_part (shape.expr s b.0) (whole (shape.expr s b.0) b.1))
   expr_starts (t.If a branches None) =
       placed a (parts_follow (shape.branches (map (shape.branch s) (map fst branches))) (form.leaf 0 form.absent ∷ []) (branches_follow branches) nothing)

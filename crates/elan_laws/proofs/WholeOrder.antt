@@ -51,7 +51,8 @@ module _ (s : Scope) (k : ℕ) (a : ℕ) (x : List ℕ) (r : Option TypePhrase) 
 
   body_follows : IsSame (places_of (l.body_phrases s k a x r fs b)) (at.in_units b.units ++ at.refinements b.refinements)
   body_follows =
-      both (one_part (l.own_units s k a x r fs b) (body_units_follow inner (delivered (result r)) b.units)) (refinements_follow inner (suc k) b.refinements)
+      both (one_part (l.own_units s k a x r fs b) (body_units_follow inner (delivered (result s.types r)) b.units))
+      (refinements_follow inner (suc k) b.refinements)
 
   routine_follows : (sort : Sort) (names : List Phrase) → IsSame (places_of (l.heading_phrases s k a x r fs b sort names)) (a ∷ at.formals fs)
       → IsSame (in_phrase (l.routine s k a x r fs b sort names)) (a ∷ at.body fs b)
@@ -71,7 +72,7 @@ unit_follows s k (level.Proc a r n fs b) =
     routine_follows s k n.at n.text r fs b Procedure (l.procedure_name s n fs) (procedure_follows s k r n fs b)
 unit_follows s k (level.Op a r n fs b) =
     routine_follows s k n.at (operator_text n.operator) r fs b Operator [] (same n.at (formals_follow (l.inner s k n.at (operator_text n.operator) r fs b) fs))
-unit_follows s k (level.NewType a n of) = same a nothing
+unit_follows s k (level.NewType a n of) = same n.at nothing
 
 units_follow : (s : Scope) (k : ℕ) (us : List LevelUnit) → IsSame (places_of (level_units s k us)) (at.level_units us)
 units_follow s k [] = nothing

@@ -1,7 +1,9 @@
--- The places of a tree in text order: of names that are declared, labels, expressions and units. What is not built has its own
--- place alone.
-use Rattle.std.specs.Prelude.{ℕ, List, [], ◌∷◌, ◌++◌, map, Option, Some, None}
+-- The places of a tree in text order: of names that are declared, labels, expressions and units, and of types. What is not built has
+-- its own place alone.
+use Rattle.std.specs.Prelude.{ℕ, List, [], ◌∷◌, ◌++◌, map, flat_map, Option, Some, None}
 use Rattle.elan_tree.specs.declared.written_type.Name.{Name}
+use Rattle.elan_tree.specs.declared.written_type.TypePhrase.{TypePhrase}
+use Rattle.elan_tree.specs.declared.written_type.TypePhrase.TheVariants as type
 use Rattle.elan_tree.specs.declared.written_type.Constant.{Constant}
 use Rattle.elan_tree.specs.declared.written_type.Constant.TheVariants as constants
 use Rattle.elan_tree.specs.declared.written_type.LetItem.{LetItem}
@@ -25,6 +27,7 @@ use Rattle.elan_tree.specs.declared.tree.LevelUnit.{LevelUnit}
 use Rattle.elan_tree.specs.declared.tree.LevelUnit.TheVariants as level
 use Rattle.elan_tree.specs.declared.tree.Tree.{Tree}
 use Rattle.elan_tree.specs.declared.tree.Tree.TheVariants as tree
+use Rattle.elan_walk.specs.Nodes.{Node, of_type, item, abbreviation, new_type, nodes}
 
 abbrev pub all : List (List ℕ) → List ℕ
 all [] = []
@@ -51,7 +54,7 @@ abbrev pub all_labels : List Label → List ℕ
 all_labels [] = []
 all_labels (l ∷ ls) = label l ∷ all_labels ls
 
--- LET gives a name to a constant; a type under a name is not built
+-- LET gives a name to a constant, or to a type
 abbrev pub constant : Constant → ℕ
 constant (constants.Number at n) = at
 constant (constants.Text at x) = at
@@ -73,7 +76,7 @@ expr_step (t.Truth at b) = at ∷ []
 expr_step (t.Named n) = n.at ∷ []
 expr_step (t.Call n actuals) = n.at ∷ all actuals
 expr_step (t.Procedure at n) = at ∷ []
-expr_step (t.Concr at a) = at ∷ []
+expr_step (t.Concr at a) = at ∷ a
 expr_step (t.Bracket at a) = at ∷ a
 expr_step (t.If at branches otherwise) = at ∷ all branches ++ listed otherwise
 expr_step (t.Select at of cases otherwise) = at ∷ of ++ (all cases ++ listed otherwise)
@@ -151,7 +154,7 @@ body fs b = formals fs ++ (in_units b.units ++ refinements b.refinements)
 
 abbrev pub level_unit : LevelUnit → List ℕ
 level_unit (level.Plain u) = in_unit u
-level_unit (level.NewType at n of) = at ∷ []
+level_unit (level.NewType at n of) = n.at ∷ []
 level_unit (level.Proc at r n fs b) = n.at ∷ body fs b
 level_unit (level.Op at r n fs b) = n.at ∷ body fs b
 
@@ -163,3 +166,22 @@ level_units (u ∷ us) = level_unit u ++ level_units us
 abbrev pub places : Tree → List ℕ
 places (tree.Program l) = level_units l.units ++ refinements l.refinements
 places (tree.Packet at n exports l) = []
+
+-- ---- types
+
+-- a name of a type where it is written
+abbrev pub type_name : TypePhrase → List ℕ
+type_name (type.Named n) = n.at ∷ []
+type_name _ = []
+
+-- A type is told of once more for each name that is declared with it. A LET of a type has the place of its name, and a TYPE its own.
+abbrev pub node_types : Node → List ℕ
+node_types (of_type of) = type_name of
+node_types (item h of n) = type_name of
+node_types (abbreviation n of) = n.at ∷ type_name of
+node_types (new_type at n of) = at ∷ type_name of
+node_types _ = []
+
+-- the places of types in text order
+abbrev pub type_places : Tree → List ℕ
+type_places t = flat_map node_types (nodes t)

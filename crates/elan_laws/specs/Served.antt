@@ -2,7 +2,7 @@
 -- where they are called.
 use Rattle.std.specs.Prelude.{◌≡◌, ℕ, zero, suc, true, List, Option, Some, None}
 use Rattle.std.specs.Option.{is_some}
-use Rattle.elan_scope.specs.Scope.{find, find_own, first_heading, is_alike, types_of, is_refinement, refinement_named}
+use Rattle.elan_scope.specs.Scope.{find, find_own, find_own_type, first_heading, is_alike, types_of, is_refinement, refinement_named}
 use Rattle.elan_scope.specs.declared.scope.Scope.{Scope}
 use Rattle.elan_scope.specs.Scope.{Found}
 use Rattle.elan_scope.specs.Phrase as form
@@ -31,6 +31,7 @@ abbrev pub IsServed : Form → Parts → Type 0
 IsServed (form.named u s x) ps = HasBody s x (find s x)
 IsServed (form.leave s x) ps = Has 1 ps
 IsServed (plain form.bracket) ps = Has 1 ps
+IsServed (plain (form.concr s)) ps = Has 1 ps
 IsServed (plain form.cand) ps = Has 2 ps
 IsServed (plain form.cor) ps = Has 2 ps
 IsServed (plain form.choice) ps = HasOdd ps
@@ -38,13 +39,14 @@ IsServed (plain form.selection) none = ⊥
 IsServed (plain form.selection) (part p ps) = HasOdd ps
 IsServed (plain (form.declares s x)) ps = is_some (find_own s x) ≡ true
 IsServed (plain form.initial) ps = Has 2 ps
+IsServed (plain (form.type_name s x)) ps = is_some (find_own_type s x) ≡ true
 IsServed (plain form.statement) ps = Has 1 ps
 IsServed (plain (form.assignment s)) ps = Has 2 ps
 IsServed (plain form.loop) ps = Has 3 ps
 IsServed (plain (form.count w)) ps = Has 6 ps
 IsServed (plain form.without_value) ps = Has 1 ps
 IsServed (plain (form.must_deliver t)) ps = Has 1 ps
-IsServed (plain (form.heading s sort x qs missing)) ps = is_some (first_heading (is_alike sort x (types_of qs)) s.headings) ≡ true
+IsServed (plain (form.heading s sort x qs r missing)) ps = is_some (first_heading (is_alike sort x (types_of qs)) s.headings) ≡ true
 IsServed (plain (form.body o r)) ps = Has 1 ps
 IsServed (plain (form.refinement o)) ps = Has 2 ps
 IsServed f ps = Unit {0}

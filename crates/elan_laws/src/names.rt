@@ -1,6 +1,6 @@
 //! Laws of what rules are given.
 
-ghost use Rattle.std.specs.Prelude.{◌≡◌, ℕ, List, Some, false};
+ghost use Rattle.std.specs.Prelude.{◌≡◌, ℕ, List, Some};
 ghost use Rattle.elan_tree.specs.declared.tree.Tree.{Tree};
 ghost use Rattle.elan_types.specs.declared.core_phrase.Actual.{Actual};
 ghost use Rattle.elan_scope.specs.declared.heading.Sort.{Sort};
@@ -10,15 +10,14 @@ ghost use Rattle.elan_meant.specs.declared.meant.Meant.{Meant};
 ghost use Rattle.elan_meant.specs.Operands.{chosen};
 ghost use Rattle.elan_meant.specs.Verdict.{gives};
 ghost use Rattle.value_rules.specs.Calls.{given, performed};
-ghost use Rattle.elan_unbuilt.specs.NotBuilt.{not_built};
 ghost use Rattle.elan_check.specs.Level.{text};
 ghost use Rattle.elan_laws.specs.Served.{AreServed};
 
-/// In a text that is built each rule is given what it asks for: so many parts, and what it looks up. Each name that is declared,
-/// and each heading of a PROC or OP, is found in the scope that declares it, and what an identifier denotes as a refinement is
-/// a body.
+/// In every text each rule is given what it asks for: so many parts, and what it looks up. Each name that is declared,
+/// also that of a type, and each heading of a PROC or OP, is found in the scope that declares it, and what an identifier denotes
+/// as a refinement is a body.
 pub fn each_rule_gets_what_it_asks_for()
-    ensures { (t : Tree) → not_built t ≡ false → AreServed (text t) }
+    ensures { (t : Tree) → AreServed (text t) }
 {}
 
 /// What is chosen by its name and the types of its operands does something with what it is given.

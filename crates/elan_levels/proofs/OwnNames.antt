@@ -1,7 +1,6 @@
 -- Units declare variables and constants, and no parameters.
 use Rattle.std.proofs.Common.{◌≡◌, List, [], ◌∷◌, ◌++◌, map, Option, Some, None, refl, sym, ap, ◌∙◌}
-use Rattle.std.specs.Prelude.{flat_map, option_map}
-use Rattle.elan_tree.specs.declared.written_type.Name.{Name}
+use Rattle.std.specs.Prelude.{flat_map}
 use Rattle.elan_tree.specs.declared.phrase.Unit.{Unit as Statement}
 use Rattle.elan_types.specs.declared.elan_type.ElanType.{ElanType}
 use Rattle.elan_types.specs.declared.elan_type.Parameter.{Parameter}
@@ -9,13 +8,13 @@ use Rattle.elan_types.specs.Types.{held_const}
 use Rattle.elan_tree.specs.declared.tree.Refinement.{Refinement}
 use Rattle.elan_walk.specs.declared.node.Held.TheVariants.{Variable, Constant}
 use Rattle.elan_walk.specs.Nodes as nodes
-use Rattle.elan_walk.specs.Nodes.{Node, alone, other, sign, of_type, item, let_name, unbuilt}
+use Rattle.elan_walk.specs.Nodes.{Node, alone, other, sign, of_type, item, let_name, abbreviation, new_type, unbuilt}
 use Rattle.elan_scope.specs.declared.scope.Denotes.{Denotes}
 use Rattle.elan_scope.specs.declared.scope.Denotes.TheVariants as denotes
 use Rattle.elan_scope.specs.declared.scope.Entry.{Entry}
 use Rattle.elan_scope.specs.Scope.{held, all_held, types_of}
 use Rattle.elan_levels.specs.Declarations as d
-use Rattle.elan_unbuilt.specs.Types.{written_type}
+use Rattle.elan_scope.specs.declared.type_name.TypeName.{TypeName}
 use Rattle.elan_levels.specs.Bodies.{refinement_names}
 use Rattle.elan_levels.proofs.Held.{types_append}
 
@@ -31,34 +30,29 @@ append : (xs ys : List Entry) → Plain xs → Plain ys → Plain (xs ++ ys)
 append [] ys h k = k
 append (x ∷ xs) ys h k = (h.0, append xs ys h.1 k)
 
-variable_plain : (n : Name) (o : Option ElanType) → Plain (d.entry n (option_map denotes.Variable o))
-variable_plain n None = tt
-variable_plain n (Some t) = (tt, tt)
+module _ (ts : List TypeName) where
+  node_plain : (n : Node) → Plain (d.declared ts n)
+  node_plain (item Variable of n) = (tt, tt)
+  node_plain (item Constant of n) = (tt, tt)
+  node_plain (let_name n c) = (tt, tt)
+  node_plain (alone n) = tt
+  node_plain (other n) = tt
+  node_plain (sign o) = tt
+  node_plain (of_type of) = tt
+  node_plain (abbreviation n of) = tt
+  node_plain (new_type at n of) = tt
+  node_plain unbuilt = tt
 
-constant_plain : (n : Name) (o : Option ElanType) → Plain (d.entry n (option_map denotes.Constant o))
-constant_plain n None = tt
-constant_plain n (Some t) = (tt, tt)
+  nodes_plain : (ns : List Node) → Plain (flat_map (d.declared ts) ns)
+  nodes_plain [] = tt
+  nodes_plain (n ∷ ns) = append (d.declared ts n) (flat_map (d.declared ts) ns) (node_plain n) (nodes_plain ns)
 
-node_plain : (n : Node) → Plain (d.declared n)
-node_plain (item Variable of n) = variable_plain n (written_type of)
-node_plain (item Constant of n) = constant_plain n (written_type of)
-node_plain (let_name n c) = (tt, tt)
-node_plain (alone n) = tt
-node_plain (other n) = tt
-node_plain (sign o) = tt
-node_plain (of_type of) = tt
-node_plain unbuilt = tt
+  units_plain : (us : List Statement) → Plain (d.in_units ts us)
+  units_plain us = nodes_plain (nodes.in_units us)
 
-nodes_plain : (ns : List Node) → Plain (flat_map d.declared ns)
-nodes_plain [] = tt
-nodes_plain (n ∷ ns) = append (d.declared n) (flat_map d.declared ns) (node_plain n) (nodes_plain ns)
-
-units_plain : (us : List Statement) → Plain (d.in_units us)
-units_plain us = nodes_plain (nodes.in_units us)
-
-refinements_plain : (rs : List Refinement) → Plain (refinement_names rs)
-refinements_plain [] = tt
-refinements_plain (r ∷ rs) = (tt, append (d.in_units r.units) (refinement_names rs) (units_plain r.units) (refinements_plain rs))
+  refinements_plain : (rs : List Refinement) → Plain (refinement_names ts rs)
+  refinements_plain [] = tt
+  refinements_plain (r ∷ rs) = (tt, append (d.in_units ts r.units) (refinement_names ts rs) (units_plain r.units) (refinements_plain rs))
 
 held_plain : (a : Denotes) → One a → held a ≡ map held_const (types_of (held a))
 held_plain (denotes.Variable t) h = refl
@@ -80,6 +74,7 @@ all_held_plain (e ∷ es) h =
     ∙ sym (ap (map held_const) (types_append (held e.denotes) (all_held es)) ∙ map_append (types_of (held e.denotes)) (types_of (all_held es)))
 
 -- what a body declares is held as variables and constants are
-pub own_held : (us : List Statement) (rs : List Refinement)
-    → all_held (d.in_units us ++ refinement_names rs) ≡ map held_const (types_of (all_held (d.in_units us ++ refinement_names rs)))
-own_held us rs = all_held_plain (d.in_units us ++ refinement_names rs) (append (d.in_units us) (refinement_names rs) (units_plain us) (refinements_plain rs))
+pub own_held : (ts : List TypeName) (us : List Statement) (rs : List Refinement)
+    → all_held (d.in_units ts us ++ refinement_names ts rs) ≡ map held_const (types_of (all_held (d.in_units ts us ++ refinement_names ts rs)))
+own_held ts us rs =
+    all_held_plain (d.in_units ts us ++ refinement_names ts rs) (append (d.in_units ts us) (refinement_names ts rs) (units_plain ts us) (refinements_plain ts rs))

@@ -7,15 +7,19 @@ use Rattle.elan_walk.specs.Walk.{went}
 use Rattle.elan_scope.specs.declared.scope.Entry.{Entry}
 use Rattle.elan_levels.specs.declared.declare.Names.{Names}
 use Rattle.elan_levels.specs.declared.uses.Called.{Called}
-use Rattle.elan_levels.specs.walks.Seen.{with_entries, with_numbers}
+use Rattle.elan_levels.specs.walks.Seen.{visible, with_entries, with_numbers}
 use Rattle.elan_levels.specs.Declarations.{declared}
 use Rattle.elan_levels.specs.walks.Uses.{called, all_called}
 
-pub declarations : (s : Names) (ns : List Node) → went (λ (s : Names) n. with_entries s (declared n)) s ns ≡ with_entries s (flat_map declared ns)
-declarations s [] = sym (ap (λ (es : List Entry). record { alloc = s.alloc; entries = es; wanted = s.wanted }) (append-nil s.entries))
+abbrev with_all : Names → List Entry → Names
+with_all s es = record { alloc = s.alloc; here = s.here; around = s.around; entries = es; wanted = s.wanted }
+
+pub declarations : (s : Names) (ns : List Node)
+    → went (λ (s : Names) n. with_entries s (declared (visible s) n)) s ns ≡ with_entries s (flat_map (declared (visible s)) ns)
+declarations s [] = sym (ap (with_all s) (append-nil s.entries))
 declarations s (n ∷ ns) =
-    declarations (with_entries s (declared n)) ns
-    ∙ ap (λ (es : List Entry). record { alloc = s.alloc; entries = es; wanted = s.wanted }) (append_assoc s.entries (declared n) (flat_map declared ns))
+    declarations (with_entries s (declared (visible s) n)) ns
+    ∙ ap (with_all s) (append_assoc s.entries (declared (visible s) n) (flat_map (declared (visible s)) ns))
 
 pub calls : (s : Called) (ns : List Node) → went (λ (s : Called) n. with_numbers s (called s.scope.now n)) s ns ≡ with_numbers s (all_called s.scope.now ns)
 calls s [] = sym (ap (λ (es : List ℕ). record { scope = s.scope; numbers = es; wanted = s.wanted }) (append-nil s.numbers))

@@ -1,5 +1,5 @@
 -- The PROCs, OPs and refinements of a level, numbered in text order, and the names that a level and a body declare.
-use Rattle.std.specs.Prelude.{ℕ, suc, ◌+◌, List, [], ◌∷◌, ◌++◌, map, flat_map, length, Option, Some, None, option_map, option_and_then}
+use Rattle.std.specs.Prelude.{ℕ, suc, ◌+◌, List, [], ◌∷◌, ◌++◌, map, flat_map, length, Option, Some, None, option_map}
 use Rattle.elan_types.specs.declared.elan_type.ElanType.{ElanType}
 use Rattle.elan_types.specs.declared.core_phrase.Access.{Access}
 use Rattle.elan_types.specs.declared.core_phrase.Access.TheVariants as held
@@ -20,13 +20,15 @@ use Rattle.elan_tree.specs.declared.tree.LevelUnit.TheVariants as level
 use Rattle.elan_scope.specs.declared.scope.Denotes.{Denotes}
 use Rattle.elan_scope.specs.declared.scope.Denotes.TheVariants as denotes
 use Rattle.elan_scope.specs.declared.scope.Entry.{Entry}
+use Rattle.elan_scope.specs.declared.scope.Within.{Within}
 use Rattle.elan_scope.specs.Scope.{all_held, variables_of}
 use Rattle.elan_scope.specs.declared.heading.Sort.{Sort}
 use Rattle.elan_scope.specs.declared.heading.Sort.TheVariants.{Procedure, Operator}
 use Rattle.elan_scope.specs.declared.heading.What.TheVariants as what
 use Rattle.elan_scope.specs.declared.heading.Heading.{Heading}
 use Rattle.elan_levels.specs.Declarations.{entry, in_unit, in_units}
-use Rattle.elan_unbuilt.specs.Types.{written_type}
+use Rattle.elan_scope.specs.declared.type_name.TypeName.{TypeName}
+use Rattle.type_names.specs.Types.{type_in, level_types, body_types}
 use Rattle.elan_unbuilt.specs.Operators.{operator_text}
 
 -- ---- parameters
@@ -35,60 +37,70 @@ abbrev pub access_of : Given → Access
 access_of Const = held.Const
 access_of Var = held.Var
 
-abbrev pub parameter : Formal → Option Parameter
-parameter f = option_map (λ t. record { of = t; access = access_of f.access }) (written_type f.of)
-
-abbrev pub named_as : List Name → Option Denotes → List Entry
+abbrev pub named_as : List Name → Denotes → List Entry
 named_as ns d = flat_map (λ n. entry n d) ns
 
-abbrev pub parameter_names : List Formal → List Entry
-parameter_names fs = flat_map (λ f. named_as f.names (option_map denotes.Parameter (parameter f))) fs
+-- where these names of types can be seen
+module _ (ts : List TypeName) where
+  abbrev pub parameter : Formal → Parameter
+  parameter f = record { of = type_in ts f.of; access = access_of f.access }
 
--- one for each name
-abbrev pub parameters : List Formal → List Parameter
-parameters fs = all_held (parameter_names fs)
+  abbrev pub parameter_names : List Formal → List Entry
+  parameter_names fs = flat_map (λ f. named_as f.names (denotes.Parameter (parameter f))) fs
 
--- the type that a PROC or OP delivers
-abbrev pub result : Option TypePhrase → Option ElanType
-result type = option_and_then written_type type
+  -- one for each name
+  abbrev pub parameters : List Formal → List Parameter
+  parameters fs = all_held (parameter_names fs)
 
--- ---- the names of a scope
+  -- the type that a PROC or OP delivers
+  abbrev pub result : Option TypePhrase → Option ElanType
+  result type = option_map (type_in ts) type
 
-abbrev pub refinement_names : List Refinement → List Entry
-refinement_names rs = flat_map (λ r. entry r.name (Some denotes.Refinement) ++ in_units r.units) rs
+  -- ---- the names of a scope
 
--- what a body declares beside its parameters
-abbrev pub own_names : Body → List Entry
-own_names b = in_units b.units ++ refinement_names b.refinements
+  abbrev pub refinement_names : List Refinement → List Entry
+  refinement_names rs = flat_map (λ r. entry r.name denotes.Refinement ++ in_units ts r.units) rs
 
--- the parameters and variables of a PROC or OP
-abbrev pub frame : List Formal → Body → Owner
-frame fs b = owner.Own (map formal_of (parameters fs)) (variables_of (own_names b))
-
--- the names of a PROC or OP: its parameters, what its units declare, and its refinements with what they declare
-abbrev pub body_names : List Formal → Body → List Entry
-body_names fs b = parameter_names fs ++ own_names b
+  -- what a body declares beside its parameters
+  abbrev pub own_names : Body → List Entry
+  own_names b = in_units ts b.units ++ refinement_names b.refinements
 
 -- A PROC without parameters is known by its name alone.
 abbrev pub procedure_name : Name → List Formal → List Entry
-procedure_name n [] = entry n (Some denotes.Procedure)
+procedure_name n [] = entry n denotes.Procedure
 procedure_name n (f ∷ fs) = []
 
-abbrev pub unit_names : LevelUnit → List Entry
-unit_names (level.Plain u) = in_unit u
-unit_names (level.Proc at r n fs b) = procedure_name n fs
-unit_names _ = []
+-- The names of a PROC or OP, where these types are declared around: its parameters, what its units declare, and its refinements with
+-- what they declare. Its heading is read in the level.
+abbrev pub body_names : List TypeName → List Formal → Body → List Entry
+body_names ts fs b = parameter_names ts fs ++ own_names (body_types ts b ++ ts) b
+
+-- the parameters and variables of a PROC or OP
+abbrev pub frame : List TypeName → List Formal → Body → Owner
+frame ts fs b = owner.Own (map formal_of (parameters ts fs)) (variables_of (own_names (body_types ts b ++ ts) b))
+
+-- the PROC or OP with this number, where these types are declared around
+abbrev pub body_within : List TypeName → ℕ → List Formal → Body → Within
+body_within ts k fs b = record { number = k; names = body_names ts fs b; types = body_types ts b }
+
+abbrev pub unit_names : List TypeName → LevelUnit → List Entry
+unit_names ts (level.Plain u) = in_unit ts u
+unit_names ts (level.Proc at r n fs b) = procedure_name n fs
+unit_names ts _ = []
+
+abbrev pub names_in : List TypeName → Level → List Entry
+names_in ts l = flat_map (unit_names ts) l.units ++ refinement_names ts l.refinements
 
 abbrev pub level_names : Level → List Entry
-level_names l = flat_map unit_names l.units ++ refinement_names l.refinements
+level_names l = names_in (level_types l) l
 
 -- ---- the headings of bodies
 
 abbrev pub refinement_headings : Option ℕ → List Refinement → List Heading
 refinement_headings home rs = map (λ r. record { at = r.name.at; name = r.name.text; what = what.Refinement home }) rs
 
-abbrev pub routine_heading : Sort → ℕ → List ℕ → List Formal → Option TypePhrase → Heading
-routine_heading sort at x fs r = record { at = at; name = x; what = what.Routine sort (parameters fs) (result r) }
+abbrev pub routine_heading : List TypeName → Sort → ℕ → List ℕ → List Formal → Option TypePhrase → Heading
+routine_heading ts sort at x fs r = record { at = at; name = x; what = what.Routine sort (parameters ts fs) (result ts r) }
 
 -- how many bodies a unit of a level has: a PROC or OP with its refinements
 abbrev pub bodies_in : LevelUnit → ℕ
@@ -106,11 +118,14 @@ numbered k [] = []
 numbered k (u ∷ us) = (k, u) ∷ numbered (k + bodies_in u) us
 
 -- the headings of a unit whose first body has this number
-abbrev pub unit_headings : ℕ → LevelUnit → List Heading
-unit_headings k (level.Proc at r n fs b) = routine_heading Procedure n.at n.text fs r ∷ refinement_headings (Some k) b.refinements
-unit_headings k (level.Op at r n fs b) = routine_heading Operator n.at (operator_text n.operator) fs r ∷ refinement_headings (Some k) b.refinements
-unit_headings k _ = []
+abbrev pub unit_headings : List TypeName → ℕ → LevelUnit → List Heading
+unit_headings ts k (level.Proc at r n fs b) = routine_heading ts Procedure n.at n.text fs r ∷ refinement_headings (Some k) b.refinements
+unit_headings ts k (level.Op at r n fs b) = routine_heading ts Operator n.at (operator_text n.operator) fs r ∷ refinement_headings (Some k) b.refinements
+unit_headings ts k _ = []
 
 -- Each PROC or OP has a number, and behind it its refinements; behind them all stand the refinements of the level.
+abbrev pub headings_in : List TypeName → Level → List Heading
+headings_in ts l = flat_map (λ u. unit_headings ts u.0 u.1) (numbered 0 l.units) ++ refinement_headings None l.refinements
+
 abbrev pub headings : Level → List Heading
-headings l = flat_map (λ u. unit_headings u.0 u.1) (numbered 0 l.units) ++ refinement_headings None l.refinements
+headings l = headings_in (level_types l) l

@@ -1,11 +1,12 @@
 -- What phrases declare, in text order.
-use Rattle.std.specs.Prelude.{List, [], ◌∷◌, flat_map, Option, Some, None, option_map}
+use Rattle.std.specs.Prelude.{List, [], ◌∷◌, flat_map}
 use Rattle.elan_tree.specs.declared.written_type.Name.{Name}
 use Rattle.elan_tree.specs.declared.written_type.Constant.{Constant as Written}
 use Rattle.elan_tree.specs.declared.written_type.Constant.TheVariants as written
 use Rattle.elan_tree.specs.declared.phrase.Unit.{Unit as Statement}
 use Rattle.elan_walk.specs.declared.node.Held.TheVariants as held
-use Rattle.elan_unbuilt.specs.Types.{written_type}
+use Rattle.type_names.specs.Types.{type_in}
+use Rattle.elan_scope.specs.declared.type_name.TypeName.{TypeName}
 use Rattle.elan_walk.specs.Nodes as nodes
 use Rattle.elan_walk.specs.Nodes.{Node, item, let_name}
 use Rattle.elan_scope.specs.declared.denoter.Denoter.{Denoter}
@@ -14,9 +15,8 @@ use Rattle.elan_scope.specs.declared.scope.Denotes.{Denotes}
 use Rattle.elan_scope.specs.declared.scope.Denotes.TheVariants.{Variable, Constant, Denoter as Given}
 use Rattle.elan_scope.specs.declared.scope.Entry.{Entry}
 
-abbrev pub entry : Name → Option Denotes → List Entry
-entry n None = []
-entry n (Some d) = record { at = n.at; name = n.text; denotes = d } ∷ []
+abbrev pub entry : Name → Denotes → List Entry
+entry n d = record { at = n.at; name = n.text; denotes = d } ∷ []
 
 -- what stands behind a name of a LET
 abbrev pub denoter : Written → Denoter
@@ -24,14 +24,16 @@ denoter (written.Number at n) = denoters.Number n
 denoter (written.Text at x) = denoters.Text x
 denoter (written.Truth at b) = denoters.Truth b
 
-abbrev pub declared : Node → List Entry
-declared (item held.Variable of n) = entry n (option_map Variable (written_type of))
-declared (item held.Constant of n) = entry n (option_map Constant (written_type of))
-declared (let_name n c) = entry n (Some (Given (denoter c)))
-declared _ = []
+-- where these names of types can be seen
+module _ (ts : List TypeName) where
+  abbrev pub declared : Node → List Entry
+  declared (item held.Variable of n) = entry n (Variable (type_in ts of))
+  declared (item held.Constant of n) = entry n (Constant (type_in ts of))
+  declared (let_name n c) = entry n (Given (denoter c))
+  declared _ = []
 
-abbrev pub in_unit : Statement → List Entry
-in_unit u = flat_map declared (nodes.in_unit u)
+  abbrev pub in_unit : Statement → List Entry
+  in_unit u = flat_map declared (nodes.in_unit u)
 
-abbrev pub in_units : List Statement → List Entry
-in_units us = flat_map declared (nodes.in_units us)
+  abbrev pub in_units : List Statement → List Entry
+  in_units us = flat_map declared (nodes.in_units us)

@@ -1,20 +1,24 @@
 //! The names that a level and its bodies declare.
 
-ghost use Rattle.std.specs.Prelude.{◌≡◌, ◌++◌, flat_map, map, option_map, IfOk, OnOk};
+ghost use Rattle.std.specs.Prelude.{◌≡◌, ◌++◌, flat_map, map, IfOk, OnOk};
 ghost use Rattle.elan_types.specs.Types.{kind_in};
 ghost use Rattle.elan_scope.specs.declared.scope.Denotes.TheVariants as denote;
 ghost use Rattle.elan_scope.specs.Scope as scopes;
 ghost use Rattle.elan_levels.specs.Bodies as spec;
-ghost use Rattle.elan_levels.specs.walks.Seen.{Adds};
+ghost use Rattle.elan_levels.specs.walks.Seen.{visible, Adds};
+ghost use Rattle.type_names.specs.Types as types;
 
 use crate::declare::Names;
 use elan_scope::directory::Directory;
-use elan_scope::scope::{Denotes, Entry};
+use elan_scope::scope::{Denotes, Entry, Within};
+use elan_scope::type_name::TypeName;
 use elan_tree::{Access as Given, Body, Formal, Level, LevelUnit, Name, Refinement};
 use elan_types::{Access, Parameter};
-use elan_unbuilt::written_type;
 use eu_base::{Kind, List, NoMemory};
 use std::alloc::Global;
+use type_names::definition::{body_definitions, level_definitions};
+use type_names::resolve::names_of;
+use type_names::written::type_in;
 
 fn access(given: Given) -> Access
     ensures { result ≡ spec.access_of given }
@@ -25,99 +29,122 @@ fn access(given: Given) -> Access
     }
 }
 
-fn parameter(formal: &Formal) -> Option<Parameter>
-    ensures { result ≡ spec.parameter formal.now }
+fn parameter(types: &[TypeName], formal: &Formal) -> Parameter
+    ensures { result ≡ spec.parameter types.now formal.now }
 {
-    match written_type(&formal.of) {
-        None => None,
-        Some(of) => Some(Parameter {
-            of,
-            access: access(formal.access),
-        }),
+    Parameter {
+        of: type_in(&[], types, &formal.of),
+        access: access(formal.access),
     }
 }
 
 // Adds the parameter for each name.
-fn for_each(
-    out: &mut List<Parameter>,
-    names: &[Name],
-    parameter: Option<Parameter>,
-) -> Result<(), NoMemory>
-    ensures { OnOk result (out.new ≡ out.old ++ scopes.all_held (spec.named_as names.now (option_map denote.Parameter parameter))) }
+fn for_each(out: &mut List<Parameter>, names: &[Name], parameter: Parameter) -> Result<(), NoMemory>
+    ensures { OnOk result (out.new ≡ out.old ++ scopes.all_held (spec.named_as names.now (denote.Parameter parameter))) }
 {
     for _name in names {
-        if let Some(one) = parameter {
-            out.push(one)?;
-        }
+        out.push(parameter)?;
     }
     Ok(())
 }
 
-/// The parameters of a PROC or OP.
+/// The parameters of a PROC or OP, where these types are declared around.
 #[tactic(auto, using(crate::proofs::Held::held_append))]
-pub fn parameters(alloc: Global, formals: &[Formal]) -> Result<List<Parameter>, NoMemory>
-    ensures { IfOk result (λ list. list ≡ spec.parameters formals.now) }
+pub fn parameters(
+    alloc: Global,
+    types: &[TypeName],
+    formals: &[Formal],
+) -> Result<List<Parameter>, NoMemory>
+    ensures { IfOk result (λ list. list ≡ spec.parameters types.now formals.now) }
 {
     let mut list = List::new(alloc);
     for formal in formals {
-        for_each(&mut list, formal.names.as_slice(), parameter(formal))?;
+        for_each(&mut list, formal.names.as_slice(), parameter(types, formal))?;
     }
     Ok(list)
 }
 
-fn as_parameter(parameter: Option<Parameter>) -> Option<Denotes>
-    ensures { result ≡ option_map denote.Parameter parameter }
-{
-    match parameter {
-        None => None,
-        Some(parameter) => Some(Denotes::Parameter(parameter)),
-    }
-}
-
-fn named_as(mut out: Names, names: &[Name], parameter: Option<Parameter>) -> Names
-    ensures { Adds (spec.named_as names.now (option_map denote.Parameter parameter)) out result }
+fn named_as<'a>(mut out: Names<'a>, names: &[Name], parameter: Parameter) -> Names<'a>
+    ensures { Adds (spec.named_as names.now (denote.Parameter parameter)) out.entry result }
 {
     for name in names {
-        out = out.add(name, as_parameter(parameter));
+        out = out.add(name, Denotes::Parameter(parameter));
     }
     out
 }
 
-fn parameter_names(mut out: Names, formals: &[Formal]) -> Names
-    ensures { Adds (spec.parameter_names formals.now) out result }
+// A heading is read in the level.
+fn parameter_names<'a>(mut out: Names<'a>, formals: &[Formal]) -> Names<'a>
+    ensures { Adds (spec.parameter_names out.entry.around.now formals.now) out.entry result }
 {
     for formal in formals {
-        out = named_as(out, formal.names.as_slice(), parameter(formal));
+        let parameter = parameter(out.around, formal);
+        out = named_as(out, formal.names.as_slice(), parameter);
     }
     out
 }
 
-fn refinement_names(mut out: Names, refinements: &[Refinement]) -> Names
-    ensures { Adds (spec.refinement_names refinements.now) out result }
+fn refinement_names<'a>(mut out: Names<'a>, refinements: &[Refinement]) -> Names<'a>
+    ensures { Adds (spec.refinement_names (visible out.entry) refinements.now) out.entry result }
 {
     for refinement in refinements {
-        out = out.add(&refinement.name, Some(Denotes::Refinement));
+        out = out.add(&refinement.name, Denotes::Refinement);
         out = out.add_units(refinement.units.as_slice());
     }
     out
 }
 
-/// The names of a PROC or OP: its parameters, what its units declare, and its refinements.
-pub fn body_names(alloc: Global, formals: &[Formal], body: &Body) -> Result<Directory, NoMemory>
-    ensures { IfOk result (λ names. names ≡ spec.body_names formals.now body.now) }
+// The names of a PROC or OP that declares these types.
+fn body_names(
+    alloc: Global,
+    here: &[TypeName],
+    around: &[TypeName],
+    formals: &[Formal],
+    body: &Body,
+) -> Result<List<Entry>, NoMemory>
+    ensures { IfOk result (λ names. names ≡ spec.parameter_names around.now formals.now ++ spec.own_names (here.now ++ around.now) body.now) }
 {
-    let names = parameter_names(Names::new(alloc), formals).add_units(body.units.as_slice());
-    let names = refinement_names(names, body.refinements.as_slice());
-    Directory::of(alloc, names.met()?)
+    let names = parameter_names(Names::new(alloc, here, around), formals);
+    let names = names.add_units(body.units.as_slice());
+    refinement_names(names, body.refinements.as_slice()).met()
 }
 
-fn unit_names(out: Names, unit: &LevelUnit) -> Names
-    ensures { Adds (spec.unit_names unit.now) out result }
+/// The PROC or OP with this number, where these types are declared around: its names of types, and its other names, which are its
+/// parameters, what its units declare, and its refinements.
+pub fn body_within(
+    alloc: Global,
+    number: usize,
+    around: &[TypeName],
+    formals: &[Formal],
+    body: &Body,
+) -> Result<Within, NoMemory>
+    ensures { IfOk result (λ within. within ≡ spec.body_within around.now number formals.now body.now) }
+{
+    let definitions = body_definitions(alloc, body)?;
+    let types = names_of(alloc, around, definitions.as_slice())?;
+    let names = body_names(alloc, types.as_slice(), around, formals, body)?;
+    Ok(Within {
+        number,
+        names: Directory::of(alloc, names)?,
+        types,
+    })
+}
+
+/// The names of types that a level declares.
+pub fn level_types(alloc: Global, level: &Level) -> Result<List<TypeName>, NoMemory>
+    ensures { IfOk result (λ names. names ≡ types.level_types level.now) }
+{
+    let definitions = level_definitions(alloc, level)?;
+    names_of(alloc, &[], definitions.as_slice())
+}
+
+fn unit_names<'a>(out: Names<'a>, unit: &LevelUnit) -> Names<'a>
+    ensures { Adds (spec.unit_names (visible out.entry) unit.now) out.entry result }
 {
     match unit {
         LevelUnit::Plain(unit) => out.add_unit(unit),
         LevelUnit::Proc { name, formals, .. } => match formals.as_slice() {
-            [] => out.add(name, Some(Denotes::Procedure)),
+            [] => out.add(name, Denotes::Procedure),
             [_first, _others @ ..] => out,
         },
         LevelUnit::NewType { .. } => out,
@@ -125,8 +152,8 @@ fn unit_names(out: Names, unit: &LevelUnit) -> Names
     }
 }
 
-fn all_unit_names(mut out: Names, units: &[LevelUnit]) -> Names
-    ensures { Adds (flat_map spec.unit_names units.now) out result }
+fn all_unit_names<'a>(mut out: Names<'a>, units: &[LevelUnit]) -> Names<'a>
+    ensures { Adds (flat_map (spec.unit_names (visible out.entry)) units.now) out.entry result }
 {
     for unit in units {
         out = unit_names(out, unit);
@@ -134,20 +161,25 @@ fn all_unit_names(mut out: Names, units: &[LevelUnit]) -> Names
     out
 }
 
-/// The names of a level: what its units declare, and its refinements.
-pub fn level_names(alloc: Global, level: &Level) -> Result<Directory, NoMemory>
-    ensures { IfOk result (λ names. names ≡ spec.level_names level.now) }
+/// The names of a level that declares these types: what its units declare, and its refinements.
+pub fn level_names(alloc: Global, types: &[TypeName], level: &Level) -> Result<Directory, NoMemory>
+    ensures { IfOk result (λ names. names ≡ spec.names_in types.now level.now) }
 {
-    let names = all_unit_names(Names::new(alloc), level.units.as_slice());
+    let names = all_unit_names(Names::new(alloc, &[], types), level.units.as_slice());
     let names = refinement_names(names, level.refinements.as_slice());
     Directory::of(alloc, names.met()?)
 }
 
-/// What a body declares beside its parameters.
-pub fn own_names(alloc: Global, body: &Body) -> Result<List<Entry>, NoMemory>
-    ensures { IfOk result (λ names. names ≡ spec.own_names body.now) }
+// What a body declares beside its parameters, where these types are declared here, and others around.
+fn own_names(
+    alloc: Global,
+    here: &[TypeName],
+    around: &[TypeName],
+    body: &Body,
+) -> Result<List<Entry>, NoMemory>
+    ensures { IfOk result (λ names. names ≡ spec.own_names (here.now ++ around.now) body.now) }
 {
-    let names = Names::new(alloc).add_units(body.units.as_slice());
+    let names = Names::new(alloc, here, around).add_units(body.units.as_slice());
     refinement_names(names, body.refinements.as_slice()).met()
 }
 
@@ -173,4 +205,14 @@ pub fn held_kinds(alloc: Global, names: &[Entry]) -> Result<List<Kind>, NoMemory
         add_held(&mut kinds, &entry.denotes)?;
     }
     Ok(kinds)
+}
+
+/// The kinds of the variables and constants that a PROC or OP declares, where these types are declared around.
+pub fn own_kinds(alloc: Global, around: &[TypeName], body: &Body) -> Result<List<Kind>, NoMemory>
+    ensures { IfOk result (λ kinds. kinds ≡ scopes.variables_of (spec.own_names (types.body_types around.now body.now ++ around.now) body.now)) }
+{
+    let definitions = body_definitions(alloc, body)?;
+    let types = names_of(alloc, around, definitions.as_slice())?;
+    let names = own_names(alloc, types.as_slice(), around, body)?;
+    held_kinds(alloc, names.as_slice())
 }

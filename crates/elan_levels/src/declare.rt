@@ -1,35 +1,16 @@
 //! The declarations of a text, in text order.
 
-ghost use Rattle.std.specs.Prelude.{◌≡◌, false, Some, option_map, IfOk, OnOk};
-ghost use Rattle.elan_scope.specs.declared.scope.Denotes.TheVariants as denotes;
-ghost use Rattle.elan_unbuilt.specs.Types.{written_type};
+ghost use Rattle.std.specs.Prelude.{◌≡◌, false, IfOk, OnOk};
 ghost use Rattle.elan_levels.specs.Declarations as spec;
 
 use elan_scope::denoter::Denoter;
 use elan_scope::scope::{Denotes, Entry};
-use elan_tree::{Constant, Name, TypePhrase, Unit};
-use elan_unbuilt::written_type;
+use elan_scope::type_name::TypeName;
+use elan_tree::{Constant, Name, Unit};
 use elan_walk::{Held, Node, Visitor, visit_unit, visit_units};
 use eu_base::{Bytes, List, NoMemory};
 use std::alloc::Global;
-
-fn variables(of: &TypePhrase) -> Option<Denotes>
-    ensures { result ≡ option_map denotes.Variable (written_type of.now) }
-{
-    match written_type(of) {
-        None => None,
-        Some(of) => Some(Denotes::Variable(of)),
-    }
-}
-
-fn constants(of: &TypePhrase) -> Option<Denotes>
-    ensures { result ≡ option_map denotes.Constant (written_type of.now) }
-{
-    match written_type(of) {
-        None => None,
-        Some(of) => Some(Denotes::Constant(of)),
-    }
-}
+use type_names::written::type_in;
 
 fn denoter(alloc: Global, constant: &Constant) -> Result<Denoter, NoMemory>
     ensures { IfOk result (λ made. made ≡ spec.denoter constant.now) }
@@ -43,47 +24,53 @@ fn denoter(alloc: Global, constant: &Constant) -> Result<Denoter, NoMemory>
 
 /// Names that are declared, in text order.
 #[derive(Drop)]
-pub struct Names {
+pub struct Names<'a> {
     pub alloc: Global,
+    /// The names of types of the scope, and those around it.
+    pub here: &'a [TypeName],
+    pub around: &'a [TypeName],
     pub entries: List<Entry>,
     /// Whether memory was wanted. What was added is worth nothing then.
     pub wanted: bool,
 }
 
-impl Names {
-    ghost use Rattle.std.specs.Prelude.{[]};
+impl<'a> Names<'a> {
+    ghost use Rattle.std.specs.Prelude.{[], ◌++◌};
     ghost use Rattle.elan_walk.specs.Nodes.{let_name};
-    ghost use Rattle.elan_levels.specs.walks.Seen.{with_entries, Adds};
+    ghost use Rattle.elan_levels.specs.walks.Seen.{with_entries, visible, Adds};
 
-    pub fn new(alloc: Global) -> Names
-        ensures { result.entries ≡ [] }
+    pub fn new(alloc: Global, here: &'a [TypeName], around: &'a [TypeName]) -> Names<'a>
+        ensures entries { result.entries ≡ [] }
+        ensures here { result.here.now ≡ here.now }
+        ensures around { result.around.now ≡ around.now }
     {
         Names {
             alloc,
+            here,
+            around,
             entries: List::new(alloc),
             wanted: false,
         }
     }
 
     /// Adds the declaration of a name.
-    pub fn add(mut self, name: &Name, denotes: Option<Denotes>) -> Names
-        ensures { result.wanted ≡ false → (self.wanted ≡ false) × (result ≡ with_entries self (spec.entry name.now denotes)) }
+    pub fn add(mut self, name: &Name, denotes: Denotes) -> Names<'a>
+        ensures { result.wanted ≡ false → (self.entry.wanted ≡ false) × (result ≡ with_entries self.entry (spec.entry name.now denotes)) }
     {
-        if let Some(denotes) = denotes {
-            match self.push(name, denotes) {
-                Ok(()) => (),
-                Err(NoMemory) => self.wanted = true,
-            }
+        match self.push(name, denotes) {
+            Ok(()) => (),
+            Err(NoMemory) => self.wanted = true,
         }
         self
     }
 
     // Adds a name that LET gives to a constant.
-    fn add_constant(mut self, name: &Name, constant: &Constant) -> Names
-        ensures { result.wanted ≡ false → (self.wanted ≡ false) × (result ≡ with_entries self (spec.declared (let_name name.now constant.now))) }
+    fn add_constant(mut self, name: &Name, constant: &Constant) -> Names<'a>
+        ensures { result.wanted ≡ false → (self.entry.wanted ≡ false)
+            × (result ≡ with_entries self.entry (spec.declared (visible self.entry) (let_name name.now constant.now))) }
     {
         match denoter(self.alloc, constant) {
-            Ok(denoter) => self.add(name, Some(Denotes::Denoter(denoter))),
+            Ok(denoter) => self.add(name, Denotes::Denoter(denoter)),
             Err(NoMemory) => {
                 self.wanted = true;
                 self
@@ -92,7 +79,7 @@ impl Names {
     }
 
     fn push(&mut self, name: &Name, denotes: Denotes) -> Result<(), NoMemory>
-        ensures { OnOk result (self.new ≡ with_entries self.old (spec.entry name.now (Some denotes))) }
+        ensures { OnOk result (self.new ≡ with_entries self.old (spec.entry name.now denotes)) }
     {
         self.entries.push(Entry {
             at: name.at,
@@ -103,23 +90,23 @@ impl Names {
 
     /// Adds what a unit declares.
     #[tactic(auto, using(crate::proofs::Seen::declarations))]
-    pub fn add_unit(self, unit: &Unit) -> Names
-        ensures { Adds (spec.in_unit unit.now) self result }
+    pub fn add_unit(self, unit: &Unit) -> Names<'a>
+        ensures { Adds (spec.in_unit (visible self.entry) unit.now) self.entry result }
     {
         visit_unit(self, unit)
     }
 
     /// Adds what units declare.
     #[tactic(auto, using(crate::proofs::Seen::declarations))]
-    pub fn add_units(self, units: &[Unit]) -> Names
-        ensures { Adds (spec.in_units units.now) self result }
+    pub fn add_units(self, units: &[Unit]) -> Names<'a>
+        ensures { Adds (spec.in_units (visible self.entry) units.now) self.entry result }
     {
         visit_units(self, units)
     }
 
     /// What was added, where memory sufficed for it.
     pub fn met(self) -> Result<List<Entry>, NoMemory>
-        ensures { IfOk result (λ entries. (self.wanted ≡ false) × (entries ≡ self.entries)) }
+        ensures { IfOk result (λ entries. (self.entry.wanted ≡ false) × (entries ≡ self.entry.entries)) }
     {
         let Names {
             entries,
@@ -130,17 +117,23 @@ impl Names {
     }
 }
 
-impl Visitor for Names {
-    ghost use Rattle.elan_levels.specs.walks.Seen.{with_entries};
+impl<'a> Visitor for Names<'a> {
+    ghost use Rattle.elan_levels.specs.walks.Seen.{with_entries, visible};
 
-    ghost after = { λ s n. with_entries s (spec.declared n) };
+    ghost after = { λ s n. with_entries s (spec.declared (visible s) n) };
 
     ghost wanted = { λ s. s.wanted };
 
-    fn visit(self, node: Node<'_>) -> Names {
+    fn visit(self, node: Node<'_>) -> Names<'a> {
         match node {
-            Node::Item(Held::Variable, of, name) => self.add(name, variables(of)),
-            Node::Item(Held::Constant, of, name) => self.add(name, constants(of)),
+            Node::Item(Held::Variable, of, name) => {
+                let of = type_in(self.here, self.around, of);
+                self.add(name, Denotes::Variable(of))
+            }
+            Node::Item(Held::Constant, of, name) => {
+                let of = type_in(self.here, self.around, of);
+                self.add(name, Denotes::Constant(of))
+            }
             Node::Let(name, constant) => self.add_constant(name, constant),
             _ => self,
         }

@@ -7,19 +7,21 @@ ghost use Rattle.elan_levels.specs.walks.Headings as walks;
 use crate::bodies::parameters;
 use elan_scope::heading::{Heading, Sort, What};
 use elan_scope::headings::Headings;
+use elan_scope::type_name::TypeName;
 use elan_tree::{Formal, Level, LevelUnit, Refinement, TypePhrase};
 use elan_types::ElanType;
-use elan_unbuilt::{operator_text, written_type};
+use elan_unbuilt::operator_text;
 use eu_base::{Bytes, List, NoMemory};
 use std::alloc::Global;
+use type_names::written::type_in;
 
-/// The type that a PROC or OP delivers.
-pub fn result_type(of: &Option<TypePhrase>) -> Option<ElanType>
-    ensures { result ≡ spec.result of.now }
+/// The type that a PROC or OP delivers, where these types are declared around.
+pub fn result_type(types: &[TypeName], of: &Option<TypePhrase>) -> Option<ElanType>
+    ensures { result ≡ spec.result types.now of.now }
 {
     match of {
         None => None,
-        Some(of) => written_type(of),
+        Some(of) => Some(type_in(&[], types, of)),
     }
 }
 
@@ -44,20 +46,21 @@ fn refinement_headings(
 
 fn routine_heading(
     alloc: Global,
+    types: &[TypeName],
     sort: Sort,
     at: u32,
     name: &[u8],
     formals: &[Formal],
     of: &Option<TypePhrase>,
 ) -> Result<Heading, NoMemory>
-    ensures { IfOk result (λ heading. heading ≡ spec.routine_heading sort at name.now formals.now of.now) }
+    ensures { IfOk result (λ heading. heading ≡ spec.routine_heading types.now sort at name.now formals.now of.now) }
 {
     let name = Bytes::from(alloc, name)?;
-    let parameters = parameters(alloc, formals)?;
+    let parameters = parameters(alloc, types, formals)?;
     Ok(Heading {
         at,
         name,
-        what: What::Routine(sort, parameters, result_type(of)),
+        what: What::Routine(sort, parameters, result_type(types, of)),
     })
 }
 
@@ -96,11 +99,12 @@ pub fn next_number(number: usize) -> Result<usize, NoMemory>
 // Adds the headings of a unit whose first body has this number. An arm a form of unit, so it is as long as their fields are.
 fn unit_headings(
     alloc: Global,
+    types: &[TypeName],
     out: &mut List<Heading>,
     number: usize,
     unit: &LevelUnit,
 ) -> Result<(), NoMemory>
-    ensures { OnOk result (out.new ≡ out.old ++ spec.unit_headings number unit.now) }
+    ensures { OnOk result (out.new ≡ out.old ++ spec.unit_headings types.now number unit.now) }
 {
     match unit {
         LevelUnit::Proc {
@@ -113,6 +117,7 @@ fn unit_headings(
             let text = name.text.as_slice();
             let heading = routine_heading(
                 alloc,
+                types,
                 Sort::Procedure,
                 name.at,
                 text,
@@ -132,6 +137,7 @@ fn unit_headings(
             let text = operator_text(&name.operator);
             let heading = routine_heading(
                 alloc,
+                types,
                 Sort::Operator,
                 name.at,
                 text,
@@ -146,23 +152,29 @@ fn unit_headings(
     }
 }
 
-fn all_headings(alloc: Global, out: &mut List<Heading>, units: &[LevelUnit]) -> Result<(), NoMemory>
-    ensures { OnOk result (out.new ≡ out.old ++ walks.all_headings 0 units.now) }
+fn all_headings(
+    alloc: Global,
+    types: &[TypeName],
+    out: &mut List<Heading>,
+    units: &[LevelUnit],
+) -> Result<(), NoMemory>
+    ensures { OnOk result (out.new ≡ out.old ++ walks.all_headings types.now 0 units.now) }
 {
     let mut number = 0;
     for unit in units {
-        unit_headings(alloc, out, number, unit)?;
+        unit_headings(alloc, types, out, number, unit)?;
         number = number_behind(number, unit)?;
     }
     Ok(())
 }
 
-/// The headings of a level: each PROC or OP, and behind it its refinements; behind them all the refinements of the level.
-pub fn headings(alloc: Global, level: &Level) -> Result<Headings, NoMemory>
-    ensures { IfOk result (λ headings. headings ≡ spec.headings level.now) }
+/// The headings of a level that declares these types: each PROC or OP, and behind it its refinements; behind them all the
+/// refinements of the level.
+pub fn headings(alloc: Global, types: &[TypeName], level: &Level) -> Result<Headings, NoMemory>
+    ensures { IfOk result (λ headings. headings ≡ spec.headings_in types.now level.now) }
 {
     let mut headings = List::new(alloc);
-    all_headings(alloc, &mut headings, level.units.as_slice())?;
+    all_headings(alloc, types, &mut headings, level.units.as_slice())?;
     refinement_headings(alloc, &mut headings, None, level.refinements.as_slice())?;
     Headings::of(alloc, headings)
 }

@@ -79,6 +79,67 @@ fn chosen_own<'a>(
     None
 }
 
+// What is called, if what is written for one of its parameters has no meaning, so that it may take these operands.
+fn if_may_take<'a>(
+    callable: Option<Callable<'a>>,
+    sort: Sort,
+    name: &[u8],
+    operands: &[Meant],
+) -> Option<Callable<'a>>
+    ensures { option_map seen.callable result ≡ scopes.first (spec.may_take sort name.now operands.now) (seen.listed callable.entry) }
+{
+    let callable = callable?;
+    if callable.is_called(sort, name)
+        && (callable.parameters.len() == operands.len() && callable.has_open())
+    {
+        Some(callable)
+    } else {
+        None
+    }
+}
+
+// The first PROC or OP that may take these operands.
+fn open_own<'a>(
+    headings: &'a Headings,
+    sort: Sort,
+    name: &[u8],
+    operands: &[Meant],
+) -> Option<Callable<'a>>
+    ensures { option_map seen.callable result ≡ scopes.first (spec.may_take sort name.now operands.now) (scopes.own_callables 0 headings.now) }
+{
+    for number in headings.named(name) {
+        let callable = if_may_take(headings.callable_at(*number), sort, name, operands);
+        if callable.is_some() {
+            return callable;
+        }
+    }
+    None
+}
+
+fn nearest<'a>(
+    headings: &'a Headings,
+    sort: Sort,
+    name: &[u8],
+    operands: &[Meant],
+) -> Option<Callable<'a>>
+    ensures { option_map seen.callable result ≡ spec.nearest (scopes.own_callables 0 headings.now) sort name.now operands.now }
+{
+    match chosen_own(headings, sort, name, operands) {
+        Some(callable) => Some(callable),
+        None => open_own(headings, sort, name, operands),
+    }
+}
+
+/// Whether it hangs on a type that has no meaning what takes these operands, or what that delivers.
+pub fn is_unclear(scope: &Scope, sort: Sort, name: &[u8], operands: &[Meant]) -> bool
+    ensures { result ≡ spec.is_unclear scope.now sort name.now operands.now }
+{
+    match nearest(&scope.headings, sort, name, operands) {
+        None => false,
+        Some(callable) => callable.is_open(),
+    }
+}
+
 fn chosen_predefined(sort: Sort, name: &[u8], operands: &[Meant]) -> Option<Callable<'static>>
     ensures { option_map seen.callable result ≡ scopes.first (spec.takes sort name.now operands.now) (map scopes.predefined_callable predefined) }
 {

@@ -7,9 +7,8 @@ use Rattle.elan_scope.specs.Answer.{Is, Fails}
 use Rattle.elan_scope.specs.Phrase.{Plain, plain, Phrase, phrase, Parts, all_of, row, pair}
 use Rattle.elan_scope.specs.Ruled.{Ruled, gives, breaks, hangs, ◌>>=◌, before, beside}
 use Rattle.elan_meant.specs.declared.meant.Meant.{Meant}
-use Rattle.elan_meant.specs.Verdict.{Tells}
 use Rattle.elan_meant.specs.walks.Arity.{triple}
-use Rattle.elan_rules.specs.Rules.{rule, ruled}
+use Rattle.elan_rules.specs.Rules.{ruled}
 use Rattle.elan_rules.specs.Meaning.{judged, judged_all}
 
 pub bind_fails : {A B : Type 0} (d : Trouble) (r : Ruled A) (f : A → Ruled B) → Fails d r → Fails d (r >>= f)
@@ -105,7 +104,7 @@ module _ (k : Known) (at : ℕ) (f : Plain) (ps : Parts) {A : Type 0} (g : A →
   whole_fails d h =
       bind_fails d (judged_all k ps) (ruled k at (plain f)) (subst (λ (z : Ruled (List Meant)). Fails d z) (sym e) (bind_fails d r (λ b. gives (g b)) h))
 
-  whole_is : (out : Result Meant Trouble) (x : A) → r ≡ gives x → Tells out (rule at f (g x)) → Is out (judged k (phrase at (plain f) ps))
+  whole_is : (out : Result Meant Trouble) (x : A) → r ≡ gives x → Is out (ruled k at (plain f) (g x)) → Is out (judged k (phrase at (plain f) ps))
   whole_is out x i h =
       subst (λ (z : Ruled (List Meant)). Is out (z >>= ruled k at (plain f))) (sym (e ∙ ap (listed g) i)) h
 
@@ -113,7 +112,7 @@ module _ (k : Known) (at : ℕ) (f : Plain) (p q : Phrase) where
   pub pair_fails : (d : Trouble) → Fails d (beside (judged k p) (judged k q)) → Fails d (judged k (pair at f p q))
   pair_fails = whole_fails k at f (all_of (p ∷ q ∷ [])) two_in (beside (judged k p) (judged k q)) (two_row (judged k p) (judged k q))
 
-  pub pair_is : (out : Result Meant Trouble) (m n : Meant) → beside (judged k p) (judged k q) ≡ gives (m, n) → Tells out (rule at f (m ∷ n ∷ []))
+  pub pair_is : (out : Result Meant Trouble) (m n : Meant) → beside (judged k p) (judged k q) ≡ gives (m, n) → Is out (ruled k at (plain f) (m ∷ n ∷ []))
       → Is out (judged k (pair at f p q))
   pair_is out m n = whole_is k at f (all_of (p ∷ q ∷ [])) two_in (beside (judged k p) (judged k q)) (two_row (judged k p) (judged k q)) out (m, n)
 
@@ -124,7 +123,8 @@ module _ (k : Known) (at : ℕ) (f : Plain) (p q o : Phrase) where
   pub three_fails : (d : Trouble) → Fails d Beside → Fails d (judged k (row at f (p ∷ q ∷ o ∷ [])))
   three_fails = whole_fails k at f (all_of (p ∷ q ∷ o ∷ [])) three_in Beside (three_row (judged k p) (judged k q) (judged k o))
 
-  pub three_is : (out : Result Meant Trouble) (x : Three) → Beside ≡ gives x → Tells out (rule at f (three_in x)) → Is out (judged k (row at f (p ∷ q ∷ o ∷ [])))
+  pub three_is : (out : Result Meant Trouble) (x : Three) → Beside ≡ gives x → Is out (ruled k at (plain f) (three_in x))
+      → Is out (judged k (row at f (p ∷ q ∷ o ∷ [])))
   three_is = whole_is k at f (all_of (p ∷ q ∷ o ∷ [])) three_in Beside (three_row (judged k p) (judged k q) (judged k o))
 
 module _ (k : Known) (at : ℕ) (f : Plain) (p q o u v w : Phrase) where
@@ -137,5 +137,6 @@ module _ (k : Known) (at : ℕ) (f : Plain) (p q o u v w : Phrase) where
   pub six_fails : (d : Trouble) → Fails d SixBeside → Fails d (judged k (row at f six))
   six_fails = whole_fails k at f (all_of six) six_in SixBeside (six_row (judged k p) (judged k q) (judged k o) (judged k u) (judged k v) (judged k w))
 
-  pub six_is : (out : Result Meant Trouble) (x : Three × Three) → SixBeside ≡ gives x → Tells out (rule at f (six_in x)) → Is out (judged k (row at f six))
+  pub six_is : (out : Result Meant Trouble) (x : Three × Three) → SixBeside ≡ gives x → Is out (ruled k at (plain f) (six_in x))
+      → Is out (judged k (row at f six))
   six_is = whole_is k at f (all_of six) six_in SixBeside (six_row (judged k p) (judged k q) (judged k o) (judged k u) (judged k v) (judged k w))

@@ -1,8 +1,10 @@
 -- What is known of a meaning: its core has the kinds that it asks for, and the kind of its type.
 use Rattle.std.proofs.Common.{ℕ, zero, suc, drop}
-use Rattle.std.proofs.Common.{◌≡◌, Bool, true, false, ◌&&◌, if◌then◌else◌, List, [], ◌∷◌, ◌++◌, map, Option, Some, None, refl, sym, subst, ◌∙◌}
+use Rattle.std.proofs.Common.{◌≡◌, Bool, true, false, ◌&&◌, if◌then◌else◌, List, [], ◌∷◌, ◌++◌, map, Option, Some, None, refl, sym, ap, subst, ◌∙◌, eqb-true}
+use Rattle.std.specs.Prelude.{◌==◌}
 use Rattle.elan_types.specs.declared.elan_type.ElanType.{ElanType}
-use Rattle.elan_types.specs.declared.elan_type.ElanType.TheVariants.{Int, Bool as Truths, Text as Letters}
+use Rattle.elan_types.specs.declared.elan_type.ElanType.TheVariants.{Int, Bool as Truths, Text as Letters, Own, Open}
+use Rattle.elan_types.specs.declared.elan_type.OwnType.{OwnType}
 use Rattle.eu_base.specs.declared.value.Kind.{Kind}
 use Rattle.eu_base.specs.declared.value.Kind.TheVariants as kinds
 use Rattle.elan_types.specs.declared.core_phrase.PlacePhrase.{PlacePhrase}
@@ -14,30 +16,14 @@ use Rattle.elan_meant.specs.declared.meant.Meant.{Meant}
 use Rattle.elan_meant.specs.declared.meant.Meant.TheVariants.{Absent, Variable, Value, Done, Left, Labels, Bodies, Level}
 use Rattle.elan_scope.specs.Ruled as ruled
 use Rattle.elan_scope.specs.Ruled.{Ruled, hangs}
-use Rattle.elan_meant.specs.Verdict.{Verdict, gives, breaks, ◌>>=◌, told}
+use Rattle.elan_meant.specs.Verdict.{Verdict, gives, breaks, ◌>>=◌, told, unless}
 use Rattle.elan_types.specs.Typing.{Typed, same_kind, has, agree, only_if, all_true}
-use Rattle.elan_types.specs.Types.{same_type, kind_in}
+use Rattle.elan_types.specs.Types.{same_type, kind_in, type_in}
 use Rattle.elan_meant.specs.Operands.{delivers}
 use Rattle.elan_meant.specs.Parts as r
 use Rattle.elan_rules.proofs.TypeEquations.{Stand, kind, typed, lies, load_is, unit_is, has_written}
 
 -- ---- types and kinds
-
-pub same_is : (t u : ElanType) → same_type t u ≡ true → t ≡ u
-same_is Int Int e = refl
-same_is Int Truths e = absurd cc
-same_is Int Letters e = absurd cc
-same_is Truths Int e = absurd cc
-same_is Truths Truths e = refl
-same_is Truths Letters e = absurd cc
-same_is Letters Int e = absurd cc
-same_is Letters Truths e = absurd cc
-same_is Letters Letters e = refl
-
-pub same_self : (k : Kind) → same_kind k k ≡ true
-same_self kinds.Int = refl
-same_self kinds.Truth = refl
-same_self kinds.Text = refl
 
 pub kind_is : (k j : Kind) → same_kind k j ≡ true → k ≡ j
 kind_is kinds.Int kinds.Int e = refl
@@ -49,6 +35,53 @@ kind_is kinds.Truth kinds.Text e = absurd cc
 kind_is kinds.Text kinds.Int e = absurd cc
 kind_is kinds.Text kinds.Truth e = absurd cc
 kind_is kinds.Text kinds.Text e = refl
+
+both_of : (p q : Bool) → (p && q) ≡ true → (p ≡ true) × (q ≡ true)
+both_of true q e = (refl, e)
+both_of false q e = absurd cc
+
+own_is : (a b : OwnType) → (a.number == b.number && same_kind a.kind b.kind) ≡ true → Own a ≡ Own b
+own_is a b e =
+    let h = both_of (a.number == b.number) (same_kind a.kind b.kind) e in
+    ap (λ (n : ℕ). Own (record { number = n; kind = a.kind })) (eqb-true a.number b.number h.0)
+    ∙ ap (λ (k : Kind). Own (record { number = b.number; kind = k })) (kind_is a.kind b.kind h.1)
+
+pub same_is : (t u : ElanType) → same_type t u ≡ true → t ≡ u
+same_is Int Int e = refl
+same_is Int Truths e = absurd cc
+same_is Int Letters e = absurd cc
+same_is Int (Own b) e = absurd cc
+same_is Int Open e = absurd cc
+same_is Truths Int e = absurd cc
+same_is Truths Truths e = refl
+same_is Truths Letters e = absurd cc
+same_is Truths (Own b) e = absurd cc
+same_is Truths Open e = absurd cc
+same_is Letters Int e = absurd cc
+same_is Letters Truths e = absurd cc
+same_is Letters Letters e = refl
+same_is Letters (Own b) e = absurd cc
+same_is Letters Open e = absurd cc
+same_is (Own a) Int e = absurd cc
+same_is (Own a) Truths e = absurd cc
+same_is (Own a) Letters e = absurd cc
+same_is (Own a) (Own b) e = own_is a b e
+same_is (Own a) Open e = absurd cc
+same_is Open Int e = absurd cc
+same_is Open Truths e = absurd cc
+same_is Open Letters e = absurd cc
+same_is Open (Own b) e = absurd cc
+same_is Open Open e = refl
+
+pub same_self : (k : Kind) → same_kind k k ≡ true
+same_self kinds.Int = refl
+same_self kinds.Truth = refl
+same_self kinds.Text = refl
+
+pub kind_type : (k : Kind) → kind_in (type_in k) ≡ k
+kind_type kinds.Int = refl
+kind_type kinds.Truth = refl
+kind_type kinds.Text = refl
 
 pub has_self : (k : Kind) (a : Typed) → a ≡ Some k → has k a ≡ true
 has_self k a e = subst (λ (b : Typed). has k b ≡ true) (sym e) (same_self k)
@@ -86,6 +119,10 @@ abbrev pub MayGive : {A : Type 0} → (A → Type 0) → Ruled A → Type 0
 MayGive P (ruled.gives x) = P x
 MayGive P (ruled.breaks f) = Unit {0}
 MayGive P hangs = Unit {0}
+
+pub on_unless : {A : Type 0} (P : A → Type 0) (b : Bool) (r : Ruled A) → MayGive P r → MayGive P (unless b r)
+on_unless P true r g = tt
+on_unless P false r g = g
 
 pub on_told : {A : Type 0} (P : A → Type 0) (v : Verdict A) → Gives P v → MayGive P (told v)
 on_told P (gives x) h = h

@@ -1,5 +1,5 @@
 -- IF and SELECT have the kinds that they ask for.
-use Rattle.std.proofs.Common.{◌≡◌, ℕ, ℤ, Bool, true, if◌then◌else◌, List, [], ◌∷◌, map, Option, Some, None, refl, subst, ◌∙◌}
+use Rattle.std.proofs.Common.{◌≡◌, ℕ, ℤ, Bool, true, false, if◌then◌else◌, List, [], ◌∷◌, map, Option, Some, None, refl, sym, subst, ◌∙◌}
 use Rattle.elan_types.specs.declared.elan_type.ElanType.{ElanType}
 use Rattle.elan_types.specs.declared.elan_type.ElanType.TheVariants as types
 use Rattle.eu_base.specs.declared.value.Kind.{Kind}
@@ -73,15 +73,11 @@ module _ (here : Stand) where
   AllowsSome t (Some d) = Allows t d
 
   join_of : (t u v : ElanType) → AllowsSome t (if same_type u v then Some (Of u) else None) → (u ≡ t) × (v ≡ t)
-  join_of t types.Int types.Int a = (a, a)
-  join_of t types.Int types.Bool a = absurd a
-  join_of t types.Int types.Text a = absurd a
-  join_of t types.Bool types.Int a = absurd a
-  join_of t types.Bool types.Bool a = (a, a)
-  join_of t types.Bool types.Text a = absurd a
-  join_of t types.Text types.Int a = absurd a
-  join_of t types.Text types.Bool a = absurd a
-  join_of t types.Text types.Text a = (a, a)
+  join_of t u v a = by_test (same_type u v) refl a
+    where
+      by_test : (b : Bool) → same_type u v ≡ b → AllowsSome t (if b then Some (Of u) else None) → (u ≡ t) × (v ≡ t)
+      by_test true e k = (k, sym (same_is u v e) ∙ k)
+      by_test false e k = absurd k
 
   -- what is joined allows a type only where both do
   join_allows : (t : ElanType) (d e : Delivery) → AllowsSome t (r.joined d e) → Allows t d × Allows t e

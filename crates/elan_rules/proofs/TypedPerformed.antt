@@ -39,7 +39,7 @@ use Rattle.elan_scope.specs.declared.predefined.Predefined.TheVariants.{Operatio
 use Rattle.elan_scope.specs.Predefined.{Row, parameters, result}
 use Rattle.elan_meant.specs.Operands.{delivers, fit}
 use Rattle.elan_rules.proofs.Typed as ty
-use Rattle.elan_rules.proofs.Typed.{kind_is, same_self, has_self, agree_self, only_if_holds, both, and_true, Gives, on_if, on_bind}
+use Rattle.elan_rules.proofs.Typed.{kind_is, kind_type, same_self, has_self, agree_self, only_if_holds, both, and_true, Gives, on_if, on_bind}
 use Rattle.elan_meant.specs.Parts as p
 use Rattle.value_rules.specs.Calls as r
 use Rattle.elan_rules.proofs.TypeEquations.{Stand, kind, lies, actual_kind, apply_is, modify_is, ask_is, error_stop_is, call_is, action_call_is}
@@ -68,11 +68,6 @@ pub record BodyFits (o : Option Body) (h : Heading) (d : Delivery) : Type 0 wher
   pub delivers : Delivering d body
 
 -- ---- what is predefined, as a core knows it
-
-kind_type : (k : Kind) → kind_in (type_in k) ≡ k
-kind_type kinds.Int = refl
-kind_type kinds.Truth = refl
-kind_type kinds.Text = refl
 
 all_formals : (ks js : List Kind) → map formal_of (values_of ks ++ map (λ k. held_var (type_in k)) js) ≡ map (formal Const) ks ++ map (formal Var) js
 all_formals [] [] = refl

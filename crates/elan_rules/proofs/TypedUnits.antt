@@ -1,9 +1,16 @@
 -- Values, stores, lists of units and bodies have the kinds that they ask for.
-use Rattle.std.proofs.Common.{◌≡◌, ℤ, ℕ, Bool, true, false, if◌then◌else◌, nat_le, List, [], ◌∷◌, length, Option, Some, None, refl, ◌∙◌}
+use Rattle.std.proofs.Common.{◌≡◌, ℤ, ℕ, Bool, true, false, if◌then◌else◌, nat_le, List, [], ◌∷◌, length, Option, Some, None, refl, sym, subst, ◌∙◌}
+use Rattle.std.specs.Prelude.{slice_get}
+use Rattle.std.specs.Option.{option_map_or}
 use Rattle.eu_base.specs.declared.value.TheConstants.{TEXT_BYTES}
 use Rattle.elan_types.specs.declared.elan_type.ElanType.{ElanType}
 use Rattle.elan_types.specs.declared.elan_type.ElanType.TheVariants as types
-use Rattle.elan_types.specs.Types.{kind_in}
+use Rattle.elan_types.specs.declared.elan_type.OwnType.{OwnType}
+use Rattle.elan_types.specs.Types.{kind_in, is_own}
+use Rattle.elan_scope.specs.declared.scope.Scope.{Scope}
+use Rattle.elan_scope.specs.declared.type_name.TypeName.{TypeName}
+use Rattle.elan_scope.specs.Types.{with_kind, concrete}
+use Rattle.value_rules.specs.Values as v
 use Rattle.eu_base.specs.declared.value.Kind.{Kind}
 use Rattle.eu_base.specs.declared.value.Kind.TheVariants.{Int, Truth as Truths, Text}
 use Rattle.elan_types.specs.declared.core_phrase.PlacePhrase.{PlacePhrase}
@@ -19,7 +26,7 @@ use Rattle.elan_scope.specs.declared.denoter.Denoter.{Denoter}
 use Rattle.elan_scope.specs.declared.denoter.Denoter.TheVariants as denoters
 use Rattle.elan_meant.specs.Operands.{delivers}
 use Rattle.elan_rules.proofs.Typed as ty
-use Rattle.elan_rules.proofs.Typed.{same_is, same_self, has_self, agree_self, only_if_holds, both, and_true, Gives, on_if, on_bind}
+use Rattle.elan_rules.proofs.Typed.{same_is, kind_type, same_self, has_self, agree_self, only_if_holds, both, and_true, Gives, on_if, on_bind}
 use Rattle.elan_meant.specs.Parts as p
 use Rattle.unit_rules.specs.Units as r
 use Rattle.value_rules.specs.walks.Steps as walk
@@ -84,6 +91,37 @@ module _ (here : Stand) where
       on_if Good (walk.are_truths l m) _ _
       (λ e. let b = truths_typed l m g h e in if_value_typed _ Truths _ _ b.0 (truth_is here true) b.1) (λ e. tt)
 
+  -- ---- CONCR
+
+  concrete_kind : (ts : List TypeName) (t : OwnType) → kind_in (concrete ts t) ≡ t.kind
+  concrete_kind ts t = by_type (option_map_or (λ (u : TypeName). u.concrete) (slice_get ts t.number) types.Open)
+    where
+      by_type : (u : ElanType) → kind_in (with_kind t.kind u) ≡ t.kind
+      by_type (types.Own o) = refl
+      by_type types.Int = kind_type t.kind
+      by_type types.Bool = kind_type t.kind
+      by_type types.Text = kind_type t.kind
+      by_type types.Open = kind_type t.kind
+
+  concr_as_good : (at : ℕ) (ts : List TypeName) (t : ElanType) (go : ElanType → Meant) → ((u : ElanType) → kind_in u ≡ kind_in t → Good (go u))
+      → Gives Good (v.concr_as ts at t go)
+  concr_as_good at ts (types.Own o) go h = h (concrete ts o) (concrete_kind ts o)
+  concr_as_good at ts types.Int go h = tt
+  concr_as_good at ts types.Bool go h = tt
+  concr_as_good at ts types.Text go h = tt
+  concr_as_good at ts types.Open go h = tt
+
+  pub concr_good : (at : ℕ) (s : Scope) (m : Meant) → Good m → Gives Good (v.concr at s m)
+  concr_good at s Absent g = tt
+  concr_good at s (Variable q t x) g =
+      concr_as_good at s.types t (λ u. Variable at u x) (λ u e. subst (λ (j : Kind). Lies j x) (sym e) g)
+  concr_good at s (Value q t x) g = concr_as_good at s.types t (λ u. Value at u x) (λ u e. subst (λ (j : Kind). Has j x) (sym e) g)
+  concr_good at s (Done as') g = tt
+  concr_good at s (Left as') g = tt
+  concr_good at s (Labels ns) g = tt
+  concr_good at s (Bodies bs) g = tt
+  concr_good at s (Level us bs) g = tt
+
   -- ---- stores
 
   abbrev Agreed : ℕ → Meant → Meant → ElanType → Type 0
@@ -110,7 +148,8 @@ module _ (here : Stand) where
 
   pub assigned_good : (at : ℕ) (l m : Meant) → Good l → Good m → Gives Good (r.assigned at l m)
   assigned_good at l m g h =
-      on_bind IsTyped Good (r.stored at l m) _ (stored_good at l m g h) (λ a k. ty.unit_typed here (a ∷ []) (ty.single_typed here a k))
+      on_if Good (option_map_or is_own (p.type_in l) false) _ _ (λ e. tt) (λ e.
+      on_bind IsTyped Good (r.stored at l m) _ (stored_good at l m g h) (λ a k. ty.unit_typed here (a ∷ []) (ty.single_typed here a k)))
 
   pub initial_good : (at : ℕ) (l m : Meant) → Good l → Good m → Gives Good (r.initial at l m)
   initial_good at l m g h = on_bind IsTyped Good (r.stored at l m) _ (stored_good at l m g h) (λ a k. ty.single_typed here a k)

@@ -1,19 +1,20 @@
 -- The rules of meaning, one for each form of phrase: what it means at this place where its parts mean these, or which rule it breaks.
-use Rattle.std.specs.Prelude.{ℕ, List, [], ◌∷◌, drop, flat_map, Option, Some, None}
+use Rattle.std.specs.Prelude.{ℕ, Bool, false, List, [], ◌∷◌, drop, flat_map, Option, Some, None}
 use Rattle.elan_types.specs.declared.elan_type.ElanType.TheVariants.{Bool as Truths}
 use Rattle.elan_types.specs.declared.core_phrase.ValuePhrase.TheVariants as value
 use Rattle.elan_types.specs.declared.why.Why.TheVariants.{Unknown}
-pub use Rattle.value_rules.specs.Values.{number, text, denoter, bracketed, cand, cor}
+pub use Rattle.value_rules.specs.Values.{number, text, denoter, bracketed, concr, cand, cor}
 use Rattle.elan_meant.specs.declared.meant.Meant.{Meant}
 use Rattle.elan_meant.specs.declared.meant.Meant.TheVariants.{Absent, Done, Value, Labels, Bodies, Level}
-use Rattle.elan_scope.specs.Scope.{Callable, find, find_own, is_known, left, first_heading, is_alike, types_of}
-use Rattle.elan_meant.specs.Verdict.{Verdict, gives, breaks, ◌>>=◌, told}
-use Rattle.elan_meant.specs.Operands.{chosen, becomes}
+use Rattle.elan_scope.specs.Scope.{Callable, find, find_own, find_own_type, is_known, left, first_heading, is_alike, types_of}
+use Rattle.elan_meant.specs.Verdict.{Verdict, gives, breaks, ◌>>=◌, told, unless}
+use Rattle.elan_meant.specs.Operands.{chosen, is_unclear, becomes}
 use Rattle.elan_scope.specs.declared.known.Known.{Known}
 use Rattle.elan_meant.specs.Parts.{nth, unit_of, actions_of}
 use Rattle.elan_scope.specs.declared.scope.Scope.{Scope}
 use Rattle.elan_scope.specs.declared.heading.Sort.TheVariants.{Procedure, Operator}
-use Rattle.value_rules.specs.Calls.{named, applied, called, declared, headed, leaving}
+use Rattle.value_rules.specs.Calls.{named, applied, called, declared, heading, leaving}
+use Rattle.value_rules.specs.Calls.{type_declared, leaves_open, is_open_name, declares_open, is_open_type, heading_open}
 use Rattle.unit_rules.specs.Units.{assigned, initial, in_order, alone, without_value, must_deliver, body_with, content_as, content_of, bodies_in}
 use Rattle.choice_rules.specs.Choices.{choice, label_is, label_named, labels_in, selected}
 use Rattle.unit_rules.specs.Loops.{counted, loop}
@@ -42,6 +43,7 @@ rule at (form.truth b) ms = gives (Value at Truths (value.Truth b))
 rule at (form.text x) ms = text at x
 rule at (form.applied s sort x) ms = applied at s sort x ms
 rule at form.bracket ms = gives (bracketed at (nth ms 0))
+rule at (form.concr s) ms = concr at s (nth ms 0)
 rule at form.cand ms = cand at (nth ms 0) (nth ms 1)
 rule at form.cor ms = cor at (nth ms 0) (nth ms 1)
 rule at form.choice ms = choice at ms
@@ -53,6 +55,7 @@ rule at (form.declares s x) ms = declared at (find_own s x)
 rule at form.initial ms = initial at (nth ms 0) (nth ms 1)
 rule at form.declaration ms = gives (unit_of (actions_of ms))
 rule at form.definition ms = gives (Done [])
+rule at (form.type_name s x) ms = type_declared at (find_own_type s x)
 rule at form.statement ms = gives (alone (nth ms 0))
 rule at (form.assignment s) ms = assignment at s (nth ms 0) (nth ms 1)
 rule at form.loop ms = loop at (nth ms 0) (nth ms 1) (nth ms 2)
@@ -60,15 +63,25 @@ rule at (form.count w) ms = counted at w (nth ms 0) (nth ms 1) (nth ms 2) (nth m
 rule at form.without_value ms = without_value (nth ms 0)
 rule at (form.must_deliver t) ms = must_deliver at t (nth ms 0)
 rule at form.units ms = gives (in_order ms)
-rule at (form.heading s sort x ps missing) ms = headed at missing (first_heading (is_alike sort x (types_of ps)) s.headings)
+rule at (form.heading s sort x ps r missing) ms = heading at ps missing (first_heading (is_alike sort x (types_of ps)) s.headings)
 rule at (form.body o r) ms = gives (body_with o (content_as r (nth ms 0)))
 rule at form.routine ms = gives (Bodies (flat_map bodies_in ms))
 rule at (form.refinement o) ms = gives (body_with o (content_of (nth ms 1)))
 rule at form.level ms = gives (Level (actions_of ms) (flat_map bodies_in ms))
 
+-- ---- what hangs on a type that has no meaning: what may take or deliver such, the declaration of a name, and headings
+
+abbrev pub hangs_on : ℕ → Plain → List Meant → Bool
+hangs_on at (form.applied s sort x) ms = is_unclear s sort x ms
+hangs_on at (form.assignment s) ms = is_unclear s Operator becomes (nth ms 0 ∷ nth ms 1 ∷ [])
+hangs_on at (form.declares s x) ms = declares_open at (find_own s x)
+hangs_on at (form.type_name s x) ms = is_open_type at (find_own_type s x)
+hangs_on at (form.heading s sort x ps r missing) ms = heading_open ps r (heading at ps missing (first_heading (is_alike sort x (types_of ps)) s.headings))
+hangs_on at f ms = false
+
 -- ---- the rules of all forms; two ask what is known of bodies
 
 abbrev pub ruled : Known → ℕ → Form → List Meant → Ruled Meant
-ruled k at (form.named u s x) ms = named k u at s x (find s x)
-ruled k at (form.leave s x) ms = told (leaving k at (left s x) (nth ms 0))
-ruled k at (form.plain f) ms = told (rule at f ms)
+ruled k at (form.named u s x) ms = unless (is_open_name s x (find s x)) (named k u at s x (find s x))
+ruled k at (form.leave s x) ms = unless (leaves_open s (left s x)) (told (leaving k at (left s x) (nth ms 0)))
+ruled k at (form.plain f) ms = unless (hangs_on at f ms) (told (rule at f ms))

@@ -1,3 +1,4 @@
+pub mod Types
 pub mod Predefined
 pub mod Names
 pub mod Scope

@@ -20,6 +20,8 @@ pub data Plain : Type 0 where
   -- an operator with its operands, or a procedure with its actuals
   applied : Scope → Sort → List ℕ → Plain
   bracket : Plain
+  -- CONCR of a value or place of one of the text's own types
+  concr : Scope → Plain
   cand : Plain
   cor : Plain
   -- conditions, each before its units, and the units of ELSE
@@ -37,6 +39,8 @@ pub data Plain : Type 0 where
   declaration : Plain
   -- a name of a LET and what it is given to, and all names of a LET
   definition : Plain
+  -- the name of a type in its declaration
+  type_name : Scope → List ℕ → Plain
   -- an expression that stands alone
   statement : Plain
   assignment : Scope → Plain
@@ -47,8 +51,8 @@ pub data Plain : Type 0 where
   without_value : Plain
   must_deliver : ElanType → Plain
   units : Plain
-  -- the heading of a PROC or OP, and whether a value is missing because its body has no unit
-  heading : Scope → Sort → List ℕ → List Parameter → Bool → Plain
+  -- the heading of a PROC or OP with what it delivers, and whether a value is missing because its body has no unit
+  heading : Scope → Sort → List ℕ → List Parameter → Option ElanType → Bool → Plain
   -- the units of a PROC or OP that delivers this
   body : Owner → Option ElanType → Plain
   -- a heading, the names of parameters, units, and refinements

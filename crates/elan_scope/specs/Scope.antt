@@ -1,8 +1,8 @@
 -- What names denote where a phrase stands.
-use Rattle.std.specs.Prelude.{ℕ, ℤ, Bool, true, false, ◌&&◌, ◌==◌, List, [], ◌∷◌, ◌++◌, map, flat_map, length, Option, Some, None, if◌then◌else◌, slice_get}
+use Rattle.std.specs.Prelude.{ℕ, ℤ, Bool, true, false, ◌&&◌, ◌||◌, ◌==◌, List, [], ◌∷◌, ◌++◌, map, flat_map, length, Option, Some, None, if◌then◌else◌, slice_get}
 use Rattle.std.specs.Prelude.{option_map, option_and_then, option_to_list}
 pub use Rattle.std.specs.Prelude.{find as first}
-use Rattle.std.specs.List.{enumerate_from}
+use Rattle.std.specs.List.{enumerate_from, list_any}
 use lib.Pointwise.{pointwise}
 use Rattle.std.specs.Option.{is_some, option_or, option_map_or}
 use Rattle.std.specs.Str.{bytes_eq}
@@ -12,7 +12,7 @@ use Rattle.elan_types.specs.declared.elan_type.Parameter.{Parameter}
 use Rattle.elan_types.specs.declared.core_phrase.Exit.{Exit}
 use Rattle.elan_types.specs.declared.core_phrase.Exit.TheVariants as exits
 use Rattle.elan_types.specs.Typing.{same_home}
-use Rattle.elan_types.specs.Types.{same_type, kind_in}
+use Rattle.elan_types.specs.Types.{same_type, kind_in, is_open}
 use Rattle.elan_scope.specs.declared.scope.Denotes.{Denotes}
 use Rattle.elan_scope.specs.declared.scope.Denotes.TheVariants as denotes
 use Rattle.elan_scope.specs.declared.scope.Entry.{Entry}
@@ -29,6 +29,8 @@ use Rattle.elan_scope.specs.declared.heading.Heading.{Heading}
 use Rattle.elan_scope.specs.declared.callable.Callee.{Callee}
 use Rattle.elan_scope.specs.declared.callable.Callee.TheVariants.{Predefined, Body}
 use Rattle.elan_scope.specs.Predefined.{Row, predefined, parameters, result}
+use Rattle.elan_scope.specs.declared.type_name.TypeName.{TypeName}
+use Rattle.elan_scope.specs.Types.{first_type}
 pub use Rattle.elan_scope.specs.Names.{held, first_from, first_named}
 
 -- the number of the PROC or OP
@@ -149,6 +151,29 @@ has_as_many sort x n c = is_called sort x c && length c.parameters == n
 -- The name can be called with that number of operands.
 abbrev pub is_known : Scope → Sort → List ℕ → ℕ → Bool
 is_known s sort x n = is_some (called_by (has_as_many sort x n) s)
+
+-- the name of a type in the scope that declares it
+abbrev pub find_own_type : Scope → List ℕ → Option TypeName
+find_own_type s x = first_type x (option_map_or (λ w. w.types) s.routine s.types)
+
+-- ---- what has no meaning
+
+abbrev pub has_open : List Parameter → Bool
+has_open ps = list_any (λ p. is_open p.of) ps
+
+abbrev pub is_open_result : Option ElanType → Bool
+is_open_result result = option_map_or is_open result false
+
+abbrev pub delivers_open : What → Bool
+delivers_open (Routine sort ps r) = is_open_result r
+delivers_open (Refinement home) = false
+
+abbrev pub is_open_heading : Option Heading → Bool
+is_open_heading heading = option_map_or (λ h. delivers_open h.what) heading false
+
+-- What is written for a parameter, or for what it delivers, has no meaning.
+abbrev pub is_open_callable : Callable → Bool
+is_open_callable c = has_open c.parameters || is_open_result c.result
 
 -- ---- bodies
 

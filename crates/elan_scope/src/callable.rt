@@ -30,7 +30,41 @@ pub struct Callable<'a> {
     pub callee: Callee,
 }
 
+/// Whether what is written for one of these has no meaning.
+pub fn has_open(parameters: &[Parameter]) -> bool
+    ensures { result ≡ spec.has_open parameters.now }
+{
+    match parameters {
+        [] => false,
+        [parameter, others @ ..] => parameter.of.is_open() || has_open(others),
+    }
+}
+
+/// Whether what is written for the type that is delivered has no meaning.
+pub fn is_open_result(delivered: Option<ElanType>) -> bool
+    ensures { result ≡ spec.is_open_result delivered }
+{
+    match delivered {
+        None => false,
+        Some(of) => of.is_open(),
+    }
+}
+
 impl Callable<'_> {
+    /// Whether what is written for one of its parameters has no meaning.
+    pub fn has_open(&self) -> bool
+        ensures { result ≡ spec.has_open (seen.callable self.now).parameters }
+    {
+        has_open(self.parameters)
+    }
+
+    /// Whether what is written for a parameter, or for what it delivers, has no meaning.
+    pub fn is_open(&self) -> bool
+        ensures { result ≡ spec.is_open_callable (seen.callable self.now) }
+    {
+        self.has_open() || is_open_result(self.result)
+    }
+
     /// Whether it is called by a name.
     pub fn is_called(&self, sort: Sort, name: &[u8]) -> bool
         ensures { result ≡ spec.is_called sort name.now (seen.callable self.now) }

@@ -46,6 +46,19 @@ pub struct Heading {
     pub what: What,
 }
 
+impl Heading {
+    /// Whether what is written for what it delivers has no meaning.
+    pub fn delivers_open(&self) -> bool
+        ensures { result ≡ spec.delivers_open self.now.what }
+    {
+        match &self.what {
+            What::Routine(_, _, Some(of)) => of.is_open(),
+            What::Routine(_, _, None) => false,
+            What::Refinement(_) => false,
+        }
+    }
+}
+
 // Whether two names differ in their last bytes. Most names of a text do, so these are looked at first.
 fn differ_at_end(name: &[u8], other: &[u8]) -> bool
     ensures { result ≡ true → bytes_eq name.now other.now ≡ false }

@@ -11,3 +11,4 @@ pub mod known;
 pub mod predefined;
 pub mod scope;
 pub mod trouble;
+pub mod type_name;

@@ -1,14 +1,15 @@
 //! Where a phrase stands, and what names denote there.
 
-ghost use Rattle.std.specs.Prelude.{◌≡◌, ◌≤◌, option_map, length};
+ghost use Rattle.std.specs.Prelude.{◌≡◌, ◌≤◌, option_map, length, slice_get};
 ghost use Rattle.elan_scope.specs.Scope as spec;
 ghost use Rattle.elan_scope.specs.walks.Seen as seen;
 
 use crate::denoter::Denoter;
 use crate::directory::Directory;
 use crate::headings::Headings;
+use crate::type_name::{TypeName, first_type};
 use elan_types::{ElanType, Exit, Parameter};
-use eu_base::Bytes;
+use eu_base::{Bytes, List};
 
 /// What an identifier without actuals is used as.
 #[derive(Clone, Copy)]
@@ -70,6 +71,8 @@ pub struct Entry {
 pub struct Within {
     pub number: usize,
     pub names: Directory,
+    /// Its names of types.
+    pub types: List<TypeName>,
 }
 
 /// Where a phrase stands.
@@ -79,6 +82,8 @@ pub struct Scope {
     pub headings: Headings,
     /// The names that the level declares, in text order.
     pub level: Directory,
+    /// The names of types that the level declares, in text order.
+    pub types: List<TypeName>,
     /// The PROC or OP in which the phrase stands.
     pub routine: Option<Within>,
     /// The number of the refinement in which it stands.
@@ -157,6 +162,16 @@ impl Scope {
         }
     }
 
+    /// The name of a type in the scope that declares it; `None` exactly where it is not declared there.
+    pub fn find_own_type(&self, name: &[u8]) -> Option<&TypeName>
+        ensures { option_map (λ t. t.now) result ≡ spec.find_own_type self.now name.now }
+    {
+        match &self.routine {
+            None => first_type(self.types.as_slice(), name),
+            Some(within) => first_type(within.types.as_slice(), name),
+        }
+    }
+
     /// The number that LET gives a name to, if it gives it to one.
     pub fn number_named(&self, name: &[u8]) -> Option<i16>
         ensures { result ≡ spec.number_named (spec.find self.now name.now) }
@@ -219,6 +234,16 @@ impl Scope {
         match self.refinement {
             None => Exit::Body,
             Some(_) => Exit::Around,
+        }
+    }
+
+    /// Whether what is written for what a body delivers has no meaning.
+    pub fn delivers_open(&self, number: usize) -> bool
+        ensures { result ≡ spec.is_open_heading (slice_get self.now.headings number) }
+    {
+        match self.headings.as_slice().get(number) {
+            None => false,
+            Some(heading) => heading.delivers_open(),
         }
     }
 

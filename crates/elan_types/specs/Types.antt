@@ -1,5 +1,5 @@
 -- The types of a text, and the kinds of their cells.
-use Rattle.std.specs.Prelude.{Bool, true, false, List, ◌++◌, map}
+use Rattle.std.specs.Prelude.{Bool, true, false, ◌&&◌, ◌==◌, List, ◌++◌, map}
 use Rattle.eu_base.specs.declared.value.Kind.{Kind}
 use Rattle.eu_base.specs.declared.value.Kind.TheVariants as kinds
 use Rattle.eu_base.specs.declared.request.RequestName.{RequestName}
@@ -9,19 +9,33 @@ use Rattle.elan_types.specs.declared.elan_type.ElanType.TheVariants as types
 use Rattle.elan_types.specs.declared.elan_type.Parameter.{Parameter}
 use Rattle.elan_types.specs.declared.core_phrase.Access.TheVariants.{Const, Var}
 use Rattle.elan_types.specs.declared.core_phrase.Formal.{Formal}
-use Rattle.elan_types.specs.Typing.{formal}
+use Rattle.elan_types.specs.Typing.{formal, same_kind}
 
+-- A type of the text's own is equal to itself alone, by its number.
 abbrev pub same_type : ElanType → ElanType → Bool
 same_type types.Int types.Int = true
 same_type types.Bool types.Bool = true
 same_type types.Text types.Text = true
+same_type (types.Own t) (types.Own u) = t.number == u.number && same_kind t.kind u.kind
+same_type types.Open types.Open = true
 same_type _ _ = false
+
+-- What is written for it has no meaning.
+abbrev pub is_open : ElanType → Bool
+is_open types.Open = true
+is_open _ = false
+
+abbrev pub is_own : ElanType → Bool
+is_own (types.Own t) = true
+is_own _ = false
 
 -- the kind of a type's cells
 abbrev pub kind_in : ElanType → Kind
 kind_in types.Int = kinds.Int
 kind_in types.Bool = kinds.Truth
 kind_in types.Text = kinds.Text
+kind_in (types.Own t) = t.kind
+kind_in types.Open = kinds.Int
 
 -- the type of what is predefined for cells of a kind
 abbrev pub type_in : Kind → ElanType

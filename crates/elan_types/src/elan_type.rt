@@ -1,7 +1,7 @@
 //! Types.
 
 ghost use Rattle.std.specs.Prelude.{◌≡◌, IfOk, map};
-ghost use Rattle.elan_types.specs.Types.{formal_of, kind_in, same_type};
+ghost use Rattle.elan_types.specs.Types.{formal_of, is_open, is_own, kind_in, same_type, type_in};
 
 use crate::core_phrase::{Access, Formal};
 use eu_base::{Kind, List, NoMemory};
@@ -16,6 +16,19 @@ pub enum ElanType {
     Bool,
     /// `TEXT`, a list of at most 16,000 bytes.
     Text,
+    /// A type that the text makes by TYPE.
+    Own(OwnType),
+    /// What is written for it has no meaning.
+    Open,
+}
+
+/// A type that a text makes by TYPE, which is equal to itself alone.
+#[derive(Clone, Copy, PartialEq, Eq)]
+pub struct OwnType {
+    /// Its number among the names of types that its level declares.
+    pub number: usize,
+    /// The kind of its cell, which is that of its concrete type.
+    pub kind: Kind,
 }
 
 /// A parameter, as a heading has it.
@@ -35,10 +48,43 @@ impl ElanType {
         match (self, other) {
             (ElanType::Int, ElanType::Int)
             | (ElanType::Bool, ElanType::Bool)
-            | (ElanType::Text, ElanType::Text) => true,
-            (ElanType::Int, ElanType::Bool | ElanType::Text)
-            | (ElanType::Bool, ElanType::Int | ElanType::Text)
-            | (ElanType::Text, ElanType::Int | ElanType::Bool) => false,
+            | (ElanType::Text, ElanType::Text)
+            | (ElanType::Open, ElanType::Open) => true,
+            (ElanType::Own(own), ElanType::Own(other)) => {
+                own.number == other.number && own.kind == other.kind
+            }
+            _ => false,
+        }
+    }
+
+    /// Whether what is written for it has no meaning.
+    pub fn is_open(self) -> bool
+        ensures { result ≡ is_open self }
+    {
+        match self {
+            ElanType::Open => true,
+            _ => false,
+        }
+    }
+
+    /// Whether it is one of the text's own.
+    pub fn is_own(self) -> bool
+        ensures { result ≡ is_own self }
+    {
+        match self {
+            ElanType::Own(_) => true,
+            _ => false,
+        }
+    }
+
+    /// The type of what is predefined for cells of a kind.
+    pub fn of_kind(kind: Kind) -> ElanType
+        ensures { result ≡ type_in kind }
+    {
+        match kind {
+            Kind::Int => ElanType::Int,
+            Kind::Truth => ElanType::Bool,
+            Kind::Text => ElanType::Text,
         }
     }
 
@@ -50,6 +96,8 @@ impl ElanType {
             ElanType::Int => Kind::Int,
             ElanType::Bool => Kind::Truth,
             ElanType::Text => Kind::Text,
+            ElanType::Own(own) => own.kind,
+            ElanType::Open => Kind::Int,
         }
     }
 }

@@ -1,13 +1,12 @@
 -- The types that are built.
-use Rattle.std.specs.Prelude.{Option, Some, None}
-use Rattle.elan_types.specs.declared.elan_type.ElanType.{ElanType}
-use Rattle.elan_types.specs.declared.elan_type.ElanType.TheVariants.{Int, Bool, Text}
+use Rattle.std.specs.Prelude.{Bool, true, false}
 use Rattle.elan_tree.specs.declared.written_type.TypePhrase.{TypePhrase}
 use Rattle.elan_tree.specs.declared.written_type.TypePhrase.TheVariants as type
 
--- the type that is written; the other types are not built
-abbrev pub written_type : TypePhrase → Option ElanType
-written_type (type.Int at) = Some Int
-written_type (type.Bool at) = Some Bool
-written_type (type.Text at) = Some Text
-written_type _ = None
+-- INT, BOOL, TEXT and names of types; the other types are not built
+abbrev pub is_type_built : TypePhrase → Bool
+is_type_built (type.Int at) = true
+is_type_built (type.Bool at) = true
+is_type_built (type.Text at) = true
+is_type_built (type.Named n) = true
+is_type_built _ = false

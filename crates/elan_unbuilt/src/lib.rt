@@ -8,4 +8,3 @@ mod types;
 
 pub use not_built::has_unbuilt;
 pub use operators::operator_text;
-pub use types::written_type;

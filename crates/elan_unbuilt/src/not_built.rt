@@ -5,7 +5,7 @@ ghost use Rattle.elan_unbuilt.specs.NotBuilt as spec;
 
 use crate::names::is_not_built;
 use crate::operators::operator_text;
-use crate::types::written_type;
+use crate::types::is_type_built;
 use elan_tree::Tree;
 use elan_walk::{Node, Visitor, visit_tree};
 
@@ -29,9 +29,13 @@ impl Visitor for Search {
                     Node::Alone(named) => is_not_built(named.text.as_slice()),
                     Node::Other(named) => is_not_built(named.text.as_slice()),
                     Node::Operator(sign) => is_not_built(operator_text(sign)),
-                    Node::Type(of) => written_type(of).is_none(),
-                    Node::Item(_, _, named) => is_not_built(named.text.as_slice()),
+                    Node::Type(of) => !is_type_built(of),
+                    Node::Item(_, of, named) => {
+                        !is_type_built(of) || is_not_built(named.text.as_slice())
+                    }
                     Node::Let(named, _) => is_not_built(named.text.as_slice()),
+                    Node::Abbreviation(_, of) => !is_type_built(of),
+                    Node::NewType(_, _, of) => !is_type_built(of),
                     Node::Unbuilt => true,
                 },
         }

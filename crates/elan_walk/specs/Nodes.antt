@@ -1,5 +1,5 @@
 -- The nodes of trees in text order, as far as they have a name, a type or an operator.
-use Rattle.std.specs.Prelude.{List, [], ◌∷◌, ◌++◌, map, flat_map, Option, option_map, option_to_list, unwrap_or}
+use Rattle.std.specs.Prelude.{ℕ, List, [], ◌∷◌, ◌++◌, map, flat_map, Option, option_map, option_to_list, unwrap_or}
 use Rattle.elan_tree.specs.declared.written_type.Name.{Name}
 use Rattle.elan_tree.specs.declared.written_type.Constant.{Constant as Denoter}
 use Rattle.elan_tree.specs.declared.written_type.LetItem.{LetItem}
@@ -41,6 +41,10 @@ pub data Node : Type 0 where
   item : Held → TypePhrase → Name → Node
   -- a name that LET gives to a constant
   let_name : Name → Denoter → Node
+  -- a name that LET gives to a type
+  abbreviation : Name → TypePhrase → Node
+  -- a TYPE, with its place, its name, and its concrete type
+  new_type : ℕ → Name → TypePhrase → Node
   -- a phrase of a kind that is not built
   unbuilt : Node
 
@@ -51,6 +55,8 @@ plain (lent.Operator o) = sign o.now
 plain (lent.Type of) = of_type of.now
 plain (lent.Item h of n) = item h of.now n.now
 plain (lent.Let n c) = let_name n.now c.now
+plain (lent.Abbreviation n of) = abbreviation n.now of.now
+plain (lent.NewType at n of) = new_type at n.now of.now
 plain lent.Unbuilt = unbuilt
 
 -- what the items of a declaration are, by how they are held and of which type
@@ -65,10 +71,10 @@ labels [] = []
 labels (label.Number at n ∷ ls) = labels ls
 labels (label.Named n ∷ ls) = other n ∷ labels ls
 
--- LET gives a name to a constant; a type under a name is not built
+-- LET gives a name to a constant, or to a type
 abbrev pub let_item : LetItem → Node
 let_item (item_of.Constant n c) = let_name n c
-let_item (item_of.Abbreviation n of) = unbuilt
+let_item (item_of.Abbreviation n of) = abbreviation n of
 
 abbrev pub Layer : (Type 0 → Type 0 → Type 0 → Type 0 → Type 0 → Type 0 → Type 0 → Type 0) → Type 0
 Layer F = F (List Node) (List Node) (List Node) (List Node) (List Node) (List Node) Declares
@@ -80,6 +86,7 @@ expr_step (t.Text at x) = []
 expr_step (t.Named n) = alone n ∷ []
 expr_step (t.Call n actuals) = other n ∷ all actuals
 expr_step (t.Bracket at a) = a
+expr_step (t.Concr at a) = a
 expr_step (t.If at branches otherwise) = all branches ++ all (unwrap_or otherwise [])
 expr_step (t.Select at of cases otherwise) = of ++ all cases ++ all (unwrap_or otherwise [])
 expr_step (t.Monadic at o a) = sign o ∷ a
@@ -156,7 +163,7 @@ body fs b = formals fs ++ in_units b.units ++ refinements b.refinements
 
 abbrev pub level_unit : LevelUnit → List Node
 level_unit (level.Plain u) = in_unit u
-level_unit (level.NewType at n of) = unbuilt ∷ []
+level_unit (level.NewType at n of) = new_type at n of ∷ []
 level_unit (level.Proc at r n fs b) = result r ++ other n ∷ body fs b
 level_unit (level.Op at r n fs b) = result r ++ sign n.operator ∷ body fs b
 

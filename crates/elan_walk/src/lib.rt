@@ -7,4 +7,4 @@ mod whole;
 
 pub use node::{Held, Node, Visitor};
 pub use walk::{visit_unit, visit_units};
-pub use whole::visit_tree;
+pub use whole::{formals, refinements, result_type, visit_tree};

@@ -25,6 +25,10 @@ pub enum Node<'a> {
     Item(Held, &'a TypePhrase, &'a Name),
     /// A name that LET gives to a constant.
     Let(&'a Name, &'a Constant),
+    /// A name that LET gives to a type.
+    Abbreviation(&'a Name, &'a TypePhrase),
+    /// A TYPE, with the place of the word, its name, and its concrete type.
+    NewType(u32, &'a Name, &'a TypePhrase),
     /// A phrase of a kind that is not built.
     Unbuilt,
 }

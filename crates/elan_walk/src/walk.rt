@@ -25,7 +25,7 @@ fn let_items<V: Visitor>(mut visitor: V, items: &[LetItem]) -> V
     for item in items {
         visitor = visitor.visit(match item {
             LetItem::Constant(name, constant) => Node::Let(name, constant),
-            LetItem::Abbreviation(_, _) => Node::Unbuilt,
+            LetItem::Abbreviation(name, of) => Node::Abbreviation(name, of),
         });
     }
     visitor
@@ -44,6 +44,7 @@ fn in_expr<V: Visitor>(visitor: V, expr: &Expr) -> V
             in_exprs(visitor, actuals.as_slice())
         }
         Expr::Bracket(_, inner) => in_expr(visitor, inner.get()),
+        Expr::Concr(_, inner) => in_expr(visitor, inner.get()),
         Expr::If {
             branches,
             otherwise,

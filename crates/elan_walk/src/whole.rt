@@ -17,7 +17,8 @@ fn names<V: Visitor>(mut visitor: V, names: &[Name]) -> V
     visitor
 }
 
-fn formals<V: Visitor>(mut visitor: V, formals: &[Formal]) -> V
+/// Looks at the types and names of parameters, in text order.
+pub fn formals<V: Visitor>(mut visitor: V, formals: &[Formal]) -> V
     ensures { Seen V.wanted V.after (spec.formals formals.now) visitor result }
 {
     for formal in formals {
@@ -27,7 +28,8 @@ fn formals<V: Visitor>(mut visitor: V, formals: &[Formal]) -> V
     visitor
 }
 
-fn refinements<V: Visitor>(mut visitor: V, refinements: &[Refinement]) -> V
+/// Looks at the nodes of refinements, in text order.
+pub fn refinements<V: Visitor>(mut visitor: V, refinements: &[Refinement]) -> V
     ensures { Seen V.wanted V.after (spec.refinements refinements.now) visitor result }
 {
     for refinement in refinements {
@@ -37,7 +39,8 @@ fn refinements<V: Visitor>(mut visitor: V, refinements: &[Refinement]) -> V
     visitor
 }
 
-fn result_type<V: Visitor>(visitor: V, of: &Option<TypePhrase>) -> V
+/// Looks at the type of what is delivered.
+pub fn result_type<V: Visitor>(visitor: V, of: &Option<TypePhrase>) -> V
     ensures { Seen V.wanted V.after (spec.result of.now) visitor result }
 {
     match of {
@@ -59,7 +62,7 @@ fn level_unit<V: Visitor>(visitor: V, unit: &LevelUnit) -> V
 {
     match unit {
         LevelUnit::Plain(unit) => visit_unit(visitor, unit),
-        LevelUnit::NewType { .. } => visitor.visit(Node::Unbuilt),
+        LevelUnit::NewType { at, name, of } => visitor.visit(Node::NewType(*at, name, of)),
         LevelUnit::Proc {
             result,
             name,

@@ -73,7 +73,6 @@ FEHLER : kein ELAN-Text (Zeile 1, Stelle 9)
 > LET a = TRUE; a := FALSE
 FEHLER : keine Variable (Zeile 1, Stelle 15)
 > LET T = INT; T VAR x
-FEHLER : kein ELAN-Text
 > LET n = 3; LET T = ROW n INT
 FEHLER : kein ELAN-Text
 > LET a = 1; IF TRUE THEN LET c = 3; put (c + a) FI
@@ -135,9 +134,7 @@ yzxxx x
 > LET e = 1, a = 0; TEXT VAR f; put (f); PROC p: put (f); put (e) END PROC p; p.
   1 
 > LET n = 3, T = INT
-FEHLER : kein ELAN-Text
 > TYPE T = INT
-FEHLER : kein ELAN-Text
 > LET a = 1, b = \"x\", c = TRUE; PROC p (INT CONST a): put (a); put (b) END PROC p; p (7); IF c THEN p (a) FI
 7 x 1 x 
 ";

@@ -22,3 +22,5 @@ mod tests;
 mod texts;
 #[cfg(test)]
 mod typed;
+#[cfg(test)]
+mod types;

@@ -365,7 +365,6 @@ a
 > a CAT b
 FEHLER : unbekannt (Zeile 1, Stelle 1)
 > LET T = INT
-FEHLER : kein ELAN-Text
 > ROW 3 INT VAR a
 FEHLER : kein ELAN-Text
 > INT VAR a; a [1] := 2
@@ -387,9 +386,9 @@ FEHLER : unbekannt (Zeile 1, Stelle 18)
 > BOUND INT VAR b
 FEHLER : kein ELAN-Text
 > T VAR x
-FEHLER : kein ELAN-Text
+FEHLER : unbekannt (Zeile 1, Stelle 1)
 > put (CONCR (1))
-FEHLER : kein ELAN-Text
+FEHLER : falscher Typ (Zeile 1, Stelle 6)
 > begin
 FEHLER : kein ELAN-Text
 > FOR type REP line PER

@@ -60,6 +60,28 @@ FEHLER : doppelt (Zeile 1, Stelle 20)
 FEHLER : doppelt (Zeile 1, Stelle 31)
 > SELECT 1 OF CASE t: line END SELECT; LET t = \"1\"
 FEHLER : falscher Typ (Zeile 1, Stelle 18)
+> LET T = INT; T VAR x :: 3; INT VAR y :: x; put (y)
+3 
+> TYPE T = INT; PROC p: LET T = TEXT; T VAR x :: \"a\"; put (x) END PROC p; p
+a 
+> TYPE T = INT; PROC p (INT CONST a): put (a) END PROC p; PROC p (T CONST a): put (\"T\") END PROC p; T VAR x; p (x); p (3)
+T 3 
+> TYPE T = INT; OP := (T VAR a, T CONST b): CONCR (a) := CONCR (b) END OP :=; T VAR x; T VAR y; CONCR (y) := 4; x := y; put (CONCR (x))
+4 
+> TYPE T = INT; T VAR x, y; x := y
+FEHLER : falscher Typ (Zeile 1, Stelle 27)
+> TYPE T = INT; T OP + (T CONST a, b): T VAR c; CONCR (c) := CONCR (a) + CONCR (b); c END OP +; T VAR x, y; CONCR (x) := 1; put (CONCR (x + y))
+1 
+> put (CONCR (3))
+FEHLER : falscher Typ (Zeile 1, Stelle 6)
+> U VAR x; x := 3; put (x)
+FEHLER : unbekannt (Zeile 1, Stelle 1)
+> LET T = U, U = T; T VAR x
+FEHLER : falsche Stelle (Zeile 1, Stelle 5)
+> TYPE T = INT; TYPE T = TEXT; put (1)
+FEHLER : doppelt (Zeile 1, Stelle 20)
+> INT VAR a :: \"x\"; U VAR b
+FEHLER : falscher Typ (Zeile 1, Stelle 9)
 > PROC p (INT VAR a, b): a INCR 1; b INCR 1 END PROC p; INT VAR x :: 5; p (x, x); put (x)
 7 
 > PROC p (INT CONST a): a := 3 END PROC p; p (1)
@@ -236,6 +258,8 @@ FEHLER : unbekannt (Zeile 1, Stelle 1)
 FEHLER : unbekannt (Zeile 1, Stelle 5)
 > INT VAR i; FOR i FROM 1 TO 3 REP put (i) PER
 FEHLER : unbekannt (Zeile 1, Stelle 23)
+> GANZ VAR i; put (i)
+FEHLER : unbekannt (Zeile 1, Stelle 1)
 > INT VAR a; INT VAR a
 FEHLER : doppelt (Zeile 1, Stelle 20)
 > SELECT 1 OF CASE 1: put (1) CASE 1: put (2) END SELECT
@@ -256,6 +280,8 @@ FEHLER : keine Variable (Zeile 1, Stelle 43)
 FEHLER : falsche Stelle (Zeile 1, Stelle 1)
 > again. again: put (1); again.
 FEHLER : falsche Stelle (Zeile 1, Stelle 24)
+> TYPE T = T
+FEHLER : falsche Stelle (Zeile 1, Stelle 1)
 > put (200 * 200)
 FEHLER : INT-Ueberlauf
 > put (4); put (7 MOD 0)

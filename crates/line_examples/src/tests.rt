@@ -1,7 +1,7 @@
 //! The first table that is not right.
 
 use crate::rows::{Asked, add, is_right, put};
-use crate::{code, lets, lines, meanings, outside, table, texts, typed};
+use crate::{code, lets, lines, meanings, outside, table, texts, typed, types};
 use eu_base::Bytes;
 use eumel_top::{Status, one_output};
 use std::alloc::Global;
@@ -48,6 +48,8 @@ fn wrong_table(alloc: Global) -> &'static str {
         "texts"
     } else if !is_right(alloc, lets::LETS, how) {
         "lets"
+    } else if !is_right(alloc, types::TYPES, how) {
+        "types"
     } else if !is_right(alloc, table::EXAMPLES, how) {
         "examples"
     } else if !writes_until_spent(alloc) {

@@ -1,7 +1,8 @@
 -- Stores, lists of units, and bodies.
-use Rattle.std.specs.Prelude.{ℕ, Bool, true, List, [], ◌∷◌, flat_map, Option, Some, None, if◌then◌else◌}
+use Rattle.std.specs.Prelude.{ℕ, Bool, true, false, ◌||◌, List, [], ◌∷◌, flat_map, Option, Some, None, if◌then◌else◌}
+use Rattle.std.specs.Option.{option_map_or}
 use Rattle.elan_types.specs.declared.elan_type.ElanType.{ElanType}
-use Rattle.elan_types.specs.Types.{kind_in}
+use Rattle.elan_types.specs.Types.{kind_in, is_own, is_open}
 use Rattle.elan_types.specs.declared.core_phrase.ValuePhrase.TheVariants as value
 use Rattle.elan_types.specs.declared.core_phrase.Action.{Action}
 use Rattle.elan_types.specs.declared.core_phrase.Action.TheVariants as action
@@ -30,8 +31,9 @@ agreed at l r = agreed_as at (type_in l) r
 abbrev pub stored : ℕ → Meant → Meant → Verdict Action
 stored at l r = agreed at l r >>= (λ t. variable at l >>= (λ x. gives (action.Store x (kind_in t) (value_of r))))
 
+-- For types of a text's own no assignment is predefined.
 abbrev pub assigned : ℕ → Meant → Meant → Verdict Meant
-assigned at l r = stored at l r >>= (λ a. gives (unit_of (a ∷ [])))
+assigned at l r = if option_map_or is_own (type_in l) false then breaks (at, WrongType) else stored at l r >>= (λ a. gives (unit_of (a ∷ [])))
 
 -- a name in its declaration, and its initial value
 abbrev pub initial : ℕ → Meant → Meant → Verdict Meant
@@ -72,10 +74,10 @@ without_value (Variable at t x) = breaks (at, WrongType)
 without_value (Value at t v) = breaks (at, WrongType)
 without_value m = gives (Done (actions m))
 
--- A LEAVE agrees with every type.
+-- A LEAVE agrees with every type. Where the type has no meaning nothing is asked for.
 abbrev pub agrees_with : ElanType → Meant → Bool
 agrees_with t (Left as') = true
-agrees_with t m = delivers t m
+agrees_with t m = is_open t || delivers t m
 
 -- The last unit of a body delivers what the body has to deliver.
 abbrev pub must_deliver : ℕ → ElanType → Meant → Verdict Meant

@@ -153,7 +153,7 @@ fn agrees_with(of: ElanType, meant: &Meant) -> bool
 {
     match meant {
         Meant::Left(_) => true,
-        _ => delivers(of, meant),
+        _ => of.is_open() || delivers(of, meant),
     }
 }
 

@@ -1,6 +1,9 @@
 //! Assignments and initial values.
 
-ghost use Rattle.std.specs.Prelude.{◌≡◌};
+ghost use Rattle.std.specs.Prelude.{◌≡◌, false};
+ghost use Rattle.std.specs.Option.{option_map_or};
+ghost use Rattle.elan_types.specs.Types.{is_own};
+ghost use Rattle.elan_meant.specs.Parts as parts_of;
 ghost use Rattle.unit_rules.specs.Units as spec;
 ghost use Rattle.elan_meant.specs.Verdict.{Tells};
 
@@ -48,15 +51,30 @@ fn stored(at: u32, left: Meant, right: Meant) -> Result<Action, Trouble>
     }
 }
 
-/// An assignment.
+fn delivers_own(meant: &Meant) -> bool
+    ensures { result ≡ option_map_or is_own (parts_of.type_in meant.now) false }
+{
+    match type_in(meant) {
+        None => false,
+        Some(of) => of.is_own(),
+    }
+}
+
+/// An assignment. For types of a text's own none is predefined.
 pub fn assigned(alloc: Global, at: u32, left: Meant, right: Meant) -> Judged
     ensures { Tells result (spec.assigned at left right) }
 {
+    if delivers_own(&left) {
+        left.let_go();
+        right.let_go();
+        return Err(Trouble::Breaks(at, Why::WrongType));
+    }
     let action = stored(at, left, right)?;
     unit_doing(alloc, action)
 }
 
 /// A name in its declaration, and its initial value.
+#[tactic(auto, using(crate::proofs::Stores::initial_fails))]
 pub fn initial(alloc: Global, at: u32, name: Meant, init: Meant) -> Judged
     ensures { Tells result (spec.initial at name init) }
 {

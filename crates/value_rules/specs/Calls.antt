@@ -1,7 +1,8 @@
 -- Names, calls of PROCs, OPs and refinements, and LEAVE.
-use Rattle.std.specs.Prelude.{ℕ, Bool, true, false, List, [], ◌∷◌, length, Option, Some, None, is_some, if◌then◌else◌, nat_eq}
+use Rattle.std.specs.Prelude.{ℕ, Bool, true, false, ◌||◌, ◌&&◌, List, [], ◌∷◌, length, Option, Some, None, is_some, if◌then◌else◌, nat_eq, slice_get}
+use Rattle.std.specs.Option.{option_map_or}
 use Rattle.elan_types.specs.declared.elan_type.ElanType.{ElanType}
-use Rattle.elan_types.specs.Types.{kind_in}
+use Rattle.elan_types.specs.Types.{kind_in, is_open}
 use Rattle.elan_types.specs.declared.core_phrase.PlacePhrase.{PlacePhrase}
 use Rattle.elan_types.specs.declared.core_phrase.PlacePhrase.TheVariants as place
 use Rattle.elan_types.specs.declared.core_phrase.ValuePhrase.{ValuePhrase}
@@ -27,13 +28,14 @@ use Rattle.elan_meant.specs.declared.meant.Meant.TheVariants.{Absent, Variable, 
 use Rattle.elan_scope.specs.declared.callable.Callee.{Callee}
 use Rattle.elan_scope.specs.declared.callable.Callee.TheVariants.{Predefined, Body}
 use Rattle.elan_scope.specs.declared.predefined.Predefined.TheVariants.{Operation, Change, Request, ErrorStop}
-use Rattle.elan_scope.specs.Scope.{Callable, is_known, refinement_named}
+use Rattle.elan_scope.specs.Scope.{Callable, is_known, refinement_named, held, has_open, is_open_result, is_open_heading}
+use Rattle.elan_scope.specs.declared.type_name.TypeName.{TypeName}
 use Rattle.elan_scope.specs.declared.scope.Scope.{Scope}
 use Rattle.elan_scope.specs.Scope.{Found}
 use Rattle.elan_scope.specs.declared.scope.Home.{Home}
 use Rattle.elan_scope.specs.declared.scope.Home.TheVariants.{Level as of_level, Routine as of_routine}
-use Rattle.elan_meant.specs.Verdict.{Verdict, gives, breaks, ◌>>=◌, told}
-use Rattle.elan_meant.specs.Operands.{delivers, chosen}
+use Rattle.elan_meant.specs.Verdict.{Verdict, gives, breaks, ◌>>=◌, told, is_given, unless}
+use Rattle.elan_meant.specs.Operands.{delivers, chosen, is_unclear}
 use Rattle.elan_scope.specs.Known.{leads_back, delivery_at}
 use Rattle.elan_scope.specs.declared.known.Known.{Known}
 use Rattle.elan_scope.specs.declared.scope.Usage.{Usage}
@@ -132,7 +134,38 @@ abbrev pub named : Known → Usage → ℕ → Scope → List ℕ → Option Fou
 named k u at s x (Some f) = denoted k u at s x f.home f.number f.denotes
 named k u at s x None = told (applied at s Procedure x [])
 
+-- what is held under a name has a type without meaning
+abbrev pub holds_open : Denotes → Bool
+holds_open d = has_open (held d)
+
+-- A name hangs on a type that has no meaning: that of a variable, constant or parameter, or of what a PROC takes or delivers.
+abbrev pub denotes_open : Scope → List ℕ → Denotes → Bool
+denotes_open s x denotes.Procedure = is_unclear s Procedure x []
+denotes_open s x d = holds_open d
+
+abbrev pub is_open_name : Scope → List ℕ → Option Found → Bool
+is_open_name s x (Some f) = denotes_open s x f.denotes
+is_open_name s x None = is_unclear s Procedure x []
+
+-- So does a LEAVE of a PROC or OP that delivers such.
+abbrev pub leaves_open : Scope → Option (Exit × ℕ) → Bool
+leaves_open s left = option_map_or (λ e. is_open_heading (slice_get s.headings e.1)) left false
+
 -- ---- declarations
+
+-- The declaration of a name hangs on its type, where it is the first of that name.
+abbrev pub declares_open : ℕ → Option Found → Bool
+declares_open at None = false
+declares_open at (Some f) = nat_eq f.at at && holds_open f.denotes
+
+-- The name of a type in its declaration: it is declared where the first declaration of that name is this one, and hangs on its type.
+abbrev pub type_declared : ℕ → Option TypeName → Verdict Meant
+type_declared at None = breaks (at, Unknown)
+type_declared at (Some t) = if nat_eq t.at at then gives (Done []) else breaks (at, Doubled)
+
+abbrev pub is_open_type : ℕ → Option TypeName → Bool
+is_open_type at None = false
+is_open_type at (Some t) = nat_eq t.at at && is_open t.of
 
 -- a name in its declaration: a variable or constant can be given its initial value there
 abbrev pub declared_as : ℕ → Home → ℕ → Denotes → Meant
@@ -146,9 +179,23 @@ declared at None = breaks (at, Unknown)
 declared at (Some f) = if nat_eq f.at at then gives (declared_as at f.home f.number f.denotes) else breaks (at, Doubled)
 
 -- the heading of a PROC or OP, of which the first with equal name and types of parameters is this one. A value can be missing
+abbrev pub headed_as : ℕ → Bool → Verdict Meant
+headed_as at missing = if missing then breaks (at, WrongType) else gives (Done [])
+
 abbrev pub headed : ℕ → Bool → Option (ℕ × Heading) → Verdict Meant
 headed at missing None = breaks (at, Unknown)
-headed at missing (Some b) = if nat_eq b.1.at at then (if missing then breaks (at, WrongType) else gives (Done [])) else breaks (at, Doubled)
+headed at missing (Some b) = if nat_eq b.1.at at then headed_as at missing else breaks (at, Doubled)
+
+-- Where what is written for a parameter has no meaning, no other heading is equal to it.
+abbrev pub heading : ℕ → List Parameter → Bool → Option (ℕ × Heading) → Verdict Meant
+heading at ps missing first = if has_open ps then headed_as at missing else headed at missing first
+
+-- It hangs on its types.
+abbrev pub heading_open : List Parameter → Option ElanType → Verdict Meant → Bool
+heading_open ps r v = (has_open ps || is_open_result r) && is_given v
+
+abbrev pub heading_ruled : ℕ → List Parameter → Option ElanType → Bool → Option (ℕ × Heading) → Ruled Meant
+heading_ruled at ps r missing first = unless (heading_open ps r (heading at ps missing first)) (told (heading at ps missing first))
 
 -- ---- LEAVE
 

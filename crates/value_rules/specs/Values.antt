@@ -1,6 +1,11 @@
 -- Numbers, texts, brackets, CAND and COR.
 use Rattle.std.specs.Prelude.{ℕ, ℤ, true, false, ◌&&◌, if◌then◌else◌, nat_le, List, length}
+use Rattle.elan_types.specs.declared.elan_type.ElanType.{ElanType}
+use Rattle.elan_types.specs.declared.elan_type.ElanType.TheVariants as types
 use Rattle.elan_types.specs.declared.elan_type.ElanType.TheVariants.{Int, Bool as Truths, Text}
+use Rattle.elan_scope.specs.declared.scope.Scope.{Scope}
+use Rattle.elan_scope.specs.declared.type_name.TypeName.{TypeName}
+use Rattle.elan_scope.specs.Types.{concrete}
 use Rattle.elan_types.specs.Types.{kind_in}
 use Rattle.elan_types.specs.declared.core_phrase.ValuePhrase.{ValuePhrase}
 use Rattle.elan_types.specs.declared.core_phrase.ValuePhrase.TheVariants as value
@@ -34,6 +39,16 @@ abbrev pub bracketed : ℕ → Meant → Meant
 bracketed at (Variable p t x) = Value at t (value.Load x (kind_in t))
 bracketed at (Value p t v) = Value at t v
 bracketed at m = m
+
+-- CONCR of a type of the text's own: the same place or value, as of its concrete type
+abbrev pub concr_as : List TypeName → ℕ → ElanType → (ElanType → Meant) → Verdict Meant
+concr_as ts at (types.Own t) go = gives (go (concrete ts t))
+concr_as ts at t go = breaks (at, WrongType)
+
+abbrev pub concr : ℕ → Scope → Meant → Verdict Meant
+concr at s (Variable p t x) = concr_as s.types at t (λ u. Variable at u x)
+concr at s (Value p t v) = concr_as s.types at t (λ u. Value at u v)
+concr at s m = breaks (at, WrongType)
 
 -- the truth value that is made of two
 abbrev pub of_truths : ℕ → Meant → Meant → ValuePhrase → Verdict Meant

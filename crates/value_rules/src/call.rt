@@ -9,11 +9,13 @@ ghost use Rattle.elan_scope.specs.declared.predefined.Predefined.TheVariants as 
 ghost use Rattle.elan_scope.specs.walks.Seen as seen;
 ghost use Rattle.value_rules.specs.Calls as spec;
 ghost use Rattle.value_rules.specs.walks.Steps as walk;
-ghost use Rattle.elan_meant.specs.Verdict.{Verdict, Tells};
+ghost use Rattle.elan_scope.specs.Answer.{Is};
+ghost use Rattle.elan_meant.specs.Operands.{is_unclear};
+ghost use Rattle.elan_meant.specs.Verdict.{Verdict, Tells, told, unless};
 
 use elan_meant::arity::two_of;
 use elan_meant::meant::Meant;
-use elan_meant::operands::chosen;
+use elan_meant::operands::{chosen, is_unclear};
 use elan_meant::part::{delivering, done, value_in, variable};
 use elan_meant::row::{Judged, and, pushed};
 use elan_scope::callable::{Callable, Callee};
@@ -210,7 +212,8 @@ pub fn called(alloc: Global, at: u32, callable: Callable<'_>, operands: List<Mea
     performed(alloc, at, callable.callee, callable.result, actuals)
 }
 
-/// An operator with its operands, or an identifier with its actuals. A name that exists with that number of operands, but not
+/// An operator with its operands, or an identifier with its actuals. It hangs on a type that has no meaning, where that could take
+/// these operands. A name that exists with that number of operands, but not
 /// for these types, has the wrong type.
 pub fn applied(
     alloc: Global,
@@ -220,8 +223,12 @@ pub fn applied(
     name: &[u8],
     operands: List<Meant>,
 ) -> Judged
-    ensures { Tells result (spec.applied at scope.now sort name.now operands) }
+    ensures { Is result (unless (is_unclear scope.now sort name.now operands) (told (spec.applied at scope.now sort name.now operands))) }
 {
+    if is_unclear(scope, sort, name, operands.as_slice()) {
+        Meant::all_let_go(operands);
+        return Err(Trouble::Hangs);
+    }
     match chosen(scope, sort, name, operands.as_slice()) {
         Some(callable) => called(alloc, at, callable, operands),
         None => {
@@ -236,7 +243,7 @@ pub fn applied(
 
 /// An identifier without actuals that denotes no variable, constant, parameter or refinement.
 pub fn applied_alone(alloc: Global, at: u32, scope: &Scope, name: &[u8]) -> Judged
-    ensures { Tells result (spec.applied at scope.now sorts.Procedure name.now []) }
+    ensures { Is result (unless (is_unclear scope.now sorts.Procedure name.now []) (told (spec.applied at scope.now sorts.Procedure name.now []))) }
 {
     applied(alloc, at, scope, Sort::Procedure, name, List::new(alloc))
 }

@@ -5,7 +5,9 @@ ghost use Rattle.elan_types.specs.declared.core_phrase.Action.TheVariants as lea
 ghost use Rattle.elan_meant.specs.declared.meant.Meant.TheVariants as means;
 ghost use Rattle.value_rules.specs.Calls as spec;
 ghost use Rattle.value_rules.specs.walks.Steps as walk;
-ghost use Rattle.elan_meant.specs.Verdict.{gives, Tells};
+ghost use Rattle.elan_scope.specs.Scope as scopes;
+ghost use Rattle.elan_scope.specs.Answer.{Is};
+ghost use Rattle.elan_meant.specs.Verdict.{gives, told, unless, Tells};
 
 use elan_meant::meant::Meant;
 use elan_meant::operands::delivers;
@@ -13,6 +15,7 @@ use elan_meant::part::{one, type_in, value_in};
 use elan_meant::row::Judged;
 use elan_scope::delivery::Delivery;
 use elan_scope::known::Known;
+use elan_scope::scope::Scope;
 use elan_scope::trouble::Trouble;
 use elan_types::{Action, Exit, Why};
 use std::alloc::Global;
@@ -62,22 +65,27 @@ fn leave_as(alloc: Global, at: u32, exit: Exit, delivery: Delivery, value: Meant
     }
 }
 
-/// A LEAVE, the body that it leaves, and its value. It names the refinement, PROC or OP in which it stands.
+/// A LEAVE of a name, and its value. It names the refinement, PROC or OP in which it stands, and hangs on what that delivers.
 pub fn leaving(
     alloc: Global,
     known: &Known,
     at: u32,
-    left: Option<(Exit, usize)>,
+    scope: &Scope,
+    name: &[u8],
     value: Meant,
 ) -> Judged
-    ensures { Tells result (spec.leaving known.now at left value) }
+    ensures { Is result (unless (spec.leaves_open scope.now (scopes.left scope.now name.now)) (told (spec.leaving known.now at (scopes.left scope.now name.now) value))) }
 {
-    match left {
+    match scope.left(name) {
         None => {
             value.let_go();
             Err(Trouble::Breaks(at, Why::WrongPlace))
         }
         Some((exit, number)) => {
+            if scope.delivers_open(number) {
+                value.let_go();
+                return Err(Trouble::Hangs);
+            }
             let delivery = known.delivery_at(number);
             leave_as(alloc, at, exit, delivery, value)
         }

@@ -1,18 +1,19 @@
 //! Identifiers without actuals, and names in their declarations.
 
-ghost use Rattle.std.specs.Prelude.{◌≡◌};
+ghost use Rattle.std.specs.Prelude.{◌≡◌, []};
 ghost use Rattle.elan_types.specs.declared.core_phrase.Access.TheVariants as accesses;
 ghost use Rattle.elan_meant.specs.declared.meant.Meant.TheVariants as means;
 ghost use Rattle.value_rules.specs.Calls as spec;
 ghost use Rattle.elan_scope.specs.Scope as scopes;
 ghost use Rattle.elan_scope.specs.Answer.{Is};
-ghost use Rattle.elan_meant.specs.Verdict.{gives, Tells};
+ghost use Rattle.elan_meant.specs.Verdict.{gives, told, unless, Tells};
 
 use crate::call::applied_alone;
 use crate::value::denoter;
 use elan_meant::meant::Meant;
 use elan_meant::part::{delivering, done};
 use elan_meant::row::Judged;
+use elan_scope::callable::{has_open, is_open_result};
 use elan_scope::delivery::Delivery;
 use elan_scope::heading::Sort;
 use elan_scope::known::Known;
@@ -132,6 +133,17 @@ fn refined_as(
 
 // ---- identifiers without actuals
 
+// Whether what is held under a name has a type without meaning.
+fn holds_open(denotes: &Denotes) -> bool
+    ensures { result ≡ spec.holds_open denotes.now }
+{
+    match denotes {
+        Denotes::Variable(of) | Denotes::Constant(of) => of.is_open(),
+        Denotes::Parameter(parameter) => parameter.of.is_open(),
+        Denotes::Procedure | Denotes::Refinement | Denotes::Denoter(_) => false,
+    }
+}
+
 fn denoted(
     alloc: Global,
     known: &Known,
@@ -141,8 +153,12 @@ fn denoted(
     name: &[u8],
     found: Found<'_>,
 ) -> Judged
-    ensures { Is result (spec.denoted known.now usage at scope.now name.now found.entry.home found.entry.number found.entry.denotes.now) }
+    ensures { Is result (unless (spec.denotes_open scope.now name.now found.entry.denotes.now)
+        (spec.denoted known.now usage at scope.now name.now found.entry.home found.entry.number found.entry.denotes.now)) }
 {
+    if holds_open(found.denotes) {
+        return Err(Trouble::Hangs);
+    }
     match found.denotes {
         Denotes::Variable(of) => Ok(variable(at, *of, plainly_held(found))),
         Denotes::Constant(of) => constant(alloc, at, *of, plainly_held(found)),
@@ -175,7 +191,8 @@ pub fn named(
     scope: &Scope,
     name: &[u8],
 ) -> Judged
-    ensures { Is result (spec.named known.now usage at scope.now name.now (scopes.find scope.now name.now)) }
+    ensures { Is result (unless (spec.is_open_name scope.now name.now (scopes.find scope.now name.now))
+        (spec.named known.now usage at scope.now name.now (scopes.find scope.now name.now))) }
 {
     match scope.find(name) {
         Some(found) => denoted(alloc, known, usage, at, scope, name, found),
@@ -196,45 +213,90 @@ fn declared_as(alloc: Global, at: u32, found: Found<'_>) -> Judged
     }
 }
 
-/// A name in its declaration. It is declared where the first declaration of that name is this one.
+/// A name in its declaration. It is declared where the first declaration of that name is this one, and hangs on its type.
 pub fn declared(alloc: Global, at: u32, scope: &Scope, name: &[u8]) -> Judged
-    ensures { Tells result (spec.declared at (scopes.find_own scope.now name.now)) }
+    ensures { Is result (unless (spec.declares_open at (scopes.find_own scope.now name.now)) (told (spec.declared at (scopes.find_own scope.now name.now)))) }
 {
     match scope.find_own(name) {
         None => Err(Trouble::Breaks(at, Why::Unknown)),
         Some(found) => {
-            if found.at == at {
-                declared_as(alloc, at, found)
-            } else {
+            if found.at != at {
                 Err(Trouble::Breaks(at, Why::Doubled))
+            } else if holds_open(found.denotes) {
+                Err(Trouble::Hangs)
+            } else {
+                declared_as(alloc, at, found)
             }
         }
     }
 }
 
-/// The heading of a PROC or OP, of which the first with equal name and types of parameters is this one. A value is missing
-/// where it delivers one and its body has no unit.
-pub fn headed(
-    alloc: Global,
-    at: u32,
-    scope: &Scope,
-    sort: Sort,
-    name: &[u8],
-    parameters: &[Parameter],
-    missing: bool,
-) -> Judged
-    ensures { Tells result (spec.headed at missing (scopes.first_heading (scopes.is_alike sort name.now (scopes.types_of parameters.now)) scope.now.headings)) }
+/// The name of a type in its declaration. It is declared where the first declaration of that name is this one, and hangs on its type.
+pub fn type_declared(alloc: Global, at: u32, scope: &Scope, name: &[u8]) -> Judged
+    ensures { Is result (unless (spec.is_open_type at (scopes.find_own_type scope.now name.now))
+        (told (spec.type_declared at (scopes.find_own_type scope.now name.now)))) }
 {
-    match scope.headings.first_alike(sort, name, parameters) {
+    match scope.find_own_type(name) {
         None => Err(Trouble::Breaks(at, Why::Unknown)),
-        Some((_, heading)) => {
-            if heading.at != at {
+        Some(named) => {
+            if named.at != at {
                 Err(Trouble::Breaks(at, Why::Doubled))
-            } else if missing {
-                Err(Trouble::Breaks(at, Why::WrongType))
+            } else if named.of.is_open() {
+                Err(Trouble::Hangs)
             } else {
                 Ok(Meant::Done(List::new(alloc)))
             }
         }
     }
+}
+
+// A value is missing where a PROC or OP delivers one and its body has no unit.
+fn headed_as(alloc: Global, at: u32, missing: bool) -> Judged
+    ensures { Tells result (spec.headed_as at missing) }
+{
+    if missing {
+        Err(Trouble::Breaks(at, Why::WrongType))
+    } else {
+        Ok(Meant::Done(List::new(alloc)))
+    }
+}
+
+/// The heading of a PROC or OP, of which the first with equal name and types of parameters is this one; it hangs on its types.
+pub fn heading(
+    alloc: Global,
+    at: u32,
+    scope: &Scope,
+    of: Headed<'_>,
+    delivered: Option<ElanType>,
+    missing: bool,
+) -> Judged
+    ensures { Is result (spec.heading_ruled at of.entry.parameters.now delivered missing
+        (scopes.first_heading (scopes.is_alike of.entry.sort of.entry.name.now (scopes.types_of of.entry.parameters.now)) scope.now.headings)) }
+{
+    let open = has_open(of.parameters);
+    if !open {
+        match scope.headings.first_alike(of.sort, of.name, of.parameters) {
+            None => return Err(Trouble::Breaks(at, Why::Unknown)),
+            Some((_, first)) => {
+                if first.at != at {
+                    return Err(Trouble::Breaks(at, Why::Doubled));
+                }
+            }
+        }
+    }
+    if open || is_open_result(delivered) {
+        if missing {
+            return Err(Trouble::Breaks(at, Why::WrongType));
+        }
+        return Err(Trouble::Hangs);
+    }
+    headed_as(alloc, at, missing)
+}
+
+/// What a PROC or OP is called by, and what it is given.
+#[derive(Clone, Copy)]
+pub struct Headed<'a> {
+    pub sort: Sort,
+    pub name: &'a [u8],
+    pub parameters: &'a [Parameter],
 }

@@ -14,7 +14,9 @@ use elan_meant::operands::delivers;
 use elan_meant::part::{delivering, value_of};
 use elan_meant::row::{Judged, both};
 use elan_scope::denoter::Denoter;
+use elan_scope::scope::Scope;
 use elan_scope::trouble::Trouble;
+use elan_scope::type_name::concrete;
 use elan_types::{ElanType, ValuePhrase, Why};
 use eu_base::{Boxed, Bytes, TEXT_BYTES};
 use std::alloc::Global;
@@ -122,4 +124,34 @@ pub fn cor(alloc: Global, at: u32, left: Meant, right: Meant) -> Judged
     ensures { Tells result (spec.cor at left right) }
 {
     of_truths(alloc, at, true, left, right)
+}
+
+/// CONCR: the same place or value, as of the concrete type of one of the text's own.
+pub fn concr(at: u32, scope: &Scope, meant: Meant) -> Judged
+    ensures { Tells result (spec.concr at scope.now meant) }
+{
+    match meant {
+        Meant::Variable {
+            at: _at,
+            of: ElanType::Own(own),
+            place,
+        } => Ok(Meant::Variable {
+            at,
+            of: concrete(scope.types.as_slice(), own),
+            place,
+        }),
+        Meant::Value {
+            at: _at,
+            of: ElanType::Own(own),
+            value,
+        } => Ok(Meant::Value {
+            at,
+            of: concrete(scope.types.as_slice(), own),
+            value,
+        }),
+        other => {
+            other.let_go();
+            Err(Trouble::Breaks(at, Why::WrongType))
+        }
+    }
 }

@@ -13,8 +13,8 @@ returns-in-Proc-clause-meaning c =
     let k = c.args.known.now in
     let s = c.args.scope.now in
     subst (λ (v : LevelUnit). Is c.judge_routine.result (judged k (level_unit s c.args.number v))) (sym c.in-Proc.is)
-    (procedure_at k s c.args.number c.in-Proc.name c.as_slice.result.now c.in-Proc.result c.in-Proc.formals c.as_slice-formals.result.now c.in-Proc.body
-    c.judge_routine.result c.as_slice.ensures c.as_slice-formals.ensures
+    (procedure_at k s c.args.number c.in-Proc.name c.as_slice-in-Proc.result.now c.in-Proc.result c.in-Proc.formals c.as_slice-formals.result.now c.in-Proc.body
+    c.judge_routine.result c.as_slice-in-Proc.ensures c.as_slice-formals.ensures
     (c.judge_routine.ensures.meaning (procedure_name s c.in-Proc.name c.as_slice-formals.result.now) (c.procedure_name-names.ensures k)))
 
 pub returns-in-Op-clause-meaning : goal.returns-in-Op-clause-meaning

@@ -1,4 +1,5 @@
 use Rattle.elan_laws.proofs.WholeOrder.{text_same, text_leaves_follow}
+use Rattle.elan_laws.proofs.TypePlaces.{faults_follow}
 use Rattle.elan_laws.proofs.places.phrases_stand_in_text_order.Goals as goal
 
 pub returns-clause-all : goal.returns-clause-all
@@ -6,3 +7,6 @@ returns-clause-all c = λ t. text_same t
 
 pub returns-clause-judged : goal.returns-clause-judged
 returns-clause-judged c = λ t. text_leaves_follow t
+
+pub returns-clause-types : goal.returns-clause-types
+returns-clause-types c = λ t h. faults_follow t h

@@ -1,6 +1,5 @@
 use Rattle.std.proofs.Common.{◌++◌, List, sym, ◌∙◌}
 use Rattle.std.proofs.lemmas.List.{append-nil, at_drop_all}
-use Rattle.std.specs.Prelude.{option_map}
 use Rattle.elan_tree.specs.declared.written_type.Name.{Name}
 use Rattle.elan_scope.specs.declared.scope.Denotes.TheVariants as denotes
 use Rattle.elan_scope.specs.Scope.{all_held}
@@ -10,6 +9,6 @@ use Rattle.elan_levels.proofs.bodies.for_each.Goals as goal
 pub returns : goal.returns
 returns c =
     sym (append-nil c.loop-name.out)
-    ∙ sym (at_drop_all (λ (ns : List Name). c.loop-name.out ++ all_held (named_as ns (option_map denotes.Parameter c.args.parameter)))
+    ∙ sym (at_drop_all (λ (ns : List Name). c.loop-name.out ++ all_held (named_as ns (denotes.Parameter c.args.parameter)))
     c.args.names.now c.loop-name._name-index c.loop-name-test.false)
     ∙ c.loop-name.invariant.1

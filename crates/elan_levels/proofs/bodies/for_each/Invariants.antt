@@ -1,5 +1,4 @@
 use Rattle.std.proofs.Common.{◌≡◌, ◌++◌, drop}
-use Rattle.std.specs.Prelude.{option_map}
 use Rattle.elan_scope.specs.declared.scope.Denotes.TheVariants as denotes
 use Rattle.elan_scope.specs.Scope.{all_held}
 use Rattle.elan_levels.specs.Bodies.{named_as}
@@ -8,5 +7,5 @@ use Rattle.elan_levels.proofs.bodies.for_each.Given as goal
 abbrev pub invariant-loop-name : goal.invariant-loop-name
 invariant-loop-name l =
     (l.parameter ≡ l.fn.parameter)
-    × (l.out ++ all_held (named_as (drop l._name-index l.names) (option_map denotes.Parameter l.fn.parameter))
-    ≡ l.fn.out ++ all_held (named_as l.names (option_map denotes.Parameter l.fn.parameter)))
+    × (l.out ++ all_held (named_as (drop l._name-index l.names) (denotes.Parameter l.fn.parameter))
+    ≡ l.fn.out ++ all_held (named_as l.names (denotes.Parameter l.fn.parameter)))

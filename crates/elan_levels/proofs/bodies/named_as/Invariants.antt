@@ -1,5 +1,4 @@
-use Rattle.std.proofs.Common.{◌≡◌, false, ◌++◌, drop}
-use Rattle.std.specs.Prelude.{option_map}
+use Rattle.std.proofs.Common.{◌≡◌, ◌++◌, false, drop}
 use Rattle.elan_scope.specs.declared.scope.Denotes.TheVariants as denotes
 use Rattle.elan_levels.specs.Bodies.{named_as}
 use Rattle.elan_levels.proofs.bodies.named_as.Given as goal
@@ -9,5 +8,6 @@ invariant-loop-name l =
     (l.parameter ≡ l.fn.parameter)
     × (l.out.wanted ≡ false
     → (l.fn.out.wanted ≡ false)
-    × (l.out.entries ++ named_as (drop l.name-index l.names) (option_map denotes.Parameter l.fn.parameter)
-    ≡ l.fn.out.entries ++ named_as l.names (option_map denotes.Parameter l.fn.parameter)))
+    × (l.out.entries ++ named_as (drop l.name-index l.names) (denotes.Parameter l.fn.parameter) ≡ l.fn.out.entries ++ named_as l.names (denotes.Parameter l.fn.parameter))
+    × (l.out.here.now ≡ l.fn.out.here.now)
+    × (l.out.around.now ≡ l.fn.out.around.now))

@@ -135,50 +135,53 @@ pub record Call (calls : List (List ℕ)) (n : ℕ) (Goes : ℕ → Type 0) (c :
   pub away : leads n calls to c ≡ false
   pub goes : Goes to
 
-module _ (calls : List (List ℕ)) (n : ℕ) (Goes : ℕ → Type 0) (step : (c : ℕ) → Goes c → Call calls n Goes c)
-    (small : (c : ℕ) → Goes c → (marks : List Bool) → length marks ≡ n → (b : Bool) × (slice_get marks c ≡ Some b)) where
+-- a walk that goes on for so many steps at least
+module _ (calls : List (List ℕ)) (n : ℕ) (Goes : ℕ → ℕ → Type 0) (step : (f c : ℕ) → Goes (suc f) c → Call calls n (Goes f) c)
+    (small : (f c : ℕ) → Goes f c → (marks : List Bool) → length marks ≡ n → (b : Bool) × (slice_get marks c ≡ Some b)) where
   -- a number that was passed: its call led here in so many calls
   abbrev Passed : ℕ → ℕ → ℕ → Type 0
-  Passed m c i = (k : Call calls n Goes m) × (leads i calls k.to c ≡ true)
+  Passed m c i = (to : ℕ) × (leads n calls to m ≡ false) × (leads i calls to c ≡ true)
 
   not_back : (i f c : ℕ) → i + f ≡ n → Passed c c i → ⊥
   not_back i f c e h =
-      both (leads n calls h.0.to c)
-      (let z : f + i ≡ n = (let j = e in omega arith) in ap (λ (m : ℕ). leads m calls h.0.to c) (sym z) ∙ leads_by calls f i h.0.to c h.1) h.0.away
+      both (leads n calls h.0 c)
+      (let z : f + i ≡ n = (let j = e in omega arith) in ap (λ (m : ℕ). leads m calls h.0 c) (sym z) ∙ leads_by calls f i h.0 c h.2) h.1
     where
       both : (b : Bool) → b ≡ true → b ≡ false → ⊥
       both b h g = cc
 
-  passed_on : (i m c : ℕ) (k : Call calls n Goes c) → Passed m c i → Passed m k.to (suc i)
-  passed_on i m c k h = (h.0, leads_last calls i h.0.to c k.to h.1 k.called)
+  passed_on : (i m c to : ℕ) → In to (slice_index_or calls c []) → Passed m c i → Passed m to (suc i)
+  passed_on i m c to k h = (h.0, h.1, leads_last calls i h.0 c to h.2 k)
 
   abbrev AllPassed : List Bool → ℕ → ℕ → Type 0
   AllPassed marks c i = (m : ℕ) → slice_get marks m ≡ Some true → Passed m c i
 
-  passed : (marks : List Bool) (c i : ℕ) (k : Call calls n Goes c) → AllPassed marks c i → AllPassed (mark c marks) k.to (suc i)
-  passed marks c i k p m t =
+  passed : (marks : List Bool) (c i to : ℕ) → In to (slice_index_or calls c []) → leads n calls to c ≡ false → AllPassed marks c i
+      → AllPassed (mark c marks) to (suc i)
+  passed marks c i to k away p m t =
       elim (marked c m marks t) [
-        | inl s ↦ subst (λ (x : ℕ). Passed x k.to (suc i)) (sym s) (k, leads_self calls (suc i) k.to)
-        | inr s ↦ passed_on i m c k (p m s)
+        | inl s ↦ subst (λ (x : ℕ). Passed x to (suc i)) (sym s) (to, away, leads_self calls (suc i) to)
+        | inr s ↦ passed_on i m c to k (p m s)
       ]
 
-  walk : (f : ℕ) (marks : List Bool) (c i : ℕ) → frees marks ≡ f → i + f ≡ n → length marks ≡ n → AllPassed marks c i → Goes c → ⊥
-  walk zero marks c i e g l p h = by_mark (small c h marks l).0 (small c h marks l).1
+  walk : (f : ℕ) (marks : List Bool) (c i : ℕ) → frees marks ≡ f → i + f ≡ n → length marks ≡ n → AllPassed marks c i → Goes f c → ⊥
+  walk zero marks c i e g l p h = by_mark (small zero c h marks l).0 (small zero c h marks l).1
     where
       by_mark : (b : Bool) → slice_get marks c ≡ Some b → ⊥
       by_mark true t = not_back i 0 c g (p c t)
       by_mark false t = let z : suc (frees (mark c marks)) ≡ 0 = mark_frees c marks t ∙ e in absurd (omega (arith, z))
-  walk (suc j) marks c i e g l p h = by_mark (walk j (mark c marks) (step c h).to (suc i)) (small c h marks l).0 (small c h marks l).1
+  walk (suc j) marks c i e g l p h = by_mark (walk j (mark c marks) (step j c h).to (suc i)) (small (suc j) c h marks l).0 (small (suc j) c h marks l).1
     where
-      by_mark : (frees (mark c marks) ≡ j → suc i + j ≡ n → length (mark c marks) ≡ n → AllPassed (mark c marks) (step c h).to (suc i) → Goes (step c h).to → ⊥)
-          → (b : Bool) → slice_get marks c ≡ Some b → ⊥
+      by_mark : (frees (mark c marks) ≡ j → suc i + j ≡ n → length (mark c marks) ≡ n → AllPassed (mark c marks) (step j c h).to (suc i)
+          → Goes j (step j c h).to → ⊥) → (b : Bool) → slice_get marks c ≡ Some b → ⊥
       by_mark rest true t = not_back i (suc j) c g (p c t)
       by_mark rest false t =
           let z : suc (frees (mark c marks)) ≡ suc j = mark_frees c marks t ∙ e in
           let y : frees (mark c marks) ≡ j = omega (arith, z) in
           let x : suc i + j ≡ n = omega (arith, g) in
-          rest y x (mark_length c marks ∙ l) (passed marks c i (step c h) p) (step c h).goes
+          rest y x (mark_length c marks ∙ l) (passed marks c i (step j c h).to (step j c h).called (step j c h).away p) (step j c h).goes
 
-  pub no_walk : {A : Type 0} (xs : List A) → length xs ≡ n → (c : ℕ) → Goes c → ⊥
+  -- There is no such walk of as many steps as there are numbers.
+  pub no_walk : {A : Type 0} (xs : List A) → length xs ≡ n → (c : ℕ) → Goes n c → ⊥
   no_walk xs l c h =
       walk n (unmarked xs) c 0 (unmarked_frees xs ∙ l) (let z : 0 + n ≡ n = omega arith in z) (unmarked_length xs ∙ l) (λ m e. absurd (none_marked xs m e)) h

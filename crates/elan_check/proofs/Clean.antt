@@ -1,0 +1,325 @@
+-- Where no type breaks a rule, no name and no heading has a type without meaning.
+use Rattle.std.proofs.Common.{◌≡◌, ℕ, zero, suc, Bool, true, false, ◌||◌, List, [], ◌∷◌, ◌++◌, Option, Some, None, refl, sym, ap, subst, ◌∙◌}
+use Rattle.std.proofs.lemmas.List.{append-nil}
+use Rattle.std.specs.Prelude.{flat_map, map, slice_get}
+use Rattle.elan_types.specs.declared.elan_type.ElanType.{ElanType}
+use Rattle.elan_types.specs.declared.elan_type.Parameter.{Parameter}
+use Rattle.elan_types.specs.declared.why.Why.TheVariants.{Unknown}
+use Rattle.elan_types.specs.Types.{is_open}
+use Rattle.elan_tree.specs.declared.written_type.Name.{Name}
+use Rattle.elan_tree.specs.declared.written_type.Formal.{Formal}
+use Rattle.elan_tree.specs.declared.written_type.TypePhrase.{TypePhrase}
+use Rattle.elan_tree.specs.declared.tree.Body.{Body}
+use Rattle.elan_tree.specs.declared.tree.Refinement.{Refinement}
+use Rattle.elan_tree.specs.declared.tree.Level.{Level}
+use Rattle.elan_tree.specs.declared.tree.LevelUnit.{LevelUnit}
+use Rattle.elan_tree.specs.declared.tree.LevelUnit.TheVariants as level
+use Rattle.elan_walk.specs.declared.node.Held.TheVariants.{Variable, Constant}
+use Rattle.elan_walk.specs.Nodes as nodes
+use Rattle.elan_walk.specs.Nodes.{Node, alone, other, sign, of_type, item, let_name, abbreviation, new_type, unbuilt}
+use Rattle.elan_scope.specs.declared.scope.Denotes.TheVariants as denotes
+use Rattle.elan_scope.specs.declared.scope.Entry.{Entry}
+use Rattle.elan_scope.specs.declared.type_name.TypeName.{TypeName}
+use Rattle.elan_scope.specs.Types.{first_type, denoted_type}
+use Rattle.elan_scope.specs.Scope.{held, all_held, has_open, is_open_result}
+use Rattle.value_rules.specs.Calls.{holds_open}
+use Rattle.type_names.specs.declared.definition.Definition.{Definition}
+use Rattle.type_names.specs.declared.definition.Written.{Written}
+use Rattle.type_names.specs.declared.definition.Written.TheVariants.{Of, Named}
+use Rattle.type_names.specs.Types as names
+use Rattle.type_names.specs.Types.{written, meant, look, type_in, defined, first_from, names_of, body_definitions, refinement_definitions, unit_definitions}
+use Rattle.type_names.specs.Types.{level_definitions, level_types, body_types}
+use Rattle.type_names.specs.Faults.{Here, here, calls, node_faults, nodes_faults, named_faults, written_faults, unit_faults, routine_faults, level_faults}
+use Rattle.type_names.proofs.Sound.{Mean, Sound, no_fault, unknown_if, not_unknown, names_mean, seen_mean}
+use Rattle.elan_levels.specs.Declarations as d
+use Rattle.elan_levels.specs.Bodies as b
+
+-- ---- lists
+
+pub none_both : {A : Type 0} (xs ys : List A) → xs ++ ys ≡ [] → (xs ≡ []) × (ys ≡ [])
+none_both [] ys e = (refl, e)
+none_both (x ∷ xs) ys e = absurd cc
+
+neither : (p q : Bool) → (p || q) ≡ false → (p ≡ false) × (q ≡ false)
+neither true q e = absurd cc
+neither false q e = (refl, e)
+
+or_false : (p q : Bool) → p ≡ false → q ≡ false → (p || q) ≡ false
+or_false p q h k = cc
+
+-- ---- nodes that break no rule of types
+
+module _ (h : Here) where
+  abbrev pub Clean : List Node → Type 0
+  Clean [] = Unit {0}
+  Clean (n ∷ ns) = (node_faults h n ≡ []) × Clean ns
+
+  pub clean_of : (ns : List Node) → nodes_faults h ns ≡ [] → Clean ns
+  clean_of [] e = tt
+  clean_of (n ∷ ns) e = let p = none_both (node_faults h n) (nodes_faults h ns) e in (p.0, clean_of ns p.1)
+
+  pub clean_both : (ms ns : List Node) → Clean (ms ++ ns) → Clean ms × Clean ns
+  clean_both [] ns c = (tt, c)
+  clean_both (m ∷ ms) ns c = let r = clean_both ms ns c.1 in ((c.0, r.0), r.1)
+
+  -- ---- types
+
+  written_means : Mean h.seen → (v : Written) → written_faults h v ≡ [] → is_open (meant (look h.seen) v) ≡ false
+  written_means m (Of t) e = no_fault (is_open t) (0, Unknown) e
+  written_means m (Named at x) e = by_found (first_type x h.seen) refl
+    where
+      by_found : (o : Option TypeName) → first_type x h.seen ≡ o → is_open (look h.seen x) ≡ false
+      by_found (Some t) i = ap (λ (q : Option TypeName). is_open (denoted_type q)) i ∙ m x t i
+      by_found None i = absurd (not_unknown at (ap (unknown_if at) (sym i) ∙ e))
+
+  phrase_means : Mean h.seen → (of : TypePhrase) → written_faults h (written of) ≡ [] → is_open (type_in h.seen of) ≡ false
+  phrase_means m of e = written_means m (written of) e
+
+  -- ---- definitions
+
+  abbrev pub AllSound : List Definition → Type 0
+  AllSound [] = Unit {0}
+  AllSound (e ∷ ds) = Sound h e × AllSound ds
+
+  sound_append : (ds es : List Definition) → AllSound ds → AllSound es → AllSound (ds ++ es)
+  sound_append [] es s t = t
+  sound_append (e ∷ ds) es s t = (s.0, sound_append ds es s.1 t)
+
+  sound_at : (ds : List Definition) (i : ℕ) (e : Definition) → AllSound ds → slice_get ds i ≡ Some e → Sound h e
+  sound_at [] i e s g = absurd cc
+  sound_at (a ∷ ds) zero e s g = let q : a ≡ e = cc in subst (λ (z : Definition). Sound h z) q s.0
+  sound_at (a ∷ ds) (suc i) e s g = sound_at ds i e s.1 g
+
+  definition_sound : (at : ℕ) (n : Name) (own : Bool) (v : Written) → named_faults h at v (first_from 0 h.definitions n.text) ++ written_faults h v ≡ []
+      → Sound h (record { at = at; name_at = n.at; name = n.text; own = own; written = v })
+  definition_sound at n own v e =
+      let p = none_both (named_faults h at v (first_from 0 h.definitions n.text)) (written_faults h v) e in record { named = p.0; written = p.1 }
+
+  node_sound : (n : Node) → node_faults h n ≡ [] → AllSound (defined n)
+  node_sound (abbreviation n of) e = (definition_sound n.at n false (written of) e, tt)
+  node_sound (new_type at n of) e = (definition_sound at n true (written of) e, tt)
+  node_sound (alone n) e = tt
+  node_sound (other n) e = tt
+  node_sound (sign o) e = tt
+  node_sound (of_type of) e = tt
+  node_sound (item k of n) e = tt
+  node_sound (let_name n c) e = tt
+  node_sound unbuilt e = tt
+
+  nodes_sound : (ns : List Node) → Clean ns → AllSound (flat_map defined ns)
+  nodes_sound [] c = tt
+  nodes_sound (n ∷ ns) c = sound_append (defined n) (flat_map defined ns) (node_sound n c.0) (nodes_sound ns c.1)
+
+  refinements_sound : (rs : List Refinement) → Clean (nodes.refinements rs) → AllSound (refinement_definitions rs)
+  refinements_sound [] c = tt
+  refinements_sound (r ∷ rs) c =
+      let p = clean_both (nodes.in_units r.units) (nodes.refinements rs) c.1 in
+      sound_append (names.in_units r.units) (refinement_definitions rs) (nodes_sound (nodes.in_units r.units) p.0) (refinements_sound rs p.1)
+
+-- ---- names whose types have meaning
+
+abbrev pub Closed : List Entry → Type 0
+Closed [] = Unit {0}
+Closed (e ∷ es) = (holds_open e.denotes ≡ false) × Closed es
+
+closed_append : (es gs : List Entry) → Closed es → Closed gs → Closed (es ++ gs)
+closed_append [] gs c k = k
+closed_append (e ∷ es) gs c k = (c.0, closed_append es gs c.1 k)
+
+open_append : (ps qs : List Parameter) → has_open ps ≡ false → has_open qs ≡ false → has_open (ps ++ qs) ≡ false
+open_append [] qs h k = k
+open_append (p ∷ ps) qs h k =
+    let n = neither (is_open p.of) (has_open ps) h in or_false (is_open p.of) (has_open (ps ++ qs)) n.0 (open_append ps qs n.1 k)
+
+held_closed : (es : List Entry) → Closed es → has_open (all_held es) ≡ false
+held_closed [] c = refl
+held_closed (e ∷ es) c = open_append (held e.denotes) (all_held es) c.0 (held_closed es c.1)
+
+module _ (h : Here) (m : Mean h.seen) where
+  one_closed : (of : TypePhrase) → written_faults h (written of) ≡ [] → (is_open (type_in h.seen of) || false) ≡ false
+  one_closed of e = or_false (is_open (type_in h.seen of)) false (phrase_means h m of e) refl
+
+  node_closed : (n : Node) → node_faults h n ≡ [] → Closed (d.declared h.seen n)
+  node_closed (item Variable of n) e = (one_closed of e, tt)
+  node_closed (item Constant of n) e = (one_closed of e, tt)
+  node_closed (let_name n c) e = (refl, tt)
+  node_closed (alone n) e = tt
+  node_closed (other n) e = tt
+  node_closed (sign o) e = tt
+  node_closed (of_type of) e = tt
+  node_closed (abbreviation n of) e = tt
+  node_closed (new_type at n of) e = tt
+  node_closed unbuilt e = tt
+
+  nodes_closed : (ns : List Node) → Clean h ns → Closed (flat_map (d.declared h.seen) ns)
+  nodes_closed [] c = tt
+  nodes_closed (n ∷ ns) c = closed_append (d.declared h.seen n) (flat_map (d.declared h.seen) ns) (node_closed n c.0) (nodes_closed ns c.1)
+
+  refinements_closed : (rs : List Refinement) → Clean h (nodes.refinements rs) → Closed (b.refinement_names h.seen rs)
+  refinements_closed [] c = tt
+  refinements_closed (r ∷ rs) c =
+      let p = clean_both h (nodes.in_units r.units) (nodes.refinements rs) c.1 in
+      (refl, closed_append (d.in_units h.seen r.units) (b.refinement_names h.seen rs) (nodes_closed (nodes.in_units r.units) p.0) (refinements_closed rs p.1))
+
+  named_closed : (ns : List Name) (q : Parameter) → is_open q.of ≡ false → Closed (b.named_as ns (denotes.Parameter q))
+  named_closed [] q e = tt
+  named_closed (n ∷ ns) q e = (or_false (is_open q.of) false e refl, named_closed ns q e)
+
+  formals_closed : (fs : List Formal) → Clean h (nodes.formals fs) → Closed (b.parameter_names h.seen fs)
+  formals_closed [] c = tt
+  formals_closed (f ∷ fs) c =
+      let p = clean_both h (map other f.names) (nodes.formals fs) c.1 in
+      closed_append (b.named_as f.names (denotes.Parameter (b.parameter h.seen f))) (b.parameter_names h.seen fs)
+      (named_closed f.names (b.parameter h.seen f) (phrase_means h m f.of c.0)) (formals_closed fs p.1)
+
+  result_closed : (r : Option TypePhrase) → Clean h (nodes.result r) → is_open_result (b.result h.seen r) ≡ false
+  result_closed None c = refl
+  result_closed (Some of) c = phrase_means h m of c.0
+
+-- ---- a level
+
+mean_none : Mean []
+mean_none x t e = absurd cc
+
+procedure_closed : (n : Name) (fs : List Formal) → Closed (b.procedure_name n fs)
+procedure_closed n [] = (refl, tt)
+procedure_closed n (f ∷ fs) = tt
+
+module _ (w : Level) (faultless : level_faults w ≡ []) where
+  abbrev ds : List Definition
+  ds = level_definitions w
+
+  abbrev pub ts : List TypeName
+  ts = level_types w
+
+  -- what is known in the level: there is nothing around
+  abbrev outer : Here
+  outer = record { seen = ts; definitions = ds; calls = calls ds }
+
+  outer_is : here [] ds ≡ outer
+  outer_is = ap (λ (us : List TypeName). record { seen = us; definitions = ds; calls = calls ds }) (append-nil ts)
+
+  outer_clean : (ns : List Node) → nodes_faults (here [] ds) ns ≡ [] → Clean outer ns
+  outer_clean ns e = clean_of outer ns (subst (λ (h : Here). nodes_faults h ns ≡ []) outer_is e)
+
+  abbrev pub RoutineClean : Option TypePhrase → List Formal → Body → Type 0
+  RoutineClean r fs v =
+      Clean outer (nodes.result r ++ nodes.formals fs)
+      × Clean (here ts (body_definitions v)) (nodes.in_units v.units ++ nodes.refinements v.refinements)
+
+  -- a unit of a level breaks no rule of types
+  abbrev pub UnitClean : LevelUnit → Type 0
+  UnitClean (level.Plain u) = Clean outer (nodes.in_unit u)
+  UnitClean (level.NewType at n of) = Clean outer (new_type at n of ∷ [])
+  UnitClean (level.Proc at r n fs v) = RoutineClean r fs v
+  UnitClean (level.Op at r n fs v) = RoutineClean r fs v
+
+  abbrev pub AllUnits : List LevelUnit → Type 0
+  AllUnits [] = Unit {0}
+  AllUnits (v ∷ vs) = UnitClean v × AllUnits vs
+
+  routine_clean : (r : Option TypePhrase) (fs : List Formal) (v : Body) → routine_faults ds r fs v ≡ [] → RoutineClean r fs v
+  routine_clean r fs v e =
+      let p =
+      none_both (nodes_faults (here [] ds) (nodes.result r ++ nodes.formals fs))
+      (nodes_faults (here (names_of [] ds) (body_definitions v)) (nodes.in_units v.units ++ nodes.refinements v.refinements)) e in (
+        outer_clean (nodes.result r ++ nodes.formals fs) p.0,
+        clean_of (here ts (body_definitions v)) (nodes.in_units v.units ++ nodes.refinements v.refinements) p.1,
+      )
+
+  unit_clean : (v : LevelUnit) → unit_faults ds v ≡ [] → UnitClean v
+  unit_clean (level.Plain u) e = outer_clean (nodes.in_unit u) e
+  unit_clean (level.NewType at n of) e = outer_clean (new_type at n of ∷ []) e
+  unit_clean (level.Proc at r n fs v) e = routine_clean r fs v e
+  unit_clean (level.Op at r n fs v) e = routine_clean r fs v e
+
+  units_clean : (vs : List LevelUnit) → flat_map (unit_faults ds) vs ≡ [] → AllUnits vs
+  units_clean [] e = tt
+  units_clean (v ∷ vs) e = let p = none_both (unit_faults ds v) (flat_map (unit_faults ds) vs) e in (unit_clean v p.0, units_clean vs p.1)
+
+  both_parts : (flat_map (unit_faults ds) w.units ≡ []) × (nodes_faults (here [] ds) (nodes.refinements w.refinements) ≡ [])
+  both_parts = none_both (flat_map (unit_faults ds) w.units) (nodes_faults (here [] ds) (nodes.refinements w.refinements)) faultless
+
+  pub all_clean : AllUnits w.units
+  all_clean = units_clean w.units both_parts.0
+
+  refinements_clean : Clean outer (nodes.refinements w.refinements)
+  refinements_clean = outer_clean (nodes.refinements w.refinements) both_parts.1
+
+  -- ---- its types have meaning
+
+  unit_sound : (v : LevelUnit) → UnitClean v → AllSound outer (unit_definitions v)
+  unit_sound (level.Plain u) c = nodes_sound outer (nodes.in_unit u) c
+  unit_sound (level.NewType at n of) c = node_sound outer (new_type at n of) c.0
+  unit_sound (level.Proc at r n fs v) c = tt
+  unit_sound (level.Op at r n fs v) c = tt
+
+  units_sound : (vs : List LevelUnit) → AllUnits vs → AllSound outer (flat_map unit_definitions vs)
+  units_sound [] c = tt
+  units_sound (v ∷ vs) c = sound_append outer (unit_definitions v) (flat_map unit_definitions vs) (unit_sound v c.0) (units_sound vs c.1)
+
+  level_sound : AllSound outer ds
+  level_sound =
+      sound_append outer (flat_map unit_definitions w.units) (refinement_definitions w.refinements) (units_sound w.units all_clean)
+      (refinements_sound outer w.refinements refinements_clean)
+
+  sound_here : (i : ℕ) (e : Definition) → slice_get ds i ≡ Some e → Sound (here [] ds) e
+  sound_here i e g = subst (λ (h : Here). Sound h e) (sym outer_is) (sound_at outer ds i e level_sound g)
+
+  pub level_means : Mean ts
+  level_means = names_mean [] ds mean_none sound_here
+
+  -- ---- its names have types with meaning
+
+  unit_closed : (v : LevelUnit) → UnitClean v → Closed (b.unit_names ts v)
+  unit_closed (level.Plain u) c = nodes_closed outer level_means (nodes.in_unit u) c
+  unit_closed (level.NewType at n of) c = tt
+  unit_closed (level.Proc at r n fs v) c = procedure_closed n fs
+  unit_closed (level.Op at r n fs v) c = tt
+
+  units_closed : (vs : List LevelUnit) → AllUnits vs → Closed (flat_map (b.unit_names ts) vs)
+  units_closed [] c = tt
+  units_closed (v ∷ vs) c = closed_append (b.unit_names ts v) (flat_map (b.unit_names ts) vs) (unit_closed v c.0) (units_closed vs c.1)
+
+  pub level_closed : Closed (b.level_names w)
+  level_closed =
+      closed_append (flat_map (b.unit_names ts) w.units) (b.refinement_names ts w.refinements) (units_closed w.units all_clean)
+      (refinements_closed outer level_means w.refinements refinements_clean)
+
+  -- ---- PROCs and OPs
+
+  module _ (r : Option TypePhrase) (fs : List Formal) (v : Body) (c : RoutineClean r fs v) where
+    abbrev inner : Here
+    inner = here ts (body_definitions v)
+
+    heading_clean : Clean outer (nodes.result r) × Clean outer (nodes.formals fs)
+    heading_clean = clean_both outer (nodes.result r) (nodes.formals fs) c.0
+
+    body_clean : Clean inner (nodes.in_units v.units) × Clean inner (nodes.refinements v.refinements)
+    body_clean = clean_both inner (nodes.in_units v.units) (nodes.refinements v.refinements) c.1
+
+    body_sound : AllSound inner (body_definitions v)
+    body_sound =
+        sound_append inner (names.in_units v.units) (refinement_definitions v.refinements) (nodes_sound inner (nodes.in_units v.units) body_clean.0)
+        (refinements_sound inner v.refinements body_clean.1)
+
+    sound_inside : (i : ℕ) (e : Definition) → slice_get (body_definitions v) i ≡ Some e → Sound inner e
+    sound_inside i e g = sound_at inner (body_definitions v) i e body_sound g
+
+    pub body_means : Mean (body_types ts v)
+    body_means = names_mean ts (body_definitions v) level_means sound_inside
+
+    inner_means : Mean inner.seen
+    inner_means = seen_mean ts (body_definitions v) level_means sound_inside
+
+    pub parameters_closed : has_open (b.parameters ts fs) ≡ false
+    parameters_closed = held_closed (b.parameter_names ts fs) (formals_closed outer level_means fs heading_clean.1)
+
+    pub delivers_closed : is_open_result (b.result ts r) ≡ false
+    delivers_closed = result_closed outer level_means r heading_clean.0
+
+    pub body_closed : Closed (b.body_names ts fs v)
+    body_closed =
+        closed_append (b.parameter_names ts fs) (b.own_names (body_types ts v ++ ts) v) (formals_closed outer level_means fs heading_clean.1)
+        (closed_append (d.in_units inner.seen v.units) (b.refinement_names inner.seen v.refinements)
+        (nodes_closed inner inner_means (nodes.in_units v.units) body_clean.0) (refinements_closed inner inner_means v.refinements body_clean.1))

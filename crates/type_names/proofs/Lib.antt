@@ -1,0 +1,4 @@
+pub mod Seen
+pub mod Looked
+pub mod Searched
+pub mod Sound

@@ -1,0 +1,11 @@
+use Rattle.std.proofs.Common.{◌≡◌, List, [], drop}
+use Rattle.std.specs.Prelude.{flat_map}
+use Rattle.type_names.specs.declared.definition.Definition.{Definition}
+use Rattle.type_names.specs.Faults.{unit_faults, first_fault}
+use Rattle.type_names.specs.walks.Seen.{AreOf}
+use Rattle.type_names.proofs.fault.first_in_units.Given as goal
+
+abbrev pub invariant-loop-unit : goal.invariant-loop-unit
+invariant-loop-unit l =
+    (ds : List Definition) → AreOf [] ds l.level
+    → first_fault (flat_map (unit_faults ds) (drop l.unit-index l.units)) ≡ first_fault (flat_map (unit_faults ds) l.units)

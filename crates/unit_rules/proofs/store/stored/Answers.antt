@@ -1,0 +1,10 @@
+use Rattle.unit_rules.proofs.Stores.{stored_fails, stored_is}
+use Rattle.unit_rules.proofs.store.stored.Goals as goal
+
+pub returns-in-Err : goal.returns-in-Err
+returns-in-Err c = stored_fails c.args.at c.args.left c.args.right c.in-Err.trouble c.in-Err.ensures
+
+pub returns-in-Ok-variable : goal.returns-in-Ok-variable
+returns-in-Ok-variable c =
+    rw c.kind.ensures (rw c.value_in.ensures
+    (stored_is c.args.at c.args.left c.args.right c.in-Ok.of c.in-Ok-variable.place c.in-Ok.ensures c.in-Ok-variable.ensures))
