@@ -25,7 +25,7 @@ use Rattle.type_names.specs.declared.definition.Written.{Written}
 use Rattle.type_names.specs.declared.definition.Definition.{Definition}
 use Rattle.type_names.specs.Types.{written, first_from, names_of, body_definitions, level_definitions}
 use Rattle.type_names.specs.Faults as faults
-use Rattle.type_names.specs.Faults.{Here, here, comes_back, named_by}
+use Rattle.type_names.specs.Faults.{Here, here}
 use Rattle.elan_check.specs.Level.{level_in}
 use Rattle.elan_laws.specs.Places as at
 use Rattle.elan_laws.specs.Places.{type_places}
@@ -87,7 +87,7 @@ module _ (h : Here) where
 
   named_follows : (a : ℕ) (w : Written) (o : Option (ℕ × Definition)) → Follows (told_at (faults.named_faults h a w o)) (a ∷ [])
   named_follows a w None = ends (a ∷ [])
-  named_follows a w (Some d) = may_tell a (comes_back h.calls (named_by h.definitions w) d.0) (a, WrongPlace) refl
+  named_follows a w (Some d) = may_tell a (faults.contains_itself h a w d) (a, WrongPlace) refl
 
   definition_follows : (a : ℕ) (n : Name) (of : TypePhrase) → not (is_type_built of) ≡ false
       → Follows (told_at (faults.definition_faults h a n (written of))) (a ∷ at.type_name of)

@@ -168,4 +168,12 @@ FEHLER : kein ELAN-Text
 FEHLER : kein ELAN-Text
 > TYPE T = STRUCT (INT a); put (1)
 FEHLER : kein ELAN-Text
+> TYPE T = BOOL; TYPE T = T; put (1)
+FEHLER : doppelt (Zeile 1, Stelle 21)
+> LET T = BOOL; LET T = T; put (1)
+FEHLER : doppelt (Zeile 1, Stelle 19)
+> TYPE T = T; TYPE T = INT; put (1)
+FEHLER : falsche Stelle (Zeile 1, Stelle 1)
+> LET V = T, T = V, V = INT; put (1)
+FEHLER : falsche Stelle (Zeile 1, Stelle 5)
 ";

@@ -1,6 +1,6 @@
 -- Where no type breaks a rule, each name of a type denotes one.
-use Rattle.std.proofs.Common.{◌≡◌, ℕ, zero, suc, ◌+◌, Bool, true, false, ◌||◌, if◌then◌else◌, List, [], ◌∷◌, ◌++◌, length, Option, Some, None}
-use Rattle.std.proofs.Common.{refl, sym, ap, subst, ◌∙◌, inl, arith}
+use Rattle.std.proofs.Common.{◌≡◌, ℕ, zero, suc, ◌+◌, Bool, true, false, ◌||◌, ◌&&◌, ◌==◌, if◌then◌else◌, List, [], ◌∷◌, ◌++◌, length, Option, Some, None}
+use Rattle.std.proofs.Common.{refl, sym, ap, subst, ◌∙◌, inl, arith, eq-eqb}
 use Rattle.std.specs.Prelude.{map, option_to_list, option_map, slice_get, slice_index_or}
 use Rattle.std.specs.List.{list_any}
 use Rattle.std.specs.Option.{option_or, is_some}
@@ -36,6 +36,10 @@ pub record Sound (h : Here) (d : Definition) : Type 0 where
 pub no_fault : (b : Bool) (f : Fault) → (if b then f ∷ [] else []) ≡ [] → b ≡ false
 no_fault true f e = absurd cc
 no_fault false f e = refl
+
+right_false : (p q : Bool) → p ≡ true → (p && q) ≡ false → q ≡ false
+right_false true q e f = f
+right_false false q e f = absurd cc
 
 open_is : (t : ElanType) → is_open t ≡ true → t ≡ types.Open
 open_is types.Open e = refl
@@ -184,14 +188,15 @@ module _ (around : List TypeName) (ds : List Definition) where
             let q = next f at x w (sym (ap (meant (look_at (suc f))) i) ∙ g.3) in
             let by : named_by ds g.0.written ≡ q.0 ∷ [] =
             ap (named_by ds) i ∙ ap (λ (o : Option (ℕ × Definition)). option_to_list (option_map (λ f. f.0) o)) q.2 in
-            let back : (if comes_back (calls ds) (named_by ds g.0.written) c then (g.0.at, WrongPlace) ∷ [] else []) ≡ [] =
+            let back : (if (g.0.at == g.0.at) && comes_back (calls ds) (named_by ds g.0.written) c then (g.0.at, WrongPlace) ∷ [] else []) ≡ [] =
             subst (λ (o : Option (ℕ × Definition)). named_faults h g.0.at g.0.written o ≡ []) g.2 s.named in
             record {
               to = q.0;
               called = subst (In q.0) (sym (calls_at ds c g.0 g.1 ∙ by)) (inl refl);
               away = or_false (leads n (calls ds) q.0 c)
                   (sym (ap (λ (ms : List ℕ). list_any (λ m. leads n (calls ds) m c) ms) by)
-                  ∙ no_fault (comes_back (calls ds) (named_by ds g.0.written) c) (g.0.at, WrongPlace) back);
+                  ∙ right_false (g.0.at == g.0.at) (comes_back (calls ds) (named_by ds g.0.written) c) (eq-eqb g.0.at g.0.at refl)
+                  (no_fault ((g.0.at == g.0.at) && comes_back (calls ds) (named_by ds g.0.written) c) (g.0.at, WrongPlace) back));
               goes = goes_at f x q;
             }
 

@@ -1,5 +1,5 @@
 -- Which rules types break.
-use Rattle.std.specs.Prelude.{ℕ, Bool, List, [], ◌∷◌, ◌++◌, map, flat_map, length, Option, Some, None, option_map, option_to_list, slice_get, if◌then◌else◌}
+use Rattle.std.specs.Prelude.{ℕ, Bool, ◌==◌, ◌&&◌, List, [], ◌∷◌, ◌++◌, map, flat_map, length, Option, Some, None, option_map, option_to_list, slice_get, if◌then◌else◌}
 use Rattle.std.specs.List.{list_any}
 use Rattle.std.specs.Option.{is_some}
 use Rattle.call_graph.specs.Chains.{leads}
@@ -54,10 +54,14 @@ module _ (h : Here) where
   written_faults (Of t) = if is_open t then (0, Unknown) ∷ [] else []
   written_faults (Named at x) = if is_some (first_type x h.seen) then [] else (at, Unknown) ∷ []
 
+  -- Whether the definition at this place contains itself. The second of two equal names is none that a name could lead to.
+  abbrev pub contains_itself : ℕ → Written → ℕ × Definition → Bool
+  contains_itself at w f = (f.1.at == at) && comes_back h.calls (named_by h.definitions w) f.0
+
   -- A definition whose type contains itself stands in a wrong place.
   abbrev pub named_faults : ℕ → Written → Option (ℕ × Definition) → List Fault
   named_faults at w None = []
-  named_faults at w (Some f) = if comes_back h.calls (named_by h.definitions w) f.0 then (at, WrongPlace) ∷ [] else []
+  named_faults at w (Some f) = if contains_itself at w f then (at, WrongPlace) ∷ [] else []
 
   abbrev pub definition_faults : ℕ → Name → Written → List Fault
   definition_faults at n w = named_faults at w (first_from 0 h.definitions n.text) ++ written_faults w

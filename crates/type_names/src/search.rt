@@ -7,6 +7,7 @@ ghost use Rattle.type_names.specs.Faults as spec;
 ghost use Rattle.type_names.specs.Types as types;
 ghost use Rattle.type_names.specs.walks.Seen.{earlier, here_of, with_fault};
 
+use crate::definition::Definition;
 use crate::resolve::first_defined;
 use crate::scope_types::ScopeTypes;
 use crate::written::first_of;
@@ -71,10 +72,19 @@ impl<'a> Search<'a> {
         }
     }
 
-    // Whether the definition with this number contains itself, where this is written for it.
-    fn comes_back(&self, number: usize, of: &TypePhrase) -> Result<bool, NoMemory>
-        ensures { IfOk result (λ back. back ≡ spec.comes_back self.now.here.now.calls (spec.named_by self.now.here.now.definitions (types.written of.now)) number) }
+    // Whether the definition at this place contains itself, where this is written for it and its name's first definition has this number.
+    fn contains_itself(
+        &self,
+        at: u32,
+        number: usize,
+        first: &Definition,
+        of: &TypePhrase,
+    ) -> Result<bool, NoMemory>
+        ensures { IfOk result (λ circular. circular ≡ spec.contains_itself (here_of self.now) at (types.written of.now) (number, first.now)) }
     {
+        if first.at != at {
+            return Ok(false);
+        }
         match self.here.named_by(of) {
             None => Ok(false),
             Some(named) => self.here.calls.leads(self.alloc, named, number),
@@ -93,8 +103,8 @@ impl<'a> Search<'a> {
         let definitions = self.here.definitions.as_slice();
         match first_defined(definitions, name.text.as_slice()) {
             None => Ok(self.written_fault(of)),
-            Some((number, _)) => {
-                if self.comes_back(number, of)? {
+            Some((number, first)) => {
+                if self.contains_itself(at, number, first, of)? {
                     Ok(Some((at, Why::WrongPlace)))
                 } else {
                     Ok(self.written_fault(of))
