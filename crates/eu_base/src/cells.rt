@@ -1,5 +1,5 @@
 //! A memory of cells.
-ghost use Rattle.std.specs.Prelude.{◌≡◌, ◌≢◌, ◌≤◌, ℕ, List, [], Err, IfOk, OnOk};
+ghost use Rattle.std.specs.Prelude.{◌≡◌, ◌≢◌, ◌+◌, ◌≤◌, ℕ, List, [], Err, IfOk, OnOk};
 ghost use Rattle.eu_base.specs.declared.cells.MemFault.TheVariants as fault;
 ghost use Rattle.eu_base.specs.declared.address.Addr.{Addr};
 ghost use Rattle.eu_base.specs.Room.{most_blocks};
@@ -68,6 +68,14 @@ pub trait Memory {
     fn set_text(&mut self, at: Addr, t: &[u8]) -> Result<Set, MemFault>
         requires { IsCell at }
         ensures puts { IfOk result (λ set. (cells : Cells) → holds self.old cells → HasText (cells at) → Puts (holds self.new) cells at t.now set) }
+        ensures cause { HasFaultCause (faults self.old) (faults self.new) result }
+        ensures follows { follows self.old self.new };
+
+    /// How many blocks no text has. It takes no memory.
+    fn rooms(&mut self) -> Result<u32, MemFault>
+        ensures rooms { IfOk result (λ rooms. (cells : Cells) → holds self.old cells → rooms + blocks_in cells ≡ most_blocks) }
+        ensures kept { OnOk result ((cells : Cells) → holds self.old cells → holds self.new cells) }
+        ensures memory { result ≢ Err fault.NoMemory }
         ensures cause { HasFaultCause (faults self.old) (faults self.new) result }
         ensures follows { follows self.old self.new };
 

@@ -85,6 +85,13 @@ fn is_number<M: Memory>(memory: &mut M, cell: u16, number: u64) -> bool
     }
 }
 
+fn has_rooms<M: Memory>(memory: &mut M, free: u32) -> bool {
+    match memory.rooms() {
+        Ok(found) => found == free,
+        Err(_) => false,
+    }
+}
+
 /// A text is put, read, replaced and emptied, beside a number.
 pub fn one_text<M: Memory>(alloc: Global, memory: &mut M) -> bool {
     let number = memory.set_cell(run_cell(7), 65_535).is_ok();
@@ -103,7 +110,7 @@ pub fn all_blocks<M: Memory>(alloc: Global, memory: &mut M) -> bool {
     let almost = comes_back(alloc, memory, 0, long);
     let no_room = is_refused(alloc, memory, 1, two);
     let last = comes_back(alloc, memory, 1, told(b'd', 28));
-    let full = is_refused(alloc, memory, 2, told(b'x', 1));
+    let full = has_rooms(memory, 0) && is_refused(alloc, memory, 2, told(b'x', 1));
     let still = has(alloc, memory, 0, long);
     let freed = comes_back(alloc, memory, 0, EMPTY);
     let again = comes_back(alloc, memory, 2, two);

@@ -222,6 +222,23 @@ fn has_shape(space: &DataSpace) -> bool {
     }
 }
 
+// Whether a shape has so many cells, of truth values.
+fn has_truths(alloc: Global, shape: &Shape, cells: usize) -> bool {
+    match shape.kinds(alloc, 16_384) {
+        Ok(kinds) => {
+            kinds.len() == cells && kinds.as_slice().iter().all(|kind| *kind == Kind::Truth)
+        }
+        Err(_) => false,
+    }
+}
+
+pub fn a_shape_has_the_kinds_of_its_cells(alloc: Global) -> bool {
+    match shape(alloc).try_clone(alloc) {
+        Ok(copy) => has_truths(alloc, &copy, 4),
+        Err(_) => false,
+    }
+}
+
 pub fn a_copy_has_the_type_and_the_shape(alloc: Global) -> bool {
     let mut spaces = untouched(alloc);
     spaces.first.set_kind(1003);

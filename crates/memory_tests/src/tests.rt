@@ -38,6 +38,8 @@ fn wrong_scene(alloc: Global) -> &'static str {
         "pages are shared"
     } else if !data_spaces::a_copy_has_the_type_and_the_shape(alloc) {
         "a copy has the type and the shape"
+    } else if !data_spaces::a_shape_has_the_kinds_of_its_cells(alloc) {
+        "a shape has the kinds of its cells"
     } else if !data_spaces::without_bytes_no_root() {
         "a space without bytes has no root"
     } else if !data_spaces::a_lent_space_reads_what_it_wrote(alloc) {

@@ -71,4 +71,9 @@ impl<'a> Memory for Lent<'a> {
         let set = self.memory.set_run_text(self.pool, at.cell, t)?;
         Ok(set)
     }
+
+    fn rooms(&mut self) -> Result<u32, MemFault> {
+        let rooms = self.memory.run_rooms(self.pool)?;
+        Ok(u32::from(rooms))
+    }
 }

@@ -1,5 +1,5 @@
 //! What a task has in its memory.
-ghost use Rattle.std.specs.Prelude.{◌≡◌, ◌≢◌, ◌<◌, ◌≤◌, [], Err, IfOk, OnOk, IsSome, Some};
+ghost use Rattle.std.specs.Prelude.{◌≡◌, ◌≢◌, ◌+◌, ◌<◌, ◌≤◌, [], Err, IfOk, OnOk, IsSome, Some};
 ghost use Rattle.eu_base.specs.declared.cells.MemFault.TheVariants.{NoMemory, Failed};
 ghost use Rattle.eu_base.specs.Spaces.{IsKept};
 ghost use Rattle.eu_base.specs.Cells.{Free};
@@ -8,7 +8,7 @@ ghost use Rattle.page_table.specs.Changes.{FreesOnly};
 ghost use Rattle.page_table.specs.Frames.{content_at, Frames, Stands};
 ghost use Rattle.page_table.specs.Sharing.{Agree};
 ghost use Rattle.cell_layout.specs.Layout.{cell_in, HoldsIn, IsKeptBut};
-ghost use Rattle.text_heap.specs.Texts.{Texts, Holds, Sets, KeepsCells};
+ghost use Rattle.text_heap.specs.Texts.{Texts, Holds, Sets, KeepsCells, blocks_in};
 ghost use Rattle.text_heap.specs.Held.{HoldsCells};
 ghost use Rattle.space_memory.specs.Memories.{no_space, roots};
 
@@ -152,5 +152,18 @@ impl SpaceMemory {
     {
         let mut run = self.run.over(pool);
         text_heap::set(&mut run, cell, t)
+    }
+
+    // How many blocks no text of the command that runs has.
+    pub(crate) fn run_rooms(&mut self, pool: &mut Pool) -> Result<u16, MemFault>
+        requires agree { Stands pool.old (roots self.old) 0 }
+        ensures rooms { IfOk result (λ rooms. (texts : Texts) → Holds (content_at pool.old self.old.run.root) texts → rooms + blocks_in texts ≡ 4096) }
+        ensures same { OnOk result (IsKept (content_at pool.old self.old.run.root) (content_at pool.new self.new.run.root)) }
+        ensures frames { Frames pool.old pool.new (roots self.old) (roots self.new) }
+        ensures memory { result ≢ Err NoMemory }
+        ensures cause { result ≢ Err Failed }
+    {
+        let mut run = self.run.over(pool);
+        text_heap::rooms(&mut run)
     }
 }

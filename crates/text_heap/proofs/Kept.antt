@@ -271,3 +271,8 @@ text_held before now cells at t set low h has sets kept =
 -- all texts together have room
 pub room_held : (content : Content) (cells : Cells) → HoldsCells content cells → blocks_in cells ≤ most_blocks
 room_held content cells h = let a = room content (texts_of cells) h.texts in let b = all_blocks cells in omega (arith, a, b)
+
+-- the blocks that are free are those that no known text has
+pub rooms_left : (content : Content) (cells : Cells) (rooms : ℕ) → ((texts : Texts) → Holds content texts → rooms + heap.blocks_in texts ≡ most_blocks)
+    → HoldsCells content cells → rooms + blocks_in cells ≡ most_blocks
+rooms_left content cells rooms left h = let a = left (texts_of cells) h.texts in let b = all_blocks cells in omega (arith, a, b)

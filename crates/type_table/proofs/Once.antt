@@ -12,7 +12,8 @@ use Rattle.eu_base.specs.declared.value.Kind.TheVariants as kind
 use Rattle.type_table.specs.declared.form.Field.{Field}
 use Rattle.type_table.specs.declared.form.TypeForm.{TypeForm}
 use Rattle.type_table.specs.declared.form.TypeForm.TheVariants.{Cell, Row, Struct, Own}
-use Rattle.type_table.specs.Forms.{same_kind, same_field, same_form, number_from, number_of}
+use Rattle.eu_base.specs.Values.{same_kind}
+use Rattle.type_table.specs.Forms.{same_field, same_form, number_from, number_of}
 use Rattle.type_table.specs.walks.Table.{AreApart}
 
 -- ---- what is the same as another is so either way

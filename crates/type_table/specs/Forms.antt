@@ -1,19 +1,12 @@
 -- The types of a text, each once.
-use Rattle.std.specs.Prelude.{ℕ, suc, ◌<◌, Bool, true, false, ◌&&◌, ◌==◌, List, [], ◌∷◌, ◌++◌, Option, Some, None, if◌then◌else◌}
+use Rattle.std.specs.Prelude.{ℕ, suc, ◌<◌, Bool, false, ◌&&◌, ◌==◌, List, [], ◌∷◌, ◌++◌, Option, Some, None, if◌then◌else◌}
 use lib.Pointwise.{pointwise}
 use Rattle.std.specs.Str.{bytes_eq}
-use Rattle.eu_base.specs.declared.value.Kind.{Kind}
-use Rattle.eu_base.specs.declared.value.Kind.TheVariants as kind
+use Rattle.eu_base.specs.Values.{same_kind}
 use Rattle.type_table.specs.declared.form.TypeNo.{TypeNo}
 use Rattle.type_table.specs.declared.form.Field.{Field}
 use Rattle.type_table.specs.declared.form.TypeForm.{TypeForm}
 use Rattle.type_table.specs.declared.form.TypeForm.TheVariants.{Cell, Row, Struct, Own}
-
-abbrev pub same_kind : Kind → Kind → Bool
-same_kind kind.Int kind.Int = true
-same_kind kind.Truth kind.Truth = true
-same_kind kind.Text kind.Text = true
-same_kind _ _ = false
 
 abbrev pub same_field : Field → Field → Bool
 same_field f g = bytes_eq f.name g.name && f.of.number == g.of.number
