@@ -1,5 +1,7 @@
--- What a program does. Evaluation knows the values of variables, the marks and the replies that are left, and no code.
-use Rattle.std.specs.Prelude.{ℕ, zero, suc, ◌+◌, ◌-◌, Bool, true, false, not, ◌||◌, List, [], ◌∷◌, ◌++◌, map, length, take, drop, Option, Some, None}
+-- What a program does. Evaluation knows the values of variables, the marks and the replies that are left, and no code. A value is the list
+-- of the values of its cells: that of an INT, BOOL or TEXT has one, that of a row those of its items, one after another, that of a structure
+-- those of its fields.
+use Rattle.std.specs.Prelude.{ℕ, zero, suc, ◌+◌, ◌-◌, ◌*◌, Bool, true, false, not, ◌||◌, List, [], ◌∷◌, ◌++◌, map, length, take, drop, Option, Some, None}
 use Rattle.std.specs.Prelude.{Ok, Err}
 use Rattle.std.specs.Prelude.{slice_get, slice_index_or, slice_set, ℤ, pos}
 use Rattle.std.specs.Ordering.{int_eq}
@@ -7,7 +9,7 @@ use Rattle.eu_base.specs.declared.value.Kind.{Kind}
 use Rattle.eu_base.specs.declared.value.Value.{Value}
 use Rattle.eu_base.specs.declared.value.Value.TheVariants.{Int, Truth, Text}
 use Rattle.eu_base.specs.declared.stop.Stop.{Stop}
-use Rattle.eu_base.specs.declared.stop.Stop.TheVariants.{CellRoom, OperandRoom, TextRoom, Own}
+use Rattle.eu_base.specs.declared.stop.Stop.TheVariants.{Index, CellRoom, OperandRoom, TextRoom, Own}
 use Rattle.eu_base.specs.declared.request.Request.{Request}
 use Rattle.eu_base.specs.declared.request.RequestName.{RequestName}
 use Rattle.eu_base.specs.declared.request.Reply.{Reply}
@@ -16,11 +18,10 @@ use Rattle.eu_base.specs.declared.operation.Change.{Change}
 use Rattle.eu_base.specs.declared.operation.Change.TheVariants.{Increase}
 use Rattle.eu_base.specs.declared.operation.Way.{Way}
 use Rattle.eu_base.specs.Values.{number_of, truth_of, text_of, blank_of}
-use Rattle.eu_base.specs.Room.{value_bytes, value_blocks, place_bytes, cells_fit, bytes_fit, texts_fit}
-use Rattle.eu_base.specs.Operations.{Given, result_of, changed, is_past, has_reached, next_number}
+use Rattle.eu_base.specs.Shapes.{cell_kinds}
+use Rattle.eu_base.specs.Room.{values_bytes, value_blocks, values_blocks, place_bytes, cells_fit, bytes_fit, texts_fit}
+use Rattle.eu_base.specs.Operations.{Given, result_of, changed, is_past, has_reached, next_number, in_row}
 use Rattle.eu_base.specs.Requests.{request_kinds, request_of, reply_text, read_as}
-use Rattle.elan_types.specs.declared.core_phrase.PlacePhrase.{PlacePhrase}
-use Rattle.elan_types.specs.declared.core_phrase.PlacePhrase.TheVariants.{Variable, Local, Parameter}
 use Rattle.elan_types.specs.declared.core_phrase.Exit.{Exit}
 use Rattle.elan_types.specs.declared.core_phrase.Exit.TheVariants as exits
 use Rattle.elan_types.specs.declared.core_phrase.Scope.{Scope}
@@ -31,16 +32,16 @@ use Rattle.elan_types.specs.declared.core_phrase.Body.{Body}
 use Rattle.elan_types.specs.declared.core_phrase.ValuePhrase.{ValuePhrase}
 use Rattle.elan_types.specs.declared.core_phrase.Action.{Action}
 use Rattle.elan_types.specs.declared.core_phrase.Action.TheOpen as t
-use Rattle.elan_types.specs.declared.core_phrase.Action.TheOpen.{Action-F, Actual-F, ValuePhrase-F, Arm-F, ValueArm-F}
+use Rattle.elan_types.specs.declared.core_phrase.Action.TheOpen.{Action-F, PlacePhrase-F, Actual-F, ValuePhrase-F, Arm-F, ValueArm-F}
 use Rattle.elan_types.specs.declared.core_phrase.Action.TheFolds.{fold-Action, fold-ValuePhrase}
 
--- where a value stands: a variable, by its number in the store
+-- where a value stands: its first slot in the store, by its number
 pub record Place : Type 0 where
   pub variable : ℕ
 
 -- what a store has, one after another in order of making. Each has one cell
 pub data Slot : Type 0 where
-  -- the value of a variable, a constant or a CONST parameter
+  -- the value of a cell of a variable, a constant or a CONST parameter
   Holds : Value → Slot
   -- the place that a VAR parameter holds
   Refers : Place → Slot
@@ -58,7 +59,7 @@ pub data Outcome (A : Type 0) : Type 0 where
   -- it delivers this
   Gives : A → World → Outcome A
   -- a body is left, and delivers this
-  Left : Exit → Option Value → World → Outcome A
+  Left : Exit → Option (List Value) → World → Outcome A
   Stopped : Stop → World → Outcome A
   -- a mark is due, and none is left
   OutOfMarks : World → Outcome A
@@ -103,6 +104,11 @@ abbrev pub or_stop : {A : Type 0} → Given → (Value → World → Outcome A) 
 or_stop (Ok v) go w = go v w
 or_stop (Err s) go w = Stopped s w
 
+-- goes on with the number of items before an item, or stops where there is no such item
+abbrev pub or_outside : {A : Type 0} → Option ℕ → (ℕ → World → Outcome A) → World → Outcome A
+or_outside (Some k) go w = go k w
+or_outside None go w = Stopped Index w
+
 abbrev pub slot_at : List Slot → ℕ → Slot
 slot_at store x = slice_index_or store x Taken
 
@@ -118,8 +124,26 @@ place_of _ = record { variable = 0 }
 abbrev pub fetch : Place → World → Value
 fetch x w = value_of (slot_at w.store x.variable)
 
-abbrev pub assign : Place → Value → World → World
-assign x v w = record w { store = slice_set w.store x.variable (Holds v) }
+-- so many slots further on
+abbrev pub beyond : Place → ℕ → Place
+beyond x n = record { variable = x.variable + n }
+
+-- the value of these cells at a place
+abbrev pub fetch_all : List Kind → Place → World → List Value
+fetch_all [] x w = []
+fetch_all (k ∷ ks) x w = fetch x w ∷ fetch_all ks (beyond x 1) w
+
+-- the value of a value of one cell. Another has none; 0 stands for it, and no well typed phrase asks for it
+abbrev pub the : List Value → Value
+the [] = Int (pos 0)
+the (v ∷ vs) = v
+
+abbrev pub stored_from : ℕ → List Value → List Slot → List Slot
+stored_from x [] store = store
+stored_from x (v ∷ vs) store = stored_from (x + 1) vs (slice_set store x (Holds v))
+
+abbrev pub assign : Place → List Value → World → World
+assign x vs w = record w { store = stored_from x.variable vs w.store }
 
 -- the blocks that the texts of slots take. A pending text stands in none, and takes none
 abbrev pub slot_blocks : Slot → ℕ
@@ -130,20 +154,23 @@ abbrev pub store_blocks : List Slot → ℕ
 store_blocks [] = 0
 store_blocks (s ∷ store) = slot_blocks s + store_blocks store
 
--- goes on with what stands at a place, and after a value was stored there in place of another, where its text then has room. Reads and
--- stores are outcomes, as all steps that a program can stop at
+-- goes on with what stands at a place, and after a value was stored there in place of another, where its texts then have room; where they
+-- have none, nothing is stored. Reads and stores are outcomes, as all steps that a program can stop at
 abbrev pub load : {A : Type 0} → Place → (Value → World → Outcome A) → World → Outcome A
 load x go w = go (fetch x w) w
 
-abbrev pub save : {A : Type 0} → Place → Value → (World → Outcome A) → World → Outcome A
-save x v go w =
-    branch (texts_fit (value_blocks v) (store_blocks (assign x v w).store)) (λ w. go (assign x v w)) (Stopped TextRoom) w
+abbrev pub load_all : {A : Type 0} → List Kind → Place → (List Value → World → Outcome A) → World → Outcome A
+load_all ks x go w = go (fetch_all ks x w) w
+
+abbrev pub save : {A : Type 0} → Place → List Value → (World → Outcome A) → World → Outcome A
+save x vs go w =
+    branch (texts_fit (values_blocks vs) (store_blocks (assign x vs w).store)) (λ w. go (assign x vs w)) (Stopped TextRoom) w
 
 -- what calls of bodies do: of a PROC with what its parameters hold, and of a refinement from a body whose variables begin at a
 -- number in the store; each with so many bytes of operands pending. They deliver a value or nothing
 pub record Calls : Type 0 where
-  pub call : ℕ → List Slot → ℕ → World → Outcome (Option Value)
-  pub refer : ℕ → ℕ → ℕ → World → Outcome (Option Value)
+  pub call : ℕ → List Slot → ℕ → World → Outcome (Option (List Value))
+  pub refer : ℕ → ℕ → ℕ → World → Outcome (Option (List Value))
 
 -- how far a phrase can go, and from where: what calls do, the turns that a loop can make, the number in the store at which
 -- the variables of the body begin, and the bytes of pending operands
@@ -158,29 +185,42 @@ abbrev pub Run : Type 0 → Type 0
 Run A = Reach → World → Outcome A
 
 -- with a value or a place pending besides
-abbrev pub holding : Value → Reach → Reach
-holding v r = record r { held = value_bytes v + r.held }
+abbrev pub holding : List Value → Reach → Reach
+holding vs r = record r { held = values_bytes vs + r.held }
 
 abbrev pub holding_place : Reach → Reach
 holding_place r = record r { held = place_bytes + r.held }
 
-abbrev pub holding_slot : Slot → Reach → Reach
-holding_slot (Holds v) r = holding v r
-holding_slot (Refers x) r = holding_place r
-holding_slot Taken r = r
+-- what a parameter is given: a value, or a place
+pub data Passed : Type 0 where
+  AsValue : List Value → Passed
+  AsPlace : Place → Passed
+
+abbrev pub holding_passed : Passed → Reach → Reach
+holding_passed (AsValue vs) r = holding vs r
+holding_passed (AsPlace x) r = holding_place r
+
+-- the value of one cell that it is. Another is none; 0 stands for it, and no well typed request asks for it
+abbrev pub value_given : Passed → Value
+value_given (AsValue (v ∷ [])) = v
+value_given _ = Int (pos 0)
+
+-- the slots of a parameter that is given this
+abbrev pub slots_of : Passed → List Slot
+slots_of (AsValue vs) = map Holds vs
+slots_of (AsPlace x) = Refers x ∷ []
+
+-- those of parameters in turn
+abbrev pub all_slots : List Passed → List Slot
+all_slots [] = []
+all_slots (a ∷ as') = slots_of a ++ all_slots as'
 
 -- a value is delivered, where its bytes have room
-abbrev pub deliver : Value → Run Value
-deliver v r = branch (bytes_fit (value_bytes v + r.held)) (Gives v) (Stopped OperandRoom)
+abbrev pub deliver : List Value → Run (List Value)
+deliver vs r = branch (bytes_fit (values_bytes vs + r.held)) (Gives vs) (Stopped OperandRoom)
 
 abbrev pub deliver_place : Place → Run Place
 deliver_place x r = branch (bytes_fit (place_bytes + r.held)) (Gives x) (Stopped OperandRoom)
-
--- the place that a phrase names
-abbrev pub place : PlacePhrase → Run Place
-place (Variable k) r w = deliver_place (record { variable = k }) r w
-place (Local k) r w = deliver_place (record { variable = r.base + k }) r w
-place (Parameter k) r w = deliver_place (place_of (slot_at w.store (r.base + k))) r w
 
 -- goes on with more slots, where these have room, and then their texts
 abbrev pub with_room : {A : Type 0} → List Slot → (World → Outcome A) → World → Outcome A
@@ -198,14 +238,15 @@ abbrev pub all : List (Run (Unit {0})) → Run (Unit {0})
 all [] n w = Gives tt w
 all (a ∷ as') n w = bind (a n w) (λ _. all as' n)
 
-abbrev pub values : List (Run Value) → Run (List Value)
+-- the operands of an operation, which have one cell each
+abbrev pub values : List (Run (List Value)) → Run (List Value)
 values [] n w = Gives [] w
-values (a ∷ as') n w = bind (a n w) (λ v w. bind (values as' (holding v n) w) (λ vs. Gives (v ∷ vs)))
+values (a ∷ as') n w = bind (a n w) (λ vs w. bind (values as' (holding vs n) w) (λ us. Gives (the vs ∷ us)))
 
 -- what parameters are given
-abbrev pub actuals : List (Run Slot) → Run (List Slot)
+abbrev pub actuals : List (Run Passed) → Run (List Passed)
 actuals [] n w = Gives [] w
-actuals (a ∷ as') n w = bind (a n w) (λ x w. bind (actuals as' (holding_slot x n) w) (λ xs. Gives (x ∷ xs)))
+actuals (a ∷ as') n w = bind (a n w) (λ x w. bind (actuals as' (holding_passed x n) w) (λ xs. Gives (x ∷ xs)))
 
 -- a part of a SELECT, with its labels
 pub record Labelled (A : Type 0) : Type 0 where
@@ -228,14 +269,14 @@ turns zero turn w = OutOfMarks w
 turns (suc n) turn w = spend (λ w. bind (turn w) (λ on. branch on (turns n turn) (Gives tt))) w
 
 -- a WHILE test: the loop goes on where it is TRUE, or not written
-abbrev pub while_true : Option (Run Value) → Run Bool
+abbrev pub while_true : Option (Run (List Value)) → Run Bool
 while_true None n w = Gives true w
-while_true (Some a) n w = bind (a n w) (λ v. Gives (truth_of v))
+while_true (Some a) n w = bind (a n w) (λ vs. Gives (truth_of (the vs)))
 
 -- an UNTIL test: the loop goes on where it is FALSE, or not written
-abbrev pub until_true : Option (Run Value) → Run Bool
+abbrev pub until_true : Option (Run (List Value)) → Run Bool
 until_true None n w = Gives true w
-until_true (Some a) n w = bind (a n w) (λ v. Gives (not (truth_of v)))
+until_true (Some a) n w = bind (a n w) (λ vs. Gives (not (truth_of (the vs))))
 
 -- where the loop goes on, the next part of its turn
 abbrev pub then_on : Run Bool → Run Bool → Run Bool
@@ -245,37 +286,37 @@ abbrev pub done : Run (Unit {0}) → Run Bool
 done a n w = bind (a n w) (λ _. Gives true)
 
 -- a turn: WHILE, the units, UNTIL, and the step
-abbrev pub turn : Option (Run Value) → Run (Unit {0}) → Option (Run Value) → Run Bool → Run Bool
+abbrev pub turn : Option (Run (List Value)) → Run (Unit {0}) → Option (Run (List Value)) → Run Bool → Run Bool
 turn while' units until step = then_on (while_true while') (then_on (done units) (then_on (until_true until) step))
 
 abbrev pub go_on : Run Bool
 go_on n w = Gives true w
 
--- stores the value that a reply brings in the variable of a request, where it has one
-abbrev pub keep : List Slot → Value → World → Outcome (Unit {0})
-keep [] v w = Gives tt w
-keep (x ∷ xs) v w = save (place_of x) v (Gives tt) w
+-- stores the value that a reply brings in the variable of a request, where it has one. No well typed request is given another value there
+abbrev pub keep : List Passed → Value → World → Outcome (Unit {0})
+keep (AsPlace x ∷ as') v w = save x (v ∷ []) (Gives tt) w
+keep _ v w = Gives tt w
 
 -- makes a request with what it is given, its variable behind its values
-abbrev pub request : RequestName → List Slot → World → Outcome (Unit {0})
-request name xs =
-    ask (request_of name (map value_of xs)) (λ r. or_stop (read_as name (reply_text r)) (keep (drop (length (request_kinds name)) xs)))
+abbrev pub request : RequestName → List Passed → World → Outcome (Unit {0})
+request name as' =
+    ask (request_of name (map value_given as')) (λ r. or_stop (read_as name (reply_text r)) (keep (drop (length (request_kinds name)) as')))
 
 -- INCR, DECR and CAT
 abbrev pub modify : {A : Type 0} → Change → Place → Value → A → World → Outcome A
-modify change x v a = load x (λ y. or_stop (changed change y v) (λ z. save x z (Gives a)))
+modify change x v a = load x (λ y. or_stop (changed change y v) (λ z. save x (z ∷ []) (Gives a)))
 
 -- the step of a counter without limit: it delivers the place and the number 1
-abbrev pub step : PlacePhrase → Run Bool
-step p n w = bind (place p n w) (λ x w. bind (deliver (Int (pos 1)) (holding_place n) w) (λ v. modify Increase x v true))
+abbrev pub step : Run Place → Run Bool
+step p n w = bind (p n w) (λ x w. bind (deliver (Int (pos 1) ∷ []) (holding_place n) w) (λ vs. modify Increase x (the vs) true))
 
 -- the step of a counter with a limit, at the number z: it ends at the limit, and no number past it is made
 abbrev pub step_from : Place → Way → ℤ → ℤ → World → Outcome Bool
-step_from x way limit z = branch (has_reached way limit z) (Gives false) (save x (Int (next_number way z)) (Gives true))
+step_from x way limit z = branch (has_reached way limit z) (Gives false) (save x (Int (next_number way z) ∷ []) (Gives true))
 
 -- it delivers the place
-abbrev pub step_to : PlacePhrase → Way → ℤ → Run Bool
-step_to p way limit n w = bind (place p n w) (λ x. load x (λ v. step_from x way limit (number_of v)))
+abbrev pub step_to : Run Place → Way → ℤ → Run Bool
+step_to p way limit n w = bind (p n w) (λ x. load x (λ v. step_from x way limit (number_of v)))
 
 -- the turns under a limit, which has a cell meanwhile; x is the place at which the counter is tested first
 abbrev pub limited : Place → Way → ℤ → Run Bool → Run (Unit {0})
@@ -284,79 +325,102 @@ limited x way limit turn' n =
     bind (load x (λ v. branch (is_past way limit (number_of v)) (Gives tt) (turns n.turns (turn' n))) w) (λ _ w. Gives tt (cut (length w.store - 1) w)))
 
 -- the turns of a counted loop, whose counter has its first value. The limit is evaluated once
-abbrev pub counted : PlacePhrase → Way → Option (Run Value) → (Run Bool → Run Bool) → Run (Unit {0})
+abbrev pub counted : Run Place → Way → Option (Run (List Value)) → (Run Bool → Run Bool) → Run (Unit {0})
 counted p way None turn' n w = turns n.turns (turn' (step p) n) w
 counted p way (Some a) turn' n w =
-    bind (place p n w) (λ x w. bind (a (holding_place n) w) (λ limit. limited x way (number_of limit) (turn' (step_to p way (number_of limit))) n))
+    bind (p n w) (λ x w. bind (a (holding_place n) w) (λ vs. limited x way (number_of (the vs)) (turn' (step_to p way (number_of (the vs)))) n))
+
+-- turns without end: all marks are spent
+abbrev pub forever : Run (Unit {0})
+forever n = turns n.turns (go_on n)
 
 -- a value is stored at a place, which is evaluated first
-abbrev pub stored : PlacePhrase → Run Value → Run (Unit {0})
-stored p a n w = bind (place p n w) (λ x w. bind (a (holding_place n) w) (λ v. save x v (Gives tt)))
+abbrev pub stored : Run Place → Run (List Value) → Run (Unit {0})
+stored p a n w = bind (p n w) (λ x w. bind (a (holding_place n) w) (λ vs. save x vs (Gives tt)))
 
--- the value that a body delivers. Where it delivers none it is 0; no well typed phrase asks for it
-abbrev pub delivered : Option Value → Value
-delivered (Some v) = v
-delivered None = Int (pos 0)
+-- the value that a body delivers. Where it delivers none it has no cells; no well typed phrase asks for it
+abbrev pub delivered : Option (List Value) → List Value
+delivered (Some vs) = vs
+delivered None = []
 
-abbrev pub Layer : (Type 0 → Type 0 → Type 0 → Type 0 → Type 0 → Type 0) → Type 0
-Layer F = F (Run (Unit {0})) (Run Slot) (Run Value) (Labelled (Run (Unit {0}))) (Labelled (Run Value))
+-- so many cells of a value behind so many others
+abbrev pub part_of : ℕ → ℕ → List Value → List Value
+part_of before cells vs = take cells (drop before vs)
 
-abbrev pub value_step : Layer ValuePhrase-F → Run Value
-value_step (t.Number z) n w = deliver (Int z) n w
-value_step (t.Truth b) n w = deliver (Truth b) n w
-value_step (t.Text x) n w = deliver (Text x) n w
-value_step (t.Load p u) n w = bind (place p n w) (λ x. load x (λ v. deliver v n))
-value_step (t.Apply op as') n w = bind (values as' n w) (λ vs. or_stop (result_of op vs) (λ v. deliver v n))
-value_step (t.ValuePhrase::If c a b) n w = bind (c n w) (λ v. branch (truth_of v) (a n) (b n))
-value_step (t.ValuePhrase::Select a arms other) n w = bind (a n w) (λ v. selected (number_of v) arms other n)
+abbrev pub Layer : (Type 0 → Type 0 → Type 0 → Type 0 → Type 0 → Type 0 → Type 0) → Type 0
+Layer F = F (Run (Unit {0})) (Run Passed) (Run Place) (Run (List Value)) (Labelled (Run (Unit {0}))) (Labelled (Run (List Value)))
+
+-- the place that a phrase names. An index is looked at here, once
+abbrev pub place_step : Layer PlacePhrase-F → Run Place
+place_step (t.Variable k) n w = deliver_place (record { variable = k }) n w
+place_step (t.Local k) n w = deliver_place (record { variable = n.base + k }) n w
+place_step (t.Parameter k) n w = deliver_place (place_of (slot_at w.store (n.base + k))) n w
+place_step (t.Item p a items) n w =
+    bind (p n w) (λ x w. bind (a (holding_place n) w) (λ vs.
+    or_outside (in_row items.count (number_of (the vs))) (λ k. deliver_place (beyond x (k * items.cells)) n)))
+place_step (t.Field p before) n w = bind (p n w) (λ x. deliver_place (beyond x before) n)
+
+abbrev pub value_step : Layer ValuePhrase-F → Run (List Value)
+value_step (t.Number z) n w = deliver (Int z ∷ []) n w
+value_step (t.Truth b) n w = deliver (Truth b ∷ []) n w
+value_step (t.Text x) n w = deliver (Text x ∷ []) n w
+value_step (t.Load p s) n w = bind (p n w) (λ x. load_all (cell_kinds s) x (λ vs. deliver vs n))
+value_step (t.Apply op as') n w = bind (values as' n w) (λ vs. or_stop (result_of op vs) (λ v. deliver (v ∷ []) n))
+value_step (t.ValuePhrase::If c a b) n w = bind (c n w) (λ vs. branch (truth_of (the vs)) (a n) (b n))
+value_step (t.ValuePhrase::Select a arms other) n w = bind (a n w) (λ vs. selected (number_of (the vs)) arms other n)
 value_step (t.ValuePhrase::Unit a) n w = spend (a n) w
 value_step (t.After us a) n w = bind (all us n w) (λ _. a n)
-value_step (t.ValuePhrase::Call p as' u) n w = bind (actuals as' n w) (λ xs w. bind (n.calls.call p xs n.held w) (λ v. Gives (delivered v)))
-value_step (t.ValuePhrase::Refer p u) n w = bind (n.calls.refer p n.base n.held w) (λ v. Gives (delivered v))
+value_step (t.Never s) n w = bind (forever n w) (λ _. Gives [])
+value_step (t.ValuePhrase::Call p as' s) n w =
+    bind (actuals as' n w) (λ xs w. bind (n.calls.call p (all_slots xs) n.held w) (λ vs. Gives (delivered vs)))
+value_step (t.ValuePhrase::Refer p s) n w = bind (n.calls.refer p n.base n.held w) (λ vs. Gives (delivered vs))
+value_step (t.Pick a i items s) n w =
+    bind (a n w) (λ vs w. bind (i (holding vs n) w) (λ us.
+    or_outside (in_row items.count (number_of (the us))) (λ k. deliver (part_of (k * items.cells) items.cells vs) n)))
+value_step (t.Take a part s) n w = bind (a n w) (λ vs. deliver (part_of part.before part.cells vs) n)
 
--- what a parameter is given: a value, or a place
-abbrev pub actual_step : Layer Actual-F → Run Slot
-actual_step (t.Value a) n w = bind (a n w) (λ v. Gives (Holds v))
-actual_step (t.Place p u) n w = bind (place p n w) (λ x. Gives (Refers x))
+abbrev pub actual_step : Layer Actual-F → Run Passed
+actual_step (t.Value a) n w = bind (a n w) (λ vs. Gives (AsValue vs))
+actual_step (t.Place p s) n w = bind (p n w) (λ x. Gives (AsPlace x))
 
-abbrev pub value_arm_step : Layer ValueArm-F → Labelled (Run Value)
+abbrev pub value_arm_step : Layer ValueArm-F → Labelled (Run (List Value))
 value_arm_step arm = record { labels = arm.labels; part = arm.value }
 
 abbrev pub action_step : Layer Action-F → Run (Unit {0})
 action_step (t.Action::Unit us) n w = spend (all us n) w
-action_step (t.Store p u a) n w = stored p a n w
-action_step (t.Modify change p a) n w = bind (place p n w) (λ x w. bind (a (holding_place n) w) (λ v. modify change x v tt))
-action_step (t.Action::If c us vs) n w = bind (c n w) (λ v. branch (truth_of v) (all us n) (all vs n))
-action_step (t.Action::Select a arms us) n w = bind (a n w) (λ v. selected (number_of v) arms (all us) n)
+action_step (t.Store p s a) n w = stored p a n w
+action_step (t.Modify change p a) n w = bind (p n w) (λ x w. bind (a (holding_place n) w) (λ vs. modify change x (the vs) tt))
+action_step (t.Action::If c us us') n w = bind (c n w) (λ vs. branch (truth_of (the vs)) (all us n) (all us' n))
+action_step (t.Action::Select a arms us) n w = bind (a n w) (λ vs. selected (number_of (the vs)) arms (all us) n)
 action_step (t.Loop while' us until) n w = turns n.turns (turn while' (all us) until go_on n) w
 action_step (t.Count p from way limit while' us until) n w =
     bind (stored p from n w) (λ _. counted p way limit (turn while' (all us) until) n)
 action_step (t.Ask name as') n w = bind (actuals as' n w) (request name)
-action_step (t.ErrorStop a) n w = bind (a n w) (λ v. Stopped (Own (text_of v)))
-action_step (t.Action::Call p as') n w = bind (actuals as' n w) (λ xs w. bind (n.calls.call p xs n.held w) (λ _. Gives tt))
+action_step (t.ErrorStop a) n w = bind (a n w) (λ vs. Stopped (Own (text_of (the vs))))
+action_step (t.Action::Call p as') n w = bind (actuals as' n w) (λ xs w. bind (n.calls.call p (all_slots xs) n.held w) (λ _. Gives tt))
 action_step (t.Action::Refer p) n w = bind (n.calls.refer p n.base n.held w) (λ _. Gives tt)
 action_step (t.Leave e) n w = Left e None w
-action_step (t.LeaveWith e u a) n w = bind (a n w) (λ v. Left e (Some v))
+action_step (t.LeaveWith e s a) n w = bind (a n w) (λ vs. Left e (Some vs))
 
 abbrev pub arm_step : Layer Arm-F → Labelled (Run (Unit {0}))
 arm_step arm = record { labels = arm.labels; part = all arm.units }
 
 -- what a phrase that delivers a value does
-abbrev pub value : ValuePhrase → Run Value
+abbrev pub value : ValuePhrase → Run (List Value)
 value =
-    fold-ValuePhrase (Run (Unit {0})) (Run Slot) (Run Value) (Labelled (Run (Unit {0}))) (Labelled (Run Value)) action_step actual_step value_step arm_step
-    value_arm_step
+    fold-ValuePhrase (Run (Unit {0})) (Run Passed) (Run Place) (Run (List Value)) (Labelled (Run (Unit {0}))) (Labelled (Run (List Value)))
+    action_step actual_step place_step value_step arm_step value_arm_step
 
 -- what an action does
 abbrev pub act : Action → Run (Unit {0})
 act =
-    fold-Action (Run (Unit {0})) (Run Slot) (Run Value) (Labelled (Run (Unit {0}))) (Labelled (Run Value)) action_step actual_step value_step arm_step
-    value_arm_step
+    fold-Action (Run (Unit {0})) (Run Passed) (Run Place) (Run (List Value)) (Labelled (Run (Unit {0}))) (Labelled (Run (List Value)))
+    action_step actual_step place_step value_step arm_step value_arm_step
 
 -- what a body does when it is entered
-abbrev pub content : Content → Run (Option Value)
+abbrev pub content : Content → Run (Option (List Value))
 content (contents.Units us) n w = bind (all (map act us) n w) (λ _. Gives None)
-content (contents.Value u a) n w = bind (value a n w) (λ v. Gives (Some v))
+content (contents.Value s a) n w = bind (value a n w) (λ vs. Gives (Some vs))
 
 -- the slots of a call: two, what the parameters hold, and the variables
 abbrev pub frame : List Slot → List Kind → List Slot
@@ -367,7 +431,7 @@ abbrev pub link : List Slot
 link = Taken ∷ Taken ∷ []
 
 -- a PROC has come to its end, or is left from itself or from a refinement of it; its slots, those from n on, are given back
-abbrev pub called : ℕ → Outcome (Option Value) → Outcome (Option Value)
+abbrev pub called : ℕ → Outcome (Option (List Value)) → Outcome (Option (List Value))
 called n (Gives v w) = Gives v (cut n w)
 called n (Left e v w) = Gives v (cut n w)
 called n (Stopped s w) = Stopped s w
@@ -375,7 +439,7 @@ called n (OutOfMarks w) = OutOfMarks w
 called n (Asks q w) = Asks q w
 
 -- a refinement has come to its end or is left, or it leaves the PROC
-abbrev pub referred : ℕ → Outcome (Option Value) → Outcome (Option Value)
+abbrev pub referred : ℕ → Outcome (Option (List Value)) → Outcome (Option (List Value))
 referred n (Gives v w) = Gives v (cut n w)
 referred n (Left exits.Body v w) = Gives v (cut n w)
 referred n (Left exits.Around v w) = Left exits.Around v w
@@ -389,13 +453,13 @@ own_variables (Own parameters variables) = variables
 own_variables _ = []
 
 -- a body that is called, and one that is referred to. There is always one; no well typed phrase names another
-abbrev pub run_called : Calls → ℕ → Option Body → List Slot → ℕ → World → Outcome (Option Value)
+abbrev pub run_called : Calls → ℕ → Option Body → List Slot → ℕ → World → Outcome (Option (List Value))
 run_called calls n None xs held w = OutOfMarks w
 run_called calls n (Some b) xs held w =
     with_room (frame xs (own_variables b.scope))
     (λ w'. called (length w.store) (content b.content (record { calls = calls; turns = n; base = length w.store + 2; held = held }) w')) w
 
-abbrev pub run_referred : Calls → ℕ → Option Body → ℕ → ℕ → World → Outcome (Option Value)
+abbrev pub run_referred : Calls → ℕ → Option Body → ℕ → ℕ → World → Outcome (Option (List Value))
 run_referred calls n None base held w = OutOfMarks w
 run_referred calls n (Some b) base held w =
     with_room link (λ w'. referred (length w.store) (content b.content (record { calls = calls; turns = n; base = base; held = held }) w')) w

@@ -2,3 +2,4 @@ pub mod Typing
 pub mod Types
 pub mod Eval
 pub mod Command
+pub mod Nested

@@ -1,16 +1,21 @@
--- The kinds of values that phrases deliver, and which cores are well typed.
-use Rattle.std.specs.Prelude.{◌≡◌, ℕ, Bool, true, false, ◌&&◌, ◌==◌, nat_le, List, [], ◌∷◌, ◌++◌, map, length, Option, Some, None, option_map, slice_get}
+-- The shapes of values that phrases deliver, and which cores are well typed.
+use Rattle.std.specs.Prelude.{◌≡◌, ℕ, Bool, true, false, ◌&&◌, ◌==◌, nat_le, List, [], ◌∷◌, ◌++◌, map, length, take, drop, replicate, flat_map}
+use Rattle.std.specs.Prelude.{Option, Some, None, option_map, slice_get}
 use Rattle.eu_base.specs.declared.value.Kind.{Kind}
 use Rattle.eu_base.specs.declared.value.Kind.TheVariants as kinds
 use Rattle.eu_base.specs.declared.value.TheConstants.{TEXT_BYTES}
+use Rattle.eu_base.specs.declared.shape.Shape.{Shape}
+use Rattle.eu_base.specs.declared.shape.Shape.TheVariants.{Cell, Row}
+use Rattle.eu_base.specs.Values.{same_kind}
+use Rattle.eu_base.specs.Shapes.{cell_kinds, joined, same_shape}
 use Rattle.eu_base.specs.Operations.{operand_kinds, result_kind, change_kind, in_range}
 use Rattle.eu_base.specs.declared.request.RequestName.{RequestName}
 use Rattle.eu_base.specs.Requests.{request_kinds, request_places}
 use Rattle.elan_types.specs.declared.core_phrase.PlacePhrase.{PlacePhrase}
-use Rattle.elan_types.specs.declared.core_phrase.PlacePhrase.TheVariants.{Variable, Local, Parameter}
 use Rattle.elan_types.specs.declared.core_phrase.Access.{Access}
 use Rattle.elan_types.specs.declared.core_phrase.Access.TheVariants.{Const, Var}
 use Rattle.elan_types.specs.declared.core_phrase.Exit.{Exit}
+use Rattle.elan_types.specs.declared.core_phrase.Part.{Part}
 use Rattle.elan_types.specs.declared.core_phrase.Exit.TheVariants as exits
 use Rattle.elan_types.specs.declared.core_phrase.Scope.{Scope}
 use Rattle.elan_types.specs.declared.core_phrase.Scope.TheVariants.{Own, Of, Level}
@@ -22,30 +27,28 @@ use Rattle.elan_types.specs.declared.core_phrase.Core.{Core}
 use Rattle.elan_types.specs.declared.core_phrase.ValuePhrase.{ValuePhrase}
 use Rattle.elan_types.specs.declared.core_phrase.Action.{Action}
 use Rattle.elan_types.specs.declared.core_phrase.Action.TheOpen as t
-use Rattle.elan_types.specs.declared.core_phrase.Action.TheOpen.{Action-F, Actual-F, ValuePhrase-F, Arm-F, ValueArm-F}
-use Rattle.elan_types.specs.declared.core_phrase.Action.TheFolds.{fold-Action, fold-ValuePhrase}
+use Rattle.elan_types.specs.declared.core_phrase.Action.TheOpen.{Action-F, PlacePhrase-F, Actual-F, ValuePhrase-F, Arm-F, ValueArm-F}
+use Rattle.elan_types.specs.declared.core_phrase.Action.TheFolds.{fold-Action, fold-PlacePhrase, fold-ValuePhrase}
 
--- the kind of value that a phrase delivers, none where it is not well typed
+-- the shape of the value that a phrase delivers, none where it is not well typed
 abbrev pub Typed : Type 0
-Typed = Option Kind
+Typed = Option Shape
 
-abbrev pub same_kind : Kind → Kind → Bool
-same_kind kinds.Int kinds.Int = true
-same_kind kinds.Truth kinds.Truth = true
-same_kind kinds.Text kinds.Text = true
-same_kind _ _ = false
+-- the value of a phrase has this shape
+abbrev pub has_shape : Shape → Typed → Bool
+has_shape s None = false
+has_shape s (Some r) = same_shape s r
 
--- a phrase has this kind
+-- it is a cell of this kind
 abbrev pub has : Kind → Typed → Bool
-has k None = false
-has k (Some j) = same_kind k j
+has k a = has_shape (Cell k) a
 
--- two phrases have one kind
+-- two phrases have one shape
 abbrev pub agree : Typed → Typed → Bool
 agree None b = false
-agree (Some k) b = has k b
+agree (Some s) b = has_shape s b
 
--- a kind, where a test holds
+-- a shape, where a test holds
 abbrev pub only_if : Bool → Typed → Typed
 only_if true a = a
 only_if false a = None
@@ -74,17 +77,35 @@ same_access Const Const = true
 same_access Var Var = true
 same_access _ _ = false
 
--- the kind of what is held with an access: a variable, constant and CONST parameter hold a value, a VAR parameter the place of one
-abbrev pub kind_as : Access → Option Formal → Typed
-kind_as access None = None
-kind_as access (Some f) = only_if (same_access access f.access) (Some f.kind)
+abbrev pub formal : Access → Shape → Formal
+formal access s = record { shape = s; access = access }
 
-abbrev pub formal : Access → Kind → Formal
-formal access k = record { kind = k; access = access }
+-- what a cell of a frame holds: a value of a kind, or the place where values of these kinds stand
+pub data Held : Type 0 where
+  OfKind : Kind → Held
+  OfPlace : List Kind → Held
+
+abbrev pub held_as : Access → List Kind → List Held
+held_as Const ks = map OfKind ks
+held_as Var ks = OfPlace ks ∷ []
+
+-- the cells of a parameter: those of its value, or one for a place
+abbrev pub cells_of : Formal → List Held
+cells_of f = held_as f.access (cell_kinds f.shape)
+
+-- the kinds of the cells from the first on that hold values
+abbrev pub values_held : List Held → List Kind
+values_held (OfKind k ∷ hs) = k ∷ values_held hs
+values_held _ = []
+
+-- the kinds of the cells at the place that a cell holds
+abbrev pub place_held : Option Held → List Kind
+place_held (Some (OfPlace ks)) = ks
+place_held _ = []
 
 -- a request takes values, and then variables
 abbrev pub request_formals : RequestName → List Formal
-request_formals name = map (formal Const) (request_kinds name) ++ map (formal Var) (request_places name)
+request_formals name = map (λ k. formal Const (Cell k)) (request_kinds name) ++ map (λ k. formal Var (Cell k)) (request_places name)
 
 -- what a parameter is given, none where it is not well typed
 abbrev pub Taken : Type 0
@@ -92,7 +113,7 @@ Taken = Option Formal
 
 abbrev pub takes : Formal → Taken → Bool
 takes f None = false
-takes f (Some g) = same_kind f.kind g.kind && same_access f.access g.access
+takes f (Some g) = same_shape f.shape g.shape && same_access f.access g.access
 
 -- parameters are given what they take, one each
 abbrev pub take_all : List Formal → List Taken → Bool
@@ -100,26 +121,26 @@ take_all [] [] = true
 take_all (f ∷ fs) (a ∷ as') = takes f a && take_all fs as'
 take_all _ _ = false
 
--- with an access, where there is a kind
+-- with an access, where there is a shape
 abbrev pub given_as : Access → Typed → Taken
 given_as access a = option_map (formal access) a
 
 abbrev pub result_of_content : Content → Typed
 result_of_content (contents.Units us) = None
-result_of_content (contents.Value k a) = Some k
+result_of_content (contents.Value s a) = Some s
 
 abbrev pub is_none : Typed → Bool
 is_none None = true
-is_none (Some k) = false
+is_none (Some s) = false
 
--- a LEAVE can be there, without and with a value of this kind
+-- a LEAVE can be there, without and with a value of this shape
 abbrev pub leaves_without : Option Typed → Bool
 leaves_without None = false
 leaves_without (Some a) = is_none a
 
-abbrev pub leaves_with : Kind → Option Typed → Bool
-leaves_with k None = false
-leaves_with k (Some a) = has k a
+abbrev pub leaves_with : Shape → Option Typed → Bool
+leaves_with s None = false
+leaves_with s (Some a) = has_shape s a
 
 -- where a phrase stands: in the units of the level, or in the body with this number
 abbrev pub Home : Type 0
@@ -136,9 +157,9 @@ same_home None None = true
 same_home (Some a) (Some b) = a == b
 same_home _ _ = false
 
--- the parameters and variables of a PROC
-abbrev pub frame_of : Scope → List Formal
-frame_of (Own parameters variables) = parameters ++ map (formal Const) variables
+-- the cells of a PROC's parameters and variables
+abbrev pub frame_of : Scope → List Held
+frame_of (Own parameters variables) = flat_map cells_of parameters ++ map OfKind variables
 frame_of _ = []
 
 abbrev pub scope_of : Option Body → Option Scope
@@ -169,7 +190,7 @@ abbrev pub owner_at : ℕ → Option Scope → Home
 owner_at n (Some scope) = owner_in n scope
 owner_at n None = None
 
-abbrev pub frame_at : Option Scope → List Formal
+abbrev pub frame_at : Option Scope → List Held
 frame_at (Some scope) = frame_of scope
 frame_at None = []
 
@@ -181,8 +202,8 @@ module _ (bodies : List Body) where
   owner None = None
   owner (Some n) = owner_at n (scope_of (body_at n))
 
-  -- the parameters and variables of a PROC
-  abbrev pub frame_in : Home → List Formal
+  -- the cells of a PROC's parameters and variables
+  abbrev pub frame_in : Home → List Held
   frame_in None = []
   frame_in (Some n) = frame_at (scope_of (body_at n))
 
@@ -197,36 +218,69 @@ module _ (bodies : List Body) where
   left_from exits.Body (Some n) = result_of (body_at n)
   left_from exits.Around (Some n) = around (scope_of (body_at n))
 
+-- cells of these kinds stand first
+abbrev pub begins : List Kind → List Kind → Bool
+begins [] js = true
+begins (k ∷ ks) (j ∷ js) = same_kind k j && begins ks js
+begins (k ∷ ks) [] = false
+
+-- and there is one at least
+abbrev pub starts : List Kind → List Kind → Bool
+starts [] js = false
+starts (k ∷ ks) js = begins (k ∷ ks) js
+
+abbrev pub if_true : Bool → List Kind → List Kind
+if_true true ks = ks
+if_true false ks = []
+
+-- the kinds of an item's cells, where so many items of so many cells stand first, all of the same kinds; none where they do not
+abbrev pub item_kinds : ℕ → ℕ → List Kind → List Kind
+item_kinds count cells ks =
+    if_true (length (take cells ks) == cells && begins (joined (replicate count (take cells ks))) ks) (take cells ks)
+
+-- a value has such a part, whose cells have these kinds
+abbrev pub has_part : Part → List Kind → Typed → Bool
+has_part part ks None = false
+has_part part ks (Some s) = length (cell_kinds s) == part.of && (length ks == part.cells && begins ks (drop part.before (cell_kinds s)))
+
 module _ (variables : List Kind) (bodies : List Body) (home : Home) where
-  abbrev pub frame_here : List Formal
+  abbrev pub frame_here : List Held
   frame_here = frame_in bodies (owner bodies home)
 
-  abbrev pub place_kind : PlacePhrase → Typed
-  place_kind (Variable n) = slice_get variables n
-  place_kind (Local n) = kind_as Const (slice_get frame_here n)
-  place_kind (Parameter n) = kind_as Var (slice_get frame_here n)
+  abbrev pub Layer : (Type 0 → Type 0 → Type 0 → Type 0 → Type 0 → Type 0 → Type 0) → Type 0
+  Layer F = F Bool Taken (List Kind) Typed Bool Typed
 
-  abbrev pub Layer : (Type 0 → Type 0 → Type 0 → Type 0 → Type 0 → Type 0) → Type 0
-  Layer F = F Bool Taken Typed Bool Typed
+  -- the kinds of the cells that stand at a place and behind it in one variable or frame; none where it is not well typed
+  abbrev pub place_kinds_step : Layer PlacePhrase-F → List Kind
+  place_kinds_step (t.Variable n) = drop n variables
+  place_kinds_step (t.Local n) = values_held (drop n frame_here)
+  place_kinds_step (t.Parameter n) = place_held (slice_get frame_here n)
+  place_kinds_step (t.Item p a items) = if_true (has kinds.Int a) (item_kinds items.count items.cells p)
+  place_kinds_step (t.Field p before) = drop before p
 
-  -- the kind of a phrase from those of its parts
+  -- the shape of a phrase's value from those of its parts
   abbrev pub value_kind_step : Layer ValuePhrase-F → Typed
-  value_kind_step (t.Number z) = only_if (in_range z) (Some kinds.Int)
-  value_kind_step (t.Truth b) = Some kinds.Truth
-  value_kind_step (t.Text x) = only_if (nat_le (length x) TEXT_BYTES) (Some kinds.Text)
-  value_kind_step (t.Load p k) = only_if (has k (place_kind p)) (Some k)
-  value_kind_step (t.Apply op as') = only_if (have (operand_kinds op) as') (Some (result_kind op))
+  value_kind_step (t.Number z) = only_if (in_range z) (Some (Cell kinds.Int))
+  value_kind_step (t.Truth b) = Some (Cell kinds.Truth)
+  value_kind_step (t.Text x) = only_if (nat_le (length x) TEXT_BYTES) (Some (Cell kinds.Text))
+  value_kind_step (t.Load p s) = only_if (starts (cell_kinds s) p) (Some s)
+  value_kind_step (t.Apply op as') = only_if (have (operand_kinds op) as') (Some (Cell (result_kind op)))
   value_kind_step (t.ValuePhrase::If c a b) = only_if (has kinds.Truth c && agree a b) a
   value_kind_step (t.ValuePhrase::Select v arms other) = only_if (has kinds.Int v && all_agree other arms) other
   value_kind_step (t.ValuePhrase::Unit a) = a
   value_kind_step (t.After us a) = only_if (all_true us) a
-  value_kind_step (t.ValuePhrase::Call p as' k) = only_if (taken_by (scope_of (slice_get bodies p)) as' && has k (delivered_by (slice_get bodies p))) (Some k)
-  value_kind_step (t.ValuePhrase::Refer p k) =
-      only_if (refines (owner bodies home) (scope_of (slice_get bodies p)) && has k (delivered_by (slice_get bodies p))) (Some k)
+  value_kind_step (t.Never s) = Some s
+  value_kind_step (t.ValuePhrase::Call p as' s) =
+      only_if (taken_by (scope_of (slice_get bodies p)) as' && has_shape s (delivered_by (slice_get bodies p))) (Some s)
+  value_kind_step (t.ValuePhrase::Refer p s) =
+      only_if (refines (owner bodies home) (scope_of (slice_get bodies p)) && has_shape s (delivered_by (slice_get bodies p))) (Some s)
+  value_kind_step (t.Pick a i items s) =
+      only_if (has_shape (Row items.count s) a && (has kinds.Int i && length (cell_kinds s) == items.cells)) (Some s)
+  value_kind_step (t.Take a part s) = only_if (has_part part (cell_kinds s) a) (Some s)
 
   abbrev pub actual_kind_step : Layer Actual-F → Taken
   actual_kind_step (t.Value a) = given_as Const a
-  actual_kind_step (t.Place p k) = given_as Var (only_if (has k (place_kind p)) (Some k))
+  actual_kind_step (t.Place p s) = given_as Var (only_if (starts (cell_kinds s) p) (Some s))
 
   abbrev pub value_arm_kind_step : Layer ValueArm-F → Typed
   value_arm_kind_step arm = arm.value
@@ -234,35 +288,44 @@ module _ (variables : List Kind) (bodies : List Body) (home : Home) where
   -- whether an action's parts have the kinds that it asks for
   abbrev pub action_typed_step : Layer Action-F → Bool
   action_typed_step (t.Action::Unit us) = all_true us
-  action_typed_step (t.Store p k a) = has k (place_kind p) && has k a
-  action_typed_step (t.Modify change p a) = has (change_kind change) (place_kind p) && has (change_kind change) a
+  action_typed_step (t.Store p s a) = starts (cell_kinds s) p && has_shape s a
+  action_typed_step (t.Modify change p a) = starts (change_kind change ∷ []) p && has (change_kind change) a
   action_typed_step (t.Action::If c us vs) = has kinds.Truth c && (all_true us && all_true vs)
   action_typed_step (t.Action::Select a arms vs) = has kinds.Int a && (all_true arms && all_true vs)
   action_typed_step (t.Loop c us u) = has_if_written kinds.Truth c && (all_true us && has_if_written kinds.Truth u)
   action_typed_step (t.Count p from way limit c us u) =
-      has kinds.Int (place_kind p)
+      starts (kinds.Int ∷ []) p
       && (has kinds.Int from && (has_if_written kinds.Int limit && (has_if_written kinds.Truth c && (all_true us && has_if_written kinds.Truth u))))
   action_typed_step (t.Ask name as') = take_all (request_formals name) as'
   action_typed_step (t.ErrorStop a) = has kinds.Text a
   action_typed_step (t.Action::Call p as') = taken_by (scope_of (slice_get bodies p)) as' && is_none (delivered_by (slice_get bodies p))
   action_typed_step (t.Action::Refer p) = refines (owner bodies home) (scope_of (slice_get bodies p)) && is_none (delivered_by (slice_get bodies p))
   action_typed_step (t.Leave e) = leaves_without (left_from bodies e home)
-  action_typed_step (t.LeaveWith e k a) = has k a && leaves_with k (left_from bodies e home)
+  action_typed_step (t.LeaveWith e s a) = has_shape s a && leaves_with s (left_from bodies e home)
 
   abbrev pub arm_typed_step : Layer Arm-F → Bool
   arm_typed_step arm = all_true arm.units
 
-  -- the kind of a phrase
-  abbrev pub phrase_kind : ValuePhrase → Typed
-  phrase_kind = fold-ValuePhrase Bool Taken Typed Bool Typed action_typed_step actual_kind_step value_kind_step arm_typed_step value_arm_kind_step
+  -- the shape of a phrase's value, and the kinds of the cells from a place on
+  abbrev pub phrase_shape : ValuePhrase → Typed
+  phrase_shape =
+      fold-ValuePhrase Bool Taken (List Kind) Typed Bool Typed action_typed_step actual_kind_step place_kinds_step value_kind_step arm_typed_step
+      value_arm_kind_step
+
+  abbrev pub place_kinds : PlacePhrase → List Kind
+  place_kinds =
+      fold-PlacePhrase Bool Taken (List Kind) Typed Bool Typed action_typed_step actual_kind_step place_kinds_step value_kind_step arm_typed_step
+      value_arm_kind_step
 
   abbrev pub is_typed : Action → Bool
-  is_typed = fold-Action Bool Taken Typed Bool Typed action_typed_step actual_kind_step value_kind_step arm_typed_step value_arm_kind_step
+  is_typed =
+      fold-Action Bool Taken (List Kind) Typed Bool Typed action_typed_step actual_kind_step place_kinds_step value_kind_step arm_typed_step
+      value_arm_kind_step
 
   -- what a body does has the kinds that it asks for
   abbrev pub is_content_typed : Content → Bool
   is_content_typed (contents.Units us) = all_true (map is_typed us)
-  is_content_typed (contents.Value k a) = has k (phrase_kind a)
+  is_content_typed (contents.Value s a) = has_shape s (phrase_shape a)
 
 -- a refinement is one of a PROC, or of the level
 abbrev pub IsScope : List Body → Scope → Type 0

@@ -1,12 +1,12 @@
-//! What a text means. Every name is resolved and every phrase has the kind of its cell, so evaluation and
+//! What a text means. Every name is resolved and every phrase has the shape of its value, so evaluation and
 //! the making of code go by structure alone. Of types a core knows nothing else.
 
-use eu_base::{Boxed, Bytes, Change, Kind, List, Operation, RequestName, Way};
+use eu_base::{Boxed, Bytes, Change, Kind, List, Operation, RequestName, Shape, Way};
 
 /// The meaning of a program.
 #[derive(Drop)]
 pub struct Core {
-    /// The kinds of the level's variables and constants, in the order of their declarations.
+    /// The kinds of the cells of the level's variables and constants, in the order of their declarations.
     pub variables: List<Kind>,
     /// The PROCs and refinements. Phrases name them by their numbers here.
     pub bodies: List<Body>,
@@ -26,7 +26,7 @@ pub struct Body {
 /// What variables a body has.
 #[derive(Drop)]
 pub enum Scope {
-    /// Those of a PROC: its parameters, and behind them the kinds of its own variables and constants.
+    /// Those of a PROC: its parameters, and behind them the kinds of the cells of its own variables and constants.
     Own {
         parameters: List<Formal>,
         variables: List<Kind>,
@@ -38,10 +38,10 @@ pub enum Scope {
 }
 
 /// A parameter of a PROC.
-#[derive(Clone, Copy, PartialEq, Eq)]
+#[derive(Drop)]
 pub struct Formal {
-    /// The kind of the value that it holds, or of the variable.
-    pub kind: Kind,
+    /// The shape of the value that it holds, or of the variable.
+    pub shape: Shape,
     /// What it holds.
     pub access: Access,
 }
@@ -60,8 +60,8 @@ pub enum Access {
 pub enum Content {
     /// It delivers nothing.
     Units(List<Action>),
-    /// It delivers a value of a kind.
-    Value(Kind, ValuePhrase),
+    /// It delivers a value of a shape.
+    Value(Shape, ValuePhrase),
 }
 
 /// What a LEAVE leaves.
@@ -71,6 +71,26 @@ pub enum Exit {
     Body,
     /// The PROC in whose refinement it stands.
     Around,
+}
+
+/// The items of a row.
+#[derive(Clone, Copy, PartialEq, Eq)]
+pub struct Items {
+    /// How many they are.
+    pub count: u16,
+    /// How many cells each of them has.
+    pub cells: u16,
+}
+
+/// Some cells of a value.
+#[derive(Clone, Copy, PartialEq, Eq)]
+pub struct Part {
+    /// How many cells the whole value has.
+    pub of: u16,
+    /// How many of them stand before the part.
+    pub before: u16,
+    /// How many the part has.
+    pub cells: u16,
 }
 
 /// A phrase that delivers a value.
@@ -84,7 +104,7 @@ pub enum ValuePhrase {
     /// A text, of at most 16,000 bytes.
     Text(Bytes),
     /// What stands at a place.
-    Load(PlacePhrase, Kind),
+    Load(PlacePhrase, Shape),
     /// The result of an operation, its operands from left to right.
     Apply(Operation, List<ValuePhrase>),
     /// Condition, and the values for TRUE and FALSE. `a CAND b` is b, or else FALSE; `a COR b` is TRUE, or else b.
@@ -93,12 +113,18 @@ pub enum ValuePhrase {
     Select(Boxed<ValuePhrase>, List<ValueArm>, Boxed<ValuePhrase>),
     /// A value that is a unit: it spends a mark first.
     Unit(Boxed<ValuePhrase>),
-    /// Actions, and then a value. Behind a LEAVE stands any value of the kind that is asked for; it is never reached.
+    /// Actions, and then a value.
     After(List<Action>, Boxed<ValuePhrase>),
+    /// A value of this shape that is never delivered. It stands behind a LEAVE, where it is not reached.
+    Never(Shape),
     /// What the call of a PROC delivers, its actuals from left to right.
-    Call(usize, List<Actual>, Kind),
+    Call(usize, List<Actual>, Shape),
     /// What a refinement delivers.
-    Refer(usize, Kind),
+    Refer(usize, Shape),
+    /// The item of a row that is a value: the row, the index, the items, and the shape of one.
+    Pick(Boxed<ValuePhrase>, Boxed<ValuePhrase>, Items, Shape),
+    /// The field of a structure that is a value: the structure, the part of it that the field is, and the field's shape.
+    Take(Boxed<ValuePhrase>, Part, Shape),
 }
 
 /// What a parameter is given.
@@ -107,8 +133,8 @@ pub enum ValuePhrase {
 pub enum Actual {
     /// A value, for a CONST parameter.
     Value(ValuePhrase),
-    /// The place of a variable of this kind, for a VAR parameter.
-    Place(PlacePhrase, Kind),
+    /// The place of a variable of this shape, for a VAR parameter.
+    Place(PlacePhrase, Shape),
 }
 
 /// Labels, and the value that they choose.
@@ -121,15 +147,20 @@ pub struct ValueArm {
     pub value: ValuePhrase,
 }
 
-/// A phrase that names a place.
+/// A phrase that names a place: that of the first cell of what stands there.
+#[cycle(phrases)]
 #[derive(Drop)]
 pub enum PlacePhrase {
-    /// A variable or constant of the level, by its number in `Core::variables`.
+    /// A variable or constant of the level, by the number of its first cell in `Core::variables`.
     Variable(usize),
-    /// A CONST parameter, variable or constant of the PROC, by its number among parameters and variables.
+    /// A CONST parameter, variable or constant of the PROC, by the number of its first cell in the PROC's frame.
     Local(usize),
-    /// What a VAR parameter of the PROC holds, by its number among the parameters.
+    /// What a VAR parameter of the PROC holds, by the number of its cell in the PROC's frame.
     Parameter(usize),
+    /// An item of a row: the row, the index, and the items.
+    Item(Boxed<PlacePhrase>, Boxed<ValuePhrase>, Items),
+    /// A field of a structure: the structure, and how many of its cells stand before the field.
+    Field(Boxed<PlacePhrase>, u16),
 }
 
 /// A phrase that delivers nothing.
@@ -139,7 +170,7 @@ pub enum Action {
     /// A declaration or statement: it spends a mark, and then does each of these.
     Unit(List<Action>),
     /// Stores a value at a place.
-    Store(PlacePhrase, Kind, ValuePhrase),
+    Store(PlacePhrase, Shape, ValuePhrase),
     /// INCR, DECR and CAT.
     Modify(Change, PlacePhrase, ValuePhrase),
     /// Condition, and what is done for TRUE and FALSE.
@@ -173,7 +204,7 @@ pub enum Action {
     /// LEAVE without a value.
     Leave(Exit),
     /// A LEAVE WITH, and the value that is delivered.
-    LeaveWith(Exit, Kind, ValuePhrase),
+    LeaveWith(Exit, Shape, ValuePhrase),
 }
 
 /// Labels, and what they choose.
@@ -194,6 +225,11 @@ impl Core {
 }
 
 impl ValuePhrase {
+    /// Lets it go, with all its parts.
+    pub fn let_go(self) {}
+}
+
+impl PlacePhrase {
     /// Lets it go, with all its parts.
     pub fn let_go(self) {}
 }
