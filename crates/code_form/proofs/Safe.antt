@@ -1,7 +1,7 @@
 -- A step from a state that fits can be made, and leads to one that fits. One induction over the instructions, so it stands in one file.
 use Rattle.std.proofs.Common.{◌≡◌, ℕ, suc, ◌+◌, ◌-◌, ◌*◌, ◌<◌, ◌≤◌, ◌%◌, List, [], ◌∷◌, ◌++◌, map, length, Option, Some, None, Bool, true, false, cond, refl, sym}
-use Rattle.std.proofs.Common.{ap, ◌∙◌, subst, arith, length-append, append_assoc, ◌++◌}
-use Rattle.std.specs.Prelude.{slice_get, drop, Ok, Err}
+use Rattle.std.proofs.Common.{ap, ◌∙◌, subst, arith, length-append, append_assoc, append-nil}
+use Rattle.std.specs.Prelude.{slice_get, take, drop, flat_map, Ok, Err}
 use Rattle.std.specs.Ordering.{int_eq}
 use Rattle.std.proofs.lemmas.List.{length-map}
 use Rattle.std.proofs.lemmas.Option.{slice_get_within}
@@ -16,7 +16,10 @@ use Rattle.eu_base.specs.declared.value.Value.TheVariants as item
 use Rattle.eu_base.specs.declared.operation.Way.{Way}
 use Rattle.eu_base.specs.declared.stop.Stop.TheVariants.{CellRoom, TextRoom}
 use Rattle.eu_base.specs.Values.{kind_of, number_of, truth_of, blank_of, number_in, truth_in}
-use Rattle.eu_base.specs.Room.{cells_fit, bytes_fit, texts_fit}
+use Rattle.eu_base.specs.declared.shape.Shape.{Shape}
+use Rattle.eu_base.specs.declared.shape.Shape.TheVariants.{Cell as OneCell}
+use Rattle.eu_base.specs.Shapes.{cell_kinds}
+use Rattle.eu_base.specs.Room.{values_blocks, cells_fit, bytes_fit, texts_fit}
 use Rattle.eu_base.specs.Operations.{Given as GivenValue, operand_kinds, result_kind, result_of, change_kind, changed, is_past, has_reached}
 use Rattle.eu_base.specs.declared.request.RequestName.{RequestName}
 use Rattle.eu_base.specs.declared.request.Request.{Request}
@@ -25,13 +28,13 @@ use Rattle.eu_base.specs.declared.request.Reply.TheVariants as replies
 use Rattle.eu_base.specs.Requests.{request_kinds, request_places, request_size, request_of, reply_text, read_as}
 use Rattle.eu_base.specs.Cells.{Cell, Free, Word, Letters, Cells, held_of, IsCell, run_cell, place_number, place_in, written, cell_blocks, blocks_in, freed}
 use Rattle.code_form.specs.declared.operand.Operand.{Operand}
-use Rattle.code_form.specs.declared.operand.Operand.TheVariants.{Value as Of, Place as At}
+use Rattle.code_form.specs.declared.operand.Operand.TheVariants.{Value as Of, Place as At, Aggregate}
 use Rattle.code_form.specs.declared.operand.OperandKind.{OperandKind}
 use Rattle.code_form.specs.declared.operand.OperandKind.TheVariants.{Value as OfKind, Place as AtKind}
 use Rattle.code_form.specs.declared.waits.Waits.{Waits}
 use Rattle.code_form.specs.declared.waits.Waits.TheVariants.{Nothing, Asked, Given, Refused}
 use Rattle.code_form.specs.declared.instr.Instr.{Instr}
-use Rattle.code_form.specs.declared.instr.Instr.TheVariants.{Mark, Number, Truth, Text, Outer, Local, Param, Index, Field, Load, Store, Do, Modify, Jump, False}
+use Rattle.code_form.specs.declared.instr.Instr.TheVariants.{Mark, Number, Truth, Text, Outer, Local, Param, Index, Field, Pick, Take, Load, Store, Do, Modify, Jump, False}
 use Rattle.code_form.specs.declared.instr.Instr.TheVariants.{When, Drop, Limit, Unlimit, Step, Ask, ErrorStop, Call, Refer, Back, Out, End}
 use Rattle.code_form.specs.declared.code.Line.{Line}
 use Rattle.code_form.specs.declared.code.Spot.{Spot}
@@ -39,33 +42,106 @@ use Rattle.code_form.specs.declared.code.Entry.{Entry}
 use Rattle.code_form.specs.declared.code.Layout.{Layout}
 use Rattle.code_form.specs.declared.code.Layout.TheVariants as layouts
 use Rattle.code_form.specs.Program.{Program, line_of, instr_of, in_body, deeper, owner, owner_in, owner_at, layout_of, cells_of, cells_in, cells_at}
-use Rattle.code_form.specs.Program.{frame_cells}
+use Rattle.code_form.specs.Program.{CellUse, HoldsValue, cell_uses, frame_cells}
 use Rattle.code_form.specs.Machine.{value_in, keeps, takes_reply, asking, given, answered}
-use Rattle.code_form.specs.Machine.{Frame, Position, free, To, Stops, Unsaid, Move, Goes, Spends, operand_bytes, bytes_on, bytes_of, base_of, at}
-use Rattle.code_form.specs.Machine.{using, goes, pushes, on_value, on_place, on_values, on_operands, on_result, or_halt, on_word, on_cell, is_free, are_free}
-use Rattle.code_form.specs.Machine.{limit_cell, held_of_operand, frame_contents, link_contents, written_from, enters, calls_to, call_move, refer_move}
-use Rattle.code_form.specs.Machine.{on_item, in_row, further, takes, puts, content_blocks, is_framed, Unknown, goes, Halts, back_into, back_to, out_to, limit_to, instruction, step}
-use Rattle.code_form.specs.Valid.{Next, pushed_kinds, pushed_operands, with_result, HasResult, IsRefinement, IsCalled, IsReferred, IsFine, IsValid, FitsKind}
+use Rattle.code_form.specs.Machine.{Frame, Position, free, To, Stops, Unsaid, Move, Goes, Spends, operand_of, least_bytes, operand_bytes, bytes_on, bytes_of, base_of, at}
+use Rattle.code_form.specs.Machine.{using, goes, pushes, on_value, on_all, on_place, on_values, on_operands, on_result, or_halt, on_word, on_cell, on_cells, is_free, are_free}
+use Rattle.code_form.specs.Machine.{limit_cell, held_cells, frame_contents, link_contents, written_from, enters, calls_to, call_move, refer_move}
+use Rattle.eu_base.specs.Operations.{in_row}
+use Rattle.code_form.specs.Machine.{on_item, further, next, takes, puts, written_all, takes_all, puts_all, content_blocks, is_framed, Unknown, goes, Halts, back_into, back_to, out_to, limit_to, instruction, step}
+use Rattle.code_form.specs.Valid.{Next, cell_value, cell_place, HasKinds, pushed_kinds, pushed_operands, with_result, HasResult, IsRefinement, IsCalled, IsReferred, IsFine, IsValid, FitsKind}
 use Rattle.code_form.specs.Valid.{is_ask, is_asking, request_operands}
 use Rattle.code_form.specs.Valid.{FitsKinds, MadeSo, IsMade, FitsFrames, Fits}
 use Rattle.code_form.specs.Runs.{IsSafe, StaysFit}
 use Rattle.eu_base.proofs.Results.{result_gives, kind_is}
+use Rattle.eu_base.proofs.Shapes.{kinds_of_cell}
+use Rattle.std.specs.Prelude.{ℤ, pos, negsuc, nat_le, ◌&&◌}
+use Rattle.std.proofs.lemmas.List.{take-map, drop-map}
 
 -- so many operands a request has
 pub request_many : (q : RequestName) → length (request_operands q) ≡ request_size q
 request_many q =
     omega (
       arith,
-      length-append (map OfKind (request_kinds q)) (map AtKind (request_places q)),
-      length-map (request_kinds q) OfKind,
-      length-map (request_places q) AtKind,
+      length-append (map cell_value (request_kinds q)) (map cell_place (request_places q)),
+      length-map (request_kinds q) cell_value,
+      length-map (request_places q) cell_place,
     )
 
 -- what stands behind values
-pub fits_behind : (ks : List Kind) (more : List OperandKind) (os : List Operand) → FitsKinds os (map OfKind ks ++ more) → FitsKinds (drop (length ks) os) more
+pub fits_behind : (ks : List Kind) (more : List OperandKind) (os : List Operand) → FitsKinds os (map cell_value ks ++ more) → FitsKinds (drop (length ks) os) more
 fits_behind [] more os is = is
 fits_behind (k ∷ ks) more [] is = absurd is
 fits_behind (k ∷ ks) more (o ∷ os) is = fits_behind ks more os is.1
+
+-- an operand that is a value of one cell, and any value
+abbrev IsOne : Kind → Operand → Type 0
+IsOne k (Of v) = kind_of v ≡ k
+IsOne k _ = ⊥
+
+one_of : (k : Kind) (vs : List Value) → map kind_of vs ≡ k ∷ [] → IsOne k (operand_of vs)
+one_of k [] e = absurd (cc e)
+one_of k (v ∷ []) e = cc e
+one_of k (v ∷ w ∷ vs) e = absurd (cc e)
+
+pub is_one : (o : Operand) (k : Kind) → FitsKind o (cell_value k) → IsOne k o
+is_one o k h = subst (IsOne k) (sym h.is) (one_of k h.values (h.kinds ∙ kinds_of_cell k))
+
+pub as_one : (v : Value) (k : Kind) → kind_of v ≡ k → FitsKind (Of v) (cell_value k)
+as_one v k e = record { values = v ∷ []; is = refl; kinds = ap (λ k. k ∷ []) e ∙ sym (kinds_of_cell k) }
+
+abbrev pub HasValues : List Kind → Operand → Type 0
+HasValues ks (Of v) = kind_of v ∷ [] ≡ ks
+HasValues ks (At a) = ⊥
+HasValues ks (Aggregate vs) = map kind_of vs ≡ ks
+
+values_of : (ks : List Kind) (vs : List Value) → map kind_of vs ≡ ks → HasValues ks (operand_of vs)
+values_of ks [] e = e
+values_of ks (v ∷ []) e = e
+values_of ks (v ∷ w ∷ vs) e = e
+
+pub has_values : (o : Operand) (ks : List Kind) → HasKinds o ks → HasValues ks o
+has_values o ks h = subst (HasValues ks) (sym h.is) (values_of ks h.values h.kinds)
+
+-- it stands in as many cells as it has kinds
+many_values : (vs : List Value) → length (held_cells (operand_of vs)) ≡ length vs
+many_values [] = refl
+many_values (v ∷ []) = refl
+many_values (v ∷ w ∷ vs) = length-map (v ∷ w ∷ vs) held_of
+
+pub as_many_cells : (o : Operand) (k : OperandKind) → FitsKind o k → length (held_cells o) ≡ length (cell_uses k)
+as_many_cells o (OfKind s) h =
+    let many = many_values h.values in
+    let kinds = ap length h.kinds in
+    ap (λ o. length (held_cells o)) h.is ∙ omega (arith, many, kinds, length-map h.values kind_of, length-map (cell_kinds s) HoldsValue)
+as_many_cells (Of v) (AtKind s) h = absurd h
+as_many_cells (At a) (AtKind s) h = refl
+as_many_cells (Aggregate vs) (AtKind s) h = absurd h
+
+pub all_cells : (os : List Operand) (ks : List OperandKind) → FitsKinds os ks → length (flat_map held_cells os) ≡ length (flat_map cell_uses ks)
+all_cells [] [] h = refl
+all_cells [] (k ∷ ks) h = absurd h
+all_cells (o ∷ os) [] h = absurd h
+all_cells (o ∷ os) (k ∷ ks) h =
+    let here = as_many_cells o k h.0 in
+    let rest = all_cells os ks h.1 in
+    omega (
+      arith,
+      here,
+      rest,
+      length-append (held_cells o) (flat_map held_cells os),
+      length-append (cell_uses k) (flat_map cell_uses ks),
+    )
+
+-- a number in a row is below its length
+pub in_row_below : (n : ℕ) (z : ℤ) (k : ℕ) → in_row n z ≡ Some k → k < n
+in_row_below n (pos m) k e = by (nat_le 1 m) (nat_le m n) refl refl e
+  where
+    by : (b d : Bool) → nat_le 1 m ≡ b → nat_le m n ≡ d → cond (b && d) (Some (m - 1)) None ≡ Some k → k < n
+    by true true f g h = let same : m - 1 ≡ k = cc h in omega (arith, same, leb-true 1 m f, leb-true m n g)
+    by true false f g h = absurd (cc h)
+    by false d f g h = absurd (cc h)
+in_row_below n (negsuc m) k e = absurd (cc e)
 
 some_is : {A : Type 0} (a b : A) → Some a ≡ Some b → a ≡ b
 some_is a b e = cc
@@ -92,11 +168,12 @@ module _ (p : Program) (valid : IsValid p) where
   owner_is n e has = ap (λ o. owner_at n (layout_of o)) has
 
   own_cells : (n : ℕ) (e : Entry) (ps : List OperandKind) (vs : List Kind) → slice_get p.bodies n ≡ Some e → e.layout ≡ layouts.Own ps vs
-      → length (frame_cells p (Some n)) ≡ length ps + length vs
+      → length (frame_cells p (Some n)) ≡ length (flat_map cell_uses ps) + length vs
   own_cells n e ps vs has own =
       let o : owner p (Some n) ≡ Some n = owner_is n e has ∙ ap (owner_in n) own in
       let c : cells_in p (Some n) ≡ cells_of (layouts.Own ps vs) = ap (λ o. cells_at (layout_of o)) has ∙ ap cells_of own in
-      ap (λ o. length (cells_in p o)) o ∙ ap length c ∙ length-append ps (map OfKind vs) ∙ ap (λ n. length ps + n) (length-map vs OfKind)
+      ap (λ o. length (cells_in p o)) o ∙ ap length c ∙ length-append (flat_map cell_uses ps) (map HoldsValue vs)
+      ∙ ap (λ n. length (flat_map cell_uses ps) + n) (length-map vs HoldsValue)
 
   -- the instruction that made a frame is the call of its body, or a reference to it
   made_line : (pc : ℕ) (i : Instr) (ks : List OperandKind) (m : Spot) → slice_get p.lines pc ≡ Some (line_of i ks m) → IsFine p pc i ks m
@@ -199,21 +276,31 @@ module _ (p : Program) (valid : IsValid p) (pc : ℕ) (ops : List Operand) (used
   fewer : (o : Operand) (r : List Operand) → bytes_fit (bytes_on (o ∷ r) (bytes_of frames)) ≡ true → bytes_fit (bytes_on r (bytes_of frames)) ≡ true
   fewer o r e = bytes_fewer (bytes_on r (bytes_of frames)) (operand_bytes o + bytes_on r (bytes_of frames)) (omega arith) e
 
-  one_value : (ops : List Operand) (k : Kind) (rest : List OperandKind) (go : Value → List Operand → Move) → Has ops (OfKind k ∷ rest)
+  one_value : (ops : List Operand) (k : Kind) (rest : List OperandKind) (go : Value → List Operand → Move) → Has ops (cell_value k ∷ rest)
       → ((v : Value) (r : List Operand) → kind_of v ≡ k → Has r rest → Safe (go v r)) → Safe (on_value ops go)
   one_value [] k rest go f h = absurd f.0
-  one_value (Of v ∷ ops) k rest go f h = h v ops f.0.0 (f.0.1, fewer (Of v) ops f.1)
-  one_value (At a ∷ ops) k rest go f h = absurd f.0.0
+  one_value (Of v ∷ ops) k rest go f h = h v ops (is_one (Of v) k f.0.0) (f.0.1, fewer (Of v) ops f.1)
+  one_value (At a ∷ ops) k rest go f h = absurd (is_one (At a) k f.0.0)
+  one_value (Aggregate vs ∷ ops) k rest go f h = absurd (is_one (Aggregate vs) k f.0.0)
 
-  one_place : (ops : List Operand) (k : Kind) (rest : List OperandKind) (go : Addr → List Operand → Move) → Has ops (AtKind k ∷ rest)
+  all_value : (ops : List Operand) (s : Shape) (rest : List OperandKind) (go : List Value → List Operand → Move) → Has ops (OfKind s ∷ rest)
+      → ((vs : List Value) (r : List Operand) → map kind_of vs ≡ cell_kinds s → Has r rest → Safe (go vs r)) → Safe (on_all ops go)
+  all_value [] s rest go f h = absurd f.0
+  all_value (Of v ∷ ops) s rest go f h = h (v ∷ []) ops (has_values (Of v) (cell_kinds s) f.0.0) (f.0.1, fewer (Of v) ops f.1)
+  all_value (At a ∷ ops) s rest go f h = absurd (has_values (At a) (cell_kinds s) f.0.0)
+  all_value (Aggregate vs ∷ ops) s rest go f h = h vs ops (has_values (Aggregate vs) (cell_kinds s) f.0.0) (f.0.1, fewer (Aggregate vs) ops f.1)
+
+  one_place : (ops : List Operand) (s : Shape) (rest : List OperandKind) (go : Addr → List Operand → Move) → Has ops (AtKind s ∷ rest)
       → ((a : Addr) (r : List Operand) → Has r rest → Safe (go a r)) → Safe (on_place ops go)
-  one_place [] k rest go f h = absurd f.0
-  one_place (Of v ∷ ops) k rest go f h = absurd f.0.0
-  one_place (At a ∷ ops) k rest go f h = h a ops (f.0.1, fewer (At a) ops f.1)
+  one_place [] s rest go f h = absurd f.0
+  one_place (Of v ∷ ops) s rest go f h = absurd f.0.0
+  one_place (At a ∷ ops) s rest go f h = h a ops (f.0.1, fewer (At a) ops f.1)
+  one_place (Aggregate vs ∷ ops) s rest go f h = absurd f.0.0
 
-  value_place : (ops : List Operand) (k j : Kind) (rest : List OperandKind) (go : Value → Addr → List Operand → Move) → Has ops (OfKind k ∷ AtKind j ∷ rest)
-      → ((v : Value) (a : Addr) (r : List Operand) → Has r rest → Safe (go v a r)) → Safe (on_value ops (λ v ops. on_place ops (go v)))
-  value_place ops k j rest go f h = one_value ops k (AtKind j ∷ rest) _ f (λ v r e g. one_place r j rest (go v) g (h v))
+  value_place : (ops : List Operand) (k : Kind) (s : Shape) (rest : List OperandKind) (go : Value → Addr → List Operand → Move)
+      → Has ops (cell_value k ∷ AtKind s ∷ rest) → ((v : Value) (a : Addr) (r : List Operand) → Has r rest → Safe (go v a r))
+      → Safe (on_value ops (λ v ops. on_place ops (go v)))
+  value_place ops k s rest go f h = one_value ops k (AtKind s ∷ rest) _ f (λ v r e g. one_place r s rest (go v) g (h v))
 
   some_values : (more : List Kind) (n : ℕ) (rest : List OperandKind) (acc : List Value) (ops : List Operand) (go : List Value → List Operand → Move)
       → Has ops (pushed_kinds more rest) → ((acc : List Value) (ops : List Operand) → Has ops rest → Safe (on_values n acc ops go))
@@ -221,25 +308,13 @@ module _ (p : Program) (valid : IsValid p) (pc : ℕ) (ops : List Operand) (used
   some_values [] n rest acc ops go f h = let e : 0 + n ≡ n = omega arith in subst (λ n. Safe (on_values n acc ops go)) (sym e) (h acc ops f)
   some_values (k ∷ more) n rest acc ops go f h =
       let e : suc (length more) + n ≡ length more + suc n = omega arith in
-      subst (λ n. Safe (on_values n acc ops go)) (sym e) (some_values more (suc n) (OfKind k ∷ rest) acc ops go f by)
+      subst (λ n. Safe (on_values n acc ops go)) (sym e) (some_values more (suc n) (cell_value k ∷ rest) acc ops go f by)
     where
-      by : (acc : List Value) (ops : List Operand) → Has ops (OfKind k ∷ rest) → Safe (on_values (suc n) acc ops go)
+      by : (acc : List Value) (ops : List Operand) → Has ops (cell_value k ∷ rest) → Safe (on_values (suc n) acc ops go)
       by acc [] f = absurd f.0
       by acc (Of v ∷ ops) f = h (v ∷ acc) ops (f.0.1, fewer (Of v) ops f.1)
-      by acc (At a ∷ ops) f = absurd f.0.0
-
-  some_operands : (more : List OperandKind) (n : ℕ) (rest : List OperandKind) (acc ops : List Operand) (go : List Operand → List Operand → Move)
-      → Has ops (pushed_operands more rest)
-      → ((acc' ops : List Operand) → length acc' ≡ length more + length acc → Has ops rest → Safe (on_operands n acc' ops go))
-      → Safe (on_operands (length more + n) acc ops go)
-  some_operands [] n rest acc ops go f h = let e : 0 + n ≡ n = omega arith in subst (λ n. Safe (on_operands n acc ops go)) (sym e) (h acc ops (omega arith) f)
-  some_operands (k ∷ more) n rest acc ops go f h =
-      let e : suc (length more) + n ≡ length more + suc n = omega arith in
-      subst (λ n. Safe (on_operands n acc ops go)) (sym e) (some_operands more (suc n) (k ∷ rest) acc ops go f by)
-    where
-      by : (acc' ops : List Operand) → length acc' ≡ length more + length acc → Has ops (k ∷ rest) → Safe (on_operands (suc n) acc' ops go)
-      by acc' [] e f = absurd f.0
-      by acc' (o ∷ ops) e f = h (o ∷ acc') ops (omega (arith, e)) (f.0.1, fewer o ops f.1)
+      by acc (At a ∷ ops) f = absurd (is_one (At a) k f.0.0)
+      by acc (Aggregate vs ∷ ops) f = absurd (is_one (Aggregate vs) k f.0.0)
 
   -- what was taken is of these kinds
   some_fitting : (more : List OperandKind) (n : ℕ) (had rest : List OperandKind) (acc ops : List Operand) (go : List Operand → List Operand → Move)
@@ -308,7 +383,7 @@ module _ (p : Program) (valid : IsValid p) (pc : ℕ) (ops : List Operand) (used
     outer_cell : (x : ℕ) (k : Kind) → slice_get p.variables x ≡ Some k → IsCell (run_cell x)
     outer_cell x k e = omega (arith, slice_get_within p.variables x k e, level_below p valid frames m.body floor made, used_is, within)
 
-    local_cell : (x : ℕ) (k : OperandKind) → slice_get (frame_cells p m.body) x ≡ Some k → IsCell (run_cell (base_of frames + x))
+    local_cell : (x : ℕ) (k : CellUse) → slice_get (frame_cells p m.body) x ≡ Some k → IsCell (run_cell (base_of frames + x))
     local_cell x k e = omega (arith, slice_get_within (frame_cells p m.body) x k e, frame_below p valid frames m.body floor made, used_is, within)
 
     word_safe : (x : Cell) (f : ℕ → Move) → ((n : ℕ) → Safe (f n)) → Safe (on_word x f)
@@ -323,16 +398,31 @@ module _ (p : Program) (valid : IsValid p) (pc : ℕ) (ops : List Operand) (used
     cell_safe kinds.Text (Word n) f h = tt
     cell_safe kinds.Text (Letters t) f h = h (item.Text t) refl
 
-    -- a place further on is pushed in the stead of one
-    item_safe : (k : Option ℕ) (go : ℕ → Move) → ((n : ℕ) → Safe (go n)) → Safe (on_item k go)
-    item_safe None go h = tt
-    item_safe (Some n) go h = h n
+    cells_safe : (ks : List Kind) (a : Addr) (f : List Value → Move) → ((vs : List Value) → map kind_of vs ≡ ks → Safe (f vs)) → Safe (on_cells ks a cells f)
+    cells_safe [] a f h = h [] refl
+    cells_safe (k ∷ ks) a f h =
+        cell_safe k (cells a) _ (λ v is.
+        cells_safe ks (next a) (λ vs. f (v ∷ vs)) (λ vs same. h (v ∷ vs) (ap (λ k. k ∷ map kind_of vs) is ∙ ap (λ l. k ∷ l) same)))
 
-    further_safe : (a : Addr) (n : ℕ) (k : Kind) (r : List Operand) (ks : List OperandKind) → Next p.lines (pc + 1) (AtKind k ∷ ks) m → FitsKinds r ks
+    -- a place further on is pushed in the stead of one
+    item_safe : (k : Option ℕ) (go : ℕ → Move) → ((n : ℕ) → k ≡ Some n → Safe (go n)) → Safe (on_item k go)
+    item_safe None go h = tt
+    item_safe (Some n) go h = h n refl
+
+    further_safe : (a : Addr) (n : ℕ) (k : Shape) (r : List Operand) (ks : List OperandKind) → Next p.lines (pc + 1) (AtKind k ∷ ks) m → FitsKinds r ks
         → Safe (pushes now (At (further a n)) r cells)
     further_safe a n k r ks next f =
         let small : (place_number a + n) % CELLS < CELLS = omega arith in
         push_safe (At (further a n)) (AtKind k) r ks small next f
+
+    -- so many cells of a value are pushed in its stead
+    part_safe : (from size : ℕ) (vs : List Value) (s t : Shape) (r : List Operand) (ks : List OperandKind) → map kind_of vs ≡ cell_kinds s
+        → take size (drop from (cell_kinds s)) ≡ cell_kinds t → Next p.lines (pc + 1) (OfKind t ∷ ks) m → Has r ks
+        → Safe (pushes now (operand_of (take size (drop from vs))) r cells)
+    part_safe from size vs s t r ks is part next g =
+        let kinds : map kind_of (take size (drop from vs)) ≡ cell_kinds t =
+        sym (take-map kind_of size (drop from vs)) ∙ ap (take size) (sym (drop-map kind_of from vs) ∙ ap (drop from) is) ∙ part in
+        push_safe (operand_of (take size (drop from vs))) (OfKind t) r ks (record { values = take size (drop from vs); is = refl; kinds = kinds }) next g.0
 
     -- more and fewer limits
     limit_safe : (way : Way) (a : ℕ) (v : Value) (x : Addr) (r : List Operand) (ks : List OperandKind) → Next p.lines (pc + 1) ks (deeper m)
@@ -420,22 +510,25 @@ module _ (p : Program) (valid : IsValid p) (pc : ℕ) (ops : List Operand) (used
         (let e : length c.parameters ≡ length c.parameters + 0 = omega arith in
         subst (λ k. Safe (on_operands k [] ops (λ args ops. Spends (enters now c.entry.first (used + 2) false n ops (frame_contents args c.variables) cells))))
         (sym e)
-        (some_operands c.parameters 0 c.rest [] ops _ (subst (Has ops) c.taken f) (λ args r many g.
-        let numbers : length (frame_contents args c.variables) ≡ 2 + length c.parameters + length c.variables =
+        (some_fitting c.parameters 0 [] c.rest [] ops _ tt (subst (Has ops) c.taken f) (λ args r fits g.
+        let many : length (flat_map held_cells args) ≡ length (flat_map cell_uses c.parameters) =
+        all_cells args c.parameters (subst (FitsKinds args) (append-nil c.parameters) fits) in
+        let size = 2 + length (flat_map cell_uses c.parameters) + length c.variables in
+        let numbers : length (frame_contents args c.variables) ≡ size =
         omega (
           arith,
-          length-append (map held_of_operand args) (map (λ k. held_of (blank_of k)) c.variables),
-          length-map args held_of_operand,
+          length-append (flat_map held_cells args) (map (λ k. held_of (blank_of k)) c.variables),
           length-map c.variables (λ k. held_of (blank_of k)),
           many,
         ) in
+        let floor' = used + 2 + length (flat_map cell_uses c.parameters) + length c.variables in
         let so : MadeSo p (layouts.Own c.parameters c.variables) n pc c.rest m
-        (record { back = pc + 1; base = used + 2; used = used; refines = false; body = n; ops = r }) (used + 2 + length c.parameters + length c.variables)
-        (base_of frames) = (subst (λ ks. slice_get p.lines pc ≡ Some (line_of (Call n) ks m)) c.taken line, refl, refl, refl) in
-        enters_safe n c.entry (used + 2) (used + 2 + length c.parameters + length c.variables) false r c.rest (frame_contents args c.variables) c.has g
+        (record { back = pc + 1; base = used + 2; used = used; refines = false; body = n; ops = r }) floor' (base_of frames) =
+        (subst (λ ks. slice_get p.lines pc ≡ Some (line_of (Call n) ks m)) c.taken line, refl, refl, refl) in
+        enters_safe n c.entry (used + 2) floor' false r c.rest (frame_contents args c.variables) c.has g
         (omega (arith, numbers))
         (subst (λ l. MadeSo p l n pc c.rest m (record { back = pc + 1; base = used + 2; used = used; refines = false; body = n; ops = r })
-        (used + 2 + length c.parameters + length c.variables) (base_of frames)) (sym c.own) so) (are_free used (frame_contents args c.variables) cells)
+        floor' (base_of frames)) (sym c.own) so) (are_free used (frame_contents args c.variables) cells)
         (cells_fit (used + length (frame_contents args c.variables)))
         (texts_fit (content_blocks (frame_contents args c.variables)) (blocks_in (written_from used (frame_contents args c.variables) cells))) refl))))
 
@@ -454,7 +547,7 @@ module _ (p : Program) (valid : IsValid p) (pc : ℕ) (ops : List Operand) (used
         so layouts.Level r = (line, refl, refl, refl)
 
     -- a result is taken with the machine, and has room where it was
-    result_safe : (k : Option Kind) (ks : List OperandKind) (go : List Operand → Move) → HasResult k ks → Has ops ks
+    result_safe : (k : Option Shape) (ks : List OperandKind) (go : List Operand → Move) → HasResult k ks → Has ops ks
         → ((os : List Operand) → ((r : List Operand) (rest : List OperandKind) → FitsKinds r rest → FitsKinds (os ++ r) (with_result k rest))
         → ((r : List Operand) (held : ℕ) → bytes_on r held ≤ bytes_of frames → bytes_fit (bytes_on (os ++ r) held) ≡ true) → Safe (go os))
         → Safe (on_result k ops go)
@@ -463,16 +556,20 @@ module _ (p : Program) (valid : IsValid p) (pc : ℕ) (ops : List Operand) (used
         bytes_fewer (bytes_on r held) (bytes_on ops (bytes_of frames)) (omega (arith, le, bytes_below ops (bytes_of frames))) f.1)
     result_safe (Some k) ks go t f h = by ops (subst (Has ops) t.1 f)
       where
-        by : (ops' : List Operand) → Has ops' (OfKind k ∷ t.0) → Safe (on_value ops' (λ v rest. go (Of v ∷ [])))
-        by [] f = absurd f.0
-        by (At a ∷ r) f = absurd f.0.0
-        by (Of v ∷ r) f =
-            h (Of v ∷ []) (λ r' rest g. (f.0.0, g))
-            (λ r' held le. bytes_fewer (operand_bytes (Of v) + bytes_on r' held) (operand_bytes (Of v) + bytes_on r (bytes_of frames))
+        stays : (o : Operand) (r : List Operand) → Has (o ∷ r) (OfKind k ∷ t.0) → Safe (go (o ∷ []))
+        stays o r f =
+            h (o ∷ []) (λ r' rest g. (f.0.0, g))
+            (λ r' held le. bytes_fewer (operand_bytes o + bytes_on r' held) (operand_bytes o + bytes_on r (bytes_of frames))
             (omega (arith, le, bytes_below r (bytes_of frames))) f.1)
 
+        by : (ops' : List Operand) → Has ops' (OfKind k ∷ t.0) → Safe (on_result (Some k) ops' go)
+        by [] f = absurd f.0
+        by (At a ∷ r) f = absurd (has_values (At a) (cell_kinds k) f.0.0)
+        by (Of v ∷ r) f = stays (Of v) r f
+        by (Aggregate vs ∷ r) f = stays (Aggregate vs) r f
+
     -- a frame is left for the one below
-    into_safe : (f : Frame) (fs : List Frame) (body : Option ℕ) (floor' : ℕ) (k : Option Kind) (os : List Operand) (h : FitsFrames p (f ∷ fs) body floor')
+    into_safe : (f : Frame) (fs : List Frame) (body : Option ℕ) (floor' : ℕ) (k : Option Shape) (os : List Operand) (h : FitsFrames p (f ∷ fs) body floor')
         → floor' ≤ used → bytes_of (f ∷ fs) ≤ bytes_of frames → h.1.1.0.entry.delivers ≡ k
         → ((r : List Operand) (rest : List OperandKind) → FitsKinds r rest → FitsKinds (os ++ r) (with_result k rest))
         → ((r : List Operand) (held : ℕ) → bytes_on r held ≤ bytes_of frames → bytes_fit (bytes_on (os ++ r) held) ≡ true)
@@ -493,7 +590,7 @@ module _ (p : Program) (valid : IsValid p) (pc : ℕ) (ops : List Operand) (used
           bytes = room' f.ops (bytes_of fs) bytes;
         }) tt
 
-    back_safe : (fs : List Frame) (k : Option Kind) (os : List Operand) (n : ℕ) (e : Entry) (floor' : ℕ) (body : Option ℕ) → FitsFrames p fs body floor'
+    back_safe : (fs : List Frame) (k : Option Shape) (os : List Operand) (n : ℕ) (e : Entry) (floor' : ℕ) (body : Option ℕ) → FitsFrames p fs body floor'
         → body ≡ Some n → slice_get p.bodies n ≡ Some e → e.delivers ≡ k → floor' ≤ used → bytes_of fs ≤ bytes_of frames
         → ((r : List Operand) (rest : List OperandKind) → FitsKinds r rest → FitsKinds (os ++ r) (with_result k rest))
         → ((r : List Operand) (held : ℕ) → bytes_on r held ≤ bytes_of frames → bytes_fit (bytes_on (os ++ r) held) ≡ true) → Safe (back_to p os used fs cells)
@@ -504,7 +601,7 @@ module _ (p : Program) (valid : IsValid p) (pc : ℕ) (ops : List Operand) (used
         let entry : made'.entry ≡ e = some_is made'.entry e (sym made'.has ∙ ap (slice_get p.bodies) same ∙ has) in
         into_safe f fs body floor' k os h le bytes (ap (λ (x : Entry). x.delivers) entry ∙ is) fits room'
 
-    out_safe : (fs : List Frame) (k : Option Kind) (os : List Operand) (n : ℕ) (e : Entry) (floor' : ℕ) (body : Option ℕ) → FitsFrames p fs body floor'
+    out_safe : (fs : List Frame) (k : Option Shape) (os : List Operand) (n : ℕ) (e : Entry) (floor' : ℕ) (body : Option ℕ) → FitsFrames p fs body floor'
         → owner p body ≡ Some n → slice_get p.bodies n ≡ Some e → e.delivers ≡ k → floor' ≤ used → bytes_of fs ≤ bytes_of frames
         → ((r : List Operand) (rest : List OperandKind) → FitsKinds r rest → FitsKinds (os ++ r) (with_result k rest))
         → ((r : List Operand) (held : ℕ) → bytes_on r held ≤ bytes_of frames → bytes_fit (bytes_on (os ++ r) held) ≡ true) → Safe (out_to p os used fs cells)
@@ -535,14 +632,22 @@ module _ (p : Program) (valid : IsValid p) (pc : ℕ) (ops : List Operand) (used
         cond_safe (takes (held_of v) (cells a)) _ _
         (λ _. cond_safe (texts_fit (cell_blocks (held_of v)) (blocks_in now')) (goes now r now') (Halts TextRoom) (λ _. fit (pc + 1) ks r next g) tt) tt
 
+    put_all_safe : (a : Addr) (vs : List Value) (ks : List OperandKind) (r : List Operand) → Next p.lines (pc + 1) ks m → Has r ks
+        → Safe (puts_all now a vs r cells)
+    put_all_safe a vs ks r next g =
+        let now' = written_all cells a vs in
+        cond_safe (takes_all vs a cells) _ _
+        (λ _. cond_safe (texts_fit (values_blocks vs) (blocks_in now')) (goes now r now') (Halts TextRoom) (λ _. fit (pc + 1) ks r next g) tt) tt
+
     -- the variable of a request gets a value
-    keep_safe : (ks : List Kind) (os : List Operand) (v : Value) (rest : List OperandKind) (r : List Operand) → FitsKinds os (map AtKind ks ++ [])
+    keep_safe : (ks : List Kind) (os : List Operand) (v : Value) (rest : List OperandKind) (r : List Operand) → FitsKinds os (map cell_place ks ++ [])
         → Next p.lines (pc + 1) rest m → Has r rest → Safe (keeps now os v r cells)
     keep_safe [] [] v rest r is next g = fit (pc + 1) rest r next g
     keep_safe [] (o ∷ os) v rest r is next g = absurd is
     keep_safe (k ∷ ks) [] v rest r is next g = absurd is
     keep_safe (k ∷ ks) (Of w ∷ os) v rest r is next g = absurd is.0
     keep_safe (k ∷ ks) (At a ∷ os) v rest r is next g = put_safe a v rest r next g
+    keep_safe (k ∷ ks) (Aggregate vs ∷ os) v rest r is next g = absurd is.0
 
     -- a request goes on with its reply
     reply_safe : (q : RequestName) (t : Reply) (ks : List OperandKind) → IsFine p pc (Ask q) ks m → Has ops ks → Safe (takes_reply (Some (Ask q)) t now cells)
@@ -550,38 +655,49 @@ module _ (p : Program) (valid : IsValid p) (pc : ℕ) (ops : List Operand) (used
         taken_safe q f.0 ops _ (subst (Has ops) f.1 k) (λ os r is g.
         or_safe (read_as q (reply_text t)) _ (λ v _.
         keep_safe (request_places q) (drop (length (request_kinds q)) os) v f.0 r
-        (fits_behind (request_kinds q) (map AtKind (request_places q) ++ []) os
-        (subst (FitsKinds os) (append_assoc (map OfKind (request_kinds q)) (map AtKind (request_places q)) []) is)) f.2 g))
+        (fits_behind (request_kinds q) (map cell_place (request_places q) ++ []) os
+        (subst (FitsKinds os) (append_assoc (map cell_value (request_kinds q)) (map cell_place (request_places q)) []) is)) f.2 g))
 
     safe : (i : Instr) (ks : List OperandKind) → slice_get p.lines pc ≡ Some (line_of i ks m) → IsFine p pc i ks m → Has ops ks
         → Safe (instruction p (Some i) now cells)
     safe Mark ks line f k = fit (pc + 1) ks ops f k
-    safe (Number z) ks line f k = push_safe (Of (item.Int z)) (OfKind kinds.Int) ops ks refl f k.0
-    safe (Truth b) ks line f k = push_safe (Of (item.Truth b)) (OfKind kinds.Truth) ops ks refl f k.0
-    safe (Text t) ks line f k = push_safe (Of (item.Text t)) (OfKind kinds.Text) ops ks refl f k.0
-    safe (Outer x) ks line f k = push_safe (At (run_cell x)) (AtKind f.0) ops ks (outer_cell x f.0 f.1) f.2 k.0
-    safe (Local x) ks line f k = push_safe (At (run_cell (base_of frames + x))) (AtKind f.0) ops ks (local_cell x (OfKind f.0) f.1) f.2 k.0
+    safe (Number z) ks line f k = push_safe (Of (item.Int z)) (cell_value kinds.Int) ops ks (as_one (item.Int z) kinds.Int refl) f k.0
+    safe (Truth b) ks line f k = push_safe (Of (item.Truth b)) (cell_value kinds.Truth) ops ks (as_one (item.Truth b) kinds.Truth refl) f k.0
+    safe (Text t) ks line f k = push_safe (Of (item.Text t)) (cell_value kinds.Text) ops ks (as_one (item.Text t) kinds.Text refl) f k.0
+    safe (Outer x) ks line f k = push_safe (At (run_cell x)) (AtKind f.2.0) ops ks (outer_cell x f.0 f.1) f.2.1 k.0
+    safe (Local x) ks line f k = push_safe (At (run_cell (base_of frames + x))) (AtKind f.2.0) ops ks (local_cell x (HoldsValue f.0) f.1) f.2.1 k.0
     safe (Param x) ks line f k =
         word_safe (cells (run_cell (base_of frames + x))) _ (λ n.
         let small : n % CELLS < CELLS = omega arith in
-        push_safe (At (place_in n)) (AtKind f.0) ops ks small f.2 k.0)
+        push_safe (At (place_in n)) (AtKind f.1.0) ops ks small f.1.1 k.0)
     safe (Index n size) ks line f k =
         one_value ops kinds.Int f.0 _ (subst (Has ops) f.1 k) (λ v q e h.
-        one_place q f.2.kind f.2.rest _ (subst (Has q) f.2.taken h) (λ a r g.
-        item_safe (in_row n (number_of v)) _ (λ i. further_safe a (i * size) f.2.given r f.2.rest f.2.next g.0)))
+        one_place q f.2.shape f.2.rest _ (subst (Has q) f.2.taken h) (λ a r g.
+        item_safe (in_row n (number_of v)) _ (λ i _. further_safe a (i * size) f.2.given r f.2.rest f.2.next g.0)))
     safe (Field n) ks line f k =
-        one_place ops f.kind f.rest _ (subst (Has ops) f.taken k) (λ a r g. further_safe a n f.given r f.rest f.next g.0)
-    safe (Load kind) ks line f k =
-        one_place ops kind f.0 _ (subst (Has ops) f.1 k)
-        (λ a r g. cell_safe kind (cells a) _ (λ v is. push_safe (Of v) (OfKind kind) r f.0 is f.2 g.0))
-    safe (Store kind) ks line f k = value_place ops kind kind f.0 _ (subst (Has ops) f.1 k) (λ v a r g. put_safe a v f.0 r f.2 g)
+        one_place ops f.shape f.rest _ (subst (Has ops) f.taken k) (λ a r g. further_safe a n f.given r f.rest f.next g.0)
+    safe (Pick n size) ks line f k =
+        one_value ops kinds.Int f.0 _ (subst (Has ops) f.1 k) (λ v q e h.
+        all_value q f.2.shape f.2.rest _ (subst (Has q) f.2.taken h) (λ vs r is g.
+        item_safe (in_row n (number_of v)) _ (λ i there.
+        part_safe (i * size) size vs f.2.shape f.2.given r f.2.rest is (f.2.part.each i (in_row_below n (number_of v) i there)) f.2.next g)))
+    safe (Take n from size) ks line f k =
+        all_value ops f.shape f.rest _ (subst (Has ops) f.taken k) (λ vs r is g. part_safe from size vs f.shape f.given r f.rest is f.part.is f.next g)
+    safe (Load s) ks line f k =
+        one_place ops s f.0 _ (subst (Has ops) f.1 k) (λ a r g.
+        cond_safe (bytes_fit (least_bytes s + bytes_on r (bytes_of frames))) _ _ (λ _.
+        cells_safe (cell_kinds s) a _ (λ vs is.
+        push_safe (operand_of vs) (OfKind s) r f.0 (record { values = vs; is = refl; kinds = is }) f.2 g.0)) tt)
+    safe (Store s) ks line f k =
+        all_value ops s (AtKind s ∷ f.0) _ (subst (Has ops) f.1 k) (λ vs q is h. one_place q s f.0 _ h (λ a r g. put_all_safe a vs f.0 r f.2 g))
     safe (Do op) ks line f k =
         let e : length (operand_kinds op) ≡ length (operand_kinds op) + 0 = omega arith in
         subst (λ n. Safe (on_values n [] ops (λ vs ops. or_halt (result_of op vs) (λ v. pushes now (Of v) ops cells)))) (sym e)
         (some_values (operand_kinds op) 0 f.0 [] ops _ (subst (Has ops) f.1 k) (λ vs r g.
-        or_safe (result_of op vs) _ (λ v is. push_safe (Of v) (OfKind (result_kind op)) r f.0 (kind_is _ v (result_gives op vs v is)) f.2 g.0)))
+        or_safe (result_of op vs) _ (λ v is.
+        push_safe (Of v) (cell_value (result_kind op)) r f.0 (as_one v (result_kind op) (kind_is _ v (result_gives op vs v is))) f.2 g.0)))
     safe (Modify change) ks line f k =
-        value_place ops (change_kind change) (change_kind change) f.0 _ (subst (Has ops) f.1 k)
+        value_place ops (change_kind change) (OneCell (change_kind change)) f.0 _ (subst (Has ops) f.1 k)
         (λ v a r g. cell_safe (change_kind change) (cells a) _ (λ w is. or_safe (changed change w v) _ (λ x _. put_safe a x f.0 r f.2 g)))
     safe (Jump a) ks line f k = fit a ks ops f.next k
     safe (False a) ks line f k =
@@ -589,18 +705,19 @@ module _ (p : Program) (valid : IsValid p) (pc : ℕ) (ops : List Operand) (used
         (λ v r e g. fit (cond (truth_of v) (pc + 1) a) f.0 r (chosen (truth_of v) (pc + 1) a f.0 m f.2 f.3.next) g)
     safe (When z a) ks line f k = by ops (subst (Has ops) f.1 k)
       where
-        by : (ops' : List Operand) → Has ops' (OfKind kinds.Int ∷ f.0)
+        by : (ops' : List Operand) → Has ops' (cell_value kinds.Int ∷ f.0)
             → Safe (on_value ops' (λ v ops. cond (int_eq (number_of v) z) (Goes (at now a ops) cells) (goes now (Of v ∷ ops) cells)))
         by [] g = absurd g.0
-        by (At x ∷ r) g = absurd g.0.0
+        by (At x ∷ r) g = absurd (is_one (At x) kinds.Int g.0.0)
+        by (Aggregate vs ∷ r) g = absurd (is_one (Aggregate vs) kinds.Int g.0.0)
         by (Of v ∷ r) g =
             cond_safe (int_eq (number_of v) z) _ _ (λ _. fit a f.0 r f.3.next (g.0.1, fewer (Of v) r g.1))
             (fit (pc + 1) ks (Of v ∷ r) f.2 (subst (Has (Of v ∷ r)) (sym f.1) g))
     safe Drop ks line f k = one_value ops f.0 f.1.0 _ (subst (Has ops) f.1.1 k) (λ v r e g. fit (pc + 1) f.1.0 r f.1.2 g)
-    safe (Limit way a) ks line f k = value_place ops kinds.Int kinds.Int f.0 _ (subst (Has ops) f.1 k) (λ v q r g. limit_safe way a v q r f.0 f.2 f.3.next g)
+    safe (Limit way a) ks line f k = value_place ops kinds.Int (OneCell kinds.Int) f.0 _ (subst (Has ops) f.1 k) (λ v q r g. limit_safe way a v q r f.0 f.2 f.3.next g)
     safe Unlimit ks line f k = unlimit_safe f.0 ks f.1 f.2 k
     safe (Step way a) ks line f k =
-        one_place ops kinds.Int f.2.0 _ (subst (Has ops) f.2.1 k) (λ q r g.
+        one_place ops (OneCell kinds.Int) f.2.0 _ (subst (Has ops) f.2.1 k) (λ q r g.
         word_safe (limit_cell now cells) _ (λ l. word_safe (cells q) _ (λ n.
         cond_safe (has_reached way (number_in l) (number_in n)) _ _ (λ _. fit a f.2.0 r f.2.3.next g)
         (fit (pc + 1) f.2.0 r f.2.2 g))))

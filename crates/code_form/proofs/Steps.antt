@@ -2,7 +2,7 @@
 use Rattle.std.proofs.Common.{◌++◌, ◌≡◌, ℕ, zero, suc, ◌+◌, ◌-◌, ◌*◌, ◌<◌, ◌≤◌, List, [], ◌∷◌, length, Option, Some, None, Bool, true, false, cond, refl, sym}
 use Rattle.std.proofs.Common.{ap}
 use Rattle.std.proofs.Common.{◌∙◌, subst, arith, ⊎_elim}
-use Rattle.std.specs.Prelude.{slice_get, drop, Ok, Err}
+use Rattle.std.specs.Prelude.{slice_get, take, drop, Ok, Err}
 use Rattle.std.specs.Ordering.{int_eq}
 use Rattle.std.proofs.lemmas.Option.{slice_get_within}
 use Rattle.std.proofs.lemmas.Bool.{cases_lt}
@@ -11,7 +11,9 @@ use Rattle.eu_base.specs.declared.value.Kind.{Kind}
 use Rattle.eu_base.specs.declared.stop.Stop.TheVariants.{CellRoom, TextRoom}
 use Rattle.eu_base.specs.declared.value.Kind.TheVariants as kinds
 use Rattle.eu_base.specs.Cells.{Cell, Free, Word, Letters, run_cell, place_in, held_of, written, cell_blocks, blocks_in, freed}
-use Rattle.eu_base.specs.Room.{cells_fit, bytes_fit, texts_fit}
+use Rattle.eu_base.specs.declared.shape.Shape.{Shape}
+use Rattle.eu_base.specs.Shapes.{cell_kinds}
+use Rattle.eu_base.specs.Room.{values_blocks, cells_fit, bytes_fit, texts_fit}
 use Rattle.eu_base.specs.declared.value.Value.{Value}
 use Rattle.eu_base.specs.declared.value.Value.TheVariants as item
 use Rattle.eu_base.specs.Values.{number_of, truth_of, number_in, truth_in}
@@ -19,9 +21,9 @@ use Rattle.eu_base.specs.Operations.{Given, operand_kinds, result_of, change_kin
 use Rattle.eu_base.specs.declared.request.Reply.{Reply}
 use Rattle.eu_base.specs.Requests.{request_kinds, request_size, reply_text, read_as}
 use Rattle.code_form.specs.declared.operand.Operand.{Operand}
-use Rattle.code_form.specs.declared.operand.Operand.TheVariants.{Value as Of, Place as At}
+use Rattle.code_form.specs.declared.operand.Operand.TheVariants.{Value as Of, Place as At, Aggregate}
 use Rattle.code_form.specs.declared.instr.Instr.{Instr}
-use Rattle.code_form.specs.declared.instr.Instr.TheVariants.{Mark, Number, Truth, Text, Outer, Local, Param, Index, Field, Load, Store, Do, Modify, Jump, False}
+use Rattle.code_form.specs.declared.instr.Instr.TheVariants.{Mark, Number, Truth, Text, Outer, Local, Param, Index, Field, Pick, Take, Load, Store, Do, Modify, Jump, False}
 use Rattle.code_form.specs.declared.instr.Instr.TheVariants.{When, Drop, Limit, Unlimit, Step, Ask, ErrorStop, Call, Refer, Back, Out, End}
 use Rattle.code_form.specs.declared.code.Line.{Line}
 use Rattle.code_form.specs.declared.code.Entry.{Entry}
@@ -30,8 +32,9 @@ use Rattle.code_form.specs.declared.code.Layout.TheVariants.{Own}
 use Rattle.code_form.specs.declared.code.Layout.TheVariants as layouts
 use Rattle.code_form.specs.Program.{Program, instr_of}
 use Rattle.code_form.specs.Machine.{Frame, Position, Control, After, To, Asks, Stops, Unsaid, Move, Scene, Stage, On, Over, Lost, Rest, operand_bytes}
-use Rattle.code_form.specs.Machine.{bytes_on, bytes_of, base_of, pushes, on_value, on_place, on_values, on_operands, on_result, or_halt, on_word, on_cell, is_free}
-use Rattle.code_form.specs.Machine.{on_item, in_row, further, takes, puts, content_blocks, is_framed, back_into, Goes, Unknown, goes, Halts, are_free, limit_cell, frame_contents}
+use Rattle.code_form.specs.Machine.{operand_of, least_bytes, bytes_on, bytes_of, base_of, pushes, on_value, on_all, on_place, on_values, on_operands, on_result, or_halt, on_word, on_cell, on_cells, is_free}
+use Rattle.eu_base.specs.Operations.{in_row}
+use Rattle.code_form.specs.Machine.{on_item, further, next, takes, puts, written_all, takes_all, puts_all, content_blocks, is_framed, back_into, Goes, Unknown, goes, Halts, are_free, limit_cell, frame_contents}
 use Rattle.code_form.specs.Machine.{link_contents, written_from, enters, calls_to, call_move, refer_move, back_to}
 use Rattle.code_form.specs.Machine.{out_to, instruction, keeps, takes_reply, step, free, given, mark_stage, move_stage, stage, advance, carry_on, exec}
 use Rattle.code_form.specs.Valid.{is_mark, IsFine, IsValid}
@@ -154,6 +157,11 @@ module _ (p : Program) (valid : IsValid p) where
     near_cell f h kinds.Text (Word n) = tt
     near_cell f h kinds.Text (Letters t) = h (item.Text t)
 
+    near_cells : (f : List Value → Move) → ((vs : List Value) → Near (f vs)) → (ks : List Kind) (a : Addr) → Near (on_cells ks a s.cells f)
+    near_cells f h [] a = h []
+    near_cells f h (k ∷ ks) a =
+        near_cell (λ v. on_cells ks (next a) s.cells (λ vs. f (v ∷ vs))) (λ v. near_cells (λ vs. f (v ∷ vs)) (λ vs. h (v ∷ vs)) ks (next a)) k (s.cells a)
+
     near_item : (f : ℕ → Move) → ((n : ℕ) → Near (f n)) → (k : Option ℕ) → Near (on_item k f)
     near_item f h None = tt
     near_item f h (Some n) = h n
@@ -162,11 +170,19 @@ module _ (p : Program) (valid : IsValid p) where
     near_value f h [] = tt
     near_value f h (Of v ∷ r) = h v r
     near_value f h (At a ∷ r) = tt
+    near_value f h (Aggregate vs ∷ r) = tt
+
+    near_all : (f : List Value → List Operand → Move) → ((vs : List Value) (r : List Operand) → Near (f vs r)) → (ops : List Operand) → Near (on_all ops f)
+    near_all f h [] = tt
+    near_all f h (Of v ∷ r) = h (v ∷ []) r
+    near_all f h (At a ∷ r) = tt
+    near_all f h (Aggregate vs ∷ r) = h vs r
 
     near_place : (f : Addr → List Operand → Move) → ((a : Addr) (r : List Operand) → Near (f a r)) → (ops : List Operand) → Near (on_place ops f)
     near_place f h [] = tt
     near_place f h (Of v ∷ r) = tt
     near_place f h (At a ∷ r) = h a r
+    near_place f h (Aggregate vs ∷ r) = tt
 
     near_values : (n : ℕ) (f : List Value → List Operand → Move) → ((vs : List Value) (r : List Operand) → Near (f vs r))
         → (acc : List Value) (ops : List Operand) → Near (on_values n acc ops f)
@@ -174,6 +190,7 @@ module _ (p : Program) (valid : IsValid p) where
     near_values (suc n) f h acc [] = tt
     near_values (suc n) f h acc (Of v ∷ r) = near_values n f h (v ∷ acc) r
     near_values (suc n) f h acc (At a ∷ r) = tt
+    near_values (suc n) f h acc (Aggregate vs ∷ r) = tt
 
     near_operands : (n : ℕ) (f : List Operand → List Operand → Move) → ((os r : List Operand) → Near (f os r)) → (acc ops : List Operand)
         → Near (on_operands n acc ops f)
@@ -181,9 +198,12 @@ module _ (p : Program) (valid : IsValid p) where
     near_operands (suc n) f h acc [] = tt
     near_operands (suc n) f h acc (o ∷ r) = near_operands n f h (o ∷ acc) r
 
-    near_result : (k : Option Kind) (f : List Operand → Move) → ((os : List Operand) → Near (f os)) → (ops : List Operand) → Near (on_result k ops f)
+    near_result : (s : Option Shape) (f : List Operand → Move) → ((os : List Operand) → Near (f os)) → (ops : List Operand) → Near (on_result s ops f)
     near_result None f h ops = h []
-    near_result (Some k) f h ops = near_value (λ v r. f (Of v ∷ [])) (λ v r. h (Of v ∷ [])) ops
+    near_result (Some s) f h [] = tt
+    near_result (Some s) f h (Of v ∷ r) = h (Of v ∷ [])
+    near_result (Some s) f h (At a ∷ r) = tt
+    near_result (Some s) f h (Aggregate vs ∷ r) = h (Aggregate vs ∷ [])
 
     -- a CALL and a REFER
     enters_deeper : (first base : ℕ) (refines : Bool) (body : ℕ) (ops : List Operand) (ns : List Cell)
@@ -232,6 +252,13 @@ module _ (p : Program) (valid : IsValid p) where
         near_if (takes (held_of v) (s.cells a)) _ _
         (near_if (texts_fit (cell_blocks (held_of v)) (blocks_in now)) (goes c ops now) (Halts TextRoom) (go (c.pc + 1) (on_next c.pc l e is)) tt) tt
 
+    put_all_near : (l : Line) → slice_get p.lines c.pc ≡ Some l → is_mark (Some l.instr) ≡ false → (a : Addr) (vs : List Value) (ops : List Operand)
+        → Near (puts_all c a vs ops s.cells)
+    put_all_near l e is a vs ops =
+        let now = written_all s.cells a vs in
+        near_if (takes_all vs a s.cells) _ _
+        (near_if (texts_fit (values_blocks vs) (blocks_in now)) (goes c ops now) (Halts TextRoom) (go (c.pc + 1) (on_next c.pc l e is)) tt) tt
+
     near_or : (f : Value → Move) → ((v : Value) → Near (f v)) → (g : Given) → Near (or_halt g f)
     near_or f h (Ok v) = h v
     near_or f h (Err e) = tt
@@ -250,9 +277,16 @@ module _ (p : Program) (valid : IsValid p) where
         near_value _ (λ v r. near_place _
         (λ a r. near_item _ (λ k. push_near l e (ap (λ i. is_mark (Some i)) is) (At (further a (k * size))) r) (in_row n (number_of v))) r) c.ops
     at_instr l e (Field n) is f = near_place _ (λ a r. push_near l e (ap (λ i. is_mark (Some i)) is) (At (further a n)) r) c.ops
-    at_instr l e (Load k) is f = near_place _ (λ a r. near_cell _ (λ v. push_near l e (ap (λ i. is_mark (Some i)) is) (Of v) r) k (s.cells a)) c.ops
-    at_instr l e (Store k) is f =
-        near_value _ (λ v r. near_place _ (λ a r. put_near l e (ap (λ i. is_mark (Some i)) is) a v r) r) c.ops
+    at_instr l e (Pick n size) is f =
+        near_value _ (λ v r. near_all _
+        (λ vs r. near_item _ (λ k. push_near l e (ap (λ i. is_mark (Some i)) is) (operand_of (take size (drop (k * size) vs))) r) (in_row n (number_of v))) r)
+        c.ops
+    at_instr l e (Take m from size) is f =
+        near_all _ (λ vs r. push_near l e (ap (λ i. is_mark (Some i)) is) (operand_of (take size (drop from vs))) r) c.ops
+    at_instr l e (Load t) is f =
+        near_place _ (λ a r. near_if (bytes_fit (least_bytes t + bytes_on r (bytes_of c.frames))) _ _
+        (near_cells _ (λ vs. push_near l e (ap (λ i. is_mark (Some i)) is) (operand_of vs) r) (cell_kinds t) a) tt) c.ops
+    at_instr l e (Store t) is f = near_all _ (λ vs r. near_place _ (λ a r. put_all_near l e (ap (λ i. is_mark (Some i)) is) a vs r) r) c.ops
     at_instr l e (Do op) is f =
         near_values (length (operand_kinds op)) _ (λ vs r. near_or _ (λ v. push_near l e (ap (λ i. is_mark (Some i)) is) (Of v) r) (result_of op vs)) [] c.ops
     at_instr l e (Modify ch) is f =
@@ -292,6 +326,7 @@ module _ (p : Program) (valid : IsValid p) where
     keep_near l e is [] v r = go (c.pc + 1) (on_next c.pc l e is)
     keep_near l e is (Of w ∷ os) v r = tt
     keep_near l e is (At a ∷ os) v r = put_near l e is a v r
+    keep_near l e is (Aggregate vs ∷ os) v r = tt
 
     reply_near : (l : Line) → slice_get p.lines c.pc ≡ Some l → (t : Reply) (i : Instr) → l.instr ≡ i → Near (takes_reply (Some i) t c s.cells)
     reply_near l e t (Ask q) is =

@@ -1,8 +1,11 @@
 -- The listing of code: a line for each instruction.
-use Rattle.std.specs.Prelude.{ℕ, suc, Bool, true, false, List, [], ◌∷◌, ◌++◌, length, codes, Option, Some, None, slice_get}
+use Rattle.std.specs.Prelude.{ℕ, suc, Bool, true, false, List, [], ◌∷◌, ◌++◌, flat_map, length, codes, Option, Some, None, slice_get}
 use Rattle.std.specs.Fmt.{decimal, signed_decimal}
 use Rattle.eu_base.specs.declared.value.Kind.{Kind}
 use Rattle.eu_base.specs.declared.value.Kind.TheVariants as kinds
+use Rattle.eu_base.specs.declared.shape.Shape.{Shape}
+use Rattle.eu_base.specs.declared.shape.Shape.TheOpen.{Shape-F, Cell, Row, Struct}
+use Rattle.eu_base.specs.declared.shape.Shape.TheFolds.{fold-Shape}
 use Rattle.eu_base.specs.declared.operation.Operation.{Operation}
 use Rattle.eu_base.specs.declared.operation.Operation.TheVariants.{Plus, Negate, Add, Subtract, Multiply, Divide, Modulo, Equal, Unequal, Less, LessEqual}
 use Rattle.eu_base.specs.declared.operation.Operation.TheVariants.{Greater, GreaterEqual, Same, Different, And, Or, Not, Absolute, Minimum, Maximum, Largest, OnTexts}
@@ -15,7 +18,7 @@ use Rattle.eu_base.specs.declared.operation.Way.TheVariants as ways
 use Rattle.eu_base.specs.declared.request.RequestName.{RequestName}
 use Rattle.eu_base.specs.declared.request.RequestName.TheVariants as requests
 use Rattle.code_form.specs.declared.instr.Instr.{Instr}
-use Rattle.code_form.specs.declared.instr.Instr.TheVariants.{Mark, Number, Truth, Text, Outer, Local, Param, Index, Field, Load, Store, Do, Modify, Jump, False}
+use Rattle.code_form.specs.declared.instr.Instr.TheVariants.{Mark, Number, Truth, Text, Outer, Local, Param, Index, Field, Pick, Take, Load, Store, Do, Modify, Jump, False}
 use Rattle.code_form.specs.declared.instr.Instr.TheVariants.{When, Drop, Limit, Unlimit, Step, Ask, ErrorStop, Call, Refer, Back, Out, End}
 use Rattle.code_form.specs.declared.code.Line.{Line}
 use Rattle.code_form.specs.declared.code.Entry.{Entry}
@@ -29,6 +32,19 @@ abbrev pub kind_word : Kind → List ℕ
 kind_word kinds.Int = codes "INT"
 kind_word kinds.Truth = codes "BOOL"
 kind_word kinds.Text = codes "TEXT"
+
+-- with commas between
+abbrev pub listed : List (List ℕ) → List ℕ
+listed [] = []
+listed (text ∷ texts) = text ++ flat_map (λ text. codes "," ++ text) texts
+
+abbrev pub shape_step : Shape-F (List ℕ) → List ℕ
+shape_step (Cell kind) = kind_word kind
+shape_step (Row count of) = codes "ROW " ++ decimal count ++ codes " " ++ of
+shape_step (Struct parts) = codes "STRUCT(" ++ listed parts ++ codes ")"
+
+abbrev pub shape_text : Shape → List ℕ
+shape_text = fold-Shape (List ℕ) shape_step
 
 abbrev pub way_word : Way → List ℕ
 way_word ways.Up = codes "UP"
@@ -112,8 +128,10 @@ instr_text bodies texts (Local k) = codes "LOCAL " ++ decimal k
 instr_text bodies texts (Param k) = codes "PARAM " ++ decimal k
 instr_text bodies texts (Index n c) = codes "INDEX " ++ decimal n ++ codes " " ++ decimal c
 instr_text bodies texts (Field c) = codes "FIELD " ++ decimal c
-instr_text bodies texts (Load kind) = codes "LOAD " ++ kind_word kind
-instr_text bodies texts (Store kind) = codes "STORE " ++ kind_word kind
+instr_text bodies texts (Pick n c) = codes "PICK " ++ decimal n ++ codes " " ++ decimal c
+instr_text bodies texts (Take m c k) = codes "TAKE " ++ decimal m ++ codes " " ++ decimal c ++ codes " " ++ decimal k
+instr_text bodies texts (Load s) = codes "LOAD " ++ shape_text s
+instr_text bodies texts (Store s) = codes "STORE " ++ shape_text s
 instr_text bodies texts (Do op) = codes "DO " ++ operation_name op
 instr_text bodies texts (Modify change) = codes "DO " ++ change_name change
 instr_text bodies texts (Jump a) = codes "JUMP " ++ decimal a
@@ -127,8 +145,8 @@ instr_text bodies texts (Ask name) = codes "ASK " ++ request_name name
 instr_text bodies texts ErrorStop = codes "DO errorstop"
 instr_text bodies texts (Call n) = codes "CALL " ++ decimal (first_of (slice_get bodies n)) ++ codes " " ++ decimal (cells_of_frame (slice_get bodies n))
 instr_text bodies texts (Refer n) = codes "REFER " ++ decimal (first_of (slice_get bodies n))
-instr_text bodies texts (Back kind) = codes "BACK"
-instr_text bodies texts (Out kind) = codes "OUT"
+instr_text bodies texts (Back s) = codes "BACK"
+instr_text bodies texts (Out s) = codes "OUT"
 instr_text bodies texts End = codes "END"
 
 -- its number, a blank, and its text

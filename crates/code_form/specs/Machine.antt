@@ -1,5 +1,5 @@
 -- What the machine does with a list of instructions, one by one.
-use Rattle.std.specs.Prelude.{ℕ, zero, suc, ◌+◌, ◌-◌, Bool, true, false, ◌&&◌, cond, List, [], ◌∷◌, ◌++◌, map, length, drop, Option, Some, None, Ok, Err}
+use Rattle.std.specs.Prelude.{ℕ, zero, suc, ◌+◌, ◌-◌, Bool, true, false, ◌&&◌, cond, List, [], ◌∷◌, ◌++◌, map, flat_map, length, take, drop, Option, Some, None, Ok, Err}
 use Rattle.std.specs.Prelude.{ℤ, pos, ◌*◌, int_le, slice_get}
 use Rattle.std.specs.Ordering.{int_eq}
 use Rattle.eu_base.specs.declared.address.Addr.{Addr}
@@ -14,26 +14,25 @@ use Rattle.eu_base.specs.declared.request.Request.{Request}
 use Rattle.eu_base.specs.declared.request.Reply.{Reply}
 use Rattle.eu_base.specs.declared.request.Reply.TheVariants as replies
 use Rattle.eu_base.specs.Values.{number_of, truth_of, text_of, blank_of, number_in, truth_in}
-use Rattle.eu_base.specs.Room.{value_bytes, place_bytes, cells_fit, bytes_fit, texts_fit}
-use Rattle.eu_base.specs.Texts.{count_of}
-use Rattle.eu_base.specs.Operations.{Given, operand_kinds, result_of, change_kind, changed, is_past, has_reached, next_number}
+use Rattle.eu_base.specs.Room.{value_bytes, values_bytes, place_bytes, values_blocks, cells_fit, bytes_fit, texts_fit}
+use Rattle.eu_base.specs.declared.shape.Shape.{Shape}
+use Rattle.eu_base.specs.Shapes.{cell_kinds}
+use Rattle.eu_base.specs.Operations.{Given, operand_kinds, result_of, change_kind, changed, is_past, has_reached, next_number, in_row}
 use Rattle.eu_base.specs.Requests.{request_kinds, request_size, request_of, reply_text, read_as}
 use Rattle.eu_base.specs.Cells.{Cell, Free, Word, Letters, Cells, held_of, run_cell, place_number, place_in, written, without, freed, cell_blocks, blocks_in}
 use Rattle.code_form.specs.declared.operand.Operand.{Operand}
-use Rattle.code_form.specs.declared.operand.Operand.TheVariants.{Value as Of, Place as At}
-use Rattle.code_form.specs.declared.operand.OperandKind.{OperandKind}
-use Rattle.code_form.specs.declared.operand.OperandKind.TheVariants.{Value as OfKind, Place as AtKind}
+use Rattle.code_form.specs.declared.operand.Operand.TheVariants.{Value as Of, Place as At, Aggregate}
 use Rattle.code_form.specs.declared.halt.Halt.{Halt}
 use Rattle.code_form.specs.declared.halt.Halt.TheVariants as halts
 use Rattle.code_form.specs.declared.waits.Waits.{Waits}
 use Rattle.code_form.specs.declared.waits.Waits.TheVariants.{Nothing, Asked, Given as Replied, Refused}
 use Rattle.code_form.specs.declared.instr.Instr.{Instr}
-use Rattle.code_form.specs.declared.instr.Instr.TheVariants.{Mark, Number, Truth, Text, Outer, Local, Param, Index, Field, Load, Store, Do, Modify, Jump, False}
+use Rattle.code_form.specs.declared.instr.Instr.TheVariants.{Mark, Number, Truth, Text, Outer, Local, Param, Index, Field, Pick, Take, Load, Store, Do, Modify, Jump, False}
 use Rattle.code_form.specs.declared.instr.Instr.TheVariants.{When, Drop, Limit, Unlimit, Step, Ask, ErrorStop, Call, Refer, Back, Out, End}
 use Rattle.code_form.specs.declared.code.Entry.{Entry}
 use Rattle.code_form.specs.declared.code.Layout.{Layout}
 use Rattle.code_form.specs.declared.code.Layout.TheVariants.{Own}
-use Rattle.code_form.specs.Program.{Program, instr_of, layout_of, cells_at}
+use Rattle.code_form.specs.Program.{Program, instr_of, CellUse, HoldsValue, HoldsPlace, layout_of, cells_at}
 
 -- a live call or refinement: the instruction to which it returns, its first cell, which is that of the frame below for a refinement,
 -- the cells that were in use before it, its body, and what is pending in the frame below
@@ -99,10 +98,20 @@ using c n = record c { used = n }
 abbrev pub goes : Position → List Operand → Cells → Move
 goes c ops cells = Goes (at c (c.pc + 1) ops) cells
 
+-- a value is the list of the values of its cells; one of one cell is pushed as it is
+abbrev pub operand_of : List Value → Operand
+operand_of (v ∷ []) = Of v
+operand_of vs = Aggregate vs
+
+-- a value of a shape takes so many bytes at least where it is pending
+abbrev pub least_bytes : Shape → ℕ
+least_bytes s = 8 * length (cell_kinds s)
+
 -- the bytes of pending operands
 abbrev pub operand_bytes : Operand → ℕ
 operand_bytes (Of v) = value_bytes v
 operand_bytes (At a) = place_bytes
+operand_bytes (Aggregate vs) = values_bytes vs
 
 abbrev pub bytes_on : List Operand → ℕ → ℕ
 bytes_on [] held = held
@@ -117,14 +126,23 @@ abbrev pub base_of : List Frame → ℕ
 base_of [] = 0
 base_of (f ∷ fs) = f.base
 
+-- goes on so where so many bytes more can be pending
+abbrev pub on_room : Position → ℕ → List Operand → Move → Move
+on_room c bytes ops move = cond (bytes_fit (bytes + bytes_on ops (bytes_of c.frames))) move (Halts OperandRoom)
+
 -- the next instruction, with one operand more, where it has room
 abbrev pub pushes : Position → Operand → List Operand → Cells → Move
-pushes c o ops cells = cond (bytes_fit (operand_bytes o + bytes_on ops (bytes_of c.frames))) (goes c (o ∷ ops) cells) (Halts OperandRoom)
+pushes c o ops cells = on_room c (operand_bytes o) ops (goes c (o ∷ ops) cells)
 
--- takes what is on top
+-- takes what is on top: a value of one cell, the values of the cells of any value, a place
 abbrev pub on_value : List Operand → (Value → List Operand → Move) → Move
 on_value (Of v ∷ ops) go = go v ops
 on_value _ go = Stuck
+
+abbrev pub on_all : List Operand → (List Value → List Operand → Move) → Move
+on_all (Of v ∷ ops) go = go (v ∷ []) ops
+on_all (Aggregate vs ∷ ops) go = go vs ops
+on_all _ go = Stuck
 
 abbrev pub on_place : List Operand → (Addr → List Operand → Move) → Move
 on_place (At a ∷ ops) go = go a ops
@@ -165,6 +183,18 @@ on_cell kinds.Int cell go = on_number cell (λ z. go (item.Int z))
 on_cell kinds.Truth cell go = on_word cell (λ n. go (item.Truth (truth_in n)))
 on_cell kinds.Text cell go = on_text cell (λ t. go (item.Text t))
 
+-- the place so many cells further on
+abbrev pub further : Addr → ℕ → Addr
+further a n = place_in (place_number a + n)
+
+abbrev pub next : Addr → Addr
+next a = further a 1
+
+-- the values of these kinds in the cells from a place on
+abbrev pub on_cells : List Kind → Addr → Cells → (List Value → Move) → Move
+on_cells [] a cells go = go []
+on_cells (k ∷ ks) a cells go = on_cell k (cells a) (λ v. on_cells ks (next a) cells (λ vs. go (v ∷ vs)))
+
 -- a number is put into a cell that is not known to hold a text, and a text into one that is
 abbrev pub takes_number : Cell → Bool
 takes_number Free = true
@@ -186,26 +216,33 @@ puts c a v ops cells =
     cond (takes (held_of v) (cells a))
     (cond (texts_fit (cell_blocks (held_of v)) (blocks_in (written cells a (held_of v)))) (goes c ops (written cells a (held_of v))) (Halts TextRoom)) Unknown
 
--- how many items of a row of n stand before the one of a number; none where the number is outside 1 to n
-abbrev pub in_row : ℕ → ℤ → Option ℕ
-in_row n z = cond (int_le (pos 1) z && int_le z (pos n)) (Some (count_of z - 1)) None
+-- values are put into the cells from a place on, all of them or, where their texts have no room, none
+abbrev pub written_all : Cells → Addr → List Value → Cells
+written_all cells a [] = cells
+written_all cells a (v ∷ vs) = written_all (written cells a (held_of v)) (next a) vs
+
+abbrev pub takes_all : List Value → Addr → Cells → Bool
+takes_all [] a cells = true
+takes_all (v ∷ vs) a cells = takes (held_of v) (cells a) && takes_all vs (next a) cells
+
+abbrev pub puts_all : Position → Addr → List Value → List Operand → Cells → Move
+puts_all c a vs ops cells =
+    cond (takes_all vs a cells)
+    (cond (texts_fit (values_blocks vs) (blocks_in (written_all cells a vs))) (goes c ops (written_all cells a vs)) (Halts TextRoom)) Unknown
 
 abbrev pub on_item : Option ℕ → (ℕ → Move) → Move
 on_item None go = Halts OutsideRow
 on_item (Some k) go = go k
 
--- the place so many cells further on
-abbrev pub further : Addr → ℕ → Addr
-further a n = place_in (place_number a + n)
-
--- what stands for an operand in a cell
-abbrev pub held_of_operand : Operand → Cell
-held_of_operand (Of v) = held_of v
-held_of_operand (At a) = Word (place_number a)
+-- what stands for an operand in cells, one after the other
+abbrev pub held_cells : Operand → List Cell
+held_cells (Of v) = held_of v ∷ []
+held_cells (At a) = Word (place_number a) ∷ []
+held_cells (Aggregate vs) = map held_of vs
 
 -- what the cells of a frame hold: two for the call, what the parameters hold, and the variables
 abbrev pub frame_contents : List Operand → List Kind → List Cell
-frame_contents args variables = Word 0 ∷ Word 0 ∷ (map held_of_operand args ++ map (λ k. held_of (blank_of k)) variables)
+frame_contents args variables = Word 0 ∷ Word 0 ∷ (flat_map held_cells args ++ map (λ k. held_of (blank_of k)) variables)
 
 abbrev pub link_contents : List Cell
 link_contents = Word 0 ∷ Word 0 ∷ []
@@ -262,31 +299,33 @@ refer_move c n (Some e) cells = Spends (enters c e.first (base_of c.frames) true
 refer_move c n None cells = Stuck
 
 -- the result, where there is one
-abbrev pub on_result : Option Kind → List Operand → (List Operand → Move) → Move
+abbrev pub on_result : Option Shape → List Operand → (List Operand → Move) → Move
 on_result None ops go = go []
-on_result (Some k) ops go = on_value ops (λ v rest. go (Of v ∷ []))
+on_result (Some s) (Of v ∷ ops) go = go (Of v ∷ [])
+on_result (Some s) (Aggregate vs ∷ ops) go = go (Aggregate vs ∷ [])
+on_result (Some s) _ go = Stuck
 
--- a cell is known to hold a number, and what stands for an operand of a kind
+-- a cell is known to hold a number, and what it is used for
 abbrev pub is_word : Cell → Bool
 is_word Free = false
 is_word (Word n) = true
 is_word (Letters t) = false
 
-abbrev pub is_of : OperandKind → Cell → Bool
-is_of (OfKind kinds.Int) cell = is_word cell
-is_of (OfKind kinds.Truth) cell = is_word cell
-is_of (OfKind kinds.Text) cell = is_text cell
-is_of (AtKind k) cell = is_word cell
+abbrev pub is_of : CellUse → Cell → Bool
+is_of (HoldsValue kinds.Int) cell = is_word cell
+is_of (HoldsValue kinds.Truth) cell = is_word cell
+is_of (HoldsValue kinds.Text) cell = is_text cell
+is_of HoldsPlace cell = is_word cell
 
--- so many cells from one on are known to hold what stands for operands of these kinds, and the others of them numbers
-abbrev pub are_of : List OperandKind → ℕ → ℕ → Cells → Bool
-are_of ks at zero cells = true
+-- so many cells from one on are known to hold what they are used for, and the others of them numbers
+abbrev pub are_of : List CellUse → ℕ → ℕ → Cells → Bool
+are_of us at zero cells = true
 are_of [] at (suc n) cells = is_word (cells (run_cell at)) && are_of [] (suc at) n cells
-are_of (k ∷ ks) at (suc n) cells = is_of k (cells (run_cell at)) && are_of ks (suc at) n cells
+are_of (u ∷ us) at (suc n) cells = is_of u (cells (run_cell at)) && are_of us (suc at) n cells
 
 -- a frame's cells are known to hold what the tables say: two numbers for the call, what its parameters and variables hold, and limits
 abbrev pub is_framed : Option Entry → ℕ → ℕ → Cells → Bool
-is_framed e from used cells = are_of (OfKind kinds.Int ∷ OfKind kinds.Int ∷ cells_at (layout_of e)) from (used - from) cells
+is_framed e from used cells = are_of (HoldsValue kinds.Int ∷ HoldsValue kinds.Int ∷ cells_at (layout_of e)) from (used - from) cells
 
 -- leaves a frame, and leaves those of refinements and that of their PROC; so many cells were in use, and what those of the frames hold is
 -- known: numbers are forgotten, and texts freed
@@ -313,16 +352,16 @@ limit_to c way a limit x ops cells =
     Unknown)
     (Halts CellRoom)
 
--- the value that an operand is; 0 stands for it where it is a place
+-- the value of one cell that an operand is; 0 stands for it where it is another
 abbrev pub value_in : Operand → Value
 value_in (Of v) = v
-value_in (At a) = item.Int (pos 0)
+value_in _ = item.Int (pos 0)
 
 -- goes on from a request, and puts a value into its variable, where it has one
 abbrev pub keeps : Position → List Operand → Value → List Operand → Cells → Move
 keeps c [] v ops cells = goes c ops cells
-keeps c (Of w ∷ os) v ops cells = Stuck
 keeps c (At a ∷ os) v ops cells = puts c a v ops cells
+keeps c _ v ops cells = Stuck
 
 -- what an instruction does that made a request, with the reply: it takes its operands, its variable behind its values. No other makes one
 abbrev pub takes_reply : Option Instr → Reply → Position → Cells → Move
@@ -347,8 +386,13 @@ instruction p (Some (Param k)) c cells = on_word (cells (run_cell (base_of c.fra
 instruction p (Some (Index n size)) c cells =
     on_value c.ops (λ v ops. on_place ops (λ a ops. on_item (in_row n (number_of v)) (λ k. pushes c (At (further a (k * size))) ops cells)))
 instruction p (Some (Field n)) c cells = on_place c.ops (λ a ops. pushes c (At (further a n)) ops cells)
-instruction p (Some (Load kind)) c cells = on_place c.ops (λ a ops. on_cell kind (cells a) (λ v. pushes c (Of v) ops cells))
-instruction p (Some (Store kind)) c cells = on_value c.ops (λ v ops. on_place ops (λ a ops. puts c a v ops cells))
+instruction p (Some (Pick n size)) c cells =
+    on_value c.ops (λ v ops.
+    on_all ops (λ vs ops. on_item (in_row n (number_of v)) (λ k. pushes c (operand_of (take size (drop (k * size) vs))) ops cells)))
+instruction p (Some (Take m from size)) c cells = on_all c.ops (λ vs ops. pushes c (operand_of (take size (drop from vs))) ops cells)
+instruction p (Some (Load s)) c cells =
+    on_place c.ops (λ a ops. on_room c (least_bytes s) ops (on_cells (cell_kinds s) a cells (λ vs. pushes c (operand_of vs) ops cells)))
+instruction p (Some (Store s)) c cells = on_all c.ops (λ vs ops. on_place ops (λ a ops. puts_all c a vs ops cells))
 instruction p (Some (Do op)) c cells =
     on_values (length (operand_kinds op)) [] c.ops (λ vs ops. or_halt (result_of op vs) (λ v. pushes c (Of v) ops cells))
 instruction p (Some (Modify change)) c cells =
@@ -369,8 +413,8 @@ instruction p (Some (Ask name)) c cells =
 instruction p (Some ErrorStop) c cells = on_value c.ops (λ v ops. Refuses (Own (text_of v)) (at c (c.pc + 1) ops))
 instruction p (Some (Call n)) c cells = call_move c n (slice_get p.bodies n) cells
 instruction p (Some (Refer n)) c cells = refer_move c n (slice_get p.bodies n) cells
-instruction p (Some (Back kind)) c cells = on_result kind c.ops (λ result. back_to p result c.used c.frames cells)
-instruction p (Some (Out kind)) c cells = on_result kind c.ops (λ result. out_to p result c.used c.frames cells)
+instruction p (Some (Back s)) c cells = on_result s c.ops (λ result. back_to p result c.used c.frames cells)
+instruction p (Some (Out s)) c cells = on_result s c.ops (λ result. out_to p result c.used c.frames cells)
 instruction p (Some End) c cells = Ends
 
 -- one step, where nothing is waited for

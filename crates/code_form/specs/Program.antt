@@ -1,9 +1,10 @@
 -- Code as a list of instructions with its tables.
-use Rattle.std.specs.Prelude.{ℕ, suc, List, [], ◌++◌, map, Option, Some, None, slice_get}
+use Rattle.std.specs.Prelude.{ℕ, suc, List, [], ◌∷◌, ◌++◌, map, flat_map, Option, Some, None, slice_get}
 use Rattle.eu_base.specs.declared.value.Kind.{Kind}
+use Rattle.eu_base.specs.Shapes.{cell_kinds}
 use Rattle.code_form.specs.declared.instr.Instr.{Instr}
 use Rattle.code_form.specs.declared.operand.OperandKind.{OperandKind}
-use Rattle.code_form.specs.declared.operand.OperandKind.TheVariants.{Value}
+use Rattle.code_form.specs.declared.operand.OperandKind.TheVariants.{Value, Place}
 use Rattle.code_form.specs.declared.code.Line.{Line}
 use Rattle.code_form.specs.declared.code.Spot.{Spot}
 use Rattle.code_form.specs.declared.code.Layout.{Layout}
@@ -34,9 +35,19 @@ in_body n = record { body = Some n; limits = 0 }
 abbrev pub deeper : Spot → Spot
 deeper spot = record { body = spot.body; limits = suc spot.limits }
 
--- the cells of a PROC's frame: what its parameters hold, and its variables
-abbrev pub cells_of : Layout → List OperandKind
-cells_of (Own parameters variables) = parameters ++ map Value variables
+-- what a cell of a frame holds: a value of a kind, or the place of a cell
+pub data CellUse : Type 0 where
+  HoldsValue : Kind → CellUse
+  HoldsPlace : CellUse
+
+-- the cells in which an operand stands that is a parameter
+abbrev pub cell_uses : OperandKind → List CellUse
+cell_uses (Value s) = map HoldsValue (cell_kinds s)
+cell_uses (Place s) = HoldsPlace ∷ []
+
+-- the cells of a PROC's frame: those of its parameters, and its variables
+abbrev pub cells_of : Layout → List CellUse
+cells_of (Own parameters variables) = flat_map cell_uses parameters ++ map HoldsValue variables
 cells_of _ = []
 
 -- the PROC whose cells a body uses; none where it is a refinement of the level
@@ -53,7 +64,7 @@ abbrev pub owner_at : ℕ → Option Layout → Option ℕ
 owner_at n None = None
 owner_at n (Some l) = owner_in n l
 
-abbrev pub cells_at : Option Layout → List OperandKind
+abbrev pub cells_at : Option Layout → List CellUse
 cells_at None = []
 cells_at (Some l) = cells_of l
 
@@ -63,10 +74,10 @@ module _ (p : Program) where
   owner None = None
   owner (Some n) = owner_at n (layout_of (slice_get p.bodies n))
 
-  abbrev pub cells_in : Option ℕ → List OperandKind
+  abbrev pub cells_in : Option ℕ → List CellUse
   cells_in None = []
   cells_in (Some n) = cells_at (layout_of (slice_get p.bodies n))
 
   -- the cells that they use
-  abbrev pub frame_cells : Option ℕ → List OperandKind
+  abbrev pub frame_cells : Option ℕ → List CellUse
   frame_cells body = cells_in (owner body)

@@ -1,7 +1,11 @@
 -- The tables of code agree along each step, and each cycle of jumps spends a mark.
-use Rattle.std.specs.Prelude.{◌≡◌, ℕ, ◌+◌, ◌≤◌, Bool, true, false, List, [], ◌∷◌, ◌++◌, map, length, Option, Some, None, slice_get}
+use Rattle.std.specs.Prelude.{◌≡◌, ℕ, ◌+◌, ◌*◌, ◌<◌, ◌≤◌, Bool, true, false, List, [], ◌∷◌, ◌++◌, map, flat_map, length, take, drop, Option, Some, None, slice_get}
 use Rattle.eu_base.specs.declared.value.Kind.{Kind}
 use Rattle.eu_base.specs.declared.value.Kind.TheVariants as kinds
+use Rattle.eu_base.specs.declared.value.Value.{Value as Item}
+use Rattle.eu_base.specs.declared.shape.Shape.{Shape}
+use Rattle.eu_base.specs.declared.shape.Shape.TheVariants.{Cell}
+use Rattle.eu_base.specs.Shapes.{cell_kinds}
 use Rattle.eu_base.specs.Values.{kind_of}
 use Rattle.eu_base.specs.Room.{cells_fit, bytes_fit}
 use Rattle.eu_base.specs.Operations.{operand_kinds, result_kind, change_kind}
@@ -9,19 +13,19 @@ use Rattle.eu_base.specs.declared.request.RequestName.{RequestName}
 use Rattle.eu_base.specs.Requests.{request_kinds, request_places}
 use Rattle.eu_base.specs.Cells.{IsCell}
 use Rattle.code_form.specs.declared.operand.Operand.{Operand}
-use Rattle.code_form.specs.declared.operand.Operand.TheVariants.{Value as Of, Place as At}
+use Rattle.code_form.specs.declared.operand.Operand.TheVariants.{Place as At}
 use Rattle.code_form.specs.declared.operand.OperandKind.{OperandKind}
 use Rattle.code_form.specs.declared.operand.OperandKind.TheVariants.{Value, Place}
 use Rattle.code_form.specs.declared.instr.Instr.{Instr}
-use Rattle.code_form.specs.declared.instr.Instr.TheVariants.{Mark, Number, Truth, Text, Outer, Local, Param, Index, Field, Load, Store, Do, Modify, Jump, False}
+use Rattle.code_form.specs.declared.instr.Instr.TheVariants.{Mark, Number, Truth, Text, Outer, Local, Param, Index, Field, Pick, Take, Load, Store, Do, Modify, Jump, False}
 use Rattle.code_form.specs.declared.instr.Instr.TheVariants.{When, Drop, Limit, Unlimit, Step, Ask, ErrorStop, Call, Refer, Back, Out, End}
 use Rattle.code_form.specs.declared.code.Line.{Line}
 use Rattle.code_form.specs.declared.code.Spot.{Spot}
 use Rattle.code_form.specs.declared.code.Entry.{Entry}
 use Rattle.code_form.specs.declared.code.Layout.{Layout}
 use Rattle.code_form.specs.declared.code.Layout.TheVariants as layouts
-use Rattle.code_form.specs.Program.{Program, line_of, instr_of, at_level, in_body, deeper, owner, owner_in, frame_cells}
-use Rattle.code_form.specs.Machine.{Frame, Control, base_of, bytes_on, bytes_of}
+use Rattle.code_form.specs.Program.{Program, line_of, instr_of, at_level, in_body, deeper, HoldsValue, HoldsPlace, cell_uses, owner, owner_in, frame_cells}
+use Rattle.code_form.specs.Machine.{Frame, Control, base_of, bytes_on, bytes_of, operand_of}
 use Rattle.code_form.specs.declared.waits.Waits.{Waits}
 use Rattle.code_form.specs.declared.waits.Waits.TheVariants.{Nothing, Asked, Given, Refused}
 
@@ -42,10 +46,17 @@ pub record Lands (lines : List Line) (pc a : ℕ) (ks : List OperandKind) (m : S
   pub next : Next lines a ks m
   pub spaced : a ≤ pc → is_mark (instr_of (slice_get lines a)) ≡ true
 
+-- a value and a place of one cell
+abbrev pub cell_value : Kind → OperandKind
+cell_value k = Value (Cell k)
+
+abbrev pub cell_place : Kind → OperandKind
+cell_place k = Place (Cell k)
+
 -- values of these kinds, and operands of these kinds, pushed from left to right
 abbrev pub pushed_kinds : List Kind → List OperandKind → List OperandKind
 pushed_kinds [] ks = ks
-pushed_kinds (k ∷ more) ks = pushed_kinds more (Value k ∷ ks)
+pushed_kinds (k ∷ more) ks = pushed_kinds more (cell_value k ∷ ks)
 
 abbrev pub pushed_operands : List OperandKind → List OperandKind → List OperandKind
 pushed_operands [] ks = ks
@@ -53,12 +64,12 @@ pushed_operands (k ∷ more) ks = pushed_operands more (k ∷ ks)
 
 -- the operands of a request: values, and then places
 abbrev pub request_operands : RequestName → List OperandKind
-request_operands name = map Value (request_kinds name) ++ map Place (request_places name)
+request_operands name = map cell_value (request_kinds name) ++ map cell_place (request_places name)
 
 -- with a result, where there is one
-abbrev pub with_result : Option Kind → List OperandKind → List OperandKind
+abbrev pub with_result : Option Shape → List OperandKind → List OperandKind
 with_result None ks = ks
-with_result (Some k) ks = Value k ∷ ks
+with_result (Some s) ks = Value s ∷ ks
 
 abbrev pub IsRefinement : Layout → Type 0
 IsRefinement (layouts.Own parameters variables) = ⊥
@@ -84,12 +95,12 @@ pub record IsReferred (p : Program) (pc n : ℕ) (ks : List OperandKind) (m : Sp
   pub next : Next p.lines (pc + 1) (with_result entry.delivers ks) m
 
 -- a result is on top, where there is one
-abbrev pub HasResult : Option Kind → List OperandKind → Type 0
+abbrev pub HasResult : Option Shape → List OperandKind → Type 0
 HasResult None ks = Unit {0}
-HasResult (Some k) ks = (rest : List OperandKind) × (ks ≡ Value k ∷ rest)
+HasResult (Some s) ks = (rest : List OperandKind) × (ks ≡ Value s ∷ rest)
 
 -- a body can be left from here, and the PROC of a refinement
-pub record IsLeft (p : Program) (result : Option Kind) (ks : List OperandKind) (m : Spot) : Type 0 where
+pub record IsLeft (p : Program) (result : Option Shape) (ks : List OperandKind) (m : Spot) : Type 0 where
   pub number : ℕ
   pub here : m.body ≡ Some number
   pub entry : Entry
@@ -97,7 +108,7 @@ pub record IsLeft (p : Program) (result : Option Kind) (ks : List OperandKind) (
   pub delivers : entry.delivers ≡ result
   pub top : HasResult result ks
 
-pub record IsLeftAround (p : Program) (result : Option Kind) (ks : List OperandKind) (m : Spot) : Type 0 where
+pub record IsLeftAround (p : Program) (result : Option Shape) (ks : List OperandKind) (m : Spot) : Type 0 where
   pub number : ℕ
   pub proc : owner p m.body ≡ Some number
   pub entry : Entry
@@ -105,42 +116,64 @@ pub record IsLeftAround (p : Program) (result : Option Kind) (ks : List OperandK
   pub delivers : entry.delivers ≡ result
   pub top : HasResult result ks
 
--- a place is on top, and a place, which may be of another kind, is pending at the next instruction in its stead
+-- a place is on top, and a place, which may be of another shape, is pending at the next instruction in its stead
 pub record GivesPlace (lines : List Line) (pc : ℕ) (ks : List OperandKind) (m : Spot) : Type 0 where
-  pub kind : Kind
-  pub given : Kind
+  pub shape : Shape
+  pub given : Shape
   pub rest : List OperandKind
-  pub taken : ks ≡ Place kind ∷ rest
+  pub taken : ks ≡ Place shape ∷ rest
   pub next : Next lines (pc + 1) (Place given ∷ rest) m
+
+-- a value is on top, and a value of these of its cells is pending at the next instruction in its stead
+pub record GivesPart (lines : List Line) (pc : ℕ) (ks : List OperandKind) (m : Spot) (Parts : List Kind → List Kind → Type 0) : Type 0 where
+  pub shape : Shape
+  pub given : Shape
+  pub rest : List OperandKind
+  pub taken : ks ≡ Value shape ∷ rest
+  pub part : Parts (cell_kinds shape) (cell_kinds given)
+  pub next : Next lines (pc + 1) (Value given ∷ rest) m
+
+-- of a row of so many items of so many cells, each item has these kinds
+pub record AreItems (count size : ℕ) (all item : List Kind) : Type 0 where
+  pub many : length all ≡ count * size
+  pub each : (k : ℕ) → k < count → take size (drop (k * size) all) ≡ item
+
+-- of so many cells, so many from one on have these kinds
+pub record IsPart (cells from size : ℕ) (all part : List Kind) : Type 0 where
+  pub many : length all ≡ cells
+  pub is : take size (drop from all) ≡ part
 
 -- an instruction finds what it takes, and leads to instructions where what it leaves is pending
 abbrev pub IsFine : Program → ℕ → Instr → List OperandKind → Spot → Type 0
 IsFine p pc Mark ks m = Next p.lines (pc + 1) ks m
-IsFine p pc (Number z) ks m = Next p.lines (pc + 1) (Value kinds.Int ∷ ks) m
-IsFine p pc (Truth b) ks m = Next p.lines (pc + 1) (Value kinds.Truth ∷ ks) m
-IsFine p pc (Text t) ks m = Next p.lines (pc + 1) (Value kinds.Text ∷ ks) m
-IsFine p pc (Outer x) ks m = (k : Kind) × (slice_get p.variables x ≡ Some k) × Next p.lines (pc + 1) (Place k ∷ ks) m
-IsFine p pc (Local x) ks m = (k : Kind) × (slice_get (frame_cells p m.body) x ≡ Some (Value k)) × Next p.lines (pc + 1) (Place k ∷ ks) m
-IsFine p pc (Param x) ks m = (k : Kind) × (slice_get (frame_cells p m.body) x ≡ Some (Place k)) × Next p.lines (pc + 1) (Place k ∷ ks) m
-IsFine p pc (Index n size) ks m = (rest : List OperandKind) × (ks ≡ Value kinds.Int ∷ rest) × GivesPlace p.lines pc rest m
+IsFine p pc (Number z) ks m = Next p.lines (pc + 1) (cell_value kinds.Int ∷ ks) m
+IsFine p pc (Truth b) ks m = Next p.lines (pc + 1) (cell_value kinds.Truth ∷ ks) m
+IsFine p pc (Text t) ks m = Next p.lines (pc + 1) (cell_value kinds.Text ∷ ks) m
+IsFine p pc (Outer x) ks m = (k : Kind) × (slice_get p.variables x ≡ Some k) × ((s : Shape) × Next p.lines (pc + 1) (Place s ∷ ks) m)
+IsFine p pc (Local x) ks m =
+    (k : Kind) × (slice_get (frame_cells p m.body) x ≡ Some (HoldsValue k)) × ((s : Shape) × Next p.lines (pc + 1) (Place s ∷ ks) m)
+IsFine p pc (Param x) ks m = (slice_get (frame_cells p m.body) x ≡ Some HoldsPlace) × ((s : Shape) × Next p.lines (pc + 1) (Place s ∷ ks) m)
+IsFine p pc (Index n size) ks m = (rest : List OperandKind) × (ks ≡ cell_value kinds.Int ∷ rest) × GivesPlace p.lines pc rest m
 IsFine p pc (Field n) ks m = GivesPlace p.lines pc ks m
-IsFine p pc (Load k) ks m = (rest : List OperandKind) × (ks ≡ Place k ∷ rest) × Next p.lines (pc + 1) (Value k ∷ rest) m
-IsFine p pc (Store k) ks m = (rest : List OperandKind) × (ks ≡ Value k ∷ Place k ∷ rest) × Next p.lines (pc + 1) rest m
+IsFine p pc (Pick n size) ks m = (rest : List OperandKind) × (ks ≡ cell_value kinds.Int ∷ rest) × GivesPart p.lines pc rest m (AreItems n size)
+IsFine p pc (Take cells from size) ks m = GivesPart p.lines pc ks m (IsPart cells from size)
+IsFine p pc (Load s) ks m = (rest : List OperandKind) × (ks ≡ Place s ∷ rest) × Next p.lines (pc + 1) (Value s ∷ rest) m
+IsFine p pc (Store s) ks m = (rest : List OperandKind) × (ks ≡ Value s ∷ Place s ∷ rest) × Next p.lines (pc + 1) rest m
 IsFine p pc (Do op) ks m =
-    (rest : List OperandKind) × (ks ≡ pushed_kinds (operand_kinds op) rest) × Next p.lines (pc + 1) (Value (result_kind op) ∷ rest) m
+    (rest : List OperandKind) × (ks ≡ pushed_kinds (operand_kinds op) rest) × Next p.lines (pc + 1) (cell_value (result_kind op) ∷ rest) m
 IsFine p pc (Modify change) ks m =
-    (rest : List OperandKind) × (ks ≡ Value (change_kind change) ∷ Place (change_kind change) ∷ rest) × Next p.lines (pc + 1) rest m
+    (rest : List OperandKind) × (ks ≡ cell_value (change_kind change) ∷ cell_place (change_kind change) ∷ rest) × Next p.lines (pc + 1) rest m
 IsFine p pc (Jump a) ks m = Lands p.lines pc a ks m
-IsFine p pc (False a) ks m = (rest : List OperandKind) × (ks ≡ Value kinds.Truth ∷ rest) × Next p.lines (pc + 1) rest m × Lands p.lines pc a rest m
-IsFine p pc (When z a) ks m = (rest : List OperandKind) × (ks ≡ Value kinds.Int ∷ rest) × Next p.lines (pc + 1) ks m × Lands p.lines pc a rest m
-IsFine p pc Drop ks m = (k : Kind) × ((rest : List OperandKind) × (ks ≡ Value k ∷ rest) × Next p.lines (pc + 1) rest m)
+IsFine p pc (False a) ks m = (rest : List OperandKind) × (ks ≡ cell_value kinds.Truth ∷ rest) × Next p.lines (pc + 1) rest m × Lands p.lines pc a rest m
+IsFine p pc (When z a) ks m = (rest : List OperandKind) × (ks ≡ cell_value kinds.Int ∷ rest) × Next p.lines (pc + 1) ks m × Lands p.lines pc a rest m
+IsFine p pc Drop ks m = (k : Kind) × ((rest : List OperandKind) × (ks ≡ cell_value k ∷ rest) × Next p.lines (pc + 1) rest m)
 IsFine p pc (Limit way a) ks m =
-    (rest : List OperandKind) × (ks ≡ Value kinds.Int ∷ Place kinds.Int ∷ rest) × Next p.lines (pc + 1) rest (deeper m) × Lands p.lines pc a rest (deeper m)
+    (rest : List OperandKind) × (ks ≡ cell_value kinds.Int ∷ cell_place kinds.Int ∷ rest) × Next p.lines (pc + 1) rest (deeper m) × Lands p.lines pc a rest (deeper m)
 IsFine p pc Unlimit ks m = (outer : Spot) × (m ≡ deeper outer) × Next p.lines (pc + 1) ks outer
 IsFine p pc (Step way a) ks m =
-    (outer : Spot) × (m ≡ deeper outer) × ((rest : List OperandKind) × (ks ≡ Place kinds.Int ∷ rest) × Next p.lines (pc + 1) rest m × Lands p.lines pc a rest m)
+    (outer : Spot) × (m ≡ deeper outer) × ((rest : List OperandKind) × (ks ≡ cell_place kinds.Int ∷ rest) × Next p.lines (pc + 1) rest m × Lands p.lines pc a rest m)
 IsFine p pc (Ask name) ks m = (rest : List OperandKind) × (ks ≡ pushed_operands (request_operands name) rest) × Next p.lines (pc + 1) rest m
-IsFine p pc ErrorStop ks m = (rest : List OperandKind) × (ks ≡ Value kinds.Text ∷ rest) × Next p.lines (pc + 1) rest m
+IsFine p pc ErrorStop ks m = (rest : List OperandKind) × (ks ≡ cell_value kinds.Text ∷ rest) × Next p.lines (pc + 1) rest m
 IsFine p pc (Call n) ks m = IsCalled p pc n ks m
 IsFine p pc (Refer n) ks m = IsReferred p pc n ks m
 IsFine p pc (Back result) ks m = IsLeft p result ks m
@@ -161,11 +194,21 @@ pub record IsValid (p : Program) : Type 0 where
   pub owned : (n : ℕ) (e : Entry) → slice_get p.bodies n ≡ Some e → IsOwned p e.layout
   pub each : (pc : ℕ) (l : Line) → slice_get p.lines pc ≡ Some l → IsFine p pc l.instr l.operands l.spot
 
+-- an operand is a value with cells of these kinds
+pub record HasKinds (o : Operand) (ks : List Kind) : Type 0 where
+  pub values : List Item
+  pub is : o ≡ operand_of values
+  pub kinds : map kind_of values ≡ ks
+
+-- an operand is the place of a cell
+abbrev pub IsPlace : Operand → Type 0
+IsPlace (At a) = IsCell a
+IsPlace _ = ⊥
+
 -- an operand is of a kind
 abbrev pub FitsKind : Operand → OperandKind → Type 0
-FitsKind (Of v) (Value k) = kind_of v ≡ k
-FitsKind (At a) (Place k) = IsCell a
-FitsKind _ _ = ⊥
+FitsKind o (Value s) = HasKinds o (cell_kinds s)
+FitsKind o (Place s) = IsPlace o
 
 abbrev pub FitsKinds : List Operand → List OperandKind → Type 0
 FitsKinds [] [] = Unit {0}
@@ -177,7 +220,7 @@ FitsKinds _ _ = ⊥
 abbrev pub MadeSo : Program → Layout → ℕ → ℕ → List OperandKind → Spot → Frame → ℕ → ℕ → Type 0
 MadeSo p (layouts.Own parameters variables) n pc rest m f floor below =
     (slice_get p.lines pc ≡ Some (line_of (Call n) (pushed_operands parameters rest) m)) × (f.refines ≡ false) × (f.base ≡ f.used + 2)
-    × (floor ≡ f.base + length parameters + length variables)
+    × (floor ≡ f.base + length (flat_map cell_uses parameters) + length variables)
 MadeSo p _ n pc rest m f floor below =
     (slice_get p.lines pc ≡ Some (line_of (Refer n) rest m)) × (f.refines ≡ true) × (f.base ≡ below) × (floor ≡ f.used + 2)
 

@@ -5,7 +5,7 @@ ghost use Rattle.code_form.specs.Valid.{IsValid};
 
 use crate::instr::Instr;
 use crate::operand::OperandKind;
-use eu_base::{Kind, List};
+use eu_base::{Kind, List, Shape};
 use std::marker::Model;
 
 /// An instruction, with what is pending when it is reached.
@@ -35,14 +35,14 @@ pub struct Entry {
     pub first: usize,
     /// The cells of its frame.
     pub layout: Layout,
-    /// The kind of the value that it delivers, where it delivers one.
-    pub delivers: Option<Kind>,
+    /// The shape of the value that it delivers, where it delivers one.
+    pub delivers: Option<Shape>,
 }
 
 /// The cells of a body's frame.
 #[derive(Drop)]
 pub enum Layout {
-    /// Those of a PROC: what its parameters hold, and behind them its variables.
+    /// Those of a PROC: its parameters, which stand as a call takes them, and behind them its variables, a kind a cell.
     Own {
         parameters: List<OperandKind>,
         variables: List<Kind>,
@@ -66,6 +66,11 @@ impl Model for Code {
     ghost use Rattle.code_form.specs.Program.{Program};
 
     ghost Value = { Program };
+
+    ghost use Rattle.eu_base.specs.contracts.shape.Shape as shapes;
+    ghost use Rattle.std.specs.Coded.{codes};
+
+    ghost coded = { Prim.hlevel (codes, shapes.the_row.coded) };
 
     ghost use Rattle.code_form.specs.Valid.{IsValid};
 

@@ -1,6 +1,6 @@
 //! Instructions.
 
-use eu_base::{Bytes, Change, Kind, Operation, RequestName, Way};
+use eu_base::{Bytes, Change, Operation, RequestName, Shape, Way};
 
 /// What one step of the machine does. A jump names the number of the instruction that it goes to.
 #[derive(Drop)]
@@ -24,10 +24,15 @@ pub enum Instr {
     Index(u16, u16),
     /// Takes a place, and pushes the place so many cells further on.
     Field(u16),
-    /// Takes a place, and pushes the value there.
-    Load(Kind),
-    /// Takes a value and the place below it, and stores the value there.
-    Store(Kind),
+    /// Takes a number i and the value below it, a row of so many items of so many cells, and pushes item i. Where i is none of 1 to the
+    /// number of items, the command stops.
+    Pick(u16, u16),
+    /// Takes a value of so many cells, and pushes, from one of them on, so many.
+    Take(u16, u16, u16),
+    /// Takes a place, and pushes the value of a shape there.
+    Load(Shape),
+    /// Takes a value of a shape and the place below it, and stores the value there.
+    Store(Shape),
     /// Takes operands, and pushes the result.
     Do(Operation),
     /// Takes a value and the place below it, and changes the value there by it. It is listed as `DO`.
@@ -56,10 +61,10 @@ pub enum Instr {
     Call(usize),
     /// Spends a mark, and goes to the refinement with this number, with a new frame over the same cells.
     Refer(usize),
-    /// Leaves the frame, and takes the value on top with it where there is one of a kind.
-    Back(Option<Kind>),
+    /// Leaves the frame, and takes the value on top with it where there is one of a shape.
+    Back(Option<Shape>),
     /// Leaves the frames of refinements and that of their PROC, as `Back` does.
-    Out(Option<Kind>),
+    Out(Option<Shape>),
     /// Ends the command.
     End,
 }

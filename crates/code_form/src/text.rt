@@ -1,13 +1,14 @@
 //! Code as text.
-ghost use Rattle.std.specs.Prelude.{◌≡◌, ◌++◌, IfOk, OnOk, length, slice_get, codes};
+ghost use Rattle.std.specs.Prelude.{◌≡◌, ◌++◌, IfOk, OnOk, map, flat_map, length, slice_get, codes};
 ghost use Rattle.std.specs.Fmt.{decimal, signed_decimal};
-ghost use Rattle.code_form.specs.Listing.{truth_word, kind_word, way_word, operation_name, text_operation_name, change_name, request_name, first_of, cells_of_frame, instr_text, texts_with};
+ghost use Rattle.code_form.specs.Listing.{truth_word, kind_word, listed, shape_text, way_word, operation_name, text_operation_name, change_name, request_name, first_of, cells_of_frame, instr_text, texts_with};
 ghost use Rattle.code_form.specs.Listing.{line_text, listing_text};
-ghost use Rattle.code_form.specs.Program.{cells_of};
+ghost use Rattle.code_form.specs.Program.{cell_uses, cells_of};
 
 use crate::code::{Code, Entry, Layout};
 use crate::instr::Instr;
-use eu_base::{Bytes, Change, Kind, NoMemory, Operation, RequestName, TextOperation, Way};
+use crate::operand::OperandKind;
+use eu_base::{Bytes, Change, Kind, NoMemory, Operation, RequestName, Shape, TextOperation, Way};
 use itoa::Buffer;
 use std::alloc::Global;
 
@@ -18,7 +19,7 @@ pub fn listing(alloc: Global, code: &Code) -> Result<Bytes, NoMemory>
     let mut out = Bytes::new(alloc);
     let mut texts = 0usize;
     for (number, line) in code.lines().iter().enumerate() {
-        append_line(&mut out, code.bodies(), texts, number, &line.instr)?;
+        append_line(alloc, &mut out, code.bodies(), texts, number, &line.instr)?;
         texts = texts_with(texts, &line.instr)?;
     }
     Ok(out)
@@ -35,6 +36,7 @@ fn texts_with(texts: usize, instr: &Instr) -> Result<usize, NoMemory>
 }
 
 fn append_line(
+    alloc: Global,
     out: &mut Bytes,
     bodies: &[Entry],
     texts: usize,
@@ -45,13 +47,14 @@ fn append_line(
 {
     append_number(out, number)?;
     out.append(b" ")?;
-    append_instr(out, bodies, texts, instr)?;
+    append_instr(alloc, out, bodies, texts, instr)?;
     out.append(b"\n")?;
     Ok(())
 }
 
 // An arm an instruction, so it is as long as there are instructions.
 fn append_instr(
+    alloc: Global,
     out: &mut Bytes,
     bodies: &[Entry],
     texts: usize,
@@ -78,13 +81,22 @@ fn append_instr(
             append_with(out, b" ", usize::from(*cells))
         }
         Instr::Field(cells) => append_with(out, b"FIELD ", usize::from(*cells)),
-        Instr::Load(kind) => {
-            out.append(b"LOAD ")?;
-            out.append(kind_word(*kind))
+        Instr::Pick(count, cells) => {
+            append_with(out, b"PICK ", usize::from(*count))?;
+            append_with(out, b" ", usize::from(*cells))
         }
-        Instr::Store(kind) => {
+        Instr::Take(of, from, cells) => {
+            append_with(out, b"TAKE ", usize::from(*of))?;
+            append_with(out, b" ", usize::from(*from))?;
+            append_with(out, b" ", usize::from(*cells))
+        }
+        Instr::Load(shape) => {
+            out.append(b"LOAD ")?;
+            append_shape(out, shape)
+        }
+        Instr::Store(shape) => {
             out.append(b"STORE ")?;
-            out.append(kind_word(*kind))
+            append_shape(out, shape)
         }
         Instr::Do(operation) => {
             out.append(b"DO ")?;
@@ -119,7 +131,7 @@ fn append_instr(
         Instr::ErrorStop => out.append(b"DO errorstop"),
         Instr::Call(body) => {
             append_with(out, b"CALL ", first_of(bodies, *body))?;
-            append_with(out, b" ", cells_of_frame(bodies, *body)?)
+            append_with(out, b" ", cells_of_frame(alloc, bodies, *body)?)
         }
         Instr::Refer(body) => append_with(out, b"REFER ", first_of(bodies, *body)),
         Instr::Back(_) => out.append(b"BACK"),
@@ -139,27 +151,53 @@ fn first_of(bodies: &[Entry], body: usize) -> usize
 }
 
 // How many cells a body's frame has for its parameters and variables.
-fn cells_of_frame(bodies: &[Entry], body: usize) -> Result<usize, NoMemory>
+fn cells_of_frame(alloc: Global, bodies: &[Entry], body: usize) -> Result<usize, NoMemory>
     ensures { IfOk result (λ cells. cells ≡ cells_of_frame (slice_get bodies.now body)) }
 {
     match bodies.get(body) {
-        Some(entry) => cells_of(&entry.layout),
+        Some(entry) => cells_of(alloc, &entry.layout),
         None => Ok(0),
     }
 }
 
-fn cells_of(layout: &Layout) -> Result<usize, NoMemory>
+fn cells_of(alloc: Global, layout: &Layout) -> Result<usize, NoMemory>
     ensures { IfOk result (λ cells. cells ≡ length (cells_of layout.now)) }
 {
     match layout {
         Layout::Own {
             parameters,
             variables,
-        } => parameters
-            .len()
+        } => cells_of_all(alloc, parameters.as_slice())?
             .checked_add(variables.len())
             .ok_or(NoMemory),
         Layout::Of(_) | Layout::Level => Ok(0),
+    }
+}
+
+fn cells_of_all(alloc: Global, parameters: &[OperandKind]) -> Result<usize, NoMemory>
+    ensures { IfOk result (λ cells. cells ≡ length (flat_map cell_uses parameters.now)) }
+{
+    let mut cells = 0usize;
+    for parameter in parameters {
+        cells = cells
+            .checked_add(cells_of_one(alloc, parameter)?)
+            .ok_or(NoMemory)?;
+    }
+    Ok(cells)
+}
+
+fn cells_of_one(alloc: Global, parameter: &OperandKind) -> Result<usize, NoMemory>
+    ensures { IfOk result (λ cells. cells ≡ length (cell_uses parameter.now)) }
+{
+    match parameter {
+        OperandKind::Value(shape) => {
+            let cells = shape.kinds(alloc, usize::MAX)?.len();
+            if cells == usize::MAX {
+                return Err(NoMemory);
+            }
+            Ok(cells)
+        }
+        OperandKind::Place(_) => Ok(1),
     }
 }
 
@@ -202,6 +240,39 @@ fn kind_word(kind: Kind) -> &'static [u8]
         Kind::Truth => b"BOOL",
         Kind::Text => b"TEXT",
     }
+}
+
+// A shape, with commas and no blanks between its parts.
+#[cycle(shapes)]
+fn append_shape(out: &mut Bytes, shape: &Shape) -> Result<(), NoMemory>
+    ensures { OnOk result (out.new ≡ out.old ++ shape_text shape.now) }
+{
+    match shape {
+        Shape::Cell(kind) => out.append(kind_word(*kind)),
+        Shape::Row(count, of) => {
+            append_with(out, b"ROW ", usize::from(*count))?;
+            out.append(b" ")?;
+            append_shape(out, of.get())
+        }
+        Shape::Struct(parts) => {
+            out.append(b"STRUCT(")?;
+            append_shapes(out, parts.as_slice())?;
+            out.append(b")")
+        }
+    }
+}
+
+#[cycle(shapes)]
+fn append_shapes(out: &mut Bytes, shapes: &[Shape]) -> Result<(), NoMemory>
+    ensures { OnOk result (out.new ≡ out.old ++ listed (map shape_text shapes.now)) }
+{
+    for (index, shape) in shapes.iter().enumerate() {
+        if index > 0 {
+            out.append(b",")?;
+        }
+        append_shape(out, shape)?;
+    }
+    Ok(())
 }
 
 fn way_word(way: Way) -> &'static [u8]

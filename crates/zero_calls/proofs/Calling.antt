@@ -1,13 +1,14 @@
 -- Calls and refinements: how a body is entered.
 use Rattle.std.proofs.Common.{◌≡◌, ℕ, zero, suc, ◌+◌, ◌-◌, ◌≤◌, ◌<◌, ◌^◌, min, Bool, true, false, cond, List, [], ◌∷◌, ◌++◌, map, length, take, drop, Some, None}
-use Rattle.std.proofs.Common.{refl, sym, ap, ◌∙◌, subst, arith, length-append, inl, inr}
-use Rattle.std.specs.Prelude.{Result, Ok, Err, IfOk, not, reverse}
+use Rattle.std.proofs.Common.{refl, sym, ap, ◌∙◌, subst, arith, length-append, append_assoc, inl, inr}
+use Rattle.std.specs.Prelude.{Result, Ok, Err, IfOk, not, reverse, flat_map}
 use Rattle.std.proofs.lemmas.Bool.{le-leb, lt-leb, leb-true, leb-false}
-use Rattle.std.proofs.lemmas.List.{length-reverse, length-map, length-take-le, map-append, reverse-append}
+use Rattle.std.proofs.lemmas.List.{length-map, map-append, reverse-append}
 use Rattle.eu_base.specs.declared.address.TheConstants.{CELLS}
 use Rattle.eu_base.specs.declared.set.Set.{Set}
 use Rattle.eu_base.specs.declared.set.Set.TheVariants.{Done, HeapFull}
 use Rattle.eu_base.specs.declared.value.Kind.{Kind}
+use Rattle.eu_base.specs.declared.value.Value.{Value}
 use Rattle.eu_base.specs.declared.value.Kind.TheVariants as kinds
 use Rattle.eu_base.specs.declared.stop.Stop.TheVariants as stops
 use Rattle.eu_base.specs.Values.{blank_of}
@@ -21,18 +22,19 @@ use Rattle.code_form.specs.declared.code.Entry.{Entry}
 use Rattle.code_form.specs.declared.code.Layout.{Layout}
 use Rattle.code_form.specs.declared.code.Layout.TheVariants.{Own}
 use Rattle.code_form.specs.declared.operand.Operand.{Operand}
-use Rattle.code_form.specs.declared.operand.Operand.TheVariants.{Value as Of, Place as At}
+use Rattle.code_form.specs.declared.operand.Operand.TheVariants.{Value as Of, Place as At, Aggregate}
 use Rattle.code_form.specs.declared.operand.OperandKind.{OperandKind}
 use Rattle.code_form.specs.Machine.{Frame, Position, Control, free, After, To, Stops, Unsaid, Spends, Stage, On, base_of, are_free}
 use Rattle.code_form.specs.Program.{Program}
-use Rattle.code_form.specs.Machine.{content_blocks, enters, calls_to, refer_move, held_of_operand, frame_contents, link_contents, written_from, back_into}
+use Rattle.code_form.specs.Machine.{content_blocks, enters, calls_to, refer_move, held_cells, frame_contents, link_contents, written_from, back_into}
 use Rattle.code_form.specs.Machine.{out_to, stage}
 use Rattle.zero_state.specs.Finds.{IsCallable, IsInside, is_in_proc}
 use Rattle.zero_state.specs.Stacked.{Stacked}
 use Rattle.zero_state.specs.Stepping.{scene_of, stage_of, halt_of, AreLike, Does, Steps}
-use Rattle.zero_state.proofs.Room.{same_like, like_length}
+use Rattle.zero_state.proofs.Room.{same_like}
 use Rattle.zero_state.proofs.Blocks.{has_room, has_none}
-use Rattle.zero_state.proofs.Emptied.{emptied, emptied_like, emptied_bare}
+use Rattle.zero_state.specs.Emptied.{emptied, emptied_operand}
+use Rattle.zero_state.proofs.Emptied.{emptied_operand_like, emptied_bare}
 use Rattle.zero_state.proofs.Making.{done, plain_steps, steps_at, unspent, spent}
 use Rattle.zero_calls.specs.Frames.{paid_stage, AreFree, PutsFrom, EntersSo}
 use Rattle.zero_state.proofs.Stacks.{taken_all}
@@ -47,20 +49,15 @@ all_free : (at : ℕ) (contents : List Cell) → are_free at contents (λ _. Fre
 all_free at [] = refl
 all_free at (n ∷ ns) = all_free (suc at) ns
 
-pub frame_length : (args : List Operand) (variables : List Kind) → length (frame_contents args variables) ≡ 2 + length args + length variables
+pub frame_length : (args : List Operand) (variables : List Kind) → length (frame_contents args variables) ≡ 2 + length (flat_map held_cells args) + length variables
 frame_length args variables =
     omega (
       arith,
-      length-append (map held_of_operand args) (map (λ k. held_of (blank_of k)) variables),
-      length-map args held_of_operand,
+      length-append (flat_map held_cells args) (map (λ k. held_of (blank_of k)) variables),
       length-map variables (λ k. held_of (blank_of k)),
     )
 
 -- the newest operands, with "" in the place of each text
-abbrev emptied_operand : Operand → Operand
-emptied_operand (Of v) = Of (emptied v)
-emptied_operand (At a) = At a
-
 abbrev newest_emptied : ℕ → List Operand → List Operand
 newest_emptied zero ops = ops
 newest_emptied (suc n) [] = []
@@ -69,8 +66,7 @@ newest_emptied (suc n) (o ∷ ops) = emptied_operand o ∷ newest_emptied n ops
 like_emptied : (n : ℕ) (ops : List Operand) → AreLike ops (newest_emptied n ops)
 like_emptied zero ops = same_like ops
 like_emptied (suc n) [] = tt
-like_emptied (suc n) (Of v ∷ ops) = (emptied_like v, like_emptied n ops)
-like_emptied (suc n) (At a ∷ ops) = ((λ cell. cell), like_emptied n ops)
+like_emptied (suc n) (o ∷ ops) = (emptied_operand_like o, like_emptied n ops)
 
 take_emptied : (n : ℕ) (ops : List Operand) → take n (newest_emptied n ops) ≡ map emptied_operand (take n ops)
 take_emptied zero ops = refl
@@ -98,11 +94,39 @@ variables_bare : (variables : List Kind) → content_blocks (map (λ k. held_of 
 variables_bare [] = refl
 variables_bare (k ∷ variables) = let rest = variables_bare variables in let here = blank_bare k in omega (arith, rest, here)
 
+values_bare : (vs : List Value) (rest : List Cell) → content_blocks rest ≡ 0 → content_blocks (map held_of (map emptied vs) ++ rest) ≡ 0
+values_bare [] rest bare = bare
+values_bare (v ∷ vs) rest bare = let more = values_bare vs rest bare in let here = emptied_bare v in omega (arith, more, here)
+
+operand_bare : (o : Operand) (rest : List Cell) → content_blocks rest ≡ 0 → content_blocks (held_cells (emptied_operand o) ++ rest) ≡ 0
+operand_bare (Of v) rest bare = let here = emptied_bare v in omega (arith, bare, here)
+operand_bare (At a) rest bare = omega (arith, bare)
+operand_bare (Aggregate vs) rest bare = values_bare vs rest bare
+
 operands_bare : (args : List Operand) (rest : List Cell) → content_blocks rest ≡ 0
-    → content_blocks (map held_of_operand (map emptied_operand args) ++ rest) ≡ 0
+    → content_blocks (flat_map held_cells (map emptied_operand args) ++ rest) ≡ 0
 operands_bare [] rest bare = bare
-operands_bare (Of v ∷ args) rest bare = let more = operands_bare args rest bare in let here = emptied_bare v in omega (arith, more, here)
-operands_bare (At a ∷ args) rest bare = let more = operands_bare args rest bare in omega (arith, more)
+operands_bare (o ∷ args) rest bare =
+    ap content_blocks (append_assoc (held_cells (emptied_operand o)) (flat_map held_cells (map emptied_operand args)) rest)
+    ∙ operand_bare o (flat_map held_cells (map emptied_operand args) ++ rest) (operands_bare args rest bare)
+
+-- and as many cells
+emptied_many : (o : Operand) → length (held_cells (emptied_operand o)) ≡ length (held_cells o)
+emptied_many (Of v) = refl
+emptied_many (At a) = refl
+emptied_many (Aggregate vs) =
+    length-map (map emptied vs) held_of ∙ length-map vs emptied ∙ sym (length-map vs held_of)
+
+operands_many : (args : List Operand) → length (flat_map held_cells (map emptied_operand args)) ≡ length (flat_map held_cells args)
+operands_many [] = refl
+operands_many (o ∷ args) =
+    omega (
+      arith,
+      emptied_many o,
+      operands_many args,
+      length-append (held_cells (emptied_operand o)) (flat_map held_cells (map emptied_operand args)),
+      length-append (held_cells o) (flat_map held_cells args),
+    )
 
 frame_bare : (args : List Operand) (variables : List Kind) → content_blocks (frame_contents (map emptied_operand args) variables) ≡ 0
 frame_bare args variables =
@@ -110,7 +134,8 @@ frame_bare args variables =
 
 -- what is said of a body that is entered with so many operands, more of which are pending
 module _ (before after : Cells → Type 0) (pc used first base : ℕ) (refines : Bool) (body count more : ℕ) (s : Stacked) (variables : List Kind)
-    (many : count ≤ length s.ops) (size : more ≡ min (2 + count + length variables) (2 ^ 64 - 1)) where
+    (many : count ≤ length s.ops) (args : List Operand) (args_is : args ≡ reverse (take count s.ops))
+    (size : more ≡ min (2 + length (flat_map held_cells args) + length variables) (2 ^ 64 - 1)) where
   abbrev standing : List Operand → Position
   standing ops = record { pc = pc; ops = ops; used = used; frames = s.frames }
 
@@ -120,9 +145,15 @@ module _ (before after : Cells → Type 0) (pc used first base : ℕ) (refines :
   abbrev Goes_into : Control → Next → Type 0
   Goes_into = EntersSo before after first base refines body count variables (standing s.ops)
 
-  sizes : (ops : List Operand) → length ops ≡ length s.ops → length (contents ops) ≡ 2 + count + length variables
-  sizes ops same =
-      omega (arith, frame_length (reverse (take count ops)) variables, length-reverse (take count ops), length-take-le count ops (omega (arith, many, same)))
+  -- the cells of the operands that are taken
+  abbrev pub taking : List Operand → ℕ
+  taking ops = length (flat_map held_cells (reverse (take count ops)))
+
+  sizes : (ops : List Operand) → taking ops ≡ length (flat_map held_cells args) → length (contents ops) ≡ 2 + length (flat_map held_cells args) + length variables
+  sizes ops same = omega (arith, frame_length (reverse (take count ops)) variables, same)
+
+  same_args : taking s.ops ≡ length (flat_map held_cells args)
+  same_args = ap (λ l. length (flat_map held_cells l)) (sym args_is)
 
   abbrev inside : ℕ → List Operand → Position
   inside n rest = record {
@@ -143,7 +174,7 @@ module _ (before after : Cells → Type 0) (pc used first base : ℕ) (refines :
 
   -- of cells that are known to be free
   enters_so : (next : Next) (c' : Control) (marks : ℕ)
-      → ((cells : Cells) → before cells → AreFree used (2 + count + length variables) cells → Does after (halt_of next) c' marks
+      → ((cells : Cells) → before cells → AreFree used (2 + length (flat_map held_cells args) + length variables) cells → Does after (halt_of next) c' marks
       (paid_stage (placed (contents s.ops) (drop count s.ops) cells (cells_fit (used + length (contents s.ops))) (texts_room (contents s.ops) cells))
       (standing s.ops) (scene_of cells marks)))
       → (cells : Cells) → before cells → Does after (halt_of next) c' marks
@@ -154,7 +185,7 @@ module _ (before after : Cells → Type 0) (pc used first base : ℕ) (refines :
           (placed (contents s.ops) (drop count s.ops) cells (cells_fit (used + length (contents s.ops))) (texts_room (contents s.ops) cells)) Unsaid)
           (standing s.ops) (scene_of cells marks))
       by true e =
-          so cells h (subst (λ n. AreFree used n cells) (sizes s.ops refl) (known_free used (contents s.ops) cells e))
+          so cells h (subst (λ n. AreFree used n cells) (sizes s.ops same_args) (known_free used (contents s.ops) cells e))
       by false e = tt
 
   -- of cells of which nothing is known
@@ -171,7 +202,7 @@ module _ (before after : Cells → Type 0) (pc used first base : ℕ) (refines :
       → Goes_into (record { position = standing s.ops; waits = w }) CellRoom
   entered_full w none full kept marks =
       let no_room : cells_fit (used + length (contents s.ops)) ≡ false =
-      lt-leb (used + length (contents s.ops)) CELLS (omega (arith, sizes s.ops refl, size, leb-false (used + more) CELLS (sym full))) in
+      lt-leb (used + length (contents s.ops)) CELLS (omega (arith, sizes s.ops same_args, size, leb-false (used + more) CELLS (sym full))) in
       let so : (cells : Cells) → stage_of (halt_of CellRoom) (record { position = standing s.ops; waits = w }) (scene_of cells marks)
       ≡ paid_stage (placed (contents s.ops) (drop count s.ops) cells (cells_fit (used + length (contents s.ops))) (texts_room (contents s.ops) cells))
       (standing s.ops) (scene_of cells marks) =
@@ -188,15 +219,15 @@ module _ (before after : Cells → Type 0) (pc used first base : ℕ) (refines :
       }
 
   module _ (room : true ≡ cells_fit (used + more)) where
-    many_cells : (ops : List Operand) → length ops ≡ length s.ops → used + more ≡ used + length (contents ops)
+    many_cells : (ops : List Operand) → taking ops ≡ length (flat_map held_cells args) → used + more ≡ used + length (contents ops)
     many_cells ops same = omega (arith, sizes ops same, size, leb-true (used + more) CELLS (sym room))
 
-    have : (ops : List Operand) → length ops ≡ length s.ops → cells_fit (used + length (contents ops)) ≡ true
+    have : (ops : List Operand) → taking ops ≡ length (flat_map held_cells args) → cells_fit (used + length (contents ops)) ≡ true
     have ops same =
         le-leb (used + length (contents ops)) CELLS (omega (arith, many_cells ops same, leb-true (used + more) CELLS (sym room)))
 
     -- where texts have room
-    goes_in : (ops : List Operand) (same : length ops ≡ length s.ops) (cells : Cells) (marks : ℕ) → texts_room (contents ops) cells ≡ true
+    goes_in : (ops : List Operand) (same : taking ops ≡ length (flat_map held_cells args)) (cells : Cells) (marks : ℕ) → texts_room (contents ops) cells ≡ true
         → drop count ops ≡ drop count s.ops
         → On (free (inside (used + more) (drop count s.ops))) (scene_of (written_from used (contents ops) cells) marks)
         ≡ paid_stage (placed (contents ops) (drop count ops) cells (cells_fit (used + length (contents ops))) (texts_room (contents ops) cells))
@@ -217,25 +248,24 @@ module _ (before after : Cells → Type 0) (pc used first base : ℕ) (refines :
         ≡ paid_stage (enters (standing others) first base refines body (drop count others) (contents others) (λ _. Free)) (standing others)
         (scene_of (λ _. Free) marks)
     goes_emptied marks =
-        let args : reverse (take count others) ≡ map emptied_operand (reverse (take count s.ops)) =
+        let args' : reverse (take count others) ≡ map emptied_operand (reverse (take count s.ops)) =
         ap reverse (take_emptied count s.ops) ∙ reverse_map emptied_operand (take count s.ops) in
         let bare : content_blocks (contents others) ≡ 0 =
-        ap (λ l. content_blocks (frame_contents l variables)) args ∙ frame_bare (reverse (take count s.ops)) variables in
-        goes_in others (like_length s.ops others (like_emptied count s.ops)) (λ _. Free) marks
+        ap (λ l. content_blocks (frame_contents l variables)) args' ∙ frame_bare (reverse (take count s.ops)) variables in
+        let as_many : taking others ≡ length (flat_map held_cells args) =
+        ap (λ l. length (flat_map held_cells l)) args' ∙ operands_many (reverse (take count s.ops)) ∙ same_args in
+        goes_in others as_many (λ _. Free) marks
         (ap (λ n. texts_fit n (blocks_in (written_from used (contents others) (λ _. Free)))) bare) (drop_emptied count s.ops)
         ∙ enters_free others marks
 
-    module _ (now : List Operand) (is : now ≡ reverse (take count s.ops)) (law : HasRoom after) where
+    module _ (law : HasRoom after) where
       abbrev Puts_frame : Set → Type 0
-      Puts_frame set = (cells : Cells) → before cells → AreFree used (2 + length now + length variables) cells
-          → PutsFrom after used (frame_contents now variables) cells set
+      Puts_frame set = (cells : Cells) → before cells → AreFree used (2 + length (flat_map held_cells args) + length variables) cells
+          → PutsFrom after used (frame_contents args variables) cells set
 
-      frame_put : (set : Set) → Puts_frame set → (cells : Cells) → before cells → AreFree used (2 + count + length variables) cells
+      frame_put : (set : Set) → Puts_frame set → (cells : Cells) → before cells → AreFree used (2 + length (flat_map held_cells args) + length variables) cells
           → PutsFrom after used (contents s.ops) cells set
-      frame_put set puts cells h unknown =
-          let n : 2 + count + length variables ≡ 2 + length now + length variables =
-          omega (arith, ap length is, length-reverse (take count s.ops), length-take-le count s.ops many) in
-          subst (λ l. PutsFrom after used (frame_contents l variables) cells set) is (puts cells h (subst (λ n. AreFree used n cells) n unknown))
+      frame_put set puts cells h unknown = subst (λ l. PutsFrom after used (frame_contents l variables) cells set) args_is (puts cells h unknown)
 
       pub entered_so : (s' : Stacked) (w : Waits) → w ≡ Nothing
           → s' ≡ record { ops = []; frames = record { back = pc + 1; base = base; used = used; refines = refines; body = body; ops = drop count s.ops } ∷ s.frames }
@@ -249,7 +279,7 @@ module _ (before after : Cells → Type 0) (pc used first base : ℕ) (refines :
             does = enters_so On' (free (inside (used + more) (drop count s.ops))) marks (λ cells h unknown.
                 let put = frame_put Done puts cells h unknown in
                 done after None (free (inside (used + more) (drop count s.ops))) marks _ (written_from used (contents s.ops) cells) put
-                (goes_in s.ops refl cells marks
+                (goes_in s.ops same_args cells marks
                 (has_room (content_blocks (contents s.ops)) (blocks_in (written_from used (contents s.ops) cells))
                 (law (written_from used (contents s.ops) cells) put)) refl));
             ops = others;
@@ -270,7 +300,7 @@ module _ (before after : Cells → Type 0) (pc used first base : ℕ) (refines :
                 done after (halt_of TextRoom) (free (standing s.ops)) marks _ cells put.1
                 (ap (λ b. paid_stage (placed (contents s.ops) (drop count s.ops) cells true b) (standing s.ops) (scene_of cells marks)) (sym texts)
                 ∙ ap (λ b. paid_stage (placed (contents s.ops) (drop count s.ops) cells b (texts_room (contents s.ops) cells)) (standing s.ops)
-                (scene_of cells marks)) (sym (have s.ops refl))));
+                (scene_of cells marks)) (sym (have s.ops same_args))));
             ops = others;
             like = like_emptied count s.ops;
             cells = λ _. Free;

@@ -11,8 +11,7 @@ use Rattle.code_form.specs.Machine.{Frame, Position, Control, free, Goes, Unknow
 use Rattle.zero_state.specs.declared.next.Next.TheVariants.{On as On'}
 use Rattle.zero_state.specs.Stepping.{scene_of, stage_by, halt_of, Does, Steps}
 use Rattle.zero_state.proofs.Room.{same_like}
-use Rattle.zero_calls.specs.Frames.{frame_kinds}
-use Rattle.zero_calls.proofs.Freeing.{as_told, told_framed}
+use Rattle.zero_calls.proofs.Freeing.{frame_uses, as_told, told_framed}
 
 module _ (before after : Cells → Type 0) (p : Program) (i : Instr) (c : Position) (f : Frame) (fs : List Frame) (result : List Operand)
     (leads : (cells : Cells) → instruction p (Some i) c cells ≡ back_into p result c.used f fs cells) where
@@ -27,7 +26,7 @@ module _ (before after : Cells → Type 0) (p : Program) (i : Instr) (c : Positi
   pub leaves_so : (c' : Control) → c' ≡ free next → ((cells : Cells) → before cells → framed cells ≡ true → after (freed f.used c.used cells))
       → (marks : ℕ) → Steps before after (stage_by p i marks) c c' marks On'
   leaves_so c' is kept marks =
-      let known : Cells = as_told (frame_kinds (slice_get p.bodies f.body)) f.used in
+      let known : Cells = as_told (frame_uses (slice_get p.bodies f.body)) f.used in
       subst (λ (d : Control). Steps before after (stage_by p i marks) c d marks On') (sym is)
       (record {
         does = λ cells h.
@@ -39,7 +38,7 @@ module _ (before after : Cells → Type 0) (p : Program) (i : Instr) (c : Positi
           freed f.used c.used known,
           sym (ap (λ m. stage m c (scene_of known marks)) (leads known)
               ∙ ap (λ b. stage (cond b (Goes next (freed f.used c.used known)) Unknown) c (scene_of known marks))
-              (told_framed (frame_kinds (slice_get p.bodies f.body)) f.used (c.used - f.used))),
+              (told_framed (frame_uses (slice_get p.bodies f.body)) f.used (c.used - f.used))),
         );
       })
     where

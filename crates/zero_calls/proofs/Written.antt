@@ -1,16 +1,16 @@
 -- What is put into the cells of a frame.
-use Rattle.std.proofs.Common.{◌≡◌, ℕ, zero, suc, ◌+◌, ◌≤◌, List, [], ◌∷◌, ◌++◌, map, length, take, drop, refl, sym, ap, ◌∙◌, subst, arith}
-use Rattle.std.proofs.Common.{append_assoc, append-nil, true, cond, ⊎_elim}
+use Rattle.std.proofs.Common.{◌≡◌, ℕ, zero, suc, ◌+◌, ◌≤◌, List, [], ◌∷◌, ◌++◌, map, length, take, refl, sym, ap, ◌∙◌, subst, arith}
+use Rattle.std.proofs.Common.{true, cond, ⊎_elim}
 use Rattle.std.proofs.Math.Seq.{take-length}
-use Rattle.std.specs.Prelude.{◌&&◌, reverse, slice_get, Some, option_map, get_or, ◌<◌, Result, Ok, Err, OnOk}
+use Rattle.std.specs.Prelude.{◌&&◌, flat_map, slice_get, Some, option_map, get_or, ◌<◌, Result, Ok, Err, OnOk}
 use Rattle.std.proofs.lemmas.Option.{slice_get-map, slice_get-get_or}
-use Rattle.std.proofs.lemmas.List.{reverse-append, length-map, length-take}
+use Rattle.std.proofs.lemmas.List.{length-map, length-take}
 use Rattle.std.proofs.lemmas.Bool.{cases_eq, ne_eqb}
 use Rattle.eu_base.specs.declared.value.Kind.{Kind}
 use Rattle.eu_base.specs.Values.{blank_of}
 use Rattle.eu_base.specs.Cells.{Cell, Free, Word, Letters, Cells, held_of, run_cell, written, cell_blocks, AreBare}
 use Rattle.code_form.specs.declared.operand.Operand.{Operand}
-use Rattle.code_form.specs.Machine.{Move, on_operands, held_of_operand, is_free, are_free, link_contents, frame_contents, written_from}
+use Rattle.code_form.specs.Machine.{held_cells, is_free, are_free, link_contents, frame_contents, written_from}
 use Rattle.zero_calls.specs.Frames.{AreFree}
 
 pub written_append : (at : ℕ) (ns ms : List Cell) (cells : Cells) → written_from at (ns ++ ms) cells ≡ written_from (at + length ns) ms (written_from at ns cells)
@@ -22,15 +22,14 @@ written_append at (n ∷ ns) ms cells =
 -- the cells of the call, then what the parameters hold, then the variables
 pub frame_written : (at : ℕ) (args : List Operand) (variables : List Kind) (cells : Cells)
     → written_from at (frame_contents args variables) cells
-    ≡ written_from (at + 2 + length args) (map (λ k. held_of (blank_of k)) variables)
-    (written_from (at + 2) (map held_of_operand args) (written_from at link_contents cells))
+    ≡ written_from (at + 2 + length (flat_map held_cells args)) (map (λ k. held_of (blank_of k)) variables)
+    (written_from (at + 2) (flat_map held_cells args) (written_from at link_contents cells))
 frame_written at args variables cells =
-    let ns = map held_of_operand args in
+    let ns = flat_map held_cells args in
     let ms = map (λ k. held_of (blank_of k)) variables in
     let before = written_from at link_contents cells in
     let e : suc (suc at) ≡ at + 2 = omega arith in
-    let f : at + 2 + length ns ≡ at + 2 + length args = ap (λ k. at + 2 + k) (length-map args held_of_operand) in
-    ap (λ k. written_from k (ns ++ ms) before) e ∙ written_append (at + 2) ns ms before ∙ ap (λ k. written_from k ms (written_from (at + 2) ns before)) f
+    ap (λ k. written_from k (ns ++ ms) before) e ∙ written_append (at + 2) ns ms before
 
 -- what was written changes nothing of other cells
 pub at_other : (cells : Cells) (k x : ℕ) (n : Cell) → (x ≡ k → ⊥) → written cells (run_cell k) n (run_cell x) ≡ cells (run_cell x)

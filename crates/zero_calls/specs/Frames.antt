@@ -1,19 +1,14 @@
 -- Frames of bodies.
-use Rattle.std.specs.Prelude.{◌≡◌, ℕ, ◌+◌, ◌<◌, ◌≤◌, Bool, true, false, List, [], ◌∷◌, reverse, take, drop, Option, Some, None, slice_get}
+use Rattle.std.specs.Prelude.{◌≡◌, ℕ, ◌+◌, ◌-◌, ◌<◌, ◌≤◌, Bool, true, false, List, [], ◌∷◌, ◌++◌, reverse, take, drop, Option, Some, None, slice_get}
 use Rattle.eu_base.specs.declared.set.Set.{Set}
 use Rattle.eu_base.specs.declared.set.Set.TheVariants.{Done, HeapFull}
 use Rattle.eu_base.specs.declared.value.Kind.{Kind}
 use Rattle.eu_base.specs.declared.value.Kind.TheVariants as kinds
-use Rattle.eu_base.specs.declared.value.Value.{Value}
 use Rattle.eu_base.specs.Room.{most_blocks}
-use Rattle.eu_base.specs.Cells.{Cell, Free, Cells, run_cell, cell_blocks, blocks_in, HasText}
-use Rattle.code_form.specs.declared.code.Entry.{Entry}
+use Rattle.eu_base.specs.Cells.{Cell, Free, Cells, run_cell, freed, cell_blocks, blocks_in, HasText}
 use Rattle.code_form.specs.declared.operand.Operand.{Operand}
-use Rattle.code_form.specs.declared.operand.Operand.TheVariants.{Value as Of}
-use Rattle.code_form.specs.declared.operand.OperandKind.{OperandKind}
-use Rattle.code_form.specs.declared.operand.OperandKind.TheVariants.{Value as OfKind, Place as AtKind}
-use Rattle.code_form.specs.Program.{layout_of, cells_at}
-use Rattle.code_form.specs.Machine.{Position, Control, free, After, Scene, Stage, frame_contents, written_from, enters, after_stage}
+use Rattle.code_form.specs.Program.{CellUse}
+use Rattle.code_form.specs.Machine.{Position, Control, free, After, Scene, Stage, frame_contents, written_from, are_of, enters, after_stage}
 use Rattle.zero_state.specs.declared.next.Next.{Next}
 use Rattle.zero_state.specs.Stepping.{scene_of, Steps}
 
@@ -35,20 +30,21 @@ abbrev pub HoldsText : Bool → Cell → Type 0
 HoldsText true x = HasText x
 HoldsText false x = cell_blocks x ≡ 0
 
--- the tables say that a cell of a frame holds a text
-abbrev pub is_text_kind : Option OperandKind → Bool
-is_text_kind None = false
-is_text_kind (Some (OfKind kinds.Int)) = false
-is_text_kind (Some (OfKind kinds.Truth)) = false
-is_text_kind (Some (OfKind kinds.Text)) = true
-is_text_kind (Some (AtKind k)) = false
-
-abbrev pub frame_kinds : Option Entry → List OperandKind
-frame_kinds e = OfKind kinds.Int ∷ OfKind kinds.Int ∷ cells_at (layout_of e)
+-- a cell of this kind holds a text
+abbrev pub is_text_kind : Kind → Bool
+is_text_kind kinds.Int = false
+is_text_kind kinds.Truth = false
+is_text_kind kinds.Text = true
 
 -- what follows a spent mark, where nothing is waited for
 abbrev pub paid_stage : After → Position → Scene → Stage
 paid_stage a c s = after_stage a (free c) s
+
+-- what was freed up to a cell is freed up to another, where the cells from the first on, up to the end of the frame, are known to hold what
+-- they are used for
+abbrev pub FreesTo : (before after : Cells → Type 0) → List CellUse → (at end until : ℕ) → Type 0
+FreesTo before after us at end until = (from : ℕ) (cells : Cells) (rest : List CellUse) → from ≤ at → before (freed from at cells)
+    → are_of (us ++ rest) at (until - at) cells ≡ true → after (freed from end cells)
 
 -- a body is entered so with so many of the pending operands, or has no room
 abbrev pub EntersSo : (before after : Cells → Type 0) → (first base : ℕ) → Bool → (body count : ℕ) → List Kind → Position → Control → Next → Type 0
@@ -58,6 +54,6 @@ EntersSo before after first base refines body count variables c c' next = (marks
     c c' marks next
 
 -- what comes back with a result
-abbrev pub result_ops : Option Value → List Operand
+abbrev pub result_ops : Option Operand → List Operand
 result_ops None = []
-result_ops (Some v) = Of v ∷ []
+result_ops (Some o) = o ∷ []

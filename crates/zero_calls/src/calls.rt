@@ -1,21 +1,21 @@
 //! Calls, refinements, and how they are left.
-ghost use Rattle.std.specs.Prelude.{◌≡◌, ℕ, ◌+◌, ◌-◌, ◌^◌, min, ◌≤◌, ◌∷◌, ◌++◌, List, length, true, Some, slice_get, OnOk, IfOk};
+ghost use Rattle.std.specs.Prelude.{◌≡◌, ℕ, ◌+◌, ◌-◌, ◌^◌, min, ◌≤◌, ◌∷◌, ◌++◌, List, flat_map, length, true, Some, slice_get, OnOk, IfOk};
 ghost use Rattle.eu_base.specs.Room.{bytes_fit, cells_fit};
 ghost use Rattle.eu_base.specs.Cells.{Cells, freed, HasFaultCause};
 ghost use Rattle.code_form.specs.declared.instr.Instr.TheVariants as instrs;
 ghost use Rattle.code_form.specs.declared.operand.Operand.{Operand};
 ghost use Rattle.code_form.specs.Program.{Program};
-ghost use Rattle.code_form.specs.Machine.{Move, bytes_on, bytes_of, call_move, refer_move, on_result, is_framed, back_into, out_to, stage};
+ghost use Rattle.code_form.specs.Machine.{Move, held_cells, bytes_on, bytes_of, call_move, refer_move, on_result, is_framed, back_into, out_to, stage};
 ghost use Rattle.zero_state.specs.Finds.{TopResult, IsCallable, IsInside, is_in_proc};
 ghost use Rattle.zero_state.specs.Stacked.{linked};
 ghost use Rattle.zero_state.specs.Stepping.{position_of, control_of, scene_of, stage_by, IsReady, Steps};
 ghost use Rattle.zero_state.specs.declared.next.Next.TheVariants as nexts;
 ghost use Rattle.zero_calls.specs.Frames.{EntersSo, result_ops};
 
-use crate::frames::write_frame;
-use crate::texts::free_frame;
+use crate::frames::{cells_of_all, write_frame};
+use crate::release::free_frame;
 use code_form::{Code, Entry, Layout, Operand};
-use eu_base::{Kind, MemFault, Memory, NoMemory, Set, Value};
+use eu_base::{Kind, MemFault, Memory, NoMemory, Set, Shape};
 use zero_state::{Link, Next, Stack, State, have_room};
 
 /// CALL
@@ -100,11 +100,12 @@ fn enter<M: Memory>(
     ensures cause { HasFaultCause (M.faults m.old) (M.faults m.new) result }
     ensures follows { M.follows m.old m.new }
 {
-    let more = frame_size(count, variables.len());
+    let operands = s.stack.top(count);
+    let more = frame_size(operands, variables.len());
     if !have_room(s.used, more) {
         return Ok(Next::CellRoom);
     }
-    if let Set::HeapFull = write_frame(m, s.used, s.stack.top(count), variables)? {
+    if let Set::HeapFull = write_frame(m, s.used, operands, variables)? {
         return Ok(Next::TextRoom);
     }
     let link = Link {
@@ -121,10 +122,12 @@ fn enter<M: Memory>(
 }
 
 // The cells of a frame. More than can be counted have no room anyway.
-fn frame_size(parameters: usize, variables: usize) -> usize
-    ensures { result ≡ min (2 + parameters + variables) (2 ^ 64 - 1) }
+fn frame_size(operands: &[Operand], variables: usize) -> usize
+    ensures { result ≡ min (2 + length (flat_map held_cells operands.now) + variables) (2 ^ 64 - 1) }
 {
-    parameters.saturating_add(variables).saturating_add(2)
+    cells_of_all(operands)
+        .saturating_add(variables)
+        .saturating_add(2)
 }
 
 /// BACK
@@ -132,17 +135,17 @@ pub fn back<M: Memory>(
     code: &Code,
     s: &mut State,
     m: &mut M,
-    kind: Option<Kind>,
+    delivers: &Option<Shape>,
 ) -> Result<(), MemFault>
     requires ready { IsReady s.old }
-    requires result { TopResult kind s.old.stack.ops }
+    requires result { TopResult delivers.now s.old.stack.ops }
     requires inside { IsInside s.old.stack.frames }
-    ensures goes { OnOk result ((marks : ℕ) → Steps (M.holds m.old) (M.holds m.new) (stage_by code.now (instrs.Back kind) marks)
+    ensures goes { OnOk result ((marks : ℕ) → Steps (M.holds m.old) (M.holds m.new) (stage_by code.now (instrs.Back delivers.now) marks)
         (position_of s.old) (control_of s.new) marks nexts.On) }
     ensures cause { HasFaultCause (M.faults m.old) (M.faults m.new) result }
     ensures follows { M.follows m.old m.new }
 {
-    let result = take_result(&mut s.stack, kind);
+    let result = take_result(&mut s.stack, delivers);
     let link = leave(&mut s.stack);
     return_from(code, s, m, link, result)
 }
@@ -152,30 +155,30 @@ pub fn back_around<M: Memory>(
     code: &Code,
     s: &mut State,
     m: &mut M,
-    kind: Option<Kind>,
+    delivers: &Option<Shape>,
 ) -> Result<(), MemFault>
     requires ready { IsReady s.old }
-    requires result { TopResult kind s.old.stack.ops }
+    requires result { TopResult delivers.now s.old.stack.ops }
     requires inside { is_in_proc s.old.stack.frames ≡ true }
-    ensures goes { OnOk result ((marks : ℕ) → Steps (M.holds m.old) (M.holds m.new) (stage_by code.now (instrs.Out kind) marks)
+    ensures goes { OnOk result ((marks : ℕ) → Steps (M.holds m.old) (M.holds m.new) (stage_by code.now (instrs.Out delivers.now) marks)
         (position_of s.old) (control_of s.new) marks nexts.On) }
     ensures cause { HasFaultCause (M.faults m.old) (M.faults m.new) result }
     ensures follows { M.follows m.old m.new }
 {
-    let result = take_result(&mut s.stack, kind);
+    let result = take_result(&mut s.stack, delivers);
     let link = leave_proc(&mut s.stack);
     return_from(code, s, m, link, result)
 }
 
 // Takes the result, where there is one.
-fn take_result(stack: &mut Stack, kind: Option<Kind>) -> Option<Value>
-    requires { TopResult kind stack.old.ops }
-    ensures taken { (go : List Operand → Move) → on_result kind stack.old.ops go ≡ go (result_ops result) }
+fn take_result(stack: &mut Stack, delivers: &Option<Shape>) -> Option<Operand>
+    requires { TopResult delivers.now stack.old.ops }
+    ensures taken { (go : List Operand → Move) → on_result delivers.now stack.old.ops go ≡ go (result_ops result) }
     ensures rest { stack.old.ops ≡ result_ops result ++ stack.new.ops }
     ensures frames { stack.new.frames ≡ stack.old.frames }
 {
-    match kind {
-        Some(_) => Some(stack.pop_value()),
+    match delivers {
+        Some(_) => Some(stack.pop()),
         None => None,
     }
 }
@@ -212,7 +215,7 @@ fn return_from<M: Memory>(
     s: &mut State,
     m: &mut M,
     link: Link,
-    value: Option<Value>,
+    value: Option<Operand>,
 ) -> Result<(), MemFault>
     requires room { bytes_fit (bytes_on (result_ops value ++ s.old.stack.ops) (bytes_of s.old.stack.frames)) ≡ true }
     requires cells { cells_fit s.old.used ≡ true }
@@ -225,11 +228,11 @@ fn return_from<M: Memory>(
 {
     let until = s.used;
     return_with(s, link, value)?;
-    free_frame(code, link.body, m, link.used, until)
+    free_frame(s.alloc, code, link.body, m, link.used, until)
 }
 
 // Goes on where a frame was made, with the result.
-fn return_with(s: &mut State, link: Link, value: Option<Value>) -> Result<(), NoMemory>
+fn return_with(s: &mut State, link: Link, value: Option<Operand>) -> Result<(), NoMemory>
     requires { bytes_fit (bytes_on (result_ops value ++ s.old.stack.ops) (bytes_of s.old.stack.frames)) ≡ true }
     ensures { OnOk result (control_of s.new ≡
         record { position = record (position_of s.old) { pc = link.back; ops = result_ops value ++ s.old.stack.ops; used = link.used }; waits = s.old.waits }) }
@@ -237,7 +240,7 @@ fn return_with(s: &mut State, link: Link, value: Option<Value>) -> Result<(), No
     s.pc = link.back;
     s.used = link.used;
     if let Some(value) = value {
-        s.stack.push(Operand::Value(value))?;
+        s.stack.push(value)?;
     }
     Ok(())
 }

@@ -1,12 +1,12 @@
 //! The cells of new frames.
-ghost use Rattle.std.specs.Prelude.{◌≡◌, ◌+◌, ◌≤◌, ◌<◌, [], ◌∷◌, map, length, OnOk, IfOk};
+ghost use Rattle.std.specs.Prelude.{◌≡◌, ◌+◌, ◌-◌, ◌^◌, ◌≤◌, ◌<◌, [], ◌∷◌, map, flat_map, min, length, OnOk, IfOk};
 ghost use Rattle.eu_base.specs.declared.address.TheConstants.{CELLS};
 ghost use Rattle.eu_base.specs.Values.{blank_of};
 ghost use Rattle.eu_base.specs.Cells.{Free, Word, Cells, held_of, run_cell, written, cell_blocks, AreBare, HasFaultCause};
-ghost use Rattle.code_form.specs.Machine.{held_of_operand, link_contents, frame_contents, written_from};
+ghost use Rattle.code_form.specs.Machine.{held_cells, link_contents, frame_contents, written_from};
 ghost use Rattle.zero_calls.specs.Frames.{AreFree, PutsFrom};
 
-use crate::texts::{clear_operands, put_new};
+use crate::texts::{clear_operands, clear_values, put_new};
 use code_form::Operand;
 use eu_base::{Kind, MemFault, Memory, Set, Value};
 use zero_state::run_cell;
@@ -19,8 +19,9 @@ pub fn write_frame<M: Memory>(
     operands: &[Operand],
     variables: &[Kind],
 ) -> Result<Set, MemFault>
-    requires { at + (2 + length operands.now + length variables.now) ≤ CELLS }
-    ensures puts { IfOk result (λ set. (cells : Cells) → M.holds m.old cells → AreFree at (2 + length operands.now + length variables.now) cells →
+    requires { at + (2 + length (flat_map held_cells operands.now) + length variables.now) ≤ CELLS }
+    ensures puts { IfOk result (λ set. (cells : Cells) → M.holds m.old cells →
+        AreFree at (2 + length (flat_map held_cells operands.now) + length variables.now) cells →
         PutsFrom (M.holds m.new) at (frame_contents operands.now variables.now) cells set) }
     ensures cause { HasFaultCause (M.faults m.old) (M.faults m.new) result }
     ensures follows { M.follows m.old m.new }
@@ -28,10 +29,31 @@ pub fn write_frame<M: Memory>(
     write_link(m, at)?;
     match write_operands(m, at + 2, operands)? {
         Set::Done => {
-            write_blanks(m, at + 2 + operands.len(), variables)?;
+            write_blanks(m, at + 2 + cells_of_all(operands), variables)?;
             Ok(Set::Done)
         }
         Set::HeapFull => Ok(Set::HeapFull),
+    }
+}
+
+/// The cells in which operands stand, one after another. More than can be counted have no room anyway.
+pub fn cells_of_all(operands: &[Operand]) -> usize
+    ensures { result ≡ min (length (flat_map held_cells operands.now)) (2 ^ 64 - 1) }
+{
+    let mut cells = 0usize;
+    for operand in operands {
+        cells = cells.saturating_add(cells_of(operand));
+    }
+    cells
+}
+
+/// The cells in which an operand stands.
+pub fn cells_of(operand: &Operand) -> usize
+    ensures { result ≡ length (held_cells operand.now) }
+{
+    match operand {
+        Operand::Value(_) | Operand::Place(_) => 1,
+        Operand::Aggregate(values) => values.len(),
     }
 }
 
@@ -48,25 +70,27 @@ fn write_link<M: Memory>(m: &mut M, at: usize) -> Result<(), MemFault>
 
 // Writes what parameters hold. Where their texts have no room, those that were written are cleared.
 fn write_operands<M: Memory>(m: &mut M, at: usize, operands: &[Operand]) -> Result<Set, MemFault>
-    requires { at + length operands.now ≤ CELLS }
-    ensures puts { IfOk result (λ set. (cells : Cells) → M.holds m.old cells → AreFree at (length operands.now) cells →
-        PutsFrom (M.holds m.new) at (map held_of_operand operands.now) cells set) }
+    requires { at + length (flat_map held_cells operands.now) ≤ CELLS }
+    ensures puts { IfOk result (λ set. (cells : Cells) → M.holds m.old cells → AreFree at (length (flat_map held_cells operands.now)) cells →
+        PutsFrom (M.holds m.new) at (flat_map held_cells operands.now) cells set) }
     ensures cause { HasFaultCause (M.faults m.old) (M.faults m.new) result }
     ensures follows { M.follows m.old m.new }
 {
+    let mut cell = at;
     for (index, operand) in operands.iter().enumerate() {
-        if let Set::HeapFull = write_operand(m, at + index, operand)? {
+        if let Set::HeapFull = write_operand(m, cell, operand)? {
             clear_operands(m, at, &operands[..index])?;
             return Ok(Set::HeapFull);
         }
+        cell += cells_of(operand);
     }
     Ok(Set::Done)
 }
 
 fn write_operand<M: Memory>(m: &mut M, cell: usize, operand: &Operand) -> Result<Set, MemFault>
-    requires { cell < CELLS }
-    ensures puts { IfOk result (λ set. (cells : Cells) → M.holds m.old cells → cells (run_cell cell) ≡ Free →
-        PutsFrom (M.holds m.new) cell (held_of_operand operand.now ∷ []) cells set) }
+    requires { cell + length (held_cells operand.now) ≤ CELLS }
+    ensures puts { IfOk result (λ set. (cells : Cells) → M.holds m.old cells → AreFree cell (length (held_cells operand.now)) cells →
+        PutsFrom (M.holds m.new) cell (held_cells operand.now) cells set) }
     ensures cause { HasFaultCause (M.faults m.old) (M.faults m.new) result }
     ensures follows { M.follows m.old m.new }
 {
@@ -76,7 +100,26 @@ fn write_operand<M: Memory>(m: &mut M, cell: usize, operand: &Operand) -> Result
             write_number(m, cell, u64::from(place.cell))?;
             Ok(Set::Done)
         }
+        Operand::Aggregate(values) => write_values(m, cell, values.as_slice()),
     }
+}
+
+// Writes the values of a row or structure, as `write_operands` does. It stands outside the loop of a run, which is quicker so.
+#[inline(never)]
+fn write_values<M: Memory>(m: &mut M, at: usize, values: &[Value]) -> Result<Set, MemFault>
+    requires { at + length values.now ≤ CELLS }
+    ensures puts { IfOk result (λ set. (cells : Cells) → M.holds m.old cells → AreFree at (length values.now) cells →
+        PutsFrom (M.holds m.new) at (map held_of values.now) cells set) }
+    ensures cause { HasFaultCause (M.faults m.old) (M.faults m.new) result }
+    ensures follows { M.follows m.old m.new }
+{
+    for (index, value) in values.iter().enumerate() {
+        if let Set::HeapFull = write_value(m, at + index, value)? {
+            clear_values(m, at, &values[..index])?;
+            return Ok(Set::HeapFull);
+        }
+    }
+    Ok(Set::Done)
 }
 
 fn write_value<M: Memory>(m: &mut M, cell: usize, value: &Value) -> Result<Set, MemFault>

@@ -3,6 +3,7 @@
 
 pub mod calls;
 mod frames;
+mod release;
 mod texts;
 
 pub use frames::write_blanks;

@@ -1,14 +1,13 @@
 //! Texts in the cells of frames.
-ghost use Rattle.std.specs.Prelude.{◌≡◌, ℕ, ◌+◌, ◌≤◌, ◌<◌, [], ◌∷◌, map, length, true, slice_get, OnOk, IfOk};
+ghost use Rattle.std.specs.Prelude.{◌≡◌, ℕ, ◌+◌, ◌≤◌, ◌<◌, [], ◌∷◌, map, flat_map, length, OnOk, IfOk};
 ghost use Rattle.eu_base.specs.declared.address.TheConstants.{CELLS};
-ghost use Rattle.eu_base.specs.Cells.{Free, Letters, Cells, HasText, run_cell, written, freed, HasFaultCause};
-ghost use Rattle.code_form.specs.Machine.{held_of_operand, is_framed, is_text};
-ghost use Rattle.code_form.specs.Program.{cells_of};
-ghost use Rattle.code_form.specs.declared.operand.OperandKind.TheVariants as kinds;
-ghost use Rattle.zero_calls.specs.Frames.{Stand, PutsFrom, HoldsText, is_text_kind, frame_kinds};
+ghost use Rattle.eu_base.specs.Cells.{Free, Letters, Cells, HasText, held_of, run_cell, written, freed, HasFaultCause};
+ghost use Rattle.code_form.specs.Machine.{held_cells, is_text};
+ghost use Rattle.zero_calls.specs.Frames.{Stand, PutsFrom, HoldsText};
 
-use code_form::{Code, Layout, Operand, OperandKind};
-use eu_base::{Kind, MemFault, Memory, Set, Value};
+use crate::frames::cells_of;
+use code_form::Operand;
+use eu_base::{MemFault, Memory, Set, Value};
 use zero_state::run_cell;
 
 /// Puts a text into a cell of which nothing is known. Where it has no room, nothing is known of the cell, as before.
@@ -27,40 +26,52 @@ pub fn put_new<M: Memory>(m: &mut M, cell: usize, text: &[u8]) -> Result<Set, Me
 
 /// Clears the texts of operands that stand in cells, one after another. Nothing is known of these cells then.
 pub fn clear_operands<M: Memory>(m: &mut M, at: usize, operands: &[Operand]) -> Result<(), MemFault>
-    requires { at + length operands.now ≤ CELLS }
-    ensures cleared { OnOk result ((cells : Cells) → M.holds m.old cells → Stand at (map held_of_operand operands.now) cells →
-        M.holds m.new (freed at (at + length operands.now) cells)) }
+    requires { at + length (flat_map held_cells operands.now) ≤ CELLS }
+    ensures cleared { OnOk result ((cells : Cells) → M.holds m.old cells → Stand at (flat_map held_cells operands.now) cells →
+        M.holds m.new (freed at (at + length (flat_map held_cells operands.now)) cells)) }
     ensures cause { HasFaultCause (M.faults m.old) (M.faults m.new) result }
     ensures follows { M.follows m.old m.new }
 {
-    for (index, operand) in operands.iter().enumerate() {
-        free_cell(m, at + index, is_text(operand))?;
+    let mut cell = at;
+    for operand in operands {
+        clear_operand(m, cell, operand)?;
+        cell += cells_of(operand);
     }
     Ok(())
 }
 
-/// Clears the texts of a body's frame that is left, whose cells go from one up to another. Nothing is known of these cells then.
-pub fn free_frame<M: Memory>(
-    code: &Code,
-    body: usize,
-    m: &mut M,
-    from: usize,
-    until: usize,
-) -> Result<(), MemFault>
-    requires { until ≤ CELLS }
-    ensures freed { OnOk result ((cells : Cells) → M.holds m.old cells → is_framed (slice_get code.now.bodies body) from until cells ≡ true →
-        M.holds m.new (freed from until cells)) }
+// Clears the texts of an operand. Nothing is known of its cells then, as of those from another up to it.
+fn clear_operand<M: Memory>(m: &mut M, cell: usize, operand: &Operand) -> Result<(), MemFault>
+    requires { cell + length (held_cells operand.now) ≤ CELLS }
+    ensures cleared { OnOk result ((from : ℕ) (cells : Cells) → from ≤ cell → M.holds m.old (freed from cell cells) →
+        Stand cell (held_cells operand.now) cells → M.holds m.new (freed from (cell + length (held_cells operand.now)) cells)) }
     ensures cause { HasFaultCause (M.faults m.old) (M.faults m.new) result }
     ensures follows { M.follows m.old m.new }
 {
-    for cell in from..until {
-        free_cell(m, cell, holds_text(code, body, cell - from))?;
+    match operand {
+        Operand::Value(value) => free_cell(m, cell, is_text(value)),
+        Operand::Place(_) => free_cell(m, cell, false),
+        Operand::Aggregate(values) => clear_values(m, cell, values.as_slice()),
+    }
+}
+
+/// Clears the texts of values that stand in cells, one after another. Nothing is known of these cells then, as of those from another up
+/// to them.
+pub fn clear_values<M: Memory>(m: &mut M, at: usize, values: &[Value]) -> Result<(), MemFault>
+    requires { at + length values.now ≤ CELLS }
+    ensures cleared { OnOk result ((from : ℕ) (cells : Cells) → from ≤ at → M.holds m.old (freed from at cells) →
+        Stand at (map held_of values.now) cells → M.holds m.new (freed from (at + length values.now) cells)) }
+    ensures cause { HasFaultCause (M.faults m.old) (M.faults m.new) result }
+    ensures follows { M.follows m.old m.new }
+{
+    for (index, value) in values.iter().enumerate() {
+        free_cell(m, at + index, is_text(value))?;
     }
     Ok(())
 }
 
-// Clears the text of a cell, where it holds one. Nothing is known of the cell then, as of those from another up to it.
-fn free_cell<M: Memory>(m: &mut M, cell: usize, holds_text: bool) -> Result<(), MemFault>
+/// Clears the text of a cell, where it holds one. Nothing is known of the cell then, as of those from another up to it.
+pub fn free_cell<M: Memory>(m: &mut M, cell: usize, holds_text: bool) -> Result<(), MemFault>
     requires { cell < CELLS }
     ensures freed { OnOk result ((from : ℕ) (cells : Cells) → from ≤ cell → M.holds m.old (freed from cell cells) →
         HoldsText holds_text (cells (run_cell cell)) → M.holds m.new (freed from (cell + 1) cells)) }
@@ -82,52 +93,11 @@ fn clear<M: Memory>(m: &mut M, cell: usize) -> Result<(), MemFault>
     Ok(())
 }
 
-fn is_text(operand: &Operand) -> bool
-    ensures { result ≡ is_text (held_of_operand operand.now) }
+fn is_text(value: &Value) -> bool
+    ensures { result ≡ is_text (held_of value.now) }
 {
-    match operand {
-        Operand::Value(value) => match value {
-            Value::Int(_) | Value::Truth(_) => false,
-            Value::Text(_) => true,
-        },
-        Operand::Place(_) => false,
-    }
-}
-
-// Whether a cell of a body's frame holds a text, by its number there. The first two are those of the call.
-fn holds_text(code: &Code, body: usize, cell: usize) -> bool
-    ensures { result ≡ is_text_kind (slice_get (frame_kinds (slice_get code.now.bodies body)) cell) }
-{
-    match code.bodies().get(body) {
-        Some(entry) => cell >= 2 && variable_holds_text(&entry.layout, cell - 2),
-        None => false,
-    }
-}
-
-// Whether a parameter or variable of a body holds a text.
-fn variable_holds_text(layout: &Layout, number: usize) -> bool
-    ensures { result ≡ is_text_kind (slice_get (cells_of layout.now) number) }
-{
-    match layout {
-        Layout::Own {
-            parameters,
-            variables,
-        } => {
-            if number < parameters.len() {
-                parameters.as_slice()[number] == OperandKind::Value(Kind::Text)
-            } else {
-                is_text_variable(variables.as_slice(), number - parameters.len())
-            }
-        }
-        Layout::Of(_) | Layout::Level => false,
-    }
-}
-
-fn is_text_variable(variables: &[Kind], number: usize) -> bool
-    ensures { result ≡ is_text_kind (slice_get (map kinds.Value variables.now) number) }
-{
-    match variables.get(number) {
-        Some(kind) => *kind == Kind::Text,
-        None => false,
+    match value {
+        Value::Int(_) | Value::Truth(_) => false,
+        Value::Text(_) => true,
     }
 }

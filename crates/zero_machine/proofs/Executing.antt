@@ -3,10 +3,11 @@ use Rattle.std.proofs.Common.{◌≡◌, ℕ, ◌+◌, ◌-◌, ◌<◌, List, g
 use Rattle.std.specs.Prelude.{Result, Ok, Err, IfOk, slice_get}
 use Rattle.std.proofs.lemmas.Option.{get_or_from_slice_get}
 use Rattle.eu_base.specs.Cells.{Cells, Within, without}
+use Rattle.eu_base.specs.declared.shape.Shape.{Shape}
 use Rattle.zero_state.specs.declared.next.Next.{Next}
 use Rattle.zero_state.specs.declared.next.Next.TheVariants.{On as On', Marked, Ended}
 use Rattle.code_form.specs.declared.instr.Instr.{Instr}
-use Rattle.code_form.specs.declared.instr.Instr.TheVariants.{Mark}
+use Rattle.code_form.specs.declared.instr.Instr.TheVariants.{Mark, Store}
 use Rattle.code_form.specs.declared.instr.Instr.TheVariants.{Call, Refer, End}
 use Rattle.code_form.specs.declared.waits.Waits.{Waits}
 use Rattle.code_form.specs.declared.waits.Waits.TheVariants.{Nothing}
@@ -68,6 +69,14 @@ pub accesses : {E : Type 0} (result : Result Next E) (before after : Cells → T
     (instr i : Instr) → instr ≡ i → IfOk result (Accesses before after i c c') → IfOk result (Steps before after (stage_by p instr marks) c c' marks)
 accesses (Ok next) before after c c' marks p instr i is h = subst (λ i. Steps before after (stage_by p i marks) c c' marks next) (sym is) (h p marks)
 accesses (Err e) before after c c' marks p instr i is h = tt
+
+-- STORE, which does the same for each shape
+pub stores : {E : Type 0} (result : Result Next E) (before after : Cells → Type 0) (c : Position) (c' : Control) (marks : ℕ) (p : Program)
+    (instr : Instr) (shape : Shape) → instr ≡ Store shape → IfOk result (λ next. (shape : Shape) → Accesses before after (Store shape) c c' next)
+    → IfOk result (Steps before after (stage_by p instr marks) c c' marks)
+stores (Ok next) before after c c' marks p instr shape is h =
+    subst (λ i. Steps before after (stage_by p i marks) c c' marks next) (sym is) (h shape p marks)
+stores (Err e) before after c c' marks p instr shape is h = tt
 
 -- one that looks at no cell, and forgets some or none
 module _ (holds : Cells → Type 0) (p : Program) (instr i : Instr) (marks : ℕ) (c : Position) (c' : Control) (is : instr ≡ i) where

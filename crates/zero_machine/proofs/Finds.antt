@@ -8,62 +8,91 @@ use Rattle.std.proofs.lemmas.Option.{slice_get_within}
 use Rattle.eu_base.specs.declared.address.TheConstants.{CELLS}
 use Rattle.eu_base.specs.declared.value.Kind.{Kind}
 use Rattle.eu_base.specs.declared.value.Kind.TheVariants as kinds
+use Rattle.eu_base.specs.declared.shape.Shape.{Shape}
+use Rattle.eu_base.specs.declared.shape.Shape.TheVariants.{Cell}
+use Rattle.eu_base.specs.Shapes.{cell_kinds}
 use Rattle.eu_base.specs.Operations.{operand_kinds, change_kind}
 use Rattle.eu_base.specs.declared.request.RequestName.{RequestName}
 use Rattle.eu_base.specs.declared.request.Reply.{Reply}
 use Rattle.eu_base.specs.Requests.{request_kinds, request_places, request_size}
 use Rattle.eu_base.specs.Cells.{IsCell, run_cell}
 use Rattle.code_form.specs.declared.operand.Operand.{Operand}
-use Rattle.code_form.specs.declared.operand.Operand.TheVariants.{Value as Of, Place as At}
+use Rattle.code_form.specs.declared.operand.Operand.TheVariants.{Value as Of, Place as At, Aggregate}
 use Rattle.code_form.specs.declared.operand.OperandKind.{OperandKind}
 use Rattle.code_form.specs.declared.operand.OperandKind.TheVariants.{Value as OfKind, Place as AtKind}
 use Rattle.code_form.specs.declared.instr.Instr.{Instr}
-use Rattle.code_form.specs.declared.instr.Instr.TheVariants.{Mark, Number, Truth, Text, Outer, Local, Param, Index, Field, Load, Store, Do, Modify, Jump, False}
+use Rattle.code_form.specs.declared.instr.Instr.TheVariants.{Mark, Number, Truth, Text, Outer, Local, Param, Index, Field, Pick, Take, Load, Store, Do, Modify, Jump, False}
 use Rattle.code_form.specs.declared.instr.Instr.TheVariants.{When, Drop, Limit, Unlimit, Step, Ask, ErrorStop, Call, Refer, Back, Out, End}
 use Rattle.code_form.specs.declared.code.Spot.{Spot}
-use Rattle.code_form.specs.Program.{Program, line_of, instr_of, owner, frame_cells}
+use Rattle.code_form.specs.Program.{Program, line_of, instr_of, owner, CellUse, HoldsValue, HoldsPlace, frame_cells}
 use Rattle.code_form.specs.Machine.{Frame, Position, Control, free, given, base_of}
-use Rattle.code_form.specs.Valid.{pushed_kinds, pushed_operands, request_operands, HasResult, IsCalled, IsFine, IsValid, FitsKinds, FitsFrames, Fits}
-use Rattle.code_form.proofs.Safe.{request_many, fits_behind, level_below, frame_below, by_layout, as_proc, as_refined, same_owner}
-use Rattle.zero_state.specs.Finds.{TopValue, TopPlace, TopBoth, TopValues, TopResult, HasProc, IsInside, is_in_proc, Finds}
+use Rattle.code_form.specs.Valid.{cell_value, cell_place, HasKinds, pushed_kinds, pushed_operands, request_operands, HasResult, IsCalled, IsFine, IsValid, FitsKinds, FitsFrames, Fits}
+use Rattle.code_form.proofs.Safe.{is_one, has_values, request_many, fits_behind, level_below, frame_below, by_layout, as_proc, as_refined, same_owner}
+use Rattle.zero_state.specs.Finds.{is_value, TopValue, TopAny, TopPicked, TopStored, TopPlace, TopBoth, TopValues, TopResult, HasProc, IsInside, is_in_proc, Finds}
 use Rattle.zero_state.specs.Finds.{behind_values, IsVariable, FindsReply}
 
 -- the instruction of a state that fits is the one that stands in the code
 pub the_instr : (p : Program) (c : Position) (fits : Fits p (free c)) (i : Instr) → Some i ≡ instr_of (slice_get p.lines c.pc) → fits.next.0 ≡ i
 the_instr p c fits i e = let f : Some i ≡ Some fits.next.0 = e ∙ ap instr_of fits.next.1 in cc
 
-top_value : (ops : List Operand) (k : Kind) (rest : List OperandKind) → FitsKinds ops (OfKind k ∷ rest) → TopValue ops
+top_value : (ops : List Operand) (k : Kind) (rest : List OperandKind) → FitsKinds ops (cell_value k ∷ rest) → TopValue ops
 top_value [] k rest f = absurd f
 top_value (Of v ∷ ops) k rest f = record { value = v; rest = ops; top = refl }
-top_value (At a ∷ ops) k rest f = absurd f.0
+top_value (At a ∷ ops) k rest f = absurd (is_one (At a) k f.0)
+top_value (Aggregate vs ∷ ops) k rest f = absurd (is_one (Aggregate vs) k f.0)
 
-top_place : (ops : List Operand) (k : Kind) (rest : List OperandKind) → FitsKinds ops (AtKind k ∷ rest) → TopPlace ops
-top_place [] k rest f = absurd f
-top_place (Of v ∷ ops) k rest f = absurd f.0
-top_place (At a ∷ ops) k rest f = record { place = a; rest = ops; top = refl; cell = f.0 }
+-- a value with cells of some kinds is one
+is_one_value : (o : Operand) (ks : List Kind) → HasKinds o ks → is_value o ≡ true
+is_one_value (Of v) ks h = refl
+is_one_value (At a) ks h = absurd (has_values (At a) ks h)
+is_one_value (Aggregate vs) ks h = refl
 
-top_both : (ops : List Operand) (k j : Kind) (rest : List OperandKind) → FitsKinds ops (OfKind k ∷ AtKind j ∷ rest) → TopBoth ops
-top_both [] k j rest f = absurd f
-top_both (At a ∷ ops) k j rest f = absurd f.0
-top_both (Of v ∷ ops) k j rest f =
-    let b = top_place ops j rest f.1 in
+top_any : (ops : List Operand) (s : Shape) (rest : List OperandKind) → FitsKinds ops (OfKind s ∷ rest) → TopAny ops
+top_any [] s rest f = absurd f
+top_any (o ∷ ops) s rest f = record { operand = o; rest = ops; top = refl; value = is_one_value o (cell_kinds s) f.0 }
+
+top_place : (ops : List Operand) (s : Shape) (rest : List OperandKind) → FitsKinds ops (AtKind s ∷ rest) → TopPlace ops
+top_place [] s rest f = absurd f
+top_place (Of v ∷ ops) s rest f = absurd f.0
+top_place (Aggregate vs ∷ ops) s rest f = absurd f.0
+top_place (At a ∷ ops) s rest f = record { place = a; rest = ops; top = refl; cell = f.0 }
+
+top_both : (ops : List Operand) (k : Kind) (s : Shape) (rest : List OperandKind) → FitsKinds ops (cell_value k ∷ AtKind s ∷ rest) → TopBoth ops
+top_both [] k s rest f = absurd f
+top_both (At a ∷ ops) k s rest f = absurd (is_one (At a) k f.0)
+top_both (Aggregate vs ∷ ops) k s rest f = absurd (is_one (Aggregate vs) k f.0)
+top_both (Of v ∷ ops) k s rest f =
+    let b = top_place ops s rest f.1 in
     record { value = v; place = b.place; rest = b.rest; top = ap (λ l. Of v ∷ l) b.top; cell = b.cell }
+
+top_stored : (ops : List Operand) (s : Shape) (rest : List OperandKind) → FitsKinds ops (OfKind s ∷ AtKind s ∷ rest) → TopStored ops
+top_stored [] s rest f = absurd f
+top_stored (o ∷ ops) s rest f =
+    let b = top_place ops s rest f.1 in
+    record { operand = o; place = b.place; rest = b.rest; top = ap (λ l. o ∷ l) b.top; value = is_one_value o (cell_kinds s) f.0; cell = b.cell }
+
+top_picked : (ops : List Operand) (k : Kind) (s : Shape) (rest : List OperandKind) → FitsKinds ops (cell_value k ∷ OfKind s ∷ rest) → TopPicked ops
+top_picked ops k s rest f =
+    let v = top_value ops k (OfKind s ∷ rest) f in
+    let below = top_any v.rest s rest (subst (λ ops. FitsKinds ops (cell_value k ∷ OfKind s ∷ rest)) v.top f).1 in
+    record { number = v.value; operand = below.operand; rest = below.rest; top = v.top ∙ ap (λ l. Of v.value ∷ l) below.top; value = below.value }
 
 top_values : (more : List Kind) (n : ℕ) (rest : List OperandKind) (ops : List Operand) → FitsKinds ops (pushed_kinds more rest)
     → ((ops : List Operand) → FitsKinds ops rest → TopValues n ops) → TopValues (length more + n) ops
 top_values [] n rest ops f h = let e : 0 + n ≡ n = omega arith in subst (λ n. TopValues n ops) (sym e) (h ops f)
 top_values (k ∷ more) n rest ops f h =
     let e : suc (length more) + n ≡ length more + suc n = omega arith in
-    subst (λ n. TopValues n ops) (sym e) (top_values more (suc n) (OfKind k ∷ rest) ops f by)
+    subst (λ n. TopValues n ops) (sym e) (top_values more (suc n) (cell_value k ∷ rest) ops f by)
   where
-    by : (ops : List Operand) → FitsKinds ops (OfKind k ∷ rest) → TopValues (suc n) ops
+    by : (ops : List Operand) → FitsKinds ops (cell_value k ∷ rest) → TopValues (suc n) ops
     by [] f = absurd f
     by (Of v ∷ ops) f = (v, (ops, refl, h ops f.1))
-    by (At a ∷ ops) f = absurd f.0
+    by (At a ∷ ops) f = absurd (is_one (At a) k f.0)
+    by (Aggregate vs ∷ ops) f = absurd (is_one (Aggregate vs) k f.0)
 
-top_result : (kind : Option Kind) (ks : List OperandKind) (ops : List Operand) → HasResult kind ks → FitsKinds ops ks → TopResult kind ops
+top_result : (result : Option Shape) (ks : List OperandKind) (ops : List Operand) → HasResult result ks → FitsKinds ops ks → TopResult result ops
 top_result None ks ops h f = tt
-top_result (Some k) ks ops h f = top_value ops k h.0 (subst (FitsKinds ops) h.1 f)
+top_result (Some s) ks ops h f = top_any ops s h.0 (subst (FitsKinds ops) h.1 f)
 
 -- there are as many operands as kinds
 as_many : (ops : List Operand) (ks : List OperandKind) → FitsKinds ops ks → length ops ≡ length ks
@@ -105,11 +134,12 @@ top_fits (k ∷ more) rest ops f = let h = top_fits more (k ∷ rest) ops f in b
         ap reverse n.0 ∙ reverse-append (take (length more) ops) (o ∷ []) in
         (subst (λ l. FitsKinds l (k ∷ more)) (sym turned) (g.0, h), subst (λ l. FitsKinds l rest) (sym n.1) g.1)
 
-is_variable : (ks : List Kind) (os : List Operand) → FitsKinds os (map AtKind ks) → IsVariable os
+is_variable : (ks : List Kind) (os : List Operand) → FitsKinds os (map cell_place ks) → IsVariable os
 is_variable [] [] f = tt
 is_variable [] (o ∷ os) f = absurd f
 is_variable (k ∷ ks) [] f = absurd f
 is_variable (k ∷ ks) (Of v ∷ os) f = absurd f.0
+is_variable (k ∷ ks) (Aggregate vs ∷ os) f = absurd f.0
 is_variable (k ∷ ks) (At a ∷ os) f = f.0
 
 -- so a request finds what it takes when its reply is there
@@ -122,7 +152,7 @@ finds_reply q rest ops ks is fits =
       taken = asked_many q rest ops ks is fits;
       variable =
           is_variable (request_places q) (behind_values q ops)
-          (fits_behind (request_kinds q) (map AtKind (request_places q)) (reverse (take (request_size q) ops)) here);
+          (fits_behind (request_kinds q) (map cell_place (request_places q)) (reverse (take (request_size q) ops)) here);
     }
 
 module _ (p : Program) (valid : IsValid p) where
@@ -137,7 +167,7 @@ module _ (p : Program) (valid : IsValid p) where
         let b = level_below p valid c.frames fits.spot.body fits.floor fits.frames in
         omega (arith, a, b, fits.used, in_use)
 
-    local_cell : (x : ℕ) (k : OperandKind) → slice_get (frame_cells p fits.spot.body) x ≡ Some k → IsCell (run_cell (base_of c.frames + x))
+    local_cell : (x : ℕ) (k : CellUse) → slice_get (frame_cells p fits.spot.body) x ≡ Some k → IsCell (run_cell (base_of c.frames + x))
     local_cell x k e =
         let a = slice_get_within (frame_cells p fits.spot.body) x k e in
         let b = frame_below p valid c.frames fits.spot.body fits.floor fits.frames in
@@ -193,29 +223,33 @@ module _ (p : Program) (valid : IsValid p) where
     finds_at (Truth b) f = tt
     finds_at (Text t) f = tt
     finds_at (Outer x) f = outer_cell c fits x f.0 f.1
-    finds_at (Local x) f = local_cell c fits x (OfKind f.0) f.1
-    finds_at (Param x) f = local_cell c fits x (AtKind f.0) f.1
+    finds_at (Local x) f = local_cell c fits x (HoldsValue f.0) f.1
+    finds_at (Param x) f = local_cell c fits x HoldsPlace f.0
     finds_at (Index n size) f =
-        let is : ks ≡ OfKind kinds.Int ∷ AtKind f.2.kind ∷ f.2.rest = f.1 ∙ ap (λ rest. OfKind kinds.Int ∷ rest) f.2.taken in
-        top_both c.ops kinds.Int f.2.kind f.2.rest (subst (FitsKinds c.ops) is fits.operands)
-    finds_at (Field n) f = top_place c.ops f.kind f.rest (subst (FitsKinds c.ops) f.taken fits.operands)
-    finds_at (Load kind) f = top_place c.ops kind f.0 (subst (FitsKinds c.ops) f.1 fits.operands)
-    finds_at (Store kind) f = top_both c.ops kind kind f.0 (subst (FitsKinds c.ops) f.1 fits.operands)
+        let is : ks ≡ cell_value kinds.Int ∷ AtKind f.2.shape ∷ f.2.rest = f.1 ∙ ap (λ rest. cell_value kinds.Int ∷ rest) f.2.taken in
+        top_both c.ops kinds.Int f.2.shape f.2.rest (subst (FitsKinds c.ops) is fits.operands)
+    finds_at (Field n) f = top_place c.ops f.shape f.rest (subst (FitsKinds c.ops) f.taken fits.operands)
+    finds_at (Pick n size) f =
+        let is : ks ≡ cell_value kinds.Int ∷ OfKind f.2.shape ∷ f.2.rest = f.1 ∙ ap (λ rest. cell_value kinds.Int ∷ rest) f.2.taken in
+        top_picked c.ops kinds.Int f.2.shape f.2.rest (subst (FitsKinds c.ops) is fits.operands)
+    finds_at (Take cells from size) f = top_any c.ops f.shape f.rest (subst (FitsKinds c.ops) f.taken fits.operands)
+    finds_at (Load s) f = top_place c.ops s f.0 (subst (FitsKinds c.ops) f.1 fits.operands)
+    finds_at (Store s) f = top_stored c.ops s f.0 (subst (FitsKinds c.ops) f.1 fits.operands)
     finds_at (Do op) f = all_values (operand_kinds op) f.0 f.1
-    finds_at (Modify change) f = top_both c.ops (change_kind change) (change_kind change) f.0 (subst (FitsKinds c.ops) f.1 fits.operands)
+    finds_at (Modify change) f = top_both c.ops (change_kind change) (Cell (change_kind change)) f.0 (subst (FitsKinds c.ops) f.1 fits.operands)
     finds_at (Jump a) f = tt
     finds_at (False a) f = top_value c.ops kinds.Truth f.0 (subst (FitsKinds c.ops) f.1 fits.operands)
     finds_at (When z a) f = top_value c.ops kinds.Int f.0 (subst (FitsKinds c.ops) f.1 fits.operands)
     finds_at Drop f = top_value c.ops f.0 f.1.0 (subst (FitsKinds c.ops) f.1.1 fits.operands)
-    finds_at (Limit way a) f = top_both c.ops kinds.Int kinds.Int f.0 (subst (FitsKinds c.ops) f.1 fits.operands)
+    finds_at (Limit way a) f = top_both c.ops kinds.Int (Cell kinds.Int) f.0 (subst (FitsKinds c.ops) f.1 fits.operands)
     finds_at Unlimit f = limited f.0 f.1
-    finds_at (Step way a) f = (top_place c.ops kinds.Int f.2.0 (subst (FitsKinds c.ops) f.2.1 fits.operands), limited f.0 f.1)
+    finds_at (Step way a) f = (top_place c.ops (Cell kinds.Int) f.2.0 (subst (FitsKinds c.ops) f.2.1 fits.operands), limited f.0 f.1)
     finds_at (Ask name) f = asked_many name f.0 c.ops ks f.1 fits.operands
     finds_at ErrorStop f = top_value c.ops kinds.Text f.0 (subst (FitsKinds c.ops) f.1 fits.operands)
     finds_at (Call n) f = has_proc n c.pc ks m c.ops f fits.operands
     finds_at (Refer n) f = record { entry = f.entry; has = f.has }
-    finds_at (Back kind) f = (top_result kind ks c.ops f.top fits.operands, inside c.frames m.body f.number fits.floor f.here fits.frames)
-    finds_at (Out kind) f = (top_result kind ks c.ops f.top fits.operands, in_proc c.frames m.body f.number fits.floor f.proc fits.frames)
+    finds_at (Back result) f = (top_result result ks c.ops f.top fits.operands, inside c.frames m.body f.number fits.floor f.here fits.frames)
+    finds_at (Out result) f = (top_result result ks c.ops f.top fits.operands, in_proc c.frames m.body f.number fits.floor f.proc fits.frames)
     finds_at End f = tt
 
     -- the instruction of a state that fits

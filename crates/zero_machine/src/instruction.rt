@@ -12,6 +12,7 @@ use code_form::{Code, Instr, Operand};
 use eu_base::{MemFault, Memory, NoMemory, Value};
 use zero_calls::calls::{back, back_around, call, refer};
 use zero_state::{Next, State};
+use zero_steps::aggregate::{pick, take};
 use zero_steps::ask::ask;
 use zero_steps::change::modify;
 use zero_steps::operate::operate;
@@ -50,8 +51,13 @@ pub fn execute<M: Memory>(
             field(s, *cells);
             Ok(Next::On)
         }
-        Instr::Load(kind) => load(s, m, *kind),
-        Instr::Store(kind) => store(s, m, *kind),
+        Instr::Pick(count, cells) => computed(pick(s, *count, *cells)),
+        Instr::Take(of, from, cells) => {
+            take(s, *of, *from, *cells)?;
+            Ok(Next::On)
+        }
+        Instr::Load(shape) => load(s, m, shape),
+        Instr::Store(_) => store(s, m),
         Instr::Do(operation) => computed(operate(s, *operation)),
         Instr::Modify(by) => modify(s, m, *by),
         Instr::Jump(to) => {
@@ -83,12 +89,12 @@ pub fn execute<M: Memory>(
         }
         Instr::Call(body) => call(*body, &code.bodies()[*body], s, m, marks),
         Instr::Refer(body) => refer(*body, &code.bodies()[*body], s, m, marks),
-        Instr::Back(kind) => {
-            back(code, s, m, *kind)?;
+        Instr::Back(delivers) => {
+            back(code, s, m, delivers)?;
             Ok(Next::On)
         }
-        Instr::Out(kind) => {
-            back_around(code, s, m, *kind)?;
+        Instr::Out(delivers) => {
+            back_around(code, s, m, delivers)?;
             Ok(Next::On)
         }
         Instr::End => Ok(Next::Ended),

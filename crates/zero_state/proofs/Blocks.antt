@@ -1,13 +1,13 @@
 -- The blocks of the texts that cells hold.
-use Rattle.std.proofs.Common.{◌≡◌, ℕ, zero, suc, ◌<◌, ◌≤◌, Bool, true, false, cond, refl, ap, arith}
+use Rattle.std.proofs.Common.{◌≡◌, ℕ, zero, suc, ◌+◌, ◌<◌, ◌≤◌, Bool, true, false, cond, refl, sym, ap, ◌∙◌, arith, ⊎_elim}
 use Rattle.std.specs.Prelude.{◌&&◌, ◌==◌}
-use Rattle.std.proofs.lemmas.Bool.{le-leb, lt-leb, eqb-true}
+use Rattle.std.proofs.lemmas.Bool.{le-leb, lt-leb, eqb-true, eq-eqb, cases_eq}
 use Rattle.eu_base.specs.declared.address.Addr.{Addr}
 use Rattle.eu_base.specs.declared.address.Area.{Area}
 use Rattle.eu_base.specs.declared.address.Area.TheVariants.{Run}
 use Rattle.eu_base.specs.declared.address.TheConstants.{CELLS}
 use Rattle.eu_base.specs.Room.{most_blocks, texts_fit, total}
-use Rattle.eu_base.specs.Cells.{Cell, Free, Word, Letters, Cells, same_area, same_cell, run_cell, written, cell_blocks, blocks_in, HasText}
+use Rattle.eu_base.specs.Cells.{Cell, Free, Word, Letters, Cells, same_area, same_cell, run_cell, written, cell_blocks, blocks_in, IsCell, HasText}
 use Rattle.code_form.specs.Machine.{takes_number, is_text}
 
 total_most : (f g : ℕ → ℕ) (n : ℕ) → ((k : ℕ) → f k ≤ g k) → total f n ≤ total g n
@@ -44,6 +44,56 @@ blocks_with cells at x none = fewer_blocks cells (written cells at x) (λ a. by 
     by : (a : Addr) (b : Bool) → same_cell a at ≡ b → cell_blocks (cells a) ≤ cell_blocks (cond b x (cells a))
     by a true e = let f = ap (λ a. cell_blocks (cells a)) (same_place a at e) in omega (arith, f, none)
     by a false e = omega arith
+
+-- where one of the summands is another, the sum differs by as much
+total_else : (f g : ℕ → ℕ) (n k : ℕ) → n ≤ k → ((j : ℕ) → (j ≡ k → ⊥) → g j ≡ f j) → total g n ≡ total f n
+unfolding total
+total_else f g zero k le same = refl
+total_else f g (suc n) k le same =
+    let rest = total_else f g n k (omega (arith, le)) same in
+    let last = same n (λ e. omega (arith, e, le)) in omega (arith, rest, last)
+
+total_at : (f g : ℕ → ℕ) (n k : ℕ) → k < n → ((j : ℕ) → (j ≡ k → ⊥) → g j ≡ f j) → total g n + f k ≡ total f n + g k
+unfolding total
+total_at f g zero k lt same = absurd (omega (arith, lt))
+total_at f g (suc n) k lt same = ⊎_elim
+    (λ is.
+    let rest = total_else f g n k (omega (arith, is)) same in
+    let a : f n ≡ f k = ap f is in
+    let b : g n ≡ g k = ap g is in
+    omega (arith, rest, a, b))
+    (λ ne. let rest = total_at f g n k (grind (arith, lt, ne)) same in let last = same n ne in omega (arith, rest, last)) (cases_eq n k)
+
+-- a cell is one of the command
+pub is_run : (a : Addr) → a ≡ run_cell a.cell
+is_run a = by a.area a.cell
+  where
+    place : Area → ℕ → Addr
+    place x k = record { area = x; cell = k }
+
+    by : (x : Area) (k : ℕ) → place x k ≡ run_cell k
+    by Run k = refl
+
+pub same_self : (a : Addr) → same_cell a a ≡ true
+same_self a = ap (λ b. same_cell b b) (is_run a) ∙ eq-eqb a.cell a.cell refl
+
+-- what is put into a cell stands there
+pub written_here : (cells : Cells) (at : Addr) (x : Cell) → written cells at x at ≡ x
+written_here cells at x = ap (λ b. cond b x (cells at)) (same_self at)
+
+-- so the blocks of a cell count as those of what is put into it
+pub blocks_put : (cells : Cells) (at : Addr) (x : Cell) → IsCell at → blocks_in (written cells at x) + cell_blocks (cells at) ≡ blocks_in cells + cell_blocks x
+blocks_put cells at x low =
+    let f : ℕ → ℕ = λ k. cell_blocks (cells (run_cell k)) in
+    let g : ℕ → ℕ = λ k. cell_blocks (written cells at x (run_cell k)) in
+    let e = total_at f g CELLS at.cell low (λ j ne. by j (same_cell (run_cell j) at) refl ne) in
+    let here : f at.cell ≡ cell_blocks (cells at) = ap (λ a. cell_blocks (cells a)) (sym (is_run at)) in
+    let there : g at.cell ≡ cell_blocks x = ap (λ a. cell_blocks (written cells at x a)) (sym (is_run at)) ∙ ap cell_blocks (written_here cells at x) in
+    omega (arith, e, here, there)
+  where
+    by : (j : ℕ) (b : Bool) → same_cell (run_cell j) at ≡ b → (j ≡ at.cell → ⊥) → cell_blocks (cond b x (cells (run_cell j))) ≡ cell_blocks (cells (run_cell j))
+    by j true e ne = absurd (ne (ap (λ (a : Addr). a.cell) (same_place (run_cell j) at e)))
+    by j false e ne = refl
 
 -- texts have room where all of them have few enough blocks, and what takes none has room
 pub has_room : (n used : ℕ) → used ≤ most_blocks → texts_fit n used ≡ true

@@ -1,15 +1,20 @@
 -- Operands of the same kinds fit code, and there is room for less.
-use Rattle.std.proofs.Common.{◌≡◌, ℕ, ◌≤◌, true, List, [], ◌∷◌, length, refl, ◌∙◌, sym, arith}
+use Rattle.std.proofs.Common.{◌≡◌, ℕ, ◌≤◌, true, List, [], ◌∷◌, map, length, refl, ap, ◌∙◌, sym, arith}
 use Rattle.std.proofs.lemmas.Bool.{le-leb, leb-true}
 use Rattle.eu_base.specs.declared.value.TheConstants.{OPERAND_BYTES}
+use Rattle.eu_base.specs.declared.value.Kind.{Kind}
+use Rattle.eu_base.specs.declared.value.Value.{Value}
+use Rattle.eu_base.specs.Values.{kind_of}
+use Rattle.eu_base.specs.Shapes.{cell_kinds}
 use Rattle.eu_base.specs.Room.{bytes_fit}
 use Rattle.code_form.specs.declared.operand.Operand.{Operand}
-use Rattle.code_form.specs.declared.operand.Operand.TheVariants.{Value as Of, Place as At}
+use Rattle.code_form.specs.declared.operand.Operand.TheVariants.{Value as Of, Place as At, Aggregate}
 use Rattle.code_form.specs.declared.operand.OperandKind.{OperandKind}
 use Rattle.code_form.specs.declared.operand.OperandKind.TheVariants.{Value as OfKind, Place as AtKind}
 use Rattle.code_form.specs.Program.{Program}
-use Rattle.code_form.specs.Machine.{Position, free, bytes_on, bytes_of}
-use Rattle.code_form.specs.Valid.{FitsKind, FitsKinds, Fits}
+use Rattle.code_form.specs.Machine.{Position, free, operand_of, operand_bytes, bytes_on, bytes_of}
+use Rattle.code_form.specs.Valid.{HasKinds, IsPlace, FitsKind, FitsKinds, Fits}
+use Rattle.code_form.proofs.Safe.{has_values}
 use Rattle.zero_state.specs.Stepping.{IsLike, AreLike}
 
 -- there is room for less
@@ -21,6 +26,7 @@ pub same_like : (ops : List Operand) → AreLike ops ops
 same_like [] = tt
 same_like (Of v ∷ ops) = ((refl, omega arith), same_like ops)
 same_like (At a ∷ ops) = ((λ cell. cell), same_like ops)
+same_like (Aggregate vs ∷ ops) = ((refl, omega arith), same_like ops)
 
 pub like_length : (ops qs : List Operand) → AreLike ops qs → length qs ≡ length ops
 like_length [] [] like = refl
@@ -28,22 +34,58 @@ like_length [] (q ∷ qs) like = absurd like
 like_length (o ∷ ops) [] like = absurd like
 like_length (o ∷ ops) (q ∷ qs) like = let rest = like_length ops qs like.1 in omega (arith, rest)
 
+like_byte : (o q : Operand) → IsLike o q → operand_bytes q ≤ operand_bytes o
+like_byte (Of v) (Of w) like = like.1
+like_byte (Of v) (At b) like = absurd like
+like_byte (Of v) (Aggregate ws) like = absurd like
+like_byte (At a) (Of w) like = absurd like
+like_byte (At a) (At b) like = omega arith
+like_byte (At a) (Aggregate ws) like = absurd like
+like_byte (Aggregate vs) (Of w) like = absurd like
+like_byte (Aggregate vs) (At b) like = absurd like
+like_byte (Aggregate vs) (Aggregate ws) like = like.1
+
 like_bytes : (ops qs : List Operand) (held : ℕ) → AreLike ops qs → bytes_on qs held ≤ bytes_on ops held
 like_bytes [] [] held like = omega arith
 like_bytes [] (q ∷ qs) held like = absurd like
 like_bytes (o ∷ ops) [] held like = absurd like
-like_bytes (Of v ∷ ops) (Of w ∷ qs) held like = let rest = like_bytes ops qs held like.1 in let here = like.0.1 in omega (arith, rest, here)
-like_bytes (Of v ∷ ops) (At b ∷ qs) held like = absurd like.0
-like_bytes (At a ∷ ops) (Of w ∷ qs) held like = absurd like.0
-like_bytes (At a ∷ ops) (At b ∷ qs) held like = let rest = like_bytes ops qs held like.1 in omega (arith, rest)
+like_bytes (o ∷ ops) (q ∷ qs) held like =
+    let rest = like_bytes ops qs held like.1 in let here = like_byte o q like.0 in omega (arith, rest, here)
+
+-- they are values of the same kinds
+kinds_kept : (vs ws us : List Value) → Aggregate vs ≡ operand_of us → map kind_of vs ≡ map kind_of ws → Aggregate ws ≡ operand_of ws
+kinds_kept vs ws (u ∷ []) e same = absurd (cc e)
+kinds_kept vs [] us e same = refl
+kinds_kept vs (w ∷ x ∷ ws) us e same = refl
+kinds_kept vs (w ∷ []) [] e same =
+    let none : vs ≡ [] = cc e in let f : map kind_of [] ≡ kind_of w ∷ [] = ap (map kind_of) (sym none) ∙ same in absurd (cc f)
+kinds_kept vs (w ∷ []) (u ∷ y ∷ us) e same =
+    let more : vs ≡ u ∷ y ∷ us = cc e in
+    let f : kind_of u ∷ kind_of y ∷ map kind_of us ≡ kind_of w ∷ [] = ap (map kind_of) (sym more) ∙ same in absurd (cc f)
+
+like_kinds_of : (o q : Operand) (ks : List Kind) → IsLike o q → HasKinds o ks → HasKinds q ks
+like_kinds_of (Of v) (Of w) ks like fits = record { values = w ∷ []; is = refl; kinds = ap (λ k. k ∷ []) (sym like.0) ∙ has_values (Of v) ks fits }
+like_kinds_of (Of v) (At b) ks like fits = absurd like
+like_kinds_of (Of v) (Aggregate ws) ks like fits = absurd like
+like_kinds_of (At a) q ks like fits = absurd (has_values (At a) ks fits)
+like_kinds_of (Aggregate vs) (Of w) ks like fits = absurd like
+like_kinds_of (Aggregate vs) (At b) ks like fits = absurd like
+like_kinds_of (Aggregate vs) (Aggregate ws) ks like fits = record {
+  values = ws;
+  is = kinds_kept vs ws fits.values fits.is like.0;
+  kinds = sym like.0 ∙ has_values (Aggregate vs) ks fits;
+}
+
+like_place : (o q : Operand) → IsLike o q → IsPlace o → IsPlace q
+like_place (Of v) q like fits = absurd fits
+like_place (Aggregate vs) q like fits = absurd fits
+like_place (At a) (Of w) like fits = absurd like
+like_place (At a) (At b) like fits = like fits
+like_place (At a) (Aggregate ws) like fits = absurd like
 
 like_kind : (o q : Operand) (k : OperandKind) → IsLike o q → FitsKind o k → FitsKind q k
-like_kind (Of v) (Of w) (OfKind k) like fits = sym like.0 ∙ fits
-like_kind (Of v) (Of w) (AtKind k) like fits = absurd fits
-like_kind (Of v) (At b) k like fits = absurd like
-like_kind (At a) (Of w) k like fits = absurd like
-like_kind (At a) (At b) (OfKind k) like fits = absurd fits
-like_kind (At a) (At b) (AtKind k) like fits = like fits
+like_kind o q (OfKind s) like fits = like_kinds_of o q (cell_kinds s) like fits
+like_kind o q (AtKind s) like fits = like_place o q like fits
 
 like_kinds : (ops qs : List Operand) (ks : List OperandKind) → AreLike ops qs → FitsKinds ops ks → FitsKinds qs ks
 like_kinds [] [] ks like fits = fits

@@ -3,27 +3,63 @@ use Rattle.std.specs.Prelude.{◌≡◌, ℕ, zero, suc, ◌+◌, ◌≤◌, Boo
 use Rattle.std.specs.Prelude.{Option, Some, None, slice_get}
 use Rattle.eu_base.specs.declared.address.Addr.{Addr}
 use Rattle.eu_base.specs.declared.value.Kind.{Kind}
+use Rattle.eu_base.specs.declared.shape.Shape.{Shape}
 use Rattle.eu_base.specs.declared.value.Value.{Value}
 use Rattle.eu_base.specs.Cells.{IsCell, run_cell}
 use Rattle.eu_base.specs.Operations.{operand_kinds}
 use Rattle.eu_base.specs.declared.request.RequestName.{RequestName}
 use Rattle.eu_base.specs.Requests.{request_kinds, request_size}
 use Rattle.code_form.specs.declared.instr.Instr.{Instr}
-use Rattle.code_form.specs.declared.instr.Instr.TheVariants.{Outer, Local, Param, Index, Field, Load, Store, Do, Modify, False, When, Drop, Limit}
+use Rattle.code_form.specs.declared.instr.Instr.TheVariants.{Outer, Local, Param, Index, Field, Pick, Take, Load, Store, Do, Modify, False, When, Drop, Limit}
 use Rattle.code_form.specs.declared.instr.Instr.TheVariants.{Unlimit, Step, Ask, ErrorStop, Call, Refer, Back, Out}
 use Rattle.code_form.specs.declared.code.Entry.{Entry}
 use Rattle.code_form.specs.declared.code.Layout.{Layout}
 use Rattle.code_form.specs.declared.code.Layout.TheVariants.{Own}
 use Rattle.code_form.specs.declared.operand.Operand.{Operand}
-use Rattle.code_form.specs.declared.operand.Operand.TheVariants.{Value as Of, Place as At}
+use Rattle.code_form.specs.declared.operand.Operand.TheVariants.{Value as Of, Place as At, Aggregate}
 use Rattle.code_form.specs.declared.operand.OperandKind.{OperandKind}
 use Rattle.code_form.specs.Machine.{Frame, Position, base_of}
 
--- a value
+-- a value of one cell
 pub record TopValue (ops : List Operand) : Type 0 where
   pub value : Value
   pub rest : List Operand
   pub top : ops ≡ Of value ∷ rest
+
+-- an operand is a value, and the values of its cells
+abbrev pub is_value : Operand → Bool
+is_value (Of v) = true
+is_value (At a) = false
+is_value (Aggregate vs) = true
+
+abbrev pub all_of : Operand → List Value
+all_of (Of v) = v ∷ []
+all_of (At a) = []
+all_of (Aggregate vs) = vs
+
+-- any value
+pub record TopAny (ops : List Operand) : Type 0 where
+  pub operand : Operand
+  pub rest : List Operand
+  pub top : ops ≡ operand ∷ rest
+  pub value : is_value operand ≡ true
+
+-- a value of one cell, and any value below it
+pub record TopPicked (ops : List Operand) : Type 0 where
+  pub number : Value
+  pub operand : Operand
+  pub rest : List Operand
+  pub top : ops ≡ Of number ∷ operand ∷ rest
+  pub value : is_value operand ≡ true
+
+-- any value, and the place of a cell below it
+pub record TopStored (ops : List Operand) : Type 0 where
+  pub operand : Operand
+  pub place : Addr
+  pub rest : List Operand
+  pub top : ops ≡ operand ∷ At place ∷ rest
+  pub value : is_value operand ≡ true
+  pub cell : IsCell place
 
 -- the place of a cell
 pub record TopPlace (ops : List Operand) : Type 0 where
@@ -32,7 +68,7 @@ pub record TopPlace (ops : List Operand) : Type 0 where
   pub top : ops ≡ At place ∷ rest
   pub cell : IsCell place
 
--- a value, and the place of a cell below it
+-- a value of one cell, and the place of a cell below it
 pub record TopBoth (ops : List Operand) : Type 0 where
   pub value : Value
   pub place : Addr
@@ -53,17 +89,17 @@ behind_values name ops = drop (length (request_kinds name)) (reverse (take (requ
 abbrev pub IsVariable : List Operand → Type 0
 IsVariable [] = Unit {0}
 IsVariable (At a ∷ os) = IsCell a
-IsVariable (Of v ∷ os) = ⊥
+IsVariable _ = ⊥
 
 -- what a request takes when its reply is there
 pub record FindsReply (name : RequestName) (ops : List Operand) : Type 0 where
   pub taken : request_size name ≤ length ops
   pub variable : IsVariable (behind_values name ops)
 
--- a result, where there is one of a kind
-abbrev pub TopResult : Option Kind → List Operand → Type 0
+-- a result, where there is one of a shape
+abbrev pub TopResult : Option Shape → List Operand → Type 0
 TopResult None ops = Unit {0}
-TopResult (Some k) ops = TopValue ops
+TopResult (Some s) ops = TopAny ops
 
 -- the operands that a PROC takes
 pub record IsCallable (layout : Layout) (ops : List Operand) : Type 0 where
@@ -99,8 +135,10 @@ Finds bodies (Local k) c = IsCell (run_cell (base_of c.frames + k))
 Finds bodies (Param k) c = IsCell (run_cell (base_of c.frames + k))
 Finds bodies (Index n size) c = TopBoth c.ops
 Finds bodies (Field n) c = TopPlace c.ops
-Finds bodies (Load k) c = TopPlace c.ops
-Finds bodies (Store k) c = TopBoth c.ops
+Finds bodies (Pick n size) c = TopPicked c.ops
+Finds bodies (Take n from size) c = TopAny c.ops
+Finds bodies (Load s) c = TopPlace c.ops
+Finds bodies (Store s) c = TopStored c.ops
 Finds bodies (Do op) c = TopValues (length (operand_kinds op)) c.ops
 Finds bodies (Modify change) c = TopBoth c.ops
 Finds bodies (False a) c = TopValue c.ops
@@ -113,6 +151,6 @@ Finds bodies (Ask name) c = request_size name ≤ length c.ops
 Finds bodies ErrorStop c = TopValue c.ops
 Finds bodies (Call n) c = HasProc bodies n c.ops
 Finds bodies (Refer n) c = HasBody bodies n
-Finds bodies (Back kind) c = TopResult kind c.ops × IsInside c.frames
-Finds bodies (Out kind) c = TopResult kind c.ops × (is_in_proc c.frames ≡ true)
+Finds bodies (Back s) c = TopResult s c.ops × IsInside c.frames
+Finds bodies (Out s) c = TopResult s c.ops × (is_in_proc c.frames ≡ true)
 Finds _ _ c = Unit {0}

@@ -1,3 +1,4 @@
 pub mod Stacked
 pub mod Finds
 pub mod Stepping
+pub mod Emptied

@@ -1,6 +1,6 @@
 -- What the machine's state stands for.
-use Rattle.std.specs.Prelude.{◌≡◌, ◌⊎◌, ℕ, ◌+◌, ◌^◌, ◌<◌, ◌≤◌, Bool, true, List, [], ◌∷◌, Option, Some, None}
-use Rattle.eu_base.specs.Room.{value_bytes, cells_fit, bytes_fit}
+use Rattle.std.specs.Prelude.{◌≡◌, ◌⊎◌, ℕ, ◌+◌, ◌^◌, ◌<◌, ◌≤◌, Bool, true, List, [], ◌∷◌, map, Option, Some, None}
+use Rattle.eu_base.specs.Room.{value_bytes, values_bytes, cells_fit, bytes_fit}
 use Rattle.eu_base.specs.Values.{kind_of}
 use Rattle.eu_base.specs.Cells.{Cells, IsCell}
 use Rattle.eu_base.specs.declared.stop.Stop.TheVariants as stops
@@ -8,7 +8,7 @@ use Rattle.code_form.specs.declared.halt.Halt.{Halt}
 use Rattle.code_form.specs.declared.halt.Halt.TheVariants as halts
 use Rattle.code_form.specs.declared.instr.Instr.{Instr}
 use Rattle.code_form.specs.declared.operand.Operand.{Operand}
-use Rattle.code_form.specs.declared.operand.Operand.TheVariants.{Value as Of, Place as At}
+use Rattle.code_form.specs.declared.operand.Operand.TheVariants.{Value as Of, Place as At, Aggregate}
 use Rattle.code_form.specs.declared.waits.Waits.{Waits}
 use Rattle.code_form.specs.declared.waits.Waits.TheVariants.{Nothing, Asked, Given, Refused}
 use Rattle.code_form.specs.Program.{Program}
@@ -81,10 +81,11 @@ abbrev pub Does : (Cells → Type 0) → Option Halt → Control → ℕ → Sta
 Does holds how c marks Lost = Unit {0}
 Does holds how c marks st = (now : Cells) × (holds now × (stage_of how c (scene_of now marks) ≡ st))
 
--- an operand of the same kind, that takes no more bytes
+-- an operand of the same kinds, that takes no more bytes
 abbrev pub IsLike : Operand → Operand → Type 0
 IsLike (Of v) (Of w) = (kind_of v ≡ kind_of w) × (value_bytes w ≤ value_bytes v)
 IsLike (At a) (At b) = IsCell a → IsCell b
+IsLike (Aggregate vs) (Aggregate ws) = (map kind_of vs ≡ map kind_of ws) × (values_bytes ws ≤ values_bytes vs)
 IsLike _ _ = ⊥
 
 abbrev pub AreLike : List Operand → List Operand → Type 0

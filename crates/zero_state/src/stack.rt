@@ -2,6 +2,7 @@
 ghost use Rattle.std.specs.Prelude.{◌≡◌, ◌+◌, ◌∷◌, ◌≤◌, [], List, drop, take, length, reverse, true, OnOk, MatchOption};
 ghost use Rattle.eu_base.specs.Room.{bytes_fit};
 ghost use Rattle.eu_base.specs.declared.address.Addr.{Addr};
+ghost use Rattle.eu_base.specs.declared.value.TheConstants.{OPERAND_BYTES};
 ghost use Rattle.code_form.specs.declared.operand.Operand.{Operand};
 ghost use Rattle.code_form.specs.declared.operand.Operand.TheVariants as operand;
 ghost use Rattle.code_form.specs.Machine.{bytes_on, bytes_of, base_of};
@@ -92,7 +93,19 @@ impl Stack {
         }
     }
 
+    /// How many bytes have room in place of the place on top.
+    pub fn room_in_place(&self) -> usize
+        requires bytes { bytes_fit (bytes_on self.now.ops (bytes_of self.now.frames)) ≡ true }
+        requires place { TopPlace self.now.ops }
+        ensures { (place : Addr) (rest : List Operand) → self.now.ops ≡ operand.Place place ∷ rest →
+            result + bytes_on rest (bytes_of self.now.frames) ≡ OPERAND_BYTES }
+    {
+        OPERAND_BYTES as usize - self.bytes + CELL_BYTES
+    }
+
     /// Pushes an operand that has room.
+    // Inlined, as `replace_top`: where it is known which operand it is, nothing is asked of it.
+    #[inline(always)]
     pub fn push(&mut self, operand: Operand) -> Result<(), NoMemory>
         requires { bytes_fit (bytes_on (operand ∷ self.old.ops) (bytes_of self.old.frames)) ≡ true }
         ensures { OnOk result (self.new ≡ record self.old { ops = operand ∷ self.old.ops }) }
@@ -103,7 +116,21 @@ impl Stack {
         Ok(())
     }
 
-    /// Takes the value on top.
+    /// Takes the operand on top.
+    pub fn pop(&mut self) -> Operand
+        requires { 1 ≤ length self.old.ops }
+        ensures { self.old ≡ record self.new { ops = result ∷ self.new.ops } }
+    {
+        match self.operands.pop() {
+            Some(operand) => {
+                self.bytes -= operand.bytes();
+                operand
+            }
+            None => unreachable!(),
+        }
+    }
+
+    /// Takes the value of one cell on top.
     pub fn pop_value(&mut self) -> Value
         requires { TopValue self.old.ops }
         ensures { self.old ≡ record self.new { ops = operand.Value result ∷ self.new.ops } }
@@ -131,16 +158,17 @@ impl Stack {
         }
     }
 
-    /// Puts a value that has room in the place of the operand on top.
-    pub fn replace_top(&mut self, value: Value)
+    /// Puts an operand that has room in the place of the one on top.
+    #[inline(always)]
+    pub fn replace_top(&mut self, operand: Operand)
         requires top { 1 ≤ length self.old.ops }
-        requires room { bytes_fit (bytes_on (operand.Value value ∷ drop 1 self.old.ops) (bytes_of self.old.frames)) ≡ true }
-        ensures { self.new ≡ record self.old { ops = operand.Value value ∷ drop 1 self.old.ops } }
+        requires room { bytes_fit (bytes_on (operand ∷ drop 1 self.old.ops) (bytes_of self.old.frames)) ≡ true }
+        ensures { self.new ≡ record self.old { ops = operand ∷ drop 1 self.old.ops } }
     {
         let at = self.operands.len() - 1;
         let left = bytes_without(self.bytes, &self.operands.as_slice()[at..]);
-        self.bytes = left + value.bytes();
-        self.operands.set(at, Operand::Value(value));
+        self.bytes = left + operand.bytes();
+        self.operands.set(at, operand);
     }
 
     /// Puts a place in the stead of the one on top.

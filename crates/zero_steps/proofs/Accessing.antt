@@ -17,7 +17,7 @@ use Rattle.eu_base.specs.declared.operation.Way.{Way}
 use Rattle.eu_base.specs.declared.stop.Stop.TheVariants as stops
 use Rattle.eu_base.specs.declared.set.Set.TheVariants.{Done, HeapFull}
 use Rattle.eu_base.specs.Values.{number_of, cell_of, IsOf, number_in}
-use Rattle.eu_base.specs.Room.{cells_fit, bytes_fit, texts_fit}
+use Rattle.eu_base.specs.Room.{cells_fit, texts_fit}
 use Rattle.eu_base.specs.Operations.{Given, change_kind, changed, is_past, has_reached, next_number}
 use Rattle.eu_base.proofs.Results.{changed_gives}
 use Rattle.eu_base.specs.Cells.{Cell, Free, Word, Letters, Cells, held_of, IsCell, run_cell, place_in, written, cell_blocks, blocks_in}
@@ -28,20 +28,21 @@ use Rattle.code_form.specs.declared.halt.Halt.TheVariants as halts
 use Rattle.code_form.specs.declared.waits.Waits.{Waits}
 use Rattle.code_form.specs.declared.waits.Waits.TheVariants.{Nothing}
 use Rattle.code_form.specs.declared.instr.Instr.{Instr}
-use Rattle.code_form.specs.declared.instr.Instr.TheVariants.{Param, Load, Store, Modify, Limit, Step}
-use Rattle.code_form.specs.Machine.{Position, Control, free, Move, Goes, Halts, Ends, Unknown, Scene, On, bytes_on, bytes_of, base_of, on_value, on_place}
+use Rattle.code_form.specs.declared.instr.Instr.TheVariants.{Param, Modify, Limit, Step}
+use Rattle.code_form.specs.Machine.{Position, Control, free, Move, Goes, Halts, Ends, Unknown, Scene, On, base_of, on_value, on_place}
 use Rattle.code_form.specs.Program.{Program}
 use Rattle.code_form.specs.Machine.{takes, puts, limit_to, at, using, goes, pushes, or_halt, on_word, on_number, on_cell, is_free, stage, move_stage}
 use Rattle.zero_state.specs.Finds.{TopBoth}
 use Rattle.zero_state.specs.Stacked.{Stacked}
 use Rattle.zero_state.specs.declared.next.Next.{Next}
-use Rattle.zero_state.specs.declared.next.Next.TheVariants.{On as On', CellRoom, OperandRoom, TextRoom}
-use Rattle.zero_state.specs.Stepping.{stage_of, scene_of, stage_by, halt_of, Does, IsLike, AreLike, Accesses}
+use Rattle.zero_state.specs.declared.next.Next.TheVariants.{On as On', CellRoom, TextRoom}
+use Rattle.zero_state.specs.Stepping.{stage_of, scene_of, stage_by, halt_of, Does, IsLike, Accesses}
 use Rattle.zero_ops.specs.declared.error.Fault.{Fault}
 use Rattle.zero_ops.specs.Given.{stop_of}
 use Rattle.zero_steps.specs.Reading.{Reads, PutsTaken, Changes}
 use Rattle.zero_state.proofs.Room.{same_like}
-use Rattle.zero_state.proofs.Emptied.{emptied, emptied_like}
+use Rattle.zero_state.specs.Emptied.{emptied}
+use Rattle.zero_state.proofs.Emptied.{emptied_like}
 use Rattle.zero_state.proofs.Making.{done, plain}
 
 -- what memory answered is what it was known to hold
@@ -101,10 +102,10 @@ with_ops t ops = record { ops = ops; frames = t.frames }
 pub both : (s t u : Stacked) (a b : Operand) → s ≡ with_ops t (a ∷ t.ops) → t ≡ with_ops u (b ∷ u.ops) → s ≡ with_ops u (a ∷ b ∷ u.ops)
 both s t u a b e f = e ∙ ap (λ (t : Stacked). with_ops t (a ∷ t.ops)) f
 
-if_true : (b : Bool) (m m' : Move) → b ≡ true → m ≡ cond b m m'
+pub if_true : (b : Bool) (m m' : Move) → b ≡ true → m ≡ cond b m m'
 if_true b m m' e = ap (λ b. cond b m m') (sym e)
 
-if_false : (b : Bool) (m m' : Move) → b ≡ false → m' ≡ cond b m m'
+pub if_false : (b : Bool) (m m' : Move) → b ≡ false → m' ≡ cond b m m'
 if_false b m m' e = ap (λ b. cond b m m') (sym e)
 
 -- an operand like this one, and cells, with which a change goes on
@@ -247,77 +248,6 @@ module _ (before after : Cells → Type 0) where
     put_full put = put_so (halt_of TextRoom) d (λ cells h taken.
         done after (halt_of TextRoom) d marks _ cells (put cells h taken).1
         (ap (λ b. move_stage (put_if cells b) d (scene_of cells marks)) (sym (put cells h taken).0)))
-
-  module _ (kind : Kind) (v : Value) (a : Addr) (pc used : ℕ) (t : Stacked) (reads : Reads before a kind v) (kept : Keeps before after) where
-    abbrev loading : Position
-    loading = standing pc used (with_ops t (At a ∷ t.ops))
-
-    abbrev loads : Cells → Value → Move
-    loads cells v = pushes loading (Of v) t.ops cells
-
-    load_so : (c' : Control) (next : Next)
-        → ((cells : Cells) (marks : ℕ) → stage_of (halt_of next) c' (scene_of cells marks) ≡ stage (loads cells v) loading (scene_of cells marks))
-        → Accesses before after (Load kind) loading c' next
-    load_so c' next so p marks = record {
-      does = read_so (halt_of next) c' marks loading kind v a reads loads
-          (λ cells h. done after (halt_of next) c' marks _ cells (kept cells h) (so cells marks));
-      ops = loading.ops;
-      like = same_like loading.ops;
-      cells = λ _. reads.seen;
-      leads = inl (
-        (λ _. reads.seen),
-        so (λ _. reads.seen) marks ∙ ap (λ m. stage m loading (scene_of (λ _. reads.seen) marks)) (sym (reads.is (loads (λ _. reads.seen)))),
-      );
-    }
-
-    pub load_goes : bytes_fit (bytes_on (Of v ∷ t.ops) (bytes_of t.frames)) ≡ true
-        → Accesses before after (Load kind) loading (free (standing (pc + 1) used (with_ops t (Of v ∷ t.ops)))) On'
-    load_goes room =
-        load_so (free (standing (pc + 1) used (with_ops t (Of v ∷ t.ops)))) On'
-        (λ cells marks. ap (λ m. stage m loading (scene_of cells marks)) (if_true _ _ _ room))
-
-    pub load_stops : bytes_fit (bytes_on (Of v ∷ t.ops) (bytes_of t.frames)) ≡ false → Accesses before after (Load kind) loading (free loading) OperandRoom
-    load_stops full = load_so (free loading) OperandRoom (λ cells marks. ap (λ m. stage m loading (scene_of cells marks)) (if_false _ _ _ full))
-
-  module _ (kind : Kind) (v : Value) (a : Addr) (pc used : ℕ) (t : Stacked) where
-    abbrev storing : Value → Position
-    storing v = standing pc used (with_ops t (Of v ∷ At a ∷ t.ops))
-
-    abbrev stored : Control
-    stored = free (standing (pc + 1) used t)
-
-    abbrev same : Cells
-    same = λ _. held_of (emptied v)
-
-    like : AreLike (Of v ∷ At a ∷ t.ops) (Of (emptied v) ∷ At a ∷ t.ops)
-    like = (emptied_like v, ((λ cell. cell), same_like t.ops))
-
-    pub store_goes : PutsTaken before after a (held_of v) Done → Accesses before after (Store kind) (storing v) stored On'
-    store_goes put p marks = record {
-      does = put_done marks (storing v) (free (storing v)) a v t.ops put;
-      ops = Of (emptied v) ∷ At a ∷ t.ops;
-      like = like;
-      cells = same;
-      leads = inl (
-        written same a (held_of (emptied v)),
-        ap (λ m. stage m (storing (emptied v)) (scene_of same marks)) (sym (puts_on v (storing (emptied v)) a t.ops)),
-      );
-    }
-
-    pub store_full : PutsTaken before after a (held_of v) HeapFull → Accesses before after (Store kind) (storing v) (free (storing v)) TextRoom
-    store_full put p marks = record {
-      does = put_full marks (storing v) (free (storing v)) a v t.ops put;
-      ops = Of (emptied v) ∷ At a ∷ t.ops;
-      like = like;
-      cells = same;
-      leads = inr (record {
-        stops = refl;
-        stays = refl;
-        after = stored;
-        now = written same a (held_of (emptied v));
-        goes = ap (λ m. stage m (storing (emptied v)) (scene_of same marks)) (puts_on v (storing (emptied v)) a t.ops);
-      });
-    }
 
   module _ (by : Change) (v : Value) (a : Addr) (pc used : ℕ) (t : Stacked) where
     abbrev changing : Value → Position

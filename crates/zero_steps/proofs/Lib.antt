@@ -5,3 +5,6 @@ pub mod Asking
 pub mod Operating
 pub mod Putting
 pub mod Replying
+pub mod Along
+pub mod Storing
+pub mod Aggregates

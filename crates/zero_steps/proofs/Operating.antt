@@ -109,13 +109,13 @@ module _ (op : Operation) (vs : List Value) (v : Value) (is : Ok v ≡ result_of
       ∙ ap (λ fs. cond (bytes_fit (bytes_on (Of v ∷ t.ops) (bytes_of fs))) (goes (standing pc used s) (Of v ∷ t.ops) cells) (Halts stops.OperandRoom)) same
       ∙ ap (λ b. cond b (goes (standing pc used s) (Of v ∷ t.ops) cells) (Halts stops.OperandRoom)) fits))
 
--- what is left where an operand was taken, and where a value stands in the place of another
+-- what is left where an operand was taken, and where one stands in the place of another
 pub popped : (t u : Stacked) (o q : Operand) (ops : List Operand) → with_ops t (o ∷ ops) ≡ with_ops u (q ∷ u.ops) → u ≡ with_ops t ops
 popped t u o q ops e = ap (λ (s : Stacked). with_ops s (drop 1 s.ops)) (sym e)
 
-pub placed : (t s u : Stacked) (v : Value) (o : Operand) → s ≡ with_ops t (o ∷ t.ops) → u ≡ with_ops s (Of v ∷ drop 1 s.ops) → u ≡ with_ops t (Of v ∷ t.ops)
-placed t s u v o is put = put ∙ ap (λ (s : Stacked). with_ops s (Of v ∷ drop 1 s.ops)) is
+pub placed : (t s u : Stacked) (q o : Operand) → s ≡ with_ops t (o ∷ t.ops) → u ≡ with_ops s (q ∷ drop 1 s.ops) → u ≡ with_ops t (q ∷ t.ops)
+placed t s u q o is put = put ∙ ap (λ (s : Stacked). with_ops s (q ∷ drop 1 s.ops)) is
 
-pub place_fits : (t s : Stacked) (v : Value) (o : Operand) → s ≡ with_ops t (o ∷ t.ops) → bytes_fit (bytes_on (Of v ∷ t.ops) (bytes_of t.frames)) ≡ true
-    → bytes_fit (bytes_on (Of v ∷ drop 1 s.ops) (bytes_of s.frames)) ≡ true
-place_fits t s v o is fits = ap (λ (s : Stacked). bytes_fit (bytes_on (Of v ∷ drop 1 s.ops) (bytes_of s.frames))) is ∙ fits
+pub place_fits : (t s : Stacked) (q o : Operand) → s ≡ with_ops t (o ∷ t.ops) → bytes_fit (bytes_on (q ∷ t.ops) (bytes_of t.frames)) ≡ true
+    → bytes_fit (bytes_on (q ∷ drop 1 s.ops) (bytes_of s.frames)) ≡ true
+place_fits t s q o is fits = ap (λ (s : Stacked). bytes_fit (bytes_on (q ∷ drop 1 s.ops) (bytes_of s.frames))) is ∙ fits

@@ -23,7 +23,7 @@ use Rattle.zero_state.specs.Finds.{behind_values, IsVariable}
 use Rattle.zero_state.specs.declared.next.Next.{Next}
 use Rattle.zero_state.specs.declared.next.Next.TheVariants.{On as On', TextRoom}
 use Rattle.zero_state.specs.Stepping.{stage_of, scene_of, halt_of, Does}
-use Rattle.zero_state.proofs.Emptied.{emptied}
+use Rattle.zero_state.specs.Emptied.{emptied}
 use Rattle.zero_state.proofs.Making.{done}
 use Rattle.zero_state.proofs.Stacks.{taken_all}
 use Rattle.zero_steps.specs.Reading.{PutsTaken}

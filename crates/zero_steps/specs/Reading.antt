@@ -1,15 +1,16 @@
 -- What is read out of a cell, put into one, and changed there.
-use Rattle.std.specs.Prelude.{◌≡◌, ◌⊎◌, true, false, Result, Ok, Err}
+use Rattle.std.specs.Prelude.{◌≡◌, ◌⊎◌, ℕ, ◌+◌, ◌≤◌, Bool, true, false, List, [], ◌∷◌, take, Result, Ok, Err}
 use Rattle.eu_base.specs.declared.address.Addr.{Addr}
 use Rattle.eu_base.specs.declared.set.Set.{Set}
 use Rattle.eu_base.specs.declared.set.Set.TheVariants.{Done, HeapFull}
 use Rattle.eu_base.specs.declared.value.Kind.{Kind}
 use Rattle.eu_base.specs.declared.value.Value.{Value}
 use Rattle.eu_base.specs.declared.operation.Change.{Change}
-use Rattle.eu_base.specs.Room.{texts_fit}
+use Rattle.eu_base.specs.Room.{values_blocks, most_blocks, texts_fit}
 use Rattle.eu_base.specs.Cells.{Cell, Cells, held_of, written, cell_blocks, blocks_in}
 use Rattle.eu_base.specs.Operations.{change_kind, changed}
-use Rattle.code_form.specs.Machine.{Move, Unknown, on_cell, takes}
+use Rattle.code_form.specs.Machine.{Move, Unknown, on_cell, next, takes, takes_all, written_all}
+use Rattle.zero_state.specs.Emptied.{emptied}
 use Rattle.zero_ops.specs.declared.error.Fault.{Fault}
 use Rattle.zero_ops.specs.Given.{stop_of}
 
@@ -23,6 +24,12 @@ pub record Reads (holds : Cells → Type 0) (at : Addr) (kind : Kind) (v : Value
   pub seen : Cell
   pub is : (go : Value → Move) → on_cell kind seen go ≡ go v
 
+-- so were values from a place on
+abbrev pub AllRead : (Cells → Type 0) → Addr → List Kind → List Value → Type 0
+AllRead holds at [] [] = Unit {0}
+AllRead holds at (k ∷ ks) (v ∷ vs) = Reads holds at k v × AllRead holds (next at) ks vs
+AllRead holds at _ _ = ⊥
+
 -- this was put into a cell, since all texts have room then; or they would have none, and nothing changed
 abbrev pub PutsCell : (Cells → Type 0) → Cells → Addr → Cell → Set → Type 0
 PutsCell holds cells at x Done = (texts_fit (cell_blocks x) (blocks_in (written cells at x)) ≡ true) × holds (written cells at x)
@@ -31,6 +38,28 @@ PutsCell holds cells at x HeapFull = (texts_fit (cell_blocks x) (blocks_in (writ
 -- the same where the cell takes it
 abbrev pub PutsTaken : (before after : Cells → Type 0) → Addr → Cell → Set → Type 0
 PutsTaken before after at x set = (cells : Cells) → before cells → takes x (cells at) ≡ true → PutsCell after cells at x set
+
+-- values were put from a place on, since all texts have room then; or they would have none, and nothing changed
+abbrev pub PutsEach : (Cells → Type 0) → Cells → Addr → List Value → Set → Type 0
+PutsEach holds cells at vs Done = (texts_fit (values_blocks vs) (blocks_in (written_all cells at vs)) ≡ true) × holds (written_all cells at vs)
+PutsEach holds cells at vs HeapFull = (texts_fit (values_blocks vs) (blocks_in (written_all cells at vs)) ≡ false) × holds cells
+
+abbrev pub PutsAll : (before after : Cells → Type 0) → Addr → List Value → Set → Type 0
+PutsAll before after at vs set = (cells : Cells) → before cells → takes_all vs at cells ≡ true → PutsEach after cells at vs set
+
+-- the blocks of the cells from a place on where values are to stand
+abbrev pub blocks_from : Cells → Addr → List Value → ℕ
+blocks_from cells at [] = 0
+blocks_from cells at (v ∷ vs) = cell_blocks (cells at) + blocks_from cells (next at) vs
+
+-- a value, or one with "" in the place of a text
+abbrev pub shown : Bool → Value → Value
+shown true v = v
+shown false v = emptied v
+
+-- all texts have room however many of the values were put from a place on
+abbrev pub FitsSoFar : Cells → Addr → List Value → Type 0
+FitsSoFar cells at vs = (n : ℕ) → blocks_in (written_all cells at (take n vs)) ≤ most_blocks
 
 -- what came of a change: the new value was put into the cell, or has no room there; or there is none, and nothing changed
 abbrev pub ChangesTo : (before after : Cells → Type 0) → Addr → Change → (old operand : Value) → Result Set Fault → Type 0

@@ -93,7 +93,7 @@ fn operate_on_one(s: &mut State, operation: Operation) -> Result<Next, NoMemory>
     };
     match on_numbers(operation, a, &Value::Int(0)) {
         Ok(value) => {
-            s.stack.replace_top(value);
+            s.stack.replace_top(Operand::Value(value));
             s.pc += 1;
             Ok(Next::On)
         }
@@ -114,7 +114,7 @@ fn operate_on_two(s: &mut State, operation: Operation) -> Result<Next, NoMemory>
     match on_numbers(operation, a, b) {
         Ok(value) => {
             let _b = s.stack.pop_value();
-            s.stack.replace_top(value);
+            s.stack.replace_top(Operand::Value(value));
             s.pc += 1;
             Ok(Next::On)
         }

@@ -2,7 +2,8 @@
 ghost use Rattle.std.specs.Prelude.{◌≡◌, ◌*◌, ℕ};
 ghost use Rattle.eu_base.specs.Cells.{Cells};
 ghost use Rattle.code_form.specs.declared.instr.Instr.TheVariants as instrs;
-ghost use Rattle.code_form.specs.Machine.{in_row, further};
+ghost use Rattle.eu_base.specs.Operations.{in_row};
+ghost use Rattle.code_form.specs.Machine.{further};
 ghost use Rattle.zero_state.specs.Finds.{TopPlace, TopBoth};
 ghost use Rattle.zero_state.specs.Stepping.{position_of, control_of, IsReady, GoesOn, StepsSo};
 
@@ -45,8 +46,8 @@ pub fn field(s: &mut State, cells: u16)
     s.pc += 1;
 }
 
-// How many items of a row stand before the one of a number.
-fn in_row(count: u16, number: i16) -> Option<u16>
+/// How many items of a row stand before the one of a number.
+pub(crate) fn in_row(count: u16, number: i16) -> Option<u16>
     ensures { result ≡ in_row count number }
 {
     match u16::try_from(number) {
@@ -61,8 +62,8 @@ fn in_row(count: u16, number: i16) -> Option<u16>
     }
 }
 
-// The place so many cells further on.
-fn further(at: Addr, cells: u32) -> Addr
+/// The place so many cells further on.
+pub(crate) fn further(at: Addr, cells: u32) -> Addr
     ensures { result ≡ further at cells }
 {
     place_in(u64::from(at.cell) + u64::from(cells))

@@ -6,6 +6,7 @@ ghost use Rattle.zero_steps.specs.Reading.{Reads, PutsTaken};
 use eu_base::{Addr, Kind, MemFault, Memory, Set, Value, number_in, truth_in};
 
 /// The value of a kind that stands in a cell.
+#[inline(always)]
 pub fn value_at<M: Memory>(m: &mut M, at: Addr, kind: Kind) -> Result<Value, MemFault>
     requires { IsCell at }
     ensures reads { IfOk result (Reads (M.holds m.old) at kind) }

@@ -60,7 +60,7 @@ fn variable(operands: &[Operand], values: usize) -> Option<Addr>
     match operands.get(values) {
         None => None,
         Some(Operand::Place(at)) => Some(*at),
-        Some(Operand::Value(_)) => unreachable!(),
+        Some(_) => unreachable!(),
     }
 }
 

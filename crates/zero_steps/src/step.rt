@@ -2,16 +2,19 @@
 ghost use Rattle.std.specs.Prelude.{◌≡◌, ◌+◌, ◌≤◌, OnOk, IfOk, false};
 ghost use Rattle.eu_base.specs.Cells.{Cells, IsCell, run_cell, without, HasFaultCause};
 ghost use Rattle.eu_base.specs.Operations.{has_reached, next_number};
+ghost use Rattle.eu_base.specs.declared.shape.Shape.{Shape};
+ghost use Rattle.eu_base.specs.declared.shape.Shape.TheVariants as shapes;
 ghost use Rattle.code_form.specs.declared.instr.Instr.TheVariants as instrs;
 ghost use Rattle.code_form.specs.Machine.{base_of};
-ghost use Rattle.zero_state.specs.Finds.{TopValue, TopPlace, TopBoth};
+ghost use Rattle.zero_state.specs.Finds.{TopValue, TopPlace, TopBoth, TopStored};
 ghost use Rattle.zero_state.specs.Stepping.{position_of, control_of, IsReady, GoesOn, StepsSo, Accesses};
 
+use crate::aggregate::{load_all, store_all};
 use crate::counter::{has_reached, is_past};
 use crate::push::push_on;
 use crate::reading::{put, value_at};
 use code_form::Operand;
-use eu_base::{Kind, MemFault, Memory, NoMemory, Set, Value, Way, number_in};
+use eu_base::{Kind, MemFault, Memory, NoMemory, Set, Shape, Value, Way, number_in};
 use zero_state::{Next, State, have_room, place_in, run_cell};
 
 /// OUTER
@@ -48,10 +51,23 @@ pub fn param<M: Memory>(s: &mut State, m: &mut M, cell: usize) -> Result<Next, M
 }
 
 /// LOAD
-pub fn load<M: Memory>(s: &mut State, m: &mut M, kind: Kind) -> Result<Next, MemFault>
+pub fn load<M: Memory>(s: &mut State, m: &mut M, shape: &Shape) -> Result<Next, MemFault>
     requires ready { IsReady s.old }
     requires finds { TopPlace s.old.stack.ops }
-    ensures goes { IfOk result (Accesses (M.holds m.old) (M.holds m.new) (instrs.Load kind) (position_of s.old) (control_of s.new)) }
+    ensures goes { IfOk result (Accesses (M.holds m.old) (M.holds m.new) (instrs.Load shape.now) (position_of s.old) (control_of s.new)) }
+    ensures cause { HasFaultCause (M.faults m.old) (M.faults m.new) result }
+    ensures follows { M.follows m.old m.new }
+{
+    match shape {
+        Shape::Cell(kind) => load_one(s, m, *kind),
+        _ => load_all(s, m, shape),
+    }
+}
+
+fn load_one<M: Memory>(s: &mut State, m: &mut M, kind: Kind) -> Result<Next, MemFault>
+    requires ready { IsReady s.old }
+    requires finds { TopPlace s.old.stack.ops }
+    ensures goes { IfOk result (Accesses (M.holds m.old) (M.holds m.new) (instrs.Load (shapes.Cell kind)) (position_of s.old) (control_of s.new)) }
     ensures cause { HasFaultCause (M.faults m.old) (M.faults m.new) result }
     ensures follows { M.follows m.old m.new }
 {
@@ -62,16 +78,32 @@ pub fn load<M: Memory>(s: &mut State, m: &mut M, kind: Kind) -> Result<Next, Mem
     if !s.stack.has_room_in_place(&value) {
         return Ok(Next::OperandRoom);
     }
-    s.stack.replace_top(value);
+    s.stack.replace_top(Operand::Value(value));
     s.pc += 1;
     Ok(Next::On)
 }
 
-/// STORE
-pub fn store<M: Memory>(s: &mut State, m: &mut M, kind: Kind) -> Result<Next, MemFault>
+/// STORE. What is pending has the shape already.
+pub fn store<M: Memory>(s: &mut State, m: &mut M) -> Result<Next, MemFault>
+    requires ready { IsReady s.old }
+    requires finds { TopStored s.old.stack.ops }
+    ensures goes { IfOk result (λ next. (shape : Shape) → Accesses (M.holds m.old) (M.holds m.new) (instrs.Store shape)
+        (position_of s.old) (control_of s.new) next) }
+    ensures cause { HasFaultCause (M.faults m.old) (M.faults m.new) result }
+    ensures follows { M.follows m.old m.new }
+{
+    match s.stack.top(1) {
+        [Operand::Value(_)] => store_one(s, m),
+        [Operand::Aggregate(_)] => store_all(s, m),
+        _ => unreachable!(),
+    }
+}
+
+fn store_one<M: Memory>(s: &mut State, m: &mut M) -> Result<Next, MemFault>
     requires ready { IsReady s.old }
     requires finds { TopBoth s.old.stack.ops }
-    ensures goes { IfOk result (Accesses (M.holds m.old) (M.holds m.new) (instrs.Store kind) (position_of s.old) (control_of s.new)) }
+    ensures goes { IfOk result (λ next. (shape : Shape) → Accesses (M.holds m.old) (M.holds m.new) (instrs.Store shape)
+        (position_of s.old) (control_of s.new) next) }
     ensures cause { HasFaultCause (M.faults m.old) (M.faults m.new) result }
     ensures follows { M.follows m.old m.new }
 {

@@ -22,7 +22,7 @@ returns-clause-goes g c =
     let left = c.leave-link in
     let now = position_of c.args.s.now in
     let ops = result_ops taken.result in
-    leaves_made (g.M.Memory.holds c.args.m.now) (g.M.Memory.holds c.return_from.new.m) p (instrs.Back c.args.kind) now (linked left.result left.new.stack.ops)
+    leaves_made (g.M.Memory.holds c.args.m.now) (g.M.Memory.holds c.return_from.new.m) p (instrs.Back c.args.delivers.now) now (linked left.result left.new.stack.ops)
     left.new.stack.frames ops
     (λ cells. taken.ensures.taken (λ result. back_to p result now.used now.frames cells)
     ∙ ap (λ fs. back_to p ops now.used fs cells) (sym taken.ensures.frames ∙ left.ensures))

@@ -1,33 +1,54 @@
-use Rattle.std.proofs.Common.{◌≡◌, ◌+◌, length, sym, subst, arith}
-use Rattle.eu_base.specs.Cells.{run_cell, freed}
-use Rattle.zero_calls.specs.Frames.{HoldsText}
-use Rattle.zero_calls.proofs.Freeing.{freed_none, text_stands}
+use Rattle.std.proofs.Common.{◌≡◌, ◌+◌, length, ap, ◌∙◌, subst, arith}
+use Rattle.std.specs.Prelude.{flat_map}
+use Rattle.eu_base.specs.declared.address.TheConstants.{CELLS}
+use Rattle.eu_base.specs.Cells.{freed}
+use Rattle.code_form.specs.Machine.{held_cells}
+use Rattle.zero_calls.proofs.Freeing.{freed_none}
+use Rattle.zero_calls.proofs.Framing.{fits_here, next_cell, stand_there, all_taken}
 use Rattle.zero_calls.proofs.texts.clear_operands.Goals as goal
 
-pub loop-index-init : goal.loop-index-init
-loop-index-init g c = record {
-  freed = λ cells h stand.
-      let here : c.args.at ≡ c.args.at + 0 = omega arith in
-      subst (λ n. g.M.Memory.holds c.args.m.now (freed c.args.at n cells)) here
-      (freed_none (g.M.Memory.holds c.args.m.now) (g.met.M.Memory.forgets c.args.m.now) c.args.at cells h);
+pub clear_operand-requires : goal.clear_operand-requires
+clear_operand-requires g c =
+    fits_here c.args.at c.loop-operand.operand-index c.args.operands.now c.operand-item.result c.operand-item.result c.loop-operand-test.true c.operand-item.is
+    c.loop-operand.cell CELLS c.loop-operand.invariant.cell c.requires
+
+pub overflow_add-cell : goal.overflow_add-cell
+overflow_add-cell g c =
+    let low =
+    fits_here c.args.at c.loop-operand.operand-index c.args.operands.now c.operand-item.result c.operand-item.result c.loop-operand-test.true c.operand-item.is
+    c.loop-operand.cell CELLS c.loop-operand.invariant.cell c.requires in
+    omega (arith, low, c.cells_of-cell.ensures)
+
+pub loop-operand-init : goal.loop-operand-init
+loop-operand-init g c = record {
+  cell = omega arith;
+  freed = λ cells h stand. freed_none (g.M.Memory.holds c.args.m.now) (g.met.M.Memory.forgets c.args.m.now) c.args.at cells h;
   later = omega arith;
   follows = g.met.M.Memory.reflexive _;
 }
 
-pub loop-index-preserved : goal.loop-index-preserved
-loop-index-preserved g c = record {
-  freed = λ cells h stand.
-      let next : c.args.at + c.loop-index.index + 1 ≡ c.args.at + (c.loop-index.index + 1) = omega arith in
-      subst (λ n. g.M.Memory.holds c.free_cell.new.m (freed c.args.at n cells)) next
-      (c.in_ok-free_cell.ensures.freed c.args.at cells (omega arith) (c.loop-index.invariant.freed cells h stand)
-      (subst (λ b. HoldsText b (cells (run_cell (c.args.at + c.loop-index.index)))) (sym c.is_text.ensures)
-      (text_stands c.args.at c.loop-index.index c.args.operands.now c.index-operands-index.result cells stand c.loop-index-test.true
-      c.index-operands-index.is)));
-  later = omega (arith, c.loop-index.invariant.later, c.free_cell.ensures.cause.later);
-  follows = g.met.M.Memory.transitive _ _ _ c.loop-index.invariant.follows c.free_cell.ensures.follows;
-}
+pub loop-operand-preserved : goal.loop-operand-preserved
+loop-operand-preserved g c =
+    let os = c.args.operands.now in
+    let i = c.loop-operand.operand-index in
+    let o = c.operand-item.result in
+    let lt = c.loop-operand-test.true in
+    let here = c.loop-operand.invariant.cell in
+    let next = next_cell c.args.at i os o o lt c.operand-item.is c.loop-operand.cell here in
+    record {
+      cell = omega (arith, next, c.cells_of-cell.ensures);
+      freed = λ cells h stand.
+          let to : c.loop-operand.cell + length (held_cells o) ≡ c.loop-operand.cell + c.cells_of-cell.result = omega (arith, c.cells_of-cell.ensures) in
+          subst (λ n. g.M.Memory.holds c.clear_operand.new.m (freed c.args.at n cells)) to
+          (c.in_ok-clear_operand.ensures.cleared c.args.at cells (omega (arith, here)) (c.loop-operand.invariant.freed cells h stand)
+          (stand_there c.args.at i os o o lt c.operand-item.is c.loop-operand.cell cells here stand));
+      later = omega (arith, c.loop-operand.invariant.later, c.clear_operand.ensures.cause.later);
+      follows = g.met.M.Memory.transitive _ _ _ c.loop-operand.invariant.follows c.clear_operand.ensures.follows;
+    }
 
 pub returns-clause-cleared : goal.returns-clause-cleared
 returns-clause-cleared g c = λ cells h stand.
-    let e : c.loop-index.index ≡ length c.args.operands.now = omega (arith, c.loop-index-test.false, c.loop-index.auto.index-end) in
-    subst (λ n. g.M.Memory.holds c.loop-index.m (freed c.args.at (c.args.at + n) cells)) e (c.loop-index.invariant.freed cells h stand)
+    let all = all_taken c.loop-operand.operand-index c.args.operands.now c.loop-operand-test.false in
+    let e : c.loop-operand.cell ≡ c.args.at + length (flat_map held_cells c.args.operands.now) =
+    c.loop-operand.invariant.cell ∙ ap (λ l. c.args.at + length l) all in
+    subst (λ n. g.M.Memory.holds c.loop-operand.m (freed c.args.at n cells)) e (c.loop-operand.invariant.freed cells h stand)

@@ -4,11 +4,11 @@ use Rattle.std.specs.Int.{w16}
 use Rattle.std.specs.Int.RustNames.{FitsSigned}
 use Rattle.eu_base.specs.declared.value.Value.TheVariants as item
 use Rattle.code_form.specs.declared.operand.Operand.TheVariants as operand
-use Rattle.code_form.specs.declared.instr.Instr.TheVariants.{Number, Truth, Text, Outer, Local, Param, Index, Field, Load, Store, Do, Modify, Jump, False, When}
+use Rattle.code_form.specs.declared.instr.Instr.TheVariants.{Number, Truth, Text, Outer, Local, Param, Index, Field, Pick, Take, Load, Do, Modify, Jump, False, When}
 use Rattle.code_form.specs.declared.instr.Instr.TheVariants.{Drop, Limit, Unlimit, Step, Ask, ErrorStop, Back, Out}
 use Rattle.zero_state.specs.Stepping.{position_of, control_of, stage_by}
 use Rattle.zero_state.proofs.Making.{plain_steps}
-use Rattle.zero_machine.proofs.Executing.{call_so, refer_so, said_by, accesses, so, goes_so, forgets_so, computed_so, pushes_so, asks_so, ends}
+use Rattle.zero_machine.proofs.Executing.{call_so, refer_so, said_by, accesses, stores, so, goes_so, forgets_so, computed_so, pushes_so, asks_so, ends}
 use Rattle.zero_machine.proofs.instruction.execute.Goals as goal
 
 pub returns-in-Mark-clause-goes : goal.returns-in-Mark-clause-goes
@@ -67,15 +67,25 @@ returns-in-Field-clause-goes g c =
     goes_so (g.M.Memory.holds c.args.m.now) c.args.code.now c.args.instr.now (Field c.in-Field.cells) c.args.marks.now (position_of c.args.s.now)
     (control_of c.field.new.s) c.in-Field.is c.field.ensures
 
+pub returns-in-Pick-clause-goes : goal.returns-in-Pick-clause-goes
+returns-in-Pick-clause-goes g c =
+    computed_so (g.M.Memory.holds c.args.m.now) c.args.code.now c.args.instr.now (Pick c.in-Pick.count c.in-Pick.cells) c.args.marks.now
+    (position_of c.args.s.now) (control_of c.pick.new.s) c.in-Pick.is c.pick.result c.computed-in-Pick.result c.computed-in-Pick.ensures.same c.pick.ensures
+
+pub returns-in_ok-take-in-Take-clause-goes : goal.returns-in_ok-take-in-Take-clause-goes
+returns-in_ok-take-in-Take-clause-goes g c =
+    goes_so (g.M.Memory.holds c.args.m.now) c.args.code.now c.args.instr.now (Take c.in-Take.of c.in-Take.from c.in-Take.cells) c.args.marks.now
+    (position_of c.args.s.now) (control_of c.take.new.s) c.in-Take.is c.in_ok-take-in-Take.ensures
+
 pub returns-in-Load-clause-goes : goal.returns-in-Load-clause-goes
 returns-in-Load-clause-goes g c =
     accesses c.load.result (g.M.Memory.holds c.args.m.now) (g.M.Memory.holds c.load.new.m) (position_of c.args.s.now) (control_of c.load.new.s)
-    c.args.marks.now c.args.code.now c.args.instr.now (Load c.in-Load.kind) c.in-Load.is c.load.ensures.goes
+    c.args.marks.now c.args.code.now c.args.instr.now (Load c.in-Load.shape) c.in-Load.is c.load.ensures.goes
 
 pub returns-in-Store-clause-goes : goal.returns-in-Store-clause-goes
 returns-in-Store-clause-goes g c =
-    accesses c.store.result (g.M.Memory.holds c.args.m.now) (g.M.Memory.holds c.store.new.m) (position_of c.args.s.now) (control_of c.store.new.s)
-    c.args.marks.now c.args.code.now c.args.instr.now (Store c.in-Store.kind) c.in-Store.is c.store.ensures.goes
+    stores c.store.result (g.M.Memory.holds c.args.m.now) (g.M.Memory.holds c.store.new.m) (position_of c.args.s.now) (control_of c.store.new.s)
+    c.args.marks.now c.args.code.now c.args.instr.now c.in-Store.field-0 c.in-Store.is c.store.ensures.goes
 
 pub returns-in-Modify-clause-goes : goal.returns-in-Modify-clause-goes
 returns-in-Modify-clause-goes g c =
@@ -146,12 +156,12 @@ returns-in-Refer-clause-goes g c =
 pub returns-in_ok-back-in-Back-clause-goes : goal.returns-in_ok-back-in-Back-clause-goes
 returns-in_ok-back-in-Back-clause-goes g c =
     said_by (g.M.Memory.holds c.args.m.now) (g.M.Memory.holds c.back.new.m) (position_of c.args.s.now) (control_of c.back.new.s) c.args.marks.now
-    c.args.code.now c.args.instr.now (Back c.in-Back.kind) c.in-Back.is (c.in_ok-back-in-Back.ensures.goes c.args.marks.now)
+    c.args.code.now c.args.instr.now (Back c.in-Back.delivers) c.in-Back.is (c.in_ok-back-in-Back.ensures.goes c.args.marks.now)
 
 pub returns-in_ok-back_around-in-Out-clause-goes : goal.returns-in_ok-back_around-in-Out-clause-goes
 returns-in_ok-back_around-in-Out-clause-goes g c =
     said_by (g.M.Memory.holds c.args.m.now) (g.M.Memory.holds c.back_around.new.m) (position_of c.args.s.now) (control_of c.back_around.new.s)
-    c.args.marks.now c.args.code.now c.args.instr.now (Out c.in-Out.kind) c.in-Out.is (c.in_ok-back_around-in-Out.ensures.goes c.args.marks.now)
+    c.args.marks.now c.args.code.now c.args.instr.now (Out c.in-Out.delivers) c.in-Out.is (c.in_ok-back_around-in-Out.ensures.goes c.args.marks.now)
 
 pub returns-in-End-clause-goes : goal.returns-in-End-clause-goes
 returns-in-End-clause-goes g c =

@@ -1,4 +1,4 @@
-use Rattle.std.proofs.Common.{◌+◌, ap, ◌∙◌, arith}
+use Rattle.std.proofs.Common.{◌+◌, ap, arith}
 use Rattle.code_form.specs.Machine.{operand_bytes}
 use Rattle.zero_state.proofs.Counts.{bytes_next, bytes_first}
 use Rattle.zero_state.proofs.stack.bytes_without.Goals as goal
@@ -9,8 +9,9 @@ overflow_sub-left c =
       arith,
       c.requires,
       c.loop-operand.invariant,
-      bytes_next c.args.operands.now c.loop-operand.operand-index c.bytes-left.result _ c.loop-operand-test.true
-          (c.bytes-left.ensures ∙ ap operand_bytes c.operand-item.is),
+      c.bytes-left.ensures,
+      bytes_next c.args.operands.now c.loop-operand.operand-index (operand_bytes c.operand-item.result) _ c.loop-operand-test.true
+          (ap operand_bytes c.operand-item.is),
       bytes_first c.args.operands.now (c.loop-operand.operand-index + 1),
     )
 
@@ -19,8 +20,10 @@ loop-operand-preserved c =
     omega (
       arith,
       c.requires,
+      c.ranges.bytes,
       c.loop-operand.invariant,
-      bytes_next c.args.operands.now c.loop-operand.operand-index c.bytes-left.result _ c.loop-operand-test.true
-          (c.bytes-left.ensures ∙ ap operand_bytes c.operand-item.is),
+      c.bytes-left.ensures,
+      bytes_next c.args.operands.now c.loop-operand.operand-index (operand_bytes c.operand-item.result) _ c.loop-operand-test.true
+          (ap operand_bytes c.operand-item.is),
       bytes_first c.args.operands.now (c.loop-operand.operand-index + 1),
     )

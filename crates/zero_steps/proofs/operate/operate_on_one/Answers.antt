@@ -23,7 +23,7 @@ replace_top-requires-clause-room c =
     let is : Ok v ≡ result_of op (a ∷ []) =
     ap given_of (sym c.in-Ok.is) ∙ given ∙ sym (looks_at_two op (a ∷ []) c.requires.numbers) in
     let fits = fits_for op (a ∷ []) v is s.stack t a [] c.requires.numbers there c.requires.ready.bytes in
-    place_fits t s.stack v (operand.Value a) there fits
+    place_fits t s.stack (operand.Value v) (operand.Value a) there fits
 
 pub returns-in-Ok : goal.returns-in-Ok
 returns-in-Ok c =
@@ -40,4 +40,4 @@ returns-in-Ok c =
     let fits = fits_for op (a ∷ []) v is s.stack t a [] c.requires.numbers there c.requires.ready.bytes in
     gives_so op (a ∷ []) v is s.stack t s.pc s.used c.replace_top.new.self s.waits
     (values_on _ 1 s.stack.ops (operand.Value a ∷ t.ops) c.requires.arity (ap (λ (u : Stacked). u.ops) there)) fits refl
-    (placed t s.stack c.replace_top.new.self v (operand.Value a) there c.replace_top.ensures) c.requires.ready.free
+    (placed t s.stack c.replace_top.new.self (operand.Value v) (operand.Value a) there c.replace_top.ensures) c.requires.ready.free

@@ -27,7 +27,7 @@ replace_top-requires-clause-room c =
     let fits = fits_for op (a ∷ b ∷ []) v is s.stack t a (operand.Value b ∷ []) c.requires.numbers there c.requires.ready.bytes in
     let left = popped t c.pop_value-b.new.self (operand.Value b) (operand.Value c.pop_value-b.result) (operand.Value a ∷ t.ops)
     (sym there ∙ c.pop_value-b.ensures) in
-    place_fits t c.pop_value-b.new.self v (operand.Value a) left fits
+    place_fits t c.pop_value-b.new.self (operand.Value v) (operand.Value a) left fits
 
 pub returns-in-Ok : goal.returns-in-Ok
 returns-in-Ok c =
@@ -49,4 +49,4 @@ returns-in-Ok c =
     (sym there ∙ c.pop_value-b.ensures) in
     gives_so op (a ∷ b ∷ []) v is s.stack t s.pc s.used c.replace_top.new.self s.waits
     (values_on _ 2 s.stack.ops (operand.Value b ∷ operand.Value a ∷ t.ops) c.requires.arity (ap (λ (u : Stacked). u.ops) there)) fits refl
-    (placed t c.pop_value-b.new.self c.replace_top.new.self v (operand.Value a) left c.replace_top.ensures) c.requires.ready.free
+    (placed t c.pop_value-b.new.self c.replace_top.new.self (operand.Value v) (operand.Value a) left c.replace_top.ensures) c.requires.ready.free

@@ -1,7 +1,6 @@
 use Rattle.std.proofs.Common.{◌-◌, ◌∷◌, take, drop, refl, ap, arith}
 use Rattle.std.proofs.lemmas.Bool.{leb-true}
 use Rattle.eu_base.specs.declared.value.TheConstants.{OPERAND_BYTES}
-use Rattle.code_form.specs.declared.operand.Operand.TheVariants as operand
 use Rattle.code_form.specs.Machine.{bytes_on, bytes_of}
 use Rattle.zero_state.specs.Stacked.{Stacked, frames_of}
 use Rattle.zero_state.proofs.Counts.{as_many, fewer, kept, dropped, replaced, replaced_turned, replaced_is}
@@ -24,7 +23,7 @@ overflow_add-self c =
     let below =
     ap (λ (s : Stacked). bytes_on s.ops (bytes_of s.frames))
     (dropped operands frames s c.self.view_is (take k operands) 1 c.len-at.result refl c.len-at.ensures c.requires.top) in
-    omega (arith, left, below, c.bytes.ensures, leb-true (bytes_on (operand.Value c.args.value ∷ drop 1 s.ops) (bytes_of s.frames)) OPERAND_BYTES c.requires.room)
+    omega (arith, left, below, c.bytes.ensures, leb-true (bytes_on (c.args.operand ∷ drop 1 s.ops) (bytes_of s.frames)) OPERAND_BYTES c.requires.room)
 
 pub invariant_of-self : goal.invariant_of-self
 invariant_of-self c =
@@ -32,13 +31,17 @@ invariant_of-self c =
     let held = bytes_of (frames_of c.self.inside.frames) in
     let k = c.len-at.result - 1 in
     let many = as_many operands c.self.inside.frames c.args.self.now c.self.view_is in
-    let o = operand.Value c.args.value in
+    let o = c.args.operand in
     let left =
     kept operands c.as_slice.result.now k held c.self.inside.bytes c.as_slice.ensures c.self.invariant c.bytes_without-left.result (take k operands)
     c.bytes_without-left.ensures refl in
     let set = replaced operands c.set.new.self c.len-at.result o (omega (arith, many, c.requires.top)) c.len-at.ensures c.set.ensures in
     let turned = replaced_turned (take k operands) c.set.new.self o set in
-    omega (arith, left, c.bytes.ensures, ap (λ l. bytes_on l held) turned)
+    let below =
+    ap (λ (s : Stacked). bytes_on s.ops (bytes_of s.frames))
+    (dropped operands c.self.inside.frames c.args.self.now c.self.view_is (take k operands) 1 c.len-at.result refl c.len-at.ensures c.requires.top) in
+    let small = leb-true (bytes_on (o ∷ drop 1 c.args.self.now.ops) (bytes_of c.args.self.now.frames)) OPERAND_BYTES c.requires.room in
+    omega (arith, left, below, small, c.bytes.ensures, ap (λ l. bytes_on l held) turned)
 
 pub returns : goal.returns
 returns c =
@@ -47,7 +50,7 @@ returns c =
     let s = c.args.self.now in
     let k = c.len-at.result - 1 in
     let many = as_many operands frames s c.self.view_is in
-    let o = operand.Value c.args.value in
+    let o = c.args.operand in
     let set = replaced operands c.set.new.self c.len-at.result o (omega (arith, many, c.requires.top)) c.len-at.ensures c.set.ensures in
     replaced_is (take k operands) c.set.new.self frames o _ (replaced_turned (take k operands) c.set.new.self o set)
     (dropped operands frames s c.self.view_is (take k operands) 1 c.len-at.result refl c.len-at.ensures c.requires.top)

@@ -1,17 +1,20 @@
-use Rattle.std.proofs.Common.{◌≡◌, [], ◌∷◌, ◌+◌, List, refl, ap, ◌∙◌, subst, take}
+use Rattle.std.proofs.Common.{◌≡◌, [], ◌∷◌, ◌+◌, List, refl, ap, ◌∙◌, subst, take, arith}
 use Rattle.std.specs.Prelude.{reverse}
-use Rattle.eu_base.specs.Cells.{held_of}
+use Rattle.eu_base.specs.declared.set.Set.TheVariants.{Done, HeapFull}
+use Rattle.eu_base.specs.Cells.{IsCell, held_of}
 use Rattle.code_form.specs.declared.operand.Operand.{Operand}
 use Rattle.code_form.specs.declared.operand.Operand.TheVariants as operand
 use Rattle.code_form.specs.declared.instr.Instr.TheVariants.{Store}
 use Rattle.zero_state.specs.Stacked.{Stacked}
 use Rattle.zero_state.specs.declared.next.Next.TheVariants.{On, TextRoom}
 use Rattle.zero_steps.specs.Reading.{PutsTaken}
-use Rattle.zero_steps.proofs.Accessing.{accessed, both, with_ops, store_goes, store_full}
-use Rattle.zero_steps.proofs.step.store.Goals as goal
+use Rattle.zero_steps.proofs.Accessing.{accessed, both, with_ops}
+use Rattle.zero_steps.proofs.Storing.{one_put}
+use Rattle.zero_steps.proofs.Aggregates.{store_goes, store_full, both_cell}
+use Rattle.zero_steps.proofs.step.store_one.Goals as goal
 
 pub returns-in-Done-clause-goes : goal.returns-in-Done-clause-goes
-returns-in-Done-clause-goes g c =
+returns-in-Done-clause-goes g c = λ shape.
     let before = g.M.Memory.holds c.args.m.now in
     let after = g.M.Memory.holds c.put.new.m in
     let s = c.args.s.now in
@@ -21,12 +24,14 @@ returns-in-Done-clause-goes g c =
     let taken = both s.stack c.pop_value-value.new.self t (operand.Value v) (operand.Place a) c.pop_value-value.ensures c.pop_place-at.ensures in
     let seen : c.top.result.now ≡ operand.Place a ∷ operand.Value v ∷ [] =
     c.top.ensures ∙ ap (λ (u : Stacked). reverse (take 2 u.ops)) taken in
+    let cell : IsCell a = both_cell s.stack t v a taken c.requires.finds in
     let puts : PutsTaken before after a (held_of v) c.in_ok-put.field-0 = rw seen at c.in_ok-put.ensures.puts in
-    accessed before after (Store c.args.kind) On s.pc s.used (s.pc + 1) s.used s.stack t _ t s.waits c.requires.ready.free taken refl
-    (store_goes before after c.args.kind v a s.pc s.used t (subst (PutsTaken before after a (held_of v)) c.in-Done.is puts))
+    accessed before after (Store shape) On s.pc s.used (s.pc + 1) s.used s.stack t _ t s.waits c.requires.ready.free taken refl
+    (store_goes before after shape (operand.Value v) refl a cell s.pc s.used t (omega arith)
+    (one_put before after a v Done (subst (PutsTaken before after a (held_of v)) c.in-Done.is puts)))
 
 pub returns-in-HeapFull-clause-goes : goal.returns-in-HeapFull-clause-goes
-returns-in-HeapFull-clause-goes g c =
+returns-in-HeapFull-clause-goes g c = λ shape.
     let before = g.M.Memory.holds c.args.m.now in
     let after = g.M.Memory.holds c.put.new.m in
     let s = c.args.s.now in
@@ -38,5 +43,6 @@ returns-in-HeapFull-clause-goes g c =
     let seen : c.top.result.now ≡ operand.Place a ∷ operand.Value v ∷ [] =
     c.top.ensures ∙ ap (λ (u : Stacked). reverse (take 2 u.ops)) there in
     let puts : PutsTaken before after a (held_of v) c.in_ok-put.field-0 = rw seen at c.in_ok-put.ensures.puts in
-    accessed before after (Store c.args.kind) TextRoom s.pc s.used s.pc s.used s.stack s.stack _ _ s.waits c.requires.ready.free there there
-    (store_full before after c.args.kind v a s.pc s.used t (subst (PutsTaken before after a (held_of v)) c.in-HeapFull.is puts))
+    accessed before after (Store shape) TextRoom s.pc s.used s.pc s.used s.stack s.stack _ _ s.waits c.requires.ready.free there there
+    (store_full before after shape (operand.Value v) refl a c.requires.finds.cell s.pc s.used t (omega arith)
+    (one_put before after a v HeapFull (subst (PutsTaken before after a (held_of v)) c.in-HeapFull.is puts)))

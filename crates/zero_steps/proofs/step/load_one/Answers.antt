@@ -2,13 +2,15 @@ use Rattle.std.proofs.Common.{◌≡◌, [], ◌∷◌, ◌+◌, List, sym, ap, 
 use Rattle.std.specs.Prelude.{reverse}
 use Rattle.code_form.specs.declared.operand.Operand.{Operand}
 use Rattle.code_form.specs.declared.operand.Operand.TheVariants as operand
+use Rattle.eu_base.specs.declared.shape.Shape.TheVariants.{Cell}
 use Rattle.code_form.specs.declared.instr.Instr.TheVariants.{Load}
 use Rattle.zero_state.specs.Stacked.{Stacked}
 use Rattle.zero_state.specs.declared.next.Next.TheVariants.{On, OperandRoom}
 use Rattle.zero_steps.specs.Reading.{Reads}
-use Rattle.zero_steps.proofs.Accessing.{accessed, with_ops, load_goes, load_stops}
+use Rattle.zero_steps.proofs.Accessing.{accessed, with_ops}
+use Rattle.zero_steps.proofs.Aggregates.{load_goes, load_stops, one_read, one_fits}
 use Rattle.zero_steps.proofs.Operating.{placed, place_fits}
-use Rattle.zero_steps.proofs.step.load.Goals as goal
+use Rattle.zero_steps.proofs.step.load_one.Goals as goal
 
 pub returns-then-not-has_room_in_place-clause-goes : goal.returns-then-not-has_room_in_place-clause-goes
 returns-then-not-has_room_in_place-clause-goes g c =
@@ -20,8 +22,9 @@ returns-then-not-has_room_in_place-clause-goes g c =
     let there : s.stack ≡ with_ops t (operand.Place a ∷ t.ops) = ap (λ (ops : List Operand). with_ops t ops) c.requires.finds.top in
     let seen : c.top.result.now ≡ operand.Place a ∷ [] = c.top.ensures ∙ ap (λ (u : Stacked). reverse (take 1 u.ops)) there in
     let reads : Reads before a c.args.kind c.in_ok-value.value = rw seen at c.in_ok-value.ensures.reads in
-    accessed before after (Load c.args.kind) OperandRoom s.pc s.used s.pc s.used s.stack s.stack _ _ s.waits c.requires.ready.free there there
-    (load_stops before after c.args.kind c.in_ok-value.value a s.pc s.used t reads c.in_ok-value.ensures.kept
+    accessed before after (Load (Cell c.args.kind)) OperandRoom s.pc s.used s.pc s.used s.stack s.stack _ _ s.waits c.requires.ready.free there there
+    (load_stops before after (Cell c.args.kind) a s.pc s.used t (c.in_ok-value.value ∷ []) c.requires.finds.cell
+    (one_read before a c.args.kind c.in_ok-value.value reads) c.in_ok-value.ensures.kept (one_fits a c.args.kind t s.stack there c.requires.ready.bytes)
     (sym (c.has_room_in_place.ensures a t.ops c.requires.finds.top) ∙ c.if-not-has_room_in_place.true))
 
 pub replace_top-requires-clause-room : goal.replace_top-requires-clause-room
@@ -30,7 +33,7 @@ replace_top-requires-clause-room g c =
     let a = c.requires.finds.place in
     let t : Stacked = record { ops = c.requires.finds.rest; frames = s.stack.frames } in
     let there : s.stack ≡ with_ops t (operand.Place a ∷ t.ops) = ap (λ (ops : List Operand). with_ops t ops) c.requires.finds.top in
-    place_fits t s.stack c.in_ok-value.value (operand.Place a) there
+    place_fits t s.stack (operand.Value c.in_ok-value.value) (operand.Place a) there
     (sym (c.has_room_in_place.ensures a t.ops c.requires.finds.top) ∙ c.if-not-has_room_in_place.false)
 
 pub returns-clause-goes : goal.returns-clause-goes
@@ -44,7 +47,8 @@ returns-clause-goes g c =
     let there : s.stack ≡ with_ops t (operand.Place a ∷ t.ops) = ap (λ (ops : List Operand). with_ops t ops) c.requires.finds.top in
     let seen : c.top.result.now ≡ operand.Place a ∷ [] = c.top.ensures ∙ ap (λ (u : Stacked). reverse (take 1 u.ops)) there in
     let reads : Reads before a c.args.kind v = rw seen at c.in_ok-value.ensures.reads in
-    accessed before after (Load c.args.kind) On s.pc s.used (s.pc + 1) s.used s.stack c.replace_top.new.self _ (with_ops t (operand.Value v ∷ t.ops)) s.waits
-    c.requires.ready.free there (placed t s.stack c.replace_top.new.self v (operand.Place a) there c.replace_top.ensures)
-    (load_goes before after c.args.kind v a s.pc s.used t reads c.in_ok-value.ensures.kept
+    accessed before after (Load (Cell c.args.kind)) On s.pc s.used (s.pc + 1) s.used s.stack c.replace_top.new.self _ (with_ops t (operand.Value v ∷ t.ops)) s.waits
+    c.requires.ready.free there (placed t s.stack c.replace_top.new.self (operand.Value v) (operand.Place a) there c.replace_top.ensures)
+    (load_goes before after (Cell c.args.kind) a s.pc s.used t (v ∷ []) c.requires.finds.cell (one_read before a c.args.kind v reads)
+    c.in_ok-value.ensures.kept (one_fits a c.args.kind t s.stack there c.requires.ready.bytes)
     (sym (c.has_room_in_place.ensures a t.ops c.requires.finds.top) ∙ c.if-not-has_room_in_place.false))

@@ -1,0 +1,14 @@
+use Rattle.std.proofs.Common.{refl}
+use Rattle.zero_steps.proofs.Storing.{few_values, tells_less, tells_rooms}
+use Rattle.zero_steps.proofs.cells.has_room.Goals as goal
+
+pub returns-then-needed-had-clause-fits : goal.returns-then-needed-had-clause-fits
+returns-then-needed-had-clause-fits g c =
+    tells_less c.args.values.now c.args.at c.requires.cell (few_values c.args.values.now c.requires.few) (g.M.Memory.holds c.args.m.now) c.args.needed
+    c.in_ok-had.had (g.met.M.Memory.room c.args.m.now) c.requires.needed c.in_ok-had.ensures.had c.if-needed-had.true
+
+pub returns-clause-fits : goal.returns-clause-fits
+returns-clause-fits g c =
+    tells_rooms c.args.values.now c.args.at c.requires.cell (few_values c.args.values.now c.requires.few) (g.M.Memory.holds c.args.m.now) c.args.needed
+    c.in_ok-had.had c.in_ok-rooms.rooms _ c.requires.needed c.requires.few c.in_ok-had.ensures.had
+    (λ cells h. c.in_ok-rooms.ensures.rooms cells (c.in_ok-had.ensures.kept cells h)) c.if-needed-had.false refl
