@@ -14,11 +14,11 @@ use Rattle.elan_types.specs.declared.core_phrase.Exit.TheVariants as exits
 use Rattle.elan_types.specs.declared.core_phrase.Content.{Content}
 use Rattle.elan_types.specs.declared.core_phrase.Content.TheVariants as contents
 use Rattle.elan_types.specs.declared.core_phrase.Body.{Body}
-use Rattle.elan_types.specs.Typing.{has, result_of_content, is_content_typed}
+use Rattle.elan_types.specs.Typing.{result_of_content, is_content_typed}
 use Rattle.elan_types.specs.Eval.{Gives, all, act, value}
 use Rattle.place_gen.specs.Stretch.{one, keeps, all_code, action_code, value_code, content_code}
 use Rattle.place_gen.proofs.Lines.{HasAt, has_front, has_rest, IsSized, join_sized}
-use Rattle.place_gen.proofs.Homes.{Delivers, Agrees, IsHome, has_is}
+use Rattle.place_gen.proofs.Homes.{Delivers, Agrees, IsHome, has_shape_is}
 use Rattle.place_gen.proofs.Carry.{finish_bind, reach, Ends}
 use Rattle.place_gen.proofs.Calls.{leave_ends}
 use Rattle.place_gen.proofs.Tree.{all_are, value_is}
@@ -57,7 +57,7 @@ module _ (p : Program) (variables : List Kind) (bodies : List Body) (agrees : Ag
       join_sized (all_code (map action_code us)) (one (Back None) keeps) (all_are p variables bodies agrees (Some q) home us e).sized
       (one_sized (Back None) keeps) [] m at
   content_sized (contents.Value u a) e m at =
-      join_sized (value_code a) (one (Back (Some u)) (drop 1)) (value_is p variables bodies agrees (Some q) home a u (has_is u _ e)).sized
+      join_sized (value_code a) (one (Back (Some u)) (drop 1)) (value_is p variables bodies agrees (Some q) home a u (has_shape_is u _ e)).sized
       (one_sized (Back (Some u)) (drop 1)) [] m at
 
   pub content_carries : (first : ℕ) (con : Content) → is_content_typed variables bodies (Some q) con ≡ true
@@ -75,7 +75,7 @@ module _ (p : Program) (variables : List Kind) (bodies : List Body) (agrees : Ag
       }
   content_carries first (contents.Value u a) e has gives =
       let f = value_code a in
-      let i = value_is p variables bodies agrees (Some q) home a u (has_is u _ e) in
+      let i = value_is p variables bodies agrees (Some q) home a u (has_shape_is u _ e) in
       let h = has_rest p.lines first f.size (f.lines [] (in_body q) first) _ (i.sized [] (in_body q) first) has in record {
         ends = λ calls n b L c le l hl w lw.
             subst (Ends p L (at c first []) w) (sym (finish_bind (value a (reach calls n c []) w) (λ v. Gives (Some v)) (l exits.Body) l))

@@ -1,8 +1,7 @@
 -- Calls of bodies do in the code what they do, since each costs a mark.
 use Rattle.std.proofs.Common.{◌≡◌, ℕ, zero, suc, ◌+◌, ◌≤◌, List, [], ◌∷◌, ◌++◌, map, length, Option, Some, Bool, true, false, cond, refl, sym, ap, ◌∙◌, subst}
 use Rattle.std.proofs.Common.{arith, append_assoc, length-append}
-use Rattle.std.specs.Prelude.{slice_get, option_map}
-use Rattle.std.proofs.lemmas.Option.{slice_get-map}
+use Rattle.std.specs.Prelude.{slice_get, flat_map}
 use Rattle.std.proofs.lemmas.Bool.{leb-true}
 use Rattle.eu_base.specs.declared.address.TheConstants.{CELLS}
 use Rattle.eu_base.specs.declared.stop.Stop.{Stop}
@@ -14,14 +13,14 @@ use Rattle.eu_base.specs.Cells.{Cell, Free, Cells, freed, blocks_in}
 use Rattle.code_form.specs.declared.halt.Halt.TheVariants as halts
 use Rattle.code_form.specs.declared.operand.Operand.{Operand}
 use Rattle.code_form.specs.declared.operand.OperandKind.{OperandKind}
-use Rattle.code_form.specs.declared.operand.OperandKind.TheVariants as operand
+use Rattle.eu_base.specs.declared.shape.Shape.{Shape}
 use Rattle.code_form.specs.declared.code.Spot.{Spot}
 use Rattle.code_form.specs.declared.code.Entry.{Entry}
 use Rattle.code_form.specs.declared.code.Layout.{Layout}
 use Rattle.code_form.specs.declared.code.Layout.TheVariants as layouts
 use Rattle.code_form.specs.declared.instr.Instr.TheVariants.{Call, Refer}
 use Rattle.code_form.specs.Program as tables
-use Rattle.code_form.specs.Program.{Program, line_of, in_body, owner, cells_in, cells_at, frame_cells}
+use Rattle.code_form.specs.Program.{Program, line_of, in_body, owner, cells_at}
 use Rattle.code_form.specs.Valid.{IsRefinement}
 use Rattle.code_form.specs.Machine.{Frame, Position, free, To, Stops, Unsaid, Goes, Unknown, Spends, at, base_of, bytes_on, bytes_of, entering, enters}
 use Rattle.code_form.specs.Machine.{calls_to, call_move, refer_move, frame_contents, link_contents, content_blocks, back_into, out_to, rest_at, after_stage}
@@ -32,22 +31,22 @@ use Rattle.elan_types.specs.declared.core_phrase.Scope.{Scope}
 use Rattle.elan_types.specs.declared.core_phrase.Scope.TheVariants as scopes
 use Rattle.elan_types.specs.declared.core_phrase.Content.{Content}
 use Rattle.elan_types.specs.declared.core_phrase.Body.{Body}
-use Rattle.elan_types.specs.Eval.{Slot, World, Outcome, Gives, Left, Stopped, OutOfMarks, Asks, branch, with_room, cut, called, referred, content, frame, link}
+use Rattle.elan_types.specs.Eval.{Slot, Passed, all_slots, World, Outcome, Gives, Left, Stopped, OutOfMarks, Asks, branch, with_room, cut, called, referred, content, frame, link}
 use Rattle.elan_types.specs.Eval.{store_blocks, own_variables, run_called, run_referred, level, Calls}
 use Rattle.elan_types.specs.Command.{Ending}
 use Rattle.place_gen.specs.Correct.{scene_of}
 use Rattle.place_gen.specs.Layouts.{layout_of}
-use Rattle.place_gen.proofs.Homes.{Delivers, LeftBy}
+use Rattle.place_gen.proofs.Homes.{Delivers, LeftBy, uses_of, layout_uses, uses_at, uses_in, frame_uses}
 use Rattle.place_gen.proofs.Cells.{OfValue, Uses, AreCounts, Keeps, AllKept, get_left, get_right, cuts, extends, free_beyond}
 use Rattle.place_gen.proofs.Blocks.{same_blocks, more_blocks}
-use Rattle.place_gen.proofs.Carry.{use_of, finish, Result, result_ops, way_out, reach, After, resting, going, Ends, Exits, wider, CallsCarry, Stands}
-use Rattle.place_gen.proofs.Carry.{Within, TakeAll, pushed_slots, here, out_carries, spend_carries}
-use Rattle.place_gen.proofs.Slots.{slot_operand, all_taken}
-use Rattle.code_gen.proofs.Framed.{framed}
-use Rattle.code_gen.proofs.Entered.{frame_uses, link_uses, frame_kept, kept_lengths}
+use Rattle.place_gen.proofs.Carry.{finish, Result, result_ops, way_out, reach, After, resting, going, Ends, Exits, wider, CallsCarry, Stands}
+use Rattle.place_gen.proofs.Carry.{Within, TakeAll, passed_operand, pushed_passed, here, out_carries, spend_carries}
+use Rattle.place_gen.proofs.Slots.{all_taken}
+use Rattle.code_gen.proofs.Framed.{cell_for, cells_for, framed}
+use Rattle.code_gen.proofs.Entered.{call_uses, link_uses, frame_kept, kept_lengths}
 
 -- what comes of a call, and of a reference, as what comes of the body
-finish_called : (n : ℕ) (o : Outcome (Option Value)) (k : Option Value → World → Ending) (l : Exit → Option Value → World → Ending)
+finish_called : (n : ℕ) (o : Outcome (Option (List Value))) (k : Option (List Value) → World → Ending) (l : Exit → Option (List Value) → World → Ending)
     → finish (called n o) k l ≡ finish o (λ v w. k v (cut n w)) (λ e v w. k v (cut n w))
 finish_called n (Gives v w) k l = refl
 finish_called n (Left e v w) k l = refl
@@ -56,11 +55,11 @@ finish_called n (OutOfMarks w) k l = refl
 finish_called n (Asks q w) k l = refl
 
 -- where the exits of a refinement lead
-abbrev pub from_refinement : ℕ → (Option Value → World → Ending) → (Exit → Option Value → World → Ending) → Exit → Option Value → World → Ending
+abbrev pub from_refinement : ℕ → (Option (List Value) → World → Ending) → (Exit → Option (List Value) → World → Ending) → Exit → Option (List Value) → World → Ending
 from_refinement n k l exits.Body v w = k v (cut n w)
 from_refinement n k l exits.Around v w = l exits.Around v w
 
-finish_referred : (n : ℕ) (o : Outcome (Option Value)) (k : Option Value → World → Ending) (l : Exit → Option Value → World → Ending)
+finish_referred : (n : ℕ) (o : Outcome (Option (List Value))) (k : Option (List Value) → World → Ending) (l : Exit → Option (List Value) → World → Ending)
     → finish (referred n o) k l ≡ finish o (λ v w. k v (cut n w)) (from_refinement n k l)
 finish_referred n (Gives v w) k l = refl
 finish_referred n (Left exits.Body v w) k l = refl
@@ -72,12 +71,12 @@ finish_referred n (Asks q w) k l = refl
 module _ (p : Program) where
   -- the code of a body does what the body does: it ends as it is left from itself
   pub record ContentCarries (q first : ℕ) (con : Content) : Type 0 where
-    pub ends : (calls : Calls) (n b : ℕ) (L : Uses) (c : Position) → Within p calls n b L (in_body q) c → (l : Exit → Option Value → World → Ending)
+    pub ends : (calls : Calls) (n b : ℕ) (L : Uses) (c : Position) → Within p calls n b L (in_body q) c → (l : Exit → Option (List Value) → World → Ending)
         → Exits p L b (Some q) c.frames l → (w : World) → w.marks ≤ b
         → Ends p L (at c first []) w (finish (content con (reach calls n c []) w) (l exits.Body) l)
 
   -- a stop where a body is entered changes nothing
-  full_ends : (L : Uses) (c : Position) (s : Stop) (w : World) (cells : Cells) (k : Option Value → World → Ending) (l : Exit → Option Value → World → Ending)
+  full_ends : (L : Uses) (c : Position) (s : Stop) (w : World) (cells : Cells) (k : Option (List Value) → World → Ending) (l : Exit → Option (List Value) → World → Ending)
       → Keeps L w.store cells → After p (after_stage (Stops s) (free c) (scene_of w cells)) (finish (Stopped s w) k l)
   full_ends L c s w cells k l h = record {
     steps = 0;
@@ -87,8 +86,8 @@ module _ (p : Program) where
   }
 
   -- the texts of a frame have room, and the machine goes into the body; or it stops
-  texts_ends : (L U : Uses) (more : List Slot) (c inner : Position) (go : World → Outcome (Option Value)) (k : Option Value → World → Ending)
-      (l : Exit → Option Value → World → Ending) (w : World) (cells now : Cells) → Keeps L w.store cells → Keeps U (w.store ++ more) now → (t : Bool)
+  texts_ends : (L U : Uses) (more : List Slot) (c inner : Position) (go : World → Outcome (Option (List Value))) (k : Option (List Value) → World → Ending)
+      (l : Exit → Option (List Value) → World → Ending) (w : World) (cells now : Cells) → Keeps L w.store cells → Keeps U (w.store ++ more) now → (t : Bool)
       → Ends p U inner (record w { store = w.store ++ more }) (finish (go (record w { store = w.store ++ more })) k l)
       → After p (after_stage (cond t (To inner now) (Stops TextRoom)) (free c) (scene_of w cells))
       (finish (branch t (λ w. go (record w { store = w.store ++ more })) (Stopped TextRoom) w) k l)
@@ -97,8 +96,8 @@ module _ (p : Program) where
       going p (free inner) (scene_of (record w { store = w.store ++ more }) now) _ (e now later)
 
   -- cells are taken for a frame where there is room, and then its texts
-  room_ends : (L M : Uses) (more : List Slot) (ns : List Cell) (c inner : Position) (go : World → Outcome (Option Value)) (k : Option Value → World → Ending)
-      (l : Exit → Option Value → World → Ending) (w : World) (cells : Cells) → c.used ≡ length L → AllKept L (length L) M more ns → Keeps L w.store cells
+  room_ends : (L M : Uses) (more : List Slot) (ns : List Cell) (c inner : Position) (go : World → Outcome (Option (List Value))) (k : Option (List Value) → World → Ending)
+      (l : Exit → Option (List Value) → World → Ending) (w : World) (cells : Cells) → c.used ≡ length L → AllKept L (length L) M more ns → Keeps L w.store cells
       → (t : Bool) → (t ≡ true
       → (length (L ++ M) ≤ CELLS) × Ends p (L ++ M) inner (record w { store = w.store ++ more }) (finish (go (record w { store = w.store ++ more })) k l))
       → After p (after_stage (cond t (cond (texts_fit (content_blocks ns) (blocks_in (written_from c.used ns cells)))
@@ -131,7 +130,7 @@ module _ (p : Program) where
 
   -- with the cells of a frame in use, that those of the frame below are where they were
   enter_ends : (L M : Uses) (more : List Slot) (ns : List Cell) (c : Position) (first base : ℕ) (refines : Bool) (body : ℕ) (ops : List Operand)
-      (go : World → Outcome (Option Value)) (k : Option Value → World → Ending) (l : Exit → Option Value → World → Ending) (w : World) (cells : Cells)
+      (go : World → Outcome (Option (List Value))) (k : Option (List Value) → World → Ending) (l : Exit → Option (List Value) → World → Ending) (w : World) (cells : Cells)
       → c.used ≡ length L → AllKept L (length L) M more ns → Keeps L w.store cells
       → (length (L ++ M) ≤ CELLS
       → Ends p (L ++ M) (entered c first base refines body ops ns) (record w { store = w.store ++ more })
@@ -152,19 +151,19 @@ module _ (p : Program) where
       (λ t. let few = subst (λ n. n ≤ CELLS) (sym all) (leb-true (c.used + length ns) CELLS t) in (few, e few))))
 
   -- what comes after a body, with its cells given back
-  back_after : (L more : Uses) (ks : List OperandKind) (n : ℕ) (f : Frame) (fs : List Frame) (c : Position) (v : Option Value) (w : World)
-      (k : Option Value → World → Ending) → cells_at (tables.layout_of (slice_get p.bodies f.body)) ≡ ks → AreCounts more → n ≡ length L → f.used ≡ length L
-      → c.used ≡ length (L ++ frame_uses ks) + length more
+  back_after : (L more us : Uses) (n : ℕ) (f : Frame) (fs : List Frame) (c : Position) (v : Option (List Value)) (w : World)
+      (k : Option (List Value) → World → Ending) → cells_at (tables.layout_of (slice_get p.bodies f.body)) ≡ map cell_for us → AreCounts more → n ≡ length L → f.used ≡ length L
+      → c.used ≡ length (L ++ call_uses us) + length more
       → Ends p L (record { pc = f.back; ops = result_ops v ++ f.ops; used = f.used; frames = fs }) (cut n w) (k v (cut n w)) → (cells : Cells)
-      → Keeps ((L ++ frame_uses ks) ++ more) w.store cells
+      → Keeps ((L ++ call_uses us) ++ more) w.store cells
       → After p (stage (back_into p (result_ops v) c.used f fs cells) c (scene_of w cells)) (k v (cut n w))
-  back_after L more ks n f fs c v w k kinds' counts is f_is used e cells keeps =
-      let M = frame_uses ks in
+  back_after L more us n f fs c v w k kinds' counts is f_is used e cells keeps =
+      let M = call_uses us in
       let next : Position = record { pc = f.back; ops = result_ops v ++ f.ops; used = f.used; frames = fs } in
       let all : c.used ≡ length (L ++ (M ++ more)) = omega (arith, used, length-append L M, length-append M more, length-append L (M ++ more)) in
       let now = freed f.used c.used cells in
       let held = subst (λ U. Keeps U w.store cells) (append_assoc L M more) keeps in
-      let known = framed L ks more w.store cells (slice_get p.bodies f.body) f.used c.used held counts kinds' f_is all in
+      let known = framed L us more w.store cells (slice_get p.bodies f.body) f.used c.used held counts kinds' f_is all in
       subst (λ t. After p (stage (cond t (Goes next now) Unknown) c (scene_of w cells)) (k v (cut n w))) (sym known)
       (going p (free next) (scene_of (cut n w) now) (k v (cut n w))
       (e now (cuts (λ _. Free) L (M ++ more) w.store cells n f.used c.used is f_is all (λ x u s n past is kept. refl) held)))
@@ -176,13 +175,17 @@ pub record IsMade (p : Program) (bodies : List Body) (q : ℕ) (e : Entry) : Typ
   pub layout : e.layout ≡ layout_of body.scope
   pub carry : ContentCarries p q e.first body.content
 
+-- what the cells of a PROC's frame are for
+abbrev own_uses : List OperandKind → List Kind → Uses
+own_uses ks vs = flat_map uses_of ks ++ map OfValue vs
+
 module _ (bodies : List Body) (p : Program) where
   own_is : (s : Scope) (ks : List OperandKind) (vs : List Kind) → layout_of s ≡ layouts.Own ks vs → own_variables s ≡ vs
   own_is (scopes.Own ps us) ks vs e = cc
   own_is (scopes.Of q) ks vs e = let f : ⊥ = cc in absurd f
   own_is scopes.Level ks vs e = let f : ⊥ = cc in absurd f
 
-  delivers_is : (q : ℕ) (e : Entry) (k : Option Kind) → slice_get p.bodies q ≡ Some e → Delivers p (Some q) k → e.delivers ≡ k
+  delivers_is : (q : ℕ) (e : Entry) (k : Option Shape) → slice_get p.bodies q ≡ Some e → Delivers p (Some q) k → e.delivers ≡ k
   delivers_is q e k is d =
       let same : d.0 ≡ e = entry_is d.0 e (sym d.1 ∙ is) in
       ap (λ (e : Entry). e.delivers) (sym same) ∙ d.2
@@ -195,13 +198,13 @@ module _ (bodies : List Body) (p : Program) where
   owner_own q e ks vs is own = ap (λ o. tables.owner_at q (tables.layout_of o)) is ∙ ap (tables.owner_in q) own
 
   frame_own : (q : ℕ) (e : Entry) (ks : List OperandKind) (vs : List Kind) → slice_get p.bodies q ≡ Some e → e.layout ≡ layouts.Own ks vs
-      → frame_cells p (Some q) ≡ ks ++ map operand.Value vs
-  frame_own q e ks vs is own = ap (cells_in p) (owner_own q e ks vs is own) ∙ ap (λ o. tables.cells_at (tables.layout_of o)) is ∙ ap tables.cells_of own
+      → frame_uses p (Some q) ≡ own_uses ks vs
+  frame_own q e ks vs is own = ap (uses_in p) (owner_own q e ks vs is own) ∙ ap (λ o. uses_at (tables.layout_of o)) is ∙ ap layout_uses own
 
   -- the cells that the tables give to a body
   cells_own : (q : ℕ) (e : Entry) (ks : List OperandKind) (vs : List Kind) → slice_get p.bodies q ≡ Some e → e.layout ≡ layouts.Own ks vs
-      → cells_at (tables.layout_of (slice_get p.bodies q)) ≡ ks ++ map operand.Value vs
-  cells_own q e ks vs is own = ap (λ o. cells_at (tables.layout_of o)) is ∙ ap tables.cells_of own
+      → cells_at (tables.layout_of (slice_get p.bodies q)) ≡ map cell_for (own_uses ks vs)
+  cells_own q e ks vs is own = ap (λ o. cells_at (tables.layout_of o)) is ∙ ap tables.cells_of own ∙ cells_for (layouts.Own ks vs)
 
   cells_refined : (q : ℕ) (e : Entry) → slice_get p.bodies q ≡ Some e → IsRefinement e.layout → cells_at (tables.layout_of (slice_get p.bodies q)) ≡ []
   cells_refined q e is refines = ap (λ o. cells_at (tables.layout_of o)) is ∙ by e.layout refines
@@ -213,19 +216,19 @@ module _ (bodies : List Body) (p : Program) where
 
   -- a PROC is left by both exits to where it was called
   call_exits : (L : Uses) (q n b : ℕ) (e : Entry) (ks : List OperandKind) (vs : List Kind) (f : Frame) (fs : List Frame)
-      (k : Option Value → World → Ending) → slice_get p.bodies q ≡ Some e → e.layout ≡ layouts.Own ks vs → f.body ≡ q → f.refines ≡ false → n ≡ length L
-      → f.used ≡ length L → ((v : Option Value) (w : World) → Result e.delivers v → w.marks ≤ b
+      (k : Option (List Value) → World → Ending) → slice_get p.bodies q ≡ Some e → e.layout ≡ layouts.Own ks vs → f.body ≡ q → f.refines ≡ false → n ≡ length L
+      → f.used ≡ length L → ((v : Option (List Value)) (w : World) → Result e.delivers v → w.marks ≤ b
       → Ends p L (record { pc = f.back; ops = result_ops v ++ f.ops; used = f.used; frames = fs }) w (k v w))
-      → Exits p (L ++ frame_uses (ks ++ map operand.Value vs)) b (Some q) (f ∷ fs) (λ x v w. k v (cut n w))
+      → Exits p (L ++ call_uses (own_uses ks vs)) b (Some q) (f ∷ fs) (λ x v w. k v (cut n w))
   call_exits L q n b e ks vs f fs k is own body calls n_is f_is hk = record {
     by = λ x d gives more counts v w r le c used cells keeps.
         let r' = subst (λ d. Result d v) (sym (delivers_is q e d is (gives_own x d gives))) r in
         let kinds' = ap (λ q. cells_at (tables.layout_of (slice_get p.bodies q))) body ∙ cells_own q e ks vs is own in
         subst (λ m. After p (stage m c (scene_of w cells)) (k v (cut n w))) (sym (way x (result_ops v) c.used cells))
-        (back_after p L more (ks ++ map operand.Value vs) n f fs c v w k kinds' counts n_is f_is used (hk v (cut n w) r' le) cells keeps);
+        (back_after p L more (own_uses ks vs) n f fs c v w k kinds' counts n_is f_is used (hk v (cut n w) r' le) cells keeps);
   }
     where
-      gives_own : (x : Exit) (d : Option Kind) → LeftBy p (Some q) x d → Delivers p (Some q) d
+      gives_own : (x : Exit) (d : Option Shape) → LeftBy p (Some q) x d → Delivers p (Some q) d
       gives_own exits.Body d gives = gives
       gives_own exits.Around d gives = subst (λ o. Delivers p o d) (owner_own q e ks vs is own) gives
 
@@ -234,14 +237,14 @@ module _ (bodies : List Body) (p : Program) where
       way exits.Around result used cells = ap (λ t. cond t (out_to p result used fs cells) (back_into p result used f fs cells)) calls
 
   -- a refinement is left to where it was named, and with the frames around it by the exit around
-  refer_exits : (L : Uses) (q n b : ℕ) (home : Option ℕ) (e : Entry) (f : Frame) (fs : List Frame) (k : Option Value → World → Ending)
-      (l : Exit → Option Value → World → Ending) → slice_get p.bodies q ≡ Some e → IsRefinement e.layout → owner p (Some q) ≡ owner p home → f.body ≡ q
-      → f.refines ≡ true → n ≡ length L → f.used ≡ length L → ((v : Option Value) (w : World) → Result e.delivers v → w.marks ≤ b
+  refer_exits : (L : Uses) (q n b : ℕ) (home : Option ℕ) (e : Entry) (f : Frame) (fs : List Frame) (k : Option (List Value) → World → Ending)
+      (l : Exit → Option (List Value) → World → Ending) → slice_get p.bodies q ≡ Some e → IsRefinement e.layout → owner p (Some q) ≡ owner p home → f.body ≡ q
+      → f.refines ≡ true → n ≡ length L → f.used ≡ length L → ((v : Option (List Value)) (w : World) → Result e.delivers v → w.marks ≤ b
       → Ends p L (record { pc = f.back; ops = result_ops v ++ f.ops; used = f.used; frames = fs }) w (k v w)) → Exits p L b home fs l
       → Exits p (L ++ link_uses) b (Some q) (f ∷ fs) (from_refinement n k l)
   refer_exits L q n b home e f fs k l is refined owned body refines n_is f_is hk hl = record { by = by }
     where
-      by : (x : Exit) (d : Option Kind) → LeftBy p (Some q) x d → (more : Uses) → AreCounts more → (v : Option Value) (w : World) → Result d v → w.marks ≤ b
+      by : (x : Exit) (d : Option Shape) → LeftBy p (Some q) x d → (more : Uses) → AreCounts more → (v : Option (List Value)) (w : World) → Result d v → w.marks ≤ b
           → (c : Position) → c.used ≡ length (L ++ link_uses) + length more → (cells : Cells) → Keeps ((L ++ link_uses) ++ more) w.store cells
           → After p (stage (way_out p x (result_ops v) c.used (f ∷ fs) cells) c (scene_of w cells)) (from_refinement n k l x v w)
       by exits.Body d gives more counts v w r le c used cells keeps =
@@ -254,17 +257,16 @@ module _ (bodies : List Body) (p : Program) where
           ((wider p L link_uses (tt, (tt, tt)) hl).by exits.Around d (subst (λ o. Delivers p o d) owned gives) more counts v w r le c used cells keeps)
 
   -- the cells in use behind the frame below are those of the call
-  stands_called : (L : Uses) (m : Spot) (c c' : Position) (q : ℕ) (cells : List OperandKind) → Stands p L m c → length (L ++ frame_uses cells) ≤ CELLS
-      → c'.used ≡ length (L ++ frame_uses cells) → base_of c'.frames ≡ length L + 2 → frame_cells p (Some q) ≡ cells
-      → Stands p (L ++ frame_uses cells) (in_body q) c'
-  stands_called L m c c' q cells h room used base is = record {
+  stands_called : (L : Uses) (m : Spot) (c c' : Position) (q : ℕ) (us : Uses) → Stands p L m c → length (L ++ call_uses us) ≤ CELLS
+      → c'.used ≡ length (L ++ call_uses us) → base_of c'.frames ≡ length L + 2 → frame_uses p (Some q) ≡ us
+      → Stands p (L ++ call_uses us) (in_body q) c'
+  stands_called L m c c' q us h room used base is = record {
     used = used;
     room = room;
-    level = λ x k e. get_left L (frame_uses cells) x (OfValue k) (h.level x k e);
-    frame = λ x k e.
+    level = λ x k e. get_left L (call_uses us) x (OfValue k) (h.level x k e);
+    frame = λ x u e.
         let n : base_of c'.frames + x ≡ length L + suc (suc x) = omega (arith, base) in
-        ap (slice_get (L ++ frame_uses cells)) n ∙ get_right L (frame_uses cells) (suc (suc x)) ∙ slice_get-map use_of cells x
-        ∙ ap (option_map use_of) (ap (λ l. slice_get l x) (sym is) ∙ e);
+        ap (slice_get (L ++ call_uses us)) n ∙ get_right L (call_uses us) (suc (suc x)) ∙ ap (λ l. slice_get l x) (sym is) ∙ e;
   }
 
   stands_referred : (L : Uses) (m : Spot) (c c' : Position) (q : ℕ) → Stands p L m c → length (L ++ link_uses) ≤ CELLS → c'.used ≡ length (L ++ link_uses)
@@ -273,40 +275,40 @@ module _ (bodies : List Body) (p : Program) where
     used = used;
     room = room;
     level = λ x k e. get_left L link_uses x (OfValue k) (h.level x k e);
-    frame = λ x k e.
+    frame = λ x u e.
         ap (λ z. slice_get (L ++ link_uses) (z + x)) base
-        ∙ get_left L link_uses (base_of c.frames + x) (use_of k) (h.frame x k (ap (λ o. slice_get (cells_in p o) x) (sym owned) ∙ e));
+        ∙ get_left L link_uses (base_of c.frames + x) u (h.frame x u (ap (λ o. slice_get (uses_in p o) x) (sym owned) ∙ e));
   }
 
   module _ (made : (q : ℕ) (e : Entry) → slice_get p.bodies q ≡ Some e → IsMade p bodies q e) where
     -- a PROC that is called, where calls in it do what they do
     call_ends : (n b pc q : ℕ) (L : Uses) (m : Spot) (c : Position) (ops : List Operand) (e : Entry) (ks : List OperandKind) (us : List Kind)
-        (args : List Slot) (con : Content) → CallsCarry p (level bodies n) n → b ≤ n → Stands p L m c → slice_get p.bodies q ≡ Some e
+        (args : List Passed) (con : Content) → CallsCarry p (level bodies n) n → b ≤ n → Stands p L m c → slice_get p.bodies q ≡ Some e
         → e.layout ≡ layouts.Own ks us → TakeAll p ks L args → ContentCarries p q e.first con
-        → (k : Option Value → World → Ending) (l : Exit → Option Value → World → Ending)
-        → ((v : Option Value) (w : World) → Result e.delivers v → w.marks ≤ b → Ends p L (at c (pc + 1) (result_ops v ++ ops)) w (k v w)) → (w : World)
+        → (k : Option (List Value) → World → Ending) (l : Exit → Option (List Value) → World → Ending)
+        → ((v : Option (List Value)) (w : World) → Result e.delivers v → w.marks ≤ b → Ends p L (at c (pc + 1) (result_ops v ++ ops)) w (k v w)) → (w : World)
         → w.marks ≤ b → (cells : Cells) → Keeps L w.store cells
-        → After p (after_stage (enters (at c pc (pushed_slots p args ops)) e.first (c.used + 2) false q ops
-        (frame_contents (map slot_operand args) us) cells) (free (at c pc (pushed_slots p args ops))) (scene_of w cells))
-        (finish (with_room (frame args us)
+        → After p (after_stage (enters (at c pc (pushed_passed p args ops)) e.first (c.used + 2) false q ops
+        (frame_contents (map passed_operand args) us) cells) (free (at c pc (pushed_passed p args ops))) (scene_of w cells))
+        (finish (with_room (frame (all_slots args) us)
         (λ w'. called (length w.store)
         (content con (record { calls = level bodies n; turns = n; base = length w.store + 2; held = bytes_on ops (bytes_of c.frames) }) w')) w) k l)
     call_ends n b pc q L m c ops e ks us args con calls le h is own takes body k l hk w lw cells keeps =
-        let now = at c pc (pushed_slots p args ops) in
+        let now = at c pc (pushed_passed p args ops) in
         let N = length w.store in
         let same : c.used ≡ N = omega (arith, h.used, keeps.as_many) in
-        let frame' = ks ++ map operand.Value us in
-        let M = frame_uses frame' in
-        let ns = frame_contents (map slot_operand args) us in
+        let frame' = own_uses ks us in
+        let M = call_uses frame' in
+        let ns = frame_contents (map passed_operand args) us in
         let kept = frame_kept p L ks args us takes in
-        let w' : World = record w { store = w.store ++ frame args us } in
+        let w' : World = record w { store = w.store ++ frame (all_slots args) us } in
         let inner = entered p now e.first (c.used + 2) false q ops ns in
-        let l' = λ (x : Exit) (v : Option Value) (w : World). k v (cut N w) in
+        let l' = λ (x : Exit) (v : Option (List Value)) (w : World). k v (cut N w) in
         let go = λ (z : ℕ) (w : World). content con (record { calls = level bodies n; turns = n; base = z + 2; held = bytes_on ops (bytes_of c.frames) }) w in
         let f : Frame = record { back = pc + 1; base = c.used + 2; used = c.used; refines = false; body = q; ops = ops } in
-        enter_ends p L M (frame args us) ns now e.first (c.used + 2) false q ops (λ w. called N (go N w)) k l w cells h.used kept keeps (λ room.
+        enter_ends p L M (frame (all_slots args) us) ns now e.first (c.used + 2) false q ops (λ w. called N (go N w)) k l w cells h.used kept keeps (λ room.
         let base : c.used + 2 ≡ length L + 2 = omega (arith, h.used) in
-        let used : c.used + length ns ≡ length (L ++ M) = omega (arith, h.used, length-append L M, (kept_lengths L M (length L) (frame args us) ns kept).1) in
+        let used : c.used + length ns ≡ length (L ++ M) = omega (arith, h.used, length-append L M, (kept_lengths L M (length L) (frame (all_slots args) us) ns kept).1) in
         let within : Within p (level bodies n) n b (L ++ M) (in_body q) inner =
         record { turns = le; stands = stands_called L m c inner q frame' h room used base (frame_own q e ks us is own); carry = calls } in
         let exits' = call_exits L q N b e ks us f c.frames k is own refl refl keeps.as_many h.used hk in
@@ -317,8 +319,8 @@ module _ (bodies : List Body) (p : Program) where
     -- a refinement, which goes on over the cells of the frame below
     refer_ends : (n b pc q : ℕ) (L : Uses) (m : Spot) (c : Position) (ops : List Operand) (e : Entry) (con : Content) → CallsCarry p (level bodies n) n → b ≤ n
         → Stands p L m c → slice_get p.bodies q ≡ Some e → IsRefinement e.layout → owner p (Some q) ≡ owner p m.body → ContentCarries p q e.first con
-        → (k : Option Value → World → Ending) (l : Exit → Option Value → World → Ending)
-        → ((v : Option Value) (w : World) → Result e.delivers v → w.marks ≤ b → Ends p L (at c (pc + 1) (result_ops v ++ ops)) w (k v w))
+        → (k : Option (List Value) → World → Ending) (l : Exit → Option (List Value) → World → Ending)
+        → ((v : Option (List Value)) (w : World) → Result e.delivers v → w.marks ≤ b → Ends p L (at c (pc + 1) (result_ops v ++ ops)) w (k v w))
         → Exits p L b m.body c.frames l → (w : World) → w.marks ≤ b → (cells : Cells) → Keeps L w.store cells
         → After p (after_stage (enters (at c pc ops) e.first (base_of c.frames) true q ops link_contents cells) (free (at c pc ops)) (scene_of w cells))
         (finish (with_room link (λ w'.
@@ -344,13 +346,13 @@ module _ (bodies : List Body) (p : Program) where
         (body.ends (level bodies n) n b (L ++ M) inner within (from_refinement N k l) exits' w' lw))
 
     call_step : (pc q : ℕ) (L : Uses) (ks : List OperandKind) (m : Spot) (c : Position) (ops : List Operand) (e : Entry) (parameters : List OperandKind)
-        (vs : List Kind) (args : List Slot) → slice_get p.lines pc ≡ Some (line_of (Call q) ks m) → slice_get p.bodies q ≡ Some e
+        (vs : List Kind) (args : List Passed) → slice_get p.lines pc ≡ Some (line_of (Call q) ks m) → slice_get p.bodies q ≡ Some e
         → e.layout ≡ layouts.Own parameters vs → TakeAll p parameters L args → (cells : Cells)
-        → step p (at c pc (pushed_slots p args ops)) cells
-        ≡ Spends (enters (at c pc (pushed_slots p args ops)) e.first (c.used + 2) false q ops (frame_contents (map slot_operand args) vs) cells)
+        → step p (at c pc (pushed_passed p args ops)) cells
+        ≡ Spends (enters (at c pc (pushed_passed p args ops)) e.first (c.used + 2) false q ops (frame_contents (map passed_operand args) vs) cells)
     call_step pc q L ks m c ops e parameters vs args has is own takes cells =
-        let now = at c pc (pushed_slots p args ops) in
-        here p pc (Call q) ks m has c (pushed_slots p args ops) cells ∙ ap (λ o. call_move now q o cells) is ∙ ap (λ x. calls_to now q e.first x cells) own
+        let now = at c pc (pushed_passed p args ops) in
+        here p pc (Call q) ks m has c (pushed_passed p args ops) cells ∙ ap (λ o. call_move now q o cells) is ∙ ap (λ x. calls_to now q e.first x cells) own
         ∙ all_taken p L parameters (length parameters) args ops
         (λ args ops. Spends (enters now e.first (c.used + 2) false q ops (frame_contents args vs) cells)) refl takes
 
@@ -363,8 +365,8 @@ module _ (bodies : List Body) (p : Program) where
     pub level_carries : (n : ℕ) → CallsCarry p (level bodies n) n
     level_carries zero = record {
       call = λ L b pc q ks m c ops e parameters vs args le h has is own takes.
-          out_carries p b (at c pc (pushed_slots p args ops))
-          (λ cells. enters (at c pc (pushed_slots p args ops)) e.first (c.used + 2) false q ops (frame_contents (map slot_operand args) vs) cells)
+          out_carries p b (at c pc (pushed_passed p args ops))
+          (λ cells. enters (at c pc (pushed_passed p args ops)) e.first (c.used + 2) false q ops (frame_contents (map passed_operand args) vs) cells)
           (λ v. at c (pc + 1) (result_ops v ++ ops)) le (call_step pc q L ks m c ops e parameters vs args has is own takes);
       refer = λ L b pc q ks m c ops e le h has is refined owned.
           out_carries p b (at c pc ops) (λ cells. enters (at c pc ops) e.first (base_of c.frames) true q ops link_contents cells)
@@ -377,14 +379,14 @@ module _ (bodies : List Body) (p : Program) where
           let vs_are : us ≡ vs = own_is x.body.scope parameters vs (sym x.layout ∙ own) in
           let own' : e.layout ≡ layouts.Own parameters us = own ∙ ap (layouts.Own parameters) (sym vs_are) in
           let held = bytes_on ops (bytes_of c.frames) in
-          let now = at c pc (pushed_slots p args ops) in
-          spend_carries p b now (λ cells. enters now e.first (c.used + 2) false q ops (frame_contents (map slot_operand args) us) cells)
-          (run_called (level bodies n) n (slice_get bodies q) args held) (λ v. at c (pc + 1) (result_ops v ++ ops))
+          let now = at c pc (pushed_passed p args ops) in
+          spend_carries p b now (λ cells. enters now e.first (c.used + 2) false q ops (frame_contents (map passed_operand args) us) cells)
+          (run_called (level bodies n) n (slice_get bodies q) (all_slots args) held) (λ v. at c (pc + 1) (result_ops v ++ ops))
           (call_step pc q L ks m c ops e parameters us args has is own' takes) (λ b' lt. record {
             by = λ k l hk hl w lw cells keeps.
-                subst (λ o. After p (after_stage (enters now e.first (c.used + 2) false q ops (frame_contents (map slot_operand args) us) cells)
+                subst (λ o. After p (after_stage (enters now e.first (c.used + 2) false q ops (frame_contents (map passed_operand args) us) cells)
                 (free now)
-                (scene_of w cells)) (finish (run_called (level bodies n) n o args held w) k l)) (sym x.is)
+                (scene_of w cells)) (finish (run_called (level bodies n) n o (all_slots args) held w) k l)) (sym x.is)
                 (call_ends n b' pc q L m c ops e parameters us args x.body.content (level_carries n) (omega (arith, le, lt)) h is own' takes x.carry k l hk w lw
                 cells keeps);
           });

@@ -7,6 +7,7 @@ use Rattle.std.proofs.lemmas.Option.{slice_get-map, slice_get_within, slice_get-
 use Rattle.eu_base.specs.declared.address.TheConstants.{CELLS}
 use Rattle.eu_base.specs.declared.stop.Stop.TheVariants.{CellRoom}
 use Rattle.eu_base.specs.declared.value.Kind.{Kind}
+use Rattle.eu_base.specs.declared.shape.Shape.{Shape}
 use Rattle.eu_base.specs.declared.value.Value.{Value}
 use Rattle.eu_base.specs.Room.{cells_fit}
 use Rattle.eu_base.specs.Cells.{Cells, run_cell}
@@ -108,10 +109,10 @@ module _ (core : Core) (typed : IsWellTyped core) where
   abbrev top : Position
   top = record { pc = 0; ops = []; used = number; frames = [] }
 
-  no_exits : (b : ℕ) (l : Exit → Option Value → World → Ending) → Exits p (level_uses p.variables) b None [] l
+  no_exits : (b : ℕ) (l : Exit → Option (List Value) → World → Ending) → Exits p (level_uses p.variables) b None [] l
   no_exits b l = record { by = λ e k d. absurd (none e k d) }
     where
-      none : (e : Exit) (k : Option Kind) → LeftBy p None e k → ⊥
+      none : (e : Exit) (k : Option Shape) → LeftBy p None e k → ⊥
       none exits.Body k d = d
       none exits.Around k d = d
 
@@ -126,7 +127,7 @@ module _ (core : Core) (typed : IsWellTyped core) where
   runs : (w : World) (cells : Cells) → number ≤ CELLS → Keeps (level_uses p.variables) w.store cells
       → Comes p (free top) (scene_of w cells) (ending (all (map act core.units) (from_level core w.marks) w))
   runs w cells room keeps =
-      let l = λ (e : Exit) (v : Option Value) (w : World). endings.Ended w in
+      let l = λ (e : Exit) (v : Option (List Value)) (w : World). endings.Ended w in
       let q = 0 + units.size in
       let within : Within p (level core.bodies w.marks) w.marks w.marks (level_uses p.variables) at_level top =
       record { turns = omega arith; stands = stands room; carry = level_carries core.bodies p made w.marks } in

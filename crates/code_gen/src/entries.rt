@@ -6,7 +6,7 @@ ghost use Rattle.code_gen.specs.Program.{body_lines, entries, entry_of};
 
 use code_form::{Entry, Layout, OperandKind};
 use elan_types::{Access, Body, Content, Formal, Scope};
-use eu_base::{Kind, List, NoMemory};
+use eu_base::{List, NoMemory, Shape};
 use place_gen::{Draft, emit_content};
 use std::alloc::Global;
 
@@ -30,7 +30,7 @@ fn entry_of(alloc: Global, body: &Body, first: usize) -> Result<Entry, NoMemory>
     Ok(Entry {
         first,
         layout: layout_of(alloc, &body.scope)?,
-        delivers: delivered_kind(&body.content),
+        delivers: delivered_shape(alloc, &body.content)?,
     })
 }
 
@@ -50,22 +50,23 @@ fn layout_of(alloc: Global, scope: &Scope) -> Result<Layout, NoMemory>
     }
 }
 
-fn delivered_kind(content: &Content) -> Option<Kind>
-    ensures { result ≡ result_of_content content.now }
+fn delivered_shape(alloc: Global, content: &Content) -> Result<Option<Shape>, NoMemory>
+    ensures { IfOk result (λ shape. shape ≡ result_of_content content.now) }
 {
     match content {
-        Content::Units(_) => None,
-        Content::Value(kind, _) => Some(*kind),
+        Content::Units(_) => Ok(None),
+        Content::Value(shape, _) => Ok(Some(shape.try_clone(alloc)?)),
     }
 }
 
-fn parameter_kind(parameter: Formal) -> OperandKind
-    ensures { result ≡ parameter_kind parameter }
+fn parameter_kind(alloc: Global, parameter: &Formal) -> Result<OperandKind, NoMemory>
+    ensures { IfOk result (λ kind. kind ≡ parameter_kind parameter.now) }
 {
-    match parameter.access {
-        Access::Const => OperandKind::Value(parameter.kind),
-        Access::Var => OperandKind::Place(parameter.kind),
-    }
+    let shape = parameter.shape.try_clone(alloc)?;
+    Ok(match parameter.access {
+        Access::Const => OperandKind::Value(shape),
+        Access::Var => OperandKind::Place(shape),
+    })
 }
 
 fn parameter_kinds(alloc: Global, parameters: &[Formal]) -> Result<List<OperandKind>, NoMemory>
@@ -73,7 +74,7 @@ fn parameter_kinds(alloc: Global, parameters: &[Formal]) -> Result<List<OperandK
 {
     let mut kinds = List::new(alloc);
     for parameter in parameters {
-        kinds.push(parameter_kind(*parameter))?;
+        kinds.push(parameter_kind(alloc, parameter)?)?;
     }
     Ok(kinds)
 }

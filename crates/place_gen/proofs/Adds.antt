@@ -1,11 +1,13 @@
 -- What several steps of the making of code add together.
 use Rattle.std.proofs.Common.{◌≡◌, ℕ, ◌+◌, List, [], ◌∷◌, ◌++◌, length, drop, Some, ap, ◌∙◌, arith, append_assoc, sym}
+use Rattle.eu_base.specs.declared.shape.Shape.{Shape}
 use Rattle.code_form.specs.declared.operand.OperandKind.{OperandKind}
+use Rattle.code_form.specs.declared.operand.OperandKind.TheVariants.{Value}
 use Rattle.code_form.specs.declared.instr.Instr.TheVariants.{Mark, Jump, False}
 use Rattle.code_form.specs.Program.{line_of}
 use Rattle.elan_types.specs.Eval.{Labelled}
 use Rattle.place_gen.specs.declared.draft.Draft.{Draft}
-use Rattle.place_gen.specs.Stretch.{Stretch, one, keeps, join, if_code, whens, whens_code, arm_code, Exit, exit_join, until_code, turns_code}
+use Rattle.place_gen.specs.Stretch.{Stretch, one, keeps, pushes, never_code, join, if_code, whens, whens_code, arm_code, Exit, exit_join, until_code, turns_code}
 use Rattle.place_gen.specs.Adds.{Adds, AddsExit, AddsArm, Restores, Turns}
 
 -- two stretches, one after the other
@@ -115,6 +117,19 @@ turns_adds turn end top a b c d x y z e e' =
     z.0 ∙ ap (λ i. c.lines ++ i ∷ []) w ∙ ap (λ l. l ++ back ∷ []) (y.0 ∙ ap (λ l. b.lines ++ l) v ∙ ap (λ l. l ++ body) x.0) in
     let flat : ((a.lines ++ mark ∷ []) ++ body) ++ back ∷ [] ≡ a.lines ++ mark ∷ (body ++ back ∷ []) = simp append_assoc in
     (all ∙ flat, omega (arith, x.1, y.1, z.1), z.2 ∙ k2, z.3 ∙ s2)
+
+-- a mark and the way back to it
+pub never_adds : (s : Shape) (top : ℕ) (a b c : Draft) → Adds (one Mark keeps) a b → Adds (one (Jump top) (pushes (Value s))) b c → top ≡ length a.lines
+    → Adds (never_code s) a c
+never_adds s top a b c x y e =
+    let k : b.pending ≡ a.pending = x.2 in
+    let s' : b.spot ≡ a.spot = x.3 in
+    let mark = line_of Mark a.pending a.spot in
+    let back = line_of (Jump (length a.lines)) a.pending a.spot in
+    let w : line_of (Jump top) b.pending b.spot ≡ back = cc in
+    let all : c.lines ≡ (a.lines ++ mark ∷ []) ++ back ∷ [] = y.0 ∙ ap (λ i. b.lines ++ i ∷ []) w ∙ ap (λ l. l ++ back ∷ []) x.0 in
+    let flat : (a.lines ++ mark ∷ []) ++ back ∷ [] ≡ a.lines ++ mark ∷ (back ∷ []) = simp append_assoc in
+    (all ∙ flat, omega (arith, x.1, y.1), y.2 ∙ ap (pushes (Value s)) k, y.3 ∙ s')
 
 -- a part of a SELECT: tests, the way past it, the part, and the way to the end
 pub arm_adds : (arm : Labelled Stretch) (end past : ℕ) (ks : List OperandKind) (a b c d e g h : Draft) → Adds (whens_code arm.labels past) a b

@@ -44,7 +44,7 @@ held_blocks (Text t) = refl
 
 kept_blocks : (L : Uses) (at : ℕ) (k : Use) (s : Slot) (n : Cell) → Kept L at k s n → cell_blocks n ≡ slot_blocks s
 kept_blocks L at (OfValue k) s n g = ap cell_blocks g.3 ∙ held_blocks g.0 ∙ ap slot_blocks (sym g.1)
-kept_blocks L at (OfPlace k) s n g = ap cell_blocks g.4 ∙ ap slot_blocks (sym g.1)
+kept_blocks L at (OfPlace ks) s n g = ap cell_blocks g.4 ∙ ap slot_blocks (sym g.1)
 kept_blocks L at (OfLimit l) s n g = ap cell_blocks g.2 ∙ ap slot_blocks (sym g.0)
 kept_blocks L at OfNothing s n g = ap cell_blocks g.1 ∙ ap slot_blocks (sym g.0)
 

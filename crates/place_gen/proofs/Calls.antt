@@ -4,9 +4,9 @@ use Rattle.std.specs.Prelude.{slice_get}
 use Rattle.std.proofs.lemmas.List.{append-nil}
 use Rattle.eu_base.specs.declared.value.Kind.{Kind}
 use Rattle.eu_base.specs.declared.value.Value.{Value}
+use Rattle.eu_base.specs.declared.shape.Shape.{Shape}
 use Rattle.eu_base.specs.Cells.{Cells}
 use Rattle.code_form.specs.declared.operand.Operand.{Operand}
-use Rattle.code_form.specs.declared.operand.Operand.TheVariants.{Value as Of}
 use Rattle.code_form.specs.declared.operand.OperandKind.{OperandKind}
 use Rattle.code_form.specs.declared.operand.OperandKind.TheVariants as operand
 use Rattle.code_form.specs.declared.instr.Instr.TheVariants.{Call}
@@ -18,33 +18,35 @@ use Rattle.code_form.specs.Machine.{Position, Move, at, base_of, bytes_on, bytes
 use Rattle.code_form.specs.Valid.{IsRefinement, with_result}
 use Rattle.elan_types.specs.declared.core_phrase.Exit.{Exit}
 use Rattle.elan_types.specs.declared.core_phrase.Exit.TheVariants as exits
-use Rattle.elan_types.specs.Eval.{Place, Slot, Holds, Refers, Taken, World, Gives, Left, bind, holding_slot, actuals, delivered, Calls, Run}
+use Rattle.elan_types.specs.Eval.{Place, World, Gives, Left, bind, Passed, AsValue, AsPlace, all_slots, holding_passed, actuals, delivered, Calls, Run}
 use Rattle.place_gen.specs.Stretch.{Stretch, none, one, keeps, join, all_code, call_code, refer_code, leave_instr}
 use Rattle.elan_types.specs.Command.{Ending}
 use Rattle.place_gen.specs.Correct.{scene_of}
 use Rattle.place_gen.proofs.Lines.{join_sized}
 use Rattle.place_gen.proofs.Homes.{LeftBy}
 use Rattle.place_gen.proofs.Cells.{Uses, Keeps}
-use Rattle.place_gen.proofs.Carry.{Any, OfKind, Result, result_ops, way_out, reach, Ends, Exits, Carries, Takes, TakeAll, operand_of, pushed_slots, on_move}
+use Rattle.place_gen.proofs.Carry.{Any, OfShape, Result, result_ops, way_out, reach, holds_operand, Ends, Exits, Carries, Takes, TakeAll, passed_operand, pushed_passed, on_move}
 use Rattle.place_gen.proofs.Carry.{then_carries, none_carries, here, ends_at, join_carries}
 use Rattle.place_gen.proofs.Forms.{keep, keep_place, Is, IsValue, IsPlace, IsAction}
 
 -- the instruction that leaves a body
 module _ (p : Program) where
-  leave_move : (e : Exit) (k : Option Kind) (c : Position) (cells : Cells)
+  leave_move : (e : Exit) (k : Option Shape) (c : Position) (cells : Cells)
       → instruction p (Some (leave_instr e k)) c cells ≡ on_result k c.ops (λ result. way_out p e result c.used c.frames cells)
   leave_move exits.Body k c cells = refl
   leave_move exits.Around k c cells = refl
 
-  result_taken : (k : Option Kind) (v : Option Value) (ops : List Operand) (go : List Operand → Move) → Result k v
+  result_taken : (k : Option Shape) (v : Option (List Value)) (ops : List Operand) (go : List Operand → Move) → Result k v
       → on_result k (result_ops v ++ ops) go ≡ go (result_ops v)
   result_taken None None ops go r = refl
   result_taken None (Some v) ops go r = absurd r
-  result_taken (Some k) None ops go r = absurd r
-  result_taken (Some k) (Some v) ops go r = refl
+  result_taken (Some s) None ops go r = absurd r
+  result_taken (Some s) (Some []) ops go r = refl
+  result_taken (Some s) (Some (v ∷ [])) ops go r = refl
+  result_taken (Some s) (Some (v ∷ u ∷ vs)) ops go r = refl
 
-  pub leave_ends : (e : Exit) (k : Option Kind) (v : Option Value) (L : Uses) (b pc : ℕ) (ks : List OperandKind) (m : Spot) (c : Position)
-      (ops : List Operand) (l : Exit → Option Value → World → Ending) → Result k v → LeftBy p m.body e k
+  pub leave_ends : (e : Exit) (k : Option Shape) (v : Option (List Value)) (L : Uses) (b pc : ℕ) (ks : List OperandKind) (m : Spot) (c : Position)
+      (ops : List Operand) (l : Exit → Option (List Value) → World → Ending) → Result k v → LeftBy p m.body e k
       → slice_get p.lines pc ≡ Some (line_of (leave_instr e k) ks m) → c.used ≡ length L → Exits p L b m.body c.frames l → (w : World) → w.marks ≤ b
       → Ends p L (at c pc (result_ops v ++ ops)) w (l e v w)
   leave_ends e k v L b pc ks m c ops l r d has used hl w le = λ cells keeps.
@@ -56,31 +58,35 @@ module _ (p : Program) where
 
 module _ (p : Program) (body : Option ℕ) where
   -- what a parameter is given, and what parameters are given
-  abbrev pub IsActual : OperandKind → Run Slot → Stretch → Type 0
-  IsActual k = Is p body (Takes p k) (operand_of p)
+  abbrev push_passed : Passed → List Operand → List Operand
+  push_passed a ops = passed_operand a ∷ ops
 
-  abbrev pub AreActuals : List OperandKind → List (Run Slot) → Stretch → Type 0
-  AreActuals ks xs = Is p body (TakeAll p ks) (pushed_slots p) (actuals xs)
+  abbrev pub IsActual : OperandKind → Run Passed → Stretch → Type 0
+  IsActual k = Is p body (Takes p k) push_passed
 
-  pub value_actual : {x : Run Value} {f : Stretch} (k : Kind) → IsValue p body k x f → IsActual (operand.Value k) (λ r w. bind (x r w) (λ v. Gives (Holds v))) f
-  value_actual {x} {f} k i = record {
+  abbrev pub AreActuals : List OperandKind → List (Run Passed) → Stretch → Type 0
+  AreActuals ks xs = Is p body (TakeAll p ks) (pushed_passed p) (actuals xs)
+
+  pub value_actual : {x : Run (List Value)} {f : Stretch} (s : Shape) → IsValue p body s x f
+      → IsActual (operand.Value s) (λ r w. bind (x r w) (λ vs. Gives (AsValue vs))) f
+  value_actual {x} {f} s i = record {
     sized = i.sized;
     goes =
         λ calls n b pc L ks m c ops home le has.
-        then_carries p b (at c pc ops) (x (reach calls n c ops)) (λ v. at c (pc + f.size) (keep v ops)) (λ v. Gives (Holds v))
-        (λ s. at c (pc + f.size) (operand_of p s ops)) (i.goes calls n b pc L ks m c ops home le has)
-        (λ v ok. none_carries p b (Holds v) (λ s. at c (pc + f.size) (operand_of p s ops)) (v, refl, ok));
+        then_carries p b (at c pc ops) (x (reach calls n c ops)) (λ vs. at c (pc + f.size) (keep vs ops)) (λ vs. Gives (AsValue vs))
+        (λ a. at c (pc + f.size) (push_passed a ops)) (i.goes calls n b pc L ks m c ops home le has)
+        (λ vs ok. none_carries p b (AsValue vs) (λ a. at c (pc + f.size) (push_passed a ops)) (vs, refl, ok));
   }
 
-  pub place_actual : {x : Run Place} {f : Stretch} (k : Kind) → IsPlace p body k x f
-      → IsActual (operand.Place k) (λ r w. bind (x r w) (λ v. Gives (Refers v))) f
-  place_actual {x} {f} k i = record {
+  pub place_actual : {x : Run Place} {f : Stretch} (s : Shape) → IsPlace p body s x f
+      → IsActual (operand.Place s) (λ r w. bind (x r w) (λ v. Gives (AsPlace v))) f
+  place_actual {x} {f} s i = record {
     sized = i.sized;
     goes =
         λ calls n b pc L ks m c ops home le has.
-        then_carries p b (at c pc ops) (x (reach calls n c ops)) (λ v. at c (pc + f.size) (keep_place v ops)) (λ v. Gives (Refers v))
-        (λ s. at c (pc + f.size) (operand_of p s ops)) (i.goes calls n b pc L ks m c ops home le has)
-        (λ v ok. none_carries p b (Refers v) (λ s. at c (pc + f.size) (operand_of p s ops)) (v, refl, ok));
+        then_carries p b (at c pc ops) (x (reach calls n c ops)) (λ v. at c (pc + f.size) (keep_place v ops)) (λ v. Gives (AsPlace v))
+        (λ a. at c (pc + f.size) (push_passed a ops)) (i.goes calls n b pc L ks m c ops home le has)
+        (λ v ok. none_carries p b (AsPlace v) (λ a. at c (pc + f.size) (push_passed a ops)) (v, refl, ok));
   }
 
   pub no_actuals_are : AreActuals [] [] none
@@ -88,89 +94,90 @@ module _ (p : Program) (body : Option ℕ) where
     sized = λ ks m pc. refl;
     goes =
         λ calls n b pc L ks m c ops home le has.
-        ends_at p b (at c pc ops) c (Gives []) pc _ (λ ss. pushed_slots p ss ops) (omega arith)
-        (none_carries p b [] (λ ss. at c pc (pushed_slots p ss ops)) tt);
+        ends_at p b (at c pc ops) c (Gives []) pc _ (λ ss. pushed_passed p ss ops) (omega arith)
+        (none_carries p b [] (λ ss. at c pc (pushed_passed p ss ops)) tt);
   }
 
-  -- what is pending with a slot
-  held_slot : (calls : Calls) (n : ℕ) (c : Position) (ops : List Operand) (s : Slot)
-      → reach calls n c (operand_of p s ops) ≡ holding_slot s (reach calls n c ops)
-  held_slot calls n c ops (Holds v) = refl
-  held_slot calls n c ops (Refers x) = refl
-  held_slot calls n c ops Taken = refl
+  -- what is pending with it
+  held_passed : (calls : Calls) (n : ℕ) (c : Position) (ops : List Operand) (a : Passed)
+      → reach calls n c (push_passed a ops) ≡ holding_passed a (reach calls n c ops)
+  held_passed calls n c ops (AsValue vs) = sym (holds_operand calls n c vs ops)
+  held_passed calls n c ops (AsPlace x) = refl
 
-  pub more_actuals_are : (k : OperandKind) (ks' : List OperandKind) (x : Run Slot) (y : List (Run Slot)) {f g : Stretch} → IsActual k x f → AreActuals ks' y g
+  pub more_actuals_are : (k : OperandKind) (ks' : List OperandKind) (x : Run Passed) (y : List (Run Passed)) {f g : Stretch} → IsActual k x f → AreActuals ks' y g
       → AreActuals (k ∷ ks') (x ∷ y) (join f g)
   more_actuals_are k ks' x y {f} {g} i j = record {
     sized = join_sized f g i.sized j.sized;
     goes =
         λ calls n b pc L ks m c ops home le has.
         join_carries p f g b pc ks m c ops (x (reach calls n c ops))
-        (λ s w. bind (actuals y (holding_slot s (reach calls n c ops)) w) (λ ss. Gives (s ∷ ss))) (λ s. operand_of p s ops) (λ ss. pushed_slots p ss ops)
+        (λ s w. bind (actuals y (holding_passed s (reach calls n c ops)) w) (λ ss. Gives (s ∷ ss))) (λ s. push_passed s ops) (λ ss. pushed_passed p ss ops)
         i.sized has (λ h. i.goes calls n b pc L ks m c ops home le h) (λ h s ok.
         let q = pc + f.size in
-        let more = operand_of p s ops in
-        then_carries p b (at c q more) (actuals y (holding_slot s (reach calls n c ops))) (λ ss. at c (q + g.size) (pushed_slots p ss more))
-        (λ ss. Gives (s ∷ ss)) (λ ss. at c (q + g.size) (pushed_slots p ss ops))
-        (subst (λ r. Carries p L m.body c.frames (TakeAll p ks') b (at c q more) (actuals y r) (λ ss. at c (q + g.size) (pushed_slots p ss more)))
-        (held_slot calls n c ops s) (j.goes calls n b q L (f.leaves ks) m c more home le h))
-        (λ ss oks. none_carries p b (s ∷ ss) (λ ss. at c (q + g.size) (pushed_slots p ss ops)) (ok, oks)));
+        let more = push_passed s ops in
+        then_carries p b (at c q more) (actuals y (holding_passed s (reach calls n c ops))) (λ ss. at c (q + g.size) (pushed_passed p ss more))
+        (λ ss. Gives (s ∷ ss)) (λ ss. at c (q + g.size) (pushed_passed p ss ops))
+        (subst (λ r. Carries p L m.body c.frames (TakeAll p ks') b (at c q more) (actuals y r) (λ ss. at c (q + g.size) (pushed_passed p ss more)))
+        (held_passed calls n c ops s) (j.goes calls n b q L (f.leaves ks) m c more home le h))
+        (λ ss oks. none_carries p b (s ∷ ss) (λ ss. at c (q + g.size) (pushed_passed p ss ops)) (ok, oks)));
   }
 
   -- the result of a body that delivers a value, and of one that delivers none
-  value_result : {L : Uses} {home : Option ℕ} (k : Kind) (d : Option Kind) (b z : ℕ) (c : Position) (ops : List Operand) (v : Option Value) → d ≡ Some k
-      → Result d v → Carries p L home c.frames (OfKind k) b (at c z (result_ops v ++ ops)) (Gives (delivered v)) (λ v. at c z (Of v ∷ ops))
+  value_result : {L : Uses} {home : Option ℕ} (s : Shape) (d : Option Shape) (b z : ℕ) (c : Position) (ops : List Operand) (v : Option (List Value))
+      → d ≡ Some s → Result d v
+      → Carries p L home c.frames (OfShape s) b (at c z (result_ops v ++ ops)) (Gives (delivered v)) (λ vs. at c z (keep vs ops))
   value_result k d b z c ops None e ok = absurd (subst (λ d. Result d None) e ok)
-  value_result k d b z c ops (Some v) e ok = none_carries p b v (λ v. at c z (Of v ∷ ops)) (subst (λ d. Result d (Some v)) e ok)
+  value_result k d b z c ops (Some v) e ok = none_carries p b v (λ vs. at c z (keep vs ops)) (subst (λ d. Result d (Some v)) e ok)
 
-  no_result : {L : Uses} {home : Option ℕ} (d : Option Kind) (b z : ℕ) (c : Position) (ops : List Operand) (v : Option Value) → d ≡ None → Result d v
+  no_result : {L : Uses} {home : Option ℕ} (d : Option Shape) (b z : ℕ) (c : Position) (ops : List Operand) (v : Option (List Value)) → d ≡ None → Result d v
       → Carries p L home c.frames Any b (at c z (result_ops v ++ ops)) (Gives (tt {0})) (λ _. at c z ops)
   no_result d b z c ops None e ok = none_carries p b tt (λ _. at c z ops) tt
   no_result d b z c ops (Some v) e ok = absurd (subst (λ d. Result d (Some v)) e ok)
 
-  pub call_value_is : (q : ℕ) (e : Entry) (ks' : List OperandKind) (vs : List Kind) (k : Kind) (xs : List (Run Slot)) (fs : List Stretch)
-      → slice_get p.bodies q ≡ Some e → e.layout ≡ layouts.Own ks' vs → e.delivers ≡ Some k → AreActuals ks' xs (all_code fs)
-      → IsValue p body k (λ r w. bind (actuals xs r w) (λ ss w. bind (r.calls.call q ss r.held w) (λ v. Gives (delivered v)))) (call_code q (Some k) fs)
-  call_value_is q e ks' vs k xs fs has_body own gives i =
-      let g = one (Call q) (λ (ks : List OperandKind). with_result (Some k) (drop (length fs) ks)) in record {
+  pub call_value_is : (q : ℕ) (e : Entry) (ks' : List OperandKind) (vs : List Kind) (s : Shape) (xs : List (Run Passed)) (fs : List Stretch)
+      → slice_get p.bodies q ≡ Some e → e.layout ≡ layouts.Own ks' vs → e.delivers ≡ Some s → AreActuals ks' xs (all_code fs)
+      → IsValue p body s (λ r w. bind (actuals xs r w) (λ ss w. bind (r.calls.call q (all_slots ss) r.held w) (λ v. Gives (delivered v))))
+      (call_code q (Some s) fs)
+  call_value_is q e ks' vs s xs fs has_body own gives i =
+      let g = one (Call q) (λ (ks : List OperandKind). with_result (Some s) (drop (length fs) ks)) in record {
         sized = join_sized (all_code fs) g i.sized (λ ks m pc. refl);
         goes = λ calls n b pc L ks m c ops home le has.
             let held = bytes_on ops (bytes_of c.frames) in
-            join_carries p (all_code fs) g b pc ks m c ops (actuals xs (reach calls n c ops)) (λ ss w. bind (calls.call q ss held w) (λ v. Gives (delivered v)))
-            (λ ss. pushed_slots p ss ops) (λ v. Of v ∷ ops) i.sized has (λ h. i.goes calls n b pc L ks m c ops home le h) (λ h ss oks.
+            join_carries p (all_code fs) g b pc ks m c ops (actuals xs (reach calls n c ops)) (λ ss w. bind (calls.call q (all_slots ss) held w) (λ v. Gives (delivered v)))
+            (λ ss. pushed_passed p ss ops) (λ vs. keep vs ops) i.sized has (λ h. i.goes calls n b pc L ks m c ops home le h) (λ h ss oks.
             let z = pc + (all_code fs).size in
-            then_carries p b (at c z (pushed_slots p ss ops)) (calls.call q ss held) (λ v. at c (z + 1) (result_ops v ++ ops)) (λ v. Gives (delivered v))
-            (λ v. at c (z + 1) (Of v ∷ ops)) (le.carry.call L b z q ((all_code fs).leaves ks) m c ops e ks' vs ss le.turns le.stands h.0 has_body own oks)
+            then_carries p b (at c z (pushed_passed p ss ops)) (calls.call q (all_slots ss) held) (λ v. at c (z + 1) (result_ops v ++ ops)) (λ v. Gives (delivered v))
+            (λ vs. at c (z + 1) (keep vs ops)) (le.carry.call L b z q ((all_code fs).leaves ks) m c ops e ks' vs ss le.turns le.stands h.0 has_body own oks)
             (λ v ok.
-            value_result k e.delivers b (z + 1) c ops v gives ok));
+            value_result s e.delivers b (z + 1) c ops v gives ok));
       }
 
-  pub call_action_is : (q : ℕ) (e : Entry) (ks' : List OperandKind) (vs : List Kind) (xs : List (Run Slot)) (fs : List Stretch) → slice_get p.bodies q ≡ Some e
+  pub call_action_is : (q : ℕ) (e : Entry) (ks' : List OperandKind) (vs : List Kind) (xs : List (Run Passed)) (fs : List Stretch) → slice_get p.bodies q ≡ Some e
       → e.layout ≡ layouts.Own ks' vs → e.delivers ≡ None → AreActuals ks' xs (all_code fs)
-      → IsAction p body (λ r w. bind (actuals xs r w) (λ ss w. bind (r.calls.call q ss r.held w) (λ _. Gives tt))) (call_code q None fs)
+      → IsAction p body (λ r w. bind (actuals xs r w) (λ ss w. bind (r.calls.call q (all_slots ss) r.held w) (λ _. Gives tt))) (call_code q None fs)
   call_action_is q e ks' vs xs fs has_body own gives i =
       let g = one (Call q) (λ (ks : List OperandKind). with_result None (drop (length fs) ks)) in record {
         sized = join_sized (all_code fs) g i.sized (λ ks m pc. refl);
         goes = λ calls n b pc L ks m c ops home le has.
             let held = bytes_on ops (bytes_of c.frames) in
-            join_carries p (all_code fs) g b pc ks m c ops (actuals xs (reach calls n c ops)) (λ ss w. bind (calls.call q ss held w) (λ _. Gives (tt {0})))
-            (λ ss. pushed_slots p ss ops) (λ _. ops) i.sized has (λ h. i.goes calls n b pc L ks m c ops home le h) (λ h ss oks.
+            join_carries p (all_code fs) g b pc ks m c ops (actuals xs (reach calls n c ops)) (λ ss w. bind (calls.call q (all_slots ss) held w) (λ _. Gives (tt {0})))
+            (λ ss. pushed_passed p ss ops) (λ _. ops) i.sized has (λ h. i.goes calls n b pc L ks m c ops home le h) (λ h ss oks.
             let z = pc + (all_code fs).size in
-            then_carries p b (at c z (pushed_slots p ss ops)) (calls.call q ss held) (λ v. at c (z + 1) (result_ops v ++ ops)) (λ _. Gives (tt {0}))
+            then_carries p b (at c z (pushed_passed p ss ops)) (calls.call q (all_slots ss) held) (λ v. at c (z + 1) (result_ops v ++ ops)) (λ _. Gives (tt {0}))
             (λ _. at c (z + 1) ops) (le.carry.call L b z q ((all_code fs).leaves ks) m c ops e ks' vs ss le.turns le.stands h.0 has_body own oks) (λ v ok.
             no_result e.delivers b (z + 1) c ops v gives ok));
       }
 
-  pub refer_value_is : (q : ℕ) (e : Entry) (k : Kind) → slice_get p.bodies q ≡ Some e → IsRefinement e.layout → owner p (Some q) ≡ owner p body
-      → e.delivers ≡ Some k
-      → IsValue p body k (λ r w. bind (r.calls.refer q r.base r.held w) (λ v. Gives (delivered v))) (refer_code q (Some k))
-  refer_value_is q e k has_body refines owned gives = record {
+  pub refer_value_is : (q : ℕ) (e : Entry) (s : Shape) → slice_get p.bodies q ≡ Some e → IsRefinement e.layout → owner p (Some q) ≡ owner p body
+      → e.delivers ≡ Some s
+      → IsValue p body s (λ r w. bind (r.calls.refer q r.base r.held w) (λ v. Gives (delivered v))) (refer_code q (Some s))
+  refer_value_is q e s has_body refines owned gives = record {
     sized = λ ks m pc. refl;
     goes = λ calls n b pc L ks m c ops home le has.
         then_carries p b (at c pc ops) (calls.refer q (base_of c.frames) (bytes_on ops (bytes_of c.frames))) (λ v. at c (pc + 1) (result_ops v ++ ops))
-        (λ v. Gives (delivered v)) (λ v. at c (pc + 1) (Of v ∷ ops))
+        (λ v. Gives (delivered v)) (λ vs. at c (pc + 1) (keep vs ops))
         (le.carry.refer L b pc q ks m c ops e le.turns le.stands has.0 has_body refines (owned ∙ ap (owner p) (sym home))) (λ v ok.
-        value_result k e.delivers b (pc + 1) c ops v gives ok);
+        value_result s e.delivers b (pc + 1) c ops v gives ok);
   }
 
   pub refer_action_is : (q : ℕ) (e : Entry) → slice_get p.bodies q ≡ Some e → IsRefinement e.layout → owner p (Some q) ≡ owner p body → e.delivers ≡ None
@@ -184,7 +191,7 @@ module _ (p : Program) (body : Option ℕ) where
         no_result e.delivers b (pc + 1) c ops v gives ok);
   }
 
-  leaves : {A : Type 0} {Good : Uses → A → Type 0} (e : Exit) (k : Option Kind) (v : Option Value) (L : Uses) (b pc : ℕ) (ks : List OperandKind) (m : Spot)
+  leaves : {A : Type 0} {Good : Uses → A → Type 0} (e : Exit) (k : Option Shape) (v : Option (List Value)) (L : Uses) (b pc : ℕ) (ks : List OperandKind) (m : Spot)
       (c : Position) (ops : List Operand) (to : A → Position) → Result k v → m.body ≡ body → LeftBy p body e k
       → slice_get p.lines pc ≡ Some (line_of (leave_instr e k) ks m) → c.used ≡ length L
       → Carries p L m.body c.frames Good b (at c pc (result_ops v ++ ops)) (Left e v) to
@@ -198,14 +205,14 @@ module _ (p : Program) (body : Option ℕ) where
     goes = λ calls n b pc L ks m c ops home le has. leaves e None None L b pc ks m c ops (λ _. at c (pc + 1) ops) tt home d has.0 le.stands.used;
   }
 
-  pub leave_with_is : {x : Run Value} {f : Stretch} (e : Exit) (k : Kind) → LeftBy p body e (Some k) → IsValue p body k x f
-      → IsAction p body (λ r w. bind (x r w) (λ v. Left e (Some v))) (join f (one (leave_instr e (Some k)) (drop 1)))
-  leave_with_is {x} {f} e k d i =
-      let g = one (leave_instr e (Some k)) (drop 1) in record {
+  pub leave_with_is : {x : Run (List Value)} {f : Stretch} (e : Exit) (s : Shape) → LeftBy p body e (Some s) → IsValue p body s x f
+      → IsAction p body (λ r w. bind (x r w) (λ vs. Left e (Some vs))) (join f (one (leave_instr e (Some s)) (drop 1)))
+  leave_with_is {x} {f} e s d i =
+      let g = one (leave_instr e (Some s)) (drop 1) in record {
         sized = join_sized f g i.sized (λ ks m pc. refl);
         goes =
             λ calls n b pc L ks m c ops home le has.
-            join_carries p f g b pc ks m c ops (x (reach calls n c ops)) (λ v. Left e (Some v)) (λ v. Of v ∷ ops) (λ _. ops) i.sized has
+            join_carries p f g b pc ks m c ops (x (reach calls n c ops)) (λ vs. Left e (Some vs)) (λ vs. keep vs ops) (λ _. ops) i.sized has
             (λ h. i.goes calls n b pc L ks m c ops home le h) (λ h v ok.
-            leaves e (Some k) (Some v) L b (pc + f.size) (f.leaves ks) m c ops (λ _. at c (pc + f.size + 1) ops) ok home d h.0 le.stands.used);
+            leaves e (Some s) (Some v) L b (pc + f.size) (f.leaves ks) m c ops (λ _. at c (pc + f.size + 1) ops) ok home d h.0 le.stands.used);
       }

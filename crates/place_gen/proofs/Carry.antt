@@ -1,18 +1,21 @@
 -- How the machine follows a run, whatever phrase the run comes from.
 use Rattle.std.proofs.Common.{◌≡◌, ℕ, zero, suc, ◌+◌, ◌<◌, ◌≤◌, List, [], ◌∷◌, ◌++◌, length, Option, Some, None, Bool, true, false, cond, refl, sym, ap, ◌∙◌}
-use Rattle.std.proofs.Common.{subst, arith, append_assoc, length-append}
+use Rattle.std.proofs.Common.{◌&&◌, subst, arith, append_assoc, length-append}
 use Rattle.std.specs.Prelude.{slice_get, Ok, Err}
 use Rattle.eu_base.specs.declared.address.TheConstants.{CELLS}
 use Rattle.eu_base.specs.declared.value.Kind.{Kind}
 use Rattle.eu_base.specs.declared.value.Value.{Value}
 use Rattle.eu_base.specs.declared.stop.Stop.{Stop}
-use Rattle.eu_base.specs.declared.stop.Stop.TheVariants.{OperandRoom, TextRoom}
+use Rattle.eu_base.specs.declared.stop.Stop.TheVariants.{Index, OperandRoom, TextRoom}
 use Rattle.eu_base.specs.declared.request.Request.{Request}
 use Rattle.eu_base.specs.declared.request.Reply.{Reply}
 use Rattle.eu_base.specs.declared.request.Reply.TheVariants as replies
 use Rattle.eu_base.specs.Values.{IsOf}
 use Rattle.eu_base.specs.Operations.{Given}
-use Rattle.eu_base.specs.Room.{value_blocks, texts_fit}
+use Rattle.eu_base.specs.declared.shape.Shape.{Shape}
+use Rattle.eu_base.specs.declared.shape.Shape.TheVariants.{Cell}
+use Rattle.eu_base.specs.Shapes.{cell_kinds}
+use Rattle.eu_base.specs.Room.{values_bytes, values_blocks, texts_fit}
 use Rattle.eu_base.specs.Cells.{Cells, held_of, run_cell, written, cell_blocks, blocks_in}
 use Rattle.code_form.specs.declared.operand.Operand.{Operand}
 use Rattle.code_form.specs.declared.operand.Operand.TheVariants.{Value as Of, Place as At}
@@ -25,34 +28,38 @@ use Rattle.code_form.specs.declared.instr.Instr.TheVariants.{Call, Refer}
 use Rattle.code_form.specs.declared.code.Spot.{Spot}
 use Rattle.code_form.specs.declared.code.Entry.{Entry}
 use Rattle.code_form.specs.declared.code.Layout.TheVariants as layouts
-use Rattle.code_form.specs.Program.{Program, line_of, instr_of, owner, frame_cells}
+use Rattle.code_form.specs.Program.{Program, line_of, instr_of, owner}
 use Rattle.code_form.specs.Machine.{Frame, Position, Control, free, asking, given, refused, answered, After as AfterMark, To, Asks as AsksFor, Move}
-use Rattle.code_form.specs.Machine.{Goes, Spends, Halts, Refuses, Ends as EndsHere, Unknown, takes, at, bytes_on, bytes_of, base_of, back_to, out_to}
+use Rattle.code_form.specs.Machine.{Goes, Spends, Halts, Refuses, Ends as EndsHere, Unknown, takes, takes_all, written_all, at, operand_of, operand_bytes, bytes_on, bytes_of}
+use Rattle.code_form.specs.Machine.{base_of, back_to, out_to}
 use Rattle.code_form.specs.Machine.{instruction, step, takes_reply, Scene, Rest, rest_at, Stage, On, after_stage, mark_stage, reply_stage, move_stage}
 use Rattle.code_form.specs.Machine.{stage, advance, carry_on, exec}
 use Rattle.code_form.specs.Valid.{IsRefinement}
 use Rattle.elan_types.specs.declared.core_phrase.Exit.{Exit}
 use Rattle.elan_types.specs.declared.core_phrase.Exit.TheVariants as exits
-use Rattle.elan_types.specs.Eval.{Place, Slot, Holds, Refers, Taken, World, Outcome, Gives, Left, Stopped, OutOfMarks, Asks, bind, spend_at, spend}
-use Rattle.elan_types.specs.Eval.{heed, ask_at, ask, branch, or_stop, assign, save, store_blocks, turns, Calls, Reach}
+use Rattle.elan_types.specs.Eval.{Place, Slot, World, Outcome, Gives, Left, Stopped, OutOfMarks, Asks, bind, spend_at, spend}
+use Rattle.elan_types.specs.Eval.{heed, ask_at, ask, branch, or_stop, or_outside, the, assign, save, store_blocks, turns, Calls, Reach, holding}
+use Rattle.elan_types.specs.Eval.{Passed, AsValue, AsPlace, all_slots}
 use Rattle.elan_types.specs.Command as endings
 use Rattle.elan_types.specs.Command.{Ending}
 use Rattle.place_gen.specs.Stretch.{Stretch, join}
 use Rattle.place_gen.specs.Correct.{RestsAs, Shows, Comes, scene_of}
 use Rattle.place_gen.proofs.Lines.{HasAt, has_front, has_rest}
-use Rattle.place_gen.proofs.Homes.{LeftBy}
-use Rattle.place_gen.proofs.Cells.{Use, OfValue, OfPlace, Uses, AreCounts, counts_append, Keeps, image, writes, takes_value}
+use Rattle.elan_types.proofs.Shapes.{cell_is}
+use Rattle.place_gen.proofs.Homes.{LeftBy, frame_uses}
+use Rattle.place_gen.proofs.Cells.{Use, OfValue, Uses, AtKinds, AreCounts, counts_append, Keeps, image, writes}
+use Rattle.place_gen.proofs.Spans.{AreOf, at_this, writes_all, takes_values}
 use Rattle.place_gen.proofs.Blocks.{held_blocks, same_blocks}
 
 -- what an outcome goes on to, after a result and by an exit
-abbrev pub finish : {A : Type 0} → Outcome A → (A → World → Ending) → (Exit → Option Value → World → Ending) → Ending
+abbrev pub finish : {A : Type 0} → Outcome A → (A → World → Ending) → (Exit → Option (List Value) → World → Ending) → Ending
 finish (Gives a w) k l = k a w
 finish (Left e v w) k l = l e v w
 finish (Stopped s w) k l = endings.Stopped s w
 finish (OutOfMarks w) k l = endings.OutOfMarks w
 finish (Asks q w) k l = endings.Asks q w
 
-pub finish_bind : {A B : Type 0} (o : Outcome A) (f : A → World → Outcome B) (k : B → World → Ending) (l : Exit → Option Value → World → Ending)
+pub finish_bind : {A B : Type 0} (o : Outcome A) (f : A → World → Outcome B) (k : B → World → Ending) (l : Exit → Option (List Value) → World → Ending)
     → finish (bind o f) k l ≡ finish o (λ a w. finish (f a w) k l) l
 finish_bind (Gives a w) f k l = refl
 finish_bind (Left e v w) f k l = refl
@@ -64,22 +71,56 @@ finish_bind (Asks q w) f k l = refl
 abbrev pub Any : {A : Type 0} → Uses → A → Type 0
 Any L a = Unit {0}
 
--- a value of a kind, and the place of a variable of a kind
-abbrev pub OfKind : Kind → Uses → Value → Type 0
-OfKind k L v = IsOf k v
+-- a value of a shape, the place of such a value, and a place where cells of these kinds stand
+abbrev pub OfShape : Shape → Uses → List Value → Type 0
+OfShape s L vs = AreOf (cell_kinds s) vs
 
-abbrev pub AtKind : Kind → Uses → Place → Type 0
-AtKind k L x = slice_get L x.variable ≡ Some (OfValue k)
+abbrev pub AtShape : Shape → Uses → Place → Type 0
+AtShape s L x = AtKinds (cell_kinds s) L x.variable
+
+abbrev pub AtAll : List Kind → Uses → Place → Type 0
+AtAll ks L x = AtKinds ks L x.variable
+
+-- those of one cell
+pub record IsOne (k : Kind) (vs : List Value) : Type 0 where
+  pub value : Value
+  pub is : vs ≡ value ∷ []
+  pub fits : IsOf k value
+
+one_of : (k : Kind) (vs : List Value) → AreOf (k ∷ []) vs → IsOne k vs
+one_of k [] h = absurd h
+one_of k (v ∷ []) h = record { value = v; is = refl; fits = h.0 }
+one_of k (v ∷ u ∷ vs) h = absurd h.1
+
+pub is_one : (k : Kind) (L : Uses) (vs : List Value) → OfShape (Cell k) L vs → IsOne k vs
+is_one k L vs h = one_of k vs (subst (λ ks. AreOf ks vs) (cell_is k) h)
+
+pub of_one : (k : Kind) (L : Uses) (v : Value) → IsOf k v → OfShape (Cell k) L (v ∷ [])
+of_one k L v ok = subst (λ ks. AreOf ks (v ∷ [])) (sym (cell_is k)) (ok, tt)
+
+pub at_one : (k : Kind) (L : Uses) (x : Place) → AtShape (Cell k) L x → slice_get L x.variable ≡ Some (OfValue k)
+at_one k L x h = (subst (λ ks. AtKinds ks L x.variable) (cell_is k) h).0
 
 -- what a body delivers
-abbrev pub Result : Option Kind → Option Value → Type 0
+abbrev pub Result : Option Shape → Option (List Value) → Type 0
 Result None None = Unit {0}
-Result (Some k) (Some v) = IsOf k v
+Result (Some s) (Some vs) = AreOf (cell_kinds s) vs
 Result _ _ = ⊥
 
-abbrev pub result_ops : Option Value → List Operand
+abbrev pub result_ops : Option (List Value) → List Operand
 result_ops None = []
-result_ops (Some v) = Of v ∷ []
+result_ops (Some vs) = operand_of vs ∷ []
+
+-- the operand of what a parameter is given
+abbrev pub passed_operand : Passed → Operand
+passed_operand (AsValue vs) = operand_of vs
+passed_operand (AsPlace x) = At (run_cell x.variable)
+
+-- the bytes of an operand are those of its value
+pub operand_size : (vs : List Value) → operand_bytes (operand_of vs) ≡ values_bytes vs
+operand_size [] = refl
+operand_size (v ∷ []) = omega arith
+operand_size (v ∷ u ∷ vs) = refl
 
 -- how a body is left
 abbrev pub way_out : Program → Exit → List Operand → ℕ → List Frame → Cells → Move
@@ -90,10 +131,10 @@ way_out p exits.Around = out_to p
 abbrev pub reach : Calls → ℕ → Position → List Operand → Reach
 reach calls n c ops = record { calls = calls; turns = n; base = base_of c.frames; held = bytes_on ops (bytes_of c.frames) }
 
--- what a cell of a frame is for
-abbrev pub use_of : OperandKind → Use
-use_of (operand.Value k) = OfValue k
-use_of (operand.Place k) = OfPlace k
+-- with a value pending, those of the machine with its operand
+pub holds_operand : (calls : Calls) (n : ℕ) (c : Position) (vs : List Value) (ops : List Operand)
+    → holding vs (reach calls n c ops) ≡ reach calls n c (operand_of vs ∷ ops)
+holds_operand calls n c vs ops = ap (λ b. record (reach calls n c ops) { held = b + bytes_on ops (bytes_of c.frames) }) (sym (operand_size vs))
 
 module _ (p : Program) where
   -- the machine comes so to rest from any cells that keep the store
@@ -177,56 +218,78 @@ module _ (p : Program) where
     shows = resting halts.Ended (free c) w cells keeps;
   })
 
-  read_ends : {L : Uses} {A : Type 0} (c : Position) (a : A) (t : Bool) (to : A → Position) (k : A → World → Ending) (l : Exit → Option Value → World → Ending)
+  read_ends : {L : Uses} {A : Type 0} (c : Position) (a : A) (t : Bool) (to : A → Position) (k : A → World → Ending) (l : Exit → Option (List Value) → World → Ending)
       (w : World) (cells : Cells) → Keeps L w.store cells → Ends L (to a) w (k a w) → step p c cells ≡ cond t (Goes (to a) cells) (Halts OperandRoom)
       → Comes p (free c) (scene_of w cells) (finish (branch t (Gives a) (Stopped OperandRoom) w) k l)
   read_ends c a true to k l w cells h next e = on_step c (to a) (scene_of w cells) cells _ e (next cells h)
   read_ends {L} c a false to k l w cells h next e = stop_comes L (free c) w OperandRoom cells h (does c (scene_of w cells) (Halts OperandRoom) e)
 
   -- an instruction that writes to the cell of a variable
-  pub write_ends : {L : Uses} (c c' : Position) (w : World) (x : Place) (k : Kind) (v : Value) (e : Ending) (cells : Cells) → AtKind k L x → IsOf k v
-      → Keeps L w.store cells → step p c cells ≡ Goes c' (written cells (run_cell x.variable) (held_of v)) → Ends L c' (assign x v w) e
-      → Comes p (free c) (scene_of w cells) e
+  pub write_ends : {L : Uses} (c c' : Position) (w : World) (x : Place) (k : Kind) (v : Value) (e : Ending) (cells : Cells)
+      → slice_get L x.variable ≡ Some (OfValue k) → IsOf k v → Keeps L w.store cells
+      → step p c cells ≡ Goes c' (written cells (run_cell x.variable) (held_of v)) → Ends L c' (assign x (v ∷ []) w) e → Comes p (free c) (scene_of w cells) e
   write_ends {L} c c' w x k v e cells is ok h m a =
       on_step c c' (scene_of w cells) (written cells (run_cell x.variable) (held_of v)) e m (a _ (writes L w.store cells x.variable k v h is ok))
 
-  put_by : {L : Uses} {A : Type 0} (d : Control) (c' : Position) (w : World) (x : Place) (v : Value) (go : World → Outcome A) (k : A → World → Ending)
-      (l : Exit → Option Value → World → Ending) (cells now : Cells) (t : Bool) → Keeps L w.store cells → Keeps L (assign x v w).store now
-      → Does d (scene_of w cells) (cond t (Goes c' now) (Halts TextRoom)) → Ends L c' (assign x v w) (finish (go (assign x v w)) k l)
-      → Comes p d (scene_of w cells) (finish (branch t (λ w. go (assign x v w)) (Stopped TextRoom) w) k l)
-  put_by d c' w x v go k l cells now true h later m next = does_go d c' (scene_of w cells) now _ m (next now later)
-  put_by {L} d c' w x v go k l cells now false h later m next = stop_comes L d w TextRoom cells h m
+  put_by : {L : Uses} {A : Type 0} (d : Control) (c' : Position) (w : World) (x : Place) (vs : List Value) (go : World → Outcome A)
+      (k : A → World → Ending) (l : Exit → Option (List Value) → World → Ending) (cells now : Cells) (t : Bool) → Keeps L w.store cells
+      → Keeps L (assign x vs w).store now
+      → Does d (scene_of w cells) (cond t (Goes c' now) (Halts TextRoom)) → Ends L c' (assign x vs w) (finish (go (assign x vs w)) k l)
+      → Comes p d (scene_of w cells) (finish (branch t (λ w. go (assign x vs w)) (Stopped TextRoom) w) k l)
+  put_by d c' w x vs go k l cells now true h later m next = does_go d c' (scene_of w cells) now _ m (next now later)
+  put_by {L} d c' w x vs go k l cells now false h later m next = stop_comes L d w TextRoom cells h m
 
-  -- what stores a value in a variable, where its text has room: both sides count the same blocks
+  -- what stores a value at a place, where its texts have room: both sides count the same blocks
+  pub put_all_ends : {L : Uses} {A : Type 0} (d : Control) (c' : Position) (w : World) (x : Place) (kinds : List Kind) (vs : List Value)
+      (go : World → Outcome A) (k : A → World → Ending) (l : Exit → Option (List Value) → World → Ending) (cells : Cells) → length L ≤ CELLS
+      → AtAll kinds L x → AreOf kinds vs → Keeps L w.store cells
+      → Does d (scene_of w cells) (cond (takes_all vs (run_cell x.variable) cells)
+      (cond (texts_fit (values_blocks vs) (blocks_in (written_all cells (run_cell x.variable) vs)))
+      (Goes c' (written_all cells (run_cell x.variable) vs)) (Halts TextRoom)) Unknown)
+      → Ends L c' (assign x vs w) (finish (go (assign x vs w)) k l) → Comes p d (scene_of w cells) (finish (save x vs go w) k l)
+  put_all_ends {L} d c' w x kinds vs go k l cells room is ok h m next =
+      let now = written_all cells (run_cell x.variable) vs in
+      let later = writes_all kinds vs L w.store cells x.variable room h is ok in
+      let move = λ (all : ℕ). cond (texts_fit (values_blocks vs) all) (Goes c' now) (Halts TextRoom) in
+      put_by d c' w x vs go k l cells now (texts_fit (values_blocks vs) (store_blocks (assign x vs w).store)) h later
+      (m ∙ ap (λ m. move_stage m d (scene_of w cells))
+      (ap (λ t. cond t (move (blocks_in now)) Unknown) (takes_values kinds vs L w.store cells x.variable room h is ok)
+      ∙ ap move (sym (same_blocks L (assign x vs w).store now room later)))) next
+
+  -- a value of one cell
   pub put_ends : {L : Uses} {A : Type 0} (d : Control) (c' : Position) (w : World) (x : Place) (kind : Kind) (v : Value) (go : World → Outcome A)
-      (k : A → World → Ending) (l : Exit → Option Value → World → Ending) (cells : Cells) → length L ≤ CELLS → AtKind kind L x → IsOf kind v
-      → Keeps L w.store cells
+      (k : A → World → Ending) (l : Exit → Option (List Value) → World → Ending) (cells : Cells) → length L ≤ CELLS
+      → slice_get L x.variable ≡ Some (OfValue kind) → IsOf kind v → Keeps L w.store cells
       → Does d (scene_of w cells) (cond (takes (held_of v) (cells (run_cell x.variable)))
       (cond (texts_fit (cell_blocks (held_of v)) (blocks_in (written cells (run_cell x.variable) (held_of v))))
       (Goes c' (written cells (run_cell x.variable) (held_of v))) (Halts TextRoom)) Unknown)
-      → Ends L c' (assign x v w) (finish (go (assign x v w)) k l) → Comes p d (scene_of w cells) (finish (save x v go w) k l)
+      → Ends L c' (assign x (v ∷ []) w) (finish (go (assign x (v ∷ []) w)) k l) → Comes p d (scene_of w cells) (finish (save x (v ∷ []) go w) k l)
   put_ends {L} d c' w x kind v go k l cells room is ok h m next =
       let now = written cells (run_cell x.variable) (held_of v) in
-      let later = writes L w.store cells x.variable kind v h is ok in
-      let move = λ (own all : ℕ). cond (texts_fit own all) (Goes c' now) (Halts TextRoom) in
-      put_by d c' w x v go k l cells now (texts_fit (value_blocks v) (store_blocks (assign x v w).store)) h later
-      (m ∙ ap (λ m. move_stage m d (scene_of w cells))
-      (ap (λ t. cond t (move (cell_blocks (held_of v)) (blocks_in now)) Unknown) (takes_value L w.store cells x.variable kind v h is ok)
-      ∙ ap (λ n. move n (blocks_in now)) (held_blocks v)
-      ∙ ap (move (value_blocks v)) (sym (same_blocks L (assign x v w).store now room later)))) next
+      let move = λ (t : Bool) (own : ℕ). cond t (cond (texts_fit own (blocks_in now)) (Goes c' now) (Halts TextRoom)) Unknown in
+      let takes_it = takes (held_of v) (cells (run_cell x.variable)) in
+      let same : takes_it ≡ takes_all (v ∷ []) (run_cell x.variable) cells = and_true takes_it in
+      let own : cell_blocks (held_of v) ≡ values_blocks (v ∷ []) = omega (arith, held_blocks v) in
+      put_all_ends d c' w x (kind ∷ []) (v ∷ []) go k l cells room (at_this kind L x.variable is) (ok, tt) h
+      (m ∙ ap (λ m. move_stage m d (scene_of w cells)) (ap (λ t. move t (cell_blocks (held_of v))) same ∙ ap (move (takes_all (v ∷ []) (run_cell x.variable) cells)) own))
+      next
+    where
+      and_true : (t : Bool) → t ≡ (t && true)
+      and_true true = refl
+      and_true false = refl
 
   -- where a body is left, the machine goes to the frame below, and on as the exit says, whatever cells were taken meanwhile to count
-  pub record Exits (L : Uses) (b : ℕ) (body : Option ℕ) (fs : List Frame) (l : Exit → Option Value → World → Ending) : Type 0 where
-    pub by : (e : Exit) (k : Option Kind) → LeftBy p body e k → (more : Uses) → AreCounts more → (v : Option Value) (w : World) → Result k v → w.marks ≤ b
+  pub record Exits (L : Uses) (b : ℕ) (body : Option ℕ) (fs : List Frame) (l : Exit → Option (List Value) → World → Ending) : Type 0 where
+    pub by : (e : Exit) (s : Option Shape) → LeftBy p body e s → (more : Uses) → AreCounts more → (v : Option (List Value)) (w : World) → Result s v → w.marks ≤ b
         → (c : Position) → c.used ≡ length L + length more → (cells : Cells) → Keeps (L ++ more) w.store cells
         → After (stage (way_out p e (result_ops v) c.used fs cells) c (scene_of w cells)) (l e v w)
 
-  pub fewer : {L : Uses} {b b' : ℕ} {body : Option ℕ} {fs : List Frame} {l : Exit → Option Value → World → Ending} → b' ≤ b → Exits L b body fs l
+  pub fewer : {L : Uses} {b b' : ℕ} {body : Option ℕ} {fs : List Frame} {l : Exit → Option (List Value) → World → Ending} → b' ≤ b → Exits L b body fs l
       → Exits L b' body fs l
   fewer le h = record { by = λ e k d more counts v w r m. h.by e k d more counts v w r (omega (arith, le, m)) }
 
   -- with more cells in use
-  pub wider : {b : ℕ} {body : Option ℕ} {fs : List Frame} {l : Exit → Option Value → World → Ending} (L M : Uses) → AreCounts M → Exits L b body fs l
+  pub wider : {b : ℕ} {body : Option ℕ} {fs : List Frame} {l : Exit → Option (List Value) → World → Ending} (L M : Uses) → AreCounts M → Exits L b body fs l
       → Exits (L ++ M) b body fs l
   wider L M all h = record {
     by = λ e k d more counts v w r m c used cells keeps.
@@ -238,19 +301,19 @@ module _ (p : Program) where
   -- says, and on with the good results that it gives, or by an exit
   pub record Carries {A : Type 0} (L : Uses) (body : Option ℕ) (fs : List Frame) (Good : Uses → A → Type 0) (b : ℕ) (c : Position) (run : World → Outcome A)
       (to : A → Position) : Type 0 where
-    pub by : (k : A → World → Ending) (l : Exit → Option Value → World → Ending) → ((a : A) (w : World) → Good L a → w.marks ≤ b → Ends L (to a) w (k a w))
+    pub by : (k : A → World → Ending) (l : Exit → Option (List Value) → World → Ending) → ((a : A) (w : World) → Good L a → w.marks ≤ b → Ends L (to a) w (k a w))
         → Exits L b body fs l → (w : World) → w.marks ≤ b → Ends L c w (finish (run w) k l)
 
   -- the same from where a reply was given; a body is not left there
   pub record Answers {A : Type 0} (L : Uses) (Good : Uses → A → Type 0) (b : ℕ) (c : Position) (r : Reply) (run : World → Outcome A) (to : A → Position)
       : Type 0 where
-    pub by : (k : A → World → Ending) (l : Exit → Option Value → World → Ending) → ((a : A) (w : World) → Good L a → w.marks ≤ b → Ends L (to a) w (k a w))
+    pub by : (k : A → World → Ending) (l : Exit → Option (List Value) → World → Ending) → ((a : A) (w : World) → Good L a → w.marks ≤ b → Ends L (to a) w (k a w))
         → (w : World) → w.marks ≤ b → (cells : Cells) → Keeps L w.store cells → Comes p (given c r) (scene_of w cells) (finish (run w) k l)
 
   -- a mark, and what follows it: it goes on so, or stops
   pub record Goes' {A : Type 0} (L : Uses) (body : Option ℕ) (fs : List Frame) (Good : Uses → A → Type 0) (b : ℕ) (c : Position) (a : Cells → AfterMark)
       (run : World → Outcome A) (to : A → Position) : Type 0 where
-    pub by : (k : A → World → Ending) (l : Exit → Option Value → World → Ending) → ((a : A) (w : World) → Good L a → w.marks ≤ b → Ends L (to a) w (k a w))
+    pub by : (k : A → World → Ending) (l : Exit → Option (List Value) → World → Ending) → ((a : A) (w : World) → Good L a → w.marks ≤ b → Ends L (to a) w (k a w))
         → Exits L b body fs l → (w : World) → w.marks ≤ b → (cells : Cells) → Keeps L w.store cells
         → After (after_stage (a cells) (free c) (scene_of w cells)) (finish (run w) k l)
 
@@ -266,7 +329,7 @@ module _ (p : Program) where
 
   -- a reply is heeded: it stops, or its instruction goes on with it
   heeded : {L : Uses} {A : Type 0} {Good : Uses → A → Type 0} (b : ℕ) (r : Reply) (q : Request) (c : Position) (run : Reply → World → Outcome A)
-      (to : A → Position) → ((r : Reply) → Answers L Good b c r (run r) to) → (k : A → World → Ending) (l : Exit → Option Value → World → Ending)
+      (to : A → Position) → ((r : Reply) → Answers L Good b c r (run r) to) → (k : A → World → Ending) (l : Exit → Option (List Value) → World → Ending)
       → ((a : A) (w : World) → Good L a → w.marks ≤ b → Ends L (to a) w (k a w)) → (w : World) → w.marks ≤ b → (cells : Cells) → Keeps L w.store cells
       → Comes p (answered q r c) (scene_of w cells) (finish (heed r run w) k l)
   heeded b replies.Done q c run to h k l hk w le cells keeps = (h replies.Done).by k l hk w le cells keeps
@@ -279,7 +342,7 @@ module _ (p : Program) where
   }
 
   replied : {L : Uses} {A : Type 0} {Good : Uses → A → Type 0} (b : ℕ) (rs : List Reply) (q : Request) (c : Position) (run : Reply → World → Outcome A)
-      (to : A → Position) → ((r : Reply) → Answers L Good b c r (run r) to) → (k : A → World → Ending) (l : Exit → Option Value → World → Ending)
+      (to : A → Position) → ((r : Reply) → Answers L Good b c r (run r) to) → (k : A → World → Ending) (l : Exit → Option (List Value) → World → Ending)
       → ((a : A) (w : World) → Good L a → w.marks ≤ b → Ends L (to a) w (k a w)) → (w : World) → w.marks ≤ b → (cells : Cells) → Keeps L w.store cells
       → After (reply_stage rs q c (scene_of w cells)) (finish (ask_at rs q w run) k l)
   replied {L} b [] q c run to h k l hk w le cells keeps = record {
@@ -303,6 +366,14 @@ module _ (p : Program) where
           (r.by (λ a w. finish (f a w) k l) l (λ a w good le. (s a good).by k l hk hl w le) hl w le);
     }
 
+    -- what follows a phrase that gives a value of one cell
+    pub one_then : {B : Type 0} {Fine : Uses → B → Type 0} (k : Kind) (b : ℕ) (c : Position) (run : World → Outcome (List Value))
+        (mid : List Value → Position) (f : Value → World → Outcome B) (to : B → Position) → Carries L body fs (OfShape (Cell k)) b c run mid
+        → ((v : Value) → IsOf k v → Carries L body fs Fine b (mid (v ∷ [])) (f v) to) → Carries L body fs Fine b c (λ w. bind (run w) (λ vs. f (the vs))) to
+    one_then {B} {Fine} k b c run mid f to r s =
+        then_carries b c run mid (λ vs. f (the vs)) to r (λ vs ok.
+        let o = is_one k L vs ok in subst (λ vs. Carries L body fs Fine b (mid vs) (f (the vs)) to) (sym o.is) (s o.value o.fits))
+
     -- an instruction before a phrase
     pub lead_carries : {A : Type 0} {Good : Uses → A → Type 0} (b : ℕ) (c c' : Position) (run : World → Outcome A) (to : A → Position) → Leads c c'
         → Carries L body fs Good b c' run to → Carries L body fs Good b c run to
@@ -312,6 +383,11 @@ module _ (p : Program) where
     pub carries_lead : {A : Type 0} {Good : Uses → A → Type 0} (b : ℕ) (c : Position) (run : World → Outcome A) (mid to : A → Position)
         → ((a : A) → Leads (mid a) (to a)) → Carries L body fs Good b c run mid → Carries L body fs Good b c run to
     carries_lead b c run mid to e r = record { by = λ k l hk hl w le. r.by k l (λ a w good le. lead_ends L (mid a) (to a) w _ (e a) (hk a w good le)) hl w le }
+
+    -- of what it gives, less is told
+    pub weaker_carries : {A : Type 0} {Good Fine : Uses → A → Type 0} (b : ℕ) (c : Position) (run : World → Outcome A) (to : A → Position)
+        → ((a : A) → Good L a → Fine L a) → Carries L body fs Good b c run to → Carries L body fs Fine b c run to
+    weaker_carries b c run to less r = record { by = λ k l hk hl w le. r.by k l (λ a w good le. hk a w (less a good) le) hl w le }
 
     -- no instruction
     pub none_carries : {A : Type 0} {Good : Uses → A → Type 0} (b : ℕ) (a : A) (to : A → Position) → Good L a → Carries L body fs Good b (to a) (Gives a) to
@@ -335,7 +411,7 @@ module _ (p : Program) where
     to_goes b c c' run to r = record { by = λ k l hk hl w le cells h. going (free c') (scene_of w cells) _ (r.by k l hk hl w le cells h) }
 
     spent : {A : Type 0} {Good : Uses → A → Type 0} (b m : ℕ) (c : Position) (a : Cells → AfterMark) (run : World → Outcome A) (to : A → Position)
-        → ((b' : ℕ) → b' < b → Goes' L body fs Good b' c a run to) → (k : A → World → Ending) (l : Exit → Option Value → World → Ending)
+        → ((b' : ℕ) → b' < b → Goes' L body fs Good b' c a run to) → (k : A → World → Ending) (l : Exit → Option (List Value) → World → Ending)
         → ((a : A) (w : World) → Good L a → w.marks ≤ b → Ends L (to a) w (k a w)) → Exits L b body fs l → (w : World) → m ≤ b → (cells : Cells)
         → Keeps L w.store cells → m ≡ w.marks → After (mark_stage m (a cells) (free c) (scene_of w cells)) (finish (spend_at m w run) k l)
     spent b zero c a run to r k l hk hl w le cells h is = record {
@@ -393,6 +469,13 @@ module _ (p : Program) where
         → Carries L body fs Good b from run (λ a. at c m (push a)) → Carries L body fs Good b from run (λ a. at c n (push a))
     ends_at {A} {Good} b from c run m n push e r = subst (λ n. Carries L body fs Good b from run (λ a. at c n (push a))) e r
 
+    -- an item that is there, or a stop
+    pub outside_carries : {A : Type 0} {Good : Uses → A → Type 0} (b : ℕ) (c : Position) (o : Option ℕ) (go : ℕ → World → Outcome A) (to : A → Position)
+        → (o ≡ None → (w : World) → Ends L c w (endings.Stopped Index w)) → ((k : ℕ) → o ≡ Some k → Carries L body fs Good b c (go k) to)
+        → Carries L body fs Good b c (or_outside o go) to
+    outside_carries b c (Some k) go to bad good = good k refl
+    outside_carries b c None go to bad good = record { by = λ k l hk hl w le. bad refl w }
+
     -- a result of an operation, or a stop
     pub or_carries : {A : Type 0} {Good : Uses → A → Type 0} (b : ℕ) (c : Position) (g : Given) (go : Value → World → Outcome A) (to : A → Position)
         → ((s : Stop) → g ≡ Err s → (w : World) → Ends L c w (endings.Stopped s w)) → ((v : Value) → g ≡ Ok v → Carries L body fs Good b c (go v) to)
@@ -419,24 +502,35 @@ module _ (p : Program) where
       (r (has_front p.lines pc (f.lines ks m pc) _ has))
       (s (has_rest p.lines pc f.size (f.lines ks m pc) _ (sized ks m pc) has)))
 
-  -- operands of slots, pushed from left to right
-  abbrev pub operand_of : Slot → List Operand → List Operand
-  operand_of (Holds v) ops = Of v ∷ ops
-  operand_of (Refers x) ops = At (run_cell x.variable) ∷ ops
-  operand_of Taken ops = ops
+  -- the first of them gives a value of one cell, which stands above others
+  pub join_one : {L : Uses} {B : Type 0} {Fine : Uses → B → Type 0} (k : Kind) (f g : Stretch) (b pc : ℕ) (ks : List OperandKind)
+      (m : Spot) (c : Position) (ops under : List Operand) (run : World → Outcome (List Value)) (more : Value → World → Outcome B)
+      (push : B → List Operand) → ((ks : List OperandKind) (m : Spot) (at' : ℕ) → length (f.lines ks m at') ≡ f.size)
+      → HasAt p.lines pc ((join f g).lines ks m pc)
+      → (HasAt p.lines pc (f.lines ks m pc)
+      → Carries L m.body c.frames (OfShape (Cell k)) b (at c pc ops) run (λ vs. at c (pc + f.size) (operand_of vs ∷ under)))
+      → (HasAt p.lines (pc + f.size) (g.lines (f.leaves ks) m (pc + f.size)) → (v : Value) → IsOf k v
+      → Carries L m.body c.frames Fine b (at c (pc + f.size) (Of v ∷ under)) (more v) (λ x. at c (pc + f.size + g.size) (push x)))
+      → Carries L m.body c.frames Fine b (at c pc ops) (λ w. bind (run w) (λ vs. more (the vs))) (λ x. at c (pc + (f.size + g.size)) (push x))
+  join_one {L} {B} {Fine} k f g b pc ks m c ops under run more push sized has r s =
+      join_carries f g b pc ks m c ops run (λ vs. more (the vs)) (λ vs. operand_of vs ∷ under) push sized has r (λ h vs ok.
+      let o = is_one k L vs ok in
+      subst (λ vs. Carries L m.body c.frames Fine b (at c (pc + f.size) (operand_of vs ∷ under)) (more (the vs)) (λ x. at c (pc + f.size + g.size) (push x)))
+      (sym o.is) (s h o.value o.fits))
 
-  abbrev pub pushed_slots : List Slot → List Operand → List Operand
-  pushed_slots [] ops = ops
-  pushed_slots (s ∷ ss) ops = pushed_slots ss (operand_of s ops)
+  -- what parameters are given, pushed from left to right
+  abbrev pub pushed_passed : List Passed → List Operand → List Operand
+  pushed_passed [] ops = ops
+  pushed_passed (a ∷ as') ops = pushed_passed as' (passed_operand a ∷ ops)
 
   -- what a parameter takes
-  abbrev pub Takes : OperandKind → Uses → Slot → Type 0
-  Takes (operand.Value k) L s = (v : Value) × (s ≡ Holds v) × IsOf k v
-  Takes (operand.Place k) L s = (x : Place) × (s ≡ Refers x) × AtKind k L x
+  abbrev pub Takes : OperandKind → Uses → Passed → Type 0
+  Takes (operand.Value s) L a = (vs : List Value) × (a ≡ AsValue vs) × AreOf (cell_kinds s) vs
+  Takes (operand.Place s) L a = (x : Place) × (a ≡ AsPlace x) × AtShape s L x
 
-  abbrev pub TakeAll : List OperandKind → Uses → List Slot → Type 0
+  abbrev pub TakeAll : List OperandKind → Uses → List Passed → Type 0
   TakeAll [] L [] = Unit {0}
-  TakeAll (k ∷ ks) L (s ∷ ss) = Takes k L s × TakeAll ks L ss
+  TakeAll (k ∷ ks) L (a ∷ as') = Takes k L a × TakeAll ks L as'
   TakeAll _ L _ = ⊥
 
   -- the cells in use are those of the level and of the frames, with the variables of the level and of the innermost PROC at their places
@@ -444,14 +538,14 @@ module _ (p : Program) where
     pub used : c.used ≡ length L
     pub room : length L ≤ CELLS
     pub level : (x : ℕ) (k : Kind) → slice_get p.variables x ≡ Some k → slice_get L x ≡ Some (OfValue k)
-    pub frame : (x : ℕ) (k : OperandKind) → slice_get (frame_cells p m.body) x ≡ Some k → slice_get L (base_of c.frames + x) ≡ Some (use_of k)
+    pub frame : (x : ℕ) (u : Use) → slice_get (frame_uses p m.body) x ≡ Some u → slice_get L (base_of c.frames + x) ≡ Some u
 
   -- calls do in the code what they do
   pub record CallsCarry (calls : Calls) (n : ℕ) : Type 0 where
     pub call : (L : Uses) (b pc q : ℕ) (ks : List OperandKind) (m : Spot) (c : Position) (ops : List Operand) (e : Entry) (parameters : List OperandKind)
-        (variables : List Kind) (args : List Slot) → b ≤ n → Stands L m c → slice_get p.lines pc ≡ Some (line_of (Call q) ks m) → slice_get p.bodies q ≡ Some e
+        (variables : List Kind) (args : List Passed) → b ≤ n → Stands L m c → slice_get p.lines pc ≡ Some (line_of (Call q) ks m) → slice_get p.bodies q ≡ Some e
         → e.layout ≡ layouts.Own parameters variables → TakeAll parameters L args
-        → Carries L m.body c.frames (λ _. Result e.delivers) b (at c pc (pushed_slots args ops)) (calls.call q args (bytes_on ops (bytes_of c.frames)))
+        → Carries L m.body c.frames (λ _. Result e.delivers) b (at c pc (pushed_passed args ops)) (calls.call q (all_slots args) (bytes_on ops (bytes_of c.frames)))
         (λ v. at c (pc + 1) (result_ops v ++ ops))
     pub refer : (L : Uses) (b pc q : ℕ) (ks : List OperandKind) (m : Spot) (c : Position) (ops : List Operand) (e : Entry) → b ≤ n → Stands L m c
         → slice_get p.lines pc ≡ Some (line_of (Refer q) ks m) → slice_get p.bodies q ≡ Some e → IsRefinement e.layout → owner p (Some q) ≡ owner p m.body

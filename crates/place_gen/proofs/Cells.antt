@@ -63,10 +63,10 @@ takes_held kinds.Truth (Text t) old f g = absurd f
 takes_held kinds.Text (Int z) old f g = absurd f
 takes_held kinds.Text (Truth b) old f g = absurd f
 
--- what a cell in use holds: a variable, constant or CONST parameter of a kind, the place of a variable, a limit, or nothing
+-- what a cell in use holds: a value of a kind, the place where values of these kinds stand, a limit, or nothing
 pub data Use : Type 0 where
   OfValue : Kind → Use
-  OfPlace : Kind → Use
+  OfPlace : List Kind → Use
   OfLimit : ℤ → Use
   OfNothing : Use
 
@@ -76,7 +76,7 @@ Uses = List Use
 -- a use that only counts, and uses that do
 abbrev pub IsCount : Use → Type 0
 IsCount (OfValue k) = ⊥
-IsCount (OfPlace k) = ⊥
+IsCount (OfPlace ks) = ⊥
 IsCount (OfLimit l) = Unit {0}
 IsCount OfNothing = Unit {0}
 
@@ -88,10 +88,15 @@ pub counts_append : (M N : Uses) → AreCounts M → AreCounts N → AreCounts (
 counts_append [] N h g = g
 counts_append (k ∷ M) N h g = (h.0, counts_append M N h.1 g)
 
+-- values of these kinds stand in the cells from one on
+abbrev pub AtKinds : List Kind → Uses → ℕ → Type 0
+AtKinds [] L x = x ≤ length L
+AtKinds (k ∷ ks) L x = (slice_get L x ≡ Some (OfValue k)) × AtKinds ks L (x + 1)
+
 -- a slot with this number, and what its cell holds. A VAR parameter refers to a variable before it
 abbrev pub Kept : Uses → ℕ → Use → Slot → Cell → Type 0
 Kept L at (OfValue k) s n = (v : Value) × (s ≡ Holds v) × IsOf k v × (n ≡ held_of v)
-Kept L at (OfPlace k) s n = (x : Place) × (s ≡ Refers x) × (x.variable < at) × (slice_get L x.variable ≡ Some (OfValue k)) × (n ≡ Word x.variable)
+Kept L at (OfPlace ks) s n = (x : Place) × (s ≡ Refers x) × (x.variable + length ks ≤ at) × AtKinds ks L x.variable × (n ≡ Word x.variable)
 Kept L at (OfLimit l) s n = (s ≡ Taken) × FitsSigned w16 l × (n ≡ held_of (Int l))
 Kept L at OfNothing s n = (s ≡ Taken) × (n ≡ Word 0)
 
@@ -118,6 +123,15 @@ get_right (x ∷ xs) ys j = let e : length (x ∷ xs) + j ≡ suc (length xs + j
 some_is : {A : Type 0} (a b : A) → Some a ≡ Some b → a ≡ b
 some_is a b e = cc
 
+-- with more cells behind, and without them
+pub at_wider : (ks : List Kind) (L M : Uses) (x : ℕ) → AtKinds ks L x → AtKinds ks (L ++ M) x
+at_wider [] L M x h = omega (arith, h, length-append L M)
+at_wider (k ∷ ks) L M x h = (get_left L M x (OfValue k) h.0, at_wider ks L M (x + 1) h.1)
+
+pub at_front : (ks : List Kind) (L M : Uses) (x : ℕ) → x + length ks ≤ length L → AtKinds ks (L ++ M) x → AtKinds ks L x
+at_front [] L M x le h = omega (arith, le)
+at_front (k ∷ ks) L M x le h = (sym (get_back L M x (omega (arith, le))) ∙ h.0, at_front ks L M (x + 1) (omega (arith, le)) h.1)
+
 -- so the cells hold the store
 pub image : (L : Uses) (store : List Slot) (cells : Cells) → Keeps L store cells → Image store cells
 image L store cells h room x s e =
@@ -128,7 +142,7 @@ image L store cells h room x s e =
   where
     by : (k : Use) → Kept L x k s (cells (run_cell x)) → StandsFor (cells (run_cell x)) s
     by (OfValue k) g = subst (StandsFor (cells (run_cell x))) (sym g.1) g.3
-    by (OfPlace k) g = subst (StandsFor (cells (run_cell x))) (sym g.1) g.4
+    by (OfPlace ks) g = subst (StandsFor (cells (run_cell x))) (sym g.1) g.4
     by (OfLimit l) g = subst (StandsFor (cells (run_cell x))) (sym g.0) tt
     by OfNothing g = subst (StandsFor (cells (run_cell x))) (sym g.0) tt
 
@@ -141,14 +155,15 @@ reads L store cells x k go h e =
     (subst (IsOf k) (sym same) g.2, ap (λ c. on_cell k c go) g.3 ∙ value_back k g.0 go g.2 ∙ ap go (sym same))
 
 -- and the place that a VAR parameter holds
-pub refers : (L : Uses) (store : List Slot) (cells : Cells) (x : ℕ) (k : Kind) (go : Addr → Move) → length L ≤ CELLS → Keeps L store cells
-    → slice_get L x ≡ Some (OfPlace k) → (slice_get L (place_of (slot_at store x)).variable ≡ Some (OfValue k))
+pub refers : (L : Uses) (store : List Slot) (cells : Cells) (x : ℕ) (ks : List Kind) (go : Addr → Move) → length L ≤ CELLS → Keeps L store cells
+    → slice_get L x ≡ Some (OfPlace ks) → AtKinds ks L (place_of (slot_at store x)).variable
     × (on_word (cells (run_cell x)) (λ n. go (place_in n)) ≡ go (run_cell (place_of (slot_at store x)).variable))
-refers L store cells x k go room h e =
-    let g = h.each x (OfPlace k) e in
+refers L store cells x ks go room h e =
+    let g = h.each x (OfPlace ks) e in
     let same : place_of (slot_at store x) ≡ g.0 = ap place_of g.1 in
-    let is : slice_get L (place_of (slot_at store x)).variable ≡ Some (OfValue k) = ap (λ (y : Place). slice_get L y.variable) same ∙ g.3 in
-    let small : (place_of (slot_at store x)).variable < CELLS = omega (arith, slice_get_within L (place_of (slot_at store x)).variable (OfValue k) is, room) in
+    let is : AtKinds ks L (place_of (slot_at store x)).variable = subst (λ (y : Place). AtKinds ks L y.variable) (sym same) g.3 in
+    let at : (place_of (slot_at store x)).variable ≡ g.0.variable = ap (λ (y : Place). y.variable) same in
+    let small : (place_of (slot_at store x)).variable < CELLS = omega (arith, slice_get_within L x (OfPlace ks) e, room, g.2, at) in
     let n : cells (run_cell x) ≡ Word (place_of (slot_at store x)).variable = g.4 ∙ ap (λ (y : Place). Word y.variable) (sym same) in
     let m : (place_of (slot_at store x)).variable % CELLS ≡ (place_of (slot_at store x)).variable = omega arith in
     (is, ap (λ c. on_word c (λ n. go (place_in n))) n ∙ ap (λ n. go (run_cell n)) m)
@@ -223,7 +238,7 @@ cuts gone L M store cells n from used is from_is used_is lost h =
   where
     by : (x : ℕ) (k : Use) → x < length L → Kept (L ++ M) x k (slot_at store x) (cells (run_cell x)) → Kept L x k (slot_at store x) (cells (run_cell x))
     by x (OfValue k) lt g = g
-    by x (OfPlace k) lt g = (g.0, g.1, g.2, sym (get_back L M g.0.variable (omega (arith, g.2))) ∙ g.3, g.4)
+    by x (OfPlace ks) lt g = (g.0, g.1, g.2, at_front ks L M g.0.variable (omega (arith, g.2, lt)) g.3, g.4)
     by x (OfLimit l) lt g = g
     by x OfNothing lt g = g
 
@@ -253,7 +268,7 @@ AllKept L at _ _ _ = ⊥
 
 kept_wider : (L M : Uses) (at : ℕ) (k : Use) (s : Slot) (n : Cell) → Kept L at k s n → Kept (L ++ M) at k s n
 kept_wider L M at (OfValue k) s n g = g
-kept_wider L M at (OfPlace k) s n g = (g.0, g.1, g.2, get_left L M g.0.variable (OfValue k) g.3, g.4)
+kept_wider L M at (OfPlace ks) s n g = (g.0, g.1, g.2, at_wider ks L M g.0.variable g.3, g.4)
 kept_wider L M at (OfLimit l) s n g = g
 kept_wider L M at OfNothing s n g = g
 

@@ -1,12 +1,13 @@
 -- What choices, units and changes do, whatever their parts are.
 use Rattle.std.proofs.Common.{◌≡◌, ℕ, suc, ◌+◌, ◌≤◌, List, [], ◌∷◌, ◌++◌, length, drop, Option, Bool, true, false, cond, ◌||◌, refl, ap, ◌∙◌, subst, arith}
 use Rattle.std.proofs.Common.{length-append}
-use Rattle.std.specs.Prelude.{Ok, Err, ℤ}
+use Rattle.std.specs.Prelude.{Ok, Err, ℤ, slice_get, Some}
 use Rattle.std.specs.Ordering.{int_eq}
 use Rattle.eu_base.specs.declared.address.TheConstants.{CELLS}
 use Rattle.eu_base.specs.declared.value.Kind.{Kind}
 use Rattle.eu_base.specs.declared.value.Kind.TheVariants as kinds
 use Rattle.eu_base.specs.declared.value.Value.{Value}
+use Rattle.eu_base.specs.declared.shape.Shape.TheVariants.{Cell}
 use Rattle.eu_base.specs.declared.stop.Stop.TheVariants.{Own}
 use Rattle.eu_base.specs.declared.operation.Change.{Change}
 use Rattle.eu_base.specs.Values.{IsOf, number_of, truth_of, text_of}
@@ -15,30 +16,27 @@ use Rattle.eu_base.specs.Cells.{Cells, run_cell}
 use Rattle.code_form.specs.declared.operand.Operand.{Operand}
 use Rattle.code_form.specs.declared.operand.Operand.TheVariants.{Value as Of}
 use Rattle.code_form.specs.declared.operand.OperandKind.{OperandKind}
-use Rattle.code_form.specs.declared.operand.OperandKind.TheVariants as operand
 use Rattle.code_form.specs.declared.instr.Instr.TheVariants.{Mark, Modify, Jump, False, When, Drop, ErrorStop}
 use Rattle.code_form.specs.declared.code.Spot.{Spot}
 use Rattle.code_form.specs.Program.{Program, line_of}
 use Rattle.code_form.specs.Machine.{Position, free, Goes, Halts, at, or_halt, puts, step}
 use Rattle.elan_types.specs.declared.core_phrase.Exit.{Exit}
-use Rattle.elan_types.specs.declared.core_phrase.PlacePhrase.{PlacePhrase}
-use Rattle.elan_types.specs.Eval.{Place, World, Outcome, Gives, Stopped, bind, spend, branch, or_stop, fetch, assign, save, modify, place, holding_place}
+use Rattle.elan_types.specs.Eval.{Place, World, Outcome, Gives, Stopped, bind, spend, branch, or_stop, fetch, the, assign, save, modify, holding_place}
 use Rattle.elan_types.specs.Eval.{Calls, Run, holds}
 use Rattle.elan_types.specs.Command.{Ending}
-use Rattle.place_gen.specs.Stretch.{Stretch, one, keeps, join, if_code, whens, arm_code, place_code, modify_code}
+use Rattle.place_gen.specs.Stretch.{Stretch, one, keeps, join, if_code, whens, arm_code}
 use Rattle.place_gen.specs.Correct.{Comes, scene_of}
 use Rattle.place_gen.proofs.Lines.{HasAt, has_front, has_rest, join_sized}
-use Rattle.place_gen.proofs.Homes.{HasPlace}
-use Rattle.place_gen.proofs.Cells.{Uses, Keeps, reads}
+use Rattle.place_gen.proofs.Cells.{OfValue, Uses, Keeps, reads}
 use Rattle.eu_base.proofs.Results.{changed_gives}
-use Rattle.place_gen.proofs.Carry.{finish, Any, AtKind, reach, Ends, Carries, Within, less, stop_comes, refuse_ends, then_carries, lead_carries, carries_lead}
-use Rattle.place_gen.proofs.Carry.{does, put_ends, branch_carries, mark_carries, here, ends_at, join_carries}
-use Rattle.place_gen.proofs.Forms.{keep_place, Is, IsValue, IsAction, place_is}
+use Rattle.place_gen.proofs.Carry.{finish, Any, at_one, reach, Ends, Carries, Within, less, stop_comes, refuse_ends, then_carries, lead_carries, carries_lead}
+use Rattle.place_gen.proofs.Carry.{does, put_ends, branch_carries, mark_carries, one_then, here, ends_at, join_carries, join_one}
+use Rattle.place_gen.proofs.Forms.{keep, keep_place, Is, IsValue, IsPlace, IsAction}
 
 module _ (p : Program) (body : Option ℕ) where
-  pub if_is : {A : Type 0} {Good : Uses → A → Type 0} {push : A → List Operand → List Operand} {t : Run Value} {x y : Run A} {f g h : Stretch}
-      → IsValue p body kinds.Truth t f → Is p body Good push x g → Is p body Good push y h
-      → Is p body Good push (λ r w. bind (t r w) (λ v. branch (truth_of v) (x r) (y r))) (if_code f g h)
+  pub if_is : {A : Type 0} {Good : Uses → A → Type 0} {push : A → List Operand → List Operand} {t : Run (List Value)} {x y : Run A} {f g h : Stretch}
+      → IsValue p body (Cell kinds.Truth) t f → Is p body Good push x g → Is p body Good push y h
+      → Is p body Good push (λ r w. bind (t r w) (λ vs. branch (truth_of (the vs)) (x r) (y r))) (if_code f g h)
   if_is {A} {Good} {push} {t} {x} {y} {f} {g} {h} i j k = record {
     sized = λ ks m pc.
         let p1 = pc + f.size in
@@ -60,8 +58,8 @@ module _ (p : Program) (body : Option ℕ) where
         let h2 = has_rest p.lines (p1 + 1) g.size (g.lines ks m (p1 + 1)) _ (j.sized ks m (p1 + 1)) h1.1 in
         let to = λ (a : _). at c p3 (push a ops) in
         let run = λ (v : Value). branch (truth_of v) (x r) (y r) in
-        ends_at p b (at c pc ops) c (λ w. bind (t r w) run) p3 (pc + (f.size + (1 + (g.size + (1 + h.size))))) (λ a. push a ops) (omega arith)
-        (then_carries p b (at c pc ops) (t r) (λ v. at c p1 (Of v ∷ ops)) run to
+        ends_at p b (at c pc ops) c (λ w. bind (t r w) (λ vs. run (the vs))) p3 (pc + (f.size + (1 + (g.size + (1 + h.size))))) (λ a. push a ops) (omega arith)
+        (one_then p kinds.Truth b (at c pc ops) (t r) (λ vs. at c p1 (keep vs ops)) run to
         (i.goes calls n b pc L ks m c ops home le (has_front p.lines pc (f.lines ks m pc) _ has)) (λ v ok.
         lead_carries p b (at c p1 (Of v ∷ ops)) (at c (cond (truth_of v) (p1 + 1) (p2 + 1)) ops) (run v) to
         (λ cells. here p p1 (False (p2 + 1)) (f.leaves ks) m h1.0 c (Of v ∷ ops) cells)
@@ -141,13 +139,14 @@ module _ (p : Program) (body : Option ℕ) where
         (λ cells. here p p1 (Jump (p2 + 1)) ks m h1.0 c (Of v ∷ ops) cells) (j.goes calls n b (p2 + 1) L ks m c v ops home le h2.1)));
   }
 
-  pub select_is : {A : Type 0} {Good : Uses → A → Type 0} {push : A → List Operand → List Operand} {t : Run Value} {y : ℤ → Run A} {f g : Stretch}
-      → IsValue p body kinds.Int t f → IsChoice Good push y g → Is p body Good push (λ r w. bind (t r w) (λ v. y (number_of v) r)) (join f g)
+  pub select_is : {A : Type 0} {Good : Uses → A → Type 0} {push : A → List Operand → List Operand} {t : Run (List Value)} {y : ℤ → Run A}
+      {f g : Stretch} → IsValue p body (Cell kinds.Int) t f → IsChoice Good push y g
+      → Is p body Good push (λ r w. bind (t r w) (λ vs. y (number_of (the vs)) r)) (join f g)
   select_is {A} {Good} {push} {t} {y} {f} {g} i j = record {
     sized = join_sized f g i.sized j.sized;
     goes =
         λ calls n b pc L ks m c ops home le has. let r = reach calls n c ops in
-        join_carries p f g b pc ks m c ops (t r) (λ v. y (number_of v) r) (λ v. Of v ∷ ops) (λ a. push a ops) i.sized has
+        join_one p kinds.Int f g b pc ks m c ops ops (t r) (λ v. y (number_of v) r) (λ a. push a ops) i.sized has
         (λ h. i.goes calls n b pc L ks m c ops home le h) (λ h v ok. j.goes calls n b (pc + f.size) L (f.leaves ks) m c v ops home le h);
   }
 
@@ -164,10 +163,10 @@ module _ (p : Program) (body : Option ℕ) where
 
   -- a change, at the instruction
   modified : {A : Type 0} {L : Uses} (g : Given) (kind : Kind) (x : Place) (a : A) (c : Position) (ops : List Operand) (w : World) (cells : Cells)
-      (k : A → World → Ending) (l : Exit → Option Value → World → Ending) → length L ≤ CELLS → AtKind kind L x
+      (k : A → World → Ending) (l : Exit → Option (List Value) → World → Ending) → length L ≤ CELLS → slice_get L x.variable ≡ Some (OfValue kind)
       → ((v : Value) → g ≡ Ok v → IsOf kind v) → Keeps L w.store cells → step p c cells ≡ or_halt g (λ v. puts c (run_cell x.variable) v ops cells)
-      → ((v : Value) → Ends p L (at c (c.pc + 1) ops) (assign x v w) (k a (assign x v w)))
-      → Comes p (free c) (scene_of w cells) (finish (or_stop g (λ v. save x v (Gives a)) w) k l)
+      → ((v : Value) → Ends p L (at c (c.pc + 1) ops) (assign x (v ∷ []) w) (k a (assign x (v ∷ []) w)))
+      → Comes p (free c) (scene_of w cells) (finish (or_stop g (λ v. save x (v ∷ []) (Gives a)) w) k l)
   modified {A} {L} (Ok v) kind x a c ops w cells k l room is gives kept e hk =
       put_ends p (free c) (at c (c.pc + 1) ops) w x kind v (Gives a) k l cells room is (gives v refl) kept (does p c (scene_of w cells) _ e) (hk v)
   modified {A} {L} (Err s) kind x a c ops w cells k l room is gives kept e hk =
@@ -175,7 +174,8 @@ module _ (p : Program) (body : Option ℕ) where
 
   -- INCR, DECR and CAT where value and place are on top
   pub modify_carries : {A : Type 0} {L : Uses} (change : Change) (x : Place) (v : Value) (a : A) (b q : ℕ) (ks : List OperandKind) (m : Spot) (c : Position)
-      (ops : List Operand) (to : A → Position) → to a ≡ at c (q + 1) ops → length L ≤ CELLS → AtKind (change_kind change) L x
+      (ops : List Operand) (to : A → Position) → to a ≡ at c (q + 1) ops → length L ≤ CELLS
+      → slice_get L x.variable ≡ Some (OfValue (change_kind change))
       → HasAt p.lines q ((one (Modify change) (drop 2)).lines ks m q)
       → Carries p L m.body c.frames Any b (at c q (Of v ∷ keep_place x ops)) (modify change x v a) to
   modify_carries {A} {L} change x v a b q ks m c ops to to_is room is has = record {
@@ -185,38 +185,38 @@ module _ (p : Program) (body : Option ℕ) where
         let r = reads L w.store cells x.variable (change_kind change) go keeps is in
         modified (changed change (fetch x w) v) (change_kind change) x a now ops w cells k l room is (λ z e. changed_gives change _ _ z e) keeps
         (here p q (Modify change) ks m has.0 c (Of v ∷ keep_place x ops) cells ∙ r.1)
-        (λ z. subst (λ d. Ends p L d (assign x z w) (k a (assign x z w))) to_is (hk a (assign x z w) tt le));
+        (λ z. subst (λ d. Ends p L d (assign x (z ∷ []) w) (k a (assign x (z ∷ []) w))) to_is (hk a (assign x (z ∷ []) w) tt le));
   }
 
-  pub modify_is : {t : Run Value} {f : Stretch} (change : Change) (q : PlacePhrase) → HasPlace p body q (change_kind change)
-      → IsValue p body (change_kind change) t f
-      → IsAction p body (λ r w. bind (place q r w) (λ x w. bind (t (holding_place r) w) (λ v. modify change x v tt))) (modify_code q change f)
-  modify_is {t} {f} change q is i =
+  pub modify_is : {q : Run Place} {t : Run (List Value)} {e f : Stretch} (change : Change) → IsPlace p body (Cell (change_kind change)) q e
+      → IsValue p body (Cell (change_kind change)) t f
+      → IsAction p body (λ r w. bind (q r w) (λ x w. bind (t (holding_place r) w) (λ vs. modify change x (the vs) tt)))
+      (join e (join f (one (Modify change) (drop 2))))
+  modify_is {q} {t} {e} {f} change j i =
       let kind = change_kind change in
-      let g = one (Modify change) (drop 2) in
-      let j = place_is p body q kind is in record {
-        sized = join_sized (place_code q kind) (join f g) j.sized (join_sized f g i.sized (λ ks m pc. refl));
+      let g = one (Modify change) (drop 2) in record {
+        sized = join_sized e (join f g) j.sized (join_sized f g i.sized (λ ks m pc. refl));
         goes =
             λ calls n b pc L ks m c ops home le has.
-            join_carries p (place_code q kind) (join f g) b pc ks m c ops (place q (reach calls n c ops))
-            (λ x w. bind (t (holding_place (reach calls n c ops)) w) (λ v. modify change x v (tt {0}))) (λ x. keep_place x ops) (λ _. ops)
+            join_carries p e (join f g) b pc ks m c ops (q (reach calls n c ops))
+            (λ x w. bind (t (holding_place (reach calls n c ops)) w) (λ vs. modify change x (the vs) (tt {0}))) (λ x. keep_place x ops) (λ _. ops)
             j.sized has (λ h. j.goes calls n b pc L ks m c ops home le h) (λ h x at_x.
-            join_carries p f g b (pc + 1) (operand.Place kind ∷ ks) m c (keep_place x ops) (t (reach calls n c (keep_place x ops)))
-            (λ v. modify change x v (tt {0})) (λ v. Of v ∷ keep_place x ops) (λ _. ops) i.sized h
-            (λ h. i.goes calls n b (pc + 1) L (operand.Place kind ∷ ks) m c (keep_place x ops) home le h) (λ h v ok.
-            modify_carries change x v (tt {0}) b (pc + 1 + f.size) (f.leaves (operand.Place kind ∷ ks)) m c ops (λ _. at c (pc + 1 + f.size + 1) ops) refl
-            le.stands.room at_x h));
+            join_one p kind f g b (pc + e.size) (e.leaves ks) m c (keep_place x ops) (keep_place x ops) (t (reach calls n c (keep_place x ops)))
+            (λ v. modify change x v (tt {0})) (λ _. ops) i.sized h
+            (λ h. i.goes calls n b (pc + e.size) L (e.leaves ks) m c (keep_place x ops) home le h) (λ h v ok.
+            modify_carries change x v (tt {0}) b (pc + e.size + f.size) (f.leaves (e.leaves ks)) m c ops (λ _. at c (pc + e.size + f.size + 1) ops) refl
+            le.stands.room (at_one kind L x at_x) h));
       }
 
   -- a stop with a text
-  pub error_stop_is : {t : Run Value} {f : Stretch} → IsValue p body kinds.Text t f
-      → IsAction p body (λ r w. bind (t r w) (λ v. Stopped (Own (text_of v)))) (join f (one ErrorStop (drop 1)))
+  pub error_stop_is : {t : Run (List Value)} {f : Stretch} → IsValue p body (Cell kinds.Text) t f
+      → IsAction p body (λ r w. bind (t r w) (λ vs. Stopped (Own (text_of (the vs))))) (join f (one ErrorStop (drop 1)))
   error_stop_is {t} {f} i =
       let g = one ErrorStop (drop 1) in record {
         sized = join_sized f g i.sized (λ ks m pc. refl);
         goes =
             λ calls n b pc L ks m c ops home le has.
-            join_carries p f g b pc ks m c ops (t (reach calls n c ops)) (λ v. Stopped (Own (text_of v))) (λ v. Of v ∷ ops) (λ _. ops) i.sized has
+            join_one p kinds.Text f g b pc ks m c ops ops (t (reach calls n c ops)) (λ v. Stopped (Own (text_of v))) (λ _. ops) i.sized has
             (λ h. i.goes calls n b pc L ks m c ops home le h) (λ h v ok.
             let q = pc + f.size in record {
               by =

@@ -1,16 +1,22 @@
 -- What the tables of a program say of places, bodies and exits, where they agree with the kinds.
 use Rattle.std.proofs.Common.{◌≡◌, ℕ, List, [], ◌∷◌, ◌++◌, map, Option, Some, None, Bool, true, false, ◌&&◌, refl, sym, ap, ◌∙◌, subst}
-use Rattle.std.specs.Prelude.{slice_get, option_map}
+use Rattle.std.specs.Prelude.{slice_get, option_map, flat_map}
+use Rattle.std.proofs.lemmas.List.Concat.{flat_map-cons}
+use Rattle.std.proofs.lemmas.List.{map-append}
 use Rattle.std.proofs.lemmas.Option.{slice_get-map}
 use Rattle.std.proofs.lemmas.Bool.{eqb-true}
 use Rattle.eu_base.specs.declared.value.Kind.{Kind}
-use Rattle.eu_base.specs.declared.value.Kind.TheVariants as kinds
+use Rattle.eu_base.specs.declared.shape.Shape.{Shape}
+use Rattle.eu_base.specs.declared.shape.Shape.TheVariants.{Cell}
+use Rattle.eu_base.specs.Shapes.{cell_kinds}
+use Rattle.code_form.specs.declared.operand.OperandKind.{OperandKind}
 use Rattle.code_form.specs.declared.operand.OperandKind.TheVariants as operand
 use Rattle.code_form.specs.declared.code.Entry.{Entry}
+use Rattle.code_form.specs.declared.code.Layout.{Layout}
 use Rattle.code_form.specs.declared.code.Layout.TheVariants as layouts
 use Rattle.code_form.specs.Program as program
-use Rattle.code_form.specs.Program.{Program, cells_of, cells_in, frame_cells}
-use Rattle.code_form.specs.Valid.{IsRefinement}
+use Rattle.code_form.specs.Program.{Program, CellUse, HoldsValue, HoldsPlace, cell_uses, cells_of, cells_in, frame_cells}
+use Rattle.code_form.specs.Valid.{IsRefinement, cell_value, cell_place}
 use Rattle.elan_types.specs.declared.core_phrase.Access.{Access}
 use Rattle.elan_types.specs.declared.core_phrase.Access.TheVariants.{Const, Var}
 use Rattle.elan_types.specs.declared.core_phrase.Exit.{Exit}
@@ -19,31 +25,46 @@ use Rattle.elan_types.specs.declared.core_phrase.Scope.{Scope}
 use Rattle.elan_types.specs.declared.core_phrase.Scope.TheVariants as scopes
 use Rattle.elan_types.specs.declared.core_phrase.Formal.{Formal}
 use Rattle.elan_types.specs.declared.core_phrase.Body.{Body}
-use Rattle.elan_types.specs.declared.core_phrase.PlacePhrase.{PlacePhrase}
-use Rattle.elan_types.specs.declared.core_phrase.PlacePhrase.TheVariants as places
 use Rattle.place_gen.specs.Layouts.{taken_as, parameter_kind, layout_of}
 use Rattle.elan_types.specs.Typing as typing
-use Rattle.elan_types.specs.Typing.{Typed, has, agree, takes, only_if, same_kind, same_access, kind_as, frame_of, frame_at}
+use Rattle.elan_types.specs.Typing.{Typed, Held, held_as, has, has_shape, agree, takes, only_if, same_access, frame_of, frame_at}
 use Rattle.elan_types.specs.Typing.{frame_in, scope_of, result_of, result_of_content, delivered_by, taken_by, take_all, Taken, refines, around, left_from}
-use Rattle.elan_types.specs.Typing.{leaves_without, leaves_with, is_none, place_kind, formal, Home}
+use Rattle.elan_types.specs.Typing.{leaves_without, leaves_with, is_none, formal, Home}
+use Rattle.elan_types.proofs.Shapes.{same_shape_is}
+use Rattle.place_gen.proofs.Cells.{Use, OfValue, OfPlace, Uses}
+
+-- what the cells of a parameter are for, and those of a PROC's frame
+abbrev pub uses_of : OperandKind → Uses
+uses_of (operand.Value s) = map OfValue (cell_kinds s)
+uses_of (operand.Place s) = OfPlace (cell_kinds s) ∷ []
+
+abbrev pub layout_uses : Layout → Uses
+layout_uses (layouts.Own parameters variables) = flat_map uses_of parameters ++ map OfValue variables
+layout_uses _ = []
+
+abbrev pub uses_at : Option Layout → Uses
+uses_at None = []
+uses_at (Some l) = layout_uses l
 
 module _ (p : Program) where
   -- what a body delivers
-  abbrev pub Delivers : Option ℕ → Option Kind → Type 0
-  Delivers None k = ⊥
-  Delivers (Some n) k = (e : Entry) × (slice_get p.bodies n ≡ Some e) × (e.delivers ≡ k)
+  abbrev pub Delivers : Option ℕ → Option Shape → Type 0
+  Delivers None s = ⊥
+  Delivers (Some n) s = (e : Entry) × (slice_get p.bodies n ≡ Some e) × (e.delivers ≡ s)
+
+  -- what the cells that a body uses are for
+  abbrev pub uses_in : Option ℕ → Uses
+  uses_in None = []
+  uses_in (Some n) = uses_at (program.layout_of (slice_get p.bodies n))
+
+  abbrev pub frame_uses : Option ℕ → Uses
+  frame_uses body = uses_in (program.owner p body)
 
 module _ (p : Program) (body : Option ℕ) where
-  -- what a place is in the tables
-  abbrev pub HasPlace : PlacePhrase → Kind → Type 0
-  HasPlace (places.Variable x) k = slice_get p.variables x ≡ Some k
-  HasPlace (places.Local x) k = slice_get (frame_cells p body) x ≡ Some (operand.Value k)
-  HasPlace (places.Parameter x) k = slice_get (frame_cells p body) x ≡ Some (operand.Place k)
-
   -- what an exit from this body delivers
-  abbrev pub LeftBy : Exit → Option Kind → Type 0
-  LeftBy exits.Body k = Delivers p body k
-  LeftBy exits.Around k = Delivers p (program.owner p body) k
+  abbrev pub LeftBy : Exit → Option Shape → Type 0
+  LeftBy exits.Body s = Delivers p body s
+  LeftBy exits.Around s = Delivers p (program.owner p body) s
 
 -- the entry of a body in the tables
 pub record HasEntry (p : Program) (n : ℕ) (b : Body) : Type 0 where
@@ -63,28 +84,20 @@ IsHome bodies None = Unit {0}
 IsHome bodies (Some n) = (b : Body) × (slice_get bodies n ≡ Some b)
 
 -- what tests of kinds tell
-pub only_if_is : (b : Bool) (a : Typed) (u : Kind) → only_if b a ≡ Some u → (b ≡ true) × (a ≡ Some u)
-only_if_is true a u e = (refl, e)
-only_if_is false a u e = let f : ⊥ = cc in absurd f
+pub only_if_is : (b : Bool) (a : Typed) (s : Shape) → only_if b a ≡ Some s → (b ≡ true) × (a ≡ Some s)
+only_if_is true a s e = (refl, e)
+only_if_is false a s e = let f : ⊥ = cc in absurd f
 
 pub both : (a b : Bool) → (a && b) ≡ true → (a ≡ true) × (b ≡ true)
 both true b e = (refl, e)
 both false b e = let f : ⊥ = cc in absurd f
 
-pub same_is : (u v : Kind) → same_kind u v ≡ true → u ≡ v
-same_is kinds.Int kinds.Int e = refl
-same_is kinds.Int kinds.Truth e = let f : ⊥ = cc in absurd f
-same_is kinds.Int kinds.Text e = let f : ⊥ = cc in absurd f
-same_is kinds.Truth kinds.Int e = let f : ⊥ = cc in absurd f
-same_is kinds.Truth kinds.Truth e = refl
-same_is kinds.Truth kinds.Text e = let f : ⊥ = cc in absurd f
-same_is kinds.Text kinds.Int e = let f : ⊥ = cc in absurd f
-same_is kinds.Text kinds.Truth e = let f : ⊥ = cc in absurd f
-same_is kinds.Text kinds.Text e = refl
+pub has_shape_is : (s : Shape) (a : Typed) → has_shape s a ≡ true → a ≡ Some s
+has_shape_is s None e = let f : ⊥ = cc in absurd f
+has_shape_is s (Some r) e = ap Some (sym (same_shape_is s r e))
 
-pub has_is : (u : Kind) (a : Typed) → has u a ≡ true → a ≡ Some u
-has_is u None e = let f : ⊥ = cc in absurd f
-has_is u (Some v) e = ap Some (sym (same_is u v e))
+pub has_is : (k : Kind) (a : Typed) → has k a ≡ true → a ≡ Some (Cell k)
+has_is k a e = has_shape_is (Cell k) a e
 
 pub access_is : (a b : Access) → same_access a b ≡ true → a ≡ b
 access_is Const Const e = refl
@@ -92,37 +105,80 @@ access_is Const Var e = let f : ⊥ = cc in absurd f
 access_is Var Const e = let f : ⊥ = cc in absurd f
 access_is Var Var e = refl
 
-pub agree_is : (a b : Typed) (u : Kind) → agree a b ≡ true → a ≡ Some u → b ≡ Some u
-agree_is None b u e f = let g : ⊥ = cc in absurd g
-agree_is (Some v) b u e f = let g : v ≡ u = cc in has_is u b (subst (λ v. has v b ≡ true) g e)
+pub agree_is : (a b : Typed) (s : Shape) → agree a b ≡ true → a ≡ Some s → b ≡ Some s
+agree_is None b s e f = let g : ⊥ = cc in absurd g
+agree_is (Some r) b s e f = let g : r ≡ s = cc in has_shape_is s b (subst (λ r. has_shape r b ≡ true) g e)
 
 -- values of kinds, and then variables of kinds, as what takes them
 pub formals_take : (ks ls : List Kind)
-    → map parameter_kind (map (formal Const) ks ++ map (formal Var) ls) ≡ map operand.Value ks ++ map operand.Place ls
+    → map parameter_kind (map (λ k. formal Const (Cell k)) ks ++ map (λ k. formal Var (Cell k)) ls) ≡ map cell_value ks ++ map cell_place ls
 formals_take [] [] = refl
-formals_take [] (l ∷ ls) = ap (λ ks. operand.Place l ∷ ks) (formals_take [] ls)
-formals_take (k ∷ ks) ls = ap (λ ks. operand.Value k ∷ ks) (formals_take ks ls)
+formals_take [] (l ∷ ls) = ap (λ ks. cell_place l ∷ ks) (formals_take [] ls)
+formals_take (k ∷ ks) ls = ap (λ ks. cell_value k ∷ ks) (formals_take ks ls)
 
-formal_is : (f g : Formal) → f.kind ≡ g.kind → f.access ≡ g.access → g ≡ f
-formal_is f g a b = ap (formal g.access) (sym a) ∙ ap (λ (x : Access). formal x f.kind) (sym b)
+formal_is : (f g : Formal) → f.shape ≡ g.shape → f.access ≡ g.access → g ≡ f
+formal_is f g a b = ap (formal g.access) (sym a) ∙ ap (λ (x : Access). formal x f.shape) (sym b)
 
 -- a parameter is given what it takes
 pub takes_is : (f : Formal) (a : Taken) → takes f a ≡ true → a ≡ Some f
 takes_is f None e = let g : ⊥ = cc in absurd g
-takes_is f (Some g) e = let h = both _ _ e in ap Some (formal_is f g (same_is f.kind g.kind h.0) (access_is f.access g.access h.1))
+takes_is f (Some g) e = let h = both _ _ e in ap Some (formal_is f g (same_shape_is f.shape g.shape h.0) (access_is f.access g.access h.1))
 
-some_same : (u v : Kind) → Some u ≡ Some v → u ≡ v
-some_same u v e = cc
+-- the cells of frames: as code has them, and what they are for
+abbrev pub cell_use : Held → CellUse
+cell_use (typing.OfKind k) = HoldsValue k
+cell_use (typing.OfPlace ks) = HoldsPlace
 
-cells_are : (ps : List Formal) (vs : List Kind) → cells_of (layout_of (scopes.Own ps vs)) ≡ map parameter_kind (frame_of (scopes.Own ps vs))
-cells_are [] [] = refl
-cells_are [] (v ∷ vs) = ap (λ l. operand.Value v ∷ l) (cells_are [] vs)
-cells_are (f ∷ ps) vs = ap (λ l. parameter_kind f ∷ l) (cells_are ps vs)
+abbrev pub use_of : Held → Use
+use_of (typing.OfKind k) = OfValue k
+use_of (typing.OfPlace ks) = OfPlace ks
 
-scope_cells : (s : Scope) → cells_of (layout_of s) ≡ map parameter_kind (frame_of s)
-scope_cells (scopes.Own ps vs) = cells_are ps vs
+map_twice : {A B C : Type 0} (f : B → C) (g : A → B) (xs : List A) → map f (map g xs) ≡ map (λ x. f (g x)) xs
+map_twice f g [] = refl
+map_twice f g (x ∷ xs) = ap (λ l. f (g x) ∷ l) (map_twice f g xs)
+
+-- of one parameter, and of all
+cells_alike : (a : Access) (s : Shape) → cell_uses (taken_as a s) ≡ map cell_use (held_as a (cell_kinds s))
+cells_alike Const s = sym (map_twice cell_use typing.OfKind (cell_kinds s))
+cells_alike Var s = refl
+
+uses_alike : (a : Access) (s : Shape) → uses_of (taken_as a s) ≡ map use_of (held_as a (cell_kinds s))
+uses_alike Const s = sym (map_twice use_of typing.OfKind (cell_kinds s))
+uses_alike Var s = refl
+
+all_alike : {C : Type 0} (of : OperandKind → List C) (f : Held → C)
+    → ((a : Access) (s : Shape) → of (taken_as a s) ≡ map f (held_as a (cell_kinds s)))
+    → (ps : List Formal) → flat_map of (map parameter_kind ps) ≡ map f (flat_map typing.cells_of ps)
+all_alike of f one [] = refl
+all_alike of f one (x ∷ ps) =
+    flat_map-cons of (parameter_kind x) (map parameter_kind ps)
+    ∙ ap (λ l. l ++ flat_map of (map parameter_kind ps)) (one x.access x.shape)
+    ∙ ap (λ l. map f (typing.cells_of x) ++ l) (all_alike of f one ps)
+    ∙ sym (map-append f (typing.cells_of x) (flat_map typing.cells_of ps))
+    ∙ ap (map f) (sym (flat_map-cons typing.cells_of x ps))
+
+frame_alike : {C : Type 0} (of : OperandKind → List C) (f : Held → C) (value : Kind → C)
+    → ((a : Access) (s : Shape) → of (taken_as a s) ≡ map f (held_as a (cell_kinds s))) → ((k : Kind) → value k ≡ f (typing.OfKind k))
+    → (ps : List Formal) (vs : List Kind)
+    → flat_map of (map parameter_kind ps) ++ map value vs ≡ map f (flat_map typing.cells_of ps ++ map typing.OfKind vs)
+frame_alike of f value one is ps vs =
+    ap (λ l. l ++ map value vs) (all_alike of f one ps)
+    ∙ ap (λ l. map f (flat_map typing.cells_of ps) ++ l) (values vs ∙ sym (map_twice f typing.OfKind vs))
+    ∙ sym (map-append f (flat_map typing.cells_of ps) (map typing.OfKind vs))
+  where
+    values : (vs : List Kind) → map value vs ≡ map (λ k. f (typing.OfKind k)) vs
+    values [] = refl
+    values (v ∷ vs) = ap (λ c. c ∷ map value vs) (is v) ∙ ap (λ l. f (typing.OfKind v) ∷ l) (values vs)
+
+scope_cells : (s : Scope) → cells_of (layout_of s) ≡ map cell_use (frame_of s)
+scope_cells (scopes.Own ps vs) = frame_alike cell_uses cell_use HoldsValue cells_alike (λ k. refl) ps vs
 scope_cells (scopes.Of q) = refl
 scope_cells scopes.Level = refl
+
+scope_uses : (s : Scope) → layout_uses (layout_of s) ≡ map use_of (frame_of s)
+scope_uses (scopes.Own ps vs) = frame_alike uses_of use_of OfValue uses_alike (λ k. refl) ps vs
+scope_uses (scopes.Of q) = refl
+scope_uses scopes.Level = refl
 
 owner_same : (n : ℕ) (s : Scope) → program.owner_in n (layout_of s) ≡ typing.owner_in n s
 owner_same n (scopes.Own ps vs) = refl
@@ -138,43 +194,33 @@ module _ (p : Program) (variables : List Kind) (bodies : List Body) (agrees : Ag
       ap (λ o. program.owner_at n (program.layout_of o)) e.has ∙ ap (program.owner_in n) e.layout ∙ owner_same n is.0.scope
       ∙ sym (ap (λ o. typing.owner_at n (scope_of o)) is.1)
 
-  -- what stands in a cell of a frame
-  frame_cell : (n : ℕ) (x : ℕ) (f : Formal) (o : Option Body) → slice_get bodies n ≡ o → slice_get (frame_at (scope_of o)) x ≡ Some f
-      → slice_get (cells_in p (Some n)) x ≡ Some (parameter_kind f)
-  frame_cell n x f None is e = let g : ⊥ = cc in absurd g
-  frame_cell n x f (Some b) is e =
-      let t = agrees.each n b is in
-      ap (λ o. slice_get (program.cells_at (program.layout_of o)) x) t.has ∙ ap (λ l. slice_get (cells_of l) x) t.layout
-      ∙ ap (λ l. slice_get l x) (scope_cells b.scope) ∙ slice_get-map parameter_kind (frame_of b.scope) x ∙ ap (option_map parameter_kind) e
+  -- a cell of a frame, in the tables and as what it is for
+  frame_cell : (n : ℕ) (x : ℕ) (h : Held) (o : Option Body) → slice_get bodies n ≡ o → slice_get (frame_at (scope_of o)) x ≡ Some h
+      → (slice_get (cells_in p (Some n)) x ≡ Some (cell_use h)) × (slice_get (uses_in p (Some n)) x ≡ Some (use_of h))
+  frame_cell n x h None is e = let g : ⊥ = cc in absurd g
+  frame_cell n x h (Some b) is e =
+      let t = agrees.each n b is in (
+        ap (λ o. slice_get (program.cells_at (program.layout_of o)) x) t.has ∙ ap (λ l. slice_get (cells_of l) x) t.layout
+            ∙ ap (λ l. slice_get l x) (scope_cells b.scope) ∙ slice_get-map cell_use (frame_of b.scope) x ∙ ap (option_map cell_use) e,
+        ap (λ o. slice_get (uses_at (program.layout_of o)) x) t.has ∙ ap (λ l. slice_get (layout_uses l) x) t.layout
+            ∙ ap (λ l. slice_get l x) (scope_uses b.scope) ∙ slice_get-map use_of (frame_of b.scope) x ∙ ap (option_map use_of) e,
+      )
 
-  cell_in : (owner : Home) (x : ℕ) (f : Formal) → slice_get (frame_in bodies owner) x ≡ Some f → slice_get (cells_in p owner) x ≡ Some (parameter_kind f)
-  cell_in None x f e = let g : ⊥ = cc in absurd g
-  cell_in (Some n) x f e = frame_cell n x f (slice_get bodies n) refl e
+  cell_in : (owner : Home) (x : ℕ) (h : Held) → slice_get (frame_in bodies owner) x ≡ Some h
+      → (slice_get (cells_in p owner) x ≡ Some (cell_use h)) × (slice_get (uses_in p owner) x ≡ Some (use_of h))
+  cell_in None x h e = let g : ⊥ = cc in absurd g
+  cell_in (Some n) x h e = frame_cell n x h (slice_get bodies n) refl e
 
-  -- a place with an access
-  as_is : (access : Access) (u : Kind) (o : Option Formal) → kind_as access o ≡ Some u
-      → (f : Formal) × (o ≡ Some f) × (parameter_kind f ≡ taken_as access u)
-  as_is access u None e = let g : ⊥ = cc in absurd g
-  as_is access u (Some f) e =
-      let g = only_if_is _ _ u e in
-      let h = some_same f.kind u g.1 in
-      (f, refl, ap (λ a. taken_as a f.kind) (sym (access_is access f.access g.0)) ∙ ap (taken_as access) h)
+  pub held_cell : (home : Home) → IsHome bodies home → (x : ℕ) (h : Held) → slice_get (frame_in bodies (typing.owner bodies home)) x ≡ Some h
+      → slice_get (frame_cells p home) x ≡ Some (cell_use h)
+  held_cell home is x h e = ap (λ o. slice_get (cells_in p o) x) (owner_is home is) ∙ (cell_in (typing.owner bodies home) x h e).0
 
-  held : (home : Home) → IsHome bodies home → (access : Access) (x : ℕ) (u : Kind)
-      → kind_as access (slice_get (frame_in bodies (typing.owner bodies home)) x) ≡ Some u
-      → slice_get (frame_cells p home) x ≡ Some (taken_as access u)
-  held home is access x u e =
-      let g = as_is access u _ e in
-      ap (λ o. slice_get (cells_in p o) x) (owner_is home is) ∙ cell_in (typing.owner bodies home) x g.0 g.1 ∙ ap Some g.2
-
-  pub place_is : (home : Home) → IsHome bodies home → (q : PlacePhrase) (u : Kind) → place_kind variables bodies home q ≡ Some u
-      → HasPlace p home q u
-  place_is home is (places.Variable x) u e = ap (λ l. slice_get l x) agrees.level ∙ e
-  place_is home is (places.Local x) u e = held home is Const x u e
-  place_is home is (places.Parameter x) u e = held home is Var x u e
+  pub held_use : (home : Home) → IsHome bodies home → (x : ℕ) (h : Held) → slice_get (frame_in bodies (typing.owner bodies home)) x ≡ Some h
+      → slice_get (frame_uses p home) x ≡ Some (use_of h)
+  held_use home is x h e = ap (λ o. slice_get (uses_in p o) x) (owner_is home is) ∙ (cell_in (typing.owner bodies home) x h e).1
 
   -- a body that is called, with what it takes and delivers
-  pub record IsProc (q : ℕ) (given : List Taken) (d : Option Kind) : Type 0 where
+  pub record IsProc (q : ℕ) (given : List Taken) (d : Option Shape) : Type 0 where
     pub entry : Entry
     pub has : slice_get p.bodies q ≡ Some entry
     pub parameters : List Formal
@@ -210,7 +256,7 @@ module _ (p : Program) (variables : List Kind) (bodies : List Body) (agrees : Ag
   proc_is q given d e r = some_proc q given d (slice_get bodies q) refl e r
 
   -- a refinement of what a phrase stands in
-  pub record IsPart (q : ℕ) (home : Home) (d : Option Kind) : Type 0 where
+  pub record IsPart (q : ℕ) (home : Home) (d : Option Shape) : Type 0 where
     pub entry : Entry
     pub has : slice_get p.bodies q ≡ Some entry
     pub refinement : IsRefinement entry.layout
@@ -278,9 +324,9 @@ without_is None e = let f : ⊥ = cc in absurd f
 without_is (Some None) e = refl
 without_is (Some (Some u)) e = let f : ⊥ = cc in absurd f
 
-pub with_is : (u : Kind) (o : Option Typed) → leaves_with u o ≡ true → o ≡ Some (Some u)
-with_is u None e = let f : ⊥ = cc in absurd f
-with_is u (Some v) e = ap Some (has_is u v e)
+pub with_is : (s : Shape) (o : Option Typed) → leaves_with s o ≡ true → o ≡ Some (Some s)
+with_is s None e = let f : ⊥ = cc in absurd f
+with_is s (Some a) e = ap Some (has_shape_is s a e)
 
 pub none_is : (a : Typed) → is_none a ≡ true → a ≡ None
 none_is None e = refl

@@ -1,5 +1,4 @@
 pub mod Lines
-pub mod Homes
 pub mod Tables
 pub mod LoopTables
 pub mod TableTree
@@ -7,6 +6,9 @@ pub mod Adds
 pub mod Makes
 pub mod Select
 pub mod Cells
+pub mod Homes
+pub mod Spans
+pub mod PlaceKinds
 pub mod Blocks
 pub mod Carry
 pub mod Forms

@@ -1,7 +1,7 @@
 -- What loops with a counter do, whatever their parts are. A limit has a cell meanwhile.
 use Rattle.std.proofs.Common.{◌≡◌, ℕ, ◌+◌, ◌-◌, ◌<◌, ◌≤◌, List, [], ◌∷◌, ◌++◌, length, drop, Option, Some, None, Bool, true, false, cond, refl, sym, ap, ◌∙◌}
 use Rattle.std.proofs.Common.{subst, arith, length-append}
-use Rattle.std.specs.Prelude.{ℤ, pos}
+use Rattle.std.specs.Prelude.{ℤ, pos, slice_get}
 use Rattle.std.proofs.lemmas.Bool.{leb-true}
 use Rattle.std.proofs.lemmas.List.{get_or_append_left}
 use Rattle.std.proofs.lemmas.Option.{slice_get_within}
@@ -11,6 +11,7 @@ use Rattle.eu_base.specs.declared.address.TheConstants.{CELLS}
 use Rattle.eu_base.specs.declared.value.Kind.TheVariants as kinds
 use Rattle.eu_base.specs.declared.value.Value.{Value}
 use Rattle.eu_base.specs.declared.value.Value.TheVariants as item
+use Rattle.eu_base.specs.declared.shape.Shape.TheVariants.{Cell}
 use Rattle.eu_base.specs.declared.stop.Stop.TheVariants.{CellRoom}
 use Rattle.eu_base.specs.declared.operation.Way.{Way}
 use Rattle.eu_base.specs.Room.{cells_fit}
@@ -20,25 +21,22 @@ use Rattle.eu_base.specs.Cells.{Cells, held_of, run_cell, written, forgotten, wi
 use Rattle.code_form.specs.declared.operand.Operand.{Operand}
 use Rattle.code_form.specs.declared.operand.Operand.TheVariants.{Value as Of}
 use Rattle.code_form.specs.declared.operand.OperandKind.{OperandKind}
-use Rattle.code_form.specs.declared.operand.OperandKind.TheVariants as operand
 use Rattle.code_form.specs.declared.instr.Instr.TheVariants.{Limit, Unlimit}
 use Rattle.code_form.specs.declared.code.Spot.{Spot}
 use Rattle.code_form.specs.Program.{Program, line_of, deeper}
 use Rattle.code_form.specs.Machine.{Position, free, Goes, Halts, Unknown, at, using, on_cell, is_free, base_of, step}
 use Rattle.elan_types.specs.declared.core_phrase.Exit.{Exit as Exit'}
-use Rattle.elan_types.specs.declared.core_phrase.PlacePhrase.{PlacePhrase}
-use Rattle.elan_types.specs.Eval.{Place, Taken, value_of, World, Outcome, Gives, Stopped, bind, branch, fetch, place, holding_place, cut, Calls, Run, turns}
+use Rattle.elan_types.specs.Eval.{Place, Taken, value_of, World, Outcome, Gives, Stopped, bind, branch, fetch, the, holding_place, cut, Calls, Run, turns}
 use Rattle.elan_types.specs.Eval.{step as step_on, step_to, limited, counted}
 use Rattle.elan_types.specs.Command.{Ending}
-use Rattle.place_gen.specs.Stretch.{Stretch, join, Exit, step_code, step_to_code, place_code, turns_code, limit_code, counted_code}
+use Rattle.place_gen.specs.Stretch.{Stretch, PlaceCode, join, Exit, step_code, step_to_code, turns_code, limit_code, counted_code}
 use Rattle.place_gen.specs.Correct.{Comes, scene_of}
 use Rattle.place_gen.proofs.Lines.{HasAt, has_front, has_rest, join_sized}
-use Rattle.place_gen.proofs.Homes.{HasPlace}
 use Rattle.place_gen.proofs.Cells.{Use, OfValue, OfLimit, Uses, Keeps, get_left, reads, cuts, limit_forgotten, extends_one}
 use Rattle.eu_base.proofs.Results.{fits_in_range}
-use Rattle.place_gen.proofs.Carry.{finish, finish_bind, Any, AtKind, use_of, reach, Ends, wider, Carries, Stands, Within, on_step, stop_comes, branch_carries}
-use Rattle.place_gen.proofs.Carry.{does, none_carries, here, ends_at, join_carries}
-use Rattle.place_gen.proofs.Forms.{keep_place, IsValue, IsAction, place_is}
+use Rattle.place_gen.proofs.Carry.{finish, finish_bind, Any, at_one, reach, Ends, wider, Carries, Stands, Within, on_step, stop_comes, branch_carries}
+use Rattle.place_gen.proofs.Carry.{does, none_carries, here, ends_at, join_carries, join_one}
+use Rattle.place_gen.proofs.Forms.{keep_place, IsValue, IsPlace, IsAction}
 use Rattle.place_gen.proofs.Loops.{IsExit, Under, number_fits, turns_are, turns_sized}
 
 module _ (p : Program) (body : Option ℕ) where
@@ -50,12 +48,12 @@ module _ (p : Program) (body : Option ℕ) where
         used = omega (arith, h.used, length-append L (k ∷ []));
         room = omega (arith, h.used, length-append L (k ∷ []), most);
         level = λ x k' e. get_left L (k ∷ []) x (OfValue k') (h.level x k' e);
-        frame = λ x k' e. get_left L (k ∷ []) (base_of c.frames + x) (use_of k') (h.frame x k' e);
+        frame = λ x u e. get_left L (k ∷ []) (base_of c.frames + x) u (h.frame x u e);
       }
 
   -- a cell is taken for the limit, where it has room
   taken : {L : Uses} (t : Bool) (c c' : Position) (w : World) (cells now : Cells) (go : World → Outcome (Unit {0})) (k : Unit {0} → World → Ending)
-      (l : Exit' → Option Value → World → Ending) → Keeps L w.store cells → step p c cells ≡ cond t (Goes c' now) (Halts CellRoom)
+      (l : Exit' → Option (List Value) → World → Ending) → Keeps L w.store cells → step p c cells ≡ cond t (Goes c' now) (Halts CellRoom)
       → (t ≡ true → Comes p (free c') (scene_of w now) (finish (go (record w { store = w.store ++ Taken ∷ [] })) k l))
       → Comes p (free c) (scene_of w cells) (finish (branch t (λ w. go (record w { store = w.store ++ Taken ∷ [] })) (Stopped CellRoom) w) k l)
   taken {L} true c c' w cells now go k l keeps e h = on_step p c c' (scene_of w cells) now _ e (h refl)
@@ -82,7 +80,7 @@ module _ (p : Program) (body : Option ℕ) where
   -- the turns under a limit
   limited_carries : {t : Run Bool} {f : Exit} (way : Way) (v : Value) (x : Place) → IsOf kinds.Int v → IsExit p body (Under p body (number_of v)) t f
       → (calls : Calls) (n b pc : ℕ) (L : Uses) (ks : List OperandKind) (m : Spot) (c : Position) (ops : List Operand) → m.body ≡ body
-      → Within p calls n b L m c → AtKind kinds.Int L x → HasAt p.lines pc ((limit_code way (turns_code f)).lines ks m pc)
+      → Within p calls n b L m c → slice_get L x.variable ≡ Some (OfValue kinds.Int) → HasAt p.lines pc ((limit_code way (turns_code f)).lines ks m pc)
       → Carries p L m.body c.frames Any b (at c pc (Of v ∷ keep_place x ops)) (limited x way (number_of v) t (reach calls n c ops))
       (λ _. at c (pc + 1 + (turns_code f).size + 1) ops)
   limited_carries {t} {f} way v x ok i calls n b pc L ks m c ops home le at_x has =
@@ -143,33 +141,34 @@ module _ (p : Program) (body : Option ℕ) where
       }
 
   -- a loop whose counter has its first value, without a limit and with one
-  pub counted_none_is : (turn' : Run Bool → Run Bool) (tf : Exit → Exit) (q : PlacePhrase) (way : Way)
-      → IsExit p body (λ _. Unit {0}) (turn' (step_on q)) (tf (step_code q)) → IsAction p body (counted q way None turn') (counted_code q way None tf)
-  counted_none_is turn' tf q way i = record {
+  pub counted_none_is : (turn' : Run Bool → Run Bool) (tf : Exit → Exit) (q : Run Place) (x : PlaceCode) (way : Way)
+      → IsExit p body (λ _. Unit {0}) (turn' (step_on q)) (tf (step_code x)) → IsAction p body (counted q way None turn') (counted_code x way None tf)
+  counted_none_is turn' tf q x way i = record {
     sized = λ ks m pc. turns_sized p body i ks m pc;
     goes = λ calls n b pc L ks m c ops home le has. turns_are p body i calls n b pc L ks m c ops home le tt has;
   }
 
-  pub counted_some_is : {t : Run Value} {f : Stretch} (turn' : Run Bool → Run Bool) (tf : Exit → Exit) (q : PlacePhrase) (way : Way)
-      → HasPlace p body q kinds.Int → IsValue p body kinds.Int t f
-      → ((limit : ℤ) → FitsSigned w16 limit → IsExit p body (Under p body limit) (turn' (step_to q way limit)) (tf (step_to_code q way)))
-      → IsAction p body (counted q way (Some t) turn') (counted_code q way (Some f) tf)
-  counted_some_is {t} {f} turn' tf q way is i j =
-      let ts = turns_code (tf (step_to_code q way)) in
+  pub counted_some_is : {t : Run (List Value)} {f : Stretch} (turn' : Run Bool → Run Bool) (tf : Exit → Exit) (q : Run Place) (y : PlaceCode) (way : Way)
+      → IsPlace p body (Cell kinds.Int) q (y (Cell kinds.Int)) → IsValue p body (Cell kinds.Int) t f
+      → ((limit : ℤ) → FitsSigned w16 limit → IsExit p body (Under p body limit) (turn' (step_to q way limit)) (tf (step_to_code y way)))
+      → IsAction p body (counted q way (Some t) turn') (counted_code y way (Some f) tf)
+  counted_some_is {t} {f} turn' tf q y way i' i j =
+      let ts = turns_code (tf (step_to_code y way)) in
       let g = limit_code way ts in
-      let y = place_is p body q kinds.Int is in
+      let e = y (Cell kinds.Int) in
       let zero_fits : FitsSigned w16 (pos 0) = fits_in_range (pos 0) refl in
       let g_sized = limit_sized way ts (turns_sized p body (j (pos 0) zero_fits)) in record {
-        sized = join_sized (place_code q kinds.Int) (join f g) y.sized (join_sized f g i.sized g_sized);
+        sized = join_sized e (join f g) i'.sized (join_sized f g i.sized g_sized);
         goes = λ calls n b pc L ks m c ops home le has.
             let r = reach calls n c ops in
             let rest = λ (x : Place) (v : Value). limited x way (number_of v) (turn' (step_to q way (number_of v))) r in
-            join_carries p (place_code q kinds.Int) (join f g) b pc ks m c ops (place q r) (λ x w. bind (t (holding_place r) w) (rest x))
-            (λ x. keep_place x ops) (λ _. ops) y.sized has (λ h. y.goes calls n b pc L ks m c ops home le h) (λ h x at_x.
-            let kp = operand.Place kinds.Int ∷ ks in
-            join_carries p f g b (pc + 1) kp m c (keep_place x ops) (t (reach calls n c (keep_place x ops))) (rest x) (λ v. Of v ∷ keep_place x ops) (λ _. ops)
-            i.sized h (λ h. i.goes calls n b (pc + 1) L kp m c (keep_place x ops) home le h) (λ h v ok.
-            let z = pc + 1 + f.size in
+            join_carries p e (join f g) b pc ks m c ops (q r) (λ x w. bind (t (holding_place r) w) (λ vs. rest x (the vs)))
+            (λ x. keep_place x ops) (λ _. ops) i'.sized has (λ h. i'.goes calls n b pc L ks m c ops home le h) (λ h x at_x.
+            let kp = e.leaves ks in
+            let z0 = pc + e.size in
+            join_one p kinds.Int f g b z0 kp m c (keep_place x ops) (keep_place x ops) (t (reach calls n c (keep_place x ops))) (rest x) (λ _. ops)
+            i.sized h (λ h. i.goes calls n b z0 L kp m c (keep_place x ops) home le h) (λ h v ok.
+            let z = z0 + f.size in
             ends_at p b (at c z (Of v ∷ keep_place x ops)) c (rest x v) (z + 1 + ts.size + 1) (z + (1 + (ts.size + 1))) (λ _. ops) (omega arith)
-            (limited_carries way v x ok (j (number_of v) (number_fits p body v ok)) calls n b z L (f.leaves kp) m c ops home le at_x h)));
+            (limited_carries way v x ok (j (number_of v) (number_fits p body v ok)) calls n b z L (f.leaves kp) m c ops home le (at_one kinds.Int L x at_x) h)));
       }

@@ -2,24 +2,22 @@
 use Rattle.std.proofs.Common.{◌≡◌, ℕ, suc, ◌+◌, ◌<◌, List, [], ◌∷◌, ◌++◌, length, drop, Option, Some, None, refl, sym, ap, subst, arith, length-append}
 use Rattle.std.specs.Prelude.{slice_get, ℤ, pos}
 use Rattle.eu_base.specs.declared.value.Kind.TheVariants as kinds
+use Rattle.eu_base.specs.declared.shape.Shape.{Shape}
+use Rattle.eu_base.specs.declared.shape.Shape.TheVariants.{Cell}
 use Rattle.eu_base.specs.declared.operation.Change.TheVariants.{Increase}
 use Rattle.eu_base.specs.declared.operation.Way.{Way}
 use Rattle.code_form.specs.declared.operand.OperandKind.{OperandKind}
-use Rattle.code_form.specs.declared.operand.OperandKind.TheVariants.{Value as OfKind, Place as AtKind}
 use Rattle.code_form.specs.declared.instr.Instr.TheVariants.{Mark, Modify, Jump, False, When, Drop, Limit, Unlimit, Step}
 use Rattle.code_form.specs.declared.code.Spot.{Spot}
 use Rattle.code_form.specs.Program.{Program, line_of, instr_of, deeper}
-use Rattle.elan_types.specs.declared.core_phrase.PlacePhrase.{PlacePhrase}
-use Rattle.code_form.specs.Valid.{Next, is_mark, Lands, IsFine}
-use Rattle.place_gen.specs.Stretch.{Stretch, one, keeps, pushes, join, if_code, whens, arm_code, Exit, stays, exit_join, while_code, until_code, step_code}
-use Rattle.place_gen.specs.Stretch.{step_to_code, turn_code, turns_code, limit_code, counted_code, place_instr}
+use Rattle.code_form.specs.Valid.{Next, is_mark, Lands, IsFine, cell_value, cell_place}
+use Rattle.place_gen.specs.Stretch.{Stretch, PlaceCode, never_code, one, keeps, pushes, join, if_code, whens, arm_code, Exit, stays, exit_join, while_code, until_code, step_code}
+use Rattle.place_gen.specs.Stretch.{step_to_code, turn_code, turns_code, limit_code, counted_code}
 use Rattle.place_gen.proofs.Lines.{HasAt, has_front, has_rest, IsSized}
-use Rattle.place_gen.proofs.Homes.{HasPlace}
-use Rattle.place_gen.proofs.Tables.{Each, each_rest, moved, forth, Table, ValueTable, ActionTable, above, join_table, one_table, number_table, place_table}
-use Rattle.place_gen.proofs.Tables.{place_fine}
+use Rattle.place_gen.proofs.Tables.{Each, each_rest, moved, forth, Table, ValueTable, PlaceTable, ActionTable, above, join_table, one_table, number_table}
 
 module _ (p : Program) (body : Option ℕ) where
-  pub if_table : {after : List OperandKind → List OperandKind} {f g h : Stretch} → ValueTable p body kinds.Truth f → Table p body keeps after g
+  pub if_table : {after : List OperandKind → List OperandKind} {f g h : Stretch} → ValueTable p body (Cell kinds.Truth) f → Table p body keeps after g
       → Table p body keeps after h → Table p body keeps after (if_code f g h)
   if_table {after} {f} {g} {h} i j k = record {
     sized = λ ks m pc.
@@ -56,24 +54,24 @@ module _ (p : Program) (body : Option ℕ) where
   }
 
   pub otherwise_table : {after : List OperandKind → List OperandKind} {f : Stretch} → Table p body keeps after f
-      → Table p body (pushes (OfKind kinds.Int)) after (join (one Drop (drop 1)) f)
+      → Table p body (pushes (cell_value kinds.Int)) after (join (one Drop (drop 1)) f)
   otherwise_table i =
-      join_table p body (one_table p body Drop (drop 1) (pushes (OfKind kinds.Int)) keeps (λ ks. refl) (λ pc ks m home n. (kinds.Int, (ks, refl, n)))) i
+      join_table p body (one_table p body Drop (drop 1) (pushes (cell_value kinds.Int)) keeps (λ ks. refl) (λ pc ks m home n. (kinds.Int, (ks, refl, n)))) i
 
   whens_sized : (zs : List ℤ) (a : ℕ) (ks : List OperandKind) (m : Spot) → length (whens zs a ks m) ≡ length zs
   whens_sized [] a ks m = refl
   whens_sized (z ∷ zs) a ks m = ap suc (whens_sized zs a ks m)
 
-  whens_fine : (zs : List ℤ) (a pc : ℕ) (ks : List OperandKind) (m : Spot) → HasAt p.lines pc (whens zs a (OfKind kinds.Int ∷ ks) m) → pc + length zs < a
-      → Next p.lines (pc + length zs) (OfKind kinds.Int ∷ ks) m → Next p.lines a ks m
-      → Next p.lines pc (OfKind kinds.Int ∷ ks) m × Each p pc (whens zs a (OfKind kinds.Int ∷ ks) m)
-  whens_fine [] a pc ks m has lt n to = (moved p m (pc + 0) pc (OfKind kinds.Int ∷ ks) (OfKind kinds.Int ∷ ks) (omega arith) refl n, tt)
+  whens_fine : (zs : List ℤ) (a pc : ℕ) (ks : List OperandKind) (m : Spot) → HasAt p.lines pc (whens zs a (cell_value kinds.Int ∷ ks) m) → pc + length zs < a
+      → Next p.lines (pc + length zs) (cell_value kinds.Int ∷ ks) m → Next p.lines a ks m
+      → Next p.lines pc (cell_value kinds.Int ∷ ks) m × Each p pc (whens zs a (cell_value kinds.Int ∷ ks) m)
+  whens_fine [] a pc ks m has lt n to = (moved p m (pc + 0) pc (cell_value kinds.Int ∷ ks) (cell_value kinds.Int ∷ ks) (omega arith) refl n, tt)
   whens_fine (z ∷ zs) a pc ks m has lt n to =
-      let r = whens_fine zs a (pc + 1) ks m has.1 (omega arith) (moved p m _ _ (OfKind kinds.Int ∷ ks) (OfKind kinds.Int ∷ ks) (omega arith) refl n) to in
+      let r = whens_fine zs a (pc + 1) ks m has.1 (omega arith) (moved p m _ _ (cell_value kinds.Int ∷ ks) (cell_value kinds.Int ∷ ks) (omega arith) refl n) to in
       ((When z a, has.0), ((ks, refl, r.0, forth p pc a ks m (omega arith) to), r.1))
 
   pub arm_table : {after : List OperandKind → List OperandKind} {f g : Stretch} (zs : List ℤ) → Table p body keeps after f
-      → Table p body (pushes (OfKind kinds.Int)) after g → Table p body (pushes (OfKind kinds.Int)) after (arm_code zs f g)
+      → Table p body (pushes (cell_value kinds.Int)) after g → Table p body (pushes (cell_value kinds.Int)) after (arm_code zs f g)
   arm_table {after} {f} {g} zs i j = record {
     sized = λ ks m pc.
         let p1 = pc + length zs in
@@ -89,7 +87,7 @@ module _ (p : Program) (body : Option ℕ) where
         );
     leaves = j.leaves;
     good = λ pc ks m home has next.
-        let top = OfKind kinds.Int ∷ ks in
+        let top = cell_value kinds.Int ∷ ks in
         let p1 = pc + length zs in
         let p2 = p1 + 1 + f.size in
         let p3 = p2 + 1 + g.size in
@@ -118,7 +116,7 @@ module _ (p : Program) (body : Option ℕ) where
   pub stays_table : {f : Stretch} (M : Spot → Type 0) → ActionTable p body f → ExitTable M (stays f)
   stays_table M i = record { sized = λ end ks m pc. i.sized ks m pc; good = λ pc end ks m home em lt has next to. i.good pc ks m home has next }
 
-  pub while_table : {f : Stretch} (M : Spot → Type 0) → ValueTable p body kinds.Truth f → ExitTable M (while_code (Some f))
+  pub while_table : {f : Stretch} (M : Spot → Type 0) → ValueTable p body (Cell kinds.Truth) f → ExitTable M (while_code (Some f))
   while_table {f} M i = record {
     sized = λ end ks m pc. omega (arith, length-append (f.lines ks m pc) (line_of (False end) (f.leaves ks) m ∷ []), i.sized ks m pc);
     good = λ pc end ks m home em lt has next to.
@@ -132,7 +130,7 @@ module _ (p : Program) (body : Option ℕ) where
         (r.0, each_rest p pc f.size (f.lines ks m pc) (line_of (False end) (f.leaves ks) m ∷ []) (i.sized ks m pc) r.1 (fine, tt));
   }
 
-  pub until_table : {f : Stretch} (M : Spot → Type 0) → ValueTable p body kinds.Truth f → ExitTable M (until_code (Some f))
+  pub until_table : {f : Stretch} (M : Spot → Type 0) → ValueTable p body (Cell kinds.Truth) f → ExitTable M (until_code (Some f))
   until_table {f} M i = record {
     sized =
         λ end ks m pc. omega (
@@ -154,27 +152,31 @@ module _ (p : Program) (body : Option ℕ) where
         );
   }
 
-  pub step_table : (M : Spot → Type 0) (x : PlacePhrase) → HasPlace p body x kinds.Int → ExitTable M (step_code x)
-  step_table M x is =
-      stays_table M (join_table p body (place_table p body x kinds.Int is)
-      (join_table p body (above p body (pushes (AtKind kinds.Int)) (number_table p body (pos 1)))
-      (one_table p body (Modify Increase) (drop 2) (λ ks. OfKind kinds.Int ∷ AtKind kinds.Int ∷ ks) keeps (λ ks. refl) (λ pc ks m home n. (ks, refl, n)))))
+  pub step_table : (M : Spot → Type 0) (x : PlaceCode) → PlaceTable p body (Cell kinds.Int) (x (Cell kinds.Int)) → ExitTable M (step_code x)
+  step_table M x i =
+      stays_table M (join_table p body i
+      (join_table p body (above p body (pushes (cell_place kinds.Int)) (number_table p body (pos 1)))
+      (one_table p body (Modify Increase) (drop 2) (λ ks. cell_value kinds.Int ∷ cell_place kinds.Int ∷ ks) keeps (λ ks. refl)
+      (λ pc ks m home n. (ks, refl, n)))))
 
   -- at least one limit is kept
   abbrev pub AtLeastOne : Spot → Type 0
   AtLeastOne m = (n : Spot) × (m ≡ deeper n)
 
-  pub step_to_table : (x : PlacePhrase) (way : Way) → HasPlace p body x kinds.Int → ExitTable AtLeastOne (step_to_code x way)
-  step_to_table x way is = record {
-    sized = λ end ks m pc. refl;
-    good = λ pc end ks m home em lt has next to. (
-      (place_instr x, has.0),
-      (
-        place_fine p body x kinds.Int is pc ks m home (Step way end, has.1.0),
-        ((em.0, em.1, (ks, refl, moved p m _ (pc + 1 + 1) ks ks (omega arith) refl next, forth p (pc + 1) end ks m (omega arith) to)), tt),
-      ),
-    );
-  }
+  pub step_to_table : (x : PlaceCode) (way : Way) → PlaceTable p body (Cell kinds.Int) (x (Cell kinds.Int)) → ExitTable AtLeastOne (step_to_code x way)
+  step_to_table x way i =
+      let f = x (Cell kinds.Int) in record {
+        sized = λ end ks m pc. omega (arith, length-append (f.lines ks m pc) (line_of (Step way end) (f.leaves ks) m ∷ []), i.sized ks m pc);
+        good = λ pc end ks m home em lt has next to.
+            let q = pc + f.size in
+            let h = has_rest p.lines pc f.size (f.lines ks m pc) _ (i.sized ks m pc) has in
+            let step = subst (λ l. slice_get p.lines q ≡ Some (line_of (Step way end) l m)) (i.leaves ks) h.0 in
+            let r = i.good pc ks m home (has_front p.lines pc (f.lines ks m pc) _ has) (Step way end, step) in
+            let fine =
+            subst (λ l. IsFine p q (Step way end) l m) (sym (i.leaves ks))
+            (em.0, em.1, (ks, refl, moved p m _ (q + 1) ks ks (omega arith) refl next, forth p q end ks m (omega arith) to)) in
+            (r.0, each_rest p pc f.size (f.lines ks m pc) (line_of (Step way end) (f.leaves ks) m ∷ []) (i.sized ks m pc) r.1 (fine, tt));
+      }
 
   pub then_table : {M : Spot → Type 0} {f g : Exit} → ExitTable M f → ExitTable M g → ExitTable M (exit_join f g)
   then_table {M} {f} {g} i j = record {
@@ -215,8 +217,19 @@ module _ (p : Program) (body : Option ℕ) where
   pub loop_table : {f : Exit} → ExitTable (λ _. Unit {0}) f → ActionTable p body (turns_code f)
   loop_table i = record { sized = turns_size i; leaves = λ ks. refl; good = λ pc ks m home has next. turns_good i pc ks m home tt has next }
 
+  -- a mark and the way back to it: what stands behind may have anything on top
+  pub never_table : (s : Shape) → ValueTable p body s (never_code s)
+  never_table s = record {
+    sized = λ ks m pc. refl;
+    leaves = λ ks. refl;
+    good = λ pc ks m home has next.
+        let top : Next p.lines pc ks m = (Mark, has.0) in
+        let back : Lands p.lines (pc + 1) pc ks m = record { next = top; spaced = λ _. ap (λ l. is_mark (instr_of l)) has.0 } in
+        (top, ((Jump pc, has.1.0), (back, tt)));
+  }
+
   pub limit_table : {f : Exit} (way : Way) → ExitTable AtLeastOne f
-      → Table p body (λ ks. OfKind kinds.Int ∷ AtKind kinds.Int ∷ ks) keeps (limit_code way (turns_code f))
+      → Table p body (λ ks. cell_value kinds.Int ∷ cell_place kinds.Int ∷ ks) keeps (limit_code way (turns_code f))
   limit_table {f} way i =
       let ts = turns_code f in record {
         sized =
@@ -240,11 +253,11 @@ module _ (p : Program) (body : Option ℕ) where
             );
       }
 
-  pub counted_none_table : (tf : Exit → Exit) (x : PlacePhrase) (way : Way) → ExitTable (λ _. Unit {0}) (tf (step_code x))
+  pub counted_none_table : (tf : Exit → Exit) (x : PlaceCode) (way : Way) → ExitTable (λ _. Unit {0}) (tf (step_code x))
       → ActionTable p body (counted_code x way None tf)
   counted_none_table tf x way i = loop_table i
 
-  pub counted_some_table : {f : Stretch} (tf : Exit → Exit) (x : PlacePhrase) (way : Way) → HasPlace p body x kinds.Int → ValueTable p body kinds.Int f
-      → ExitTable AtLeastOne (tf (step_to_code x way)) → ActionTable p body (counted_code x way (Some f) tf)
-  counted_some_table tf x way is i j =
-      join_table p body (place_table p body x kinds.Int is) (join_table p body (above p body (pushes (AtKind kinds.Int)) i) (limit_table way j))
+  pub counted_some_table : {f : Stretch} (tf : Exit → Exit) (x : PlaceCode) (way : Way) → PlaceTable p body (Cell kinds.Int) (x (Cell kinds.Int))
+      → ValueTable p body (Cell kinds.Int) f → ExitTable AtLeastOne (tf (step_to_code x way)) → ActionTable p body (counted_code x way (Some f) tf)
+  counted_some_table tf x way k i j =
+      join_table p body k (join_table p body (above p body (pushes (cell_place kinds.Int)) i) (limit_table way j))

@@ -1,5 +1,5 @@
 -- What loops do, whatever their parts are.
-use Rattle.std.proofs.Common.{◌≡◌, ℕ, ◌+◌, ◌-◌, ◌≤◌, List, [], ◌∷◌, ◌++◌, length, drop, Option, Some, None, Bool, true, false, cond, refl, ap, ◌∙◌, subst}
+use Rattle.std.proofs.Common.{◌≡◌, ℕ, zero, suc, ◌+◌, ◌-◌, ◌≤◌, List, [], ◌∷◌, ◌++◌, length, drop, Option, Some, None, Bool, true, false, cond, refl, sym, ap, ◌∙◌, subst}
 use Rattle.std.proofs.Common.{arith, length-append}
 use Rattle.std.specs.Prelude.{slice_get, not, ℤ, pos}
 use Rattle.std.specs.Int.{w16}
@@ -9,31 +9,33 @@ use Rattle.eu_base.specs.declared.value.Value.{Value}
 use Rattle.eu_base.specs.declared.value.Value.TheVariants as item
 use Rattle.eu_base.specs.declared.operation.Change.TheVariants.{Increase}
 use Rattle.eu_base.specs.declared.operation.Way.{Way}
+use Rattle.eu_base.specs.declared.shape.Shape.{Shape}
+use Rattle.eu_base.specs.declared.shape.Shape.TheVariants.{Cell}
+use Rattle.eu_base.specs.declared.stop.Stop.TheVariants.{TextRoom}
+use Rattle.eu_base.specs.Room.{values_blocks, texts_fit}
 use Rattle.eu_base.specs.Values.{IsOf, number_of, truth_of}
 use Rattle.eu_base.specs.Operations.{has_reached, next_number}
 use Rattle.eu_base.specs.Cells.{Cells, held_of, run_cell, written}
 use Rattle.code_form.specs.declared.operand.Operand.{Operand}
 use Rattle.code_form.specs.declared.operand.Operand.TheVariants.{Value as Of}
 use Rattle.code_form.specs.declared.operand.OperandKind.{OperandKind}
-use Rattle.code_form.specs.declared.operand.OperandKind.TheVariants as operand
 use Rattle.code_form.specs.declared.instr.Instr.TheVariants.{Mark, Number, Modify, Jump, False, Step}
 use Rattle.code_form.specs.declared.code.Spot.{Spot}
 use Rattle.code_form.specs.Program.{Program, line_of}
-use Rattle.code_form.specs.Machine.{Frame, Position, Move, free, Goes, at, on_number, limit_cell, step}
+use Rattle.code_form.specs.Valid.{cell_value}
+use Rattle.code_form.specs.Machine.{Frame, Position, Move, To, free, Goes, Spends, at, on_number, limit_cell, step}
 use Rattle.elan_types.specs.declared.core_phrase.Exit.{Exit as Exit'}
-use Rattle.elan_types.specs.declared.core_phrase.PlacePhrase.{PlacePhrase}
-use Rattle.elan_types.specs.Eval.{Place, Slot, World, Outcome, Gives, bind, branch, fetch, assign, deliver, place, holding_place, modify, Calls, Run, turns}
-use Rattle.elan_types.specs.Eval.{while_true, until_true, then_on, done, turn, go_on, step as step_on, step_to, step_from}
+use Rattle.elan_types.specs.Eval.{Place, Slot, World, Outcome, Gives, Stopped, bind, branch, fetch, the, assign, save, store_blocks, deliver, holding_place, modify, Calls, Run, turns}
+use Rattle.elan_types.specs.Eval.{while_true, until_true, then_on, done, turn, go_on, forever, step as step_on, step_to, step_from}
 use Rattle.elan_types.specs.Command.{Ending}
-use Rattle.place_gen.specs.Stretch.{Stretch, none, one, pushes, Exit, stays, exit_join, while_code, until_code, step_code, step_to_code, turn_code, turns_code}
+use Rattle.place_gen.specs.Stretch.{Stretch, PlaceCode, never_code, none, one, pushes, join, Exit, stays, exit_join, while_code, until_code, step_code, step_to_code, turn_code, turns_code}
 use Rattle.place_gen.specs.Correct.{Comes, scene_of}
-use Rattle.place_gen.proofs.Lines.{HasAt, has_front, has_rest}
-use Rattle.place_gen.proofs.Homes.{HasPlace}
-use Rattle.place_gen.proofs.Cells.{OfLimit, Uses, Keeps, reads, reads_limit, get_right}
+use Rattle.place_gen.proofs.Lines.{HasAt, has_front, has_rest, join_sized}
+use Rattle.place_gen.proofs.Cells.{OfValue, OfLimit, Uses, Keeps, reads, reads_limit, get_right}
 use Rattle.eu_base.proofs.Results.{next_fits, fits_in_range}
-use Rattle.place_gen.proofs.Carry.{finish, Any, AtKind, reach, Ends, Carries, Within, less, on_step, lead_ends, then_carries, lead_carries, write_ends}
-use Rattle.place_gen.proofs.Carry.{branch_carries, none_carries, turns_carries, here, ends_at}
-use Rattle.place_gen.proofs.Forms.{keep_place, IsValue, IsAction, place_is, number_is}
+use Rattle.place_gen.proofs.Carry.{finish, Any, at_one, reach, Ends, Carries, Within, less, on_step, lead_ends, then_carries, lead_carries, write_ends}
+use Rattle.place_gen.proofs.Carry.{branch_carries, none_carries, turns_carries, mark_carries, out_carries, one_then, here, ends_at}
+use Rattle.place_gen.proofs.Forms.{keep, keep_place, IsValue, IsPlace, IsAction, number_is}
 use Rattle.place_gen.proofs.Choices.{modify_carries}
 
 module _ (p : Program) (body : Option ℕ) where
@@ -74,7 +76,8 @@ module _ (p : Program) (body : Option ℕ) where
   pub go_on_is : (L : Uses → Type 0) → IsExit L go_on (stays none)
   go_on_is L = nothing_exits L
 
-  pub while_some : {t : Run Value} {f : Stretch} (L : Uses → Type 0) → IsValue p body kinds.Truth t f → IsExit L (while_true (Some t)) (while_code (Some f))
+  pub while_some : {t : Run (List Value)} {f : Stretch} (L : Uses → Type 0) → IsValue p body (Cell kinds.Truth) t f
+      → IsExit L (while_true (Some t)) (while_code (Some f))
   while_some {t} {f} L i = record {
     sized = λ end ks m pc. omega (arith, length-append (f.lines ks m pc) (line_of (False end) (f.leaves ks) m ∷ []), i.sized ks m pc);
     goes = λ calls n b pc end U ks m c ops home le l has. let r = reach calls n c ops in
@@ -82,13 +85,14 @@ module _ (p : Program) (body : Option ℕ) where
         let to = λ (on : Bool). cond on (at c (q + 1) ops) (at c end ops) in
         let h = has_rest p.lines pc f.size (f.lines ks m pc) _ (i.sized ks m pc) has in
         exits_at b c (q + 1) (pc + (f.size + 1)) ops end (while_true (Some t) r) (at c pc ops) (omega arith)
-        (then_carries p b (at c pc ops) (t r) (λ v. at c q (Of v ∷ ops)) (λ v. Gives (truth_of v)) to
+        (one_then p kinds.Truth b (at c pc ops) (t r) (λ vs. at c q (keep vs ops)) (λ v. Gives (truth_of v)) to
         (i.goes calls n b pc U ks m c ops home le (has_front p.lines pc (f.lines ks m pc) _ has)) (λ v ok.
         lead_carries p b (at c q (Of v ∷ ops)) (at c (cond (truth_of v) (q + 1) end) ops) (Gives (truth_of v)) to
         (λ cells. here p q (False end) (f.leaves ks) m h.0 c (Of v ∷ ops) cells) (gives_truth b (truth_of v) c (q + 1) ops end)));
   }
 
-  pub until_some : {t : Run Value} {f : Stretch} (L : Uses → Type 0) → IsValue p body kinds.Truth t f → IsExit L (until_true (Some t)) (until_code (Some f))
+  pub until_some : {t : Run (List Value)} {f : Stretch} (L : Uses → Type 0) → IsValue p body (Cell kinds.Truth) t f
+      → IsExit L (until_true (Some t)) (until_code (Some f))
   until_some {t} {f} L i = record {
     sized =
         λ end ks m pc. omega (
@@ -101,7 +105,7 @@ module _ (p : Program) (body : Option ℕ) where
         let to = λ (on : Bool). cond on (at c (q + 1 + 1) ops) (at c end ops) in
         let h = has_rest p.lines pc f.size (f.lines ks m pc) _ (i.sized ks m pc) has in
         exits_at b c (q + 1 + 1) (pc + (f.size + (1 + 1))) ops end (until_true (Some t) r) (at c pc ops) (omega arith)
-        (then_carries p b (at c pc ops) (t r) (λ v. at c q (Of v ∷ ops)) (λ v. Gives (not (truth_of v))) to
+        (one_then p kinds.Truth b (at c pc ops) (t r) (λ vs. at c q (keep vs ops)) (λ v. Gives (not (truth_of v))) to
         (i.goes calls n b pc U ks m c ops home le (has_front p.lines pc (f.lines ks m pc) _ has)) (λ v ok.
         lead_carries p b (at c q (Of v ∷ ops)) (at c (cond (truth_of v) (q + 1) (q + 1 + 1)) ops) (Gives (not (truth_of v))) to
         (λ cells. here p q (False (q + 1 + 1)) (f.leaves ks) m h.0 c (Of v ∷ ops) cells)
@@ -140,7 +144,7 @@ module _ (p : Program) (body : Option ℕ) where
         (none_carries p b false to tt)));
   }
 
-  pub turn_is : (w u : Option (Run Value)) {x : Run (Unit {0})} {s : Run Bool} (wf uf : Option Stretch) {f : Stretch} {sf : Exit} {L : Uses → Type 0}
+  pub turn_is : (w u : Option (Run (List Value))) {x : Run (Unit {0})} {s : Run Bool} (wf uf : Option Stretch) {f : Stretch} {sf : Exit} {L : Uses → Type 0}
       → IsExit L (while_true w) (while_code wf) → IsAction p body x f → IsExit L (until_true u) (until_code uf) → IsExit L s sf
       → IsExit L (turn w x u s) (turn_code wf f uf sf)
   turn_is w u wf uf {L = L} a b c d = then_exits a (then_exits (units_are L b) (then_exits c d))
@@ -185,26 +189,51 @@ module _ (p : Program) (body : Option ℕ) where
     goes = λ calls n b pc U ks m c ops home le has. turns_are i calls n b pc U ks m c ops home le tt has;
   }
 
+  -- turns without end deliver nothing
+  abbrev Nothing : Uses → Unit {0} → Type 0
+  Nothing U u = ⊥
+
+  forever_carries : {U : Uses} {home : Option ℕ} {fs : List Frame} (m b : ℕ) (top back exit : Position)
+      → ((cells : Cells) → step p top cells ≡ Spends (To back cells)) → ((cells : Cells) → step p back cells ≡ Goes top cells) → b ≤ m
+      → Carries p U home fs Nothing b top (turns m (Gives true)) (λ _. exit)
+  forever_carries zero b top back exit e f le = out_carries p b top (λ cells. To back cells) (λ _. exit) le e
+  forever_carries (suc m) b top back exit e f le =
+      mark_carries p b top back (turns m (Gives true)) (λ _. exit) e (λ b' lt.
+      lead_carries p b' back top (turns m (Gives true)) (λ _. exit) f (forever_carries m b' top back exit e f (omega arith)))
+
+  pub never_is : (s : Shape) → IsValue p body s (λ r w. bind (forever r w) (λ _. Gives [])) (never_code s)
+  never_is s = record {
+    sized = λ ks m pc. refl;
+    goes = λ calls n b pc U ks m c ops home le has.
+        let top = at c pc ops in
+        let exit = at c (pc + (1 + 1)) (keep [] ops) in
+        then_carries p b top (forever (reach calls n c ops)) (λ _. exit) (λ _. Gives []) (λ vs. at c (pc + (1 + 1)) (keep vs ops))
+        (forever_carries n b top (at c (pc + 1) ops) exit (λ cells. here p pc Mark ks m has.0 c ops cells)
+        (λ cells. here p (pc + 1) (Jump pc) ks m has.1.0 c ops cells) le.turns) (λ u bad. absurd bad);
+  }
+
   -- the step of a counter without limit
-  pub step_is : (L : Uses → Type 0) (q : PlacePhrase) → HasPlace p body q kinds.Int → IsExit L (step_on q) (step_code q)
-  step_is L q is =
+  pub step_is : (L : Uses → Type 0) {q : Run Place} (x : PlaceCode) → IsPlace p body (Cell kinds.Int) q (x (Cell kinds.Int)) → IsExit L (step_on q) (step_code x)
+  step_is L {q} x j =
       let one_fits : IsOf kinds.Int (item.Int (pos 1)) = fits_in_range (pos 1) refl in
-      let g = one (Number (pos 1)) (pushes (operand.Value kinds.Int)) in
+      let f = x (Cell kinds.Int) in
+      let g = one (Number (pos 1)) (pushes (cell_value kinds.Int)) in
       let h = one (Modify Increase) (drop 2) in
-      let j = place_is p body q kinds.Int is in
       let i = number_is p body (pos 1) one_fits in record {
-        sized = λ end ks m pc. refl;
+        sized = λ end ks m pc. join_sized f (join g h) j.sized (join_sized g h (λ ks m pc. refl) (λ ks m pc. refl)) ks m pc;
         goes = λ calls n b pc end U ks m c ops home le l has. let r = reach calls n c ops in
-            let to = λ (on : Bool). cond on (at c (pc + 1 + 1 + 1) ops) (at c end ops) in
-            exits_at b c (pc + 1 + 1 + 1) (pc + (1 + (1 + 1))) ops end (step_on q r) (at c pc ops) (omega arith)
-            (then_carries p b (at c pc ops) (place q r) (λ x. at c (pc + 1) (keep_place x ops))
-            (λ x w. bind (deliver (item.Int (pos 1)) (holding_place r) w) (λ v. modify Increase x v true)) to
-            (j.goes calls n b pc U ks m c ops home le (has.0, tt)) (λ x at_x.
-            then_carries p b (at c (pc + 1) (keep_place x ops)) (deliver (item.Int (pos 1)) (holding_place r))
-            (λ v. at c (pc + 1 + 1) (Of v ∷ keep_place x ops)) (λ v. modify Increase x v true) to
-            (i.goes calls n b (pc + 1) U (operand.Place kinds.Int ∷ ks) m c (keep_place x ops) home le (has.1.0, tt)) (λ v ok.
-            modify_carries p body Increase x v true b (pc + 1 + 1) (operand.Value kinds.Int ∷ operand.Place kinds.Int ∷ ks) m c ops to refl
-            le.stands.room at_x has.1.1)));
+            let z = pc + f.size in
+            let to = λ (on : Bool). cond on (at c (z + 1 + 1) ops) (at c end ops) in
+            let rest = has_rest p.lines pc f.size (f.lines ks m pc) _ (j.sized ks m pc) has in
+            exits_at b c (z + 1 + 1) (pc + (f.size + (1 + 1))) ops end (step_on q r) (at c pc ops) (omega arith)
+            (then_carries p b (at c pc ops) (q r) (λ x. at c z (keep_place x ops))
+            (λ x w. bind (deliver (item.Int (pos 1) ∷ []) (holding_place r) w) (λ vs. modify Increase x (the vs) true)) to
+            (j.goes calls n b pc U ks m c ops home le (has_front p.lines pc (f.lines ks m pc) _ has)) (λ x at_x.
+            one_then p kinds.Int b (at c z (keep_place x ops)) (deliver (item.Int (pos 1) ∷ []) (holding_place r))
+            (λ vs. at c (z + 1) (keep vs (keep_place x ops))) (λ v. modify Increase x v true) to
+            (i.goes calls n b z U (f.leaves ks) m c (keep_place x ops) home le (rest.0, tt)) (λ v ok.
+            modify_carries p body Increase x v true b (z + 1) (cell_value kinds.Int ∷ f.leaves ks) m c ops to refl
+            le.stands.room (at_one kinds.Int U x at_x) rest.1)));
       }
 
   -- the last cell in use keeps this limit
@@ -227,37 +256,51 @@ module _ (p : Program) (body : Option ℕ) where
       ap (λ n. on_number (cells (run_cell n)) go) n ∙ reads_limit U store cells (length l.0) limit go h is
 
   stepped : {U : Uses} (t : Bool) (way : Way) (limit z : ℤ) (x : Place) (b : ℕ) (c next exit : Position) (k : Bool → World → Ending)
-      (l : Exit' → Option Value → World → Ending) → ((a : Bool) (w : World) → Any U a → w.marks ≤ b → Ends p U (cond a next exit) w (k a w)) → (w : World)
-      → w.marks ≤ b → (cells : Cells) → Keeps U w.store cells → AtKind kinds.Int U x → FitsSigned w16 limit → FitsSigned w16 z → has_reached way limit z ≡ t
+      (l : Exit' → Option (List Value) → World → Ending) → ((a : Bool) (w : World) → Any U a → w.marks ≤ b → Ends p U (cond a next exit) w (k a w)) → (w : World)
+      → w.marks ≤ b → (cells : Cells) → Keeps U w.store cells → slice_get U x.variable ≡ Some (OfValue kinds.Int) → FitsSigned w16 limit → FitsSigned w16 z → has_reached way limit z ≡ t
       → step p c cells ≡ cond t (Goes exit cells) (Goes next (written cells (run_cell x.variable) (held_of (item.Int (next_number way z)))))
-      → Comes p (free c) (scene_of w cells) (finish (branch t (Gives false) (λ w. Gives true (assign x (item.Int (next_number way z)) w)) w) k l)
+      → Comes p (free c) (scene_of w cells) (finish (branch t (Gives false) (λ w. Gives true (assign x (item.Int (next_number way z) ∷ []) w)) w) k l)
   stepped true way limit z x b c next exit k l hk w le cells h is f g t e = on_step p c exit (scene_of w cells) cells _ e (hk false w tt le cells h)
   stepped {U} false way limit z x b c next exit k l hk w le cells h is f g t e =
       write_ends p c next w x kinds.Int (item.Int (next_number way z)) _ cells is (next_fits way limit z f g t) h e
-      (hk true (assign x (item.Int (next_number way z)) w) tt le)
+      (hk true (assign x (item.Int (next_number way z) ∷ []) w) tt le)
 
-  pub step_to_is : (q : PlacePhrase) (way : Way) (limit : ℤ) → HasPlace p body q kinds.Int → FitsSigned w16 limit
-      → IsExit (Under limit) (step_to q way limit) (step_to_code q way)
-  step_to_is q way limit is fits =
-      let j = place_is p body q kinds.Int is in record {
-        sized = λ end ks m pc. refl;
+  pub step_to_is : {q : Run Place} (x : PlaceCode) (way : Way) (limit : ℤ) → IsPlace p body (Cell kinds.Int) q (x (Cell kinds.Int)) → FitsSigned w16 limit
+      → IsExit (Under limit) (step_to q way limit) (step_to_code x way)
+  step_to_is {q} y way limit j fits =
+      let f = y (Cell kinds.Int) in record {
+        sized = λ end ks m pc. omega (arith, length-append (f.lines ks m pc) (line_of (Step way end) (f.leaves ks) m ∷ []), j.sized ks m pc);
         goes = λ calls n b pc end U ks m c ops home le l has. let r = reach calls n c ops in
-            let to = λ (on : Bool). cond on (at c (pc + 1 + 1) ops) (at c end ops) in
-            exits_at b c (pc + 1 + 1) (pc + (1 + 1)) ops end (step_to q way limit r) (at c pc ops) (omega arith)
-            (then_carries p b (at c pc ops) (place q r) (λ x. at c (pc + 1) (keep_place x ops)) (λ x w. step_from x way limit (number_of (fetch x w)) w) to
-            (j.goes calls n b pc U ks m c ops home le (has.0, tt)) (λ x at_x. record {
+            let q1 = pc + f.size in
+            let to = λ (on : Bool). cond on (at c (q1 + 1) ops) (at c end ops) in
+            let rest = has_rest p.lines pc f.size (f.lines ks m pc) _ (j.sized ks m pc) has in
+            exits_at b c (q1 + 1) (pc + (f.size + 1)) ops end (step_to q way limit r) (at c pc ops) (omega arith)
+            (then_carries p b (at c pc ops) (q r) (λ x. at c q1 (keep_place x ops)) (λ x w. step_from x way limit (number_of (fetch x w)) w) to
+            (j.goes calls n b pc U ks m c ops home le (has_front p.lines pc (f.lines ks m pc) _ has)) (λ x at_x. record {
               by = λ k e hk hl w le' cells h.
-                  let now = at c (pc + 1) (keep_place x ops) in
-                  let next = at c (pc + 1 + 1) ops in
+                  let now = at c q1 (keep_place x ops) in
+                  let next = at c (q1 + 1) ops in
                   let exit = at c end ops in
                   let z = number_of (fetch x w) in
+                  let at_one_x = at_one kinds.Int U x at_x in
                   let go =
                   λ (lim z : ℤ).
                   cond (has_reached way lim z) (Goes exit cells)
                   (Goes next (written cells (run_cell x.variable) (held_of (item.Int (next_number way z))))) in
-                  let read = reads U w.store cells x.variable kinds.Int (λ v. go limit (number_of v)) h at_x in
-                  stepped (has_reached way limit z) way limit z x b now next exit k e hk w le' cells h at_x fits (number_fits (fetch x w) read.0) refl
-                  (here p (pc + 1) (Step way end) (operand.Place kinds.Int ∷ ks) m has.1.0 c (keep_place x ops) cells
-                  ∙ limit_read limit U now w.store cells (λ lim. on_number (cells (run_cell x.variable)) (go lim)) l le.stands.used h ∙ read.1);
+                  let read = reads U w.store cells x.variable kinds.Int (λ v. go limit (number_of v)) h at_one_x in
+                  let more = reached (has_reached way limit z) x (next_number way z) w in
+                  subst (λ o. Comes p (free now) (scene_of w cells) (finish o k e)) (sym more)
+                  (stepped (has_reached way limit z) way limit z x b now next exit k e hk w le' cells h at_one_x fits (number_fits (fetch x w) read.0) refl
+                  (here p q1 (Step way end) (f.leaves ks) m rest.0 c (keep_place x ops) cells
+                  ∙ limit_read limit U now w.store cells (λ lim. on_number (cells (run_cell x.variable)) (go lim)) l le.stands.used h ∙ read.1));
             }));
       }
+    where
+      -- a number has no text, so its store needs no room
+      reached : (t : Bool) (x : Place) (z : ℤ) (w : World)
+          → branch t (Gives false) (save x (item.Int z ∷ []) (Gives true)) w ≡ branch t (Gives false) (λ w. Gives true (assign x (item.Int z ∷ []) w)) w
+      reached true x z w = refl
+      reached false x z w = ap (λ n. branch (texts_fit n (store_blocks (assign x (item.Int z ∷ []) w).store)) (λ w. Gives true (assign x (item.Int z ∷ []) w)) (Stopped TextRoom) w) none
+        where
+          none : values_blocks (item.Int z ∷ []) ≡ 0
+          none = omega arith

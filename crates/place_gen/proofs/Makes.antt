@@ -3,16 +3,18 @@ use Rattle.std.proofs.Common.{◌≡◌, ℕ, ◌+◌, ◌<◌, ◌≤◌, List,
 use Rattle.std.proofs.Common.{add-one, drop-cons, append-nil}
 use Rattle.std.proofs.lemmas.List.{drop_all}
 use Rattle.std.specs.Prelude.{ℤ, suc}
+use Rattle.eu_base.specs.declared.shape.Shape.{Shape}
 use Rattle.code_form.specs.declared.operand.OperandKind.{OperandKind}
+use Rattle.code_form.specs.declared.operand.OperandKind.TheVariants.{Value}
 use Rattle.code_form.specs.declared.code.Spot.{Spot}
 use Rattle.code_form.specs.declared.instr.Instr.{Instr}
 use Rattle.code_form.specs.declared.instr.Instr.TheVariants.{Mark, Jump, False, When, Drop}
 use Rattle.elan_types.specs.Eval.{Labelled}
 use Rattle.place_gen.specs.declared.draft.Draft.{Draft}
-use Rattle.place_gen.specs.Stretch.{Stretch, none, one, keeps, join, all_code, if_code, whens_code, select_code, Exit, stays, exit_join, until_code, turns_code}
+use Rattle.place_gen.specs.Stretch.{Stretch, none, one, keeps, pushes, never_code, join, all_code, if_code, whens_code, select_code, Exit, stays, exit_join, until_code, turns_code}
 use Rattle.place_gen.specs.Adds.{Adds}
 use Rattle.place_gen.specs.Makes.{Makes, MakesExit, MakesArm, MakesTurn, ComesBack}
-use Rattle.place_gen.proofs.Adds.{join_adds, same_adds, if_adds, exit_adds, until_adds, turns_adds, arm_adds, select_adds}
+use Rattle.place_gen.proofs.Adds.{join_adds, same_adds, if_adds, exit_adds, until_adds, turns_adds, never_adds, arm_adds, select_adds}
 
 -- what is left of a list, from one of its items on
 rest_of : {A : Type 0} (xs : List A) (i : ℕ) (x : A) → i < length xs → x ≡ get_or xs i x → drop i xs ≡ x ∷ drop (i + 1) xs
@@ -120,6 +122,11 @@ turns_makes {turn} {end} {top} {d0} {d1} {d2} {d3} {d4} r e t x2 x3 x4 = same_ma
       let n : length d1.lines ≡ length d0.lines = ap length (r.met x.0).1.0 in
       (x.0, turns_adds turn end top d1 d2 d3 d4 x.1 y.1 z.1 (t ∙ sym n) (e x.0 ∙ ap (λ m. m + (turns_code turn).size) (sym n)));
 })
+
+-- a mark and the way back to it
+pub never_makes : {s : Shape} {top : ℕ} {a b c : Draft} → Makes (one Mark keeps) a b → Makes (one (Jump top) (pushes (Value s))) b c → top ≡ length a.lines
+    → Makes (never_code s) a c
+never_makes {s} {top} {a} {b} {c} x y e = record { met = λ h. let q = y.met h in let p = x.met q.0 in (p.0, never_adds s top a b c p.1 q.1 e) }
 
 pub arm_makes : (arm : Labelled Stretch) {end past : ℕ} {ks : List OperandKind} {d0 a b c d e g h : Draft} → ComesBack d0.pending d0 a
     → (a.wanted ≡ false → past ≡ length d0.lines + (length arm.labels + 1)) → Makes (whens_code arm.labels past) a b

@@ -13,52 +13,51 @@ use Rattle.eu_base.specs.Requests.{request_kinds, request_places, request_size, 
 use Rattle.eu_base.specs.Cells.{Cells}
 use Rattle.eu_base.proofs.Results.{read_gives}
 use Rattle.code_form.specs.declared.operand.Operand.{Operand}
-use Rattle.code_form.specs.declared.operand.OperandKind.TheVariants as operand
 use Rattle.code_form.specs.declared.instr.Instr.TheVariants.{Ask}
 use Rattle.code_form.specs.Program.{Program, instr_of}
 use Rattle.code_form.specs.Machine.{Position, given, Asks, Spends, at, or_halt, value_in, keeps, takes_reply}
-use Rattle.code_form.specs.Valid.{request_operands}
+use Rattle.code_form.specs.Valid.{request_operands, cell_value, cell_place}
 use Rattle.elan_types.specs.declared.core_phrase.Exit.{Exit}
-use Rattle.elan_types.specs.Eval.{Slot, World, Gives, bind, or_stop, assign, value_of, keep, actuals, request, Run}
+use Rattle.elan_types.specs.Eval.{Passed, World, Gives, bind, or_stop, assign, value_given, keep, actuals, request, Run}
 use Rattle.elan_types.specs.Command.{Ending}
 use Rattle.place_gen.specs.Stretch.{Stretch, one, join}
 use Rattle.place_gen.specs.Correct.{Comes, scene_of}
 use Rattle.place_gen.proofs.Lines.{join_sized}
 use Rattle.place_gen.proofs.Tables.{size_is}
 use Rattle.place_gen.proofs.Cells.{Uses, Keeps}
-use Rattle.place_gen.proofs.Carry.{finish, reach, Ends, Does, does_given, does_go, stop_comes, put_ends, TakeAll, pushed_slots, here}
+use Rattle.place_gen.proofs.Carry.{finish, reach, Ends, Does, does_given, does_go, stop_comes, put_ends, at_one, TakeAll, passed_operand, pushed_passed, here}
 use Rattle.place_gen.proofs.Carry.{ask_carries, join_carries}
-use Rattle.place_gen.proofs.Slots.{slot_operand, values_same, all_taken, behind}
+use Rattle.place_gen.proofs.Slots.{values_same, all_taken, behind}
 use Rattle.place_gen.proofs.Forms.{IsAction}
 use Rattle.place_gen.proofs.Calls.{AreActuals}
 
 -- where a reply was given, and a run goes on behind the request
 module _ (p : Program) (L : Uses) (room : length L ≤ CELLS) (c : Position) (r : Reply) (ops : List Operand) (w : World) (cells : Cells)
-    (k : Unit {0} → World → Ending) (l : Exit → Option Value → World → Ending) (kept : Keeps L w.store cells)
+    (k : Unit {0} → World → Ending) (l : Exit → Option (List Value) → World → Ending) (kept : Keeps L w.store cells)
     (go : (w' : World) → w'.marks ≤ w.marks → Ends p L (at c (c.pc + 1) ops) w' (k tt w')) where
   -- the value goes into the variable, where there is one
-  keep_ends : (ks : List Kind) (ss : List Slot) (v : Value) → TakeAll p (map operand.Place ks) L ss → ((k : Kind) (ks' : List Kind) → ks ≡ k ∷ ks' → IsOf k v)
-      → Does p (given c r) (scene_of w cells) (keeps c (map slot_operand ss) v ops cells) → Comes p (given c r) (scene_of w cells) (finish (keep ss v w) k l)
+  keep_ends : (ks : List Kind) (ss : List Passed) (v : Value) → TakeAll p (map cell_place ks) L ss → ((k : Kind) (ks' : List Kind) → ks ≡ k ∷ ks' → IsOf k v)
+      → Does p (given c r) (scene_of w cells) (keeps c (map passed_operand ss) v ops cells) → Comes p (given c r) (scene_of w cells) (finish (keep ss v w) k l)
   keep_ends [] [] v t is does = does_go p (given c r) (at c (c.pc + 1) ops) (scene_of w cells) cells _ does (go w (omega arith) cells kept)
   keep_ends [] (s ∷ ss) v t is does = absurd t
   keep_ends (k' ∷ ks) [] v t is does = absurd t
   keep_ends (k' ∷ ks) (s ∷ ss) v t is does =
       let x = t.0.0 in
-      let does' = subst (λ s. Does p (given c r) (scene_of w cells) (keeps c (map slot_operand (s ∷ ss)) v ops cells)) t.0.1 does in
+      let does' = subst (λ s. Does p (given c r) (scene_of w cells) (keeps c (map passed_operand (s ∷ ss)) v ops cells)) t.0.1 does in
       subst (λ s. Comes p (given c r) (scene_of w cells) (finish (keep (s ∷ ss) v w) k l)) (sym t.0.1)
-      (put_ends p (given c r) (at c (c.pc + 1) ops) w x k' v (Gives (tt {0})) k l cells room t.0.2 (is k' ks refl) kept does' (go (assign x v w) (omega arith)))
+      (put_ends p (given c r) (at c (c.pc + 1) ops) w x k' v (Gives (tt {0})) k l cells room (at_one k' L x t.0.2) (is k' ks refl) kept does' (go (assign x (v ∷ []) w) (omega arith)))
 
   -- what the reply brings is read, or it stops
-  reply_ends : (g : Given) (ks : List Kind) (ss : List Slot) → TakeAll p (map operand.Place ks) L ss
+  reply_ends : (g : Given) (ks : List Kind) (ss : List Passed) → TakeAll p (map cell_place ks) L ss
       → ((v : Value) → g ≡ Ok v → (k : Kind) (ks' : List Kind) → ks ≡ k ∷ ks' → IsOf k v)
-      → Does p (given c r) (scene_of w cells) (or_halt g (λ v. keeps c (map slot_operand ss) v ops cells))
+      → Does p (given c r) (scene_of w cells) (or_halt g (λ v. keeps c (map passed_operand ss) v ops cells))
       → Comes p (given c r) (scene_of w cells) (finish (or_stop g (keep ss) w) k l)
   reply_ends (Ok v) ks ss t is does = keep_ends ks ss v t (is v refl) does
   reply_ends (Err s) ks ss t is does = stop_comes p L (given c r) w s cells kept does
 
 module _ (p : Program) (body : Option ℕ) where
   -- a request waits at its instruction, takes its operands with the reply, and gives its variable what that brings
-  pub ask_is : (xs : List (Run Slot)) {f : Stretch} (name : RequestName) → AreActuals p body (request_operands name) xs f
+  pub ask_is : (xs : List (Run Passed)) {f : Stretch} (name : RequestName) → AreActuals p body (request_operands name) xs f
       → IsAction p body (λ r w. bind (actuals xs r w) (request name)) (join f (one (Ask name) (drop (request_size name))))
   ask_is xs {f} name i =
       let g = one (Ask name) (drop (request_size name)) in
@@ -66,16 +65,16 @@ module _ (p : Program) (body : Option ℕ) where
         sized = join_sized f g i.sized (λ ks m pc. refl);
         goes =
             λ calls turns b pc L ks m c ops home le has.
-            join_carries p f g b pc ks m c ops (actuals xs (reach calls turns c ops)) (request name) (λ ss. pushed_slots p ss ops) (λ _. ops) i.sized has
+            join_carries p f g b pc ks m c ops (actuals xs (reach calls turns c ops)) (request name) (λ ss. pushed_passed p ss ops) (λ _. ops) i.sized has
             (λ h. i.goes calls turns b pc L ks m c ops home le h) (λ h ss oks.
             let q = pc + f.size in
-            let now = at c q (pushed_slots p ss ops) in
+            let now = at c q (pushed_passed p ss ops) in
             let many = size_is name in
             let places =
-            subst (λ n. TakeAll p (map operand.Place (request_places name)) L (drop n ss)) (length-map (request_kinds name) operand.Value)
-            (behind p L (map operand.Value (request_kinds name)) (map operand.Place (request_places name)) ss oks) in
-            ask_carries p b (request_of name (map value_of ss)) now (λ r. or_stop (read_as name (reply_text r)) (keep (drop n ss))) (λ _. at c (q + 1) ops)
-            (λ cells. here p q (Ask name) (f.leaves ks) m h.0 c (pushed_slots p ss ops) cells
+            subst (λ n. TakeAll p (map cell_place (request_places name)) L (drop n ss)) (length-map (request_kinds name) cell_value)
+            (behind p L (map cell_value (request_kinds name)) (map cell_place (request_places name)) ss oks) in
+            ask_carries p b (request_of name (map value_given ss)) now (λ r. or_stop (read_as name (reply_text r)) (keep (drop n ss))) (λ _. at c (q + 1) ops)
+            (λ cells. here p q (Ask name) (f.leaves ks) m h.0 c (pushed_passed p ss ops) cells
             ∙ all_taken p L (request_operands name) (request_size name) ss ops (λ os ops. Spends (Asks now (request_of name (map value_in os)) cells)) many oks
             ∙ ap (λ vs. Spends (Asks now (request_of name vs) cells)) (values_same ss))
             (λ b' r. record {
@@ -87,6 +86,6 @@ module _ (p : Program) (body : Option ℕ) where
                   (does_given p now r (scene_of w cells) _ (ap (λ o. takes_reply (instr_of o) r now cells) h.0
                   ∙ all_taken p L (request_operands name) (request_size name) ss ops
                   (λ os ops. or_halt read (λ v. keeps now (drop n os) v ops cells)) many oks
-                  ∙ ap move (drop-map slot_operand n ss)));
+                  ∙ ap move (drop-map passed_operand n ss)));
             }));
       }

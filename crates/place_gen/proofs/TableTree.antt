@@ -1,17 +1,21 @@
 -- The tables of each well typed phrase agree along each step. One induction over the phrases, so it stands in one file.
-use Rattle.std.proofs.Common.{◌≡◌, ℕ, List, [], ◌∷◌, map, length, drop, Option, Some, None, Bool, true, false, ◌&&◌, refl, sym, ap, subst, arith}
-use Rattle.std.specs.Prelude.{option_map}
+use Rattle.std.proofs.Common.{◌≡◌, ℕ, List, [], ◌∷◌, map, length, drop, Option, Some, None, Bool, true, false, ◌&&◌, refl, sym, ap, ◌∙◌, subst, arith}
+use Rattle.std.specs.Prelude.{option_map, slice_get}
+use Rattle.std.proofs.lemmas.Bool.{eqb-true}
 use Rattle.eu_base.specs.declared.value.Kind.{Kind}
 use Rattle.eu_base.specs.declared.value.Kind.TheVariants as kinds
+use Rattle.eu_base.specs.declared.shape.Shape.{Shape}
+use Rattle.eu_base.specs.declared.shape.Shape.TheVariants.{Cell, Row}
+use Rattle.eu_base.specs.Shapes.{cell_kinds}
 use Rattle.eu_base.specs.declared.operation.Way.{Way}
 use Rattle.eu_base.specs.Operations.{operand_kinds, result_kind, change_kind}
 use Rattle.eu_base.specs.Requests.{request_kinds, request_places}
 use Rattle.code_form.specs.declared.operand.OperandKind.{OperandKind}
-use Rattle.code_form.specs.declared.operand.OperandKind.TheVariants.{Value as OfKind}
+use Rattle.code_form.specs.declared.operand.OperandKind.TheVariants.{Value as OfShape}
 use Rattle.code_form.specs.declared.instr.Instr.TheVariants.{Back}
 use Rattle.code_form.specs.declared.code.Spot.{Spot}
 use Rattle.code_form.specs.Program.{Program}
-use Rattle.code_form.specs.Valid.{Next, pushed_kinds, pushed_operands}
+use Rattle.code_form.specs.Valid.{Next, pushed_kinds, pushed_operands, cell_value}
 use Rattle.elan_types.specs.declared.core_phrase.Access.TheVariants.{Const, Var}
 use Rattle.elan_types.specs.declared.core_phrase.Exit.TheVariants as exits
 use Rattle.elan_types.specs.declared.core_phrase.Formal.{Formal}
@@ -25,25 +29,30 @@ use Rattle.elan_types.specs.declared.core_phrase.ValuePhrase.{ValuePhrase}
 use Rattle.elan_types.specs.declared.core_phrase.Arm.{Arm}
 use Rattle.elan_types.specs.declared.core_phrase.ValueArm.{ValueArm}
 use Rattle.elan_types.specs.declared.core_phrase.Action.TheOpen as t
-use Rattle.elan_types.specs.declared.core_phrase.Action.TheOpen.{Action-F, Actual-F, ValuePhrase-F, Arm-F, ValueArm-F}
-use Rattle.elan_types.specs.declared.core_phrase.Action.TheFolds.{fold-Actual, fold-Arm, fold-ValueArm, ind-Action, ind-ValuePhrase, map-Action, map-Actual}
+use Rattle.elan_types.specs.declared.core_phrase.Action.TheOpen.{Action-F, Actual-F, PlacePhrase-F, ValuePhrase-F, Arm-F, ValueArm-F}
+use Rattle.elan_types.specs.declared.core_phrase.Action.TheFolds.{fold-Actual, fold-PlacePhrase, fold-Arm, fold-ValueArm, ind-Action, ind-ValuePhrase}
+use Rattle.elan_types.specs.declared.core_phrase.Action.TheFolds.{map-Action, map-Actual, map-PlacePhrase}
 use Rattle.elan_types.specs.declared.core_phrase.Action.TheFolds.{map-ValuePhrase, map-Arm, map-ValueArm, fold-roll-Action, fold-roll-Actual}
-use Rattle.elan_types.specs.declared.core_phrase.Action.TheFolds.{fold-roll-ValuePhrase, fold-roll-Arm, fold-roll-ValueArm}
-use Rattle.elan_types.specs.Typing.{Typed, Taken, Home, has, only_if, place_kind, has_if_written, have, all_agree, all_true, take_all, given_as}
-use Rattle.elan_types.specs.Typing.{phrase_kind, is_typed, value_kind_step, actual_kind_step, value_arm_kind_step, action_typed_step, arm_typed_step}
+use Rattle.elan_types.specs.declared.core_phrase.Action.TheFolds.{fold-roll-PlacePhrase, fold-roll-ValuePhrase, fold-roll-Arm, fold-roll-ValueArm}
+use Rattle.elan_types.specs.Typing as typing
+use Rattle.elan_types.specs.Typing.{Typed, Taken, Home, has, only_if, starts, frame_here, place_kinds, has_if_written, have, all_agree, all_true, take_all, given_as}
+use Rattle.elan_types.specs.Typing.{phrase_shape, is_typed, value_kind_step, actual_kind_step, place_kinds_step, value_arm_kind_step, action_typed_step}
+use Rattle.elan_types.specs.Typing.{arm_typed_step}
 use Rattle.elan_types.specs.Typing.{is_content_typed, result_of_content, formal, request_formals}
 use Rattle.place_gen.specs.Stretch.{Stretch, Exit, none, one, place_code, keeps, pushes, join, stays, all_code, select_code, while_code, until_code, turn_code}
 use Rattle.place_gen.specs.Stretch.{turns_code, store_code, counted_code, action_code, actual_code, value_code, content_code, action_code_step}
-use Rattle.place_gen.specs.Stretch.{actual_code_step, value_code_step, arm_code_step, value_arm_code_step, arm_code_of, value_arm_code}
+use Rattle.place_gen.specs.Stretch.{actual_code_step, place_code_step, value_code_step, arm_code_step, value_arm_code_step, arm_code_of, value_arm_code}
 use Rattle.place_gen.specs.Layouts.{parameter_kind}
-use Rattle.place_gen.proofs.Homes.{Delivers, Agrees, IsHome, agree_is, place_is, proc_is, part_is, left_is, only_if_is, both}
-use Rattle.place_gen.proofs.Homes.{has_is, takes_is, formals_take, without_is, with_is, none_is}
+use Rattle.place_gen.proofs.Homes.{Delivers, Agrees, IsHome, agree_is, held_cell, proc_is, part_is, left_is, only_if_is, both}
+use Rattle.place_gen.proofs.PlaceKinds.{starts_is, one_starts, first_behind, held_behind, place_held_is, if_true_is, items_are, first_of_drop, row_items}
+use Rattle.place_gen.proofs.PlaceKinds.{part_known}
+use Rattle.place_gen.proofs.Homes.{has_is, has_shape_is, takes_is, formals_take, without_is, with_is, none_is}
 use Rattle.place_gen.proofs.Lines.{HasAt, IsSized, join_sized}
-use Rattle.place_gen.proofs.Tables.{Each, ends_good, leave_fine, Table, ValueTable, ActionTable, above, none_table, join_table, mark_table, number_table}
-use Rattle.place_gen.proofs.Tables.{truth_table, text_table, place_table, load_table, store_table, modify_table, apply_table, ask_table, error_stop_table}
+use Rattle.place_gen.proofs.Tables.{Each, ends_good, leave_fine, Table, ValueTable, PlaceTable, ActionTable, above, none_table, join_table, mark_table, number_table}
+use Rattle.place_gen.proofs.Tables.{truth_table, text_table, outer_table, local_table, parameter_table, item_table, field_table, pick_table, take_table, load_table, store_table, modify_table, apply_table, ask_table, error_stop_table}
 use Rattle.place_gen.proofs.Tables.{call_table, refer_table, leave_table, leave_with_table}
 use Rattle.place_gen.proofs.LoopTables.{if_table, otherwise_table, arm_table, ExitTable, stays_table, while_table, until_table, step_table, AtLeastOne}
-use Rattle.place_gen.proofs.LoopTables.{step_to_table, turn_table, loop_table, counted_none_table, counted_some_table}
+use Rattle.place_gen.proofs.LoopTables.{step_to_table, turn_table, loop_table, never_table, counted_none_table, counted_some_table}
 
 abbrev fst : {A : Type 0} {B : A → Type 0} → (a : A) × B a → A
 fst x = x.0
@@ -52,8 +61,11 @@ module _ (p : Program) (variables : List Kind) (bodies : List Body) (agrees : Ag
   abbrev T : (List OperandKind → List OperandKind) → (List OperandKind → List OperandKind) → Stretch → Type 0
   T = Table p home
 
-  abbrev VT : Kind → Stretch → Type 0
+  abbrev VT : Shape → Stretch → Type 0
   VT = ValueTable p home
+
+  abbrev PT : Shape → Stretch → Type 0
+  PT = PlaceTable p home
 
   abbrev AT : Stretch → Type 0
   AT = ActionTable p home
@@ -62,22 +74,25 @@ module _ (p : Program) (variables : List Kind) (bodies : List Body) (agrees : Ag
   typed = is_typed variables bodies home
 
   abbrev kind : ValuePhrase → Typed
-  kind = phrase_kind variables bodies home
+  kind = phrase_shape variables bodies home
 
   abbrev given : Actual → Taken
   given =
-      fold-Actual Bool Taken Typed Bool Typed (action_typed_step variables bodies home) (actual_kind_step variables bodies home)
-      (value_kind_step variables bodies home) (arm_typed_step variables bodies home) (value_arm_kind_step variables bodies home)
+      fold-Actual Bool Taken (List Kind) Typed Bool Typed (action_typed_step variables bodies home) (actual_kind_step variables bodies home)
+      (place_kinds_step variables bodies home) (value_kind_step variables bodies home) (arm_typed_step variables bodies home) (value_arm_kind_step variables bodies home)
 
   abbrev arm_typed : Arm → Bool
   arm_typed =
-      fold-Arm Bool Taken Typed Bool Typed (action_typed_step variables bodies home) (actual_kind_step variables bodies home)
-      (value_kind_step variables bodies home) (arm_typed_step variables bodies home) (value_arm_kind_step variables bodies home)
+      fold-Arm Bool Taken (List Kind) Typed Bool Typed (action_typed_step variables bodies home) (actual_kind_step variables bodies home)
+      (place_kinds_step variables bodies home) (value_kind_step variables bodies home) (arm_typed_step variables bodies home) (value_arm_kind_step variables bodies home)
 
   abbrev arm_kind : ValueArm → Typed
   arm_kind =
-      fold-ValueArm Bool Taken Typed Bool Typed (action_typed_step variables bodies home) (actual_kind_step variables bodies home)
-      (value_kind_step variables bodies home) (arm_typed_step variables bodies home) (value_arm_kind_step variables bodies home)
+      fold-ValueArm Bool Taken (List Kind) Typed Bool Typed (action_typed_step variables bodies home) (actual_kind_step variables bodies home)
+      (place_kinds_step variables bodies home) (value_kind_step variables bodies home) (arm_typed_step variables bodies home) (value_arm_kind_step variables bodies home)
+
+  abbrev place_here : PlacePhrase → List Kind
+  place_here = place_kinds variables bodies home
 
   abbrev Q : Action → Type 0
   Q a = typed a ≡ true → AT (action_code a)
@@ -85,17 +100,27 @@ module _ (p : Program) (variables : List Kind) (bodies : List Body) (agrees : Ag
   abbrev N : Actual → Type 0
   N a = (f : Formal) → given a ≡ Some f → T keeps (pushes (parameter_kind f)) (actual_code a)
 
+  abbrev W : PlacePhrase → Type 0
+  W q = (k : Kind) (ks : List Kind) → place_here q ≡ k ∷ ks → (s : Shape) → PT s (place_code q s)
+
   abbrev P : ValuePhrase → Type 0
-  P e = (u : Kind) → kind e ≡ Some u → VT u (value_code e)
+  P e = (u : Shape) → kind e ≡ Some u → VT u (value_code e)
 
   abbrev R : Arm → Type 0
   R a = arm_typed a ≡ true → AT (arm_code_of a).part
 
   abbrev S : ValueArm → Type 0
-  S a = (u : Kind) → arm_kind a ≡ Some u → VT u (value_arm_code a).part
+  S a = (u : Shape) → arm_kind a ≡ Some u → VT u (value_arm_code a).part
 
-  of_kind : {f : Stretch} (v u : Kind) → Some v ≡ Some u → VT v f → VT u f
-  of_kind {f} v u e i = let g : v ≡ u = cc in subst (λ k. VT k f) g i
+  of_shape : {f : Stretch} (v u : Shape) → Some v ≡ Some u → VT v f → VT u f
+  of_shape {f} v u e i = let g : v ≡ u = cc in subst (λ k. VT k f) g i
+
+  -- the place of a value of a shape
+  place_is : (q : (x : PlacePhrase) × W x) (s : Shape) → starts (cell_kinds s) (place_here q.0) ≡ true → PT s (place_code q.0 s)
+  place_is q s e = let f = starts_is (cell_kinds s) (place_here q.0) e in q.1 f.first f.rest f.is s
+
+  one_place : (q : (x : PlacePhrase) × W x) (k : Kind) → starts (k ∷ []) (place_here q.0) ≡ true → PT (Cell k) (place_code q.0 (Cell k))
+  one_place q k e = place_is q (Cell k) (one_starts k (place_here q.0) e)
 
   -- lists of parts
   actions_are : (xs : List ((a : Action) × Q a)) → all_true (map typed (map fst xs)) ≡ true → AT (all_code (map action_code (map fst xs)))
@@ -109,8 +134,8 @@ module _ (p : Program) (variables : List Kind) (bodies : List Body) (agrees : Ag
   values_are (k ∷ ks) [] e = let f : ⊥ = cc in absurd f
   values_are (k ∷ ks) (x ∷ xs) e =
       let f = both _ _ e in
-      let i = x.1 k (has_is k _ f.0) in
-      join_table p home i (above p home (pushes (OfKind k)) (values_are ks xs f.1))
+      let i = x.1 (Cell k) (has_is k _ f.0) in
+      join_table p home i (above p home (pushes (cell_value k)) (values_are ks xs f.1))
 
   record Actuals (taken : List OperandKind) (fs : List Stretch) : Type 0 where
     pub as_many : length fs ≡ length taken
@@ -128,12 +153,12 @@ module _ (p : Program) (variables : List Kind) (bodies : List Body) (agrees : Ag
       record { as_many = omega (arith, j.as_many); table = table }
 
   arms_are : (xs : List ((a : Arm) × R a)) (g : Stretch) → all_true (map arm_typed (map fst xs)) ≡ true → AT g
-      → T (pushes (OfKind kinds.Int)) keeps (select_code (map arm_code_of (map fst xs)) g)
+      → T (pushes (cell_value kinds.Int)) keeps (select_code (map arm_code_of (map fst xs)) g)
   arms_are [] g e i = otherwise_table p home i
   arms_are (x ∷ xs) g e i = let f = both _ _ e in arm_table p home (arm_code_of x.0).labels (x.1 f.0) (arms_are xs g f.1 i)
 
-  value_arms_are : (u : Kind) (xs : List ((a : ValueArm) × S a)) (g : Stretch) (a : Typed) → a ≡ Some u → all_agree a (map arm_kind (map fst xs)) ≡ true
-      → VT u g → T (pushes (OfKind kinds.Int)) (pushes (OfKind u)) (select_code (map value_arm_code (map fst xs)) g)
+  value_arms_are : (u : Shape) (xs : List ((a : ValueArm) × S a)) (g : Stretch) (a : Typed) → a ≡ Some u → all_agree a (map arm_kind (map fst xs)) ≡ true
+      → VT u g → T (pushes (cell_value kinds.Int)) (pushes (OfShape u)) (select_code (map value_arm_code (map fst xs)) g)
   value_arms_are u [] g a h e i = otherwise_table p home i
   value_arms_are u (x ∷ xs) g a h e i =
       let f = both _ _ e in
@@ -159,11 +184,11 @@ module _ (p : Program) (variables : List Kind) (bodies : List Body) (agrees : Ag
 
   while_is : (M : _) (w : MaybeValue) → typed_if kinds.Truth w ≡ true → ExitTable p home M (while_code (code_if w))
   while_is M None e = stays_table p home M (none_table p home keeps)
-  while_is M (Some x) e = while_table p home M (x.1 kinds.Truth (has_is kinds.Truth _ e))
+  while_is M (Some x) e = while_table p home M (x.1 (Cell kinds.Truth) (has_is kinds.Truth _ e))
 
   until_is : (M : _) (w : MaybeValue) → typed_if kinds.Truth w ≡ true → ExitTable p home M (until_code (code_if w))
   until_is M None e = stays_table p home M (none_table p home keeps)
-  until_is M (Some x) e = until_table p home M (x.1 kinds.Truth (has_is kinds.Truth _ e))
+  until_is M (Some x) e = until_table p home M (x.1 (Cell kinds.Truth) (has_is kinds.Truth _ e))
 
   turn_is' : (M : _) (w : MaybeValue) (us : Actions) (u : MaybeValue) (s : Exit) → typed_if kinds.Truth w ≡ true → all_typed us ≡ true
       → typed_if kinds.Truth u ≡ true → ExitTable p home M s → ExitTable p home M (turn_code (code_if w) (codes us) (code_if u) s)
@@ -176,82 +201,119 @@ module _ (p : Program) (variables : List Kind) (bodies : List Body) (agrees : Ag
       let g = both _ _ f.1 in
       loop_table p home (turn_is' (λ _. Unit {0}) w us u (stays none) f.0 g.0 g.1 (stays_table p home (λ _. Unit {0}) (none_table p home keeps)))
 
-  counted_is : (q : PlacePhrase) (way : Way) (limit w : MaybeValue) (us : Actions) (u : MaybeValue) → has kinds.Int (place_kind variables bodies home q) ≡ true
-      → typed_if kinds.Int limit ≡ true → typed_if kinds.Truth w ≡ true → all_typed us ≡ true → typed_if kinds.Truth u ≡ true
-      → AT (counted_code q way (code_if limit) (turn_code (code_if w) (codes us) (code_if u)))
-  counted_is q way None w us u is e ew eus eu =
-      let place = place_is p variables bodies agrees home is_home q kinds.Int (has_is kinds.Int _ is) in
-      counted_none_table p home (turn_code (code_if w) (codes us) (code_if u)) q way
-      (turn_is' (λ _. Unit {0}) w us u _ ew eus eu (step_table p home (λ _. Unit {0}) q place))
-  counted_is q way (Some a) w us u is e ew eus eu =
-      let place = place_is p variables bodies agrees home is_home q kinds.Int (has_is kinds.Int _ is) in
-      counted_some_table p home (turn_code (code_if w) (codes us) (code_if u)) q way place (a.1 kinds.Int (has_is kinds.Int _ e))
-      (turn_is' (AtLeastOne p home) w us u _ ew eus eu (step_to_table p home q way place))
+  abbrev Places : Type 0
+  Places = (x : PlacePhrase) × W x
 
-  counts_is : (q : PlacePhrase) (from : (e : ValuePhrase) × P e) (way : Way) (limit w : MaybeValue) (us : Actions) (u : MaybeValue)
-      → (has kinds.Int (place_kind variables bodies home q)
+  counted_is : (q : Places) (way : Way) (limit w : MaybeValue) (us : Actions) (u : MaybeValue) → starts (kinds.Int ∷ []) (place_here q.0) ≡ true
+      → typed_if kinds.Int limit ≡ true → typed_if kinds.Truth w ≡ true → all_typed us ≡ true → typed_if kinds.Truth u ≡ true
+      → AT (counted_code (place_code q.0) way (code_if limit) (turn_code (code_if w) (codes us) (code_if u)))
+  counted_is q way None w us u is e ew eus eu =
+      counted_none_table p home (turn_code (code_if w) (codes us) (code_if u)) (place_code q.0) way
+      (turn_is' (λ _. Unit {0}) w us u _ ew eus eu (step_table p home (λ _. Unit {0}) (place_code q.0) (one_place q kinds.Int is)))
+  counted_is q way (Some a) w us u is e ew eus eu =
+      let place = one_place q kinds.Int is in
+      counted_some_table p home (turn_code (code_if w) (codes us) (code_if u)) (place_code q.0) way place (a.1 (Cell kinds.Int) (has_is kinds.Int _ e))
+      (turn_is' (AtLeastOne p home) w us u _ ew eus eu (step_to_table p home (place_code q.0) way place))
+
+  counts_is : (q : Places) (from : (e : ValuePhrase) × P e) (way : Way) (limit w : MaybeValue) (us : Actions) (u : MaybeValue)
+      → (starts (kinds.Int ∷ []) (place_here q.0)
       && (has kinds.Int (kind from.0) && (typed_if kinds.Int limit && (typed_if kinds.Truth w && (all_typed us && typed_if kinds.Truth u))))) ≡ true
-      → AT (join (store_code q kinds.Int (value_code from.0)) (counted_code q way (code_if limit) (turn_code (code_if w) (codes us) (code_if u))))
+      → AT (join (store_code (place_code q.0) (Cell kinds.Int) (value_code from.0))
+      (counted_code (place_code q.0) way (code_if limit) (turn_code (code_if w) (codes us) (code_if u))))
   counts_is q from way limit w us u e =
       let f0 = both _ _ e in
       let f1 = both _ _ f0.1 in
       let f2 = both _ _ f1.1 in
       let f3 = both _ _ f2.1 in
       let f4 = both _ _ f3.1 in
-      let place = place_is p variables bodies agrees home is_home q kinds.Int (has_is kinds.Int _ f0.0) in
-      join_table p home (store_table p home q kinds.Int place (from.1 kinds.Int (has_is kinds.Int _ f1.0)))
+      join_table p home (store_table p home (Cell kinds.Int) (one_place q kinds.Int f0.0) (from.1 (Cell kinds.Int) (has_is kinds.Int _ f1.0)))
       (counted_is q way limit w us u f0.0 f2.0 f3.0 f4.0 f4.1)
 
   abbrev VLayer : Type 0
-  VLayer = ValuePhrase-F ((a : Action) × Q a) ((a : Actual) × N a) ((e : ValuePhrase) × P e) ((a : Arm) × R a) ((a : ValueArm) × S a)
+  VLayer = ValuePhrase-F ((a : Action) × Q a) ((a : Actual) × N a) ((q : PlacePhrase) × W q) ((e : ValuePhrase) × P e) ((a : Arm) × R a) ((a : ValueArm) × S a)
 
-  value_parts : (y : VLayer) (u : Kind)
+  value_parts : (y : VLayer) (u : Shape)
       → value_kind_step variables bodies home
-      (map-ValuePhrase _ _ _ _ _ _ _ _ _ _ typed given kind arm_typed arm_kind (map-ValuePhrase _ _ _ _ _ _ _ _ _ _ fst fst fst fst fst y)) ≡ Some u
+      (map-ValuePhrase _ _ _ _ _ _ _ _ _ _ _ _ typed given place_here kind arm_typed arm_kind (map-ValuePhrase _ _ _ _ _ _ _ _ _ _ _ _ fst fst fst fst fst fst y)) ≡ Some u
       → VT u (value_code_step
-      (map-ValuePhrase _ _ _ _ _ _ _ _ _ _ action_code actual_code value_code arm_code_of value_arm_code
-      (map-ValuePhrase _ _ _ _ _ _ _ _ _ _ fst fst fst fst fst y)))
-  value_parts (t.Number z) u e = let f = only_if_is _ _ u e in of_kind kinds.Int u f.1 (number_table p home z)
-  value_parts (t.Truth b) u e = of_kind kinds.Truth u e (truth_table p home b)
-  value_parts (t.Text x) u e = let f = only_if_is _ _ u e in of_kind kinds.Text u f.1 (text_table p home x)
+      (map-ValuePhrase _ _ _ _ _ _ _ _ _ _ _ _ action_code actual_code place_code value_code arm_code_of value_arm_code
+      (map-ValuePhrase _ _ _ _ _ _ _ _ _ _ _ _ fst fst fst fst fst fst y)))
+  value_parts (t.Number z) u e = let f = only_if_is _ _ u e in of_shape (Cell kinds.Int) u f.1 (number_table p home z)
+  value_parts (t.Truth b) u e = of_shape (Cell kinds.Truth) u e (truth_table p home b)
+  value_parts (t.Text x) u e = let f = only_if_is _ _ u e in of_shape (Cell kinds.Text) u f.1 (text_table p home x)
   value_parts (t.Load q v) u e =
       let f = only_if_is _ _ u e in
-      of_kind v u f.1 (load_table p home q v (place_is p variables bodies agrees home is_home q v (has_is v _ f.0)))
+      of_shape v u f.1 (load_table p home v (place_is q v f.0))
   value_parts (t.Apply op es) u e =
       let f = only_if_is _ _ u e in
-      of_kind (result_kind op) u f.1 (apply_table p home op (values_are (operand_kinds op) es f.0))
+      of_shape (Cell (result_kind op)) u f.1 (apply_table p home op (values_are (operand_kinds op) es f.0))
   value_parts (t.ValuePhrase::If c a b) u e =
       let f = only_if_is _ _ u e in
       let g = both _ _ f.0 in
-      if_table p home (c.1 kinds.Truth (has_is kinds.Truth _ g.0)) (a.1 u f.1) (b.1 u (agree_is _ _ u g.1 f.1))
+      if_table p home (c.1 (Cell kinds.Truth) (has_is kinds.Truth _ g.0)) (a.1 u f.1) (b.1 u (agree_is _ _ u g.1 f.1))
   value_parts (t.ValuePhrase::Select v arms other) u e =
       let f = only_if_is _ _ u e in
       let g = both _ _ f.0 in
-      join_table p home (v.1 kinds.Int (has_is kinds.Int _ g.0)) (value_arms_are u arms (value_code other.0) _ f.1 g.1 (other.1 u f.1))
+      join_table p home (v.1 (Cell kinds.Int) (has_is kinds.Int _ g.0)) (value_arms_are u arms (value_code other.0) _ f.1 g.1 (other.1 u f.1))
   value_parts (t.ValuePhrase::Unit a) u e = join_table p home (mark_table p home) (a.1 u e)
   value_parts (t.After us a) u e = let f = only_if_is _ _ u e in join_table p home (actions_are us f.0) (a.1 u f.1)
   value_parts (t.ValuePhrase::Call q as' v) u e =
       let f = only_if_is _ _ u e in
       let g = both _ _ f.0 in
-      let i = proc_is p variables bodies agrees q _ (Some v) g.0 (has_is v _ g.1) in
+      let i = proc_is p variables bodies agrees q _ (Some v) g.0 (has_shape_is v _ g.1) in
       let j = actuals_are i.parameters as' i.takes in
-      of_kind v u f.1 (call_table p home q i.entry (map parameter_kind i.parameters) i.cells (Some v) (map actual_code (map fst as')) i.has i.own
+      of_shape v u f.1 (call_table p home q i.entry (map parameter_kind i.parameters) i.cells (Some v) (map actual_code (map fst as')) i.has i.own
       i.delivers j.as_many j.table)
+  value_parts (t.Never v) u e = of_shape v u e (never_table p home v)
   value_parts (t.ValuePhrase::Refer q v) u e =
       let f = only_if_is _ _ u e in
       let g = both _ _ f.0 in
-      let i = part_is p variables bodies agrees q home is_home (Some v) g.0 (has_is v _ g.1) in
-      of_kind v u f.1 (refer_table p home q i.entry (Some v) i.has i.refinement i.owned i.delivers)
+      let i = part_is p variables bodies agrees q home is_home (Some v) g.0 (has_shape_is v _ g.1) in
+      of_shape v u f.1 (refer_table p home q i.entry (Some v) i.has i.refinement i.owned i.delivers)
+  value_parts (t.Pick a i items v) u e =
+      let f = only_if_is _ _ u e in
+      let g = both _ _ f.0 in
+      let h = both _ _ g.1 in
+      let size = eqb-true (length (cell_kinds v)) items.cells h.1 in
+      of_shape v u f.1 (pick_table p home (Row items.count v) v items.count items.cells (a.1 (Row items.count v) (has_shape_is _ _ g.0))
+      (i.1 (Cell kinds.Int) (has_is kinds.Int _ h.0)) (row_items items.count items.cells v size))
+  value_parts (t.Take a part v) u e =
+      let f = only_if_is _ _ u e in
+      let g = part_known part v _ f.0 in
+      of_shape v u f.1 (take_table p home g.whole v part.of part.before part.cells (a.1 g.whole g.is) g.parts)
+
+  abbrev WLayer : Type 0
+  WLayer = PlacePhrase-F ((a : Action) × Q a) ((a : Actual) × N a) ((q : PlacePhrase) × W q) ((e : ValuePhrase) × P e) ((a : Arm) × R a) ((a : ValueArm) × S a)
+
+  place_parts : (y : WLayer) (k : Kind) (ks : List Kind)
+      → place_kinds_step variables bodies home
+      (map-PlacePhrase _ _ _ _ _ _ _ _ _ _ _ _ typed given place_here kind arm_typed arm_kind (map-PlacePhrase _ _ _ _ _ _ _ _ _ _ _ _ fst fst fst fst fst fst y)) ≡ k ∷ ks
+      → (s : Shape) → PT s (place_code_step
+      (map-PlacePhrase _ _ _ _ _ _ _ _ _ _ _ _ action_code actual_code place_code value_code arm_code_of value_arm_code
+      (map-PlacePhrase _ _ _ _ _ _ _ _ _ _ _ _ fst fst fst fst fst fst y)) s)
+  place_parts (t.Variable x) k ks e s = outer_table p home x s k (ap (λ l. slice_get l x) agrees.level ∙ first_behind x variables k ks e)
+  place_parts (t.Local x) k ks e s =
+      local_table p home x s k (held_cell p variables bodies agrees home is_home x (typing.OfKind k) (held_behind x (frame_here variables bodies home) k ks e))
+  place_parts (t.Parameter x) k ks e s =
+      parameter_table p home x s
+      (held_cell p variables bodies agrees home is_home x (typing.OfPlace (k ∷ ks)) (place_held_is (slice_get (frame_here variables bodies home) x) k ks e))
+  place_parts (t.Item q a items) k ks e s =
+      let f = if_true_is _ _ k ks e in
+      let i = items_are items.count items.cells (place_here q.0) k ks f.1 in
+      item_table p home items.count items.cells s (q.1 i.some.first i.some.rest i.some.is s) (a.1 (Cell kinds.Int) (has_is kinds.Int _ f.0))
+  place_parts (t.Field q before) k ks e s =
+      let i = first_of_drop before (place_here q.0) k ks e in
+      field_table p home before s (q.1 i.first i.rest i.is s)
 
   abbrev NLayer : Type 0
-  NLayer = Actual-F ((a : Action) × Q a) ((a : Actual) × N a) ((e : ValuePhrase) × P e) ((a : Arm) × R a) ((a : ValueArm) × S a)
+  NLayer = Actual-F ((a : Action) × Q a) ((a : Actual) × N a) ((q : PlacePhrase) × W q) ((e : ValuePhrase) × P e) ((a : Arm) × R a) ((a : ValueArm) × S a)
 
   actual_parts : (y : NLayer) (f : Formal)
       → actual_kind_step variables bodies home
-      (map-Actual _ _ _ _ _ _ _ _ _ _ typed given kind arm_typed arm_kind (map-Actual _ _ _ _ _ _ _ _ _ _ fst fst fst fst fst y)) ≡ Some f
+      (map-Actual _ _ _ _ _ _ _ _ _ _ _ _ typed given place_here kind arm_typed arm_kind (map-Actual _ _ _ _ _ _ _ _ _ _ _ _ fst fst fst fst fst fst y)) ≡ Some f
       → T keeps (pushes (parameter_kind f))
-      (actual_code_step (map-Actual _ _ _ _ _ _ _ _ _ _ action_code actual_code value_code arm_code_of value_arm_code
-      (map-Actual _ _ _ _ _ _ _ _ _ _ fst fst fst fst fst y)))
+      (actual_code_step (map-Actual _ _ _ _ _ _ _ _ _ _ _ _ action_code actual_code place_code value_code arm_code_of value_arm_code
+      (map-Actual _ _ _ _ _ _ _ _ _ _ _ _ fst fst fst fst fst fst y)))
   actual_parts (t.Value a) f e = value_given a (kind a.0) refl f e
     where
       value_given : (a : (e : ValuePhrase) × P e) (o : Typed) → kind a.0 ≡ o → (f : Formal) → given_as Const o ≡ Some f
@@ -259,41 +321,39 @@ module _ (p : Program) (variables : List Kind) (bodies : List Body) (agrees : Ag
       value_given a None is f e = let g : ⊥ = cc in absurd g
       value_given a (Some u) is f e =
           let g : formal Const u ≡ f = cc in subst (λ f. T keeps (pushes (parameter_kind f)) (value_code a.0)) g (a.1 u is)
-  actual_parts (t.Place q u) f e = place_given (has u (place_kind variables bodies home q)) refl f e
+  actual_parts (t.Place q u) f e = place_given (starts (cell_kinds u) (place_here q.0)) refl f e
     where
-      place_given : (b : Bool) → has u (place_kind variables bodies home q) ≡ b → (f : Formal) → given_as Var (only_if b (Some u)) ≡ Some f
-          → T keeps (pushes (parameter_kind f)) (place_code q u)
+      place_given : (b : Bool) → starts (cell_kinds u) (place_here q.0) ≡ b → (f : Formal) → given_as Var (only_if b (Some u)) ≡ Some f
+          → T keeps (pushes (parameter_kind f)) (place_code q.0 u)
       place_given false is f e = let g : ⊥ = cc in absurd g
       place_given true is f e =
           let g : formal Var u ≡ f = cc in
-          subst (λ f. T keeps (pushes (parameter_kind f)) (place_code q u)) g
-          (place_table p home q u (place_is p variables bodies agrees home is_home q u (has_is u _ is)))
+          subst (λ f. T keeps (pushes (parameter_kind f)) (place_code q.0 u)) g (place_is q u is)
 
   abbrev ALayer : Type 0
-  ALayer = Action-F ((a : Action) × Q a) ((a : Actual) × N a) ((e : ValuePhrase) × P e) ((a : Arm) × R a) ((a : ValueArm) × S a)
+  ALayer = Action-F ((a : Action) × Q a) ((a : Actual) × N a) ((q : PlacePhrase) × W q) ((e : ValuePhrase) × P e) ((a : Arm) × R a) ((a : ValueArm) × S a)
 
   action_parts : (y : ALayer)
       → action_typed_step variables bodies home
-      (map-Action _ _ _ _ _ _ _ _ _ _ typed given kind arm_typed arm_kind (map-Action _ _ _ _ _ _ _ _ _ _ fst fst fst fst fst y)) ≡ true
-      → AT (action_code_step (map-Action _ _ _ _ _ _ _ _ _ _ action_code actual_code value_code arm_code_of value_arm_code
-      (map-Action _ _ _ _ _ _ _ _ _ _ fst fst fst fst fst y)))
+      (map-Action _ _ _ _ _ _ _ _ _ _ _ _ typed given place_here kind arm_typed arm_kind (map-Action _ _ _ _ _ _ _ _ _ _ _ _ fst fst fst fst fst fst y)) ≡ true
+      → AT (action_code_step (map-Action _ _ _ _ _ _ _ _ _ _ _ _ action_code actual_code place_code value_code arm_code_of value_arm_code
+      (map-Action _ _ _ _ _ _ _ _ _ _ _ _ fst fst fst fst fst fst y)))
   action_parts (t.Action::Unit us) e = join_table p home (mark_table p home) (actions_are us e)
   action_parts (t.Store q u a) e =
       let f = both _ _ e in
-      store_table p home q u (place_is p variables bodies agrees home is_home q u (has_is u _ f.0)) (a.1 u (has_is u _ f.1))
+      store_table p home u (place_is q u f.0) (a.1 u (has_shape_is u _ f.1))
   action_parts (t.Modify change q a) e =
       let f = both _ _ e in
       let k = change_kind change in
-      let place = place_is p variables bodies agrees home is_home q k (has_is k _ f.0) in
-      modify_table p home change q place (a.1 k (has_is k _ f.1))
+      modify_table p home change (one_place q k f.0) (a.1 (Cell k) (has_is k _ f.1))
   action_parts (t.Action::If c us vs) e =
       let f = both _ _ e in
       let g = both _ _ f.1 in
-      if_table p home (c.1 kinds.Truth (has_is kinds.Truth _ f.0)) (actions_are us g.0) (actions_are vs g.1)
+      if_table p home (c.1 (Cell kinds.Truth) (has_is kinds.Truth _ f.0)) (actions_are us g.0) (actions_are vs g.1)
   action_parts (t.Action::Select v arms us) e =
       let f = both _ _ e in
       let g = both _ _ f.1 in
-      join_table p home (v.1 kinds.Int (has_is kinds.Int _ f.0)) (arms_are arms (all_code (map action_code (map fst us))) g.0 (actions_are us g.1))
+      join_table p home (v.1 (Cell kinds.Int) (has_is kinds.Int _ f.0)) (arms_are arms (all_code (map action_code (map fst us))) g.0 (actions_are us g.1))
   action_parts (t.Loop None us None) e = looped_is None us None e
   action_parts (t.Loop None us (Some u)) e = looped_is None us (Some u) e
   action_parts (t.Loop (Some w) us None) e = looped_is (Some w) us None e
@@ -310,7 +370,7 @@ module _ (p : Program) (variables : List Kind) (bodies : List Body) (agrees : Ag
       let j = actuals_are (request_formals name) as' e in
       ask_table p home name (subst (λ ks. T keeps (pushed_operands ks) (all_code (map actual_code (map fst as'))))
       (formals_take (request_kinds name) (request_places name)) j.table)
-  action_parts (t.ErrorStop a) e = error_stop_table p home (a.1 kinds.Text (has_is kinds.Text _ e))
+  action_parts (t.ErrorStop a) e = error_stop_table p home (a.1 (Cell kinds.Text) (has_is kinds.Text _ e))
   action_parts (t.Action::Call q as') e =
       let g = both _ _ e in
       let i = proc_is p variables bodies agrees q _ None g.0 (none_is _ g.1) in
@@ -323,36 +383,38 @@ module _ (p : Program) (variables : List Kind) (bodies : List Body) (agrees : Ag
   action_parts (t.Leave x) e = leave_table p home x (left_is p variables bodies agrees x home None is_home (without_is _ e))
   action_parts (t.LeaveWith x u a) e =
       let f = both _ _ e in
-      leave_with_table p home x u (left_is p variables bodies agrees x home (Some u) is_home (with_is u _ f.1)) (a.1 u (has_is u _ f.0))
+      leave_with_table p home x u (left_is p variables bodies agrees x home (Some u) is_home (with_is u _ f.1)) (a.1 u (has_shape_is u _ f.0))
 
-  arm_parts : (y : Arm-F ((a : Action) × Q a) ((a : Actual) × N a) ((e : ValuePhrase) × P e) ((a : Arm) × R a) ((a : ValueArm) × S a))
+  arm_parts : (y : Arm-F ((a : Action) × Q a) ((a : Actual) × N a) ((q : PlacePhrase) × W q) ((e : ValuePhrase) × P e) ((a : Arm) × R a) ((a : ValueArm) × S a))
       → arm_typed_step variables bodies home
-      (map-Arm _ _ _ _ _ _ _ _ _ _ typed given kind arm_typed arm_kind (map-Arm _ _ _ _ _ _ _ _ _ _ fst fst fst fst fst y)) ≡ true
-      → AT (arm_code_step (map-Arm _ _ _ _ _ _ _ _ _ _ action_code actual_code value_code arm_code_of value_arm_code
-      (map-Arm _ _ _ _ _ _ _ _ _ _ fst fst fst fst fst y))).part
+      (map-Arm _ _ _ _ _ _ _ _ _ _ _ _ typed given place_here kind arm_typed arm_kind (map-Arm _ _ _ _ _ _ _ _ _ _ _ _ fst fst fst fst fst fst y)) ≡ true
+      → AT (arm_code_step (map-Arm _ _ _ _ _ _ _ _ _ _ _ _ action_code actual_code place_code value_code arm_code_of value_arm_code
+      (map-Arm _ _ _ _ _ _ _ _ _ _ _ _ fst fst fst fst fst fst y))).part
   arm_parts y e = actions_are y.units e
 
-  value_arm_parts : (y : ValueArm-F ((a : Action) × Q a) ((a : Actual) × N a) ((e : ValuePhrase) × P e) ((a : Arm) × R a) ((a : ValueArm) × S a)) (u : Kind)
+  value_arm_parts : (y : ValueArm-F ((a : Action) × Q a) ((a : Actual) × N a) ((q : PlacePhrase) × W q) ((e : ValuePhrase) × P e) ((a : Arm) × R a) ((a : ValueArm) × S a)) (u : Shape)
       → value_arm_kind_step variables bodies home
-      (map-ValueArm _ _ _ _ _ _ _ _ _ _ typed given kind arm_typed arm_kind (map-ValueArm _ _ _ _ _ _ _ _ _ _ fst fst fst fst fst y)) ≡ Some u
+      (map-ValueArm _ _ _ _ _ _ _ _ _ _ _ _ typed given place_here kind arm_typed arm_kind (map-ValueArm _ _ _ _ _ _ _ _ _ _ _ _ fst fst fst fst fst fst y)) ≡ Some u
       → VT u (value_arm_code_step
-      (map-ValueArm _ _ _ _ _ _ _ _ _ _ action_code actual_code value_code arm_code_of value_arm_code
-      (map-ValueArm _ _ _ _ _ _ _ _ _ _ fst fst fst fst fst y))).part
+      (map-ValueArm _ _ _ _ _ _ _ _ _ _ _ _ action_code actual_code place_code value_code arm_code_of value_arm_code
+      (map-ValueArm _ _ _ _ _ _ _ _ _ _ _ _ fst fst fst fst fst fst y))).part
   value_arm_parts y u e = y.value.1 u e
 
   -- each action and each value, by induction
   pub action_is : (a : Action) → Q a
-  action_is = ind-Action Q N P R S
+  action_is = ind-Action Q N W P R S
       (λ x y is. rw (fold-roll-Action, fold-roll-Action, ← is) (action_parts y))
       (λ x y is. rw (fold-roll-Actual, fold-roll-Actual, ← is) (actual_parts y))
+      (λ x y is. rw (fold-roll-PlacePhrase, fold-roll-PlacePhrase, ← is) (place_parts y))
       (λ x y is. rw (fold-roll-ValuePhrase, fold-roll-ValuePhrase, ← is) (value_parts y))
       (λ x y is. rw (fold-roll-Arm, fold-roll-Arm, ← is) (arm_parts y))
       (λ x y is. rw (fold-roll-ValueArm, fold-roll-ValueArm, ← is) (value_arm_parts y))
 
   pub value_is : (e : ValuePhrase) → P e
-  value_is = ind-ValuePhrase Q N P R S
+  value_is = ind-ValuePhrase Q N W P R S
       (λ x y is. rw (fold-roll-Action, fold-roll-Action, ← is) (action_parts y))
       (λ x y is. rw (fold-roll-Actual, fold-roll-Actual, ← is) (actual_parts y))
+      (λ x y is. rw (fold-roll-PlacePhrase, fold-roll-PlacePhrase, ← is) (place_parts y))
       (λ x y is. rw (fold-roll-ValuePhrase, fold-roll-ValuePhrase, ← is) (value_parts y))
       (λ x y is. rw (fold-roll-Arm, fold-roll-Arm, ← is) (arm_parts y))
       (λ x y is. rw (fold-roll-ValueArm, fold-roll-ValueArm, ← is) (value_arm_parts y))
@@ -384,10 +446,10 @@ module _ (p : Program) (variables : List Kind) (bodies : List Body) (agrees : Ag
         good = λ pc m is has. ends_good p home (Back None) keeps i pc [] m is (λ q. leave_fine p home exits.Body None left q [] m is tt) has;
       }
   content_is (contents.Value u a) e left =
-      let i = value_is a u (has_is u _ e) in
+      let i = value_is a u (has_shape_is u _ e) in
       record {
         sized = join_sized (value_code a) (one (Back (Some u)) (drop 1)) i.sized (λ ks m pc. refl);
         good =
             λ pc m is has. ends_good p home (Back (Some u)) (drop 1) i pc [] m is
-            (λ q. leave_fine p home exits.Body (Some u) left q (OfKind u ∷ []) m is ([], refl)) has;
+            (λ q. leave_fine p home exits.Body (Some u) left q (OfShape u ∷ []) m is ([], refl)) has;
       }

@@ -5,36 +5,39 @@ use Rattle.std.specs.Prelude.{slice_get, ℤ}
 use Rattle.std.proofs.lemmas.List.{length-map}
 use Rattle.eu_base.specs.declared.value.Kind.{Kind}
 use Rattle.eu_base.specs.declared.value.Kind.TheVariants as kinds
+use Rattle.eu_base.specs.declared.shape.Shape.{Shape}
+use Rattle.eu_base.specs.declared.shape.Shape.TheVariants.{Cell}
+use Rattle.eu_base.specs.Shapes.{cell_kinds}
 use Rattle.eu_base.specs.declared.operation.Operation.{Operation}
 use Rattle.eu_base.specs.declared.operation.Change.{Change}
 use Rattle.eu_base.specs.Operations.{operand_kinds, result_kind, change_kind}
 use Rattle.eu_base.specs.Requests.{request_kinds, request_places, request_size}
 use Rattle.eu_base.specs.declared.request.RequestName.{RequestName}
 use Rattle.code_form.specs.declared.operand.OperandKind.{OperandKind}
-use Rattle.code_form.specs.declared.operand.OperandKind.TheVariants.{Value as OfKind, Place as AtKind}
+use Rattle.code_form.specs.declared.operand.OperandKind.TheVariants.{Value as OfShape, Place as AtShape}
 use Rattle.code_form.specs.declared.instr.Instr.{Instr}
-use Rattle.code_form.specs.declared.instr.Instr.TheVariants.{Mark, Number, Truth, Text, Load, Store, Do, Modify, Ask, ErrorStop, Call, Refer, Back, Out}
+use Rattle.code_form.specs.declared.instr.Instr.TheVariants.{Mark, Number, Truth, Text, Outer, Local, Param, Index, Field, Pick, Take, Load, Store, Do, Modify}
+use Rattle.code_form.specs.declared.instr.Instr.TheVariants.{Ask, ErrorStop, Call, Refer, Back, Out}
 use Rattle.code_form.specs.declared.code.Line.{Line}
 use Rattle.code_form.specs.declared.code.Spot.{Spot}
 use Rattle.code_form.specs.declared.code.Entry.{Entry}
 use Rattle.code_form.specs.declared.code.Layout.TheVariants as layouts
-use Rattle.code_form.specs.Program.{Program, line_of, owner, owner_at, layout_of}
+use Rattle.code_form.specs.Program.{Program, HoldsValue, HoldsPlace, line_of, owner, owner_at, layout_of, frame_cells}
 use Rattle.code_form.specs.Valid.{Next, Lands, pushed_kinds, pushed_operands, request_operands, with_result, IsRefinement, HasResult, IsFine}
-use Rattle.elan_types.specs.declared.core_phrase.PlacePhrase.{PlacePhrase}
-use Rattle.elan_types.specs.declared.core_phrase.PlacePhrase.TheVariants as places
+use Rattle.code_form.specs.Valid.{cell_value, cell_place, AreItems, IsPart}
 use Rattle.elan_types.specs.declared.core_phrase.Exit.{Exit}
 use Rattle.elan_types.specs.declared.core_phrase.Exit.TheVariants as exits
-use Rattle.place_gen.specs.Stretch.{Stretch, none, one, keeps, pushes, join, all_code, place_instr, place_code, store_code, modify_code, call_code, refer_code}
+use Rattle.place_gen.specs.Stretch.{Stretch, none, one, keeps, pushes, join, all_code, call_code, refer_code}
 use Rattle.place_gen.specs.Stretch.{leave_instr}
 use Rattle.place_gen.proofs.Lines.{HasAt, has_front, has_rest, IsSized, join_sized}
-use Rattle.place_gen.proofs.Homes.{Delivers, HasPlace, LeftBy}
+use Rattle.place_gen.proofs.Homes.{Delivers, LeftBy}
 
 -- so many operands are taken off again
 drop_kinds : (more : List Kind) (ks : List OperandKind) (n : ℕ) → drop (length more + n) (pushed_kinds more ks) ≡ drop n ks
 drop_kinds [] ks n = let e : 0 + n ≡ n = omega arith in ap (λ n. drop n ks) e
 drop_kinds (k ∷ more) ks n =
     let e : suc (length more) + n ≡ length more + suc n = omega arith in
-    ap (λ n. drop n (pushed_kinds more (OfKind k ∷ ks))) e ∙ drop_kinds more (OfKind k ∷ ks) (suc n)
+    ap (λ n. drop n (pushed_kinds more (cell_value k ∷ ks))) e ∙ drop_kinds more (cell_value k ∷ ks) (suc n)
 
 drop_operands : (more ks : List OperandKind) (n : ℕ) → drop (length more + n) (pushed_operands more ks) ≡ drop n ks
 drop_operands [] ks n = let e : 0 + n ≡ n = omega arith in ap (λ n. drop n ks) e
@@ -50,9 +53,9 @@ all_dropped more ks n e =
 -- how many operands a request takes
 pub size_is : (name : RequestName) → request_size name ≡ length (request_operands name)
 size_is name =
-    let ks = map OfKind (request_kinds name) in
-    let ls = map AtKind (request_places name) in
-    omega (arith, length-append ks ls, length-map (request_kinds name) OfKind, length-map (request_places name) AtKind)
+    let ks = map cell_value (request_kinds name) in
+    let ls = map cell_place (request_places name) in
+    omega (arith, length-append ks ls, length-map (request_kinds name) cell_value, length-map (request_places name) cell_place)
 
 module _ (p : Program) where
   -- each line of a stretch is fine
@@ -82,8 +85,11 @@ module _ (p : Program) (body : Option ℕ) where
     pub good : (pc : ℕ) (ks : List OperandKind) (m : Spot) → m.body ≡ body → HasAt p.lines pc (f.lines (before ks) m pc)
         → Next p.lines (pc + f.size) (after ks) m → Next p.lines pc (before ks) m × Each p pc (f.lines (before ks) m pc)
 
-  abbrev pub ValueTable : Kind → Stretch → Type 0
-  ValueTable k = Table keeps (pushes (OfKind k))
+  abbrev pub ValueTable : Shape → Stretch → Type 0
+  ValueTable s = Table keeps (pushes (OfShape s))
+
+  abbrev pub PlaceTable : Shape → Stretch → Type 0
+  PlaceTable s = Table keeps (pushes (AtShape s))
 
   abbrev pub ActionTable : Stretch → Type 0
   ActionTable = Table keeps keeps
@@ -130,54 +136,86 @@ module _ (p : Program) (body : Option ℕ) where
   pub mark_table : ActionTable (one Mark keeps)
   mark_table = one_table Mark keeps keeps keeps (λ ks. refl) (λ pc ks m home n. n)
 
-  pub number_table : (z : ℤ) → ValueTable kinds.Int (one (Number z) (pushes (OfKind kinds.Int)))
+  pub number_table : (z : ℤ) → ValueTable (Cell kinds.Int) (one (Number z) (pushes (cell_value kinds.Int)))
   number_table z = one_table (Number z) _ keeps _ (λ ks. refl) (λ pc ks m home n. n)
 
-  pub truth_table : (b : Bool) → ValueTable kinds.Truth (one (Truth b) (pushes (OfKind kinds.Truth)))
+  pub truth_table : (b : Bool) → ValueTable (Cell kinds.Truth) (one (Truth b) (pushes (cell_value kinds.Truth)))
   truth_table b = one_table (Truth b) _ keeps _ (λ ks. refl) (λ pc ks m home n. n)
 
-  pub text_table : (t : List ℕ) → ValueTable kinds.Text (one (Text t) (pushes (OfKind kinds.Text)))
+  pub text_table : (t : List ℕ) → ValueTable (Cell kinds.Text) (one (Text t) (pushes (cell_value kinds.Text)))
   text_table t = one_table (Text t) _ keeps _ (λ ks. refl) (λ pc ks m home n. n)
 
-  pub place_fine : (q : PlacePhrase) (k : Kind) → HasPlace p body q k → (pc : ℕ) (ks : List OperandKind) (m : Spot) → m.body ≡ body
-      → Next p.lines (pc + 1) (AtKind k ∷ ks) m → IsFine p pc (place_instr q) ks m
-  place_fine (places.Variable x) k is pc ks m home n = (k, is, n)
-  place_fine (places.Local x) k is pc ks m home n = (k, subst (λ o. HasPlace p o (places.Local x) k) (sym home) is, n)
-  place_fine (places.Parameter x) k is pc ks m home n = (k, subst (λ o. HasPlace p o (places.Parameter x) k) (sym home) is, n)
+  -- places
+  pub outer_table : (x : ℕ) (s : Shape) (k : Kind) → slice_get p.variables x ≡ Some k → PlaceTable s (one (Outer x) (pushes (AtShape s)))
+  outer_table x s k is = one_table (Outer x) _ keeps _ (λ ks. refl) (λ pc ks m home n. (k, is, (s, n)))
 
-  pub place_table : (q : PlacePhrase) (k : Kind) → HasPlace p body q k → Table keeps (pushes (AtKind k)) (place_code q k)
-  place_table q k is = one_table (place_instr q) _ keeps _ (λ ks. refl) (λ pc ks m home n. place_fine q k is pc ks m home n)
+  pub local_table : (x : ℕ) (s : Shape) (k : Kind) → slice_get (frame_cells p body) x ≡ Some (HoldsValue k) → PlaceTable s (one (Local x) (pushes (AtShape s)))
+  local_table x s k is =
+      one_table (Local x) _ keeps _ (λ ks. refl)
+      (λ pc ks m home n. (k, subst (λ o. slice_get (frame_cells p o) x ≡ Some (HoldsValue k)) (sym home) is, (s, n)))
 
-  pub load_table : (q : PlacePhrase) (k : Kind) → HasPlace p body q k → ValueTable k (join (place_code q k) (one (Load k) (λ ks. OfKind k ∷ drop 1 ks)))
-  load_table q k is =
-      join_table (place_table q k is)
-      (one_table (Load k) (λ ks. OfKind k ∷ drop 1 ks) (pushes (AtKind k)) (pushes (OfKind k)) (λ ks. refl) (λ pc ks m home n. (ks, refl, n)))
+  pub parameter_table : (x : ℕ) (s : Shape) → slice_get (frame_cells p body) x ≡ Some HoldsPlace → PlaceTable s (one (Param x) (pushes (AtShape s)))
+  parameter_table x s is =
+      one_table (Param x) _ keeps _ (λ ks. refl)
+      (λ pc ks m home n. (subst (λ o. slice_get (frame_cells p o) x ≡ Some HoldsPlace) (sym home) is, (s, n)))
 
-  pub store_table : {f : Stretch} (q : PlacePhrase) (k : Kind) → HasPlace p body q k → ValueTable k f → ActionTable (store_code q k f)
-  store_table q k is i =
-      join_table (place_table q k is)
-      (join_table (above (pushes (AtKind k)) i)
-      (one_table (Store k) (drop 2) (λ ks. OfKind k ∷ AtKind k ∷ ks) keeps (λ ks. refl) (λ pc ks m home n. (ks, refl, n))))
+  pub item_table : {f g : Stretch} (count cells : ℕ) (s : Shape) → PlaceTable s f → ValueTable (Cell kinds.Int) g
+      → PlaceTable s (join f (join g (one (Index count cells) (λ ks. AtShape s ∷ drop 2 ks))))
+  item_table count cells s i j =
+      join_table i (join_table (above (pushes (AtShape s)) j)
+      (one_table (Index count cells) (λ ks. AtShape s ∷ drop 2 ks) (λ ks. cell_value kinds.Int ∷ AtShape s ∷ ks) (pushes (AtShape s)) (λ ks. refl)
+      (λ pc ks m home n. (AtShape s ∷ ks, refl, record { shape = s; given = s; rest = ks; taken = refl; next = n }))))
 
-  pub modify_table : {f : Stretch} (change : Change) (q : PlacePhrase) → HasPlace p body q (change_kind change) → ValueTable (change_kind change) f
-      → ActionTable (modify_code q change f)
-  modify_table change q is i =
-      let k = change_kind change in
-      join_table (place_table q k is)
-      (join_table (above (pushes (AtKind k)) i)
-      (one_table (Modify change) (drop 2) (λ ks. OfKind k ∷ AtKind k ∷ ks) keeps (λ ks. refl) (λ pc ks m home n. (ks, refl, n))))
+  pub field_table : {f : Stretch} (before : ℕ) (s : Shape) → PlaceTable s f → PlaceTable s (join f (one (Field before) (λ ks. AtShape s ∷ drop 1 ks)))
+  field_table before s i =
+      join_table i (one_table (Field before) (λ ks. AtShape s ∷ drop 1 ks) (pushes (AtShape s)) (pushes (AtShape s)) (λ ks. refl)
+      (λ pc ks m home n. record { shape = s; given = s; rest = ks; taken = refl; next = n }))
 
-  pub error_stop_table : {f : Stretch} → ValueTable kinds.Text f → ActionTable (join f (one ErrorStop (drop 1)))
-  error_stop_table i = join_table i (one_table ErrorStop (drop 1) (pushes (OfKind kinds.Text)) keeps (λ ks. refl) (λ pc ks m home n. (ks, refl, n)))
+  pub load_table : {f : Stretch} (s : Shape) → PlaceTable s f → ValueTable s (join f (one (Load s) (λ ks. OfShape s ∷ drop 1 ks)))
+  load_table s i =
+      join_table i
+      (one_table (Load s) (λ ks. OfShape s ∷ drop 1 ks) (pushes (AtShape s)) (pushes (OfShape s)) (λ ks. refl) (λ pc ks m home n. (ks, refl, n)))
+
+  pub store_table : {e f : Stretch} (s : Shape) → PlaceTable s e → ValueTable s f → ActionTable (join e (join f (one (Store s) (drop 2))))
+  store_table s j i =
+      join_table j
+      (join_table (above (pushes (AtShape s)) i)
+      (one_table (Store s) (drop 2) (λ ks. OfShape s ∷ AtShape s ∷ ks) keeps (λ ks. refl) (λ pc ks m home n. (ks, refl, n))))
+
+  pub modify_table : {e f : Stretch} (change : Change) → PlaceTable (Cell (change_kind change)) e → ValueTable (Cell (change_kind change)) f
+      → ActionTable (join e (join f (one (Modify change) (drop 2))))
+  modify_table change j i =
+      let s = Cell (change_kind change) in
+      join_table j
+      (join_table (above (pushes (AtShape s)) i)
+      (one_table (Modify change) (drop 2) (λ ks. OfShape s ∷ AtShape s ∷ ks) keeps (λ ks. refl) (λ pc ks m home n. (ks, refl, n))))
+
+  -- an item and a field of a value
+  pub pick_table : {f g : Stretch} (s r : Shape) (count cells : ℕ) → ValueTable s f → ValueTable (Cell kinds.Int) g
+      → AreItems count cells (cell_kinds s) (cell_kinds r)
+      → ValueTable r (join f (join g (one (Pick count cells) (λ ks. OfShape r ∷ drop 2 ks))))
+  pick_table s r count cells i j items =
+      join_table i (join_table (above (pushes (OfShape s)) j)
+      (one_table (Pick count cells) (λ ks. OfShape r ∷ drop 2 ks) (λ ks. cell_value kinds.Int ∷ OfShape s ∷ ks) (pushes (OfShape r)) (λ ks. refl)
+      (λ pc ks m home n. (OfShape s ∷ ks, refl, record { shape = s; given = r; rest = ks; taken = refl; part = items; next = n }))))
+
+  pub take_table : {f : Stretch} (s r : Shape) (of before cells : ℕ) → ValueTable s f → IsPart of before cells (cell_kinds s) (cell_kinds r)
+      → ValueTable r (join f (one (Take of before cells) (λ ks. OfShape r ∷ drop 1 ks)))
+  take_table s r of before cells i is =
+      join_table i (one_table (Take of before cells) (λ ks. OfShape r ∷ drop 1 ks) (pushes (OfShape s)) (pushes (OfShape r)) (λ ks. refl)
+      (λ pc ks m home n. record { shape = s; given = r; rest = ks; taken = refl; part = is; next = n }))
+
+  pub error_stop_table : {f : Stretch} → ValueTable (Cell kinds.Text) f → ActionTable (join f (one ErrorStop (drop 1)))
+  error_stop_table i = join_table i (one_table ErrorStop (drop 1) (pushes (cell_value kinds.Text)) keeps (λ ks. refl) (λ pc ks m home n. (ks, refl, n)))
 
   pub apply_table : {f : Stretch} (op : Operation) → Table keeps (pushed_kinds (operand_kinds op)) f
-      → ValueTable (result_kind op) (join f (one (Do op) (λ ks. OfKind (result_kind op) ∷ drop (length (operand_kinds op)) ks)))
+      → ValueTable (Cell (result_kind op)) (join f (one (Do op) (λ ks. cell_value (result_kind op) ∷ drop (length (operand_kinds op)) ks)))
   apply_table op i =
-      join_table i (one_table (Do op) (λ ks. OfKind (result_kind op) ∷ drop (length (operand_kinds op)) ks) (pushed_kinds (operand_kinds op))
-      (pushes (OfKind (result_kind op)))
+      join_table i (one_table (Do op) (λ ks. cell_value (result_kind op) ∷ drop (length (operand_kinds op)) ks) (pushed_kinds (operand_kinds op))
+      (pushes (cell_value (result_kind op)))
       (λ ks. let e : length (operand_kinds op) ≡ length (operand_kinds op) + 0 = omega arith in
-      ap (λ n. OfKind (result_kind op) ∷ drop n (pushed_kinds (operand_kinds op) ks)) e
-      ∙ ap (λ l. OfKind (result_kind op) ∷ l) (drop_kinds (operand_kinds op) ks 0))
+      ap (λ n. cell_value (result_kind op) ∷ drop n (pushed_kinds (operand_kinds op) ks)) e
+      ∙ ap (λ l. cell_value (result_kind op) ∷ l) (drop_kinds (operand_kinds op) ks 0))
       (λ pc ks m home n. (ks, refl, n)))
 
   -- a request finds its values, and behind them its variable
@@ -188,7 +226,7 @@ module _ (p : Program) (body : Option ℕ) where
       (λ ks. all_dropped (request_operands name) ks (request_size name) (size_is name)) (λ pc ks m home n. (ks, refl, n)))
 
   -- a call finds what its parameters take, and leaves what the PROC delivers
-  pub call_table : (q : ℕ) (e : Entry) (taken : List OperandKind) (vs : List Kind) (d : Option Kind) (fs : List Stretch) → slice_get p.bodies q ≡ Some e
+  pub call_table : (q : ℕ) (e : Entry) (taken : List OperandKind) (vs : List Kind) (d : Option Shape) (fs : List Stretch) → slice_get p.bodies q ≡ Some e
       → e.layout ≡ layouts.Own taken vs → e.delivers ≡ d → length fs ≡ length taken → Table keeps (pushed_operands taken) (all_code fs)
       → Table keeps (with_result d) (call_code q d fs)
   call_table q e taken vs d fs has own gives as_many i =
@@ -206,7 +244,7 @@ module _ (p : Program) (body : Option ℕ) where
             subst (λ d. Next p.lines (pc + 1) (with_result d ks) m) (sym gives) n;
       }))
 
-  pub refer_table : (q : ℕ) (e : Entry) (d : Option Kind) → slice_get p.bodies q ≡ Some e → IsRefinement e.layout → owner p (Some q) ≡ owner p body
+  pub refer_table : (q : ℕ) (e : Entry) (d : Option Shape) → slice_get p.bodies q ≡ Some e → IsRefinement e.layout → owner p (Some q) ≡ owner p body
       → e.delivers ≡ d → Table keeps (with_result d) (refer_code q d)
   refer_table q e d has refinement owned gives = one_table (Refer q) (with_result d) keeps (with_result d) (λ ks. refl) (λ pc ks m home n. record {
     entry = e;
@@ -217,7 +255,7 @@ module _ (p : Program) (body : Option ℕ) where
   })
 
   -- LEAVE finds what it delivers
-  pub leave_fine : (e : Exit) (d : Option Kind) → LeftBy p body e d → (pc : ℕ) (ks : List OperandKind) (m : Spot) → m.body ≡ body → HasResult d ks
+  pub leave_fine : (e : Exit) (d : Option Shape) → LeftBy p body e d → (pc : ℕ) (ks : List OperandKind) (m : Spot) → m.body ≡ body → HasResult d ks
       → IsFine p pc (leave_instr e d) ks m
   leave_fine exits.Body d left pc ks m home top = back body left home
     where
@@ -233,11 +271,11 @@ module _ (p : Program) (body : Option ℕ) where
   pub leave_table : (e : Exit) → LeftBy p body e None → ActionTable (one (leave_instr e None) keeps)
   leave_table e left = one_table (leave_instr e None) keeps keeps keeps (λ ks. refl) (λ pc ks m home n. leave_fine e None left pc ks m home tt)
 
-  pub leave_with_table : {f : Stretch} (e : Exit) (k : Kind) → LeftBy p body e (Some k) → ValueTable k f
-      → ActionTable (join f (one (leave_instr e (Some k)) (drop 1)))
-  leave_with_table e k left i =
-      join_table i (one_table (leave_instr e (Some k)) (drop 1) (pushes (OfKind k)) keeps (λ ks. refl)
-      (λ pc ks m home n. leave_fine e (Some k) left pc (OfKind k ∷ ks) m home (ks, refl)))
+  pub leave_with_table : {f : Stretch} (e : Exit) (s : Shape) → LeftBy p body e (Some s) → ValueTable s f
+      → ActionTable (join f (one (leave_instr e (Some s)) (drop 1)))
+  leave_with_table e s left i =
+      join_table i (one_table (leave_instr e (Some s)) (drop 1) (pushes (OfShape s)) keeps (λ ks. refl)
+      (λ pc ks m home n. leave_fine e (Some s) left pc (OfShape s ∷ ks) m home (ks, refl)))
 
   -- a stretch, and behind it an instruction from which nothing goes on to the next
   pub ends_good : {mid : List OperandKind → List OperandKind} {f : Stretch} (i : Instr) (leaves : List OperandKind → List OperandKind) → Table keeps mid f

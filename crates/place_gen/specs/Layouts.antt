@@ -1,6 +1,6 @@
 -- The cells of a body's frame, as the tables of code have them.
 use Rattle.std.specs.Prelude.{map}
-use Rattle.eu_base.specs.declared.value.Kind.{Kind}
+use Rattle.eu_base.specs.declared.shape.Shape.{Shape}
 use Rattle.code_form.specs.declared.operand.OperandKind.{OperandKind}
 use Rattle.code_form.specs.declared.operand.OperandKind.TheVariants as operand
 use Rattle.code_form.specs.declared.code.Layout.{Layout}
@@ -12,12 +12,12 @@ use Rattle.elan_types.specs.declared.core_phrase.Scope.{Scope}
 use Rattle.elan_types.specs.declared.core_phrase.Scope.TheVariants.{Own, Of, Level}
 
 -- what a parameter takes
-abbrev pub taken_as : Access → Kind → OperandKind
-taken_as Const k = operand.Value k
-taken_as Var k = operand.Place k
+abbrev pub taken_as : Access → Shape → OperandKind
+taken_as Const s = operand.Value s
+taken_as Var s = operand.Place s
 
 abbrev pub parameter_kind : Formal → OperandKind
-parameter_kind f = taken_as f.access f.kind
+parameter_kind f = taken_as f.access f.shape
 
 abbrev pub layout_of : Scope → Layout
 layout_of (Own parameters variables) = layouts.Own (map parameter_kind parameters) variables

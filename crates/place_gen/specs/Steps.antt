@@ -1,6 +1,7 @@
 -- The code of a counter's step, of a counted loop, and of what leads into other bodies and out of them.
 use Rattle.std.specs.Prelude.{map, drop, option_map, Option, None, Some}
 use Rattle.eu_base.specs.declared.value.Kind.TheVariants as kinds
+use Rattle.eu_base.specs.declared.shape.Shape.TheVariants.{Cell}
 use Rattle.eu_base.specs.declared.operation.Way.{Way}
 use Rattle.elan_types.specs.declared.core_phrase.PlacePhrase.{PlacePhrase}
 use Rattle.elan_types.specs.declared.core_phrase.Actual.{Actual}
@@ -11,19 +12,19 @@ use Rattle.elan_types.specs.declared.core_phrase.Action.{Action, out-Action}
 use Rattle.elan_types.specs.declared.core_phrase.Action.TheOpen as t
 use Rattle.elan_types.specs.declared.core_phrase.Action.TheOpen.{Action-F}
 use Rattle.place_gen.specs.Stretch.{Stretch, none, one, keeps, join, all_code, Exit, stays, step_code, step_to_code, turn_code, turns_code, store_code}
-use Rattle.place_gen.specs.Stretch.{counted_code, call_code, refer_code, leave_instr, value_code, action_code, actual_code}
+use Rattle.place_gen.specs.Stretch.{counted_code, call_code, refer_code, leave_instr, PlaceCode, place_code, value_code, action_code, actual_code}
 
 abbrev pub Layer : Type 0
-Layer = Action-F Action Actual ValuePhrase Arm ValueArm
+Layer = Action-F Action Actual PlacePhrase ValuePhrase Arm ValueArm
 
 -- the step of a counter, with a limit or without one
-abbrev pub counter_code : PlacePhrase → Way → Option ValuePhrase → Exit
+abbrev pub counter_code : PlaceCode → Way → Option ValuePhrase → Exit
 counter_code p way None = step_code p
 counter_code p way (Some limit) = step_to_code p way
 
 -- the step of a loop's counter; nothing where there is none
 abbrev pub step_step : Layer → Exit
-step_step (t.Count p from way limit w us u) = counter_code p way limit
+step_step (t.Count p from way limit w us u) = counter_code (place_code p) way limit
 step_step _ = stays none
 
 abbrev pub step_of : Action → Exit
@@ -33,7 +34,7 @@ step_of a = step_step (out-Action a)
 abbrev pub turn_step : Layer → Exit
 turn_step (t.Loop w us u) = turn_code (option_map value_code w) (all_code (map action_code us)) (option_map value_code u) (stays none)
 turn_step (t.Count p from way limit w us u) =
-    turn_code (option_map value_code w) (all_code (map action_code us)) (option_map value_code u) (counter_code p way limit)
+    turn_code (option_map value_code w) (all_code (map action_code us)) (option_map value_code u) (counter_code (place_code p) way limit)
 turn_step _ = stays none
 
 abbrev pub turn_of : Action → Exit
@@ -43,7 +44,7 @@ turn_of a = turn_step (out-Action a)
 abbrev pub loop_step : Layer → Stretch
 loop_step (t.Loop w us u) = turns_code (turn_code (option_map value_code w) (all_code (map action_code us)) (option_map value_code u) (stays none))
 loop_step (t.Count p from way limit w us u) =
-    turns_code (turn_code (option_map value_code w) (all_code (map action_code us)) (option_map value_code u) (counter_code p way limit))
+    turns_code (turn_code (option_map value_code w) (all_code (map action_code us)) (option_map value_code u) (counter_code (place_code p) way limit))
 loop_step _ = none
 
 abbrev pub loop_code : Action → Stretch
@@ -52,8 +53,8 @@ loop_code a = loop_step (out-Action a)
 -- a counted loop; nothing for another action
 abbrev pub count_step : Layer → Stretch
 count_step (t.Count p from way limit w us u) =
-    join (store_code p kinds.Int (value_code from))
-    (counted_code p way (option_map value_code limit) (turn_code (option_map value_code w) (all_code (map action_code us)) (option_map value_code u)))
+    join (store_code (place_code p) (Cell kinds.Int) (value_code from))
+    (counted_code (place_code p) way (option_map value_code limit) (turn_code (option_map value_code w) (all_code (map action_code us)) (option_map value_code u)))
 count_step _ = none
 
 abbrev pub count_code : Action → Stretch
@@ -64,7 +65,7 @@ abbrev pub transfer_step : Layer → Stretch
 transfer_step (t.Action::Call n as') = call_code n None (map actual_code as')
 transfer_step (t.Action::Refer n) = refer_code n None
 transfer_step (t.Leave e) = one (leave_instr e None) keeps
-transfer_step (t.LeaveWith e k a) = join (value_code a) (one (leave_instr e (Some k)) (drop 1))
+transfer_step (t.LeaveWith e s a) = join (value_code a) (one (leave_instr e (Some s)) (drop 1))
 transfer_step _ = none
 
 abbrev pub transfer_code : Action → Stretch

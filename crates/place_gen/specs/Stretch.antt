@@ -1,7 +1,8 @@
 -- The instructions of a phrase.
 use Rattle.std.specs.Prelude.{ℕ, ◌+◌, List, [], ◌∷◌, ◌++◌, map, length, drop, Option, Some, None, ℤ, pos}
-use Rattle.eu_base.specs.declared.value.Kind.{Kind}
 use Rattle.eu_base.specs.declared.value.Kind.TheVariants as kinds
+use Rattle.eu_base.specs.declared.shape.Shape.{Shape}
+use Rattle.eu_base.specs.declared.shape.Shape.TheVariants.{Cell}
 use Rattle.eu_base.specs.declared.operation.Change.{Change}
 use Rattle.eu_base.specs.declared.operation.Change.TheVariants.{Increase}
 use Rattle.eu_base.specs.declared.operation.Way.{Way}
@@ -10,15 +11,13 @@ use Rattle.eu_base.specs.Requests.{request_size}
 use Rattle.code_form.specs.declared.operand.OperandKind.{OperandKind}
 use Rattle.code_form.specs.declared.operand.OperandKind.TheVariants.{Value, Place}
 use Rattle.code_form.specs.declared.instr.Instr.{Instr}
-use Rattle.code_form.specs.declared.instr.Instr.TheVariants.{Mark, Number, Truth, Text, Outer, Local, Param, Load, Store, Do, Modify, Jump, False, When, Drop}
-use Rattle.code_form.specs.declared.instr.Instr.TheVariants.{Limit, Unlimit, Step, Ask, ErrorStop, Call, Refer, Back, Out}
+use Rattle.code_form.specs.declared.instr.Instr.TheVariants.{Mark, Number, Truth, Text, Outer, Local, Param, Index, Field, Pick, Take, Load, Store, Do, Modify}
+use Rattle.code_form.specs.declared.instr.Instr.TheVariants.{Jump, False, When, Drop, Limit, Unlimit, Step, Ask, ErrorStop, Call, Refer, Back, Out}
 use Rattle.code_form.specs.declared.code.Line.{Line}
 use Rattle.code_form.specs.declared.code.Spot.{Spot}
 use Rattle.code_form.specs.Program.{line_of, deeper}
-use Rattle.code_form.specs.Valid.{with_result}
+use Rattle.code_form.specs.Valid.{with_result, cell_value}
 use Rattle.elan_types.specs.declared.core_phrase.PlacePhrase.{PlacePhrase}
-use Rattle.elan_types.specs.declared.core_phrase.PlacePhrase.TheVariants.{Variable}
-use Rattle.elan_types.specs.declared.core_phrase.PlacePhrase.TheVariants as places
 use Rattle.elan_types.specs.declared.core_phrase.Exit.{Exit as Exit'}
 use Rattle.elan_types.specs.declared.core_phrase.Exit.TheVariants as exits
 use Rattle.elan_types.specs.declared.core_phrase.Content.{Content}
@@ -29,8 +28,8 @@ use Rattle.elan_types.specs.declared.core_phrase.Arm.{Arm}
 use Rattle.elan_types.specs.declared.core_phrase.ValueArm.{ValueArm}
 use Rattle.elan_types.specs.declared.core_phrase.Action.{Action, out-Action}
 use Rattle.elan_types.specs.declared.core_phrase.Action.TheOpen as t
-use Rattle.elan_types.specs.declared.core_phrase.Action.TheOpen.{Action-F, Actual-F, ValuePhrase-F, Arm-F, ValueArm-F}
-use Rattle.elan_types.specs.declared.core_phrase.Action.TheFolds.{fold-Action, fold-Actual, fold-ValuePhrase, fold-Arm, fold-ValueArm}
+use Rattle.elan_types.specs.declared.core_phrase.Action.TheOpen.{Action-F, Actual-F, PlacePhrase-F, ValuePhrase-F, Arm-F, ValueArm-F}
+use Rattle.elan_types.specs.declared.core_phrase.Action.TheFolds.{fold-Action, fold-Actual, fold-PlacePhrase, fold-ValuePhrase, fold-Arm, fold-ValueArm}
 use Rattle.elan_types.specs.Eval.{Labelled}
 
 -- lines that know what is pending before them, in which body and under how many limits they are, and where they stand; how many
@@ -119,23 +118,18 @@ until_code (Some c) = record {
   lines = λ end ks m at. c.lines ks m at ++ (line_of (False (at + c.size + 1 + 1)) (c.leaves ks) m ∷ (line_of (Jump end) ks m ∷ []));
 }
 
--- the place that a phrase names, of a variable of this kind
-abbrev pub place_instr : PlacePhrase → Instr
-place_instr (Variable k) = Outer k
-place_instr (places.Local k) = Local k
-place_instr (places.Parameter k) = Param k
-
-abbrev pub place_code : PlacePhrase → Kind → Stretch
-place_code x k = one (place_instr x) (pushes (Place k))
+-- the code of a place, which leaves the place of a value of a shape
+abbrev pub PlaceCode : Type 0
+PlaceCode = Shape → Stretch
 
 -- the step of a counter without limit, and with one
-abbrev pub step_code : PlacePhrase → Exit
-step_code x = stays (join (place_code x kinds.Int) (join (one (Number (pos 1)) (pushes (Value kinds.Int))) (one (Modify Increase) (drop 2))))
+abbrev pub step_code : PlaceCode → Exit
+step_code x = stays (join (x (Cell kinds.Int)) (join (one (Number (pos 1)) (pushes (cell_value kinds.Int))) (one (Modify Increase) (drop 2))))
 
-abbrev pub step_to_code : PlacePhrase → Way → Exit
+abbrev pub step_to_code : PlaceCode → Way → Exit
 step_to_code x way = record {
-  size = 1 + 1;
-  lines = λ end ks m at. line_of (place_instr x) ks m ∷ (line_of (Step way end) (Place kinds.Int ∷ ks) m ∷ []);
+  size = (x (Cell kinds.Int)).size + 1;
+  lines = λ end ks m at. (x (Cell kinds.Int)).lines ks m at ++ line_of (Step way end) ((x (Cell kinds.Int)).leaves ks) m ∷ [];
 }
 
 abbrev pub turn_code : Option Stretch → Stretch → Option Stretch → Exit → Exit
@@ -158,100 +152,119 @@ limit_code way turns = record {
       line_of (Limit way (at + 1 + turns.size)) ks m ∷ (turns.lines (drop 2 ks) (deeper m) (at + 1) ++ line_of Unlimit (drop 2 ks) (deeper m) ∷ []);
 }
 
-abbrev pub store_code : PlacePhrase → Kind → Stretch → Stretch
-store_code x k f = join (place_code x k) (join f (one (Store k) (drop 2)))
+abbrev pub store_code : PlaceCode → Shape → Stretch → Stretch
+store_code x s f = join (x s) (join f (one (Store s) (drop 2)))
 
-abbrev pub modify_code : PlacePhrase → Change → Stretch → Stretch
-modify_code x change f = join (place_code x (change_kind change)) (join f (one (Modify change) (drop 2)))
+abbrev pub modify_code : PlaceCode → Change → Stretch → Stretch
+modify_code x change f = join (x (Cell (change_kind change))) (join f (one (Modify change) (drop 2)))
 
-abbrev pub counted_code : PlacePhrase → Way → Option Stretch → (Exit → Exit) → Stretch
+abbrev pub counted_code : PlaceCode → Way → Option Stretch → (Exit → Exit) → Stretch
 counted_code x way None turn = turns_code (turn (step_code x))
 counted_code x way (Some f) turn =
-    join (place_code x kinds.Int) (join f (limit_code way (turns_code (turn (step_to_code x way)))))
+    join (x (Cell kinds.Int)) (join f (limit_code way (turns_code (turn (step_to_code x way)))))
 
 -- a call takes as many operands as it has actuals, and leaves what it delivers
-abbrev pub call_code : ℕ → Option Kind → List Stretch → Stretch
+abbrev pub call_code : ℕ → Option Shape → List Stretch → Stretch
 call_code n delivers fs = join (all_code fs) (one (Call n) (λ ks. with_result delivers (drop (length fs) ks)))
 
-abbrev pub refer_code : ℕ → Option Kind → Stretch
+abbrev pub refer_code : ℕ → Option Shape → Stretch
 refer_code n delivers = one (Refer n) (with_result delivers)
 
 -- the instruction that leaves a body, and the PROC of a refinement
-abbrev pub leave_instr : Exit' → Option Kind → Instr
+abbrev pub leave_instr : Exit' → Option Shape → Instr
 leave_instr exits.Body k = Back k
 leave_instr exits.Around k = Out k
 
-abbrev pub Layer : (Type 0 → Type 0 → Type 0 → Type 0 → Type 0 → Type 0) → Type 0
-Layer F = F Stretch Stretch Stretch (Labelled Stretch) (Labelled Stretch)
+-- a mark, and back to it: what stands behind is never reached, and has a value of a shape on top
+abbrev pub never_code : Shape → Stretch
+never_code s = record { size = 1 + 1; leaves = pushes (Value s); lines = λ ks m at. line_of Mark ks m ∷ (line_of (Jump at) ks m ∷ []) }
+
+abbrev pub Layer : (Type 0 → Type 0 → Type 0 → Type 0 → Type 0 → Type 0 → Type 0) → Type 0
+Layer F = F Stretch Stretch PlaceCode Stretch (Labelled Stretch) (Labelled Stretch)
+
+abbrev pub place_code_step : Layer PlacePhrase-F → PlaceCode
+place_code_step (t.Variable k) s = one (Outer k) (pushes (Place s))
+place_code_step (t.Local k) s = one (Local k) (pushes (Place s))
+place_code_step (t.Parameter k) s = one (Param k) (pushes (Place s))
+place_code_step (t.Item p a items) s = join (p s) (join a (one (Index items.count items.cells) (λ ks. Place s ∷ drop 2 ks)))
+place_code_step (t.Field p before) s = join (p s) (one (Field before) (λ ks. Place s ∷ drop 1 ks))
 
 abbrev pub value_code_step : Layer ValuePhrase-F → Stretch
-value_code_step (t.Number z) = one (Number z) (pushes (Value kinds.Int))
-value_code_step (t.Truth b) = one (Truth b) (pushes (Value kinds.Truth))
-value_code_step (t.Text x) = one (Text x) (pushes (Value kinds.Text))
-value_code_step (t.Load p k) = join (place_code p k) (one (Load k) (λ ks. Value k ∷ drop 1 ks))
-value_code_step (t.Apply op as') = join (all_code as') (one (Do op) (λ ks. Value (result_kind op) ∷ drop (length (operand_kinds op)) ks))
+value_code_step (t.Number z) = one (Number z) (pushes (cell_value kinds.Int))
+value_code_step (t.Truth b) = one (Truth b) (pushes (cell_value kinds.Truth))
+value_code_step (t.Text x) = one (Text x) (pushes (cell_value kinds.Text))
+value_code_step (t.Load p s) = join (p s) (one (Load s) (λ ks. Value s ∷ drop 1 ks))
+value_code_step (t.Apply op as') = join (all_code as') (one (Do op) (λ ks. cell_value (result_kind op) ∷ drop (length (operand_kinds op)) ks))
 value_code_step (t.ValuePhrase::If c a b) = if_code c a b
 value_code_step (t.ValuePhrase::Select a arms other) = join a (select_code arms other)
 value_code_step (t.ValuePhrase::Unit a) = join (one Mark keeps) a
 value_code_step (t.After us a) = join (all_code us) a
-value_code_step (t.ValuePhrase::Call n as' k) = call_code n (Some k) as'
-value_code_step (t.ValuePhrase::Refer n k) = refer_code n (Some k)
+value_code_step (t.Never s) = never_code s
+value_code_step (t.ValuePhrase::Call n as' s) = call_code n (Some s) as'
+value_code_step (t.ValuePhrase::Refer n s) = refer_code n (Some s)
+value_code_step (t.Pick a i items s) = join a (join i (one (Pick items.count items.cells) (λ ks. Value s ∷ drop 2 ks)))
+value_code_step (t.Take a part s) = join a (one (Take part.of part.before part.cells) (λ ks. Value s ∷ drop 1 ks))
 
 abbrev pub actual_code_step : Layer Actual-F → Stretch
 actual_code_step (t.Value a) = a
-actual_code_step (t.Place p k) = place_code p k
+actual_code_step (t.Place p s) = p s
 
 abbrev pub value_arm_code_step : Layer ValueArm-F → Labelled Stretch
 value_arm_code_step arm = record { labels = arm.labels; part = arm.value }
 
 abbrev pub action_code_step : Layer Action-F → Stretch
 action_code_step (t.Action::Unit us) = join (one Mark keeps) (all_code us)
-action_code_step (t.Store p k a) = store_code p k a
+action_code_step (t.Store p s a) = store_code p s a
 action_code_step (t.Modify change p a) = modify_code p change a
 action_code_step (t.Action::If c us vs) = if_code c (all_code us) (all_code vs)
 action_code_step (t.Action::Select a arms us) = join a (select_code arms (all_code us))
 action_code_step (t.Loop while' us until) = turns_code (turn_code while' (all_code us) until (stays none))
 action_code_step (t.Count p from way limit while' us until) =
-    join (store_code p kinds.Int from) (counted_code p way limit (turn_code while' (all_code us) until))
+    join (store_code p (Cell kinds.Int) from) (counted_code p way limit (turn_code while' (all_code us) until))
 action_code_step (t.Ask name as') = join (all_code as') (one (Ask name) (drop (request_size name)))
 action_code_step (t.ErrorStop a) = join a (one ErrorStop (drop 1))
 action_code_step (t.Action::Call n as') = call_code n None as'
 action_code_step (t.Action::Refer n) = refer_code n None
 action_code_step (t.Leave e) = one (leave_instr e None) keeps
-action_code_step (t.LeaveWith e k a) = join a (one (leave_instr e (Some k)) (drop 1))
+action_code_step (t.LeaveWith e s a) = join a (one (leave_instr e (Some s)) (drop 1))
 
 abbrev pub arm_code_step : Layer Arm-F → Labelled Stretch
 arm_code_step arm = record { labels = arm.labels; part = all_code arm.units }
 
 abbrev pub value_code : ValuePhrase → Stretch
 value_code =
-    fold-ValuePhrase Stretch Stretch Stretch (Labelled Stretch) (Labelled Stretch) action_code_step actual_code_step value_code_step arm_code_step
+    fold-ValuePhrase Stretch Stretch PlaceCode Stretch (Labelled Stretch) (Labelled Stretch) action_code_step actual_code_step place_code_step value_code_step arm_code_step
     value_arm_code_step
+
+abbrev pub place_code : PlacePhrase → PlaceCode
+place_code =
+    fold-PlacePhrase Stretch Stretch PlaceCode Stretch (Labelled Stretch) (Labelled Stretch) action_code_step actual_code_step place_code_step value_code_step
+    arm_code_step value_arm_code_step
 
 abbrev pub action_code : Action → Stretch
 action_code =
-    fold-Action Stretch Stretch Stretch (Labelled Stretch) (Labelled Stretch) action_code_step actual_code_step value_code_step arm_code_step
+    fold-Action Stretch Stretch PlaceCode Stretch (Labelled Stretch) (Labelled Stretch) action_code_step actual_code_step place_code_step value_code_step arm_code_step
     value_arm_code_step
 
 abbrev pub actual_code : Actual → Stretch
 actual_code =
-    fold-Actual Stretch Stretch Stretch (Labelled Stretch) (Labelled Stretch) action_code_step actual_code_step value_code_step arm_code_step
+    fold-Actual Stretch Stretch PlaceCode Stretch (Labelled Stretch) (Labelled Stretch) action_code_step actual_code_step place_code_step value_code_step arm_code_step
     value_arm_code_step
 
 -- what a body does, and the instruction that leaves it with its result
 abbrev pub content_code : Content → Stretch
 content_code (contents.Units us) = join (all_code (map action_code us)) (one (Back None) keeps)
-content_code (contents.Value k a) = join (value_code a) (one (Back (Some k)) (drop 1))
+content_code (contents.Value s a) = join (value_code a) (one (Back (Some s)) (drop 1))
 
 -- the code of a part of a SELECT, with its labels
 abbrev pub value_arm_code : ValueArm → Labelled Stretch
 value_arm_code =
-    fold-ValueArm Stretch Stretch Stretch (Labelled Stretch) (Labelled Stretch) action_code_step actual_code_step value_code_step arm_code_step
+    fold-ValueArm Stretch Stretch PlaceCode Stretch (Labelled Stretch) (Labelled Stretch) action_code_step actual_code_step place_code_step value_code_step arm_code_step
     value_arm_code_step
 
 abbrev pub arm_code_of : Arm → Labelled Stretch
 arm_code_of =
-    fold-Arm Stretch Stretch Stretch (Labelled Stretch) (Labelled Stretch) action_code_step actual_code_step value_code_step arm_code_step value_arm_code_step
+    fold-Arm Stretch Stretch PlaceCode Stretch (Labelled Stretch) (Labelled Stretch) action_code_step actual_code_step place_code_step value_code_step arm_code_step value_arm_code_step
 
 -- how many lines the parts of a SELECT have, without the last
 abbrev pub arms_length : List (Labelled Stretch) → ℕ
@@ -263,14 +276,14 @@ abbrev pub whens_code : List ℤ → ℕ → Stretch
 whens_code zs a = record { size = length zs; leaves = keeps; lines = λ ks m at. whens zs a ks m }
 
 -- the parts of a SELECT; nothing for another phrase
-abbrev pub value_parts_step : ValuePhrase-F Action Actual ValuePhrase Arm ValueArm → Stretch
+abbrev pub value_parts_step : ValuePhrase-F Action Actual PlacePhrase ValuePhrase Arm ValueArm → Stretch
 value_parts_step (t.ValuePhrase::Select v arms other) = select_code (map value_arm_code arms) (value_code other)
 value_parts_step _ = none
 
 abbrev pub value_parts : ValuePhrase → Stretch
 value_parts v = value_parts_step (out-ValuePhrase v)
 
-abbrev pub action_parts_step : Action-F Action Actual ValuePhrase Arm ValueArm → Stretch
+abbrev pub action_parts_step : Action-F Action Actual PlacePhrase ValuePhrase Arm ValueArm → Stretch
 action_parts_step (t.Action::Select v arms us) = select_code (map arm_code_of arms) (all_code (map action_code us))
 action_parts_step _ = none
 

@@ -1,10 +1,11 @@
 //! How many instructions a phrase has. More than the largest number count as that, so that no count fails.
 ghost use Rattle.std.specs.Prelude.{◌≡◌, ◌+◌, map, option_map};
+ghost use Rattle.eu_base.specs.declared.shape.Shape.{Shape};
 ghost use Rattle.place_gen.specs.Counted.{counted};
-ghost use Rattle.place_gen.specs.Stretch.{all_code, while_code, until_code, value_code, action_code, actual_code, value_arm_code, arm_code_of, arms_length};
+ghost use Rattle.place_gen.specs.Stretch.{all_code, while_code, until_code, place_code, value_code, action_code, actual_code, value_arm_code, arm_code_of, arms_length};
 ghost use Rattle.place_gen.specs.Steps.{count_code, step_of, loop_code};
 
-use elan_types::{Action, Actual, Arm, ValueArm, ValuePhrase};
+use elan_types::{Action, Actual, Arm, PlacePhrase, ValueArm, ValuePhrase};
 
 fn count_if(test: usize, first: usize, second: usize) -> usize
     ensures { result ≡ counted (test + (1 + (first + (1 + second)))) }
@@ -23,7 +24,7 @@ pub fn count_value(v: &ValuePhrase) -> usize
         ValuePhrase::Number(_) => 1,
         ValuePhrase::Truth(_) => 1,
         ValuePhrase::Text(_) => 1,
-        ValuePhrase::Load(_, _) => 2,
+        ValuePhrase::Load(place, _) => count_place(place).saturating_add(1),
         ValuePhrase::Apply(_, operands) => count_values(operands.as_slice()).saturating_add(1),
         ValuePhrase::If(c, a, b) => count_if(
             count_value(c.get()),
@@ -39,7 +40,28 @@ pub fn count_value(v: &ValuePhrase) -> usize
             count_actions(units.as_slice()).saturating_add(count_value(a.get()))
         }
         ValuePhrase::Call(_, actuals, _) => count_actuals(actuals.as_slice()).saturating_add(1),
+        ValuePhrase::Never(_) => 2,
         ValuePhrase::Refer(_, _) => 1,
+        ValuePhrase::Pick(row, index, _, _) => count_value(row.get())
+            .saturating_add(count_value(index.get()))
+            .saturating_add(1),
+        ValuePhrase::Take(whole, _, _) => count_value(whole.get()).saturating_add(1),
+    }
+}
+
+// Of a phrase that names a place, whatever shape it has.
+#[cycle(count)]
+fn count_place(place: &PlacePhrase) -> usize
+    ensures { (s : Shape) → result ≡ counted (place_code place.now s).size }
+{
+    match place {
+        PlacePhrase::Variable(_) => 1,
+        PlacePhrase::Local(_) => 1,
+        PlacePhrase::Parameter(_) => 1,
+        PlacePhrase::Item(row, index, _) => count_place(row.get())
+            .saturating_add(count_value(index.get()))
+            .saturating_add(1),
+        PlacePhrase::Field(structure, _) => count_place(structure.get()).saturating_add(1),
     }
 }
 
@@ -60,7 +82,7 @@ fn count_actual(actual: &Actual) -> usize
 {
     match actual {
         Actual::Value(value) => count_value(value),
-        Actual::Place(_, _) => 1,
+        Actual::Place(place, _) => count_place(place),
     }
 }
 
@@ -94,8 +116,9 @@ fn count_action(action: &Action) -> usize
 {
     match action {
         Action::Unit(units) => count_actions(units.as_slice()).saturating_add(1),
-        Action::Store(_, _, value) => count_value(value).saturating_add(2),
-        Action::Modify(_, _, value) => count_value(value).saturating_add(2),
+        Action::Store(place, _, value) | Action::Modify(_, place, value) => count_place(place)
+            .saturating_add(count_value(value))
+            .saturating_add(1),
         Action::If(c, first, second) => count_if(
             count_value(c),
             count_actions(first.as_slice()),
@@ -105,16 +128,7 @@ fn count_action(action: &Action) -> usize
             arms.as_slice(),
             count_actions(other.as_slice()),
         )),
-        Action::Loop {
-            condition,
-            units,
-            until,
-        } => count_turns(
-            count_while(condition),
-            count_actions(units.as_slice()),
-            count_until(until),
-            0,
-        ),
+        Action::Loop { .. } => count_loop(action),
         Action::Count { .. } => count_stepped(action),
         Action::Ask(_, actuals) | Action::Call(_, actuals) => {
             count_actuals(actuals.as_slice()).saturating_add(1)
@@ -132,35 +146,33 @@ fn count_stepped(action: &Action) -> usize
     ensures { result ≡ counted (count_code action.now).size }
 {
     let Action::Count {
-        counter: _,
+        counter,
         from,
-        way: _,
         limit,
-        condition,
-        units,
-        until,
+        ..
     } = action
     else {
         return 0;
     };
-    let first = count_value(from).saturating_add(2);
-    let test = count_while(condition);
-    let body = count_actions(units.as_slice());
-    let end = count_until(until);
+    let place = count_place(counter);
+    let first = place.saturating_add(count_value(from)).saturating_add(1);
     match limit {
-        None => first.saturating_add(count_turns(test, body, end, 3)),
+        None => first.saturating_add(count_loop(action)),
         Some(limit) => {
-            let turns = count_turns(test, body, end, 2);
-            first.saturating_add(count_limited(count_value(limit), turns))
+            let turns = count_loop(action);
+            first.saturating_add(count_limited(place, count_value(limit), turns))
         }
     }
 }
 
 // A limit, and what keeps it around these turns.
-fn count_limited(limit: usize, turns: usize) -> usize
-    ensures { result ≡ counted (1 + (limit + (1 + (turns + 1)))) }
+fn count_limited(place: usize, limit: usize, turns: usize) -> usize
+    ensures { result ≡ counted (place + (limit + (1 + (turns + 1)))) }
 {
-    limit.saturating_add(turns).saturating_add(3)
+    place
+        .saturating_add(limit)
+        .saturating_add(turns)
+        .saturating_add(2)
 }
 
 // Of the turns of a loop, from the counts of the parts of a turn.
@@ -228,17 +240,27 @@ fn count_arm(count: usize, labels: usize, part: usize) -> usize
 }
 
 // Of the step of a loop's counter; nothing where there is no counter.
+#[cycle(count)]
 fn count_step(action: &Action) -> usize
-    ensures { result ≡ (step_of action.now).size }
+    ensures { result ≡ counted (step_of action.now).size }
 {
     match action {
-        Action::Count { limit: None, .. } => 3,
-        Action::Count { limit: Some(_), .. } => 2,
+        Action::Count {
+            counter,
+            limit: None,
+            ..
+        } => count_place(counter).saturating_add(2),
+        Action::Count {
+            counter,
+            limit: Some(_),
+            ..
+        } => count_place(counter).saturating_add(1),
         _ => 0,
     }
 }
 
 /// Of the turns of a loop; nothing for another action.
+#[cycle(count)]
 pub fn count_loop(action: &Action) -> usize
     ensures { result ≡ counted (loop_code action.now).size }
 {
@@ -247,18 +269,25 @@ pub fn count_loop(action: &Action) -> usize
             condition,
             units,
             until,
-        }
-        | Action::Count {
-            condition,
-            units,
-            until,
-            ..
         } => count_turns(
             count_while(condition),
             count_actions(units.as_slice()),
             count_until(until),
-            count_step(action),
+            0,
         ),
+        Action::Count {
+            counter: _,
+            from: _,
+            way: _,
+            limit: _,
+            condition,
+            units,
+            until,
+        } => {
+            let units = count_actions(units.as_slice());
+            let test = count_while(condition);
+            count_turns(test, units, count_until(until), count_step(action))
+        }
         _ => 0,
     }
 }

@@ -7,7 +7,7 @@ ghost use Rattle.place_gen.specs.Adds.{left, Adds, Begins};
 ghost use Rattle.place_gen.specs.Makes.{Makes, ComesBack};
 
 use code_form::{Instr, Line, OperandKind, Spot};
-use eu_base::{List, NoMemory};
+use eu_base::{Kind, List, NoMemory, Shape};
 use std::alloc::Global;
 
 /// Lines that were made, what is pending behind them, and where they stand.
@@ -120,12 +120,26 @@ impl Draft {
         place
     }
 
+    /// A copy of a shape; another one where memory was wanted.
+    pub fn copied(&mut self, shape: &Shape) -> Shape
+        ensures draft { ComesBack self.old.pending self.old self.new }
+        ensures shape { self.new.wanted ≡ false → result ≡ shape.now }
+    {
+        match shape.try_clone(self.alloc) {
+            Ok(shape) => shape,
+            Err(NoMemory) => {
+                self.wanted = true;
+                Shape::Cell(Kind::Int)
+            }
+        }
+    }
+
     /// What is pending, to come back to it.
     pub fn kept(&mut self) -> List<OperandKind>
         ensures draft { ComesBack self.old.pending self.old self.new }
         ensures kinds { self.new.wanted ≡ false → result ≡ self.old.pending }
     {
-        match List::from_slice(self.alloc, self.pending.as_slice()) {
+        match copies(self.alloc, self.pending.as_slice()) {
             Ok(kinds) => kinds,
             Err(NoMemory) => {
                 self.wanted = true;
@@ -138,7 +152,7 @@ impl Draft {
     pub fn restore(&mut self, pending: &[OperandKind])
         ensures { ComesBack pending.now self.old self.new }
     {
-        match List::from_slice(self.alloc, pending) {
+        match copies(self.alloc, pending) {
             Ok(kinds) => self.pending = kinds,
             Err(NoMemory) => self.wanted = true,
         }
@@ -164,10 +178,32 @@ fn left(
 ) -> Result<List<OperandKind>, NoMemory>
     ensures { IfOk result (λ kinds. kinds ≡ left taken pushed pending.now) }
 {
-    let mut kinds = Vec::new(alloc);
+    let mut kinds = List::new(alloc);
     if let Some(kind) = pushed {
         kinds.push(kind)?;
     }
-    kinds.extend_from_slice(&pending[taken.min(pending.len())..])?;
-    Ok(List::from_vec(kinds))
+    copy_behind(alloc, &mut kinds, &pending[taken.min(pending.len())..])?;
+    Ok(kinds)
+}
+
+// Puts copies of these kinds behind others.
+fn copy_behind(
+    alloc: Global,
+    kinds: &mut List<OperandKind>,
+    more: &[OperandKind],
+) -> Result<(), NoMemory>
+    ensures { OnOk result (kinds.new ≡ kinds.old ++ more.now) }
+{
+    for kind in more {
+        kinds.push(kind.try_clone(alloc)?)?;
+    }
+    Ok(())
+}
+
+fn copies(alloc: Global, kinds: &[OperandKind]) -> Result<List<OperandKind>, NoMemory>
+    ensures { IfOk result (λ copies. copies ≡ kinds.now) }
+{
+    let mut copies = List::new(alloc);
+    copy_behind(alloc, &mut copies, kinds)?;
+    Ok(copies)
 }

@@ -1,21 +1,22 @@
 //! The instructions of phrases. Want of memory is kept in the draft and told at the end. The functions call each other in one
 //! cycle, so they stand in one file.
-ghost use Rattle.std.specs.Prelude.{◌≡◌, OnOk, map, option_map};
-ghost use Rattle.place_gen.specs.Stretch.{store_code, all_code, while_code, until_code, limit_code, call_code, value_code, action_code, actual_code};
+ghost use Rattle.std.specs.Prelude.{◌≡◌, ℕ, OnOk, map, option_map};
+ghost use Rattle.place_gen.specs.Stretch.{all_code, while_code, until_code, limit_code, step_code, step_to_code, place_code, value_code, action_code, actual_code};
 ghost use Rattle.place_gen.specs.Stretch.{content_code, value_arm_code, arm_code_of, value_parts, action_parts};
 ghost use Rattle.place_gen.specs.Adds.{Adds};
 ghost use Rattle.place_gen.specs.Makes.{Makes, MakesExit, MakesArm};
-ghost use Rattle.place_gen.specs.Steps.{loop_code, turn_of, count_code, transfer_code};
+ghost use Rattle.place_gen.specs.Steps.{loop_code, turn_of, step_of, count_code, transfer_code};
 
 use crate::count::{count_actions, count_arms, count_loop, count_value, count_value_arms};
 use crate::draft::Draft;
 use crate::put::{
-    leave_instr, put_call, put_else, put_jump, put_load, put_number, put_operation, put_place,
-    put_refer, put_request, put_step, put_test, put_text, put_truth, put_whens, without_first,
+    put_else, put_jump, put_leave, put_leave_with, put_load, put_never, put_number, put_operation,
+    put_place, put_request, put_store, put_test, put_text, put_truth, put_value, put_whens,
+    without_first,
 };
 use code_form::{Instr, OperandKind};
-use elan_types::{Action, Actual, Arm, Content, PlacePhrase, ValueArm, ValuePhrase};
-use eu_base::{Kind, NoMemory, Way};
+use elan_types::{Action, Actual, Arm, Content, Exit, PlacePhrase, ValueArm, ValuePhrase};
+use eu_base::{Change, Kind, NoMemory, Shape, Way};
 
 /// Adds the code of what a body does, and the instruction that leaves it.
 pub fn emit_content(out: &mut Draft, content: &Content) -> Result<(), NoMemory>
@@ -41,9 +42,9 @@ fn add_content(out: &mut Draft, content: &Content)
             add_actions(out, units.as_slice());
             out.add(Instr::Back(None), 0, None);
         }
-        Content::Value(kind, value) => {
+        Content::Value(shape, value) => {
             add_value(out, value);
-            out.add(Instr::Back(Some(*kind)), 1, None);
+            put_leave_with(out, Exit::Body, shape);
         }
     }
 }
@@ -57,7 +58,10 @@ fn add_value(out: &mut Draft, phrase: &ValuePhrase)
         ValuePhrase::Number(number) => put_number(out, *number),
         ValuePhrase::Truth(truth) => put_truth(out, *truth),
         ValuePhrase::Text(text) => put_text(out, text),
-        ValuePhrase::Load(place, kind) => put_load(out, place, *kind),
+        ValuePhrase::Load(place, shape) => {
+            add_place(out, place, shape);
+            put_load(out, shape);
+        }
         ValuePhrase::Apply(operation, operands) => {
             add_values(out, operands.as_slice());
             put_operation(out, *operation);
@@ -82,20 +86,43 @@ fn add_value(out: &mut Draft, phrase: &ValuePhrase)
             add_actions(out, units.as_slice());
             add_value(out, a.get());
         }
-        ValuePhrase::Call(body, actuals, kind) => {
-            add_call(out, *body, actuals.as_slice(), Some(*kind))
+        ValuePhrase::Never(shape) => put_never(out, shape),
+        ValuePhrase::Call(body, actuals, shape) => {
+            add_actuals(out, actuals.as_slice());
+            put_value(out, Instr::Call(*body), actuals.len(), shape);
         }
-        ValuePhrase::Refer(body, kind) => put_refer(out, *body, Some(*kind)),
+        ValuePhrase::Refer(body, shape) => put_value(out, Instr::Refer(*body), 0, shape),
+        ValuePhrase::Pick(row, index, items, shape) => {
+            add_value(out, row.get());
+            add_value(out, index.get());
+            put_value(out, Instr::Pick(items.count, items.cells), 2, shape);
+        }
+        ValuePhrase::Take(whole, part, shape) => {
+            add_value(out, whole.get());
+            put_value(out, Instr::Take(part.of, part.before, part.cells), 1, shape);
+        }
     }
 }
 
-// A call of the PROC with this number.
+// Adds the code of a phrase that names the place of a value of a shape.
 #[cycle(emit)]
-fn add_call(out: &mut Draft, body: usize, actuals: &[Actual], delivers: Option<Kind>)
-    ensures { Makes (call_code body delivers (map actual_code actuals.now)) out.old out.new }
+fn add_place(out: &mut Draft, place: &PlacePhrase, shape: &Shape)
+    ensures { Makes (place_code place.now shape.now) out.old out.new }
 {
-    add_actuals(out, actuals);
-    put_call(out, body, actuals.len(), delivers);
+    match place {
+        PlacePhrase::Variable(cell) => put_place(out, Instr::Outer(*cell), 0, shape),
+        PlacePhrase::Local(cell) => put_place(out, Instr::Local(*cell), 0, shape),
+        PlacePhrase::Parameter(cell) => put_place(out, Instr::Param(*cell), 0, shape),
+        PlacePhrase::Item(row, index, items) => {
+            add_place(out, row.get(), shape);
+            add_value(out, index.get());
+            put_place(out, Instr::Index(items.count, items.cells), 2, shape);
+        }
+        PlacePhrase::Field(structure, before) => {
+            add_place(out, structure.get(), shape);
+            put_place(out, Instr::Field(*before), 1, shape);
+        }
+    }
 }
 
 #[cycle(emit)]
@@ -113,7 +140,7 @@ fn add_actual(out: &mut Draft, actual: &Actual)
 {
     match actual {
         Actual::Value(value) => add_value(out, value),
-        Actual::Place(place, kind) => put_place(out, place, *kind),
+        Actual::Place(place, shape) => add_place(out, place, shape),
     }
 }
 
@@ -177,9 +204,13 @@ fn add_action(out: &mut Draft, action: &Action)
             out.add(Instr::Mark, 0, None);
             add_actions(out, units.as_slice());
         }
-        Action::Store(place, kind, value) => add_store(out, place, *kind, value),
+        Action::Store(place, shape, value) => {
+            add_place(out, place, shape);
+            add_value(out, value);
+            put_store(out, shape);
+        }
         Action::Modify(change, place, value) => {
-            put_place(out, place, change.kind());
+            add_place(out, place, &Shape::Cell(change.kind()));
             add_value(out, value);
             out.add(Instr::Modify(*change), 2, None);
         }
@@ -217,12 +248,15 @@ fn add_transfer(out: &mut Draft, action: &Action)
     ensures { Makes (transfer_code action.now) out.old out.new }
 {
     match action {
-        Action::Call(body, actuals) => add_call(out, *body, actuals.as_slice(), None),
-        Action::Refer(body) => put_refer(out, *body, None),
-        Action::Leave(exit) => out.add(leave_instr(*exit, None), 0, None),
-        Action::LeaveWith(exit, kind, value) => {
+        Action::Call(body, actuals) => {
+            add_actuals(out, actuals.as_slice());
+            out.add(Instr::Call(*body), actuals.len(), None);
+        }
+        Action::Refer(body) => out.add(Instr::Refer(*body), 0, None),
+        Action::Leave(exit) => put_leave(out, *exit),
+        Action::LeaveWith(exit, shape, value) => {
             add_value(out, value);
-            out.add(leave_instr(*exit, Some(*kind)), 1, None);
+            put_leave_with(out, *exit, shape);
         }
         _ => {}
     }
@@ -243,25 +277,18 @@ fn add_count(out: &mut Draft, action: &Action)
     else {
         return;
     };
-    add_store(out, counter, Kind::Int, from);
+    let shape = &Shape::Cell(Kind::Int);
+    add_place(out, counter, shape);
+    add_value(out, from);
+    put_store(out, shape);
     match limit {
         None => add_turns(out, action),
         Some(limit) => {
-            put_place(out, counter, Kind::Int);
+            add_place(out, counter, shape);
             add_value(out, limit);
             add_limited(out, action, *way);
         }
     }
-}
-
-// A value is stored at a place.
-#[cycle(emit)]
-fn add_store(out: &mut Draft, place: &PlacePhrase, kind: Kind, value: &ValuePhrase)
-    ensures { Makes (store_code place.now kind (value_code value.now)) out.old out.new }
-{
-    put_place(out, place, kind);
-    add_value(out, value);
-    out.add(Instr::Store(kind), 2, None);
 }
 
 // The parts of a SELECT whose number is on top; nothing for another action.
@@ -361,10 +388,54 @@ fn add_turn(out: &mut Draft, action: &Action, end: usize)
             add_actions(out, units.as_slice());
             out.restore(below.as_slice());
             add_until(out, until, end);
-            put_step(out, action, end);
+            add_step(out, action, end);
         }
         _ => {}
     }
+}
+
+// The step of a loop's counter, and the way out of the loop behind its last turn; nothing where there is no counter.
+#[cycle(emit)]
+fn add_step(out: &mut Draft, action: &Action, end: usize)
+    ensures { MakesExit (step_of action.now) end out.old out.new }
+{
+    match action {
+        Action::Count {
+            counter,
+            limit: None,
+            ..
+        } => add_step_on(out, counter),
+        Action::Count {
+            counter,
+            way,
+            limit: Some(_),
+            ..
+        } => add_step_to(out, counter, *way, end),
+        _ => {}
+    }
+}
+
+// The step of a counter without limit.
+#[cycle(emit)]
+fn add_step_on(out: &mut Draft, counter: &PlacePhrase)
+    ensures { (end : ℕ) → MakesExit (step_code (place_code counter.now)) end out.old out.new }
+{
+    let below = out.kept();
+    add_place(out, counter, &Shape::Cell(Kind::Int));
+    put_number(out, 1);
+    out.add(Instr::Modify(Change::Increase), 2, None);
+    out.restore(below.as_slice());
+}
+
+// The step of a counter under a limit, and the way out of the loop where it has reached it.
+#[cycle(emit)]
+fn add_step_to(out: &mut Draft, counter: &PlacePhrase, way: Way, end: usize)
+    ensures { MakesExit (step_to_code (place_code counter.now) way) end out.old out.new }
+{
+    let below = out.kept();
+    add_place(out, counter, &Shape::Cell(Kind::Int));
+    out.add(Instr::Step(way, end), 1, None);
+    out.restore(below.as_slice());
 }
 
 // The turns of a loop under a limit, which is on top, with the counter's place below it.

@@ -5,29 +5,24 @@ ghost use Rattle.eu_base.specs.Requests.{request_size};
 ghost use Rattle.eu_base.specs.declared.value.Kind.TheVariants as kinds;
 ghost use Rattle.code_form.specs.declared.operand.OperandKind.TheVariants as operand;
 ghost use Rattle.code_form.specs.declared.instr.Instr.TheVariants as instrs;
-ghost use Rattle.code_form.specs.Valid.{with_result};
-ghost use Rattle.place_gen.specs.Stretch.{one, keeps, pushes, join, whens_code, place_instr, place_code, leave_instr, refer_code};
+ghost use Rattle.code_form.specs.Valid.{cell_value};
+ghost use Rattle.place_gen.specs.Stretch.{one, keeps, pushes, whens_code, leave_instr, never_code};
 ghost use Rattle.place_gen.specs.Counted.{counted};
-ghost use Rattle.place_gen.specs.Makes.{Makes, MakesExit, MakesTurn};
-ghost use Rattle.place_gen.specs.Steps.{step_of};
+ghost use Rattle.place_gen.specs.Makes.{Makes, MakesTurn};
 
 use crate::draft::Draft;
 use code_form::{Instr, OperandKind};
-use elan_types::{Action, Exit, PlacePhrase};
-use eu_base::{Bytes, Change, Kind, NoMemory, Operation, RequestName};
+use elan_types::Exit;
+use eu_base::{Bytes, Kind, NoMemory, Operation, RequestName, Shape};
 
-fn place_instr(place: &PlacePhrase) -> Instr
-    ensures { result ≡ place_instr place.now }
+// A value of one cell, as it is pending.
+fn cell_value(kind: Kind) -> OperandKind
+    ensures { result ≡ cell_value kind }
 {
-    match place {
-        PlacePhrase::Variable(cell) => Instr::Outer(*cell),
-        PlacePhrase::Local(cell) => Instr::Local(*cell),
-        PlacePhrase::Parameter(cell) => Instr::Param(*cell),
-    }
+    OperandKind::Value(Shape::Cell(kind))
 }
 
-/// The instruction that leaves a body, and the PROC of a refinement.
-pub fn leave_instr(exit: Exit, delivers: Option<Kind>) -> Instr
+fn leave_instr(exit: Exit, delivers: Option<Shape>) -> Instr
     ensures { result ≡ leave_instr exit delivers }
 {
     match exit {
@@ -68,61 +63,94 @@ pub fn put_else(out: &mut Draft, below: &[OperandKind], over: usize)
     out.restore(below);
 }
 
-/// A place of values of a kind.
-pub fn put_place(out: &mut Draft, place: &PlacePhrase, kind: Kind)
-    ensures { Makes (place_code place.now kind) out.old out.new }
+/// The instruction that leaves a body, and the PROC of a refinement, and delivers nothing.
+pub fn put_leave(out: &mut Draft, exit: Exit)
+    ensures { Makes (one (leave_instr exit None) keeps) out.old out.new }
 {
-    out.add(place_instr(place), 0, Some(OperandKind::Place(kind)));
+    out.add(leave_instr(exit, None), 0, None);
+}
+
+/// The same, which delivers the value on top.
+pub fn put_leave_with(out: &mut Draft, exit: Exit, shape: &Shape)
+    ensures { Makes (one (leave_instr exit (Some shape.now)) (drop 1)) out.old out.new }
+{
+    let shape = out.copied(shape);
+    out.add(leave_instr(exit, Some(shape)), 1, None);
+}
+
+/// An instruction that takes so many operands, and pushes the place of a value of a shape.
+pub fn put_place(out: &mut Draft, instr: Instr, taken: usize, shape: &Shape)
+    ensures { Makes (one instr (λ ks. operand.Place shape.now ∷ drop taken ks)) out.old out.new }
+{
+    let shape = out.copied(shape);
+    out.add(instr, taken, Some(OperandKind::Place(shape)));
+}
+
+/// An instruction that takes so many operands, and pushes a value of a shape.
+pub fn put_value(out: &mut Draft, instr: Instr, taken: usize, shape: &Shape)
+    ensures { Makes (one instr (λ ks. operand.Value shape.now ∷ drop taken ks)) out.old out.new }
+{
+    let shape = out.copied(shape);
+    out.add(instr, taken, Some(OperandKind::Value(shape)));
+}
+
+/// A mark, and back to it: what stands behind is never reached, and has a value of a shape on top.
+pub fn put_never(out: &mut Draft, shape: &Shape)
+    ensures { Makes (never_code shape.now) out.old out.new }
+{
+    let top = out.lines.len();
+    out.add(Instr::Mark, 0, None);
+    put_value(out, Instr::Jump(top), 0, shape);
 }
 
 /// A number.
 pub fn put_number(out: &mut Draft, number: i16)
-    ensures { Makes (one (instrs.Number number) (pushes (operand.Value kinds.Int))) out.old out.new }
+    ensures { Makes (one (instrs.Number number) (pushes (cell_value kinds.Int))) out.old out.new }
 {
-    out.add(
-        Instr::Number(number),
-        0,
-        Some(OperandKind::Value(Kind::Int)),
-    );
+    out.add(Instr::Number(number), 0, Some(cell_value(Kind::Int)));
 }
 
 /// A truth value.
 pub fn put_truth(out: &mut Draft, truth: bool)
-    ensures { Makes (one (instrs.Truth truth) (pushes (operand.Value kinds.Truth))) out.old out.new }
+    ensures { Makes (one (instrs.Truth truth) (pushes (cell_value kinds.Truth))) out.old out.new }
 {
-    out.add(
-        Instr::Truth(truth),
-        0,
-        Some(OperandKind::Value(Kind::Truth)),
-    );
+    out.add(Instr::Truth(truth), 0, Some(cell_value(Kind::Truth)));
 }
 
 /// A text, in a copy.
 pub fn put_text(out: &mut Draft, text: &Bytes)
-    ensures { Makes (one (instrs.Text text.now) (pushes (operand.Value kinds.Text))) out.old out.new }
+    ensures { Makes (one (instrs.Text text.now) (pushes (cell_value kinds.Text))) out.old out.new }
 {
     match Bytes::from(out.alloc, text.as_slice()) {
-        Ok(text) => out.add(Instr::Text(text), 0, Some(OperandKind::Value(Kind::Text))),
+        Ok(text) => out.add(Instr::Text(text), 0, Some(cell_value(Kind::Text))),
         Err(NoMemory) => out.wanted = true,
     }
 }
 
-/// The value at a place.
-pub fn put_load(out: &mut Draft, place: &PlacePhrase, kind: Kind)
-    ensures { Makes (join (place_code place.now kind) (one (instrs.Load kind) (λ ks. operand.Value kind ∷ drop 1 ks))) out.old out.new }
+/// The value of a shape at the place on top.
+pub fn put_load(out: &mut Draft, shape: &Shape)
+    ensures { Makes (one (instrs.Load shape.now) (λ ks. operand.Value shape.now ∷ drop 1 ks)) out.old out.new }
 {
-    put_place(out, place, kind);
-    out.add(Instr::Load(kind), 1, Some(OperandKind::Value(kind)));
+    let copy = out.copied(shape);
+    put_value(out, Instr::Load(copy), 1, shape);
+}
+
+/// The value on top is stored at the place below it.
+pub fn put_store(out: &mut Draft, shape: &Shape)
+    ensures { Makes (one (instrs.Store shape.now) (drop 2)) out.old out.new }
+{
+    let shape = out.copied(shape);
+    out.add(Instr::Store(shape), 2, None);
 }
 
 /// An operation on the operands on top.
 pub fn put_operation(out: &mut Draft, operation: Operation)
-    ensures { Makes (one (instrs.Do operation) (λ ks. operand.Value (result_kind operation) ∷ drop (length (operand_kinds operation)) ks)) out.old out.new }
+    ensures { Makes (one (instrs.Do operation) (λ ks. cell_value (result_kind operation) ∷ drop (length (operand_kinds operation)) ks)) out.old out.new }
 {
     out.add(
         Instr::Do(operation),
         operation.operand_kinds().len(),
-        Some(OperandKind::Value(operation.result_kind())),
+        Some(cell_value(operation.result_kind())),
     );
 }
 
@@ -133,59 +161,12 @@ pub fn put_request(out: &mut Draft, name: RequestName)
     out.add(Instr::Ask(name), name.size(), None);
 }
 
-/// A call of the PROC with this number, which takes so many operands.
-pub fn put_call(out: &mut Draft, body: usize, taken: usize, delivers: Option<Kind>)
-    ensures { Makes (one (instrs.Call body) (λ ks. with_result delivers (drop taken ks))) out.old out.new }
-{
-    match delivers {
-        None => out.add(Instr::Call(body), taken, None),
-        Some(kind) => out.add(Instr::Call(body), taken, Some(OperandKind::Value(kind))),
-    }
-}
-
-/// A reference to the refinement with this number.
-pub fn put_refer(out: &mut Draft, body: usize, delivers: Option<Kind>)
-    ensures { Makes (refer_code body delivers) out.old out.new }
-{
-    match delivers {
-        None => out.add(Instr::Refer(body), 0, None),
-        Some(kind) => out.add(Instr::Refer(body), 0, Some(OperandKind::Value(kind))),
-    }
-}
-
 /// Tests of labels, each of which jumps there where the number on top is the label.
 pub fn put_whens(out: &mut Draft, labels: &[i16], to: usize)
     ensures { Makes (whens_code labels.now to) out.old out.new }
 {
     for label in labels {
         out.add(Instr::When(*label, to), 0, None);
-    }
-}
-
-/// The step of a loop's counter, and the way out of the loop behind its last turn; nothing where there is no counter.
-pub fn put_step(out: &mut Draft, action: &Action, end: usize)
-    ensures { MakesExit (step_of action.now) end out.old out.new }
-{
-    match action {
-        Action::Count {
-            counter,
-            limit: None,
-            ..
-        } => {
-            put_place(out, counter, Kind::Int);
-            put_number(out, 1);
-            out.add(Instr::Modify(Change::Increase), 2, None);
-        }
-        Action::Count {
-            counter,
-            way,
-            limit: Some(_),
-            ..
-        } => {
-            put_place(out, counter, Kind::Int);
-            out.add(Instr::Step(*way, end), 1, None);
-        }
-        _ => {}
     }
 }
 

@@ -1,4 +1,4 @@
-use Rattle.std.proofs.Common.{rules, ◌⊎◌, inl, inr, ◌≡◌, ◌+◌, ◌∷◌, map, drop, length, subst, ◌∙◌, sym, refl, arith}
+use Rattle.std.proofs.Common.{rules, ◌⊎◌, inl, inr, ◌≡◌, ◌+◌, ◌∷◌, List, Option, Some, map, drop, length, subst, ◌∙◌, sym, refl, arith}
 use Rattle.std.specs.Prelude.{option_map}
 use Rattle.std.proofs.lemmas.Grind.{common_steps}
 use borrow.Author.Tests.{tests}
@@ -7,8 +7,15 @@ use Rattle.elan_types.specs.declared.core_phrase.Action.TheFolds.{the_lemmas}
 use Rattle.eu_base.specs.declared.value.Kind.TheVariants as kinds
 use Rattle.eu_base.specs.Operations.{operand_kinds, result_kind}
 use Rattle.eu_base.specs.Requests.{request_size}
+use Rattle.eu_base.specs.declared.operation.Way.{Way}
+use Rattle.elan_types.specs.declared.core_phrase.PlacePhrase.{PlacePhrase}
+use Rattle.elan_types.specs.declared.core_phrase.ValuePhrase.{ValuePhrase}
+use Rattle.elan_types.specs.declared.core_phrase.Action.{Action}
+use Rattle.elan_types.specs.declared.core_phrase.Action.TheVariants as action
+use Rattle.eu_base.specs.declared.shape.Shape.TheVariants.{Cell}
 use Rattle.code_form.specs.declared.operand.OperandKind.TheVariants as operand
-use Rattle.code_form.specs.declared.instr.Instr.TheVariants.{Mark, Do, Jump, False, Ask, ErrorStop}
+use Rattle.code_form.specs.Valid.{cell_value}
+use Rattle.code_form.specs.declared.instr.Instr.TheVariants.{Mark, Index, Field, Do, Jump, False, Ask, ErrorStop}
 use Rattle.place_gen.specs.Counted.{counted}
 use Rattle.place_gen.specs.Stretch.{Stretch, one, keeps, join, if_code, all_code, select_code, whens_code, while_code, until_code, exit_join, stays}
 use Rattle.place_gen.specs.Stretch.{turns_code, value_parts, action_parts, value_code, action_code, actual_code}
@@ -56,7 +63,7 @@ add_values-returns t c = all_makes value_code c.args.values.now c.loop-value.val
 pub add_value-returns-in-Apply : goal.add_value-returns-in-Apply
 add_value-returns-in-Apply t c =
     let op = c.in-Apply.operation in
-    let e : join (all_code (map value_code c.as_slice.result.now)) (one (Do op) (λ ks. operand.Value (result_kind op) ∷ drop (length (operand_kinds op)) ks))
+    let e : join (all_code (map value_code c.as_slice.result.now)) (one (Do op) (λ ks. cell_value (result_kind op) ∷ drop (length (operand_kinds op)) ks))
     ≡ value_code c.args.phrase.now = search (rules, the_lemmas, c.in-Apply.is, c.as_slice.ensures) in
     subst (λ f. Makes f c.args.out.now c.put_operation.new.out) e (join_makes c.add_values.ensures c.put_operation.ensures)
 
@@ -124,8 +131,8 @@ add_turn-returns-in-Loop t c =
     let e : exit_join w (exit_join (stays us) (exit_join u s)) ≡ turn_of c.args.action.now = search (rules, the_lemmas, c.in-Loop.is) in
     let x3 = subst (λ l. Makes (all_code (map action_code l)) c.add_while.new.out c.add_actions.new.out) c.as_slice.ensures c.add_actions.ensures in
     let x4 = subst (λ ks. ComesBack ks c.add_actions.new.out c.restore.new.self) c.as_slice-in-Loop.ensures c.restore.ensures in
-    subst (λ f. MakesExit f c.args.end c.args.out.now c.put_step.new.out) e
-    (turn_exit c.kept-below.ensures.draft c.kept-below.ensures.kinds c.add_while.ensures x3 x4 c.add_until.ensures c.put_step.ensures)
+    subst (λ f. MakesExit f c.args.end c.args.out.now c.add_step.new.out) e
+    (turn_exit c.kept-below.ensures.draft c.kept-below.ensures.kinds c.add_while.ensures x3 x4 c.add_until.ensures c.add_step.ensures)
 
 pub add_arm-returns : goal.add_arm-returns
 add_arm-returns t c =
@@ -246,10 +253,11 @@ add_action-returns-in-Unit t c =
 
 pub add_action-returns-in-Modify : goal.add_action-returns-in-Modify
 add_action-returns-in-Modify t c =
-    let x = subst (λ k. Makes (place_code c.in-Modify.place k) c.args.out.now c.put_place.new.out) c.kind.ensures c.put_place.ensures in
-    let e : modify_code c.in-Modify.place c.in-Modify.change (value_code c.in-Modify.value) ≡ action_code c.args.action.now =
-    search (rules, the_lemmas, c.in-Modify.is) in
-    subst (λ f. Makes f c.args.out.now c.add-in-Modify.new.self) e (join_makes x (join_makes c.add_value.ensures c.add-in-Modify.ensures))
+    let change = c.in-Modify.change in
+    let p = place_code c.in-Modify.place in
+    let x = subst (λ k. Makes (p (Cell k)) c.args.out.now c.add_place-in-Modify.new.out) c.kind.ensures c.add_place-in-Modify.ensures in
+    let e : modify_code p change (value_code c.in-Modify.value) ≡ action_code c.args.action.now = search (rules, the_lemmas, c.in-Modify.is) in
+    subst (λ f. Makes f c.args.out.now c.add-in-Modify.new.self) e (join_makes x (join_makes c.add_value-in-Modify.ensures c.add-in-Modify.ensures))
 
 pub add_action-returns-in-If : goal.add_action-returns-in-If
 add_action-returns-in-If t c =
@@ -290,18 +298,50 @@ add_action-returns-in-ErrorStop t c =
 
 pub add_count-returns-in-None : goal.add_count-returns-in-None
 add_count-returns-in-None t c =
-    let e : join (store_code c.in-Count.counter kinds.Int (value_code c.in-Count.from)) (loop_code c.args.action.now) ≡ count_code c.args.action.now =
+    let p = place_code c.in-Count.counter in
+    let e : join (store_code p (Cell kinds.Int) (value_code c.in-Count.from)) (loop_code c.args.action.now) ≡ count_code c.args.action.now =
     search (rules, the_lemmas, c.in-Count.is, c.in-None.is) in
-    subst (λ f. Makes f c.args.out.now c.add_turns.new.out) e (join_makes c.add_store.ensures c.add_turns.ensures)
+    subst (λ f. Makes f c.args.out.now c.add_turns.new.out) e
+    (join_makes (join_makes c.add_place.ensures (join_makes c.add_value.ensures c.put_store.ensures)) c.add_turns.ensures)
+
+-- a counted loop with a limit
+some_counted : {a : Action} {p : PlacePhrase} {from l : ValuePhrase} {way : Way} {limit : Option ValuePhrase} (w : Option ValuePhrase)
+    (us : List Action) (u : Option ValuePhrase) → a ≡ action.Count p from way limit w us u → limit ≡ Some l
+    → join (store_code (place_code p) (Cell kinds.Int) (value_code from))
+    (join (place_code p (Cell kinds.Int)) (join (value_code l) (limit_code way (loop_code a)))) ≡ count_code a
+some_counted w us u is limited = search (rules, the_lemmas, is, limited)
 
 pub add_count-returns-in-Some : goal.add_count-returns-in-Some
 add_count-returns-in-Some t c =
-    let p = c.in-Count.counter in
-    let rest = join (place_code p kinds.Int) (join (value_code c.in-Some.limit) (limit_code c.in-Count.way (loop_code c.args.action.now))) in
-    let e : join (store_code p kinds.Int (value_code c.in-Count.from)) rest ≡ count_code c.args.action.now =
-    search (rules, the_lemmas, c.in-Count.is, c.in-Some.is) in
+    let p = place_code c.in-Count.counter in
+    let rest = join (p (Cell kinds.Int)) (join (value_code c.in-Some.limit) (limit_code c.in-Count.way (loop_code c.args.action.now))) in
+    let e : join (store_code p (Cell kinds.Int) (value_code c.in-Count.from)) rest ≡ count_code c.args.action.now =
+    some_counted _ _ _ c.in-Count.is c.in-Some.is in
     subst (λ f. Makes f c.args.out.now c.add_limited.new.out) e
-    (join_makes c.add_store.ensures (join_makes c.put_place.ensures (join_makes c.add_value.ensures c.add_limited.ensures)))
+    (join_makes (join_makes c.add_place.ensures (join_makes c.add_value.ensures c.put_store.ensures))
+    (join_makes c.add_place-in-Some.ensures (join_makes c.add_value-in-Some.ensures c.add_limited.ensures)))
 
-pub add_store-returns : goal.add_store-returns
-add_store-returns t c = join_makes c.put_place.ensures (join_makes c.add_value.ensures c.add.ensures)
+pub add_action-returns-in-Store : goal.add_action-returns-in-Store
+add_action-returns-in-Store t c =
+    let p = place_code c.in-Store.place in
+    let e : store_code p c.in-Store.shape (value_code c.in-Store.value) ≡ action_code c.args.action.now = search (rules, the_lemmas, c.in-Store.is) in
+    subst (λ f. Makes f c.args.out.now c.put_store.new.out) e (join_makes c.add_place.ensures (join_makes c.add_value.ensures c.put_store.ensures))
+
+pub add_place-returns-in-Item : goal.add_place-returns-in-Item
+add_place-returns-in-Item t c =
+    let s = c.args.shape.now in
+    let items = c.in-Item.items in
+    let row = subst (λ q. Makes (place_code q s) c.args.out.now c.add_place.new.out) c.get.ensures c.add_place.ensures in
+    let index = subst (λ v. Makes (value_code v) c.add_place.new.out c.add_value.new.out) c.get-in-Item.ensures c.add_value.ensures in
+    let last = one (Index items.count items.cells) (λ ks. operand.Place s ∷ drop 2 ks) in
+    let e : join (place_code c.in-Item.row s) (join (value_code c.in-Item.index) last) ≡ place_code c.args.place.now s =
+    search (rules, the_lemmas, c.in-Item.is) in
+    subst (λ f. Makes f c.args.out.now c.put_place-in-Item.new.out) e (join_makes row (join_makes index c.put_place-in-Item.ensures))
+
+pub add_place-returns-in-Field : goal.add_place-returns-in-Field
+add_place-returns-in-Field t c =
+    let s = c.args.shape.now in
+    let whole = subst (λ q. Makes (place_code q s) c.args.out.now c.add_place-in-Field.new.out) c.get-in-Field.ensures c.add_place-in-Field.ensures in
+    let last = one (Field c.in-Field.before) (λ ks. operand.Place s ∷ drop 1 ks) in
+    let e : join (place_code c.in-Field.structure s) last ≡ place_code c.args.place.now s = search (rules, the_lemmas, c.in-Field.is) in
+    subst (λ f. Makes f c.args.out.now c.put_place-in-Field.new.out) e (join_makes whole c.put_place-in-Field.ensures)
